@@ -1,0 +1,10 @@
+pub mod Bytes
+pub mod KeepsLemmas
+pub mod LengthLemmas
+pub mod Logged
+pub mod Marks
+pub mod Moments
+pub mod OpenedLemmas
+pub mod Puts
+pub mod Replay
+pub mod StaysLemmas

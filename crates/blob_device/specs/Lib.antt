@@ -1,0 +1,10 @@
+pub mod Change
+pub mod Counts
+pub mod Disk
+pub mod Entries
+pub mod Fuse
+pub mod Keeps
+pub mod MemoryMeaning
+pub mod Opened
+pub mod Stands
+pub mod Timeline
