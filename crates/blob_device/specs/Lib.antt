@@ -1,9 +1,17 @@
+pub mod Calls
 pub mod Change
 pub mod Counts
 pub mod Disk
 pub mod Errors
+pub mod Failing
 pub mod Guards
 pub mod Keeps
+pub mod Laws
+pub mod Lengths
+pub mod MemoryMeaning
 pub mod NameList
+pub mod NamesThere
 pub mod Opened
+pub mod Tables
 pub mod Timeline
+pub mod Tracks

@@ -1,12 +1,17 @@
 //! A disk of named blobs, with a model of what a crash at any moment may leave.
 #![tactic(auto)]
 
+mod blob_log;
 mod device;
 mod error;
+mod logs;
+mod memory;
 mod names;
 mod runtime;
+mod table;
 
 pub use device::Device;
 pub use error::DevError;
+pub use memory::Memory;
 pub use names::Names;
 pub use runtime::{Handle, RError};
