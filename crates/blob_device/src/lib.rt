@@ -2,8 +2,10 @@
 #![tactic(auto)]
 
 mod blob_log;
+mod build;
 mod device;
 mod error;
+mod image;
 mod logs;
 mod memory;
 mod names;
@@ -12,6 +14,7 @@ mod table;
 
 pub use device::Device;
 pub use error::DevError;
+pub use image::Image;
 pub use memory::Memory;
 pub use names::Names;
 pub use runtime::{Handle, RError};
