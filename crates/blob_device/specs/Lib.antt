@@ -6,6 +6,7 @@ pub mod Disk
 pub mod Errors
 pub mod Failing
 pub mod Guards
+pub mod Histories
 pub mod Images
 pub mod Keeps
 pub mod Laws
@@ -14,6 +15,7 @@ pub mod MemoryMeaning
 pub mod NameList
 pub mod NamesThere
 pub mod Opened
+pub mod Picked
 pub mod Tables
 pub mod Timeline
 pub mod Tracks

@@ -5,6 +5,7 @@ mod blob_log;
 mod build;
 mod device;
 mod error;
+mod history;
 mod image;
 mod logs;
 mod memory;
