@@ -1,5 +1,6 @@
 pub mod Building
 pub mod Bytes
+pub mod CrashLemmas
 pub mod EntryLemmas
 pub mod GuardsLemmas
 pub mod HistoryLemmas

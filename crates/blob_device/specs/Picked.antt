@@ -1,6 +1,6 @@
 -- The crash images that a device in memory picks.
 use Rattle.std.specs.Prelude.{◌≡◌, ◌&&◌, ◌||◌, ℕ, ◌+◌, ◌<◌, ◌%◌, ◌==◌, zero, suc, Bool, true, false, not, cond, ltb, leb, List, [], ◌∷◌, length, take, get_or, Option, Some, None, IsNone, sum, map}
-use Rattle.std.specs.List.{list_all, list_any, Contains}
+use Rattle.std.specs.List.{list_all, list_any, Contains, range_with_len}
 use Rattle.std.specs.Int.{bit_at}
 use Rattle.std.specs.List.Sorted.{IsStrictlySortedBy}
 use Rattle.std.specs.Ordering.{nat_cmp, ordering_then}
@@ -40,3 +40,17 @@ mixed_byte n first b i = cond (is_free b i && not (is_set n ((first + free_below
 pub record IsMixedBlob (n first : ℕ) (b : Blob) (c : List ℕ) : Type 0 where
   pub size : length c ≡ mixed_length n b
   pub each : (i : ℕ) → i < mixed_length n b → get_or c i 0 ≡ mixed_byte n first b i
+
+abbrev pub mixed_bytes : ℕ → ℕ → Blob → List ℕ
+mixed_bytes n first b = map (mixed_byte n first b) (range_with_len 0 (mixed_length n b))
+
+abbrev pub mixed_of : ℕ → ℕ → Blob → Option (List ℕ)
+mixed_of n first b = cond (b.there || b.unsure) (Some (mixed_bytes n first b)) None
+
+-- the number of the next free place behind the blob, modulo 64
+abbrev pub number_past : ℕ → ℕ → Blob → ℕ
+number_past n first b = cond (b.there || b.unsure) ((first + free_below b (mixed_length n b)) % 64) first
+
+-- each blob is mixed, with some number for its first free place
+abbrev pub IsMixed : ℕ → Disk → Image → Type 0
+IsMixed n d image = (first : Key → ℕ) × ((k : Key) → image k ≡ mixed_of n (first k) (d k))

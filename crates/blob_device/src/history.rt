@@ -153,6 +153,13 @@ impl History {
         Ok(())
     }
 
+    /// Whether a crash may leave the blob.
+    pub fn may_be_there(&self) -> bool
+        ensures { (b : Blob) → IsHistory self.now b → result ≡ (b.there || b.unsure) }
+    {
+        self.there || self.unsure
+    }
+
     /// The blob as it last settled.
     pub fn into_settled(self) -> Option<Vec<u8>>
         ensures { (b : Blob) → IsHistory self b → option_map (λ v. v.items) result ≡ settled_of b }

@@ -3,6 +3,7 @@
 
 mod blob_log;
 mod build;
+mod crash;
 mod device;
 mod error;
 mod history;
@@ -13,6 +14,7 @@ mod names;
 mod runtime;
 mod table;
 
+pub use crash::CrashChoice;
 pub use device::Device;
 pub use error::DevError;
 pub use image::Image;
