@@ -1,4 +1,6 @@
 // Runs of the log over a device in memory, stopped at each call, with each crash image.
+ghost use Rattle.std.specs.Prelude.{◌≤◌};
+
 use crate::{Appended, LogError, append_all};
 use blob_device::{CrashChoice, DevError, Device, Image, Memory};
 use std::alloc::{AllocError, Global};
@@ -34,11 +36,17 @@ fn run_to(alloc: Global, fuse: u64) -> Result<(Memory, Option<Appended>), DevErr
 }
 
 fn log_of(image: &Image) -> &[u8] {
-    image.blob("p", b"log").unwrap_or(b"")
+    bytes_of(image, "p", b"log")
+}
+
+fn bytes_of<'a>(image: &'a Image, partition: &str, name: &[u8]) -> &'a [u8] {
+    image.blob(partition, name).unwrap_or(b"none")
 }
 
 // How many bytes were synced where the run was stopped at this call: calls 1 to 3 append the first record, 4 to 6 the second.
-fn synced(fuse: u64) -> usize {
+fn synced(fuse: u64) -> usize
+    ensures { result ≤ 4 }
+{
     match fuse {
         0..=3 => 0,
         4..=6 => 2,
@@ -72,9 +80,9 @@ fn stopped_at_each_call(rt: HostRuntime) -> Result<(), Fail> {
         }
         for choice in CHOICES {
             let image = dev.pick_crash(rt.alloc(), choice)?;
-            let bytes = log_of(&image);
+            let bytes = image.blob("p", b"log").unwrap_or(b"");
             let kept = synced(fuse);
-            assert!(rt; bytes.starts_with(b"hiyo".split_at(kept.min(4)).0), "stopped at {fuse}");
+            assert!(rt; bytes.starts_with(b"hiyo".split_at(kept).0), "stopped at {fuse}");
             assert!(rt; bytes.len() <= kept + 2, "stopped at {fuse}");
         }
     }
@@ -129,13 +137,13 @@ fn free_bytes_are_numbered_over_all_blobs(rt: HostRuntime) -> Result<(), Fail> {
     dev.write_at("a", b"x", 0, b"A")?;
     // One free byte in each blob: 0 in a/x, 1 in a/y, 2 in b/x.
     let mixed = dev.pick_crash(alloc, CrashChoice::Mixed(5))?;
-    assert_eq!(rt; mixed.blob("a", b"x"), Some(b"A".as_slice()));
-    assert_eq!(rt; mixed.blob("a", b"y"), Some(b"\xff".as_slice()));
-    assert_eq!(rt; mixed.blob("b", b"x"), Some(b"C".as_slice()));
+    assert_eq!(rt; bytes_of(&mixed, "a", b"x"), b"A".as_slice());
+    assert_eq!(rt; bytes_of(&mixed, "a", b"y"), b"\xff".as_slice());
+    assert_eq!(rt; bytes_of(&mixed, "b", b"x"), b"C".as_slice());
     let names = dev.scan(alloc, "a")?;
     assert_eq!(rt; names.len(), 2);
-    assert_eq!(rt; names.get(0), Some(b"x".as_slice()));
-    assert_eq!(rt; names.get(1), Some(b"y".as_slice()));
-    assert_eq!(rt; names.get(2), None);
+    assert_eq!(rt; names.get(0).unwrap_or(b""), b"x".as_slice());
+    assert_eq!(rt; names.get(1).unwrap_or(b""), b"y".as_slice());
+    assert!(rt; names.get(2).is_none());
     Ok(())
 }
