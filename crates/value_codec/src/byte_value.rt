@@ -3,7 +3,7 @@ ghost use Rattle.std.specs.Prelude.{◌≡◌, ℕ, ◌≤◌, List, length, IfO
 
 use crate::Codec;
 use crate::codec::Error;
-use std::alloc::Global;
+use std::alloc::{AllocError, Global};
 use std::marker::Model;
 
 #[derive(Debug, Drop)]
@@ -30,6 +30,16 @@ impl ByteValue {
         ensures { result.now ≡ self.now }
     {
         self.bytes.as_slice()
+    }
+}
+
+impl Clone for ByteValue {
+    ghost is_clone = { λ a b. a ≡ b };
+
+    fn clone(&self) -> Result<ByteValue, AllocError> {
+        Ok(ByteValue {
+            bytes: self.bytes.clone()?,
+        })
     }
 }
 

@@ -1,0 +1,10 @@
+//! Scripts of commands: how they are read, served and answered.
+//!
+//! `specs/Texts.antt` has the text of each command and reply, `specs/Script.antt` the grammar of scripts.
+#![tactic(auto)]
+
+mod script;
+mod text;
+
+pub use script::{Script, ScriptError, read_script};
+pub use text::{write_bad_line, write_reply};
