@@ -8,3 +8,4 @@ pub mod OpenedLemmas
 pub mod Puts
 pub mod Replay
 pub mod StaysLemmas
+pub mod Pieces

@@ -4,7 +4,9 @@ pub mod Disk
 pub mod Entries
 pub mod Fuse
 pub mod Keeps
+pub mod MemStreams
 pub mod MemoryMeaning
 pub mod Opened
 pub mod Stands
+pub mod Streams
 pub mod Timeline

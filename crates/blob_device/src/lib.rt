@@ -4,11 +4,18 @@
 mod device;
 mod entry;
 mod error;
+mod failing;
+mod io_fault;
 mod log;
 mod memory;
 mod names;
+mod sink;
+mod source;
 
 pub use device::Device;
 pub use error::DevError;
+pub use io_fault::IoFault;
 pub use memory::Memory;
 pub use names::Names;
+pub use sink::{MemSink, Sink, StdSink};
+pub use source::{MemSource, Source, StdSource};
