@@ -3,8 +3,12 @@
 //! `specs/Texts.antt` has the text of each command and reply, `specs/Script.antt` the grammar of scripts.
 #![tactic(auto)]
 
+mod replies;
 mod script;
+mod serving;
 mod text;
 
+pub use replies::{End, Replies, Served};
 pub use script::{Script, ScriptError, read_script};
+pub use serving::serve;
 pub use text::{write_bad_line, write_reply};
