@@ -1,0 +1,12 @@
+//! An archive over a folder, driven by a script of commands.
+#![tactic(auto)]
+
+mod input;
+mod output;
+
+use std::process::ExitCode;
+
+fn main(rt: HostRuntime) -> ExitCode {
+    let _rt = rt;
+    ExitCode::from(0)
+}
