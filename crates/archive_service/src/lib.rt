@@ -3,11 +3,13 @@
 //! `specs/Texts.antt` has the text of each command and reply, `specs/Script.antt` the grammar of scripts.
 #![tactic(auto)]
 
+mod ended;
 mod replies;
 mod script;
 mod serving;
 mod text;
 
+pub use ended::{Ended, Status};
 pub use replies::{End, Replies, Served};
 pub use script::{Script, ScriptError, read_script};
 pub use serving::serve;
