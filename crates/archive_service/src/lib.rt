@@ -5,6 +5,7 @@
 
 mod script;
 mod text;
+mod words;
 
-pub use script::{Script, ScriptError, read_script};
+pub use script::{Script, ScriptError, read_script, reading_is_exact};
 pub use text::{write_bad_line, write_reply};
