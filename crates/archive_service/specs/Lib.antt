@@ -1,3 +1,4 @@
 pub mod Script
 pub mod Served
 pub mod Texts
+pub mod Words

@@ -1,10 +1,12 @@
 // From the bytes of a script to its commands.
-ghost use Rattle.std.specs.Prelude.{◌≡◌, ℕ, List, map, length, IfOk, IfErr};
+ghost use Rattle.std.specs.Prelude.{◌≡◌, ◌++◌, ◌∷◌, codes, ℕ, map, IfOk, IfErr};
+ghost use Rattle.std.specs.Option.{option_map};
 ghost use Rattle.archives.specs.Machine.{asked};
 ghost use Rattle.value_codec.specs.Keys.{key8_bytes};
-ghost use Rattle.archive_service.specs.Script.{Spells, IsFirstBad};
+ghost use Rattle.archive_service.specs.Script.{CanBeSaid, GoodOrBad, IsCause, IsReading, OneFirstBad, OneScript, Spells};
 ghost use Rattle.archive_service.specs.declared.script.ScriptError.TheVariants.{Mem};
 
+use crate::words::{cut, index_of, key_of, value_of};
 use archives::Command;
 use std::alloc::{AllocError, AllocFailed, Global};
 use std::marker::Model;
@@ -65,7 +67,86 @@ impl Script {
 
 /// Reads a script of lines, each ended by LF, whose values have at most `max_value` bytes.
 pub fn read_script(alloc: Global, bytes: &[u8], max_value: u32) -> Result<Script, ScriptError>
-    ensures script { IfOk result (λ script. Spells max_value bytes.now script) }
+    ensures script { IfOk result (Spells max_value bytes.now) }
+    ensures refused { IfErr result (IsCause max_value bytes.now) }
 {
-    Err(ScriptError::Mem)
+    let mut commands = Vec::new(alloc);
+    let mut rest = bytes;
+    while !rest.is_empty() {
+        match first_command(alloc, rest, max_value)? {
+            Some((command, behind)) => {
+                commands.push(command)?;
+                rest = behind;
+            }
+            None => return Err(ScriptError::Line(commands.len() as u64 + 1)),
+        }
+    }
+    Ok(Script { commands })
+}
+
+/// The command whose line the text begins with, and what stands behind that line.
+fn first_command(
+    alloc: Global,
+    text: &[u8],
+    max_value: u32,
+) -> Result<Option<(Command<Key8, ByteValue>, &[u8])>, AllocError>
+    ensures { IfOk result (λ found. IsFirstLine max_value text.now (option_map (λ x. (asked key8_bytes x.0, x.1.now)) found)) }
+{
+    let Some((line, rest)) = cut(text, b'\n') else {
+        return Ok(None);
+    };
+    let command = command_of(alloc, line, max_value)?;
+    Ok(command.map(|command| (command, rest)))
+}
+
+/// The command that a line says.
+fn command_of(
+    alloc: Global,
+    line: &[u8],
+    max_value: u32,
+) -> Result<Option<Command<Key8, ByteValue>>, AllocError>
+    ensures { IfOk result (λ found. IsCommandOf max_value line.now (option_map (asked key8_bytes) found)) }
+{
+    let Some((name, words)) = cut(line, b' ') else {
+        return Ok(None);
+    };
+    if name == b"put".as_slice() {
+        put_of(alloc, words, max_value)
+    } else if name == b"get".as_slice() {
+        Ok(index_of(words).map(Command::Get))
+    } else if name == b"has".as_slice() {
+        Ok(index_of(words).map(Command::Has))
+    } else {
+        Ok(None)
+    }
+}
+
+/// The record that the words behind `put` say.
+fn put_of(
+    alloc: Global,
+    words: &[u8],
+    max_value: u32,
+) -> Result<Option<Command<Key8, ByteValue>>, AllocError>
+    ensures { IfOk result (λ found. IsCommandOf max_value (codes "put" ++ 32 ∷ words.now) (option_map (asked key8_bytes) found)) }
+{
+    let Some((index, words)) = cut(words, b' ') else {
+        return Ok(None);
+    };
+    let Some((key, value)) = cut(words, b' ') else {
+        return Ok(None);
+    };
+    let (Some(index), Some(key)) = (index_of(index), key_of(key)) else {
+        return Ok(None);
+    };
+    let value = value_of(alloc, value, max_value)?;
+    Ok(value.map(|value| Command::Put(index, key, value)))
+}
+
+/// What makes the answers of [`read_script`] exact. A text spells at most one script; one that spells a script has no
+/// bad line; and there is one first bad line.
+pub fn reading_is_exact()
+    ensures one_script { OneScript }
+    ensures good_or_bad { GoodOrBad }
+    ensures one_first { OneFirstBad }
+{
 }
