@@ -3,6 +3,8 @@
 
 mod input;
 mod output;
+mod program;
+mod words;
 
 use std::process::ExitCode;
 

@@ -1,3 +1,4 @@
+pub mod Ended
 pub mod Script
 pub mod Served
 pub mod Texts

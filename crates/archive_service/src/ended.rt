@@ -1,6 +1,8 @@
 // How a call of the program ended.
+ghost use Rattle.std.specs.Prelude.{◌≡◌};
+ghost use Rattle.archive_service.specs.Ended.{code_of};
 
-/// How a call of the program ended. Each is a status of the process.
+/// How a call of the program ended.
 #[derive(Clone, Copy, Debug, PartialEq, Eq)]
 pub enum Status {
     /// All commands replied, and all was written.
@@ -22,12 +24,15 @@ pub enum Status {
 /// What a call of the program hands back.
 #[derive(Clone, Copy, Debug, PartialEq, Eq)]
 pub struct Ended {
-    /// The status of the process.
+    /// The status of the process: the number of a [`Status`].
     pub status: u8,
 }
 
-impl From<Status> for Ended {
-    fn from(status: Status) -> Ended {
+impl Ended {
+    /// The end with this status.
+    pub fn new(status: Status) -> Ended
+        ensures { result.status ≡ code_of status }
+    {
         Ended {
             status: status as u8,
         }
