@@ -1,11 +1,11 @@
 pub mod Bytes
+pub mod GuardsLemmas
 pub mod KeepsLemmas
 pub mod LengthLemmas
-pub mod Logged
 pub mod Marks
 pub mod Moments
 pub mod OpenedLemmas
+pub mod Places
 pub mod Puts
-pub mod Replay
 pub mod StaysLemmas
 pub mod Pieces

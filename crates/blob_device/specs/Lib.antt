@@ -1,12 +1,11 @@
 pub mod Change
 pub mod Counts
 pub mod Disk
-pub mod Entries
-pub mod Fuse
+pub mod Errors
+pub mod Guards
 pub mod Keeps
 pub mod MemStreams
-pub mod MemoryMeaning
+pub mod NameList
 pub mod Opened
-pub mod Stands
 pub mod Streams
 pub mod Timeline
