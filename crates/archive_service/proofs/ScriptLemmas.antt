@@ -4,18 +4,19 @@ use Rattle.std.specs.Prelude.{nat_le}
 use Rattle.std.specs.List.{AllByRecursion}
 use Rattle.std.proofs.lemmas.Bool.{and_parts, cases_lt}
 use Rattle.std.proofs.lemmas.Bool.Decides.{nat_tests}
+use Rattle.std.specs.Option.{option_map}
 use Rattle.std.specs.Fmt.{decimal}
 use Rattle.std.specs.Int.{IsInRange}
 use Rattle.std.specs.Str.Parse.{AllDigits}
 use Rattle.std.proofs.lemmas.Str.Parse.{digit_from_value}
 use Rattle.std.proofs.lemmas.Fmt.{decimal_injective, decimal_is_IsNumeral}
-use Rattle.std.proofs.lemmas.List.{append_assoc}
+use Rattle.std.proofs.lemmas.List.{append-nil, append_assoc, length-append}
 use Rattle.hex.specs.Hex.{IsBytes, decode_of, encode_lower, encode_with, lower_digits}
 use Rattle.hex.proofs.HexLemmas.{decode_of-encode_lower, length-encode_with}
 use Rattle.archives.specs.declared.commands.Command.TheVariants.{Put, Get, Has}
 use Rattle.archive_service.specs.Texts.{Spelled, line_of, script_text, value_text}
-use Rattle.archive_service.specs.Script.{AreBytes, BeginsBadly, CanBeSaid, GoodOrBad, IsFirstBad, IsIndex, IsKey, IsValue, OneFirstBad, OneScript, Spells}
-use Rattle.archive_service.proofs.WordLemmas.{Lacks, all_append, cut_once, decimal_lacks, encode_injective, encode_lacks, value_injective, value_lacks}
+use Rattle.archive_service.specs.Script.{AreBytes, BeginsBadly, CanBeSaid, GoodOrBad, IsCommandOf, IsFirstBad, IsFirstLine, IsReading, IsIndex, IsKey, IsValue, OneFirstBad, OneScript, Spells}
+use Rattle.archive_service.proofs.WordLemmas.{Lacks, all_append, cut_never, cut_once, decimal_lacks, encode_injective, encode_lacks, value_injective, value_lacks}
 
 -- ---- lines
 
@@ -152,3 +153,148 @@ pub one_first_bad : OneFirstBad
 one_first_bad max text m n hm hn =
     let same = same_place max hm.before hn.before hm.rest hn.rest hm.said hn.said hm.bad hn.bad (sym hm.text_is ∙ hn.text_is) in
     hm.number ∙ ap (λ k. k + 1) same ∙ sym hn.number
+
+-- ---- how a line is read
+
+no_name : (max : ℕ) (name : List ℕ) → name ≢ codes "put" → name ≢ codes "get" → name ≢ codes "has" → (command : Spelled) → name ≢ name_of command
+no_name max name put get has (Put i k v) = put
+no_name max name put get has (Get i) = get
+no_name max name put get has (Has i) = has
+
+-- no command is named otherwise
+pub name_refused : (max : ℕ) (name words : List ℕ) → Lacks 32 name → name ≢ codes "put" → name ≢ codes "get" → name ≢ codes "has" → IsCommandOf max (name ++ 32 ∷ words) None
+name_refused max name words lacks put get has = λ command said e.
+    no_name max name put get has command (cut_once 32 name (name_of command) words (words_behind command) lacks (name_lacks 32 (lit< tt) command) (e ∙ line_cut command)).0
+
+-- a line with no space is no command
+pub word_refused : (max : ℕ) (line : List ℕ) → Lacks 32 line → IsCommandOf max line None
+word_refused max line lacks = λ command said e. cut_never 32 line (name_of command) (words_behind command) lacks (e ∙ line_cut command)
+
+-- what stands behind a name, where a line is that of a command
+behind : (max : ℕ) (a b : Spelled) (words : List ℕ) → CanBeSaid max b → name_of a ++ 32 ∷ words ≡ line_of b → (name_of a ≡ name_of b) × (words ≡ words_behind b)
+behind max a b words said e = cut_once 32 (name_of a) (name_of b) words (words_behind b) (name_lacks 32 (lit< tt) a) (name_lacks 32 (lit< tt) b) (e ∙ line_cut b)
+
+get_refused : (max : ℕ) (words : List ℕ) → ((i : ℕ) → IsIndex i → words ≢ decimal i) → (command : Spelled) → CanBeSaid max command → codes "get" ++ 32 ∷ words ≢ line_of command
+get_refused max words none (Put i k v) said e = let heads : ◌≡◌ {A = ℕ} 103 112 = heads_same (codes "get") (codes "put") (behind max (Get 0) (Put i k v) words said e).0 in absurd (omega arith)
+get_refused max words none (Get i) said e = none i said (behind max (Get 0) (Get i) words said e).1
+get_refused max words none (Has i) said e = let heads : ◌≡◌ {A = ℕ} 103 104 = heads_same (codes "get") (codes "has") (behind max (Get 0) (Has i) words said e).0 in absurd (omega arith)
+
+has_refused : (max : ℕ) (words : List ℕ) → ((i : ℕ) → IsIndex i → words ≢ decimal i) → (command : Spelled) → CanBeSaid max command → codes "has" ++ 32 ∷ words ≢ line_of command
+has_refused max words none (Put i k v) said e = let heads : ◌≡◌ {A = ℕ} 104 112 = heads_same (codes "has") (codes "put") (behind max (Has 0) (Put i k v) words said e).0 in absurd (omega arith)
+has_refused max words none (Get i) said e = let heads : ◌≡◌ {A = ℕ} 104 103 = heads_same (codes "has") (codes "get") (behind max (Has 0) (Get i) words said e).0 in absurd (omega arith)
+has_refused max words none (Has i) said e = none i said (behind max (Has 0) (Has i) words said e).1
+
+pub get_reading : (max : ℕ) (words : List ℕ) (found : Option ℕ) → IsReading IsIndex decimal words found → IsCommandOf max (codes "get" ++ 32 ∷ words) (option_map Get found)
+get_reading max words None none = get_refused max words none
+get_reading max words (Some i) h = (h.0, ap (λ w. codes "get" ++ 32 ∷ w) h.1 ∙ sym (line-get i))
+
+pub has_reading : (max : ℕ) (words : List ℕ) (found : Option ℕ) → IsReading IsIndex decimal words found → IsCommandOf max (codes "has" ++ 32 ∷ words) (option_map Has found)
+has_reading max words None none = has_refused max words none
+has_reading max words (Some i) h = (h.0, ap (λ w. codes "has" ++ 32 ∷ w) h.1 ∙ sym (line-has i))
+
+-- the words of a record
+abbrev pub put_words : ℕ → List ℕ → List ℕ → List ℕ
+put_words index key value = decimal index ++ 32 ∷ (encode_lower key ++ 32 ∷ value_text value)
+
+put_refused_at : (max : ℕ) (words : List ℕ) → ((i : ℕ) (k v : List ℕ) → IsIndex i → IsKey k → IsValue max v → words ≢ put_words i k v)
+    → (command : Spelled) → CanBeSaid max command → codes "put" ++ 32 ∷ words ≢ line_of command
+put_refused_at max words none (Put i k v) said e = none i k v said.0 said.1 said.2 (behind max (Put 0 [] []) (Put i k v) words said e).1
+put_refused_at max words none (Get i) said e = let heads : ◌≡◌ {A = ℕ} 112 103 = heads_same (codes "put") (codes "get") (behind max (Put 0 [] []) (Get i) words said e).0 in absurd (omega arith)
+put_refused_at max words none (Has i) said e = let heads : ◌≡◌ {A = ℕ} 112 104 = heads_same (codes "put") (codes "has") (behind max (Put 0 [] []) (Has i) words said e).0 in absurd (omega arith)
+
+pub put_refused : (max : ℕ) (words : List ℕ) → ((i : ℕ) (k v : List ℕ) → IsIndex i → IsKey k → IsValue max v → words ≢ put_words i k v)
+    → IsCommandOf max (codes "put" ++ 32 ∷ words) None
+put_refused max words none = λ command. put_refused_at max words none command
+
+-- a text that is cut at its first space, where it is the words of a record
+index_word : (word rest : List ℕ) (i : ℕ) (k v : List ℕ) → Lacks 32 word → IsIndex i → word ++ 32 ∷ rest ≡ put_words i k v
+    → (word ≡ decimal i) × (rest ≡ encode_lower k ++ 32 ∷ value_text v)
+index_word word rest i k v lacks h e = cut_once 32 word (decimal i) rest _ lacks (decimal_lacks 32 i (lit< tt) h) e
+
+key_word : (word rest : List ℕ) (k v : List ℕ) → Lacks 32 word → IsKey k → word ++ 32 ∷ rest ≡ encode_lower k ++ 32 ∷ value_text v
+    → (word ≡ encode_lower k) × (rest ≡ value_text v)
+key_word word rest k v lacks h e = cut_once 32 word (encode_lower k) rest _ lacks (encode_lacks 32 k (lit< tt) h.1) e
+
+pub one_word_refused : (max : ℕ) (words : List ℕ) → Lacks 32 words → IsCommandOf max (codes "put" ++ 32 ∷ words) None
+one_word_refused max words lacks = put_refused max words (λ i k v hi hk hv e. cut_never 32 words (decimal i) _ lacks e)
+
+-- words, of which the first is cut off
+module _ (max : ℕ) (words word rest : List ℕ) (at : (words ≡ word ++ 32 ∷ rest) × Lacks 32 word) where
+  pub two_words_refused : Lacks 32 rest → IsCommandOf max (codes "put" ++ 32 ∷ words) None
+  two_words_refused lacks = put_refused max words (λ i k v hi hk hv e. cut_never 32 rest (encode_lower k) _ lacks (index_word word rest i k v at.1 hi (sym at.0 ∙ e)).1)
+
+  pub index_refused : IsReading IsIndex decimal word None → IsCommandOf max (codes "put" ++ 32 ∷ words) None
+  index_refused none = put_refused max words (λ i k v hi hk hv e. none i hi (index_word word rest i k v at.1 hi (sym at.0 ∙ e)).0)
+
+  -- and the second as well
+  module _ (key last : List ℕ) (then : (rest ≡ key ++ 32 ∷ last) × Lacks 32 key) where
+    pub key_refused : IsReading IsKey encode_lower key None → IsCommandOf max (codes "put" ++ 32 ∷ words) None
+    key_refused none = put_refused max words (λ i k v hi hk hv e. none k hk (key_word key last k v then.1 hk (sym then.0 ∙ (index_word word rest i k v at.1 hi (sym at.0 ∙ e)).1)).0)
+
+    pub put_reading : (index : ℕ) (bytes : List ℕ) (value : Option (List ℕ)) → IsReading IsIndex decimal word (Some index) → IsReading IsKey encode_lower key (Some bytes)
+        → IsReading (IsValue max) value_text last value → IsCommandOf max (codes "put" ++ 32 ∷ words) (option_map (Put index bytes) value)
+    put_reading index bytes None i k none = put_refused max words (λ j l v hj hl hv e.
+        none v hv (key_word key last l v then.1 hl (sym then.0 ∙ (index_word word rest j l v at.1 hj (sym at.0 ∙ e)).1)).1)
+    put_reading index bytes (Some value) i k v =
+        ((i.0, k.0, v.0), ap (λ w. codes "put" ++ 32 ∷ w) (at.0 ∙ rw (i.1, then.0, k.1, v.1) refl) ∙ sym (line-put index bytes value))
+
+-- the line, and what stands behind it
+pub first_refused : (max : ℕ) (text : List ℕ) → Lacks 10 text → IsFirstLine max text None
+first_refused max text lacks = λ x said e. cut_never 10 text (line_of x.0) x.1 lacks e
+
+pub first_reading : (max : ℕ) (text line rest : List ℕ) (found : Option Spelled) → (text ≡ line ++ 10 ∷ rest) × Lacks 10 line
+    → IsCommandOf max line found → IsFirstLine max text (option_map (λ command. (command, rest)) found)
+first_reading max text line rest None at none = λ x said e.
+    none x.0 said (cut_once 10 line (line_of x.0) rest x.1 at.1 (line_lacks max 10 (lit< tt) x.0 said) (sym at.0 ∙ e)).0
+first_reading max text line rest (Some command) at h = (h.0, at.0 ∙ ap (λ l. l ++ 10 ∷ rest) h.1)
+
+-- ---- how a script is read
+
+-- these commands were read, and this is left
+pub record IsReadSoFar (max : ℕ) (text : List ℕ) (commands : List Spelled) (rest : List ℕ) : Type 0 where
+  pub said : AllByRecursion (CanBeSaid max) commands
+  pub text_is : text ≡ script_text commands ++ rest
+
+pub none_read : (max : ℕ) (text : List ℕ) → IsReadSoFar max text [] text
+none_read max text = record { said = tt; text_is = refl }
+
+said_push : (max : ℕ) (commands : List Spelled) (command : Spelled) → AllByRecursion (CanBeSaid max) commands → CanBeSaid max command → AllByRecursion (CanBeSaid max) (commands ++ command ∷ [])
+said_push max [] command all said = (said, tt)
+said_push max (first ∷ commands) command all said = (all.0, said_push max commands command all.1 said)
+
+text_push : (commands : List Spelled) (command : Spelled) (rest : List ℕ) → script_text (commands ++ command ∷ []) ++ rest ≡ script_text commands ++ (line_of command ++ 10 ∷ rest)
+text_push [] command rest = append_assoc (line_of command) (10 ∷ []) rest
+text_push (first ∷ commands) command rest =
+    append_assoc (line_of first) (10 ∷ script_text (commands ++ command ∷ [])) rest
+    ∙ ap (λ t. line_of first ++ 10 ∷ t) (text_push commands command rest)
+    ∙ sym (append_assoc (line_of first) (10 ∷ script_text commands) (line_of command ++ 10 ∷ rest))
+
+pub one_more_read : (max : ℕ) (text : List ℕ) (commands : List Spelled) (rest behind : List ℕ) (command : Spelled) → IsReadSoFar max text commands rest
+    → IsFirstLine max rest (Some (command, behind)) → IsReadSoFar max text (commands ++ command ∷ []) behind
+one_more_read max text commands rest behind command read first = record {
+  said = said_push max commands command read.said first.0;
+  text_is = read.text_is ∙ ap (λ r. script_text commands ++ r) first.1 ∙ sym (text_push commands command behind);
+}
+
+pub shorter_rest : (max : ℕ) (rest behind : List ℕ) (command : Spelled) → IsFirstLine max rest (Some (command, behind)) → length behind < length rest
+shorter_rest max rest behind command first =
+    let whole = ap length first.1 in
+    let parts = length-append (line_of command) (10 ∷ behind) in
+    omega (arith, whole, parts)
+
+pub first_bad_here : (max : ℕ) (text : List ℕ) (commands : List Spelled) (rest : List ℕ) → IsReadSoFar max text commands rest → rest ≢ []
+    → IsFirstLine max rest None → IsFirstBad max text (length commands + 1)
+first_bad_here max text commands rest read some none = record {
+  before = commands;
+  rest = rest;
+  said = read.said;
+  text_is = read.text_is;
+  number = refl;
+  bad = record { some = some; bad = λ command behind said. none (command, behind) said };
+}
+
+pub whole_read : (max : ℕ) (text : List ℕ) (commands : List Spelled) (rest : List ℕ) → IsReadSoFar max text commands rest → rest ≡ [] → Spells max text commands
+whole_read max text commands rest read none = record {
+  said = read.said;
+  text_is = read.text_is ∙ ap (λ r. script_text commands ++ r) none ∙ append-nil (script_text commands);
+}

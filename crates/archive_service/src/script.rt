@@ -3,7 +3,7 @@ ghost use Rattle.std.specs.Prelude.{◌≡◌, ◌++◌, ◌∷◌, codes, ℕ, 
 ghost use Rattle.std.specs.Option.{option_map};
 ghost use Rattle.archives.specs.Machine.{asked};
 ghost use Rattle.value_codec.specs.Keys.{key8_bytes};
-ghost use Rattle.archive_service.specs.Script.{CanBeSaid, GoodOrBad, IsCause, IsReading, OneFirstBad, OneScript, Spells};
+ghost use Rattle.archive_service.specs.Script.{GoodOrBad, IsCause, IsCommandOf, IsFirstLine, OneFirstBad, OneScript, Spells};
 ghost use Rattle.archive_service.specs.declared.script.ScriptError.TheVariants.{Mem};
 
 use crate::words::{cut, index_of, key_of, value_of};
@@ -95,8 +95,10 @@ fn first_command(
     let Some((line, rest)) = cut(text, b'\n') else {
         return Ok(None);
     };
-    let command = command_of(alloc, line, max_value)?;
-    Ok(command.map(|command| (command, rest)))
+    let Some(command) = command_of(alloc, line, max_value)? else {
+        return Ok(None);
+    };
+    Ok(Some((command, rest)))
 }
 
 /// The command that a line says.
@@ -135,11 +137,16 @@ fn put_of(
     let Some((key, value)) = cut(words, b' ') else {
         return Ok(None);
     };
-    let (Some(index), Some(key)) = (index_of(index), key_of(key)) else {
+    let Some(index) = index_of(index) else {
         return Ok(None);
     };
-    let value = value_of(alloc, value, max_value)?;
-    Ok(value.map(|value| Command::Put(index, key, value)))
+    let Some(key) = key_of(key) else {
+        return Ok(None);
+    };
+    let Some(value) = value_of(alloc, value, max_value)? else {
+        return Ok(None);
+    };
+    Ok(Some(Command::Put(index, key, value)))
 }
 
 /// What makes the answers of [`read_script`] exact. A text spells at most one script; one that spells a script has no
