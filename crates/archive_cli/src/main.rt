@@ -12,7 +12,7 @@ mod words;
 pub use program::run;
 
 use archive_service::Status;
-use blob_device::{Memory, StdSink, StdSource};
+use blob_device::{Device, StdSink, StdSource};
 use std::process::ExitCode;
 use std::{env, io};
 
@@ -58,12 +58,14 @@ fn status(rt: &HostRuntime) -> u8 {
             _ => {}
         }
     }
-    let alloc = rt.alloc();
-    let mut device = Memory::new(alloc);
+    complain(rt, 0)
+}
+
+// Runs the program on this device, between standard input and output.
+fn run_on<D: Device>(rt: &HostRuntime, words: &[String], device: &mut D) -> u8 {
     let mut input = StdSource::new(rt.reader());
     let mut out = StdSink::new(io::writer(rt));
-    let ended = run(alloc, words.as_slice(), &mut device, &mut input, &mut out);
-    complain(rt, ended.status)
+    complain(rt, run(rt.alloc(), words, device, &mut input, &mut out).status)
 }
 
 // The words behind the program's name.

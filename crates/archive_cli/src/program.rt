@@ -1,5 +1,5 @@
 // The program: words, then the input to its end, then the script, then the commands, then the replies.
-ghost use Rattle.std.specs.Prelude.{◌≡◌, ◌≢◌, ◌⊎◌, ◌+◌, ◌∷◌, ◌++◌, [], ℕ, length, map, string_bytes, IfOk, Contains};
+ghost use Rattle.std.specs.Prelude.{◌≡◌, ◌≢◌, ◌⊎◌, ◌+◌, ◌^◌, ◌≤◌, ◌∷◌, ◌++◌, [], ℕ, length, map, string_bytes, IfOk, Contains};
 ghost use Rattle.blob_device.specs.Counts.{Rose};
 ghost use Rattle.archive_service.specs.Texts.{replies_text};
 ghost use Rattle.archive_cli.specs.Input.{TakesFront};
@@ -79,7 +79,9 @@ pub fn run<D: Device, S: Source, W: Sink>(
     }
     let bytes = match read_input(alloc, input) {
         Ok(bytes) => bytes,
-        Err(error) => return Ended::new(status_of(error)),
+        Err(InputError::Fault) => return Ended::new(Status::ReadFault),
+        Err(InputError::TooLong) => return Ended::new(Status::TooLong),
+        Err(InputError::Mem) => return Ended::new(Status::NoMemory),
     };
     let Ok(answer) = answer_of(alloc, dev, bytes.as_slice()) else {
         return Ended::new(Status::NoMemory);
@@ -88,14 +90,6 @@ pub fn run<D: Device, S: Source, W: Sink>(
         Ok(()) => Ended::new(answer.status),
         Err(IoFault::Fault) => Ended::new(Status::WriteFault),
         Err(IoFault::Mem) => Ended::new(Status::NoMemory),
-    }
-}
-
-fn status_of(error: InputError) -> Status {
-    match error {
-        InputError::Fault => Status::ReadFault,
-        InputError::TooLong => Status::TooLong,
-        InputError::Mem => Status::NoMemory,
     }
 }
 
