@@ -1,5 +1,5 @@
 -- The texts of values, commands and replies. Each command and each reply has one text.
-use Rattle.std.specs.Prelude.{ℕ, Bool, true, false, List, [], ◌∷◌, ◌++◌, Option, Some, None, codes}
+use Rattle.std.specs.Prelude.{◌≡◌, ℕ, Bool, true, false, List, [], ◌∷◌, ◌++◌, Option, Some, None, Result, Ok, Err, codes}
 use Rattle.std.specs.List.{flat_map, join_with_byte}
 use Rattle.std.specs.Fmt.{decimal}
 use Rattle.hex.specs.Hex.{encode_lower}
@@ -47,3 +47,8 @@ replies_text replies = flat_map reply_text replies
 -- the line that names a bad line of a script by its number
 abbrev pub bad_line_text : ℕ → List ℕ
 bad_line_text n = codes "error line " ++ decimal n ++ codes "\n"
+
+-- the text was appended; where memory was wanting, what stood there still stands in front
+abbrev pub Appends : {E : Type 0} → Result Unit E → List ℕ → List ℕ → List ℕ → Type 0
+Appends (Ok done) old text new = new ≡ old ++ text
+Appends (Err e) old text new = (more : List ℕ) × (new ≡ old ++ more)
