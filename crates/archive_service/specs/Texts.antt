@@ -32,6 +32,10 @@ abbrev pub script_text : List Spelled → List ℕ
 script_text [] = []
 script_text (command ∷ commands) = line_of command ++ 10 ∷ script_text commands
 
+-- the text begins with the line, and an LF behind it
+abbrev pub BeginsWith : List ℕ → List ℕ → Type 0
+BeginsWith text line = (rest : List ℕ) × (text ≡ line ++ 10 ∷ rest)
+
 -- the line of a reply, with its LF
 abbrev pub reply_text : Reply (List ℕ) → List ℕ
 reply_text Done = codes "ok\n"

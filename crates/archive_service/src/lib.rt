@@ -3,6 +3,7 @@
 //! `specs/Texts.antt` has the text of each command and reply, `specs/Script.antt` the grammar of scripts.
 #![tactic(auto)]
 
+pub mod plain;
 mod script;
 mod text;
 mod words;
