@@ -269,6 +269,11 @@ text_push (first ∷ commands) command rest =
     ∙ ap (λ t. line_of first ++ 10 ∷ t) (text_push commands command rest)
     ∙ sym (append_assoc (line_of first) (10 ∷ script_text commands) (line_of command ++ 10 ∷ rest))
 
+-- the same with nothing behind
+pub text_more : (commands : List Spelled) (command : Spelled) → script_text (commands ++ command ∷ []) ≡ (script_text commands ++ line_of command) ++ 10 ∷ []
+text_more commands command =
+    sym (append-nil (script_text (commands ++ command ∷ []))) ∙ text_push commands command [] ∙ sym (append_assoc (script_text commands) (line_of command) (10 ∷ []))
+
 pub one_more_read : (max : ℕ) (text : List ℕ) (commands : List Spelled) (rest behind : List ℕ) (command : Spelled) → IsReadSoFar max text commands rest
     → IsFirstLine max rest (Some (command, behind)) → IsReadSoFar max text (commands ++ command ∷ []) behind
 one_more_read max text commands rest behind command read first = record {

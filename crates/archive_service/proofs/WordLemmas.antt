@@ -10,7 +10,7 @@ use Rattle.std.specs.Str.{IsAscii}
 use Rattle.std.specs.Str.Parse.{AllDigits, ParsesUnsigned, digits_value}
 use Rattle.std.proofs.lemmas.Bool.{and_parts, cases_Bool, cases_lt, eqb-false, eqb-true, ltb-true}
 use Rattle.std.proofs.lemmas.Bool.Decides.{nat_tests}
-use Rattle.std.proofs.lemmas.List.{drop_more, take-append-drop, get_or-take, take_all}
+use Rattle.std.proofs.lemmas.List.{drop_more, take-append-drop, take_more}
 use Rattle.std.proofs.lemmas.List.Elements.{All-from_recursion, recursion_from_All}
 use Rattle.std.proofs.lemmas.List.Quantifiers.{position-Some}
 use Rattle.std.proofs.lemmas.Iterator.Adapters.{position_from-zero}
@@ -326,3 +326,19 @@ value_read max word (b ∷ bytes) h e =
 
 pub value_decodes : (max : ℕ) (word : List ℕ) → IsValueText max word → IsOk (decode_of word)
 value_decodes max word h = rw (hex_text_decodes word h.hex) refl
+
+-- ---- texts, as they are written
+
+-- one byte more at the end
+encode_push : (bytes : List ℕ) (b : ℕ) → encode_lower (bytes ++ b ∷ []) ≡ encode_lower bytes ++ slice_index lower_digits (b / 16) ∷ slice_index lower_digits (b % 16) ∷ []
+unfolding encode_with
+encode_push [] b = refl
+encode_push (first ∷ bytes) b = ap (λ t. slice_index lower_digits (first / 16) ∷ slice_index lower_digits (first % 16) ∷ t) (encode_push bytes b)
+
+pub encode_nothing : encode_lower [] ≡ []
+unfolding encode_with
+encode_nothing = refl
+
+pub encode_more : (bytes : List ℕ) (i : ℕ) → i < length bytes
+    → encode_lower (take (i + 1) bytes) ≡ encode_lower (take i bytes) ++ slice_index lower_digits (get_or bytes i 0 / 16) ∷ slice_index lower_digits (get_or bytes i 0 % 16) ∷ []
+encode_more bytes i h = ap encode_lower (take_more bytes i 0 h) ∙ encode_push (take i bytes) (get_or bytes i 0)

@@ -1,5 +1,5 @@
 -- The texts of values, commands and replies. Each command and each reply has one text.
-use Rattle.std.specs.Prelude.{ℕ, Bool, true, false, List, [], ◌∷◌, ◌++◌, Option, Some, None, codes}
+use Rattle.std.specs.Prelude.{◌≡◌, ℕ, Bool, true, false, List, [], ◌∷◌, ◌++◌, Option, Some, None, Result, Ok, Err, codes}
 use Rattle.std.specs.List.{flat_map, join_with_byte}
 use Rattle.std.specs.Fmt.{decimal}
 use Rattle.hex.specs.Hex.{encode_lower}
@@ -32,6 +32,10 @@ abbrev pub script_text : List Spelled → List ℕ
 script_text [] = []
 script_text (command ∷ commands) = line_of command ++ 10 ∷ script_text commands
 
+-- the text begins with the line, and an LF behind it
+abbrev pub BeginsWith : List ℕ → List ℕ → Type 0
+BeginsWith text line = (rest : List ℕ) × (text ≡ line ++ 10 ∷ rest)
+
 -- the line of a reply, with its LF
 abbrev pub reply_text : Reply (List ℕ) → List ℕ
 reply_text Done = codes "ok\n"
@@ -47,3 +51,8 @@ replies_text replies = flat_map reply_text replies
 -- the line that names a bad line of a script by its number
 abbrev pub bad_line_text : ℕ → List ℕ
 bad_line_text n = codes "error line " ++ decimal n ++ codes "\n"
+
+-- the text was appended; where memory was wanting, what stood there still stands in front
+abbrev pub Appends : {E : Type 0} → Result Unit E → List ℕ → List ℕ → List ℕ → Type 0
+Appends (Ok done) old text new = new ≡ old ++ text
+Appends (Err e) old text new = (more : List ℕ) × (new ≡ old ++ more)

@@ -4,6 +4,7 @@
 #![tactic(auto)]
 
 mod ended;
+pub mod plain;
 mod replies;
 mod script;
 mod serving;

@@ -157,3 +157,6 @@ pub fn reading_is_exact()
     ensures one_first { OneFirstBad }
 {
 }
+
+#[cfg(test)]
+mod tests;
