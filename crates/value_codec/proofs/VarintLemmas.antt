@@ -1,6 +1,6 @@
 -- Varints: what a front of bytes that go on says of the number, and that each number has one spelling.
 use Rattle.std.proofs.Common.{◌≡◌, ℕ, zero, suc, ◌+◌, ◌-◌, ◌*◌, ◌/◌, ◌%◌, ◌^◌, ◌<◌, ◌≤◌, List, [], ◌∷◌, ◌++◌, All, length, take, drop, get_or, arith, refl, sym, ap, ◌∙◌, subst, ◌⊎◌, inl, inr, pow_pos, mul-pos, mul_assoc, mul_left_comm, add-one, add-mul, mul-le-mul_right, mul_comm, append_assoc, length-take-le, take_all, take-take, take-append-drop, Fits, w64, Result, Ok, Err, IfOk, IfErr}
-use Rattle.std.proofs.lemmas.Bool.{cases_lt, cases_eq}
+use Rattle.std.proofs.lemmas.Bool.{cases_lt}
 use Rattle.std.proofs.lemmas.Bool.Decides.{nat_tests}
 use Rattle.std.proofs.lemmas.Nat.{pow-add, shl_whole, shr_high}
 use Rattle.std.proofs.lemmas.List.{append_cancel_left}
@@ -61,7 +61,7 @@ front_joined (b ∷ xs) tail high on spelled pos =
     let worth = worth_more (length xs) high in
     let above : 0 < 2 ^ (7 * length xs) * high = mul-pos (pow_pos (7 * length xs)) some in
     joined b (xs ++ tail) _ (low_bits xs + 2 ^ (7 * length xs) * high) on.0 on.1 (omega arith) (omega (arith, worth, on.0))
-      (front_joined xs tail high on.2 spelled (λ _. some))
+    (front_joined xs tail high on.2 spelled (λ _. some))
 
 -- and back: what follows bytes that go on
 pub front_parted : (xs tail : List ℕ) (n : ℕ) → GoesOn xs → IsVarint (xs ++ tail) n
@@ -81,7 +81,7 @@ pub low_bits-last : (xs : List ℕ) (b : ℕ) → low_bits (xs ++ b ∷ []) ≡ 
 low_bits-last [] b = omega arith
 low_bits-last (x ∷ xs) b =
     let worth : (b - 128) * 2 ^ (7 * suc (length xs)) ≡ 128 * ((b - 128) * 2 ^ (7 * length xs)) =
-      ap (λ z. (b - 128) * z) (step (length xs)) ∙ mul_left_comm (b - 128) 128 (2 ^ (7 * length xs)) in
+    ap (λ z. (b - 128) * z) (step (length xs)) ∙ mul_left_comm (b - 128) 128 (2 ^ (7 * length xs)) in
     omega (arith, worth, low_bits-last xs b)
 
 pub GoesOn-last : (xs : List ℕ) (b : ℕ) → GoesOn xs → 128 ≤ b → b < 256 → GoesOn (xs ++ b ∷ [])
@@ -121,9 +121,9 @@ unfolding varint_within
 within_spells zero n small = (omega arith, refl)
 within_spells (suc more) n small =
     elim (cases_lt n 128) [
-      inl short ↦ rw (within_short more n short) (short, refl)
+      | inl short ↦ rw (within_short more n short) (short, refl)
       | inr long ↦ rw (within_long more n long)
-        (joined (128 + n % 128) (varint_within more (n / 128)) n (n / 128) (omega arith) (omega arith) (omega arith) (omega arith)
+          (joined (128 + n % 128) (varint_within more (n / 128)) n (n / 128) (omega arith) (omega arith) (omega arith) (omega arith)
           (within_spells more (n / 128) (omega arith)))
     ]
 
@@ -231,21 +231,21 @@ pub read_more : (bits : ℕ) (bytes : List ℕ) (at value room b : ℕ) → IsRe
 read_more bits bytes at value room b so_far inside here more byte fits = record {
   goes_on = subst GoesOn (sym (front_more bytes at b inside here)) (GoesOn-last (take at bytes) b so_far.goes_on more byte);
   worth =
-    ap (λ z. z + (b - 128) * 2 ^ (7 * at)) so_far.worth
-    ∙ ap (λ z. low_bits (take at bytes) + (b - 128) * 2 ^ (7 * z)) (sym (length-take-le at bytes (omega arith)))
-    ∙ sym (low_bits-last (take at bytes) b)
-    ∙ ap low_bits (sym (front_more bytes at b inside here));
+      ap (λ z. z + (b - 128) * 2 ^ (7 * at)) so_far.worth
+      ∙ ap (λ z. low_bits (take at bytes) + (b - 128) * 2 ^ (7 * z)) (sym (length-take-le at bytes (omega arith)))
+      ∙ sym (low_bits-last (take at bytes) b)
+      ∙ ap low_bits (sym (front_more bytes at b inside here));
   left =
-    let seven = wide (bits - 7 * at) room so_far.left fits in
-    let split : bits - 7 * at ≡ 7 + (bits - 7 * (at + 1)) = omega arith in
-    narrower (bits - 7 * (at + 1)) room (so_far.left ∙ ap (λ z. 2 ^ z) split);
+      let seven = wide (bits - 7 * at) room so_far.left fits in
+      let split : bits - 7 * at ≡ 7 + (bits - 7 * (at + 1)) = omega arith in
+      narrower (bits - 7 * (at + 1)) room (so_far.left ∙ ap (λ z. 2 ^ z) split);
   before = omega (arith, wide (bits - 7 * at) room so_far.left fits);
 }
 
 pub IsReadTo-below : (bits : ℕ) (bytes : List ℕ) (at value room : ℕ) → IsReadTo bits bytes at value room → at ≤ length bytes → value < 2 ^ (7 * at)
 IsReadTo-below bits bytes at value room so_far inside =
     subst (λ z. value < 2 ^ (7 * z)) (length-take-le at bytes inside)
-      (subst (λ z. z < 2 ^ (7 * length (take at bytes))) (sym so_far.worth) (low_bits-below (take at bytes) so_far.goes_on))
+    (subst (λ z. z < 2 ^ (7 * length (take at bytes))) (sym so_far.worth) (low_bits-below (take at bytes) so_far.goes_on))
 
 -- what a number's bytes sum up to is in range
 pub sum_fits : (bits at low b : ℕ) → 7 * at ≤ bits → low < 2 ^ (7 * at) → b < 2 ^ (bits - 7 * at) → low + b * 2 ^ (7 * at) < 2 ^ bits
@@ -261,13 +261,13 @@ pub read_last : (bits : ℕ) (bytes : List ℕ) (at value room b : ℕ) → IsRe
 read_last bits bytes at value room b so_far inside here last fits some = record {
   within = omega arith;
   spelled =
-    let at_is = length-take-le at bytes (omega arith) in
-    let front = front_joined (take at bytes) (b ∷ []) b so_far.goes_on (last, refl) (λ h. some (omega arith)) in
-    let worth : low_bits (take at bytes) + 2 ^ (7 * length (take at bytes)) * b ≡ value + b * 2 ^ (7 * at) =
+      let at_is = length-take-le at bytes (omega arith) in
+      let front = front_joined (take at bytes) (b ∷ []) b so_far.goes_on (last, refl) (λ h. some (omega arith)) in
+      let worth : low_bits (take at bytes) + 2 ^ (7 * length (take at bytes)) * b ≡ value + b * 2 ^ (7 * at) =
       ap (λ z. low_bits (take at bytes) + 2 ^ (7 * z) * b) at_is
       ∙ ap (λ z. z + 2 ^ (7 * at) * b) (sym so_far.worth)
       ∙ ap (λ z. value + z) (mul_comm (2 ^ (7 * at)) b) in
-    subst (λ z. IsVarint z (value + b * 2 ^ (7 * at))) (sym (front_more bytes at b inside here)) (subst (IsVarint (take at bytes ++ b ∷ [])) worth front);
+      subst (λ z. IsVarint z (value + b * 2 ^ (7 * at))) (sym (front_more bytes at b inside here)) (subst (IsVarint (take at bytes ++ b ∷ [])) worth front);
   in_range = sum_fits bits at value b (omega (arith, so_far.before)) (IsReadTo-below bits bytes at value room so_far (omega arith)) (omega (arith, so_far.left));
 }
 
@@ -291,23 +291,23 @@ pub read_none : (bits : ℕ) (bytes : List ℕ) (at value room b : ℕ) → IsRe
     → ((more : List ℕ) (high : ℕ) → IsVarint (b ∷ more) high → (0 < at → 0 < high) → high ≤ room → ⊥) → BeginsWithNone (2 ^ bits) bytes
 read_none bits bytes at value room b so_far inside here none n len below spelled =
     elim (cases_lt at len) [
-      inl behind ↦
-        let more = take (len - (at + 1)) (drop (at + 1) bytes) in
-        let split : at + 1 + (len - (at + 1)) ≡ len = omega arith in
-        let front : take len bytes ≡ take at bytes ++ b ∷ more =
+      | inl behind ↦
+          let more = take (len - (at + 1)) (drop (at + 1) bytes) in
+          let split : at + 1 + (len - (at + 1)) ≡ len = omega arith in
+          let front : take len bytes ≡ take at bytes ++ b ∷ more =
           ap (λ z. take z bytes) (sym split)
           ∙ take-add (at + 1) (len - (at + 1)) bytes
           ∙ ap (λ z. z ++ more) (front_more bytes at b inside here)
           ∙ append_assoc (take at bytes) (b ∷ []) more in
-        let at_is = length-take-le at bytes (omega arith) in
-        let rest = front_parted (take at bytes) (b ∷ more) n so_far.goes_on (subst (λ z. IsVarint z n) front spelled) in
-        let small : 2 ^ (7 * at) * rest.0 ≤ n = le_of_sum _ _ _ (rest.2 ∙ ap (λ z. low_bits (take at bytes) + 2 ^ (7 * z) * rest.0) at_is) in
-        let all : 7 * at + (bits - 7 * at) ≡ bits = omega (arith, so_far.before) in
-        let product : 2 ^ (7 * at) * 2 ^ (bits - 7 * at) ≡ 2 ^ bits = sym (pow-add 2 (7 * at) (bits - 7 * at)) ∙ ap (λ z. 2 ^ z) all in
-        let fits : rest.0 < 2 ^ (bits - 7 * at) = lt_of_mul-lt-mul_left (2 ^ (7 * at)) (omega (arith, small, product, below)) in
-        none more rest.0 rest.3 (λ h. rest.1 (omega (arith, at_is))) (omega (arith, so_far.left, fits))
+          let at_is = length-take-le at bytes (omega arith) in
+          let rest = front_parted (take at bytes) (b ∷ more) n so_far.goes_on (subst (λ z. IsVarint z n) front spelled) in
+          let small : 2 ^ (7 * at) * rest.0 ≤ n = le_of_sum _ _ _ (rest.2 ∙ ap (λ z. low_bits (take at bytes) + 2 ^ (7 * z) * rest.0) at_is) in
+          let all : 7 * at + (bits - 7 * at) ≡ bits = omega (arith, so_far.before) in
+          let product : 2 ^ (7 * at) * 2 ^ (bits - 7 * at) ≡ 2 ^ bits = sym (pow-add 2 (7 * at) (bits - 7 * at)) ∙ ap (λ z. 2 ^ z) all in
+          let fits : rest.0 < 2 ^ (bits - 7 * at) = lt_of_mul-lt-mul_left (2 ^ (7 * at)) (omega (arith, small, product, below)) in
+          none more rest.0 rest.3 (λ h. rest.1 (omega (arith, at_is))) (omega (arith, so_far.left, fits))
       | inr before ↦
-        unfinished (take len bytes) n
+          unfinished (take len bytes) n
           (subst GoesOn (take-take len at bytes before) (GoesOn-take len (take at bytes) so_far.goes_on)) spelled
     ]
   where
@@ -375,7 +375,7 @@ varint_apart m n x y same =
 pub room_below : (len rest : ℕ) → rest < 2 ^ (64 - 7 * len) → 128 ≤ rest → len + 1 ≤ 9
 room_below len rest below long =
     elim (cases_lt len 9) [
-      inl inside ↦ omega arith
+      | inl inside ↦ omega arith
       | inr past ↦ let one : 64 - 7 * len ≤ 1 = omega arith in let few : 2 ^ (64 - 7 * len) ≤ 2 ^ 1 = pow_mono one in absurd (omega arith)
     ]
 

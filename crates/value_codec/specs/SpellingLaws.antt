@@ -1,5 +1,5 @@
 -- Proofs of the laws of values: what is refused, and that a spelling has one value.
-use Rattle.std.specs.Prelude.{◌≡◌, ℕ, ◌<◌, ◌≤◌, ◌^◌, ℤ, List, length, Option, Some, None, FitsSigned}
+use Rattle.std.specs.Prelude.{◌≡◌, ℕ, ◌<◌, ◌≤◌, ◌^◌, ℤ, List, length, Some, None, FitsSigned}
 use Rattle.std.specs.Int.{w32, w64, from_be_bytes, cast_unsigned}
 use Rattle.std.proofs.Common.{arith, ap, sym, ◌∙◌, refl, to_z, to_z-of_z}
 use Rattle.std.proofs.Math.Facts.{Fits-of_z}

@@ -1,5 +1,5 @@
 -- A number in little-endian base 128 in its shortest spelling, and what stands at the front of some bytes.
-use Rattle.std.specs.Prelude.{◌≡◌, ℕ, zero, suc, ◌+◌, ◌*◌, ◌/◌, ◌%◌, ◌^◌, ◌<◌, ◌≤◌, List, [], ◌∷◌, All, length, take, nat_lt, if◌then◌else◌}
+use Rattle.std.specs.Prelude.{◌≡◌, ℕ, zero, suc, ◌+◌, ◌*◌, ◌/◌, ◌%◌, ◌<◌, ◌≤◌, List, [], ◌∷◌, All, length, take, nat_lt, if◌then◌else◌}
 
 -- A byte below 128 is the last, and stands for itself. One from 128 on holds the low seven bits, and
 -- the bytes behind it spell the rest.

@@ -1,4 +1,4 @@
-use Rattle.std.proofs.Common.{◌^◌, ◌<◌, arith}
+use Rattle.std.proofs.Common.{arith}
 use Rattle.value_codec.proofs.VarintLemmas.{varint_spells, varint_only, varint_shortest, varint_apart, varint_at_most}
 use Rattle.value_codec.proofs.varint.varint_laws.Goals as goal
 
