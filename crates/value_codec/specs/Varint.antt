@@ -1,5 +1,8 @@
--- A number in little-endian base 128 in its shortest spelling, and what stands at the front of some bytes.
-use Rattle.std.specs.Prelude.{◌≡◌, ℕ, zero, suc, ◌+◌, ◌*◌, ◌/◌, ◌%◌, ◌<◌, ◌≤◌, List, [], ◌∷◌, All, length, take, nat_lt, if◌then◌else◌}
+-- A number in little-endian base 128 in its shortest spelling, and which number stands at the front of some bytes.
+use Rattle.std.specs.Prelude.{◌≡◌, ℕ, zero, suc, ◌+◌, ◌*◌, ◌/◌, ◌%◌, ◌<◌, ◌≤◌, List, [], ◌∷◌, All, length, take, nat_lt, nat_le, bytes_eq, ◌&&◌, Bool, Result, Ok, Err, if◌then◌else◌}
+use Rattle.std.specs.List.{list_all}
+use Rattle.value_codec.specs.declared.codec.Error.{Error}
+use Rattle.value_codec.specs.declared.codec.Error.TheVariants.{EndOfBuffer, InvalidVarint}
 
 -- A byte below 128 is the last, and stands for itself. One from 128 on holds the low seven bits, and
 -- the bytes behind it spell the rest.
@@ -37,3 +40,30 @@ BeginsWithNone limit bytes = (n len : ℕ) → n < limit → IsVarint (take len 
 pub record IsCutShort (longest : ℕ) (bytes : List ℕ) : Type 0 where
   pub few : length bytes < longest
   pub goes_on : All (λ b. 128 ≤ b) bytes
+
+-- ---- the same as a function, for the meaning of values whose spelling begins with a number
+
+-- what the seven low bits of each byte are worth, those of the first byte the lowest
+abbrev pub base128 : List ℕ → ℕ
+base128 [] = 0
+base128 (b ∷ bs) = b % 128 + 128 * base128 bs
+
+-- the bytes up to the first that asks for no more
+abbrev pub front : List ℕ → List ℕ
+front [] = []
+front (b ∷ bs) = b ∷ (if nat_lt b 128 then [] else front bs)
+
+-- whether there are fewer bytes than the longest varint has, and each asks for one more
+abbrev pub is_cut_short : ℕ → List ℕ → Bool
+is_cut_short longest bytes = nat_lt (length bytes) longest && list_all (nat_le 128) bytes
+
+-- whether the bytes are the varint of a number below `limit`
+abbrev pub is_varint : ℕ → List ℕ → Bool
+is_varint limit bytes = nat_lt (base128 bytes) limit && bytes_eq (varint (base128 bytes)) bytes
+
+-- the number at the front and how many bytes it takes, or why there is none
+unfoldable pub varint_front : ℕ → ℕ → List ℕ → Result (ℕ × ℕ) Error
+varint_front limit longest bytes =
+    if is_cut_short longest bytes then Err EndOfBuffer
+    else if is_varint limit (front bytes) then Ok (base128 (front bytes), length (front bytes))
+    else Err InvalidVarint

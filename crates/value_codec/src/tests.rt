@@ -1,4 +1,7 @@
 //! Outside vectors, printed texts, and each trait once through its bound.
+ghost use Rattle.std.specs.Prelude.{◌≡◌, ◌⊎◌, Ok, Err};
+ghost use Rattle.value_codec.specs.declared.codec.Error.TheVariants.{Mem};
+
 use super::*;
 use crate::codec::Error;
 use std::alloc::Global;
@@ -132,6 +135,16 @@ fn varints_are_spelled_and_read(rt: HostRuntime) -> Result<(), Fail> {
     Ok(())
 }
 
+/// What is written is read again, by the bound alone.
+fn written_and_read<V: Codec>(alloc: Global, value: &V, cfg: V::Cfg) -> Result<V, Error>
+    requires { V.accepted value.now cfg }
+    ensures { (result ≡ Ok value.now) ⊎ (result ≡ Err Mem) }
+{
+    let mut out = Vec::new(alloc);
+    value.write(&mut out)?;
+    V::decode_cfg(alloc, out.as_slice(), cfg)
+}
+
 /// Writes the value behind a byte, reads it back, and expects this spelling.
 fn round_trip<V: Codec + Eq>(
     rt: &impl Abort,
@@ -148,6 +161,7 @@ fn round_trip<V: Codec + Eq>(
     assert_eq!(rt; hex::encode(alloc, &out[1..])?.as_str(), text);
     let read = V::decode_cfg(alloc, spelled.as_slice(), cfg)?;
     assert!(rt; read == *value);
+    assert!(rt; written_and_read(alloc, value, cfg)? == *value);
     Ok(())
 }
 

@@ -1,4 +1,5 @@
 use Rattle.std.proofs.Common.{arith}
+use Rattle.value_codec.proofs.VarintFront.{front_gives}
 use Rattle.value_codec.proofs.VarintLemmas.{varint_spells, varint_only, varint_shortest, varint_apart, varint_at_most}
 use Rattle.value_codec.proofs.varint.varint_laws.Goals as goal
 
@@ -19,3 +20,6 @@ returns-clause-at_most_5 c = λ n below. varint_at_most 4 n (omega arith)
 
 pub returns-clause-at_most_10 : goal.returns-clause-at_most_10
 returns-clause-at_most_10 c = λ n below. varint_at_most 9 n (omega arith)
+
+pub returns-clause-front : goal.returns-clause-front
+returns-clause-front c = front_gives
