@@ -19,7 +19,7 @@ pub fn serve<D: Device, K: Key, V: Codec + Clone>(
     dev: &mut D,
     commands: &[Command<K, V>],
 ) -> Served<V>
-    requires { (a b : V) → V.is_clone a b → a ≡ b }
+    requires { (v w : V) → V.is_clone v w → w ≡ v }
     ensures replies { AreReplies (map (asked K.key_bytes) commands.now) result.replies }
     ensures end { EndsAt result.end (length result.replies) (length commands.now) }
     ensures device { dev.new ≡ dev.old }
@@ -46,7 +46,7 @@ fn answer<K: Key, V: Clone>(
     replies: &mut Replies<V>,
     command: &Command<K, V>,
 ) -> Result<(), Error>
-    requires { (a b : V) → V.is_clone a b → a ≡ b }
+    requires { (v w : V) → V.is_clone v w → w ≡ v }
     ensures ok { OnOk result (AddsReply replies.old replies.new (λ reply. (n : ℕ) →
         Step n (state_of K.key_bytes n machine.old) (asked K.key_bytes command.now) reply (state_of K.key_bytes n machine.new))) }
     ensures err { OnErr result (replies.new ≡ replies.old) }

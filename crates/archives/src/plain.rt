@@ -39,7 +39,7 @@ fn value_at<K, V>(items: &[Item<K, V>], index: u64) -> Option<&V>
 }
 
 fn copied<V: Clone>(value: Option<&V>) -> Result<Option<V>, Error>
-    requires { (a b : V) → V.is_clone a b → a ≡ b }
+    requires { (v w : V) → V.is_clone v w → w ≡ v }
     ensures copy { IfOk result (λ copy. copy ≡ option_copied value.entry) }
     ensures memory { IsOkUnless result Error.Mem }
 {
@@ -66,7 +66,7 @@ impl<K: Key, V: Clone> Machine<K, V> {
     }
 
     fn get(&self, index: u64) -> Result<Option<V>, Error>
-        requires { (a b : V) → V.is_clone a b → a ≡ b }
+        requires { (v w : V) → V.is_clone v w → w ≡ v }
         ensures value { IfOk result (λ value. (n : ℕ) → value ≡ first_value (entries_at n (state_of K.key_bytes n self.now) index)) }
         ensures memory { IsOkUnless result Error.Mem }
     {
@@ -74,7 +74,7 @@ impl<K: Key, V: Clone> Machine<K, V> {
     }
 
     fn put(&mut self, index: u64, key: K, value: &V) -> Result<(), Error>
-        requires { (a b : V) → V.is_clone a b → a ≡ b }
+        requires { (v w : V) → V.is_clone v w → w ≡ v }
         ensures put { OnOk result ((n : ℕ) → state_of K.key_bytes n self.new ≡ after_put n index (K.key_bytes key) value.now (state_of K.key_bytes n self.old)) }
         ensures memory { IsOkUnless result Error.Mem }
         ensures unchanged { OnErr result (self.new.items.items ≡ self.old.items.items) }
@@ -89,7 +89,7 @@ impl<K: Key, V: Clone> Machine<K, V> {
 
     /// Carries out one command. A copy of a value has to equal it. After an Err nothing changed.
     pub fn step(&mut self, command: &Command<K, V>) -> Result<Reply<V>, Error>
-        requires { (a b : V) → V.is_clone a b → a ≡ b }
+        requires { (v w : V) → V.is_clone v w → w ≡ v }
         ensures step { IfOk result (λ reply. (n : ℕ) → Step n (state_of K.key_bytes n self.old) (asked K.key_bytes command.now) reply (state_of K.key_bytes n self.new)) }
         ensures memory { IsOkUnless result Error.Mem }
         ensures unchanged { OnErr result ((n : ℕ) → state_of K.key_bytes n self.new ≡ state_of K.key_bytes n self.old) }
