@@ -12,7 +12,7 @@ mod words;
 pub use program::run;
 
 use archive_service::Status;
-use blob_device::{Device, StdSink, StdSource};
+use blob_device::{Device, Memory, StdSink, StdSource};
 use std::process::ExitCode;
 use std::{env, io};
 
@@ -58,7 +58,7 @@ fn status(rt: &HostRuntime) -> u8 {
             _ => {}
         }
     }
-    complain(rt, 0)
+    run_on(rt, words.as_slice(), &mut Memory::new(rt.alloc()))
 }
 
 // Runs the program on this device, between standard input and output.

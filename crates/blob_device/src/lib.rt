@@ -1,18 +1,23 @@
 //! A disk of named blobs, with a model of what a crash at any moment may leave, and sources and sinks of bytes.
 #![tactic(auto)]
 
+mod blob_log;
 mod device;
 mod error;
 mod failing;
 mod io_fault;
+mod logs;
+mod memory;
 mod names;
 mod runtime;
 mod sink;
 mod source;
+mod table;
 
 pub use device::Device;
 pub use error::DevError;
 pub use io_fault::IoFault;
+pub use memory::Memory;
 pub use names::Names;
 pub use runtime::{Handle, RError};
 pub use sink::{MemSink, Sink, StdSink};
