@@ -9,10 +9,9 @@ mod output;
 mod program;
 mod words;
 
-pub use program::run;
-
 use archive_service::Status;
 use blob_device::{Device, Memory, StdSink, StdSource};
+pub use program::run;
 use std::process::ExitCode;
 use std::{env, io};
 
@@ -65,7 +64,10 @@ fn status(rt: &HostRuntime) -> u8 {
 fn run_on<D: Device>(rt: &HostRuntime, words: &[String], device: &mut D) -> u8 {
     let mut input = StdSource::new(rt.reader());
     let mut out = StdSink::new(io::writer(rt));
-    complain(rt, run(rt.alloc(), words, device, &mut input, &mut out).status)
+    complain(
+        rt,
+        run(rt.alloc(), words, device, &mut input, &mut out).status,
+    )
 }
 
 // The words behind the program's name.

@@ -140,3 +140,6 @@ fn text_of(alloc: Global, replies: &[Reply<ByteValue>]) -> Result<Vec<u8>, Scrip
     }
     Ok(text)
 }
+
+#[cfg(test)]
+mod tests;
