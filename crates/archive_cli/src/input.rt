@@ -35,7 +35,9 @@ impl From<AllocError> for InputError {
 /// Reads an input to its end. At most [`INPUT_LIMIT`] + 1 bytes are taken.
 pub fn read_input<S: Source>(alloc: Global, input: &mut S) -> Result<Vec<u8>, InputError>
     ensures whole { S.Tells → IfOk result (λ bytes. TakesAll (S.left input.old) (S.left input.new) bytes.items) }
+    ensures limit { IfOk result (λ bytes. length bytes.items ≤ INPUT_LIMIT) }
     ensures cause { IfErr result (IsInputCause (S.faults input.old) (S.faults input.new)) }
+    ensures within { S.Tells → result ≡ Err InputError.Fault → TakesFront (S.left input.old) (S.left input.new) (λ n. n ≤ INPUT_LIMIT) }
     ensures too_long { S.Tells → result ≡ Err InputError.TooLong → TakesFront (S.left input.old) (S.left input.new) (λ n. n ≡ INPUT_LIMIT + 1) }
     ensures at_most { S.Tells → TakesFront (S.left input.old) (S.left input.new) (λ n. n ≤ INPUT_LIMIT + 1) }
 {

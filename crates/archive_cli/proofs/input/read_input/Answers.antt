@@ -36,3 +36,6 @@ returns-clause-at_most g c t = record {
   number = omega (arith, c.pieces.invariant.bound);
   rest = c.pieces.invariant.told t;
 }
+
+pub returns-in-Ok-false-clause-limit : goal.returns-in-Ok-false-clause-limit
+returns-in-Ok-false-clause-limit g c = ?
