@@ -1,5 +1,5 @@
 -- What was read and written, and which answer it is.
-use Rattle.std.proofs.Common.{◌≡◌, ◌⊎◌, inl, inr, ℕ, ◌^◌, ◌≤◌, Bool, List, [], ◌++◌, length, refl, sym, ap, subst, ◌∙◌, arith, append-nil, length-append, ◌+◌, Result, Ok, Err}
+use Rattle.std.proofs.Common.{◌≡◌, ◌⊎◌, inl, inr, ℕ, zero, suc, ◌^◌, ◌≤◌, ◌<◌, Bool, ◌∷◌, Contains, List, [], ◌++◌, length, refl, sym, ap, subst, ◌∙◌, arith, append-nil, length-append, ◌+◌, Result, Ok, Err}
 use Rattle.blob_device.specs.declared.io_fault.IoFault.{IoFault}
 use Rattle.archive_service.specs.declared.ended.Status.{Status}
 use Rattle.archive_service.specs.declared.ended.Status.TheVariants as status
@@ -86,3 +86,10 @@ not_both left_old left_new bytes input text commands read all spelled bad =
 -- an input that is no longer than it may be has no more bytes to take
 pub not_too_long : (left_old left_new : List ℕ) → length left_old ≤ 2 ^ 24 → TakesFront left_old left_new (λ n. n ≡ 2 ^ 24 + 1) → ⊥
 not_too_long left_old left_new fits took = omega (arith, took.number, ap length took.rest, length-append took.taken left_new)
+
+-- neither status of an answer is one of those with which nothing is written
+pub writes_something : (n : ℕ) → (n ≡ 0) ⊎ (n ≡ 2) → Contains (1 ∷ 3 ∷ 7 ∷ []) n → ⊥
+writes_something n which (zero, lt, is) = elim which [ inl e ↦ omega (arith, is, e) | inr e ↦ omega (arith, is, e) ]
+writes_something n which (suc zero, lt, is) = elim which [ inl e ↦ omega (arith, is, e) | inr e ↦ omega (arith, is, e) ]
+writes_something n which (suc (suc zero), lt, is) = elim which [ inl e ↦ omega (arith, is, e) | inr e ↦ omega (arith, is, e) ]
+writes_something n which (suc (suc (suc x)), lt, is) = omega (arith, lt)

@@ -38,4 +38,4 @@ returns-clause-at_most g c t = record {
 }
 
 pub returns-in-Ok-false-clause-limit : goal.returns-in-Ok-false-clause-limit
-returns-in-Ok-false-clause-limit g c = ?
+returns-in-Ok-false-clause-limit g c = omega (arith, c.pieces-test.true, c.in-Ok-false.ensures.ended c.in-Ok-false.field-0-test)

@@ -1,5 +1,5 @@
 use Rattle.std.proofs.Common.{◌≡◌, ◌⊎◌, inl, inr, lit<, sym, ◌∙◌, arith}
-use Rattle.archive_cli.proofs.ProgramLemmas.{answer_any, answer_bad, answer_code, answer_done, in_full, in_part, not_both, not_too_long, writes_full, writes_part}
+use Rattle.archive_cli.proofs.ProgramLemmas.{answer_any, answer_bad, answer_code, answer_done, in_full, in_part, not_both, not_too_long, writes_full, writes_part, writes_something}
 use Rattle.archive_cli.proofs.program.run.Goals as goal
 
 -- ---- all was written
@@ -80,7 +80,11 @@ returns-in-Ok-write_output-clause-too_long g c is =
     ]
 
 pub returns-in-Ok-write_output-clause-silent : goal.returns-in-Ok-write_output-clause-silent
-returns-in-Ok-write_output-clause-silent g c among = ?
+returns-in-Ok-write_output-clause-silent g c among =
+    absurd (writes_something _ (elim (answer_code _ _ _ c.in-Ok-answer_of.ensures.answer) [
+      | inl zero_ ↦ inl (c.new-in-Ok-write_output.ensures ∙ zero_)
+      | inr two_ ↦ inr (c.new-in-Ok-write_output.ensures ∙ two_)
+    ]) among)
 
 pub returns-in-Ok-write_output-clause-complete : goal.returns-in-Ok-write_output-clause-complete
 returns-in-Ok-write_output-clause-complete g c tells items words commands spelled fits calm_in calm_out =
