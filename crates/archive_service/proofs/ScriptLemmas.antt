@@ -1,21 +1,14 @@
 -- A line says one command at most, and a text is one script at most.
-use Rattle.std.proofs.Common.{◌≡◌, ◌≢◌, ℕ, zero, suc, Bool, true, ◌&&◌, ◌||◌, ◌+◌, ◌^◌, ◌*◌, ◌/◌, ◌%◌, ◌<◌, ◌≤◌, ◌⊎◌, inl, inr, List, [], ◌∷◌, ◌++◌, length, get_or, slice_index, Option, Some, None, Result, Ok, Err, codes, refl, sym, ap, ◌∙◌, subst, lit<, arith}
-use Rattle.std.specs.Prelude.{nat_le}
+use Rattle.std.proofs.Common.{◌≡◌, ◌≢◌, ℕ, suc, ◌+◌, ◌<◌, List, [], ◌∷◌, ◌++◌, length, slice_index, Option, Some, None, codes, refl, sym, ap, ◌∙◌, lit<, arith}
 use Rattle.std.specs.List.{AllByRecursion}
-use Rattle.std.proofs.lemmas.Bool.{and_parts, cases_lt}
-use Rattle.std.proofs.lemmas.Bool.Decides.{nat_tests}
 use Rattle.std.specs.Option.{option_map}
 use Rattle.std.specs.Fmt.{decimal}
-use Rattle.std.specs.Int.{IsInRange}
-use Rattle.std.specs.Str.Parse.{AllDigits}
-use Rattle.std.proofs.lemmas.Str.Parse.{digit_from_value}
-use Rattle.std.proofs.lemmas.Fmt.{decimal_injective, decimal_is_IsNumeral}
+use Rattle.std.proofs.lemmas.Fmt.{decimal_injective}
 use Rattle.std.proofs.lemmas.List.{append-nil, append_assoc, length-append}
-use Rattle.hex.specs.Hex.{IsBytes, decode_of, encode_lower, encode_with, lower_digits}
-use Rattle.hex.proofs.HexLemmas.{decode_of-encode_lower, length-encode_with}
+use Rattle.hex.specs.Hex.{encode_lower}
 use Rattle.archives.specs.declared.commands.Command.TheVariants.{Put, Get, Has}
 use Rattle.archive_service.specs.Texts.{Spelled, line_of, script_text, value_text}
-use Rattle.archive_service.specs.Script.{AreBytes, BeginsBadly, CanBeSaid, GoodOrBad, IsCommandOf, IsFirstBad, IsFirstLine, IsReading, IsIndex, IsKey, IsValue, OneFirstBad, OneScript, Spells}
+use Rattle.archive_service.specs.Script.{BeginsBadly, CanBeSaid, GoodOrBad, IsCommandOf, IsFirstBad, IsFirstLine, IsReading, IsIndex, IsKey, IsValue, OneFirstBad, OneScript, Spells}
 use Rattle.archive_service.proofs.WordLemmas.{Lacks, all_append, cut_never, cut_once, decimal_lacks, encode_injective, encode_lacks, value_injective, value_lacks}
 
 -- ---- lines
