@@ -45,7 +45,7 @@ fn is_decimal(word: &[u8]) -> bool
 }
 
 /// An index: a decimal number of 64 bits, in its shortest spelling.
-pub(crate) fn index_of(word: &[u8]) -> Option<u64>
+pub fn index_of(word: &[u8]) -> Option<u64>
     ensures { IsReading IsIndex decimal word.now result }
 {
     if !is_decimal(word) {

@@ -1,5 +1,6 @@
 -- The state that a plain list of records stands for.
-use Rattle.std.specs.Prelude.{ℕ, ◌==◌, List, [], ◌∷◌, filter, map, Option, Some, None, if◌then◌else◌}
+use Rattle.std.specs.Prelude.{ℕ, ◌==◌, List, [], ◌∷◌, filter, find, map, Option}
+use Rattle.std.specs.Option.{option_map}
 use Rattle.archives.specs.declared.plain.Item.{Item}
 use Rattle.archives.specs.declared.plain.Machine.{Machine}
 use Rattle.archives.specs.Machine.{Entry, State, section_of}
@@ -21,5 +22,4 @@ module _ {K V : Type 0} (key_bytes : K → List ℕ) where
 
 -- the value of the first record with this index, if any
 abbrev pub first_at : {K V : Type 0} → ℕ → List (Item K V) → Option V
-first_at index [] = None
-first_at index (r ∷ rs) = if r.index == index then Some r.value else first_at index rs
+first_at index all = option_map (λ r. r.value) (find (λ r. r.index == index) all)

@@ -1,10 +1,17 @@
 pub mod Bytes
+pub mod EntryLemmas
+pub mod GuardsLemmas
 pub mod KeepsLemmas
 pub mod LengthLemmas
 pub mod Logged
+pub mod Maps
 pub mod Marks
 pub mod Moments
+pub mod NamesLemmas
 pub mod OpenedLemmas
+pub mod Places
 pub mod Puts
 pub mod Replay
+pub mod Results
 pub mod StaysLemmas
+pub mod Pieces

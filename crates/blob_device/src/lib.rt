@@ -1,14 +1,24 @@
-//! A disk of named blobs, with a model of what a crash at any moment may leave, and one in memory.
+//! A disk of named blobs, with a model of what a crash at any moment may leave, and sources and sinks of bytes.
 #![tactic(auto)]
 
+mod blob_log;
 mod device;
-mod entry;
 mod error;
-mod log;
+mod failing;
+mod io_fault;
+mod logs;
 mod memory;
 mod names;
+mod runtime;
+mod sink;
+mod source;
+mod table;
 
 pub use device::Device;
 pub use error::DevError;
+pub use io_fault::IoFault;
 pub use memory::Memory;
 pub use names::Names;
+pub use runtime::{Handle, RError};
+pub use sink::{MemSink, Sink, StdSink};
+pub use source::{MemSource, Source, StdSource};

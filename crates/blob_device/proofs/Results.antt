@@ -1,0 +1,34 @@
+-- What holds of a result by its variant.
+use Rattle.std.proofs.Common.{◌≡◌, Result, Ok, Err, OnOk, OnErr, IfOk, IsErrAnd, ap}
+
+pub on_err : {T E : Type 0} {P Q : Type 0} (r : Result T E) → (P → Q) → OnErr r P → OnErr r Q
+on_err (Ok v) f p = tt
+on_err (Err e) f p = f p
+
+pub on_ok : {T E : Type 0} {P Q : Type 0} (r : Result T E) → (P → Q) → OnOk r P → OnOk r Q
+on_ok (Ok v) f p = f p
+on_ok (Err e) f p = tt
+
+pub on_ok_two : {T E : Type 0} {P Q R : Type 0} (r : Result T E) → (P → Q → R) → OnOk r P → OnOk r Q → OnOk r R
+on_ok_two (Ok v) f p q = f p q
+on_ok_two (Err e) f p q = tt
+
+pub err_with : {T E : Type 0} {P : Type 0} (r : Result T E) → P → OnErr r P
+err_with (Ok v) p = tt
+err_with (Err e) p = p
+
+pub ok_with : {T E : Type 0} {P : Type 0} (r : Result T E) → P → OnOk r P
+ok_with (Ok v) p = p
+ok_with (Err e) p = tt
+
+pub on_both : {T E : Type 0} {P : Type 0} (r : Result T E) → OnOk r P → OnErr r P → P
+on_both (Ok v) p q = p
+on_both (Err e) p q = q
+
+pub err_of : {T E : Type 0} (r : Result T E) (x : E) → IsErrAnd r (λ e. e ≡ x) → r ≡ Err x
+err_of (Ok v) x is = absurd is
+err_of {T = T} {E = E} (Err e) x is = let f : E → Result T E = λ y. Err y in ap f is
+
+pub if_ok_with : {T E : Type 0} {Q : Type 0} {P R : T → Type 0} (r : Result T E) → OnOk r Q → IfOk r P → ((v : T) → Q → P v → R v) → IfOk r R
+if_ok_with (Ok v) q p f = f v q p
+if_ok_with (Err e) q p f = tt
