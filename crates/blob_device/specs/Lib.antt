@@ -13,6 +13,7 @@ pub mod MemoryMeaning
 pub mod NameList
 pub mod NamesThere
 pub mod Opened
+pub mod StdStreams
 pub mod Streams
 pub mod Tables
 pub mod Timeline
