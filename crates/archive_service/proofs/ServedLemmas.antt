@@ -35,7 +35,7 @@ module _ {K X : Type 0} (seen : Command K X → Command (List ℕ) X) (commands 
     run = λ n. (
       states n,
       subst (λ cs. Run n empty_state cs replies (states n))
-      (sym (ap (λ k. take k (map seen commands)) (as_many within) ∙ take-map seen i commands)) (so_far n),
+          (sym (ap (λ k. take k (map seen commands)) (as_many within) ∙ take-map seen i commands)) (so_far n),
     );
   }
 
