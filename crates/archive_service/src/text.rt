@@ -96,7 +96,8 @@ mod tests {
         write_reply(&Reply::Flag(false), &mut out)?;
         write_bad_line(2, &mut out)?;
         write_bad_line(u64::MAX, &mut out)?;
-        let want = b"ok\nvalue aa0f\nvalue -\nnone\nyes\nno\nerror line 2\nerror line 18446744073709551615\n";
+        let want =
+            b"ok\nvalue aa0f\nvalue -\nnone\nyes\nno\nerror line 2\nerror line 18446744073709551615\n";
         assert_eq!(rt; out.as_slice(), want.as_slice());
         Ok(())
     }
