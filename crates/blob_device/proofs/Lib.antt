@@ -1,6 +1,8 @@
+pub mod Building
 pub mod Bytes
 pub mod EntryLemmas
 pub mod GuardsLemmas
+pub mod ImageLemmas
 pub mod KeepsLemmas
 pub mod LengthLemmas
 pub mod Logged

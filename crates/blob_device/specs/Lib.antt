@@ -1,3 +1,4 @@
+pub mod Building
 pub mod Calls
 pub mod Change
 pub mod Counts
@@ -5,6 +6,7 @@ pub mod Disk
 pub mod Errors
 pub mod Failing
 pub mod Guards
+pub mod Images
 pub mod Keeps
 pub mod Laws
 pub mod Lengths

@@ -1,10 +1,10 @@
 // What a device in memory keeps of one blob: its calls, for every earlier moment, and how it reads now.
-ghost use Rattle.std.specs.Prelude.{◌≡◌, ◌+◌, ◌<◌, ◌^◌, ◌++◌, [], ◌∷◌, length, take, drop, ◌≤◌, OnOk, OnErr, List, ℕ, Option, Some, None};
+ghost use Rattle.std.specs.Prelude.{◌≡◌, ◌+◌, ◌<◌, ◌^◌, ◌++◌, [], ◌∷◌, length, take, drop, ◌≤◌, OnOk, OnErr, IfOk, true, List, ℕ, Option, Some, None};
 ghost use Rattle.std.specs.Option.{option_map};
 ghost use Rattle.blob_device.specs.Counts.{next};
-ghost use Rattle.blob_device.specs.Disk.{Blob};
+ghost use Rattle.blob_device.specs.Disk.{Blob, reads, begun};
 ghost use Rattle.blob_device.specs.Change.{written, resized};
-ghost use Rattle.blob_device.specs.Calls.{replay, begun, Reads, start_of, opening, change_of};
+ghost use Rattle.blob_device.specs.Calls.{replay, Reads, start_of, starts_with_bytes, opening, change_of};
 
 use std::alloc::{AllocError, Global};
 
@@ -109,6 +109,7 @@ pub struct BlobLog {
     calls: Vec<Call>,
     found: Found,
     reads: Option<u64>,
+    ghost bytes: { starts_with_bytes (start_of start) ≡ true },
     ghost tied: { Reads (replay calls.items (begun (start_of start))) found.there found.content.items },
 }
 
@@ -123,7 +124,7 @@ fn reads_after(step: &Step, failed: bool, reads: Option<u64>) -> Option<u64>
 }
 
 impl BlobLog {
-    ghost use Rattle.blob_device.specs.Calls.{no_track, IsCall, pushed, read_once, now, change_of};
+    ghost use Rattle.blob_device.specs.Calls.{no_track, started, IsCall, pushed, read_once, now, change_of};
     ghost use Rattle.blob_device.specs.declared.blob_log.Call.{Call};
     ghost use Rattle.blob_device.specs.Tracks.{track_of};
 
@@ -139,6 +140,32 @@ impl BlobLog {
                 content: Vec::new(alloc),
             },
             reads: None,
+        }
+    }
+
+    /// A blob that had these bytes when the device was made.
+    pub fn started(alloc: Global, bytes: &[u8]) -> Result<BlobLog, AllocError>
+        ensures { IfOk result (λ l. track_of l ≡ started bytes.now) }
+    {
+        Ok(BlobLog {
+            start: Some(bytes.to_vec(alloc)?),
+            calls: Vec::new(alloc),
+            found: Found {
+                there: true,
+                content: bytes.to_vec(alloc)?,
+            },
+            reads: None,
+        })
+    }
+
+    /// The blob as it reads.
+    pub fn as_read(&self, alloc: Global) -> Result<Option<Vec<u8>>, AllocError>
+        ensures { IfOk result (λ o. option_map (λ v. v.items) o ≡ reads (now (track_of self.now))) }
+    {
+        if self.found.there {
+            Ok(Some(self.found.content.as_slice().to_vec(alloc)?))
+        } else {
+            Ok(None)
         }
     }
 

@@ -2,9 +2,11 @@
 #![tactic(auto)]
 
 mod blob_log;
+mod build;
 mod device;
 mod error;
 mod failing;
+mod image;
 mod io_fault;
 mod logs;
 mod memory;
@@ -16,6 +18,7 @@ mod table;
 
 pub use device::Device;
 pub use error::DevError;
+pub use image::Image;
 pub use io_fault::IoFault;
 pub use memory::Memory;
 pub use names::Names;
