@@ -1,5 +1,5 @@
 -- What was read and written, and which answer it is.
-use Rattle.std.proofs.Common.{◌≡◌, ◌⊎◌, inl, inr, ℕ, zero, suc, ◌^◌, ◌≤◌, ◌<◌, Bool, ◌∷◌, Contains, List, [], ◌++◌, length, refl, sym, ap, subst, ◌∙◌, arith, append-nil, length-append, ◌+◌, Result, Ok, Err}
+use Rattle.std.proofs.Common.{◌≡◌, ◌⊎◌, inl, inr, ℕ, zero, suc, ◌^◌, ◌≤◌, ◌∷◌, Contains, List, [], ◌++◌, length, refl, sym, ap, subst, ◌∙◌, arith, append-nil, length-append, ◌+◌, Result, Ok}
 use Rattle.blob_device.specs.declared.io_fault.IoFault.{IoFault}
 use Rattle.archive_service.specs.declared.ended.Status.{Status}
 use Rattle.archive_service.specs.declared.ended.Status.TheVariants as status

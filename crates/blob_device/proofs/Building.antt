@@ -68,7 +68,7 @@ module _ {V W S T : Type 0} (makes : S → V → Option T) (next : S → V → S
     table_more all before k =
         let each : (p : Key) → option_map sees (at_key f' p) ≡ cond (bytes_eq p.0 key.items) (names_built {V = V} {S = S} {T = T} makes next s names.entries (λ _. None) p.1) (option_map sees (at_key f p)) =
         λ p. ap (λ o. option_map sees (option_and_then (λ (m : BTreeMap (Vec ℕ Global) W). at_name m p.1) o)) (put_is p.0) ∙ seen_here p (bytes_eq p.0 partition)
-          ∙ (λ i. cond (bytes_eq p.0 (named i)) (made_is p.1 i) (option_map sees (at_key f p))) in
+        ∙ (λ i. cond (bytes_eq p.0 (named i)) (made_is p.1 i) (option_map sees (at_key f p))) in
         ap (λ (g : Key → Option T). table_built {V = V} {S = S} {T = T} makes next s' es g k) (λ i p. each p i)
         ∙ ap (λ (u : S). table_built {V = V} {S = S} {T = T} makes next u es (λ p. cond (bytes_eq p.0 key.items) (names_built {V = V} {S = S} {T = T} makes next s names.entries (λ _. None) p.1) (option_map sees (at_key f p))) k) next_is
         ∙ sym (ap (λ (l : List (Vec ℕ Global × BTreeMap (Vec ℕ Global) V)). table_built {V = V} {S = S} {T = T} makes next s l (λ p. option_map sees (at_key f p)) k) is)
@@ -107,16 +107,16 @@ module _ {V S T : Type 0} (makes : S → V → Option T) (next : S → V → S) 
   names_found s [] sorted f q = refl
   names_found s (e ∷ es) sorted f q = ⊎_elim
       (λ (is : q ≡ e.0.items). subst (λ (l : List ℕ). names_built {V = V} {S = S} {T = T} makes next s (e ∷ es) f l ≡ found (state_in {V = V} {S = S} next s (e ∷ es) l) (lookup (name_test l) (e ∷ es)) (f l)) (sym is)
-        (names_found (next s e.1) es sorted.1 (placed f e.0.items (makes s e.1)) e.0.items
-        ∙ ap (λ (o : Option V). found (state_in {V = V} {S = S} next (next s e.1) es e.0.items) o (placed f e.0.items (makes s e.1) e.0.items)) (behind_none e.0 es sorted.0)
-        ∙ placed_here f e.0.items (makes s e.1)
-        ∙ sym (ap (λ (b : Bool). found (cond b s (state_in {V = V} {S = S} next (next s e.1) es e.0.items)) (lookup (name_test e.0.items) (e ∷ es)) (f e.0.items)) (bytes_same e.0.items)
-          ∙ ap (λ (b : Bool). found s (cond b (Some e.1) (lookup (name_test e.0.items) es)) (f e.0.items)) (name_test_is e.0.items e.0 ∙ bytes_same e.0.items))))
+      (names_found (next s e.1) es sorted.1 (placed f e.0.items (makes s e.1)) e.0.items
+      ∙ ap (λ (o : Option V). found (state_in {V = V} {S = S} next (next s e.1) es e.0.items) o (placed f e.0.items (makes s e.1) e.0.items)) (behind_none e.0 es sorted.0)
+      ∙ placed_here f e.0.items (makes s e.1)
+      ∙ sym (ap (λ (b : Bool). found (cond b s (state_in {V = V} {S = S} next (next s e.1) es e.0.items)) (lookup (name_test e.0.items) (e ∷ es)) (f e.0.items)) (bytes_same e.0.items)
+      ∙ ap (λ (b : Bool). found s (cond b (Some e.1) (lookup (name_test e.0.items) es)) (f e.0.items)) (name_test_is e.0.items e.0 ∙ bytes_same e.0.items))))
       (λ (other : q ≢ e.0.items). let no : bytes_eq q e.0.items ≡ false = differ e.0.items q (λ x. other (sym x)) in
-        names_found (next s e.1) es sorted.1 (placed f e.0.items (makes s e.1)) q
-        ∙ ap (λ (d : Option T). found (state_in {V = V} {S = S} next (next s e.1) es q) (lookup (name_test q) es) d) (placed_other f e.0.items q (makes s e.1) other)
-        ∙ sym (ap (λ (b : Bool). found (cond b s (state_in {V = V} {S = S} next (next s e.1) es q)) (lookup (name_test q) (e ∷ es)) (f q)) no
-          ∙ ap (λ (b : Bool). found (state_in {V = V} {S = S} next (next s e.1) es q) (cond b (Some e.1) (lookup (name_test q) es)) (f q)) (name_test_is q e.0 ∙ no)))
+      names_found (next s e.1) es sorted.1 (placed f e.0.items (makes s e.1)) q
+      ∙ ap (λ (d : Option T). found (state_in {V = V} {S = S} next (next s e.1) es q) (lookup (name_test q) es) d) (placed_other f e.0.items q (makes s e.1) other)
+      ∙ sym (ap (λ (b : Bool). found (cond b s (state_in {V = V} {S = S} next (next s e.1) es q)) (lookup (name_test q) (e ∷ es)) (f q)) no
+      ∙ ap (λ (b : Bool). found (state_in {V = V} {S = S} next (next s e.1) es q) (cond b (Some e.1) (lookup (name_test q) es)) (f q)) (name_test_is q e.0 ∙ no)))
       (same_or_differ q e.0.items)
 
   found_none : (s : S) (o : Option V) → found s o None ≡ option_and_then (makes s) o
@@ -140,18 +140,18 @@ module _ {V S T : Type 0} (makes : S → V → Option T) (next : S → V → S) 
   found_after s [] sorted f k = refl
   found_after s (p ∷ ps) sorted f k = ⊎_elim
       (λ (is : k.0 ≡ p.0.items). let yes : bytes_eq k.0 p.0.items ≡ true = ap (λ (l : List ℕ). bytes_eq l p.0.items) is ∙ bytes_same p.0.items in
-        let none : lookup (name_test k.0) ps ≡ None = ap (λ (l : List ℕ). lookup (name_test l) ps) is ∙ behind_none p.0 ps sorted.0.0 in
-        found_after (after_all {V = V} {S = S} next s p.1.entries) ps (sorted.0.1, sorted.1.1) (λ q. cond (bytes_eq q.0 p.0.items) (names_built {V = V} {S = S} {T = T} makes next s p.1.entries (λ _. None) q.1) (f q)) k
-        ∙ ap (λ o. found_in (state_at {V = V} {S = S} next (after_all {V = V} {S = S} next s p.1.entries) ps k) o k.1 (cond (bytes_eq k.0 p.0.items) (names_built {V = V} {S = S} {T = T} makes next s p.1.entries (λ _. None) k.1) (f k))) none
-        ∙ ap (λ (b : Bool). cond b (names_built {V = V} {S = S} {T = T} makes next s p.1.entries (λ _. None) k.1) (f k)) yes
-        ∙ names_found s p.1.entries sorted.1.0 (λ _. None) k.1 ∙ found_none (state_in {V = V} {S = S} next s p.1.entries k.1) (lookup (name_test k.1) p.1.entries)
-        ∙ sym (ap (λ (b : Bool). found_in (cond b (state_in {V = V} {S = S} next s p.1.entries k.1) (state_at {V = V} {S = S} next (after_all {V = V} {S = S} next s p.1.entries) ps k)) (lookup (name_test k.0) (p ∷ ps)) k.1 (f k)) yes
-          ∙ ap (λ (b : Bool). found_in (state_in {V = V} {S = S} next s p.1.entries k.1) (cond b (Some p.1) (lookup (name_test k.0) ps)) k.1 (f k)) (name_test_is k.0 p.0 ∙ yes)))
+      let none : lookup (name_test k.0) ps ≡ None = ap (λ (l : List ℕ). lookup (name_test l) ps) is ∙ behind_none p.0 ps sorted.0.0 in
+      found_after (after_all {V = V} {S = S} next s p.1.entries) ps (sorted.0.1, sorted.1.1) (λ q. cond (bytes_eq q.0 p.0.items) (names_built {V = V} {S = S} {T = T} makes next s p.1.entries (λ _. None) q.1) (f q)) k
+      ∙ ap (λ o. found_in (state_at {V = V} {S = S} next (after_all {V = V} {S = S} next s p.1.entries) ps k) o k.1 (cond (bytes_eq k.0 p.0.items) (names_built {V = V} {S = S} {T = T} makes next s p.1.entries (λ _. None) k.1) (f k))) none
+      ∙ ap (λ (b : Bool). cond b (names_built {V = V} {S = S} {T = T} makes next s p.1.entries (λ _. None) k.1) (f k)) yes
+      ∙ names_found s p.1.entries sorted.1.0 (λ _. None) k.1 ∙ found_none (state_in {V = V} {S = S} next s p.1.entries k.1) (lookup (name_test k.1) p.1.entries)
+      ∙ sym (ap (λ (b : Bool). found_in (cond b (state_in {V = V} {S = S} next s p.1.entries k.1) (state_at {V = V} {S = S} next (after_all {V = V} {S = S} next s p.1.entries) ps k)) (lookup (name_test k.0) (p ∷ ps)) k.1 (f k)) yes
+      ∙ ap (λ (b : Bool). found_in (state_in {V = V} {S = S} next s p.1.entries k.1) (cond b (Some p.1) (lookup (name_test k.0) ps)) k.1 (f k)) (name_test_is k.0 p.0 ∙ yes)))
       (λ (other : k.0 ≢ p.0.items). let no : bytes_eq k.0 p.0.items ≡ false = differ p.0.items k.0 (λ x. other (sym x)) in
-        found_after (after_all {V = V} {S = S} next s p.1.entries) ps (sorted.0.1, sorted.1.1) (λ q. cond (bytes_eq q.0 p.0.items) (names_built {V = V} {S = S} {T = T} makes next s p.1.entries (λ _. None) q.1) (f q)) k
-        ∙ ap (λ (b : Bool). found_in (state_at {V = V} {S = S} next (after_all {V = V} {S = S} next s p.1.entries) ps k) (lookup (name_test k.0) ps) k.1 (cond b (names_built {V = V} {S = S} {T = T} makes next s p.1.entries (λ _. None) k.1) (f k))) no
-        ∙ sym (ap (λ (b : Bool). found_in (cond b (state_in {V = V} {S = S} next s p.1.entries k.1) (state_at {V = V} {S = S} next (after_all {V = V} {S = S} next s p.1.entries) ps k)) (lookup (name_test k.0) (p ∷ ps)) k.1 (f k)) no
-          ∙ ap (λ (b : Bool). found_in (state_at {V = V} {S = S} next (after_all {V = V} {S = S} next s p.1.entries) ps k) (cond b (Some p.1) (lookup (name_test k.0) ps)) k.1 (f k)) (name_test_is k.0 p.0 ∙ no)))
+      found_after (after_all {V = V} {S = S} next s p.1.entries) ps (sorted.0.1, sorted.1.1) (λ q. cond (bytes_eq q.0 p.0.items) (names_built {V = V} {S = S} {T = T} makes next s p.1.entries (λ _. None) q.1) (f q)) k
+      ∙ ap (λ (b : Bool). found_in (state_at {V = V} {S = S} next (after_all {V = V} {S = S} next s p.1.entries) ps k) (lookup (name_test k.0) ps) k.1 (cond b (names_built {V = V} {S = S} {T = T} makes next s p.1.entries (λ _. None) k.1) (f k))) no
+      ∙ sym (ap (λ (b : Bool). found_in (cond b (state_in {V = V} {S = S} next s p.1.entries k.1) (state_at {V = V} {S = S} next (after_all {V = V} {S = S} next s p.1.entries) ps k)) (lookup (name_test k.0) (p ∷ ps)) k.1 (f k)) no
+      ∙ ap (λ (b : Bool). found_in (state_at {V = V} {S = S} next (after_all {V = V} {S = S} next s p.1.entries) ps k) (cond b (Some p.1) (lookup (name_test k.0) ps)) k.1 (f k)) (name_test_is k.0 p.0 ∙ no)))
       (same_or_differ k.0 p.0.items)
 
   found_in_none : (s : S) (o : Option (BTreeMap (Vec ℕ Global) V)) (q : List ℕ) → found_in s o q None ≡ option_and_then (makes s) (option_and_then (λ (names : BTreeMap (Vec ℕ Global) V). at_name names q) o)

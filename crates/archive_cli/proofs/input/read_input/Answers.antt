@@ -1,4 +1,4 @@
-use Rattle.std.proofs.Common.{◌≡◌, ℕ, ◌+◌, ◌≤◌, List, [], ◌++◌, length, vec_len, Ok, sym, ap, subst, ◌∙◌, arith}
+use Rattle.std.proofs.Common.{◌≡◌, Ok, subst, arith}
 use Rattle.archive_cli.proofs.InputLemmas.{taken_more, taken_all, taken_at_most, later_cause}
 use Rattle.archive_cli.proofs.input.read_input.Goals as goal
 

@@ -1,5 +1,5 @@
-use Rattle.std.proofs.Common.{◌≡◌, ◌⊎◌, inl, inr, lit<, sym, ◌∙◌, arith}
-use Rattle.archive_cli.proofs.ProgramLemmas.{answer_any, answer_bad, answer_code, answer_done, in_full, in_part, not_both, not_too_long, writes_full, writes_part, writes_something}
+use Rattle.std.proofs.Common.{inl, inr, lit<, sym, ◌∙◌, arith}
+use Rattle.archive_cli.proofs.ProgramLemmas.{answer_any, answer_bad, answer_code, answer_done, in_full, in_part, not_both, writes_full, writes_part, writes_something}
 use Rattle.archive_cli.proofs.program.run.Goals as goal
 
 -- ---- all was written

@@ -86,7 +86,7 @@ returns-in_err-step_at-clause-leaves c =
     record {
       fault = λ e. absurd (let mem = err_of c.from_residual.result Mem c.from_residual.ensures.1 in cc (e, mem));
       memory = λ _. unmade_leaves (tracks_of before.logs) (tracks_of c.begin-turn.new.self.logs) (tracks_of c.step_at.new.logs) before.count c.begin-turn.result.number c.begin-turn.new.self.count k (change_of c.args.step) c.begin-turn.result.failed
-    before.sound (ap tracks_of c.begin-turn.ensures.logs) c.begin-turn.ensures.number after c.in_err-step_at.ensures.err;
+          before.sound (ap tracks_of c.begin-turn.ensures.logs) c.begin-turn.ensures.number after c.in_err-step_at.ensures.err;
     }
 
 pub returns-then-turn-2-clause-leaves : goal.returns-then-turn-2-clause-leaves
@@ -97,7 +97,7 @@ returns-then-turn-2-clause-leaves c =
     let step = subst (λ (p : List ℕ). Stepped (p, c.args.name.now) c.begin-turn.result.number (change_of c.args.step) c.begin-turn.result.failed (tracks_of c.begin-turn.new.self.logs) (tracks_of c.step_at.new.logs)) c.as_bytes.ensures.value c.in_ok-step_at.ensures.ok in
     record {
       fault = λ _. made_leaves (tracks_of before.logs) (tracks_of c.begin-turn.new.self.logs) (tracks_of c.step_at.new.logs) before.count c.begin-turn.result.number c.begin-turn.new.self.count k (change_of c.args.step) c.begin-turn.result.failed
-    before.sound (ap tracks_of c.begin-turn.ensures.logs) c.begin-turn.ensures.number after step c.if-turn-2.true;
+          before.sound (ap tracks_of c.begin-turn.ensures.logs) c.begin-turn.ensures.number after step c.if-turn-2.true;
       memory = λ e. absurd (cc e);
     }
 
