@@ -170,3 +170,22 @@ all_push P (y ∷ xs) x all here = (all.0, all_push P xs x all.1 here)
 pub all_shown : {V : Type 0} (P : Vec ℕ Global × V → Type 0) (xs : List (Bor (Vec ℕ Global) × Bor V)) → AllByRecursion (λ p. P (deref_pair p)) xs → AllByRecursion P (map deref_pair xs)
 all_shown P [] all = tt
 all_shown P (x ∷ xs) all = (all.0, all_shown P xs all.1)
+
+-- what each step keeps holds of the state at each key
+module _ {V S : Type 0} (next : S → V → S) (P : S → Type 0) (keeps : (s : S) (v : V) → P s → P (next s v)) where
+  kept_cond : (b : Bool) (x y : S) → P x → P y → P (cond b x y)
+  kept_cond true x y px py = px
+  kept_cond false x y px py = py
+
+  kept_in : (s : S) (es : List (Vec ℕ Global × V)) (q : List ℕ) → P s → P (state_in {V = V} {S = S} next s es q)
+  kept_in s [] q was = was
+  kept_in s (e ∷ es) q was = kept_cond (bytes_eq q e.0.items) s (state_in {V = V} {S = S} next (next s e.1) es q) was (kept_in (next s e.1) es q (keeps s e.1 was))
+
+  kept_all : (s : S) (es : List (Vec ℕ Global × V)) → P s → P (after_all {V = V} {S = S} next s es)
+  kept_all s [] was = was
+  kept_all s (e ∷ es) was = kept_all (next s e.1) es (keeps s e.1 was)
+
+  pub state_keeps : (s : S) (ps : List (Vec ℕ Global × BTreeMap (Vec ℕ Global) V)) (k : Key) → P s → P (state_at {V = V} {S = S} next s ps k)
+  state_keeps s [] k was = was
+  state_keeps s (p ∷ ps) k was = kept_cond (bytes_eq k.0 p.0.items) (state_in {V = V} {S = S} next s p.1.entries k.1) (state_at {V = V} {S = S} next (after_all {V = V} {S = S} next s p.1.entries) ps k)
+      (kept_in s p.1.entries k.1 was) (state_keeps (after_all {V = V} {S = S} next s p.1.entries) ps k (kept_all s p.1.entries was))

@@ -6,6 +6,7 @@ pub mod Disk
 pub mod Errors
 pub mod Failing
 pub mod Guards
+pub mod Histories
 pub mod Images
 pub mod Keeps
 pub mod Laws
@@ -15,6 +16,7 @@ pub mod MemoryMeaning
 pub mod NameList
 pub mod NamesThere
 pub mod Opened
+pub mod Picked
 pub mod StdStreams
 pub mod Streams
 pub mod Tables

@@ -3,9 +3,11 @@
 
 mod blob_log;
 mod build;
+mod crash;
 mod device;
 mod error;
 mod failing;
+mod history;
 mod image;
 mod io_fault;
 mod logs;
@@ -16,6 +18,7 @@ mod sink;
 mod source;
 mod table;
 
+pub use crash::CrashChoice;
 pub use device::Device;
 pub use error::DevError;
 pub use image::Image;
