@@ -65,10 +65,10 @@ pub(crate) fn next_gap(ranges: &Filed, value: u64) -> (Option<u64>, Option<u64>)
     match first_from(ranges, value) {
         None => (None, None),
         Some((_, (start, _))) if value < start => (None, Some(start)),
-        Some((_, (_, end))) => {
-            let next = first_above(ranges, value).map(|(_, (start, _))| start);
-            (Some(end), next)
-        }
+        Some((_, (_, end))) => match first_above(ranges, value) {
+            Some((_, (start, _))) => (Some(end), Some(start)),
+            None => (Some(end), None),
+        },
     }
 }
 

@@ -1,0 +1,9 @@
+pub mod Compared
+pub mod Cuts
+pub mod Gaps
+pub mod Grows
+pub mod Listed
+pub mod Members
+pub mod Moves
+pub mod Splits
+pub mod Spread
