@@ -1,7 +1,8 @@
 -- A set of numbers written as its ranges.
 use Rattle.std.specs.Prelude.{◌≡◌, ℕ, ◌<◌, ◌^◌, Bool, ◌&&◌, nat_eq, nat_le, List, IsTrue}
 use Rattle.std.specs.List.{list_any}
-use Rattle.std.specs.Cmp.Lexicographic.{pointwise}
+use Rattle.std.specs.Cmp.Lexicographic.{pointwise, lists_per}
+use Rattle.std.specs.Cmp.{IsPartialEquivalence, on_per, and_per, nat_eq_equiv, partial_equiv_from_equiv}
 use Rattle.ordinal_store.specs.Numbers.{Set, AreRuns}
 
 -- whether a range, from its start to its end, has the number
@@ -20,3 +21,8 @@ pub record AreRanges (ranges : List (ℕ × ℕ)) : Type 0 where
 -- whether two lists have the same ranges
 abbrev pub same_ranges : List (ℕ × ℕ) → List (ℕ × ℕ) → Bool
 same_ranges xs ys = pointwise (λ p q. nat_eq p.0 q.0 && nat_eq p.1 q.1) xs ys
+
+pub same_ranges_laws : IsPartialEquivalence same_ranges
+same_ranges_laws = lists_per (and_per (on_per (λ p. p.0) nat_eq_per) (on_per (λ p. p.1) nat_eq_per)) where
+  nat_eq_per : IsPartialEquivalence nat_eq
+  nat_eq_per = partial_equiv_from_equiv nat_eq_equiv

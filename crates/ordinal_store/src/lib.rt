@@ -4,6 +4,8 @@
 mod error;
 mod filed;
 mod lists;
+mod range_map;
 
 pub use error::RMapError;
 pub use lists::Numbers;
+pub use range_map::{RMap, RangeIter};
