@@ -1,9 +1,12 @@
 pub mod Compared
 pub mod Cuts
+pub mod Ends
 pub mod Gaps
 pub mod Grows
 pub mod Listed
 pub mod Members
+pub mod Missing
 pub mod Moves
+pub mod SameRanges
 pub mod Splits
 pub mod Spread

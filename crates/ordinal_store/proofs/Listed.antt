@@ -24,16 +24,7 @@ use Rattle.ordinal_store.specs.Filed.{Filed, IsFiled, IsSpaced, IsSound, IsFirst
 use Rattle.ordinal_store.proofs.Compared.{lt_from_less, eq_from_is_eq, is_le_from_le}
 use Rattle.ordinal_store.proofs.Gaps.{at_or_after}
 use Rattle.ordinal_store.proofs.Members.{member_of, IsRun-from_filed, filed_from_run}
-use Rattle.ordinal_store.proofs.Spread.{IsSpread, same_from_set, same_pair}
-
--- the key of each later entry is above the first
-keys_above : (e : ℕ × (ℕ × ℕ)) (es : List (ℕ × (ℕ × ℕ))) → IsStrictlySortedBy nat_cmp (keys_of (e ∷ es)) → All (λ f. e.0 < f.0) es
-keys_above e es s i d l =
-    let a = All-from_recursion (λ (k : ℕ). nat_cmp e.0 k ≡ Less) (keys_of es) (sorted_head nat_cmp e.0 (keys_of es) s) in
-    let j : i < length (keys_of es) = omega (arith, length-keys_of es) in
-    let b = a i d.0 j in
-    let c = get_or-map (λ (f : ℕ × (ℕ × ℕ)). f.0) es i d d.0 l in
-    lt_from_less e.0 _ (subst (λ (k : ℕ). nat_cmp e.0 k ≡ Less) c b)
+use Rattle.ordinal_store.proofs.Spread.{IsSpread, same_from_set, same_pair, sorted_from_rising, starts_rise, above_first}
 
 -- entries of a sound tree in order, those whose keys pass, have spread values
 pub IsSpread-kept : (at : ℕ → Option (ℕ × ℕ)) → IsSpaced at → (p : ℕ → Bool) (es : List (ℕ × (ℕ × ℕ))) → IsStrictlySortedBy nat_cmp (keys_of es) → All (λ e. at e.0 ≡ Some e.1) es → (low : ℕ) → All (λ e. low ≤ e.1.0) es → IsSpread low (values_of (filter (λ e. p e.0) es))
@@ -46,9 +37,9 @@ IsSpread-kept at h p (e ∷ es) s found low least =
     let later : All P es = All-tail P e es found in
     let rest : All Q es = All-tail Q e es least in
     let order = sorted_tail nat_cmp e.0 (keys_of es) s in
-    let above = keys_above e es s in
+    let above = above_first (λ (f : ℕ × (ℕ × ℕ)). f.0) e es s in
     elim (p e.0) as (λ c. IsSpread low (values_of (cond c (e ∷ filter (λ e. p e.0) es) (filter (λ e. p e.0) es)))) [
-        true ↦ (All-head Q e es least, b.1, b.2, IsSpread-kept at h p es order later (e.1.1 + 2)
+        true ↦ (All-head Q e es least, b.1, IsSpread-kept at h p es order later (e.1.1 + 2)
             (λ i d l. (let a = h.apart e.0 (get_or es i d).0 e.1 (get_or es i d).1 f (later i d l) (above i d l) in omega arith)))
       | false ↦ IsSpread-kept at h p es order later low rest ]
 
@@ -67,25 +58,6 @@ pub values_from_set : (m n : Filed) → IsSound m → IsSound n → IsSameSet (n
 values_from_set m n h g same = same_from_set 0 0 (values n) (values m) (IsSpread-values n g) (IsSpread-values m h) same
 
 -- ---- they are the runs of the set
-
--- a is below where each range begins
-below_all : (a low : ℕ) (rs : List (ℕ × ℕ)) → IsSpread low rs → a < low → All (λ (y : ℕ). nat_cmp a y ≡ Less) (map (λ r. r.0) rs)
-below_all a low [] h l = All-nil (λ (y : ℕ). nat_cmp a y ≡ Less)
-below_all a low (r ∷ rs) h l =
-    let x = h.0 in
-    let y = h.1 in
-    All-cons (λ (y : ℕ). nat_cmp a y ≡ Less) r.0 (map (λ r. r.0) rs) (sym (nat_cmp_is a r.0 Less (omega arith))) (below_all a (r.1 + 2) rs h.3 (omega arith))
-
-starts_sorted : (low : ℕ) (rs : List (ℕ × ℕ)) → IsSpread low rs → IsStrictlySortedBy nat_cmp (map (λ r. r.0) rs)
-unfolding IsStrictlySortedBy
-starts_sorted low [] h = tt
-starts_sorted low (r ∷ rs) h =
-    let y = h.1 in
-    (recursion_from_All (λ (y : ℕ). nat_cmp r.0 y ≡ Less) (map (λ r. r.0) rs) (below_all r.0 (r.1 + 2) rs h.3 (omega arith)),
-        starts_sorted (r.1 + 2) rs h.3)
-
-pub starts_ascend : (low : ℕ) (rs : List (ℕ × ℕ)) → IsSpread low rs → IsStrictlyIncreasing (map (λ r. r.0) rs)
-starts_ascend low rs h = IsStrictlyIncreasing-from_sorted (map (λ r. r.0) rs) (starts_sorted low rs h)
 
 -- what a look-up finds among entries is among their values
 Contains-values_from_lookup : (test : ℕ → Bool) (fs : List (ℕ × (ℕ × ℕ))) (r : ℕ × ℕ) → lookup test fs ≡ Some r → Contains (values_of fs) r
@@ -119,7 +91,7 @@ module _ (m : Filed) (h : IsSound m) (v : ℕ) (p : ℕ → Bool) (fs : List (�
 
   pub AreRunsFrom-filtered : AreRunsFrom (numbers_of m) v (values_of fs)
   AreRunsFrom-filtered = record {
-      ascending = starts_ascend 0 (values_of fs) (subst (λ (gs : List (ℕ × (ℕ × ℕ))). IsSpread 0 (values_of gs)) (sym is) (IsSpread-filtered m h p));
+      ascending = IsStrictlyIncreasing-from_sorted (map (λ r. r.0) (values_of fs)) (sorted_from_rising 0 (map (λ r. r.0) (values_of fs)) (starts_rise 0 (values_of fs) (subst (λ (gs : List (ℕ × (ℕ × ℕ))). IsSpread 0 (values_of gs)) (sym is) (IsSpread-filtered m h p))));
       each = λ a b.
           (λ c. All-contains (λ (r : ℕ × ℕ). IsRun (numbers_of m) r.0 r.1 × (v ≤ r.1)) (values_of fs) (a, b) all_runs c,
            λ c. (let f = filed_from_run m h a b c.0 in

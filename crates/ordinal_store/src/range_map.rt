@@ -136,16 +136,16 @@ impl RMap {
     pub fn first_index(&self) -> Option<u64>
         ensures { IsLeast (set_of self.now) result }
     {
-        let (_, (start, _)) = self.ranges.first_key_value()?;
-        Some(*start)
+        let (_, range) = self.ranges.first_key_value()?;
+        Some(range.0)
     }
 
     /// The greatest number of the set.
     pub fn last_index(&self) -> Option<u64>
         ensures { IsGreatest (set_of self.now) result }
     {
-        let (_, (_, end)) = self.ranges.last_key_value()?;
-        Some(*end)
+        let (_, range) = self.ranges.last_key_value()?;
+        Some(range.1)
     }
 
     /// The first `max` numbers from `start` on that are not in the set and have a number of the
@@ -158,10 +158,11 @@ impl RMap {
         let mut next = start;
         for (first, last) in self.iter_from(start) {
             add_gap(&mut missing, next, first, max)?;
-            if missing.len() == max || last == u64::MAX {
+            if missing.len() == max {
                 break;
             }
-            next = last + 1;
+            // No range follows one that ends at the last number.
+            next = last.saturating_add(1);
         }
         Ok(Numbers::from_vec(missing))
     }
