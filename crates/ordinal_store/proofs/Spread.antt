@@ -1,12 +1,12 @@
 -- A list of ranges in order with a number between any two: it is told by its set.
-use Rattle.std.proofs.Common.{◌≡◌, ◌⊎◌, ◌↔◌, ℕ, ◌+◌, ◌<◌, ◌≤◌, ◌^◌, ◌&&◌, ◌||◌, Bool, true, false, List, [], ◌∷◌, Option, Some, None, IsTrue, length, map, refl, ap, sym, ◌∙◌, subst, inl, inr, ⊎_elim, arith}
+use Rattle.std.proofs.Common.{◌≡◌, ℕ, ◌+◌, ◌<◌, ◌≤◌, true, List, [], ◌∷◌, IsTrue, length, map, refl, ap, sym, ◌∙◌, subst, ⊎_elim, arith}
 use Rattle.std.proofs.lemmas.List.{get_or-map, length-map}
 use Rattle.std.proofs.Math.ListN.{get_or}
-use Rattle.std.proofs.lemmas.Bool.{cases_lt, cases_order, or_cases, or_left, or_right, false≢true}
+use Rattle.std.proofs.lemmas.Bool.{cases_lt, or_cases, or_left, or_right, false≢true}
 use Rattle.std.proofs.lemmas.List.Elements.{All-tail, All-head, All-nil, All-cons, All-from_recursion, recursion_from_All}
 use Rattle.std.proofs.lemmas.Map.Keys.{sorted_head, sorted_tail}
 use Rattle.std.specs.Cmp.{nat_cmp_is}
-use Rattle.std.specs.List.{All, list_any}
+use Rattle.std.specs.List.{All}
 use Rattle.std.specs.List.Sorted.{IsStrictlySortedBy}
 use Rattle.std.specs.Ordering.{nat_cmp}
 use Rattle.std.specs.declared.cmp.Ordering.TheVariants.{Less}
@@ -30,9 +30,9 @@ absent_below low n (r ∷ rs) h l t =
     let a = h.0 in
     let b = h.1 in
     ⊎_elim
-        (λ (x : range_has n r ≡ true). let w = within_from_range_has n r x in omega arith)
-        (λ (x : set_of rs n ≡ true). absent_below (r.1 + 2) n rs h.2 (omega arith) x)
-        (or_cases _ _ t)
+    (λ (x : range_has n r ≡ true). let w = within_from_range_has n r x in omega arith)
+    (λ (x : set_of rs n ≡ true). absent_below (r.1 + 2) n rs h.2 (omega arith) x)
+    (or_cases _ _ t)
 
 -- the numbers of the first range, and of the others
 pub member_head : (r : ℕ × ℕ) (rs : List (ℕ × ℕ)) (n : ℕ) → r.0 ≤ n → n ≤ r.1 → IsTrue (set_of (r ∷ rs) n)
@@ -44,34 +44,34 @@ member_tail r rs n t = or_right (range_has n r) (set_of rs n) t
 pub member_behind : (r : ℕ × ℕ) (rs : List (ℕ × ℕ)) (n : ℕ) → r.1 < n → IsTrue (set_of (r ∷ rs) n) → IsTrue (set_of rs n)
 member_behind r rs n l t =
     ⊎_elim
-        (λ (x : range_has n r ≡ true). absurd (let w = within_from_range_has n r x in omega arith))
-        (λ (x : set_of rs n ≡ true). x)
-        (or_cases _ _ t)
+    (λ (x : range_has n r ≡ true). absurd (let w = within_from_range_has n r x in omega arith))
+    (λ (x : set_of rs n ≡ true). x)
+    (or_cases _ _ t)
 
 -- the least number of a list is where its first range begins
 first_of_same : (a b : ℕ) (x y : ℕ × ℕ) (xs ys : List (ℕ × ℕ)) → IsSpread a (x ∷ xs) → IsSpread b (y ∷ ys) → IsSameSet (set_of (x ∷ xs)) (set_of (y ∷ ys)) → y.0 ≤ x.0
 first_of_same a b x y xs ys h g same =
     ⊎_elim
-        (λ (l : x.0 < y.0). absurd (absent_below y.0 x.0 (y ∷ ys) (omega arith, g.1, g.2) l ((same x.0).0 (member_head x xs x.0 (omega arith) h.1))))
-        (λ (l : y.0 ≤ x.0). l)
-        (cases_lt x.0 y.0)
+    (λ (l : x.0 < y.0). absurd (absent_below y.0 x.0 (y ∷ ys) (omega arith, g.1, g.2) l ((same x.0).0 (member_head x xs x.0 (omega arith) h.1))))
+    (λ (l : y.0 ≤ x.0). l)
+    (cases_lt x.0 y.0)
 
 end_of_same : (a b : ℕ) (x y : ℕ × ℕ) (xs ys : List (ℕ × ℕ)) → IsSpread a (x ∷ xs) → IsSpread b (y ∷ ys) → IsSameSet (set_of (x ∷ xs)) (set_of (y ∷ ys)) → y.0 ≤ x.0 → y.1 ≤ x.1
 end_of_same a b x y xs ys h g same low =
     let c = h.1 in
     ⊎_elim
-        (λ (l : x.1 < y.1). absurd (absent_below (x.1 + 2) (x.1 + 1) xs h.2 (omega arith)
-            (member_behind x xs (x.1 + 1) (omega arith) ((same (x.1 + 1)).1 (member_head y ys (x.1 + 1) (omega arith) (omega arith))))))
-        (λ (l : y.1 ≤ x.1). l)
-        (cases_lt x.1 y.1)
+    (λ (l : x.1 < y.1). absurd (absent_below (x.1 + 2) (x.1 + 1) xs h.2 (omega arith)
+    (member_behind x xs (x.1 + 1) (omega arith) ((same (x.1 + 1)).1 (member_head y ys (x.1 + 1) (omega arith) (omega arith))))))
+    (λ (l : y.1 ≤ x.1). l)
+    (cases_lt x.1 y.1)
 
 -- what is in the tail of one is in the tail of the other
 tail_of_same : (a : ℕ) (x y : ℕ × ℕ) (xs ys : List (ℕ × ℕ)) → IsSpread a (x ∷ xs) → y.1 ≤ x.1 → (n : ℕ) → (IsTrue (set_of (x ∷ xs) n) → IsTrue (set_of (y ∷ ys) n)) → IsTrue (set_of xs n) → IsTrue (set_of ys n)
 tail_of_same a x y xs ys h e n same t =
     ⊎_elim
-        (λ (l : n < x.1 + 2). absurd (absent_below (x.1 + 2) n xs h.2 l t))
-        (λ (l : x.1 + 2 ≤ n). member_behind y ys n (omega arith) (same (member_tail x xs n t)))
-        (cases_lt n (x.1 + 2))
+    (λ (l : n < x.1 + 2). absurd (absent_below (x.1 + 2) n xs h.2 l t))
+    (λ (l : x.1 + 2 ≤ n). member_behind y ys n (omega arith) (same (member_tail x xs n t)))
+    (cases_lt n (x.1 + 2))
 
 pub same_pair : (x y : ℕ × ℕ) → x.0 ≡ y.0 → x.1 ≡ y.1 → x ≡ y
 same_pair x y e f = ap (λ (a : ℕ). (a, x.1)) e ∙ ap (λ (b : ℕ). (y.0, b)) f
@@ -90,7 +90,7 @@ same_from_set a b (x ∷ xs) (y ∷ ys) h g same =
     let e : x.0 ≡ y.0 = omega arith in
     let f : x.1 ≡ y.1 = omega arith in
     let rest : xs ≡ ys = same_from_set (x.1 + 2) (y.1 + 2) xs ys h.2 g.2
-        (λ n. (tail_of_same a x y xs ys h short n (same n).0, tail_of_same b y x ys xs g long n (same n).1)) in
+    (λ n. (tail_of_same a x y xs ys h short n (same n).0, tail_of_same b y x ys xs g long n (same n).1)) in
     ap (λ (z : ℕ × ℕ). z ∷ xs) (same_pair x y e f) ∙ ap (λ (zs : List (ℕ × ℕ)). y ∷ zs) rest
 
 -- ---- lists of numbers that rise
@@ -138,14 +138,17 @@ IsSpread-from_runs set low (r ∷ rs) runs least sorted =
     let L : ℕ × ℕ → Type 0 = λ r. low ≤ r.0 in
     let run : IsRun set r.0 r.1 = All-head R r rs runs in
     let later : All R rs = All-tail R r rs runs in
-    let above = above_first (λ (r : ℕ × ℕ). r.0) r rs sorted in
-    (All-head L r rs least, run.ordered, IsSpread-from_runs set (r.1 + 2) rs later
-        (λ i d l.
-            (let s : ℕ × ℕ = get_or rs i d in
-             let up : r.0 < s.0 = above i d l in
-             ⊎_elim
-                 (λ (x : s.0 < r.1 + 2). absurd (let o = run.ordered in let q : IsRun set s.0 s.1 = later i d l in let z = q.ordered in
-                     let t = IsRun-touching set r.0 r.1 s.0 s.1 run q (omega arith) (omega arith) in omega (arith, t.0)))
-                 (λ (x : r.1 + 2 ≤ s.0). x)
-                 (cases_lt s.0 (r.1 + 2))))
-        (sorted_tail nat_cmp r.0 (map (λ r. r.0) rs) sorted))
+    let above = above_first (λ (r : ℕ × ℕ). r.0) r rs sorted in (
+      All-head L r rs least,
+      run.ordered,
+      IsSpread-from_runs set (r.1 + 2) rs later
+          (λ i d l.
+          (let s : ℕ × ℕ = get_or rs i d in
+          let up : r.0 < s.0 = above i d l in
+          ⊎_elim
+          (λ (x : s.0 < r.1 + 2). absurd (let o = run.ordered in let q : IsRun set s.0 s.1 = later i d l in let z = q.ordered in
+          let t = IsRun-touching set r.0 r.1 s.0 s.1 run q (omega arith) (omega arith) in omega (arith, t.0)))
+          (λ (x : r.1 + 2 ≤ s.0). x)
+          (cases_lt s.0 (r.1 + 2))))
+          (sorted_tail nat_cmp r.0 (map (λ r. r.0) rs) sorted),
+    )

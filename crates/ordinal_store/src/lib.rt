@@ -4,7 +4,11 @@
 mod error;
 mod filed;
 mod lists;
+#[cfg(test)]
+mod plain_set;
 mod range_map;
+#[cfg(test)]
+mod tests;
 
 pub use error::RMapError;
 pub use lists::Numbers;
