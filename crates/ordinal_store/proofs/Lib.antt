@@ -7,6 +7,7 @@ pub mod Listed
 pub mod Members
 pub mod Missing
 pub mod Moves
+pub mod PlainList
 pub mod SameRanges
 pub mod Splits
 pub mod Spread

@@ -4,3 +4,4 @@
 pub mod Numbers
 pub mod Ranges
 pub mod Filed
+pub mod Plain

@@ -7,8 +7,6 @@ mod lists;
 #[cfg(test)]
 mod plain_set;
 mod range_map;
-#[cfg(test)]
-mod tests;
 
 pub use error::RMapError;
 pub use lists::Numbers;
