@@ -11,3 +11,4 @@ pub mod PlainList
 pub mod SameRanges
 pub mod Splits
 pub mod Spread
+pub mod Walked

@@ -9,7 +9,7 @@ use Rattle.std.proofs.lemmas.Map.Keys.{IsStrictlyIncreasing-from_sorted}
 use Rattle.std.specs.Option.{IfSome, IsNone}
 use Rattle.ordinal_store.specs.Numbers.{Set, IsRun, IsLeast, IsGreatest, IsNextRun, AreMissing, TakesAway}
 use Rattle.ordinal_store.proofs.Members.{IsRun-touching}
-use Rattle.ordinal_store.proofs.Spread.{IsRising, sorted_from_rising}
+use Rattle.ordinal_store.proofs.Spread.{IsRising, IsRising-push, sorted_from_rising}
 use Rattle.ordinal_store.specs.Plain.{listed, Begins, IsNextAmong}
 
 -- what holds of each element holds of each number of the set
@@ -75,27 +75,6 @@ pub IsNextRun-from_among : (xs : List ℕ) (v : ℕ) (o : Option ℕ) → IsNext
 IsNextRun-from_among xs v (Some n) h = (h.0, h.1, λ a b l run. listed_all (λ x. v < x → Begins (listed xs) x → n ≤ x) xs h.2 a (run.inside a (omega arith) run.ordered) l (b, run))
 IsNextRun-from_among xs v None h = λ a b l run. listed_all (λ x. v < x → ¬ Begins (listed xs) x) xs h a (run.inside a (omega arith) run.ordered) l (b, run)
 
--- one more number
-pub IsNextAmong-same : (set : Set) (v : ℕ) (xs : List ℕ) (o : Option ℕ) (x : ℕ) → IsNextAmong set v xs o → (v < x → Begins set x → IfSome o (λ n. n ≤ x)) → (v < x → Begins set x → IsNone o → ⊥) → IsNextAmong set v (xs ++ x ∷ []) o
-IsNextAmong-same set v xs (Some n) x h before none = (h.0, h.1, All-push (λ x. v < x → Begins set x → n ≤ x) xs x h.2 before)
-IsNextAmong-same set v xs None x h before none = All-push (λ x. v < x → ¬ Begins set x) xs x h (λ l b. none l b refl)
-
-pub IsNextAmong-nearer : (set : Set) (v : ℕ) (xs : List ℕ) (o : Option ℕ) (x : ℕ) → IsNextAmong set v xs o → v < x → Begins set x → IfSome o (λ n. x ≤ n) → IsNextAmong set v (xs ++ x ∷ []) (Some x)
-IsNextAmong-nearer set v xs (Some n) x h l b nearer = (
-  l,
-  b,
-  All-push (λ y. v < y → Begins set y → x ≤ y) xs x
-      (All-weaker (λ y. v < y → Begins set y → n ≤ y) (λ y. v < y → Begins set y → x ≤ y) (λ y g m c. (let z = g m c in omega arith)) xs h.2)
-      (λ m c. (omega arith)),
-)
-IsNextAmong-nearer set v xs None x h l b nearer = (
-  l,
-  b,
-  All-push (λ y. v < y → Begins set y → x ≤ y) xs x
-      (All-weaker (λ y. v < y → ¬ Begins set y) (λ y. v < y → Begins set y → x ≤ y) (λ y g m c. absurd (g m c)) xs h)
-      (λ m c. (omega arith)),
-)
-
 -- a run begins at v where the run around v does
 pub begins_from_around : (set : Set) (v a b : ℕ) → (a ≤ v) × (v ≤ b) × IsRun set a b → a ≡ v → Begins set v
 begins_from_around set v a b h e = (b, subst (λ (x : ℕ). IsRun set x b) e h.2)
@@ -114,14 +93,6 @@ pub record IsMissingTo (set : Set) (start max last n : ℕ) (xs : List ℕ) : Ty
   pub each : (x : ℕ) → Contains xs x ↔ ((start ≤ x) × (x < n) × (¬ IsTrue (set x)))
   pub within : n - start ≤ last - start
 
-pub IsMissingTo-none : (set : Set) (start max last : ℕ) → IsMissingTo set start max last start []
-IsMissingTo-none set start max last = record {
-  rises = tt;
-  at_most = omega arith;
-  each = λ x. ((λ c. absurd (let l = c.1 in omega arith)), (λ h. absurd (let a = h.0 in let b = h.1 in omega arith)));
-  within = omega arith;
-}
-
 pub IsMissingTo-member : (set : Set) (start max last n : ℕ) (xs : List ℕ) → IsMissingTo set start max last n xs → n < last → IsTrue (set n) → IsMissingTo set start max last (n + 1) xs
 IsMissingTo-member set start max last n xs h below t = record {
   rises = h.rises;
@@ -138,11 +109,6 @@ IsMissingTo-member set start max last n xs h below t = record {
   );
   within = let g = h.within in omega arith;
 }
-
-IsRising-push : (low n : ℕ) (xs : List ℕ) → IsRising low xs → All (λ x. x < n) xs → low ≤ n → IsRising low (xs ++ n ∷ [])
-IsRising-push low n [] h all l = (l, tt)
-IsRising-push low n (x ∷ xs) h all l =
-    (h.0, IsRising-push (x + 1) n xs h.1 (All-tail (λ x. x < n) x xs all) (let b = All-head (λ x. x < n) x xs all in omega arith))
 
 pub IsMissingTo-absent : (set : Set) (start max last n : ℕ) (xs : List ℕ) → IsMissingTo set start max last n xs → start ≤ n → n < last → length xs < max → ¬ IsTrue (set n) → IsMissingTo set start max last (n + 1) (xs ++ n ∷ [])
 IsMissingTo-absent set start max last n xs h from below room absent = record {
@@ -183,13 +149,3 @@ AreMissing-from_to set start max last n xs h greatest ends =
           ends)
           (cases_lt x n));
     }
-
--- nothing is missing from the empty set
-pub AreMissing-from_empty : (set : Set) (start max : ℕ) (xs : List ℕ) → xs ≡ [] → ((i : ℕ) → ¬ IsTrue (set i)) → AreMissing set start max xs
-AreMissing-from_empty set start max xs e empty =
-    subst (λ (ys : List ℕ). AreMissing set start max ys) (sym e) (record {
-      ascending = IsStrictlyIncreasing-from_sorted [] (sorted_from_rising 0 [] tt);
-      at_most = omega arith;
-      each = λ x c. absurd (let l = c.1 in omega arith);
-      first = λ x miss. absurd (empty miss.below.0 miss.below.2);
-    })
