@@ -74,12 +74,15 @@ unfolding Agrees
 settled_left b agrees holds = go b.there refl
   where
     go : (v : Bool) → b.there ≡ v → MayLeave b (cond v (Some b.settled) None)
-    go true is = (ap (λ (w : Bool). w || b.unsure) is, record {
-      no_shorter = least_first (length b.settled) b.since;
-      no_longer = greatest_first (length b.settled) b.since;
-      kept = agrees;
-      bytes = holds.past.0;
-    })
+    go true is = (
+      ap (λ (w : Bool). w || b.unsure) is,
+      record {
+        no_shorter = least_first (length b.settled) b.since;
+        no_longer = greatest_first (length b.settled) b.since;
+        kept = agrees;
+        bytes = holds.past.0;
+      },
+    )
     go false is = ap (λ (w : Bool). not w || b.unsure) is
 
 tested_outside : (rs : List (ℕ × ℕ)) (i : ℕ) → Outside rs i → list_all (λ (r : ℕ × ℕ). ltb i r.0 || leb (r.0 + r.1) i) rs ≡ true

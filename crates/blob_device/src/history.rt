@@ -178,7 +178,11 @@ impl History {
     fn mixed_length(&self, bits: u64) -> u64
         ensures { (b : Blob) → IsHistory self.now b → result ≡ mixed_length bits b }
     {
-        if bits % 2 == 1 { self.longest } else { self.shortest }
+        if bits % 2 == 1 {
+            self.longest
+        } else {
+            self.shortest
+        }
     }
 
     // The byte at a place of a mixed image, where the number of its free place is `number`.
@@ -199,12 +203,7 @@ impl History {
     /// The blob with its greatest length where `bits` is odd, and else its least: each byte that a crash may change is
     /// 255, but where the bit of its number in `bits` is set and the blob reads that far. The first free place has the
     /// number `first`; the answer has the number of the place after the last too, modulo 64.
-    pub fn mixed(
-        &self,
-        alloc: Global,
-        bits: u64,
-        first: u64,
-    ) -> Result<(Vec<u8>, u64), AllocError>
+    pub fn mixed(&self, alloc: Global, bits: u64, first: u64) -> Result<(Vec<u8>, u64), AllocError>
         requires { first < 64 }
         ensures blob { IfOk result (λ r. (b : Blob) (n : ℕ) → IsHistory self.now b → first ≡ n % 64 → IsMixedBlob bits n b r.0.items) }
         ensures next { IfOk result (λ r. (b : Blob) (n : ℕ) → IsHistory self.now b → first ≡ n % 64 → r.1 ≡ (n + free_below b (mixed_length bits b)) % 64) }

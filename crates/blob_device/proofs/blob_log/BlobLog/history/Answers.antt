@@ -21,4 +21,4 @@ loop-call-preserved c =
     let before = subst (λ (l : List Call). IsHistory c.loop-call.history (replay (take i l) start)) (sym same) c.loop-call.invariant in
     subst (λ (l : List Call). IsHistory c.advance.new.self (replay (take (i + 1) l) start)) same
     (subst (IsHistory c.advance.new.self) (sym (replay-take calls i c.call-item.result start c.loop-call-test.true ∙ ap (λ (d : Call). after d (replay (take i calls) start)) (sym c.call-item.is)))
-      (c.in_ok-advance.ensures (replay (take i calls) start) before))
+    (c.in_ok-advance.ensures (replay (take i calls) start) before))

@@ -15,7 +15,7 @@ returns-then-failed c b is =
     let begun = c.begin.ensures in
     subst (λ (f : Bool). IsHistory c.begin.new.self (result_of (Resize n) f b)) (sym c.if-failed.true)
     (history_begun old c.begin.new.self b (resized b.content n) b.content b.loose n is (ap (λ (h : History). h.there) begun) (ap (λ (h : History). h.unsure) begun) (ap (λ (h : History). h.content.items) begun ∙ is.reads_as)
-      (ap (λ (h : History). h.settled) begun) (ap (λ (h : History). h.shortest) begun) (ap (λ (h : History). h.longest) begun) (ap (λ (h : History). h.loose.items) begun ∙ is.loose_are) (sym (length-resized b.content n)))
+    (ap (λ (h : History). h.settled) begun) (ap (λ (h : History). h.shortest) begun) (ap (λ (h : History). h.longest) begun) (ap (λ (h : History). h.loose.items) begun ∙ is.loose_are) (sym (length-resized b.content n)))
 
 pub returns : goal.returns
 returns c b is =
@@ -26,5 +26,5 @@ returns c b is =
     let content : c.resize.new.self.items ≡ resized c.begin.new.self.content.items n = search rules in
     subst (λ (f : Bool). IsHistory new (result_of (Resize n) f b)) (sym c.if-failed.false)
     (history_begun old new b (resized b.content n) (resized b.content n) b.loose n is (ap (λ (h : History). h.there) begun) (ap (λ (h : History). h.unsure) begun)
-      (content ∙ ap (λ (l : List ℕ). resized l n) (ap (λ (h : History). h.content.items) begun ∙ is.reads_as))
-      (ap (λ (h : History). h.settled) begun) (ap (λ (h : History). h.shortest) begun) (ap (λ (h : History). h.longest) begun) (ap (λ (h : History). h.loose.items) begun ∙ is.loose_are) (sym (length-resized b.content n)))
+    (content ∙ ap (λ (l : List ℕ). resized l n) (ap (λ (h : History). h.content.items) begun ∙ is.reads_as))
+    (ap (λ (h : History). h.settled) begun) (ap (λ (h : History). h.shortest) begun) (ap (λ (h : History). h.longest) begun) (ap (λ (h : History). h.loose.items) begun ∙ is.loose_are) (sym (length-resized b.content n)))
