@@ -4,6 +4,8 @@
 //! give to the script. This file only makes the device, the source and the sink, and says on standard error what is wrong.
 #![tactic(auto)]
 
+ghost use Rattle.std.specs.Prelude.{◌≡◌};
+
 mod input;
 mod output;
 mod program;
@@ -93,7 +95,9 @@ fn show(rt: &HostRuntime, text: &str) -> u8 {
 }
 
 // Says on standard error what is wrong, if anything is, and answers the status.
-fn report(rt: &HostRuntime, status: u8) -> u8 {
+fn report(rt: &HostRuntime, status: u8) -> u8
+    ensures { result ≡ status }
+{
     if let Some(text) = fault_text(status) {
         // There is nobody else to tell if this fails.
         let _ = eprintln!(rt; "archive_cli: {text}");

@@ -1,5 +1,6 @@
 // The program: words, then the input to its end, then the script, then the commands, then the replies.
 ghost use Rattle.std.specs.Prelude.{◌≡◌, ◌≢◌, ◌⊎◌, ◌+◌, ◌^◌, ◌≤◌, ◌∷◌, ◌++◌, [], ℕ, List, length, map, string_bytes, IfOk, Contains};
+ghost use Rattle.std.specs.Result.{IsOkUnless};
 ghost use Rattle.blob_device.specs.Counts.{Rose};
 ghost use Rattle.archive_service.specs.Texts.{Spelled, replies_text};
 ghost use Rattle.archive_service.specs.Script.{Spells};
@@ -105,6 +106,7 @@ pub fn run<D: Device, S: Source, W: Sink>(
 // The answer to a whole input. The one error is want of memory.
 fn answer_of<D: Device>(alloc: Global, dev: &mut D, input: &[u8]) -> Result<Answer, ScriptError>
     ensures answer { IfOk result (λ a. (items : ℕ) → Answers items a.status input.now a.text.items) }
+    ensures memory { IsOkUnless result ScriptError.Mem }
     ensures device { dev.new ≡ dev.old }
 {
     match read_script(alloc, input, VALUE_LIMIT) {
@@ -131,6 +133,7 @@ fn replies_of<D: Device>(
     script: &Script,
 ) -> Result<Vec<u8>, ScriptError>
     ensures text { IfOk result (λ text. (items : ℕ) → AreAnsweredBy items script.now text.items) }
+    ensures memory { IsOkUnless result ScriptError.Mem }
     ensures device { dev.new ≡ dev.old }
 {
     let Served { replies, end } = serve(alloc, dev, script.as_slice());
@@ -141,7 +144,8 @@ fn replies_of<D: Device>(
 }
 
 fn text_of(alloc: Global, replies: &[Reply<ByteValue>]) -> Result<Vec<u8>, ScriptError>
-    ensures { IfOk result (λ text. text.items ≡ replies_text replies.now) }
+    ensures text { IfOk result (λ text. text.items ≡ replies_text replies.now) }
+    ensures memory { IsOkUnless result ScriptError.Mem }
 {
     let mut text = Vec::new(alloc);
     for reply in replies {

@@ -16,4 +16,4 @@ returns-in-Done-clause-text g c = IfOk-weaker c.text_of.result _ _
       run = subst (λ commands. AreReplies items commands c.serve-replies.result.replies) c.as_slice.ensures (c.serve-replies.ensures.replies items);
       text_is = is ∙ ap replies_text c.as_slice-in-Done.ensures;
     })
-    c.text_of.ensures
+    c.text_of.ensures.text
