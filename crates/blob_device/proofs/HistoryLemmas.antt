@@ -1,11 +1,11 @@
 -- How a history goes on over one change.
-use Rattle.std.proofs.Common.{◌≡◌, ℕ, ◌+◌, ◌/◌, min, max, Bool, true, false, cond, List, [], ◌∷◌, ◌++◌, length, take, refl, sym, ◌∙◌, ap, subst, arith}
+use Rattle.std.proofs.Common.{◌≡◌, ℕ, ◌/◌, min, max, Bool, true, false, cond, List, [], ◌∷◌, ◌++◌, length, take, refl, sym, ◌∙◌, ap, subst, arith}
 use Rattle.blob_device.specs.declared.history.History.{History}
 use Rattle.blob_device.specs.Disk.{Blob, settled_at, shortest, longest}
-use Rattle.blob_device.specs.Change.{Make, Write, Resize, during, done, written, resized}
+use Rattle.blob_device.specs.Change.{Make, Write, during, done, written}
 use Rattle.blob_device.specs.Calls.{result_of}
 use Rattle.blob_device.specs.Histories.{IsHistory}
-use Rattle.blob_device.proofs.Bytes.{length-written, length-resized, least_push, greatest_push}
+use Rattle.blob_device.proofs.Bytes.{least_push, greatest_push}
 
 -- one content more
 pub less : (b : Blob) (whole : List ℕ) (n m : ℕ) → n ≡ shortest b → m ≡ length whole → min n m ≡ shortest (record b { since = b.since ++ whole ∷ [] })

@@ -1,11 +1,11 @@
 -- A device made from an image, and images made from a device.
-use Rattle.std.proofs.Common.{◌≡◌, ℕ, List, [], Option, Some, None, Vec, refl, sym, ◌∙◌, ap, subst}
+use Rattle.std.proofs.Common.{◌≡◌, ℕ, List, [], Option, Some, None, Vec, refl, sym}
 use Rattle.std.specs.Option.{option_map, option_and_then}
 use Rattle.std.specs.declared.alloc.Global.{Global}
 use Rattle.std.proofs.lemmas.Option.{same_Some}
 use Rattle.blob_device.specs.declared.blob_log.BlobLog.{BlobLog}
-use Rattle.blob_device.specs.Disk.{Key, Blob, begun, nothing}
-use Rattle.blob_device.specs.Calls.{Track, started, now, replay}
+use Rattle.blob_device.specs.Disk.{Blob, nothing}
+use Rattle.blob_device.specs.Calls.{started, now, replay}
 use Rattle.blob_device.specs.Tracks.{track_of, track_at}
 
 abbrev bytes_in : Option (Vec ℕ Global) → Option (List ℕ)

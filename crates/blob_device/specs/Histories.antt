@@ -1,5 +1,5 @@
 -- A history that the code holds tells a blob.
-use Rattle.std.specs.Prelude.{◌≡◌, ℕ, Bool, List}
+use Rattle.std.specs.Prelude.{◌≡◌}
 use Rattle.blob_device.specs.declared.history.History.{History}
 use Rattle.blob_device.specs.Disk.{Blob, shortest, longest}
 

@@ -1,12 +1,8 @@
 -- The crash images that a device in memory picks.
-use Rattle.std.specs.Prelude.{◌≡◌, ◌&&◌, ◌||◌, ℕ, ◌+◌, ◌<◌, ◌%◌, ◌==◌, zero, suc, Bool, true, false, not, cond, ltb, leb, List, [], ◌∷◌, length, take, get_or, Option, Some, None, IsNone, sum, map}
-use Rattle.std.specs.List.{list_all, list_any, Contains, range_with_len}
+use Rattle.std.specs.Prelude.{◌≡◌, ◌&&◌, ◌||◌, ℕ, ◌+◌, ◌<◌, ◌%◌, ◌==◌, zero, suc, Bool, not, cond, ltb, leb, List, length, get_or, Option, Some, None, map}
+use Rattle.std.specs.List.{list_all, range_with_len}
 use Rattle.std.specs.Int.{bit_at}
-use Rattle.std.specs.List.Sorted.{IsStrictlySortedBy}
-use Rattle.std.specs.Ordering.{nat_cmp, ordering_then}
-use Rattle.std.specs.declared.cmp.Ordering.{Ordering}
-use Rattle.std.specs.Cmp.Lexicographic.{slice_cmp}
-use Rattle.blob_device.specs.Disk.{Key, Blob, Disk, Image, nothing, shortest, longest}
+use Rattle.blob_device.specs.Disk.{Key, Blob, Disk, Image, shortest, longest}
 
 -- each blob as it last settled
 abbrev pub settled_of : Blob → Option (List ℕ)

@@ -1,4 +1,4 @@
-use Rattle.std.proofs.Common.{◌≡◌, ◌∷◌, List, ℕ, Option, None, sym, rules}
+use Rattle.std.proofs.Common.{◌≡◌, ◌∷◌, None}
 use Rattle.std.specs.Map.Iter.{deref_pair}
 use Rattle.std.proofs.lemmas.Map.Iter.{rest_more}
 use Rattle.blob_device.specs.Tables.{at_name}

@@ -1,4 +1,4 @@
-use Rattle.std.proofs.Common.{◌≡◌, ℕ, List, Option, None}
+use Rattle.std.proofs.Common.{◌≡◌, ℕ, List, None}
 use Rattle.std.specs.Option.{option_map}
 use Rattle.blob_device.specs.Tables.{at_name}
 use Rattle.blob_device.specs.Building.{names_built, after_all}

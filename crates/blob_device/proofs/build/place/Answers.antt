@@ -1,7 +1,4 @@
-use Rattle.std.proofs.Common.{◌≡◌, ◌≢◌, ◌⊎◌, ⊎_elim, Some, List, ℕ, rules, subst, ap, sym, ◌∙◌}
-use Rattle.std.specs.BTreeMap.{UpdatesBy}
-use Rattle.std.specs.Ordering.{nat_cmp}
-use Rattle.std.specs.Cmp.Lexicographic.{slice_cmp}
+use Rattle.std.proofs.Common.{◌≡◌, rules, ap, sym, ◌∙◌}
 use Rattle.blob_device.specs.Building.{placed}
 use Rattle.blob_device.specs.Tables.{at_name}
 use Rattle.blob_device.proofs.Building.{placed_is}

@@ -1,6 +1,6 @@
-use Rattle.std.proofs.Common.{◌≡◌, ◌+◌, ◌∙◌, ap, sym, subst, take, Option, List, ℕ}
+use Rattle.std.proofs.Common.{◌+◌, ◌∙◌, ap, sym, subst, take, Option, List, ℕ}
 use Rattle.blob_device.specs.declared.blob_log.Call.{Call}
-use Rattle.blob_device.specs.Disk.{Blob, begun}
+use Rattle.blob_device.specs.Disk.{begun}
 use Rattle.blob_device.specs.Calls.{replay, start_of, after}
 use Rattle.blob_device.specs.Histories.{IsHistory}
 use Rattle.blob_device.proofs.Replay.{replay-nil, replay-take}

@@ -1,4 +1,4 @@
-use Rattle.std.proofs.Common.{◌≡◌, ◌∙◌, List, ℕ, ap, sym, rules}
+use Rattle.std.proofs.Common.{◌≡◌, ◌∙◌, ap, sym, rules}
 use Rattle.blob_device.specs.Disk.{settled_at}
 use Rattle.blob_device.specs.Calls.{all_bytes}
 use Rattle.blob_device.proofs.EntryLemmas.{tested_bytes}

@@ -1,4 +1,4 @@
-use Rattle.std.proofs.Common.{◌≡◌, ◌∙◌, ◌%◌, ◌||◌, ◌<◌, Bool, true, cond, Some, None, Option, List, ℕ, ap, refl, sym}
+use Rattle.std.proofs.Common.{◌≡◌, ◌∙◌, ◌||◌, Bool, true, cond, Some, None, List, ℕ, ap, refl, sym}
 use Rattle.blob_device.specs.Calls.{now}
 use Rattle.blob_device.specs.Tracks.{track_of}
 use Rattle.blob_device.specs.Picked.{mixed_bytes}

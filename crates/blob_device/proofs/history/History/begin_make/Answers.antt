@@ -1,4 +1,4 @@
-use Rattle.std.proofs.Common.{◌≡◌, [], true, min, max, refl, sym, subst}
+use Rattle.std.proofs.Common.{true, min, max, refl, sym, subst}
 use Rattle.blob_device.specs.declared.history.History.{History}
 use Rattle.blob_device.specs.Change.{Make, during}
 use Rattle.blob_device.specs.Histories.{IsHistory}

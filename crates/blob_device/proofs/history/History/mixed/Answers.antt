@@ -1,5 +1,4 @@
-use Rattle.std.proofs.Common.{◌≡◌, ◌∙◌, ◌+◌, ◌++◌, ◌∷◌, ◌%◌, ◌<◌, ◌≤◌, [], List, ℕ, length, ap, sym, arith, rules}
-use Rattle.blob_device.specs.Disk.{Blob}
+use Rattle.std.proofs.Common.{◌≡◌, ◌∙◌, ◌+◌, ◌++◌, ◌∷◌, ◌%◌, [], ℕ, length, ap, arith, rules}
 use Rattle.blob_device.specs.Picked.{free_below, mixed_byte, mixed_length}
 use Rattle.blob_device.proofs.MixedLemmas.{free_none, number_more, bytes_more}
 use Rattle.blob_device.proofs.history.History.mixed.Goals as goal

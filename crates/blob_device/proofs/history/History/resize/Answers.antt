@@ -1,6 +1,5 @@
-use Rattle.std.proofs.Common.{◌≡◌, ◌∙◌, Bool, true, false, ap, refl, sym, subst, rules, List, ℕ, length, vec_len}
+use Rattle.std.proofs.Common.{◌≡◌, ◌∙◌, Bool, ap, sym, subst, rules, List, ℕ}
 use Rattle.blob_device.specs.declared.history.History.{History}
-use Rattle.blob_device.specs.Disk.{Blob}
 use Rattle.blob_device.specs.Change.{Resize, resized}
 use Rattle.blob_device.specs.Calls.{result_of}
 use Rattle.blob_device.specs.Histories.{IsHistory}

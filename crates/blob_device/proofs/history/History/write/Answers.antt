@@ -1,8 +1,6 @@
-use Rattle.std.proofs.Common.{◌≡◌, ◌∙◌, ◌+◌, ◌/◌, ◌∷◌, ◌++◌, [], max, cond, take, Bool, ap, refl, sym, subst, arith, rules, List, ℕ, length, vec_len}
+use Rattle.std.proofs.Common.{◌≡◌, ◌∙◌, ◌+◌, ◌/◌, ◌∷◌, ◌++◌, [], max, cond, take, ap, sym, subst, arith, rules, List, ℕ, length}
 use Rattle.blob_device.specs.declared.history.History.{History}
-use Rattle.blob_device.specs.Disk.{Blob}
-use Rattle.blob_device.specs.Change.{Write, written}
-use Rattle.blob_device.specs.Calls.{result_of}
+use Rattle.blob_device.specs.Change.{written}
 use Rattle.blob_device.specs.Histories.{IsHistory}
 use Rattle.blob_device.proofs.Bytes.{length-written}
 use Rattle.blob_device.proofs.HistoryLemmas.{history_begun, result_write}

@@ -1,10 +1,9 @@
-use Rattle.std.proofs.Common.{◌≡◌, ◌∙◌, ap, sym, refl, subst, Option, List, ℕ}
-use Rattle.blob_device.specs.Disk.{Key, Blob, reads, MayLeave}
+use Rattle.std.proofs.Common.{◌∙◌, ap, sym, refl, subst, Option, List, ℕ}
+use Rattle.blob_device.specs.Disk.{Key, Blob, MayLeave}
 use Rattle.blob_device.specs.Timeline.{disk}
 use Rattle.blob_device.specs.Tables.{at_key}
 use Rattle.blob_device.specs.Calls.{now, timeline_of}
 use Rattle.blob_device.specs.Tracks.{tracks_of}
-use Rattle.blob_device.specs.Images.{contents}
 use Rattle.blob_device.specs.Laws.{disk_now, now_holds_bytes}
 use Rattle.blob_device.specs.Picked.{settled_of}
 use Rattle.blob_device.proofs.ImageLemmas.{made_at}

@@ -1,5 +1,5 @@
 use Rattle.std.proofs.Common.{◌≡◌, ◌∙◌, ap}
-use Rattle.blob_device.specs.Disk.{Key, begun, Blob}
+use Rattle.blob_device.specs.Disk.{Key, begun}
 use Rattle.blob_device.specs.Calls.{Track, blob_at}
 use Rattle.blob_device.specs.Tables.{at_key}
 use Rattle.blob_device.specs.Images.{contents}

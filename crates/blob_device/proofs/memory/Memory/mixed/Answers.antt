@@ -1,10 +1,9 @@
 use Rattle.std.proofs.Common.{◌≡◌, ◌∙◌, ap, sym, refl, subst, Option, List, ℕ}
-use Rattle.blob_device.specs.Disk.{Key, Blob, reads, MayLeave}
+use Rattle.blob_device.specs.Disk.{Key, Blob, MayLeave}
 use Rattle.blob_device.specs.Timeline.{disk}
 use Rattle.blob_device.specs.Tables.{at_key}
 use Rattle.blob_device.specs.Calls.{now, timeline_of}
 use Rattle.blob_device.specs.Tracks.{track_of, tracks_of}
-use Rattle.blob_device.specs.Images.{contents}
 use Rattle.blob_device.specs.declared.crash.Mixer.{Mixer}
 use Rattle.blob_device.specs.declared.blob_log.BlobLog.{BlobLog}
 use Rattle.blob_device.specs.Laws.{disk_now, now_holds_bytes, now_between}
