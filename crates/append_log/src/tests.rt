@@ -82,7 +82,10 @@ fn stopped_at_each_call(rt: HostRuntime) -> Result<(), Fail> {
             let image = dev.pick_crash(rt.alloc(), choice)?;
             let bytes = image.blob("p", b"log").unwrap_or(b"");
             let kept = synced(fuse);
-            assert!(rt; bytes.starts_with(b"hiyo".split_at(kept).0), "stopped at {fuse}");
+            assert!(rt;
+                bytes.starts_with(b"hiyo".split_at(kept).0),
+                "stopped at {fuse}"
+            );
             assert!(rt; bytes.len() <= kept + 2, "stopped at {fuse}");
         }
     }

@@ -19,3 +19,4 @@ pub mod Puts
 pub mod Replay
 pub mod Results
 pub mod StaysLemmas
+pub mod Pieces

@@ -11,11 +11,14 @@ pub mod Images
 pub mod Keeps
 pub mod Laws
 pub mod Lengths
+pub mod MemStreams
 pub mod MemoryMeaning
 pub mod NameList
 pub mod NamesThere
 pub mod Opened
 pub mod Picked
+pub mod StdStreams
+pub mod Streams
 pub mod Tables
 pub mod Timeline
 pub mod Tracks

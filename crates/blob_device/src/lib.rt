@@ -1,4 +1,4 @@
-//! A disk of named blobs, with a model of what a crash at any moment may leave.
+//! A disk of named blobs, with a model of what a crash at any moment may leave, and sources and sinks of bytes.
 #![tactic(auto)]
 
 mod blob_log;
@@ -6,18 +6,25 @@ mod build;
 mod crash;
 mod device;
 mod error;
+mod failing;
 mod history;
 mod image;
+mod io_fault;
 mod logs;
 mod memory;
 mod names;
 mod runtime;
+mod sink;
+mod source;
 mod table;
 
 pub use crash::CrashChoice;
 pub use device::Device;
 pub use error::DevError;
 pub use image::Image;
+pub use io_fault::IoFault;
 pub use memory::Memory;
 pub use names::Names;
 pub use runtime::{Handle, RError};
+pub use sink::{MemSink, Sink, StdSink};
+pub use source::{MemSource, Source, StdSource};

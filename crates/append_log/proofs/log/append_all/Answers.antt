@@ -60,5 +60,5 @@ records-preserved g c =
       entries = λ q other. c.append.ensures.other_entries q other ∙ c.records.invariant.entries q other;
       told = λ t. subst (λ (l : List ℕ). Grown k (disk first k).content records first (g.D.Device.time c.append.new.dev) l) (sym pushed)
           (grown_more k (disk first k).content records first before (g.D.Device.time c.append.new.dev) marks c.record-item.result (c.records.invariant.told t) lt is (adding t)
-            (subst (λ (r : List ℕ). Holds ((disk before k).content ++ r) (disk (g.D.Device.time c.append.new.dev) k)) c.as_slice.ensures.value (c.in-Ok.ensures.done t)));
+          (subst (λ (r : List ℕ). Holds ((disk before k).content ++ r) (disk (g.D.Device.time c.append.new.dev) k)) c.as_slice.ensures.value (c.in-Ok.ensures.done t)));
     }

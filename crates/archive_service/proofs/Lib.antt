@@ -1,0 +1,3 @@
+pub mod ScriptLemmas
+pub mod ServedLemmas
+pub mod WordLemmas

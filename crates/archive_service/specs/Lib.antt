@@ -1,0 +1,5 @@
+pub mod Ended
+pub mod Script
+pub mod Served
+pub mod Texts
+pub mod Words

@@ -1,0 +1,77 @@
+-- The grammar of scripts: from bytes to a list of commands, line by line.
+use Rattle.std.specs.Prelude.{◌≡◌, ◌≢◌, ℕ, ◌+◌, ◌^◌, ◌<◌, ◌≤◌, List, [], ◌∷◌, ◌++◌, length, Option, Some, None}
+use Rattle.std.specs.List.{AllByRecursion}
+use Rattle.archives.specs.declared.commands.Command.TheVariants.{Put, Get, Has}
+use Rattle.archive_service.specs.declared.script.ScriptError.{ScriptError}
+use Rattle.archive_service.specs.declared.script.ScriptError.TheVariants.{Line, Mem}
+use Rattle.archive_service.specs.Texts.{Spelled, line_of, script_text}
+
+abbrev pub AreBytes : List ℕ → Type 0
+AreBytes bytes = AllByRecursion (λ byte. byte < 256) bytes
+
+-- what a line may say: an index of 64 bits, a key of eight bytes, a value of at most max bytes
+abbrev pub IsIndex : ℕ → Type 0
+IsIndex index = index < 2 ^ 64
+
+abbrev pub IsKey : List ℕ → Type 0
+IsKey key = (length key ≡ 8) × AreBytes key
+
+abbrev pub IsValue : ℕ → List ℕ → Type 0
+IsValue max value = (length value ≤ max) × AreBytes value
+
+abbrev pub CanBeSaid : ℕ → Spelled → Type 0
+CanBeSaid max (Put index key value) = IsIndex index × IsKey key × IsValue max value
+CanBeSaid max (Get index) = IsIndex index
+CanBeSaid max (Has index) = IsIndex index
+
+-- the text is the script of these commands: their lines, one behind the other, and nothing else
+pub record Spells (max : ℕ) (text : List ℕ) (commands : List Spelled) : Type 0 where
+  pub said : AllByRecursion (CanBeSaid max) commands
+  pub text_is : text ≡ script_text commands
+
+-- The text does not begin with the line of any command, and is not empty. So it begins with a line that is bad, or
+-- with bytes behind which no LF comes.
+pub record BeginsBadly (max : ℕ) (text : List ℕ) : Type 0 where
+  pub some : text ≢ []
+  pub bad : (command : Spelled) (rest : List ℕ) → CanBeSaid max command → text ≢ line_of command ++ 10 ∷ rest
+
+-- Line n of the text, counted from 1, is the first bad one: the lines before it are those of commands.
+pub record IsFirstBad (max : ℕ) (text : List ℕ) (n : ℕ) : Type 0 where
+  pub before : List Spelled
+  pub rest : List ℕ
+  pub said : AllByRecursion (CanBeSaid max) before
+  pub text_is : text ≡ script_text before ++ rest
+  pub number : n ≡ length before + 1
+  pub bad : BeginsBadly max rest
+
+-- why a text is refused: a line that is named is the first bad one, and want of memory may come at any text
+abbrev pub IsCause : ℕ → List ℕ → ScriptError → Type 0
+IsCause max text (Line n) = IsFirstBad max text n
+IsCause max text Mem = Unit {0}
+
+-- What reading a text as one thing finds: the thing that the text spells, or None where it spells none that may be said.
+abbrev pub IsReading : {A : Type 0} → (A → Type 0) → (A → List ℕ) → List ℕ → Option A → Type 0
+IsReading may_be text_of text (Some found) = may_be found × (text ≡ text_of found)
+IsReading {A} may_be text_of text None = (thing : A) → may_be thing → text ≢ text_of thing
+
+-- what reading a line finds: the command that the line says
+abbrev pub IsCommandOf : ℕ → List ℕ → Option Spelled → Type 0
+IsCommandOf max line found = IsReading (CanBeSaid max) line_of line found
+
+-- what taking the first line of a text finds: a command, and what stands behind its line
+abbrev pub IsFirstLine : ℕ → List ℕ → Option (Spelled × List ℕ) → Type 0
+IsFirstLine max text found = IsReading {A = Spelled × List ℕ} (λ x. CanBeSaid max x.0) (λ x. line_of x.0 ++ 10 ∷ x.1) text found
+
+-- ---- the laws that make an answer of the reader exact
+
+-- a text spells at most one script
+abbrev pub OneScript : Type 0
+OneScript = (max : ℕ) (text : List ℕ) (a b : List Spelled) → Spells max text a → Spells max text b → a ≡ b
+
+-- a text that spells a script has no bad line
+abbrev pub GoodOrBad : Type 0
+GoodOrBad = (max : ℕ) (text : List ℕ) (commands : List Spelled) (n : ℕ) → Spells max text commands → ¬ (IsFirstBad max text n)
+
+-- one line is the first bad one
+abbrev pub OneFirstBad : Type 0
+OneFirstBad = (max : ℕ) (text : List ℕ) (m n : ℕ) → IsFirstBad max text m → IsFirstBad max text n → m ≡ n

@@ -1,0 +1,11 @@
+use Rattle.std.proofs.Common.{◌∙◌, ap}
+use Rattle.std.proofs.lemmas.Result.{IfOk-weaker}
+use Rattle.archives.specs.Plain.{first_at}
+use Rattle.archives.proofs.PlainLemmas.{first_here}
+use Rattle.archives.proofs.plain.Machine.get.Goals as goal
+
+pub returns-clause-value : goal.returns-clause-value
+returns-clause-value g c = IfOk-weaker c.copied.result _ _
+    (λ value copy n. copy ∙ c.value_at.ensures ∙ ap (first_at c.args.index) c.as_slice.ensures.value
+    ∙ first_here g.K.Key.key_bytes n c.args.index c.args.self.now.items.items)
+    c.copied.ensures.copy

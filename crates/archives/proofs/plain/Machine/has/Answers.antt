@@ -1,0 +1,9 @@
+use Rattle.std.proofs.Common.{◌∙◌, ap, ◌==◌}
+use Rattle.std.specs.List.{list_any}
+use Rattle.archives.proofs.PlainLemmas.{any_here}
+use Rattle.archives.proofs.plain.Machine.has.Goals as goal
+
+pub returns : goal.returns
+returns g c = λ n.
+    c.any_at.ensures ∙ ap (list_any (λ r. r.index == c.args.index)) c.as_slice.ensures.value
+    ∙ any_here g.K.Key.key_bytes n c.args.index c.args.self.now.items.items

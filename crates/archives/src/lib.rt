@@ -1,0 +1,11 @@
+//! What an archive is asked, what it replies, and the machine of records that says which replies are right.
+//!
+//! `specs/Machine.antt` has the machine: a state, and a step for each command and reply. `plain` runs it on one list.
+#![tactic(auto)]
+
+mod commands;
+mod error;
+pub mod plain;
+
+pub use commands::{Command, Reply};
+pub use error::Error;

@@ -1,0 +1,106 @@
+//! The machine of records on one plain list, in the order in which the records were put. It is slow, since each command
+//! scans the list, and made to be read beside the definitions. It serves until the archive on the device takes its place.
+ghost use Rattle.std.specs.Prelude.{◌≡◌, ℕ, ◌==◌, [], IfOk, OnErr, OnOk};
+ghost use Rattle.std.specs.Option.{option_copied};
+ghost use Rattle.std.specs.Result.{IsOkUnless};
+ghost use Rattle.std.specs.List.{list_any};
+ghost use Rattle.archives.specs.Machine.{Step, after_put, asked, empty_state, entries_at, first_value, has_index};
+ghost use Rattle.archives.specs.Plain.{first_at, state_of};
+
+use crate::{Command, Error, Reply};
+use std::alloc::Global;
+use value_codec::Key;
+
+/// A record as it was put.
+#[derive(Drop)]
+pub struct Item<K, V> {
+    index: u64,
+    key: K,
+    value: V,
+}
+
+/// A machine of records with nothing pruned.
+#[derive(Drop)]
+pub struct Machine<K, V> {
+    items: Vec<Item<K, V>>,
+}
+
+fn any_at<K, V>(items: &[Item<K, V>], index: u64) -> bool
+    ensures { result ≡ list_any (λ r. r.index == index) items.now }
+{
+    items.iter().any(|r| r.index == index)
+}
+
+fn value_at<K, V>(items: &[Item<K, V>], index: u64) -> Option<&V>
+    ensures { option_copied result ≡ first_at index items.now }
+{
+    let item = items.iter().find(|r| r.index == index)?;
+    Some(&item.value)
+}
+
+fn copied<V: Clone>(value: Option<&V>) -> Result<Option<V>, Error>
+    requires { (v w : V) → V.is_clone v w → w ≡ v }
+    ensures copy { IfOk result (λ copy. copy ≡ option_copied value.entry) }
+    ensures memory { IsOkUnless result Error.Mem }
+{
+    match value {
+        Some(value) => Ok(Some(value.clone()?)),
+        None => Ok(None),
+    }
+}
+
+impl<K: Key, V: Clone> Machine<K, V> {
+    /// Nothing is kept. It takes no memory.
+    pub fn new(alloc: Global) -> Machine<K, V>
+        ensures { (n : ℕ) → state_of K.key_bytes n result ≡ empty_state }
+    {
+        Machine {
+            items: Vec::new(alloc),
+        }
+    }
+
+    fn has(&self, index: u64) -> bool
+        ensures { (n : ℕ) → result ≡ has_index n (state_of K.key_bytes n self.now) index }
+    {
+        any_at(self.items.as_slice(), index)
+    }
+
+    fn get(&self, index: u64) -> Result<Option<V>, Error>
+        requires { (v w : V) → V.is_clone v w → w ≡ v }
+        ensures value { IfOk result (λ value. (n : ℕ) → value ≡ first_value (entries_at n (state_of K.key_bytes n self.now) index)) }
+        ensures memory { IsOkUnless result Error.Mem }
+    {
+        copied(value_at(self.items.as_slice(), index))
+    }
+
+    fn put(&mut self, index: u64, key: K, value: &V) -> Result<(), Error>
+        requires { (v w : V) → V.is_clone v w → w ≡ v }
+        ensures put { OnOk result ((n : ℕ) → state_of K.key_bytes n self.new ≡ after_put n index (K.key_bytes key) value.now (state_of K.key_bytes n self.old)) }
+        ensures memory { IsOkUnless result Error.Mem }
+        ensures unchanged { OnErr result (self.new.items.items ≡ self.old.items.items) }
+    {
+        if self.has(index) {
+            return Ok(());
+        }
+        let value = value.clone()?;
+        self.items.push(Item { index, key, value })?;
+        Ok(())
+    }
+
+    /// Carries out one command. A copy of a value has to equal it. After an Err nothing changed.
+    pub fn step(&mut self, command: &Command<K, V>) -> Result<Reply<V>, Error>
+        requires { (v w : V) → V.is_clone v w → w ≡ v }
+        ensures step { IfOk result (λ reply. (n : ℕ) → Step n (state_of K.key_bytes n self.old) (asked K.key_bytes command.now) reply (state_of K.key_bytes n self.new)) }
+        ensures memory { IsOkUnless result Error.Mem }
+        ensures unchanged { OnErr result ((n : ℕ) → state_of K.key_bytes n self.new ≡ state_of K.key_bytes n self.old) }
+    {
+        match command {
+            Command::Put(index, key, value) => {
+                self.put(*index, *key, value)?;
+                Ok(Reply::Done)
+            }
+            Command::Get(index) => Ok(Reply::Value(self.get(*index)?)),
+            Command::Has(index) => Ok(Reply::Flag(self.has(*index))),
+        }
+    }
+}

@@ -1,0 +1,23 @@
+use Rattle.std.proofs.Common.{◌≡◌, ◌≤◌, ◌==◌, ℕ, Bool, true, false, List, length, take, drop, sym, ◌∙◌, ap, arith, length-drop}
+use Rattle.std.specs.List.{list_any}
+use Rattle.std.proofs.lemmas.Bool.{false≢true}
+use Rattle.blob_device.proofs.Pieces.{read_split, none_left}
+use Rattle.blob_device.proofs.source.MemSourceSource.read.Goals as goal
+
+pub returns-then-is_listed-clause-succeeds : goal.returns-then-is_listed-clause-succeeds
+returns-then-is_listed-clause-succeeds c off =
+    absurd (false≢true (sym off ∙ sym (c.is_listed.ensures ∙ ap (list_any (λ n. n == c.args.self.now.reads)) c.as_slice.ensures.value) ∙ c.if-is_listed.true))
+
+pub returns-clause-told : goal.returns-clause-told
+returns-clause-told c told =
+    let rest : c.split_at.result.1.now ≡ drop c.args.self.now.at c.args.self.now.bytes.items =
+    c.split_at.ensures.back ∙ ap (drop c.args.self.now.at) c.as_slice-2.ensures.value in (
+      read_split c.args.self.now.bytes.items c.args.self.now.at c.copy_front-count.result c.copy_front-count.new.into
+          (c.copy_front-count.ensures.front ∙ ap (take c.copy_front-count.result) rest),
+      λ none. none_left (drop c.args.self.now.at c.args.self.now.bytes.items)
+          (omega (arith, ap length rest, c.copy_front-count.ensures.count, c.args.self.now.piece_is_some, c.requires)),
+    )
+
+pub returns-clause-fails : goal.returns-clause-fails
+returns-clause-fails c on =
+    absurd (false≢true (sym c.if-is_listed.false ∙ (c.is_listed.ensures ∙ ap (list_any (λ n. n == c.args.self.now.reads)) c.as_slice.ensures.value) ∙ on))

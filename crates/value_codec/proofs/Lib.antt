@@ -1,0 +1,2 @@
+pub mod VarintFront
+pub mod VarintLemmas
