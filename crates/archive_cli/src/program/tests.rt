@@ -153,6 +153,33 @@ fn an_input_has_a_limit(rt: HostRuntime) -> Result<(), Fail> {
     Ok(())
 }
 
+#[test]
+fn a_value_has_a_limit_and_a_line_is_ascii(rt: HostRuntime) -> Result<(), Fail> {
+    for (bytes, status) in [(65_536usize, 0u8), (65_537, 2)] {
+        let mut script = b"put 1 0000000000000001 ".to_vec(rt.alloc())?;
+        for _ in 0..bytes {
+            script.extend_from_slice(b"0a")?;
+        }
+        script.push(b'\n')?;
+        let (found, _) = outcome(rt.alloc(), IN_MEMORY, &script, 1 << 20)?;
+        assert_eq!(rt; found, status, "{bytes} bytes");
+    }
+    for line in [
+        b"has \xff\n".as_slice(),
+        b"\xef\xbb\xbfhas 1\n",
+        b"has 1\0\n",
+    ] {
+        let (found, written) = outcome(rt.alloc(), IN_MEMORY, line, 1 << 20)?;
+        assert_eq!(rt; found, 2, "{line:?}");
+        assert_eq!(rt;
+            written.as_slice(),
+            b"error line 1\n".as_slice(),
+            "{line:?}"
+        );
+    }
+    Ok(())
+}
+
 const SCRIPT: &[u8] = b"put 5 0000000000000001 aa\nget 5\n";
 
 const REPLIES: &[u8] = b"ok\nvalue aa\n";
