@@ -55,7 +55,7 @@ returns-then-bytes-len-clause-other_entries g c q other = entered_other _ _ _ q 
 
 pub returns-then-bytes-len-clause-full : goal.returns-then-bytes-len-clause-full
 returns-then-bytes-len-clause-full g c t is =
-    no_room c.in_ok-len.len (length c.args.bytes.now) _ (len_is _ c.args.bytes.now _ (c.requires t) (c.in_ok-len.ensures.told t) (c.in_ok-len.ensures.length t)) c.if-record-len.true
+    no_room c.in_ok-len.len (length c.args.bytes.now) _ (len_is _ c.args.bytes.now _ (c.requires t) (c.in_ok-len.ensures.told t) (c.in_ok-len.ensures.length t)) c.if-bytes-len.true
 
 pub returns-in_err-write_at-clause-other_entries : goal.returns-in_err-write_at-clause-other_entries
 returns-in_err-write_at-clause-other_entries g c q other = others_grown _ _ _ (c.args.partition.now, c.args.name.now) _ _ c.in_ok-len.ensures.opened c.in_err-write_at.ensures.opened_err q other
