@@ -14,25 +14,25 @@ pub fn append<D: Device>(
     dev: &mut D,
     partition: &str,
     name: &[u8],
-    record: &[u8],
+    bytes: &[u8],
 ) -> Result<(), LogError>
     requires { D.Tells → (let b = disk (D.time dev.old) (partition.now, name.now) in Holds b.content b) }
-    ensures done { D.Tells → OnOk result (Holds ((disk (D.time dev.old) (partition.now, name.now)).content ++ record.now) (disk (D.time dev.new) (partition.now, name.now))) }
+    ensures done { D.Tells → OnOk result (Holds ((disk (D.time dev.old) (partition.now, name.now)).content ++ bytes.now) (disk (D.time dev.new) (partition.now, name.now))) }
 
     // At every moment a crash leaves the old bytes, and at most so many more.
     ensures any_moment { D.Tells → (let b = disk (D.time dev.old) (partition.now, name.now) in Always (D.time dev.old) (D.time dev.new)
-        (OnlyAt (partition.now, name.now) (disk (D.time dev.old)) (LeavesFirst b.content (length b.content + length record.now)))) }
+        (OnlyAt (partition.now, name.now) (disk (D.time dev.old)) (LeavesFirst b.content (length b.content + length bytes.now)))) }
     ensures open { OnOk result (IsSome (D.opened dev.new (partition.now, name.now))) }
     ensures other_entries { (q : Key) → q ≢ (partition.now, name.now) → D.opened dev.new q ≡ D.opened dev.old q }
     ensures faults { D.faults dev.old ≤ D.faults dev.new }
     ensures fault { result ≡ Err (LogError.Device DevError.Fault) → Rose (D.faults dev.old) (D.faults dev.new) }
-    ensures full { D.Tells → result ≡ Err LogError.Full → 2 ^ 64 ≤ length (disk (D.time dev.old) (partition.now, name.now)).content + length record.now }
+    ensures full { D.Tells → result ≡ Err LogError.Full → 2 ^ 64 ≤ length (disk (D.time dev.old) (partition.now, name.now)).content + length bytes.now }
 {
     let len = dev.open_blob(partition, name)?;
-    if record.len() as u64 > u64::MAX - len {
+    if bytes.len() as u64 > u64::MAX - len {
         return Err(LogError::Full);
     }
-    dev.write_at(partition, name, len, record)?;
+    dev.write_at(partition, name, len, bytes)?;
     dev.sync(partition, name)?;
     Ok(())
 }
