@@ -1,0 +1,5 @@
+pub mod View
+pub mod Slots
+pub mod SealedPrefix
+pub mod ChanceSeal
+pub mod Flushing
