@@ -1,3 +1,5 @@
 pub mod SlotLemmas
 pub mod SixBytes
 pub mod SealedBytes
+pub mod Steps
+pub mod SlotSteps
