@@ -3,3 +3,4 @@ pub mod SixBytes
 pub mod SealedBytes
 pub mod Steps
 pub mod SlotSteps
+pub mod EntryLemmas

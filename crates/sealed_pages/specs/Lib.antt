@@ -3,3 +3,5 @@ pub mod Slots
 pub mod SealedPrefix
 pub mod ChanceSeal
 pub mod Flushing
+pub mod Entries
+pub mod Buffer
