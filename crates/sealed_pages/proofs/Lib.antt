@@ -4,3 +4,4 @@ pub mod SealedBytes
 pub mod Steps
 pub mod SlotSteps
 pub mod EntryLemmas
+pub mod PageCalls

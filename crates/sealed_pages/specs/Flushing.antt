@@ -2,7 +2,7 @@
 use Rattle.std.specs.Prelude.{◌≡◌, ◌⊎◌, ℕ, ◌+◌, ◌*◌, ◌-◌, ◌<◌, ◌≤◌, ltb, eqb, not, min, Bool, false, cond, List, [], ◌∷◌, length, get_or, Result, OnOk}
 use Rattle.blob_device.specs.Disk.{Key, Blob, settled_at}
 use Rattle.blob_device.specs.Guards.{Sealed}
-use Rattle.blob_device.specs.Timeline.{Timeline, disk}
+use Rattle.blob_device.specs.Timeline.{Timeline, disk, Always, OnlyAt}
 use Rattle.sealed_pages.specs.View.{View, view, page_at, slot_at, Within}
 use Rattle.sealed_pages.specs.Slots.{named_length, slot_length}
 use Rattle.sealed_pages.specs.ChanceSeal.{Sealing}
@@ -86,3 +86,17 @@ module _ (seal : List ℕ → ℕ) (P : ℕ) where
     pub stands : Stands bytes w F σ b
     pub covers : Covers w F σ
     pub content : KeptContent bytes F σ b.content
+
+  -- Pages up to G are flushed: at each moment what settled stands, and then they are flushed too.
+  pub record PageFlushed {T E : Type 0} (bytes : List ℕ) (G L : ℕ) (newest : Bool) (key : Key) (result : Result T E) (old new : Timeline) : Type 0 where
+    pub any_moment : Sealing seal P bytes L key old new
+    pub done : OnOk result (Ready bytes G L newest (disk new key))
+
+-- no other blob changes at any moment
+abbrev pub Alone : Key → Timeline → Timeline → Type 0
+Alone key old new = Always old new (OnlyAt key (disk old) (λ b. Unit {0}))
+
+-- whatever the slots say: no other blob changes, and then the data up to G are these bytes
+pub record Wrote {T E : Type 0} (P : ℕ) (bytes : List ℕ) (G : ℕ) (key : Key) (result : Result T E) (old new : Timeline) : Type 0 where
+  pub alone : Alone key old new
+  pub done : OnOk result (Data P bytes G (view (disk new key).content))
