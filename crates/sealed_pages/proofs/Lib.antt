@@ -5,3 +5,5 @@ pub mod Steps
 pub mod SlotSteps
 pub mod EntryLemmas
 pub mod PageCalls
+pub mod Adopt
+pub mod Repair
