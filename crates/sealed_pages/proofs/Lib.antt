@@ -6,4 +6,6 @@ pub mod SlotSteps
 pub mod EntryLemmas
 pub mod PageCalls
 pub mod Adopt
-pub mod Repair
+pub mod Repairing
+pub mod Keeping
+pub mod Adopting

@@ -2,9 +2,8 @@
 use Rattle.std.specs.Prelude.{◌≡◌, ◌≢◌, ◌⊎◌, ℕ, ◌+◌, ◌*◌, ◌-◌, ◌/◌, ◌^◌, ◌<◌, ◌≤◌, ◌||◌, not, cond, eqb, Bool, true, false, List, ◌++◌, length}
 use Rattle.blob_device.specs.Disk.{Key, Blob, settled_at}
 use Rattle.sealed_pages.specs.View.{view, page_at, slot_at, StandsAt}
-use Rattle.sealed_pages.specs.Slots.{named_length, slot_length}
 use Rattle.sealed_pages.specs.SealedPrefix.{data_from}
-use Rattle.sealed_pages.specs.Flushing.{Ready, KeptContent}
+use Rattle.sealed_pages.specs.Flushing.{Data, Ready, KeptContent, IsClean}
 
 -- where a blob of n bytes ends, with both slots of its last page
 abbrev pub extent : ℕ → ℕ → ℕ
@@ -65,7 +64,7 @@ module _ (seal : List ℕ → ℕ) (P : ℕ) where
     pub longer : behind ≡ true → page_at P (pages_of first from) ≤ length b.content
     pub shorter : behind ≡ false → length b.content ≤ page_at P (pages_of first from)
     pub inside : torn ≡ true → 0 < from
-    pub clean : torn ≡ false → 0 < from → (1 ≤ slot_length seal P b.content first (not newest)) ⊎ (named_length (view b.content) (slot_at P first (not newest)) ≡ 0)
+    pub clean : torn ≡ false → 0 < from → IsClean seal P b.content first (not newest)
 
   -- The state of the blob under a buffer: what is flushed of these bytes is sealed, what settled outlives every crash.
   pub record State (bytes : List ℕ) (first from settled : ℕ) (newest behind torn : Bool) (b : Blob) : Type 0 where
@@ -77,6 +76,10 @@ pub record Holds (seal : List ℕ → ℕ) (u : Buffer) (bytes : List ℕ) (b : 
   pub state : State seal u.page_size bytes u.first u.from u.settled u.newest u.behind u.torn b
   pub tip_at : StandsAt bytes (u.first * u.page_size) u.tip
   pub size : length bytes ≡ size_of u
+
+-- what is flushed of the bytes stands in the blob
+abbrev pub IsBacked : Buffer → List ℕ → Type 0
+IsBacked u content = Data u.page_size (bytes_of u content) (flushed_of u) (view content)
 
 -- The buffer is sealed: the promise on crashes stands of the bytes that it means.
 abbrev pub IsSealed : (List ℕ → ℕ) → Buffer → Blob → Type 0

@@ -100,3 +100,13 @@ Alone key old new = Always old new (OnlyAt key (disk old) (λ b. Unit {0}))
 pub record Wrote {T E : Type 0} (P : ℕ) (bytes : List ℕ) (G : ℕ) (key : Key) (result : Result T E) (old new : Timeline) : Type 0 where
   pub alone : Alone key old new
   pub done : OnOk result (Data P bytes G (view (disk new key).content))
+
+module _ (seal : List ℕ → ℕ) (P : ℕ) where
+  -- a slot that matches, or that names no length
+  abbrev pub IsClean : List ℕ → ℕ → Bool → Type 0
+  IsClean c k second = (1 ≤ slot_length seal P c k second) ⊎ (named_length (view c) (slot_at P k second) ≡ 0)
+
+  -- A step of the first flush after adopting: at each moment what settled stands, and then the blob is as clean as before, and has D.
+  pub record Removed {T E : Type 0} (bytes : List ℕ) (F : ℕ) (w : List ℕ) (σ : ℕ → Bool) (D : List ℕ → Type 0) (key : Key) (result : Result T E) (old new : Timeline) : Type 0 where
+    pub any_moment : Sealing seal P bytes F key old new
+    pub done : OnOk result (Kept seal P bytes F w σ (disk new key) × D (disk new key).content)

@@ -3,6 +3,9 @@
 
 mod flush;
 mod page;
+mod page_blob;
 mod pages;
+mod repair;
 
+pub use page_blob::PageBlob;
 pub use pages::Pages;
