@@ -9,3 +9,4 @@ pub mod Adopt
 pub mod Repairing
 pub mod Keeping
 pub mod Adopting
+pub mod Holding

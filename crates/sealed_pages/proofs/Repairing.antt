@@ -37,7 +37,7 @@ module _ (seal : List ℕ → ℕ) (P : ℕ) where
   adopted_below c k b some = omega (arith, page_length-slot seal P c k b, some, size_bounds c (pages_in P c) k (slot_inside seal P c k b some) (omega (arith, some, page_length-slot seal P c k b)))
 
   -- pages in order
-  page_order : (j m : ℕ) → j ≤ m → page_at P j ≤ page_at P m
+  pub page_order : (j m : ℕ) → j ≤ m → page_at P j ≤ page_at P m
   page_order j m le = elim (cases_eq j m) [
     | inl same ↦ omega (arith, ap (page_at P) same)
     | inr other ↦ (let more : j < m = omega (arith, le, other) in omega (arith, page_apart P j m more))

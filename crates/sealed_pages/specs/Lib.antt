@@ -5,3 +5,4 @@ pub mod ChanceSeal
 pub mod Flushing
 pub mod Entries
 pub mod Buffer
+pub mod Shown

@@ -3,7 +3,7 @@ use Rattle.std.specs.Prelude.{ℕ, List, string_bytes}
 use Rattle.sealed_pages.specs.declared.page_blob.PageBlob.{PageBlob}
 use Rattle.sealed_pages.specs.Buffer.{Buffer}
 
-abbrev pub shown : {S : Type 0} → PageBlob S → Buffer
+abbrev pub shown : {S : Type 0} {g : _} → PageBlob S g → Buffer
 shown p = record {
   partition = string_bytes p.partition;
   name = p.name.items;
