@@ -100,7 +100,7 @@ holds_more seal u v all more b is holds = subst (λ (x : Buffer). Holds seal x (
   size = omega (arith, holds.size, length-append all more, length-append u.tip more);
 })
 
-bool_or : (x : Bool) → (x ≡ true) ⊎ (x ≡ false)
+pub bool_or : (x : Bool) → (x ≡ true) ⊎ (x ≡ false)
 bool_or true = inl refl
 bool_or false = inr refl
 
@@ -158,7 +158,7 @@ bytes_is u all content pos same at size = ext_get_or 0 (bytes_of u content) all 
       | inr past ↦ in_tip i past lt
     ]
 
-data_less : (P F G : ℕ) (all : List ℕ) (v : View) → G ≤ F → Data P all F v → Data P all G v
+pub data_less : (P F G : ℕ) (all : List ℕ) (v : View) → G ≤ F → Data P all F v → Data P all G v
 data_less P F G all v le same k i lt below = same k i lt (omega (arith, below, le))
 
 pub holds_bytes : (seal : List ℕ → ℕ) (u : Buffer) (all : List ℕ) (b : Blob) → 0 < u.page_size → Holds seal u all b → bytes_of u b.content ≡ all

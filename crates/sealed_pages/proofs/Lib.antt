@@ -10,3 +10,4 @@ pub mod Repairing
 pub mod Keeping
 pub mod Adopting
 pub mod Holding
+pub mod Syncing

@@ -1,5 +1,5 @@
 // A buffer over a blob whose pages carry seals.
-ghost use Rattle.std.specs.Prelude.{◌≡◌, ◌≢◌, ◌+◌, ◌*◌, ◌≤◌, ◌<◌, ◌^◌, ◌-◌, ◌++◌, ◌↔◌, ◌==◌, not, length, drop, IfOk, OnErr, Bool, true, false, ℕ, List, IsTrue};
+ghost use Rattle.std.specs.Prelude.{◌≡◌, ◌≢◌, ◌+◌, ◌*◌, ◌≤◌, ◌<◌, ◌^◌, ◌-◌, ◌++◌, ◌↔◌, ◌==◌, ◌||◌, ◌⊎◌, Err, not, length, drop, IfOk, OnErr, Bool, true, false, ℕ, List, IsTrue};
 ghost use Rattle.std.specs.Result.{IsErrOf};
 ghost use Rattle.blob_device.specs.declared.runtime.RError.TheVariants.{Fault, OffsetOverflow};
 ghost use Rattle.blob_device.specs.Timeline.{disk};
@@ -83,7 +83,7 @@ fn last_slot_of(
 
 impl<S: Seal> PageBlob<S> {
     ghost use Rattle.sealed_pages.specs.Shown.{shown};
-    ghost use Rattle.sealed_pages.specs.View.{view};
+    ghost use Rattle.sealed_pages.specs.View.{view, StandsAt};
     ghost use Rattle.sealed_pages.specs.Buffer.{IsBacked, has_leftover};
     ghost use Rattle.sealed_pages.specs.Flushing.{Data, Wrote};
 
@@ -142,6 +142,191 @@ impl<S: Seal> PageBlob<S> {
         this.end = end;
         this.behind = false;
         this.torn = false;
+        Ok(this)
+    }
+
+    // Writes the pages of the tip. Only the bytes of a last page that is not full stay in it.
+    fn written<D: Device>(self, dev: &mut D) -> Result<PageBlob<S>, DevError>
+        requires open { IsOpenAt (D.opened dev.old) (key_of (shown self)) self.end }
+        requires clean { (self.behind || self.torn) ≡ false }
+        ensures told { D.Tells → (all : List ℕ) → Holds S.seal_of (shown self) all (disk (D.time dev.old) (key_of (shown self)))
+            → Sealing S.seal_of self.page_size all self.settled (key_of (shown self)) (D.time dev.old) (D.time dev.new) }
+        ensures done { D.Tells → (all : List ℕ) → Holds S.seal_of (shown self) all (disk (D.time dev.old) (key_of (shown self)))
+            → IfOk result (λ r. Holds S.seal_of (shown r) all (disk (D.time dev.new) (key_of (shown self)))) }
+        ensures wrote { D.Tells → (all : List ℕ) → Data self.page_size all (flushed_of (shown self)) (view (disk (D.time dev.old) (key_of (shown self))).content)
+            → StandsAt all (self.first * self.page_size) self.tip.items
+            → Wrote self.page_size all (size_of (shown self)) (key_of (shown self)) result (D.time dev.old) (D.time dev.new) }
+        ensures same { IfOk result (λ r. shown r ≡ record (shown self) { end = r.end; first = r.first; tip = r.tip.items; from = length r.tip.items }) }
+        ensures size { IfOk result (λ r. size_of (shown r) ≡ size_of (shown self)) }
+        ensures tip { IfOk result (λ r. (all : List ℕ) → StandsAt all (self.first * self.page_size) self.tip.items → StandsAt all (r.first * r.page_size) r.tip.items) }
+        ensures length { IfOk result (λ r. IsOpenAt (D.opened dev.new) (key_of (shown self)) r.end) }
+        ensures entries { NoReads (key_of (shown self)) (D.opened dev.old) (D.opened dev.new) }
+        ensures faults { D.faults dev.old ≤ D.faults dev.new }
+        ensures cause { result ≡ Err DevError.Fault → Rose (D.faults dev.old) (D.faults dev.new) }
+    {
+        let end = flush_pages::<D, S>(
+            dev,
+            self.partition.as_str(),
+            self.name.as_slice(),
+            self.page_size,
+            self.end,
+            self.first,
+            self.from,
+            self.tip.as_slice(),
+            self.settled,
+            self.newest,
+        )?;
+        let size = usize::from(self.page_size);
+        let full = self.tip.len() / size;
+        let PageBlob {
+            alloc,
+            partition,
+            name,
+            page_size,
+            capacity,
+            first,
+            mut tip,
+            settled,
+            newest,
+            behind,
+            torn,
+            seal,
+            ..
+        } = self;
+        drop_front(&mut tip, full * size);
+        let from = tip.len();
+        Ok(PageBlob {
+            alloc,
+            partition,
+            name,
+            page_size,
+            capacity,
+            end,
+            first: first + full as u64,
+            tip,
+            from,
+            settled,
+            newest,
+            behind,
+            torn,
+            seal,
+        })
+    }
+
+    // Writes what is not yet flushed.
+    fn flush<D: Device>(self, dev: &mut D) -> Result<PageBlob<S>, DevError>
+        requires open { IsOpenAt (D.opened dev.old) (key_of (shown self)) self.end }
+        ensures told { D.Tells → (all : List ℕ) → Holds S.seal_of (shown self) all (disk (D.time dev.old) (key_of (shown self)))
+            → Sealing S.seal_of self.page_size all self.settled (key_of (shown self)) (D.time dev.old) (D.time dev.new) }
+        ensures done { D.Tells → (all : List ℕ) → Holds S.seal_of (shown self) all (disk (D.time dev.old) (key_of (shown self)))
+            → IfOk result (λ r. Holds S.seal_of (shown r) all (disk (D.time dev.new) (key_of (shown self)))) }
+        ensures wrote { D.Tells → (all : List ℕ) → Data self.page_size all (flushed_of (shown self)) (view (disk (D.time dev.old) (key_of (shown self))).content)
+            → StandsAt all (self.first * self.page_size) self.tip.items
+            → Wrote self.page_size all (size_of (shown self)) (key_of (shown self)) result (D.time dev.old) (D.time dev.new) }
+        ensures key { IfOk result (λ r. key_of (shown r) ≡ key_of (shown self)) }
+        ensures page_size { IfOk result (λ r. r.page_size ≡ self.page_size) }
+        ensures capacity { IfOk result (λ r. r.capacity ≡ self.capacity) }
+        ensures settled { IfOk result (λ r. r.settled ≡ self.settled) }
+        ensures newest { IfOk result (λ r. r.newest ≡ self.newest) }
+        ensures flushed { IfOk result (λ r. r.from ≡ length r.tip.items) }
+        ensures size { IfOk result (λ r. size_of (shown r) ≡ size_of (shown self)) }
+        ensures tip { IfOk result (λ r. (all : List ℕ) → StandsAt all (self.first * self.page_size) self.tip.items → StandsAt all (r.first * r.page_size) r.tip.items) }
+        ensures length { IfOk result (λ r. IsOpenAt (D.opened dev.new) (key_of (shown self)) r.end) }
+        ensures entries { NoReads (key_of (shown self)) (D.opened dev.old) (D.opened dev.new) }
+        ensures faults { D.faults dev.old ≤ D.faults dev.new }
+        ensures cause { result ≡ Err DevError.Fault → Rose (D.faults dev.old) (D.faults dev.new) }
+    {
+        if self.from >= self.tip.len() {
+            return Ok(self);
+        }
+        let this = self.repaired(dev)?;
+        this.written(dev)
+    }
+
+    /// Adds bytes at the end. The answer has the place of the first of them. All that is not flushed is flushed where it is
+    /// then at least as long as the capacity; below that no call of the device is made.
+    pub fn append<D: Device>(
+        self,
+        dev: &mut D,
+        bytes: &[u8],
+    ) -> Result<(PageBlob<S>, u64), RError>
+        requires open { IsOpenAt (D.opened dev.old) (key_of (shown self)) self.end }
+        // At every moment, also inside a call of the device, each crash leaves a blob whose sealed prefix is a prefix
+        // of the bytes, those of this call included, and no shorter than what has settled.
+        ensures crashes { D.Tells → IsSealed S.seal_of (shown self) (disk (D.time dev.old) (key_of (shown self)))
+            → Sealing S.seal_of self.page_size (bytes_of (shown self) (disk (D.time dev.old) (key_of (shown self))).content ++ bytes.now) self.settled (key_of (shown self)) (D.time dev.old) (D.time dev.new) }
+        ensures sealed { D.Tells → IsSealed S.seal_of (shown self) (disk (D.time dev.old) (key_of (shown self)))
+            → IfOk result (λ r. IsSealed S.seal_of (shown r.0) (disk (D.time dev.new) (key_of (shown self)))) }
+        ensures alone { D.Tells → IsBacked (shown self) (disk (D.time dev.old) (key_of (shown self))).content → Alone (key_of (shown self)) (D.time dev.old) (D.time dev.new) }
+        ensures bytes { D.Tells → IsBacked (shown self) (disk (D.time dev.old) (key_of (shown self))).content
+            → IfOk result (λ r. bytes_of (shown r.0) (disk (D.time dev.new) (key_of (shown self))).content ≡ bytes_of (shown self) (disk (D.time dev.old) (key_of (shown self))).content ++ bytes.now) }
+        ensures backed { D.Tells → IsBacked (shown self) (disk (D.time dev.old) (key_of (shown self))).content
+            → IfOk result (λ r. IsBacked (shown r.0) (disk (D.time dev.new) (key_of (shown self))).content) }
+        ensures below { length self.tip.items + length bytes.now < self.from + self.capacity → D.time dev.new ≡ D.time dev.old }
+        ensures at { IfOk result (λ r. r.1 ≡ size_of (shown self)) }
+        ensures size { IfOk result (λ r. size_of (shown r.0) ≡ size_of (shown self) + length bytes.now) }
+        ensures key { IfOk result (λ r. key_of (shown r.0) ≡ key_of (shown self)) }
+        ensures page_size { IfOk result (λ r. r.0.page_size ≡ self.page_size) }
+        ensures capacity { IfOk result (λ r. r.0.capacity ≡ self.capacity) }
+        ensures settled { IfOk result (λ r. r.0.settled ≡ self.settled) }
+        ensures length { IfOk result (λ r. IsOpenAt (D.opened dev.new) (key_of (shown self)) r.0.end) }
+        ensures entries { NoReads (key_of (shown self)) (D.opened dev.old) (D.opened dev.new) }
+        ensures overflow { IsErrOf result OffsetOverflow ↔ 2 ^ 64 ≤ extent self.page_size (size_of (shown self) + length bytes.now) }
+        ensures faults { D.faults dev.old ≤ D.faults dev.new }
+        ensures cause { OnErr result ((result ≡ Err RError.OffsetOverflow) ⊎ ((result ≡ Err RError.Mem) ⊎ ((result ≡ Err RError.Fault) × Rose (D.faults dev.old) (D.faults dev.new)))) }
+    {
+        let at = self.size();
+        if !fits(self.page_size, at, bytes.len()) {
+            return Err(RError::OffsetOverflow);
+        }
+        let mut this = self;
+        this.tip.extend_from_slice(bytes)?;
+        if this.tip.len() - this.from < this.capacity {
+            return Ok((this, at));
+        }
+        let this = this.flush(dev)?;
+        Ok((this, at))
+    }
+
+    /// Settles all bytes. Where none is unsettled, it makes no call of the device.
+    pub fn sync<D: Device>(self, dev: &mut D) -> Result<PageBlob<S>, RError>
+        requires open { IsOpenAt (D.opened dev.old) (key_of (shown self)) self.end }
+        ensures crashes { D.Tells → IsSealed S.seal_of (shown self) (disk (D.time dev.old) (key_of (shown self)))
+            → Sealing S.seal_of self.page_size (bytes_of (shown self) (disk (D.time dev.old) (key_of (shown self))).content) self.settled (key_of (shown self)) (D.time dev.old) (D.time dev.new) }
+        ensures sealed { D.Tells → IsSealed S.seal_of (shown self) (disk (D.time dev.old) (key_of (shown self)))
+            → IfOk result (λ r. IsSealed S.seal_of (shown r) (disk (D.time dev.new) (key_of (shown self)))) }
+        ensures alone { D.Tells → IsBacked (shown self) (disk (D.time dev.old) (key_of (shown self))).content → Alone (key_of (shown self)) (D.time dev.old) (D.time dev.new) }
+        ensures bytes { D.Tells → IsBacked (shown self) (disk (D.time dev.old) (key_of (shown self))).content
+            → IfOk result (λ r. bytes_of (shown r) (disk (D.time dev.new) (key_of (shown self))).content ≡ bytes_of (shown self) (disk (D.time dev.old) (key_of (shown self))).content) }
+        ensures backed { D.Tells → IsBacked (shown self) (disk (D.time dev.old) (key_of (shown self))).content
+            → IfOk result (λ r. IsBacked (shown r) (disk (D.time dev.new) (key_of (shown self))).content) }
+        ensures idle { self.settled ≡ size_of (shown self) → D.time dev.new ≡ D.time dev.old }
+        ensures settled { IfOk result (λ r. r.settled ≡ size_of (shown r)) }
+        ensures size { IfOk result (λ r. size_of (shown r) ≡ size_of (shown self)) }
+        ensures key { IfOk result (λ r. key_of (shown r) ≡ key_of (shown self)) }
+        ensures page_size { IfOk result (λ r. r.page_size ≡ self.page_size) }
+        ensures capacity { IfOk result (λ r. r.capacity ≡ self.capacity) }
+        ensures length { IfOk result (λ r. IsOpenAt (D.opened dev.new) (key_of (shown self)) r.end) }
+        ensures entries { NoReads (key_of (shown self)) (D.opened dev.old) (D.opened dev.new) }
+        ensures faults { D.faults dev.old ≤ D.faults dev.new }
+        ensures cause { OnErr result ((result ≡ Err RError.Mem) ⊎ ((result ≡ Err RError.Fault) × Rose (D.faults dev.old) (D.faults dev.new))) }
+    {
+        if !self.needs_sync() {
+            return Ok(self);
+        }
+        let mut this = self.flush(dev)?;
+        dev.sync(this.partition.as_str(), this.name.as_slice())?;
+        let end = this.flushed();
+        let slot = last_slot_of(
+            this.page_size,
+            this.first,
+            this.from,
+            end,
+            this.settled,
+            this.newest,
+        );
+        this.settled = end;
+        this.newest = slot;
         Ok(this)
     }
 }
