@@ -5,7 +5,8 @@ use Rattle.blob_device.specs.Disk.{Key}
 use Rattle.blob_device.specs.Opened.{Opened, OpenedList, updated, with_len, one_more_read, reads_of, PartlyGrown}
 use Rattle.blob_device.proofs.Puts.{put_same, put_other}
 use Rattle.blob_device.proofs.OpenedLemmas.{updated_other}
-use Rattle.sealed_pages.specs.Entries.{IsOpenAt, NoReads, ReadsAtMost}
+use Rattle.sealed_pages.specs.Entries.{IsOpenAt, NoReads}
+use Rattle.sealed_pages.specs.Reading.{OnlyRead}
 
 pub open_some : (o : OpenedList) (k : Key) (n : ℕ) → IsOpenAt o k n → IsSome (o k)
 open_some o k n is = go (o k) is
@@ -71,3 +72,20 @@ open_resized k old new m n same was = open_updated k old new (with_len m) n m sa
 
 pub open_same : (k : Key) (old new : OpenedList) (n : ℕ) → new ≡ old → IsOpenAt old k n → IsOpenAt new k n
 open_same k old new n same was = subst (λ (o : OpenedList). IsOpenAt o k n) (sym same) was
+
+-- as far as the blob reaches
+pub open_within : (o : OpenedList) (k : Key) (n m : ℕ) → IsOpenAt o k n → m ≤ n → IsSomeAnd (o k) (λ x. m ≤ x.len)
+open_within o k n m is le = go (o k) is
+  where
+    go : (e : Option Opened) → IsSomeAnd e (λ x. x.len ≡ n) → IsSomeAnd e (λ x. m ≤ x.len)
+    go None is = is
+    go (Some x) is = omega (arith, is, le)
+
+pub only_read_start : (k : Key) (o : OpenedList) → OnlyRead k o o
+only_read_start k o = record { others = λ q other. refl; length = λ n is. is }
+
+pub only_read_once : (k : Key) (old new : OpenedList) → new ≡ updated old k one_more_read → OnlyRead k old new
+only_read_once k old new same = record { others = λ q other. updated_other new old k q one_more_read same other; length = λ n is. open_updated k old new one_more_read n n same (λ o e. e) is }
+
+pub only_read_then : (k : Key) (a b c : OpenedList) → OnlyRead k a b → OnlyRead k b c → OnlyRead k a c
+only_read_then k a b c first second = record { others = λ q other. second.others q other ∙ first.others q other; length = λ n is. second.length n (first.length n is) }

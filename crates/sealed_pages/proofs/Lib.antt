@@ -11,3 +11,4 @@ pub mod Keeping
 pub mod Adopting
 pub mod Holding
 pub mod Syncing
+pub mod Looking

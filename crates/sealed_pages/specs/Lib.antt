@@ -6,3 +6,5 @@ pub mod Flushing
 pub mod Entries
 pub mod Buffer
 pub mod Shown
+pub mod Reading
+pub mod Found

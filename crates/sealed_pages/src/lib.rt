@@ -5,6 +5,7 @@ mod flush;
 mod page;
 mod page_blob;
 mod pages;
+mod reading;
 mod repair;
 
 pub use page_blob::PageBlob;
