@@ -12,3 +12,4 @@ pub mod Adopting
 pub mod Holding
 pub mod Syncing
 pub mod Looking
+pub mod Starting

@@ -186,3 +186,9 @@ size_none seal P c k none = ap (λ (t : Bool). cond t (size_below seal P c k) (k
 pub size_zero : (seal : List ℕ → ℕ) (P : ℕ) (c : List ℕ) → size_below seal P c 0 ≡ 0
 unfolding size_below
 size_zero seal P c = refl
+
+-- a slot of zeros names no length
+pub blank_named : (seal : List ℕ → ℕ) (P : ℕ) (c : List ℕ) (k : ℕ) (x : Bool) → ((i : ℕ) → i < 6 → get_or (page_of P c k) (slot_at P 0 x + i) 0 ≡ 0) → named_length (view c) (slot_at P k x) ≡ 0
+blank_named seal P c k x zeros = zero_named (view c) (slot_at P k x) (λ i lt.
+    let e : page_at P k + (slot_at P 0 x + i) ≡ slot_at P k x + i = omega (arith, offset seal P c k x) in
+    sym (ap (view c) e) ∙ sym (part_view seal P c k (slot_at P 0 x + i) (omega (arith, lt, low seal P c k x))) ∙ zeros i (omega (arith, lt)))

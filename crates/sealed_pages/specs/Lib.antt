@@ -8,3 +8,4 @@ pub mod Buffer
 pub mod Shown
 pub mod Reading
 pub mod Found
+pub mod Starts

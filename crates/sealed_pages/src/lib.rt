@@ -7,6 +7,7 @@ mod page_blob;
 mod pages;
 mod reading;
 mod repair;
+mod start;
 
 pub use page_blob::PageBlob;
 pub use pages::Pages;
