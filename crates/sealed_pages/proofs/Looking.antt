@@ -77,7 +77,7 @@ front_at P n c fits = ext_get_or 0 (bytes_at (view c) (page_at P 0) n) (take n c
 
 -- A page by itself, and in the blob.
 module _ (seal : List ℕ → ℕ) (P : ℕ) (c : List ℕ) (k : ℕ) where
-  part_view : (i : ℕ) → i < P + 12 → view (page_of P c k) i ≡ view c (page_at P k + i)
+  pub part_view : (i : ℕ) → i < P + 12 → view (page_of P c k) i ≡ view c (page_at P k + i)
   part_view i lt = get_or-take (P + 12) (drop (page_at P k) c) i 0 lt ∙ get_or-drop (page_at P k) c i 0
 
   part_length : length (page_of P c k) ≡ min (P + 12) (length c - page_at P k)
@@ -192,3 +192,13 @@ pub blank_named : (seal : List ℕ → ℕ) (P : ℕ) (c : List ℕ) (k : ℕ) (
 blank_named seal P c k x zeros = zero_named (view c) (slot_at P k x) (λ i lt.
     let e : page_at P k + (slot_at P 0 x + i) ≡ slot_at P k x + i = omega (arith, offset seal P c k x) in
     sym (ap (view c) e) ∙ sym (part_view seal P c k (slot_at P 0 x + i) (omega (arith, lt, low seal P c k x))) ∙ zeros i (omega (arith, lt)))
+
+-- a page with a matching slot has all its data bytes
+pub page_reaches : (seal : List ℕ → ℕ) (P : ℕ) (c : List ℕ) (k : ℕ) → 1 ≤ page_length seal P c k → P ≤ length (page_of P c k)
+page_reaches seal P c k some = elim (cases_lt 0 (slot_length seal P c k false)) [
+  | inl first ↦ omega (arith, slot_stands seal P c k false first, part_length seal P c k)
+  | inr none ↦ (let second : 1 ≤ slot_length seal P c k true = omega (arith, none, some, page_length_is seal P c k) in omega (arith, slot_stands seal P c k true second, part_length seal P c k))
+]
+
+pub below_some : {A : Type 0} (r : Option A) (p : A) (Q : A → Type 0) → r ≡ Some p → IfSome r Q → Q p
+below_some {A = A} r p Q is below = subst (λ (x : Option A). IfSome x Q) is below

@@ -11,7 +11,10 @@ ghost use Rattle.sealed_pages.specs.Buffer.{Fit, Buffer, extent, key_of, size_of
 ghost use Rattle.sealed_pages.specs.Entries.{IsOpenAt, NoReads};
 
 use crate::flush::{flush_pages, next_slot_of};
+use crate::Pages;
+use crate::reading::find_last;
 use crate::repair::repair;
+use crate::start::start_of;
 use blob_device::{DevError, Device, RError};
 use std::alloc::Global;
 use std::marker::PhantomData;
@@ -83,9 +86,71 @@ fn last_slot_of(
 
 impl<S: Seal> PageBlob<S> {
     ghost use Rattle.sealed_pages.specs.Shown.{shown};
+    ghost use Rattle.blob_device.specs.Disk.{settled_at};
+    ghost use Rattle.sealed_pages.specs.SealedPrefix.{sealed_prefix, adopted_size};
+    ghost use Rattle.sealed_pages.specs.Reading.{Unchanged, OnlyRead};
     ghost use Rattle.sealed_pages.specs.View.{view, StandsAt};
     ghost use Rattle.sealed_pages.specs.Buffer.{IsBacked, has_leftover};
     ghost use Rattle.sealed_pages.specs.Flushing.{Data, Wrote};
+
+    /// Adopts an opened blob of this length. The size goes back to the last page with a matching slot.
+    ///
+    /// It answers `OffsetOverflow` exactly where a page behind the blob's end would pass the greatest `u64`.
+    pub fn adopt<D: Device>(
+        alloc: Global,
+        dev: &mut D,
+        partition: &str,
+        name: &[u8],
+        size: u64,
+        capacity: usize,
+        pages: Pages,
+    ) -> Result<PageBlob<S>, RError>
+        requires valid { 1 ≤ pages.page_size }
+        requires open { IsOpenAt (D.opened dev.old) (partition.now, name.now) size }
+        ensures size { D.Tells → IfOk result (λ r. size_of (shown r) ≡ adopted_size S.seal_of pages.page_size (disk (D.time dev.old) (partition.now, name.now)).content) }
+        ensures backed { D.Tells → IfOk result (λ r. IsBacked (shown r) (disk (D.time dev.old) (partition.now, name.now)).content) }
+        // Where the blob has settled, and its sealed prefix is the size, the promise on crashes begins.
+        ensures sealed { D.Tells → disk (D.time dev.old) (partition.now, name.now) ≡ settled_at (disk (D.time dev.old) (partition.now, name.now)).content
+            → length (sealed_prefix S.seal_of pages.page_size (disk (D.time dev.old) (partition.now, name.now)).content) ≡ adopted_size S.seal_of pages.page_size (disk (D.time dev.old) (partition.now, name.now)).content
+            → IfOk result (λ r. IsSealed S.seal_of (shown r) (disk (D.time dev.old) (partition.now, name.now))) }
+        ensures unchanged { D.Tells → Unchanged (D.time dev.old) (D.time dev.new) }
+        ensures settled { IfOk result (λ r. r.settled ≡ size_of (shown r)) }
+        ensures key { IfOk result (λ r. key_of (shown r) ≡ (partition.now, name.now)) }
+        ensures page_size { IfOk result (λ r. r.page_size ≡ pages.page_size) }
+        ensures capacity { IfOk result (λ r. r.capacity ≡ capacity) }
+        ensures end { IfOk result (λ r. r.end ≡ size) }
+        ensures entries { OnlyRead (partition.now, name.now) (D.opened dev.old) (D.opened dev.new) }
+        ensures overflow { IsErrOf result OffsetOverflow ↔ 2 ^ 64 ≤ size + (pages.page_size + 12) }
+        ensures faults { D.faults dev.old ≤ D.faults dev.new }
+        ensures cause { OnErr result ((result ≡ Err RError.OffsetOverflow) ⊎ ((result ≡ Err RError.Mem) ⊎ ((result ≡ Err RError.Fault) × Rose (D.faults dev.old) (D.faults dev.new)))) }
+    {
+        let unit = usize::from(pages.page_size) + 12;
+        if u64::MAX - size < unit as u64 {
+            return Err(RError::OffsetOverflow);
+        }
+        let mut buf = vec![in alloc; 0; unit]?;
+        let found = find_last::<D, S>(dev, partition, name, pages.page_size, size, buf.as_mut_slice())?;
+        let start = start_of::<S>(pages.page_size, size, &found, buf.as_slice());
+        let partition = String::from_str(alloc, partition)?;
+        let name = name.to_vec(alloc)?;
+        let tip = buf[..start.from].to_vec(alloc)?;
+        Ok(PageBlob {
+            alloc,
+            partition,
+            name,
+            page_size: pages.page_size,
+            capacity,
+            end: size,
+            first: start.first,
+            tip,
+            from: start.from,
+            settled: start.first * u64::from(pages.page_size) + start.from as u64,
+            newest: start.newest,
+            behind: start.behind,
+            torn: start.torn,
+            seal: PhantomData,
+        })
+    }
 
     /// How many bytes are flushed.
     fn flushed(&self) -> u64

@@ -1,5 +1,5 @@
 // Reading a page and its slots.
-ghost use Rattle.std.specs.Prelude.{◌≡◌, ◌≢◌, ◌+◌, ◌*◌, ◌≤◌, ◌<◌, ◌^◌, ◌-◌, length, take, IfOk, IfSome, Bool, ℕ, List};
+ghost use Rattle.std.specs.Prelude.{◌≡◌, ◌≢◌, ◌+◌, ◌*◌, ◌≤◌, ◌<◌, ◌^◌, ◌-◌, length, take, max, IfOk, IfSome, Bool, ℕ, List};
 ghost use Rattle.blob_device.specs.Timeline.{disk};
 ghost use Rattle.blob_device.specs.Counts.{Rose};
 ghost use Rattle.sealed_pages.specs.View.{page_at, slot_at};
@@ -74,6 +74,7 @@ pub fn read_page<D: Device>(
 }
 
 /// The last page with a matching slot: its number, the lengths of its slots, and how many of its bytes stand below the end.
+#[derive(Clone, Copy)]
 pub struct LastPage {
     pub page: u64,
     pub first_len: usize,
@@ -93,7 +94,7 @@ pub fn find_last<D: Device, S: Seal>(
     requires open { IsOpenAt (D.opened dev.old) (partition.now, name.now) end }
     requires buf { length buf.old ≡ page_size + 12 }
     ensures found { D.Tells → IfOk result (λ r. Finds S.seal_of page_size (disk (D.time dev.old) (partition.now, name.now)).content (found_of r) buf.new) }
-    ensures below { IfOk result (λ r. IfSome r (λ p. (page_at page_size p.page ≤ end) × (p.have ≤ page_size + 12))) }
+    ensures below { IfOk result (λ r. IfSome r (λ p. (page_at page_size p.page ≤ end) × (p.have ≤ page_size + 12) × (p.first_len ≤ page_size) × (p.second_len ≤ page_size) × (1 ≤ max p.first_len p.second_len))) }
     ensures unchanged { D.Tells → Unchanged (D.time dev.old) (D.time dev.new) }
     ensures entries { OnlyRead (partition.now, name.now) (D.opened dev.old) (D.opened dev.new) }
     ensures faults { D.faults dev.old ≤ D.faults dev.new }

@@ -4,6 +4,7 @@ use Rattle.blob_device.specs.Timeline.{disk}
 use Rattle.sealed_pages.specs.Reading.{page_of}
 use Rattle.sealed_pages.specs.Slots.{slot_length, page_length}
 use Rattle.sealed_pages.specs.SealedPrefix.{size_below}
+use Rattle.sealed_pages.proofs.SlotLemmas.{slot_length-le}
 use Rattle.sealed_pages.proofs.EntryLemmas.{only_read_then}
 use Rattle.sealed_pages.proofs.Looking.{unchanged_now, unchanged_then, part_slot, page_below, page_length_is, size_found, size_none, size_zero}
 use Rattle.sealed_pages.proofs.reading.find_last.Goals as goal
@@ -14,7 +15,8 @@ read_page-requires-clause-room g c =
     omega (arith, below, c.ranges.end.fits)
 
 pub returns-then-max-gt0-clause-below : goal.returns-then-max-gt0-clause-below
-returns-then-max-gt0-clause-below g c = (page_below c.args.page_size c.args.end (c.back.page - 1) (omega (arith, c.back.invariant.low, c.back-test.true)), c.in_ok-have.ensures.within)
+returns-then-max-gt0-clause-below g c = (page_below c.args.page_size c.args.end (c.back.page - 1) (omega (arith, c.back.invariant.low, c.back-test.true)), c.in_ok-have.ensures.within,
+    omega (arith, c.matching_len-first_len.ensures, slot_length-le g.S.Seal.seal_of c.args.page_size (take c.in_ok-have.have c.read_page.new.buf) 0 false), omega (arith, c.matching_len-second_len.ensures, slot_length-le g.S.Seal.seal_of c.args.page_size (take c.in_ok-have.have c.read_page.new.buf) 0 true), omega (arith, c.max.ensures, c.if-max-gt0.true))
 
 pub returns-then-max-gt0-clause-found : goal.returns-then-max-gt0-clause-found
 returns-then-max-gt0-clause-found g c t =
