@@ -1,8 +1,8 @@
 -- How a buffer starts over an adopted blob.
-use Rattle.std.proofs.Common.{◌≡◌, ◌≢◌, ◌⊎◌, inl, inr, ℕ, ◌+◌, ◌-◌, ◌*◌, ◌<◌, ◌≤◌, not, ltb, max, Bool, true, false, cond, List, length, get_or, take, length-take, Option, Some, None, refl, sym, ◌∙◌, ap, subst, arith}
+use Rattle.std.proofs.Common.{◌≡◌, ◌≢◌, ◌⊎◌, inl, inr, ℕ, ◌+◌, ◌-◌, ◌*◌, ◌/◌, ◌^◌, ◌<◌, ◌≤◌, not, ltb, max, Bool, true, false, cond, List, length, get_or, take, length-take, Option, Some, None, refl, sym, ◌∙◌, ap, subst, arith}
 use Rattle.std.proofs.lemmas.Bool.{cases_lt, cases_order, ltb-true, ltb-false}
 use Rattle.blob_device.specs.Disk.{Blob, settled_at}
-use Rattle.sealed_pages.specs.Buffer.{Buffer, bytes_of, pages_of, Adopted, IsBacked}
+use Rattle.sealed_pages.specs.Buffer.{extent, Buffer, bytes_of, pages_of, Adopted, IsBacked}
 use Rattle.sealed_pages.specs.Flushing.{Data, Covers, Below, KeptContent, IsClean}
 use Rattle.sealed_pages.specs.Found.{Finds}
 use Rattle.sealed_pages.specs.Reading.{page_of}
@@ -11,11 +11,13 @@ use Rattle.sealed_pages.specs.Slots.{slot_length, page_length, best_slot}
 use Rattle.sealed_pages.specs.Starts.{Starts, StartsOver}
 use Rattle.sealed_pages.specs.View.{view, page_at, slot_at}
 use Rattle.sealed_pages.specs.declared.reading.LastPage.{LastPage}
-use Rattle.sealed_pages.proofs.Repairing.{adopted_below}
+use Rattle.sealed_pages.proofs.Repairing.{adopted_below, page_order}
 use Rattle.sealed_pages.proofs.SlotLemmas.{times_next, times_more, slot_stands, slot_length-le}
 use Rattle.std.proofs.lemmas.List.{get_or_append_left, get_or-append_right, get_or-take}
 use Rattle.sealed_pages.proofs.Adopt.{own_data, length-data_from, best_covers}
-use Rattle.sealed_pages.proofs.Adopting.{pages_none, pages_some}
+use Rattle.sealed_pages.proofs.Adopting.{pages_none, pages_some, pages_reach}
+use Rattle.sealed_pages.proofs.Holding.{extent_more}
+use Rattle.std.proofs.Math.Nat.{div-lt_iff_lt-mul}
 use Rattle.sealed_pages.proofs.Looking.{page_length_is, blank_named, page_zero, page_reaches, part_view}
 
 module _ (seal : List ℕ → ℕ) (P : ℕ) (c : List ℕ) (page a b : ℕ) (first : a ≡ slot_length seal P c page false) (second : b ≡ slot_length seal P c page true) (some : 1 ≤ page_length seal P c page) where
@@ -153,3 +155,15 @@ module _ (seal : List ℕ → ℕ) (P : ℕ) (c : List ℕ) (found : Option Last
       go : (r : Option LastPage) → Finds seal P c r buf → StartsOver seal P c r first from newest behind torn → get_or buf i 0 ≡ view c (page_at P first + i)
       go None finds s = absurd (omega (arith, lt, s.1))
       go (Some p) finds s = here p finds s
+
+pub extent_pages : (P first from : ℕ) → from < P → extent P (first * P + from) ≤ page_at P (pages_of first from)
+extent_pages P first from begun =
+    let reach = pages_reach P first from begun in
+    let next = times_next (pages_of first from) P in
+    let below : first * P + from + (P - 1) < (pages_of first from + 1) * P = omega (arith, reach, next, begun) in
+    let pos : 0 < P = omega (arith, begun) in
+    let few : (first * P + from + (P - 1)) / P < pages_of first from + 1 = (div-lt_iff_lt-mul {k = P} {x = first * P + from + (P - 1)} {y = pages_of first from + 1} pos).1 below in
+    page_order (λ x. 0) P ((first * P + from + (P - 1)) / P) (pages_of first from) (omega (arith, few))
+
+pub start_fits : (P first from : ℕ) → from < P → page_at P (pages_of first from) < 2 ^ 64 → first * P + from < 2 ^ 64
+start_fits P first from begun place = omega (arith, extent_more P (first * P + from) (omega (arith, begun)), extent_pages P first from begun, place)

@@ -128,9 +128,10 @@ impl<S: Seal> PageBlob<S> {
         if u64::MAX - size < unit as u64 {
             return Err(RError::OffsetOverflow);
         }
-        let mut buf = vec![in alloc; 0; unit]?;
-        let found = find_last::<D, S>(dev, partition, name, pages.page_size, size, buf.as_mut_slice())?;
-        let start = start_of::<S>(pages.page_size, size, &found, buf.as_slice());
+        let mut bytes = vec![in alloc; 0; unit]?;
+        let buf = bytes.as_mut_slice();
+        let found = find_last::<D, S>(dev, partition, name, pages.page_size, size, buf)?;
+        let start = start_of::<S>(pages.page_size, size, &found, buf);
         let partition = String::from_str(alloc, partition)?;
         let name = name.to_vec(alloc)?;
         let tip = buf[..start.from].to_vec(alloc)?;
