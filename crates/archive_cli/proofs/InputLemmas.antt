@@ -1,6 +1,5 @@
 -- What was taken of an input, piece by piece.
-use Rattle.std.proofs.Common.{◌≡◌, ℕ, ◌+◌, ◌≤◌, ◌^◌, Bool, true, false, List, [], ◌++◌, length, refl, sym, ap, ◌∙◌, arith, append_assoc, length-append, append-nil, Result, Ok, Err}
-use Rattle.blob_device.specs.Counts.{Rose}
+use Rattle.std.proofs.Common.{◌≡◌, ℕ, ◌+◌, ◌≤◌, ◌^◌, Bool, true, false, List, ◌++◌, length, refl, sym, ap, ◌∙◌, arith, append_assoc, length-append, append-nil, Result, Ok, Err}
 use Rattle.archive_cli.specs.declared.input.InputError.{InputError}
 use Rattle.archive_cli.specs.declared.input.InputError.TheVariants.{Fault, TooLong, Mem}
 use Rattle.archive_cli.specs.Input.{IsInputCause, TakesFront, TakesAll, TakesPiece}

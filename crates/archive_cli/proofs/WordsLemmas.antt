@@ -1,10 +1,10 @@
 -- Three words, and the number that the last of them is.
-use Rattle.std.proofs.Common.{◌≡◌, ℕ, Bool, true, false, not, ◌^◌, ◌<◌, ◌≤◌, List, [], ◌∷◌, length, map, get_or, refl, sym, ap, ◌∙◌, arith}
+use Rattle.std.proofs.Common.{◌≡◌, ℕ, Bool, true, false, not, ◌^◌, ◌<◌, List, [], ◌∷◌, length, map, get_or, refl, sym, ap, ◌∙◌, arith}
 use Rattle.std.specs.Str.{bytes_eq}
 use Rattle.std.proofs.lemmas.Slice.Eq.{bytes_eq-Decides}
 use Rattle.std.specs.Fmt.{decimal}
 use Rattle.std.proofs.lemmas.Fmt.{decimal_injective}
-use Rattle.archive_cli.specs.Words.{Asks}
+use Rattle.archive_cli.specs.Words.{AreWordsFor}
 
 pub three_words : {X : Type 0} (f : X → List ℕ) (words : List X) (a b c : X) → length words ≡ 3
     → a ≡ get_or words 0 a → b ≡ get_or words 1 b → c ≡ get_or words 2 c → map f words ≡ f a ∷ f b ∷ f c ∷ []
@@ -17,7 +17,7 @@ three_words f (x ∷ y ∷ z ∷ w ∷ ws) a b c three is_a is_b is_c = absurd (
 
 -- where the last of three words is a number, no other number is asked for
 pub asks_it : (words : List (List ℕ)) (folder kind last : List ℕ) (number items : ℕ) → words ≡ folder ∷ kind ∷ last ∷ []
-    → number < 2 ^ 64 → last ≡ decimal number → Asks words items → number ≡ items
+    → number < 2 ^ 64 → last ≡ decimal number → AreWordsFor words items → number ≡ items
 asks_it words folder kind last number items are fits is asks =
     decimal_injective number items fits (omega (arith, asks.limit))
     (sym is ∙ ap (λ ws. get_or ws 2 []) (sym are ∙ asks.words_are))

@@ -1,5 +1,5 @@
 -- How much of an input was taken.
-use Rattle.std.specs.Prelude.{◌≡◌, ℕ, ◌+◌, ◌^◌, ◌≤◌, Bool, false, List, [], ◌++◌, length, Result, OnOk, IfOk}
+use Rattle.std.specs.Prelude.{◌≡◌, ℕ, ◌+◌, ◌^◌, ◌≤◌, Bool, false, List, [], ◌++◌, length, Result, Err, OnOk, IfOk}
 use Rattle.blob_device.specs.Counts.{Rose}
 use Rattle.archive_cli.specs.declared.input.InputError.{InputError}
 use Rattle.archive_cli.specs.declared.input.InputError.TheVariants.{Fault, TooLong, Mem}
@@ -28,4 +28,5 @@ pub record TakesPiece (result : Result Bool InputError) (old new bytes_old bytes
   pub rest : old ≡ piece ++ new
   pub within : length bytes_old + length piece ≤ 2 ^ 24 + 1
   pub added : OnOk result (bytes_new ≡ bytes_old ++ piece)
+  pub failed : result ≡ Err Fault → piece ≡ []
   pub ended : IfOk result (λ more. more ≡ false → (old ≡ []) × (new ≡ []) × (bytes_new ≡ bytes_old))

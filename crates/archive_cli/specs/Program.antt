@@ -11,18 +11,19 @@ use Rattle.archive_service.specs.declared.ended.Status.TheVariants as status
 abbrev pub value_limit : ℕ
 value_limit = 65536
 
--- the text is that of replies to all these commands, which are a run of the machine of records from the empty state
-pub record AreAnsweredBy (commands : List Spelled) (text : List ℕ) : Type 0 where
+-- The text is that of replies to all these commands, which are a run of the machine of records from the empty state,
+-- where a section has room for so many indices.
+pub record AreAnsweredBy (items : ℕ) (commands : List Spelled) (text : List ℕ) : Type 0 where
   pub replies : List (Reply (List ℕ))
   pub as_many : length replies ≡ length commands
-  pub run : AreReplies commands replies
+  pub run : AreReplies items commands replies
   pub text_is : text ≡ replies_text replies
 
 -- the input is a script, and the text answers its commands
-pub record AnswersScript (input text : List ℕ) : Type 0 where
+pub record AnswersScript (items : ℕ) (input text : List ℕ) : Type 0 where
   pub commands : List Spelled
   pub spelled : Spells value_limit input commands
-  pub answered : AreAnsweredBy commands text
+  pub answered : AreAnsweredBy items commands text
 
 -- the input is no script, and the text names its first bad line
 pub record NamesBadLine (input text : List ℕ) : Type 0 where
@@ -30,33 +31,37 @@ pub record NamesBadLine (input text : List ℕ) : Type 0 where
   pub first : IsFirstBad value_limit input number
   pub text_is : text ≡ bad_line_text number
 
--- what the program has to write, by the status with which it would end
-abbrev pub Answers : Status → List ℕ → List ℕ → Type 0
-Answers status.Done input text = AnswersScript input text
-Answers status.BadScript input text = NamesBadLine input text
-Answers status.Usage input text = ⊥
-Answers status.ReadFault input text = ⊥
-Answers status.WriteFault input text = ⊥
-Answers status.NoMemory input text = ⊥
-Answers status.TooLong input text = ⊥
-
--- The input was read to its end, is no longer than an input may be, and P holds of it and of some text; of this text a
--- front was written where the output tells, and all of it where nothing went wrong.
-pub record Writes (Tells : Type 0) (P : List ℕ → List ℕ → Type 0) (Whole : List ℕ → Type 0) (left_old left_new taken_old taken_new : List ℕ) : Type 0 where
-  pub read_to_end : left_new ≡ []
-  pub limit : length left_old ≤ 2 ^ 24
-  pub text : List ℕ
-  pub answers : P left_old text
-  pub written : Tells → (front : List ℕ) × (rest : List ℕ) × (text ≡ front ++ rest) × (taken_new ≡ taken_old ++ front) × Whole rest
-
--- nothing of the text is missing
-abbrev pub Nothing : List ℕ → Type 0
-Nothing rest = rest ≡ []
-
--- some of the text may be missing
-abbrev pub Anything : List ℕ → Type 0
-Anything rest = Unit {0}
-
 -- an answer to the input, whether it is a script or not
-abbrev pub AnswersAny : List ℕ → List ℕ → Type 0
-AnswersAny input text = AnswersScript input text ⊎ NamesBadLine input text
+abbrev pub AnswersInput : ℕ → List ℕ → List ℕ → Type 0
+AnswersInput items input text = AnswersScript items input text ⊎ NamesBadLine input text
+
+-- what the program has to write, by the status with which it would end
+abbrev pub Answers : ℕ → Status → List ℕ → List ℕ → Type 0
+Answers items status.Done input text = AnswersScript items input text
+Answers items status.BadScript input text = NamesBadLine input text
+Answers items status.Usage input text = ⊥
+Answers items status.ReadFault input text = ⊥
+Answers items status.WriteFault input text = ⊥
+Answers items status.NoMemory input text = ⊥
+Answers items status.TooLong input text = ⊥
+
+-- A whole input was read, no longer than an input may be, and P holds of it and of a text, of which Extent says how much
+-- was written. What was read and written is said where the source and the sink tell it.
+pub record Writes (SourceTells SinkTells : Type 0) (P : List ℕ → List ℕ → Type 0) (Extent : List ℕ → List ℕ → List ℕ → Type 0) (left_old left_new taken_old taken_new : List ℕ) : Type 0 where
+  pub input : List ℕ
+  pub text : List ℕ
+  pub read : SourceTells → (left_old ≡ input) × (left_new ≡ [])
+  pub limit : length input ≤ 2 ^ 24
+  pub answers : P input text
+  pub written : SinkTells → Extent text taken_old taken_new
+
+-- all of the text was written
+abbrev pub InFull : List ℕ → List ℕ → List ℕ → Type 0
+InFull text old new = new ≡ old ++ text
+
+-- a front of the text was written
+pub record InPart (text old new : List ℕ) : Type 0 where
+  pub front : List ℕ
+  pub rest : List ℕ
+  pub text_is : text ≡ front ++ rest
+  pub taken : new ≡ old ++ front

@@ -3,11 +3,11 @@ use Rattle.std.specs.Prelude.{◌≡◌, ℕ, ◌^◌, ◌≤◌, List, [], ◌�
 use Rattle.std.specs.Fmt.{decimal}
 
 -- the words `- prunable ITEMS`: an archive in memory, with ITEMS indices to a section, a number from 1 to 1,048,576
-pub record Asks (words : List (List ℕ)) (items : ℕ) : Type 0 where
+pub record AreWordsFor (words : List (List ℕ)) (items : ℕ) : Type 0 where
   pub words_are : words ≡ codes "-" ∷ codes "prunable" ∷ decimal items ∷ []
   pub some : 1 ≤ items
   pub limit : items ≤ 2 ^ 20
 
 -- a folder, another kind, and a generated input are not served yet, so their words are of no form
 abbrev pub AreOfNoForm : List (List ℕ) → Type 0
-AreOfNoForm words = (items : ℕ) → ¬ Asks words items
+AreOfNoForm words = (items : ℕ) → ¬ AreWordsFor words items

@@ -4,6 +4,8 @@
 //! give to the script. This file only makes the device, the source and the sink, and says on standard error what is wrong.
 #![tactic(auto)]
 
+ghost use Rattle.std.specs.Prelude.{◌≡◌};
+
 mod input;
 mod output;
 mod program;
@@ -12,6 +14,7 @@ mod words;
 use archive_service::Status;
 use blob_device::{Device, Memory, StdSink, StdSource};
 pub use program::run;
+use std::io::ErrorKind;
 use std::process::ExitCode;
 use std::{env, io};
 
@@ -32,7 +35,8 @@ A script has one command a line, and each gets one line of reply:
   has INDEX            yes or no
 
 INDEX is a decimal number below 2^64, KEY has 16 lower-case hexadecimal digits,
-and VALUE is lower-case hexadecimal, or - for the empty value.
+and VALUE is lower-case hexadecimal of at most 65536 bytes, or - for the empty
+value.
 
 status: 0 done, 1 usage, 2 bad script, 3 read fault, 4 write fault, 6 no memory,
         7 input longer than 16777216 bytes";
@@ -47,8 +51,12 @@ fn main(rt: HostRuntime) -> ExitCode {
 
 // The status of the process.
 fn status(rt: &HostRuntime) -> u8 {
-    let Ok(words) = arguments(rt) else {
-        return complain(rt, Status::Usage as u8);
+    let words = match arguments(rt) {
+        Ok(words) => words,
+        Err(error) if error.kind() == ErrorKind::OutOfMemory => {
+            return report(rt, Status::NoMemory as u8);
+        }
+        Err(_) => return report(rt, Status::Usage as u8),
     };
     if let [word] = words.as_slice() {
         match word.as_str() {
@@ -60,17 +68,7 @@ fn status(rt: &HostRuntime) -> u8 {
     run_on(rt, words.as_slice(), &mut Memory::new(rt.alloc()))
 }
 
-// Runs the program on this device, between standard input and output.
-fn run_on<D: Device>(rt: &HostRuntime, words: &[String], device: &mut D) -> u8 {
-    let mut input = StdSource::new(rt.reader());
-    let mut out = StdSink::new(io::writer(rt));
-    complain(
-        rt,
-        run(rt.alloc(), words, device, &mut input, &mut out).status,
-    )
-}
-
-// The words behind the program's name.
+// The words behind the program's name. Words that are no text are an error.
 fn arguments(rt: &HostRuntime) -> io::Result<Vec<String>> {
     let mut words = Vec::new(rt.alloc());
     for word in env::args(rt)?.skip(1) {
@@ -79,25 +77,43 @@ fn arguments(rt: &HostRuntime) -> io::Result<Vec<String>> {
     Ok(words)
 }
 
+// Runs the program on this device, between standard input and output.
+fn run_on<D: Device>(rt: &HostRuntime, words: &[String], device: &mut D) -> u8 {
+    let mut input = StdSource::new(rt.reader());
+    let mut out = StdSink::new(io::writer(rt));
+    report(
+        rt,
+        run(rt.alloc(), words, device, &mut input, &mut out).status,
+    )
+}
+
 fn show(rt: &HostRuntime, text: &str) -> u8 {
     match println!(rt; "{text}") {
         Ok(()) => Status::Done as u8,
-        Err(_) => complain(rt, Status::WriteFault as u8),
+        Err(_) => report(rt, Status::WriteFault as u8),
     }
 }
 
-// Says on standard error what a status other than 0 means, and answers the status.
-fn complain(rt: &HostRuntime, status: u8) -> u8 {
-    let text = match status {
-        0 => return status,
-        1 => USAGE,
-        2 => "the script has a bad line, whose number is on standard output",
-        3 => "standard input could not be read",
-        4 => "standard output could not be written",
-        6 => "out of memory",
-        _ => "the script is longer than 16777216 bytes",
-    };
-    // There is nobody else to tell if this fails.
-    let _ = eprintln!(rt; "archive_cli: {text}");
+// Says on standard error what is wrong, if anything is, and answers the status.
+fn report(rt: &HostRuntime, status: u8) -> u8
+    ensures { result ≡ status }
+{
+    if let Some(text) = fault_text(status) {
+        // There is nobody else to tell if this fails.
+        let _ = eprintln!(rt; "archive_cli: {text}");
+    }
     status
+}
+
+// What a status other than 0 means.
+fn fault_text(status: u8) -> Option<&'static str> {
+    match status {
+        1 => Some(USAGE),
+        2 => Some("the script has a bad line, whose number is on standard output"),
+        3 => Some("standard input could not be read"),
+        4 => Some("standard output could not be written"),
+        6 => Some("out of memory"),
+        7 => Some("the script is longer than 16777216 bytes"),
+        _ => None,
+    }
 }

@@ -1,10 +1,12 @@
 // The program: words, then the input to its end, then the script, then the commands, then the replies.
-ghost use Rattle.std.specs.Prelude.{◌≡◌, ◌≢◌, ◌⊎◌, ◌+◌, ◌^◌, ◌≤◌, ◌∷◌, ◌++◌, [], ℕ, length, map, string_bytes, IfOk, Contains};
+ghost use Rattle.std.specs.Prelude.{◌≡◌, ◌≢◌, ◌⊎◌, ◌+◌, ◌^◌, ◌≤◌, ◌∷◌, ◌++◌, [], ℕ, List, length, map, string_bytes, IfOk, Contains};
+ghost use Rattle.std.specs.Result.{IsOkUnless};
 ghost use Rattle.blob_device.specs.Counts.{Rose};
-ghost use Rattle.archive_service.specs.Texts.{replies_text};
+ghost use Rattle.archive_service.specs.Texts.{Spelled, replies_text};
+ghost use Rattle.archive_service.specs.Script.{Spells};
 ghost use Rattle.archive_cli.specs.Input.{TakesFront};
-ghost use Rattle.archive_cli.specs.Program.{Answers, AreAnsweredBy, AnswersAny, AnswersScript, Anything, NamesBadLine, Nothing, Writes};
-ghost use Rattle.archive_cli.specs.Words.{Asks, AreOfNoForm};
+ghost use Rattle.archive_cli.specs.Program.{Answers, AreAnsweredBy, AnswersInput, AnswersScript, InFull, InPart, NamesBadLine, Writes, value_limit};
+ghost use Rattle.archive_cli.specs.Words.{AreWordsFor, AreOfNoForm};
 
 use crate::input::{InputError, read_input};
 use crate::output::write_output;
@@ -41,38 +43,46 @@ pub fn run<D: Device, S: Source, W: Sink>(
 ) -> Ended
     ensures statuses { Contains (0 ∷ 1 ∷ 2 ∷ 3 ∷ 4 ∷ 6 ∷ 7 ∷ []) result.status }
 
-    // The device is not touched.
+    // The device is not touched, and at most one byte more than an input may have is taken.
     ensures device { dev.new ≡ dev.old }
-
-    // At most one byte more than an input may have is taken.
     ensures at_most { S.Tells → TakesFront (S.left input.old) (S.left input.new) (λ n. n ≤ 2 ^ 24 + 1) }
 
     // 0: all commands replied, and all was written.
-    ensures done { result.status ≡ 0 → S.Tells → Writes W.Tells AnswersScript Nothing (S.left input.old) (S.left input.new) (W.taken out.old) (W.taken out.new) }
+    ensures done { (items : ℕ) → AreWordsFor (map string_bytes words.now) items → result.status ≡ 0
+        → Writes S.Tells W.Tells (AnswersScript items) InFull (S.left input.old) (S.left input.new) (W.taken out.old) (W.taken out.new) }
 
-    // 1: exactly where the words are not of the stated form.
+    // 1: exactly where the words are not of the stated form. Words with `make`, a folder or another kind are not yet.
     ensures usage { result.status ≡ 1 → AreOfNoForm (map string_bytes words.now) }
-    ensures form { result.status ≢ 1 → (items : ℕ) × Asks (map string_bytes words.now) items }
+    ensures form { result.status ≢ 1 → (items : ℕ) × AreWordsFor (map string_bytes words.now) items }
     ensures usage_reads_nothing { result.status ≡ 1 → input.new ≡ input.old }
 
     // 2: the input is no script.
-    ensures bad_script { result.status ≡ 2 → S.Tells → Writes W.Tells NamesBadLine Nothing (S.left input.old) (S.left input.new) (W.taken out.old) (W.taken out.new) }
+    ensures bad_script { result.status ≡ 2
+        → Writes S.Tells W.Tells NamesBadLine InFull (S.left input.old) (S.left input.new) (W.taken out.old) (W.taken out.new) }
 
-    // 3: the source failed.
+    // 3: the source failed, and had not given more than an input may have.
     ensures read_fault { result.status ≡ 3 → Rose (S.faults input.old) (S.faults input.new) }
+    ensures read_within { result.status ≡ 3 → S.Tells → TakesFront (S.left input.old) (S.left input.new) (λ n. n ≤ 2 ^ 24) }
 
     // 4: the sink failed, and a front of the text went out.
     ensures write_fault { result.status ≡ 4 → Rose (W.faults out.old) (W.faults out.new) }
-    ensures write_fault_text { result.status ≡ 4 → S.Tells → Writes W.Tells AnswersAny Anything (S.left input.old) (S.left input.new) (W.taken out.old) (W.taken out.new) }
+    ensures write_fault_text { (items : ℕ) → AreWordsFor (map string_bytes words.now) items → result.status ≡ 4
+        → Writes S.Tells W.Tells (AnswersInput items) InPart (S.left input.old) (S.left input.new) (W.taken out.old) (W.taken out.new) }
 
     // 6: there was no memory, and a front of the text went out, or nothing.
-    ensures no_memory { result.status ≡ 6 → (out.new ≡ out.old) ⊎ (S.Tells → Writes W.Tells AnswersAny Anything (S.left input.old) (S.left input.new) (W.taken out.old) (W.taken out.new)) }
+    ensures no_memory { (items : ℕ) → AreWordsFor (map string_bytes words.now) items → result.status ≡ 6 → (out.new ≡ out.old)
+        ⊎ Writes S.Tells W.Tells (AnswersInput items) InPart (S.left input.old) (S.left input.new) (W.taken out.old) (W.taken out.new) }
 
     // 7: the input has more bytes than an input may have.
     ensures too_long { result.status ≡ 7 → S.Tells → TakesFront (S.left input.old) (S.left input.new) (λ n. n ≡ 2 ^ 24 + 1) }
 
     // Where the input was not read, or was not read to its end, nothing was written.
     ensures silent { Contains (1 ∷ 3 ∷ 7 ∷ []) result.status → out.new ≡ out.old }
+
+    // A script of lawful length is served, unless a stream fails or memory is short.
+    ensures complete { S.Tells → (items : ℕ) → AreWordsFor (map string_bytes words.now) items → (commands : List Spelled) → Spells value_limit (S.left input.old) commands
+        → length (S.left input.old) ≤ 2 ^ 24 → ¬ Rose (S.faults input.old) (S.faults input.new) → ¬ Rose (W.faults out.old) (W.faults out.new)
+        → (result.status ≡ 0) ⊎ (result.status ≡ 6) }
 {
     if items_of(words).is_none() {
         return Ended::new(Status::Usage);
@@ -95,7 +105,8 @@ pub fn run<D: Device, S: Source, W: Sink>(
 
 // The answer to a whole input. The one error is want of memory.
 fn answer_of<D: Device>(alloc: Global, dev: &mut D, input: &[u8]) -> Result<Answer, ScriptError>
-    ensures answer { IfOk result (λ a. Answers a.status input.now a.text.items) }
+    ensures answer { IfOk result (λ a. (items : ℕ) → Answers items a.status input.now a.text.items) }
+    ensures memory { IsOkUnless result ScriptError.Mem }
     ensures device { dev.new ≡ dev.old }
 {
     match read_script(alloc, input, VALUE_LIMIT) {
@@ -121,7 +132,8 @@ fn replies_of<D: Device>(
     dev: &mut D,
     script: &Script,
 ) -> Result<Vec<u8>, ScriptError>
-    ensures text { IfOk result (λ text. AreAnsweredBy script.now text.items) }
+    ensures text { IfOk result (λ text. (items : ℕ) → AreAnsweredBy items script.now text.items) }
+    ensures memory { IsOkUnless result ScriptError.Mem }
     ensures device { dev.new ≡ dev.old }
 {
     let Served { replies, end } = serve(alloc, dev, script.as_slice());
@@ -132,7 +144,8 @@ fn replies_of<D: Device>(
 }
 
 fn text_of(alloc: Global, replies: &[Reply<ByteValue>]) -> Result<Vec<u8>, ScriptError>
-    ensures { IfOk result (λ text. text.items ≡ replies_text replies.now) }
+    ensures text { IfOk result (λ text. text.items ≡ replies_text replies.now) }
+    ensures memory { IsOkUnless result ScriptError.Mem }
 {
     let mut text = Vec::new(alloc);
     for reply in replies {

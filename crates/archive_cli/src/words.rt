@@ -1,6 +1,6 @@
 // The words with which the program is called.
 ghost use Rattle.std.specs.Prelude.{map, string_bytes, IfNone, IfSome};
-ghost use Rattle.archive_cli.specs.Words.{Asks, AreOfNoForm};
+ghost use Rattle.archive_cli.specs.Words.{AreWordsFor, AreOfNoForm};
 
 use archive_service::index_of;
 
@@ -9,7 +9,7 @@ pub const ITEMS_LIMIT: u64 = 1 << 20;
 
 /// The number of indices per section that the words `- prunable ITEMS` ask for.
 pub fn items_of(words: &[String]) -> Option<u64>
-    ensures asked { IfSome result (Asks (map string_bytes words.now)) }
+    ensures asked { IfSome result (AreWordsFor (map string_bytes words.now)) }
     ensures refused { IfNone result (AreOfNoForm (map string_bytes words.now)) }
 {
     let [folder, kind, items] = words else {

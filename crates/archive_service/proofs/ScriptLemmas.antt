@@ -1,21 +1,16 @@
 -- A line says one command at most, and a text is one script at most.
-use Rattle.std.proofs.Common.{◌≡◌, ◌≢◌, ℕ, zero, suc, Bool, true, ◌&&◌, ◌||◌, ◌+◌, ◌^◌, ◌*◌, ◌/◌, ◌%◌, ◌<◌, ◌≤◌, ◌⊎◌, inl, inr, List, [], ◌∷◌, ◌++◌, length, get_or, slice_index, Option, Some, None, Result, Ok, Err, codes, refl, sym, ap, ◌∙◌, subst, lit<, arith}
-use Rattle.std.specs.Prelude.{nat_le}
+use Rattle.std.proofs.Common.{◌≡◌, ◌≢◌, ℕ, suc, ◌+◌, ◌<◌, List, [], ◌∷◌, ◌++◌, length, slice_index, Option, Some, None, codes, refl, sym, ap, ◌∙◌, lit<, arith}
 use Rattle.std.specs.List.{AllByRecursion}
-use Rattle.std.proofs.lemmas.Bool.{and_parts, cases_lt}
-use Rattle.std.proofs.lemmas.Bool.Decides.{nat_tests}
+use Rattle.std.specs.Prelude.{if◌then◌else◌}
+use Rattle.std.specs.Str.{bytes_eq}
 use Rattle.std.specs.Option.{option_map}
 use Rattle.std.specs.Fmt.{decimal}
-use Rattle.std.specs.Int.{IsInRange}
-use Rattle.std.specs.Str.Parse.{AllDigits}
-use Rattle.std.proofs.lemmas.Str.Parse.{digit_from_value}
-use Rattle.std.proofs.lemmas.Fmt.{decimal_injective, decimal_is_IsNumeral}
+use Rattle.std.proofs.lemmas.Fmt.{decimal_injective}
 use Rattle.std.proofs.lemmas.List.{append-nil, append_assoc, length-append}
-use Rattle.hex.specs.Hex.{IsBytes, decode_of, encode_lower, encode_with, lower_digits}
-use Rattle.hex.proofs.HexLemmas.{decode_of-encode_lower, length-encode_with}
+use Rattle.hex.specs.Hex.{encode_lower}
 use Rattle.archives.specs.declared.commands.Command.TheVariants.{Put, Get, Has}
 use Rattle.archive_service.specs.Texts.{Spelled, line_of, script_text, value_text}
-use Rattle.archive_service.specs.Script.{AreBytes, BeginsBadly, CanBeSaid, GoodOrBad, IsCommandOf, IsFirstBad, IsFirstLine, IsReading, IsIndex, IsKey, IsValue, OneFirstBad, OneScript, Spells}
+use Rattle.archive_service.specs.Script.{BeginsBadly, CanBeSaid, GoodOrBad, IsCommandOf, IsFirstBad, IsFirstLine, IsReading, IsIndex, IsKey, IsValue, OneFirstBad, OneScript, Spells}
 use Rattle.archive_service.proofs.WordLemmas.{Lacks, all_append, cut_never, cut_once, decimal_lacks, encode_injective, encode_lacks, value_injective, value_lacks}
 
 -- ---- lines
@@ -70,9 +65,23 @@ pub line_lacks : (max c : ℕ) → c < 32 → (command : Spelled) → CanBeSaid 
 line_lacks max c low command h =
     rw line_cut (joined_lacks c (name_of command) (words_behind command) (omega arith) (name_lacks c (omega arith) command) (behind_lacks max c low command h))
 
--- names that differ in their first letter
-heads_same : (x y : List ℕ) → x ≡ y → slice_index x 0 ≡ slice_index y 0
-heads_same x y e = ap (λ s. slice_index s 0) e
+-- the place of a command among the commands, and of a name among their names
+abbrev kind_of : Spelled → ℕ
+kind_of (Put index key value) = 0
+kind_of (Get index) = 1
+kind_of (Has index) = 2
+
+abbrev kind_named : List ℕ → ℕ
+kind_named name = if bytes_eq name (codes "put") then 0 else if bytes_eq name (codes "get") then 1 else 2
+
+kind_named-name_of : (command : Spelled) → kind_named (name_of command) ≡ kind_of command
+kind_named-name_of (Put index key value) = refl
+kind_named-name_of (Get index) = refl
+kind_named-name_of (Has index) = refl
+
+-- commands of one name are of one kind
+same_kind : (a b : Spelled) → name_of a ≡ name_of b → kind_of a ≡ kind_of b
+same_kind a b e = sym (kind_named-name_of a) ∙ ap kind_named e ∙ kind_named-name_of b
 
 behind_same : (max : ℕ) (a b : Spelled) → CanBeSaid max a → CanBeSaid max b → name_of a ≡ name_of b → words_behind a ≡ words_behind b → a ≡ b
 behind_same max (Put i k v) (Put j l w) ha hb e f =
@@ -84,12 +93,7 @@ behind_same max (Put i k v) (Put j l w) ha hb e f =
     rw (index, key, value) refl
 behind_same max (Get i) (Get j) ha hb e f = ap Get (decimal_injective i j ha hb f)
 behind_same max (Has i) (Has j) ha hb e f = ap Has (decimal_injective i j ha hb f)
-behind_same max (Put i k v) (Get j) ha hb e f = let heads : ◌≡◌ {A = ℕ} 112 103 = heads_same (codes "put") (codes "get") e in absurd (omega arith)
-behind_same max (Put i k v) (Has j) ha hb e f = let heads : ◌≡◌ {A = ℕ} 112 104 = heads_same (codes "put") (codes "has") e in absurd (omega arith)
-behind_same max (Get i) (Put j l w) ha hb e f = let heads : ◌≡◌ {A = ℕ} 103 112 = heads_same (codes "get") (codes "put") e in absurd (omega arith)
-behind_same max (Get i) (Has j) ha hb e f = let heads : ◌≡◌ {A = ℕ} 103 104 = heads_same (codes "get") (codes "has") e in absurd (omega arith)
-behind_same max (Has i) (Put j l w) ha hb e f = let heads : ◌≡◌ {A = ℕ} 104 112 = heads_same (codes "has") (codes "put") e in absurd (omega arith)
-behind_same max (Has i) (Get j) ha hb e f = let heads : ◌≡◌ {A = ℕ} 104 103 = heads_same (codes "has") (codes "get") e in absurd (omega arith)
+behind_same max a b ha hb e f = absurd (omega (arith, same_kind a b e))
 
 -- a line says one command
 pub line_injective : (max : ℕ) (a b : Spelled) → CanBeSaid max a → CanBeSaid max b → line_of a ≡ line_of b → a ≡ b
@@ -175,14 +179,12 @@ behind : (max : ℕ) (a b : Spelled) (words : List ℕ) → CanBeSaid max b → 
 behind max a b words said e = cut_once 32 (name_of a) (name_of b) words (words_behind b) (name_lacks 32 (lit< tt) a) (name_lacks 32 (lit< tt) b) (e ∙ line_cut b)
 
 get_refused : (max : ℕ) (words : List ℕ) → ((i : ℕ) → IsIndex i → words ≢ decimal i) → (command : Spelled) → CanBeSaid max command → codes "get" ++ 32 ∷ words ≢ line_of command
-get_refused max words none (Put i k v) said e = let heads : ◌≡◌ {A = ℕ} 103 112 = heads_same (codes "get") (codes "put") (behind max (Get 0) (Put i k v) words said e).0 in absurd (omega arith)
 get_refused max words none (Get i) said e = none i said (behind max (Get 0) (Get i) words said e).1
-get_refused max words none (Has i) said e = let heads : ◌≡◌ {A = ℕ} 103 104 = heads_same (codes "get") (codes "has") (behind max (Get 0) (Has i) words said e).0 in absurd (omega arith)
+get_refused max words none b said e = absurd (omega (arith, same_kind (Get 0) b (behind max (Get 0) b words said e).0))
 
 has_refused : (max : ℕ) (words : List ℕ) → ((i : ℕ) → IsIndex i → words ≢ decimal i) → (command : Spelled) → CanBeSaid max command → codes "has" ++ 32 ∷ words ≢ line_of command
-has_refused max words none (Put i k v) said e = let heads : ◌≡◌ {A = ℕ} 104 112 = heads_same (codes "has") (codes "put") (behind max (Has 0) (Put i k v) words said e).0 in absurd (omega arith)
-has_refused max words none (Get i) said e = let heads : ◌≡◌ {A = ℕ} 104 103 = heads_same (codes "has") (codes "get") (behind max (Has 0) (Get i) words said e).0 in absurd (omega arith)
 has_refused max words none (Has i) said e = none i said (behind max (Has 0) (Has i) words said e).1
+has_refused max words none b said e = absurd (omega (arith, same_kind (Has 0) b (behind max (Has 0) b words said e).0))
 
 pub get_reading : (max : ℕ) (words : List ℕ) (found : Option ℕ) → IsReading IsIndex decimal words found → IsCommandOf max (codes "get" ++ 32 ∷ words) (option_map Get found)
 get_reading max words None none = get_refused max words none
@@ -199,8 +201,7 @@ put_words index key value = decimal index ++ 32 ∷ (encode_lower key ++ 32 ∷ 
 put_refused_at : (max : ℕ) (words : List ℕ) → ((i : ℕ) (k v : List ℕ) → IsIndex i → IsKey k → IsValue max v → words ≢ put_words i k v)
     → (command : Spelled) → CanBeSaid max command → codes "put" ++ 32 ∷ words ≢ line_of command
 put_refused_at max words none (Put i k v) said e = none i k v said.0 said.1 said.2 (behind max (Put 0 [] []) (Put i k v) words said e).1
-put_refused_at max words none (Get i) said e = let heads : ◌≡◌ {A = ℕ} 112 103 = heads_same (codes "put") (codes "get") (behind max (Put 0 [] []) (Get i) words said e).0 in absurd (omega arith)
-put_refused_at max words none (Has i) said e = let heads : ◌≡◌ {A = ℕ} 112 104 = heads_same (codes "put") (codes "has") (behind max (Put 0 [] []) (Has i) words said e).0 in absurd (omega arith)
+put_refused_at max words none b said e = absurd (omega (arith, same_kind (Put 0 [] []) b (behind max (Put 0 [] []) b words said e).0))
 
 pub put_refused : (max : ℕ) (words : List ℕ) → ((i : ℕ) (k v : List ℕ) → IsIndex i → IsKey k → IsValue max v → words ≢ put_words i k v)
     → IsCommandOf max (codes "put" ++ 32 ∷ words) None
@@ -227,16 +228,16 @@ module _ (max : ℕ) (words word rest : List ℕ) (at : (words ≡ word ++ 32 �
   index_refused none = put_refused max words (λ i k v hi hk hv e. none i hi (index_word word rest i k v at.1 hi (sym at.0 ∙ e)).0)
 
   -- and the second as well
-  module _ (key last : List ℕ) (then : (rest ≡ key ++ 32 ∷ last) × Lacks 32 key) where
+  module _ (key last : List ℕ) (next : (rest ≡ key ++ 32 ∷ last) × Lacks 32 key) where
     pub key_refused : IsReading IsKey encode_lower key None → IsCommandOf max (codes "put" ++ 32 ∷ words) None
-    key_refused none = put_refused max words (λ i k v hi hk hv e. none k hk (key_word key last k v then.1 hk (sym then.0 ∙ (index_word word rest i k v at.1 hi (sym at.0 ∙ e)).1)).0)
+    key_refused none = put_refused max words (λ i k v hi hk hv e. none k hk (key_word key last k v next.1 hk (sym next.0 ∙ (index_word word rest i k v at.1 hi (sym at.0 ∙ e)).1)).0)
 
     pub put_reading : (index : ℕ) (bytes : List ℕ) (value : Option (List ℕ)) → IsReading IsIndex decimal word (Some index) → IsReading IsKey encode_lower key (Some bytes)
         → IsReading (IsValue max) value_text last value → IsCommandOf max (codes "put" ++ 32 ∷ words) (option_map (Put index bytes) value)
     put_reading index bytes None i k none = put_refused max words (λ j l v hj hl hv e.
-        none v hv (key_word key last l v then.1 hl (sym then.0 ∙ (index_word word rest j l v at.1 hj (sym at.0 ∙ e)).1)).1)
+        none v hv (key_word key last l v next.1 hl (sym next.0 ∙ (index_word word rest j l v at.1 hj (sym at.0 ∙ e)).1)).1)
     put_reading index bytes (Some value) i k v =
-        ((i.0, k.0, v.0), ap (λ w. codes "put" ++ 32 ∷ w) (at.0 ∙ rw (i.1, then.0, k.1, v.1) refl) ∙ sym (line-put index bytes value))
+        ((i.0, k.0, v.0), ap (λ w. codes "put" ++ 32 ∷ w) (at.0 ∙ rw (i.1, next.0, k.1, v.1) refl) ∙ sym (line-put index bytes value))
 
 -- the line, and what stands behind it
 pub first_refused : (max : ℕ) (text : List ℕ) → Lacks 10 text → IsFirstLine max text None

@@ -29,14 +29,12 @@ module _ {K X : Type 0} (seen : Command K X → Command (List ℕ) X) (commands 
       run_lengths 1 empty_state (states 1) (map seen (take i commands)) replies (so_far 1)
       ∙ length-map (take i commands) seen ∙ length-take-le i commands within
 
-  pub are_replies : i ≤ length commands → AreReplies (map seen commands) replies
-  are_replies within = record {
+  pub are_replies : i ≤ length commands → (items : ℕ) → AreReplies items (map seen commands) replies
+  are_replies within items = record {
     enough = omega (arith, as_many within, length-map commands seen);
-    run = λ n. (
-      states n,
-      subst (λ cs. Run n empty_state cs replies (states n))
-      (sym (ap (λ k. take k (map seen commands)) (as_many within) ∙ take-map seen i commands)) (so_far n),
-    );
+    end = states items;
+    run = subst (λ cs. Run items empty_state cs replies (states items))
+        (sym (ap (λ k. take k (map seen commands)) (as_many within) ∙ take-map seen i commands)) (so_far items);
   }
 
   -- one command more

@@ -1,7 +1,7 @@
 -- What the words of scripts are made of, and how they are read.
-use Rattle.std.proofs.Common.{◌≡◌, ◌≢◌, ℕ, zero, suc, Bool, true, false, ◌&&◌, ◌||◌, cond, ◌+◌, ◌-◌, ◌^◌, ◌*◌, ◌/◌, ◌%◌, ◌<◌, ◌≤◌, ◌⊎◌, inl, inr, List, [], ◌∷◌, ◌++◌, length, take, drop, get_or, slice_index, Option, Some, None, Result, Ok, Err, codes, IsSome, not, unwrap_or, refl, sym, ap, ◌∙◌, subst, lit<, rules, arith}
+use Rattle.std.proofs.Common.{◌≡◌, ◌≢◌, ℕ, zero, suc, Bool, true, false, ◌&&◌, ◌||◌, cond, ◌+◌, ◌*◌, ◌/◌, ◌%◌, ◌<◌, inl, inr, List, [], ◌∷◌, ◌++◌, length, take, drop, get_or, slice_index, Option, Some, None, Result, Ok, Err, codes, IsSome, not, unwrap_or, refl, sym, ap, ◌∙◌, subst, lit<, rules, arith}
 use Rattle.std.specs.Prelude.{nat_le, nat_lt, nat_eq, IfSome, IsOk, MatchResult, ◌↔◌}
-use Rattle.std.specs.List.{All, AllByRecursion, position, position_from}
+use Rattle.std.specs.List.{AllByRecursion, position, position_from}
 use Rattle.std.specs.Option.{option_map}
 use Rattle.std.specs.Result.{result_ok}
 use Rattle.std.specs.Fmt.{decimal}
@@ -15,14 +15,14 @@ use Rattle.std.proofs.lemmas.List.Elements.{All-from_recursion, recursion_from_A
 use Rattle.std.proofs.lemmas.List.Quantifiers.{position-Some}
 use Rattle.std.proofs.lemmas.Iterator.Adapters.{position_from-zero}
 use Rattle.std.proofs.lemmas.Str.Parse.{IsNumeralModel, digit_from_value, numerals_by_value, parse_plain}
-use Rattle.std.proofs.lemmas.Fmt.{IsAscii-from_digits, decimal-digits_value, decimal_digit, decimal_injective, decimal_is_IsNumeral, decimal_nonempty, digits_value-decimal, first_decimal}
+use Rattle.std.proofs.lemmas.Fmt.{IsAscii-from_digits, decimal-digits_value, decimal_digit, decimal_is_IsNumeral, decimal_nonempty, digits_value-decimal, first_decimal}
 use Rattle.hex.specs.Hex.{IsBytes, decode_of, decode_sized, encode_lower, encode_with, hex_digit_value, lower_digits}
 use Rattle.hex.specs.declared.error.FromHexError.{FromHexError}
 use Rattle.hex.proofs.HexLemmas.{decode_of-encode_lower, decode_sized-encode_lower, decode_sized-ok, decode_sized-twice, length-encode_with}
 use Rattle.value_codec.specs.declared.key.Key8.{Key8}
 use Rattle.archive_service.specs.Texts.{value_text}
 use Rattle.archive_service.specs.Script.{AreBytes, IsIndex, IsKey, IsReading, IsValue}
-use Rattle.archive_service.specs.Words.{IsCut, IsDecimal, IsHexText, IsLowerDigit, IsShortest, IsValueText}
+use Rattle.archive_service.specs.Words.{IsDecimal, IsHexText, IsLowerDigit, IsValueText}
 
 -- the text has no such byte
 abbrev pub Lacks : ℕ → List ℕ → Type 0

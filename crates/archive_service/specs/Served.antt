@@ -6,11 +6,12 @@ use Rattle.archives.specs.Machine.{State, Run, empty_state}
 use Rattle.archive_service.specs.declared.replies.End.{End}
 use Rattle.archive_service.specs.declared.replies.End.TheVariants.{Done, Failed}
 
--- The replies are those of a run of the machine over the first of the commands, from the empty state, however many
--- indices a section has room for.
-pub record AreReplies {V : Type 0} (commands : List (Command (List ℕ) V)) (replies : List (Reply V)) : Type 0 where
+-- The replies are those of a run of the machine over the first of the commands, from the empty state, where a section
+-- has room for so many indices.
+pub record AreReplies {V : Type 0} (items : ℕ) (commands : List (Command (List ℕ) V)) (replies : List (Reply V)) : Type 0 where
   pub enough : length replies ≤ length commands
-  pub run : (items : ℕ) → (end : State V) × Run items empty_state (take (length replies) commands) replies end
+  pub end : State V
+  pub run : Run items empty_state (take (length replies) commands) replies end
 
 -- a run that is done has a reply for each command, and one that failed lacks some
 abbrev pub EndsAt : End → ℕ → ℕ → Type 0

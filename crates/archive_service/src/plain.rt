@@ -11,10 +11,7 @@ use value_codec::{ByteValue, Key, Key8};
 
 /// The line of a command, without its LF.
 #[tactic(auto, unfolding(crate::specs::Texts::line_of))]
-pub fn line_text(
-    alloc: Global,
-    command: &Command<Key8, ByteValue>,
-) -> Result<String, AllocError>
+pub fn line_text(alloc: Global, command: &Command<Key8, ByteValue>) -> Result<String, AllocError>
     ensures { IfOk result (λ line. string_bytes line ≡ line_of (asked key8_bytes command.now)) }
 {
     match command {

@@ -22,7 +22,7 @@ impl<V> Model for Replies<V> {
 
 impl<V> Replies<V> {
     /// No replies. It takes no memory.
-    pub fn new(alloc: Global) -> Replies<V>
+    pub(crate) fn new(alloc: Global) -> Replies<V>
         ensures { result ≡ [] }
     {
         Replies {
@@ -31,7 +31,7 @@ impl<V> Replies<V> {
     }
 
     /// One reply more.
-    pub fn push(&mut self, reply: Reply<V>) -> Result<(), AllocError>
+    pub(crate) fn push(&mut self, reply: Reply<V>) -> Result<(), AllocError>
     where
         V: Drop,
         ensures ok { OnOk result (self.new ≡ self.old ++ reply ∷ []) }

@@ -155,8 +155,7 @@ pub fn reading_is_exact()
     ensures one_script { OneScript }
     ensures good_or_bad { GoodOrBad }
     ensures one_first { OneFirstBad }
-{
-}
+{}
 
 #[cfg(test)]
 mod tests;

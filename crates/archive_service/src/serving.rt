@@ -13,14 +13,14 @@ use value_codec::{Codec, Key};
 
 /// Serves commands in order, and ends at the first error. The records are kept in memory, and the device is not touched.
 ///
-/// A copy of a value has to equal it.
+/// A copy of a value has to equal it. The replies don't depend on how many indices a section has room for.
 pub fn serve<D: Device, K: Key, V: Codec + Clone>(
     alloc: Global,
     dev: &mut D,
     commands: &[Command<K, V>],
 ) -> Served<V>
     requires { (v w : V) → V.is_clone v w → w ≡ v }
-    ensures replies { AreReplies (map (asked K.key_bytes) commands.now) result.replies }
+    ensures replies { (items : ℕ) → AreReplies items (map (asked K.key_bytes) commands.now) result.replies }
     ensures end { EndsAt result.end (length result.replies) (length commands.now) }
     ensures device { dev.new ≡ dev.old }
 {

@@ -9,8 +9,6 @@ use archives::Reply;
 use std::alloc::AllocError;
 use value_codec::ByteValue;
 
-const DIGITS: [u8; 16] = *b"0123456789abcdef";
-
 /// Appends the line of a reply, with its LF.
 pub fn write_reply(reply: &Reply<ByteValue>, out: &mut Vec<u8>) -> Result<(), ScriptError>
     ensures ok { OnOk result (out.new.items ≡ out.old.items ++ reply_text reply.now) }
@@ -71,11 +69,8 @@ fn append_value(bytes: &[u8], out: &mut Vec<u8>) -> Result<(), AllocError>
 fn append_hex(bytes: &[u8], out: &mut Vec<u8>) -> Result<(), AllocError>
     ensures { Appends result out.old.items (encode_lower bytes.now) out.new.items }
 {
-    for byte in bytes {
-        out.push(DIGITS[usize::from(*byte / 16)])?;
-        out.push(DIGITS[usize::from(*byte % 16)])?;
-    }
-    Ok(())
+    let text = hex::encode(*out.allocator(), bytes)?;
+    out.extend_from_slice(text.as_bytes())
 }
 
 #[cfg(test)]
@@ -96,7 +91,8 @@ mod tests {
         write_reply(&Reply::Flag(false), &mut out)?;
         write_bad_line(2, &mut out)?;
         write_bad_line(u64::MAX, &mut out)?;
-        let want = b"ok\nvalue aa0f\nvalue -\nnone\nyes\nno\nerror line 2\nerror line 18446744073709551615\n";
+        let want =
+            b"ok\nvalue aa0f\nvalue -\nnone\nyes\nno\nerror line 2\nerror line 18446744073709551615\n";
         assert_eq!(rt; out.as_slice(), want.as_slice());
         Ok(())
     }

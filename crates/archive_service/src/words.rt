@@ -60,10 +60,7 @@ pub fn index_of(word: &[u8]) -> Option<u64>
 fn is_hex_text(word: &[u8]) -> bool
     ensures { IsTrue result ↔ IsHexText word.now }
 {
-    word.len() % 2 == 0
-        && word
-            .iter()
-            .all(|b| matches!(*b, b'0'..=b'9' | b'a'..=b'f'))
+    word.len() % 2 == 0 && word.iter().all(|b| matches!(*b, b'0'..=b'9' | b'a'..=b'f'))
 }
 
 /// A key: sixteen lower-case hexadecimal digits.

@@ -1,11 +1,11 @@
 -- A plain list of records, and the state that it stands for.
-use Rattle.std.proofs.Common.{◌≡◌, refl, sym, ◌∙◌, ap, ℕ, Bool, true, false, ◌||◌, ◌==◌, if◌then◌else◌, cond, List, [], ◌∷◌, ◌++◌, map, filter, find, nat_lt, Option, Some, None, arith}
+use Rattle.std.proofs.Common.{◌≡◌, refl, sym, ◌∙◌, ap, ℕ, Bool, true, false, ◌||◌, ◌==◌, if◌then◌else◌, cond, List, [], ◌∷◌, ◌++◌, map, filter, find, nat_lt, Some, arith}
 use Rattle.std.specs.List.{list_any}
 use Rattle.std.specs.Option.{option_map}
 use Rattle.std.proofs.lemmas.List.{map-append}
 use Rattle.std.proofs.lemmas.Bool.{eqb-true, eq-eqb, false≢true}
 use Rattle.std.proofs.lemmas.Bool.Decides.{nat_tests}
-use Rattle.archives.specs.Machine.{Entry, State, appended, after_put, entries_at, first_value, has_index, section_of}
+use Rattle.archives.specs.Machine.{State, appended, after_put, entries_at, first_value, has_index, section_of}
 use Rattle.archives.specs.declared.plain.Item.{Item}
 use Rattle.archives.specs.Plain.{entry_of, first_at, state_with}
 

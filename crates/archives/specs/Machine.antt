@@ -12,7 +12,8 @@ pub record Entry (V : Type 0) : Type 0 where
   pub key : List ℕ
   pub value : V
 
--- for each section, named by its first index, a list of records and a synced length; a floor, below which nothing is kept
+-- For each section, named by its first index, a list of the records whose index lies in it, and a synced length; a floor,
+-- below which nothing is kept. No step files a record in another section.
 pub record State (V : Type 0) : Type 0 where
   pub lists : ℕ → List (Entry V)
   pub synced : ℕ → ℕ

@@ -1,5 +1,5 @@
 -- The state that a plain list of records stands for.
-use Rattle.std.specs.Prelude.{ℕ, ◌==◌, List, [], ◌∷◌, filter, find, map, Option}
+use Rattle.std.specs.Prelude.{ℕ, ◌==◌, List, filter, find, map, Option}
 use Rattle.std.specs.Option.{option_map}
 use Rattle.archives.specs.declared.plain.Item.{Item}
 use Rattle.archives.specs.declared.plain.Machine.{Machine}

@@ -1,5 +1,5 @@
-//! The machine of records on one plain list, in the order in which the records were put. It is slow, and made to be
-//! read beside the definitions: faster bodies are compared with it.
+//! The machine of records on one plain list, in the order in which the records were put. It is slow, since each command
+//! scans the list, and made to be read beside the definitions. It serves until the archive on the device takes its place.
 ghost use Rattle.std.specs.Prelude.{◌≡◌, ℕ, ◌==◌, [], IfOk, OnErr, OnOk};
 ghost use Rattle.std.specs.Option.{option_copied};
 ghost use Rattle.std.specs.Result.{IsOkUnless};

@@ -1,11 +1,16 @@
+pub mod Building
 pub mod Bytes
+pub mod CrashLemmas
 pub mod EntryLemmas
 pub mod GuardsLemmas
+pub mod HistoryLemmas
+pub mod ImageLemmas
 pub mod KeepsLemmas
 pub mod LengthLemmas
 pub mod Logged
 pub mod Maps
 pub mod Marks
+pub mod MixedLemmas
 pub mod Moments
 pub mod NamesLemmas
 pub mod OpenedLemmas

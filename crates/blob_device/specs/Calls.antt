@@ -6,7 +6,7 @@ use Rattle.std.specs.declared.alloc.Global.{Global}
 use Rattle.blob_device.specs.declared.blob_log.Call.{Call}
 use Rattle.blob_device.specs.declared.blob_log.Step.{Step}
 use Rattle.blob_device.specs.declared.blob_log.Step.TheVariants as step
-use Rattle.blob_device.specs.Disk.{Key, Blob, nothing, settled_at}
+use Rattle.blob_device.specs.Disk.{Key, Blob, begun}
 use Rattle.blob_device.specs.Change.{Change, Make, Write, Resize, Settle, Remove, Look, during, done, written}
 use Rattle.blob_device.specs.Timeline.{Timeline}
 use Rattle.blob_device.specs.Counts.{next}
@@ -71,13 +71,12 @@ no_track = record { start = None; calls = []; reads = None }
 abbrev pub start_of : Option (Vec ℕ Global) → Option (List ℕ)
 start_of start = option_map (λ (v : Vec ℕ Global). v.items) start
 
--- a blob of the image that a device was made from has settled
-abbrev pub begun : Option (List ℕ) → Blob
-begun None = nothing
-begun (Some c) = settled_at c
-
 abbrev pub now : Track → Blob
 now t = replay t.calls (begun t.start)
+
+-- a blob that had this content when the device was made
+abbrev pub started : List ℕ → Track
+started c = record { start = Some c; calls = []; reads = None }
 
 -- one call more
 abbrev pub pushed : Call → Track → Track

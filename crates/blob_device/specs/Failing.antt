@@ -3,8 +3,12 @@ use Rattle.std.specs.Prelude.{◌≡◌, ℕ, Bool, true, false, ◌==◌, leb, 
 use Rattle.std.specs.List.{list_any}
 use Rattle.std.specs.Result.{IsErr, IsErrOf}
 use Rattle.blob_device.specs.declared.error.DevError.{DevError}
-use Rattle.blob_device.specs.declared.error.DevError.TheVariants.{Fault}
+use Rattle.blob_device.specs.declared.error.DevError.TheVariants.{Fault, Mem}
 use Rattle.blob_device.specs.Counts.{next}
+use Rattle.blob_device.specs.Disk.{Key, put}
+use Rattle.blob_device.specs.Change.{Change}
+use Rattle.blob_device.specs.Timeline.{Timeline, disk}
+use Rattle.blob_device.specs.Calls.{failing}
 
 -- from some number on
 abbrev pub from_fuse : Option ℕ → ℕ → Bool
@@ -20,3 +24,8 @@ pub record FailsAsTold {T : Type 0} (named : Bool) (result : Result T DevError) 
   pub count : faults_new ≡ cond named (next faults_old) faults_old
   pub fault : IsErrOf result Fault → named ≡ true
   pub ok : named ≡ true → IsErr result
+
+-- A change that failed left the first half of a write's bytes, or what the blob read as; one that found no memory left the disk as it was.
+pub record LeavesAsFailed {T : Type 0} (k : Key) (change : Change) (result : Result T DevError) (old new : Timeline) : Type 0 where
+  pub fault : IsErrOf result Fault → disk new ≡ put (disk old) k (failing change (disk old k))
+  pub memory : IsErrOf result Mem → disk new ≡ disk old

@@ -6,12 +6,12 @@ use Rattle.std.specs.Option.{option_map}
 use Rattle.std.proofs.lemmas.Bool.{and_parts}
 use Rattle.std.proofs.lemmas.Bool.Decides.{Decides-ltb, nat_tests}
 use Rattle.blob_device.specs.declared.blob_log.Call.{Call}
-use Rattle.blob_device.specs.Disk.{Key, Blob, settled_at, shortest, longest, least, greatest, AreBytes, HoldsBytes, MayLeave, reads}
+use Rattle.blob_device.specs.Disk.{Key, Blob, settled_at, shortest, longest, least, greatest, AreBytes, HoldsBytes, MayLeave, reads, begun}
 use Rattle.blob_device.specs.Change.{Change, Make, Write, Resize, Settle, Remove, Look, during, written, resized}
 use Rattle.blob_device.specs.Timeline.{disk}
 use Rattle.blob_device.specs.Opened.{Opened}
 use Rattle.blob_device.specs.Lengths.{length-written, least_push, greatest_push}
-use Rattle.blob_device.specs.Calls.{change_of, result_of, after, replay, blob_at, begun, now, Track, timeline_of, entry_of, all_bytes, writes_bytes, starts_with_bytes, IsSound}
+use Rattle.blob_device.specs.Calls.{change_of, result_of, after, replay, blob_at, now, Track, timeline_of, entry_of, all_bytes, writes_bytes, starts_with_bytes, IsSound}
 
 pub is_leb : (m n : ℕ) → m ≤ n → leb m n ≡ true
 is_leb m n le = grind (arith, nat_tests)

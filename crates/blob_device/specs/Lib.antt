@@ -1,3 +1,4 @@
+pub mod Building
 pub mod Calls
 pub mod Change
 pub mod Counts
@@ -5,6 +6,8 @@ pub mod Disk
 pub mod Errors
 pub mod Failing
 pub mod Guards
+pub mod Histories
+pub mod Images
 pub mod Keeps
 pub mod Laws
 pub mod Lengths
@@ -13,6 +16,8 @@ pub mod MemoryMeaning
 pub mod NameList
 pub mod NamesThere
 pub mod Opened
+pub mod Picked
+pub mod StdStreams
 pub mod Streams
 pub mod Tables
 pub mod Timeline

@@ -19,6 +19,14 @@ source_faults s = s.faults
 abbrev pub source_fails : MemSource → ℕ → Bool
 source_fails s number = list_any (λ n. n == number) s.failing.items
 
+-- the most bytes that one read gives
+abbrev pub source_piece : MemSource → ℕ
+source_piece s = s.piece
+
+-- the most bytes that one write takes
+abbrev pub sink_piece : MemSink → ℕ
+sink_piece s = s.piece
+
 -- the bytes that were taken
 abbrev pub sink_taken : MemSink → List ℕ
 sink_taken s = s.bytes.items

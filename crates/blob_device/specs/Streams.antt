@@ -1,5 +1,5 @@
 -- What one call of a source or a sink does.
-use Rattle.std.specs.Prelude.{◌≡◌, ℕ, ◌≤◌, List, [], ◌++◌, take, Result, MatchResult}
+use Rattle.std.specs.Prelude.{◌≡◌, ℕ, ◌≤◌, List, [], ◌++◌, take, Result, MatchResult, Option, Some, None}
 use Rattle.std.specs.Result.{IsErrOf}
 use Rattle.blob_device.specs.declared.io_fault.IoFault.{IoFault}
 use Rattle.blob_device.specs.declared.io_fault.IoFault.TheVariants.{Fault}
@@ -17,3 +17,8 @@ HasRead result old new buf = MatchResult result (λ n. (old ≡ take n buf ++ ne
 -- the first of the bytes were added to those taken; after an Err none was
 abbrev pub HasWritten : Result ℕ IoFault → List ℕ → List ℕ → List ℕ → Type 0
 HasWritten result old new bytes = MatchResult result (λ n. new ≡ old ++ take n bytes) (λ e. new ≡ old)
+
+-- the bytes that a stream of std holds, where they are known
+abbrev pub known : Option (List ℕ) → List ℕ
+known None = []
+known (Some bytes) = bytes

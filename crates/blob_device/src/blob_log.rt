@@ -1,11 +1,12 @@
 // What a device in memory keeps of one blob: its calls, for every earlier moment, and how it reads now.
-ghost use Rattle.std.specs.Prelude.{◌≡◌, ◌+◌, ◌<◌, ◌^◌, ◌++◌, [], ◌∷◌, length, take, drop, ◌≤◌, OnOk, OnErr, List, ℕ, Option, Some, None};
-ghost use Rattle.std.specs.Option.{option_map};
+ghost use Rattle.std.specs.Prelude.{◌≡◌, ◌/◌, cond, ◌+◌, ◌<◌, ◌^◌, ◌++◌, [], ◌∷◌, length, take, drop, ◌≤◌, OnOk, OnErr, IfOk, true, List, ℕ, Option, Some, None};
+ghost use Rattle.std.specs.Option.{option_map, option_copied};
 ghost use Rattle.blob_device.specs.Counts.{next};
-ghost use Rattle.blob_device.specs.Disk.{Blob};
+ghost use Rattle.blob_device.specs.Disk.{Blob, reads, begun};
 ghost use Rattle.blob_device.specs.Change.{written, resized};
-ghost use Rattle.blob_device.specs.Calls.{replay, begun, Reads, start_of, opening, change_of};
+ghost use Rattle.blob_device.specs.Calls.{replay, Reads, start_of, starts_with_bytes, opening, change_of};
 
+use crate::history::History;
 use std::alloc::{AllocError, Global};
 
 /// A change of one blob.
@@ -26,7 +27,8 @@ pub struct Call {
     pub failed: bool,
 }
 
-fn write_into(content: &mut Vec<u8>, at: usize, bytes: &[u8]) -> Result<(), AllocError>
+/// Writes the bytes from this place on; a gap is filled with zeros. Where it finds no memory, nothing changes.
+pub fn write_into(content: &mut Vec<u8>, at: usize, bytes: &[u8]) -> Result<(), AllocError>
     ensures ok { OnOk result (content.new.items ≡ written content.old.items at bytes.now) }
     ensures err { OnErr result (content.new.items ≡ content.old.items) }
 {
@@ -45,6 +47,17 @@ fn write_into(content: &mut Vec<u8>, at: usize, bytes: &[u8]) -> Result<(), Allo
     content.resize(at, 0)?;
     content.extend_from_slice(bytes)?;
     Ok(())
+}
+
+/// What a write leaves of its bytes: all, or where it failed the first half.
+pub fn left_of(bytes: &[u8], failed: bool) -> &[u8]
+    ensures { result.now ≡ cond failed (take (length bytes.now / 2) bytes.now) bytes.now }
+{
+    if failed {
+        &bytes[..bytes.len() / 2]
+    } else {
+        bytes
+    }
 }
 
 /// What a blob reads as.
@@ -74,11 +87,7 @@ impl Found {
                 }
             }
             Step::Write(at, bytes) => {
-                let part = if failed {
-                    &bytes[..bytes.len() / 2]
-                } else {
-                    &bytes[..]
-                };
+                let part = left_of(bytes.as_slice(), failed);
                 write_into(&mut self.content, *at as usize, part)?;
             }
             Step::Resize(len) => {
@@ -109,6 +118,7 @@ pub struct BlobLog {
     calls: Vec<Call>,
     found: Found,
     reads: Option<u64>,
+    ghost bytes: { starts_with_bytes (start_of start) ≡ true },
     ghost tied: { Reads (replay calls.items (begun (start_of start))) found.there found.content.items },
 }
 
@@ -123,9 +133,10 @@ fn reads_after(step: &Step, failed: bool, reads: Option<u64>) -> Option<u64>
 }
 
 impl BlobLog {
-    ghost use Rattle.blob_device.specs.Calls.{no_track, IsCall, pushed, read_once, now, change_of};
+    ghost use Rattle.blob_device.specs.Calls.{no_track, started, IsCall, pushed, read_once, now, change_of};
     ghost use Rattle.blob_device.specs.declared.blob_log.Call.{Call};
     ghost use Rattle.blob_device.specs.Tracks.{track_of};
+    ghost use Rattle.blob_device.specs.Histories.{IsHistory};
 
     /// A blob that was never there. It takes no memory.
     pub fn new(alloc: Global) -> BlobLog
@@ -140,6 +151,43 @@ impl BlobLog {
             },
             reads: None,
         }
+    }
+
+    /// A blob that had these bytes when the device was made.
+    pub fn started(alloc: Global, bytes: &[u8]) -> Result<BlobLog, AllocError>
+        ensures { IfOk result (λ l. track_of l ≡ started bytes.now) }
+    {
+        Ok(BlobLog {
+            start: Some(bytes.to_vec(alloc)?),
+            calls: Vec::new(alloc),
+            found: Found {
+                there: true,
+                content: bytes.to_vec(alloc)?,
+            },
+            reads: None,
+        })
+    }
+
+    /// The blob as it reads.
+    pub fn as_read(&self, alloc: Global) -> Result<Option<Vec<u8>>, AllocError>
+        ensures { IfOk result (λ o. option_map (λ v. v.items) o ≡ reads (now (track_of self.now))) }
+    {
+        if self.found.there {
+            Ok(Some(self.found.content.as_slice().to_vec(alloc)?))
+        } else {
+            Ok(None)
+        }
+    }
+
+    /// What a crash may leave of the blob.
+    pub fn history(&self, alloc: Global) -> Result<History, AllocError>
+        ensures { IfOk result (λ h. IsHistory h (now (track_of self.now))) }
+    {
+        let mut history = History::new(alloc, bytes_of(&self.start))?;
+        for call in &self.calls {
+            history.advance(call)?;
+        }
+        Ok(history)
     }
 
     /// Keeps a call, and makes its change. Where it finds no memory, nothing changes.
@@ -182,6 +230,15 @@ impl BlobLog {
         ensures { result ≡ length (now (track_of self.now)).content }
     {
         self.found.content.len() as u64
+    }
+}
+
+fn bytes_of(start: &Option<Vec<u8>>) -> Option<&[u8]>
+    ensures { option_copied result ≡ start_of start.now }
+{
+    match start {
+        Some(bytes) => Some(bytes.as_slice()),
+        None => None,
     }
 }
 

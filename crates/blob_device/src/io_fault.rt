@@ -1,8 +1,8 @@
 // What a call of a source or a sink may answer.
-use std::alloc::{AllocError, AllocFailed};
-
 ghost use Rattle.blob_device.specs.declared.io_fault.IoFault.TheVariants.{Mem};
 ghost use Rattle.std.specs.Prelude.{◌≡◌};
+
+use std::alloc::{AllocError, AllocFailed};
 
 /// Why bytes were not read or written.
 #[derive(Clone, Copy, Debug, PartialEq, Eq, thiserror::Error)]

@@ -2,9 +2,13 @@
 #![tactic(auto)]
 
 mod blob_log;
+mod build;
+mod crash;
 mod device;
 mod error;
 mod failing;
+mod history;
+mod image;
 mod io_fault;
 mod logs;
 mod memory;
@@ -14,8 +18,10 @@ mod sink;
 mod source;
 mod table;
 
+pub use crash::CrashChoice;
 pub use device::Device;
 pub use error::DevError;
+pub use image::Image;
 pub use io_fault::IoFault;
 pub use memory::Memory;
 pub use names::Names;

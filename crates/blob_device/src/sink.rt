@@ -1,7 +1,8 @@
 // Where bytes are written to: the trait, a sink in memory, and one over a writer of std.
-ghost use Rattle.std.specs.Prelude.{◌≡◌, ◌≤◌, ◌<◌, ◌||◌, ◌==◌, ℕ, Bool, true, false, List, [], length, IfOk, IfSome, OnOk, OnErr};
+ghost use Rattle.std.specs.Prelude.{◌≡◌, ◌≤◌, ◌<◌, ◌||◌, ◌==◌, min, take, ℕ, Bool, true, false, List, [], length, IfOk, IfSome, OnOk, OnErr};
 ghost use Rattle.std.specs.Result.{IsErrOf, IsOkUnless};
 ghost use Rattle.blob_device.specs.Counts.{next};
+ghost use Rattle.std.specs.Io.KnownBytes.{Appends};
 ghost use Rattle.blob_device.specs.Streams.{Faulted, HasWritten};
 
 use crate::failing::is_listed;
@@ -20,7 +21,8 @@ pub trait Sink {
     /// How often a write has failed, up to the end of a u64.
     ghost faults: { Self → ℕ };
 
-    /// Takes the first of these bytes, at least one, and answers how many. After an Err nothing was taken.
+    /// Takes the first of these bytes, at least one, and answers how many. After an Err nothing was taken, where this is
+    /// told.
     fn write(&mut self, bytes: &[u8]) -> Result<usize, IoFault>
         requires { 0 < length bytes.now }
         ensures bound { IfOk result (λ n. (0 < n) × (n ≤ length bytes.now)) }
@@ -40,12 +42,13 @@ pub struct MemSink {
 }
 
 impl MemSink {
-    ghost use Rattle.blob_device.specs.MemStreams.{sink_taken, sink_writes, sink_faults, sink_fails};
+    ghost use Rattle.blob_device.specs.MemStreams.{sink_taken, sink_writes, sink_faults, sink_fails, sink_piece};
 
     /// An empty sink, which takes at most `piece` bytes at a time. It takes no memory.
     pub fn new(alloc: Global, piece: usize) -> MemSink
         requires { 0 < piece }
         ensures nothing_taken { sink_taken result ≡ [] }
+        ensures piece { sink_piece result ≡ piece }
         ensures unwritten { sink_writes result ≡ 0 }
         ensures no_fault { sink_faults result ≡ 0 }
         ensures never_fails { (n : ℕ) → sink_fails result n ≡ false }
@@ -66,6 +69,7 @@ impl MemSink {
         ensures taken { sink_taken self.new ≡ sink_taken self.old }
         ensures writes { sink_writes self.new ≡ sink_writes self.old }
         ensures faults { sink_faults self.new ≡ sink_faults self.old }
+        ensures piece { sink_piece self.new ≡ sink_piece self.old }
         ensures memory { IsOkUnless result DevError.Mem }
     {
         self.failing.push(nth)?;
@@ -81,7 +85,7 @@ impl MemSink {
 }
 
 impl Sink for MemSink {
-    ghost use Rattle.blob_device.specs.MemStreams.{sink_taken, sink_writes, sink_faults, sink_fails};
+    ghost use Rattle.blob_device.specs.MemStreams.{sink_taken, sink_writes, sink_faults, sink_fails, sink_piece};
 
     ghost Tells = { Unit {0} };
 
@@ -97,6 +101,9 @@ impl Sink for MemSink {
         ensures fails { sink_fails self.old (sink_writes self.old) ≡ true → result ≡ Err IoFault.Fault }
         ensures succeeds { sink_fails self.old (sink_writes self.old) ≡ false → IsOkUnless result IoFault.Mem × (sink_faults self.new ≡ sink_faults self.old) }
         ensures counted { sink_writes self.new ≡ next (sink_writes self.old) }
+        ensures piece { IfOk result (λ n. n ≡ min (length bytes.now) (sink_piece self.old)) }
+        ensures piece_stays { sink_piece self.new ≡ sink_piece self.old }
+        ensures one_fault { IsErrOf result IoFault.Fault → sink_faults self.new ≡ next (sink_faults self.old) }
         ensures fails_as_before { (n : ℕ) → sink_fails self.new n ≡ sink_fails self.old n }
     {
         let number = self.writes;
@@ -111,7 +118,10 @@ impl Sink for MemSink {
     }
 }
 
-/// A writer of std, flushed after each write, with the number of its errors. It tells no bytes.
+/// A writer of std, flushed after each write, with the number of its errors.
+///
+/// It does not tell the bytes that it took, since a writer may have taken some before its flush failed. What a write that
+/// ends Ok added to the writer is told.
 #[derive(Drop)]
 pub struct StdSink<W> {
     writer: W,
@@ -119,17 +129,21 @@ pub struct StdSink<W> {
 }
 
 impl<W: Write> StdSink<W> {
+    ghost use Rattle.blob_device.specs.StdStreams.{writer_of, write_faults};
+
     /// A sink over this writer.
     pub fn new(writer: W) -> StdSink<W>
-        ensures { result.faults ≡ 0 }
+        ensures writer { writer_of result ≡ writer }
+        ensures no_fault { write_faults result ≡ 0 }
     {
         StdSink { writer, faults: 0 }
     }
 
     // None where an error came or nothing was taken.
     fn write_and_flush(&mut self, bytes: &[u8]) -> Option<usize>
-        ensures faults { self.new.faults ≡ self.old.faults }
+        ensures faults { write_faults self.new ≡ write_faults self.old }
         ensures bound { IfSome result (λ n. (0 < n) × (n ≤ length bytes.now)) }
+        ensures written { IfSome result (λ n. Appends (W.contents (writer_of self.old)) (W.contents (writer_of self.new)) (take n bytes.now)) }
     {
         let count = self.writer.write(bytes).ok()?;
         self.writer.flush().ok()?;
@@ -138,13 +152,21 @@ impl<W: Write> StdSink<W> {
 }
 
 impl<W: Write> Sink for StdSink<W> {
+    ghost use Rattle.blob_device.specs.StdStreams.{writer_of, write_faults};
+
     ghost Tells = { ⊥ };
 
     ghost taken = { λ s. [] };
 
-    ghost faults = { λ s. s.faults };
+    ghost faults = { write_faults };
 
-    fn write(&mut self, bytes: &[u8]) -> Result<usize, IoFault> {
+    fn write(&mut self, bytes: &[u8]) -> Result<usize, IoFault>
+        requires { 0 < length bytes.now }
+        ensures bound { IfOk result (λ n. (0 < n) × (n ≤ length bytes.now)) }
+        ensures faults { Faulted result (write_faults self.old) (write_faults self.new) }
+        ensures told { ⊥ → HasWritten result [] [] bytes.now }
+        ensures written { IfOk result (λ n. Appends (W.contents (writer_of self.old)) (W.contents (writer_of self.new)) (take n bytes.now)) }
+    {
         match self.write_and_flush(bytes) {
             Some(count) => Ok(count),
             None => {

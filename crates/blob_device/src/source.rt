@@ -1,8 +1,8 @@
 // Where bytes are read from: the trait, a source in memory, and one over a reader of std.
-ghost use Rattle.std.specs.Prelude.{◌≡◌, ◌≤◌, ◌<◌, ◌||◌, ◌==◌, min, take, ℕ, Bool, true, false, List, [], length, IfOk, IsOk, OnOk, OnErr, IsErrOf};
+ghost use Rattle.std.specs.Prelude.{◌≡◌, ◌≤◌, ◌<◌, ◌||◌, ◌==◌, min, IsSome, take, ℕ, Bool, true, false, List, [], length, IfOk, IsOk, IsErr, OnOk, OnErr, IsErrOf};
 ghost use Rattle.std.specs.Result.{IsOkUnless};
 ghost use Rattle.blob_device.specs.Counts.{next};
-ghost use Rattle.blob_device.specs.Streams.{Faulted, HasRead};
+ghost use Rattle.blob_device.specs.Streams.{Faulted, HasRead, known};
 
 use crate::failing::is_listed;
 use crate::{DevError, IoFault};
@@ -44,7 +44,7 @@ pub struct MemSource {
 }
 
 impl MemSource {
-    ghost use Rattle.blob_device.specs.MemStreams.{source_left, source_reads, source_faults, source_fails};
+    ghost use Rattle.blob_device.specs.MemStreams.{source_left, source_reads, source_faults, source_fails, source_piece};
 
     /// A source of these bytes, which gives at most `piece` of them at a time.
     pub fn new(alloc: Global, bytes: &[u8], piece: usize) -> Result<MemSource, DevError>
@@ -53,6 +53,7 @@ impl MemSource {
         ensures unread { IfOk result (λ s. source_reads s ≡ 0) }
         ensures no_fault { IfOk result (λ s. source_faults s ≡ 0) }
         ensures never_fails { IfOk result (λ s. (n : ℕ) → source_fails s n ≡ false) }
+        ensures piece { IfOk result (λ s. source_piece s ≡ piece) }
         ensures memory { IsOkUnless result DevError.Mem }
     {
         Ok(MemSource {
@@ -72,6 +73,7 @@ impl MemSource {
         ensures left { source_left self.new ≡ source_left self.old }
         ensures reads { source_reads self.new ≡ source_reads self.old }
         ensures faults { source_faults self.new ≡ source_faults self.old }
+        ensures piece { source_piece self.new ≡ source_piece self.old }
         ensures memory { IsOkUnless result DevError.Mem }
     {
         self.failing.push(nth)?;
@@ -90,7 +92,7 @@ fn copy_front(from: &[u8], most: usize, into: &mut [u8]) -> usize
 }
 
 impl Source for MemSource {
-    ghost use Rattle.blob_device.specs.MemStreams.{source_left, source_reads, source_faults, source_fails};
+    ghost use Rattle.blob_device.specs.MemStreams.{source_left, source_reads, source_faults, source_fails, source_piece};
 
     ghost Tells = { Unit {0} };
 
@@ -107,6 +109,9 @@ impl Source for MemSource {
         ensures fails { source_fails self.old (source_reads self.old) ≡ true → result ≡ Err IoFault.Fault }
         ensures succeeds { source_fails self.old (source_reads self.old) ≡ false → IsOk result × (source_faults self.new ≡ source_faults self.old) }
         ensures counted { source_reads self.new ≡ next (source_reads self.old) }
+        ensures piece { IfOk result (λ n. n ≡ min (min (length (source_left self.old)) (source_piece self.old)) (length buf.old)) }
+        ensures piece_stays { source_piece self.new ≡ source_piece self.old }
+        ensures one_fault { IsErr result → source_faults self.new ≡ next (source_faults self.old) }
         ensures fails_as_before { (n : ℕ) → source_fails self.new n ≡ source_fails self.old n }
     {
         let number = self.reads;
@@ -122,7 +127,7 @@ impl Source for MemSource {
     }
 }
 
-/// A reader of std, with the number of its errors. It tells no bytes.
+/// A reader of std, with the number of its errors. It tells the bytes that are left where the reader's type does.
 #[derive(Drop)]
 pub struct StdSource<R> {
     reader: R,
@@ -130,20 +135,25 @@ pub struct StdSource<R> {
 }
 
 impl<R: Read> StdSource<R> {
+    ghost use Rattle.blob_device.specs.StdStreams.{reader_of, read_faults};
+
     /// A source over this reader.
     pub fn new(reader: R) -> StdSource<R>
-        ensures { result.faults ≡ 0 }
+        ensures reader { reader_of result ≡ reader }
+        ensures no_fault { read_faults result ≡ 0 }
     {
         StdSource { reader, faults: 0 }
     }
 }
 
 impl<R: Read> Source for StdSource<R> {
-    ghost Tells = { ⊥ };
+    ghost use Rattle.blob_device.specs.StdStreams.{reader_of, read_faults};
 
-    ghost left = { λ s. [] };
+    ghost Tells = { (r : R) → IsSome (R.remaining r) };
 
-    ghost faults = { λ s. s.faults };
+    ghost left = { λ s. known (R.remaining (reader_of s)) };
+
+    ghost faults = { read_faults };
 
     fn read(&mut self, buf: &mut [u8]) -> Result<usize, IoFault> {
         match self.reader.read(buf) {
@@ -153,5 +163,29 @@ impl<R: Read> Source for StdSource<R> {
                 Err(IoFault::Fault)
             }
         }
+    }
+}
+
+#[cfg(test)]
+mod tests {
+    use super::*;
+    use crate::{Sink, StdSink};
+    use std::io::Cursor;
+    use std::test::Fail;
+
+    #[test]
+    fn streams_of_std_pass_bytes_on(rt: HostRuntime) -> Result<(), Fail> {
+        let mut source = StdSource::new(Cursor::new(b"abcde".as_slice()));
+        let mut buf = [0u8; 3];
+        assert_eq!(rt; source.read(&mut buf).ok(), Some(3));
+        assert_eq!(rt; buf.as_slice(), b"abc".as_slice());
+        assert_eq!(rt; source.read(&mut buf).ok(), Some(2));
+        assert_eq!(rt; source.read(&mut buf).ok(), Some(0));
+        let mut bytes = Vec::new(rt.alloc());
+        let mut sink = StdSink::new(&mut bytes);
+        assert_eq!(rt; sink.write(b"ab").ok(), Some(2));
+        assert_eq!(rt; sink.write(b"c").ok(), Some(1));
+        assert_eq!(rt; bytes.as_slice(), b"abc".as_slice());
+        Ok(())
     }
 }

@@ -50,6 +50,22 @@ impl<V: Drop> Table<V> {
             None => unreachable!(),
         }
     }
+
+    /// Takes the value away, if there is one.
+    pub fn remove(&mut self, partition: &[u8], name: &[u8])
+        ensures { at_key self.new.partitions ≡ put (at_key self.old.partitions) (partition.now, name.now) None }
+    {
+        if let Some(names) = self.partitions.get_mut(partition) {
+            remove_name(names, name);
+        }
+    }
+}
+
+fn remove_name<V: Drop>(names: &mut BTreeMap<Vec<u8>, V>, name: &[u8])
+    ensures here { at_name names.new name.now ≡ None }
+    ensures others { (q : List ℕ) → q ≢ name.now → at_name names.new q ≡ at_name names.old q }
+{
+    names.remove(name);
 }
 
 /// Makes the partition where it is absent, with no name.

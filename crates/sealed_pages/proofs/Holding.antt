@@ -80,21 +80,24 @@ pub holds_more : (seal : List ℕ → ℕ) (u v : Buffer) (all more : List ℕ) 
 holds_more seal u v all more b is holds = subst (λ (x : Buffer). Holds seal x (all ++ more) b) (sym is) (record {
   state = record {
     ready = λ e. ready_more seal u.page_size all more (flushed_of u) u.settled u.newest b (holds.state.ready e);
-    adopted = λ e. (let a = holds.state.adopted e in (record {
-      σ = a.0.σ;
-      is = a.0.is;
-      content = record {
-        fits = omega (arith, a.0.content.fits, length-append all more);
-        below = a.0.content.below;
-        same = data_more seal u.page_size all more (flushed_of u) (view b.content) a.0.content.fits a.0.content.same;
-        covers = a.0.content.covers;
-      };
-      head = a.0.head;
-      longer = a.0.longer;
-      shorter = a.0.shorter;
-      inside = a.0.inside;
-      clean = a.0.clean;
-    }, a.1));
+    adopted = λ e. (let a = holds.state.adopted e in (
+      record {
+        σ = a.0.σ;
+        is = a.0.is;
+        content = record {
+          fits = omega (arith, a.0.content.fits, length-append all more);
+          below = a.0.content.below;
+          same = data_more seal u.page_size all more (flushed_of u) (view b.content) a.0.content.fits a.0.content.same;
+          covers = a.0.content.covers;
+        };
+        head = a.0.head;
+        longer = a.0.longer;
+        shorter = a.0.shorter;
+        inside = a.0.inside;
+        clean = a.0.clean;
+      },
+      a.1,
+    ));
   };
   tip_at = stands_more all u.tip more (u.first * u.page_size) holds.tip_at holds.size;
   size = omega (arith, holds.size, length-append all more, length-append u.tip more);
@@ -133,10 +136,13 @@ bytes_is u all content pos same at size = ext_get_or 0 (bytes_of u content) all 
   where
     front : List ℕ
     front = data_from u.page_size (view content) 0 (u.first * u.page_size)
+
     len_front : length (data_from u.page_size (view content) 0 (u.first * u.page_size)) ≡ u.first * u.page_size
     len_front = length-data_from u.page_size (view content) (u.first * u.page_size) 0
+
     long : length (bytes_of u content) ≡ size_of u
     long = omega (arith, length-append (data_from u.page_size (view content) 0 (u.first * u.page_size)) u.tip, len_front)
+
     in_front : (i : ℕ) → i < u.first * u.page_size → get_or (bytes_of u content) i 0 ≡ get_or all i 0
     in_front i lt =
         let d = div_place u.page_size i pos in
@@ -148,10 +154,12 @@ bytes_is u all content pos same at size = ext_get_or 0 (bytes_of u content) all 
         ∙ ap (view content) (place_in u.page_size (i / u.page_size) (i - i / u.page_size * u.page_size) near)
         ∙ same (i / u.page_size) (i - i / u.page_size * u.page_size) near (omega (arith, is, lt))
         ∙ ap (λ (x : ℕ). get_or all x 0) is
+
     in_tip : (i : ℕ) → u.first * u.page_size ≤ i → i < length (bytes_of u content) → get_or (bytes_of u content) i 0 ≡ get_or all i 0
     in_tip i past lt = get_or-append_right (data_from u.page_size (view content) 0 (u.first * u.page_size)) u.tip (u.first * u.page_size) i 0 len_front past
         ∙ at.same (i - u.first * u.page_size) (omega (arith, past, lt, long))
         ∙ (let e : u.first * u.page_size + (i - u.first * u.page_size) ≡ i = omega (arith, past) in ap (λ (x : ℕ). get_or all x 0) e)
+
     place_is : (i : ℕ) → i < length (bytes_of u content) → get_or (bytes_of u content) i 0 ≡ get_or all i 0
     place_is i lt = elim (cases_lt i (u.first * u.page_size)) [
       | inl below ↦ in_front i below

@@ -39,8 +39,8 @@ module _ (seal : List ℕ → ℕ) (P : ℕ) (bytes : List ℕ) (F : ℕ) (σ : 
   cut_same c j m b long less =
       let inside : slot_at P m b + 6 ≤ page_at P j = omega (arith, slot_high P m b, page_apart P m j less) in
       slot_same seal P (resized c (page_at P j)) c m b (omega (arith, inside, length-resized c (page_at P j))) (omega (arith, inside, long))
-          (λ i near. resized_below c (page_at P j) (slot_at P m b + i) (omega (arith, near, inside)))
-          (λ i near short. resized_below c (page_at P j) (page_at P m + i) (omega (arith, short, page_apart P m j less)))
+      (λ i near. resized_below c (page_at P j) (slot_at P m b + i) (omega (arith, near, inside)))
+      (λ i near short. resized_below c (page_at P j) (page_at P m + i) (omega (arith, short, page_apart P m j less)))
 
   pub cut_clean : (c : List ℕ) (j m : ℕ) (b : Bool) → page_at P j ≤ length c → m < j → IsClean seal P c m b → IsClean seal P (resized c (page_at P j)) m b
   cut_clean c j m b long less (inl some) = inl (omega (arith, some, cut_same c j m b long less))
@@ -84,14 +84,15 @@ module _ (seal : List ℕ → ℕ) (P : ℕ) (bytes : List ℕ) (F : ℕ) (σ : 
     pub behind_ok : {v : Unit {0}} {t1 : Timeline} (j : ℕ) → F ≤ j * P → page_at P j ≤ length (disk t0 key).content → Passes {T = Unit {0}} key (Resize (page_at P j)) (Ok v) t0 t1
         → Kept seal P bytes F w σ (disk t1 key) × (length (disk t1 key).content ≤ page_at P j) × ((k : ℕ) (b : Bool) → k < j → IsClean seal P (disk t0 key).content k b → IsClean seal P (disk t1 key).content k b)
     behind_ok {v = v} {t1 = t1} j le long passes =
-        let is : (disk t1 key).content ≡ resized (disk t0 key).content (page_at P j) = ap (λ (b : Blob). b.content) (ok_blob key (Resize (page_at P j)) v t0 t1 passes) in
-        (record {
-          stands = sealed_after (Held seal P w F σ) (view w) (Sound seal P bytes) key (Resize (page_at P j)) (Ok v) t0 t1 passes kept.stands (avoids_behind w j le) (kept_sound _ (content_cut _ j le long kept.content));
-          covers = kept.covers;
-          content = subst (KeptContent seal P bytes F σ) (sym is) (content_cut _ j le long kept.content);
-        },
-        omega (arith, ap length is, length-resized (disk t0 key).content (page_at P j)),
-        λ k b less clean. subst (λ (c : List ℕ). IsClean seal P c k b) (sym is) (cut_clean (disk t0 key).content j k b long less clean))
+        let is : (disk t1 key).content ≡ resized (disk t0 key).content (page_at P j) = ap (λ (b : Blob). b.content) (ok_blob key (Resize (page_at P j)) v t0 t1 passes) in (
+          record {
+            stands = sealed_after (Held seal P w F σ) (view w) (Sound seal P bytes) key (Resize (page_at P j)) (Ok v) t0 t1 passes kept.stands (avoids_behind w j le) (kept_sound _ (content_cut _ j le long kept.content));
+            covers = kept.covers;
+            content = subst (KeptContent seal P bytes F σ) (sym is) (content_cut _ j le long kept.content);
+          },
+          omega (arith, ap length is, length-resized (disk t0 key).content (page_at P j)),
+          λ k b less clean. subst (λ (c : List ℕ). IsClean seal P c k b) (sym is) (cut_clean (disk t0 key).content j k b long less clean),
+        )
 
     module _ (j : ℕ) (b : Bool) (other : σ j ≢ b) (inside : j * P < F) (short : length (disk t0 key).content ≤ page_at P (j + 1)) where
       pub clear_any : {r : Result (Unit {0}) DevError} {t1 : Timeline} → Passes key (Write (slot_at P j b) no_slot) r t0 t1 → Sealing seal P bytes F key t0 t1
@@ -101,15 +102,16 @@ module _ (seal : List ℕ → ℕ) (P : ℕ) (bytes : List ℕ) (F : ℕ) (σ : 
       pub clear_ok : {v : Unit {0}} {t1 : Timeline} → Passes {T = Unit {0}} key (Write (slot_at P j b) no_slot) (Ok v) t0 t1
           → Kept seal P bytes F w σ (disk t1 key) × (IsClean seal P (disk t1 key).content j b) × (length (disk t1 key).content ≤ page_at P (j + 1))
       clear_ok {v = v} {t1 = t1} passes =
-          let is : (disk t1 key).content ≡ written (disk t0 key).content (slot_at P j b) no_slot = ap (λ (x : Blob). x.content) (ok_blob key (Write (slot_at P j b) no_slot) v t0 t1 passes) in
-          (record {
-            stands = sealed_after (Held seal P w F σ) (view w) (Sound seal P bytes) key (Write (slot_at P j b) no_slot) (Ok v) t0 t1 passes kept.stands
-                (held_slot seal P w F σ (disk t0 key) kept.stands.guards j b no_slot refl (λ lt. other)) (kept_sound _ (content_clear _ j b pos other inside short kept.content));
-            covers = kept.covers;
-            content = subst (KeptContent seal P bytes F σ) (sym is) (content_clear _ j b pos other inside short kept.content);
-          },
-          inr (subst (λ (c : List ℕ). named_length (view c) (slot_at P j b) ≡ 0) (sym is) (zero_named (view (written (disk t0 key).content (slot_at P j b) no_slot)) (slot_at P j b) zero_is)),
-          omega (arith, ap length is, length-written (disk t0 key).content (slot_at P j b) no_slot, short, slot_high P j b, page_next P j))
+          let is : (disk t1 key).content ≡ written (disk t0 key).content (slot_at P j b) no_slot = ap (λ (x : Blob). x.content) (ok_blob key (Write (slot_at P j b) no_slot) v t0 t1 passes) in (
+            record {
+              stands = sealed_after (Held seal P w F σ) (view w) (Sound seal P bytes) key (Write (slot_at P j b) no_slot) (Ok v) t0 t1 passes kept.stands
+                  (held_slot seal P w F σ (disk t0 key) kept.stands.guards j b no_slot refl (λ lt. other)) (kept_sound _ (content_clear _ j b pos other inside short kept.content));
+              covers = kept.covers;
+              content = subst (KeptContent seal P bytes F σ) (sym is) (content_clear _ j b pos other inside short kept.content);
+            },
+            inr (subst (λ (c : List ℕ). named_length (view c) (slot_at P j b) ≡ 0) (sym is) (zero_named (view (written (disk t0 key).content (slot_at P j b) no_slot)) (slot_at P j b) zero_is)),
+            omega (arith, ap length is, length-written (disk t0 key).content (slot_at P j b) no_slot, short, slot_high P j b, page_next P j),
+          )
         where
           zero_is : (i : ℕ) → i < 2 → view (written (disk t0 key).content (slot_at P j b) no_slot) (slot_at P j b + i) ≡ 0
           zero_is zero lt = slot_is seal P (disk t0 key).content j b no_slot refl 0 (omega arith)

@@ -73,7 +73,7 @@ four_at c at =
 pub front_at : (P n : ℕ) (c : List ℕ) → n ≤ length c → bytes_at (view c) (page_at P 0) n ≡ take n c
 front_at P n c fits = ext_get_or 0 (bytes_at (view c) (page_at P 0) n) (take n c) (omega (arith, length-bytes_at (view c) n (page_at P 0), length-take n c, fits))
     (λ i lt. let inside : i < n = omega (arith, lt, length-bytes_at (view c) n (page_at P 0)) in
-      get_or-bytes_at (view c) n (page_at P 0) i inside ∙ (let e : page_at P 0 + i ≡ i = omega (arith, page_zero P) in ap (view c) e) ∙ sym (get_or-take n c i 0 inside))
+    get_or-bytes_at (view c) n (page_at P 0) i inside ∙ (let e : page_at P 0 + i ≡ i = omega (arith, page_zero P) in ap (view c) e) ∙ sym (get_or-take n c i 0 inside))
 
 -- A page by itself, and in the blob.
 module _ (seal : List ℕ → ℕ) (P : ℕ) (c : List ℕ) (k : ℕ) where
@@ -93,7 +93,7 @@ module _ (seal : List ℕ → ℕ) (P : ℕ) (c : List ℕ) (k : ℕ) where
   moved : (d : List ℕ) (n x y : ℕ) → y ≡ page_at P k + x → x + n ≤ P + 12 → ((i : ℕ) → i < P + 12 → view d i ≡ view c (page_at P k + i)) → bytes_at (view d) x n ≡ bytes_at (view c) y n
   moved d n x y is fits same = ext_get_or 0 (bytes_at (view d) x n) (bytes_at (view c) y n) (length-bytes_at (view d) n x ∙ sym (length-bytes_at (view c) n y))
       (λ i lt. let inside : i < n = omega (arith, lt, length-bytes_at (view d) n x) in
-        get_or-bytes_at (view d) n x i inside ∙ same (x + i) (omega (arith, inside, fits)) ∙ (let e : page_at P k + (x + i) ≡ y + i = omega (arith, is) in ap (view c) e) ∙ sym (get_or-bytes_at (view c) n y i inside))
+      get_or-bytes_at (view d) n x i inside ∙ same (x + i) (omega (arith, inside, fits)) ∙ (let e : page_at P k + (x + i) ≡ y + i = omega (arith, is) in ap (view c) e) ∙ sym (get_or-bytes_at (view c) n y i inside))
 
   move_list : (d : List ℕ) (b : Bool) → ((i : ℕ) → i < P + 12 → view d i ≡ view c (page_at P k + i)) → bytes_at (view d) (slot_at P 0 b) 2 ≡ bytes_at (view c) (slot_at P k b) 2
   move_list d b same = moved d 2 (slot_at P 0 b) (slot_at P k b) (offset b) (omega (arith, low b)) same
@@ -115,14 +115,16 @@ module _ (seal : List ℕ → ℕ) (P : ℕ) (c : List ℕ) (k : ℕ) where
         where
           four : bytes_at (view d) (slot_at P 0 b + 2) 4 ≡ bytes_at (view c) (slot_at P k b + 2) 4
           four = moved d 4 (slot_at P 0 b + 2) (slot_at P k b + 2) (omega (arith, offset b)) (omega (arith, low b)) same
+
           seals : named_seal (view d) (slot_at P 0 b) ≡ named_seal (view c) (slot_at P k b)
           seals = ap (from_be_bytes w32) four
+
           by_seal : bytes_at (view d) (slot_at P 0 b) 2 ≡ bytes_at (view c) (slot_at P k b) 2 → named_length (view d) (slot_at P 0 b) ≡ named_length (view c) (slot_at P k b) → named_length (view c) (slot_at P k b) ≤ P
               → (computed_seal seal P (view c) (page_at P k) (slot_at P k b) (named_length (view c) (slot_at P k b)) ≡ named_seal (view c) (slot_at P k b)) ⊎ (computed_seal seal P (view c) (page_at P k) (slot_at P k b) (named_length (view c) (slot_at P k b)) ≢ named_seal (view c) (slot_at P k b))
               → slot_length seal P d 0 b ≡ slot_length seal P c k b
           by_seal two name fits yes_no =
               let front : bytes_at (view d) (page_at P 0) (named_length (view d) (slot_at P 0 b)) ≡ bytes_at (view c) (page_at P k) (named_length (view c) (slot_at P k b))
-                    = ap (bytes_at (view d) (page_at P 0)) name ∙ moved d (named_length (view c) (slot_at P k b)) (page_at P 0) (page_at P k) (omega (arith, page_zero P)) (omega (arith, page_zero P, fits)) same in
+              = ap (bytes_at (view d) (page_at P 0)) name ∙ moved d (named_length (view c) (slot_at P k b)) (page_at P 0) (page_at P k) (omega (arith, page_zero P)) (omega (arith, page_zero P, fits)) same in
               let made : computed_seal seal P (view d) (page_at P 0) (slot_at P 0 b) (named_length (view d) (slot_at P 0 b)) ≡ computed_seal seal P (view c) (page_at P k) (slot_at P k b) (named_length (view c) (slot_at P k b)) = λ t. seal (two t ++ front t) in
               elim yes_no [
                 | inl holds ↦ slot_right seal P d 0 b in_d (omega (arith, name, fits)) (made ∙ holds ∙ sym seals) ∙ name ∙ sym (slot_right seal P c k b in_c fits holds)
@@ -139,6 +141,7 @@ unchanged_on {T = T} {k = k} {r = r} a b passes = always_on a a b (λ d. d ≡ d
     from_after : (s : Result T DevError) → (disk b k ≡ disk a k) → Passes k Look s a b → disk b ≡ disk a
     from_after s here p = let after = passes_after k Look s a b p in
         after.is ∙ ap (put (disk a) k) (sym (ap (λ (d : Disk). d k) after.is ∙ put_same (disk a) k after.blob) ∙ here) ∙ put_self (disk a) k
+
     same : (s : Result T DevError) → Passes k Look s a b → disk b ≡ disk a
     same (Ok v) p = from_after (Ok v) (ok_blob k Look v a b p) p
     same (Err e) p = from_after (Err e) (err_has {T = T} (λ x. x ≡ disk a k) k Look e a b p refl (λ new is. is)) p

@@ -100,7 +100,7 @@ module _ (seal : List ℕ → ℕ) (P : ℕ) (bytes : List ℕ) (F L : ℕ) (new
         sealed_on one second
         (held_slot seal P begun.ready.w L begun.ready.σ (disk t1 key) now.guards k b (slot_bytes seal P page) (length-slot_bytes seal P page) other)
         (subst (λ (c : List ℕ). Sound seal P bytes (written c (slot_at P k b) (slot_bytes seal P page))) (sym (page_content t1 v first))
-          (tidy_sound seal P bytes (F + length (drop f page)) (written (written (disk t0 key).content (page_at P k + f) (drop f page)) (slot_at P k b) (slot_bytes seal P page)) done_now.fits done_now.quiet done_now.same))
+        (tidy_sound seal P bytes (F + length (drop f page)) (written (written (disk t0 key).content (page_at P k + f) (drop f page)) (slot_at P k b) (slot_bytes seal P page)) done_now.fits done_now.quiet done_now.same))
 
     pub page_leaves : {t2 : Timeline} → Always t0 t2 (OnlyAt key (disk t0) (Stands seal P bytes begun.ready.w L begun.ready.σ)) → Always t0 t2 (OnlyAt key (disk t0) (Leaves seal P bytes L))
     page_leaves {t2 = t2} always = only_weaker t0 t2 key (disk t0) (Stands seal P bytes begun.ready.w L begun.ready.σ) (Leaves seal P bytes L)
@@ -128,9 +128,11 @@ module _ (seal : List ℕ → ℕ) (P : ℕ) (bytes : List ℕ) (F L : ℕ) (new
           | inr (inl less) ↦ absurd (omega (arith, high, times_more j k P less))
           | inr (inr more) ↦ absurd (omega (arith, low, begun.size, times_more k j P more))
         ]
+
         content2 : (disk t2 key).content ≡ written (written (disk t0 key).content (page_at P k + f) (drop f page)) (slot_at P k b) (slot_bytes seal P page)
         content2 = ap (λ (x : Blob). x.content) (ok_blob key (Write (slot_at P k b) (slot_bytes seal P page)) u t1 t2 second)
             ∙ ap (λ (c : List ℕ). written c (slot_at P k b) (slot_bytes seal P page)) (page_content t1 v first)
+
         far : F + length (drop f page) ≡ k * P + length page
         far = omega (arith, length-drop f page, begun.is, begun.new)
 
@@ -191,7 +193,7 @@ module _ (seal : List ℕ → ℕ) (P : ℕ) (pos : 1 ≤ P) (key : Key) (bytes 
   synced_any {t0 = t0} {t1 = t1} ready passes = only_weaker t0 t1 key (disk t0) (Stands seal P bytes ready.w L ready.σ) (Leaves seal P bytes L)
       (λ x stands. stands_leaves seal P ready.w L ready.σ bytes x pos ready.settled stands)
       (sealed_on (sealed_start t0 key (Held seal P ready.w L ready.σ) (view ready.w) (Sound seal P bytes) ready.stands) passes tt
-        (tidy_sound seal P bytes F (disk t0 key).content ready.flushed.fits ready.flushed.quiet ready.flushed.same))
+      (tidy_sound seal P bytes F (disk t0 key).content ready.flushed.fits ready.flushed.quiet ready.flushed.same))
 
   pub synced_ok : {v : Unit {0}} {t0 t1 : Timeline} → Ready seal P bytes F L newest (disk t0 key) → Passes {T = Unit {0}} key Settle (Ok v) t0 t1 → (slot : Bool) → ((k : ℕ) → k * P < F → F < k * P + P → slot ≡ last_slot P F L newest k) → Ready seal P bytes F F slot (disk t1 key)
   synced_ok {v = v} {t0 = t0} {t1 = t1} ready passes slot pick = subst (Ready seal P bytes F F slot) (sym (ok_blob key Settle v t0 t1 passes)) (ready_synced (disk t0 key) slot ready pick)
@@ -243,14 +245,19 @@ module _ (seal : List ℕ → ℕ) (P : ℕ) (bytes : List ℕ) (key : Key) (t0 
     where
       short : f < P
       short = omega (arith, new, size)
+
       chunk_is : (i : ℕ) → i < length (drop f page) → get_or (drop f page) i 0 ≡ get_or bytes (k * P + f + i) 0
       chunk_is i lt = get_or-drop f page i 0 ∙ at.same (f + i) (omega (arith, lt, length-drop f page)) ∙ (let e : k * P + (f + i) ≡ k * P + f + i = omega arith in ap (λ (j : ℕ). get_or bytes j 0) e)
+
       data1 : Data P bytes (k * P + f + length (drop f page)) (view (written (disk t0 key).content (page_at P k + f) (drop f page)))
       data1 = data_same seal P bytes (k * P + f) (disk t0 key).content k f (page_at P k + f) (drop f page) refl short refl (omega (arith, length-drop f page, new, size)) was chunk_is
+
       now : Data P bytes (k * P + f + length (drop f page)) (view (written (written (disk t0 key).content (page_at P k + f) (drop f page)) (slot_at P k b) (slot_bytes seal P page)))
       now = slot_data_kept seal P (written (disk t0 key).content (page_at P k + f) (drop f page)) k b (slot_bytes seal P page) (length-slot_bytes seal P page) bytes (k * P + f + length (drop f page)) data1
+
       far : k * P + f + length (drop f page) ≡ k * P + length page
       far = omega (arith, length-drop f page, new)
+
       content2 : (disk t2 key).content ≡ written (written (disk t0 key).content (page_at P k + f) (drop f page)) (slot_at P k b) (slot_bytes seal P page)
       content2 = ap (λ (x : Blob). x.content) (ok_blob key (Write (slot_at P k b) (slot_bytes seal P page)) u t1 t2 second)
           ∙ ap (λ (c : List ℕ). written c (slot_at P k b) (slot_bytes seal P page)) (ap (λ (x : Blob). x.content) (ok_blob key (Write (page_at P k + f) (drop f page)) v t0 t1 first))

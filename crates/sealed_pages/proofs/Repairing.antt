@@ -60,17 +60,21 @@ module _ (seal : List ℕ → ℕ) (P : ℕ) where
       own_slot false true true d e = absurd (d refl)
       own_slot true false true d e = absurd (e refl)
       own_slot true false false d e = absurd (d refl)
+
       whole_before : (j : ℕ) (x : Bool) → (j ≡ k → x ≢ b) → j ≤ k → slot_at P j x + 6 ≤ length c
       whole_before j x other before = elim (cases_eq j k) [
         | inl same ↦ (let e : slot_at P j x ≡ slot_at P k a = (λ t. slot_at P (same t) (own_slot x a b differ (other same) t)) in omega (arith, e, whole))
         | inr not_k ↦ (let less : j < k = omega (arith, before, not_k) in omega (arith, slot_high P j x, page_apart P j k less, slot_low P k a, whole))
       ]
+
       kept : (j ≡ k → x ≢ b) → slot_at P j x + 6 ≤ length c → slot_length seal P (written c (slot_at P k b) no_slot) j x ≡ slot_length seal P c j x
       kept other stands = slot_kept seal P c k b no_slot refl j x other stands
+
       zero_is : (i : ℕ) → i < 2 → view (written c (slot_at P k b) no_slot) (slot_at P k b + i) ≡ 0
       zero_is zero lt = slot_is seal P c k b no_slot refl 0 (omega arith)
       zero_is (suc zero) lt = slot_is seal P c k b no_slot refl 1 (omega arith)
       zero_is (suc (suc i)) lt = absurd (omega (arith, lt))
+
       named_same_slot : j ≡ k → x ≡ b → named_length (view (written c (slot_at P k b) no_slot)) (slot_at P j x) ≡ 0
       named_same_slot e f = (λ t. named_length (view (written c (slot_at P k b) no_slot)) (slot_at P (e t) (f t))) ∙ zero_named (view (written c (slot_at P k b) no_slot)) (slot_at P k b) zero_is
 
@@ -79,8 +83,8 @@ module _ (seal : List ℕ → ℕ) (P : ℕ) where
   behind_below F c j long below k b some = elim (cases_lt k j) [
     | inl less ↦ (let inside : slot_at P k b + 6 ≤ page_at P j = omega (arith, slot_high P k b, page_apart P k j less) in
         let kept : slot_length seal P (resized c (page_at P j)) k b ≡ slot_length seal P c k b = slot_same seal P (resized c (page_at P j)) c k b (omega (arith, inside, length-resized c (page_at P j))) (omega (arith, inside, long))
-          (λ i near. resized_below c (page_at P j) (slot_at P k b + i) (omega (arith, near, inside)))
-          (λ i near short. resized_below c (page_at P j) (page_at P k + i) (omega (arith, short, page_apart P k j less))) in
+        (λ i near. resized_below c (page_at P j) (slot_at P k b + i) (omega (arith, near, inside)))
+        (λ i near short. resized_below c (page_at P j) (page_at P k + i) (omega (arith, short, page_apart P k j less))) in
         omega (arith, kept, below k b (omega (arith, some, kept))))
     | inr le ↦ absurd (omega (arith, page_order j k le, slot_low P k b, length-resized c (page_at P j), slot_stands seal P (resized c (page_at P j)) k b some))
   ]

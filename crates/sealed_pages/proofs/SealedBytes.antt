@@ -59,8 +59,14 @@ module _ (seal : List ℕ → ℕ) (P : ℕ) where
     | inr le ↦ omega (arith, le)
   ]
   sealed_low v L (suc m) k covers fuel = elim (rest_is v k m) [
-    | inl full ↦ omega (arith, length-step v k m, full.0, ap length full.1, times_next k P,
-        sealed_low v L m (k + 1) (λ j le lt. covers j (omega (arith, le)) lt) (λ j le lt. omega (arith, fuel j (omega (arith, le)) lt)))
+    | inl full ↦ omega (
+      arith,
+      length-step v k m,
+      full.0,
+      ap length full.1,
+      times_next k P,
+      sealed_low v L m (k + 1) (λ j le lt. covers j (omega (arith, le)) lt) (λ j le lt. omega (arith, fuel j (omega (arith, le)) lt)),
+    )
     | inr part ↦ elim (cases_lt (k * P) L) [
       | inl lt ↦ (let below : page_length seal P v k < P = omega (arith, part.0, page_length-le v k) in omega (arith, length-step v k m, below, covers k (omega arith) lt))
       | inr le ↦ omega (arith, le)
@@ -93,15 +99,19 @@ module _ (seal : List ℕ → ℕ) (P : ℕ) where
       where
         here : k * P + page_length seal P v k ≤ length bytes
         here = page_within k start
+
         full_next : page_length seal P v k ≡ P → (k + 1) * P ≤ length bytes
         full_next full = omega (arith, here, full, times_next k P)
+
         by_rest : ((page_length seal P v k ≡ P) × (rest v k m ≡ sealed_from seal P v (k + 1) m)) ⊎ ((page_length seal P v k ≢ P) × (rest v k m ≡ [])) → k * P + length (sealed_from seal P v k (suc m)) ≤ length bytes
         by_rest (inl full) = omega (arith, length-step v k m, full.0, ap length full.1, times_next k P, (next (full_next full.0)).0)
         by_rest (inr part) = omega (arith, length-step v k m, ap length part.1, here)
+
         in_page : (i : ℕ) → i < page_length seal P v k → get_or (sealed_from seal P v k (suc m)) i 0 ≡ get_or bytes (k * P + i) 0
         in_page i lt = ap (λ (l : List ℕ). get_or l i 0) (sealed_step v k m)
             ∙ get_or_append_left (bytes_at (view v) (page_at P k) (page_length seal P v k)) (rest v k m) 0 i (omega (arith, lt, length-bytes_at (view v) (page_length seal P v k) (page_at P k)))
             ∙ get_or-bytes_at (view v) (page_length seal P v k) (page_at P k) i lt ∙ page_same k i lt
+
         in_rest : (i : ℕ) → page_length seal P v k ≤ i → i < length (sealed_from seal P v k (suc m)) → ((page_length seal P v k ≡ P) × (rest v k m ≡ sealed_from seal P v (k + 1) m)) ⊎ ((page_length seal P v k ≢ P) × (rest v k m ≡ []))
             → get_or (sealed_from seal P v k (suc m)) i 0 ≡ get_or bytes (k * P + i) 0
         in_rest i past lt (inr part) = absurd (omega (arith, past, lt, length-step v k m, ap length part.1))
@@ -110,6 +120,7 @@ module _ (seal : List ℕ → ℕ) (P : ℕ) where
             ∙ ap (λ (l : List ℕ). get_or l (i - page_length seal P v k) 0) full.1
             ∙ (next (full_next full.0)).1 (i - page_length seal P v k) (omega (arith, past, lt, length-step v k m, ap length full.1))
             ∙ (let e : (k + 1) * P + (i - page_length seal P v k) ≡ k * P + i = omega (arith, past, full.0, times_next k P) in ap (λ (j : ℕ). get_or bytes j 0) e)
+
         places : (i : ℕ) → i < length (sealed_from seal P v k (suc m)) → get_or (sealed_from seal P v k (suc m)) i 0 ≡ get_or bytes (k * P + i) 0
         places i lt = elim (cases_lt i (page_length seal P v k)) [
           | inl inside ↦ in_page i inside
@@ -130,9 +141,10 @@ module _ (seal : List ℕ → ℕ) (P : ℕ) where
   some_sound bytes (p ∷ ps) v k b some all (inr later) = some_sound bytes ps v k b some all.1 later
   some_sound bytes (p ∷ ps) v k b some all (inl same) =
       let is : slot_length seal P v k b ≡ slot_length seal P p k b = slot_same seal P v p k b (slot_stands seal P v k b some) same.stands (λ i lt. sym (same.slot i lt))
-          (λ i lt short. sym (same.bytes i (omega (arith, lt, slot_named seal P v k b some)))) in
-      (omega (arith, is, all.0.within k b (omega (arith, some, is))),
-       λ i lt. sym (same.bytes i lt) ∙ all.0.same k b i (omega (arith, lt, is)))
+      (λ i lt short. sym (same.bytes i (omega (arith, lt, slot_named seal P v k b some)))) in (
+        omega (arith, is, all.0.within k b (omega (arith, some, is))),
+        λ i lt. sym (same.bytes i lt) ∙ all.0.same k b i (omega (arith, lt, is)),
+      )
 
   pub sound_crash : (bytes : List ℕ) (cs : List (List ℕ)) (c : List ℕ) → AllByRecursion (Sound seal P bytes) cs → NoChanceSeal seal P cs c → Sound seal P bytes c
   sound_crash bytes cs c all chance = record {
@@ -146,8 +158,8 @@ module _ (seal : List ℕ → ℕ) (P : ℕ) where
       let some : 1 ≤ slot_length seal P v k (σ k) = omega (arith, pos, lt, covers k lt) in
       let last : slot_at P k (σ k) + 5 < length w = within (slot_at P k (σ k) + 5) (k, lt, inl (record { low = omega arith; high = omega arith })) in
       let is : slot_length seal P v k (σ k) ≡ slot_length seal P w k (σ k) = slot_same seal P v w k (σ k) (slot_stands seal P v k (σ k) some) (omega (arith, last))
-          (λ i near. sym (same (slot_at P k (σ k) + i) (k, lt, inl (record { low = omega arith; high = omega (arith, near) }))))
-          (λ i near short. sym (same (page_at P k + i) (k, lt, inr (record { low = omega arith; high = omega (arith, near, slot_named seal P v k (σ k) some) })))) in
+      (λ i near. sym (same (slot_at P k (σ k) + i) (k, lt, inl (record { low = omega arith; high = omega (arith, near) }))))
+      (λ i near short. sym (same (page_at P k + i) (k, lt, inr (record { low = omega arith; high = omega (arith, near, slot_named seal P v k (σ k) some) })))) in
       omega (arith, is, covers k lt)
 
   -- a page with a slot that matches begins within the content
@@ -159,7 +171,7 @@ module _ (seal : List ℕ → ℕ) (P : ℕ) where
   unfolding sealed_prefix
   covers_length c L σ pos covers =
       let low = sealed_low c L (pages_in P c) 0 (λ j le lt. omega (arith, covers j lt, page_length-slot c j (σ j)))
-          (λ j le lt. omega (arith, slot_inside c j (σ j) (omega (arith, pos, lt, covers j lt)))) in
+      (λ j le lt. omega (arith, slot_inside c j (σ j) (omega (arith, pos, lt, covers j lt)))) in
       omega (arith, low)
 
   -- what is sound is sealed up to a prefix of the bytes
@@ -179,7 +191,7 @@ module _ (seal : List ℕ → ℕ) (P : ℕ) where
   pub stands_leaves : (w : List ℕ) (L : ℕ) (σ : ℕ → Bool) (bytes : List ℕ) (b : Blob) → 1 ≤ P → Covers seal P w L σ → Stands seal P bytes w L σ b → Leaves seal P bytes L b
   stands_leaves w L σ bytes b pos covers s = guards_left (Held seal P w L σ) (view w) b (λ c. NoChanceSeal seal P (past b) c → Prefix seal P bytes L c) s.guards
       (λ c hold chance. sound_prefix bytes c (sound_crash bytes (past b) c s.all chance) L
-        (covers_length c L σ pos (covers_same w c L σ pos covers (λ i held. guards_crash (Held seal P w L σ) (view w) b s.guards c hold i held) (λ i held. omega (arith, s.guards.short i held, hold.no_shorter)))))
+      (covers_length c L σ pos (covers_same w c L σ pos covers (λ i held. guards_crash (Held seal P w L σ) (view w) b s.guards c hold i held) (λ i held. omega (arith, s.guards.short i held, hold.no_shorter)))))
 
 pub all_map : {A B : List ℕ → Type 0} → ((p : List ℕ) → A p → B p) → (cs : List (List ℕ)) → AllByRecursion A cs → AllByRecursion B cs
 all_map f [] all = all

@@ -115,14 +115,18 @@ module _ (seal : List ℕ → ℕ) (P : ℕ) where
     where
       v : View
       v = view c
+
       w : View
       w = view d
+
       with_bytes : Bool → List ℕ → ℕ
       with_bytes stands l = pick (named_length v (slot_at P k b)) (seal (bytes_at v (slot_at P k b) 2 ++ l)) (named_seal v (slot_at P k b)) (leb (named_length v (slot_at P k b)) P) stands
+
       step1 : bytes_at v (page_at P k) (named_length v (slot_at P k b)) ≡ bytes_at w (page_at P k) (named_length v (slot_at P k b))
           → leb (slot_at P k b + 6) (length c) ≡ true → leb (slot_at P k b + 6) (length d) ≡ true
           → slot_length seal P c k b ≡ with_bytes (leb (slot_at P k b + 6) (length d)) (bytes_at w (page_at P k) (named_length v (slot_at P k b)))
       step1 e f g = λ t. with_bytes ((f ∙ sym g) t) (e t)
+
       step2 : bytes_at v (slot_at P k b) 2 ≡ bytes_at w (slot_at P k b) 2 → bytes_at v (slot_at P k b + 2) 4 ≡ bytes_at w (slot_at P k b + 2) 4
           → with_bytes (leb (slot_at P k b + 6) (length d)) (bytes_at w (page_at P k) (named_length v (slot_at P k b))) ≡ slot_length seal P d k b
       step2 e f = λ t. pick (from_be_bytes w16 (e t)) (seal (e t ++ bytes_at w (page_at P k) (from_be_bytes w16 (e t)))) (from_be_bytes w32 (f t)) (leb (from_be_bytes w16 (e t)) P) (leb (slot_at P k b + 6) (length d))

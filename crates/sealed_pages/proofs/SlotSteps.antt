@@ -46,31 +46,43 @@ module _ (seal : List ℕ → ℕ) (P : ℕ) where
     where
       v : View
       v = view content
+
       lens : List ℕ
       lens = to_be_bytes w16 (length bytes)
+
       sums : List ℕ
       sums = to_be_bytes w32 (seal (to_be_bytes w16 (length bytes) ++ bytes))
+
       first : bytes_at v (slot_at P k b) (length lens) ≡ lens
       first = bytes_at-list v lens (slot_at P k b) (λ i lt. slot i (omega (arith, lt, length-two_bytes (length bytes))) ∙ get_or_append_left lens sums 0 i lt)
+
       e : bytes_at v (slot_at P k b) 2 ≡ lens
       e = ap (bytes_at v (slot_at P k b)) (sym (length-two_bytes (length bytes))) ∙ first
+
       second : bytes_at v (slot_at P k b + 2) (length sums) ≡ sums
       second = bytes_at-list v sums (slot_at P k b + 2) (λ i lt. let place : slot_at P k b + 2 + i ≡ slot_at P k b + (2 + i) = omega arith in
           ap v place ∙ slot (2 + i) (omega (arith, lt, length-four_bytes (seal (to_be_bytes w16 (length bytes) ++ bytes))))
           ∙ get_or-append_right lens sums 2 (2 + i) 0 (length-two_bytes (length bytes)) (omega arith)
           ∙ (let off : 2 + i - 2 ≡ i = omega arith in ap (λ (j : ℕ). get_or sums j 0) off))
+
       f : bytes_at v (slot_at P k b + 2) 4 ≡ sums
       f = ap (bytes_at v (slot_at P k b + 2)) (sym (length-four_bytes (seal (to_be_bytes w16 (length bytes) ++ bytes)))) ∙ second
+
       n : named_length v (slot_at P k b) ≡ length bytes
       n = ap (from_be_bytes w16) e ∙ from_be_bytes-to_be_bytes_2 (length bytes) (omega (arith, short, small))
+
       s : named_seal v (slot_at P k b) ≡ seal (lens ++ bytes)
       s = ap (from_be_bytes w32) f ∙ from_be_bytes-to_be_bytes_4 (seal (to_be_bytes w16 (length bytes) ++ bytes)) (fits (to_be_bytes w16 (length bytes) ++ bytes))
+
       d : bytes_at v (page_at P k) (named_length v (slot_at P k b)) ≡ bytes
       d = ap (bytes_at v (page_at P k)) n ∙ bytes_at-list v bytes (page_at P k) same
+
       c : seal (bytes_at v (slot_at P k b) 2 ++ bytes_at v (page_at P k) (named_length v (slot_at P k b))) ≡ seal (lens ++ bytes)
       c = λ t. seal (e t ++ d t)
+
       inner : ℕ
       inner = cond (leb (named_length v (slot_at P k b)) P) (cond (eqb (seal (bytes_at v (slot_at P k b) 2 ++ bytes_at v (page_at P k) (named_length v (slot_at P k b)))) (named_seal v (slot_at P k b))) (named_length v (slot_at P k b)) 0) 0
+
       shown : cond (leb (slot_at P k b + 6) (length content)) (cond (leb (named_length v (slot_at P k b)) P) (cond (eqb (seal (bytes_at v (slot_at P k b) 2 ++ bytes_at v (page_at P k) (named_length v (slot_at P k b)))) (named_seal v (slot_at P k b))) (named_length v (slot_at P k b)) 0) 0) 0 ≡ length bytes
       shown = ap (λ (t : Bool). cond t inner 0) (le-leb (slot_at P k b + 6) (length content) stands) ∙ ap (λ (t : Bool). cond t (cond (eqb (seal (bytes_at v (slot_at P k b) 2 ++ bytes_at v (page_at P k) (named_length v (slot_at P k b)))) (named_seal v (slot_at P k b))) (named_length v (slot_at P k b)) 0) 0) (le-leb (named_length v (slot_at P k b)) P (omega (arith, n, short)))
           ∙ ap (λ (t : Bool). cond t (named_length v (slot_at P k b)) 0) (eq-eqb (seal (bytes_at v (slot_at P k b) 2 ++ bytes_at v (page_at P k) (named_length v (slot_at P k b)))) (named_seal v (slot_at P k b)) (c ∙ sym s))
@@ -133,17 +145,17 @@ module _ (seal : List ℕ → ℕ) (P : ℕ) where
         let place : page_at P j + (i - page_at P j) ≡ i = omega (arith, page.low) in
         let near : i - page_at P j < slot_length seal P w j (σ j) = omega (arith, page.low, page.high) in
         subst (λ (x : ℕ). (x < at) ⊎ (at + length chunk ≤ x)) place (data_data P j (i - page_at P j) k f at (length chunk) F (omega (arith, near, slot_length-le seal P w j (σ j))) is short
-          (omega (arith, near, held_below F pos covers le quiet j lt)) start (omega (arith, start, end)))
+        (omega (arith, near, held_below F pos covers le quiet j lt)) start (omega (arith, start, end)))
 
     pub held_slot : (k : ℕ) (a : Bool) (six : List ℕ) → length six ≡ 6 → (k * P < L → σ k ≢ a) → Avoids (Held seal P w L σ) (Write (slot_at P k a) six)
     held_slot k a six is_six other i (j, lt, inl slot) =
         let place : slot_at P j (σ j) + (i - slot_at P j (σ j)) ≡ i = omega (arith, slot.low) in
         subst (λ (x : ℕ). (x < slot_at P k a) ⊎ (slot_at P k a + length six ≤ x)) place (subst (λ (n : ℕ). (slot_at P j (σ j) + (i - slot_at P j (σ j)) < slot_at P k a) ⊎ (slot_at P k a + n ≤ slot_at P j (σ j) + (i - slot_at P j (σ j)))) (sym is_six)
-          (slot_slot P j (σ j) (i - slot_at P j (σ j)) k a (omega (arith, slot.low, slot.high)) (λ is. subst (λ (x : ℕ). x * P < L → σ x ≢ a) (sym is) other lt)))
+        (slot_slot P j (σ j) (i - slot_at P j (σ j)) k a (omega (arith, slot.low, slot.high)) (λ is. subst (λ (x : ℕ). x * P < L → σ x ≢ a) (sym is) other lt)))
     held_slot k a six is_six other i (j, lt, inr page) =
         let place : page_at P j + (i - page_at P j) ≡ i = omega (arith, page.low) in
         subst (λ (x : ℕ). (x < slot_at P k a) ⊎ (slot_at P k a + length six ≤ x)) place (subst (λ (n : ℕ). (page_at P j + (i - page_at P j) < slot_at P k a) ⊎ (slot_at P k a + n ≤ page_at P j + (i - page_at P j))) (sym is_six)
-          (data_slot P j (i - page_at P j) k a (omega (arith, page.low, page.high, slot_length-le seal P w j (σ j)))))
+        (data_slot P j (i - page_at P j) k a (omega (arith, page.low, page.high, slot_length-le seal P w j (σ j)))))
 
   -- both steps of a flush in page k: the content is flushed that far
   pub flushed_page : (bytes : List ℕ) (F : ℕ) (τ : ℕ → Bool) (c : List ℕ) (k f at : ℕ) (b : Bool) (chunk page : List ℕ) → ((x : List ℕ) → seal x < 2 ^ 32) → P < 2 ^ 16 → 1 ≤ P → Flushed seal P bytes F τ c
@@ -160,37 +172,51 @@ module _ (seal : List ℕ → ℕ) (P : ℕ) where
     where
       six : List ℕ
       six = slot_bytes seal P page
+
       six_is : length (slot_bytes seal P page) ≡ 6
       six_is = length-slot_bytes page
+
       c1 : List ℕ
       c1 = written c at chunk
+
       c2 : List ℕ
       c2 = written (written c at chunk) (slot_at P k b) (slot_bytes seal P page)
+
       end1 : f + length chunk ≤ P
       end1 = omega (arith, size, end)
+
       quiet1 : Quiet P F (view (written c at chunk))
       quiet1 = data_quiet seal P bytes F c k f at chunk is short start end1 was.quiet
+
       data1 : Data P bytes (F + length chunk) (view (written c at chunk))
       data1 = data_same seal P bytes F c k f at chunk is short start end1 was.same chunk_is
+
       data2 : Data P bytes (F + length chunk) (view c2)
       data2 = slot_data_kept c1 k b six six_is bytes (F + length chunk) data1
+
       matches : slot_length seal P c2 k b ≡ length page
       matches = slot_matches c2 k b page (omega (arith, six_is, length-written c1 (slot_at P k b) (slot_bytes seal P page))) fits end small (λ i lt. slot_is c1 k b six six_is i lt)
           (λ i lt. data2 k i (omega (arith, lt, end)) (omega (arith, lt, size, is)) ∙ sym (page_is i lt))
+
       named_is : named_length (view c2) (slot_at P k b) ≡ length page
       named_is = slot_named seal P c2 k b (omega (arith, matches, some, size)) ∙ matches
+
       picked : (j : ℕ) → j ≡ k → with_slot τ k b j ≡ b
       picked j is_k = ap (λ (t : Bool). cond t b (τ j)) (eq-eqb j k is_k)
+
       unpicked : (j : ℕ) → j ≢ k → with_slot τ k b j ≡ τ j
       unpicked j not_k = ap (λ (t : Bool). cond t b (τ j)) (ne_eqb j k not_k)
+
       before : (j : ℕ) → j ≢ k → j * P < F + length chunk → j * P + P ≤ F
       before j not_k lt = elim (cases_lt j k) [
         | inl less ↦ omega (arith, times_more j k P less, is)
         | inr le ↦ (let more : k < j = omega (arith, le, not_k) in absurd (omega (arith, times_more k j P more, lt, is, end1)))
       ]
+
       kept1 : (j : ℕ) (a : Bool) → j ≢ k → j * P + P ≤ F → slot_at P j a + 6 ≤ length c → slot_length seal P c1 j a ≡ slot_length seal P c j a
       kept1 j a not_k full stands = slot_same seal P c1 c j a (omega (arith, stands, length-written c at chunk)) stands (λ i lt. data_slots seal P bytes F c k f at chunk is short start end1 j a i lt)
           (λ i lt near. data_below seal P bytes F c k f at chunk is short start end1 j i near (omega (arith, near, full)))
+
       covered : Covers seal P c2 (F + length chunk) (with_slot τ k b)
       covered j lt = elim (cases_eq j k) [
         | inl is_k ↦ (let whole_is : slot_length seal P c2 j (with_slot τ k b j) ≡ length page = (ap (slot_length seal P c2 j) (picked j is_k) ∙ ap (λ (m : ℕ). slot_length seal P c2 m b) is_k ∙ matches) in
@@ -199,7 +225,7 @@ module _ (seal : List ℕ → ℕ) (P : ℕ) where
             let below : j * P < F = omega (arith, full, pos) in
             let was_whole : slot_at P j (τ j) + 6 ≤ length c = slot_stands seal P c j (τ j) (omega (arith, was.covers j below, below, pos)) in
             let whole_is : slot_length seal P c2 j (with_slot τ k b j) ≡ slot_length seal P c j (τ j) =
-                ap (slot_length seal P c2 j) (unpicked j not_k) ∙ slot_kept c1 k b six six_is j (τ j) (λ e. absurd (not_k e)) (omega (arith, was_whole, length-written c at chunk)) ∙ kept1 j (τ j) not_k full was_whole in
+            ap (slot_length seal P c2 j) (unpicked j not_k) ∙ slot_kept c1 k b six six_is j (τ j) (λ e. absurd (not_k e)) (omega (arith, was_whole, length-written c at chunk)) ∙ kept1 j (τ j) not_k full was_whole in
             omega (arith, whole_is, full, was.covers j below))
       ]
 

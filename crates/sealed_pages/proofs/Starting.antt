@@ -75,14 +75,17 @@ backed_of u c begun long tip k i lt below = elim (cases_lt (k * u.page_size + i)
   where
     wide : u.from ≤ u.page_size
     wide = omega (arith, begun)
+
     len : length (data_from u.page_size (view c) 0 (u.first * u.page_size)) ≡ u.first * u.page_size
     len = length-data_from u.page_size (view c) (u.first * u.page_size) 0
+
     in_page : k ≡ u.first → view c (page_at u.page_size k + i) ≡ get_or (bytes_of u c) (k * u.page_size + i) 0
     in_page is =
         let near : i < u.from = omega (arith, below, ap (λ (m : ℕ). m * u.page_size) is) in
         let off : k * u.page_size + i - u.first * u.page_size ≡ i = omega (arith, ap (λ (m : ℕ). m * u.page_size) is) in
         ap (λ (m : ℕ). view c (page_at u.page_size m + i)) is ∙ sym (tip i near) ∙ sym (ap (λ (x : ℕ). get_or u.tip x 0) off)
         ∙ sym (get_or-append_right (data_from u.page_size (view c) 0 (u.first * u.page_size)) u.tip (u.first * u.page_size) (k * u.page_size + i) 0 len (omega (arith, ap (λ (m : ℕ). m * u.page_size) is)))
+
     in_tip : u.first * u.page_size ≤ k * u.page_size + i → (k ≡ u.first) ⊎ ((k < u.first) ⊎ (u.first < k)) → view c (page_at u.page_size k + i) ≡ get_or (bytes_of u c) (k * u.page_size + i) 0
     in_tip past (inl is) = in_page is
     in_tip past (inr (inl less)) = absurd (omega (arith, past, lt, times_more k u.first u.page_size less))
@@ -152,6 +155,7 @@ module _ (seal : List ℕ → ℕ) (P : ℕ) (c : List ℕ) (found : Option Last
           let inside : i < p.have = omega (arith, lt, s.begun, have, ap length finds.4, length-take p.have buf) in
           sym (get_or-take p.have buf i 0 inside) ∙ ap (λ (l : List ℕ). get_or l i 0) finds.4 ∙ part_view seal P c p.page i (omega (arith, lt, s.begun))
           ∙ ap (λ (m : ℕ). view c (page_at P m + i)) (sym (s.within some))
+
       go : (r : Option LastPage) → Finds seal P c r buf → StartsOver seal P c r first from newest behind torn → get_or buf i 0 ≡ view c (page_at P first + i)
       go None finds s = absurd (omega (arith, lt, s.1))
       go (Some p) finds s = here p finds s

@@ -58,13 +58,13 @@ pub holds_synced : (seal : List ℕ → ℕ) (r : Buffer) (all : List ℕ) (key 
 holds_synced seal r all key t1 t2 v end slot begun unsettled is pick holds passes = elim (bool_or (r.behind || r.torn)) [
   | inl left ↦ absurd (unsettled (holds.state.adopted left).1)
   | inr clean ↦ record {
-      state = record {
-        ready = λ e. subst (λ (n : ℕ). Ready seal r.page_size all (flushed_of r) n slot (disk t2 key)) (sym is) (synced_ok seal r.page_size (omega (arith, begun)) key all (flushed_of r) r.settled r.newest (holds.state.ready clean) passes slot picked);
-        adopted = λ e. absurd (cc (e, clean));
-      };
-      tip_at = holds.tip_at;
-      size = holds.size;
-    }
+    state = record {
+      ready = λ e. subst (λ (n : ℕ). Ready seal r.page_size all (flushed_of r) n slot (disk t2 key)) (sym is) (synced_ok seal r.page_size (omega (arith, begun)) key all (flushed_of r) r.settled r.newest (holds.state.ready clean) passes slot picked);
+      adopted = λ e. absurd (cc (e, clean));
+    };
+    tip_at = holds.tip_at;
+    size = holds.size;
+  }
 ]
   where
     picked : (k : ℕ) → k * r.page_size < flushed_of r → flushed_of r < k * r.page_size + r.page_size → slot ≡ last_slot r.page_size (flushed_of r) r.settled r.newest k

@@ -21,8 +21,8 @@ module _ (seal : List ℕ → ℕ) (P : ℕ) where
   unfoldable pub slot_length : List ℕ → ℕ → Bool → ℕ
   slot_length c k second = let n = named_length (view c) (slot_at P k second) in
       cond (leb (slot_at P k second + 6) (length c))
-          (cond (leb n P) (cond (eqb (computed_seal (view c) (page_at P k) (slot_at P k second) n) (named_seal (view c) (slot_at P k second))) n 0) 0)
-          0
+      (cond (leb n P) (cond (eqb (computed_seal (view c) (page_at P k) (slot_at P k second) n) (named_seal (view c) (slot_at P k second))) n 0) 0)
+      0
 
   -- a page's length: the greater length of its matching slots, or 0
   unfoldable pub page_length : List ℕ → ℕ → ℕ

@@ -10,8 +10,8 @@ ghost use Rattle.sealed_pages.specs.Flushing.{Alone, last_slot};
 ghost use Rattle.sealed_pages.specs.Buffer.{Fit, Buffer, extent, key_of, size_of, bytes_of, flushed_of, Holds, IsSealed};
 ghost use Rattle.sealed_pages.specs.Entries.{IsOpenAt, NoReads};
 
-use crate::flush::{flush_pages, next_slot_of};
 use crate::Pages;
+use crate::flush::{flush_pages, next_slot_of};
 use crate::reading::find_last;
 use crate::repair::repair;
 use crate::start::start_of;
@@ -311,11 +311,7 @@ impl<S: Seal> PageBlob<S> {
 
     /// Adds bytes at the end. The answer has the place of the first of them. All that is not flushed is flushed where it is
     /// then at least as long as the capacity; below that no call of the device is made.
-    pub fn append<D: Device>(
-        self,
-        dev: &mut D,
-        bytes: &[u8],
-    ) -> Result<(PageBlob<S>, u64), RError>
+    pub fn append<D: Device>(self, dev: &mut D, bytes: &[u8]) -> Result<(PageBlob<S>, u64), RError>
         requires open { IsOpenAt (D.opened dev.old) (key_of (shown self)) self.end }
         // At every moment, also inside a call of the device, each crash leaves a blob whose sealed prefix is a prefix
         // of the bytes, those of this call included, and no shorter than what has settled.

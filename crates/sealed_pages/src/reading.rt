@@ -107,7 +107,12 @@ pub fn find_last<D: Device, S: Seal>(
         let first_len = matching_len::<S>(page_size, &buf[..have], false);
         let second_len = matching_len::<S>(page_size, &buf[..have], true);
         if first_len.max(second_len) > 0 {
-            return Ok(Some(LastPage { page, first_len, second_len, have }));
+            return Ok(Some(LastPage {
+                page,
+                first_len,
+                second_len,
+                have,
+            }));
         }
     }
     Ok(None)

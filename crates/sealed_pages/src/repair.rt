@@ -39,7 +39,7 @@ pub fn cut_behind<D: Device, S: Seal>(
         → (behind ≡ true → page_at page_size pages ≤ length (disk (D.time dev.old) (partition.now, name.now)).content)
         → (behind ≡ false → length (disk (D.time dev.old) (partition.now, name.now)).content ≤ page_at page_size pages)
         → Removed S.seal_of page_size all F w σ (λ c. (length c ≤ page_at page_size pages) × ((k : ℕ) (second : Bool) → k < pages → IsClean S.seal_of page_size (disk (D.time dev.old) (partition.now, name.now)).content k second → IsClean S.seal_of page_size c k second))
-            (partition.now, name.now) result (D.time dev.old) (D.time dev.new) }
+        (partition.now, name.now) result (D.time dev.old) (D.time dev.new) }
     ensures wrote { D.Tells → (all : List ℕ) (F : ℕ)
         → Data page_size all F (view (disk (D.time dev.old) (partition.now, name.now)).content)
         → F ≤ pages * page_size
@@ -77,8 +77,8 @@ pub fn clear_torn<D: Device, S: Seal>(
         → (torn ≡ true → σ page ≢ second)
         → (torn ≡ true → length (disk (D.time dev.old) (partition.now, name.now)).content ≤ page_at page_size (page + 1))
         → Removed S.seal_of page_size all F w σ (λ c. ((torn ≡ false → IsClean S.seal_of page_size (disk (D.time dev.old) (partition.now, name.now)).content page second) → IsClean S.seal_of page_size c page second)
-                × ((n : ℕ) → (torn ≡ true → page_at page_size (page + 1) ≤ n) → length (disk (D.time dev.old) (partition.now, name.now)).content ≤ n → length c ≤ n))
-            (partition.now, name.now) result (D.time dev.old) (D.time dev.new) }
+        × ((n : ℕ) → (torn ≡ true → page_at page_size (page + 1) ≤ n) → length (disk (D.time dev.old) (partition.now, name.now)).content ≤ n → length c ≤ n))
+        (partition.now, name.now) result (D.time dev.old) (D.time dev.new) }
     ensures wrote { D.Tells → (all : List ℕ) (F : ℕ)
         → Data page_size all F (view (disk (D.time dev.old) (partition.now, name.now)).content)
         → Wrote page_size all F (partition.now, name.now) result (D.time dev.old) (D.time dev.new) }

@@ -44,7 +44,11 @@ pub fn is_torn(page_size: u16, page: &[u8], len: usize, second: bool) -> bool
 pub fn other_len(last: &LastPage, newest: bool) -> usize
     ensures { result ≡ cond newest last.now.first_len last.now.second_len }
 {
-    if newest { last.first_len } else { last.second_len }
+    if newest {
+        last.first_len
+    } else {
+        last.second_len
+    }
 }
 
 /// The start over the last page with a matching slot. `page` has its bytes that stand below the blob's end.
@@ -68,10 +72,22 @@ pub fn start_at<S: Seal>(page_size: u16, end: u64, last: &LastPage, page: &[u8])
     let behind = page_place(page_size, last.page + 1) < end;
     let len = last.first_len.max(last.second_len);
     if len == usize::from(page_size) {
-        return Start { first: last.page + 1, from: 0, newest, behind, torn: false };
+        return Start {
+            first: last.page + 1,
+            from: 0,
+            newest,
+            behind,
+            torn: false,
+        };
     }
     let torn = is_torn(page_size, page, other_len(last, newest), !newest);
-    Start { first: last.page, from: len, newest, behind, torn }
+    Start {
+        first: last.page,
+        from: len,
+        newest,
+        behind,
+        torn,
+    }
 }
 
 /// The start over what [`find_last`](crate::reading::find_last) found. With no matching slot, all bytes have to be removed.
@@ -88,6 +104,12 @@ pub fn start_of<S: Seal>(page_size: u16, end: u64, found: &Option<LastPage>, buf
 {
     match found {
         Some(last) => start_at::<S>(page_size, end, last, &buf[..last.have]),
-        None => Start { first: 0, from: 0, newest: false, behind: end > 0, torn: false },
+        None => Start {
+            first: 0,
+            from: 0,
+            newest: false,
+            behind: end > 0,
+            torn: false,
+        },
     }
 }

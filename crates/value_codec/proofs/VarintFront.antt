@@ -1,5 +1,5 @@
 -- The function that gives the number at the front of some bytes says what the grammar says.
-use Rattle.std.proofs.Common.{◌≡◌, ℕ, ◌<◌, ◌≤◌, ◌⊎◌, List, [], ◌∷◌, ◌++◌, length, take, drop, nat_lt, nat_le, Bool, true, false, ◌&&◌, Decides, if◌then◌else◌, Result, Ok, Err, IfOk, IfErr, arith, refl, sym, ap, ◌∙◌, subst, inl, inr, take-append-drop, length-append, length-take-le, true≢false}
+use Rattle.std.proofs.Common.{◌≡◌, ℕ, ◌<◌, ◌≤◌, List, [], ◌∷◌, ◌++◌, length, take, drop, nat_lt, nat_le, Bool, true, false, ◌&&◌, Decides, if◌then◌else◌, Result, Ok, Err, IfOk, IfErr, arith, refl, sym, ap, ◌∙◌, subst, inl, inr, take-append-drop, length-append, length-take-le, true≢false}
 use Rattle.std.proofs.Math.Seq.{take-append_seam}
 use Rattle.std.specs.List.{list_all}
 use Rattle.std.specs.Cmp.{first_so, second_so}
@@ -9,7 +9,7 @@ use Rattle.std.proofs.lemmas.List.Sums.{AllPass-from_list_all, list_all-from_All
 use Rattle.std.proofs.lemmas.Slice.Eq.{bytes_eq-Decides}
 use Rattle.value_codec.specs.declared.codec.Error.{Error}
 use Rattle.value_codec.specs.declared.codec.Error.TheVariants.{EndOfBuffer, InvalidVarint}
-use Rattle.value_codec.specs.Varint.{IsVarint, varint, BeginsWithVarint, BeginsWithNone, IsCutShort, base128, front, is_cut_short, is_varint, varint_front}
+use Rattle.value_codec.specs.Varint.{IsVarint, varint, BeginsWithVarint, BeginsWithNone, IsCutShort, IsWhyNone, base128, front, is_cut_short, is_varint, varint_front}
 use Rattle.value_codec.proofs.VarintLemmas.{varint_spells, varint_only, cut_none}
 
 front-last : (b : ℕ) (bs : List ℕ) → b < 128 → front (b ∷ bs) ≡ b ∷ []
@@ -129,7 +129,7 @@ front_none limit longest bytes whole none =
 pub front_exact : (limit longest : ℕ) (bytes : List ℕ) (outcome : Result (ℕ × ℕ) Error)
     → IfOk outcome (λ it. BeginsWithVarint limit bytes it.0 it.1)
     → (IsCutShort longest bytes → outcome ≡ Err EndOfBuffer)
-    → IfErr outcome (λ e. ((e ≡ EndOfBuffer) × IsCutShort longest bytes) ⊎ ((e ≡ InvalidVarint) × BeginsWithNone limit bytes))
+    → IfErr outcome (IsWhyNone limit longest bytes)
     → outcome ≡ varint_front limit longest bytes
 front_exact limit longest bytes (Ok it) found cut refused = sym (front_found limit longest bytes it.0 it.1 found)
 front_exact limit longest bytes (Err e) found cut refused =

@@ -9,8 +9,7 @@ use Rattle.std.proofs.Math.Nat.{lt_of_mul-lt-mul_left}
 use Rattle.std.proofs.Math.Pow.{pow_mono}
 use Rattle.std.proofs.Math.Seq.{take-suc, take-add, take-append_seam}
 use Rattle.value_codec.specs.declared.codec.Error.{Error}
-use Rattle.value_codec.specs.declared.codec.Error.TheVariants.{EndOfBuffer, InvalidVarint}
-use Rattle.value_codec.specs.Varint.{IsBase128, IsVarint, varint_within, varint, BeginsWithVarint, BeginsWithNone, IsCutShort}
+use Rattle.value_codec.specs.Varint.{IsBase128, IsVarint, varint_within, varint, BeginsWithVarint, BeginsWithNone, IsCutShort, IsWhyNone, ReadsBack}
 
 -- each byte asks for one more
 abbrev pub GoesOn : List ℕ → Type 0
@@ -354,8 +353,8 @@ not_cut_full bits bytes at value room so_far inside full cut =
 
 -- what begins with a number's varint reads as that number
 pub read_gives : (limit longest : ℕ) (bytes : List ℕ) (outcome : Result (ℕ × ℕ) Error) → IfOk outcome (λ it. BeginsWithVarint limit bytes it.0 it.1)
-    → IfErr outcome (λ e. ((e ≡ EndOfBuffer) × IsCutShort longest bytes) ⊎ ((e ≡ InvalidVarint) × BeginsWithNone limit bytes))
-    → (n : ℕ) (rest : List ℕ) → n < limit → bytes ≡ varint n ++ rest → outcome ≡ Ok (n, length (varint n))
+    → IfErr outcome (IsWhyNone limit longest bytes)
+    → ReadsBack limit bytes outcome
 read_gives limit longest bytes (Ok it) found refused n rest below is =
     let same = one_front (take it.1 bytes) (varint n) (drop it.1 bytes) rest it.0 n found.spelled (varint_spells n) (take-append-drop it.1 bytes ∙ is) in
     let len : it.1 ≡ length (varint n) = sym (length-take-le it.1 bytes found.within) ∙ ap length same.0 in

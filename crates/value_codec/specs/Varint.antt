@@ -1,5 +1,5 @@
 -- A number in little-endian base 128 in its shortest spelling, and which number stands at the front of some bytes.
-use Rattle.std.specs.Prelude.{◌≡◌, ℕ, zero, suc, ◌+◌, ◌*◌, ◌/◌, ◌%◌, ◌<◌, ◌≤◌, List, [], ◌∷◌, All, length, take, nat_lt, nat_le, bytes_eq, ◌&&◌, Bool, Result, Ok, Err, if◌then◌else◌}
+use Rattle.std.specs.Prelude.{◌≡◌, ℕ, zero, suc, ◌+◌, ◌*◌, ◌/◌, ◌%◌, ◌<◌, ◌≤◌, ◌⊎◌, List, [], ◌∷◌, ◌++◌, All, length, take, nat_lt, nat_le, bytes_eq, ◌&&◌, Bool, Result, Ok, Err, if◌then◌else◌}
 use Rattle.std.specs.List.{list_all}
 use Rattle.value_codec.specs.declared.codec.Error.{Error}
 use Rattle.value_codec.specs.declared.codec.Error.TheVariants.{EndOfBuffer, InvalidVarint}
@@ -40,6 +40,16 @@ BeginsWithNone limit bytes = (n len : ℕ) → n < limit → IsVarint (take len 
 pub record IsCutShort (longest : ℕ) (bytes : List ℕ) : Type 0 where
   pub few : length bytes < longest
   pub goes_on : All (λ b. 128 ≤ b) bytes
+
+-- why no number below `limit` is read: the bytes are cut short, or they begin with none
+abbrev pub IsWhyNone : ℕ → ℕ → List ℕ → Error → Type 0
+IsWhyNone limit longest bytes e =
+    ((e ≡ EndOfBuffer) × IsCutShort longest bytes) ⊎ ((e ≡ InvalidVarint) × BeginsWithNone limit bytes)
+
+-- bytes that begin with the varint of a number below `limit` are read as that number
+abbrev pub ReadsBack : ℕ → List ℕ → Result (ℕ × ℕ) Error → Type 0
+ReadsBack limit bytes outcome =
+    (n : ℕ) (rest : List ℕ) → n < limit → bytes ≡ varint n ++ rest → outcome ≡ Ok (n, length (varint n))
 
 -- ---- the same as a function, for the meaning of values whose spelling begins with a number
 

@@ -13,14 +13,23 @@ type Row = (&'static [u8], Option<u64>);
 const GOOD: [Row; 6] = [
     (b"", None),
     (b"put 5 0000000000000001 aa\nget 5\nget 6\nhas 5\n", None),
-    (b"put 18446744073709551615 0000000000000001 -\nget 18446744073709551615\n", None),
+    (
+        b"put 18446744073709551615 0000000000000001 -\nget 18446744073709551615\n",
+        None,
+    ),
     (b"put 0 0123456789abcdef 00ff1234\n", None),
     (b"get 0\nget 10\nhas 9\nhas 100000000000000000\n", None),
-    (b"put 1 ffffffffffffffff 00\nput 1 ffffffffffffffff -\n", None),
+    (
+        b"put 1 ffffffffffffffff 00\nput 1 ffffffffffffffff -\n",
+        None,
+    ),
 ];
 
 const BAD_LINES: [Row; 8] = [
-    (b"put 1 0000000000000001 aa\nput 01 0000000000000001 aa\n", Some(2)),
+    (
+        b"put 1 0000000000000001 aa\nput 01 0000000000000001 aa\n",
+        Some(2),
+    ),
     (b"put 1 000000000000000A aa\n", Some(1)),
     (b"put 1 0000000000000001 aaa\n", Some(1)),
     (b"\n", Some(1)),
@@ -112,7 +121,11 @@ fn reads_the_commands_of_a_script(rt: HostRuntime) -> Result<(), Fail> {
     let text = b"put 5 00000000000000ff aa0f\nget 6\nhas 7\n";
     let script = read_script(rt.alloc(), text, MOST)?;
     match script.as_slice() {
-        [Command::Put(index, key, value), Command::Get(got), Command::Has(had)] => {
+        [
+            Command::Put(index, key, value),
+            Command::Get(got),
+            Command::Has(had),
+        ] => {
             assert_eq!(rt; (*index, *got, *had), (5, 6, 7));
             assert_eq!(rt; key.as_bytes(), [0, 0, 0, 0, 0, 0, 0, 255].as_slice());
             assert_eq!(rt; value.as_bytes(), [0xaa, 0x0f].as_slice());
@@ -129,7 +142,8 @@ fn names_the_first_of_many_empty_lines(rt: HostRuntime) -> Result<(), Fail> {
     Ok(())
 }
 
-const COMMANDS: &[u8] = b"get 0\nget 1\nget 5\nhas 1\nput 0 0123456789abcdef 00ff1234\nput 1 ffffffffffffffff 00
+const COMMANDS: &[u8] =
+    b"get 0\nget 1\nget 5\nhas 1\nput 0 0123456789abcdef 00ff1234\nput 1 ffffffffffffffff 00
 put 1 0000000000000001 aa\nput 5 0000000000000001 aa\nput 18446744073709551615 0000000000000001 -\n";
 
 /// How many of the commands a text begins with, each of them tried.

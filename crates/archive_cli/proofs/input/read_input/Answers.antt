@@ -1,4 +1,4 @@
-use Rattle.std.proofs.Common.{◌≡◌, ℕ, ◌+◌, ◌≤◌, List, [], ◌++◌, length, vec_len, Ok, sym, ap, subst, ◌∙◌, arith}
+use Rattle.std.proofs.Common.{◌≡◌, Ok, subst, arith}
 use Rattle.archive_cli.proofs.InputLemmas.{taken_more, taken_all, taken_at_most, later_cause}
 use Rattle.archive_cli.proofs.input.read_input.Goals as goal
 
@@ -36,3 +36,6 @@ returns-clause-at_most g c t = record {
   number = omega (arith, c.pieces.invariant.bound);
   rest = c.pieces.invariant.told t;
 }
+
+pub returns-in-Ok-false-clause-limit : goal.returns-in-Ok-false-clause-limit
+returns-in-Ok-false-clause-limit g c = omega (arith, c.pieces-test.true, c.in-Ok-false.ensures.ended c.in-Ok-false.field-0-test)

@@ -1,5 +1,4 @@
-use Rattle.std.proofs.Common.{◌≡◌, ◌≤◌, ◌<◌, [], ◌∷◌, length, ap, sym, ◌∙◌, arith, string_bytes, codes}
-use Rattle.std.specs.Fmt.{decimal}
+use Rattle.std.proofs.Common.{◌≡◌, [], ◌∷◌, ap, sym, ◌∙◌, arith, string_bytes, codes}
 use Rattle.archive_cli.proofs.WordsLemmas.{three_words, asks_it, same_text}
 use Rattle.archive_cli.proofs.words.items_of.Goals as goal
 use Rattle.archive_cli.proofs.words.items_of.Goals.{then-items-lt1-via-then-items-lt1, then-items-lt1-via-else-items-lt1+then-items-gt-ITEMS_LIMIT}

@@ -1,11 +1,11 @@
 -- Each line moves from what is left to what was read.
-use Rattle.std.proofs.Common.{◌≡◌, ◌≢◌, ◌+◌, List, ℕ, [], ◌∷◌, ◌++◌, length, map, refl, sym, ap, ◌∙◌, arith, Some, None, subst}
+use Rattle.std.proofs.Common.{◌≡◌, ◌≢◌, ◌+◌, List, ℕ, [], ◌∷◌, length, map, refl, sym, ap, ◌∙◌, arith, subst}
 use Rattle.std.proofs.lemmas.Bool.{eqb-false, eqb-true}
 use Rattle.std.proofs.lemmas.List.{length-map, map-append}
 use Rattle.archives.specs.Machine.{asked}
 use Rattle.value_codec.specs.Keys.{key8_bytes}
-use Rattle.archive_service.specs.Script.{IsFirstBad, IsFirstLine, Spells}
-use Rattle.archive_service.proofs.ScriptLemmas.{IsReadSoFar, first_bad_here, none_read, one_more_read, shorter_rest, whole_read}
+use Rattle.archive_service.specs.Script.{IsFirstBad}
+use Rattle.archive_service.proofs.ScriptLemmas.{IsReadSoFar, first_bad_here, one_more_read, shorter_rest, whole_read}
 use Rattle.archive_service.proofs.script.read_script.Goals as goal
 
 pub loop-rest-smaller : goal.loop-rest-smaller

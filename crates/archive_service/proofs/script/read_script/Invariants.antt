@@ -1,10 +1,7 @@
 -- What was read so far, and what is left.
-use Rattle.std.proofs.Common.{◌≡◌, ◌++◌, length, map}
-use Rattle.std.specs.List.{AllByRecursion}
+use Rattle.std.proofs.Common.{length, map}
 use Rattle.archives.specs.Machine.{asked}
 use Rattle.value_codec.specs.Keys.{key8_bytes}
-use Rattle.archive_service.specs.Script.{CanBeSaid}
-use Rattle.archive_service.specs.Texts.{script_text}
 use Rattle.archive_service.proofs.ScriptLemmas.{IsReadSoFar}
 use Rattle.archive_service.proofs.script.read_script.Given as goal
 

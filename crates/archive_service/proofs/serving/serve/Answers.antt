@@ -11,8 +11,8 @@ loop-command-init g c n =
 
 pub returns-in-Err-clause-replies : goal.returns-in-Err-clause-replies
 returns-in-Err-clause-replies g c =
-    subst (AreReplies _) (sym c.in-Err.ensures.err)
-    (are_replies (asked g.K.Key.key_bytes) c.args.commands.now c.loop-command.command-index c.loop-command.replies (λ n. state_of g.K.Key.key_bytes n c.loop-command.machine) c.loop-command.invariant (omega arith))
+    λ items. subst (AreReplies items _) (sym c.in-Err.ensures.err)
+    (are_replies (asked g.K.Key.key_bytes) c.args.commands.now c.loop-command.command-index c.loop-command.replies (λ n. state_of g.K.Key.key_bytes n c.loop-command.machine) c.loop-command.invariant (omega arith) items)
 
 pub returns-in-Err-clause-end : goal.returns-in-Err-clause-end
 returns-in-Err-clause-end g c =

@@ -1,4 +1,4 @@
-use Rattle.std.proofs.Common.{ap, length, take, drop, sym, ◌∙◌, arith, ◌-◌, ◌+◌, ◌++◌, ◌∷◌, ◌≤◌, rules}
+use Rattle.std.proofs.Common.{ap, length, take, drop, sym, ◌∙◌, arith, ◌-◌, ◌+◌, ◌++◌, ◌∷◌}
 use Rattle.std.proofs.lemmas.List.{length-drop, take_all}
 use Rattle.archive_service.proofs.WordLemmas.{cut_at, cut_none}
 use Rattle.archive_service.proofs.words.cut.Goals as goal

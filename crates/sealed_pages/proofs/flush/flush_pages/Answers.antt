@@ -51,7 +51,7 @@ returns-in_err-reach-clause-told g c t all ready at =
     let place = c.pages.invariant.place c.pages-test.true in
     let fits : c.pages.at + (c.pages.at + c.min-n.result - c.pages.at) ≤ length c.args.tip.now = omega (arith, c.min-n.ensures, c.pages.invariant.in_tip) in
     let step = c.write_page.ensures.told t all (c.args.first * P + (c.pages.at + c.pages.skip)) c.args.settled c.args.newest now.done (omega (arith, place))
-        (part_stands all (c.args.first * P) c.pages.at (c.pages.at + c.min-n.result - c.pages.at) (c.pages.page * P) c.args.tip.now at fits place) c.next_slot_of-second.ensures in
+    (part_stands all (c.args.first * P) c.pages.at (c.pages.at + c.min-n.result - c.pages.at) (c.pages.page * P) c.args.tip.now at fits place) c.next_slot_of-second.ensures in
     let pos : 1 ≤ c.args.page_size = omega (arith, c.requires.begin) in
     record {
       any_moment = (flush_then g.S.Seal.seal_of P pos (c.args.partition.now, c.args.name.now) 0 all _ _ c.args.settled c.args.newest c.write_page.result (g.D.Device.time c.args.dev.now) (g.D.Device.time c.pages.dev) (g.D.Device.time c.write_page.new.dev) now step).any_moment;
@@ -81,9 +81,9 @@ pages-preserved g c =
           let now = c.pages.invariant.told t all ready at in
           let fits : c.pages.at + (c.pages.at + c.min-n.result - c.pages.at) ≤ length c.args.tip.now = omega (arith, n_is, c.pages-test.true) in
           let step = c.in_ok-reach.ensures.told t all (c.args.first * c.args.page_size + (c.pages.at + c.pages.skip)) c.args.settled c.args.newest now.done (omega (arith, place))
-              (part_stands all (c.args.first * c.args.page_size) c.pages.at (c.pages.at + c.min-n.result - c.pages.at) (c.pages.page * c.args.page_size) c.args.tip.now at fits place) c.next_slot_of-second.ensures in
+          (part_stands all (c.args.first * c.args.page_size) c.pages.at (c.pages.at + c.min-n.result - c.pages.at) (c.pages.page * c.args.page_size) c.args.tip.now at fits place) c.next_slot_of-second.ensures in
           let far : c.pages.page * c.args.page_size + length (take (c.pages.at + c.min-n.result - c.pages.at) (drop c.pages.at c.args.tip.now)) ≡ c.args.first * c.args.page_size + (c.pages.at + c.min-n.result + 0)
-              = omega (arith, place, n_is, c.pages-test.true, length-take (c.pages.at + c.min-n.result - c.pages.at) (drop c.pages.at c.args.tip.now), length-drop c.pages.at c.args.tip.now) in
+          = omega (arith, place, n_is, c.pages-test.true, length-take (c.pages.at + c.min-n.result - c.pages.at) (drop c.pages.at c.args.tip.now), length-drop c.pages.at c.args.tip.now) in
           subst (λ (n : ℕ). PageFlushed g.S.Seal.seal_of c.args.page_size {T = ℕ} {E = DevError} all n c.args.settled c.args.newest (c.args.partition.now, c.args.name.now) (Ok 0) (g.D.Device.time c.args.dev.now) (g.D.Device.time c.write_page.new.dev)) far
           (flush_then g.S.Seal.seal_of c.args.page_size pos (c.args.partition.now, c.args.name.now) 0 all _ _ c.args.settled c.args.newest (Ok 0) (g.D.Device.time c.args.dev.now) (g.D.Device.time c.pages.dev) (g.D.Device.time c.write_page.new.dev) now (flushed_as _ 0 step));
       wrote = λ t all was at.
@@ -91,9 +91,9 @@ pages-preserved g c =
           let fits : c.pages.at + (c.pages.at + c.min-n.result - c.pages.at) ≤ length c.args.tip.now = omega (arith, n_is, c.pages-test.true) in
           let here : c.args.first * c.args.page_size + (c.pages.at + c.pages.skip) ≡ c.pages.page * c.args.page_size + c.pages.skip = omega (arith, place) in
           let step = c.in_ok-reach.ensures.wrote t all (subst (λ (n : ℕ). Data c.args.page_size all n (view (disk (g.D.Device.time c.pages.dev) (c.args.partition.now, c.args.name.now)).content)) here now.done)
-              (part_stands all (c.args.first * c.args.page_size) c.pages.at (c.pages.at + c.min-n.result - c.pages.at) (c.pages.page * c.args.page_size) c.args.tip.now at fits place) in
+          (part_stands all (c.args.first * c.args.page_size) c.pages.at (c.pages.at + c.min-n.result - c.pages.at) (c.pages.page * c.args.page_size) c.args.tip.now at fits place) in
           let far : c.pages.page * c.args.page_size + length (take (c.pages.at + c.min-n.result - c.pages.at) (drop c.pages.at c.args.tip.now)) ≡ c.args.first * c.args.page_size + (c.pages.at + c.min-n.result + 0)
-              = omega (arith, place, n_is, c.pages-test.true, length-take (c.pages.at + c.min-n.result - c.pages.at) (drop c.pages.at c.args.tip.now), length-drop c.pages.at c.args.tip.now) in
+          = omega (arith, place, n_is, c.pages-test.true, length-take (c.pages.at + c.min-n.result - c.pages.at) (drop c.pages.at c.args.tip.now), length-drop c.pages.at c.args.tip.now) in
           subst (λ (n : ℕ). Wrote {T = ℕ} {E = DevError} c.args.page_size all n (c.args.partition.now, c.args.name.now) (Ok 0) (g.D.Device.time c.args.dev.now) (g.D.Device.time c.write_page.new.dev)) far
           (wrote_then c.args.page_size 0 all _ _ (c.args.partition.now, c.args.name.now) (Ok 0) (g.D.Device.time c.args.dev.now) (g.D.Device.time c.pages.dev) (g.D.Device.time c.write_page.new.dev) now (wrote_as _ 0 step));
     }
@@ -117,7 +117,7 @@ returns-in_err-reach-clause-wrote g c t all was at =
     let fits : c.pages.at + (c.pages.at + c.min-n.result - c.pages.at) ≤ length c.args.tip.now = omega (arith, c.min-n.ensures, c.pages.invariant.in_tip) in
     let here : c.args.first * c.args.page_size + (c.pages.at + c.pages.skip) ≡ c.pages.page * c.args.page_size + c.pages.skip = omega (arith, place) in
     let step = c.write_page.ensures.wrote t all (subst (λ (n : ℕ). Data c.args.page_size all n (view (disk (g.D.Device.time c.pages.dev) (c.args.partition.now, c.args.name.now)).content)) here now.done)
-        (part_stands all (c.args.first * c.args.page_size) c.pages.at (c.pages.at + c.min-n.result - c.pages.at) (c.pages.page * c.args.page_size) c.args.tip.now at fits place) in
+    (part_stands all (c.args.first * c.args.page_size) c.pages.at (c.pages.at + c.min-n.result - c.pages.at) (c.pages.page * c.args.page_size) c.args.tip.now at fits place) in
     record { alone = alone_then _ _ _ _ now.alone step.alone; done = no_ok _ c.from_residual.result c.from_residual.ensures.0 }
 
 pub returns-in_err-reach-clause-entries : goal.returns-in_err-reach-clause-entries

@@ -13,7 +13,7 @@ pub returns-in_err-write_at-clause-told : goal.returns-in_err-write_at-clause-to
 returns-in_err-write_at-clause-told g c t all F L newest ready is at pick =
     let key : Key = (c.args.partition.now, c.args.name.now) in
     let begun : Begun g.S.Seal.seal_of c.args.page_size all F L newest key (g.D.Device.time c.args.dev.now) c.args.page c.args.from c.args.bytes.now c.args.second
-        = record { seal_fits = g.met.S.Seal.fits; small = c.ranges.page_size.fits; ready = ready; is = is; new = c.requires.new; size = c.requires.size; at = at; pick = pick } in
+    = record { seal_fits = g.met.S.Seal.fits; small = c.ranges.page_size.fits; ready = ready; is = is; new = c.requires.new; size = c.requires.size; at = at; pick = pick } in
     record {
       any_moment = page_leaves _ _ _ _ _ _ _ _ _ _ _ _ begun (page_one _ _ _ _ _ _ _ _ _ _ _ _ begun (passes_as (ap (λ (n : ℕ). n + c.args.from) c.page_place-start.ensures) (rest_whole c.args.from c.args.bytes.now) (c.write_at.ensures.told t)));
       done = no_ok _ c.from_residual.result c.from_residual.ensures.0;
@@ -26,7 +26,7 @@ pub returns-in_err-write_at-2-clause-told : goal.returns-in_err-write_at-2-claus
 returns-in_err-write_at-2-clause-told g c t all F L newest ready is at pick =
     let key : Key = (c.args.partition.now, c.args.name.now) in
     let begun : Begun g.S.Seal.seal_of c.args.page_size all F L newest key (g.D.Device.time c.args.dev.now) c.args.page c.args.from c.args.bytes.now c.args.second
-        = record { seal_fits = g.met.S.Seal.fits; small = c.ranges.page_size.fits; ready = ready; is = is; new = c.requires.new; size = c.requires.size; at = at; pick = pick } in
+    = record { seal_fits = g.met.S.Seal.fits; small = c.ranges.page_size.fits; ready = ready; is = is; new = c.requires.new; size = c.requires.size; at = at; pick = pick } in
     record {
       any_moment = page_leaves _ _ _ _ _ _ _ _ _ _ _ _ begun (page_two _ _ _ _ _ _ _ _ _ _ _ _ begun (passes_as (ap (λ (n : ℕ). n + c.args.from) c.page_place-start.ensures) (rest_whole c.args.from c.args.bytes.now) (c.in_ok-write_at.ensures.told t)) (passes_as c.slot_place-place.ensures c.slot_of-slot.ensures (c.write_at-2.ensures.told t)));
       done = no_ok _ c.from_residual-in_err-write_at-2.result c.from_residual-in_err-write_at-2.ensures.0;
@@ -36,7 +36,7 @@ pub returns-clause-told : goal.returns-clause-told
 returns-clause-told g c t all F L newest ready is at pick =
     let key : Key = (c.args.partition.now, c.args.name.now) in
     let begun : Begun g.S.Seal.seal_of c.args.page_size all F L newest key (g.D.Device.time c.args.dev.now) c.args.page c.args.from c.args.bytes.now c.args.second
-        = record { seal_fits = g.met.S.Seal.fits; small = c.ranges.page_size.fits; ready = ready; is = is; new = c.requires.new; size = c.requires.size; at = at; pick = pick } in
+    = record { seal_fits = g.met.S.Seal.fits; small = c.ranges.page_size.fits; ready = ready; is = is; new = c.requires.new; size = c.requires.size; at = at; pick = pick } in
     let first = (passes_as (ap (λ (n : ℕ). n + c.args.from) c.page_place-start.ensures) (rest_whole c.args.from c.args.bytes.now) (c.in_ok-write_at.ensures.told t)) in
     let second = (passes_as c.slot_place-place.ensures c.slot_of-slot.ensures (c.in_ok-write_at-2.ensures.told t)) in
     record {

@@ -15,8 +15,13 @@ read_page-requires-clause-room g c =
     omega (arith, below, c.ranges.end.fits)
 
 pub returns-then-max-gt0-clause-below : goal.returns-then-max-gt0-clause-below
-returns-then-max-gt0-clause-below g c = (page_below c.args.page_size c.args.end (c.back.page - 1) (omega (arith, c.back.invariant.low, c.back-test.true)), c.in_ok-have.ensures.within,
-    omega (arith, c.matching_len-first_len.ensures, slot_length-le g.S.Seal.seal_of c.args.page_size (take c.in_ok-have.have c.read_page.new.buf) 0 false), omega (arith, c.matching_len-second_len.ensures, slot_length-le g.S.Seal.seal_of c.args.page_size (take c.in_ok-have.have c.read_page.new.buf) 0 true), omega (arith, c.max.ensures, c.if-max-gt0.true))
+returns-then-max-gt0-clause-below g c = (
+  page_below c.args.page_size c.args.end (c.back.page - 1) (omega (arith, c.back.invariant.low, c.back-test.true)),
+  c.in_ok-have.ensures.within,
+  omega (arith, c.matching_len-first_len.ensures, slot_length-le g.S.Seal.seal_of c.args.page_size (take c.in_ok-have.have c.read_page.new.buf) 0 false),
+  omega (arith, c.matching_len-second_len.ensures, slot_length-le g.S.Seal.seal_of c.args.page_size (take c.in_ok-have.have c.read_page.new.buf) 0 true),
+  omega (arith, c.max.ensures, c.if-max-gt0.true),
+)
 
 pub returns-then-max-gt0-clause-found : goal.returns-then-max-gt0-clause-found
 returns-then-max-gt0-clause-found g c t =
@@ -38,15 +43,15 @@ back-preserved g c = record {
   entries = only_read_then _ _ _ _ c.back.invariant.entries c.in_ok-have.ensures.entries;
   unchanged = λ t. unchanged_then _ _ _ (c.back.invariant.unchanged t) (c.in_ok-have.ensures.unchanged t);
   none = λ t.
-    let k : ℕ = c.back.page - 1 in
-    let e : suc (c.back.page - 1) ≡ c.back.page = omega (arith, c.back-test.true) in
-    let same : disk (g.D.Device.time c.back.dev) ≡ disk (g.D.Device.time c.args.dev.now) = unchanged_now (g.D.Device.time c.args.dev.now) (g.D.Device.time c.back.dev) (c.back.invariant.unchanged t) in
-    let part : take c.in_ok-have.have c.read_page.new.buf ≡ page_of c.args.page_size (disk (g.D.Device.time c.args.dev.now) (c.args.partition.now, c.args.name.now)).content (c.back.page - 1) = c.in_ok-have.ensures.bytes t ∙ ap (λ (d : Disk). page_of c.args.page_size (d (c.args.partition.now, c.args.name.now)).content (c.back.page - 1)) same in
-    let a : c.matching_len-first_len.result ≡ slot_length g.S.Seal.seal_of c.args.page_size (disk (g.D.Device.time c.args.dev.now) (c.args.partition.now, c.args.name.now)).content (c.back.page - 1) false = c.matching_len-first_len.ensures ∙ ap (λ (l : List ℕ). slot_length g.S.Seal.seal_of c.args.page_size l 0 false) part ∙ part_slot g.S.Seal.seal_of c.args.page_size (disk (g.D.Device.time c.args.dev.now) (c.args.partition.now, c.args.name.now)).content (c.back.page - 1) false in
-    let b : c.matching_len-second_len.result ≡ slot_length g.S.Seal.seal_of c.args.page_size (disk (g.D.Device.time c.args.dev.now) (c.args.partition.now, c.args.name.now)).content (c.back.page - 1) true = c.matching_len-second_len.ensures ∙ ap (λ (l : List ℕ). slot_length g.S.Seal.seal_of c.args.page_size l 0 true) part ∙ part_slot g.S.Seal.seal_of c.args.page_size (disk (g.D.Device.time c.args.dev.now) (c.args.partition.now, c.args.name.now)).content (c.back.page - 1) true in
-    let size = page_length_is g.S.Seal.seal_of c.args.page_size (disk (g.D.Device.time c.args.dev.now) (c.args.partition.now, c.args.name.now)).content (c.back.page - 1) in
-    let none : page_length g.S.Seal.seal_of c.args.page_size (disk (g.D.Device.time c.args.dev.now) (c.args.partition.now, c.args.name.now)).content (c.back.page - 1) ≡ 0 = omega (arith, size, a, b, c.max.ensures, c.if-max-gt0.false) in
-    sym (size_none g.S.Seal.seal_of c.args.page_size (disk (g.D.Device.time c.args.dev.now) (c.args.partition.now, c.args.name.now)).content (c.back.page - 1) none) ∙ ap (size_below g.S.Seal.seal_of c.args.page_size (disk (g.D.Device.time c.args.dev.now) (c.args.partition.now, c.args.name.now)).content) e ∙ c.back.invariant.none t;
+      let k : ℕ = c.back.page - 1 in
+      let e : suc (c.back.page - 1) ≡ c.back.page = omega (arith, c.back-test.true) in
+      let same : disk (g.D.Device.time c.back.dev) ≡ disk (g.D.Device.time c.args.dev.now) = unchanged_now (g.D.Device.time c.args.dev.now) (g.D.Device.time c.back.dev) (c.back.invariant.unchanged t) in
+      let part : take c.in_ok-have.have c.read_page.new.buf ≡ page_of c.args.page_size (disk (g.D.Device.time c.args.dev.now) (c.args.partition.now, c.args.name.now)).content (c.back.page - 1) = c.in_ok-have.ensures.bytes t ∙ ap (λ (d : Disk). page_of c.args.page_size (d (c.args.partition.now, c.args.name.now)).content (c.back.page - 1)) same in
+      let a : c.matching_len-first_len.result ≡ slot_length g.S.Seal.seal_of c.args.page_size (disk (g.D.Device.time c.args.dev.now) (c.args.partition.now, c.args.name.now)).content (c.back.page - 1) false = c.matching_len-first_len.ensures ∙ ap (λ (l : List ℕ). slot_length g.S.Seal.seal_of c.args.page_size l 0 false) part ∙ part_slot g.S.Seal.seal_of c.args.page_size (disk (g.D.Device.time c.args.dev.now) (c.args.partition.now, c.args.name.now)).content (c.back.page - 1) false in
+      let b : c.matching_len-second_len.result ≡ slot_length g.S.Seal.seal_of c.args.page_size (disk (g.D.Device.time c.args.dev.now) (c.args.partition.now, c.args.name.now)).content (c.back.page - 1) true = c.matching_len-second_len.ensures ∙ ap (λ (l : List ℕ). slot_length g.S.Seal.seal_of c.args.page_size l 0 true) part ∙ part_slot g.S.Seal.seal_of c.args.page_size (disk (g.D.Device.time c.args.dev.now) (c.args.partition.now, c.args.name.now)).content (c.back.page - 1) true in
+      let size = page_length_is g.S.Seal.seal_of c.args.page_size (disk (g.D.Device.time c.args.dev.now) (c.args.partition.now, c.args.name.now)).content (c.back.page - 1) in
+      let none : page_length g.S.Seal.seal_of c.args.page_size (disk (g.D.Device.time c.args.dev.now) (c.args.partition.now, c.args.name.now)).content (c.back.page - 1) ≡ 0 = omega (arith, size, a, b, c.max.ensures, c.if-max-gt0.false) in
+      sym (size_none g.S.Seal.seal_of c.args.page_size (disk (g.D.Device.time c.args.dev.now) (c.args.partition.now, c.args.name.now)).content (c.back.page - 1) none) ∙ ap (size_below g.S.Seal.seal_of c.args.page_size (disk (g.D.Device.time c.args.dev.now) (c.args.partition.now, c.args.name.now)).content) e ∙ c.back.invariant.none t;
 }
 
 pub returns-clause-found : goal.returns-clause-found

@@ -28,7 +28,7 @@ returns-then-seal-named g c =
     let first : bytes_at (view c.args.page.now) (slot_at c.args.page_size 0 c.args.second) 2 ≡ get_or c.args.page.now c.slot_offset-at.result 0 ∷ get_or c.args.page.now (c.slot_offset-at.result + 1) 0 ∷ [] = ap (λ (a : ℕ). bytes_at (view c.args.page.now) a 2) (sym at) ∙ two_at c.args.page.now c.slot_offset-at.result in
     let second : bytes_at (view c.args.page.now) (page_at c.args.page_size 0) (named_length (view c.args.page.now) (slot_at c.args.page_size 0 c.args.second)) ≡ take c.from-n.result c.args.page.now = ap (bytes_at (view c.args.page.now) (page_at c.args.page_size 0)) named ∙ front_at c.args.page_size c.from-n.result c.args.page.now fits in
     let made : computed_seal g.S.Seal.seal_of c.args.page_size (view c.args.page.now) (page_at c.args.page_size 0) (slot_at c.args.page_size 0 c.args.second) (named_length (view c.args.page.now) (slot_at c.args.page_size 0 c.args.second)) ≡ c.seal2-seal.result
-        = (λ t. g.S.Seal.seal_of (first t ++ second t)) ∙ sym c.seal2-seal.ensures in
+    = (λ t. g.S.Seal.seal_of (first t ++ second t)) ∙ sym c.seal2-seal.ensures in
     let told : named_seal (view c.args.page.now) (slot_at c.args.page_size 0 c.args.second) ≡ c.from_be_bytes-named.result = ap (named_seal (view c.args.page.now)) (sym at) ∙ ap (from_be_bytes w32) (four_at c.args.page.now c.slot_offset-at.result) ∙ sym c.from_be_bytes-named.ensures in
     sym (slot_wrong g.S.Seal.seal_of c.args.page_size c.args.page.now 0 c.args.second stands short (λ e. c.if-seal-named.true (sym made ∙ e ∙ told)))
 
@@ -43,6 +43,6 @@ returns g c =
     let first : bytes_at (view c.args.page.now) (slot_at c.args.page_size 0 c.args.second) 2 ≡ get_or c.args.page.now c.slot_offset-at.result 0 ∷ get_or c.args.page.now (c.slot_offset-at.result + 1) 0 ∷ [] = ap (λ (a : ℕ). bytes_at (view c.args.page.now) a 2) (sym at) ∙ two_at c.args.page.now c.slot_offset-at.result in
     let second : bytes_at (view c.args.page.now) (page_at c.args.page_size 0) (named_length (view c.args.page.now) (slot_at c.args.page_size 0 c.args.second)) ≡ take c.from-n.result c.args.page.now = ap (bytes_at (view c.args.page.now) (page_at c.args.page_size 0)) named ∙ front_at c.args.page_size c.from-n.result c.args.page.now fits in
     let made : computed_seal g.S.Seal.seal_of c.args.page_size (view c.args.page.now) (page_at c.args.page_size 0) (slot_at c.args.page_size 0 c.args.second) (named_length (view c.args.page.now) (slot_at c.args.page_size 0 c.args.second)) ≡ c.seal2-seal.result
-        = (λ t. g.S.Seal.seal_of (first t ++ second t)) ∙ sym c.seal2-seal.ensures in
+    = (λ t. g.S.Seal.seal_of (first t ++ second t)) ∙ sym c.seal2-seal.ensures in
     let told : named_seal (view c.args.page.now) (slot_at c.args.page_size 0 c.args.second) ≡ c.from_be_bytes-named.result = ap (named_seal (view c.args.page.now)) (sym at) ∙ ap (from_be_bytes w32) (four_at c.args.page.now c.slot_offset-at.result) ∙ sym c.from_be_bytes-named.ensures in
     sym (slot_right g.S.Seal.seal_of c.args.page_size c.args.page.now 0 c.args.second stands short (made ∙ c.if-seal-named.false ∙ sym told) ∙ named)

@@ -55,7 +55,7 @@ returns-in_err-reach-clause-told g c t all a =
     let one = c.in_ok-cut.ensures.told t all F b0.content a.σ kept0 reach longer shorter in
     let far : c.args.torn ≡ true → page_at c.args.page_size c.pages_below-pages.result ≡ page_at c.args.page_size (c.args.first + 1) = λ e. ap (page_at c.args.page_size) (q ∙ pages_some c.args.first c.args.from (a.inside e)) in
     let two = c.in_err-reach.ensures.told t all F b0.content a.σ one.done.0 (torn_inside g.S.Seal.seal_of c.args.page_size pos all c.args.first c.args.from c.args.newest c.args.behind c.args.torn c.requires.begin b0 a)
-        (torn_other g.S.Seal.seal_of c.args.page_size pos all c.args.first c.args.from c.args.newest c.args.behind c.args.torn c.requires.begin b0 a) (λ e. omega (arith, one.done.1.0, far e)) in
+    (torn_other g.S.Seal.seal_of c.args.page_size pos all c.args.first c.args.from c.args.newest c.args.behind c.args.torn c.requires.begin b0 a) (λ e. omega (arith, one.done.1.0, far e)) in
     record { any_moment = only_then (g.D.Device.time c.args.dev.now) (g.D.Device.time c.cut_behind.new.dev) (g.D.Device.time c.clear_torn.new.dev) key (Leaves g.S.Seal.seal_of c.args.page_size all (c.args.first * c.args.page_size + c.args.from)) one.any_moment two.any_moment; done = no_ok _ c.from_residual-in_err-reach.result c.from_residual-in_err-reach.ensures.0 }
 
 pub returns-in_err-reach-clause-wrote : goal.returns-in_err-reach-clause-wrote
@@ -81,7 +81,7 @@ returns-in_err-sync-clause-told g c t all a =
     let one = c.in_ok-cut.ensures.told t all F b0.content a.σ kept0 reach longer shorter in
     let far : c.args.torn ≡ true → page_at c.args.page_size c.pages_below-pages.result ≡ page_at c.args.page_size (c.args.first + 1) = λ e. ap (page_at c.args.page_size) (q ∙ pages_some c.args.first c.args.from (a.inside e)) in
     let two = c.in_ok-reach.ensures.told t all F b0.content a.σ one.done.0 (torn_inside g.S.Seal.seal_of c.args.page_size pos all c.args.first c.args.from c.args.newest c.args.behind c.args.torn c.requires.begin b0 a)
-        (torn_other g.S.Seal.seal_of c.args.page_size pos all c.args.first c.args.from c.args.newest c.args.behind c.args.torn c.requires.begin b0 a) (λ e. omega (arith, one.done.1.0, far e)) in
+    (torn_other g.S.Seal.seal_of c.args.page_size pos all c.args.first c.args.from c.args.newest c.args.behind c.args.torn c.requires.begin b0 a) (λ e. omega (arith, one.done.1.0, far e)) in
     let before = only_then (g.D.Device.time c.args.dev.now) (g.D.Device.time c.cut_behind.new.dev) (g.D.Device.time c.clear_torn.new.dev) key (Leaves g.S.Seal.seal_of c.args.page_size all (c.args.first * c.args.page_size + c.args.from)) one.any_moment two.any_moment in
     record { any_moment = only_then (g.D.Device.time c.args.dev.now) (g.D.Device.time c.clear_torn.new.dev) (g.D.Device.time c.sync.new.self) key (Leaves g.S.Seal.seal_of c.args.page_size all (c.args.first * c.args.page_size + c.args.from)) before (settle_any g.S.Seal.seal_of c.args.page_size all F a.σ pos b0.content key (g.D.Device.time c.clear_torn.new.dev) two.done.0 (c.sync.ensures.told t)); done = no_ok _ c.from_residual-in_err-sync.result c.from_residual-in_err-sync.ensures.0 }
 
@@ -108,15 +108,15 @@ returns-clause-told g c t all a =
     let one = c.in_ok-cut.ensures.told t all F b0.content a.σ kept0 reach longer shorter in
     let far : c.args.torn ≡ true → page_at c.args.page_size c.pages_below-pages.result ≡ page_at c.args.page_size (c.args.first + 1) = λ e. ap (page_at c.args.page_size) (q ∙ pages_some c.args.first c.args.from (a.inside e)) in
     let two = c.in_ok-reach.ensures.told t all F b0.content a.σ one.done.0 (torn_inside g.S.Seal.seal_of c.args.page_size pos all c.args.first c.args.from c.args.newest c.args.behind c.args.torn c.requires.begin b0 a)
-        (torn_other g.S.Seal.seal_of c.args.page_size pos all c.args.first c.args.from c.args.newest c.args.behind c.args.torn c.requires.begin b0 a) (λ e. omega (arith, one.done.1.0, far e)) in
+    (torn_other g.S.Seal.seal_of c.args.page_size pos all c.args.first c.args.from c.args.newest c.args.behind c.args.torn c.requires.begin b0 a) (λ e. omega (arith, one.done.1.0, far e)) in
     let before = only_then (g.D.Device.time c.args.dev.now) (g.D.Device.time c.cut_behind.new.dev) (g.D.Device.time c.clear_torn.new.dev) key (Leaves g.S.Seal.seal_of c.args.page_size all (c.args.first * c.args.page_size + c.args.from)) one.any_moment two.any_moment in
     let b2 = disk (g.D.Device.time c.clear_torn.new.dev) (c.args.partition.now, c.args.name.now) in
     let low : length b2.content ≤ page_at c.args.page_size c.pages_below-pages.result = two.done.1.1 (page_at c.args.page_size c.pages_below-pages.result) (λ e. omega (arith, far e)) one.done.1.0 in
     let short : length b2.content ≤ page_at c.args.page_size (pages_of c.args.first c.args.from) = omega (arith, low, ap (page_at c.args.page_size) q) in
     let start : (k : ℕ) → c.args.first * c.args.page_size + c.args.from < k * c.args.page_size + c.args.page_size → k < pages_of c.args.first c.args.from → k * c.args.page_size ≤ c.args.first * c.args.page_size + c.args.from
-        = λ k part below. omega (arith, ap (λ (m : ℕ). m * c.args.page_size) (last_page c.args.page_size c.args.first c.args.from k c.requires.begin part below).0) in
+    = λ k part below. omega (arith, ap (λ (m : ℕ). m * c.args.page_size) (last_page c.args.page_size c.args.first c.args.from k c.requires.begin part below).0) in
     let clean = all_clean g.S.Seal.seal_of c.args.page_size pos all c.args.first c.args.from c.args.newest c.args.behind c.args.torn c.requires.begin b0 a b2.content two.done.0.content.covers
-        (λ some. two.done.1.0 (λ whole. one.done.1.1 c.args.first (not c.args.newest) (omega (arith, q, pages_some c.args.first c.args.from some)) (a.clean whole some))) in
+    (λ some. two.done.1.0 (λ whole. one.done.1.1 c.args.first (not c.args.newest) (omega (arith, q, pages_some c.args.first c.args.from some)) (a.clean whole some))) in
     record {
       any_moment = only_then (g.D.Device.time c.args.dev.now) (g.D.Device.time c.clear_torn.new.dev) (g.D.Device.time c.sync.new.self) key (Leaves g.S.Seal.seal_of c.args.page_size all (c.args.first * c.args.page_size + c.args.from)) before (settle_any g.S.Seal.seal_of c.args.page_size all F a.σ pos b0.content key (g.D.Device.time c.clear_torn.new.dev) two.done.0 (c.in_ok-sync.ensures.told t));
       done = settle_ready g.S.Seal.seal_of c.args.page_size all F a.σ pos b0.content key (g.D.Device.time c.clear_torn.new.dev) two.done.0 (pages_of c.args.first c.args.from) c.args.newest (c.in_ok-sync.ensures.told t) short start clean

@@ -51,14 +51,26 @@ returns-clause-size g c t =
     let wide : length c.find_last.new.buf ≡ c.args.pages.page_size + 12 = search rules in
     let tip : c.in_ok-tip.tip.items ≡ take c.start_of-start.result.from c.find_last.new.buf = search rules in
     let long : length c.in_ok-tip.tip.items ≡ c.start_of-start.result.from = omega (arith, ap length tip, length-take c.start_of-start.result.from c.find_last.new.buf, wide, begun) in
-    let u : Buffer = record { partition = string_bytes c.in_ok-partition.partition; name = c.in_ok-name.name.items; page_size = c.args.pages.page_size; capacity = c.args.capacity; end = c.args.size; first = c.start_of-start.result.first;
-        tip = c.in_ok-tip.tip.items; from = c.start_of-start.result.from; settled = c.start_of-start.result.first * c.from.result + c.start_of-start.result.from; newest = c.start_of-start.result.newest; behind = c.start_of-start.result.behind; torn = c.start_of-start.result.torn } in
+    let u : Buffer = record {
+      partition = string_bytes c.in_ok-partition.partition;
+      name = c.in_ok-name.name.items;
+      page_size = c.args.pages.page_size;
+      capacity = c.args.capacity;
+      end = c.args.size;
+      first = c.start_of-start.result.first;
+      tip = c.in_ok-tip.tip.items;
+      from = c.start_of-start.result.from;
+      settled = c.start_of-start.result.first * c.from.result + c.start_of-start.result.from;
+      newest = c.start_of-start.result.newest;
+      behind = c.start_of-start.result.behind;
+      torn = c.start_of-start.result.torn;
+    } in
     let b0 : Blob = disk (g.D.Device.time c.args.dev.now) (c.args.partition.now, c.args.name.now) in
     let size = content_length (g.D.Device.opened c.args.dev.now) (c.args.partition.now, c.args.name.now) c.args.size _ (disk (g.D.Device.time c.args.dev.now) (c.args.partition.now, c.args.name.now)).content (g.met.D.Device.opened_stands t c.args.dev.now (c.args.partition.now, c.args.name.now)) c.requires.«open» in
     let finds = c.in_ok-found.ensures.found t in
     let over = c.start_of-start.ensures.starts (disk (g.D.Device.time c.args.dev.now) (c.args.partition.now, c.args.name.now)).content size finds in
     let backed = backed_of u (disk (g.D.Device.time c.args.dev.now) (c.args.partition.now, c.args.name.now)).content begun long
-        (λ i lt. ap (λ (l : List ℕ). get_or l i 0) tip ∙ tip_is g.S.Seal.seal_of c.args.pages.page_size (disk (g.D.Device.time c.args.dev.now) (c.args.partition.now, c.args.name.now)).content c.in_ok-found.found c.find_last.new.buf c.start_of-start.result.first c.start_of-start.result.from c.start_of-start.result.newest c.start_of-start.result.behind c.start_of-start.result.torn finds over i lt) in
+    (λ i lt. ap (λ (l : List ℕ). get_or l i 0) tip ∙ tip_is g.S.Seal.seal_of c.args.pages.page_size (disk (g.D.Device.time c.args.dev.now) (c.args.partition.now, c.args.name.now)).content c.in_ok-found.found c.find_last.new.buf c.start_of-start.result.first c.start_of-start.result.from c.start_of-start.result.newest c.start_of-start.result.behind c.start_of-start.result.torn finds over i lt) in
     omega (arith, long, size_is g.S.Seal.seal_of c.args.pages.page_size (disk (g.D.Device.time c.args.dev.now) (c.args.partition.now, c.args.name.now)).content c.in_ok-found.found c.find_last.new.buf c.start_of-start.result.first c.start_of-start.result.from c.start_of-start.result.newest c.start_of-start.result.behind c.start_of-start.result.torn finds over)
 
 pub returns-clause-backed : goal.returns-clause-backed
@@ -69,14 +81,26 @@ returns-clause-backed g c t =
     let wide : length c.find_last.new.buf ≡ c.args.pages.page_size + 12 = search rules in
     let tip : c.in_ok-tip.tip.items ≡ take c.start_of-start.result.from c.find_last.new.buf = search rules in
     let long : length c.in_ok-tip.tip.items ≡ c.start_of-start.result.from = omega (arith, ap length tip, length-take c.start_of-start.result.from c.find_last.new.buf, wide, begun) in
-    let u : Buffer = record { partition = string_bytes c.in_ok-partition.partition; name = c.in_ok-name.name.items; page_size = c.args.pages.page_size; capacity = c.args.capacity; end = c.args.size; first = c.start_of-start.result.first;
-        tip = c.in_ok-tip.tip.items; from = c.start_of-start.result.from; settled = c.start_of-start.result.first * c.from.result + c.start_of-start.result.from; newest = c.start_of-start.result.newest; behind = c.start_of-start.result.behind; torn = c.start_of-start.result.torn } in
+    let u : Buffer = record {
+      partition = string_bytes c.in_ok-partition.partition;
+      name = c.in_ok-name.name.items;
+      page_size = c.args.pages.page_size;
+      capacity = c.args.capacity;
+      end = c.args.size;
+      first = c.start_of-start.result.first;
+      tip = c.in_ok-tip.tip.items;
+      from = c.start_of-start.result.from;
+      settled = c.start_of-start.result.first * c.from.result + c.start_of-start.result.from;
+      newest = c.start_of-start.result.newest;
+      behind = c.start_of-start.result.behind;
+      torn = c.start_of-start.result.torn;
+    } in
     let b0 : Blob = disk (g.D.Device.time c.args.dev.now) (c.args.partition.now, c.args.name.now) in
     let size = content_length (g.D.Device.opened c.args.dev.now) (c.args.partition.now, c.args.name.now) c.args.size _ (disk (g.D.Device.time c.args.dev.now) (c.args.partition.now, c.args.name.now)).content (g.met.D.Device.opened_stands t c.args.dev.now (c.args.partition.now, c.args.name.now)) c.requires.«open» in
     let finds = c.in_ok-found.ensures.found t in
     let over = c.start_of-start.ensures.starts (disk (g.D.Device.time c.args.dev.now) (c.args.partition.now, c.args.name.now)).content size finds in
     let backed = backed_of u (disk (g.D.Device.time c.args.dev.now) (c.args.partition.now, c.args.name.now)).content begun long
-        (λ i lt. ap (λ (l : List ℕ). get_or l i 0) tip ∙ tip_is g.S.Seal.seal_of c.args.pages.page_size (disk (g.D.Device.time c.args.dev.now) (c.args.partition.now, c.args.name.now)).content c.in_ok-found.found c.find_last.new.buf c.start_of-start.result.first c.start_of-start.result.from c.start_of-start.result.newest c.start_of-start.result.behind c.start_of-start.result.torn finds over i lt) in
+    (λ i lt. ap (λ (l : List ℕ). get_or l i 0) tip ∙ tip_is g.S.Seal.seal_of c.args.pages.page_size (disk (g.D.Device.time c.args.dev.now) (c.args.partition.now, c.args.name.now)).content c.in_ok-found.found c.find_last.new.buf c.start_of-start.result.first c.start_of-start.result.from c.start_of-start.result.newest c.start_of-start.result.behind c.start_of-start.result.torn finds over i lt) in
     backed
 
 pub returns-clause-sealed : goal.returns-clause-sealed
@@ -87,14 +111,26 @@ returns-clause-sealed g c t is whole =
     let wide : length c.find_last.new.buf ≡ c.args.pages.page_size + 12 = search rules in
     let tip : c.in_ok-tip.tip.items ≡ take c.start_of-start.result.from c.find_last.new.buf = search rules in
     let long : length c.in_ok-tip.tip.items ≡ c.start_of-start.result.from = omega (arith, ap length tip, length-take c.start_of-start.result.from c.find_last.new.buf, wide, begun) in
-    let u : Buffer = record { partition = string_bytes c.in_ok-partition.partition; name = c.in_ok-name.name.items; page_size = c.args.pages.page_size; capacity = c.args.capacity; end = c.args.size; first = c.start_of-start.result.first;
-        tip = c.in_ok-tip.tip.items; from = c.start_of-start.result.from; settled = c.start_of-start.result.first * c.from.result + c.start_of-start.result.from; newest = c.start_of-start.result.newest; behind = c.start_of-start.result.behind; torn = c.start_of-start.result.torn } in
+    let u : Buffer = record {
+      partition = string_bytes c.in_ok-partition.partition;
+      name = c.in_ok-name.name.items;
+      page_size = c.args.pages.page_size;
+      capacity = c.args.capacity;
+      end = c.args.size;
+      first = c.start_of-start.result.first;
+      tip = c.in_ok-tip.tip.items;
+      from = c.start_of-start.result.from;
+      settled = c.start_of-start.result.first * c.from.result + c.start_of-start.result.from;
+      newest = c.start_of-start.result.newest;
+      behind = c.start_of-start.result.behind;
+      torn = c.start_of-start.result.torn;
+    } in
     let b0 : Blob = disk (g.D.Device.time c.args.dev.now) (c.args.partition.now, c.args.name.now) in
     let size = content_length (g.D.Device.opened c.args.dev.now) (c.args.partition.now, c.args.name.now) c.args.size _ (disk (g.D.Device.time c.args.dev.now) (c.args.partition.now, c.args.name.now)).content (g.met.D.Device.opened_stands t c.args.dev.now (c.args.partition.now, c.args.name.now)) c.requires.«open» in
     let finds = c.in_ok-found.ensures.found t in
     let over = c.start_of-start.ensures.starts (disk (g.D.Device.time c.args.dev.now) (c.args.partition.now, c.args.name.now)).content size finds in
     let backed = backed_of u (disk (g.D.Device.time c.args.dev.now) (c.args.partition.now, c.args.name.now)).content begun long
-        (λ i lt. ap (λ (l : List ℕ). get_or l i 0) tip ∙ tip_is g.S.Seal.seal_of c.args.pages.page_size (disk (g.D.Device.time c.args.dev.now) (c.args.partition.now, c.args.name.now)).content c.in_ok-found.found c.find_last.new.buf c.start_of-start.result.first c.start_of-start.result.from c.start_of-start.result.newest c.start_of-start.result.behind c.start_of-start.result.torn finds over i lt) in
+    (λ i lt. ap (λ (l : List ℕ). get_or l i 0) tip ∙ tip_is g.S.Seal.seal_of c.args.pages.page_size (disk (g.D.Device.time c.args.dev.now) (c.args.partition.now, c.args.name.now)).content c.in_ok-found.found c.find_last.new.buf c.start_of-start.result.first c.start_of-start.result.from c.start_of-start.result.newest c.start_of-start.result.behind c.start_of-start.result.torn finds over i lt) in
     let pos : 1 ≤ c.args.pages.page_size = c.requires.valid in
     let settled : c.start_of-start.result.first * c.from.result + c.start_of-start.result.from ≡ c.start_of-start.result.first * c.args.pages.page_size + c.start_of-start.result.from = ap (λ (n : ℕ). c.start_of-start.result.first * n + c.start_of-start.result.from) page in
     let all : List ℕ = bytes_of u (disk (g.D.Device.time c.args.dev.now) (c.args.partition.now, c.args.name.now)).content in

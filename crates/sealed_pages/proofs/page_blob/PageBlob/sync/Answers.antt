@@ -37,8 +37,8 @@ returns-in_err-sync-clause-crashes g c t sealed =
     let before = c.in_ok-this.ensures.told t (bytes_of u b0.content) sealed in
     let now = c.in_ok-this.ensures.done t (bytes_of u b0.content) sealed in
     let after = subst (λ (m : ℕ). Sealing g.S.Seal.seal_of c.args.self.page_size (bytes_of u b0.content) m key (g.D.Device.time c.flush.new.dev) (g.D.Device.time c.sync.new.self)) c.in_ok-this.ensures.settled
-        (subst (λ (m : ℕ). Sealing g.S.Seal.seal_of m (bytes_of u b0.content) c.in_ok-this.this.settled key (g.D.Device.time c.flush.new.dev) (g.D.Device.time c.sync.new.self)) c.in_ok-this.ensures.page_size
-        (holds_settle g.S.Seal.seal_of r (bytes_of u b0.content) key (g.D.Device.time c.flush.new.dev) (g.D.Device.time c.sync.new.self) c.sync.result c.in_ok-this.this.fit.begun now passes)) in
+    (subst (λ (m : ℕ). Sealing g.S.Seal.seal_of m (bytes_of u b0.content) c.in_ok-this.this.settled key (g.D.Device.time c.flush.new.dev) (g.D.Device.time c.sync.new.self)) c.in_ok-this.ensures.page_size
+    (holds_settle g.S.Seal.seal_of r (bytes_of u b0.content) key (g.D.Device.time c.flush.new.dev) (g.D.Device.time c.sync.new.self) c.sync.result c.in_ok-this.this.fit.begun now passes)) in
     only_then (g.D.Device.time c.args.dev.now) (g.D.Device.time c.flush.new.dev) (g.D.Device.time c.sync.new.self) key (Leaves g.S.Seal.seal_of c.args.self.page_size (bytes_of u b0.content) c.args.self.settled) before after
 
 pub returns-in_err-sync-clause-alone : goal.returns-in_err-sync-clause-alone
@@ -64,8 +64,8 @@ returns-clause-crashes g c t sealed =
     let before = c.in_ok-this.ensures.told t (bytes_of u b0.content) sealed in
     let now = c.in_ok-this.ensures.done t (bytes_of u b0.content) sealed in
     let after = subst (λ (m : ℕ). Sealing g.S.Seal.seal_of c.args.self.page_size (bytes_of u b0.content) m key (g.D.Device.time c.flush.new.dev) (g.D.Device.time c.sync.new.self)) c.in_ok-this.ensures.settled
-        (subst (λ (m : ℕ). Sealing g.S.Seal.seal_of m (bytes_of u b0.content) c.in_ok-this.this.settled key (g.D.Device.time c.flush.new.dev) (g.D.Device.time c.sync.new.self)) c.in_ok-this.ensures.page_size
-        (holds_settle g.S.Seal.seal_of r (bytes_of u b0.content) key (g.D.Device.time c.flush.new.dev) (g.D.Device.time c.sync.new.self) c.sync.result c.in_ok-this.this.fit.begun now passes)) in
+    (subst (λ (m : ℕ). Sealing g.S.Seal.seal_of m (bytes_of u b0.content) c.in_ok-this.this.settled key (g.D.Device.time c.flush.new.dev) (g.D.Device.time c.sync.new.self)) c.in_ok-this.ensures.page_size
+    (holds_settle g.S.Seal.seal_of r (bytes_of u b0.content) key (g.D.Device.time c.flush.new.dev) (g.D.Device.time c.sync.new.self) c.sync.result c.in_ok-this.this.fit.begun now passes)) in
     only_then (g.D.Device.time c.args.dev.now) (g.D.Device.time c.flush.new.dev) (g.D.Device.time c.sync.new.self) key (Leaves g.S.Seal.seal_of c.args.self.page_size (bytes_of u b0.content) c.args.self.settled) before after
 
 pub returns-clause-alone : goal.returns-clause-alone
@@ -95,7 +95,7 @@ returns-clause-sealed g c t sealed =
     let passes-ok = settle_as (Ok tt) _ _ _ _ (g.D.Device.time c.flush.new.dev) (g.D.Device.time c.sync.new.self) p n (c.in_ok-sync.ensures.told t) in
     holds_sealed g.S.Seal.seal_of after (bytes_of u b0.content) _ (omega (arith, c.in_ok-this.this.fit.begun))
     (holds_synced g.S.Seal.seal_of r (bytes_of u b0.content) key (g.D.Device.time c.flush.new.dev) (g.D.Device.time c.sync.new.self) tt c.flushed-end.result c.last_slot_of-slot.result c.in_ok-this.this.fit.begun open_ c.flushed-end.ensures c.last_slot_of-slot.ensures
-      (c.in_ok-this.ensures.done t (bytes_of u b0.content) sealed) passes-ok)
+    (c.in_ok-this.ensures.done t (bytes_of u b0.content) sealed) passes-ok)
 
 pub returns-clause-bytes : goal.returns-clause-bytes
 returns-clause-bytes g c t backed =

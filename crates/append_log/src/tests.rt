@@ -1,0 +1,144 @@
+// Runs of the log over a device in memory, stopped at each call, with each crash image.
+use crate::{Appended, LogError, append_all};
+use blob_device::{CrashChoice, DevError, Device, Image, Memory};
+use std::alloc::{AllocError, Global};
+use std::test::Fail;
+
+const CHOICES: [CrashChoice; 6] = [
+    CrashChoice::Settled,
+    CrashChoice::AsRead,
+    CrashChoice::Mixed(0),
+    CrashChoice::Mixed(1),
+    CrashChoice::Mixed(2),
+    CrashChoice::Mixed(3),
+];
+
+fn records(alloc: Global) -> Result<Vec<Vec<u8>>, AllocError> {
+    let mut all = Vec::new(alloc);
+    all.push(b"hi".to_vec(alloc)?)?;
+    all.push(b"yo".to_vec(alloc)?)?;
+    Ok(all)
+}
+
+// Opens a new log and appends two records, with a fuse at this call.
+fn run_to(alloc: Global, fuse: u64) -> Result<(Memory, Option<Appended>), DevError> {
+    let records = records(alloc)?;
+    let mut dev = Memory::new(alloc);
+    dev.fuse_at(fuse);
+    match dev.open_blob("p", b"log") {
+        Ok(_) => {}
+        Err(_) => return Ok((dev, None)),
+    }
+    let appended = append_all(alloc, &mut dev, "p", b"log", &records);
+    Ok((dev, Some(appended)))
+}
+
+fn log_of(image: &Image) -> &[u8] {
+    image.blob("p", b"log").unwrap_or(b"")
+}
+
+// How many bytes were synced where the run was stopped at this call: calls 1 to 3 append the first record, 4 to 6 the second.
+fn synced(fuse: u64) -> usize {
+    match fuse {
+        0..=3 => 0,
+        4..=6 => 2,
+        _ => 4,
+    }
+}
+
+#[test]
+fn two_records(rt: HostRuntime) -> Result<(), Fail> {
+    let (dev, appended) = run_to(rt.alloc(), 100)?;
+    let appended = appended.ok_or("opened")?;
+    assert_eq!(rt; appended.result, Ok(()));
+    assert_eq!(rt; appended.marks.as_slice(), [1, 4].as_slice());
+    assert_eq!(rt; dev.calls(), 7);
+    assert_eq!(rt; dev.faults(), 0);
+    let image = dev.image(rt.alloc())?;
+    assert_eq!(rt; log_of(&image), b"hiyo".as_slice());
+    Ok(())
+}
+
+#[test]
+fn stopped_at_each_call(rt: HostRuntime) -> Result<(), Fail> {
+    for fuse in 0..8 {
+        let (dev, appended) = run_to(rt.alloc(), fuse)?;
+        if fuse < 7 {
+            assert_eq!(rt; dev.faults(), 1, "stopped at {fuse}");
+        }
+        if let Some(appended) = appended {
+            let failed = appended.result == Err(LogError::Device(DevError::Fault));
+            assert_eq!(rt; failed, fuse < 7, "stopped at {fuse}");
+        }
+        for choice in CHOICES {
+            let image = dev.pick_crash(rt.alloc(), choice)?;
+            let bytes = log_of(&image);
+            let kept = synced(fuse);
+            assert!(rt;
+                bytes.starts_with(b"hiyo".split_at(kept.min(4)).0),
+                "stopped at {fuse}"
+            );
+            assert!(rt; bytes.len() <= kept + 2, "stopped at {fuse}");
+        }
+    }
+    Ok(())
+}
+
+#[test]
+fn a_failed_write_leaves_half(rt: HostRuntime) -> Result<(), Fail> {
+    // The second append's write is call 5. Of its two bytes one stays.
+    let (dev, _) = run_to(rt.alloc(), 5)?;
+    let image = dev.image(rt.alloc())?;
+    assert_eq!(rt; log_of(&image), b"hiy".as_slice());
+    let settled = dev.pick_crash(rt.alloc(), CrashChoice::Settled)?;
+    assert_eq!(rt; log_of(&settled), b"hi".as_slice());
+    // Free bytes 0 and 1 stand behind `hi`. The blob reads as far as byte 0.
+    let cases: [(u64, &[u8]); 4] = [(0, b"hi"), (1, b"hiy\xff"), (2, b"hi"), (3, b"hiy\xff")];
+    for (bits, left) in cases {
+        let mixed = dev.pick_crash(rt.alloc(), CrashChoice::Mixed(bits))?;
+        assert_eq!(rt; log_of(&mixed), left, "mixed {bits}");
+    }
+    Ok(())
+}
+
+#[test]
+fn a_failed_removal_may_have_removed(rt: HostRuntime) -> Result<(), Fail> {
+    let (mut dev, _) = run_to(rt.alloc(), 100)?;
+    dev.fuse_at(7);
+    assert_eq!(rt; dev.remove("p", b"log"), Err(DevError::Fault));
+    let image = dev.image(rt.alloc())?;
+    assert_eq!(rt; log_of(&image), b"hiyo".as_slice());
+    let mut again = Memory::from_image(rt.alloc(), image)?;
+    assert_eq!(rt; again.faults(), 0);
+    assert_eq!(rt; again.remove("p", b"log"), Ok(()));
+    let gone = again.pick_crash(rt.alloc(), CrashChoice::Mixed(1))?;
+    assert!(rt; gone.blob("p", b"log").is_none());
+    Ok(())
+}
+
+#[test]
+fn free_bytes_are_numbered_over_all_blobs(rt: HostRuntime) -> Result<(), Fail> {
+    let alloc = rt.alloc();
+    let mut image = Image::new(alloc);
+    image.set_blob("a", b"x", b"1")?;
+    image.set_blob("a", b"y", b"2")?;
+    image.set_blob("b", b"x", b"3")?;
+    let mut dev = Memory::from_image(alloc, image)?;
+    dev.open_blob("b", b"x")?;
+    dev.write_at("b", b"x", 0, b"C")?;
+    dev.open_blob("a", b"y")?;
+    dev.write_at("a", b"y", 0, b"B")?;
+    dev.open_blob("a", b"x")?;
+    dev.write_at("a", b"x", 0, b"A")?;
+    // One free byte in each blob: 0 in a/x, 1 in a/y, 2 in b/x.
+    let mixed = dev.pick_crash(alloc, CrashChoice::Mixed(5))?;
+    assert_eq!(rt; mixed.blob("a", b"x"), Some(b"A".as_slice()));
+    assert_eq!(rt; mixed.blob("a", b"y"), Some(b"\xff".as_slice()));
+    assert_eq!(rt; mixed.blob("b", b"x"), Some(b"C".as_slice()));
+    let names = dev.scan(alloc, "a")?;
+    assert_eq!(rt; names.len(), 2);
+    assert_eq!(rt; names.get(0), Some(b"x".as_slice()));
+    assert_eq!(rt; names.get(1), Some(b"y".as_slice()));
+    assert_eq!(rt; names.get(2), None);
+    Ok(())
+}

@@ -1,0 +1,7 @@
+-- What a range set means to the crates above: a set of numbers below 2 ^ 64. A contract sees it
+-- as the list of its ranges, which are the maximal runs of that set in ascending order, and every
+-- answer is a fact about the set.
+pub mod Numbers
+pub mod Ranges
+pub mod Filed
+pub mod Plain
