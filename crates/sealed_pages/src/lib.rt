@@ -9,5 +9,8 @@ mod reading;
 mod repair;
 mod start;
 
+#[cfg(test)]
+mod tests;
+
 pub use page_blob::PageBlob;
 pub use pages::Pages;

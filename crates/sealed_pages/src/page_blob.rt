@@ -119,6 +119,7 @@ impl<S: Seal> PageBlob<S> {
         ensures page_size { IfOk result (λ r. r.page_size ≡ pages.page_size) }
         ensures capacity { IfOk result (λ r. r.capacity ≡ capacity) }
         ensures end { IfOk result (λ r. r.end ≡ size) }
+        ensures open { IfOk result (λ r. IsOpenAt (D.opened dev.new) (key_of (shown r)) r.end) }
         ensures entries { OnlyRead (partition.now, name.now) (D.opened dev.old) (D.opened dev.new) }
         ensures overflow { IsErrOf result OffsetOverflow ↔ 2 ^ 64 ≤ size + (pages.page_size + 12) }
         ensures faults { D.faults dev.old ≤ D.faults dev.new }
@@ -331,7 +332,7 @@ impl<S: Seal> PageBlob<S> {
         ensures page_size { IfOk result (λ r. r.0.page_size ≡ self.page_size) }
         ensures capacity { IfOk result (λ r. r.0.capacity ≡ self.capacity) }
         ensures settled { IfOk result (λ r. r.0.settled ≡ self.settled) }
-        ensures length { IfOk result (λ r. IsOpenAt (D.opened dev.new) (key_of (shown self)) r.0.end) }
+        ensures open { IfOk result (λ r. IsOpenAt (D.opened dev.new) (key_of (shown r.0)) r.0.end) }
         ensures entries { NoReads (key_of (shown self)) (D.opened dev.old) (D.opened dev.new) }
         ensures overflow { IsErrOf result OffsetOverflow ↔ 2 ^ 64 ≤ extent self.page_size (size_of (shown self) + length bytes.now) }
         ensures faults { D.faults dev.old ≤ D.faults dev.new }
@@ -368,7 +369,7 @@ impl<S: Seal> PageBlob<S> {
         ensures key { IfOk result (λ r. key_of (shown r) ≡ key_of (shown self)) }
         ensures page_size { IfOk result (λ r. r.page_size ≡ self.page_size) }
         ensures capacity { IfOk result (λ r. r.capacity ≡ self.capacity) }
-        ensures length { IfOk result (λ r. IsOpenAt (D.opened dev.new) (key_of (shown self)) r.end) }
+        ensures open { IfOk result (λ r. IsOpenAt (D.opened dev.new) (key_of (shown r)) r.end) }
         ensures entries { NoReads (key_of (shown self)) (D.opened dev.old) (D.opened dev.new) }
         ensures faults { D.faults dev.old ≤ D.faults dev.new }
         ensures cause { OnErr result ((result ≡ Err RError.Mem) ⊎ ((result ≡ Err RError.Fault) × Rose (D.faults dev.old) (D.faults dev.new))) }

@@ -4,6 +4,7 @@ use Rattle.blob_device.specs.Timeline.{disk}
 use Rattle.sealed_pages.specs.Buffer.{extent, Buffer, bytes_of, State}
 use Rattle.sealed_pages.specs.Found.{Finds}
 use Rattle.sealed_pages.specs.SealedPrefix.{place}
+use Rattle.sealed_pages.specs.Entries.{IsOpenAt}
 use Rattle.sealed_pages.proofs.Looking.{content_length}
 use Rattle.sealed_pages.proofs.Starting.{backed_of, size_is, adopted_is, tip_is, extent_pages, start_fits}
 use Rattle.sealed_pages.proofs.Adopting.{adopted_state}
@@ -142,3 +143,8 @@ returns-clause-sealed g c t is whole =
       tip_at = tip_stands u (disk (g.D.Device.time c.args.dev.now) (c.args.partition.now, c.args.name.now)).content;
       size = bytes_length u (disk (g.D.Device.time c.args.dev.now) (c.args.partition.now, c.args.name.now)).content;
     }
+
+pub returns-clause-open : goal.returns-clause-open
+returns-clause-open g c =
+    let p : (string_bytes c.in_ok-partition.partition, c.in_ok-name.name.items) ≡ (c.args.partition.now, c.args.name.now) = search rules in
+    subst (λ (k : Key). IsOpenAt (g.D.Device.opened c.find_last.new.dev) k c.args.size) (sym p) (c.in_ok-found.ensures.entries.length c.args.size c.requires.«open»)

@@ -3,6 +3,7 @@ use Rattle.blob_device.specs.Disk.{Key, Blob}
 use Rattle.blob_device.specs.Timeline.{disk}
 use Rattle.sealed_pages.specs.Buffer.{Buffer, key_of, size_of, bytes_of}
 use Rattle.sealed_pages.specs.Shown.{shown}
+use Rattle.sealed_pages.specs.Entries.{IsOpenAt}
 use Rattle.sealed_pages.proofs.Holding.{holds_start, holds_more, holds_sealed, tip_stands, bytes_length}
 use Rattle.sealed_pages.proofs.Syncing.{backed_more, bytes_longer, flushed_bytes, flushed_backed}
 use Rattle.sealed_pages.proofs.page_blob.PageBlob.append.Goals as goal
@@ -122,3 +123,6 @@ returns-clause-backed g c t backed =
     let e : w ≡ v = ap (λ (l : List ℕ). record (shown c.args.self) { tip = l }) longer in
     let wrote = c.in_ok-this.ensures.wrote t (bytes_of w b0.content) (backed_more u w c.args.bytes.now b0.content e c.args.self.fit.within backed) (tip_stands w b0.content) in
     flushed_backed (shown c.in_ok-this.this) c.args.self.page_size (size_of w) (bytes_of w b0.content) _ (omega (arith, c.in_ok-this.this.fit.begun)) c.in_ok-this.ensures.page_size c.in_ok-this.ensures.size wrote.done (c.in_ok-this.ensures.tip (bytes_of w b0.content) (tip_stands w b0.content)) (bytes_length w b0.content) (omega (arith, c.in_ok-this.ensures.flushed))
+
+pub returns-clause-open : goal.returns-clause-open
+returns-clause-open g c = subst (λ (k : Key). IsOpenAt (g.D.Device.opened c.flush.new.dev) k c.in_ok-this.this.end) (sym c.in_ok-this.ensures.key) c.in_ok-this.ensures.length

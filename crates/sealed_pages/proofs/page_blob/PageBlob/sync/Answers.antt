@@ -4,6 +4,8 @@ use Rattle.blob_device.specs.Timeline.{disk}
 use Rattle.sealed_pages.specs.Buffer.{Buffer, key_of, size_of, flushed_of, bytes_of}
 use Rattle.sealed_pages.specs.ChanceSeal.{Leaves, Sealing}
 use Rattle.sealed_pages.specs.Shown.{shown}
+use Rattle.sealed_pages.specs.Entries.{IsOpenAt}
+use Rattle.sealed_pages.proofs.EntryLemmas.{open_same}
 use Rattle.sealed_pages.proofs.Holding.{holds_start, holds_sealed, tip_stands, bytes_length, settle_as, fit_room}
 use Rattle.sealed_pages.proofs.Keeping.{settle_data}
 use Rattle.sealed_pages.proofs.Syncing.{holds_settle, holds_synced, needs, flushed_bytes, flushed_backed}
@@ -132,3 +134,7 @@ returns-clause-backed g c t backed =
     let wrote = c.in_ok-this.ensures.wrote t (bytes_of u b0.content) backed (tip_stands u b0.content) in
     let same = settle_data c.args.self.page_size (bytes_of u b0.content) (size_of u) key (g.D.Device.time c.flush.new.dev) (g.D.Device.time c.sync.new.self) tt passes-ok wrote.done in
     flushed_backed after c.args.self.page_size (size_of u) (bytes_of u b0.content) _ (omega (arith, c.in_ok-this.this.fit.begun)) c.in_ok-this.ensures.page_size size same (c.in_ok-this.ensures.tip (bytes_of u b0.content) (tip_stands u b0.content)) (bytes_length u b0.content) (omega (arith, c.in_ok-this.ensures.flushed))
+
+pub returns-clause-open : goal.returns-clause-open
+returns-clause-open g c = subst (λ (k : Key). IsOpenAt (g.D.Device.opened c.sync.new.self) k c.in_ok-this.this.end) (sym c.in_ok-this.ensures.key)
+    (open_same (key_of (shown c.args.self)) (g.D.Device.opened c.flush.new.dev) _ c.in_ok-this.this.end c.in_ok-sync.ensures.opened c.in_ok-this.ensures.length)
