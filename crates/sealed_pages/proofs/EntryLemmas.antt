@@ -2,7 +2,7 @@
 use Rattle.std.proofs.Common.{◌≡◌, ◌≢◌, ◌⊎◌, inl, inr, ℕ, ◌+◌, ◌≤◌, max, min, Option, Some, None, IsSome, IsSomeAnd, Result, Ok, Err, OnOk, OnErr, refl, sym, ◌∙◌, ap, subst, arith}
 use Rattle.std.specs.Option.{option_map}
 use Rattle.blob_device.specs.Disk.{Key}
-use Rattle.blob_device.specs.Opened.{Opened, OpenedList, updated, with_len, one_more_read, reads_of, PartlyGrown}
+use Rattle.blob_device.specs.Opened.{Opened, OpenedList, updated, entered, with_len, one_more_read, reads_of, PartlyGrown}
 use Rattle.blob_device.proofs.Puts.{put_same, put_other}
 use Rattle.blob_device.proofs.OpenedLemmas.{updated_other}
 use Rattle.sealed_pages.specs.Entries.{IsOpenAt, NoReads}
@@ -89,3 +89,7 @@ only_read_once k old new same = record { others = λ q other. updated_other new 
 
 pub only_read_then : (k : Key) (a b c : OpenedList) → OnlyRead k a b → OnlyRead k b c → OnlyRead k a c
 only_read_then k a b c first second = record { others = λ q other. second.others q other ∙ first.others q other; length = λ n is. second.length n (first.length n is) }
+
+-- a blob that was just opened has the length that the call answered
+pub open_entered : (k : Key) (old new : OpenedList) (n : ℕ) → new ≡ entered old k n → IsOpenAt new k n
+open_entered k old new n same = subst (λ (e : Option Opened). IsSomeAnd e (λ o. o.len ≡ n)) (sym (ap (λ (o : OpenedList). o k) same ∙ put_same old k _)) refl

@@ -8,7 +8,6 @@ mod pages;
 mod reading;
 mod repair;
 mod start;
-
 #[cfg(test)]
 mod tests;
 

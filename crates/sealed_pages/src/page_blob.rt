@@ -326,6 +326,7 @@ impl<S: Seal> PageBlob<S> {
         ensures backed { D.Tells → IsBacked (shown self) (disk (D.time dev.old) (key_of (shown self))).content
             → IfOk result (λ r. IsBacked (shown r.0) (disk (D.time dev.new) (key_of (shown self))).content) }
         ensures below { length self.tip.items + length bytes.now < self.from + self.capacity → D.time dev.new ≡ D.time dev.old }
+        ensures flushed { self.from + self.capacity ≤ length self.tip.items + length bytes.now → IfOk result (λ r. r.0.from ≡ length r.0.tip.items) }
         ensures at { IfOk result (λ r. r.1 ≡ size_of (shown self)) }
         ensures size { IfOk result (λ r. size_of (shown r.0) ≡ size_of (shown self) + length bytes.now) }
         ensures key { IfOk result (λ r. key_of (shown r.0) ≡ key_of (shown self)) }
