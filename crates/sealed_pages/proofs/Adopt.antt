@@ -1,16 +1,15 @@
 -- From a content that was adopted to a blob at rest.
-use Rattle.std.proofs.Common.{◌≡◌, ◌≢◌, ◌⊎◌, inl, inr, ⊎_elim, ℕ, zero, suc, ◌+◌, ◌-◌, ◌*◌, ◌/◌, ◌%◌, ◌<◌, ◌≤◌, ltb, min, max, Bool, true, false, cond, List, [], ◌∷◌, ◌++◌, length, get_or, refl, sym, ◌∙◌, ap, subst, arith}
+use Rattle.std.proofs.Common.{◌≡◌, inl, inr, ℕ, zero, suc, ◌+◌, ◌-◌, ◌*◌, ◌/◌, ◌%◌, ◌<◌, ◌≤◌, min, true, false, List, length, get_or, refl, sym, ◌∙◌, ap, arith}
 use Rattle.std.proofs.lemmas.Bool.{cases_lt, cases_order, cases_Bool}
 use Rattle.std.proofs.lemmas.Bool.Decides.{Decides-ltb}
 use Rattle.std.proofs.Math.Nat.{mod-eq-sub-div-mul, div-lt_iff_lt-mul}
 use Rattle.std.proofs.lemmas.Nat.{le-div}
-use Rattle.blob_device.specs.Disk.{Blob, settled_at}
 use Rattle.sealed_pages.specs.Flushing.{Data, Covers}
 use Rattle.sealed_pages.specs.SealedPrefix.{pages_in, sealed_from, sealed_prefix, place, data_from}
 use Rattle.sealed_pages.specs.Slots.{slot_length, page_length, best_slot}
 use Rattle.sealed_pages.specs.View.{View, page_at}
 use Rattle.sealed_pages.proofs.SlotLemmas.{times_next, times_more}
-use Rattle.sealed_pages.proofs.SealedBytes.{rest, rest_is, length-step, page_length-le}
+use Rattle.sealed_pages.proofs.SealedBytes.{rest_is, length-step, page_length-le}
 
 module _ (seal : List ℕ → ℕ) (P : ℕ) where
   -- each page below the end of what is sealed is covered that far

@@ -1,7 +1,7 @@
 -- From adopting to the first flush: what is kept, and when it is ready for bytes.
-use Rattle.std.proofs.Common.{◌≡◌, ◌≢◌, ◌⊎◌, inl, inr, ℕ, ◌+◌, ◌-◌, ◌*◌, ◌^◌, ◌<◌, ◌≤◌, ◌||◌, eqb, min, not, Bool, true, false, cond, List, length, refl, sym, ◌∙◌, ap, subst, arith}
-use Rattle.std.proofs.lemmas.Bool.{cases_lt, cases_order, cases_eq, eq-eqb, ne_eqb}
-use Rattle.blob_device.specs.Disk.{Key, Blob, settled_at}
+use Rattle.std.proofs.Common.{◌≡◌, ◌≢◌, ◌⊎◌, inl, inr, ℕ, ◌+◌, ◌-◌, ◌*◌, ◌^◌, ◌<◌, ◌≤◌, ◌||◌, not, Bool, true, false, cond, List, refl, sym, ◌∙◌, ap, subst, arith}
+use Rattle.std.proofs.lemmas.Bool.{cases_lt, cases_order, eq-eqb, ne_eqb}
+use Rattle.blob_device.specs.Disk.{Blob}
 use Rattle.sealed_pages.proofs.Repairing.{page_order, repaired_quiet}
 use Rattle.sealed_pages.specs.Buffer.{pages_of, Adopted, State}
 use Rattle.sealed_pages.specs.Flushing.{next_slot, Covers, Stands, Ready, Kept, IsClean}

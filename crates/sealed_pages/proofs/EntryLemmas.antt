@@ -1,9 +1,9 @@
 -- The list of opened blobs after calls on one of them.
-use Rattle.std.proofs.Common.{◌≡◌, ◌≢◌, ◌⊎◌, inl, inr, ℕ, ◌+◌, ◌≤◌, max, min, Option, Some, None, IsSome, IsSomeAnd, Result, Ok, Err, OnOk, OnErr, refl, sym, ◌∙◌, ap, subst, arith}
+use Rattle.std.proofs.Common.{◌≡◌, ◌⊎◌, inl, inr, ℕ, ◌≤◌, max, Option, Some, None, IsSome, IsSomeAnd, refl, sym, ◌∙◌, ap, subst, arith}
 use Rattle.std.specs.Option.{option_map}
 use Rattle.blob_device.specs.Disk.{Key}
 use Rattle.blob_device.specs.Opened.{Opened, OpenedList, updated, entered, with_len, one_more_read, reads_of, PartlyGrown}
-use Rattle.blob_device.proofs.Puts.{put_same, put_other}
+use Rattle.blob_device.proofs.Puts.{put_same}
 use Rattle.blob_device.proofs.OpenedLemmas.{updated_other}
 use Rattle.sealed_pages.specs.Entries.{IsOpenAt, NoReads}
 use Rattle.sealed_pages.specs.Reading.{OnlyRead}

@@ -1,21 +1,20 @@
 -- What a buffer holds, after a flush and after an append.
-use Rattle.std.proofs.Common.{◌≡◌, ◌≢◌, ◌⊎◌, inl, inr, ℕ, Ok, ◌+◌, ◌-◌, ◌*◌, ◌/◌, ◌%◌, ◌^◌, ◌<◌, ◌≤◌, ◌||◌, Result, Bool, true, false, cond, List, [], ◌∷◌, ◌++◌, length, get_or, take, drop, refl, sym, ◌∙◌, ap, subst, arith, length-append, length-drop, length-take}
+use Rattle.std.proofs.Common.{◌≡◌, ◌⊎◌, inl, inr, ℕ, ◌+◌, ◌-◌, ◌*◌, ◌/◌, ◌^◌, ◌<◌, ◌≤◌, ◌||◌, Result, Bool, true, false, List, ◌++◌, length, get_or, take, drop, refl, sym, ◌∙◌, ap, subst, arith, length-append, length-drop}
 use Rattle.std.proofs.Math.Nat.{div-mul-le_self, div-lt_iff_lt-mul}
 use Rattle.std.proofs.lemmas.Nat.{le-div}
 use Rattle.std.proofs.lemmas.List.{get_or_append_left, get_or-append_right, ext_get_or}
-use Rattle.std.proofs.lemmas.Bool.{cases_lt, cases_order}
+use Rattle.std.proofs.lemmas.Bool.{cases_lt}
 use Rattle.blob_device.specs.declared.error.DevError.{DevError}
 use Rattle.blob_device.specs.Timeline.{Timeline, disk, Passes}
 use Rattle.blob_device.specs.Change.{Settle}
 use Rattle.blob_device.specs.Disk.{Key, Blob}
 use Rattle.blob_device.proofs.Moments.{only_start}
-use Rattle.sealed_pages.proofs.SlotLemmas.{index_page, times_next, times_more, times_page, page_next}
+use Rattle.sealed_pages.proofs.SlotLemmas.{index_page, times_next, times_page, page_next}
 use Rattle.sealed_pages.proofs.SealedBytes.{stands_leaves}
 use Rattle.sealed_pages.proofs.Repairing.{page_order}
 use Rattle.sealed_pages.proofs.Adopt.{length-data_from, get_or-data_from, place_in}
-use Rattle.sealed_pages.proofs.Adopting.{end_page, adopted_kept}
-use Rattle.sealed_pages.proofs.Keeping.{kept_start}
-use Rattle.sealed_pages.proofs.PageCalls.{part_stands, rest_whole, ready_more, ready_leaves, only_then, synced_any, synced_ok, sound_more, data_more}
+use Rattle.sealed_pages.proofs.Adopting.{adopted_kept}
+use Rattle.sealed_pages.proofs.PageCalls.{part_stands, rest_whole, ready_more, data_more}
 use Rattle.sealed_pages.specs.Buffer.{extent, Fit, Buffer, size_of, flushed_of, bytes_of, State, Holds, IsSealed}
 use Rattle.sealed_pages.specs.ChanceSeal.{Leaves, Sealing}
 use Rattle.sealed_pages.specs.Flushing.{Data, Ready, PageFlushed, Wrote}

@@ -1,10 +1,10 @@
 -- The steps of the first flush after adopting, at each moment.
-use Rattle.std.proofs.Common.{zero, suc, cond, not, ◌≡◌, ◌≢◌, ◌⊎◌, inl, inr, ℕ, Ok, Result, OnOk, ◌+◌, ◌-◌, ◌*◌, ◌<◌, ◌≤◌, min, max, Bool, true, false, List, [], ◌∷◌, ◌++◌, length, get_or, refl, sym, ◌∙◌, ap, subst, arith}
-use Rattle.std.proofs.lemmas.Bool.{cases_lt, cases_order, cases_eq, eq-eqb}
+use Rattle.std.proofs.Common.{zero, suc, cond, ◌≡◌, ◌≢◌, inl, inr, ℕ, Ok, Result, ◌+◌, ◌*◌, ◌<◌, ◌≤◌, Bool, false, List, length, refl, sym, ◌∙◌, ap, subst, arith}
+use Rattle.std.proofs.lemmas.Bool.{cases_order, eq-eqb}
 use Rattle.blob_device.specs.declared.error.DevError.{DevError}
-use Rattle.blob_device.specs.Disk.{Key, Blob, settled_at}
-use Rattle.blob_device.specs.Change.{Change, Write, Resize, Settle, written, resized, done}
-use Rattle.blob_device.specs.Timeline.{Timeline, disk, Passes, Always, OnlyAt}
+use Rattle.blob_device.specs.Disk.{Key, Blob}
+use Rattle.blob_device.specs.Change.{Change, Write, Resize, Settle, written, resized}
+use Rattle.blob_device.specs.Timeline.{Timeline, disk, Passes}
 use Rattle.blob_device.proofs.Moments.{ok_blob, only_start}
 use Rattle.blob_device.proofs.Bytes.{length-written, length-resized}
 use Rattle.sealed_pages.specs.ChanceSeal.{Leaves, Sealing}
@@ -14,11 +14,11 @@ use Rattle.sealed_pages.specs.View.{view, page_at, slot_at}
 use Rattle.blob_device.specs.Guards.{Avoids, Makes}
 use Rattle.blob_device.proofs.Places.{resized_below}
 use Rattle.sealed_pages.proofs.SlotLemmas.{times_more, page_apart, slot_length-le, slot_stands, slot_same, page_next, zero_named}
-use Rattle.sealed_pages.proofs.Steps.{slot_low, slot_high, below_sound, named_same}
-use Rattle.sealed_pages.proofs.SlotSteps.{slot_is, settled_stands, same_or_apart, slot_data_kept, slot_kept, held_slot}
+use Rattle.sealed_pages.proofs.Steps.{slot_high, below_sound, named_same}
+use Rattle.sealed_pages.proofs.SlotSteps.{slot_is, settled_stands, slot_data_kept, slot_kept, held_slot}
 use Rattle.sealed_pages.proofs.Repairing.{cleared_below, behind_below, repaired_quiet}
 use Rattle.blob_device.proofs.GuardsLemmas.{sealed_after, sealed_start, sealed_on}
-use Rattle.sealed_pages.proofs.PageCalls.{only_weaker, other_slot, alone_start, alone_on}
+use Rattle.sealed_pages.proofs.PageCalls.{only_weaker}
 use Rattle.sealed_pages.proofs.SealedBytes.{stands_leaves}
 
 module _ (seal : List ℕ → ℕ) (P : ℕ) (bytes : List ℕ) (F : ℕ) (σ : ℕ → Bool) where

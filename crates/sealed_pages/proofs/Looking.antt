@@ -1,24 +1,21 @@
 -- Reading slots, and calls that only read.
-use Rattle.std.proofs.Common.{◌≡◌, ◌≢◌, ◌⊎◌, inl, inr, ℕ, zero, suc, ◌+◌, ◌-◌, ◌*◌, ◌<◌, ◌≤◌, leb, eqb, min, max, ◌/◌, Bool, true, false, cond, List, [], ◌∷◌, ◌++◌, length, get_or, take, drop, Result, Ok, Err, Option, Some, None, IsSomeAnd, refl, sym, ◌∙◌, ap, subst, arith, length-take, length-drop}
+use Rattle.std.proofs.Common.{◌≡◌, ◌≢◌, ◌⊎◌, inl, inr, ℕ, suc, ◌+◌, ◌-◌, ◌*◌, ◌<◌, ◌≤◌, leb, eqb, min, max, ◌/◌, Bool, true, false, cond, List, [], ◌∷◌, ◌++◌, length, get_or, take, drop, Result, Ok, Err, Option, Some, None, IsSomeAnd, refl, sym, ◌∙◌, ap, subst, arith, length-take, length-drop}
 use Rattle.std.specs.Prelude.{IfSome}
 use Rattle.std.specs.Int.{w16, w32, from_be_bytes}
-use Rattle.std.specs.Option.{option_map}
 use Rattle.std.proofs.Math.Nat.{mul-le-mul_right, div-mul-le_self}
 use Rattle.std.proofs.lemmas.Bool.{cases_lt, cases_eq, le-leb, eq-eqb, ne_eqb}
-use Rattle.std.proofs.lemmas.List.{get_or-take, get_or-drop, ext_get_or, get_or_past}
+use Rattle.std.proofs.lemmas.List.{get_or-take, get_or-drop, ext_get_or}
 use Rattle.blob_device.specs.declared.error.DevError.{DevError}
-use Rattle.blob_device.specs.Disk.{Key, Disk, Blob, put}
+use Rattle.blob_device.specs.Disk.{Key, Disk, put}
 use Rattle.blob_device.specs.Change.{Look}
-use Rattle.blob_device.specs.Timeline.{Timeline, disk, Passes, Always}
-use Rattle.blob_device.specs.Opened.{Opened, OpenedList, updated, one_more_read}
-use Rattle.blob_device.proofs.Moments.{always_start, always_then, always_on, always_weaker, passes_after, err_blob, ok_blob, err_has}
+use Rattle.blob_device.specs.Timeline.{Timeline, disk, Passes}
+use Rattle.blob_device.specs.Opened.{Opened, OpenedList}
+use Rattle.blob_device.proofs.Moments.{always_start, always_then, always_on, always_weaker, passes_after, ok_blob, err_has}
 use Rattle.blob_device.proofs.Puts.{put_self, put_same}
-use Rattle.blob_device.proofs.OpenedLemmas.{updated_other}
-use Rattle.sealed_pages.proofs.EntryLemmas.{open_updated}
-use Rattle.sealed_pages.proofs.SlotLemmas.{length-bytes_at, get_or-bytes_at, bytes_at-same, slot_length-le, slot_stands, slot_named, slot_at_most, slot_same, zero_named}
+use Rattle.sealed_pages.proofs.SlotLemmas.{length-bytes_at, get_or-bytes_at, slot_length-le, slot_stands, slot_named, zero_named}
 use Rattle.sealed_pages.specs.Entries.{IsOpenAt}
 use Rattle.sealed_pages.specs.Reading.{page_of, Unchanged}
-use Rattle.sealed_pages.specs.SealedPrefix.{size_below, place}
+use Rattle.sealed_pages.specs.SealedPrefix.{size_below}
 use Rattle.sealed_pages.specs.Slots.{named_length, named_seal, computed_seal, slot_length, page_length}
 use Rattle.sealed_pages.specs.View.{view, bytes_at, page_at, slot_at}
 

@@ -1,26 +1,23 @@
 -- The two calls by which a page is flushed.
-use Rattle.std.proofs.Common.{◌≡◌, ◌≢◌, ◌⊎◌, inl, inr, ⊎_elim, ℕ, ◌+◌, ◌-◌, ◌*◌, ◌^◌, ◌<◌, ◌≤◌, ltb, eqb, not, min, max, Bool, true, false, cond, List, [], ◌∷◌, ◌++◌, length, get_or, take, drop, Result, Ok, Err, OnOk, refl, sym, ◌∙◌, ap, subst, arith, length-append, length-drop, length-take}
+use Rattle.std.proofs.Common.{◌≡◌, ◌≢◌, inl, inr, ℕ, ◌+◌, ◌-◌, ◌*◌, ◌^◌, ◌<◌, ◌≤◌, not, Bool, true, false, cond, List, ◌++◌, length, get_or, take, drop, Result, Ok, Err, OnOk, refl, sym, ◌∙◌, ap, subst, arith, length-append, length-drop, length-take}
 use Rattle.std.specs.Result.{IsErr}
-use Rattle.std.specs.Prelude.{IsSome}
 use Rattle.std.proofs.lemmas.List.{get_or-drop, get_or-take, get_or_append_left, take_all}
-use Rattle.std.proofs.lemmas.Bool.{cases_lt, cases_order, eq-eqb, ne_eqb}
+use Rattle.std.proofs.lemmas.Bool.{cases_order, eq-eqb, ne_eqb}
 use Rattle.std.proofs.lemmas.Bool.Decides.{Decides-ltb}
 use Rattle.blob_device.specs.declared.error.DevError.{DevError}
 use Rattle.blob_device.specs.Disk.{Key, Blob, Disk, past, settled_at}
-use Rattle.blob_device.specs.Change.{Change, Write, Settle, written, done}
+use Rattle.blob_device.specs.Change.{Change, Write, Settle, written}
 use Rattle.blob_device.specs.Timeline.{Timeline, disk, Passes, Always, OnlyAt}
 use Rattle.blob_device.proofs.Moments.{always_now, always_then, always_weaker, only_start, only_on, ok_blob}
 use Rattle.sealed_pages.specs.ChanceSeal.{Leaves}
 use Rattle.sealed_pages.specs.Flushing.{next_slot, last_slot, with_slot, Quiet, Data, Sound, Held, Stands, Flushed, Ready, PageFlushed, Alone, Wrote}
-use Rattle.sealed_pages.specs.SealedPrefix.{place}
 use Rattle.sealed_pages.specs.Slots.{slot_bytes}
 use Rattle.sealed_pages.specs.View.{View, view, page_at, slot_at, StandsAt}
-use Rattle.blob_device.specs.Guards.{Guards, Sealed, Avoids, Makes}
 use Rattle.blob_device.proofs.GuardsLemmas.{sealed_start, sealed_on}
 use Rattle.sealed_pages.proofs.SealedBytes.{stands_leaves, all_map}
-use Rattle.sealed_pages.proofs.SlotLemmas.{times_next, times_more}
+use Rattle.sealed_pages.proofs.SlotLemmas.{times_more}
 use Rattle.sealed_pages.proofs.Steps.{tidy_sound, data_quiet, data_same}
-use Rattle.sealed_pages.proofs.SlotSteps.{quiet_more, stands_settled, length-slot_bytes, slot_quiet, slot_data_kept, held_data, held_slot, flushed_page}
+use Rattle.sealed_pages.proofs.SlotSteps.{stands_settled, length-slot_bytes, slot_data_kept, held_data, held_slot, flushed_page}
 
 pub only_weaker : (a b : Timeline) (k : Key) (from : Disk) (Q R : Blob → Type 0) → ((x : Blob) → Q x → R x) → Always a b (OnlyAt k from Q) → Always a b (OnlyAt k from R)
 only_weaker a b k from Q R weaker always = always_weaker a b (OnlyAt k from Q) (OnlyAt k from R) (λ d only. record { here = weaker (d k) only.here; others = only.others }) always

@@ -1,21 +1,19 @@
 -- The first flush after adopting: what a crash left behind the last page that matches is cut, and a torn slot is cleared.
-use Rattle.std.proofs.Common.{◌≡◌, ◌≢◌, ◌⊎◌, inl, inr, ⊎_elim, ℕ, zero, suc, ◌+◌, ◌-◌, ◌*◌, ◌/◌, ◌<◌, ◌≤◌, eqb, min, max, Bool, true, false, cond, List, [], ◌∷◌, ◌++◌, length, get_or, refl, sym, ◌∙◌, ap, subst, arith}
-use Rattle.std.specs.Int.{w16, from_be_bytes}
-use Rattle.std.proofs.lemmas.Bool.{cases_lt, cases_eq, cases_order}
+use Rattle.std.proofs.Common.{◌≡◌, ◌≢◌, ◌⊎◌, inl, inr, ℕ, zero, suc, ◌+◌, ◌-◌, ◌*◌, ◌<◌, ◌≤◌, Bool, true, false, cond, List, length, refl, ◌∙◌, ap, arith}
+use Rattle.std.proofs.lemmas.Bool.{cases_lt, cases_eq}
 use Rattle.std.proofs.lemmas.Bool.Decides.{eqb_tells}
 use Rattle.std.proofs.lemmas.List.{get_or_past}
-use Rattle.blob_device.specs.Change.{Write, Resize, written, resized}
+use Rattle.blob_device.specs.Change.{written, resized}
 use Rattle.blob_device.proofs.Bytes.{length-resized, length-written}
 use Rattle.sealed_pages.specs.Flushing.{no_slot, Quiet, Below}
 use Rattle.sealed_pages.specs.SealedPrefix.{pages_in, size_below, adopted_size}
 use Rattle.sealed_pages.specs.Slots.{named_length, slot_length, page_length}
 use Rattle.sealed_pages.specs.View.{view, page_at, slot_at}
-use Rattle.blob_device.specs.Guards.{Avoids}
-use Rattle.blob_device.proofs.Places.{resized_below, resized_past}
-use Rattle.sealed_pages.proofs.SlotLemmas.{times_next, times_more, page_apart, bytes_at-same, slot_length-le, slot_named, slot_at_most, slot_stands, slot_same, zero_named, page_next}
+use Rattle.blob_device.proofs.Places.{resized_below}
+use Rattle.sealed_pages.proofs.SlotLemmas.{times_more, page_apart, slot_named, slot_at_most, slot_stands, slot_same, zero_named, page_next}
 use Rattle.sealed_pages.proofs.SealedBytes.{page_length-le, page_length-slot, slot_inside}
 use Rattle.sealed_pages.proofs.Steps.{slot_low, slot_high}
-use Rattle.sealed_pages.proofs.SlotSteps.{same_or_apart, slot_is, slot_same_data, slot_data_kept, slot_kept}
+use Rattle.sealed_pages.proofs.SlotSteps.{same_or_apart, slot_is, slot_kept}
 
 module _ (seal : List ℕ → ℕ) (P : ℕ) where
   -- the size at which a blob is adopted: no slot covers more

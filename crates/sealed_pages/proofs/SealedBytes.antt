@@ -1,20 +1,17 @@
 -- How far a content is sealed, from what is known of its pages.
-use Rattle.std.proofs.Common.{◌≡◌, ◌≢◌, ◌⊎◌, inl, inr, ⊎_elim, ℕ, zero, suc, ◌+◌, ◌-◌, ◌*◌, ◌/◌, ◌<◌, ◌≤◌, eqb, min, max, Bool, true, false, cond, List, [], ◌∷◌, ◌++◌, length, get_or, take, refl, sym, ◌∙◌, ap, subst, arith, length-append, length-take}
-use Rattle.std.proofs.Math.Nat.{le-mul_of_pos_right}
+use Rattle.std.proofs.Common.{◌≡◌, ◌≢◌, ◌⊎◌, inl, inr, ℕ, zero, suc, ◌+◌, ◌-◌, ◌*◌, ◌<◌, ◌≤◌, eqb, min, Bool, true, false, cond, List, [], ◌∷◌, ◌++◌, length, get_or, take, refl, sym, ◌∙◌, ap, arith, length-append, length-take}
 use Rattle.std.proofs.lemmas.Bool.{cases_lt}
 use Rattle.std.proofs.lemmas.Bool.Decides.{eqb_tells}
 use Rattle.std.proofs.lemmas.Nat.{le-div}
-use Rattle.std.proofs.lemmas.List.{get_or_append_left, get_or-append_right, get_or-take, get_or_past, ext_get_or}
+use Rattle.std.proofs.lemmas.List.{get_or_append_left, get_or-append_right, get_or-take, ext_get_or}
 use Rattle.std.specs.List.{AllByRecursion}
-use Rattle.std.specs.Int.{w16, from_be_bytes}
-use Rattle.blob_device.specs.Disk.{Blob, past, MayHold, MayLeave}
+use Rattle.blob_device.specs.Disk.{Blob, past}
 use Rattle.sealed_pages.specs.ChanceSeal.{SamePlace, SomeByRecursion, NoChanceSeal, Leaves}
 use Rattle.sealed_pages.specs.Flushing.{Sound, Covers, Held, Stands}
-use Rattle.sealed_pages.specs.SealedPrefix.{pages_in, sealed_from, sealed_prefix, Prefix, place}
+use Rattle.sealed_pages.specs.SealedPrefix.{pages_in, sealed_from, sealed_prefix, Prefix}
 use Rattle.sealed_pages.specs.Slots.{slot_length, page_length}
 use Rattle.sealed_pages.specs.View.{view, bytes_at, page_at, slot_at}
-use Rattle.blob_device.specs.Guards.{Guards, Sealed}
-use Rattle.sealed_pages.proofs.SlotLemmas.{times_next, times_more, length-bytes_at, get_or-bytes_at, bytes_at-same, slot_length-le, slot_named, slot_at_most, slot_stands, slot_same}
+use Rattle.sealed_pages.proofs.SlotLemmas.{times_next, length-bytes_at, get_or-bytes_at, slot_length-le, slot_named, slot_stands, slot_same}
 use Rattle.blob_device.proofs.GuardsLemmas.{guards_crash, guards_left}
 
 module _ (seal : List ℕ → ℕ) (P : ℕ) where

@@ -1,22 +1,20 @@
 -- What a write of a slot leaves, and what has settled.
-use Rattle.std.proofs.Common.{◌≡◌, ◌≢◌, ◌⊎◌, inl, inr, ⊎_elim, ℕ, zero, suc, ◌+◌, ◌-◌, ◌*◌, ◌/◌, ◌^◌, ◌<◌, ◌≤◌, eqb, leb, min, max, Bool, true, false, cond, List, [], ◌∷◌, ◌++◌, length, get_or, take, drop, refl, sym, ◌∙◌, ap, subst, arith, rules, length-append, length-take}
-use Rattle.std.specs.List.{AllByRecursion}
+use Rattle.std.proofs.Common.{◌≡◌, ◌≢◌, ◌⊎◌, inl, inr, ℕ, ◌+◌, ◌-◌, ◌*◌, ◌^◌, ◌<◌, ◌≤◌, eqb, leb, Bool, true, false, cond, List, ◌++◌, length, get_or, refl, sym, ◌∙◌, ap, subst, arith, rules, length-append}
 use Rattle.std.specs.Int.{w16, w32, to_be_bytes, from_be_bytes}
-use Rattle.std.proofs.lemmas.Bool.{cases_lt, cases_eq, cases_order, eq-eqb, ne_eqb, le-leb}
+use Rattle.std.proofs.lemmas.Bool.{cases_lt, cases_eq, eq-eqb, ne_eqb, le-leb}
 use Rattle.std.proofs.lemmas.Nat.{from_be_bytes-to_be_bytes_2, from_be_bytes-to_be_bytes_4}
 use Rattle.std.proofs.lemmas.List.{get_or_append_left, get_or-append_right, ext_get_or}
 use Rattle.blob_device.specs.Disk.{Blob, settled_at}
-use Rattle.blob_device.specs.Change.{Change, Write, Resize, written, resized}
+use Rattle.blob_device.specs.Change.{Write, written}
 use Rattle.blob_device.proofs.Bytes.{length-written}
 use Rattle.sealed_pages.specs.Flushing.{with_slot, Quiet, Data, Sound, Covers, Held, Stands, Flushed}
-use Rattle.sealed_pages.specs.SealedPrefix.{place}
 use Rattle.sealed_pages.specs.Slots.{named_length, named_seal, slot_length, slot_bytes}
 use Rattle.sealed_pages.specs.View.{View, view, bytes_at, page_at, slot_at}
-use Rattle.blob_device.specs.Guards.{Guards, Sealed, Avoids}
+use Rattle.blob_device.specs.Guards.{Guards, Avoids}
 use Rattle.blob_device.proofs.Places.{written_out, written_in}
 use Rattle.blob_device.proofs.GuardsLemmas.{guards_settled}
-use Rattle.sealed_pages.proofs.SlotLemmas.{times_next, times_more, page_apart, named_bytes, length-bytes_at, get_or-bytes_at, bytes_at-same, slot_length-le, slot_named, slot_at_most, slot_stands, slot_same}
-use Rattle.sealed_pages.proofs.Steps.{slot_data, data_slot, slot_slot, data_data, slot_low, slot_high, named_same, tidy_sound, data_slots, data_quiet, data_same, data_below}
+use Rattle.sealed_pages.proofs.SlotLemmas.{times_more, length-bytes_at, get_or-bytes_at, slot_length-le, slot_named, slot_at_most, slot_stands, slot_same}
+use Rattle.sealed_pages.proofs.Steps.{slot_data, data_slot, slot_slot, data_data, slot_low, named_same, tidy_sound, data_slots, data_quiet, data_same, data_below}
 
 pub quiet_more : (P F G : ℕ) (v : View) → F ≤ G → Quiet P F v → Quiet P G v
 quiet_more P F G v le quiet k b part = omega (arith, le, part, quiet k b (omega (arith, le, part)))

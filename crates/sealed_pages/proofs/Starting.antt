@@ -1,7 +1,7 @@
 -- How a buffer starts over an adopted blob.
 use Rattle.std.proofs.Common.{◌≡◌, ◌≢◌, ◌⊎◌, inl, inr, ℕ, ◌+◌, ◌-◌, ◌*◌, ◌/◌, ◌^◌, ◌<◌, ◌≤◌, not, ltb, max, Bool, true, false, cond, List, length, get_or, take, length-take, Option, Some, None, refl, sym, ◌∙◌, ap, subst, arith}
 use Rattle.std.proofs.lemmas.Bool.{cases_lt, cases_order, ltb-true, ltb-false}
-use Rattle.blob_device.specs.Disk.{Blob, settled_at}
+use Rattle.blob_device.specs.Disk.{settled_at}
 use Rattle.sealed_pages.specs.Buffer.{extent, Buffer, bytes_of, pages_of, Adopted, IsBacked}
 use Rattle.sealed_pages.specs.Flushing.{Data, Covers, Below, KeptContent, IsClean}
 use Rattle.sealed_pages.specs.Found.{Finds}
@@ -12,7 +12,7 @@ use Rattle.sealed_pages.specs.Starts.{Starts, StartsOver}
 use Rattle.sealed_pages.specs.View.{view, page_at, slot_at}
 use Rattle.sealed_pages.specs.declared.reading.LastPage.{LastPage}
 use Rattle.sealed_pages.proofs.Repairing.{adopted_below, page_order}
-use Rattle.sealed_pages.proofs.SlotLemmas.{times_next, times_more, slot_stands, slot_length-le}
+use Rattle.sealed_pages.proofs.SlotLemmas.{times_next, times_more, slot_length-le}
 use Rattle.std.proofs.lemmas.List.{get_or_append_left, get_or-append_right, get_or-take}
 use Rattle.sealed_pages.proofs.Adopt.{own_data, length-data_from, best_covers}
 use Rattle.sealed_pages.proofs.Adopting.{pages_none, pages_some, pages_reach}

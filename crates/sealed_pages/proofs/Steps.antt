@@ -1,16 +1,13 @@
 -- What a write in one page leaves of the others, and of what is sealed.
-use Rattle.std.proofs.Common.{◌≡◌, ◌≢◌, ◌⊎◌, inl, inr, ⊎_elim, ℕ, zero, suc, ◌+◌, ◌-◌, ◌*◌, ◌/◌, ◌<◌, ◌≤◌, eqb, min, max, Bool, true, false, cond, List, [], ◌∷◌, ◌++◌, length, get_or, take, refl, sym, ◌∙◌, ap, subst, arith, length-append, length-take}
-use Rattle.std.specs.Int.{w16, w32, to_be_bytes, from_be_bytes}
+use Rattle.std.proofs.Common.{◌≡◌, ◌≢◌, ◌⊎◌, inl, inr, ℕ, ◌+◌, ◌-◌, ◌*◌, ◌<◌, ◌≤◌, Bool, true, false, List, length, get_or, refl, ◌∙◌, ap, arith}
+use Rattle.std.specs.Int.{w16, from_be_bytes}
 use Rattle.std.proofs.lemmas.Bool.{cases_lt, cases_eq, cases_order}
-use Rattle.std.proofs.lemmas.Bool.Decides.{eqb_tells}
-use Rattle.blob_device.specs.Change.{written, resized}
-use Rattle.blob_device.proofs.Bytes.{length-written}
+use Rattle.blob_device.specs.Change.{written}
 use Rattle.sealed_pages.specs.Flushing.{Quiet, Data, Sound, Below}
-use Rattle.sealed_pages.specs.SealedPrefix.{place}
 use Rattle.sealed_pages.specs.Slots.{named_length}
 use Rattle.sealed_pages.specs.View.{View, view, page_at, slot_at}
 use Rattle.blob_device.proofs.Places.{written_out, written_in}
-use Rattle.sealed_pages.proofs.SlotLemmas.{times_next, times_more, page_apart, named_bytes, length-bytes_at, get_or-bytes_at, bytes_at-same, slot_length-le, slot_named, slot_at_most, slot_same}
+use Rattle.sealed_pages.proofs.SlotLemmas.{times_more, page_apart, named_bytes, slot_length-le, slot_at_most}
 
 module _ (P : ℕ) where
   pub slot_low : (k : ℕ) (b : Bool) → page_at P k + P ≤ slot_at P k b

@@ -1,15 +1,13 @@
 -- A buffer over its calls: a flush in two steps, bytes added, and a sync.
-use Rattle.std.proofs.Common.{◌≡◌, ◌≢◌, ◌⊎◌, inl, inr, ℕ, Ok, ◌+◌, ◌*◌, ◌<◌, ◌≤◌, ◌||◌, not, eqb, Result, Bool, true, false, cond, List, ◌++◌, length, refl, sym, ◌∙◌, ap, subst, arith, length-append, append_assoc}
+use Rattle.std.proofs.Common.{◌≡◌, ◌≢◌, inl, inr, ℕ, Ok, ◌+◌, ◌*◌, ◌<◌, ◌≤◌, ◌||◌, not, eqb, Result, Bool, true, false, List, ◌++◌, length, sym, ◌∙◌, ap, subst, arith, append_assoc}
 use Rattle.std.proofs.lemmas.Bool.{eq-eqb}
 use Rattle.blob_device.specs.declared.error.DevError.{DevError}
 use Rattle.blob_device.specs.Timeline.{Timeline, disk, Passes}
 use Rattle.blob_device.specs.Change.{Settle}
-use Rattle.blob_device.specs.Disk.{Key, Blob}
-use Rattle.blob_device.proofs.Moments.{ok_blob}
-use Rattle.sealed_pages.proofs.Adopt.{length-data_from}
+use Rattle.blob_device.specs.Disk.{Key}
 use Rattle.sealed_pages.proofs.Adopting.{end_page, adopted_kept}
 use Rattle.sealed_pages.proofs.Keeping.{settle_any}
-use Rattle.sealed_pages.proofs.Holding.{holds_more, bytes_is, bytes_length, bool_or, data_less}
+use Rattle.sealed_pages.proofs.Holding.{bytes_is, bytes_length, bool_or, data_less}
 use Rattle.sealed_pages.proofs.PageCalls.{only_then, synced_any, synced_ok, data_more}
 use Rattle.sealed_pages.specs.Buffer.{Buffer, key_of, size_of, flushed_of, bytes_of, Holds, IsBacked}
 use Rattle.sealed_pages.specs.ChanceSeal.{Leaves, Sealing}

@@ -1,7 +1,7 @@
 -- What a buffer over a sealed blob shows, and what it means: a list of bytes, most of them in its blob.
-use Rattle.std.specs.Prelude.{◌≡◌, ◌≢◌, ◌⊎◌, ℕ, ◌+◌, ◌*◌, ◌-◌, ◌/◌, ◌^◌, ◌<◌, ◌≤◌, ◌||◌, not, cond, eqb, Bool, true, false, List, ◌++◌, length}
+use Rattle.std.specs.Prelude.{◌≡◌, ℕ, ◌+◌, ◌*◌, ◌-◌, ◌/◌, ◌^◌, ◌<◌, ◌≤◌, ◌||◌, not, cond, eqb, Bool, true, false, List, ◌++◌, length}
 use Rattle.blob_device.specs.Disk.{Key, Blob, settled_at}
-use Rattle.sealed_pages.specs.View.{view, page_at, slot_at, StandsAt}
+use Rattle.sealed_pages.specs.View.{view, page_at, StandsAt}
 use Rattle.sealed_pages.specs.SealedPrefix.{data_from}
 use Rattle.sealed_pages.specs.Flushing.{Data, Ready, KeptContent, IsClean}
 

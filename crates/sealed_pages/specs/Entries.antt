@@ -1,7 +1,7 @@
 -- What calls on one blob leave of the list of opened blobs.
-use Rattle.std.specs.Prelude.{◌≡◌, ◌≢◌, ℕ, ◌+◌, ◌≤◌, Option, IsSomeAnd}
+use Rattle.std.specs.Prelude.{◌≡◌, ◌≢◌, ℕ, ◌+◌, ◌≤◌, IsSomeAnd}
 use Rattle.blob_device.specs.Disk.{Key}
-use Rattle.blob_device.specs.Opened.{Opened, OpenedList, reads_of}
+use Rattle.blob_device.specs.Opened.{OpenedList, reads_of}
 
 -- the blob is opened, and has this length
 abbrev pub IsOpenAt : OpenedList → Key → ℕ → Type 0

@@ -1,6 +1,6 @@
 -- What a flush keeps: the slots that have settled, and that nothing else can come to match but the right bytes.
 use Rattle.std.specs.Prelude.{◌≡◌, ◌⊎◌, ℕ, ◌+◌, ◌*◌, ◌-◌, ◌<◌, ◌≤◌, ltb, eqb, not, min, Bool, false, cond, List, [], ◌∷◌, length, get_or, Result, OnOk}
-use Rattle.blob_device.specs.Disk.{Key, Blob, settled_at}
+use Rattle.blob_device.specs.Disk.{Key, Blob}
 use Rattle.blob_device.specs.Guards.{Sealed}
 use Rattle.blob_device.specs.Timeline.{Timeline, disk, Always, OnlyAt}
 use Rattle.sealed_pages.specs.View.{View, view, page_at, slot_at, Within}

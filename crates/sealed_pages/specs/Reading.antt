@@ -1,6 +1,6 @@
 -- What a page is by itself, and calls that only read.
 use Rattle.std.specs.Prelude.{◌≡◌, ◌≢◌, ℕ, ◌+◌, List, take, drop}
-use Rattle.blob_device.specs.Disk.{Key, Disk}
+use Rattle.blob_device.specs.Disk.{Key}
 use Rattle.blob_device.specs.Opened.{OpenedList}
 use Rattle.blob_device.specs.Timeline.{Timeline, disk, Always}
 use Rattle.sealed_pages.specs.View.{page_at}

@@ -1,5 +1,5 @@
 -- What a page blob shows of itself.
-use Rattle.std.specs.Prelude.{ℕ, List, string_bytes}
+use Rattle.std.specs.Prelude.{string_bytes}
 use Rattle.sealed_pages.specs.declared.page_blob.PageBlob.{PageBlob}
 use Rattle.sealed_pages.specs.Buffer.{Buffer}
 

@@ -1,9 +1,7 @@
-use Rattle.std.proofs.Common.{rules, ◌≡◌, ◌≢◌, ◌+◌, ◌*◌, ◌≤◌, ◌<◌, ◌^◌, ◌-◌, ◌++◌, length, take, drop, Bool, ℕ, List, Result, Ok, arith, sym, subst, ap, refl, ◌∙◌, length-take, length-drop}
+use Rattle.std.proofs.Common.{◌≡◌, ◌+◌, ◌*◌, ◌≤◌, ◌-◌, length, take, drop, ℕ, Ok, arith, subst, length-take, length-drop}
 use Rattle.blob_device.specs.declared.error.DevError.{DevError}
-use Rattle.blob_device.specs.Disk.{Key}
 use Rattle.blob_device.specs.Timeline.{disk}
 use Rattle.sealed_pages.specs.Flushing.{Data, PageFlushed, Wrote}
-use Rattle.sealed_pages.specs.SealedPrefix.{place}
 use Rattle.sealed_pages.specs.View.{view}
 use Rattle.sealed_pages.proofs.SlotLemmas.{times_next, index_page}
 use Rattle.sealed_pages.proofs.PageCalls.{flushed_as, wrote_as, alone_then, wrote_start, wrote_then, flush_start, flush_then, part_stands, no_ok}

@@ -1,4 +1,4 @@
-use Rattle.std.proofs.Common.{◌≡◌, ◌+◌, ◌*◌, arith, ℕ, ap}
+use Rattle.std.proofs.Common.{◌≡◌, ◌*◌, arith, ℕ, ap}
 use Rattle.sealed_pages.proofs.SlotLemmas.{times_page}
 use Rattle.sealed_pages.proofs.flush.next_slot_of.Goals as goal
 

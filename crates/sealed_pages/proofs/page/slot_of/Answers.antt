@@ -1,4 +1,4 @@
-use Rattle.std.proofs.Common.{rules, ◌≡◌, ◌+◌, ◌++◌, length, ℕ, List, [], ◌∷◌, sym, ◌∙◌, ap, arith}
+use Rattle.std.proofs.Common.{rules, ◌≡◌, ◌++◌, length, ℕ, List, ◌∙◌, ap}
 use Rattle.std.specs.Int.{w16, w32, to_be_bytes}
 use Rattle.sealed_pages.specs.Slots.{slot_bytes}
 use Rattle.sealed_pages.proofs.SixBytes.{two_and_four}

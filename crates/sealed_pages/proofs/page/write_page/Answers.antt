@@ -1,4 +1,4 @@
-use Rattle.std.proofs.Common.{rules, ◌≡◌, ◌≢◌, ◌+◌, ◌*◌, ◌≤◌, ◌<◌, ◌^◌, ◌-◌, ◌++◌, ◌∙◌, ap, sym, refl, length, take, drop, max, Bool, ℕ, List, arith, length-drop, length-take}
+use Rattle.std.proofs.Common.{◌+◌, ◌-◌, ap, refl, length, take, drop, max, ℕ, arith, length-drop}
 use Rattle.blob_device.specs.Disk.{Key}
 use Rattle.sealed_pages.proofs.EntryLemmas.{open_some, no_reads_updated, no_reads_part, no_reads_then, no_reads_open, open_written}
 use Rattle.sealed_pages.proofs.Steps.{slot_low, slot_high}

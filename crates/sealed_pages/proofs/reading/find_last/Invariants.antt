@@ -1,4 +1,4 @@
-use Rattle.std.proofs.Common.{◌≡◌, ◌≤◌, ◌+◌, ◌/◌, ℕ, List, length}
+use Rattle.std.proofs.Common.{◌≡◌, ◌≤◌, ◌+◌, ◌/◌, length}
 use Rattle.blob_device.specs.Timeline.{disk}
 use Rattle.sealed_pages.specs.SealedPrefix.{size_below, adopted_size}
 use Rattle.sealed_pages.specs.Reading.{Unchanged, OnlyRead}

@@ -1,7 +1,7 @@
-use Rattle.std.proofs.Common.{rules, ◌≡◌, ◌≢◌, ◌+◌, ◌≤◌, ◌<◌, ◌++◌, ◌∙◌, ℕ, List, [], ◌∷◌, length, get_or, take, ap, sym, arith}
+use Rattle.std.proofs.Common.{◌≡◌, ◌+◌, ◌≤◌, ◌++◌, ◌∙◌, ℕ, [], ◌∷◌, length, get_or, take, ap, sym, arith}
 use Rattle.std.specs.Int.{w16, w32, from_be_bytes}
 use Rattle.sealed_pages.specs.View.{view, bytes_at, page_at, slot_at}
-use Rattle.sealed_pages.specs.Slots.{named_length, named_seal, computed_seal, slot_length}
+use Rattle.sealed_pages.specs.Slots.{named_length, named_seal, computed_seal}
 use Rattle.sealed_pages.proofs.Looking.{slot_short, slot_long, slot_right, slot_wrong, two_at, four_at, front_at}
 use Rattle.sealed_pages.proofs.reading.matching_len.Goals as goal
 

@@ -1,4 +1,3 @@
-use Rattle.std.proofs.Common.{rules}
 use Rattle.sealed_pages.proofs.EntryLemmas.{only_read_once}
 use Rattle.sealed_pages.proofs.Looking.{unchanged_on}
 use Rattle.sealed_pages.proofs.reading.read_page.Goals as goal

@@ -1,4 +1,4 @@
-use Rattle.std.proofs.Common.{arith, ◌≡◌, ◌+◌, ℕ, Bool, true, false, cond, ap}
+use Rattle.std.proofs.Common.{arith, ℕ, Bool, cond, ap}
 use Rattle.sealed_pages.proofs.Looking.{page_zero}
 use Rattle.sealed_pages.proofs.reading.slot_offset.Goals as goal
 

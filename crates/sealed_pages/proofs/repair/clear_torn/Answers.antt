@@ -1,8 +1,5 @@
-use Rattle.std.proofs.Common.{rules, ◌≡◌, ◌≢◌, ◌+◌, ◌*◌, ◌≤◌, ◌<◌, ◌^◌, ◌-◌, ◌++◌, ◌∙◌, not, true, false, cond, max, ap, sym, subst, refl, length, take, Bool, ℕ, List, arith}
-use Rattle.blob_device.specs.Disk.{Key, Blob, settled_at}
-use Rattle.blob_device.specs.Timeline.{disk}
-use Rattle.blob_device.proofs.Moments.{ok_blob}
-use Rattle.sealed_pages.proofs.PageCalls.{passes_as, no_ok, only_then, alone_start, alone_on, alone_then, wrote_start}
+use Rattle.std.proofs.Common.{◌+◌, ◌≤◌, max, refl, arith}
+use Rattle.sealed_pages.proofs.PageCalls.{passes_as, no_ok, alone_start, alone_on}
 use Rattle.sealed_pages.proofs.EntryLemmas.{open_some, no_reads_part, no_reads_updated, open_written}
 use Rattle.sealed_pages.proofs.Keeping.{kept_start, clear_any, clear_ok, clear_data}
 use Rattle.sealed_pages.proofs.repair.clear_torn.Goals as goal

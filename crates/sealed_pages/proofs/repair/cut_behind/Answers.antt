@@ -1,8 +1,5 @@
-use Rattle.std.proofs.Common.{rules, ◌≡◌, ◌≢◌, ◌+◌, ◌*◌, ◌≤◌, ◌<◌, ◌^◌, ◌-◌, ◌++◌, ◌∙◌, not, true, false, cond, max, ap, sym, subst, refl, length, take, Bool, ℕ, List, arith}
-use Rattle.blob_device.specs.Disk.{Key, Blob, settled_at}
-use Rattle.blob_device.specs.Timeline.{disk}
-use Rattle.blob_device.proofs.Moments.{ok_blob}
-use Rattle.sealed_pages.proofs.PageCalls.{passes_as, no_ok, only_then, alone_start, alone_on, alone_then, wrote_start}
+use Rattle.std.proofs.Common.{◌≤◌, arith}
+use Rattle.sealed_pages.proofs.PageCalls.{no_ok, alone_start, alone_on}
 use Rattle.sealed_pages.proofs.EntryLemmas.{open_some, no_reads_resize, no_reads_updated, open_resized}
 use Rattle.sealed_pages.proofs.Keeping.{kept_start, behind_any, behind_ok, resize_as, cut_data}
 use Rattle.sealed_pages.proofs.repair.cut_behind.Goals as goal

@@ -1,11 +1,9 @@
-use Rattle.std.proofs.Common.{rules, ◌≡◌, ◌≢◌, ◌+◌, ◌*◌, ◌≤◌, ◌<◌, ◌^◌, ◌-◌, ◌++◌, ◌∙◌, not, true, false, cond, max, ap, sym, subst, refl, length, take, Bool, ℕ, List, arith}
-use Rattle.blob_device.specs.Disk.{Key, Blob, settled_at}
+use Rattle.std.proofs.Common.{◌≡◌, ◌+◌, ◌*◌, ◌≤◌, ◌<◌, ◌∙◌, not, true, false, ap, length, ℕ, arith}
+use Rattle.blob_device.specs.Disk.{Key}
 use Rattle.blob_device.specs.Timeline.{disk}
-use Rattle.blob_device.proofs.Moments.{ok_blob}
-use Rattle.sealed_pages.proofs.PageCalls.{passes_as, no_ok, only_then, alone_start, alone_on, alone_then, wrote_start}
-use Rattle.sealed_pages.proofs.SlotLemmas.{page_next, index_page}
-use Rattle.sealed_pages.proofs.EntryLemmas.{open_some}
-use Rattle.sealed_pages.proofs.Adopting.{adopted_kept, torn_inside, torn_other, head_is, all_clean, pages_reach, pages_none, pages_some, last_page, pages_place}
+use Rattle.sealed_pages.proofs.PageCalls.{no_ok, only_then, alone_on, alone_then}
+use Rattle.sealed_pages.proofs.SlotLemmas.{index_page}
+use Rattle.sealed_pages.proofs.Adopting.{adopted_kept, torn_inside, torn_other, head_is, all_clean, pages_reach, pages_some, last_page, pages_place}
 use Rattle.sealed_pages.proofs.Keeping.{settle_any, settle_ready, settle_data}
 use Rattle.sealed_pages.proofs.repair.repair.Goals as goal
 use Rattle.sealed_pages.specs.Buffer.{pages_of}

@@ -1,6 +1,5 @@
-use Rattle.std.proofs.Common.{rules, ◌≡◌, ◌≢◌, ◌⊎◌, inl, inr, ◌∙◌, ◌≤◌, ◌<◌, ◌+◌, ℕ, cond, not, ltb, false, max, List, get_or, ap, sym, subst, arith}
+use Rattle.std.proofs.Common.{◌≢◌, inl, inr, ◌∙◌, ◌<◌, ◌+◌, ℕ, not, ltb, List, get_or, ap, sym, arith}
 use Rattle.sealed_pages.specs.View.{slot_at}
-use Rattle.sealed_pages.specs.Reading.{page_of}
 use Rattle.sealed_pages.proofs.Starting.{starts_full, starts_part}
 use Rattle.sealed_pages.proofs.Adopting.{pages_some}
 use Rattle.sealed_pages.proofs.start.start_at.Goals as goal

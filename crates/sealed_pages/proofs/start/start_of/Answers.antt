@@ -1,5 +1,4 @@
-use Rattle.std.proofs.Common.{◌≡◌, ◌+◌, ◌≤◌, ◌<◌, ◌^◌, ℕ, arith, ap}
-use Rattle.sealed_pages.specs.View.{page_at}
+use Rattle.std.proofs.Common.{arith}
 use Rattle.sealed_pages.proofs.SlotLemmas.{page_next, index_page}
 use Rattle.sealed_pages.proofs.Adopting.{pages_place_order}
 use Rattle.sealed_pages.proofs.Looking.{below_some, page_zero}

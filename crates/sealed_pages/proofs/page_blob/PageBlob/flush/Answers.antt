@@ -1,6 +1,6 @@
-use Rattle.std.proofs.Common.{rules, ◌≡◌, ◌≢◌, ◌+◌, ◌*◌, ◌/◌, ◌≤◌, ◌<◌, ◌^◌, ◌-◌, ◌++◌, ◌∙◌, ◌||◌, length, take, drop, Bool, ℕ, List, string_bytes, arith, ap, sym, subst, refl, Result}
+use Rattle.std.proofs.Common.{◌≡◌, ◌*◌, ap, sym, subst}
 use Rattle.std.specs.Prelude.{IfOk}
-use Rattle.blob_device.specs.Disk.{Key, Blob}
+use Rattle.blob_device.specs.Disk.{Key}
 use Rattle.blob_device.specs.Timeline.{disk}
 use Rattle.sealed_pages.specs.Entries.{NoReads}
 use Rattle.sealed_pages.specs.Buffer.{Buffer, key_of, size_of, flushed_of, Holds}

@@ -1,4 +1,4 @@
-use Rattle.std.proofs.Common.{◌≡◌, ◌+◌, ◌*◌, ◌<◌, ◌^◌, ℕ, ap, arith}
+use Rattle.std.proofs.Common.{◌*◌, ℕ, ap, arith}
 use Rattle.sealed_pages.proofs.Holding.{fit_size}
 use Rattle.sealed_pages.proofs.page_blob.PageBlob.flushed.Goals as goal
 

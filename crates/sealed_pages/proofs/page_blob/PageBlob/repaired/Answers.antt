@@ -1,5 +1,4 @@
-use Rattle.std.proofs.Common.{◌≡◌, ◌+◌, ◌*◌, ◌<◌, ◌^◌, ◌||◌, ℕ, List, string_bytes, ap, arith}
-use Rattle.blob_device.specs.Timeline.{disk}
+use Rattle.std.proofs.Common.{string_bytes, arith}
 use Rattle.sealed_pages.specs.Buffer.{key_of, flushed_of}
 use Rattle.sealed_pages.specs.Shown.{shown}
 use Rattle.sealed_pages.proofs.Holding.{fit_room, holds_start, writes_as}

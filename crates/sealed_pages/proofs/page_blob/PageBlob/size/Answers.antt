@@ -1,4 +1,4 @@
-use Rattle.std.proofs.Common.{rules, ◌≡◌, ◌+◌, ◌*◌, ◌<◌, ◌^◌, ℕ, length, ap, arith}
+use Rattle.std.proofs.Common.{rules, ◌≡◌, ◌*◌, ℕ, length, ap, arith}
 use Rattle.sealed_pages.proofs.Holding.{fit_size}
 use Rattle.sealed_pages.proofs.page_blob.PageBlob.size.Goals as goal
 

@@ -1,5 +1,5 @@
-use Rattle.std.proofs.Common.{rules, ◌≡◌, ◌≢◌, ◌+◌, ◌*◌, ◌/◌, ◌≤◌, ◌<◌, ◌^◌, ◌-◌, ◌++◌, ◌∙◌, ◌||◌, length, take, drop, Bool, ℕ, List, string_bytes, arith, ap, sym, subst, refl, Result, Ok}
-use Rattle.blob_device.specs.Disk.{Key, Blob}
+use Rattle.std.proofs.Common.{◌≡◌, ◌≢◌, ◌+◌, ◌*◌, ◌∙◌, ℕ, string_bytes, arith, ap, sym, subst, Ok}
+use Rattle.blob_device.specs.Disk.{Key}
 use Rattle.blob_device.specs.Timeline.{disk}
 use Rattle.sealed_pages.specs.Buffer.{Buffer, key_of, size_of, flushed_of, bytes_of}
 use Rattle.sealed_pages.specs.ChanceSeal.{Leaves, Sealing}

@@ -1,11 +1,11 @@
-use Rattle.std.proofs.Common.{rules, ◌≡◌, ◌≢◌, ◌+◌, ◌*◌, ◌/◌, ◌≤◌, ◌<◌, ◌^◌, ◌-◌, ◌++◌, ◌∙◌, ◌||◌, length, take, drop, Bool, ℕ, List, string_bytes, arith, ap, sym, subst, refl}
+use Rattle.std.proofs.Common.{rules, ◌≡◌, ◌+◌, ◌*◌, ◌/◌, ◌≤◌, ◌<◌, ◌^◌, ◌∙◌, length, drop, ℕ, List, string_bytes, arith, ap, sym, subst}
 use Rattle.std.proofs.Math.Nat.{div-mul-le_self}
 use Rattle.blob_device.specs.Timeline.{disk}
 use Rattle.sealed_pages.specs.Buffer.{key_of, flushed_of}
 use Rattle.sealed_pages.specs.Flushing.{Data, Ready}
 use Rattle.sealed_pages.specs.Shown.{shown}
 use Rattle.sealed_pages.specs.View.{view, StandsAt}
-use Rattle.sealed_pages.proofs.Holding.{fit_room, pages_fit, told_as, writes_as, rest_far, rest_stands, state_clean}
+use Rattle.sealed_pages.proofs.Holding.{fit_room, pages_fit, told_as, writes_as, rest_far, rest_stands}
 use Rattle.sealed_pages.proofs.PageCalls.{no_ok}
 use Rattle.sealed_pages.proofs.page_blob.PageBlob.written.Goals as goal
 
