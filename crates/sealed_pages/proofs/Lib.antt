@@ -1,0 +1,15 @@
+pub mod SlotLemmas
+pub mod SixBytes
+pub mod SealedBytes
+pub mod Steps
+pub mod SlotSteps
+pub mod EntryLemmas
+pub mod PageCalls
+pub mod Adopt
+pub mod Repairing
+pub mod Keeping
+pub mod Adopting
+pub mod Holding
+pub mod Syncing
+pub mod Looking
+pub mod Starting

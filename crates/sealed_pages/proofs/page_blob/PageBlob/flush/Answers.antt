@@ -1,0 +1,44 @@
+use Rattle.std.proofs.Common.{◌≡◌, ◌*◌, ap, sym, subst}
+use Rattle.std.specs.Prelude.{IfOk}
+use Rattle.blob_device.specs.Disk.{Key}
+use Rattle.blob_device.specs.Timeline.{disk}
+use Rattle.sealed_pages.specs.Entries.{NoReads}
+use Rattle.sealed_pages.specs.Buffer.{Buffer, key_of, size_of, flushed_of, Holds}
+use Rattle.sealed_pages.specs.Entries.{NoReads}
+use Rattle.sealed_pages.specs.Flushing.{Data, Wrote}
+use Rattle.sealed_pages.specs.Shown.{shown}
+use Rattle.sealed_pages.specs.View.{view, StandsAt}
+use Rattle.sealed_pages.proofs.Holding.{holds_start}
+use Rattle.sealed_pages.proofs.Syncing.{flush_told}
+use Rattle.sealed_pages.proofs.EntryLemmas.{no_reads_then}
+use Rattle.sealed_pages.proofs.PageCalls.{no_ok, alone_then}
+use Rattle.sealed_pages.proofs.page_blob.PageBlob.flush.Goals as goal
+
+pub returns-then-self-len-clause-told : goal.returns-then-self-len-clause-told
+returns-then-self-len-clause-told g c t all holds = holds_start g.S.Seal.seal_of (shown c.args.self) all (key_of (shown c.args.self)) (g.D.Device.time c.args.dev.now) c.args.self.fit.begun holds
+
+pub returns-in_err-this-clause-wrote : goal.returns-in_err-this-clause-wrote
+returns-in_err-this-clause-wrote g c t all same at = record { alone = (c.in_err-this.ensures.wrote t all same).alone; done = no_ok _ c.from_residual.result c.from_residual.ensures.0 }
+
+pub returns-clause-told : goal.returns-clause-told
+returns-clause-told g c t all holds = flush_told g.S.Seal.seal_of (shown c.args.self) (shown c.in_ok-this.this) _ all (g.D.Device.time c.args.dev.now) (g.D.Device.time c.repaired.new.dev) (g.D.Device.time c.written.new.dev) c.in_ok-this.ensures.same (c.in_ok-this.ensures.told t all holds) (c.in_ok-this.ensures.done t all holds) (c.written.ensures.told t)
+
+pub returns-clause-done : goal.returns-clause-done
+returns-clause-done g c t all holds =
+    let p : key_of (shown c.in_ok-this.this) ≡ key_of (shown c.args.self) = ap key_of c.in_ok-this.ensures.same in
+    let here = subst (λ (k : Key). Holds g.S.Seal.seal_of (shown c.in_ok-this.this) all (disk (g.D.Device.time c.repaired.new.dev) k)) (sym p) (c.in_ok-this.ensures.done t all holds) in
+    subst (λ (k : Key). IfOk c.written.result (λ r. Holds g.S.Seal.seal_of (shown r) all (disk (g.D.Device.time c.written.new.dev) k))) p (c.written.ensures.done t all here)
+
+pub returns-clause-wrote : goal.returns-clause-wrote
+returns-clause-wrote g c t all same at =
+    let first = c.in_ok-this.ensures.wrote t all same in
+    let e = c.in_ok-this.ensures.same in
+    let was = subst (λ (x : Buffer). Data x.page_size all (flushed_of x) (view (disk (g.D.Device.time c.repaired.new.dev) (key_of x)).content)) (sym e) first.done in
+    let stands = subst (λ (x : Buffer). StandsAt all (x.first * x.page_size) x.tip) (sym e) at in
+    let second = subst (λ (x : Buffer). Wrote x.page_size all (size_of x) (key_of x) c.written.result (g.D.Device.time c.repaired.new.dev) (g.D.Device.time c.written.new.dev)) e (c.written.ensures.wrote t all was stands) in
+    record { alone = alone_then _ _ _ _ first.alone second.alone; done = second.done }
+
+pub returns-clause-entries : goal.returns-clause-entries
+returns-clause-entries g c =
+    let p : key_of (shown c.in_ok-this.this) ≡ key_of (shown c.args.self) = ap key_of c.in_ok-this.ensures.same in
+    no_reads_then _ _ _ _ c.in_ok-this.ensures.entries (subst (λ (k : Key). NoReads k (g.D.Device.opened c.repaired.new.dev) (g.D.Device.opened c.written.new.dev)) p c.written.ensures.entries)

@@ -1,0 +1,9 @@
+use Rattle.std.proofs.Common.{◌*◌, ℕ, ap, arith}
+use Rattle.sealed_pages.proofs.Holding.{fit_size}
+use Rattle.sealed_pages.proofs.page_blob.PageBlob.flushed.Goals as goal
+
+pub overflow_mul-result : goal.overflow_mul-result
+overflow_mul-result g c = omega (arith, fit_size _ _ _ _ c.args.self.now.fit, ap (λ (n : ℕ). c.args.self.now.first * n) c.from.ensures)
+
+pub overflow_add-result : goal.overflow_add-result
+overflow_add-result g c = omega (arith, fit_size _ _ _ _ c.args.self.now.fit, c.args.self.now.fit.within, ap (λ (n : ℕ). c.args.self.now.first * n) c.from.ensures)

@@ -1,0 +1,24 @@
+use Rattle.std.proofs.Common.{string_bytes, arith}
+use Rattle.sealed_pages.specs.Buffer.{key_of, flushed_of}
+use Rattle.sealed_pages.specs.Shown.{shown}
+use Rattle.sealed_pages.proofs.Holding.{fit_room, holds_start, writes_as}
+use Rattle.sealed_pages.proofs.PageCalls.{no_ok}
+use Rattle.sealed_pages.proofs.page_blob.PageBlob.repaired.Goals as goal
+
+pub returns-then-not-self-clause-told : goal.returns-then-not-self-clause-told
+returns-then-not-self-clause-told g c t all holds = holds_start g.S.Seal.seal_of (shown c.args.self) all (key_of (shown c.args.self)) (g.D.Device.time c.args.dev.now) c.args.self.fit.begun holds
+
+pub repair-requires-clause-room : goal.repair-requires-clause-room
+repair-requires-clause-room g c k lt = fit_room _ _ _ _ c.args.self.fit k (omega (arith, lt, c.args.self.fit.within))
+
+pub returns-in_err-end-clause-wrote : goal.returns-in_err-end-clause-wrote
+returns-in_err-end-clause-wrote g c t all same =
+    let told = writes_as c.args.self.page_size (flushed_of (shown c.args.self)) (flushed_of (shown c.args.self)) _ (g.D.Device.time c.args.dev.now) (g.D.Device.time c.repair.new.dev) _ (string_bytes c.args.self.partition) _ c.args.self.name.items (λ x. Unit {0})
+    c.as_str.ensures.value c.as_slice.ensures.value (λ l was q. c.in_err-end.ensures.wrote t l was) in
+    record { alone = (told all same tt).alone; done = no_ok _ c.from_residual.result c.from_residual.ensures.0 }
+
+pub returns-clause-wrote : goal.returns-clause-wrote
+returns-clause-wrote g c t all same =
+    let told = writes_as c.args.self.page_size (flushed_of (shown c.args.self)) (flushed_of (shown c.args.self)) _ (g.D.Device.time c.args.dev.now) (g.D.Device.time c.repair.new.dev) _ (string_bytes c.args.self.partition) _ c.args.self.name.items (λ x. Unit {0})
+    c.as_str.ensures.value c.as_slice.ensures.value (λ l was q. c.in_ok-end.ensures.wrote t l was) in
+    record { alone = (told all same tt).alone; done = (told all same tt).done }

@@ -1,0 +1,140 @@
+use Rattle.std.proofs.Common.{◌≡◌, ◌≢◌, ◌+◌, ◌*◌, ◌∙◌, ℕ, string_bytes, arith, ap, sym, subst, Ok}
+use Rattle.blob_device.specs.Disk.{Key}
+use Rattle.blob_device.specs.Timeline.{disk}
+use Rattle.sealed_pages.specs.Buffer.{Buffer, key_of, size_of, flushed_of, bytes_of}
+use Rattle.sealed_pages.specs.ChanceSeal.{Leaves, Sealing}
+use Rattle.sealed_pages.specs.Shown.{shown}
+use Rattle.sealed_pages.specs.Entries.{IsOpenAt}
+use Rattle.sealed_pages.proofs.EntryLemmas.{open_same}
+use Rattle.sealed_pages.proofs.Holding.{holds_start, holds_sealed, tip_stands, bytes_length, settle_as, fit_room}
+use Rattle.sealed_pages.proofs.Keeping.{settle_data}
+use Rattle.sealed_pages.proofs.Syncing.{holds_settle, holds_synced, needs, flushed_bytes, flushed_backed}
+use Rattle.sealed_pages.proofs.PageCalls.{only_then, alone_on}
+use Rattle.sealed_pages.proofs.page_blob.PageBlob.sync.Goals as goal
+
+pub returns-then-not-needs_sync-clause-crashes : goal.returns-then-not-needs_sync-clause-crashes
+returns-then-not-needs_sync-clause-crashes g c t sealed =
+    let u : Buffer = shown c.args.self in
+    let b0 = disk (g.D.Device.time c.args.dev.now) (key_of (shown c.args.self)) in
+    holds_start g.S.Seal.seal_of u (bytes_of u b0.content) (key_of (shown c.args.self)) (g.D.Device.time c.args.dev.now) c.args.self.fit.begun sealed
+
+pub returns-in_err-this-clause-alone : goal.returns-in_err-this-clause-alone
+returns-in_err-this-clause-alone g c t backed =
+    let u : Buffer = shown c.args.self in
+    let b0 = disk (g.D.Device.time c.args.dev.now) (key_of (shown c.args.self)) in
+    (c.in_err-this.ensures.wrote t (bytes_of u b0.content) backed (tip_stands u b0.content)).alone
+
+pub last_slot_of-slot-requires : goal.last_slot_of-slot-requires
+last_slot_of-slot-requires g c some = fit_room _ _ _ _ c.in_ok-this.this.fit c.in_ok-this.this.first (omega (arith, some, c.in_ok-this.this.fit.within))
+
+pub returns-in_err-sync-clause-crashes : goal.returns-in_err-sync-clause-crashes
+returns-in_err-sync-clause-crashes g c t sealed =
+    let u : Buffer = shown c.args.self in
+    let b0 = disk (g.D.Device.time c.args.dev.now) (key_of (shown c.args.self)) in
+    let key : Key = key_of (shown c.args.self) in
+    let r : Buffer = shown c.in_ok-this.this in
+    let p : c.as_str.result.now ≡ string_bytes c.args.self.partition = c.as_str.ensures.value ∙ ap (λ (k : Key). k.0) c.in_ok-this.ensures.key in
+    let n : c.as_slice.result.now ≡ c.args.self.name.items = c.as_slice.ensures.value ∙ ap (λ (k : Key). k.1) c.in_ok-this.ensures.key in
+    let passes = settle_as c.sync.result _ _ _ _ (g.D.Device.time c.flush.new.dev) (g.D.Device.time c.sync.new.self) p n (c.sync.ensures.told t) in
+    let before = c.in_ok-this.ensures.told t (bytes_of u b0.content) sealed in
+    let now = c.in_ok-this.ensures.done t (bytes_of u b0.content) sealed in
+    let after = subst (λ (m : ℕ). Sealing g.S.Seal.seal_of c.args.self.page_size (bytes_of u b0.content) m key (g.D.Device.time c.flush.new.dev) (g.D.Device.time c.sync.new.self)) c.in_ok-this.ensures.settled
+    (subst (λ (m : ℕ). Sealing g.S.Seal.seal_of m (bytes_of u b0.content) c.in_ok-this.this.settled key (g.D.Device.time c.flush.new.dev) (g.D.Device.time c.sync.new.self)) c.in_ok-this.ensures.page_size
+    (holds_settle g.S.Seal.seal_of r (bytes_of u b0.content) key (g.D.Device.time c.flush.new.dev) (g.D.Device.time c.sync.new.self) c.sync.result c.in_ok-this.this.fit.begun now passes)) in
+    only_then (g.D.Device.time c.args.dev.now) (g.D.Device.time c.flush.new.dev) (g.D.Device.time c.sync.new.self) key (Leaves g.S.Seal.seal_of c.args.self.page_size (bytes_of u b0.content) c.args.self.settled) before after
+
+pub returns-in_err-sync-clause-alone : goal.returns-in_err-sync-clause-alone
+returns-in_err-sync-clause-alone g c t backed =
+    let u : Buffer = shown c.args.self in
+    let b0 = disk (g.D.Device.time c.args.dev.now) (key_of (shown c.args.self)) in
+    let key : Key = key_of (shown c.args.self) in
+    let r : Buffer = shown c.in_ok-this.this in
+    let p : c.as_str.result.now ≡ string_bytes c.args.self.partition = c.as_str.ensures.value ∙ ap (λ (k : Key). k.0) c.in_ok-this.ensures.key in
+    let n : c.as_slice.result.now ≡ c.args.self.name.items = c.as_slice.ensures.value ∙ ap (λ (k : Key). k.1) c.in_ok-this.ensures.key in
+    let passes = settle_as c.sync.result _ _ _ _ (g.D.Device.time c.flush.new.dev) (g.D.Device.time c.sync.new.self) p n (c.sync.ensures.told t) in
+    alone_on (c.in_ok-this.ensures.wrote t (bytes_of u b0.content) backed (tip_stands u b0.content)).alone passes
+
+pub returns-clause-crashes : goal.returns-clause-crashes
+returns-clause-crashes g c t sealed =
+    let u : Buffer = shown c.args.self in
+    let b0 = disk (g.D.Device.time c.args.dev.now) (key_of (shown c.args.self)) in
+    let key : Key = key_of (shown c.args.self) in
+    let r : Buffer = shown c.in_ok-this.this in
+    let p : c.as_str.result.now ≡ string_bytes c.args.self.partition = c.as_str.ensures.value ∙ ap (λ (k : Key). k.0) c.in_ok-this.ensures.key in
+    let n : c.as_slice.result.now ≡ c.args.self.name.items = c.as_slice.ensures.value ∙ ap (λ (k : Key). k.1) c.in_ok-this.ensures.key in
+    let passes = settle_as c.sync.result _ _ _ _ (g.D.Device.time c.flush.new.dev) (g.D.Device.time c.sync.new.self) p n (c.sync.ensures.told t) in
+    let before = c.in_ok-this.ensures.told t (bytes_of u b0.content) sealed in
+    let now = c.in_ok-this.ensures.done t (bytes_of u b0.content) sealed in
+    let after = subst (λ (m : ℕ). Sealing g.S.Seal.seal_of c.args.self.page_size (bytes_of u b0.content) m key (g.D.Device.time c.flush.new.dev) (g.D.Device.time c.sync.new.self)) c.in_ok-this.ensures.settled
+    (subst (λ (m : ℕ). Sealing g.S.Seal.seal_of m (bytes_of u b0.content) c.in_ok-this.this.settled key (g.D.Device.time c.flush.new.dev) (g.D.Device.time c.sync.new.self)) c.in_ok-this.ensures.page_size
+    (holds_settle g.S.Seal.seal_of r (bytes_of u b0.content) key (g.D.Device.time c.flush.new.dev) (g.D.Device.time c.sync.new.self) c.sync.result c.in_ok-this.this.fit.begun now passes)) in
+    only_then (g.D.Device.time c.args.dev.now) (g.D.Device.time c.flush.new.dev) (g.D.Device.time c.sync.new.self) key (Leaves g.S.Seal.seal_of c.args.self.page_size (bytes_of u b0.content) c.args.self.settled) before after
+
+pub returns-clause-alone : goal.returns-clause-alone
+returns-clause-alone g c t backed =
+    let u : Buffer = shown c.args.self in
+    let b0 = disk (g.D.Device.time c.args.dev.now) (key_of (shown c.args.self)) in
+    let key : Key = key_of (shown c.args.self) in
+    let r : Buffer = shown c.in_ok-this.this in
+    let p : c.as_str.result.now ≡ string_bytes c.args.self.partition = c.as_str.ensures.value ∙ ap (λ (k : Key). k.0) c.in_ok-this.ensures.key in
+    let n : c.as_slice.result.now ≡ c.args.self.name.items = c.as_slice.ensures.value ∙ ap (λ (k : Key). k.1) c.in_ok-this.ensures.key in
+    let passes = settle_as c.sync.result _ _ _ _ (g.D.Device.time c.flush.new.dev) (g.D.Device.time c.sync.new.self) p n (c.sync.ensures.told t) in
+    alone_on (c.in_ok-this.ensures.wrote t (bytes_of u b0.content) backed (tip_stands u b0.content)).alone passes
+
+pub returns-clause-sealed : goal.returns-clause-sealed
+returns-clause-sealed g c t sealed =
+    let u : Buffer = shown c.args.self in
+    let b0 = disk (g.D.Device.time c.args.dev.now) (key_of (shown c.args.self)) in
+    let key : Key = key_of (shown c.args.self) in
+    let r : Buffer = shown c.in_ok-this.this in
+    let p : c.as_str.result.now ≡ string_bytes c.args.self.partition = c.as_str.ensures.value ∙ ap (λ (k : Key). k.0) c.in_ok-this.ensures.key in
+    let n : c.as_slice.result.now ≡ c.args.self.name.items = c.as_slice.ensures.value ∙ ap (λ (k : Key). k.1) c.in_ok-this.ensures.key in
+    let passes = settle_as c.sync.result _ _ _ _ (g.D.Device.time c.flush.new.dev) (g.D.Device.time c.sync.new.self) p n (c.sync.ensures.told t) in
+    let size : size_of r ≡ size_of u = c.in_ok-this.ensures.size in
+    let unsettled : c.args.self.settled ≢ size_of u = needs c.args.self.settled (size_of u) c.needs_sync.result c.needs_sync.ensures c.if-not-needs_sync.false in
+    let open_ : c.in_ok-this.this.settled ≢ flushed_of r = λ e. unsettled (sym c.in_ok-this.ensures.settled ∙ e ∙ ap (λ (m : ℕ). c.in_ok-this.this.first * c.in_ok-this.this.page_size + m) c.in_ok-this.ensures.flushed ∙ size) in
+    let after : Buffer = record (shown c.in_ok-this.this) { settled = c.flushed-end.result; newest = c.last_slot_of-slot.result } in
+    let passes-ok = settle_as (Ok tt) _ _ _ _ (g.D.Device.time c.flush.new.dev) (g.D.Device.time c.sync.new.self) p n (c.in_ok-sync.ensures.told t) in
+    holds_sealed g.S.Seal.seal_of after (bytes_of u b0.content) _ (omega (arith, c.in_ok-this.this.fit.begun))
+    (holds_synced g.S.Seal.seal_of r (bytes_of u b0.content) key (g.D.Device.time c.flush.new.dev) (g.D.Device.time c.sync.new.self) tt c.flushed-end.result c.last_slot_of-slot.result c.in_ok-this.this.fit.begun open_ c.flushed-end.ensures c.last_slot_of-slot.ensures
+    (c.in_ok-this.ensures.done t (bytes_of u b0.content) sealed) passes-ok)
+
+pub returns-clause-bytes : goal.returns-clause-bytes
+returns-clause-bytes g c t backed =
+    let u : Buffer = shown c.args.self in
+    let b0 = disk (g.D.Device.time c.args.dev.now) (key_of (shown c.args.self)) in
+    let key : Key = key_of (shown c.args.self) in
+    let r : Buffer = shown c.in_ok-this.this in
+    let p : c.as_str.result.now ≡ string_bytes c.args.self.partition = c.as_str.ensures.value ∙ ap (λ (k : Key). k.0) c.in_ok-this.ensures.key in
+    let n : c.as_slice.result.now ≡ c.args.self.name.items = c.as_slice.ensures.value ∙ ap (λ (k : Key). k.1) c.in_ok-this.ensures.key in
+    let passes = settle_as c.sync.result _ _ _ _ (g.D.Device.time c.flush.new.dev) (g.D.Device.time c.sync.new.self) p n (c.sync.ensures.told t) in
+    let size : size_of r ≡ size_of u = c.in_ok-this.ensures.size in
+    let unsettled : c.args.self.settled ≢ size_of u = needs c.args.self.settled (size_of u) c.needs_sync.result c.needs_sync.ensures c.if-not-needs_sync.false in
+    let open_ : c.in_ok-this.this.settled ≢ flushed_of r = λ e. unsettled (sym c.in_ok-this.ensures.settled ∙ e ∙ ap (λ (m : ℕ). c.in_ok-this.this.first * c.in_ok-this.this.page_size + m) c.in_ok-this.ensures.flushed ∙ size) in
+    let after : Buffer = record (shown c.in_ok-this.this) { settled = c.flushed-end.result; newest = c.last_slot_of-slot.result } in
+    let passes-ok = settle_as (Ok tt) _ _ _ _ (g.D.Device.time c.flush.new.dev) (g.D.Device.time c.sync.new.self) p n (c.in_ok-sync.ensures.told t) in
+    let wrote = c.in_ok-this.ensures.wrote t (bytes_of u b0.content) backed (tip_stands u b0.content) in
+    let same = settle_data c.args.self.page_size (bytes_of u b0.content) (size_of u) key (g.D.Device.time c.flush.new.dev) (g.D.Device.time c.sync.new.self) tt passes-ok wrote.done in
+    flushed_bytes after c.args.self.page_size (size_of u) (bytes_of u b0.content) _ (omega (arith, c.in_ok-this.this.fit.begun)) c.in_ok-this.ensures.page_size size same (c.in_ok-this.ensures.tip (bytes_of u b0.content) (tip_stands u b0.content)) (bytes_length u b0.content)
+
+pub returns-clause-backed : goal.returns-clause-backed
+returns-clause-backed g c t backed =
+    let u : Buffer = shown c.args.self in
+    let b0 = disk (g.D.Device.time c.args.dev.now) (key_of (shown c.args.self)) in
+    let key : Key = key_of (shown c.args.self) in
+    let r : Buffer = shown c.in_ok-this.this in
+    let p : c.as_str.result.now ≡ string_bytes c.args.self.partition = c.as_str.ensures.value ∙ ap (λ (k : Key). k.0) c.in_ok-this.ensures.key in
+    let n : c.as_slice.result.now ≡ c.args.self.name.items = c.as_slice.ensures.value ∙ ap (λ (k : Key). k.1) c.in_ok-this.ensures.key in
+    let passes = settle_as c.sync.result _ _ _ _ (g.D.Device.time c.flush.new.dev) (g.D.Device.time c.sync.new.self) p n (c.sync.ensures.told t) in
+    let size : size_of r ≡ size_of u = c.in_ok-this.ensures.size in
+    let unsettled : c.args.self.settled ≢ size_of u = needs c.args.self.settled (size_of u) c.needs_sync.result c.needs_sync.ensures c.if-not-needs_sync.false in
+    let open_ : c.in_ok-this.this.settled ≢ flushed_of r = λ e. unsettled (sym c.in_ok-this.ensures.settled ∙ e ∙ ap (λ (m : ℕ). c.in_ok-this.this.first * c.in_ok-this.this.page_size + m) c.in_ok-this.ensures.flushed ∙ size) in
+    let after : Buffer = record (shown c.in_ok-this.this) { settled = c.flushed-end.result; newest = c.last_slot_of-slot.result } in
+    let passes-ok = settle_as (Ok tt) _ _ _ _ (g.D.Device.time c.flush.new.dev) (g.D.Device.time c.sync.new.self) p n (c.in_ok-sync.ensures.told t) in
+    let wrote = c.in_ok-this.ensures.wrote t (bytes_of u b0.content) backed (tip_stands u b0.content) in
+    let same = settle_data c.args.self.page_size (bytes_of u b0.content) (size_of u) key (g.D.Device.time c.flush.new.dev) (g.D.Device.time c.sync.new.self) tt passes-ok wrote.done in
+    flushed_backed after c.args.self.page_size (size_of u) (bytes_of u b0.content) _ (omega (arith, c.in_ok-this.this.fit.begun)) c.in_ok-this.ensures.page_size size same (c.in_ok-this.ensures.tip (bytes_of u b0.content) (tip_stands u b0.content)) (bytes_length u b0.content) (omega (arith, c.in_ok-this.ensures.flushed))
+
+pub returns-clause-open : goal.returns-clause-open
+returns-clause-open g c = subst (λ (k : Key). IsOpenAt (g.D.Device.opened c.sync.new.self) k c.in_ok-this.this.end) (sym c.in_ok-this.ensures.key)
+    (open_same (key_of (shown c.args.self)) (g.D.Device.opened c.flush.new.dev) _ c.in_ok-this.this.end c.in_ok-sync.ensures.opened c.in_ok-this.ensures.length)

@@ -1,0 +1,97 @@
+use Rattle.std.proofs.Common.{rules, ◌≡◌, ◌+◌, ◌*◌, ◌/◌, ◌≤◌, ◌<◌, ◌^◌, ◌∙◌, length, drop, ℕ, List, string_bytes, arith, ap, sym, subst}
+use Rattle.std.proofs.Math.Nat.{div-mul-le_self}
+use Rattle.blob_device.specs.Timeline.{disk}
+use Rattle.sealed_pages.specs.Buffer.{key_of, flushed_of}
+use Rattle.sealed_pages.specs.Flushing.{Data, Ready}
+use Rattle.sealed_pages.specs.Shown.{shown}
+use Rattle.sealed_pages.specs.View.{view, StandsAt}
+use Rattle.sealed_pages.proofs.Holding.{fit_room, pages_fit, told_as, writes_as, rest_far, rest_stands}
+use Rattle.sealed_pages.proofs.PageCalls.{no_ok}
+use Rattle.sealed_pages.proofs.page_blob.PageBlob.written.Goals as goal
+
+pub flush_pages-requires-clause-room : goal.flush_pages-requires-clause-room
+flush_pages-requires-clause-room g c k lt = fit_room _ _ _ _ c.args.self.fit k (omega (arith, lt, ap length c.as_slice-2.ensures.value))
+
+pub returns-in_err-end-clause-told : goal.returns-in_err-end-clause-told
+returns-in_err-end-clause-told g c t all holds =
+    let told = told_as g.S.Seal.seal_of c.args.self.page_size c.args.self.first c.args.self.from c.args.self.settled c.args.self.newest _ (g.D.Device.time c.args.dev.now) (g.D.Device.time c.flush_pages.new.dev) _ (string_bytes c.args.self.partition) _ c.args.self.name.items _ c.args.self.tip.items
+    c.as_str.ensures.value c.as_slice.ensures.value c.as_slice-2.ensures.value (c.in_err-end.ensures.told t) in
+    let after = told all (holds.state.ready c.requires.clean) holds.tip_at in
+    after.any_moment
+
+pub returns-in_err-end-clause-wrote : goal.returns-in_err-end-clause-wrote
+returns-in_err-end-clause-wrote g c t all same at =
+    let tip : c.as_slice-2.result.now ≡ c.args.self.tip.items = c.as_slice-2.ensures.value in
+    let told = writes_as c.args.self.page_size (flushed_of (shown c.args.self)) (c.args.self.first * c.args.self.page_size + length c.as_slice-2.result.now) _ (g.D.Device.time c.args.dev.now) (g.D.Device.time c.flush_pages.new.dev) _ (string_bytes c.args.self.partition) _ c.args.self.name.items
+    (λ l. StandsAt l (c.args.self.first * c.args.self.page_size) c.as_slice-2.result.now) c.as_str.ensures.value c.as_slice.ensures.value (λ l was stands. c.in_err-end.ensures.wrote t l was stands) in
+    let after = told all same (subst (λ (l : List ℕ). StandsAt all (c.args.self.first * c.args.self.page_size) l) (sym tip) at) in
+    record { alone = after.alone; done = no_ok _ c.from_residual.result c.from_residual.ensures.0 }
+
+pub overflow_add-result : goal.overflow_add-result
+overflow_add-result g c =
+    let size : c.from-size.result ≡ c.args.self.page_size = c.from-size.ensures in
+    let len : c.len.result ≡ length c.args.self.tip.items = search rules in
+    let full : c.len.result / c.from-size.result * c.args.self.page_size ≤ length c.args.self.tip.items
+    = omega (arith, div-mul-le_self c.len.result c.from-size.result, ap (λ (n : ℕ). c.len.result / c.from-size.result * n) size, len) in
+    let small : c.args.self.first < 2 ^ 64 = search rules in
+    let room : c.args.self.first + c.len.result / c.from-size.result < 2 ^ 64 = pages_fit c.args.self.page_size c.args.self.first c.args.self.from (c.len.result / c.from-size.result) c.args.self.tip.items c.args.self.fit small full in omega (arith, room)
+
+pub returns-clause-told : goal.returns-clause-told
+returns-clause-told g c t all holds =
+    let told = told_as g.S.Seal.seal_of c.args.self.page_size c.args.self.first c.args.self.from c.args.self.settled c.args.self.newest _ (g.D.Device.time c.args.dev.now) (g.D.Device.time c.flush_pages.new.dev) _ (string_bytes c.args.self.partition) _ c.args.self.name.items _ c.args.self.tip.items
+    c.as_str.ensures.value c.as_slice.ensures.value c.as_slice-2.ensures.value (c.in_ok-end.ensures.told t) in
+    let after = told all (holds.state.ready c.requires.clean) holds.tip_at in
+    after.any_moment
+
+pub returns-clause-done : goal.returns-clause-done
+returns-clause-done g c t all holds =
+    let told = told_as g.S.Seal.seal_of c.args.self.page_size c.args.self.first c.args.self.from c.args.self.settled c.args.self.newest _ (g.D.Device.time c.args.dev.now) (g.D.Device.time c.flush_pages.new.dev) _ (string_bytes c.args.self.partition) _ c.args.self.name.items _ c.args.self.tip.items
+    c.as_str.ensures.value c.as_slice.ensures.value c.as_slice-2.ensures.value (c.in_ok-end.ensures.told t) in
+    let after = told all (holds.state.ready c.requires.clean) holds.tip_at in
+    let size : c.from-size.result ≡ c.args.self.page_size = c.from-size.ensures in
+    let len : c.len.result ≡ length c.args.self.tip.items = search rules in
+    let full : c.len.result / c.from-size.result * c.args.self.page_size ≤ length c.args.self.tip.items
+    = omega (arith, div-mul-le_self c.len.result c.from-size.result, ap (λ (n : ℕ). c.len.result / c.from-size.result * n) size, len) in
+    let rest : c.drop_front.new.tip.items ≡ drop (c.len.result / c.from-size.result * c.args.self.page_size) c.args.self.tip.items
+    = c.drop_front.ensures ∙ ap (λ (n : ℕ). drop (c.len.result / c.from-size.result * n) c.args.self.tip.items) size in
+    let far : c.args.self.first * c.args.self.page_size + length c.args.self.tip.items ≡ (c.args.self.first + c.len.result / c.from-size.result) * c.args.self.page_size + length c.drop_front.new.tip.items
+    = rest_far c.args.self.page_size c.args.self.first (c.len.result / c.from-size.result) c.args.self.tip.items c.drop_front.new.tip.items full rest in
+    let len2 : c.len-from.result ≡ length c.drop_front.new.tip.items = search rules in
+    let ready = subst (λ (n : ℕ). Ready g.S.Seal.seal_of c.args.self.page_size all n c.args.self.settled c.args.self.newest (disk (g.D.Device.time c.flush_pages.new.dev) (key_of (shown c.args.self)))) (far ∙ ap (λ (n : ℕ). (c.args.self.first + c.len.result / c.from-size.result) * c.args.self.page_size + n) (sym len2)) after.done in
+    record {
+      state = record { ready = λ e. ready; adopted = λ e. absurd (cc (e, c.requires.clean)) };
+      tip_at = rest_stands c.args.self.page_size c.args.self.first (c.len.result / c.from-size.result) c.args.self.tip.items c.drop_front.new.tip.items all full rest holds.tip_at;
+      size = holds.size ∙ far;
+    }
+
+pub returns-clause-wrote : goal.returns-clause-wrote
+returns-clause-wrote g c t all same at =
+    let tip : c.as_slice-2.result.now ≡ c.args.self.tip.items = c.as_slice-2.ensures.value in
+    let told = writes_as c.args.self.page_size (flushed_of (shown c.args.self)) (c.args.self.first * c.args.self.page_size + length c.as_slice-2.result.now) _ (g.D.Device.time c.args.dev.now) (g.D.Device.time c.flush_pages.new.dev) _ (string_bytes c.args.self.partition) _ c.args.self.name.items
+    (λ l. StandsAt l (c.args.self.first * c.args.self.page_size) c.as_slice-2.result.now) c.as_str.ensures.value c.as_slice.ensures.value (λ l was stands. c.in_ok-end.ensures.wrote t l was stands) in
+    let after = told all same (subst (λ (l : List ℕ). StandsAt all (c.args.self.first * c.args.self.page_size) l) (sym tip) at) in
+    record { alone = after.alone; done = subst (λ (l : List ℕ). Data c.args.self.page_size all (c.args.self.first * c.args.self.page_size + length l) (view (disk (g.D.Device.time c.flush_pages.new.dev) (key_of (shown c.args.self))).content)) tip after.done }
+
+pub returns-clause-size : goal.returns-clause-size
+returns-clause-size g c =
+    let size : c.from-size.result ≡ c.args.self.page_size = c.from-size.ensures in
+    let len : c.len.result ≡ length c.args.self.tip.items = search rules in
+    let full : c.len.result / c.from-size.result * c.args.self.page_size ≤ length c.args.self.tip.items
+    = omega (arith, div-mul-le_self c.len.result c.from-size.result, ap (λ (n : ℕ). c.len.result / c.from-size.result * n) size, len) in
+    let rest : c.drop_front.new.tip.items ≡ drop (c.len.result / c.from-size.result * c.args.self.page_size) c.args.self.tip.items
+    = c.drop_front.ensures ∙ ap (λ (n : ℕ). drop (c.len.result / c.from-size.result * n) c.args.self.tip.items) size in
+    let far : c.args.self.first * c.args.self.page_size + length c.args.self.tip.items ≡ (c.args.self.first + c.len.result / c.from-size.result) * c.args.self.page_size + length c.drop_front.new.tip.items
+    = rest_far c.args.self.page_size c.args.self.first (c.len.result / c.from-size.result) c.args.self.tip.items c.drop_front.new.tip.items full rest in
+    sym far
+
+pub returns-clause-tip : goal.returns-clause-tip
+returns-clause-tip g c all at =
+    let size : c.from-size.result ≡ c.args.self.page_size = c.from-size.ensures in
+    let len : c.len.result ≡ length c.args.self.tip.items = search rules in
+    let full : c.len.result / c.from-size.result * c.args.self.page_size ≤ length c.args.self.tip.items
+    = omega (arith, div-mul-le_self c.len.result c.from-size.result, ap (λ (n : ℕ). c.len.result / c.from-size.result * n) size, len) in
+    let rest : c.drop_front.new.tip.items ≡ drop (c.len.result / c.from-size.result * c.args.self.page_size) c.args.self.tip.items
+    = c.drop_front.ensures ∙ ap (λ (n : ℕ). drop (c.len.result / c.from-size.result * n) c.args.self.tip.items) size in
+    let far : c.args.self.first * c.args.self.page_size + length c.args.self.tip.items ≡ (c.args.self.first + c.len.result / c.from-size.result) * c.args.self.page_size + length c.drop_front.new.tip.items
+    = rest_far c.args.self.page_size c.args.self.first (c.len.result / c.from-size.result) c.args.self.tip.items c.drop_front.new.tip.items full rest in
+    rest_stands c.args.self.page_size c.args.self.first (c.len.result / c.from-size.result) c.args.self.tip.items c.drop_front.new.tip.items all full rest at

@@ -1,0 +1,18 @@
+use Rattle.std.proofs.Common.{◌≡◌, ◌≤◌, ◌+◌, ◌/◌, length}
+use Rattle.blob_device.specs.Timeline.{disk}
+use Rattle.sealed_pages.specs.SealedPrefix.{size_below, adopted_size}
+use Rattle.sealed_pages.specs.Reading.{Unchanged, OnlyRead}
+use Rattle.sealed_pages.proofs.reading.find_last.Given as goal
+
+abbrev pub invariant-back : goal.invariant-back
+invariant-back g l = record {
+  low : l.page ≤ l.end / (l.page_size + 12) + 1;
+  buf : length l.buf ≡ l.page_size + 12;
+  faults : g.D.Device.faults l.initial.dev ≤ g.D.Device.faults l.dev;
+  entries : OnlyRead (l.partition, l.name) (g.D.Device.opened l.initial.dev) (g.D.Device.opened l.dev);
+  unchanged : g.D.Device.Tells → Unchanged (g.D.Device.time l.initial.dev) (g.D.Device.time l.dev);
+  none : g.D.Device.Tells → size_below g.S.Seal.seal_of l.page_size (disk (g.D.Device.time l.initial.dev) (l.partition, l.name)).content l.page ≡ adopted_size g.S.Seal.seal_of l.page_size (disk (g.D.Device.time l.initial.dev) (l.partition, l.name)).content;
+}
+
+abbrev pub decreases-back : goal.decreases-back
+decreases-back g l = l.page

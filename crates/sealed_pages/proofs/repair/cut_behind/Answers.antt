@@ -1,0 +1,54 @@
+use Rattle.std.proofs.Common.{◌≤◌, arith}
+use Rattle.sealed_pages.proofs.PageCalls.{no_ok, alone_start, alone_on}
+use Rattle.sealed_pages.proofs.EntryLemmas.{open_some, no_reads_resize, no_reads_updated, open_resized}
+use Rattle.sealed_pages.proofs.Keeping.{kept_start, behind_any, behind_ok, resize_as, cut_data}
+use Rattle.sealed_pages.proofs.repair.cut_behind.Goals as goal
+
+pub returns-then-not-behind-clause-told : goal.returns-then-not-behind-clause-told
+returns-then-not-behind-clause-told g c t all F w σ kept inside longer shorter =
+    let pos : 1 ≤ c.args.page_size = omega (arith, c.requires.some) in
+    record {
+      any_moment = kept_start g.S.Seal.seal_of c.args.page_size all F σ pos w (c.args.partition.now, c.args.name.now) (g.D.Device.time c.args.dev.now) kept;
+      done = (kept, (shorter c.if-not-behind.true, λ k b less clean. clean));
+    }
+
+pub returns-in_err-resize-clause-told : goal.returns-in_err-resize-clause-told
+returns-in_err-resize-clause-told g c t all F w σ kept inside longer shorter =
+    let pos : 1 ≤ c.args.page_size = omega (arith, c.requires.some) in
+    record {
+      any_moment = behind_any g.S.Seal.seal_of c.args.page_size all F σ pos w (c.args.partition.now, c.args.name.now) (g.D.Device.time c.args.dev.now) kept c.args.pages inside (longer c.if-not-behind.false) (resize_as c.page_place-place.ensures (c.resize.ensures.told t));
+      done = no_ok _ c.from_residual.result c.from_residual.ensures.0;
+    }
+
+pub returns-in_err-resize-clause-wrote : goal.returns-in_err-resize-clause-wrote
+returns-in_err-resize-clause-wrote g c t all F same inside = record {
+  alone = alone_on (alone_start (g.D.Device.time c.args.dev.now) (c.args.partition.now, c.args.name.now)) (c.resize.ensures.told t);
+  done = no_ok _ c.from_residual.result c.from_residual.ensures.0;
+}
+
+pub returns-in_err-resize-clause-entries : goal.returns-in_err-resize-clause-entries
+returns-in_err-resize-clause-entries g c = no_reads_resize (c.args.partition.now, c.args.name.now) _ _ _ c.in_err-resize.ensures.opened_err (open_some (g.D.Device.opened c.args.dev.now) (c.args.partition.now, c.args.name.now) c.args.end c.requires.«open»)
+
+pub resize-requires : goal.resize-requires
+resize-requires g c = open_some (g.D.Device.opened c.args.dev.now) (c.args.partition.now, c.args.name.now) c.args.end c.requires.«open»
+
+pub returns-clause-told : goal.returns-clause-told
+returns-clause-told g c t all F w σ kept inside longer shorter =
+    let pos : 1 ≤ c.args.page_size = omega (arith, c.requires.some) in
+    let passes = resize_as c.page_place-place.ensures (c.in_ok-resize.ensures.told t) in
+    record {
+      any_moment = behind_any g.S.Seal.seal_of c.args.page_size all F σ pos w (c.args.partition.now, c.args.name.now) (g.D.Device.time c.args.dev.now) kept c.args.pages inside (longer c.if-not-behind.false) passes;
+      done = let after = behind_ok g.S.Seal.seal_of c.args.page_size all F σ pos w (c.args.partition.now, c.args.name.now) (g.D.Device.time c.args.dev.now) kept c.args.pages inside (longer c.if-not-behind.false) passes in (after.0, (after.1, after.2));
+    }
+
+pub returns-clause-wrote : goal.returns-clause-wrote
+returns-clause-wrote g c t all F same inside = record {
+  alone = alone_on (alone_start (g.D.Device.time c.args.dev.now) (c.args.partition.now, c.args.name.now)) (c.in_ok-resize.ensures.told t);
+  done = cut_data c.args.page_size all F c.args.pages (c.args.partition.now, c.args.name.now) (g.D.Device.time c.args.dev.now) (g.D.Device.time c.resize.new.self) _ inside (resize_as c.page_place-place.ensures (c.in_ok-resize.ensures.told t)) same;
+}
+
+pub returns-clause-length : goal.returns-clause-length
+returns-clause-length g c = open_resized (c.args.partition.now, c.args.name.now) (g.D.Device.opened c.args.dev.now) _ c.page_place-place.result c.args.end c.in_ok-resize.ensures.opened c.requires.«open»
+
+pub returns-clause-entries : goal.returns-clause-entries
+returns-clause-entries g c = no_reads_updated (c.args.partition.now, c.args.name.now) (g.D.Device.opened c.args.dev.now) _ (λ o. c.page_place-place.result) c.in_ok-resize.ensures.opened (open_some (g.D.Device.opened c.args.dev.now) (c.args.partition.now, c.args.name.now) c.args.end c.requires.«open»)

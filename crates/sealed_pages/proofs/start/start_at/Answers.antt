@@ -1,0 +1,32 @@
+use Rattle.std.proofs.Common.{◌≢◌, inl, inr, ◌∙◌, ◌<◌, ◌+◌, ℕ, not, ltb, List, get_or, ap, sym, arith}
+use Rattle.sealed_pages.specs.View.{slot_at}
+use Rattle.sealed_pages.proofs.Starting.{starts_full, starts_part}
+use Rattle.sealed_pages.proofs.Adopting.{pages_some}
+use Rattle.sealed_pages.proofs.start.start_at.Goals as goal
+
+pub returns-then-len-from : goal.returns-then-len-from
+returns-then-len-from g c = record {
+  begun = omega (arith, c.requires.some);
+  pages = omega arith;
+  inside = λ e. absurd (cc e);
+  starts = λ l long page a b some.
+      starts_full g.S.Seal.seal_of c.args.page_size l c.args.last.now.page c.args.last.now.first_len c.args.last.now.second_len a b some c.page_place.result c.args.end c.page_place.ensures long c.requires.some (omega (arith, c.max-len.ensures, c.from.ensures, c.if-len-from.true));
+}
+
+pub returns : goal.returns
+returns g c =
+    let differ : c.max-len.result ≢ c.args.page_size = λ e. c.if-len-from.false (e ∙ sym c.from.ensures) in
+    let begun : c.max-len.result < c.args.page_size = omega (arith, c.max-len.ensures, c.requires.lengths.0, c.requires.lengths.1, differ) in
+    let some : 0 < c.max-len.result = omega (arith, c.max-len.ensures, c.requires.found) in
+    record {
+      begun = begun;
+      pages = omega (arith, pages_some c.args.last.now.page c.max-len.result some);
+      inside = λ e. some;
+      starts = λ l long page a b some.
+          starts_part g.S.Seal.seal_of c.args.page_size l c.args.last.now.page c.args.last.now.first_len c.args.last.now.second_len a b some c.page_place.result c.args.end c.page_place.ensures long c.max-len.result c.is_torn-torn.result c.max-len.ensures
+          (λ e. c.if-len-from.false (e ∙ sym c.from.ensures))
+          (λ e. elim (c.is_torn-torn.ensures e) [
+            | inl match ↦ inl (omega (arith, match, c.other_len.ensures))
+            | inr zeros ↦ inr (λ i lt. sym (ap (λ (p : List ℕ). get_or p (slot_at c.args.page_size 0 (not (ltb c.args.last.now.first_len c.args.last.now.second_len)) + i) 0) page) ∙ zeros i lt)
+          ]);
+    }

@@ -1,0 +1,11 @@
+pub mod View
+pub mod Slots
+pub mod SealedPrefix
+pub mod ChanceSeal
+pub mod Flushing
+pub mod Entries
+pub mod Buffer
+pub mod Shown
+pub mod Reading
+pub mod Found
+pub mod Starts

@@ -1,0 +1,20 @@
+-- What a page blob shows of itself.
+use Rattle.std.specs.Prelude.{string_bytes}
+use Rattle.sealed_pages.specs.declared.page_blob.PageBlob.{PageBlob}
+use Rattle.sealed_pages.specs.Buffer.{Buffer}
+
+abbrev pub shown : {S : Type 0} {g : _} → PageBlob S g → Buffer
+shown p = record {
+  partition = string_bytes p.partition;
+  name = p.name.items;
+  page_size = p.page_size;
+  capacity = p.capacity;
+  end = p.end;
+  first = p.first;
+  tip = p.tip.items;
+  from = p.from;
+  settled = p.settled;
+  newest = p.newest;
+  behind = p.behind;
+  torn = p.torn;
+}

@@ -1,0 +1,15 @@
+//! Buffers over blobs whose pages carry seals.
+#![tactic(auto)]
+
+mod flush;
+mod page;
+mod page_blob;
+mod pages;
+mod reading;
+mod repair;
+mod start;
+#[cfg(test)]
+mod tests;
+
+pub use page_blob::PageBlob;
+pub use pages::Pages;

@@ -1,0 +1,396 @@
+// A buffer over a blob whose pages carry seals.
+ghost use Rattle.std.specs.Prelude.{◌≡◌, ◌≢◌, ◌+◌, ◌*◌, ◌≤◌, ◌<◌, ◌^◌, ◌-◌, ◌++◌, ◌↔◌, ◌==◌, ◌||◌, ◌⊎◌, Err, not, length, drop, IfOk, OnErr, Bool, true, false, ℕ, List, IsTrue};
+ghost use Rattle.std.specs.Result.{IsErrOf};
+ghost use Rattle.blob_device.specs.declared.runtime.RError.TheVariants.{Fault, OffsetOverflow};
+ghost use Rattle.blob_device.specs.Timeline.{disk};
+ghost use Rattle.blob_device.specs.Counts.{Rose};
+ghost use Rattle.sealed_pages.specs.View.{page_at};
+ghost use Rattle.sealed_pages.specs.ChanceSeal.{Sealing};
+ghost use Rattle.sealed_pages.specs.Flushing.{Alone, last_slot};
+ghost use Rattle.sealed_pages.specs.Buffer.{Fit, Buffer, extent, key_of, size_of, bytes_of, flushed_of, Holds, IsSealed};
+ghost use Rattle.sealed_pages.specs.Entries.{IsOpenAt, NoReads};
+
+use crate::Pages;
+use crate::flush::{flush_pages, next_slot_of};
+use crate::reading::find_last;
+use crate::repair::repair;
+use crate::start::start_of;
+use blob_device::{DevError, Device, RError};
+use std::alloc::Global;
+use std::marker::PhantomData;
+use value_codec::Seal;
+
+/// A buffer over an opened blob whose pages carry two seals each.
+///
+/// The tip is held in memory: the bytes of a last page that is not full, and all bytes that are not flushed. A refused
+/// call gives the buffer up; the blob is then opened and adopted again.
+#[derive(Drop)]
+pub struct PageBlob<S: Seal> {
+    alloc: Global,
+    partition: String,
+    name: Vec<u8>,
+    page_size: u16,
+    capacity: usize,
+    end: u64,
+    first: u64,
+    tip: Vec<u8>,
+    from: usize,
+    settled: u64,
+    newest: bool,
+    behind: bool,
+    torn: bool,
+    seal: PhantomData<S>,
+    ghost fit: { Fit page_size first from tip.items },
+    ghost inside: { torn ≡ true → 0 < from },
+    ghost order: { settled ≤ first * page_size + from },
+}
+
+/// Takes the first n bytes away.
+fn drop_front(tip: &mut Vec<u8>, n: usize)
+    requires { n ≤ length tip.old.items }
+    ensures { tip.new.items ≡ drop n tip.old.items }
+{
+    let rest = tip.len() - n;
+    tip.rotate_left(n);
+    tip.truncate(rest);
+}
+
+/// Whether a blob of so many bytes, with both slots of its last page, ends below 2^64.
+fn fits(page_size: u16, size: u64, more: usize) -> bool
+    requires { 1 ≤ page_size }
+    ensures { IsTrue result ↔ extent page_size (size + more) < 2 ^ 64 }
+{
+    let data = u128::from(page_size);
+    let bytes = u128::from(size) + more as u128;
+    let pages = (bytes + (data - 1)) / data;
+    pages * (data + 12) <= u128::from(u64::MAX)
+}
+
+/// The slot that covers the last page, if the end stands within it.
+fn last_slot_of(
+    page_size: u16,
+    page: u64,
+    from: usize,
+    end: u64,
+    settled: u64,
+    newest: bool,
+) -> bool
+    requires { 0 < from → page_at page_size page + (page_size + 12) < 2 ^ 64 }
+    ensures { 0 < from → result ≡ last_slot page_size end settled newest page }
+{
+    if from == 0 || end == settled {
+        return newest;
+    }
+    next_slot_of(page_size, page, settled, newest)
+}
+
+impl<S: Seal> PageBlob<S> {
+    ghost use Rattle.sealed_pages.specs.Shown.{shown};
+    ghost use Rattle.blob_device.specs.Disk.{settled_at};
+    ghost use Rattle.sealed_pages.specs.SealedPrefix.{sealed_prefix, adopted_size};
+    ghost use Rattle.sealed_pages.specs.Reading.{Unchanged, OnlyRead};
+    ghost use Rattle.sealed_pages.specs.View.{view, StandsAt};
+    ghost use Rattle.sealed_pages.specs.Buffer.{IsBacked, has_leftover};
+    ghost use Rattle.sealed_pages.specs.Flushing.{Data, Wrote};
+
+    /// Adopts an opened blob of this length. The size goes back to the last page with a matching slot.
+    ///
+    /// It answers `OffsetOverflow` exactly where a page behind the blob's end would pass the greatest `u64`.
+    pub fn adopt<D: Device>(
+        alloc: Global,
+        dev: &mut D,
+        partition: &str,
+        name: &[u8],
+        size: u64,
+        capacity: usize,
+        pages: Pages,
+    ) -> Result<PageBlob<S>, RError>
+        requires valid { 1 ≤ pages.page_size }
+        requires open { IsOpenAt (D.opened dev.old) (partition.now, name.now) size }
+        ensures size { D.Tells → IfOk result (λ r. size_of (shown r) ≡ adopted_size S.seal_of pages.page_size (disk (D.time dev.old) (partition.now, name.now)).content) }
+        ensures backed { D.Tells → IfOk result (λ r. IsBacked (shown r) (disk (D.time dev.old) (partition.now, name.now)).content) }
+        // Where the blob has settled, and its sealed prefix is the size, the promise on crashes begins.
+        ensures sealed { D.Tells → disk (D.time dev.old) (partition.now, name.now) ≡ settled_at (disk (D.time dev.old) (partition.now, name.now)).content
+            → length (sealed_prefix S.seal_of pages.page_size (disk (D.time dev.old) (partition.now, name.now)).content) ≡ adopted_size S.seal_of pages.page_size (disk (D.time dev.old) (partition.now, name.now)).content
+            → IfOk result (λ r. IsSealed S.seal_of (shown r) (disk (D.time dev.old) (partition.now, name.now))) }
+        ensures unchanged { D.Tells → Unchanged (D.time dev.old) (D.time dev.new) }
+        ensures settled { IfOk result (λ r. r.settled ≡ size_of (shown r)) }
+        ensures key { IfOk result (λ r. key_of (shown r) ≡ (partition.now, name.now)) }
+        ensures page_size { IfOk result (λ r. r.page_size ≡ pages.page_size) }
+        ensures capacity { IfOk result (λ r. r.capacity ≡ capacity) }
+        ensures end { IfOk result (λ r. r.end ≡ size) }
+        ensures open { IfOk result (λ r. IsOpenAt (D.opened dev.new) (key_of (shown r)) r.end) }
+        ensures entries { OnlyRead (partition.now, name.now) (D.opened dev.old) (D.opened dev.new) }
+        ensures overflow { IsErrOf result OffsetOverflow ↔ 2 ^ 64 ≤ size + (pages.page_size + 12) }
+        ensures faults { D.faults dev.old ≤ D.faults dev.new }
+        ensures cause { OnErr result ((result ≡ Err RError.OffsetOverflow) ⊎ ((result ≡ Err RError.Mem) ⊎ ((result ≡ Err RError.Fault) × Rose (D.faults dev.old) (D.faults dev.new)))) }
+    {
+        let unit = usize::from(pages.page_size) + 12;
+        if u64::MAX - size < unit as u64 {
+            return Err(RError::OffsetOverflow);
+        }
+        let mut bytes = vec![in alloc; 0; unit]?;
+        let buf = bytes.as_mut_slice();
+        let found = find_last::<D, S>(dev, partition, name, pages.page_size, size, buf)?;
+        let start = start_of::<S>(pages.page_size, size, &found, buf);
+        let partition = String::from_str(alloc, partition)?;
+        let name = name.to_vec(alloc)?;
+        let tip = buf[..start.from].to_vec(alloc)?;
+        Ok(PageBlob {
+            alloc,
+            partition,
+            name,
+            page_size: pages.page_size,
+            capacity,
+            end: size,
+            first: start.first,
+            tip,
+            from: start.from,
+            settled: start.first * u64::from(pages.page_size) + start.from as u64,
+            newest: start.newest,
+            behind: start.behind,
+            torn: start.torn,
+            seal: PhantomData,
+        })
+    }
+
+    /// How many bytes are flushed.
+    fn flushed(&self) -> u64
+        ensures { result ≡ flushed_of (shown self.now) }
+    {
+        self.first * u64::from(self.page_size) + self.from as u64
+    }
+
+    /// The length, with the bytes that are not flushed. It takes no memory.
+    pub fn size(&self) -> u64
+        ensures { result ≡ size_of (shown self.now) }
+    {
+        self.first * u64::from(self.page_size) + self.tip.len() as u64
+    }
+
+    /// Whether a sync would do something: whether a byte has not settled. It takes no memory.
+    pub fn needs_sync(&self) -> bool
+        ensures { result ≡ not (self.now.settled == size_of (shown self.now)) }
+    {
+        self.settled != self.size()
+    }
+
+    // Removes what a crash may have left, the first time that bytes are to be written.
+    fn repaired<D: Device>(self, dev: &mut D) -> Result<PageBlob<S>, DevError>
+        requires open { IsOpenAt (D.opened dev.old) (key_of (shown self)) self.end }
+        ensures told { D.Tells → (all : List ℕ) → Holds S.seal_of (shown self) all (disk (D.time dev.old) (key_of (shown self)))
+            → Sealing S.seal_of self.page_size all self.settled (key_of (shown self)) (D.time dev.old) (D.time dev.new) }
+        ensures done { D.Tells → (all : List ℕ) → Holds S.seal_of (shown self) all (disk (D.time dev.old) (key_of (shown self)))
+            → IfOk result (λ r. Holds S.seal_of (shown r) all (disk (D.time dev.new) (key_of (shown self)))) }
+        ensures wrote { D.Tells → (all : List ℕ) → Data self.page_size all (flushed_of (shown self)) (view (disk (D.time dev.old) (key_of (shown self))).content)
+            → Wrote self.page_size all (flushed_of (shown self)) (key_of (shown self)) result (D.time dev.old) (D.time dev.new) }
+        ensures same { IfOk result (λ r. shown r ≡ record (shown self) { end = r.end; behind = false; torn = false }) }
+        ensures length { IfOk result (λ r. IsOpenAt (D.opened dev.new) (key_of (shown self)) r.end) }
+        ensures entries { NoReads (key_of (shown self)) (D.opened dev.old) (D.opened dev.new) }
+        ensures faults { D.faults dev.old ≤ D.faults dev.new }
+        ensures cause { result ≡ Err DevError.Fault → Rose (D.faults dev.old) (D.faults dev.new) }
+    {
+        if !(self.behind || self.torn) {
+            return Ok(self);
+        }
+        let end = repair::<D, S>(
+            dev,
+            self.partition.as_str(),
+            self.name.as_slice(),
+            self.page_size,
+            self.end,
+            self.first,
+            self.from,
+            self.newest,
+            self.behind,
+            self.torn,
+        )?;
+        let mut this = self;
+        this.end = end;
+        this.behind = false;
+        this.torn = false;
+        Ok(this)
+    }
+
+    // Writes the pages of the tip. Only the bytes of a last page that is not full stay in it.
+    fn written<D: Device>(self, dev: &mut D) -> Result<PageBlob<S>, DevError>
+        requires open { IsOpenAt (D.opened dev.old) (key_of (shown self)) self.end }
+        requires clean { (self.behind || self.torn) ≡ false }
+        ensures told { D.Tells → (all : List ℕ) → Holds S.seal_of (shown self) all (disk (D.time dev.old) (key_of (shown self)))
+            → Sealing S.seal_of self.page_size all self.settled (key_of (shown self)) (D.time dev.old) (D.time dev.new) }
+        ensures done { D.Tells → (all : List ℕ) → Holds S.seal_of (shown self) all (disk (D.time dev.old) (key_of (shown self)))
+            → IfOk result (λ r. Holds S.seal_of (shown r) all (disk (D.time dev.new) (key_of (shown self)))) }
+        ensures wrote { D.Tells → (all : List ℕ) → Data self.page_size all (flushed_of (shown self)) (view (disk (D.time dev.old) (key_of (shown self))).content)
+            → StandsAt all (self.first * self.page_size) self.tip.items
+            → Wrote self.page_size all (size_of (shown self)) (key_of (shown self)) result (D.time dev.old) (D.time dev.new) }
+        ensures same { IfOk result (λ r. shown r ≡ record (shown self) { end = r.end; first = r.first; tip = r.tip.items; from = length r.tip.items }) }
+        ensures size { IfOk result (λ r. size_of (shown r) ≡ size_of (shown self)) }
+        ensures tip { IfOk result (λ r. (all : List ℕ) → StandsAt all (self.first * self.page_size) self.tip.items → StandsAt all (r.first * r.page_size) r.tip.items) }
+        ensures length { IfOk result (λ r. IsOpenAt (D.opened dev.new) (key_of (shown self)) r.end) }
+        ensures entries { NoReads (key_of (shown self)) (D.opened dev.old) (D.opened dev.new) }
+        ensures faults { D.faults dev.old ≤ D.faults dev.new }
+        ensures cause { result ≡ Err DevError.Fault → Rose (D.faults dev.old) (D.faults dev.new) }
+    {
+        let end = flush_pages::<D, S>(
+            dev,
+            self.partition.as_str(),
+            self.name.as_slice(),
+            self.page_size,
+            self.end,
+            self.first,
+            self.from,
+            self.tip.as_slice(),
+            self.settled,
+            self.newest,
+        )?;
+        let size = usize::from(self.page_size);
+        let full = self.tip.len() / size;
+        let PageBlob {
+            alloc,
+            partition,
+            name,
+            page_size,
+            capacity,
+            first,
+            mut tip,
+            settled,
+            newest,
+            behind,
+            torn,
+            seal,
+            ..
+        } = self;
+        drop_front(&mut tip, full * size);
+        let from = tip.len();
+        Ok(PageBlob {
+            alloc,
+            partition,
+            name,
+            page_size,
+            capacity,
+            end,
+            first: first + full as u64,
+            tip,
+            from,
+            settled,
+            newest,
+            behind,
+            torn,
+            seal,
+        })
+    }
+
+    // Writes what is not yet flushed.
+    fn flush<D: Device>(self, dev: &mut D) -> Result<PageBlob<S>, DevError>
+        requires open { IsOpenAt (D.opened dev.old) (key_of (shown self)) self.end }
+        ensures told { D.Tells → (all : List ℕ) → Holds S.seal_of (shown self) all (disk (D.time dev.old) (key_of (shown self)))
+            → Sealing S.seal_of self.page_size all self.settled (key_of (shown self)) (D.time dev.old) (D.time dev.new) }
+        ensures done { D.Tells → (all : List ℕ) → Holds S.seal_of (shown self) all (disk (D.time dev.old) (key_of (shown self)))
+            → IfOk result (λ r. Holds S.seal_of (shown r) all (disk (D.time dev.new) (key_of (shown self)))) }
+        ensures wrote { D.Tells → (all : List ℕ) → Data self.page_size all (flushed_of (shown self)) (view (disk (D.time dev.old) (key_of (shown self))).content)
+            → StandsAt all (self.first * self.page_size) self.tip.items
+            → Wrote self.page_size all (size_of (shown self)) (key_of (shown self)) result (D.time dev.old) (D.time dev.new) }
+        ensures key { IfOk result (λ r. key_of (shown r) ≡ key_of (shown self)) }
+        ensures page_size { IfOk result (λ r. r.page_size ≡ self.page_size) }
+        ensures capacity { IfOk result (λ r. r.capacity ≡ self.capacity) }
+        ensures settled { IfOk result (λ r. r.settled ≡ self.settled) }
+        ensures newest { IfOk result (λ r. r.newest ≡ self.newest) }
+        ensures flushed { IfOk result (λ r. r.from ≡ length r.tip.items) }
+        ensures size { IfOk result (λ r. size_of (shown r) ≡ size_of (shown self)) }
+        ensures tip { IfOk result (λ r. (all : List ℕ) → StandsAt all (self.first * self.page_size) self.tip.items → StandsAt all (r.first * r.page_size) r.tip.items) }
+        ensures length { IfOk result (λ r. IsOpenAt (D.opened dev.new) (key_of (shown self)) r.end) }
+        ensures entries { NoReads (key_of (shown self)) (D.opened dev.old) (D.opened dev.new) }
+        ensures faults { D.faults dev.old ≤ D.faults dev.new }
+        ensures cause { result ≡ Err DevError.Fault → Rose (D.faults dev.old) (D.faults dev.new) }
+    {
+        if self.from >= self.tip.len() {
+            return Ok(self);
+        }
+        let this = self.repaired(dev)?;
+        this.written(dev)
+    }
+
+    /// Adds bytes at the end. The answer has the place of the first of them. All that is not flushed is flushed where it is
+    /// then at least as long as the capacity; below that no call of the device is made.
+    pub fn append<D: Device>(self, dev: &mut D, bytes: &[u8]) -> Result<(PageBlob<S>, u64), RError>
+        requires open { IsOpenAt (D.opened dev.old) (key_of (shown self)) self.end }
+        // At every moment, also inside a call of the device, each crash leaves a blob whose sealed prefix is a prefix
+        // of the bytes, those of this call included, and no shorter than what has settled.
+        ensures crashes { D.Tells → IsSealed S.seal_of (shown self) (disk (D.time dev.old) (key_of (shown self)))
+            → Sealing S.seal_of self.page_size (bytes_of (shown self) (disk (D.time dev.old) (key_of (shown self))).content ++ bytes.now) self.settled (key_of (shown self)) (D.time dev.old) (D.time dev.new) }
+        ensures sealed { D.Tells → IsSealed S.seal_of (shown self) (disk (D.time dev.old) (key_of (shown self)))
+            → IfOk result (λ r. IsSealed S.seal_of (shown r.0) (disk (D.time dev.new) (key_of (shown self)))) }
+        ensures alone { D.Tells → IsBacked (shown self) (disk (D.time dev.old) (key_of (shown self))).content → Alone (key_of (shown self)) (D.time dev.old) (D.time dev.new) }
+        ensures bytes { D.Tells → IsBacked (shown self) (disk (D.time dev.old) (key_of (shown self))).content
+            → IfOk result (λ r. bytes_of (shown r.0) (disk (D.time dev.new) (key_of (shown self))).content ≡ bytes_of (shown self) (disk (D.time dev.old) (key_of (shown self))).content ++ bytes.now) }
+        ensures backed { D.Tells → IsBacked (shown self) (disk (D.time dev.old) (key_of (shown self))).content
+            → IfOk result (λ r. IsBacked (shown r.0) (disk (D.time dev.new) (key_of (shown self))).content) }
+        ensures below { length self.tip.items + length bytes.now < self.from + self.capacity → D.time dev.new ≡ D.time dev.old }
+        ensures flushed { self.from + self.capacity ≤ length self.tip.items + length bytes.now → IfOk result (λ r. r.0.from ≡ length r.0.tip.items) }
+        ensures at { IfOk result (λ r. r.1 ≡ size_of (shown self)) }
+        ensures size { IfOk result (λ r. size_of (shown r.0) ≡ size_of (shown self) + length bytes.now) }
+        ensures key { IfOk result (λ r. key_of (shown r.0) ≡ key_of (shown self)) }
+        ensures page_size { IfOk result (λ r. r.0.page_size ≡ self.page_size) }
+        ensures capacity { IfOk result (λ r. r.0.capacity ≡ self.capacity) }
+        ensures settled { IfOk result (λ r. r.0.settled ≡ self.settled) }
+        ensures open { IfOk result (λ r. IsOpenAt (D.opened dev.new) (key_of (shown r.0)) r.0.end) }
+        ensures entries { NoReads (key_of (shown self)) (D.opened dev.old) (D.opened dev.new) }
+        ensures overflow { IsErrOf result OffsetOverflow ↔ 2 ^ 64 ≤ extent self.page_size (size_of (shown self) + length bytes.now) }
+        ensures faults { D.faults dev.old ≤ D.faults dev.new }
+        ensures cause { OnErr result ((result ≡ Err RError.OffsetOverflow) ⊎ ((result ≡ Err RError.Mem) ⊎ ((result ≡ Err RError.Fault) × Rose (D.faults dev.old) (D.faults dev.new)))) }
+    {
+        let at = self.size();
+        if !fits(self.page_size, at, bytes.len()) {
+            return Err(RError::OffsetOverflow);
+        }
+        let mut this = self;
+        this.tip.extend_from_slice(bytes)?;
+        if this.tip.len() - this.from < this.capacity {
+            return Ok((this, at));
+        }
+        let this = this.flush(dev)?;
+        Ok((this, at))
+    }
+
+    /// Settles all bytes. Where none is unsettled, it makes no call of the device.
+    pub fn sync<D: Device>(self, dev: &mut D) -> Result<PageBlob<S>, RError>
+        requires open { IsOpenAt (D.opened dev.old) (key_of (shown self)) self.end }
+        ensures crashes { D.Tells → IsSealed S.seal_of (shown self) (disk (D.time dev.old) (key_of (shown self)))
+            → Sealing S.seal_of self.page_size (bytes_of (shown self) (disk (D.time dev.old) (key_of (shown self))).content) self.settled (key_of (shown self)) (D.time dev.old) (D.time dev.new) }
+        ensures sealed { D.Tells → IsSealed S.seal_of (shown self) (disk (D.time dev.old) (key_of (shown self)))
+            → IfOk result (λ r. IsSealed S.seal_of (shown r) (disk (D.time dev.new) (key_of (shown self)))) }
+        ensures alone { D.Tells → IsBacked (shown self) (disk (D.time dev.old) (key_of (shown self))).content → Alone (key_of (shown self)) (D.time dev.old) (D.time dev.new) }
+        ensures bytes { D.Tells → IsBacked (shown self) (disk (D.time dev.old) (key_of (shown self))).content
+            → IfOk result (λ r. bytes_of (shown r) (disk (D.time dev.new) (key_of (shown self))).content ≡ bytes_of (shown self) (disk (D.time dev.old) (key_of (shown self))).content) }
+        ensures backed { D.Tells → IsBacked (shown self) (disk (D.time dev.old) (key_of (shown self))).content
+            → IfOk result (λ r. IsBacked (shown r) (disk (D.time dev.new) (key_of (shown self))).content) }
+        ensures idle { self.settled ≡ size_of (shown self) → D.time dev.new ≡ D.time dev.old }
+        ensures settled { IfOk result (λ r. r.settled ≡ size_of (shown r)) }
+        ensures size { IfOk result (λ r. size_of (shown r) ≡ size_of (shown self)) }
+        ensures key { IfOk result (λ r. key_of (shown r) ≡ key_of (shown self)) }
+        ensures page_size { IfOk result (λ r. r.page_size ≡ self.page_size) }
+        ensures capacity { IfOk result (λ r. r.capacity ≡ self.capacity) }
+        ensures open { IfOk result (λ r. IsOpenAt (D.opened dev.new) (key_of (shown r)) r.end) }
+        ensures entries { NoReads (key_of (shown self)) (D.opened dev.old) (D.opened dev.new) }
+        ensures faults { D.faults dev.old ≤ D.faults dev.new }
+        ensures cause { OnErr result ((result ≡ Err RError.Mem) ⊎ ((result ≡ Err RError.Fault) × Rose (D.faults dev.old) (D.faults dev.new))) }
+    {
+        if !self.needs_sync() {
+            return Ok(self);
+        }
+        let mut this = self.flush(dev)?;
+        dev.sync(this.partition.as_str(), this.name.as_slice())?;
+        let end = this.flushed();
+        let slot = last_slot_of(
+            this.page_size,
+            this.first,
+            this.from,
+            end,
+            this.settled,
+            this.newest,
+        );
+        this.settled = end;
+        this.newest = slot;
+        Ok(this)
+    }
+}
