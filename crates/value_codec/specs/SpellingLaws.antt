@@ -14,6 +14,12 @@ size_too_few size bytes few = grind (arith, nat_tests)
 pub size_too_many : (size : ℕ) (bytes : List ℕ) → size < length bytes → size_refusal size bytes ≡ Some ExtraBytes
 size_too_many size bytes many = grind (arith, nat_tests)
 
+pub size_few_only : (size : ℕ) (bytes : List ℕ) → size_refusal size bytes ≡ Some EndOfBuffer → length bytes < size
+size_few_only size bytes is = grind (arith, nat_tests)
+
+pub size_many_only : (size : ℕ) (bytes : List ℕ) → size_refusal size bytes ≡ Some ExtraBytes → size < length bytes
+size_many_only size bytes is = grind (arith, nat_tests)
+
 pub size_not_memory : (size : ℕ) (bytes : List ℕ) → size_refusal size bytes ≡ Some Mem → ⊥
 size_not_memory size bytes is = grind (arith, nat_tests)
 
@@ -47,6 +53,8 @@ u64_fixed = record {
   sized = λ _ _. refl;
   too_few = size_too_few 8;
   too_many = size_too_many 8;
+  few_only = size_few_only 8;
+  many_only = size_many_only 8;
 }
 
 pub i32_fixed : IsFixed 4 i32_spelling (λ z _. FitsSigned w32 z) (λ bytes _. size_refusal 4 bytes)
@@ -56,4 +64,6 @@ i32_fixed = record {
   sized = λ _ _. refl;
   too_few = size_too_few 4;
   too_many = size_too_many 4;
+  few_only = size_few_only 4;
+  many_only = size_many_only 4;
 }
