@@ -125,6 +125,28 @@ fn a_failed_removal_may_have_removed(rt: HostRuntime) -> Result<(), Fail> {
 }
 
 #[test]
+fn calls_fail_as_told(rt: HostRuntime) -> Result<(), Fail> {
+    // A fuse fails every call from its number on.
+    let (mut dev, _) = run_to(rt.alloc(), 100)?;
+    dev.fuse_at(7);
+    assert_eq!(rt; dev.remove("p", b"log"), Err(DevError::Fault));
+    assert_eq!(rt; dev.remove("p", b"log"), Err(DevError::Fault));
+    assert_eq!(rt; dev.faults(), 2);
+    // A call that is named fails alone.
+    for nth in 0..4u64 {
+        let mut dev = Memory::new(rt.alloc());
+        dev.fail_at(nth)?;
+        for number in 0..4u64 {
+            let failed = dev.remove("p", b"log") == Err(DevError::Fault);
+            assert_eq!(rt; failed, number == nth, "call {number}");
+        }
+        assert_eq!(rt; dev.faults(), 1);
+        assert_eq!(rt; dev.calls(), 4);
+    }
+    Ok(())
+}
+
+#[test]
 fn free_bytes_are_numbered_over_all_blobs(rt: HostRuntime) -> Result<(), Fail> {
     let alloc = rt.alloc();
     let mut image = Image::new(alloc);
