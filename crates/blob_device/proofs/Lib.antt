@@ -13,6 +13,7 @@ pub mod Marks
 pub mod MixedLemmas
 pub mod Moments
 pub mod NamesLemmas
+pub mod Numbers
 pub mod OpenedLemmas
 pub mod Places
 pub mod Puts

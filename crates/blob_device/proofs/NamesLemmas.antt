@@ -13,13 +13,13 @@ use Rattle.blob_device.specs.declared.blob_log.BlobLog.{BlobLog}
 use Rattle.blob_device.specs.Disk.{Key, Blob, AreNamesIn}
 use Rattle.blob_device.specs.Timeline.{disk}
 use Rattle.blob_device.specs.Laws.{disk_now}
-use Rattle.blob_device.specs.NamesThere.{there_in, NamesThere}
+use Rattle.blob_device.specs.NamesThere.{names_where, there_in, NamesThere}
 use Rattle.blob_device.specs.Calls.{now, replay, Track, no_track, timeline_of, IsSound}
 use Rattle.blob_device.specs.Tracks.{track_of, track_at}
 use Rattle.blob_device.specs.Tables.{by_bytes}
 use Rattle.blob_device.proofs.Maps.{same_or_differ, differ}
 
-abbrev Logs : Type 0
+abbrev pub Logs : Type 0
 Logs = List (Vec ℕ Global × BlobLog)
 
 in_head : (x : List ℕ) (xs : List (List ℕ)) → Contains (x ∷ xs) x
@@ -43,78 +43,82 @@ behind_step : (x y : Vec ℕ Global) (ys : List (List ℕ)) (name : List ℕ) �
 behind_step x y ys name less more true found = ⊎_elim (λ (is : y.items ≡ name). subst (λ (l : List ℕ). slice_cmp nat_cmp x.items l ≡ Less) is less) more (in_split y.items name ys found)
 behind_step x y ys name less more false found = more found
 
-behind : (x : Vec ℕ Global) (es : Logs) → AllByRecursion (λ y. by_bytes x y ≡ Less) (keys_of es) → (name : List ℕ) → Contains (there_in es) name → slice_cmp nat_cmp x.items name ≡ Less
-behind x [] all name found = absurd (in_none name found)
-behind x (e ∷ es) all name found = behind_step x e.0 (there_in es) name all.0 (λ more. behind x es all.1 name more) (now (track_of e.1)).there found
-
 -- the same, as a fact of each of them
 all_step : (P : List ℕ → Type 0) (y : List ℕ) (ys : List (List ℕ)) (v : Bool) → P y → AllByRecursion P ys → AllByRecursion P (cond v (y ∷ ys) ys)
 all_step P y ys true here more = (here, more)
 all_step P y ys false here more = more
-
-behind_all : (x : Vec ℕ Global) (es : Logs) → AllByRecursion (λ y. by_bytes x y ≡ Less) (keys_of es) → AllByRecursion (λ (y : List ℕ). slice_cmp nat_cmp x.items y ≡ Less) (there_in es)
-behind_all x [] all = tt
-behind_all x (e ∷ es) all = all_step (λ (y : List ℕ). slice_cmp nat_cmp x.items y ≡ Less) e.0.items (there_in es) (now (track_of e.1)).there all.0 (behind_all x es all.1)
 
 sorted_step : (y : List ℕ) (ys : List (List ℕ)) (v : Bool) → AllByRecursion (λ (z : List ℕ). slice_cmp nat_cmp y z ≡ Less) ys → IsStrictlySortedBy (slice_cmp nat_cmp) ys → IsStrictlySortedBy (slice_cmp nat_cmp) (cond v (y ∷ ys) ys)
 unfolding IsStrictlySortedBy
 sorted_step y ys true all sorted = (all, sorted)
 sorted_step y ys false all sorted = sorted
 
-pub there_ascending : (es : Logs) → IsStrictlySortedBy by_bytes (keys_of es) → IsStrictlySortedBy (slice_cmp nat_cmp) (there_in es)
-unfolding IsStrictlySortedBy
-there_ascending [] sorted = tt
-there_ascending (e ∷ es) sorted = sorted_step e.0.items (there_in es) (now (track_of e.1)).there (behind_all e.0 es sorted.0) (there_ascending es sorted.1)
-
-abbrev found_at : Logs → List ℕ → Option BlobLog
+abbrev pub found_at : Logs → List ℕ → Option BlobLog
 found_at es name = lookup (λ (k : Vec ℕ Global). is_eq (slice_cmp nat_cmp name k.items)) es
 
-not_before_itself : (x : List ℕ) → slice_cmp nat_cmp x x ≡ Less → ⊥
+pub not_before_itself : (x : List ℕ) → slice_cmp nat_cmp x x ≡ Less → ⊥
 not_before_itself x less = let same : is_eq (slice_cmp nat_cmp x x) ≡ true = is_eq-slice_cmp x x ∙ (bytes_eq-Decides x x).1 refl in
     let differs : is_eq (slice_cmp nat_cmp x x) ≡ false = ap is_eq less in cc (same, differs)
 
 module _ (e : Vec ℕ Global × BlobLog) (es : Logs) where
-  here : found_at (e ∷ es) e.0.items ≡ Some e.1
+  pub here : found_at (e ∷ es) e.0.items ≡ Some e.1
   here = ap (λ (b : Bool). cond b (Some e.1) (found_at es e.0.items)) (is_eq-slice_cmp e.0.items e.0.items ∙ (bytes_eq-Decides e.0.items e.0.items).1 refl)
 
-  past : (name : List ℕ) → name ≢ e.0.items → found_at (e ∷ es) name ≡ found_at es name
+  pub past : (name : List ℕ) → name ≢ e.0.items → found_at (e ∷ es) name ≡ found_at es name
   past name other = ap (λ (b : Bool). cond b (Some e.1) (found_at es name)) (is_eq-slice_cmp name e.0.items ∙ differ e.0.items name (λ is. other (sym is)))
 
-  at_head : AllByRecursion (λ y. by_bytes e.0 y ≡ Less) (keys_of es) → (v : Bool) → (now (track_of e.1)).there ≡ v
-      → Contains (cond (now (track_of e.1)).there (e.0.items ∷ there_in es) (there_in es)) e.0.items ↔ IsTrue (now (track_at (found_at (e ∷ es) e.0.items))).there
-  at_head all true is = (
-    λ found. ap (λ (o : Option BlobLog). (now (track_at o)).there) here ∙ is,
-    λ there. subst (λ (w : Bool). Contains (cond w (e.0.items ∷ there_in es) (there_in es)) e.0.items) (sym is) (in_head e.0.items (there_in es)),
-  )
-  at_head all false is = (
-    λ found. absurd (not_before_itself e.0.items (behind e.0 es all e.0.items (subst (λ (w : Bool). Contains (cond w (e.0.items ∷ there_in es) (there_in es)) e.0.items) is found))),
-    λ there. absurd (let gone = ap (λ (o : Option BlobLog). (now (track_at o)).there) here in cc (there, gone, is)),
-  )
+-- The names of the logs whose blob passes a test.
+module _ (keep : Blob → Bool) where
+  behind : (x : Vec ℕ Global) (es : Logs) → AllByRecursion (λ y. by_bytes x y ≡ Less) (keys_of es) → (name : List ℕ) → Contains (names_where keep es) name → slice_cmp nat_cmp x.items name ≡ Less
+  behind x [] all name found = absurd (in_none name found)
+  behind x (e ∷ es) all name found = behind_step x e.0 (names_where keep es) name all.0 (λ more. behind x es all.1 name more) (keep (now (track_of e.1))) found
 
-  smaller : (name : List ℕ) → name ≢ e.0.items → (v : Bool) → Contains (cond v (e.0.items ∷ there_in es) (there_in es)) name → Contains (there_in es) name
-  smaller name other true found = ⊎_elim (λ (is : e.0.items ≡ name). absurd (other (sym is))) (λ (more : Contains (there_in es) name). more) (in_split e.0.items name (there_in es) found)
-  smaller name other false found = found
+  behind_all : (x : Vec ℕ Global) (es : Logs) → AllByRecursion (λ y. by_bytes x y ≡ Less) (keys_of es) → AllByRecursion (λ (y : List ℕ). slice_cmp nat_cmp x.items y ≡ Less) (names_where keep es)
+  behind_all x [] all = tt
+  behind_all x (e ∷ es) all = all_step (λ (y : List ℕ). slice_cmp nat_cmp x.items y ≡ Less) e.0.items (names_where keep es) (keep (now (track_of e.1))) all.0 (behind_all x es all.1)
 
-  larger : (name : List ℕ) (v : Bool) → Contains (there_in es) name → Contains (cond v (e.0.items ∷ there_in es) (there_in es)) name
-  larger name true found = in_tail e.0.items name (there_in es) found
-  larger name false found = found
+  pub where_ascending : (es : Logs) → IsStrictlySortedBy by_bytes (keys_of es) → IsStrictlySortedBy (slice_cmp nat_cmp) (names_where keep es)
+  unfolding IsStrictlySortedBy
+  where_ascending [] sorted = tt
+  where_ascending (e ∷ es) sorted = sorted_step e.0.items (names_where keep es) (keep (now (track_of e.1))) (behind_all e.0 es sorted.0) (where_ascending es sorted.1)
 
-  at_tail : (name : List ℕ) → name ≢ e.0.items → (Contains (there_in es) name ↔ IsTrue (now (track_at (found_at es name))).there)
-      → (v : Bool) → Contains (cond v (e.0.items ∷ there_in es) (there_in es)) name ↔ IsTrue (now (track_at (found_at (e ∷ es) name))).there
-  at_tail name other rest v = let same = ap (λ (o : Option BlobLog). (now (track_at o)).there) (past name other) in
-      (λ found. same ∙ rest.0 (smaller name other v found), λ there. larger name v (rest.1 (sym same ∙ there)))
+  module _ (e : Vec ℕ Global × BlobLog) (es : Logs) where
+    at_head : AllByRecursion (λ y. by_bytes e.0 y ≡ Less) (keys_of es) → (v : Bool) → keep (now (track_of e.1)) ≡ v
+        → Contains (cond (keep (now (track_of e.1))) (e.0.items ∷ names_where keep es) (names_where keep es)) e.0.items ↔ IsTrue (keep (now (track_at (found_at (e ∷ es) e.0.items))))
+    at_head all true is = (
+      λ found. ap (λ (o : Option BlobLog). keep (now (track_at o))) (here e es) ∙ is,
+      λ there. subst (λ (w : Bool). Contains (cond w (e.0.items ∷ names_where keep es) (names_where keep es)) e.0.items) (sym is) (in_head e.0.items (names_where keep es)),
+    )
+    at_head all false is = (
+      λ found. absurd (not_before_itself e.0.items (behind e.0 es all e.0.items (subst (λ (w : Bool). Contains (cond w (e.0.items ∷ names_where keep es) (names_where keep es)) e.0.items) is found))),
+      λ there. absurd (let gone = ap (λ (o : Option BlobLog). keep (now (track_at o))) (here e es) in cc (there, gone, is)),
+    )
 
-never_there : (now (track_at None)).there ≡ false
+    smaller : (name : List ℕ) → name ≢ e.0.items → (v : Bool) → Contains (cond v (e.0.items ∷ names_where keep es) (names_where keep es)) name → Contains (names_where keep es) name
+    smaller name other true found = ⊎_elim (λ (is : e.0.items ≡ name). absurd (other (sym is))) (λ (more : Contains (names_where keep es) name). more) (in_split e.0.items name (names_where keep es) found)
+    smaller name other false found = found
+
+    larger : (name : List ℕ) (v : Bool) → Contains (names_where keep es) name → Contains (cond v (e.0.items ∷ names_where keep es) (names_where keep es)) name
+    larger name true found = in_tail e.0.items name (names_where keep es) found
+    larger name false found = found
+
+    at_tail : (name : List ℕ) → name ≢ e.0.items → (Contains (names_where keep es) name ↔ IsTrue (keep (now (track_at (found_at es name)))))
+        → (v : Bool) → Contains (cond v (e.0.items ∷ names_where keep es) (names_where keep es)) name ↔ IsTrue (keep (now (track_at (found_at (e ∷ es) name))))
+    at_tail name other rest v = let same = ap (λ (o : Option BlobLog). keep (now (track_at o))) (past e es name other) in
+        (λ found. same ∙ rest.0 (smaller name other v found), λ there. larger name v (rest.1 (sym same ∙ there)))
+
+  pub where_each : keep (now no_track) ≡ false → (es : Logs) → IsStrictlySortedBy by_bytes (keys_of es) → (name : List ℕ) → Contains (names_where keep es) name ↔ IsTrue (keep (now (track_at (found_at es name))))
+  unfolding IsStrictlySortedBy
+  where_each none [] sorted name = (λ found. absurd (in_none name found), λ is. absurd (cc (is, none)))
+  where_each none (e ∷ es) sorted name = elim (same_or_differ name e.0.items) [
+    | inl is ↦ subst (λ (l : List ℕ). Contains (names_where keep (e ∷ es)) l ↔ IsTrue (keep (now (track_at (found_at (e ∷ es) l))))) (sym is) (at_head e es sorted.0 (keep (now (track_of e.1))) refl)
+    | inr other ↦ at_tail e es name other (where_each none es sorted.1 name) (keep (now (track_of e.1)))
+  ]
+
+-- a blob that never was is not there
+never_there : (now no_track).there ≡ false
 unfolding replay
 never_there = refl
-
-pub there_each : (es : Logs) → IsStrictlySortedBy by_bytes (keys_of es) → (name : List ℕ) → Contains (there_in es) name ↔ IsTrue (now (track_at (found_at es name))).there
-unfolding IsStrictlySortedBy
-there_each [] sorted name = (λ found. absurd (in_none name found), λ is. absurd (cc (is, never_there)))
-there_each (e ∷ es) sorted name = elim (same_or_differ name e.0.items) [
-  | inl is ↦ subst (λ (l : List ℕ). Contains (there_in (e ∷ es)) l ↔ IsTrue (now (track_at (found_at (e ∷ es) l))).there) (sym is) (at_head e es sorted.0 (now (track_of e.1)).there refl)
-  | inr other ↦ at_tail e es name other (there_each es sorted.1 name) (now (track_of e.1)).there
-]
 
 -- one entry more is looked at
 pub there_more : (names : List (List ℕ)) (e : Vec ℕ Global × BlobLog) (es : Logs) (all : List (List ℕ)) (v : Bool) → (now (track_of e.1)).there ≡ v → names ++ there_in (e ∷ es) ≡ all → cond v (names ++ e.0.items ∷ []) names ++ there_in es ≡ all
@@ -125,9 +129,9 @@ there_more names e es all false is was = sym (ap (λ (w : Bool). names ++ cond w
 pub names_found : (tracks : Key → Track) (partition : List ℕ) (es : Logs) (names : List (List ℕ)) → IsStrictlySortedBy by_bytes (keys_of es) → names ≡ there_in es
     → ((name : List ℕ) → tracks (partition, name) ≡ track_at (found_at es name)) → NamesThere tracks partition names
 names_found tracks partition es names sorted is same = record {
-  ascending = subst (IsStrictlySortedBy (slice_cmp nat_cmp)) (sym is) (there_ascending es sorted);
+  ascending = subst (IsStrictlySortedBy (slice_cmp nat_cmp)) (sym is) (where_ascending (λ (b : Blob). b.there) es sorted);
   each = λ name. subst (λ (l : List (List ℕ)). Contains l name ↔ IsTrue (now (tracks (partition, name))).there) (sym is)
-      (subst (λ (t : Track). Contains (there_in es) name ↔ IsTrue (now t).there) (sym (same name)) (there_each es sorted name));
+      (subst (λ (t : Track). Contains (there_in es) name ↔ IsTrue (now t).there) (sym (same name)) (where_each (λ (b : Blob). b.there) never_there es sorted name));
 }
 
 pub no_names_found : (tracks : Key → Track) (partition : List ℕ) (names : List (List ℕ)) → names ≡ [] → ((name : List ℕ) → tracks (partition, name) ≡ no_track) → NamesThere tracks partition names

@@ -1,8 +1,12 @@
 -- The crash images that a device in memory picks.
-use Rattle.std.specs.Prelude.{◌≡◌, ◌&&◌, ◌||◌, ℕ, ◌+◌, ◌<◌, ◌%◌, ◌==◌, zero, suc, Bool, not, cond, ltb, leb, List, length, get_or, Option, Some, None, map}
-use Rattle.std.specs.List.{list_all, range_with_len}
+use Rattle.std.specs.Prelude.{◌≡◌, ◌↔◌, ◌&&◌, ◌||◌, ℕ, ◌+◌, ◌<◌, ◌%◌, ◌==◌, zero, suc, Bool, not, cond, ltb, leb, List, length, get_or, Option, Some, None, is_some, map, IsTrue}
+use Rattle.std.specs.declared.cmp.Ordering.{Ordering}
+use Rattle.std.specs.List.{list_all, range_with_len, sum_by, take_while, Contains}
+use Rattle.std.specs.List.Sorted.{IsStrictlySortedBy}
+use Rattle.std.specs.Ordering.{nat_cmp, ordering_then}
+use Rattle.std.specs.Cmp.Lexicographic.{slice_cmp}
 use Rattle.std.specs.Int.{bit_at}
-use Rattle.blob_device.specs.Disk.{Key, Blob, Disk, Image, shortest, longest}
+use Rattle.blob_device.specs.Disk.{Key, Blob, Disk, Image, same_key, shortest, longest}
 
 -- each blob as it last settled
 abbrev pub settled_of : Blob → Option (List ℕ)
@@ -47,6 +51,22 @@ mixed_of n first b = cond (b.there || b.unsure) (Some (mixed_bytes n first b)) N
 abbrev pub number_past : ℕ → ℕ → Blob → ℕ
 number_past n first b = cond (b.there || b.unsure) ((first + free_below b (mixed_length n b)) % 64) first
 
--- each blob is mixed, with some number for its first free place
-abbrev pub IsMixed : ℕ → Disk → Image → Type 0
-IsMixed n d image = (first : Key → ℕ) × ((k : Key) → image k ≡ mixed_of n (first k) (d k))
+-- keys in the order of their partitions' bytes, and in a partition of their names'
+abbrev pub key_cmp : Key → Key → Ordering
+key_cmp a b = ordering_then (slice_cmp nat_cmp a.0 b.0) (slice_cmp nat_cmp a.1 b.1)
+
+-- the keys that stand before k in the list
+abbrev pub ahead_of : Key → List Key → List Key
+ahead_of k keys = take_while (λ q. not (same_key q k)) keys
+
+-- how many free bytes the blobs at these keys have in the mixed image
+abbrev pub free_in : ℕ → Disk → List Key → ℕ
+free_in n d keys = sum_by (λ k. free_below (d k) (mixed_length n (d k))) keys
+
+-- The keys of the blobs that the image has stand in one ascending list, and each blob is mixed: the numbers of its free bytes
+-- begin at the number of free bytes of the blobs before it in the list.
+pub record IsMixed (n : ℕ) (d : Disk) (image : Image) : Type 0 where
+  pub keys : List Key
+  pub ascending : IsStrictlySortedBy key_cmp keys
+  pub listed : (k : Key) → Contains keys k ↔ IsTrue (is_some (image k))
+  pub each : (k : Key) → image k ≡ mixed_of n (free_in n d (ahead_of k keys)) (d k)
