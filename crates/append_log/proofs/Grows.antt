@@ -19,6 +19,10 @@ grown_next base rs n r lt is =
     ap (λ (l : List (Vec ℕ Global)). base ++ joined l) (take_more rs n r lt ∙ ap (λ (x : Vec ℕ Global). take n rs ++ x ∷ []) (sym is))
     ∙ ap (λ (l : List ℕ). base ++ l) (joined-push (take n rs) r) ∙ sym (append_assoc base (joined (take n rs)) r.items)
 
+-- how long the log is with one record more
+pub grown_size : (base content : List ℕ) (rs : List (Vec ℕ Global)) (n : ℕ) (r : Vec ℕ Global) → n < length rs → r ≡ get_or rs n r → content ≡ grown base rs n → length content + length r.items ≡ length (grown base rs (n + 1))
+grown_size base content rs n r lt is same = sym (ap length (grown_next base rs n r lt is ∙ ap (λ (l : List ℕ). l ++ r.items) (sym same)) ∙ length-append content r.items)
+
 pub grown_start : (k : Key) (records : List (Vec ℕ Global)) (t : Timeline) → Holds (disk t k).content (disk t k) → Grown k (disk t k).content records t t []
 unfolding joined
 grown_start k records t holds = record {
@@ -34,7 +38,7 @@ module _ (k : Key) (base : List ℕ) (records : List (Vec ℕ Global)) (a b c : 
   next = grown_next base records (length marks) r lt is ∙ ap (λ (l : List ℕ). l ++ r.items) (sym before.holds.content)
 
   size : length (disk b k).content + length r.items ≡ length (grown base records (length marks + 1))
-  size = sym (ap length next ∙ length-append (disk b k).content r.items)
+  size = grown_size base (disk b k).content records (length marks) r lt is before.holds.content
 
   -- also where it failed
   pub run_more : Stretches a c (marks ++ b.calls ∷ []) (Appending k (disk a) base records)

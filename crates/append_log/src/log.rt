@@ -1,5 +1,5 @@
 // Records at the end of a blob.
-ghost use Rattle.std.specs.Prelude.{◌≡◌, ◌≢◌, ◌+◌, ◌≤◌, ◌^◌, ◌++◌, length, OnOk, IsSome};
+ghost use Rattle.std.specs.Prelude.{◌≡◌, ◌≢◌, ◌+◌, ◌<◌, ◌≤◌, ◌^◌, ◌++◌, length, OnOk, IsSome};
 ghost use Rattle.blob_device.specs.Timeline.{disk, Always, OnlyAt, Stretches};
 ghost use Rattle.blob_device.specs.Disk.{Key};
 ghost use Rattle.blob_device.specs.Counts.{Rose};
@@ -27,6 +27,7 @@ pub fn append<D: Device>(
     ensures faults { D.faults dev.old ≤ D.faults dev.new }
     ensures fault { result ≡ Err (LogError.Device DevError.Fault) → Rose (D.faults dev.old) (D.faults dev.new) }
     ensures full { D.Tells → result ≡ Err LogError.Full → 2 ^ 64 ≤ length (disk (D.time dev.old) (partition.now, name.now)).content + length bytes.now }
+    ensures room { D.Tells → OnOk result (length (disk (D.time dev.old) (partition.now, name.now)).content + length bytes.now < 2 ^ 64) }
 {
     let len = dev.open_blob(partition, name)?;
     if bytes.len() as u64 > u64::MAX - len {
@@ -65,6 +66,10 @@ pub fn append_all<D: Device>(
     ensures other_entries { (q : Key) → q ≢ (partition.now, name.now) → D.opened dev.new q ≡ D.opened dev.old q }
     ensures faults { D.faults dev.old ≤ D.faults dev.new }
     ensures fault { result.result ≡ Err (LogError.Device DevError.Fault) → Rose (D.faults dev.old) (D.faults dev.new) }
+
+    // Full comes at the record that would reach the end of a u64, and where one would, the answer is not Ok.
+    ensures full { D.Tells → result.result ≡ Err LogError.Full → 2 ^ 64 ≤ length (grown (disk (D.time dev.old) (partition.now, name.now)).content records.now (length result.marks.items)) }
+    ensures room { D.Tells → OnOk result.result (0 < length records.now → length (grown (disk (D.time dev.old) (partition.now, name.now)).content records.now (length records.now)) < 2 ^ 64) }
 {
     let mut marks = Vec::new(alloc);
     'records: for record in records {

@@ -1,8 +1,8 @@
 -- What a source and a sink in memory mean.
-use Rattle.std.specs.Prelude.{ℕ, Bool, ◌==◌, List, drop}
-use Rattle.std.specs.List.{list_any}
+use Rattle.std.specs.Prelude.{ℕ, Bool, List, drop}
 use Rattle.blob_device.specs.declared.source.MemSource.{MemSource}
 use Rattle.blob_device.specs.declared.sink.MemSink.{MemSink}
+use Rattle.blob_device.specs.Failing.{is_listed}
 
 -- the bytes that are left
 abbrev pub source_left : MemSource → List ℕ
@@ -17,7 +17,7 @@ source_faults s = s.faults
 
 -- whether read number n was told to fail
 abbrev pub source_fails : MemSource → ℕ → Bool
-source_fails s number = list_any (λ n. n == number) s.failing.items
+source_fails s number = is_listed s.failing.items number
 
 -- the most bytes that one read gives
 abbrev pub source_piece : MemSource → ℕ
@@ -40,4 +40,4 @@ sink_faults s = s.faults
 
 -- whether write number n was told to fail
 abbrev pub sink_fails : MemSink → ℕ → Bool
-sink_fails s number = list_any (λ n. n == number) s.failing.items
+sink_fails s number = is_listed s.failing.items number

@@ -5,7 +5,7 @@ ghost use Rattle.blob_device.specs.Counts.{next};
 ghost use Rattle.std.specs.Io.KnownBytes.{Appends};
 ghost use Rattle.blob_device.specs.Streams.{Faulted, HasWritten};
 
-use crate::failing::is_listed;
+use crate::failing::is_in_list;
 use crate::{DevError, IoFault};
 use std::alloc::Global;
 use std::io::Write;
@@ -108,7 +108,7 @@ impl Sink for MemSink {
     {
         let number = self.writes;
         self.writes = number.saturating_add(1);
-        if is_listed(self.failing.as_slice(), number) {
+        if is_in_list(self.failing.as_slice(), number) {
             self.faults = self.faults.saturating_add(1);
             return Err(IoFault::Fault);
         }

@@ -4,7 +4,7 @@ ghost use Rattle.std.specs.Result.{IsOkUnless};
 ghost use Rattle.blob_device.specs.Counts.{next};
 ghost use Rattle.blob_device.specs.Streams.{Faulted, HasRead, known};
 
-use crate::failing::is_listed;
+use crate::failing::is_in_list;
 use crate::{DevError, IoFault};
 use std::alloc::Global;
 use std::io::Read;
@@ -116,7 +116,7 @@ impl Source for MemSource {
     {
         let number = self.reads;
         self.reads = number.saturating_add(1);
-        if is_listed(self.failing.as_slice(), number) {
+        if is_in_list(self.failing.as_slice(), number) {
             self.faults = self.faults.saturating_add(1);
             return Err(IoFault::Fault);
         }

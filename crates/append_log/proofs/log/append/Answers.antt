@@ -68,3 +68,8 @@ returns-clause-other_entries g c q other = others_opened _ _ _ _ (c.args.partiti
 
 pub returns-clause-open : goal.returns-clause-open
 returns-clause-open g c = subst (λ (o : OpenedList). IsSome (o (c.args.partition.now, c.args.name.now))) (sym c.sync.ensures.opened) (updated_open _ _ _ _ c.in_ok-write_at.ensures.opened (entered_open _ _ _ _ c.in_ok-len.ensures.opened))
+
+pub returns-clause-room : goal.returns-clause-room
+returns-clause-room g c t =
+    let is = len_is _ c.args.bytes.now _ (c.requires t) (c.in_ok-len.ensures.told t) (c.in_ok-len.ensures.length t) in
+    omega (arith, is, c.if-bytes-len.false)

@@ -4,9 +4,9 @@ use Rattle.std.proofs.lemmas.Bool.{false≢true}
 use Rattle.blob_device.proofs.Pieces.{read_split, none_left}
 use Rattle.blob_device.proofs.source.MemSourceSource.read.Goals as goal
 
-pub returns-then-is_listed-clause-succeeds : goal.returns-then-is_listed-clause-succeeds
-returns-then-is_listed-clause-succeeds c off =
-    absurd (false≢true (sym off ∙ sym (c.is_listed.ensures ∙ ap (list_any (λ n. n == c.args.self.now.reads)) c.as_slice.ensures.value) ∙ c.if-is_listed.true))
+pub returns-then-is_in_list-clause-succeeds : goal.returns-then-is_in_list-clause-succeeds
+returns-then-is_in_list-clause-succeeds c off =
+    absurd (false≢true (sym off ∙ sym (c.is_in_list.ensures ∙ ap (list_any (λ n. n == c.args.self.now.reads)) c.as_slice.ensures.value) ∙ c.if-is_in_list.true))
 
 pub returns-clause-told : goal.returns-clause-told
 returns-clause-told c told =
@@ -20,4 +20,4 @@ returns-clause-told c told =
 
 pub returns-clause-fails : goal.returns-clause-fails
 returns-clause-fails c on =
-    absurd (false≢true (sym c.if-is_listed.false ∙ (c.is_listed.ensures ∙ ap (list_any (λ n. n == c.args.self.now.reads)) c.as_slice.ensures.value) ∙ on))
+    absurd (false≢true (sym c.if-is_in_list.false ∙ (c.is_in_list.ensures ∙ ap (list_any (λ n. n == c.args.self.now.reads)) c.as_slice.ensures.value) ∙ on))
