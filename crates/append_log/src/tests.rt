@@ -1,19 +1,45 @@
 // Runs of the log over a device in memory, stopped at each call, with each crash image.
-ghost use Rattle.std.specs.Prelude.{◌≤◌};
+ghost use Rattle.std.specs.Prelude.{◌≡◌, ◌≤◌, IfOk};
+ghost use Rattle.blob_device.specs.Disk.{nothing};
+ghost use Rattle.blob_device.specs.Timeline.{disk};
+ghost use Rattle.blob_device.specs.MemoryMeaning.{memory_time};
 
 use crate::{Appended, LogError, append_all};
 use blob_device::{CrashChoice, DevError, Device, Image, Memory};
 use std::alloc::{AllocError, Global};
 use std::test::Fail;
 
-const CHOICES: [CrashChoice; 6] = [
+const CHOICES: [CrashChoice; 10] = [
     CrashChoice::Settled,
     CrashChoice::AsRead,
     CrashChoice::Mixed(0),
     CrashChoice::Mixed(1),
     CrashChoice::Mixed(2),
     CrashChoice::Mixed(3),
+    CrashChoice::Mixed(4),
+    CrashChoice::Mixed(5),
+    CrashChoice::Mixed(6),
+    CrashChoice::Mixed(7),
 ];
+
+// Which calls fail: every call from a number on, or one call alone.
+#[derive(Clone, Copy, Debug)]
+enum Plan {
+    From(u64),
+    At(u64),
+}
+
+// An empty device with this plan.
+fn device(alloc: Global, plan: Plan) -> Result<Memory, DevError>
+    ensures { IfOk result (λ m. disk (memory_time m) ≡ (λ _. nothing)) }
+{
+    let mut dev = Memory::new(alloc);
+    match plan {
+        Plan::From(first) => dev.fuse_at(first),
+        Plan::At(nth) => dev.fail_at(nth)?,
+    }
+    Ok(dev)
+}
 
 fn records(alloc: Global) -> Result<Vec<Vec<u8>>, AllocError> {
     let mut all = Vec::new(alloc);
@@ -22,11 +48,10 @@ fn records(alloc: Global) -> Result<Vec<Vec<u8>>, AllocError> {
     Ok(all)
 }
 
-// Opens a new log and appends two records, with a fuse at this call.
-fn run_to(alloc: Global, fuse: u64) -> Result<(Memory, Option<Appended>), DevError> {
+// Opens a new log and appends two records, on a device with this plan.
+fn run_to(alloc: Global, plan: Plan) -> Result<(Memory, Option<Appended>), DevError> {
     let records = records(alloc)?;
-    let mut dev = Memory::new(alloc);
-    dev.fuse_at(fuse);
+    let mut dev = device(alloc, plan)?;
     match dev.open_blob("p", b"log") {
         Ok(_) => {}
         Err(_) => return Ok((dev, None)),
@@ -43,11 +68,11 @@ fn bytes_of<'a>(image: &'a Image, partition: &str, name: &[u8]) -> &'a [u8] {
     image.blob(partition, name).unwrap_or(b"none")
 }
 
-// How many bytes were synced where the run was stopped at this call: calls 1 to 3 append the first record, 4 to 6 the second.
-fn synced(fuse: u64) -> usize
+// How many bytes were synced where call number `stopped` was the first to fail: calls 1 to 3 append the first record, 4 to 6 the second.
+fn synced(stopped: u64) -> usize
     ensures { result ≤ 4 }
 {
-    match fuse {
+    match stopped {
         0..=3 => 0,
         4..=6 => 2,
         _ => 4,
@@ -56,7 +81,7 @@ fn synced(fuse: u64) -> usize
 
 #[test]
 fn two_records(rt: HostRuntime) -> Result<(), Fail> {
-    let (dev, appended) = run_to(rt.alloc(), 100)?;
+    let (dev, appended) = run_to(rt.alloc(), Plan::From(100))?;
     let appended = appended.ok_or("opened")?;
     assert_eq!(rt; appended.result, Ok(()));
     assert_eq!(rt; appended.marks.as_slice(), [1, 4].as_slice());
@@ -69,24 +94,36 @@ fn two_records(rt: HostRuntime) -> Result<(), Fail> {
 
 #[test]
 fn stopped_at_each_call(rt: HostRuntime) -> Result<(), Fail> {
-    for fuse in 0..8 {
-        let (dev, appended) = run_to(rt.alloc(), fuse)?;
-        if fuse < 7 {
-            assert_eq!(rt; dev.faults(), 1, "stopped at {fuse}");
+    for nth in 0..8 {
+        for plan in [Plan::From(nth), Plan::At(nth)] {
+            let (dev, appended) = run_to(rt.alloc(), plan)?;
+            assert_eq!(rt; dev.faults(), if nth < 7 { 1 } else { 0 }, "{plan:?}");
+            if let Some(appended) = appended {
+                let failed = appended.result == Err(LogError::Device(DevError::Fault));
+                assert_eq!(rt; failed, nth < 7, "{plan:?}");
+            }
+            for choice in CHOICES {
+                let image = dev.pick_crash(rt.alloc(), choice)?;
+                let bytes = image.blob("p", b"log").unwrap_or(b"");
+                let kept = synced(nth);
+                assert!(rt; bytes.starts_with(b"hiyo".split_at(kept).0), "{plan:?}");
+                assert!(rt; bytes.len() <= kept + 2, "{plan:?}");
+            }
         }
-        if let Some(appended) = appended {
-            let failed = appended.result == Err(LogError::Device(DevError::Fault));
-            assert_eq!(rt; failed, fuse < 7, "stopped at {fuse}");
-        }
+    }
+    Ok(())
+}
+
+#[test]
+fn opening_again_settles(rt: HostRuntime) -> Result<(), Fail> {
+    for nth in 0..7 {
+        let (mut dev, _) = run_to(rt.alloc(), Plan::At(nth))?;
+        let len = dev.open_blob("p", b"log")?;
+        let read = dev.image(rt.alloc())?;
+        assert_eq!(rt; log_of(&read).len() as u64, len, "call {nth} failed");
         for choice in CHOICES {
             let image = dev.pick_crash(rt.alloc(), choice)?;
-            let bytes = image.blob("p", b"log").unwrap_or(b"");
-            let kept = synced(fuse);
-            assert!(rt;
-                bytes.starts_with(b"hiyo".split_at(kept).0),
-                "stopped at {fuse}"
-            );
-            assert!(rt; bytes.len() <= kept + 2, "stopped at {fuse}");
+            assert_eq!(rt; log_of(&image), log_of(&read), "call {nth} failed");
         }
     }
     Ok(())
@@ -95,7 +132,7 @@ fn stopped_at_each_call(rt: HostRuntime) -> Result<(), Fail> {
 #[test]
 fn a_failed_write_leaves_half(rt: HostRuntime) -> Result<(), Fail> {
     // The second append's write is call 5. Of its two bytes one stays.
-    let (dev, _) = run_to(rt.alloc(), 5)?;
+    let (dev, _) = run_to(rt.alloc(), Plan::From(5))?;
     let image = dev.image(rt.alloc())?;
     assert_eq!(rt; log_of(&image), b"hiy".as_slice());
     let settled = dev.pick_crash(rt.alloc(), CrashChoice::Settled)?;
@@ -111,7 +148,7 @@ fn a_failed_write_leaves_half(rt: HostRuntime) -> Result<(), Fail> {
 
 #[test]
 fn a_failed_removal_may_have_removed(rt: HostRuntime) -> Result<(), Fail> {
-    let (mut dev, _) = run_to(rt.alloc(), 100)?;
+    let (mut dev, _) = run_to(rt.alloc(), Plan::From(100))?;
     dev.fuse_at(7);
     assert_eq!(rt; dev.remove("p", b"log"), Err(DevError::Fault));
     let image = dev.image(rt.alloc())?;
@@ -127,7 +164,7 @@ fn a_failed_removal_may_have_removed(rt: HostRuntime) -> Result<(), Fail> {
 #[test]
 fn calls_fail_as_told(rt: HostRuntime) -> Result<(), Fail> {
     // A fuse fails every call from its number on.
-    let (mut dev, _) = run_to(rt.alloc(), 100)?;
+    let (mut dev, _) = run_to(rt.alloc(), Plan::From(100))?;
     dev.fuse_at(7);
     assert_eq!(rt; dev.remove("p", b"log"), Err(DevError::Fault));
     assert_eq!(rt; dev.remove("p", b"log"), Err(DevError::Fault));
