@@ -4,7 +4,7 @@ use Rattle.std.specs.List.{list_all, range_with_len}
 use Rattle.std.proofs.lemmas.Bool.Decides.{Decides-ltb, nat_tests}
 use Rattle.std.proofs.lemmas.List.FromFn.{fill_by_all, get_or-map-range_with_len, length-map-range_with_len}
 use Rattle.blob_device.specs.declared.blob_log.Call.{Call}
-use Rattle.blob_device.specs.Disk.{Blob, Outside, AreBytes, HoldsBytes, MayHold, MayLeave, shortest, longest, least, greatest, begun, past}
+use Rattle.blob_device.specs.Disk.{Blob, Outside, AreBytes, HoldsBytes, PastAgrees, MayHold, MayLeave, shortest, longest, least, greatest, begun, past}
 use Rattle.blob_device.specs.Change.{Change, Make, Write, Resize, Settle, Remove, Look, written, resized}
 use Rattle.blob_device.specs.Calls.{result_of, change_of, after, replay, now, Track}
 use Rattle.blob_device.specs.Laws.{Between}
@@ -20,56 +20,7 @@ greatest_first : (n : ℕ) (cs : List (List ℕ)) → n ≤ greatest n cs
 greatest_first n [] = omega arith
 greatest_first n (c ∷ cs) = omega (arith, greatest_first n cs)
 
--- below the least length and outside the loose ranges, the blob reads as it settled
-pub Agrees : Blob → Type 0
-Agrees b = (i : ℕ) → i < shortest b → Outside b.loose i → get_or b.settled i 0 ≡ get_or b.content i 0
-
-agrees_written : (b : Blob) → ((i : ℕ) → i < shortest b → Outside b.loose i → get_or b.settled i 0 ≡ get_or b.content i 0) → (at : ℕ) (bytes part : List ℕ) → length part ≤ length bytes
-    → (i : ℕ) → i < least (length b.settled) (b.since ++ written b.content at bytes ∷ []) → Outside (b.loose ++ (at, length bytes) ∷ []) i → get_or b.settled i 0 ≡ get_or (written b.content at part) i 0
-agrees_written b was at bytes part le i lt out =
-    let outs = outside_before b.loose at (length bytes) i out in
-    was i (omega (arith, lt, least_push (length b.settled) b.since (written b.content at bytes))) outs.0 ∙ sym (written_out b.content at part i (nearer outs.1))
-  where
-    nearer : (i < at) ⊎ (at + length bytes ≤ i) → (i < at) ⊎ (at + length part ≤ i)
-    nearer (inl below) = inl below
-    nearer (inr beyond) = inr (omega (arith, beyond, le))
-
-agrees_made : (b : Blob) → Agrees b → (v : Bool) → Agrees (cond v b (record b { content = []; unsure = true; since = b.since ++ [] ∷ [] }))
-unfolding Agrees
-agrees_made b was true = was
-agrees_made b was false = λ i lt out. absurd (omega (arith, lt, least_push (length b.settled) b.since []))
-
-agrees_result : (change : Change) (f : Bool) (b : Blob) → Agrees b → Agrees (result_of change f b)
-unfolding Agrees
-agrees_result Make true b was = agrees_made b was b.there
-agrees_result Make false b was = λ i lt out. refl
-agrees_result (Write at bytes) true b was = agrees_written b was at bytes (take (length bytes / 2) bytes) (omega (arith, length-take (length bytes / 2) bytes))
-agrees_result (Write at bytes) false b was = agrees_written b was at bytes bytes (omega arith)
-agrees_result (Resize n) true b was = λ i lt out. was i (omega (arith, lt, least_push (length b.settled) b.since (resized b.content n))) out
-agrees_result (Resize n) false b was = λ i lt out. was i (omega (arith, lt, least_push (length b.settled) b.since (resized b.content n))) out
-    ∙ sym (resized_below b.content n i (omega (arith, lt, least_push (length b.settled) b.since (resized b.content n), length-resized b.content n)))
-agrees_result Settle true b was = was
-agrees_result Settle false b was = λ i lt out. refl
-agrees_result Remove true b was = λ i lt out. was i lt out
-agrees_result Remove false b was = λ i lt out. refl
-agrees_result Look true b was = was
-agrees_result Look false b was = was
-
-agrees_replay : (cs : List Call) (b : Blob) → Agrees b → Agrees (replay cs b)
-unfolding replay
-agrees_replay [] b was = was
-agrees_replay (c ∷ cs) b was = agrees_replay cs (after c b) (agrees_result (change_of c.step) c.failed b was)
-
-pub agrees_now : (t : Track) → Agrees (now t)
-unfolding Agrees
-agrees_now t = agrees_replay t.calls (begun t.start) (first t.start)
-  where
-    first : (o : Option (List ℕ)) → Agrees (begun o)
-    first None i lt out = refl
-    first (Some c) i lt out = refl
-
-pub settled_left : (b : Blob) → Agrees b → HoldsBytes b → MayLeave b (settled_of b)
-unfolding Agrees
+pub settled_left : (b : Blob) → PastAgrees b → HoldsBytes b → MayLeave b (settled_of b)
 settled_left b agrees holds = go b.there refl
   where
     go : (v : Bool) → b.there ≡ v → MayLeave b (cond v (Some b.settled) None)
@@ -78,7 +29,7 @@ settled_left b agrees holds = go b.there refl
       record {
         no_shorter = least_first (length b.settled) b.since;
         no_longer = greatest_first (length b.settled) b.since;
-        kept = agrees;
+        kept = agrees.0;
         bytes = holds.past.0;
       },
     )

@@ -6,10 +6,12 @@ use Rattle.std.specs.Option.{option_map}
 use Rattle.std.proofs.lemmas.Bool.{and_parts}
 use Rattle.std.proofs.lemmas.Bool.Decides.{Decides-ltb, nat_tests}
 use Rattle.blob_device.specs.declared.blob_log.Call.{Call}
-use Rattle.blob_device.specs.Disk.{Key, Blob, settled_at, shortest, longest, least, greatest, AreBytes, HoldsBytes, MayLeave, reads, begun}
+use Rattle.blob_device.specs.Disk.{Key, Blob, settled_at, shortest, longest, least, greatest, AreBytes, HoldsBytes, PastAgrees, MayLeave, reads, begun}
 use Rattle.blob_device.specs.Change.{Change, Make, Write, Resize, Settle, Remove, Look, during, written, resized}
 use Rattle.blob_device.specs.Timeline.{disk}
 use Rattle.blob_device.specs.Opened.{Opened}
+pub use Rattle.blob_device.specs.Agreeing.{all_added}
+use Rattle.blob_device.specs.Agreeing.{agrees_now}
 use Rattle.blob_device.specs.Lengths.{length-written, least_push, greatest_push}
 use Rattle.blob_device.specs.Calls.{change_of, result_of, after, replay, blob_at, now, Track, timeline_of, entry_of, all_bytes, writes_bytes, starts_with_bytes, IsSound}
 
@@ -119,10 +121,6 @@ pub bytes_tested : (c : List ℕ) → all_bytes c ≡ true → AreBytes c
 bytes_tested [] all = tt
 bytes_tested (x ∷ xs) all = let parts = and_parts (ltb x 256) (all_bytes xs) all in ((Decides-ltb x 256).0 parts.0, bytes_tested xs parts.1)
 
-pub all_added : (Q : List ℕ → Type 0) (cs : List (List ℕ)) (c : List ℕ) → AllByRecursion Q cs → Q c → AllByRecursion Q (cs ++ c ∷ [])
-all_added Q [] c all new = (new, tt)
-all_added Q (d ∷ cs) c all new = (all.0, all_added Q cs c all.1 new)
-
 holds_settled : (c : List ℕ) → AreBytes c → HoldsBytes (settled_at c)
 holds_settled c all = record { content = all; past = (all, tt) }
 
@@ -195,3 +193,6 @@ as_read_blob b false is lengths bytes = ap (λ (w : Bool). not w || b.unsure) is
 pub as_read : (tracks : Key → Track) (n : ℕ) (k : Key) → IsSound n (tracks k) → MayLeave (disk (timeline_of tracks n) k) (reads (disk (timeline_of tracks n) k))
 as_read tracks n k sound = subst (λ (b : Blob). MayLeave b (reads b)) (sym (disk_now tracks n k sound))
     (as_read_blob (now (tracks k)) (now (tracks k)).there refl (now_between (tracks k)) (now_holds_bytes n (tracks k) sound).content)
+
+pub past_agrees : (tracks : Key → Track) (n : ℕ) (k : Key) → IsSound n (tracks k) → PastAgrees (disk (timeline_of tracks n) k)
+past_agrees tracks n k sound = subst PastAgrees (sym (disk_now tracks n k sound)) (agrees_now (tracks k))

@@ -1,3 +1,4 @@
+pub mod Agreeing
 pub mod Building
 pub mod Calls
 pub mod Change
@@ -17,6 +18,7 @@ pub mod NameList
 pub mod NamesThere
 pub mod Opened
 pub mod Picked
+pub mod Places
 pub mod StdStreams
 pub mod Streams
 pub mod Tables

@@ -4,10 +4,11 @@ use Rattle.blob_device.specs.Timeline.{disk}
 use Rattle.blob_device.specs.Tables.{at_key}
 use Rattle.blob_device.specs.Calls.{now, timeline_of}
 use Rattle.blob_device.specs.Tracks.{tracks_of}
+use Rattle.blob_device.specs.Agreeing.{agrees_now}
 use Rattle.blob_device.specs.Laws.{disk_now, now_holds_bytes}
 use Rattle.blob_device.specs.Picked.{settled_of}
 use Rattle.blob_device.proofs.ImageLemmas.{made_at}
-use Rattle.blob_device.proofs.CrashLemmas.{settled_left, agrees_now}
+use Rattle.blob_device.proofs.CrashLemmas.{settled_left}
 use Rattle.blob_device.proofs.memory.Memory.as_settled.Goals as goal
 
 pub returns-clause-settled : goal.returns-clause-settled
