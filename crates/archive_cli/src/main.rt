@@ -4,7 +4,7 @@
 //! give to the script. This file only makes the device, the source and the sink, and says on standard error what is wrong.
 #![tactic(auto)]
 
-ghost use Rattle.std.specs.Prelude.{◌≡◌};
+ghost use Rattle.std.specs.Prelude.{◌≡◌, [], ◌∷◌, Contains, IsSome, IsNone};
 
 mod input;
 mod output;
@@ -50,7 +50,9 @@ fn main(rt: HostRuntime) -> ExitCode {
 }
 
 // The status of the process.
-fn status(rt: &HostRuntime) -> u8 {
+fn status(rt: &HostRuntime) -> u8
+    ensures { Contains (0 ∷ 1 ∷ 2 ∷ 3 ∷ 4 ∷ 6 ∷ 7 ∷ []) result }
+{
     let words = match arguments(rt) {
         Ok(words) => words,
         Err(error) if error.kind() == ErrorKind::OutOfMemory => {
@@ -78,7 +80,10 @@ fn arguments(rt: &HostRuntime) -> io::Result<Vec<String>> {
 }
 
 // Runs the program on this device, between standard input and output.
-fn run_on<D: Device>(rt: &HostRuntime, words: &[String], device: &mut D) -> u8 {
+fn run_on<D: Device>(rt: &HostRuntime, words: &[String], device: &mut D) -> u8
+    ensures status { Contains (0 ∷ 1 ∷ 2 ∷ 3 ∷ 4 ∷ 6 ∷ 7 ∷ []) result }
+    ensures device { device.new ≡ device.old }
+{
     let mut input = StdSource::new(rt.reader());
     let mut out = StdSink::new(io::writer(rt));
     report(
@@ -87,7 +92,9 @@ fn run_on<D: Device>(rt: &HostRuntime, words: &[String], device: &mut D) -> u8 {
     )
 }
 
-fn show(rt: &HostRuntime, text: &str) -> u8 {
+fn show(rt: &HostRuntime, text: &str) -> u8
+    ensures { Contains (0 ∷ 4 ∷ []) result }
+{
     match println!(rt; "{text}") {
         Ok(()) => Status::Done as u8,
         Err(_) => report(rt, Status::WriteFault as u8),
@@ -106,7 +113,10 @@ fn report(rt: &HostRuntime, status: u8) -> u8
 }
 
 // What a status other than 0 means.
-fn fault_text(status: u8) -> Option<&'static str> {
+fn fault_text(status: u8) -> Option<&'static str>
+    ensures silent { status ≡ 0 → IsNone result }
+    ensures said { Contains (1 ∷ 2 ∷ 3 ∷ 4 ∷ 6 ∷ 7 ∷ []) status → IsSome result }
+{
     match status {
         1 => Some(USAGE),
         2 => Some("the script has a bad line, whose number is on standard output"),
