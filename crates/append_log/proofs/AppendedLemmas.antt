@@ -1,9 +1,9 @@
 -- What a crash leaves while a record is appended.
-use Rattle.std.proofs.Common.{◌≡◌, ℕ, ◌+◌, ◌-◌, ◌<◌, ◌^◌, ◌≢◌, Option, ◌≤◌, List, [], ◌++◌, length, refl, sym, ◌∙◌, ap, subst, arith, length-append, cond, Bool, true, Ok}
+use Rattle.std.proofs.Common.{◌≡◌, ℕ, ◌+◌, ◌-◌, ◌<◌, ◌^◌, ◌≢◌, ◌≤◌, List, [], ◌++◌, length, refl, sym, ◌∙◌, ap, subst, arith, cond, Bool, Ok}
 use Rattle.blob_device.specs.Disk.{Key, Blob, Disk, settled_at}
-use Rattle.blob_device.specs.Change.{Make, Write, Settle, done, written}
+use Rattle.blob_device.specs.Change.{Make, Write, Settle, written}
 use Rattle.blob_device.specs.Timeline.{Timeline, disk, Passes, Always, OnlyAt}
-use Rattle.blob_device.specs.Keeps.{Keeps, NoLonger, Stays}
+use Rattle.blob_device.specs.Keeps.{Stays}
 use Rattle.blob_device.proofs.Moments.{always_weaker, ok_blob}
 use Rattle.blob_device.proofs.Bytes.{written_end}
 use Rattle.blob_device.proofs.KeepsLemmas.{keeps_all}

@@ -1,5 +1,5 @@
 -- What a crash leaves of a log.
-use Rattle.std.specs.Prelude.{◌≡◌, ◌≢◌, ℕ, ◌+◌, ◌≤◌, List, [], ◌∷◌, ◌++◌, length, take, Option, Vec, IsSomeAnd}
+use Rattle.std.specs.Prelude.{◌≡◌, ◌≢◌, ℕ, ◌+◌, List, [], ◌∷◌, ◌++◌, length, take, Option, Vec, IsSomeAnd}
 use Rattle.std.specs.declared.alloc.Global.{Global}
 use Rattle.blob_device.specs.Disk.{Key, Blob, Disk, MayLeave}
 use Rattle.blob_device.specs.Timeline.{Timeline, disk, OnlyAt, Stretches}

@@ -1,16 +1,11 @@
 -- The picked images are ones that a crash may leave.
-use Rattle.std.proofs.Common.{◌≡◌, ◌⊎◌, inl, inr, ℕ, zero, suc, ◌+◌, ◌/◌, ◌<◌, ◌≤◌, ◌%◌, Bool, true, false, cond, not, ltb, leb, ◌&&◌, ◌||◌, List, [], ◌∷◌, ◌++◌, length, get_or, map, take, length-take, Option, Some, None, refl, sym, ◌∙◌, ap, arith}
+use Rattle.std.proofs.Common.{◌≡◌, ◌⊎◌, inl, inr, ℕ, zero, suc, ◌+◌, ◌<◌, ◌≤◌, ◌%◌, Bool, true, false, cond, not, ltb, leb, ◌&&◌, ◌||◌, List, [], ◌∷◌, length, get_or, map, Some, None, refl, ◌∙◌, ap, arith}
 use Rattle.std.specs.List.{list_all, range_with_len}
 use Rattle.std.proofs.lemmas.Bool.Decides.{Decides-ltb, nat_tests}
 use Rattle.std.proofs.lemmas.List.FromFn.{fill_by_all, get_or-map-range_with_len, length-map-range_with_len}
-use Rattle.blob_device.specs.declared.blob_log.Call.{Call}
-use Rattle.blob_device.specs.Disk.{Blob, Outside, AreBytes, HoldsBytes, PastAgrees, MayHold, MayLeave, shortest, longest, least, greatest, begun, past}
-use Rattle.blob_device.specs.Change.{Change, Make, Write, Resize, Settle, Remove, Look, written, resized}
-use Rattle.blob_device.specs.Calls.{result_of, change_of, after, replay, now, Track}
+use Rattle.blob_device.specs.Disk.{Blob, Outside, AreBytes, HoldsBytes, PastAgrees, MayHold, MayLeave, shortest, longest, least, greatest, past}
 use Rattle.blob_device.specs.Laws.{Between}
 use Rattle.blob_device.specs.Picked.{settled_of, is_set, is_free, free_below, mixed_length, mixed_byte, mixed_bytes, mixed_of, IsMixedBlob}
-use Rattle.blob_device.proofs.Bytes.{length-resized, least_push, outside_before}
-use Rattle.blob_device.proofs.Places.{written_out, resized_below}
 
 least_first : (n : ℕ) (cs : List (List ℕ)) → least n cs ≤ n
 least_first n [] = omega arith

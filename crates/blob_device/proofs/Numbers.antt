@@ -1,6 +1,6 @@
 -- The free bytes of a mixed image, numbered over all blobs in the order of their keys.
-use Rattle.std.proofs.Common.{◌≡◌, ◌≢◌, ◌⊎◌, ◌↔◌, inl, inr, ⊎_elim, ℕ, zero, suc, ◌+◌, ◌<◌, ◌%◌, Bool, true, false, cond, not, ltb, ◌&&◌, ◌||◌, List, [], ◌∷◌, ◌++◌, length, get_or, map, Option, Some, None, is_some, Vec, IsTrue, Ordering, append_assoc, refl, sym, ◌∙◌, ap, subst, arith}
-use Rattle.std.specs.List.{Contains, AllByRecursion, sum_by, take_while, range_with_len}
+use Rattle.std.proofs.Common.{◌≡◌, ◌≢◌, ◌↔◌, inl, inr, ⊎_elim, ℕ, zero, suc, ◌+◌, ◌<◌, ◌%◌, Bool, true, false, cond, not, ltb, ◌&&◌, ◌||◌, List, [], ◌∷◌, ◌++◌, length, get_or, map, Option, Some, None, is_some, Vec, IsTrue, Ordering, refl, sym, ◌∙◌, ap, subst, arith}
+use Rattle.std.specs.List.{Contains, AllByRecursion, range_with_len}
 use Rattle.std.specs.List.Sorted.{IsStrictlySortedBy}
 use Rattle.std.specs.Map.{lookup, keys_of}
 use Rattle.std.specs.Option.{option_and_then}
@@ -25,7 +25,6 @@ use Rattle.blob_device.specs.Picked.{key_cmp, ahead_of, free_in, is_free, is_set
 use Rattle.blob_device.specs.Tables.{at_name, at_key, Partitions, by_bytes}
 use Rattle.blob_device.specs.Tracks.{track_of, track_at}
 use Rattle.blob_device.proofs.Maps.{same_or_differ, differ}
-use Rattle.blob_device.proofs.MixedLemmas.{mod_step}
 use Rattle.blob_device.proofs.NamesLemmas.{Logs, found_at, here, past, not_before_itself, where_ascending, where_each}
 
 abbrev Shelves : Type 0
@@ -246,7 +245,7 @@ module _ (bits : ℕ) (d : Disk) where
       → IsAt bits (state_in mixer_next (mixer_next s e.1) es q) (m + free_in bits d (ahead_of (key p q) (map (key p) (cond v (e.0.items ∷ names_where may_be es) (names_where may_be es)) ++ rest)))
   name_step p e es m s q rest other true next more =
       let ahead : ahead_of (key p q) (key p e.0.items ∷ (name_keys p es ++ rest)) ≡ key p e.0.items ∷ ahead_of (key p q) (name_keys p es ++ rest) =
-          ahead_one (key p q) (key p e.0.items) (name_keys p es ++ rest) (other_name p e.0.items q other) in
+      ahead_one (key p q) (key p e.0.items) (name_keys p es ++ rest) (other_name p e.0.items q other) in
       moved _ (m + free_of (key p e.0.items) + free_in bits d (ahead_of (key p q) (name_keys p es ++ rest))) (m + free_in bits d (ahead_of (key p q) (key p e.0.items ∷ (name_keys p es ++ rest))))
       (omega (arith, ap (free_in bits d) ahead, sum_by-cons free_of (key p e.0.items) (ahead_of (key p q) (name_keys p es ++ rest))))
       (more (m + free_of (key p e.0.items)) next)
@@ -260,7 +259,7 @@ module _ (bits : ℕ) (d : Disk) where
     | inl is ↦
         let mine : may_be (now (track_of e.1)) ≡ true = sym (ap (λ (o : Option BlobLog). may_be (now (track_at o))) (ap (found_at (e ∷ es)) is ∙ here e es)) ∙ may in
         let front : name_keys p (e ∷ es) ++ rest ≡ key p q ∷ (name_keys p es ++ rest) =
-            ap (λ (v : Bool). map (key p) (cond v (e.0.items ∷ names_where may_be es) (names_where may_be es)) ++ rest) mine ∙ ap (λ (x : List ℕ). key p x ∷ (name_keys p es ++ rest)) (sym is) in
+        ap (λ (v : Bool). map (key p) (cond v (e.0.items ∷ names_where may_be es) (names_where may_be es)) ++ rest) mine ∙ ap (λ (x : List ℕ). key p x ∷ (name_keys p es ++ rest)) (sym is) in
         let none : ahead_of (key p q) (name_keys p (e ∷ es) ++ rest) ≡ [] = ap (ahead_of (key p q)) front ∙ ahead_none (key p q) (name_keys p es ++ rest) in
         let still : state_in mixer_next s (e ∷ es) q ≡ s = ap (λ (b : Bool). cond b s (state_in mixer_next (mixer_next s e.1) es q)) ((bytes_eq-Decides q e.0.items).1 is) in
         subst (λ (t : Mixer). IsAt bits t (m + free_in bits d (ahead_of (key p q) (name_keys p (e ∷ es) ++ rest)))) (sym still)
@@ -281,7 +280,7 @@ module _ (bits : ℕ) (d : Disk) where
         let at_p : lookup (test k.0) (p ∷ ss) ≡ Some p.1 = ap (λ (b : Bool). cond b (Some p.1) (lookup (test k.0) ss)) (is_eq-slice_cmp k.0 p.0.items ∙ (bytes_eq-Decides k.0 p.0.items).1 is) in
         let mine : may_be (now (track_at (found_at p.1.entries k.1))) ≡ true = sym (ap (λ o. may_be (blob_in o k.1)) at_p) ∙ may in
         let inside : state_at mixer_next s (p ∷ ss) k ≡ state_in mixer_next s p.1.entries k.1 =
-            ap (λ (b : Bool). cond b (state_in mixer_next s p.1.entries k.1) (state_at mixer_next (after_all mixer_next s p.1.entries) ss k)) ((bytes_eq-Decides k.0 p.0.items).1 is) in
+        ap (λ (b : Bool). cond b (state_in mixer_next s p.1.entries k.1) (state_at mixer_next (after_all mixer_next s p.1.entries) ss k)) ((bytes_eq-Decides k.0 p.0.items).1 is) in
         subst (λ (t : Mixer). IsAt bits t (m + free_in bits d (ahead_of k (mixed_keys (p ∷ ss))))) (sym inside)
         (subst (λ (r : List ℕ). IsAt bits (state_in mixer_next s p.1.entries k.1) (m + free_in bits d (ahead_of (key r k.1) (mixed_keys (p ∷ ss))))) (sym is)
         (up_to_name p.0.items p.1.entries s m k.1 (mixed_keys ss) at told.0 mine))
@@ -289,13 +288,13 @@ module _ (bits : ℕ) (d : Disk) where
         let at_p : lookup (test k.0) (p ∷ ss) ≡ lookup (test k.0) ss = ap (λ (b : Bool). cond b (Some p.1) (lookup (test k.0) ss)) (is_eq-slice_cmp k.0 p.0.items ∙ differ p.0.items k.0 (λ e. other (sym e))) in
         let later : may_be (blob_in (lookup (test k.0) ss) k.1) ≡ true = sym (ap (λ o. may_be (blob_in o k.1)) at_p) ∙ may in
         let on : state_at mixer_next s (p ∷ ss) k ≡ state_at mixer_next (after_all mixer_next s p.1.entries) ss k =
-            ap (λ (b : Bool). cond b (state_in mixer_next s p.1.entries k.1) (state_at mixer_next (after_all mixer_next s p.1.entries) ss k)) (differ p.0.items k.0 (λ e. other (sym e))) in
+        ap (λ (b : Bool). cond b (state_in mixer_next s p.1.entries k.1) (state_at mixer_next (after_all mixer_next s p.1.entries) ss k)) (differ p.0.items k.0 (λ e. other (sym e))) in
         let names = names_where may_be p.1.entries in
         let ahead : ahead_of k (mixed_keys (p ∷ ss)) ≡ name_keys p.0.items p.1.entries ++ ahead_of k (mixed_keys ss) =
-            ahead_past k (name_keys p.0.items p.1.entries) (mixed_keys ss) (all_map (key p.0.items) (λ (x : Key). same_key x k ≡ false) names
-            (all_each (λ (x : List ℕ). same_key (key p.0.items x) k ≡ false) (λ x. other_partition p.0.items x k other) names)) in
+        ahead_past k (name_keys p.0.items p.1.entries) (mixed_keys ss) (all_map (key p.0.items) (λ (x : Key). same_key x k ≡ false) names
+        (all_each (λ (x : List ℕ). same_key (key p.0.items x) k ≡ false) (λ x. other_partition p.0.items x k other) names)) in
         let sum : m + free_in bits d (name_keys p.0.items p.1.entries) + free_in bits d (ahead_of k (mixed_keys ss)) ≡ m + free_in bits d (ahead_of k (mixed_keys (p ∷ ss))) =
-            omega (arith, ap (free_in bits d) ahead, sum_by-append free_of (name_keys p.0.items p.1.entries) (ahead_of k (mixed_keys ss))) in
+        omega (arith, ap (free_in bits d) ahead, sum_by-append free_of (name_keys p.0.items p.1.entries) (ahead_of k (mixed_keys ss))) in
         subst (λ (t : Mixer). IsAt bits t (m + free_in bits d (ahead_of k (mixed_keys (p ∷ ss))))) (sym on)
         (moved _ _ _ sum (up_to_key ss (after_all mixer_next s p.1.entries) (m + free_in bits d (name_keys p.0.items p.1.entries)) k (whole p.0.items p.1.entries s m at told.0) told.1 later))
   ]
@@ -325,13 +324,13 @@ all_told bits d table sorted is = all_both
     (λ (s : Vec ℕ Global × BTreeMap (Vec ℕ Global) BlobLog). IsStrictlySortedBy by_bytes (keys_of s.1.entries))
     (λ (s : Vec ℕ Global × BTreeMap (Vec ℕ Global) BlobLog). Told bits d s.0.items s.1.entries)
     (λ s at names. all_both
-        (λ (e : Vec ℕ Global × BlobLog). lookup (test e.0.items) s.1.entries ≡ Some e.1)
-        (λ (e : Vec ℕ Global × BlobLog). lookup (test e.0.items) s.1.entries ≡ Some e.1)
-        (λ (e : Vec ℕ Global × BlobLog). d (key s.0.items e.0.items) ≡ now (track_of e.1))
-        (λ e here_it again. is (key s.0.items e.0.items)
-            ∙ ap (λ o. now (track_at (option_and_then (λ (m : BTreeMap (Vec ℕ Global) BlobLog). at_name m e.0.items) o))) at
-            ∙ ap (λ (o : Option BlobLog). now (track_at o)) here_it)
-        s.1.entries (entries_found s.1.entries names) (entries_found s.1.entries names))
+    (λ (e : Vec ℕ Global × BlobLog). lookup (test e.0.items) s.1.entries ≡ Some e.1)
+    (λ (e : Vec ℕ Global × BlobLog). lookup (test e.0.items) s.1.entries ≡ Some e.1)
+    (λ (e : Vec ℕ Global × BlobLog). d (key s.0.items e.0.items) ≡ now (track_of e.1))
+    (λ e here_it again. is (key s.0.items e.0.items)
+    ∙ ap (λ o. now (track_at (option_and_then (λ (m : BTreeMap (Vec ℕ Global) BlobLog). at_name m e.0.items) o))) at
+    ∙ ap (λ (o : Option BlobLog). now (track_at o)) here_it)
+    s.1.entries (entries_found s.1.entries names) (entries_found s.1.entries names))
     table.entries (entries_found table.entries sorted.0) sorted.1
 
 -- the number counts modulo 64

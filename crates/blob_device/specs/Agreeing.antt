@@ -54,8 +54,11 @@ agrees_result (Resize n) true b was = more b (record b { since = b.since ++ resi
     (λ i lt out. (omega (arith, lt, least_push (length b.settled) b.since (resized b.content n)), out, refl))
     (λ i lt out. resized_below b.content n i (omega (arith, lt, least_push (length b.settled) b.since (resized b.content n), length-resized b.content n))) was
 agrees_result (Resize n) false b was = more b (record b { content = resized b.content n; since = b.since ++ resized b.content n ∷ [] }) (resized b.content n)
-    (λ i lt out. (omega (arith, lt, least_push (length b.settled) b.since (resized b.content n)), out,
-    sym (resized_below b.content n i (omega (arith, lt, least_push (length b.settled) b.since (resized b.content n), length-resized b.content n)))))
+    (λ i lt out. (
+      omega (arith, lt, least_push (length b.settled) b.since (resized b.content n)),
+      out,
+      sym (resized_below b.content n i (omega (arith, lt, least_push (length b.settled) b.since (resized b.content n), length-resized b.content n))),
+    ))
     (λ i lt out. refl) was
 agrees_result Settle true b was = was
 agrees_result Settle false b was = (λ i lt out. refl, tt)

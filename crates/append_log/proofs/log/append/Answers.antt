@@ -1,6 +1,5 @@
-use Rattle.std.proofs.Common.{IsSome, ◌≡◌, ◌+◌, ◌≤◌, ◌++◌, length, refl, sym, ◌∙◌, ap, subst, arith}
+use Rattle.std.proofs.Common.{IsSome, length, sym, subst, arith}
 use Rattle.blob_device.specs.Disk.{Key}
-use Rattle.blob_device.specs.Timeline.{disk}
 use Rattle.blob_device.proofs.StaysLemmas.{stays_start, stays_on}
 use Rattle.blob_device.proofs.OpenedLemmas.{entered_open, entered_other, updated_open}
 use Rattle.blob_device.specs.Opened.{OpenedList}

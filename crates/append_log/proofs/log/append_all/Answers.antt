@@ -96,4 +96,3 @@ returns-clause-room g c t some =
     let base = (disk (g.D.Device.time c.args.dev.now) k).content in
     let end : c.records.record-index ≡ length c.args.records.now = omega (arith, c.records-test.false, c.records.auto.record-index-end) in
     subst (λ (n : ℕ). length (grown base c.args.records.now n) < 2 ^ 64) end (c.records.invariant.room t (omega (arith, some, end)))
-

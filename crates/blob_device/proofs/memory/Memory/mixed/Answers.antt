@@ -1,4 +1,4 @@
-use Rattle.std.proofs.Common.{◌≡◌, ◌∙◌, ap, sym, refl, subst, Option, List, ℕ, is_some}
+use Rattle.std.proofs.Common.{◌≡◌, ◌∙◌, ap, sym, refl, subst, Option, List, ℕ}
 use Rattle.blob_device.specs.Disk.{Key, Blob, Disk, MayLeave}
 use Rattle.blob_device.specs.Timeline.{disk}
 use Rattle.blob_device.specs.Tables.{at_key}
@@ -25,11 +25,11 @@ returns-clause-mixed c =
     let now_is = λ (k : Key). disk_now (tracks_of m.logs) m.count k (m.sound k) in
     let each : (k : Key) → contents c.from_table.result k ≡ mixed_of c.args.bits (free_in c.args.bits d (ahead_of k (mixed_keys logs.entries))) (d k) =
     λ k.
-        let bits : (state k).bits ≡ c.args.bits = state_keeps mixer_next (λ s. s.bits ≡ c.args.bits) (λ s l was. was) c.new.result logs.entries k c.new.ensures.bits in
-        ap (λ (f : Key → Option (List ℕ)). f k) c.from_table.ensures ∙ c.in_ok-blobs.ensures.made k
-        ∙ made_at (mixed_of (state k).bits (state k).number) refl (at_key logs k)
-        ∙ (λ i. mixed_of (bits i) (state k).number (sym (now_is k) i))
-        ∙ first_number c.args.bits d logs c.new.result k sorted now_is c.new.ensures.bits c.new.ensures.number in
+    let bits : (state k).bits ≡ c.args.bits = state_keeps mixer_next (λ s. s.bits ≡ c.args.bits) (λ s l was. was) c.new.result logs.entries k c.new.ensures.bits in
+    ap (λ (f : Key → Option (List ℕ)). f k) c.from_table.ensures ∙ c.in_ok-blobs.ensures.made k
+    ∙ made_at (mixed_of (state k).bits (state k).number) refl (at_key logs k)
+    ∙ (λ i. mixed_of (bits i) (state k).number (sym (now_is k) i))
+    ∙ first_number c.args.bits d logs c.new.result k sorted now_is c.new.ensures.bits c.new.ensures.number in
     record {
       keys = mixed_keys logs.entries;
       ascending = keys_ascend logs.entries sorted;

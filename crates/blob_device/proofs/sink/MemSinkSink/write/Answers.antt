@@ -1,4 +1,4 @@
-use Rattle.std.proofs.Common.{◌≡◌, ◌==◌, ℕ, Bool, true, false, sym, ◌∙◌, ap}
+use Rattle.std.proofs.Common.{◌==◌, sym, ◌∙◌, ap}
 use Rattle.std.specs.List.{list_any}
 use Rattle.std.proofs.lemmas.Bool.{false≢true}
 use Rattle.blob_device.proofs.sink.MemSinkSink.write.Goals as goal
