@@ -1,6 +1,6 @@
 -- A buffer that is cut: what it holds before and after.
-use Rattle.std.proofs.Common.{◌≡◌, ◌≢◌, ◌⊎◌, inl, inr, ℕ, ◌+◌, ◌-◌, ◌*◌, ◌/◌, ◌%◌, ◌^◌, ◌<◌, ◌≤◌, ◌||◌, not, min, Bool, false, cond, List, length, get_or, take, drop, Result, Ok, Err, refl, sym, ◌∙◌, ap, subst, arith, length-take}
-use Rattle.std.proofs.lemmas.Bool.{cases_lt, eq-eqb}
+use Rattle.std.proofs.Common.{eqb, ◌≡◌, ◌≢◌, ◌⊎◌, inl, inr, ℕ, ◌+◌, ◌-◌, ◌*◌, ◌/◌, ◌%◌, ◌^◌, ◌<◌, ◌≤◌, ◌||◌, not, min, Bool, false, cond, List, length, get_or, take, drop, Result, Ok, Err, refl, sym, ◌∙◌, ap, subst, arith, length-take}
+use Rattle.std.proofs.lemmas.Bool.{cases_lt, cases_eq, eq-eqb, ne_eqb}
 use Rattle.std.proofs.lemmas.List.{get_or-take, get_or-drop}
 use Rattle.blob_device.specs.Change.{written, resized}
 use Rattle.blob_device.specs.Disk.{Key, Blob, Disk, settled_at}
@@ -13,7 +13,7 @@ use Rattle.std.proofs.Math.Nat.{div-mul-le_self, mod-eq-sub-div-mul}
 use Rattle.std.proofs.lemmas.Nat.{le-div}
 use Rattle.sealed_pages.specs.ChanceSeal.{Leaves, Sealing}
 use Rattle.sealed_pages.specs.Buffer.{extent, Buffer, size_of, flushed_of, bytes_of, Holds, IsBacked}
-use Rattle.sealed_pages.specs.Cutting.{IsAtRest, page_cut}
+use Rattle.sealed_pages.specs.Cutting.{IsAtRest, Settles, page_cut}
 use Rattle.sealed_pages.specs.Flushing.{Alone, with_slot, next_slot, no_slot, Quiet, Data, Sound, Covers, Stands, Below, Ready}
 use Rattle.sealed_pages.specs.Reading.{Unchanged}
 use Rattle.sealed_pages.specs.SealedPrefix.{pages_in, sealed_prefix, adopted_size}
@@ -27,7 +27,7 @@ use Rattle.sealed_pages.proofs.Looking.{unchanged_now}
 use Rattle.sealed_pages.proofs.PageCalls.{alone_then}
 use Rattle.sealed_pages.proofs.Repairing.{page_order}
 use Rattle.sealed_pages.proofs.CutSteps.{other_not, last2, own2, prefix2, inside2}
-use Rattle.sealed_pages.proofs.Holding.{bool_or, bytes_is, data_less}
+use Rattle.sealed_pages.proofs.Holding.{holds_leaves, bool_or, bytes_is, data_less}
 use Rattle.sealed_pages.proofs.Keeping.{data_cut}
 use Rattle.sealed_pages.proofs.Reaching.{prefix_sound, prefix_is, size_at_most, adopted_size_is, rest_leaves}
 use Rattle.sealed_pages.proofs.SealedBytes.{SoundTo, sound_to, page_length-le}
@@ -224,21 +224,19 @@ as_of Q e f has = subst (λ (x : Key × ℕ). Q x.0 x.1) (λ t. (e t, f t)) has
 pub all_flushed : (u : Buffer) → u.from ≤ length u.tip → u.settled ≤ flushed_of u → u.settled ≡ size_of u → u.from ≡ length u.tip
 all_flushed u within order settled = omega (arith, within, order, settled)
 
--- what is pending has been settled
-pub record Settles (seal : List ℕ → ℕ) (P : ℕ) (all : List ℕ) (b : Blob) : Type 0 where
-  pub rest : IsAtRest b
-  pub prefix : sealed_prefix seal P b.content ≡ all
-  pub adopted : adopted_size seal P b.content ≡ length all
+-- where all has settled
+pub settles_of : (seal : List ℕ → ℕ) (v : Buffer) (P : ℕ) (all : List ℕ) (b : Blob) → v.page_size ≡ P → v.from < v.page_size → v.from ≡ length v.tip → v.settled ≡ size_of v → Holds seal v all b → Settles seal P all b
+settles_of seal v P all b page begun full settled holds = record {
+  rest = holds_rest seal v all b begun holds settled full;
+  prefix = ap (λ (n : ℕ). sealed_prefix seal n b.content) (sym page) ∙ holds_prefix seal v all b begun holds full;
+  adopted = ap (λ (n : ℕ). adopted_size seal n b.content) (sym page) ∙ holds_again seal v all b begun holds ∙ (let e : flushed_of v ≡ length all = omega (arith, full, holds.size) in e);
+}
 
+-- after a sync
 pub after_sync : (seal : List ℕ → ℕ) (u v : Buffer) (b0 b1 : Blob) → v.page_size ≡ u.page_size → v.from < v.page_size → v.from ≤ length v.tip → v.settled ≤ flushed_of v → v.settled ≡ size_of v → Holds seal v (bytes_of v b1.content) b1 → bytes_of v b1.content ≡ bytes_of u b0.content
     → Settles seal u.page_size (bytes_of u b0.content) b1
-after_sync seal u v b0 b1 page begun within order settled holds same =
-    let full = all_flushed v within order settled in
-    record {
-      rest = holds_rest seal v (bytes_of v b1.content) b1 begun holds settled full;
-      prefix = ap (λ (n : ℕ). sealed_prefix seal n b1.content) (sym page) ∙ holds_prefix seal v (bytes_of v b1.content) b1 begun holds full ∙ same;
-      adopted = ap (λ (n : ℕ). adopted_size seal n b1.content) (sym page) ∙ holds_again seal v (bytes_of v b1.content) b1 begun holds ∙ (let e : flushed_of v ≡ length (bytes_of v b1.content) = omega (arith, full, holds.size) in e) ∙ ap length same;
-    }
+after_sync seal u v b0 b1 page begun within order settled holds same = subst (λ (l : List ℕ). Settles seal u.page_size l b1) same
+    (settles_of seal v u.page_size (bytes_of v b1.content) b1 page begun (all_flushed v within order settled) settled holds)
 
 -- a page in which an adopted blob has bytes begins within it
 pub page_stands : (seal : List ℕ → ℕ) (P : ℕ) (c : List ℕ) (j : ℕ) → j * P < adopted_size seal P c → page_at P j ≤ length c
@@ -298,5 +296,11 @@ rest_stood seal P pos key a b L is rest le = subst (λ (x : Timeline). Sealing s
     (sealing_less seal P (sealed_prefix seal P (disk a key).content) (length (sealed_prefix seal P (disk a key).content)) L key a a le
     (only_start a key (Leaves seal P (sealed_prefix seal P (disk a key).content) (length (sealed_prefix seal P (disk a key).content))) (rest_leaves seal P (disk a key) pos rest)))
 
-pub again_of : (seal : List ℕ → ℕ) (v : Buffer) (P L : ℕ) (all : List ℕ) (b : Blob) → v.from < v.page_size → v.page_size ≡ P → flushed_of v ≡ L → Holds seal v all b → adopted_size seal P b.content ≡ L
-again_of seal v P L all b begun page far holds = ap (λ (n : ℕ). adopted_size seal n b.content) (sym page) ∙ holds_again seal v all b begun holds ∙ far
+pub leaves_of : (seal : List ℕ → ℕ) (v : Buffer) (P L : ℕ) (all : List ℕ) (b : Blob) → v.page_size ≡ P → v.from < v.page_size → v.settled ≡ L → Holds seal v all b → Leaves seal P all L b
+leaves_of seal v P L all b page begun settled holds = subst (λ (x : ℕ × ℕ). Leaves seal x.0 all x.1 b) (λ t. (page t, settled t)) (holds_leaves seal v all b begun holds)
+
+pub no_need : (x y : ℕ) (r : Bool) → r ≡ not (eqb x y) → r ≡ false → x ≡ y
+no_need x y r is so = elim (cases_eq x y) [
+  | inl same ↦ same
+  | inr differ ↦ absurd (cc (is, so, ne_eqb x y differ))
+]

@@ -6,11 +6,11 @@ ghost use Rattle.blob_device.specs.Timeline.{disk};
 ghost use Rattle.sealed_pages.specs.View.{page_at};
 ghost use Rattle.sealed_pages.specs.Slots.{page_length};
 ghost use Rattle.sealed_pages.specs.SealedPrefix.{sealed_prefix, adopted_size};
-ghost use Rattle.sealed_pages.specs.ChanceSeal.{Sealing};
+ghost use Rattle.sealed_pages.specs.ChanceSeal.{Leaves, Sealing};
 ghost use Rattle.sealed_pages.specs.Flushing.{Alone};
 ghost use Rattle.sealed_pages.specs.Buffer.{extent, key_of, size_of, bytes_of, Holds, IsSealed};
 ghost use Rattle.sealed_pages.specs.Entries.{IsOpenAt, NoReads};
-ghost use Rattle.sealed_pages.specs.Cutting.{IsAtRest, FewReads};
+ghost use Rattle.sealed_pages.specs.Cutting.{IsAtRest, Settles, FewReads};
 
 use super::PageBlob;
 use crate::cut::{Head, cut_inside, cut_pages, read_head};
@@ -197,7 +197,9 @@ impl<S: Seal> PageBlob<S> {
         ensures settled { len < size_of (shown self) → IfOk result (λ r. r.settled ≡ len) }
         ensures rests { D.Tells → len < size_of (shown self) → OnOk result (IsAtRest (disk (D.time dev.new) (key_of (shown self)))) }
         ensures again { D.Tells → len < size_of (shown self) → IsSealed S.seal_of (shown self) (disk (D.time dev.old) (key_of (shown self)))
-            → OnOk result (adopted_size S.seal_of self.page_size (disk (D.time dev.new) (key_of (shown self))).content ≡ len) }
+            → OnOk result (Settles S.seal_of self.page_size (take len (bytes_of (shown self) (disk (D.time dev.old) (key_of (shown self))).content)) (disk (D.time dev.new) (key_of (shown self)))) }
+        ensures leaves { D.Tells → len < size_of (shown self) → IsSealed S.seal_of (shown self) (disk (D.time dev.old) (key_of (shown self)))
+            → OnOk result (Leaves S.seal_of self.page_size (take len (bytes_of (shown self) (disk (D.time dev.old) (key_of (shown self))).content)) len (disk (D.time dev.new) (key_of (shown self)))) }
         ensures size { IfOk result (λ r. size_of (shown r) ≡ min (size_of (shown self)) len) }
         ensures key { IfOk result (λ r. key_of (shown r) ≡ key_of (shown self)) }
         ensures page_size { IfOk result (λ r. r.page_size ≡ self.page_size) }
