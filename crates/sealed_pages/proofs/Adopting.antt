@@ -114,6 +114,7 @@ module _ (seal : List ℕ → ℕ) (P : ℕ) (pos : 1 ≤ P) (all : List ℕ) (f
       covers = a.content.covers;
     };
     order = omega arith;
+    rest = λ e. a.is;
     last = head_is seal P pos all first from newest behind torn begun b a;
     head = λ k low high. head_is seal P pos all first from newest behind torn begun b a k low high ∙ sym (ap (λ (t : Bool). cond t newest (next_slot P (first * P + from) newest k)) (eq-eqb (first * P + from) (first * P + from) refl));
   }

@@ -132,6 +132,7 @@ module _ (seal : List ℕ → ℕ) (P : ℕ) (bytes : List ℕ) (F : ℕ) (σ : 
       settled = kept.content.covers;
       flushed = record { fits = kept.content.fits; quiet = repaired_quiet seal P F (disk t0 key).content q kept.content.below end start clean; same = kept.content.same; covers = kept.content.covers };
       order = omega arith;
+      rest = λ e. refl;
       last = head;
       head = λ k low high. head k low high ∙ sym (ap (λ (t : Bool). cond t newest (next_slot P F newest k)) (eq-eqb F F refl));
     })

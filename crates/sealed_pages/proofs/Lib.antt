@@ -13,3 +13,9 @@ pub mod Holding
 pub mod Syncing
 pub mod Looking
 pub mod Starting
+pub mod Reaching
+pub mod Cuts
+pub mod CutCalls
+pub mod CutEntries
+pub mod CutSteps
+pub mod Truncating

@@ -113,6 +113,7 @@ module _ (seal : List ℕ → ℕ) (P : ℕ) (bytes : List ℕ) (F L : ℕ) (new
       settled = begun.ready.settled;
       flushed = subst (Flushed seal P bytes (k * P + length page) (with_slot begun.ready.τ k b)) (sym content2) (subst (λ (n : ℕ). Flushed seal P bytes n (with_slot begun.ready.τ k b) (written (written (disk t0 key).content (page_at P k + f) (drop f page)) (slot_at P k b) (slot_bytes seal P page))) far done_now);
       order = omega (arith, begun.ready.order, begun.is, begun.new);
+      rest = λ e. absurd (omega (arith, e, begun.ready.order, begun.is, begun.new));
       last = begun.ready.last;
       head = head_is;
     }
@@ -182,6 +183,7 @@ module _ (seal : List ℕ → ℕ) (P : ℕ) (pos : 1 ≤ P) (key : Key) (bytes 
     settled = ready.flushed.covers;
     flushed = ready.flushed;
     order = omega arith;
+    rest = λ e. refl;
     last = λ k low high. ready.head k low high ∙ sym (pick k low high);
     head = λ k low high. ready.head k low high ∙ sym (pick k low high) ∙ sym (ap (λ (t : Bool). cond t slot (next_slot P F slot k)) (eq-eqb F F refl));
   }
@@ -220,6 +222,7 @@ module _ (seal : List ℕ → ℕ) (P : ℕ) (bytes more : List ℕ) where
       covers = ready.flushed.covers;
     };
     order = ready.order;
+    rest = ready.rest;
     last = ready.last;
     head = ready.head;
   }

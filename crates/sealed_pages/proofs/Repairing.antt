@@ -17,7 +17,7 @@ use Rattle.sealed_pages.proofs.SlotSteps.{same_or_apart, slot_is, slot_kept}
 
 module _ (seal : List ℕ → ℕ) (P : ℕ) where
   -- the size at which a blob is adopted: no slot covers more
-  size_bounds : (v : List ℕ) (m k : ℕ) → k < m → 1 ≤ page_length seal P v k → k * P + page_length seal P v k ≤ size_below seal P v m
+  pub size_bounds : (v : List ℕ) (m k : ℕ) → k < m → 1 ≤ page_length seal P v k → k * P + page_length seal P v k ≤ size_below seal P v m
   unfolding size_below
   size_bounds v zero k lt some = absurd (omega (arith, lt))
   size_bounds v (suc m) k lt some = elim (eqb_tells (page_length seal P v m) 0) [

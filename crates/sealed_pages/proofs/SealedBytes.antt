@@ -6,6 +6,7 @@ use Rattle.std.proofs.lemmas.Nat.{le-div}
 use Rattle.std.proofs.lemmas.List.{get_or_append_left, get_or-append_right, get_or-take, ext_get_or}
 use Rattle.std.specs.List.{AllByRecursion}
 use Rattle.blob_device.specs.Disk.{Blob, past}
+use Rattle.blob_device.specs.Guards.{Sealed}
 use Rattle.sealed_pages.specs.ChanceSeal.{SamePlace, SomeByRecursion, NoChanceSeal, Leaves}
 use Rattle.sealed_pages.specs.Flushing.{Sound, Covers, Held, Stands}
 use Rattle.sealed_pages.specs.SealedPrefix.{pages_in, sealed_from, sealed_prefix, Prefix}
@@ -70,21 +71,29 @@ module _ (seal : List ℕ → ℕ) (P : ℕ) where
     ]
   ]
 
-  -- what is sealed is a prefix of these bytes, if each place that matches has them
-  module _ (bytes : List ℕ) (v : List ℕ) (sound : Sound seal P bytes v) where
+  -- each place that matches in a page that begins within these bytes has them
+  pub record SoundTo (bytes c : List ℕ) : Type 0 where
+    pub within : (k : ℕ) (second : Bool) → k * P ≤ length bytes → 1 ≤ slot_length seal P c k second → k * P + slot_length seal P c k second ≤ length bytes
+    pub same : (k : ℕ) (second : Bool) (i : ℕ) → k * P ≤ length bytes → i < slot_length seal P c k second → view c (page_at P k + i) ≡ get_or bytes (k * P + i) 0
+
+  pub sound_to : (bytes c : List ℕ) → Sound seal P bytes c → SoundTo bytes c
+  sound_to bytes c sound = record { within = λ k b start some. sound.within k b some; same = λ k b i start lt. sound.same k b i lt }
+
+  -- what is sealed is a prefix of these bytes, if each such place has them
+  module _ (bytes : List ℕ) (v : List ℕ) (sound : SoundTo bytes v) where
     page_within : (k : ℕ) → k * P ≤ length bytes → k * P + page_length seal P v k ≤ length bytes
     page_within k start = elim (cases_lt 0 (page_length seal P v k)) [
       | inl some ↦ elim (page_length-is v k) [
-        | inl is ↦ omega (arith, is, sound.within k false (omega (arith, some, is)))
-        | inr is ↦ omega (arith, is, sound.within k true (omega (arith, some, is)))
+        | inl is ↦ omega (arith, is, sound.within k false start (omega (arith, some, is)))
+        | inr is ↦ omega (arith, is, sound.within k true start (omega (arith, some, is)))
       ]
       | inr none ↦ omega (arith, none, start)
     ]
 
-    page_same : (k i : ℕ) → i < page_length seal P v k → view v (page_at P k + i) ≡ get_or bytes (k * P + i) 0
-    page_same k i lt = elim (page_length-is v k) [
-      | inl is ↦ sound.same k false i (omega (arith, lt, is))
-      | inr is ↦ sound.same k true i (omega (arith, lt, is))
+    page_same : (k i : ℕ) → k * P ≤ length bytes → i < page_length seal P v k → view v (page_at P k + i) ≡ get_or bytes (k * P + i) 0
+    page_same k i start lt = elim (page_length-is v k) [
+      | inl is ↦ sound.same k false i start (omega (arith, lt, is))
+      | inr is ↦ sound.same k true i start (omega (arith, lt, is))
     ]
 
     Has : List ℕ → ℕ → ℕ → Type 0
@@ -107,7 +116,7 @@ module _ (seal : List ℕ → ℕ) (P : ℕ) where
         in_page : (i : ℕ) → i < page_length seal P v k → get_or (sealed_from seal P v k (suc m)) i 0 ≡ get_or bytes (k * P + i) 0
         in_page i lt = ap (λ (l : List ℕ). get_or l i 0) (sealed_step v k m)
             ∙ get_or_append_left (bytes_at (view v) (page_at P k) (page_length seal P v k)) (rest v k m) 0 i (omega (arith, lt, length-bytes_at (view v) (page_length seal P v k) (page_at P k)))
-            ∙ get_or-bytes_at (view v) (page_length seal P v k) (page_at P k) i lt ∙ page_same k i lt
+            ∙ get_or-bytes_at (view v) (page_length seal P v k) (page_at P k) i lt ∙ page_same k i start lt
 
         in_rest : (i : ℕ) → page_length seal P v k ≤ i → i < length (sealed_from seal P v k (suc m)) → ((page_length seal P v k ≡ P) × (rest v k m ≡ sealed_from seal P v (k + 1) m)) ⊎ ((page_length seal P v k ≢ P) × (rest v k m ≡ []))
             → get_or (sealed_from seal P v k (suc m)) i 0 ≡ get_or bytes (k * P + i) 0
@@ -131,22 +140,22 @@ module _ (seal : List ℕ → ℕ) (P : ℕ) where
     sealed_high (suc m) k start = high_step m k start (λ le. sealed_high m (k + 1) le)
 
   -- without a chance seal, a content is sound if all the contents before are
-  some_sound : (bytes : List ℕ) (cs : List (List ℕ)) (v : List ℕ) (k : ℕ) (b : Bool) → 1 ≤ slot_length seal P v k b
-      → AllByRecursion (Sound seal P bytes) cs → SomeByRecursion (λ p. SamePlace P p v k b (slot_length seal P v k b)) cs
+  some_sound : (bytes : List ℕ) (cs : List (List ℕ)) (v : List ℕ) (k : ℕ) (b : Bool) → k * P ≤ length bytes → 1 ≤ slot_length seal P v k b
+      → AllByRecursion (SoundTo bytes) cs → SomeByRecursion (λ p. SamePlace P p v k b (slot_length seal P v k b)) cs
       → (k * P + slot_length seal P v k b ≤ length bytes) × ((i : ℕ) → i < slot_length seal P v k b → view v (page_at P k + i) ≡ get_or bytes (k * P + i) 0)
-  some_sound bytes [] v k b some all chance = absurd chance
-  some_sound bytes (p ∷ ps) v k b some all (inr later) = some_sound bytes ps v k b some all.1 later
-  some_sound bytes (p ∷ ps) v k b some all (inl same) =
+  some_sound bytes [] v k b start some all chance = absurd chance
+  some_sound bytes (p ∷ ps) v k b start some all (inr later) = some_sound bytes ps v k b start some all.1 later
+  some_sound bytes (p ∷ ps) v k b start some all (inl same) =
       let is : slot_length seal P v k b ≡ slot_length seal P p k b = slot_same seal P v p k b (slot_stands seal P v k b some) same.stands (λ i lt. sym (same.slot i lt))
       (λ i lt short. sym (same.bytes i (omega (arith, lt, slot_named seal P v k b some)))) in (
-        omega (arith, is, all.0.within k b (omega (arith, some, is))),
-        λ i lt. sym (same.bytes i lt) ∙ all.0.same k b i (omega (arith, lt, is)),
+        omega (arith, is, all.0.within k b start (omega (arith, some, is))),
+        λ i lt. sym (same.bytes i lt) ∙ all.0.same k b i start (omega (arith, lt, is)),
       )
 
-  pub sound_crash : (bytes : List ℕ) (cs : List (List ℕ)) (c : List ℕ) → AllByRecursion (Sound seal P bytes) cs → NoChanceSeal seal P cs c → Sound seal P bytes c
+  pub sound_crash : (bytes : List ℕ) (cs : List (List ℕ)) (c : List ℕ) → AllByRecursion (SoundTo bytes) cs → NoChanceSeal seal P cs c → SoundTo bytes c
   sound_crash bytes cs c all chance = record {
-    within = λ k b some. (some_sound bytes cs c k b some all (chance k b some)).0;
-    same = λ k b i lt. let some : 1 ≤ slot_length seal P c k b = omega (arith, lt) in (some_sound bytes cs c k b some all (chance k b some)).1 i lt;
+    within = λ k b start some. (some_sound bytes cs c k b start some all (chance k b some)).0;
+    same = λ k b i start lt. let some : 1 ≤ slot_length seal P c k b = omega (arith, lt) in (some_sound bytes cs c k b start some all (chance k b some)).1 i lt;
   }
 
   -- what is held covers as before
@@ -172,7 +181,7 @@ module _ (seal : List ℕ → ℕ) (P : ℕ) where
       omega (arith, low)
 
   -- what is sound is sealed up to a prefix of the bytes
-  pub sound_prefix : (bytes c : List ℕ) → Sound seal P bytes c → (least : ℕ) → least ≤ length (sealed_prefix seal P c) → Prefix seal P bytes least c
+  pub sound_prefix : (bytes c : List ℕ) → SoundTo bytes c → (least : ℕ) → least ≤ length (sealed_prefix seal P c) → Prefix seal P bytes least c
   unfolding sealed_prefix
   sound_prefix bytes c sound least low =
       let high = sealed_high bytes c sound (pages_in P c) 0 (omega arith) in
@@ -184,11 +193,18 @@ module _ (seal : List ℕ → ℕ) (P : ℕ) where
         no_longer = omega (arith, high.0);
       }
 
+  all_to : (bytes : List ℕ) (cs : List (List ℕ)) → AllByRecursion (Sound seal P bytes) cs → AllByRecursion (SoundTo bytes) cs
+  all_to bytes [] all = all
+  all_to bytes (c ∷ cs) all = (sound_to bytes c all.0, all_to bytes cs all.1)
+
   -- from the structural claim to every crash
-  pub stands_leaves : (w : List ℕ) (L : ℕ) (σ : ℕ → Bool) (bytes : List ℕ) (b : Blob) → 1 ≤ P → Covers seal P w L σ → Stands seal P bytes w L σ b → Leaves seal P bytes L b
-  stands_leaves w L σ bytes b pos covers s = guards_left (Held seal P w L σ) (view w) b (λ c. NoChanceSeal seal P (past b) c → Prefix seal P bytes L c) s.guards
+  pub sealed_leaves : (w : List ℕ) (L : ℕ) (σ : ℕ → Bool) (bytes : List ℕ) (b : Blob) → 1 ≤ P → Covers seal P w L σ → Sealed (Held seal P w L σ) (view w) (SoundTo bytes) b → Leaves seal P bytes L b
+  sealed_leaves w L σ bytes b pos covers s = guards_left (Held seal P w L σ) (view w) b (λ c. NoChanceSeal seal P (past b) c → Prefix seal P bytes L c) s.guards
       (λ c hold chance. sound_prefix bytes c (sound_crash bytes (past b) c s.all chance) L
       (covers_length c L σ pos (covers_same w c L σ pos covers (λ i held. guards_crash (Held seal P w L σ) (view w) b s.guards c hold i held) (λ i held. omega (arith, s.guards.short i held, hold.no_shorter)))))
+
+  pub stands_leaves : (w : List ℕ) (L : ℕ) (σ : ℕ → Bool) (bytes : List ℕ) (b : Blob) → 1 ≤ P → Covers seal P w L σ → Stands seal P bytes w L σ b → Leaves seal P bytes L b
+  stands_leaves w L σ bytes b pos covers s = sealed_leaves w L σ bytes b pos covers (record { guards = s.guards; all = all_to bytes (past b) s.all })
 
 pub all_map : {A B : List ℕ → Type 0} → ((p : List ℕ) → A p → B p) → (cs : List (List ℕ)) → AllByRecursion A cs → AllByRecursion B cs
 all_map f [] all = all

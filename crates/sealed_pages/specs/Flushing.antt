@@ -1,6 +1,6 @@
 -- What a flush keeps: the slots that have settled, and that nothing else can come to match but the right bytes.
 use Rattle.std.specs.Prelude.{◌≡◌, ◌⊎◌, ℕ, ◌+◌, ◌*◌, ◌-◌, ◌<◌, ◌≤◌, ltb, eqb, not, min, Bool, false, cond, List, [], ◌∷◌, length, get_or, Result, OnOk}
-use Rattle.blob_device.specs.Disk.{Key, Blob}
+use Rattle.blob_device.specs.Disk.{Key, Blob, settled_at}
 use Rattle.blob_device.specs.Guards.{Sealed}
 use Rattle.blob_device.specs.Timeline.{Timeline, disk, Always, OnlyAt}
 use Rattle.sealed_pages.specs.View.{View, view, page_at, slot_at, Within}
@@ -58,7 +58,7 @@ module _ (seal : List ℕ → ℕ) (P : ℕ) where
     pub covers : Covers c F τ
 
   -- A blob between calls: of these bytes the first F are flushed and the first L settled, the last of those by the slot
-  -- `newest` where they end within a page.
+  -- `newest` where they end within a page. Where all that is flushed has settled, the blob has.
   pub record Ready (bytes : List ℕ) (F L : ℕ) (newest : Bool) (b : Blob) : Type 0 where
     pub w : List ℕ
     pub σ : ℕ → Bool
@@ -69,6 +69,7 @@ module _ (seal : List ℕ → ℕ) (P : ℕ) where
     pub order : L ≤ F
     pub last : (k : ℕ) → k * P < L → L < k * P + P → σ k ≡ newest
     pub head : (k : ℕ) → k * P < F → F < k * P + P → τ k ≡ last_slot P F L newest k
+    pub rest : L ≡ F → b ≡ settled_at b.content
 
   -- no slot covers more than F
   abbrev pub Below : ℕ → List ℕ → Type 0

@@ -9,3 +9,4 @@ pub mod Shown
 pub mod Reading
 pub mod Found
 pub mod Starts
+pub mod Cutting

@@ -1,6 +1,7 @@
 //! Buffers over blobs whose pages carry seals.
 #![tactic(auto)]
 
+mod cut;
 mod flush;
 mod page;
 mod page_blob;

@@ -1,14 +1,17 @@
 // A buffer over a blob whose pages carry seals.
-ghost use Rattle.std.specs.Prelude.{◌≡◌, ◌≢◌, ◌+◌, ◌*◌, ◌≤◌, ◌<◌, ◌^◌, ◌-◌, ◌++◌, ◌↔◌, ◌==◌, ◌||◌, ◌⊎◌, Err, not, length, drop, IfOk, OnErr, Bool, true, false, ℕ, List, IsTrue};
+ghost use Rattle.std.specs.Prelude.{◌≡◌, ◌≢◌, ◌+◌, ◌*◌, ◌≤◌, ◌<◌, ◌^◌, ◌-◌, ◌++◌, ◌↔◌, ◌==◌, ◌||◌, ◌⊎◌, Err, not, length, drop, IfOk, OnOk, OnErr, Bool, true, false, ℕ, List, IsTrue};
 ghost use Rattle.std.specs.Result.{IsErrOf};
 ghost use Rattle.blob_device.specs.declared.runtime.RError.TheVariants.{Fault, OffsetOverflow};
 ghost use Rattle.blob_device.specs.Timeline.{disk};
 ghost use Rattle.blob_device.specs.Counts.{Rose};
 ghost use Rattle.sealed_pages.specs.View.{page_at};
-ghost use Rattle.sealed_pages.specs.ChanceSeal.{Sealing};
+ghost use Rattle.sealed_pages.specs.ChanceSeal.{Leaves, Sealing};
 ghost use Rattle.sealed_pages.specs.Flushing.{Alone, last_slot};
 ghost use Rattle.sealed_pages.specs.Buffer.{Fit, Buffer, extent, key_of, size_of, bytes_of, flushed_of, Holds, IsSealed};
 ghost use Rattle.sealed_pages.specs.Entries.{IsOpenAt, NoReads};
+ghost use Rattle.sealed_pages.specs.Cutting.{IsAtRest, Settles};
+
+mod cutting;
 
 use crate::Pages;
 use crate::flush::{flush_pages, next_slot_of};
@@ -184,6 +187,7 @@ impl<S: Seal> PageBlob<S> {
             → IfOk result (λ r. Holds S.seal_of (shown r) all (disk (D.time dev.new) (key_of (shown self)))) }
         ensures wrote { D.Tells → (all : List ℕ) → Data self.page_size all (flushed_of (shown self)) (view (disk (D.time dev.old) (key_of (shown self))).content)
             → Wrote self.page_size all (flushed_of (shown self)) (key_of (shown self)) result (D.time dev.old) (D.time dev.new) }
+        ensures settles { D.Tells → (self.behind || self.torn) ≡ true → OnOk result (IsAtRest (disk (D.time dev.new) (key_of (shown self)))) }
         ensures same { IfOk result (λ r. shown r ≡ record (shown self) { end = r.end; behind = false; torn = false }) }
         ensures length { IfOk result (λ r. IsOpenAt (D.opened dev.new) (key_of (shown self)) r.end) }
         ensures entries { NoReads (key_of (shown self)) (D.opened dev.old) (D.opened dev.new) }
@@ -325,7 +329,7 @@ impl<S: Seal> PageBlob<S> {
             → IfOk result (λ r. bytes_of (shown r.0) (disk (D.time dev.new) (key_of (shown self))).content ≡ bytes_of (shown self) (disk (D.time dev.old) (key_of (shown self))).content ++ bytes.now) }
         ensures backed { D.Tells → IsBacked (shown self) (disk (D.time dev.old) (key_of (shown self))).content
             → IfOk result (λ r. IsBacked (shown r.0) (disk (D.time dev.new) (key_of (shown self))).content) }
-        ensures below { length self.tip.items + length bytes.now < self.from + self.capacity → D.time dev.new ≡ D.time dev.old }
+        ensures below { length self.tip.items + length bytes.now < self.from + self.capacity → dev.new ≡ dev.old }
         ensures flushed { self.from + self.capacity ≤ length self.tip.items + length bytes.now → IfOk result (λ r. r.0.from ≡ length r.0.tip.items) }
         ensures at { IfOk result (λ r. r.1 ≡ size_of (shown self)) }
         ensures size { IfOk result (λ r. size_of (shown r.0) ≡ size_of (shown self) + length bytes.now) }
@@ -364,7 +368,15 @@ impl<S: Seal> PageBlob<S> {
             → IfOk result (λ r. bytes_of (shown r) (disk (D.time dev.new) (key_of (shown self))).content ≡ bytes_of (shown self) (disk (D.time dev.old) (key_of (shown self))).content) }
         ensures backed { D.Tells → IsBacked (shown self) (disk (D.time dev.old) (key_of (shown self))).content
             → IfOk result (λ r. IsBacked (shown r) (disk (D.time dev.new) (key_of (shown self))).content) }
-        ensures idle { self.settled ≡ size_of (shown self) → D.time dev.new ≡ D.time dev.old }
+        ensures idle { self.settled ≡ size_of (shown self) → dev.new ≡ dev.old }
+        // What has settled outlives each crash.
+        ensures leaves { D.Tells → IsSealed S.seal_of (shown self) (disk (D.time dev.old) (key_of (shown self)))
+            → OnOk result (Leaves S.seal_of self.page_size (bytes_of (shown self) (disk (D.time dev.old) (key_of (shown self))).content) (size_of (shown self)) (disk (D.time dev.new) (key_of (shown self)))) }
+        // The blob has settled; where no byte was unsettled and so no call was made, if it had before.
+        ensures rests { D.Tells → (self.settled ≡ size_of (shown self) → IsAtRest (disk (D.time dev.old) (key_of (shown self)))) → OnOk result (IsAtRest (disk (D.time dev.new) (key_of (shown self)))) }
+        // The bytes are its sealed prefix, and adopting it gives them again.
+        ensures again { D.Tells → IsSealed S.seal_of (shown self) (disk (D.time dev.old) (key_of (shown self)))
+            → OnOk result (Settles S.seal_of self.page_size (bytes_of (shown self) (disk (D.time dev.old) (key_of (shown self))).content) (disk (D.time dev.new) (key_of (shown self)))) }
         ensures settled { IfOk result (λ r. r.settled ≡ size_of (shown r)) }
         ensures size { IfOk result (λ r. size_of (shown r) ≡ size_of (shown self)) }
         ensures key { IfOk result (λ r. key_of (shown r) ≡ key_of (shown self)) }

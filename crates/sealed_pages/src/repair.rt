@@ -1,12 +1,13 @@
 // What the first flush after adopting removes before the first data byte is written: bytes behind the last page with a
 // matching slot, and a torn slot beside the one that covers this page. Else new bytes could make old ones match again.
-ghost use Rattle.std.specs.Prelude.{◌≡◌, ◌≢◌, ◌+◌, ◌*◌, ◌≤◌, ◌<◌, ◌^◌, ◌-◌, not, true, false, length, IfOk, Bool, ℕ, List};
+ghost use Rattle.std.specs.Prelude.{◌≡◌, ◌≢◌, ◌+◌, ◌*◌, ◌≤◌, ◌<◌, ◌^◌, ◌-◌, not, true, false, length, IfOk, OnOk, Bool, ℕ, List};
 ghost use Rattle.blob_device.specs.Timeline.{disk};
 ghost use Rattle.blob_device.specs.Counts.{Rose};
 ghost use Rattle.sealed_pages.specs.View.{view, page_at};
 ghost use Rattle.sealed_pages.specs.Flushing.{Kept, IsClean, Removed, PageFlushed, Data, Wrote};
 ghost use Rattle.sealed_pages.specs.Buffer.{Adopted, pages_of};
 ghost use Rattle.sealed_pages.specs.Entries.{IsOpenAt, NoReads};
+ghost use Rattle.sealed_pages.specs.Cutting.{IsAtRest};
 
 use crate::page::{page_place, slot_place};
 use blob_device::{DevError, Device};
@@ -118,6 +119,7 @@ pub fn repair<D: Device, S: Seal>(
     ensures wrote { D.Tells → (all : List ℕ)
         → Data page_size all (first * page_size + from) (view (disk (D.time dev.old) (partition.now, name.now)).content)
         → Wrote page_size all (first * page_size + from) (partition.now, name.now) result (D.time dev.old) (D.time dev.new) }
+    ensures settles { D.Tells → OnOk result (IsAtRest (disk (D.time dev.new) (partition.now, name.now))) }
     ensures length { IfOk result (λ n. IsOpenAt (D.opened dev.new) (partition.now, name.now) n) }
     ensures entries { NoReads (partition.now, name.now) (D.opened dev.old) (D.opened dev.new) }
     ensures faults { D.faults dev.old ≤ D.faults dev.new }

@@ -1,6 +1,9 @@
 use Rattle.std.proofs.Common.{◌≡◌, ◌+◌, ◌*◌, ◌≤◌, ◌<◌, ◌∙◌, not, true, false, ap, length, ℕ, arith}
 use Rattle.blob_device.specs.Disk.{Key}
 use Rattle.blob_device.specs.Timeline.{disk}
+use Rattle.blob_device.specs.Change.{Settle}
+use Rattle.blob_device.proofs.Moments.{ok_blob}
+use Rattle.sealed_pages.proofs.CutSteps.{settled_rest}
 use Rattle.sealed_pages.proofs.PageCalls.{no_ok, only_then, alone_on, alone_then}
 use Rattle.sealed_pages.proofs.SlotLemmas.{index_page}
 use Rattle.sealed_pages.proofs.Adopting.{adopted_kept, torn_inside, torn_other, head_is, all_clean, pages_reach, pages_some, last_page, pages_place}
@@ -131,3 +134,6 @@ returns-clause-wrote g c t all same =
       alone = alone_on (alone_then _ _ _ _ one.alone two.alone) (c.in_ok-sync.ensures.told t);
       done = settle_data c.args.page_size all (c.args.first * c.args.page_size + c.args.from) (c.args.partition.now, c.args.name.now) (g.D.Device.time c.clear_torn.new.dev) (g.D.Device.time c.sync.new.self) _ (c.in_ok-sync.ensures.told t) two.done;
     }
+
+pub returns-clause-settles : goal.returns-clause-settles
+returns-clause-settles g c t = settled_rest (disk (g.D.Device.time c.sync.new.self) (c.args.partition.now, c.args.name.now)) _ (ok_blob (c.args.partition.now, c.args.name.now) Settle _ (g.D.Device.time c.clear_torn.new.dev) (g.D.Device.time c.sync.new.self) (c.in_ok-sync.ensures.told t))

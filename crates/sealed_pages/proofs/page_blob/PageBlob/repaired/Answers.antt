@@ -2,6 +2,10 @@ use Rattle.std.proofs.Common.{string_bytes, arith}
 use Rattle.sealed_pages.specs.Buffer.{key_of, flushed_of}
 use Rattle.sealed_pages.specs.Shown.{shown}
 use Rattle.sealed_pages.proofs.Holding.{fit_room, holds_start, writes_as}
+use Rattle.blob_device.specs.Disk.{Key}
+use Rattle.blob_device.specs.Timeline.{disk}
+use Rattle.sealed_pages.specs.Cutting.{IsAtRest}
+use Rattle.sealed_pages.proofs.Truncating.{key_as}
 use Rattle.sealed_pages.proofs.PageCalls.{no_ok}
 use Rattle.sealed_pages.proofs.page_blob.PageBlob.repaired.Goals as goal
 
@@ -22,3 +26,6 @@ returns-clause-wrote g c t all same =
     let told = writes_as c.args.self.page_size (flushed_of (shown c.args.self)) (flushed_of (shown c.args.self)) _ (g.D.Device.time c.args.dev.now) (g.D.Device.time c.repair.new.dev) _ (string_bytes c.args.self.partition) _ c.args.self.name.items (λ x. Unit {0})
     c.as_str.ensures.value c.as_slice.ensures.value (λ l was q. c.in_ok-end.ensures.wrote t l was) in
     record { alone = (told all same tt).alone; done = (told all same tt).done }
+
+pub returns-clause-settles : goal.returns-clause-settles
+returns-clause-settles g c t left = key_as (λ (k : Key). IsAtRest (disk (g.D.Device.time c.repair.new.dev) k)) _ (string_bytes c.args.self.partition) _ c.args.self.name.items c.as_str.ensures.value c.as_slice.ensures.value (c.in_ok-end.ensures.settles t)

@@ -1,4 +1,4 @@
-use Rattle.std.proofs.Common.{◌≡◌, ◌≢◌, ◌+◌, ◌*◌, ◌∙◌, ℕ, string_bytes, arith, ap, sym, subst, Ok}
+use Rattle.std.proofs.Common.{◌≡◌, ◌≢◌, ◌+◌, ◌*◌, ◌∙◌, ℕ, string_bytes, arith, ap, sym, subst, refl, length, Ok}
 use Rattle.blob_device.specs.Disk.{Key}
 use Rattle.blob_device.specs.Timeline.{disk}
 use Rattle.sealed_pages.specs.Buffer.{Buffer, key_of, size_of, flushed_of, bytes_of}
@@ -10,6 +10,10 @@ use Rattle.sealed_pages.proofs.Holding.{holds_start, holds_sealed, tip_stands, b
 use Rattle.sealed_pages.proofs.Keeping.{settle_data}
 use Rattle.sealed_pages.proofs.Syncing.{holds_settle, holds_synced, needs, flushed_bytes, flushed_backed}
 use Rattle.sealed_pages.proofs.PageCalls.{only_then, alone_on}
+use Rattle.blob_device.specs.Change.{Settle}
+use Rattle.blob_device.proofs.Moments.{ok_blob}
+use Rattle.sealed_pages.proofs.CutSteps.{settled_rest}
+use Rattle.sealed_pages.proofs.Truncating.{all_flushed, settles_of, leaves_of, no_need}
 use Rattle.sealed_pages.proofs.page_blob.PageBlob.sync.Goals as goal
 
 pub returns-then-not-needs_sync-clause-crashes : goal.returns-then-not-needs_sync-clause-crashes
@@ -138,3 +142,65 @@ returns-clause-backed g c t backed =
 pub returns-clause-open : goal.returns-clause-open
 returns-clause-open g c = subst (λ (k : Key). IsOpenAt (g.D.Device.opened c.sync.new.self) k c.in_ok-this.this.end) (sym c.in_ok-this.ensures.key)
     (open_same (key_of (shown c.args.self)) (g.D.Device.opened c.flush.new.dev) _ c.in_ok-this.this.end c.in_ok-sync.ensures.opened c.in_ok-this.ensures.length)
+
+pub returns-then-not-needs_sync-clause-leaves : goal.returns-then-not-needs_sync-clause-leaves
+returns-then-not-needs_sync-clause-leaves g c t sealed =
+    let settled : c.args.self.settled ≡ size_of (shown c.args.self) = no_need c.args.self.settled (size_of (shown c.args.self)) c.needs_sync.result c.needs_sync.ensures c.if-not-needs_sync.true in
+    leaves_of g.S.Seal.seal_of (shown c.args.self) c.args.self.page_size (size_of (shown c.args.self)) (bytes_of (shown c.args.self) (disk (g.D.Device.time c.args.dev.now) (key_of (shown c.args.self))).content) (disk (g.D.Device.time c.args.dev.now) (key_of (shown c.args.self))) refl c.args.self.fit.begun settled sealed
+
+pub returns-then-not-needs_sync-clause-rests : goal.returns-then-not-needs_sync-clause-rests
+returns-then-not-needs_sync-clause-rests g c t before =
+    let settled : c.args.self.settled ≡ size_of (shown c.args.self) = no_need c.args.self.settled (size_of (shown c.args.self)) c.needs_sync.result c.needs_sync.ensures c.if-not-needs_sync.true in
+    before settled
+
+pub returns-then-not-needs_sync-clause-again : goal.returns-then-not-needs_sync-clause-again
+returns-then-not-needs_sync-clause-again g c t sealed =
+    let settled : c.args.self.settled ≡ size_of (shown c.args.self) = no_need c.args.self.settled (size_of (shown c.args.self)) c.needs_sync.result c.needs_sync.ensures c.if-not-needs_sync.true in
+    settles_of g.S.Seal.seal_of (shown c.args.self) c.args.self.page_size (bytes_of (shown c.args.self) (disk (g.D.Device.time c.args.dev.now) (key_of (shown c.args.self))).content) (disk (g.D.Device.time c.args.dev.now) (key_of (shown c.args.self))) refl c.args.self.fit.begun (all_flushed (shown c.args.self) c.args.self.fit.within c.args.self.order settled) settled sealed
+
+pub returns-clause-rests : goal.returns-clause-rests
+returns-clause-rests g c t before =
+    let p : c.as_str.result.now ≡ string_bytes c.args.self.partition = c.as_str.ensures.value ∙ ap (λ (k : Key). k.0) c.in_ok-this.ensures.key in
+    let n : c.as_slice.result.now ≡ c.args.self.name.items = c.as_slice.ensures.value ∙ ap (λ (k : Key). k.1) c.in_ok-this.ensures.key in
+    let passes-ok = settle_as (Ok tt) _ _ _ _ (g.D.Device.time c.flush.new.dev) (g.D.Device.time c.sync.new.self) p n (c.in_ok-sync.ensures.told t) in
+    settled_rest (disk (g.D.Device.time c.sync.new.self) (key_of (shown c.args.self))) _ (ok_blob (key_of (shown c.args.self)) Settle tt (g.D.Device.time c.flush.new.dev) (g.D.Device.time c.sync.new.self) passes-ok)
+
+pub returns-clause-leaves : goal.returns-clause-leaves
+returns-clause-leaves g c t sealed =
+    let u : Buffer = shown c.args.self in
+    let b0 = disk (g.D.Device.time c.args.dev.now) (key_of (shown c.args.self)) in
+    let key : Key = key_of (shown c.args.self) in
+    let r : Buffer = shown c.in_ok-this.this in
+    let p : c.as_str.result.now ≡ string_bytes c.args.self.partition = c.as_str.ensures.value ∙ ap (λ (k : Key). k.0) c.in_ok-this.ensures.key in
+    let n : c.as_slice.result.now ≡ c.args.self.name.items = c.as_slice.ensures.value ∙ ap (λ (k : Key). k.1) c.in_ok-this.ensures.key in
+    let passes = settle_as c.sync.result _ _ _ _ (g.D.Device.time c.flush.new.dev) (g.D.Device.time c.sync.new.self) p n (c.sync.ensures.told t) in
+    let size : size_of r ≡ size_of u = c.in_ok-this.ensures.size in
+    let unsettled : c.args.self.settled ≢ size_of u = needs c.args.self.settled (size_of u) c.needs_sync.result c.needs_sync.ensures c.if-not-needs_sync.false in
+    let open_ : c.in_ok-this.this.settled ≢ flushed_of r = λ e. unsettled (sym c.in_ok-this.ensures.settled ∙ e ∙ ap (λ (m : ℕ). c.in_ok-this.this.first * c.in_ok-this.this.page_size + m) c.in_ok-this.ensures.flushed ∙ size) in
+    let after : Buffer = record (shown c.in_ok-this.this) { settled = c.flushed-end.result; newest = c.last_slot_of-slot.result } in
+    let passes-ok = settle_as (Ok tt) _ _ _ _ (g.D.Device.time c.flush.new.dev) (g.D.Device.time c.sync.new.self) p n (c.in_ok-sync.ensures.told t) in
+    let flushed : c.in_ok-this.this.from ≡ length c.in_ok-this.this.tip.items = c.in_ok-this.ensures.flushed in
+    let end : c.flushed-end.result ≡ size_of u = c.flushed-end.ensures ∙ ap (λ (m : ℕ). c.in_ok-this.this.first * c.in_ok-this.this.page_size + m) flushed ∙ size in
+    let holds = (holds_synced g.S.Seal.seal_of r (bytes_of u b0.content) key (g.D.Device.time c.flush.new.dev) (g.D.Device.time c.sync.new.self) tt c.flushed-end.result c.last_slot_of-slot.result c.in_ok-this.this.fit.begun open_ c.flushed-end.ensures c.last_slot_of-slot.ensures
+    (c.in_ok-this.ensures.done t (bytes_of u b0.content) sealed) passes-ok) in
+    leaves_of g.S.Seal.seal_of after c.args.self.page_size (size_of u) (bytes_of u b0.content) (disk (g.D.Device.time c.sync.new.self) (key_of (shown c.args.self))) c.in_ok-this.ensures.page_size c.in_ok-this.this.fit.begun end holds
+
+pub returns-clause-again : goal.returns-clause-again
+returns-clause-again g c t sealed =
+    let u : Buffer = shown c.args.self in
+    let b0 = disk (g.D.Device.time c.args.dev.now) (key_of (shown c.args.self)) in
+    let key : Key = key_of (shown c.args.self) in
+    let r : Buffer = shown c.in_ok-this.this in
+    let p : c.as_str.result.now ≡ string_bytes c.args.self.partition = c.as_str.ensures.value ∙ ap (λ (k : Key). k.0) c.in_ok-this.ensures.key in
+    let n : c.as_slice.result.now ≡ c.args.self.name.items = c.as_slice.ensures.value ∙ ap (λ (k : Key). k.1) c.in_ok-this.ensures.key in
+    let passes = settle_as c.sync.result _ _ _ _ (g.D.Device.time c.flush.new.dev) (g.D.Device.time c.sync.new.self) p n (c.sync.ensures.told t) in
+    let size : size_of r ≡ size_of u = c.in_ok-this.ensures.size in
+    let unsettled : c.args.self.settled ≢ size_of u = needs c.args.self.settled (size_of u) c.needs_sync.result c.needs_sync.ensures c.if-not-needs_sync.false in
+    let open_ : c.in_ok-this.this.settled ≢ flushed_of r = λ e. unsettled (sym c.in_ok-this.ensures.settled ∙ e ∙ ap (λ (m : ℕ). c.in_ok-this.this.first * c.in_ok-this.this.page_size + m) c.in_ok-this.ensures.flushed ∙ size) in
+    let after : Buffer = record (shown c.in_ok-this.this) { settled = c.flushed-end.result; newest = c.last_slot_of-slot.result } in
+    let passes-ok = settle_as (Ok tt) _ _ _ _ (g.D.Device.time c.flush.new.dev) (g.D.Device.time c.sync.new.self) p n (c.in_ok-sync.ensures.told t) in
+    let flushed : c.in_ok-this.this.from ≡ length c.in_ok-this.this.tip.items = c.in_ok-this.ensures.flushed in
+    let end : c.flushed-end.result ≡ size_of u = c.flushed-end.ensures ∙ ap (λ (m : ℕ). c.in_ok-this.this.first * c.in_ok-this.this.page_size + m) flushed ∙ size in
+    let holds = (holds_synced g.S.Seal.seal_of r (bytes_of u b0.content) key (g.D.Device.time c.flush.new.dev) (g.D.Device.time c.sync.new.self) tt c.flushed-end.result c.last_slot_of-slot.result c.in_ok-this.this.fit.begun open_ c.flushed-end.ensures c.last_slot_of-slot.ensures
+    (c.in_ok-this.ensures.done t (bytes_of u b0.content) sealed) passes-ok) in
+    settles_of g.S.Seal.seal_of after c.args.self.page_size (bytes_of u b0.content) (disk (g.D.Device.time c.sync.new.self) (key_of (shown c.args.self))) c.in_ok-this.ensures.page_size c.in_ok-this.this.fit.begun flushed (end ∙ sym size) holds

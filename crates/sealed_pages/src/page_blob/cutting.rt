@@ -1,0 +1,228 @@
+// Cutting a buffer over sealed pages shorter.
+ghost use Rattle.std.specs.Prelude.{◌≡◌, ◌+◌, ◌*◌, ◌≤◌, ◌<◌, ◌^◌, ◌⊎◌, Err, min, length, take, false, IfOk, OnOk, OnErr, Bool, ℕ, List, []};
+ghost use Rattle.blob_device.specs.declared.runtime.RError.TheVariants.{Fault, InvalidChecksum, Mem};
+ghost use Rattle.blob_device.specs.Counts.{Rose};
+ghost use Rattle.blob_device.specs.Timeline.{disk};
+ghost use Rattle.sealed_pages.specs.View.{page_at};
+ghost use Rattle.sealed_pages.specs.Slots.{page_length};
+ghost use Rattle.sealed_pages.specs.SealedPrefix.{sealed_prefix, adopted_size};
+ghost use Rattle.sealed_pages.specs.ChanceSeal.{Leaves, Sealing};
+ghost use Rattle.sealed_pages.specs.Flushing.{Alone};
+ghost use Rattle.sealed_pages.specs.Buffer.{extent, key_of, size_of, bytes_of, Holds, IsSealed};
+ghost use Rattle.sealed_pages.specs.Entries.{IsOpenAt, NoReads};
+ghost use Rattle.sealed_pages.specs.Cutting.{IsAtRest, Settles, FewReads};
+
+use super::PageBlob;
+use crate::cut::{Head, cut_inside, cut_pages, read_head};
+use crate::page::page_place;
+use blob_device::{Device, RError};
+use value_codec::Seal;
+
+impl<S: Seal> PageBlob<S> {
+    ghost use Rattle.sealed_pages.specs.Shown.{shown};
+    ghost use Rattle.sealed_pages.specs.View.{view};
+    ghost use Rattle.sealed_pages.specs.Buffer.{IsBacked};
+    ghost use Rattle.sealed_pages.specs.Flushing.{Data};
+
+    // The buffer that ends with these bytes of a page, which have settled. The blob's physical end is at `end`.
+    fn ending_with(self, end: u64, page: u64, tip: Vec<u8>, newest: bool) -> PageBlob<S>
+        requires short { length tip.items < self.page_size }
+        requires room { extent self.page_size (page * self.page_size + length tip.items) < 2 ^ 64 }
+        ensures { shown result ≡ record (shown self) { end = end; first = page; tip = tip.items; from = length tip.items; settled = page * self.page_size + length tip.items; newest = newest; behind = false; torn = false } }
+    {
+        let PageBlob {
+            alloc,
+            partition,
+            name,
+            page_size,
+            capacity,
+            seal,
+            ..
+        } = self;
+        let from = tip.len();
+        PageBlob {
+            alloc,
+            partition,
+            name,
+            page_size,
+            capacity,
+            end,
+            first: page,
+            settled: page * u64::from(page_size) + from as u64,
+            tip,
+            from,
+            newest,
+            behind: false,
+            torn: false,
+            seal,
+        }
+    }
+
+    // Cuts where a page begins.
+    fn cut_at<D: Device>(self, dev: &mut D, page: u64) -> Result<PageBlob<S>, RError>
+        requires open { IsOpenAt (D.opened dev.old) (key_of (shown self)) self.end }
+        requires below { page * self.page_size < size_of (shown self) }
+        ensures crashes { D.Tells → IsAtRest (disk (D.time dev.old) (key_of (shown self)))
+            → page_at self.page_size page ≤ length (disk (D.time dev.old) (key_of (shown self))).content
+            → page * self.page_size ≤ length (sealed_prefix S.seal_of self.page_size (disk (D.time dev.old) (key_of (shown self))).content)
+            → Sealing S.seal_of self.page_size (sealed_prefix S.seal_of self.page_size (disk (D.time dev.old) (key_of (shown self))).content) (page * self.page_size) (key_of (shown self)) (D.time dev.old) (D.time dev.new) }
+        ensures done { D.Tells → IsAtRest (disk (D.time dev.old) (key_of (shown self)))
+            → page_at self.page_size page ≤ length (disk (D.time dev.old) (key_of (shown self))).content
+            → page * self.page_size ≤ length (sealed_prefix S.seal_of self.page_size (disk (D.time dev.old) (key_of (shown self))).content)
+            → IfOk result (λ r. Holds S.seal_of (shown r) (take (page * self.page_size) (sealed_prefix S.seal_of self.page_size (disk (D.time dev.old) (key_of (shown self))).content)) (disk (D.time dev.new) (key_of (shown self)))) }
+        ensures bytes { D.Tells → (all : List ℕ) → Data self.page_size all (page * self.page_size) (view (disk (D.time dev.old) (key_of (shown self))).content)
+            → length all ≡ page * self.page_size
+            → IfOk result (λ r. bytes_of (shown r) (disk (D.time dev.new) (key_of (shown self))).content ≡ all) }
+        ensures backed { D.Tells → (all : List ℕ) → Data self.page_size all (page * self.page_size) (view (disk (D.time dev.old) (key_of (shown self))).content)
+            → length all ≡ page * self.page_size
+            → IfOk result (λ r. IsBacked (shown r) (disk (D.time dev.new) (key_of (shown self))).content) }
+        ensures rests { D.Tells → OnOk result (IsAtRest (disk (D.time dev.new) (key_of (shown self)))) }
+        ensures same { IfOk result (λ r. shown r ≡ record (shown self) { end = r.end; first = page; tip = []; from = 0; settled = page * self.page_size + 0; newest = r.newest; behind = false; torn = false }) }
+        ensures alone { D.Tells → Alone (key_of (shown self)) (D.time dev.old) (D.time dev.new) }
+        ensures length { IfOk result (λ r. IsOpenAt (D.opened dev.new) (key_of (shown self)) r.end) }
+        ensures entries { NoReads (key_of (shown self)) (D.opened dev.old) (D.opened dev.new) }
+        ensures faults { D.faults dev.old ≤ D.faults dev.new }
+        ensures cause { OnErr result ((result ≡ Err RError.Mem) ⊎ ((result ≡ Err RError.Fault) × Rose (D.faults dev.old) (D.faults dev.new))) }
+    {
+        let end = page_place(self.page_size, page);
+        cut_pages::<D, S>(
+            dev,
+            self.partition.as_str(),
+            self.name.as_slice(),
+            self.page_size,
+            page,
+        )?;
+        let tip = Vec::new(self.alloc);
+        Ok(self.ending_with(end, page, tip, false))
+    }
+
+    // Cuts a page to its first `keep` bytes. It reads the page, also where it is the last one, so that the cut rests on the
+    // slots as the blob has them.
+    fn cut_within<D: Device>(
+        self,
+        dev: &mut D,
+        page: u64,
+        keep: usize,
+    ) -> Result<PageBlob<S>, RError>
+        requires open { IsOpenAt (D.opened dev.old) (key_of (shown self)) self.end }
+        requires some { 0 < keep }
+        requires short { keep < self.page_size }
+        requires below { page * self.page_size + keep < size_of (shown self) }
+        ensures crashes { D.Tells → IsAtRest (disk (D.time dev.old) (key_of (shown self)))
+            → page * self.page_size + keep ≤ length (sealed_prefix S.seal_of self.page_size (disk (D.time dev.old) (key_of (shown self))).content)
+            → Sealing S.seal_of self.page_size (sealed_prefix S.seal_of self.page_size (disk (D.time dev.old) (key_of (shown self))).content) (page * self.page_size + keep) (key_of (shown self)) (D.time dev.old) (D.time dev.new) }
+        ensures done { D.Tells → IsAtRest (disk (D.time dev.old) (key_of (shown self)))
+            → page * self.page_size + keep ≤ length (sealed_prefix S.seal_of self.page_size (disk (D.time dev.old) (key_of (shown self))).content)
+            → IfOk result (λ r. Holds S.seal_of (shown r) (take (page * self.page_size + keep) (sealed_prefix S.seal_of self.page_size (disk (D.time dev.old) (key_of (shown self))).content)) (disk (D.time dev.new) (key_of (shown self)))) }
+        ensures bytes { D.Tells → (all : List ℕ) → Data self.page_size all (page * self.page_size + keep) (view (disk (D.time dev.old) (key_of (shown self))).content)
+            → length all ≡ page * self.page_size + keep
+            → IfOk result (λ r. bytes_of (shown r) (disk (D.time dev.new) (key_of (shown self))).content ≡ all) }
+        ensures backed { D.Tells → (all : List ℕ) → Data self.page_size all (page * self.page_size + keep) (view (disk (D.time dev.old) (key_of (shown self))).content)
+            → length all ≡ page * self.page_size + keep
+            → IfOk result (λ r. IsBacked (shown r) (disk (D.time dev.new) (key_of (shown self))).content) }
+        ensures rests { D.Tells → OnOk result (IsAtRest (disk (D.time dev.new) (key_of (shown self)))) }
+        ensures same { IfOk result (λ r. shown r ≡ record (shown self) { end = r.end; first = page; tip = r.tip.items; from = length r.tip.items; settled = page * self.page_size + length r.tip.items; newest = r.newest; behind = false; torn = false }) }
+        ensures long { IfOk result (λ r. length r.tip.items ≡ keep) }
+        ensures alone { D.Tells → Alone (key_of (shown self)) (D.time dev.old) (D.time dev.new) }
+        ensures length { IfOk result (λ r. IsOpenAt (D.opened dev.new) (key_of (shown self)) r.end) }
+        ensures entries { FewReads 1 (key_of (shown self)) (D.opened dev.old) (D.opened dev.new) }
+        ensures faults { D.faults dev.old ≤ D.faults dev.new }
+        ensures checksum { D.Tells → (p : ℕ) → result ≡ Err (RError.InvalidChecksum p) → page_length S.seal_of self.page_size (disk (D.time dev.new) (key_of (shown self))).content page < keep }
+        ensures uncut { D.Tells → (p : ℕ) → result ≡ Err (RError.InvalidChecksum p) → disk (D.time dev.new) ≡ disk (D.time dev.old) }
+        ensures cause { OnErr result ((result ≡ Err (RError.InvalidChecksum page)) ⊎ ((result ≡ Err RError.Mem) ⊎ ((result ≡ Err RError.Fault) × Rose (D.faults dev.old) (D.faults dev.new)))) }
+    {
+        let head = read_head::<D, S>(
+            self.alloc,
+            dev,
+            self.partition.as_str(),
+            self.name.as_slice(),
+            self.page_size,
+            self.end,
+            page,
+            keep,
+        )?;
+        let Head { bytes, second } = head;
+        let end = cut_inside::<D, S>(
+            dev,
+            self.partition.as_str(),
+            self.name.as_slice(),
+            self.page_size,
+            self.end,
+            page,
+            bytes.as_slice(),
+            second,
+        )?;
+        Ok(self.ending_with(end, page, bytes, !second))
+    }
+
+    /// Cuts the buffer to this length, which has then settled. At or above the size nothing changes, and no call of the device is
+    /// made; else what is pending is settled first.
+    ///
+    /// It answers `InvalidChecksum` with the page in which the cut is to stand, where no matching slot covers that page so far.
+    /// Nothing is cut then.
+    pub fn truncate<D: Device>(self, dev: &mut D, len: u64) -> Result<PageBlob<S>, RError>
+        requires open { IsOpenAt (D.opened dev.old) (key_of (shown self)) self.end }
+        // At every moment each crash leaves a prefix of the bytes, no shorter than what has settled or than the new length.
+        ensures crashes { D.Tells → IsSealed S.seal_of (shown self) (disk (D.time dev.old) (key_of (shown self)))
+            → Sealing S.seal_of self.page_size (bytes_of (shown self) (disk (D.time dev.old) (key_of (shown self))).content) (min self.settled len) (key_of (shown self)) (D.time dev.old) (D.time dev.new) }
+        ensures sealed { D.Tells → IsSealed S.seal_of (shown self) (disk (D.time dev.old) (key_of (shown self)))
+            → IfOk result (λ r. IsSealed S.seal_of (shown r) (disk (D.time dev.new) (key_of (shown self)))) }
+        // Also on a blob whose sealed prefix is shorter than its size, if the cut is to at most that prefix.
+        ensures unrecovered { D.Tells → IsAtRest (disk (D.time dev.old) (key_of (shown self)))
+            → size_of (shown self) ≡ adopted_size S.seal_of self.page_size (disk (D.time dev.old) (key_of (shown self))).content
+            → self.settled ≡ size_of (shown self)
+            → len ≤ length (sealed_prefix S.seal_of self.page_size (disk (D.time dev.old) (key_of (shown self))).content)
+            → Sealing S.seal_of self.page_size (sealed_prefix S.seal_of self.page_size (disk (D.time dev.old) (key_of (shown self))).content) len (key_of (shown self)) (D.time dev.old) (D.time dev.new) }
+        // The promise on crashes begins again there.
+        ensures recovered { D.Tells → IsAtRest (disk (D.time dev.old) (key_of (shown self)))
+            → size_of (shown self) ≡ adopted_size S.seal_of self.page_size (disk (D.time dev.old) (key_of (shown self))).content
+            → self.settled ≡ size_of (shown self)
+            → len ≤ length (sealed_prefix S.seal_of self.page_size (disk (D.time dev.old) (key_of (shown self))).content)
+            → len < size_of (shown self)
+            → IfOk result (λ r. IsSealed S.seal_of (shown r) (disk (D.time dev.new) (key_of (shown self)))) }
+        ensures prefix { D.Tells → IsAtRest (disk (D.time dev.old) (key_of (shown self)))
+            → size_of (shown self) ≡ adopted_size S.seal_of self.page_size (disk (D.time dev.old) (key_of (shown self))).content
+            → self.settled ≡ size_of (shown self)
+            → len ≤ length (sealed_prefix S.seal_of self.page_size (disk (D.time dev.old) (key_of (shown self))).content)
+            → len < size_of (shown self)
+            → IfOk result (λ r. bytes_of (shown r) (disk (D.time dev.new) (key_of (shown self))).content ≡ take len (sealed_prefix S.seal_of self.page_size (disk (D.time dev.old) (key_of (shown self))).content)) }
+        ensures bytes { D.Tells → IsBacked (shown self) (disk (D.time dev.old) (key_of (shown self))).content
+            → IfOk result (λ r. bytes_of (shown r) (disk (D.time dev.new) (key_of (shown self))).content ≡ take len (bytes_of (shown self) (disk (D.time dev.old) (key_of (shown self))).content)) }
+        ensures backed { D.Tells → IsBacked (shown self) (disk (D.time dev.old) (key_of (shown self))).content
+            → IfOk result (λ r. IsBacked (shown r) (disk (D.time dev.new) (key_of (shown self))).content) }
+        ensures alone { D.Tells → IsBacked (shown self) (disk (D.time dev.old) (key_of (shown self))).content → Alone (key_of (shown self)) (D.time dev.old) (D.time dev.new) }
+        ensures unchanged { size_of (shown self) ≤ len → dev.new ≡ dev.old }
+        ensures same { size_of (shown self) ≤ len → IfOk result (λ r. shown r ≡ shown self) }
+        // Where it cut, all has settled, and adopting the blob gives it again.
+        ensures settled { len < size_of (shown self) → IfOk result (λ r. r.settled ≡ len) }
+        ensures rests { D.Tells → len < size_of (shown self) → OnOk result (IsAtRest (disk (D.time dev.new) (key_of (shown self)))) }
+        ensures again { D.Tells → len < size_of (shown self) → IsSealed S.seal_of (shown self) (disk (D.time dev.old) (key_of (shown self)))
+            → OnOk result (Settles S.seal_of self.page_size (take len (bytes_of (shown self) (disk (D.time dev.old) (key_of (shown self))).content)) (disk (D.time dev.new) (key_of (shown self)))) }
+        ensures leaves { D.Tells → len < size_of (shown self) → IsSealed S.seal_of (shown self) (disk (D.time dev.old) (key_of (shown self)))
+            → OnOk result (Leaves S.seal_of self.page_size (take len (bytes_of (shown self) (disk (D.time dev.old) (key_of (shown self))).content)) len (disk (D.time dev.new) (key_of (shown self)))) }
+        ensures size { IfOk result (λ r. size_of (shown r) ≡ min (size_of (shown self)) len) }
+        ensures key { IfOk result (λ r. key_of (shown r) ≡ key_of (shown self)) }
+        ensures page_size { IfOk result (λ r. r.page_size ≡ self.page_size) }
+        ensures capacity { IfOk result (λ r. r.capacity ≡ self.capacity) }
+        ensures open { IfOk result (λ r. IsOpenAt (D.opened dev.new) (key_of (shown r)) r.end) }
+        ensures entries { FewReads 1 (key_of (shown self)) (D.opened dev.old) (D.opened dev.new) }
+        ensures faults { D.faults dev.old ≤ D.faults dev.new }
+        // The blob is then as it reads once what was pending has settled.
+        ensures checksum { D.Tells → (p : ℕ) → result ≡ Err (RError.InvalidChecksum p)
+            → p * self.page_size + page_length S.seal_of self.page_size (disk (D.time dev.new) (key_of (shown self))).content p < len }
+        ensures page { (p : ℕ) → result ≡ Err (RError.InvalidChecksum p) → (p * self.page_size < len) × (len < p * self.page_size + self.page_size) × (len < size_of (shown self)) }
+        ensures cause { OnErr result (((p : ℕ) × (result ≡ Err (RError.InvalidChecksum p))) ⊎ ((result ≡ Err RError.Mem) ⊎ ((result ≡ Err RError.Fault) × Rose (D.faults dev.old) (D.faults dev.new)))) }
+    {
+        if len >= self.size() {
+            return Ok(self);
+        }
+        let this = self.sync(dev)?;
+        let page_size = u64::from(this.page_size);
+        let page = len / page_size;
+        let keep = (len % page_size) as usize;
+        if keep == 0 {
+            return this.cut_at(dev, page);
+        }
+        this.cut_within(dev, page, keep)
+    }
+}

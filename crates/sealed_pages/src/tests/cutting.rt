@@ -1,0 +1,85 @@
+// Cuts of a buffer, and what each crash leaves on the way.
+use super::opened;
+use blob_device::{CrashChoice, Device, Image, Memory, RError};
+use std::alloc::Global;
+use std::test::Fail;
+
+/// Opens the blob with pages of 4 bytes, adds bytes, and settles them.
+fn put(alloc: Global, dev: &mut Memory, bytes: &[u8]) -> Result<(), RError> {
+    let blob = opened(alloc, dev, 4)?;
+    let (blob, _) = blob.append(dev, bytes)?;
+    blob.sync(dev)?;
+    Ok(())
+}
+
+/// Opens the blob with pages of 4 bytes and cuts it.
+fn cut(alloc: Global, dev: &mut Memory, len: u64) -> Result<u64, RError> {
+    let blob = opened(alloc, dev, 4)?;
+    let blob = blob.truncate(dev, len)?;
+    Ok(blob.size())
+}
+
+/// The bytes of the blob in an image.
+fn bytes_of(alloc: Global, image: &Image) -> Result<Vec<u8>, RError> {
+    let mut bytes = Vec::new(alloc);
+    if let Some(old) = image.blob("p", b"x") {
+        bytes.extend_from_slice(old)?;
+    }
+    Ok(bytes)
+}
+
+// `abcdef` is cut to 5 bytes, inside its last page, and then to 4, where that page begins.
+#[test]
+fn shorter(rt: HostRuntime) -> Result<(), Fail> {
+    let alloc = rt.alloc();
+    let mut dev = Memory::new(alloc);
+    put(alloc, &mut dev, b"abcdef")?;
+    assert_eq!(rt; dev.open_blob("p", b"x")?, 26);
+    assert_eq!(rt; cut(alloc, &mut dev, 6)?, 6);
+    assert_eq!(rt; cut(alloc, &mut dev, 5)?, 5);
+    let bytes = bytes_of(alloc, &dev.image(alloc)?)?;
+    assert_eq!(rt; bytes.len(), 32);
+    assert_eq!(rt; bytes.as_slice().get(20..26), Some([0_u8; 6].as_slice()));
+    assert_eq!(rt; cut(alloc, &mut dev, 4)?, 4);
+    assert_eq!(rt; dev.open_blob("p", b"x")?, 16);
+    Ok(())
+}
+
+/// The size at which the blob of this image is adopted, and how many bytes of it are `letters`.
+fn sealed(alloc: Global, image: Image) -> Result<u64, RError> {
+    let mut dev = Memory::from_image(alloc, image)?;
+    let blob = opened(alloc, &mut dev, 4)?;
+    Ok(blob.size())
+}
+
+/// Whether a crash now leaves a blob that holds `abcde` or `abcdef`.
+fn leaves_five(alloc: Global, dev: &Memory, choice: CrashChoice) -> Result<bool, RError> {
+    let image = dev.pick_crash(alloc, choice)?;
+    let bytes = bytes_of(alloc, &image)?;
+    let front = bytes.as_slice().get(0..4) == Some(b"abcd".as_slice());
+    let fifth = bytes.as_slice().get(16..17) == Some(b"e".as_slice());
+    let sixth = bytes.as_slice().get(16..18) == Some(b"ef".as_slice());
+    let size = sealed(alloc, image)?;
+    Ok(front && ((size == 5 && fifth) || (size == 6 && sixth)))
+}
+
+// A cut that is stopped at each call of the device: each crash leaves the longer bytes or the shorter ones.
+#[test]
+fn stopped(rt: HostRuntime) -> Result<(), Fail> {
+    let alloc = rt.alloc();
+    for nth in 0..9_u64 {
+        let mut dev = Memory::new(alloc);
+        put(alloc, &mut dev, b"abcdef")?;
+        let blob = opened(alloc, &mut dev, 4)?;
+        let begun = dev.calls();
+        dev.fuse_at(begun.saturating_add(nth));
+        let stopped = blob.truncate(&mut dev, 5);
+        assert_eq!(rt; stopped.is_err(), nth < 5);
+        assert!(rt; leaves_five(alloc, &dev, CrashChoice::Settled)?);
+        assert!(rt; leaves_five(alloc, &dev, CrashChoice::AsRead)?);
+        for bits in 0..8_u64 {
+            assert!(rt; leaves_five(alloc, &dev, CrashChoice::Mixed(bits))?);
+        }
+    }
+    Ok(())
+}
