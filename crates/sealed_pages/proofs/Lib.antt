@@ -13,3 +13,8 @@ pub mod Holding
 pub mod Syncing
 pub mod Looking
 pub mod Starting
+pub mod SparingLemmas
+pub mod WriteLemmas
+pub mod WritingLemmas
+pub mod RunLemmas
+pub mod PlainLemmas

@@ -9,3 +9,6 @@ pub mod Shown
 pub mod Reading
 pub mod Found
 pub mod Starts
+pub mod Sparing
+pub mod Writing
+pub mod Filled
