@@ -1,25 +1,20 @@
 // The plain reading of pages, against hand-made bytes, against what the buffer writes, and against what it adopts.
 ghost use Rattle.std.specs.Prelude.{◌≤◌, length};
 
+use super::opened;
 use crate::page::slot_of;
-use crate::{PageBlob, Pages, plain};
-use blob_device::{Device, Image, Memory, RError};
+use crate::plain;
+use blob_device::{Image, Memory, RError};
 use std::alloc::{AllocError, Global};
 use std::test::Fail;
 use value_codec::Sha256Seal;
-
-const PAGES: Pages = Pages {
-    page_size: 4,
-    cache_pages: 0,
-};
 
 /// The size at which a blob of these bytes is adopted.
 fn adopted(alloc: Global, bytes: &[u8]) -> Result<u64, RError> {
     let mut image = Image::new(alloc);
     image.set_blob("p", b"x", bytes)?;
     let mut dev = Memory::from_image(alloc, image)?;
-    let size = dev.open_blob("p", b"x")?;
-    let blob: PageBlob<Sha256Seal> = PageBlob::adopt(alloc, &mut dev, "p", b"x", size, 0, PAGES)?;
+    let blob = opened(alloc, &mut dev, 4)?;
     Ok(blob.size())
 }
 
@@ -129,10 +124,7 @@ fn what_is_written_is_sealed(rt: HostRuntime) -> Result<(), Fail> {
     let mut all = Vec::new(alloc);
     for part in [b"abc".as_slice(), b"d", b"efghijk", b"l", b"m"] {
         all.extend_from_slice(part)?;
-        let size = dev.open_blob("p", b"x")?;
-        let blob: PageBlob<Sha256Seal> = PageBlob::adopt(
-            alloc, &mut dev, "p", b"x", size, 0, PAGES,
-        )?;
+        let blob = opened(alloc, &mut dev, 4)?;
         let (blob, _) = blob.append(&mut dev, part)?;
         let blob = blob.sync(&mut dev)?;
         let image = dev.image(alloc)?;

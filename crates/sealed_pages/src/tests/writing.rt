@@ -215,8 +215,8 @@ fn step_done(blob: WriteBlob, dev: &mut Memory, step: Step) -> Result<WriteBlob,
 fn run_to(alloc: Global, capacity: usize, fuse: u64) -> Result<(Memory, Plain, bool), RError> {
     let mut dev = Memory::new(alloc);
     let mut plain = Plain::new(alloc);
-    let mut blob = adopted(alloc, &mut dev, capacity)?;
     dev.fuse_at(fuse);
+    let mut blob = adopted(alloc, &mut dev, capacity)?;
     'steps: for step in STEPS {
         plain.begin(step)?;
         match step_done(blob, &mut dev, step) {
@@ -278,6 +278,7 @@ fn reads_as(
     plain: &Plain,
 ) -> Result<bool, RError>
     requires { IsOpenAt (memory_opened dev.old) (blob_key (shown blob.now)) blob.now.end }
+    ensures { IsOpenAt (memory_opened dev.new) (blob_key (shown blob.now)) blob.now.end }
 {
     let mut buf = plain.bytes.as_slice().to_vec(alloc)?;
     buf.fill(9);
