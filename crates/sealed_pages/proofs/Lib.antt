@@ -19,3 +19,8 @@ pub mod CutCalls
 pub mod CutEntries
 pub mod CutSteps
 pub mod Truncating
+pub mod SparingLemmas
+pub mod WriteLemmas
+pub mod WritingLemmas
+pub mod RunLemmas
+pub mod PlainLemmas

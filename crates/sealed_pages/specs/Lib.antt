@@ -10,3 +10,6 @@ pub mod Reading
 pub mod Found
 pub mod Starts
 pub mod Cutting
+pub mod Sparing
+pub mod Writing
+pub mod Filled

@@ -6,11 +6,14 @@ mod flush;
 mod page;
 mod page_blob;
 mod pages;
+pub mod plain;
 mod reading;
 mod repair;
 mod start;
 #[cfg(test)]
 mod tests;
+mod write_blob;
 
 pub use page_blob::PageBlob;
 pub use pages::Pages;
+pub use write_blob::WriteBlob;

@@ -1,0 +1,80 @@
+-- The plain reading of pages, page by page.
+use Rattle.std.proofs.Common.{◌≡◌, ◌≢◌, inl, inr, ℕ, zero, suc, ◌+◌, ◌-◌, ◌*◌, ◌<◌, ◌≤◌, min, eqb, Bool, cond, List, [], ◌++◌, length, get_or, take, drop, refl, sym, ◌∙◌, ap, arith, append_assoc, length-take, length-drop}
+use Rattle.std.proofs.lemmas.Bool.{cases_lt, eq-eqb, ne_eqb}
+use Rattle.std.proofs.lemmas.List.{append-nil, take_all, get_or-take, get_or-drop, ext_get_or}
+use Rattle.sealed_pages.specs.Reading.{page_of}
+use Rattle.sealed_pages.specs.SealedPrefix.{pages_in, sealed_from, sealed_prefix, size_below}
+use Rattle.sealed_pages.specs.Slots.{slot_length, page_length}
+use Rattle.sealed_pages.specs.View.{view, bytes_at, page_at}
+use Rattle.sealed_pages.proofs.Looking.{take_short, page_below, page_length_is, page_reaches}
+use Rattle.sealed_pages.proofs.SlotLemmas.{slot_length-le, length-bytes_at, get_or-bytes_at}
+
+pub page_place : (P k : ℕ) → k * (P + 12) ≡ page_at P k
+unfolding page_at
+page_place P k = refl
+
+pub page_part : (P : ℕ) (c : List ℕ) (k n p : ℕ) → p ≡ page_at P k → n ≡ min (length (take (length c - p) (drop p c))) (P + 12) → take n (take (length c - p) (drop p c)) ≡ page_of P c k
+page_part P c k n p at is =
+    let all : take (length c - p) (drop p c) ≡ drop p c = take_all (length c - p) (drop p c) (omega (arith, length-drop p c)) in
+    ap (take n) all ∙ take_short n (P + 12) (drop p c) (omega (arith, is, ap length all)) ∙ ap (λ (q : ℕ). take (P + 12) (drop q c)) at
+
+module _ (seal : List ℕ → ℕ) (P : ℕ) (c : List ℕ) (k : ℕ) where
+  pub page_length-le : page_length seal P c k ≤ P
+  page_length-le = omega (arith, page_length_is seal P c k, slot_length-le seal P c k)
+
+  -- the data that a page's slots cover are there
+  pub data_within : k < pages_in P c → page_at P k + page_length seal P c k ≤ length c
+  data_within lt = elim (cases_lt 0 (page_length seal P c k)) [
+    | inl some ↦ (let reach = page_reaches seal P c k some in omega (arith, reach, some, page_length-le, length-take (P + 12) (drop (page_at P k) c), length-drop (page_at P k) c))
+    | inr none ↦ omega (arith, none, page_below P (length c) k lt)
+  ]
+
+  pub size_within : k < pages_in P c → k * P + page_length seal P c k ≤ length c
+  size_within lt = omega (arith, data_within lt, page_place P k)
+
+  data_is : (at n : ℕ) → at + n ≤ length c → bytes_at (view c) at n ≡ take n (drop at c)
+  data_is at n fits = ext_get_or 0 (bytes_at (view c) at n) (take n (drop at c)) (omega (arith, length-bytes_at (view c) n at, length-take n (drop at c), length-drop at c, fits))
+      (λ i lt. let inside : i < n = omega (arith, lt, length-bytes_at (view c) n at) in
+      get_or-bytes_at (view c) n at i inside ∙ sym (get_or-take n (drop at c) i 0 inside ∙ get_or-drop at c i 0))
+
+  step : (m : ℕ) → sealed_from seal P c k (suc m) ≡ bytes_at (view c) (page_at P k) (page_length seal P c k) ++ cond (eqb (page_length seal P c k) P) (sealed_from seal P c (k + 1) m) []
+  unfolding sealed_from
+  step m = refl
+
+  -- one page more of the sealed prefix: `part` is its data
+  module _ (prefix part all : List ℕ) (len at m : ℕ) (below : k < pages_in P c) (len_is : len ≡ page_length seal P c k) (at_is : at ≡ page_at P k) (part_is : part ≡ take len (drop at c))
+      (left : m ≡ pages_in P c - k) (so_far : prefix ++ sealed_from seal P c k m ≡ all) where
+    part_data : bytes_at (view c) (page_at P k) (page_length seal P c k) ≡ part
+    part_data = data_is (page_at P k) (page_length seal P c k) (data_within below) ∙ sym (part_is ∙ (λ i. take (len_is i) (drop (at_is i) c)))
+
+    more : m ≡ suc (pages_in P c - (k + 1))
+    more = omega (arith, left, below)
+
+    pub prefix_ends : len < P → prefix ++ part ≡ all
+    prefix_ends short =
+        let differ : page_length seal P c k ≢ P = λ e. omega (arith, e, short, len_is) in
+        sym (ap (λ (l : List ℕ). prefix ++ l) (ap (sealed_from seal P c k) more ∙ step (pages_in P c - (k + 1))
+        ∙ ap (λ (b : Bool). bytes_at (view c) (page_at P k) (page_length seal P c k) ++ cond b (sealed_from seal P c (k + 1) (pages_in P c - (k + 1))) []) (ne_eqb (page_length seal P c k) P differ)
+        ∙ append-nil (bytes_at (view c) (page_at P k) (page_length seal P c k)) ∙ part_data)) ∙ so_far
+
+    pub prefix_goes_on : P ≤ len → (prefix ++ part) ++ sealed_from seal P c (k + 1) (pages_in P c - (k + 1)) ≡ all
+    prefix_goes_on full =
+        let same : page_length seal P c k ≡ P = omega (arith, full, len_is, page_length-le) in
+        append_assoc prefix part (sealed_from seal P c (k + 1) (pages_in P c - (k + 1)))
+        ∙ sym (ap (λ (l : List ℕ). prefix ++ l) (ap (sealed_from seal P c k) more ∙ step (pages_in P c - (k + 1))
+        ∙ ap (λ (b : Bool). bytes_at (view c) (page_at P k) (page_length seal P c k) ++ cond b (sealed_from seal P c (k + 1) (pages_in P c - (k + 1))) []) (eq-eqb (page_length seal P c k) P same)
+        ∙ ap (λ (l : List ℕ). l ++ sealed_from seal P c (k + 1) (pages_in P c - (k + 1))) part_data)) ∙ so_far
+
+-- before the first page, and behind the last
+pub prefix_whole : (seal : List ℕ → ℕ) (P : ℕ) (c : List ℕ) → sealed_from seal P c 0 (pages_in P c) ≡ sealed_prefix seal P c
+unfolding sealed_prefix
+prefix_whole seal P c = refl
+
+nothing_left : (seal : List ℕ → ℕ) (P : ℕ) (c : List ℕ) (k : ℕ) → sealed_from seal P c k 0 ≡ []
+unfolding sealed_from
+nothing_left seal P c k = refl
+
+pub prefix_done : (seal : List ℕ → ℕ) (P : ℕ) (c prefix all : List ℕ) (k : ℕ) → pages_in P c ≤ k → prefix ++ sealed_from seal P c k (pages_in P c - k) ≡ all → prefix ≡ all
+prefix_done seal P c prefix all k past is =
+    let none : pages_in P c - k ≡ 0 = omega (arith, past) in
+    sym (append-nil prefix) ∙ sym (ap (λ (l : List ℕ). prefix ++ l) (ap (sealed_from seal P c k) none ∙ nothing_left seal P c k)) ∙ is

@@ -1,0 +1,114 @@
+-- Calls on one blob, and the places that they spare.
+use Rattle.std.proofs.Common.{◌≡◌, ◌⊎◌, inl, inr, ℕ, ◌+◌, ◌<◌, ◌≤◌, Bool, true, not, ◌||◌, List, [], ◌∷◌, ◌++◌, length, get_or, Result, Ok, Err, Option, Some, None, IsSomeAnd, refl, sym, ◌∙◌, ap, subst, arith}
+use Rattle.std.proofs.lemmas.Bool.{cases_lt}
+use Rattle.std.proofs.lemmas.List.{get_or_past}
+use Rattle.blob_device.specs.declared.error.DevError.{DevError}
+use Rattle.blob_device.specs.Disk.{Key, Blob, Disk, Outside, MayLeave, settled_at, shortest}
+use Rattle.blob_device.specs.Change.{Change, Write, Resize, Settle, during, done, FailedTo, written, resized}
+use Rattle.blob_device.specs.Timeline.{Timeline, disk, Passes, Always, OnlyAt}
+use Rattle.blob_device.proofs.Bytes.{length-written, length-resized, least_push, outside_push}
+use Rattle.blob_device.proofs.Moments.{always_now, always_then, always_weaker, only_start, only_on, ok_blob, err_has}
+use Rattle.blob_device.proofs.Places.{written_out, resized_below}
+use Rattle.sealed_pages.specs.Sparing.{Lasts, SameByte, Spares, Sparing}
+
+module _ (R : ℕ → Type 0) (n : ℕ) (from b : Blob)
+    (loose : (i : ℕ) → R i → Outside from.loose i → Outside b.loose i)
+    (same : (i : ℕ) → R i → get_or b.content i 0 ≡ get_or from.content i 0) where
+  crash_left : (m : ℕ) → Lasts m b → (left : Option (List ℕ)) → MayLeave b left → IsSomeAnd left (λ c. (i : ℕ) → i < m → R i → Outside from.loose i → SameByte i from.content c)
+  crash_left m last None left =
+      let unsure : b.unsure ≡ true = sym (ap (λ (t : Bool). not t || b.unsure) last.there) ∙ left in
+      absurd (cc (unsure, last.sure))
+  crash_left m last (Some c) left = λ i lt r out. record {
+    inside = omega (arith, lt, last.short, left.1.no_shorter);
+    same = left.1.kept i (omega (arith, lt, last.short)) (loose i r out) ∙ same i r;
+  }
+
+  pub spares_of : ((m : ℕ) → m ≤ n → Lasts m from → Lasts m b) → Spares R n from b
+  spares_of lasts = record { loose = loose; same = same; lasts = lasts; crashes = λ m le was. crash_left m (lasts m le was) }
+
+pub spares_self : (R : ℕ → Type 0) (n : ℕ) (b : Blob) → Spares R n b b
+spares_self R n b = spares_of R n b b (λ i r out. out) (λ i r. refl) (λ m le was. was)
+
+spares_trans : (R : ℕ → Type 0) (n : ℕ) (a b c : Blob) → Spares R n a b → Spares R n b c → Spares R n a c
+spares_trans R n a b c first second = spares_of R n a c (λ i r out. second.loose i r (first.loose i r out)) (λ i r. second.same i r ∙ first.same i r) (λ m le was. second.lasts m le (first.lasts m le was))
+
+spares_weaker : (R S : ℕ → Type 0) (n m : ℕ) (a b : Blob) → ((i : ℕ) → S i → R i) → m ≤ n → Spares R n a b → Spares S m a b
+spares_weaker R S n m a b less le s = spares_of S m a b (λ i r out. s.loose i (less i r) out) (λ i r. s.same i (less i r)) (λ k small was. s.lasts k (omega (arith, small, le)) was)
+
+pub sparing_start : (R : ℕ → Type 0) (n : ℕ) (k : Key) (t : Timeline) → Sparing R n k t t
+sparing_start R n k t = only_start t k (Spares R n (disk t k)) (spares_self R n (disk t k))
+
+pub sparing_now : (R : ℕ → Type 0) (n : ℕ) (k : Key) (a b : Timeline) → Sparing R n k a b → Spares R n (disk a k) (disk b k)
+sparing_now R n k a b always = (always_now a b (OnlyAt k (disk a) (Spares R n (disk a k))) always).here
+
+pub sparing_then : (R : ℕ → Type 0) (n : ℕ) (k : Key) (a b c : Timeline) → Sparing R n k a b → Sparing R n k b c → Sparing R n k a c
+sparing_then R n k a b c first second =
+    let now = always_now a b (OnlyAt k (disk a) (Spares R n (disk a k))) first in
+    always_then a b c (OnlyAt k (disk a) (Spares R n (disk a k))) first
+    (always_weaker b c (OnlyAt k (disk b) (Spares R n (disk b k))) (OnlyAt k (disk a) (Spares R n (disk a k)))
+    (λ d only. record { here = spares_trans R n (disk a k) (disk b k) (d k) now.here only.here; others = λ q other. only.others q other ∙ now.others q other }) second)
+
+pub sparing_weaker : (R S : ℕ → Type 0) (n m : ℕ) (k : Key) (a b : Timeline) → ((i : ℕ) → S i → R i) → m ≤ n → Sparing R n k a b → Sparing S m k a b
+sparing_weaker R S n m k a b less le always = always_weaker a b (OnlyAt k (disk a) (Spares R n (disk a k))) (OnlyAt k (disk a) (Spares S m (disk a k)))
+    (λ d only. record { here = spares_weaker R S n m (disk a k) (d k) less le only.here; others = only.others }) always
+
+module _ (R : ℕ → Type 0) (n : ℕ) (k : Key) (t0 t1 : Timeline) where
+  one_call : {T : Type 0} (change : Change) (r : Result T DevError) → Passes k change r t0 t1 → Spares R n (disk t0 k) (during change (disk t0 k)) → Spares R n (disk t0 k) (done change (disk t0 k))
+      → ((new : Blob) → FailedTo change (disk t0 k) new → Spares R n (disk t0 k) new) → Sparing R n k t0 t1
+  one_call {T = T} change r passes inside after failed =
+      only_on t0 t0 t1 k (disk t0) (Spares R n (disk t0 k)) change r (sparing_start R n k t0) passes inside (end r passes)
+    where
+      end : (q : Result T DevError) → Passes k change q t0 t1 → Spares R n (disk t0 k) (disk t1 k)
+      end (Ok v) went = subst (Spares R n (disk t0 k)) (sym (ok_blob k change v t0 t1 went)) after
+      end (Err e) went = err_has {T = T} (Spares R n (disk t0 k)) k change e t0 t1 went (spares_self R n (disk t0 k)) failed
+
+  spares_written : (at : ℕ) (bytes c : List ℕ) → ((i : ℕ) → R i → (i < at) ⊎ (at + length bytes ≤ i)) → length (disk t0 k).content ≤ length c
+      → ((i : ℕ) → R i → get_or c i 0 ≡ get_or (disk t0 k).content i 0) → Spares R n (disk t0 k) (record (during (Write at bytes) (disk t0 k)) { content = c })
+  spares_written at bytes c avoids long same = spares_of R n (disk t0 k) (record (during (Write at bytes) (disk t0 k)) { content = c })
+      (λ i r out. outside_push (disk t0 k).loose at (length bytes) i out (avoids i r)) same
+      (λ m le was. record {
+        there = was.there;
+        sure = was.sure;
+        short = omega (arith, was.short, was.long, least_push (length (disk t0 k).settled) (disk t0 k).since (written (disk t0 k).content at bytes), length-written (disk t0 k).content at bytes);
+        long = omega (arith, was.long, long);
+      })
+
+  pub sparing_write : {T : Type 0} (at : ℕ) (bytes : List ℕ) (r : Result T DevError) → Passes k (Write at bytes) r t0 t1 → ((i : ℕ) → R i → (i < at) ⊎ (at + length bytes ≤ i)) → Sparing R n k t0 t1
+  sparing_write at bytes r passes avoids = one_call (Write at bytes) r passes
+      (spares_written at bytes (disk t0 k).content avoids (omega arith) (λ i named. refl))
+      (spares_written at bytes (written (disk t0 k).content at bytes) avoids (omega (arith, length-written (disk t0 k).content at bytes)) (λ i named. written_out (disk t0 k).content at bytes i (avoids i named)))
+      (λ new failed. subst (Spares R n (disk t0 k)) (sym failed.2) (spares_written at bytes failed.0 avoids failed.1.no_shorter
+      (λ i named. elim (cases_lt i (length failed.0)) [
+        | inl inside ↦ failed.1.outside i inside (avoids i named) ∙ written_out (disk t0 k).content at bytes i (avoids i named)
+        | inr past ↦ get_or_past failed.0 i 0 past ∙ sym (get_or_past (disk t0 k).content i 0 (omega (arith, past, failed.1.no_shorter)))
+      ])))
+
+  spares_resized : (m : ℕ) (c : List ℕ) → ((i : ℕ) → R i → i < m) → n ≤ m → ((j : ℕ) → j ≤ m → j ≤ length (disk t0 k).content → j ≤ length c)
+      → ((i : ℕ) → R i → get_or c i 0 ≡ get_or (disk t0 k).content i 0) → Spares R n (disk t0 k) (record (during (Resize m) (disk t0 k)) { content = c })
+  spares_resized m c avoids fits long same = spares_of R n (disk t0 k) (record (during (Resize m) (disk t0 k)) { content = c })
+      (λ i r out. out) same
+      (λ j le was. record {
+        there = was.there;
+        sure = was.sure;
+        short = omega (arith, was.short, le, fits, least_push (length (disk t0 k).settled) (disk t0 k).since (resized (disk t0 k).content m), length-resized (disk t0 k).content m);
+        long = long j (omega (arith, le, fits)) was.long;
+      })
+
+  pub sparing_resize : {T : Type 0} (m : ℕ) (r : Result T DevError) → Passes k (Resize m) r t0 t1 → ((i : ℕ) → R i → i < m) → n ≤ m → Sparing R n k t0 t1
+  sparing_resize m r passes avoids fits =
+      let during_is = spares_resized m (disk t0 k).content avoids fits (λ j le long. long) (λ i named. refl) in
+      let done_is = spares_resized m (resized (disk t0 k).content m) avoids fits (λ j le long. omega (arith, le, length-resized (disk t0 k).content m)) (λ i named. resized_below (disk t0 k).content m i (avoids i named)) in
+      one_call (Resize m) r passes during_is done_is (λ new failed. after new failed during_is done_is)
+    where
+      after : (new : Blob) → FailedTo (Resize m) (disk t0 k) new → Spares R n (disk t0 k) (during (Resize m) (disk t0 k)) → Spares R n (disk t0 k) (done (Resize m) (disk t0 k)) → Spares R n (disk t0 k) new
+      after new (inl is) before whole = subst (Spares R n (disk t0 k)) (sym is) before
+      after new (inr is) before whole = subst (Spares R n (disk t0 k)) (sym is) whole
+
+  pub sparing_settle : {T : Type 0} (r : Result T DevError) → Passes k Settle r t0 t1 → Sparing R n k t0 t1
+  sparing_settle r passes = one_call Settle r passes (spares_self R n (disk t0 k))
+      (spares_of R n (disk t0 k) (settled_at (disk t0 k).content) (λ i named out. tt) (λ i named. refl) (λ m le was. record { there = refl; sure = refl; short = was.long; long = was.long }))
+      (λ new failed. subst (Spares R n (disk t0 k)) (sym failed) (spares_self R n (disk t0 k)))
+
+-- the same call, its key spelled otherwise
+pub passes_at : {T : Type 0} {p q x y : List ℕ} {change : Change} {r : Result T DevError} {t0 t1 : Timeline} → p ≡ x → q ≡ y → Passes (p, q) change r t0 t1 → Passes (x, y) change r t0 t1
+passes_at {change = change} {r = r} {t0 = t0} {t1 = t1} e f passes = subst (λ (k : Key). Passes k change r t0 t1) (λ i. (e i, f i)) passes

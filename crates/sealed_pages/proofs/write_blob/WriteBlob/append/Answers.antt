@@ -1,0 +1,12 @@
+use Rattle.std.proofs.Common.{◌≡◌, ◌∙◌, length}
+use Rattle.blob_device.specs.Timeline.{disk}
+use Rattle.sealed_pages.specs.Writing.{shown, blob_key}
+use Rattle.sealed_pages.proofs.Looking.{content_length}
+use Rattle.sealed_pages.proofs.WritingLemmas.{written_last}
+use Rattle.sealed_pages.proofs.write_blob.WriteBlob.append.Goals as goal
+
+pub returns-in-Ok-clause-bytes : goal.returns-in-Ok-clause-bytes
+returns-in-Ok-clause-bytes g c t =
+    let long : length (disk (g.D.Device.time c.args.dev.now) (blob_key (shown c.args.self))).content ≡ c.args.self.end
+    = content_length (g.D.Device.opened c.args.dev.now) (blob_key (shown c.args.self)) c.args.self.end _ _ (g.met.D.Device.opened_stands t c.args.dev.now (blob_key (shown c.args.self))) c.requires.«open» in
+    c.in-Ok.ensures.bytes t ∙ written_last (shown c.args.self) (disk (g.D.Device.time c.args.dev.now) (blob_key (shown c.args.self))).content c.args.bytes.now c.size-at.result long c.size-at.ensures

@@ -1,0 +1,100 @@
+use Rattle.std.proofs.Common.{◌≡◌, ◌<◌, ◌∙◌, ℕ, length, min, take, ap, subst, arith}
+use Rattle.blob_device.specs.Disk.{Key, settled_at}
+use Rattle.blob_device.specs.Timeline.{disk}
+use Rattle.sealed_pages.specs.Writing.{WriteBuffer, shown, blob_key, bytes_of}
+use Rattle.sealed_pages.proofs.Looking.{content_length}
+use Rattle.sealed_pages.proofs.WritingLemmas.{cut_first, cut_second, cut_third, cut_settles, cut_bytes, cut_over}
+use Rattle.sealed_pages.proofs.write_blob.WriteBlob.truncate.Goals as goal
+
+pub returns-in_err-this-clause-spares : goal.returns-in_err-this-clause-spares
+returns-in_err-this-clause-spares g c t =
+    let u : WriteBuffer = shown c.args.self in
+    let w : WriteBuffer = shown c.cut_run.result in
+    cut_first u c.args.len w (g.D.Device.time c.args.dev.now) (g.D.Device.time c.flushed.new.dev) c.cut_run.ensures (c.flushed.ensures.spares t)
+
+pub returns-in_err-this-2-clause-spares : goal.returns-in_err-this-2-clause-spares
+returns-in_err-this-2-clause-spares g c t =
+    let u : WriteBuffer = shown c.args.self in
+    let w : WriteBuffer = shown c.cut_run.result in
+    let v : WriteBuffer = shown c.in_ok-this.this in
+    let key_v : blob_key v ≡ blob_key u = ap blob_key c.in_ok-this.ensures.same ∙ ap blob_key c.cut_run.ensures in
+    cut_second u c.args.len v (g.D.Device.time c.args.dev.now) (g.D.Device.time c.flushed.new.dev) (g.D.Device.time c.shortened.new.dev) (ap (λ (x : WriteBuffer). x.settled) c.in_ok-this.ensures.same ∙ ap (λ (x : WriteBuffer). x.settled) c.cut_run.ensures) key_v
+    (cut_first u c.args.len w (g.D.Device.time c.args.dev.now) (g.D.Device.time c.flushed.new.dev) c.cut_run.ensures (c.flushed.ensures.spares t)) (c.shortened.ensures.spares t)
+
+pub returns-in_err-rested-clause-spares : goal.returns-in_err-rested-clause-spares
+returns-in_err-rested-clause-spares g c t =
+    let u : WriteBuffer = shown c.args.self in
+    let w : WriteBuffer = shown c.cut_run.result in
+    let v : WriteBuffer = shown c.in_ok-this.this in
+    let key_v : blob_key v ≡ blob_key u = ap blob_key c.in_ok-this.ensures.same ∙ ap blob_key c.cut_run.ensures in
+    let s : WriteBuffer = shown c.in_ok-this-2.this in
+    let key_s : blob_key s ≡ blob_key u = ap blob_key c.in_ok-this-2.ensures.same ∙ key_v in
+    cut_third u c.args.len s (g.D.Device.time c.args.dev.now) (g.D.Device.time c.shortened.new.dev) (g.D.Device.time c.rested.new.dev) (ap (λ (x : WriteBuffer). x.settled) c.in_ok-this-2.ensures.same ∙ ap (λ (m : ℕ). min m c.args.len) (ap (λ (x : WriteBuffer). x.settled) c.in_ok-this.ensures.same ∙ ap (λ (x : WriteBuffer). x.settled) c.cut_run.ensures)) key_s
+    (cut_second u c.args.len v (g.D.Device.time c.args.dev.now) (g.D.Device.time c.flushed.new.dev) (g.D.Device.time c.shortened.new.dev) (ap (λ (x : WriteBuffer). x.settled) c.in_ok-this.ensures.same ∙ ap (λ (x : WriteBuffer). x.settled) c.cut_run.ensures) key_v
+    (cut_first u c.args.len w (g.D.Device.time c.args.dev.now) (g.D.Device.time c.flushed.new.dev) c.cut_run.ensures (c.flushed.ensures.spares t)) (c.shortened.ensures.spares t)) (c.rested.ensures.spares t)
+
+pub returns-clause-spares : goal.returns-clause-spares
+returns-clause-spares g c t =
+    let u : WriteBuffer = shown c.args.self in
+    let w : WriteBuffer = shown c.cut_run.result in
+    let v : WriteBuffer = shown c.in_ok-this.this in
+    let key_v : blob_key v ≡ blob_key u = ap blob_key c.in_ok-this.ensures.same ∙ ap blob_key c.cut_run.ensures in
+    let s : WriteBuffer = shown c.in_ok-this-2.this in
+    let key_s : blob_key s ≡ blob_key u = ap blob_key c.in_ok-this-2.ensures.same ∙ key_v in
+    cut_third u c.args.len s (g.D.Device.time c.args.dev.now) (g.D.Device.time c.shortened.new.dev) (g.D.Device.time c.rested.new.dev) (ap (λ (x : WriteBuffer). x.settled) c.in_ok-this-2.ensures.same ∙ ap (λ (m : ℕ). min m c.args.len) (ap (λ (x : WriteBuffer). x.settled) c.in_ok-this.ensures.same ∙ ap (λ (x : WriteBuffer). x.settled) c.cut_run.ensures)) key_s
+    (cut_second u c.args.len v (g.D.Device.time c.args.dev.now) (g.D.Device.time c.flushed.new.dev) (g.D.Device.time c.shortened.new.dev) (ap (λ (x : WriteBuffer). x.settled) c.in_ok-this.ensures.same ∙ ap (λ (x : WriteBuffer). x.settled) c.cut_run.ensures) key_v
+    (cut_first u c.args.len w (g.D.Device.time c.args.dev.now) (g.D.Device.time c.flushed.new.dev) c.cut_run.ensures (c.flushed.ensures.spares t)) (c.shortened.ensures.spares t)) (c.rested.ensures.spares t)
+
+pub returns-clause-over : goal.returns-clause-over
+returns-clause-over g c t over =
+    let u : WriteBuffer = shown c.args.self in
+    let w : WriteBuffer = shown c.cut_run.result in
+    let v : WriteBuffer = shown c.in_ok-this.this in
+    let s : WriteBuffer = shown c.in_ok-this-2.this in
+    let key_w : blob_key w ≡ blob_key u = ap blob_key c.cut_run.ensures in
+    let key_v : blob_key v ≡ blob_key u = ap blob_key c.in_ok-this.ensures.same ∙ key_w in
+    let key_s : blob_key s ≡ blob_key u = ap blob_key c.in_ok-this-2.ensures.same ∙ key_v in
+    let long0 = content_length (g.D.Device.opened c.args.dev.now) (blob_key u) c.args.self.end _ _ (g.met.D.Device.opened_stands t c.args.dev.now (blob_key u)) c.requires.«open» in
+    let long1 = content_length (g.D.Device.opened c.flushed.new.dev) (blob_key v) c.in_ok-this.this.end _ _ (g.met.D.Device.opened_stands t c.flushed.new.dev (blob_key v)) c.in_ok-this.ensures.«open» in
+    cut_over u c.args.len w v s (shown c.in_ok-rested.field-0) c.in_ok-this.this.dirty c.in_ok-this-2.this.dirty (omega (arith, c.size.ensures, c.if-len-size.false)) c.cut_run.ensures c.in_ok-this.ensures.same c.in_ok-this-2.ensures.same c.in_ok-rested.ensures.same
+    (disk (g.D.Device.time c.args.dev.now) (blob_key u)).content (disk (g.D.Device.time c.flushed.new.dev) (blob_key u)) (disk (g.D.Device.time c.shortened.new.dev) (blob_key u)) (disk (g.D.Device.time c.rested.new.dev) (blob_key u))
+    long0 c.in_ok-this.ensures.idle (subst (λ (q : Key). length (disk (g.D.Device.time c.flushed.new.dev) q).content ≡ c.in_ok-this.this.end) key_v long1)
+    (subst (λ (q : Key). bytes_of v (disk (g.D.Device.time c.flushed.new.dev) q).content ≡ bytes_of w (disk (g.D.Device.time c.args.dev.now) q).content) key_w (c.in_ok-this.ensures.bytes t))
+    (subst (λ (q : Key). (disk (g.D.Device.time c.shortened.new.dev) q).content ≡ take c.args.len (disk (g.D.Device.time c.flushed.new.dev) q).content) key_v (c.in_ok-this-2.ensures.content t))
+    (subst (λ (q : Key). disk (g.D.Device.time c.rested.new.dev) q ≡ settled_at (disk (g.D.Device.time c.shortened.new.dev) q).content) key_s (c.in_ok-rested.ensures.settles t))
+
+pub returns-clause-settles : goal.returns-clause-settles
+returns-clause-settles g c t less =
+    let u : WriteBuffer = shown c.args.self in
+    let w : WriteBuffer = shown c.cut_run.result in
+    let v : WriteBuffer = shown c.in_ok-this.this in
+    let s : WriteBuffer = shown c.in_ok-this-2.this in
+    let key_w : blob_key w ≡ blob_key u = ap blob_key c.cut_run.ensures in
+    let key_v : blob_key v ≡ blob_key u = ap blob_key c.in_ok-this.ensures.same ∙ key_w in
+    let key_s : blob_key s ≡ blob_key u = ap blob_key c.in_ok-this-2.ensures.same ∙ key_v in
+    let long0 = content_length (g.D.Device.opened c.args.dev.now) (blob_key u) c.args.self.end _ _ (g.met.D.Device.opened_stands t c.args.dev.now (blob_key u)) c.requires.«open» in
+    let long1 = content_length (g.D.Device.opened c.flushed.new.dev) (blob_key v) c.in_ok-this.this.end _ _ (g.met.D.Device.opened_stands t c.flushed.new.dev (blob_key v)) c.in_ok-this.ensures.«open» in
+    cut_settles u c.args.len w v s (shown c.in_ok-rested.field-0) c.in_ok-this.this.dirty c.in_ok-this-2.this.dirty (omega (arith, c.size.ensures, c.if-len-size.false)) c.cut_run.ensures c.in_ok-this.ensures.same c.in_ok-this-2.ensures.same c.in_ok-rested.ensures.same
+    (disk (g.D.Device.time c.args.dev.now) (blob_key u)).content (disk (g.D.Device.time c.flushed.new.dev) (blob_key u)) (disk (g.D.Device.time c.shortened.new.dev) (blob_key u)) (disk (g.D.Device.time c.rested.new.dev) (blob_key u))
+    long0 c.in_ok-this.ensures.idle (subst (λ (q : Key). length (disk (g.D.Device.time c.flushed.new.dev) q).content ≡ c.in_ok-this.this.end) key_v long1)
+    (subst (λ (q : Key). bytes_of v (disk (g.D.Device.time c.flushed.new.dev) q).content ≡ bytes_of w (disk (g.D.Device.time c.args.dev.now) q).content) key_w (c.in_ok-this.ensures.bytes t))
+    (subst (λ (q : Key). (disk (g.D.Device.time c.shortened.new.dev) q).content ≡ take c.args.len (disk (g.D.Device.time c.flushed.new.dev) q).content) key_v (c.in_ok-this-2.ensures.content t))
+    (subst (λ (q : Key). disk (g.D.Device.time c.rested.new.dev) q ≡ settled_at (disk (g.D.Device.time c.shortened.new.dev) q).content) key_s (c.in_ok-rested.ensures.settles t))
+
+pub returns-clause-bytes : goal.returns-clause-bytes
+returns-clause-bytes g c t =
+    let u : WriteBuffer = shown c.args.self in
+    let w : WriteBuffer = shown c.cut_run.result in
+    let v : WriteBuffer = shown c.in_ok-this.this in
+    let s : WriteBuffer = shown c.in_ok-this-2.this in
+    let key_w : blob_key w ≡ blob_key u = ap blob_key c.cut_run.ensures in
+    let key_v : blob_key v ≡ blob_key u = ap blob_key c.in_ok-this.ensures.same ∙ key_w in
+    let key_s : blob_key s ≡ blob_key u = ap blob_key c.in_ok-this-2.ensures.same ∙ key_v in
+    let long0 = content_length (g.D.Device.opened c.args.dev.now) (blob_key u) c.args.self.end _ _ (g.met.D.Device.opened_stands t c.args.dev.now (blob_key u)) c.requires.«open» in
+    let long1 = content_length (g.D.Device.opened c.flushed.new.dev) (blob_key v) c.in_ok-this.this.end _ _ (g.met.D.Device.opened_stands t c.flushed.new.dev (blob_key v)) c.in_ok-this.ensures.«open» in
+    cut_bytes u c.args.len w v s (shown c.in_ok-rested.field-0) c.in_ok-this.this.dirty c.in_ok-this-2.this.dirty (omega (arith, c.size.ensures, c.if-len-size.false)) c.cut_run.ensures c.in_ok-this.ensures.same c.in_ok-this-2.ensures.same c.in_ok-rested.ensures.same
+    (disk (g.D.Device.time c.args.dev.now) (blob_key u)).content (disk (g.D.Device.time c.flushed.new.dev) (blob_key u)) (disk (g.D.Device.time c.shortened.new.dev) (blob_key u)) (disk (g.D.Device.time c.rested.new.dev) (blob_key u))
+    long0 c.in_ok-this.ensures.idle (subst (λ (q : Key). length (disk (g.D.Device.time c.flushed.new.dev) q).content ≡ c.in_ok-this.this.end) key_v long1)
+    (subst (λ (q : Key). bytes_of v (disk (g.D.Device.time c.flushed.new.dev) q).content ≡ bytes_of w (disk (g.D.Device.time c.args.dev.now) q).content) key_w (c.in_ok-this.ensures.bytes t))
+    (subst (λ (q : Key). (disk (g.D.Device.time c.shortened.new.dev) q).content ≡ take c.args.len (disk (g.D.Device.time c.flushed.new.dev) q).content) key_v (c.in_ok-this-2.ensures.content t))
+    (subst (λ (q : Key). disk (g.D.Device.time c.rested.new.dev) q ≡ settled_at (disk (g.D.Device.time c.shortened.new.dev) q).content) key_s (c.in_ok-rested.ensures.settles t))

@@ -1,0 +1,293 @@
+// A buffer over a blob without seals.
+ghost use Rattle.std.specs.Prelude.{◌≡◌, ◌≢◌, ◌+◌, ◌-◌, ◌≤◌, ◌<◌, ◌^◌, ◌↔◌, ◌⊎◌, max, min, Err, length, IfOk, OnOk, OnErr, Bool, true, false, ℕ, List, [], ◌∷◌, ◌++◌, IsTrue};
+ghost use Rattle.std.specs.Result.{IsErrOf};
+ghost use Rattle.blob_device.specs.declared.runtime.RError.TheVariants.{Fault, OffsetOverflow};
+ghost use Rattle.blob_device.specs.Disk.{Blob, Outside, settled_at};
+ghost use Rattle.blob_device.specs.Change.{written};
+ghost use Rattle.blob_device.specs.Timeline.{disk};
+ghost use Rattle.blob_device.specs.Counts.{Rose};
+ghost use Rattle.sealed_pages.specs.Entries.{IsOpenAt, NoReads};
+ghost use Rattle.sealed_pages.specs.Sparing.{Lasts, Spares, Sparing};
+
+mod cutting;
+mod reads;
+mod run;
+
+use blob_device::{DevError, Device, RError};
+use run::overwrite;
+use std::alloc::{AllocError, Global};
+
+/// A buffer over an opened blob that carries no seals.
+///
+/// One run of bytes is held in memory. A write that begins in the run or at its end goes into it; any other flushes the run
+/// and begins a new one. No byte is written that was not handed to the buffer since its last flush: gaps are left to the
+/// device. A refused call gives the buffer up; the blob is then opened and adopted again.
+#[derive(Drop)]
+pub struct WriteBlob {
+    partition: String,
+    name: Vec<u8>,
+    capacity: usize,
+    end: u64,
+    at: u64,
+    pending: Vec<u8>,
+    settled: u64,
+    dirty: bool,
+    ghost fit: { at + length pending.items < 2 ^ 64 },
+    ghost order: { settled ≤ end },
+    ghost rests: { dirty ≡ false → settled ≡ end },
+}
+
+impl WriteBlob {
+    ghost use Rattle.sealed_pages.specs.Writing.{WriteBuffer, shown, blob_key, bytes_of, size_of, run_of, is_idle, is_unsettled, Joins, StaysBelow, Over};
+
+    /// Adopts an opened blob of this length. All of it counts as settled, since opening a blob settles it.
+    pub fn adopt(
+        alloc: Global,
+        partition: &str,
+        name: &[u8],
+        size: u64,
+        capacity: usize,
+    ) -> Result<WriteBlob, RError>
+        ensures key { IfOk result (λ r. blob_key (shown r) ≡ (partition.now, name.now)) }
+        ensures capacity { IfOk result (λ r. r.capacity ≡ capacity) }
+        ensures end { IfOk result (λ r. r.end ≡ size) }
+        ensures settled { IfOk result (λ r. r.settled ≡ size) }
+        ensures idle { IfOk result (λ r. is_unsettled (shown r) ≡ false) }
+        ensures size { IfOk result (λ r. size_of (shown r) ≡ size) }
+        ensures bytes { IfOk result (λ r. (content : List ℕ) → length content ≡ size → bytes_of (shown r) content ≡ content) }
+        ensures over { IfOk result (λ r. (b : Blob) → b ≡ settled_at b.content → length b.content ≡ size → Over (shown r) b) }
+        ensures cause { OnErr result (result ≡ Err RError.Mem) }
+    {
+        let partition = String::from_str(alloc, partition)?;
+        let name = name.to_vec(alloc)?;
+        Ok(WriteBlob {
+            partition,
+            name,
+            capacity,
+            end: size,
+            at: size,
+            pending: Vec::new(alloc),
+            settled: size,
+            dirty: false,
+        })
+    }
+
+    /// The length, with the bytes that are not flushed. It takes no memory.
+    pub fn size(&self) -> u64
+        ensures { result ≡ size_of (shown self.now) }
+    {
+        self.end.max(self.at + self.pending.len() as u64)
+    }
+
+    // Whether a flush would do nothing.
+    fn idle(&self) -> bool
+        ensures { result ≡ is_idle (shown self.now) }
+    {
+        self.pending.is_empty() && self.at <= self.end
+    }
+
+    /// Whether a sync would do something: whether a byte has not settled. It takes no memory.
+    pub fn needs_sync(&self) -> bool
+        ensures { result ≡ is_unsettled (shown self.now) }
+    {
+        self.dirty || !self.idle()
+    }
+
+    // Whether a write there goes into the run.
+    fn joins(&self, offset: u64) -> bool
+        ensures { IsTrue result ↔ Joins (shown self.now) offset }
+    {
+        self.at <= offset && offset - self.at <= self.pending.len() as u64
+    }
+
+    // Writes the run.
+    fn flushed<D: Device>(self, dev: &mut D) -> Result<WriteBlob, DevError>
+        requires open { IsOpenAt (D.opened dev.old) (blob_key (shown self)) self.end }
+        ensures spares { D.Tells → Sparing (Outside (run_of (shown self) ∷ [])) self.settled (blob_key (shown self)) (D.time dev.old) (D.time dev.new) }
+        ensures over { D.Tells → Over (shown self) (disk (D.time dev.old) (blob_key (shown self))) → IfOk result (λ r. Over (shown r) (disk (D.time dev.new) (blob_key (shown self)))) }
+        ensures bytes { D.Tells → IfOk result (λ r. bytes_of (shown r) (disk (D.time dev.new) (blob_key (shown self))).content ≡ bytes_of (shown self) (disk (D.time dev.old) (blob_key (shown self))).content) }
+        ensures idle { IfOk result (λ r. is_idle (shown r) ≡ true) }
+        ensures same { IfOk result (λ r. shown r ≡ record (shown self) { end = size_of (shown self); pending = []; dirty = r.dirty }) }
+        ensures dirty { IfOk result (λ r. self.dirty ≡ true → r.dirty ≡ true) }
+        ensures untouched { is_idle (shown self) ≡ true → dev.new ≡ dev.old }
+        ensures once { (D.time dev.new).calls ≤ (D.time dev.old).calls + 1 }
+        ensures open { IfOk result (λ r. IsOpenAt (D.opened dev.new) (blob_key (shown r)) r.end) }
+        ensures entries { NoReads (blob_key (shown self)) (D.opened dev.old) (D.opened dev.new) }
+        ensures faults { D.faults dev.old ≤ D.faults dev.new }
+        ensures cause { result ≡ Err DevError.Fault → Rose (D.faults dev.old) (D.faults dev.new) }
+    {
+        if self.idle() {
+            return Ok(self);
+        }
+        let end = self.size();
+        dev.write_at(
+            self.partition.as_str(),
+            self.name.as_slice(),
+            self.at,
+            self.pending.as_slice(),
+        )?;
+        let mut this = self;
+        this.end = end;
+        this.pending.clear();
+        this.dirty = true;
+        Ok(this)
+    }
+
+    /// Writes what is not yet flushed, by at most one write of the device.
+    pub fn flush<D: Device>(self, dev: &mut D) -> Result<WriteBlob, RError>
+        requires open { IsOpenAt (D.opened dev.old) (blob_key (shown self)) self.end }
+        // At every moment, also where the call fails, the blob is touched in the run alone, and what had settled elsewhere
+        // outlives each crash. No other blob changes.
+        ensures spares { D.Tells → Sparing (Outside (run_of (shown self) ∷ [])) self.settled (blob_key (shown self)) (D.time dev.old) (D.time dev.new) }
+        ensures over { D.Tells → Over (shown self) (disk (D.time dev.old) (blob_key (shown self))) → IfOk result (λ r. Over (shown r) (disk (D.time dev.new) (blob_key (shown self)))) }
+        ensures bytes { D.Tells → IfOk result (λ r. bytes_of (shown r) (disk (D.time dev.new) (blob_key (shown self))).content ≡ bytes_of (shown self) (disk (D.time dev.old) (blob_key (shown self))).content) }
+        ensures idle { IfOk result (λ r. is_idle (shown r) ≡ true) }
+        ensures same { IfOk result (λ r. shown r ≡ record (shown self) { end = size_of (shown self); pending = []; dirty = r.dirty }) }
+        ensures untouched { is_idle (shown self) ≡ true → dev.new ≡ dev.old }
+        ensures once { (D.time dev.new).calls ≤ (D.time dev.old).calls + 1 }
+        ensures open { IfOk result (λ r. IsOpenAt (D.opened dev.new) (blob_key (shown r)) r.end) }
+        ensures entries { NoReads (blob_key (shown self)) (D.opened dev.old) (D.opened dev.new) }
+        ensures faults { D.faults dev.old ≤ D.faults dev.new }
+        ensures cause { OnErr result ((result ≡ Err RError.Mem) ⊎ ((result ≡ Err RError.Fault) × Rose (D.faults dev.old) (D.faults dev.new))) }
+    {
+        Ok(self.flushed(dev)?)
+    }
+
+    // Settles what is flushed.
+    fn rested<D: Device>(self, dev: &mut D) -> Result<WriteBlob, DevError>
+        requires open { IsOpenAt (D.opened dev.old) (blob_key (shown self)) self.end }
+        ensures spares { D.Tells → Sparing (λ i. Unit {0}) self.settled (blob_key (shown self)) (D.time dev.old) (D.time dev.new) }
+        ensures settles { D.Tells → OnOk result (disk (D.time dev.new) (blob_key (shown self)) ≡ settled_at (disk (D.time dev.old) (blob_key (shown self))).content) }
+        ensures same { IfOk result (λ r. shown r ≡ record (shown self) { settled = self.end; dirty = false }) }
+        ensures open { IfOk result (λ r. IsOpenAt (D.opened dev.new) (blob_key (shown r)) r.end) }
+        ensures entries { NoReads (blob_key (shown self)) (D.opened dev.old) (D.opened dev.new) }
+        ensures faults { D.faults dev.old ≤ D.faults dev.new }
+        ensures cause { result ≡ Err DevError.Fault → Rose (D.faults dev.old) (D.faults dev.new) }
+    {
+        dev.sync(self.partition.as_str(), self.name.as_slice())?;
+        let mut this = self;
+        this.settled = this.end;
+        this.dirty = false;
+        Ok(this)
+    }
+
+    /// Settles all bytes. Where none is unsettled, it makes no call of the device.
+    pub fn sync<D: Device>(self, dev: &mut D) -> Result<WriteBlob, RError>
+        requires open { IsOpenAt (D.opened dev.old) (blob_key (shown self)) self.end }
+        ensures spares { D.Tells → Sparing (Outside (run_of (shown self) ∷ [])) self.settled (blob_key (shown self)) (D.time dev.old) (D.time dev.new) }
+        ensures over { D.Tells → Over (shown self) (disk (D.time dev.old) (blob_key (shown self))) → IfOk result (λ r. Over (shown r) (disk (D.time dev.new) (blob_key (shown self)))) }
+        // What was handed in is then in the blob, and outlives every crash.
+        ensures settles { D.Tells → Over (shown self) (disk (D.time dev.old) (blob_key (shown self)))
+            → OnOk result (disk (D.time dev.new) (blob_key (shown self)) ≡ settled_at (bytes_of (shown self) (disk (D.time dev.old) (blob_key (shown self))).content)) }
+        ensures bytes { D.Tells → IfOk result (λ r. bytes_of (shown r) (disk (D.time dev.new) (blob_key (shown self))).content ≡ bytes_of (shown self) (disk (D.time dev.old) (blob_key (shown self))).content) }
+        ensures idle { IfOk result (λ r. is_unsettled (shown r) ≡ false) }
+        ensures same { IfOk result (λ r. shown r ≡ record (shown self) { end = size_of (shown self); pending = []; settled = size_of (shown self); dirty = false }) }
+        ensures untouched { is_unsettled (shown self) ≡ false → dev.new ≡ dev.old }
+        ensures open { IfOk result (λ r. IsOpenAt (D.opened dev.new) (blob_key (shown r)) r.end) }
+        ensures entries { NoReads (blob_key (shown self)) (D.opened dev.old) (D.opened dev.new) }
+        ensures faults { D.faults dev.old ≤ D.faults dev.new }
+        ensures cause { OnErr result ((result ≡ Err RError.Mem) ⊎ ((result ≡ Err RError.Fault) × Rose (D.faults dev.old) (D.faults dev.new))) }
+    {
+        if !self.needs_sync() {
+            return Ok(self);
+        }
+        let this = self.flushed(dev)?;
+        Ok(this.rested(dev)?)
+    }
+
+    // Flushes the run where a write there does not go into it, and begins one there.
+    fn moved<D: Device>(self, dev: &mut D, offset: u64) -> Result<WriteBlob, DevError>
+        requires open { IsOpenAt (D.opened dev.old) (blob_key (shown self)) self.end }
+        ensures spares { D.Tells → Sparing (Outside (run_of (shown self) ∷ [])) self.settled (blob_key (shown self)) (D.time dev.old) (D.time dev.new) }
+        ensures over { D.Tells → Over (shown self) (disk (D.time dev.old) (blob_key (shown self))) → IfOk result (λ r. Over (shown r) (disk (D.time dev.new) (blob_key (shown self)))) }
+        ensures bytes { D.Tells → IfOk result (λ r. bytes_of (shown r) (disk (D.time dev.new) (blob_key (shown self))).content ≡ written (bytes_of (shown self) (disk (D.time dev.old) (blob_key (shown self))).content) offset []) }
+        ensures joined { IfOk result (λ r. Joins (shown r) offset) }
+        ensures same { IfOk result (λ r. shown r ≡ record (shown self) { end = r.end; at = r.at; pending = r.pending.items; dirty = r.dirty }) }
+        ensures size { IfOk result (λ r. size_of (shown r) ≡ max (size_of (shown self)) offset) }
+        ensures run { IfOk result (λ r. ((r.at ≡ self.at) × (r.pending.items ≡ self.pending.items)) ⊎ ((r.at ≡ offset) × (r.pending.items ≡ []))) }
+        ensures kept { Joins (shown self) offset → IfOk result (λ r. shown r ≡ shown self) }
+        ensures untouched { (Joins (shown self) offset ⊎ (is_idle (shown self) ≡ true)) → dev.new ≡ dev.old }
+        ensures open { IfOk result (λ r. IsOpenAt (D.opened dev.new) (blob_key (shown r)) r.end) }
+        ensures entries { NoReads (blob_key (shown self)) (D.opened dev.old) (D.opened dev.new) }
+        ensures faults { D.faults dev.old ≤ D.faults dev.new }
+        ensures cause { result ≡ Err DevError.Fault → Rose (D.faults dev.old) (D.faults dev.new) }
+    {
+        if self.joins(offset) {
+            return Ok(self);
+        }
+        let mut this = self.flushed(dev)?;
+        this.at = offset;
+        Ok(this)
+    }
+
+    // Puts bytes into the run.
+    fn put(self, offset: u64, bytes: &[u8]) -> Result<WriteBlob, AllocError>
+        requires joins { Joins (shown self) offset }
+        requires fits { offset + length bytes.now < 2 ^ 64 }
+        ensures { IfOk result (λ r. shown r ≡ record (shown self) { pending = written self.pending.items (offset - self.at) bytes.now }) }
+    {
+        let mut this = self;
+        let skip = (offset - this.at) as usize;
+        overwrite(&mut this.pending, skip, bytes)?;
+        Ok(this)
+    }
+
+    /// Writes bytes from `offset` on; a gap behind the old end reads as zeros. All that is not flushed is flushed where it is
+    /// then at least as long as the capacity.
+    pub fn write_at<D: Device>(
+        self,
+        dev: &mut D,
+        offset: u64,
+        bytes: &[u8],
+    ) -> Result<WriteBlob, RError>
+        requires open { IsOpenAt (D.opened dev.old) (blob_key (shown self)) self.end }
+        // At every moment, also where the call fails, the blob is touched in the run and where these bytes go alone, and what
+        // had settled elsewhere outlives each crash. No other blob changes.
+        ensures spares { D.Tells → Sparing (Outside ((offset, length bytes.now) ∷ run_of (shown self) ∷ [])) self.settled (blob_key (shown self)) (D.time dev.old) (D.time dev.new) }
+        ensures over { D.Tells → Over (shown self) (disk (D.time dev.old) (blob_key (shown self))) → IfOk result (λ r. Over (shown r) (disk (D.time dev.new) (blob_key (shown self)))) }
+        ensures bytes { D.Tells → IfOk result (λ r. bytes_of (shown r) (disk (D.time dev.new) (blob_key (shown self))).content ≡ written (bytes_of (shown self) (disk (D.time dev.old) (blob_key (shown self))).content) offset bytes.now) }
+        ensures size { IfOk result (λ r. size_of (shown r) ≡ max (size_of (shown self)) (offset + length bytes.now)) }
+        ensures same { IfOk result (λ r. shown r ≡ record (shown self) { end = r.end; at = r.at; pending = r.pending.items; dirty = r.dirty }) }
+        ensures below { StaysBelow (shown self) offset (length bytes.now) → dev.new ≡ dev.old }
+        ensures full { IfOk result (λ r. (length r.pending.items < r.capacity) ⊎ (is_idle (shown r) ≡ true)) }
+        ensures open { IfOk result (λ r. IsOpenAt (D.opened dev.new) (blob_key (shown r)) r.end) }
+        ensures entries { NoReads (blob_key (shown self)) (D.opened dev.old) (D.opened dev.new) }
+        ensures overflow { IsErrOf result OffsetOverflow ↔ 2 ^ 64 ≤ offset + length bytes.now }
+        ensures faults { D.faults dev.old ≤ D.faults dev.new }
+        ensures cause { OnErr result ((result ≡ Err RError.OffsetOverflow) ⊎ ((result ≡ Err RError.Mem) ⊎ ((result ≡ Err RError.Fault) × Rose (D.faults dev.old) (D.faults dev.new)))) }
+    {
+        if bytes.len() as u64 > u64::MAX - offset {
+            return Err(RError::OffsetOverflow);
+        }
+        let this = self.moved(dev, offset)?;
+        let this = this.put(offset, bytes)?;
+        if this.pending.len() < this.capacity {
+            return Ok(this);
+        }
+        Ok(this.flushed(dev)?)
+    }
+
+    /// Adds bytes at the end. The answer has the place of the first of them.
+    pub fn append<D: Device>(self, dev: &mut D, bytes: &[u8]) -> Result<(WriteBlob, u64), RError>
+        requires open { IsOpenAt (D.opened dev.old) (blob_key (shown self)) self.end }
+        ensures spares { D.Tells → Sparing (Outside ((size_of (shown self), length bytes.now) ∷ run_of (shown self) ∷ [])) self.settled (blob_key (shown self)) (D.time dev.old) (D.time dev.new) }
+        ensures over { D.Tells → Over (shown self) (disk (D.time dev.old) (blob_key (shown self))) → IfOk result (λ r. Over (shown r.0) (disk (D.time dev.new) (blob_key (shown self)))) }
+        ensures bytes { D.Tells → IfOk result (λ r. bytes_of (shown r.0) (disk (D.time dev.new) (blob_key (shown self))).content ≡ bytes_of (shown self) (disk (D.time dev.old) (blob_key (shown self))).content ++ bytes.now) }
+        ensures at { IfOk result (λ r. r.1 ≡ size_of (shown self)) }
+        ensures size { IfOk result (λ r. size_of (shown r.0) ≡ size_of (shown self) + length bytes.now) }
+        ensures same { IfOk result (λ r. shown r.0 ≡ record (shown self) { end = r.0.end; at = r.0.at; pending = r.0.pending.items; dirty = r.0.dirty }) }
+        ensures below { StaysBelow (shown self) (size_of (shown self)) (length bytes.now) → dev.new ≡ dev.old }
+        ensures full { IfOk result (λ r. (length r.0.pending.items < r.0.capacity) ⊎ (is_idle (shown r.0) ≡ true)) }
+        ensures open { IfOk result (λ r. IsOpenAt (D.opened dev.new) (blob_key (shown r.0)) r.0.end) }
+        ensures entries { NoReads (blob_key (shown self)) (D.opened dev.old) (D.opened dev.new) }
+        ensures overflow { IsErrOf result OffsetOverflow ↔ 2 ^ 64 ≤ size_of (shown self) + length bytes.now }
+        ensures faults { D.faults dev.old ≤ D.faults dev.new }
+        ensures cause { OnErr result ((result ≡ Err RError.OffsetOverflow) ⊎ ((result ≡ Err RError.Mem) ⊎ ((result ≡ Err RError.Fault) × Rose (D.faults dev.old) (D.faults dev.new)))) }
+    {
+        let at = self.size();
+        match self.write_at(dev, at, bytes) {
+            Ok(this) => Ok((this, at)),
+            Err(e) => Err(e),
+        }
+    }
+}
