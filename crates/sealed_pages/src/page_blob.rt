@@ -1,5 +1,5 @@
 // A buffer over a blob whose pages carry seals.
-ghost use Rattle.std.specs.Prelude.{◌≡◌, ◌≢◌, ◌+◌, ◌*◌, ◌≤◌, ◌<◌, ◌^◌, ◌-◌, ◌++◌, ◌↔◌, ◌==◌, ◌||◌, ◌⊎◌, Err, not, length, drop, IfOk, OnOk, OnErr, Bool, true, false, ℕ, List, IsTrue};
+ghost use Rattle.std.specs.Prelude.{◌≡◌, ◌≢◌, ◌+◌, ◌*◌, ◌≤◌, ◌<◌, ◌^◌, ◌-◌, ◌++◌, ◌↔◌, ◌==◌, ◌||◌, ◌⊎◌, Err, not, length, drop, IfOk, IsOkAnd, OnOk, OnErr, Bool, true, false, ℕ, List, IsTrue};
 ghost use Rattle.std.specs.Result.{IsErrOf};
 ghost use Rattle.blob_device.specs.declared.runtime.RError.TheVariants.{Fault, OffsetOverflow};
 ghost use Rattle.blob_device.specs.Timeline.{disk};
@@ -369,6 +369,7 @@ impl<S: Seal> PageBlob<S> {
         ensures backed { D.Tells → IsBacked (shown self) (disk (D.time dev.old) (key_of (shown self))).content
             → IfOk result (λ r. IsBacked (shown r) (disk (D.time dev.new) (key_of (shown self))).content) }
         ensures idle { self.settled ≡ size_of (shown self) → dev.new ≡ dev.old }
+        ensures same { self.settled ≡ size_of (shown self) → IsOkAnd result (λ r. shown r ≡ shown self) }
         // What has settled outlives each crash.
         ensures leaves { D.Tells → IsSealed S.seal_of (shown self) (disk (D.time dev.old) (key_of (shown self)))
             → OnOk result (Leaves S.seal_of self.page_size (bytes_of (shown self) (disk (D.time dev.old) (key_of (shown self))).content) (size_of (shown self)) (disk (D.time dev.new) (key_of (shown self)))) }

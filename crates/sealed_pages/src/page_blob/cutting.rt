@@ -1,5 +1,5 @@
 // Cutting a buffer over sealed pages shorter.
-ghost use Rattle.std.specs.Prelude.{◌≡◌, ◌+◌, ◌*◌, ◌≤◌, ◌<◌, ◌^◌, ◌⊎◌, Err, min, length, take, false, IfOk, OnOk, OnErr, Bool, ℕ, List, []};
+ghost use Rattle.std.specs.Prelude.{◌≡◌, ◌+◌, ◌*◌, ◌≤◌, ◌<◌, ◌^◌, ◌⊎◌, Err, min, length, take, false, IfOk, IsOkAnd, OnOk, OnErr, Bool, ℕ, List, []};
 ghost use Rattle.blob_device.specs.declared.runtime.RError.TheVariants.{Fault, InvalidChecksum, Mem};
 ghost use Rattle.blob_device.specs.Counts.{Rose};
 ghost use Rattle.blob_device.specs.Timeline.{disk};
@@ -192,7 +192,7 @@ impl<S: Seal> PageBlob<S> {
             → IfOk result (λ r. IsBacked (shown r) (disk (D.time dev.new) (key_of (shown self))).content) }
         ensures alone { D.Tells → IsBacked (shown self) (disk (D.time dev.old) (key_of (shown self))).content → Alone (key_of (shown self)) (D.time dev.old) (D.time dev.new) }
         ensures unchanged { size_of (shown self) ≤ len → dev.new ≡ dev.old }
-        ensures same { size_of (shown self) ≤ len → IfOk result (λ r. shown r ≡ shown self) }
+        ensures same { size_of (shown self) ≤ len → IsOkAnd result (λ r. shown r ≡ shown self) }
         // Where it cut, all has settled, and adopting the blob gives it again.
         ensures settled { len < size_of (shown self) → IfOk result (λ r. r.settled ≡ len) }
         ensures rests { D.Tells → len < size_of (shown self) → OnOk result (IsAtRest (disk (D.time dev.new) (key_of (shown self)))) }

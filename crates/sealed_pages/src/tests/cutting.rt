@@ -45,7 +45,7 @@ fn shorter(rt: HostRuntime) -> Result<(), Fail> {
     Ok(())
 }
 
-/// The size at which the blob of this image is adopted, and how many bytes of it are `letters`.
+/// The size at which the blob of this image is adopted.
 fn sealed(alloc: Global, image: Image) -> Result<u64, RError> {
     let mut dev = Memory::from_image(alloc, image)?;
     let blob = opened(alloc, &mut dev, 4)?;
@@ -63,18 +63,24 @@ fn leaves_five(alloc: Global, dev: &Memory, choice: CrashChoice) -> Result<bool,
     Ok(front && ((size == 5 && fifth) || (size == 6 && sixth)))
 }
 
-// A cut that is stopped at each call of the device: each crash leaves the longer bytes or the shorter ones.
+/// `abcdef` is settled.
+fn six(alloc: Global) -> Result<Image, RError> {
+    let mut dev = Memory::new(alloc);
+    put(alloc, &mut dev, b"abcdef")?;
+    let image = dev.image(alloc)?;
+    Ok(image)
+}
+
+// A cut that is stopped at each call of the device, two for adopting and five for the cut: each crash leaves the longer bytes
+// or the shorter ones.
 #[test]
 fn stopped(rt: HostRuntime) -> Result<(), Fail> {
     let alloc = rt.alloc();
     for nth in 0..9_u64 {
-        let mut dev = Memory::new(alloc);
-        put(alloc, &mut dev, b"abcdef")?;
-        let blob = opened(alloc, &mut dev, 4)?;
-        let begun = dev.calls();
-        dev.fuse_at(begun.saturating_add(nth));
-        let stopped = blob.truncate(&mut dev, 5);
-        assert_eq!(rt; stopped.is_err(), nth < 5);
+        let mut dev = Memory::from_image(alloc, six(alloc)?)?;
+        dev.fuse_at(nth);
+        let stopped = cut(alloc, &mut dev, 5);
+        assert_eq!(rt; stopped.is_err(), nth < 7);
         assert!(rt; leaves_five(alloc, &dev, CrashChoice::Settled)?);
         assert!(rt; leaves_five(alloc, &dev, CrashChoice::AsRead)?);
         for bits in 0..8_u64 {
