@@ -1,10 +1,10 @@
 -- The plain reading of pages, page by page.
-use Rattle.std.proofs.Common.{◌≡◌, ◌≢◌, inl, inr, ℕ, zero, suc, ◌+◌, ◌-◌, ◌*◌, ◌<◌, ◌≤◌, min, eqb, Bool, cond, List, [], ◌++◌, length, get_or, take, drop, refl, sym, ◌∙◌, ap, arith, append_assoc, length-take, length-drop}
+use Rattle.std.proofs.Common.{◌≡◌, ◌≢◌, inl, inr, ℕ, suc, ◌+◌, ◌-◌, ◌*◌, ◌<◌, ◌≤◌, min, eqb, Bool, cond, List, [], ◌++◌, length, take, drop, refl, sym, ◌∙◌, ap, arith, append_assoc, length-take, length-drop}
 use Rattle.std.proofs.lemmas.Bool.{cases_lt, eq-eqb, ne_eqb}
 use Rattle.std.proofs.lemmas.List.{append-nil, take_all, get_or-take, get_or-drop, ext_get_or}
 use Rattle.sealed_pages.specs.Reading.{page_of}
-use Rattle.sealed_pages.specs.SealedPrefix.{pages_in, sealed_from, sealed_prefix, size_below}
-use Rattle.sealed_pages.specs.Slots.{slot_length, page_length}
+use Rattle.sealed_pages.specs.SealedPrefix.{pages_in, sealed_from, sealed_prefix}
+use Rattle.sealed_pages.specs.Slots.{page_length}
 use Rattle.sealed_pages.specs.View.{view, bytes_at, page_at}
 use Rattle.sealed_pages.proofs.Looking.{take_short, page_below, page_length_is, page_reaches}
 use Rattle.sealed_pages.proofs.SlotLemmas.{slot_length-le, length-bytes_at, get_or-bytes_at}

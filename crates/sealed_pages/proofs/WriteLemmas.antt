@@ -1,7 +1,7 @@
 -- Writes over one another, and what a cut of the last of them leaves.
-use Rattle.std.proofs.Common.{◌≡◌, ◌⊎◌, inl, inr, ℕ, ◌+◌, ◌-◌, ◌<◌, ◌≤◌, min, max, List, [], ◌∷◌, ◌++◌, length, get_or, take, drop, refl, sym, ◌∙◌, ap, subst, arith, length-append, length-take, length-drop}
+use Rattle.std.proofs.Common.{◌≡◌, inl, inr, ℕ, ◌+◌, ◌-◌, ◌<◌, ◌≤◌, min, max, List, [], length, get_or, take, drop, sym, ◌∙◌, ap, arith, length-take, length-drop}
 use Rattle.std.proofs.lemmas.Bool.{cases_lt}
-use Rattle.std.proofs.lemmas.List.{ext_get_or, get_or-take, get_or-drop, get_or_append_left, get_or-append_right}
+use Rattle.std.proofs.lemmas.List.{ext_get_or, get_or-take, get_or-drop}
 use Rattle.blob_device.specs.Change.{written, resized}
 use Rattle.blob_device.proofs.Bytes.{length-written, length-resized}
 use Rattle.blob_device.proofs.Places.{written_out, written_in, resized_below}

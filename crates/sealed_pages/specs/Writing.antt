@@ -1,5 +1,5 @@
 -- What a buffer over a blob without seals shows, and what it means: the bytes of its blob, with one run over them.
-use Rattle.std.specs.Prelude.{◌≡◌, ◌⊎◌, ℕ, ◌+◌, ◌-◌, ◌<◌, ◌≤◌, ◌||◌, ◌&&◌, not, max, eqb, leb, Bool, true, false, List, [], length, string_bytes}
+use Rattle.std.specs.Prelude.{◌≡◌, ◌⊎◌, ℕ, ◌+◌, ◌-◌, ◌<◌, ◌≤◌, ◌||◌, ◌&&◌, not, max, eqb, leb, Bool, true, false, List, length, string_bytes}
 use Rattle.blob_device.specs.Disk.{Key, Blob, settled_at}
 use Rattle.blob_device.specs.Change.{written}
 use Rattle.sealed_pages.specs.declared.write_blob.WriteBlob.{WriteBlob}

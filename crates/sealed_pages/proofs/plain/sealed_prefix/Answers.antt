@@ -1,4 +1,4 @@
-use Rattle.std.proofs.Common.{rules, ◌≡◌, ◌+◌, ◌-◌, ◌*◌, ◌≤◌, ◌<◌, ◌++◌, ◌∙◌, ℕ, List, [], length, ap, sym, arith, take, drop, refl}
+use Rattle.std.proofs.Common.{◌≡◌, ◌+◌, ◌-◌, ◌*◌, ◌++◌, ◌∙◌, ℕ, List, ap, arith, take, drop, refl}
 use Rattle.sealed_pages.specs.SealedPrefix.{pages_in, sealed_from}
 use Rattle.sealed_pages.specs.View.{page_at}
 use Rattle.sealed_pages.proofs.PlainLemmas.{page_place, data_within, prefix_ends, prefix_goes_on, prefix_whole, prefix_done}

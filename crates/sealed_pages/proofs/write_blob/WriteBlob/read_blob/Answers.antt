@@ -1,4 +1,4 @@
-use Rattle.std.proofs.Common.{◌-◌, ◌≡◌, ◌++◌, ◌∙◌, ap, min, OnOk, length, subst, refl, ℕ, List, take, drop}
+use Rattle.std.proofs.Common.{◌-◌, ◌≡◌, ◌++◌, ◌∙◌, ap, min, OnOk, length, subst, ℕ, List, take, drop}
 use borrow.Rule.Slice.PartMut.{put_mid}
 use Rattle.blob_device.specs.Disk.{Key}
 use Rattle.blob_device.specs.Timeline.{disk}

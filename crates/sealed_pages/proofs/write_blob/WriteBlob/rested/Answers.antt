@@ -1,4 +1,4 @@
-use Rattle.std.proofs.Common.{◌∙◌, ℕ, ap}
+use Rattle.std.proofs.Common.{ℕ}
 use Rattle.blob_device.specs.Change.{Settle}
 use Rattle.sealed_pages.specs.Writing.{shown, blob_key}
 use Rattle.blob_device.proofs.Moments.{ok_blob}

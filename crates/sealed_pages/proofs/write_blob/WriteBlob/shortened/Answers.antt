@@ -1,6 +1,6 @@
-use Rattle.std.proofs.Common.{◌≡◌, ◌<◌, ◌≤◌, ◌∙◌, ℕ, List, length, min, ap, arith}
+use Rattle.std.proofs.Common.{◌≡◌, ◌<◌, ◌∙◌, ℕ, length, min, ap, arith}
 use Rattle.blob_device.specs.Disk.{Key, Blob}
-use Rattle.blob_device.specs.Change.{Resize, resized}
+use Rattle.blob_device.specs.Change.{Resize}
 use Rattle.blob_device.specs.Timeline.{disk}
 use Rattle.blob_device.proofs.Moments.{ok_blob}
 use Rattle.sealed_pages.specs.Writing.{shown, blob_key}

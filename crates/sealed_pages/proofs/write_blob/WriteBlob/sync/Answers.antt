@@ -1,7 +1,7 @@
-use Rattle.std.proofs.Common.{◌≡◌, ◌∷◌, [], List, ℕ, length, ap, subst}
+use Rattle.std.proofs.Common.{◌≡◌, ◌∷◌, [], length, ap, subst}
 use Rattle.blob_device.specs.Disk.{Key, Outside, settled_at}
 use Rattle.blob_device.specs.Timeline.{disk}
-use Rattle.sealed_pages.specs.Writing.{WriteBuffer, shown, blob_key, bytes_of, size_of, run_of}
+use Rattle.sealed_pages.specs.Writing.{shown, blob_key, size_of, run_of}
 use Rattle.sealed_pages.proofs.Looking.{content_length}
 use Rattle.sealed_pages.proofs.WritingLemmas.{flushed_rests, synced_settles, synced_over}
 use Rattle.sealed_pages.proofs.write_blob.WriteBlob.sync.Goals as goal

@@ -1,4 +1,4 @@
-use Rattle.std.proofs.Common.{◌≡◌, ◌<◌, ◌∙◌, ℕ, length, min, take, ap, subst, arith}
+use Rattle.std.proofs.Common.{◌≡◌, ◌∙◌, ℕ, length, min, take, ap, subst, arith}
 use Rattle.blob_device.specs.Disk.{Key, settled_at}
 use Rattle.blob_device.specs.Timeline.{disk}
 use Rattle.sealed_pages.specs.Writing.{WriteBuffer, shown, blob_key, bytes_of}

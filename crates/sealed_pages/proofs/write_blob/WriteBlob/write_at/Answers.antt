@@ -1,5 +1,4 @@
-use Rattle.std.proofs.Common.{rules, ◌≡◌, ◌∷◌, [], ◌∙◌, ℕ, List, length, ap, subst, arith}
-use Rattle.blob_device.specs.Change.{written}
+use Rattle.std.proofs.Common.{rules, ◌≡◌, ◌∷◌, [], ◌∙◌, length, ap, subst, arith}
 use Rattle.blob_device.specs.Disk.{Key, Outside}
 use Rattle.blob_device.specs.Timeline.{disk}
 use Rattle.sealed_pages.specs.Writing.{WriteBuffer, shown, blob_key, bytes_of, run_of}

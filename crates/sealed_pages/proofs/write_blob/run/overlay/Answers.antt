@@ -1,4 +1,4 @@
-use Rattle.std.proofs.Common.{◌-◌, ◌+◌, min, max, take, drop, length, ℕ, ◌≡◌, List, arith, length-take, length-drop, ap}
+use Rattle.std.proofs.Common.{◌-◌, take, drop, length, ℕ, ◌≡◌, arith, length-take, length-drop}
 use Rattle.sealed_pages.proofs.RunLemmas.{put_mid_written, laid_over, laid_whole, none_over}
 use Rattle.sealed_pages.proofs.write_blob.run.overlay.Goals as goal
 

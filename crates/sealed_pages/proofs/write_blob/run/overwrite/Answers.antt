@@ -1,4 +1,4 @@
-use Rattle.std.proofs.Common.{◌-◌, ◌≡◌, length, min, sym, ◌∙◌, ap, arith, ℕ, List}
+use Rattle.std.proofs.Common.{◌≡◌, length, sym, ◌∙◌, ap, arith}
 use Rattle.sealed_pages.proofs.RunLemmas.{overwritten, if_pushed}
 use Rattle.sealed_pages.proofs.write_blob.run.overwrite.Goals as goal
 
