@@ -108,7 +108,7 @@ impl WriteBlob {
         ensures bytes { D.Tells → IfOk result (λ r. bytes_of (shown r) (disk (D.time dev.new) (blob_key (shown self))).content ≡ bytes_of (shown self) (disk (D.time dev.old) (blob_key (shown self))).content) }
         ensures idle { IfOk result (λ r. is_idle (shown r) ≡ true) }
         ensures same { IfOk result (λ r. shown r ≡ record (shown self) { end = size_of (shown self); pending = []; dirty = r.dirty }) }
-        ensures dirty { IfOk result (λ r. self.dirty ≡ true → r.dirty ≡ true) }
+        ensures dirty { IfOk result (λ r. r.dirty ≡ is_unsettled (shown self)) }
         ensures untouched { is_idle (shown self) ≡ true → dev.new ≡ dev.old }
         ensures once { (D.time dev.new).calls ≤ (D.time dev.old).calls + 1 }
         ensures open { IfOk result (λ r. IsOpenAt (D.opened dev.new) (blob_key (shown r)) r.end) }
@@ -142,7 +142,7 @@ impl WriteBlob {
         ensures over { D.Tells → Over (shown self) (disk (D.time dev.old) (blob_key (shown self))) → IfOk result (λ r. Over (shown r) (disk (D.time dev.new) (blob_key (shown self)))) }
         ensures bytes { D.Tells → IfOk result (λ r. bytes_of (shown r) (disk (D.time dev.new) (blob_key (shown self))).content ≡ bytes_of (shown self) (disk (D.time dev.old) (blob_key (shown self))).content) }
         ensures idle { IfOk result (λ r. is_idle (shown r) ≡ true) }
-        ensures same { IfOk result (λ r. shown r ≡ record (shown self) { end = size_of (shown self); pending = []; dirty = r.dirty }) }
+        ensures same { IfOk result (λ r. shown r ≡ record (shown self) { end = size_of (shown self); pending = []; dirty = is_unsettled (shown self) }) }
         ensures untouched { is_idle (shown self) ≡ true → dev.new ≡ dev.old }
         ensures once { (D.time dev.new).calls ≤ (D.time dev.old).calls + 1 }
         ensures open { IfOk result (λ r. IsOpenAt (D.opened dev.new) (blob_key (shown r)) r.end) }
