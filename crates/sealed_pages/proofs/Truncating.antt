@@ -19,7 +19,7 @@ use Rattle.sealed_pages.specs.Reading.{Unchanged}
 use Rattle.sealed_pages.specs.SealedPrefix.{pages_in, sealed_prefix, adopted_size}
 use Rattle.sealed_pages.specs.Slots.{slot_length, page_length, best_slot, slot_bytes}
 use Rattle.sealed_pages.specs.View.{View, view, page_at, slot_at, StandsAt}
-use Rattle.sealed_pages.proofs.Adopt.{best_covers, best_length}
+use Rattle.sealed_pages.proofs.Adopt.{best_covers, best_length, sealed_covers}
 use Rattle.sealed_pages.proofs.Adopting.{end_page}
 use Rattle.sealed_pages.proofs.Cuts.{take_front, below_start, best_is, cut_prefix, cut_at_most, cut_quiet, zeros_below, zeros_quiet, zeros_covers, zeros_prefix, with_own}
 use Rattle.sealed_pages.proofs.CutCalls.{sealing_less, sealing_then}
@@ -304,3 +304,9 @@ no_need x y r is so = elim (cases_eq x y) [
   | inl same ↦ same
   | inr differ ↦ absurd (cc (is, so, ne_eqb x y differ))
 ]
+
+-- a page below the end of the sealed prefix is covered as far as that
+pub prefix_covers : (seal : List ℕ → ℕ) (P : ℕ) (c : List ℕ) (j n : ℕ) → 0 < n → n ≤ P → j * P + n ≤ length (sealed_prefix seal P c) → n ≤ page_length seal P c j
+unfolding sealed_prefix
+prefix_covers seal P c j n some small within =
+    omega (arith, sealed_covers seal P c (pages_in P c) 0 j (omega arith) (omega (arith, some, within)), small, within)

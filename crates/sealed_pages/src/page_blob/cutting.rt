@@ -1,5 +1,5 @@
 // Cutting a buffer over sealed pages shorter.
-ghost use Rattle.std.specs.Prelude.{◌≡◌, ◌+◌, ◌*◌, ◌≤◌, ◌<◌, ◌^◌, ◌⊎◌, Err, min, length, take, false, IfOk, IsOkAnd, OnOk, OnErr, Bool, ℕ, List, []};
+ghost use Rattle.std.specs.Prelude.{◌≡◌, ◌≢◌, ◌+◌, ◌*◌, ◌≤◌, ◌<◌, ◌^◌, ◌⊎◌, Err, min, length, take, false, IfOk, IsOkAnd, OnOk, OnErr, Bool, ℕ, List, []};
 ghost use Rattle.blob_device.specs.declared.runtime.RError.TheVariants.{Fault, InvalidChecksum, Mem};
 ghost use Rattle.blob_device.specs.Counts.{Rose};
 ghost use Rattle.blob_device.specs.Timeline.{disk};
@@ -210,6 +210,8 @@ impl<S: Seal> PageBlob<S> {
         // The blob is then as it reads once what was pending has settled.
         ensures checksum { D.Tells → (p : ℕ) → result ≡ Err (RError.InvalidChecksum p)
             → p * self.page_size + page_length S.seal_of self.page_size (disk (D.time dev.new) (key_of (shown self))).content p < len }
+        // Never on a blob for which the promise on crashes stands.
+        ensures whole { D.Tells → IsSealed S.seal_of (shown self) (disk (D.time dev.old) (key_of (shown self))) → (p : ℕ) → result ≢ Err (RError.InvalidChecksum p) }
         ensures page { (p : ℕ) → result ≡ Err (RError.InvalidChecksum p) → (p * self.page_size < len) × (len < p * self.page_size + self.page_size) × (len < size_of (shown self)) }
         ensures cause { OnErr result (((p : ℕ) × (result ≡ Err (RError.InvalidChecksum p))) ⊎ ((result ≡ Err RError.Mem) ⊎ ((result ≡ Err RError.Fault) × Rose (D.faults dev.old) (D.faults dev.new)))) }
     {

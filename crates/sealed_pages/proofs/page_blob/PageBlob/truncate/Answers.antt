@@ -1,19 +1,20 @@
 use Rattle.std.proofs.Common.{◌≡◌, ◌+◌, ◌*◌, ◌/◌, ◌%◌, ◌≤◌, ◌<◌, ◌∙◌, min, ap, sym, subst, ℕ, List, [], false, length, take, refl, arith, length-take}
 use Rattle.std.specs.Prelude.{IfOk}
 use Rattle.std.proofs.lemmas.List.{take_all}
-use Rattle.blob_device.specs.Disk.{Key}
+use Rattle.blob_device.specs.Disk.{Key, Disk}
 use Rattle.blob_device.specs.Timeline.{Timeline, disk}
 use Rattle.sealed_pages.specs.Buffer.{Buffer, key_of, size_of, flushed_of, bytes_of, Holds, IsSealed, IsBacked}
 use Rattle.sealed_pages.specs.ChanceSeal.{Leaves, Sealing}
 use Rattle.sealed_pages.specs.Cutting.{Settles, IsAtRest}
 use Rattle.sealed_pages.specs.Flushing.{Alone, Data}
 use Rattle.sealed_pages.specs.SealedPrefix.{sealed_prefix}
+use Rattle.sealed_pages.specs.Slots.{page_length}
 use Rattle.sealed_pages.specs.Shown.{shown}
 use Rattle.sealed_pages.specs.View.{page_at, view}
 use Rattle.sealed_pages.proofs.CutCalls.{sealing_less}
 use Rattle.sealed_pages.proofs.Holding.{holds_start, holds_data, holds_sealed, holds_bytes, bytes_length}
 use Rattle.sealed_pages.proofs.PageCalls.{alone_start, alone_then}
-use Rattle.sealed_pages.proofs.Truncating.{as_of, all_flushed, after_sync, page_stands, cut_place, sync_then, map_ok, both_ok, data_taken, rest_stood, settles_of, leaves_of}
+use Rattle.sealed_pages.proofs.Truncating.{as_of, all_flushed, after_sync, page_stands, cut_place, sync_then, map_ok, both_ok, data_taken, rest_stood, settles_of, leaves_of, prefix_covers}
 use Rattle.sealed_pages.proofs.page_blob.PageBlob.truncate.Goals as goal
 
 pub returns-then-len-size-clause-crashes : goal.returns-then-len-size-clause-crashes
@@ -199,6 +200,22 @@ returns-clause-crashes g c t sealed =
     let inside : ((c.args.len / c.from-page_size.result) * c.args.self.page_size + (c.args.len % c.from-page_size.result)) ≤ length (sealed_prefix g.S.Seal.seal_of c.args.self.page_size (disk (g.D.Device.time c.sync.new.dev) (key_of (shown c.args.self))).content) = omega (arith, ap length s.prefix, whole, at, lt) in
     let told = as_of (λ (k : Key) (p : ℕ). IsAtRest (disk (g.D.Device.time c.sync.new.dev) k) → ((c.args.len / c.from-page_size.result) * p + (c.args.len % c.from-page_size.result)) ≤ length (sealed_prefix g.S.Seal.seal_of p (disk (g.D.Device.time c.sync.new.dev) k).content) → Sealing g.S.Seal.seal_of p (sealed_prefix g.S.Seal.seal_of p (disk (g.D.Device.time c.sync.new.dev) k).content) ((c.args.len / c.from-page_size.result) * p + (c.args.len % c.from-page_size.result)) k (g.D.Device.time c.sync.new.dev) (g.D.Device.time c.cut_within.new.dev)) c.in_ok-this.ensures.key c.in_ok-this.ensures.page_size (c.cut_within.ensures.crashes t) in
     sync_then g.S.Seal.seal_of c.args.self.page_size (bytes_of (shown c.args.self) (disk (g.D.Device.time c.args.dev.now) (key_of (shown c.args.self))).content) (sealed_prefix g.S.Seal.seal_of c.args.self.page_size (disk (g.D.Device.time c.sync.new.dev) (key_of (shown c.args.self))).content) c.args.self.settled c.args.len ((c.args.len / c.from-page_size.result) * c.args.self.page_size + (c.args.len % c.from-page_size.result)) (key_of (shown c.args.self)) (g.D.Device.time c.args.dev.now) (g.D.Device.time c.sync.new.dev) (g.D.Device.time c.cut_within.new.dev) (c.in_ok-this.ensures.crashes t sealed) s.prefix at (told s.rest inside)
+
+pub returns-clause-whole : goal.returns-clause-whole
+returns-clause-whole g c t sealed p is =
+    let pos : 1 ≤ c.args.self.page_size = omega (arith, c.args.self.fit.begun) in
+    let lt : c.args.len < size_of (shown c.args.self) = omega (arith, c.size.ensures, c.if-len-size.false) in
+    let unit : (c.args.len / c.from-page_size.result) * c.from-page_size.result ≡ (c.args.len / c.from-page_size.result) * c.args.self.page_size = ap (λ (n : ℕ). (c.args.len / c.from-page_size.result) * n) (c.from-page_size.ensures ∙ c.in_ok-this.ensures.page_size) in
+    let at : ((c.args.len / c.from-page_size.result) * c.args.self.page_size + (c.args.len % c.from-page_size.result)) ≡ c.args.len = omega (arith, cut_place c.from-page_size.result c.args.len, unit) in
+    let sealed1 = c.in_ok-this.ensures.sealed t sealed in
+    let same = c.in_ok-this.ensures.bytes t (holds_data g.S.Seal.seal_of (shown c.args.self) (bytes_of (shown c.args.self) (disk (g.D.Device.time c.args.dev.now) (key_of (shown c.args.self))).content) (disk (g.D.Device.time c.args.dev.now) (key_of (shown c.args.self))) sealed) in
+    let s : Settles g.S.Seal.seal_of c.args.self.page_size (bytes_of (shown c.args.self) (disk (g.D.Device.time c.args.dev.now) (key_of (shown c.args.self))).content) (disk (g.D.Device.time c.sync.new.dev) (key_of (shown c.args.self))) = after_sync g.S.Seal.seal_of (shown c.args.self) (shown c.in_ok-this.this) (disk (g.D.Device.time c.args.dev.now) (key_of (shown c.args.self))) (disk (g.D.Device.time c.sync.new.dev) (key_of (shown c.args.self))) c.in_ok-this.ensures.page_size c.in_ok-this.this.fit.begun c.in_ok-this.this.fit.within c.in_ok-this.this.order c.in_ok-this.ensures.settled sealed1 same in
+    let whole : length (bytes_of (shown c.args.self) (disk (g.D.Device.time c.args.dev.now) (key_of (shown c.args.self))).content) ≡ size_of (shown c.args.self) = bytes_length (shown c.args.self) (disk (g.D.Device.time c.args.dev.now) (key_of (shown c.args.self))).content in
+    let inside : ((c.args.len / c.from-page_size.result) * c.args.self.page_size + (c.args.len % c.from-page_size.result)) ≤ length (sealed_prefix g.S.Seal.seal_of c.args.self.page_size (disk (g.D.Device.time c.sync.new.dev) (key_of (shown c.args.self))).content) = omega (arith, ap length s.prefix, whole, at, lt) in
+    let less = as_of (λ (k : Key) (q : ℕ). page_length g.S.Seal.seal_of q (disk (g.D.Device.time c.cut_within.new.dev) k).content (c.args.len / c.from-page_size.result) < (c.args.len % c.from-page_size.result)) c.in_ok-this.ensures.key c.in_ok-this.ensures.page_size (c.cut_within.ensures.checksum t p is) in
+    let short : page_length g.S.Seal.seal_of c.args.self.page_size (disk (g.D.Device.time c.sync.new.dev) (key_of (shown c.args.self))).content (c.args.len / c.from-page_size.result) < (c.args.len % c.from-page_size.result) = subst (λ (d : Disk). page_length g.S.Seal.seal_of c.args.self.page_size (d (key_of (shown c.args.self))).content (c.args.len / c.from-page_size.result) < (c.args.len % c.from-page_size.result)) (c.cut_within.ensures.uncut t p is) less in
+    let small : c.args.len % c.from-page_size.result < c.args.self.page_size = omega (arith, c.from-page_size.ensures, c.in_ok-this.ensures.page_size, pos) in
+    omega (arith, short, prefix_covers g.S.Seal.seal_of c.args.self.page_size (disk (g.D.Device.time c.sync.new.dev) (key_of (shown c.args.self))).content (c.args.len / c.from-page_size.result) (c.args.len % c.from-page_size.result) (omega (arith, short)) (omega (arith, small)) inside)
 
 pub returns-clause-sealed : goal.returns-clause-sealed
 returns-clause-sealed g c t sealed =
