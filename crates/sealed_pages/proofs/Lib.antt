@@ -13,3 +13,4 @@ pub mod Holding
 pub mod Syncing
 pub mod Looking
 pub mod Starting
+pub mod Leftovers

@@ -9,3 +9,5 @@ pub mod Shown
 pub mod Reading
 pub mod Found
 pub mod Starts
+pub mod Reads
+pub mod Leftover
