@@ -14,3 +14,4 @@ pub mod Syncing
 pub mod Looking
 pub mod Starting
 pub mod Leftovers
+pub mod ReadLemmas

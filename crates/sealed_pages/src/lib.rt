@@ -5,6 +5,7 @@ mod flush;
 mod page;
 mod page_blob;
 mod pages;
+mod range;
 mod reading;
 mod repair;
 mod start;

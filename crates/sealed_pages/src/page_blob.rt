@@ -10,6 +10,8 @@ ghost use Rattle.sealed_pages.specs.Flushing.{Alone, last_slot};
 ghost use Rattle.sealed_pages.specs.Buffer.{Fit, Buffer, extent, key_of, size_of, bytes_of, flushed_of, Holds, IsSealed};
 ghost use Rattle.sealed_pages.specs.Entries.{IsOpenAt, NoReads};
 
+mod reads;
+
 use crate::Pages;
 use crate::flush::{flush_pages, next_slot_of};
 use crate::reading::find_last;

@@ -1,0 +1,99 @@
+// Reading the bytes that a buffer means: from its tip what is held there, and the rest from pages of its blob.
+ghost use Rattle.std.specs.Prelude.{◌≡◌, ◌+◌, ◌*◌, ◌-◌, ◌≤◌, ◌<◌, ◌^◌, ◌⊎◌, ◌↔◌, ◌/◌, Err, length, take, drop, IfOk, OnOk, OnErr, IsSome, true, false, ℕ, List};
+ghost use Rattle.std.specs.Result.{IsErrOf};
+ghost use Rattle.blob_device.specs.declared.runtime.RError.TheVariants.{BlobInsufficientLength, OffsetOverflow};
+ghost use Rattle.blob_device.specs.Timeline.{disk};
+ghost use Rattle.blob_device.specs.Counts.{Rose};
+ghost use Rattle.sealed_pages.specs.Buffer.{key_of, size_of, bytes_of};
+ghost use Rattle.sealed_pages.specs.Reading.{Unchanged};
+ghost use Rattle.sealed_pages.specs.Reads.{IsWanted, IsCovered, IsShort, IsHeld, touched, below};
+ghost use Rattle.sealed_pages.specs.Entries.{IsOpenAt, ReadsAtMost};
+
+use super::PageBlob;
+use crate::range::{check_range, read_pages};
+use blob_device::{Device, RError};
+use value_codec::Seal;
+
+impl<S: Seal> PageBlob<S> {
+    ghost use Rattle.sealed_pages.specs.Shown.{shown};
+
+    // Where the tip begins.
+    fn tip_start(&self) -> u64
+        ensures { result ≡ self.now.first * self.now.page_size }
+    {
+        self.first * u64::from(self.page_size)
+    }
+
+    // How many of these bytes stand below the tip.
+    fn below_tip(&self, offset: u64, len: usize) -> usize
+        ensures { result ≡ below self.now.page_size self.now.first offset len }
+    {
+        (len as u64).min(self.tip_start().saturating_sub(offset)) as usize
+    }
+
+    // Copies bytes out of the tip.
+    fn copy_held(&self, offset: u64, buf: &mut [u8])
+        requires { 0 < length buf.old → (self.now.first * self.now.page_size ≤ offset) × (offset + length buf.old ≤ size_of (shown self.now)) }
+        ensures { buf.new ≡ take (length buf.old) (drop (offset - self.now.first * self.now.page_size) self.now.tip.items) }
+    {
+        if buf.is_empty() {
+            return;
+        }
+        let skip = (offset - self.tip_start()) as usize;
+        buf.copy_from_slice(&self.tip[skip..skip + buf.len()]);
+    }
+
+    /// Reads the bytes from `offset` on. Those of the tip are held; each other page is read once, and checked.
+    ///
+    /// `InvalidChecksum` names a page that no matching slot covers as far as the read needs it. After an error `buf` holds any
+    /// bytes. An empty `buf` reads nothing.
+    pub fn read_at<D: Device>(&self, dev: &mut D, offset: u64, buf: &mut [u8]) -> Result<(), RError>
+        requires { IsOpenAt (D.opened dev.old) (key_of (shown self.now)) self.now.end }
+        ensures bytes { D.Tells → OnOk result (buf.new ≡ take (length buf.old) (drop offset (bytes_of (shown self.now) (disk (D.time dev.old) (key_of (shown self.now))).content))) }
+        ensures checked { D.Tells → OnOk result (IsCovered S.seal_of self.now.page_size (disk (D.time dev.old) (key_of (shown self.now))).content offset (below self.now.page_size self.now.first offset (length buf.old))) }
+        ensures checksum { D.Tells → (p : ℕ) → IsErrOf result (RError.InvalidChecksum p)
+            → IsShort S.seal_of self.now.page_size (disk (D.time dev.old) (key_of (shown self.now))).content offset (below self.now.page_size self.now.first offset (length buf.old)) p }
+        ensures overflow { IsErrOf result OffsetOverflow ↔ (2 ^ 64 ≤ offset + length buf.old) }
+        ensures short { IsErrOf result BlobInsufficientLength ↔ ((offset + length buf.old < 2 ^ 64) × (size_of (shown self.now) < offset + length buf.old)) }
+        ensures unchanged { D.Tells → Unchanged (D.time dev.old) (D.time dev.new) }
+        // At most one read a page of which a wanted byte is not held.
+        ensures reads { ReadsAtMost (touched self.now.page_size offset (below self.now.page_size self.now.first offset (length buf.old))) (key_of (shown self.now)) (D.opened dev.old) (D.opened dev.new) }
+        ensures held { below self.now.page_size self.now.first offset (length buf.old) ≡ 0 → D.time dev.new ≡ D.time dev.old }
+        ensures faults { D.faults dev.old ≤ D.faults dev.new }
+        ensures cause { OnErr result ((result ≡ Err RError.OffsetOverflow) ⊎ ((result ≡ Err RError.BlobInsufficientLength)
+            ⊎ (((p : ℕ) × (result ≡ Err (RError.InvalidChecksum p)) × IsWanted self.now.page_size offset (below self.now.page_size self.now.first offset (length buf.old)) p)
+            ⊎ ((result ≡ Err RError.Mem) ⊎ ((result ≡ Err RError.Fault) × Rose (D.faults dev.old) (D.faults dev.new)))))) }
+    {
+        check_range(offset, buf.len(), self.size())?;
+        let below = self.below_tip(offset, buf.len());
+        let front = &mut buf[..below];
+        read_pages::<D, S>(
+            self.alloc,
+            dev,
+            self.partition.as_str(),
+            self.name.as_slice(),
+            self.page_size,
+            self.end,
+            offset,
+            front,
+        )?;
+        self.copy_held(offset + below as u64, &mut buf[below..]);
+        Ok(())
+    }
+
+    /// Takes the bytes from `offset` on where all of them are held in memory; else `buf` stays as it is. It takes no memory.
+    pub fn try_read_held(&self, offset: u64, buf: &mut [u8]) -> bool
+        ensures held { (result ≡ true) ↔ IsHeld self.now.page_size self.now.first (size_of (shown self.now)) offset (length buf.old) }
+        ensures bytes { result ≡ true → (content : List ℕ) → buf.new ≡ take (length buf.old) (drop offset (bytes_of (shown self.now) content)) }
+        ensures same { result ≡ false → buf.new ≡ buf.old }
+    {
+        if buf.is_empty() {
+            return true;
+        }
+        if offset < self.tip_start() || check_range(offset, buf.len(), self.size()).is_err() {
+            return false;
+        }
+        self.copy_held(offset, buf);
+        true
+    }
+}
