@@ -15,3 +15,4 @@ pub mod Looking
 pub mod Starting
 pub mod Leftovers
 pub mod ReadLemmas
+pub mod Reopen

@@ -1,16 +1,21 @@
 -- Reading a range of bytes page by page.
-use Rattle.std.proofs.Common.{◌≡◌, ◌≢◌, inl, inr, ℕ, ◌+◌, ◌-◌, ◌*◌, ◌/◌, ◌<◌, ◌≤◌, min, eqb, cond, true, false, List, [], ◌++◌, length, get_or, take, drop, length-take, length-drop, length-append, refl, sym, ◌∙◌, ap, arith}
+use Rattle.std.proofs.Common.{◌≡◌, ◌≢◌, inl, inr, ℕ, ◌+◌, ◌-◌, ◌*◌, ◌/◌, ◌<◌, ◌≤◌, ◌^◌, min, max, Option, Some, None, eqb, cond, true, false, List, [], ◌++◌, length, get_or, take, drop, length-take, length-drop, length-append, refl, sym, ◌∙◌, ap, arith}
 use Rattle.std.proofs.lemmas.Bool.{cases_lt, ne_eqb}
 use Rattle.std.proofs.lemmas.List.{get_or-take, get_or-drop, get_or_append_left, get_or-append_right, ext_get_or, take_all, take-append-le}
+use Rattle.std.proofs.Math.Nat.{mul-le-mul_right}
 use Rattle.std.proofs.lemmas.Nat.{le-div}
 use Rattle.std.proofs.lemmas.Slice.{take-put_mid}
 use borrow.Rule.Slice.PartMut.{put_mid}
+use Rattle.std.specs.Prelude.{IfSome, IfNone}
+use Rattle.sealed_pages.specs.declared.reading.LastPage.{LastPage}
+use Rattle.sealed_pages.specs.Found.{Finds}
 use Rattle.sealed_pages.specs.Reading.{page_of}
 use Rattle.sealed_pages.specs.Reads.{IsWanted, IsShort, touched, needed, below}
-use Rattle.sealed_pages.specs.SealedPrefix.{place, data_from}
+use Rattle.sealed_pages.specs.SealedPrefix.{place, data_from, adopted_size}
 use Rattle.sealed_pages.specs.Slots.{slot_length, page_length}
 use Rattle.sealed_pages.specs.View.{View, page_at}
 use Rattle.sealed_pages.proofs.Adopt.{length-data_from, get_or-data_from}
+use Rattle.sealed_pages.proofs.Repairing.{page_order}
 use Rattle.sealed_pages.proofs.Looking.{page_length_is, part_slot}
 use Rattle.sealed_pages.proofs.SlotLemmas.{times_next, times_more}
 
@@ -121,3 +126,29 @@ put_tail b xs ys fits long =
 
 pub front_of : (n : ℕ) (xs ys : List ℕ) → length xs ≡ n → take n (xs ++ ys) ≡ xs
 front_of n xs ys long = let le : n ≤ length xs = omega (arith, long) in take-append-le n xs ys le ∙ take_all n xs (omega (arith, long))
+
+-- what stands in a page is no further than the page's place
+pub data_fits : (P k : ℕ) → P < 65536 → page_at P k < 2 ^ 64 → k * P + P < 2 ^ 64
+unfolding page_at
+data_fits P k small place = elim (cases_lt k 65536) [
+  | inl few ↦ (let le : k ≤ 65535 = omega (arith, few) in let short : P ≤ 65535 = omega (arith, small) in
+      let a : k * P ≤ 65535 * P = mul-le-mul_right P le in
+      omega (arith, a, short))
+  | inr many ↦ omega (arith, small, many, place)
+]
+
+-- the size that the last page with a matching slot gives
+pub found_is : (seal : List ℕ → ℕ) (P : ℕ) (c : List ℕ) (r : Option LastPage) (buf : List ℕ) (n : ℕ) → Finds seal P c r buf → IfSome r (λ p. n ≡ p.page * P + max p.first_len p.second_len) → IfNone r (n ≡ 0) → n ≡ adopted_size seal P c
+found_is seal P c None buf n finds some none = omega (arith, finds, none)
+found_is seal P c (Some p) buf n finds some none = omega (arith, finds.0, some, page_length_is seal P c p.page, finds.2, finds.3)
+
+pub found_room : (P end : ℕ) (r : Option LastPage) (n : ℕ) → end < 2 ^ 64 → IfSome r (λ p. (page_at P p.page ≤ end) × (p.have ≤ P + 12) × (p.first_len ≤ P) × (p.second_len ≤ P) × (1 ≤ max p.first_len p.second_len))
+    → IfSome r (λ p. n ≡ p.page * P + max p.first_len p.second_len) → IfNone r (n ≡ 0) → (k : ℕ) → k * P < n → page_at P k < 2 ^ 64
+found_room P end None n fits below some none k lt = absurd (omega (arith, lt, none))
+found_room P end (Some p) n fits below some none k lt =
+    let le : k < p.page + 1 = page_before P k (p.page + 1) (omega (arith, lt, some, below.2, below.3, times_next p.page P)) in
+    omega (arith, page_order (λ x. 0) P k p.page (omega (arith, le)), below.0, fits)
+
+-- what was read byte by byte, as a list
+pub read_data : (P m n : ℕ) (v : View) (out : List ℕ) → length out ≡ n → ((i : ℕ) → i < n → get_or out i 0 ≡ v (place P (m + i))) → out ≡ data_from P v m n
+read_data P m n v out long each = ext_get_or 0 out (data_from P v m n) (long ∙ sym (length-data_from P v n m)) (λ i lt. each i (omega (arith, lt, long)) ∙ sym (get_or-data_from P v n m i (omega (arith, lt, long))))

@@ -11,3 +11,4 @@ pub mod Found
 pub mod Starts
 pub mod Reads
 pub mod Leftover
+pub mod Reopening

@@ -6,12 +6,16 @@ ghost use Rattle.blob_device.specs.Timeline.{disk};
 ghost use Rattle.blob_device.specs.Counts.{Rose};
 ghost use Rattle.sealed_pages.specs.Buffer.{key_of, size_of, bytes_of};
 ghost use Rattle.sealed_pages.specs.Reading.{Unchanged};
+ghost use Rattle.sealed_pages.specs.SealedPrefix.{data_from, adopted_size};
+ghost use Rattle.sealed_pages.specs.Reopening.{OnlySettles, StaysOpen};
+ghost use Rattle.sealed_pages.specs.View.{view};
 ghost use Rattle.sealed_pages.specs.Reads.{IsWanted, IsCovered, IsShort, IsHeld, touched, below};
 ghost use Rattle.sealed_pages.specs.Entries.{IsOpenAt, ReadsAtMost};
 
 use super::PageBlob;
-use crate::range::{check_range, read_pages};
+use crate::range::{check_range, open_again, read_opened, read_pages};
 use blob_device::{Device, RError};
+use std::alloc::Global;
 use value_codec::Seal;
 
 impl<S: Seal> PageBlob<S> {
@@ -95,5 +99,42 @@ impl<S: Seal> PageBlob<S> {
         }
         self.copy_held(offset, buf);
         true
+    }
+
+    /// Reads bytes of an opened blob without a buffer over it: the bytes from `offset` on, below the size at which the blob would
+    /// be adopted. Its length is learned by opening it again, which settles it.
+    ///
+    /// `InvalidChecksum` names a page that no matching slot covers as far as the read needs it. After an error `buf` holds any
+    /// bytes.
+    pub fn read_range<D: Device>(
+        alloc: Global,
+        dev: &mut D,
+        partition: &str,
+        name: &[u8],
+        page_size: u16,
+        offset: u64,
+        buf: &mut [u8],
+    ) -> Result<(), RError>
+        requires valid { 1 ≤ page_size }
+        requires open { IsSome (D.opened dev.old (partition.now, name.now)) }
+        ensures bytes { D.Tells → OnOk result (buf.new ≡ data_from page_size (view (disk (D.time dev.old) (partition.now, name.now)).content) offset (length buf.old)) }
+        ensures within { D.Tells → OnOk result (offset + length buf.old ≤ adopted_size S.seal_of page_size (disk (D.time dev.old) (partition.now, name.now)).content) }
+        ensures checked { D.Tells → OnOk result (IsCovered S.seal_of page_size (disk (D.time dev.old) (partition.now, name.now)).content offset (length buf.old)) }
+        ensures checksum { D.Tells → (p : ℕ) → IsErrOf result (RError.InvalidChecksum p) → IsShort S.seal_of page_size (disk (D.time dev.old) (partition.now, name.now)).content offset (length buf.old) p }
+        ensures overflow { IsErrOf result OffsetOverflow ↔ (2 ^ 64 ≤ offset + length buf.old) }
+        ensures short { D.Tells → IsErrOf result BlobInsufficientLength → adopted_size S.seal_of page_size (disk (D.time dev.old) (partition.now, name.now)).content < offset + length buf.old }
+        ensures settles { D.Tells → OnlySettles (partition.now, name.now) (D.time dev.old) (D.time dev.new) }
+        ensures entries { StaysOpen (partition.now, name.now) (D.opened dev.old) (D.opened dev.new) }
+        ensures length { D.Tells → (n : ℕ) → IsOpenAt (D.opened dev.old) (partition.now, name.now) n → IsOpenAt (D.opened dev.new) (partition.now, name.now) n }
+        ensures faults { D.faults dev.old ≤ D.faults dev.new }
+        ensures cause { OnErr result ((result ≡ Err RError.OffsetOverflow) ⊎ ((result ≡ Err RError.BlobInsufficientLength)
+            ⊎ (((p : ℕ) × (result ≡ Err (RError.InvalidChecksum p)) × IsWanted page_size offset (length buf.old) p)
+            ⊎ ((result ≡ Err RError.Mem) ⊎ ((result ≡ Err RError.Fault) × Rose (D.faults dev.old) (D.faults dev.new)))))) }
+    {
+        if offset.checked_add(buf.len() as u64).is_none() {
+            return Err(RError::OffsetOverflow);
+        }
+        let end = open_again(dev, partition, name)?;
+        read_opened::<D, S>(alloc, dev, partition, name, page_size, end, offset, buf)
     }
 }

@@ -44,11 +44,11 @@ pages-preserved g c =
       bytes = λ t i lt. filled (λ x. view (disk (g.D.Device.time c.args.dev.now) (c.args.partition.now, c.args.name.now)).content (place c.args.page_size (c.args.offset + x))) c.pages.at (c.pages.at + c.min-n.result - c.pages.at) c.pages.out c.read_part.new.out
           (c.pages.invariant.within) (c.pages.invariant.bytes t)
           (λ j jn.
-            let j_in : j < c.min-n.result = omega (arith, jn, long) in
-            let inside : c.pages.skip + j < c.args.page_size = omega (arith, j_in, n_is, begun) in
-            let e : c.pages.page * c.args.page_size + (c.pages.skip + j) ≡ c.args.offset + (c.pages.at + j) = omega (arith, is) in
-            c.in_ok-read_part.ensures.bytes t j (omega (arith, jn, c.read_part.auto.out)) ∙ ap (λ (d : Disk). view (d (c.args.partition.now, c.args.name.now)).content (page_at c.args.page_size c.pages.page + (c.pages.skip + j))) (same t)
-            ∙ ap (view (disk (g.D.Device.time c.args.dev.now) (c.args.partition.now, c.args.name.now)).content) (sym (place_in c.args.page_size c.pages.page (c.pages.skip + j) inside) ∙ ap (place c.args.page_size) e))
+          let j_in : j < c.min-n.result = omega (arith, jn, long) in
+          let inside : c.pages.skip + j < c.args.page_size = omega (arith, j_in, n_is, begun) in
+          let e : c.pages.page * c.args.page_size + (c.pages.skip + j) ≡ c.args.offset + (c.pages.at + j) = omega (arith, is) in
+          c.in_ok-read_part.ensures.bytes t j (omega (arith, jn, c.read_part.auto.out)) ∙ ap (λ (d : Disk). view (d (c.args.partition.now, c.args.name.now)).content (page_at c.args.page_size c.pages.page + (c.pages.skip + j))) (same t)
+          ∙ ap (view (disk (g.D.Device.time c.args.dev.now) (c.args.partition.now, c.args.name.now)).content) (sym (place_in c.args.page_size c.pages.page (c.pages.skip + j) inside) ∙ ap (place c.args.page_size) e))
           i (omega (arith, lt, long));
       covered = λ t k lt w. elim (cases_lt k c.pages.page) [
         | inl less ↦ subst (λ (x : ℕ). needed c.args.page_size c.args.offset x k ≤ page_length g.S.Seal.seal_of c.args.page_size (disk (g.D.Device.time c.args.dev.now) (c.args.partition.now, c.args.name.now)).content k) (c.pages.auto.out ∙ sym whole)

@@ -31,9 +31,9 @@ returns-clause-bytes g c t =
     put_tail c.below_tip-below.result (c.read_pages.new.out ++ drop c.below_tip-below.result c.args.buf.now) c.copy_held.new.buf (omega (arith, wide, all)) rest
     ∙ ap (λ (l : List ℕ). l ++ c.copy_held.new.buf) front
     ∙ read_whole c.args.self.now.page_size c.args.self.now.first c.args.offset (length c.args.buf.now) c.below_tip-below.result (view (disk (g.D.Device.time c.args.dev.now) (key_of (shown c.args.self.now))).content) c.args.self.now.tip.items c.read_pages.new.out c.copy_held.new.buf
-      c.below_tip-below.ensures (omega (arith, c.in_ok-check_range.ensures.fits, c.size.ensures)) long
-      (λ i lt. (let key : (c.as_str.result.now, c.as_slice.result.now) ≡ key_of (shown c.args.self.now) = λ j. (c.as_str.ensures.value j, c.as_slice.ensures.value j) in
-        c.in_ok-read_pages.ensures.bytes t i (omega (arith, lt, long, c.read_pages.auto.out)) ∙ ap (λ (k : Key). view (disk (g.D.Device.time c.args.dev.now) k).content (place c.args.self.now.page_size (c.args.offset + i))) key))
-      (c.copy_held.ensures ∙ (let e : length (take (length (c.read_pages.new.out ++ drop c.below_tip-below.result c.args.buf.now) - c.below_tip-below.result) (drop c.below_tip-below.result (c.read_pages.new.out ++ drop c.below_tip-below.result c.args.buf.now))) ≡ length c.args.buf.now - c.below_tip-below.result
-        = omega (arith, length-take (length (c.read_pages.new.out ++ drop c.below_tip-below.result c.args.buf.now) - c.below_tip-below.result) (drop c.below_tip-below.result (c.read_pages.new.out ++ drop c.below_tip-below.result c.args.buf.now)), length-drop c.below_tip-below.result (c.read_pages.new.out ++ drop c.below_tip-below.result c.args.buf.now), all) in
-        ap (λ (n : ℕ). take n (drop (c.args.offset + c.below_tip-below.result - c.args.self.now.first * c.args.self.now.page_size) c.args.self.now.tip.items)) e))
+    c.below_tip-below.ensures (omega (arith, c.in_ok-check_range.ensures.fits, c.size.ensures)) long
+    (λ i lt. (let key : (c.as_str.result.now, c.as_slice.result.now) ≡ key_of (shown c.args.self.now) = λ j. (c.as_str.ensures.value j, c.as_slice.ensures.value j) in
+    c.in_ok-read_pages.ensures.bytes t i (omega (arith, lt, long, c.read_pages.auto.out)) ∙ ap (λ (k : Key). view (disk (g.D.Device.time c.args.dev.now) k).content (place c.args.self.now.page_size (c.args.offset + i))) key))
+    (c.copy_held.ensures ∙ (let e : length (take (length (c.read_pages.new.out ++ drop c.below_tip-below.result c.args.buf.now) - c.below_tip-below.result) (drop c.below_tip-below.result (c.read_pages.new.out ++ drop c.below_tip-below.result c.args.buf.now))) ≡ length c.args.buf.now - c.below_tip-below.result
+    = omega (arith, length-take (length (c.read_pages.new.out ++ drop c.below_tip-below.result c.args.buf.now) - c.below_tip-below.result) (drop c.below_tip-below.result (c.read_pages.new.out ++ drop c.below_tip-below.result c.args.buf.now)), length-drop c.below_tip-below.result (c.read_pages.new.out ++ drop c.below_tip-below.result c.args.buf.now), all) in
+    ap (λ (n : ℕ). take n (drop (c.args.offset + c.below_tip-below.result - c.args.self.now.first * c.args.self.now.page_size) c.args.self.now.tip.items)) e))
