@@ -16,3 +16,4 @@ pub mod Starting
 pub mod Leftovers
 pub mod ReadLemmas
 pub mod Reopen
+pub mod PieceLemmas

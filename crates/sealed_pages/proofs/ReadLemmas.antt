@@ -1,5 +1,5 @@
 -- Reading a range of bytes page by page.
-use Rattle.std.proofs.Common.{◌≡◌, ◌≢◌, inl, inr, ℕ, ◌+◌, ◌-◌, ◌*◌, ◌/◌, ◌<◌, ◌≤◌, ◌^◌, min, max, Option, Some, None, eqb, cond, true, false, List, [], ◌++◌, length, get_or, take, drop, length-take, length-drop, length-append, refl, sym, ◌∙◌, ap, arith}
+use Rattle.std.proofs.Common.{◌≡◌, ◌≢◌, ◌⊎◌, inl, inr, ℕ, ◌+◌, ◌-◌, ◌*◌, ◌/◌, ◌<◌, ◌≤◌, ◌^◌, min, max, Option, Some, None, eqb, cond, true, false, List, [], ◌++◌, length, get_or, take, drop, length-take, length-drop, length-append, refl, sym, ◌∙◌, ap, arith}
 use Rattle.std.proofs.lemmas.Bool.{cases_lt, ne_eqb}
 use Rattle.std.proofs.lemmas.List.{get_or-take, get_or-drop, get_or_append_left, get_or-append_right, ext_get_or, take_all, take-append-le}
 use Rattle.std.proofs.Math.Nat.{mul-le-mul_right}
@@ -17,7 +17,7 @@ use Rattle.sealed_pages.specs.View.{View, page_at}
 use Rattle.sealed_pages.proofs.Adopt.{length-data_from, get_or-data_from}
 use Rattle.sealed_pages.proofs.Repairing.{page_order}
 use Rattle.sealed_pages.proofs.Looking.{page_length_is, part_slot}
-use Rattle.sealed_pages.proofs.SlotLemmas.{times_next, times_more}
+use Rattle.sealed_pages.proofs.SlotLemmas.{times_next, times_more, slot_stands}
 
 -- a page by itself is covered as far as in the blob
 pub part_page : (seal : List ℕ → ℕ) (P : ℕ) (c : List ℕ) (k : ℕ) → page_length seal P (page_of P c k) 0 ≡ page_length seal P c k
@@ -152,3 +152,14 @@ found_room P end (Some p) n fits below some none k lt =
 -- what was read byte by byte, as a list
 pub read_data : (P m n : ℕ) (v : View) (out : List ℕ) → length out ≡ n → ((i : ℕ) → i < n → get_or out i 0 ≡ v (place P (m + i))) → out ≡ data_from P v m n
 read_data P m n v out long each = ext_get_or 0 out (data_from P v m n) (long ∙ sym (length-data_from P v n m)) (λ i lt. each i (omega (arith, lt, long)) ∙ sym (get_or-data_from P v n m i (omega (arith, lt, long))))
+
+-- a page with a matching slot is one of the content's pages
+pub page_in : (seal : List ℕ → ℕ) (P : ℕ) (c : List ℕ) (k : ℕ) → 1 ≤ page_length seal P c k → k < length c / (P + 12) + 1
+unfolding page_at
+page_in seal P c k some =
+    let begins : k * (P + 12) ≤ length c = go (cases_lt 0 (slot_length seal P c k false)) in
+    omega (arith, le-div k (length c) (P + 12) (omega arith) begins)
+  where
+    go : (0 < slot_length seal P c k false) ⊎ (slot_length seal P c k false ≤ 0) → k * (P + 12) ≤ length c
+    go (inl first) = omega (arith, slot_stands seal P c k false first)
+    go (inr none) = let second : 1 ≤ slot_length seal P c k true = omega (arith, none, some, page_length_is seal P c k) in omega (arith, slot_stands seal P c k true second)

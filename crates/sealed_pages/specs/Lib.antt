@@ -12,3 +12,5 @@ pub mod Starts
 pub mod Reads
 pub mod Leftover
 pub mod Reopening
+pub mod Pieces
+pub mod Proven

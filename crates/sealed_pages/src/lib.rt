@@ -5,6 +5,8 @@ mod flush;
 mod page;
 mod page_blob;
 mod pages;
+mod piece;
+mod prefix;
 mod range;
 mod reading;
 mod repair;

@@ -6,13 +6,16 @@ ghost use Rattle.blob_device.specs.Timeline.{disk};
 ghost use Rattle.blob_device.specs.Counts.{Rose};
 ghost use Rattle.sealed_pages.specs.Buffer.{key_of, size_of, bytes_of};
 ghost use Rattle.sealed_pages.specs.Reading.{Unchanged};
-ghost use Rattle.sealed_pages.specs.SealedPrefix.{data_from, adopted_size};
+ghost use Rattle.sealed_pages.specs.SealedPrefix.{data_from, adopted_size, sealed_prefix};
+ghost use Rattle.sealed_pages.specs.Slots.{page_length};
+ghost use Rattle.sealed_pages.specs.Proven.{proven_prefix};
 ghost use Rattle.sealed_pages.specs.Reopening.{OnlySettles, StaysOpen};
 ghost use Rattle.sealed_pages.specs.View.{view};
 ghost use Rattle.sealed_pages.specs.Reads.{IsWanted, IsCovered, IsShort, IsHeld, touched, below};
 ghost use Rattle.sealed_pages.specs.Entries.{IsOpenAt, ReadsAtMost};
 
 use super::PageBlob;
+use crate::prefix::prefix_len;
 use crate::range::{check_range, open_again, read_opened, read_pages};
 use blob_device::{Device, RError};
 use std::alloc::Global;
@@ -136,5 +139,36 @@ impl<S: Seal> PageBlob<S> {
         }
         let end = open_again(dev, partition, name)?;
         read_opened::<D, S>(alloc, dev, partition, name, page_size, end, offset, buf)
+    }
+
+    /// The length of the blob's sealed prefix as it reads, where the pages below the one that has byte `from` are taken as full.
+    /// Where no page begins at or behind that one, the answer is that one's start.
+    ///
+    /// It reads pieces of about `buffer` bytes, at least one page each, and each page at most once.
+    pub fn recoverable_prefix_len<D: Device>(
+        &self,
+        dev: &mut D,
+        from: u64,
+        buffer: usize,
+    ) -> Result<u64, RError>
+        requires { IsOpenAt (D.opened dev.old) (key_of (shown self.now)) self.now.end }
+        ensures length { D.Tells → IfOk result (λ n. n ≡ proven_prefix S.seal_of self.now.page_size (disk (D.time dev.old) (key_of (shown self.now))).content (from / self.now.page_size)) }
+        ensures sealed { D.Tells → ((k : ℕ) → k < from / self.now.page_size → page_length S.seal_of self.now.page_size (disk (D.time dev.old) (key_of (shown self.now))).content k ≡ self.now.page_size)
+            → IfOk result (λ n. n ≡ length (sealed_prefix S.seal_of self.now.page_size (disk (D.time dev.old) (key_of (shown self.now))).content)) }
+        ensures unchanged { D.Tells → Unchanged (D.time dev.old) (D.time dev.new) }
+        ensures reads { ReadsAtMost (self.now.end / (self.now.page_size + 12) + 1 - from / self.now.page_size) (key_of (shown self.now)) (D.opened dev.old) (D.opened dev.new) }
+        ensures faults { D.faults dev.old ≤ D.faults dev.new }
+        ensures cause { OnErr result ((result ≡ Err RError.Mem) ⊎ ((result ≡ Err RError.Fault) × Rose (D.faults dev.old) (D.faults dev.new))) }
+    {
+        prefix_len::<D, S>(
+            self.alloc,
+            dev,
+            self.partition.as_str(),
+            self.name.as_slice(),
+            self.page_size,
+            self.end,
+            from / u64::from(self.page_size),
+            buffer,
+        )
     }
 }
