@@ -5,6 +5,8 @@ ghost use Rattle.sealed_pages.specs.Buffer.{key_of};
 ghost use Rattle.sealed_pages.specs.Shown.{shown};
 ghost use Rattle.sealed_pages.specs.Entries.{IsOpenAt};
 
+mod reads;
+
 use crate::{PageBlob, Pages};
 use blob_device::{CrashChoice, Device, Image, Memory, RError};
 use std::alloc::Global;
