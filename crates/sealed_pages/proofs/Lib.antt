@@ -17,3 +17,4 @@ pub mod Leftovers
 pub mod ReadLemmas
 pub mod Reopen
 pub mod PieceLemmas
+pub mod ReplayLemmas

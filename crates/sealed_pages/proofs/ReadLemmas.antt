@@ -2,15 +2,16 @@
 use Rattle.std.proofs.Common.{◌≡◌, ◌≢◌, ◌⊎◌, inl, inr, ℕ, ◌+◌, ◌-◌, ◌*◌, ◌/◌, ◌<◌, ◌≤◌, ◌^◌, min, max, Option, Some, None, eqb, cond, true, false, List, [], ◌++◌, length, get_or, take, drop, length-take, length-drop, length-append, refl, sym, ◌∙◌, ap, arith}
 use Rattle.std.proofs.lemmas.Bool.{cases_lt, ne_eqb}
 use Rattle.std.proofs.lemmas.List.{get_or-take, get_or-drop, get_or_append_left, get_or-append_right, ext_get_or, take_all, take-append-le}
-use Rattle.std.proofs.Math.Nat.{mul-le-mul_right}
+use Rattle.std.proofs.Math.Nat.{mul-le-mul_right, div-lt_iff_lt-mul}
 use Rattle.std.proofs.lemmas.Nat.{le-div}
 use Rattle.std.proofs.lemmas.Slice.{take-put_mid}
 use borrow.Rule.Slice.PartMut.{put_mid}
 use Rattle.std.specs.Prelude.{IfSome, IfNone}
 use Rattle.sealed_pages.specs.declared.reading.LastPage.{LastPage}
+use Rattle.sealed_pages.specs.Buffer.{extent}
 use Rattle.sealed_pages.specs.Found.{Finds}
 use Rattle.sealed_pages.specs.Reading.{page_of}
-use Rattle.sealed_pages.specs.Reads.{IsWanted, IsShort, touched, needed, below}
+use Rattle.sealed_pages.specs.Reads.{IsWanted, IsShort, touched, needed, below, page_rest}
 use Rattle.sealed_pages.specs.SealedPrefix.{place, data_from, adopted_size}
 use Rattle.sealed_pages.specs.Slots.{slot_length, page_length}
 use Rattle.sealed_pages.specs.View.{View, page_at}
@@ -163,3 +164,16 @@ page_in seal P c k some =
     go : (0 < slot_length seal P c k false) ⊎ (slot_length seal P c k false ≤ 0) → k * (P + 12) ≤ length c
     go (inl first) = omega (arith, slot_stands seal P c k false first)
     go (inr none) = let second : 1 ≤ slot_length seal P c k true = omega (arith, none, some, page_length_is seal P c k) in omega (arith, slot_stands seal P c k true second)
+
+-- a page of a blob whose extent fits has its place
+pub extent_room : (P n k : ℕ) → 1 ≤ P → extent P n < 2 ^ 64 → k * P < n → page_at P k < 2 ^ 64
+extent_room P n k pos fits lt =
+    let next : (k + 1) * P ≤ n + (P - 1) = omega (arith, lt, pos, times_next k P) in
+    let le : k + 1 ≤ (n + (P - 1)) / P = le-div (k + 1) (n + (P - 1)) P (omega (arith, pos)) next in
+    omega (arith, fits, page_order (λ x. 0) P k ((n + (P - 1)) / P) (omega (arith, le)))
+
+-- there is a byte more in the page
+pub rest_some : (P size m : ℕ) → 1 ≤ P → m < size → 1 ≤ page_rest P size m
+rest_some P size m pos lt =
+    let above : m < (m / P + 1) * P = (div-lt_iff_lt-mul {k = P} {x = m} {y = m / P + 1} (omega (arith, pos))).0 (omega arith) in
+    omega (arith, lt, above)

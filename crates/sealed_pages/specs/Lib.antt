@@ -14,3 +14,4 @@ pub mod Leftover
 pub mod Reopening
 pub mod Pieces
 pub mod Proven
+pub mod Readers

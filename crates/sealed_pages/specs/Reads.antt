@@ -33,3 +33,7 @@ module _ (seal : List ℕ → ℕ) (P : ℕ) where
 -- each of the bytes stands in the tip, which begins with page `first` and ends at the size
 abbrev pub IsHeld : ℕ → ℕ → ℕ → ℕ → ℕ → Type 0
 IsHeld P first size m n = (i : ℕ) → m ≤ i → i < m + n → (first * P ≤ i) × (i < size)
+
+-- how many bytes stand from byte m on, up to the end of its page or of the first `size` bytes
+abbrev pub page_rest : ℕ → ℕ → ℕ → ℕ
+page_rest P size m = min size ((m / P + 1) * P) - m

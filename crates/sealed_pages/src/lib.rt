@@ -1,6 +1,7 @@
 //! Buffers over blobs whose pages carry seals.
 #![tactic(auto)]
 
+mod fetch;
 mod flush;
 mod page;
 mod page_blob;
@@ -10,9 +11,11 @@ mod prefix;
 mod range;
 mod reading;
 mod repair;
+mod replay;
 mod start;
 #[cfg(test)]
 mod tests;
 
 pub use page_blob::PageBlob;
 pub use pages::Pages;
+pub use replay::PageReplay;

@@ -48,7 +48,7 @@ pub struct PageBlob<S: Seal> {
 }
 
 /// Takes the first n bytes away.
-fn drop_front(tip: &mut Vec<u8>, n: usize)
+pub fn drop_front(tip: &mut Vec<u8>, n: usize)
     requires { n ≤ length tip.old.items }
     ensures { tip.new.items ≡ drop n tip.old.items }
 {

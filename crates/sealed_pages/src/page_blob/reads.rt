@@ -4,7 +4,7 @@ ghost use Rattle.std.specs.Result.{IsErrOf};
 ghost use Rattle.blob_device.specs.declared.runtime.RError.TheVariants.{BlobInsufficientLength, OffsetOverflow};
 ghost use Rattle.blob_device.specs.Timeline.{disk};
 ghost use Rattle.blob_device.specs.Counts.{Rose};
-ghost use Rattle.sealed_pages.specs.Buffer.{key_of, size_of, bytes_of};
+ghost use Rattle.sealed_pages.specs.Buffer.{key_of, size_of, bytes_of, IsBacked, IsSealed};
 ghost use Rattle.sealed_pages.specs.Reading.{Unchanged};
 ghost use Rattle.sealed_pages.specs.SealedPrefix.{data_from, adopted_size, sealed_prefix};
 ghost use Rattle.sealed_pages.specs.Slots.{page_length};
@@ -12,17 +12,21 @@ ghost use Rattle.sealed_pages.specs.Proven.{proven_prefix};
 ghost use Rattle.sealed_pages.specs.Reopening.{OnlySettles, StaysOpen};
 ghost use Rattle.sealed_pages.specs.View.{view};
 ghost use Rattle.sealed_pages.specs.Reads.{IsWanted, IsCovered, IsShort, IsHeld, touched, below};
-ghost use Rattle.sealed_pages.specs.Entries.{IsOpenAt, ReadsAtMost};
+ghost use Rattle.sealed_pages.specs.Entries.{IsOpenAt, ReadsAtMost, NoReads};
+ghost use Rattle.sealed_pages.specs.ChanceSeal.{Sealing};
+ghost use Rattle.sealed_pages.specs.Flushing.{Alone};
 
 use super::PageBlob;
 use crate::prefix::prefix_len;
 use crate::range::{check_range, open_again, read_opened, read_pages};
+use crate::replay::PageReplay;
 use blob_device::{Device, RError};
 use std::alloc::Global;
 use value_codec::Seal;
 
 impl<S: Seal> PageBlob<S> {
     ghost use Rattle.sealed_pages.specs.Shown.{shown};
+    ghost use Rattle.sealed_pages.specs.Readers.{reading, IsReplayOf};
 
     // Where the tip begins.
     fn tip_start(&self) -> u64
@@ -170,5 +174,51 @@ impl<S: Seal> PageBlob<S> {
             from / u64::from(self.page_size),
             buffer,
         )
+    }
+
+    /// Flushes what is not flushed, and gives a reader over all the bytes, from 0. It reads pieces of about `buffer` bytes.
+    pub fn replay<D: Device>(
+        self,
+        dev: &mut D,
+        buffer: usize,
+    ) -> Result<(PageBlob<S>, PageReplay<S>), RError>
+        requires open { IsOpenAt (D.opened dev.old) (key_of (shown self)) self.end }
+        ensures crashes { D.Tells → IsSealed S.seal_of (shown self) (disk (D.time dev.old) (key_of (shown self)))
+            → Sealing S.seal_of self.page_size (bytes_of (shown self) (disk (D.time dev.old) (key_of (shown self))).content) self.settled (key_of (shown self)) (D.time dev.old) (D.time dev.new) }
+        ensures sealed { D.Tells → IsSealed S.seal_of (shown self) (disk (D.time dev.old) (key_of (shown self)))
+            → IfOk result (λ r. IsSealed S.seal_of (shown r.0) (disk (D.time dev.new) (key_of (shown self)))) }
+        ensures alone { D.Tells → IsBacked (shown self) (disk (D.time dev.old) (key_of (shown self))).content → Alone (key_of (shown self)) (D.time dev.old) (D.time dev.new) }
+        ensures bytes { D.Tells → IsBacked (shown self) (disk (D.time dev.old) (key_of (shown self))).content
+            → IfOk result (λ r. bytes_of (shown r.0) (disk (D.time dev.new) (key_of (shown self))).content ≡ bytes_of (shown self) (disk (D.time dev.old) (key_of (shown self))).content) }
+        ensures backed { D.Tells → IsBacked (shown self) (disk (D.time dev.old) (key_of (shown self))).content
+            → IfOk result (λ r. IsBacked (shown r.0) (disk (D.time dev.new) (key_of (shown self))).content) }
+        // What the reader gives is what the buffer means.
+        ensures data { D.Tells → IsBacked (shown self) (disk (D.time dev.old) (key_of (shown self))).content
+            → IfOk result (λ r. data_from self.page_size (view (disk (D.time dev.new) (key_of (shown self))).content) 0 (size_of (shown self)) ≡ bytes_of (shown self) (disk (D.time dev.old) (key_of (shown self))).content) }
+        ensures replays { IfOk result (λ r. (content : List ℕ) → IsReplayOf content (reading r.1)) }
+        ensures begins { IfOk result (λ r. ((reading r.1).at ≡ 0) × ((reading r.1).size ≡ size_of (shown self))) }
+        ensures over { IfOk result (λ r. ((reading r.1).key ≡ key_of (shown self)) × ((reading r.1).page_size ≡ self.page_size) × ((reading r.1).end ≡ r.0.end)) }
+        ensures flushed { IfOk result (λ r. r.0.from ≡ length r.0.tip.items) }
+        ensures settled { IfOk result (λ r. r.0.settled ≡ self.settled) }
+        ensures size { IfOk result (λ r. size_of (shown r.0) ≡ size_of (shown self)) }
+        ensures key { IfOk result (λ r. key_of (shown r.0) ≡ key_of (shown self)) }
+        ensures page_size { IfOk result (λ r. r.0.page_size ≡ self.page_size) }
+        ensures capacity { IfOk result (λ r. r.0.capacity ≡ self.capacity) }
+        ensures open { IfOk result (λ r. IsOpenAt (D.opened dev.new) (key_of (shown r.0)) r.0.end) }
+        ensures entries { NoReads (key_of (shown self)) (D.opened dev.old) (D.opened dev.new) }
+        ensures faults { D.faults dev.old ≤ D.faults dev.new }
+        ensures cause { OnErr result ((result ≡ Err RError.Mem) ⊎ ((result ≡ Err RError.Fault) × Rose (D.faults dev.old) (D.faults dev.new))) }
+    {
+        let this = self.flush(dev)?;
+        let replay = PageReplay::new(
+            this.alloc,
+            this.partition.as_str(),
+            this.name.as_slice(),
+            this.page_size,
+            this.end,
+            this.size(),
+            buffer,
+        )?;
+        Ok((this, replay))
     }
 }
