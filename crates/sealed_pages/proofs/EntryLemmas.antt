@@ -1,11 +1,11 @@
 -- The list of opened blobs after calls on one of them.
-use Rattle.std.proofs.Common.{◌≡◌, ◌⊎◌, inl, inr, ℕ, ◌≤◌, max, Option, Some, None, IsSome, IsSomeAnd, refl, sym, ◌∙◌, ap, subst, arith}
+use Rattle.std.proofs.Common.{◌≡◌, ◌⊎◌, inl, inr, ℕ, ◌+◌, ◌≤◌, max, Option, Some, None, IsSome, IsSomeAnd, refl, sym, ◌∙◌, ap, subst, arith}
 use Rattle.std.specs.Option.{option_map}
 use Rattle.blob_device.specs.Disk.{Key}
 use Rattle.blob_device.specs.Opened.{Opened, OpenedList, updated, entered, with_len, one_more_read, reads_of, PartlyGrown}
 use Rattle.blob_device.proofs.Puts.{put_same}
 use Rattle.blob_device.proofs.OpenedLemmas.{updated_other}
-use Rattle.sealed_pages.specs.Entries.{IsOpenAt, NoReads}
+use Rattle.sealed_pages.specs.Entries.{IsOpenAt, NoReads, ReadsAtMost}
 use Rattle.sealed_pages.specs.Reading.{OnlyRead}
 
 pub open_some : (o : OpenedList) (k : Key) (n : ℕ) → IsOpenAt o k n → IsSome (o k)
@@ -93,3 +93,31 @@ only_read_then k a b c first second = record { others = λ q other. second.other
 -- a blob that was just opened has the length that the call answered
 pub open_entered : (k : Key) (old new : OpenedList) (n : ℕ) → new ≡ entered old k n → IsOpenAt new k n
 open_entered k old new n same = subst (λ (e : Option Opened). IsSomeAnd e (λ o. o.len ≡ n)) (sym (ap (λ (o : OpenedList). o k) same ∙ put_same old k _)) refl
+
+-- reads that are counted
+pub reads_start : (n : ℕ) (k : Key) (o : OpenedList) → ReadsAtMost n k o o
+reads_start n k o = record { others = λ q other. refl; length = λ m is. is; reads = omega arith }
+
+pub reads_once : (k : Key) (old new : OpenedList) → new ≡ updated old k one_more_read → ReadsAtMost 1 k old new
+reads_once k old new same = record {
+  others = (only_read_once k old new same).others;
+  length = (only_read_once k old new same).length;
+  reads = subst (λ (e : Option Opened). reads_of e ≤ reads_of (old k) + 1) (sym (ap (λ (o : OpenedList). o k) same ∙ put_same old k _)) (more (old k));
+}
+  where
+    more : (e : Option Opened) → reads_of (option_map one_more_read e) ≤ reads_of e + 1
+    more None = omega arith
+    more (Some x) = omega arith
+
+pub reads_then : (k : Key) (m n l : ℕ) (a b c : OpenedList) → m + n ≤ l → ReadsAtMost m k a b → ReadsAtMost n k b c → ReadsAtMost l k a c
+reads_then k m n l a b c le first second = record {
+  others = λ q other. second.others q other ∙ first.others q other;
+  length = λ x is. second.length x (first.length x is);
+  reads = omega (arith, le, first.reads, second.reads);
+}
+
+pub reads_more : (k : Key) (m n : ℕ) (a b : OpenedList) → m ≤ n → ReadsAtMost m k a b → ReadsAtMost n k a b
+reads_more k m n a b le first = record { others = first.others; length = first.length; reads = omega (arith, le, first.reads) }
+
+pub only_read_of : (k : Key) (n : ℕ) (a b : OpenedList) → ReadsAtMost n k a b → OnlyRead k a b
+only_read_of k n a b few = record { others = few.others; length = few.length }

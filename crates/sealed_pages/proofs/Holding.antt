@@ -126,7 +126,7 @@ holds_data seal u all b holds = elim (bool_or (u.behind || u.torn)) [
   | inr clean ↦ (holds.state.ready clean).flushed.same
 ]
 
-div_place : (P i : ℕ) → 0 < P → (i / P * P ≤ i) × (i < i / P * P + P)
+pub div_place : (P i : ℕ) → 0 < P → (i / P * P ≤ i) × (i < i / P * P + P)
 div_place P i pos = (div-mul-le_self i P, let below : i < (i / P + 1) * P = (div-lt_iff_lt-mul {k = P} {x = i} {y = i / P + 1} pos).0 (omega arith) in omega (arith, below, times_next (i / P) P))
 
 -- where the data below the tip are these bytes, and the tip is the end of them, they are what the buffer means

@@ -24,3 +24,8 @@ pub mod WriteLemmas
 pub mod WritingLemmas
 pub mod RunLemmas
 pub mod PlainLemmas
+pub mod Leftovers
+pub mod ReadLemmas
+pub mod Reopen
+pub mod PieceLemmas
+pub mod ReplayLemmas

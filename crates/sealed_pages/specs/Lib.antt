@@ -13,3 +13,9 @@ pub mod Cutting
 pub mod Sparing
 pub mod Writing
 pub mod Filled
+pub mod Reads
+pub mod Leftover
+pub mod Reopening
+pub mod Pieces
+pub mod Proven
+pub mod Readers

@@ -2,13 +2,18 @@
 #![tactic(auto)]
 
 mod cut;
+mod fetch;
 mod flush;
 mod page;
 mod page_blob;
 mod pages;
 pub mod plain;
+mod piece;
+mod prefix;
+mod range;
 mod reading;
 mod repair;
+mod replay;
 mod start;
 #[cfg(test)]
 mod tests;
@@ -17,3 +22,4 @@ mod write_blob;
 pub use page_blob::PageBlob;
 pub use pages::Pages;
 pub use write_blob::WriteBlob;
+pub use replay::PageReplay;

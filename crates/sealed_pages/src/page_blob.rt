@@ -13,6 +13,8 @@ ghost use Rattle.sealed_pages.specs.Cutting.{IsAtRest, Settles};
 
 mod cutting;
 
+mod reads;
+
 use crate::Pages;
 use crate::flush::{flush_pages, next_slot_of};
 use crate::reading::find_last;
@@ -49,7 +51,7 @@ pub struct PageBlob<S: Seal> {
 }
 
 /// Takes the first n bytes away.
-fn drop_front(tip: &mut Vec<u8>, n: usize)
+pub fn drop_front(tip: &mut Vec<u8>, n: usize)
     requires { n ≤ length tip.old.items }
     ensures { tip.new.items ≡ drop n tip.old.items }
 {
@@ -95,6 +97,7 @@ impl<S: Seal> PageBlob<S> {
     ghost use Rattle.sealed_pages.specs.View.{view, StandsAt};
     ghost use Rattle.sealed_pages.specs.Buffer.{IsBacked, has_leftover};
     ghost use Rattle.sealed_pages.specs.Flushing.{Data, Wrote};
+    ghost use Rattle.sealed_pages.specs.Leftover.{Leftover};
 
     /// Adopts an opened blob of this length. The size goes back to the last page with a matching slot.
     ///
@@ -116,6 +119,7 @@ impl<S: Seal> PageBlob<S> {
         ensures sealed { D.Tells → disk (D.time dev.old) (partition.now, name.now) ≡ settled_at (disk (D.time dev.old) (partition.now, name.now)).content
             → length (sealed_prefix S.seal_of pages.page_size (disk (D.time dev.old) (partition.now, name.now)).content) ≡ adopted_size S.seal_of pages.page_size (disk (D.time dev.old) (partition.now, name.now)).content
             → IfOk result (λ r. IsSealed S.seal_of (shown r) (disk (D.time dev.old) (partition.now, name.now))) }
+        ensures leftover { D.Tells → IfOk result (λ r. Leftover S.seal_of r.page_size (disk (D.time dev.old) (partition.now, name.now)).content r.first r.from r.newest r.behind r.torn) }
         ensures unchanged { D.Tells → Unchanged (D.time dev.old) (D.time dev.new) }
         ensures settled { IfOk result (λ r. r.settled ≡ size_of (shown r)) }
         ensures key { IfOk result (λ r. key_of (shown r) ≡ (partition.now, name.now)) }

@@ -1,11 +1,11 @@
 // Reading a page and its slots.
-ghost use Rattle.std.specs.Prelude.{◌≡◌, ◌≢◌, ◌+◌, ◌*◌, ◌≤◌, ◌<◌, ◌^◌, ◌-◌, length, take, max, IfOk, IfSome, Bool, ℕ, List};
+ghost use Rattle.std.specs.Prelude.{◌≡◌, ◌≢◌, ◌+◌, ◌*◌, ◌≤◌, ◌<◌, ◌^◌, ◌-◌, length, take, drop, max, IfOk, IfSome, Bool, ℕ, List};
 ghost use Rattle.blob_device.specs.Timeline.{disk};
 ghost use Rattle.blob_device.specs.Counts.{Rose};
 ghost use Rattle.sealed_pages.specs.View.{page_at, slot_at};
-ghost use Rattle.sealed_pages.specs.Slots.{slot_length};
+ghost use Rattle.sealed_pages.specs.Slots.{slot_length, page_length};
 ghost use Rattle.sealed_pages.specs.Reading.{page_of, Unchanged, OnlyRead};
-ghost use Rattle.sealed_pages.specs.Entries.{IsOpenAt};
+ghost use Rattle.sealed_pages.specs.Entries.{IsOpenAt, ReadsAtMost};
 ghost use Rattle.sealed_pages.specs.Found.{Finds, found_of};
 
 use crate::page::page_place;
@@ -43,6 +43,44 @@ pub fn matching_len<S: Seal>(page_size: u16, page: &[u8], second: bool) -> usize
     n
 }
 
+/// How far a page is covered: the greater length of its matching slots, or 0. `page` has its bytes that stand below the
+/// blob's end.
+pub fn covered_len<S: Seal>(page_size: u16, page: &[u8]) -> usize
+    ensures covers { result ≡ page_length S.seal_of page_size page.now 0 }
+    ensures within { result ≤ page_size }
+    ensures held { result ≤ length page.now }
+{
+    let first = matching_len::<S>(page_size, page, false);
+    first.max(matching_len::<S>(page_size, page, true))
+}
+
+/// Reads the bytes from `place` on that stand below the blob's end, which is at `end`, as many as fit into `buf`. The answer
+/// is how many there are.
+pub fn read_span<D: Device>(
+    dev: &mut D,
+    partition: &str,
+    name: &[u8],
+    end: u64,
+    place: u64,
+    buf: &mut [u8],
+) -> Result<usize, DevError>
+    requires { IsOpenAt (D.opened dev.old) (partition.now, name.now) end }
+    ensures bytes { D.Tells → IfOk result (λ n. take n buf.new ≡ take (length buf.old) (drop place (disk (D.time dev.old) (partition.now, name.now)).content)) }
+    ensures within { IfOk result (λ n. n ≤ length buf.old) }
+    ensures unchanged { D.Tells → Unchanged (D.time dev.old) (D.time dev.new) }
+    ensures entries { ReadsAtMost 1 (partition.now, name.now) (D.opened dev.old) (D.opened dev.new) }
+    ensures faults { D.faults dev.old ≤ D.faults dev.new }
+    ensures cause { result ≡ Err DevError.Fault → Rose (D.faults dev.old) (D.faults dev.new) }
+{
+    if place >= end {
+        return Ok(0);
+    }
+    let have = (end - place).min(buf.len() as u64) as usize;
+    let part = &mut buf[..have];
+    dev.read_at(partition, name, place, part)?;
+    Ok(have)
+}
+
 /// Reads the bytes of a page that stand below the blob's end, which is at `end`. The answer is how many there are.
 pub fn read_page<D: Device>(
     dev: &mut D,
@@ -59,18 +97,12 @@ pub fn read_page<D: Device>(
     ensures bytes { D.Tells → IfOk result (λ n. take n buf.new ≡ page_of page_size (disk (D.time dev.old) (partition.now, name.now)).content page) }
     ensures within { IfOk result (λ n. n ≤ page_size + 12) }
     ensures unchanged { D.Tells → Unchanged (D.time dev.old) (D.time dev.new) }
-    ensures entries { OnlyRead (partition.now, name.now) (D.opened dev.old) (D.opened dev.new) }
+    ensures entries { ReadsAtMost 1 (partition.now, name.now) (D.opened dev.old) (D.opened dev.new) }
     ensures faults { D.faults dev.old ≤ D.faults dev.new }
     ensures cause { result ≡ Err DevError.Fault → Rose (D.faults dev.old) (D.faults dev.new) }
 {
     let place = page_place(page_size, page);
-    if place >= end {
-        return Ok(0);
-    }
-    let have = (end - place).min(u64::from(page_size) + 12) as usize;
-    let part = &mut buf[..have];
-    dev.read_at(partition, name, place, part)?;
-    Ok(have)
+    read_span(dev, partition, name, end, place, buf)
 }
 
 /// The last page with a matching slot: its number, the lengths of its slots, and how many of its bytes stand below the end.

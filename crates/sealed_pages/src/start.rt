@@ -1,11 +1,12 @@
 // How a buffer starts over the last page with a matching slot.
-ghost use Rattle.std.specs.Prelude.{◌≡◌, ◌+◌, ◌*◌, ◌≤◌, ◌<◌, ◌^◌, ◌↔◌, ◌⊎◌, cond, max, take, IfSome, length, get_or, IsTrue, Bool, true, false, ℕ, List};
+ghost use Rattle.std.specs.Prelude.{◌≡◌, ◌+◌, ◌*◌, ◌≤◌, ◌<◌, ◌^◌, ◌↔◌, ◌⊎◌, cond, max, take, IfSome, length, IsTrue, Bool, true, false, ℕ, List};
 ghost use Rattle.sealed_pages.specs.View.{page_at, slot_at};
 ghost use Rattle.sealed_pages.specs.Slots.{slot_length, page_length};
 ghost use Rattle.sealed_pages.specs.Reading.{page_of};
 ghost use Rattle.sealed_pages.specs.Starts.{Starts, StartsOver};
 ghost use Rattle.sealed_pages.specs.Found.{Finds};
 ghost use Rattle.sealed_pages.specs.Buffer.{pages_of};
+ghost use Rattle.sealed_pages.specs.Leftover.{IsBlank, Leftover};
 
 use crate::page::page_place;
 use crate::reading::{LastPage, slot_offset};
@@ -23,7 +24,7 @@ pub struct Start {
 
 /// Whether the bytes of a slot are zeros, those past the end of the page's bytes included.
 pub fn is_blank(page_size: u16, page: &[u8], second: bool) -> bool
-    ensures { result ≡ true → (i : ℕ) → i < 6 → get_or page.now (slot_at page_size 0 second + i) 0 ≡ 0 }
+    ensures { (result ≡ true) ↔ IsBlank page_size page.now 0 second }
 {
     let at = slot_offset(page_size, second);
     let byte = |i: usize| page.get(at + i).copied().unwrap_or(0);
@@ -32,7 +33,8 @@ pub fn is_blank(page_size: u16, page: &[u8], second: bool) -> bool
 
 /// Whether a slot is torn: it neither matches nor is six zeros. `len` is its length where it matches, else 0.
 pub fn is_torn(page_size: u16, page: &[u8], len: usize, second: bool) -> bool
-    ensures { result ≡ false → (1 ≤ len) ⊎ ((i : ℕ) → i < 6 → get_or page.now (slot_at page_size 0 second + i) 0 ≡ 0) }
+    ensures whole { result ≡ false → (1 ≤ len) ⊎ IsBlank page_size page.now 0 second }
+    ensures torn { (result ≡ true) ↔ ((len ≡ 0) × ¬ (IsBlank page_size page.now 0 second)) }
 {
     if len > 0 {
         return false;
@@ -67,6 +69,11 @@ pub fn start_at<S: Seal>(page_size: u16, end: u64, last: &LastPage, page: &[u8])
         → last.now.second_len ≡ slot_length S.seal_of page_size c last.now.page true
         → 1 ≤ page_length S.seal_of page_size c last.now.page
         → Starts S.seal_of page_size c last.now.page result.first result.from result.newest result.behind result.torn }
+    ensures leftover { (c : List ℕ) → length c ≡ end
+        → page.now ≡ page_of page_size c last.now.page
+        → last.now.first_len ≡ slot_length S.seal_of page_size c last.now.page false
+        → last.now.second_len ≡ slot_length S.seal_of page_size c last.now.page true
+        → Leftover S.seal_of page_size c result.first result.from result.newest result.behind result.torn }
 {
     let newest = last.first_len < last.second_len;
     let behind = page_place(page_size, last.page + 1) < end;
@@ -101,6 +108,8 @@ pub fn start_of<S: Seal>(page_size: u16, end: u64, found: &Option<LastPage>, buf
     ensures inside { result.torn ≡ true → 0 < result.from }
     ensures starts { (c : List ℕ) → length c ≡ end → Finds S.seal_of page_size c found.now buf.now
         → StartsOver S.seal_of page_size c found.now result.first result.from result.newest result.behind result.torn }
+    ensures leftover { (c : List ℕ) → length c ≡ end → Finds S.seal_of page_size c found.now buf.now
+        → Leftover S.seal_of page_size c result.first result.from result.newest result.behind result.torn }
 {
     match found {
         Some(last) => start_at::<S>(page_size, end, last, &buf[..last.have]),

@@ -9,6 +9,7 @@ mod cutting;
 mod images;
 mod plain;
 mod writing;
+mod reads;
 
 use crate::{PageBlob, Pages};
 use blob_device::{CrashChoice, Device, Image, Memory, RError};

@@ -5,7 +5,7 @@ use Rattle.sealed_pages.specs.Reading.{page_of}
 use Rattle.sealed_pages.specs.Slots.{slot_length, page_length}
 use Rattle.sealed_pages.specs.SealedPrefix.{size_below}
 use Rattle.sealed_pages.proofs.SlotLemmas.{slot_length-le}
-use Rattle.sealed_pages.proofs.EntryLemmas.{only_read_then}
+use Rattle.sealed_pages.proofs.EntryLemmas.{only_read_then, only_read_of}
 use Rattle.sealed_pages.proofs.Looking.{unchanged_now, unchanged_then, part_slot, page_below, page_length_is, size_found, size_none, size_zero}
 use Rattle.sealed_pages.proofs.reading.find_last.Goals as goal
 
@@ -40,7 +40,7 @@ back-preserved g c = record {
   low = omega (arith, c.back.invariant.low);
   buf = search rules;
   faults = omega (arith, c.back.invariant.faults, c.in_ok-have.ensures.faults);
-  entries = only_read_then _ _ _ _ c.back.invariant.entries c.in_ok-have.ensures.entries;
+  entries = only_read_then _ _ _ _ c.back.invariant.entries (only_read_of _ _ _ _ c.in_ok-have.ensures.entries);
   unchanged = λ t. unchanged_then _ _ _ (c.back.invariant.unchanged t) (c.in_ok-have.ensures.unchanged t);
   none = λ t.
       let k : ℕ = c.back.page - 1 in

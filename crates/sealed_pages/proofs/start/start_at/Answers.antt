@@ -2,6 +2,7 @@ use Rattle.std.proofs.Common.{◌≢◌, inl, inr, ◌∙◌, ◌<◌, ◌+◌, 
 use Rattle.sealed_pages.specs.View.{slot_at}
 use Rattle.sealed_pages.proofs.Starting.{starts_full, starts_part}
 use Rattle.sealed_pages.proofs.Adopting.{pages_some}
+use Rattle.sealed_pages.proofs.Leftovers.{leftover_full, leftover_part}
 use Rattle.sealed_pages.proofs.start.start_at.Goals as goal
 
 pub returns-then-len-from : goal.returns-then-len-from
@@ -11,6 +12,7 @@ returns-then-len-from g c = record {
   inside = λ e. absurd (cc e);
   starts = λ l long page a b some.
       starts_full g.S.Seal.seal_of c.args.page_size l c.args.last.now.page c.args.last.now.first_len c.args.last.now.second_len a b some c.page_place.result c.args.end c.page_place.ensures long c.requires.some (omega (arith, c.max-len.ensures, c.from.ensures, c.if-len-from.true));
+  leftover = λ l long page a b. leftover_full g.S.Seal.seal_of c.args.page_size l c.args.last.now.page c.page_place.result c.args.end c.page_place.ensures long (ltb c.args.last.now.first_len c.args.last.now.second_len);
 }
 
 pub returns : goal.returns
@@ -25,8 +27,12 @@ returns g c =
       starts = λ l long page a b some.
           starts_part g.S.Seal.seal_of c.args.page_size l c.args.last.now.page c.args.last.now.first_len c.args.last.now.second_len a b some c.page_place.result c.args.end c.page_place.ensures long c.max-len.result c.is_torn-torn.result c.max-len.ensures
           (λ e. c.if-len-from.false (e ∙ sym c.from.ensures))
-          (λ e. elim (c.is_torn-torn.ensures e) [
+          (λ e. elim (c.is_torn-torn.ensures.whole e) [
             | inl match ↦ inl (omega (arith, match, c.other_len.ensures))
             | inr zeros ↦ inr (λ i lt. sym (ap (λ (p : List ℕ). get_or p (slot_at c.args.page_size 0 (not (ltb c.args.last.now.first_len c.args.last.now.second_len)) + i) 0) page) ∙ zeros i lt)
           ]);
+      leftover = λ l long page a b.
+          leftover_part g.S.Seal.seal_of c.args.page_size l c.args.last.now.page c.args.last.now.first_len c.args.last.now.second_len a b c.page_place.result c.args.end c.page_place.ensures long c.max-len.result c.is_torn-torn.result some
+          (λ e. (sym c.other_len.ensures ∙ (c.is_torn-torn.ensures.torn.0 e).0, λ blank. (c.is_torn-torn.ensures.torn.0 e).1 (λ i lt. ap (λ (p : List ℕ). get_or p (slot_at c.args.page_size 0 (not (ltb c.args.last.now.first_len c.args.last.now.second_len)) + i) 0) page ∙ blank i lt)))
+          (λ e. c.is_torn-torn.ensures.torn.1 (c.other_len.ensures ∙ e.0, λ blank. e.1 (λ i lt. sym (ap (λ (p : List ℕ). get_or p (slot_at c.args.page_size 0 (not (ltb c.args.last.now.first_len c.args.last.now.second_len)) + i) 0) page) ∙ blank i lt)));
     }

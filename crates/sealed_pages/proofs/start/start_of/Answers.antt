@@ -1,7 +1,8 @@
-use Rattle.std.proofs.Common.{arith}
+use Rattle.std.proofs.Common.{arith, false}
 use Rattle.sealed_pages.proofs.SlotLemmas.{page_next, index_page}
 use Rattle.sealed_pages.proofs.Adopting.{pages_place_order}
 use Rattle.sealed_pages.proofs.Looking.{below_some, page_zero}
+use Rattle.sealed_pages.proofs.Leftovers.{leftover_none}
 use Rattle.sealed_pages.proofs.start.start_of.Goals as goal
 
 pub start_at-requires-clause-room : goal.start_at-requires-clause-room
@@ -21,3 +22,6 @@ returns-in-Some-clause-place g c =
 
 pub returns-in-None-clause-place : goal.returns-in-None-clause-place
 returns-in-None-clause-place g c = omega (arith, page_zero c.args.page_size)
+
+pub returns-in-None-clause-leftover : goal.returns-in-None-clause-leftover
+returns-in-None-clause-leftover g c l long finds = leftover_none g.S.Seal.seal_of c.args.page_size l c.args.end long false

@@ -146,3 +146,8 @@ pub returns-clause-open : goal.returns-clause-open
 returns-clause-open g c =
     let p : (string_bytes c.in_ok-partition.partition, c.in_ok-name.name.items) ≡ (c.args.partition.now, c.args.name.now) = search rules in
     subst (λ (k : Key). IsOpenAt (g.D.Device.opened c.find_last.new.dev) k c.args.size) (sym p) (c.in_ok-found.ensures.entries.length c.args.size c.requires.«open»)
+
+pub returns-clause-leftover : goal.returns-clause-leftover
+returns-clause-leftover g c t =
+    let size = content_length (g.D.Device.opened c.args.dev.now) (c.args.partition.now, c.args.name.now) c.args.size _ (disk (g.D.Device.time c.args.dev.now) (c.args.partition.now, c.args.name.now)).content (g.met.D.Device.opened_stands t c.args.dev.now (c.args.partition.now, c.args.name.now)) c.requires.«open» in
+    c.start_of-start.ensures.leftover (disk (g.D.Device.time c.args.dev.now) (c.args.partition.now, c.args.name.now)).content size (c.in_ok-found.ensures.found t)

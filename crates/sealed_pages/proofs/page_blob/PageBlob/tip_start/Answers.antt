@@ -1,0 +1,6 @@
+use Rattle.std.proofs.Common.{◌*◌, ℕ, ap, arith}
+use Rattle.sealed_pages.proofs.Holding.{fit_size}
+use Rattle.sealed_pages.proofs.page_blob.PageBlob.tip_start.Goals as goal
+
+pub overflow_mul-result : goal.overflow_mul-result
+overflow_mul-result g c = omega (arith, fit_size _ _ _ _ c.args.self.now.fit, ap (λ (n : ℕ). c.args.self.now.first * n) c.from.ensures)

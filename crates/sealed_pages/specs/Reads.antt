@@ -1,0 +1,39 @@
+-- Which pages a read of n bytes from byte m on touches, and how far it needs them covered.
+use Rattle.std.specs.Prelude.{ℕ, ◌+◌, ◌*◌, ◌-◌, ◌/◌, ◌<◌, ◌≤◌, min, eqb, cond, List}
+use Rattle.sealed_pages.specs.Slots.{page_length}
+
+-- page k has one of these bytes
+pub record IsWanted (P m n k : ℕ) : Type 0 where
+  pub some : 0 < n
+  pub low : m < k * P + P
+  pub high : k * P < m + n
+
+-- how many pages have one of these bytes
+abbrev pub touched : ℕ → ℕ → ℕ → ℕ
+touched P m n = cond (eqb n 0) 0 ((m + n + (P - 1)) / P - m / P)
+
+-- how many bytes of page k the read needs: those up to the last wanted one
+abbrev pub needed : ℕ → ℕ → ℕ → ℕ → ℕ
+needed P m n k = min P (m + n - k * P)
+
+-- how many of these bytes stand below page `first`
+abbrev pub below : ℕ → ℕ → ℕ → ℕ → ℕ
+below P first m n = min n (first * P - m)
+
+module _ (seal : List ℕ → ℕ) (P : ℕ) where
+  -- each wanted page is covered as far as the read needs it
+  abbrev pub IsCovered : List ℕ → ℕ → ℕ → Type 0
+  IsCovered c m n = (k : ℕ) → IsWanted P m n k → needed P m n k ≤ page_length seal P c k
+
+  -- page k is wanted, and no matching slot covers it that far
+  pub record IsShort (c : List ℕ) (m n k : ℕ) : Type 0 where
+    pub wanted : IsWanted P m n k
+    pub short : page_length seal P c k < needed P m n k
+
+-- each of the bytes stands in the tip, which begins with page `first` and ends at the size
+abbrev pub IsHeld : ℕ → ℕ → ℕ → ℕ → ℕ → Type 0
+IsHeld P first size m n = (i : ℕ) → m ≤ i → i < m + n → (first * P ≤ i) × (i < size)
+
+-- how many bytes stand from byte m on, up to the end of its page or of the first `size` bytes
+abbrev pub page_rest : ℕ → ℕ → ℕ → ℕ
+page_rest P size m = min size ((m / P + 1) * P) - m

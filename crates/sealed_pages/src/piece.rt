@@ -1,0 +1,93 @@
+// Some pages of a blob that follow one another, read at once and held in memory.
+ghost use Rattle.std.specs.Prelude.{◌≡◌, ◌+◌, ◌-◌, ◌*◌, ◌≤◌, ◌<◌, ◌^◌, length, Err, IfOk, OnOk, ℕ, List};
+ghost use Rattle.blob_device.specs.Timeline.{disk};
+ghost use Rattle.blob_device.specs.Counts.{Rose};
+ghost use Rattle.sealed_pages.specs.View.{page_at};
+ghost use Rattle.sealed_pages.specs.Reading.{page_of, Unchanged};
+ghost use Rattle.sealed_pages.specs.Entries.{IsOpenAt, ReadsAtMost};
+
+use crate::page::page_place;
+use crate::reading::read_span;
+use blob_device::{DevError, Device};
+use std::alloc::{AllocError, Global};
+
+/// Pages from `page` on, `count` of them; no page where it is 0.
+#[derive(Drop)]
+pub struct Piece {
+    page_size: u16,
+    room: u64,
+    bytes: Vec<u8>,
+    have: usize,
+    page: u64,
+    count: u64,
+    ghost wide: { room * (page_size + 12) ≡ length bytes.items },
+    ghost some: { 1 ≤ room },
+    ghost within: { have ≤ length bytes.items },
+    ghost fits: { count ≤ room },
+}
+
+impl Piece {
+    ghost use Rattle.sealed_pages.specs.Pieces.{held_of, HasPage, IsPieceOf};
+
+    /// Room for about so many bytes, and for one page at least. It holds no page.
+    pub fn new(alloc: Global, page_size: u16, buffer: usize) -> Result<Piece, AllocError>
+        ensures page_size { IfOk result (λ p. p.page_size ≡ page_size) }
+        ensures empty { IfOk result (λ p. (c : List ℕ) → IsPieceOf c p) }
+    {
+        let unit = usize::from(page_size) + 12;
+        let room = (buffer / unit).max(1);
+        let bytes = vec![in alloc; 0; room * unit]?;
+        Ok(Piece {
+            page_size,
+            room: room as u64,
+            bytes,
+            have: 0,
+            page: 0,
+            count: 0,
+        })
+    }
+
+    /// Reads the page, and as many behind it as there is room for, where it is not held. After an error it may hold none.
+    pub fn load<D: Device>(
+        &mut self,
+        dev: &mut D,
+        partition: &str,
+        name: &[u8],
+        end: u64,
+        page: u64,
+    ) -> Result<(), DevError>
+        requires open { IsOpenAt (D.opened dev.old) (partition.now, name.now) end }
+        requires place { page_at self.old.page_size page < 2 ^ 64 }
+        ensures holds { OnOk result (HasPage self.new page) }
+        ensures piece { D.Tells → IsPieceOf (disk (D.time dev.old) (partition.now, name.now)).content self.old → IsPieceOf (disk (D.time dev.old) (partition.now, name.now)).content self.new }
+        ensures held { HasPage self.old page → (D.time dev.new ≡ D.time dev.old) × (D.opened dev.new ≡ D.opened dev.old) }
+        ensures page_size { self.new.page_size ≡ self.old.page_size }
+        ensures unchanged { D.Tells → Unchanged (D.time dev.old) (D.time dev.new) }
+        ensures entries { ReadsAtMost 1 (partition.now, name.now) (D.opened dev.old) (D.opened dev.new) }
+        ensures faults { D.faults dev.old ≤ D.faults dev.new }
+        ensures cause { result ≡ Err DevError.Fault → Rose (D.faults dev.old) (D.faults dev.new) }
+    {
+        if page >= self.page && page - self.page < self.count {
+            return Ok(());
+        }
+        self.count = 0;
+        let place = page_place(self.page_size, page);
+        let buf = self.bytes.as_mut_slice();
+        self.have = read_span(dev, partition, name, end, place, buf)?;
+        self.page = page;
+        self.count = self.room;
+        Ok(())
+    }
+
+    /// The bytes of a page that stand below the blob's end.
+    pub fn page_bytes(&self, page: u64) -> &[u8]
+        requires { HasPage self.now page }
+        ensures { result.now ≡ page_of self.now.page_size (held_of self.now) (page - self.now.page) }
+    {
+        let unit = usize::from(self.page_size) + 12;
+        let held = &self.bytes[..self.have];
+        let from = ((page - self.page) as usize * unit).min(held.len());
+        let rest = &held[from..];
+        &rest[..unit.min(rest.len())]
+    }
+}

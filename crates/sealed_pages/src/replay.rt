@@ -1,0 +1,199 @@
+// Reading a sealed blob from a position on, in pieces.
+ghost use Rattle.std.specs.Prelude.{◌≡◌, ◌+◌, ◌*◌, ◌-◌, ◌/◌, ◌≤◌, ◌<◌, ◌^◌, ◌⊎◌, ◌↔◌, Ok, Err, min, length, drop, [], IfOk, OnOk, OnErr, true, false, ℕ, List};
+ghost use Rattle.std.specs.Result.{IsErrOf};
+ghost use Rattle.blob_device.specs.declared.runtime.RError.TheVariants.{BlobInsufficientLength};
+ghost use Rattle.blob_device.specs.Timeline.{disk};
+ghost use Rattle.blob_device.specs.Counts.{Rose};
+ghost use Rattle.sealed_pages.specs.Buffer.{extent};
+ghost use Rattle.sealed_pages.specs.Reading.{Unchanged};
+ghost use Rattle.sealed_pages.specs.Reads.{page_rest};
+ghost use Rattle.sealed_pages.specs.Slots.{page_length};
+ghost use Rattle.sealed_pages.specs.Entries.{IsOpenAt, ReadsAtMost};
+
+use crate::fetch::fetch_page;
+use crate::page_blob::drop_front;
+use crate::piece::Piece;
+use blob_device::{Device, RError};
+use std::alloc::Global;
+use std::marker::PhantomData;
+use value_codec::Seal;
+
+/// Reads a blob whose bytes are all flushed, from a position on.
+///
+/// A condition of its calls is that the blob was not changed since it was made. Each page is checked before its bytes are
+/// given.
+#[derive(Drop)]
+pub struct PageReplay<S: Seal> {
+    partition: String,
+    name: Vec<u8>,
+    page_size: u16,
+    end: u64,
+    size: u64,
+    at: u64,
+    held: Vec<u8>,
+    used: usize,
+    piece: Piece,
+    seal: PhantomData<S>,
+    ghost taken: { used ≤ length held.items },
+    ghost inside: { at + (length held.items - used) ≤ size },
+    ghost some: { 1 ≤ page_size },
+    ghost room: { extent page_size size < 2 ^ 64 },
+    ghost same_pages: { piece.page_size ≡ page_size },
+}
+
+impl<S: Seal> PageReplay<S> {
+    ghost use Rattle.sealed_pages.specs.Readers.{reading, next_of, missing_of, IsReplayOf, SameReader, IsShortTo};
+
+    /// A reader from 0 over a blob that ends at `end`, and has `size` bytes in pages. It reads pieces of about `buffer` bytes.
+    pub fn new(
+        alloc: Global,
+        partition: &str,
+        name: &[u8],
+        page_size: u16,
+        end: u64,
+        size: u64,
+        buffer: usize,
+    ) -> Result<PageReplay<S>, RError>
+        requires some { 1 ≤ page_size }
+        requires room { extent page_size size < 2 ^ 64 }
+        ensures key { IfOk result (λ r. (reading r).key ≡ (partition.now, name.now)) }
+        ensures page_size { IfOk result (λ r. (reading r).page_size ≡ page_size) }
+        ensures end { IfOk result (λ r. (reading r).end ≡ end) }
+        ensures size { IfOk result (λ r. (reading r).size ≡ size) }
+        ensures begin { IfOk result (λ r. (reading r).at ≡ 0) }
+        ensures replays { IfOk result (λ r. (content : List ℕ) → IsReplayOf content (reading r)) }
+        ensures cause { OnErr result (result ≡ Err RError.Mem) }
+    {
+        let partition = String::from_str(alloc, partition)?;
+        let name = name.to_vec(alloc)?;
+        let piece = Piece::new(alloc, page_size, buffer)?;
+        Ok(PageReplay {
+            partition,
+            name,
+            page_size,
+            end,
+            size,
+            at: 0,
+            held: Vec::new(alloc),
+            used: 0,
+            piece,
+            seal: PhantomData,
+        })
+    }
+
+    /// The bytes at hand, from the position on.
+    pub fn bytes(&self) -> &[u8]
+        ensures { result.now ≡ (reading self.now).bytes }
+    {
+        &self.held[self.used..]
+    }
+
+    /// How many bytes are at hand.
+    pub fn remaining(&self) -> usize
+        ensures { result ≡ length (reading self.now).bytes }
+    {
+        self.held.len() - self.used
+    }
+
+    /// How many bytes the blob has.
+    pub fn blob_size(&self) -> u64
+        ensures { result ≡ (reading self.now).size }
+    {
+        self.size
+    }
+
+    /// Goes n bytes on, all of them at hand.
+    pub fn advance(&mut self, n: usize)
+        requires { n ≤ length (reading self.old).bytes }
+        ensures goes { reading self.new ≡ record (reading self.old) { at = (reading self.old).at + n; bytes = drop n (reading self.old).bytes } }
+        ensures replays { (content : List ℕ) → IsReplayOf content (reading self.old) → IsReplayOf content (reading self.new) }
+    {
+        self.at += n as u64;
+        self.used += n;
+    }
+
+    /// Goes to this position; no bytes are at hand there. After an error the reader is as before.
+    pub fn seek_to(&mut self, offset: u64) -> Result<(), RError>
+        ensures short { IsErrOf result BlobInsufficientLength ↔ ((reading self.old).size < offset) }
+        ensures cause { OnErr result (result ≡ Err RError.BlobInsufficientLength) }
+        ensures goes { OnOk result (reading self.new ≡ record (reading self.old) { at = offset; bytes = [] }) }
+        ensures stays { OnErr result (reading self.new ≡ reading self.old) }
+        ensures replays { (content : List ℕ) → IsReplayOf content (reading self.old) → IsReplayOf content (reading self.new) }
+    {
+        if offset > self.size {
+            return Err(RError::BlobInsufficientLength);
+        }
+        self.used = self.held.len();
+        self.at = offset;
+        Ok(())
+    }
+
+    // Lets the bytes go that were passed by.
+    fn let_go(&mut self)
+        ensures { reading self.new ≡ reading self.old }
+    {
+        drop_front(&mut self.held, self.used);
+        self.used = 0;
+    }
+
+    // Adds the bytes of the next page, up to its end or the blob's.
+    fn fetch<D: Device>(&mut self, dev: &mut D) -> Result<(), RError>
+        requires open { IsOpenAt (D.opened dev.old) (reading self.old).key (reading self.old).end }
+        requires more { next_of (reading self.old) < (reading self.old).size }
+        ensures same { SameReader (reading self.old) (reading self.new) }
+        ensures replays { D.Tells → IsReplayOf (disk (D.time dev.old) (reading self.old).key).content (reading self.old) → IsReplayOf (disk (D.time dev.old) (reading self.old).key).content (reading self.new) }
+        ensures next { OnOk result (length (reading self.new).bytes ≡ length (reading self.old).bytes + page_rest (reading self.old).page_size (reading self.old).size (next_of (reading self.old))) }
+        ensures stays { OnErr result ((reading self.new).bytes ≡ (reading self.old).bytes) }
+        ensures short { D.Tells → IsReplayOf (disk (D.time dev.old) (reading self.old).key).content (reading self.old) → IsErrOf result (RError.InvalidChecksum (next_of (reading self.old) / (reading self.old).page_size))
+            → page_length S.seal_of (reading self.old).page_size (disk (D.time dev.old) (reading self.old).key).content (next_of (reading self.old) / (reading self.old).page_size)
+            < min (reading self.old).page_size ((reading self.old).size - next_of (reading self.old) / (reading self.old).page_size * (reading self.old).page_size) }
+        ensures unchanged { D.Tells → Unchanged (D.time dev.old) (D.time dev.new) }
+        ensures entries { ReadsAtMost 1 (reading self.old).key (D.opened dev.old) (D.opened dev.new) }
+        ensures faults { D.faults dev.old ≤ D.faults dev.new }
+        ensures cause { OnErr result ((result ≡ Err (RError.InvalidChecksum (next_of (reading self.old) / (reading self.old).page_size))) ⊎ ((result ≡ Err RError.Mem) ⊎ ((result ≡ Err RError.Fault) × Rose (D.faults dev.old) (D.faults dev.new)))) }
+    {
+        let next = self.at + self.remaining() as u64;
+        fetch_page::<D, S>(
+            dev,
+            self.partition.as_str(),
+            self.name.as_slice(),
+            self.page_size,
+            self.end,
+            self.size,
+            next,
+            &mut self.piece,
+            &mut self.held,
+        )
+    }
+
+    /// Reads until n bytes are at hand, or all that are left. Whether n are.
+    ///
+    /// `InvalidChecksum` names a page of the n bytes that no matching slot covers as far as the blob's size goes. After an error
+    /// the reader stands where it stood, and has at hand at least what it had.
+    pub fn ensure<D: Device>(&mut self, dev: &mut D, n: usize) -> Result<bool, RError>
+        requires { IsOpenAt (D.opened dev.old) (reading self.old).key (reading self.old).end }
+        ensures at_hand { IfOk result (λ r. r ≡ true → n ≤ length (reading self.new).bytes) }
+        ensures rest { IfOk result (λ r. r ≡ false → next_of (reading self.new) ≡ (reading self.new).size) }
+        ensures exact { IfOk result (λ r. (r ≡ true) ↔ ((reading self.old).at + n ≤ (reading self.old).size)) }
+        ensures same { SameReader (reading self.old) (reading self.new) }
+        ensures grows { length (reading self.old).bytes ≤ length (reading self.new).bytes }
+        ensures replays { D.Tells → IsReplayOf (disk (D.time dev.old) (reading self.old).key).content (reading self.old) → IsReplayOf (disk (D.time dev.old) (reading self.old).key).content (reading self.new) }
+        ensures checksum { D.Tells → IsReplayOf (disk (D.time dev.old) (reading self.old).key).content (reading self.old) → (p : ℕ) → IsErrOf result (RError.InvalidChecksum p)
+            → IsShortTo S.seal_of (reading self.old).page_size (disk (D.time dev.old) (reading self.old).key).content (reading self.old).size (next_of (reading self.old)) (missing_of (reading self.old) n) p }
+        ensures unchanged { D.Tells → Unchanged (D.time dev.old) (D.time dev.new) }
+        // No more reads than wanted bytes that are not at hand, so none where all are.
+        ensures reads { ReadsAtMost (missing_of (reading self.old) n) (reading self.old).key (D.opened dev.old) (D.opened dev.new) }
+        ensures faults { D.faults dev.old ≤ D.faults dev.new }
+        ensures cause { OnErr result (((p : ℕ) × (result ≡ Err (RError.InvalidChecksum p))) ⊎ ((result ≡ Err RError.Mem) ⊎ ((result ≡ Err RError.Fault) × Rose (D.faults dev.old) (D.faults dev.new)))) }
+    {
+        let left = self.size - self.at;
+        let want = left.min(n as u64) as usize;
+        self.let_go();
+        let mut have = self.remaining();
+        'fill: while have < want {
+            self.fetch(dev)?;
+            have = self.remaining();
+        }
+        Ok(n as u64 <= left)
+    }
+}
