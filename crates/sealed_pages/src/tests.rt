@@ -6,6 +6,7 @@ ghost use Rattle.sealed_pages.specs.Shown.{shown};
 ghost use Rattle.sealed_pages.specs.Entries.{IsOpenAt};
 
 mod reads;
+mod replays;
 
 use crate::{PageBlob, Pages};
 use blob_device::{CrashChoice, Device, Image, Memory, RError};
