@@ -181,6 +181,7 @@ impl<S: Seal> PageReplay<S> {
         ensures checksum { D.Tells → IsReplayOf (disk (D.time dev.old) (reading self.old).key).content (reading self.old) → (p : ℕ) → IsErrOf result (RError.InvalidChecksum p)
             → IsShortTo S.seal_of (reading self.old).page_size (disk (D.time dev.old) (reading self.old).key).content (reading self.old).size (next_of (reading self.old)) (missing_of (reading self.old) n) p }
         ensures unchanged { D.Tells → Unchanged (D.time dev.old) (D.time dev.new) }
+        ensures open { IsOpenAt (D.opened dev.new) (reading self.new).key (reading self.new).end }
         // No more reads than wanted bytes that are not at hand, so none where all are.
         ensures reads { ReadsAtMost (missing_of (reading self.old) n) (reading self.old).key (D.opened dev.old) (D.opened dev.new) }
         ensures faults { D.faults dev.old ≤ D.faults dev.new }

@@ -10,6 +10,7 @@ mod images;
 mod plain;
 mod writing;
 mod reads;
+mod replays;
 
 use crate::{PageBlob, Pages};
 use blob_device::{CrashChoice, Device, Image, Memory, RError};

@@ -205,6 +205,7 @@ impl<S: Seal> PageBlob<S> {
         ensures page_size { IfOk result (λ r. r.0.page_size ≡ self.page_size) }
         ensures capacity { IfOk result (λ r. r.0.capacity ≡ self.capacity) }
         ensures open { IfOk result (λ r. IsOpenAt (D.opened dev.new) (key_of (shown r.0)) r.0.end) }
+        ensures reader { IfOk result (λ r. IsOpenAt (D.opened dev.new) (reading r.1).key (reading r.1).end) }
         ensures entries { NoReads (key_of (shown self)) (D.opened dev.old) (D.opened dev.new) }
         ensures faults { D.faults dev.old ≤ D.faults dev.new }
         ensures cause { OnErr result ((result ≡ Err RError.Mem) ⊎ ((result ≡ Err RError.Fault) × Rose (D.faults dev.old) (D.faults dev.new))) }
