@@ -1,3 +1,6 @@
+-- What this layer means to the layers above: a disk of named blobs, with the history of each at every moment, and what a crash
+-- may leave of it (`Disk`, `Change`, `Timeline`); the list of opened blobs (`Opened`) and the counts of calls and faults (`Counts`);
+-- sources and sinks of bytes (`Streams`).
 pub mod Agreeing
 pub mod Building
 pub mod Calls

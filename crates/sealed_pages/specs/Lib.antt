@@ -1,3 +1,6 @@
+-- What this layer means to the layers above: a list of bytes in a blob. `PageBlob` seals its pages, and every crash leaves a
+-- prefix of the bytes that holds all that was synced (`Buffer`, `ChanceSeal`, `SealedPrefix`). `WriteBlob` seals nothing, and every
+-- crash leaves what was synced and not written since (`Writing`, `Sparing`). Both stand on one blob each, and touch no other.
 pub mod View
 pub mod Slots
 pub mod SealedPrefix

@@ -7,8 +7,8 @@ mod flush;
 mod page;
 mod page_blob;
 mod pages;
-pub mod plain;
 mod piece;
+pub mod plain;
 mod prefix;
 mod range;
 mod reading;
@@ -21,5 +21,5 @@ mod write_blob;
 
 pub use page_blob::PageBlob;
 pub use pages::Pages;
-pub use write_blob::WriteBlob;
 pub use replay::PageReplay;
+pub use write_blob::WriteBlob;

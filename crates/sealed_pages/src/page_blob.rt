@@ -12,7 +12,6 @@ ghost use Rattle.sealed_pages.specs.Entries.{IsOpenAt, NoReads};
 ghost use Rattle.sealed_pages.specs.Cutting.{IsAtRest, Settles};
 
 mod cutting;
-
 mod reads;
 
 use crate::Pages;

@@ -8,9 +8,9 @@ ghost use Rattle.sealed_pages.specs.Entries.{IsOpenAt};
 mod cutting;
 mod images;
 mod plain;
-mod writing;
 mod reads;
 mod replays;
+mod writing;
 
 use crate::{PageBlob, Pages};
 use blob_device::{CrashChoice, Device, Image, Memory, RError};
