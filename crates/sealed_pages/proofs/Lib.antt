@@ -23,6 +23,7 @@ pub mod SparingLemmas
 pub mod WriteLemmas
 pub mod WritingLemmas
 pub mod RunLemmas
+pub mod LastingLemmas
 pub mod PlainLemmas
 pub mod Leftovers
 pub mod ReadLemmas
