@@ -30,3 +30,4 @@ pub mod ReadLemmas
 pub mod Reopen
 pub mod PieceLemmas
 pub mod ReplayLemmas
+pub mod WholeLemmas

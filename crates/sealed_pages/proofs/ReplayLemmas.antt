@@ -149,7 +149,7 @@ missing_none p k not = elim (cases_lt k p.page) [
 ]
 
 -- a read of a page that was not held takes it from those that are not yet read
-pub unread_step : (P size m n before after : ℕ) (old new : Piece) → 1 ≤ P → m < size → m < n → HasPage new (m / P) → ((HasPage old (m / P) × (new ≡ old)) ⊎ ((new.page ≡ m / P) × (HasPage old (m / P) → ⊥)))
+pub unread_step : (P size m n before after : ℕ) (old new : Piece) → 1 ≤ P → m < size → m ≤ n → HasPage new (m / P) → ((HasPage old (m / P) × (new ≡ old)) ⊎ ((new.page ≡ m / P) × (HasPage old (m / P) → ⊥)))
     → (HasPage old (m / P) → after ≡ before) → after ≤ before + 1 → after + (pages_for P size - next_missing new (n / P)) ≤ before + (pages_for P size - next_missing old (m / P))
 unread_step P size m n before after old new pos inside further has loaded held once = go loaded
   where

@@ -6,7 +6,7 @@ ghost use Rattle.blob_device.specs.Timeline.{disk};
 ghost use Rattle.blob_device.specs.Counts.{Rose};
 ghost use Rattle.sealed_pages.specs.Buffer.{extent};
 ghost use Rattle.sealed_pages.specs.Reading.{Unchanged};
-ghost use Rattle.sealed_pages.specs.Reads.{IsWanted, IsShort, touched, pages_for, EndsAtOrPast};
+ghost use Rattle.sealed_pages.specs.Reads.{IsWanted, IsShort, touched, EndsAtOrPast};
 ghost use Rattle.sealed_pages.specs.Slots.{page_length};
 ghost use Rattle.sealed_pages.specs.Entries.{IsOpenAt, ReadsAtMost};
 
@@ -42,10 +42,10 @@ pub struct PageReplay<S: Seal> {
 }
 
 impl<S: Seal> PageReplay<S> {
-    ghost use Rattle.sealed_pages.specs.Readers.{reading, next_of, missing_of, unread_of, IsReplayOf, ReadsUnread, SameReader};
+    ghost use Rattle.sealed_pages.specs.Readers.{reading, next_of, missing_of, IsReplayOf, ReadsUnread, SameReader};
 
     /// A reader from 0 over a blob that ends at `end`, and has `size` bytes in pages. It reads pieces of about `buffer` bytes.
-    pub fn new(
+    pub(crate) fn new(
         alloc: Global,
         partition: &str,
         name: &[u8],
@@ -62,7 +62,6 @@ impl<S: Seal> PageReplay<S> {
         ensures size { IfOk result (λ r. (reading r).size ≡ size) }
         ensures begin { IfOk result (λ r. (reading r).at ≡ 0) }
         ensures replays { IfOk result (λ r. (content : List ℕ) → IsReplayOf S.seal_of content (reading r)) }
-        ensures unread { IfOk result (λ r. unread_of (reading r) ≤ pages_for page_size size) }
         ensures cause { OnErr result (result ≡ Err RError.Mem) }
     {
         let partition = String::from_str(alloc, partition)?;
@@ -152,6 +151,7 @@ impl<S: Seal> PageReplay<S> {
         ensures short { D.Tells → IsReplayOf S.seal_of (disk (D.time dev.old) (reading self.old).key).content (reading self.old) → (p : ℕ) → IsErrOf result (RError.InvalidChecksum p)
             → IsShort S.seal_of (reading self.old).page_size (disk (D.time dev.old) (reading self.old).key).content (next_of (reading self.old)) (goal - next_of (reading self.old)) p }
         ensures once { OnOk result (ReadsUnread (reading self.old) (reading self.new) (D.opened dev.old) (D.opened dev.new)) }
+        ensures judged { (p : ℕ) → IsErrOf result (RError.InvalidChecksum p) → ReadsUnread (reading self.old) (reading self.new) (D.opened dev.old) (D.opened dev.new) }
         ensures unchanged { D.Tells → Unchanged (D.time dev.old) (D.time dev.new) }
         ensures entries { ReadsAtMost 1 (reading self.old).key (D.opened dev.old) (D.opened dev.new) }
         ensures faults { D.faults dev.old ≤ D.faults dev.new }
@@ -186,6 +186,8 @@ impl<S: Seal> PageReplay<S> {
         ensures at_hand { IfOk result (λ r. r ≡ true → n ≤ length (reading self.new).bytes) }
         ensures rest { IfOk result (λ r. r ≡ false → next_of (reading self.new) ≡ (reading self.new).size) }
         ensures exact { IfOk result (λ r. (r ≡ true) ↔ ((reading self.old).at + n ≤ (reading self.old).size)) }
+        ensures ready { n ≤ length (reading self.old).bytes → (dev.new ≡ dev.old) × (result ≡ Ok true) }
+        ensures within { next_of (reading self.new) ≤ (reading self.new).size }
         ensures same { SameReader (reading self.old) (reading self.new) }
         ensures grows { length (reading self.old).bytes ≤ length (reading self.new).bytes }
         // What is at hand is what the blob has there, and it was checked: a matching slot covers it.
@@ -196,8 +198,9 @@ impl<S: Seal> PageReplay<S> {
         ensures open { IsOpenAt (D.opened dev.new) (reading self.new).key (reading self.new).end }
         // At most one read a page of which a wanted byte is not at hand, so none where all are.
         ensures reads { ReadsAtMost (touched (reading self.old).page_size (next_of (reading self.old)) (missing_of (reading self.old) n)) (reading self.old).key (D.opened dev.old) (D.opened dev.new) }
-        // Calls that go on and on read each page at most once.
+        // Calls that go on and on read each page at most once, as long as the device and memory serve.
         ensures once { OnOk result (ReadsUnread (reading self.old) (reading self.new) (D.opened dev.old) (D.opened dev.new)) }
+        ensures judged { (p : ℕ) → IsErrOf result (RError.InvalidChecksum p) → ReadsUnread (reading self.old) (reading self.new) (D.opened dev.old) (D.opened dev.new) }
         ensures faults { D.faults dev.old ≤ D.faults dev.new }
         ensures cause { OnErr result (((p : ℕ) × (result ≡ Err (RError.InvalidChecksum p)) × IsWanted (reading self.old).page_size (next_of (reading self.old)) (missing_of (reading self.old) n) p)
             ⊎ ((result ≡ Err RError.Mem) ⊎ ((result ≡ Err RError.Fault) × Rose (D.faults dev.old) (D.faults dev.new)))) }

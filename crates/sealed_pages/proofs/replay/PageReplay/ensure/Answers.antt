@@ -37,6 +37,7 @@ fill-preserved g c =
           (subst (λ (k : Key). ReadsAtMost 1 k (g.D.Device.opened c.fill.dev) (g.D.Device.opened c.fetch.new.dev)) key c.in_ok-fetch.ensures.entries)
           c.fill.self.page_size (next_of (reading c.fetch.new.self)) c.fill.invariant.same.page_size c.in_ok-fetch.ensures.reaches;
       once = unread_then (reading c.args.self.now) (reading c.fill.self) (reading c.fetch.new.self) (g.D.Device.opened c.args.dev.now) (g.D.Device.opened c.fill.dev) (g.D.Device.opened c.fetch.new.dev) key c.fill.invariant.once c.in_ok-fetch.ensures.once;
+      still = λ all. absurd (omega (arith, all, c.fill-test.true, c.min-want.ensures, c.fill.invariant.have_is, c.fill.invariant.grows));
       faults = omega (arith, c.fill.invariant.faults, c.in_ok-fetch.ensures.faults);
       unchanged = λ t. unchanged_then (g.D.Device.time c.args.dev.now) (g.D.Device.time c.fill.dev) (g.D.Device.time c.fetch.new.dev) (c.fill.invariant.unchanged t) (c.in_ok-fetch.ensures.unchanged t);
     }
@@ -51,6 +52,7 @@ fill-init g c =
       replays = λ t is. subst (λ (r : Reader). IsReplayOf g.S.Seal.seal_of (disk (g.D.Device.time c.args.dev.now) (reading c.args.self.now).key).content r) same is;
       reads = page_reads_start c.args.self.now.page_size (next_of (reading c.args.self.now)) (missing_of (reading c.args.self.now) c.args.n) (next_of (reading c.let_go.new.self)) (reading c.args.self.now).key (g.D.Device.opened c.args.dev.now);
       once = subst (λ (r : Reader). ReadsUnread (reading c.args.self.now) r (g.D.Device.opened c.args.dev.now) (g.D.Device.opened c.args.dev.now)) same (omega arith);
+      still = λ all. refl;
       faults = omega arith;
       unchanged = λ t. unchanged_start (g.D.Device.time c.args.dev.now);
     }
@@ -90,3 +92,9 @@ returns-in_err-fetch-clause-cause g c =
       | inr (inl mem) ↦ inr (inl (same_error mem))
       | inr (inr (fault, rose)) ↦ inr (inr (same_error fault, omega (arith, rose, c.fill.invariant.faults)))
     ])
+
+pub returns-in_err-fetch-clause-judged : goal.returns-in_err-fetch-clause-judged
+returns-in_err-fetch-clause-judged g c p e =
+    let given = err_from_is_err_and c.from_residual.result c.from_residual.ensures.1 in
+    unread_then (reading c.args.self.now) (reading c.fill.self) (reading c.fetch.new.self) (g.D.Device.opened c.args.dev.now) (g.D.Device.opened c.fill.dev) (g.D.Device.opened c.fetch.new.dev) c.fill.invariant.same.key c.fill.invariant.once
+    (c.in_err-fetch.ensures.judged p (same_error (rw (given.1, given.2) at e)))

@@ -14,6 +14,7 @@ invariant-fill g l = record {
   replays : g.D.Device.Tells → IsReplayOf g.S.Seal.seal_of (disk (g.D.Device.time l.initial.dev) (reading l.fn.self).key).content (reading l.fn.self) → IsReplayOf g.S.Seal.seal_of (disk (g.D.Device.time l.initial.dev) (reading l.fn.self).key).content (reading l.self);
   reads : PageReads l.fn.self.page_size (next_of (reading l.fn.self)) (missing_of (reading l.fn.self) l.n) (next_of (reading l.self)) (reading l.fn.self).key (g.D.Device.opened l.initial.dev) (g.D.Device.opened l.dev);
   once : ReadsUnread (reading l.fn.self) (reading l.self) (g.D.Device.opened l.initial.dev) (g.D.Device.opened l.dev);
+  still : l.n ≤ length (reading l.fn.self).bytes → l.dev ≡ l.initial.dev;
   faults : g.D.Device.faults l.initial.dev ≤ g.D.Device.faults l.dev;
   unchanged : g.D.Device.Tells → Unchanged (g.D.Device.time l.initial.dev) (g.D.Device.time l.dev);
 }

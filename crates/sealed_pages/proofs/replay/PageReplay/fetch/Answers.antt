@@ -137,3 +137,16 @@ returns-clause-once g c =
         (subst (λ (x : ℕ). (HasPage c.args.self.now.piece x × (c.load.new.self ≡ c.args.self.now.piece)) ⊎ ((c.load.new.self.page ≡ x) × (HasPage c.args.self.now.piece x → ⊥))) place c.in_ok-load.ensures.loads)
         (λ has. ap (λ (o : OpenedList). reads_of (o (reading c.args.self.now).key)) (c.in_ok-load.ensures.held (subst (HasPage c.args.self.now.piece) (sym place) has)).1)
         (subst (λ (k : Key). reads_of (new k) ≤ reads_of (old k) + 1) key c.in_ok-load.ensures.entries.reads)
+
+pub returns-then-covered-need-clause-judged : goal.returns-then-covered-need-clause-judged
+returns-then-covered-need-clause-judged g c p e =
+    let key : (c.as_str-partition.result.now, c.as_slice-name.result.now) ≡ (string_bytes c.args.self.now.partition, c.args.self.now.name.items) = λ j. (c.as_str-partition.ensures.value j, c.as_slice-name.ensures.value j) in
+    let old : OpenedList = g.D.Device.opened c.args.dev.now in
+    let new : OpenedList = g.D.Device.opened c.load.new.dev in
+    let place : ((c.args.self.now.at + c.remaining.result) / c.from-data.result) ≡ next_of (reading c.args.self.now) / c.args.self.now.page_size = λ j. (c.args.self.now.at + c.remaining.ensures j) / c.from-data.ensures j in
+    unread_step c.args.self.now.page_size c.args.self.now.size (next_of (reading c.args.self.now)) (next_of (reading c.args.self.now)) (reads_of (old (reading c.args.self.now).key)) (reads_of (new (reading c.args.self.now).key)) c.args.self.now.piece c.load.new.self
+        c.args.self.now.some (omega (arith, c.requires.more, c.requires.within)) (omega arith)
+        (subst (HasPage c.load.new.self) place c.in_ok-load.ensures.holds)
+        (subst (λ (x : ℕ). (HasPage c.args.self.now.piece x × (c.load.new.self ≡ c.args.self.now.piece)) ⊎ ((c.load.new.self.page ≡ x) × (HasPage c.args.self.now.piece x → ⊥))) place c.in_ok-load.ensures.loads)
+        (λ has. ap (λ (o : OpenedList). reads_of (o (reading c.args.self.now).key)) (c.in_ok-load.ensures.held (subst (HasPage c.args.self.now.piece) (sym place) has)).1)
+        (subst (λ (k : Key). reads_of (new k) ≤ reads_of (old k) + 1) key c.in_ok-load.ensures.entries.reads)
