@@ -87,8 +87,12 @@ pub returns-in_err-fetch-clause-cause : goal.returns-in_err-fetch-clause-cause
 returns-in_err-fetch-clause-cause g c =
     let given = err_from_is_err_and c.from_residual.result c.from_residual.ensures.1 in
     rw (given.1, given.2) (elim c.in_err-fetch.ensures.cause [
-      | inl (k, is, wanted) ↦ inl (k, same_error is, wanted_all c.args.self.now.page_size (next_of (reading c.args.self.now)) (missing_of (reading c.args.self.now) c.args.n) (next_of (reading c.fill.self)) (c.args.self.now.at + c.min-want.result) k (omega (arith, c.fill.invariant.grows, c.fill.invariant.same.at)) (omega (arith, c.fill-test.true, c.fill.invariant.have_is, c.fill.invariant.same.at)) (omega (arith, c.fill-test.true, c.min-want.ensures, c.fill.invariant.have_is, c.fill.invariant.grows))
-          (subst (λ (x : ℕ). IsWanted x (next_of (reading c.fill.self)) (c.args.self.now.at + c.min-want.result - next_of (reading c.fill.self)) k) c.fill.invariant.same.page_size wanted))
+      | inl (k, is, wanted) ↦ inl (
+        k,
+        same_error is,
+        wanted_all c.args.self.now.page_size (next_of (reading c.args.self.now)) (missing_of (reading c.args.self.now) c.args.n) (next_of (reading c.fill.self)) (c.args.self.now.at + c.min-want.result) k (omega (arith, c.fill.invariant.grows, c.fill.invariant.same.at)) (omega (arith, c.fill-test.true, c.fill.invariant.have_is, c.fill.invariant.same.at)) (omega (arith, c.fill-test.true, c.min-want.ensures, c.fill.invariant.have_is, c.fill.invariant.grows))
+            (subst (λ (x : ℕ). IsWanted x (next_of (reading c.fill.self)) (c.args.self.now.at + c.min-want.result - next_of (reading c.fill.self)) k) c.fill.invariant.same.page_size wanted),
+      )
       | inr (inl mem) ↦ inr (inl (same_error mem))
       | inr (inr (fault, rose)) ↦ inr (inr (same_error fault, omega (arith, rose, c.fill.invariant.faults)))
     ])

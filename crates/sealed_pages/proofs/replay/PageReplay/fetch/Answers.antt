@@ -68,19 +68,19 @@ invariant_of-self-2 g c =
     let inside = part_within c.from-data.result (c.args.self.now.at + c.remaining.result) c.args.goal c.args.self.now.size c.covered_len-covered.result c.min-need.result c.min-upto.result (omega (arith, c.from-data.ensures, c.args.self.now.some)) (omega (arith, c.remaining.ensures, c.requires.more)) c.requires.within (omega (arith, c.covered_len-covered.ensures.within, c.from-data.ensures)) c.min-need.ensures c.if-covered-need.false c.min-upto.ensures in
     elim (pushed_cases c.extend_from_slice.result c.extend_from_slice.new.self.items (c.args.self.now.held.items ++ take (c.min-upto.result - (c.args.self.now.at + c.remaining.result - (c.args.self.now.at + c.remaining.result) / c.from-data.result * c.from-data.result)) (drop (c.args.self.now.at + c.remaining.result - (c.args.self.now.at + c.remaining.result) / c.from-data.result * c.from-data.result) c.page_bytes-found.result.now)) c.args.self.now.held.items c.extend_from_slice.ensures.items) [
       | inl more ↦ (let long = longer c.args.self.now.used (c.args.self.now.at + c.remaining.result - (c.args.self.now.at + c.remaining.result) / c.from-data.result * c.from-data.result) c.min-upto.result c.args.self.now.held.items c.extend_from_slice.new.self.items c.page_bytes-found.result.now c.args.self.now.taken reach more in record {
-          taken = omega (arith, ap length more, length-append c.args.self.now.held.items (take (c.min-upto.result - (c.args.self.now.at + c.remaining.result - (c.args.self.now.at + c.remaining.result) / c.from-data.result * c.from-data.result)) (drop (c.args.self.now.at + c.remaining.result - (c.args.self.now.at + c.remaining.result) / c.from-data.result * c.from-data.result) c.page_bytes-found.result.now)), c.args.self.now.taken);
-          inside = omega (arith, inside, long, length-drop c.args.self.now.used c.extend_from_slice.new.self.items, c.remaining.ensures);
-          some = c.args.self.now.some;
-          room = c.args.self.now.room;
-          same_pages = c.in_ok-load.ensures.page_size ∙ c.args.self.now.same_pages;
-        })
+        taken = omega (arith, ap length more, length-append c.args.self.now.held.items (take (c.min-upto.result - (c.args.self.now.at + c.remaining.result - (c.args.self.now.at + c.remaining.result) / c.from-data.result * c.from-data.result)) (drop (c.args.self.now.at + c.remaining.result - (c.args.self.now.at + c.remaining.result) / c.from-data.result * c.from-data.result) c.page_bytes-found.result.now)), c.args.self.now.taken);
+        inside = omega (arith, inside, long, length-drop c.args.self.now.used c.extend_from_slice.new.self.items, c.remaining.ensures);
+        some = c.args.self.now.some;
+        room = c.args.self.now.room;
+        same_pages = c.in_ok-load.ensures.page_size ∙ c.args.self.now.same_pages;
+      })
       | inr same ↦ record {
-          taken = omega (arith, ap length same, c.args.self.now.taken);
-          inside = omega (arith, ap length same, c.args.self.now.inside);
-          some = c.args.self.now.some;
-          room = c.args.self.now.room;
-          same_pages = c.in_ok-load.ensures.page_size ∙ c.args.self.now.same_pages;
-        }
+        taken = omega (arith, ap length same, c.args.self.now.taken);
+        inside = omega (arith, ap length same, c.args.self.now.inside);
+        some = c.args.self.now.some;
+        room = c.args.self.now.room;
+        same_pages = c.in_ok-load.ensures.page_size ∙ c.args.self.now.same_pages;
+      }
     ]
 
 pub returns-in_err-extend_from_slice-clause-replays : goal.returns-in_err-extend_from_slice-clause-replays
@@ -132,11 +132,11 @@ returns-clause-once g c =
     let new : OpenedList = g.D.Device.opened c.load.new.dev in
     let place : ((c.args.self.now.at + c.remaining.result) / c.from-data.result) ≡ next_of (reading c.args.self.now) / c.args.self.now.page_size = λ j. (c.args.self.now.at + c.remaining.ensures j) / c.from-data.ensures j in
     unread_step c.args.self.now.page_size c.args.self.now.size (next_of (reading c.args.self.now)) (c.args.self.now.at + length (drop c.args.self.now.used c.extend_from_slice.new.self.items)) (reads_of (old (reading c.args.self.now).key)) (reads_of (new (reading c.args.self.now).key)) c.args.self.now.piece c.load.new.self
-        c.args.self.now.some (omega (arith, c.requires.more, c.requires.within)) (omega (arith, long, some, c.remaining.ensures))
-        (subst (HasPage c.load.new.self) place c.in_ok-load.ensures.holds)
-        (subst (λ (x : ℕ). (HasPage c.args.self.now.piece x × (c.load.new.self ≡ c.args.self.now.piece)) ⊎ ((c.load.new.self.page ≡ x) × (HasPage c.args.self.now.piece x → ⊥))) place c.in_ok-load.ensures.loads)
-        (λ has. ap (λ (o : OpenedList). reads_of (o (reading c.args.self.now).key)) (c.in_ok-load.ensures.held (subst (HasPage c.args.self.now.piece) (sym place) has)).1)
-        (subst (λ (k : Key). reads_of (new k) ≤ reads_of (old k) + 1) key c.in_ok-load.ensures.entries.reads)
+    c.args.self.now.some (omega (arith, c.requires.more, c.requires.within)) (omega (arith, long, some, c.remaining.ensures))
+    (subst (HasPage c.load.new.self) place c.in_ok-load.ensures.holds)
+    (subst (λ (x : ℕ). (HasPage c.args.self.now.piece x × (c.load.new.self ≡ c.args.self.now.piece)) ⊎ ((c.load.new.self.page ≡ x) × (HasPage c.args.self.now.piece x → ⊥))) place c.in_ok-load.ensures.loads)
+    (λ has. ap (λ (o : OpenedList). reads_of (o (reading c.args.self.now).key)) (c.in_ok-load.ensures.held (subst (HasPage c.args.self.now.piece) (sym place) has)).1)
+    (subst (λ (k : Key). reads_of (new k) ≤ reads_of (old k) + 1) key c.in_ok-load.ensures.entries.reads)
 
 pub returns-then-covered-need-clause-judged : goal.returns-then-covered-need-clause-judged
 returns-then-covered-need-clause-judged g c p e =
@@ -145,8 +145,8 @@ returns-then-covered-need-clause-judged g c p e =
     let new : OpenedList = g.D.Device.opened c.load.new.dev in
     let place : ((c.args.self.now.at + c.remaining.result) / c.from-data.result) ≡ next_of (reading c.args.self.now) / c.args.self.now.page_size = λ j. (c.args.self.now.at + c.remaining.ensures j) / c.from-data.ensures j in
     unread_step c.args.self.now.page_size c.args.self.now.size (next_of (reading c.args.self.now)) (next_of (reading c.args.self.now)) (reads_of (old (reading c.args.self.now).key)) (reads_of (new (reading c.args.self.now).key)) c.args.self.now.piece c.load.new.self
-        c.args.self.now.some (omega (arith, c.requires.more, c.requires.within)) (omega arith)
-        (subst (HasPage c.load.new.self) place c.in_ok-load.ensures.holds)
-        (subst (λ (x : ℕ). (HasPage c.args.self.now.piece x × (c.load.new.self ≡ c.args.self.now.piece)) ⊎ ((c.load.new.self.page ≡ x) × (HasPage c.args.self.now.piece x → ⊥))) place c.in_ok-load.ensures.loads)
-        (λ has. ap (λ (o : OpenedList). reads_of (o (reading c.args.self.now).key)) (c.in_ok-load.ensures.held (subst (HasPage c.args.self.now.piece) (sym place) has)).1)
-        (subst (λ (k : Key). reads_of (new k) ≤ reads_of (old k) + 1) key c.in_ok-load.ensures.entries.reads)
+    c.args.self.now.some (omega (arith, c.requires.more, c.requires.within)) (omega arith)
+    (subst (HasPage c.load.new.self) place c.in_ok-load.ensures.holds)
+    (subst (λ (x : ℕ). (HasPage c.args.self.now.piece x × (c.load.new.self ≡ c.args.self.now.piece)) ⊎ ((c.load.new.self.page ≡ x) × (HasPage c.args.self.now.piece x → ⊥))) place c.in_ok-load.ensures.loads)
+    (λ has. ap (λ (o : OpenedList). reads_of (o (reading c.args.self.now).key)) (c.in_ok-load.ensures.held (subst (HasPage c.args.self.now.piece) (sym place) has)).1)
+    (subst (λ (k : Key). reads_of (new k) ≤ reads_of (old k) + 1) key c.in_ok-load.ensures.entries.reads)
