@@ -28,13 +28,24 @@ fn replays(rt: &impl Abort, alloc: Global, buffer: usize) -> Result<(), RError> 
     assert!(rt; replay.ensure(&mut dev, 7)?);
     assert_eq!(rt; replay.bytes(), b"defghij".as_slice());
     assert!(rt; !replay.ensure(&mut dev, 8)?);
+    seeks(rt, &mut dev, &mut replay)
+}
+
+/// Goes to places of a replay of ten bytes.
+fn seeks(
+    rt: &impl Abort,
+    dev: &mut Memory,
+    replay: &mut PageReplay<Sha256Seal>,
+) -> Result<(), RError>
+    requires { IsOpenAt (memory_opened dev.old) (reading replay.old).key (reading replay.old).end }
+{
     assert_eq!(rt; replay.seek_to(11), Err(RError::BlobInsufficientLength));
     replay.seek_to(5)?;
-    assert!(rt; replay.ensure(&mut dev, 1)?);
+    assert!(rt; replay.ensure(dev, 1)?);
     assert!(rt; replay.bytes().starts_with(b"f"));
     replay.seek_to(10)?;
-    assert!(rt; replay.ensure(&mut dev, 0)?);
-    assert!(rt; !replay.ensure(&mut dev, 1)?);
+    assert!(rt; replay.ensure(dev, 0)?);
+    assert!(rt; !replay.ensure(dev, 1)?);
     Ok(())
 }
 
@@ -46,17 +57,19 @@ fn replays_ten_bytes(rt: HostRuntime) -> Result<(), Fail> {
     Ok(())
 }
 
-/// A device on which the blob has these bytes as its pages, and a reader over them.
+/// A device on which the blob has these bytes as its pages, and a reader over them. One call of the device fails, from its opening on.
 fn reader(
     alloc: Global,
     bytes: &[u8],
     buffer: usize,
+    failing: u64,
 ) -> Result<(Memory, PageReplay<Sha256Seal>), RError>
     ensures { IfOk result (λ r. IsOpenAt (memory_opened r.0) (reading r.1).key (reading r.1).end) }
 {
     let mut image = Image::new(alloc);
     image.set_blob("p", b"x", bytes)?;
     let mut dev = Memory::from_image(alloc, image)?;
+    dev.fail_at(failing)?;
     let blob = opened(alloc, &mut dev, 4)?;
     let (_, replay) = blob.replay(&mut dev, buffer)?;
     Ok((dev, replay))
@@ -75,7 +88,7 @@ fn torn_in_the_middle(alloc: Global) -> Result<Vec<u8>, AllocError> {
 // What the page's slot covers is given, and no byte more; the page behind it is given again.
 fn torn_page(rt: &impl Abort, alloc: Global, buffer: usize) -> Result<(), RError> {
     let bytes = torn_in_the_middle(alloc)?;
-    let (mut dev, mut replay) = reader(alloc, bytes.as_slice(), buffer)?;
+    let (mut dev, mut replay) = reader(alloc, bytes.as_slice(), buffer, u64::MAX)?;
     assert_eq!(rt; replay.blob_size(), 10);
     'given: for n in 1..7_usize {
         assert!(rt; replay.ensure(&mut dev, n)?, "buffer {buffer}, {n} bytes");
@@ -112,7 +125,7 @@ fn calls_of_replay(rt: &impl Abort, alloc: Global, buffer: usize) -> Result<u64,
     let last = page(alloc, [105, 106, 0, 0], b"ij", b"")?;
     bytes.extend_from_slice(middle.as_slice())?;
     bytes.extend_from_slice(last.as_slice())?;
-    let (mut dev, mut replay) = reader(alloc, bytes.as_slice(), buffer)?;
+    let (mut dev, mut replay) = reader(alloc, bytes.as_slice(), buffer, u64::MAX)?;
     let before = dev.calls();
     'bytes: for byte in b"abcdefghij" {
         assert!(rt; replay.ensure(&mut dev, 1)?);
@@ -135,18 +148,25 @@ fn pages_read_once(rt: HostRuntime) -> Result<(), Fail> {
     Ok(())
 }
 
-// Each call of the device fails in turn: the answer is the fault, and the next call goes on.
+// The blob is opened and its last page read before the reads of the first two pages, of which one fails.
+fn one_fault(rt: &impl Abort, alloc: Global, nth: u64) -> Result<(), RError> {
+    let bytes = torn_in_the_middle(alloc)?;
+    let (mut dev, mut replay) = reader(alloc, bytes.as_slice(), 0, nth)?;
+    assert_eq!(rt;
+        replay.ensure(&mut dev, 6),
+        Err(RError::Fault),
+        "call {nth}"
+    );
+    assert!(rt; b"abcd".starts_with(replay.bytes()));
+    assert!(rt; replay.ensure(&mut dev, 6)?);
+    assert_eq!(rt; replay.bytes(), b"abcdef".as_slice());
+    Ok(())
+}
+
 #[test]
 fn a_read_fails(rt: HostRuntime) -> Result<(), Fail> {
-    let alloc = rt.alloc();
-    let bytes = torn_in_the_middle(alloc)?;
-    for nth in 0..2_u64 {
-        let (mut dev, mut replay) = reader(alloc, bytes.as_slice(), 0)?;
-        dev.fail_at(dev.calls().saturating_add(nth))?;
-        assert_eq!(rt; replay.ensure(&mut dev, 6), Err(RError::Fault));
-        assert!(rt; b"abcd".starts_with(replay.bytes()));
-        assert!(rt; replay.ensure(&mut dev, 6)?);
-        assert_eq!(rt; replay.bytes(), b"abcdef".as_slice());
+    for nth in [2_u64, 3] {
+        one_fault(&rt, rt.alloc(), nth)?;
     }
     Ok(())
 }
