@@ -23,9 +23,11 @@ pub mod SparingLemmas
 pub mod WriteLemmas
 pub mod WritingLemmas
 pub mod RunLemmas
+pub mod LastingLemmas
 pub mod PlainLemmas
 pub mod Leftovers
 pub mod ReadLemmas
 pub mod Reopen
 pub mod PieceLemmas
 pub mod ReplayLemmas
+pub mod WholeLemmas

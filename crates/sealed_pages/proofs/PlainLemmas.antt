@@ -1,22 +1,23 @@
 -- The plain reading of pages, page by page.
-use Rattle.std.proofs.Common.{◌≡◌, ◌≢◌, inl, inr, ℕ, suc, ◌+◌, ◌-◌, ◌*◌, ◌<◌, ◌≤◌, min, eqb, Bool, cond, List, [], ◌++◌, length, take, drop, refl, sym, ◌∙◌, ap, arith, append_assoc, length-take, length-drop}
+use Rattle.std.proofs.Common.{◌≡◌, ◌≢◌, inl, inr, ℕ, suc, ◌+◌, ◌-◌, ◌*◌, ◌<◌, ◌≤◌, min, eqb, Bool, cond, List, [], ◌∷◌, ◌++◌, get_or, length, take, drop, refl, sym, ◌∙◌, ap, arith, append_assoc, length-take, length-drop}
 use Rattle.std.proofs.lemmas.Bool.{cases_lt, eq-eqb, ne_eqb}
 use Rattle.std.proofs.lemmas.List.{append-nil, take_all, get_or-take, get_or-drop, ext_get_or}
-use Rattle.sealed_pages.specs.Reading.{page_of}
+use Rattle.std.specs.Int.{w16, w32, from_be_bytes}
 use Rattle.sealed_pages.specs.SealedPrefix.{pages_in, sealed_from, sealed_prefix}
-use Rattle.sealed_pages.specs.Slots.{page_length}
+use Rattle.sealed_pages.specs.Slots.{page_length, named_length, named_seal}
 use Rattle.sealed_pages.specs.View.{view, bytes_at, page_at}
-use Rattle.sealed_pages.proofs.Looking.{take_short, page_below, page_length_is, page_reaches}
+use Rattle.sealed_pages.proofs.Looking.{two_at, four_at, page_below, page_length_is, page_reaches}
 use Rattle.sealed_pages.proofs.SlotLemmas.{slot_length-le, length-bytes_at, get_or-bytes_at}
 
 pub page_place : (P k : ℕ) → k * (P + 12) ≡ page_at P k
 unfolding page_at
 page_place P k = refl
 
-pub page_part : (P : ℕ) (c : List ℕ) (k n p : ℕ) → p ≡ page_at P k → n ≡ min (length (take (length c - p) (drop p c))) (P + 12) → take n (take (length c - p) (drop p c)) ≡ page_of P c k
-page_part P c k n p at is =
-    let all : take (length c - p) (drop p c) ≡ drop p c = take_all (length c - p) (drop p c) (omega (arith, length-drop p c)) in
-    ap (take n) all ∙ take_short n (P + 12) (drop p c) (omega (arith, is, ap length all)) ∙ ap (λ (q : ℕ). take (P + 12) (drop q c)) at
+-- bytes that stand in the content
+pub bytes_at-take : (c : List ℕ) (at n : ℕ) → at + n ≤ length c → bytes_at (view c) at n ≡ take n (drop at c)
+bytes_at-take c at n fits = ext_get_or 0 (bytes_at (view c) at n) (take n (drop at c)) (omega (arith, length-bytes_at (view c) n at, length-take n (drop at c), length-drop at c, fits))
+    (λ i lt. let inside : i < n = omega (arith, lt, length-bytes_at (view c) n at) in
+    get_or-bytes_at (view c) n at i inside ∙ sym (get_or-take n (drop at c) i 0 inside ∙ get_or-drop at c i 0))
 
 module _ (seal : List ℕ → ℕ) (P : ℕ) (c : List ℕ) (k : ℕ) where
   pub page_length-le : page_length seal P c k ≤ P
@@ -32,11 +33,6 @@ module _ (seal : List ℕ → ℕ) (P : ℕ) (c : List ℕ) (k : ℕ) where
   pub size_within : k < pages_in P c → k * P + page_length seal P c k ≤ length c
   size_within lt = omega (arith, data_within lt, page_place P k)
 
-  data_is : (at n : ℕ) → at + n ≤ length c → bytes_at (view c) at n ≡ take n (drop at c)
-  data_is at n fits = ext_get_or 0 (bytes_at (view c) at n) (take n (drop at c)) (omega (arith, length-bytes_at (view c) n at, length-take n (drop at c), length-drop at c, fits))
-      (λ i lt. let inside : i < n = omega (arith, lt, length-bytes_at (view c) n at) in
-      get_or-bytes_at (view c) n at i inside ∙ sym (get_or-take n (drop at c) i 0 inside ∙ get_or-drop at c i 0))
-
   step : (m : ℕ) → sealed_from seal P c k (suc m) ≡ bytes_at (view c) (page_at P k) (page_length seal P c k) ++ cond (eqb (page_length seal P c k) P) (sealed_from seal P c (k + 1) m) []
   unfolding sealed_from
   step m = refl
@@ -45,7 +41,7 @@ module _ (seal : List ℕ → ℕ) (P : ℕ) (c : List ℕ) (k : ℕ) where
   module _ (prefix part all : List ℕ) (len at m : ℕ) (below : k < pages_in P c) (len_is : len ≡ page_length seal P c k) (at_is : at ≡ page_at P k) (part_is : part ≡ take len (drop at c))
       (left : m ≡ pages_in P c - k) (so_far : prefix ++ sealed_from seal P c k m ≡ all) where
     part_data : bytes_at (view c) (page_at P k) (page_length seal P c k) ≡ part
-    part_data = data_is (page_at P k) (page_length seal P c k) (data_within below) ∙ sym (part_is ∙ (λ i. take (len_is i) (drop (at_is i) c)))
+    part_data = bytes_at-take c (page_at P k) (page_length seal P c k) (data_within below) ∙ sym (part_is ∙ (λ i. take (len_is i) (drop (at_is i) c)))
 
     more : m ≡ suc (pages_in P c - (k + 1))
     more = omega (arith, left, below)
@@ -78,3 +74,16 @@ pub prefix_done : (seal : List ℕ → ℕ) (P : ℕ) (c prefix all : List ℕ) 
 prefix_done seal P c prefix all k past is =
     let none : pages_in P c - k ≡ 0 = omega (arith, past) in
     sym (append-nil prefix) ∙ sym (ap (λ (l : List ℕ). prefix ++ l) (ap (sealed_from seal P c k) none ∙ nothing_left seal P c k)) ∙ is
+
+-- numbers spelled out, the greatest byte first
+spelled_two : (a b : ℕ) → from_be_bytes w16 (a ∷ b ∷ []) ≡ a * 256 + b
+spelled_two a b = omega arith
+
+spelled_four : (a b d e : ℕ) → from_be_bytes w32 (a ∷ b ∷ d ∷ e ∷ []) ≡ (a * 256 + b) * 65536 + (d * 256 + e)
+spelled_four a b d e = omega arith
+
+pub length_spelled : (c : List ℕ) (at : ℕ) → named_length (view c) at ≡ get_or c at 0 * 256 + get_or c (at + 1) 0
+length_spelled c at = ap (from_be_bytes w16) (two_at c at) ∙ spelled_two (get_or c at 0) (get_or c (at + 1) 0)
+
+pub seal_spelled : (c : List ℕ) (at : ℕ) → named_seal (view c) at ≡ (get_or c (at + 2) 0 * 256 + get_or c (at + 3) 0) * 65536 + (get_or c (at + 4) 0 * 256 + get_or c (at + 5) 0)
+seal_spelled c at = ap (from_be_bytes w32) (four_at c at) ∙ spelled_four (get_or c (at + 2) 0) (get_or c (at + 3) 0) (get_or c (at + 4) 0) (get_or c (at + 5) 0)

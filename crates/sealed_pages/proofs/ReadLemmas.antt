@@ -11,7 +11,7 @@ use Rattle.sealed_pages.specs.declared.reading.LastPage.{LastPage}
 use Rattle.sealed_pages.specs.Buffer.{extent}
 use Rattle.sealed_pages.specs.Found.{Finds}
 use Rattle.sealed_pages.specs.Reading.{page_of}
-use Rattle.sealed_pages.specs.Reads.{IsWanted, IsShort, touched, needed, below, page_rest}
+use Rattle.sealed_pages.specs.Reads.{IsWanted, IsShort, touched, needed, below}
 use Rattle.sealed_pages.specs.SealedPrefix.{place, data_from, adopted_size}
 use Rattle.sealed_pages.specs.Slots.{slot_length, page_length}
 use Rattle.sealed_pages.specs.View.{View, page_at}
@@ -171,9 +171,3 @@ extent_room P n k pos fits lt =
     let next : (k + 1) * P ≤ n + (P - 1) = omega (arith, lt, pos, times_next k P) in
     let le : k + 1 ≤ (n + (P - 1)) / P = le-div (k + 1) (n + (P - 1)) P (omega (arith, pos)) next in
     omega (arith, fits, page_order (λ x. 0) P k ((n + (P - 1)) / P) (omega (arith, le)))
-
--- there is a byte more in the page
-pub rest_some : (P size m : ℕ) → 1 ≤ P → m < size → 1 ≤ page_rest P size m
-rest_some P size m pos lt =
-    let above : m < (m / P + 1) * P = (div-lt_iff_lt-mul {k = P} {x = m} {y = m / P + 1} (omega (arith, pos))).0 (omega arith) in
-    omega (arith, lt, above)

@@ -5,11 +5,11 @@ use Rattle.std.proofs.lemmas.List.{get_or_past}
 use Rattle.blob_device.specs.declared.error.DevError.{DevError}
 use Rattle.blob_device.specs.Disk.{Key, Blob, Outside, MayLeave, settled_at}
 use Rattle.blob_device.specs.Change.{Change, Write, Resize, Settle, during, done, FailedTo, written, resized}
-use Rattle.blob_device.specs.Timeline.{Timeline, disk, Passes, OnlyAt}
+use Rattle.blob_device.specs.Timeline.{Timeline, disk, Passes, Always, OnlyAt}
 use Rattle.blob_device.proofs.Bytes.{length-written, length-resized, least_push, outside_push}
-use Rattle.blob_device.proofs.Moments.{always_now, always_then, always_weaker, only_start, only_on, ok_blob, err_has}
+use Rattle.blob_device.proofs.Moments.{always_start, always_now, always_then, always_weaker, only_start, only_on, ok_blob, err_has}
 use Rattle.blob_device.proofs.Places.{written_out, resized_below}
-use Rattle.sealed_pages.specs.Sparing.{Lasts, SameByte, Spares, Sparing}
+use Rattle.sealed_pages.specs.Sparing.{Lasts, SameByte, Spares, Sparing, LooseOnly}
 
 module _ (R : ℕ → Type 0) (n : ℕ) (from b : Blob)
     (loose : (i : ℕ) → R i → Outside from.loose i → Outside b.loose i)
@@ -52,15 +52,19 @@ pub sparing_weaker : (R S : ℕ → Type 0) (n m : ℕ) (k : Key) (a b : Timelin
 sparing_weaker R S n m k a b less le always = always_weaker a b (OnlyAt k (disk a) (Spares R n (disk a k))) (OnlyAt k (disk a) (Spares S m (disk a k)))
     (λ d only. record { here = spares_weaker R S n m (disk a k) (d k) less le only.here; others = only.others }) always
 
+-- what holds of the blob at each moment of a call on it
+any_call : {T : Type 0} (Q : Blob → Type 0) (k : Key) (t0 t1 : Timeline) (change : Change) (r : Result T DevError) → Q (disk t0 k) → Passes k change r t0 t1 → Q (during change (disk t0 k)) → Q (done change (disk t0 k))
+    → ((new : Blob) → FailedTo change (disk t0 k) new → Q new) → Always t0 t1 (OnlyAt k (disk t0) Q)
+any_call {T = T} Q k t0 t1 change r start passes inside after failed = only_on t0 t0 t1 k (disk t0) Q change r (only_start t0 k Q start) passes inside (end r passes)
+  where
+    end : (q : Result T DevError) → Passes k change q t0 t1 → Q (disk t1 k)
+    end (Ok v) went = subst Q (sym (ok_blob k change v t0 t1 went)) after
+    end (Err e) went = err_has {T = T} Q k change e t0 t1 went start failed
+
 module _ (R : ℕ → Type 0) (n : ℕ) (k : Key) (t0 t1 : Timeline) where
   one_call : {T : Type 0} (change : Change) (r : Result T DevError) → Passes k change r t0 t1 → Spares R n (disk t0 k) (during change (disk t0 k)) → Spares R n (disk t0 k) (done change (disk t0 k))
       → ((new : Blob) → FailedTo change (disk t0 k) new → Spares R n (disk t0 k) new) → Sparing R n k t0 t1
-  one_call {T = T} change r passes inside after failed =
-      only_on t0 t0 t1 k (disk t0) (Spares R n (disk t0 k)) change r (sparing_start R n k t0) passes inside (end r passes)
-    where
-      end : (q : Result T DevError) → Passes k change q t0 t1 → Spares R n (disk t0 k) (disk t1 k)
-      end (Ok v) went = subst (Spares R n (disk t0 k)) (sym (ok_blob k change v t0 t1 went)) after
-      end (Err e) went = err_has {T = T} (Spares R n (disk t0 k)) k change e t0 t1 went (spares_self R n (disk t0 k)) failed
+  one_call change r passes inside after failed = any_call (Spares R n (disk t0 k)) k t0 t1 change r (spares_self R n (disk t0 k)) passes inside after failed
 
   spares_written : (at : ℕ) (bytes c : List ℕ) → ((i : ℕ) → R i → (i < at) ⊎ (at + length bytes ≤ i)) → length (disk t0 k).content ≤ length c
       → ((i : ℕ) → R i → get_or c i 0 ≡ get_or (disk t0 k).content i 0) → Spares R n (disk t0 k) (record (during (Write at bytes) (disk t0 k)) { content = c })
@@ -108,6 +112,30 @@ module _ (R : ℕ → Type 0) (n : ℕ) (k : Key) (t0 t1 : Timeline) where
   sparing_settle r passes = one_call Settle r passes (spares_self R n (disk t0 k))
       (spares_of R n (disk t0 k) (settled_at (disk t0 k).content) (λ i named out. tt) (λ i named. refl) (λ m le was. record { there = refl; sure = refl; short = was.long; long = was.long }))
       (λ new failed. subst (Spares R n (disk t0 k)) (sym failed) (spares_self R n (disk t0 k)))
+
+-- places that were not made loose
+pub loose_start : (R : ℕ → Type 0) (k : Key) (t : Timeline) → LooseOnly R k t t
+loose_start R k t = always_start t (λ d. (i : ℕ) → R i → Outside (disk t k).loose i → Outside (d k).loose i) (λ i r out. out)
+
+pub loose_spared : (R S : ℕ → Type 0) (n : ℕ) (k : Key) (a b : Timeline) → ((i : ℕ) → S i → R i) → Sparing R n k a b → LooseOnly S k a b
+loose_spared R S n k a b less always = always_weaker a b (OnlyAt k (disk a) (Spares R n (disk a k))) (λ d. (i : ℕ) → S i → Outside (disk a k).loose i → Outside (d k).loose i) (λ d only i r out. only.here.loose i (less i r) out) always
+
+pub loose_then : (R S : ℕ → Type 0) (k : Key) (a b c : Timeline) → ((i : ℕ) → S i → R i) → LooseOnly S k a b → LooseOnly R k b c → LooseOnly S k a c
+loose_then R S k a b c less first second =
+    let now = always_now a b (λ d. (i : ℕ) → S i → Outside (disk a k).loose i → Outside (d k).loose i) first in
+    always_then a b c (λ d. (i : ℕ) → S i → Outside (disk a k).loose i → Outside (d k).loose i) first
+    (always_weaker b c (λ d. (i : ℕ) → R i → Outside (disk b k).loose i → Outside (d k).loose i) (λ d. (i : ℕ) → S i → Outside (disk a k).loose i → Outside (d k).loose i) (λ d is i r out. is i (less i r) (now i r out)) second)
+
+pub loose_resize : {T : Type 0} (k : Key) (t0 t1 : Timeline) (m : ℕ) (r : Result T DevError) → Passes k (Resize m) r t0 t1 → LooseOnly (λ i. Unit {0}) k t0 t1
+loose_resize k t0 t1 m r passes = always_weaker t0 t1 (OnlyAt k (disk t0) Same) (λ d. (i : ℕ) → Unit {0} → Outside (disk t0 k).loose i → Outside (d k).loose i) (λ d only i r out. subst (λ (l : List (ℕ × ℕ)). Outside l i) (sym only.here) out)
+    (any_call Same k t0 t1 (Resize m) r refl passes refl refl after)
+  where
+    Same : Blob → Type 0
+    Same b = b.loose ≡ (disk t0 k).loose
+
+    after : (new : Blob) → FailedTo (Resize m) (disk t0 k) new → Same new
+    after new (inl is) = ap (λ (b : Blob). b.loose) is
+    after new (inr is) = ap (λ (b : Blob). b.loose) is
 
 -- the same call, its key spelled otherwise
 pub passes_at : {T : Type 0} {p q x y : List ℕ} {change : Change} {r : Result T DevError} {t0 t1 : Timeline} → p ≡ x → q ≡ y → Passes (p, q) change r t0 t1 → Passes (x, y) change r t0 t1

@@ -1,6 +1,6 @@
 -- A buffer over a blob without seals, after each of its calls of the device.
-use Rattle.std.proofs.Common.{◌≡◌, ◌⊎◌, inl, inr, ℕ, ◌+◌, ◌-◌, ◌<◌, ◌≤◌, ◌&&◌, min, max, eqb, leb, Bool, true, false, List, [], ◌∷◌, ◌++◌, length, take, Option, Some, None, Result, Ok, refl, sym, ◌∙◌, ap, subst, arith, length-take}
-use Rattle.std.proofs.lemmas.Bool.{and_parts, eqb-true, leb-true, eq-eqb, le-leb}
+use Rattle.std.proofs.Common.{◌≡◌, ◌⊎◌, inl, inr, ℕ, ◌+◌, ◌-◌, ◌<◌, ◌≤◌, ◌||◌, ◌&&◌, not, min, max, eqb, leb, Bool, true, false, List, [], ◌∷◌, ◌++◌, length, take, Option, Some, None, Result, Ok, refl, sym, ◌∙◌, ap, subst, arith, length-take}
+use Rattle.std.proofs.lemmas.Bool.{cases_lt, and_parts, eqb-true, leb-true, eq-eqb, le-leb}
 use Rattle.blob_device.specs.declared.error.DevError.{DevError}
 use Rattle.blob_device.specs.Disk.{Key, Blob, Outside, settled_at}
 use Rattle.blob_device.specs.Change.{Write, written}
@@ -12,9 +12,9 @@ use Rattle.blob_device.specs.Timeline.{Timeline, disk, Passes}
 use Rattle.blob_device.proofs.Bytes.{length-written, written_end}
 use Rattle.blob_device.proofs.Moments.{ok_blob}
 use Rattle.sealed_pages.specs.Entries.{IsOpenAt, NoReads, ReadsAtMost}
-use Rattle.sealed_pages.specs.Sparing.{Lasts, Spares, Sparing}
-use Rattle.sealed_pages.proofs.SparingLemmas.{sparing_then, sparing_weaker}
-use Rattle.sealed_pages.specs.Writing.{WriteBuffer, blob_key, bytes_of, size_of, run_of, is_idle, Joins, StaysBelow, Over}
+use Rattle.sealed_pages.specs.Sparing.{Lasts, Spares, Sparing, LooseOnly}
+use Rattle.sealed_pages.proofs.SparingLemmas.{sparing_then, sparing_weaker, loose_spared, loose_then}
+use Rattle.sealed_pages.specs.Writing.{WriteBuffer, blob_key, bytes_of, size_of, run_of, is_idle, is_unsettled, Joins, StaysBelow, Over}
 use Rattle.sealed_pages.proofs.EntryLemmas.{open_some, open_updated, no_reads_part, no_reads_updated, no_reads_resize, open_written, open_resized}
 use Rattle.sealed_pages.proofs.WriteLemmas.{written_nothing, written_again, written_twice, written_cut}
 
@@ -27,6 +27,14 @@ idle_parts u is = let parts = and_parts (eqb (length u.pending) 0) (leb u.at u.e
 
 pub idle_of : (u : WriteBuffer) → u.pending ≡ [] → u.at ≤ u.end → is_idle u ≡ true
 idle_of u none within = ap (λ (b : Bool). b && leb u.at u.end) (eq-eqb (length u.pending) 0 (ap length none)) ∙ le-leb u.at u.end within
+
+pub settled_parts : (u : WriteBuffer) → is_unsettled u ≡ false → (u.dirty ≡ false) × (is_idle u ≡ true)
+settled_parts u is = go u.dirty (is_idle u) is
+  where
+    go : (d i : Bool) → (d || not i) ≡ false → (d ≡ false) × (i ≡ true)
+    go true i e = absurd (cc e)
+    go false true e = (refl, refl)
+    go false false e = absurd (cc e)
 
 -- with nothing to flush, the bytes are the content
 pub idle_bytes : (u : WriteBuffer) (c : List ℕ) → is_idle u ≡ true → length c ≡ u.end → bytes_of u c ≡ c
@@ -130,6 +138,14 @@ module _ (u m p : WriteBuffer) (offset : ℕ) (bytes : List ℕ) (joined : Joins
       go (inl same) = omega (arith, less, full, len, capacity, put_long, same.0, ap length same.1, ap length (idle_parts u idle).0, joined.low, joined.high)
       go (inr new) = omega (arith, less, full, len, capacity, put_long, new.0, ap length new.1)
 
+  -- fewer bytes than the capacity fill the run only where they join it
+  pub put_joins : (n : ℕ) → n ≡ length p.pending → p.capacity ≡ u.capacity → length bytes < u.capacity → p.capacity ≤ n → Joins u offset
+  put_joins n len capacity less full = go run
+    where
+      go : ((m.at ≡ u.at) × (m.pending ≡ u.pending)) ⊎ ((m.at ≡ offset) × (m.pending ≡ [])) → Joins u offset
+      go (inl same) = record { low = omega (arith, joined.low, same.0); high = omega (arith, joined.high, same.0, ap length same.1) }
+      go (inr new) = absurd (omega (arith, less, full, len, capacity, put_long, new.0, ap length new.1))
+
   pub put_spares : (t0 t1 t2 : Timeline) → p.settled ≡ u.settled → blob_key p ≡ blob_key u → Sparing (Outside (run_of u ∷ [])) u.settled (blob_key u) t0 t1
       → Sparing (Outside (run_of p ∷ [])) p.settled (blob_key p) t1 t2 → Sparing (Outside ((offset, length bytes) ∷ run_of u ∷ [])) u.settled (blob_key u) t0 t2
   put_spares t0 t1 t2 settled key first second =
@@ -165,6 +181,23 @@ module _ (u : WriteBuffer) (n : ℕ) where
       side : (i < u.at) ⊎ (u.at + length u.pending ≤ i) → (i < min u.at n) ⊎ (min u.at n + length (take (n - min u.at n) u.pending) ≤ i)
       side (inl before) = inl (omega (arith, before, below))
       side (inr past) = inr (omega (arith, past, below, length-take (n - min u.at n) u.pending))
+
+  run_cut_outside : (i : ℕ) → Outside (run_of u ∷ []) i → Outside (run_of short_run ∷ []) i
+  run_cut_outside i out = elim (cases_lt i n) [
+    | inl below ↦ cut_run_outside i (below, out)
+    | inr past ↦ (inr (omega (arith, past, length-take (n - min u.at n) u.pending)), tt)
+  ]
+
+  -- what they make loose
+  pub loose_first : (w : WriteBuffer) (t0 t1 : Timeline) → w ≡ short_run → Sparing (Outside (run_of w ∷ [])) w.settled (blob_key w) t0 t1 → LooseOnly (Outside (run_of u ∷ [])) (blob_key u) t0 t1
+  loose_first w t0 t1 is first = loose_spared (Outside (run_of short_run ∷ [])) (Outside (run_of u ∷ [])) u.settled (blob_key u) t0 t1 run_cut_outside
+      (subst (λ (x : WriteBuffer). Sparing (Outside (run_of x ∷ [])) x.settled (blob_key x) t0 t1) is first)
+
+  pub loose_second : (v : WriteBuffer) (t0 t1 t2 : Timeline) → blob_key v ≡ blob_key u → LooseOnly (Outside (run_of u ∷ [])) (blob_key u) t0 t1 → LooseOnly (λ i. Unit {0}) (blob_key v) t1 t2 → LooseOnly (Outside (run_of u ∷ [])) (blob_key u) t0 t2
+  loose_second v t0 t1 t2 key first second = loose_then (λ i. Unit {0}) (Outside (run_of u ∷ [])) (blob_key u) t0 t1 t2 (λ i r. tt) first (subst (λ (k : Key). LooseOnly (λ i. Unit {0}) k t1 t2) key second)
+
+  pub loose_third : (s : WriteBuffer) (t0 t2 t3 : Timeline) → blob_key s ≡ blob_key u → LooseOnly (Outside (run_of u ∷ [])) (blob_key u) t0 t2 → Sparing (λ i. Unit {0}) s.settled (blob_key s) t2 t3 → LooseOnly (Outside (run_of u ∷ [])) (blob_key u) t0 t3
+  loose_third s t0 t2 t3 key first third = loose_second s t0 t2 t3 key first (loose_spared (λ i. Unit {0}) (λ i. Unit {0}) s.settled (blob_key s) t2 t3 (λ i r. tt) third)
 
   pub cut_first : (w : WriteBuffer) (t0 t1 : Timeline) → w ≡ short_run → Sparing (Outside (run_of w ∷ [])) w.settled (blob_key w) t0 t1 → Sparing BelowCut (min u.settled n) (blob_key u) t0 t1
   cut_first w t0 t1 is first = sparing_weaker (Outside (run_of short_run ∷ [])) BelowCut u.settled (min u.settled n) (blob_key u) t0 t1 cut_run_outside (omega arith)

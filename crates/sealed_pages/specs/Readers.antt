@@ -1,12 +1,12 @@
 -- What a reader over a sealed blob shows: a position, and the bytes at hand there.
-use Rattle.std.specs.Prelude.{◌≡◌, ℕ, ◌+◌, ◌*◌, ◌-◌, ◌<◌, ◌≤◌, min, List, length, drop, string_bytes}
+use Rattle.std.specs.Prelude.{◌≡◌, ℕ, ◌+◌, ◌-◌, ◌/◌, ◌≤◌, min, List, length, drop, string_bytes}
 use Rattle.blob_device.specs.Disk.{Key}
+use Rattle.blob_device.specs.Opened.{OpenedList, reads_of}
 use Rattle.sealed_pages.specs.declared.piece.Piece.{Piece}
 use Rattle.sealed_pages.specs.declared.replay.PageReplay.{PageReplay}
-use Rattle.sealed_pages.specs.Pieces.{IsPieceOf}
-use Rattle.sealed_pages.specs.Reads.{IsWanted}
+use Rattle.sealed_pages.specs.Pieces.{IsPieceOf, next_missing}
+use Rattle.sealed_pages.specs.Reads.{IsCovered, pages_for}
 use Rattle.sealed_pages.specs.SealedPrefix.{data_from}
-use Rattle.sealed_pages.specs.Slots.{page_length}
 use Rattle.sealed_pages.specs.View.{view}
 
 -- `end` is the physical end of the blob, `size` the number of its bytes
@@ -38,10 +38,20 @@ next_of r = r.at + length r.bytes
 abbrev pub missing_of : Reader → ℕ → ℕ
 missing_of r n = min (r.size - r.at) n - length r.bytes
 
--- the bytes at hand are those of the content at the position
-pub record IsReplayOf (content : List ℕ) (r : Reader) : Type 0 where
+-- how many of the blob's pages, from that of the next byte on, are not yet read
+abbrev pub unread_of : Reader → ℕ
+unread_of r = pages_for r.page_size r.size - next_missing r.piece (next_of r / r.page_size)
+
+-- The bytes at hand are those of the content at the position, and matching slots cover each page that has one of them, as far as
+-- they go.
+pub record IsReplayOf (seal : List ℕ → ℕ) (content : List ℕ) (r : Reader) : Type 0 where
   pub bytes : r.bytes ≡ data_from r.page_size (view content) r.at (length r.bytes)
+  pub covered : IsCovered seal r.page_size content r.at (length r.bytes)
   pub piece : IsPieceOf content r.piece
+
+-- Reads that began on the blob, and pages that are not yet read, come to no more than before: each read takes a page that was not.
+abbrev pub ReadsUnread : Reader → Reader → OpenedList → OpenedList → Type 0
+ReadsUnread old new before after = reads_of (after old.key) + unread_of new ≤ reads_of (before old.key) + unread_of old
 
 -- the same blob, and the same position
 pub record SameReader (old new : Reader) : Type 0 where
@@ -50,8 +60,3 @@ pub record SameReader (old new : Reader) : Type 0 where
   pub end : new.end ≡ old.end
   pub size : new.size ≡ old.size
   pub at : new.at ≡ old.at
-
--- Page p has one of the n bytes from byte m on, and no matching slot covers it as far as the blob's size goes.
-pub record IsShortTo (seal : List ℕ → ℕ) (P : ℕ) (content : List ℕ) (size m n p : ℕ) : Type 0 where
-  pub wanted : IsWanted P m n p
-  pub short : page_length seal P content p < min P (size - p * P)

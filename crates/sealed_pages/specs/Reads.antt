@@ -1,5 +1,6 @@
 -- Which pages a read of n bytes from byte m on touches, and how far it needs them covered.
-use Rattle.std.specs.Prelude.{ℕ, ◌+◌, ◌*◌, ◌-◌, ◌/◌, ◌<◌, ◌≤◌, min, eqb, cond, List}
+use Rattle.std.specs.Prelude.{◌≡◌, ◌⊎◌, ℕ, ◌+◌, ◌*◌, ◌-◌, ◌/◌, ◌^◌, ◌<◌, ◌≤◌, min, eqb, cond, List}
+use Rattle.sealed_pages.specs.SealedPrefix.{adopted_size}
 use Rattle.sealed_pages.specs.Slots.{page_length}
 
 -- page k has one of these bytes
@@ -7,6 +8,10 @@ pub record IsWanted (P m n k : ℕ) : Type 0 where
   pub some : 0 < n
   pub low : m < k * P + P
   pub high : k * P < m + n
+
+-- how many pages n bytes take
+abbrev pub pages_for : ℕ → ℕ → ℕ
+pages_for P n = (n + (P - 1)) / P
 
 -- how many pages have one of these bytes
 abbrev pub touched : ℕ → ℕ → ℕ → ℕ
@@ -20,6 +25,10 @@ needed P m n k = min P (m + n - k * P)
 abbrev pub below : ℕ → ℕ → ℕ → ℕ → ℕ
 below P first m n = min n (first * P - m)
 
+-- from byte m on a read ended at the end of its page, or within it at or behind byte `goal`
+abbrev pub EndsAtOrPast : ℕ → ℕ → ℕ → ℕ → Type 0
+EndsAtOrPast P m goal next = (next ≡ (m / P + 1) * P) ⊎ ((goal ≤ next) × (next < (m / P + 1) * P))
+
 module _ (seal : List ℕ → ℕ) (P : ℕ) where
   -- each wanted page is covered as far as the read needs it
   abbrev pub IsCovered : List ℕ → ℕ → ℕ → Type 0
@@ -30,10 +39,11 @@ module _ (seal : List ℕ → ℕ) (P : ℕ) where
     pub wanted : IsWanted P m n k
     pub short : page_length seal P c k < needed P m n k
 
+  -- n bytes from byte m on end at a place of 64 bits, past the size that the last page with a matching slot gives
+  pub record PassesSize (c : List ℕ) (m n : ℕ) : Type 0 where
+    pub fits : m + n < 2 ^ 64
+    pub past : adopted_size seal P c < m + n
+
 -- each of the bytes stands in the tip, which begins with page `first` and ends at the size
 abbrev pub IsHeld : ℕ → ℕ → ℕ → ℕ → ℕ → Type 0
 IsHeld P first size m n = (i : ℕ) → m ≤ i → i < m + n → (first * P ≤ i) × (i < size)
-
--- how many bytes stand from byte m on, up to the end of its page or of the first `size` bytes
-abbrev pub page_rest : ℕ → ℕ → ℕ → ℕ
-page_rest P size m = min size ((m / P + 1) * P) - m

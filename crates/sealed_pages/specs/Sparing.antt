@@ -1,6 +1,7 @@
 -- What calls on one blob leave of the places that they were not handed.
 use Rattle.std.specs.Prelude.{◌≡◌, ℕ, ◌<◌, ◌≤◌, true, false, List, length, get_or, Option, IsSomeAnd}
 use Rattle.blob_device.specs.Disk.{Key, Blob, Outside, MayLeave, shortest}
+use Rattle.blob_device.specs.Keeps.{Keeps}
 use Rattle.blob_device.specs.Timeline.{Timeline, disk, Always, OnlyAt}
 
 -- each crash leaves the blob, with at least n bytes, and it reads as that long
@@ -26,3 +27,11 @@ pub record Spares (R : ℕ → Type 0) (n : ℕ) (from b : Blob) : Type 0 where
 -- at each moment, also inside calls of the device; no other blob changes
 abbrev pub Sparing : (ℕ → Type 0) → ℕ → Key → Timeline → Timeline → Type 0
 Sparing R n key old new = Always old new (OnlyAt key (disk old) (Spares R n (disk old key)))
+
+-- at each moment, also inside calls of the device, none of the places that R names was made loose
+abbrev pub LooseOnly : (ℕ → Type 0) → Key → Timeline → Timeline → Type 0
+LooseOnly R key old new = Always old new (λ d. (i : ℕ) → R i → Outside (disk old key).loose i → Outside (d key).loose i)
+
+-- at each moment, also inside calls of the device, each crash leaves the blob with these bytes at its front; no other blob changes
+abbrev pub Keeping : List ℕ → Key → Timeline → Timeline → Type 0
+Keeping kept key old new = Always old new (OnlyAt key (disk old) (Keeps kept))

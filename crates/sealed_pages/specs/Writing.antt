@@ -1,7 +1,8 @@
 -- What a buffer over a blob without seals shows, and what it means: the bytes of its blob, with one run over them.
-use Rattle.std.specs.Prelude.{◌≡◌, ◌⊎◌, ℕ, ◌+◌, ◌-◌, ◌<◌, ◌≤◌, ◌||◌, ◌&&◌, not, max, eqb, leb, Bool, true, false, List, length, string_bytes}
-use Rattle.blob_device.specs.Disk.{Key, Blob, settled_at}
+use Rattle.std.specs.Prelude.{◌≡◌, ◌⊎◌, ℕ, ◌+◌, ◌-◌, ◌<◌, ◌≤◌, ◌||◌, ◌&&◌, not, max, eqb, leb, Bool, true, false, List, [], ◌∷◌, length, take, string_bytes}
+use Rattle.blob_device.specs.Disk.{Key, Blob, Outside, settled_at}
 use Rattle.blob_device.specs.Change.{written}
+use Rattle.blob_device.specs.Keeps.{Keeps}
 use Rattle.sealed_pages.specs.declared.write_blob.WriteBlob.{WriteBlob}
 use Rattle.sealed_pages.specs.View.{Within}
 use Rattle.sealed_pages.specs.Sparing.{Lasts}
@@ -62,6 +63,11 @@ pub record Joins (u : WriteBuffer) (offset : ℕ) : Type 0 where
 abbrev pub StaysBelow : WriteBuffer → ℕ → ℕ → Type 0
 StaysBelow u offset n = (Joins u offset × (max (length u.pending) (offset - u.at + n) < u.capacity)) ⊎ ((is_idle u ≡ true) × (n < u.capacity))
 
+-- What the run holds after bytes were put at a place: what it held with these bytes over it or behind it, where the place joins it;
+-- or these bytes alone; or nothing, once it was flushed.
+abbrev pub HoldsOnly : WriteBuffer → ℕ → List ℕ → WriteBuffer → Type 0
+HoldsOnly u offset bytes r = (Joins u offset × (r.at ≡ u.at) × (r.pending ≡ written u.pending (offset - u.at) bytes)) ⊎ (((r.at ≡ offset) × (r.pending ≡ bytes)) ⊎ (r.pending ≡ []))
+
 -- all of n bytes from a place on are in the run
 abbrev pub AllPending : WriteBuffer → ℕ → ℕ → Type 0
 AllPending u offset n = (i : ℕ) → Within offset n i → Within u.at (length u.pending) i
@@ -70,3 +76,10 @@ AllPending u offset n = (i : ℕ) → Within offset n i → Within u.at (length 
 pub record Over (u : WriteBuffer) (b : Blob) : Type 0 where
   pub lasts : Lasts u.settled b
   pub clean : u.dirty ≡ false → b ≡ settled_at b.content
+
+-- All of the first `settled` bytes, as the buffer means them, outlive every crash, and the run has none of them. A sync makes it so,
+-- and it stays so while bytes are only written behind them.
+pub record KeepsSettled (u : WriteBuffer) (b : Blob) : Type 0 where
+  pub long : u.settled ≤ length b.content
+  pub keeps : Keeps (take u.settled (bytes_of u b.content)) b
+  pub apart : (i : ℕ) → i < u.settled → Outside (run_of u ∷ []) i

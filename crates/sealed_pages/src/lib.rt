@@ -2,7 +2,6 @@
 #![tactic(auto)]
 
 mod cut;
-mod fetch;
 mod flush;
 mod page;
 mod page_blob;

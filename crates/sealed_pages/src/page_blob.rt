@@ -297,6 +297,8 @@ impl<S: Seal> PageBlob<S> {
         ensures wrote { D.Tells → (all : List ℕ) → Data self.page_size all (flushed_of (shown self)) (view (disk (D.time dev.old) (key_of (shown self))).content)
             → StandsAt all (self.first * self.page_size) self.tip.items
             → Wrote self.page_size all (size_of (shown self)) (key_of (shown self)) result (D.time dev.old) (D.time dev.new) }
+        ensures idle { length self.tip.items ≤ self.from → dev.new ≡ dev.old }
+        ensures fine { length self.tip.items ≤ self.from → IsOkAnd result (λ r. shown r ≡ shown self) }
         ensures key { IfOk result (λ r. key_of (shown r) ≡ key_of (shown self)) }
         ensures page_size { IfOk result (λ r. r.page_size ≡ self.page_size) }
         ensures capacity { IfOk result (λ r. r.capacity ≡ self.capacity) }

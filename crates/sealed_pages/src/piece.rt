@@ -1,5 +1,5 @@
 // Some pages of a blob that follow one another, read at once and held in memory.
-ghost use Rattle.std.specs.Prelude.{◌≡◌, ◌+◌, ◌-◌, ◌*◌, ◌≤◌, ◌<◌, ◌^◌, length, Err, IfOk, OnOk, ℕ, List};
+ghost use Rattle.std.specs.Prelude.{◌≡◌, ◌+◌, ◌-◌, ◌*◌, ◌≤◌, ◌<◌, ◌^◌, ◌⊎◌, length, Err, IfOk, OnOk, ℕ, List};
 ghost use Rattle.blob_device.specs.Timeline.{disk};
 ghost use Rattle.blob_device.specs.Counts.{Rose};
 ghost use Rattle.sealed_pages.specs.View.{page_at};
@@ -61,6 +61,8 @@ impl Piece {
         ensures holds { OnOk result (HasPage self.new page) }
         ensures piece { D.Tells → IsPieceOf (disk (D.time dev.old) (partition.now, name.now)).content self.old → IsPieceOf (disk (D.time dev.old) (partition.now, name.now)).content self.new }
         ensures held { HasPage self.old page → (D.time dev.new ≡ D.time dev.old) × (D.opened dev.new ≡ D.opened dev.old) }
+        // It was held, or is the first page that is held now.
+        ensures loads { OnOk result ((HasPage self.old page × (self.new ≡ self.old)) ⊎ ((self.new.page ≡ page) × (HasPage self.old page → ⊥))) }
         ensures page_size { self.new.page_size ≡ self.old.page_size }
         ensures unchanged { D.Tells → Unchanged (D.time dev.old) (D.time dev.new) }
         ensures entries { ReadsAtMost 1 (partition.now, name.now) (D.opened dev.old) (D.opened dev.new) }

@@ -1,32 +1,44 @@
 //! A plain, slow reading of sealed pages: how far given bytes are sealed, and the size at which a blob of them is adopted.
 //!
 //! It looks at all the bytes at once, and keeps nothing from page to page. The buffers are compared with it.
-ghost use Rattle.std.specs.Prelude.{◌≡◌, ◌+◌, ◌*◌, ◌≤◌, ◌<◌, ◌/◌, length, take, drop, IfOk};
-ghost use Rattle.sealed_pages.specs.View.{page_at};
+ghost use Rattle.std.specs.Prelude.{◌≡◌, ◌+◌, ◌*◌, ◌≤◌, ◌<◌, ◌/◌, if◌then◌else◌, length, IfOk};
 ghost use Rattle.sealed_pages.specs.Slots.{slot_length, page_length};
 ghost use Rattle.sealed_pages.specs.SealedPrefix.{sealed_prefix, adopted_size, pages_in};
-ghost use Rattle.sealed_pages.specs.Reading.{page_of};
 
-use crate::reading::matching_len;
 use std::alloc::{AllocError, Global};
 use value_codec::Seal;
 
-/// The bytes of a page that are there.
-fn page_bytes(page_size: u16, bytes: &[u8], page: usize) -> &[u8]
-    requires { page < pages_in page_size bytes.now }
-    ensures { result.now ≡ page_of page_size bytes.now page }
+/// Where a slot begins within its page.
+fn slot_start(page_size: u16, second: bool) -> usize
+    ensures { result ≡ page_size + (if second then 6 else 0) }
 {
-    let unit = usize::from(page_size) + 12;
-    let rest = &bytes[page * unit..];
-    &rest[..rest.len().min(unit)]
+    usize::from(page_size) + if second { 6 } else { 0 }
 }
 
 /// The length of a slot that matches, else 0.
+///
+/// The slot is found among all the bytes, and its numbers are spelled out byte by byte: nothing is shared with the buffers.
 pub fn slot_len<S: Seal>(page_size: u16, bytes: &[u8], page: usize, second: bool) -> usize
     requires { page < pages_in page_size bytes.now }
     ensures { result ≡ slot_length S.seal_of page_size bytes.now page second }
 {
-    matching_len::<S>(page_size, page_bytes(page_size, bytes, page), second)
+    let size = usize::from(page_size);
+    let start = page * (size + 12);
+    let at = start + slot_start(page_size, second);
+    if bytes.len() < at + 6 {
+        return 0;
+    }
+    let len = usize::from(bytes[at]) * 256 + usize::from(bytes[at + 1]);
+    if len > size {
+        return 0;
+    }
+    let high = u32::from(bytes[at + 2]) * 256 + u32::from(bytes[at + 3]);
+    let low = u32::from(bytes[at + 4]) * 256 + u32::from(bytes[at + 5]);
+    let seal = S::seal2(&bytes[at..at + 2], &bytes[start..start + len]);
+    if seal != high * 65536 + low {
+        return 0;
+    }
+    len
 }
 
 /// How far a page is sealed: the greater length of its matching slots, or 0.

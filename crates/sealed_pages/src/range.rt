@@ -128,7 +128,7 @@ pub fn read_pages<D: Device, S: Seal>(
     ensures bytes { D.Tells → OnOk result ((i : ℕ) → i < length out.old → slice_index out.new i ≡ view (disk (D.time dev.old) (partition.now, name.now)).content (place page_size (offset + i))) }
     ensures covered { D.Tells → OnOk result (IsCovered S.seal_of page_size (disk (D.time dev.old) (partition.now, name.now)).content offset (length out.old)) }
     ensures short { D.Tells → (p : ℕ) → IsErrOf result (RError.InvalidChecksum p) → IsShort S.seal_of page_size (disk (D.time dev.old) (partition.now, name.now)).content offset (length out.old) p }
-    ensures none { length out.old ≡ 0 → (D.time dev.new ≡ D.time dev.old) × (D.opened dev.new ≡ D.opened dev.old) }
+    ensures none { length out.old ≡ 0 → dev.new ≡ dev.old }
     ensures unchanged { D.Tells → Unchanged (D.time dev.old) (D.time dev.new) }
     ensures entries { ReadsAtMost (touched page_size offset (length out.old)) (partition.now, name.now) (D.opened dev.old) (D.opened dev.new) }
     ensures faults { D.faults dev.old ≤ D.faults dev.new }
@@ -214,6 +214,8 @@ pub fn read_opened<D: Device, S: Seal>(
     ensures checked { D.Tells → OnOk result (IsCovered S.seal_of page_size (disk (D.time dev.old) (partition.now, name.now)).content offset (length buf.old)) }
     ensures checksum { D.Tells → (p : ℕ) → IsErrOf result (RError.InvalidChecksum p) → IsShort S.seal_of page_size (disk (D.time dev.old) (partition.now, name.now)).content offset (length buf.old) p }
     ensures short { D.Tells → IsErrOf result BlobInsufficientLength → adopted_size S.seal_of page_size (disk (D.time dev.old) (partition.now, name.now)).content < offset + length buf.old }
+    ensures past { D.Tells → adopted_size S.seal_of page_size (disk (D.time dev.old) (partition.now, name.now)).content < offset + length buf.old
+        → (result ≡ Err RError.BlobInsufficientLength) ⊎ ((result ≡ Err RError.Mem) ⊎ ((result ≡ Err RError.Fault) × Rose (D.faults dev.old) (D.faults dev.new))) }
     ensures unchanged { D.Tells → Unchanged (D.time dev.old) (D.time dev.new) }
     ensures entries { OnlyRead (partition.now, name.now) (D.opened dev.old) (D.opened dev.new) }
     ensures faults { D.faults dev.old ≤ D.faults dev.new }

@@ -6,13 +6,13 @@ ghost use Rattle.blob_device.specs.Timeline.{disk};
 ghost use Rattle.blob_device.specs.Counts.{Rose};
 ghost use Rattle.sealed_pages.specs.Buffer.{extent};
 ghost use Rattle.sealed_pages.specs.Reading.{Unchanged};
-ghost use Rattle.sealed_pages.specs.Reads.{page_rest};
+ghost use Rattle.sealed_pages.specs.Reads.{IsWanted, IsShort, touched, EndsAtOrPast};
 ghost use Rattle.sealed_pages.specs.Slots.{page_length};
 ghost use Rattle.sealed_pages.specs.Entries.{IsOpenAt, ReadsAtMost};
 
-use crate::fetch::fetch_page;
 use crate::page_blob::drop_front;
 use crate::piece::Piece;
+use crate::reading::covered_len;
 use blob_device::{Device, RError};
 use std::alloc::Global;
 use std::marker::PhantomData;
@@ -21,7 +21,7 @@ use value_codec::Seal;
 /// Reads a blob whose bytes are all flushed, from a position on.
 ///
 /// A condition of its calls is that the blob was not changed since it was made. Each page is checked before its bytes are
-/// given.
+/// given, and judged only as far as bytes of it are wanted.
 #[derive(Drop)]
 pub struct PageReplay<S: Seal> {
     partition: String,
@@ -42,10 +42,10 @@ pub struct PageReplay<S: Seal> {
 }
 
 impl<S: Seal> PageReplay<S> {
-    ghost use Rattle.sealed_pages.specs.Readers.{reading, next_of, missing_of, IsReplayOf, SameReader, IsShortTo};
+    ghost use Rattle.sealed_pages.specs.Readers.{reading, next_of, missing_of, IsReplayOf, ReadsUnread, SameReader};
 
     /// A reader from 0 over a blob that ends at `end`, and has `size` bytes in pages. It reads pieces of about `buffer` bytes.
-    pub fn new(
+    pub(crate) fn new(
         alloc: Global,
         partition: &str,
         name: &[u8],
@@ -61,7 +61,7 @@ impl<S: Seal> PageReplay<S> {
         ensures end { IfOk result (λ r. (reading r).end ≡ end) }
         ensures size { IfOk result (λ r. (reading r).size ≡ size) }
         ensures begin { IfOk result (λ r. (reading r).at ≡ 0) }
-        ensures replays { IfOk result (λ r. (content : List ℕ) → IsReplayOf content (reading r)) }
+        ensures replays { IfOk result (λ r. (content : List ℕ) → IsReplayOf S.seal_of content (reading r)) }
         ensures cause { OnErr result (result ≡ Err RError.Mem) }
     {
         let partition = String::from_str(alloc, partition)?;
@@ -106,7 +106,7 @@ impl<S: Seal> PageReplay<S> {
     pub fn advance(&mut self, n: usize)
         requires { n ≤ length (reading self.old).bytes }
         ensures goes { reading self.new ≡ record (reading self.old) { at = (reading self.old).at + n; bytes = drop n (reading self.old).bytes } }
-        ensures replays { (content : List ℕ) → IsReplayOf content (reading self.old) → IsReplayOf content (reading self.new) }
+        ensures replays { (content : List ℕ) → IsReplayOf S.seal_of content (reading self.old) → IsReplayOf S.seal_of content (reading self.new) }
     {
         self.at += n as u64;
         self.used += n;
@@ -118,7 +118,7 @@ impl<S: Seal> PageReplay<S> {
         ensures cause { OnErr result (result ≡ Err RError.BlobInsufficientLength) }
         ensures goes { OnOk result (reading self.new ≡ record (reading self.old) { at = offset; bytes = [] }) }
         ensures stays { OnErr result (reading self.new ≡ reading self.old) }
-        ensures replays { (content : List ℕ) → IsReplayOf content (reading self.old) → IsReplayOf content (reading self.new) }
+        ensures replays { (content : List ℕ) → IsReplayOf S.seal_of content (reading self.old) → IsReplayOf S.seal_of content (reading self.new) }
     {
         if offset > self.size {
             return Err(RError::BlobInsufficientLength);
@@ -136,63 +136,82 @@ impl<S: Seal> PageReplay<S> {
         self.used = 0;
     }
 
-    // Adds the bytes of the next page, up to its end or the blob's.
-    fn fetch<D: Device>(&mut self, dev: &mut D) -> Result<(), RError>
+    // Adds the bytes of the next page that a matching slot covers, up to the blob's last. It has to cover the page up to its end
+    // or to byte `goal`.
+    fn fetch<D: Device>(&mut self, dev: &mut D, goal: u64) -> Result<(), RError>
         requires open { IsOpenAt (D.opened dev.old) (reading self.old).key (reading self.old).end }
-        requires more { next_of (reading self.old) < (reading self.old).size }
+        requires more { next_of (reading self.old) < goal }
+        requires within { goal ≤ (reading self.old).size }
         ensures same { SameReader (reading self.old) (reading self.new) }
-        ensures replays { D.Tells → IsReplayOf (disk (D.time dev.old) (reading self.old).key).content (reading self.old) → IsReplayOf (disk (D.time dev.old) (reading self.old).key).content (reading self.new) }
-        ensures next { OnOk result (length (reading self.new).bytes ≡ length (reading self.old).bytes + page_rest (reading self.old).page_size (reading self.old).size (next_of (reading self.old))) }
+        ensures replays { D.Tells → IsReplayOf S.seal_of (disk (D.time dev.old) (reading self.old).key).content (reading self.old) → IsReplayOf S.seal_of (disk (D.time dev.old) (reading self.old).key).content (reading self.new) }
+        ensures grows { OnOk result (next_of (reading self.old) < next_of (reading self.new)) }
+        // On to the page's end, or within it to the goal.
+        ensures reaches { OnOk result (EndsAtOrPast (reading self.old).page_size (next_of (reading self.old)) goal (next_of (reading self.new))) }
         ensures stays { OnErr result ((reading self.new).bytes ≡ (reading self.old).bytes) }
-        ensures short { D.Tells → IsReplayOf (disk (D.time dev.old) (reading self.old).key).content (reading self.old) → IsErrOf result (RError.InvalidChecksum (next_of (reading self.old) / (reading self.old).page_size))
-            → page_length S.seal_of (reading self.old).page_size (disk (D.time dev.old) (reading self.old).key).content (next_of (reading self.old) / (reading self.old).page_size)
-            < min (reading self.old).page_size ((reading self.old).size - next_of (reading self.old) / (reading self.old).page_size * (reading self.old).page_size) }
+        ensures short { D.Tells → IsReplayOf S.seal_of (disk (D.time dev.old) (reading self.old).key).content (reading self.old) → (p : ℕ) → IsErrOf result (RError.InvalidChecksum p)
+            → IsShort S.seal_of (reading self.old).page_size (disk (D.time dev.old) (reading self.old).key).content (next_of (reading self.old)) (goal - next_of (reading self.old)) p }
+        ensures once { OnOk result (ReadsUnread (reading self.old) (reading self.new) (D.opened dev.old) (D.opened dev.new)) }
+        ensures judged { (p : ℕ) → IsErrOf result (RError.InvalidChecksum p) → ReadsUnread (reading self.old) (reading self.new) (D.opened dev.old) (D.opened dev.new) }
         ensures unchanged { D.Tells → Unchanged (D.time dev.old) (D.time dev.new) }
         ensures entries { ReadsAtMost 1 (reading self.old).key (D.opened dev.old) (D.opened dev.new) }
         ensures faults { D.faults dev.old ≤ D.faults dev.new }
-        ensures cause { OnErr result ((result ≡ Err (RError.InvalidChecksum (next_of (reading self.old) / (reading self.old).page_size))) ⊎ ((result ≡ Err RError.Mem) ⊎ ((result ≡ Err RError.Fault) × Rose (D.faults dev.old) (D.faults dev.new)))) }
+        ensures cause { OnErr result (((p : ℕ) × (result ≡ Err (RError.InvalidChecksum p)) × IsWanted (reading self.old).page_size (next_of (reading self.old)) (goal - next_of (reading self.old)) p)
+            ⊎ ((result ≡ Err RError.Mem) ⊎ ((result ≡ Err RError.Fault) × Rose (D.faults dev.old) (D.faults dev.new)))) }
     {
+        let data = u64::from(self.page_size);
         let next = self.at + self.remaining() as u64;
-        fetch_page::<D, S>(
-            dev,
-            self.partition.as_str(),
-            self.name.as_slice(),
-            self.page_size,
-            self.end,
-            self.size,
-            next,
-            &mut self.piece,
-            &mut self.held,
-        )
+        let page = next / data;
+        let start = page * data;
+        let partition = self.partition.as_str();
+        let name = self.name.as_slice();
+        self.piece.load(dev, partition, name, self.end, page)?;
+        let found = self.piece.page_bytes(page);
+        let covered = covered_len::<S>(self.page_size, found);
+        let need = (goal - start).min(data) as usize;
+        if covered < need {
+            return Err(RError::InvalidChecksum(page));
+        }
+        let skip = (next - start) as usize;
+        let upto = (self.size - start).min(covered as u64) as usize;
+        self.held.extend_from_slice(&found[skip..upto])?;
+        Ok(())
     }
 
     /// Reads until n bytes are at hand, or all that are left. Whether n are.
     ///
-    /// `InvalidChecksum` names a page of the n bytes that no matching slot covers as far as the blob's size goes. After an error
-    /// the reader stands where it stood, and has at hand at least what it had.
+    /// `InvalidChecksum` names a page of the n bytes that no matching slot covers as far as they need it. After an error the
+    /// reader stands where it stood, and has at hand at least what it had.
     pub fn ensure<D: Device>(&mut self, dev: &mut D, n: usize) -> Result<bool, RError>
         requires { IsOpenAt (D.opened dev.old) (reading self.old).key (reading self.old).end }
         ensures at_hand { IfOk result (λ r. r ≡ true → n ≤ length (reading self.new).bytes) }
         ensures rest { IfOk result (λ r. r ≡ false → next_of (reading self.new) ≡ (reading self.new).size) }
         ensures exact { IfOk result (λ r. (r ≡ true) ↔ ((reading self.old).at + n ≤ (reading self.old).size)) }
+        ensures ready { n ≤ length (reading self.old).bytes → (dev.new ≡ dev.old) × (result ≡ Ok true) }
+        ensures within { next_of (reading self.new) ≤ (reading self.new).size }
         ensures same { SameReader (reading self.old) (reading self.new) }
         ensures grows { length (reading self.old).bytes ≤ length (reading self.new).bytes }
-        ensures replays { D.Tells → IsReplayOf (disk (D.time dev.old) (reading self.old).key).content (reading self.old) → IsReplayOf (disk (D.time dev.old) (reading self.old).key).content (reading self.new) }
-        ensures checksum { D.Tells → IsReplayOf (disk (D.time dev.old) (reading self.old).key).content (reading self.old) → (p : ℕ) → IsErrOf result (RError.InvalidChecksum p)
-            → IsShortTo S.seal_of (reading self.old).page_size (disk (D.time dev.old) (reading self.old).key).content (reading self.old).size (next_of (reading self.old)) (missing_of (reading self.old) n) p }
+        // What is at hand is what the blob has there, and it was checked: a matching slot covers it.
+        ensures replays { D.Tells → IsReplayOf S.seal_of (disk (D.time dev.old) (reading self.old).key).content (reading self.old) → IsReplayOf S.seal_of (disk (D.time dev.old) (reading self.old).key).content (reading self.new) }
+        ensures checksum { D.Tells → IsReplayOf S.seal_of (disk (D.time dev.old) (reading self.old).key).content (reading self.old) → (p : ℕ) → IsErrOf result (RError.InvalidChecksum p)
+            → IsShort S.seal_of (reading self.old).page_size (disk (D.time dev.old) (reading self.old).key).content (next_of (reading self.old)) (missing_of (reading self.old) n) p }
         ensures unchanged { D.Tells → Unchanged (D.time dev.old) (D.time dev.new) }
         ensures open { IsOpenAt (D.opened dev.new) (reading self.new).key (reading self.new).end }
-        // No more reads than wanted bytes that are not at hand, so none where all are.
-        ensures reads { ReadsAtMost (missing_of (reading self.old) n) (reading self.old).key (D.opened dev.old) (D.opened dev.new) }
+        // At most one read a page of which a wanted byte is not at hand, so none where all are.
+        ensures reads { ReadsAtMost (touched (reading self.old).page_size (next_of (reading self.old)) (missing_of (reading self.old) n)) (reading self.old).key (D.opened dev.old) (D.opened dev.new) }
+        // Calls that go on and on read each page at most once, as long as the device and memory serve.
+        ensures once { OnOk result (ReadsUnread (reading self.old) (reading self.new) (D.opened dev.old) (D.opened dev.new)) }
+        ensures judged { (p : ℕ) → IsErrOf result (RError.InvalidChecksum p) → ReadsUnread (reading self.old) (reading self.new) (D.opened dev.old) (D.opened dev.new) }
         ensures faults { D.faults dev.old ≤ D.faults dev.new }
-        ensures cause { OnErr result (((p : ℕ) × (result ≡ Err (RError.InvalidChecksum p))) ⊎ ((result ≡ Err RError.Mem) ⊎ ((result ≡ Err RError.Fault) × Rose (D.faults dev.old) (D.faults dev.new)))) }
+        ensures cause { OnErr result (((p : ℕ) × (result ≡ Err (RError.InvalidChecksum p)) × IsWanted (reading self.old).page_size (next_of (reading self.old)) (missing_of (reading self.old) n) p)
+            ⊎ ((result ≡ Err RError.Mem) ⊎ ((result ≡ Err RError.Fault) × Rose (D.faults dev.old) (D.faults dev.new)))) }
     {
         let left = self.size - self.at;
         let want = left.min(n as u64) as usize;
+        let goal = self.at + want as u64;
         self.let_go();
         let mut have = self.remaining();
         'fill: while have < want {
-            self.fetch(dev)?;
+            self.fetch(dev, goal)?;
             have = self.remaining();
         }
         Ok(n as u64 <= left)

@@ -1,5 +1,5 @@
 // A buffer over a blob without seals.
-ghost use Rattle.std.specs.Prelude.{◌≡◌, ◌≢◌, ◌+◌, ◌-◌, ◌≤◌, ◌<◌, ◌^◌, ◌↔◌, ◌⊎◌, max, min, Err, length, IfOk, OnOk, OnErr, Bool, true, false, ℕ, List, [], ◌∷◌, ◌++◌, IsTrue};
+ghost use Rattle.std.specs.Prelude.{◌≡◌, ◌≢◌, ◌+◌, ◌-◌, ◌≤◌, ◌<◌, ◌^◌, ◌↔◌, ◌⊎◌, max, min, Err, length, take, IfOk, IsOkAnd, OnOk, OnErr, Bool, true, false, ℕ, List, [], ◌∷◌, ◌++◌, IsTrue};
 ghost use Rattle.std.specs.Result.{IsErrOf};
 ghost use Rattle.blob_device.specs.declared.runtime.RError.TheVariants.{Fault, OffsetOverflow};
 ghost use Rattle.blob_device.specs.Disk.{Blob, Outside, settled_at};
@@ -7,7 +7,7 @@ ghost use Rattle.blob_device.specs.Change.{written};
 ghost use Rattle.blob_device.specs.Timeline.{disk};
 ghost use Rattle.blob_device.specs.Counts.{Rose};
 ghost use Rattle.sealed_pages.specs.Entries.{IsOpenAt, NoReads};
-ghost use Rattle.sealed_pages.specs.Sparing.{Lasts, Spares, Sparing};
+ghost use Rattle.sealed_pages.specs.Sparing.{Lasts, Spares, Sparing, Keeping};
 
 mod cutting;
 mod reads;
@@ -38,7 +38,7 @@ pub struct WriteBlob {
 }
 
 impl WriteBlob {
-    ghost use Rattle.sealed_pages.specs.Writing.{WriteBuffer, shown, blob_key, bytes_of, size_of, run_of, is_idle, is_unsettled, Joins, StaysBelow, Over};
+    ghost use Rattle.sealed_pages.specs.Writing.{WriteBuffer, shown, blob_key, bytes_of, size_of, run_of, is_idle, is_unsettled, Joins, StaysBelow, HoldsOnly, Over, KeepsSettled};
 
     /// Adopts an opened blob of this length. All of it counts as settled, since opening a blob settles it.
     pub fn adopt(
@@ -56,6 +56,7 @@ impl WriteBlob {
         ensures size { IfOk result (λ r. size_of (shown r) ≡ size) }
         ensures bytes { IfOk result (λ r. (content : List ℕ) → length content ≡ size → bytes_of (shown r) content ≡ content) }
         ensures over { IfOk result (λ r. (b : Blob) → b ≡ settled_at b.content → length b.content ≡ size → Over (shown r) b) }
+        ensures kept { IfOk result (λ r. (b : Blob) → b ≡ settled_at b.content → length b.content ≡ size → KeepsSettled (shown r) b) }
         ensures cause { OnErr result (result ≡ Err RError.Mem) }
     {
         let partition = String::from_str(alloc, partition)?;
@@ -109,6 +110,7 @@ impl WriteBlob {
         ensures idle { IfOk result (λ r. is_idle (shown r) ≡ true) }
         ensures same { IfOk result (λ r. shown r ≡ record (shown self) { end = size_of (shown self); pending = []; dirty = r.dirty }) }
         ensures dirty { IfOk result (λ r. r.dirty ≡ is_unsettled (shown self)) }
+        ensures stays { is_idle (shown self) ≡ true → IsOkAnd result (λ r. shown r ≡ shown self) }
         ensures untouched { is_idle (shown self) ≡ true → dev.new ≡ dev.old }
         ensures once { (D.time dev.new).calls ≤ (D.time dev.old).calls + 1 }
         ensures open { IfOk result (λ r. IsOpenAt (D.opened dev.new) (blob_key (shown r)) r.end) }
@@ -140,10 +142,14 @@ impl WriteBlob {
         // outlives each crash. No other blob changes.
         ensures spares { D.Tells → Sparing (Outside (run_of (shown self) ∷ [])) self.settled (blob_key (shown self)) (D.time dev.old) (D.time dev.new) }
         ensures over { D.Tells → Over (shown self) (disk (D.time dev.old) (blob_key (shown self))) → IfOk result (λ r. Over (shown r) (disk (D.time dev.new) (blob_key (shown self)))) }
+        // Where bytes were only added since the first `settled` bytes settled, each crash leaves these.
+        ensures lasts { D.Tells → KeepsSettled (shown self) (disk (D.time dev.old) (blob_key (shown self))) → Keeping (take self.settled (bytes_of (shown self) (disk (D.time dev.old) (blob_key (shown self))).content)) (blob_key (shown self)) (D.time dev.old) (D.time dev.new) }
+        ensures kept { D.Tells → KeepsSettled (shown self) (disk (D.time dev.old) (blob_key (shown self))) → IfOk result (λ r. KeepsSettled (shown r) (disk (D.time dev.new) (blob_key (shown self)))) }
         ensures bytes { D.Tells → IfOk result (λ r. bytes_of (shown r) (disk (D.time dev.new) (blob_key (shown self))).content ≡ bytes_of (shown self) (disk (D.time dev.old) (blob_key (shown self))).content) }
         ensures idle { IfOk result (λ r. is_idle (shown r) ≡ true) }
         ensures same { IfOk result (λ r. shown r ≡ record (shown self) { end = size_of (shown self); pending = []; dirty = is_unsettled (shown self) }) }
         ensures untouched { is_idle (shown self) ≡ true → dev.new ≡ dev.old }
+        ensures stays { is_idle (shown self) ≡ true → IsOkAnd result (λ r. shown r ≡ shown self) }
         ensures once { (D.time dev.new).calls ≤ (D.time dev.old).calls + 1 }
         ensures open { IfOk result (λ r. IsOpenAt (D.opened dev.new) (blob_key (shown r)) r.end) }
         ensures entries { NoReads (blob_key (shown self)) (D.opened dev.old) (D.opened dev.new) }
@@ -159,6 +165,7 @@ impl WriteBlob {
         ensures spares { D.Tells → Sparing (λ i. Unit {0}) self.settled (blob_key (shown self)) (D.time dev.old) (D.time dev.new) }
         ensures settles { D.Tells → OnOk result (disk (D.time dev.new) (blob_key (shown self)) ≡ settled_at (disk (D.time dev.old) (blob_key (shown self))).content) }
         ensures same { IfOk result (λ r. shown r ≡ record (shown self) { settled = self.end; dirty = false }) }
+        ensures once { (D.time dev.new).calls ≤ (D.time dev.old).calls + 1 }
         ensures open { IfOk result (λ r. IsOpenAt (D.opened dev.new) (blob_key (shown r)) r.end) }
         ensures entries { NoReads (blob_key (shown self)) (D.opened dev.old) (D.opened dev.new) }
         ensures faults { D.faults dev.old ≤ D.faults dev.new }
@@ -176,6 +183,8 @@ impl WriteBlob {
         requires open { IsOpenAt (D.opened dev.old) (blob_key (shown self)) self.end }
         ensures spares { D.Tells → Sparing (Outside (run_of (shown self) ∷ [])) self.settled (blob_key (shown self)) (D.time dev.old) (D.time dev.new) }
         ensures over { D.Tells → Over (shown self) (disk (D.time dev.old) (blob_key (shown self))) → IfOk result (λ r. Over (shown r) (disk (D.time dev.new) (blob_key (shown self)))) }
+        ensures lasts { D.Tells → KeepsSettled (shown self) (disk (D.time dev.old) (blob_key (shown self))) → Keeping (take self.settled (bytes_of (shown self) (disk (D.time dev.old) (blob_key (shown self))).content)) (blob_key (shown self)) (D.time dev.old) (D.time dev.new) }
+        ensures kept { D.Tells → Over (shown self) (disk (D.time dev.old) (blob_key (shown self))) → IfOk result (λ r. KeepsSettled (shown r) (disk (D.time dev.new) (blob_key (shown self)))) }
         // What was handed in is then in the blob, and outlives every crash.
         ensures settles { D.Tells → Over (shown self) (disk (D.time dev.old) (blob_key (shown self)))
             → OnOk result (disk (D.time dev.new) (blob_key (shown self)) ≡ settled_at (bytes_of (shown self) (disk (D.time dev.old) (blob_key (shown self))).content)) }
@@ -183,6 +192,9 @@ impl WriteBlob {
         ensures idle { IfOk result (λ r. is_unsettled (shown r) ≡ false) }
         ensures same { IfOk result (λ r. shown r ≡ record (shown self) { end = size_of (shown self); pending = []; settled = size_of (shown self); dirty = false }) }
         ensures untouched { is_unsettled (shown self) ≡ false → dev.new ≡ dev.old }
+        ensures stays { is_unsettled (shown self) ≡ false → IsOkAnd result (λ r. shown r ≡ shown self) }
+        // At most a write and a sync.
+        ensures calls { (D.time dev.new).calls ≤ (D.time dev.old).calls + 2 }
         ensures open { IfOk result (λ r. IsOpenAt (D.opened dev.new) (blob_key (shown r)) r.end) }
         ensures entries { NoReads (blob_key (shown self)) (D.opened dev.old) (D.opened dev.new) }
         ensures faults { D.faults dev.old ≤ D.faults dev.new }
@@ -207,6 +219,7 @@ impl WriteBlob {
         ensures run { IfOk result (λ r. ((r.at ≡ self.at) × (r.pending.items ≡ self.pending.items)) ⊎ ((r.at ≡ offset) × (r.pending.items ≡ []))) }
         ensures kept { Joins (shown self) offset → IfOk result (λ r. shown r ≡ shown self) }
         ensures untouched { (Joins (shown self) offset ⊎ (is_idle (shown self) ≡ true)) → dev.new ≡ dev.old }
+        ensures once { (D.time dev.new).calls ≤ (D.time dev.old).calls + 1 }
         ensures open { IfOk result (λ r. IsOpenAt (D.opened dev.new) (blob_key (shown r)) r.end) }
         ensures entries { NoReads (blob_key (shown self)) (D.opened dev.old) (D.opened dev.new) }
         ensures faults { D.faults dev.old ≤ D.faults dev.new }
@@ -245,14 +258,26 @@ impl WriteBlob {
         // had settled elsewhere outlives each crash. No other blob changes.
         ensures spares { D.Tells → Sparing (Outside ((offset, length bytes.now) ∷ run_of (shown self) ∷ [])) self.settled (blob_key (shown self)) (D.time dev.old) (D.time dev.new) }
         ensures over { D.Tells → Over (shown self) (disk (D.time dev.old) (blob_key (shown self))) → IfOk result (λ r. Over (shown r) (disk (D.time dev.new) (blob_key (shown self)))) }
+        // Bytes that settled outlive each crash below the place, where since then bytes were only added.
+        ensures lasts { D.Tells → KeepsSettled (shown self) (disk (D.time dev.old) (blob_key (shown self))) → Keeping (take (min self.settled offset) (bytes_of (shown self) (disk (D.time dev.old) (blob_key (shown self))).content)) (blob_key (shown self)) (D.time dev.old) (D.time dev.new) }
+        ensures kept { D.Tells → KeepsSettled (shown self) (disk (D.time dev.old) (blob_key (shown self))) → self.settled ≤ offset → IfOk result (λ r. KeepsSettled (shown r) (disk (D.time dev.new) (blob_key (shown self)))) }
         ensures bytes { D.Tells → IfOk result (λ r. bytes_of (shown r) (disk (D.time dev.new) (blob_key (shown self))).content ≡ written (bytes_of (shown self) (disk (D.time dev.old) (blob_key (shown self))).content) offset bytes.now) }
         ensures size { IfOk result (λ r. size_of (shown r) ≡ max (size_of (shown self)) (offset + length bytes.now)) }
         ensures same { IfOk result (λ r. shown r ≡ record (shown self) { end = r.end; at = r.at; pending = r.pending.items; dirty = r.dirty }) }
+        // The run holds nothing but what was handed in.
+        ensures run { IfOk result (λ r. HoldsOnly (shown self) offset bytes.now (shown r)) }
+        // Bytes that join the run reach the device only with all of it.
+        ensures joined { Joins (shown self) offset → IfOk result (λ r. (dev.new ≡ dev.old) ⊎ (r.pending.items ≡ [])) }
         ensures below { StaysBelow (shown self) offset (length bytes.now) → dev.new ≡ dev.old }
+        ensures nothing { is_idle (shown self) ≡ true → length bytes.now ≡ 0 → offset ≤ self.end → dev.new ≡ dev.old }
+        // At most a write of the run, where these bytes do not join it, and a write of the new one, where it is long enough.
+        ensures once { (Joins (shown self) offset ⊎ ((is_idle (shown self) ≡ true) ⊎ (length bytes.now < self.capacity))) → (D.time dev.new).calls ≤ (D.time dev.old).calls + 1 }
+        ensures calls { (D.time dev.new).calls ≤ (D.time dev.old).calls + 2 }
         ensures full { IfOk result (λ r. (length r.pending.items < r.capacity) ⊎ (is_idle (shown r) ≡ true)) }
         ensures open { IfOk result (λ r. IsOpenAt (D.opened dev.new) (blob_key (shown r)) r.end) }
         ensures entries { NoReads (blob_key (shown self)) (D.opened dev.old) (D.opened dev.new) }
         ensures overflow { IsErrOf result OffsetOverflow ↔ 2 ^ 64 ≤ offset + length bytes.now }
+        ensures refused { 2 ^ 64 ≤ offset + length bytes.now → dev.new ≡ dev.old }
         ensures faults { D.faults dev.old ≤ D.faults dev.new }
         ensures cause { OnErr result ((result ≡ Err RError.OffsetOverflow) ⊎ ((result ≡ Err RError.Mem) ⊎ ((result ≡ Err RError.Fault) × Rose (D.faults dev.old) (D.faults dev.new)))) }
     {
@@ -272,15 +297,23 @@ impl WriteBlob {
         requires open { IsOpenAt (D.opened dev.old) (blob_key (shown self)) self.end }
         ensures spares { D.Tells → Sparing (Outside ((size_of (shown self), length bytes.now) ∷ run_of (shown self) ∷ [])) self.settled (blob_key (shown self)) (D.time dev.old) (D.time dev.new) }
         ensures over { D.Tells → Over (shown self) (disk (D.time dev.old) (blob_key (shown self))) → IfOk result (λ r. Over (shown r.0) (disk (D.time dev.new) (blob_key (shown self)))) }
+        ensures lasts { D.Tells → KeepsSettled (shown self) (disk (D.time dev.old) (blob_key (shown self))) → Keeping (take self.settled (bytes_of (shown self) (disk (D.time dev.old) (blob_key (shown self))).content)) (blob_key (shown self)) (D.time dev.old) (D.time dev.new) }
+        ensures kept { D.Tells → KeepsSettled (shown self) (disk (D.time dev.old) (blob_key (shown self))) → IfOk result (λ r. KeepsSettled (shown r.0) (disk (D.time dev.new) (blob_key (shown self)))) }
         ensures bytes { D.Tells → IfOk result (λ r. bytes_of (shown r.0) (disk (D.time dev.new) (blob_key (shown self))).content ≡ bytes_of (shown self) (disk (D.time dev.old) (blob_key (shown self))).content ++ bytes.now) }
         ensures at { IfOk result (λ r. r.1 ≡ size_of (shown self)) }
         ensures size { IfOk result (λ r. size_of (shown r.0) ≡ size_of (shown self) + length bytes.now) }
         ensures same { IfOk result (λ r. shown r.0 ≡ record (shown self) { end = r.0.end; at = r.0.at; pending = r.0.pending.items; dirty = r.0.dirty }) }
+        ensures run { IfOk result (λ r. HoldsOnly (shown self) (size_of (shown self)) bytes.now (shown r.0)) }
+        ensures joined { Joins (shown self) (size_of (shown self)) → IfOk result (λ r. (dev.new ≡ dev.old) ⊎ (r.0.pending.items ≡ [])) }
         ensures below { StaysBelow (shown self) (size_of (shown self)) (length bytes.now) → dev.new ≡ dev.old }
+        ensures nothing { is_idle (shown self) ≡ true → length bytes.now ≡ 0 → dev.new ≡ dev.old }
+        ensures once { (Joins (shown self) (size_of (shown self)) ⊎ ((is_idle (shown self) ≡ true) ⊎ (length bytes.now < self.capacity))) → (D.time dev.new).calls ≤ (D.time dev.old).calls + 1 }
+        ensures calls { (D.time dev.new).calls ≤ (D.time dev.old).calls + 2 }
         ensures full { IfOk result (λ r. (length r.0.pending.items < r.0.capacity) ⊎ (is_idle (shown r.0) ≡ true)) }
         ensures open { IfOk result (λ r. IsOpenAt (D.opened dev.new) (blob_key (shown r.0)) r.0.end) }
         ensures entries { NoReads (blob_key (shown self)) (D.opened dev.old) (D.opened dev.new) }
         ensures overflow { IsErrOf result OffsetOverflow ↔ 2 ^ 64 ≤ size_of (shown self) + length bytes.now }
+        ensures refused { 2 ^ 64 ≤ size_of (shown self) + length bytes.now → dev.new ≡ dev.old }
         ensures faults { D.faults dev.old ≤ D.faults dev.new }
         ensures cause { OnErr result ((result ≡ Err RError.OffsetOverflow) ⊎ ((result ≡ Err RError.Mem) ⊎ ((result ≡ Err RError.Fault) × Rose (D.faults dev.old) (D.faults dev.new)))) }
     {

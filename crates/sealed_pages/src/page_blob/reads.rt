@@ -4,14 +4,14 @@ ghost use Rattle.std.specs.Result.{IsErrOf};
 ghost use Rattle.blob_device.specs.declared.runtime.RError.TheVariants.{BlobInsufficientLength, OffsetOverflow};
 ghost use Rattle.blob_device.specs.Timeline.{disk};
 ghost use Rattle.blob_device.specs.Counts.{Rose};
-ghost use Rattle.sealed_pages.specs.Buffer.{key_of, size_of, bytes_of, IsBacked, IsSealed};
+ghost use Rattle.sealed_pages.specs.Buffer.{key_of, size_of, flushed_of, bytes_of, IsBacked, IsSealed};
 ghost use Rattle.sealed_pages.specs.Reading.{Unchanged};
 ghost use Rattle.sealed_pages.specs.SealedPrefix.{data_from, adopted_size, sealed_prefix};
 ghost use Rattle.sealed_pages.specs.Slots.{page_length};
 ghost use Rattle.sealed_pages.specs.Proven.{proven_prefix};
 ghost use Rattle.sealed_pages.specs.Reopening.{OnlySettles, StaysOpen};
 ghost use Rattle.sealed_pages.specs.View.{view};
-ghost use Rattle.sealed_pages.specs.Reads.{IsWanted, IsCovered, IsShort, IsHeld, touched, below};
+ghost use Rattle.sealed_pages.specs.Reads.{IsWanted, IsCovered, IsShort, IsHeld, PassesSize, touched, below};
 ghost use Rattle.sealed_pages.specs.Entries.{IsOpenAt, ReadsAtMost, NoReads};
 ghost use Rattle.sealed_pages.specs.ChanceSeal.{Sealing};
 ghost use Rattle.sealed_pages.specs.Flushing.{Alone};
@@ -64,8 +64,11 @@ impl<S: Seal> PageBlob<S> {
         ensures checked { D.Tells → OnOk result (IsCovered S.seal_of self.now.page_size (disk (D.time dev.old) (key_of (shown self.now))).content offset (below self.now.page_size self.now.first offset (length buf.old))) }
         ensures checksum { D.Tells → (p : ℕ) → IsErrOf result (RError.InvalidChecksum p)
             → IsShort S.seal_of self.now.page_size (disk (D.time dev.old) (key_of (shown self.now))).content offset (below self.now.page_size self.now.first offset (length buf.old)) p }
+        // No page of a sealed buffer is refused.
+        ensures whole { D.Tells → IsSealed S.seal_of (shown self.now) (disk (D.time dev.old) (key_of (shown self.now))) → (p : ℕ) → IsErrOf result (RError.InvalidChecksum p) → ⊥ }
         ensures overflow { IsErrOf result OffsetOverflow ↔ (2 ^ 64 ≤ offset + length buf.old) }
         ensures short { IsErrOf result BlobInsufficientLength ↔ ((offset + length buf.old < 2 ^ 64) × (size_of (shown self.now) < offset + length buf.old)) }
+        ensures refused { size_of (shown self.now) < offset + length buf.old → dev.new ≡ dev.old }
         ensures unchanged { D.Tells → Unchanged (D.time dev.old) (D.time dev.new) }
         // At most one read a page of which a wanted byte is not held.
         ensures reads { ReadsAtMost (touched self.now.page_size offset (below self.now.page_size self.now.first offset (length buf.old))) (key_of (shown self.now)) (D.opened dev.old) (D.opened dev.new) }
@@ -129,7 +132,11 @@ impl<S: Seal> PageBlob<S> {
         ensures checked { D.Tells → OnOk result (IsCovered S.seal_of page_size (disk (D.time dev.old) (partition.now, name.now)).content offset (length buf.old)) }
         ensures checksum { D.Tells → (p : ℕ) → IsErrOf result (RError.InvalidChecksum p) → IsShort S.seal_of page_size (disk (D.time dev.old) (partition.now, name.now)).content offset (length buf.old) p }
         ensures overflow { IsErrOf result OffsetOverflow ↔ (2 ^ 64 ≤ offset + length buf.old) }
-        ensures short { D.Tells → IsErrOf result BlobInsufficientLength → adopted_size S.seal_of page_size (disk (D.time dev.old) (partition.now, name.now)).content < offset + length buf.old }
+        ensures refused { 2 ^ 64 ≤ offset + length buf.old → dev.new ≡ dev.old }
+        // A range that passes the size is refused as too long, unless the size could not be learned.
+        ensures short { D.Tells → IsErrOf result BlobInsufficientLength → PassesSize S.seal_of page_size (disk (D.time dev.old) (partition.now, name.now)).content offset (length buf.old) }
+        ensures past { D.Tells → PassesSize S.seal_of page_size (disk (D.time dev.old) (partition.now, name.now)).content offset (length buf.old)
+            → (result ≡ Err RError.BlobInsufficientLength) ⊎ ((result ≡ Err RError.Mem) ⊎ ((result ≡ Err RError.Fault) × Rose (D.faults dev.old) (D.faults dev.new))) }
         ensures settles { D.Tells → OnlySettles (partition.now, name.now) (D.time dev.old) (D.time dev.new) }
         ensures entries { StaysOpen (partition.now, name.now) (D.opened dev.old) (D.opened dev.new) }
         ensures length { D.Tells → (n : ℕ) → IsOpenAt (D.opened dev.old) (partition.now, name.now) n → IsOpenAt (D.opened dev.new) (partition.now, name.now) n }
@@ -195,7 +202,13 @@ impl<S: Seal> PageBlob<S> {
         // What the reader gives is what the buffer means.
         ensures data { D.Tells → IsBacked (shown self) (disk (D.time dev.old) (key_of (shown self))).content
             → IfOk result (λ r. data_from self.page_size (view (disk (D.time dev.new) (key_of (shown self))).content) 0 (size_of (shown self)) ≡ bytes_of (shown self) (disk (D.time dev.old) (key_of (shown self))).content) }
-        ensures replays { IfOk result (λ r. (content : List ℕ) → IsReplayOf content (reading r.1)) }
+        // No page of a sealed buffer will be refused.
+        ensures whole { D.Tells → IsSealed S.seal_of (shown self) (disk (D.time dev.old) (key_of (shown self)))
+            → IfOk result (λ r. IsCovered S.seal_of self.page_size (disk (D.time dev.new) (key_of (shown self))).content 0 (size_of (shown self))) }
+        // Where all is flushed, no call of the device is made.
+        ensures idle { flushed_of (shown self) ≡ size_of (shown self) → dev.new ≡ dev.old }
+        ensures same { flushed_of (shown self) ≡ size_of (shown self) → IfOk result (λ r. shown r.0 ≡ shown self) }
+        ensures replays { IfOk result (λ r. (content : List ℕ) → IsReplayOf S.seal_of content (reading r.1)) }
         ensures begins { IfOk result (λ r. ((reading r.1).at ≡ 0) × ((reading r.1).size ≡ size_of (shown self))) }
         ensures over { IfOk result (λ r. ((reading r.1).key ≡ key_of (shown self)) × ((reading r.1).page_size ≡ self.page_size) × ((reading r.1).end ≡ r.0.end)) }
         ensures flushed { IfOk result (λ r. r.0.from ≡ length r.0.tip.items) }

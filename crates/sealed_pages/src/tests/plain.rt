@@ -26,7 +26,12 @@ fn reads_as(alloc: Global, bytes: &[u8], sealed: &[u8], size: u64) -> Result<boo
 }
 
 /// A page with these data bytes, a slot over the first, and a slot over all of them.
-fn page(alloc: Global, data: [u8; 4], first: &[u8], second: &[u8]) -> Result<Vec<u8>, AllocError>
+pub fn page(
+    alloc: Global,
+    data: [u8; 4],
+    first: &[u8],
+    second: &[u8],
+) -> Result<Vec<u8>, AllocError>
     requires first { length first.now ≤ 4 }
     requires second { length second.now ≤ 4 }
 {

@@ -7,6 +7,7 @@ ghost use Rattle.sealed_pages.specs.Writing.{shown, blob_key};
 use crate::WriteBlob;
 use blob_device::{CrashChoice, Device, Memory, RError};
 use std::alloc::{AllocError, Global};
+use std::process::Abort;
 use std::test::Fail;
 
 /// Opens the blob and adopts it.
@@ -16,6 +17,23 @@ fn adopted(alloc: Global, dev: &mut Memory, capacity: usize) -> Result<WriteBlob
     let size = dev.open_blob("p", b"w")?;
     let blob = WriteBlob::adopt(alloc, "p", b"w", size, capacity)?;
     Ok(blob)
+}
+
+/// Flushes, settles and cuts a buffer after three calls of the device.
+fn settled_once(rt: &impl Abort, blob: WriteBlob, dev: &mut Memory) -> Result<(), RError>
+    requires { IsOpenAt (memory_opened dev.old) (blob_key (shown blob)) blob.end }
+{
+    let blob = blob.flush(dev)?;
+    assert_eq!(rt; dev.calls(), 4);
+    assert!(rt; blob.needs_sync());
+    let blob = blob.sync(dev)?;
+    let blob = blob.sync(dev)?;
+    assert_eq!(rt; dev.calls(), 5);
+    assert!(rt; !blob.needs_sync());
+    let blob = blob.truncate(dev, 4)?;
+    assert_eq!(rt; blob.size(), 4);
+    assert!(rt; !blob.needs_sync());
+    Ok(())
 }
 
 #[test]
@@ -43,16 +61,7 @@ fn each_call_once(rt: HostRuntime) -> Result<(), Fail> {
     blob.read_at(&mut dev, 2, &mut buf)?;
     assert_eq!(rt; buf.as_slice(), b"xyz\0\0q".as_slice());
     assert_eq!(rt; dev.calls(), 3);
-    let blob = blob.flush(&mut dev)?;
-    assert_eq!(rt; dev.calls(), 4);
-    assert!(rt; blob.needs_sync());
-    let blob = blob.sync(&mut dev)?;
-    let blob = blob.sync(&mut dev)?;
-    assert_eq!(rt; dev.calls(), 5);
-    assert!(rt; !blob.needs_sync());
-    let blob = blob.truncate(&mut dev, 4)?;
-    assert_eq!(rt; blob.size(), 4);
-    assert!(rt; !blob.needs_sync());
+    settled_once(&rt, blob, &mut dev)?;
     let image = dev.pick_crash(alloc, CrashChoice::Mixed(5))?;
     let left = image.blob("p", b"w").unwrap_or(b"none");
     assert_eq!(rt; left, b"abxy".as_slice());

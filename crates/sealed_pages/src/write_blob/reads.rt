@@ -53,6 +53,7 @@ impl WriteBlob {
         ensures held { AllPending (shown self.now) offset (length buf.old) → dev.new ≡ dev.old }
         ensures overflow { IsErrOf result OffsetOverflow ↔ 2 ^ 64 ≤ offset + length buf.old }
         ensures short { IsErrOf result BlobInsufficientLength ↔ ((offset + length buf.old < 2 ^ 64) × (size_of (shown self.now) < offset + length buf.old)) }
+        ensures refused { size_of (shown self.now) < offset + length buf.old → dev.new ≡ dev.old }
         ensures faults { D.faults dev.old ≤ D.faults dev.new }
         ensures cause { OnErr result ((result ≡ Err RError.OffsetOverflow) ⊎ ((result ≡ Err RError.BlobInsufficientLength) ⊎ ((result ≡ Err RError.Mem) ⊎ ((result ≡ Err RError.Fault) × Rose (D.faults dev.old) (D.faults dev.new))))) }
     {

@@ -7,6 +7,7 @@ use Rattle.sealed_pages.specs.Shown.{shown}
 use Rattle.sealed_pages.specs.View.{view}
 use Rattle.sealed_pages.specs.SealedPrefix.{place}
 use Rattle.sealed_pages.proofs.Holding.{fit_room}
+use Rattle.sealed_pages.proofs.WholeLemmas.{whole_read}
 use Rattle.sealed_pages.proofs.ReadLemmas.{read_whole, put_tail, front_of}
 use Rattle.sealed_pages.proofs.page_blob.PageBlob.read_at.Goals as goal
 
@@ -37,3 +38,7 @@ returns-clause-bytes g c t =
     (c.copy_held.ensures ∙ (let e : length (take (length (c.read_pages.new.out ++ drop c.below_tip-below.result c.args.buf.now) - c.below_tip-below.result) (drop c.below_tip-below.result (c.read_pages.new.out ++ drop c.below_tip-below.result c.args.buf.now))) ≡ length c.args.buf.now - c.below_tip-below.result
     = omega (arith, length-take (length (c.read_pages.new.out ++ drop c.below_tip-below.result c.args.buf.now) - c.below_tip-below.result) (drop c.below_tip-below.result (c.read_pages.new.out ++ drop c.below_tip-below.result c.args.buf.now)), length-drop c.below_tip-below.result (c.read_pages.new.out ++ drop c.below_tip-below.result c.args.buf.now), all) in
     ap (λ (n : ℕ). take n (drop (c.args.offset + c.below_tip-below.result - c.args.self.now.first * c.args.self.now.page_size) c.args.self.now.tip.items)) e))
+
+pub returns-in_err-read_pages-clause-whole : goal.returns-in_err-read_pages-clause-whole
+returns-in_err-read_pages-clause-whole g c t sealed p e =
+    whole_read g.S.Seal.seal_of (shown c.args.self.now) _ _ sealed c.args.offset (length c.args.buf.now) p (returns-in_err-read_pages-clause-checksum g c t p e)

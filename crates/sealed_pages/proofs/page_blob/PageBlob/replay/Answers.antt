@@ -4,7 +4,9 @@ use Rattle.sealed_pages.specs.Buffer.{Buffer, key_of, size_of, bytes_of}
 use Rattle.sealed_pages.specs.Shown.{shown}
 use Rattle.sealed_pages.proofs.Holding.{holds_sealed, tip_stands, bytes_length}
 use Rattle.sealed_pages.proofs.Syncing.{flushed_bytes, flushed_backed}
+use Rattle.sealed_pages.specs.Reads.{IsCovered}
 use Rattle.sealed_pages.proofs.ReplayLemmas.{data_all}
+use Rattle.sealed_pages.proofs.WholeLemmas.{whole_covered}
 use Rattle.sealed_pages.proofs.page_blob.PageBlob.replay.Goals as goal
 
 pub returns-clause-sealed : goal.returns-clause-sealed
@@ -57,3 +59,9 @@ returns-clause-crashes g c t sealed =
     let u : Buffer = shown c.args.self in
     let b0 = disk (g.D.Device.time c.args.dev.now) (key_of (shown c.args.self)) in
     c.in_ok-this.ensures.told t (bytes_of u b0.content) sealed
+
+pub returns-clause-whole : goal.returns-clause-whole
+returns-clause-whole g c t sealed =
+    let b0 = disk (g.D.Device.time c.args.dev.now) (key_of (shown c.args.self)) in
+    subst (λ (x : ℕ). IsCovered g.S.Seal.seal_of x (disk (g.D.Device.time c.flush.new.dev) (key_of (shown c.args.self))).content 0 (size_of (shown c.args.self))) c.in_ok-this.ensures.page_size
+    (whole_covered g.S.Seal.seal_of (shown c.in_ok-this.this) (bytes_of (shown c.args.self) b0.content) _ (c.in_ok-this.ensures.done t (bytes_of (shown c.args.self) b0.content) sealed) (size_of (shown c.args.self)) (omega (arith, c.in_ok-this.ensures.flushed, c.in_ok-this.ensures.size)))

@@ -1,6 +1,7 @@
-use Rattle.std.proofs.Common.{◌≡◌, ◌∙◌, length}
+use Rattle.std.proofs.Common.{◌≡◌, ◌∙◌, ℕ, min, take, length, subst, arith}
 use Rattle.blob_device.specs.Timeline.{disk}
-use Rattle.sealed_pages.specs.Writing.{shown, blob_key}
+use Rattle.sealed_pages.specs.Sparing.{Keeping}
+use Rattle.sealed_pages.specs.Writing.{shown, blob_key, bytes_of}
 use Rattle.sealed_pages.proofs.Looking.{content_length}
 use Rattle.sealed_pages.proofs.WritingLemmas.{written_last}
 use Rattle.sealed_pages.proofs.write_blob.WriteBlob.append.Goals as goal
@@ -10,3 +11,13 @@ returns-in-Ok-clause-bytes g c t =
     let long : length (disk (g.D.Device.time c.args.dev.now) (blob_key (shown c.args.self))).content ≡ c.args.self.end
     = content_length (g.D.Device.opened c.args.dev.now) (blob_key (shown c.args.self)) c.args.self.end _ _ (g.met.D.Device.opened_stands t c.args.dev.now (blob_key (shown c.args.self))) c.requires.«open» in
     c.in-Ok.ensures.bytes t ∙ written_last (shown c.args.self) (disk (g.D.Device.time c.args.dev.now) (blob_key (shown c.args.self))).content c.args.bytes.now c.size-at.result long c.size-at.ensures
+
+pub returns-in-Ok-clause-lasts : goal.returns-in-Ok-clause-lasts
+returns-in-Ok-clause-lasts g c t kept =
+    let same : min c.args.self.settled c.size-at.result ≡ c.args.self.settled = omega (arith, c.size-at.ensures, c.args.self.order) in
+    subst (λ (n : ℕ). Keeping (take n (bytes_of (shown c.args.self) (disk (g.D.Device.time c.args.dev.now) (blob_key (shown c.args.self))).content)) (blob_key (shown c.args.self)) (g.D.Device.time c.args.dev.now) (g.D.Device.time c.write_at.new.dev)) same (c.in-Ok.ensures.lasts t kept)
+
+pub returns-in-Err-clause-lasts : goal.returns-in-Err-clause-lasts
+returns-in-Err-clause-lasts g c t kept =
+    let same : min c.args.self.settled c.size-at.result ≡ c.args.self.settled = omega (arith, c.size-at.ensures, c.args.self.order) in
+    subst (λ (n : ℕ). Keeping (take n (bytes_of (shown c.args.self) (disk (g.D.Device.time c.args.dev.now) (blob_key (shown c.args.self))).content)) (blob_key (shown c.args.self)) (g.D.Device.time c.args.dev.now) (g.D.Device.time c.write_at.new.dev)) same (c.in-Err.ensures.lasts t kept)

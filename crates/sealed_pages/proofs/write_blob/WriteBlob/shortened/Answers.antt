@@ -5,7 +5,7 @@ use Rattle.blob_device.specs.Timeline.{disk}
 use Rattle.blob_device.proofs.Moments.{ok_blob}
 use Rattle.sealed_pages.specs.Writing.{shown, blob_key}
 use Rattle.sealed_pages.proofs.Looking.{content_length}
-use Rattle.sealed_pages.proofs.SparingLemmas.{sparing_resize, passes_at}
+use Rattle.sealed_pages.proofs.SparingLemmas.{loose_start, loose_resize, sparing_resize, passes_at}
 use Rattle.sealed_pages.proofs.WriteLemmas.{resized_within}
 use Rattle.sealed_pages.proofs.WritingLemmas.{cut_part, cut_at, cut_open}
 use Rattle.sealed_pages.proofs.write_blob.WriteBlob.shortened.Goals as goal
@@ -35,3 +35,12 @@ returns-clause-open g c = cut_open c.as_str.ensures.value c.as_slice.ensures.val
 
 pub returns-clause-entries : goal.returns-clause-entries
 returns-clause-entries g c = cut_at c.as_str.ensures.value c.as_slice.ensures.value (g.D.Device.opened c.args.dev.now) (g.D.Device.opened c.resize.new.self) c.args.self.end c.requires.«open» c.args.len c.in_ok-resize.ensures.opened
+
+pub returns-in_err-resize-clause-loose : goal.returns-in_err-resize-clause-loose
+returns-in_err-resize-clause-loose g c t = loose_resize (blob_key (shown c.args.self)) (g.D.Device.time c.args.dev.now) (g.D.Device.time c.resize.new.self) c.args.len _ (passes_at c.as_str.ensures.value c.as_slice.ensures.value (c.resize.ensures.told t))
+
+pub returns-clause-loose : goal.returns-clause-loose
+returns-clause-loose g c t = loose_resize (blob_key (shown c.args.self)) (g.D.Device.time c.args.dev.now) (g.D.Device.time c.resize.new.self) c.args.len _ (passes_at c.as_str.ensures.value c.as_slice.ensures.value (c.resize.ensures.told t))
+
+pub returns-then-self-len-clause-loose : goal.returns-then-self-len-clause-loose
+returns-then-self-len-clause-loose g c t = loose_start (λ (i : ℕ). Unit {0}) (blob_key (shown c.args.self)) (g.D.Device.time c.args.dev.now)

@@ -1,9 +1,11 @@
-use Rattle.std.proofs.Common.{◌≡◌, ◌∙◌, ℕ, length, min, take, ap, subst, arith}
-use Rattle.blob_device.specs.Disk.{Key, settled_at}
+use Rattle.std.proofs.Common.{◌≡◌, ◌<◌, ◌∙◌, ◌∷◌, [], ℕ, length, min, take, ap, subst, arith}
+use Rattle.blob_device.specs.Disk.{Key, Outside, settled_at}
 use Rattle.blob_device.specs.Timeline.{disk}
-use Rattle.sealed_pages.specs.Writing.{WriteBuffer, shown, blob_key, bytes_of}
+use Rattle.sealed_pages.specs.Writing.{WriteBuffer, shown, blob_key, bytes_of, run_of}
 use Rattle.sealed_pages.proofs.Looking.{content_length}
-use Rattle.sealed_pages.proofs.WritingLemmas.{cut_first, cut_second, cut_third, cut_settles, cut_bytes, cut_over}
+use Rattle.sealed_pages.proofs.LastingLemmas.{keeping_of, kept_clean}
+use Rattle.sealed_pages.proofs.SparingLemmas.{sparing_start, loose_start}
+use Rattle.sealed_pages.proofs.WritingLemmas.{loose_first, loose_second, loose_third, cut_first, cut_second, cut_third, cut_settles, cut_bytes, cut_over}
 use Rattle.sealed_pages.proofs.write_blob.WriteBlob.truncate.Goals as goal
 
 pub returns-in_err-this-clause-spares : goal.returns-in_err-this-clause-spares
@@ -98,3 +100,61 @@ returns-clause-bytes g c t =
     (subst (λ (q : Key). bytes_of v (disk (g.D.Device.time c.flushed.new.dev) q).content ≡ bytes_of w (disk (g.D.Device.time c.args.dev.now) q).content) key_w (c.in_ok-this.ensures.bytes t))
     (subst (λ (q : Key). (disk (g.D.Device.time c.shortened.new.dev) q).content ≡ take c.args.len (disk (g.D.Device.time c.flushed.new.dev) q).content) key_v (c.in_ok-this-2.ensures.content t))
     (subst (λ (q : Key). disk (g.D.Device.time c.rested.new.dev) q ≡ settled_at (disk (g.D.Device.time c.shortened.new.dev) q).content) key_s (c.in_ok-rested.ensures.settles t))
+
+pub returns-then-len-size-clause-lasts : goal.returns-then-len-size-clause-lasts
+returns-then-len-size-clause-lasts g c t kept = keeping_of (shown c.args.self) (λ (i : ℕ). (i < c.args.len) × Outside (run_of (shown c.args.self) ∷ []) i) (min c.args.self.settled c.args.len) (min c.args.self.settled c.args.len) (blob_key (shown c.args.self)) (g.D.Device.time c.args.dev.now) (g.D.Device.time c.args.dev.now) kept (omega arith) (omega arith) (λ i lt. (omega (arith, lt), kept.apart i (omega (arith, lt)))) (sparing_start (λ (i : ℕ). (i < c.args.len) × Outside (run_of (shown c.args.self) ∷ []) i) (min c.args.self.settled c.args.len) (blob_key (shown c.args.self)) (g.D.Device.time c.args.dev.now))
+
+pub returns-in_err-this-clause-lasts : goal.returns-in_err-this-clause-lasts
+returns-in_err-this-clause-lasts g c t kept = keeping_of (shown c.args.self) (λ (i : ℕ). (i < c.args.len) × Outside (run_of (shown c.args.self) ∷ []) i) (min c.args.self.settled c.args.len) (min c.args.self.settled c.args.len) (blob_key (shown c.args.self)) (g.D.Device.time c.args.dev.now) (g.D.Device.time c.flushed.new.dev) kept (omega arith) (omega arith) (λ i lt. (omega (arith, lt), kept.apart i (omega (arith, lt)))) (returns-in_err-this-clause-spares g c t)
+
+pub returns-in_err-this-2-clause-lasts : goal.returns-in_err-this-2-clause-lasts
+returns-in_err-this-2-clause-lasts g c t kept = keeping_of (shown c.args.self) (λ (i : ℕ). (i < c.args.len) × Outside (run_of (shown c.args.self) ∷ []) i) (min c.args.self.settled c.args.len) (min c.args.self.settled c.args.len) (blob_key (shown c.args.self)) (g.D.Device.time c.args.dev.now) (g.D.Device.time c.shortened.new.dev) kept (omega arith) (omega arith) (λ i lt. (omega (arith, lt), kept.apart i (omega (arith, lt)))) (returns-in_err-this-2-clause-spares g c t)
+
+pub returns-in_err-rested-clause-lasts : goal.returns-in_err-rested-clause-lasts
+returns-in_err-rested-clause-lasts g c t kept = keeping_of (shown c.args.self) (λ (i : ℕ). (i < c.args.len) × Outside (run_of (shown c.args.self) ∷ []) i) (min c.args.self.settled c.args.len) (min c.args.self.settled c.args.len) (blob_key (shown c.args.self)) (g.D.Device.time c.args.dev.now) (g.D.Device.time c.rested.new.dev) kept (omega arith) (omega arith) (λ i lt. (omega (arith, lt), kept.apart i (omega (arith, lt)))) (returns-in_err-rested-clause-spares g c t)
+
+pub returns-clause-lasts : goal.returns-clause-lasts
+returns-clause-lasts g c t kept = keeping_of (shown c.args.self) (λ (i : ℕ). (i < c.args.len) × Outside (run_of (shown c.args.self) ∷ []) i) (min c.args.self.settled c.args.len) (min c.args.self.settled c.args.len) (blob_key (shown c.args.self)) (g.D.Device.time c.args.dev.now) (g.D.Device.time c.rested.new.dev) kept (omega arith) (omega arith) (λ i lt. (omega (arith, lt), kept.apart i (omega (arith, lt)))) (returns-clause-spares g c t)
+
+pub returns-then-len-size-clause-loose : goal.returns-then-len-size-clause-loose
+returns-then-len-size-clause-loose g c t = loose_start (Outside (run_of (shown c.args.self) ∷ [])) (blob_key (shown c.args.self)) (g.D.Device.time c.args.dev.now)
+
+pub returns-in_err-this-clause-loose : goal.returns-in_err-this-clause-loose
+returns-in_err-this-clause-loose g c t = loose_first (shown c.args.self) c.args.len (shown c.cut_run.result) (g.D.Device.time c.args.dev.now) (g.D.Device.time c.flushed.new.dev) c.cut_run.ensures (c.flushed.ensures.spares t)
+
+pub returns-in_err-this-2-clause-loose : goal.returns-in_err-this-2-clause-loose
+returns-in_err-this-2-clause-loose g c t =
+    let key_v : blob_key (shown c.in_ok-this.this) ≡ blob_key (shown c.args.self) = ap blob_key c.in_ok-this.ensures.same ∙ ap blob_key c.cut_run.ensures in
+    loose_second (shown c.args.self) c.args.len (shown c.in_ok-this.this) (g.D.Device.time c.args.dev.now) (g.D.Device.time c.flushed.new.dev) (g.D.Device.time c.shortened.new.dev) key_v (loose_first (shown c.args.self) c.args.len (shown c.cut_run.result) (g.D.Device.time c.args.dev.now) (g.D.Device.time c.flushed.new.dev) c.cut_run.ensures (c.flushed.ensures.spares t)) (c.shortened.ensures.loose t)
+
+pub returns-in_err-rested-clause-loose : goal.returns-in_err-rested-clause-loose
+returns-in_err-rested-clause-loose g c t =
+    let key_v : blob_key (shown c.in_ok-this.this) ≡ blob_key (shown c.args.self) = ap blob_key c.in_ok-this.ensures.same ∙ ap blob_key c.cut_run.ensures in
+    let key_s : blob_key (shown c.in_ok-this-2.this) ≡ blob_key (shown c.args.self) = ap blob_key c.in_ok-this-2.ensures.same ∙ key_v in
+    loose_third (shown c.args.self) c.args.len (shown c.in_ok-this-2.this) (g.D.Device.time c.args.dev.now) (g.D.Device.time c.shortened.new.dev) (g.D.Device.time c.rested.new.dev) key_s (loose_second (shown c.args.self) c.args.len (shown c.in_ok-this.this) (g.D.Device.time c.args.dev.now) (g.D.Device.time c.flushed.new.dev) (g.D.Device.time c.shortened.new.dev) key_v (loose_first (shown c.args.self) c.args.len (shown c.cut_run.result) (g.D.Device.time c.args.dev.now) (g.D.Device.time c.flushed.new.dev) c.cut_run.ensures (c.flushed.ensures.spares t)) (c.shortened.ensures.loose t)) (c.rested.ensures.spares t)
+
+pub returns-clause-loose : goal.returns-clause-loose
+returns-clause-loose g c t =
+    let key_v : blob_key (shown c.in_ok-this.this) ≡ blob_key (shown c.args.self) = ap blob_key c.in_ok-this.ensures.same ∙ ap blob_key c.cut_run.ensures in
+    let key_s : blob_key (shown c.in_ok-this-2.this) ≡ blob_key (shown c.args.self) = ap blob_key c.in_ok-this-2.ensures.same ∙ key_v in
+    loose_third (shown c.args.self) c.args.len (shown c.in_ok-this-2.this) (g.D.Device.time c.args.dev.now) (g.D.Device.time c.shortened.new.dev) (g.D.Device.time c.rested.new.dev) key_s (loose_second (shown c.args.self) c.args.len (shown c.in_ok-this.this) (g.D.Device.time c.args.dev.now) (g.D.Device.time c.flushed.new.dev) (g.D.Device.time c.shortened.new.dev) key_v (loose_first (shown c.args.self) c.args.len (shown c.cut_run.result) (g.D.Device.time c.args.dev.now) (g.D.Device.time c.flushed.new.dev) c.cut_run.ensures (c.flushed.ensures.spares t)) (c.shortened.ensures.loose t)) (c.rested.ensures.spares t)
+
+pub returns-clause-kept : goal.returns-clause-kept
+returns-clause-kept g c t kept =
+    let u : WriteBuffer = shown c.args.self in
+    let w : WriteBuffer = shown c.cut_run.result in
+    let v : WriteBuffer = shown c.in_ok-this.this in
+    let s : WriteBuffer = shown c.in_ok-this-2.this in
+    let key_w : blob_key w ≡ blob_key u = ap blob_key c.cut_run.ensures in
+    let key_v : blob_key v ≡ blob_key u = ap blob_key c.in_ok-this.ensures.same ∙ key_w in
+    let key_s : blob_key s ≡ blob_key u = ap blob_key c.in_ok-this-2.ensures.same ∙ key_v in
+    let long0 = content_length (g.D.Device.opened c.args.dev.now) (blob_key u) c.args.self.end _ _ (g.met.D.Device.opened_stands t c.args.dev.now (blob_key u)) c.requires.«open» in
+    let long1 = content_length (g.D.Device.opened c.flushed.new.dev) (blob_key v) c.in_ok-this.this.end _ _ (g.met.D.Device.opened_stands t c.flushed.new.dev (blob_key v)) c.in_ok-this.ensures.«open» in
+    kept_clean (shown c.in_ok-rested.field-0) (disk (g.D.Device.time c.rested.new.dev) (blob_key (shown c.args.self)))
+    (cut_over u c.args.len w v s (shown c.in_ok-rested.field-0) c.in_ok-this.this.dirty c.in_ok-this-2.this.dirty (omega (arith, c.size.ensures, c.if-len-size.false)) c.cut_run.ensures c.in_ok-this.ensures.same c.in_ok-this-2.ensures.same c.in_ok-rested.ensures.same
+    (disk (g.D.Device.time c.args.dev.now) (blob_key u)).content (disk (g.D.Device.time c.flushed.new.dev) (blob_key u)) (disk (g.D.Device.time c.shortened.new.dev) (blob_key u)) (disk (g.D.Device.time c.rested.new.dev) (blob_key u))
+    long0 c.in_ok-this.ensures.idle (subst (λ (q : Key). length (disk (g.D.Device.time c.flushed.new.dev) q).content ≡ c.in_ok-this.this.end) key_v long1)
+    (subst (λ (q : Key). bytes_of v (disk (g.D.Device.time c.flushed.new.dev) q).content ≡ bytes_of w (disk (g.D.Device.time c.args.dev.now) q).content) key_w (c.in_ok-this.ensures.bytes t))
+    (subst (λ (q : Key). (disk (g.D.Device.time c.shortened.new.dev) q).content ≡ take c.args.len (disk (g.D.Device.time c.flushed.new.dev) q).content) key_v (c.in_ok-this-2.ensures.content t))
+    (subst (λ (q : Key). disk (g.D.Device.time c.rested.new.dev) q ≡ settled_at (disk (g.D.Device.time c.shortened.new.dev) q).content) key_s (c.in_ok-rested.ensures.settles t)))
+    (ap (λ (x : WriteBuffer). x.dirty) c.in_ok-rested.ensures.same) (ap (λ (x : WriteBuffer). x.pending) c.in_ok-rested.ensures.same ∙ ap (λ (x : WriteBuffer). x.pending) c.in_ok-this-2.ensures.same ∙ ap (λ (x : WriteBuffer). x.pending) c.in_ok-this.ensures.same)

@@ -1,9 +1,12 @@
-use Rattle.std.proofs.Common.{rules, ◌≡◌, ◌∷◌, [], ◌∙◌, length, ap, subst, arith}
+use Rattle.std.proofs.Common.{rules, ◌≡◌, ◌⊎◌, true, ◌∷◌, [], ◌∙◌, inl, inr, ℕ, List, min, get_or, take, length, ap, subst, arith}
 use Rattle.blob_device.specs.Disk.{Key, Outside}
 use Rattle.blob_device.specs.Timeline.{disk}
-use Rattle.sealed_pages.specs.Writing.{WriteBuffer, shown, blob_key, bytes_of, run_of}
-use Rattle.sealed_pages.proofs.SparingLemmas.{sparing_weaker}
-use Rattle.sealed_pages.proofs.WritingLemmas.{put_bytes, put_below, put_spares}
+use Rattle.sealed_pages.specs.Writing.{WriteBuffer, shown, blob_key, bytes_of, run_of, is_idle, Joins}
+use Rattle.blob_device.specs.Keeps.{Keeps}
+use Rattle.blob_device.proofs.Places.{written_out}
+use Rattle.sealed_pages.proofs.LastingLemmas.{keeping_of, keeping_now, kept_after, apart_after, put_holds}
+use Rattle.sealed_pages.proofs.SparingLemmas.{sparing_start, sparing_weaker}
+use Rattle.sealed_pages.proofs.WritingLemmas.{put_joins, put_bytes, put_below, put_spares}
 use Rattle.sealed_pages.proofs.write_blob.WriteBlob.write_at.Goals as goal
 
 pub returns-in_err-this-clause-spares : goal.returns-in_err-this-clause-spares
@@ -58,3 +61,52 @@ returns-clause-below g c below =
     let len : c.len.result ≡ length c.in_ok-this-2.this.pending.items = search rules in
     absurd (put_below (shown c.args.self) (shown c.in_ok-this.this) (shown c.in_ok-this-2.this) c.args.offset c.args.bytes.now c.in_ok-this.ensures.joined c.in_ok-this.ensures.run c.in_ok-this-2.ensures
     c.len.result len (ap (λ (x : WriteBuffer). x.capacity) c.in_ok-this-2.ensures ∙ ap (λ (x : WriteBuffer). x.capacity) c.in_ok-this.ensures.same) c.in_ok-this.ensures.kept below c.if-len-this.false)
+
+pub returns-then-bytes-offset-clause-lasts : goal.returns-then-bytes-offset-clause-lasts
+returns-then-bytes-offset-clause-lasts g c t kept = keeping_of (shown c.args.self) (Outside ((c.args.offset, length c.args.bytes.now) ∷ run_of (shown c.args.self) ∷ [])) c.args.self.settled (min c.args.self.settled c.args.offset) (blob_key (shown c.args.self)) (g.D.Device.time c.args.dev.now) (g.D.Device.time c.args.dev.now) kept (omega arith) (omega arith) (λ i lt. (inl (omega (arith, lt)), kept.apart i (omega (arith, lt)))) (sparing_start (Outside ((c.args.offset, length c.args.bytes.now) ∷ run_of (shown c.args.self) ∷ [])) c.args.self.settled (blob_key (shown c.args.self)) (g.D.Device.time c.args.dev.now))
+
+pub returns-in_err-this-clause-lasts : goal.returns-in_err-this-clause-lasts
+returns-in_err-this-clause-lasts g c t kept = keeping_of (shown c.args.self) (Outside ((c.args.offset, length c.args.bytes.now) ∷ run_of (shown c.args.self) ∷ [])) c.args.self.settled (min c.args.self.settled c.args.offset) (blob_key (shown c.args.self)) (g.D.Device.time c.args.dev.now) (g.D.Device.time c.moved.new.dev) kept (omega arith) (omega arith) (λ i lt. (inl (omega (arith, lt)), kept.apart i (omega (arith, lt)))) (returns-in_err-this-clause-spares g c t)
+
+pub returns-in_err-this-2-clause-lasts : goal.returns-in_err-this-2-clause-lasts
+returns-in_err-this-2-clause-lasts g c t kept = keeping_of (shown c.args.self) (Outside ((c.args.offset, length c.args.bytes.now) ∷ run_of (shown c.args.self) ∷ [])) c.args.self.settled (min c.args.self.settled c.args.offset) (blob_key (shown c.args.self)) (g.D.Device.time c.args.dev.now) (g.D.Device.time c.moved.new.dev) kept (omega arith) (omega arith) (λ i lt. (inl (omega (arith, lt)), kept.apart i (omega (arith, lt)))) (returns-in_err-this-2-clause-spares g c t)
+
+pub returns-then-len-this-clause-lasts : goal.returns-then-len-this-clause-lasts
+returns-then-len-this-clause-lasts g c t kept = keeping_of (shown c.args.self) (Outside ((c.args.offset, length c.args.bytes.now) ∷ run_of (shown c.args.self) ∷ [])) c.args.self.settled (min c.args.self.settled c.args.offset) (blob_key (shown c.args.self)) (g.D.Device.time c.args.dev.now) (g.D.Device.time c.moved.new.dev) kept (omega arith) (omega arith) (λ i lt. (inl (omega (arith, lt)), kept.apart i (omega (arith, lt)))) (returns-then-len-this-clause-spares g c t)
+
+pub returns-in_err-flushed-clause-lasts : goal.returns-in_err-flushed-clause-lasts
+returns-in_err-flushed-clause-lasts g c t kept = keeping_of (shown c.args.self) (Outside ((c.args.offset, length c.args.bytes.now) ∷ run_of (shown c.args.self) ∷ [])) c.args.self.settled (min c.args.self.settled c.args.offset) (blob_key (shown c.args.self)) (g.D.Device.time c.args.dev.now) (g.D.Device.time c.flushed.new.dev) kept (omega arith) (omega arith) (λ i lt. (inl (omega (arith, lt)), kept.apart i (omega (arith, lt)))) (returns-in_err-flushed-clause-spares g c t)
+
+pub returns-clause-lasts : goal.returns-clause-lasts
+returns-clause-lasts g c t kept = keeping_of (shown c.args.self) (Outside ((c.args.offset, length c.args.bytes.now) ∷ run_of (shown c.args.self) ∷ [])) c.args.self.settled (min c.args.self.settled c.args.offset) (blob_key (shown c.args.self)) (g.D.Device.time c.args.dev.now) (g.D.Device.time c.flushed.new.dev) kept (omega arith) (omega arith) (λ i lt. (inl (omega (arith, lt)), kept.apart i (omega (arith, lt)))) (returns-clause-spares g c t)
+
+pub returns-then-len-this-clause-run : goal.returns-then-len-this-clause-run
+returns-then-len-this-clause-run g c = put_holds (shown c.args.self) (shown c.in_ok-this.this) (shown c.in_ok-this-2.this) c.args.offset c.args.bytes.now c.in_ok-this.ensures.joined c.in_ok-this.ensures.run c.in_ok-this-2.ensures
+
+pub returns-then-len-this-clause-kept : goal.returns-then-len-this-clause-kept
+returns-then-len-this-clause-kept g c t kept far =
+    kept_after (shown c.args.self) (shown c.in_ok-this-2.this) (disk (g.D.Device.time c.args.dev.now) (blob_key (shown c.args.self))) (disk (g.D.Device.time c.moved.new.dev) (blob_key (shown c.args.self))) kept
+    (subst (λ (n : ℕ). Keeps (take n (bytes_of (shown c.args.self) (disk (g.D.Device.time c.args.dev.now) (blob_key (shown c.args.self))).content)) (disk (g.D.Device.time c.moved.new.dev) (blob_key (shown c.args.self)))) (omega (arith, far)) (keeping_now _ (blob_key (shown c.args.self)) (g.D.Device.time c.args.dev.now) (g.D.Device.time c.moved.new.dev) (returns-then-len-this-clause-lasts g c t kept)))
+    (ap (λ (x : WriteBuffer). x.settled) c.in_ok-this-2.ensures ∙ ap (λ (x : WriteBuffer). x.settled) c.in_ok-this.ensures.same)
+    (λ i lt. ap (λ (l : List ℕ). get_or l i 0) (returns-then-len-this-clause-bytes g c t) ∙ written_out (bytes_of (shown c.args.self) (disk (g.D.Device.time c.args.dev.now) (blob_key (shown c.args.self))).content) c.args.offset c.args.bytes.now i (inl (omega (arith, lt, far))))
+    (apart_after (shown c.args.self) (shown c.in_ok-this-2.this) c.args.offset c.args.bytes.now far kept.apart (returns-then-len-this-clause-run g c))
+
+pub returns-clause-kept : goal.returns-clause-kept
+returns-clause-kept g c t kept far =
+    let none : c.in_ok-flushed.field-0.pending.items ≡ [] = ap (λ (x : WriteBuffer). x.pending) c.in_ok-flushed.ensures.same in
+    kept_after (shown c.args.self) (shown c.in_ok-flushed.field-0) (disk (g.D.Device.time c.args.dev.now) (blob_key (shown c.args.self))) (disk (g.D.Device.time c.flushed.new.dev) (blob_key (shown c.args.self))) kept
+    (subst (λ (n : ℕ). Keeps (take n (bytes_of (shown c.args.self) (disk (g.D.Device.time c.args.dev.now) (blob_key (shown c.args.self))).content)) (disk (g.D.Device.time c.flushed.new.dev) (blob_key (shown c.args.self)))) (omega (arith, far)) (keeping_now _ (blob_key (shown c.args.self)) (g.D.Device.time c.args.dev.now) (g.D.Device.time c.flushed.new.dev) (returns-clause-lasts g c t kept)))
+    (ap (λ (x : WriteBuffer). x.settled) c.in_ok-flushed.ensures.same ∙ ap (λ (x : WriteBuffer). x.settled) c.in_ok-this-2.ensures ∙ ap (λ (x : WriteBuffer). x.settled) c.in_ok-this.ensures.same)
+    (λ i lt. ap (λ (l : List ℕ). get_or l i 0) (returns-clause-bytes g c t) ∙ written_out (bytes_of (shown c.args.self) (disk (g.D.Device.time c.args.dev.now) (blob_key (shown c.args.self))).content) c.args.offset c.args.bytes.now i (inl (omega (arith, lt, far))))
+    (apart_after (shown c.args.self) (shown c.in_ok-flushed.field-0) c.args.offset c.args.bytes.now far kept.apart (inr (inr none)))
+
+pub returns-clause-once : goal.returns-clause-once
+returns-clause-once g c few =
+    let len : c.len.result ≡ length c.in_ok-this-2.this.pending.items = search rules in
+    let capacity : c.in_ok-this-2.this.capacity ≡ c.args.self.capacity = ap (λ (x : WriteBuffer). x.capacity) c.in_ok-this-2.ensures ∙ ap (λ (x : WriteBuffer). x.capacity) c.in_ok-this.ensures.same in
+    let still : Joins (shown c.args.self) c.args.offset ⊎ (is_idle (shown c.args.self) ≡ true) = elim few [
+      | inl joins ↦ inl joins
+      | inr (inl idle) ↦ inr idle
+      | inr (inr short) ↦ inl (put_joins (shown c.args.self) (shown c.in_ok-this.this) (shown c.in_ok-this-2.this) c.args.offset c.args.bytes.now c.in_ok-this.ensures.joined c.in_ok-this.ensures.run c.in_ok-this-2.ensures c.len.result len capacity short c.if-len-this.false)
+    ] in
+    omega (arith, c.flushed.ensures.once, ap (λ d. (g.D.Device.time d).calls) (c.in_ok-this.ensures.untouched still))
