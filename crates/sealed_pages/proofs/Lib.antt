@@ -29,3 +29,5 @@ pub mod ReadLemmas
 pub mod Reopen
 pub mod PieceLemmas
 pub mod ReplayLemmas
+pub mod Fronts
+pub mod UnrecoveredLemmas

@@ -15,6 +15,8 @@ use Rattle.sealed_pages.proofs.Holding.{fit_room}
 use Rattle.sealed_pages.proofs.Looking.{unchanged_now}
 use Rattle.sealed_pages.proofs.SlotLemmas.{index_page, times_next}
 use Rattle.sealed_pages.proofs.Truncating.{InsideTold, look_sealing, look_then, look_alone, within_ready, within_stands, holds_cut, head_stands, page_cut_data, extent_less, key_as, cut_bytes, cut_backed}
+use Rattle.sealed_pages.specs.Unrecovered.{SparesFront}
+use Rattle.sealed_pages.proofs.Fronts.{front_look, front_then}
 use Rattle.sealed_pages.proofs.page_blob.PageBlob.cut_within.Goals as goal
 
 pub read_head-requires-clause-room : goal.read_head-requires-clause-room
@@ -146,3 +148,12 @@ returns-clause-backed g c t all same size =
     let stands = head_stands c.args.self.page_size all (disk (g.D.Device.time c.args.dev.now) (key_of (shown c.args.self))).content c.args.page c.args.keep c.in_ok-head.head.bytes.items (omega (arith, c.requires.short)) is_part long size same in
     cut_backed (shown c.args.self) (shown c.ending_with.result) all (disk (g.D.Device.time c.cut_inside.new.dev) (key_of (shown c.args.self))).content c.args.page c.in_ok-end.end c.in_ok-head.head.bytes.items (not c.in_ok-head.head.second) pos c.ending_with.ensures
     (subst (λ (n : ℕ). Data c.args.self.page_size all (c.args.page * c.args.self.page_size + n) (view (disk (g.D.Device.time c.cut_inside.new.dev) (key_of (shown c.args.self))).content)) (sym long) left) stands (omega (arith, size, long))
+
+pub returns-in_err-head-clause-front : goal.returns-in_err-head-clause-front
+returns-in_err-head-clause-front g c t = front_look (page_at c.args.self.page_size c.args.page) (key_of (shown c.args.self)) (g.D.Device.time c.args.dev.now) (g.D.Device.time c.read_head.new.dev) (c.in_err-head.ensures.unchanged t)
+
+pub returns-in_err-end-clause-front : goal.returns-in_err-end-clause-front
+returns-in_err-end-clause-front g c t = front_then (page_at c.args.self.page_size c.args.page) (key_of (shown c.args.self)) (g.D.Device.time c.args.dev.now) (g.D.Device.time c.read_head.new.dev) (g.D.Device.time c.cut_inside.new.dev) (front_look (page_at c.args.self.page_size c.args.page) (key_of (shown c.args.self)) (g.D.Device.time c.args.dev.now) (g.D.Device.time c.read_head.new.dev) (c.in_ok-head.ensures.unchanged t)) (key_as (λ (k : Key). SparesFront (page_at c.args.self.page_size c.args.page) k (g.D.Device.time c.read_head.new.dev) (g.D.Device.time c.cut_inside.new.dev)) _ (string_bytes c.args.self.partition) _ c.args.self.name.items c.as_str-2.ensures.value c.as_slice-2.ensures.value (c.in_err-end.ensures.front t))
+
+pub returns-clause-front : goal.returns-clause-front
+returns-clause-front g c t = front_then (page_at c.args.self.page_size c.args.page) (key_of (shown c.args.self)) (g.D.Device.time c.args.dev.now) (g.D.Device.time c.read_head.new.dev) (g.D.Device.time c.cut_inside.new.dev) (front_look (page_at c.args.self.page_size c.args.page) (key_of (shown c.args.self)) (g.D.Device.time c.args.dev.now) (g.D.Device.time c.read_head.new.dev) (c.in_ok-head.ensures.unchanged t)) (key_as (λ (k : Key). SparesFront (page_at c.args.self.page_size c.args.page) k (g.D.Device.time c.read_head.new.dev) (g.D.Device.time c.cut_inside.new.dev)) _ (string_bytes c.args.self.partition) _ c.args.self.name.items c.as_str-2.ensures.value c.as_slice-2.ensures.value (c.in_ok-end.ensures.front t))
