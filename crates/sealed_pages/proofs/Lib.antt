@@ -31,3 +31,4 @@ pub mod PieceLemmas
 pub mod ReplayLemmas
 pub mod Fronts
 pub mod UnrecoveredLemmas
+pub mod Shortening

@@ -1,8 +1,8 @@
 -- Adopted blobs whose sealed prefix is shorter than their size: what the first pages say of that prefix, and what calls leave of it.
-use Rattle.std.proofs.Common.{◌≡◌, ◌⊎◌, inl, inr, ℕ, zero, suc, ◌+◌, ◌-◌, ◌*◌, ◌<◌, ◌≤◌, eqb, min, max, Bool, true, false, cond, List, [], ◌++◌, length, take, Result, Ok, Option, Some, None, IsSomeAnd, length-append, refl, sym, ◌∙◌, ap, subst, arith}
+use Rattle.std.proofs.Common.{◌≡◌, ◌⊎◌, inl, inr, ℕ, zero, suc, ◌+◌, ◌-◌, ◌*◌, ◌<◌, ◌≤◌, eqb, min, max, Bool, true, false, cond, List, [], ◌++◌, length, take, Result, Ok, Option, Some, None, IsSomeAnd, length-append, refl, sym, ◌∙◌, ap, subst, arith, get_or, length-take}
 use Rattle.std.proofs.lemmas.Bool.{cases_lt, cases_eq, cases_order}
 use Rattle.std.proofs.lemmas.Nat.{le-div}
-use Rattle.std.proofs.lemmas.List.{take_all}
+use Rattle.std.proofs.lemmas.List.{take_all, get_or-take, get_or_append_left, ext_get_or}
 use Rattle.blob_device.specs.declared.error.DevError.{DevError}
 use Rattle.blob_device.specs.Change.{Settle}
 use Rattle.blob_device.specs.Disk.{Key, Blob, past, settled_at, shortest}
@@ -10,26 +10,28 @@ use Rattle.blob_device.specs.Guards.{Guards}
 use Rattle.blob_device.specs.Timeline.{Timeline, disk, Passes, Always, OnlyAt}
 use Rattle.blob_device.proofs.GuardsLemmas.{guards_settled, guards_crash, guards_left}
 use Rattle.blob_device.proofs.Moments.{always_now, ok_blob, only_start}
-use Rattle.sealed_pages.specs.Buffer.{Buffer, size_of, pages_of}
+use Rattle.sealed_pages.specs.Buffer.{Buffer, size_of, pages_of, bytes_of, IsBacked, IsSealed}
 use Rattle.sealed_pages.specs.ChanceSeal.{NoChanceSeal, Leaves, Sealing}
 use Rattle.sealed_pages.specs.Cutting.{IsAtRest}
 use Rattle.sealed_pages.specs.Found.{Finds}
 use Rattle.sealed_pages.specs.Starts.{StartsOver}
 use Rattle.sealed_pages.specs.declared.reading.LastPage.{LastPage}
 use Rattle.sealed_pages.specs.Reading.{Unchanged}
-use Rattle.sealed_pages.specs.SealedPrefix.{pages_in, sealed_from, sealed_prefix, adopted_size, Prefix}
+use Rattle.sealed_pages.specs.SealedPrefix.{pages_in, sealed_from, sealed_prefix, adopted_size, Prefix, data_from}
 use Rattle.sealed_pages.specs.Slots.{slot_length, page_length, best_slot}
-use Rattle.sealed_pages.specs.Unrecovered.{HasFront, SparesFront, HasPrefix, KeepsPrefix, IsUnrecovered}
+use Rattle.sealed_pages.specs.Unrecovered.{HasFront, FrontOf, SparesFront, HasPrefix, KeepsPrefix, IsUnrecovered, IsAdopted}
 use Rattle.sealed_pages.specs.View.{view, bytes_at, page_at, slot_at}
-use Rattle.sealed_pages.proofs.Adopt.{best_length}
+use Rattle.sealed_pages.proofs.Adopt.{best_length, length-data_from, get_or-data_from}
 use Rattle.sealed_pages.proofs.Adopting.{pages_none, pages_some}
 use Rattle.sealed_pages.proofs.CutCalls.{sealing_then}
 use Rattle.sealed_pages.proofs.CutSteps.{settled_rest}
 use Rattle.sealed_pages.proofs.Cuts.{below_start}
+use Rattle.sealed_pages.proofs.Syncing.{backed_more}
 use Rattle.sealed_pages.proofs.Truncating.{prefix_covers}
-use Rattle.sealed_pages.proofs.Fronts.{front_start, front_settle, front_look}
+use Rattle.sealed_pages.proofs.Fronts.{front_start, front_settle, front_look, front_now}
 use Rattle.sealed_pages.proofs.PageCalls.{only_then, only_weaker}
-use Rattle.sealed_pages.proofs.Reaching.{prefix_sound}
+use Rattle.sealed_pages.proofs.Reaching.{prefix_sound, prefix_size, own_prefix}
+use Rattle.sealed_pages.proofs.Holding.{holds_data}
 use Rattle.sealed_pages.proofs.Repairing.{page_order}
 use Rattle.sealed_pages.proofs.SealedBytes.{rest, sealed_step, rest_is, page_length-le, covers_length}
 use Rattle.sealed_pages.proofs.SlotLemmas.{times_next, times_more, page_next, page_apart, bytes_at-same, slot_same, slot_stands}
@@ -168,27 +170,30 @@ module _ (seal : List ℕ → ℕ) (P : ℕ) (bytes : List ℕ) (key : Key) wher
   pub keeps_cut : (L : ℕ) (a b c : Timeline) → L ≤ length bytes → KeepsPrefix seal P bytes key a b → Sealing seal P (sealed_prefix seal P (disk b key).content) L key b c → Sealing seal P bytes L key a c
   keeps_cut L a b c le first second = sealing_then seal P bytes L key a b c (keeps_sealing L a b le first) (subst (λ (l : List ℕ). Sealing seal P l L key b c) (keeps_now a b first) second)
 
+-- a page below the end of what is spared, which stands whole, is covered as before
+pub front_covers : (seal : List ℕ → ℕ) (P first : ℕ) (a b : Blob) (k : ℕ) → FrontOf (page_at P first) a b → k < first → page_at P (k + 1) ≤ length a.content → page_length seal P b.content k ≡ page_length seal P a.content k
+front_covers seal P first a b k has less whole =
+    let near = page_order (λ x. 0) P (k + 1) first (omega (arith, less)) in
+    page_to seal P k b.content a.content (record { long = omega (arith, has.long, whole, near); other = whole; same = λ i lt. has.reads i (omega (arith, lt, near)) }) k (omega arith)
+
 module _ (seal : List ℕ → ℕ) (u : Buffer) where
   -- what calls that spare the page and those before it leave of an adopted blob
   module _ (key : Key) (a b : Timeline) (un : IsUnrecovered seal u (disk a key)) (end : ℕ) (within : un.page < end) (spares : SparesFront (page_at u.page_size end) key a b) where
     reach : page_at u.page_size (un.page + 1) ≤ page_at u.page_size end
     reach = page_order (λ x. 0) u.page_size (un.page + 1) end (omega (arith, within))
 
-    fronts : Always a b (OnlyAt key (disk a) (HasFront (page_at u.page_size (un.page + 1)) (view (disk a key).content)))
-    fronts = spares (page_at u.page_size (un.page + 1)) (view (disk a key).content) reach un.front
-
     long : page_at u.page_size (un.page + 1) ≤ length (disk a key).content
     long = front_long seal u.page_size un.page (length (disk a key).content) un.front.long
 
     pub spared_keeps : KeepsPrefix seal u.page_size (sealed_prefix seal u.page_size (disk a key).content) key a b
-    spared_keeps = only_weaker a b key (disk a) (HasFront (page_at u.page_size (un.page + 1)) (view (disk a key).content)) (HasPrefix seal u.page_size (sealed_prefix seal u.page_size (disk a key).content))
-        (λ x front. front_prefix seal u.page_size un.page (disk a key).content x long un.short front) fronts
+    spared_keeps = only_weaker a b key (disk a) (FrontOf (page_at u.page_size end) (disk a key)) (HasPrefix seal u.page_size (sealed_prefix seal u.page_size (disk a key).content))
+        (λ x has. front_prefix seal u.page_size un.page (disk a key).content x long un.short (has.crashes (page_at u.page_size (un.page + 1)) (view (disk a key).content) reach un.front)) spares
 
     now : HasFront (page_at u.page_size (un.page + 1)) (view (disk a key).content) (disk b key)
-    now = (always_now a b (OnlyAt key (disk a) (HasFront (page_at u.page_size (un.page + 1)) (view (disk a key).content))) fronts).here
+    now = (front_now (page_at u.page_size end) key a b spares).crashes (page_at u.page_size (un.page + 1)) (view (disk a key).content) reach un.front
 
-    pub spared_stays : (v : Buffer) → v.page_size ≡ u.page_size → un.page < v.first → (v.settled ≡ size_of v → IsAtRest (disk b key)) → IsUnrecovered seal v (disk b key)
-    spared_stays v same below rest = record {
+    pub spared_stays : (v : Buffer) → v.page_size ≡ u.page_size → un.page < v.first → IsBacked v (disk b key).content → (v.settled ≡ size_of v → IsAtRest (disk b key)) → IsUnrecovered seal v (disk b key)
+    spared_stays v same below backed rest = record {
       page = un.page;
       below = below;
       short = subst (λ (P : ℕ). page_length seal P (disk b key).content un.page < P) (sym same) (omega (
@@ -199,6 +204,7 @@ module _ (seal : List ℕ → ℕ) (u : Buffer) where
       ));
       front = subst (λ (P : ℕ). HasFront (page_at P (un.page + 1)) (view (disk b key).content) (disk b key)) (sym same)
           (record { there = now.there; sure = now.sure; short = now.short; long = now.long; outside = now.outside; same = λ i lt. refl });
+      backed = backed;
       rest = rest;
     }
 
@@ -210,17 +216,18 @@ module _ (seal : List ℕ → ℕ) (u : Buffer) where
   pub settled_keeps : {T : Type 0} (key : Key) (a b : Timeline) (r : Result T DevError) → IsUnrecovered seal u (disk a key) → Passes key Settle r a b → KeepsPrefix seal u.page_size (sealed_prefix seal u.page_size (disk a key).content) key a b
   settled_keeps key a b r un passes = spared_keeps key a b un u.first un.below (front_settle (page_at u.page_size u.first) key a a b r (front_start (page_at u.page_size u.first) key a) passes)
 
-  pub settled_stays : {T : Type 0} (key : Key) (a b : Timeline) (x : T) (v : Buffer) → IsUnrecovered seal u (disk a key) → Passes key Settle (Ok x) a b → v.page_size ≡ u.page_size → v.first ≡ u.first → IsUnrecovered seal v (disk b key)
-  settled_stays key a b x v un passes same first = spared_stays key a b un u.first un.below (front_settle (page_at u.page_size u.first) key a a b (Ok x) (front_start (page_at u.page_size u.first) key a) passes) v same (omega (arith, un.below, first))
+  pub settled_stays : {T : Type 0} (key : Key) (a b : Timeline) (x : T) (v : Buffer) → IsUnrecovered seal u (disk a key) → Passes key Settle (Ok x) a b → v.page_size ≡ u.page_size → v.first ≡ u.first → IsBacked v (disk b key).content → IsUnrecovered seal v (disk b key)
+  settled_stays key a b x v un passes same first backed = spared_stays key a b un u.first un.below (front_settle (page_at u.page_size u.first) key a a b (Ok x) (front_start (page_at u.page_size u.first) key a) passes) v same (omega (arith, un.below, first)) backed
       (λ e. settled_rest (disk b key) (disk a key).content (ok_blob key Settle x a b passes))
 
   -- more bytes in the tip
-  pub more_stays : (v : Buffer) (more : List ℕ) (b : Blob) → v ≡ record u { tip = u.tip ++ more } → u.settled ≤ size_of u → IsUnrecovered seal u b → IsUnrecovered seal v b
-  more_stays v more b is order un = subst (λ (x : Buffer). IsUnrecovered seal x b) (sym is) (record {
+  pub more_stays : (v : Buffer) (more : List ℕ) (b : Blob) → v ≡ record u { tip = u.tip ++ more } → u.from ≤ length u.tip → u.settled ≤ size_of u → IsUnrecovered seal u b → IsUnrecovered seal v b
+  more_stays v more b is within order un = subst (λ (x : Buffer). IsUnrecovered seal x b) (sym is) (record {
     page = un.page;
     below = un.below;
     short = un.short;
     front = un.front;
+    backed = backed_more u (record u { tip = u.tip ++ more }) more b.content refl within un.backed;
     rest = λ e. un.rest (omega (arith, e, order, length-append u.tip more));
   })
 
@@ -250,6 +257,7 @@ module _ (seal : List ℕ → ℕ) (u : Buffer) where
             outside = λ i lt. un.front.outside i (omega (arith, lt, near));
             same = λ i lt. refl;
           });
+          backed = un.backed;
           rest = un.rest;
         },
         found.1,
@@ -274,9 +282,9 @@ module _ (seal : List ℕ → ℕ) (u : Buffer) (pos : 1 ≤ u.page_size) where
       | inr short ↦ spared_keeps seal u key a b un u.first un.below (front_look (page_at u.page_size u.first) key a b (refused short))
     ]
 
-    pub cut_stays : keep ≤ page_length seal u.page_size (disk a key).content j → (v : Buffer) → v.page_size ≡ u.page_size → v.first ≡ j → IsAtRest (disk b key) → IsUnrecovered seal v (disk b key)
-    cut_stays covered v same first rest = elim (behind_prefix seal u (disk a key) j keep pos un less) [
-      | inl before ↦ spared_stays seal u key a b before.0 j before.1 spares v same (omega (arith, before.1, first)) (λ e. rest)
+    pub cut_stays : keep ≤ page_length seal u.page_size (disk a key).content j → (v : Buffer) → v.page_size ≡ u.page_size → v.first ≡ j → IsBacked v (disk b key).content → IsAtRest (disk b key) → IsUnrecovered seal v (disk b key)
+    cut_stays covered v same first backed rest = elim (behind_prefix seal u (disk a key) j keep pos un less) [
+      | inl before ↦ spared_stays seal u key a b before.0 j before.1 spares v same (omega (arith, before.1, first)) backed (λ e. rest)
       | inr short ↦ absurd (omega (arith, short, covered))
     ]
 
@@ -288,8 +296,8 @@ pages_span first from = elim (cases_lt 0 from) [
 
 -- an adopted blob whose sealed prefix is shorter than its size
 pub adopted_unrecovered : (seal : List ℕ → ℕ) (u : Buffer) (c : List ℕ) (found : Option LastPage) (buf : List ℕ) → 1 ≤ u.page_size → Finds seal u.page_size c found buf → StartsOver seal u.page_size c found u.first u.from u.newest u.behind u.torn
-    → length (sealed_prefix seal u.page_size c) < adopted_size seal u.page_size c → IsUnrecovered seal u (settled_at c)
-adopted_unrecovered seal u c found buf pos finds over less = go found finds over
+    → IsBacked u c → length (sealed_prefix seal u.page_size c) < adopted_size seal u.page_size c → IsUnrecovered seal u (settled_at c)
+adopted_unrecovered seal u c found buf pos finds over backed less = go found finds over
   where
     go : (r : Option LastPage) → Finds seal u.page_size c r buf → StartsOver seal u.page_size c r u.first u.from u.newest u.behind u.torn → IsUnrecovered seal u (settled_at c)
     go None finds s = absurd (omega (arith, less, finds))
@@ -308,6 +316,7 @@ adopted_unrecovered seal u c found buf pos finds over less = go found finds over
               slot_stands seal u.page_size c p.page (best_slot seal u.page_size c p.page) (omega (arith, finds.1, best_length seal u.page_size c p.page)),
             ))
             (λ i lt. refl);
+        backed = backed;
         rest = λ e. refl;
       }
       | inr here ↦ absurd (omega (arith, here))
@@ -319,3 +328,34 @@ first_later P first last m n is small = elim (cases_lt last first) [
   | inl less ↦ absurd (omega (arith, is, small, times_more last first P less))
   | inr le ↦ le
 ]
+
+-- the sealed prefix is a part of the data from the start on
+own_front : (seal : List ℕ → ℕ) (P : ℕ) (c : List ℕ) (n : ℕ) (tip : List ℕ) → length (sealed_prefix seal P c) < n → sealed_prefix seal P c ≡ take (length (sealed_prefix seal P c)) (data_from P (view c) 0 n ++ tip)
+own_front seal P c n tip less = ext_get_or 0 (sealed_prefix seal P c) (take (length (sealed_prefix seal P c)) (data_from P (view c) 0 n ++ tip))
+    (omega (arith, length-take (length (sealed_prefix seal P c)) (data_from P (view c) 0 n ++ tip), length-append (data_from P (view c) 0 n) tip, length-data_from P (view c) n 0, less))
+    (λ i lt. (let near : i < n = omega (arith, lt, less) in
+    ap (λ (l : List ℕ). get_or l i 0) (own_prefix seal P c).is
+    ∙ get_or-take (length (sealed_prefix seal P c)) (data_from P (view c) 0 (adopted_size seal P c)) i 0 lt
+    ∙ get_or-data_from P (view c) (adopted_size seal P c) 0 i (omega (arith, lt, prefix_size seal P c))
+    ∙ sym (get_or-data_from P (view c) n 0 i near)
+    ∙ sym (get_or_append_left (data_from P (view c) 0 n) tip 0 i (omega (arith, near, length-data_from P (view c) n 0)))
+    ∙ sym (get_or-take (length (sealed_prefix seal P c)) (data_from P (view c) 0 n ++ tip) i 0 lt)))
+
+-- What the layers above rest on: the sealed prefix outlives each crash, ends below the tip, and is a prefix of the bytes.
+pub unrecovered_prefix : (seal : List ℕ → ℕ) (u : Buffer) (b : Blob) → 1 ≤ u.page_size → IsUnrecovered seal u b → HasPrefix seal u.page_size (sealed_prefix seal u.page_size b.content) b
+    × (length (sealed_prefix seal u.page_size b.content) < u.first * u.page_size) × (sealed_prefix seal u.page_size b.content ≡ take (length (sealed_prefix seal u.page_size b.content)) (bytes_of u b.content))
+unrecovered_prefix seal u b pos un = (
+  front_prefix seal u.page_size un.page b.content b (front_long seal u.page_size un.page (length b.content) un.front.long) un.short un.front,
+  prefix_short seal u b pos un,
+  own_front seal u.page_size b.content (u.first * u.page_size) u.tip (prefix_short seal u b pos un),
+)
+
+-- a buffer whose pages below the tip's are all full is sealed
+pub adopted_sealed : (seal : List ℕ → ℕ) (u : Buffer) (b : Blob) → IsAdopted seal u b → ((k : ℕ) → k < u.first → u.page_size ≤ page_length seal u.page_size b.content k) → IsSealed seal u b
+adopted_sealed seal u b (inl sealed) full = sealed
+adopted_sealed seal u b (inr un) full = absurd (omega (arith, un.short, full un.page un.below))
+
+-- what is flushed stands in the blob
+pub adopted_backed : (seal : List ℕ → ℕ) (u : Buffer) (b : Blob) → IsAdopted seal u b → IsBacked u b.content
+adopted_backed seal u b (inl sealed) = holds_data seal u (bytes_of u b.content) b sealed
+adopted_backed seal u b (inr un) = un.backed

@@ -1,13 +1,13 @@
 -- Adopted blobs whose sealed prefix is shorter than their size. What a call adds to them does not outlive a crash, but the
 -- prefix does.
-use Rattle.std.specs.Prelude.{◌≡◌, ◌⊎◌, ℕ, ◌+◌, ◌<◌, ◌≤◌, List, length, Option, IsSomeAnd}
+use Rattle.std.specs.Prelude.{◌≡◌, ◌⊎◌, ℕ, ◌+◌, ◌<◌, ◌≤◌, min, List, length, Option, IsSomeAnd}
 use Rattle.blob_device.specs.Disk.{Key, Blob, MayLeave}
 use Rattle.blob_device.specs.Guards.{Guards}
 use Rattle.blob_device.specs.Timeline.{Timeline, disk, Always, OnlyAt}
 use Rattle.sealed_pages.specs.View.{View, view, page_at}
 use Rattle.sealed_pages.specs.Slots.{page_length}
 use Rattle.sealed_pages.specs.SealedPrefix.{sealed_prefix}
-use Rattle.sealed_pages.specs.Buffer.{Buffer, key_of, size_of, IsSealed}
+use Rattle.sealed_pages.specs.Buffer.{Buffer, key_of, size_of, IsBacked, IsSealed}
 use Rattle.sealed_pages.specs.Cutting.{IsAtRest}
 
 -- a buffer's blob
@@ -18,13 +18,20 @@ blob_of u t = disk t (key_of u)
 abbrev pub prefix_of : (List ℕ → ℕ) → Buffer → Timeline → List ℕ
 prefix_of seal u t = sealed_prefix seal u.page_size (blob_of u t).content
 
--- The first n bytes are those of v, and outlive each crash.
+-- the first n bytes are those of v, and outlive each crash
 abbrev pub HasFront : ℕ → View → Blob → Type 0
 HasFront n v b = Guards (λ i. i < n) v b
 
--- Bytes below this end that outlived each crash do so at each moment, also inside calls of the device. No other blob changes.
+-- The blob at a moment, where it was `from` before: below this end it reads as before, places past the end as zeros, and is as
+-- long as before; and bytes there that outlived each crash do so.
+pub record FrontOf (end : ℕ) (from b : Blob) : Type 0 where
+  pub reads : (i : ℕ) → i < end → view b.content i ≡ view from.content i
+  pub long : min (length from.content) end ≤ length b.content
+  pub crashes : (n : ℕ) (v : View) → n ≤ end → HasFront n v from → HasFront n v b
+
+-- at each moment, also inside calls of the device; no other blob changes
 abbrev pub SparesFront : ℕ → Key → Timeline → Timeline → Type 0
-SparesFront end key old new = (n : ℕ) (v : View) → n ≤ end → HasFront n v (disk old key) → Always old new (OnlyAt key (disk old) (HasFront n v))
+SparesFront end key old new = Always old new (OnlyAt key (disk old) (FrontOf end (disk old key)))
 
 module _ (seal : List ℕ → ℕ) (P : ℕ) where
   -- The blob has this sealed prefix as it reads, and so does each crash image, with or without a chance seal.
@@ -37,12 +44,13 @@ module _ (seal : List ℕ → ℕ) (P : ℕ) where
   KeepsPrefix bytes key old new = Always old new (OnlyAt key (disk old) (HasPrefix bytes))
 
 -- A page below the tip's is not full, so the sealed prefix ends in it or before, and all up to its end outlives each crash.
--- Where all bytes of the buffer have settled, so has the blob.
+-- What is flushed stands in the blob, and where all bytes have settled, so has the blob.
 pub record IsUnrecovered (seal : List ℕ → ℕ) (u : Buffer) (b : Blob) : Type 0 where
   pub page : ℕ
   pub below : page < u.first
   pub short : page_length seal u.page_size b.content page < u.page_size
   pub front : HasFront (page_at u.page_size (page + 1)) (view b.content) b
+  pub backed : IsBacked u b.content
   pub rest : u.settled ≡ size_of u → IsAtRest b
 
 -- What adopting a settled blob gives, and each call keeps.

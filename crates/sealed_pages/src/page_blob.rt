@@ -90,7 +90,6 @@ fn last_slot_of(
 
 impl<S: Seal> PageBlob<S> {
     ghost use Rattle.sealed_pages.specs.Shown.{shown};
-    ghost use Rattle.blob_device.specs.Disk.{settled_at};
     ghost use Rattle.sealed_pages.specs.SealedPrefix.{sealed_prefix, adopted_size};
     ghost use Rattle.sealed_pages.specs.Reading.{Unchanged, OnlyRead};
     ghost use Rattle.sealed_pages.specs.View.{view, StandsAt};
@@ -116,7 +115,7 @@ impl<S: Seal> PageBlob<S> {
         ensures size { D.Tells → IfOk result (λ r. size_of (shown r) ≡ adopted_size S.seal_of pages.page_size (disk (D.time dev.old) (partition.now, name.now)).content) }
         ensures backed { D.Tells → IfOk result (λ r. IsBacked (shown r) (disk (D.time dev.old) (partition.now, name.now)).content) }
         // Where the blob has settled, and its sealed prefix is the size, the promise on crashes begins.
-        ensures sealed { D.Tells → disk (D.time dev.old) (partition.now, name.now) ≡ settled_at (disk (D.time dev.old) (partition.now, name.now)).content
+        ensures sealed { D.Tells → IsAtRest (disk (D.time dev.old) (partition.now, name.now))
             → length (sealed_prefix S.seal_of pages.page_size (disk (D.time dev.old) (partition.now, name.now)).content) ≡ adopted_size S.seal_of pages.page_size (disk (D.time dev.old) (partition.now, name.now)).content
             → IfOk result (λ r. IsSealed S.seal_of (shown r) (disk (D.time dev.old) (partition.now, name.now))) }
         // Where the prefix is shorter, that prefix outlives each crash. There is no third case.
@@ -134,6 +133,7 @@ impl<S: Seal> PageBlob<S> {
         ensures open { IfOk result (λ r. IsOpenAt (D.opened dev.new) (key_of (shown r)) r.end) }
         ensures entries { OnlyRead (partition.now, name.now) (D.opened dev.old) (D.opened dev.new) }
         ensures overflow { IsErrOf result OffsetOverflow ↔ 2 ^ 64 ≤ size + (pages.page_size + 12) }
+        ensures refused { IsErrOf result OffsetOverflow → dev.new ≡ dev.old }
         ensures faults { D.faults dev.old ≤ D.faults dev.new }
         ensures cause { OnErr result ((result ≡ Err RError.OffsetOverflow) ⊎ ((result ≡ Err RError.Mem) ⊎ ((result ≡ Err RError.Fault) × Rose (D.faults dev.old) (D.faults dev.new)))) }
     {
@@ -308,6 +308,8 @@ impl<S: Seal> PageBlob<S> {
         ensures steady { D.Tells → IsUnrecovered S.seal_of (shown self) (blob_of (shown self) (D.time dev.old))
             → KeepsPrefix S.seal_of self.page_size (prefix_of S.seal_of (shown self) (D.time dev.old)) (key_of (shown self)) (D.time dev.old) (D.time dev.new) }
         ensures unrecovered { D.Tells → IsUnrecovered S.seal_of (shown self) (blob_of (shown self) (D.time dev.old)) → IfOk result (λ r. IsUnrecovered S.seal_of (shown r) (blob_of (shown self) (D.time dev.new))) }
+        ensures front { D.Tells → SparesFront (page_at self.page_size self.first) (key_of (shown self)) (D.time dev.old) (D.time dev.new) }
+        ensures backed { D.Tells → IsBacked (shown self) (blob_of (shown self) (D.time dev.old)).content → IfOk result (λ r. IsBacked (shown r) (blob_of (shown self) (D.time dev.new)).content) }
         ensures idle { length self.tip.items ≤ self.from → dev.new ≡ dev.old }
         ensures fine { length self.tip.items ≤ self.from → IsOkAnd result (λ r. shown r ≡ shown self) }
         ensures key { IfOk result (λ r. key_of (shown r) ≡ key_of (shown self)) }
@@ -362,6 +364,7 @@ impl<S: Seal> PageBlob<S> {
         ensures open { IfOk result (λ r. IsOpenAt (D.opened dev.new) (key_of (shown r.0)) r.0.end) }
         ensures entries { NoReads (key_of (shown self)) (D.opened dev.old) (D.opened dev.new) }
         ensures overflow { IsErrOf result OffsetOverflow ↔ 2 ^ 64 ≤ extent self.page_size (size_of (shown self) + length bytes.now) }
+        ensures refused { IsErrOf result OffsetOverflow → dev.new ≡ dev.old }
         ensures faults { D.faults dev.old ≤ D.faults dev.new }
         ensures cause { OnErr result ((result ≡ Err RError.OffsetOverflow) ⊎ ((result ≡ Err RError.Mem) ⊎ ((result ≡ Err RError.Fault) × Rose (D.faults dev.old) (D.faults dev.new)))) }
     {
@@ -389,6 +392,8 @@ impl<S: Seal> PageBlob<S> {
         ensures steady { D.Tells → IsUnrecovered S.seal_of (shown self) (blob_of (shown self) (D.time dev.old))
             → KeepsPrefix S.seal_of self.page_size (prefix_of S.seal_of (shown self) (D.time dev.old)) (key_of (shown self)) (D.time dev.old) (D.time dev.new) }
         ensures unrecovered { D.Tells → IsUnrecovered S.seal_of (shown self) (blob_of (shown self) (D.time dev.old)) → IfOk result (λ r. IsUnrecovered S.seal_of (shown r) (blob_of (shown self) (D.time dev.new))) }
+        // The pages below the tip's stand as they did.
+        ensures front { D.Tells → SparesFront (page_at self.page_size self.first) (key_of (shown self)) (D.time dev.old) (D.time dev.new) }
         ensures alone { D.Tells → IsBacked (shown self) (disk (D.time dev.old) (key_of (shown self))).content → Alone (key_of (shown self)) (D.time dev.old) (D.time dev.new) }
         ensures bytes { D.Tells → IsBacked (shown self) (disk (D.time dev.old) (key_of (shown self))).content
             → IfOk result (λ r. bytes_of (shown r) (disk (D.time dev.new) (key_of (shown self))).content ≡ bytes_of (shown self) (disk (D.time dev.old) (key_of (shown self))).content) }

@@ -142,7 +142,7 @@ returns-then-len-this-clause-unrecovered g c t un =
     let longer : c.extend_from_slice.new.self.items ≡ c.args.self.tip.items ++ c.args.bytes.now = search rules in
     let w : Buffer = record (shown c.args.self) { tip = c.extend_from_slice.new.self.items } in
     let order : c.args.self.settled ≤ size_of (shown c.args.self) = omega (arith, c.args.self.order, c.args.self.fit.within) in
-    let more = more_stays g.S.Seal.seal_of (shown c.args.self) w c.args.bytes.now (disk (g.D.Device.time c.args.dev.now) (key_of (shown c.args.self))) (ap (λ (l : List ℕ). record (shown c.args.self) { tip = l }) longer) order un in
+    let more = more_stays g.S.Seal.seal_of (shown c.args.self) w c.args.bytes.now (disk (g.D.Device.time c.args.dev.now) (key_of (shown c.args.self))) (ap (λ (l : List ℕ). record (shown c.args.self) { tip = l }) longer) c.args.self.fit.within order un in
     more
 
 pub returns-in_err-this-clause-steady : goal.returns-in_err-this-clause-steady
@@ -150,7 +150,7 @@ returns-in_err-this-clause-steady g c t un =
     let longer : c.extend_from_slice.new.self.items ≡ c.args.self.tip.items ++ c.args.bytes.now = search rules in
     let w : Buffer = record (shown c.args.self) { tip = c.extend_from_slice.new.self.items } in
     let order : c.args.self.settled ≤ size_of (shown c.args.self) = omega (arith, c.args.self.order, c.args.self.fit.within) in
-    let more = more_stays g.S.Seal.seal_of (shown c.args.self) w c.args.bytes.now (disk (g.D.Device.time c.args.dev.now) (key_of (shown c.args.self))) (ap (λ (l : List ℕ). record (shown c.args.self) { tip = l }) longer) order un in
+    let more = more_stays g.S.Seal.seal_of (shown c.args.self) w c.args.bytes.now (disk (g.D.Device.time c.args.dev.now) (key_of (shown c.args.self))) (ap (λ (l : List ℕ). record (shown c.args.self) { tip = l }) longer) c.args.self.fit.within order un in
     c.in_err-this.ensures.steady t more
 
 pub returns-clause-steady : goal.returns-clause-steady
@@ -158,7 +158,7 @@ returns-clause-steady g c t un =
     let longer : c.extend_from_slice.new.self.items ≡ c.args.self.tip.items ++ c.args.bytes.now = search rules in
     let w : Buffer = record (shown c.args.self) { tip = c.extend_from_slice.new.self.items } in
     let order : c.args.self.settled ≤ size_of (shown c.args.self) = omega (arith, c.args.self.order, c.args.self.fit.within) in
-    let more = more_stays g.S.Seal.seal_of (shown c.args.self) w c.args.bytes.now (disk (g.D.Device.time c.args.dev.now) (key_of (shown c.args.self))) (ap (λ (l : List ℕ). record (shown c.args.self) { tip = l }) longer) order un in
+    let more = more_stays g.S.Seal.seal_of (shown c.args.self) w c.args.bytes.now (disk (g.D.Device.time c.args.dev.now) (key_of (shown c.args.self))) (ap (λ (l : List ℕ). record (shown c.args.self) { tip = l }) longer) c.args.self.fit.within order un in
     c.in_ok-this.ensures.steady t more
 
 pub returns-clause-unrecovered : goal.returns-clause-unrecovered
@@ -166,5 +166,5 @@ returns-clause-unrecovered g c t un =
     let longer : c.extend_from_slice.new.self.items ≡ c.args.self.tip.items ++ c.args.bytes.now = search rules in
     let w : Buffer = record (shown c.args.self) { tip = c.extend_from_slice.new.self.items } in
     let order : c.args.self.settled ≤ size_of (shown c.args.self) = omega (arith, c.args.self.order, c.args.self.fit.within) in
-    let more = more_stays g.S.Seal.seal_of (shown c.args.self) w c.args.bytes.now (disk (g.D.Device.time c.args.dev.now) (key_of (shown c.args.self))) (ap (λ (l : List ℕ). record (shown c.args.self) { tip = l }) longer) order un in
+    let more = more_stays g.S.Seal.seal_of (shown c.args.self) w c.args.bytes.now (disk (g.D.Device.time c.args.dev.now) (key_of (shown c.args.self))) (ap (λ (l : List ℕ). record (shown c.args.self) { tip = l }) longer) c.args.self.fit.within order un in
     c.in_ok-this.ensures.unrecovered t more

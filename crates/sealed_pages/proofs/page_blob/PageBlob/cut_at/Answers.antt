@@ -4,13 +4,14 @@ use Rattle.blob_device.specs.Disk.{Key, Blob, settled_at}
 use Rattle.blob_device.specs.Timeline.{disk}
 use Rattle.sealed_pages.specs.Buffer.{key_of, size_of}
 use Rattle.sealed_pages.specs.Flushing.{Data, Ready}
-use Rattle.sealed_pages.specs.SealedPrefix.{sealed_prefix}
+use Rattle.sealed_pages.specs.SealedPrefix.{sealed_prefix, adopted_size}
 use Rattle.sealed_pages.specs.Shown.{shown}
 use Rattle.sealed_pages.specs.View.{page_at, view}
 use Rattle.sealed_pages.proofs.Cuts.{resized_take}
 use Rattle.sealed_pages.proofs.Holding.{fit_room}
 use Rattle.sealed_pages.proofs.Truncating.{at_ready, holds_cut, stands_none, extent_less, key_as, resized_data, cut_bytes, cut_backed}
 use Rattle.sealed_pages.specs.Unrecovered.{SparesFront}
+use Rattle.sealed_pages.proofs.Shortening.{shorter_at}
 use Rattle.sealed_pages.proofs.page_blob.PageBlob.cut_at.Goals as goal
 
 pub page_place-end-requires : goal.page_place-end-requires
@@ -64,3 +65,8 @@ returns-in_err-cut_pages-clause-front g c t = key_as (λ (k : Key). SparesFront 
 
 pub returns-clause-front : goal.returns-clause-front
 returns-clause-front g c t = key_as (λ (k : Key). SparesFront (page_at c.args.self.page_size c.args.page) k (g.D.Device.time c.args.dev.now) (g.D.Device.time c.cut_pages.new.dev)) _ (string_bytes c.args.self.partition) _ c.args.self.name.items c.as_str.ensures.value c.as_slice.ensures.value (c.in_ok-cut_pages.ensures.front t)
+
+pub returns-clause-shorter : goal.returns-clause-shorter
+returns-clause-shorter g c t =
+    let settles = key_as (λ (k : Key). disk (g.D.Device.time c.cut_pages.new.dev) k ≡ settled_at (resized (disk (g.D.Device.time c.args.dev.now) k).content (page_at c.args.self.page_size c.args.page))) _ (string_bytes c.args.self.partition) _ c.args.self.name.items c.as_str.ensures.value c.as_slice.ensures.value (c.in_ok-cut_pages.ensures.settles t) in
+    omega (arith, ap (λ (b : Blob). adopted_size g.S.Seal.seal_of c.args.self.page_size b.content) settles, shorter_at g.S.Seal.seal_of c.args.self.page_size (disk (g.D.Device.time c.args.dev.now) (key_of (shown c.args.self))).content c.args.page)

@@ -7,7 +7,7 @@ use Rattle.sealed_pages.specs.Buffer.{Buffer, key_of, size_of, flushed_of, bytes
 use Rattle.sealed_pages.specs.ChanceSeal.{Leaves, Sealing}
 use Rattle.sealed_pages.specs.Cutting.{Settles, IsAtRest, FewReads}
 use Rattle.sealed_pages.specs.Flushing.{Alone, Data}
-use Rattle.sealed_pages.specs.SealedPrefix.{sealed_prefix}
+use Rattle.sealed_pages.specs.SealedPrefix.{sealed_prefix, adopted_size}
 use Rattle.sealed_pages.specs.Slots.{page_length}
 use Rattle.sealed_pages.specs.Shown.{shown}
 use Rattle.sealed_pages.specs.View.{page_at, view}
@@ -15,12 +15,13 @@ use Rattle.sealed_pages.proofs.CutCalls.{sealing_less}
 use Rattle.sealed_pages.proofs.Holding.{holds_start, holds_data, holds_sealed, holds_bytes, bytes_length}
 use Rattle.sealed_pages.proofs.PageCalls.{alone_start, alone_then}
 use Rattle.sealed_pages.proofs.Truncating.{as_of, all_flushed, after_sync, page_stands, cut_place, sync_then, map_ok, both_ok, data_taken, rest_stood, settles_of, leaves_of, prefix_covers, page_named, not_named, rose_since}
-use Rattle.sealed_pages.proofs.UnrecoveredLemmas.{prefix_short, stood_keeps, keeps_sealing, keeps_now, keeps_then, keeps_cut, prefix_stands, cut_keeps, cut_stays}
+use Rattle.sealed_pages.proofs.UnrecoveredLemmas.{prefix_short, stood_keeps, keeps_sealing, keeps_now, keeps_then, keeps_cut, prefix_stands, cut_keeps, cut_stays, front_covers}
 use Rattle.sealed_pages.specs.Unrecovered.{SparesFront, KeepsPrefix}
-use Rattle.blob_device.proofs.Results.{if_ok_with, on_ok_two}
+use Rattle.blob_device.proofs.Results.{if_ok_with, on_ok_two, on_ok, ok_with}
 use Rattle.sealed_pages.proofs.CutEntries.{then_few}
 use Rattle.sealed_pages.specs.Reading.{Unchanged}
 use Rattle.sealed_pages.proofs.Looking.{unchanged_now}
+use Rattle.sealed_pages.proofs.Fronts.{front_look, front_then, front_now}
 use Rattle.sealed_pages.proofs.page_blob.PageBlob.truncate.Goals as goal
 
 pub returns-then-len-size-clause-crashes : goal.returns-then-len-size-clause-crashes
@@ -262,9 +263,6 @@ returns-then-len-size-clause-recovered g c t recovery = absurd (omega (arith, pr
 pub returns-then-len-size-clause-prefix : goal.returns-then-len-size-clause-prefix
 returns-then-len-size-clause-prefix g c t recovery = absurd (omega (arith, prefix_short g.S.Seal.seal_of (shown c.args.self) (disk (g.D.Device.time c.args.dev.now) (key_of (shown c.args.self))) (omega (arith, c.args.self.fit.begun)) recovery.0, recovery.1, c.size.ensures, c.if-len-size.true))
 
-pub returns-then-len-size-clause-prefix_settled : goal.returns-then-len-size-clause-prefix_settled
-returns-then-len-size-clause-prefix_settled g c t recovery = absurd (omega (arith, prefix_short g.S.Seal.seal_of (shown c.args.self) (disk (g.D.Device.time c.args.dev.now) (key_of (shown c.args.self))) (omega (arith, c.args.self.fit.begun)) recovery.0, recovery.1, c.size.ensures, c.if-len-size.true))
-
 pub returns-then-len-size-clause-prefix_again : goal.returns-then-len-size-clause-prefix_again
 returns-then-len-size-clause-prefix_again g c t recovery = absurd (omega (arith, prefix_short g.S.Seal.seal_of (shown c.args.self) (disk (g.D.Device.time c.args.dev.now) (key_of (shown c.args.self))) (omega (arith, c.args.self.fit.begun)) recovery.0, recovery.1, c.size.ensures, c.if-len-size.true))
 
@@ -383,8 +381,8 @@ returns-then-keep-eq0-clause-unrecovered g c t un past =
     let same : (sealed_prefix g.S.Seal.seal_of c.args.self.page_size (disk (g.D.Device.time c.sync.new.dev) (key_of (shown c.args.self))).content) ≡ (sealed_prefix g.S.Seal.seal_of c.args.self.page_size (disk (g.D.Device.time c.args.dev.now) (key_of (shown c.args.self))).content) = keeps_now g.S.Seal.seal_of c.args.self.page_size (sealed_prefix g.S.Seal.seal_of c.args.self.page_size (disk (g.D.Device.time c.args.dev.now) (key_of (shown c.args.self))).content) (key_of (shown c.args.self)) (g.D.Device.time c.args.dev.now) (g.D.Device.time c.sync.new.dev) (c.in_ok-this.ensures.steady t un) in
     let less : length (sealed_prefix g.S.Seal.seal_of c.in_ok-this.this.page_size (disk (g.D.Device.time c.sync.new.dev) (key_of (shown c.args.self))).content) < (c.args.len / c.from-page_size.result) * c.in_ok-this.this.page_size + 0 = subst (λ (p : ℕ). length (sealed_prefix g.S.Seal.seal_of p (disk (g.D.Device.time c.sync.new.dev) (key_of (shown c.args.self))).content) < (c.args.len / c.from-page_size.result) * p + 0) (sym page) (omega (arith, ap length same, past, at)) in
     let spares = subst (λ (k : Key). SparesFront (page_at c.in_ok-this.this.page_size (c.args.len / c.from-page_size.result)) k (g.D.Device.time c.sync.new.dev) (g.D.Device.time c.cut_at.new.dev)) c.in_ok-this.ensures.key (c.cut_at.ensures.front t) in
-    if_ok_with c.cut_at.result (subst (λ (k : Key). OnOk c.cut_at.result (IsAtRest (disk (g.D.Device.time c.cut_at.new.dev) k))) c.in_ok-this.ensures.key (c.cut_at.ensures.rests t)) c.cut_at.ensures.same
-    (λ v rest is. cut_stays g.S.Seal.seal_of (shown c.in_ok-this.this) (omega (arith, c.in_ok-this.this.fit.begun)) (key_of (shown c.args.self)) (g.D.Device.time c.sync.new.dev) (g.D.Device.time c.cut_at.new.dev) now (c.args.len / c.from-page_size.result) 0 less spares (omega arith) (shown v) (ap (λ (x : Buffer). x.page_size) is) (ap (λ (x : Buffer). x.first) is) rest)
+    if_ok_with c.cut_at.result (subst (λ (k : Key). OnOk c.cut_at.result (IsAtRest (disk (g.D.Device.time c.cut_at.new.dev) k))) c.in_ok-this.ensures.key (c.cut_at.ensures.rests t)) (both_ok c.cut_at.result (λ v. shown v ≡ record (shown c.in_ok-this.this) { end = v.end; first = (c.args.len / c.from-page_size.result); tip = []; from = 0; settled = (c.args.len / c.from-page_size.result) * c.in_ok-this.this.page_size + 0; newest = v.newest; behind = false; torn = false }) (λ v. IsBacked (shown v) (disk (g.D.Device.time c.cut_at.new.dev) (key_of (shown c.args.self))).content) c.cut_at.ensures.same (returns-then-keep-eq0-clause-backed g c t un.backed))
+    (λ v rest is. cut_stays g.S.Seal.seal_of (shown c.in_ok-this.this) (omega (arith, c.in_ok-this.this.fit.begun)) (key_of (shown c.args.self)) (g.D.Device.time c.sync.new.dev) (g.D.Device.time c.cut_at.new.dev) now (c.args.len / c.from-page_size.result) 0 less spares (omega arith) (shown v) (ap (λ (x : Buffer). x.page_size) is.0) (ap (λ (x : Buffer). x.first) is.0) is.1 rest)
 
 pub returns-clause-recovering : goal.returns-clause-recovering
 returns-clause-recovering g c t recovery =
@@ -484,38 +482,11 @@ returns-clause-unrecovered g c t un past =
     let spares = subst (λ (k : Key). SparesFront (page_at c.in_ok-this.this.page_size (c.args.len / c.from-page_size.result)) k (g.D.Device.time c.sync.new.dev) (g.D.Device.time c.cut_within.new.dev)) c.in_ok-this.ensures.key (c.cut_within.ensures.front t) in
     let covered = subst (λ (k : Key). OnOk c.cut_within.result ((c.args.len % c.from-page_size.result) ≤ page_length g.S.Seal.seal_of c.in_ok-this.this.page_size (disk (g.D.Device.time c.sync.new.dev) k).content (c.args.len / c.from-page_size.result))) c.in_ok-this.ensures.key (c.cut_within.ensures.covered t) in
     let rested = subst (λ (k : Key). OnOk c.cut_within.result (IsAtRest (disk (g.D.Device.time c.cut_within.new.dev) k))) c.in_ok-this.ensures.key (c.cut_within.ensures.rests t) in
-    if_ok_with {Q = ((c.args.len % c.from-page_size.result) ≤ page_length g.S.Seal.seal_of c.in_ok-this.this.page_size (disk (g.D.Device.time c.sync.new.dev) (key_of (shown c.args.self))).content (c.args.len / c.from-page_size.result)) × IsAtRest (disk (g.D.Device.time c.cut_within.new.dev) (key_of (shown c.args.self)))} c.cut_within.result (on_ok_two c.cut_within.result (λ a b. (a, b)) covered rested) c.cut_within.ensures.same
-    (λ v both is. cut_stays g.S.Seal.seal_of (shown c.in_ok-this.this) (omega (arith, c.in_ok-this.this.fit.begun)) (key_of (shown c.args.self)) (g.D.Device.time c.sync.new.dev) (g.D.Device.time c.cut_within.new.dev) now (c.args.len / c.from-page_size.result) (c.args.len % c.from-page_size.result) less spares both.0 (shown v) (ap (λ (x : Buffer). x.page_size) is) (ap (λ (x : Buffer). x.first) is) both.1)
+    if_ok_with {Q = ((c.args.len % c.from-page_size.result) ≤ page_length g.S.Seal.seal_of c.in_ok-this.this.page_size (disk (g.D.Device.time c.sync.new.dev) (key_of (shown c.args.self))).content (c.args.len / c.from-page_size.result)) × IsAtRest (disk (g.D.Device.time c.cut_within.new.dev) (key_of (shown c.args.self)))} c.cut_within.result (on_ok_two c.cut_within.result (λ a b. (a, b)) covered rested) (both_ok c.cut_within.result (λ v. shown v ≡ record (shown c.in_ok-this.this) { end = v.end; first = (c.args.len / c.from-page_size.result); tip = v.tip.items; from = length v.tip.items; settled = (c.args.len / c.from-page_size.result) * c.in_ok-this.this.page_size + length v.tip.items; newest = v.newest; behind = false; torn = false }) (λ v. IsBacked (shown v) (disk (g.D.Device.time c.cut_within.new.dev) (key_of (shown c.args.self))).content) c.cut_within.ensures.same (returns-clause-backed g c t un.backed))
+    (λ v both is. cut_stays g.S.Seal.seal_of (shown c.in_ok-this.this) (omega (arith, c.in_ok-this.this.fit.begun)) (key_of (shown c.args.self)) (g.D.Device.time c.sync.new.dev) (g.D.Device.time c.cut_within.new.dev) now (c.args.len / c.from-page_size.result) (c.args.len % c.from-page_size.result) less spares both.0 (shown v) (ap (λ (x : Buffer). x.page_size) is.0) (ap (λ (x : Buffer). x.first) is.0) is.1 both.1)
 
 pub returns-clause-entries : goal.returns-clause-entries
 returns-clause-entries g c = then_few 1 (key_of (shown c.args.self)) (g.D.Device.opened c.args.dev.now) (g.D.Device.opened c.sync.new.dev) (g.D.Device.opened c.cut_within.new.dev) c.in_ok-this.ensures.entries (subst (λ (k : Key). FewReads 1 k (g.D.Device.opened c.sync.new.dev) (g.D.Device.opened c.cut_within.new.dev)) c.in_ok-this.ensures.key c.cut_within.ensures.entries)
-
-pub returns-clause-checksum : goal.returns-clause-checksum
-returns-clause-checksum g c t p is =
-    let pos : 1 ≤ c.args.self.page_size = omega (arith, c.args.self.fit.begun) in
-    let page : c.in_ok-this.this.page_size ≡ c.args.self.page_size = c.in_ok-this.ensures.page_size in
-    let unit : (c.args.len / c.from-page_size.result) * c.from-page_size.result ≡ (c.args.len / c.from-page_size.result) * c.args.self.page_size = ap (λ (n : ℕ). (c.args.len / c.from-page_size.result) * n) (c.from-page_size.ensures ∙ page) in
-    let at : ((c.args.len / c.from-page_size.result) * c.args.self.page_size + (c.args.len % c.from-page_size.result)) ≡ c.args.len = omega (arith, cut_place c.from-page_size.result c.args.len, unit) in
-    let q : p ≡ (c.args.len / c.from-page_size.result) = page_named c.cut_within.result p (c.args.len / c.from-page_size.result) (p ≡ (c.args.len / c.from-page_size.result)) _ (λ none. absurd (cc (none, is))) (λ failed rose. absurd (cc (failed, is))) c.cut_within.ensures.cause is in
-    let less = as_of (λ (k : Key) (n : ℕ). page_length g.S.Seal.seal_of n (disk (g.D.Device.time c.cut_within.new.dev) k).content (c.args.len / c.from-page_size.result) < (c.args.len % c.from-page_size.result)) c.in_ok-this.ensures.key page (c.cut_within.ensures.checksum t p is) in
-    subst (λ (n : ℕ). n * c.args.self.page_size + page_length g.S.Seal.seal_of c.args.self.page_size (disk (g.D.Device.time c.cut_within.new.dev) (key_of (shown c.args.self))).content n < c.args.len) (sym q) (omega (arith, less, at))
-
-pub returns-clause-uncut : goal.returns-clause-uncut
-returns-clause-uncut g c t backed p is =
-    let same : (disk (g.D.Device.time c.cut_within.new.dev) (key_of (shown c.args.self))) ≡ (disk (g.D.Device.time c.sync.new.dev) (key_of (shown c.args.self))) = ap (λ (d : Disk). d (key_of (shown c.args.self))) (unchanged_now (g.D.Device.time c.sync.new.dev) (g.D.Device.time c.cut_within.new.dev) (c.cut_within.ensures.uncut t p is)) in
-    let all = c.in_ok-this.ensures.bytes t backed in
-    let full : flushed_of (shown c.in_ok-this.this) ≡ size_of (shown c.args.self) = omega (arith, all_flushed (shown c.in_ok-this.this) c.in_ok-this.this.fit.within c.in_ok-this.this.order c.in_ok-this.ensures.settled, c.in_ok-this.ensures.size) in
-    let held = c.in_ok-this.ensures.backed t backed in
-    subst (λ (b : Blob). Data c.args.self.page_size (bytes_of (shown c.args.self) (disk (g.D.Device.time c.args.dev.now) (key_of (shown c.args.self))).content) (size_of (shown c.args.self)) (view b.content)) (sym same)
-    (subst (λ (x : List ℕ × ℕ × ℕ). Data x.2 x.0 x.1 (view (disk (g.D.Device.time c.sync.new.dev) (key_of (shown c.args.self))).content)) (λ i. (all i, full i, c.in_ok-this.ensures.page_size i)) held)
-
-pub returns-clause-uncut_rests : goal.returns-clause-uncut_rests
-returns-clause-uncut_rests g c t rested p is =
-    let same : (disk (g.D.Device.time c.cut_within.new.dev) (key_of (shown c.args.self))) ≡ (disk (g.D.Device.time c.sync.new.dev) (key_of (shown c.args.self))) = ap (λ (d : Disk). d (key_of (shown c.args.self))) (unchanged_now (g.D.Device.time c.sync.new.dev) (g.D.Device.time c.cut_within.new.dev) (c.cut_within.ensures.uncut t p is)) in
-    subst IsAtRest (sym same) (c.in_ok-this.ensures.rests t rested)
-
-pub returns-clause-untouched : goal.returns-clause-untouched
-returns-clause-untouched g c t settled p is = subst (λ (x : Timeline). Unchanged x (g.D.Device.time c.cut_within.new.dev)) (ap g.D.Device.time (c.in_ok-this.ensures.idle settled)) (c.cut_within.ensures.uncut t p is)
 
 pub returns-clause-whole : goal.returns-clause-whole
 returns-clause-whole g c t safe =
@@ -534,8 +505,79 @@ returns-clause-whole g c t safe =
       ]
     ] in
     let small : (c.args.len % c.from-page_size.result) < c.args.self.page_size = omega (arith, c.from-page_size.ensures, page, pos) in
-    not_named c.cut_within.result (c.args.len / c.from-page_size.result) _ _ (λ is. (let less = as_of (λ (k : Key) (n : ℕ). page_length g.S.Seal.seal_of n (disk (g.D.Device.time c.cut_within.new.dev) k).content (c.args.len / c.from-page_size.result) < (c.args.len % c.from-page_size.result)) c.in_ok-this.ensures.key page (c.cut_within.ensures.checksum t (c.args.len / c.from-page_size.result) is) in
-    let same : (disk (g.D.Device.time c.cut_within.new.dev) (key_of (shown c.args.self))) ≡ (disk (g.D.Device.time c.sync.new.dev) (key_of (shown c.args.self))) = ap (λ (d : Disk). d (key_of (shown c.args.self))) (unchanged_now (g.D.Device.time c.sync.new.dev) (g.D.Device.time c.cut_within.new.dev) (c.cut_within.ensures.uncut t (c.args.len / c.from-page_size.result) is)) in
-    let short : page_length g.S.Seal.seal_of c.args.self.page_size (disk (g.D.Device.time c.sync.new.dev) (key_of (shown c.args.self))).content (c.args.len / c.from-page_size.result) < (c.args.len % c.from-page_size.result) = subst (λ (b : Blob). page_length g.S.Seal.seal_of c.args.self.page_size b.content (c.args.len / c.from-page_size.result) < (c.args.len % c.from-page_size.result)) same less in
+    not_named c.cut_within.result (c.args.len / c.from-page_size.result) _ _ (λ is. (let short = as_of (λ (k : Key) (n : ℕ). page_length g.S.Seal.seal_of n (disk (g.D.Device.time c.sync.new.dev) k).content (c.args.len / c.from-page_size.result) < (c.args.len % c.from-page_size.result)) c.in_ok-this.ensures.key page (c.cut_within.ensures.checksum t (c.args.len / c.from-page_size.result) is) in
     omega (arith, short, prefix_covers g.S.Seal.seal_of c.args.self.page_size (disk (g.D.Device.time c.sync.new.dev) (key_of (shown c.args.self))).content (c.args.len / c.from-page_size.result) (c.args.len % c.from-page_size.result) (omega (arith, short)) (omega (arith, small)) inside)))
     (rose_since (g.D.Device.faults c.args.dev.now) (g.D.Device.faults c.sync.new.dev) (g.D.Device.faults c.cut_within.new.dev) c.in_ok-this.ensures.faults) c.cut_within.ensures.cause
+
+pub returns-clause-checksum : goal.returns-clause-checksum
+returns-clause-checksum g c t p is =
+    let page : c.in_ok-this.this.page_size ≡ c.args.self.page_size = c.in_ok-this.ensures.page_size in
+    let unit : (c.args.len / c.from-page_size.result) * c.from-page_size.result ≡ (c.args.len / c.from-page_size.result) * c.args.self.page_size = ap (λ (n : ℕ). (c.args.len / c.from-page_size.result) * n) (c.from-page_size.ensures ∙ page) in
+    let at : (c.args.len / c.from-page_size.result) * c.args.self.page_size + (c.args.len % c.from-page_size.result) ≡ c.args.len = omega (arith, cut_place c.from-page_size.result c.args.len, unit) in
+    let still : Unchanged (g.D.Device.time c.sync.new.dev) (g.D.Device.time c.cut_within.new.dev) = c.cut_within.ensures.refused t (c.cut_within.ensures.checksum t p is) in
+    let same : disk (g.D.Device.time c.cut_within.new.dev) (key_of (shown c.args.self)) ≡ disk (g.D.Device.time c.sync.new.dev) (key_of (shown c.args.self)) = ap (λ (d : Disk). d (key_of (shown c.args.self))) (unchanged_now (g.D.Device.time c.sync.new.dev) (g.D.Device.time c.cut_within.new.dev) still) in
+    let q : p ≡ (c.args.len / c.from-page_size.result) = page_named c.cut_within.result p (c.args.len / c.from-page_size.result) (p ≡ (c.args.len / c.from-page_size.result)) _ (λ none. absurd (cc (none, is))) (λ failed rose. absurd (cc (failed, is))) c.cut_within.ensures.cause is in
+    let short = as_of (λ (k : Key) (n : ℕ). page_length g.S.Seal.seal_of n (disk (g.D.Device.time c.sync.new.dev) k).content (c.args.len / c.from-page_size.result) < (c.args.len % c.from-page_size.result)) c.in_ok-this.ensures.key page (c.cut_within.ensures.checksum t p is) in
+    let less : page_length g.S.Seal.seal_of c.args.self.page_size (disk (g.D.Device.time c.cut_within.new.dev) (key_of (shown c.args.self))).content (c.args.len / c.from-page_size.result) < (c.args.len % c.from-page_size.result) = subst (λ (b : Blob). page_length g.S.Seal.seal_of c.args.self.page_size b.content (c.args.len / c.from-page_size.result) < (c.args.len % c.from-page_size.result)) (sym same) short in
+    subst (λ (n : ℕ). n * c.args.self.page_size + page_length g.S.Seal.seal_of c.args.self.page_size (disk (g.D.Device.time c.cut_within.new.dev) (key_of (shown c.args.self))).content n < c.args.len) (sym q) (omega (arith, less, at))
+
+pub returns-clause-uncut_pages : goal.returns-clause-uncut_pages
+returns-clause-uncut_pages g c t p is =
+    let still : Unchanged (g.D.Device.time c.sync.new.dev) (g.D.Device.time c.cut_within.new.dev) = c.cut_within.ensures.refused t (c.cut_within.ensures.checksum t p is) in
+    front_then (page_at c.args.self.page_size c.args.self.first) (key_of (shown c.args.self)) (g.D.Device.time c.args.dev.now) (g.D.Device.time c.sync.new.dev) (g.D.Device.time c.cut_within.new.dev) (c.in_ok-this.ensures.front t) (front_look (page_at c.args.self.page_size c.args.self.first) (key_of (shown c.args.self)) (g.D.Device.time c.sync.new.dev) (g.D.Device.time c.cut_within.new.dev) still)
+
+pub returns-clause-uncut : goal.returns-clause-uncut
+returns-clause-uncut g c t backed p is =
+    let still : Unchanged (g.D.Device.time c.sync.new.dev) (g.D.Device.time c.cut_within.new.dev) = c.cut_within.ensures.refused t (c.cut_within.ensures.checksum t p is) in
+    let same : disk (g.D.Device.time c.cut_within.new.dev) (key_of (shown c.args.self)) ≡ disk (g.D.Device.time c.sync.new.dev) (key_of (shown c.args.self)) = ap (λ (d : Disk). d (key_of (shown c.args.self))) (unchanged_now (g.D.Device.time c.sync.new.dev) (g.D.Device.time c.cut_within.new.dev) still) in
+    let all = c.in_ok-this.ensures.bytes t backed in
+    let full : flushed_of (shown c.in_ok-this.this) ≡ size_of (shown c.args.self) = omega (arith, all_flushed (shown c.in_ok-this.this) c.in_ok-this.this.fit.within c.in_ok-this.this.order c.in_ok-this.ensures.settled, c.in_ok-this.ensures.size) in
+    let held = c.in_ok-this.ensures.backed t backed in
+    subst (λ (b : Blob). Data c.args.self.page_size (bytes_of (shown c.args.self) (disk (g.D.Device.time c.args.dev.now) (key_of (shown c.args.self))).content) (size_of (shown c.args.self)) (view b.content)) (sym same)
+    (subst (λ (x : List ℕ × ℕ × ℕ). Data x.2 x.0 x.1 (view (disk (g.D.Device.time c.sync.new.dev) (key_of (shown c.args.self))).content)) (λ i. (all i, full i, c.in_ok-this.ensures.page_size i)) held)
+
+pub returns-clause-uncut_rests : goal.returns-clause-uncut_rests
+returns-clause-uncut_rests g c t rested p is =
+    let still : Unchanged (g.D.Device.time c.sync.new.dev) (g.D.Device.time c.cut_within.new.dev) = c.cut_within.ensures.refused t (c.cut_within.ensures.checksum t p is) in
+    let same : disk (g.D.Device.time c.cut_within.new.dev) (key_of (shown c.args.self)) ≡ disk (g.D.Device.time c.sync.new.dev) (key_of (shown c.args.self)) = ap (λ (d : Disk). d (key_of (shown c.args.self))) (unchanged_now (g.D.Device.time c.sync.new.dev) (g.D.Device.time c.cut_within.new.dev) still) in
+    subst IsAtRest (sym same) (c.in_ok-this.ensures.rests t rested)
+
+pub returns-clause-untouched : goal.returns-clause-untouched
+returns-clause-untouched g c t settled p is =
+    let still : Unchanged (g.D.Device.time c.sync.new.dev) (g.D.Device.time c.cut_within.new.dev) = c.cut_within.ensures.refused t (c.cut_within.ensures.checksum t p is) in
+    subst (λ (x : Timeline). Unchanged x (g.D.Device.time c.cut_within.new.dev)) (ap g.D.Device.time (c.in_ok-this.ensures.idle settled)) still
+
+pub returns-then-keep-eq0-clause-shorter : goal.returns-then-keep-eq0-clause-shorter
+returns-then-keep-eq0-clause-shorter g c t less =
+    let page : c.in_ok-this.this.page_size ≡ c.args.self.page_size = c.in_ok-this.ensures.page_size in
+    let unit : (c.args.len / c.from-page_size.result) * c.from-page_size.result ≡ (c.args.len / c.from-page_size.result) * c.args.self.page_size = ap (λ (n : ℕ). (c.args.len / c.from-page_size.result) * n) (c.from-page_size.ensures ∙ page) in
+    let at : (c.args.len / c.from-page_size.result) * c.args.self.page_size ≡ c.args.len = omega (arith, cut_place c.from-page_size.result c.args.len, unit, c.if-keep-eq0.true) in
+    let shorter = as_of (λ (k : Key) (n : ℕ). OnOk c.cut_at.result (adopted_size g.S.Seal.seal_of n (disk (g.D.Device.time c.cut_at.new.dev) k).content ≤ (c.args.len / c.from-page_size.result) * n)) c.in_ok-this.ensures.key page (c.cut_at.ensures.shorter t) in
+    on_ok c.cut_at.result (λ le. omega (arith, le, at)) shorter
+
+pub returns-clause-shorter : goal.returns-clause-shorter
+returns-clause-shorter g c t less =
+    let page : c.in_ok-this.this.page_size ≡ c.args.self.page_size = c.in_ok-this.ensures.page_size in
+    let unit : (c.args.len / c.from-page_size.result) * c.from-page_size.result ≡ (c.args.len / c.from-page_size.result) * c.args.self.page_size = ap (λ (n : ℕ). (c.args.len / c.from-page_size.result) * n) (c.from-page_size.ensures ∙ page) in
+    let at : (c.args.len / c.from-page_size.result) * c.args.self.page_size + (c.args.len % c.from-page_size.result) ≡ c.args.len = omega (arith, cut_place c.from-page_size.result c.args.len, unit) in
+    let shorter = as_of (λ (k : Key) (n : ℕ). OnOk c.cut_within.result (adopted_size g.S.Seal.seal_of n (disk (g.D.Device.time c.cut_within.new.dev) k).content ≤ (c.args.len / c.from-page_size.result) * n + (c.args.len % c.from-page_size.result))) c.in_ok-this.ensures.key page (c.cut_within.ensures.shorter t) in
+    on_ok c.cut_within.result (λ le. omega (arith, le, at)) shorter
+
+pub returns-then-keep-eq0-clause-covered_below : goal.returns-then-keep-eq0-clause-covered_below
+returns-then-keep-eq0-clause-covered_below g c t less below whole =
+    let page : c.in_ok-this.this.page_size ≡ c.args.self.page_size = c.in_ok-this.ensures.page_size in
+    let unit : (c.args.len / c.from-page_size.result) * c.from-page_size.result ≡ (c.args.len / c.from-page_size.result) * c.args.self.page_size = ap (λ (n : ℕ). (c.args.len / c.from-page_size.result) * n) (c.from-page_size.ensures ∙ page) in
+    let own : c.args.len / c.args.self.page_size ≡ (c.args.len / c.from-page_size.result) = ap (λ (n : ℕ). c.args.len / n) (sym (c.from-page_size.ensures ∙ page)) in
+    let rest : c.args.len % c.args.self.page_size ≡ (c.args.len % c.from-page_size.result) = ap (λ (n : ℕ). c.args.len % n) (sym (c.from-page_size.ensures ∙ page)) in
+    ok_with c.cut_at.result (omega (arith, rest, c.if-keep-eq0.true))
+
+pub returns-clause-covered_below : goal.returns-clause-covered_below
+returns-clause-covered_below g c t less below whole =
+    let page : c.in_ok-this.this.page_size ≡ c.args.self.page_size = c.in_ok-this.ensures.page_size in
+    let unit : (c.args.len / c.from-page_size.result) * c.from-page_size.result ≡ (c.args.len / c.from-page_size.result) * c.args.self.page_size = ap (λ (n : ℕ). (c.args.len / c.from-page_size.result) * n) (c.from-page_size.ensures ∙ page) in
+    let own : c.args.len / c.args.self.page_size ≡ (c.args.len / c.from-page_size.result) = ap (λ (n : ℕ). c.args.len / n) (sym (c.from-page_size.ensures ∙ page)) in
+    let rest : c.args.len % c.args.self.page_size ≡ (c.args.len % c.from-page_size.result) = ap (λ (n : ℕ). c.args.len % n) (sym (c.from-page_size.ensures ∙ page)) in
+    let as_before : page_length g.S.Seal.seal_of c.args.self.page_size (disk (g.D.Device.time c.sync.new.dev) (key_of (shown c.args.self))).content (c.args.len / c.args.self.page_size) ≡ page_length g.S.Seal.seal_of c.args.self.page_size (disk (g.D.Device.time c.args.dev.now) (key_of (shown c.args.self))).content (c.args.len / c.args.self.page_size)
+    = front_covers g.S.Seal.seal_of c.args.self.page_size c.args.self.first (disk (g.D.Device.time c.args.dev.now) (key_of (shown c.args.self))) (disk (g.D.Device.time c.sync.new.dev) (key_of (shown c.args.self))) (c.args.len / c.args.self.page_size) (front_now (page_at c.args.self.page_size c.args.self.first) (key_of (shown c.args.self)) (g.D.Device.time c.args.dev.now) (g.D.Device.time c.sync.new.dev) (c.in_ok-this.ensures.front t)) below whole in
+    let covered = as_of (λ (k : Key) (n : ℕ). OnOk c.cut_within.result ((c.args.len % c.from-page_size.result) ≤ page_length g.S.Seal.seal_of n (disk (g.D.Device.time c.sync.new.dev) k).content (c.args.len / c.from-page_size.result))) c.in_ok-this.ensures.key page (c.cut_within.ensures.covered t) in
+    on_ok c.cut_within.result (λ le. omega (arith, le, rest, as_before, ap (page_length g.S.Seal.seal_of c.args.self.page_size (disk (g.D.Device.time c.sync.new.dev) (key_of (shown c.args.self))).content) own)) covered
