@@ -173,7 +173,7 @@ module _ (seal : List ℕ → ℕ) (P : ℕ) where
       zero_is (suc zero) lt = slot_is seal P c j b no_slot refl 1 (omega arith)
       zero_is (suc (suc i)) lt = absurd (omega (arith, lt))
 
-  zeros_none : (c : List ℕ) (j : ℕ) (b : Bool) → slot_length seal P (written c (slot_at P j b) no_slot) j b ≡ 0
+  pub zeros_none : (c : List ℕ) (j : ℕ) (b : Bool) → slot_length seal P (written c (slot_at P j b) no_slot) j b ≡ 0
   zeros_none c j b = omega (arith, slot_at_most seal P (written c (slot_at P j b) no_slot) j b, zeros_named c j b)
 
   pub best_is : (c : List ℕ) (j : ℕ) (a : Bool) → best_slot seal P c j ≡ a → slot_length seal P c j a ≡ page_length seal P c j

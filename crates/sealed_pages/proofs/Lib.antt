@@ -31,3 +31,6 @@ pub mod Reopen
 pub mod PieceLemmas
 pub mod ReplayLemmas
 pub mod WholeLemmas
+pub mod Fronts
+pub mod UnrecoveredLemmas
+pub mod Shortening

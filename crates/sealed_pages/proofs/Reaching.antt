@@ -33,7 +33,7 @@ module _ (seal : List ℕ → ℕ) (P : ℕ) where
     | inr (inr more) ↦ absurd (omega (arith, le, more))
   ]
 
-  own_prefix : (c : List ℕ) → Prefix seal P (data_from P (view c) 0 (adopted_size seal P c)) 0 c
+  pub own_prefix : (c : List ℕ) → Prefix seal P (data_from P (view c) 0 (adopted_size seal P c)) 0 c
   own_prefix c = sound_prefix seal P (data_from P (view c) 0 (adopted_size seal P c)) c
       (sound_to seal P (data_from P (view c) 0 (adopted_size seal P c)) c (below_sound seal P (data_from P (view c) 0 (adopted_size seal P c)) (adopted_size seal P c) c (omega (arith, length-data_from P (view c) (adopted_size seal P c) 0)) (adopted_below seal P c) (own_data P (adopted_size seal P c) (view c))))
       0 (omega arith)

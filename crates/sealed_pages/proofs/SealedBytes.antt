@@ -19,7 +19,7 @@ module _ (seal : List ℕ → ℕ) (P : ℕ) where
   pub rest : List ℕ → ℕ → ℕ → List ℕ
   rest v k m = cond (eqb (page_length seal P v k) P) (sealed_from seal P v (k + 1) m) []
 
-  sealed_step : (v : List ℕ) (k m : ℕ) → sealed_from seal P v k (suc m) ≡ bytes_at (view v) (page_at P k) (page_length seal P v k) ++ rest v k m
+  pub sealed_step : (v : List ℕ) (k m : ℕ) → sealed_from seal P v k (suc m) ≡ bytes_at (view v) (page_at P k) (page_length seal P v k) ++ rest v k m
   unfolding sealed_from rest
   sealed_step v k m = refl
 

@@ -19,7 +19,7 @@ use Rattle.sealed_pages.proofs.Steps.{slot_data, data_slot, slot_slot, data_data
 pub quiet_more : (P F G : ℕ) (v : View) → F ≤ G → Quiet P F v → Quiet P G v
 quiet_more P F G v le quiet k b part = omega (arith, le, part, quiet k b (omega (arith, le, part)))
 
-length-two_bytes : (n : ℕ) → length (to_be_bytes w16 n) ≡ 2
+pub length-two_bytes : (n : ℕ) → length (to_be_bytes w16 n) ≡ 2
 length-two_bytes n = search rules
 
 length-four_bytes : (n : ℕ) → length (to_be_bytes w32 n) ≡ 4

@@ -4,6 +4,7 @@ use Rattle.std.proofs.lemmas.Bool.{cases_lt, cases_eq, eq-eqb, ne_eqb}
 use Rattle.std.proofs.lemmas.List.{get_or-take, get_or-drop}
 use Rattle.blob_device.specs.Change.{written, resized}
 use Rattle.blob_device.specs.Disk.{Key, Blob, Disk, settled_at}
+use Rattle.blob_device.specs.Counts.{Rose}
 use Rattle.blob_device.specs.Timeline.{Timeline, disk, OnlyAt}
 use Rattle.blob_device.proofs.Moments.{always_weaker, only_start}
 use Rattle.std.specs.Prelude.{IfOk, OnErr}
@@ -279,6 +280,21 @@ page_named (Err e) p q A B mem fault cause is = elim cause [
     | inr failed ↦ absurd (cc (failed.0, is))
   ]
 ]
+
+-- a refusal for what is in the blob is out of the question
+pub not_named : {T : Type 0} (r : Result T RError) (q : ℕ) (B C : Type 0) → ((r ≡ Err (InvalidChecksum q)) → ⊥) → (B → C) → OnErr r ((r ≡ Err (InvalidChecksum q)) ⊎ ((r ≡ Err Mem) ⊎ ((r ≡ Err Fault) × B))) → OnErr r ((r ≡ Err Mem) ⊎ ((r ≡ Err Fault) × C))
+not_named (Ok v) q B C never more cause = cause
+not_named (Err e) q B C never more cause = elim cause [
+  | inl named ↦ absurd (never named)
+  | inr other ↦ elim other [
+    | inl none ↦ inl none
+    | inr failed ↦ inr (failed.0, more failed.1)
+  ]
+]
+
+-- the count rose since an earlier moment too
+pub rose_since : (a b n : ℕ) → a ≤ b → Rose b n → Rose a n
+rose_since a b n le rose = omega (arith, le, rose)
 
 pub data_taken : (P : ℕ) (all : List ℕ) (F L : ℕ) (v : View) → L ≤ F → Data P all F v → Data P (take L all) L v
 data_taken P all F L v le same k i lt below = same k i lt (omega (arith, below, le)) ∙ sym (get_or-take L all (k * P + i) 0 below)

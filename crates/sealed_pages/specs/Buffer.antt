@@ -1,5 +1,5 @@
 -- What a buffer over a sealed blob shows, and what it means: a list of bytes, most of them in its blob.
-use Rattle.std.specs.Prelude.{◌≡◌, ℕ, ◌+◌, ◌*◌, ◌-◌, ◌/◌, ◌^◌, ◌<◌, ◌≤◌, ◌||◌, not, cond, eqb, Bool, true, false, List, ◌++◌, length}
+use Rattle.std.specs.Prelude.{◌≡◌, ◌⊎◌, ℕ, ◌+◌, ◌*◌, ◌-◌, ◌/◌, ◌^◌, ◌<◌, ◌≤◌, ◌||◌, not, cond, eqb, Bool, true, false, List, ◌++◌, length}
 use Rattle.blob_device.specs.Disk.{Key, Blob, settled_at}
 use Rattle.sealed_pages.specs.View.{view, page_at, StandsAt}
 use Rattle.sealed_pages.specs.SealedPrefix.{data_from}
@@ -44,6 +44,10 @@ flushed_of b = b.first * b.page_size + b.from
 -- The bytes of a buffer over a blob of this content: the data of the pages below the tip, and the tip.
 abbrev pub bytes_of : Buffer → List ℕ → List ℕ
 bytes_of b content = data_from b.page_size (view content) 0 (b.first * b.page_size) ++ b.tip
+
+-- with n more bytes those that are not flushed are below the capacity, or there are none
+abbrev pub FlushesNothing : Buffer → ℕ → Type 0
+FlushesNothing b n = (length b.tip + n < b.from + b.capacity) ⊎ (length b.tip + n ≤ b.from)
 
 -- a crash may have left something that the first flush has to remove
 abbrev pub has_leftover : Buffer → Bool

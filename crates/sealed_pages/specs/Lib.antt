@@ -13,6 +13,7 @@ pub mod Reading
 pub mod Found
 pub mod Starts
 pub mod Cutting
+pub mod Unrecovered
 pub mod Sparing
 pub mod Writing
 pub mod Filled

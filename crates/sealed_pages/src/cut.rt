@@ -13,6 +13,7 @@ ghost use Rattle.sealed_pages.specs.Flushing.{Alone, no_slot};
 ghost use Rattle.sealed_pages.specs.Reading.{Unchanged};
 ghost use Rattle.sealed_pages.specs.Entries.{IsOpenAt, NoReads};
 ghost use Rattle.sealed_pages.specs.Cutting.{IsAtRest, page_cut, FewReads};
+ghost use Rattle.sealed_pages.specs.Unrecovered.{SparesFront};
 
 use crate::page::{page_place, slot_of, slot_place};
 use crate::reading::matching_len;
@@ -36,6 +37,7 @@ pub fn cut_pages<D: Device, S: Seal>(
         → Sealing S.seal_of page_size (sealed_prefix S.seal_of page_size (disk (D.time dev.old) (partition.now, name.now)).content) (min (page * page_size) (length (sealed_prefix S.seal_of page_size (disk (D.time dev.old) (partition.now, name.now)).content))) (partition.now, name.now) (D.time dev.old) (D.time dev.new) }
     ensures settles { D.Tells → OnOk result (disk (D.time dev.new) (partition.now, name.now) ≡ settled_at (resized (disk (D.time dev.old) (partition.now, name.now)).content (page_at page_size page))) }
     ensures alone { D.Tells → Alone (partition.now, name.now) (D.time dev.old) (D.time dev.new) }
+    ensures front { D.Tells → SparesFront (page_at page_size page) (partition.now, name.now) (D.time dev.old) (D.time dev.new) }
     ensures length { OnOk result (IsOpenAt (D.opened dev.new) (partition.now, name.now) (page_at page_size page)) }
     ensures entries { NoReads (partition.now, name.now) (D.opened dev.old) (D.opened dev.new) }
     ensures faults { D.faults dev.old ≤ D.faults dev.new }
@@ -64,6 +66,7 @@ pub fn cut_later<D: Device, S: Seal>(
     ensures content { D.Tells → OnOk result ((disk (D.time dev.new) (partition.now, name.now)).content ≡ take (page_at page_size page) (disk (D.time dev.old) (partition.now, name.now)).content) }
     ensures rests { D.Tells → IsAtRest (disk (D.time dev.old) (partition.now, name.now)) → OnOk result (IsAtRest (disk (D.time dev.new) (partition.now, name.now))) }
     ensures alone { D.Tells → Alone (partition.now, name.now) (D.time dev.old) (D.time dev.new) }
+    ensures front { D.Tells → SparesFront (page_at page_size page) (partition.now, name.now) (D.time dev.old) (D.time dev.new) }
     ensures length { IfOk result (λ n. IsOpenAt (D.opened dev.new) (partition.now, name.now) n) }
     ensures entries { NoReads (partition.now, name.now) (D.opened dev.old) (D.opened dev.new) }
     ensures faults { D.faults dev.old ≤ D.faults dev.new }
@@ -101,6 +104,7 @@ pub fn add_slot<D: Device, S: Seal>(
         → Sealing S.seal_of page_size (sealed_prefix S.seal_of page_size (disk (D.time dev.old) (partition.now, name.now)).content) (length (sealed_prefix S.seal_of page_size (disk (D.time dev.old) (partition.now, name.now)).content)) (partition.now, name.now) (D.time dev.old) (D.time dev.new) }
     ensures settles { D.Tells → OnOk result (disk (D.time dev.new) (partition.now, name.now) ≡ settled_at (written (disk (D.time dev.old) (partition.now, name.now)).content (slot_at page_size page second) (slot_bytes S.seal_of page_size bytes.now))) }
     ensures alone { D.Tells → Alone (partition.now, name.now) (D.time dev.old) (D.time dev.new) }
+    ensures front { D.Tells → SparesFront (page_at page_size page) (partition.now, name.now) (D.time dev.old) (D.time dev.new) }
     ensures length { IfOk result (λ n. IsOpenAt (D.opened dev.new) (partition.now, name.now) n) }
     ensures entries { NoReads (partition.now, name.now) (D.opened dev.old) (D.opened dev.new) }
     ensures faults { D.faults dev.old ≤ D.faults dev.new }
@@ -135,6 +139,7 @@ pub fn clear_slot<D: Device, S: Seal>(
         → Sealing S.seal_of page_size (sealed_prefix S.seal_of page_size (disk (D.time dev.old) (partition.now, name.now)).content) (page * page_size + keep) (partition.now, name.now) (D.time dev.old) (D.time dev.new) }
     ensures settles { D.Tells → OnOk result (disk (D.time dev.new) (partition.now, name.now) ≡ settled_at (written (disk (D.time dev.old) (partition.now, name.now)).content (slot_at page_size page second) no_slot)) }
     ensures alone { D.Tells → Alone (partition.now, name.now) (D.time dev.old) (D.time dev.new) }
+    ensures front { D.Tells → SparesFront (page_at page_size page) (partition.now, name.now) (D.time dev.old) (D.time dev.new) }
     ensures length { IfOk result (λ n. IsOpenAt (D.opened dev.new) (partition.now, name.now) n) }
     ensures entries { NoReads (partition.now, name.now) (D.opened dev.old) (D.opened dev.new) }
     ensures faults { D.faults dev.old ≤ D.faults dev.new }
@@ -171,6 +176,7 @@ pub fn cut_inside<D: Device, S: Seal>(
         → Sealing S.seal_of page_size (sealed_prefix S.seal_of page_size (disk (D.time dev.old) (partition.now, name.now)).content) (page * page_size + length bytes.now) (partition.now, name.now) (D.time dev.old) (D.time dev.new) }
     ensures settles { D.Tells → OnOk result (disk (D.time dev.new) (partition.now, name.now) ≡ settled_at (page_cut S.seal_of page_size (disk (D.time dev.old) (partition.now, name.now)).content page second bytes.now)) }
     ensures alone { D.Tells → Alone (partition.now, name.now) (D.time dev.old) (D.time dev.new) }
+    ensures front { D.Tells → SparesFront (page_at page_size page) (partition.now, name.now) (D.time dev.old) (D.time dev.new) }
     ensures length { IfOk result (λ n. IsOpenAt (D.opened dev.new) (partition.now, name.now) n) }
     ensures entries { NoReads (partition.now, name.now) (D.opened dev.old) (D.opened dev.new) }
     ensures faults { D.faults dev.old ≤ D.faults dev.new }

@@ -7,7 +7,7 @@ ghost use Rattle.blob_device.specs.Counts.{Rose};
 ghost use Rattle.sealed_pages.specs.View.{page_at};
 ghost use Rattle.sealed_pages.specs.ChanceSeal.{Leaves, Sealing};
 ghost use Rattle.sealed_pages.specs.Flushing.{Alone, last_slot};
-ghost use Rattle.sealed_pages.specs.Buffer.{Fit, Buffer, extent, key_of, size_of, bytes_of, flushed_of, Holds, IsSealed};
+ghost use Rattle.sealed_pages.specs.Buffer.{Fit, Buffer, extent, key_of, size_of, bytes_of, flushed_of, FlushesNothing, Holds, IsSealed};
 ghost use Rattle.sealed_pages.specs.Entries.{IsOpenAt, NoReads};
 ghost use Rattle.sealed_pages.specs.Cutting.{IsAtRest, Settles};
 
@@ -90,13 +90,13 @@ fn last_slot_of(
 
 impl<S: Seal> PageBlob<S> {
     ghost use Rattle.sealed_pages.specs.Shown.{shown};
-    ghost use Rattle.blob_device.specs.Disk.{settled_at};
     ghost use Rattle.sealed_pages.specs.SealedPrefix.{sealed_prefix, adopted_size};
     ghost use Rattle.sealed_pages.specs.Reading.{Unchanged, OnlyRead};
     ghost use Rattle.sealed_pages.specs.View.{view, StandsAt};
     ghost use Rattle.sealed_pages.specs.Buffer.{IsBacked, has_leftover};
     ghost use Rattle.sealed_pages.specs.Flushing.{Data, Wrote};
     ghost use Rattle.sealed_pages.specs.Leftover.{Leftover};
+    ghost use Rattle.sealed_pages.specs.Unrecovered.{blob_of, prefix_of, SparesFront, KeepsPrefix, IsUnrecovered, IsAdopted};
 
     /// Adopts an opened blob of this length. The size goes back to the last page with a matching slot.
     ///
@@ -115,9 +115,14 @@ impl<S: Seal> PageBlob<S> {
         ensures size { D.Tells → IfOk result (λ r. size_of (shown r) ≡ adopted_size S.seal_of pages.page_size (disk (D.time dev.old) (partition.now, name.now)).content) }
         ensures backed { D.Tells → IfOk result (λ r. IsBacked (shown r) (disk (D.time dev.old) (partition.now, name.now)).content) }
         // Where the blob has settled, and its sealed prefix is the size, the promise on crashes begins.
-        ensures sealed { D.Tells → disk (D.time dev.old) (partition.now, name.now) ≡ settled_at (disk (D.time dev.old) (partition.now, name.now)).content
+        ensures sealed { D.Tells → IsAtRest (disk (D.time dev.old) (partition.now, name.now))
             → length (sealed_prefix S.seal_of pages.page_size (disk (D.time dev.old) (partition.now, name.now)).content) ≡ adopted_size S.seal_of pages.page_size (disk (D.time dev.old) (partition.now, name.now)).content
             → IfOk result (λ r. IsSealed S.seal_of (shown r) (disk (D.time dev.old) (partition.now, name.now))) }
+        // Where the prefix is shorter, that prefix outlives each crash. There is no third case.
+        ensures unrecovered { D.Tells → IsAtRest (disk (D.time dev.old) (partition.now, name.now))
+            → length (sealed_prefix S.seal_of pages.page_size (disk (D.time dev.old) (partition.now, name.now)).content) < adopted_size S.seal_of pages.page_size (disk (D.time dev.old) (partition.now, name.now)).content
+            → IfOk result (λ r. IsUnrecovered S.seal_of (shown r) (disk (D.time dev.old) (partition.now, name.now))) }
+        ensures adopted { D.Tells → IsAtRest (disk (D.time dev.old) (partition.now, name.now)) → IfOk result (λ r. IsAdopted S.seal_of (shown r) (disk (D.time dev.old) (partition.now, name.now))) }
         ensures leftover { D.Tells → IfOk result (λ r. Leftover S.seal_of r.page_size (disk (D.time dev.old) (partition.now, name.now)).content r.first r.from r.newest r.behind r.torn) }
         ensures unchanged { D.Tells → Unchanged (D.time dev.old) (D.time dev.new) }
         ensures settled { IfOk result (λ r. r.settled ≡ size_of (shown r)) }
@@ -128,6 +133,7 @@ impl<S: Seal> PageBlob<S> {
         ensures open { IfOk result (λ r. IsOpenAt (D.opened dev.new) (key_of (shown r)) r.end) }
         ensures entries { OnlyRead (partition.now, name.now) (D.opened dev.old) (D.opened dev.new) }
         ensures overflow { IsErrOf result OffsetOverflow ↔ 2 ^ 64 ≤ size + (pages.page_size + 12) }
+        ensures refused { IsErrOf result OffsetOverflow → dev.new ≡ dev.old }
         ensures faults { D.faults dev.old ≤ D.faults dev.new }
         ensures cause { OnErr result ((result ≡ Err RError.OffsetOverflow) ⊎ ((result ≡ Err RError.Mem) ⊎ ((result ≡ Err RError.Fault) × Rose (D.faults dev.old) (D.faults dev.new)))) }
     {
@@ -190,6 +196,7 @@ impl<S: Seal> PageBlob<S> {
             → IfOk result (λ r. Holds S.seal_of (shown r) all (disk (D.time dev.new) (key_of (shown self)))) }
         ensures wrote { D.Tells → (all : List ℕ) → Data self.page_size all (flushed_of (shown self)) (view (disk (D.time dev.old) (key_of (shown self))).content)
             → Wrote self.page_size all (flushed_of (shown self)) (key_of (shown self)) result (D.time dev.old) (D.time dev.new) }
+        ensures front { D.Tells → SparesFront (page_at self.page_size self.first) (key_of (shown self)) (D.time dev.old) (D.time dev.new) }
         ensures settles { D.Tells → (self.behind || self.torn) ≡ true → OnOk result (IsAtRest (disk (D.time dev.new) (key_of (shown self)))) }
         ensures same { IfOk result (λ r. shown r ≡ record (shown self) { end = r.end; behind = false; torn = false }) }
         ensures length { IfOk result (λ r. IsOpenAt (D.opened dev.new) (key_of (shown self)) r.end) }
@@ -230,6 +237,7 @@ impl<S: Seal> PageBlob<S> {
         ensures wrote { D.Tells → (all : List ℕ) → Data self.page_size all (flushed_of (shown self)) (view (disk (D.time dev.old) (key_of (shown self))).content)
             → StandsAt all (self.first * self.page_size) self.tip.items
             → Wrote self.page_size all (size_of (shown self)) (key_of (shown self)) result (D.time dev.old) (D.time dev.new) }
+        ensures front { D.Tells → SparesFront (page_at self.page_size self.first) (key_of (shown self)) (D.time dev.old) (D.time dev.new) }
         ensures same { IfOk result (λ r. shown r ≡ record (shown self) { end = r.end; first = r.first; tip = r.tip.items; from = length r.tip.items }) }
         ensures size { IfOk result (λ r. size_of (shown r) ≡ size_of (shown self)) }
         ensures tip { IfOk result (λ r. (all : List ℕ) → StandsAt all (self.first * self.page_size) self.tip.items → StandsAt all (r.first * r.page_size) r.tip.items) }
@@ -297,6 +305,11 @@ impl<S: Seal> PageBlob<S> {
         ensures wrote { D.Tells → (all : List ℕ) → Data self.page_size all (flushed_of (shown self)) (view (disk (D.time dev.old) (key_of (shown self))).content)
             → StandsAt all (self.first * self.page_size) self.tip.items
             → Wrote self.page_size all (size_of (shown self)) (key_of (shown self)) result (D.time dev.old) (D.time dev.new) }
+        ensures steady { D.Tells → IsUnrecovered S.seal_of (shown self) (blob_of (shown self) (D.time dev.old))
+            → KeepsPrefix S.seal_of self.page_size (prefix_of S.seal_of (shown self) (D.time dev.old)) (key_of (shown self)) (D.time dev.old) (D.time dev.new) }
+        ensures unrecovered { D.Tells → IsUnrecovered S.seal_of (shown self) (blob_of (shown self) (D.time dev.old)) → IfOk result (λ r. IsUnrecovered S.seal_of (shown r) (blob_of (shown self) (D.time dev.new))) }
+        ensures front { D.Tells → SparesFront (page_at self.page_size self.first) (key_of (shown self)) (D.time dev.old) (D.time dev.new) }
+        ensures backed { D.Tells → IsBacked (shown self) (blob_of (shown self) (D.time dev.old)).content → IfOk result (λ r. IsBacked (shown r) (blob_of (shown self) (D.time dev.new)).content) }
         ensures idle { length self.tip.items ≤ self.from → dev.new ≡ dev.old }
         ensures fine { length self.tip.items ≤ self.from → IsOkAnd result (λ r. shown r ≡ shown self) }
         ensures key { IfOk result (λ r. key_of (shown r) ≡ key_of (shown self)) }
@@ -329,12 +342,18 @@ impl<S: Seal> PageBlob<S> {
             → Sealing S.seal_of self.page_size (bytes_of (shown self) (disk (D.time dev.old) (key_of (shown self))).content ++ bytes.now) self.settled (key_of (shown self)) (D.time dev.old) (D.time dev.new) }
         ensures sealed { D.Tells → IsSealed S.seal_of (shown self) (disk (D.time dev.old) (key_of (shown self)))
             → IfOk result (λ r. IsSealed S.seal_of (shown r.0) (disk (D.time dev.new) (key_of (shown self)))) }
+        // Where the sealed prefix of an adopted blob is shorter than its size, each crash leaves that prefix as it was.
+        ensures steady { D.Tells → IsUnrecovered S.seal_of (shown self) (blob_of (shown self) (D.time dev.old))
+            → KeepsPrefix S.seal_of self.page_size (prefix_of S.seal_of (shown self) (D.time dev.old)) (key_of (shown self)) (D.time dev.old) (D.time dev.new) }
+        ensures unrecovered { D.Tells → IsUnrecovered S.seal_of (shown self) (blob_of (shown self) (D.time dev.old)) → IfOk result (λ r. IsUnrecovered S.seal_of (shown r.0) (blob_of (shown self) (D.time dev.new))) }
         ensures alone { D.Tells → IsBacked (shown self) (disk (D.time dev.old) (key_of (shown self))).content → Alone (key_of (shown self)) (D.time dev.old) (D.time dev.new) }
         ensures bytes { D.Tells → IsBacked (shown self) (disk (D.time dev.old) (key_of (shown self))).content
             → IfOk result (λ r. bytes_of (shown r.0) (disk (D.time dev.new) (key_of (shown self))).content ≡ bytes_of (shown self) (disk (D.time dev.old) (key_of (shown self))).content ++ bytes.now) }
         ensures backed { D.Tells → IsBacked (shown self) (disk (D.time dev.old) (key_of (shown self))).content
             → IfOk result (λ r. IsBacked (shown r.0) (disk (D.time dev.new) (key_of (shown self))).content) }
-        ensures below { length self.tip.items + length bytes.now < self.from + self.capacity → dev.new ≡ dev.old }
+        // Below the capacity, and where nothing is to be flushed, no call of the device is made, and so none fails.
+        ensures below { FlushesNothing (shown self) (length bytes.now) → dev.new ≡ dev.old }
+        ensures faultless { FlushesNothing (shown self) (length bytes.now) → OnErr result ((result ≡ Err RError.OffsetOverflow) ⊎ (result ≡ Err RError.Mem)) }
         ensures flushed { self.from + self.capacity ≤ length self.tip.items + length bytes.now → IfOk result (λ r. r.0.from ≡ length r.0.tip.items) }
         ensures at { IfOk result (λ r. r.1 ≡ size_of (shown self)) }
         ensures size { IfOk result (λ r. size_of (shown r.0) ≡ size_of (shown self) + length bytes.now) }
@@ -345,6 +364,7 @@ impl<S: Seal> PageBlob<S> {
         ensures open { IfOk result (λ r. IsOpenAt (D.opened dev.new) (key_of (shown r.0)) r.0.end) }
         ensures entries { NoReads (key_of (shown self)) (D.opened dev.old) (D.opened dev.new) }
         ensures overflow { IsErrOf result OffsetOverflow ↔ 2 ^ 64 ≤ extent self.page_size (size_of (shown self) + length bytes.now) }
+        ensures refused { IsErrOf result OffsetOverflow → dev.new ≡ dev.old }
         ensures faults { D.faults dev.old ≤ D.faults dev.new }
         ensures cause { OnErr result ((result ≡ Err RError.OffsetOverflow) ⊎ ((result ≡ Err RError.Mem) ⊎ ((result ≡ Err RError.Fault) × Rose (D.faults dev.old) (D.faults dev.new)))) }
     {
@@ -368,6 +388,12 @@ impl<S: Seal> PageBlob<S> {
             → Sealing S.seal_of self.page_size (bytes_of (shown self) (disk (D.time dev.old) (key_of (shown self))).content) self.settled (key_of (shown self)) (D.time dev.old) (D.time dev.new) }
         ensures sealed { D.Tells → IsSealed S.seal_of (shown self) (disk (D.time dev.old) (key_of (shown self)))
             → IfOk result (λ r. IsSealed S.seal_of (shown r) (disk (D.time dev.new) (key_of (shown self)))) }
+        // Where the sealed prefix of an adopted blob is shorter than its size, each crash leaves that prefix as it was.
+        ensures steady { D.Tells → IsUnrecovered S.seal_of (shown self) (blob_of (shown self) (D.time dev.old))
+            → KeepsPrefix S.seal_of self.page_size (prefix_of S.seal_of (shown self) (D.time dev.old)) (key_of (shown self)) (D.time dev.old) (D.time dev.new) }
+        ensures unrecovered { D.Tells → IsUnrecovered S.seal_of (shown self) (blob_of (shown self) (D.time dev.old)) → IfOk result (λ r. IsUnrecovered S.seal_of (shown r) (blob_of (shown self) (D.time dev.new))) }
+        // The pages below the tip's stand as they did.
+        ensures front { D.Tells → SparesFront (page_at self.page_size self.first) (key_of (shown self)) (D.time dev.old) (D.time dev.new) }
         ensures alone { D.Tells → IsBacked (shown self) (disk (D.time dev.old) (key_of (shown self))).content → Alone (key_of (shown self)) (D.time dev.old) (D.time dev.new) }
         ensures bytes { D.Tells → IsBacked (shown self) (disk (D.time dev.old) (key_of (shown self))).content
             → IfOk result (λ r. bytes_of (shown r) (disk (D.time dev.new) (key_of (shown self))).content ≡ bytes_of (shown self) (disk (D.time dev.old) (key_of (shown self))).content) }

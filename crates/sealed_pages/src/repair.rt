@@ -8,6 +8,7 @@ ghost use Rattle.sealed_pages.specs.Flushing.{Kept, IsClean, Removed, PageFlushe
 ghost use Rattle.sealed_pages.specs.Buffer.{Adopted, pages_of};
 ghost use Rattle.sealed_pages.specs.Entries.{IsOpenAt, NoReads};
 ghost use Rattle.sealed_pages.specs.Cutting.{IsAtRest};
+ghost use Rattle.sealed_pages.specs.Unrecovered.{SparesFront};
 
 use crate::page::{page_place, slot_place};
 use blob_device::{DevError, Device};
@@ -45,6 +46,7 @@ pub fn cut_behind<D: Device, S: Seal>(
         → Data page_size all F (view (disk (D.time dev.old) (partition.now, name.now)).content)
         → F ≤ pages * page_size
         → Wrote page_size all F (partition.now, name.now) result (D.time dev.old) (D.time dev.new) }
+    ensures front { D.Tells → SparesFront (page_at page_size pages) (partition.now, name.now) (D.time dev.old) (D.time dev.new) }
     ensures length { IfOk result (λ n. IsOpenAt (D.opened dev.new) (partition.now, name.now) n) }
     ensures entries { NoReads (partition.now, name.now) (D.opened dev.old) (D.opened dev.new) }
     ensures faults { D.faults dev.old ≤ D.faults dev.new }
@@ -83,6 +85,7 @@ pub fn clear_torn<D: Device, S: Seal>(
     ensures wrote { D.Tells → (all : List ℕ) (F : ℕ)
         → Data page_size all F (view (disk (D.time dev.old) (partition.now, name.now)).content)
         → Wrote page_size all F (partition.now, name.now) result (D.time dev.old) (D.time dev.new) }
+    ensures front { D.Tells → SparesFront (page_at page_size page) (partition.now, name.now) (D.time dev.old) (D.time dev.new) }
     ensures length { IfOk result (λ n. IsOpenAt (D.opened dev.new) (partition.now, name.now) n) }
     ensures entries { NoReads (partition.now, name.now) (D.opened dev.old) (D.opened dev.new) }
     ensures faults { D.faults dev.old ≤ D.faults dev.new }
@@ -119,6 +122,7 @@ pub fn repair<D: Device, S: Seal>(
     ensures wrote { D.Tells → (all : List ℕ)
         → Data page_size all (first * page_size + from) (view (disk (D.time dev.old) (partition.now, name.now)).content)
         → Wrote page_size all (first * page_size + from) (partition.now, name.now) result (D.time dev.old) (D.time dev.new) }
+    ensures front { D.Tells → SparesFront (page_at page_size first) (partition.now, name.now) (D.time dev.old) (D.time dev.new) }
     ensures settles { D.Tells → OnOk result (IsAtRest (disk (D.time dev.new) (partition.now, name.now))) }
     ensures length { IfOk result (λ n. IsOpenAt (D.opened dev.new) (partition.now, name.now) n) }
     ensures entries { NoReads (partition.now, name.now) (D.opened dev.old) (D.opened dev.new) }

@@ -1,5 +1,5 @@
 // Cutting a buffer over sealed pages shorter.
-ghost use Rattle.std.specs.Prelude.{◌≡◌, ◌≢◌, ◌+◌, ◌*◌, ◌≤◌, ◌<◌, ◌^◌, ◌⊎◌, Err, min, length, take, false, IfOk, IsOkAnd, OnOk, OnErr, Bool, ℕ, List, []};
+ghost use Rattle.std.specs.Prelude.{◌≡◌, ◌≢◌, ◌+◌, ◌*◌, ◌/◌, ◌%◌, ◌≤◌, ◌<◌, ◌^◌, ◌⊎◌, Err, min, length, take, false, IfOk, IsOkAnd, OnOk, OnErr, Bool, ℕ, List, []};
 ghost use Rattle.blob_device.specs.declared.runtime.RError.TheVariants.{Fault, InvalidChecksum, Mem};
 ghost use Rattle.blob_device.specs.Counts.{Rose};
 ghost use Rattle.blob_device.specs.Timeline.{disk};
@@ -23,6 +23,8 @@ impl<S: Seal> PageBlob<S> {
     ghost use Rattle.sealed_pages.specs.View.{view};
     ghost use Rattle.sealed_pages.specs.Buffer.{IsBacked};
     ghost use Rattle.sealed_pages.specs.Flushing.{Data};
+    ghost use Rattle.sealed_pages.specs.Reading.{Unchanged};
+    ghost use Rattle.sealed_pages.specs.Unrecovered.{blob_of, prefix_of, SparesFront, KeepsPrefix, IsUnrecovered, IsRecovery, IsSafeCut};
 
     // The buffer that ends with these bytes of a page, which have settled. The blob's physical end is at `end`.
     fn ending_with(self, end: u64, page: u64, tip: Vec<u8>, newest: bool) -> PageBlob<S>
@@ -79,6 +81,8 @@ impl<S: Seal> PageBlob<S> {
         ensures rests { D.Tells → OnOk result (IsAtRest (disk (D.time dev.new) (key_of (shown self)))) }
         ensures same { IfOk result (λ r. shown r ≡ record (shown self) { end = r.end; first = page; tip = []; from = 0; settled = page * self.page_size + 0; newest = r.newest; behind = false; torn = false }) }
         ensures alone { D.Tells → Alone (key_of (shown self)) (D.time dev.old) (D.time dev.new) }
+        ensures front { D.Tells → SparesFront (page_at self.page_size page) (key_of (shown self)) (D.time dev.old) (D.time dev.new) }
+        ensures shorter { D.Tells → OnOk result (adopted_size S.seal_of self.page_size (blob_of (shown self) (D.time dev.new)).content ≤ page * self.page_size) }
         ensures length { IfOk result (λ r. IsOpenAt (D.opened dev.new) (key_of (shown self)) r.end) }
         ensures entries { NoReads (key_of (shown self)) (D.opened dev.old) (D.opened dev.new) }
         ensures faults { D.faults dev.old ≤ D.faults dev.new }
@@ -124,11 +128,14 @@ impl<S: Seal> PageBlob<S> {
         ensures same { IfOk result (λ r. shown r ≡ record (shown self) { end = r.end; first = page; tip = r.tip.items; from = length r.tip.items; settled = page * self.page_size + length r.tip.items; newest = r.newest; behind = false; torn = false }) }
         ensures long { IfOk result (λ r. length r.tip.items ≡ keep) }
         ensures alone { D.Tells → Alone (key_of (shown self)) (D.time dev.old) (D.time dev.new) }
+        ensures front { D.Tells → SparesFront (page_at self.page_size page) (key_of (shown self)) (D.time dev.old) (D.time dev.new) }
+        ensures shorter { D.Tells → OnOk result (adopted_size S.seal_of self.page_size (blob_of (shown self) (D.time dev.new)).content ≤ page * self.page_size + keep) }
         ensures length { IfOk result (λ r. IsOpenAt (D.opened dev.new) (key_of (shown self)) r.end) }
         ensures entries { FewReads 1 (key_of (shown self)) (D.opened dev.old) (D.opened dev.new) }
         ensures faults { D.faults dev.old ≤ D.faults dev.new }
-        ensures checksum { D.Tells → (p : ℕ) → result ≡ Err (RError.InvalidChecksum p) → page_length S.seal_of self.page_size (disk (D.time dev.new) (key_of (shown self))).content page < keep }
-        ensures uncut { D.Tells → (p : ℕ) → result ≡ Err (RError.InvalidChecksum p) → disk (D.time dev.new) ≡ disk (D.time dev.old) }
+        ensures checksum { D.Tells → (p : ℕ) → result ≡ Err (RError.InvalidChecksum p) → page_length S.seal_of self.page_size (blob_of (shown self) (D.time dev.old)).content page < keep }
+        ensures covered { D.Tells → OnOk result (keep ≤ page_length S.seal_of self.page_size (blob_of (shown self) (D.time dev.old)).content page) }
+        ensures refused { D.Tells → page_length S.seal_of self.page_size (blob_of (shown self) (D.time dev.old)).content page < keep → Unchanged (D.time dev.old) (D.time dev.new) }
         ensures cause { OnErr result ((result ≡ Err (RError.InvalidChecksum page)) ⊎ ((result ≡ Err RError.Mem) ⊎ ((result ≡ Err RError.Fault) × Rose (D.faults dev.old) (D.faults dev.new)))) }
     {
         let head = read_head::<D, S>(
@@ -167,25 +174,23 @@ impl<S: Seal> PageBlob<S> {
             → Sealing S.seal_of self.page_size (bytes_of (shown self) (disk (D.time dev.old) (key_of (shown self))).content) (min self.settled len) (key_of (shown self)) (D.time dev.old) (D.time dev.new) }
         ensures sealed { D.Tells → IsSealed S.seal_of (shown self) (disk (D.time dev.old) (key_of (shown self)))
             → IfOk result (λ r. IsSealed S.seal_of (shown r) (disk (D.time dev.new) (key_of (shown self)))) }
-        // Also on a blob whose sealed prefix is shorter than its size, if the cut is to at most that prefix.
-        ensures unrecovered { D.Tells → IsAtRest (disk (D.time dev.old) (key_of (shown self)))
-            → size_of (shown self) ≡ adopted_size S.seal_of self.page_size (disk (D.time dev.old) (key_of (shown self))).content
-            → self.settled ≡ size_of (shown self)
-            → len ≤ length (sealed_prefix S.seal_of self.page_size (disk (D.time dev.old) (key_of (shown self))).content)
-            → Sealing S.seal_of self.page_size (sealed_prefix S.seal_of self.page_size (disk (D.time dev.old) (key_of (shown self))).content) len (key_of (shown self)) (D.time dev.old) (D.time dev.new) }
+        // Also where the sealed prefix of an adopted blob is shorter than its size, if the cut is to at most that prefix.
+        ensures recovering { D.Tells → IsRecovery S.seal_of (shown self) len (blob_of (shown self) (D.time dev.old))
+            → Sealing S.seal_of self.page_size (prefix_of S.seal_of (shown self) (D.time dev.old)) len (key_of (shown self)) (D.time dev.old) (D.time dev.new) }
         // The promise on crashes begins again there.
-        ensures recovered { D.Tells → IsAtRest (disk (D.time dev.old) (key_of (shown self)))
-            → size_of (shown self) ≡ adopted_size S.seal_of self.page_size (disk (D.time dev.old) (key_of (shown self))).content
-            → self.settled ≡ size_of (shown self)
-            → len ≤ length (sealed_prefix S.seal_of self.page_size (disk (D.time dev.old) (key_of (shown self))).content)
-            → len < size_of (shown self)
-            → IfOk result (λ r. IsSealed S.seal_of (shown r) (disk (D.time dev.new) (key_of (shown self)))) }
-        ensures prefix { D.Tells → IsAtRest (disk (D.time dev.old) (key_of (shown self)))
-            → size_of (shown self) ≡ adopted_size S.seal_of self.page_size (disk (D.time dev.old) (key_of (shown self))).content
-            → self.settled ≡ size_of (shown self)
-            → len ≤ length (sealed_prefix S.seal_of self.page_size (disk (D.time dev.old) (key_of (shown self))).content)
-            → len < size_of (shown self)
-            → IfOk result (λ r. bytes_of (shown r) (disk (D.time dev.new) (key_of (shown self))).content ≡ take len (sealed_prefix S.seal_of self.page_size (disk (D.time dev.old) (key_of (shown self))).content)) }
+        ensures recovered { D.Tells → IsRecovery S.seal_of (shown self) len (blob_of (shown self) (D.time dev.old))
+            → IfOk result (λ r. IsSealed S.seal_of (shown r) (blob_of (shown self) (D.time dev.new))) }
+        ensures prefix { D.Tells → IsRecovery S.seal_of (shown self) len (blob_of (shown self) (D.time dev.old))
+            → IfOk result (λ r. bytes_of (shown r) (blob_of (shown self) (D.time dev.new)).content ≡ take len (prefix_of S.seal_of (shown self) (D.time dev.old))) }
+        ensures prefix_again { D.Tells → IsRecovery S.seal_of (shown self) len (blob_of (shown self) (D.time dev.old))
+            → OnOk result (Settles S.seal_of self.page_size (take len (prefix_of S.seal_of (shown self) (D.time dev.old))) (blob_of (shown self) (D.time dev.new))) }
+        ensures prefix_leaves { D.Tells → IsRecovery S.seal_of (shown self) len (blob_of (shown self) (D.time dev.old))
+            → OnOk result (Leaves S.seal_of self.page_size (take len (prefix_of S.seal_of (shown self) (D.time dev.old))) len (blob_of (shown self) (D.time dev.new))) }
+        // A cut behind the prefix leaves it as it was.
+        ensures steady { D.Tells → IsUnrecovered S.seal_of (shown self) (blob_of (shown self) (D.time dev.old)) → length (prefix_of S.seal_of (shown self) (D.time dev.old)) < len
+            → KeepsPrefix S.seal_of self.page_size (prefix_of S.seal_of (shown self) (D.time dev.old)) (key_of (shown self)) (D.time dev.old) (D.time dev.new) }
+        ensures unrecovered { D.Tells → IsUnrecovered S.seal_of (shown self) (blob_of (shown self) (D.time dev.old)) → length (prefix_of S.seal_of (shown self) (D.time dev.old)) < len
+            → IfOk result (λ r. IsUnrecovered S.seal_of (shown r) (blob_of (shown self) (D.time dev.new))) }
         ensures bytes { D.Tells → IsBacked (shown self) (disk (D.time dev.old) (key_of (shown self))).content
             → IfOk result (λ r. bytes_of (shown r) (disk (D.time dev.new) (key_of (shown self))).content ≡ take len (bytes_of (shown self) (disk (D.time dev.old) (key_of (shown self))).content)) }
         ensures backed { D.Tells → IsBacked (shown self) (disk (D.time dev.old) (key_of (shown self))).content
@@ -196,6 +201,8 @@ impl<S: Seal> PageBlob<S> {
         // Where it cut, all has settled, and adopting the blob gives it again.
         ensures settled { len < size_of (shown self) → IfOk result (λ r. r.settled ≡ len) }
         ensures rests { D.Tells → len < size_of (shown self) → OnOk result (IsAtRest (disk (D.time dev.new) (key_of (shown self)))) }
+        // Whatever the slots say: adopting the blob finds no more.
+        ensures shorter { D.Tells → len < size_of (shown self) → OnOk result (adopted_size S.seal_of self.page_size (blob_of (shown self) (D.time dev.new)).content ≤ len) }
         ensures again { D.Tells → len < size_of (shown self) → IsSealed S.seal_of (shown self) (disk (D.time dev.old) (key_of (shown self)))
             → OnOk result (Settles S.seal_of self.page_size (take len (bytes_of (shown self) (disk (D.time dev.old) (key_of (shown self))).content)) (disk (D.time dev.new) (key_of (shown self)))) }
         ensures leaves { D.Tells → len < size_of (shown self) → IsSealed S.seal_of (shown self) (disk (D.time dev.old) (key_of (shown self)))
@@ -207,11 +214,24 @@ impl<S: Seal> PageBlob<S> {
         ensures open { IfOk result (λ r. IsOpenAt (D.opened dev.new) (key_of (shown r)) r.end) }
         ensures entries { FewReads 1 (key_of (shown self)) (D.opened dev.old) (D.opened dev.new) }
         ensures faults { D.faults dev.old ≤ D.faults dev.new }
-        // The blob is then as it reads once what was pending has settled.
+        // The blob is then as it reads once what was pending has settled; the pages below the tip's are as they were before.
         ensures checksum { D.Tells → (p : ℕ) → result ≡ Err (RError.InvalidChecksum p)
             → p * self.page_size + page_length S.seal_of self.page_size (disk (D.time dev.new) (key_of (shown self))).content p < len }
-        // Never on a blob for which the promise on crashes stands.
-        ensures whole { D.Tells → IsSealed S.seal_of (shown self) (disk (D.time dev.old) (key_of (shown self))) → (p : ℕ) → result ≢ Err (RError.InvalidChecksum p) }
+        ensures uncut_pages { D.Tells → (p : ℕ) → result ≡ Err (RError.InvalidChecksum p) → SparesFront (page_at self.page_size self.first) (key_of (shown self)) (D.time dev.old) (D.time dev.new) }
+        // A refused cut leaves all bytes in the blob, and nothing pending; where nothing was pending, the disk is as it was.
+        ensures uncut { D.Tells → IsBacked (shown self) (blob_of (shown self) (D.time dev.old)).content → (p : ℕ) → result ≡ Err (RError.InvalidChecksum p)
+            → Data self.page_size (bytes_of (shown self) (blob_of (shown self) (D.time dev.old)).content) (size_of (shown self)) (view (blob_of (shown self) (D.time dev.new)).content) }
+        ensures uncut_rests { D.Tells → (self.settled ≡ size_of (shown self) → IsAtRest (blob_of (shown self) (D.time dev.old))) → (p : ℕ) → result ≡ Err (RError.InvalidChecksum p) → IsAtRest (blob_of (shown self) (D.time dev.new)) }
+        ensures untouched { D.Tells → self.settled ≡ size_of (shown self) → (p : ℕ) → result ≡ Err (RError.InvalidChecksum p) → Unchanged (D.time dev.old) (D.time dev.new) }
+        // A page is cut only as far as a matching slot covers it: any page where nothing was pending, else one that stands whole below the tip's.
+        ensures covered { D.Tells → self.settled ≡ size_of (shown self) → len < size_of (shown self)
+            → OnOk result (len % self.page_size ≤ page_length S.seal_of self.page_size (blob_of (shown self) (D.time dev.old)).content (len / self.page_size)) }
+        ensures covered_below { D.Tells → len < size_of (shown self) → len / self.page_size < self.first
+            → page_at self.page_size (len / self.page_size + 1) ≤ length (blob_of (shown self) (D.time dev.old)).content
+            → OnOk result (len % self.page_size ≤ page_length S.seal_of self.page_size (blob_of (shown self) (D.time dev.old)).content (len / self.page_size)) }
+        // Never where the cut is to bytes that are sealed.
+        ensures whole { D.Tells → IsSafeCut S.seal_of (shown self) len (blob_of (shown self) (D.time dev.old))
+            → OnErr result ((result ≡ Err RError.Mem) ⊎ ((result ≡ Err RError.Fault) × Rose (D.faults dev.old) (D.faults dev.new))) }
         ensures page { (p : ℕ) → result ≡ Err (RError.InvalidChecksum p) → (p * self.page_size < len) × (len < p * self.page_size + self.page_size) × (len < size_of (shown self)) }
         ensures cause { OnErr result (((p : ℕ) × (result ≡ Err (RError.InvalidChecksum p))) ⊎ ((result ≡ Err RError.Mem) ⊎ ((result ≡ Err RError.Fault) × Rose (D.faults dev.old) (D.faults dev.new)))) }
     {

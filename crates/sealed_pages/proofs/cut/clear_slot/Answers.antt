@@ -2,7 +2,9 @@ use Rattle.std.proofs.Common.{◌≤◌, not, refl, arith}
 use Rattle.sealed_pages.proofs.CutCalls.{zeros_one, zeros_two, settled_after, not_other}
 use Rattle.sealed_pages.proofs.EntryLemmas.{open_some, open_same, open_written, no_reads_part, no_reads_updated, no_reads_same, no_reads_then, no_reads_open}
 use Rattle.sealed_pages.proofs.PageCalls.{passes_as, alone_start, alone_on}
-use Rattle.sealed_pages.proofs.Steps.{slot_high}
+use Rattle.sealed_pages.proofs.Steps.{slot_high, slot_low}
+use Rattle.sealed_pages.proofs.Fronts.{front_start, front_write, front_settle}
+use Rattle.sealed_pages.specs.View.{page_at}
 use Rattle.sealed_pages.proofs.cut.clear_slot.Goals as goal
 
 pub write_at-requires-clause-open : goal.write_at-requires-clause-open
@@ -66,3 +68,12 @@ pub returns-clause-entries : goal.returns-clause-entries
 returns-clause-entries g c =
     let one = no_reads_updated (c.args.partition.now, c.args.name.now) _ _ _ c.in_ok-write_at.ensures.opened (open_some (g.D.Device.opened c.args.dev.now) (c.args.partition.now, c.args.name.now) c.args.end c.requires.«open») in
     no_reads_then _ _ _ _ one (no_reads_same _ _ _ c.in_ok-sync.ensures.opened (no_reads_open _ _ _ one))
+
+pub returns-in_err-write_at-clause-front : goal.returns-in_err-write_at-clause-front
+returns-in_err-write_at-clause-front g c t = front_write (page_at c.args.page_size c.args.page) (c.args.partition.now, c.args.name.now) (g.D.Device.time c.args.dev.now) (g.D.Device.time c.args.dev.now) (g.D.Device.time c.write_at.new.self) _ _ _ (omega (arith, c.slot_place-place.ensures, slot_low c.args.page_size c.args.page c.args.second)) (front_start (page_at c.args.page_size c.args.page) (c.args.partition.now, c.args.name.now) (g.D.Device.time c.args.dev.now)) (c.write_at.ensures.told t)
+
+pub returns-in_err-sync-clause-front : goal.returns-in_err-sync-clause-front
+returns-in_err-sync-clause-front g c t = front_settle (page_at c.args.page_size c.args.page) (c.args.partition.now, c.args.name.now) (g.D.Device.time c.args.dev.now) (g.D.Device.time c.write_at.new.self) (g.D.Device.time c.sync.new.self) _ (front_write (page_at c.args.page_size c.args.page) (c.args.partition.now, c.args.name.now) (g.D.Device.time c.args.dev.now) (g.D.Device.time c.args.dev.now) (g.D.Device.time c.write_at.new.self) _ _ _ (omega (arith, c.slot_place-place.ensures, slot_low c.args.page_size c.args.page c.args.second)) (front_start (page_at c.args.page_size c.args.page) (c.args.partition.now, c.args.name.now) (g.D.Device.time c.args.dev.now)) (c.in_ok-write_at.ensures.told t)) (c.sync.ensures.told t)
+
+pub returns-clause-front : goal.returns-clause-front
+returns-clause-front g c t = front_settle (page_at c.args.page_size c.args.page) (c.args.partition.now, c.args.name.now) (g.D.Device.time c.args.dev.now) (g.D.Device.time c.write_at.new.self) (g.D.Device.time c.sync.new.self) _ (front_write (page_at c.args.page_size c.args.page) (c.args.partition.now, c.args.name.now) (g.D.Device.time c.args.dev.now) (g.D.Device.time c.args.dev.now) (g.D.Device.time c.write_at.new.self) _ _ _ (omega (arith, c.slot_place-place.ensures, slot_low c.args.page_size c.args.page c.args.second)) (front_start (page_at c.args.page_size c.args.page) (c.args.partition.now, c.args.name.now) (g.D.Device.time c.args.dev.now)) (c.in_ok-write_at.ensures.told t)) (c.in_ok-sync.ensures.told t)

@@ -5,6 +5,8 @@ use Rattle.sealed_pages.specs.SealedPrefix.{sealed_prefix}
 use Rattle.sealed_pages.proofs.CutSteps.{settled_rest, last1, own1, covered1, page_is1, prefix1, inside1, last2, own2, prefix2, inside2, first_any, later_any, both_any}
 use Rattle.sealed_pages.proofs.PageCalls.{alone_then}
 use Rattle.sealed_pages.proofs.SlotLemmas.{page_next}
+use Rattle.sealed_pages.proofs.Fronts.{front_page, front_then}
+use Rattle.sealed_pages.specs.View.{page_at}
 use Rattle.sealed_pages.proofs.cut.cut_inside.Goals as goal
 
 pub cut_later-requires-clause-room : goal.cut_later-requires-clause-room
@@ -44,3 +46,12 @@ returns-clause-crashes g c t rest own covered page_is inside =
 
 pub returns-clause-alone : goal.returns-clause-alone
 returns-clause-alone g c t = alone_then (g.D.Device.time c.args.dev.now) (g.D.Device.time c.add_slot.new.dev) (g.D.Device.time c.clear_slot.new.dev) (c.args.partition.now, c.args.name.now) (alone_then (g.D.Device.time c.args.dev.now) (g.D.Device.time c.cut_later.new.dev) (g.D.Device.time c.add_slot.new.dev) (c.args.partition.now, c.args.name.now) (c.in_ok-cut.ensures.alone t) (c.in_ok-both.ensures.alone t)) (c.clear_slot.ensures.alone t)
+
+pub returns-in_err-cut-clause-front : goal.returns-in_err-cut-clause-front
+returns-in_err-cut-clause-front g c t = front_page c.args.page_size c.args.page (c.args.page + 1) (c.args.partition.now, c.args.name.now) (g.D.Device.time c.args.dev.now) (g.D.Device.time c.cut_later.new.dev) (omega arith) (c.in_err-cut.ensures.front t)
+
+pub returns-in_err-both-clause-front : goal.returns-in_err-both-clause-front
+returns-in_err-both-clause-front g c t = front_then (page_at c.args.page_size c.args.page) (c.args.partition.now, c.args.name.now) (g.D.Device.time c.args.dev.now) (g.D.Device.time c.cut_later.new.dev) (g.D.Device.time c.add_slot.new.dev) (front_page c.args.page_size c.args.page (c.args.page + 1) (c.args.partition.now, c.args.name.now) (g.D.Device.time c.args.dev.now) (g.D.Device.time c.cut_later.new.dev) (omega arith) (c.in_ok-cut.ensures.front t)) (c.in_err-both.ensures.front t)
+
+pub returns-clause-front : goal.returns-clause-front
+returns-clause-front g c t = front_then (page_at c.args.page_size c.args.page) (c.args.partition.now, c.args.name.now) (g.D.Device.time c.args.dev.now) (g.D.Device.time c.add_slot.new.dev) (g.D.Device.time c.clear_slot.new.dev) (front_then (page_at c.args.page_size c.args.page) (c.args.partition.now, c.args.name.now) (g.D.Device.time c.args.dev.now) (g.D.Device.time c.cut_later.new.dev) (g.D.Device.time c.add_slot.new.dev) (front_page c.args.page_size c.args.page (c.args.page + 1) (c.args.partition.now, c.args.name.now) (g.D.Device.time c.args.dev.now) (g.D.Device.time c.cut_later.new.dev) (omega arith) (c.in_ok-cut.ensures.front t)) (c.in_ok-both.ensures.front t)) (c.clear_slot.ensures.front t)

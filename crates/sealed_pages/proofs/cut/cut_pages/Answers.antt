@@ -1,10 +1,12 @@
-use Rattle.std.proofs.Common.{subst, ℕ}
+use Rattle.std.proofs.Common.{subst, ℕ, arith}
 use Rattle.sealed_pages.specs.Entries.{IsOpenAt}
 use Rattle.sealed_pages.proofs.CutCalls.{cut_one, cut_two, settled_after}
 use Rattle.sealed_pages.proofs.CutEntries.{resized_open}
 use Rattle.sealed_pages.proofs.EntryLemmas.{no_reads_resize, no_reads_updated, no_reads_same, no_reads_then, no_reads_open, open_same}
 use Rattle.sealed_pages.proofs.Keeping.{resize_as}
 use Rattle.sealed_pages.proofs.PageCalls.{alone_start, alone_on}
+use Rattle.sealed_pages.proofs.Fronts.{front_start, front_resize, front_settle}
+use Rattle.sealed_pages.specs.View.{page_at}
 use Rattle.sealed_pages.proofs.cut.cut_pages.Goals as goal
 
 pub returns-in_err-resize-clause-crashes : goal.returns-in_err-resize-clause-crashes
@@ -51,3 +53,12 @@ pub returns-clause-entries : goal.returns-clause-entries
 returns-clause-entries g c =
     let one = no_reads_updated (c.args.partition.now, c.args.name.now) _ _ (λ o. c.page_place-place.result) c.in_ok-resize.ensures.opened c.requires.«open» in
     no_reads_then _ _ _ _ one (no_reads_same _ _ _ c.in_ok-sync.ensures.opened (no_reads_open _ _ _ one))
+
+pub returns-in_err-resize-clause-front : goal.returns-in_err-resize-clause-front
+returns-in_err-resize-clause-front g c t = front_resize (page_at c.args.page_size c.args.page) (c.args.partition.now, c.args.name.now) (g.D.Device.time c.args.dev.now) (g.D.Device.time c.args.dev.now) (g.D.Device.time c.resize.new.self) _ _ (omega (arith, c.page_place-place.ensures)) (front_start (page_at c.args.page_size c.args.page) (c.args.partition.now, c.args.name.now) (g.D.Device.time c.args.dev.now)) (c.resize.ensures.told t)
+
+pub returns-in_err-sync-clause-front : goal.returns-in_err-sync-clause-front
+returns-in_err-sync-clause-front g c t = front_settle (page_at c.args.page_size c.args.page) (c.args.partition.now, c.args.name.now) (g.D.Device.time c.args.dev.now) (g.D.Device.time c.resize.new.self) (g.D.Device.time c.sync.new.self) _ (front_resize (page_at c.args.page_size c.args.page) (c.args.partition.now, c.args.name.now) (g.D.Device.time c.args.dev.now) (g.D.Device.time c.args.dev.now) (g.D.Device.time c.resize.new.self) _ _ (omega (arith, c.page_place-place.ensures)) (front_start (page_at c.args.page_size c.args.page) (c.args.partition.now, c.args.name.now) (g.D.Device.time c.args.dev.now)) (c.in_ok-resize.ensures.told t)) (c.sync.ensures.told t)
+
+pub returns-clause-front : goal.returns-clause-front
+returns-clause-front g c t = front_settle (page_at c.args.page_size c.args.page) (c.args.partition.now, c.args.name.now) (g.D.Device.time c.args.dev.now) (g.D.Device.time c.resize.new.self) (g.D.Device.time c.sync.new.self) _ (front_resize (page_at c.args.page_size c.args.page) (c.args.partition.now, c.args.name.now) (g.D.Device.time c.args.dev.now) (g.D.Device.time c.args.dev.now) (g.D.Device.time c.resize.new.self) _ _ (omega (arith, c.page_place-place.ensures)) (front_start (page_at c.args.page_size c.args.page) (c.args.partition.now, c.args.name.now) (g.D.Device.time c.args.dev.now)) (c.in_ok-resize.ensures.told t)) (c.in_ok-sync.ensures.told t)

@@ -2,10 +2,11 @@ use Rattle.std.proofs.Common.{◌≡◌, ◌+◌, ◌*◌, ◌≤◌, ◌-◌, l
 use Rattle.blob_device.specs.declared.error.DevError.{DevError}
 use Rattle.blob_device.specs.Timeline.{disk}
 use Rattle.sealed_pages.specs.Flushing.{Data, PageFlushed, Wrote}
-use Rattle.sealed_pages.specs.View.{view}
+use Rattle.sealed_pages.specs.View.{view, page_at}
 use Rattle.sealed_pages.proofs.SlotLemmas.{times_next, index_page}
 use Rattle.sealed_pages.proofs.PageCalls.{flushed_as, wrote_as, alone_then, wrote_start, wrote_then, flush_start, flush_then, part_stands, no_ok}
 use Rattle.sealed_pages.proofs.EntryLemmas.{open_some, no_reads_start, no_reads_then}
+use Rattle.sealed_pages.proofs.Fronts.{front_start, front_page, front_then}
 use Rattle.sealed_pages.proofs.flush.flush_pages.Goals as goal
 
 pub returns-then-from-tip-clause-told : goal.returns-then-from-tip-clause-told
@@ -31,6 +32,8 @@ pages-init g c = record {
   in_tip = omega (arith, c.requires.within);
   more = λ lt. omega (arith, c.if-from-tip.false);
   in_page = c.requires.begin;
+  later = omega arith;
+  front = λ t. front_start (page_at c.args.page_size c.args.first) (c.args.partition.now, c.args.name.now) (g.D.Device.time c.args.dev.now);
   place = λ lt. omega arith;
   told = λ t all ready at.
       let end : c.args.first * c.args.page_size + c.args.from ≡ c.args.first * c.args.page_size + (0 + c.args.from) = omega arith in
@@ -74,6 +77,8 @@ pages-preserved g c =
       in_tip = omega (arith, n_is, c.pages-test.true);
       more = λ lt. omega (arith, lt);
       in_page = pos;
+      later = omega (arith, c.pages.invariant.later);
+      front = λ t. front_then (page_at c.args.page_size c.args.first) (c.args.partition.now, c.args.name.now) (g.D.Device.time c.args.dev.now) (g.D.Device.time c.pages.dev) (g.D.Device.time c.write_page.new.dev) (c.pages.invariant.front t) (front_page c.args.page_size c.args.first c.pages.page (c.args.partition.now, c.args.name.now) (g.D.Device.time c.pages.dev) (g.D.Device.time c.write_page.new.dev) c.pages.invariant.later (c.in_ok-reach.ensures.front t));
       place = λ lt. (let n_page : c.min-n.result ≡ c.args.page_size = omega (arith, lt, c.min-n.ensures, c.from-size.ensures) in omega (arith, place, n_page, times_next c.pages.page c.args.page_size));
       told = λ t all ready at.
           let now = c.pages.invariant.told t all ready at in
@@ -120,3 +125,6 @@ returns-in_err-reach-clause-wrote g c t all was at =
 
 pub returns-in_err-reach-clause-entries : goal.returns-in_err-reach-clause-entries
 returns-in_err-reach-clause-entries g c = no_reads_then _ _ _ _ c.pages.invariant.entries c.in_err-reach.ensures.entries
+
+pub returns-in_err-reach-clause-front : goal.returns-in_err-reach-clause-front
+returns-in_err-reach-clause-front g c t = front_then (page_at c.args.page_size c.args.first) (c.args.partition.now, c.args.name.now) (g.D.Device.time c.args.dev.now) (g.D.Device.time c.pages.dev) (g.D.Device.time c.write_page.new.dev) (c.pages.invariant.front t) (front_page c.args.page_size c.args.first c.pages.page (c.args.partition.now, c.args.name.now) (g.D.Device.time c.pages.dev) (g.D.Device.time c.write_page.new.dev) c.pages.invariant.later (c.in_err-reach.ensures.front t))

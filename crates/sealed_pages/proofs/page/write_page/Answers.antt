@@ -4,6 +4,8 @@ use Rattle.sealed_pages.proofs.EntryLemmas.{open_some, no_reads_updated, no_read
 use Rattle.sealed_pages.proofs.Steps.{slot_low, slot_high}
 use Rattle.sealed_pages.proofs.SlotSteps.{length-slot_bytes}
 use Rattle.sealed_pages.proofs.PageCalls.{Begun, page_one, page_two, page_ready, page_leaves, passes_as, rest_whole, no_ok, alone_start, alone_on, page_wrote}
+use Rattle.sealed_pages.proofs.Fronts.{front_start, front_write}
+use Rattle.sealed_pages.specs.View.{page_at}
 use Rattle.sealed_pages.proofs.page.write_page.Goals as goal
 
 pub write_at-requires-clause-fits : goal.write_at-requires-clause-fits
@@ -87,3 +89,12 @@ returns-clause-wrote g c t all was at = record {
   done = page_wrote g.S.Seal.seal_of c.args.page_size all (c.args.partition.now, c.args.name.now) (g.D.Device.time c.args.dev.now) c.args.page c.args.from c.args.bytes.now c.args.second c.requires.new c.requires.size at was
       (passes_as (ap (λ (n : ℕ). n + c.args.from) c.page_place-start.ensures) (rest_whole c.args.from c.args.bytes.now) (c.in_ok-write_at.ensures.told t)) (passes_as c.slot_place-place.ensures c.slot_of-slot.ensures (c.in_ok-write_at-2.ensures.told t));
 }
+
+pub returns-in_err-write_at-clause-front : goal.returns-in_err-write_at-clause-front
+returns-in_err-write_at-clause-front g c t = front_write (page_at c.args.page_size c.args.page) (c.args.partition.now, c.args.name.now) (g.D.Device.time c.args.dev.now) (g.D.Device.time c.args.dev.now) (g.D.Device.time c.write_at.new.self) _ _ _ (omega (arith, c.page_place-start.ensures)) (front_start (page_at c.args.page_size c.args.page) (c.args.partition.now, c.args.name.now) (g.D.Device.time c.args.dev.now)) (c.write_at.ensures.told t)
+
+pub returns-in_err-write_at-2-clause-front : goal.returns-in_err-write_at-2-clause-front
+returns-in_err-write_at-2-clause-front g c t = front_write (page_at c.args.page_size c.args.page) (c.args.partition.now, c.args.name.now) (g.D.Device.time c.args.dev.now) (g.D.Device.time c.write_at.new.self) (g.D.Device.time c.write_at-2.new.self) _ _ _ (omega (arith, c.slot_place-place.ensures, slot_low c.args.page_size c.args.page c.args.second)) (front_write (page_at c.args.page_size c.args.page) (c.args.partition.now, c.args.name.now) (g.D.Device.time c.args.dev.now) (g.D.Device.time c.args.dev.now) (g.D.Device.time c.write_at.new.self) _ _ _ (omega (arith, c.page_place-start.ensures)) (front_start (page_at c.args.page_size c.args.page) (c.args.partition.now, c.args.name.now) (g.D.Device.time c.args.dev.now)) (c.in_ok-write_at.ensures.told t)) (c.write_at-2.ensures.told t)
+
+pub returns-clause-front : goal.returns-clause-front
+returns-clause-front g c t = front_write (page_at c.args.page_size c.args.page) (c.args.partition.now, c.args.name.now) (g.D.Device.time c.args.dev.now) (g.D.Device.time c.write_at.new.self) (g.D.Device.time c.write_at-2.new.self) _ _ _ (omega (arith, c.slot_place-place.ensures, slot_low c.args.page_size c.args.page c.args.second)) (front_write (page_at c.args.page_size c.args.page) (c.args.partition.now, c.args.name.now) (g.D.Device.time c.args.dev.now) (g.D.Device.time c.args.dev.now) (g.D.Device.time c.write_at.new.self) _ _ _ (omega (arith, c.page_place-start.ensures)) (front_start (page_at c.args.page_size c.args.page) (c.args.partition.now, c.args.name.now) (g.D.Device.time c.args.dev.now)) (c.in_ok-write_at.ensures.told t)) (c.in_ok-write_at-2.ensures.told t)

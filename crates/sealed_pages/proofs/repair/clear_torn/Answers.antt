@@ -2,6 +2,9 @@ use Rattle.std.proofs.Common.{◌+◌, ◌≤◌, max, refl, arith}
 use Rattle.sealed_pages.proofs.PageCalls.{passes_as, no_ok, alone_start, alone_on}
 use Rattle.sealed_pages.proofs.EntryLemmas.{open_some, no_reads_part, no_reads_updated, open_written}
 use Rattle.sealed_pages.proofs.Keeping.{kept_start, clear_any, clear_ok, clear_data}
+use Rattle.sealed_pages.proofs.Fronts.{front_start, front_write}
+use Rattle.sealed_pages.specs.View.{page_at}
+use Rattle.sealed_pages.proofs.Steps.{slot_low}
 use Rattle.sealed_pages.proofs.repair.clear_torn.Goals as goal
 
 pub returns-then-not-torn-clause-told : goal.returns-then-not-torn-clause-told
@@ -55,3 +58,9 @@ returns-clause-length g c = open_written (c.args.partition.now, c.args.name.now)
 
 pub returns-clause-entries : goal.returns-clause-entries
 returns-clause-entries g c = no_reads_updated (c.args.partition.now, c.args.name.now) (g.D.Device.opened c.args.dev.now) _ (λ o. max o.len (c.slot_place-place.result + 6)) c.in_ok-write_at.ensures.opened (open_some (g.D.Device.opened c.args.dev.now) (c.args.partition.now, c.args.name.now) c.args.end c.requires.«open»)
+
+pub returns-in_err-write_at-clause-front : goal.returns-in_err-write_at-clause-front
+returns-in_err-write_at-clause-front g c t = front_write (page_at c.args.page_size c.args.page) (c.args.partition.now, c.args.name.now) (g.D.Device.time c.args.dev.now) (g.D.Device.time c.args.dev.now) (g.D.Device.time c.write_at.new.self) _ _ _ (omega (arith, c.slot_place-place.ensures, slot_low c.args.page_size c.args.page c.args.second)) (front_start (page_at c.args.page_size c.args.page) (c.args.partition.now, c.args.name.now) (g.D.Device.time c.args.dev.now)) (c.write_at.ensures.told t)
+
+pub returns-clause-front : goal.returns-clause-front
+returns-clause-front g c t = front_write (page_at c.args.page_size c.args.page) (c.args.partition.now, c.args.name.now) (g.D.Device.time c.args.dev.now) (g.D.Device.time c.args.dev.now) (g.D.Device.time c.write_at.new.self) _ _ _ (omega (arith, c.slot_place-place.ensures, slot_low c.args.page_size c.args.page c.args.second)) (front_start (page_at c.args.page_size c.args.page) (c.args.partition.now, c.args.name.now) (g.D.Device.time c.args.dev.now)) (c.in_ok-write_at.ensures.told t)

@@ -2,6 +2,8 @@ use Rattle.std.proofs.Common.{◌≤◌, arith}
 use Rattle.sealed_pages.proofs.PageCalls.{no_ok, alone_start, alone_on}
 use Rattle.sealed_pages.proofs.EntryLemmas.{open_some, no_reads_resize, no_reads_updated, open_resized}
 use Rattle.sealed_pages.proofs.Keeping.{kept_start, behind_any, behind_ok, resize_as, cut_data}
+use Rattle.sealed_pages.proofs.Fronts.{front_start, front_resize}
+use Rattle.sealed_pages.specs.View.{page_at}
 use Rattle.sealed_pages.proofs.repair.cut_behind.Goals as goal
 
 pub returns-then-not-behind-clause-told : goal.returns-then-not-behind-clause-told
@@ -52,3 +54,9 @@ returns-clause-length g c = open_resized (c.args.partition.now, c.args.name.now)
 
 pub returns-clause-entries : goal.returns-clause-entries
 returns-clause-entries g c = no_reads_updated (c.args.partition.now, c.args.name.now) (g.D.Device.opened c.args.dev.now) _ (λ o. c.page_place-place.result) c.in_ok-resize.ensures.opened (open_some (g.D.Device.opened c.args.dev.now) (c.args.partition.now, c.args.name.now) c.args.end c.requires.«open»)
+
+pub returns-in_err-resize-clause-front : goal.returns-in_err-resize-clause-front
+returns-in_err-resize-clause-front g c t = front_resize (page_at c.args.page_size c.args.pages) (c.args.partition.now, c.args.name.now) (g.D.Device.time c.args.dev.now) (g.D.Device.time c.args.dev.now) (g.D.Device.time c.resize.new.self) _ _ (omega (arith, c.page_place-place.ensures)) (front_start (page_at c.args.page_size c.args.pages) (c.args.partition.now, c.args.name.now) (g.D.Device.time c.args.dev.now)) (c.resize.ensures.told t)
+
+pub returns-clause-front : goal.returns-clause-front
+returns-clause-front g c t = front_resize (page_at c.args.page_size c.args.pages) (c.args.partition.now, c.args.name.now) (g.D.Device.time c.args.dev.now) (g.D.Device.time c.args.dev.now) (g.D.Device.time c.resize.new.self) _ _ (omega (arith, c.page_place-place.ensures)) (front_start (page_at c.args.page_size c.args.pages) (c.args.partition.now, c.args.name.now) (g.D.Device.time c.args.dev.now)) (c.in_ok-resize.ensures.told t)

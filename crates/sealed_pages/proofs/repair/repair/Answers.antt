@@ -8,6 +8,9 @@ use Rattle.sealed_pages.proofs.PageCalls.{no_ok, only_then, alone_on, alone_then
 use Rattle.sealed_pages.proofs.SlotLemmas.{index_page}
 use Rattle.sealed_pages.proofs.Adopting.{adopted_kept, torn_inside, torn_other, head_is, all_clean, pages_reach, pages_some, last_page, pages_place}
 use Rattle.sealed_pages.proofs.Keeping.{settle_any, settle_ready, settle_data}
+use Rattle.sealed_pages.proofs.Fronts.{front_page, front_then, front_settle}
+use Rattle.sealed_pages.specs.View.{page_at}
+use Rattle.sealed_pages.proofs.UnrecoveredLemmas.{pages_span}
 use Rattle.sealed_pages.proofs.repair.repair.Goals as goal
 use Rattle.sealed_pages.specs.Buffer.{pages_of}
 use Rattle.sealed_pages.specs.ChanceSeal.{Leaves}
@@ -137,3 +140,15 @@ returns-clause-wrote g c t all same =
 
 pub returns-clause-settles : goal.returns-clause-settles
 returns-clause-settles g c t = settled_rest (disk (g.D.Device.time c.sync.new.self) (c.args.partition.now, c.args.name.now)) _ (ok_blob (c.args.partition.now, c.args.name.now) Settle _ (g.D.Device.time c.clear_torn.new.dev) (g.D.Device.time c.sync.new.self) (c.in_ok-sync.ensures.told t))
+
+pub returns-in_err-cut-clause-front : goal.returns-in_err-cut-clause-front
+returns-in_err-cut-clause-front g c t = front_page c.args.page_size c.args.first c.pages_below-pages.result (c.args.partition.now, c.args.name.now) (g.D.Device.time c.args.dev.now) (g.D.Device.time c.cut_behind.new.dev) (omega (arith, c.pages_below-pages.ensures, (pages_span c.args.first c.args.from).0)) (c.in_err-cut.ensures.front t)
+
+pub returns-in_err-reach-clause-front : goal.returns-in_err-reach-clause-front
+returns-in_err-reach-clause-front g c t = front_then (page_at c.args.page_size c.args.first) (c.args.partition.now, c.args.name.now) (g.D.Device.time c.args.dev.now) (g.D.Device.time c.cut_behind.new.dev) (g.D.Device.time c.clear_torn.new.dev) (front_page c.args.page_size c.args.first c.pages_below-pages.result (c.args.partition.now, c.args.name.now) (g.D.Device.time c.args.dev.now) (g.D.Device.time c.cut_behind.new.dev) (omega (arith, c.pages_below-pages.ensures, (pages_span c.args.first c.args.from).0)) (c.in_ok-cut.ensures.front t)) (c.in_err-reach.ensures.front t)
+
+pub returns-in_err-sync-clause-front : goal.returns-in_err-sync-clause-front
+returns-in_err-sync-clause-front g c t = front_settle (page_at c.args.page_size c.args.first) (c.args.partition.now, c.args.name.now) (g.D.Device.time c.args.dev.now) (g.D.Device.time c.clear_torn.new.dev) (g.D.Device.time c.sync.new.self) _ (front_then (page_at c.args.page_size c.args.first) (c.args.partition.now, c.args.name.now) (g.D.Device.time c.args.dev.now) (g.D.Device.time c.cut_behind.new.dev) (g.D.Device.time c.clear_torn.new.dev) (front_page c.args.page_size c.args.first c.pages_below-pages.result (c.args.partition.now, c.args.name.now) (g.D.Device.time c.args.dev.now) (g.D.Device.time c.cut_behind.new.dev) (omega (arith, c.pages_below-pages.ensures, (pages_span c.args.first c.args.from).0)) (c.in_ok-cut.ensures.front t)) (c.in_ok-reach.ensures.front t)) (c.sync.ensures.told t)
+
+pub returns-clause-front : goal.returns-clause-front
+returns-clause-front g c t = front_settle (page_at c.args.page_size c.args.first) (c.args.partition.now, c.args.name.now) (g.D.Device.time c.args.dev.now) (g.D.Device.time c.clear_torn.new.dev) (g.D.Device.time c.sync.new.self) _ (front_then (page_at c.args.page_size c.args.first) (c.args.partition.now, c.args.name.now) (g.D.Device.time c.args.dev.now) (g.D.Device.time c.cut_behind.new.dev) (g.D.Device.time c.clear_torn.new.dev) (front_page c.args.page_size c.args.first c.pages_below-pages.result (c.args.partition.now, c.args.name.now) (g.D.Device.time c.args.dev.now) (g.D.Device.time c.cut_behind.new.dev) (omega (arith, c.pages_below-pages.ensures, (pages_span c.args.first c.args.from).0)) (c.in_ok-cut.ensures.front t)) (c.in_ok-reach.ensures.front t)) (c.in_ok-sync.ensures.told t)

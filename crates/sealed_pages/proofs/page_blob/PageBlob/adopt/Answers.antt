@@ -1,4 +1,4 @@
-use Rattle.std.proofs.Common.{rules, ◌≡◌, ◌+◌, ◌*◌, ◌≤◌, ◌∙◌, ℕ, List, length, get_or, take, string_bytes, ap, sym, subst, arith, length-take}
+use Rattle.std.proofs.Common.{rules, ◌≡◌, ◌+◌, ◌*◌, ◌≤◌, ◌∙◌, ℕ, List, length, get_or, take, string_bytes, ap, sym, subst, arith, length-take, inl, inr}
 use Rattle.blob_device.specs.Disk.{Key, Blob, settled_at}
 use Rattle.blob_device.specs.Timeline.{disk}
 use Rattle.sealed_pages.specs.Buffer.{extent, Buffer, bytes_of, State}
@@ -7,6 +7,11 @@ use Rattle.sealed_pages.proofs.Looking.{content_length}
 use Rattle.sealed_pages.proofs.Starting.{backed_of, size_is, adopted_is, tip_is, extent_pages, start_fits}
 use Rattle.sealed_pages.proofs.Adopting.{adopted_state}
 use Rattle.sealed_pages.proofs.Holding.{tip_stands, bytes_length}
+use Rattle.sealed_pages.proofs.UnrecoveredLemmas.{adopted_unrecovered}
+use Rattle.sealed_pages.specs.Unrecovered.{IsUnrecovered}
+use Rattle.std.proofs.lemmas.Bool.{cases_lt}
+use Rattle.sealed_pages.specs.SealedPrefix.{sealed_prefix, adopted_size}
+use Rattle.sealed_pages.proofs.Reaching.{prefix_size}
 use Rattle.sealed_pages.proofs.page_blob.PageBlob.adopt.Goals as goal
 
 pub overflow_mul-result : goal.overflow_mul-result
@@ -151,3 +156,32 @@ pub returns-clause-leftover : goal.returns-clause-leftover
 returns-clause-leftover g c t =
     let size = content_length (g.D.Device.opened c.args.dev.now) (c.args.partition.now, c.args.name.now) c.args.size _ (disk (g.D.Device.time c.args.dev.now) (c.args.partition.now, c.args.name.now)).content (g.met.D.Device.opened_stands t c.args.dev.now (c.args.partition.now, c.args.name.now)) c.requires.«open» in
     c.start_of-start.ensures.leftover (disk (g.D.Device.time c.args.dev.now) (c.args.partition.now, c.args.name.now)).content size (c.in_ok-found.ensures.found t)
+
+pub returns-clause-unrecovered : goal.returns-clause-unrecovered
+returns-clause-unrecovered g c t rest less =
+    let begun = c.start_of-start.ensures.begun in
+    let pos : 1 ≤ c.args.pages.page_size = omega (arith, begun) in
+    let u : Buffer = record {
+      partition = string_bytes c.in_ok-partition.partition;
+      name = c.in_ok-name.name.items;
+      page_size = c.args.pages.page_size;
+      capacity = c.args.capacity;
+      end = c.args.size;
+      first = c.start_of-start.result.first;
+      tip = c.in_ok-tip.tip.items;
+      from = c.start_of-start.result.from;
+      settled = c.start_of-start.result.first * c.from.result + c.start_of-start.result.from;
+      newest = c.start_of-start.result.newest;
+      behind = c.start_of-start.result.behind;
+      torn = c.start_of-start.result.torn;
+    } in
+    let size = content_length (g.D.Device.opened c.args.dev.now) (c.args.partition.now, c.args.name.now) c.args.size _ (disk (g.D.Device.time c.args.dev.now) (c.args.partition.now, c.args.name.now)).content (g.met.D.Device.opened_stands t c.args.dev.now (c.args.partition.now, c.args.name.now)) c.requires.«open» in
+    let finds = c.in_ok-found.ensures.found t in
+    let over = c.start_of-start.ensures.starts (disk (g.D.Device.time c.args.dev.now) (c.args.partition.now, c.args.name.now)).content size finds in
+    subst (IsUnrecovered g.S.Seal.seal_of u) (sym rest) (adopted_unrecovered g.S.Seal.seal_of u (disk (g.D.Device.time c.args.dev.now) (c.args.partition.now, c.args.name.now)).content c.in_ok-found.found c.find_last.new.buf pos finds over (returns-clause-backed g c t) less)
+
+pub returns-clause-adopted : goal.returns-clause-adopted
+returns-clause-adopted g c t rest = elim (cases_lt (length (sealed_prefix g.S.Seal.seal_of c.args.pages.page_size (disk (g.D.Device.time c.args.dev.now) (c.args.partition.now, c.args.name.now)).content)) (adopted_size g.S.Seal.seal_of c.args.pages.page_size (disk (g.D.Device.time c.args.dev.now) (c.args.partition.now, c.args.name.now)).content)) [
+  | inl less ↦ inr (returns-clause-unrecovered g c t rest less)
+  | inr whole ↦ (let is : length (sealed_prefix g.S.Seal.seal_of c.args.pages.page_size (disk (g.D.Device.time c.args.dev.now) (c.args.partition.now, c.args.name.now)).content) ≡ adopted_size g.S.Seal.seal_of c.args.pages.page_size (disk (g.D.Device.time c.args.dev.now) (c.args.partition.now, c.args.name.now)).content = omega (arith, whole, prefix_size g.S.Seal.seal_of c.args.pages.page_size (disk (g.D.Device.time c.args.dev.now) (c.args.partition.now, c.args.name.now)).content) in inl (returns-clause-sealed g c t rest is))
+]

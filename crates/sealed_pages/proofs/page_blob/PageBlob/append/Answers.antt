@@ -1,4 +1,4 @@
-use Rattle.std.proofs.Common.{rules, ◌≡◌, ◌++◌, ◌∙◌, ℕ, List, arith, ap, sym, subst, refl}
+use Rattle.std.proofs.Common.{rules, ◌≡◌, ◌++◌, ◌∙◌, ℕ, List, arith, ap, sym, subst, refl, ◌≤◌}
 use Rattle.blob_device.specs.Disk.{Key}
 use Rattle.blob_device.specs.Timeline.{disk}
 use Rattle.sealed_pages.specs.Buffer.{Buffer, key_of, size_of, bytes_of}
@@ -6,6 +6,7 @@ use Rattle.sealed_pages.specs.Shown.{shown}
 use Rattle.sealed_pages.specs.Entries.{IsOpenAt}
 use Rattle.sealed_pages.proofs.Holding.{holds_start, holds_more, holds_sealed, tip_stands, bytes_length}
 use Rattle.sealed_pages.proofs.Syncing.{backed_more, bytes_longer, flushed_bytes, flushed_backed}
+use Rattle.sealed_pages.proofs.UnrecoveredLemmas.{stood_keeps, more_stays}
 use Rattle.sealed_pages.proofs.page_blob.PageBlob.append.Goals as goal
 
 pub returns-then-not-fits-clause-crashes : goal.returns-then-not-fits-clause-crashes
@@ -126,3 +127,44 @@ returns-clause-backed g c t backed =
 
 pub returns-clause-open : goal.returns-clause-open
 returns-clause-open g c = subst (λ (k : Key). IsOpenAt (g.D.Device.opened c.flush.new.dev) k c.in_ok-this.this.end) (sym c.in_ok-this.ensures.key) c.in_ok-this.ensures.length
+
+pub returns-then-not-fits-clause-steady : goal.returns-then-not-fits-clause-steady
+returns-then-not-fits-clause-steady g c t un = stood_keeps g.S.Seal.seal_of (shown c.args.self) (key_of (shown c.args.self)) (g.D.Device.time c.args.dev.now) un
+
+pub returns-in_err-extend_from_slice-clause-steady : goal.returns-in_err-extend_from_slice-clause-steady
+returns-in_err-extend_from_slice-clause-steady g c t un = stood_keeps g.S.Seal.seal_of (shown c.args.self) (key_of (shown c.args.self)) (g.D.Device.time c.args.dev.now) un
+
+pub returns-then-len-this-clause-steady : goal.returns-then-len-this-clause-steady
+returns-then-len-this-clause-steady g c t un = stood_keeps g.S.Seal.seal_of (shown c.args.self) (key_of (shown c.args.self)) (g.D.Device.time c.args.dev.now) un
+
+pub returns-then-len-this-clause-unrecovered : goal.returns-then-len-this-clause-unrecovered
+returns-then-len-this-clause-unrecovered g c t un =
+    let longer : c.extend_from_slice.new.self.items ≡ c.args.self.tip.items ++ c.args.bytes.now = search rules in
+    let w : Buffer = record (shown c.args.self) { tip = c.extend_from_slice.new.self.items } in
+    let order : c.args.self.settled ≤ size_of (shown c.args.self) = omega (arith, c.args.self.order, c.args.self.fit.within) in
+    let more = more_stays g.S.Seal.seal_of (shown c.args.self) w c.args.bytes.now (disk (g.D.Device.time c.args.dev.now) (key_of (shown c.args.self))) (ap (λ (l : List ℕ). record (shown c.args.self) { tip = l }) longer) c.args.self.fit.within order un in
+    more
+
+pub returns-in_err-this-clause-steady : goal.returns-in_err-this-clause-steady
+returns-in_err-this-clause-steady g c t un =
+    let longer : c.extend_from_slice.new.self.items ≡ c.args.self.tip.items ++ c.args.bytes.now = search rules in
+    let w : Buffer = record (shown c.args.self) { tip = c.extend_from_slice.new.self.items } in
+    let order : c.args.self.settled ≤ size_of (shown c.args.self) = omega (arith, c.args.self.order, c.args.self.fit.within) in
+    let more = more_stays g.S.Seal.seal_of (shown c.args.self) w c.args.bytes.now (disk (g.D.Device.time c.args.dev.now) (key_of (shown c.args.self))) (ap (λ (l : List ℕ). record (shown c.args.self) { tip = l }) longer) c.args.self.fit.within order un in
+    c.in_err-this.ensures.steady t more
+
+pub returns-clause-steady : goal.returns-clause-steady
+returns-clause-steady g c t un =
+    let longer : c.extend_from_slice.new.self.items ≡ c.args.self.tip.items ++ c.args.bytes.now = search rules in
+    let w : Buffer = record (shown c.args.self) { tip = c.extend_from_slice.new.self.items } in
+    let order : c.args.self.settled ≤ size_of (shown c.args.self) = omega (arith, c.args.self.order, c.args.self.fit.within) in
+    let more = more_stays g.S.Seal.seal_of (shown c.args.self) w c.args.bytes.now (disk (g.D.Device.time c.args.dev.now) (key_of (shown c.args.self))) (ap (λ (l : List ℕ). record (shown c.args.self) { tip = l }) longer) c.args.self.fit.within order un in
+    c.in_ok-this.ensures.steady t more
+
+pub returns-clause-unrecovered : goal.returns-clause-unrecovered
+returns-clause-unrecovered g c t un =
+    let longer : c.extend_from_slice.new.self.items ≡ c.args.self.tip.items ++ c.args.bytes.now = search rules in
+    let w : Buffer = record (shown c.args.self) { tip = c.extend_from_slice.new.self.items } in
+    let order : c.args.self.settled ≤ size_of (shown c.args.self) = omega (arith, c.args.self.order, c.args.self.fit.within) in
+    let more = more_stays g.S.Seal.seal_of (shown c.args.self) w c.args.bytes.now (disk (g.D.Device.time c.args.dev.now) (key_of (shown c.args.self))) (ap (λ (l : List ℕ). record (shown c.args.self) { tip = l }) longer) c.args.self.fit.within order un in
+    c.in_ok-this.ensures.unrecovered t more

@@ -4,12 +4,14 @@ use Rattle.blob_device.specs.Disk.{Key, Blob, settled_at}
 use Rattle.blob_device.specs.Timeline.{disk}
 use Rattle.sealed_pages.specs.Buffer.{key_of, size_of}
 use Rattle.sealed_pages.specs.Flushing.{Data, Ready}
-use Rattle.sealed_pages.specs.SealedPrefix.{sealed_prefix}
+use Rattle.sealed_pages.specs.SealedPrefix.{sealed_prefix, adopted_size}
 use Rattle.sealed_pages.specs.Shown.{shown}
 use Rattle.sealed_pages.specs.View.{page_at, view}
 use Rattle.sealed_pages.proofs.Cuts.{resized_take}
 use Rattle.sealed_pages.proofs.Holding.{fit_room}
 use Rattle.sealed_pages.proofs.Truncating.{at_ready, holds_cut, stands_none, extent_less, key_as, resized_data, cut_bytes, cut_backed}
+use Rattle.sealed_pages.specs.Unrecovered.{SparesFront}
+use Rattle.sealed_pages.proofs.Shortening.{shorter_at}
 use Rattle.sealed_pages.proofs.page_blob.PageBlob.cut_at.Goals as goal
 
 pub page_place-end-requires : goal.page_place-end-requires
@@ -57,3 +59,14 @@ returns-clause-backed g c t all same size =
     cut_backed (shown c.args.self) (shown c.ending_with.result) all (disk (g.D.Device.time c.cut_pages.new.dev) (key_of (shown c.args.self))).content c.args.page c.page_place-end.result c.new-tip.result.items false pos c.ending_with.ensures
     (subst (λ (n : ℕ). Data c.args.self.page_size all n (view (disk (g.D.Device.time c.cut_pages.new.dev) (key_of (shown c.args.self))).content)) far left)
     (stands_none all c.new-tip.result.items (c.args.page * c.args.self.page_size) none (omega (arith, size))) (size ∙ far)
+
+pub returns-in_err-cut_pages-clause-front : goal.returns-in_err-cut_pages-clause-front
+returns-in_err-cut_pages-clause-front g c t = key_as (λ (k : Key). SparesFront (page_at c.args.self.page_size c.args.page) k (g.D.Device.time c.args.dev.now) (g.D.Device.time c.cut_pages.new.dev)) _ (string_bytes c.args.self.partition) _ c.args.self.name.items c.as_str.ensures.value c.as_slice.ensures.value (c.in_err-cut_pages.ensures.front t)
+
+pub returns-clause-front : goal.returns-clause-front
+returns-clause-front g c t = key_as (λ (k : Key). SparesFront (page_at c.args.self.page_size c.args.page) k (g.D.Device.time c.args.dev.now) (g.D.Device.time c.cut_pages.new.dev)) _ (string_bytes c.args.self.partition) _ c.args.self.name.items c.as_str.ensures.value c.as_slice.ensures.value (c.in_ok-cut_pages.ensures.front t)
+
+pub returns-clause-shorter : goal.returns-clause-shorter
+returns-clause-shorter g c t =
+    let settles = key_as (λ (k : Key). disk (g.D.Device.time c.cut_pages.new.dev) k ≡ settled_at (resized (disk (g.D.Device.time c.args.dev.now) k).content (page_at c.args.self.page_size c.args.page))) _ (string_bytes c.args.self.partition) _ c.args.self.name.items c.as_str.ensures.value c.as_slice.ensures.value (c.in_ok-cut_pages.ensures.settles t) in
+    omega (arith, ap (λ (b : Blob). adopted_size g.S.Seal.seal_of c.args.self.page_size b.content) settles, shorter_at g.S.Seal.seal_of c.args.self.page_size (disk (g.D.Device.time c.args.dev.now) (key_of (shown c.args.self))).content c.args.page)

@@ -6,7 +6,7 @@ use Rattle.sealed_pages.specs.ChanceSeal.{Sealing}
 use Rattle.sealed_pages.specs.Cutting.{page_cut, FewReads}
 use Rattle.sealed_pages.specs.Entries.{NoReads}
 use Rattle.sealed_pages.specs.Flushing.{Alone, Data}
-use Rattle.sealed_pages.specs.SealedPrefix.{sealed_prefix}
+use Rattle.sealed_pages.specs.SealedPrefix.{sealed_prefix, adopted_size}
 use Rattle.sealed_pages.specs.Shown.{shown}
 use Rattle.sealed_pages.specs.Slots.{page_length, best_slot}
 use Rattle.sealed_pages.specs.View.{page_at, view}
@@ -15,6 +15,9 @@ use Rattle.sealed_pages.proofs.Holding.{fit_room}
 use Rattle.sealed_pages.proofs.Looking.{unchanged_now}
 use Rattle.sealed_pages.proofs.SlotLemmas.{index_page, times_next}
 use Rattle.sealed_pages.proofs.Truncating.{InsideTold, look_sealing, look_then, look_alone, within_ready, within_stands, holds_cut, head_stands, page_cut_data, extent_less, key_as, cut_bytes, cut_backed}
+use Rattle.sealed_pages.specs.Unrecovered.{SparesFront}
+use Rattle.sealed_pages.proofs.Fronts.{front_look, front_then}
+use Rattle.sealed_pages.proofs.Shortening.{shorter_within}
 use Rattle.sealed_pages.proofs.page_blob.PageBlob.cut_within.Goals as goal
 
 pub read_head-requires-clause-room : goal.read_head-requires-clause-room
@@ -146,3 +149,21 @@ returns-clause-backed g c t all same size =
     let stands = head_stands c.args.self.page_size all (disk (g.D.Device.time c.args.dev.now) (key_of (shown c.args.self))).content c.args.page c.args.keep c.in_ok-head.head.bytes.items (omega (arith, c.requires.short)) is_part long size same in
     cut_backed (shown c.args.self) (shown c.ending_with.result) all (disk (g.D.Device.time c.cut_inside.new.dev) (key_of (shown c.args.self))).content c.args.page c.in_ok-end.end c.in_ok-head.head.bytes.items (not c.in_ok-head.head.second) pos c.ending_with.ensures
     (subst (λ (n : ℕ). Data c.args.self.page_size all (c.args.page * c.args.self.page_size + n) (view (disk (g.D.Device.time c.cut_inside.new.dev) (key_of (shown c.args.self))).content)) (sym long) left) stands (omega (arith, size, long))
+
+pub returns-in_err-head-clause-front : goal.returns-in_err-head-clause-front
+returns-in_err-head-clause-front g c t = front_look (page_at c.args.self.page_size c.args.page) (key_of (shown c.args.self)) (g.D.Device.time c.args.dev.now) (g.D.Device.time c.read_head.new.dev) (c.in_err-head.ensures.unchanged t)
+
+pub returns-in_err-end-clause-front : goal.returns-in_err-end-clause-front
+returns-in_err-end-clause-front g c t = front_then (page_at c.args.self.page_size c.args.page) (key_of (shown c.args.self)) (g.D.Device.time c.args.dev.now) (g.D.Device.time c.read_head.new.dev) (g.D.Device.time c.cut_inside.new.dev) (front_look (page_at c.args.self.page_size c.args.page) (key_of (shown c.args.self)) (g.D.Device.time c.args.dev.now) (g.D.Device.time c.read_head.new.dev) (c.in_ok-head.ensures.unchanged t)) (key_as (λ (k : Key). SparesFront (page_at c.args.self.page_size c.args.page) k (g.D.Device.time c.read_head.new.dev) (g.D.Device.time c.cut_inside.new.dev)) _ (string_bytes c.args.self.partition) _ c.args.self.name.items c.as_str-2.ensures.value c.as_slice-2.ensures.value (c.in_err-end.ensures.front t))
+
+pub returns-clause-front : goal.returns-clause-front
+returns-clause-front g c t = front_then (page_at c.args.self.page_size c.args.page) (key_of (shown c.args.self)) (g.D.Device.time c.args.dev.now) (g.D.Device.time c.read_head.new.dev) (g.D.Device.time c.cut_inside.new.dev) (front_look (page_at c.args.self.page_size c.args.page) (key_of (shown c.args.self)) (g.D.Device.time c.args.dev.now) (g.D.Device.time c.read_head.new.dev) (c.in_ok-head.ensures.unchanged t)) (key_as (λ (k : Key). SparesFront (page_at c.args.self.page_size c.args.page) k (g.D.Device.time c.read_head.new.dev) (g.D.Device.time c.cut_inside.new.dev)) _ (string_bytes c.args.self.partition) _ c.args.self.name.items c.as_str-2.ensures.value c.as_slice-2.ensures.value (c.in_ok-end.ensures.front t))
+
+pub returns-clause-shorter : goal.returns-clause-shorter
+returns-clause-shorter g c t =
+    let settles = key_as (λ (k : Key). disk (g.D.Device.time c.cut_inside.new.dev) k ≡ settled_at (page_cut g.S.Seal.seal_of c.args.self.page_size (disk (g.D.Device.time c.read_head.new.dev) k).content c.args.page c.in_ok-head.head.second c.in_ok-head.head.bytes.items)) _ (string_bytes c.args.self.partition) _ c.args.self.name.items c.as_str-2.ensures.value c.as_slice-2.ensures.value
+    (subst (λ (l : List ℕ). disk (g.D.Device.time c.cut_inside.new.dev) (c.as_str-2.result.now, c.as_slice-2.result.now) ≡ settled_at (page_cut g.S.Seal.seal_of c.args.self.page_size (disk (g.D.Device.time c.read_head.new.dev) (c.as_str-2.result.now, c.as_slice-2.result.now)).content c.args.page c.in_ok-head.head.second l)) c.as_slice-3.ensures.value (c.in_ok-end.ensures.settles t)) in
+    let long : length c.in_ok-head.head.bytes.items ≡ c.args.keep = c.in_ok-head.ensures.long in
+    let wide : c.args.self.page_size < 2 ^ 16 = search rules in
+    let small : length c.in_ok-head.head.bytes.items < 2 ^ 16 = omega (arith, long, c.requires.short, wide) in
+    omega (arith, ap (λ (b : Blob). adopted_size g.S.Seal.seal_of c.args.self.page_size b.content) settles, shorter_within g.S.Seal.seal_of c.args.self.page_size (disk (g.D.Device.time c.read_head.new.dev) (key_of (shown c.args.self))).content c.args.page c.in_ok-head.head.second c.in_ok-head.head.bytes.items small, long)

@@ -1,17 +1,22 @@
-use Rattle.std.proofs.Common.{◌≡◌, ◌*◌, ap, sym, subst}
+use Rattle.std.proofs.Common.{◌≡◌, ◌*◌, ap, sym, subst, ◌+◌, ◌≤◌, ◌<◌, ◌∙◌, ℕ, length, arith, false, List}
 use Rattle.std.specs.Prelude.{IfOk}
 use Rattle.blob_device.specs.Disk.{Key}
 use Rattle.blob_device.specs.Timeline.{disk}
 use Rattle.sealed_pages.specs.Entries.{NoReads}
-use Rattle.sealed_pages.specs.Buffer.{Buffer, key_of, size_of, flushed_of, Holds}
+use Rattle.sealed_pages.specs.Buffer.{Buffer, key_of, size_of, flushed_of, Holds, bytes_of, IsBacked}
 use Rattle.sealed_pages.specs.Entries.{NoReads}
 use Rattle.sealed_pages.specs.Flushing.{Data, Wrote}
 use Rattle.sealed_pages.specs.Shown.{shown}
-use Rattle.sealed_pages.specs.View.{view, StandsAt}
-use Rattle.sealed_pages.proofs.Holding.{holds_start}
-use Rattle.sealed_pages.proofs.Syncing.{flush_told}
+use Rattle.sealed_pages.specs.View.{view, StandsAt, page_at}
+use Rattle.sealed_pages.proofs.Holding.{holds_start, tip_stands, bytes_length}
+use Rattle.sealed_pages.proofs.Syncing.{flush_told, flushed_backed}
 use Rattle.sealed_pages.proofs.EntryLemmas.{no_reads_then}
 use Rattle.sealed_pages.proofs.PageCalls.{no_ok, alone_then}
+use Rattle.sealed_pages.proofs.UnrecoveredLemmas.{stood_keeps, spared_keeps, spared_stays, first_later}
+use Rattle.sealed_pages.specs.Unrecovered.{SparesFront, IsUnrecovered}
+use Rattle.sealed_pages.proofs.Fronts.{front_then, front_start}
+use Rattle.sealed_pages.proofs.Truncating.{map_ok, both_ok}
+use Rattle.blob_device.proofs.Results.{if_ok_with}
 use Rattle.sealed_pages.proofs.page_blob.PageBlob.flush.Goals as goal
 
 pub returns-then-self-len-clause-told : goal.returns-then-self-len-clause-told
@@ -42,3 +47,46 @@ pub returns-clause-entries : goal.returns-clause-entries
 returns-clause-entries g c =
     let p : key_of (shown c.in_ok-this.this) ≡ key_of (shown c.args.self) = ap key_of c.in_ok-this.ensures.same in
     no_reads_then _ _ _ _ c.in_ok-this.ensures.entries (subst (λ (k : Key). NoReads k (g.D.Device.opened c.repaired.new.dev) (g.D.Device.opened c.written.new.dev)) p c.written.ensures.entries)
+
+pub returns-then-self-len-clause-steady : goal.returns-then-self-len-clause-steady
+returns-then-self-len-clause-steady g c t un = stood_keeps g.S.Seal.seal_of (shown c.args.self) (key_of (shown c.args.self)) (g.D.Device.time c.args.dev.now) un
+
+pub returns-in_err-this-clause-steady : goal.returns-in_err-this-clause-steady
+returns-in_err-this-clause-steady g c t un = spared_keeps g.S.Seal.seal_of (shown c.args.self) (key_of (shown c.args.self)) (g.D.Device.time c.args.dev.now) (g.D.Device.time c.repaired.new.dev) un c.args.self.first un.below (c.in_err-this.ensures.front t)
+
+pub returns-then-self-len-clause-front : goal.returns-then-self-len-clause-front
+returns-then-self-len-clause-front g c t = front_start (page_at c.args.self.page_size c.args.self.first) (key_of (shown c.args.self)) (g.D.Device.time c.args.dev.now)
+
+pub returns-clause-front : goal.returns-clause-front
+returns-clause-front g c t = front_then (page_at c.args.self.page_size c.args.self.first) (key_of (shown c.args.self)) (g.D.Device.time c.args.dev.now) (g.D.Device.time c.repaired.new.dev) (g.D.Device.time c.written.new.dev) (c.in_ok-this.ensures.front t) (subst (λ (x : Buffer). SparesFront (page_at x.page_size x.first) (key_of x) (g.D.Device.time c.repaired.new.dev) (g.D.Device.time c.written.new.dev)) c.in_ok-this.ensures.same (c.written.ensures.front t))
+
+pub returns-clause-steady : goal.returns-clause-steady
+returns-clause-steady g c t un = spared_keeps g.S.Seal.seal_of (shown c.args.self) (key_of (shown c.args.self)) (g.D.Device.time c.args.dev.now) (g.D.Device.time c.written.new.dev) un c.args.self.first un.below (returns-clause-front g c t)
+
+pub returns-clause-backed : goal.returns-clause-backed
+returns-clause-backed g c t backed =
+    let u : Buffer = shown c.args.self in
+    let all : List ℕ = bytes_of u (disk (g.D.Device.time c.args.dev.now) (key_of (shown c.args.self))).content in
+    let same = c.in_ok-this.ensures.same in
+    let at = tip_stands u (disk (g.D.Device.time c.args.dev.now) (key_of (shown c.args.self))).content in
+    let stands = subst (λ (x : Buffer). StandsAt all (x.first * x.page_size) x.tip) (sym same) at in
+    let wrote = returns-clause-wrote g c t all backed at in
+    if_ok_with c.written.result wrote.done
+    (both_ok c.written.result (λ v. shown v ≡ record (shown c.in_ok-this.this) { end = v.end; first = v.first; tip = v.tip.items; from = length v.tip.items }) (λ v. (size_of (shown v) ≡ size_of (shown c.in_ok-this.this)) × ((all : List ℕ) → StandsAt all (c.in_ok-this.this.first * c.in_ok-this.this.page_size) c.in_ok-this.this.tip.items → StandsAt all (v.first * v.page_size) v.tip.items))
+    c.written.ensures.same (both_ok c.written.result (λ v. size_of (shown v) ≡ size_of (shown c.in_ok-this.this)) (λ v. (all : List ℕ) → StandsAt all (c.in_ok-this.this.first * c.in_ok-this.this.page_size) c.in_ok-this.this.tip.items → StandsAt all (v.first * v.page_size) v.tip.items) c.written.ensures.size c.written.ensures.tip))
+    (λ v wrote is. flushed_backed (shown v) c.args.self.page_size (size_of u) all (disk (g.D.Device.time c.written.new.dev) (key_of (shown c.args.self))).content (omega (arith, v.fit.begun)) (ap (λ (x : Buffer). x.page_size) is.0 ∙ ap (λ (x : Buffer). x.page_size) same) (is.1.0 ∙ ap size_of same) wrote
+    (is.1.1 all stands) (bytes_length u (disk (g.D.Device.time c.args.dev.now) (key_of (shown c.args.self))).content) v.fit.within)
+
+pub returns-clause-unrecovered : goal.returns-clause-unrecovered
+returns-clause-unrecovered g c t un =
+    let same = c.in_ok-this.ensures.same in
+    let unsettled : c.args.self.settled < size_of (shown c.args.self) = omega (arith, c.args.self.order, c.args.self.fit.within, c.if-self-len.false) in
+    map_ok c.written.result (λ v. (shown v ≡ record (shown c.in_ok-this.this) { end = v.end; first = v.first; tip = v.tip.items; from = length v.tip.items }) × ((size_of (shown v) ≡ size_of (shown c.in_ok-this.this)) × IsBacked (shown v) (disk (g.D.Device.time c.written.new.dev) (key_of (shown c.args.self))).content)) (λ v. IsUnrecovered g.S.Seal.seal_of (shown v) (disk (g.D.Device.time c.written.new.dev) (key_of (shown c.args.self))))
+    (λ v is. (let page : v.page_size ≡ c.args.self.page_size = ap (λ (x : Buffer). x.page_size) is.0 ∙ ap (λ (x : Buffer). x.page_size) same in
+    let size : size_of (shown v) ≡ size_of (shown c.args.self) = is.1.0 ∙ ap size_of same in
+    let begun : length v.tip.items < v.page_size = omega (arith, v.fit.begun, ap (λ (x : Buffer). x.from) is.0) in
+    let later : c.args.self.first ≤ v.first = first_later c.args.self.page_size c.args.self.first v.first (length c.args.self.tip.items) (length v.tip.items) (omega (arith, size, ap (λ (n : ℕ). v.first * n) page)) (omega (arith, begun, page)) in
+    spared_stays g.S.Seal.seal_of (shown c.args.self) (key_of (shown c.args.self)) (g.D.Device.time c.args.dev.now) (g.D.Device.time c.written.new.dev) un c.args.self.first un.below (returns-clause-front g c t) (shown v) page (omega (arith, un.below, later)) is.1.1
+    (λ settled. (let own : v.settled ≡ c.args.self.settled = ap (λ (x : Buffer). x.settled) is.0 ∙ ap (λ (x : Buffer). x.settled) same in absurd (omega (arith, settled, size, unsettled, own))))))
+    (both_ok c.written.result (λ v. shown v ≡ record (shown c.in_ok-this.this) { end = v.end; first = v.first; tip = v.tip.items; from = length v.tip.items }) (λ v. (size_of (shown v) ≡ size_of (shown c.in_ok-this.this)) × IsBacked (shown v) (disk (g.D.Device.time c.written.new.dev) (key_of (shown c.args.self))).content)
+    c.written.ensures.same (both_ok c.written.result (λ v. size_of (shown v) ≡ size_of (shown c.in_ok-this.this)) (λ v. IsBacked (shown v) (disk (g.D.Device.time c.written.new.dev) (key_of (shown c.args.self))).content) c.written.ensures.size (returns-clause-backed g c t un.backed)))

@@ -7,6 +7,9 @@ use Rattle.blob_device.specs.Timeline.{disk}
 use Rattle.sealed_pages.specs.Cutting.{IsAtRest}
 use Rattle.sealed_pages.proofs.Truncating.{key_as}
 use Rattle.sealed_pages.proofs.PageCalls.{no_ok}
+use Rattle.sealed_pages.specs.View.{page_at}
+use Rattle.sealed_pages.specs.Unrecovered.{SparesFront}
+use Rattle.sealed_pages.proofs.Fronts.{front_start}
 use Rattle.sealed_pages.proofs.page_blob.PageBlob.repaired.Goals as goal
 
 pub returns-then-not-self-clause-told : goal.returns-then-not-self-clause-told
@@ -29,3 +32,12 @@ returns-clause-wrote g c t all same =
 
 pub returns-clause-settles : goal.returns-clause-settles
 returns-clause-settles g c t left = key_as (λ (k : Key). IsAtRest (disk (g.D.Device.time c.repair.new.dev) k)) _ (string_bytes c.args.self.partition) _ c.args.self.name.items c.as_str.ensures.value c.as_slice.ensures.value (c.in_ok-end.ensures.settles t)
+
+pub returns-then-not-self-clause-front : goal.returns-then-not-self-clause-front
+returns-then-not-self-clause-front g c t = front_start (page_at c.args.self.page_size c.args.self.first) (key_of (shown c.args.self)) (g.D.Device.time c.args.dev.now)
+
+pub returns-in_err-end-clause-front : goal.returns-in_err-end-clause-front
+returns-in_err-end-clause-front g c t = key_as (λ (k : Key). SparesFront (page_at c.args.self.page_size c.args.self.first) k (g.D.Device.time c.args.dev.now) (g.D.Device.time c.repair.new.dev)) _ (string_bytes c.args.self.partition) _ c.args.self.name.items c.as_str.ensures.value c.as_slice.ensures.value (c.in_err-end.ensures.front t)
+
+pub returns-clause-front : goal.returns-clause-front
+returns-clause-front g c t = key_as (λ (k : Key). SparesFront (page_at c.args.self.page_size c.args.self.first) k (g.D.Device.time c.args.dev.now) (g.D.Device.time c.repair.new.dev)) _ (string_bytes c.args.self.partition) _ c.args.self.name.items c.as_str.ensures.value c.as_slice.ensures.value (c.in_ok-end.ensures.front t)

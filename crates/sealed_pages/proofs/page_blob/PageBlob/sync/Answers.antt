@@ -1,7 +1,7 @@
 use Rattle.std.proofs.Common.{◌≡◌, ◌≢◌, ◌+◌, ◌*◌, ◌∙◌, ℕ, string_bytes, arith, ap, sym, subst, refl, length, Ok}
-use Rattle.blob_device.specs.Disk.{Key}
+use Rattle.blob_device.specs.Disk.{Key, Blob}
 use Rattle.blob_device.specs.Timeline.{disk}
-use Rattle.sealed_pages.specs.Buffer.{Buffer, key_of, size_of, flushed_of, bytes_of}
+use Rattle.sealed_pages.specs.Buffer.{Buffer, key_of, size_of, flushed_of, bytes_of, IsBacked}
 use Rattle.sealed_pages.specs.ChanceSeal.{Leaves, Sealing}
 use Rattle.sealed_pages.specs.Shown.{shown}
 use Rattle.sealed_pages.specs.Entries.{IsOpenAt}
@@ -14,6 +14,11 @@ use Rattle.blob_device.specs.Change.{Settle}
 use Rattle.blob_device.proofs.Moments.{ok_blob}
 use Rattle.sealed_pages.proofs.CutSteps.{settled_rest}
 use Rattle.sealed_pages.proofs.Truncating.{all_flushed, settles_of, leaves_of, no_need}
+use Rattle.sealed_pages.proofs.UnrecoveredLemmas.{keeps_then, settled_keeps, settled_stays}
+use Rattle.sealed_pages.specs.Unrecovered.{KeepsPrefix}
+use Rattle.sealed_pages.specs.SealedPrefix.{sealed_prefix}
+use Rattle.sealed_pages.proofs.Fronts.{front_start, front_settle}
+use Rattle.sealed_pages.specs.View.{page_at}
 use Rattle.sealed_pages.proofs.page_blob.PageBlob.sync.Goals as goal
 
 pub returns-then-not-needs_sync-clause-crashes : goal.returns-then-not-needs_sync-clause-crashes
@@ -204,3 +209,45 @@ returns-clause-again g c t sealed =
     let holds = (holds_synced g.S.Seal.seal_of r (bytes_of u b0.content) key (g.D.Device.time c.flush.new.dev) (g.D.Device.time c.sync.new.self) tt c.flushed-end.result c.last_slot_of-slot.result c.in_ok-this.this.fit.begun open_ c.flushed-end.ensures c.last_slot_of-slot.ensures
     (c.in_ok-this.ensures.done t (bytes_of u b0.content) sealed) passes-ok) in
     settles_of g.S.Seal.seal_of after c.args.self.page_size (bytes_of u b0.content) (disk (g.D.Device.time c.sync.new.self) (key_of (shown c.args.self))) c.in_ok-this.ensures.page_size c.in_ok-this.this.fit.begun flushed (end ∙ sym size) holds
+
+pub returns-in_err-sync-clause-steady : goal.returns-in_err-sync-clause-steady
+returns-in_err-sync-clause-steady g c t un =
+    let p : c.as_str.result.now ≡ string_bytes c.args.self.partition = c.as_str.ensures.value ∙ ap (λ (k : Key). k.0) c.in_ok-this.ensures.key in
+    let n : c.as_slice.result.now ≡ c.args.self.name.items = c.as_slice.ensures.value ∙ ap (λ (k : Key). k.1) c.in_ok-this.ensures.key in
+    let passes = settle_as c.sync.result _ _ _ _ (g.D.Device.time c.flush.new.dev) (g.D.Device.time c.sync.new.self) p n (c.sync.ensures.told t) in
+    let now = c.in_ok-this.ensures.unrecovered t un in
+    let second = settled_keeps g.S.Seal.seal_of (shown c.in_ok-this.this) (key_of (shown c.args.self)) (g.D.Device.time c.flush.new.dev) (g.D.Device.time c.sync.new.self) c.sync.result now passes in
+    keeps_then g.S.Seal.seal_of c.args.self.page_size (sealed_prefix g.S.Seal.seal_of c.args.self.page_size (disk (g.D.Device.time c.args.dev.now) (key_of (shown c.args.self))).content) (key_of (shown c.args.self)) (g.D.Device.time c.args.dev.now) (g.D.Device.time c.flush.new.dev) (g.D.Device.time c.sync.new.self) (c.in_ok-this.ensures.steady t un)
+    (subst (λ (P : ℕ). KeepsPrefix g.S.Seal.seal_of P (sealed_prefix g.S.Seal.seal_of P (disk (g.D.Device.time c.flush.new.dev) (key_of (shown c.args.self))).content) (key_of (shown c.args.self)) (g.D.Device.time c.flush.new.dev) (g.D.Device.time c.sync.new.self)) c.in_ok-this.ensures.page_size second)
+
+pub returns-clause-steady : goal.returns-clause-steady
+returns-clause-steady g c t un =
+    let p : c.as_str.result.now ≡ string_bytes c.args.self.partition = c.as_str.ensures.value ∙ ap (λ (k : Key). k.0) c.in_ok-this.ensures.key in
+    let n : c.as_slice.result.now ≡ c.args.self.name.items = c.as_slice.ensures.value ∙ ap (λ (k : Key). k.1) c.in_ok-this.ensures.key in
+    let passes = settle_as (Ok tt) _ _ _ _ (g.D.Device.time c.flush.new.dev) (g.D.Device.time c.sync.new.self) p n (c.in_ok-sync.ensures.told t) in
+    let now = c.in_ok-this.ensures.unrecovered t un in
+    let second = settled_keeps g.S.Seal.seal_of (shown c.in_ok-this.this) (key_of (shown c.args.self)) (g.D.Device.time c.flush.new.dev) (g.D.Device.time c.sync.new.self) (Ok tt) now passes in
+    keeps_then g.S.Seal.seal_of c.args.self.page_size (sealed_prefix g.S.Seal.seal_of c.args.self.page_size (disk (g.D.Device.time c.args.dev.now) (key_of (shown c.args.self))).content) (key_of (shown c.args.self)) (g.D.Device.time c.args.dev.now) (g.D.Device.time c.flush.new.dev) (g.D.Device.time c.sync.new.self) (c.in_ok-this.ensures.steady t un)
+    (subst (λ (P : ℕ). KeepsPrefix g.S.Seal.seal_of P (sealed_prefix g.S.Seal.seal_of P (disk (g.D.Device.time c.flush.new.dev) (key_of (shown c.args.self))).content) (key_of (shown c.args.self)) (g.D.Device.time c.flush.new.dev) (g.D.Device.time c.sync.new.self)) c.in_ok-this.ensures.page_size second)
+
+pub returns-clause-unrecovered : goal.returns-clause-unrecovered
+returns-clause-unrecovered g c t un =
+    let p : c.as_str.result.now ≡ string_bytes c.args.self.partition = c.as_str.ensures.value ∙ ap (λ (k : Key). k.0) c.in_ok-this.ensures.key in
+    let n : c.as_slice.result.now ≡ c.args.self.name.items = c.as_slice.ensures.value ∙ ap (λ (k : Key). k.1) c.in_ok-this.ensures.key in
+    let passes = settle_as (Ok tt) _ _ _ _ (g.D.Device.time c.flush.new.dev) (g.D.Device.time c.sync.new.self) p n (c.in_ok-sync.ensures.told t) in
+    settled_stays g.S.Seal.seal_of (shown c.in_ok-this.this) (key_of (shown c.args.self)) (g.D.Device.time c.flush.new.dev) (g.D.Device.time c.sync.new.self) tt (record (shown c.in_ok-this.this) { settled = c.flushed-end.result; newest = c.last_slot_of-slot.result }) (c.in_ok-this.ensures.unrecovered t un) passes refl refl (subst (λ (b : Blob). IsBacked (shown c.in_ok-this.this) b.content) (sym (ok_blob (key_of (shown c.args.self)) Settle tt (g.D.Device.time c.flush.new.dev) (g.D.Device.time c.sync.new.self) passes)) (c.in_ok-this.ensures.backed t un.backed))
+
+pub returns-then-not-needs_sync-clause-front : goal.returns-then-not-needs_sync-clause-front
+returns-then-not-needs_sync-clause-front g c t = front_start (page_at c.args.self.page_size c.args.self.first) (key_of (shown c.args.self)) (g.D.Device.time c.args.dev.now)
+
+pub returns-in_err-sync-clause-front : goal.returns-in_err-sync-clause-front
+returns-in_err-sync-clause-front g c t =
+    let p : c.as_str.result.now ≡ string_bytes c.args.self.partition = c.as_str.ensures.value ∙ ap (λ (k : Key). k.0) c.in_ok-this.ensures.key in
+    let n : c.as_slice.result.now ≡ c.args.self.name.items = c.as_slice.ensures.value ∙ ap (λ (k : Key). k.1) c.in_ok-this.ensures.key in
+    front_settle (page_at c.args.self.page_size c.args.self.first) (key_of (shown c.args.self)) (g.D.Device.time c.args.dev.now) (g.D.Device.time c.flush.new.dev) (g.D.Device.time c.sync.new.self) c.sync.result (c.in_ok-this.ensures.front t) (settle_as c.sync.result _ _ _ _ (g.D.Device.time c.flush.new.dev) (g.D.Device.time c.sync.new.self) p n (c.sync.ensures.told t))
+
+pub returns-clause-front : goal.returns-clause-front
+returns-clause-front g c t =
+    let p : c.as_str.result.now ≡ string_bytes c.args.self.partition = c.as_str.ensures.value ∙ ap (λ (k : Key). k.0) c.in_ok-this.ensures.key in
+    let n : c.as_slice.result.now ≡ c.args.self.name.items = c.as_slice.ensures.value ∙ ap (λ (k : Key). k.1) c.in_ok-this.ensures.key in
+    front_settle (page_at c.args.self.page_size c.args.self.first) (key_of (shown c.args.self)) (g.D.Device.time c.args.dev.now) (g.D.Device.time c.flush.new.dev) (g.D.Device.time c.sync.new.self) (Ok tt) (c.in_ok-this.ensures.front t) (settle_as (Ok tt) _ _ _ _ (g.D.Device.time c.flush.new.dev) (g.D.Device.time c.sync.new.self) p n (c.in_ok-sync.ensures.told t))

@@ -4,9 +4,12 @@ use Rattle.blob_device.specs.Timeline.{disk}
 use Rattle.sealed_pages.specs.Buffer.{key_of, flushed_of}
 use Rattle.sealed_pages.specs.Flushing.{Data, Ready}
 use Rattle.sealed_pages.specs.Shown.{shown}
-use Rattle.sealed_pages.specs.View.{view, StandsAt}
+use Rattle.sealed_pages.specs.View.{view, StandsAt, page_at}
 use Rattle.sealed_pages.proofs.Holding.{fit_room, pages_fit, told_as, writes_as, rest_far, rest_stands}
 use Rattle.sealed_pages.proofs.PageCalls.{no_ok}
+use Rattle.sealed_pages.specs.Unrecovered.{SparesFront}
+use Rattle.blob_device.specs.Disk.{Key}
+use Rattle.sealed_pages.proofs.Truncating.{key_as}
 use Rattle.sealed_pages.proofs.page_blob.PageBlob.written.Goals as goal
 
 pub flush_pages-requires-clause-room : goal.flush_pages-requires-clause-room
@@ -95,3 +98,9 @@ returns-clause-tip g c all at =
     let far : c.args.self.first * c.args.self.page_size + length c.args.self.tip.items ≡ (c.args.self.first + c.len.result / c.from-size.result) * c.args.self.page_size + length c.drop_front.new.tip.items
     = rest_far c.args.self.page_size c.args.self.first (c.len.result / c.from-size.result) c.args.self.tip.items c.drop_front.new.tip.items full rest in
     rest_stands c.args.self.page_size c.args.self.first (c.len.result / c.from-size.result) c.args.self.tip.items c.drop_front.new.tip.items all full rest at
+
+pub returns-in_err-end-clause-front : goal.returns-in_err-end-clause-front
+returns-in_err-end-clause-front g c t = key_as (λ (k : Key). SparesFront (page_at c.args.self.page_size c.args.self.first) k (g.D.Device.time c.args.dev.now) (g.D.Device.time c.flush_pages.new.dev)) _ (string_bytes c.args.self.partition) _ c.args.self.name.items c.as_str.ensures.value c.as_slice.ensures.value (c.in_err-end.ensures.front t)
+
+pub returns-clause-front : goal.returns-clause-front
+returns-clause-front g c t = key_as (λ (k : Key). SparesFront (page_at c.args.self.page_size c.args.self.first) k (g.D.Device.time c.args.dev.now) (g.D.Device.time c.flush_pages.new.dev)) _ (string_bytes c.args.self.partition) _ c.args.self.name.items c.as_str.ensures.value c.as_slice.ensures.value (c.in_ok-end.ensures.front t)

@@ -1,0 +1,157 @@
+-- Calls that spare a blob's first bytes: those that outlived each crash do so at each moment.
+use Rattle.std.proofs.Common.{◌≡◌, ◌⊎◌, inl, inr, ℕ, ◌<◌, ◌≤◌, min, List, length, get_or, Result, Ok, Err, refl, sym, ◌∙◌, ap, subst, arith}
+use Rattle.std.proofs.lemmas.Bool.{cases_lt}
+use Rattle.std.proofs.lemmas.List.{get_or_past}
+use Rattle.blob_device.specs.declared.error.DevError.{DevError}
+use Rattle.blob_device.specs.Change.{Change, Make, Write, Resize, Settle, Remove, Look, during, done, FailedTo, written, resized}
+use Rattle.blob_device.specs.Disk.{Key, Blob, Disk}
+use Rattle.blob_device.specs.Guards.{Avoids}
+use Rattle.blob_device.specs.Timeline.{Timeline, disk, Passes, Always, OnlyAt}
+use Rattle.blob_device.proofs.Bytes.{length-written, length-resized}
+use Rattle.blob_device.proofs.Places.{written_out, resized_below}
+use Rattle.blob_device.proofs.GuardsLemmas.{guards_during, guards_done, guards_failed}
+use Rattle.blob_device.proofs.Moments.{always_now, always_weaker, only_start, only_on, ok_blob, err_has}
+use Rattle.sealed_pages.specs.Reading.{Unchanged}
+use Rattle.sealed_pages.specs.Unrecovered.{HasFront, FrontOf, SparesFront}
+use Rattle.sealed_pages.specs.View.{View, view, page_at}
+use Rattle.sealed_pages.proofs.PageCalls.{only_then, only_weaker}
+use Rattle.sealed_pages.proofs.Repairing.{page_order}
+
+-- what one change leaves, under way, done and failed
+module _ (end : ℕ) (b : Blob) where
+  front_same : FrontOf end b b
+  front_same = record { reads = λ i lt. refl; long = omega arith; crashes = λ n v le has. has }
+
+  front_kept : (c : Blob) → ((n : ℕ) (v : View) → n ≤ end → HasFront n v b → HasFront n v c) → c.content ≡ b.content → FrontOf end b c
+  front_kept c crashes is = record { reads = λ i lt. ap (λ (l : List ℕ). view l i) is; long = omega (arith, ap length is); crashes = crashes }
+
+  front_written : (at : ℕ) (bytes : List ℕ) (c : Blob) → end ≤ at → ((n : ℕ) (v : View) → n ≤ end → HasFront n v b → HasFront n v c) → length b.content ≤ length c.content
+      → ((i : ℕ) → i < length c.content → i < at → get_or c.content i 0 ≡ get_or (written b.content at bytes) i 0) → FrontOf end b c
+  front_written at bytes c le crashes long same = record {
+    reads = λ i lt. elim (cases_lt i (length c.content)) [
+      | inl inside ↦ same i inside (omega (arith, lt, le)) ∙ written_out b.content at bytes i (inl (omega (arith, lt, le)))
+      | inr past ↦ get_or_past c.content i 0 past ∙ sym (get_or_past b.content i 0 (omega (arith, past, long)))
+    ];
+    long = omega (arith, long);
+    crashes = crashes;
+  }
+
+  front_resized : (m : ℕ) (c : Blob) → end ≤ m → ((n : ℕ) (v : View) → n ≤ end → HasFront n v b → HasFront n v c) → c.content ≡ resized b.content m → FrontOf end b c
+  front_resized m c le crashes is = record {
+    reads = λ i lt. ap (λ (l : List ℕ). view l i) is ∙ resized_below b.content m i (omega (arith, lt, le));
+    long = omega (arith, ap length is, length-resized b.content m, le);
+    crashes = crashes;
+  }
+
+-- the changes that touch no byte below this end
+abbrev SparesTo : ℕ → Change → Type 0
+SparesTo end Make = ⊥
+SparesTo end (Write at bytes) = end ≤ at
+SparesTo end (Resize n) = end ≤ n
+SparesTo end Settle = Unit {0}
+SparesTo end Remove = ⊥
+SparesTo end Look = Unit {0}
+
+avoids_to : (n end : ℕ) (change : Change) → n ≤ end → SparesTo end change → Avoids (λ i. i < n) change
+avoids_to n end Make le spares = tt
+avoids_to n end (Write at bytes) le spares = λ i lt. inl (omega (arith, lt, le, spares))
+avoids_to n end (Resize m) le spares = λ i lt. omega (arith, lt, le, spares)
+avoids_to n end Settle le spares = tt
+avoids_to n end Remove le spares = spares
+avoids_to n end Look le spares = tt
+
+module _ (end : ℕ) (b : Blob) where
+  during_has : (change : Change) → SparesTo end change → (n : ℕ) (v : View) → n ≤ end → HasFront n v b → HasFront n v (during change b)
+  during_has change spares n v le has = guards_during (λ i. i < n) v b has change (avoids_to n end change le spares)
+
+  done_has : (change : Change) → SparesTo end change → (n : ℕ) (v : View) → n ≤ end → HasFront n v b → HasFront n v (done change b)
+  done_has change spares n v le has = guards_done (λ i. i < n) v b has change (avoids_to n end change le spares)
+
+  failed_has : (change : Change) (c : Blob) → SparesTo end change → FailedTo change b c → (n : ℕ) (v : View) → n ≤ end → HasFront n v b → HasFront n v c
+  failed_has change c spares failed n v le has = guards_failed (λ i. i < n) v b has change c (avoids_to n end change le spares) failed
+
+  front_during : (change : Change) → SparesTo end change → FrontOf end b (during change b)
+  front_during Make spares = absurd spares
+  front_during (Write at bytes) spares = front_kept end b (during (Write at bytes) b) (during_has (Write at bytes) spares) refl
+  front_during (Resize m) spares = front_kept end b (during (Resize m) b) (during_has (Resize m) spares) refl
+  front_during Settle spares = front_same end b
+  front_during Remove spares = absurd spares
+  front_during Look spares = front_same end b
+
+  front_done : (change : Change) → SparesTo end change → FrontOf end b (done change b)
+  front_done Make spares = absurd spares
+  front_done (Write at bytes) spares = front_written end b at bytes (done (Write at bytes) b) spares (done_has (Write at bytes) spares) (omega (arith, length-written b.content at bytes)) (λ i inside lt. refl)
+  front_done (Resize m) spares = front_resized end b m (done (Resize m) b) spares (done_has (Resize m) spares) refl
+  front_done Settle spares = front_kept end b (done Settle b) (done_has Settle spares) refl
+  front_done Remove spares = absurd spares
+  front_done Look spares = front_same end b
+
+  front_failed : (change : Change) (c : Blob) → SparesTo end change → FailedTo change b c → FrontOf end b c
+  front_failed Make c spares failed = absurd spares
+  front_failed (Write at bytes) c spares part = front_written end b at bytes c spares (failed_has (Write at bytes) c spares part) (omega (arith, part.1.no_shorter, content))
+      (λ i inside lt. ap (λ (l : List ℕ). get_or l i 0) is ∙ part.1.outside i (omega (arith, inside, content)) (inl lt))
+    where
+      is : c.content ≡ part.0
+      is = ap (λ (x : Blob). x.content) part.2
+
+      content : length c.content ≡ length part.0
+      content = ap length is
+  front_failed (Resize m) c spares (inl same) = front_kept end b c (failed_has (Resize m) c spares (inl same)) (ap (λ (x : Blob). x.content) same)
+  front_failed (Resize m) c spares (inr same) = front_resized end b m c spares (failed_has (Resize m) c spares (inr same)) (ap (λ (x : Blob). x.content) same)
+  front_failed Settle c spares same = subst (FrontOf end b) (sym same) (front_same end b)
+  front_failed Remove c spares failed = absurd spares
+  front_failed Look c spares same = subst (FrontOf end b) (sym same) (front_same end b)
+
+front_after : {T : Type 0} (end : ℕ) (k : Key) (change : Change) (result : Result T DevError) (b c : Timeline) → Passes k change result b c → SparesTo end change → FrontOf end (disk b k) (disk c k)
+front_after end k change (Ok x) b c passes spares = subst (FrontOf end (disk b k)) (sym (ok_blob k change x b c passes)) (front_done end (disk b k) change spares)
+front_after {T = T} end k change (Err e) b c passes spares = err_has {T = T} (FrontOf end (disk b k)) k change e b c passes (front_same end (disk b k)) (λ new failed. front_failed end (disk b k) change new spares failed)
+
+front_more : (end : ℕ) (a b c : Blob) → FrontOf end a b → FrontOf end b c → FrontOf end a c
+front_more end a b c first second = record {
+  reads = λ i lt. second.reads i lt ∙ first.reads i lt;
+  long = omega (arith, first.long, second.long);
+  crashes = λ n v le has. second.crashes n v le (first.crashes n v le has);
+}
+
+pub front_start : (end : ℕ) (key : Key) (t : Timeline) → SparesFront end key t t
+front_start end key t = only_start t key (FrontOf end (disk t key)) (front_same end (disk t key))
+
+-- the blob after the calls
+pub front_now : (end : ℕ) (key : Key) (a b : Timeline) → SparesFront end key a b → FrontOf end (disk a key) (disk b key)
+front_now end key a b spares = (always_now a b (OnlyAt key (disk a) (FrontOf end (disk a key))) spares).here
+
+-- one call more
+front_on : {T : Type 0} (end : ℕ) (key : Key) (a b c : Timeline) (change : Change) (result : Result T DevError) → SparesFront end key a b → Passes key change result b c → SparesTo end change → SparesFront end key a c
+front_on end key a b c change result first passes spares = only_on a b c key (disk a) (FrontOf end (disk a key)) change result first passes
+    (front_more end (disk a key) (disk b key) (during change (disk b key)) (front_now end key a b first) (front_during end (disk b key) change spares))
+    (front_more end (disk a key) (disk b key) (disk c key) (front_now end key a b first) (front_after end key change result b c passes spares))
+
+pub front_then : (end : ℕ) (key : Key) (a b c : Timeline) → SparesFront end key a b → SparesFront end key b c → SparesFront end key a c
+front_then end key a b c first second = only_then a b c key (FrontOf end (disk a key)) first
+    (only_weaker b c key (disk b) (FrontOf end (disk b key)) (FrontOf end (disk a key)) (λ x has. front_more end (disk a key) (disk b key) x (front_now end key a b first) has) second)
+
+pub front_less : (end more : ℕ) (key : Key) (a b : Timeline) → end ≤ more → SparesFront more key a b → SparesFront end key a b
+front_less end more key a b less spares = only_weaker a b key (disk a) (FrontOf more (disk a key)) (FrontOf end (disk a key))
+    (λ x has. record {
+      reads = λ i lt. has.reads i (omega (arith, lt, less));
+      long = omega (arith, has.long, less);
+      crashes = λ n v le. has.crashes n v (omega (arith, le, less));
+    }) spares
+
+-- below a page, where the calls spare what is below a later one
+pub front_page : (P j k : ℕ) (key : Key) (a b : Timeline) → j ≤ k → SparesFront (page_at P k) key a b → SparesFront (page_at P j) key a b
+front_page P j k key a b le = front_less (page_at P j) (page_at P k) key a b (page_order (λ x. 0) P j k le)
+
+pub front_look : (end : ℕ) (key : Key) (a b : Timeline) → Unchanged a b → SparesFront end key a b
+front_look end key a b look = always_weaker a b (λ x. x ≡ disk a) (OnlyAt key (disk a) (FrontOf end (disk a key)))
+    (λ x same. record { here = subst (λ (y : Disk). FrontOf end (disk a key) (y key)) (sym same) (front_same end (disk a key)); others = λ q other. ap (λ (y : Disk). y q) same }) look
+
+-- one call of the device, on a blob at this key
+pub front_write : {T : Type 0} (end : ℕ) (key : Key) (a b c : Timeline) (at : ℕ) (bytes : List ℕ) (result : Result T DevError) → end ≤ at → SparesFront end key a b → Passes key (Write at bytes) result b c → SparesFront end key a c
+front_write end key a b c at bytes result le first passes = front_on end key a b c (Write at bytes) result first passes le
+
+pub front_resize : {T : Type 0} (end : ℕ) (key : Key) (a b c : Timeline) (n : ℕ) (result : Result T DevError) → end ≤ n → SparesFront end key a b → Passes key (Resize n) result b c → SparesFront end key a c
+front_resize end key a b c n result le first passes = front_on end key a b c (Resize n) result first passes le
+
+pub front_settle : {T : Type 0} (end : ℕ) (key : Key) (a b c : Timeline) (result : Result T DevError) → SparesFront end key a b → Passes key Settle result b c → SparesFront end key a c
+front_settle end key a b c result first passes = front_on end key a b c Settle result first passes tt
