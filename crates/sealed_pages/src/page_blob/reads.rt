@@ -27,6 +27,7 @@ use value_codec::Seal;
 impl<S: Seal> PageBlob<S> {
     ghost use Rattle.sealed_pages.specs.Shown.{shown};
     ghost use Rattle.sealed_pages.specs.Readers.{reading, IsReplayOf};
+    ghost use Rattle.sealed_pages.specs.Unrecovered.{blob_of, prefix_of, KeepsPrefix, IsUnrecovered};
 
     // Where the tip begins.
     fn tip_start(&self) -> u64
@@ -199,6 +200,10 @@ impl<S: Seal> PageBlob<S> {
             → IfOk result (λ r. bytes_of (shown r.0) (disk (D.time dev.new) (key_of (shown self))).content ≡ bytes_of (shown self) (disk (D.time dev.old) (key_of (shown self))).content) }
         ensures backed { D.Tells → IsBacked (shown self) (disk (D.time dev.old) (key_of (shown self))).content
             → IfOk result (λ r. IsBacked (shown r.0) (disk (D.time dev.new) (key_of (shown self))).content) }
+        // Also of an adopted blob whose sealed prefix is shorter than its size, each crash leaves that prefix.
+        ensures steady { D.Tells → IsUnrecovered S.seal_of (shown self) (blob_of (shown self) (D.time dev.old))
+            → KeepsPrefix S.seal_of self.page_size (prefix_of S.seal_of (shown self) (D.time dev.old)) (key_of (shown self)) (D.time dev.old) (D.time dev.new) }
+        ensures unrecovered { D.Tells → IsUnrecovered S.seal_of (shown self) (blob_of (shown self) (D.time dev.old)) → IfOk result (λ r. IsUnrecovered S.seal_of (shown r.0) (blob_of (shown self) (D.time dev.new))) }
         // What the reader gives is what the buffer means.
         ensures data { D.Tells → IsBacked (shown self) (disk (D.time dev.old) (key_of (shown self))).content
             → IfOk result (λ r. data_from self.page_size (view (disk (D.time dev.new) (key_of (shown self))).content) 0 (size_of (shown self)) ≡ bytes_of (shown self) (disk (D.time dev.old) (key_of (shown self))).content) }
