@@ -32,3 +32,4 @@ pub mod ReplayLemmas
 pub mod Fronts
 pub mod UnrecoveredLemmas
 pub mod Shortening
+pub mod Clearing
