@@ -1,4 +1,4 @@
--- Calls that spare a blob's first bytes: those that outlived each crash do so at each moment.
+-- What a call keeps of a blob at each moment, and calls that spare the first bytes: those that outlived each crash do so.
 use Rattle.std.proofs.Common.{◌≡◌, ◌⊎◌, inl, inr, ℕ, ◌<◌, ◌≤◌, min, List, length, get_or, Result, Ok, Err, refl, sym, ◌∙◌, ap, subst, arith}
 use Rattle.std.proofs.lemmas.Bool.{cases_lt}
 use Rattle.std.proofs.lemmas.List.{get_or_past}
@@ -16,6 +16,17 @@ use Rattle.sealed_pages.specs.Unrecovered.{HasFront, FrontOf, SparesFront}
 use Rattle.sealed_pages.specs.View.{View, view, page_at}
 use Rattle.sealed_pages.proofs.PageCalls.{only_then, only_weaker}
 use Rattle.sealed_pages.proofs.Repairing.{page_order}
+
+-- what each of a change's outcomes keeps, a call keeps at each moment
+pub kept_on : {T : Type 0} (Q : Blob → Type 0) (key : Key) (from : Disk) (a b c : Timeline) (change : Change) (result : Result T DevError) → Always a b (OnlyAt key from Q) → Passes key change result b c
+    → ((x : Blob) → Q x → Q (during change x)) → ((x : Blob) → Q x → Q (done change x)) → ((x y : Blob) → Q x → FailedTo change x y → Q y) → Always a c (OnlyAt key from Q)
+kept_on {T = T} Q key from a b c change result always passes inside ok err =
+    let here : Q (disk b key) = (always_now a b (OnlyAt key from Q) always).here in
+    only_on a b c key from Q change result always passes (inside (disk b key) here) (after result passes here)
+  where
+    after : (r : Result T DevError) → Passes key change r b c → Q (disk b key) → Q (disk c key)
+    after (Ok x) p here = subst Q (sym (ok_blob key change x b c p)) (ok (disk b key) here)
+    after (Err e) p here = err_has {T = T} Q key change e b c p here (λ new failed. err (disk b key) new here failed)
 
 -- what one change leaves, under way, done and failed
 module _ (end : ℕ) (b : Blob) where
@@ -102,10 +113,6 @@ module _ (end : ℕ) (b : Blob) where
   front_failed Remove c spares failed = absurd spares
   front_failed Look c spares same = subst (FrontOf end b) (sym same) (front_same end b)
 
-front_after : {T : Type 0} (end : ℕ) (k : Key) (change : Change) (result : Result T DevError) (b c : Timeline) → Passes k change result b c → SparesTo end change → FrontOf end (disk b k) (disk c k)
-front_after end k change (Ok x) b c passes spares = subst (FrontOf end (disk b k)) (sym (ok_blob k change x b c passes)) (front_done end (disk b k) change spares)
-front_after {T = T} end k change (Err e) b c passes spares = err_has {T = T} (FrontOf end (disk b k)) k change e b c passes (front_same end (disk b k)) (λ new failed. front_failed end (disk b k) change new spares failed)
-
 front_more : (end : ℕ) (a b c : Blob) → FrontOf end a b → FrontOf end b c → FrontOf end a c
 front_more end a b c first second = record {
   reads = λ i lt. second.reads i lt ∙ first.reads i lt;
@@ -122,9 +129,10 @@ front_now end key a b spares = (always_now a b (OnlyAt key (disk a) (FrontOf end
 
 -- one call more
 front_on : {T : Type 0} (end : ℕ) (key : Key) (a b c : Timeline) (change : Change) (result : Result T DevError) → SparesFront end key a b → Passes key change result b c → SparesTo end change → SparesFront end key a c
-front_on end key a b c change result first passes spares = only_on a b c key (disk a) (FrontOf end (disk a key)) change result first passes
-    (front_more end (disk a key) (disk b key) (during change (disk b key)) (front_now end key a b first) (front_during end (disk b key) change spares))
-    (front_more end (disk a key) (disk b key) (disk c key) (front_now end key a b first) (front_after end key change result b c passes spares))
+front_on end key a b c change result first passes spares = kept_on (FrontOf end (disk a key)) key (disk a) a b c change result first passes
+    (λ x has. front_more end (disk a key) x (during change x) has (front_during end x change spares))
+    (λ x has. front_more end (disk a key) x (done change x) has (front_done end x change spares))
+    (λ x y has failed. front_more end (disk a key) x y has (front_failed end x change y spares failed))
 
 pub front_then : (end : ℕ) (key : Key) (a b c : Timeline) → SparesFront end key a b → SparesFront end key b c → SparesFront end key a c
 front_then end key a b c first second = only_then a b c key (FrontOf end (disk a key)) first

@@ -34,3 +34,4 @@ pub mod WholeLemmas
 pub mod Fronts
 pub mod UnrecoveredLemmas
 pub mod Shortening
+pub mod Clearing

@@ -1,6 +1,8 @@
 -- What a crash may have left in a blob that is adopted.
-use Rattle.std.specs.Prelude.{◌≡◌, ◌↔◌, ℕ, ◌+◌, ◌<◌, not, Bool, true, List, length}
-use Rattle.sealed_pages.specs.View.{view, page_at, slot_at}
+use Rattle.std.specs.Prelude.{◌≡◌, ◌⊎◌, ◌↔◌, ℕ, ◌+◌, ◌<◌, ◌≤◌, not, Bool, true, List, length}
+use Rattle.blob_device.specs.Disk.{Key, Blob, Outside}
+use Rattle.blob_device.specs.Timeline.{Timeline, disk, Always, OnlyAt}
+use Rattle.sealed_pages.specs.View.{view, page_at, slot_at, Within}
 use Rattle.sealed_pages.specs.Slots.{slot_length, best_slot}
 use Rattle.sealed_pages.specs.Buffer.{pages_of}
 
@@ -19,3 +21,21 @@ module _ (seal : List ℕ → ℕ) (P : ℕ) where
     pub newest_is : 0 < from → newest ≡ best_slot seal P c first
     pub behind_is : (behind ≡ true) ↔ (page_at P (pages_of first from) < length c)
     pub torn_is : (torn ≡ true) ↔ ((0 < from) × IsTorn c first (not newest))
+
+-- of the blob's bytes only those of the slot at this place were written since it settled
+abbrev pub OnlySlot : ℕ → Blob → Type 0
+OnlySlot at b = (i : ℕ) → Outside b.loose i ⊎ Within at 6 i
+
+module _ (seal : List ℕ → ℕ) (P first from : ℕ) (newest : Bool) where
+  -- nothing of it is left: the content ends with the page in which the flushed bytes do, and that page's other slot is not torn
+  pub record IsCleared (c : List ℕ) : Type 0 where
+    pub short : length c ≤ page_at P (pages_of first from)
+    pub whole : 0 < from → ¬ (IsTorn seal P c first (not newest))
+
+  -- The blob at a moment: until that is gone for good, no byte was written but those of the torn slot.
+  abbrev pub ClearsFirst : Blob → Type 0
+  ClearsFirst b = OnlySlot (slot_at P first (not newest)) b ⊎ IsCleared b.settled
+
+-- what settled stays so at each moment; no other blob changes
+abbrev pub SettlesNothing : Key → Timeline → Timeline → Type 0
+SettlesNothing key old new = Always old new (OnlyAt key (disk old) (λ b. b.settled ≡ (disk old key).settled))

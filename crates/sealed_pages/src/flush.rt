@@ -5,6 +5,7 @@ ghost use Rattle.blob_device.specs.Counts.{Rose};
 ghost use Rattle.sealed_pages.specs.View.{view, page_at, StandsAt};
 ghost use Rattle.sealed_pages.specs.Flushing.{Ready, PageFlushed, Data, Wrote, next_slot};
 ghost use Rattle.sealed_pages.specs.Entries.{IsOpenAt, NoReads};
+ghost use Rattle.sealed_pages.specs.Leftover.{SettlesNothing};
 ghost use Rattle.sealed_pages.specs.Unrecovered.{SparesFront};
 
 use crate::page::write_page;
@@ -50,6 +51,7 @@ pub fn flush_pages<D: Device, S: Seal>(
         → StandsAt all (first * page_size) tip.now
         → Wrote page_size all (first * page_size + length tip.now) (partition.now, name.now) result (D.time dev.old) (D.time dev.new) }
     ensures front { D.Tells → SparesFront (page_at page_size first) (partition.now, name.now) (D.time dev.old) (D.time dev.new) }
+    ensures stays { D.Tells → SettlesNothing (partition.now, name.now) (D.time dev.old) (D.time dev.new) }
     ensures length { IfOk result (λ n. IsOpenAt (D.opened dev.new) (partition.now, name.now) n) }
     ensures entries { NoReads (partition.now, name.now) (D.opened dev.old) (D.opened dev.new) }
     ensures faults { D.faults dev.old ≤ D.faults dev.new }

@@ -95,7 +95,8 @@ impl<S: Seal> PageBlob<S> {
     ghost use Rattle.sealed_pages.specs.View.{view, StandsAt};
     ghost use Rattle.sealed_pages.specs.Buffer.{IsBacked, has_leftover};
     ghost use Rattle.sealed_pages.specs.Flushing.{Data, Wrote};
-    ghost use Rattle.sealed_pages.specs.Leftover.{Leftover};
+    ghost use Rattle.blob_device.specs.Timeline.{Always, OnlyAt};
+    ghost use Rattle.sealed_pages.specs.Leftover.{Leftover, IsCleared, ClearsFirst, SettlesNothing};
     ghost use Rattle.sealed_pages.specs.Unrecovered.{blob_of, prefix_of, SparesFront, KeepsPrefix, IsUnrecovered, IsAdopted};
 
     /// Adopts an opened blob of this length. The size goes back to the last page with a matching slot.
@@ -197,6 +198,8 @@ impl<S: Seal> PageBlob<S> {
         ensures wrote { D.Tells → (all : List ℕ) → Data self.page_size all (flushed_of (shown self)) (view (disk (D.time dev.old) (key_of (shown self))).content)
             → Wrote self.page_size all (flushed_of (shown self)) (key_of (shown self)) result (D.time dev.old) (D.time dev.new) }
         ensures front { D.Tells → SparesFront (page_at self.page_size self.first) (key_of (shown self)) (D.time dev.old) (D.time dev.new) }
+        ensures clears { D.Tells → IsAtRest (blob_of (shown self) (D.time dev.old)) → Always (D.time dev.old) (D.time dev.new) (OnlyAt (key_of (shown self)) (disk (D.time dev.old)) (ClearsFirst S.seal_of self.page_size self.first self.from self.newest)) }
+        ensures cleared { D.Tells → IsAtRest (blob_of (shown self) (D.time dev.old)) → Leftover S.seal_of self.page_size (blob_of (shown self) (D.time dev.old)).content self.first self.from self.newest self.behind self.torn → OnOk result (IsCleared S.seal_of self.page_size self.first self.from self.newest (blob_of (shown self) (D.time dev.new)).settled) }
         ensures settles { D.Tells → (self.behind || self.torn) ≡ true → OnOk result (IsAtRest (disk (D.time dev.new) (key_of (shown self)))) }
         ensures same { IfOk result (λ r. shown r ≡ record (shown self) { end = r.end; behind = false; torn = false }) }
         ensures length { IfOk result (λ r. IsOpenAt (D.opened dev.new) (key_of (shown self)) r.end) }
@@ -238,6 +241,7 @@ impl<S: Seal> PageBlob<S> {
             → StandsAt all (self.first * self.page_size) self.tip.items
             → Wrote self.page_size all (size_of (shown self)) (key_of (shown self)) result (D.time dev.old) (D.time dev.new) }
         ensures front { D.Tells → SparesFront (page_at self.page_size self.first) (key_of (shown self)) (D.time dev.old) (D.time dev.new) }
+        ensures stays { D.Tells → SettlesNothing (key_of (shown self)) (D.time dev.old) (D.time dev.new) }
         ensures same { IfOk result (λ r. shown r ≡ record (shown self) { end = r.end; first = r.first; tip = r.tip.items; from = length r.tip.items }) }
         ensures size { IfOk result (λ r. size_of (shown r) ≡ size_of (shown self)) }
         ensures tip { IfOk result (λ r. (all : List ℕ) → StandsAt all (self.first * self.page_size) self.tip.items → StandsAt all (r.first * r.page_size) r.tip.items) }
@@ -309,6 +313,7 @@ impl<S: Seal> PageBlob<S> {
             → KeepsPrefix S.seal_of self.page_size (prefix_of S.seal_of (shown self) (D.time dev.old)) (key_of (shown self)) (D.time dev.old) (D.time dev.new) }
         ensures unrecovered { D.Tells → IsUnrecovered S.seal_of (shown self) (blob_of (shown self) (D.time dev.old)) → IfOk result (λ r. IsUnrecovered S.seal_of (shown r) (blob_of (shown self) (D.time dev.new))) }
         ensures front { D.Tells → SparesFront (page_at self.page_size self.first) (key_of (shown self)) (D.time dev.old) (D.time dev.new) }
+        ensures clears { D.Tells → IsAtRest (blob_of (shown self) (D.time dev.old)) → Leftover S.seal_of self.page_size (blob_of (shown self) (D.time dev.old)).content self.first self.from self.newest self.behind self.torn → Always (D.time dev.old) (D.time dev.new) (OnlyAt (key_of (shown self)) (disk (D.time dev.old)) (ClearsFirst S.seal_of self.page_size self.first self.from self.newest)) }
         ensures backed { D.Tells → IsBacked (shown self) (blob_of (shown self) (D.time dev.old)).content → IfOk result (λ r. IsBacked (shown r) (blob_of (shown self) (D.time dev.new)).content) }
         ensures idle { length self.tip.items ≤ self.from → dev.new ≡ dev.old }
         ensures fine { length self.tip.items ≤ self.from → IsOkAnd result (λ r. shown r ≡ shown self) }
@@ -342,6 +347,9 @@ impl<S: Seal> PageBlob<S> {
             → Sealing S.seal_of self.page_size (bytes_of (shown self) (disk (D.time dev.old) (key_of (shown self))).content ++ bytes.now) self.settled (key_of (shown self)) (D.time dev.old) (D.time dev.new) }
         ensures sealed { D.Tells → IsSealed S.seal_of (shown self) (disk (D.time dev.old) (key_of (shown self)))
             → IfOk result (λ r. IsSealed S.seal_of (shown r.0) (disk (D.time dev.new) (key_of (shown self)))) }
+        // What a crash left in the blob is gone for good before the first byte is written.
+        ensures clears { D.Tells → IsAtRest (blob_of (shown self) (D.time dev.old)) → Leftover S.seal_of self.page_size (blob_of (shown self) (D.time dev.old)).content self.first self.from self.newest self.behind self.torn
+            → Always (D.time dev.old) (D.time dev.new) (OnlyAt (key_of (shown self)) (disk (D.time dev.old)) (ClearsFirst S.seal_of self.page_size self.first self.from self.newest)) }
         // Where the sealed prefix of an adopted blob is shorter than its size, each crash leaves that prefix as it was.
         ensures steady { D.Tells → IsUnrecovered S.seal_of (shown self) (blob_of (shown self) (D.time dev.old))
             → KeepsPrefix S.seal_of self.page_size (prefix_of S.seal_of (shown self) (D.time dev.old)) (key_of (shown self)) (D.time dev.old) (D.time dev.new) }
@@ -388,6 +396,9 @@ impl<S: Seal> PageBlob<S> {
             → Sealing S.seal_of self.page_size (bytes_of (shown self) (disk (D.time dev.old) (key_of (shown self))).content) self.settled (key_of (shown self)) (D.time dev.old) (D.time dev.new) }
         ensures sealed { D.Tells → IsSealed S.seal_of (shown self) (disk (D.time dev.old) (key_of (shown self)))
             → IfOk result (λ r. IsSealed S.seal_of (shown r) (disk (D.time dev.new) (key_of (shown self)))) }
+        // What a crash left in the blob is gone for good before the first byte is written.
+        ensures clears { D.Tells → IsAtRest (blob_of (shown self) (D.time dev.old)) → Leftover S.seal_of self.page_size (blob_of (shown self) (D.time dev.old)).content self.first self.from self.newest self.behind self.torn
+            → Always (D.time dev.old) (D.time dev.new) (OnlyAt (key_of (shown self)) (disk (D.time dev.old)) (ClearsFirst S.seal_of self.page_size self.first self.from self.newest)) }
         // Where the sealed prefix of an adopted blob is shorter than its size, each crash leaves that prefix as it was.
         ensures steady { D.Tells → IsUnrecovered S.seal_of (shown self) (blob_of (shown self) (D.time dev.old))
             → KeepsPrefix S.seal_of self.page_size (prefix_of S.seal_of (shown self) (D.time dev.old)) (key_of (shown self)) (D.time dev.old) (D.time dev.new) }

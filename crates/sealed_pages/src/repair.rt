@@ -1,13 +1,15 @@
 // What the first flush after adopting removes before the first data byte is written: bytes behind the last page with a
 // matching slot, and a torn slot beside the one that covers this page. Else new bytes could make old ones match again.
-ghost use Rattle.std.specs.Prelude.{◌≡◌, ◌≢◌, ◌+◌, ◌*◌, ◌≤◌, ◌<◌, ◌^◌, ◌-◌, not, true, false, length, IfOk, OnOk, Bool, ℕ, List};
-ghost use Rattle.blob_device.specs.Timeline.{disk};
+ghost use Rattle.std.specs.Prelude.{◌≡◌, ◌≢◌, ◌+◌, ◌*◌, ◌≤◌, ◌<◌, ◌^◌, ◌-◌, not, true, false, cond, length, IfOk, OnOk, Bool, ℕ, List};
+ghost use Rattle.blob_device.specs.Change.{written, resized};
+ghost use Rattle.blob_device.specs.Timeline.{disk, Always, OnlyAt};
 ghost use Rattle.blob_device.specs.Counts.{Rose};
-ghost use Rattle.sealed_pages.specs.View.{view, page_at};
-ghost use Rattle.sealed_pages.specs.Flushing.{Kept, IsClean, Removed, PageFlushed, Data, Wrote};
+ghost use Rattle.sealed_pages.specs.View.{view, page_at, slot_at};
+ghost use Rattle.sealed_pages.specs.Flushing.{Kept, IsClean, Removed, PageFlushed, Data, Wrote, no_slot};
 ghost use Rattle.sealed_pages.specs.Buffer.{Adopted, pages_of};
 ghost use Rattle.sealed_pages.specs.Entries.{IsOpenAt, NoReads};
 ghost use Rattle.sealed_pages.specs.Cutting.{IsAtRest};
+ghost use Rattle.sealed_pages.specs.Leftover.{Leftover, OnlySlot, IsCleared, ClearsFirst};
 ghost use Rattle.sealed_pages.specs.Unrecovered.{SparesFront};
 
 use crate::page::{page_place, slot_place};
@@ -47,6 +49,8 @@ pub fn cut_behind<D: Device, S: Seal>(
         → F ≤ pages * page_size
         → Wrote page_size all F (partition.now, name.now) result (D.time dev.old) (D.time dev.new) }
     ensures front { D.Tells → SparesFront (page_at page_size pages) (partition.now, name.now) (D.time dev.old) (D.time dev.new) }
+    ensures loose { D.Tells → (at : ℕ) → IsAtRest (disk (D.time dev.old) (partition.now, name.now)) → Always (D.time dev.old) (D.time dev.new) (OnlyAt (partition.now, name.now) (disk (D.time dev.old)) (OnlySlot at)) }
+    ensures content { D.Tells → OnOk result ((disk (D.time dev.new) (partition.now, name.now)).content ≡ cond behind (resized (disk (D.time dev.old) (partition.now, name.now)).content (page_at page_size pages)) (disk (D.time dev.old) (partition.now, name.now)).content) }
     ensures length { IfOk result (λ n. IsOpenAt (D.opened dev.new) (partition.now, name.now) n) }
     ensures entries { NoReads (partition.now, name.now) (D.opened dev.old) (D.opened dev.new) }
     ensures faults { D.faults dev.old ≤ D.faults dev.new }
@@ -86,6 +90,8 @@ pub fn clear_torn<D: Device, S: Seal>(
         → Data page_size all F (view (disk (D.time dev.old) (partition.now, name.now)).content)
         → Wrote page_size all F (partition.now, name.now) result (D.time dev.old) (D.time dev.new) }
     ensures front { D.Tells → SparesFront (page_at page_size page) (partition.now, name.now) (D.time dev.old) (D.time dev.new) }
+    ensures loose { D.Tells → OnlySlot (slot_at page_size page second) (disk (D.time dev.old) (partition.now, name.now)) → Always (D.time dev.old) (D.time dev.new) (OnlyAt (partition.now, name.now) (disk (D.time dev.old)) (OnlySlot (slot_at page_size page second))) }
+    ensures content { D.Tells → OnOk result ((disk (D.time dev.new) (partition.now, name.now)).content ≡ cond torn (written (disk (D.time dev.old) (partition.now, name.now)).content (slot_at page_size page second) no_slot) (disk (D.time dev.old) (partition.now, name.now)).content) }
     ensures length { IfOk result (λ n. IsOpenAt (D.opened dev.new) (partition.now, name.now) n) }
     ensures entries { NoReads (partition.now, name.now) (D.opened dev.old) (D.opened dev.new) }
     ensures faults { D.faults dev.old ≤ D.faults dev.new }
@@ -123,6 +129,8 @@ pub fn repair<D: Device, S: Seal>(
         → Data page_size all (first * page_size + from) (view (disk (D.time dev.old) (partition.now, name.now)).content)
         → Wrote page_size all (first * page_size + from) (partition.now, name.now) result (D.time dev.old) (D.time dev.new) }
     ensures front { D.Tells → SparesFront (page_at page_size first) (partition.now, name.now) (D.time dev.old) (D.time dev.new) }
+    ensures clears { D.Tells → IsAtRest (disk (D.time dev.old) (partition.now, name.now)) → Always (D.time dev.old) (D.time dev.new) (OnlyAt (partition.now, name.now) (disk (D.time dev.old)) (ClearsFirst S.seal_of page_size first from newest)) }
+    ensures cleared { D.Tells → Leftover S.seal_of page_size (disk (D.time dev.old) (partition.now, name.now)).content first from newest behind torn → OnOk result (IsCleared S.seal_of page_size first from newest (disk (D.time dev.new) (partition.now, name.now)).settled) }
     ensures settles { D.Tells → OnOk result (IsAtRest (disk (D.time dev.new) (partition.now, name.now))) }
     ensures length { IfOk result (λ n. IsOpenAt (D.opened dev.new) (partition.now, name.now) n) }
     ensures entries { NoReads (partition.now, name.now) (D.opened dev.old) (D.opened dev.new) }

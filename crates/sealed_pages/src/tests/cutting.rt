@@ -89,3 +89,87 @@ fn stopped(rt: HostRuntime) -> Result<(), Fail> {
     }
     Ok(())
 }
+
+/// Three full pages, of which the middle one is damaged: four bytes are sealed, and the size is 12.
+fn damaged(alloc: Global) -> Result<Image, RError> {
+    let mut dev = Memory::new(alloc);
+    put(alloc, &mut dev, b"abcdefghijkl")?;
+    let mut image = dev.image(alloc)?;
+    let mut bytes = bytes_of(alloc, &image)?;
+    if let Some(byte) = bytes.get_mut(17) {
+        *byte = 0;
+    }
+    image.set_blob("p", b"x", bytes.as_slice())?;
+    Ok(image)
+}
+
+/// Opens the blob, adds two bytes, which are fewer than the capacity, and cuts it.
+fn add_and_cut(alloc: Global, dev: &mut Memory, len: u64) -> Result<u64, RError> {
+    let blob = opened(alloc, dev, 4)?;
+    let (blob, at) = blob.append(dev, b"mn")?;
+    if at != 12 {
+        return Ok(at);
+    }
+    let blob = blob.truncate(dev, len)?;
+    Ok(blob.size())
+}
+
+/// Whether a crash now leaves a blob whose sealed prefix is `abc` or `abcd`.
+fn leaves_front(alloc: Global, dev: &Memory, choice: CrashChoice) -> Result<bool, RError> {
+    let image = dev.pick_crash(alloc, choice)?;
+    let front = bytes_of(alloc, &image)?.starts_with(b"abc");
+    let fourth = bytes_of(alloc, &image)?.starts_with(b"abcd");
+    let mut dev = Memory::from_image(alloc, image)?;
+    let blob = opened(alloc, &mut dev, 4)?;
+    let len = blob.recoverable_prefix_len(&mut dev, 0, 64)?;
+    Ok((len == 3 && front) || (len == 4 && fourth))
+}
+
+// A damaged blob with bytes that are not flushed, cut to three of its four sealed bytes, and stopped at each of the twelve calls
+// of the device: two for adopting, three for the flush, seven for the cut.
+#[test]
+fn damaged_and_stopped(rt: HostRuntime) -> Result<(), Fail> {
+    let alloc = rt.alloc();
+    for nth in 0..15_u64 {
+        let mut dev = Memory::from_image(alloc, damaged(alloc)?)?;
+        dev.fuse_at(nth);
+        let stopped = add_and_cut(alloc, &mut dev, 3);
+        assert_eq!(rt; stopped.is_err(), nth < 12, "call {nth}");
+        assert!(rt;
+            leaves_front(alloc, &dev, CrashChoice::Settled)?,
+            "call {nth}"
+        );
+        assert!(rt;
+            leaves_front(alloc, &dev, CrashChoice::AsRead)?,
+            "call {nth}"
+        );
+        for bits in 0..8_u64 {
+            assert!(rt;
+                leaves_front(alloc, &dev, CrashChoice::Mixed(bits))?,
+                "call {nth}"
+            );
+        }
+    }
+    Ok(())
+}
+
+// A cut to two bytes of the damaged page is refused, a cut inside the page behind it is not.
+#[test]
+fn damaged_and_refused(rt: HostRuntime) -> Result<(), Fail> {
+    let alloc = rt.alloc();
+    let mut dev = Memory::from_image(alloc, damaged(alloc)?)?;
+    let before = bytes_of(alloc, &dev.image(alloc)?)?;
+    let refused = cut(alloc, &mut dev, 6);
+    assert_eq!(rt; refused, Err(RError::InvalidChecksum(1)));
+    assert!(rt; bytes_of(alloc, &dev.image(alloc)?)? == before);
+    assert_eq!(rt; dev.calls(), 3);
+    // What was pending is settled then, and nothing is cut.
+    let refused = add_and_cut(alloc, &mut dev, 6);
+    assert_eq!(rt; refused, Err(RError::InvalidChecksum(1)));
+    assert_eq!(rt; cut(alloc, &mut dev, 20)?, 14);
+    assert_eq!(rt; cut(alloc, &mut dev, 10)?, 10);
+    // The buffer has 8 bytes; adopting the blob finds those before the damage alone.
+    assert_eq!(rt; cut(alloc, &mut dev, 8)?, 8);
+    assert_eq!(rt; cut(alloc, &mut dev, 20)?, 4);
+    Ok(())
+}

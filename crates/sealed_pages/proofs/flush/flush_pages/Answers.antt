@@ -7,6 +7,7 @@ use Rattle.sealed_pages.proofs.SlotLemmas.{times_next, index_page}
 use Rattle.sealed_pages.proofs.PageCalls.{flushed_as, wrote_as, alone_then, wrote_start, wrote_then, flush_start, flush_then, part_stands, no_ok}
 use Rattle.sealed_pages.proofs.EntryLemmas.{open_some, no_reads_start, no_reads_then}
 use Rattle.sealed_pages.proofs.Fronts.{front_start, front_page, front_then}
+use Rattle.sealed_pages.proofs.Clearing.{settles_start, settles_then}
 use Rattle.sealed_pages.proofs.flush.flush_pages.Goals as goal
 
 pub returns-then-from-tip-clause-told : goal.returns-then-from-tip-clause-told
@@ -34,6 +35,7 @@ pages-init g c = record {
   in_page = c.requires.begin;
   later = omega arith;
   front = λ t. front_start (page_at c.args.page_size c.args.first) (c.args.partition.now, c.args.name.now) (g.D.Device.time c.args.dev.now);
+  stays = λ t. settles_start (c.args.partition.now, c.args.name.now) (g.D.Device.time c.args.dev.now);
   place = λ lt. omega arith;
   told = λ t all ready at.
       let end : c.args.first * c.args.page_size + c.args.from ≡ c.args.first * c.args.page_size + (0 + c.args.from) = omega arith in
@@ -79,6 +81,7 @@ pages-preserved g c =
       in_page = pos;
       later = omega (arith, c.pages.invariant.later);
       front = λ t. front_then (page_at c.args.page_size c.args.first) (c.args.partition.now, c.args.name.now) (g.D.Device.time c.args.dev.now) (g.D.Device.time c.pages.dev) (g.D.Device.time c.write_page.new.dev) (c.pages.invariant.front t) (front_page c.args.page_size c.args.first c.pages.page (c.args.partition.now, c.args.name.now) (g.D.Device.time c.pages.dev) (g.D.Device.time c.write_page.new.dev) c.pages.invariant.later (c.in_ok-reach.ensures.front t));
+      stays = λ t. settles_then (c.args.partition.now, c.args.name.now) (g.D.Device.time c.args.dev.now) (g.D.Device.time c.pages.dev) (g.D.Device.time c.write_page.new.dev) (c.pages.invariant.stays t) (c.in_ok-reach.ensures.stays t);
       place = λ lt. (let n_page : c.min-n.result ≡ c.args.page_size = omega (arith, lt, c.min-n.ensures, c.from-size.ensures) in omega (arith, place, n_page, times_next c.pages.page c.args.page_size));
       told = λ t all ready at.
           let now = c.pages.invariant.told t all ready at in
@@ -128,3 +131,9 @@ returns-in_err-reach-clause-entries g c = no_reads_then _ _ _ _ c.pages.invarian
 
 pub returns-in_err-reach-clause-front : goal.returns-in_err-reach-clause-front
 returns-in_err-reach-clause-front g c t = front_then (page_at c.args.page_size c.args.first) (c.args.partition.now, c.args.name.now) (g.D.Device.time c.args.dev.now) (g.D.Device.time c.pages.dev) (g.D.Device.time c.write_page.new.dev) (c.pages.invariant.front t) (front_page c.args.page_size c.args.first c.pages.page (c.args.partition.now, c.args.name.now) (g.D.Device.time c.pages.dev) (g.D.Device.time c.write_page.new.dev) c.pages.invariant.later (c.in_err-reach.ensures.front t))
+
+pub returns-then-from-tip-clause-stays : goal.returns-then-from-tip-clause-stays
+returns-then-from-tip-clause-stays g c t = settles_start (c.args.partition.now, c.args.name.now) (g.D.Device.time c.args.dev.now)
+
+pub returns-in_err-reach-clause-stays : goal.returns-in_err-reach-clause-stays
+returns-in_err-reach-clause-stays g c t = settles_then (c.args.partition.now, c.args.name.now) (g.D.Device.time c.args.dev.now) (g.D.Device.time c.pages.dev) (g.D.Device.time c.write_page.new.dev) (c.pages.invariant.stays t) (c.in_err-reach.ensures.stays t)

@@ -6,6 +6,7 @@ use Rattle.sealed_pages.proofs.SlotSteps.{length-slot_bytes}
 use Rattle.sealed_pages.proofs.PageCalls.{Begun, page_one, page_two, page_ready, page_leaves, passes_as, rest_whole, no_ok, alone_start, alone_on, page_wrote}
 use Rattle.sealed_pages.proofs.Fronts.{front_start, front_write}
 use Rattle.sealed_pages.specs.View.{page_at}
+use Rattle.sealed_pages.proofs.Clearing.{settles_start, settles_write}
 use Rattle.sealed_pages.proofs.page.write_page.Goals as goal
 
 pub write_at-requires-clause-fits : goal.write_at-requires-clause-fits
@@ -98,3 +99,12 @@ returns-in_err-write_at-2-clause-front g c t = front_write (page_at c.args.page_
 
 pub returns-clause-front : goal.returns-clause-front
 returns-clause-front g c t = front_write (page_at c.args.page_size c.args.page) (c.args.partition.now, c.args.name.now) (g.D.Device.time c.args.dev.now) (g.D.Device.time c.write_at.new.self) (g.D.Device.time c.write_at-2.new.self) _ _ _ (omega (arith, c.slot_place-place.ensures, slot_low c.args.page_size c.args.page c.args.second)) (front_write (page_at c.args.page_size c.args.page) (c.args.partition.now, c.args.name.now) (g.D.Device.time c.args.dev.now) (g.D.Device.time c.args.dev.now) (g.D.Device.time c.write_at.new.self) _ _ _ (omega (arith, c.page_place-start.ensures)) (front_start (page_at c.args.page_size c.args.page) (c.args.partition.now, c.args.name.now) (g.D.Device.time c.args.dev.now)) (c.in_ok-write_at.ensures.told t)) (c.in_ok-write_at-2.ensures.told t)
+
+pub returns-in_err-write_at-clause-stays : goal.returns-in_err-write_at-clause-stays
+returns-in_err-write_at-clause-stays g c t = settles_write (c.args.partition.now, c.args.name.now) (g.D.Device.time c.args.dev.now) (g.D.Device.time c.args.dev.now) (g.D.Device.time c.write_at.new.self) _ _ _ (settles_start (c.args.partition.now, c.args.name.now) (g.D.Device.time c.args.dev.now)) (c.write_at.ensures.told t)
+
+pub returns-in_err-write_at-2-clause-stays : goal.returns-in_err-write_at-2-clause-stays
+returns-in_err-write_at-2-clause-stays g c t = settles_write (c.args.partition.now, c.args.name.now) (g.D.Device.time c.args.dev.now) (g.D.Device.time c.write_at.new.self) (g.D.Device.time c.write_at-2.new.self) _ _ _ (settles_write (c.args.partition.now, c.args.name.now) (g.D.Device.time c.args.dev.now) (g.D.Device.time c.args.dev.now) (g.D.Device.time c.write_at.new.self) _ _ _ (settles_start (c.args.partition.now, c.args.name.now) (g.D.Device.time c.args.dev.now)) (c.in_ok-write_at.ensures.told t)) (c.write_at-2.ensures.told t)
+
+pub returns-clause-stays : goal.returns-clause-stays
+returns-clause-stays g c t = settles_write (c.args.partition.now, c.args.name.now) (g.D.Device.time c.args.dev.now) (g.D.Device.time c.write_at.new.self) (g.D.Device.time c.write_at-2.new.self) _ _ _ (settles_write (c.args.partition.now, c.args.name.now) (g.D.Device.time c.args.dev.now) (g.D.Device.time c.args.dev.now) (g.D.Device.time c.write_at.new.self) _ _ _ (settles_start (c.args.partition.now, c.args.name.now) (g.D.Device.time c.args.dev.now)) (c.in_ok-write_at.ensures.told t)) (c.in_ok-write_at-2.ensures.told t)

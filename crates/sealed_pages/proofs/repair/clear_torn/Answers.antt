@@ -1,10 +1,17 @@
-use Rattle.std.proofs.Common.{◌+◌, ◌≤◌, max, refl, arith}
+use Rattle.std.proofs.Common.{◌+◌, ◌≤◌, max, refl, arith, ◌∙◌, ◌≡◌, Bool, cond, ap, sym, List, ℕ}
 use Rattle.sealed_pages.proofs.PageCalls.{passes_as, no_ok, alone_start, alone_on}
 use Rattle.sealed_pages.proofs.EntryLemmas.{open_some, no_reads_part, no_reads_updated, open_written}
 use Rattle.sealed_pages.proofs.Keeping.{kept_start, clear_any, clear_ok, clear_data}
 use Rattle.sealed_pages.proofs.Fronts.{front_start, front_write}
-use Rattle.sealed_pages.specs.View.{page_at}
+use Rattle.sealed_pages.specs.View.{page_at, slot_at}
 use Rattle.sealed_pages.proofs.Steps.{slot_low}
+use Rattle.sealed_pages.proofs.Clearing.{slot_write}
+use Rattle.blob_device.specs.Timeline.{disk}
+use Rattle.blob_device.specs.Disk.{Blob}
+use Rattle.blob_device.specs.Change.{Write, written}
+use Rattle.blob_device.proofs.Moments.{ok_blob, only_start}
+use Rattle.sealed_pages.specs.Flushing.{no_slot}
+use Rattle.sealed_pages.specs.Leftover.{OnlySlot}
 use Rattle.sealed_pages.proofs.repair.clear_torn.Goals as goal
 
 pub returns-then-not-torn-clause-told : goal.returns-then-not-torn-clause-told
@@ -64,3 +71,20 @@ returns-in_err-write_at-clause-front g c t = front_write (page_at c.args.page_si
 
 pub returns-clause-front : goal.returns-clause-front
 returns-clause-front g c t = front_write (page_at c.args.page_size c.args.page) (c.args.partition.now, c.args.name.now) (g.D.Device.time c.args.dev.now) (g.D.Device.time c.args.dev.now) (g.D.Device.time c.write_at.new.self) _ _ _ (omega (arith, c.slot_place-place.ensures, slot_low c.args.page_size c.args.page c.args.second)) (front_start (page_at c.args.page_size c.args.page) (c.args.partition.now, c.args.name.now) (g.D.Device.time c.args.dev.now)) (c.in_ok-write_at.ensures.told t)
+
+pub returns-then-not-torn-clause-loose : goal.returns-then-not-torn-clause-loose
+returns-then-not-torn-clause-loose g c t only = only_start (g.D.Device.time c.args.dev.now) (c.args.partition.now, c.args.name.now) (OnlySlot (slot_at c.args.page_size c.args.page c.args.second)) only
+
+pub returns-in_err-write_at-clause-loose : goal.returns-in_err-write_at-clause-loose
+returns-in_err-write_at-clause-loose g c t only = slot_write (slot_at c.args.page_size c.args.page c.args.second) (c.args.partition.now, c.args.name.now) (g.D.Device.time c.args.dev.now) (g.D.Device.time c.args.dev.now) (g.D.Device.time c.write_at.new.self) _ (only_start (g.D.Device.time c.args.dev.now) (c.args.partition.now, c.args.name.now) (OnlySlot (slot_at c.args.page_size c.args.page c.args.second)) only) (passes_as c.slot_place-place.ensures refl (c.write_at.ensures.told t))
+
+pub returns-clause-loose : goal.returns-clause-loose
+returns-clause-loose g c t only = slot_write (slot_at c.args.page_size c.args.page c.args.second) (c.args.partition.now, c.args.name.now) (g.D.Device.time c.args.dev.now) (g.D.Device.time c.args.dev.now) (g.D.Device.time c.write_at.new.self) _ (only_start (g.D.Device.time c.args.dev.now) (c.args.partition.now, c.args.name.now) (OnlySlot (slot_at c.args.page_size c.args.page c.args.second)) only) (passes_as c.slot_place-place.ensures refl (c.in_ok-write_at.ensures.told t))
+
+pub returns-then-not-torn-clause-content : goal.returns-then-not-torn-clause-content
+returns-then-not-torn-clause-content g c t = sym (ap (λ (b : Bool). cond b (written (disk (g.D.Device.time c.args.dev.now) (c.args.partition.now, c.args.name.now)).content (slot_at c.args.page_size c.args.page c.args.second) no_slot) (disk (g.D.Device.time c.args.dev.now) (c.args.partition.now, c.args.name.now)).content) c.if-not-torn.true)
+
+pub returns-clause-content : goal.returns-clause-content
+returns-clause-content g c t =
+    let done : (disk (g.D.Device.time c.write_at.new.self) (c.args.partition.now, c.args.name.now)).content ≡ (written (disk (g.D.Device.time c.args.dev.now) (c.args.partition.now, c.args.name.now)).content (slot_at c.args.page_size c.args.page c.args.second) no_slot) = ap (λ (b : Blob). b.content) (ok_blob (c.args.partition.now, c.args.name.now) (Write (slot_at c.args.page_size c.args.page c.args.second) no_slot) _ (g.D.Device.time c.args.dev.now) (g.D.Device.time c.write_at.new.self) (passes_as c.slot_place-place.ensures refl (c.in_ok-write_at.ensures.told t))) in
+    done ∙ sym (ap (λ (b : Bool). cond b (written (disk (g.D.Device.time c.args.dev.now) (c.args.partition.now, c.args.name.now)).content (slot_at c.args.page_size c.args.page c.args.second) no_slot) (disk (g.D.Device.time c.args.dev.now) (c.args.partition.now, c.args.name.now)).content) c.if-not-torn.false)

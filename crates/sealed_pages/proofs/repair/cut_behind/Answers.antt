@@ -1,9 +1,14 @@
-use Rattle.std.proofs.Common.{◌≤◌, arith}
+use Rattle.std.proofs.Common.{◌≤◌, arith, ◌∙◌, ◌≡◌, Bool, cond, ap, sym, List, ℕ}
 use Rattle.sealed_pages.proofs.PageCalls.{no_ok, alone_start, alone_on}
 use Rattle.sealed_pages.proofs.EntryLemmas.{open_some, no_reads_resize, no_reads_updated, open_resized}
 use Rattle.sealed_pages.proofs.Keeping.{kept_start, behind_any, behind_ok, resize_as, cut_data}
 use Rattle.sealed_pages.proofs.Fronts.{front_start, front_resize}
 use Rattle.sealed_pages.specs.View.{page_at}
+use Rattle.sealed_pages.proofs.Clearing.{slot_start, slot_resize}
+use Rattle.blob_device.specs.Timeline.{disk}
+use Rattle.blob_device.specs.Disk.{Blob}
+use Rattle.blob_device.specs.Change.{Resize, resized}
+use Rattle.blob_device.proofs.Moments.{ok_blob}
 use Rattle.sealed_pages.proofs.repair.cut_behind.Goals as goal
 
 pub returns-then-not-behind-clause-told : goal.returns-then-not-behind-clause-told
@@ -60,3 +65,20 @@ returns-in_err-resize-clause-front g c t = front_resize (page_at c.args.page_siz
 
 pub returns-clause-front : goal.returns-clause-front
 returns-clause-front g c t = front_resize (page_at c.args.page_size c.args.pages) (c.args.partition.now, c.args.name.now) (g.D.Device.time c.args.dev.now) (g.D.Device.time c.args.dev.now) (g.D.Device.time c.resize.new.self) _ _ (omega (arith, c.page_place-place.ensures)) (front_start (page_at c.args.page_size c.args.pages) (c.args.partition.now, c.args.name.now) (g.D.Device.time c.args.dev.now)) (c.in_ok-resize.ensures.told t)
+
+pub returns-then-not-behind-clause-loose : goal.returns-then-not-behind-clause-loose
+returns-then-not-behind-clause-loose g c t at rest = slot_start at (c.args.partition.now, c.args.name.now) (g.D.Device.time c.args.dev.now) rest
+
+pub returns-in_err-resize-clause-loose : goal.returns-in_err-resize-clause-loose
+returns-in_err-resize-clause-loose g c t at rest = slot_resize at (c.args.partition.now, c.args.name.now) (g.D.Device.time c.args.dev.now) (g.D.Device.time c.args.dev.now) (g.D.Device.time c.resize.new.self) _ _ (slot_start at (c.args.partition.now, c.args.name.now) (g.D.Device.time c.args.dev.now) rest) (c.resize.ensures.told t)
+
+pub returns-clause-loose : goal.returns-clause-loose
+returns-clause-loose g c t at rest = slot_resize at (c.args.partition.now, c.args.name.now) (g.D.Device.time c.args.dev.now) (g.D.Device.time c.args.dev.now) (g.D.Device.time c.resize.new.self) _ _ (slot_start at (c.args.partition.now, c.args.name.now) (g.D.Device.time c.args.dev.now) rest) (c.in_ok-resize.ensures.told t)
+
+pub returns-then-not-behind-clause-content : goal.returns-then-not-behind-clause-content
+returns-then-not-behind-clause-content g c t = sym (ap (λ (b : Bool). cond b (resized (disk (g.D.Device.time c.args.dev.now) (c.args.partition.now, c.args.name.now)).content (page_at c.args.page_size c.args.pages)) (disk (g.D.Device.time c.args.dev.now) (c.args.partition.now, c.args.name.now)).content) c.if-not-behind.true)
+
+pub returns-clause-content : goal.returns-clause-content
+returns-clause-content g c t =
+    let done : (disk (g.D.Device.time c.resize.new.self) (c.args.partition.now, c.args.name.now)).content ≡ resized (disk (g.D.Device.time c.args.dev.now) (c.args.partition.now, c.args.name.now)).content (page_at c.args.page_size c.args.pages) = ap (λ (b : Blob). b.content) (ok_blob (c.args.partition.now, c.args.name.now) (Resize c.page_place-place.result) _ (g.D.Device.time c.args.dev.now) (g.D.Device.time c.resize.new.self) (c.in_ok-resize.ensures.told t)) ∙ ap (resized (disk (g.D.Device.time c.args.dev.now) (c.args.partition.now, c.args.name.now)).content) c.page_place-place.ensures in
+    done ∙ sym (ap (λ (b : Bool). cond b (resized (disk (g.D.Device.time c.args.dev.now) (c.args.partition.now, c.args.name.now)).content (page_at c.args.page_size c.args.pages)) (disk (g.D.Device.time c.args.dev.now) (c.args.partition.now, c.args.name.now)).content) c.if-not-behind.false)

@@ -1,7 +1,7 @@
-use Rattle.std.proofs.Common.{◌≡◌, ◌+◌, ◌*◌, ◌≤◌, ◌<◌, ◌∙◌, not, true, false, ap, length, ℕ, arith}
-use Rattle.blob_device.specs.Disk.{Key}
+use Rattle.std.proofs.Common.{◌≡◌, ◌+◌, ◌*◌, ◌≤◌, ◌<◌, ◌∙◌, not, true, false, ap, length, ℕ, arith, cond, subst, sym, refl, List}
+use Rattle.blob_device.specs.Disk.{Key, Blob}
 use Rattle.blob_device.specs.Timeline.{disk}
-use Rattle.blob_device.specs.Change.{Settle}
+use Rattle.blob_device.specs.Change.{Settle, written, resized}
 use Rattle.blob_device.proofs.Moments.{ok_blob}
 use Rattle.sealed_pages.proofs.CutSteps.{settled_rest}
 use Rattle.sealed_pages.proofs.PageCalls.{no_ok, only_then, alone_on, alone_then}
@@ -9,8 +9,12 @@ use Rattle.sealed_pages.proofs.SlotLemmas.{index_page}
 use Rattle.sealed_pages.proofs.Adopting.{adopted_kept, torn_inside, torn_other, head_is, all_clean, pages_reach, pages_some, last_page, pages_place}
 use Rattle.sealed_pages.proofs.Keeping.{settle_any, settle_ready, settle_data}
 use Rattle.sealed_pages.proofs.Fronts.{front_page, front_then, front_settle}
-use Rattle.sealed_pages.specs.View.{page_at}
+use Rattle.sealed_pages.specs.View.{page_at, slot_at}
 use Rattle.sealed_pages.proofs.UnrecoveredLemmas.{pages_span}
+use Rattle.sealed_pages.proofs.Clearing.{slot_clears, slot_then, slot_settle, both_cleared}
+use Rattle.sealed_pages.specs.Flushing.{no_slot}
+use Rattle.sealed_pages.specs.Leftover.{IsCleared}
+use Rattle.sealed_pages.specs.Buffer.{pages_of}
 use Rattle.sealed_pages.proofs.repair.repair.Goals as goal
 use Rattle.sealed_pages.specs.Buffer.{pages_of}
 use Rattle.sealed_pages.specs.ChanceSeal.{Leaves}
@@ -152,3 +156,23 @@ returns-in_err-sync-clause-front g c t = front_settle (page_at c.args.page_size 
 
 pub returns-clause-front : goal.returns-clause-front
 returns-clause-front g c t = front_settle (page_at c.args.page_size c.args.first) (c.args.partition.now, c.args.name.now) (g.D.Device.time c.args.dev.now) (g.D.Device.time c.clear_torn.new.dev) (g.D.Device.time c.sync.new.self) _ (front_then (page_at c.args.page_size c.args.first) (c.args.partition.now, c.args.name.now) (g.D.Device.time c.args.dev.now) (g.D.Device.time c.cut_behind.new.dev) (g.D.Device.time c.clear_torn.new.dev) (front_page c.args.page_size c.args.first c.pages_below-pages.result (c.args.partition.now, c.args.name.now) (g.D.Device.time c.args.dev.now) (g.D.Device.time c.cut_behind.new.dev) (omega (arith, c.pages_below-pages.ensures, (pages_span c.args.first c.args.from).0)) (c.in_ok-cut.ensures.front t)) (c.in_ok-reach.ensures.front t)) (c.in_ok-sync.ensures.told t)
+
+pub returns-in_err-cut-clause-clears : goal.returns-in_err-cut-clause-clears
+returns-in_err-cut-clause-clears g c t rest = slot_clears g.S.Seal.seal_of c.args.page_size c.args.first c.args.from c.args.newest (c.args.partition.now, c.args.name.now) (g.D.Device.time c.args.dev.now) (g.D.Device.time c.cut_behind.new.dev) (c.in_err-cut.ensures.loose t (slot_at c.args.page_size c.args.first (not c.args.newest)) rest)
+
+pub returns-in_err-reach-clause-clears : goal.returns-in_err-reach-clause-clears
+returns-in_err-reach-clause-clears g c t rest = slot_clears g.S.Seal.seal_of c.args.page_size c.args.first c.args.from c.args.newest (c.args.partition.now, c.args.name.now) (g.D.Device.time c.args.dev.now) (g.D.Device.time c.clear_torn.new.dev) (slot_then (slot_at c.args.page_size c.args.first (not c.args.newest)) (c.args.partition.now, c.args.name.now) (g.D.Device.time c.args.dev.now) (g.D.Device.time c.cut_behind.new.dev) (g.D.Device.time c.clear_torn.new.dev) (c.in_ok-cut.ensures.loose t (slot_at c.args.page_size c.args.first (not c.args.newest)) rest) (λ only. c.in_err-reach.ensures.loose t only))
+
+pub returns-in_err-sync-clause-clears : goal.returns-in_err-sync-clause-clears
+returns-in_err-sync-clause-clears g c t rest = slot_clears g.S.Seal.seal_of c.args.page_size c.args.first c.args.from c.args.newest (c.args.partition.now, c.args.name.now) (g.D.Device.time c.args.dev.now) (g.D.Device.time c.sync.new.self) (slot_settle (slot_at c.args.page_size c.args.first (not c.args.newest)) (c.args.partition.now, c.args.name.now) (g.D.Device.time c.args.dev.now) (g.D.Device.time c.clear_torn.new.dev) (g.D.Device.time c.sync.new.self) _ (slot_then (slot_at c.args.page_size c.args.first (not c.args.newest)) (c.args.partition.now, c.args.name.now) (g.D.Device.time c.args.dev.now) (g.D.Device.time c.cut_behind.new.dev) (g.D.Device.time c.clear_torn.new.dev) (c.in_ok-cut.ensures.loose t (slot_at c.args.page_size c.args.first (not c.args.newest)) rest) (λ only. c.in_ok-reach.ensures.loose t only)) (c.sync.ensures.told t))
+
+pub returns-clause-clears : goal.returns-clause-clears
+returns-clause-clears g c t rest = slot_clears g.S.Seal.seal_of c.args.page_size c.args.first c.args.from c.args.newest (c.args.partition.now, c.args.name.now) (g.D.Device.time c.args.dev.now) (g.D.Device.time c.sync.new.self) (slot_settle (slot_at c.args.page_size c.args.first (not c.args.newest)) (c.args.partition.now, c.args.name.now) (g.D.Device.time c.args.dev.now) (g.D.Device.time c.clear_torn.new.dev) (g.D.Device.time c.sync.new.self) _ (slot_then (slot_at c.args.page_size c.args.first (not c.args.newest)) (c.args.partition.now, c.args.name.now) (g.D.Device.time c.args.dev.now) (g.D.Device.time c.cut_behind.new.dev) (g.D.Device.time c.clear_torn.new.dev) (c.in_ok-cut.ensures.loose t (slot_at c.args.page_size c.args.first (not c.args.newest)) rest) (λ only. c.in_ok-reach.ensures.loose t only)) (c.in_ok-sync.ensures.told t))
+
+pub returns-clause-cleared : goal.returns-clause-cleared
+returns-clause-cleared g c t left =
+    let settled : (disk (g.D.Device.time c.sync.new.self) (c.args.partition.now, c.args.name.now)).settled ≡ (disk (g.D.Device.time c.clear_torn.new.dev) (c.args.partition.now, c.args.name.now)).content = ap (λ (b : Blob). b.settled) (ok_blob (c.args.partition.now, c.args.name.now) Settle _ (g.D.Device.time c.clear_torn.new.dev) (g.D.Device.time c.sync.new.self) (c.in_ok-sync.ensures.told t)) in
+    let cut : (disk (g.D.Device.time c.cut_behind.new.dev) (c.args.partition.now, c.args.name.now)).content ≡ (cond c.args.behind (resized (disk (g.D.Device.time c.args.dev.now) (c.args.partition.now, c.args.name.now)).content (page_at c.args.page_size (pages_of c.args.first c.args.from))) (disk (g.D.Device.time c.args.dev.now) (c.args.partition.now, c.args.name.now)).content) = c.in_ok-cut.ensures.content t ∙ ap (λ (n : ℕ). cond c.args.behind (resized (disk (g.D.Device.time c.args.dev.now) (c.args.partition.now, c.args.name.now)).content (page_at c.args.page_size n)) (disk (g.D.Device.time c.args.dev.now) (c.args.partition.now, c.args.name.now)).content) c.pages_below-pages.ensures in
+    let both = c.in_ok-reach.ensures.content t ∙ ap (λ (l : List ℕ). cond c.args.torn (written l (slot_at c.args.page_size c.args.first (not c.args.newest)) no_slot) l) cut in
+    subst (IsCleared g.S.Seal.seal_of c.args.page_size c.args.first c.args.from c.args.newest) (sym (settled ∙ both))
+    (both_cleared g.S.Seal.seal_of c.args.page_size c.args.first c.args.from c.args.newest (disk (g.D.Device.time c.args.dev.now) (c.args.partition.now, c.args.name.now)).content c.args.behind c.args.torn left c.args.torn refl c.requires.inside)

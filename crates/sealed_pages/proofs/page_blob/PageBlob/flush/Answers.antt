@@ -17,6 +17,8 @@ use Rattle.sealed_pages.specs.Unrecovered.{SparesFront, IsUnrecovered}
 use Rattle.sealed_pages.proofs.Fronts.{front_then, front_start}
 use Rattle.sealed_pages.proofs.Truncating.{map_ok, both_ok}
 use Rattle.blob_device.proofs.Results.{if_ok_with}
+use Rattle.sealed_pages.proofs.Clearing.{clears_then}
+use Rattle.sealed_pages.specs.Leftover.{SettlesNothing}
 use Rattle.sealed_pages.proofs.page_blob.PageBlob.flush.Goals as goal
 
 pub returns-then-self-len-clause-told : goal.returns-then-self-len-clause-told
@@ -90,3 +92,7 @@ returns-clause-unrecovered g c t un =
     (λ settled. (let own : v.settled ≡ c.args.self.settled = ap (λ (x : Buffer). x.settled) is.0 ∙ ap (λ (x : Buffer). x.settled) same in absurd (omega (arith, settled, size, unsettled, own))))))
     (both_ok c.written.result (λ v. shown v ≡ record (shown c.in_ok-this.this) { end = v.end; first = v.first; tip = v.tip.items; from = length v.tip.items }) (λ v. (size_of (shown v) ≡ size_of (shown c.in_ok-this.this)) × IsBacked (shown v) (disk (g.D.Device.time c.written.new.dev) (key_of (shown c.args.self))).content)
     c.written.ensures.same (both_ok c.written.result (λ v. size_of (shown v) ≡ size_of (shown c.in_ok-this.this)) (λ v. IsBacked (shown v) (disk (g.D.Device.time c.written.new.dev) (key_of (shown c.args.self))).content) c.written.ensures.size (returns-clause-backed g c t un.backed)))
+
+pub returns-clause-clears : goal.returns-clause-clears
+returns-clause-clears g c t rest left = clears_then g.S.Seal.seal_of c.args.self.page_size c.args.self.first c.args.self.from c.args.self.newest (key_of (shown c.args.self)) (g.D.Device.time c.args.dev.now) (g.D.Device.time c.repaired.new.dev) (g.D.Device.time c.written.new.dev) (c.in_ok-this.ensures.clears t rest) (c.in_ok-this.ensures.cleared t rest left)
+    (subst (λ (x : Buffer). SettlesNothing (key_of x) (g.D.Device.time c.repaired.new.dev) (g.D.Device.time c.written.new.dev)) c.in_ok-this.ensures.same (c.written.ensures.stays t))

@@ -19,6 +19,7 @@ use Rattle.sealed_pages.specs.Unrecovered.{KeepsPrefix}
 use Rattle.sealed_pages.specs.SealedPrefix.{sealed_prefix}
 use Rattle.sealed_pages.proofs.Fronts.{front_start, front_settle}
 use Rattle.sealed_pages.specs.View.{page_at}
+use Rattle.sealed_pages.proofs.Clearing.{clears_settle}
 use Rattle.sealed_pages.proofs.page_blob.PageBlob.sync.Goals as goal
 
 pub returns-then-not-needs_sync-clause-crashes : goal.returns-then-not-needs_sync-clause-crashes
@@ -251,3 +252,15 @@ returns-clause-front g c t =
     let p : c.as_str.result.now ≡ string_bytes c.args.self.partition = c.as_str.ensures.value ∙ ap (λ (k : Key). k.0) c.in_ok-this.ensures.key in
     let n : c.as_slice.result.now ≡ c.args.self.name.items = c.as_slice.ensures.value ∙ ap (λ (k : Key). k.1) c.in_ok-this.ensures.key in
     front_settle (page_at c.args.self.page_size c.args.self.first) (key_of (shown c.args.self)) (g.D.Device.time c.args.dev.now) (g.D.Device.time c.flush.new.dev) (g.D.Device.time c.sync.new.self) (Ok tt) (c.in_ok-this.ensures.front t) (settle_as (Ok tt) _ _ _ _ (g.D.Device.time c.flush.new.dev) (g.D.Device.time c.sync.new.self) p n (c.in_ok-sync.ensures.told t))
+
+pub returns-in_err-sync-clause-clears : goal.returns-in_err-sync-clause-clears
+returns-in_err-sync-clause-clears g c t rest left =
+    let p : c.as_str.result.now ≡ string_bytes c.args.self.partition = c.as_str.ensures.value ∙ ap (λ (k : Key). k.0) c.in_ok-this.ensures.key in
+    let n : c.as_slice.result.now ≡ c.args.self.name.items = c.as_slice.ensures.value ∙ ap (λ (k : Key). k.1) c.in_ok-this.ensures.key in
+    clears_settle g.S.Seal.seal_of c.args.self.page_size c.args.self.first c.args.self.from c.args.self.newest (key_of (shown c.args.self)) (g.D.Device.time c.args.dev.now) (g.D.Device.time c.flush.new.dev) (g.D.Device.time c.sync.new.self) c.sync.result (c.in_ok-this.ensures.clears t rest left) (settle_as c.sync.result _ _ _ _ (g.D.Device.time c.flush.new.dev) (g.D.Device.time c.sync.new.self) p n (c.sync.ensures.told t))
+
+pub returns-clause-clears : goal.returns-clause-clears
+returns-clause-clears g c t rest left =
+    let p : c.as_str.result.now ≡ string_bytes c.args.self.partition = c.as_str.ensures.value ∙ ap (λ (k : Key). k.0) c.in_ok-this.ensures.key in
+    let n : c.as_slice.result.now ≡ c.args.self.name.items = c.as_slice.ensures.value ∙ ap (λ (k : Key). k.1) c.in_ok-this.ensures.key in
+    clears_settle g.S.Seal.seal_of c.args.self.page_size c.args.self.first c.args.self.from c.args.self.newest (key_of (shown c.args.self)) (g.D.Device.time c.args.dev.now) (g.D.Device.time c.flush.new.dev) (g.D.Device.time c.sync.new.self) (Ok tt) (c.in_ok-this.ensures.clears t rest left) (settle_as (Ok tt) _ _ _ _ (g.D.Device.time c.flush.new.dev) (g.D.Device.time c.sync.new.self) p n (c.in_ok-sync.ensures.told t))

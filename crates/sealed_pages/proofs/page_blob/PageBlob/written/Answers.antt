@@ -10,6 +10,7 @@ use Rattle.sealed_pages.proofs.PageCalls.{no_ok}
 use Rattle.sealed_pages.specs.Unrecovered.{SparesFront}
 use Rattle.blob_device.specs.Disk.{Key}
 use Rattle.sealed_pages.proofs.Truncating.{key_as}
+use Rattle.sealed_pages.specs.Leftover.{SettlesNothing}
 use Rattle.sealed_pages.proofs.page_blob.PageBlob.written.Goals as goal
 
 pub flush_pages-requires-clause-room : goal.flush_pages-requires-clause-room
@@ -104,3 +105,9 @@ returns-in_err-end-clause-front g c t = key_as (λ (k : Key). SparesFront (page_
 
 pub returns-clause-front : goal.returns-clause-front
 returns-clause-front g c t = key_as (λ (k : Key). SparesFront (page_at c.args.self.page_size c.args.self.first) k (g.D.Device.time c.args.dev.now) (g.D.Device.time c.flush_pages.new.dev)) _ (string_bytes c.args.self.partition) _ c.args.self.name.items c.as_str.ensures.value c.as_slice.ensures.value (c.in_ok-end.ensures.front t)
+
+pub returns-in_err-end-clause-stays : goal.returns-in_err-end-clause-stays
+returns-in_err-end-clause-stays g c t = key_as (λ (k : Key). SettlesNothing k (g.D.Device.time c.args.dev.now) (g.D.Device.time c.flush_pages.new.dev)) _ (string_bytes c.args.self.partition) _ c.args.self.name.items c.as_str.ensures.value c.as_slice.ensures.value (c.in_err-end.ensures.stays t)
+
+pub returns-clause-stays : goal.returns-clause-stays
+returns-clause-stays g c t = key_as (λ (k : Key). SettlesNothing k (g.D.Device.time c.args.dev.now) (g.D.Device.time c.flush_pages.new.dev)) _ (string_bytes c.args.self.partition) _ c.args.self.name.items c.as_str.ensures.value c.as_slice.ensures.value (c.in_ok-end.ensures.stays t)
