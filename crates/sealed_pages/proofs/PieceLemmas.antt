@@ -1,5 +1,5 @@
 -- Pages in a piece of a blob, and the sealed prefix page by page.
-use Rattle.std.proofs.Common.{◌≡◌, ◌≢◌, ◌⊎◌, inl, inr, ℕ, zero, suc, ◌+◌, ◌-◌, ◌*◌, ◌/◌, ◌<◌, ◌≤◌, min, List, [], length, take, drop, refl, sym, ◌∙◌, ap, subst, arith, length-take, length-drop}
+use Rattle.std.proofs.Common.{◌≡◌, ◌⊎◌, inl, inr, ℕ, zero, suc, ◌+◌, ◌-◌, ◌*◌, ◌<◌, ◌≤◌, min, List, length, take, drop, refl, sym, ◌∙◌, ap, arith, length-drop}
 use Rattle.std.proofs.Math.Nat.{mul-le-mul_right}
 use Rattle.std.proofs.lemmas.Bool.{cases_lt}
 use Rattle.std.proofs.lemmas.List.{take-take, drop-drop, drop-take, take_rest, drop_all}
@@ -11,7 +11,7 @@ use Rattle.sealed_pages.specs.Slots.{page_length}
 use Rattle.sealed_pages.specs.View.{page_at}
 use Rattle.sealed_pages.proofs.Looking.{take_short}
 use Rattle.sealed_pages.proofs.ReadLemmas.{part_page, page_in}
-use Rattle.sealed_pages.proofs.SealedBytes.{rest_is, length-step, page_length-le}
+use Rattle.sealed_pages.proofs.SealedBytes.{rest_is, length-step}
 use Rattle.sealed_pages.proofs.SlotLemmas.{times_next}
 
 page_sum : (P q j : ℕ) → page_at P q + page_at P j ≡ page_at P (q + j)

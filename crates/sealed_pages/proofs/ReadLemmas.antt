@@ -1,8 +1,8 @@
 -- Reading a range of bytes page by page.
-use Rattle.std.proofs.Common.{◌≡◌, ◌≢◌, ◌⊎◌, inl, inr, ℕ, ◌+◌, ◌-◌, ◌*◌, ◌/◌, ◌<◌, ◌≤◌, ◌^◌, min, max, Option, Some, None, eqb, cond, true, false, List, [], ◌++◌, length, get_or, take, drop, length-take, length-drop, length-append, refl, sym, ◌∙◌, ap, arith}
+use Rattle.std.proofs.Common.{◌≡◌, ◌≢◌, ◌⊎◌, inl, inr, ℕ, ◌+◌, ◌-◌, ◌*◌, ◌/◌, ◌<◌, ◌≤◌, ◌^◌, min, max, Option, Some, None, cond, true, false, List, [], ◌++◌, length, get_or, take, drop, length-take, length-drop, length-append, refl, sym, ◌∙◌, ap, arith}
 use Rattle.std.proofs.lemmas.Bool.{cases_lt, ne_eqb}
 use Rattle.std.proofs.lemmas.List.{get_or-take, get_or-drop, get_or_append_left, get_or-append_right, ext_get_or, take_all, take-append-le}
-use Rattle.std.proofs.Math.Nat.{mul-le-mul_right, div-lt_iff_lt-mul}
+use Rattle.std.proofs.Math.Nat.{mul-le-mul_right}
 use Rattle.std.proofs.lemmas.Nat.{le-div}
 use Rattle.std.proofs.lemmas.Slice.{take-put_mid}
 use borrow.Rule.Slice.PartMut.{put_mid}
@@ -11,7 +11,7 @@ use Rattle.sealed_pages.specs.declared.reading.LastPage.{LastPage}
 use Rattle.sealed_pages.specs.Buffer.{extent}
 use Rattle.sealed_pages.specs.Found.{Finds}
 use Rattle.sealed_pages.specs.Reading.{page_of}
-use Rattle.sealed_pages.specs.Reads.{IsWanted, IsShort, touched, needed, below}
+use Rattle.sealed_pages.specs.Reads.{IsWanted, touched, needed, below}
 use Rattle.sealed_pages.specs.SealedPrefix.{place, data_from, adopted_size}
 use Rattle.sealed_pages.specs.Slots.{slot_length, page_length}
 use Rattle.sealed_pages.specs.View.{View, page_at}

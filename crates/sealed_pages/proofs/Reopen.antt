@@ -1,13 +1,13 @@
 -- Opening an opened blob again.
-use Rattle.std.proofs.Common.{◌≡◌, ◌⊎◌, inl, inr, ℕ, cond, Bool, true, false, List, [], ◌∷◌, ◌++◌, length, Result, Ok, Err, Option, Some, None, IsSome, IsSomeAnd, OnOk, IsTrue, refl, sym, ◌∙◌, ap, subst, arith}
+use Rattle.std.proofs.Common.{◌≡◌, ◌⊎◌, inl, inr, ℕ, cond, Bool, true, [], ◌∷◌, ◌++◌, length, Result, Ok, Err, Option, Some, None, IsSome, IsSomeAnd, OnOk, IsTrue, refl, sym, ◌∙◌, ap, subst}
 use Rattle.std.specs.Prelude.{IfSome, OnErr, IfOk}
 use Rattle.blob_device.specs.declared.error.DevError.{DevError}
 use Rattle.blob_device.specs.Disk.{Key, Blob, Disk, settled_at}
 use Rattle.blob_device.specs.Change.{Make, during, done, FailedTo}
-use Rattle.blob_device.specs.Timeline.{Timeline, disk, Passes, Always, OnlyAt}
+use Rattle.blob_device.specs.Timeline.{Timeline, disk, Passes, OnlyAt}
 use Rattle.blob_device.specs.Opened.{Opened, OpenedList, entered}
 use Rattle.blob_device.proofs.Moments.{always_now, always_then, always_weaker, only_start, only_on, ok_blob, err_has}
-use Rattle.blob_device.proofs.Puts.{put_same, put_other}
+use Rattle.blob_device.proofs.Puts.{put_other}
 use Rattle.sealed_pages.specs.Entries.{IsOpenAt}
 use Rattle.sealed_pages.specs.Reading.{Unchanged, OnlyRead}
 use Rattle.sealed_pages.specs.Reopening.{OnlySettles, StaysOpen}

@@ -1,11 +1,10 @@
 -- The bytes that a reader has at hand.
-use Rattle.std.proofs.Common.{◌≡◌, ◌⊎◌, inl, inr, ℕ, ◌+◌, ◌-◌, ◌*◌, ◌/◌, ◌%◌, ◌<◌, ◌≤◌, min, max, leb, cond, Bool, Result, Ok, Err, List, [], ◌++◌, length, get_or, take, drop, refl, sym, ◌∙◌, ap, subst, arith, is_ok, if◌then◌else◌, length-drop, length-append, length-take}
+use Rattle.std.proofs.Common.{◌≡◌, ◌⊎◌, inl, inr, ℕ, ◌+◌, ◌-◌, ◌*◌, ◌/◌, ◌<◌, ◌≤◌, min, max, cond, Bool, Result, Ok, Err, List, ◌++◌, length, get_or, take, drop, refl, sym, ◌∙◌, ap, subst, arith, is_ok, if◌then◌else◌, length-drop, length-append, length-take}
 use Rattle.std.proofs.Math.Nat.{div-mul-le_self}
 use Rattle.std.proofs.lemmas.Bool.{cases_lt, le-leb, lt-leb}
 use Rattle.std.proofs.lemmas.Nat.{le-div}
 use Rattle.std.proofs.lemmas.List.{get_or-drop, get_or-take, get_or_append_left, get_or-append_right, drop-append-le}
 use Rattle.std.specs.declared.alloc.AllocError.{AllocError}
-use Rattle.blob_device.specs.declared.runtime.RError.{RError}
 use Rattle.blob_device.specs.Disk.{Key}
 use Rattle.blob_device.specs.Opened.{OpenedList, reads_of}
 use Rattle.sealed_pages.specs.declared.piece.Piece.{Piece}
@@ -16,7 +15,7 @@ use Rattle.sealed_pages.specs.Readers.{Reader, ReadsUnread}
 use Rattle.sealed_pages.specs.Reads.{IsWanted, IsCovered, IsShort, EndsAtOrPast, needed, pages_for, touched}
 use Rattle.sealed_pages.specs.SealedPrefix.{place, data_from}
 use Rattle.sealed_pages.specs.Slots.{page_length}
-use Rattle.sealed_pages.specs.View.{View, view, page_at}
+use Rattle.sealed_pages.specs.View.{View, view}
 use Rattle.sealed_pages.proofs.Adopt.{get_or-data_from, length-data_from, place_in}
 use Rattle.sealed_pages.specs.Flushing.{Data}
 use Rattle.sealed_pages.proofs.Holding.{div_place}

@@ -1,8 +1,8 @@
 -- The pages of a sealed buffer: what is flushed of them is covered.
-use Rattle.std.proofs.Common.{◌≡◌, ℕ, ◌+◌, ◌-◌, ◌*◌, ◌<◌, ◌≤◌, ◌||◌, min, Bool, true, false, List, refl, ap, arith}
+use Rattle.std.proofs.Common.{◌≡◌, ℕ, ◌-◌, ◌*◌, ◌<◌, ◌≤◌, ◌||◌, min, Bool, true, false, List, refl, arith}
 use Rattle.blob_device.specs.Disk.{Blob}
 use Rattle.sealed_pages.specs.Buffer.{Buffer, flushed_of, Holds}
-use Rattle.sealed_pages.specs.Reads.{IsWanted, IsCovered, IsShort, below, needed}
+use Rattle.sealed_pages.specs.Reads.{IsCovered, IsShort, below}
 use Rattle.sealed_pages.specs.Slots.{slot_length, page_length}
 use Rattle.sealed_pages.proofs.Looking.{page_length_is}
 

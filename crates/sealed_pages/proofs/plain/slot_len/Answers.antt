@@ -1,4 +1,4 @@
-use Rattle.std.proofs.Common.{◌≡◌, ◌+◌, ◌-◌, ◌*◌, ◌≤◌, ◌++◌, ◌∙◌, ℕ, List, length, take, drop, ap, sym, arith}
+use Rattle.std.proofs.Common.{◌≡◌, ◌+◌, ◌-◌, ◌*◌, ◌≤◌, ◌++◌, ◌∙◌, ℕ, length, take, drop, ap, sym, arith}
 use Rattle.sealed_pages.specs.View.{view, bytes_at, page_at, slot_at}
 use Rattle.sealed_pages.specs.Slots.{named_length, named_seal, computed_seal}
 use Rattle.sealed_pages.proofs.Looking.{slot_short, slot_long, slot_right, slot_wrong}

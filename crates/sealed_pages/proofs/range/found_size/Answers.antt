@@ -1,4 +1,4 @@
-use Rattle.std.proofs.Common.{◌≡◌, ◌*◌, ℕ, ap, arith}
+use Rattle.std.proofs.Common.{◌*◌, ℕ, ap, arith}
 use Rattle.sealed_pages.proofs.Looking.{below_some}
 use Rattle.sealed_pages.proofs.ReadLemmas.{data_fits}
 use Rattle.sealed_pages.proofs.range.found_size.Goals as goal

@@ -1,4 +1,4 @@
-use Rattle.std.proofs.Common.{rules, ◌≡◌, ◌∙◌, ◌≤◌, ◌<◌, ◌+◌, ◌-◌, ◌*◌, ◌/◌, ◌^◌, min, inl, inr, ℕ, List, length, get_or, refl, ap, sym, subst, arith}
+use Rattle.std.proofs.Common.{rules, ◌≡◌, ◌∙◌, ◌≤◌, ◌<◌, ◌+◌, ◌-◌, ◌*◌, ◌/◌, ◌^◌, min, inl, inr, ℕ, length, refl, ap, sym, subst, arith}
 use Rattle.std.proofs.lemmas.Bool.{cases_lt}
 use Rattle.blob_device.specs.Disk.{Disk}
 use Rattle.blob_device.specs.Timeline.{disk}
@@ -10,7 +10,7 @@ use Rattle.sealed_pages.specs.View.{view, page_at}
 use Rattle.sealed_pages.proofs.Adopt.{place_in}
 use Rattle.sealed_pages.proofs.EntryLemmas.{reads_then, reads_more}
 use Rattle.sealed_pages.proofs.Looking.{unchanged_now, unchanged_then}
-use Rattle.sealed_pages.proofs.ReadLemmas.{index_twice, filled, page_before, touched_upto, step_wanted, step_needed, step_next, step_reached, step_last, step_part}
+use Rattle.sealed_pages.proofs.ReadLemmas.{index_twice, filled, page_before, touched_upto, step_needed, step_next, step_reached, step_last}
 use Rattle.sealed_pages.proofs.range.read_each.Goals as goal
 
 pub overflow_add-page : goal.overflow_add-page

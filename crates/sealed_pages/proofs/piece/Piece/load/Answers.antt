@@ -1,7 +1,7 @@
 use Rattle.std.proofs.lemmas.List.{with_items_is}
 use Rattle.std.specs.Vec.{with_items}
 use Rattle.sealed_pages.specs.Reading.{page_of}
-use Rattle.std.proofs.Common.{rules, ◌≡◌, ◌-◌, ◌∙◌, ℕ, List, length, take, drop, ap, sym}
+use Rattle.std.proofs.Common.{◌≡◌, ◌-◌, ◌∙◌, ℕ, List, length, take, drop, ap, sym}
 use Rattle.blob_device.specs.Timeline.{disk}
 use Rattle.sealed_pages.proofs.PieceLemmas.{span_page}
 use Rattle.sealed_pages.proofs.piece.Piece.load.Goals as goal

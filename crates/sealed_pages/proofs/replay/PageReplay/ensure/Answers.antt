@@ -1,7 +1,7 @@
-use Rattle.std.proofs.Common.{rules, ◌≡◌, ◌≤◌, ◌<◌, ◌+◌, ◌-◌, ◌*◌, ◌∙◌, inl, inr, Err, ℕ, List, refl, length, drop, ap, sym, subst, arith}
+use Rattle.std.proofs.Common.{◌≡◌, ◌<◌, ◌+◌, ◌-◌, ◌∙◌, inl, inr, Err, ℕ, List, refl, length, ap, sym, subst, arith}
 use Rattle.std.specs.Result.{IsErrOf}
 use Rattle.std.proofs.lemmas.Result.{err_from_is_err_and}
-use Rattle.blob_device.specs.Disk.{Disk, Key}
+use Rattle.blob_device.specs.Disk.{Key}
 use Rattle.blob_device.specs.Timeline.{disk}
 use Rattle.sealed_pages.specs.Entries.{ReadsAtMost}
 use Rattle.sealed_pages.specs.Readers.{Reader, ReadsUnread, reading, next_of, missing_of, IsReplayOf, SameReader}

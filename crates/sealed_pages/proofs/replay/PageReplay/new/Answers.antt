@@ -1,4 +1,4 @@
-use Rattle.std.proofs.Common.{rules, ◌≡◌, length}
+use Rattle.std.proofs.Common.{rules, length}
 use Rattle.sealed_pages.specs.View.{view}
 use Rattle.sealed_pages.proofs.ReplayLemmas.{data_nil, covered_none}
 use Rattle.sealed_pages.proofs.replay.PageReplay.new.Goals as goal

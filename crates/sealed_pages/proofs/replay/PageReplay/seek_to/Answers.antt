@@ -1,4 +1,4 @@
-use Rattle.std.proofs.Common.{rules, ◌≡◌, ◌∙◌, ℕ, length, drop, length-drop, arith}
+use Rattle.std.proofs.Common.{rules, ◌≡◌, length, drop, length-drop, arith}
 use Rattle.sealed_pages.specs.View.{view}
 use Rattle.sealed_pages.proofs.ReplayLemmas.{data_nil, covered_none}
 use Rattle.sealed_pages.proofs.replay.PageReplay.seek_to.Goals as goal
