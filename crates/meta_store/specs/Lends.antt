@@ -1,14 +1,17 @@
 -- What becomes of a map of which a value was lent.
-use Rattle.std.specs.Prelude.{◌≡◌, Option, OnSome}
+use Rattle.std.specs.Prelude.{◌≡◌, ℕ, Bool, List, Option, OnSome}
 use Rattle.std.specs.declared.cmp.Ordering.{Ordering}
 use Rattle.std.specs.Borrow.{LendsSo, Fml, RattleType, MutBor}
 use Rattle.std.specs.BTreeMap.{is_at}
 use Rattle.std.specs.Map.{set_value}
 use Rattle.meta_store.specs.contracts.metadata.Metadata.{the_row}
 use Rattle.meta_store.specs.declared.metadata.Metadata.{Metadata}
-use Rattle.meta_store.specs.Format.{KeyMembers}
 use Rattle.meta_store.specs.Entries.{PutsValue}
 use Rattle.meta_store.specs.Store.{shown, staging}
+
+-- what a clause has as K.Key
+abbrev pub KeyMembers : Type 0 → Type 0
+KeyMembers K = record { partial_cmp : K → K → Option Ordering; cmp : K → K → Ordering; eq : K → K → Bool; SIZE : ℕ; key_bytes : K → List ℕ }
 
 -- the new map has this value at the key, which is a change, and is else the old one
 pub record WroteValue {K V S C : Type 0} (compare : K → K → Ordering) (key : K) (value : V) (old new : Metadata K V S C) : Type 0 where

@@ -81,11 +81,11 @@ impl<K: Key, V: Codec, S: Seal> Metadata<K, V, S> {
     pub fn put(&mut self, key: K, value: V) -> Result<(), Error>
         ensures ok { OnOk result (shown self.new ≡ staging (shown self.old) (insert_entry K.cmp (shown self.old).entries key value)) }
         ensures value { OnOk result (PutsValue K.cmp (shown self.old).entries (shown self.new).entries key value) }
-        ensures storable { MayBeSynced (format_of K.Key V.Codec S.Seal self.old.codec_config) (shown self.old).entries → IsStorable (format_of K.Key V.Codec S.Seal self.old.codec_config) value
-            → OnOk result (MayBeSynced (format_of K.Key V.Codec S.Seal self.old.codec_config) (shown self.new).entries) }
+        ensures storable { MayBeSynced (format_of K.cmp K.key_bytes V.Codec S.Seal self.old.codec_config) (shown self.old).entries → IsStorable (format_of K.cmp K.key_bytes V.Codec S.Seal self.old.codec_config) value
+            → OnOk result (MayBeSynced (format_of K.cmp K.key_bytes V.Codec S.Seal self.old.codec_config) (shown self.new).entries) }
         ensures err { OnErr result (shown self.new ≡ shown self.old) }
         // It stands on its device as before.
-        ensures stands { (synced : List _) (d : Disk) → Stands (format_of K.Key V.Codec S.Seal self.old.codec_config) (shown self.old) synced d → Stands (format_of K.Key V.Codec S.Seal self.old.codec_config) (shown self.new) synced d }
+        ensures stands { (synced : List _) (d : Disk) → Stands (format_of K.cmp K.key_bytes V.Codec S.Seal self.old.codec_config) (shown self.old) synced d → Stands (format_of K.cmp K.key_bytes V.Codec S.Seal self.old.codec_config) (shown self.new) synced d }
         ensures config { self.new.codec_config ≡ self.old.codec_config }
         ensures memory { OnErr result (result ≡ Err Error.Mem) }
     {
@@ -111,9 +111,9 @@ impl<K: Key, V: Codec, S: Seal> Metadata<K, V, S> {
         ensures kept { Retained (AnswersAt F.Fn keep) (shown self.old).entries (shown self.new).entries }
         ensures same { shown self.new ≡ record (shown self.old) { entries = (shown self.new).entries; staged = (shown self.new).staged } }
         ensures staged { (shown self.new).staged ≡ ((shown self.old).staged || nat_lt (length (shown self.new).entries) (length (shown self.old).entries)) }
-        ensures stands { (synced : List _) (d : Disk) → Stands (format_of K.Key V.Codec S.Seal self.old.codec_config) (shown self.old) synced d → Stands (format_of K.Key V.Codec S.Seal self.old.codec_config) (shown self.new) synced d }
+        ensures stands { (synced : List _) (d : Disk) → Stands (format_of K.cmp K.key_bytes V.Codec S.Seal self.old.codec_config) (shown self.old) synced d → Stands (format_of K.cmp K.key_bytes V.Codec S.Seal self.old.codec_config) (shown self.new) synced d }
         ensures unchanged { length (shown self.new).entries ≡ length (shown self.old).entries → (shown self.new).entries ≡ (shown self.old).entries }
-        ensures storable { MayBeSynced (format_of K.Key V.Codec S.Seal self.old.codec_config) (shown self.old).entries → MayBeSynced (format_of K.Key V.Codec S.Seal self.old.codec_config) (shown self.new).entries }
+        ensures storable { MayBeSynced (format_of K.cmp K.key_bytes V.Codec S.Seal self.old.codec_config) (shown self.old).entries → MayBeSynced (format_of K.cmp K.key_bytes V.Codec S.Seal self.old.codec_config) (shown self.new).entries }
         ensures config { self.new.codec_config ≡ self.old.codec_config }
     {
         let before = self.entries.len();

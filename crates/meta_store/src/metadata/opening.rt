@@ -36,24 +36,24 @@ impl<K: Key, V: Codec, S: Seal> Metadata<K, V, S> {
         cfg: &Config<V::Cfg>,
     ) -> Result<Self, Error>
         // What the map is: the entries of the newer copy, as the two blobs read before the call.
-        ensures reads { D.Tells → IfOk result (λ m. PairOn (format_of K.Key V.Codec S.Seal cfg.now.codec_config) (string_bytes cfg.now.partition) (disk (D.time dev.old)) (Ok (chosen_by (shown m) (shown m).entries))) }
-        ensures map { D.Tells → (chosen : Chosen _ _) → PairOn (format_of K.Key V.Codec S.Seal cfg.now.codec_config) (string_bytes cfg.now.partition) (disk (D.time dev.old)) (Ok chosen)
+        ensures reads { D.Tells → IfOk result (λ m. PairOn (format_of K.cmp K.key_bytes V.Codec S.Seal cfg.now.codec_config) (string_bytes cfg.now.partition) (disk (D.time dev.old)) (Ok (chosen_by (shown m) (shown m).entries))) }
+        ensures map { D.Tells → (chosen : Chosen _ _) → PairOn (format_of K.cmp K.key_bytes V.Codec S.Seal cfg.now.codec_config) (string_bytes cfg.now.partition) (disk (D.time dev.old)) (Ok chosen)
             → MatchResult result (λ m. chosen_by (shown m) (shown m).entries ≡ chosen) (λ _. GaveUp result (D.faults dev.old) (D.faults dev.new)) }
-        ensures corrupt { D.Tells → (side : Side) → IsErrOf result (Error.Corruption side) → PairOn (format_of K.Key V.Codec S.Seal cfg.now.codec_config) (string_bytes cfg.now.partition) (disk (D.time dev.old)) (Err side) }
-        ensures refused { D.Tells → (side : Side) → PairOn (format_of K.Key V.Codec S.Seal cfg.now.codec_config) (string_bytes cfg.now.partition) (disk (D.time dev.old)) (Err side)
+        ensures corrupt { D.Tells → (side : Side) → IsErrOf result (Error.Corruption side) → PairOn (format_of K.cmp K.key_bytes V.Codec S.Seal cfg.now.codec_config) (string_bytes cfg.now.partition) (disk (D.time dev.old)) (Err side) }
+        ensures refused { D.Tells → (side : Side) → PairOn (format_of K.cmp K.key_bytes V.Codec S.Seal cfg.now.codec_config) (string_bytes cfg.now.partition) (disk (D.time dev.old)) (Err side)
             → (result ≡ Err (Error.Corruption side)) ⊎ GaveUp result (D.faults dev.old) (D.faults dev.new) }
 
         // What a crash leaves at each moment, also where the call fails: what it left before.
-        ensures crashes { D.Tells → (one other : List _) → Keeps (format_of K.Key V.Codec S.Seal cfg.now.codec_config) (string_bytes cfg.now.partition) one other (disk (D.time dev.old))
+        ensures crashes { D.Tells → (one other : List _) → Keeps (format_of K.cmp K.key_bytes V.Codec S.Seal cfg.now.codec_config) (string_bytes cfg.now.partition) one other (disk (D.time dev.old))
             → ReadsNoChance S.seal_of (disk (D.time dev.old) (blob_of (string_bytes cfg.now.partition) Left)) → ReadsNoChance S.seal_of (disk (D.time dev.old) (blob_of (string_bytes cfg.now.partition) Right))
-            → Mapping (format_of K.Key V.Codec S.Seal cfg.now.codec_config) (string_bytes cfg.now.partition) one other (D.time dev.old) (D.time dev.new) }
+            → Mapping (format_of K.cmp K.key_bytes V.Codec S.Seal cfg.now.codec_config) (string_bytes cfg.now.partition) one other (D.time dev.old) (D.time dev.new) }
         ensures alone { D.Tells → Alone (string_bytes cfg.now.partition) (D.time dev.old) (D.time dev.new) }
         ensures order { D.Tells → Always (D.time dev.old) (D.time dev.new) (LeftFirst (string_bytes cfg.now.partition) (disk (D.time dev.old))) }
 
         // How the map stands then.
-        ensures stands { D.Tells → IfOk result (λ m. Stands (format_of K.Key V.Codec S.Seal cfg.now.codec_config) (shown m) (shown m).entries (disk (D.time dev.new))) }
-        ensures keeps { D.Tells → IfOk result (λ m. Keeps (format_of K.Key V.Codec S.Seal cfg.now.codec_config) (string_bytes cfg.now.partition) (shown m).entries (shown m).entries (disk (D.time dev.new))) }
-        ensures storable { IfOk result (λ m. MayBeSynced (format_of K.Key V.Codec S.Seal cfg.now.codec_config) (shown m).entries) }
+        ensures stands { D.Tells → IfOk result (λ m. Stands (format_of K.cmp K.key_bytes V.Codec S.Seal cfg.now.codec_config) (shown m) (shown m).entries (disk (D.time dev.new))) }
+        ensures keeps { D.Tells → IfOk result (λ m. Keeps (format_of K.cmp K.key_bytes V.Codec S.Seal cfg.now.codec_config) (string_bytes cfg.now.partition) (shown m).entries (shown m).entries (disk (D.time dev.new))) }
+        ensures storable { IfOk result (λ m. MayBeSynced (format_of K.cmp K.key_bytes V.Codec S.Seal cfg.now.codec_config) (shown m).entries) }
         ensures partition { IfOk result (λ m. (shown m).partition ≡ string_bytes cfg.now.partition) }
         ensures config { IfOk result (λ m. m.codec_config ≡ cfg.now.codec_config) }
         ensures staged { IfOk result (λ m. (shown m).staged ≡ false) }

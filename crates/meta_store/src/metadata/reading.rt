@@ -95,8 +95,8 @@ impl<K: Key, V: Codec, S: Seal> Metadata<K, V, S> {
         bytes: &[u8],
         cfg: V::Cfg,
     ) -> Result<CopyText<K, V>, Error>
-        ensures reads { IfOk result (λ t. ReadsAs (format_of K.Key V.Codec S.Seal cfg) bytes.now t) }
-        ensures only { (t : CopyText _ _) → ReadsAs (format_of K.Key V.Codec S.Seal cfg) bytes.now t → IfOk result (λ r. r ≡ t) }
+        ensures reads { IfOk result (λ t. ReadsAs (format_of K.cmp K.key_bytes V.Codec S.Seal cfg) bytes.now t) }
+        ensures only { (t : CopyText _ _) → ReadsAs (format_of K.cmp K.key_bytes V.Codec S.Seal cfg) bytes.now t → IfOk result (λ r. r ≡ t) }
         ensures memory { OnErr result (result ≡ Err Error.Mem) }
     {
         let Some(copy) = sealed_copy::<S>(bytes) else {
@@ -120,8 +120,8 @@ impl<K: Key, V: Codec, S: Seal> Metadata<K, V, S> {
         body: &[u8],
         cfg: V::Cfg,
     ) -> Result<Option<CopyEntries<K, V>>, Error>
-        ensures read { IfOk result (λ r. IfSome r (λ entries. IsText (format_of K.Key V.Codec S.Seal cfg) form body.now entries)) }
-        ensures only { (entries : List _) → IsText (format_of K.Key V.Codec S.Seal cfg) form body.now entries → IfOk result (λ r. r ≡ Some entries) }
+        ensures read { IfOk result (λ r. IfSome r (λ entries. IsText (format_of K.cmp K.key_bytes V.Codec S.Seal cfg) form body.now entries)) }
+        ensures only { (entries : List _) → IsText (format_of K.cmp K.key_bytes V.Codec S.Seal cfg) form body.now entries → IfOk result (λ r. r ≡ Some entries) }
         ensures memory { OnErr result (result ≡ Err Error.Mem) }
     {
         if form != FORM || body.len() < 8 {
@@ -137,8 +137,8 @@ impl<K: Key, V: Codec, S: Seal> Metadata<K, V, S> {
         bytes: &[u8],
         cfg: V::Cfg,
     ) -> Result<Option<CopyEntries<K, V>>, Error>
-        ensures read { IfOk result (λ r. IfSome r (λ entries. IsEntries (format_of K.Key V.Codec S.Seal cfg) count bytes.now entries)) }
-        ensures only { (entries : List _) → IsEntries (format_of K.Key V.Codec S.Seal cfg) count bytes.now entries → IfOk result (λ r. r ≡ Some entries) }
+        ensures read { IfOk result (λ r. IfSome r (λ entries. IsEntries (format_of K.cmp K.key_bytes V.Codec S.Seal cfg) count bytes.now entries)) }
+        ensures only { (entries : List _) → IsEntries (format_of K.cmp K.key_bytes V.Codec S.Seal cfg) count bytes.now entries → IfOk result (λ r. r ≡ Some entries) }
         ensures memory { OnErr result (result ≡ Err Error.Mem) }
     {
         let mut items = Vec::new(alloc);
@@ -167,8 +167,8 @@ impl<K: Key, V: Codec, S: Seal> Metadata<K, V, S> {
     ) -> Result<Option<Entry<K, V>>, Error>
         ensures read { IfOk result (λ r. IfSome r (λ e. take e.len bytes.now ≡ entry_bytes K.key_bytes V.spelling (e.key, e.value))) }
         ensures within { IfOk result (λ r. IfSome r (λ e. e.len ≤ length bytes.now)) }
-        ensures storable { IfOk result (λ r. IfSome r (λ e. IsStorable (format_of K.Key V.Codec S.Seal cfg) e.value)) }
-        ensures only { (key : _) (value : _) (rest : List ℕ) → IsStorable (format_of K.Key V.Codec S.Seal cfg) value → bytes.now ≡ entry_bytes K.key_bytes V.spelling (key, value) ++ rest
+        ensures storable { IfOk result (λ r. IfSome r (λ e. IsStorable (format_of K.cmp K.key_bytes V.Codec S.Seal cfg) e.value)) }
+        ensures only { (key : _) (value : _) (rest : List ℕ) → IsStorable (format_of K.cmp K.key_bytes V.Codec S.Seal cfg) value → bytes.now ≡ entry_bytes K.key_bytes V.spelling (key, value) ++ rest
             → IfOk result (λ r. r ≡ Some (record { key = key; value = value; len = length (entry_bytes K.key_bytes V.spelling (key, value)) })) }
         ensures memory { OnErr result (result ≡ Err Error.Mem) }
     {
@@ -186,8 +186,10 @@ impl<K: Key, V: Codec, S: Seal> Metadata<K, V, S> {
         let len = head + size;
         match V::decode_cfg(alloc, &bytes[head..len], cfg) {
             Ok(value) => Ok(Some(Entry { key, value, len })),
-            Err(codec::Error::Mem) => Err(Error::Mem),
-            Err(_) => Ok(None),
+            Err(e) => match e {
+                codec::Error::Mem => Err(Error::Mem),
+                _ => Ok(None),
+            },
         }
     }
 }

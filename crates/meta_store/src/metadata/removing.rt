@@ -20,8 +20,8 @@ impl<K: Key, V: Codec, S: Seal> Metadata<K, V, S> {
     /// Removes both copies, the older or absent one first; the left one where both are absent.
     pub fn destroy<D: Device>(self, dev: &mut D) -> Result<(), Error>
         // At each moment, also where the call fails, a crash leaves the map as it was last synced, or the empty one.
-        ensures crashes { D.Tells → (synced : List _) → Stands (format_of K.Key V.Codec S.Seal self.codec_config) (shown self) synced (disk (D.time dev.old))
-            → Mapping (format_of K.Key V.Codec S.Seal self.codec_config) (shown self).partition synced [] (D.time dev.old) (D.time dev.new) }
+        ensures crashes { D.Tells → (synced : List _) → Stands (format_of K.cmp K.key_bytes V.Codec S.Seal self.codec_config) (shown self) synced (disk (D.time dev.old))
+            → Mapping (format_of K.cmp K.key_bytes V.Codec S.Seal self.codec_config) (shown self).partition synced [] (D.time dev.old) (D.time dev.new) }
         ensures alone { D.Tells → Alone (shown self).partition (D.time dev.old) (D.time dev.new) }
         ensures order { D.Tells → Always (D.time dev.old) (D.time dev.new) (OlderFirst (shown self).partition (shown self).older (disk (D.time dev.old))) }
         ensures gone { D.Tells → (side : Side) → OnOk result (disk (D.time dev.new) (blob_of (shown self).partition side) ≡ nothing) }

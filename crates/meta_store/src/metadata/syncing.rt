@@ -27,17 +27,17 @@ impl<K: Key, V: Codec, S: Seal> Metadata<K, V, S> {
     /// It writes the next version in one write over the older or absent copy, and settles it. It answers `Full` exactly where a
     /// change is staged and the version would pass the greatest `u64`.
     pub fn sync<D: Device>(self, dev: &mut D) -> Result<Self, Error>
-        requires storable { MayBeSynced (format_of K.Key V.Codec S.Seal self.codec_config) (shown self).entries }
+        requires storable { MayBeSynced (format_of K.cmp K.key_bytes V.Codec S.Seal self.codec_config) (shown self).entries }
         requires opened { IsOpened (shown self).partition (D.opened dev.old) }
         // At each moment, also where the call fails, a crash leaves the map as it was last synced, or these entries.
-        ensures crashes { D.Tells → (synced : List _) → Stands (format_of K.Key V.Codec S.Seal self.codec_config) (shown self) synced (disk (D.time dev.old))
-            → Mapping (format_of K.Key V.Codec S.Seal self.codec_config) (shown self).partition synced (shown self).entries (D.time dev.old) (D.time dev.new) }
+        ensures crashes { D.Tells → (synced : List _) → Stands (format_of K.cmp K.key_bytes V.Codec S.Seal self.codec_config) (shown self) synced (disk (D.time dev.old))
+            → Mapping (format_of K.cmp K.key_bytes V.Codec S.Seal self.codec_config) (shown self).partition synced (shown self).entries (D.time dev.old) (D.time dev.new) }
         ensures alone { D.Tells → Alone (shown self).partition (D.time dev.old) (D.time dev.new) }
         // Then they are the map that was last synced.
-        ensures stands { D.Tells → (synced : List _) → Stands (format_of K.Key V.Codec S.Seal self.codec_config) (shown self) synced (disk (D.time dev.old))
-            → IfOk result (λ m. Stands (format_of K.Key V.Codec S.Seal self.codec_config) (shown m) (shown self).entries (disk (D.time dev.new))) }
-        ensures keeps { D.Tells → (synced : List _) → Stands (format_of K.Key V.Codec S.Seal self.codec_config) (shown self) synced (disk (D.time dev.old))
-            → OnOk result (Keeps (format_of K.Key V.Codec S.Seal self.codec_config) (shown self).partition (shown self).entries (shown self).entries (disk (D.time dev.new))) }
+        ensures stands { D.Tells → (synced : List _) → Stands (format_of K.cmp K.key_bytes V.Codec S.Seal self.codec_config) (shown self) synced (disk (D.time dev.old))
+            → IfOk result (λ m. Stands (format_of K.cmp K.key_bytes V.Codec S.Seal self.codec_config) (shown m) (shown self).entries (disk (D.time dev.new))) }
+        ensures keeps { D.Tells → (synced : List _) → Stands (format_of K.cmp K.key_bytes V.Codec S.Seal self.codec_config) (shown self) synced (disk (D.time dev.old))
+            → OnOk result (Keeps (format_of K.cmp K.key_bytes V.Codec S.Seal self.codec_config) (shown self).partition (shown self).entries (shown self).entries (disk (D.time dev.new))) }
         ensures wrote { D.Tells → (shown self).staged ≡ true → OnOk result (disk (D.time dev.new) (blob_of (shown self).partition (shown self).older)
             ≡ settled_at (written (disk (D.time dev.old) (blob_of (shown self).partition (shown self).older)).content 0 (copy_bytes S.seal_of ((shown self).version + 1) 1 (body_bytes K.key_bytes V.spelling (shown self).entries)))) }
         ensures same { IfOk result (λ m. shown m ≡ synced_store (shown self)) }
@@ -70,17 +70,17 @@ impl<K: Key, V: Codec, S: Seal> Metadata<K, V, S> {
 
     /// Gives a key this value and makes it durable, with all that was staged.
     pub fn put_sync<D: Device>(self, dev: &mut D, key: K, value: V) -> Result<Self, Error>
-        requires storable { MayBeSynced (format_of K.Key V.Codec S.Seal self.codec_config) (insert_entry K.cmp (shown self).entries key value) }
+        requires storable { MayBeSynced (format_of K.cmp K.key_bytes V.Codec S.Seal self.codec_config) (insert_entry K.cmp (shown self).entries key value) }
         requires opened { IsOpened (shown self).partition (D.opened dev.old) }
         // At each moment, also where the call fails, a crash leaves the map as it was last synced, or the entries with this one put.
-        ensures crashes { D.Tells → (synced : List _) → Stands (format_of K.Key V.Codec S.Seal self.codec_config) (shown self) synced (disk (D.time dev.old))
-            → Mapping (format_of K.Key V.Codec S.Seal self.codec_config) (shown self).partition synced (insert_entry K.cmp (shown self).entries key value) (D.time dev.old) (D.time dev.new) }
+        ensures crashes { D.Tells → (synced : List _) → Stands (format_of K.cmp K.key_bytes V.Codec S.Seal self.codec_config) (shown self) synced (disk (D.time dev.old))
+            → Mapping (format_of K.cmp K.key_bytes V.Codec S.Seal self.codec_config) (shown self).partition synced (insert_entry K.cmp (shown self).entries key value) (D.time dev.old) (D.time dev.new) }
         ensures alone { D.Tells → Alone (shown self).partition (D.time dev.old) (D.time dev.new) }
         // Then they are the map that was last synced.
-        ensures stands { D.Tells → (synced : List _) → Stands (format_of K.Key V.Codec S.Seal self.codec_config) (shown self) synced (disk (D.time dev.old))
-            → IfOk result (λ m. Stands (format_of K.Key V.Codec S.Seal self.codec_config) (shown m) (insert_entry K.cmp (shown self).entries key value) (disk (D.time dev.new))) }
-        ensures keeps { D.Tells → (synced : List _) → Stands (format_of K.Key V.Codec S.Seal self.codec_config) (shown self) synced (disk (D.time dev.old))
-            → OnOk result (Keeps (format_of K.Key V.Codec S.Seal self.codec_config) (shown self).partition (insert_entry K.cmp (shown self).entries key value) (insert_entry K.cmp (shown self).entries key value) (disk (D.time dev.new))) }
+        ensures stands { D.Tells → (synced : List _) → Stands (format_of K.cmp K.key_bytes V.Codec S.Seal self.codec_config) (shown self) synced (disk (D.time dev.old))
+            → IfOk result (λ m. Stands (format_of K.cmp K.key_bytes V.Codec S.Seal self.codec_config) (shown m) (insert_entry K.cmp (shown self).entries key value) (disk (D.time dev.new))) }
+        ensures keeps { D.Tells → (synced : List _) → Stands (format_of K.cmp K.key_bytes V.Codec S.Seal self.codec_config) (shown self) synced (disk (D.time dev.old))
+            → OnOk result (Keeps (format_of K.cmp K.key_bytes V.Codec S.Seal self.codec_config) (shown self).partition (insert_entry K.cmp (shown self).entries key value) (insert_entry K.cmp (shown self).entries key value) (disk (D.time dev.new))) }
         ensures same { IfOk result (λ m. shown m ≡ synced_store (staging (shown self) (insert_entry K.cmp (shown self).entries key value))) }
         ensures value { IfOk result (λ m. PutsValue K.cmp (shown self).entries (shown m).entries key value) }
         ensures config { IfOk result (λ m. m.codec_config ≡ self.codec_config) }
@@ -100,15 +100,15 @@ impl<K: Key, V: Codec, S: Seal> Metadata<K, V, S> {
 
     /// As [`sync`](Metadata::sync); the handle is of a sync that is finished.
     pub fn start_sync<D: Device>(self, dev: &mut D) -> Result<(Self, Handle), Error>
-        requires storable { MayBeSynced (format_of K.Key V.Codec S.Seal self.codec_config) (shown self).entries }
+        requires storable { MayBeSynced (format_of K.cmp K.key_bytes V.Codec S.Seal self.codec_config) (shown self).entries }
         requires opened { IsOpened (shown self).partition (D.opened dev.old) }
-        ensures crashes { D.Tells → (synced : List _) → Stands (format_of K.Key V.Codec S.Seal self.codec_config) (shown self) synced (disk (D.time dev.old))
-            → Mapping (format_of K.Key V.Codec S.Seal self.codec_config) (shown self).partition synced (shown self).entries (D.time dev.old) (D.time dev.new) }
+        ensures crashes { D.Tells → (synced : List _) → Stands (format_of K.cmp K.key_bytes V.Codec S.Seal self.codec_config) (shown self) synced (disk (D.time dev.old))
+            → Mapping (format_of K.cmp K.key_bytes V.Codec S.Seal self.codec_config) (shown self).partition synced (shown self).entries (D.time dev.old) (D.time dev.new) }
         ensures alone { D.Tells → Alone (shown self).partition (D.time dev.old) (D.time dev.new) }
-        ensures stands { D.Tells → (synced : List _) → Stands (format_of K.Key V.Codec S.Seal self.codec_config) (shown self) synced (disk (D.time dev.old))
-            → IfOk result (λ p. Stands (format_of K.Key V.Codec S.Seal self.codec_config) (shown p.0) (shown self).entries (disk (D.time dev.new))) }
-        ensures keeps { D.Tells → (synced : List _) → Stands (format_of K.Key V.Codec S.Seal self.codec_config) (shown self) synced (disk (D.time dev.old))
-            → OnOk result (Keeps (format_of K.Key V.Codec S.Seal self.codec_config) (shown self).partition (shown self).entries (shown self).entries (disk (D.time dev.new))) }
+        ensures stands { D.Tells → (synced : List _) → Stands (format_of K.cmp K.key_bytes V.Codec S.Seal self.codec_config) (shown self) synced (disk (D.time dev.old))
+            → IfOk result (λ p. Stands (format_of K.cmp K.key_bytes V.Codec S.Seal self.codec_config) (shown p.0) (shown self).entries (disk (D.time dev.new))) }
+        ensures keeps { D.Tells → (synced : List _) → Stands (format_of K.cmp K.key_bytes V.Codec S.Seal self.codec_config) (shown self) synced (disk (D.time dev.old))
+            → OnOk result (Keeps (format_of K.cmp K.key_bytes V.Codec S.Seal self.codec_config) (shown self).partition (shown self).entries (shown self).entries (disk (D.time dev.new))) }
         ensures same { IfOk result (λ p. shown p.0 ≡ synced_store (shown self)) }
         ensures config { IfOk result (λ p. p.0.codec_config ≡ self.codec_config) }
         ensures idle { (shown self).staged ≡ false → (dev.new ≡ dev.old) × IsOk result }

@@ -28,9 +28,9 @@ impl<K: Key, V: Codec, S: Seal> Metadata<K, V, S> {
 
     /// The entries as the body of a copy.
     fn body(&self) -> Result<Vec<u8>, Error>
-        requires { MayBeSynced (format_of K.Key V.Codec S.Seal self.now.codec_config) (shown self.now).entries }
+        requires { MayBeSynced (format_of K.cmp K.key_bytes V.Codec S.Seal self.now.codec_config) (shown self.now).entries }
         ensures body { IfOk result (λ b. b.items ≡ body_bytes K.key_bytes V.spelling (shown self.now).entries) }
-        ensures map { OnOk result (IsMap (format_of K.Key V.Codec S.Seal self.now.codec_config) (shown self.now).entries) }
+        ensures map { OnOk result (IsMap (format_of K.cmp K.key_bytes V.Codec S.Seal self.now.codec_config) (shown self.now).entries) }
         ensures memory { OnErr result (result ≡ Err Error.Mem) }
     {
         let mut body = Vec::new(self.alloc);
@@ -44,9 +44,9 @@ impl<K: Key, V: Codec, S: Seal> Metadata<K, V, S> {
 
     /// The entries as a copy of this version.
     pub(super) fn copy(&self, version: u64) -> Result<Vec<u8>, Error>
-        requires { MayBeSynced (format_of K.Key V.Codec S.Seal self.now.codec_config) (shown self.now).entries }
+        requires { MayBeSynced (format_of K.cmp K.key_bytes V.Codec S.Seal self.now.codec_config) (shown self.now).entries }
         ensures copy { IfOk result (λ c. c.items ≡ copy_bytes S.seal_of version 1 (body_bytes K.key_bytes V.spelling (shown self.now).entries)) }
-        ensures map { OnOk result (IsMap (format_of K.Key V.Codec S.Seal self.now.codec_config) (shown self.now).entries) }
+        ensures map { OnOk result (IsMap (format_of K.cmp K.key_bytes V.Codec S.Seal self.now.codec_config) (shown self.now).entries) }
         ensures memory { OnErr result (result ≡ Err Error.Mem) }
     {
         let body = self.body()?;
