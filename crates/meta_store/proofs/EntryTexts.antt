@@ -68,3 +68,12 @@ not_refused r v e mem is other (inr err) = other (cc (is, err))
 pub decoded_same : {V E : Type 0} (r : Result V E) (v w : V) (mem : E) → r ≡ Ok w → (r ≡ Ok v) ⊎ (r ≡ Err mem) → w ≡ v
 decoded_same r v w mem is (inl ok) = cc (is, ok)
 decoded_same r v w mem is (inr err) = absurd (cc (is, err))
+
+-- an entry that was written behind other bytes
+pub entry_written : {K V : Type 0} (key_bytes : K → List ℕ) (spelling : V → List ℕ) (k : K) (v : V) (a b c d : List ℕ) (size : ℕ)
+    → b ≡ a ++ key_bytes k → c ≡ b ++ to_be_bytes w32 size → size ≡ length (spelling v) → d ≡ c ++ spelling v → d ≡ a ++ entry_bytes key_bytes spelling (k, v)
+unfolding entry_bytes
+entry_written key_bytes spelling k v a b c d size first second is third =
+    third ∙ ap (λ l. l ++ spelling v) (second ∙ ap (λ l. l ++ to_be_bytes w32 size) first ∙ append_assoc a (key_bytes k) (to_be_bytes w32 size)
+    ∙ ap (λ (n : ℕ). a ++ (key_bytes k ++ to_be_bytes w32 n)) is)
+    ∙ append_assoc a (key_bytes k ++ to_be_bytes w32 (length (spelling v))) (spelling v)

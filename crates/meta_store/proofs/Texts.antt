@@ -192,3 +192,13 @@ sealed_found seal bytes version len stored fits short room first second at holds
           ∙ ap (λ l. take (17 + len) bytes ++ l) (sym at ∙ ap (λ (x : ℕ). to_be_bytes w32 x) (sym holds))
           ∙ ap (λ l. l ++ to_be_bytes w32 (seal l)) (found_head bytes version len first second room);
     })
+
+-- a copy that was written part by part
+pub copy_written : (seal : List ℕ → ℕ) (version len sealed : ℕ) (body c0 c1 c2 c3 c4 c5 : List ℕ) → c0 ≡ [] → c1 ≡ c0 ++ to_be_bytes w64 version → c2 ≡ c1 ++ 1 ∷ [] → c3 ≡ c2 ++ to_be_bytes w64 len
+    → c4 ≡ c3 ++ body → c5 ≡ c4 ++ to_be_bytes w32 sealed → len ≡ length body → sealed ≡ seal c4 → c5 ≡ copy_bytes seal version 1 body
+unfolding copy_bytes
+copy_written seal version len sealed body c0 c1 c2 c3 c4 c5 e0 e1 e2 e3 e4 e5 long is =
+    let head : c4 ≡ head_bytes version 1 body =
+        e4 ∙ ap (λ l. l ++ body) (e3 ∙ ap (λ l. l ++ to_be_bytes w64 len) (e2 ∙ ap (λ l. l ++ 1 ∷ []) (e1 ∙ ap (λ l. l ++ to_be_bytes w64 version) e0)) ∙ ap (λ (n : ℕ). to_be_bytes w64 version ++ 1 ∷ [] ++ to_be_bytes w64 n) long)
+        ∙ append_assoc (to_be_bytes w64 version ++ 1 ∷ []) (to_be_bytes w64 (length body)) body ∙ append_assoc (to_be_bytes w64 version) (1 ∷ []) (to_be_bytes w64 (length body) ++ body) ∙ sym (head_split version 1 body) in
+    e5 ∙ ap (λ (n : ℕ). c4 ++ to_be_bytes w32 n) is ∙ ap (λ l. l ++ to_be_bytes w32 (seal l)) head
