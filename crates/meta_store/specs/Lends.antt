@@ -1,5 +1,5 @@
 -- What becomes of a map of which a value was lent.
-use Rattle.std.specs.Prelude.{◌≡◌, ℕ, Bool, List, Option, OnSome}
+use Rattle.std.specs.Prelude.{◌≡◌, ℕ, Bool, List, Option, OnSome, IfNone}
 use Rattle.std.specs.declared.cmp.Ordering.{Ordering}
 use Rattle.std.specs.Borrow.{LendsSo, Fml, RattleType, MutBor}
 use Rattle.std.specs.BTreeMap.{is_at}
@@ -30,4 +30,4 @@ map_row K V S C key = the_row K V S C (record { eq = key.eq }) (record { cmp = k
 
 -- Once the loan is over the map has the value that was last written through it at the key; where the key was not there, it is as before.
 abbrev pub lends_value : (K V S C : RattleType) (key : KeyMembers K.Denot) → MutBor (Metadata K.Denot V.Denot S.Denot C.Denot) → K.Denot → Option (MutBor V.Denot) → Fml
-lends_value K V S C key s k r = LendsSo (map_row K V S C key) V s r (λ n w. OnSome r (WroteValue key.cmp k w s.now n)) (λ n. SameMap s.now n)
+lends_value K V S C key s k r = LendsSo (map_row K V S C key) V s r (λ n w. OnSome r (WroteValue key.cmp k w s.now n)) (λ n. IfNone r (SameMap s.now n))
