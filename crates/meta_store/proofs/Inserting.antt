@@ -1,5 +1,5 @@
 -- What an insertion makes of the entries of a map, and a write through a value that was lent.
-use Rattle.std.proofs.Common.{◌≡◌, ◌⊎◌, inl, inr, Bool, true, false, cond, List, [], ◌∷◌, ◌++◌, Option, Some, None, IsSome, refl, sym, ◌∙◌, ap, subst}
+use Rattle.std.proofs.Common.{◌≡◌, ◌⊎◌, inl, inr, ◌≤◌, length, arith, Bool, true, false, cond, List, [], ◌∷◌, ◌++◌, Option, Some, None, IsSome, refl, sym, ◌∙◌, ap, subst}
 use Rattle.std.specs.Prelude.{OnSome, IfNone, is_some}
 use Rattle.std.specs.declared.cmp.Ordering.{Ordering}
 use Rattle.std.specs.declared.cmp.Ordering.TheVariants.{Less, Equal, Greater}
@@ -10,8 +10,10 @@ use Rattle.std.specs.List.Sorted.{IsStrictlySortedBy}
 use Rattle.std.specs.Option.{option_copied_mut}
 use Rattle.std.specs.Borrow.{MutBor}
 use Rattle.std.specs.Map.{keys_of, set_value}
+use Rattle.std.specs.Map.Calls.{RetainsPairs}
 use Rattle.std.specs.BTreeMap.{BTreeMap, insert_entry, is_at, get_by, WritesThrough}
 use Rattle.meta_store.specs.declared.metadata.Metadata.{Metadata}
+use Rattle.meta_store.specs.Entries.{Retained}
 use Rattle.meta_store.specs.Store.{shown, staging}
 use Rattle.meta_store.specs.Lends.{WroteValue, SameMap}
 use Rattle.meta_store.proofs.Ascending.{sorted_below, keys_append}
@@ -85,3 +87,46 @@ module _ {K V S C : Type 0} (R : K → K → Ordering) (key : K) (old : Metadata
   unfolding Marked
   marked_entries found mid (inl marked) = ap (λ (m : Metadata K V S C). m.entries) marked.1
   marked_entries found mid (inr marked) = ap (λ (m : Metadata K V S C). m.entries) marked.1
+
+-- a test that changes nothing, asked at each entry
+pub retained_from : {F K V : Type 0} (T : F → K → V → Bool → V → F → Type 0) (answers : K → V → Bool → Type 0) (f : F) (es kept : List (K × V)) → RetainsPairs T f es kept
+    → ((k : K) (v : V) (b : Bool) (w : V) (f' : F) → T f k v b w f' → answers k v b × (w ≡ v) × (f' ≡ f)) → Retained answers es kept
+retained_from T answers f [] kept ran each = ran
+retained_from {F = F} {K = K} {V = V} T answers f (e ∷ es) kept ran each =
+    let b = ran.0 in
+    let rest = ran.3 in
+    let said = each e.0 e.1 b ran.1 ran.2 ran.4 in
+    (
+      b,
+      rest,
+      said.0,
+      retained_from T answers f es rest (subst (λ (g : F). RetainsPairs T g es rest) said.2 ran.5) each,
+      ran.6 ∙ ap (λ (v : V). cond b ((e.0, v) ∷ rest) rest) said.1,
+    )
+
+-- one entry, and what is kept of the others
+fewer_by : {X : Type 0} (b : Bool) (e : X) (es kept rest : List X) → kept ≡ cond b (e ∷ rest) rest → length rest ≤ length es → length kept ≤ length (e ∷ es)
+fewer_by true e es kept rest is fewer = omega (arith, ap length is, fewer)
+fewer_by false e es kept rest is fewer = omega (arith, ap length is, fewer)
+
+pub retained_fewer : {K V : Type 0} (answers : K → V → Bool → Type 0) (es kept : List (K × V)) → Retained answers es kept → length kept ≤ length es
+retained_fewer answers [] kept ran = omega (arith, ap length ran)
+retained_fewer answers (e ∷ es) kept ran = fewer_by ran.0 e es kept ran.1 ran.4 (retained_fewer answers es ran.1 ran.3)
+
+all_by : {X : Type 0} (b : Bool) (e : X) (es kept rest : List X) → kept ≡ cond b (e ∷ rest) rest → length rest ≤ length es → length kept ≡ length (e ∷ es) → (length rest ≡ length es → rest ≡ es) → kept ≡ e ∷ es
+all_by true e es kept rest is fewer same more = is ∙ ap (λ l. e ∷ l) (more (omega (arith, ap length is, same)))
+all_by false e es kept rest is fewer same more = absurd (omega (arith, ap length is, same, fewer))
+
+-- where none is dropped, all stand as before
+pub retained_all : {K V : Type 0} (answers : K → V → Bool → Type 0) (es kept : List (K × V)) → Retained answers es kept → length kept ≡ length es → kept ≡ es
+retained_all answers [] kept ran same = ran
+retained_all answers (e ∷ es) kept ran same =
+    all_by ran.0 e es kept ran.1 ran.4 (retained_fewer answers es ran.1 ran.3) same (λ some. retained_all answers es ran.1 ran.3 some)
+
+has_by : {X : Type 0} (P : X → Type 0) (b : Bool) (e : X) (kept rest : List X) → kept ≡ cond b (e ∷ rest) rest → P e → AllByRecursion P rest → AllByRecursion P kept
+has_by P true e kept rest is here all = subst (AllByRecursion P) (sym is) (here, all)
+has_by P false e kept rest is here all = subst (AllByRecursion P) (sym is) all
+
+pub retained_has : {K V : Type 0} (answers : K → V → Bool → Type 0) (P : V → Type 0) (es kept : List (K × V)) → Retained answers es kept → AllByRecursion (λ e. P e.1) es → AllByRecursion (λ e. P e.1) kept
+retained_has answers P [] kept ran all = subst (AllByRecursion (λ e. P e.1)) (sym ran) tt
+retained_has answers P (e ∷ es) kept ran all = has_by (λ e. P e.1) ran.0 e kept ran.1 ran.4 all.0 (retained_has answers P es ran.1 ran.3 all.1)

@@ -4,4 +4,5 @@ pub mod EntryLists
 pub mod EntryTexts
 pub mod Inserting
 pub mod Readings
+pub mod StandingLemmas
 pub mod Texts

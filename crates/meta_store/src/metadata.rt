@@ -117,7 +117,14 @@ impl<K: Key, V: Codec, S: Seal> Metadata<K, V, S> {
         ensures config { self.new.codec_config ≡ self.old.codec_config }
     {
         let before = self.entries.len();
-        self.entries.retain(|key, value| keep(key, value));
+        let test = |key: &K, value: &mut V| -> bool
+            requires { F.IsAlwaysCallable keep }
+            ensures answer { AnswersAt F.Fn keep key.now value.old result }
+            ensures value { value.new ≡ value.old }
+        {
+            keep(key, value)
+        };
+        self.entries.retain(test);
         if self.entries.len() < before {
             self.staged = true;
         }
