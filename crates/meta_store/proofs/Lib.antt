@@ -1,8 +1,10 @@
 pub mod Ascending
+pub mod Choices
 pub mod DeviceCalls
 pub mod EntryLists
 pub mod EntryTexts
 pub mod Inserting
 pub mod Readings
+pub mod Sealing
 pub mod StandingLemmas
 pub mod Texts
