@@ -4,7 +4,11 @@ pub mod DeviceCalls
 pub mod EntryLists
 pub mod EntryTexts
 pub mod Inserting
+pub mod Leaving
+pub mod OpenedSides
 pub mod Readings
+pub mod RemovingLemmas
 pub mod Sealing
+pub mod Sides
 pub mod StandingLemmas
 pub mod Texts
