@@ -11,4 +11,5 @@ pub mod RemovingLemmas
 pub mod Sealing
 pub mod Sides
 pub mod StandingLemmas
+pub mod SyncingLemmas
 pub mod Texts

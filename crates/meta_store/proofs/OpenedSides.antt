@@ -1,12 +1,14 @@
 -- The entries of the two blobs in the list of opened blobs.
-use Rattle.std.proofs.Common.{◌≡◌, ◌≢◌, ◌⊎◌, inl, inr, ℕ, List, Option, None, refl, sym, ◌∙◌, ap, subst}
+use Rattle.std.proofs.Common.{◌≡◌, ◌≢◌, ◌⊎◌, inl, inr, ℕ, List, Option, Some, None, IsSome, refl, sym, ◌∙◌, ap, subst}
+use Rattle.std.specs.Option.{option_map}
 use Rattle.blob_device.specs.Disk.{Key}
-use Rattle.blob_device.specs.Opened.{Opened, OpenedList, left}
-use Rattle.blob_device.proofs.Puts.{put_same, put_other}
-use Rattle.blob_device.proofs.OpenedLemmas.{left_other}
+use Rattle.blob_device.specs.Opened.{Opened, OpenedList, left, updated, reads_of, with_len, PartlyGrown}
+use Rattle.blob_device.proofs.Puts.{put_same}
+use Rattle.blob_device.proofs.OpenedLemmas.{left_other, updated_open, updated_other}
 use Rattle.meta_store.specs.declared.error.Side.{Side}
+use Rattle.meta_store.specs.declared.error.Side.TheVariants.{Left, Right}
 use Rattle.meta_store.specs.Blobs.{blob_of, other_side}
-use Rattle.meta_store.specs.Calls.{OthersOpened}
+use Rattle.meta_store.specs.Calls.{IsOpened, OthersOpened, NoReads}
 use Rattle.meta_store.proofs.Sides.{neither, both_sides, sides_apart}
 
 -- a removal touches no other entry
@@ -29,3 +31,47 @@ both_left p side k l a b c key key' first second s = both_sides p side s (λ q. 
 
     theirs : c (blob_of p (other_side side)) ≡ None
     theirs = subst (λ (q : Key). c q ≡ None) key' (gone b c l second)
+
+-- a call changed one of the two entries so, and no read began
+pub record Grew (p : List ℕ) (side : Side) (old new : OpenedList) : Type 0 where
+  pub change : Opened → Opened
+  pub is : new ≡ updated old (blob_of p side) change
+  pub reads : (o : Opened) → (change o).reads ≡ o.reads
+
+pub grew_opened : (p : List ℕ) (side : Side) (old new : OpenedList) → Grew p side old new → IsOpened p old → IsOpened p new
+grew_opened p Left old new g was = record {
+  left = updated_open new old (blob_of p Left) g.change g.is was.left;
+  right = subst IsSome (sym (updated_other new old (blob_of p Left) (blob_of p Right) g.change g.is (sides_apart p Left))) was.right;
+}
+grew_opened p Right old new g was = record {
+  left = subst IsSome (sym (updated_other new old (blob_of p Right) (blob_of p Left) g.change g.is (sides_apart p Right))) was.left;
+  right = updated_open new old (blob_of p Right) g.change g.is was.right;
+}
+
+pub grew_others : (p : List ℕ) (side : Side) (old new : OpenedList) → Grew p side old new → OthersOpened p old new
+grew_others p side old new g q l r = updated_other new old (blob_of p side) q g.change g.is (neither p q side l r)
+
+pub grew_reads : (p : List ℕ) (side : Side) (old new : OpenedList) → Grew p side old new → NoReads p old new
+grew_reads p side old new g = record { left = each Left; right = each Right }
+  where
+    mapped : (o : Option Opened) → reads_of (option_map g.change o) ≡ reads_of o
+    mapped None = refl
+    mapped (Some o) = g.reads o
+
+    each : (s : Side) → reads_of (new (blob_of p s)) ≡ reads_of (old (blob_of p s))
+    each s = both_sides p side s (λ k. reads_of (new k) ≡ reads_of (old k))
+        (ap reads_of (ap (λ (o : OpenedList). o (blob_of p side)) g.is ∙ put_same old (blob_of p side) _) ∙ mapped (old (blob_of p side)))
+        (ap reads_of (updated_other new old (blob_of p side) (blob_of p (other_side side)) g.change g.is (sides_apart p side)))
+
+pub grew_at : (p : List ℕ) (side : Side) (k : Key) (old new : OpenedList) (change : Opened → Opened) → k ≡ blob_of p side → new ≡ updated old k change → ((o : Opened) → (change o).reads ≡ o.reads) → Grew p side old new
+grew_at p side k old new change key is reads = record { change = change; is = is ∙ ap (λ (x : Key). updated old x change) key; reads = reads }
+
+pub grew_partly : (p : List ℕ) (side : Side) (k : Key) (end : ℕ) (old new : OpenedList) → k ≡ blob_of p side → PartlyGrown k end old new → Grew p side old new
+grew_partly p side k end old new key grown = grew_at p side k old new (with_len grown.len) key grown.is (λ o. refl)
+
+pub grew_then : (p : List ℕ) (side : Side) (old new last : OpenedList) → Grew p side old new → last ≡ new → Grew p side old last
+grew_then p side old new last g same = record { change = g.change; is = same ∙ g.is; reads = g.reads }
+
+pub opened_at : (p : List ℕ) (opened : OpenedList) (side : Side) (k : Key) → k ≡ blob_of p side → IsOpened p opened → IsSome (opened k)
+opened_at p opened Left k key both = subst (λ (x : Key). IsSome (opened x)) (sym key) both.left
+opened_at p opened Right k key both = subst (λ (x : Key). IsSome (opened x)) (sym key) both.right
