@@ -6,6 +6,7 @@ pub mod EntryTexts
 pub mod Inserting
 pub mod Leaving
 pub mod OpenedSides
+pub mod OpeningLemmas
 pub mod Readings
 pub mod RemovingLemmas
 pub mod Sealing

@@ -2,9 +2,9 @@
 use Rattle.std.proofs.Common.{◌≡◌, ◌≢◌, ◌⊎◌, inl, inr, ℕ, List, Option, Some, None, IsSome, refl, sym, ◌∙◌, ap, subst}
 use Rattle.std.specs.Option.{option_map}
 use Rattle.blob_device.specs.Disk.{Key}
-use Rattle.blob_device.specs.Opened.{Opened, OpenedList, left, updated, reads_of, with_len, PartlyGrown}
+use Rattle.blob_device.specs.Opened.{Opened, OpenedList, left, entered, updated, reads_of, with_len, PartlyGrown}
 use Rattle.blob_device.proofs.Puts.{put_same}
-use Rattle.blob_device.proofs.OpenedLemmas.{left_other, updated_open, updated_other}
+use Rattle.blob_device.proofs.OpenedLemmas.{left_other, entered_other, updated_open, updated_other}
 use Rattle.meta_store.specs.declared.error.Side.{Side}
 use Rattle.meta_store.specs.declared.error.Side.TheVariants.{Left, Right}
 use Rattle.meta_store.specs.Blobs.{blob_of, other_side}
@@ -75,3 +75,24 @@ grew_then p side old new last g same = record { change = g.change; is = same ∙
 pub opened_at : (p : List ℕ) (opened : OpenedList) (side : Side) (k : Key) → k ≡ blob_of p side → IsOpened p opened → IsSome (opened k)
 opened_at p opened Left k key both = subst (λ (x : Key). IsSome (opened x)) (sym key) both.left
 opened_at p opened Right k key both = subst (λ (x : Key). IsSome (opened x)) (sym key) both.right
+
+-- an opening begins no read and touches no other entry
+pub entered_reads : (p : List ℕ) (side : Side) (k : Key) (n : ℕ) (old new : OpenedList) → k ≡ blob_of p side → new ≡ entered old k n → NoReads p old new
+entered_reads p side k n old new key is = record { left = each Left; right = each Right }
+  where
+    at : new ≡ entered old (blob_of p side) n
+    at = is ∙ ap (λ (x : Key). entered old x n) key
+
+    each : (s : Side) → reads_of (new (blob_of p s)) ≡ reads_of (old (blob_of p s))
+    each s = both_sides p side s (λ q. reads_of (new q) ≡ reads_of (old q))
+        (ap reads_of (ap (λ (o : OpenedList). o (blob_of p side)) at ∙ put_same old (blob_of p side) _))
+        (ap reads_of (entered_other new old (blob_of p side) (blob_of p (other_side side)) n at (sides_apart p side)))
+
+pub entered_others : (p : List ℕ) (side : Side) (k : Key) (n : ℕ) (old new : OpenedList) → k ≡ blob_of p side → new ≡ entered old k n → OthersOpened p old new
+entered_others p side k n old new key is q l r = entered_other new old k q n is (λ e. neither p q side l r (e ∙ key))
+
+pub reads_then : (p : List ℕ) (a b c : OpenedList) → NoReads p a b → NoReads p b c → NoReads p a c
+reads_then p a b c first second = record { left = second.left ∙ first.left; right = second.right ∙ first.right }
+
+pub reads_stay : (p : List ℕ) (a b : OpenedList) → b ≡ a → NoReads p a b
+reads_stay p a b same = record { left = ap (λ (o : OpenedList). reads_of (o (blob_of p Left))) same; right = ap (λ (o : OpenedList). reads_of (o (blob_of p Right))) same }
