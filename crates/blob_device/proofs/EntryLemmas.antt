@@ -1,11 +1,13 @@
 -- The entry of a blob in the opened list of a device in memory, after each change.
-use Rattle.std.proofs.Common.{◌≡◌, ◌⊎◌, inl, inr, ℕ, ◌+◌, ◌/◌, ◌≤◌, max, Bool, true, false, cond, not, ◌&&◌, List, [], ◌∷◌, ◌++◌, length, take, length-take, Option, Some, None, is_some, IfSome, Fits, w8, get_or, suc, refl, sym, ◌∙◌, ap, arith}
+use Rattle.std.proofs.Common.{◌≡◌, ◌⊎◌, inl, inr, ℕ, ◌+◌, ◌/◌, ◌≤◌, max, Bool, true, false, cond, not, ◌&&◌, List, [], ◌∷◌, ◌++◌, length, take, length-take, Option, Some, None, is_some, IsSome, IfSome, IsTrue, Fits, w8, get_or, suc, refl, sym, ◌∙◌, ap, arith}
 use Rattle.std.specs.Option.{option_map}
 use Rattle.std.proofs.lemmas.Bool.Decides.{Decides-ltb}
 use Rattle.blob_device.specs.Disk.{Key, Blob, put}
 use Rattle.blob_device.specs.Change.{Make, Write, Resize, during, done, written, resized}
 use Rattle.blob_device.specs.Opened.{Opened, with_len, reads_of, PartlyGrown}
-use Rattle.blob_device.specs.Calls.{Track, now, entry_of, entry_after, opening, opened_of, all_bytes, IsSound}
+use Rattle.blob_device.specs.Calls.{Track, now, entry_of, entry_after, opening, opened_of, timeline_of, all_bytes, IsSound}
+use Rattle.blob_device.specs.Laws.{opened_stands}
+use Rattle.blob_device.specs.Timeline.{disk}
 use Rattle.blob_device.proofs.Puts.{put_self}
 use Rattle.blob_device.proofs.Bytes.{length-written, length-resized}
 
@@ -90,3 +92,11 @@ partly_grown tracks more k at bytes (inr put_is) =
 pub tested_bytes : (c : List ℕ) → ((i : ℕ) → Fits w8 (get_or c i 0)) → all_bytes c ≡ true
 tested_bytes [] fits = refl
 tested_bytes (x ∷ xs) fits = ap (λ (b : Bool). b && all_bytes xs) ((Decides-ltb x 256).1 (fits 0).fits) ∙ tested_bytes xs (λ i. fits (suc i))
+
+there_of : (b : Blob) (o : Option Opened) → IsSome o → IfSome o (λ x. IsTrue b.there × (length b.content ≡ x.len)) → b.there ≡ true
+there_of b None some both = absurd (cc some)
+there_of b (Some x) some both = both.0
+
+-- an opened blob is there
+pub open_is_there : (tracks : Key → Track) (n : ℕ) (k : Key) → IsSound n (tracks k) → IsSome (opened_of tracks k) → (disk (timeline_of tracks n) k).there ≡ true
+open_is_there tracks n k sound is_open = there_of (disk (timeline_of tracks n) k) (entry_of (tracks k)) is_open (opened_stands tracks n k sound)

@@ -1,11 +1,14 @@
 -- A device made from an image, and images made from a device.
-use Rattle.std.proofs.Common.{◌≡◌, ℕ, List, [], Option, Some, None, Vec, refl, sym}
+use Rattle.std.proofs.Common.{◌≡◌, ◌&&◌, ℕ, Bool, not, List, [], Option, Some, None, is_some, Vec, refl, sym, ap, subst}
+use Rattle.std.specs.List.{list_all}
 use Rattle.std.specs.Option.{option_map, option_and_then}
 use Rattle.std.specs.declared.alloc.Global.{Global}
 use Rattle.std.proofs.lemmas.Option.{same_Some}
 use Rattle.blob_device.specs.declared.blob_log.BlobLog.{BlobLog}
-use Rattle.blob_device.specs.Disk.{Blob, nothing}
-use Rattle.blob_device.specs.Calls.{started, now, replay}
+use Rattle.blob_device.specs.declared.blob_log.Call.{Call}
+use Rattle.blob_device.specs.Disk.{Blob, AbsentIsNothing, nothing, begun}
+use Rattle.blob_device.specs.Calls.{Track, started, now, replay, change_of, writes_bytes, IsSound}
+use Rattle.blob_device.proofs.Replay.{all_below}
 use Rattle.blob_device.specs.Tracks.{track_of, track_at}
 
 abbrev bytes_in : Option (Vec ℕ Global) → Option (List ℕ)
@@ -24,3 +27,22 @@ pub made_at : {T : Type 0} (makes : Blob → Option T) → makes nothing ≡ Non
 unfolding replay
 made_at makes none None = sym none
 made_at makes none (Some l) = refl
+
+absent_begun : (start : Option (List ℕ)) → AbsentIsNothing (begun start)
+absent_begun None = λ gone sure. refl
+absent_begun (Some c) = λ gone sure. absurd (cc gone)
+
+absent_uncalled : (cs : List Call) (start : Option (List ℕ)) → cs ≡ [] → AbsentIsNothing (replay cs (begun start))
+unfolding replay
+absent_uncalled cs start is = subst (λ (l : List Call). AbsentIsNothing (replay l (begun start))) (sym is) (absent_begun start)
+
+-- what holds of a log before the first call
+pub sound_begun : (o : Option BlobLog) → (track_at o).calls ≡ [] → (track_at o).reads ≡ None → IsSound 0 (track_at o)
+sound_begun None calls reads = record { below = refl; bytes = refl; start = refl; open_there = refl; absent = absent_uncalled [] None refl }
+sound_begun (Some l) calls reads = record {
+  below = ap (λ (cs : List Call). all_below 0 cs) calls;
+  bytes = ap (λ (cs : List Call). list_all (λ (c : Call). writes_bytes (change_of c.step)) cs) calls;
+  start = l.bytes;
+  open_there = ap (λ (r : Option ℕ). is_some r && not (now (track_of l)).there) reads;
+  absent = absent_uncalled (track_of l).calls (track_of l).start calls;
+}

@@ -6,7 +6,7 @@ use Rattle.std.specs.declared.alloc.Global.{Global}
 use Rattle.blob_device.specs.declared.blob_log.Call.{Call}
 use Rattle.blob_device.specs.declared.blob_log.Step.{Step}
 use Rattle.blob_device.specs.declared.blob_log.Step.TheVariants as step
-use Rattle.blob_device.specs.Disk.{Key, Blob, begun}
+use Rattle.blob_device.specs.Disk.{Key, Blob, AbsentIsNothing, begun}
 use Rattle.blob_device.specs.Change.{Change, Make, Write, Resize, Settle, Remove, Look, during, done, written}
 use Rattle.blob_device.specs.Timeline.{Timeline}
 use Rattle.blob_device.specs.Counts.{next}
@@ -114,12 +114,22 @@ abbrev pub starts_with_bytes : Option (List ℕ) → Bool
 starts_with_bytes None = true
 starts_with_bytes (Some c) = all_bytes c
 
--- The calls come before call number n and hold bytes, and an opened blob is there.
+-- the change is made of a blob that is there, if it needs one
+abbrev pub FindsBlob : Change → Blob → Type 0
+FindsBlob Make b = Unit {0}
+FindsBlob (Write at bytes) b = b.there ≡ true
+FindsBlob (Resize n) b = b.there ≡ true
+FindsBlob Settle b = Unit {0}
+FindsBlob Remove b = Unit {0}
+FindsBlob Look b = Unit {0}
+
+-- The calls come before call number n and hold bytes, an opened blob is there, and an absent one is nothing.
 pub record IsSound (n : ℕ) (t : Track) : Type 0 where
   pub below : list_all (λ (c : Call). ltb c.number n) t.calls ≡ true
   pub bytes : list_all (λ (c : Call). writes_bytes (change_of c.step)) t.calls ≡ true
   pub start : starts_with_bytes t.start ≡ true
   pub open_there : (is_some t.reads && not (now t).there) ≡ false
+  pub absent : AbsentIsNothing (now t)
 
 -- the blob reads so
 pub record Reads (b : Blob) (v : Bool) (c : List ℕ) : Type 0 where

@@ -6,7 +6,7 @@ use Rattle.std.specs.Option.{option_map}
 use Rattle.std.proofs.lemmas.Bool.{and_parts}
 use Rattle.std.proofs.lemmas.Bool.Decides.{Decides-ltb, nat_tests}
 use Rattle.blob_device.specs.declared.blob_log.Call.{Call}
-use Rattle.blob_device.specs.Disk.{Key, Blob, settled_at, shortest, longest, least, greatest, AreBytes, HoldsBytes, PastAgrees, MayLeave, reads, begun}
+use Rattle.blob_device.specs.Disk.{Key, Blob, settled_at, shortest, longest, least, greatest, AreBytes, HoldsBytes, PastAgrees, AbsentIsNothing, MayLeave, reads, begun}
 use Rattle.blob_device.specs.Change.{Change, Make, Write, Resize, Settle, Remove, Look, during, written, resized}
 use Rattle.blob_device.specs.Timeline.{disk}
 use Rattle.blob_device.specs.Opened.{Opened}
@@ -196,3 +196,6 @@ as_read tracks n k sound = subst (λ (b : Blob). MayLeave b (reads b)) (sym (dis
 
 pub past_agrees : (tracks : Key → Track) (n : ℕ) (k : Key) → IsSound n (tracks k) → PastAgrees (disk (timeline_of tracks n) k)
 past_agrees tracks n k sound = subst PastAgrees (sym (disk_now tracks n k sound)) (agrees_now (tracks k))
+
+pub absent : (tracks : Key → Track) (n : ℕ) (k : Key) → IsSound n (tracks k) → AbsentIsNothing (disk (timeline_of tracks n) k)
+absent tracks n k sound = subst AbsentIsNothing (sym (disk_now tracks n k sound)) sound.absent

@@ -2,7 +2,8 @@ use Rattle.std.proofs.Common.{◌≡◌, ◌+◌, ◌≤◌, ap, arith, inr, sub
 use Rattle.blob_device.specs.declared.error.DevError.TheVariants.{Mem, Fault}
 use Rattle.blob_device.specs.Counts.{next}
 use Rattle.blob_device.specs.Disk.{Key}
-use Rattle.blob_device.specs.Calls.{change_of}
+use Rattle.blob_device.specs.Calls.{change_of, FindsBlob}
+use Rattle.blob_device.specs.Laws.{disk_now}
 use Rattle.blob_device.specs.Tracks.{tracks_of, Stepped}
 use Rattle.blob_device.proofs.Logged.{made_ok, made_err, made_opened, made_sound, made_leaves, unmade, unmade_leaves, mem_leaves}
 use Rattle.blob_device.proofs.Results.{err_of}
@@ -19,7 +20,7 @@ invariant_of-self c =
     let step = subst (λ (p : List ℕ). OnOk c.step_at.result (Stepped (p, c.args.name.now) c.begin-turn.result.number (change_of c.args.step) c.begin-turn.result.failed (tracks_of c.begin-turn.new.self.logs) (tracks_of c.step_at.new.logs))) c.as_bytes.ensures.value c.step_at.ensures.ok in
     record {
       sound = made_sound (tracks_of before.logs) (tracks_of c.begin-turn.new.self.logs) (tracks_of c.step_at.new.logs) before.count c.begin-turn.result.number c.begin-turn.new.self.count k (change_of c.args.step) c.begin-turn.result.failed
-          before.sound (ap tracks_of c.begin-turn.ensures.logs) c.begin-turn.ensures.number after c.step_at.result c.requires step c.step_at.ensures.err;
+          before.sound (ap tracks_of c.begin-turn.ensures.logs) c.begin-turn.ensures.number after c.step_at.result c.requires.bytes (subst (FindsBlob (change_of c.args.step)) (disk_now (tracks_of before.logs) before.count k (before.sound k)) c.requires.there) step c.step_at.ensures.err;
     }
 
 pub returns-in_err-step_at-clause-counts : goal.returns-in_err-step_at-clause-counts
