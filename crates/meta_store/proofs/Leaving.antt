@@ -1,18 +1,18 @@
 -- How what a crash leaves of each blob by itself makes what it leaves of a map.
 use Rattle.std.proofs.Common.{◌≡◌, ◌⊎◌, inl, inr, ℕ, ◌<◌, ◌≤◌, Bool, true, false, List, [], ◌∷◌, length, get_or, Result, Ok, Option, Some, None, refl, sym, ◌∙◌, ap, subst, arith}
 use Rattle.std.proofs.lemmas.List.{ext_get_or}
-use Rattle.std.specs.List.{AllByRecursion}
 use Rattle.blob_device.specs.Disk.{Blob, Disk, MayHold, MayLeave, past, settled_at, nothing}
-use Rattle.blob_device.specs.Change.{Remove, during, FailedTo}
+use Rattle.blob_device.specs.Change.{Remove, during}
 use Rattle.meta_store.specs.declared.copy.CopyText.{CopyText}
 use Rattle.meta_store.specs.declared.copy.CopyText.TheVariants.{Absent, Refused, Whole}
 use Rattle.meta_store.specs.declared.error.Side.{Side}
 use Rattle.meta_store.specs.declared.error.Side.TheVariants.{Left, Right}
 use Rattle.meta_store.specs.declared.pair.Chosen.{Chosen}
 use Rattle.meta_store.specs.Format.{Format}
-use Rattle.meta_store.specs.Copies.{ReadsAs, IsAbsentBy}
+use Rattle.meta_store.specs.Copies.{ReadsAs}
 use Rattle.meta_store.specs.Blobs.{blob_of, bytes_of, other_side}
 use Rattle.meta_store.specs.Pairs.{HoldMap}
+use Rattle.meta_store.specs.Removing.{Removes, as_before, begun, unseen, gone}
 use Rattle.meta_store.specs.Crashes.{NoChanceSeal, Keeps, HoldEither}
 use Rattle.meta_store.proofs.Choices.{chosen_on, hold_on, holds_on}
 use Rattle.meta_store.proofs.Sealing.{empty_absent}
@@ -22,13 +22,12 @@ pub settled_content : (c c' : List ℕ) → MayHold (settled_at c) c' → c' ≡
 settled_content c c' hold = ext_get_or 0 c' c (omega (arith, hold.no_shorter, hold.no_longer)) (λ i lt. hold.kept i (omega (arith, lt, hold.no_longer)) tt)
 
 module _ {K V : Type 0} (f : Format K V) where
-  -- Each crash leaves a text of which T holds. And where no crash leaves the blob, no content of it had a copy.
+  -- each crash leaves a text of which T holds
   pub record LeavesText (T : CopyText K V → Type 0) (b : Blob) : Type 0 where
     pub crash : (left : Option (List ℕ)) → MayLeave b left → NoChanceSeal f.seal (past b) (bytes_of left) → (t : CopyText K V) × ReadsAs f (bytes_of left) t × T t
-    pub gone : b.there ≡ false → b.unsure ≡ false → AllByRecursion (IsAbsentBy f.seal) (past b)
 
   pub settled_leaves : (c : List ℕ) (t : CopyText K V) (T : CopyText K V → Type 0) → ReadsAs f c t → T t → LeavesText T (settled_at c)
-  settled_leaves c t T reads here = record { crash = left; gone = λ there. absurd (cc there) }
+  settled_leaves c t T reads here = record { crash = left }
     where
       left : (l : Option (List ℕ)) → MayLeave (settled_at c) l → NoChanceSeal f.seal (past (settled_at c)) (bytes_of l) → (x : CopyText K V) × ReadsAs f (bytes_of l) x × T x
       left None may none = absurd (cc may)
@@ -37,7 +36,6 @@ module _ {K V : Type 0} (f : Format K V) where
   pub leaves_weaker : (T U : CopyText K V → Type 0) (b : Blob) → ((t : CopyText K V) → T t → U t) → LeavesText T b → LeavesText U b
   leaves_weaker T U b weaker leaves = record {
     crash = λ l may none. let x = leaves.crash l may none in (x.0, x.1, weaker x.0 x.2);
-    gone = leaves.gone;
   }
 
   -- what is chosen of each two texts holds the one map or the other
@@ -58,24 +56,14 @@ module _ {K V : Type 0} (f : Format K V) where
         let y = theirs.crash r may_r none_r in
         let c = choose x.0 y.0 x.2 y.2 in
         hold_one Left (bytes_of l) (bytes_of r) one other x.0 y.0 c.0 x.1 y.1 c.1 c.2;
-    gone = each;
   }
-    where
-      each : (s : Side) → (d (blob_of p s)).there ≡ false → (d (blob_of p s)).unsure ≡ false → AllByRecursion (IsAbsentBy f.seal) (past (d (blob_of p s)))
-      each Left = mine.gone
-      each Right = theirs.gone
   keeps_of p Right one other T U d mine theirs choose = record {
     crash = λ l r may_l may_r none_l none_r.
         let x = mine.crash r may_r none_r in
         let y = theirs.crash l may_l none_l in
         let c = choose x.0 y.0 x.2 y.2 in
         hold_one Right (bytes_of r) (bytes_of l) one other x.0 y.0 c.0 x.1 y.1 c.1 c.2;
-    gone = each;
   }
-    where
-      each : (s : Side) → (d (blob_of p s)).there ≡ false → (d (blob_of p s)).unsure ≡ false → AllByRecursion (IsAbsentBy f.seal) (past (d (blob_of p s)))
-      each Left = theirs.gone
-      each Right = mine.gone
 
 -- a blob that held these bytes, while it is removed
 pub data Goes (c : List ℕ) (b : Blob) : Type 0 where
@@ -83,16 +71,15 @@ pub data Goes (c : List ℕ) (b : Blob) : Type 0 where
   going : (there : Bool) → b ≡ record (settled_at c) { there = there; unsure = true } → Goes c b
   went : b ≡ nothing → Goes c b
 
-pub goes_during : (c : List ℕ) (b : Blob) → b ≡ settled_at c → Goes c (during Remove b)
-goes_during c b is = going true (ap (during Remove) is)
-
-pub goes_failed : (c : List ℕ) (b new : Blob) → b ≡ settled_at c → FailedTo Remove b new → Goes c new
-goes_failed c b new is (inl same) = going true (same ∙ ap (during Remove) is)
-goes_failed c b new is (inr same) = going false (same ∙ ap (λ (x : Blob). record (during Remove x) { there = false }) is)
+pub goes_of : (c : List ℕ) (old b : Blob) → old ≡ settled_at c → Removes old b → Goes c b
+goes_of c old b is (as_before same) = stays (same ∙ is)
+goes_of c old b is (begun same) = going true (same ∙ ap (during Remove) is)
+goes_of c old b is (unseen same) = going false (same ∙ ap (λ (x : Blob). record (during Remove x) { there = false }) is)
+goes_of c old b is (gone same) = went same
 
 -- what is not there leaves nothing
 pub nothing_leaves : {K V : Type 0} (f : Format K V) → LeavesText f (λ x. x ≡ Absent) nothing
-nothing_leaves {K = K} {V = V} f = record { crash = left; gone = λ no sure. (empty_absent f.seal, tt) }
+nothing_leaves {K = K} {V = V} f = record { crash = left }
   where
     left : (l : Option (List ℕ)) → MayLeave nothing l → NoChanceSeal f.seal (past nothing) (bytes_of l) → (x : CopyText K V) × ReadsAs f (bytes_of l) x × (x ≡ Absent)
     left None may none = (Absent, empty_absent f.seal, refl)
@@ -104,7 +91,7 @@ OrAbsent t x = (x ≡ t) ⊎ (x ≡ Absent)
 
 pub goes_leaves : {K V : Type 0} (f : Format K V) (c : List ℕ) (t : CopyText K V) (b : Blob) → ReadsAs f c t → Goes c b → LeavesText f (OrAbsent t) b
 goes_leaves f c t b reads (stays is) = subst (LeavesText f (OrAbsent t)) (sym is) (settled_leaves f c t (OrAbsent t) reads (inl refl))
-goes_leaves {K = K} {V = V} f c t b reads (going there is) = subst (LeavesText f (OrAbsent t)) (sym is) (record { crash = left; gone = λ no unsure. absurd (cc unsure) })
+goes_leaves {K = K} {V = V} f c t b reads (going there is) = subst (LeavesText f (OrAbsent t)) (sym is) (record { crash = left })
   where
     held : Blob
     held = record (settled_at c) { there = there; unsure = true }

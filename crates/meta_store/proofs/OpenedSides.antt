@@ -19,6 +19,24 @@ removed_others p side k old new key (inr is) q l r = left_other new old k q is (
 pub others_then : (p : List ℕ) (a b c : OpenedList) → OthersOpened p a b → OthersOpened p b c → OthersOpened p a c
 others_then p a b c first second q l r = second q l r ∙ first q l r
 
+-- an entry is as it was, or gone
+abbrev pub Listed : List ℕ → OpenedList → OpenedList → Type 0
+Listed p old new = (s : Side) → (new (blob_of p s) ≡ old (blob_of p s)) ⊎ (new (blob_of p s) ≡ None)
+
+pub removed_listed : (p : List ℕ) (side : Side) (k : Key) (old new : OpenedList) → k ≡ blob_of p side → (new ≡ old) ⊎ (new ≡ left old k) → Listed p old new
+removed_listed p side k old new key (inl same) s = inl (ap (λ (o : OpenedList). o (blob_of p s)) same)
+removed_listed p side k old new key (inr is) s = both_sides p side s (λ q. (new q ≡ old q) ⊎ (new q ≡ None))
+    (inr (subst (λ (q : Key). new q ≡ None) key (ap (λ (o : OpenedList). o k) is ∙ put_same old k None)))
+    (inl (left_other new old k (blob_of p (other_side side)) is (λ e. sides_apart p side (e ∙ key))))
+
+pub listed_then : (p : List ℕ) (a b c : OpenedList) → Listed p a b → Listed p b c → Listed p a c
+listed_then p a b c first second s = then (first s) (second s)
+  where
+    then : (b (blob_of p s) ≡ a (blob_of p s)) ⊎ (b (blob_of p s) ≡ None) → (c (blob_of p s) ≡ b (blob_of p s)) ⊎ (c (blob_of p s) ≡ None) → (c (blob_of p s) ≡ a (blob_of p s)) ⊎ (c (blob_of p s) ≡ None)
+    then x (inr none) = inr none
+    then (inl same) (inl stays) = inl (stays ∙ same)
+    then (inr none) (inl stays) = inr (stays ∙ none)
+
 -- both entries are gone
 pub both_left : (p : List ℕ) (side : Side) (k l : Key) (a b c : OpenedList) → k ≡ blob_of p side → l ≡ blob_of p (other_side side) → b ≡ left a k → c ≡ left b l → (s : Side) → c (blob_of p s) ≡ None
 both_left p side k l a b c key key' first second s = both_sides p side s (λ q. c q ≡ None) mine theirs

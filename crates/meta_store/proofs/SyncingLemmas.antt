@@ -98,7 +98,7 @@ module _ {K V : Type 0} (f : Format K V) where
   IsWriting text version entries = Sealed (λ i. ⊥) (λ i. 0) (ReadsNext text version entries)
 
   writing_leaves : ((l : List ℕ) → f.seal l < 2 ^ 32) → (text : CopyText K V) (version : ℕ) (entries : List (K × V)) (b : Blob) → IsWriting text version entries b → LeavesText f (Next text version entries) b
-  writing_leaves fits text version entries b s = record { crash = left; gone = λ no. absurd (cc (no, s.guards.there)) }
+  writing_leaves fits text version entries b s = record { crash = left }
     where
       left : (l : Option (List ℕ)) → MayLeave b l → NoChanceSeal f.seal (past b) (bytes_of l) → (t : CopyText K V) × ReadsAs f (bytes_of l) t × Next text version entries t
       left None may none = let unsure : b.unsure ≡ true = sym (ap (λ (t : Bool). not t || b.unsure) s.guards.there) ∙ may in absurd (cc (unsure, s.guards.sure))

@@ -27,3 +27,7 @@ read_bytes b = bytes_of (reads b)
 -- every blob but the two is as on the disk `from`
 abbrev pub OthersStay : List ℕ → Disk → Disk → Type 0
 OthersStay partition from d = (q : Key) → q ≢ blob_of partition Left → q ≢ blob_of partition Right → d q ≡ from q
+
+-- every blob but the one of this side is as on the disk `from`
+abbrev pub OnlyOne : List ℕ → Side → Disk → Disk → Type 0
+OnlyOne partition side from d = (q : Key) → q ≢ blob_of partition side → d q ≡ from q

@@ -1,5 +1,5 @@
 -- What the calls of a map leave of the list of opened blobs, and the answers that say nothing of the map.
-use Rattle.std.specs.Prelude.{◌≡◌, ◌≢◌, ◌⊎◌, ℕ, List, Result, Err, IsSome}
+use Rattle.std.specs.Prelude.{◌≡◌, ◌≢◌, ◌⊎◌, ℕ, zero, suc, List, Result, Err, IsSome}
 use Rattle.blob_device.specs.Disk.{Key}
 use Rattle.blob_device.specs.Opened.{OpenedList, reads_of}
 use Rattle.blob_device.specs.Counts.{Rose, next}
@@ -30,3 +30,8 @@ ReadAtMostOnce k old new = (reads_of (new k) ≡ reads_of (old k)) ⊎ (reads_of
 -- the two answers that say nothing of the map: want of memory, and a fault of the device, whose count rose
 abbrev pub GaveUp : {T : Type 0} → Result T Error → ℕ → ℕ → Type 0
 GaveUp result before now = (result ≡ Err Mem) ⊎ ((result ≡ Err (Runtime Fault)) × Rose before now)
+
+-- the device was called no more often than this
+abbrev pub CalledAtMost : ℕ → ℕ → ℕ → Type 0
+CalledAtMost zero before now = now ≡ before
+CalledAtMost (suc n) before now = (now ≡ before) ⊎ CalledAtMost n (next before) now

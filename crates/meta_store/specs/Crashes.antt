@@ -1,12 +1,10 @@
 -- What a crash leaves of a map in two copies.
-use Rattle.std.specs.Prelude.{◌≡◌, ◌⊎◌, ℕ, false, List, [], ◌∷◌, take, Option}
-use Rattle.std.specs.List.{AllByRecursion}
+use Rattle.std.specs.Prelude.{◌≡◌, ◌⊎◌, ℕ, List, [], ◌∷◌, take, Option}
 use Rattle.blob_device.specs.Disk.{Key, Blob, Disk, past, reads, MayLeave}
 use Rattle.blob_device.specs.Timeline.{Timeline, disk, Always}
-use Rattle.meta_store.specs.declared.error.Side.{Side}
 use Rattle.meta_store.specs.declared.error.Side.TheVariants.{Left, Right}
 use Rattle.meta_store.specs.Format.{Format}
-use Rattle.meta_store.specs.Copies.{IsSealedAs, IsAbsentBy, copy_length}
+use Rattle.meta_store.specs.Copies.{IsSealedAs, copy_length}
 use Rattle.meta_store.specs.Pairs.{HoldMap}
 use Rattle.meta_store.specs.Blobs.{blob_of, bytes_of, OthersStay}
 
@@ -34,14 +32,11 @@ module _ {K V : Type 0} (f : Format K V) (partition : List ℕ) where
   abbrev pub HoldEither : List (K × V) → List (K × V) → List ℕ → List ℕ → Type 0
   HoldEither one other left right = HoldMap f left right one ⊎ HoldMap f left right other
 
-  -- Whatever a crash leaves of the two blobs holds the one map or the other, a chance seal aside. And of a blob that no crash
-  -- leaves, no earlier content had a sealed copy, so that none comes back while it is made again.
+  -- whatever a crash leaves of the two blobs holds the one map or the other, a chance seal aside
   pub record Keeps (one other : List (K × V)) (d : Disk) : Type 0 where
     pub crash : (left right : Option (List ℕ)) → MayLeave (d (blob_of partition Left)) left → MayLeave (d (blob_of partition Right)) right
         → NoChanceSeal f.seal (past (d (blob_of partition Left))) (bytes_of left) → NoChanceSeal f.seal (past (d (blob_of partition Right))) (bytes_of right)
         → HoldEither one other (bytes_of left) (bytes_of right)
-    pub gone : (side : Side) → (d (blob_of partition side)).there ≡ false → (d (blob_of partition side)).unsure ≡ false
-        → AllByRecursion (IsAbsentBy f.seal) (past (d (blob_of partition side)))
 
   -- that, and every other blob is as on the disk `from`
   pub record KeepsAlone (one other : List (K × V)) (from d : Disk) : Type 0 where
@@ -51,7 +46,3 @@ module _ {K V : Type 0} (f : Format K V) (partition : List ℕ) where
   -- at each moment, also inside calls of the device
   abbrev pub Mapping : List (K × V) → List (K × V) → Timeline → Timeline → Type 0
   Mapping one other old new = Always old new (KeepsAlone one other (disk old))
-
--- no other blob changes at any moment
-abbrev pub Alone : List ℕ → Timeline → Timeline → Type 0
-Alone partition old new = Always old new (OthersStay partition (disk old))

@@ -25,7 +25,7 @@ pub data Opens (old b : Blob) : Type 0 where
   made : b ≡ record (during Make old) { there = true } → Opens old b
   settled : b ≡ settled_at (read_bytes old) → Opens old b
 
--- both blobs are being opened, the left one first, and every other blob is as on the disk `from`
+-- Both blobs are being opened, the left one first, and every other blob is as on the disk `from`.
 pub record Opening (partition : List ℕ) (from d : Disk) : Type 0 where
   pub left : Opens (from (blob_of partition Left)) (d (blob_of partition Left))
   pub right : Opens (from (blob_of partition Right)) (d (blob_of partition Right))

@@ -2,6 +2,7 @@
 ghost use Rattle.std.specs.Prelude.{◌≡◌, ◌≢◌, ◌≤◌, ◌<◌, ◌+◌, ◌^◌, ◌⊎◌, ◌↔◌, ◌||◌, cond, nat_lt, length, List, Ok, Err, OnOk, OnErr, IfOk, IfSome, IsOk, OnSome, IfNone, Bool, true, false, ℕ, IsTrue};
 ghost use Rattle.std.specs.Option.{option_copied, option_copied_mut};
 ghost use Rattle.std.specs.Map.{keys_of};
+ghost use Rattle.std.specs.List.Sorted.{IsStrictlySortedBy};
 ghost use Rattle.std.specs.BTreeMap.{insert_entry};
 ghost use Rattle.blob_device.specs.Timeline.{disk};
 ghost use Rattle.blob_device.specs.Disk.{Disk};
@@ -28,17 +29,6 @@ pub struct Config<C> {
     pub partition: String,
     /// What the decoder of the values needs to know.
     pub codec_config: C,
-}
-
-impl<C> Config<C> {
-    ghost use Rattle.std.specs.Prelude.{string_len};
-
-    /// Whether the partition has a name. It takes no memory.
-    pub fn is_valid(&self) -> bool
-        ensures { IsTrue result ↔ (0 < string_len self.now.partition) }
-    {
-        !self.partition.is_empty()
-    }
 }
 
 /// A map that is kept in two copies on a device.
@@ -72,7 +62,8 @@ impl<K: Key, V: Codec, S: Seal> Metadata<K, V, S> {
 
     /// The keys, in ascending order. It takes no memory.
     pub fn keys(&self) -> KeyIter<'_, K, V>
-        ensures { result.inner ≡ keys_of (shown self.now).entries }
+        ensures keys { result.inner ≡ keys_of (shown self.now).entries }
+        ensures ascending { IsStrictlySortedBy K.cmp result.inner }
     {
         KeyIter::over(self.entries.keys())
     }

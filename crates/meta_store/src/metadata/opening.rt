@@ -10,9 +10,9 @@ ghost use Rattle.blob_device.specs.Counts.{Rose, next};
 ghost use Rattle.meta_store.specs.declared.error.Side.TheVariants.{Left, Right};
 ghost use Rattle.meta_store.specs.Format.{format_of};
 ghost use Rattle.meta_store.specs.Blobs.{blob_of, read_bytes, name_of, bytes_of};
-ghost use Rattle.meta_store.specs.Crashes.{Keeps, Mapping, Alone, ReadsNoChance};
-ghost use Rattle.meta_store.specs.Calls.{IsOpened, OthersOpened, NoReads, ReadAtMostOnce, GaveUp};
-ghost use Rattle.meta_store.specs.Opening.{PairOn, LeftFirst, Opening};
+ghost use Rattle.meta_store.specs.Crashes.{Keeps, Mapping, ReadsNoChance};
+ghost use Rattle.meta_store.specs.Calls.{IsOpened, OthersOpened, NoReads, ReadAtMostOnce, CalledAtMost, GaveUp};
+ghost use Rattle.meta_store.specs.Opening.{PairOn, Opening};
 
 use crate::metadata::{Config, Metadata};
 use crate::pair::{Chosen, choose};
@@ -43,16 +43,17 @@ impl<K: Key, V: Codec, S: Seal> Metadata<K, V, S> {
         ensures refused { D.Tells → (side : Side) → PairOn (format_of K.cmp K.key_bytes V.Codec S.Seal cfg.now.codec_config) (string_bytes cfg.now.partition) (disk (D.time dev.old)) (Err side)
             → (result ≡ Err (Error.Corruption side)) ⊎ GaveUp result (D.faults dev.old) (D.faults dev.new) }
 
-        // What a crash leaves at each moment, also where the call fails: what it left before.
+        // What a crash leaves at each moment, also where the call fails: what it left before. What the two blobs read as settles
+        // here, so it must have no chance seal. It has none where they had settled.
         ensures crashes { D.Tells → (one other : List _) → Keeps (format_of K.cmp K.key_bytes V.Codec S.Seal cfg.now.codec_config) (string_bytes cfg.now.partition) one other (disk (D.time dev.old))
             → ReadsNoChance S.seal_of (disk (D.time dev.old) (blob_of (string_bytes cfg.now.partition) Left)) → ReadsNoChance S.seal_of (disk (D.time dev.old) (blob_of (string_bytes cfg.now.partition) Right))
             → Mapping (format_of K.cmp K.key_bytes V.Codec S.Seal cfg.now.codec_config) (string_bytes cfg.now.partition) one other (D.time dev.old) (D.time dev.new) }
-        ensures alone { D.Tells → Alone (string_bytes cfg.now.partition) (D.time dev.old) (D.time dev.new) }
-        ensures order { D.Tells → Always (D.time dev.old) (D.time dev.new) (LeftFirst (string_bytes cfg.now.partition) (disk (D.time dev.old))) }
+        // What is done at each moment, also where the call fails.
+        ensures moments { D.Tells → Always (D.time dev.old) (D.time dev.new) (Opening (string_bytes cfg.now.partition) (disk (D.time dev.old))) }
+        ensures calls { CalledAtMost 4 (D.time dev.old).calls (D.time dev.new).calls }
 
         // How the map stands then.
         ensures stands { D.Tells → IfOk result (λ m. Stands (format_of K.cmp K.key_bytes V.Codec S.Seal cfg.now.codec_config) (shown m) (shown m).entries (disk (D.time dev.new))) }
-        ensures keeps { D.Tells → IfOk result (λ m. Keeps (format_of K.cmp K.key_bytes V.Codec S.Seal cfg.now.codec_config) (string_bytes cfg.now.partition) (shown m).entries (shown m).entries (disk (D.time dev.new))) }
         ensures storable { IfOk result (λ m. MayBeSynced (format_of K.cmp K.key_bytes V.Codec S.Seal cfg.now.codec_config) (shown m).entries) }
         ensures partition { IfOk result (λ m. (shown m).partition ≡ string_bytes cfg.now.partition) }
         ensures config { IfOk result (λ m. m.codec_config ≡ cfg.now.codec_config) }
@@ -122,6 +123,7 @@ fn open_copies<D: Device>(dev: &mut D, partition: &str) -> Result<(u64, u64), De
     ensures opened { IfOk result (λ n. D.opened dev.new ≡ entered (entered (D.opened dev.old) (blob_of partition.now Left) n.0) (blob_of partition.now Right) n.1) }
     ensures entries { OthersOpened partition.now (D.opened dev.old) (D.opened dev.new) }
     ensures reads { NoReads partition.now (D.opened dev.old) (D.opened dev.new) }
+    ensures calls { CalledAtMost 2 (D.time dev.old).calls (D.time dev.new).calls }
     ensures faults { D.faults dev.old ≤ D.faults dev.new }
     ensures cause { result ≡ Err DevError.Fault → Rose (D.faults dev.old) (D.faults dev.new) }
 {
@@ -143,6 +145,7 @@ fn load<D: Device>(
     ensures unchanged { D.Tells → Always (D.time dev.old) (D.time dev.new) (λ d. d ≡ disk (D.time dev.old)) }
     ensures opened { OnOk result (D.opened dev.new ≡ updated (D.opened dev.old) (blob_of partition.now side) one_more_read) }
     ensures opened_err { OnErr result ((D.opened dev.new ≡ D.opened dev.old) ⊎ (D.opened dev.new ≡ updated (D.opened dev.old) (blob_of partition.now side) one_more_read)) }
+    ensures calls { CalledAtMost 1 (D.time dev.old).calls (D.time dev.new).calls }
     ensures faults { D.faults dev.old ≤ D.faults dev.new }
     ensures cause { OnErr result (GaveUp result (D.faults dev.old) (D.faults dev.new)) }
 {
