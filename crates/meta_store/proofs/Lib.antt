@@ -9,6 +9,7 @@ pub mod OpenedSides
 pub mod OpeningLemmas
 pub mod Readings
 pub mod RemovingLemmas
+pub mod Reopening
 pub mod Sealing
 pub mod Sides
 pub mod StandingLemmas

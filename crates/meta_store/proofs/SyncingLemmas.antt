@@ -16,7 +16,7 @@ use Rattle.meta_store.specs.declared.error.Side.TheVariants.{Left, Right}
 use Rattle.meta_store.specs.declared.pair.Chosen.{Chosen}
 use Rattle.meta_store.specs.Format.{Format}
 use Rattle.meta_store.specs.Copies.{ReadsAs, IsMap, IsWholeAs, copy_bytes, body_bytes, copy_length}
-use Rattle.meta_store.specs.Blobs.{blob_of, bytes_of, other_side, OthersStay}
+use Rattle.meta_store.specs.Blobs.{blob_of, bytes_of, other_side, OnlyOne}
 use Rattle.meta_store.specs.Crashes.{NoChanceSeal, Keeps, KeepsAlone}
 use Rattle.meta_store.specs.Store.{Store, Stands}
 use Rattle.meta_store.proofs.Choices.{chosen_on, Is, Newer, newer_text, older_absent, older_next}
@@ -177,13 +177,13 @@ pub sync_wrote : {T U : Type 0} (k : Key) (bytes : List ℕ) (v : T) (w : U) (a 
 sync_wrote k bytes v w a b c write settle = ok_blob k Settle w b c settle ∙ ap (λ (x : Blob). settled_at x.content) (ok_blob k (Write 0 bytes) v a b write)
 
 -- no other blob changes
-pub write_alone : {T : Type 0} (p : List ℕ) (side : Side) (bytes : List ℕ) (r : Result T DevError) (a b : Timeline) → Passes (blob_of p side) (Write 0 bytes) r a b → Always a b (OthersStay p (disk a))
-write_alone p side bytes r a b write = always_weaker a b (OnlyAt (blob_of p side) (disk a) (λ x. Unit {0})) (OthersStay p (disk a)) (λ d only q left right. only.others q (neither p q side left right))
+pub write_alone : {T : Type 0} (p : List ℕ) (side : Side) (bytes : List ℕ) (r : Result T DevError) (a b : Timeline) → Passes (blob_of p side) (Write 0 bytes) r a b → Always a b (OnlyOne p side (disk a))
+write_alone p side bytes r a b write = always_weaker a b (OnlyAt (blob_of p side) (disk a) (λ x. Unit {0})) (OnlyOne p side (disk a)) (λ d only. only.others)
     (only_on a a b (blob_of p side) (disk a) (λ x. Unit {0}) (Write 0 bytes) r (only_start a (blob_of p side) (λ x. Unit {0}) tt) write tt tt)
 
 pub both_alone : {T U : Type 0} (p : List ℕ) (side : Side) (bytes : List ℕ) (q : Result T DevError) (r : Result U DevError) (a b c : Timeline) → Passes (blob_of p side) (Write 0 bytes) q a b → Passes (blob_of p side) Settle r b c
-    → Always a c (OthersStay p (disk a))
-both_alone p side bytes q r a b c write settle = always_weaker a c (OnlyAt (blob_of p side) (disk a) (λ x. Unit {0})) (OthersStay p (disk a)) (λ d only k left right. only.others k (neither p k side left right))
+    → Always a c (OnlyOne p side (disk a))
+both_alone p side bytes q r a b c write settle = always_weaker a c (OnlyAt (blob_of p side) (disk a) (λ x. Unit {0})) (OnlyOne p side (disk a)) (λ d only. only.others)
     (only_on a b c (blob_of p side) (disk a) (λ x. Unit {0}) Settle r
         (only_on a a b (blob_of p side) (disk a) (λ x. Unit {0}) (Write 0 bytes) q (only_start a (blob_of p side) (λ x. Unit {0}) tt) write tt tt) settle tt tt)
 

@@ -1,9 +1,9 @@
-use Rattle.std.proofs.Common.{List, subst}
-use Rattle.std.specs.Result.{IfOk, OnOk}
+use Rattle.std.proofs.Common.{subst}
+use Rattle.std.specs.Result.{IfOk}
 use Rattle.std.specs.BTreeMap.{insert_entry}
 use Rattle.blob_device.specs.Timeline.{Always, disk}
 use Rattle.meta_store.specs.Format.{format_of}
-use Rattle.meta_store.specs.Crashes.{Keeps, KeepsAlone}
+use Rattle.meta_store.specs.Crashes.{KeepsAlone}
 use Rattle.meta_store.specs.Store.{Store, Stands, shown}
 use Rattle.meta_store.proofs.SyncingLemmas.{stands_alone}
 use Rattle.meta_store.proofs.metadata.Metadata.put_sync.Goals as goal
@@ -24,11 +24,4 @@ returns-clause-stands g c t synced stands =
     let put = shown c.put.new.self in
     subst (λ (u : Store g.row.K.Denot g.row.V.Denot). IfOk c.sync.result (λ m. Stands (format_of g.K.Ord.cmp g.K.Key.key_bytes g.V.Codec g.S.Seal c.args.self.codec_config) (shown m) u.entries (disk (g.D.Device.time c.sync.new.dev)))) c.in_ok-put.ensures.ok
     (subst (λ (cfg : g.row.V-Cfg.Denot). Stands (format_of g.K.Ord.cmp g.K.Key.key_bytes g.V.Codec g.S.Seal cfg) put synced (disk (g.D.Device.time c.args.dev.now)) → IfOk c.sync.result (λ m. Stands (format_of g.K.Ord.cmp g.K.Key.key_bytes g.V.Codec g.S.Seal cfg) (shown m) put.entries (disk (g.D.Device.time c.sync.new.dev)))) c.put.ensures.config (c.sync.ensures.stands t synced)
-        (c.put.ensures.stands synced (disk (g.D.Device.time c.args.dev.now)) stands))
-
-pub returns-clause-keeps : goal.returns-clause-keeps
-returns-clause-keeps g c t synced stands =
-    let put = shown c.put.new.self in
-    subst (λ (u : Store g.row.K.Denot g.row.V.Denot). OnOk c.sync.result (Keeps (format_of g.K.Ord.cmp g.K.Key.key_bytes g.V.Codec g.S.Seal c.args.self.codec_config) u.partition u.entries u.entries (disk (g.D.Device.time c.sync.new.dev)))) c.in_ok-put.ensures.ok
-    (subst (λ (cfg : g.row.V-Cfg.Denot). Stands (format_of g.K.Ord.cmp g.K.Key.key_bytes g.V.Codec g.S.Seal cfg) put synced (disk (g.D.Device.time c.args.dev.now)) → OnOk c.sync.result (Keeps (format_of g.K.Ord.cmp g.K.Key.key_bytes g.V.Codec g.S.Seal cfg) put.partition put.entries put.entries (disk (g.D.Device.time c.sync.new.dev)))) c.put.ensures.config (c.sync.ensures.keeps t synced)
         (c.put.ensures.stands synced (disk (g.D.Device.time c.args.dev.now)) stands))

@@ -1,12 +1,11 @@
-use Rattle.std.proofs.Common.{◌≡◌, ◌+◌, ◌<◌, false, List, length, Ok, refl, sym, ◌∙◌, ap, subst, arith, rules}
+use Rattle.std.proofs.Common.{◌+◌, false, length, Ok, refl, ◌∙◌, ap, arith}
 use Rattle.blob_device.specs.Timeline.{disk}
 use Rattle.meta_store.specs.Format.{format_of}
 use Rattle.meta_store.specs.Blobs.{blob_of, other_side}
 use Rattle.meta_store.specs.Copies.{copy_bytes, body_bytes}
-use Rattle.meta_store.specs.Crashes.{Keeps}
 use Rattle.meta_store.specs.Store.{shown}
 use Rattle.meta_store.proofs.Sides.{stands_on}
-use Rattle.meta_store.proofs.SyncingLemmas.{stands_alone, stands_keeps, stands_by, write_crashes, both_crashes, then_stands, write_alone, both_alone, sync_wrote, write_at_side, settle_at_side}
+use Rattle.meta_store.proofs.SyncingLemmas.{stands_alone, stands_by, write_crashes, both_crashes, then_stands, write_alone, both_alone, sync_wrote, write_at_side, settle_at_side}
 use Rattle.meta_store.proofs.OpenedSides.{grew_at, grew_partly, grew_then, grew_opened, grew_others, grew_reads, opened_at}
 use Rattle.meta_store.proofs.metadata.Metadata.sync.Goals as goal
 
@@ -15,12 +14,6 @@ returns-then-not-self-clause-crashes g c t synced stands =
     let f = format_of g.K.Ord.cmp g.K.Key.key_bytes g.V.Codec g.S.Seal c.args.self.codec_config in
     let u = shown c.args.self in
     stands_alone f u synced u.entries (g.D.Device.time c.args.dev.now) stands
-
-pub returns-then-not-self-clause-keeps : goal.returns-then-not-self-clause-keeps
-returns-then-not-self-clause-keeps g c t synced stands =
-    let f = format_of g.K.Ord.cmp g.K.Key.key_bytes g.V.Codec g.S.Seal c.args.self.codec_config in
-    let u = shown c.args.self in
-    subst (λ (es : List (g.row.K.Denot × g.row.V.Denot)). Keeps f u.partition es u.entries (disk (g.D.Device.time c.args.dev.now))) (sym (stands.fresh c.if-not-self.true)) (stands_keeps f u synced u.entries (disk (g.D.Device.time c.args.dev.now)) stands)
 
 pub returns-then-self-clause-crashes : goal.returns-then-self-clause-crashes
 returns-then-self-clause-crashes g c t synced stands =
@@ -107,12 +100,6 @@ returns-clause-stands g c t synced stands =
     let f = format_of g.K.Ord.cmp g.K.Key.key_bytes g.V.Codec g.S.Seal c.args.self.codec_config in
     let u = shown c.args.self in
     stands_by f (record u { version = c.args.self.version + 1; older = c.other-this.result; staged = false }) u.entries (disk (g.D.Device.time c.sync.new.self)) (other_side u.older) (then_stands f u.partition u.older u.version synced c.args.self.entries.entries (g.D.Device.time c.args.dev.now) (stands_on f u synced (disk (g.D.Device.time c.args.dev.now)) stands) g.met.S.Seal.fits (omega (arith, c.if-self.false, c.well_formed)) (omega (arith, ap length c.in_ok-copy.ensures.copy, c.in_ok-copy.copy.small)) c.in_ok-copy.ensures.map c.in_ok-write_at.field-0 c.in_ok-sync.field-0 (g.D.Device.time c.write_at.new.self) (g.D.Device.time c.sync.new.self) (write_at_side u.partition u.older _ c.deref.result.now (copy_bytes g.S.Seal.seal_of (c.args.self.version + 1) 1 (body_bytes g.K.Key.key_bytes g.V.Codec.spelling c.args.self.entries.entries)) (Ok c.in_ok-write_at.field-0) (g.D.Device.time c.args.dev.now) (g.D.Device.time c.write_at.new.self) (λ i. (c.as_str.ensures.value i, c.name.ensures i)) (c.deref.ensures.value ∙ c.in_ok-copy.ensures.copy) (c.in_ok-write_at.ensures.told t)) (settle_at_side u.partition u.older _ (Ok c.in_ok-sync.field-0) (g.D.Device.time c.write_at.new.self) (g.D.Device.time c.sync.new.self) (λ i. (c.as_str-2.ensures.value i, c.name-2.ensures i)) (c.in_ok-sync.ensures.told t))) c.other-this.ensures (λ e. refl)
-
-pub returns-clause-keeps : goal.returns-clause-keeps
-returns-clause-keeps g c t synced stands =
-    let f = format_of g.K.Ord.cmp g.K.Key.key_bytes g.V.Codec g.S.Seal c.args.self.codec_config in
-    let u = shown c.args.self in
-    stands_keeps f (record u { version = c.args.self.version + 1; older = c.other-this.result; staged = false }) u.entries u.entries (disk (g.D.Device.time c.sync.new.self)) (stands_by f (record u { version = c.args.self.version + 1; older = c.other-this.result; staged = false }) u.entries (disk (g.D.Device.time c.sync.new.self)) (other_side u.older) (then_stands f u.partition u.older u.version synced c.args.self.entries.entries (g.D.Device.time c.args.dev.now) (stands_on f u synced (disk (g.D.Device.time c.args.dev.now)) stands) g.met.S.Seal.fits (omega (arith, c.if-self.false, c.well_formed)) (omega (arith, ap length c.in_ok-copy.ensures.copy, c.in_ok-copy.copy.small)) c.in_ok-copy.ensures.map c.in_ok-write_at.field-0 c.in_ok-sync.field-0 (g.D.Device.time c.write_at.new.self) (g.D.Device.time c.sync.new.self) (write_at_side u.partition u.older _ c.deref.result.now (copy_bytes g.S.Seal.seal_of (c.args.self.version + 1) 1 (body_bytes g.K.Key.key_bytes g.V.Codec.spelling c.args.self.entries.entries)) (Ok c.in_ok-write_at.field-0) (g.D.Device.time c.args.dev.now) (g.D.Device.time c.write_at.new.self) (λ i. (c.as_str.ensures.value i, c.name.ensures i)) (c.deref.ensures.value ∙ c.in_ok-copy.ensures.copy) (c.in_ok-write_at.ensures.told t)) (settle_at_side u.partition u.older _ (Ok c.in_ok-sync.field-0) (g.D.Device.time c.write_at.new.self) (g.D.Device.time c.sync.new.self) (λ i. (c.as_str-2.ensures.value i, c.name-2.ensures i)) (c.in_ok-sync.ensures.told t))) c.other-this.ensures (λ e. refl))
 
 pub returns-clause-wrote : goal.returns-clause-wrote
 returns-clause-wrote g c t staged =
