@@ -7,6 +7,8 @@ pub mod Inserting
 pub mod Leaving
 pub mod OpenedSides
 pub mod OpeningLemmas
+pub mod OpeningPair
+pub mod OpeningReads
 pub mod Readings
 pub mod RemovingLemmas
 pub mod Reopening

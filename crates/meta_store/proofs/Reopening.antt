@@ -1,5 +1,5 @@
 -- What a crash leaves while the two blobs are opened reads as something that a crash left before.
-use Rattle.std.proofs.Common.{◌≡◌, ◌⊎◌, inl, inr, ℕ, ◌≤◌, min, max, Bool, true, false, not, ◌||◌, cond, List, [], ◌∷◌, ◌++◌, length, take, Option, Some, None, refl, sym, ◌∙◌, ap, subst, arith}
+use Rattle.std.proofs.Common.{◌≡◌, ◌⊎◌, inl, inr, ℕ, ◌<◌, ◌≤◌, ◌^◌, min, max, Bool, true, false, not, ◌||◌, cond, List, [], ◌∷◌, ◌++◌, length, take, Option, Some, None, refl, sym, ◌∙◌, ap, subst, arith}
 use Rattle.std.specs.List.{AllByRecursion}
 use Rattle.blob_device.specs.Disk.{Blob, Disk, HoldsBytes, PastAgrees, Agrees, AreBytes, AbsentIsNothing, MayHold, MayLeave, reads, past, least, greatest, shortest, longest, settled_at, nothing}
 use Rattle.blob_device.specs.Change.{Make, during}
