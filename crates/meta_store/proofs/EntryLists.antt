@@ -11,7 +11,6 @@ use Rattle.meta_store.proofs.Texts.{take_two}
 use Rattle.meta_store.proofs.Ascending.{sorted_front, keys_append, all_last}
 
 module _ {K V : Type 0} (f : Format K V) where
-
   -- these entries are some that were read, and others that the bytes from a place on spell
   pub record GoesOn (bytes : List ℕ) (items : List (K × V)) (at : ℕ) (entries : List (K × V)) : Type 0 where
     pub rest : List (K × V)

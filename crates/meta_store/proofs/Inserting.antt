@@ -95,8 +95,7 @@ retained_from T answers f [] kept ran each = ran
 retained_from {F = F} {K = K} {V = V} T answers f (e ∷ es) kept ran each =
     let b = ran.0 in
     let rest = ran.3 in
-    let said = each e.0 e.1 b ran.1 ran.2 ran.4 in
-    (
+    let said = each e.0 e.1 b ran.1 ran.2 ran.4 in (
       b,
       rest,
       said.0,

@@ -171,10 +171,12 @@ module _ {K V : Type 0} (f : Format K V) where
     pub opening_keeps : (p : List ℕ) (one other : List (K × V)) (from : Disk) → IsLawful (from (blob_of p Left)) → IsLawful (from (blob_of p Right)) → Keeps f p one other from
         → ReadsNoChance f.seal (from (blob_of p Left)) → ReadsNoChance f.seal (from (blob_of p Right)) → (d : Disk) → Opening p from d → KeepsAlone f p one other from d
     opening_keeps p one other from lawful_l lawful_r keeps chance_l chance_r d opening = record {
-      keeps = record { crash = λ l r may_l may_r none_l none_r.
-          let x = by_opens (from (blob_of p Left)) (d (blob_of p Left)) lawful_l chance_l opening.left l may_l none_l in
-          let y = by_opens (from (blob_of p Right)) (d (blob_of p Right)) lawful_r chance_r opening.right r may_r none_r in
-          either x.left y.left l r x.alike y.alike (keeps.crash x.left y.left x.may y.may x.none y.none); };
+      keeps = record {
+        crash = λ l r may_l may_r none_l none_r.
+            let x = by_opens (from (blob_of p Left)) (d (blob_of p Left)) lawful_l chance_l opening.left l may_l none_l in
+            let y = by_opens (from (blob_of p Right)) (d (blob_of p Right)) lawful_r chance_r opening.right r may_r none_r in
+            either x.left y.left l r x.alike y.alike (keeps.crash x.left y.left x.may y.may x.none y.none);
+      };
       others = opening.others;
     }
       where

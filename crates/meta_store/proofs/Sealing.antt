@@ -60,7 +60,7 @@ sealed_or_absent seal fits c all = elim (cases_lt (length c) 21) [
             let x = from_be_bytes w32 (take 4 (drop (17 + len) c)) in
             let small_x : x < 2 ^ 32 = worth_4 (take 4 (drop (17 + len) c)) (λ i. small_part c (17 + len) 4 i all) in
             let is_x : to_be_bytes w32 x ≡ take 4 (drop (17 + len) c) =
-                be_bytes_4 (take 4 (drop (17 + len) c)) x (omega (arith, length-take 4 (drop (17 + len) c), length-drop (17 + len) c, room)) (λ i. small_part c (17 + len) 4 i all) refl in
+            be_bytes_4 (take 4 (drop (17 + len) c)) x (omega (arith, length-take 4 (drop (17 + len) c), length-drop (17 + len) c, room)) (λ i. small_part c (17 + len) 4 i all) refl in
             elim (cases_eq (seal (take (17 + len) c)) x) [
               | inl same ↦ inl (record { version = v; form = get_or c 8 0; body = take (17 + len - 17) (drop 17 c); is = sealed_found seal c v len x small_v small_len room is_v is_len is_x same })
               | inr other ↦ inr (absent_unsealed seal c len x small_len small_x fits is_len is_x other)

@@ -123,8 +123,12 @@ module _ {K V : Type 0} (f : Format K V) where
 
         either : ChooseEither f side synced entries (Next s.mine_text (version + 1) entries) (λ x. x ≡ s.theirs_text)
         either x y (inl is) is' = (_, ap (λ (t : CopyText K V). chosen_on side t y) is ∙ ap (λ (t : CopyText K V). chosen_on side s.mine_text t) is' ∙ s.is, inl refl)
-        either x y (inr (inl is)) is' = (_, ap (λ (t : CopyText K V). chosen_on side t y) is ∙ ap (λ (t : CopyText K V). chosen_on side (Whole (version + 1) 0 entries) t) is'
-            ∙ older_next side s.theirs_text version 0 synced entries newer, inr refl)
+        either x y (inr (inl is)) is' = (
+          _,
+          ap (λ (t : CopyText K V). chosen_on side t y) is ∙ ap (λ (t : CopyText K V). chosen_on side (Whole (version + 1) 0 entries) t) is'
+              ∙ older_next side s.theirs_text version 0 synced entries newer,
+          inr refl,
+        )
         either x y (inr (inr is)) is' = (_, ap (λ (t : CopyText K V). chosen_on side t y) is ∙ ap (λ (t : CopyText K V). chosen_on side Absent t) is' ∙ older_absent side s.theirs_text version synced newer, inl refl)
 
     -- the write, however it ends
@@ -185,7 +189,7 @@ pub both_alone : {T U : Type 0} (p : List ℕ) (side : Side) (bytes : List ℕ) 
     → Always a c (OnlyOne p side (disk a))
 both_alone p side bytes q r a b c write settle = always_weaker a c (OnlyAt (blob_of p side) (disk a) (λ x. Unit {0})) (OnlyOne p side (disk a)) (λ d only. only.others)
     (only_on a b c (blob_of p side) (disk a) (λ x. Unit {0}) Settle r
-        (only_on a a b (blob_of p side) (disk a) (λ x. Unit {0}) (Write 0 bytes) q (only_start a (blob_of p side) (λ x. Unit {0}) tt) write tt tt) settle tt tt)
+    (only_on a a b (blob_of p side) (disk a) (λ x. Unit {0}) (Write 0 bytes) q (only_start a (blob_of p side) (λ x. Unit {0}) tt) write tt tt) settle tt tt)
 
 -- the calls, at the blob of the side
 pub write_at_side : {T : Type 0} (p : List ℕ) (side : Side) (k : Key) (given bytes : List ℕ) (r : Result T DevError) (a b : Timeline) → k ≡ blob_of p side → given ≡ bytes → Passes k (Write 0 given) r a b → Passes (blob_of p side) (Write 0 bytes) r a b

@@ -63,12 +63,12 @@ pub one_head : (v w form form' : ℕ) (body body' x y : List ℕ) → v < 2 ^ 64
     → head_bytes v form body ++ x ≡ head_bytes w form' body' ++ y → (v ≡ w) × (form ≡ form') × (length body ≡ length body')
 one_head v w form form' body body' x y fits fits' short short' is =
     let whole : to_be_bytes w64 v ++ (form ∷ (to_be_bytes w64 (length body) ++ body) ++ x) ≡ to_be_bytes w64 w ++ (form' ∷ (to_be_bytes w64 (length body') ++ body') ++ y) =
-        sym (append_assoc (to_be_bytes w64 v) (form ∷ to_be_bytes w64 (length body) ++ body) x) ∙ ap (λ l. l ++ x) (sym (head_split v form body)) ∙ is
-        ∙ ap (λ l. l ++ y) (head_split w form' body') ∙ append_assoc (to_be_bytes w64 w) (form' ∷ to_be_bytes w64 (length body') ++ body') y in
+    sym (append_assoc (to_be_bytes w64 v) (form ∷ to_be_bytes w64 (length body) ++ body) x) ∙ ap (λ l. l ++ x) (sym (head_split v form body)) ∙ is
+    ∙ ap (λ l. l ++ y) (head_split w form' body') ∙ append_assoc (to_be_bytes w64 w) (form' ∷ to_be_bytes w64 (length body') ++ body') y in
     let first = append_parts (to_be_bytes w64 v) (to_be_bytes w64 w) (form ∷ (to_be_bytes w64 (length body) ++ body) ++ x) (form' ∷ (to_be_bytes w64 (length body') ++ body') ++ y) refl whole in
     let second = append_parts (form ∷ []) (form' ∷ []) ((to_be_bytes w64 (length body) ++ body) ++ x) ((to_be_bytes w64 (length body') ++ body') ++ y) refl first.1 in
     let third = append_parts (to_be_bytes w64 (length body)) (to_be_bytes w64 (length body')) (body ++ x) (body' ++ y) refl
-        (sym (append_assoc (to_be_bytes w64 (length body)) body x) ∙ second.1 ∙ append_assoc (to_be_bytes w64 (length body')) body' y) in
+    (sym (append_assoc (to_be_bytes w64 (length body)) body x) ∙ second.1 ∙ append_assoc (to_be_bytes w64 (length body')) body' y) in
     (same_number_8 v w fits fits' first.0, cc (second.0), same_number_8 (length body) (length body') short short' third.0)
 
 module _ (seal : List ℕ → ℕ) (bytes : List ℕ) (version form : ℕ) (body : List ℕ) (s : IsSealedAs seal bytes version form body) where
@@ -94,7 +94,7 @@ one_copy seal bytes v w form form' body body' s t =
     let same = one_head v w form form' body body' _ _ s.version_fits t.version_fits s.length_fits t.length_fits split in
     let heads = append_parts (head_bytes v form body) (head_bytes w form' body') _ _ (omega (arith, length-head v form body, length-head w form' body', same.2)) split in
     let bodies = append_parts (to_be_bytes w64 v ++ (form ∷ to_be_bytes w64 (length body))) (to_be_bytes w64 w ++ (form' ∷ to_be_bytes w64 (length body'))) body body' refl
-        (split_last v form body ∙ heads.0 ∙ sym (split_last w form' body')) in
+    (split_last v form body ∙ heads.0 ∙ sym (split_last w form' body')) in
     record { version = same.0; is_form = same.1; is_body = bodies.1 }
   where
     split_last : (u g : ℕ) (b : List ℕ) → (to_be_bytes w64 u ++ (g ∷ to_be_bytes w64 (length b))) ++ b ≡ head_bytes u g b
@@ -111,11 +111,11 @@ module _ (seal : List ℕ → ℕ) (bytes : List ℕ) (version form : ℕ) (body
   sealed_length =
       let rest = to_be_bytes w32 (seal (head_bytes version form body)) ++ drop (copy_length body) bytes in
       let split : bytes ≡ (to_be_bytes w64 version ++ form ∷ []) ++ (to_be_bytes w64 (length body) ++ (body ++ rest)) =
-          sealed_split seal bytes version form body s
-          ∙ ap (λ l. l ++ rest) (head_split version form body)
-          ∙ append_assoc (to_be_bytes w64 version) (form ∷ to_be_bytes w64 (length body) ++ body) rest
-          ∙ ap (λ l. to_be_bytes w64 version ++ (form ∷ l)) (append_assoc (to_be_bytes w64 (length body)) body rest)
-          ∙ sym (append_assoc (to_be_bytes w64 version) (form ∷ []) (to_be_bytes w64 (length body) ++ (body ++ rest))) in
+      sealed_split seal bytes version form body s
+      ∙ ap (λ l. l ++ rest) (head_split version form body)
+      ∙ append_assoc (to_be_bytes w64 version) (form ∷ to_be_bytes w64 (length body) ++ body) rest
+      ∙ ap (λ l. to_be_bytes w64 version ++ (form ∷ l)) (append_assoc (to_be_bytes w64 (length body)) body rest)
+      ∙ sym (append_assoc (to_be_bytes w64 version) (form ∷ []) (to_be_bytes w64 (length body) ++ (body ++ rest))) in
       sym (ap (λ l. take 8 (drop 9 l)) split
       ∙ ap (take 8) (drop_at (to_be_bytes w64 version ++ form ∷ []) (to_be_bytes w64 (length body) ++ (body ++ rest)) 9 refl)
       ∙ take_at (to_be_bytes w64 (length body)) (body ++ rest) 8 refl)
@@ -149,7 +149,7 @@ pub absent_unsealed : (seal : List ℕ → ℕ) (bytes : List ℕ) (len stored :
 absent_unsealed seal bytes len stored fits short sealed is at differs version form body s =
     let same : length body ≡ len = sym (same_number_8 len (length body) fits s.length_fits (is ∙ sym (sealed_length seal bytes version form body s))) in
     let holds : to_be_bytes w32 (seal (take (17 + len) bytes)) ≡ take 4 (drop (17 + len) bytes) =
-        subst (λ (n : ℕ). to_be_bytes w32 (seal (take (17 + n) bytes)) ≡ take 4 (drop (17 + n) bytes)) same (sealed_seal seal bytes version form body s) in
+    subst (λ (n : ℕ). to_be_bytes w32 (seal (take (17 + n) bytes)) ≡ take 4 (drop (17 + n) bytes)) same (sealed_seal seal bytes version form body s) in
     differs (same_number_4 (seal (take (17 + len) bytes)) stored (sealed (take (17 + len) bytes)) short (holds ∙ sym at))
 
 -- ---- the copy that is found
@@ -169,8 +169,8 @@ module _ (bytes : List ℕ) (version len : ℕ) (first : to_be_bytes w64 version
       let one : take 1 (drop 8 bytes) ≡ form ∷ [] = ap (take 1) (drop_more bytes 8 0 (omega (arith, room))) in
       let front : take 9 bytes ≡ to_be_bytes w64 version ++ form ∷ [] = take_two 8 1 bytes ∙ ap (λ l. l ++ take 1 (drop 8 bytes)) (sym first) ∙ ap (λ l. to_be_bytes w64 version ++ l) one in
       let more : take 17 bytes ≡ to_be_bytes w64 version ++ form ∷ [] ++ to_be_bytes w64 (length body_of) =
-          take_two 9 8 bytes ∙ ap (λ l. l ++ take 8 (drop 9 bytes)) front
-          ∙ ap (λ l. to_be_bytes w64 version ++ form ∷ [] ++ l) (sym second ∙ ap (λ (n : ℕ). to_be_bytes w64 n) (sym length-body)) in
+      take_two 9 8 bytes ∙ ap (λ l. l ++ take 8 (drop 9 bytes)) front
+      ∙ ap (λ l. to_be_bytes w64 version ++ form ∷ [] ++ l) (sym second ∙ ap (λ (n : ℕ). to_be_bytes w64 n) (sym length-body)) in
       take_two 17 len bytes ∙ ap (λ l. l ++ take len (drop 17 bytes)) more
       ∙ append_assoc (to_be_bytes w64 version ++ form ∷ []) (to_be_bytes w64 (length body_of)) body_of
       ∙ append_assoc (to_be_bytes w64 version) (form ∷ []) (to_be_bytes w64 (length body_of) ++ body_of)
@@ -199,6 +199,6 @@ pub copy_written : (seal : List ℕ → ℕ) (version len sealed : ℕ) (body c0
 unfolding copy_bytes
 copy_written seal version len sealed body c0 c1 c2 c3 c4 c5 e0 e1 e2 e3 e4 e5 long is =
     let head : c4 ≡ head_bytes version 1 body =
-        e4 ∙ ap (λ l. l ++ body) (e3 ∙ ap (λ l. l ++ to_be_bytes w64 len) (e2 ∙ ap (λ l. l ++ 1 ∷ []) (e1 ∙ ap (λ l. l ++ to_be_bytes w64 version) e0)) ∙ ap (λ (n : ℕ). to_be_bytes w64 version ++ 1 ∷ [] ++ to_be_bytes w64 n) long)
-        ∙ append_assoc (to_be_bytes w64 version ++ 1 ∷ []) (to_be_bytes w64 (length body)) body ∙ append_assoc (to_be_bytes w64 version) (1 ∷ []) (to_be_bytes w64 (length body) ++ body) ∙ sym (head_split version 1 body) in
+    e4 ∙ ap (λ l. l ++ body) (e3 ∙ ap (λ l. l ++ to_be_bytes w64 len) (e2 ∙ ap (λ l. l ++ 1 ∷ []) (e1 ∙ ap (λ l. l ++ to_be_bytes w64 version) e0)) ∙ ap (λ (n : ℕ). to_be_bytes w64 version ++ 1 ∷ [] ++ to_be_bytes w64 n) long)
+    ∙ append_assoc (to_be_bytes w64 version ++ 1 ∷ []) (to_be_bytes w64 (length body)) body ∙ append_assoc (to_be_bytes w64 version) (1 ∷ []) (to_be_bytes w64 (length body) ++ body) ∙ sym (head_split version 1 body) in
     e5 ∙ ap (λ (n : ℕ). c4 ++ to_be_bytes w32 n) is ∙ ap (λ l. l ++ to_be_bytes w32 (seal l)) head

@@ -112,9 +112,7 @@ impl<K: Key, V: Codec, S: Seal> Metadata<K, V, S> {
             requires { F.IsAlwaysCallable keep }
             ensures answer { AnswersAt F.Fn keep key.now value.old result }
             ensures value { value.new ≡ value.old }
-        {
-            keep(key, value)
-        };
+        { keep(key, value) };
         self.entries.retain(test);
         if self.entries.len() < before {
             self.staged = true;

@@ -28,34 +28,30 @@ pub fn choose<K: Drop, V: Drop>(
     match (left, right) {
         (CopyText::Refused { .. }, _) => Err(Side::Left),
         (_, CopyText::Refused { .. }) => Err(Side::Right),
-        (CopyText::Absent, CopyText::Absent) => Ok(Chosen {
-            version: 0,
-            older: Side::Left,
-            entries: CopyEntries::from_vec(Vec::new(alloc)),
-        }),
+        (CopyText::Absent, CopyText::Absent) => {
+            Ok(held_by(0, Side::Left, CopyEntries::from_vec(Vec::new(alloc))))
+        }
         (
             CopyText::Whole {
-                version, entries, ..
+                version,
+                entries,
+                ..
             },
             CopyText::Absent,
-        ) => Ok(Chosen {
-            version,
-            older: Side::Right,
-            entries,
-        }),
+        ) => Ok(held_by(version, Side::Right, entries)),
         (
             CopyText::Absent,
             CopyText::Whole {
-                version, entries, ..
+                version,
+                entries,
+                ..
             },
-        ) => Ok(Chosen {
-            version,
-            older: Side::Left,
-            entries,
-        }),
+        ) => Ok(held_by(version, Side::Left, entries)),
         (
             CopyText::Whole {
-                version, entries, ..
+                version,
+                entries,
+                ..
             },
             CopyText::Whole {
                 version: other,
@@ -63,6 +59,17 @@ pub fn choose<K: Drop, V: Drop>(
                 ..
             },
         ) => newer(version, entries, other, others),
+    }
+}
+
+/// The map that one copy holds, or none does.
+fn held_by<K, V>(version: u64, older: Side, entries: CopyEntries<K, V>) -> Chosen<K, V>
+    ensures { result ≡ record { version = version; older = older; entries = entries } }
+{
+    Chosen {
+        version,
+        older,
+        entries,
     }
 }
 
@@ -79,15 +86,7 @@ fn newer<K: Drop, V: Drop>(
         return Err(Side::Right);
     }
     if left < right {
-        return Ok(Chosen {
-            version: right,
-            older: Side::Left,
-            entries: right_entries,
-        });
+        return Ok(held_by(right, Side::Left, right_entries));
     }
-    Ok(Chosen {
-        version: left,
-        older: Side::Right,
-        entries: left_entries,
-    })
+    Ok(held_by(left, Side::Right, left_entries))
 }

@@ -30,11 +30,7 @@ impl<K: Key, V: Codec, S: Seal> Metadata<K, V, S> {
     ///
     /// It answers `Corruption` exactly where a copy is sealed and no text of a map, or where both have one version; then it
     /// names the right one. Where both copies are refused, it names the left one.
-    pub fn init<D: Device>(
-        alloc: Global,
-        dev: &mut D,
-        cfg: &Config<V::Cfg>,
-    ) -> Result<Self, Error>
+    pub fn init<D: Device>(alloc: Global, dev: &mut D, cfg: &Config<V::Cfg>) -> Result<Self, Error>
         // What the map is: the entries of the newer copy, as the two blobs read before the call.
         ensures reads { D.Tells → IfOk result (λ m. PairOn (format_of K.cmp K.key_bytes V.Codec S.Seal cfg.now.codec_config) (string_bytes cfg.now.partition) (disk (D.time dev.old)) (Ok (chosen_by (shown m) (shown m).entries))) }
         ensures map { D.Tells → (chosen : Chosen _ _) → PairOn (format_of K.cmp K.key_bytes V.Codec S.Seal cfg.now.codec_config) (string_bytes cfg.now.partition) (disk (D.time dev.old)) (Ok chosen)

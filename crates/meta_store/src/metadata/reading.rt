@@ -6,9 +6,9 @@ ghost use Rattle.std.specs.Int.{w32, w64, to_be_bytes};
 ghost use Rattle.meta_store.specs.Format.{format_of};
 ghost use Rattle.meta_store.specs.Copies.{IsSealedAs, IsAbsentBy, IsStorable, IsEntries, IsText, ReadsAs, entry_bytes};
 
+use crate::Error;
 use crate::copy::{CopyEntries, CopyText};
 use crate::metadata::Metadata;
-use crate::Error;
 use std::alloc::Global;
 use value_codec::{Codec, Key, Seal, codec};
 
@@ -90,11 +90,7 @@ fn is_next<K: Key, V>(items: &[(K, V)], key: &K) -> bool
 
 impl<K: Key, V: Codec, S: Seal> Metadata<K, V, S> {
     /// How the bytes read as a copy, under this configuration of the values.
-    pub fn read_copy(
-        alloc: Global,
-        bytes: &[u8],
-        cfg: V::Cfg,
-    ) -> Result<CopyText<K, V>, Error>
+    pub fn read_copy(alloc: Global, bytes: &[u8], cfg: V::Cfg) -> Result<CopyText<K, V>, Error>
         ensures reads { IfOk result (λ t. ReadsAs (format_of K.cmp K.key_bytes V.Codec S.Seal cfg) bytes.now t) }
         ensures only { (t : CopyText _ _) → ReadsAs (format_of K.cmp K.key_bytes V.Codec S.Seal cfg) bytes.now t → IfOk result (λ r. r ≡ t) }
         ensures memory { OnErr result (result ≡ Err Error.Mem) }
@@ -160,11 +156,7 @@ impl<K: Key, V: Codec, S: Seal> Metadata<K, V, S> {
     }
 
     /// The entry that the bytes begin with.
-    fn read_entry(
-        alloc: Global,
-        bytes: &[u8],
-        cfg: V::Cfg,
-    ) -> Result<Option<Entry<K, V>>, Error>
+    fn read_entry(alloc: Global, bytes: &[u8], cfg: V::Cfg) -> Result<Option<Entry<K, V>>, Error>
         ensures read { IfOk result (λ r. IfSome r (λ e. take e.len bytes.now ≡ entry_bytes K.key_bytes V.spelling (e.key, e.value))) }
         ensures within { IfOk result (λ r. IfSome r (λ e. e.len ≤ length bytes.now)) }
         ensures storable { IfOk result (λ r. IfSome r (λ e. IsStorable (format_of K.cmp K.key_bytes V.Codec S.Seal cfg) e.value)) }

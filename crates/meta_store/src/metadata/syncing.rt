@@ -14,8 +14,8 @@ ghost use Rattle.meta_store.specs.Copies.{copy_bytes, body_bytes};
 ghost use Rattle.meta_store.specs.Entries.{PutsValue};
 ghost use Rattle.meta_store.specs.Crashes.{Mapping};
 
-use crate::metadata::Metadata;
 use crate::Error;
+use crate::metadata::Metadata;
 use blob_device::{Device, Handle};
 use value_codec::{Codec, Key, Seal};
 

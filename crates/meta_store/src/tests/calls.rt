@@ -82,9 +82,15 @@ fn at_once(rt: HostRuntime) -> Result<(), Fail> {
     let mut dev = Memory::new(alloc);
     let cfg = config(alloc)?;
     put_at_once::<Key8, u64, Sha256Seal>(alloc, &mut dev, &cfg, key(7)?, 3)?;
-    assert_eq!(rt; blob_of(&dev.image(alloc)?, b"left"), copy(alloc, 1, &[(7, 3)])?.as_slice());
+    assert_eq!(rt;
+        blob_of(&dev.image(alloc)?, b"left"),
+        copy(alloc, 1, &[(7, 3)])?.as_slice()
+    );
     clear::<Key8, u64, Sha256Seal>(alloc, &mut dev, &cfg)?;
-    assert_eq!(rt; blob_of(&dev.image(alloc)?, b"right"), copy(alloc, 2, &[])?.as_slice());
+    assert_eq!(rt;
+        blob_of(&dev.image(alloc)?, b"right"),
+        copy(alloc, 2, &[])?.as_slice()
+    );
     // With nothing to drop nothing is written, and no call of the device is made besides those of the opening.
     let calls = dev.calls();
     clear::<Key8, u64, Sha256Seal>(alloc, &mut dev, &cfg)?;
@@ -119,9 +125,15 @@ fn written_again(rt: HostRuntime) -> Result<(), Fail> {
     let mut dev = Memory::new(alloc);
     put(alloc, &mut dev, 7, 3)?;
     change::<Key8, u64, Sha256Seal>(alloc, &mut dev, &config(alloc)?, &key(7)?, 4)?;
-    assert_eq!(rt; blob_of(&dev.image(alloc)?, b"right"), copy(alloc, 2, &[(7, 4)])?.as_slice());
+    assert_eq!(rt;
+        blob_of(&dev.image(alloc)?, b"right"),
+        copy(alloc, 2, &[(7, 4)])?.as_slice()
+    );
     put(alloc, &mut dev, 7, 4)?;
-    assert_eq!(rt; blob_of(&dev.image(alloc)?, b"left"), copy(alloc, 3, &[(7, 4)])?.as_slice());
+    assert_eq!(rt;
+        blob_of(&dev.image(alloc)?, b"left"),
+        copy(alloc, 3, &[(7, 4)])?.as_slice()
+    );
     Ok(())
 }
 
@@ -139,7 +151,10 @@ fn full(rt: HostRuntime) -> Result<(), Fail> {
     let before = copy(alloc, u64::MAX - 1, &[(7, 3)])?;
     let mut dev = Memory::from_image(alloc, image_of(alloc, &before, b"")?)?;
     put(alloc, &mut dev, 7, 4)?;
-    assert_eq!(rt; blob_of(&dev.image(alloc)?, b"right"), copy(alloc, u64::MAX, &[(7, 4)])?.as_slice());
+    assert_eq!(rt;
+        blob_of(&dev.image(alloc)?, b"right"),
+        copy(alloc, u64::MAX, &[(7, 4)])?.as_slice()
+    );
     Ok(())
 }
 
@@ -160,7 +175,10 @@ fn removed(rt: HostRuntime) -> Result<(), Fail> {
     let map = map_of(alloc, image)?;
     assert_eq!(rt; map.get(&key(7)?), None);
     put(alloc, &mut dev, 7, 4)?;
-    assert_eq!(rt; blob_of(&dev.image(alloc)?, b"left"), copy(alloc, 1, &[(7, 4)])?.as_slice());
+    assert_eq!(rt;
+        blob_of(&dev.image(alloc)?, b"left"),
+        copy(alloc, 1, &[(7, 4)])?.as_slice()
+    );
     Ok(())
 }
 

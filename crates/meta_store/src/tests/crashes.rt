@@ -29,12 +29,7 @@ fn left_by(alloc: Global, dev: &Memory, choice: CrashChoice) -> Result<Option<u6
 }
 
 /// The value of the key 7 that each crash now leaves is one of these two.
-fn leaves(
-    alloc: Global,
-    dev: &Memory,
-    old: Option<u64>,
-    new: Option<u64>,
-) -> Result<bool, Error> {
+fn leaves(alloc: Global, dev: &Memory, old: Option<u64>, new: Option<u64>) -> Result<bool, Error> {
     let mut all = true;
     for choice in CHOICES {
         let value = left_by(alloc, dev, choice)?;
@@ -136,10 +131,26 @@ fn removed_in_order(rt: HostRuntime) -> Result<(), Fail> {
     let alloc = rt.alloc();
     let old = copy(alloc, 5, &[(7, 1)])?;
     let new = copy(alloc, 8, &[(7, 3)])?;
-    assert!(rt; removed_first(alloc, &old, &new)?.blob("p", b"left").is_none());
-    assert!(rt; removed_first(alloc, &new, &old)?.blob("p", b"right").is_none());
-    assert!(rt; removed_first(alloc, &new, b"")?.blob("p", b"right").is_none());
-    assert!(rt; removed_first(alloc, b"", &new)?.blob("p", b"left").is_none());
+    assert!(rt;
+        removed_first(alloc, &old, &new)?
+            .blob("p", b"left")
+            .is_none()
+    );
+    assert!(rt;
+        removed_first(alloc, &new, &old)?
+            .blob("p", b"right")
+            .is_none()
+    );
+    assert!(rt;
+        removed_first(alloc, &new, b"")?
+            .blob("p", b"right")
+            .is_none()
+    );
+    assert!(rt;
+        removed_first(alloc, b"", &new)?
+            .blob("p", b"left")
+            .is_none()
+    );
     assert!(rt; removed_first(alloc, b"", b"")?.blob("p", b"left").is_none());
     Ok(())
 }

@@ -7,8 +7,8 @@ use std::test::Fail;
 
 // Version 1, form 1, a body of 28 bytes with one entry: the key 7, eight bytes, the number 3.
 const HEAD: [u8; 45] = [
-    0, 0, 0, 0, 0, 0, 0, 1, 1, 0, 0, 0, 0, 0, 0, 0, 28, 0, 0, 0, 0, 0, 0, 0, 1, 0, 0, 0, 0, 0, 0, 0,
-    7, 0, 0, 0, 8, 0, 0, 0, 0, 0, 0, 0, 3,
+    0, 0, 0, 0, 0, 0, 0, 1, 1, 0, 0, 0, 0, 0, 0, 0, 28, 0, 0, 0, 0, 0, 0, 0, 1, 0, 0, 0, 0, 0, 0,
+    0, 7, 0, 0, 0, 8, 0, 0, 0, 0, 0, 0, 0, 3,
 ];
 
 #[test]
@@ -25,15 +25,24 @@ fn seven_is_three(rt: HostRuntime) -> Result<(), Fail> {
     // The next version goes over the copy that is absent, with both entries.
     put(alloc, &mut dev, 9, 4)?;
     let image = dev.image(alloc)?;
-    assert_eq!(rt; blob_of(&image, b"left"), copy(alloc, 1, &[(7, 3)])?.as_slice());
+    assert_eq!(rt;
+        blob_of(&image, b"left"),
+        copy(alloc, 1, &[(7, 3)])?.as_slice()
+    );
     let right = blob_of(&image, b"right");
     assert_eq!(rt; right, copy(alloc, 2, &[(7, 3), (9, 4)])?.as_slice());
     assert_eq!(rt; right.len(), 69);
-    assert_eq!(rt; right.get(65..69), Some([0xc1, 0x34, 0xf6, 0xd0].as_slice()));
+    assert_eq!(rt;
+        right.get(65..69),
+        Some([0xc1, 0x34, 0xf6, 0xd0].as_slice())
+    );
     // Version 3 goes over the left one again.
     put(alloc, &mut dev, 7, 5)?;
     let image = dev.image(alloc)?;
-    assert_eq!(rt; blob_of(&image, b"left"), copy(alloc, 3, &[(7, 5), (9, 4)])?.as_slice());
+    assert_eq!(rt;
+        blob_of(&image, b"left"),
+        copy(alloc, 3, &[(7, 5), (9, 4)])?.as_slice()
+    );
     Ok(())
 }
 
@@ -75,7 +84,11 @@ fn cut_or_turned(rt: HostRuntime) -> Result<(), Fail> {
         for (i, byte) in whole.iter().enumerate() {
             turned.push(if i == n { *byte ^ 1 } else { *byte })?;
         }
-        assert_eq!(rt; value_in(alloc, &old, &turned, 7)?, Some(3), "turned at {n}");
+        assert_eq!(rt;
+            value_in(alloc, &old, &turned, 7)?,
+            Some(3),
+            "turned at {n}"
+        );
     }
     // Bytes behind it are ignored.
     let mut longer = Vec::new(alloc);
@@ -109,13 +122,28 @@ fn no_text(rt: HostRuntime) -> Result<(), Fail> {
     assert_eq!(rt; refused(alloc, 1, &[0; 7])?, left);
     assert_eq!(rt; refused(alloc, 1, &[0; 8])?, None);
     // a count that is not the number of entries
-    assert_eq!(rt; refused(alloc, 1, &body(alloc, 1, &[(7, 3), (9, 4)])?)?, left);
-    assert_eq!(rt; refused(alloc, 1, &body(alloc, 3, &[(7, 3), (9, 4)])?)?, left);
-    assert_eq!(rt; refused(alloc, 1, &body(alloc, u64::MAX, &[(7, 3)])?)?, left);
+    assert_eq!(rt;
+        refused(alloc, 1, &body(alloc, 1, &[(7, 3), (9, 4)])?)?,
+        left
+    );
+    assert_eq!(rt;
+        refused(alloc, 1, &body(alloc, 3, &[(7, 3), (9, 4)])?)?,
+        left
+    );
+    assert_eq!(rt;
+        refused(alloc, 1, &body(alloc, u64::MAX, &[(7, 3)])?)?,
+        left
+    );
     assert_eq!(rt; refused(alloc, 1, &body(alloc, 0, &[(7, 3)])?)?, left);
     // keys that descend, and equal ones
-    assert_eq!(rt; refused(alloc, 1, &body(alloc, 2, &[(9, 4), (7, 3)])?)?, left);
-    assert_eq!(rt; refused(alloc, 1, &body(alloc, 2, &[(7, 3), (7, 3)])?)?, left);
+    assert_eq!(rt;
+        refused(alloc, 1, &body(alloc, 2, &[(9, 4), (7, 3)])?)?,
+        left
+    );
+    assert_eq!(rt;
+        refused(alloc, 1, &body(alloc, 2, &[(7, 3), (7, 3)])?)?,
+        left
+    );
     Ok(())
 }
 

@@ -13,8 +13,7 @@ returns g c =
     let marked : Marked g.K.Ord.cmp c.args.key.now old c.contains_key.result mid = elim c.if-contains_key.branch [
       | then-contains_key w ↦ inl (w.if-contains_key.true, w.self-is)
       | else-contains_key w ↦ inr (w.if-contains_key.false, w.self-is)
-    ] in
-    (
+    ] in (
       (
         refl,
         λ w. wrote_value g.K.Ord.cmp c.args.key.now old c.contains_key.result mid c.get_mut.result w (c.get_mut.follows.lender w) c.contains_key.ensures marked c.get_mut.ensures.value (c.get_mut.follows.holds w),

@@ -13,17 +13,17 @@ pub entries-preserved : goal.entries-preserved
 entries-preserved g c =
     ap (λ (l : List (g.row.K.Denot × g.row.V.Denot)). l ++ c.next.new.self.rest.items) c.in_ok-insert.ensures.entries
     ∙ inserted_last g.K.Ord.cmp g.met.K.Ord.total c.entries.map.entries c.next.new.self.rest.items c.args.chosen.entries c.in-Some.key c.in-Some.value c.requires
-      (ap (λ (l : List (g.row.K.Denot × g.row.V.Denot)). c.entries.map.entries ++ l) (sym c.in-Some.ensures.steps.0) ∙ c.entries.invariant)
+    (ap (λ (l : List (g.row.K.Denot × g.row.V.Denot)). c.entries.map.entries ++ l) (sym c.in-Some.ensures.steps.0) ∙ c.entries.invariant)
 
 pub entries-preserved-in_ok-insert : goal.entries-preserved-in_ok-insert
 entries-preserved-in_ok-insert g c =
     ap (λ (l : List (g.row.K.Denot × g.row.V.Denot)). l ++ c.next.new.self.rest.items) c.in_ok-insert.ensures.entries
     ∙ inserted_last g.K.Ord.cmp g.met.K.Ord.total c.entries.map.entries c.next.new.self.rest.items c.args.chosen.entries c.in-Some.key c.in-Some.value c.requires
-      (ap (λ (l : List (g.row.K.Denot × g.row.V.Denot)). c.entries.map.entries ++ l) (sym c.in-Some.ensures.steps.0) ∙ c.entries.invariant)
+    (ap (λ (l : List (g.row.K.Denot × g.row.V.Denot)). c.entries.map.entries ++ l) (sym c.in-Some.ensures.steps.0) ∙ c.entries.invariant)
 
 pub returns-clause-chosen : goal.returns-clause-chosen
 returns-clause-chosen g c =
     let none = nil_from_length c.entries.key-iterator.rest.items (omega (arith, c.in-None.ensures.steps.0, c.entries.key-iterator.rest.ok.0)) in
     let all : c.entries.map.entries ≡ c.args.chosen.entries =
-        sym (append-nil c.entries.map.entries) ∙ ap (λ (l : List (g.row.K.Denot × g.row.V.Denot)). c.entries.map.entries ++ l) (sym none) ∙ c.entries.invariant in
+    sym (append-nil c.entries.map.entries) ∙ ap (λ (l : List (g.row.K.Denot × g.row.V.Denot)). c.entries.map.entries ++ l) (sym none) ∙ c.entries.invariant in
     ap (λ (l : List (g.row.K.Denot × g.row.V.Denot)). record c.args.chosen { entries = l }) all

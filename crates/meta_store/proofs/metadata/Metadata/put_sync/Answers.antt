@@ -17,11 +17,11 @@ returns-clause-crashes g c t synced stands =
     let put = shown c.put.new.self in
     subst (λ (u : Store g.row.K.Denot g.row.V.Denot). Always (g.D.Device.time c.args.dev.now) (g.D.Device.time c.sync.new.dev) (KeepsAlone (format_of g.K.Ord.cmp g.K.Key.key_bytes g.V.Codec g.S.Seal c.args.self.codec_config) u.partition synced u.entries (disk (g.D.Device.time c.args.dev.now)))) c.in_ok-put.ensures.ok
     (subst (λ (cfg : g.row.V-Cfg.Denot). Stands (format_of g.K.Ord.cmp g.K.Key.key_bytes g.V.Codec g.S.Seal cfg) put synced (disk (g.D.Device.time c.args.dev.now)) → Always (g.D.Device.time c.args.dev.now) (g.D.Device.time c.sync.new.dev) (KeepsAlone (format_of g.K.Ord.cmp g.K.Key.key_bytes g.V.Codec g.S.Seal cfg) put.partition synced put.entries (disk (g.D.Device.time c.args.dev.now)))) c.put.ensures.config (c.sync.ensures.crashes t synced)
-        (c.put.ensures.stands synced (disk (g.D.Device.time c.args.dev.now)) stands))
+    (c.put.ensures.stands synced (disk (g.D.Device.time c.args.dev.now)) stands))
 
 pub returns-clause-stands : goal.returns-clause-stands
 returns-clause-stands g c t synced stands =
     let put = shown c.put.new.self in
     subst (λ (u : Store g.row.K.Denot g.row.V.Denot). IfOk c.sync.result (λ m. Stands (format_of g.K.Ord.cmp g.K.Key.key_bytes g.V.Codec g.S.Seal c.args.self.codec_config) (shown m) u.entries (disk (g.D.Device.time c.sync.new.dev)))) c.in_ok-put.ensures.ok
     (subst (λ (cfg : g.row.V-Cfg.Denot). Stands (format_of g.K.Ord.cmp g.K.Key.key_bytes g.V.Codec g.S.Seal cfg) put synced (disk (g.D.Device.time c.args.dev.now)) → IfOk c.sync.result (λ m. Stands (format_of g.K.Ord.cmp g.K.Key.key_bytes g.V.Codec g.S.Seal cfg) (shown m) put.entries (disk (g.D.Device.time c.sync.new.dev)))) c.put.ensures.config (c.sync.ensures.stands t synced)
-        (c.put.ensures.stands synced (disk (g.D.Device.time c.args.dev.now)) stands))
+    (c.put.ensures.stands synced (disk (g.D.Device.time c.args.dev.now)) stands))

@@ -35,7 +35,7 @@ entries-init g c = subst
 -- what the entry is that is read at a place, for entries that the body spells
 read_next : {K V : Type 0} (f : Format K V) (count : ℕ) (bytes : List ℕ) (items entries : List (K × V)) (at : ℕ) (found : Option (Entry K V))
     → ((key : K) (value : V) (rest : List ℕ) → IsStorable f value → take (length bytes - at) (drop at bytes) ≡ entry_bytes f.key_bytes f.spelling (key, value) ++ rest
-      → found ≡ Some (record { key = key; value = value; len = length (entry_bytes f.key_bytes f.spelling (key, value)) }))
+    → found ≡ Some (record { key = key; value = value; len = length (entry_bytes f.key_bytes f.spelling (key, value)) }))
     → IsEntries f count bytes entries → GoesOn f bytes items at entries → length items < count
     → (next : NextEntry f bytes items at entries) × (found ≡ Some (record { key = next.entry.0; value = next.entry.1; len = length (entry_bytes f.key_bytes f.spelling next.entry) }))
 read_next f count bytes items entries at found only all on more =
@@ -46,7 +46,7 @@ pub returns-in_default-clause-only : goal.returns-in_default-clause-only
 returns-in_default-clause-only g c entries all =
     let f = format_of g.K.Ord.cmp g.K.Key.key_bytes g.V.Codec g.S.Seal c.args.cfg in
     let next = read_next f c.args.count c.args.bytes.now c.entries.items.items entries c.entries.at c.in_ok-entry.field-0 c.in_ok-entry.ensures.only all (c.entries.invariant.goes_on entries all)
-        (omega (arith, c.entries.invariant.number, c.entries-test.true)) in
+    (omega (arith, c.entries.invariant.number, c.entries-test.true)) in
     absurd (cc (c.in_default.is, next.1))
 
 pub is_next-requires : goal.is_next-requires
@@ -56,11 +56,11 @@ pub returns-then-not-is_next-clause-only : goal.returns-then-not-is_next-clause-
 returns-then-not-is_next-clause-only g c entries all =
     let f = format_of g.K.Ord.cmp g.K.Key.key_bytes g.V.Codec g.S.Seal c.args.cfg in
     let next = read_next f c.args.count c.args.bytes.now c.entries.items.items entries c.entries.at c.in_ok-entry.field-0 c.in_ok-entry.ensures.only all (c.entries.invariant.goes_on entries all)
-        (omega (arith, c.entries.invariant.number, c.entries-test.true)) in
+    (omega (arith, c.entries.invariant.number, c.entries-test.true)) in
     let same : c.in-Some.entry ≡ record { key = next.0.entry.0; value = next.0.entry.1; len = length (entry_bytes g.K.Key.key_bytes g.V.Codec.spelling next.0.entry) } = cc (c.in-Some.is, next.1) in
     let sorted : IsStrictlySortedBy g.K.Ord.cmp (keys_of c.deref.result.now ++ c.in-Some.entry.key ∷ []) =
-        subst (λ (k : g.row.K.Denot). IsStrictlySortedBy g.K.Ord.cmp (keys_of c.deref.result.now ++ k ∷ [])) (sym (ap (λ (e : Entry g.row.K.Denot g.row.V.Denot). e.key) same))
-        (subst (λ (items : List (g.row.K.Denot × g.row.V.Denot)). IsStrictlySortedBy g.K.Ord.cmp (keys_of items ++ next.0.entry.0 ∷ [])) (sym c.deref.ensures.value) next.0.ascending) in
+    subst (λ (k : g.row.K.Denot). IsStrictlySortedBy g.K.Ord.cmp (keys_of c.deref.result.now ++ k ∷ [])) (sym (ap (λ (e : Entry g.row.K.Denot g.row.V.Denot). e.key) same))
+    (subst (λ (items : List (g.row.K.Denot × g.row.V.Denot)). IsStrictlySortedBy g.K.Ord.cmp (keys_of items ++ next.0.entry.0 ∷ [])) (sym c.deref.ensures.value) next.0.ascending) in
     absurd (cc (c.is_next.ensures.1 sorted, c.if-not-is_next.true))
 
 pub entries-preserved : goal.entries-preserved
@@ -86,7 +86,7 @@ entries-preserved g c =
       storable = subst (AllByRecursion (λ e. IsStorable f e.1)) (sym pushed) (all_one_more (λ e. IsStorable f e.1) items entry c.entries.invariant.storable storable);
       goes_on = λ entries all.
           let next = read_next f c.args.count bytes items entries at c.in_ok-entry.field-0 c.in_ok-entry.ensures.only all (c.entries.invariant.goes_on entries all)
-              (omega (arith, c.entries.invariant.number, c.entries-test.true)) in
+          (omega (arith, c.entries.invariant.number, c.entries-test.true)) in
           let same : e ≡ record { key = next.0.entry.0; value = next.0.entry.1; len = length (entry_bytes g.K.Key.key_bytes g.V.Codec.spelling next.0.entry) } = cc (c.in-Some.is, next.1) in
           subst (λ (l : List (g.row.K.Denot × g.row.V.Denot)). GoesOn f bytes l (at + e.len) entries) (sym pushed)
           (goes_past f bytes items entries at e.len entry next.0 (ap (λ (x : Entry g.row.K.Denot g.row.V.Denot). (x.key, x.value)) same) (ap (λ (x : Entry g.row.K.Denot g.row.V.Denot). x.len) same));

@@ -24,7 +24,7 @@ returns-clause-stands g c synced d stands =
     let f = format_of g.K.Ord.cmp g.K.Key.key_bytes g.V.Codec g.S.Seal c.args.self.now.codec_config in
     let kept : Retained (AnswersAt g.F.Fn c.args.keep) c.args.self.now.entries.entries c.retain.new.self.entries = retained_from _ _ _ _ _ c.retain.ensures.filtered (λ k v b w f' t. search rules) in
     let none_dropped : length c.retain.new.self.entries ≡ length c.args.self.now.entries.entries =
-        omega (arith, retained_fewer (AnswersAt g.F.Fn c.args.keep) c.args.self.now.entries.entries c.retain.new.self.entries kept, c.if-len-before.false, c.len-before.ensures.len, c.len.ensures.len) in
+    omega (arith, retained_fewer (AnswersAt g.F.Fn c.args.keep) c.args.self.now.entries.entries c.retain.new.self.entries kept, c.if-len-before.false, c.len-before.ensures.len, c.len.ensures.len) in
     stands_changed f (shown c.args.self.now) (record (shown c.args.self.now) { entries = c.retain.new.self.entries }) synced d refl
     (λ e. (e, retained_all (AnswersAt g.F.Fn c.args.keep) c.args.self.now.entries.entries c.retain.new.self.entries kept none_dropped)) stands
 

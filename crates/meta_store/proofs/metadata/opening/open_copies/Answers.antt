@@ -42,11 +42,12 @@ returns-clause-right g c t =
     _ c.in_ok-left.left c.in_ok-right.right (g.D.Device.time c.open_blob-2.new.self) (λ i. (c.args.partition.now, c.name-2.ensures i)) (c.in_ok-left.ensures.told t) (c.in_ok-right.ensures.told t)
 
 pub returns-clause-lengths : goal.returns-clause-lengths
-returns-clause-lengths g c t =
-    (c.in_ok-left.ensures.length t ∙ ap (λ n. length (disk (g.D.Device.time c.open_blob.new.self) (c.args.partition.now, n)).content) c.name.ensures
-        ∙ sym (ap (λ (b : Blob). length b.content) (left_stays c.args.partition.now _ (g.D.Device.time c.args.dev.now) (g.D.Device.time c.open_blob.new.self) (λ i. (c.args.partition.now, c.name.ensures i))
-            _ c.in_ok-left.left c.open_blob-2.result (g.D.Device.time c.open_blob-2.new.self) (λ i. (c.args.partition.now, c.name-2.ensures i)) (c.in_ok-left.ensures.told t) (c.open_blob-2.ensures.told t))),
-     c.in_ok-right.ensures.length t ∙ ap (λ n. length (disk (g.D.Device.time c.open_blob-2.new.self) (c.args.partition.now, n)).content) c.name-2.ensures)
+returns-clause-lengths g c t = (
+  c.in_ok-left.ensures.length t ∙ ap (λ n. length (disk (g.D.Device.time c.open_blob.new.self) (c.args.partition.now, n)).content) c.name.ensures
+      ∙ sym (ap (λ (b : Blob). length b.content) (left_stays c.args.partition.now _ (g.D.Device.time c.args.dev.now) (g.D.Device.time c.open_blob.new.self) (λ i. (c.args.partition.now, c.name.ensures i))
+      _ c.in_ok-left.left c.open_blob-2.result (g.D.Device.time c.open_blob-2.new.self) (λ i. (c.args.partition.now, c.name-2.ensures i)) (c.in_ok-left.ensures.told t) (c.open_blob-2.ensures.told t))),
+  c.in_ok-right.ensures.length t ∙ ap (λ n. length (disk (g.D.Device.time c.open_blob-2.new.self) (c.args.partition.now, n)).content) c.name-2.ensures,
+)
 
 pub returns-clause-entries : goal.returns-clause-entries
 returns-clause-entries g c =

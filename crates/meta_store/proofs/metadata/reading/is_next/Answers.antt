@@ -10,8 +10,7 @@ returns-in-Some g c =
     let items = c.args.items.now in
     let e = c.in-Some.field-0.now in
     let y = c.args.key.now in
-    let last = sym c.last.ensures.value ∙ ap option_copied c.in-Some.is in
-    (
+    let last = sym c.last.ensures.value ∙ ap option_copied c.in-Some.is in (
       λ is. sorted_push g.K.Ord.cmp (keys_of items) y c.requires
           (last_below g.K.Ord.cmp g.met.K.Ord.total items e y c.requires last (sym c.cmp.ensures ∙ less_true c.cmp.result (sym c.is_lt.ensures ∙ is))),
       λ sorted. c.is_lt.ensures ∙ true_less c.cmp.result (c.cmp.ensures ∙ below_last g.K.Ord.cmp items e y (sorted_below g.K.Ord.cmp (keys_of items) [] y sorted) last),
