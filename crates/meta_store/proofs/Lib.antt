@@ -17,3 +17,4 @@ pub mod Sides
 pub mod StandingLemmas
 pub mod SyncingLemmas
 pub mod Texts
+pub mod Uses
