@@ -1,0 +1,140 @@
+-- What a layer above uses of maps: bytes read in one way, a map stands as long as its two blobs do, and a fresh image.
+use Rattle.std.proofs.Common.{◌≡◌, ◌⊎◌, inl, inr, ℕ, ◌+◌, Bool, true, false, cond, List, [], ◌∷◌, ◌++◌, length, Option, Some, None, refl, sym, ◌∙◌, ap, subst, arith, length-append}
+use Rattle.std.proofs.lemmas.List.{append_assoc}
+use Rattle.std.specs.Int.{w32, w64, to_be_bytes}
+use Rattle.std.specs.List.{AllByRecursion}
+use Rattle.std.specs.Map.{set_value}
+use Rattle.std.specs.BTreeMap.{is_at}
+use Rattle.std.specs.declared.cmp.Ordering.{Ordering}
+use Rattle.blob_device.specs.Disk.{Blob, Disk, MayLeave, past, settled_at, begun}
+use Rattle.meta_store.specs.declared.copy.CopyText.{CopyText}
+use Rattle.meta_store.specs.declared.copy.CopyText.TheVariants.{Absent, Refused, Whole}
+use Rattle.meta_store.specs.declared.error.Side.{Side}
+use Rattle.meta_store.specs.declared.error.Side.TheVariants.{Left, Right}
+use Rattle.meta_store.specs.declared.metadata.Metadata.{Metadata}
+use Rattle.meta_store.specs.declared.pair.Chosen.{Chosen}
+use Rattle.meta_store.specs.Format.{Format}
+use Rattle.meta_store.specs.Copies.{ReadsAs, IsText, IsStorable, entry_bytes, entries_bytes, body_bytes}
+use Rattle.meta_store.specs.Pairs.{ReadsPair, HoldMap, chosen_of}
+use Rattle.meta_store.specs.Blobs.{blob_of, bytes_of}
+use Rattle.meta_store.specs.Crashes.{Keeps, NoChanceSeal, ReadsNoChance}
+use Rattle.meta_store.specs.Lends.{WroteValue}
+use Rattle.meta_store.specs.Store.{Store, Stands, MayBeSynced, shown}
+use Rattle.meta_store.proofs.Leaving.{settled_content}
+use Rattle.meta_store.proofs.Readings.{whole_only, refused_only, absent_only}
+use Rattle.meta_store.proofs.Texts.{append_parts, same_number_4, same_number_8, length-four}
+
+-- Keys have one length, and keys and accepted values are known by their bytes. The laws of `Key` and `Codec` give it.
+pub record IsReadable {K V : Type 0} (f : Format K V) : Type 0 where
+  pub size : ℕ
+  pub sized : (k : K) → length (f.key_bytes k) ≡ size
+  pub one_key : (k j : K) → f.key_bytes k ≡ f.key_bytes j → k ≡ j
+  pub one_value : (v w : V) → f.accepted v → f.accepted w → f.spelling v ≡ f.spelling w → v ≡ w
+
+module _ {K V : Type 0} (f : Format K V) where
+  -- bytes read in one way
+  module _ (readable : IsReadable f) where
+    one_entry : (d e : K × V) (x y : List ℕ) → IsStorable f d.1 → IsStorable f e.1 → entry_bytes f.key_bytes f.spelling d ++ x ≡ entry_bytes f.key_bytes f.spelling e ++ y → (d ≡ e) × (x ≡ y)
+    unfolding entry_bytes
+    one_entry d e x y of_d of_e is =
+        let front = λ (g : K × V). f.key_bytes g.0 ++ to_be_bytes w32 (length (f.spelling g.1)) in
+        let split = append_parts (front d) (front e) (f.spelling d.1 ++ x) (f.spelling e.1 ++ y) (sized_front d ∙ sym (sized_front e)) (sym (append_assoc (front d) (f.spelling d.1) x) ∙ is ∙ append_assoc (front e) (f.spelling e.1) y) in
+        let fronts = append_parts (f.key_bytes d.0) (f.key_bytes e.0) (to_be_bytes w32 (length (f.spelling d.1))) (to_be_bytes w32 (length (f.spelling e.1))) (readable.sized d.0 ∙ sym (readable.sized e.0)) split.0 in
+        let same = same_number_4 (length (f.spelling d.1)) (length (f.spelling e.1)) of_d.fits of_e.fits fronts.1 in
+        let texts = append_parts (f.spelling d.1) (f.spelling e.1) x y same split.1 in
+        let key = readable.one_key d.0 e.0 fronts.0 in
+        let value = readable.one_value d.1 e.1 of_d.accepted of_e.accepted texts.0 in
+        (λ i. (key i, value i), texts.1)
+      where
+        sized_front : (g : K × V) → length (f.key_bytes g.0 ++ to_be_bytes w32 (length (f.spelling g.1))) ≡ readable.size + 4
+        sized_front g = omega (arith, length-append (f.key_bytes g.0) (to_be_bytes w32 (length (f.spelling g.1))), readable.sized g.0, length-four (length (f.spelling g.1)))
+
+    one_list : (ds es : List (K × V)) → length ds ≡ length es → MayBeSynced f ds → MayBeSynced f es → entries_bytes f.key_bytes f.spelling ds ≡ entries_bytes f.key_bytes f.spelling es → ds ≡ es
+    one_list [] [] same of_ds of_es is = refl
+    one_list [] (e ∷ es) same of_ds of_es is = absurd (cc same)
+    one_list (d ∷ ds) [] same of_ds of_es is = absurd (cc same)
+    one_list (d ∷ ds) (e ∷ es) same of_ds of_es is =
+        let split = one_entry d e (entries_bytes f.key_bytes f.spelling ds) (entries_bytes f.key_bytes f.spelling es) of_ds.0 of_es.0 is in
+        let rest = one_list ds es (omega (arith, same)) of_ds.1 of_es.1 split.1 in
+        λ i. split.0 i ∷ rest i
+
+    pub one_text : (form : ℕ) (body : List ℕ) (ds es : List (K × V)) → IsText f form body ds → IsText f form body es → ds ≡ es
+    unfolding body_bytes
+    one_text form body ds es of_ds of_es =
+        let split = append_parts (to_be_bytes w64 (length ds)) (to_be_bytes w64 (length es)) _ _ refl (sym of_ds.spelled ∙ of_es.spelled) in
+        one_list ds es (same_number_8 (length ds) (length es) of_ds.map.count of_es.map.count split.0) of_ds.map.storable of_es.map.storable split.1
+
+    pub one_reading : (bytes : List ℕ) (s t : CopyText K V) → ReadsAs f bytes s → ReadsAs f bytes t → s ≡ t
+    one_reading bytes Absent t of_s of_t = absent_only f bytes of_s t of_t
+    one_reading bytes (Refused v) t of_s of_t = refused_only f bytes v of_s.form of_s.body of_s.sealed of_s.no_text t of_t
+    one_reading bytes (Whole v floor es) t of_s of_t =
+        let text : IsText f 1 (body_bytes f.key_bytes f.spelling es) es = record { is_first_form = refl; spelled = refl; map = of_s.map } in
+        ap (λ (n : ℕ). Whole v n es) of_s.no_floor ∙ whole_only f bytes v 1 (body_bytes f.key_bytes f.spelling es) of_s.sealed es text (λ others is. ap Some (one_text 1 (body_bytes f.key_bytes f.spelling es) es others text is)) t of_t
+
+    -- and two contents hold one map
+    pub one_map : (left right : List ℕ) (ds es : List (K × V)) → HoldMap f left right ds → HoldMap f left right es → ds ≡ es
+    one_map left right ds es of_ds of_es =
+        let l = one_reading left of_ds.reads.left_text of_es.reads.left_text of_ds.reads.left_reads of_es.reads.left_reads in
+        let r = one_reading right of_ds.reads.right_text of_es.reads.right_text of_ds.reads.right_reads of_es.reads.right_reads in
+        let same = sym of_ds.reads.is ∙ ap (λ (t : CopyText K V). chosen_of t of_ds.reads.right_text) l ∙ ap (λ (t : CopyText K V). chosen_of of_es.reads.left_text t) r ∙ of_es.reads.is in
+        let one : of_ds.chosen ≡ of_es.chosen = cc same in
+        sym of_ds.map ∙ ap (λ (c : Chosen K V). c.entries) one ∙ of_es.map
+
+  -- a map stands as long as its two blobs do
+  pub stands_same : (u : Store K V) (synced : List (K × V)) (d e : Disk) → e (blob_of u.partition Left) ≡ d (blob_of u.partition Left) → e (blob_of u.partition Right) ≡ d (blob_of u.partition Right) → Stands f u synced d → Stands f u synced e
+  stands_same u synced d e left right stands = record {
+    left = subst (λ (b : Blob). b ≡ settled_at b.content) (sym left) stands.left;
+    right = subst (λ (b : Blob). b ≡ settled_at b.content) (sym right) stands.right;
+    pair = record {
+      left_text = stands.pair.left_text;
+      right_text = stands.pair.right_text;
+      left_reads = subst (λ (b : Blob). ReadsAs f b.content stands.pair.left_text) (sym left) stands.pair.left_reads;
+      right_reads = subst (λ (b : Blob). ReadsAs f b.content stands.pair.right_text) (sym right) stands.pair.right_reads;
+      is = stands.pair.is;
+    };
+    fresh = stands.fresh;
+  }
+
+  -- so does what each crash leaves of it
+  pub keeps_same : (p : List ℕ) (one other : List (K × V)) (d e : Disk) → e (blob_of p Left) ≡ d (blob_of p Left) → e (blob_of p Right) ≡ d (blob_of p Right) → Keeps f p one other d → Keeps f p one other e
+  keeps_same p one other d e left right keeps = record { crash = λ l r may_l may_r none_l none_r.
+      keeps.crash l r (subst (λ (b : Blob). MayLeave b l) left may_l) (subst (λ (b : Blob). MayLeave b r) right may_r)
+      (subst (λ (b : Blob). NoChanceIn b l) left none_l) (subst (λ (b : Blob). NoChanceIn b r) right none_r) }
+    where
+      NoChanceIn : Blob → Option (List ℕ) → Type 0
+      NoChanceIn b l = NoChanceSeal f.seal (past b) (bytes_of l)
+
+  -- a blob of an image that a device is made from reads without a chance seal
+  pub begun_no_chance : (image : Option (List ℕ)) → ReadsNoChance f.seal (begun image)
+  begun_no_chance None v form body s = inl refl
+  begun_no_chance (Some c) v form body s = inl refl
+
+  -- so do both blobs of a map that stands
+  pub stands_no_chance : (u : Store K V) (synced : List (K × V)) (d : Disk) → Stands f u synced d → ReadsNoChance f.seal (d (blob_of u.partition Left)) × ReadsNoChance f.seal (d (blob_of u.partition Right))
+  stands_no_chance u synced d stands =
+      (subst (ReadsNoChance f.seal) (sym stands.left) (begun_no_chance (Some (d (blob_of u.partition Left)).content)), subst (ReadsNoChance f.seal) (sym stands.right) (begun_no_chance (Some (d (blob_of u.partition Right)).content)))
+
+  begun_left : (image left : Option (List ℕ)) → MayLeave (begun image) left → bytes_of left ≡ bytes_of image
+  begun_left None None may = refl
+  begun_left None (Some c) may = absurd (cc may.0)
+  begun_left (Some c) None may = absurd (cc may)
+  begun_left (Some c) (Some c') may = settled_content c c' may.1
+
+  -- each crash of such an image leaves the map that it holds
+  pub begun_keeps : (p : List ℕ) (one other : List (K × V)) (left right : Option (List ℕ)) (d : Disk) → d (blob_of p Left) ≡ begun left → d (blob_of p Right) ≡ begun right → HoldMap f (bytes_of left) (bytes_of right) one → Keeps f p one other d
+  begun_keeps p one other left right d is_l is_r holds = record { crash = λ l r may_l may_r none_l none_r.
+      inl (subst (λ (c : List ℕ). HoldMap f c (bytes_of r) one) (sym (begun_left left l (subst (λ (b : Blob). MayLeave b l) is_l may_l)))
+      (subst (λ (c : List ℕ). HoldMap f (bytes_of left) c one) (sym (begun_left right r (subst (λ (b : Blob). MayLeave b r) is_r may_r))) holds)) }
+
+  all_set : (P : V → Type 0) (test : K → Bool) (es : List (K × V)) (v : V) → AllByRecursion (λ e. P e.1) es → P v → AllByRecursion (λ e. P e.1) (set_value test es v)
+  all_set P test [] v all new = tt
+  all_set P test (e ∷ es) v all new = by_test (test e.0) (all_set P test es v all.1 new)
+    where
+      by_test : (b : Bool) → AllByRecursion (λ e. P e.1) (set_value test es v) → AllByRecursion (λ e. P e.1) (cond b ((e.0, v) ∷ es) (e ∷ set_value test es v))
+      by_test true rest = (new, all.1)
+      by_test false rest = (all.0, rest)
+
+  -- a map of which a value was lent may be synced where what was written may be stored
+  pub wrote_storable : {S C : Type 0} (key : K) (value : V) (old new : Metadata K V S C) → WroteValue f.compare key value old new → MayBeSynced f old.entries.entries → IsStorable f value → MayBeSynced f new.entries.entries
+  wrote_storable key value old new wrote all may =
+      subst (MayBeSynced f) (sym (ap (λ (u : Store K V). u.entries) wrote.same)) (all_set (IsStorable f) (is_at (f.compare key)) old.entries.entries value all may)

@@ -1,0 +1,61 @@
+// How the bytes of a blob read as a copy of the map.
+ghost use Rattle.std.specs.Prelude.{◌≡◌};
+
+use std::marker::Model;
+
+/// The entries of a copy, in ascending order of their keys.
+#[derive(Drop)]
+pub struct CopyEntries<K, V> {
+    items: Vec<(K, V)>,
+}
+
+impl<K, V> Model for CopyEntries<K, V> {
+    ghost use Rattle.std.specs.Prelude.{List};
+
+    ghost Value = { List (K × V) };
+
+    ghost view = { λ e. e.items.items };
+}
+
+impl<K, V> CopyEntries<K, V> {
+    pub(crate) fn from_vec(items: Vec<(K, V)>) -> CopyEntries<K, V>
+        ensures { result ≡ items.items }
+    {
+        CopyEntries { items }
+    }
+
+    pub(crate) fn into_vec(self) -> Vec<(K, V)>
+        ensures { result.items ≡ self }
+    {
+        let CopyEntries { items } = self;
+        items
+    }
+
+    /// The entries. It takes no memory.
+    pub fn as_slice(&self) -> &[(K, V)]
+        ensures { result.now ≡ self.now }
+    {
+        self.items.as_slice()
+    }
+}
+
+/// How bytes read as a copy.
+#[derive(Drop)]
+pub enum CopyText<K, V> {
+    /// There is no copy: the bytes are shorter than they say, or the seal fails.
+    Absent,
+    /// The seal holds, but what it seals is no text of a map.
+    Refused {
+        /// The version that it names.
+        version: u64,
+    },
+    /// A copy of a map.
+    Whole {
+        /// The greater of two versions is the newer one.
+        version: u64,
+        /// 0 in a copy of this form.
+        floor: u64,
+        /// The map.
+        entries: CopyEntries<K, V>,
+    },
+}
