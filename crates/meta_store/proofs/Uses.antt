@@ -97,9 +97,11 @@ module _ {K V : Type 0} (f : Format K V) where
 
   -- so does what each crash leaves of it
   pub keeps_same : (p : List ℕ) (one other : List (K × V)) (d e : Disk) → e (blob_of p Left) ≡ d (blob_of p Left) → e (blob_of p Right) ≡ d (blob_of p Right) → Keeps f p one other d → Keeps f p one other e
-  keeps_same p one other d e left right keeps = record { crash = λ l r may_l may_r none_l none_r.
-      keeps.crash l r (subst (λ (b : Blob). MayLeave b l) left may_l) (subst (λ (b : Blob). MayLeave b r) right may_r)
-      (subst (λ (b : Blob). NoChanceIn b l) left none_l) (subst (λ (b : Blob). NoChanceIn b r) right none_r) }
+  keeps_same p one other d e left right keeps = record {
+    crash = λ l r may_l may_r none_l none_r.
+        keeps.crash l r (subst (λ (b : Blob). MayLeave b l) left may_l) (subst (λ (b : Blob). MayLeave b r) right may_r)
+        (subst (λ (b : Blob). NoChanceIn b l) left none_l) (subst (λ (b : Blob). NoChanceIn b r) right none_r);
+  }
     where
       NoChanceIn : Blob → Option (List ℕ) → Type 0
       NoChanceIn b l = NoChanceSeal f.seal (past b) (bytes_of l)
@@ -122,9 +124,11 @@ module _ {K V : Type 0} (f : Format K V) where
 
   -- each crash of such an image leaves the map that it holds
   pub begun_keeps : (p : List ℕ) (one other : List (K × V)) (left right : Option (List ℕ)) (d : Disk) → d (blob_of p Left) ≡ begun left → d (blob_of p Right) ≡ begun right → HoldMap f (bytes_of left) (bytes_of right) one → Keeps f p one other d
-  begun_keeps p one other left right d is_l is_r holds = record { crash = λ l r may_l may_r none_l none_r.
-      inl (subst (λ (c : List ℕ). HoldMap f c (bytes_of r) one) (sym (begun_left left l (subst (λ (b : Blob). MayLeave b l) is_l may_l)))
-      (subst (λ (c : List ℕ). HoldMap f (bytes_of left) c one) (sym (begun_left right r (subst (λ (b : Blob). MayLeave b r) is_r may_r))) holds)) }
+  begun_keeps p one other left right d is_l is_r holds = record {
+    crash = λ l r may_l may_r none_l none_r.
+        inl (subst (λ (c : List ℕ). HoldMap f c (bytes_of r) one) (sym (begun_left left l (subst (λ (b : Blob). MayLeave b l) is_l may_l)))
+        (subst (λ (c : List ℕ). HoldMap f (bytes_of left) c one) (sym (begun_left right r (subst (λ (b : Blob). MayLeave b r) is_r may_r))) holds));
+  }
 
   all_set : (P : V → Type 0) (test : K → Bool) (es : List (K × V)) (v : V) → AllByRecursion (λ e. P e.1) es → P v → AllByRecursion (λ e. P e.1) (set_value test es v)
   all_set P test [] v all new = tt
