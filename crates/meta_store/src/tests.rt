@@ -1,10 +1,12 @@
 // Runs of the map over a device in memory.
+ghost use Rattle.std.specs.Prelude.{IsTrue, length, ◌<◌, ◌^◌};
+
 mod calls;
 mod crashes;
 mod texts;
 
 use crate::{Config, Error, Metadata};
-use blob_device::{CrashChoice, Image, Memory};
+use blob_device::{CrashChoice, Device, Image, Memory};
 use std::alloc::Global;
 use value_codec::{Codec, Key, Key8, Seal, Sha256Seal};
 
@@ -33,19 +35,22 @@ fn key(n: u64) -> Result<Key8, Error> {
 }
 
 /// Opens the map of eight-byte keys and numbers.
-fn opened(alloc: Global, dev: &mut Memory) -> Result<Metadata<Key8, u64, Sha256Seal>, Error> {
+fn opened<D: Device>(alloc: Global, dev: &mut D) -> Result<Metadata<Key8, u64, Sha256Seal>, Error> {
     Metadata::init(alloc, dev, &config(alloc)?)
 }
 
 /// Whether the value may be stored.
-fn may_store<V: Codec>(value: &V, cfg: V::Cfg) -> bool {
+fn may_store<V: Codec>(value: &V, cfg: V::Cfg) -> bool
+    ensures accepted { IsTrue result → V.accepted value.now cfg }
+    ensures short { IsTrue result → length (V.spelling value.now) < 2 ^ 32 }
+{
     value.accepts(cfg) && value.encode_size() < 100
 }
 
 /// Opens the map, gives a key this value, and makes that durable in a call of its own.
-fn put_then_sync<K: Key, V: Codec, S: Seal>(
+fn put_then_sync<K: Key, V: Codec, S: Seal, D: Device>(
     alloc: Global,
-    dev: &mut Memory,
+    dev: &mut D,
     cfg: &Config<V::Cfg>,
     key: K,
     value: V,
@@ -60,8 +65,8 @@ fn put_then_sync<K: Key, V: Codec, S: Seal>(
 }
 
 /// Puts this value at this key, and makes that durable.
-fn put(alloc: Global, dev: &mut Memory, at: u64, value: u64) -> Result<(), Error> {
-    put_then_sync::<Key8, u64, Sha256Seal>(alloc, dev, &config(alloc)?, key(at)?, value)
+fn put<D: Device>(alloc: Global, dev: &mut D, at: u64, value: u64) -> Result<(), Error> {
+    put_then_sync::<Key8, u64, Sha256Seal, D>(alloc, dev, &config(alloc)?, key(at)?, value)
 }
 
 /// A blob of an image, or no bytes where it is absent.

@@ -48,9 +48,9 @@ fn changed_and_dropped(rt: HostRuntime) -> Result<(), Fail> {
 }
 
 /// Opens the map, puts a value and makes it durable in one call.
-fn put_at_once<K: Key, V: Codec, S: Seal>(
+fn put_at_once<K: Key, V: Codec, S: Seal, D: Device>(
     alloc: Global,
-    dev: &mut Memory,
+    dev: &mut D,
     cfg: &Config<V::Cfg>,
     key: K,
     value: V,
@@ -64,9 +64,9 @@ fn put_at_once<K: Key, V: Codec, S: Seal>(
 }
 
 /// Opens the map and keeps no entry, and makes that durable; the handle of the sync is waited for.
-fn clear<K: Key, V: Codec, S: Seal>(
+fn clear<K: Key, V: Codec, S: Seal, D: Device>(
     alloc: Global,
-    dev: &mut Memory,
+    dev: &mut D,
     cfg: &Config<V::Cfg>,
 ) -> Result<(), Error> {
     let mut map = Metadata::<K, V, S>::init(alloc, dev, cfg)?;
@@ -81,27 +81,27 @@ fn at_once(rt: HostRuntime) -> Result<(), Fail> {
     let alloc = rt.alloc();
     let mut dev = Memory::new(alloc);
     let cfg = config(alloc)?;
-    put_at_once::<Key8, u64, Sha256Seal>(alloc, &mut dev, &cfg, key(7)?, 3)?;
+    put_at_once::<Key8, u64, Sha256Seal, Memory>(alloc, &mut dev, &cfg, key(7)?, 3)?;
     assert_eq!(rt;
         blob_of(&dev.image(alloc)?, b"left"),
         copy(alloc, 1, &[(7, 3)])?.as_slice()
     );
-    clear::<Key8, u64, Sha256Seal>(alloc, &mut dev, &cfg)?;
+    clear::<Key8, u64, Sha256Seal, Memory>(alloc, &mut dev, &cfg)?;
     assert_eq!(rt;
         blob_of(&dev.image(alloc)?, b"right"),
         copy(alloc, 2, &[])?.as_slice()
     );
     // With nothing to drop nothing is written, and no call of the device is made besides those of the opening.
     let calls = dev.calls();
-    clear::<Key8, u64, Sha256Seal>(alloc, &mut dev, &cfg)?;
+    clear::<Key8, u64, Sha256Seal, Memory>(alloc, &mut dev, &cfg)?;
     assert_eq!(rt; dev.calls(), calls + 4);
     Ok(())
 }
 
 /// Opens the map, changes the value of a key that is there, and makes that durable.
-fn change<K: Key, V: Codec, S: Seal>(
+fn change<K: Key, V: Codec, S: Seal, D: Device>(
     alloc: Global,
-    dev: &mut Memory,
+    dev: &mut D,
     cfg: &Config<V::Cfg>,
     key: &K,
     value: V,
@@ -124,7 +124,7 @@ fn written_again(rt: HostRuntime) -> Result<(), Fail> {
     let alloc = rt.alloc();
     let mut dev = Memory::new(alloc);
     put(alloc, &mut dev, 7, 3)?;
-    change::<Key8, u64, Sha256Seal>(alloc, &mut dev, &config(alloc)?, &key(7)?, 4)?;
+    change::<Key8, u64, Sha256Seal, Memory>(alloc, &mut dev, &config(alloc)?, &key(7)?, 4)?;
     assert_eq!(rt;
         blob_of(&dev.image(alloc)?, b"right"),
         copy(alloc, 2, &[(7, 4)])?.as_slice()

@@ -1,7 +1,7 @@
 // Calls that are stopped at each call of the device, and the map that each crash leaves.
 use super::{CHOICES, blob_of, copy, image_of, key, map_of, opened, put};
 use crate::Error;
-use blob_device::{CrashChoice, Image, Memory};
+use blob_device::{CrashChoice, Device, Image, Memory};
 use std::alloc::Global;
 use std::test::Fail;
 
@@ -84,7 +84,7 @@ fn stopped_first_sync(rt: HostRuntime) -> Result<(), Fail> {
 }
 
 /// Opens the map and removes it.
-fn remove(alloc: Global, dev: &mut Memory) -> Result<(), Error> {
+fn remove<D: Device>(alloc: Global, dev: &mut D) -> Result<(), Error> {
     let map = opened(alloc, dev)?;
     map.destroy(dev)
 }
