@@ -1,0 +1,30 @@
+use Rattle.std.proofs.Common.{inl, inr, ℕ, min, ap, sym, subst, arith}
+use Rattle.std.specs.Prelude.{⊤}
+use Rattle.std.proofs.lemmas.Bool.{cases_lt}
+use Rattle.blob_device.specs.Disk.{Blob}
+use Rattle.blob_device.specs.Timeline.{Timeline, disk}
+use Rattle.blob_device.proofs.Results.{if_ok_with}
+use Rattle.segments.specs.Unsealed.{key_of, count_of, IsWhole}
+use Rattle.segments.proofs.EntryLemmas.{starts_none}
+use Rattle.segments.proofs.UnsealedCalls.{all_moments, whole_at_rest, whole_again}
+use Rattle.segments.proofs.unsealed.WriteBlobSectionBuffer.truncate.Goals as goal
+
+pub returns-clause-moments : goal.returns-clause-moments
+returns-clause-moments g c t stands =
+    let least = min c.args.self.settled c.args.len in
+    all_moments (λ _ _. ⊤) c.args.self _ least least (omega arith) (omega arith) (λ i lt out. (omega (arith, lt), out)) _ _ _ stands (c.truncate.ensures.spares t)
+
+pub returns-clause-reads : goal.returns-clause-reads
+returns-clause-reads g c none = starts_none _ _ _ c.truncate.ensures.entries
+
+pub returns-clause-mended : goal.returns-clause-mended
+returns-clause-mended g c t stands cuts = if_ok_with c.truncate.result (c.truncate.ensures.settles t cuts) (c.truncate.ensures.cut cuts)
+    (λ r rest cut. whole_at_rest r (disk (g.D.Device.time c.truncate.new.dev) (key_of c.args.self)) cut.0 (ap (λ (b : Blob). b.loose) rest))
+
+pub returns-clause-whole : goal.returns-clause-whole
+returns-clause-whole g c t stands whole = elim (cases_lt c.args.len (count_of c.args.self)) [
+  | inl cuts ↦ if_ok_with c.truncate.result (c.truncate.ensures.settles t cuts) (c.truncate.ensures.cut cuts)
+      (λ r rest cut. whole_at_rest r (disk (g.D.Device.time c.truncate.new.dev) (key_of c.args.self)) cut.0 (ap (λ (b : Blob). b.loose) rest))
+  | inr past ↦ whole_again c.truncate.result c.args.self (disk (g.D.Device.time c.truncate.new.dev) (key_of c.args.self)) (c.truncate.ensures.stays past)
+      (subst (λ (x : Timeline). IsWhole c.args.self (disk x (key_of c.args.self))) (ap g.D.Device.time (sym (c.truncate.ensures.untouched past))) whole)
+]

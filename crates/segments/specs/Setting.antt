@@ -1,0 +1,7 @@
+-- What buffers are made with.
+use Rattle.std.specs.Prelude.{ℕ}
+
+-- how many data bytes a page has, 1 where there are no pages, and from how many bytes on they are flushed
+pub record Setting : Type 0 where
+  pub page_size : ℕ
+  pub capacity : ℕ
