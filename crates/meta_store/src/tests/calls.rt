@@ -94,7 +94,7 @@ fn at_once(rt: HostRuntime) -> Result<(), Fail> {
     // With nothing to drop nothing is written, and no call of the device is made besides those of the opening.
     let calls = dev.calls();
     clear::<Key8, u64, Sha256Seal, Memory>(alloc, &mut dev, &cfg)?;
-    assert_eq!(rt; dev.calls(), calls + 4);
+    assert_eq!(rt; dev.calls(), calls.saturating_add(4));
     Ok(())
 }
 
