@@ -1,10 +1,10 @@
 -- What calls leave of the list of opened blobs.
-use Rattle.std.proofs.Common.{◌≡◌, ◌≢◌, ◌≤◌, inl, inr, ℕ, Option, Some, None, IsSomeAnd, refl, sym, ◌∙◌, ap, subst, arith}
+use Rattle.std.proofs.Common.{◌≡◌, ◌≤◌, inl, inr, ℕ, Option, Some, None, IsSomeAnd, sym, ap, subst, arith}
 use Rattle.blob_device.specs.Disk.{Key}
 use Rattle.blob_device.specs.Opened.{Opened, OpenedList, reads_of}
 use Rattle.blob_device.proofs.Puts.{same_or_other}
 use Rattle.sealed_pages.specs.Entries.{NoReads}
-use Rattle.segments.specs.Entries.{OnlyOwnEntry, StartsNoRead}
+use Rattle.segments.specs.Entries.{StartsNoRead}
 
 has_reads : (o : Option Opened) (n : ℕ) → IsSomeAnd o (λ p. p.reads ≡ n) → reads_of o ≡ n
 has_reads None n is = absurd is

@@ -1,3 +1,15 @@
 pub mod EntryLemmas
+pub mod HeldLemmas
+pub mod KeyLemmas
+pub mod OverLemmas
+pub mod OpenLemmas
+pub mod RemoveLemmas
+pub mod TruncateLemmas
+pub mod CountLemmas
+pub mod WalkLemmas
+pub mod SyncLemmas
+pub mod CutLemmas
 pub mod UnsealedCalls
 pub mod SealedCalls
+pub mod NumberLemmas
+pub mod InitLemmas

@@ -1,9 +1,17 @@
--- What this layer means to the layers above: a section is a buffer over a blob of its own, a list of bytes of which each crash
--- leaves what passes the buffer's test (`Leaving`). A buffer over sealed pages brings the one test (`Sealed`), one without seals the
--- other (`Unsealed`).
+-- What this layer means to the layers above: a map from sections, by number, to lists of bytes, with a floor and a ceiling
+-- (`Sections`). Each section is a buffer over a blob of its own. What a crash at any moment of a call leaves of the blobs is said
+-- blob by blob (`Leaving`, `Lasting`), by the test that each buffer brings: one over sealed pages (`Sealed`), one without seals
+-- (`Unsealed`).
+pub mod Raised
 pub mod Setting
 pub mod Leaving
 pub mod Entries
+pub mod Sections
+pub mod Lasting
+pub mod Refusing
+pub mod Managed
+pub mod Lending
+pub mod Doomed
 pub mod Sealed
 pub mod SealedLaws
 pub mod Unsealed

@@ -1,14 +1,13 @@
 -- Proofs of the laws of a section in a buffer without seals.
-use Rattle.std.specs.Prelude.{◌≡◌, ℕ, ◌+◌, ◌<◌, ◌≤◌, ◌||◌, ◌&&◌, ◌∷◌, not, eqb, leb, max, ⊤, Bool, true, false, List, [], length, Option, None, Some, IsSomeAnd}
-use Rattle.std.proofs.Common.{arith, refl, sym, ap, ◌∙◌, subst}
+use Rattle.std.specs.Prelude.{◌≡◌, ℕ, ◌≤◌, ◌||◌, ◌&&◌, ◌∷◌, not, eqb, leb, ⊤, Bool, true, false, List, [], length, None, Some}
+use Rattle.std.proofs.Common.{arith, refl, sym, ap, ◌∙◌}
 use Rattle.std.proofs.lemmas.Bool.Decides.{nat_tests}
 use Rattle.blob_device.specs.Change.{written}
-use Rattle.blob_device.specs.Disk.{Blob, MayLeave, past, Outside, settled_at}
+use Rattle.blob_device.specs.Disk.{Blob}
 use Rattle.blob_device.proofs.Bytes.{length-written}
 use Rattle.sealed_pages.proofs.WriteLemmas.{written_nothing}
 use Rattle.sealed_pages.specs.declared.write_blob.WriteBlob.{WriteBlob}
 use Rattle.sealed_pages.specs.Cutting.{IsAtRest}
-use Rattle.sealed_pages.specs.Sparing.{SameByte}
 use Rattle.segments.specs.Leaving.{Leaves}
 use Rattle.segments.specs.Unsealed.{Stands, IsWhole, MayKeep, content_of, count_of, settled_of, is_unsettled}
 

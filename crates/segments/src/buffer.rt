@@ -151,6 +151,8 @@ pub trait SectionBuffer: Sized + Drop {
         ensures reads { (StartsReads → ⊥) → StartsNoRead (D.opened dev.old) (D.opened dev.new) }
         ensures faults { D.faults dev.old ≤ D.faults dev.new }
         ensures damage { D.Tells → Stands self (disk (D.time dev.old) (key self)) → (page : ℕ) → result ≢ Err (InvalidChecksum page) }
+        // A buffer that starts no read finds no damage.
+        ensures unread { (StartsReads → ⊥) → (page : ℕ) → result ≢ Err (InvalidChecksum page) }
         ensures cause { OnErr result (((page : ℕ) × (result ≡ Err (InvalidChecksum page))) ⊎ ((result ≡ Err Mem) ⊎ ((result ≡ Err Fault) × Rose (D.faults dev.old) (D.faults dev.new)))) };
 
     /// Each crash leaves of the blob over which a buffer stands what has settled of the buffer.

@@ -1,12 +1,18 @@
-//! What sections are kept in: buffers over blobs, with sealed pages and without.
+//! Sections of a partition, each kept in a buffer over a blob of its own, with sealed pages or without.
 #![tactic(auto)]
 
 mod buffer;
+mod held;
+pub mod journal;
+mod manager;
 mod sealed;
 #[cfg(test)]
 mod tests;
+mod unopened;
 mod unsealed;
 
 pub use buffer::{BufferFactory, SectionBuffer};
+pub use held::SectionIter;
+pub use manager::{Manager, ManagerConfig};
 pub use sealed::AppendFactory;
 pub use unsealed::WriteFactory;

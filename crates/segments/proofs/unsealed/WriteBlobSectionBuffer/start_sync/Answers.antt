@@ -1,4 +1,4 @@
-use Rattle.std.proofs.Common.{ℕ, min, arith}
+use Rattle.std.proofs.Common.{arith}
 use Rattle.std.specs.Prelude.{⊤}
 use Rattle.segments.proofs.EntryLemmas.{starts_none}
 use Rattle.segments.proofs.UnsealedCalls.{all_moments}
