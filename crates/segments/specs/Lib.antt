@@ -16,3 +16,12 @@ pub mod Sealed
 pub mod SealedLaws
 pub mod Unsealed
 pub mod UnsealedLaws
+pub mod FixedItems
+pub mod FixedReading
+pub mod FixedFull
+pub mod FixedLists
+pub mod FixedLasting
+pub mod FixedShown
+pub mod FixedReplay
+pub mod FixedStepping
+pub mod FixedWalking

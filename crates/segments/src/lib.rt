@@ -2,7 +2,9 @@
 #![tactic(auto)]
 
 mod buffer;
+pub mod fixed;
 mod held;
+mod items;
 pub mod journal;
 mod manager;
 mod sealed;
@@ -13,6 +15,7 @@ mod unsealed;
 
 pub use buffer::{BufferFactory, SectionBuffer};
 pub use held::SectionIter;
+pub use items::Items;
 pub use manager::{Manager, ManagerConfig};
 pub use sealed::AppendFactory;
 pub use unsealed::WriteFactory;

@@ -1,5 +1,5 @@
 // Sections in buffers whose pages carry seals.
-ghost use Rattle.std.specs.Prelude.{◌≡◌, ◌≤◌, ⊤};
+ghost use Rattle.std.specs.Prelude.{◌≡◌, ◌≤◌, ◌<◌, ◌^◌, ⊤};
 
 use crate::{BufferFactory, SectionBuffer};
 use blob_device::{Device, Handle, RError};
@@ -16,6 +16,7 @@ pub struct AppendFactory<S> {
     pub pages: Pages,
     seal: PhantomData<S>,
     ghost valid: { 1 ≤ pages.page_size },
+    ghost small: { pages.page_size < 2 ^ 16 },
 }
 
 impl<S> Copy for AppendFactory<S> {}

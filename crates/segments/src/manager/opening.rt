@@ -280,6 +280,8 @@ impl<F: BufferFactory> Manager<F> {
         ensures guard { IsPruned result (shown self.old).floor ↔ (section < (shown self.old).floor) }
         ensures refuses { section < (shown self.old).floor → dev.new ≡ dev.old }
         ensures overflow { HasNoRoom result → IsOpenedTooLong (F.TooLong (shown self.old).factory) (D.opened dev.new) (key_of (shown self.old) section) }
+        // A section that is held is refused for want of memory alone.
+        ensures held_cause { IsHeld (shown self.old) section → OnErr result (IsErrOf result Error.Mem) }
         ensures faults { D.faults dev.old ≤ D.faults dev.new }
         ensures cause { OnErr result (IsPruned result (shown self.old).floor ⊎ (HasNoRoom result ⊎ HasFailed result (D.faults dev.old) (D.faults dev.new))) }
     {

@@ -1,0 +1,100 @@
+-- The bytes from which a replay gives items: what a reader has of them at hand, and where they end.
+use Rattle.std.proofs.Common.{◌≡◌, inl, inr, ℕ, ◌+◌, ◌*◌, ◌/◌, ◌<◌, ◌≤◌, List, length, take, drop, sym, ◌∙◌, ap, arith, length-take, length-drop}
+use Rattle.std.proofs.lemmas.Bool.{cases_lt}
+use Rattle.std.proofs.lemmas.Nat.{le-div, div_below, mul-le}
+use Rattle.sealed_pages.proofs.Holding.{div_place}
+use Rattle.std.proofs.lemmas.List.{get_or-take, get_or-drop}
+use Rattle.std.proofs.Math.Nat.{div-mul-le_self}
+use Rattle.blob_device.specs.Disk.{Blob}
+use Rattle.sealed_pages.specs.Buffer.{Buffer, size_of, bytes_of, IsSealed}
+use Rattle.sealed_pages.specs.Reads.{IsWanted, IsCovered, IsShort, needed}
+use Rattle.sealed_pages.specs.SealedPrefix.{sealed_prefix, adopted_size, data_from, place}
+use Rattle.sealed_pages.specs.Slots.{best_slot}
+use Rattle.sealed_pages.specs.Unrecovered.{IsAdopted}
+use Rattle.sealed_pages.specs.View.{View, view}
+use Rattle.sealed_pages.proofs.Adopt.{best_length, length-data_from, get_or-data_from}
+use Rattle.sealed_pages.proofs.Reaching.{own_prefix}
+use Rattle.sealed_pages.proofs.ReadLemmas.{read_data}
+use Rattle.sealed_pages.proofs.SealedBytes.{covers_length}
+use Rattle.sealed_pages.proofs.SlotLemmas.{times_next}
+use Rattle.sealed_pages.proofs.Truncating.{holds_prefix, prefix_covers}
+use Rattle.sealed_pages.proofs.UnrecoveredLemmas.{prefix_short}
+use Rattle.segments.specs.FixedItems.{item_at}
+
+data_front : (P m n k : ℕ) (v : View) → k ≤ n → take k (data_from P v m n) ≡ data_from P v m k
+data_front P m n k v le = read_data P m k v (take k (data_from P v m n)) (omega (arith, length-take k (data_from P v m n), length-data_from P v n m, le))
+    (λ i lt. get_or-take k (data_from P v m n) i 0 lt ∙ get_or-data_from P v n m i (omega (arith, lt, le)))
+
+-- an item among data
+item_data : (P size n p : ℕ) (v : View) → p * size + size ≤ n → item_at size (data_from P v 0 n) p ≡ data_from P v (p * size) size
+item_data P size n p v fits =
+    let all = data_from P v 0 n in
+    read_data P (p * size) size v (take size (drop (p * size) all)) (omega (arith, length-take size (drop (p * size) all), length-drop (p * size) all, length-data_from P v n 0, fits))
+    (λ i lt. get_or-take size (drop (p * size) all) i 0 lt ∙ get_or-drop (p * size) all i 0 ∙ get_or-data_from P v n 0 (p * size + i) (omega (arith, lt, fits))
+    ∙ (let e : 0 + (p * size + i) ≡ p * size + i = omega arith in ap (λ (x : ℕ). v (place P x)) e))
+
+-- the place behind the last whole item
+pub last_place : (size n p : ℕ) → 1 ≤ size → p * size ≤ n → n < p * size + size → n / size ≡ p
+last_place size n p pos le lt =
+    let low : p ≤ n / size = le-div p n size (omega (arith, pos)) le in
+    let high : n / size < p + 1 = div_below n size (p + 1) (omega (arith, pos)) (omega (arith, lt, times_next p size)) in
+    omega (arith, low, high)
+
+pub whole_place : (size n p : ℕ) → 1 ≤ size → n / size ≡ p → p * size ≤ n
+whole_place size n p pos is = omega (arith, div-mul-le_self n size, ap (λ (x : ℕ). x * size) is)
+
+-- fewer whole items than this have fewer bytes
+pub short_item : (size n p start : ℕ) → 1 ≤ size → n / size ≡ p → p < start → n < start * size
+short_item size n p start pos is less =
+    let below : n < (n / size + 1) * size = omega (arith, (div_place size n (omega (arith, pos))).1, times_next (n / size) size) in
+    omega (arith, below, mul-le (n / size + 1) size start size (omega (arith, is, less)) (omega arith))
+
+module _ (seal : List ℕ → ℕ) (P : ℕ) (c : List ℕ) (pos : 1 ≤ P) where
+  -- what is covered from the start on is sealed
+  pub covered_length : (n : ℕ) → IsCovered seal P c 0 n → n ≤ length (sealed_prefix seal P c)
+  covered_length n covered = covers_length seal P c n (best_slot seal P c) pos (λ k lt.
+      let wanted : IsWanted P 0 n k = record { some = omega (arith, lt); low = omega (arith, pos); high = omega (arith, lt) } in
+      omega (arith, best_length seal P c k, covered k wanted))
+
+  -- the sealed prefix ends before a page that is not covered so far
+  pub short_length : (m n k : ℕ) → IsShort seal P c m n k → length (sealed_prefix seal P c) < m + n
+  short_length m n k short = elim (cases_lt (length (sealed_prefix seal P c)) (m + n)) [
+    | inl lt ↦ lt
+    | inr le ↦ absurd (omega (arith, short.short, prefix_covers seal P c k (needed P m n k) (omega (arith, short.wanted.high, pos)) (omega arith) (omega (arith, le, short.wanted.high))))
+  ]
+
+  prefix_data : sealed_prefix seal P c ≡ data_from P (view c) 0 (length (sealed_prefix seal P c))
+  prefix_data =
+      let own = own_prefix seal P c in
+      own.is ∙ data_front P 0 (adopted_size seal P c) (length (sealed_prefix seal P c)) (view c) (omega (arith, own.no_longer, length-data_from P (view c) (adopted_size seal P c) 0))
+
+  -- the item at hand
+  pub item_kept : (size p at : ℕ) (bytes : List ℕ) → bytes ≡ data_from P (view c) at (length bytes) → at ≡ p * size → size ≤ length bytes → at + length bytes ≤ length (sealed_prefix seal P c)
+      → take size bytes ≡ item_at size (sealed_prefix seal P c) p
+  item_kept size p at bytes is here has fits =
+      ap (take size) is ∙ data_front P at (length bytes) size (view c) has ∙ ap (λ (m : ℕ). data_from P (view c) m size) here
+      ∙ sym (item_data P size (length (sealed_prefix seal P c)) p (view c) (omega (arith, here, has, fits)))
+      ∙ ap (λ (l : List ℕ). item_at size l p) (sym prefix_data)
+
+  -- with bytes behind them that are covered too
+  pub covered_on : (at n : ℕ) → IsCovered seal P c 0 at → IsCovered seal P c at n → IsCovered seal P c 0 (at + n)
+  covered_on at n before behind k wanted = elim (cases_lt at (k * P + P)) [
+    | inl near ↦ elim (cases_lt (k * P) at) [
+      | inl begun ↦ elim (cases_lt 0 n) [
+        | inl some ↦ (let here = behind k (record { some = some; low = near; high = omega (arith, begun, some) }) in omega (arith, here))
+        | inr none ↦ (let here = before k (record { some = omega (arith, begun); low = omega (arith, pos); high = omega (arith, begun) }) in omega (arith, here, none))
+      ]
+      | inr behind_it ↦ (let here = behind k (record { some = omega (arith, wanted.high, behind_it); low = near; high = omega (arith, wanted.high) }) in omega (arith, here))
+    ]
+    | inr far ↦ (let here = before k (record { some = omega (arith, far, pos); low = omega (arith, pos); high = omega (arith, far, pos) }) in omega (arith, here, far))
+  ]
+
+module _ (seal : List ℕ → ℕ) (u : Buffer) (b : Blob) (begun : u.from < u.page_size) where
+  -- the bytes of a sealed buffer are its sealed prefix, once they are flushed
+  pub sealed_flushed : IsSealed seal u b → u.from ≡ length u.tip → sealed_prefix seal u.page_size b.content ≡ bytes_of u b.content
+  sealed_flushed sealed flushed = holds_prefix seal u (bytes_of u b.content) b begun sealed flushed
+
+  -- a buffer whose sealed prefix has as many bytes as the buffer is sealed
+  pub sealed_by_length : IsAdopted seal u b → size_of u ≤ length (sealed_prefix seal u.page_size b.content) → IsSealed seal u b
+  sealed_by_length (inl sealed) long = sealed
+  sealed_by_length (inr un) long = absurd (omega (arith, long, prefix_short seal u b (omega (arith, begun)) un))

@@ -1,0 +1,318 @@
+-- A replay of a fixed journal begins a section: the step that this is.
+use Rattle.std.specs.Prelude.{◌≡◌, ◌⊎◌, ◌↔◌, ℕ, ◌+◌, ◌-◌, ◌*◌, ◌/◌, ◌%◌, ◌^◌, ◌<◌, ◌≤◌, cond, Bool, true, false, List, [], length, IsTrue, IsSomeAnd, Option, None, Some, Result, Ok, Err}
+use Rattle.std.proofs.Common.{inl, inr, refl, sym, ◌∙◌, ap, subst, arith, eqb}
+use Rattle.sealed_pages.proofs.Holding.{bool_or}
+use Rattle.std.proofs.lemmas.Bool.{cases_eq, eq-eqb, eqb-true}
+use Rattle.blob_device.specs.Disk.{Key, Blob, Disk}
+use Rattle.blob_device.specs.Opened.{OpenedList, reads_of}
+use Rattle.blob_device.specs.Timeline.{Timeline, disk, Always, Each}
+use Rattle.blob_device.proofs.Moments.{always_start}
+use Rattle.sealed_pages.specs.declared.page_blob.PageBlob.{PageBlob}
+use Rattle.sealed_pages.specs.Shown.{shown}
+use Rattle.sealed_pages.specs.Buffer.{size_of, bytes_of, IsSealed}
+use Rattle.sealed_pages.specs.ChanceSeal.{Leaves, Sealing}
+use Rattle.sealed_pages.specs.Readers.{Reader, IsReplayOf}
+use Rattle.sealed_pages.specs.Reads.{pages_for}
+use Rattle.sealed_pages.specs.SealedPrefix.{sealed_prefix}
+use Rattle.sealed_pages.proofs.Holding.{fit_size}
+use Rattle.sealed_pages.proofs.ReplayLemmas.{covered_none}
+use Rattle.segments.specs.declared.buffer.SectionBuffer as buffer
+use Rattle.segments.specs.declared.journal.Error.{Error}
+use Rattle.segments.specs.declared.journal.Error.TheVariants.{ItemOutOfRange}
+use Rattle.segments.specs.Setting.{Setting}
+use Rattle.segments.specs.Sections.{key_of, IsHeld}
+use Rattle.segments.specs.FixedReading.{HasNotRead}
+use Rattle.segments.specs.FixedReplay.{Place, Walk, IsAhead, IsIn, IsLeft, IsWalk, Replaying, StandsIn, ReadsIn, kept_of, kept_bytes, first_of}
+use Rattle.segments.specs.FixedStepping.{reads_left, way_of, sections_ahead, bytes_ahead, OnlySections, Touches, IsFlushed, BeginsOver, Steps}
+use Rattle.segments.proofs.FixedCounts.{count_here, count_ahead}
+use Rattle.segments.proofs.FixedEnding.{IsNext, next_after, next_from, ahead_from, next_back, fewer_ahead, nearer_begun}
+use Rattle.segments.proofs.FixedReading.{the_some, here}
+use Rattle.segments.proofs.FixedSteps.{Called, call_failed, call_passed}
+use Rattle.segments.proofs.FixedWalks.{IsBehind, IsReached, MayCut, is_some, same_some, none_in, key_new, first_same, held_back, held_on, kept_other, later_one}
+use Rattle.segments.proofs.FixedWalksOn.{IsKnownAgain, replaying_start, replaying_here, moments_of}
+
+first_here : {F B : Type 0} (w : Walk F B) (s : ℕ) → s ≡ w.start_section → first_of w s ≡ w.start_position
+first_here w s is = ap (λ (o : Bool). cond o w.start_position 0) (eq-eqb s w.start_section is)
+
+first_there : {F B : Type 0} (w : Walk F B) (s : ℕ) → (s ≡ w.start_section → ⊥) → first_of w s ≡ 0
+first_there w s other = elim (bool_or (eqb s w.start_section)) [
+  | inl is ↦ absurd (other (eqb-true s w.start_section is))
+  | inr not ↦ ap (λ (o : Bool). cond o w.start_position 0) not
+]
+
+module _ {F S : Type 0} {gs : _} (seal : List ℕ → ℕ) (size : ℕ) (g : buffer.Ghosts (PageBlob S gs)) (gives : F → Setting) {told : Type 0} where
+  -- The first item of a section that is ahead is within it.
+  module _ (w : Walk F (PageBlob S gs)) (s : ℕ) (before : OpenedList) (d : Disk) (was : IsWalk g gives seal size told w before d) (u : PageBlob S gs) (held : w.journal.sections.held s ≡ Some u) (ahead : IsAhead w s) where
+    start_fits : first_of w s * size ≤ size_of (shown u)
+    start_fits = elim (cases_eq s w.start_section) [
+      | inl is ↦
+          let there : w.journal.sections.held w.start_section ≡ Some u = subst (λ (k : ℕ). w.journal.sections.held k ≡ Some u) is held in
+          let far : IsAhead w w.start_section = subst (IsAhead w) is ahead in
+          omega (arith, was.walk.start_within far u there, ap (λ (k : ℕ). k * size) (first_here w s is))
+      | inr other ↦ omega (arith, ap (λ (k : ℕ). k * size) (first_there w s other))
+    ]
+
+    pub begin_fits : (first : ℕ) → first ≡ cond (w.journal.unrecovered s) 0 (first_of w s) → first * size ≤ size_of (shown u)
+    begin_fits first first_is = go (w.journal.unrecovered s) first_is
+      where
+        go : (owes : Bool) → first ≡ cond owes 0 (first_of w s) → first * size ≤ size_of (shown u)
+        go true is = omega (arith, ap (λ (k : ℕ). k * size) is)
+        go false is = omega (arith, start_fits, ap (λ (k : ℕ). k * size) is)
+
+  -- A section is begun: the next one that is ahead.
+  module _ (w new : Walk F (PageBlob S gs)) (s : ℕ) (n : Option ℕ) (p : Option Place) (before after : OpenedList) (a b : Timeline) (was : IsWalk g gives seal size told w before (disk a)) (none : w.place ≡ None)
+      {T : Type 0} (result : Result T Error) (only : OnlySections (record w { next_section = n; place = p }) new) (next : IsNext s n)
+      (touch : Touches g gives told result s w.journal.sections new.journal.sections before after a b)
+      (u : PageBlob S gs) (held : w.journal.sections.held s ≡ Some u) (ahead : IsAhead w s) (least : (t : ℕ) → IsHeld w.journal.sections t → IsAhead w t → s ≤ t)
+      (moments : told → IsSealed seal (shown u) (disk a (key_of w.journal.sections s)) → Sealing seal u.page_size (bytes_of (shown u) (disk a (key_of w.journal.sections s)).content) u.settled (key_of w.journal.sections s) a b)
+      (idle : u.settled ≡ size_of (shown u) → b ≡ a)
+      {V : Type 0} (spelling : V → List ℕ) (accepted : V → Unit {0} → Type 0) (few many : ℕ) (le : few ≤ many) where
+    abbrev key : Key
+    key = key_of w.journal.sections s
+
+    numbers : (q : ℕ) → IsHeld w.journal.sections q → q < 2 ^ 64
+    numbers q h = was.over.opened_list.number q (inl h)
+
+    small : s < 2 ^ 64
+    small = numbers s (is_some (w.journal.sections.held s) u held)
+
+    next_new : IsNext s new.next_section
+    next_new = subst (IsNext s) (sym only.next) next
+
+    start_before : w.start_section ≤ s
+    start_before = (let first = the_some w.next_section ahead in let from = was.walk.from_start first.0 first.1 in omega (arith, from, first.2))
+
+    reached : IsReached seal size s w
+    reached = record { held = is_some (w.journal.sections.held s) u held; near = inl ahead }
+
+    ahead_back : (t : ℕ) → IsAhead new t → IsAhead w t
+    ahead_back t h = ahead_from w.next_section s t (next_back s new.next_section next_new t h) ahead
+
+    behind : IsBehind seal size s w new
+    behind = record {
+      in_old = λ t is. absurd (none_in w.place (λ x. x.section ≡ t) none is);
+      ahead = λ t small. (
+        λ h. (ahead_back t h, (next_after s new.next_section next_new t small).0 h),
+        λ h. (next_after s new.next_section next_new t small).1 h.1,
+      );
+      later = λ t here far other. omega (arith, least t here far, other);
+    }
+
+    called : Called {V = V} seal size g gives spelling accepted told s w new before after a b few many
+    called = record {
+      was = was;
+      one = record {
+        same = record { bounds = touch.bounds; unrecovered = only.unrecovered; section = only.section; position = only.position };
+        small = small;
+        numbers = numbers;
+        others = touch.others;
+        blobs = touch.blobs;
+      };
+      behind = behind;
+      reached = reached;
+      over = touch.over;
+      entries = touch.entries;
+      moments = λ t. moments_by t (w.journal.unrecovered s) refl;
+      from = λ k is. next_from s new.start_section new.next_section next_new (subst (λ (x : ℕ). x ≤ s) (sym only.section) start_before) k is;
+      faults = le;
+    }
+      where
+        moments_by : told → (owes : Bool) → w.journal.unrecovered s ≡ owes → Always a b (Each (Replaying seal size w (disk a)))
+        moments_by t true owed = subst (λ (x : Timeline). Always a x (Each (Replaying seal size w (disk a)))) (sym (idle (was.walk.owes_settled.settled s u held owed)))
+            (always_start a (Each (Replaying seal size w (disk a))) (λ q. replaying_start seal size w (disk a) (was.disk t).sealed q))
+        moments_by t false free = moments_of seal size w (disk a) s small numbers reached a b
+            (Leaves seal u.page_size (bytes_of (shown u) (disk a key).content) u.settled) refl (was.disk t).sealed (moments t ((was.disk t).sealed.sealed s u held free))
+            (λ x leaves. replaying_here seal size w (disk a) s small numbers reached x
+            (λ y is also. subst (λ (z : PageBlob S gs). Leaves seal z.page_size (bytes_of (shown z) (disk a key).content) z.settled x) (sym (same_some (w.journal.sections.held s) u y held is)) leaves)
+            (λ y is owes. absurd (cc (owes, free))))
+
+    -- It was refused, and the section may be lost.
+    pub begin_failed : (x : Error) → new.place ≡ None → new.ended ≡ w.ended → (new.journal.sections.held s ≡ None) ⊎ ((new.journal.sections.held s ≡ w.journal.sections.held s) × (b ≡ a))
+        → ((k : ℕ) → x ≡ ItemOutOfRange k → ⊥) → HasNotRead {T = Option (ℕ × ℕ × V)} (Err x) few many
+        → Steps seal size g gives spelling accepted told (Err x) w new before after a b few many
+    begin_failed x none_new ended lost other cause = call_failed seal size g gives spelling accepted told s w new before after a b few many called x lost none_new ahead_back (inr ended) other cause
+
+    -- The replay stands at the section's first item, or at its start.
+    module _ (v : PageBlob S gs) (held_new : new.journal.sections.held s ≡ Some v) (R : Reader) (first : ℕ) (first_is : first ≡ cond (w.journal.unrecovered s) 0 (first_of w s))
+        (flush : IsFlushed seal told u (disk a (key_of w.journal.sections s)) v (disk b (key_of w.journal.sections s))) (begins : BeginsOver seal (key_of w.journal.sections s) u v R)
+        (replays : (content : List ℕ) → IsReplayOf seal content (record R { at = first * size; bytes = [] }))
+        (at_first : p ≡ Some (record { section = s; position = first; reader = record R { at = first * size; bytes = [] } })) (ended : new.ended ≡ w.ended) (pos : 1 ≤ size) where
+      abbrev r : Place
+      r = record { section = s; position = first; reader = record R { at = first * size; bytes = [] } }
+
+      place_new : new.place ≡ Some r
+      place_new = only.place ∙ at_first
+
+      in_new : IsIn new s
+      in_new = subst (λ (o : Option Place). IsSomeAnd o (λ x. x.section ≡ s)) (sym place_new) refl
+
+      first_fits : first * size ≤ size_of (shown u)
+      first_fits = begin_fits w s before (disk a) was u held ahead first first_is
+
+      none_before : first ≤ first_of w s
+      none_before = go (w.journal.unrecovered s) first_is
+        where
+          go : (owes : Bool) → first ≡ cond owes 0 (first_of w s) → first ≤ first_of w s
+          go true is = omega (arith, is)
+          go false is = omega (arith, is)
+
+      key_same : key_of new.journal.sections s ≡ key
+      key_same = key_new seal size s w new (disk a) (disk b) called.one s
+
+      first_new : first_of new s ≡ first_of w s
+      first_new = first_same seal size s w new (disk a) (disk b) called.one s
+
+      stands : StandsIn size new r v
+      stands = record {
+        key = begins.key ∙ sym key_same;
+        page_size = begins.page_size ∙ sym flush.page_size;
+        end = begins.end;
+        blob_size = begins.size ∙ sym flush.size;
+        flushed = flush.flushed;
+        at = refl;
+        within = omega (arith, first_fits, flush.size);
+        begun = λ free. (let is : first ≡ first_of w s = first_is ∙ ap (λ (o : Bool). cond o 0 (first_of w s)) (sym (only.unrecovered s) ∙ free) in omega (arith, is, first_new));
+      }
+
+      reads : ReadsIn seal new (disk b) r v
+      reads = record {
+        replays = replays (disk b (key_of new.journal.sections s)).content;
+        checked = λ owed. (let is : first ≡ 0 = first_is ∙ ap (λ (o : Bool). cond o 0 (first_of w s)) (sym (only.unrecovered s) ∙ owed) in
+            covered_none seal v.page_size (disk b (key_of new.journal.sections s)).content 0 (first * size + 0) (omega (arith, ap (λ (k : ℕ). k * size) is)));
+      }
+
+      sealed : told → w.journal.unrecovered s ≡ false → IsSealed seal (shown v) (disk b (key_of new.journal.sections s)) × (size_of (shown v) % size ≡ 0)
+      sealed t free = (
+        subst (λ (k : Key). IsSealed seal (shown v) (disk b k)) (sym key_same) (flush.sealed t ((was.disk t).sealed.sealed s u held free)).0,
+        ap (λ (k : ℕ). k % size) flush.size ∙ (was.disk t).sealed.whole s u held free,
+      )
+
+      same_time : IsTrue (w.journal.unrecovered s) → b ≡ a
+      same_time owed = idle (was.walk.owes_settled.settled s u held owed)
+
+      kept : told → kept_bytes seal size new (disk b) s ≡ kept_bytes seal size w (disk a) s
+      kept t = opens_new ∙ go (w.journal.unrecovered s) refl ∙ sym opens_old
+        where
+          opens_new : kept_bytes seal size new (disk b) s ≡ kept_of seal (w.journal.unrecovered s) (Some v) (disk b key).content
+          opens_new = λ i. kept_of seal (only.unrecovered s i) (held_new i) (disk b (key_same i)).content
+
+          opens_old : kept_bytes seal size w (disk a) s ≡ kept_of seal (w.journal.unrecovered s) (Some u) (disk a key).content
+          opens_old = λ i. kept_of seal (w.journal.unrecovered s) (held i) (disk a key).content
+
+          go : (owes : Bool) → w.journal.unrecovered s ≡ owes → kept_of seal (w.journal.unrecovered s) (Some v) (disk b key).content ≡ kept_of seal (w.journal.unrecovered s) (Some u) (disk a key).content
+          go true owed = ap (λ (o : Bool). kept_of seal o (Some v) (disk b key).content) owed
+              ∙ (λ i. sealed_prefix seal (flush.page_size i) (disk (same_time owed i) key).content)
+              ∙ ap (λ (o : Bool). kept_of seal o (Some u) (disk a key).content) (sym owed)
+          go false free = ap (λ (o : Bool). kept_of seal o (Some v) (disk b key).content) free
+              ∙ (flush.sealed t ((was.disk t).sealed.sealed s u held free)).1
+              ∙ ap (λ (o : Bool). kept_of seal o (Some u) (disk a key).content) (sym free)
+
+      onward : (t : ℕ) → IsAhead new t ⊎ IsIn new t → IsAhead w t ⊎ IsIn w t
+      onward t (inl far) = inl (ahead_back t far)
+      onward t (inr there) = (let at : s ≡ t = subst (λ (o : Option Place). IsSomeAnd o (λ x. x.section ≡ t)) place_new there in inl (subst (IsAhead w) at ahead))
+
+      later : told → (q : Key) (x : Blob) → Replaying seal size new (disk b) q x → Replaying seal size w (disk a) q x
+      later t = later_one seal size s w new (disk a) (disk b) called.one t reached onward v held_new
+          (λ y is free x left. subst (λ (z : PageBlob S gs). Leaves seal z.page_size (bytes_of (shown z) (disk a key).content) z.settled x) (sym (same_some (w.journal.sections.held s) u y held is)) (flushed_leaves free x left))
+          (λ y is owes x may. subst (λ (z : PageBlob S gs). MayCut seal size z (disk a key) x) (sym (same_some (w.journal.sections.held s) u y held is)) (cut_leaves owes x may))
+        where
+          flushed_leaves : w.journal.unrecovered s ≡ false → (x : Blob) → Leaves seal v.page_size (bytes_of (shown v) (disk b key).content) v.settled x → Leaves seal u.page_size (bytes_of (shown u) (disk a key).content) u.settled x
+          flushed_leaves free x left =
+              let paged : Leaves seal u.page_size (bytes_of (shown v) (disk b key).content) v.settled x = subst (λ (P : ℕ). Leaves seal P (bytes_of (shown v) (disk b key).content) v.settled x) flush.page_size left in
+              let settled : Leaves seal u.page_size (bytes_of (shown v) (disk b key).content) u.settled x = subst (λ (k : ℕ). Leaves seal u.page_size (bytes_of (shown v) (disk b key).content) k x) flush.settled paged in
+              subst (λ (l : List ℕ). Leaves seal u.page_size l u.settled x) (flush.sealed t ((was.disk t).sealed.sealed s u held free)).1 settled
+
+          cut_leaves : IsTrue (w.journal.unrecovered s) → (x : Blob) → MayCut seal size v (disk b key) x → MayCut seal size u (disk a key) x
+          cut_leaves owes x may =
+              let blob : disk b key ≡ disk a key = ap (λ (y : Timeline). disk y key) (same_time owes) in
+              subst (λ (y : Blob). MayCut seal size u y x) blob
+              (subst (λ (P : ℕ). (x ≡ disk b key) ⊎ Leaves seal P (sealed_prefix seal P (disk b key).content) (length (sealed_prefix seal P (disk b key).content) / size * size) x) flush.page_size may)
+
+      again : IsKnownAgain seal size g gives w new before after (disk a) (disk b) was s v
+      again = record {
+        held = held_new;
+        not_ahead = λ h. omega (arith, (next_after s new.next_section next_new s small).0 h);
+        settled = λ owed. flush.settled ∙ was.walk.owes_settled.settled s u held owed ∙ sym flush.size;
+        sealed = sealed;
+        gone_over = λ t out. absurd (out in_new);
+        place = λ x is. (let at : r ≡ x = cc (place_new, is) in
+            subst (λ (y : Place). (y.section ≡ s) × StandsIn size new y v × (told → ReadsIn seal new (disk b) y v)) at (refl, stands, λ t. reads));
+        begun = λ there. subst (λ (k : ℕ). k ≤ s) (sym only.section) start_before;
+      }
+
+      left : told → (t q : ℕ) → IsLeft seal size new (disk b) t q ↔ IsLeft seal size w (disk a) t q
+      left tells t q = (forth, back)
+        where
+          first_t : first_of new t ≡ first_of w t
+          first_t = first_same seal size s w new (disk a) (disk b) called.one t
+
+          kept_t : kept_bytes seal size new (disk b) t ≡ kept_bytes seal size w (disk a) t
+          kept_t = elim (cases_eq t s) [
+            | inl is ↦ subst (λ (k : ℕ). kept_bytes seal size new (disk b) k ≡ kept_bytes seal size w (disk a) k) (sym is) (kept tells)
+            | inr other ↦ kept_other seal size s w new (disk a) (disk b) called.one tells t other
+          ]
+
+          held_t : IsHeld new.journal.sections t → IsHeld w.journal.sections t
+          held_t h = elim (cases_eq t s) [
+            | inl is ↦ subst (IsHeld w.journal.sections) (sym is) reached.held
+            | inr other ↦ held_back seal size s w new (disk a) (disk b) called.one t other h
+          ]
+
+          forth : IsLeft seal size new (disk b) t q → IsLeft seal size w (disk a) t q
+          forth l = record {
+            goes_on = sym ended ∙ l.goes_on;
+            begun = subst (λ (k : ℕ). k ≤ q) first_t l.begun;
+            whole = subst (λ (c : List ℕ). q < length c / size) kept_t l.whole;
+            ahead = elim l.ahead [
+              | inl here ↦ inl (held_t here.0, ahead_back t here.1)
+              | inr there ↦ (let at : s ≡ t = (subst (λ (o : Option Place). IsSomeAnd o (λ x. (x.section ≡ t) × (x.position ≤ q))) place_new there).0 in
+                  inl (subst (IsHeld w.journal.sections) at reached.held, subst (IsAhead w) at ahead))
+            ];
+          }
+
+          back : IsLeft seal size w (disk a) t q → IsLeft seal size new (disk b) t q
+          back l = record {
+            goes_on = ended ∙ l.goes_on;
+            begun = subst (λ (k : ℕ). k ≤ q) (sym first_t) l.begun;
+            whole = subst (λ (c : List ℕ). q < length c / size) (sym kept_t) l.whole;
+            ahead = elim l.ahead [
+              | inl here ↦ elim (cases_eq t s) [
+                | inl is ↦ inr (subst (λ (o : Option Place). IsSomeAnd o (λ x. (x.section ≡ t) × (x.position ≤ q))) (sym place_new)
+                    (sym is, (let begun : first_of w s ≤ q = subst (λ (k : ℕ). first_of w k ≤ q) is l.begun in omega (arith, begun, none_before))))
+                | inr other ↦ inl (
+                  held_on seal size s w new (disk a) (disk b) called.one t other here.0,
+                  (next_after s new.next_section next_new t (numbers t here.0)).1 (behind.later t here.0 here.1 other),
+                )
+              ]
+              | inr there ↦ absurd (none_in w.place (λ x. (x.section ≡ t) × (x.position ≤ q)) none there)
+            ];
+          }
+
+      pub begin_begun : reads_of (after (key_of w.journal.sections s)) ≤ reads_of (before (key_of w.journal.sections s)) → Steps seal size g gives spelling accepted told (Ok None) w new before after a b few many
+      unfolding called
+      begin_begun none_begun = call_passed seal size g gives spelling accepted told s w new before after a b few many called v
+          (record { again = again; failed = only.failed; ended = ended; later = later }) onward nearer left kept_all new_in reads_here
+        where
+          new_in : (x : ℕ) → IsIn new x → x ≡ s
+          new_in x there = sym (subst (λ (o : Option Place). IsSomeAnd o (λ y. y.section ≡ x)) place_new there)
+
+          reads_here : reads_of (after (key_of w.journal.sections s)) + reads_left new s ≤ reads_of (before (key_of w.journal.sections s)) + reads_left w s
+          reads_here =
+              let pages : pages_for R.page_size R.size ≡ pages_for u.page_size (size_of (shown u)) = λ i. pages_for (begins.page_size i) (begins.size i) in
+              omega (arith, none_begun, pages, count_here new r v place_new held_new, count_ahead w s u none held ahead, ap {B = ℕ} (λ (o : Bool). cond o 1 0) (only.unrecovered s))
+
+          nearer : way_of new < way_of w
+          nearer =
+              let fits = fit_size u.page_size u.first u.from u.tip.items u.fit in
+              omega (
+                arith,
+                ap bytes_ahead place_new,
+                ap bytes_ahead none,
+                nearer_begun (sections_ahead w.next_section) (sections_ahead new.next_section) (R.size - first * size) (fewer_ahead s w.next_section new.next_section small ahead next_new) (omega (arith, fits, begins.size)),
+              )
+
+          kept_all : told → (t : ℕ) → IsAhead new t ⊎ IsIn new t → kept_bytes seal size new (disk b) t ≡ kept_bytes seal size w (disk a) t
+          kept_all tells t near = elim (cases_eq t s) [
+            | inl is ↦ subst (λ (k : ℕ). kept_bytes seal size new (disk b) k ≡ kept_bytes seal size w (disk a) k) (sym is) (kept tells)
+            | inr other ↦ kept_other seal size s w new (disk a) (disk b) called.one tells t other
+          ]

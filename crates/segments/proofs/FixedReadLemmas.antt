@@ -1,0 +1,70 @@
+-- Reading items of a fixed journal: where they stand, which of them are held in memory, and how many pages they touch.
+use Rattle.std.proofs.Common.{◌≡◌, ◌↔◌, inl, inr, ℕ, ◌+◌, ◌-◌, ◌*◌, ◌/◌, ◌<◌, ◌≤◌, leb, Bool, true, false, List, length, get_or, take, drop, refl, sym, ◌∙◌, ap, subst, arith}
+use Rattle.std.specs.List.{Contains}
+use Rattle.std.specs.List.Sorted.{IsStrictlySortedBy}
+use Rattle.std.specs.Ordering.{nat_cmp}
+use Rattle.std.proofs.lemmas.Bool.{cases_eq, cases_lt, leb-true, le-leb}
+use Rattle.std.proofs.lemmas.Bool.Decides.{nat_tests}
+use Rattle.std.proofs.lemmas.List.{get_or_default}
+use Rattle.std.proofs.lemmas.Map.Keys.{below_from_sorted}
+use Rattle.std.proofs.lemmas.Nat.{div_below}
+use Rattle.std.proofs.Math.Nat.{mul-le-mul_right, div-mul-le_self}
+use Rattle.sealed_pages.specs.Reads.{IsHeld, IsCovered, IsShort, touched, below}
+use Rattle.sealed_pages.proofs.Holding.{bool_or, div_place, times_sum}
+use Rattle.sealed_pages.proofs.SlotLemmas.{times_next}
+use Rattle.segments.specs.FixedItems.{item_at}
+
+-- a whole item ends where the bytes do, or before
+pub item_within : (size n p : ℕ) → p < n / size → p * size + size ≤ n
+item_within size n p lt =
+    let le : p + 1 ≤ n / size = omega (arith, lt) in
+    omega (arith, times_next p size, mul-le-mul_right size le, div-mul-le_self n size)
+
+-- a read of as many bytes as the item at p has, from where it stands
+module _ (P first size p m n : ℕ) (at : m ≡ p * size) (long : n ≡ size) where
+  -- an answer that tells whether the bytes are held
+  pub told_held : (total : ℕ) (r : Bool) → 1 ≤ size → p * size + size ≤ total → (r ≡ true) ↔ IsHeld P first total m n → r ≡ leb (first * P) (p * size)
+  told_held total true pos fits iff = sym (le-leb (first * P) (p * size) (omega (arith, (iff.0 refl m (omega arith) (omega (arith, long, pos))).0, at)))
+  told_held total false pos fits iff = elim (bool_or (leb (first * P) (p * size))) [
+    | inl is ↦ absurd (cc (iff.1 (λ i low high. (omega (arith, leb-true (first * P) (p * size) is, low, at), omega (arith, fits, high, at, long)))))
+    | inr not_held ↦ sym not_held
+  ]
+
+  pub read_item : (xs bytes : List ℕ) → xs ≡ take n (drop m bytes) → xs ≡ item_at size bytes p
+  read_item xs bytes is = is ∙ ap (λ (k : ℕ). take n (drop k bytes)) at ∙ ap (λ (k : ℕ). take k (drop (p * size) bytes)) long
+
+  pub short_item : (seal : List ℕ → ℕ) (content : List ℕ) (k : ℕ) → IsShort seal P content m (below P first m n) k → IsShort seal P content (p * size) (below P first (p * size) size) k
+  short_item seal content k short =
+      subst (λ (x : ℕ). IsShort seal P content (p * size) (below P first (p * size) x) k) long (subst (λ (x : ℕ). IsShort seal P content x (below P first x n) k) at short)
+
+-- no page below the tip has bytes of a held item
+pub held_covered : (seal : List ℕ → ℕ) (P first size p : ℕ) (content : List ℕ) → leb (first * P) (p * size) ≡ true → IsCovered seal P content (p * size) (below P first (p * size) size)
+held_covered seal P first size p content is k wanted = absurd (omega (arith, leb-true (first * P) (p * size) is, wanted.some))
+
+touched_none : (P m n : ℕ) → n ≡ 0 → touched P m n ≡ 0
+touched_none P m n none = grind (arith, nat_tests)
+
+touched_some : (P m n : ℕ) → (n ≡ 0 → ⊥) → touched P m n ≡ (m + n + (P - 1)) / P - m / P
+touched_some P m n some = grind (arith, nat_tests)
+
+-- so many bytes touch at most two pages more than they fill
+pub touched_most : (P m n size : ℕ) → 1 ≤ P → n ≤ size → touched P m n ≤ size / P + 2
+touched_most P m n size pos le = elim (cases_eq n 0) [
+  | inl none ↦ omega (arith, touched_none P m n none)
+  | inr some ↦
+      (let room : m + n + (P - 1) < (m / P + size / P + 3) * P = omega (arith, (div_place P m (omega (arith, pos))).1, (div_place P size (omega (arith, pos))).1, times_sum (m / P + size / P) 3 P, times_sum (m / P) (size / P) P, le) in
+      let few : (m + n + (P - 1)) / P < m / P + size / P + 3 = div_below (m + n + (P - 1)) P (m / P + size / P + 3) (omega (arith, pos)) room in
+      omega (arith, touched_some P m n some, few))
+]
+
+-- a number of an ascending list that is less than the one at i stands before that one
+pub stands_before : (xs : List ℕ) (i x q : ℕ) → IsStrictlySortedBy nat_cmp xs → i < length xs → x ≡ get_or xs i 0 → Contains xs q → q < x → (k : ℕ) × (k < i) × (get_or xs k 0 ≡ q)
+stands_before xs i x q sorted inside at has less =
+    let here : get_or xs has.0 0 ≡ q = get_or_default xs has.0 0 q has.1 ∙ has.2 in
+    elim (cases_lt has.0 i) [
+      | inl before ↦ (has.0, before, here)
+      | inr after ↦ elim (cases_lt i has.0) [
+        | inl more ↦ absurd (omega (arith, below_from_sorted xs i has.0 0 sorted more has.1, here, at, less))
+        | inr same ↦ (let e : has.0 ≡ i = omega (arith, after, same) in absurd (omega (arith, ap (λ (k : ℕ). get_or xs k 0) e, here, at, less)))
+      ]
+    ]

@@ -1,0 +1,195 @@
+-- A replay of a fixed journal after some steps that gave nothing: what one more answers, from where the first began.
+use Rattle.std.specs.Prelude.{◌≡◌, ◌⊎◌, ℕ, ◌+◌, ◌*◌, ◌<◌, ◌≤◌, true, List, length, IsSomeAnd, Option, None, Some, Result, Ok, Err, OnOk, OnErr}
+use Rattle.std.specs.Result.{IsErrOf}
+use Rattle.std.proofs.Common.{inl, inr, refl, sym, ◌∙◌, ap, subst, arith}
+use Rattle.blob_device.specs.Disk.{Key, Disk}
+use Rattle.blob_device.specs.Opened.{OpenedList, reads_of}
+use Rattle.blob_device.specs.Timeline.{Timeline, disk, Always, Each}
+use Rattle.blob_device.proofs.Moments.{always_start, always_then, always_weaker}
+use Rattle.sealed_pages.specs.declared.page_blob.PageBlob.{PageBlob}
+use Rattle.segments.specs.declared.buffer.SectionBuffer as buffer
+use Rattle.segments.specs.declared.journal.Error.{Error}
+use Rattle.segments.specs.declared.journal.Error.TheVariants.{ItemOutOfRange}
+use Rattle.segments.specs.Setting.{Setting}
+use Rattle.segments.specs.Sections.{section_key, key_of, IsHeld, IsKeyOf}
+use Rattle.segments.specs.FixedItems.{item_at, IsItem}
+use Rattle.segments.specs.FixedReading.{HasNotRead}
+use Rattle.segments.specs.FixedReplay.{Place, Walk, IsAhead, IsIn, IsLeft, IsDrained, SameWalk, IsWalk, Gives, Stops, Replaying, kept_bytes}
+use Rattle.segments.specs.FixedStepping.{failing, reads_left, ReadsOnce, GoesOn, Carries, Steps}
+use Rattle.segments.proofs.FixedReading.{not_read_since}
+use Rattle.segments.proofs.FixedWalks.{none_in}
+use Rattle.segments.proofs.FixedWalksOn.{replaying_start}
+
+module _ {F S : Type 0} {gs : _} (seal : List ℕ → ℕ) (size : ℕ) (g : buffer.Ghosts (PageBlob S gs)) (gives : F → Setting) {told : Type 0} {w v : Walk F (PageBlob S gs)} where
+  -- the same replay, as it is written another way
+  pub walk_same : (opened : OpenedList) (d : Disk) → w ≡ v → IsWalk g gives seal size told w opened d → IsWalk g gives seal size told v opened d
+  walk_same opened d same is = subst (λ (x : Walk F (PageBlob S gs)). IsWalk g gives seal size told x opened d) same is
+
+  pub steps_same : {V : Type 0} (spelling : V → List ℕ) (accepted : V → Unit {0} → Type 0) (result : Result (Option (ℕ × ℕ × V)) Error) (new : Walk F (PageBlob S gs)) (before after : OpenedList) (a b : Timeline) (few many : ℕ)
+      → w ≡ v → Steps seal size g gives spelling accepted told result v new before after a b few many → Steps seal size g gives spelling accepted told result w new before after a b few many
+  steps_same spelling accepted result new before after a b few many same step =
+      subst (λ (x : Walk F (PageBlob S gs)). Steps seal size g gives spelling accepted told result x new before after a b few many) (sym same) step
+
+-- what holds where a call succeeded, and where it failed
+pub ok_at : {T E P : Type 0} (r : Result T E) (x : T) → r ≡ Ok x → OnOk r P → P
+ok_at (Ok y) x is has = has
+ok_at (Err y) x is has = absurd (cc is)
+
+pub err_at : {T E P : Type 0} (r : Result T E) (x : E) → r ≡ Err x → OnErr r P → P
+err_at (Ok y) x is has = absurd (cc is)
+err_at (Err y) x is has = has
+
+-- an error of one call is one of another
+other_result : {T U : Type 0} (r : Result T Error) (x : Error) → r ≡ Err x → (few many : ℕ) → HasNotRead r few many → HasNotRead {T = U} (Err x) few many
+other_result r x is few many has = elim has [
+  | inl page ↦ (let at = page.1 in inl (page.0, cc (at, is)))
+  | inr other ↦ inr (elim other [
+    | inl code ↦ (let at = code.1 in inl (code.0, cc (at, is)))
+    | inr failed ↦ inr (elim failed [ inl mem ↦ inl (cc (mem, is)) | inr fault ↦ (let at = fault.0 in inr (cc (at, is), fault.1)) ])
+  ])
+]
+
+module _ {F S : Type 0} {gs : _} (seal : List ℕ → ℕ) (size : ℕ) (g : buffer.Ghosts (PageBlob S gs)) (gives : F → Setting) (told : Type 0) (old : Walk F (PageBlob S gs)) (before : OpenedList) (a : Timeline) (few : ℕ) where
+  -- The replay has run from `old` to here, and gave nothing on the way.
+  pub record Running (now : Walk F (PageBlob S gs)) (opened : OpenedList) (t : Timeline) (count : ℕ) : Type 0 where
+    pub over : IsWalk g gives seal size told now opened (disk t)
+    pub goes : GoesOn old now
+    pub same : SameWalk old now
+    pub carries : told → Carries seal size old now (disk a) (disk t)
+    pub moments : told → Always a t (Each (Replaying seal size old (disk a)))
+    pub entries : (q : Key) → (IsKeyOf old.journal.sections (λ s. IsHeld old.journal.sections s × (IsAhead old s ⊎ IsIn old s)) q → ⊥) → opened q ≡ before q
+    pub once : ReadsOnce old now before opened
+    pub faults : few ≤ count
+
+  pub running_start : IsWalk g gives seal size told old before (disk a) → Running old before a few
+  running_start was = record {
+    over = was;
+    goes = record { failed = refl; ended = refl; held = λ s. (λ h. h, λ h. h); onward = λ s h. h };
+    same = record { bounds = record { place = record { partition = refl; factory = refl }; floor = refl; ceiling = refl }; unrecovered = λ s. refl; section = refl; position = refl };
+    carries = λ t. record { left = λ s q. (λ l. l, λ l. l); kept = λ s h. refl; later = λ q x is. is };
+    moments = λ t. always_start a (Each (Replaying seal size old (disk a))) (λ q. replaying_start seal size old (disk a) (was.disk t).sealed q);
+    entries = λ q never. refl;
+    once = λ s held. omega arith;
+    faults = omega arith;
+  }
+
+  module _ (now : Walk F (PageBlob S gs)) (opened : OpenedList) (b : Timeline) (some : ℕ) (run : Running now opened b some) where
+    same_then : (new : Walk F (PageBlob S gs)) → SameWalk now new → SameWalk old new
+    same_then new more = record {
+      bounds = record {
+        place = record { partition = more.bounds.place.partition ∙ run.same.bounds.place.partition; factory = more.bounds.place.factory ∙ run.same.bounds.place.factory };
+        floor = more.bounds.floor ∙ run.same.bounds.floor;
+        ceiling = more.bounds.ceiling ∙ run.same.bounds.ceiling;
+      };
+      unrecovered = λ s. more.unrecovered s ∙ run.same.unrecovered s;
+      section = more.section ∙ run.same.section;
+      position = more.position ∙ run.same.position;
+    }
+
+    never_now : (q : Key) → (IsKeyOf old.journal.sections (λ s. IsHeld old.journal.sections s × (IsAhead old s ⊎ IsIn old s)) q → ⊥)
+        → IsKeyOf now.journal.sections (λ s. IsHeld now.journal.sections s × (IsAhead now s ⊎ IsIn now s)) q → ⊥
+    never_now q never k = never (k.0, ((run.goes.held k.0).0 k.1.0, run.goes.onward k.0 k.1.1), k.2 ∙ ap (λ (p : List ℕ). section_key p k.0) run.same.bounds.place.partition)
+
+    -- nothing is left where it is drained, or has ended
+    pub left_none : told → IsDrained now ⊎ (now.ended ≡ true) → (s p : ℕ) → IsLeft seal size old (disk a) s p → ⊥
+    left_none t over s p l =
+        let left = ((run.carries t).left s p).1 l in
+        elim over [
+          | inl drained ↦ elim left.ahead [
+            | inl here ↦ drained.last s here.0 here.1
+            | inr there ↦ none_in now.place (λ r. (r.section ≡ s) × (r.position ≤ p)) drained.between there
+          ]
+          | inr ended ↦ absurd (cc (ended, left.goes_on))
+        ]
+
+    module _ {V : Type 0} (spelling : V → List ℕ) (accepted : V → Unit {0} → Type 0) (result : Result (Option (ℕ × ℕ × V)) Error) (new : Walk F (PageBlob S gs)) (after : OpenedList) (c : Timeline) (many : ℕ)
+        (step : Steps seal size g gives spelling accepted told result now new opened after b c some many) where
+      pub same_after : SameWalk old new
+      same_after = same_then new step.same
+
+      pub moments_after : told → Always a c (Each (Replaying seal size old (disk a)))
+      moments_after t = always_then a b c (Each (Replaying seal size old (disk a))) (run.moments t)
+          (always_weaker b c (Each (Replaying seal size now (disk b))) (Each (Replaying seal size old (disk a))) (λ x each q. (run.carries t).later q (x q) (each q)) (step.moments t))
+
+      pub entries_after : (q : Key) → (IsKeyOf old.journal.sections (λ s. IsHeld old.journal.sections s × (IsAhead old s ⊎ IsIn old s)) q → ⊥) → after q ≡ before q
+      entries_after q never = step.entries q (never_now q never) ∙ run.entries q never
+
+      pub once_after : ReadsOnce now new opened after → ReadsOnce old new before after
+      once_after more s held =
+          let key : key_of now.journal.sections s ≡ key_of old.journal.sections s = ap (λ (p : List ℕ). section_key p s) run.same.bounds.place.partition in
+          let here = subst (λ (k : Key). reads_of (after k) + reads_left new s ≤ reads_of (opened k) + reads_left now s) key (more s ((run.goes.held s).1 held)) in
+          omega (arith, here, run.once s held)
+
+      pub faults_after : few ≤ many
+      faults_after = omega (arith, run.faults, step.faults)
+
+      goes_then : GoesOn now new → GoesOn old new
+      goes_then more = record {
+        failed = more.failed ∙ run.goes.failed;
+        ended = more.ended ∙ run.goes.ended;
+        held = λ s. (λ h. (run.goes.held s).0 ((more.held s).0 h), λ h. (more.held s).1 ((run.goes.held s).1 h));
+        onward = λ s h. run.goes.onward s (more.onward s h);
+      }
+
+      -- it gave nothing again
+      pub running_on : result ≡ Ok None → Running new after c many
+      running_on is = record {
+        over = ok_of result is step.over;
+        goes = goes_then (ok_of result is step.goes);
+        same = same_after;
+        carries = λ t. (let more = step.carries t is in let onward = (ok_of result is step.goes).onward in record {
+          left = λ s q. (λ l. ((run.carries t).left s q).0 ((more.left s q).0 l), λ l. (more.left s q).1 (((run.carries t).left s q).1 l));
+          kept = λ s near. more.kept s near ∙ (run.carries t).kept s (onward s near);
+          later = λ q x has. (run.carries t).later q x (more.later q x has);
+        });
+        moments = moments_after;
+        entries = entries_after;
+        once = once_after (ok_of result is step.once);
+        faults = faults_after;
+      }
+        where
+          ok_of : {P : Type 0} → (r : Result (Option (ℕ × ℕ × V)) Error) → r ≡ Ok None → OnOk r P → P
+          ok_of (Ok x) same has = has
+          ok_of (Err x) same has = absurd (cc same)
+
+      near_of : (s p : ℕ) → IsLeft seal size now (disk b) s p → IsAhead now s ⊎ IsIn now s
+      near_of s p l = elim l.ahead [ inl here ↦ inl here.1 | inr there ↦ inr (part now.place there) ]
+        where
+          part : (o : Option Place) → IsSomeAnd o (λ r. (r.section ≡ s) × (r.position ≤ p)) → IsSomeAnd o (λ r. r.section ≡ s)
+          part None h = h
+          part (Some r) h = h.0
+
+      pub gives_after : told → (s p : ℕ) (v : V) → result ≡ Ok (Some (s, p, v)) → Gives seal size spelling accepted old new (disk a) (disk c) s p v
+      gives_after t s p v is = let has = step.item t s p v is in let run_left = (run.carries t).left in record {
+        left = (run_left s p).0 has.left;
+        first = λ x q l. has.first x q ((run_left x q).1 l);
+        item = subst (λ (bytes : List ℕ). IsItem spelling accepted (item_at size bytes p) v) ((run.carries t).kept s (near_of s p has.left)) has.item;
+        rest = λ x q. (λ l. (let k = (has.rest x q).0 l in ((run_left x q).0 k.0, k.1)), λ l. (has.rest x q).1 ((run_left x q).1 l.0, l.1));
+      }
+
+      pub stops_after : told → Stops seal size now new (disk b) (disk c) → Stops seal size old (failing new) (disk a) (disk c)
+      stops_after t has = record {
+        rest = elim has.rest [
+          | inl end ↦ inl end
+          | inr some ↦ inr (
+            some.0,
+            λ x q. (
+              λ l. (let k = (some.1 x q).0 (record { goes_on = l.goes_on; begun = l.begun; whole = l.whole; ahead = l.ahead }) in (((run.carries t).left x q).0 k.0, k.1)),
+              λ l. (let k = (some.1 x q).1 (((run.carries t).left x q).1 l.0, l.1) in record { goes_on = k.goes_on; begun = k.begun; whole = k.whole; ahead = k.ahead }),
+            ),
+          )
+        ];
+      }
+
+      pub start_after : told → (p : ℕ) → IsErrOf result (ItemOutOfRange p) → (p ≡ old.start_position) × (length (kept_bytes seal size old (disk a) old.start_section) < p * size)
+      start_after t p is =
+          let has = step.start t p is in
+          let same = (run.carries t).kept now.start_section has.2 in
+          let there : length (kept_bytes seal size old (disk a) now.start_section) < p * size = subst (λ (bytes : List ℕ). length bytes < p * size) same has.1 in
+          (has.0 ∙ run.same.position, subst (λ (k : ℕ). length (kept_bytes seal size old (disk a) k) < p * size) run.same.section there)
+
+      pub cause_after : (x : Error) → result ≡ Err x → (x ≡ ItemOutOfRange old.start_position) ⊎ HasNotRead {T = V} (Err x) few many
+      cause_after x is = elim (err_at result x is step.cause) [
+        | inl start ↦ (let same = run.same.position in inl (cc (start, is, same)))
+        | inr failed ↦ inr (other_result result x is few many (not_read_since result few some many run.faults failed))
+      ]

@@ -1,0 +1,199 @@
+-- The steps by which a replay of a fixed journal begins a section, or comes to its end.
+use Rattle.std.specs.Prelude.{◌≡◌, ◌≢◌, ◌⊎◌, ◌↔◌, ℕ, ◌+◌, ◌*◌, ◌/◌, ◌^◌, ◌<◌, ◌≤◌, true, List, length, IsSomeAnd, Option, None, Some, Ok, Err}
+use Rattle.std.proofs.Common.{inl, inr, refl, sym, ◌∙◌, ap, subst, arith}
+use Rattle.std.proofs.lemmas.Bool.{cases_eq}
+use Rattle.blob_device.specs.Disk.{Key, Blob}
+use Rattle.blob_device.specs.Opened.{OpenedList, reads_of}
+use Rattle.blob_device.specs.Timeline.{Timeline, disk, Always, Each}
+use Rattle.sealed_pages.specs.declared.page_blob.PageBlob.{PageBlob}
+use Rattle.segments.specs.declared.buffer.SectionBuffer as buffer
+use Rattle.segments.specs.declared.journal.Error.{Error}
+use Rattle.segments.specs.declared.journal.Error.TheVariants.{ItemOutOfRange}
+use Rattle.segments.specs.Setting.{Setting}
+use Rattle.segments.specs.Sections.{key_of, IsHeld, IsKeyOf, IsOver}
+use Rattle.segments.specs.FixedReading.{HasNotRead}
+use Rattle.segments.specs.FixedReplay.{Place, Walk, IsAhead, IsIn, IsLeft, IsWalk, Replaying, kept_bytes}
+use Rattle.segments.specs.FixedStepping.{word, sections_ahead, bytes_ahead, way_of, reads_left, ReadsOnce, GoesOn, Steps}
+use Rattle.segments.proofs.KeyLemmas.{keys_differ}
+use Rattle.segments.proofs.FixedCounts.{count_other, count_over}
+use Rattle.segments.proofs.FixedEnding.{fails}
+use Rattle.segments.proofs.FixedKept.{short_item}
+use Rattle.segments.proofs.FixedWalks.{OnlyOne, IsBehind, IsReached, is_some, none_in, key_new, blob_other, held_back, held_on, kept_other, not_ahead, not_near, left_later, left_all}
+use Rattle.segments.proofs.FixedWalksOn.{walk_broken, IsKnownAgain, walk_on}
+
+module _ {F S V : Type 0} {gs : _} (seal : List ℕ → ℕ) (size : ℕ) (g : buffer.Ghosts (PageBlob S gs)) (gives : F → Setting) (spelling : V → List ℕ) (accepted : V → Unit {0} → Type 0) (told : Type 0)
+    (s : ℕ) (old new : Walk F (PageBlob S gs)) (before after : OpenedList) (a b : Timeline) (few many : ℕ) where
+  -- What a call on the section s was: what every step that makes one needs.
+  pub record Called : Type 0 where
+    pub was : IsWalk g gives seal size told old before (disk a)
+    pub one : OnlyOne seal size told s old new (disk a) (disk b)
+    pub behind : IsBehind seal size s old new
+    pub reached : IsReached seal size s old
+    pub over : IsOver g gives told new.journal.sections after (disk b)
+    pub entries : (q : Key) → q ≢ key_of old.journal.sections s → after q ≡ before q
+    pub moments : told → Always a b (Each (Replaying seal size old (disk a)))
+    pub from : (n : ℕ) → new.next_section ≡ Some n → new.start_section ≤ n
+    pub faults : few ≤ many
+
+  module _ (call : Called) where
+    entries_of : (q : Key) → (IsKeyOf old.journal.sections (λ t. IsHeld old.journal.sections t × (IsAhead old t ⊎ IsIn old t)) q → ⊥) → after q ≡ before q
+    entries_of q not = call.entries q (λ is. not (s, (call.reached.held, call.reached.near), is))
+
+    -- a section that is ahead of the new one was ahead
+    ahead_back : (t : ℕ) → t < 2 ^ 64 → IsAhead new t → IsAhead old t
+    ahead_back t small ahead = ((call.behind.ahead t small).0 ahead).0
+
+    -- An error was answered; the section may be lost.
+    pub call_failed : (x : Error) → (new.journal.sections.held s ≡ None) ⊎ ((new.journal.sections.held s ≡ old.journal.sections.held s) × (b ≡ a)) → new.place ≡ None
+        → ((t : ℕ) → IsAhead new t → IsAhead old t) → (new.ended ≡ true) ⊎ (new.ended ≡ old.ended) → ((p : ℕ) → x ≡ ItemOutOfRange p → ⊥) → HasNotRead {T = Option (ℕ × ℕ × V)} (Err x) few many
+        → Steps seal size g gives spelling accepted told (Err x) old new before after a b few many
+    call_failed x lost none onward ended other cause = record {
+      over = tt;
+      broken = walk_broken seal size g gives old new before after (disk a) (disk b) call.was call.over call.one.same kept none onward call.from;
+      goes = tt;
+      same = call.one.same;
+      nearer = λ is. absurd (cc is);
+      carries = λ t is. absurd (cc is);
+      item = λ t q p v is. absurd (cc is);
+      stops = λ t. record {
+        rest = elim ended [
+          | inl end ↦ inl end
+          | inr going ↦ inr (s, left_later seal size s old new (disk a) (disk b) call.one call.behind none t going)
+        ];
+      };
+      start = λ t p is. absurd (other p (cc is));
+      moments = call.moments;
+      entries = entries_of;
+      once = tt;
+      faults = call.faults;
+      cause = inr cause;
+    }
+      where
+        kept : (q : ℕ) (u : PageBlob S gs) → new.journal.sections.held q ≡ Some u → (old.journal.sections.held q ≡ Some u) × (told → disk b (key_of new.journal.sections q) ≡ disk a (key_of old.journal.sections q))
+        kept q u held = elim (cases_eq q s) [
+          | inl at ↦
+              let here : new.journal.sections.held s ≡ Some u = subst (λ (k : ℕ). new.journal.sections.held k ≡ Some u) at held in
+              elim lost [
+                | inl gone ↦ absurd (cc (gone, here))
+                | inr same ↦ (
+                  subst (λ (k : ℕ). old.journal.sections.held k ≡ Some u) (sym at) (sym same.0 ∙ here),
+                  λ t. ap (λ (x : Timeline). disk x (key_of new.journal.sections q)) same.1 ∙ ap (disk a) (key_new seal size s old new (disk a) (disk b) call.one q),
+                )
+              ]
+          | inr apart ↦
+              let held_old : old.journal.sections.held q ≡ Some u = sym (call.one.others q apart).held ∙ held in
+              (held_old, λ t. blob_other seal size s old new (disk a) (disk b) call.one t q apart (is_some (old.journal.sections.held q) u held_old))
+        ]
+
+    -- The call succeeded, and the section is held again.
+    pub record Answered (v : PageBlob S gs) : Type 0 where
+      pub again : IsKnownAgain seal size g gives old new before after (disk a) (disk b) call.was s v
+      pub failed : new.failed ≡ old.failed
+      pub ended : new.ended ≡ old.ended
+      pub later : told → (q : Key) (x : Blob) → Replaying seal size new (disk b) q x → Replaying seal size old (disk a) q x
+
+    module _ (v : PageBlob S gs) (answer : Answered v) where
+      ends : new.ended ≡ true → new.failed ≡ true
+      ends is = answer.failed ∙ call.was.walk.ends (sym answer.ended ∙ is)
+
+      on : IsWalk g gives seal size told new after (disk b)
+      on = walk_on seal size g gives old new before after (disk a) (disk b) call.was s v call.one call.behind answer.again call.over answer.failed ends call.from
+
+      goes_on : ((t : ℕ) → IsAhead new t ⊎ IsIn new t → IsAhead old t ⊎ IsIn old t) → GoesOn old new
+      goes_on onward = record {
+        failed = answer.failed;
+        ended = answer.ended;
+        held = λ t. elim (cases_eq t s) [
+          | inl at ↦ (λ h. subst (IsHeld old.journal.sections) (sym at) call.reached.held, λ h. subst (IsHeld new.journal.sections) (sym at) (is_some (new.journal.sections.held s) v answer.again.held))
+          | inr apart ↦ (held_back seal size s old new (disk a) (disk b) call.one t apart, held_on seal size s old new (disk a) (disk b) call.one t apart)
+        ];
+        onward = onward;
+      }
+
+      -- It gives nothing, and comes nearer.
+      pub call_passed : ((t : ℕ) → IsAhead new t ⊎ IsIn new t → IsAhead old t ⊎ IsIn old t) → way_of new < way_of old
+          → (told → (t q : ℕ) → IsLeft seal size new (disk b) t q ↔ IsLeft seal size old (disk a) t q)
+          → (told → (t : ℕ) → IsAhead new t ⊎ IsIn new t → kept_bytes seal size new (disk b) t ≡ kept_bytes seal size old (disk a) t)
+          → ((x : ℕ) → IsIn new x → x ≡ s) → reads_of (after (key_of old.journal.sections s)) + reads_left new s ≤ reads_of (before (key_of old.journal.sections s)) + reads_left old s
+          → Steps seal size g gives spelling accepted told (Ok None) old new before after a b few many
+      call_passed onward nearer left kept new_in here = record {
+        over = on;
+        broken = tt;
+        goes = goes_on onward;
+        same = call.one.same;
+        nearer = λ is. nearer;
+        carries = λ t is. record { left = left t; kept = kept t; later = answer.later t };
+        item = λ t q p w is. absurd (cc is);
+        stops = λ t. tt;
+        start = λ t p is. absurd (cc is);
+        moments = call.moments;
+        entries = entries_of;
+        once = reads_once;
+        faults = call.faults;
+        cause = tt;
+      }
+        where
+          reads_once : ReadsOnce old new before after
+          reads_once t held = elim (cases_eq t s) [
+            | inl at ↦ subst (λ (k : ℕ). reads_of (after (key_of old.journal.sections k)) + reads_left new k ≤ reads_of (before (key_of old.journal.sections k)) + reads_left old k) (sym at) here
+            | inr other ↦ omega (
+              arith,
+              ap reads_of (call.entries (key_of old.journal.sections t) (keys_differ old.journal.sections.partition t s (call.one.numbers t held) call.one.small other)),
+              count_other seal size s old new (disk a) (disk b) call.one call.behind new_in t other held,
+            )
+          ]
+
+      module _ (r : Place) (at_r : old.place ≡ Some r) (in_s : r.section ≡ s) (none : new.place ≡ None) (next : new.next_section ≡ old.next_section) (pos : 1 ≤ size) where
+        near : IsIn old s
+        near = subst (λ (o : Option Place). IsSomeAnd o (λ x. x.section ≡ s)) (sym at_r) in_s
+
+        onward_end : (t : ℕ) → IsAhead new t ⊎ IsIn new t → IsAhead old t ⊎ IsIn old t
+        onward_end t (inl ahead) = inl (subst (λ (o : Option ℕ). IsSomeAnd o (λ n. n ≤ t)) next ahead)
+        onward_end t (inr there) = absurd (none_in new.place (λ x. x.section ≡ t) none there)
+
+        nearer_end : way_of new < way_of old
+        nearer_end = omega (arith, ap (λ (o : Option ℕ). sections_ahead o * (word + 1)) next, ap bytes_ahead none, ap bytes_ahead at_r)
+
+        -- no item of the section was left
+        never : length (kept_bytes seal size old (disk a) s) / size ≡ r.position → (q : ℕ) → IsLeft seal size old (disk a) s q → ⊥
+        never last q l = elim l.ahead [
+          | inl here ↦ (call.was.walk.come_to r at_r).1 (subst (IsAhead old) (sym in_s) here.1)
+          | inr there ↦
+              let at : r.position ≤ q = (subst (λ (o : Option Place). IsSomeAnd o (λ x. (x.section ≡ s) × (x.position ≤ q))) at_r there).1 in
+              omega (arith, at, l.whole, last)
+        ]
+
+        -- The section is at its end.
+        pub call_ended : (told → length (kept_bytes seal size old (disk a) s) / size ≡ r.position) → reads_of (after (key_of old.journal.sections s)) ≤ reads_of (before (key_of old.journal.sections s)) + reads_left old s
+            → Steps seal size g gives spelling accepted told (Ok None) old new before after a b few many
+        call_ended last reads = call_passed onward_end nearer_end
+            (λ t. left_all seal size s old new (disk a) (disk b) call.one call.behind none t answer.ended (never (last t)))
+            (λ t q at. kept_other seal size s old new (disk a) (disk b) call.one t q (λ is. not_near seal size s old new (disk a) (disk b) call.one call.behind none (subst (λ (k : ℕ). IsAhead new k ⊎ IsIn new k) is at)))
+            (λ x there. absurd (none_in new.place (λ y. y.section ≡ x) none there)) (omega (arith, reads, count_over new s none (not_ahead seal size s old new (disk a) (disk b) call.one call.behind none)))
+
+        -- It is, before the start of the replay.
+        pub call_refused : (told → length (kept_bytes seal size old (disk a) s) / size ≡ r.position) → s ≡ old.start_section → r.position < old.start_position
+            → Steps seal size g gives spelling accepted told (Err (ItemOutOfRange old.start_position)) old new before after a b few many
+        call_refused last first less = record {
+          over = tt;
+          broken = fails seal size g gives new after (disk b) on;
+          goes = tt;
+          same = call.one.same;
+          nearer = λ is. absurd (cc is);
+          carries = λ t is. absurd (cc is);
+          item = λ t q p w is. absurd (cc is);
+          stops = λ t. record { rest = inr (s, left_later seal size s old new (disk a) (disk b) call.one call.behind none t answer.ended) };
+          start = λ t p is. (
+            cc is,
+            (let at : p ≡ old.start_position = cc is in
+                let short : length (kept_bytes seal size old (disk a) s) < old.start_position * size = short_item size (length (kept_bytes seal size old (disk a) s)) r.position old.start_position pos (last t) less in
+                let there : length (kept_bytes seal size old (disk a) old.start_section) < old.start_position * size = subst (λ (k : ℕ). length (kept_bytes seal size old (disk a) k) < old.start_position * size) first short in
+                subst (λ (n : ℕ). length (kept_bytes seal size old (disk a) old.start_section) < n * size) (sym at) there),
+            subst (λ (k : ℕ). IsAhead old k ⊎ IsIn old k) first (inr near),
+          );
+          moments = call.moments;
+          entries = entries_of;
+          once = tt;
+          faults = call.faults;
+          cause = inl refl;
+        }

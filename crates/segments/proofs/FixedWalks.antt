@@ -1,0 +1,197 @@
+-- A replay of a fixed journal, where one of its sections changed: what is left, what a crash may leave, and that it is a replay again.
+use Rattle.std.specs.Prelude.{◌≡◌, ◌≢◌, ◌⊎◌, ◌↔◌, ℕ, ◌*◌, ◌/◌, ◌^◌, ◌<◌, ◌≤◌, eqb, cond, false, List, length, IsTrue, IsSomeAnd, Option, None, Some, IsSome}
+use Rattle.std.proofs.Common.{inl, inr, refl, sym, ◌∙◌, ap, subst, arith}
+use Rattle.std.proofs.lemmas.Bool.{cases_eq}
+use Rattle.blob_device.specs.Disk.{Key, Blob, Disk}
+use Rattle.sealed_pages.specs.declared.page_blob.PageBlob.{PageBlob}
+use Rattle.sealed_pages.specs.Shown.{shown}
+use Rattle.sealed_pages.specs.Buffer.{bytes_of}
+use Rattle.sealed_pages.specs.ChanceSeal.{Leaves}
+use Rattle.sealed_pages.specs.SealedPrefix.{sealed_prefix}
+use Rattle.segments.specs.Sections.{section_key, key_of, IsHeld, IsKeyOf, IsSame}
+use Rattle.segments.specs.FixedReplay.{Place, Walk, IsAhead, IsIn, IsLeft, first_of, kept_of, kept_bytes, SameWalk, Replaying}
+use Rattle.segments.proofs.KeyLemmas.{keys_differ}
+
+pub some_of : {A : Type 0} → (o : Option A) → IsSome o → (v : A) × (o ≡ Some v)
+some_of None has = absurd (cc has)
+some_of (Some v) has = (v, refl)
+
+pub is_some : {A : Type 0} → (o : Option A) (v : A) → o ≡ Some v → IsSome o
+is_some o v is = subst IsSome (sym is) refl
+
+pub same_some : {A : Type 0} → (o : Option A) (u v : A) → o ≡ Some u → o ≡ Some v → v ≡ u
+same_some o u v is also = cc (is, also)
+
+pub none_in : {A : Type 0} → (o : Option A) (P : A → Type 0) → o ≡ None → IsSomeAnd o P → ⊥
+none_in None P is has = has
+none_in (Some v) P is has = cc is
+
+-- of a section that owes a replay a crash may leave this: it is as before, or has a prefix of its sealed prefix with all whole items of it
+abbrev pub MayCut : {S : Type 0} {gs : _} → (List ℕ → ℕ) → ℕ → PageBlob S gs → Blob → Blob → Type 0
+MayCut seal size u from b = (b ≡ from) ⊎ Leaves seal u.page_size (sealed_prefix seal u.page_size from.content) (length (sealed_prefix seal u.page_size from.content) / size * size) b
+
+module _ {F S : Type 0} {gs : _} (seal : List ℕ → ℕ) (size : ℕ) where
+  -- Nothing changed but the section s and its blob.
+  pub record OnlyOne (told : Type 0) (s : ℕ) (old new : Walk F (PageBlob S gs)) (d e : Disk) : Type 0 where
+    pub same : SameWalk old new
+    pub small : s < 2 ^ 64
+    pub numbers : (q : ℕ) → IsHeld old.journal.sections q → q < 2 ^ 64
+    pub others : (q : ℕ) → q ≢ s → IsSame old.journal.sections new.journal.sections q
+    pub blobs : told → (q : Key) → q ≢ key_of old.journal.sections s → e q ≡ d q
+
+  -- The replay stood in s at most, and s and all before it are behind the new one.
+  pub record IsBehind (s : ℕ) (old new : Walk F (PageBlob S gs)) : Type 0 where
+    pub in_old : (t : ℕ) → IsIn old t → t ≡ s
+    pub ahead : (t : ℕ) → t < 2 ^ 64 → IsAhead new t ↔ (IsAhead old t × (s < t))
+    pub later : (t : ℕ) → IsHeld old.journal.sections t → IsAhead old t → t ≢ s → s < t
+
+  -- a section that is ahead, or in which the replay stands
+  pub record IsReached (s : ℕ) (old : Walk F (PageBlob S gs)) : Type 0 where
+    pub held : IsHeld old.journal.sections s
+    pub near : IsAhead old s ⊎ IsIn old s
+
+  module _ {told : Type 0} (s : ℕ) (old new : Walk F (PageBlob S gs)) (d e : Disk) (one : OnlyOne told s old new d e) where
+    pub key_new : (q : ℕ) → key_of new.journal.sections q ≡ key_of old.journal.sections q
+    key_new q = ap (λ p. section_key p q) one.same.bounds.place.partition
+
+    pub blob_other : told → (q : ℕ) → q ≢ s → IsHeld old.journal.sections q → e (key_of new.journal.sections q) ≡ d (key_of old.journal.sections q)
+    blob_other t q other held = ap e (key_new q) ∙ one.blobs t (key_of old.journal.sections q) (keys_differ old.journal.sections.partition q s (one.numbers q held) one.small other)
+
+    pub held_back : (q : ℕ) → q ≢ s → IsHeld new.journal.sections q → IsHeld old.journal.sections q
+    held_back q other held = subst IsSome (one.others q other).held held
+
+    pub held_on : (q : ℕ) → q ≢ s → IsHeld old.journal.sections q → IsHeld new.journal.sections q
+    held_on q other held = subst IsSome (sym (one.others q other).held) held
+
+    pub first_same : (t : ℕ) → first_of new t ≡ first_of old t
+    first_same t = λ i. cond (eqb t (one.same.section i)) (one.same.position i) 0
+
+    -- the items of another section are in the same bytes
+    pub kept_other : told → (q : ℕ) → q ≢ s → kept_bytes seal size new e q ≡ kept_bytes seal size old d q
+    kept_other t q other = go (old.journal.sections.held q) refl
+      where
+        go : (h : Option (PageBlob S gs)) → old.journal.sections.held q ≡ h → kept_bytes seal size new e q ≡ kept_bytes seal size old d q
+        go None is =
+            ap (λ (h : Option (PageBlob S gs)). kept_of seal (new.journal.unrecovered q) h (e (key_of new.journal.sections q)).content) ((one.others q other).held ∙ is)
+            ∙ sym (ap (λ (h : Option (PageBlob S gs)). kept_of seal (old.journal.unrecovered q) h (d (key_of old.journal.sections q)).content) is)
+        go (Some u) is =
+            let there = blob_other t q other (is_some (old.journal.sections.held q) u is) in
+            λ i. kept_of seal (one.same.unrecovered q i) ((one.others q other).held i) (there i).content
+
+    pub ahead_number : (t : ℕ) → IsHeld new.journal.sections t → t < 2 ^ 64
+    ahead_number t held = elim (cases_eq t s) [
+      | inl is ↦ subst (λ (k : ℕ). k < 2 ^ 64) (sym is) one.small
+      | inr other ↦ one.numbers t (held_back t other held)
+    ]
+
+    module _ (behind : IsBehind s old new) (none : new.place ≡ None) where
+      pub not_ahead : IsAhead new s → ⊥
+      not_ahead ahead = omega (arith, ((behind.ahead s one.small).0 ahead).1)
+
+      pub not_near : IsAhead new s ⊎ IsIn new s → ⊥
+      not_near (inl ahead) = not_ahead ahead
+      not_near (inr there) = none_in new.place (λ r. r.section ≡ s) none there
+
+      -- the items that are left are those of the later sections that were
+      pub left_later : told → new.ended ≡ old.ended → (t q : ℕ) → IsLeft seal size new e t q ↔ (IsLeft seal size old d t q × (s < t))
+      left_later tells ended t q = (forth, λ l. back l.0 l.1)
+        where
+          forth : IsLeft seal size new e t q → IsLeft seal size old d t q × (s < t)
+          forth l = elim l.ahead [
+            | inr there ↦ absurd (none_in new.place (λ r. (r.section ≡ t) × (r.position ≤ q)) none there)
+            | inl here ↦
+                let far = (behind.ahead t (ahead_number t here.0)).0 here.1 in
+                let other : t ≢ s = λ is. omega (arith, far.1, is) in
+                let begun : first_of old t ≤ q = subst (λ (n : ℕ). n ≤ q) (first_same t) l.begun in
+                let whole : q < length (kept_bytes seal size old d t) / size = subst (λ (c : List ℕ). q < length c / size) (kept_other tells t other) l.whole in
+                (record { goes_on = sym ended ∙ l.goes_on; begun = begun; whole = whole; ahead = inl (held_back t other here.0, far.0) }, far.1)
+          ]
+
+          back : IsLeft seal size old d t q → s < t → IsLeft seal size new e t q
+          back l lt =
+              let other : t ≢ s = λ is. omega (arith, lt, is) in
+              let begun : first_of new t ≤ q = subst (λ (n : ℕ). n ≤ q) (sym (first_same t)) l.begun in
+              let whole : q < length (kept_bytes seal size new e t) / size = subst (λ (c : List ℕ). q < length c / size) (sym (kept_other tells t other)) l.whole in
+              record {
+                goes_on = ended ∙ l.goes_on;
+                begun = begun;
+                whole = whole;
+                ahead = elim l.ahead [
+                  | inl here ↦ inl (held_on t other here.0, (behind.ahead t (one.numbers t here.0)).1 (here.1, lt))
+                  | inr there ↦ absurd (other (behind.in_old t (in_of t q there)))
+                ];
+              }
+            where
+              in_of : (t q : ℕ) → IsSomeAnd old.place (λ r. (r.section ≡ t) × (r.position ≤ q)) → IsIn old t
+              in_of t q has = go old.place has
+                where
+                  go : (o : Option Place) → IsSomeAnd o (λ r. (r.section ≡ t) × (r.position ≤ q)) → IsSomeAnd o (λ r. r.section ≡ t)
+                  go None h = h
+                  go (Some r) h = h.0
+
+      -- where none of the section was left, as many are left as before
+      pub left_all : told → new.ended ≡ old.ended → ((q : ℕ) → IsLeft seal size old d s q → ⊥) → (t q : ℕ) → IsLeft seal size new e t q ↔ IsLeft seal size old d t q
+      left_all tells ended never t q = (λ l. ((left_later tells ended t q).0 l).0, λ l. (left_later tells ended t q).1 (l, lt l))
+        where
+          lt : IsLeft seal size old d t q → s < t
+          lt l = elim (cases_eq t s) [
+            | inl is ↦ absurd (never q (subst (λ (k : ℕ). IsLeft seal size old d k q) is l))
+            | inr other ↦ elim l.ahead [
+              | inl here ↦ behind.later t here.0 here.1 other
+              | inr there ↦ absurd (other (behind.in_old t (part old.place there)))
+            ]
+          ]
+            where
+              part : (o : Option Place) → IsSomeAnd o (λ r. (r.section ≡ t) × (r.position ≤ q)) → IsSomeAnd o (λ r. r.section ≡ t)
+              part None h = h
+              part (Some r) h = h.0
+
+    -- what a later call leaves, this one's replay may leave too
+    pub later_one : told → IsReached s old → ((t : ℕ) → IsAhead new t ⊎ IsIn new t → IsAhead old t ⊎ IsIn old t)
+        → (v : PageBlob S gs) → new.journal.sections.held s ≡ Some v
+        → ((u : PageBlob S gs) → old.journal.sections.held s ≡ Some u → old.journal.unrecovered s ≡ false → (b : Blob)
+        → Leaves seal v.page_size (bytes_of (shown v) (e (key_of old.journal.sections s)).content) v.settled b → Leaves seal u.page_size (bytes_of (shown u) (d (key_of old.journal.sections s)).content) u.settled b)
+        → ((u : PageBlob S gs) → old.journal.sections.held s ≡ Some u → IsTrue (old.journal.unrecovered s) → (b : Blob) → MayCut seal size v (e (key_of old.journal.sections s)) b → MayCut seal size u (d (key_of old.journal.sections s)) b)
+        → (q : Key) (b : Blob) → Replaying seal size new e q b → Replaying seal size old d q b
+    later_one tells reached onward v held flush cuts q b rep = record { flushed = flushed; cut = cut; others = others }
+      where
+        flushed : (t : ℕ) (u : PageBlob S gs) → old.journal.sections.held t ≡ Some u → old.journal.unrecovered t ≡ false → q ≡ key_of old.journal.sections t
+            → Leaves seal u.page_size (bytes_of (shown u) (d q).content) u.settled b
+        flushed t u is free here = elim (cases_eq t s) [
+          | inl at ↦
+              let key : q ≡ key_of old.journal.sections s = here ∙ ap (key_of old.journal.sections) at in
+              let free_s : old.journal.unrecovered s ≡ false = subst (λ (k : ℕ). old.journal.unrecovered k ≡ false) at free in
+              let after : Leaves seal v.page_size (bytes_of (shown v) (e (key_of old.journal.sections s)).content) v.settled b =
+              subst (λ (k : Key). Leaves seal v.page_size (bytes_of (shown v) (e k).content) v.settled b) key (rep.flushed s v held (one.same.unrecovered s ∙ free_s) (key ∙ sym (key_new s))) in
+              subst (λ (k : Key). Leaves seal u.page_size (bytes_of (shown u) (d k).content) u.settled b) (sym key)
+              (flush u (subst (λ (k : ℕ). old.journal.sections.held k ≡ Some u) at is) free_s b after)
+          | inr other ↦
+              let same : e q ≡ d q = ap e here ∙ sym (ap e (key_new t)) ∙ blob_other tells t other (is_some (old.journal.sections.held t) u is) ∙ sym (ap d here) in
+              subst (λ (x : Blob). Leaves seal u.page_size (bytes_of (shown u) x.content) u.settled b) same
+              (rep.flushed t u ((one.others t other).held ∙ is) (one.same.unrecovered t ∙ free) (here ∙ sym (key_new t)))
+        ]
+
+        cut : (t : ℕ) (u : PageBlob S gs) → old.journal.sections.held t ≡ Some u → IsTrue (old.journal.unrecovered t) → q ≡ key_of old.journal.sections t → MayCut seal size u (d q) b
+        cut t u is owed here = elim (cases_eq t s) [
+          | inl at ↦
+              let key : q ≡ key_of old.journal.sections s = here ∙ ap (key_of old.journal.sections) at in
+              let owed_s : IsTrue (old.journal.unrecovered s) = subst (λ (k : ℕ). IsTrue (old.journal.unrecovered k)) at owed in
+              let after : MayCut seal size v (e (key_of old.journal.sections s)) b =
+              subst (λ (k : Key). MayCut seal size v (e k) b) key (rep.cut s v held (subst IsTrue (sym (one.same.unrecovered s)) owed_s) (key ∙ sym (key_new s))) in
+              subst (λ (k : Key). MayCut seal size u (d k) b) (sym key) (cuts u (subst (λ (k : ℕ). old.journal.sections.held k ≡ Some u) at is) owed_s b after)
+          | inr other ↦
+              let same : e q ≡ d q = ap e here ∙ sym (ap e (key_new t)) ∙ blob_other tells t other (is_some (old.journal.sections.held t) u is) ∙ sym (ap d here) in
+              subst (λ (x : Blob). MayCut seal size u x b) same
+              (rep.cut t u ((one.others t other).held ∙ is) (subst IsTrue (sym (one.same.unrecovered t)) owed) (here ∙ sym (key_new t)))
+        ]
+
+        held_new : (t : ℕ) → IsHeld new.journal.sections t → IsHeld old.journal.sections t
+        held_new t has = elim (cases_eq t s) [
+          | inl at ↦ subst (IsHeld old.journal.sections) (sym at) reached.held
+          | inr other ↦ held_back t other has
+        ]
+
+        others : (IsKeyOf old.journal.sections (λ t. IsHeld old.journal.sections t × (IsAhead old t ⊎ IsIn old t)) q → ⊥) → b ≡ d q
+        others not =
+            rep.others (λ k. not (k.0, (held_new k.0 k.1.0, onward k.0 k.1.1), k.2 ∙ key_new k.0))
+            ∙ one.blobs tells q (λ is. not (s, (reached.held, reached.near), is))

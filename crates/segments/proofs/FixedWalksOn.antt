@@ -1,0 +1,214 @@
+-- A replay of a fixed journal after one of its sections changed is a replay again; what was left of it at each moment.
+use Rattle.std.specs.Prelude.{◌≡◌, ◌≢◌, ℕ, ◌*◌, ◌%◌, ◌^◌, ◌<◌, ◌≤◌, true, false, List, IsTrue, IsSomeAnd, Option, None, Some, IsSome}
+use Rattle.std.proofs.Common.{inl, inr, refl, sym, ◌∙◌, ap, subst, arith}
+use Rattle.std.proofs.lemmas.Bool.{cases_eq}
+use Rattle.blob_device.specs.Disk.{Key, Blob, Disk}
+use Rattle.blob_device.specs.Opened.{OpenedList}
+use Rattle.blob_device.specs.Timeline.{Timeline, disk, Always, OnlyAt, Each}
+use Rattle.blob_device.proofs.Moments.{always_weaker}
+use Rattle.blob_device.proofs.Puts.{same_or_other}
+use Rattle.sealed_pages.specs.declared.page_blob.PageBlob.{PageBlob}
+use Rattle.sealed_pages.specs.Shown.{shown}
+use Rattle.sealed_pages.specs.Buffer.{size_of, bytes_of, IsSealed}
+use Rattle.sealed_pages.specs.ChanceSeal.{Leaves}
+use Rattle.sealed_pages.proofs.Holding.{holds_leaves}
+use Rattle.segments.specs.declared.buffer.SectionBuffer as buffer
+use Rattle.segments.specs.Setting.{Setting}
+use Rattle.segments.specs.Sections.{key_of, IsHeld, IsOver}
+use Rattle.segments.specs.FixedLists.{AreSealed}
+use Rattle.segments.specs.FixedReplay.{Place, Walk, IsAhead, IsIn, SameWalk, StandsIn, ReadsIn, IsGoneOver, HasWalk, WalksOver, IsWalk, Replaying}
+use Rattle.segments.specs.FixedStepping.{failing}
+use Rattle.segments.proofs.KeyLemmas.{key_injective}
+use Rattle.segments.proofs.FixedWalks.{OnlyOne, IsBehind, IsReached, MayCut, is_some, same_some, none_in, blob_other, held_on}
+
+module _ {F S : Type 0} {gs : _} (seal : List ℕ → ℕ) (size : ℕ) where
+  module _ (old : Walk F (PageBlob S gs)) (d : Disk) where
+    -- before anything changed
+    pub replaying_start : AreSealed seal size old.journal d → (q : Key) → Replaying seal size old d q (d q)
+    replaying_start are q = record {
+      flushed = λ t u is free here.
+          (let left = holds_leaves seal (shown u) (bytes_of (shown u) (d (key_of old.journal.sections t)).content) (d (key_of old.journal.sections t)) u.fit.begun (are.sealed t u is free) in
+          subst (λ (k : Key). Leaves seal u.page_size (bytes_of (shown u) (d k).content) u.settled (d k)) (sym here) left);
+      cut = λ t u is owed here. inl refl;
+      others = λ not. refl;
+    }
+
+    module _ (s : ℕ) (small : s < 2 ^ 64) (numbers : (q : ℕ) → IsHeld old.journal.sections q → q < 2 ^ 64) (reached : IsReached seal size s old) where
+      -- the blob of the section that changes
+      pub replaying_here : (b : Blob)
+          → ((u : PageBlob S gs) → old.journal.sections.held s ≡ Some u → old.journal.unrecovered s ≡ false → Leaves seal u.page_size (bytes_of (shown u) (d (key_of old.journal.sections s)).content) u.settled b)
+          → ((u : PageBlob S gs) → old.journal.sections.held s ≡ Some u → IsTrue (old.journal.unrecovered s) → MayCut seal size u (d (key_of old.journal.sections s)) b)
+          → Replaying seal size old d (key_of old.journal.sections s) b
+      replaying_here b flush cuts = record {
+        flushed = λ t u is free here. (let at = number t u is here in
+            flush u (subst (λ (k : ℕ). old.journal.sections.held k ≡ Some u) at is) (subst (λ (k : ℕ). old.journal.unrecovered k ≡ false) at free));
+        cut = λ t u is owed here. (let at = number t u is here in
+            cuts u (subst (λ (k : ℕ). old.journal.sections.held k ≡ Some u) at is) (subst (λ (k : ℕ). IsTrue (old.journal.unrecovered k)) at owed));
+        others = λ not. absurd (not (s, (reached.held, reached.near), refl));
+      }
+        where
+          number : (t : ℕ) (u : PageBlob S gs) → old.journal.sections.held t ≡ Some u → key_of old.journal.sections s ≡ key_of old.journal.sections t → t ≡ s
+          number t u is here = sym (key_injective old.journal.sections.partition s t small (numbers t (is_some (old.journal.sections.held t) u is)) here)
+
+      pub moments_of : (a b : Timeline) (Q : Blob → Type 0) → d ≡ disk a → AreSealed seal size old.journal d → Always a b (OnlyAt (key_of old.journal.sections s) (disk a) Q)
+          → ((x : Blob) → Q x → Replaying seal size old d (key_of old.journal.sections s) x) → Always a b (Each (Replaying seal size old d))
+      moments_of a b Q from are always here = always_weaker a b (OnlyAt (key_of old.journal.sections s) (disk a) Q) (Each (Replaying seal size old d))
+          (λ x only q. elim (same_or_other q (key_of old.journal.sections s)) [
+            | inl is ↦ subst (λ (k : Key). Replaying seal size old d k (x k)) (sym is) (here (x (key_of old.journal.sections s)) only.here)
+            | inr other ↦ (let same : d q ≡ x q = ap (λ (y : Disk). y q) from ∙ sym (only.others q other) in subst (λ (y : Blob). Replaying seal size old d q y) same (replaying_start are q))
+          ]) always
+
+  module _ (g : buffer.Ghosts (PageBlob S gs)) (gives : F → Setting) {told : Type 0} (old new : Walk F (PageBlob S gs)) (before after : OpenedList) (d e : Disk) (was : IsWalk g gives seal size told old before d) where
+    -- After an error it is one that has failed. What is still held is as it was.
+    pub walk_broken : IsOver g gives told new.journal.sections after e → SameWalk old new
+        → ((q : ℕ) (u : PageBlob S gs) → new.journal.sections.held q ≡ Some u → (old.journal.sections.held q ≡ Some u) × (told → e (key_of new.journal.sections q) ≡ d (key_of old.journal.sections q)))
+        → new.place ≡ None → ((t : ℕ) → IsAhead new t → IsAhead old t) → ((n : ℕ) → new.next_section ≡ Some n → new.start_section ≤ n)
+        → IsWalk g gives seal size told (failing new) after e
+    walk_broken over same kept none onward from = record { over = over; walk = walk; disk = walks }
+      where
+        owed : (q : ℕ) → IsTrue (new.journal.unrecovered q) → IsTrue (old.journal.unrecovered q)
+        owed q is = subst IsTrue (same.unrecovered q) is
+
+        walk : HasWalk size (failing new)
+        walk = record {
+          owes_settled = record { settled = λ q u held is. was.walk.owes_settled.settled q u (kept q u held).0 (owed q is) };
+          owes_held = λ no. absurd (cc no);
+          place = λ r is. absurd (cc (none, is));
+          come_to = λ r is. absurd (cc (none, is));
+          from_start = from;
+          start_within = λ ahead u held. start ahead u held;
+          ends = λ is. refl;
+        }
+          where
+            start : IsAhead new new.start_section → (u : PageBlob S gs) → new.journal.sections.held new.start_section ≡ Some u → new.start_position * size ≤ size_of (shown u)
+            start ahead u held =
+                let was_ahead : IsAhead old old.start_section = subst (IsAhead old) same.section (onward new.start_section ahead) in
+                let was_held : old.journal.sections.held old.start_section ≡ Some u = subst (λ (k : ℕ). old.journal.sections.held k ≡ Some u) same.section (kept new.start_section u held).0 in
+                omega (arith, was.walk.start_within was_ahead u was_held, ap (λ (n : ℕ). n * size) same.position)
+
+        walks : told → WalksOver seal size (failing new) e
+        walks tells = record {
+          sealed = record {
+            sealed = λ q u held free. subst (IsSealed seal (shown u)) (sym ((kept q u held).1 tells)) ((was.disk tells).sealed.sealed q u (kept q u held).0 (sym (same.unrecovered q) ∙ free));
+            whole = λ q u held free. (was.disk tells).sealed.whole q u (kept q u held).0 (sym (same.unrecovered q) ∙ free);
+          };
+          gone_over = λ no. absurd (cc no);
+          unopened = λ no. absurd (cc no);
+          place = λ r is. absurd (cc (none, is));
+        }
+
+    -- It goes on, where the section s is held again, and all is known of it.
+    pub record IsKnownAgain (s : ℕ) (v : PageBlob S gs) : Type 0 where
+      pub held : new.journal.sections.held s ≡ Some v
+      pub not_ahead : IsAhead new s → ⊥
+      pub settled : IsTrue (old.journal.unrecovered s) → v.settled ≡ size_of (shown v)
+      pub sealed : told → old.journal.unrecovered s ≡ false → IsSealed seal (shown v) (e (key_of new.journal.sections s)) × (size_of (shown v) % size ≡ 0)
+      pub gone_over : told → (IsIn new s → ⊥) → IsSealed seal (shown v) (e (key_of new.journal.sections s)) × (size_of (shown v) % size ≡ 0)
+      pub place : (r : Place) → new.place ≡ Some r → (r.section ≡ s) × StandsIn size new r v × (told → ReadsIn seal new e r v)
+      pub begun : IsIn new s → new.start_section ≤ s
+
+    pub walk_on : (s : ℕ) (v : PageBlob S gs) → OnlyOne seal size told s old new d e → IsBehind seal size s old new → IsKnownAgain s v → IsOver g gives told new.journal.sections after e
+        → new.failed ≡ old.failed → (new.ended ≡ true → new.failed ≡ true) → ((n : ℕ) → new.next_section ≡ Some n → new.start_section ≤ n)
+        → IsWalk g gives seal size told new after e
+    walk_on s v one behind again over failed ends from = record { over = over; walk = walk; disk = walks }
+      where
+        small_of : (q : ℕ) → IsHeld new.journal.sections q → q < 2 ^ 64
+        small_of q held = over.opened_list.number q (inl held)
+
+        in_s : (r : Place) → new.place ≡ Some r → IsIn new s
+        in_s r is = subst (λ (o : Option Place). IsSomeAnd o (λ x. x.section ≡ s)) (sym is) (again.place r is).0
+
+        same_v : (q : ℕ) (u : PageBlob S gs) → q ≡ s → new.journal.sections.held q ≡ Some u → u ≡ v
+        same_v q u at held = same_some (new.journal.sections.held s) v u again.held (subst (λ (k : ℕ). new.journal.sections.held k ≡ Some u) at held)
+
+        settles : (q : ℕ) (u : PageBlob S gs) → new.journal.sections.held q ≡ Some u → IsTrue (new.journal.unrecovered q) → u.settled ≡ size_of (shown u)
+        settles q u held owed = elim (cases_eq q s) [
+          | inl at ↦ subst (λ (x : PageBlob S gs). x.settled ≡ size_of (shown x)) (sym (same_v q u at held))
+              (again.settled (subst (λ (k : ℕ). IsTrue (old.journal.unrecovered k)) at (subst IsTrue (one.same.unrecovered q) owed)))
+          | inr other ↦ was.walk.owes_settled.settled q u (sym (one.others q other).held ∙ held) (subst IsTrue (one.same.unrecovered q) owed)
+        ]
+
+        holds : new.failed ≡ false → (q : ℕ) → IsTrue (new.journal.unrecovered q) → IsHeld new.journal.sections q
+        holds fine q owed = elim (cases_eq q s) [
+          | inl at ↦ subst (IsHeld new.journal.sections) (sym at) (is_some (new.journal.sections.held s) v again.held)
+          | inr other ↦ held_on seal size s old new d e one q other ((was.walk.owes_held (sym failed ∙ fine)).held q (subst IsTrue (one.same.unrecovered q) owed))
+        ]
+
+        start : IsAhead new new.start_section → (u : PageBlob S gs) → new.journal.sections.held new.start_section ≡ Some u → new.start_position * size ≤ size_of (shown u)
+        start ahead u held = elim (cases_eq new.start_section s) [
+          | inl at ↦ absurd (again.not_ahead (subst (IsAhead new) at ahead))
+          | inr other ↦
+              let was_ahead : IsAhead old old.start_section = subst (IsAhead old) one.same.section ((behind.ahead new.start_section (small_of new.start_section (is_some (new.journal.sections.held new.start_section) u held))).0 ahead).0 in
+              let was_held : old.journal.sections.held old.start_section ≡ Some u = subst (λ (k : ℕ). old.journal.sections.held k ≡ Some u) one.same.section (sym (one.others new.start_section other).held ∙ held) in
+              omega (arith, was.walk.start_within was_ahead u was_held, ap (λ (n : ℕ). n * size) one.same.position)
+        ]
+
+        walk : HasWalk size new
+        walk = record {
+          owes_settled = record { settled = settles };
+          owes_held = λ fine. record { held = holds fine };
+          place = λ r is. subst (λ (o : Option (PageBlob S gs)). IsSomeAnd o (StandsIn size new r)) (sym (ap new.journal.sections.held (again.place r is).0 ∙ again.held)) (again.place r is).1;
+          come_to = λ r is. (
+            subst (λ (k : ℕ). new.start_section ≤ k) (sym (again.place r is).0) (again.begun (in_s r is)),
+            λ ahead. again.not_ahead (subst (IsAhead new) (again.place r is).0 ahead),
+          );
+          from_start = from;
+          start_within = start;
+          ends = ends;
+        }
+
+        blob_same : told → (q : ℕ) (u : PageBlob S gs) → q ≢ s → old.journal.sections.held q ≡ Some u → e (key_of new.journal.sections q) ≡ d (key_of old.journal.sections q)
+        blob_same tells q u other held = blob_other seal size s old new d e one tells q other (is_some (old.journal.sections.held q) u held)
+
+        walks : told → WalksOver seal size new e
+        walks tells = record {
+          sealed = record { sealed = λ q u held free. (sound q u held free).0; whole = λ q u held free. (sound q u held free).1 };
+          gone_over = gone;
+          unopened = λ fine. record { later = later fine };
+          place = λ r is. subst (λ (o : Option (PageBlob S gs)). IsSomeAnd o (ReadsIn seal new e r)) (sym (ap new.journal.sections.held (again.place r is).0 ∙ again.held)) ((again.place r is).2 tells);
+        }
+          where
+            from_v : (q : ℕ) (u : PageBlob S gs) → q ≡ s → new.journal.sections.held q ≡ Some u → IsSealed seal (shown v) (e (key_of new.journal.sections s)) × (size_of (shown v) % size ≡ 0)
+                → IsSealed seal (shown u) (e (key_of new.journal.sections q)) × (size_of (shown u) % size ≡ 0)
+            from_v q u at held has =
+                subst (λ (k : ℕ). IsSealed seal (shown u) (e (key_of new.journal.sections k)) × (size_of (shown u) % size ≡ 0)) (sym at)
+                (subst (λ (x : PageBlob S gs). IsSealed seal (shown x) (e (key_of new.journal.sections s)) × (size_of (shown x) % size ≡ 0)) (sym (same_v q u at held)) has)
+
+            sound : (q : ℕ) (u : PageBlob S gs) → new.journal.sections.held q ≡ Some u → new.journal.unrecovered q ≡ false → IsSealed seal (shown u) (e (key_of new.journal.sections q)) × (size_of (shown u) % size ≡ 0)
+            sound q u held free = elim (cases_eq q s) [
+              | inl at ↦ from_v q u at held (again.sealed tells (subst (λ (k : ℕ). old.journal.unrecovered k ≡ false) at (sym (one.same.unrecovered q) ∙ free)))
+              | inr other ↦
+                  let held_old : old.journal.sections.held q ≡ Some u = sym (one.others q other).held ∙ held in
+                  let free_old : old.journal.unrecovered q ≡ false = sym (one.same.unrecovered q) ∙ free in
+                  (subst (IsSealed seal (shown u)) (sym (blob_same tells q u other held_old)) ((was.disk tells).sealed.sealed q u held_old free_old), (was.disk tells).sealed.whole q u held_old free_old)
+            ]
+
+            gone : new.failed ≡ false → (q : ℕ) (u : PageBlob S gs) → new.journal.sections.held q ≡ Some u → IsGoneOver new q → IsSealed seal (shown u) (e (key_of new.journal.sections q)) × (size_of (shown u) % size ≡ 0)
+            gone fine q u held over_it = elim (cases_eq q s) [
+              | inl at ↦ from_v q u at held (again.gone_over tells (λ is. over_it.not_in (subst (IsIn new) (sym at) is)))
+              | inr other ↦
+                  let held_old : old.journal.sections.held q ≡ Some u = sym (one.others q other).held ∙ held in
+                  let is_held : IsHeld old.journal.sections q = is_some (old.journal.sections.held q) u held_old in
+                  let begun : old.start_section ≤ q = subst (λ (n : ℕ). n ≤ q) one.same.section over_it.begun in
+                  let over_old : IsGoneOver old q = record {
+                    begun = begun;
+                    not_ahead = λ ahead. over_it.not_ahead ((behind.ahead q (one.numbers q is_held)).1 (ahead, behind.later q is_held ahead other));
+                    not_in = λ there. other (behind.in_old q there);
+                  } in
+                  let has = (was.disk tells).gone_over (sym failed ∙ fine) q u held_old over_old in
+                  (subst (IsSealed seal (shown u)) (sym (blob_same tells q u other held_old)) has.0, has.1)
+            ]
+
+            later : new.failed ≡ false → (q : ℕ) → IsSome (new.journal.sections.unopened q) → new.journal.sections.ceiling < q
+            later fine q has = elim (cases_eq q s) [
+              | inl at ↦
+                  let apart : new.journal.sections.unopened q ≡ None = over.opened_list.apart q (subst (IsHeld new.journal.sections) (sym at) (is_some (new.journal.sections.held s) v again.held)) in
+                  absurd (none_in (new.journal.sections.unopened q) (λ x. Unit {0}) apart (some_unit (new.journal.sections.unopened q) has))
+              | inr other ↦
+                  let before : old.journal.sections.ceiling < q = ((was.disk tells).unopened (sym failed ∙ fine)).later q (subst IsSome (one.others q other).unopened has) in
+                  omega (arith, before, one.same.bounds.ceiling)
+            ]
+              where
+                some_unit : {A : Type 0} → (o : Option A) → IsSome o → IsSomeAnd o (λ x. Unit {0})
+                some_unit None h = absurd (cc h)
+                some_unit (Some x) h = tt

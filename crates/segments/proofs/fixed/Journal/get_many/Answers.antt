@@ -1,0 +1,67 @@
+use Rattle.std.proofs.Common.{◌≡◌, ◌∙◌, ◌+◌, ◌*◌, ◌/◌, ℕ, List, Err, length, ap, arith}
+use Rattle.std.specs.List.{Contains}
+use Rattle.blob_device.specs.Timeline.{disk}
+use Rattle.blob_device.proofs.Results.{on_ok}
+use Rattle.sealed_pages.specs.Buffer as pages
+use Rattle.sealed_pages.specs.Shown as page_blob
+use Rattle.sealed_pages.proofs.EntryLemmas.{only_read_of}
+use Rattle.sealed_pages.proofs.Looking.{unchanged_now}
+use Rattle.segments.specs.declared.journal.Error.TheVariants.{ItemOutOfRange}
+use Rattle.segments.specs.FixedItems.{item_at}
+use Rattle.segments.specs.FixedReading.{HasItem, IsItemCovered}
+use Rattle.segments.specs.Managed.{shown}
+use Rattle.segments.specs.Sections.{key_of}
+use Rattle.segments.proofs.FixedErrors.{of_error}
+use Rattle.segments.proofs.FixedSections.{some_here, from_here, bytes_own, own_here, journal_read, reads_as}
+use Rattle.segments.proofs.fixed.Journal.get_many.Goals as goal
+
+pub returns-in_err-check_positions-clause-first : goal.returns-in_err-check_positions-clause-first
+returns-in_err-check_positions-clause-first g c p q past has less =
+    let m = shown c.args.self.now.manager in
+    let u = c.in_ok-buffer.buffer.now in
+    let same = ap Err (of_error c.from_residual-in_err-check_positions.result c.in_err-check_positions.field-0.0 (ItemOutOfRange p) c.from_residual-in_err-check_positions.ensures.1 past) in
+    some_here m c.args.section u c.in_ok-buffer.ensures.held (λ v. HasItem g.A.CodecFixed.SIZE v q) (c.in_err-check_positions.ensures.first c.requires.ascending p q same has less)
+
+pub returns-clause-inside : goal.returns-clause-inside
+returns-clause-inside g c v p is has past =
+    let m = shown c.args.self.now.manager in
+    let u = c.in_ok-buffer.buffer.now in
+    let inside = from_here m c.args.section v is (λ w. HasItem g.A.CodecFixed.SIZE w p) (some_here m c.args.section u c.in_ok-buffer.ensures.held (λ w. HasItem g.A.CodecFixed.SIZE w p) (c.in_ok-check_positions.ensures.ok p has)) in
+    absurd (omega (arith, inside, past))
+
+pub returns-clause-checked : goal.returns-clause-checked
+returns-clause-checked g c t =
+    let m = shown c.args.self.now.manager in
+    let u = c.in_ok-buffer.buffer.now in
+    let held = c.in_ok-buffer.ensures.held in
+    on_ok c.read_each.result
+    (own_here m c.args.section u held (c.requires.over.over.opened_list.key c.args.section u held)
+    (λ v b. (p : ℕ) → Contains c.args.positions.now p → IsItemCovered g.A.CodecFixed.SIZE g.S.Seal.seal_of v b.content p) (disk (g.D.Device.time c.args.dev.now)))
+    (c.read_each.ensures.checked t)
+
+pub returns-clause-refused : goal.returns-clause-refused
+returns-clause-refused g c t e is =
+    let m = shown c.args.self.now.manager in
+    let u = c.in_ok-buffer.buffer.now in
+    let held = c.in_ok-buffer.ensures.held in
+    let key = c.requires.over.over.opened_list.key c.args.section u held in
+    let d = disk (g.D.Device.time c.args.dev.now) in
+    let has = c.read_each.ensures.refused t e is in (
+      has.0,
+      has.1,
+      ap (λ (l : List ℕ). g.A.Codec.refusal (item_at g.A.CodecFixed.SIZE l has.0) tt) (bytes_own m c.args.section u held key d) ∙ has.2,
+      own_here m c.args.section u held key (λ v b. IsItemCovered g.A.CodecFixed.SIZE g.S.Seal.seal_of v b.content has.0) d has.3,
+    )
+
+pub returns-clause-over : goal.returns-clause-over
+returns-clause-over g c = journal_read _ _ _ _ _ _ _ _ _ _ _ (only_read_of _ _ _ _ c.read_each.ensures.reads) (λ t. unchanged_now (g.D.Device.time c.args.dev.now) (g.D.Device.time c.read_each.new.dev) (c.read_each.ensures.unchanged t)) c.requires.over
+
+pub returns-clause-reads : goal.returns-clause-reads
+returns-clause-reads g c is =
+    let m = shown c.args.self.now.manager in
+    let u = c.in_ok-buffer.buffer.now in
+    let held = c.in_ok-buffer.ensures.held in
+    let same : u.page_size ≡ m.factory.pages.page_size = λ i. (c.requires.over.over.opened_list.setting c.args.section u held i).page_size in
+    let n = length c.args.positions.now in
+    reads_as (n * (g.A.CodecFixed.SIZE / u.page_size + 2)) (n * (g.A.CodecFixed.SIZE / m.factory.pages.page_size + 2)) (pages.key_of (page_blob.shown u)) (key_of m c.args.section) _ _
+    (ap (λ (P : ℕ). length c.args.positions.now * (g.A.CodecFixed.SIZE / P + 2)) same) (c.requires.over.over.opened_list.key c.args.section u held) c.read_each.ensures.reads

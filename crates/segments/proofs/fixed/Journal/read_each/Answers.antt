@@ -1,0 +1,103 @@
+use Rattle.std.proofs.Common.{◌≡◌, ◌∙◌, ◌<◌, ◌+◌, ◌*◌, ◌/◌, ◌∷◌, ◌++◌, [], inl, inr, ℕ, List, Err, length, get_or, map, sym, ap, subst, below_more, arith}
+use Rattle.std.specs.List.{Contains}
+use Rattle.std.proofs.lemmas.List.{map-append, map_more, get_or_default}
+use Rattle.std.proofs.lemmas.List.Elements.{Contains-get_or, Contains-push_cases}
+use Rattle.std.proofs.lemmas.List.Sums.{count_by_more_yes, count_by_more_no}
+use Rattle.blob_device.specs.Disk.{Disk}
+use Rattle.blob_device.specs.Timeline.{disk}
+use Rattle.blob_device.specs.declared.runtime.RError.TheVariants.{InvalidChecksum}
+use Rattle.sealed_pages.specs.Buffer.{key_of, bytes_of}
+use Rattle.sealed_pages.specs.Shown.{shown}
+use Rattle.sealed_pages.proofs.EntryLemmas.{reads_then}
+use Rattle.sealed_pages.proofs.Holding.{bool_or}
+use Rattle.sealed_pages.proofs.Looking.{unchanged_now, unchanged_then}
+use Rattle.sealed_pages.proofs.SlotLemmas.{times_more, times_next}
+use Rattle.segments.specs.declared.journal.Error.TheVariants.{Runtime, Codec}
+use Rattle.segments.specs.FixedItems.{item_at}
+use Rattle.segments.specs.FixedReading.{is_item_held, IsDamaged, IsItemCovered}
+use Rattle.segments.proofs.FixedErrors.{of_error, read_failed}
+use Rattle.segments.proofs.fixed.Journal.read_each.Goals as goal
+
+pub read_into-requires-clause-inside : goal.read_into-requires-clause-inside
+read_into-requires-clause-inside g c = c.requires.inside (get_or c.args.positions.now c.loop-i.i 0) (Contains-get_or c.args.positions.now c.loop-i.i 0 c.loop-i-test.true)
+
+pub returns-in_err-item-clause-damaged : goal.returns-in_err-item-clause-damaged
+returns-in_err-item-clause-damaged g c t k is =
+    let u = c.args.buffer.now in
+    let p = get_or c.args.positions.now c.loop-i.i 0 in (
+      p,
+      Contains-get_or c.args.positions.now c.loop-i.i 0 c.loop-i-test.true,
+      subst (λ (d : Disk). IsDamaged g.A.CodecFixed.SIZE g.S.Seal.seal_of u (d (key_of (shown u))).content p k) (unchanged_now (g.D.Device.time c.args.dev.now) (g.D.Device.time c.loop-i.dev) (c.loop-i.invariant.unchanged t))
+          (c.in_err-item.ensures.damaged t k (ap Err (of_error c.from_residual.result c.in_err-item.field-0.0 (Runtime (InvalidChecksum k)) c.from_residual.ensures.1 is))),
+    )
+
+pub returns-in_err-item-clause-refused : goal.returns-in_err-item-clause-refused
+returns-in_err-item-clause-refused g c t e is =
+    let u = c.args.buffer.now in
+    let p = get_or c.args.positions.now c.loop-i.i 0 in
+    let same = unchanged_now (g.D.Device.time c.args.dev.now) (g.D.Device.time c.loop-i.dev) (c.loop-i.invariant.unchanged t) in
+    let err = ap Err (of_error c.from_residual.result c.in_err-item.field-0.0 (Codec e) c.from_residual.ensures.1 is) in (
+      p,
+      Contains-get_or c.args.positions.now c.loop-i.i 0 c.loop-i-test.true,
+      ap (λ (d : Disk). g.A.Codec.refusal (item_at g.A.CodecFixed.SIZE (bytes_of (shown u) (d (key_of (shown u))).content) p) tt) (sym same) ∙ c.in_err-item.ensures.refused t e err,
+      subst (λ (d : Disk). IsItemCovered g.A.CodecFixed.SIZE g.S.Seal.seal_of u (d (key_of (shown u))).content p) same (c.in_err-item.ensures.sealed_first t e err),
+    )
+
+pub returns-in_err-item-clause-unchanged : goal.returns-in_err-item-clause-unchanged
+returns-in_err-item-clause-unchanged g c t = unchanged_then _ _ _ (c.loop-i.invariant.unchanged t) (c.in_err-item.ensures.unchanged t)
+
+pub returns-in_err-item-clause-reads : goal.returns-in_err-item-clause-reads
+returns-in_err-item-clause-reads g c =
+    let X = g.A.CodecFixed.SIZE / c.args.buffer.now.page_size + 2 in
+    reads_then _ (c.loop-i.i * X) X (length c.args.positions.now * X) _ _ _ (times_more c.loop-i.i (length c.args.positions.now) X c.loop-i-test.true) c.loop-i.invariant.reads c.in_err-item.ensures.reads
+
+pub returns-in_err-item-clause-cause : goal.returns-in_err-item-clause-cause
+returns-in_err-item-clause-cause g c = read_failed c.from_residual.result c.in_err-item.field-0.0 (g.D.Device.faults c.args.dev.now) (g.D.Device.faults c.loop-i.dev) (g.D.Device.faults c.read_into.new.dev)
+    c.from_residual.ensures.1 c.loop-i.invariant.faults c.in_err-item.ensures.cause
+
+pub returns-in_err-push-clause-unchanged : goal.returns-in_err-push-clause-unchanged
+returns-in_err-push-clause-unchanged g c t = unchanged_then _ _ _ (c.loop-i.invariant.unchanged t) (c.in_ok-item.ensures.unchanged t)
+
+pub returns-in_err-push-clause-reads : goal.returns-in_err-push-clause-reads
+returns-in_err-push-clause-reads g c =
+    let X = g.A.CodecFixed.SIZE / c.args.buffer.now.page_size + 2 in
+    reads_then _ (c.loop-i.i * X) X (length c.args.positions.now * X) _ _ _ (times_more c.loop-i.i (length c.args.positions.now) X c.loop-i-test.true) c.loop-i.invariant.reads c.in_ok-item.ensures.reads
+
+pub loop-i-preserved : goal.loop-i-preserved
+loop-i-preserved g c =
+    let u = c.args.buffer.now in
+    let xs = c.args.positions.now in
+    let i = c.loop-i.i in
+    let p = get_or c.args.positions.now c.loop-i.i 0 in
+    let d0 = disk (g.D.Device.time c.args.dev.now) in
+    let lt : c.loop-i.i < length c.args.positions.now = c.loop-i-test.true in
+    let X = g.A.CodecFixed.SIZE / c.args.buffer.now.page_size + 2 in
+    let same = λ (t : g.D.Device.Tells). unchanged_now (g.D.Device.time c.args.dev.now) (g.D.Device.time c.loop-i.dev) (c.loop-i.invariant.unchanged t) in
+    let pushed : c.push.new.self.items ≡ c.loop-i.items.items ++ c.in_ok-item.item ∷ [] = c.in_ok-push.ensures.items in
+    record {
+      items = λ t. (let F = item_at g.A.CodecFixed.SIZE (bytes_of (shown u) (d0 (key_of (shown u))).content) in
+          let one : g.A.Codec.spelling c.in_ok-item.item ≡ item_at g.A.CodecFixed.SIZE (bytes_of (shown u) (d0 (key_of (shown u))).content) p
+          = (c.in_ok-item.ensures.item t).spelled ∙ ap (λ (d : Disk). item_at g.A.CodecFixed.SIZE (bytes_of (shown u) (d (key_of (shown u))).content) p) (same t) in
+          ap (map g.A.Codec.spelling) pushed ∙ map-append g.A.Codec.spelling c.loop-i.items.items (c.in_ok-item.item ∷ []) ∙ (λ j. c.loop-i.invariant.items t j ++ one j ∷ []) ∙ sym (map_more F xs i 0 lt));
+      accepted = λ v has. elim (Contains-push_cases c.loop-i.items.items c.in_ok-item.item v (subst (λ (l : List g.row.A.Denot). Contains l v) pushed has)) [
+        | inl before ↦ c.loop-i.invariant.accepted v before
+        | inr is ↦ subst (λ (w : g.row.A.Denot). g.A.Codec.accepted w tt) is c.in_ok-item.ensures.accepted
+      ];
+      held = elim (bool_or c.in_ok-item.held) [
+        | inl is_held ↦ (let one : c.from-held_count.result ≡ 1 = rw is_held at c.from-held_count.ensures in omega (arith, one, c.loop-i.invariant.held, count_by_more_yes (is_item_held g.A.CodecFixed.SIZE u) xs i 0 lt (sym c.in_ok-item.ensures.held ∙ is_held)))
+        | inr not_held ↦ (let none : c.from-held_count.result ≡ 0 = rw not_held at c.from-held_count.ensures in omega (arith, none, c.loop-i.invariant.held, count_by_more_no (is_item_held g.A.CodecFixed.SIZE u) xs i 0 lt (sym c.in_ok-item.ensures.held ∙ not_held)))
+      ];
+      checked = λ t. below_more (λ k. IsItemCovered g.A.CodecFixed.SIZE g.S.Seal.seal_of u (d0 (key_of (shown u))).content (get_or xs k 0)) i (c.loop-i.invariant.checked t)
+          (subst (λ (d : Disk). IsItemCovered g.A.CodecFixed.SIZE g.S.Seal.seal_of u (d (key_of (shown u))).content p) (same t) (c.in_ok-item.ensures.checked t));
+      is_open = c.in_ok-item.ensures.reads.length u.end c.loop-i.invariant.is_open;
+      unchanged = λ t. unchanged_then _ _ _ (c.loop-i.invariant.unchanged t) (c.in_ok-item.ensures.unchanged t);
+      reads = reads_then _ (i * X) X ((i + 1) * X) _ _ _ (omega (arith, times_next i X)) c.loop-i.invariant.reads c.in_ok-item.ensures.reads;
+      faults = omega (arith, c.loop-i.invariant.faults, c.in_ok-item.ensures.faults);
+    }
+
+pub returns-clause-checked : goal.returns-clause-checked
+returns-clause-checked g c t p has =
+    let u = c.args.buffer.now in
+    let xs = c.args.positions.now in
+    subst (λ (q : ℕ). IsItemCovered g.A.CodecFixed.SIZE g.S.Seal.seal_of u (disk (g.D.Device.time c.args.dev.now) (key_of (shown u))).content q) (get_or_default xs has.0 0 p has.1 ∙ has.2)
+    (c.loop-i.invariant.checked t has.0 (omega (arith, has.1, c.loop-i-test.false)))

@@ -1,0 +1,19 @@
+-- The sections that were gone over are sealed.
+use Rattle.segments.specs.FixedShown.{shown}
+use Rattle.segments.specs.FixedWalking.{walk_of}
+use Rattle.segments.proofs.FixedBeginning.{finished_sealed, owed_before, finished_held, finished_settled, finished_unopened}
+use Rattle.segments.proofs.fixed.replaying.Replay.finish.Goals as goal
+
+pub returns-clause-sealed : goal.returns-clause-sealed
+returns-clause-sealed g c d over = finished_sealed g.S.Seal.seal_of g.A.CodecFixed.SIZE (walk_of c.args.self) (shown c.recovered_from.result) d over c.if-self.false (c.is_drained.ensures.0 c.if-not-is_drained.false) c.recovered_from.ensures.sections c.recovered_from.ensures.unrecovered
+
+pub returns-clause-held : goal.returns-clause-held
+returns-clause-held g c walk = finished_held (walk_of c.args.self) (shown c.recovered_from.result) c.recovered_from.ensures.sections c.if-self.false
+    (owed_before (walk_of c.args.self) (shown c.recovered_from.result) c.recovered_from.ensures.recovered c.recovered_from.ensures.unrecovered) walk.owes_held
+
+pub returns-clause-settled : goal.returns-clause-settled
+returns-clause-settled g c walk = finished_settled (walk_of c.args.self) (shown c.recovered_from.result) c.recovered_from.ensures.sections
+    (owed_before (walk_of c.args.self) (shown c.recovered_from.result) c.recovered_from.ensures.recovered c.recovered_from.ensures.unrecovered) walk.owes_settled
+
+pub returns-clause-unopened : goal.returns-clause-unopened
+returns-clause-unopened g c d over = finished_unopened (walk_of c.args.self) (shown c.recovered_from.result) c.recovered_from.ensures.sections (over.unopened c.if-self.false)

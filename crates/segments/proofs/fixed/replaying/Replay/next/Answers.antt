@@ -1,0 +1,178 @@
+-- Steps are made until one gives an item or an error, or nothing is left.
+use Rattle.std.specs.Prelude.{◌≡◌, Bool, true, false, Some, Ok, Err}
+use Rattle.std.proofs.Common.{inl, inr, refl, ◌∙◌}
+use Rattle.segments.specs.FixedWalking.{walk_of}
+use Rattle.segments.proofs.FixedRunning.{ok_at, err_at, running_start, running_on, left_none, same_after, moments_after, entries_after, once_after, faults_after, gives_after, stops_after, start_after, cause_after}
+use Rattle.segments.proofs.fixed.replaying.Replay.next.Goals as goal
+
+not_true : (x : Bool) → (x ≡ true → ⊥) → x ≡ false
+not_true true never = absurd (never refl)
+not_true false never = refl
+
+pub steps-init : goal.steps-init
+steps-init g c = running_start g.S.Seal.seal_of g.A.CodecFixed.SIZE _ _ g.D.Device.Tells (walk_of c.args.self.now) (g.D.Device.opened c.args.dev.now) (g.D.Device.time c.args.dev.now) (g.D.Device.faults c.args.dev.now) c.requires
+
+pub step-requires-clause-over : goal.step-requires-clause-over
+step-requires-clause-over g c = c.steps.invariant.over
+
+pub step-requires-clause-going : goal.step-requires-clause-going
+step-requires-clause-going g c = not_true c.steps.self.has_ended (λ ended. (let on = c.is_over.ensures.1 (inr ended) in cc on))
+
+pub step-requires-clause-more : goal.step-requires-clause-more
+step-requires-clause-more g c drained = (let on = c.is_over.ensures.1 (inl drained) in cc on)
+
+pub steps-smaller : goal.steps-smaller
+steps-smaller g c = c.step.ensures.nearer cc
+
+pub steps-preserved : goal.steps-preserved
+steps-preserved g c = running_on g.S.Seal.seal_of g.A.CodecFixed.SIZE _ _ g.D.Device.Tells (walk_of c.args.self.now) (g.D.Device.opened c.args.dev.now) (g.D.Device.time c.args.dev.now) (g.D.Device.faults c.args.dev.now)
+    (walk_of c.steps.self) (g.D.Device.opened c.steps.dev) (g.D.Device.time c.steps.dev) (g.D.Device.faults c.steps.dev) c.steps.invariant g.A.Codec.spelling g.A.Codec.accepted c.step.result (walk_of c.step.new.self) (g.D.Device.opened c.step.new.dev) (g.D.Device.time c.step.new.dev) (g.D.Device.faults c.step.new.dev) c.step.ensures cc
+
+pub returns-in-Ok-Some-clause-over : goal.returns-in-Ok-Some-clause-over
+returns-in-Ok-Some-clause-over g c = (let is : c.step.result ≡ Ok (Some c.in-Ok-Some.item) = cc in ok_at c.step.result _ is c.step.ensures.over)
+
+pub returns-in-Ok-Some-clause-same : goal.returns-in-Ok-Some-clause-same
+returns-in-Ok-Some-clause-same g c = same_after g.S.Seal.seal_of g.A.CodecFixed.SIZE _ _ g.D.Device.Tells (walk_of c.args.self.now) (g.D.Device.opened c.args.dev.now) (g.D.Device.time c.args.dev.now) (g.D.Device.faults c.args.dev.now)
+    (walk_of c.steps.self) (g.D.Device.opened c.steps.dev) (g.D.Device.time c.steps.dev) (g.D.Device.faults c.steps.dev) c.steps.invariant g.A.Codec.spelling g.A.Codec.accepted c.step.result (walk_of c.step.new.self) (g.D.Device.opened c.step.new.dev) (g.D.Device.time c.step.new.dev) (g.D.Device.faults c.step.new.dev) c.step.ensures
+
+pub returns-in-Ok-Some-clause-item : goal.returns-in-Ok-Some-clause-item
+returns-in-Ok-Some-clause-item g c t s p v is = gives_after g.S.Seal.seal_of g.A.CodecFixed.SIZE _ _ g.D.Device.Tells (walk_of c.args.self.now) (g.D.Device.opened c.args.dev.now) (g.D.Device.time c.args.dev.now) (g.D.Device.faults c.args.dev.now)
+    (walk_of c.steps.self) (g.D.Device.opened c.steps.dev) (g.D.Device.time c.steps.dev) (g.D.Device.faults c.steps.dev) c.steps.invariant g.A.Codec.spelling g.A.Codec.accepted c.step.result (walk_of c.step.new.self) (g.D.Device.opened c.step.new.dev) (g.D.Device.time c.step.new.dev) (g.D.Device.faults c.step.new.dev) c.step.ensures t s p v (let at : c.step.result ≡ Ok (Some c.in-Ok-Some.item) = cc in cc (at, is))
+
+pub returns-in-Ok-Some-clause-going : goal.returns-in-Ok-Some-clause-going
+returns-in-Ok-Some-clause-going g c s p v is = (let at : c.step.result ≡ Ok (Some c.in-Ok-Some.item) = cc in (ok_at c.step.result _ at c.step.ensures.goes).failed ∙ c.steps.invariant.goes.failed)
+
+pub returns-in-Ok-Some-clause-none : goal.returns-in-Ok-Some-clause-none
+returns-in-Ok-Some-clause-none g c t is = absurd (cc is)
+
+pub returns-in-Ok-Some-clause-drained : goal.returns-in-Ok-Some-clause-drained
+returns-in-Ok-Some-clause-drained g c is = absurd (cc is)
+
+pub returns-in-Ok-Some-clause-whole : goal.returns-in-Ok-Some-clause-whole
+returns-in-Ok-Some-clause-whole g c is = absurd (cc is)
+
+pub returns-in-Ok-Some-clause-failed : goal.returns-in-Ok-Some-clause-failed
+returns-in-Ok-Some-clause-failed g c e is = absurd (cc is)
+
+pub returns-in-Ok-Some-clause-stops : goal.returns-in-Ok-Some-clause-stops
+returns-in-Ok-Some-clause-stops g c t e is = absurd (cc is)
+
+pub returns-in-Ok-Some-clause-start : goal.returns-in-Ok-Some-clause-start
+returns-in-Ok-Some-clause-start g c t p is = absurd (cc is)
+
+pub returns-in-Ok-Some-clause-moments : goal.returns-in-Ok-Some-clause-moments
+returns-in-Ok-Some-clause-moments g c t = moments_after g.S.Seal.seal_of g.A.CodecFixed.SIZE _ _ g.D.Device.Tells (walk_of c.args.self.now) (g.D.Device.opened c.args.dev.now) (g.D.Device.time c.args.dev.now) (g.D.Device.faults c.args.dev.now)
+    (walk_of c.steps.self) (g.D.Device.opened c.steps.dev) (g.D.Device.time c.steps.dev) (g.D.Device.faults c.steps.dev) c.steps.invariant g.A.Codec.spelling g.A.Codec.accepted c.step.result (walk_of c.step.new.self) (g.D.Device.opened c.step.new.dev) (g.D.Device.time c.step.new.dev) (g.D.Device.faults c.step.new.dev) c.step.ensures t
+
+pub returns-in-Ok-Some-clause-entries : goal.returns-in-Ok-Some-clause-entries
+returns-in-Ok-Some-clause-entries g c q never = entries_after g.S.Seal.seal_of g.A.CodecFixed.SIZE _ _ g.D.Device.Tells (walk_of c.args.self.now) (g.D.Device.opened c.args.dev.now) (g.D.Device.time c.args.dev.now) (g.D.Device.faults c.args.dev.now)
+    (walk_of c.steps.self) (g.D.Device.opened c.steps.dev) (g.D.Device.time c.steps.dev) (g.D.Device.faults c.steps.dev) c.steps.invariant g.A.Codec.spelling g.A.Codec.accepted c.step.result (walk_of c.step.new.self) (g.D.Device.opened c.step.new.dev) (g.D.Device.time c.step.new.dev) (g.D.Device.faults c.step.new.dev) c.step.ensures q never
+
+pub returns-in-Ok-Some-clause-faults : goal.returns-in-Ok-Some-clause-faults
+returns-in-Ok-Some-clause-faults g c = faults_after g.S.Seal.seal_of g.A.CodecFixed.SIZE _ _ g.D.Device.Tells (walk_of c.args.self.now) (g.D.Device.opened c.args.dev.now) (g.D.Device.time c.args.dev.now) (g.D.Device.faults c.args.dev.now)
+    (walk_of c.steps.self) (g.D.Device.opened c.steps.dev) (g.D.Device.time c.steps.dev) (g.D.Device.faults c.steps.dev) c.steps.invariant g.A.Codec.spelling g.A.Codec.accepted c.step.result (walk_of c.step.new.self) (g.D.Device.opened c.step.new.dev) (g.D.Device.time c.step.new.dev) (g.D.Device.faults c.step.new.dev) c.step.ensures
+
+pub returns-in-Ok-Some-clause-cause : goal.returns-in-Ok-Some-clause-cause
+returns-in-Ok-Some-clause-cause g c e is = absurd (cc is)
+
+pub returns-in-Err-clause-over : goal.returns-in-Err-clause-over
+returns-in-Err-clause-over g c = (let is : c.step.result ≡ Err c.in-Err.e = cc in err_at c.step.result _ is c.step.ensures.broken)
+
+pub returns-in-Err-clause-same : goal.returns-in-Err-clause-same
+returns-in-Err-clause-same g c = (let s = same_after g.S.Seal.seal_of g.A.CodecFixed.SIZE _ _ g.D.Device.Tells (walk_of c.args.self.now) (g.D.Device.opened c.args.dev.now) (g.D.Device.time c.args.dev.now) (g.D.Device.faults c.args.dev.now)
+    (walk_of c.steps.self) (g.D.Device.opened c.steps.dev) (g.D.Device.time c.steps.dev) (g.D.Device.faults c.steps.dev) c.steps.invariant g.A.Codec.spelling g.A.Codec.accepted c.step.result (walk_of c.step.new.self) (g.D.Device.opened c.step.new.dev) (g.D.Device.time c.step.new.dev) (g.D.Device.faults c.step.new.dev) c.step.ensures in record { bounds = s.bounds; unrecovered = s.unrecovered; section = s.section; position = s.position })
+
+pub returns-in-Err-clause-item : goal.returns-in-Err-clause-item
+returns-in-Err-clause-item g c t s p v is = absurd (cc is)
+
+pub returns-in-Err-clause-going : goal.returns-in-Err-clause-going
+returns-in-Err-clause-going g c s p v is = absurd (cc is)
+
+pub returns-in-Err-clause-none : goal.returns-in-Err-clause-none
+returns-in-Err-clause-none g c t is = absurd (cc is)
+
+pub returns-in-Err-clause-drained : goal.returns-in-Err-clause-drained
+returns-in-Err-clause-drained g c is = absurd (cc is)
+
+pub returns-in-Err-clause-whole : goal.returns-in-Err-clause-whole
+returns-in-Err-clause-whole g c is = absurd (cc is)
+
+pub returns-in-Err-clause-failed : goal.returns-in-Err-clause-failed
+returns-in-Err-clause-failed g c e is = refl
+
+pub returns-in-Err-clause-stops : goal.returns-in-Err-clause-stops
+returns-in-Err-clause-stops g c t e is = stops_after g.S.Seal.seal_of g.A.CodecFixed.SIZE _ _ g.D.Device.Tells (walk_of c.args.self.now) (g.D.Device.opened c.args.dev.now) (g.D.Device.time c.args.dev.now) (g.D.Device.faults c.args.dev.now)
+    (walk_of c.steps.self) (g.D.Device.opened c.steps.dev) (g.D.Device.time c.steps.dev) (g.D.Device.faults c.steps.dev) c.steps.invariant g.A.Codec.spelling g.A.Codec.accepted c.step.result (walk_of c.step.new.self) (g.D.Device.opened c.step.new.dev) (g.D.Device.time c.step.new.dev) (g.D.Device.faults c.step.new.dev) c.step.ensures t (let at : c.step.result ≡ Err c.in-Err.e = cc in err_at c.step.result _ at (c.step.ensures.stops t))
+
+pub returns-in-Err-clause-start : goal.returns-in-Err-clause-start
+returns-in-Err-clause-start g c t p is = start_after g.S.Seal.seal_of g.A.CodecFixed.SIZE _ _ g.D.Device.Tells (walk_of c.args.self.now) (g.D.Device.opened c.args.dev.now) (g.D.Device.time c.args.dev.now) (g.D.Device.faults c.args.dev.now)
+    (walk_of c.steps.self) (g.D.Device.opened c.steps.dev) (g.D.Device.time c.steps.dev) (g.D.Device.faults c.steps.dev) c.steps.invariant g.A.Codec.spelling g.A.Codec.accepted c.step.result (walk_of c.step.new.self) (g.D.Device.opened c.step.new.dev) (g.D.Device.time c.step.new.dev) (g.D.Device.faults c.step.new.dev) c.step.ensures t p (let at : c.step.result ≡ Err c.in-Err.e = cc in cc (at, is))
+
+pub returns-in-Err-clause-moments : goal.returns-in-Err-clause-moments
+returns-in-Err-clause-moments g c t = moments_after g.S.Seal.seal_of g.A.CodecFixed.SIZE _ _ g.D.Device.Tells (walk_of c.args.self.now) (g.D.Device.opened c.args.dev.now) (g.D.Device.time c.args.dev.now) (g.D.Device.faults c.args.dev.now)
+    (walk_of c.steps.self) (g.D.Device.opened c.steps.dev) (g.D.Device.time c.steps.dev) (g.D.Device.faults c.steps.dev) c.steps.invariant g.A.Codec.spelling g.A.Codec.accepted c.step.result (walk_of c.step.new.self) (g.D.Device.opened c.step.new.dev) (g.D.Device.time c.step.new.dev) (g.D.Device.faults c.step.new.dev) c.step.ensures t
+
+pub returns-in-Err-clause-entries : goal.returns-in-Err-clause-entries
+returns-in-Err-clause-entries g c q never = entries_after g.S.Seal.seal_of g.A.CodecFixed.SIZE _ _ g.D.Device.Tells (walk_of c.args.self.now) (g.D.Device.opened c.args.dev.now) (g.D.Device.time c.args.dev.now) (g.D.Device.faults c.args.dev.now)
+    (walk_of c.steps.self) (g.D.Device.opened c.steps.dev) (g.D.Device.time c.steps.dev) (g.D.Device.faults c.steps.dev) c.steps.invariant g.A.Codec.spelling g.A.Codec.accepted c.step.result (walk_of c.step.new.self) (g.D.Device.opened c.step.new.dev) (g.D.Device.time c.step.new.dev) (g.D.Device.faults c.step.new.dev) c.step.ensures q never
+
+pub returns-in-Err-clause-faults : goal.returns-in-Err-clause-faults
+returns-in-Err-clause-faults g c = faults_after g.S.Seal.seal_of g.A.CodecFixed.SIZE _ _ g.D.Device.Tells (walk_of c.args.self.now) (g.D.Device.opened c.args.dev.now) (g.D.Device.time c.args.dev.now) (g.D.Device.faults c.args.dev.now)
+    (walk_of c.steps.self) (g.D.Device.opened c.steps.dev) (g.D.Device.time c.steps.dev) (g.D.Device.faults c.steps.dev) c.steps.invariant g.A.Codec.spelling g.A.Codec.accepted c.step.result (walk_of c.step.new.self) (g.D.Device.opened c.step.new.dev) (g.D.Device.time c.step.new.dev) (g.D.Device.faults c.step.new.dev) c.step.ensures
+
+pub returns-in-Err-clause-cause : goal.returns-in-Err-clause-cause
+returns-in-Err-clause-cause g c e is = cause_after g.S.Seal.seal_of g.A.CodecFixed.SIZE _ _ g.D.Device.Tells (walk_of c.args.self.now) (g.D.Device.opened c.args.dev.now) (g.D.Device.time c.args.dev.now) (g.D.Device.faults c.args.dev.now)
+    (walk_of c.steps.self) (g.D.Device.opened c.steps.dev) (g.D.Device.time c.steps.dev) (g.D.Device.faults c.steps.dev) c.steps.invariant g.A.Codec.spelling g.A.Codec.accepted c.step.result (walk_of c.step.new.self) (g.D.Device.opened c.step.new.dev) (g.D.Device.time c.step.new.dev) (g.D.Device.faults c.step.new.dev) c.step.ensures e (let at : c.step.result ≡ Err c.in-Err.e = cc in cc (at, is))
+
+pub returns-clause-over : goal.returns-clause-over
+returns-clause-over g c = c.steps.invariant.over
+
+pub returns-clause-same : goal.returns-clause-same
+returns-clause-same g c = c.steps.invariant.same
+
+pub returns-clause-item : goal.returns-clause-item
+returns-clause-item g c t s p v is = absurd (cc is)
+
+pub returns-clause-going : goal.returns-clause-going
+returns-clause-going g c s p v is = absurd (cc is)
+
+pub returns-clause-none : goal.returns-clause-none
+returns-clause-none g c t is = left_none g.S.Seal.seal_of g.A.CodecFixed.SIZE _ _ g.D.Device.Tells (walk_of c.args.self.now) (g.D.Device.opened c.args.dev.now) (g.D.Device.time c.args.dev.now) (g.D.Device.faults c.args.dev.now)
+    (walk_of c.steps.self) (g.D.Device.opened c.steps.dev) (g.D.Device.time c.steps.dev) (g.D.Device.faults c.steps.dev) c.steps.invariant t (c.is_over.ensures.0 cc)
+
+pub returns-clause-drained : goal.returns-clause-drained
+returns-clause-drained g c is = c.is_over.ensures.0 cc
+
+pub returns-clause-whole : goal.returns-clause-whole
+returns-clause-whole g c is = c.steps.invariant.goes.failed
+
+pub returns-clause-failed : goal.returns-clause-failed
+returns-clause-failed g c e is = absurd (cc is)
+
+pub returns-clause-stops : goal.returns-clause-stops
+returns-clause-stops g c t e is = absurd (cc is)
+
+pub returns-clause-start : goal.returns-clause-start
+returns-clause-start g c t p is = absurd (cc is)
+
+pub returns-clause-moments : goal.returns-clause-moments
+returns-clause-moments g c t = c.steps.invariant.moments t
+
+pub returns-clause-entries : goal.returns-clause-entries
+returns-clause-entries g c q never = c.steps.invariant.entries q never
+
+pub returns-clause-faults : goal.returns-clause-faults
+returns-clause-faults g c = c.steps.invariant.faults
+
+pub returns-clause-cause : goal.returns-clause-cause
+returns-clause-cause g c e is = absurd (cc is)
+
+pub returns-in-Ok-Some-clause-once : goal.returns-in-Ok-Some-clause-once
+returns-in-Ok-Some-clause-once g c which = once_after g.S.Seal.seal_of g.A.CodecFixed.SIZE _ _ g.D.Device.Tells (walk_of c.args.self.now) (g.D.Device.opened c.args.dev.now) (g.D.Device.time c.args.dev.now) (g.D.Device.faults c.args.dev.now)
+    (walk_of c.steps.self) (g.D.Device.opened c.steps.dev) (g.D.Device.time c.steps.dev) (g.D.Device.faults c.steps.dev) c.steps.invariant g.A.Codec.spelling g.A.Codec.accepted c.step.result (walk_of c.step.new.self) (g.D.Device.opened c.step.new.dev) (g.D.Device.time c.step.new.dev) (g.D.Device.faults c.step.new.dev) c.step.ensures (let at : c.step.result ≡ Ok (Some c.in-Ok-Some.item) = cc in ok_at c.step.result _ at c.step.ensures.once)
+
+pub returns-in-Err-clause-once : goal.returns-in-Err-clause-once
+returns-in-Err-clause-once g c which = elim which [ inl none ↦ absurd (cc none) | inr some ↦ (let at = some.1 in absurd (cc at)) ]
+
+pub returns-clause-once : goal.returns-clause-once
+returns-clause-once g c which = c.steps.invariant.once

@@ -1,0 +1,158 @@
+-- What a replay of a fixed journal shows: the journal, where it stands in it, and which items are still to be given.
+use Rattle.std.specs.Prelude.{◌≡◌, ◌⊎◌, ◌↔◌, ℕ, ◌+◌, ◌*◌, ◌/◌, ◌%◌, ◌<◌, ◌≤◌, eqb, cond, Bool, true, false, List, [], length, Option, None, Some, IsSome, IsSomeAnd, IsTrue}
+use Rattle.blob_device.specs.Disk.{Key, Blob, Disk}
+use Rattle.blob_device.specs.Opened.{OpenedList}
+use Rattle.sealed_pages.specs.declared.page_blob.PageBlob.{PageBlob}
+use Rattle.sealed_pages.specs.Shown.{shown}
+use Rattle.sealed_pages.specs.Buffer.{size_of, bytes_of, IsSealed}
+use Rattle.sealed_pages.specs.SealedPrefix.{sealed_prefix}
+use Rattle.sealed_pages.specs.ChanceSeal.{Leaves}
+use Rattle.sealed_pages.specs.Readers.{Reader, IsReplayOf}
+use Rattle.sealed_pages.specs.Reads.{IsCovered}
+use Rattle.segments.specs.declared.buffer.SectionBuffer as buffer
+use Rattle.segments.specs.Setting.{Setting}
+use Rattle.segments.specs.Sections.{Sections, key_of, IsHeld, IsKeyOf, SameBounds, IsOver}
+use Rattle.segments.specs.FixedItems.{item_at, IsItem}
+use Rattle.segments.specs.FixedLists.{Lists, OwesHeld, OwesSettled, AreSealed, UnopenedLater}
+
+-- A place within a section: the reader is at the item of this position.
+pub record Place : Type 0 where
+  pub section : ℕ
+  pub position : ℕ
+  pub reader : Reader
+
+-- A replay begins at a position of a section. It has come to the sections below `next_section`, to all where there is none, and
+-- stands at a place in one of them or between two. It gave an error where it has failed, and gives no more where it has ended.
+pub record Walk (F B : Type 0) : Type 0 where
+  pub journal : Lists F B
+  pub start_section : ℕ
+  pub start_position : ℕ
+  pub next_section : Option ℕ
+  pub place : Option Place
+  pub failed : Bool
+  pub ended : Bool
+
+module _ {F B : Type 0} (w : Walk F B) where
+  -- the replay has not come to the section
+  abbrev pub IsAhead : ℕ → Type 0
+  IsAhead s = IsSomeAnd w.next_section (λ n. n ≤ s)
+
+  -- it stands in the section
+  abbrev pub IsIn : ℕ → Type 0
+  IsIn s = IsSomeAnd w.place (λ r. r.section ≡ s)
+
+  -- the position from which on items of the section are given
+  abbrev pub first_of : ℕ → ℕ
+  first_of s = cond (eqb s w.start_section) w.start_position 0
+
+  -- It stands in no section, and no held one is ahead.
+  pub record IsDrained : Type 0 where
+    pub between : w.place ≡ None
+    pub last : (s : ℕ) → IsHeld w.journal.sections s → IsAhead s → ⊥
+
+-- item p of section s goes before item q of section t
+abbrev pub StandsBefore : ℕ → ℕ → ℕ → ℕ → Type 0
+StandsBefore s p t q = (s < t) ⊎ ((s ≡ t) × (p < q))
+
+module _ {S : Type 0} {gs : _} where
+  -- of a section that owes a replay the bytes of its sealed prefix, else all
+  abbrev pub kept_of : (List ℕ → ℕ) → Bool → Option (PageBlob S gs) → List ℕ → List ℕ
+  kept_of seal owes None content = []
+  kept_of seal false (Some u) content = bytes_of (shown u) content
+  kept_of seal true (Some u) content = sealed_prefix seal u.page_size content
+
+  module _ {F : Type 0} (seal : List ℕ → ℕ) (size : ℕ) (w : Walk F (PageBlob S gs)) (d : Disk) where
+    -- the bytes from which a section's items are given
+    abbrev pub kept_bytes : ℕ → List ℕ
+    kept_bytes s = kept_of seal (w.journal.unrecovered s) (w.journal.sections.held s) (d (key_of w.journal.sections s)).content
+
+    -- item p of section s is still to be given
+    pub record IsLeft (s p : ℕ) : Type 0 where
+      pub goes_on : w.ended ≡ false
+      pub begun : first_of w s ≤ p
+      pub whole : p < length (kept_bytes s) / size
+      pub ahead : (IsHeld w.journal.sections s × IsAhead w s) ⊎ IsSomeAnd w.place (λ r. (r.section ≡ s) × (r.position ≤ p))
+
+  -- The reader is over the section's blob, of which all bytes are flushed.
+  pub record StandsIn {F : Type 0} (size : ℕ) (w : Walk F (PageBlob S gs)) (r : Place) (u : PageBlob S gs) : Type 0 where
+    pub key : r.reader.key ≡ key_of w.journal.sections r.section
+    pub page_size : r.reader.page_size ≡ u.page_size
+    pub end : r.reader.end ≡ u.end
+    pub blob_size : r.reader.size ≡ size_of (shown u)
+    pub flushed : u.from ≡ length u.tip.items
+    pub at : r.reader.at ≡ r.position * size
+    pub within : r.position * size ≤ size_of (shown u)
+    pub begun : w.journal.unrecovered r.section ≡ false → first_of w r.section ≤ r.position
+
+  -- It reads what the blob has. Where a replay of the section is owed, all bytes up to the last one at hand were checked.
+  pub record ReadsIn {F : Type 0} (seal : List ℕ → ℕ) (w : Walk F (PageBlob S gs)) (d : Disk) (r : Place) (u : PageBlob S gs) : Type 0 where
+    pub replays : IsReplayOf seal (d (key_of w.journal.sections r.section)).content r.reader
+    pub checked : IsTrue (w.journal.unrecovered r.section) → IsCovered seal u.page_size (d (key_of w.journal.sections r.section)).content 0 (r.reader.at + length r.reader.bytes)
+
+  -- the replay has gone over the section
+  pub record IsGoneOver {F : Type 0} (w : Walk F (PageBlob S gs)) (s : ℕ) : Type 0 where
+    pub begun : w.start_section ≤ s
+    pub not_ahead : IsAhead w s → ⊥
+    pub not_in : IsIn w s → ⊥
+
+  -- Where the replay stands. A start that it has not come to is within its section.
+  pub record HasWalk {F : Type 0} (size : ℕ) (w : Walk F (PageBlob S gs)) : Type 0 where
+    pub owes_settled : OwesSettled w.journal
+    pub owes_held : w.failed ≡ false → OwesHeld w.journal
+    pub place : (r : Place) → w.place ≡ Some r → IsSomeAnd (w.journal.sections.held r.section) (StandsIn size w r)
+    pub come_to : (r : Place) → w.place ≡ Some r → (w.start_section ≤ r.section) × (IsAhead w r.section → ⊥)
+    pub from_start : (n : ℕ) → w.next_section ≡ Some n → w.start_section ≤ n
+    pub start_within : IsAhead w w.start_section → (u : PageBlob S gs) → w.journal.sections.held w.start_section ≡ Some u → w.start_position * size ≤ size_of (shown u)
+    pub ends : w.ended ≡ true → w.failed ≡ true
+
+  -- Sections that owe no replay are sealed and have whole items, and so have those that the replay has gone over without an error.
+  pub record WalksOver {F : Type 0} (seal : List ℕ → ℕ) (size : ℕ) (w : Walk F (PageBlob S gs)) (d : Disk) : Type 0 where
+    pub sealed : AreSealed seal size w.journal d
+    pub gone_over : w.failed ≡ false → (s : ℕ) (u : PageBlob S gs) → w.journal.sections.held s ≡ Some u → IsGoneOver w s → IsSealed seal (shown u) (d (key_of w.journal.sections s)) × (size_of (shown u) % size ≡ 0)
+    pub unopened : w.failed ≡ false → UnopenedLater w.journal
+    pub place : (r : Place) → w.place ≡ Some r → IsSomeAnd (w.journal.sections.held r.section) (ReadsIn seal w d r)
+
+  -- what a replay keeps
+  pub record IsWalk {F : Type 0} (g : buffer.Ghosts (PageBlob S gs)) (gives : F → Setting) (seal : List ℕ → ℕ) (size : ℕ) (told : Type 0)
+      (w : Walk F (PageBlob S gs)) (opened : OpenedList) (d : Disk) : Type 0 where
+    pub over : IsOver g gives told w.journal.sections opened d
+    pub walk : HasWalk size w
+    pub disk : told → WalksOver seal size w d
+
+  -- The item v of section s at p is the first that was left, and those behind it are left.
+  pub record Gives {F V : Type 0} (seal : List ℕ → ℕ) (size : ℕ) (spelling : V → List ℕ) (accepted : V → Unit {0} → Type 0)
+      (old new : Walk F (PageBlob S gs)) (d e : Disk) (s p : ℕ) (v : V) : Type 0 where
+    pub left : IsLeft seal size old d s p
+    pub first : (t q : ℕ) → IsLeft seal size old d t q → StandsBefore t q s p → ⊥
+    pub item : IsItem spelling accepted (item_at size (kept_bytes seal size old d s) p) v
+    pub rest : (t q : ℕ) → IsLeft seal size new e t q ↔ (IsLeft seal size old d t q × StandsBefore s p t q)
+
+  -- An error ended the whole replay, or that of section s; the items of later sections are left.
+  pub record Stops {F : Type 0} (seal : List ℕ → ℕ) (size : ℕ) (old new : Walk F (PageBlob S gs)) (d e : Disk) : Type 0 where
+    pub rest : (new.ended ≡ true) ⊎ ((s : ℕ) × ((t q : ℕ) → IsLeft seal size new e t q ↔ (IsLeft seal size old d t q × (s < t))))
+
+  -- Of a section that is ahead or being read each crash leaves a prefix of its bytes, no shorter than what had settled, or where it owes a
+  -- replay a prefix of its sealed prefix that has all whole items of it. No other blob changes.
+  pub record Replaying {F : Type 0} (seal : List ℕ → ℕ) (size : ℕ) (w : Walk F (PageBlob S gs)) (from : Disk) (q : Key) (b : Blob) : Type 0 where
+    pub flushed : (s : ℕ) (u : PageBlob S gs) → w.journal.sections.held s ≡ Some u → w.journal.unrecovered s ≡ false → q ≡ key_of w.journal.sections s
+        → Leaves seal u.page_size (bytes_of (shown u) (from q).content) u.settled b
+    pub cut : (s : ℕ) (u : PageBlob S gs) → w.journal.sections.held s ≡ Some u → IsTrue (w.journal.unrecovered s) → q ≡ key_of w.journal.sections s
+        → (b ≡ from q) ⊎ Leaves seal u.page_size (sealed_prefix seal u.page_size (from q).content) (length (sealed_prefix seal u.page_size (from q).content) / size * size) b
+    pub others : (IsKeyOf w.journal.sections (λ s. IsHeld w.journal.sections s × (IsAhead w s ⊎ IsIn w s)) q → ⊥) → b ≡ from q
+
+-- where a replay begins, and over which sections
+pub record Begins {F B : Type 0} (j : Lists F B) (s p : ℕ) (w : Walk F B) : Type 0 where
+  pub journal : w.journal ≡ j
+  pub section : w.start_section ≡ s
+  pub position : w.start_position ≡ p
+  pub first : w.next_section ≡ Some s
+  pub between : w.place ≡ None
+  pub whole : w.failed ≡ false
+  pub going : w.ended ≡ false
+
+-- the same replay, over the same sections that owe one
+pub record SameWalk {F B : Type 0} (old new : Walk F B) : Type 0 where
+  pub bounds : SameBounds old.journal.sections new.journal.sections
+  pub unrecovered : (s : ℕ) → new.journal.unrecovered s ≡ old.journal.unrecovered s
+  pub section : new.start_section ≡ old.start_section
+  pub position : new.start_position ≡ old.start_position

@@ -1,0 +1,160 @@
+-- One step of a replay of a fixed journal: what it answers, what it leaves to be given, and what it keeps.
+use Rattle.std.specs.Prelude.{◌≡◌, ◌≢◌, ◌⊎◌, ◌↔◌, ℕ, ◌+◌, ◌-◌, ◌*◌, ◌/◌, ◌%◌, ◌^◌, ◌<◌, ◌≤◌, eqb, leb, cond, Bool, true, false, List, length, take, drop, Option, None, Some, Result, Ok, OnOk, OnErr}
+use Rattle.std.specs.Result.{IsErrOf}
+use Rattle.blob_device.specs.Disk.{Key, Blob, Disk}
+use Rattle.blob_device.specs.Opened.{OpenedList, reads_of}
+use Rattle.blob_device.specs.Timeline.{Timeline, disk, Always, Each}
+use Rattle.sealed_pages.specs.declared.page_blob.PageBlob.{PageBlob}
+use Rattle.sealed_pages.specs.Shown.{shown}
+use Rattle.sealed_pages.specs.Buffer.{size_of, bytes_of, IsSealed}
+use Rattle.sealed_pages.specs.SealedPrefix.{sealed_prefix}
+use Rattle.sealed_pages.specs.Readers.{Reader, IsReplayOf, unread_of}
+use Rattle.sealed_pages.specs.Reads.{pages_for}
+use Rattle.segments.specs.declared.buffer.SectionBuffer as buffer
+use Rattle.segments.specs.declared.journal.Error.{Error}
+use Rattle.segments.specs.declared.journal.Error.TheVariants.{ItemOutOfRange}
+use Rattle.segments.specs.Setting.{Setting}
+use Rattle.segments.specs.Entries.{OnlyOwnEntry}
+use Rattle.segments.specs.Sections.{Sections, key_of, IsHeld, IsKeyOf, IsSame, SameBounds, IsOver}
+use Rattle.segments.specs.FixedReading.{HasNotRead}
+use Rattle.segments.specs.FixedReplay.{Place, Walk, IsAhead, IsIn, IsLeft, SameWalk, IsWalk, Gives, Stops, Replaying, kept_bytes}
+
+-- greater than each number of a section, and than each place in one
+unfoldable pub word : ℕ
+word = 2 ^ 64
+
+-- how many numbers from the next section on there are
+abbrev pub sections_ahead : Option ℕ → ℕ
+sections_ahead None = 0
+sections_ahead (Some n) = word - n
+
+-- how many bytes of its section the replay has not come to, and one
+abbrev pub bytes_ahead : Option Place → ℕ
+bytes_ahead None = 0
+bytes_ahead (Some r) = r.reader.size - r.reader.at + 1
+
+-- n where the section is ahead, else none
+abbrev pub ahead_count : Option ℕ → ℕ → ℕ → ℕ
+ahead_count None s n = 0
+ahead_count (Some k) s n = cond (leb k s) n 0
+
+-- the pages that the reader has not read, and so many more, where the replay stands in the section
+abbrev pub place_count : Option Place → ℕ → ℕ → ℕ → ℕ
+place_count None s more other = other
+place_count (Some r) s more other = cond (eqb r.section s) (unread_of r.reader + more) other
+
+abbrev pub held_count : {S : Type 0} {gs : _} → Option (PageBlob S gs) → Option Place → Option ℕ → ℕ → ℕ → ℕ
+held_count None place next more s = 0
+held_count (Some u) place next more s = place_count place s more (ahead_count next s (pages_for u.page_size (size_of (shown u)) + more))
+
+-- How many reads of the section's blob the replay may begin yet: one a page that it has not read, and one for a cut, where a replay is owed.
+abbrev pub reads_left : {F S : Type 0} {gs : _} → Walk F (PageBlob S gs) → ℕ → ℕ
+reads_left w s = held_count (w.journal.sections.held s) w.place w.next_section (cond (w.journal.unrecovered s) 1 0) s
+
+-- Reads that began on a section's blob, and those that are left, come to no more than before: no page is read twice.
+abbrev pub ReadsOnce : {F S : Type 0} {gs : _} → Walk F (PageBlob S gs) → Walk F (PageBlob S gs) → OpenedList → OpenedList → Type 0
+ReadsOnce old new before after = (s : ℕ) → IsHeld old.journal.sections s
+    → reads_of (after (key_of old.journal.sections s)) + reads_left new s ≤ reads_of (before (key_of old.journal.sections s)) + reads_left old s
+
+-- The place behind the item at hand.
+abbrev pub after_item : ℕ → Place → Place
+after_item size r = record { section = r.section; position = r.position + 1; reader = record r.reader { at = r.reader.at + size; bytes = drop size r.reader.bytes } }
+
+module _ {F B : Type 0} where
+  -- How far a replay has to go. Each step that gives nothing makes it less.
+  abbrev pub way_of : Walk F B → ℕ
+  way_of w = sections_ahead w.next_section * (word + 1) + bytes_ahead w.place
+
+  -- the replay, where it has given an error
+  abbrev pub failing : Walk F B → Walk F B
+  failing w = record w { failed = true }
+
+  -- the replay at this place
+  abbrev pub standing : Walk F B → Place → Walk F B
+  standing w r = record w { place = Some r }
+
+  -- It goes on over the same sections. It has come to no fewer of them, and stands in none of those that it had gone over.
+  pub record GoesOn (old new : Walk F B) : Type 0 where
+    pub failed : new.failed ≡ old.failed
+    pub ended : new.ended ≡ old.ended
+    pub held : (s : ℕ) → IsHeld new.journal.sections s ↔ IsHeld old.journal.sections s
+    pub onward : (s : ℕ) → IsAhead new s ⊎ IsIn new s → IsAhead old s ⊎ IsIn old s
+
+  -- A call on its sections leaves the replay as it was, but for whether it has ended.
+  pub record OnlySections (old new : Walk F B) : Type 0 where
+    pub unrecovered : (s : ℕ) → new.journal.unrecovered s ≡ old.journal.unrecovered s
+    pub section : new.start_section ≡ old.start_section
+    pub position : new.start_position ≡ old.start_position
+    pub next : new.next_section ≡ old.next_section
+    pub place : new.place ≡ old.place
+    pub failed : new.failed ≡ old.failed
+
+module _ {F B : Type 0} (g : buffer.Ghosts B) (gives : F → Setting) (told : Type 0) where
+  -- A call on the section s was made. Of the others nothing changed; s is held, or its buffer is gone.
+  pub record Touches {T : Type 0} (result : Result T Error) (s : ℕ) (m n : Sections F B) (before after : OpenedList) (begin end : Timeline) : Type 0 where
+    pub over : IsOver g gives told n after (disk end)
+    pub others : (q : ℕ) → q ≢ s → IsSame m n q
+    pub bounds : SameBounds m n
+    pub entries : OnlyOwnEntry (key_of m s) before after
+    pub blobs : told → (q : Key) → q ≢ key_of m s → disk end q ≡ disk begin q
+    pub held : OnOk result (IsHeld n s)
+    pub lost : OnErr result ((n.held s ≡ None) ⊎ ((n.held s ≡ m.held s) × (end ≡ begin)))
+
+module _ {S : Type 0} {gs : _} (seal : List ℕ → ℕ) (told : Type 0) (u : PageBlob S gs) (b : Blob) (v : PageBlob S gs) (c : Blob) where
+  -- The buffer v over the blob c is what u over b was, with all bytes flushed.
+  pub record IsFlushed : Type 0 where
+    pub page_size : v.page_size ≡ u.page_size
+    pub size : size_of (shown v) ≡ size_of (shown u)
+    pub settled : v.settled ≡ u.settled
+    pub flushed : v.from ≡ length v.tip.items
+    pub sealed : told → IsSealed seal (shown u) b → IsSealed seal (shown v) c × (bytes_of (shown v) c.content ≡ bytes_of (shown u) b.content)
+
+  -- It is what a cut of u to the first n bytes of its sealed prefix made of it.
+  pub record IsCutBack (n : ℕ) : Type 0 where
+    pub page_size : v.page_size ≡ u.page_size
+    pub size : size_of (shown v) ≡ n
+    pub settled : v.settled ≡ size_of (shown v)
+    pub sealed : told → IsSealed seal (shown v) c
+    pub prefix : told → sealed_prefix seal u.page_size c.content ≡ take n (sealed_prefix seal u.page_size b.content)
+
+-- The reader is over all bytes of the buffer u, whose blob has this key and ends there, and stands at their start.
+pub record BeginsOver {S : Type 0} {gs : _} (seal : List ℕ → ℕ) (k : Key) (u v : PageBlob S gs) (r : Reader) : Type 0 where
+  pub key : r.key ≡ k
+  pub page_size : r.page_size ≡ u.page_size
+  pub end : r.end ≡ v.end
+  pub size : r.size ≡ size_of (shown u)
+  pub at : r.at ≡ 0
+  pub replays : (content : List ℕ) → IsReplayOf seal content r
+
+module _ {F S : Type 0} {gs : _} (seal : List ℕ → ℕ) (size : ℕ) where
+  -- The items that are left are the same, from the same bytes; what a later call leaves of a blob it may leave.
+  pub record Carries (old new : Walk F (PageBlob S gs)) (d e : Disk) : Type 0 where
+    pub left : (t q : ℕ) → IsLeft seal size new e t q ↔ IsLeft seal size old d t q
+    pub kept : (s : ℕ) → IsAhead new s ⊎ IsIn new s → kept_bytes seal size new e s ≡ kept_bytes seal size old d s
+    pub later : (q : Key) (b : Blob) → Replaying seal size new e q b → Replaying seal size old d q b
+
+  -- The place is behind the last whole item. Where the section is not cut there, it is sealed and has no partial item.
+  pub record EndsAt (w : Walk F (PageBlob S gs)) (d : Disk) (r : Place) (cuts : Bool) : Type 0 where
+    pub last : length (kept_bytes seal size w d r.section) / size ≡ r.position
+    pub whole : cuts ≡ false → (u : PageBlob S gs) → w.journal.sections.held r.section ≡ Some u
+        → IsSealed seal (shown u) (d (key_of w.journal.sections r.section)) × (size_of (shown u) % size ≡ 0)
+
+  module _ {V : Type 0} (g : buffer.Ghosts (PageBlob S gs)) (gives : F → Setting) (spelling : V → List ℕ) (accepted : V → Unit {0} → Type 0) (told : Type 0) where
+    -- A step of the replay `old`, and the replay after it. It gives the first item that was left, or comes nearer to one, or gives an
+    -- error, which ends the section or the replay.
+    pub record Steps (result : Result (Option (ℕ × ℕ × V)) Error) (old new : Walk F (PageBlob S gs)) (before after : OpenedList) (begin end : Timeline) (few many : ℕ) : Type 0 where
+      pub over : OnOk result (IsWalk g gives seal size told new after (disk end))
+      pub broken : OnErr result (IsWalk g gives seal size told (failing new) after (disk end))
+      pub goes : OnOk result (GoesOn old new)
+      pub same : SameWalk old new
+      pub nearer : result ≡ Ok None → way_of new < way_of old
+      pub carries : told → result ≡ Ok None → Carries old new (disk begin) (disk end)
+      pub item : told → (s p : ℕ) (v : V) → result ≡ Ok (Some (s, p, v)) → Gives seal size spelling accepted old new (disk begin) (disk end) s p v
+      pub stops : told → OnErr result (Stops seal size old new (disk begin) (disk end))
+      pub start : told → (p : ℕ) → IsErrOf result (ItemOutOfRange p) → (p ≡ old.start_position)
+          × (length (kept_bytes seal size old (disk begin) old.start_section) < p * size) × (IsAhead old old.start_section ⊎ IsIn old old.start_section)
+      pub moments : told → Always begin end (Each (Replaying seal size old (disk begin)))
+      pub entries : (q : Key) → (IsKeyOf old.journal.sections (λ s. IsHeld old.journal.sections s × (IsAhead old s ⊎ IsIn old s)) q → ⊥) → after q ≡ before q
+      pub once : OnOk result (ReadsOnce old new before after)
+      pub faults : few ≤ many
+      pub cause : OnErr result (IsErrOf result (ItemOutOfRange old.start_position) ⊎ HasNotRead result few many)

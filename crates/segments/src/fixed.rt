@@ -1,0 +1,133 @@
+// A list of items of one size per section, each at its position.
+ghost use Rattle.std.specs.Prelude.{◌≡◌, ◌↔◌, ◌≤◌, ◌<◌, ◌/◌, ℕ, List, None, IfOk, IfSome, OnErr, IsTrue, string_len};
+ghost use Rattle.std.specs.List.{Contains};
+ghost use Rattle.std.specs.List.Sorted.{IsStrictlySortedBy};
+ghost use Rattle.std.specs.Ordering.{nat_cmp};
+ghost use Rattle.sealed_pages.specs.SealedPrefix.{sealed_prefix, Prefix};
+ghost use Rattle.segments.specs.Sections.{IsHeld};
+ghost use Rattle.segments.specs.FixedItems.{HoldsFirstItems};
+ghost use Rattle.segments.specs.Refusing.{IsPruned};
+
+mod cutting;
+mod opening;
+mod reading;
+mod removing;
+mod replaying;
+#[cfg(test)]
+mod tests;
+mod writing;
+
+use crate::journal::Error;
+use crate::{AppendFactory, Manager, SectionIter};
+pub use replaying::Replay;
+use sealed_pages::Pages;
+use std::alloc::Global;
+use std::collections::BTreeSet;
+use std::marker::PhantomData;
+use value_codec::{CodecFixed, Seal};
+
+/// Where a journal is kept, and how.
+#[derive(Drop)]
+pub struct Config {
+    /// The partition that holds the sections' blobs, and no other blob.
+    pub partition: String,
+    /// How a section's blob is cut into pages.
+    pub pages: Pages,
+    /// From how many bytes on a section's buffer flushes them.
+    pub write_buffer: usize,
+}
+
+impl Config {
+    /// Whether the partition has a name, and page size and buffer are at least 1.
+    pub fn is_valid(&self) -> bool
+        ensures { IsTrue result ↔ ((1 ≤ string_len self.now.partition) × (1 ≤ self.now.pages.page_size) × (1 ≤ self.now.write_buffer)) }
+    {
+        !self.partition.is_empty() && self.pages.is_valid() && self.write_buffer >= 1
+    }
+}
+
+/// A list of items per section. Item p of a section stands at byte p times the item's size.
+///
+/// A section that was opened with bytes in it takes no append until a replay from its start, or from an earlier section, was
+/// drained and finished. Calls that take the journal by value give it up where they refuse; its blobs are then opened again by
+/// an `init`.
+#[derive(Drop)]
+pub struct Journal<A: CodecFixed, S: Seal> {
+    alloc: Global,
+    manager: Manager<AppendFactory<S>>,
+    unrecovered: BTreeSet<u64>,
+    item: PhantomData<A>,
+    ghost sized: { 1 ≤ A.SIZE },
+}
+
+/// What the promises on crashes, which are on bytes, say of items: where a crash leaves a prefix of a section's bytes, the whole items in
+/// it are the first ones of the section, and no fewer than stand whole in the bytes that it has to keep.
+pub fn item_laws<A: CodecFixed, S: Seal>()
+    ensures { (P : ℕ) (bytes : List ℕ) (least : ℕ) (c : List ℕ) → Prefix S.seal_of P bytes least c → HoldsFirstItems A.SIZE bytes least (sealed_prefix S.seal_of P c) }
+{}
+
+impl<A: CodecFixed, S: Seal> Journal<A, S> {
+    ghost use Rattle.segments.specs.FixedShown.{shown};
+    ghost use Rattle.segments.specs.FixedLists.{IsRecovered, section_size};
+
+    /// How many bytes an item takes.
+    pub const CHUNK_SIZE: usize = A::SIZE;
+
+    /// Whether the section takes an append: it is not above the bound of an opening, and no replay of it is owed.
+    pub fn is_recovered(&self, section: u64) -> bool
+        ensures { IsTrue result ↔ IsRecovered (shown self.now) section }
+    {
+        section <= self.manager.ceiling() && !self.unrecovered.contains(&section)
+    }
+
+    /// How many whole items the section has, those not flushed too; 0 where it is not held. It takes no memory.
+    pub fn section_len(&self, section: u64) -> Result<u64, Error>
+        ensures len { IfOk result (λ n. n ≡ section_size (shown self.now).sections section / A.SIZE) }
+        ensures guard { IsPruned result (shown self.now).sections.floor ↔ (section < (shown self.now).sections.floor) }
+        ensures cause { OnErr result (IsPruned result (shown self.now).sections.floor) }
+    {
+        Ok(self.manager.size(section)? / A::SIZE as u64)
+    }
+
+    /// How many bytes the section has, those not flushed too; 0 where it is not held. It takes no memory.
+    pub fn size(&self, section: u64) -> Result<u64, Error>
+        ensures size { IfOk result (λ n. n ≡ section_size (shown self.now).sections section) }
+        ensures guard { IsPruned result (shown self.now).sections.floor ↔ (section < (shown self.now).sections.floor) }
+        ensures cause { OnErr result (IsPruned result (shown self.now).sections.floor) }
+    {
+        self.manager.size(section)
+    }
+
+    /// Whether the section is below the floor, up to which sections were pruned.
+    pub fn pruned(&self, section: u64) -> bool
+        ensures { IsTrue result ↔ (section < (shown self.now).sections.floor) }
+    {
+        self.manager.pruned(section)
+    }
+
+    /// The least section that is held.
+    pub fn oldest_section(&self) -> Option<u64>
+        ensures none { result ≡ None ↔ ((s : ℕ) → (shown self.now).sections.held s ≡ None) }
+        ensures held { IfSome result (IsHeld (shown self.now).sections) }
+        ensures least { IfSome result (λ n. (s : ℕ) → IsHeld (shown self.now).sections s → n ≤ s) }
+    {
+        self.manager.oldest_section()
+    }
+
+    /// The greatest section that is held.
+    pub fn newest_section(&self) -> Option<u64>
+        ensures none { result ≡ None ↔ ((s : ℕ) → (shown self.now).sections.held s ≡ None) }
+        ensures held { IfSome result (IsHeld (shown self.now).sections) }
+        ensures greatest { IfSome result (λ n. (s : ℕ) → IsHeld (shown self.now).sections s → s ≤ n) }
+    {
+        self.manager.newest_section()
+    }
+
+    /// The held sections, ascending.
+    pub fn sections(&self) -> SectionIter<'_>
+        ensures ascending { IsStrictlySortedBy nat_cmp result }
+        ensures each { (s : ℕ) → Contains result s ↔ IsHeld (shown self.now).sections s }
+    {
+        self.manager.sections()
+    }
+}

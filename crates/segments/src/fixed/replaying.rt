@@ -1,0 +1,510 @@
+// Going over the items of a fixed journal from a position on, and cutting what no seal vouches for.
+ghost use Rattle.std.specs.Prelude.{◌≡◌, ◌↔◌, ◌⊎◌, ◌≤◌, ◌<◌, ◌+◌, ◌*◌, ◌/◌, ◌^◌, ℕ, Some, None, Ok, Err, true, false, cond, length, take, IfOk, IfSome, OnOk, OnErr, IsSomeAnd, IsTrue};
+ghost use Rattle.std.specs.Result.{IsErrOf};
+ghost use Rattle.std.specs.Ordering.{nat_cmp};
+ghost use Rattle.std.specs.BTreeSet as set;
+ghost use Rattle.blob_device.specs.declared.runtime.RError.TheVariants.{InvalidChecksum};
+ghost use Rattle.blob_device.specs.Disk.{Key};
+ghost use Rattle.blob_device.specs.Opened.{reads_of};
+ghost use Rattle.blob_device.specs.Timeline.{disk, Always, Each};
+ghost use Rattle.sealed_pages.specs.Buffer.{size_of, bytes_of, IsSealed};
+ghost use Rattle.sealed_pages.specs.ChanceSeal.{Sealing};
+ghost use Rattle.sealed_pages.specs.SealedPrefix.{sealed_prefix};
+ghost use Rattle.sealed_pages.specs.Shown as page_blob;
+ghost use Rattle.segments.specs.Sections.{key_of, IsHeld, IsKeyOf, IsOver};
+ghost use Rattle.segments.specs.Refusing.{HasFailed};
+ghost use Rattle.segments.specs.FixedItems.{IsItem};
+ghost use Rattle.segments.specs.FixedReading.{IsPast, HasNotRead};
+
+use super::Journal;
+use crate::journal::Error;
+use crate::{AppendFactory, BufferFactory, SectionBuffer};
+use blob_device::{Device, RError};
+use sealed_pages::{PageBlob, PageReplay};
+use std::collections::BTreeSet;
+use value_codec::{CodecFixed, Seal};
+
+/// Where a replay stands within a section. The reader is at the item of this position.
+#[derive(Drop)]
+struct Reading<S: Seal> {
+    section: u64,
+    position: u64,
+    reader: PageReplay<S>,
+}
+
+/// A walk over the items of a journal, which gives the journal back.
+#[derive(Drop)]
+pub struct Replay<A: CodecFixed, S: Seal> {
+    journal: Journal<A, S>,
+    buffer: usize,
+    start_section: u64,
+    start_position: u64,
+    next_section: Option<u64>,
+    reading: Option<Reading<S>>,
+    has_failed: bool,
+    has_ended: bool,
+}
+
+/// The number behind this one, if it is one.
+fn number_after(section: u64) -> Option<u64>
+    ensures { (result ≡ Some (section + 1)) ⊎ ((result ≡ None) × (2 ^ 64 ≤ section + 1)) }
+{
+    if section == u64::MAX {
+        return None;
+    }
+    Some(section + 1)
+}
+
+/// Takes the sections behind this one out.
+fn forget_later(numbers: &mut BTreeSet<u64>, section: u64)
+    ensures later { (s : ℕ) → section < s → set.contains nat_cmp numbers.new s ≡ false }
+    ensures others { (s : ℕ) → s ≤ section → set.contains nat_cmp numbers.new s ≡ set.contains nat_cmp numbers.old s }
+{
+    while let Some(last) = numbers.last().copied().filter(|n| *n > section) {
+        numbers.remove(&last);
+    }
+}
+
+impl<A: CodecFixed, S: Seal> Journal<A, S> {
+    ghost use Rattle.segments.specs.FixedShown.{shown};
+    ghost use Rattle.segments.specs.FixedLists.{IsJournal};
+    ghost use Rattle.segments.specs.FixedReplay.{IsWalk, Begins};
+    ghost use Rattle.segments.specs.FixedWalking.{walk_of};
+
+    // No replay is owed any more of the sections behind this one, nor of this one itself where it was gone over from its start.
+    fn recovered_from(self, section: u64, position: u64) -> Self
+        ensures sections { (shown result).sections ≡ (shown self).sections }
+        ensures recovered { (s : ℕ) → (section < s) ⊎ ((position ≡ 0) × (section ≡ s)) → (shown result).unrecovered s ≡ false }
+        ensures unrecovered { (s : ℕ) → (s < section) ⊎ ((0 < position) × (section ≡ s)) → (shown result).unrecovered s ≡ (shown self).unrecovered s }
+    {
+        let mut this = self;
+        forget_later(&mut this.unrecovered, section);
+        if position == 0 {
+            this.unrecovered.remove(&section);
+        }
+        this
+    }
+
+    // Whether the position is past the end of the section, if that is held.
+    fn is_past(&self, section: u64, position: u64) -> bool
+        requires { IsHeld (shown self.now).sections section → (shown self.now).sections.floor ≤ section }
+        ensures { IsTrue result ↔ IsSomeAnd ((shown self.now).sections.held section) (λ u. size_of (page_blob.shown u) / A.SIZE < position) }
+    {
+        match self.manager.get(section) {
+            Ok(Some(buffer)) => buffer.size() / (A::SIZE as u64) < position,
+            _ => false,
+        }
+    }
+
+    /// Goes over the items from this position of this section on, in ascending order. It reads pieces of about `buffer` bytes.
+    ///
+    /// It refuses a position past the end of the section, if that is held.
+    pub fn replay<D: Device>(
+        self,
+        dev: &mut D,
+        start_section: u64,
+        start_position: u64,
+        buffer: usize,
+    ) -> Result<Replay<A, S>, Error>
+        requires over { IsJournal ⟦<PageBlob<S> as SectionBuffer>⟧ ⟦<AppendFactory<S> as BufferFactory>⟧.gives S.seal_of A.SIZE D.Tells (shown self) (D.opened dev.old) (disk (D.time dev.old)) }
+        ensures over { IfOk result (λ r. IsWalk ⟦<PageBlob<S> as SectionBuffer>⟧ ⟦<AppendFactory<S> as BufferFactory>⟧.gives S.seal_of A.SIZE D.Tells (walk_of r) (D.opened dev.new) (disk (D.time dev.new))) }
+        ensures begins { IfOk result (λ r. Begins (shown self) start_section start_position (walk_of r)) }
+        ensures past { IsPast result start_position ↔ IsSomeAnd ((shown self).sections.held start_section) (λ u. size_of (page_blob.shown u) / A.SIZE < start_position) }
+        ensures unchanged { dev.new ≡ dev.old }
+        ensures cause { OnErr result (IsPast result start_position) }
+    {
+        if self.is_past(start_section, start_position) {
+            return Err(Error::ItemOutOfRange(start_position));
+        }
+        Ok(Replay {
+            journal: self,
+            buffer,
+            start_section,
+            start_position,
+            next_section: Some(start_section),
+            reading: None,
+            has_failed: false,
+            has_ended: false,
+        })
+    }
+}
+
+impl<A: CodecFixed, S: Seal> Replay<A, S> {
+    ghost use Rattle.segments.specs.FixedShown.{shown};
+    ghost use Rattle.segments.specs.FixedLists.{OwesHeld, OwesSettled, AreSealed, UnopenedLater};
+    ghost use Rattle.segments.specs.FixedReplay.{IsWalk, HasWalk, WalksOver, SameWalk, IsLeft, IsDrained, IsAhead, IsIn, first_of, Gives, Stops, Replaying, kept_bytes};
+    ghost use Rattle.segments.specs.FixedStepping.{standing, after_item, ReadsOnce, OnlySections, Touches, IsFlushed, IsCutBack, BeginsOver, EndsAt, Steps};
+    ghost use Rattle.segments.specs.FixedWalking.{walk_of, walk_at, place_of};
+    ghost use Rattle.sealed_pages.specs.Readers.{reading};
+
+    // The least held section that the replay has not come to.
+    fn section_ahead(&self) -> Option<u64>
+        ensures none { result ≡ None → (s : ℕ) → IsHeld (walk_of self.now).journal.sections s → IsAhead (walk_of self.now) s → ⊥ }
+        ensures held { IfSome result (IsHeld (walk_of self.now).journal.sections) }
+        ensures ahead { IfSome result (IsAhead (walk_of self.now)) }
+        ensures least { IfSome result (λ n. (s : ℕ) → IsHeld (walk_of self.now).journal.sections s → IsAhead (walk_of self.now) s → n ≤ s) }
+    {
+        self.journal
+            .manager
+            .sections_from(self.next_section?)
+            .next()
+    }
+
+    // Whether the replay stands in no section, and none is ahead.
+    fn is_drained(&self) -> bool
+        ensures { IsTrue result ↔ IsDrained (walk_of self.now) }
+    {
+        self.reading.is_none() && self.section_ahead().is_none()
+    }
+
+    // Whether nothing more is given.
+    fn is_over(&self) -> bool
+        ensures { IsTrue result ↔ (IsDrained (walk_of self.now) ⊎ ((walk_of self.now).ended ≡ true)) }
+    {
+        self.has_ended || self.is_drained()
+    }
+
+    // Whether a replay of the section is owed.
+    fn owes(&self, section: u64) -> bool
+        ensures { result ≡ (walk_of self.now).journal.unrecovered section }
+    {
+        self.journal.unrecovered.contains(&section)
+    }
+
+    // The position from which on the items of this section are given.
+    fn first_position(&self, section: u64) -> u64
+        ensures { result ≡ first_of (walk_of self.now) section }
+    {
+        if section == self.start_section {
+            self.start_position
+        } else {
+            0
+        }
+    }
+
+    /// The next item, with its section and its position; none where all were given, or where the replay has ended.
+    ///
+    /// A section of which a replay is owed is cut durably to its whole items before the first page that no matching slot covers, or
+    /// before a partial item at its end; then the replay goes on with the next section. An error ends its section, and an error
+    /// while a section is cut ends the replay.
+    pub fn next<D: Device>(&mut self, dev: &mut D) -> Option<Result<(u64, u64, A), Error>>
+        requires { IsWalk ⟦<PageBlob<S> as SectionBuffer>⟧ ⟦<AppendFactory<S> as BufferFactory>⟧.gives S.seal_of A.SIZE D.Tells (walk_of self.old) (D.opened dev.old) (disk (D.time dev.old)) }
+        ensures over { IsWalk ⟦<PageBlob<S> as SectionBuffer>⟧ ⟦<AppendFactory<S> as BufferFactory>⟧.gives S.seal_of A.SIZE D.Tells (walk_of self.new) (D.opened dev.new) (disk (D.time dev.new)) }
+        ensures same { SameWalk (walk_of self.old) (walk_of self.new) }
+        // What is given is the first item that was left, and it is left no more.
+        ensures item { D.Tells → (s p : ℕ) (v : A) → result ≡ Some (Ok (s, p, v))
+            → Gives S.seal_of A.SIZE A.spelling A.accepted (walk_of self.old) (walk_of self.new) (disk (D.time dev.old)) (disk (D.time dev.new)) s p v }
+        ensures going { (s p : ℕ) (v : A) → result ≡ Some (Ok (s, p, v)) → (walk_of self.new).failed ≡ (walk_of self.old).failed }
+        // Without an answer nothing is left.
+        ensures none { D.Tells → result ≡ None → (s p : ℕ) → IsLeft S.seal_of A.SIZE (walk_of self.old) (disk (D.time dev.old)) s p → ⊥ }
+        ensures drained { result ≡ None → IsDrained (walk_of self.new) ⊎ ((walk_of self.new).ended ≡ true) }
+        ensures whole { result ≡ None → (walk_of self.new).failed ≡ (walk_of self.old).failed }
+        // An error ends its section, and one while a section is cut ends the replay.
+        ensures failed { (e : _) → result ≡ Some (Err e) → (walk_of self.new).failed ≡ true }
+        ensures stops { D.Tells → (e : _) → result ≡ Some (Err e) → Stops S.seal_of A.SIZE (walk_of self.old) (walk_of self.new) (disk (D.time dev.old)) (disk (D.time dev.new)) }
+        // The start is refused only where its section keeps fewer items.
+        ensures start { D.Tells → (p : ℕ) → result ≡ Some (Err (Error.ItemOutOfRange p)) → (p ≡ (walk_of self.old).start_position)
+            × (length (kept_bytes S.seal_of A.SIZE (walk_of self.old) (disk (D.time dev.old)) (walk_of self.old).start_section) < p * A.SIZE) }
+        ensures moments { D.Tells → Always (D.time dev.old) (D.time dev.new) (Each (Replaying S.seal_of A.SIZE (walk_of self.old) (disk (D.time dev.old)))) }
+        // Each page is read once, as long as the device and memory serve, and one once more where its section is cut within it.
+        ensures once { (result ≡ None) ⊎ ((x : _) × (result ≡ Some (Ok x))) → ReadsOnce (walk_of self.old) (walk_of self.new) (D.opened dev.old) (D.opened dev.new) }
+        ensures entries { (q : Key) → (IsKeyOf (walk_of self.old).journal.sections (λ s. IsHeld (walk_of self.old).journal.sections s × (IsAhead (walk_of self.old) s ⊎ IsIn (walk_of self.old) s)) q → ⊥) → D.opened dev.new q ≡ D.opened dev.old q }
+        ensures faults { D.faults dev.old ≤ D.faults dev.new }
+        ensures cause { (e : _) → result ≡ Some (Err e) → (e ≡ Error.ItemOutOfRange (walk_of self.old).start_position) ⊎ HasNotRead {T = A} (Err e) (D.faults dev.old) (D.faults dev.new) }
+    {
+        'steps: while !self.is_over() {
+            match self.step(dev) {
+                Ok(None) => {}
+                Ok(Some(item)) => return Some(Ok(item)),
+                Err(e) => {
+                    self.has_failed = true;
+                    return Some(Err(e));
+                }
+            }
+        }
+        None
+    }
+
+    // Goes one step on: into the next section, over one item, or to the end of a section.
+    fn step<D: Device>(&mut self, dev: &mut D) -> Result<Option<(u64, u64, A)>, Error>
+        requires over { IsWalk ⟦<PageBlob<S> as SectionBuffer>⟧ ⟦<AppendFactory<S> as BufferFactory>⟧.gives S.seal_of A.SIZE D.Tells (walk_of self.old) (D.opened dev.old) (disk (D.time dev.old)) }
+        requires going { (walk_of self.old).ended ≡ false }
+        requires more { IsDrained (walk_of self.old) → ⊥ }
+        ensures { Steps S.seal_of A.SIZE ⟦<PageBlob<S> as SectionBuffer>⟧ ⟦<AppendFactory<S> as BufferFactory>⟧.gives A.spelling A.accepted D.Tells result (walk_of self.old) (walk_of self.new) (D.opened dev.old) (D.opened dev.new) (D.time dev.old) (D.time dev.new) (D.faults dev.old) (D.faults dev.new) }
+    {
+        match self.reading.take() {
+            Some(reading) => self.read(dev, reading),
+            None => self.next_one(dev),
+        }
+    }
+
+    // Goes into the next section.
+    fn next_one<D: Device>(&mut self, dev: &mut D) -> Result<Option<(u64, u64, A)>, Error>
+        requires over { IsWalk ⟦<PageBlob<S> as SectionBuffer>⟧ ⟦<AppendFactory<S> as BufferFactory>⟧.gives S.seal_of A.SIZE D.Tells (walk_of self.old) (D.opened dev.old) (disk (D.time dev.old)) }
+        requires going { (walk_of self.old).ended ≡ false }
+        requires between { (walk_of self.old).place ≡ None }
+        requires more { IsDrained (walk_of self.old) → ⊥ }
+        ensures { Steps S.seal_of A.SIZE ⟦<PageBlob<S> as SectionBuffer>⟧ ⟦<AppendFactory<S> as BufferFactory>⟧.gives A.spelling A.accepted D.Tells result (walk_of self.old) (walk_of self.new) (D.opened dev.old) (D.opened dev.new) (D.time dev.old) (D.time dev.new) (D.faults dev.old) (D.faults dev.new) }
+    {
+        match self.section_ahead() {
+            Some(section) => self.begin(dev, section),
+            None => Ok(None),
+        }
+    }
+
+    // Begins to read a section. A section of which a replay is owed is read from its start, so that all of it is checked.
+    fn begin<D: Device>(
+        &mut self,
+        dev: &mut D,
+        section: u64,
+    ) -> Result<Option<(u64, u64, A)>, Error>
+        requires over { IsWalk ⟦<PageBlob<S> as SectionBuffer>⟧ ⟦<AppendFactory<S> as BufferFactory>⟧.gives S.seal_of A.SIZE D.Tells (walk_of self.old) (D.opened dev.old) (disk (D.time dev.old)) }
+        requires going { (walk_of self.old).ended ≡ false }
+        requires between { (walk_of self.old).place ≡ None }
+        requires held { IsHeld (walk_of self.old).journal.sections section }
+        requires ahead { IsAhead (walk_of self.old) section }
+        requires least { (s : ℕ) → IsHeld (walk_of self.old).journal.sections s → IsAhead (walk_of self.old) s → section ≤ s }
+        ensures { Steps S.seal_of A.SIZE ⟦<PageBlob<S> as SectionBuffer>⟧ ⟦<AppendFactory<S> as BufferFactory>⟧.gives A.spelling A.accepted D.Tells result (walk_of self.old) (walk_of self.new) (D.opened dev.old) (D.opened dev.new) (D.time dev.old) (D.time dev.new) (D.faults dev.old) (D.faults dev.new) }
+    {
+        self.next_section = number_after(section);
+        let mut reader = self.open_reader(dev, section)?;
+        let position = self.begin_at(section);
+        reader.seek_to(position * A::SIZE as u64)?;
+        self.reading = Some(Reading {
+            section,
+            position,
+            reader,
+        });
+        Ok(None)
+    }
+
+    // The position at which the section is begun.
+    fn begin_at(&self, section: u64) -> u64
+        ensures { result ≡ cond ((walk_of self.now).journal.unrecovered section) 0 (first_of (walk_of self.now) section) }
+    {
+        if self.owes(section) {
+            0
+        } else {
+            self.first_position(section)
+        }
+    }
+
+    // Flushes the section's bytes, and gives a reader over them. After an error the section may be lost.
+    fn open_reader<D: Device>(&mut self, dev: &mut D, section: u64) -> Result<PageReplay<S>, Error>
+        requires over { IsOver ⟦<PageBlob<S> as SectionBuffer>⟧ ⟦<AppendFactory<S> as BufferFactory>⟧.gives D.Tells (walk_of self.old).journal.sections (D.opened dev.old) (disk (D.time dev.old)) }
+        requires held { IsHeld (walk_of self.old).journal.sections section }
+        ensures rest { OnlySections (walk_of self.old) (walk_of self.new) }
+        ensures ended { (walk_of self.new).ended ≡ (walk_of self.old).ended }
+        ensures touches { Touches ⟦<PageBlob<S> as SectionBuffer>⟧ ⟦<AppendFactory<S> as BufferFactory>⟧.gives D.Tells result section (walk_of self.old).journal.sections (walk_of self.new).journal.sections (D.opened dev.old) (D.opened dev.new) (D.time dev.old) (D.time dev.new) }
+        ensures flushed { IfOk result (λ r. (u v : _) → (walk_of self.old).journal.sections.held section ≡ Some u → (walk_of self.new).journal.sections.held section ≡ Some v
+            → IsFlushed S.seal_of D.Tells u (disk (D.time dev.old) (key_of (walk_of self.old).journal.sections section)) v (disk (D.time dev.new) (key_of (walk_of self.old).journal.sections section))
+            × BeginsOver S.seal_of (key_of (walk_of self.old).journal.sections section) u v (reading r)) }
+        ensures moments { D.Tells → (u : _) → (walk_of self.old).journal.sections.held section ≡ Some u → IsSealed S.seal_of (page_blob.shown u) (disk (D.time dev.old) (key_of (walk_of self.old).journal.sections section))
+            → Sealing S.seal_of u.page_size (bytes_of (page_blob.shown u) (disk (D.time dev.old) (key_of (walk_of self.old).journal.sections section)).content) u.settled (key_of (walk_of self.old).journal.sections section) (D.time dev.old) (D.time dev.new) }
+        ensures idle { (u : _) → (walk_of self.old).journal.sections.held section ≡ Some u → u.settled ≡ size_of (page_blob.shown u) → D.time dev.new ≡ D.time dev.old }
+        ensures reads { OnOk result (reads_of (D.opened dev.new (key_of (walk_of self.old).journal.sections section)) ≤ reads_of (D.opened dev.old (key_of (walk_of self.old).journal.sections section))) }
+        ensures faults { D.faults dev.old ≤ D.faults dev.new }
+        ensures cause { OnErr result (HasFailed result (D.faults dev.old) (D.faults dev.new)) }
+    {
+        let buffer = self.journal.manager.take(dev, section)?;
+        let (buffer, reader) = buffer.replay(dev, self.buffer)?;
+        self.journal.manager.put(section, buffer)?;
+        Ok(reader)
+    }
+
+    // Reads the next item of the section, or comes to its end. A page that no matching slot covers as far as the item goes is the end of
+    // a section of which a replay is owed; of any other it is answered.
+    fn read<D: Device>(
+        &mut self,
+        dev: &mut D,
+        reading: Reading<S>,
+    ) -> Result<Option<(u64, u64, A)>, Error>
+        requires over { IsWalk ⟦<PageBlob<S> as SectionBuffer>⟧ ⟦<AppendFactory<S> as BufferFactory>⟧.gives S.seal_of A.SIZE D.Tells (walk_at self.old reading) (D.opened dev.old) (disk (D.time dev.old)) }
+        requires going { (walk_of self.old).ended ≡ false }
+        requires between { (walk_of self.old).place ≡ None }
+        ensures { Steps S.seal_of A.SIZE ⟦<PageBlob<S> as SectionBuffer>⟧ ⟦<AppendFactory<S> as BufferFactory>⟧.gives A.spelling A.accepted D.Tells result (walk_at self.old reading) (walk_of self.new) (D.opened dev.old) (D.opened dev.new) (D.time dev.old) (D.time dev.new) (D.faults dev.old) (D.faults dev.new) }
+    {
+        let mut reading = reading;
+        match reading.reader.ensure(dev, A::SIZE) {
+            Ok(true) => self.take_item(reading),
+            Ok(false) => {
+                let cuts = self.is_torn(&reading);
+                self.end_section(dev, reading, cuts)
+            }
+            Err(RError::InvalidChecksum(page)) => self.end_at_page(dev, reading, page),
+            Err(e) => Err(Error::from(e)),
+        }
+    }
+
+    // Whether bytes are at hand behind the last whole item of a section of which a replay is owed.
+    fn is_torn(&self, reading: &Reading<S>) -> bool
+        ensures { IsTrue result ↔ ((0 < length (place_of reading.now).reader.bytes) × IsTrue ((walk_of self.now).journal.unrecovered reading.now.section)) }
+    {
+        reading.reader.remaining() > 0 && self.owes(reading.section)
+    }
+
+    // Takes the item at hand, unless it stands before the start.
+    fn take_item(&mut self, reading: Reading<S>) -> Result<Option<(u64, u64, A)>, Error>
+        requires at_hand { A.SIZE ≤ length (place_of reading).reader.bytes }
+        requires room { reading.position + 1 < 2 ^ 64 }
+        ensures given { (s p : ℕ) (v : A) → result ≡ Ok (Some (s, p, v)) → (s ≡ reading.section) × (p ≡ reading.position) × (first_of (walk_of self.old) reading.section ≤ reading.position)
+            × IsItem A.spelling A.accepted (take A.SIZE (place_of reading).reader.bytes) v }
+        ensures skipped { result ≡ Ok None → reading.position < first_of (walk_of self.old) reading.section }
+        ensures goes { OnOk result (walk_of self.new ≡ standing (walk_of self.old) (after_item A.SIZE (place_of reading))) }
+        ensures stays { OnErr result (walk_of self.new ≡ walk_of self.old) }
+        ensures cause { OnErr result (((e : _) × IsErrOf result (Error.Codec e)) ⊎ IsErrOf result Error.Mem) }
+    {
+        let mut reading = reading;
+        let item = self.item_of(reading.section, reading.position, reading.reader.bytes())?;
+        reading.reader.advance(A::SIZE);
+        reading.position += 1;
+        self.reading = Some(reading);
+        Ok(item)
+    }
+
+    // The item that these bytes begin with, unless it stands before the start.
+    fn item_of(
+        &self,
+        section: u64,
+        position: u64,
+        bytes: &[u8],
+    ) -> Result<Option<(u64, u64, A)>, Error>
+        requires { A.SIZE ≤ length bytes.now }
+        ensures given { (s p : ℕ) (v : A) → result ≡ Ok (Some (s, p, v)) → (s ≡ section) × (p ≡ position) × (first_of (walk_of self.now) section ≤ position)
+            × IsItem A.spelling A.accepted (take A.SIZE bytes.now) v }
+        ensures skipped { result ≡ Ok None → position < first_of (walk_of self.now) section }
+        ensures cause { OnErr result (((e : _) × IsErrOf result (Error.Codec e)) ⊎ IsErrOf result Error.Mem) }
+    {
+        if position < self.first_position(section) {
+            return Ok(None);
+        }
+        let item = A::decode_cfg(self.journal.alloc, &bytes[..A::SIZE], ())?;
+        Ok(Some((section, position, item)))
+    }
+
+    // Comes to a page that no matching slot covers as far as the next item goes.
+    fn end_at_page<D: Device>(
+        &mut self,
+        dev: &mut D,
+        reading: Reading<S>,
+        page: u64,
+    ) -> Result<Option<(u64, u64, A)>, Error>
+        requires over { IsWalk ⟦<PageBlob<S> as SectionBuffer>⟧ ⟦<AppendFactory<S> as BufferFactory>⟧.gives S.seal_of A.SIZE D.Tells (walk_at self.old reading) (D.opened dev.old) (disk (D.time dev.old)) }
+        requires going { (walk_of self.old).ended ≡ false }
+        requires between { (walk_of self.old).place ≡ None }
+        requires last { D.Tells → IsTrue ((walk_of self.old).journal.unrecovered reading.section) → EndsAt S.seal_of A.SIZE (walk_at self.old reading) (disk (D.time dev.old)) (place_of reading) true }
+        ensures { Steps S.seal_of A.SIZE ⟦<PageBlob<S> as SectionBuffer>⟧ ⟦<AppendFactory<S> as BufferFactory>⟧.gives A.spelling A.accepted D.Tells result (walk_at self.old reading) (walk_of self.new) (D.opened dev.old) (D.opened dev.new) (D.time dev.old) (D.time dev.new) (D.faults dev.old) (D.faults dev.new) }
+    {
+        if !self.owes(reading.section) {
+            return Err(Error::Runtime(RError::InvalidChecksum(page)));
+        }
+        self.end_section(dev, reading, true)
+    }
+
+    // Comes to the end of a section, behind its last whole item, and cuts off there what is left.
+    fn end_section<D: Device>(
+        &mut self,
+        dev: &mut D,
+        reading: Reading<S>,
+        cuts: bool,
+    ) -> Result<Option<(u64, u64, A)>, Error>
+        requires over { IsWalk ⟦<PageBlob<S> as SectionBuffer>⟧ ⟦<AppendFactory<S> as BufferFactory>⟧.gives S.seal_of A.SIZE D.Tells (walk_at self.old reading) (D.opened dev.old) (disk (D.time dev.old)) }
+        requires going { (walk_of self.old).ended ≡ false }
+        requires between { (walk_of self.old).place ≡ None }
+        requires owed { cuts ≡ true → IsTrue ((walk_of self.old).journal.unrecovered reading.section) }
+        requires last { D.Tells → EndsAt S.seal_of A.SIZE (walk_at self.old reading) (disk (D.time dev.old)) (place_of reading) cuts }
+        ensures { Steps S.seal_of A.SIZE ⟦<PageBlob<S> as SectionBuffer>⟧ ⟦<AppendFactory<S> as BufferFactory>⟧.gives A.spelling A.accepted D.Tells result (walk_at self.old reading) (walk_of self.new) (D.opened dev.old) (D.opened dev.new) (D.time dev.old) (D.time dev.new) (D.faults dev.old) (D.faults dev.new) }
+    {
+        if cuts {
+            return self.end_cut(dev, reading);
+        }
+        self.check_start(reading.section, reading.position)?;
+        Ok(None)
+    }
+
+    // The same, where there is something to be cut off.
+    fn end_cut<D: Device>(
+        &mut self,
+        dev: &mut D,
+        reading: Reading<S>,
+    ) -> Result<Option<(u64, u64, A)>, Error>
+        requires over { IsWalk ⟦<PageBlob<S> as SectionBuffer>⟧ ⟦<AppendFactory<S> as BufferFactory>⟧.gives S.seal_of A.SIZE D.Tells (walk_at self.old reading) (D.opened dev.old) (disk (D.time dev.old)) }
+        requires going { (walk_of self.old).ended ≡ false }
+        requires between { (walk_of self.old).place ≡ None }
+        requires owed { IsTrue ((walk_of self.old).journal.unrecovered reading.section) }
+        requires last { D.Tells → EndsAt S.seal_of A.SIZE (walk_at self.old reading) (disk (D.time dev.old)) (place_of reading) true }
+        ensures { Steps S.seal_of A.SIZE ⟦<PageBlob<S> as SectionBuffer>⟧ ⟦<AppendFactory<S> as BufferFactory>⟧.gives A.spelling A.accepted D.Tells result (walk_at self.old reading) (walk_of self.new) (D.opened dev.old) (D.opened dev.new) (D.time dev.old) (D.time dev.new) (D.faults dev.old) (D.faults dev.new) }
+    {
+        self.cut(dev, reading.section, reading.position)?;
+        self.check_start(reading.section, reading.position)?;
+        Ok(None)
+    }
+
+    // Refuses the start where its section has fewer items.
+    fn check_start(&self, section: u64, count: u64) -> Result<(), Error>
+        ensures ok { OnOk result (first_of (walk_of self.now) section ≤ count) }
+        ensures fewer { (p : ℕ) → IsErrOf result (Error.ItemOutOfRange p) → (section ≡ (walk_of self.now).start_section) × (p ≡ (walk_of self.now).start_position) × (count < p) }
+        ensures cause { OnErr result (IsErrOf result (Error.ItemOutOfRange (walk_of self.now).start_position)) }
+    {
+        let first = self.first_position(section);
+        if count < first {
+            return Err(Error::ItemOutOfRange(first));
+        }
+        Ok(())
+    }
+
+    // Cuts a section to so many items of its sealed prefix. An error ends the replay, since the section's buffer is gone.
+    fn cut<D: Device>(&mut self, dev: &mut D, section: u64, count: u64) -> Result<(), Error>
+        requires over { IsOver ⟦<PageBlob<S> as SectionBuffer>⟧ ⟦<AppendFactory<S> as BufferFactory>⟧.gives D.Tells (walk_of self.old).journal.sections (D.opened dev.old) (disk (D.time dev.old)) }
+        requires held { IsHeld (walk_of self.old).journal.sections section }
+        requires settled { (u : _) → (walk_of self.old).journal.sections.held section ≡ Some u → u.settled ≡ size_of (page_blob.shown u) }
+        requires within { (u : _) → (walk_of self.old).journal.sections.held section ≡ Some u → count * A.SIZE ≤ size_of (page_blob.shown u) }
+        requires prefix { D.Tells → (u : _) → (walk_of self.old).journal.sections.held section ≡ Some u → count * A.SIZE ≤ length (sealed_prefix S.seal_of u.page_size (disk (D.time dev.old) (key_of (walk_of self.old).journal.sections section)).content) }
+        ensures rest { OnlySections (walk_of self.old) (walk_of self.new) }
+        ensures going { OnOk result ((walk_of self.new).ended ≡ false) }
+        ensures ended { OnErr result ((walk_of self.new).ended ≡ true) }
+        ensures touches { Touches ⟦<PageBlob<S> as SectionBuffer>⟧ ⟦<AppendFactory<S> as BufferFactory>⟧.gives D.Tells result section (walk_of self.old).journal.sections (walk_of self.new).journal.sections (D.opened dev.old) (D.opened dev.new) (D.time dev.old) (D.time dev.new) }
+        ensures cut { OnOk result ((u v : _) → (walk_of self.old).journal.sections.held section ≡ Some u → (walk_of self.new).journal.sections.held section ≡ Some v
+            → IsCutBack S.seal_of D.Tells u (disk (D.time dev.old) (key_of (walk_of self.old).journal.sections section)) v (disk (D.time dev.new) (key_of (walk_of self.old).journal.sections section)) (count * A.SIZE)) }
+        ensures moments { D.Tells → (u : _) → (walk_of self.old).journal.sections.held section ≡ Some u
+            → Sealing S.seal_of u.page_size (sealed_prefix S.seal_of u.page_size (disk (D.time dev.old) (key_of (walk_of self.old).journal.sections section)).content) (count * A.SIZE) (key_of (walk_of self.old).journal.sections section) (D.time dev.old) (D.time dev.new) }
+        ensures reads { OnOk result (reads_of (D.opened dev.new (key_of (walk_of self.old).journal.sections section)) ≤ reads_of (D.opened dev.old (key_of (walk_of self.old).journal.sections section)) + 1) }
+        ensures faults { D.faults dev.old ≤ D.faults dev.new }
+        ensures cause { OnErr result (((k : ℕ) × IsErrOf result (Error.Runtime (InvalidChecksum k))) ⊎ HasFailed result (D.faults dev.old) (D.faults dev.new)) }
+    {
+        self.has_ended = true;
+        let buffer = self.journal.manager.take(dev, section)?;
+        let buffer = buffer.truncate(dev, count * A::SIZE as u64)?;
+        self.journal.manager.put(section, buffer)?;
+        self.has_ended = false;
+        Ok(())
+    }
+
+    /// Gives the journal back. The sections that were gone over from their start on take appends again.
+    ///
+    /// It answers `ReplayFailed` where an item is left, or an error was given.
+    pub fn finish(self) -> Result<Journal<A, S>, Error>
+        ensures sections { IfOk result (λ r. (shown r).sections ≡ (walk_of self).journal.sections) }
+        // The journal is one again, over whatever the replay was.
+        ensures held { HasWalk A.SIZE (walk_of self) → IfOk result (λ r. OwesHeld (shown r)) }
+        ensures settled { HasWalk A.SIZE (walk_of self) → IfOk result (λ r. OwesSettled (shown r)) }
+        ensures sealed { (d : _) → WalksOver S.seal_of A.SIZE (walk_of self) d → IfOk result (λ r. AreSealed S.seal_of A.SIZE (shown r) d) }
+        ensures unopened { (d : _) → WalksOver S.seal_of A.SIZE (walk_of self) d → IfOk result (λ r. UnopenedLater (shown r)) }
+        // From a section's start on it owes no replay, and none of the later ones does; the others do as before.
+        ensures recovered { IfOk result (λ r. (s : ℕ) → ((walk_of self).start_section < s) ⊎ (((walk_of self).start_position ≡ 0) × ((walk_of self).start_section ≡ s)) → (shown r).unrecovered s ≡ false) }
+        ensures unrecovered { IfOk result (λ r. (s : ℕ) → (s < (walk_of self).start_section) ⊎ ((0 < (walk_of self).start_position) × ((walk_of self).start_section ≡ s)) → (shown r).unrecovered s ≡ (walk_of self).journal.unrecovered s) }
+        ensures replay_failed { (result ≡ Err Error.ReplayFailed) ↔ (((walk_of self).failed ≡ true) ⊎ (IsDrained (walk_of self) → ⊥)) }
+        ensures cause { OnErr result (result ≡ Err Error.ReplayFailed) }
+    {
+        if self.has_failed || !self.is_drained() {
+            return Err(Error::ReplayFailed);
+        }
+        let Replay {
+            journal,
+            start_section,
+            start_position,
+            ..
+        } = self;
+        Ok(journal.recovered_from(start_section, start_position))
+    }
+}

@@ -1,0 +1,180 @@
+// Adding items to a fixed journal, and settling them.
+ghost use Rattle.std.specs.Prelude.{◌≡◌, ◌≢◌, ◌↔◌, ◌⊎◌, ◌≤◌, ◌<◌, ◌+◌, ◌/◌, ◌^◌, ◌++◌, ⊤, ℕ, List, Some, None, false, IfOk, OnOk, OnErr, IsSomeAnd, IsTrue};
+ghost use Rattle.std.specs.Result.{IsErrOf};
+ghost use Rattle.std.specs.List.{Contains};
+ghost use Rattle.blob_device.specs.Disk.{Key};
+ghost use Rattle.blob_device.specs.Timeline.{disk, Always, Each};
+ghost use Rattle.sealed_pages.specs.Buffer.{extent, size_of, FlushesNothing};
+ghost use Rattle.sealed_pages.specs.ChanceSeal.{Sealing};
+ghost use Rattle.segments.specs.Leaving.{AllMoments};
+ghost use Rattle.segments.specs.Entries.{OnlyOwnEntry};
+ghost use Rattle.segments.specs.Sections.{key_of, IsHeld, IsKeyOf, IsSame, SameBounds, IsSynced};
+ghost use Rattle.segments.specs.Lasting.{IsUnsettled};
+ghost use Rattle.segments.specs.Refusing.{HasFailed, HasNoRoom, IsPruned};
+ghost use Rattle.segments.specs.FixedFull.{full_or_raised_of};
+
+use super::Journal;
+use crate::journal::Error;
+use crate::{AppendFactory, BufferFactory, SectionBuffer};
+use blob_device::{Device, Handle, RError};
+use sealed_pages::PageBlob;
+use std::alloc::Global;
+use value_codec::{CodecFixed, Seal};
+
+// The bytes of an item.
+fn spelled<A: CodecFixed>(alloc: Global, item: &A) -> Result<Vec<u8>, Error>
+    ensures bytes { IfOk result (λ r. r.items ≡ A.spelling item.now) }
+    ensures cause { OnErr result (IsErrOf result Error.Mem) }
+{
+    let mut bytes = Vec::new(alloc);
+    item.write(&mut bytes)?;
+    Ok(bytes)
+}
+
+// A section that would pass the greatest `u64` is full.
+fn full_or_raised(e: RError) -> Error
+    ensures { result ≡ full_or_raised_of e }
+{
+    match e {
+        RError::OffsetOverflow => Error::Full,
+        other => Error::from(other),
+    }
+}
+
+impl<A: CodecFixed, S: Seal> Journal<A, S> {
+    ghost use Rattle.sealed_pages.specs.Shown as page_blob;
+    ghost use Rattle.segments.specs.FixedShown.{shown};
+    ghost use Rattle.segments.specs.FixedLists.{IsJournal, IsRecovered, section_bytes, section_size};
+    ghost use Rattle.segments.specs.FixedLasting.{IsBeginning, Settling};
+
+    /// Adds an item at the end of the section, which is made where it is not held. The answer has the item's position.
+    ///
+    /// `Full` says that the section's blob would pass the greatest `u64`.
+    pub fn append<D: Device>(
+        self,
+        dev: &mut D,
+        section: u64,
+        item: &A,
+    ) -> Result<(Self, u64), Error>
+        requires over { IsJournal ⟦<PageBlob<S> as SectionBuffer>⟧ ⟦<AppendFactory<S> as BufferFactory>⟧.gives S.seal_of A.SIZE D.Tells (shown self) (D.opened dev.old) (disk (D.time dev.old)) }
+        requires recovered { IsRecovered (shown self) section }
+        requires accepted { A.accepted item.now tt }
+        ensures over { IfOk result (λ r. IsJournal ⟦<PageBlob<S> as SectionBuffer>⟧ ⟦<AppendFactory<S> as BufferFactory>⟧.gives S.seal_of A.SIZE D.Tells (shown r.0) (D.opened dev.new) (disk (D.time dev.new))) }
+        ensures position { IfOk result (λ r. D.Tells ⊎ IsHeld (shown self).sections section → r.1 ≡ section_size (shown self).sections section / A.SIZE) }
+        ensures size { IfOk result (λ r. D.Tells ⊎ IsHeld (shown self).sections section → section_size (shown r.0).sections section ≡ section_size (shown self).sections section + A.SIZE) }
+        ensures bytes { D.Tells → IfOk result (λ r. section_bytes (shown r.0).sections (disk (D.time dev.new)) section ≡ section_bytes (shown self).sections (disk (D.time dev.old)) section ++ A.spelling item.now) }
+        ensures held { IfOk result (λ r. IsHeld (shown r.0).sections section) }
+        ensures settled { IfOk result (λ r. (u v : _) → (shown self).sections.held section ≡ Some u → (shown r.0).sections.held section ≡ Some v → v.settled ≡ u.settled) }
+        ensures others { IfOk result (λ r. (q : ℕ) → q ≢ section → IsSame (shown self).sections (shown r.0).sections q) }
+        ensures bounds { IfOk result (λ r. SameBounds (shown self).sections (shown r.0).sections) }
+        ensures unrecovered { IfOk result (λ r. (q : ℕ) → (shown r.0).unrecovered q ≡ (shown self).unrecovered q) }
+        // At every moment, also where the call fails, each crash leaves a prefix of the section's bytes, this item's included, and no shorter
+        // than what has settled; no other blob changes.
+        ensures moments { D.Tells → (u : _) → (shown self).sections.held section ≡ Some u
+            → Sealing S.seal_of u.page_size (section_bytes (shown self).sections (disk (D.time dev.old)) section ++ A.spelling item.now) u.settled (key_of (shown self).sections section) (D.time dev.old) (D.time dev.new) }
+        ensures made { D.Tells → (shown self).sections.held section ≡ None
+            → AllMoments (key_of (shown self).sections section) (IsBeginning S.seal_of (shown self).sections.factory.pages.page_size (A.spelling item.now) (disk (D.time dev.old) (key_of (shown self).sections section))) (D.time dev.old) (D.time dev.new) }
+        // Below the buffer's capacity no call of the device is made.
+        ensures below { (u : _) → (shown self).sections.held section ≡ Some u → FlushesNothing (page_blob.shown u) A.SIZE → dev.new ≡ dev.old }
+        ensures entries { OnlyOwnEntry (key_of (shown self).sections section) (D.opened dev.old) (D.opened dev.new) }
+        ensures guard { IsPruned result (shown self).sections.floor ↔ (section < (shown self).sections.floor) }
+        ensures refuses { section < (shown self).sections.floor → dev.new ≡ dev.old }
+        // A section is full exactly where its blob, with both slots of its last page, would pass 2^64.
+        ensures full { IsErrOf result Error.Full → D.Tells ⊎ IsHeld (shown self).sections section → IsSomeAnd ((shown self).sections.held section) (λ u. 2 ^ 64 ≤ extent u.page_size (size_of (page_blob.shown u) + A.SIZE)) }
+        ensures full_first { (shown self).sections.floor ≤ section → (u : _) → (shown self).sections.held section ≡ Some u → 2 ^ 64 ≤ extent u.page_size (size_of (page_blob.shown u) + A.SIZE) → IsErrOf result Error.Full ⊎ IsErrOf result Error.Mem }
+        ensures no_room { D.Tells → HasNoRoom result → ⊥ }
+        ensures room { OnOk result ((u : _) → (shown self).sections.held section ≡ Some u → extent u.page_size (size_of (page_blob.shown u) + A.SIZE) < 2 ^ 64) }
+        ensures faults { D.faults dev.old ≤ D.faults dev.new }
+        ensures cause { OnErr result (IsPruned result (shown self).sections.floor ⊎ (IsErrOf result Error.Full ⊎ (HasNoRoom result ⊎ HasFailed result (D.faults dev.old) (D.faults dev.new)))) }
+    {
+        self.manager.prune_guard(section)?;
+        let bytes = spelled(self.alloc, item)?;
+        let mut this = self;
+        let buffer = this.manager.take(dev, section)?;
+        let (buffer, offset) = buffer
+            .append(dev, bytes.as_slice())
+            .map_err(full_or_raised)?;
+        this.manager.put(section, buffer)?;
+        Ok((this, offset / A::SIZE as u64))
+    }
+
+    /// Settles these sections. One that is not held is passed over. All are checked before one is synced.
+    pub fn sync<D: Device>(self, dev: &mut D, sections: &[u64]) -> Result<Self, Error>
+        requires over { IsJournal ⟦<PageBlob<S> as SectionBuffer>⟧ ⟦<AppendFactory<S> as BufferFactory>⟧.gives S.seal_of A.SIZE D.Tells (shown self) (D.opened dev.old) (disk (D.time dev.old)) }
+        ensures over { IfOk result (λ r. IsJournal ⟦<PageBlob<S> as SectionBuffer>⟧ ⟦<AppendFactory<S> as BufferFactory>⟧.gives S.seal_of A.SIZE D.Tells (shown r) (D.opened dev.new) (disk (D.time dev.new))) }
+        ensures named { IfOk result (λ r. (s : ℕ) (u : _) → Contains sections.now s → (shown self).sections.held s ≡ Some u
+            → IsSomeAnd ((shown r).sections.held s) (λ v. IsSynced ⟦<PageBlob<S> as SectionBuffer>⟧ D.Tells u v (disk (D.time dev.old) (key_of (shown self).sections s)) (disk (D.time dev.new) (key_of (shown self).sections s)))) }
+        ensures none { IfOk result (λ r. (s : ℕ) → (shown self).sections.held s ≡ None → (shown r).sections.held s ≡ None) }
+        ensures others { IfOk result (λ r. (s : ℕ) → (Contains sections.now s → ⊥) → (shown r).sections.held s ≡ (shown self).sections.held s) }
+        ensures unopened { IfOk result (λ r. (s : ℕ) → (shown r).sections.unopened s ≡ (shown self).sections.unopened s) }
+        ensures bounds { IfOk result (λ r. SameBounds (shown self).sections (shown r).sections) }
+        ensures unrecovered { IfOk result (λ r. (s : ℕ) → (shown r).unrecovered s ≡ (shown self).unrecovered s) }
+        // At every moment, also where the call fails, each crash leaves a prefix of the bytes of each named section that is recovered, no shorter
+        // than what had settled; no other blob changes.
+        ensures moments { D.Tells → Always (D.time dev.old) (D.time dev.new) (Each (Settling S.seal_of (shown self) (Contains sections.now) (disk (D.time dev.old)))) }
+        // Where nothing named is unsettled, no call of the device is made.
+        ensures idle { ((s : ℕ) → Contains sections.now s → IsUnsettled ⟦<PageBlob<S> as SectionBuffer>⟧ (shown self).sections s → ⊥) → dev.new ≡ dev.old }
+        ensures entries { (q : Key) → (IsKeyOf (shown self).sections (λ s. Contains sections.now s × IsUnsettled ⟦<PageBlob<S> as SectionBuffer>⟧ (shown self).sections s) q → ⊥) → D.opened dev.new q ≡ D.opened dev.old q }
+        ensures guard { IsPruned result (shown self).sections.floor ↔ ((s : ℕ) × Contains sections.now s × (s < (shown self).sections.floor)) }
+        ensures refuses { ((s : ℕ) × Contains sections.now s × (s < (shown self).sections.floor)) → dev.new ≡ dev.old }
+        ensures faults { D.faults dev.old ≤ D.faults dev.new }
+        ensures cause { OnErr result (IsPruned result (shown self).sections.floor ⊎ HasFailed result (D.faults dev.old) (D.faults dev.new)) }
+    {
+        let mut this = self;
+        this.manager = this.manager.sync(dev, sections)?;
+        Ok(this)
+    }
+
+    /// As [`sync`](Journal::sync), with the handle of a sync that has finished.
+    pub fn start_sync<D: Device>(
+        self,
+        dev: &mut D,
+        sections: &[u64],
+    ) -> Result<(Self, Handle), Error>
+        requires over { IsJournal ⟦<PageBlob<S> as SectionBuffer>⟧ ⟦<AppendFactory<S> as BufferFactory>⟧.gives S.seal_of A.SIZE D.Tells (shown self) (D.opened dev.old) (disk (D.time dev.old)) }
+        ensures over { IfOk result (λ r. IsJournal ⟦<PageBlob<S> as SectionBuffer>⟧ ⟦<AppendFactory<S> as BufferFactory>⟧.gives S.seal_of A.SIZE D.Tells (shown r.0) (D.opened dev.new) (disk (D.time dev.new))) }
+        ensures named { IfOk result (λ r. (s : ℕ) (u : _) → Contains sections.now s → (shown self).sections.held s ≡ Some u
+            → IsSomeAnd ((shown r.0).sections.held s) (λ v. IsSynced ⟦<PageBlob<S> as SectionBuffer>⟧ D.Tells u v (disk (D.time dev.old) (key_of (shown self).sections s)) (disk (D.time dev.new) (key_of (shown self).sections s)))) }
+        ensures none { IfOk result (λ r. (s : ℕ) → (shown self).sections.held s ≡ None → (shown r.0).sections.held s ≡ None) }
+        ensures others { IfOk result (λ r. (s : ℕ) → (Contains sections.now s → ⊥) → (shown r.0).sections.held s ≡ (shown self).sections.held s) }
+        ensures unopened { IfOk result (λ r. (s : ℕ) → (shown r.0).sections.unopened s ≡ (shown self).sections.unopened s) }
+        ensures bounds { IfOk result (λ r. SameBounds (shown self).sections (shown r.0).sections) }
+        ensures unrecovered { IfOk result (λ r. (s : ℕ) → (shown r.0).unrecovered s ≡ (shown self).unrecovered s) }
+        // At every moment, also where the call fails, each crash leaves a prefix of the bytes of each named section that is recovered, no shorter
+        // than what had settled; no other blob changes.
+        ensures moments { D.Tells → Always (D.time dev.old) (D.time dev.new) (Each (Settling S.seal_of (shown self) (Contains sections.now) (disk (D.time dev.old)))) }
+        // Where nothing named is unsettled, no call of the device is made.
+        ensures idle { ((s : ℕ) → Contains sections.now s → IsUnsettled ⟦<PageBlob<S> as SectionBuffer>⟧ (shown self).sections s → ⊥) → dev.new ≡ dev.old }
+        ensures entries { (q : Key) → (IsKeyOf (shown self).sections (λ s. Contains sections.now s × IsUnsettled ⟦<PageBlob<S> as SectionBuffer>⟧ (shown self).sections s) q → ⊥) → D.opened dev.new q ≡ D.opened dev.old q }
+        ensures guard { IsPruned result (shown self).sections.floor ↔ ((s : ℕ) × Contains sections.now s × (s < (shown self).sections.floor)) }
+        ensures refuses { ((s : ℕ) × Contains sections.now s × (s < (shown self).sections.floor)) → dev.new ≡ dev.old }
+        ensures faults { D.faults dev.old ≤ D.faults dev.new }
+        ensures cause { OnErr result (IsPruned result (shown self).sections.floor ⊎ HasFailed result (D.faults dev.old) (D.faults dev.new)) }
+    {
+        let this = self.sync(dev, sections)?;
+        Ok((this, Handle::finished()))
+    }
+
+    /// Settles all sections.
+    pub fn sync_all<D: Device>(self, dev: &mut D) -> Result<Self, Error>
+        requires over { IsJournal ⟦<PageBlob<S> as SectionBuffer>⟧ ⟦<AppendFactory<S> as BufferFactory>⟧.gives S.seal_of A.SIZE D.Tells (shown self) (D.opened dev.old) (disk (D.time dev.old)) }
+        ensures over { IfOk result (λ r. IsJournal ⟦<PageBlob<S> as SectionBuffer>⟧ ⟦<AppendFactory<S> as BufferFactory>⟧.gives S.seal_of A.SIZE D.Tells (shown r) (D.opened dev.new) (disk (D.time dev.new))) }
+        ensures all { IfOk result (λ r. (s : ℕ) (u : _) → (shown self).sections.held s ≡ Some u
+            → IsSomeAnd ((shown r).sections.held s) (λ v. IsSynced ⟦<PageBlob<S> as SectionBuffer>⟧ D.Tells u v (disk (D.time dev.old) (key_of (shown self).sections s)) (disk (D.time dev.new) (key_of (shown self).sections s)))) }
+        ensures none { IfOk result (λ r. (s : ℕ) → (shown self).sections.held s ≡ None → (shown r).sections.held s ≡ None) }
+        ensures unopened { IfOk result (λ r. (s : ℕ) → (shown r).sections.unopened s ≡ (shown self).sections.unopened s) }
+        ensures bounds { IfOk result (λ r. SameBounds (shown self).sections (shown r).sections) }
+        ensures unrecovered { IfOk result (λ r. (s : ℕ) → (shown r).unrecovered s ≡ (shown self).unrecovered s) }
+        // At every moment, also where the call fails, each crash leaves a prefix of the bytes of each section that is recovered, no shorter
+        // than what had settled; no other blob changes.
+        ensures moments { D.Tells → Always (D.time dev.old) (D.time dev.new) (Each (Settling S.seal_of (shown self) (λ s. ⊤) (disk (D.time dev.old)))) }
+        ensures idle { ((s : ℕ) → IsUnsettled ⟦<PageBlob<S> as SectionBuffer>⟧ (shown self).sections s → ⊥) → dev.new ≡ dev.old }
+        ensures entries { (q : Key) → (IsKeyOf (shown self).sections (IsUnsettled ⟦<PageBlob<S> as SectionBuffer>⟧ (shown self).sections) q → ⊥) → D.opened dev.new q ≡ D.opened dev.old q }
+        ensures faults { D.faults dev.old ≤ D.faults dev.new }
+        ensures cause { OnErr result (HasFailed result (D.faults dev.old) (D.faults dev.new)) }
+    {
+        let mut this = self;
+        this.manager = this.manager.sync_all(dev)?;
+        Ok(this)
+    }
+}
