@@ -1,0 +1,18 @@
+use Rattle.std.proofs.Common.{◌≡◌, ◌<◌, ◌^◌, None, inl, inr, ◌∙◌, ap, arith}
+use Rattle.segments.specs.Managed.{shown}
+use Rattle.segments.proofs.WalkLemmas.{none_or_value}
+use Rattle.paired.proofs.CallLemmas.{some_held}
+use Rattle.paired.proofs.glob.Glob.init.Goals as goal
+
+pub returns-clause-unopened : goal.returns-clause-unopened
+returns-clause-unopened g c t s =
+    let r = shown c.in_ok-recovery.recovery.manager in
+    let says = c.in_ok-recovery.ensures in
+    let none : r.unopened s ≡ None = elim (none_or_value (r.unopened s)) [
+      | inl none ↦ none
+      | inr some ↦
+          let is = some_held (r.unopened s) some.0 some.1 in
+          let small : s < 2 ^ 64 = says.over.over.opened_list.number s (inr is) in
+          absurd (omega (arith, small, ((says.unopened t s small).0 is).1))
+    ] in
+    ap (λ m. (shown m).unopened s) c.from.ensures.0 ∙ none

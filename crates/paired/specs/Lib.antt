@@ -1,0 +1,7 @@
+-- What this layer means to the layers above: a glob is a map from sections, by number, to lists of bytes, in which frames stand by place
+-- (`Frames`, `GlobSections`). A frame is a value's spelling with its seal behind it. What a crash at any moment of a call leaves of the
+-- sections' blobs is said in the bytes that had settled (`GlobLasting`).
+pub mod Frames
+pub mod GlobSections
+pub mod GlobLasting
+pub mod GlobReading

@@ -1,0 +1,68 @@
+// Frames: a value's spelling, with the seal of the spelling behind it.
+ghost use Rattle.std.specs.Prelude.{◌≡◌, ◌≢◌, ◌↔◌, ◌+◌, ◌-◌, ◌≤◌, ◌<◌, ◌^◌, ℕ, List, length, drop, IfOk, OnErr};
+ghost use Rattle.std.specs.Int.{w32, to_be_bytes};
+ghost use Rattle.std.specs.Result.{IsErrOf};
+ghost use Rattle.paired.specs.Frames.{frame, with_number};
+ghost use Rattle.paired.specs.GlobReading.{IsMismatch};
+
+use segments::journal::Error;
+use std::alloc::Global;
+use value_codec::{Codec, Seal};
+
+/// How many bytes a seal takes.
+pub(super) const SEAL_SIZE: u32 = 4;
+
+/// The size of the value's frame. The spelling is not made.
+pub(super) fn frame_size<V: Codec>(value: &V) -> Result<u32, Error>
+    ensures size { IfOk result (λ n. n ≡ length (V.spelling value.now) + 4) }
+    ensures large { IsErrOf result Error.ValueTooLarge ↔ (2 ^ 32 - 1 < length (V.spelling value.now) + 4) }
+    ensures cause { OnErr result (IsErrOf result Error.ValueTooLarge) }
+{
+    let size = value.encode_size().saturating_add(u64::from(SEAL_SIZE));
+    match u32::try_from(size) {
+        Ok(size) => Ok(size),
+        Err(_) => Err(Error::ValueTooLarge),
+    }
+}
+
+/// The frame of a value, which has this size.
+pub(super) fn framed<V: Codec, S: Seal>(
+    alloc: Global,
+    value: &V,
+    size: u32,
+) -> Result<Vec<u8>, Error>
+    ensures frame { IfOk result (λ r. r.items ≡ frame S.seal_of (V.spelling value.now)) }
+    ensures cause { OnErr result (IsErrOf result Error.Mem) }
+{
+    let mut bytes = Vec::with_capacity(alloc, size as usize)?;
+    value.write(&mut bytes)?;
+    let seal = S::seal(bytes.as_slice());
+    bytes.extend_from_slice(&seal.to_be_bytes())?;
+    Ok(bytes)
+}
+
+// The number in the last four bytes, the highest first.
+fn last_number(bytes: &[u8]) -> u32
+    requires { 4 ≤ length bytes.now }
+    ensures { to_be_bytes w32 result ≡ drop (length bytes.now - 4) bytes.now }
+{
+    let at = bytes.len() - SEAL_SIZE as usize;
+    u32::from_be_bytes(<[u8; 4]>::try_from(&bytes[at..]).unwrap())
+}
+
+/// The spelling in a frame whose seal holds.
+pub(super) fn spelled<S: Seal>(bytes: &[u8]) -> Result<&[u8], Error>
+    requires { 4 ≤ length bytes.now }
+    ensures sealed { IfOk result (λ r. bytes.now ≡ frame S.seal_of r.now) }
+    ensures broken { (stored computed : ℕ) → IsErrOf result (Error.ChecksumMismatch stored computed)
+        → (stored ≢ computed) × (stored < 2 ^ 32) × ((front : List ℕ) × (computed ≡ S.seal_of front) × (bytes.now ≡ with_number front stored)) }
+    ensures cause { OnErr result (IsMismatch result) }
+{
+    let front = &bytes[..bytes.len() - SEAL_SIZE as usize];
+    let stored = last_number(bytes);
+    let computed = S::seal(front);
+    if stored != computed {
+        return Err(Error::ChecksumMismatch(stored, computed));
+    }
+    Ok(front)
+}

@@ -1,0 +1,6 @@
+//! Values in sealed frames, kept by section and place.
+#![tactic(auto)]
+
+pub mod glob;
+
+pub use glob::{Glob, Recovery};
