@@ -290,10 +290,8 @@ impl<F: BufferFactory> Manager<F> {
             return self.make(dev, section);
         }
         self.unopened.insert(section, Unopened::Section)?;
-        match self.held.remove(section) {
-            Some(buffer) => Ok(buffer),
-            None => Err(Error::Mem),
-        }
+        // The section is held.
+        Ok(self.held.remove(section).unwrap())
     }
 
     // Opens a section that is not held. Its blob is known from then on, also where that fails.
@@ -427,9 +425,7 @@ impl<F: BufferFactory> Manager<F> {
         ensures cause { OnErr result (IsPruned result (shown self.old).floor ⊎ (HasNoRoom result ⊎ HasFailed result (D.faults dev.old) (D.faults dev.new))) }
     {
         self.hold(dev, section)?;
-        match self.held.get_mut(section) {
-            Some(buffer) => Ok(buffer),
-            None => Err(Error::Mem),
-        }
+        // The section is held.
+        Ok(self.held.get_mut(section).unwrap())
     }
 }

@@ -1,4 +1,5 @@
 use Rattle.std.specs.Prelude.{◌≡◌, Some}
+use Rattle.std.specs.Option.{option_copied_mut}
 use Rattle.std.proofs.Common.{refl, sym, ◌∙◌, ap, subst}
 use Rattle.blob_device.specs.Disk.{Key}
 use Rattle.blob_device.specs.Timeline.{disk}
@@ -8,25 +9,25 @@ use Rattle.segments.proofs.OverLemmas.{same_key}
 use Rattle.segments.proofs.OpenLemmas.{on_some}
 use Rattle.segments.proofs.manager.Manager.get_or_create.Goals as goal
 
-pub returns-in-Some : goal.returns-in-Some
-returns-in-Some g c =
+pub returns : goal.returns
+returns g c =
     let m = shown c.args.self.now in
     let n = shown c.hold.new.self in
     let s = c.args.section in
-    let u = c.in-Some.buffer.now in
+    let u = c.unwrap.result.now in
     let hold = c.hold.ensures in
     let done = c.in_ok-hold.ensures in
     let b = hold.bounds in
     let has = hold.over.opened_list in
-    let held : n.held s ≡ Some u = sym c.in-Some.ensures.value in
+    let held : n.held s ≡ Some u = sym c.get_mut.ensures.value ∙ ap option_copied_mut c.unwrap.ensures in
     let here = same_key m n b s in (
       (
         refl,
         λ w ok. record {
-          here = (on_some c.get_mut.result c.in-Some.buffer _ c.in-Some.is (c.get_mut.follows.holds w)).0;
+          here = (on_some c.get_mut.result c.unwrap.result _ c.unwrap.ensures (c.get_mut.follows.holds w)).0;
           opened = has.apart s done.held;
           others = λ q other. record {
-            held = (on_some c.get_mut.result c.in-Some.buffer _ c.in-Some.is (c.get_mut.follows.holds w)).1 q other ∙ (hold.others q other).held;
+            held = (on_some c.get_mut.result c.unwrap.result _ c.unwrap.ensures (c.get_mut.follows.holds w)).1 q other ∙ (hold.others q other).held;
             unopened = (hold.others q other).unopened;
           };
           bounds = record { place = record { partition = b.place.partition; factory = b.place.factory }; floor = b.floor; ceiling = b.ceiling };

@@ -1,4 +1,4 @@
-use Rattle.std.proofs.Common.{inl, refl, sym, ap, rules}
+use Rattle.std.proofs.Common.{inl, refl, sym, ◌∙◌, ap, rules}
 use Rattle.std.specs.Prelude.{is_some}
 use Rattle.std.specs.BTreeMap.{is_at}
 use Rattle.std.specs.Map.{lookup}
@@ -16,17 +16,17 @@ returns-in_err-insert-clause-over g c =
     same_over g.F.Buffer.SectionBuffer g.F.BufferFactory.gives (shown c.args.self.now) _ (g.D.Device.opened c.args.dev.now) _ (record { place = record { partition = refl; factory = refl }; floor = refl; ceiling = refl })
     (λ q. record { held = refl; unopened = ap (lookup (is_at (nat_cmp q))) c.in_err-insert.ensures.err }) c.requires.over
 
-pub returns-in-Some-clause-over : goal.returns-in-Some-clause-over
-returns-in-Some-clause-over g c =
+pub returns-clause-over : goal.returns-clause-over
+returns-clause-over g c =
     let m = shown c.args.self.now in
     let time = g.D.Device.time c.args.dev.now in
     let opened = g.D.Device.opened c.args.dev.now in
     let k = key_of m c.args.section in
     unopened_over g.F.Buffer.SectionBuffer g.F.BufferFactory.gives m m _ opened opened time time c.args.section
-    c.ranges.section.fits (c.requires.over.opened_list.from_floor c.args.section (inl (ap is_some (sym c.in-Some.ensures.value))))
+    c.ranges.section.fits (c.requires.over.opened_list.from_floor c.args.section (inl (ap is_some (sym c.remove.ensures.value ∙ c.unwrap.ensures))))
     (record { place = record { partition = refl; factory = refl }; floor = refl; ceiling = refl }) (record { place = record { partition = refl; factory = refl }; floor = refl; ceiling = refl })
     (λ q other. record { held = c.remove.ensures.others q other; unopened = search rules }) c.remove.ensures.here (search rules)
     (λ q other. refl) (λ t. only_start time k (IsOpening (disk time k)) (inl refl)) c.requires.over
 
-pub returns-in-Some-clause-stands : goal.returns-in-Some-clause-stands
-returns-in-Some-clause-stands g c t = (c.requires.over.disk t).stands c.args.section c.in-Some.buffer (sym c.in-Some.ensures.value)
+pub returns-clause-stands : goal.returns-clause-stands
+returns-clause-stands g c t = (c.requires.over.disk t).stands c.args.section c.unwrap.result (sym c.remove.ensures.value ∙ c.unwrap.ensures)
