@@ -8,8 +8,11 @@ ghost use Rattle.segments.specs.FixedWalking.{walk_of};
 
 mod lists;
 mod marks;
+mod refused;
 mod replays;
+mod rotten;
 mod stops;
+mod wide;
 
 use super::{Config, Journal, Replay};
 use crate::journal::Error;
@@ -32,6 +35,17 @@ struct Given {
 /// Opens the journal with pages of 16 bytes.
 fn opened<D: Device>(alloc: Global, dev: &mut D, write_buffer: usize) -> Result<Numbers, Error>
     ensures { IfOk result (λ r. IsJournal ⟦<PageBlob<Sha256Seal> as SectionBuffer>⟧ ⟦<AppendFactory<Sha256Seal> as BufferFactory>⟧.gives ⟦<Sha256Seal as Seal>⟧.seal_of 8 D.Tells (shown r) (D.opened dev.new) (disk (D.time dev.new))) }
+{
+    opened_of(alloc, dev, write_buffer)
+}
+
+/// Opens a journal of any items with pages of 16 bytes.
+fn opened_of<A: CodecFixed, D: Device>(
+    alloc: Global,
+    dev: &mut D,
+    write_buffer: usize,
+) -> Result<Journal<A, Sha256Seal>, Error>
+    ensures { IfOk result (λ r. IsJournal ⟦<PageBlob<Sha256Seal> as SectionBuffer>⟧ ⟦<AppendFactory<Sha256Seal> as BufferFactory>⟧.gives ⟦<Sha256Seal as Seal>⟧.seal_of A.SIZE D.Tells (shown r) (D.opened dev.new) (disk (D.time dev.new))) }
 {
     let cfg = Config {
         partition: String::from_str(alloc, "p")?,
