@@ -12,15 +12,18 @@ use Rattle.sealed_pages.specs.Buffer.{size_of, IsSealed}
 use Rattle.sealed_pages.specs.ChanceSeal.{NoChanceSeal, Leaves, Sealing}
 use Rattle.sealed_pages.specs.SealedPrefix.{Prefix, sealed_prefix}
 use Rattle.sealed_pages.proofs.CutCalls.{prefix_whole}
+use Rattle.value_codec.specs.declared.codec.Error as codec
 use Rattle.segments.specs.declared.buffer.SectionBuffer as buffer
 use Rattle.segments.specs.declared.journal.Error.{Error}
-use Rattle.segments.specs.declared.journal.Error.TheVariants.{ItemOutOfRange}
+use Rattle.blob_device.specs.declared.runtime.RError.TheVariants.{InvalidChecksum}
+use Rattle.segments.specs.declared.journal.Error.TheVariants.{ItemOutOfRange, Runtime}
 use Rattle.segments.specs.Setting.{Setting}
 use Rattle.segments.specs.Sections.{key_of, IsHeld}
-use Rattle.segments.specs.FixedReading.{HasNotRead}
+use Rattle.segments.specs.Refusing.{HasFailed, HasDamage}
 use Rattle.segments.specs.FixedReplay.{Place, Walk, IsWalk, Replaying, kept_bytes}
 use Rattle.segments.specs.FixedStepping.{standing, OnlySections, Touches, IsCutBack, EndsAt, Steps}
 use Rattle.segments.proofs.FixedCounts.{count_here}
+use Rattle.segments.proofs.FixedErrorSteps.{cut_read, cut_other, cut_not_codec}
 use Rattle.segments.proofs.FixedKept.{whole_place}
 use Rattle.segments.proofs.FixedReading.{here, kept_here, number_here, reached_here, behind_here}
 use Rattle.segments.proofs.FixedSteps.{Called, Answered, call_failed, call_ended, call_refused}
@@ -55,7 +58,7 @@ module _ {F S : Type 0} {gs : _} (seal : List ℕ → ℕ) (size : ℕ) (g : buf
       (owed : IsTrue (w.journal.unrecovered r.section)) (last : told → EndsAt seal size (standing w r) (disk a) r true) (pos : 1 ≤ size)
       (moments : told → (u : PageBlob S gs) → w.journal.sections.held r.section ≡ Some u
       → Sealing seal u.page_size (sealed_prefix seal u.page_size (disk a (key_of w.journal.sections r.section)).content) (r.position * size) (key_of w.journal.sections r.section) a b)
-      {V : Type 0} (spelling : V → List ℕ) (accepted : V → Unit {0} → Type 0) (few many : ℕ) (le : few ≤ many) where
+      {V : Type 0} (spelling : V → List ℕ) (accepted : V → Unit {0} → Type 0) (refusal : List ℕ → Unit {0} → Option codec.Error) (few many : ℕ) (le : few ≤ many) where
     abbrev s : ℕ
     s = r.section
 
@@ -87,7 +90,7 @@ module _ {F S : Type 0} {gs : _} (seal : List ℕ → ℕ) (size : ℕ) (g : buf
     from_new : (n : ℕ) → new.next_section ≡ Some n → new.start_section ≤ n
     from_new n is = subst (λ (k : ℕ). k ≤ n) (sym only.section) (was.walk.from_start n (sym only.next ∙ is))
 
-    called : Called {V = V} seal size g gives spelling accepted told s (standing w r) new before after a b few many
+    called : Called {V = V} seal size g gives spelling accepted refusal told s (standing w r) new before after a b few many
     called = record {
       was = was;
       one = record {
@@ -112,10 +115,10 @@ module _ {F S : Type 0} {gs : _} (seal : List ℕ → ℕ) (size : ℕ) (g : buf
 
     -- The cut failed, and the replay has ended.
     pub cut_failed : (x : Error) → new.ended ≡ true → OnErr {T = Unit {0}} (Err x) ((new.journal.sections.held s ≡ None) ⊎ ((new.journal.sections.held s ≡ w.journal.sections.held s) × (b ≡ a)))
-        → ((p : ℕ) → x ≡ ItemOutOfRange p → ⊥) → HasNotRead {T = Option (ℕ × ℕ × V)} (Err x) few many
-        → Steps seal size g gives spelling accepted told (Err x) (standing w r) new before after a b few many
-    cut_failed x ended lost other cause = call_failed seal size g gives spelling accepted told s (standing w r) new before after a b few many called x lost none_new
-        (λ t h. subst (λ (o : Option ℕ). IsSomeAnd o (λ n. n ≤ t)) only.next h) (inl ended) other cause
+        → (told → (k : ℕ) → x ≡ Runtime (InvalidChecksum k) → ⊥) → HasDamage {T = Option (ℕ × ℕ × V)} (Err x) ⊎ HasFailed {T = Option (ℕ × ℕ × V)} (Err x) few many
+        → Steps seal size g gives spelling accepted refusal told (Err x) (standing w r) new before after a b few many
+    cut_failed x ended lost sound cause = call_failed seal size g gives spelling accepted refusal told s (standing w r) new before after a b few many called x lost none_new
+        (λ t h. subst (λ (o : Option ℕ). IsSomeAnd o (λ n. n ≤ t)) only.next h) (inl (ended, cause)) (cut_other x x refl few many cause) sound (λ t e is. absurd (cut_not_codec x few many cause e is)) (cut_read x x refl few many cause)
 
     -- The section is cut.
     module _ (v : PageBlob S gs) (held_new : new.journal.sections.held r.section ≡ Some v) (going : w.ended ≡ false) (goes : new.ended ≡ false)
@@ -161,7 +164,7 @@ module _ {F S : Type 0} {gs : _} (seal : List ℕ → ℕ) (size : ℕ) (g : buf
               subst (λ (P : ℕ). Leaves seal P (sealed_prefix seal P (disk b K).content) (r.position * size) x) cut.page_size counted in
               subst (λ (l : List ℕ). Leaves seal u.page_size l (r.position * size) x) (cut.prefix tells) paged
 
-      answered : Answered seal size g gives spelling accepted told s (standing w r) new before after a b few many called v
+      answered : Answered seal size g gives spelling accepted refusal told s (standing w r) new before after a b few many called v
       answered = record {
         again = record {
           held = held_new;
@@ -177,9 +180,9 @@ module _ {F S : Type 0} {gs : _} (seal : List ℕ → ℕ) (size : ℕ) (g : buf
         later = later;
       }
 
-      pub cut_ended : reads_of (after (key_of w.journal.sections r.section)) ≤ reads_of (before (key_of w.journal.sections r.section)) + 1 → Steps seal size g gives spelling accepted told (Ok None) (standing w r) new before after a b few many
-      cut_ended few_begun = call_ended seal size g gives spelling accepted told s (standing w r) new before after a b few many called v answered r refl refl none_new only.next pos (λ t. (last t).last)
+      pub cut_ended : reads_of (after (key_of w.journal.sections r.section)) ≤ reads_of (before (key_of w.journal.sections r.section)) + 1 → Steps seal size g gives spelling accepted refusal told (Ok None) (standing w r) new before after a b few many
+      cut_ended few_begun = call_ended seal size g gives spelling accepted refusal told s (standing w r) new before after a b few many called v answered r refl refl none_new only.next pos (λ t. (last t).last)
           (omega (arith, few_begun, count_here (standing w r) r u refl held, ap {B = ℕ} (λ (o : Bool). cond o 1 0) owed))
 
-      pub cut_refused : r.section ≡ w.start_section → r.position < w.start_position → Steps seal size g gives spelling accepted told (Err (ItemOutOfRange w.start_position)) (standing w r) new before after a b few many
-      cut_refused = call_refused seal size g gives spelling accepted told s (standing w r) new before after a b few many called v answered r refl refl none_new only.next pos (λ t. (last t).last)
+      pub cut_refused : r.section ≡ w.start_section → r.position < w.start_position → Steps seal size g gives spelling accepted refusal told (Err (ItemOutOfRange w.start_position)) (standing w r) new before after a b few many
+      cut_refused = call_refused seal size g gives spelling accepted refusal told s (standing w r) new before after a b few many called v answered r refl refl none_new only.next pos (λ t. (last t).last)

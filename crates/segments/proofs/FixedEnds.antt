@@ -61,6 +61,17 @@ module _ {F S : Type 0} {gs : _} (seal : List ℕ → ℕ) (size : ℕ) (g : buf
             let at : size_of (shown u) ≡ r.position * size + 0 = omega (arith, h.at, h.blob_size, rest, empty not owed) in
             ap (λ (n : ℕ). n % size) at ∙ mod-mul-add r.position size 0 (omega (arith, pos))
 
+  -- Only a section that owes a replay has a page that is not covered.
+  pub short_owed : (m n k : ℕ) → m + n ≤ r.reader.size → told → IsShort seal u.page_size blob.content m n k → IsTrue (w.journal.unrecovered r.section)
+  short_owed m n k near t short = go (w.journal.unrecovered r.section) refl
+    where
+      go : (owes : Bool) → w.journal.unrecovered r.section ≡ owes → IsTrue owes
+      go true owed = refl
+      go false free =
+          let h = here seal size g gives w r opened d was in
+          let long = ap length (sealed_flushed seal (shown u) blob u.fit.begun ((was.disk t).sealed.sealed r.section u h.1 free) h.2.flushed) in
+          absurd (omega (arith, near, h.2.blob_size, long, bytes_length (shown u) blob.content, short_length seal u.page_size blob.content (omega (arith, u.fit.begun)) m n k short))
+
   -- A page is not covered as far as the next item goes.
   pub ends_short : (m n k : ℕ) → m + n ≤ r.reader.at + size → IsTrue (w.journal.unrecovered r.section) → told → IsShort seal u.page_size blob.content m n k → EndsAt seal size (standing w r) d r true
   ends_short m n k near owed t short = record {

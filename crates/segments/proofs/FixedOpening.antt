@@ -16,17 +16,18 @@ use Rattle.sealed_pages.specs.Reads.{pages_for}
 use Rattle.sealed_pages.specs.SealedPrefix.{sealed_prefix}
 use Rattle.sealed_pages.proofs.Holding.{fit_size}
 use Rattle.sealed_pages.proofs.ReplayLemmas.{covered_none}
+use Rattle.value_codec.specs.declared.codec.Error as codec
 use Rattle.segments.specs.declared.buffer.SectionBuffer as buffer
 use Rattle.segments.specs.declared.journal.Error.{Error}
-use Rattle.segments.specs.declared.journal.Error.TheVariants.{ItemOutOfRange}
 use Rattle.segments.specs.Setting.{Setting}
 use Rattle.segments.specs.Sections.{key_of, IsHeld}
-use Rattle.segments.specs.FixedReading.{HasNotRead}
+use Rattle.segments.specs.Refusing.{HasFailed}
 use Rattle.segments.specs.FixedReplay.{Place, Walk, IsAhead, IsIn, IsLeft, IsWalk, Replaying, StandsIn, ReadsIn, kept_of, kept_bytes, first_of}
 use Rattle.segments.specs.FixedStepping.{reads_left, way_of, sections_ahead, bytes_ahead, OnlySections, Touches, IsFlushed, BeginsOver, Steps}
 use Rattle.segments.proofs.FixedCounts.{count_here, count_ahead}
 use Rattle.segments.proofs.FixedEnding.{IsNext, next_after, next_from, ahead_from, next_back, fewer_ahead, nearer_begun}
 use Rattle.segments.proofs.FixedReading.{the_some, here}
+use Rattle.segments.proofs.FixedErrorSteps.{failed_other, failed_sound, failed_not_codec}
 use Rattle.segments.proofs.FixedSteps.{Called, call_failed, call_passed}
 use Rattle.segments.proofs.FixedWalks.{IsBehind, IsReached, MayCut, is_some, same_some, none_in, key_new, first_same, held_back, held_on, kept_other, later_one}
 use Rattle.segments.proofs.FixedWalksOn.{IsKnownAgain, replaying_start, replaying_here, moments_of}
@@ -66,7 +67,7 @@ module _ {F S : Type 0} {gs : _} (seal : List ℕ → ℕ) (size : ℕ) (g : buf
       (u : PageBlob S gs) (held : w.journal.sections.held s ≡ Some u) (ahead : IsAhead w s) (least : (t : ℕ) → IsHeld w.journal.sections t → IsAhead w t → s ≤ t)
       (moments : told → IsSealed seal (shown u) (disk a (key_of w.journal.sections s)) → Sealing seal u.page_size (bytes_of (shown u) (disk a (key_of w.journal.sections s)).content) u.settled (key_of w.journal.sections s) a b)
       (idle : u.settled ≡ size_of (shown u) → b ≡ a)
-      {V : Type 0} (spelling : V → List ℕ) (accepted : V → Unit {0} → Type 0) (few many : ℕ) (le : few ≤ many) where
+      {V : Type 0} (spelling : V → List ℕ) (accepted : V → Unit {0} → Type 0) (refusal : List ℕ → Unit {0} → Option codec.Error) (few many : ℕ) (le : few ≤ many) where
     abbrev key : Key
     key = key_of w.journal.sections s
 
@@ -98,7 +99,7 @@ module _ {F S : Type 0} {gs : _} (seal : List ℕ → ℕ) (size : ℕ) (g : buf
       later = λ t here far other. omega (arith, least t here far, other);
     }
 
-    called : Called {V = V} seal size g gives spelling accepted told s w new before after a b few many
+    called : Called {V = V} seal size g gives spelling accepted refusal told s w new before after a b few many
     called = record {
       was = was;
       one = record {
@@ -128,9 +129,10 @@ module _ {F S : Type 0} {gs : _} (seal : List ℕ → ℕ) (size : ℕ) (g : buf
 
     -- It was refused, and the section may be lost.
     pub begin_failed : (x : Error) → new.place ≡ None → new.ended ≡ w.ended → (new.journal.sections.held s ≡ None) ⊎ ((new.journal.sections.held s ≡ w.journal.sections.held s) × (b ≡ a))
-        → ((k : ℕ) → x ≡ ItemOutOfRange k → ⊥) → HasNotRead {T = Option (ℕ × ℕ × V)} (Err x) few many
-        → Steps seal size g gives spelling accepted told (Err x) w new before after a b few many
-    begin_failed x none_new ended lost other cause = call_failed seal size g gives spelling accepted told s w new before after a b few many called x lost none_new ahead_back (inr ended) other cause
+        → HasFailed {T = Option (ℕ × ℕ × V)} (Err x) few many
+        → Steps seal size g gives spelling accepted refusal told (Err x) w new before after a b few many
+    begin_failed x none_new ended lost cause = call_failed seal size g gives spelling accepted refusal told s w new before after a b few many called x lost none_new ahead_back (inr ended)
+        (failed_other x x refl few many cause) (λ t. failed_sound x few many cause) (λ t e is. absurd (failed_not_codec x few many cause e is)) (inr (inr cause))
 
     -- The replay stands at the section's first item, or at its start.
     module _ (v : PageBlob S gs) (held_new : new.journal.sections.held s ≡ Some v) (R : Reader) (first : ℕ) (first_is : first ≡ cond (w.journal.unrecovered s) 0 (first_of w s))
@@ -288,9 +290,9 @@ module _ {F S : Type 0} {gs : _} (seal : List ℕ → ℕ) (size : ℕ) (g : buf
             ];
           }
 
-      pub begin_begun : reads_of (after (key_of w.journal.sections s)) ≤ reads_of (before (key_of w.journal.sections s)) → Steps seal size g gives spelling accepted told (Ok None) w new before after a b few many
+      pub begin_begun : reads_of (after (key_of w.journal.sections s)) ≤ reads_of (before (key_of w.journal.sections s)) → Steps seal size g gives spelling accepted refusal told (Ok None) w new before after a b few many
       unfolding called
-      begin_begun none_begun = call_passed seal size g gives spelling accepted told s w new before after a b few many called v
+      begin_begun none_begun = call_passed seal size g gives spelling accepted refusal told s w new before after a b few many called v
           (record { again = again; failed = only.failed; ended = ended; later = later }) onward nearer left kept_all new_in reads_here
         where
           new_in : (x : ℕ) → IsIn new x → x ≡ s

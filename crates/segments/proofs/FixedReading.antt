@@ -25,19 +25,21 @@ use Rattle.sealed_pages.proofs.SlotLemmas.{times_next}
 use Rattle.sealed_pages.proofs.Truncating.{rose_since}
 use Rattle.segments.specs.declared.buffer.SectionBuffer as buffer
 use Rattle.segments.specs.declared.journal.Error.{Error}
-use Rattle.segments.specs.declared.journal.Error.TheVariants.{ItemOutOfRange, Codec, Mem}
+use Rattle.blob_device.specs.declared.runtime.RError.TheVariants.{InvalidChecksum}
+use Rattle.segments.specs.declared.journal.Error.TheVariants.{ItemOutOfRange, Runtime, Codec, Mem}
 use Rattle.value_codec.specs.declared.codec.Error as codec
 use Rattle.segments.specs.Setting.{Setting}
 use Rattle.segments.specs.Sections.{Sections, key_of, IsHeld, IsKeyOf, HasOpened, StandsOver}
 use Rattle.segments.specs.FixedItems.{item_at, IsItem}
+use Rattle.segments.specs.Refusing.{HasFailed, HasDamage}
 use Rattle.segments.specs.FixedReading.{HasNotRead}
-use Rattle.segments.specs.FixedReplay.{Place, Walk, IsAhead, IsIn, IsLeft, SameWalk, IsWalk, WalksOver, StandsBefore, Gives, Stops, Replaying, StandsIn, ReadsIn, kept_of, kept_bytes, first_of}
+use Rattle.segments.specs.FixedReplay.{Place, Walk, IsAhead, IsIn, IsLeft, SameWalk, IsWalk, WalksOver, StandsBefore, Gives, Refuses, Stops, Replaying, StandsIn, ReadsIn, kept_of, kept_bytes, first_of}
 use Rattle.segments.specs.FixedStepping.{standing, after_item, way_of, reads_left, ReadsOnce, GoesOn, Carries, EndsAt, Steps}
 use Rattle.segments.proofs.KeyLemmas.{keys_differ}
 use Rattle.segments.proofs.FixedCounts.{count_here, count_apart, count_same}
 use Rattle.segments.proofs.FixedKept.{covered_on, covered_length, item_kept, sealed_flushed}
 use Rattle.segments.proofs.FixedEnding.{ahead_from}
-use Rattle.segments.proofs.FixedWalks.{IsBehind, IsReached, is_some, same_some, none_in}
+use Rattle.segments.proofs.FixedWalks.{IsBehind, IsReached, is_some, same_some, none_in, left_later}
 use Rattle.segments.proofs.FixedWalksOn.{replaying_start}
 use Rattle.segments.proofs.FixedSteps.{Called, Answered, call_failed, call_ended, call_refused}
 
@@ -57,6 +59,9 @@ not_read_since x few some many le has = elim has [
     | inr failed ↦ inr (elim failed [ inl mem ↦ inl mem | inr fault ↦ inr (fault.0, rose_since few some many le fault.1) ])
   ])
 ]
+
+pub failed_since : {T : Type 0} (x : Result T Error) (few some many : ℕ) → few ≤ some → HasFailed x some many → HasFailed x few many
+failed_since x few some many le has = elim has [ inl mem ↦ inl mem | inr fault ↦ inr (fault.0, rose_since few some many le fault.1) ]
 
 -- the reader behind n bytes
 advanced : (seal : List ℕ → ℕ) (content : List ℕ) (n : ℕ) (r : Reader) → n ≤ length r.bytes → IsReplayOf seal content r → IsReplayOf seal content (record r { at = r.at + n; bytes = drop n r.bytes })
@@ -219,9 +224,9 @@ module _ {F S : Type 0} {gs : _} (seal : List ℕ → ℕ) (size : ℕ) (g : buf
     ]
 
     -- What a step from there on does, it does from here on.
-    pub steps_read : {V : Type 0} (spelling : V → List ℕ) (accepted : V → Unit {0} → Type 0) (result : Result (Option (ℕ × ℕ × V)) Error) (new : Walk F (PageBlob S gs)) (last : OpenedList) (c : Timeline) (few some many : ℕ)
-        → few ≤ some → OnOk result (ReadsUnread r.reader more before after) → Steps seal size g gives spelling accepted told result (standing w on) new after last b c some many → Steps seal size g gives spelling accepted told result (standing w r) new before last a c few many
-    steps_read {V = V} spelling accepted result new last c few some many le unread step = record {
+    pub steps_read : {V : Type 0} (spelling : V → List ℕ) (accepted : V → Unit {0} → Type 0) (refusal : List ℕ → Unit {0} → Option codec.Error) (result : Result (Option (ℕ × ℕ × V)) Error) (new : Walk F (PageBlob S gs)) (last : OpenedList) (c : Timeline) (few some many : ℕ)
+        → few ≤ some → OnOk result (ReadsUnread r.reader more before after) → Steps seal size g gives spelling accepted refusal told result (standing w on) new after last b c some many → Steps seal size g gives spelling accepted refusal told result (standing w r) new before last a c few many
+    steps_read {V = V} spelling accepted refusal result new last c few some many le unread step = record {
       over = step.over;
       broken = step.broken;
       goes = goes_read result step.goes;
@@ -240,6 +245,16 @@ module _ {F S : Type 0} {gs : _} (seal : List ℕ → ℕ) (size : ℕ) (g : buf
       });
       stops = λ t. stops_read t result (step.stops t);
       start = λ t p is. (let has = step.start t p is in (has.0, subst (λ (d : Disk). length (kept_bytes seal size (standing w on) d w.start_section) < p * size) (same_disk t) has.1, has.2));
+      damaged = step.damaged;
+      refused = λ t e is. (let has = subst (λ (d : Disk). Refuses seal size refusal (standing w on) new d (disk c) e) (same_disk t) (step.refused t e is) in record {
+        section = has.section;
+        position = has.position;
+        left = (left_read (disk a) has.section has.position).0 has.left;
+        first = λ x y l. has.first x y ((left_read (disk a) x y).1 l);
+        refused = has.refused;
+        rest = λ x y. (λ l. (let was = (has.rest x y).0 l in ((left_read (disk a) x y).0 was.0, was.1)), λ l. (has.rest x y).1 ((left_read (disk a) x y).1 l.0, l.1));
+      });
+      ends = λ is. elim (step.ends is) [ inl end ↦ inl end | inr failed ↦ inr (elim failed [ inl damage ↦ inl damage | inr has ↦ inr (failed_since result few some many le has) ]) ];
       moments = λ t. always_then a b c (Each (Replaying seal size (standing w r) (disk a)))
           (always_weaker a b (λ x. x ≡ disk a) (Each (Replaying seal size (standing w r) (disk a)))
           (λ x is q. subst (λ (d : Disk). Replaying seal size (standing w r) (disk a) q (d q)) (sym is) (replaying_start seal size (standing w r) (disk a) (was.disk t).sealed q)) (stood t))
@@ -309,8 +324,8 @@ module _ {F S : Type 0} {gs : _} (seal : List ℕ → ℕ) (size : ℕ) (g : buf
     }
 
     -- No call was made.
-    module _ {V : Type 0} (spelling : V → List ℕ) (accepted : V → Unit {0} → Type 0) (none : w.place ≡ None) (few many : ℕ) (le : few ≤ many) where
-      pub no_call : Called {V = V} seal size g gives spelling accepted told r.section (standing w r) w opened opened now now few many
+    module _ {V : Type 0} (spelling : V → List ℕ) (accepted : V → Unit {0} → Type 0) (refusal : List ℕ → Unit {0} → Option codec.Error) (none : w.place ≡ None) (few many : ℕ) (le : few ≤ many) where
+      pub no_call : Called {V = V} seal size g gives spelling accepted refusal told r.section (standing w r) w opened opened now now few many
       no_call = record {
         was = was;
         one = record {
@@ -330,12 +345,13 @@ module _ {F S : Type 0} {gs : _} (seal : List ℕ → ℕ) (size : ℕ) (g : buf
       }
 
       -- The section's reading failed.
-      pub read_failed : (x : Error) → ((p : ℕ) → x ≡ ItemOutOfRange p → ⊥) → HasNotRead {T = Option (ℕ × ℕ × V)} (Err x) few many
-          → Steps seal size g gives spelling accepted told (Err x) (standing w r) w opened opened now now few many
-      read_failed x other cause = call_failed seal size g gives spelling accepted told r.section (standing w r) w opened opened now now few many no_call x (inr (refl, refl)) none (λ t h. h) (inr refl) other cause
+      pub read_failed : (x : Error) → ((p : ℕ) → x ≡ ItemOutOfRange p → ⊥) → (told → (k : ℕ) → x ≡ Runtime (InvalidChecksum k) → ⊥)
+          → (told → (e : codec.Error) → x ≡ Codec e → Refuses seal size refusal (standing w r) w (disk now) (disk now) e) → HasNotRead {T = Option (ℕ × ℕ × V)} (Err x) few many
+          → Steps seal size g gives spelling accepted refusal told (Err x) (standing w r) w opened opened now now few many
+      read_failed x other sound refuses cause = call_failed seal size g gives spelling accepted refusal told r.section (standing w r) w opened opened now now few many no_call x (inr (refl, refl)) none (λ t h. h) (inr refl) other sound refuses cause
 
       -- The section is at its end, and was not cut.
-      not_cut : (told → EndsAt seal size (standing w r) (disk now) r false) → Answered seal size g gives spelling accepted told r.section (standing w r) w opened opened now now few many no_call (here r opened (disk now) was).0
+      not_cut : (told → EndsAt seal size (standing w r) (disk now) r false) → Answered seal size g gives spelling accepted refusal told r.section (standing w r) w opened opened now now few many no_call (here r opened (disk now) was).0
       not_cut ends =
           let h = here r opened (disk now) was in
           record {
@@ -357,12 +373,12 @@ module _ {F S : Type 0} {gs : _} (seal : List ℕ → ℕ) (size : ℕ) (g : buf
           absurd_near never s held (inl ahead) is = never (s, (held, inl ahead), is)
           absurd_near never s held (inr there) is = none_in w.place (λ x. x.section ≡ s) none there
 
-      pub end_uncut : 1 ≤ size → (told → EndsAt seal size (standing w r) (disk now) r false) → Steps seal size g gives spelling accepted told (Ok None) (standing w r) w opened opened now now few many
-      end_uncut pos ends = call_ended seal size g gives spelling accepted told r.section (standing w r) w opened opened now now few many no_call (here r opened (disk now) was).0 (not_cut ends) r refl refl none refl pos (λ t. (ends t).last) (omega arith)
+      pub end_uncut : 1 ≤ size → (told → EndsAt seal size (standing w r) (disk now) r false) → Steps seal size g gives spelling accepted refusal told (Ok None) (standing w r) w opened opened now now few many
+      end_uncut pos ends = call_ended seal size g gives spelling accepted refusal told r.section (standing w r) w opened opened now now few many no_call (here r opened (disk now) was).0 (not_cut ends) r refl refl none refl pos (λ t. (ends t).last) (omega arith)
 
       pub end_refused : 1 ≤ size → (told → EndsAt seal size (standing w r) (disk now) r false) → r.section ≡ w.start_section → r.position < w.start_position
-          → Steps seal size g gives spelling accepted told (Err (ItemOutOfRange w.start_position)) (standing w r) w opened opened now now few many
-      end_refused pos ends = call_refused seal size g gives spelling accepted told r.section (standing w r) w opened opened now now few many no_call (here r opened (disk now) was).0 (not_cut ends) r refl refl none refl pos (λ t. (ends t).last)
+          → Steps seal size g gives spelling accepted refusal told (Err (ItemOutOfRange w.start_position)) (standing w r) w opened opened now now few many
+      end_refused pos ends = call_refused seal size g gives spelling accepted refusal told r.section (standing w r) w opened opened now now few many no_call (here r opened (disk now) was).0 (not_cut ends) r refl refl none refl pos (λ t. (ends t).last)
 
     -- An item is at hand.
     module _ (pos : 1 ≤ size) (has : size ≤ length r.reader.bytes) (within : next_of r.reader ≤ r.reader.size) where
@@ -460,17 +476,26 @@ module _ {F S : Type 0} {gs : _} (seal : List ℕ → ℕ) (size : ℕ) (g : buf
         later = λ q x is. record { flushed = is.flushed; cut = is.cut; others = λ never. is.others (λ k. never (k.0, k.1, k.2)) };
       }
 
-      module _ {V : Type 0} (spelling : V → List ℕ) (accepted : V → Unit {0} → Type 0) (going : w.ended ≡ false) where
+      left_item : w.ended ≡ false → first_of w r.section ≤ r.position → told → IsLeft seal size (standing w r) (disk now) r.section r.position
+      left_item going first t = record { goes_on = going; begun = first; whole = whole_item t; ahead = inr (refl, omega arith) }
+
+      first_item : (x q : ℕ) → IsLeft seal size (standing w r) (disk now) x q → StandsBefore x q r.section r.position → ⊥
+      first_item x q l before = elim l.ahead [
+        | inl a ↦ not_before x q before (ahead_here x a.1)
+        | inr there ↦ elim before [ inl lt ↦ omega (arith, lt, there.0) | inr same ↦ omega (arith, same.1, there.1) ]
+      ]
+
+      bytes_item : told → take size r.reader.bytes ≡ item_at size (kept_bytes seal size (standing w r) (disk now) r.section) r.position
+      bytes_item t =
+          item_kept seal (here r opened (disk now) was).0.page_size (disk now (key_of w.journal.sections r.section)).content (omega (arith, (here r opened (disk now) was).0.fit.begun)) size r.position r.reader.at r.reader.bytes (bytes_here t) (here r opened (disk now) was).2.at has (long_here r opened (disk now) was t within)
+          ∙ ap (λ (l : List ℕ). item_at size l r.position) (sym (kept_here r opened (disk now) was t))
+
+      module _ {V : Type 0} (spelling : V → List ℕ) (accepted : V → Unit {0} → Type 0) (refusal : List ℕ → Unit {0} → Option codec.Error) (going : w.ended ≡ false) where
         given_item : (v : V) → first_of w r.section ≤ r.position → IsItem spelling accepted (take size r.reader.bytes) v → told → Gives seal size spelling accepted (standing w r) (standing w (after_item size r)) (disk now) (disk now) r.section r.position v
         given_item v first item t = record {
-          left = record { goes_on = going; begun = first; whole = whole_item t; ahead = inr (refl, omega arith) };
-          first = λ x q l before. elim l.ahead [
-            | inl a ↦ not_before x q before (ahead_here x a.1)
-            | inr there ↦ elim before [ inl lt ↦ omega (arith, lt, there.0) | inr same ↦ omega (arith, same.1, there.1) ]
-          ];
-          item = subst (λ (bytes : List ℕ). IsItem spelling accepted bytes v)
-              (item_kept seal (here r opened (disk now) was).0.page_size (disk now (key_of w.journal.sections r.section)).content (omega (arith, (here r opened (disk now) was).0.fit.begun)) size r.position r.reader.at r.reader.bytes (bytes_here t) (here r opened (disk now) was).2.at has (long_here r opened (disk now) was t within)
-              ∙ ap (λ (l : List ℕ). item_at size l r.position) (sym (kept_here r opened (disk now) was t))) item;
+          left = left_item going first t;
+          first = first_item;
+          item = subst (λ (bytes : List ℕ). IsItem spelling accepted bytes v) (bytes_item t) item;
           rest = λ x q. (
             λ l. elim l.ahead [
               | inl a ↦ (record { goes_on = l.goes_on; begun = l.begun; whole = l.whole; ahead = inl a }, inl (ahead_here x a.1))
@@ -488,18 +513,31 @@ module _ {F S : Type 0} {gs : _} (seal : List ℕ → ℕ) (size : ℕ) (g : buf
           );
         }
 
+        refuses_item : w.place ≡ None → (few many : ℕ) → few ≤ many → (e : codec.Error) → first_of w r.section ≤ r.position → refusal (take size r.reader.bytes) tt ≡ Some e → told → Refuses seal size refusal (standing w r) w (disk now) (disk now) e
+        refuses_item none few many le e first is t = (let call = no_call spelling accepted refusal none few many le in record {
+          section = r.section;
+          position = r.position;
+          left = left_item going first t;
+          first = first_item;
+          refused = ap (λ (bytes : List ℕ). refusal bytes tt) (sym (bytes_item t)) ∙ is;
+          rest = left_later seal size r.section (standing w r) w (disk now) (disk now) call.one call.behind none t refl;
+        })
+
         -- The step over it: it is given, unless it stands before the start or is none.
         pub item_steps : (none : w.place ≡ None) (few many : ℕ) (le : few ≤ many) (result : Result (Option (ℕ × ℕ × V)) Error) (new : Walk F (PageBlob S gs))
             → ((s p : ℕ) (v : V) → result ≡ Ok (Some (s, p, v)) → (s ≡ r.section) × (p ≡ r.position) × (first_of w r.section ≤ r.position) × IsItem spelling accepted (take size r.reader.bytes) v)
             → (result ≡ Ok None → r.position < first_of w r.section) → OnOk result (new ≡ standing w (after_item size r)) → OnErr result (new ≡ w)
             → OnErr result (((e : codec.Error) × IsErrOf result (Codec e)) ⊎ IsErrOf result Mem)
-            → Steps seal size g gives spelling accepted told result (standing w r) new opened opened now now few many
-        item_steps none few many le (Err x) new given skipped goes stays cause =
-            subst (λ (n : Walk F (PageBlob S gs)). Steps seal size g gives spelling accepted told (Err x) (standing w r) n opened opened now now few many) (sym stays)
-            (read_failed spelling accepted none few many le x (λ p is. elim cause [ inl code ↦ absurd (cc (code.1, is)) | inr mem ↦ absurd (cc (mem, is)) ])
+            → ((e : codec.Error) → IsErrOf result (Codec e) → (first_of w r.section ≤ r.position) × (refusal (take size r.reader.bytes) tt ≡ Some e))
+            → Steps seal size g gives spelling accepted refusal told result (standing w r) new opened opened now now few many
+        item_steps none few many le (Err x) new given skipped goes stays cause refused =
+            subst (λ (n : Walk F (PageBlob S gs)). Steps seal size g gives spelling accepted refusal told (Err x) (standing w r) n opened opened now now few many) (sym stays)
+            (read_failed spelling accepted refusal none few many le x (λ p is. elim cause [ inl code ↦ absurd (cc (code.1, is)) | inr mem ↦ absurd (cc (mem, is)) ])
+            (λ t k is. elim cause [ inl code ↦ absurd (cc (code.1, is)) | inr mem ↦ absurd (cc (mem, is)) ])
+            (λ t e is. refuses_item none few many le e (refused e (ap Err is)).0 (refused e (ap Err is)).1 t)
             (elim cause [ inl code ↦ inr (inl code) | inr mem ↦ inr (inr (inl mem)) ]))
-        item_steps none few many le (Ok o) new given skipped goes stays cause =
-            subst (λ (n : Walk F (PageBlob S gs)). Steps seal size g gives spelling accepted told (Ok o) (standing w r) n opened opened now now few many) (sym goes)
+        item_steps none few many le (Ok o) new given skipped goes stays cause refused =
+            subst (λ (n : Walk F (PageBlob S gs)). Steps seal size g gives spelling accepted refusal told (Ok o) (standing w r) n opened opened now now few many) (sym goes)
             (record {
               over = walk_item;
               broken = tt;
@@ -512,6 +550,9 @@ module _ {F S : Type 0} {gs : _} (seal : List ℕ → ℕ) (size : ℕ) (g : buf
                   (subst (λ (y : ℕ). Gives seal size spelling accepted (standing w r) (standing w (after_item size r)) (disk now) (disk now) r.section y v) (sym f.1) (given_item v f.2 f.3 t)));
               stops = λ t. tt;
               start = λ t p is. absurd (cc is);
+              damaged = λ t k is. absurd (cc is);
+              refused = λ t e is. absurd (cc is);
+              ends = λ is. inl is;
               moments = λ t. always_start now (Each (Replaying seal size (standing w r) (disk now))) (λ q. replaying_start seal size (standing w r) (disk now) (was.disk t).sealed q);
               entries = λ q never. refl;
               once = λ t held. omega (arith, count_same w r (after_item size r) t refl unread_item);

@@ -7,16 +7,19 @@ use Rattle.blob_device.specs.Opened.{OpenedList, reads_of}
 use Rattle.blob_device.specs.Timeline.{Timeline, disk, Always, Each}
 use Rattle.blob_device.proofs.Moments.{always_start, always_then, always_weaker}
 use Rattle.sealed_pages.specs.declared.page_blob.PageBlob.{PageBlob}
+use Rattle.value_codec.specs.declared.codec.Error as codec
 use Rattle.segments.specs.declared.buffer.SectionBuffer as buffer
 use Rattle.segments.specs.declared.journal.Error.{Error}
-use Rattle.segments.specs.declared.journal.Error.TheVariants.{ItemOutOfRange}
+use Rattle.blob_device.specs.declared.runtime.RError.TheVariants.{InvalidChecksum}
+use Rattle.segments.specs.declared.journal.Error.TheVariants.{ItemOutOfRange, Runtime, Codec}
 use Rattle.segments.specs.Setting.{Setting}
 use Rattle.segments.specs.Sections.{section_key, key_of, IsHeld, IsKeyOf}
 use Rattle.segments.specs.FixedItems.{item_at, IsItem}
+use Rattle.segments.specs.Refusing.{HasFailed, HasDamage}
 use Rattle.segments.specs.FixedReading.{HasNotRead}
-use Rattle.segments.specs.FixedReplay.{Place, Walk, IsAhead, IsIn, IsLeft, IsDrained, SameWalk, IsWalk, Gives, Stops, Replaying, kept_bytes}
+use Rattle.segments.specs.FixedReplay.{Place, Walk, IsAhead, IsIn, IsLeft, IsDrained, SameWalk, IsWalk, Gives, Refuses, Stops, Replaying, kept_bytes}
 use Rattle.segments.specs.FixedStepping.{failing, reads_left, ReadsOnce, GoesOn, Carries, Steps}
-use Rattle.segments.proofs.FixedReading.{not_read_since}
+use Rattle.segments.proofs.FixedReading.{not_read_since, failed_since}
 use Rattle.segments.proofs.FixedWalks.{none_in}
 use Rattle.segments.proofs.FixedWalksOn.{replaying_start}
 
@@ -25,10 +28,10 @@ module _ {F S : Type 0} {gs : _} (seal : List ℕ → ℕ) (size : ℕ) (g : buf
   pub walk_same : (opened : OpenedList) (d : Disk) → w ≡ v → IsWalk g gives seal size told w opened d → IsWalk g gives seal size told v opened d
   walk_same opened d same is = subst (λ (x : Walk F (PageBlob S gs)). IsWalk g gives seal size told x opened d) same is
 
-  pub steps_same : {V : Type 0} (spelling : V → List ℕ) (accepted : V → Unit {0} → Type 0) (result : Result (Option (ℕ × ℕ × V)) Error) (new : Walk F (PageBlob S gs)) (before after : OpenedList) (a b : Timeline) (few many : ℕ)
-      → w ≡ v → Steps seal size g gives spelling accepted told result v new before after a b few many → Steps seal size g gives spelling accepted told result w new before after a b few many
-  steps_same spelling accepted result new before after a b few many same step =
-      subst (λ (x : Walk F (PageBlob S gs)). Steps seal size g gives spelling accepted told result x new before after a b few many) (sym same) step
+  pub steps_same : {V : Type 0} (spelling : V → List ℕ) (accepted : V → Unit {0} → Type 0) (refusal : List ℕ → Unit {0} → Option codec.Error) (result : Result (Option (ℕ × ℕ × V)) Error) (new : Walk F (PageBlob S gs)) (before after : OpenedList) (a b : Timeline) (few many : ℕ)
+      → w ≡ v → Steps seal size g gives spelling accepted refusal told result v new before after a b few many → Steps seal size g gives spelling accepted refusal told result w new before after a b few many
+  steps_same spelling accepted refusal result new before after a b few many same step =
+      subst (λ (x : Walk F (PageBlob S gs)). Steps seal size g gives spelling accepted refusal told result x new before after a b few many) (sym same) step
 
 -- what holds where a call succeeded, and where it failed
 pub ok_at : {T E P : Type 0} (r : Result T E) (x : T) → r ≡ Ok x → OnOk r P → P
@@ -102,8 +105,8 @@ module _ {F S : Type 0} {gs : _} (seal : List ℕ → ℕ) (size : ℕ) (g : buf
           | inr ended ↦ absurd (cc (ended, left.goes_on))
         ]
 
-    module _ {V : Type 0} (spelling : V → List ℕ) (accepted : V → Unit {0} → Type 0) (result : Result (Option (ℕ × ℕ × V)) Error) (new : Walk F (PageBlob S gs)) (after : OpenedList) (c : Timeline) (many : ℕ)
-        (step : Steps seal size g gives spelling accepted told result now new opened after b c some many) where
+    module _ {V : Type 0} (spelling : V → List ℕ) (accepted : V → Unit {0} → Type 0) (refusal : List ℕ → Unit {0} → Option codec.Error) (result : Result (Option (ℕ × ℕ × V)) Error) (new : Walk F (PageBlob S gs)) (after : OpenedList) (c : Timeline) (many : ℕ)
+        (step : Steps seal size g gives spelling accepted refusal told result now new opened after b c some many) where
       pub same_after : SameWalk old new
       same_after = same_then new step.same
 
@@ -180,6 +183,32 @@ module _ {F S : Type 0} {gs : _} (seal : List ℕ → ℕ) (size : ℕ) (g : buf
           )
         ];
       }
+
+      pub damaged_after : (x : Error) → result ≡ Err x → told → (k : ℕ) → x ≡ Runtime (InvalidChecksum k) → ⊥
+      damaged_after x is t k same = step.damaged t k (is ∙ ap Err same)
+
+      pub refused_after : (x : Error) → result ≡ Err x → told → (e : codec.Error) → x ≡ Codec e → Refuses seal size refusal old (failing new) (disk a) (disk c) e
+      refused_after x is t e same = let has = step.refused t e (is ∙ ap Err same) in let run_left = (run.carries t).left in record {
+        section = has.section;
+        position = has.position;
+        left = (run_left has.section has.position).0 has.left;
+        first = λ y q l. has.first y q ((run_left y q).1 l);
+        refused = subst (λ (bytes : List ℕ). refusal (item_at size bytes has.position) tt ≡ Some e) ((run.carries t).kept has.section (near_of has.section has.position has.left)) has.refused;
+        rest = λ y q. (
+          λ l. (let k = (has.rest y q).0 (record { goes_on = l.goes_on; begun = l.begun; whole = l.whole; ahead = l.ahead }) in ((run_left y q).0 k.0, k.1)),
+          λ l. (let k = (has.rest y q).1 ((run_left y q).1 l.0, l.1) in record { goes_on = k.goes_on; begun = k.begun; whole = k.whole; ahead = k.ahead }),
+        );
+      }
+
+      -- what ended the replay
+      pub ends_after : (x : Error) → result ≡ Err x → new.ended ≡ true → (old.ended ≡ true) ⊎ (HasDamage {T = V} (Err x) ⊎ HasFailed {T = V} (Err x) few many)
+      ends_after x is ended = elim (step.ends ended) [
+        | inl end ↦ inl (sym run.goes.ended ∙ end)
+        | inr has ↦ inr (elim has [
+          | inl page ↦ (let at = page.1 in inl (page.0, cc (at, is)))
+          | inr failed ↦ inr (elim (failed_since result few some many run.faults failed) [ inl mem ↦ inl (cc (mem, is)) | inr fault ↦ (let at = fault.0 in inr (cc (at, is), fault.1)) ])
+        ])
+      ]
 
       pub start_after : told → (p : ℕ) → IsErrOf result (ItemOutOfRange p) → (p ≡ old.start_position) × (length (kept_bytes seal size old (disk a) old.start_section) < p * size)
       start_after t p is =

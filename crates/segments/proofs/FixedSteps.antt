@@ -6,13 +6,16 @@ use Rattle.blob_device.specs.Disk.{Key, Blob}
 use Rattle.blob_device.specs.Opened.{OpenedList, reads_of}
 use Rattle.blob_device.specs.Timeline.{Timeline, disk, Always, Each}
 use Rattle.sealed_pages.specs.declared.page_blob.PageBlob.{PageBlob}
+use Rattle.value_codec.specs.declared.codec.Error as codec
 use Rattle.segments.specs.declared.buffer.SectionBuffer as buffer
 use Rattle.segments.specs.declared.journal.Error.{Error}
-use Rattle.segments.specs.declared.journal.Error.TheVariants.{ItemOutOfRange}
+use Rattle.blob_device.specs.declared.runtime.RError.TheVariants.{InvalidChecksum}
+use Rattle.segments.specs.declared.journal.Error.TheVariants.{ItemOutOfRange, Runtime, Codec}
 use Rattle.segments.specs.Setting.{Setting}
 use Rattle.segments.specs.Sections.{key_of, IsHeld, IsKeyOf, IsOver}
+use Rattle.segments.specs.Refusing.{HasFailed, HasDamage}
 use Rattle.segments.specs.FixedReading.{HasNotRead}
-use Rattle.segments.specs.FixedReplay.{Place, Walk, IsAhead, IsIn, IsLeft, IsWalk, Replaying, kept_bytes}
+use Rattle.segments.specs.FixedReplay.{Place, Walk, IsAhead, IsIn, IsLeft, IsWalk, Refuses, Replaying, kept_bytes}
 use Rattle.segments.specs.FixedStepping.{word, sections_ahead, bytes_ahead, way_of, reads_left, ReadsOnce, GoesOn, Steps}
 use Rattle.segments.proofs.KeyLemmas.{keys_differ}
 use Rattle.segments.proofs.FixedCounts.{count_other, count_over}
@@ -21,7 +24,7 @@ use Rattle.segments.proofs.FixedKept.{short_item}
 use Rattle.segments.proofs.FixedWalks.{OnlyOne, IsBehind, IsReached, is_some, none_in, key_new, blob_other, held_back, held_on, kept_other, not_ahead, not_near, left_later, left_all}
 use Rattle.segments.proofs.FixedWalksOn.{walk_broken, IsKnownAgain, walk_on}
 
-module _ {F S V : Type 0} {gs : _} (seal : List ℕ → ℕ) (size : ℕ) (g : buffer.Ghosts (PageBlob S gs)) (gives : F → Setting) (spelling : V → List ℕ) (accepted : V → Unit {0} → Type 0) (told : Type 0)
+module _ {F S V : Type 0} {gs : _} (seal : List ℕ → ℕ) (size : ℕ) (g : buffer.Ghosts (PageBlob S gs)) (gives : F → Setting) (spelling : V → List ℕ) (accepted : V → Unit {0} → Type 0) (refusal : List ℕ → Unit {0} → Option codec.Error) (told : Type 0)
     (s : ℕ) (old new : Walk F (PageBlob S gs)) (before after : OpenedList) (a b : Timeline) (few many : ℕ) where
   -- What a call on the section s was: what every step that makes one needs.
   pub record Called : Type 0 where
@@ -45,9 +48,10 @@ module _ {F S V : Type 0} {gs : _} (seal : List ℕ → ℕ) (size : ℕ) (g : b
 
     -- An error was answered; the section may be lost.
     pub call_failed : (x : Error) → (new.journal.sections.held s ≡ None) ⊎ ((new.journal.sections.held s ≡ old.journal.sections.held s) × (b ≡ a)) → new.place ≡ None
-        → ((t : ℕ) → IsAhead new t → IsAhead old t) → (new.ended ≡ true) ⊎ (new.ended ≡ old.ended) → ((p : ℕ) → x ≡ ItemOutOfRange p → ⊥) → HasNotRead {T = Option (ℕ × ℕ × V)} (Err x) few many
-        → Steps seal size g gives spelling accepted told (Err x) old new before after a b few many
-    call_failed x lost none onward ended other cause = record {
+        → ((t : ℕ) → IsAhead new t → IsAhead old t) → ((new.ended ≡ true) × (HasDamage {T = Option (ℕ × ℕ × V)} (Err x) ⊎ HasFailed {T = Option (ℕ × ℕ × V)} (Err x) few many)) ⊎ (new.ended ≡ old.ended) → ((p : ℕ) → x ≡ ItemOutOfRange p → ⊥)
+        → (told → (k : ℕ) → x ≡ Runtime (InvalidChecksum k) → ⊥) → (told → (e : codec.Error) → x ≡ Codec e → Refuses seal size refusal old new (disk a) (disk b) e) → HasNotRead {T = Option (ℕ × ℕ × V)} (Err x) few many
+        → Steps seal size g gives spelling accepted refusal told (Err x) old new before after a b few many
+    call_failed x lost none onward ended other sound refuses cause = record {
       over = tt;
       broken = walk_broken seal size g gives old new before after (disk a) (disk b) call.was call.over call.one.same kept none onward call.from;
       goes = tt;
@@ -57,11 +61,14 @@ module _ {F S V : Type 0} {gs : _} (seal : List ℕ → ℕ) (size : ℕ) (g : b
       item = λ t q p v is. absurd (cc is);
       stops = λ t. record {
         rest = elim ended [
-          | inl end ↦ inl end
+          | inl end ↦ inl end.0
           | inr going ↦ inr (s, left_later seal size s old new (disk a) (disk b) call.one call.behind none t going)
         ];
       };
       start = λ t p is. absurd (other p (cc is));
+      damaged = λ t k is. sound t k (cc is);
+      refused = λ t e is. refuses t e (cc is);
+      ends = λ is. elim ended [ inl end ↦ inr end.1 | inr going ↦ inl (sym going ∙ is) ];
       moments = call.moments;
       entries = entries_of;
       once = tt;
@@ -115,7 +122,7 @@ module _ {F S V : Type 0} {gs : _} (seal : List ℕ → ℕ) (size : ℕ) (g : b
           → (told → (t q : ℕ) → IsLeft seal size new (disk b) t q ↔ IsLeft seal size old (disk a) t q)
           → (told → (t : ℕ) → IsAhead new t ⊎ IsIn new t → kept_bytes seal size new (disk b) t ≡ kept_bytes seal size old (disk a) t)
           → ((x : ℕ) → IsIn new x → x ≡ s) → reads_of (after (key_of old.journal.sections s)) + reads_left new s ≤ reads_of (before (key_of old.journal.sections s)) + reads_left old s
-          → Steps seal size g gives spelling accepted told (Ok None) old new before after a b few many
+          → Steps seal size g gives spelling accepted refusal told (Ok None) old new before after a b few many
       call_passed onward nearer left kept new_in here = record {
         over = on;
         broken = tt;
@@ -126,6 +133,9 @@ module _ {F S V : Type 0} {gs : _} (seal : List ℕ → ℕ) (size : ℕ) (g : b
         item = λ t q p w is. absurd (cc is);
         stops = λ t. tt;
         start = λ t p is. absurd (cc is);
+        damaged = λ t k is. absurd (cc is);
+        refused = λ t e is. absurd (cc is);
+        ends = λ is. inl (sym answer.ended ∙ is);
         moments = call.moments;
         entries = entries_of;
         once = reads_once;
@@ -165,7 +175,7 @@ module _ {F S V : Type 0} {gs : _} (seal : List ℕ → ℕ) (size : ℕ) (g : b
 
         -- The section is at its end.
         pub call_ended : (told → length (kept_bytes seal size old (disk a) s) / size ≡ r.position) → reads_of (after (key_of old.journal.sections s)) ≤ reads_of (before (key_of old.journal.sections s)) + reads_left old s
-            → Steps seal size g gives spelling accepted told (Ok None) old new before after a b few many
+            → Steps seal size g gives spelling accepted refusal told (Ok None) old new before after a b few many
         call_ended last reads = call_passed onward_end nearer_end
             (λ t. left_all seal size s old new (disk a) (disk b) call.one call.behind none t answer.ended (never (last t)))
             (λ t q at. kept_other seal size s old new (disk a) (disk b) call.one t q (λ is. not_near seal size s old new (disk a) (disk b) call.one call.behind none (subst (λ (k : ℕ). IsAhead new k ⊎ IsIn new k) is at)))
@@ -173,7 +183,7 @@ module _ {F S V : Type 0} {gs : _} (seal : List ℕ → ℕ) (size : ℕ) (g : b
 
         -- It is, before the start of the replay.
         pub call_refused : (told → length (kept_bytes seal size old (disk a) s) / size ≡ r.position) → s ≡ old.start_section → r.position < old.start_position
-            → Steps seal size g gives spelling accepted told (Err (ItemOutOfRange old.start_position)) old new before after a b few many
+            → Steps seal size g gives spelling accepted refusal told (Err (ItemOutOfRange old.start_position)) old new before after a b few many
         call_refused last first less = record {
           over = tt;
           broken = fails seal size g gives new after (disk b) on;
@@ -191,6 +201,9 @@ module _ {F S V : Type 0} {gs : _} (seal : List ℕ → ℕ) (size : ℕ) (g : b
                 subst (λ (n : ℕ). length (kept_bytes seal size old (disk a) old.start_section) < n * size) (sym at) there),
             subst (λ (k : ℕ). IsAhead old k ⊎ IsIn old k) first (inr near),
           );
+          damaged = λ t k is. absurd (cc is);
+          refused = λ t e is. absurd (cc is);
+          ends = λ is. inl (sym answer.ended ∙ is);
           moments = call.moments;
           entries = entries_of;
           once = tt;

@@ -2,6 +2,7 @@
 use Rattle.std.specs.Prelude.{◌≡◌, ◌⊎◌, ◌↔◌, ℕ, ◌+◌, ◌*◌, ◌/◌, ◌%◌, ◌<◌, ◌≤◌, eqb, cond, Bool, true, false, List, [], length, Option, None, Some, IsSome, IsSomeAnd, IsTrue}
 use Rattle.blob_device.specs.Disk.{Key, Blob, Disk}
 use Rattle.blob_device.specs.Opened.{OpenedList}
+use Rattle.value_codec.specs.declared.codec.Error as codec
 use Rattle.sealed_pages.specs.declared.page_blob.PageBlob.{PageBlob}
 use Rattle.sealed_pages.specs.Shown.{shown}
 use Rattle.sealed_pages.specs.Buffer.{size_of, bytes_of, IsSealed}
@@ -126,6 +127,15 @@ module _ {S : Type 0} {gs : _} where
     pub first : (t q : ℕ) → IsLeft seal size old d t q → StandsBefore t q s p → ⊥
     pub item : IsItem spelling accepted (item_at size (kept_bytes seal size old d s) p) v
     pub rest : (t q : ℕ) → IsLeft seal size new e t q ↔ (IsLeft seal size old d t q × StandsBefore s p t q)
+
+  -- The item at `position` of a section is the first that was left, and its bytes are refused with e. The items of later sections are left.
+  pub record Refuses {F : Type 0} (seal : List ℕ → ℕ) (size : ℕ) (refusal : List ℕ → Unit {0} → Option codec.Error) (old new : Walk F (PageBlob S gs)) (from to : Disk) (e : codec.Error) : Type 0 where
+    pub section : ℕ
+    pub position : ℕ
+    pub left : IsLeft seal size old from section position
+    pub first : (t q : ℕ) → IsLeft seal size old from t q → StandsBefore t q section position → ⊥
+    pub refused : refusal (item_at size (kept_bytes seal size old from section) position) tt ≡ Some e
+    pub rest : (t q : ℕ) → IsLeft seal size new to t q ↔ (IsLeft seal size old from t q × (section < t))
 
   -- An error ended the whole replay, or that of section s; the items of later sections are left.
   pub record Stops {F : Type 0} (seal : List ℕ → ℕ) (size : ℕ) (old new : Walk F (PageBlob S gs)) (d e : Disk) : Type 0 where

@@ -10,14 +10,17 @@ use Rattle.sealed_pages.specs.Buffer.{size_of, bytes_of, IsSealed}
 use Rattle.sealed_pages.specs.SealedPrefix.{sealed_prefix}
 use Rattle.sealed_pages.specs.Readers.{Reader, IsReplayOf, unread_of}
 use Rattle.sealed_pages.specs.Reads.{pages_for}
+use Rattle.value_codec.specs.declared.codec.Error as codec
 use Rattle.segments.specs.declared.buffer.SectionBuffer as buffer
 use Rattle.segments.specs.declared.journal.Error.{Error}
-use Rattle.segments.specs.declared.journal.Error.TheVariants.{ItemOutOfRange}
+use Rattle.blob_device.specs.declared.runtime.RError.TheVariants.{InvalidChecksum}
+use Rattle.segments.specs.declared.journal.Error.TheVariants.{ItemOutOfRange, Runtime, Codec}
 use Rattle.segments.specs.Setting.{Setting}
 use Rattle.segments.specs.Entries.{OnlyOwnEntry}
 use Rattle.segments.specs.Sections.{Sections, key_of, IsHeld, IsKeyOf, IsSame, SameBounds, IsOver}
+use Rattle.segments.specs.Refusing.{HasFailed, HasDamage}
 use Rattle.segments.specs.FixedReading.{HasNotRead}
-use Rattle.segments.specs.FixedReplay.{Place, Walk, IsAhead, IsIn, IsLeft, SameWalk, IsWalk, Gives, Stops, Replaying, kept_bytes}
+use Rattle.segments.specs.FixedReplay.{Place, Walk, IsAhead, IsIn, IsLeft, SameWalk, IsWalk, Gives, Refuses, Stops, Replaying, kept_bytes}
 
 -- greater than each number of a section, and than each place in one
 unfoldable pub word : ℕ
@@ -139,7 +142,7 @@ module _ {F S : Type 0} {gs : _} (seal : List ℕ → ℕ) (size : ℕ) where
     pub whole : cuts ≡ false → (u : PageBlob S gs) → w.journal.sections.held r.section ≡ Some u
         → IsSealed seal (shown u) (d (key_of w.journal.sections r.section)) × (size_of (shown u) % size ≡ 0)
 
-  module _ {V : Type 0} (g : buffer.Ghosts (PageBlob S gs)) (gives : F → Setting) (spelling : V → List ℕ) (accepted : V → Unit {0} → Type 0) (told : Type 0) where
+  module _ {V : Type 0} (g : buffer.Ghosts (PageBlob S gs)) (gives : F → Setting) (spelling : V → List ℕ) (accepted : V → Unit {0} → Type 0) (refusal : List ℕ → Unit {0} → Option codec.Error) (told : Type 0) where
     -- A step of the replay `old`, and the replay after it. It gives the first item that was left, or comes nearer to one, or gives an
     -- error, which ends the section or the replay.
     pub record Steps (result : Result (Option (ℕ × ℕ × V)) Error) (old new : Walk F (PageBlob S gs)) (before after : OpenedList) (begin end : Timeline) (few many : ℕ) : Type 0 where
@@ -153,6 +156,9 @@ module _ {F S : Type 0} {gs : _} (seal : List ℕ → ℕ) (size : ℕ) where
       pub stops : told → OnErr result (Stops seal size old new (disk begin) (disk end))
       pub start : told → (p : ℕ) → IsErrOf result (ItemOutOfRange p) → (p ≡ old.start_position)
           × (length (kept_bytes seal size old (disk begin) old.start_section) < p * size) × (IsAhead old old.start_section ⊎ IsIn old old.start_section)
+      pub damaged : told → (k : ℕ) → IsErrOf result (Runtime (InvalidChecksum k)) → ⊥
+      pub refused : told → (e : codec.Error) → IsErrOf result (Codec e) → Refuses seal size refusal old new (disk begin) (disk end) e
+      pub ends : new.ended ≡ true → (old.ended ≡ true) ⊎ (HasDamage result ⊎ HasFailed result few many)
       pub moments : told → Always begin end (Each (Replaying seal size old (disk begin)))
       pub entries : (q : Key) → (IsKeyOf old.journal.sections (λ s. IsHeld old.journal.sections s × (IsAhead old s ⊎ IsIn old s)) q → ⊥) → after q ≡ before q
       pub once : OnOk result (ReadsOnce old new before after)

@@ -1,5 +1,5 @@
 // Going over the items of a fixed journal from a position on, and cutting what no seal vouches for.
-ghost use Rattle.std.specs.Prelude.{◌≡◌, ◌↔◌, ◌⊎◌, ◌≤◌, ◌<◌, ◌+◌, ◌*◌, ◌/◌, ◌^◌, ℕ, Some, None, Ok, Err, true, false, cond, length, take, IfOk, IfSome, OnOk, OnErr, IsSomeAnd, IsTrue};
+ghost use Rattle.std.specs.Prelude.{◌≡◌, ◌≢◌, ◌↔◌, ◌⊎◌, ◌≤◌, ◌<◌, ◌+◌, ◌*◌, ◌/◌, ◌^◌, ℕ, Some, None, Ok, Err, true, false, cond, length, take, IfOk, IfSome, OnOk, OnErr, IsSomeAnd, IsTrue};
 ghost use Rattle.std.specs.Result.{IsErrOf};
 ghost use Rattle.std.specs.Ordering.{nat_cmp};
 ghost use Rattle.std.specs.BTreeSet as set;
@@ -12,7 +12,7 @@ ghost use Rattle.sealed_pages.specs.ChanceSeal.{Sealing};
 ghost use Rattle.sealed_pages.specs.SealedPrefix.{sealed_prefix};
 ghost use Rattle.sealed_pages.specs.Shown as page_blob;
 ghost use Rattle.segments.specs.Sections.{key_of, IsHeld, IsKeyOf, IsOver};
-ghost use Rattle.segments.specs.Refusing.{HasFailed};
+ghost use Rattle.segments.specs.Refusing.{HasDamage, HasFailed};
 ghost use Rattle.segments.specs.FixedItems.{IsItem};
 ghost use Rattle.segments.specs.FixedReading.{IsPast, HasNotRead};
 
@@ -132,7 +132,7 @@ impl<A: CodecFixed, S: Seal> Journal<A, S> {
 impl<A: CodecFixed, S: Seal> Replay<A, S> {
     ghost use Rattle.segments.specs.FixedShown.{shown};
     ghost use Rattle.segments.specs.FixedLists.{OwesHeld, OwesSettled, AreSealed, UnopenedLater};
-    ghost use Rattle.segments.specs.FixedReplay.{IsWalk, HasWalk, WalksOver, SameWalk, IsLeft, IsDrained, IsAhead, IsIn, first_of, Gives, Stops, Replaying, kept_bytes};
+    ghost use Rattle.segments.specs.FixedReplay.{IsWalk, HasWalk, WalksOver, SameWalk, IsLeft, IsDrained, IsAhead, IsIn, first_of, Gives, Refuses, Stops, Replaying, kept_bytes};
     ghost use Rattle.segments.specs.FixedStepping.{standing, after_item, ReadsOnce, OnlySections, Touches, IsFlushed, IsCutBack, BeginsOver, EndsAt, Steps};
     ghost use Rattle.segments.specs.FixedWalking.{walk_of, walk_at, place_of};
     ghost use Rattle.sealed_pages.specs.Readers.{reading};
@@ -205,6 +205,13 @@ impl<A: CodecFixed, S: Seal> Replay<A, S> {
         // The start is refused only where its section keeps fewer items.
         ensures start { D.Tells → (p : ℕ) → result ≡ Some (Err (Error.ItemOutOfRange p)) → (p ≡ (walk_of self.old).start_position)
             × (length (kept_bytes S.seal_of A.SIZE (walk_of self.old) (disk (D.time dev.old)) (walk_of self.old).start_section) < p * A.SIZE) }
+        // Where the disk is told no page is found damaged: a section that owes a replay is cut before such a page, and any other is sealed.
+        ensures damaged { D.Tells → (k : ℕ) → result ≢ Some (Err (Error.Runtime (InvalidChecksum k))) }
+        // The codec's error is that of the first item that was left.
+        ensures refused { D.Tells → (e : _) → result ≡ Some (Err (Error.Codec e)) → Refuses S.seal_of A.SIZE A.refusal (walk_of self.old) (walk_of self.new) (disk (D.time dev.old)) (disk (D.time dev.new)) e }
+        // The replay ends only by a damaged page, which none is where the disk is told, a fault or want of memory.
+        ensures ends { (walk_of self.new).ended ≡ true → ((walk_of self.old).ended ≡ true)
+            ⊎ ((e : _) × (result ≡ Some (Err e)) × (HasDamage {T = A} (Err e) ⊎ HasFailed {T = A} (Err e) (D.faults dev.old) (D.faults dev.new))) }
         ensures moments { D.Tells → Always (D.time dev.old) (D.time dev.new) (Each (Replaying S.seal_of A.SIZE (walk_of self.old) (disk (D.time dev.old)))) }
         // Each page is read once, as long as the device and memory serve, and one once more where its section is cut within it.
         ensures once { (result ≡ None) ⊎ ((x : _) × (result ≡ Some (Ok x))) → ReadsOnce (walk_of self.old) (walk_of self.new) (D.opened dev.old) (D.opened dev.new) }
@@ -230,7 +237,7 @@ impl<A: CodecFixed, S: Seal> Replay<A, S> {
         requires over { IsWalk ⟦<PageBlob<S> as SectionBuffer>⟧ ⟦<AppendFactory<S> as BufferFactory>⟧.gives S.seal_of A.SIZE D.Tells (walk_of self.old) (D.opened dev.old) (disk (D.time dev.old)) }
         requires going { (walk_of self.old).ended ≡ false }
         requires more { IsDrained (walk_of self.old) → ⊥ }
-        ensures { Steps S.seal_of A.SIZE ⟦<PageBlob<S> as SectionBuffer>⟧ ⟦<AppendFactory<S> as BufferFactory>⟧.gives A.spelling A.accepted D.Tells result (walk_of self.old) (walk_of self.new) (D.opened dev.old) (D.opened dev.new) (D.time dev.old) (D.time dev.new) (D.faults dev.old) (D.faults dev.new) }
+        ensures { Steps S.seal_of A.SIZE ⟦<PageBlob<S> as SectionBuffer>⟧ ⟦<AppendFactory<S> as BufferFactory>⟧.gives A.spelling A.accepted A.refusal D.Tells result (walk_of self.old) (walk_of self.new) (D.opened dev.old) (D.opened dev.new) (D.time dev.old) (D.time dev.new) (D.faults dev.old) (D.faults dev.new) }
     {
         match self.reading.take() {
             Some(reading) => self.read(dev, reading),
@@ -244,7 +251,7 @@ impl<A: CodecFixed, S: Seal> Replay<A, S> {
         requires going { (walk_of self.old).ended ≡ false }
         requires between { (walk_of self.old).place ≡ None }
         requires more { IsDrained (walk_of self.old) → ⊥ }
-        ensures { Steps S.seal_of A.SIZE ⟦<PageBlob<S> as SectionBuffer>⟧ ⟦<AppendFactory<S> as BufferFactory>⟧.gives A.spelling A.accepted D.Tells result (walk_of self.old) (walk_of self.new) (D.opened dev.old) (D.opened dev.new) (D.time dev.old) (D.time dev.new) (D.faults dev.old) (D.faults dev.new) }
+        ensures { Steps S.seal_of A.SIZE ⟦<PageBlob<S> as SectionBuffer>⟧ ⟦<AppendFactory<S> as BufferFactory>⟧.gives A.spelling A.accepted A.refusal D.Tells result (walk_of self.old) (walk_of self.new) (D.opened dev.old) (D.opened dev.new) (D.time dev.old) (D.time dev.new) (D.faults dev.old) (D.faults dev.new) }
     {
         match self.section_ahead() {
             Some(section) => self.begin(dev, section),
@@ -264,7 +271,7 @@ impl<A: CodecFixed, S: Seal> Replay<A, S> {
         requires held { IsHeld (walk_of self.old).journal.sections section }
         requires ahead { IsAhead (walk_of self.old) section }
         requires least { (s : ℕ) → IsHeld (walk_of self.old).journal.sections s → IsAhead (walk_of self.old) s → section ≤ s }
-        ensures { Steps S.seal_of A.SIZE ⟦<PageBlob<S> as SectionBuffer>⟧ ⟦<AppendFactory<S> as BufferFactory>⟧.gives A.spelling A.accepted D.Tells result (walk_of self.old) (walk_of self.new) (D.opened dev.old) (D.opened dev.new) (D.time dev.old) (D.time dev.new) (D.faults dev.old) (D.faults dev.new) }
+        ensures { Steps S.seal_of A.SIZE ⟦<PageBlob<S> as SectionBuffer>⟧ ⟦<AppendFactory<S> as BufferFactory>⟧.gives A.spelling A.accepted A.refusal D.Tells result (walk_of self.old) (walk_of self.new) (D.opened dev.old) (D.opened dev.new) (D.time dev.old) (D.time dev.new) (D.faults dev.old) (D.faults dev.new) }
     {
         self.next_section = number_after(section);
         let mut reader = self.open_reader(dev, section)?;
@@ -322,7 +329,7 @@ impl<A: CodecFixed, S: Seal> Replay<A, S> {
         requires over { IsWalk ⟦<PageBlob<S> as SectionBuffer>⟧ ⟦<AppendFactory<S> as BufferFactory>⟧.gives S.seal_of A.SIZE D.Tells (walk_at self.old reading) (D.opened dev.old) (disk (D.time dev.old)) }
         requires going { (walk_of self.old).ended ≡ false }
         requires between { (walk_of self.old).place ≡ None }
-        ensures { Steps S.seal_of A.SIZE ⟦<PageBlob<S> as SectionBuffer>⟧ ⟦<AppendFactory<S> as BufferFactory>⟧.gives A.spelling A.accepted D.Tells result (walk_at self.old reading) (walk_of self.new) (D.opened dev.old) (D.opened dev.new) (D.time dev.old) (D.time dev.new) (D.faults dev.old) (D.faults dev.new) }
+        ensures { Steps S.seal_of A.SIZE ⟦<PageBlob<S> as SectionBuffer>⟧ ⟦<AppendFactory<S> as BufferFactory>⟧.gives A.spelling A.accepted A.refusal D.Tells result (walk_at self.old reading) (walk_of self.new) (D.opened dev.old) (D.opened dev.new) (D.time dev.old) (D.time dev.new) (D.faults dev.old) (D.faults dev.new) }
     {
         let mut reading = reading;
         match reading.reader.ensure(dev, A::SIZE) {
@@ -331,8 +338,10 @@ impl<A: CodecFixed, S: Seal> Replay<A, S> {
                 let cuts = self.is_torn(&reading);
                 self.end_section(dev, reading, cuts)
             }
-            Err(RError::InvalidChecksum(page)) => self.end_at_page(dev, reading, page),
-            Err(e) => Err(Error::from(e)),
+            Err(e) => match e {
+                RError::InvalidChecksum(page) => self.end_at_page(dev, reading, page),
+                e => Err(Error::from(e)),
+            },
         }
     }
 
@@ -352,6 +361,7 @@ impl<A: CodecFixed, S: Seal> Replay<A, S> {
         ensures skipped { result ≡ Ok None → reading.position < first_of (walk_of self.old) reading.section }
         ensures goes { OnOk result (walk_of self.new ≡ standing (walk_of self.old) (after_item A.SIZE (place_of reading))) }
         ensures stays { OnErr result (walk_of self.new ≡ walk_of self.old) }
+        ensures refused { (e : _) → IsErrOf result (Error.Codec e) → (first_of (walk_of self.old) reading.section ≤ reading.position) × (A.refusal (take A.SIZE (place_of reading).reader.bytes) tt ≡ Some e) }
         ensures cause { OnErr result (((e : _) × IsErrOf result (Error.Codec e)) ⊎ IsErrOf result Error.Mem) }
     {
         let mut reading = reading;
@@ -373,6 +383,7 @@ impl<A: CodecFixed, S: Seal> Replay<A, S> {
         ensures given { (s p : ℕ) (v : A) → result ≡ Ok (Some (s, p, v)) → (s ≡ section) × (p ≡ position) × (first_of (walk_of self.now) section ≤ position)
             × IsItem A.spelling A.accepted (take A.SIZE bytes.now) v }
         ensures skipped { result ≡ Ok None → position < first_of (walk_of self.now) section }
+        ensures refused { (e : _) → IsErrOf result (Error.Codec e) → (first_of (walk_of self.now) section ≤ position) × (A.refusal (take A.SIZE bytes.now) tt ≡ Some e) }
         ensures cause { OnErr result (((e : _) × IsErrOf result (Error.Codec e)) ⊎ IsErrOf result Error.Mem) }
     {
         if position < self.first_position(section) {
@@ -392,8 +403,8 @@ impl<A: CodecFixed, S: Seal> Replay<A, S> {
         requires over { IsWalk ⟦<PageBlob<S> as SectionBuffer>⟧ ⟦<AppendFactory<S> as BufferFactory>⟧.gives S.seal_of A.SIZE D.Tells (walk_at self.old reading) (D.opened dev.old) (disk (D.time dev.old)) }
         requires going { (walk_of self.old).ended ≡ false }
         requires between { (walk_of self.old).place ≡ None }
-        requires last { D.Tells → IsTrue ((walk_of self.old).journal.unrecovered reading.section) → EndsAt S.seal_of A.SIZE (walk_at self.old reading) (disk (D.time dev.old)) (place_of reading) true }
-        ensures { Steps S.seal_of A.SIZE ⟦<PageBlob<S> as SectionBuffer>⟧ ⟦<AppendFactory<S> as BufferFactory>⟧.gives A.spelling A.accepted D.Tells result (walk_at self.old reading) (walk_of self.new) (D.opened dev.old) (D.opened dev.new) (D.time dev.old) (D.time dev.new) (D.faults dev.old) (D.faults dev.new) }
+        requires last { D.Tells → IsTrue ((walk_of self.old).journal.unrecovered reading.section) × EndsAt S.seal_of A.SIZE (walk_at self.old reading) (disk (D.time dev.old)) (place_of reading) true }
+        ensures { Steps S.seal_of A.SIZE ⟦<PageBlob<S> as SectionBuffer>⟧ ⟦<AppendFactory<S> as BufferFactory>⟧.gives A.spelling A.accepted A.refusal D.Tells result (walk_at self.old reading) (walk_of self.new) (D.opened dev.old) (D.opened dev.new) (D.time dev.old) (D.time dev.new) (D.faults dev.old) (D.faults dev.new) }
     {
         if !self.owes(reading.section) {
             return Err(Error::Runtime(RError::InvalidChecksum(page)));
@@ -413,7 +424,7 @@ impl<A: CodecFixed, S: Seal> Replay<A, S> {
         requires between { (walk_of self.old).place ≡ None }
         requires owed { cuts ≡ true → IsTrue ((walk_of self.old).journal.unrecovered reading.section) }
         requires last { D.Tells → EndsAt S.seal_of A.SIZE (walk_at self.old reading) (disk (D.time dev.old)) (place_of reading) cuts }
-        ensures { Steps S.seal_of A.SIZE ⟦<PageBlob<S> as SectionBuffer>⟧ ⟦<AppendFactory<S> as BufferFactory>⟧.gives A.spelling A.accepted D.Tells result (walk_at self.old reading) (walk_of self.new) (D.opened dev.old) (D.opened dev.new) (D.time dev.old) (D.time dev.new) (D.faults dev.old) (D.faults dev.new) }
+        ensures { Steps S.seal_of A.SIZE ⟦<PageBlob<S> as SectionBuffer>⟧ ⟦<AppendFactory<S> as BufferFactory>⟧.gives A.spelling A.accepted A.refusal D.Tells result (walk_at self.old reading) (walk_of self.new) (D.opened dev.old) (D.opened dev.new) (D.time dev.old) (D.time dev.new) (D.faults dev.old) (D.faults dev.new) }
     {
         if cuts {
             return self.end_cut(dev, reading);
@@ -433,7 +444,7 @@ impl<A: CodecFixed, S: Seal> Replay<A, S> {
         requires between { (walk_of self.old).place ≡ None }
         requires owed { IsTrue ((walk_of self.old).journal.unrecovered reading.section) }
         requires last { D.Tells → EndsAt S.seal_of A.SIZE (walk_at self.old reading) (disk (D.time dev.old)) (place_of reading) true }
-        ensures { Steps S.seal_of A.SIZE ⟦<PageBlob<S> as SectionBuffer>⟧ ⟦<AppendFactory<S> as BufferFactory>⟧.gives A.spelling A.accepted D.Tells result (walk_at self.old reading) (walk_of self.new) (D.opened dev.old) (D.opened dev.new) (D.time dev.old) (D.time dev.new) (D.faults dev.old) (D.faults dev.new) }
+        ensures { Steps S.seal_of A.SIZE ⟦<PageBlob<S> as SectionBuffer>⟧ ⟦<AppendFactory<S> as BufferFactory>⟧.gives A.spelling A.accepted A.refusal D.Tells result (walk_at self.old reading) (walk_of self.new) (D.opened dev.old) (D.opened dev.new) (D.time dev.old) (D.time dev.new) (D.faults dev.old) (D.faults dev.new) }
     {
         self.cut(dev, reading.section, reading.position)?;
         self.check_start(reading.section, reading.position)?;
@@ -470,7 +481,8 @@ impl<A: CodecFixed, S: Seal> Replay<A, S> {
             → Sealing S.seal_of u.page_size (sealed_prefix S.seal_of u.page_size (disk (D.time dev.old) (key_of (walk_of self.old).journal.sections section)).content) (count * A.SIZE) (key_of (walk_of self.old).journal.sections section) (D.time dev.old) (D.time dev.new) }
         ensures reads { OnOk result (reads_of (D.opened dev.new (key_of (walk_of self.old).journal.sections section)) ≤ reads_of (D.opened dev.old (key_of (walk_of self.old).journal.sections section)) + 1) }
         ensures faults { D.faults dev.old ≤ D.faults dev.new }
-        ensures cause { OnErr result (((k : ℕ) × IsErrOf result (Error.Runtime (InvalidChecksum k))) ⊎ HasFailed result (D.faults dev.old) (D.faults dev.new)) }
+        ensures damaged { D.Tells → (k : ℕ) → IsErrOf result (Error.Runtime (InvalidChecksum k)) → ⊥ }
+        ensures cause { OnErr result (HasDamage result ⊎ HasFailed result (D.faults dev.old) (D.faults dev.new)) }
     {
         self.has_ended = true;
         let buffer = self.journal.manager.take(dev, section)?;

@@ -1,15 +1,15 @@
 -- The buffer is taken out, cut and given back.
-use Rattle.std.specs.Prelude.{◌≡◌, ℕ, ◌*◌, ◌≤◌, length}
+use Rattle.std.specs.Prelude.{◌≡◌, ℕ, ◌*◌, ◌≤◌, List, length}
 use Rattle.std.proofs.Common.{inl, inr, sym, ◌∙◌, ap, subst, arith}
 use Rattle.std.proofs.lemmas.Result.{err_from_is_err_and}
-use Rattle.blob_device.specs.Disk.{Key}
+use Rattle.blob_device.specs.Disk.{Key, Blob}
 use Rattle.blob_device.specs.Timeline.{Timeline, disk}
 use Rattle.sealed_pages.specs.declared.page_blob.PageBlob.{PageBlob}
-use Rattle.sealed_pages.specs.Buffer.{key_of, size_of}
+use Rattle.sealed_pages.specs.Buffer.{Buffer, key_of, size_of}
 use Rattle.sealed_pages.specs.ChanceSeal.{Sealing}
 use Rattle.sealed_pages.specs.Entries.{IsOpenAt}
 use Rattle.sealed_pages.specs.Shown.{shown}
-use Rattle.sealed_pages.specs.Unrecovered.{IsAdopted}
+use Rattle.sealed_pages.specs.Unrecovered.{IsAdopted, IsSafeCut}
 use Rattle.sealed_pages.specs.SealedPrefix.{sealed_prefix}
 use Rattle.sealed_pages.proofs.Holding.{fit_size}
 use Rattle.segments.specs.Managed as manager
@@ -19,6 +19,11 @@ use Rattle.segments.proofs.FixedBuffers.{cut_at, no_cut_moments, cut_moved}
 use Rattle.segments.proofs.FixedCalls.{bounds_then, same_then, own_entries, moved_back, alone_blobs, cut_back_moved, cut_stands, open_at}
 use Rattle.segments.proofs.FixedCounts.{few_reads}
 use Rattle.segments.proofs.FixedErrorSteps.{raised_cut}
+use Rattle.segments.proofs.FixedErrors.{runtime_of}
+use Rattle.segments.proofs.SealedCalls.{sound_page}
+use Rattle.segments.specs.Raised.{raised}
+use Rattle.blob_device.specs.declared.runtime.RError.TheVariants.{InvalidChecksum}
+use Rattle.segments.specs.declared.journal.Error.TheVariants.{Runtime}
 use Rattle.segments.proofs.FixedTouching.{touch_out, touch_back}
 use Rattle.segments.proofs.FixedWalks.{is_some, some_of, same_some}
 use Rattle.segments.proofs.OverLemmas.{same_key}
@@ -84,6 +89,27 @@ returns-in_err-buffer-2-clause-touches g c =
     (own_entries (key_of (shown bu)) (sections.key_of m c.args.section) (g.D.Device.opened c.args.dev.now) (g.D.Device.opened c.take.new.dev) (g.D.Device.opened c.truncate.new.dev) c.in_ok-buffer.ensures.key (ap g.D.Device.opened same) c.truncate.ensures.entries.others)
     (λ t. alone_blobs bu u.0 (c.in_ok-buffer.ensures.same u.0 u.1) (sections.key_of m c.args.section) (g.D.Device.time c.take.new.dev) (g.D.Device.time c.args.dev.now) (ap g.D.Device.time same) c.in_ok-buffer.ensures.key g.S.Seal.seal_of (g.D.Device.time c.truncate.new.dev) (c.in_ok-buffer.ensures.stands t) (c.truncate.ensures.alone t))
     p.0 c.in_ok-buffer.ensures.out (is_some _ _ c.in_ok-buffer.ensures.known))
+
+safe_cut : (seal : List ℕ → ℕ) (u : Buffer) (n : ℕ) (b : Blob) → IsAdopted seal u b → n ≤ length (sealed_prefix seal u.page_size b.content) → IsSafeCut seal u n b
+safe_cut seal u n b (inl sealed) long = inl sealed
+safe_cut seal u n b (inr un) long = inr (inl (un, long))
+
+pub returns-in_err-buffer-2-clause-damaged : goal.returns-in_err-buffer-2-clause-damaged
+returns-in_err-buffer-2-clause-damaged g c t k is =
+    let p = err_from_is_err_and c.from_residual-in_err-buffer-2.result c.from_residual-in_err-buffer-2.ensures.1 in
+    let m = (walk_of c.args.self.now).journal.sections in
+    let mine = some_of (m.held c.args.section) c.requires.held in
+    let bu = c.in_ok-buffer.buffer in
+    let K = sections.key_of m c.args.section in
+    let a0 = g.D.Device.time c.take.new.dev in
+    let times : a0 ≡ g.D.Device.time c.args.dev.now = ap g.D.Device.time (c.take.ensures.untouched c.requires.held) in
+    let count = c.args.count * c.SIZE.result in
+    let size : count ≡ c.args.count * g.A.CodecFixed.SIZE = ap (λ (x : ℕ). c.args.count * x) c.SIZE.ensures in
+    let same : raised c.in_err-buffer-2.field-0.0 ≡ Runtime (InvalidChecksum k) = (let at = p.1 in let to = p.2 in cc (at, to, is)) in
+    sound_page c.truncate.result k _ (c.truncate.ensures.whole t (safe_cut g.S.Seal.seal_of (shown bu) count (disk a0 (key_of (shown bu)))
+    (subst (λ (x : Key). IsAdopted g.S.Seal.seal_of (shown bu) (disk a0 x)) (sym c.in_ok-buffer.ensures.key) (c.in_ok-buffer.ensures.stands t).adopted)
+    (moved_back bu mine.0 (c.in_ok-buffer.ensures.same mine.0 mine.1) K a0 (g.D.Device.time c.args.dev.now) times c.in_ok-buffer.ensures.key (λ (x : PageBlob g.row.S.Denot g.S.Seal) (q : Key) (s : Timeline). count ≤ length (sealed_prefix g.S.Seal.seal_of x.page_size (disk s q).content)) (omega (arith, size, c.requires.prefix t mine.0 mine.1)))))
+    (let page = runtime_of c.in_err-buffer-2.field-0.0 (InvalidChecksum k) same in cc page)
 
 pub returns-in_err-buffer-2-clause-going : goal.returns-in_err-buffer-2-clause-going
 returns-in_err-buffer-2-clause-going g c = let p = err_from_is_err_and c.from_residual-in_err-buffer-2.result c.from_residual-in_err-buffer-2.ensures.1 in rw p.1 tt

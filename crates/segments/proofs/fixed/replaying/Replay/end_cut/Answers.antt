@@ -6,7 +6,7 @@ use Rattle.blob_device.specs.Timeline.{disk}
 use Rattle.segments.specs.declared.journal.Error.TheVariants.{ItemOutOfRange}
 use Rattle.segments.specs.FixedWalking.{walk_of, place_of}
 use Rattle.segments.proofs.FixedCutting.{cut_failed, cut_ended, cut_refused, cut_within, cut_prefix}
-use Rattle.segments.proofs.FixedErrorSteps.{cut_read, cut_other}
+use Rattle.segments.proofs.FixedErrorSteps.{cut_as}
 use Rattle.segments.proofs.FixedReading.{here, reached_here}
 use Rattle.segments.proofs.FixedWalks.{some_of}
 use Rattle.segments.proofs.fixed.replaying.Replay.end_cut.Goals as goal
@@ -30,8 +30,8 @@ pub returns-in_err-cut : goal.returns-in_err-cut
 returns-in_err-cut g c =
     let p = err_from_is_err_and c.from_residual.result c.from_residual.ensures.1 in
     rw p.1 (cut_failed g.S.Seal.seal_of g.A.CodecFixed.SIZE _ _ (walk_of c.args.self.now) (walk_of c.cut.new.self) (place_of c.args.reading) _ _ (g.D.Device.time c.args.dev.now) (g.D.Device.time c.cut.new.dev)
-    c.requires.over c.requires.between c.cut.result c.cut.ensures.rest c.cut.ensures.touches c.requires.owed c.requires.last g.met.A.CodecFixed.fixed.at_least c.cut.ensures.moments g.A.Codec.spelling g.A.Codec.accepted _ _ c.cut.ensures.faults
-    p.0 c.in_err-cut.ensures.ended c.in_err-cut.ensures.touches.lost (cut_other _ p.0 p.2 _ _ c.in_err-cut.ensures.cause) (cut_read _ p.0 p.2 _ _ c.in_err-cut.ensures.cause))
+    c.requires.over c.requires.between c.cut.result c.cut.ensures.rest c.cut.ensures.touches c.requires.owed c.requires.last g.met.A.CodecFixed.fixed.at_least c.cut.ensures.moments g.A.Codec.spelling g.A.Codec.accepted g.A.Codec.refusal _ _ c.cut.ensures.faults
+    p.0 c.in_err-cut.ensures.ended c.in_err-cut.ensures.touches.lost (λ t k is. c.in_err-cut.ensures.damaged t k (let at = p.2 in cc (at, is))) (cut_as _ p.0 p.2 _ _ c.in_err-cut.ensures.cause))
 
 pub returns-in_err-check_start : goal.returns-in_err-check_start
 returns-in_err-check_start g c =
@@ -43,7 +43,7 @@ returns-in_err-check_start g c =
     let again = some_of ((walk_of c.cut.new.self).journal.sections.held c.args.reading.section) c.in_ok-cut.ensures.touches.held in
     let u = here g.S.Seal.seal_of g.A.CodecFixed.SIZE _ _ (walk_of c.args.self.now) (place_of c.args.reading) _ (disk (g.D.Device.time c.args.dev.now)) c.requires.over in
     rw is (cut_refused g.S.Seal.seal_of g.A.CodecFixed.SIZE _ _ (walk_of c.args.self.now) (walk_of c.cut.new.self) (place_of c.args.reading) _ _ (g.D.Device.time c.args.dev.now) (g.D.Device.time c.cut.new.dev)
-    c.requires.over c.requires.between c.cut.result rest c.cut.ensures.touches c.requires.owed c.requires.last g.met.A.CodecFixed.fixed.at_least c.cut.ensures.moments g.A.Codec.spelling g.A.Codec.accepted _ _ c.cut.ensures.faults
+    c.requires.over c.requires.between c.cut.result rest c.cut.ensures.touches c.requires.owed c.requires.last g.met.A.CodecFixed.fixed.at_least c.cut.ensures.moments g.A.Codec.spelling g.A.Codec.accepted g.A.Codec.refusal _ _ c.cut.ensures.faults
     again.0 again.1 c.requires.going c.in_ok-cut.ensures.going (c.in_ok-cut.ensures.cut u.0 again.0 u.1 again.1) (fewer.0 ∙ rest.section) (omega (arith, fewer.2, rest.position)))
 
 pub returns : goal.returns
@@ -51,5 +51,5 @@ returns g c =
     let again = some_of ((walk_of c.cut.new.self).journal.sections.held c.args.reading.section) c.in_ok-cut.ensures.touches.held in
     let u = here g.S.Seal.seal_of g.A.CodecFixed.SIZE _ _ (walk_of c.args.self.now) (place_of c.args.reading) _ (disk (g.D.Device.time c.args.dev.now)) c.requires.over in
     cut_ended g.S.Seal.seal_of g.A.CodecFixed.SIZE _ _ (walk_of c.args.self.now) (walk_of c.cut.new.self) (place_of c.args.reading) _ _ (g.D.Device.time c.args.dev.now) (g.D.Device.time c.cut.new.dev)
-    c.requires.over c.requires.between c.cut.result c.cut.ensures.rest c.cut.ensures.touches c.requires.owed c.requires.last g.met.A.CodecFixed.fixed.at_least c.cut.ensures.moments g.A.Codec.spelling g.A.Codec.accepted _ _ c.cut.ensures.faults
+    c.requires.over c.requires.between c.cut.result c.cut.ensures.rest c.cut.ensures.touches c.requires.owed c.requires.last g.met.A.CodecFixed.fixed.at_least c.cut.ensures.moments g.A.Codec.spelling g.A.Codec.accepted g.A.Codec.refusal _ _ c.cut.ensures.faults
     again.0 again.1 c.requires.going c.in_ok-cut.ensures.going (c.in_ok-cut.ensures.cut u.0 again.0 u.1 again.1) c.in_ok-cut.ensures.reads

@@ -33,10 +33,10 @@ returns-in_err-check_start g c =
     let refused = c.in_err-check_start.ensures.cause in
     let fewer = c.in_err-check_start.ensures.fewer (walk_of c.args.self.now).start_position refused in
     let is : c.from_residual.result ≡ Err (ItemOutOfRange (walk_of c.args.self.now).start_position) = (let at = p.1 in let same = p.2 in cc (at, same, refused)) in
-    rw is (end_refused g.S.Seal.seal_of g.A.CodecFixed.SIZE _ _ (walk_of c.args.self.now) (place_of c.args.reading) _ (g.D.Device.time c.args.dev.now) c.requires.over g.A.Codec.spelling g.A.Codec.accepted c.requires.between _ _ (omega arith)
+    rw is (end_refused g.S.Seal.seal_of g.A.CodecFixed.SIZE _ _ (walk_of c.args.self.now) (place_of c.args.reading) _ (g.D.Device.time c.args.dev.now) c.requires.over g.A.Codec.spelling g.A.Codec.accepted g.A.Codec.refusal c.requires.between _ _ (omega arith)
     g.met.A.CodecFixed.fixed.at_least (λ t. subst (λ (b : Bool). EndsAt g.S.Seal.seal_of g.A.CodecFixed.SIZE (walk_at c.args.self.now c.args.reading) (disk (g.D.Device.time c.args.dev.now)) (place_of c.args.reading) b) c.if-cuts.false (c.requires.last t))
     fewer.0 (omega (arith, fewer.2)))
 
 pub returns : goal.returns
-returns g c = end_uncut g.S.Seal.seal_of g.A.CodecFixed.SIZE _ _ (walk_of c.args.self.now) (place_of c.args.reading) _ (g.D.Device.time c.args.dev.now) c.requires.over g.A.Codec.spelling g.A.Codec.accepted c.requires.between _ _ (omega arith)
+returns g c = end_uncut g.S.Seal.seal_of g.A.CodecFixed.SIZE _ _ (walk_of c.args.self.now) (place_of c.args.reading) _ (g.D.Device.time c.args.dev.now) c.requires.over g.A.Codec.spelling g.A.Codec.accepted g.A.Codec.refusal c.requires.between _ _ (omega arith)
     g.met.A.CodecFixed.fixed.at_least (λ t. subst (λ (b : Bool). EndsAt g.S.Seal.seal_of g.A.CodecFixed.SIZE (walk_at c.args.self.now c.args.reading) (disk (g.D.Device.time c.args.dev.now)) (place_of c.args.reading) b) c.if-cuts.false (c.requires.last t))

@@ -1,8 +1,8 @@
 -- Steps are made until one gives an item or an error, or nothing is left.
 use Rattle.std.specs.Prelude.{◌≡◌, Bool, true, false, Some, Ok, Err}
-use Rattle.std.proofs.Common.{inl, inr, refl, ◌∙◌}
+use Rattle.std.proofs.Common.{inl, inr, refl, sym, ◌∙◌}
 use Rattle.segments.specs.FixedWalking.{walk_of}
-use Rattle.segments.proofs.FixedRunning.{ok_at, err_at, running_start, running_on, left_none, same_after, moments_after, entries_after, once_after, faults_after, gives_after, stops_after, start_after, cause_after}
+use Rattle.segments.proofs.FixedRunning.{ok_at, err_at, running_start, running_on, left_none, same_after, moments_after, entries_after, once_after, faults_after, gives_after, stops_after, start_after, damaged_after, refused_after, ends_after, cause_after}
 use Rattle.segments.proofs.fixed.replaying.Replay.next.Goals as goal
 
 not_true : (x : Bool) → (x ≡ true → ⊥) → x ≡ false
@@ -26,18 +26,18 @@ steps-smaller g c = c.step.ensures.nearer cc
 
 pub steps-preserved : goal.steps-preserved
 steps-preserved g c = running_on g.S.Seal.seal_of g.A.CodecFixed.SIZE _ _ g.D.Device.Tells (walk_of c.args.self.now) (g.D.Device.opened c.args.dev.now) (g.D.Device.time c.args.dev.now) (g.D.Device.faults c.args.dev.now)
-    (walk_of c.steps.self) (g.D.Device.opened c.steps.dev) (g.D.Device.time c.steps.dev) (g.D.Device.faults c.steps.dev) c.steps.invariant g.A.Codec.spelling g.A.Codec.accepted c.step.result (walk_of c.step.new.self) (g.D.Device.opened c.step.new.dev) (g.D.Device.time c.step.new.dev) (g.D.Device.faults c.step.new.dev) c.step.ensures cc
+    (walk_of c.steps.self) (g.D.Device.opened c.steps.dev) (g.D.Device.time c.steps.dev) (g.D.Device.faults c.steps.dev) c.steps.invariant g.A.Codec.spelling g.A.Codec.accepted g.A.Codec.refusal c.step.result (walk_of c.step.new.self) (g.D.Device.opened c.step.new.dev) (g.D.Device.time c.step.new.dev) (g.D.Device.faults c.step.new.dev) c.step.ensures cc
 
 pub returns-in-Ok-Some-clause-over : goal.returns-in-Ok-Some-clause-over
 returns-in-Ok-Some-clause-over g c = (let is : c.step.result ≡ Ok (Some c.in-Ok-Some.item) = cc in ok_at c.step.result _ is c.step.ensures.over)
 
 pub returns-in-Ok-Some-clause-same : goal.returns-in-Ok-Some-clause-same
 returns-in-Ok-Some-clause-same g c = same_after g.S.Seal.seal_of g.A.CodecFixed.SIZE _ _ g.D.Device.Tells (walk_of c.args.self.now) (g.D.Device.opened c.args.dev.now) (g.D.Device.time c.args.dev.now) (g.D.Device.faults c.args.dev.now)
-    (walk_of c.steps.self) (g.D.Device.opened c.steps.dev) (g.D.Device.time c.steps.dev) (g.D.Device.faults c.steps.dev) c.steps.invariant g.A.Codec.spelling g.A.Codec.accepted c.step.result (walk_of c.step.new.self) (g.D.Device.opened c.step.new.dev) (g.D.Device.time c.step.new.dev) (g.D.Device.faults c.step.new.dev) c.step.ensures
+    (walk_of c.steps.self) (g.D.Device.opened c.steps.dev) (g.D.Device.time c.steps.dev) (g.D.Device.faults c.steps.dev) c.steps.invariant g.A.Codec.spelling g.A.Codec.accepted g.A.Codec.refusal c.step.result (walk_of c.step.new.self) (g.D.Device.opened c.step.new.dev) (g.D.Device.time c.step.new.dev) (g.D.Device.faults c.step.new.dev) c.step.ensures
 
 pub returns-in-Ok-Some-clause-item : goal.returns-in-Ok-Some-clause-item
 returns-in-Ok-Some-clause-item g c t s p v is = gives_after g.S.Seal.seal_of g.A.CodecFixed.SIZE _ _ g.D.Device.Tells (walk_of c.args.self.now) (g.D.Device.opened c.args.dev.now) (g.D.Device.time c.args.dev.now) (g.D.Device.faults c.args.dev.now)
-    (walk_of c.steps.self) (g.D.Device.opened c.steps.dev) (g.D.Device.time c.steps.dev) (g.D.Device.faults c.steps.dev) c.steps.invariant g.A.Codec.spelling g.A.Codec.accepted c.step.result (walk_of c.step.new.self) (g.D.Device.opened c.step.new.dev) (g.D.Device.time c.step.new.dev) (g.D.Device.faults c.step.new.dev) c.step.ensures t s p v (let at : c.step.result ≡ Ok (Some c.in-Ok-Some.item) = cc in cc (at, is))
+    (walk_of c.steps.self) (g.D.Device.opened c.steps.dev) (g.D.Device.time c.steps.dev) (g.D.Device.faults c.steps.dev) c.steps.invariant g.A.Codec.spelling g.A.Codec.accepted g.A.Codec.refusal c.step.result (walk_of c.step.new.self) (g.D.Device.opened c.step.new.dev) (g.D.Device.time c.step.new.dev) (g.D.Device.faults c.step.new.dev) c.step.ensures t s p v (let at : c.step.result ≡ Ok (Some c.in-Ok-Some.item) = cc in cc (at, is))
 
 pub returns-in-Ok-Some-clause-going : goal.returns-in-Ok-Some-clause-going
 returns-in-Ok-Some-clause-going g c s p v is = (let at : c.step.result ≡ Ok (Some c.in-Ok-Some.item) = cc in (ok_at c.step.result _ at c.step.ensures.goes).failed ∙ c.steps.invariant.goes.failed)
@@ -62,15 +62,15 @@ returns-in-Ok-Some-clause-start g c t p is = absurd (cc is)
 
 pub returns-in-Ok-Some-clause-moments : goal.returns-in-Ok-Some-clause-moments
 returns-in-Ok-Some-clause-moments g c t = moments_after g.S.Seal.seal_of g.A.CodecFixed.SIZE _ _ g.D.Device.Tells (walk_of c.args.self.now) (g.D.Device.opened c.args.dev.now) (g.D.Device.time c.args.dev.now) (g.D.Device.faults c.args.dev.now)
-    (walk_of c.steps.self) (g.D.Device.opened c.steps.dev) (g.D.Device.time c.steps.dev) (g.D.Device.faults c.steps.dev) c.steps.invariant g.A.Codec.spelling g.A.Codec.accepted c.step.result (walk_of c.step.new.self) (g.D.Device.opened c.step.new.dev) (g.D.Device.time c.step.new.dev) (g.D.Device.faults c.step.new.dev) c.step.ensures t
+    (walk_of c.steps.self) (g.D.Device.opened c.steps.dev) (g.D.Device.time c.steps.dev) (g.D.Device.faults c.steps.dev) c.steps.invariant g.A.Codec.spelling g.A.Codec.accepted g.A.Codec.refusal c.step.result (walk_of c.step.new.self) (g.D.Device.opened c.step.new.dev) (g.D.Device.time c.step.new.dev) (g.D.Device.faults c.step.new.dev) c.step.ensures t
 
 pub returns-in-Ok-Some-clause-entries : goal.returns-in-Ok-Some-clause-entries
 returns-in-Ok-Some-clause-entries g c q never = entries_after g.S.Seal.seal_of g.A.CodecFixed.SIZE _ _ g.D.Device.Tells (walk_of c.args.self.now) (g.D.Device.opened c.args.dev.now) (g.D.Device.time c.args.dev.now) (g.D.Device.faults c.args.dev.now)
-    (walk_of c.steps.self) (g.D.Device.opened c.steps.dev) (g.D.Device.time c.steps.dev) (g.D.Device.faults c.steps.dev) c.steps.invariant g.A.Codec.spelling g.A.Codec.accepted c.step.result (walk_of c.step.new.self) (g.D.Device.opened c.step.new.dev) (g.D.Device.time c.step.new.dev) (g.D.Device.faults c.step.new.dev) c.step.ensures q never
+    (walk_of c.steps.self) (g.D.Device.opened c.steps.dev) (g.D.Device.time c.steps.dev) (g.D.Device.faults c.steps.dev) c.steps.invariant g.A.Codec.spelling g.A.Codec.accepted g.A.Codec.refusal c.step.result (walk_of c.step.new.self) (g.D.Device.opened c.step.new.dev) (g.D.Device.time c.step.new.dev) (g.D.Device.faults c.step.new.dev) c.step.ensures q never
 
 pub returns-in-Ok-Some-clause-faults : goal.returns-in-Ok-Some-clause-faults
 returns-in-Ok-Some-clause-faults g c = faults_after g.S.Seal.seal_of g.A.CodecFixed.SIZE _ _ g.D.Device.Tells (walk_of c.args.self.now) (g.D.Device.opened c.args.dev.now) (g.D.Device.time c.args.dev.now) (g.D.Device.faults c.args.dev.now)
-    (walk_of c.steps.self) (g.D.Device.opened c.steps.dev) (g.D.Device.time c.steps.dev) (g.D.Device.faults c.steps.dev) c.steps.invariant g.A.Codec.spelling g.A.Codec.accepted c.step.result (walk_of c.step.new.self) (g.D.Device.opened c.step.new.dev) (g.D.Device.time c.step.new.dev) (g.D.Device.faults c.step.new.dev) c.step.ensures
+    (walk_of c.steps.self) (g.D.Device.opened c.steps.dev) (g.D.Device.time c.steps.dev) (g.D.Device.faults c.steps.dev) c.steps.invariant g.A.Codec.spelling g.A.Codec.accepted g.A.Codec.refusal c.step.result (walk_of c.step.new.self) (g.D.Device.opened c.step.new.dev) (g.D.Device.time c.step.new.dev) (g.D.Device.faults c.step.new.dev) c.step.ensures
 
 pub returns-in-Ok-Some-clause-cause : goal.returns-in-Ok-Some-clause-cause
 returns-in-Ok-Some-clause-cause g c e is = absurd (cc is)
@@ -80,7 +80,7 @@ returns-in-Err-clause-over g c = (let is : c.step.result ≡ Err c.in-Err.e = cc
 
 pub returns-in-Err-clause-same : goal.returns-in-Err-clause-same
 returns-in-Err-clause-same g c = (let s = same_after g.S.Seal.seal_of g.A.CodecFixed.SIZE _ _ g.D.Device.Tells (walk_of c.args.self.now) (g.D.Device.opened c.args.dev.now) (g.D.Device.time c.args.dev.now) (g.D.Device.faults c.args.dev.now)
-    (walk_of c.steps.self) (g.D.Device.opened c.steps.dev) (g.D.Device.time c.steps.dev) (g.D.Device.faults c.steps.dev) c.steps.invariant g.A.Codec.spelling g.A.Codec.accepted c.step.result (walk_of c.step.new.self) (g.D.Device.opened c.step.new.dev) (g.D.Device.time c.step.new.dev) (g.D.Device.faults c.step.new.dev) c.step.ensures in record { bounds = s.bounds; unrecovered = s.unrecovered; section = s.section; position = s.position })
+    (walk_of c.steps.self) (g.D.Device.opened c.steps.dev) (g.D.Device.time c.steps.dev) (g.D.Device.faults c.steps.dev) c.steps.invariant g.A.Codec.spelling g.A.Codec.accepted g.A.Codec.refusal c.step.result (walk_of c.step.new.self) (g.D.Device.opened c.step.new.dev) (g.D.Device.time c.step.new.dev) (g.D.Device.faults c.step.new.dev) c.step.ensures in record { bounds = s.bounds; unrecovered = s.unrecovered; section = s.section; position = s.position })
 
 pub returns-in-Err-clause-item : goal.returns-in-Err-clause-item
 returns-in-Err-clause-item g c t s p v is = absurd (cc is)
@@ -102,27 +102,27 @@ returns-in-Err-clause-failed g c e is = refl
 
 pub returns-in-Err-clause-stops : goal.returns-in-Err-clause-stops
 returns-in-Err-clause-stops g c t e is = stops_after g.S.Seal.seal_of g.A.CodecFixed.SIZE _ _ g.D.Device.Tells (walk_of c.args.self.now) (g.D.Device.opened c.args.dev.now) (g.D.Device.time c.args.dev.now) (g.D.Device.faults c.args.dev.now)
-    (walk_of c.steps.self) (g.D.Device.opened c.steps.dev) (g.D.Device.time c.steps.dev) (g.D.Device.faults c.steps.dev) c.steps.invariant g.A.Codec.spelling g.A.Codec.accepted c.step.result (walk_of c.step.new.self) (g.D.Device.opened c.step.new.dev) (g.D.Device.time c.step.new.dev) (g.D.Device.faults c.step.new.dev) c.step.ensures t (let at : c.step.result ≡ Err c.in-Err.e = cc in err_at c.step.result _ at (c.step.ensures.stops t))
+    (walk_of c.steps.self) (g.D.Device.opened c.steps.dev) (g.D.Device.time c.steps.dev) (g.D.Device.faults c.steps.dev) c.steps.invariant g.A.Codec.spelling g.A.Codec.accepted g.A.Codec.refusal c.step.result (walk_of c.step.new.self) (g.D.Device.opened c.step.new.dev) (g.D.Device.time c.step.new.dev) (g.D.Device.faults c.step.new.dev) c.step.ensures t (let at : c.step.result ≡ Err c.in-Err.e = cc in err_at c.step.result _ at (c.step.ensures.stops t))
 
 pub returns-in-Err-clause-start : goal.returns-in-Err-clause-start
 returns-in-Err-clause-start g c t p is = start_after g.S.Seal.seal_of g.A.CodecFixed.SIZE _ _ g.D.Device.Tells (walk_of c.args.self.now) (g.D.Device.opened c.args.dev.now) (g.D.Device.time c.args.dev.now) (g.D.Device.faults c.args.dev.now)
-    (walk_of c.steps.self) (g.D.Device.opened c.steps.dev) (g.D.Device.time c.steps.dev) (g.D.Device.faults c.steps.dev) c.steps.invariant g.A.Codec.spelling g.A.Codec.accepted c.step.result (walk_of c.step.new.self) (g.D.Device.opened c.step.new.dev) (g.D.Device.time c.step.new.dev) (g.D.Device.faults c.step.new.dev) c.step.ensures t p (let at : c.step.result ≡ Err c.in-Err.e = cc in cc (at, is))
+    (walk_of c.steps.self) (g.D.Device.opened c.steps.dev) (g.D.Device.time c.steps.dev) (g.D.Device.faults c.steps.dev) c.steps.invariant g.A.Codec.spelling g.A.Codec.accepted g.A.Codec.refusal c.step.result (walk_of c.step.new.self) (g.D.Device.opened c.step.new.dev) (g.D.Device.time c.step.new.dev) (g.D.Device.faults c.step.new.dev) c.step.ensures t p (let at : c.step.result ≡ Err c.in-Err.e = cc in cc (at, is))
 
 pub returns-in-Err-clause-moments : goal.returns-in-Err-clause-moments
 returns-in-Err-clause-moments g c t = moments_after g.S.Seal.seal_of g.A.CodecFixed.SIZE _ _ g.D.Device.Tells (walk_of c.args.self.now) (g.D.Device.opened c.args.dev.now) (g.D.Device.time c.args.dev.now) (g.D.Device.faults c.args.dev.now)
-    (walk_of c.steps.self) (g.D.Device.opened c.steps.dev) (g.D.Device.time c.steps.dev) (g.D.Device.faults c.steps.dev) c.steps.invariant g.A.Codec.spelling g.A.Codec.accepted c.step.result (walk_of c.step.new.self) (g.D.Device.opened c.step.new.dev) (g.D.Device.time c.step.new.dev) (g.D.Device.faults c.step.new.dev) c.step.ensures t
+    (walk_of c.steps.self) (g.D.Device.opened c.steps.dev) (g.D.Device.time c.steps.dev) (g.D.Device.faults c.steps.dev) c.steps.invariant g.A.Codec.spelling g.A.Codec.accepted g.A.Codec.refusal c.step.result (walk_of c.step.new.self) (g.D.Device.opened c.step.new.dev) (g.D.Device.time c.step.new.dev) (g.D.Device.faults c.step.new.dev) c.step.ensures t
 
 pub returns-in-Err-clause-entries : goal.returns-in-Err-clause-entries
 returns-in-Err-clause-entries g c q never = entries_after g.S.Seal.seal_of g.A.CodecFixed.SIZE _ _ g.D.Device.Tells (walk_of c.args.self.now) (g.D.Device.opened c.args.dev.now) (g.D.Device.time c.args.dev.now) (g.D.Device.faults c.args.dev.now)
-    (walk_of c.steps.self) (g.D.Device.opened c.steps.dev) (g.D.Device.time c.steps.dev) (g.D.Device.faults c.steps.dev) c.steps.invariant g.A.Codec.spelling g.A.Codec.accepted c.step.result (walk_of c.step.new.self) (g.D.Device.opened c.step.new.dev) (g.D.Device.time c.step.new.dev) (g.D.Device.faults c.step.new.dev) c.step.ensures q never
+    (walk_of c.steps.self) (g.D.Device.opened c.steps.dev) (g.D.Device.time c.steps.dev) (g.D.Device.faults c.steps.dev) c.steps.invariant g.A.Codec.spelling g.A.Codec.accepted g.A.Codec.refusal c.step.result (walk_of c.step.new.self) (g.D.Device.opened c.step.new.dev) (g.D.Device.time c.step.new.dev) (g.D.Device.faults c.step.new.dev) c.step.ensures q never
 
 pub returns-in-Err-clause-faults : goal.returns-in-Err-clause-faults
 returns-in-Err-clause-faults g c = faults_after g.S.Seal.seal_of g.A.CodecFixed.SIZE _ _ g.D.Device.Tells (walk_of c.args.self.now) (g.D.Device.opened c.args.dev.now) (g.D.Device.time c.args.dev.now) (g.D.Device.faults c.args.dev.now)
-    (walk_of c.steps.self) (g.D.Device.opened c.steps.dev) (g.D.Device.time c.steps.dev) (g.D.Device.faults c.steps.dev) c.steps.invariant g.A.Codec.spelling g.A.Codec.accepted c.step.result (walk_of c.step.new.self) (g.D.Device.opened c.step.new.dev) (g.D.Device.time c.step.new.dev) (g.D.Device.faults c.step.new.dev) c.step.ensures
+    (walk_of c.steps.self) (g.D.Device.opened c.steps.dev) (g.D.Device.time c.steps.dev) (g.D.Device.faults c.steps.dev) c.steps.invariant g.A.Codec.spelling g.A.Codec.accepted g.A.Codec.refusal c.step.result (walk_of c.step.new.self) (g.D.Device.opened c.step.new.dev) (g.D.Device.time c.step.new.dev) (g.D.Device.faults c.step.new.dev) c.step.ensures
 
 pub returns-in-Err-clause-cause : goal.returns-in-Err-clause-cause
 returns-in-Err-clause-cause g c e is = cause_after g.S.Seal.seal_of g.A.CodecFixed.SIZE _ _ g.D.Device.Tells (walk_of c.args.self.now) (g.D.Device.opened c.args.dev.now) (g.D.Device.time c.args.dev.now) (g.D.Device.faults c.args.dev.now)
-    (walk_of c.steps.self) (g.D.Device.opened c.steps.dev) (g.D.Device.time c.steps.dev) (g.D.Device.faults c.steps.dev) c.steps.invariant g.A.Codec.spelling g.A.Codec.accepted c.step.result (walk_of c.step.new.self) (g.D.Device.opened c.step.new.dev) (g.D.Device.time c.step.new.dev) (g.D.Device.faults c.step.new.dev) c.step.ensures e (let at : c.step.result ≡ Err c.in-Err.e = cc in cc (at, is))
+    (walk_of c.steps.self) (g.D.Device.opened c.steps.dev) (g.D.Device.time c.steps.dev) (g.D.Device.faults c.steps.dev) c.steps.invariant g.A.Codec.spelling g.A.Codec.accepted g.A.Codec.refusal c.step.result (walk_of c.step.new.self) (g.D.Device.opened c.step.new.dev) (g.D.Device.time c.step.new.dev) (g.D.Device.faults c.step.new.dev) c.step.ensures e (let at : c.step.result ≡ Err c.in-Err.e = cc in cc (at, is))
 
 pub returns-clause-over : goal.returns-clause-over
 returns-clause-over g c = c.steps.invariant.over
@@ -169,10 +169,40 @@ returns-clause-cause g c e is = absurd (cc is)
 
 pub returns-in-Ok-Some-clause-once : goal.returns-in-Ok-Some-clause-once
 returns-in-Ok-Some-clause-once g c which = once_after g.S.Seal.seal_of g.A.CodecFixed.SIZE _ _ g.D.Device.Tells (walk_of c.args.self.now) (g.D.Device.opened c.args.dev.now) (g.D.Device.time c.args.dev.now) (g.D.Device.faults c.args.dev.now)
-    (walk_of c.steps.self) (g.D.Device.opened c.steps.dev) (g.D.Device.time c.steps.dev) (g.D.Device.faults c.steps.dev) c.steps.invariant g.A.Codec.spelling g.A.Codec.accepted c.step.result (walk_of c.step.new.self) (g.D.Device.opened c.step.new.dev) (g.D.Device.time c.step.new.dev) (g.D.Device.faults c.step.new.dev) c.step.ensures (let at : c.step.result ≡ Ok (Some c.in-Ok-Some.item) = cc in ok_at c.step.result _ at c.step.ensures.once)
+    (walk_of c.steps.self) (g.D.Device.opened c.steps.dev) (g.D.Device.time c.steps.dev) (g.D.Device.faults c.steps.dev) c.steps.invariant g.A.Codec.spelling g.A.Codec.accepted g.A.Codec.refusal c.step.result (walk_of c.step.new.self) (g.D.Device.opened c.step.new.dev) (g.D.Device.time c.step.new.dev) (g.D.Device.faults c.step.new.dev) c.step.ensures (let at : c.step.result ≡ Ok (Some c.in-Ok-Some.item) = cc in ok_at c.step.result _ at c.step.ensures.once)
 
 pub returns-in-Err-clause-once : goal.returns-in-Err-clause-once
 returns-in-Err-clause-once g c which = elim which [ inl none ↦ absurd (cc none) | inr some ↦ (let at = some.1 in absurd (cc at)) ]
 
 pub returns-clause-once : goal.returns-clause-once
 returns-clause-once g c which = c.steps.invariant.once
+
+pub returns-in-Ok-Some-clause-damaged : goal.returns-in-Ok-Some-clause-damaged
+returns-in-Ok-Some-clause-damaged g c t k is = absurd (cc is)
+
+pub returns-in-Ok-Some-clause-refused : goal.returns-in-Ok-Some-clause-refused
+returns-in-Ok-Some-clause-refused g c t e is = absurd (cc is)
+
+pub returns-in-Ok-Some-clause-ends : goal.returns-in-Ok-Some-clause-ends
+returns-in-Ok-Some-clause-ends g c is = (let at : c.step.result ≡ Ok (Some c.in-Ok-Some.item) = cc in inl (sym c.steps.invariant.goes.ended ∙ sym (ok_at c.step.result _ at c.step.ensures.goes).ended ∙ is))
+
+pub returns-in-Err-clause-damaged : goal.returns-in-Err-clause-damaged
+returns-in-Err-clause-damaged g c t k is = damaged_after g.S.Seal.seal_of g.A.CodecFixed.SIZE _ _ g.D.Device.Tells (walk_of c.args.self.now) (g.D.Device.opened c.args.dev.now) (g.D.Device.time c.args.dev.now) (g.D.Device.faults c.args.dev.now)
+    (walk_of c.steps.self) (g.D.Device.opened c.steps.dev) (g.D.Device.time c.steps.dev) (g.D.Device.faults c.steps.dev) c.steps.invariant g.A.Codec.spelling g.A.Codec.accepted g.A.Codec.refusal c.step.result (walk_of c.step.new.self) (g.D.Device.opened c.step.new.dev) (g.D.Device.time c.step.new.dev) (g.D.Device.faults c.step.new.dev) c.step.ensures c.in-Err.e (let at : c.step.result ≡ Err c.in-Err.e = cc in at) t k (cc is)
+
+pub returns-in-Err-clause-refused : goal.returns-in-Err-clause-refused
+returns-in-Err-clause-refused g c t e is = refused_after g.S.Seal.seal_of g.A.CodecFixed.SIZE _ _ g.D.Device.Tells (walk_of c.args.self.now) (g.D.Device.opened c.args.dev.now) (g.D.Device.time c.args.dev.now) (g.D.Device.faults c.args.dev.now)
+    (walk_of c.steps.self) (g.D.Device.opened c.steps.dev) (g.D.Device.time c.steps.dev) (g.D.Device.faults c.steps.dev) c.steps.invariant g.A.Codec.spelling g.A.Codec.accepted g.A.Codec.refusal c.step.result (walk_of c.step.new.self) (g.D.Device.opened c.step.new.dev) (g.D.Device.time c.step.new.dev) (g.D.Device.faults c.step.new.dev) c.step.ensures c.in-Err.e (let at : c.step.result ≡ Err c.in-Err.e = cc in at) t e (cc is)
+
+pub returns-in-Err-clause-ends : goal.returns-in-Err-clause-ends
+returns-in-Err-clause-ends g c is = (let which = ends_after g.S.Seal.seal_of g.A.CodecFixed.SIZE _ _ g.D.Device.Tells (walk_of c.args.self.now) (g.D.Device.opened c.args.dev.now) (g.D.Device.time c.args.dev.now) (g.D.Device.faults c.args.dev.now)
+    (walk_of c.steps.self) (g.D.Device.opened c.steps.dev) (g.D.Device.time c.steps.dev) (g.D.Device.faults c.steps.dev) c.steps.invariant g.A.Codec.spelling g.A.Codec.accepted g.A.Codec.refusal c.step.result (walk_of c.step.new.self) (g.D.Device.opened c.step.new.dev) (g.D.Device.time c.step.new.dev) (g.D.Device.faults c.step.new.dev) c.step.ensures c.in-Err.e (let at : c.step.result ≡ Err c.in-Err.e = cc in at) is in elim which [ inl end ↦ inl end | inr has ↦ inr (c.in-Err.e, refl, has) ])
+
+pub returns-clause-damaged : goal.returns-clause-damaged
+returns-clause-damaged g c t k is = absurd (cc is)
+
+pub returns-clause-refused : goal.returns-clause-refused
+returns-clause-refused g c t e is = absurd (cc is)
+
+pub returns-clause-ends : goal.returns-clause-ends
+returns-clause-ends g c is = inl (sym c.steps.invariant.goes.ended ∙ is)

@@ -18,8 +18,9 @@ use Rattle.sealed_pages.proofs.Holding.{fit_size}
 use Rattle.sealed_pages.proofs.SlotLemmas.{times_next}
 use Rattle.segments.specs.Sections.{key_of}
 use Rattle.segments.specs.FixedWalking.{walk_of, place_of}
-use Rattle.segments.proofs.FixedEnds.{ends_all, ends_short}
-use Rattle.segments.proofs.FixedErrorSteps.{reader_read, reader_other}
+use Rattle.segments.proofs.FixedEnds.{ends_all, ends_short, short_owed}
+use Rattle.segments.proofs.FixedErrors.{runtime_of}
+use Rattle.segments.proofs.FixedErrorSteps.{reader_read, reader_other, reader_not_codec}
 use Rattle.blob_device.proofs.Results.{ok_with}
 use Rattle.segments.proofs.FixedRunning.{ok_at}
 use Rattle.segments.proofs.FixedReading.{here, reads_here, walk_read, steps_read, read_failed, item_steps}
@@ -91,15 +92,15 @@ pub end_at_page-requires-clause-between : goal.end_at_page-requires-clause-betwe
 end_at_page-requires-clause-between g c = c.requires.between
 
 pub end_at_page-requires-clause-last : goal.end_at_page-requires-clause-last
-end_at_page-requires-clause-last g c t owed =
+end_at_page-requires-clause-last g c t =
     let w = walk_of c.args.self.now in
     let r = place_of c.args.reading in
     let e = c.ensure.ensures in
     let more = reading c.ensure.new.self in
     let a = g.D.Device.time c.args.dev.now in
     let b = g.D.Device.time c.ensure.new.dev in
-    let page = c.in-Err-InvalidChecksum.page in
-    let is : IsErrOf c.ensure.result (InvalidChecksum page) = cc in
+    let page = c.in-InvalidChecksum.page in
+    let is : IsErrOf c.ensure.result (InvalidChecksum page) = (let at = c.in-Err.is in let same = c.in-InvalidChecksum.is in cc (at, same)) in
     let was = walk_read g.S.Seal.seal_of g.A.CodecFixed.SIZE _ _ w r more _ _ a b _ c.requires.over e.same e.replays e.unchanged e.reads in
     let h = here g.S.Seal.seal_of g.A.CodecFixed.SIZE _ _ w (record { section = r.section; position = r.position; reader = more }) _ (disk b) was in
     let key : r.reader.key ≡ key_of w.journal.sections r.section = sym e.same.key ∙ h.2.key in
@@ -111,8 +112,12 @@ end_at_page-requires-clause-last g c t owed =
     let here_short : IsShort g.S.Seal.seal_of h.0.page_size (disk b (key_of w.journal.sections r.section)).content (next_of r.reader) (missing_of r.reader c.SIZE.result) page =
     subst (λ (l : List ℕ). IsShort g.S.Seal.seal_of h.0.page_size l (next_of r.reader) (missing_of r.reader c.SIZE.result) page) content
     (subst (λ (P : ℕ). IsShort g.S.Seal.seal_of P (disk a r.reader.key).content (next_of r.reader) (missing_of r.reader c.SIZE.result) page) paged short) in
-    ends_short g.S.Seal.seal_of g.A.CodecFixed.SIZE _ _ w (record { section = r.section; position = r.position; reader = more }) _ (disk b) was (λ u x stands. stands.adopted) g.met.A.CodecFixed.fixed.at_least
-    (next_of r.reader) (missing_of r.reader c.SIZE.result) page (omega (arith, here_short.wanted.some, e.same.at, c.SIZE.ensures)) owed t here_short
+    let owed = short_owed g.S.Seal.seal_of g.A.CodecFixed.SIZE _ _ w (record { section = r.section; position = r.position; reader = more }) _ (disk b) was (λ u x stands. stands.adopted) g.met.A.CodecFixed.fixed.at_least
+    (next_of r.reader) (missing_of r.reader c.SIZE.result) page (omega (arith, here_short.wanted.some, e.same.at, e.same.size, h.2.blob_size, h.2.within, h.2.at)) t here_short in (
+      owed,
+      ends_short g.S.Seal.seal_of g.A.CodecFixed.SIZE _ _ w (record { section = r.section; position = r.position; reader = more }) _ (disk b) was (λ u x stands. stands.adopted) g.met.A.CodecFixed.fixed.at_least
+      (next_of r.reader) (missing_of r.reader c.SIZE.result) page (omega (arith, here_short.wanted.some, e.same.at, c.SIZE.ensures)) owed t here_short,
+    )
 
 pub returns-in-Ok-true : goal.returns-in-Ok-true
 returns-in-Ok-true g c =
@@ -124,25 +129,25 @@ returns-in-Ok-true g c =
     let b = g.D.Device.time c.ensure.new.dev in
     let is : c.ensure.result ≡ Ok true = cc in
     let was = walk_read g.S.Seal.seal_of g.A.CodecFixed.SIZE _ _ w r more _ _ a b _ c.requires.over e.same e.replays e.unchanged e.reads in
-    steps_read g.S.Seal.seal_of g.A.CodecFixed.SIZE _ _ w r more _ _ a b _ c.requires.over e.same e.replays e.unchanged e.reads g.A.Codec.spelling g.A.Codec.accepted c.take_item.result (walk_of c.take_item.new.self) _ b _ _ _ e.faults (ok_with c.take_item.result (ok_at c.ensure.result true is e.once))
+    steps_read g.S.Seal.seal_of g.A.CodecFixed.SIZE _ _ w r more _ _ a b _ c.requires.over e.same e.replays e.unchanged e.reads g.A.Codec.spelling g.A.Codec.accepted g.A.Codec.refusal c.take_item.result (walk_of c.take_item.new.self) _ b _ _ _ e.faults (ok_with c.take_item.result (ok_at c.ensure.result true is e.once))
     (item_steps g.S.Seal.seal_of g.A.CodecFixed.SIZE _ _ w (record { section = r.section; position = r.position; reader = more }) _ b was g.met.A.CodecFixed.fixed.at_least
-    (omega (arith, IfOk-at_ok _ is e.at_hand refl, c.SIZE.ensures)) e.within g.A.Codec.spelling g.A.Codec.accepted c.requires.going c.requires.between _ _ (omega arith) c.take_item.result (walk_of c.take_item.new.self)
-    c.take_item.ensures.given c.take_item.ensures.skipped c.take_item.ensures.goes c.take_item.ensures.stays c.take_item.ensures.cause)
+    (omega (arith, IfOk-at_ok _ is e.at_hand refl, c.SIZE.ensures)) e.within g.A.Codec.spelling g.A.Codec.accepted g.A.Codec.refusal c.requires.going c.requires.between _ _ (omega arith) c.take_item.result (walk_of c.take_item.new.self)
+    c.take_item.ensures.given c.take_item.ensures.skipped c.take_item.ensures.goes c.take_item.ensures.stays c.take_item.ensures.cause c.take_item.ensures.refused)
 
 pub returns-in-Ok-false : goal.returns-in-Ok-false
 returns-in-Ok-false g c =
     let e = c.ensure.ensures in
     steps_read g.S.Seal.seal_of g.A.CodecFixed.SIZE _ _ (walk_of c.args.self.now) (place_of c.args.reading) (reading c.ensure.new.self) _ _ (g.D.Device.time c.args.dev.now) (g.D.Device.time c.ensure.new.dev) _ c.requires.over e.same e.replays e.unchanged e.reads
-    g.A.Codec.spelling g.A.Codec.accepted c.end_section.result (walk_of c.end_section.new.self) _ _ _ _ _ e.faults (ok_with c.end_section.result (let is : c.ensure.result ≡ Ok false = cc in ok_at c.ensure.result false is e.once)) c.end_section.ensures
+    g.A.Codec.spelling g.A.Codec.accepted g.A.Codec.refusal c.end_section.result (walk_of c.end_section.new.self) _ _ _ _ _ e.faults (ok_with c.end_section.result (let is : c.ensure.result ≡ Ok false = cc in ok_at c.ensure.result false is e.once)) c.end_section.ensures
 
-pub returns-in-Err-InvalidChecksum : goal.returns-in-Err-InvalidChecksum
-returns-in-Err-InvalidChecksum g c =
+pub returns-in-InvalidChecksum : goal.returns-in-InvalidChecksum
+returns-in-InvalidChecksum g c =
     let e = c.ensure.ensures in
     steps_read g.S.Seal.seal_of g.A.CodecFixed.SIZE _ _ (walk_of c.args.self.now) (place_of c.args.reading) (reading c.ensure.new.self) _ _ (g.D.Device.time c.args.dev.now) (g.D.Device.time c.ensure.new.dev) _ c.requires.over e.same e.replays e.unchanged e.reads
-    g.A.Codec.spelling g.A.Codec.accepted c.end_at_page.result (walk_of c.end_at_page.new.self) _ _ _ _ _ e.faults (ok_with c.end_at_page.result (let is : IsErrOf c.ensure.result (InvalidChecksum c.in-Err-InvalidChecksum.page) = cc in e.judged c.in-Err-InvalidChecksum.page is)) c.end_at_page.ensures
+    g.A.Codec.spelling g.A.Codec.accepted g.A.Codec.refusal c.end_at_page.result (walk_of c.end_at_page.new.self) _ _ _ _ _ e.faults (ok_with c.end_at_page.result (let is : IsErrOf c.ensure.result (InvalidChecksum c.in-InvalidChecksum.page) = (let at = c.in-Err.is in let same = c.in-InvalidChecksum.is in cc (at, same)) in e.judged c.in-InvalidChecksum.page is)) c.end_at_page.ensures
 
-pub returns-in-Err : goal.returns-in-Err
-returns-in-Err g c =
+pub returns-in_default : goal.returns-in_default
+returns-in_default g c =
     let w = walk_of c.args.self.now in
     let r = place_of c.args.reading in
     let e = c.ensure.ensures in
@@ -150,6 +155,6 @@ returns-in-Err g c =
     let a = g.D.Device.time c.args.dev.now in
     let b = g.D.Device.time c.ensure.new.dev in
     let was = walk_read g.S.Seal.seal_of g.A.CodecFixed.SIZE _ _ w r more _ _ a b _ c.requires.over e.same e.replays e.unchanged e.reads in
-    steps_read g.S.Seal.seal_of g.A.CodecFixed.SIZE _ _ w r more _ _ a b _ c.requires.over e.same e.replays e.unchanged e.reads g.A.Codec.spelling g.A.Codec.accepted (Err c.from.result) w _ b (g.D.Device.faults c.args.dev.now) (g.D.Device.faults c.args.dev.now) (g.D.Device.faults c.ensure.new.dev) (omega arith) tt
-    (read_failed g.S.Seal.seal_of g.A.CodecFixed.SIZE _ _ w (record { section = r.section; position = r.position; reader = more }) _ b was g.A.Codec.spelling g.A.Codec.accepted c.requires.between _ _ e.faults c.from.result
-    (reader_other c.in-Err.e c.from.result c.from.ensures) (reader_read c.in-Err.e c.from.result _ _ _ c.from.ensures c.in-Err.ensures.cause))
+    steps_read g.S.Seal.seal_of g.A.CodecFixed.SIZE _ _ w r more _ _ a b _ c.requires.over e.same e.replays e.unchanged e.reads g.A.Codec.spelling g.A.Codec.accepted g.A.Codec.refusal (Err c.from.result) w _ b (g.D.Device.faults c.args.dev.now) (g.D.Device.faults c.args.dev.now) (g.D.Device.faults c.ensure.new.dev) (omega arith) tt
+    (read_failed g.S.Seal.seal_of g.A.CodecFixed.SIZE _ _ w (record { section = r.section; position = r.position; reader = more }) _ b was g.A.Codec.spelling g.A.Codec.accepted g.A.Codec.refusal c.requires.between _ _ e.faults c.from.result
+    (reader_other c.in-Err.e c.from.result c.from.ensures) (λ t k is. c.in_default.not-InvalidChecksum k (runtime_of c.in-Err.e (InvalidChecksum k) (sym c.from.ensures ∙ is))) (λ t x at. absurd (reader_not_codec c.in-Err.e c.from.result c.from.ensures x at)) (reader_read c.in-Err.e c.from.result _ _ _ c.from.ensures c.in-Err.ensures.cause))

@@ -30,9 +30,9 @@ next_one-requires-clause-more g c drained =
 pub returns-in-Some : goal.returns-in-Some
 returns-in-Some g c =
     let was : c.args.self.now.reading ≡ Some c.in-Some.reading = cc in
-    steps_same g.S.Seal.seal_of g.A.CodecFixed.SIZE _ _ g.A.Codec.spelling g.A.Codec.accepted _ _ _ _ _ _ _ _ (λ i. record (walk_of c.args.self.now) { place = option_map place_of (was i) }) c.read.ensures
+    steps_same g.S.Seal.seal_of g.A.CodecFixed.SIZE _ _ g.A.Codec.spelling g.A.Codec.accepted g.A.Codec.refusal _ _ _ _ _ _ _ _ (λ i. record (walk_of c.args.self.now) { place = option_map place_of (was i) }) c.read.ensures
 
 pub returns-in-None : goal.returns-in-None
 returns-in-None g c =
     let was : c.args.self.now.reading ≡ c.take.new.self = cc in
-    steps_same g.S.Seal.seal_of g.A.CodecFixed.SIZE _ _ g.A.Codec.spelling g.A.Codec.accepted _ _ _ _ _ _ _ _ (λ i. record (walk_of c.args.self.now) { place = option_map place_of (was i) }) c.next_one.ensures
+    steps_same g.S.Seal.seal_of g.A.CodecFixed.SIZE _ _ g.A.Codec.spelling g.A.Codec.accepted g.A.Codec.refusal _ _ _ _ _ _ _ _ (λ i. record (walk_of c.args.self.now) { place = option_map place_of (was i) }) c.next_one.ensures
