@@ -13,7 +13,7 @@ use Rattle.segments.specs.declared.buffer.SectionBuffer as buffer
 use Rattle.segments.specs.Setting.{Setting}
 use Rattle.segments.specs.FixedLists.{Lists, OwesHeld, OwesSettled, AreSealed, UnopenedLater, IsJournal}
 use Rattle.segments.specs.Sections.{Sections, key_of, IsHeld}
-use Rattle.segments.specs.FixedReplay.{Walk, IsDrained, IsWalk, WalksOver}
+use Rattle.segments.specs.FixedReplay.{Walk, IsDrained, HasWalk, IsWalk, WalksOver}
 use Rattle.segments.proofs.FixedWalks.{is_some, none_in}
 
 -- a position that is not past the end is within the bytes
@@ -35,6 +35,7 @@ begins_walk seal size g gives j s p opened d is fits = record {
     come_to = λ r here. absurd (cc here);
     from_start = λ n here. (let at : s ≡ n = cc here in omega (arith, at));
     start_within = λ ahead u held. position_fits size (size_of (shown u)) p (fits u held);
+    start_kept = λ fine over. absurd (over.not_ahead over.begun);
     ends = λ ended. absurd (cc ended);
   };
   disk = λ t. record {
@@ -44,6 +45,17 @@ begins_walk seal size g gives j s p opened d is fits = record {
     place = λ r here. absurd (cc here);
   };
 }
+
+-- a replay that was drained, where it has not failed, has gone over its start, which is within its section
+pub finished_start : {F S : Type 0} {gs : _} (size : ℕ) (w : Walk F (PageBlob S gs)) (j : Lists F (PageBlob S gs)) → HasWalk size w → w.failed ≡ false → IsDrained w → j.sections ≡ w.journal.sections
+    → (u : PageBlob S gs) → j.sections.held w.start_section ≡ Some u → w.start_position * size ≤ size_of (shown u)
+finished_start size w j walk fine drained same u held =
+    let here : w.journal.sections.held w.start_section ≡ Some u = (λ i. (sym same i).held w.start_section) ∙ held in
+    walk.start_kept fine (record {
+      begun = omega arith;
+      not_ahead = λ ahead. drained.last w.start_section (is_some (w.journal.sections.held w.start_section) u here) ahead;
+      not_in = λ there. none_in w.place (λ r. r.section ≡ w.start_section) drained.between there;
+    }) u here
 
 -- a replay that was drained, where it has not failed, has gone over the sections that owe no replay any more
 pub finished_sealed : {F S : Type 0} {gs : _} (seal : List ℕ → ℕ) (size : ℕ) (w : Walk F (PageBlob S gs)) (j : Lists F (PageBlob S gs)) (d : Disk) → WalksOver seal size w d → w.failed ≡ false → IsDrained w

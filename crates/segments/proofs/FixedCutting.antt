@@ -1,7 +1,7 @@
 -- A replay of a fixed journal cuts the section that it comes to the end of: the step that this is.
 use Rattle.std.specs.Prelude.{◌≡◌, ◌⊎◌, ℕ, ◌+◌, ◌*◌, ◌/◌, ◌%◌, ◌^◌, ◌<◌, ◌≤◌, cond, Bool, true, false, List, length, take, IsTrue, IsSomeAnd, Option, None, Some, Result, Ok, Err, OnErr}
 use Rattle.std.proofs.Common.{inl, inr, refl, sym, ◌∙◌, ap, subst, arith, length-take}
-use Rattle.std.proofs.lemmas.Nat.{mod-mul-add, div-mul-add}
+use Rattle.std.proofs.lemmas.Nat.{mod-mul-add, div-mul-add, mul-le}
 use Rattle.blob_device.specs.Disk.{Key, Blob, past}
 use Rattle.blob_device.specs.Opened.{OpenedList, reads_of}
 use Rattle.blob_device.specs.Timeline.{Timeline, disk, OnlyAt}
@@ -180,8 +180,9 @@ module _ {F S : Type 0} {gs : _} (seal : List ℕ → ℕ) (size : ℕ) (g : buf
         later = later;
       }
 
-      pub cut_ended : reads_of (after (key_of w.journal.sections r.section)) ≤ reads_of (before (key_of w.journal.sections r.section)) + 1 → Steps seal size g gives spelling accepted refusal told (Ok None) (standing w r) new before after a b few many
-      cut_ended few_begun = call_ended seal size g gives spelling accepted refusal told s (standing w r) new before after a b few many called v answered r refl refl none_new only.next pos (λ t. (last t).last)
+      pub cut_ended : (r.section ≡ w.start_section → w.start_position ≤ r.position) → reads_of (after (key_of w.journal.sections r.section)) ≤ reads_of (before (key_of w.journal.sections r.section)) + 1 → Steps seal size g gives spelling accepted refusal told (Ok None) (standing w r) new before after a b few many
+      cut_ended begun few_begun = call_ended seal size g gives spelling accepted refusal told s (standing w r) new before after a b few many called v answered r refl refl none_new only.next pos
+          (λ at. omega (arith, mul-le w.start_position size r.position size (begun at) (omega arith), cut.size)) (λ t. (last t).last)
           (omega (arith, few_begun, count_here (standing w r) r u refl held, ap {B = ℕ} (λ (o : Bool). cond o 1 0) owed))
 
       pub cut_refused : r.section ≡ w.start_section → r.position < w.start_position → Steps seal size g gives spelling accepted refusal told (Err (ItemOutOfRange w.start_position)) (standing w r) new before after a b few many

@@ -80,6 +80,7 @@ fails seal size g gives w opened d is = record {
     come_to = is.walk.come_to;
     from_start = is.walk.from_start;
     start_within = is.walk.start_within;
+    start_kept = λ no. absurd (cc no);
     ends = λ e. refl;
   };
   disk = λ t. record {

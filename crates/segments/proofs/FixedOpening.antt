@@ -32,7 +32,8 @@ use Rattle.segments.proofs.FixedSteps.{Called, call_failed, call_passed}
 use Rattle.segments.proofs.FixedWalks.{IsBehind, IsReached, MayCut, is_some, same_some, none_in, key_new, first_same, held_back, held_on, kept_other, later_one}
 use Rattle.segments.proofs.FixedWalksOn.{IsKnownAgain, replaying_start, replaying_here, moments_of}
 
-first_here : {F B : Type 0} (w : Walk F B) (s : ℕ) → s ≡ w.start_section → first_of w s ≡ w.start_position
+-- the start's section is given from the start on
+pub first_here : {F B : Type 0} (w : Walk F B) (s : ℕ) → s ≡ w.start_section → first_of w s ≡ w.start_position
 first_here w s is = ap (λ (o : Bool). cond o w.start_position 0) (eq-eqb s w.start_section is)
 
 first_there : {F B : Type 0} (w : Walk F B) (s : ℕ) → (s ≡ w.start_section → ⊥) → first_of w s ≡ 0
@@ -293,8 +294,11 @@ module _ {F S : Type 0} {gs : _} (seal : List ℕ → ℕ) (size : ℕ) (g : buf
       pub begin_begun : reads_of (after (key_of w.journal.sections s)) ≤ reads_of (before (key_of w.journal.sections s)) → Steps seal size g gives spelling accepted refusal told (Ok None) w new before after a b few many
       unfolding called
       begin_begun none_begun = call_passed seal size g gives spelling accepted refusal told s w new before after a b few many called v
-          (record { again = again; failed = only.failed; ended = ended; later = later }) onward nearer left kept_all new_in reads_here
+          (record { again = again; failed = only.failed; ended = ended; later = later }) (λ fine out at. absurd (out new_here)) onward nearer left kept_all new_in reads_here
         where
+          new_here : IsIn new s
+          new_here = subst (λ (o : Option Place). IsSomeAnd o (λ y. y.section ≡ s)) (sym place_new) refl
+
           new_in : (x : ℕ) → IsIn new x → x ≡ s
           new_in x there = sym (subst (λ (o : Option Place). IsSomeAnd o (λ y. y.section ≡ x)) place_new there)
 

@@ -3,7 +3,7 @@ use Rattle.std.specs.Prelude.{◌≡◌, ◌≢◌, ◌⊎◌, ◌↔◌, ℕ, �
 use Rattle.std.specs.Result.{IsErrOf}
 use Rattle.std.proofs.Common.{inl, inr, refl, sym, ◌∙◌, ap, subst, arith, length-drop}
 use Rattle.std.proofs.lemmas.Bool.{cases_eq, cases_lt}
-use Rattle.std.proofs.lemmas.Nat.{le-div}
+use Rattle.std.proofs.lemmas.Nat.{le-div, mul-le}
 use Rattle.blob_device.specs.Disk.{Key, Blob, Disk}
 use Rattle.blob_device.specs.Opened.{Opened, OpenedList, reads_of}
 use Rattle.blob_device.specs.Timeline.{Timeline, disk, Each}
@@ -194,6 +194,7 @@ module _ {F S : Type 0} {gs : _} (seal : List ℕ → ℕ) (size : ℕ) (g : buf
             subst (λ (y : Place). (w.start_section ≤ y.section) × (IsAhead w y.section → ⊥)) at (was.walk.come_to r refl));
         from_start = was.walk.from_start;
         start_within = was.walk.start_within;
+        start_kept = λ fine gone. was.walk.start_kept fine (record { begun = gone.begun; not_ahead = gone.not_ahead; not_in = λ there. gone.not_in there });
         ends = was.walk.ends;
       };
       disk = λ t. subst (WalksOver seal size (standing w on)) (sym (same_disk t)) (walks_on t);
@@ -373,8 +374,10 @@ module _ {F S : Type 0} {gs : _} (seal : List ℕ → ℕ) (size : ℕ) (g : buf
           absurd_near never s held (inl ahead) is = never (s, (held, inl ahead), is)
           absurd_near never s held (inr there) is = none_in w.place (λ x. x.section ≡ s) none there
 
-      pub end_uncut : 1 ≤ size → (told → EndsAt seal size (standing w r) (disk now) r false) → Steps seal size g gives spelling accepted refusal told (Ok None) (standing w r) w opened opened now now few many
-      end_uncut pos ends = call_ended seal size g gives spelling accepted refusal told r.section (standing w r) w opened opened now now few many no_call (here r opened (disk now) was).0 (not_cut ends) r refl refl none refl pos (λ t. (ends t).last) (omega arith)
+      pub end_uncut : 1 ≤ size → (told → EndsAt seal size (standing w r) (disk now) r false) → (r.section ≡ w.start_section → w.start_position ≤ r.position)
+          → Steps seal size g gives spelling accepted refusal told (Ok None) (standing w r) w opened opened now now few many
+      end_uncut pos ends begun = call_ended seal size g gives spelling accepted refusal told r.section (standing w r) w opened opened now now few many no_call (here r opened (disk now) was).0 (not_cut ends) r refl refl none refl pos
+          (λ at. omega (arith, mul-le w.start_position size r.position size (begun at) (omega arith), (here r opened (disk now) was).2.within)) (λ t. (ends t).last) (omega arith)
 
       pub end_refused : 1 ≤ size → (told → EndsAt seal size (standing w r) (disk now) r false) → r.section ≡ w.start_section → r.position < w.start_position
           → Steps seal size g gives spelling accepted refusal told (Err (ItemOutOfRange w.start_position)) (standing w r) w opened opened now now few many
@@ -414,6 +417,7 @@ module _ {F S : Type 0} {gs : _} (seal : List ℕ → ℕ) (size : ℕ) (g : buf
               subst (λ (y : Place). (w.start_section ≤ y.section) × (IsAhead w y.section → ⊥)) at (was.walk.come_to r refl));
           from_start = was.walk.from_start;
           start_within = was.walk.start_within;
+          start_kept = λ fine gone. was.walk.start_kept fine (record { begun = gone.begun; not_ahead = gone.not_ahead; not_in = λ there. gone.not_in there });
           ends = was.walk.ends;
         };
         disk = λ t. (let is = was.disk t in record {

@@ -1,11 +1,13 @@
 -- The steps by which a replay of a fixed journal begins a section, or comes to its end.
-use Rattle.std.specs.Prelude.{◌≡◌, ◌≢◌, ◌⊎◌, ◌↔◌, ℕ, ◌+◌, ◌*◌, ◌/◌, ◌^◌, ◌<◌, ◌≤◌, true, List, length, IsSomeAnd, Option, None, Some, Ok, Err}
+use Rattle.std.specs.Prelude.{◌≡◌, ◌≢◌, ◌⊎◌, ◌↔◌, ℕ, ◌+◌, ◌*◌, ◌/◌, ◌^◌, ◌<◌, ◌≤◌, true, false, List, length, IsSomeAnd, Option, None, Some, Ok, Err}
 use Rattle.std.proofs.Common.{inl, inr, refl, sym, ◌∙◌, ap, subst, arith}
 use Rattle.std.proofs.lemmas.Bool.{cases_eq}
 use Rattle.blob_device.specs.Disk.{Key, Blob}
 use Rattle.blob_device.specs.Opened.{OpenedList, reads_of}
 use Rattle.blob_device.specs.Timeline.{Timeline, disk, Always, Each}
 use Rattle.sealed_pages.specs.declared.page_blob.PageBlob.{PageBlob}
+use Rattle.sealed_pages.specs.Shown.{shown}
+use Rattle.sealed_pages.specs.Buffer.{size_of}
 use Rattle.value_codec.specs.declared.codec.Error as codec
 use Rattle.segments.specs.declared.buffer.SectionBuffer as buffer
 use Rattle.segments.specs.declared.journal.Error.{Error}
@@ -19,10 +21,9 @@ use Rattle.segments.specs.FixedReplay.{Place, Walk, IsAhead, IsIn, IsLeft, IsWal
 use Rattle.segments.specs.FixedStepping.{word, sections_ahead, bytes_ahead, way_of, reads_left, ReadsOnce, GoesOn, Steps}
 use Rattle.segments.proofs.KeyLemmas.{keys_differ}
 use Rattle.segments.proofs.FixedCounts.{count_other, count_over}
-use Rattle.segments.proofs.FixedEnding.{fails}
 use Rattle.segments.proofs.FixedKept.{short_item}
 use Rattle.segments.proofs.FixedWalks.{OnlyOne, IsBehind, IsReached, is_some, none_in, key_new, blob_other, held_back, held_on, kept_other, not_ahead, not_near, left_later, left_all}
-use Rattle.segments.proofs.FixedWalksOn.{walk_broken, IsKnownAgain, walk_on}
+use Rattle.segments.proofs.FixedWalksOn.{walk_broken, IsKnownAgain, walk_on, walk_refused}
 
 module _ {F S V : Type 0} {gs : _} (seal : List ℕ → ℕ) (size : ℕ) (g : buffer.Ghosts (PageBlob S gs)) (gives : F → Setting) (spelling : V → List ℕ) (accepted : V → Unit {0} → Type 0) (refusal : List ℕ → Unit {0} → Option codec.Error) (told : Type 0)
     (s : ℕ) (old new : Walk F (PageBlob S gs)) (before after : OpenedList) (a b : Timeline) (few many : ℕ) where
@@ -103,8 +104,12 @@ module _ {F S V : Type 0} {gs : _} (seal : List ℕ → ℕ) (size : ℕ) (g : b
       ends : new.ended ≡ true → new.failed ≡ true
       ends is = answer.failed ∙ call.was.walk.ends (sym answer.ended ∙ is)
 
-      on : IsWalk g gives seal size told new after (disk b)
-      on = walk_on seal size g gives old new before after (disk a) (disk b) call.was s v call.one call.behind answer.again call.over answer.failed ends call.from
+      -- A start in the section is within it.
+      abbrev pub StartsIn : Type 0
+      StartsIn = new.failed ≡ false → (IsIn new s → ⊥) → s ≡ new.start_section → new.start_position * size ≤ size_of (shown v)
+
+      on : StartsIn → IsWalk g gives seal size told new after (disk b)
+      on start = walk_on seal size g gives old new before after (disk a) (disk b) call.was s v call.one call.behind answer.again call.over call.from answer.failed ends start
 
       goes_on : ((t : ℕ) → IsAhead new t ⊎ IsIn new t → IsAhead old t ⊎ IsIn old t) → GoesOn old new
       goes_on onward = record {
@@ -118,13 +123,13 @@ module _ {F S V : Type 0} {gs : _} (seal : List ℕ → ℕ) (size : ℕ) (g : b
       }
 
       -- It gives nothing, and comes nearer.
-      pub call_passed : ((t : ℕ) → IsAhead new t ⊎ IsIn new t → IsAhead old t ⊎ IsIn old t) → way_of new < way_of old
+      pub call_passed : StartsIn → ((t : ℕ) → IsAhead new t ⊎ IsIn new t → IsAhead old t ⊎ IsIn old t) → way_of new < way_of old
           → (told → (t q : ℕ) → IsLeft seal size new (disk b) t q ↔ IsLeft seal size old (disk a) t q)
           → (told → (t : ℕ) → IsAhead new t ⊎ IsIn new t → kept_bytes seal size new (disk b) t ≡ kept_bytes seal size old (disk a) t)
           → ((x : ℕ) → IsIn new x → x ≡ s) → reads_of (after (key_of old.journal.sections s)) + reads_left new s ≤ reads_of (before (key_of old.journal.sections s)) + reads_left old s
           → Steps seal size g gives spelling accepted refusal told (Ok None) old new before after a b few many
-      call_passed onward nearer left kept new_in here = record {
-        over = on;
+      call_passed start onward nearer left kept new_in here = record {
+        over = on start;
         broken = tt;
         goes = goes_on onward;
         same = call.one.same;
@@ -174,9 +179,9 @@ module _ {F S V : Type 0} {gs : _} (seal : List ℕ → ℕ) (size : ℕ) (g : b
         ]
 
         -- The section is at its end.
-        pub call_ended : (told → length (kept_bytes seal size old (disk a) s) / size ≡ r.position) → reads_of (after (key_of old.journal.sections s)) ≤ reads_of (before (key_of old.journal.sections s)) + reads_left old s
+        pub call_ended : (s ≡ old.start_section → old.start_position * size ≤ size_of (shown v)) → (told → length (kept_bytes seal size old (disk a) s) / size ≡ r.position) → reads_of (after (key_of old.journal.sections s)) ≤ reads_of (before (key_of old.journal.sections s)) + reads_left old s
             → Steps seal size g gives spelling accepted refusal told (Ok None) old new before after a b few many
-        call_ended last reads = call_passed onward_end nearer_end
+        call_ended start last reads = call_passed (λ fine out at. omega (arith, start (at ∙ call.one.same.section), ap (λ (n : ℕ). n * size) call.one.same.position)) onward_end nearer_end
             (λ t. left_all seal size s old new (disk a) (disk b) call.one call.behind none t answer.ended (never (last t)))
             (λ t q at. kept_other seal size s old new (disk a) (disk b) call.one t q (λ is. not_near seal size s old new (disk a) (disk b) call.one call.behind none (subst (λ (k : ℕ). IsAhead new k ⊎ IsIn new k) is at)))
             (λ x there. absurd (none_in new.place (λ y. y.section ≡ x) none there)) (omega (arith, reads, count_over new s none (not_ahead seal size s old new (disk a) (disk b) call.one call.behind none)))
@@ -186,7 +191,7 @@ module _ {F S V : Type 0} {gs : _} (seal : List ℕ → ℕ) (size : ℕ) (g : b
             → Steps seal size g gives spelling accepted refusal told (Err (ItemOutOfRange old.start_position)) old new before after a b few many
         call_refused last first less = record {
           over = tt;
-          broken = fails seal size g gives new after (disk b) on;
+          broken = walk_refused seal size g gives old new before after (disk a) (disk b) call.was s v call.one call.behind answer.again call.over call.from none;
           goes = tt;
           same = call.one.same;
           nearer = λ is. absurd (cc is);

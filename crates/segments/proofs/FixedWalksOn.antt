@@ -77,6 +77,7 @@ module _ {F S : Type 0} {gs : _} (seal : List ℕ → ℕ) (size : ℕ) where
           come_to = λ r is. absurd (cc (none, is));
           from_start = from;
           start_within = λ ahead u held. start ahead u held;
+          start_kept = λ no. absurd (cc no);
           ends = λ is. refl;
         }
           where
@@ -107,108 +108,144 @@ module _ {F S : Type 0} {gs : _} (seal : List ℕ → ℕ) (size : ℕ) where
       pub place : (r : Place) → new.place ≡ Some r → (r.section ≡ s) × StandsIn size new r v × (told → ReadsIn seal new e r v)
       pub begun : IsIn new s → new.start_section ≤ s
 
-    pub walk_on : (s : ℕ) (v : PageBlob S gs) → OnlyOne seal size told s old new d e → IsBehind seal size s old new → IsKnownAgain s v → IsOver g gives told new.journal.sections after e
-        → new.failed ≡ old.failed → (new.ended ≡ true → new.failed ≡ true) → ((n : ℕ) → new.next_section ≡ Some n → new.start_section ≤ n)
-        → IsWalk g gives seal size told new after e
-    walk_on s v one behind again over failed ends from = record { over = over; walk = walk; disk = walks }
-      where
-        small_of : (q : ℕ) → IsHeld new.journal.sections q → q < 2 ^ 64
-        small_of q held = over.opened_list.number q (inl held)
+    module _ (s : ℕ) (v : PageBlob S gs) (one : OnlyOne seal size told s old new d e) (behind : IsBehind seal size s old new) (again : IsKnownAgain s v) (over : IsOver g gives told new.journal.sections after e)
+        (from : (n : ℕ) → new.next_section ≡ Some n → new.start_section ≤ n) where
+      small_of : (q : ℕ) → IsHeld new.journal.sections q → q < 2 ^ 64
+      small_of q held = over.opened_list.number q (inl held)
 
-        in_s : (r : Place) → new.place ≡ Some r → IsIn new s
-        in_s r is = subst (λ (o : Option Place). IsSomeAnd o (λ x. x.section ≡ s)) (sym is) (again.place r is).0
+      in_s : (r : Place) → new.place ≡ Some r → IsIn new s
+      in_s r is = subst (λ (o : Option Place). IsSomeAnd o (λ x. x.section ≡ s)) (sym is) (again.place r is).0
 
-        same_v : (q : ℕ) (u : PageBlob S gs) → q ≡ s → new.journal.sections.held q ≡ Some u → u ≡ v
-        same_v q u at held = same_some (new.journal.sections.held s) v u again.held (subst (λ (k : ℕ). new.journal.sections.held k ≡ Some u) at held)
+      same_v : (q : ℕ) (u : PageBlob S gs) → q ≡ s → new.journal.sections.held q ≡ Some u → u ≡ v
+      same_v q u at held = same_some (new.journal.sections.held s) v u again.held (subst (λ (k : ℕ). new.journal.sections.held k ≡ Some u) at held)
 
-        settles : (q : ℕ) (u : PageBlob S gs) → new.journal.sections.held q ≡ Some u → IsTrue (new.journal.unrecovered q) → u.settled ≡ size_of (shown u)
-        settles q u held owed = elim (cases_eq q s) [
-          | inl at ↦ subst (λ (x : PageBlob S gs). x.settled ≡ size_of (shown x)) (sym (same_v q u at held))
-              (again.settled (subst (λ (k : ℕ). IsTrue (old.journal.unrecovered k)) at (subst IsTrue (one.same.unrecovered q) owed)))
-          | inr other ↦ was.walk.owes_settled.settled q u (sym (one.others q other).held ∙ held) (subst IsTrue (one.same.unrecovered q) owed)
-        ]
+      settles : (q : ℕ) (u : PageBlob S gs) → new.journal.sections.held q ≡ Some u → IsTrue (new.journal.unrecovered q) → u.settled ≡ size_of (shown u)
+      settles q u held owed = elim (cases_eq q s) [
+        | inl at ↦ subst (λ (x : PageBlob S gs). x.settled ≡ size_of (shown x)) (sym (same_v q u at held))
+            (again.settled (subst (λ (k : ℕ). IsTrue (old.journal.unrecovered k)) at (subst IsTrue (one.same.unrecovered q) owed)))
+        | inr other ↦ was.walk.owes_settled.settled q u (sym (one.others q other).held ∙ held) (subst IsTrue (one.same.unrecovered q) owed)
+      ]
 
-        holds : new.failed ≡ false → (q : ℕ) → IsTrue (new.journal.unrecovered q) → IsHeld new.journal.sections q
-        holds fine q owed = elim (cases_eq q s) [
-          | inl at ↦ subst (IsHeld new.journal.sections) (sym at) (is_some (new.journal.sections.held s) v again.held)
-          | inr other ↦ held_on seal size s old new d e one q other ((was.walk.owes_held (sym failed ∙ fine)).held q (subst IsTrue (one.same.unrecovered q) owed))
-        ]
+      start : IsAhead new new.start_section → (u : PageBlob S gs) → new.journal.sections.held new.start_section ≡ Some u → new.start_position * size ≤ size_of (shown u)
+      start ahead u held = elim (cases_eq new.start_section s) [
+        | inl at ↦ absurd (again.not_ahead (subst (IsAhead new) at ahead))
+        | inr other ↦
+            let was_ahead : IsAhead old old.start_section = subst (IsAhead old) one.same.section ((behind.ahead new.start_section (small_of new.start_section (is_some (new.journal.sections.held new.start_section) u held))).0 ahead).0 in
+            let was_held : old.journal.sections.held old.start_section ≡ Some u = subst (λ (k : ℕ). old.journal.sections.held k ≡ Some u) one.same.section (sym (one.others new.start_section other).held ∙ held) in
+            omega (arith, was.walk.start_within was_ahead u was_held, ap (λ (n : ℕ). n * size) one.same.position)
+      ]
 
-        start : IsAhead new new.start_section → (u : PageBlob S gs) → new.journal.sections.held new.start_section ≡ Some u → new.start_position * size ≤ size_of (shown u)
-        start ahead u held = elim (cases_eq new.start_section s) [
-          | inl at ↦ absurd (again.not_ahead (subst (IsAhead new) at ahead))
-          | inr other ↦
-              let was_ahead : IsAhead old old.start_section = subst (IsAhead old) one.same.section ((behind.ahead new.start_section (small_of new.start_section (is_some (new.journal.sections.held new.start_section) u held))).0 ahead).0 in
-              let was_held : old.journal.sections.held old.start_section ≡ Some u = subst (λ (k : ℕ). old.journal.sections.held k ≡ Some u) one.same.section (sym (one.others new.start_section other).held ∙ held) in
-              omega (arith, was.walk.start_within was_ahead u was_held, ap (λ (n : ℕ). n * size) one.same.position)
-        ]
+      blob_same : told → (q : ℕ) (u : PageBlob S gs) → q ≢ s → old.journal.sections.held q ≡ Some u → e (key_of new.journal.sections q) ≡ d (key_of old.journal.sections q)
+      blob_same tells q u other held = blob_other seal size s old new d e one tells q other (is_some (old.journal.sections.held q) u held)
 
-        walk : HasWalk size new
+      from_v : (q : ℕ) (u : PageBlob S gs) → q ≡ s → new.journal.sections.held q ≡ Some u → IsSealed seal (shown v) (e (key_of new.journal.sections s)) × (size_of (shown v) % size ≡ 0)
+          → IsSealed seal (shown u) (e (key_of new.journal.sections q)) × (size_of (shown u) % size ≡ 0)
+      from_v q u at held has =
+          subst (λ (k : ℕ). IsSealed seal (shown u) (e (key_of new.journal.sections k)) × (size_of (shown u) % size ≡ 0)) (sym at)
+          (subst (λ (x : PageBlob S gs). IsSealed seal (shown x) (e (key_of new.journal.sections s)) × (size_of (shown x) % size ≡ 0)) (sym (same_v q u at held)) has)
+
+      sound : told → (q : ℕ) (u : PageBlob S gs) → new.journal.sections.held q ≡ Some u → new.journal.unrecovered q ≡ false → IsSealed seal (shown u) (e (key_of new.journal.sections q)) × (size_of (shown u) % size ≡ 0)
+      sound tells q u held free = elim (cases_eq q s) [
+        | inl at ↦ from_v q u at held (again.sealed tells (subst (λ (k : ℕ). old.journal.unrecovered k ≡ false) at (sym (one.same.unrecovered q) ∙ free)))
+        | inr other ↦
+            let held_old : old.journal.sections.held q ≡ Some u = sym (one.others q other).held ∙ held in
+            let free_old : old.journal.unrecovered q ≡ false = sym (one.same.unrecovered q) ∙ free in
+            (subst (IsSealed seal (shown u)) (sym (blob_same tells q u other held_old)) ((was.disk tells).sealed.sealed q u held_old free_old), (was.disk tells).sealed.whole q u held_old free_old)
+      ]
+
+      gone_old : (q : ℕ) → q ≢ s → IsHeld old.journal.sections q → IsGoneOver new q → IsGoneOver old q
+      gone_old q other is_held over_it = record {
+        begun = subst (λ (n : ℕ). n ≤ q) one.same.section over_it.begun;
+        not_ahead = λ ahead. over_it.not_ahead ((behind.ahead q (one.numbers q is_held)).1 (ahead, behind.later q is_held ahead other));
+        not_in = λ there. other (behind.in_old q there);
+      }
+
+      -- It gave an error, and stands nowhere.
+      pub walk_refused : new.place ≡ None → IsWalk g gives seal size told (failing new) after e
+      walk_refused none = record {
+        over = over;
         walk = record {
           owes_settled = record { settled = settles };
-          owes_held = λ fine. record { held = holds fine };
-          place = λ r is. subst (λ (o : Option (PageBlob S gs)). IsSomeAnd o (StandsIn size new r)) (sym (ap new.journal.sections.held (again.place r is).0 ∙ again.held)) (again.place r is).1;
-          come_to = λ r is. (
-            subst (λ (k : ℕ). new.start_section ≤ k) (sym (again.place r is).0) (again.begun (in_s r is)),
-            λ ahead. again.not_ahead (subst (IsAhead new) (again.place r is).0 ahead),
-          );
+          owes_held = λ no. absurd (cc no);
+          place = λ r is. absurd (cc (none, is));
+          come_to = λ r is. absurd (cc (none, is));
           from_start = from;
           start_within = start;
-          ends = ends;
-        }
+          start_kept = λ no. absurd (cc no);
+          ends = λ is. refl;
+        };
+        disk = λ tells. record {
+          sealed = record { sealed = λ q u held free. (sound tells q u held free).0; whole = λ q u held free. (sound tells q u held free).1 };
+          gone_over = λ no. absurd (cc no);
+          unopened = λ no. absurd (cc no);
+          place = λ r is. absurd (cc (none, is));
+        };
+      }
 
-        blob_same : told → (q : ℕ) (u : PageBlob S gs) → q ≢ s → old.journal.sections.held q ≡ Some u → e (key_of new.journal.sections q) ≡ d (key_of old.journal.sections q)
-        blob_same tells q u other held = blob_other seal size s old new d e one tells q other (is_some (old.journal.sections.held q) u held)
+      pub walk_on : new.failed ≡ old.failed → (new.ended ≡ true → new.failed ≡ true) → (new.failed ≡ false → (IsIn new s → ⊥) → s ≡ new.start_section → new.start_position * size ≤ size_of (shown v))
+          → IsWalk g gives seal size told new after e
+      walk_on failed ends start_v = record { over = over; walk = walk; disk = walks }
+        where
+          holds : new.failed ≡ false → (q : ℕ) → IsTrue (new.journal.unrecovered q) → IsHeld new.journal.sections q
+          holds fine q owed = elim (cases_eq q s) [
+            | inl at ↦ subst (IsHeld new.journal.sections) (sym at) (is_some (new.journal.sections.held s) v again.held)
+            | inr other ↦ held_on seal size s old new d e one q other ((was.walk.owes_held (sym failed ∙ fine)).held q (subst IsTrue (one.same.unrecovered q) owed))
+          ]
 
-        walks : told → WalksOver seal size new e
-        walks tells = record {
-          sealed = record { sealed = λ q u held free. (sound q u held free).0; whole = λ q u held free. (sound q u held free).1 };
-          gone_over = gone;
-          unopened = λ fine. record { later = later fine };
-          place = λ r is. subst (λ (o : Option (PageBlob S gs)). IsSomeAnd o (ReadsIn seal new e r)) (sym (ap new.journal.sections.held (again.place r is).0 ∙ again.held)) ((again.place r is).2 tells);
-        }
-          where
-            from_v : (q : ℕ) (u : PageBlob S gs) → q ≡ s → new.journal.sections.held q ≡ Some u → IsSealed seal (shown v) (e (key_of new.journal.sections s)) × (size_of (shown v) % size ≡ 0)
-                → IsSealed seal (shown u) (e (key_of new.journal.sections q)) × (size_of (shown u) % size ≡ 0)
-            from_v q u at held has =
-                subst (λ (k : ℕ). IsSealed seal (shown u) (e (key_of new.journal.sections k)) × (size_of (shown u) % size ≡ 0)) (sym at)
-                (subst (λ (x : PageBlob S gs). IsSealed seal (shown x) (e (key_of new.journal.sections s)) × (size_of (shown x) % size ≡ 0)) (sym (same_v q u at held)) has)
+          kept : new.failed ≡ false → IsGoneOver new new.start_section → (u : PageBlob S gs) → new.journal.sections.held new.start_section ≡ Some u → new.start_position * size ≤ size_of (shown u)
+          kept fine over_it u held = elim (cases_eq new.start_section s) [
+            | inl at ↦ omega (arith, start_v fine (λ is. over_it.not_in (subst (IsIn new) (sym at) is)) (sym at), ap (λ (x : PageBlob S gs). size_of (shown x)) (same_v new.start_section u at held))
+            | inr other ↦
+                let held_old : old.journal.sections.held new.start_section ≡ Some u = sym (one.others new.start_section other).held ∙ held in
+                let over_old : IsGoneOver old old.start_section = subst (IsGoneOver old) one.same.section (gone_old new.start_section other (is_some (old.journal.sections.held new.start_section) u held_old) over_it) in
+                let was_held : old.journal.sections.held old.start_section ≡ Some u = subst (λ (k : ℕ). old.journal.sections.held k ≡ Some u) one.same.section held_old in
+                omega (arith, was.walk.start_kept (sym failed ∙ fine) over_old u was_held, ap (λ (n : ℕ). n * size) one.same.position)
+          ]
 
-            sound : (q : ℕ) (u : PageBlob S gs) → new.journal.sections.held q ≡ Some u → new.journal.unrecovered q ≡ false → IsSealed seal (shown u) (e (key_of new.journal.sections q)) × (size_of (shown u) % size ≡ 0)
-            sound q u held free = elim (cases_eq q s) [
-              | inl at ↦ from_v q u at held (again.sealed tells (subst (λ (k : ℕ). old.journal.unrecovered k ≡ false) at (sym (one.same.unrecovered q) ∙ free)))
-              | inr other ↦
-                  let held_old : old.journal.sections.held q ≡ Some u = sym (one.others q other).held ∙ held in
-                  let free_old : old.journal.unrecovered q ≡ false = sym (one.same.unrecovered q) ∙ free in
-                  (subst (IsSealed seal (shown u)) (sym (blob_same tells q u other held_old)) ((was.disk tells).sealed.sealed q u held_old free_old), (was.disk tells).sealed.whole q u held_old free_old)
-            ]
+          walk : HasWalk size new
+          walk = record {
+            owes_settled = record { settled = settles };
+            owes_held = λ fine. record { held = holds fine };
+            place = λ r is. subst (λ (o : Option (PageBlob S gs)). IsSomeAnd o (StandsIn size new r)) (sym (ap new.journal.sections.held (again.place r is).0 ∙ again.held)) (again.place r is).1;
+            come_to = λ r is. (
+              subst (λ (k : ℕ). new.start_section ≤ k) (sym (again.place r is).0) (again.begun (in_s r is)),
+              λ ahead. again.not_ahead (subst (IsAhead new) (again.place r is).0 ahead),
+            );
+            from_start = from;
+            start_within = start;
+            start_kept = kept;
+            ends = ends;
+          }
 
-            gone : new.failed ≡ false → (q : ℕ) (u : PageBlob S gs) → new.journal.sections.held q ≡ Some u → IsGoneOver new q → IsSealed seal (shown u) (e (key_of new.journal.sections q)) × (size_of (shown u) % size ≡ 0)
-            gone fine q u held over_it = elim (cases_eq q s) [
-              | inl at ↦ from_v q u at held (again.gone_over tells (λ is. over_it.not_in (subst (IsIn new) (sym at) is)))
-              | inr other ↦
-                  let held_old : old.journal.sections.held q ≡ Some u = sym (one.others q other).held ∙ held in
-                  let is_held : IsHeld old.journal.sections q = is_some (old.journal.sections.held q) u held_old in
-                  let begun : old.start_section ≤ q = subst (λ (n : ℕ). n ≤ q) one.same.section over_it.begun in
-                  let over_old : IsGoneOver old q = record {
-                    begun = begun;
-                    not_ahead = λ ahead. over_it.not_ahead ((behind.ahead q (one.numbers q is_held)).1 (ahead, behind.later q is_held ahead other));
-                    not_in = λ there. other (behind.in_old q there);
-                  } in
-                  let has = (was.disk tells).gone_over (sym failed ∙ fine) q u held_old over_old in
-                  (subst (IsSealed seal (shown u)) (sym (blob_same tells q u other held_old)) has.0, has.1)
-            ]
+          walks : told → WalksOver seal size new e
+          walks tells = record {
+            sealed = record { sealed = λ q u held free. (sound tells q u held free).0; whole = λ q u held free. (sound tells q u held free).1 };
+            gone_over = gone;
+            unopened = λ fine. record { later = later fine };
+            place = λ r is. subst (λ (o : Option (PageBlob S gs)). IsSomeAnd o (ReadsIn seal new e r)) (sym (ap new.journal.sections.held (again.place r is).0 ∙ again.held)) ((again.place r is).2 tells);
+          }
+            where
+              gone : new.failed ≡ false → (q : ℕ) (u : PageBlob S gs) → new.journal.sections.held q ≡ Some u → IsGoneOver new q → IsSealed seal (shown u) (e (key_of new.journal.sections q)) × (size_of (shown u) % size ≡ 0)
+              gone fine q u held over_it = elim (cases_eq q s) [
+                | inl at ↦ from_v q u at held (again.gone_over tells (λ is. over_it.not_in (subst (IsIn new) (sym at) is)))
+                | inr other ↦
+                    let held_old : old.journal.sections.held q ≡ Some u = sym (one.others q other).held ∙ held in
+                    let is_held : IsHeld old.journal.sections q = is_some (old.journal.sections.held q) u held_old in
+                    let over_old : IsGoneOver old q = gone_old q other is_held over_it in
+                    let has = (was.disk tells).gone_over (sym failed ∙ fine) q u held_old over_old in
+                    (subst (IsSealed seal (shown u)) (sym (blob_same tells q u other held_old)) has.0, has.1)
+              ]
 
-            later : new.failed ≡ false → (q : ℕ) → IsSome (new.journal.sections.unopened q) → new.journal.sections.ceiling < q
-            later fine q has = elim (cases_eq q s) [
-              | inl at ↦
-                  let apart : new.journal.sections.unopened q ≡ None = over.opened_list.apart q (subst (IsHeld new.journal.sections) (sym at) (is_some (new.journal.sections.held s) v again.held)) in
-                  absurd (none_in (new.journal.sections.unopened q) (λ x. Unit {0}) apart (some_unit (new.journal.sections.unopened q) has))
-              | inr other ↦
-                  let before : old.journal.sections.ceiling < q = ((was.disk tells).unopened (sym failed ∙ fine)).later q (subst IsSome (one.others q other).unopened has) in
-                  omega (arith, before, one.same.bounds.ceiling)
-            ]
-              where
-                some_unit : {A : Type 0} → (o : Option A) → IsSome o → IsSomeAnd o (λ x. Unit {0})
-                some_unit None h = absurd (cc h)
-                some_unit (Some x) h = tt
+              later : new.failed ≡ false → (q : ℕ) → IsSome (new.journal.sections.unopened q) → new.journal.sections.ceiling < q
+              later fine q has = elim (cases_eq q s) [
+                | inl at ↦
+                    let apart : new.journal.sections.unopened q ≡ None = over.opened_list.apart q (subst (IsHeld new.journal.sections) (sym at) (is_some (new.journal.sections.held s) v again.held)) in
+                    absurd (none_in (new.journal.sections.unopened q) (λ x. Unit {0}) apart (some_unit (new.journal.sections.unopened q) has))
+                | inr other ↦
+                    let before : old.journal.sections.ceiling < q = ((was.disk tells).unopened (sym failed ∙ fine)).later q (subst IsSome (one.others q other).unopened has) in
+                    omega (arith, before, one.same.bounds.ceiling)
+              ]
+                where
+                  some_unit : {A : Type 0} → (o : Option A) → IsSome o → IsSomeAnd o (λ x. Unit {0})
+                  some_unit None h = absurd (cc h)
+                  some_unit (Some x) h = tt

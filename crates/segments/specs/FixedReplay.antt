@@ -96,7 +96,7 @@ module _ {S : Type 0} {gs : _} where
     pub not_ahead : IsAhead w s → ⊥
     pub not_in : IsIn w s → ⊥
 
-  -- Where the replay stands. A start that it has not come to is within its section.
+  -- Where the replay stands. The start is within its section, before the replay comes to it and once it has gone over it without an error.
   pub record HasWalk {F : Type 0} (size : ℕ) (w : Walk F (PageBlob S gs)) : Type 0 where
     pub owes_settled : OwesSettled w.journal
     pub owes_held : w.failed ≡ false → OwesHeld w.journal
@@ -104,6 +104,7 @@ module _ {S : Type 0} {gs : _} where
     pub come_to : (r : Place) → w.place ≡ Some r → (w.start_section ≤ r.section) × (IsAhead w r.section → ⊥)
     pub from_start : (n : ℕ) → w.next_section ≡ Some n → w.start_section ≤ n
     pub start_within : IsAhead w w.start_section → (u : PageBlob S gs) → w.journal.sections.held w.start_section ≡ Some u → w.start_position * size ≤ size_of (shown u)
+    pub start_kept : w.failed ≡ false → IsGoneOver w w.start_section → (u : PageBlob S gs) → w.journal.sections.held w.start_section ≡ Some u → w.start_position * size ≤ size_of (shown u)
     pub ends : w.ended ≡ true → w.failed ≡ true
 
   -- Sections that owe no replay are sealed and have whole items, and so have those that the replay has gone over without an error.

@@ -502,6 +502,8 @@ impl<A: CodecFixed, S: Seal> Replay<A, S> {
         ensures settled { HasWalk A.SIZE (walk_of self) → IfOk result (λ r. OwesSettled (shown r)) }
         ensures sealed { (d : _) → WalksOver S.seal_of A.SIZE (walk_of self) d → IfOk result (λ r. AreSealed S.seal_of A.SIZE (shown r) d) }
         ensures unopened { (d : _) → WalksOver S.seal_of A.SIZE (walk_of self) d → IfOk result (λ r. UnopenedLater (shown r)) }
+        // The start was within its section.
+        ensures start { HasWalk A.SIZE (walk_of self) → IfOk result (λ r. (u : _) → (shown r).sections.held (walk_of self).start_section ≡ Some u → (walk_of self).start_position * A.SIZE ≤ size_of (page_blob.shown u)) }
         // From a section's start on it owes no replay, and none of the later ones does; the others do as before.
         ensures recovered { IfOk result (λ r. (s : ℕ) → ((walk_of self).start_section < s) ⊎ (((walk_of self).start_position ≡ 0) × ((walk_of self).start_section ≡ s)) → (shown r).unrecovered s ≡ false) }
         ensures unrecovered { IfOk result (λ r. (s : ℕ) → (s < (walk_of self).start_section) ⊎ ((0 < (walk_of self).start_position) × ((walk_of self).start_section ≡ s)) → (shown r).unrecovered s ≡ (walk_of self).journal.unrecovered s) }

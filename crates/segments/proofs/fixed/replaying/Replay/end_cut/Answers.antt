@@ -1,11 +1,12 @@
 -- The section is cut, and then the start is checked.
 use Rattle.std.specs.Prelude.{◌≡◌, Err}
-use Rattle.std.proofs.Common.{◌∙◌, arith}
+use Rattle.std.proofs.Common.{sym, ◌∙◌, arith}
 use Rattle.std.proofs.lemmas.Result.{err_from_is_err_and}
 use Rattle.blob_device.specs.Timeline.{disk}
 use Rattle.segments.specs.declared.journal.Error.TheVariants.{ItemOutOfRange}
 use Rattle.segments.specs.FixedWalking.{walk_of, place_of}
 use Rattle.segments.proofs.FixedCutting.{cut_failed, cut_ended, cut_refused, cut_within, cut_prefix}
+use Rattle.segments.proofs.FixedOpening.{first_here}
 use Rattle.segments.proofs.FixedErrorSteps.{cut_as}
 use Rattle.segments.proofs.FixedReading.{here, reached_here}
 use Rattle.segments.proofs.FixedWalks.{some_of}
@@ -52,4 +53,5 @@ returns g c =
     let u = here g.S.Seal.seal_of g.A.CodecFixed.SIZE _ _ (walk_of c.args.self.now) (place_of c.args.reading) _ (disk (g.D.Device.time c.args.dev.now)) c.requires.over in
     cut_ended g.S.Seal.seal_of g.A.CodecFixed.SIZE _ _ (walk_of c.args.self.now) (walk_of c.cut.new.self) (place_of c.args.reading) _ _ (g.D.Device.time c.args.dev.now) (g.D.Device.time c.cut.new.dev)
     c.requires.over c.requires.between c.cut.result c.cut.ensures.rest c.cut.ensures.touches c.requires.owed c.requires.last g.met.A.CodecFixed.fixed.at_least c.cut.ensures.moments g.A.Codec.spelling g.A.Codec.accepted g.A.Codec.refusal _ _ c.cut.ensures.faults
-    again.0 again.1 c.requires.going c.in_ok-cut.ensures.going (c.in_ok-cut.ensures.cut u.0 again.0 u.1 again.1) c.in_ok-cut.ensures.reads
+    again.0 again.1 c.requires.going c.in_ok-cut.ensures.going (c.in_ok-cut.ensures.cut u.0 again.0 u.1 again.1)
+    (λ at. (let rest = c.cut.ensures.rest in omega (arith, c.in_ok-check_start.ensures.ok, first_here (walk_of c.cut.new.self) c.args.reading.section (at ∙ sym rest.section), rest.position))) c.in_ok-cut.ensures.reads

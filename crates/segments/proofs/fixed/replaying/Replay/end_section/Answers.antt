@@ -6,6 +6,7 @@ use Rattle.blob_device.specs.Timeline.{disk}
 use Rattle.segments.specs.declared.journal.Error.TheVariants.{ItemOutOfRange}
 use Rattle.segments.specs.FixedStepping.{EndsAt}
 use Rattle.segments.specs.FixedWalking.{walk_of, walk_at, place_of}
+use Rattle.segments.proofs.FixedOpening.{first_here}
 use Rattle.segments.proofs.FixedReading.{end_uncut, end_refused}
 use Rattle.segments.proofs.fixed.replaying.Replay.end_section.Goals as goal
 
@@ -40,3 +41,4 @@ returns-in_err-check_start g c =
 pub returns : goal.returns
 returns g c = end_uncut g.S.Seal.seal_of g.A.CodecFixed.SIZE _ _ (walk_of c.args.self.now) (place_of c.args.reading) _ (g.D.Device.time c.args.dev.now) c.requires.over g.A.Codec.spelling g.A.Codec.accepted g.A.Codec.refusal c.requires.between _ _ (omega arith)
     g.met.A.CodecFixed.fixed.at_least (λ t. subst (λ (b : Bool). EndsAt g.S.Seal.seal_of g.A.CodecFixed.SIZE (walk_at c.args.self.now c.args.reading) (disk (g.D.Device.time c.args.dev.now)) (place_of c.args.reading) b) c.if-cuts.false (c.requires.last t))
+    (λ at. omega (arith, c.in_ok-check_start.ensures.ok, first_here (walk_of c.args.self.now) c.args.reading.section at))

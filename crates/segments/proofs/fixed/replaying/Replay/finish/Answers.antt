@@ -1,7 +1,7 @@
 -- The sections that were gone over are sealed.
 use Rattle.segments.specs.FixedShown.{shown}
 use Rattle.segments.specs.FixedWalking.{walk_of}
-use Rattle.segments.proofs.FixedBeginning.{finished_sealed, owed_before, finished_held, finished_settled, finished_unopened}
+use Rattle.segments.proofs.FixedBeginning.{finished_sealed, finished_start, owed_before, finished_held, finished_settled, finished_unopened}
 use Rattle.segments.proofs.fixed.replaying.Replay.finish.Goals as goal
 
 pub returns-clause-sealed : goal.returns-clause-sealed
@@ -17,3 +17,6 @@ returns-clause-settled g c walk = finished_settled (walk_of c.args.self) (shown 
 
 pub returns-clause-unopened : goal.returns-clause-unopened
 returns-clause-unopened g c d over = finished_unopened (walk_of c.args.self) (shown c.recovered_from.result) c.recovered_from.ensures.sections (over.unopened c.if-self.false)
+
+pub returns-clause-start : goal.returns-clause-start
+returns-clause-start g c walk = finished_start g.A.CodecFixed.SIZE (walk_of c.args.self) (shown c.recovered_from.result) walk c.if-self.false (c.is_drained.ensures.0 c.if-not-is_drained.false) c.recovered_from.ensures.sections
