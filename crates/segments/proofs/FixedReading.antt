@@ -31,7 +31,7 @@ use Rattle.value_codec.specs.declared.codec.Error as codec
 use Rattle.segments.specs.Setting.{Setting}
 use Rattle.segments.specs.Sections.{Sections, key_of, IsHeld, IsKeyOf, HasOpened, StandsOver}
 use Rattle.segments.specs.FixedItems.{item_at, IsItem}
-use Rattle.segments.specs.Refusing.{HasFailed, HasDamage}
+use Rattle.segments.specs.Refusing.{HasFailed}
 use Rattle.segments.specs.FixedReading.{HasNotRead}
 use Rattle.segments.specs.FixedReplay.{Place, Walk, IsAhead, IsIn, IsLeft, SameWalk, IsWalk, WalksOver, StandsBefore, Gives, Refuses, Stops, Replaying, StandsIn, ReadsIn, kept_of, kept_bytes, first_of}
 use Rattle.segments.specs.FixedStepping.{standing, after_item, way_of, reads_left, ReadsOnce, GoesOn, Carries, EndsAt, Steps}

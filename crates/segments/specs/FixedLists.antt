@@ -2,7 +2,6 @@
 use Rattle.std.specs.Prelude.{◌≡◌, ℕ, ◌%◌, ◌<◌, ◌≤◌, Bool, false, List, [], IsTrue, Option, None, Some, IsSome}
 use Rattle.blob_device.specs.Disk.{Disk}
 use Rattle.blob_device.specs.Opened.{OpenedList}
-use Rattle.value_codec.specs.declared.seal.Seal as seal_of
 use Rattle.sealed_pages.specs.declared.page_blob.PageBlob.{PageBlob}
 use Rattle.sealed_pages.specs.Shown.{shown}
 use Rattle.sealed_pages.specs.Buffer.{size_of, bytes_of, IsSealed}

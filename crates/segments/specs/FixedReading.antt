@@ -1,5 +1,5 @@
 -- What reading an item of a fixed journal answers.
-use Rattle.std.specs.Prelude.{◌≡◌, ◌⊎◌, ℕ, ◌*◌, ◌/◌, ◌+◌, ◌<◌, ◌≤◌, leb, Bool, List, Option, Some, Result, IsSomeAnd}
+use Rattle.std.specs.Prelude.{◌⊎◌, ℕ, ◌*◌, ◌/◌, ◌<◌, leb, Bool, List, Result}
 use Rattle.std.specs.Result.{IsErrOf}
 use Rattle.blob_device.specs.declared.runtime.RError.TheVariants.{InvalidChecksum}
 use Rattle.value_codec.specs.declared.codec.Error as codec
@@ -9,7 +9,7 @@ use Rattle.sealed_pages.specs.Buffer.{size_of}
 use Rattle.sealed_pages.specs.Reads.{IsShort, IsCovered, below}
 use Rattle.segments.specs.declared.journal.Error.{Error}
 use Rattle.segments.specs.declared.journal.Error.TheVariants.{Runtime, Codec, SectionOutOfRange, ItemOutOfRange}
-use Rattle.segments.specs.Refusing.{HasFailed, IsPruned}
+use Rattle.segments.specs.Refusing.{HasFailed}
 
 module _ {S : Type 0} {gs : _} (size : ℕ) where
   -- the position is that of an item of the buffer

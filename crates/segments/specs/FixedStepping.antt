@@ -144,7 +144,8 @@ module _ {F S : Type 0} {gs : _} (seal : List ℕ → ℕ) (size : ℕ) where
 
   module _ {V : Type 0} (g : buffer.Ghosts (PageBlob S gs)) (gives : F → Setting) (spelling : V → List ℕ) (accepted : V → Unit {0} → Type 0) (refusal : List ℕ → Unit {0} → Option codec.Error) (told : Type 0) where
     -- A step of the replay `old`, and the replay after it. It gives the first item that was left, or comes nearer to one, or gives an
-    -- error, which ends the section or the replay.
+    -- error, which ends the section or the replay. Where the disk is told no page is found damaged: a section that owes a replay is cut
+    -- before such a page, and any other is sealed.
     pub record Steps (result : Result (Option (ℕ × ℕ × V)) Error) (old new : Walk F (PageBlob S gs)) (before after : OpenedList) (begin end : Timeline) (few many : ℕ) : Type 0 where
       pub over : OnOk result (IsWalk g gives seal size told new after (disk end))
       pub broken : OnErr result (IsWalk g gives seal size told (failing new) after (disk end))

@@ -116,7 +116,7 @@ end_at_page-requires-clause-last g c t =
     (next_of r.reader) (missing_of r.reader c.SIZE.result) page (omega (arith, here_short.wanted.some, e.same.at, e.same.size, h.2.blob_size, h.2.within, h.2.at)) t here_short in (
       owed,
       ends_short g.S.Seal.seal_of g.A.CodecFixed.SIZE _ _ w (record { section = r.section; position = r.position; reader = more }) _ (disk b) was (λ u x stands. stands.adopted) g.met.A.CodecFixed.fixed.at_least
-      (next_of r.reader) (missing_of r.reader c.SIZE.result) page (omega (arith, here_short.wanted.some, e.same.at, c.SIZE.ensures)) owed t here_short,
+          (next_of r.reader) (missing_of r.reader c.SIZE.result) page (omega (arith, here_short.wanted.some, e.same.at, c.SIZE.ensures)) owed t here_short,
     )
 
 pub returns-in-Ok-true : goal.returns-in-Ok-true
