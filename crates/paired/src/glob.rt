@@ -12,6 +12,8 @@ mod reading;
 mod recovery;
 mod removing;
 mod syncing;
+#[cfg(test)]
+mod tests;
 mod writing;
 
 pub use recovery::Recovery;
