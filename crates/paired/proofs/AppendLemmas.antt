@@ -1,11 +1,10 @@
 -- What adding bytes at the end of a section's buffer leaves of it, and of a section that was made for it.
-use Rattle.std.specs.Prelude.{◌≡◌, ◌⊎◌, ℕ, ◌+◌, ◌-◌, ◌^◌, ◌<◌, ◌≤◌, max, cond, ⊤, Bool, true, false, List, [], ◌∷◌, length, Option, None, Some}
+use Rattle.std.specs.Prelude.{◌≡◌, ◌⊎◌, ℕ, ◌+◌, ◌-◌, ◌^◌, ◌<◌, ◌≤◌, ◌++◌, max, cond, Bool, true, false, List, [], ◌∷◌, length, Option, None, Some}
 use Rattle.std.proofs.Common.{inl, inr, refl, ◌∙◌, ap, arith, subst, IsSome, sym}
 use Rattle.std.specs.Option.{is_some}
 use Rattle.std.specs.Prelude.{IsSomeAnd, MatchOption, MatchResult, IfSome, Result, Ok, Err, IfOk, OnErr}
 use Rattle.std.proofs.lemmas.Bool.Decides.{nat_tests}
 use Rattle.std.proofs.lemmas.Bool.{cases_lt}
-use Rattle.paired.specs.Frames.{IsFront}
 use Rattle.std.specs.Result.{is_ok, IsErrOf}
 use Rattle.blob_device.specs.declared.runtime.RError.{RError}
 use Rattle.blob_device.specs.declared.runtime.RError.TheVariants.{OffsetOverflow, Fault}
@@ -21,19 +20,22 @@ use Rattle.blob_device.specs.Timeline.{Timeline, disk, OnlyAt}
 use Rattle.blob_device.proofs.Bytes.{length-written}
 use Rattle.blob_device.proofs.Moments.{always_start, always_then, always_weaker, always_now}
 use Rattle.sealed_pages.specs.declared.write_blob.WriteBlob.{WriteBlob}
+use Rattle.sealed_pages.specs.Contents.{KeepsAll, AddsOnly}
 use Rattle.sealed_pages.specs.Sparing.{Sparing}
-use Rattle.sealed_pages.specs.Writing.{shown, run_of, Joins, HoldsOnly, StaysBelow, is_idle}
-use Rattle.segments.specs.Leaving.{Leaves, AllMoments}
+use Rattle.sealed_pages.specs.Writing.{shown, blob_key, run_of, Joins, HoldsOnly, StaysBelow, is_idle}
+use Rattle.sealed_pages.proofs.ContentLemmas.{adds_keep, keeps_now}
+use Rattle.segments.specs.Fronts.{IsFront}
+use Rattle.segments.specs.Leaving.{AllMoments}
 use Rattle.segments.specs.Lasting.{IsOpening}
 use Rattle.segments.specs.Setting.{Setting}
 use Rattle.segments.specs.Sections.{Sections, key_of}
-use Rattle.segments.specs.Unsealed.{Stands, IsWhole, MayKeep, content_of, count_of, is_unsettled}
+use Rattle.segments.specs.Unsealed.{Stands, IsWhole, KeepsBytes, content_of, count_of, is_unsettled}
 use Rattle.segments.specs.UnsealedLaws.{passes, idle_parts}
-use Rattle.segments.proofs.UnsealedCalls.{all_moments}
+use Rattle.segments.proofs.UnsealedCalls.{crash_keeps, front_itself}
 use Rattle.segments.proofs.WalkLemmas.{none_or_value}
 use Rattle.paired.specs.GlobLasting.{Outlasts, IsBeginning, settled_bytes}
-use Rattle.paired.specs.GlobSections.{section_bytes, section_size, settled_size, size_held, settled_held, TakesMore, IsGlob}
-use Rattle.paired.proofs.GlobLemmas.{buffers, outlasts_of, idle_whole, held_bytes, no_bytes}
+use Rattle.paired.specs.GlobSections.{section_bytes, section_size, settled_size, size_held, settled_held, HadFronts, TakesMore, IsGlob}
+use Rattle.paired.proofs.GlobLemmas.{buffers, kept_front, front_longer, fronts_longer, Serves, idle_serves, serves_of, outlasts_of, held_bytes, no_bytes}
 
 outside_none : (at n i : ℕ) → n ≡ 0 → (i < at) ⊎ (at + n ≤ i)
 outside_none at n i none = elim (cases_lt i at) [
@@ -122,56 +124,95 @@ new_empty u b stands idle none =
     let parts = idle_parts u.dirty (length u.pending.items) u.at u.end idle in
     (omega (arith, end, parts.1.0, parts.1.1), omega (arith, end, u.order))
 
--- each crash leaves what had settled while bytes are added behind it
-pub append_moments : (u : WriteBlob) (n : ℕ) (k : Key) (a b : Timeline) → Stands u (disk a k) → IsWhole u (disk a k)
-    → Sparing (Outside ((count_of u, n) ∷ run_of (shown u) ∷ [])) u.settled k a b → AllMoments k (Outlasts (settled_bytes u (disk a k).content)) a b
-append_moments u n k a b stands whole spares =
-    always_weaker a b (OnlyAt k (disk a) (Leaves (λ _ _. ⊤) (MayKeep u (disk a k) u.settled))) (OnlyAt k (disk a) (Outlasts (settled_bytes u (disk a k).content)))
-    (λ d only. record { here = outlasts_of u (disk a k) (d k) u.settled stands whole (omega arith) only.here; others = only.others })
-    (all_moments (λ _ _. ⊤) u (Outside ((count_of u, n) ∷ run_of (shown u) ∷ [])) u.settled u.settled (omega arith) (omega arith)
-    (λ i low out. (inl (omega (arith, low, u.order)), out)) k a b stands spares)
+-- bytes were added behind what had settled
+module _ {told : Type 0} (u : WriteBlob) (bytes added : List ℕ) (is : bytes ≡ added) (k : Key) (a b : Timeline) (key : blob_key (shown u) ≡ k) (t : told) (stands : Stands u (disk a k)) (serves : Serves told u (disk a k))
+    (sparing : Sparing (Outside ((count_of u, length bytes) ∷ run_of (shown u) ∷ [])) u.settled (blob_key (shown u)) a b)
+    (adds : AddsOnly (content_of u (disk a (blob_key (shown u))).content ∷ (content_of u (disk a (blob_key (shown u))).content ++ bytes) ∷ []) (blob_key (shown u)) a b) where
+  all_fronts : KeepsAll (λ c. IsFront c (content_of u (disk a k).content ++ added)) k a b
+  all_fronts =
+      let had : List ℕ = content_of u (disk a k).content in
+      adds_keep (λ c. IsFront c (content_of u (disk a k).content ++ added)) (content_of u (disk a k).content ∷ (content_of u (disk a k).content ++ added) ∷ []) k a b
+      (fronts_longer (content_of u (disk a k).content) added (disk a k) (serves.fronts t))
+      (front_longer had had added (front_itself had), (front_itself (had ++ added), tt))
+      (subst (λ (q : Key). AddsOnly (content_of u (disk a q).content ∷ (content_of u (disk a q).content ++ added) ∷ []) q a b) key
+      (subst (λ (l : List ℕ). AddsOnly (content_of u (disk a (blob_key (shown u))).content ∷ (content_of u (disk a (blob_key (shown u))).content ++ l) ∷ []) (blob_key (shown u)) a b) is adds))
 
-pub still_moments : (u : WriteBlob) (k : Key) (a : Timeline) → Stands u (disk a k) → IsWhole u (disk a k) → AllMoments k (Outlasts (settled_bytes u (disk a k).content)) a a
-still_moments u k a stands whole =
-    always_start a (OnlyAt k (disk a) (Outlasts (settled_bytes u (disk a k).content)))
-    (record { here = outlasts_of u (disk a k) (disk a k) u.settled stands whole (omega arith) (passes u (disk a k) stands); others = λ q other. refl })
+  -- what the blob has had are fronts of the bytes with those added
+  pub append_fronts : HadFronts (content_of u (disk a k).content ++ added) (disk b k)
+  append_fronts = keeps_now (λ c. IsFront c (content_of u (disk a k).content ++ added)) k a b all_fronts
 
-outlasts_none : (kept : List ℕ) (b : Blob) → Outlasts kept b → Outlasts [] b
-outlasts_none kept b outlasts left may = go left (outlasts left may)
+  -- so at each moment, and each crash leaves what had settled
+  pub append_moments : AllMoments k (Outlasts (settled_bytes u (disk a k).content) (content_of u (disk a k).content ++ added)) a b
+  append_moments = record {
+    later = spares.later;
+    kept = spares.kept;
+    each = λ m low high. record {
+      here = record {
+        leaves = λ left may. front_of left (crash_keeps u (Outside ((count_of u, length bytes) ∷ run_of (shown u) ∷ [])) u.settled u.settled (omega arith) (omega arith) (λ i less out. (inl (omega (arith, less, u.order)), out))
+            (disk a k) (b.at m k) stands (spares.each m low high).here left may);
+        since = λ left may. all_fronts.each m low high;
+      };
+      others = (spares.each m low high).others;
+    };
+  }
+    where
+      spares : Sparing (Outside ((count_of u, length bytes) ∷ run_of (shown u) ∷ [])) u.settled k a b
+      spares = subst (λ (q : Key). Sparing (Outside ((count_of u, length bytes) ∷ run_of (shown u) ∷ [])) u.settled q a b) key sparing
+
+      front_of : (l : Option (List ℕ)) → IsSomeAnd l (KeepsBytes u (disk a k) u.settled) → IsSomeAnd l (IsFront (settled_bytes u (disk a k).content))
+      front_of None has = absurd has
+      front_of (Some c) has = kept_front u (disk a k) u.settled c stands (serves.whole t) (omega arith) has
+
+outlasts_longer : (kept bytes added : List ℕ) (b : Blob) → Outlasts kept bytes b → Outlasts kept (bytes ++ added) b
+outlasts_longer kept bytes added b outlasts = record { leaves = outlasts.leaves; since = λ left may. fronts_longer bytes added b (outlasts.since left may) }
+
+pub still_moments : {told : Type 0} (u : WriteBlob) (added : List ℕ) (k : Key) (a : Timeline) → told → Stands u (disk a k) → Serves told u (disk a k)
+    → AllMoments k (Outlasts (settled_bytes u (disk a k).content) (content_of u (disk a k).content ++ added)) a a
+still_moments u added k a t stands serves =
+    always_start a (OnlyAt k (disk a) (Outlasts (settled_bytes u (disk a k).content) (content_of u (disk a k).content ++ added)))
+    (record {
+      here = outlasts_longer (settled_bytes u (disk a k).content) (content_of u (disk a k).content) added (disk a k)
+          (outlasts_of u (disk a k) (disk a k) u.settled stands serves t (omega arith) (passes u (disk a k) stands));
+      others = λ q other. refl;
+    })
+
+outlasts_none : (kept bytes : List ℕ) (b : Blob) → Outlasts kept bytes b → Outlasts [] bytes b
+outlasts_none kept bytes b outlasts = record { leaves = λ left may. go left (outlasts.leaves left may); since = outlasts.since }
   where
     go : (l : Option (List ℕ)) → IsSomeAnd l (IsFront kept) → IsSomeAnd l (IsFront [])
     go None is = absurd is
     go (Some c) is = refl
 
-pub begin_moments : (k : Key) (a b : Timeline) → AllMoments k (IsOpening (disk a k)) a b → AllMoments k (IsBeginning (disk a k)) a b
-begin_moments k a b opens = always_weaker a b (OnlyAt k (disk a) (IsOpening (disk a k))) (OnlyAt k (disk a) (IsBeginning (disk a k)))
+pub begin_moments : (bytes : List ℕ) (k : Key) (a b : Timeline) → AllMoments k (IsOpening (disk a k)) a b → AllMoments k (IsBeginning bytes (disk a k)) a b
+begin_moments bytes k a b opens = always_weaker a b (OnlyAt k (disk a) (IsOpening (disk a k))) (OnlyAt k (disk a) (IsBeginning bytes (disk a k)))
     (λ d only. record { here = inl only.here; others = only.others }) opens
 
 -- the section is made, and then bytes are added to it
-pub begun_moments : (kept : List ℕ) (k : Key) (a b c : Timeline) → AllMoments k (IsOpening (disk a k)) a b → AllMoments k (Outlasts kept) b c → AllMoments k (IsBeginning (disk a k)) a c
-begun_moments kept k a b c opens adds =
-    always_then a b c (OnlyAt k (disk a) (IsBeginning (disk a k))) (begin_moments k a b opens)
-    (always_weaker b c (OnlyAt k (disk b) (Outlasts kept)) (OnlyAt k (disk a) (IsBeginning (disk a k)))
+pub begun_moments : (kept bytes whole : List ℕ) → bytes ≡ whole → (k : Key) (a b c : Timeline) → AllMoments k (IsOpening (disk a k)) a b → AllMoments k (Outlasts kept bytes) b c → AllMoments k (IsBeginning whole (disk a k)) a c
+begun_moments kept bytes whole is k a b c opens adds =
+    always_then a b c (OnlyAt k (disk a) (IsBeginning whole (disk a k))) (begin_moments whole k a b opens)
+    (always_weaker b c (OnlyAt k (disk b) (Outlasts kept whole)) (OnlyAt k (disk a) (IsBeginning whole (disk a k)))
     (λ d only. record {
-      here = inr (outlasts_none kept (d k) only.here);
+      here = inr (outlasts_none kept whole (d k) only.here);
       others = λ q other. only.others q other ∙ (always_now a b (OnlyAt k (disk a) (IsOpening (disk a k))) opens).others q other;
-    }) adds)
+    }) (subst (λ (l : List ℕ). AllMoments k (Outlasts kept l) b c) is adds))
 
--- of a buffer that was taken out none of the settled bytes was written since
-pub taken_whole : {F : Type 0} (gives : F → Setting) {told : Type 0} (m : Sections F WriteBlob) (opened : OpenedList) (d : Disk) → IsGlob buffers gives told m opened d → told → (s : ℕ) (w : WriteBlob) (e : Disk)
-    → ((u : WriteBlob) → m.held s ≡ Some u → w ≡ u) → (IsSome (m.held s) → e ≡ d) → (m.held s ≡ None → is_unsettled w ≡ false) → Stands w (e (key_of m s)) → IsWhole w (e (key_of m s))
-taken_whole gives m opened d glob t s w e same untouched idle stands = elim (none_or_value (m.held s)) [
-  | inl none ↦ idle_whole w (e (key_of m s)) stands (idle none)
-  | inr some ↦ subst (λ (x : Disk). IsWhole w (x (key_of m s))) (sym (untouched (subst IsSome (sym some.1) refl)))
-      (subst (λ (x : WriteBlob). IsWhole x (d (key_of m s))) (sym (same some.0 some.1)) (glob.whole t s some.0 some.1))
+-- a buffer that was taken out is as a glob has them
+pub taken_serves : {F : Type 0} (gives : F → Setting) {told : Type 0} (m : Sections F WriteBlob) (opened : OpenedList) (d : Disk) → IsGlob buffers gives told m opened d → (s : ℕ) (w : WriteBlob) (e : Disk)
+    → ((u : WriteBlob) → m.held s ≡ Some u → w ≡ u) → (IsSome (m.held s) → e ≡ d) → (m.held s ≡ None → is_unsettled w ≡ false) → (told → Stands w (e (key_of m s))) → Serves told w (e (key_of m s))
+taken_serves gives {told = told} m opened d glob s w e same untouched idle stands = elim (none_or_value (m.held s)) [
+  | inl none ↦ idle_serves w (e (key_of m s)) stands (idle none)
+  | inr some ↦ subst (λ (x : Disk). Serves told w (x (key_of m s))) (sym (untouched (subst IsSome (sym some.1) refl)))
+      (subst (λ (x : WriteBlob). Serves told x (d (key_of m s))) (sym (same some.0 some.1)) (serves_of gives m opened d glob s some.0 some.1))
 ]
 
 -- where taking the buffer out made no call
-pub held_moments : {Dev : Type 0} (time : Dev → Timeline) (x y z : Dev) (u w : WriteBlob) (k : Key) → y ≡ x → w ≡ u
-    → AllMoments k (Outlasts (settled_bytes w (disk (time y) k).content)) (time y) (time z) → AllMoments k (Outlasts (settled_bytes u (disk (time x) k).content)) (time x) (time z)
-held_moments {Dev = Dev} time x y z u w k same is moments =
-    subst (λ (q : Dev). AllMoments k (Outlasts (settled_bytes u (disk (time q) k).content)) (time q) (time z)) same
-    (subst (λ (v : WriteBlob). AllMoments k (Outlasts (settled_bytes v (disk (time y) k).content)) (time y) (time z)) is moments)
+pub held_moments : {Dev : Type 0} (time : Dev → Timeline) (x y z : Dev) (u w : WriteBlob) (added : List ℕ) (k : Key) → y ≡ x → w ≡ u
+    → AllMoments k (Outlasts (settled_bytes w (disk (time y) k).content) (content_of w (disk (time y) k).content ++ added)) (time y) (time z)
+    → AllMoments k (Outlasts (settled_bytes u (disk (time x) k).content) (content_of u (disk (time x) k).content ++ added)) (time x) (time z)
+held_moments {Dev = Dev} time x y z u w added k same is moments =
+    subst (λ (q : Dev). AllMoments k (Outlasts (settled_bytes u (disk (time q) k).content) (content_of u (disk (time q) k).content ++ added)) (time q) (time z)) same
+    (subst (λ (v : WriteBlob). AllMoments k (Outlasts (settled_bytes v (disk (time y) k).content) (content_of v (disk (time y) k).content ++ added)) (time y) (time z)) is moments)
 
 -- bytes at the end of a run that stays below the capacity with them
 pub stays_below : (u : WriteBlob) (n capacity : ℕ) → TakesMore u → u.capacity ≡ capacity → length u.pending.items + n < capacity → StaysBelow (shown u) (count_of u) n

@@ -9,12 +9,11 @@ use Rattle.blob_device.specs.Timeline.{Each}
 use Rattle.sealed_pages.specs.declared.write_blob.WriteBlob.{WriteBlob}
 use Rattle.segments.specs.Setting.{Setting}
 use Rattle.segments.specs.Sections.{Sections, section_key, key_of, IsHeld, IsKnown, IsGone, IsSame, SameBounds, IsOver, IsSynced, IsCut}
-use Rattle.segments.specs.Unsealed.{IsWhole}
 use Rattle.segments.specs.Lasting.{Syncing, Cutting, Truncating, Removing, IsLonger, IsUnsettled}
 use Rattle.segments.proofs.RemoveLemmas.{gone_unknown}
 use Rattle.segments.proofs.WalkLemmas.{none_or_value, value_of, some_same}
 use Rattle.paired.specs.GlobSections.{section_bytes, HasSettled, IsAllSettled, IsGlob}
-use Rattle.paired.proofs.GlobLemmas.{buffers, glob_one, no_bytes, other_key, same_bytes}
+use Rattle.paired.proofs.GlobLemmas.{buffers, Serves, serves_of, glob_one, no_bytes, other_key, same_bytes}
 use Rattle.paired.proofs.StepLemmas.{of_some, Steps, step_synced, step_cut, step_same, glob_steps, synced_bytes, synced_settled, synced_all, cut_bytes, cut_settled, cut_all}
 
 pub some_held : {T : Type 0} (o : Option T) (v : T) → o ≡ Some v → IsSome o
@@ -136,11 +135,7 @@ module _ {F : Type 0} (gives : F → Setting) {told : Type 0} (m n : Sections F 
     cut_glob bounds others small blobs unopened = glob_one gives m old d glob n new e s over bounds others small blobs
         (λ v now. elim (none_or_value (m.held s)) [
           | inl absent ↦ absurd (cc (now, none s absent))
-          | inr was ↦ (one_cut was.0 v was.1 now).ends (glob.ends s was.0 was.1)
-        ])
-        (λ t v now. elim (none_or_value (m.held s)) [
-          | inl absent ↦ absurd (cc (now, none s absent))
-          | inr was ↦ subst (λ (k : Key). IsWhole v (e k)) (sym (here s)) ((one_cut was.0 v was.1 now).whole t (glob.whole t s was.0 was.1))
+          | inr was ↦ subst (λ (k : Key). Serves told v (e k)) (sym (here s)) (one_cut was.0 v was.1 now (serves_of gives m old d glob s was.0 was.1))
         ])
         (λ t some. omega (arith, bounds.ceiling, glob.unopened t s (subst IsSome unopened some)))
 

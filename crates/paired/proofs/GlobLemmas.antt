@@ -1,30 +1,31 @@
 -- What a glob is over, its sections' bytes, and what of them has settled, where calls went by.
-use Rattle.std.specs.Prelude.{◌≡◌, ◌≢◌, ℕ, ◌^◌, ◌<◌, ◌≤◌, ◌||◌, not, ⊤, Bool, true, false, List, [], length, take, Option, None, Some, IsSome, IsSomeAnd}
+use Rattle.std.specs.Prelude.{◌≡◌, ◌≢◌, ℕ, ◌^◌, ◌<◌, ◌≤◌, ◌++◌, ◌||◌, not, ⊤, Bool, true, false, List, [], length, take, Option, None, Some, IsSome, IsSomeAnd}
 use Rattle.std.proofs.Common.{inl, inr, refl, sym, ◌∙◌, ap, subst, arith}
 use Rattle.std.proofs.lemmas.Bool.{cases_eq}
-use Rattle.std.proofs.lemmas.List.{ext_get_or, get_or-take, length-take-le}
-use Rattle.blob_device.specs.Disk.{Key, Blob, Disk, settled_at}
+use Rattle.std.proofs.lemmas.List.{ext_get_or, get_or-take, length-take, length-take-le, take-append-le}
+use Rattle.std.proofs.lemmas.List.Elements.{All-from_recursion, All-contains}
+use Rattle.blob_device.specs.Disk.{Key, Blob, Disk, past, settled_at}
 use Rattle.blob_device.specs.Opened.{Opened, OpenedList}
 use Rattle.blob_device.proofs.Places.{written_out}
 use Rattle.blob_device.proofs.Puts.{same_or_other}
 use Rattle.sealed_pages.specs.declared.write_blob.WriteBlob.{WriteBlob}
 use Rattle.sealed_pages.specs.Cutting.{IsAtRest}
 use Rattle.sealed_pages.specs.Entries.{IsOpenAt, ReadsAtMost}
-use Rattle.sealed_pages.specs.Writing.{shown, is_idle}
+use Rattle.sealed_pages.specs.Writing.{shown, is_idle, StandsBehind}
 use Rattle.segments.specs.declared.buffer.SectionBuffer as buffer
 use Rattle.segments.specs.contracts.unsealed.WriteBlobSectionBuffer.TheImpl as write_blob
+use Rattle.segments.specs.Fronts.{IsFront}
 use Rattle.segments.specs.Leaving.{Leaves}
 use Rattle.segments.specs.Setting.{Setting}
 use Rattle.segments.specs.Sections.{Sections, key_of, IsHeld, IsSame, SameBounds, IsKeyOf, IsOver}
-use Rattle.segments.specs.Unsealed.{Stands, IsWhole, MayKeep, content_of, is_unsettled}
-use Rattle.segments.specs.UnsealedLaws.{counted, settled_within, rested}
+use Rattle.segments.specs.Unsealed.{Stands, IsWhole, KeepsBytes, IsOldOrFront, MayKeep, content_of, is_unsettled}
+use Rattle.segments.specs.UnsealedLaws.{all_weaker, counted, settled_within, idle_parts, rested, found_again}
 use Rattle.segments.proofs.KeyLemmas.{key_injective, keys_differ}
 use Rattle.segments.proofs.OverLemmas.{same_key}
-use Rattle.segments.proofs.UnsealedCalls.{whole_at_rest}
+use Rattle.segments.proofs.UnsealedCalls.{front_itself, whole_at_rest}
 use Rattle.segments.proofs.WalkLemmas.{none_or_value}
-use Rattle.paired.specs.Frames.{IsFront}
 use Rattle.paired.specs.GlobLasting.{Outlasts}
-use Rattle.paired.specs.GlobSections.{bytes_held, size_held, section_bytes, section_size, HasSettled, TakesMore, IsGlob}
+use Rattle.paired.specs.GlobSections.{bytes_held, size_held, section_bytes, section_size, HadFronts, HasSettled, TakesMore, IsGlob}
 
 -- what sections are kept in
 abbrev pub buffers : buffer.Ghosts WriteBlob
@@ -42,12 +43,16 @@ idle_of u is = or_not u.dirty (is_idle (shown u)) is
 pub idle_takes : (u : WriteBlob) → is_unsettled u ≡ false → TakesMore u
 idle_takes u is = inr (idle_of u is)
 
+-- nothing is pending
+pub idle_behind : (u : WriteBlob) → is_unsettled u ≡ false → StandsBehind (shown u)
+idle_behind u is = inr (idle_parts u.dirty (length u.pending.items) u.at u.end is).1.0
+
 -- of its bytes none was written since they settled
 pub idle_whole : (u : WriteBlob) (b : Blob) → Stands u b → is_unsettled u ≡ false → IsWhole u b
 idle_whole u b stands is = whole_at_rest u b is (ap (λ (x : Blob). x.loose) (rested u b stands is))
 
 -- Where only bytes were added since the settled ones settled, what a crash may leave begins with those.
-pub kept_front : (u : WriteBlob) (b : Blob) (least : ℕ) (c : List ℕ) → Stands u b → IsWhole u b → least ≤ u.settled → MayKeep u b least c → IsFront (take least (content_of u b.content)) c
+pub kept_front : (u : WriteBlob) (b : Blob) (least : ℕ) (c : List ℕ) → Stands u b → IsWhole u b → least ≤ u.settled → KeepsBytes u b least c → IsFront (take least (content_of u b.content)) c
 kept_front u b least c stands whole few keeps =
     let all : List ℕ = content_of u b.content in
     let enough : least ≤ length all = omega (arith, few, counted u b stands, settled_within u b stands) in
@@ -59,12 +64,50 @@ kept_front u b least c stands whole few keeps =
     get_or-take least c i 0 low ∙ (keeps.same i low spared.0 spared.1).same
     ∙ sym (written_out b.content u.at u.pending.items i spared.0.0) ∙ sym (get_or-take least all i 0 low))
 
-pub outlasts_of : (u : WriteBlob) (from b : Blob) (least : ℕ) → Stands u from → IsWhole u from → least ≤ u.settled → Leaves (λ _ _. ⊤) (MayKeep u from least) b → Outlasts (take least (content_of u from.content)) b
-outlasts_of u from b least stands whole few leaves left may = go left (leaves left may)
+-- a front of bytes is one of more bytes
+pub front_longer : (c bytes added : List ℕ) → IsFront c bytes → IsFront c (bytes ++ added)
+front_longer c bytes added front = take-append-le (length c) bytes added (omega (arith, ap length front, length-take (length c) bytes)) ∙ front
+
+pub fronts_longer : (bytes added : List ℕ) (b : Blob) → HadFronts bytes b → HadFronts (bytes ++ added) b
+fronts_longer bytes added b had = all_weaker (λ c. IsFront c bytes) (λ c. IsFront c (bytes ++ added)) (past b) (λ c front. front_longer c bytes added front) had
+
+-- where the contents that the blob had were fronts
+old_fronts : (u : WriteBlob) (from : Blob) → HadFronts (content_of u from.content) from → (c : List ℕ) → IsOldOrFront u from c → IsFront c (content_of u from.content)
+old_fronts u from had c (inl old) = All-contains (λ x. IsFront x (content_of u from.content)) (past from) c (All-from_recursion (λ x. IsFront x (content_of u from.content)) (past from) had) old
+old_fronts u from had c (inr front) = front
+
+-- a blob at rest, over which a new buffer would have the same bytes
+pub rested_fronts : (u : WriteBlob) (b : Blob) → IsAtRest b → b.content ≡ content_of u b.content → HadFronts (content_of u b.content) b
+rested_fronts u b rests again = subst (HadFronts (content_of u b.content)) (sym rests) (subst (IsFront b.content) again (front_itself b.content), tt)
+
+-- the buffer, over this blob, is as a glob has those of its sections
+pub record Serves (told : Type 0) (u : WriteBlob) (b : Blob) : Type 0 where
+  pub ends : TakesMore u
+  pub behind : StandsBehind (shown u)
+  pub whole : told → IsWhole u b
+  pub fronts : told → HadFronts (content_of u b.content) b
+
+-- so is one of which nothing is unsettled
+pub idle_serves : {told : Type 0} (u : WriteBlob) (b : Blob) → (told → Stands u b) → is_unsettled u ≡ false → Serves told u b
+idle_serves u b stands is = record {
+  ends = idle_takes u is;
+  behind = idle_behind u is;
+  whole = λ t. idle_whole u b (stands t) is;
+  fronts = λ t. rested_fronts u b (rested u b (stands t) is) (found_again u b (stands t) (idle_whole u b (stands t) is) is);
+}
+
+-- what the test of the buffer leaves, in bytes
+pub outlasts_of : {told : Type 0} (u : WriteBlob) (from b : Blob) (least : ℕ) → Stands u from → Serves told u from → told → least ≤ u.settled → Leaves (λ _ _. ⊤) (MayKeep u from least) b
+    → Outlasts (take least (content_of u from.content)) (content_of u from.content) b
+outlasts_of u from b least stands serves t few leaves = record { leaves = λ left may. kept left (leaves left may); since = λ left may. fronts left (leaves left may) }
   where
-    go : (l : Option (List ℕ)) → IsSomeAnd l (λ c. ⊤ → MayKeep u from least c) → IsSomeAnd l (IsFront (take least (content_of u from.content)))
-    go None is = absurd is
-    go (Some c) is = kept_front u from least c stands whole few (is tt)
+    kept : (l : Option (List ℕ)) → IsSomeAnd l (λ c. ⊤ → MayKeep u from least (past b) c) → IsSomeAnd l (IsFront (take least (content_of u from.content)))
+    kept None is = absurd is
+    kept (Some c) is = kept_front u from least c stands (serves.whole t) few (is tt).bytes
+
+    fronts : (l : Option (List ℕ)) → IsSomeAnd l (λ c. ⊤ → MayKeep u from least (past b) c) → HadFronts (content_of u from.content) b
+    fronts None is = absurd is
+    fronts (Some c) is = all_weaker (IsOldOrFront u from) (λ x. IsFront x (content_of u from.content)) (past b) (old_fronts u from (serves.fronts t)) ((is tt).since serves.behind)
 
 module _ {F : Type 0} (m : Sections F WriteBlob) where
   pub held_bytes : (d : Disk) (s : ℕ) (u : WriteBlob) → m.held s ≡ Some u → section_bytes m d s ≡ content_of u (d (key_of m s)).content
@@ -89,15 +132,39 @@ same_bytes m n d e s same blob = elim (none_or_value (m.held s)) [
   | inr some ↦ held_bytes n e s some.0 (same ∙ some.1) ∙ ap (λ (b : Blob). content_of some.0 b.content) (blob (subst IsSome (sym some.1) refl)) ∙ sym (held_bytes m d s some.0 some.1)
 ]
 
+-- sections of which each buffer serves are a glob
+pub glob_of : {F : Type 0} {gives : F → Setting} {told : Type 0} (n : Sections F WriteBlob) (new : OpenedList) (e : Disk) → IsOver buffers gives told n new e
+    → ((s : ℕ) (u : WriteBlob) → n.held s ≡ Some u → Serves told u (e (key_of n s))) → (told → (s : ℕ) → IsSome (n.unopened s) → n.ceiling < s) → IsGlob buffers gives told n new e
+glob_of n new e over serves unopened = record {
+  over = over;
+  ends = λ s u held. (serves s u held).ends;
+  behind = λ s u held. (serves s u held).behind;
+  whole = λ t s u held. (serves s u held).whole t;
+  fronts = λ t s u held. subst (λ (bytes : List ℕ). HadFronts bytes (e (key_of n s))) (sym (held_bytes n e s u held)) ((serves s u held).fronts t);
+  unopened = unopened;
+}
+
 module _ {F : Type 0} (gives : F → Setting) {told : Type 0} (m : Sections F WriteBlob) (old : OpenedList) (d : Disk) (glob : IsGlob buffers gives told m old d) where
   pub number_of : (s : ℕ) (u : WriteBlob) → m.held s ≡ Some u → s < 2 ^ 64
   number_of s u held = glob.over.opened_list.number s (inl (subst IsSome (sym held) refl))
 
-  pub same_ends : (n : Sections F WriteBlob) (s : ℕ) → n.held s ≡ m.held s → (u : WriteBlob) → n.held s ≡ Some u → TakesMore u
-  same_ends n s same u held = glob.ends s u (sym same ∙ held)
+  -- each section's buffer serves
+  pub serves_of : (s : ℕ) (u : WriteBlob) → m.held s ≡ Some u → Serves told u (d (key_of m s))
+  serves_of s u held = record {
+    ends = glob.ends s u held;
+    behind = glob.behind s u held;
+    whole = λ t. glob.whole t s u held;
+    fronts = λ t. subst (λ (bytes : List ℕ). HadFronts bytes (d (key_of m s))) (held_bytes m d s u held) (glob.fronts t s u held);
+  }
 
-  pub same_whole : told → (n : Sections F WriteBlob) (e : Disk) (s : ℕ) → n.held s ≡ m.held s → e (key_of n s) ≡ d (key_of m s) → (u : WriteBlob) → n.held s ≡ Some u → IsWhole u (e (key_of n s))
-  same_whole t n e s same blob u held = subst (IsWhole u) (sym blob) (glob.whole t s u (sym same ∙ held))
+  same_serves : (n : Sections F WriteBlob) (e : Disk) (s : ℕ) → n.held s ≡ m.held s → (told → e (key_of n s) ≡ d (key_of m s)) → (u : WriteBlob) → n.held s ≡ Some u → Serves told u (e (key_of n s))
+  same_serves n e s same blob u held =
+      let was = serves_of s u (sym same ∙ held) in record {
+        ends = was.ends;
+        behind = was.behind;
+        whole = λ t. subst (IsWhole u) (sym (blob t)) (was.whole t);
+        fronts = λ t. subst (λ (b : Blob). HadFronts (content_of u b.content) b) (sym (blob t)) (was.fronts t);
+      }
 
   -- A glob stays what it is where the blobs of its partition's sections stay, in the list and on the disk.
   pub glob_stays : (new : OpenedList) (e : Disk) → ((s len : ℕ) → s < 2 ^ 64 → IsOpenAt old (key_of m s) len → IsOpenAt new (key_of m s) len)
@@ -119,7 +186,9 @@ module _ {F : Type 0} (gives : F → Setting) {told : Type 0} (m : Sections F Wr
       };
     };
     ends = glob.ends;
+    behind = glob.behind;
     whole = λ t s u held. subst (IsWhole u) (sym (blobs t s (number_of s u held))) (glob.whole t s u held);
+    fronts = λ t s u held. subst (λ (b : Blob). HadFronts (bytes_held (m.held s) b.content) b) (sym (blobs t s (number_of s u held))) (glob.fronts t s u held);
     unopened = glob.unopened;
   }
 
@@ -142,25 +211,18 @@ module _ {F : Type 0} (gives : F → Setting) {told : Type 0} (m : Sections F Wr
     other_bytes t q other = same_bytes m n d e q (others q other).held (λ held. other_blob t q (glob.over.opened_list.number q (inl held)) other)
 
     -- one section alone changed
-    pub glob_one : ((u : WriteBlob) → n.held s ≡ Some u → TakesMore u) → (told → (u : WriteBlob) → n.held s ≡ Some u → IsWhole u (e (key_of n s)))
-        → (told → IsSome (n.unopened s) → n.ceiling < s) → IsGlob buffers gives told n new e
-    glob_one ends whole unopened = record {
-      over = over;
-      ends = λ q u held. elim (cases_eq q s) [
-        | inl is ↦ ends u (subst (λ (k : ℕ). n.held k ≡ Some u) is held)
-        | inr other ↦ same_ends n q (others q other).held u held
-      ];
-      whole = λ t q u held. elim (cases_eq q s) [
-        | inl is ↦ subst (λ (k : ℕ). IsWhole u (e (key_of n k))) (sym is) (whole t u (subst (λ (k : ℕ). n.held k ≡ Some u) is held))
-        | inr other ↦
-            let was = (others q other).held in
-            same_whole t n e q was (other_blob t q (number_of q u (sym was ∙ held)) other) u held
-      ];
-      unopened = λ t q some. elim (cases_eq q s) [
-        | inl is ↦ subst (λ (k : ℕ). n.ceiling < k) (sym is) (unopened t (subst (λ (k : ℕ). IsSome (n.unopened k)) is some))
-        | inr other ↦ omega (arith, bounds.ceiling, glob.unopened t q (subst IsSome (others q other).unopened some))
-      ];
-    }
+    pub glob_one : ((u : WriteBlob) → n.held s ≡ Some u → Serves told u (e (key_of n s))) → (told → IsSome (n.unopened s) → n.ceiling < s) → IsGlob buffers gives told n new e
+    glob_one serves unopened = glob_of n new e over
+        (λ q u held. elim (cases_eq q s) [
+          | inl is ↦ subst (λ (k : ℕ). Serves told u (e (key_of n k))) (sym is) (serves u (subst (λ (k : ℕ). n.held k ≡ Some u) is held))
+          | inr other ↦
+              let was = (others q other).held in
+              same_serves n e q was (λ t. other_blob t q (number_of q u (sym was ∙ held)) other) u held
+        ])
+        (λ t q some. elim (cases_eq q s) [
+          | inl is ↦ subst (λ (k : ℕ). n.ceiling < k) (sym is) (unopened t (subst (λ (k : ℕ). IsSome (n.unopened k)) is some))
+          | inr other ↦ omega (arith, bounds.ceiling, glob.unopened t q (subst IsSome (others q other).unopened some))
+        ])
 
   -- a section has as many bytes as it counts
   pub section_counted : told → (s : ℕ) → length (section_bytes m d s) ≡ section_size m s

@@ -19,8 +19,8 @@ use Rattle.segments.specs.Unsealed.{Stands, IsWhole, MayKeep, content_of, count_
 use Rattle.segments.specs.UnsealedLaws.{all_settled, rested, found_again}
 use Rattle.segments.proofs.WalkLemmas.{has_value, none_or_value}
 use Rattle.paired.specs.GlobLasting as lasting
-use Rattle.paired.specs.GlobSections.{section_bytes, HasSettled, IsAllSettled, TakesMore, IsGlob}
-use Rattle.paired.proofs.GlobLemmas.{buffers, idle_takes, idle_whole, outlasts_of, held_bytes, has_settled}
+use Rattle.paired.specs.GlobSections.{section_bytes, HadFronts, HasSettled, IsAllSettled, IsGlob}
+use Rattle.paired.proofs.GlobLemmas.{buffers, idle_takes, idle_behind, idle_whole, rested_fronts, Serves, idle_serves, outlasts_of, held_bytes, has_settled, glob_of, serves_of}
 
 pub of_some : {T : Type 0} (o : Option T) (P : T → Type 0) (v : T) → o ≡ Some v → IsSomeAnd o P → P v
 of_some {T = T} o P v is has = subst (λ (x : Option T). IsSomeAnd x P) is has
@@ -29,28 +29,36 @@ held_so : {T : Type 0} (o : Option T) (v : T) → o ≡ Some v → IsSome o
 held_so o v is = subst IsSome (sym is) refl
 
 -- a call made the buffer v of u, over a blob that was x and is y
-pub record Steps (told : Type 0) (u v : WriteBlob) (x y : Blob) : Type 0 where
-  pub ends : TakesMore u → TakesMore v
-  pub whole : told → IsWhole u x → IsWhole v y
+abbrev pub Steps : (told : Type 0) (u v : WriteBlob) (x y : Blob) → Type 0
+Steps told u v x y = Serves told u x → Serves told v y
 
 module _ {told : Type 0} (u v : WriteBlob) (x y : Blob) where
+  pub step_same : v ≡ u → (told → y ≡ x) → Steps told u v x y
+  step_same same blob before = subst (λ (w : WriteBlob). Serves told w y) (sym same) (record {
+    ends = before.ends;
+    behind = before.behind;
+    whole = λ t. subst (IsWhole u) (sym (blob t)) (before.whole t);
+    fronts = λ t. subst (λ (b : Blob). HadFronts (content_of u b.content) b) (sym (blob t)) (before.fronts t);
+  })
+
   pub step_synced : IsSynced buffers told u v x y → Steps told u v x y
-  step_synced synced = record { ends = λ before. idle_takes v synced.done; whole = synced.whole }
+  step_synced synced before = record {
+    ends = idle_takes v synced.done;
+    behind = idle_behind v synced.done;
+    whole = λ t. synced.whole t (before.whole t);
+    fronts = λ t. rested_fronts v y (synced.rests t) (synced.again t (before.whole t));
+  }
 
   pub step_cut : (n : ℕ) → IsCut buffers told n u v x y → Steps told u v x y
-  step_cut n cut = record {
-    ends = λ before. elim (cases_lt n (count_of u)) [
-      | inl longer ↦ idle_takes v (cut.done longer)
-      | inr within ↦ subst TakesMore (sym (cut.same within)) before
-    ];
-    whole = cut.whole;
-  }
-
-  pub step_same : v ≡ u → (told → y ≡ x) → Steps told u v x y
-  step_same same blob = record {
-    ends = subst TakesMore (sym same);
-    whole = λ t before. subst (λ (w : WriteBlob). IsWhole w y) (sym same) (subst (IsWhole u) (sym (blob t)) before);
-  }
+  step_cut n cut before = elim (cases_lt n (count_of u)) [
+    | inl longer ↦ record {
+      ends = idle_takes v (cut.done longer);
+      behind = idle_behind v (cut.done longer);
+      whole = λ t. cut.whole t (before.whole t);
+      fronts = λ t. rested_fronts v y (cut.rests t longer) (cut.again t longer);
+    }
+    | inr within ↦ step_same (cut.same within) (λ t. cut.stays t within) before
+  ]
 
 module _ {F : Type 0} (gives : F → Setting) {told : Type 0} (m n : Sections F WriteBlob) (old new : OpenedList) (d e : Disk)
     (glob : IsGlob buffers gives told m old d) (over : IsOver buffers gives told n new e) (place : n.partition ≡ m.partition)
@@ -61,18 +69,12 @@ module _ {F : Type 0} (gives : F → Setting) {told : Type 0} (m n : Sections F 
   -- the sections are a glob again where each buffer comes from that of the same section
   pub glob_steps : ((s : ℕ) (u v : WriteBlob) → m.held s ≡ Some u → n.held s ≡ Some v → Steps told u v (d (key_of m s)) (e (key_of m s)))
       → (told → (s : ℕ) → IsSome (n.unopened s) → n.ceiling < s) → IsGlob buffers gives told n new e
-  glob_steps steps unopened = record {
-    over = over;
-    ends = λ s v held. elim (none_or_value (m.held s)) [
-      | inl absent ↦ absurd (cc (held, none s absent))
-      | inr was ↦ (steps s was.0 v was.1 held).ends (glob.ends s was.0 was.1)
-    ];
-    whole = λ t s v held. elim (none_or_value (m.held s)) [
-      | inl absent ↦ absurd (cc (held, none s absent))
-      | inr was ↦ subst (λ (k : Key). IsWhole v (e k)) (sym (stays_key s)) ((steps s was.0 v was.1 held).whole t (glob.whole t s was.0 was.1))
-    ];
-    unopened = unopened;
-  }
+  glob_steps steps unopened = glob_of n new e over
+      (λ s v held. elim (none_or_value (m.held s)) [
+        | inl absent ↦ absurd (cc (held, none s absent))
+        | inr was ↦ subst (λ (k : Key). Serves told v (e k)) (sym (stays_key s)) (steps s was.0 v was.1 held (serves_of gives m old d glob s was.0 was.1))
+      ])
+      unopened
 
   module _ (s : ℕ) (u v : WriteBlob) (was : m.held s ≡ Some u) (is : n.held s ≡ Some v) where
     settled_as : IsAtRest (e (key_of m s)) → (e (key_of m s)).content ≡ content_of v (e (key_of m s)).content → HasSettled n e s
@@ -106,13 +108,13 @@ module _ {F : Type 0} (gives : F → Setting) {told : Type 0} (m : Sections F Wr
   stood : (s : ℕ) (u : WriteBlob) (q : Key) → m.held s ≡ Some u → q ≡ key_of m s → Stands u (d q)
   stood s u q held is = subst (λ (k : Key). Stands u (d k)) (sym is) ((glob.over.disk t).stands s u held)
 
-  whole_at : (s : ℕ) (u : WriteBlob) (q : Key) → m.held s ≡ Some u → q ≡ key_of m s → IsWhole u (d q)
-  whole_at s u q held is = subst (λ (k : Key). IsWhole u (d k)) (sym is) (glob.whole t s u held)
+  serves_at : (s : ℕ) (u : WriteBlob) (q : Key) → m.held s ≡ Some u → q ≡ key_of m s → Serves told u (d q)
+  serves_at s u q held is = subst (λ (k : Key). Serves told u (d k)) (sym is) (serves_of gives m old d glob s u held)
 
-  -- each crash leaves the section's first bytes, as many as the buffer's promise keeps
+  -- each crash leaves the section's first bytes, as many as the buffer's promise keeps, and behind them only what its bytes make
   pub crash_keeps : (s : ℕ) (u : WriteBlob) (q : Key) (b : Blob) (least : ℕ) → m.held s ≡ Some u → q ≡ key_of m s → least ≤ u.settled
-      → Leaves (λ _ _. ⊤) (MayKeep u (d q) least) b → lasting.Outlasts (take least (content_of u (d q).content)) b
-  crash_keeps s u q b least held is few leaves = outlasts_of u (d q) b least (stood s u q held is) (whole_at s u q held is) few leaves
+      → Leaves (λ _ _. ⊤) (MayKeep u (d q) least) b → lasting.Outlasts (take least (content_of u (d q).content)) (content_of u (d q).content) b
+  crash_keeps s u q b least held is few leaves = outlasts_of u (d q) b least (stood s u q held is) (serves_at s u q held is) t few leaves
 
   pub settling_of : (Named : ℕ → Type 0) (q : Key) (b : Blob) → Syncing buffers m Named d q b → lasting.Settling m Named d q b
   settling_of Named q b syncing = record {
@@ -149,9 +151,9 @@ module _ {F : Type 0} (gives : F → Setting) {told : Type 0} (m : Sections F Wr
 
   -- of one section that is cut
   pub one_moments : (s n : ℕ) → AllMoments (key_of m s) (λ x. (u : WriteBlob) → m.held s ≡ Some u → Leaves (λ _ _. ⊤) (MayKeep u (disk a (key_of m s)) (min u.settled n)) x) a b
-      → AllMoments (key_of m s) (λ x. (u : WriteBlob) → m.held s ≡ Some u → lasting.Outlasts (lasting.settled_to n u (disk a (key_of m s)).content) x) a b
+      → AllMoments (key_of m s) (λ x. (u : WriteBlob) → m.held s ≡ Some u → lasting.Outlasts (lasting.settled_to n u (disk a (key_of m s)).content) (content_of u (disk a (key_of m s)).content) x) a b
   one_moments s n = always_weaker a b (OnlyAt (key_of m s) (disk a) (λ x. (u : WriteBlob) → m.held s ≡ Some u → Leaves (λ _ _. ⊤) (MayKeep u (disk a (key_of m s)) (min u.settled n)) x))
-      (OnlyAt (key_of m s) (disk a) (λ x. (u : WriteBlob) → m.held s ≡ Some u → lasting.Outlasts (lasting.settled_to n u (disk a (key_of m s)).content) x))
+      (OnlyAt (key_of m s) (disk a) (λ x. (u : WriteBlob) → m.held s ≡ Some u → lasting.Outlasts (lasting.settled_to n u (disk a (key_of m s)).content) (content_of u (disk a (key_of m s)).content) x))
       (λ d only. record { here = λ u held. crash_keeps gives m old (disk a) glob t s u (key_of m s) (d (key_of m s)) (min u.settled n) held refl (omega arith) (only.here u held); others = only.others })
 
 -- what is unopened stays above the ceiling
@@ -170,12 +172,7 @@ none_unsettled m s u held none = not_true (is_unsettled u) (λ yes. none (has_va
 module _ {F : Type 0} (gives : F → Setting) {told : Type 0} (m : Sections F WriteBlob) (opened : OpenedList) (d : Disk) (over : IsOver buffers gives told m opened d)
     (idle : (s : ℕ) (u : WriteBlob) → m.held s ≡ Some u → is_unsettled u ≡ false) where
   pub opened_glob : (told → (s : ℕ) → IsSome (m.unopened s) → m.ceiling < s) → IsGlob buffers gives told m opened d
-  opened_glob unopened = record {
-    over = over;
-    ends = λ s u held. idle_takes u (idle s u held);
-    whole = λ t s u held. idle_whole u (d (key_of m s)) ((over.disk t).stands s u held) (idle s u held);
-    unopened = unopened;
-  }
+  opened_glob unopened = glob_of m opened d over (λ s u held. idle_serves u (d (key_of m s)) (λ t. (over.disk t).stands s u held) (idle s u held)) unopened
 
   pub opened_settled : told → (s : ℕ) → IsHeld m s → HasSettled m d s
   opened_settled t s held = elim (none_or_value (m.held s)) [

@@ -40,7 +40,3 @@ module _ (seal : List ℕ → ℕ) where
     pub fits : stored < 2 ^ 32
     pub sealed : computed ≡ seal front
     pub differs : stored ≢ computed
-
--- c begins with these bytes
-abbrev pub IsFront : List ℕ → List ℕ → Type 0
-IsFront kept c = take (length kept) c ≡ kept

@@ -22,6 +22,7 @@ pub mod Truncating
 pub mod SparingLemmas
 pub mod WriteLemmas
 pub mod WritingLemmas
+pub mod ContentLemmas
 pub mod RunLemmas
 pub mod LastingLemmas
 pub mod PlainLemmas

@@ -53,7 +53,7 @@ sparing_weaker R S n m k a b less le always = always_weaker a b (OnlyAt k (disk 
     (λ d only. record { here = spares_weaker R S n m (disk a k) (d k) less le only.here; others = only.others }) always
 
 -- what holds of the blob at each moment of a call on it
-any_call : {T : Type 0} (Q : Blob → Type 0) (k : Key) (t0 t1 : Timeline) (change : Change) (r : Result T DevError) → Q (disk t0 k) → Passes k change r t0 t1 → Q (during change (disk t0 k)) → Q (done change (disk t0 k))
+pub any_call : {T : Type 0} (Q : Blob → Type 0) (k : Key) (t0 t1 : Timeline) (change : Change) (r : Result T DevError) → Q (disk t0 k) → Passes k change r t0 t1 → Q (during change (disk t0 k)) → Q (done change (disk t0 k))
     → ((new : Blob) → FailedTo change (disk t0 k) new → Q new) → Always t0 t1 (OnlyAt k (disk t0) Q)
 any_call {T = T} Q k t0 t1 change r start passes inside after failed = only_on t0 t0 t1 k (disk t0) Q change r (only_start t0 k Q start) passes inside (end r passes)
   where

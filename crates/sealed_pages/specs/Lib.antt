@@ -15,6 +15,7 @@ pub mod Starts
 pub mod Cutting
 pub mod Unrecovered
 pub mod Sparing
+pub mod Contents
 pub mod Writing
 pub mod Filled
 pub mod Reads

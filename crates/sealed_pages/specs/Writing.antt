@@ -50,6 +50,10 @@ run_of u = (u.at, length u.pending)
 abbrev pub is_idle : WriteBuffer → Bool
 is_idle u = eqb (length u.pending) 0 && leb u.at u.end
 
+-- nothing is pending below the end of the blob
+abbrev pub StandsBehind : WriteBuffer → Type 0
+StandsBehind u = (u.end ≤ u.at) ⊎ (length u.pending ≡ 0)
+
 -- a byte is not flushed, or flushed and not settled
 abbrev pub is_unsettled : WriteBuffer → Bool
 is_unsettled u = u.dirty || not (is_idle u)

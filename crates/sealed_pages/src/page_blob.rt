@@ -188,6 +188,14 @@ impl<S: Seal> PageBlob<S> {
         self.settled != self.size()
     }
 
+    /// Whether so many bytes more end, with both slots of their last page, below 2^64: whether an append of them is not refused
+    /// for their number. It takes no memory.
+    pub fn has_room(&self, more: usize) -> bool
+        ensures { IsTrue result ↔ extent self.now.page_size (size_of (shown self.now) + more) < 2 ^ 64 }
+    {
+        fits(self.page_size, self.size(), more)
+    }
+
     // Removes what a crash may have left, the first time that bytes are to be written.
     fn repaired<D: Device>(self, dev: &mut D) -> Result<PageBlob<S>, DevError>
         requires open { IsOpenAt (D.opened dev.old) (key_of (shown self)) self.end }

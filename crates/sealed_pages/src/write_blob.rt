@@ -8,6 +8,7 @@ ghost use Rattle.blob_device.specs.Timeline.{disk};
 ghost use Rattle.blob_device.specs.Counts.{Rose};
 ghost use Rattle.sealed_pages.specs.Entries.{IsOpenAt, NoReads};
 ghost use Rattle.sealed_pages.specs.Sparing.{Lasts, Spares, Sparing, Keeping};
+ghost use Rattle.sealed_pages.specs.Contents.{AddsOnly};
 
 mod cutting;
 mod reads;
@@ -38,7 +39,7 @@ pub struct WriteBlob {
 }
 
 impl WriteBlob {
-    ghost use Rattle.sealed_pages.specs.Writing.{WriteBuffer, shown, blob_key, bytes_of, size_of, run_of, is_idle, is_unsettled, Joins, StaysBelow, HoldsOnly, Over, KeepsSettled};
+    ghost use Rattle.sealed_pages.specs.Writing.{WriteBuffer, shown, blob_key, bytes_of, size_of, run_of, is_idle, is_unsettled, Joins, StaysBelow, HoldsOnly, StandsBehind, Over, KeepsSettled};
 
     /// Adopts an opened blob of this length. All of it counts as settled, since opening a blob settles it.
     pub fn adopt(
@@ -106,6 +107,7 @@ impl WriteBlob {
         requires open { IsOpenAt (D.opened dev.old) (blob_key (shown self)) self.end }
         ensures spares { D.Tells → Sparing (Outside (run_of (shown self) ∷ [])) self.settled (blob_key (shown self)) (D.time dev.old) (D.time dev.new) }
         ensures over { D.Tells → Over (shown self) (disk (D.time dev.old) (blob_key (shown self))) → IfOk result (λ r. Over (shown r) (disk (D.time dev.new) (blob_key (shown self)))) }
+        ensures since { D.Tells → AddsOnly (bytes_of (shown self) (disk (D.time dev.old) (blob_key (shown self))).content ∷ []) (blob_key (shown self)) (D.time dev.old) (D.time dev.new) }
         ensures bytes { D.Tells → IfOk result (λ r. bytes_of (shown r) (disk (D.time dev.new) (blob_key (shown self))).content ≡ bytes_of (shown self) (disk (D.time dev.old) (blob_key (shown self))).content) }
         ensures idle { IfOk result (λ r. is_idle (shown r) ≡ true) }
         ensures same { IfOk result (λ r. shown r ≡ record (shown self) { end = size_of (shown self); pending = []; dirty = r.dirty }) }
@@ -145,6 +147,8 @@ impl WriteBlob {
         // Where bytes were only added since the first `settled` bytes settled, each crash leaves these.
         ensures lasts { D.Tells → KeepsSettled (shown self) (disk (D.time dev.old) (blob_key (shown self))) → Keeping (take self.settled (bytes_of (shown self) (disk (D.time dev.old) (blob_key (shown self))).content)) (blob_key (shown self)) (D.time dev.old) (D.time dev.new) }
         ensures kept { D.Tells → KeepsSettled (shown self) (disk (D.time dev.old) (blob_key (shown self))) → IfOk result (λ r. KeepsSettled (shown r) (disk (D.time dev.new) (blob_key (shown self)))) }
+        // Each content that the blob has since it settled is one that it had, or is what these bytes make of it.
+        ensures since { D.Tells → AddsOnly (bytes_of (shown self) (disk (D.time dev.old) (blob_key (shown self))).content ∷ []) (blob_key (shown self)) (D.time dev.old) (D.time dev.new) }
         ensures bytes { D.Tells → IfOk result (λ r. bytes_of (shown r) (disk (D.time dev.new) (blob_key (shown self))).content ≡ bytes_of (shown self) (disk (D.time dev.old) (blob_key (shown self))).content) }
         ensures idle { IfOk result (λ r. is_idle (shown r) ≡ true) }
         ensures same { IfOk result (λ r. shown r ≡ record (shown self) { end = size_of (shown self); pending = []; dirty = is_unsettled (shown self) }) }
@@ -164,6 +168,7 @@ impl WriteBlob {
         requires open { IsOpenAt (D.opened dev.old) (blob_key (shown self)) self.end }
         ensures spares { D.Tells → Sparing (λ i. Unit {0}) self.settled (blob_key (shown self)) (D.time dev.old) (D.time dev.new) }
         ensures settles { D.Tells → OnOk result (disk (D.time dev.new) (blob_key (shown self)) ≡ settled_at (disk (D.time dev.old) (blob_key (shown self))).content) }
+        ensures since { D.Tells → AddsOnly ((disk (D.time dev.old) (blob_key (shown self))).content ∷ []) (blob_key (shown self)) (D.time dev.old) (D.time dev.new) }
         ensures same { IfOk result (λ r. shown r ≡ record (shown self) { settled = self.end; dirty = false }) }
         ensures once { (D.time dev.new).calls ≤ (D.time dev.old).calls + 1 }
         ensures open { IfOk result (λ r. IsOpenAt (D.opened dev.new) (blob_key (shown r)) r.end) }
@@ -185,6 +190,7 @@ impl WriteBlob {
         ensures over { D.Tells → Over (shown self) (disk (D.time dev.old) (blob_key (shown self))) → IfOk result (λ r. Over (shown r) (disk (D.time dev.new) (blob_key (shown self)))) }
         ensures lasts { D.Tells → KeepsSettled (shown self) (disk (D.time dev.old) (blob_key (shown self))) → Keeping (take self.settled (bytes_of (shown self) (disk (D.time dev.old) (blob_key (shown self))).content)) (blob_key (shown self)) (D.time dev.old) (D.time dev.new) }
         ensures kept { D.Tells → Over (shown self) (disk (D.time dev.old) (blob_key (shown self))) → IfOk result (λ r. KeepsSettled (shown r) (disk (D.time dev.new) (blob_key (shown self)))) }
+        ensures since { D.Tells → AddsOnly (bytes_of (shown self) (disk (D.time dev.old) (blob_key (shown self))).content ∷ []) (blob_key (shown self)) (D.time dev.old) (D.time dev.new) }
         // What was handed in is then in the blob, and outlives every crash.
         ensures settles { D.Tells → Over (shown self) (disk (D.time dev.old) (blob_key (shown self)))
             → OnOk result (disk (D.time dev.new) (blob_key (shown self)) ≡ settled_at (bytes_of (shown self) (disk (D.time dev.old) (blob_key (shown self))).content)) }
@@ -212,11 +218,13 @@ impl WriteBlob {
         requires open { IsOpenAt (D.opened dev.old) (blob_key (shown self)) self.end }
         ensures spares { D.Tells → Sparing (Outside (run_of (shown self) ∷ [])) self.settled (blob_key (shown self)) (D.time dev.old) (D.time dev.new) }
         ensures over { D.Tells → Over (shown self) (disk (D.time dev.old) (blob_key (shown self))) → IfOk result (λ r. Over (shown r) (disk (D.time dev.new) (blob_key (shown self)))) }
+        ensures since { D.Tells → AddsOnly (bytes_of (shown self) (disk (D.time dev.old) (blob_key (shown self))).content ∷ []) (blob_key (shown self)) (D.time dev.old) (D.time dev.new) }
         ensures bytes { D.Tells → IfOk result (λ r. bytes_of (shown r) (disk (D.time dev.new) (blob_key (shown self))).content ≡ written (bytes_of (shown self) (disk (D.time dev.old) (blob_key (shown self))).content) offset []) }
         ensures joined { IfOk result (λ r. Joins (shown r) offset) }
         ensures same { IfOk result (λ r. shown r ≡ record (shown self) { end = r.end; at = r.at; pending = r.pending.items; dirty = r.dirty }) }
         ensures size { IfOk result (λ r. size_of (shown r) ≡ max (size_of (shown self)) offset) }
         ensures run { IfOk result (λ r. ((r.at ≡ self.at) × (r.pending.items ≡ self.pending.items)) ⊎ ((r.at ≡ offset) × (r.pending.items ≡ []))) }
+        ensures behind { size_of (shown self) ≤ offset → StandsBehind (shown self) → IfOk result (λ r. r.end ≤ r.at) }
         ensures kept { Joins (shown self) offset → IfOk result (λ r. shown r ≡ shown self) }
         ensures untouched { (Joins (shown self) offset ⊎ (is_idle (shown self) ≡ true)) → dev.new ≡ dev.old }
         ensures once { (D.time dev.new).calls ≤ (D.time dev.old).calls + 1 }
@@ -261,11 +269,14 @@ impl WriteBlob {
         // Bytes that settled outlive each crash below the place, where since then bytes were only added.
         ensures lasts { D.Tells → KeepsSettled (shown self) (disk (D.time dev.old) (blob_key (shown self))) → Keeping (take (min self.settled offset) (bytes_of (shown self) (disk (D.time dev.old) (blob_key (shown self))).content)) (blob_key (shown self)) (D.time dev.old) (D.time dev.new) }
         ensures kept { D.Tells → KeepsSettled (shown self) (disk (D.time dev.old) (blob_key (shown self))) → self.settled ≤ offset → IfOk result (λ r. KeepsSettled (shown r) (disk (D.time dev.new) (blob_key (shown self)))) }
+        ensures since { D.Tells → AddsOnly (bytes_of (shown self) (disk (D.time dev.old) (blob_key (shown self))).content ∷ written (bytes_of (shown self) (disk (D.time dev.old) (blob_key (shown self))).content) offset bytes.now ∷ []) (blob_key (shown self)) (D.time dev.old) (D.time dev.new) }
         ensures bytes { D.Tells → IfOk result (λ r. bytes_of (shown r) (disk (D.time dev.new) (blob_key (shown self))).content ≡ written (bytes_of (shown self) (disk (D.time dev.old) (blob_key (shown self))).content) offset bytes.now) }
         ensures size { IfOk result (λ r. size_of (shown r) ≡ max (size_of (shown self)) (offset + length bytes.now)) }
         ensures same { IfOk result (λ r. shown r ≡ record (shown self) { end = r.end; at = r.at; pending = r.pending.items; dirty = r.dirty }) }
         // The run holds nothing but what was handed in.
         ensures run { IfOk result (λ r. HoldsOnly (shown self) offset bytes.now (shown r)) }
+        // Where nothing is pending below the blob's end, a write at the end of the bytes leaves it so.
+        ensures behind { size_of (shown self) ≤ offset → StandsBehind (shown self) → IfOk result (λ r. StandsBehind (shown r)) }
         // Bytes that join the run reach the device only with all of it.
         ensures joined { Joins (shown self) offset → IfOk result (λ r. (dev.new ≡ dev.old) ⊎ (r.pending.items ≡ [])) }
         ensures below { StaysBelow (shown self) offset (length bytes.now) → dev.new ≡ dev.old }
@@ -299,11 +310,13 @@ impl WriteBlob {
         ensures over { D.Tells → Over (shown self) (disk (D.time dev.old) (blob_key (shown self))) → IfOk result (λ r. Over (shown r.0) (disk (D.time dev.new) (blob_key (shown self)))) }
         ensures lasts { D.Tells → KeepsSettled (shown self) (disk (D.time dev.old) (blob_key (shown self))) → Keeping (take self.settled (bytes_of (shown self) (disk (D.time dev.old) (blob_key (shown self))).content)) (blob_key (shown self)) (D.time dev.old) (D.time dev.new) }
         ensures kept { D.Tells → KeepsSettled (shown self) (disk (D.time dev.old) (blob_key (shown self))) → IfOk result (λ r. KeepsSettled (shown r.0) (disk (D.time dev.new) (blob_key (shown self)))) }
+        ensures since { D.Tells → AddsOnly (bytes_of (shown self) (disk (D.time dev.old) (blob_key (shown self))).content ∷ (bytes_of (shown self) (disk (D.time dev.old) (blob_key (shown self))).content ++ bytes.now) ∷ []) (blob_key (shown self)) (D.time dev.old) (D.time dev.new) }
         ensures bytes { D.Tells → IfOk result (λ r. bytes_of (shown r.0) (disk (D.time dev.new) (blob_key (shown self))).content ≡ bytes_of (shown self) (disk (D.time dev.old) (blob_key (shown self))).content ++ bytes.now) }
         ensures at { IfOk result (λ r. r.1 ≡ size_of (shown self)) }
         ensures size { IfOk result (λ r. size_of (shown r.0) ≡ size_of (shown self) + length bytes.now) }
         ensures same { IfOk result (λ r. shown r.0 ≡ record (shown self) { end = r.0.end; at = r.0.at; pending = r.0.pending.items; dirty = r.0.dirty }) }
         ensures run { IfOk result (λ r. HoldsOnly (shown self) (size_of (shown self)) bytes.now (shown r.0)) }
+        ensures behind { StandsBehind (shown self) → IfOk result (λ r. StandsBehind (shown r.0)) }
         ensures joined { Joins (shown self) (size_of (shown self)) → IfOk result (λ r. (dev.new ≡ dev.old) ⊎ (r.0.pending.items ≡ [])) }
         ensures below { StaysBelow (shown self) (size_of (shown self)) (length bytes.now) → dev.new ≡ dev.old }
         ensures nothing { is_idle (shown self) ≡ true → length bytes.now ≡ 0 → dev.new ≡ dev.old }

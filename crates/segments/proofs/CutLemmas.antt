@@ -79,9 +79,9 @@ not_below n k not = elim (cases_lt n k) [
 
 module _ {F B : Type 0} (g : buffer.Ghosts B) (gives : F → Setting) (told : Type 0) where
   kept_some : BufferLaws g → (u : B) (b : Blob) (few more : ℕ) → few ≤ more → (contents : List (List ℕ)) (o : Option (List ℕ))
-      → IsSomeAnd o (λ c. g.NoChanceSeal u contents c → g.MayKeep u b more c) → IsSomeAnd o (λ c. g.NoChanceSeal u contents c → g.MayKeep u b few c)
+      → IsSomeAnd o (λ c. g.NoChanceSeal u contents c → g.MayKeep u b more contents c) → IsSomeAnd o (λ c. g.NoChanceSeal u contents c → g.MayKeep u b few contents c)
   kept_some laws u b few more le contents None is = is
-  kept_some laws u b few more le contents (Some c) is = λ no_chance. laws.looser u b few more c le (is no_chance)
+  kept_some laws u b few more le contents (Some c) is = λ no_chance. laws.looser u b few more contents c le (is no_chance)
 
   -- fewer bytes are to be kept
   pub leaves_few : BufferLaws g → (u : B) (b : Blob) (few : ℕ) → few ≤ g.settled u → g.Stands u b → Leaves (g.NoChanceSeal u) (g.MayKeep u b few) b

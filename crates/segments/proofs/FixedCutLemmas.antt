@@ -40,10 +40,10 @@ module _ {S : Type 0} {gs : _} (seal : List ℕ → ℕ) (g : buffer.Ghosts (Pag
       → chance.Leaves seal u.page_size (sealed_prefix seal u.page_size from.content) n b
   leaves_front from b least n same un leaves left may = go left (leaves left may)
     where
-      go : (l : Option (List ℕ)) → IsSomeAnd l (λ c. g.NoChanceSeal u (past b) c → g.MayKeep u from least c)
+      go : (l : Option (List ℕ)) → IsSomeAnd l (λ c. g.NoChanceSeal u (past b) c → g.MayKeep u from least (past b) c)
           → IsSomeAnd l (λ c. NoChanceSeal seal u.page_size (past b) c → Prefix seal u.page_size (sealed_prefix seal u.page_size from.content) n c)
       go None has = has
-      go (Some c) has = λ no. subst (λ (m : ℕ). Prefix seal u.page_size (sealed_prefix seal u.page_size from.content) m c) same ((pages.keeps u from least c (has (pages.no_chance u (past b) c no))).unrecovered un)
+      go (Some c) has = λ no. subst (λ (m : ℕ). Prefix seal u.page_size (sealed_prefix seal u.page_size from.content) m c) same ((pages.keeps u from least (past b) c (has (pages.no_chance u (past b) c no))).unrecovered un)
 
   -- of a buffer of which all has settled: its bytes are its sealed prefix, or it has more
   settled_front : (from b : Blob) (least n : ℕ) → u.settled ≡ size_of (shown u) → least ≡ min u.settled n → IsAdopted seal (shown u) from → Leaves (g.NoChanceSeal u) (g.MayKeep u from least) b

@@ -37,7 +37,7 @@ pub record ArePages {S : Type 0} {gs : _} (g : buffer.Ghosts (PageBlob S gs)) (s
   pub is_stands : (u : PageBlob S gs) (b : Blob) → Stands seal (shown u) b → g.Stands u b
   pub is_whole : (u : PageBlob S gs) (b : Blob) → IsSealed seal (shown u) b → g.IsWhole u b
   pub whole : (u : PageBlob S gs) (b : Blob) → g.IsWhole u b → IsSealed seal (shown u) b
-  pub keeps : (u : PageBlob S gs) (b : Blob) (least : ℕ) (c : List ℕ) → g.MayKeep u b least c → MayKeep seal (shown u) b least c
+  pub keeps : (u : PageBlob S gs) (b : Blob) (least : ℕ) (contents : List (List ℕ)) (c : List ℕ) → g.MayKeep u b least contents c → MayKeep seal (shown u) b least c
   pub no_chance : (u : PageBlob S gs) (contents : List (List ℕ)) (c : List ℕ) → NoChanceSeal seal u.page_size contents c → g.NoChanceSeal u contents c
 
 pub are_pages : (R : _) (gs : _) (dict : _) → ArePages (ghosts R gs dict) gs.seal_of
@@ -52,7 +52,7 @@ are_pages R gs dict = record {
   is_stands = λ u b is. is;
   is_whole = λ u b is. is;
   whole = λ u b is. is;
-  keeps = λ u b least c is. is;
+  keeps = λ u b least contents c is. is;
   no_chance = λ u contents c no. no;
 }
 
@@ -142,10 +142,10 @@ module _ {S : Type 0} {gs : _} (seal : List ℕ → ℕ) (g : buffer.Ghosts (Pag
   pub leaves_sealed : (from b : Blob) (least n : ℕ) → least ≡ n → IsSealed seal (shown u) from → Leaves (g.NoChanceSeal u) (g.MayKeep u from least) b → chance.Leaves seal u.page_size (bytes_of (shown u) from.content) n b
   leaves_sealed from b least n same sealed leaves left may = go left (leaves left may)
     where
-      go : (l : Option (List ℕ)) → IsSomeAnd l (λ c. g.NoChanceSeal u (past b) c → g.MayKeep u from least c)
+      go : (l : Option (List ℕ)) → IsSomeAnd l (λ c. g.NoChanceSeal u (past b) c → g.MayKeep u from least (past b) c)
           → IsSomeAnd l (λ c. NoChanceSeal seal u.page_size (past b) c → Prefix seal u.page_size (bytes_of (shown u) from.content) n c)
       go None has = has
-      go (Some c) has = λ no. subst (λ (m : ℕ). Prefix seal u.page_size (bytes_of (shown u) from.content) m c) same ((pages.keeps u from least c (has (pages.no_chance u (past b) c no))).sealed sealed)
+      go (Some c) has = λ no. subst (λ (m : ℕ). Prefix seal u.page_size (bytes_of (shown u) from.content) m c) same ((pages.keeps u from least (past b) c (has (pages.no_chance u (past b) c no))).sealed sealed)
 
 -- a sync of some sections, or of all
 module _ {F S : Type 0} {gs : _} (seal : List ℕ → ℕ) (size : ℕ) (told : Type 0) (g : buffer.Ghosts (PageBlob S gs)) (pages : ArePages g seal) (gives : F → Setting) (j : Lists F (PageBlob S gs)) (old : OpenedList) (a b : Timeline)

@@ -30,26 +30,26 @@ ok_has (Err e) P has = absurd has
 module _ (seal : List ℕ → ℕ) (u : Buffer) (key : Key) (old new : Timeline) where
   module _ (least : ℕ) where
     sealed_moments : IsSealed seal u (disk old key) → Sealing seal u.page_size (bytes_of u (disk old key).content) least key old new
-        → AllMoments key (Leaves (NoChanceSeal seal u.page_size) (MayKeep seal u (disk old key) least)) old new
+        → AllMoments key (Leaves (NoChanceSeal seal u.page_size) (λ _. MayKeep seal u (disk old key) least)) old new
     sealed_moments sealed = only_weaker old new key (disk old) (chance.Leaves seal u.page_size (bytes_of u (disk old key).content) least)
-        (Leaves (NoChanceSeal seal u.page_size) (MayKeep seal u (disk old key) least)) (λ x. sealed_keeps seal u (disk old key) x least sealed)
+        (Leaves (NoChanceSeal seal u.page_size) (λ _. MayKeep seal u (disk old key) least)) (λ x. sealed_keeps seal u (disk old key) x least sealed)
 
     unrecovered_moments : IsUnrecovered seal u (disk old key)
         → Sealing seal u.page_size (sealed_prefix seal u.page_size (disk old key).content) (min least (length (sealed_prefix seal u.page_size (disk old key).content))) key old new
-        → AllMoments key (Leaves (NoChanceSeal seal u.page_size) (MayKeep seal u (disk old key) least)) old new
+        → AllMoments key (Leaves (NoChanceSeal seal u.page_size) (λ _. MayKeep seal u (disk old key) least)) old new
     unrecovered_moments un = only_weaker old new key (disk old)
         (chance.Leaves seal u.page_size (sealed_prefix seal u.page_size (disk old key).content) (min least (length (sealed_prefix seal u.page_size (disk old key).content))))
-        (Leaves (NoChanceSeal seal u.page_size) (MayKeep seal u (disk old key) least)) (λ x. unrecovered_keeps seal u (disk old key) x least un)
+        (Leaves (NoChanceSeal seal u.page_size) (λ _. MayKeep seal u (disk old key) least)) (λ x. unrecovered_keeps seal u (disk old key) x least un)
 
     kept_moments : IsUnrecovered seal u (disk old key) → KeepsPrefix seal u.page_size (sealed_prefix seal u.page_size (disk old key).content) key old new
-        → AllMoments key (Leaves (NoChanceSeal seal u.page_size) (MayKeep seal u (disk old key) least)) old new
+        → AllMoments key (Leaves (NoChanceSeal seal u.page_size) (λ _. MayKeep seal u (disk old key) least)) old new
     kept_moments un keeps = unrecovered_moments un
         (keeps_sealing seal u.page_size (sealed_prefix seal u.page_size (disk old key).content) key (min least (length (sealed_prefix seal u.page_size (disk old key).content))) old new (omega arith) keeps)
 
     -- calls that cut nothing
     pub uncut_moments : IsAdopted seal u (disk old key) → (IsSealed seal u (disk old key) → Sealing seal u.page_size (bytes_of u (disk old key).content) least key old new)
         → (IsUnrecovered seal u (disk old key) → KeepsPrefix seal u.page_size (sealed_prefix seal u.page_size (disk old key).content) key old new)
-        → AllMoments key (Leaves (NoChanceSeal seal u.page_size) (MayKeep seal u (disk old key) least)) old new
+        → AllMoments key (Leaves (NoChanceSeal seal u.page_size) (λ _. MayKeep seal u (disk old key) least)) old new
     uncut_moments adopted crashes steady = elim adopted [
       | inl sealed ↦ sealed_moments sealed (crashes sealed)
       | inr un ↦ kept_moments un (steady un)
@@ -59,7 +59,7 @@ module _ (seal : List ℕ → ℕ) (u : Buffer) (key : Key) (old new : Timeline)
     pub cut_moments : (len : ℕ) → least ≤ len → IsAdopted seal u (disk old key) → (IsSealed seal u (disk old key) → Sealing seal u.page_size (bytes_of u (disk old key).content) least key old new)
         → (IsRecovery seal u len (disk old key) → Sealing seal u.page_size (sealed_prefix seal u.page_size (disk old key).content) len key old new)
         → (IsUnrecovered seal u (disk old key) → length (sealed_prefix seal u.page_size (disk old key).content) < len → KeepsPrefix seal u.page_size (sealed_prefix seal u.page_size (disk old key).content) key old new)
-        → AllMoments key (Leaves (NoChanceSeal seal u.page_size) (MayKeep seal u (disk old key) least)) old new
+        → AllMoments key (Leaves (NoChanceSeal seal u.page_size) (λ _. MayKeep seal u (disk old key) least)) old new
     cut_moments len le adopted crashes recovering steady = elim adopted [
       | inl sealed ↦ sealed_moments sealed (crashes sealed)
       | inr un ↦ elim (cases_lt (length (sealed_prefix seal u.page_size (disk old key).content)) len) [

@@ -24,7 +24,7 @@ use Rattle.segments.proofs.WalkLemmas.{some_same, contains_or_not, Rules, Tries,
 -- what is known of each buffer
 pub record BufferLaws {B : Type 0} (g : buffer.Ghosts B) : Type 0 where
   pub passes : (u : B) (b : Blob) → g.Stands u b → Leaves (g.NoChanceSeal u) (g.MayKeep u b (g.settled u)) b
-  pub looser : (u : B) (b : Blob) (few more : ℕ) (c : List ℕ) → few ≤ more → g.MayKeep u b more c → g.MayKeep u b few c
+  pub looser : (u : B) (b : Blob) (few more : ℕ) (contents : List (List ℕ)) (c : List ℕ) → few ≤ more → g.MayKeep u b more contents c → g.MayKeep u b few contents c
   pub counted : (u : B) (b : Blob) → g.Stands u b → length (g.bytes u b.content) ≡ g.byte_count u
   pub all_settled : (u : B) → g.unsettled u ≡ false → g.settled u ≡ g.byte_count u
   pub rested : (u : B) (b : Blob) → g.Stands u b → g.unsettled u ≡ false → IsAtRest b

@@ -64,7 +64,7 @@ module _ (seal : List ℕ → ℕ) where
         omega (arith, un.short, room, whole_covered seal u (bytes_of u b.content) b sealed (flushed_of u) refl un.page wanted)
 
     -- what the clauses on crashes of a sealed buffer leave passes its test
-    pub sealed_keeps : (from b : Blob) (least : ℕ) → IsSealed seal u from → chance.Leaves seal u.page_size (bytes_of u from.content) least b → Leaves (NoChanceSeal seal u.page_size) (MayKeep seal u from least) b
+    pub sealed_keeps : (from b : Blob) (least : ℕ) → IsSealed seal u from → chance.Leaves seal u.page_size (bytes_of u from.content) least b → Leaves (NoChanceSeal seal u.page_size) (λ _. MayKeep seal u from least) b
     sealed_keeps from b least sealed leaves left may = go left (leaves left may)
       where
         go : (l : Option (List ℕ)) → IsSomeAnd l (λ c. NoChanceSeal seal u.page_size (past b) c → Prefix seal u.page_size (bytes_of u from.content) least c)
@@ -75,7 +75,7 @@ module _ (seal : List ℕ → ℕ) where
     -- and so does what is left of one whose blob was adopted with a shorter sealed prefix
     pub unrecovered_keeps : (from b : Blob) (least : ℕ) → IsUnrecovered seal u from
         → chance.Leaves seal u.page_size (sealed_prefix seal u.page_size from.content) (min least (length (sealed_prefix seal u.page_size from.content))) b
-        → Leaves (NoChanceSeal seal u.page_size) (MayKeep seal u from least) b
+        → Leaves (NoChanceSeal seal u.page_size) (λ _. MayKeep seal u from least) b
     unrecovered_keeps from b least un leaves left may = go left (leaves left may)
       where
         go : (l : Option (List ℕ)) → IsSomeAnd l (λ c. NoChanceSeal seal u.page_size (past b) c → Prefix seal u.page_size (sealed_prefix seal u.page_size from.content) (min least (length (sealed_prefix seal u.page_size from.content))) c)
@@ -99,7 +99,7 @@ module _ (seal : List ℕ → ℕ) where
       pub settled_within : u.settled ≤ size_of u
       settled_within = omega (arith, order, fit.within)
 
-      pub passes : (b : Blob) → Stands seal u b → Leaves (NoChanceSeal seal u.page_size) (MayKeep seal u b u.settled) b
+      pub passes : (b : Blob) → Stands seal u b → Leaves (NoChanceSeal seal u.page_size) (λ _. MayKeep seal u b u.settled) b
       passes b stands = elim stands.adopted [
         | inl sealed ↦ sealed_keeps b b u.settled sealed (holds_leaves seal u (bytes_of u b.content) b fit.begun sealed)
         | inr un ↦ unrecovered_keeps b b u.settled un

@@ -1,32 +1,49 @@
 -- Proofs of the laws of a section in a buffer without seals.
 use Rattle.std.specs.Prelude.{◌≡◌, ℕ, ◌≤◌, ◌||◌, ◌&&◌, ◌∷◌, not, eqb, leb, ⊤, Bool, true, false, List, [], length, None, Some}
-use Rattle.std.proofs.Common.{arith, refl, sym, ap, ◌∙◌}
+use Rattle.std.proofs.Common.{arith, inl, refl, sym, ap, ◌∙◌}
+use Rattle.std.specs.List.{AllByRecursion, Contains}
 use Rattle.std.proofs.lemmas.Bool.Decides.{nat_tests}
+use Rattle.std.proofs.lemmas.List.Elements.{recursion_from_All, All-contains_itself}
 use Rattle.blob_device.specs.Change.{written}
-use Rattle.blob_device.specs.Disk.{Blob}
+use Rattle.blob_device.specs.Disk.{Blob, past}
 use Rattle.blob_device.proofs.Bytes.{length-written}
 use Rattle.sealed_pages.proofs.WriteLemmas.{written_nothing}
 use Rattle.sealed_pages.specs.declared.write_blob.WriteBlob.{WriteBlob}
 use Rattle.sealed_pages.specs.Cutting.{IsAtRest}
 use Rattle.segments.specs.Leaving.{Leaves}
-use Rattle.segments.specs.Unsealed.{Stands, IsWhole, MayKeep, content_of, count_of, settled_of, is_unsettled}
+use Rattle.segments.specs.Unsealed.{Stands, IsWhole, KeepsBytes, IsOldOrFront, MayKeep, content_of, count_of, settled_of, is_unsettled}
+
+-- what is known of each has a weaker form
+pub all_weaker : (P Q : List ℕ → Type 0) (cs : List (List ℕ)) → ((c : List ℕ) → P c → Q c) → AllByRecursion P cs → AllByRecursion Q cs
+all_weaker P Q [] weaker all = tt
+all_weaker P Q (c ∷ cs) weaker all = (weaker c all.0, all_weaker P Q cs weaker all.1)
+
+-- the contents that a blob has had are old
+pub all_old : (u : WriteBlob) (b : Blob) → AllByRecursion (IsOldOrFront u b) (past b)
+all_old u b = all_weaker (Contains (past b)) (IsOldOrFront u b) (past b) (λ c among. inl among) (recursion_from_All (Contains (past b)) (past b) (All-contains_itself (past b)))
 
 pub passes : (u : WriteBlob) (b : Blob) → Stands u b → Leaves (λ _ _. ⊤) (MayKeep u b (settled_of u)) b
 passes u b stands None left =
     let unsure : b.unsure ≡ true = sym (ap (λ (t : Bool). not t || b.unsure) stands.over.lasts.there) ∙ left in
     absurd (cc (unsure, stands.over.lasts.sure))
 passes u b stands (Some c) left = λ sealed. record {
-  long = omega (arith, stands.over.lasts.short, left.1.no_shorter);
-  same = λ i lt out loose. record {
-    inside = omega (arith, lt, stands.over.lasts.short, left.1.no_shorter);
-    same = left.1.kept i (omega (arith, lt, stands.over.lasts.short)) loose;
+  bytes = record {
+    long = omega (arith, stands.over.lasts.short, left.1.no_shorter);
+    same = λ i lt out loose. record {
+      inside = omega (arith, lt, stands.over.lasts.short, left.1.no_shorter);
+      same = left.1.kept i (omega (arith, lt, stands.over.lasts.short)) loose;
+    };
   };
+  since = λ behind. all_old u b;
 }
 
-pub looser : (u : WriteBlob) (b : Blob) (few more : ℕ) (c : List ℕ) → few ≤ more → MayKeep u b more c → MayKeep u b few c
-looser u b few more c le keeps = record {
-  long = omega (arith, keeps.long);
-  same = λ i lt out loose. keeps.same i (omega (arith, lt, le)) out loose;
+pub looser : (u : WriteBlob) (b : Blob) (few more : ℕ) (contents : List (List ℕ)) (c : List ℕ) → few ≤ more → MayKeep u b more contents c → MayKeep u b few contents c
+looser u b few more contents c le keeps = record {
+  bytes = record {
+    long = omega (arith, keeps.bytes.long);
+    same = λ i lt out loose. keeps.bytes.same i (omega (arith, lt, le)) out loose;
+  };
+  since = keeps.since;
 }
 
 pub counted : (u : WriteBlob) (b : Blob) → Stands u b → length (content_of u b.content) ≡ count_of u

@@ -58,9 +58,9 @@ pub trait SectionBuffer: Sized + Drop {
     /// the contents that the blob had since it settled.
     ghost NoChanceSeal: { Self → List (List ℕ) → List ℕ → Type 0 };
 
-    /// A crash may leave these bytes of the buffer's blob, where the buffer stood over that blob, and so many of its bytes
-    /// have to be kept.
-    ghost MayKeep: { Self → Blob → ℕ → List ℕ → Type 0 };
+    /// A crash may leave these bytes of the buffer's blob, which since it settled has had these contents, where the buffer stood
+    /// over that blob, and so many of its bytes have to be kept.
+    ghost MayKeep: { Self → Blob → ℕ → List (List ℕ) → List ℕ → Type 0 };
 
     /// The buffer, over this blob, may be cut to this length.
     ghost CanCut: { Self → Blob → ℕ → Type 0 };
@@ -159,7 +159,7 @@ pub trait SectionBuffer: Sized + Drop {
     ghost passes: { (u : Self) (b : Blob) → Stands u b → Leaves (NoChanceSeal u) (MayKeep u b (settled u)) b };
 
     /// Fewer bytes to keep ask less of a crash.
-    ghost looser: { (u : Self) (b : Blob) (few more : ℕ) (c : List ℕ) → few ≤ more → MayKeep u b more c → MayKeep u b few c };
+    ghost looser: { (u : Self) (b : Blob) (few more : ℕ) (contents : List (List ℕ)) (c : List ℕ) → few ≤ more → MayKeep u b more contents c → MayKeep u b few contents c };
 
     /// The bytes are as many as the buffer says.
     ghost counted: { (u : Self) (b : Blob) → Stands u b → length (bytes u b.content) ≡ byte_count u };

@@ -98,6 +98,14 @@ impl<A: CodecFixed, S: Seal> Journal<A, S> {
         self.manager.size(section)
     }
 
+    /// Refuses a section below the floor. It takes no memory.
+    pub fn prune_guard(&self, section: u64) -> Result<(), Error>
+        ensures guard { IsPruned result (shown self.now).sections.floor ↔ (section < (shown self.now).sections.floor) }
+        ensures cause { OnErr result (IsPruned result (shown self.now).sections.floor) }
+    {
+        self.manager.prune_guard(section)
+    }
+
     /// Whether the section is below the floor, up to which sections were pruned.
     pub fn pruned(&self, section: u64) -> bool
         ensures { IsTrue result ↔ (section < (shown self.now).sections.floor) }

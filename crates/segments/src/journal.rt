@@ -1,7 +1,7 @@
 // What the calls on sections, and the journals above them, refuse with.
 ghost use Rattle.std.specs.Prelude.{◌≡◌};
 ghost use Rattle.segments.specs.declared.journal.Error.TheVariants.{Mem};
-ghost use Rattle.segments.specs.Raised.{raised, raised_device, raised_codec};
+ghost use Rattle.segments.specs.Raised.{raised, raised_device, raised_codec, raised_metadata};
 
 use blob_device::{DevError, RError};
 use std::alloc::{AllocError, AllocFailed};
@@ -28,6 +28,9 @@ pub enum Error {
     /// A buffer over the device failed. A call that consumed its store gave it up; the blobs are then opened again.
     #[error("{0}")]
     Runtime(RError),
+    /// The map of markers beside the sections failed.
+    #[error("{0}")]
+    Metadata(meta_store::Error),
     /// An item does not decode.
     #[error("{0}")]
     Codec(codec::Error),
@@ -108,6 +111,18 @@ impl From<codec::Error> for Error {
         match e {
             codec::Error::Mem => Error::Mem,
             other => Error::Codec(other),
+        }
+    }
+}
+
+impl From<meta_store::Error> for Error {
+    ghost from_gives = { λ e r. r ≡ raised_metadata e };
+
+    fn from(e: meta_store::Error) -> Self {
+        match e {
+            meta_store::Error::Mem => Error::Mem,
+            meta_store::Error::Full => Error::Full,
+            other => Error::Metadata(other),
         }
     }
 }

@@ -78,7 +78,7 @@ impl<S: Seal> SectionBuffer for PageBlob<S> {
 
     ghost NoChanceSeal = { λ u contents c. NoChanceSeal S.seal_of u.page_size contents c };
 
-    ghost MayKeep = { λ u b least c. MayKeep S.seal_of (shown u) b least c };
+    ghost MayKeep = { λ u b least contents c. MayKeep S.seal_of (shown u) b least c };
 
     ghost CanCut = { λ u b len. IsSafeCut S.seal_of (shown u) len b };
 
@@ -109,7 +109,7 @@ impl<S: Seal> SectionBuffer for PageBlob<S> {
 
     ghost passes = { λ u. passes S.seal_of (shown u) u.fit u.order };
 
-    ghost looser = { λ u. looser S.seal_of (shown u) };
+    ghost looser = { λ u b few more contents. looser S.seal_of (shown u) b few more };
 
     ghost counted = { λ u b stands. counted (shown u) b.content };
 

@@ -10,6 +10,7 @@ ghost use Rattle.blob_device.specs.Timeline.{disk, Always, Each};
 ghost use Rattle.sealed_pages.specs.Entries.{ReadsAtMost};
 ghost use Rattle.sealed_pages.specs.Reading.{Unchanged};
 ghost use Rattle.segments.specs.Leaving.{AllMoments};
+ghost use Rattle.segments.specs.Unsealed.{content_of};
 ghost use Rattle.segments.specs.Entries.{StartsNoRead};
 ghost use Rattle.segments.specs.Sections.{section_key, key_of, IsHeld, IsKnown, IsGone, IsSame, SamePlace, SameBounds, IsKeyOf, IsCut};
 ghost use Rattle.segments.specs.Lasting.{IsSettling};
@@ -193,7 +194,7 @@ impl<V: Codec, S: Seal> Recovery<V, S> {
         ensures lifted { IfOk result (λ r. (shown r.manager).ceiling ≡ 2 ^ 64 - 1) }
         ensures codec_config { IfOk result (λ r. r.codec_config ≡ self.codec_config) }
         // At every moment, also where the call fails, no blob is touched before those of all sections that go before it are gone, the
-        // section's own the last; each crash leaves of it what had settled, up to the cut.
+        // section's own the last; each crash leaves of it what had settled, up to the cut, and behind it only what its bytes make.
         ensures moments { D.Tells → Always (D.time dev.old) (D.time dev.new) (Truncating (shown self.manager) section size (disk (D.time dev.old))) }
         ensures gone { D.Tells → OnOk result ((s : ℕ) → IsKnown (shown self.manager) s → section < s → disk (D.time dev.new) (key_of (shown self.manager) s) ≡ nothing) }
         ensures idle { ((s : ℕ) → IsKnown (shown self.manager) s → s ≤ section) → (IsLonger (shown self.manager) section size → ⊥) → dev.new ≡ dev.old }
@@ -229,10 +230,10 @@ impl<V: Codec, S: Seal> Recovery<V, S> {
         ensures others { IfOk result (λ r. (q : ℕ) → q ≢ section → IsSame (shown self.manager) (shown r.manager) q) }
         ensures bounds { IfOk result (λ r. SameBounds (shown self.manager) (shown r.manager)) }
         ensures codec_config { IfOk result (λ r. r.codec_config ≡ self.codec_config) }
-        // At every moment, also where the call fails, each crash leaves of the section what had settled, up to the cut; no other blob
-        // changes.
+        // At every moment, also where the call fails, each crash leaves of the section what had settled, up to the cut, and behind it
+        // only what its bytes make; no other blob changes.
         ensures moments { D.Tells → AllMoments (key_of (shown self.manager) section) (λ b. (u : _) → (shown self.manager).held section ≡ Some u
-            → Outlasts (settled_to size u (disk (D.time dev.old) (key_of (shown self.manager) section)).content) b) (D.time dev.old) (D.time dev.new) }
+            → Outlasts (settled_to size u (disk (D.time dev.old) (key_of (shown self.manager) section)).content) (content_of u (disk (D.time dev.old) (key_of (shown self.manager) section)).content) b) (D.time dev.old) (D.time dev.new) }
         ensures idle { (IsLonger (shown self.manager) section size → ⊥) → dev.new ≡ dev.old }
         ensures entries { (q : Key) → q ≢ key_of (shown self.manager) section → D.opened dev.new q ≡ D.opened dev.old q }
         ensures reads { StartsNoRead (D.opened dev.old) (D.opened dev.new) }

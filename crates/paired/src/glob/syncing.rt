@@ -34,7 +34,8 @@ impl<V: Codec, S: Seal> Glob<V, S> {
         ensures unopened { IfOk result (λ r. (s : ℕ) → (shown r.manager).unopened s ≡ (shown self.manager).unopened s) }
         ensures bounds { IfOk result (λ r. SameBounds (shown self.manager) (shown r.manager)) }
         ensures codec_config { IfOk result (λ r. r.codec_config ≡ self.codec_config) }
-        // At every moment, also where the call fails, each crash leaves of the named sections what had settled; no other blob changes.
+        // At every moment, also where the call fails, each crash leaves of the named sections what had settled, and behind it only what
+        // their bytes make; no other blob changes.
         ensures moments { D.Tells → Always (D.time dev.old) (D.time dev.new) (Each (Settling (shown self.manager) (Contains sections.now) (disk (D.time dev.old)))) }
         // Where nothing named is unsettled, no call of the device is made.
         ensures idle { ((s : ℕ) → Contains sections.now s → IsUnsettled (shown self.manager) s → ⊥) → dev.new ≡ dev.old }

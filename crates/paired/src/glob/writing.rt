@@ -5,7 +5,7 @@ ghost use Rattle.blob_device.specs.Timeline.{disk};
 ghost use Rattle.segments.specs.Leaving.{AllMoments};
 ghost use Rattle.segments.specs.Entries.{OnlyOwnEntry, StartsNoRead};
 ghost use Rattle.segments.specs.Sections.{key_of, IsHeld, IsSame, SameBounds};
-ghost use Rattle.segments.specs.Unsealed.{count_of};
+ghost use Rattle.segments.specs.Unsealed.{content_of, count_of};
 ghost use Rattle.segments.specs.Raised.{raised};
 ghost use Rattle.segments.specs.Refusing.{HasFailed, IsPruned};
 ghost use Rattle.paired.specs.Frames.{frame, HasFrame};
@@ -61,11 +61,12 @@ impl<V: Codec, S: Seal> Glob<V, S> {
         ensures other_bytes { D.Tells → IfOk result (λ r. (q : ℕ) → q ≢ section → section_bytes (shown r.0.manager) (disk (D.time dev.new)) q ≡ section_bytes (shown self.manager) (disk (D.time dev.old)) q) }
         ensures bounds { IfOk result (λ r. SameBounds (shown self.manager) (shown r.0.manager)) }
         ensures codec_config { IfOk result (λ r. r.0.codec_config ≡ self.codec_config) }
-        // At every moment, also where the call fails, each crash leaves of the section what had settled; no other blob changes.
+        // At every moment, also where the call fails, each crash leaves of the section what had settled, and behind it only what its
+        // bytes and the frame make; no other blob changes.
         ensures moments { D.Tells → (u : _) → (shown self.manager).held section ≡ Some u
-            → AllMoments (key_of (shown self.manager) section) (Outlasts (settled_bytes u (disk (D.time dev.old) (key_of (shown self.manager) section)).content)) (D.time dev.old) (D.time dev.new) }
+            → AllMoments (key_of (shown self.manager) section) (Outlasts (settled_bytes u (disk (D.time dev.old) (key_of (shown self.manager) section)).content) (content_of u (disk (D.time dev.old) (key_of (shown self.manager) section)).content ++ frame S.seal_of (V.spelling value.now))) (D.time dev.old) (D.time dev.new) }
         ensures made { D.Tells → (shown self.manager).held section ≡ None
-            → AllMoments (key_of (shown self.manager) section) (IsBeginning (disk (D.time dev.old) (key_of (shown self.manager) section))) (D.time dev.old) (D.time dev.new) }
+            → AllMoments (key_of (shown self.manager) section) (IsBeginning (frame S.seal_of (V.spelling value.now)) (disk (D.time dev.old) (key_of (shown self.manager) section))) (D.time dev.old) (D.time dev.new) }
         // The frame reaches the device in one write, and only once the bytes that are not flushed are at least the capacity.
         ensures once { IsHeld (shown self.manager) section → (D.time dev.new).calls ≤ (D.time dev.old).calls + 1 }
         ensures below { IsHeld (shown self.manager) section

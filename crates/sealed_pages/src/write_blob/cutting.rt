@@ -1,11 +1,12 @@
 // Cutting a buffer over a blob without seals.
 ghost use Rattle.std.specs.Prelude.{◌≡◌, ◌+◌, ◌-◌, ◌≤◌, ◌<◌, ◌^◌, ◌⊎◌, min, Err, length, take, IfOk, IsOkAnd, OnOk, OnErr, true, false, ℕ, List, [], ◌∷◌};
 ghost use Rattle.blob_device.specs.Disk.{Outside, settled_at};
-ghost use Rattle.blob_device.specs.Change.{resized};
+ghost use Rattle.blob_device.specs.Change.{written, resized};
 ghost use Rattle.blob_device.specs.Timeline.{disk};
 ghost use Rattle.blob_device.specs.Counts.{Rose};
 ghost use Rattle.sealed_pages.specs.Entries.{IsOpenAt, NoReads};
 ghost use Rattle.sealed_pages.specs.Sparing.{Sparing, LooseOnly, Keeping};
+ghost use Rattle.sealed_pages.specs.Contents.{AddsOnly};
 
 use super::WriteBlob;
 use blob_device::{DevError, Device, RError};
@@ -31,6 +32,7 @@ impl WriteBlob {
         ensures spares { D.Tells → Sparing (λ i. i < len) (min self.settled len) (blob_key (shown self)) (D.time dev.old) (D.time dev.new) }
         ensures loose { D.Tells → LooseOnly (λ i. Unit {0}) (blob_key (shown self)) (D.time dev.old) (D.time dev.new) }
         ensures content { D.Tells → OnOk result ((disk (D.time dev.new) (blob_key (shown self))).content ≡ take len (disk (D.time dev.old) (blob_key (shown self))).content) }
+        ensures since { D.Tells → AddsOnly (take len (disk (D.time dev.old) (blob_key (shown self))).content ∷ []) (blob_key (shown self)) (D.time dev.old) (D.time dev.new) }
         ensures same { IfOk result (λ r. shown r ≡ record (shown self) { end = len; settled = min self.settled len; dirty = r.dirty }) }
         ensures untouched { self.end ≤ len → dev.new ≡ dev.old }
         ensures once { (D.time dev.new).calls ≤ (D.time dev.old).calls + 1 }
@@ -62,6 +64,10 @@ impl WriteBlob {
         // Where bytes were only added since the first `settled` bytes settled, each crash leaves those of them below `len`.
         ensures lasts { D.Tells → KeepsSettled (shown self) (disk (D.time dev.old) (blob_key (shown self))) → Keeping (take (min self.settled len) (bytes_of (shown self) (disk (D.time dev.old) (blob_key (shown self))).content)) (blob_key (shown self)) (D.time dev.old) (D.time dev.new) }
         ensures kept { D.Tells → KeepsSettled (shown self) (disk (D.time dev.old) (blob_key (shown self))) → IfOk result (λ r. KeepsSettled (shown r) (disk (D.time dev.new) (blob_key (shown self)))) }
+        // The run's part below `len` is flushed first.
+        ensures since { D.Tells → AddsOnly (written (disk (D.time dev.old) (blob_key (shown self))).content (min self.at len) (take (len - min self.at len) self.pending.items) ∷ take len (bytes_of (shown self) (disk (D.time dev.old) (blob_key (shown self))).content) ∷ []) (blob_key (shown self)) (D.time dev.old) (D.time dev.new) }
+        // Where the run has none there, or stands behind the blob's end, that makes no content but the cut bytes.
+        ensures since_cut { D.Tells → ((self.end ≤ self.at) ⊎ ((len ≤ self.at) ⊎ (length self.pending.items ≡ 0))) → AddsOnly (take len (bytes_of (shown self) (disk (D.time dev.old) (blob_key (shown self))).content) ∷ []) (blob_key (shown self)) (D.time dev.old) (D.time dev.new) }
         ensures settles { D.Tells → len < size_of (shown self) → OnOk result (disk (D.time dev.new) (blob_key (shown self)) ≡ settled_at (take len (bytes_of (shown self) (disk (D.time dev.old) (blob_key (shown self))).content))) }
         ensures bytes { D.Tells → IfOk result (λ r. bytes_of (shown r) (disk (D.time dev.new) (blob_key (shown self))).content ≡ take len (bytes_of (shown self) (disk (D.time dev.old) (blob_key (shown self))).content)) }
         ensures cut { len < size_of (shown self) → IfOk result (λ r. (is_unsettled (shown r) ≡ false) × (r.settled ≡ len)) }

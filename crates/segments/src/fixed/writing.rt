@@ -47,6 +47,19 @@ impl<A: CodecFixed, S: Seal> Journal<A, S> {
     ghost use Rattle.segments.specs.FixedLists.{IsJournal, IsRecovered, section_bytes, section_size};
     ghost use Rattle.segments.specs.FixedLasting.{IsBeginning, Settling};
 
+    /// Whether an append to the section would answer `Full`: whether one item more makes its blob, with both slots of its last page, pass the
+    /// greatest `u64`. It takes no memory.
+    pub fn is_full(&self, section: u64) -> Result<bool, Error>
+        ensures full { IfOk result (λ r. IsTrue r ↔ IsSomeAnd ((shown self.now).sections.held section) (λ u. 2 ^ 64 ≤ extent u.page_size (size_of (page_blob.shown u) + A.SIZE))) }
+        ensures guard { IsPruned result (shown self.now).sections.floor ↔ (section < (shown self.now).sections.floor) }
+        ensures cause { OnErr result (IsPruned result (shown self.now).sections.floor) }
+    {
+        Ok(match self.manager.get(section)? {
+            Some(buffer) => !buffer.has_room(A::SIZE),
+            None => false,
+        })
+    }
+
     /// Adds an item at the end of the section, which is made where it is not held. The answer has the item's position.
     ///
     /// `Full` says that the section's blob would pass the greatest `u64`.

@@ -80,6 +80,12 @@ fn pruned_first(rt: HostRuntime) -> Result<(), Fail> {
         journal.get(&mut dev, 1, 0).err(),
         Some(Error::AlreadyPrunedToSection(3))
     );
+    assert_eq!(rt;
+        journal.is_full(2).err(),
+        Some(Error::AlreadyPrunedToSection(3))
+    );
+    assert!(rt; journal.prune_guard(3).is_ok());
+    assert!(rt; !journal.is_full(5)?);
     assert_eq!(rt; journal.get(&mut dev, 5, 0)?, 50);
     assert_eq!(rt; journal.oldest_section(), Some(5));
     assert_eq!(rt; journal.newest_section(), Some(5));

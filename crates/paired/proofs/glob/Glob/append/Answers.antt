@@ -10,13 +10,12 @@ use Rattle.blob_device.proofs.Moments.{always_now}
 use Rattle.blob_device.specs.Disk.{Key, Outside}
 use Rattle.sealed_pages.specs.Entries.{IsOpenAt}
 use Rattle.blob_device.specs.Timeline.{disk}
-use Rattle.sealed_pages.specs.Sparing.{Sparing}
-use Rattle.sealed_pages.specs.Writing.{WriteBuffer, run_of, size_of}
+use Rattle.sealed_pages.specs.Writing.{WriteBuffer, run_of}
 use Rattle.sealed_pages.specs.Writing as writing
 use Rattle.segments.specs.Leaving.{AllMoments}
 use Rattle.segments.specs.Managed.{shown}
 use Rattle.segments.specs.Sections.{key_of}
-use Rattle.segments.specs.Unsealed.{Stands, IsWhole, content_of, count_of}
+use Rattle.segments.specs.Unsealed.{Stands, content_of, count_of}
 use Rattle.paired.specs.GlobLasting.{Outlasts, settled_bytes}
 use Rattle.sealed_pages.specs.declared.write_blob.WriteBlob.{WriteBlob}
 use Rattle.segments.specs.Setting.{Setting}
@@ -24,12 +23,12 @@ use Rattle.segments.proofs.KeyLemmas.{keys_differ}
 use Rattle.segments.proofs.OverLemmas.{same_key, over_put}
 use Rattle.segments.proofs.RemoveLemmas.{same_then}
 use Rattle.segments.proofs.WalkLemmas.{same_bounds, some_same}
-use Rattle.paired.proofs.GlobLemmas.{buffers, glob_one, same_bytes, held_bytes, section_counted}
+use Rattle.paired.proofs.GlobLemmas.{buffers, Serves, serves_of, glob_one, same_bytes, held_bytes, no_bytes, section_counted}
 use Rattle.segments.proofs.EntryLemmas.{starts_none}
 use Rattle.segments.proofs.TruncateLemmas.{unread_then}
 use Rattle.paired.specs.Frames.{frame, HasFrame}
-use Rattle.paired.specs.GlobSections.{section_bytes, section_size, pending_size, pending_held, settled_held, TakesMore}
-use Rattle.paired.proofs.AppendLemmas.{stays_below, full_held, end_size, some_size, match_err, never_full, why_of, same_error, mapped_ok, ok_at, open_long, taken_size, taken_bytes, appended_takes, appended_whole, still_moments, begin_moments, begun_moments, append_moments, taken_whole, held_moments}
+use Rattle.paired.specs.GlobSections.{section_bytes, section_size, pending_size, pending_held, settled_held, HadFronts, TakesMore}
+use Rattle.paired.proofs.AppendLemmas.{stays_below, full_held, end_size, some_size, match_err, never_full, why_of, same_error, mapped_ok, ok_at, open_long, taken_size, taken_bytes, appended_takes, appended_whole, still_moments, begin_moments, begun_moments, append_fronts, append_moments, taken_serves, held_moments}
 use Rattle.paired.proofs.FrameLemmas.{length-frame}
 use Rattle.paired.proofs.FrameLemmas.{stands as frame_stands}
 use Rattle.std.proofs.lemmas.Bool.{cases_lt}
@@ -42,33 +41,34 @@ setting_at capacity = record { page_size = 1; capacity = capacity }
 pub returns-in_err-size-clause-moments : goal.returns-in_err-size-clause-moments
 returns-in_err-size-clause-moments g c t u held =
     let m = shown c.args.self.manager in
-    still_moments u (key_of m c.args.section) (g.D.Device.time c.args.dev.now) ((c.requires.over.over.disk t).stands c.args.section u held) (c.requires.over.whole t c.args.section u held)
+    still_moments u (frame g.S.Seal.seal_of (g.V.Codec.spelling c.args.value.now)) (key_of m c.args.section) (g.D.Device.time c.args.dev.now) t ((c.requires.over.over.disk t).stands c.args.section u held) (serves_of _ m _ _ c.requires.over c.args.section u held)
 
 pub returns-in_err-end-clause-moments : goal.returns-in_err-end-clause-moments
 returns-in_err-end-clause-moments g c t u held =
     let m = shown c.args.self.manager in
-    still_moments u (key_of m c.args.section) (g.D.Device.time c.args.dev.now) ((c.requires.over.over.disk t).stands c.args.section u held) (c.requires.over.whole t c.args.section u held)
+    still_moments u (frame g.S.Seal.seal_of (g.V.Codec.spelling c.args.value.now)) (key_of m c.args.section) (g.D.Device.time c.args.dev.now) t ((c.requires.over.over.disk t).stands c.args.section u held) (serves_of _ m _ _ c.requires.over c.args.section u held)
 
 pub returns-then-from-end-clause-moments : goal.returns-then-from-end-clause-moments
 returns-then-from-end-clause-moments g c t u held =
     let m = shown c.args.self.manager in
-    still_moments u (key_of m c.args.section) (g.D.Device.time c.args.dev.now) ((c.requires.over.over.disk t).stands c.args.section u held) (c.requires.over.whole t c.args.section u held)
+    still_moments u (frame g.S.Seal.seal_of (g.V.Codec.spelling c.args.value.now)) (key_of m c.args.section) (g.D.Device.time c.args.dev.now) t ((c.requires.over.over.disk t).stands c.args.section u held) (serves_of _ m _ _ c.requires.over c.args.section u held)
 
 pub returns-in_err-frame-clause-moments : goal.returns-in_err-frame-clause-moments
 returns-in_err-frame-clause-moments g c t u held =
     let m = shown c.args.self.manager in
-    still_moments u (key_of m c.args.section) (g.D.Device.time c.args.dev.now) ((c.requires.over.over.disk t).stands c.args.section u held) (c.requires.over.whole t c.args.section u held)
+    still_moments u (frame g.S.Seal.seal_of (g.V.Codec.spelling c.args.value.now)) (key_of m c.args.section) (g.D.Device.time c.args.dev.now) t ((c.requires.over.over.disk t).stands c.args.section u held) (serves_of _ m _ _ c.requires.over c.args.section u held)
 
 pub returns-in_err-buffer-clause-moments : goal.returns-in_err-buffer-clause-moments
 returns-in_err-buffer-clause-moments g c t u held =
     let m = shown c.args.self.manager in
     let k = key_of m c.args.section in
     let a = g.D.Device.time c.args.dev.now in
-    subst (λ x. AllMoments k (Outlasts (settled_bytes u (disk a k).content)) a (g.D.Device.time x)) (sym (c.take.ensures.untouched (some_held (m.held c.args.section) u held)))
-    (still_moments u k a ((c.requires.over.over.disk t).stands c.args.section u held) (c.requires.over.whole t c.args.section u held))
+    let f = frame g.S.Seal.seal_of (g.V.Codec.spelling c.args.value.now) in
+    subst (λ x. AllMoments k (Outlasts (settled_bytes u (disk a k).content) (content_of u (disk a k).content ++ f)) a (g.D.Device.time x)) (sym (c.take.ensures.untouched (some_held (m.held c.args.section) u held)))
+    (still_moments u f k a t ((c.requires.over.over.disk t).stands c.args.section u held) (serves_of _ m _ _ c.requires.over c.args.section u held))
 
 pub returns-in_err-buffer-clause-made : goal.returns-in_err-buffer-clause-made
-returns-in_err-buffer-clause-made g c t none = begin_moments (key_of (shown c.args.self.manager) c.args.section) (g.D.Device.time c.args.dev.now) (g.D.Device.time c.take.new.dev) (c.take.ensures.moments t)
+returns-in_err-buffer-clause-made g c t none = begin_moments (frame g.S.Seal.seal_of (g.V.Codec.spelling c.args.value.now)) (key_of (shown c.args.self.manager) c.args.section) (g.D.Device.time c.args.dev.now) (g.D.Device.time c.take.new.dev) (c.take.ensures.moments t)
 
 pub returns-in_err-buffer-2-clause-moments : goal.returns-in_err-buffer-2-clause-moments
 returns-in_err-buffer-2-clause-moments g c t u held =
@@ -80,12 +80,11 @@ returns-in_err-buffer-2-clause-moments g c t u held =
     let took = c.in_ok-buffer.ensures in
     let b = time c.take.new.dev in
     let e = time c.append.new.dev in
-    let n = length c.as_slice.result.now in
-    let stands : Stands w (disk b k) = took.stands t in
-    let whole = taken_whole _ m (g.D.Device.opened c.args.dev.now) (disk (time c.args.dev.now)) c.requires.over t s w (disk b) took.same (λ held. ap (λ x. disk (time x)) (c.take.ensures.untouched held)) took.idle stands in
-    let spares = subst (λ (q : Key). Sparing (Outside ((size_of (writing.shown w), n) ∷ run_of (writing.shown w) ∷ [])) w.settled q b e) took.key (c.append.ensures.spares t) in
-    let adds = append_moments w n k b e stands whole spares in
-    held_moments time c.args.dev.now c.take.new.dev c.append.new.dev u w k (c.take.ensures.untouched (some_held (m.held s) u held)) (took.same u held) adds
+    let f = frame g.S.Seal.seal_of (g.V.Codec.spelling c.args.value.now) in
+    let is : c.as_slice.result.now ≡ f = c.as_slice.ensures.value ∙ c.in_ok-frame.ensures.frame in
+    let serves = taken_serves _ m (g.D.Device.opened c.args.dev.now) (disk (time c.args.dev.now)) c.requires.over s w (disk b) took.same (λ held. ap (λ x. disk (time x)) (c.take.ensures.untouched held)) took.idle took.stands in
+    let adds = append_moments w c.as_slice.result.now f is k b e took.key t (took.stands t) serves (c.append.ensures.spares t) (c.append.ensures.since t) in
+    held_moments time c.args.dev.now c.take.new.dev c.append.new.dev u w f k (c.take.ensures.untouched (some_held (m.held s) u held)) (took.same u held) adds
 
 pub returns-in_err-buffer-2-clause-made : goal.returns-in_err-buffer-2-clause-made
 returns-in_err-buffer-2-clause-made g c t none =
@@ -97,12 +96,13 @@ returns-in_err-buffer-2-clause-made g c t none =
     let took = c.in_ok-buffer.ensures in
     let b = time c.take.new.dev in
     let e = time c.append.new.dev in
-    let n = length c.as_slice.result.now in
-    let stands : Stands w (disk b k) = took.stands t in
-    let whole = taken_whole _ m (g.D.Device.opened c.args.dev.now) (disk (time c.args.dev.now)) c.requires.over t s w (disk b) took.same (λ held. ap (λ x. disk (time x)) (c.take.ensures.untouched held)) took.idle stands in
-    let spares = subst (λ (q : Key). Sparing (Outside ((size_of (writing.shown w), n) ∷ run_of (writing.shown w) ∷ [])) w.settled q b e) took.key (c.append.ensures.spares t) in
-    let adds = append_moments w n k b e stands whole spares in
-    begun_moments (settled_bytes w (disk b k).content) k (time c.args.dev.now) b e (c.take.ensures.moments t) adds
+    let f = frame g.S.Seal.seal_of (g.V.Codec.spelling c.args.value.now) in
+    let is : c.as_slice.result.now ≡ f = c.as_slice.ensures.value ∙ c.in_ok-frame.ensures.frame in
+    let serves = taken_serves _ m (g.D.Device.opened c.args.dev.now) (disk (time c.args.dev.now)) c.requires.over s w (disk b) took.same (λ held. ap (λ x. disk (time x)) (c.take.ensures.untouched held)) took.idle took.stands in
+    let adds = append_moments w c.as_slice.result.now f is k b e took.key t (took.stands t) serves (c.append.ensures.spares t) (c.append.ensures.since t) in
+    let none_before = taken_bytes _ m (g.D.Device.opened c.args.dev.now) (disk (time c.args.dev.now)) c.requires.over s c.ranges.section.fits c.requires.ceiling w (disk b) took.same (λ held. ap (λ x. disk (time x)) (c.take.ensures.untouched held)) took.idle took.made t (took.bytes t)
+    ∙ no_bytes m (disk (time c.args.dev.now)) s none in
+    begun_moments (settled_bytes w (disk b k).content) (content_of w (disk b k).content ++ f) f (ap (λ (l : List ℕ). l ++ f) none_before) k (time c.args.dev.now) b e (c.take.ensures.moments t) adds
 
 pub returns-in_err-put-clause-moments : goal.returns-in_err-put-clause-moments
 returns-in_err-put-clause-moments g c t u held =
@@ -114,12 +114,11 @@ returns-in_err-put-clause-moments g c t u held =
     let took = c.in_ok-buffer.ensures in
     let b = time c.take.new.dev in
     let e = time c.append.new.dev in
-    let n = length c.as_slice.result.now in
-    let stands : Stands w (disk b k) = took.stands t in
-    let whole = taken_whole _ m (g.D.Device.opened c.args.dev.now) (disk (time c.args.dev.now)) c.requires.over t s w (disk b) took.same (λ held. ap (λ x. disk (time x)) (c.take.ensures.untouched held)) took.idle stands in
-    let spares = subst (λ (q : Key). Sparing (Outside ((size_of (writing.shown w), n) ∷ run_of (writing.shown w) ∷ [])) w.settled q b e) took.key (c.append.ensures.spares t) in
-    let adds = append_moments w n k b e stands whole spares in
-    held_moments time c.args.dev.now c.take.new.dev c.append.new.dev u w k (c.take.ensures.untouched (some_held (m.held s) u held)) (took.same u held) adds
+    let f = frame g.S.Seal.seal_of (g.V.Codec.spelling c.args.value.now) in
+    let is : c.as_slice.result.now ≡ f = c.as_slice.ensures.value ∙ c.in_ok-frame.ensures.frame in
+    let serves = taken_serves _ m (g.D.Device.opened c.args.dev.now) (disk (time c.args.dev.now)) c.requires.over s w (disk b) took.same (λ held. ap (λ x. disk (time x)) (c.take.ensures.untouched held)) took.idle took.stands in
+    let adds = append_moments w c.as_slice.result.now f is k b e took.key t (took.stands t) serves (c.append.ensures.spares t) (c.append.ensures.since t) in
+    held_moments time c.args.dev.now c.take.new.dev c.append.new.dev u w f k (c.take.ensures.untouched (some_held (m.held s) u held)) (took.same u held) adds
 
 pub returns-in_err-put-clause-made : goal.returns-in_err-put-clause-made
 returns-in_err-put-clause-made g c t none =
@@ -131,12 +130,13 @@ returns-in_err-put-clause-made g c t none =
     let took = c.in_ok-buffer.ensures in
     let b = time c.take.new.dev in
     let e = time c.append.new.dev in
-    let n = length c.as_slice.result.now in
-    let stands : Stands w (disk b k) = took.stands t in
-    let whole = taken_whole _ m (g.D.Device.opened c.args.dev.now) (disk (time c.args.dev.now)) c.requires.over t s w (disk b) took.same (λ held. ap (λ x. disk (time x)) (c.take.ensures.untouched held)) took.idle stands in
-    let spares = subst (λ (q : Key). Sparing (Outside ((size_of (writing.shown w), n) ∷ run_of (writing.shown w) ∷ [])) w.settled q b e) took.key (c.append.ensures.spares t) in
-    let adds = append_moments w n k b e stands whole spares in
-    begun_moments (settled_bytes w (disk b k).content) k (time c.args.dev.now) b e (c.take.ensures.moments t) adds
+    let f = frame g.S.Seal.seal_of (g.V.Codec.spelling c.args.value.now) in
+    let is : c.as_slice.result.now ≡ f = c.as_slice.ensures.value ∙ c.in_ok-frame.ensures.frame in
+    let serves = taken_serves _ m (g.D.Device.opened c.args.dev.now) (disk (time c.args.dev.now)) c.requires.over s w (disk b) took.same (λ held. ap (λ x. disk (time x)) (c.take.ensures.untouched held)) took.idle took.stands in
+    let adds = append_moments w c.as_slice.result.now f is k b e took.key t (took.stands t) serves (c.append.ensures.spares t) (c.append.ensures.since t) in
+    let none_before = taken_bytes _ m (g.D.Device.opened c.args.dev.now) (disk (time c.args.dev.now)) c.requires.over s c.ranges.section.fits c.requires.ceiling w (disk b) took.same (λ held. ap (λ x. disk (time x)) (c.take.ensures.untouched held)) took.idle took.made t (took.bytes t)
+    ∙ no_bytes m (disk (time c.args.dev.now)) s none in
+    begun_moments (settled_bytes w (disk b k).content) (content_of w (disk b k).content ++ f) f (ap (λ (l : List ℕ). l ++ f) none_before) k (time c.args.dev.now) b e (c.take.ensures.moments t) adds
 
 pub returns-clause-moments : goal.returns-clause-moments
 returns-clause-moments g c t u held =
@@ -148,12 +148,11 @@ returns-clause-moments g c t u held =
     let took = c.in_ok-buffer.ensures in
     let b = time c.take.new.dev in
     let e = time c.append.new.dev in
-    let n = length c.as_slice.result.now in
-    let stands : Stands w (disk b k) = took.stands t in
-    let whole = taken_whole _ m (g.D.Device.opened c.args.dev.now) (disk (time c.args.dev.now)) c.requires.over t s w (disk b) took.same (λ held. ap (λ x. disk (time x)) (c.take.ensures.untouched held)) took.idle stands in
-    let spares = subst (λ (q : Key). Sparing (Outside ((size_of (writing.shown w), n) ∷ run_of (writing.shown w) ∷ [])) w.settled q b e) took.key (c.append.ensures.spares t) in
-    let adds = append_moments w n k b e stands whole spares in
-    held_moments time c.args.dev.now c.take.new.dev c.append.new.dev u w k (c.take.ensures.untouched (some_held (m.held s) u held)) (took.same u held) adds
+    let f = frame g.S.Seal.seal_of (g.V.Codec.spelling c.args.value.now) in
+    let is : c.as_slice.result.now ≡ f = c.as_slice.ensures.value ∙ c.in_ok-frame.ensures.frame in
+    let serves = taken_serves _ m (g.D.Device.opened c.args.dev.now) (disk (time c.args.dev.now)) c.requires.over s w (disk b) took.same (λ held. ap (λ x. disk (time x)) (c.take.ensures.untouched held)) took.idle took.stands in
+    let adds = append_moments w c.as_slice.result.now f is k b e took.key t (took.stands t) serves (c.append.ensures.spares t) (c.append.ensures.since t) in
+    held_moments time c.args.dev.now c.take.new.dev c.append.new.dev u w f k (c.take.ensures.untouched (some_held (m.held s) u held)) (took.same u held) adds
 
 pub returns-clause-made : goal.returns-clause-made
 returns-clause-made g c t none =
@@ -165,12 +164,13 @@ returns-clause-made g c t none =
     let took = c.in_ok-buffer.ensures in
     let b = time c.take.new.dev in
     let e = time c.append.new.dev in
-    let n = length c.as_slice.result.now in
-    let stands : Stands w (disk b k) = took.stands t in
-    let whole = taken_whole _ m (g.D.Device.opened c.args.dev.now) (disk (time c.args.dev.now)) c.requires.over t s w (disk b) took.same (λ held. ap (λ x. disk (time x)) (c.take.ensures.untouched held)) took.idle stands in
-    let spares = subst (λ (q : Key). Sparing (Outside ((size_of (writing.shown w), n) ∷ run_of (writing.shown w) ∷ [])) w.settled q b e) took.key (c.append.ensures.spares t) in
-    let adds = append_moments w n k b e stands whole spares in
-    begun_moments (settled_bytes w (disk b k).content) k (time c.args.dev.now) b e (c.take.ensures.moments t) adds
+    let f = frame g.S.Seal.seal_of (g.V.Codec.spelling c.args.value.now) in
+    let is : c.as_slice.result.now ≡ f = c.as_slice.ensures.value ∙ c.in_ok-frame.ensures.frame in
+    let serves = taken_serves _ m (g.D.Device.opened c.args.dev.now) (disk (time c.args.dev.now)) c.requires.over s w (disk b) took.same (λ held. ap (λ x. disk (time x)) (c.take.ensures.untouched held)) took.idle took.stands in
+    let adds = append_moments w c.as_slice.result.now f is k b e took.key t (took.stands t) serves (c.append.ensures.spares t) (c.append.ensures.since t) in
+    let none_before = taken_bytes _ m (g.D.Device.opened c.args.dev.now) (disk (time c.args.dev.now)) c.requires.over s c.ranges.section.fits c.requires.ceiling w (disk b) took.same (λ held. ap (λ x. disk (time x)) (c.take.ensures.untouched held)) took.idle took.made t (took.bytes t)
+    ∙ no_bytes m (disk (time c.args.dev.now)) s none in
+    begun_moments (settled_bytes w (disk b k).content) (content_of w (disk b k).content ++ f) f (ap (λ (l : List ℕ). l ++ f) none_before) k (time c.args.dev.now) b e (c.take.ensures.moments t) adds
 
 pub returns-clause-reads : goal.returns-clause-reads
 returns-clause-reads g c = unread_then (g.D.Device.opened c.args.dev.now) (g.D.Device.opened c.take.new.dev) (g.D.Device.opened c.append.new.dev) (c.take.ensures.reads (λ no. no))
@@ -264,14 +264,20 @@ returns-clause-over g c =
     let size = ok_at c.append.result (v, c.in_ok-buffer-2.offset) (λ r. count_of r.0 ≡ count_of w + length bytes) got c.append.ensures.size in
     let run = ok_at c.append.result (v, c.in_ok-buffer-2.offset) (λ r. writing.HoldsOnly (writing.shown w) (count_of w) bytes (writing.shown r.0)) got c.append.ensures.run in
     let bounds = same_bounds m m1 n c.take.ensures.bounds put.bounds in
+    let before = taken_serves _ m (g.D.Device.opened c.args.dev.now) (disk a) c.requires.over s w (disk b) took.same (λ here. ap (λ x. disk (time x)) (c.take.ensures.untouched here)) took.idle took.stands in
+    let serves : Serves g.D.Device.Tells v (disk e k) = record {
+      ends = appended_takes w v bytes size run;
+      behind = ok_at c.append.result (v, c.in_ok-buffer-2.offset) (λ r. writing.StandsBehind (writing.shown r.0)) got (c.append.ensures.behind before.behind);
+      whole = λ t. appended_whole w v bytes size run (disk b k) (disk e k) (ap (λ (x : WriteBuffer). x.settled) same) (before.whole t)
+          (subst (λ (q : Key). (i : ℕ) → Outside ((count_of w, length bytes) ∷ run_of (writing.shown w) ∷ []) i → Outside (disk b q).loose i → Outside (disk e q).loose i) took.key (always_now b e _ (c.append.ensures.spares t)).here.loose);
+      fronts = λ t. subst (λ (l : List ℕ). HadFronts l (disk e k))
+          (sym (subst (λ (q : Key). content_of v (disk e q).content ≡ content_of w (disk b q).content ++ bytes) took.key
+          (ok_at c.append.result (v, c.in_ok-buffer-2.offset) (λ r. content_of r.0 (disk e (writing.blob_key (writing.shown w))).content ≡ content_of w (disk b (writing.blob_key (writing.shown w))).content ++ bytes) got (c.append.ensures.bytes t))))
+          (append_fronts w bytes bytes refl k b e took.key t (took.stands t) before (c.append.ensures.spares t) (c.append.ensures.since t));
+    } in
     glob_one _ m (g.D.Device.opened c.args.dev.now) (disk a) c.requires.over n (g.D.Device.opened c.append.new.dev) (disk e) s over bounds (λ q other. same_then m m1 n q (c.take.ensures.others q other) (put.others q other)) c.ranges.section.fits blobs
-    (λ u held. subst TakesMore (some_same v u (sym put.here ∙ held)) (appended_takes w v bytes size run))
-    (λ t u held.
-    let whole = taken_whole _ m (g.D.Device.opened c.args.dev.now) (disk a) c.requires.over t s w (disk b) took.same (λ here. ap (λ x. disk (time x)) (c.take.ensures.untouched here)) took.idle (took.stands t) in
-    subst (λ (q : Key). IsWhole u (disk e q)) (sym (same_key m n bounds s))
-    (subst (λ (x : WriteBlob). IsWhole x (disk e k)) (some_same v u (sym put.here ∙ held))
-    (appended_whole w v bytes size run (disk b k) (disk e k) (ap (λ (x : WriteBuffer). x.settled) same) whole
-    (subst (λ (q : Key). (i : ℕ) → Outside ((count_of w, length bytes) ∷ run_of (writing.shown w) ∷ []) i → Outside (disk b q).loose i → Outside (disk e q).loose i) took.key (always_now b e _ (c.append.ensures.spares t)).here.loose))))
+    (λ u held. subst (λ (x : WriteBlob). Serves g.D.Device.Tells x (disk e (key_of n s))) (some_same v u (sym put.here ∙ held))
+    (subst (λ (q : Key). Serves g.D.Device.Tells v (disk e q)) (sym (same_key m n bounds s)) serves))
     (λ t some. absurd (cc (some, ap is_some put.opened)))
 
 pub returns-clause-other_bytes : goal.returns-clause-other_bytes

@@ -14,7 +14,6 @@ returns-clause-over g c =
     glob_one _ m _ _ c.requires.over n _ (disk (g.D.Device.time c.remove_section.new.dev)) c.args.section says.over says.bounds says.others c.ranges.section.fits
     (λ t. (always_now _ _ _ (c.remove_section.ensures.moments t)).others)
     (λ u held. absurd (cc (held, says.removed)))
-    (λ t u held. absurd (cc (held, says.removed)))
     (λ t some. omega (arith, says.bounds.ceiling, c.requires.over.unopened t c.args.section (subst IsSome says.unopened some)))
 
 pub returns-clause-bytes : goal.returns-clause-bytes

@@ -1,9 +1,10 @@
 use Rattle.std.proofs.Common.{◌+◌, ◌∙◌, length, ℕ, List, [], ◌∷◌, ap, sym, refl, max}
 use Rattle.blob_device.specs.Disk.{Key, Outside}
 use Rattle.blob_device.specs.Timeline.{disk}
-use Rattle.sealed_pages.specs.Writing.{shown, blob_key, run_of}
+use Rattle.sealed_pages.specs.Writing.{shown, blob_key, bytes_of, run_of}
 use Rattle.sealed_pages.proofs.SparingLemmas.{sparing_write, sparing_now}
 use Rattle.sealed_pages.proofs.WritingLemmas.{passes_write, written_content, flushed_bytes, over_after, part_at, grown_at, grown_open}
+use Rattle.sealed_pages.proofs.ContentLemmas.{adds_start, adds_write}
 use Rattle.sealed_pages.proofs.write_blob.WriteBlob.flushed.Goals as goal
 
 pub returns-in_err-write_at-clause-spares : goal.returns-in_err-write_at-clause-spares
@@ -38,3 +39,14 @@ returns-clause-open g c = grown_open c.as_str.ensures.value c.as_slice.ensures.v
 
 pub returns-clause-entries : goal.returns-clause-entries
 returns-clause-entries g c = grown_at c.as_str.ensures.value c.as_slice.ensures.value (g.D.Device.opened c.args.dev.now) (g.D.Device.opened c.write_at.new.self) c.args.self.end c.requires.«open» (c.args.self.at + length c.as_slice-2.result.now) c.in_ok-write_at.ensures.opened
+
+pub returns-then-idle-clause-since : goal.returns-then-idle-clause-since
+returns-then-idle-clause-since g c t = adds_start (bytes_of (shown c.args.self) (disk (g.D.Device.time c.args.dev.now) (blob_key (shown c.args.self))).content ∷ []) (blob_key (shown c.args.self)) (g.D.Device.time c.args.dev.now)
+
+pub returns-in_err-write_at-clause-since : goal.returns-in_err-write_at-clause-since
+returns-in_err-write_at-clause-since g c t =
+    adds_write (blob_key (shown c.args.self)) (g.D.Device.time c.args.dev.now) (g.D.Device.time c.write_at.new.self) _ c.args.self.at c.args.self.pending.items (passes_write c.as_str.ensures.value c.as_slice.ensures.value c.as_slice-2.ensures.value (c.write_at.ensures.told t))
+
+pub returns-clause-since : goal.returns-clause-since
+returns-clause-since g c t =
+    adds_write (blob_key (shown c.args.self)) (g.D.Device.time c.args.dev.now) (g.D.Device.time c.write_at.new.self) _ c.args.self.at c.args.self.pending.items (passes_write c.as_str.ensures.value c.as_slice.ensures.value c.as_slice-2.ensures.value (c.write_at.ensures.told t))

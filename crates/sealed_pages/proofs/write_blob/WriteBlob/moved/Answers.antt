@@ -1,4 +1,4 @@
-use Rattle.std.proofs.Common.{◌≡◌, ◌∙◌, ℕ, List, [], length, ap, sym, subst, arith}
+use Rattle.std.proofs.Common.{◌≡◌, ◌∙◌, ℕ, List, [], ◌∷◌, length, ap, sym, subst, arith}
 use Rattle.blob_device.specs.Disk.{Key}
 use Rattle.blob_device.specs.Change.{written}
 use Rattle.blob_device.specs.Timeline.{disk}
@@ -8,6 +8,7 @@ use Rattle.sealed_pages.specs.Writing.{WriteBuffer, shown, blob_key, bytes_of}
 use Rattle.sealed_pages.proofs.Looking.{content_length}
 use Rattle.sealed_pages.proofs.WriteLemmas.{written_nothing}
 use Rattle.sealed_pages.proofs.WritingLemmas.{idle_bytes}
+use Rattle.sealed_pages.proofs.ContentLemmas.{adds_start}
 use Rattle.sealed_pages.proofs.write_blob.WriteBlob.moved.Goals as goal
 
 pub returns-then-joins-clause-bytes : goal.returns-then-joins-clause-bytes
@@ -26,3 +27,6 @@ returns-clause-bytes g c t =
     (subst (λ (u : WriteBuffer). IsOpenAt (g.D.Device.opened c.flushed.new.dev) (blob_key u) c.in_ok-this.this.end) same c.in_ok-this.ensures.«open») in
     ap (λ (u : WriteBuffer). written (disk (g.D.Device.time c.flushed.new.dev) k).content c.args.offset u.pending) same
     ∙ ap (λ (l : List ℕ). written l c.args.offset []) (sym (idle_bytes (shown c.in_ok-this.this) (disk (g.D.Device.time c.flushed.new.dev) k).content c.in_ok-this.ensures.idle long) ∙ c.in_ok-this.ensures.bytes t)
+
+pub returns-then-joins-clause-since : goal.returns-then-joins-clause-since
+returns-then-joins-clause-since g c t = adds_start (bytes_of (shown c.args.self) (disk (g.D.Device.time c.args.dev.now) (blob_key (shown c.args.self))).content ∷ []) (blob_key (shown c.args.self)) (g.D.Device.time c.args.dev.now)

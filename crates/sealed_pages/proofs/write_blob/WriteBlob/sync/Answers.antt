@@ -1,10 +1,11 @@
 use Rattle.std.proofs.Common.{◌≡◌, ◌∙◌, sym, ◌∷◌, [], length, ap, subst, arith}
 use Rattle.blob_device.specs.Disk.{Key, Outside, settled_at}
 use Rattle.blob_device.specs.Timeline.{disk}
-use Rattle.sealed_pages.specs.Writing.{WriteBuffer, shown, blob_key, size_of, run_of}
+use Rattle.sealed_pages.specs.Writing.{WriteBuffer, shown, blob_key, bytes_of, size_of, run_of}
 use Rattle.sealed_pages.proofs.Looking.{content_length}
 use Rattle.sealed_pages.proofs.LastingLemmas.{keeping_of, kept_clean}
 use Rattle.sealed_pages.proofs.WritingLemmas.{settled_parts, idle_parts, flushed_rests, synced_settles, synced_over}
+use Rattle.sealed_pages.proofs.ContentLemmas.{adds_start, adds_rested}
 use Rattle.sealed_pages.proofs.write_blob.WriteBlob.sync.Goals as goal
 
 pub returns-in_err-rested-clause-spares : goal.returns-in_err-rested-clause-spares
@@ -53,3 +54,18 @@ pub returns-clause-kept : goal.returns-clause-kept
 returns-clause-kept g c t over =
     kept_clean (shown c.in_ok-rested.field-0) (disk (g.D.Device.time c.rested.new.dev) (blob_key (shown c.args.self))) (returns-clause-over g c t over) (ap (λ (x : WriteBuffer). x.dirty) c.in_ok-rested.ensures.same)
     (ap (λ (x : WriteBuffer). x.pending) c.in_ok-rested.ensures.same ∙ ap (λ (x : WriteBuffer). x.pending) c.in_ok-this.ensures.same)
+
+pub returns-then-not-needs_sync-clause-since : goal.returns-then-not-needs_sync-clause-since
+returns-then-not-needs_sync-clause-since g c t = adds_start (bytes_of (shown c.args.self) (disk (g.D.Device.time c.args.dev.now) (blob_key (shown c.args.self))).content ∷ []) (blob_key (shown c.args.self)) (g.D.Device.time c.args.dev.now)
+
+pub returns-in_err-rested-clause-since : goal.returns-in_err-rested-clause-since
+returns-in_err-rested-clause-since g c t =
+    let long = content_length (g.D.Device.opened c.flushed.new.dev) (blob_key (shown c.in_ok-this.this)) c.in_ok-this.this.end _ _ (g.met.D.Device.opened_stands t c.flushed.new.dev (blob_key (shown c.in_ok-this.this))) c.in_ok-this.ensures.«open» in
+    adds_rested (shown c.args.self) (shown c.in_ok-this.this) (bytes_of (shown c.args.self) (disk (g.D.Device.time c.args.dev.now) (blob_key (shown c.args.self))).content) (g.D.Device.time c.args.dev.now) (g.D.Device.time c.flushed.new.dev) (g.D.Device.time c.rested.new.dev)
+    (ap blob_key c.in_ok-this.ensures.same) c.in_ok-this.ensures.idle long (c.in_ok-this.ensures.bytes t) (c.flushed.ensures.since t) (c.rested.ensures.since t)
+
+pub returns-clause-since : goal.returns-clause-since
+returns-clause-since g c t =
+    let long = content_length (g.D.Device.opened c.flushed.new.dev) (blob_key (shown c.in_ok-this.this)) c.in_ok-this.this.end _ _ (g.met.D.Device.opened_stands t c.flushed.new.dev (blob_key (shown c.in_ok-this.this))) c.in_ok-this.ensures.«open» in
+    adds_rested (shown c.args.self) (shown c.in_ok-this.this) (bytes_of (shown c.args.self) (disk (g.D.Device.time c.args.dev.now) (blob_key (shown c.args.self))).content) (g.D.Device.time c.args.dev.now) (g.D.Device.time c.flushed.new.dev) (g.D.Device.time c.rested.new.dev)
+    (ap blob_key c.in_ok-this.ensures.same) c.in_ok-this.ensures.idle long (c.in_ok-this.ensures.bytes t) (c.flushed.ensures.since t) (c.rested.ensures.since t)

@@ -1,11 +1,12 @@
-use Rattle.std.proofs.Common.{◌≡◌, ◌<◌, ◌∙◌, ◌∷◌, [], ℕ, length, min, take, ap, subst, arith}
+use Rattle.std.proofs.Common.{◌≡◌, ◌<◌, ◌∙◌, ◌∷◌, [], ℕ, length, min, take, refl, ap, subst, arith}
 use Rattle.blob_device.specs.Disk.{Key, Outside, settled_at}
 use Rattle.blob_device.specs.Timeline.{disk}
-use Rattle.sealed_pages.specs.Writing.{WriteBuffer, shown, blob_key, bytes_of, run_of}
+use Rattle.sealed_pages.specs.Writing.{WriteBuffer, shown, blob_key, bytes_of, size_of, run_of}
 use Rattle.sealed_pages.proofs.Looking.{content_length}
 use Rattle.sealed_pages.proofs.LastingLemmas.{keeping_of, kept_clean}
 use Rattle.sealed_pages.proofs.SparingLemmas.{sparing_start, loose_start}
-use Rattle.sealed_pages.proofs.WritingLemmas.{loose_first, loose_second, loose_third, cut_first, cut_second, cut_third, cut_settles, cut_bytes, cut_over}
+use Rattle.sealed_pages.proofs.WritingLemmas.{short_run, loose_first, loose_second, loose_third, cut_first, cut_second, cut_third, cut_settles, cut_bytes, cut_over}
+use Rattle.sealed_pages.proofs.ContentLemmas.{adds_start, cut_adds, cut_adds_front, resize_adds, settle_adds}
 use Rattle.sealed_pages.proofs.write_blob.WriteBlob.truncate.Goals as goal
 
 pub returns-in_err-this-clause-spares : goal.returns-in_err-this-clause-spares
@@ -158,3 +159,105 @@ returns-clause-kept g c t kept =
     (subst (λ (q : Key). (disk (g.D.Device.time c.shortened.new.dev) q).content ≡ take c.args.len (disk (g.D.Device.time c.flushed.new.dev) q).content) key_v (c.in_ok-this-2.ensures.content t))
     (subst (λ (q : Key). disk (g.D.Device.time c.rested.new.dev) q ≡ settled_at (disk (g.D.Device.time c.shortened.new.dev) q).content) key_s (c.in_ok-rested.ensures.settles t)))
     (ap (λ (x : WriteBuffer). x.dirty) c.in_ok-rested.ensures.same) (ap (λ (x : WriteBuffer). x.pending) c.in_ok-rested.ensures.same ∙ ap (λ (x : WriteBuffer). x.pending) c.in_ok-this-2.ensures.same ∙ ap (λ (x : WriteBuffer). x.pending) c.in_ok-this.ensures.same)
+
+pub returns-then-len-size-clause-since : goal.returns-then-len-size-clause-since
+returns-then-len-size-clause-since g c t = adds_start (bytes_of (short_run (shown c.args.self) c.args.len) (disk (g.D.Device.time c.args.dev.now) (blob_key (shown c.args.self))).content ∷ take c.args.len (bytes_of (shown c.args.self) (disk (g.D.Device.time c.args.dev.now) (blob_key (shown c.args.self))).content) ∷ []) (blob_key (shown c.args.self)) (g.D.Device.time c.args.dev.now)
+
+pub returns-then-len-size-clause-since_cut : goal.returns-then-len-size-clause-since_cut
+returns-then-len-size-clause-since_cut g c t few = adds_start (take c.args.len (bytes_of (shown c.args.self) (disk (g.D.Device.time c.args.dev.now) (blob_key (shown c.args.self))).content) ∷ []) (blob_key (shown c.args.self)) (g.D.Device.time c.args.dev.now)
+
+pub returns-in_err-this-clause-since : goal.returns-in_err-this-clause-since
+returns-in_err-this-clause-since g c t =
+    let u : WriteBuffer = shown c.args.self in
+    let w : WriteBuffer = shown c.cut_run.result in
+    let less : c.args.len < size_of u = omega (arith, c.size.ensures, c.if-len-size.false) in
+    let long0 = content_length (g.D.Device.opened c.args.dev.now) (blob_key u) c.args.self.end _ _ (g.met.D.Device.opened_stands t c.args.dev.now (blob_key u)) c.requires.«open» in
+    cut_adds u w c.args.len c.cut_run.ensures less (g.D.Device.time c.args.dev.now) long0 (g.D.Device.time c.flushed.new.dev) (c.flushed.ensures.since t)
+
+pub returns-in_err-this-2-clause-since : goal.returns-in_err-this-2-clause-since
+returns-in_err-this-2-clause-since g c t =
+    let u : WriteBuffer = shown c.args.self in
+    let w : WriteBuffer = shown c.cut_run.result in
+    let less : c.args.len < size_of u = omega (arith, c.size.ensures, c.if-len-size.false) in
+    let long0 = content_length (g.D.Device.opened c.args.dev.now) (blob_key u) c.args.self.end _ _ (g.met.D.Device.opened_stands t c.args.dev.now (blob_key u)) c.requires.«open» in
+    let v : WriteBuffer = shown c.in_ok-this.this in
+    let key_v : blob_key v ≡ blob_key u = ap blob_key c.in_ok-this.ensures.same ∙ ap blob_key c.cut_run.ensures in
+    let long1 = content_length (g.D.Device.opened c.flushed.new.dev) (blob_key v) c.in_ok-this.this.end _ _ (g.met.D.Device.opened_stands t c.flushed.new.dev (blob_key v)) c.in_ok-this.ensures.«open» in
+    resize_adds u w c.args.len c.cut_run.ensures less (g.D.Device.time c.args.dev.now) long0 v key_v c.in_ok-this.ensures.idle (g.D.Device.time c.flushed.new.dev) long1 (c.in_ok-this.ensures.bytes t) (bytes_of (short_run (shown c.args.self) c.args.len) (disk (g.D.Device.time c.args.dev.now) (blob_key (shown c.args.self))).content ∷ take c.args.len (bytes_of (shown c.args.self) (disk (g.D.Device.time c.args.dev.now) (blob_key (shown c.args.self))).content) ∷ []) (1, omega arith, refl) (g.D.Device.time c.shortened.new.dev)
+    (cut_adds u w c.args.len c.cut_run.ensures less (g.D.Device.time c.args.dev.now) long0 (g.D.Device.time c.flushed.new.dev) (c.flushed.ensures.since t)) (c.shortened.ensures.since t)
+
+pub returns-in_err-rested-clause-since : goal.returns-in_err-rested-clause-since
+returns-in_err-rested-clause-since g c t =
+    let u : WriteBuffer = shown c.args.self in
+    let w : WriteBuffer = shown c.cut_run.result in
+    let less : c.args.len < size_of u = omega (arith, c.size.ensures, c.if-len-size.false) in
+    let long0 = content_length (g.D.Device.opened c.args.dev.now) (blob_key u) c.args.self.end _ _ (g.met.D.Device.opened_stands t c.args.dev.now (blob_key u)) c.requires.«open» in
+    let v : WriteBuffer = shown c.in_ok-this.this in
+    let key_v : blob_key v ≡ blob_key u = ap blob_key c.in_ok-this.ensures.same ∙ ap blob_key c.cut_run.ensures in
+    let long1 = content_length (g.D.Device.opened c.flushed.new.dev) (blob_key v) c.in_ok-this.this.end _ _ (g.met.D.Device.opened_stands t c.flushed.new.dev (blob_key v)) c.in_ok-this.ensures.«open» in
+    settle_adds u w c.args.len c.cut_run.ensures less (g.D.Device.time c.args.dev.now) long0 v key_v c.in_ok-this.ensures.idle (g.D.Device.time c.flushed.new.dev) long1 (c.in_ok-this.ensures.bytes t) (bytes_of (short_run (shown c.args.self) c.args.len) (disk (g.D.Device.time c.args.dev.now) (blob_key (shown c.args.self))).content ∷ take c.args.len (bytes_of (shown c.args.self) (disk (g.D.Device.time c.args.dev.now) (blob_key (shown c.args.self))).content) ∷ []) (1, omega arith, refl) (g.D.Device.time c.shortened.new.dev) (shown c.in_ok-this-2.this) (g.D.Device.time c.rested.new.dev)
+    (ap blob_key c.in_ok-this-2.ensures.same ∙ key_v) (c.in_ok-this-2.ensures.content t)
+    (resize_adds u w c.args.len c.cut_run.ensures less (g.D.Device.time c.args.dev.now) long0 v key_v c.in_ok-this.ensures.idle (g.D.Device.time c.flushed.new.dev) long1 (c.in_ok-this.ensures.bytes t) (bytes_of (short_run (shown c.args.self) c.args.len) (disk (g.D.Device.time c.args.dev.now) (blob_key (shown c.args.self))).content ∷ take c.args.len (bytes_of (shown c.args.self) (disk (g.D.Device.time c.args.dev.now) (blob_key (shown c.args.self))).content) ∷ []) (1, omega arith, refl) (g.D.Device.time c.shortened.new.dev)
+    (cut_adds u w c.args.len c.cut_run.ensures less (g.D.Device.time c.args.dev.now) long0 (g.D.Device.time c.flushed.new.dev) (c.flushed.ensures.since t)) (c.shortened.ensures.since t)) (c.rested.ensures.since t)
+
+pub returns-clause-since : goal.returns-clause-since
+returns-clause-since g c t =
+    let u : WriteBuffer = shown c.args.self in
+    let w : WriteBuffer = shown c.cut_run.result in
+    let less : c.args.len < size_of u = omega (arith, c.size.ensures, c.if-len-size.false) in
+    let long0 = content_length (g.D.Device.opened c.args.dev.now) (blob_key u) c.args.self.end _ _ (g.met.D.Device.opened_stands t c.args.dev.now (blob_key u)) c.requires.«open» in
+    let v : WriteBuffer = shown c.in_ok-this.this in
+    let key_v : blob_key v ≡ blob_key u = ap blob_key c.in_ok-this.ensures.same ∙ ap blob_key c.cut_run.ensures in
+    let long1 = content_length (g.D.Device.opened c.flushed.new.dev) (blob_key v) c.in_ok-this.this.end _ _ (g.met.D.Device.opened_stands t c.flushed.new.dev (blob_key v)) c.in_ok-this.ensures.«open» in
+    settle_adds u w c.args.len c.cut_run.ensures less (g.D.Device.time c.args.dev.now) long0 v key_v c.in_ok-this.ensures.idle (g.D.Device.time c.flushed.new.dev) long1 (c.in_ok-this.ensures.bytes t) (bytes_of (short_run (shown c.args.self) c.args.len) (disk (g.D.Device.time c.args.dev.now) (blob_key (shown c.args.self))).content ∷ take c.args.len (bytes_of (shown c.args.self) (disk (g.D.Device.time c.args.dev.now) (blob_key (shown c.args.self))).content) ∷ []) (1, omega arith, refl) (g.D.Device.time c.shortened.new.dev) (shown c.in_ok-this-2.this) (g.D.Device.time c.rested.new.dev)
+    (ap blob_key c.in_ok-this-2.ensures.same ∙ key_v) (c.in_ok-this-2.ensures.content t)
+    (resize_adds u w c.args.len c.cut_run.ensures less (g.D.Device.time c.args.dev.now) long0 v key_v c.in_ok-this.ensures.idle (g.D.Device.time c.flushed.new.dev) long1 (c.in_ok-this.ensures.bytes t) (bytes_of (short_run (shown c.args.self) c.args.len) (disk (g.D.Device.time c.args.dev.now) (blob_key (shown c.args.self))).content ∷ take c.args.len (bytes_of (shown c.args.self) (disk (g.D.Device.time c.args.dev.now) (blob_key (shown c.args.self))).content) ∷ []) (1, omega arith, refl) (g.D.Device.time c.shortened.new.dev)
+    (cut_adds u w c.args.len c.cut_run.ensures less (g.D.Device.time c.args.dev.now) long0 (g.D.Device.time c.flushed.new.dev) (c.flushed.ensures.since t)) (c.shortened.ensures.since t)) (c.rested.ensures.since t)
+
+pub returns-in_err-this-clause-since_cut : goal.returns-in_err-this-clause-since_cut
+returns-in_err-this-clause-since_cut g c t few =
+    let u : WriteBuffer = shown c.args.self in
+    let w : WriteBuffer = shown c.cut_run.result in
+    let less : c.args.len < size_of u = omega (arith, c.size.ensures, c.if-len-size.false) in
+    let long0 = content_length (g.D.Device.opened c.args.dev.now) (blob_key u) c.args.self.end _ _ (g.met.D.Device.opened_stands t c.args.dev.now (blob_key u)) c.requires.«open» in
+    cut_adds_front u w c.args.len c.cut_run.ensures less (g.D.Device.time c.args.dev.now) long0 few (g.D.Device.time c.flushed.new.dev) (λ idle. ap (g.D.Device.time) (c.flushed.ensures.untouched idle)) (c.flushed.ensures.since t)
+
+pub returns-in_err-this-2-clause-since_cut : goal.returns-in_err-this-2-clause-since_cut
+returns-in_err-this-2-clause-since_cut g c t few =
+    let u : WriteBuffer = shown c.args.self in
+    let w : WriteBuffer = shown c.cut_run.result in
+    let less : c.args.len < size_of u = omega (arith, c.size.ensures, c.if-len-size.false) in
+    let long0 = content_length (g.D.Device.opened c.args.dev.now) (blob_key u) c.args.self.end _ _ (g.met.D.Device.opened_stands t c.args.dev.now (blob_key u)) c.requires.«open» in
+    let v : WriteBuffer = shown c.in_ok-this.this in
+    let key_v : blob_key v ≡ blob_key u = ap blob_key c.in_ok-this.ensures.same ∙ ap blob_key c.cut_run.ensures in
+    let long1 = content_length (g.D.Device.opened c.flushed.new.dev) (blob_key v) c.in_ok-this.this.end _ _ (g.met.D.Device.opened_stands t c.flushed.new.dev (blob_key v)) c.in_ok-this.ensures.«open» in
+    resize_adds u w c.args.len c.cut_run.ensures less (g.D.Device.time c.args.dev.now) long0 v key_v c.in_ok-this.ensures.idle (g.D.Device.time c.flushed.new.dev) long1 (c.in_ok-this.ensures.bytes t) (take c.args.len (bytes_of (shown c.args.self) (disk (g.D.Device.time c.args.dev.now) (blob_key (shown c.args.self))).content) ∷ []) (0, omega arith, refl) (g.D.Device.time c.shortened.new.dev)
+    (cut_adds_front u w c.args.len c.cut_run.ensures less (g.D.Device.time c.args.dev.now) long0 few (g.D.Device.time c.flushed.new.dev) (λ idle. ap (g.D.Device.time) (c.flushed.ensures.untouched idle)) (c.flushed.ensures.since t)) (c.shortened.ensures.since t)
+
+pub returns-in_err-rested-clause-since_cut : goal.returns-in_err-rested-clause-since_cut
+returns-in_err-rested-clause-since_cut g c t few =
+    let u : WriteBuffer = shown c.args.self in
+    let w : WriteBuffer = shown c.cut_run.result in
+    let less : c.args.len < size_of u = omega (arith, c.size.ensures, c.if-len-size.false) in
+    let long0 = content_length (g.D.Device.opened c.args.dev.now) (blob_key u) c.args.self.end _ _ (g.met.D.Device.opened_stands t c.args.dev.now (blob_key u)) c.requires.«open» in
+    let v : WriteBuffer = shown c.in_ok-this.this in
+    let key_v : blob_key v ≡ blob_key u = ap blob_key c.in_ok-this.ensures.same ∙ ap blob_key c.cut_run.ensures in
+    let long1 = content_length (g.D.Device.opened c.flushed.new.dev) (blob_key v) c.in_ok-this.this.end _ _ (g.met.D.Device.opened_stands t c.flushed.new.dev (blob_key v)) c.in_ok-this.ensures.«open» in
+    settle_adds u w c.args.len c.cut_run.ensures less (g.D.Device.time c.args.dev.now) long0 v key_v c.in_ok-this.ensures.idle (g.D.Device.time c.flushed.new.dev) long1 (c.in_ok-this.ensures.bytes t) (take c.args.len (bytes_of (shown c.args.self) (disk (g.D.Device.time c.args.dev.now) (blob_key (shown c.args.self))).content) ∷ []) (0, omega arith, refl) (g.D.Device.time c.shortened.new.dev) (shown c.in_ok-this-2.this) (g.D.Device.time c.rested.new.dev)
+    (ap blob_key c.in_ok-this-2.ensures.same ∙ key_v) (c.in_ok-this-2.ensures.content t)
+    (resize_adds u w c.args.len c.cut_run.ensures less (g.D.Device.time c.args.dev.now) long0 v key_v c.in_ok-this.ensures.idle (g.D.Device.time c.flushed.new.dev) long1 (c.in_ok-this.ensures.bytes t) (take c.args.len (bytes_of (shown c.args.self) (disk (g.D.Device.time c.args.dev.now) (blob_key (shown c.args.self))).content) ∷ []) (0, omega arith, refl) (g.D.Device.time c.shortened.new.dev)
+    (cut_adds_front u w c.args.len c.cut_run.ensures less (g.D.Device.time c.args.dev.now) long0 few (g.D.Device.time c.flushed.new.dev) (λ idle. ap (g.D.Device.time) (c.flushed.ensures.untouched idle)) (c.flushed.ensures.since t)) (c.shortened.ensures.since t)) (c.rested.ensures.since t)
+
+pub returns-clause-since_cut : goal.returns-clause-since_cut
+returns-clause-since_cut g c t few =
+    let u : WriteBuffer = shown c.args.self in
+    let w : WriteBuffer = shown c.cut_run.result in
+    let less : c.args.len < size_of u = omega (arith, c.size.ensures, c.if-len-size.false) in
+    let long0 = content_length (g.D.Device.opened c.args.dev.now) (blob_key u) c.args.self.end _ _ (g.met.D.Device.opened_stands t c.args.dev.now (blob_key u)) c.requires.«open» in
+    let v : WriteBuffer = shown c.in_ok-this.this in
+    let key_v : blob_key v ≡ blob_key u = ap blob_key c.in_ok-this.ensures.same ∙ ap blob_key c.cut_run.ensures in
+    let long1 = content_length (g.D.Device.opened c.flushed.new.dev) (blob_key v) c.in_ok-this.this.end _ _ (g.met.D.Device.opened_stands t c.flushed.new.dev (blob_key v)) c.in_ok-this.ensures.«open» in
+    settle_adds u w c.args.len c.cut_run.ensures less (g.D.Device.time c.args.dev.now) long0 v key_v c.in_ok-this.ensures.idle (g.D.Device.time c.flushed.new.dev) long1 (c.in_ok-this.ensures.bytes t) (take c.args.len (bytes_of (shown c.args.self) (disk (g.D.Device.time c.args.dev.now) (blob_key (shown c.args.self))).content) ∷ []) (0, omega arith, refl) (g.D.Device.time c.shortened.new.dev) (shown c.in_ok-this-2.this) (g.D.Device.time c.rested.new.dev)
+    (ap blob_key c.in_ok-this-2.ensures.same ∙ key_v) (c.in_ok-this-2.ensures.content t)
+    (resize_adds u w c.args.len c.cut_run.ensures less (g.D.Device.time c.args.dev.now) long0 v key_v c.in_ok-this.ensures.idle (g.D.Device.time c.flushed.new.dev) long1 (c.in_ok-this.ensures.bytes t) (take c.args.len (bytes_of (shown c.args.self) (disk (g.D.Device.time c.args.dev.now) (blob_key (shown c.args.self))).content) ∷ []) (0, omega arith, refl) (g.D.Device.time c.shortened.new.dev)
+    (cut_adds_front u w c.args.len c.cut_run.ensures less (g.D.Device.time c.args.dev.now) long0 few (g.D.Device.time c.flushed.new.dev) (λ idle. ap (g.D.Device.time) (c.flushed.ensures.untouched idle)) (c.flushed.ensures.since t)) (c.shortened.ensures.since t)) (c.rested.ensures.since t)

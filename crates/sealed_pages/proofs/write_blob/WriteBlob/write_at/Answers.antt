@@ -1,5 +1,6 @@
-use Rattle.std.proofs.Common.{rules, ◌≡◌, ◌⊎◌, true, ◌∷◌, [], ◌∙◌, inl, inr, ℕ, List, min, get_or, take, length, ap, subst, arith}
+use Rattle.std.proofs.Common.{rules, ◌≡◌, ◌⊎◌, true, ◌∷◌, [], ◌∙◌, inl, inr, ℕ, List, min, get_or, take, length, refl, ap, subst, arith}
 use Rattle.blob_device.specs.Disk.{Key, Outside}
+use Rattle.blob_device.specs.Change.{written}
 use Rattle.blob_device.specs.Timeline.{disk}
 use Rattle.sealed_pages.specs.Writing.{WriteBuffer, shown, blob_key, bytes_of, run_of, is_idle, Joins}
 use Rattle.blob_device.specs.Keeps.{Keeps}
@@ -7,6 +8,7 @@ use Rattle.blob_device.proofs.Places.{written_out}
 use Rattle.sealed_pages.proofs.LastingLemmas.{keeping_of, keeping_now, kept_after, apart_after, put_holds}
 use Rattle.sealed_pages.proofs.SparingLemmas.{sparing_start, sparing_weaker}
 use Rattle.sealed_pages.proofs.WritingLemmas.{put_joins, put_bytes, put_below, put_spares}
+use Rattle.sealed_pages.proofs.ContentLemmas.{adds_start, adds_one, adds_put}
 use Rattle.sealed_pages.proofs.write_blob.WriteBlob.write_at.Goals as goal
 
 pub returns-in_err-this-clause-spares : goal.returns-in_err-this-clause-spares
@@ -110,3 +112,38 @@ returns-clause-once g c few =
       | inr (inr short) ↦ inl (put_joins (shown c.args.self) (shown c.in_ok-this.this) (shown c.in_ok-this-2.this) c.args.offset c.args.bytes.now c.in_ok-this.ensures.joined c.in_ok-this.ensures.run c.in_ok-this-2.ensures c.len.result len capacity short c.if-len-this.false)
     ] in
     omega (arith, c.flushed.ensures.once, ap (λ d. (g.D.Device.time d).calls) (c.in_ok-this.ensures.untouched still))
+
+pub returns-then-bytes-offset-clause-since : goal.returns-then-bytes-offset-clause-since
+returns-then-bytes-offset-clause-since g c t = adds_start (bytes_of (shown c.args.self) (disk (g.D.Device.time c.args.dev.now) (blob_key (shown c.args.self))).content ∷ written (bytes_of (shown c.args.self) (disk (g.D.Device.time c.args.dev.now) (blob_key (shown c.args.self))).content) c.args.offset c.args.bytes.now ∷ []) (blob_key (shown c.args.self)) (g.D.Device.time c.args.dev.now)
+
+pub returns-in_err-this-clause-since : goal.returns-in_err-this-clause-since
+returns-in_err-this-clause-since g c t = adds_one (bytes_of (shown c.args.self) (disk (g.D.Device.time c.args.dev.now) (blob_key (shown c.args.self))).content ∷ written (bytes_of (shown c.args.self) (disk (g.D.Device.time c.args.dev.now) (blob_key (shown c.args.self))).content) c.args.offset c.args.bytes.now ∷ []) (bytes_of (shown c.args.self) (disk (g.D.Device.time c.args.dev.now) (blob_key (shown c.args.self))).content) (blob_key (shown c.args.self)) (g.D.Device.time c.args.dev.now) (g.D.Device.time c.moved.new.dev) (0, omega arith, refl) (c.moved.ensures.since t)
+
+pub returns-in_err-this-2-clause-since : goal.returns-in_err-this-2-clause-since
+returns-in_err-this-2-clause-since g c t = adds_one (bytes_of (shown c.args.self) (disk (g.D.Device.time c.args.dev.now) (blob_key (shown c.args.self))).content ∷ written (bytes_of (shown c.args.self) (disk (g.D.Device.time c.args.dev.now) (blob_key (shown c.args.self))).content) c.args.offset c.args.bytes.now ∷ []) (bytes_of (shown c.args.self) (disk (g.D.Device.time c.args.dev.now) (blob_key (shown c.args.self))).content) (blob_key (shown c.args.self)) (g.D.Device.time c.args.dev.now) (g.D.Device.time c.moved.new.dev) (0, omega arith, refl) (c.moved.ensures.since t)
+
+pub returns-then-len-this-clause-since : goal.returns-then-len-this-clause-since
+returns-then-len-this-clause-since g c t = adds_one (bytes_of (shown c.args.self) (disk (g.D.Device.time c.args.dev.now) (blob_key (shown c.args.self))).content ∷ written (bytes_of (shown c.args.self) (disk (g.D.Device.time c.args.dev.now) (blob_key (shown c.args.self))).content) c.args.offset c.args.bytes.now ∷ []) (bytes_of (shown c.args.self) (disk (g.D.Device.time c.args.dev.now) (blob_key (shown c.args.self))).content) (blob_key (shown c.args.self)) (g.D.Device.time c.args.dev.now) (g.D.Device.time c.moved.new.dev) (0, omega arith, refl) (c.moved.ensures.since t)
+
+pub returns-in_err-flushed-clause-since : goal.returns-in_err-flushed-clause-since
+returns-in_err-flushed-clause-since g c t =
+    adds_put (shown c.args.self) (shown c.in_ok-this-2.this) (bytes_of (shown c.args.self) (disk (g.D.Device.time c.args.dev.now) (blob_key (shown c.args.self))).content) (written (bytes_of (shown c.args.self) (disk (g.D.Device.time c.args.dev.now) (blob_key (shown c.args.self))).content) c.args.offset c.args.bytes.now) (g.D.Device.time c.args.dev.now) (g.D.Device.time c.moved.new.dev) (g.D.Device.time c.flushed.new.dev)
+    (ap blob_key c.in_ok-this-2.ensures ∙ ap blob_key c.in_ok-this.ensures.same)
+    (put_bytes (shown c.args.self) (shown c.in_ok-this.this) (shown c.in_ok-this-2.this) c.args.offset c.args.bytes.now c.in_ok-this.ensures.joined c.in_ok-this.ensures.run c.in_ok-this-2.ensures
+    (disk (g.D.Device.time c.moved.new.dev) (blob_key (shown c.args.self))).content _ (c.in_ok-this.ensures.bytes t))
+    (c.moved.ensures.since t) (c.flushed.ensures.since t)
+
+pub returns-clause-since : goal.returns-clause-since
+returns-clause-since g c t =
+    adds_put (shown c.args.self) (shown c.in_ok-this-2.this) (bytes_of (shown c.args.self) (disk (g.D.Device.time c.args.dev.now) (blob_key (shown c.args.self))).content) (written (bytes_of (shown c.args.self) (disk (g.D.Device.time c.args.dev.now) (blob_key (shown c.args.self))).content) c.args.offset c.args.bytes.now) (g.D.Device.time c.args.dev.now) (g.D.Device.time c.moved.new.dev) (g.D.Device.time c.flushed.new.dev)
+    (ap blob_key c.in_ok-this-2.ensures ∙ ap blob_key c.in_ok-this.ensures.same)
+    (put_bytes (shown c.args.self) (shown c.in_ok-this.this) (shown c.in_ok-this-2.this) c.args.offset c.args.bytes.now c.in_ok-this.ensures.joined c.in_ok-this.ensures.run c.in_ok-this-2.ensures
+    (disk (g.D.Device.time c.moved.new.dev) (blob_key (shown c.args.self))).content _ (c.in_ok-this.ensures.bytes t))
+    (c.moved.ensures.since t) (c.flushed.ensures.since t)
+
+pub returns-then-len-this-clause-behind : goal.returns-then-len-this-clause-behind
+returns-then-len-this-clause-behind g c far behind =
+    inl (omega (arith, ap (λ (x : WriteBuffer). x.end) c.in_ok-this-2.ensures, ap (λ (x : WriteBuffer). x.at) c.in_ok-this-2.ensures, c.in_ok-this.ensures.behind far behind))
+
+pub returns-clause-behind : goal.returns-clause-behind
+returns-clause-behind g c far behind = inr (ap (λ (x : WriteBuffer). length x.pending) c.in_ok-flushed.ensures.same)

@@ -1,0 +1,6 @@
+-- Bytes that others begin with.
+use Rattle.std.specs.Prelude.{◌≡◌, ℕ, List, length, take}
+
+-- c begins with these bytes
+abbrev pub IsFront : List ℕ → List ℕ → Type 0
+IsFront kept c = take (length kept) c ≡ kept
