@@ -16,6 +16,7 @@ mod syncing;
 mod tests;
 mod writing;
 
+pub(crate) use framing::frame_size;
 pub use recovery::Recovery;
 use segments::journal::Error;
 use segments::{Manager, SectionIter, WriteFactory};

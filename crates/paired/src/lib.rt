@@ -1,6 +1,11 @@
-//! Values in sealed frames, kept by section and place.
+//! Values in sealed frames, and records that name them, kept by section and place.
 #![tactic(auto)]
 
 pub mod glob;
+mod laws;
+pub mod oversized;
+mod record;
 
 pub use glob::{Glob, Recovery};
+pub use oversized::Oversized;
+pub use record::Record;

@@ -13,7 +13,7 @@ use value_codec::{Codec, Seal};
 pub(super) const SEAL_SIZE: u32 = 4;
 
 /// The size of the value's frame. The spelling is not made.
-pub(super) fn frame_size<V: Codec>(value: &V) -> Result<u32, Error>
+pub(crate) fn frame_size<V: Codec>(value: &V) -> Result<u32, Error>
     ensures size { IfOk result (λ n. n ≡ length (V.spelling value.now) + 4) }
     ensures large { IsErrOf result Error.ValueTooLarge ↔ (2 ^ 32 - 1 < length (V.spelling value.now) + 4) }
     ensures cause { OnErr result (IsErrOf result Error.ValueTooLarge) }

@@ -106,6 +106,8 @@ impl<V: Codec, S: Seal> Glob<V, S> {
         ensures guard { IsPruned result (shown self.now.manager).floor ↔ (section < (shown self.now.manager).floor) }
         ensures absent { IsAbsent result section ↔ (((shown self.now.manager).floor ≤ section) × ((shown self.now.manager).held section ≡ None)) }
         ensures overflow { IsOverflow result ↔ (IsHeld (shown self.now.manager) section × (2 ^ 64 ≤ offset + size)) }
+        // Such a range passes the end of the section too.
+        ensures beyond { IsOverflow result → IsSomeAnd ((shown self.now.manager).held section) (λ u. count_of u < offset + size) }
         ensures short { IsShort result ↔ IsSomeAnd ((shown self.now.manager).held section) (λ u. (offset + size < 2 ^ 64) × ((count_of u < offset + size) ⊎ (size < 4))) }
         ensures mismatch { D.Tells → (stored computed : ℕ) → IsErrOf result (Error.ChecksumMismatch stored computed)
             → IsBroken S.seal_of (section_bytes (shown self.now.manager) (disk (D.time dev.old)) section) offset size stored computed }

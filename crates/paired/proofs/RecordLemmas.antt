@@ -1,0 +1,114 @@
+-- Lists of records: those of a front of the bytes are a front of the records; what `front` keeps; and facts that hold of each record.
+use Rattle.std.proofs.Common.{◌≡◌, ℕ, zero, suc, ◌+◌, ◌-◌, ◌*◌, ◌/◌, ◌<◌, ◌≤◌, Bool, true, false, ◌||◌, nat_lt, if◌then◌else◌, List, [], ◌∷◌, length, map, take, drop, IsTrue, refl, sym, ◌∙◌, ap, arith, length-take-le}
+use Rattle.std.specs.List.{AllByRecursion}
+use Rattle.std.proofs.lemmas.Bool.{le-ltb, or_right}
+use Rattle.std.proofs.lemmas.List.{take-take, drop-take}
+use Rattle.std.proofs.lemmas.Nat.{le-div, mul-le}
+use Rattle.std.proofs.Math.Nat.{div-mul-le_self}
+use Rattle.segments.specs.FixedItems.{item_count, item_at}
+use Rattle.paired.specs.Frames.{bytes_at}
+use Rattle.paired.specs.Records.{each_below, records, front}
+
+pub length-each_below : {X : Type 0} (n : ℕ) (f : ℕ → X) → length (each_below n f) ≡ n
+length-each_below zero f = refl
+length-each_below (suc n) f = ap (λ (k : ℕ). suc k) (length-each_below n (λ i. f (i + 1)))
+
+pub each_below-same : {X : Type 0} (n : ℕ) (f g : ℕ → X) → ((i : ℕ) → i < n → f i ≡ g i) → each_below n f ≡ each_below n g
+each_below-same zero f g same = refl
+each_below-same {X} (suc n) f g same =
+    let rest : each_below n (λ i. f (i + 1)) ≡ each_below n (λ i. g (i + 1)) = each_below-same n (λ i. f (i + 1)) (λ i. g (i + 1)) (λ i lt. same (i + 1) (omega (arith, lt))) in
+    ap (λ (x : X). x ∷ each_below n (λ i. f (i + 1))) (same 0 (omega arith)) ∙ ap (λ (xs : List X). g 0 ∷ xs) rest
+
+pub take-each_below : {X : Type 0} (k n : ℕ) (f : ℕ → X) → k ≤ n → take k (each_below n f) ≡ each_below k f
+take-each_below zero n f le = refl
+take-each_below (suc k) zero f le = absurd (omega (arith, le))
+take-each_below {X} (suc k) (suc n) f le = ap (λ (xs : List X). f 0 ∷ xs) (take-each_below k n (λ i. f (i + 1)) (omega (arith, le)))
+
+-- bytes that stand in a front stand in the whole
+pub bytes_at-take : (at n m : ℕ) (bytes : List ℕ) → at + n ≤ m → bytes_at (take m bytes) at n ≡ bytes_at bytes at n
+bytes_at-take at n m bytes le =
+    let split : m ≡ at + (m - at) = omega (arith, le) in
+    ap (λ (x : ℕ). take n (drop at (take x bytes))) split ∙ ap (take n) (drop-take at (m - at) bytes) ∙ take-take n (m - at) (drop at bytes) (omega (arith, le))
+
+-- the place behind an item among n whole ones
+pub item_ends : (size n p : ℕ) → p < n / size → p * size + size ≤ n
+item_ends size n p lt =
+    let next : (p + 1) * size ≡ p * size + size = omega arith in
+    omega (arith, next, mul-le (p + 1) size (n / size) size (omega (arith, lt)) (omega arith), div-mul-le_self n size)
+
+pub length-records : (size : ℕ) (bytes : List ℕ) → length (records size bytes) ≡ length bytes / size
+length-records size bytes = length-each_below (item_count size bytes) (item_at size bytes)
+
+pub records-take : (size n : ℕ) (bytes : List ℕ) → 1 ≤ size → n ≤ length bytes → records size (take n bytes) ≡ take (n / size) (records size bytes)
+records-take size n bytes pos le =
+    let fits : n / size ≤ length bytes / size = le-div (n / size) (length bytes) size (omega (arith, pos)) (omega (arith, le, div-mul-le_self n size)) in
+    ap (λ (x : ℕ). each_below (x / size) (item_at size (take n bytes))) (length-take-le n bytes le)
+    ∙ each_below-same (n / size) (item_at size (take n bytes)) (item_at size bytes) (λ p lt. bytes_at-take (p * size) size n bytes (item_ends size n p lt))
+    ∙ sym (take-each_below (n / size) (length bytes / size) (item_at size bytes) fits)
+
+-- the records of a front of the bytes are the first ones
+pub records-front : (size : ℕ) (bytes kept : List ℕ) → 1 ≤ size → kept ≡ take (length kept) bytes → length kept ≤ length bytes
+    → records size kept ≡ take (length (records size kept)) (records size bytes)
+records-front size bytes kept pos is le =
+    ap (records size) is ∙ records-take size (length kept) bytes pos le ∙ ap (λ (k : ℕ). take k (records size bytes)) (sym (length-records size kept))
+
+-- so many records are whole in the bytes
+pub records-enough : (size n : ℕ) (bytes : List ℕ) → 1 ≤ size → n * size ≤ length bytes → n ≤ length (records size bytes)
+records-enough size n bytes pos le = omega (arith, length-records size bytes, le-div n (length bytes) size (omega (arith, pos)) le)
+
+-- facts of each element
+pub all_take : {X : Type 0} (P : X → Type 0) (n : ℕ) (xs : List X) → AllByRecursion P xs → AllByRecursion P (take n xs)
+all_take P zero xs all = tt
+all_take P (suc n) [] all = tt
+all_take P (suc n) (x ∷ xs) all = (all.0, all_take P n xs all.1)
+
+pub all_with : {X : Type 0} (P Q R : X → Type 0) → ((x : X) → P x → Q x → R x) → (xs : List X) → AllByRecursion P xs → AllByRecursion Q xs → AllByRecursion R xs
+all_with P Q R make [] ps qs = tt
+all_with P Q R make (x ∷ xs) ps qs = (make x ps.0 qs.0, all_with P Q R make xs ps.1 qs.1)
+
+pub all_by : {X : Type 0} (P Q : X → Type 0) → ((x : X) → P x → Q x) → (xs : List X) → AllByRecursion P xs → AllByRecursion Q xs
+all_by P Q make [] ps = tt
+all_by P Q make (x ∷ xs) ps = (make x ps.0, all_by P Q make xs ps.1)
+
+pub map-same : {X Y : Type 0} (f g : X → Y) (xs : List X) → AllByRecursion (λ x. f x ≡ g x) xs → map f xs ≡ map g xs
+map-same f g [] all = refl
+map-same {X} {Y} f g (x ∷ xs) all = ap (λ (y : Y). y ∷ map f xs) all.0 ∙ ap (λ (ys : List Y). g x ∷ ys) (map-same f g xs all.1)
+
+module _ (sound : List ℕ → Bool) (marker : ℕ) where
+  -- what is kept is the first ones
+  pub front-take : (position : ℕ) (rs : List (List ℕ)) → front sound marker position rs ≡ take (length (front sound marker position rs)) rs
+  front-take position [] = refl
+  front-take position (r ∷ rs) = step (nat_lt position marker || sound r) (front sound marker (position + 1) rs) (front-take (position + 1) rs)
+    where
+      step : (b : Bool) (tail : List (List ℕ)) → tail ≡ take (length tail) rs → (if b then r ∷ tail else []) ≡ take (length (if b then r ∷ tail else [])) (r ∷ rs)
+      step true tail is = ap (λ (xs : List (List ℕ)). r ∷ xs) is
+      step false tail is = refl
+
+  -- at least so many, where the first ones are sound
+  pub front-enough : (k position : ℕ) (rs : List (List ℕ)) → k ≤ length rs → AllByRecursion (λ r. IsTrue (sound r)) (take k rs) → k ≤ length (front sound marker position rs)
+  front-enough zero position rs le all = omega arith
+  front-enough (suc k) position [] le all = absurd (omega (arith, le))
+  front-enough (suc k) position (r ∷ rs) le all =
+      step (nat_lt position marker || sound r) (front sound marker (position + 1) rs) (or_right (nat_lt position marker) (sound r) all.0) (front-enough k (position + 1) rs (omega (arith, le)) all.1)
+    where
+      step : (b : Bool) (tail : List (List ℕ)) → b ≡ true → k ≤ length tail → suc k ≤ length (if b then r ∷ tail else [])
+      step true tail is more = omega (arith, more)
+      step false tail is more = absurd (cc is)
+
+  -- What holds of the records below the marker, and of each that is sound, holds of those kept; `left` are below the marker from here on.
+  pub front-all : (Q : List ℕ → Type 0) (left position : ℕ) (rs : List (List ℕ)) → left ≡ marker - position → AllByRecursion Q (take left rs) → AllByRecursion (λ r. IsTrue (sound r) → Q r) rs
+      → AllByRecursion Q (front sound marker position rs)
+  front-all Q left position [] is below all = tt
+  front-all Q zero position (r ∷ rs) is below all =
+      step (nat_lt position marker) (sound r) (front sound marker (position + 1) rs) (le-ltb position marker (omega (arith, is))) all.0 (front-all Q zero (position + 1) rs (omega (arith, is)) tt all.1)
+    where
+      step : (b s : Bool) (tail : List (List ℕ)) → b ≡ false → (s ≡ true → Q r) → AllByRecursion Q tail → AllByRecursion Q (if b || s then r ∷ tail else [])
+      step true s tail none here more = absurd (cc none)
+      step false true tail none here more = (here refl, more)
+      step false false tail none here more = tt
+  front-all Q (suc left) position (r ∷ rs) is below all =
+      step (nat_lt position marker || sound r) (front sound marker (position + 1) rs) below.0 (front-all Q left (position + 1) rs (omega (arith, is)) below.1 all.1)
+    where
+      step : (b : Bool) (tail : List (List ℕ)) → Q r → AllByRecursion Q tail → AllByRecursion Q (if b then r ∷ tail else [])
+      step true tail here more = (here, more)
+      step false tail here more = tt

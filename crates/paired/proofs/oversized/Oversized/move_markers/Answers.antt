@@ -1,0 +1,451 @@
+use Rattle.std.proofs.Common.{◌≡◌, ◌⊎◌, inl, inr, ℕ, Bool, true, false, List, Option, None, Some, refl, sym, ◌∙◌, ap, subst, arith}
+use Rattle.std.specs.Prelude.{◌≤◌, ◌<◌, unwrap_or}
+use Rattle.std.specs.List.{Contains}
+use Rattle.std.proofs.lemmas.Bool.{cases_Bool}
+use Rattle.blob_device.specs.Disk.{Key, Disk}
+use Rattle.blob_device.specs.Timeline.{disk, Always}
+use Rattle.blob_device.proofs.Results.{err_of}
+use Rattle.segments.specs.Raised.{raised_metadata}
+use Rattle.blob_device.proofs.Moments.{always_now, always_start, always_weaker}
+use Rattle.segments.specs.FixedShown as fixed
+use Rattle.segments.specs.Managed as manager
+use Rattle.segments.proofs.FixedWriteLemmas.{are_pages}
+use Rattle.segments.proofs.WalkLemmas.{contains_or_not}
+use Rattle.value_codec.specs.declared.key.Key8.{Key8}
+use Rattle.meta_store.specs.Blobs.{blob_of, other_side, OnlyOne}
+use Rattle.meta_store.specs.Calls.{IsOpened}
+use Rattle.meta_store.specs.Crashes as metadata
+use Rattle.meta_store.specs.declared.error.Side.TheVariants.{Left, Right}
+use Rattle.meta_store.specs.Store.{Store, Stands, MayBeSynced}
+use Rattle.meta_store.proofs.Sides.{sides_apart}
+use Rattle.meta_store.proofs.SyncingLemmas.{stands_alone}
+use Rattle.paired.specs.Crashes.{IsCopy}
+use Rattle.paired.specs.Kept.{Markers, IsMarked, marker_of}
+use Rattle.paired.specs.Pair.{Pair, IsPair, IsSoundOn}
+use Rattle.paired.specs.PairShown.{shown}
+use Rattle.paired.specs.TrackedShown as tracked
+use Rattle.paired.proofs.PairMarked.{Moved, moved_on, moved_marked, marked_synced, moving_differs, none_trails, some_or_none, synced_unstaged, synced_same, synced_place, marked_again, marked_as, marked_sound_as, marked_lists, markers_keep}
+use Rattle.paired.proofs.PairSettling.{parts_of}
+use Rattle.paired.proofs.PairFailing.{full_markers, false_true, no_error, not_both}
+use Rattle.paired.proofs.PairSynced.{here_of}
+use Rattle.paired.proofs.oversized.Oversized.move_markers.Goals as goal
+
+pub stage-requires : goal.stage-requires
+stage-requires g c s n is same =
+    (c.requires.over.markers.trails s n is).1 same
+
+pub sync-requires-clause-storable : goal.sync-requires-clause-storable
+sync-requires-clause-storable g c =
+    c.in_ok-stage.ensures.storable c.requires.over.storable
+
+pub sync-requires-clause-opened : goal.sync-requires-clause-opened
+sync-requires-clause-opened g c =
+    let p = shown g.I.Record.place c.args.self in
+    let here = here_of g.I.Record.place c.args.self g.met.I.CodecFixed.fixed.at_least in
+    let pages = are_pages g.row.S g.S.Seal g.S.Seal-dict in
+    let active = Contains c.args.active.now in
+    let decides = contains_or_not c.args.active.now in
+    let told = g.D.Device.Tells in
+    let a = g.D.Device.time c.args.dev.now in
+    let x = tracked.shown c.stage.new.self in
+    let moved : Moved p active x.store.entries x.trailing = record { trails = c.in_ok-stage.ensures.trails; synced = c.in_ok-stage.ensures.synced; moved = c.in_ok-stage.ensures.moved; active = c.in_ok-stage.ensures.active; marked = c.in_ok-stage.ensures.marked } in
+    let placed : x.store.partition ≡ p.layout.metadata = ap (λ u. u.partition) c.in_ok-stage.ensures.staged in
+    subst (λ k. IsOpened k (g.D.Device.opened c.args.dev.now)) (sym placed) c.requires.over.metadata_opened
+
+pub returns-in_err-stage-clause-moments : goal.returns-in_err-stage-clause-moments
+returns-in_err-stage-clause-moments g c t sound =
+    let p = shown g.I.Record.place c.args.self in
+    let here = here_of g.I.Record.place c.args.self g.met.I.CodecFixed.fixed.at_least in
+    let pages = are_pages g.row.S g.S.Seal g.S.Seal-dict in
+    let active = Contains c.args.active.now in
+    let decides = contains_or_not c.args.active.now in
+    let told = g.D.Device.Tells in
+    let a = g.D.Device.time c.args.dev.now in
+    markers_keep _ _ told p _ a a here c.requires.over t (parts_of _ _ told p pages _ (disk a) here c.requires.over t sound) p.store.entries c.requires.over.markers.marked
+    (stands_alone p.layout.markers p.store p.store.entries p.store.entries a (c.requires.over.disk t).markers)
+
+pub returns-in_err-stage-clause-alone : goal.returns-in_err-stage-clause-alone
+returns-in_err-stage-clause-alone g c t =
+    let p = shown g.I.Record.place c.args.self in
+    let here = here_of g.I.Record.place c.args.self g.met.I.CodecFixed.fixed.at_least in
+    let pages = are_pages g.row.S g.S.Seal g.S.Seal-dict in
+    let active = Contains c.args.active.now in
+    let decides = contains_or_not c.args.active.now in
+    let told = g.D.Device.Tells in
+    let a = g.D.Device.time c.args.dev.now in
+    always_start a (λ d. (q : Key) → (IsCopy p.layout q → ⊥) → d q ≡ disk a q) (λ q not. refl)
+
+pub returns-in_err-this-clause-moments : goal.returns-in_err-this-clause-moments
+returns-in_err-this-clause-moments g c t sound =
+    let p = shown g.I.Record.place c.args.self in
+    let here = here_of g.I.Record.place c.args.self g.met.I.CodecFixed.fixed.at_least in
+    let pages = are_pages g.row.S g.S.Seal g.S.Seal-dict in
+    let active = Contains c.args.active.now in
+    let decides = contains_or_not c.args.active.now in
+    let told = g.D.Device.Tells in
+    let a = g.D.Device.time c.args.dev.now in
+    let x = tracked.shown c.stage.new.self in
+    let moved : Moved p active x.store.entries x.trailing = record { trails = c.in_ok-stage.ensures.trails; synced = c.in_ok-stage.ensures.synced; moved = c.in_ok-stage.ensures.moved; active = c.in_ok-stage.ensures.active; marked = c.in_ok-stage.ensures.marked } in
+    let placed : x.store.partition ≡ p.layout.metadata = ap (λ u. u.partition) c.in_ok-stage.ensures.staged in
+    let b = g.D.Device.time c.sync.new.dev in
+    markers_keep _ _ told p _ a b here c.requires.over t (parts_of _ _ told p pages _ (disk a) here c.requires.over t sound) x.store.entries (moved_marked _ _ told p active decides _ (disk a) here c.requires.over x.store.entries x.trailing moved)
+    (subst (λ k. metadata.Mapping p.layout.markers k p.store.entries x.store.entries a b) placed (c.sync.ensures.crashes t p.store.entries (c.in_ok-stage.ensures.stands p.store.entries (disk a) (c.requires.over.disk t).markers)))
+
+pub returns-in_err-this-clause-alone : goal.returns-in_err-this-clause-alone
+returns-in_err-this-clause-alone g c t =
+    let p = shown g.I.Record.place c.args.self in
+    let here = here_of g.I.Record.place c.args.self g.met.I.CodecFixed.fixed.at_least in
+    let pages = are_pages g.row.S g.S.Seal g.S.Seal-dict in
+    let active = Contains c.args.active.now in
+    let decides = contains_or_not c.args.active.now in
+    let told = g.D.Device.Tells in
+    let a = g.D.Device.time c.args.dev.now in
+    let x = tracked.shown c.stage.new.self in
+    let moved : Moved p active x.store.entries x.trailing = record { trails = c.in_ok-stage.ensures.trails; synced = c.in_ok-stage.ensures.synced; moved = c.in_ok-stage.ensures.moved; active = c.in_ok-stage.ensures.active; marked = c.in_ok-stage.ensures.marked } in
+    let placed : x.store.partition ≡ p.layout.metadata = ap (λ u. u.partition) c.in_ok-stage.ensures.staged in
+    let b = g.D.Device.time c.sync.new.dev in
+    always_weaker a b (OnlyOne x.store.partition x.store.older (disk a)) (λ d. (q : Key) → (IsCopy p.layout q → ⊥) → d q ≡ disk a q)
+    (λ d only q not. only q (λ e. not (x.store.older, e ∙ ap (λ k. blob_of k x.store.older) placed))) (c.sync.ensures.alone t)
+
+pub returns-in_err-this-clause-entries : goal.returns-in_err-this-clause-entries
+returns-in_err-this-clause-entries g c =
+    let p = shown g.I.Record.place c.args.self in
+    let here = here_of g.I.Record.place c.args.self g.met.I.CodecFixed.fixed.at_least in
+    let pages = are_pages g.row.S g.S.Seal g.S.Seal-dict in
+    let active = Contains c.args.active.now in
+    let decides = contains_or_not c.args.active.now in
+    let told = g.D.Device.Tells in
+    let a = g.D.Device.time c.args.dev.now in
+    let x = tracked.shown c.stage.new.self in
+    let moved : Moved p active x.store.entries x.trailing = record { trails = c.in_ok-stage.ensures.trails; synced = c.in_ok-stage.ensures.synced; moved = c.in_ok-stage.ensures.moved; active = c.in_ok-stage.ensures.active; marked = c.in_ok-stage.ensures.marked } in
+    let placed : x.store.partition ≡ p.layout.metadata = ap (λ u. u.partition) c.in_ok-stage.ensures.staged in
+    let entries : (q : Key) → (IsCopy p.layout q → ⊥) → g.D.Device.opened c.sync.new.dev q ≡ g.D.Device.opened c.args.dev.now q =
+    (λ q not. c.sync.ensures.entries q (λ e. not (Left, e ∙ ap (λ k. blob_of k Left) placed)) (λ e. not (Right, e ∙ ap (λ k. blob_of k Right) placed))) in
+    entries
+
+pub returns-clause-moments : goal.returns-clause-moments
+returns-clause-moments g c t sound =
+    let p = shown g.I.Record.place c.args.self in
+    let here = here_of g.I.Record.place c.args.self g.met.I.CodecFixed.fixed.at_least in
+    let pages = are_pages g.row.S g.S.Seal g.S.Seal-dict in
+    let active = Contains c.args.active.now in
+    let decides = contains_or_not c.args.active.now in
+    let told = g.D.Device.Tells in
+    let a = g.D.Device.time c.args.dev.now in
+    let x = tracked.shown c.stage.new.self in
+    let moved : Moved p active x.store.entries x.trailing = record { trails = c.in_ok-stage.ensures.trails; synced = c.in_ok-stage.ensures.synced; moved = c.in_ok-stage.ensures.moved; active = c.in_ok-stage.ensures.active; marked = c.in_ok-stage.ensures.marked } in
+    let placed : x.store.partition ≡ p.layout.metadata = ap (λ u. u.partition) c.in_ok-stage.ensures.staged in
+    let b = g.D.Device.time c.sync.new.dev in
+    markers_keep _ _ told p _ a b here c.requires.over t (parts_of _ _ told p pages _ (disk a) here c.requires.over t sound) x.store.entries (moved_marked _ _ told p active decides _ (disk a) here c.requires.over x.store.entries x.trailing moved)
+    (subst (λ k. metadata.Mapping p.layout.markers k p.store.entries x.store.entries a b) placed (c.sync.ensures.crashes t p.store.entries (c.in_ok-stage.ensures.stands p.store.entries (disk a) (c.requires.over.disk t).markers)))
+
+pub returns-clause-alone : goal.returns-clause-alone
+returns-clause-alone g c t =
+    let p = shown g.I.Record.place c.args.self in
+    let here = here_of g.I.Record.place c.args.self g.met.I.CodecFixed.fixed.at_least in
+    let pages = are_pages g.row.S g.S.Seal g.S.Seal-dict in
+    let active = Contains c.args.active.now in
+    let decides = contains_or_not c.args.active.now in
+    let told = g.D.Device.Tells in
+    let a = g.D.Device.time c.args.dev.now in
+    let x = tracked.shown c.stage.new.self in
+    let moved : Moved p active x.store.entries x.trailing = record { trails = c.in_ok-stage.ensures.trails; synced = c.in_ok-stage.ensures.synced; moved = c.in_ok-stage.ensures.moved; active = c.in_ok-stage.ensures.active; marked = c.in_ok-stage.ensures.marked } in
+    let placed : x.store.partition ≡ p.layout.metadata = ap (λ u. u.partition) c.in_ok-stage.ensures.staged in
+    let b = g.D.Device.time c.sync.new.dev in
+    always_weaker a b (OnlyOne x.store.partition x.store.older (disk a)) (λ d. (q : Key) → (IsCopy p.layout q → ⊥) → d q ≡ disk a q)
+    (λ d only q not. only q (λ e. not (x.store.older, e ∙ ap (λ k. blob_of k x.store.older) placed))) (c.sync.ensures.alone t)
+
+pub returns-clause-entries : goal.returns-clause-entries
+returns-clause-entries g c =
+    let p = shown g.I.Record.place c.args.self in
+    let here = here_of g.I.Record.place c.args.self g.met.I.CodecFixed.fixed.at_least in
+    let pages = are_pages g.row.S g.S.Seal g.S.Seal-dict in
+    let active = Contains c.args.active.now in
+    let decides = contains_or_not c.args.active.now in
+    let told = g.D.Device.Tells in
+    let a = g.D.Device.time c.args.dev.now in
+    let x = tracked.shown c.stage.new.self in
+    let moved : Moved p active x.store.entries x.trailing = record { trails = c.in_ok-stage.ensures.trails; synced = c.in_ok-stage.ensures.synced; moved = c.in_ok-stage.ensures.moved; active = c.in_ok-stage.ensures.active; marked = c.in_ok-stage.ensures.marked } in
+    let placed : x.store.partition ≡ p.layout.metadata = ap (λ u. u.partition) c.in_ok-stage.ensures.staged in
+    let entries : (q : Key) → (IsCopy p.layout q → ⊥) → g.D.Device.opened c.sync.new.dev q ≡ g.D.Device.opened c.args.dev.now q =
+    (λ q not. c.sync.ensures.entries q (λ e. not (Left, e ∙ ap (λ k. blob_of k Left) placed)) (λ e. not (Right, e ∙ ap (λ k. blob_of k Right) placed))) in
+    entries
+
+pub returns-in_err-this-clause-still : goal.returns-in_err-this-clause-still
+returns-in_err-this-clause-still g c none =
+    let p = shown g.I.Record.place c.args.self in
+    let here = here_of g.I.Record.place c.args.self g.met.I.CodecFixed.fixed.at_least in
+    let pages = are_pages g.row.S g.S.Seal g.S.Seal-dict in
+    let active = Contains c.args.active.now in
+    let decides = contains_or_not c.args.active.now in
+    let told = g.D.Device.Tells in
+    let a = g.D.Device.time c.args.dev.now in
+    let x = tracked.shown c.stage.new.self in
+    let moved : Moved p active x.store.entries x.trailing = record { trails = c.in_ok-stage.ensures.trails; synced = c.in_ok-stage.ensures.synced; moved = c.in_ok-stage.ensures.moved; active = c.in_ok-stage.ensures.active; marked = c.in_ok-stage.ensures.marked } in
+    let placed : x.store.partition ≡ p.layout.metadata = ap (λ u. u.partition) c.in_ok-stage.ensures.staged in
+    absurd (false_true (c.in_err-this.ensures.idle (ap (λ u. u.staged) (c.in_ok-stage.ensures.still (none_trails _ _ told p active decides _ (disk a) here c.requires.over none)) ∙ c.requires.over.synced)).1)
+
+pub returns-clause-still : goal.returns-clause-still
+returns-clause-still g c none =
+    let p = shown g.I.Record.place c.args.self in
+    let here = here_of g.I.Record.place c.args.self g.met.I.CodecFixed.fixed.at_least in
+    let pages = are_pages g.row.S g.S.Seal g.S.Seal-dict in
+    let active = Contains c.args.active.now in
+    let decides = contains_or_not c.args.active.now in
+    let told = g.D.Device.Tells in
+    let a = g.D.Device.time c.args.dev.now in
+    let x = tracked.shown c.stage.new.self in
+    let moved : Moved p active x.store.entries x.trailing = record { trails = c.in_ok-stage.ensures.trails; synced = c.in_ok-stage.ensures.synced; moved = c.in_ok-stage.ensures.moved; active = c.in_ok-stage.ensures.active; marked = c.in_ok-stage.ensures.marked } in
+    let placed : x.store.partition ≡ p.layout.metadata = ap (λ u. u.partition) c.in_ok-stage.ensures.staged in
+    let same = c.in_ok-stage.ensures.still (none_trails _ _ told p active decides _ (disk a) here c.requires.over none) in
+    let fresh = ap (λ u. u.staged) same ∙ c.requires.over.synced in
+    ((c.sync.ensures.idle fresh).0, c.in_ok-this.ensures.same ∙ synced_same (tracked.shown c.stage.new.self).store fresh ∙ same)
+
+pub returns-clause-no_version : goal.returns-clause-no_version
+returns-clause-no_version g c large w =
+    let p = shown g.I.Record.place c.args.self in
+    let here = here_of g.I.Record.place c.args.self g.met.I.CodecFixed.fixed.at_least in
+    let pages = are_pages g.row.S g.S.Seal g.S.Seal-dict in
+    let active = Contains c.args.active.now in
+    let decides = contains_or_not c.args.active.now in
+    let told = g.D.Device.Tells in
+    let a = g.D.Device.time c.args.dev.now in
+    let x = tracked.shown c.stage.new.self in
+    let moved : Moved p active x.store.entries x.trailing = record { trails = c.in_ok-stage.ensures.trails; synced = c.in_ok-stage.ensures.synced; moved = c.in_ok-stage.ensures.moved; active = c.in_ok-stage.ensures.active; marked = c.in_ok-stage.ensures.marked } in
+    let placed : x.store.partition ≡ p.layout.metadata = ap (λ u. u.partition) c.in_ok-stage.ensures.staged in
+    elim (cases_Bool x.store.staged) [
+      | inl staged ↦ absurd (no_error _ _ (c.in_ok-this.ensures.full.1 (staged, omega (arith, large, ap (λ u. u.version) c.in_ok-stage.ensures.staged))))
+      | inr idle ↦ moving_differs _ _ told p active decides _ (disk a) here c.requires.over x.store.entries x.trailing moved w.0 w.1 (ap (λ u. u.entries) (c.in_ok-stage.ensures.fresh idle))
+    ]
+
+pub returns-clause-over : goal.returns-clause-over
+returns-clause-over g c =
+    let p = shown g.I.Record.place c.args.self in
+    let here = here_of g.I.Record.place c.args.self g.met.I.CodecFixed.fixed.at_least in
+    let pages = are_pages g.row.S g.S.Seal g.S.Seal-dict in
+    let active = Contains c.args.active.now in
+    let decides = contains_or_not c.args.active.now in
+    let told = g.D.Device.Tells in
+    let a = g.D.Device.time c.args.dev.now in
+    let x = tracked.shown c.stage.new.self in
+    let moved : Moved p active x.store.entries x.trailing = record { trails = c.in_ok-stage.ensures.trails; synced = c.in_ok-stage.ensures.synced; moved = c.in_ok-stage.ensures.moved; active = c.in_ok-stage.ensures.active; marked = c.in_ok-stage.ensures.marked } in
+    let placed : x.store.partition ≡ p.layout.metadata = ap (λ u. u.partition) c.in_ok-stage.ensures.staged in
+    let y = tracked.shown c.in_ok-this.field-0 in
+    let says = c.in_ok-this.ensures in
+    let b = g.D.Device.time c.sync.new.dev in
+    let moved_y = moved_on p active x.store.entries y.store.entries x.trailing y.trailing says.markers says.trailing moved in
+    let placed_y : y.store.partition ≡ p.layout.metadata = ap (λ u. u.partition) says.same ∙ synced_place x.store ∙ placed in
+    let blobs : told → (q : Key) → (IsCopy p.layout q → ⊥) → disk b q ≡ disk a q = (λ t q not. always_now a b (OnlyOne x.store.partition x.store.older (disk a)) (c.sync.ensures.alone t) q (λ e. not (x.store.older, e ∙ ap (λ k. blob_of k x.store.older) placed))) in
+    let entries : (q : Key) → (IsCopy p.layout q → ⊥) → g.D.Device.opened c.sync.new.dev q ≡ g.D.Device.opened c.args.dev.now q =
+    (λ q not. c.sync.ensures.entries q (λ e. not (Left, e ∙ ap (λ k. blob_of k Left) placed)) (λ e. not (Right, e ∙ ap (λ k. blob_of k Right) placed))) in
+    marked_as _ _ told p active decides _ (disk a) here c.requires.over y.store y.trailing moved_y (g.D.Device.opened c.sync.new.dev) (disk b) blobs y.store.partition placed_y
+    (marked_again _ _ told p active decides _ (disk a) here c.requires.over y.store y.trailing moved_y (g.D.Device.opened c.sync.new.dev) (disk b) blobs
+    (ap (λ u. u.staged) says.same ∙ synced_unstaged x.store) (subst (MayBeSynced p.layout.markers) (sym says.markers) (c.in_ok-stage.ensures.storable c.requires.over.storable))
+    (subst (λ k. IsOpened k (g.D.Device.opened c.sync.new.dev)) (placed ∙ sym placed_y) c.sync.ensures.opened) entries
+    (λ t. subst (λ m. Stands p.layout.markers y.store m (disk b)) (sym says.markers) (says.stands t p.store.entries (c.in_ok-stage.ensures.stands p.store.entries (disk a) (c.requires.over.disk t).markers))))
+
+pub returns-clause-sound : goal.returns-clause-sound
+returns-clause-sound g c t sound =
+    let p = shown g.I.Record.place c.args.self in
+    let here = here_of g.I.Record.place c.args.self g.met.I.CodecFixed.fixed.at_least in
+    let pages = are_pages g.row.S g.S.Seal g.S.Seal-dict in
+    let active = Contains c.args.active.now in
+    let decides = contains_or_not c.args.active.now in
+    let told = g.D.Device.Tells in
+    let a = g.D.Device.time c.args.dev.now in
+    let x = tracked.shown c.stage.new.self in
+    let moved : Moved p active x.store.entries x.trailing = record { trails = c.in_ok-stage.ensures.trails; synced = c.in_ok-stage.ensures.synced; moved = c.in_ok-stage.ensures.moved; active = c.in_ok-stage.ensures.active; marked = c.in_ok-stage.ensures.marked } in
+    let placed : x.store.partition ≡ p.layout.metadata = ap (λ u. u.partition) c.in_ok-stage.ensures.staged in
+    let y = tracked.shown c.in_ok-this.field-0 in
+    let says = c.in_ok-this.ensures in
+    let b = g.D.Device.time c.sync.new.dev in
+    let moved_y = moved_on p active x.store.entries y.store.entries x.trailing y.trailing says.markers says.trailing moved in
+    let placed_y : y.store.partition ≡ p.layout.metadata = ap (λ u. u.partition) says.same ∙ synced_place x.store ∙ placed in
+    let blobs : told → (q : Key) → (IsCopy p.layout q → ⊥) → disk b q ≡ disk a q = (λ t q not. always_now a b (OnlyOne x.store.partition x.store.older (disk a)) (c.sync.ensures.alone t) q (λ e. not (x.store.older, e ∙ ap (λ k. blob_of k x.store.older) placed))) in
+    marked_sound_as _ _ told p active decides _ (disk a) here c.requires.over y.store y.trailing moved_y (g.D.Device.opened c.sync.new.dev) (disk b) blobs y.store.partition placed_y t sound
+
+pub returns-in_err-this-clause-full : goal.returns-in_err-this-clause-full
+returns-in_err-this-clause-full g c has =
+    let p = shown g.I.Record.place c.args.self in
+    let here = here_of g.I.Record.place c.args.self g.met.I.CodecFixed.fixed.at_least in
+    let pages = are_pages g.row.S g.S.Seal g.S.Seal-dict in
+    let active = Contains c.args.active.now in
+    let decides = contains_or_not c.args.active.now in
+    let told = g.D.Device.Tells in
+    let a = g.D.Device.time c.args.dev.now in
+    let x = tracked.shown c.stage.new.self in
+    let moved : Moved p active x.store.entries x.trailing = record { trails = c.in_ok-stage.ensures.trails; synced = c.in_ok-stage.ensures.synced; moved = c.in_ok-stage.ensures.moved; active = c.in_ok-stage.ensures.active; marked = c.in_ok-stage.ensures.marked } in
+    let placed : x.store.partition ≡ p.layout.metadata = ap (λ u. u.partition) c.in_ok-stage.ensures.staged in
+    let r = c.from_residual-in_err-this.result in
+    let e = c.in_err-this.field-0.0 in
+    let is = err_of r (raised_metadata e) c.from_residual-in_err-this.ensures.1 in
+    let says = c.in_err-this.ensures.full.0 (full_markers r e _ _ is c.in_err-this.ensures.cause has) in (
+      omega (arith, says.1, ap (λ u. u.version) c.in_ok-stage.ensures.staged),
+      elim (some_or_none _ _ told p active decides _ (disk a) here c.requires.over) [
+        | inl w ↦ w
+        | inr none ↦ absurd (not_both x.store.staged says.0 (ap (λ u. u.staged) (c.in_ok-stage.ensures.still none) ∙ c.requires.over.synced))
+      ],
+    )
+
+pub returns-in_err-this-clause-lost : goal.returns-in_err-this-clause-lost
+returns-in_err-this-clause-lost g c has =
+    let p = shown g.I.Record.place c.args.self in
+    let here = here_of g.I.Record.place c.args.self g.met.I.CodecFixed.fixed.at_least in
+    let pages = are_pages g.row.S g.S.Seal g.S.Seal-dict in
+    let active = Contains c.args.active.now in
+    let decides = contains_or_not c.args.active.now in
+    let told = g.D.Device.Tells in
+    let a = g.D.Device.time c.args.dev.now in
+    let x = tracked.shown c.stage.new.self in
+    let moved : Moved p active x.store.entries x.trailing = record { trails = c.in_ok-stage.ensures.trails; synced = c.in_ok-stage.ensures.synced; moved = c.in_ok-stage.ensures.moved; active = c.in_ok-stage.ensures.active; marked = c.in_ok-stage.ensures.marked } in
+    let placed : x.store.partition ≡ p.layout.metadata = ap (λ u. u.partition) c.in_ok-stage.ensures.staged in
+    elim (some_or_none _ _ told p active decides _ (disk a) here c.requires.over) [
+      | inl w ↦ w
+      | inr none ↦ absurd (false_true (c.in_err-this.ensures.idle (ap (λ u. u.staged) (c.in_ok-stage.ensures.still none) ∙ c.requires.over.synced)).1)
+    ]
+
+pub returns-clause-lists : goal.returns-clause-lists
+returns-clause-lists g c t =
+    let p = shown g.I.Record.place c.args.self in
+    let here = here_of g.I.Record.place c.args.self g.met.I.CodecFixed.fixed.at_least in
+    let pages = are_pages g.row.S g.S.Seal g.S.Seal-dict in
+    let active = Contains c.args.active.now in
+    let decides = contains_or_not c.args.active.now in
+    let told = g.D.Device.Tells in
+    let a = g.D.Device.time c.args.dev.now in
+    let x = tracked.shown c.stage.new.self in
+    let moved : Moved p active x.store.entries x.trailing = record { trails = c.in_ok-stage.ensures.trails; synced = c.in_ok-stage.ensures.synced; moved = c.in_ok-stage.ensures.moved; active = c.in_ok-stage.ensures.active; marked = c.in_ok-stage.ensures.marked } in
+    let placed : x.store.partition ≡ p.layout.metadata = ap (λ u. u.partition) c.in_ok-stage.ensures.staged in
+    let y = tracked.shown c.in_ok-this.field-0 in
+    let says = c.in_ok-this.ensures in
+    let b = g.D.Device.time c.sync.new.dev in
+    let moved_y = moved_on p active x.store.entries y.store.entries x.trailing y.trailing says.markers says.trailing moved in
+    let placed_y : y.store.partition ≡ p.layout.metadata = ap (λ u. u.partition) says.same ∙ synced_place x.store ∙ placed in
+    let blobs : told → (q : Key) → (IsCopy p.layout q → ⊥) → disk b q ≡ disk a q = (λ t q not. always_now a b (OnlyOne x.store.partition x.store.older (disk a)) (c.sync.ensures.alone t) q (λ e. not (x.store.older, e ∙ ap (λ k. blob_of k x.store.older) placed))) in
+    marked_lists _ _ told p active decides _ (disk a) here c.requires.over y.store y.trailing moved_y (g.D.Device.opened c.sync.new.dev) (disk b) blobs t
+
+pub returns-clause-synced : goal.returns-clause-synced
+returns-clause-synced g c =
+    let p = shown g.I.Record.place c.args.self in
+    let here = here_of g.I.Record.place c.args.self g.met.I.CodecFixed.fixed.at_least in
+    let pages = are_pages g.row.S g.S.Seal g.S.Seal-dict in
+    let active = Contains c.args.active.now in
+    let decides = contains_or_not c.args.active.now in
+    let told = g.D.Device.Tells in
+    let a = g.D.Device.time c.args.dev.now in
+    let x = tracked.shown c.stage.new.self in
+    let moved : Moved p active x.store.entries x.trailing = record { trails = c.in_ok-stage.ensures.trails; synced = c.in_ok-stage.ensures.synced; moved = c.in_ok-stage.ensures.moved; active = c.in_ok-stage.ensures.active; marked = c.in_ok-stage.ensures.marked } in
+    let placed : x.store.partition ≡ p.layout.metadata = ap (λ u. u.partition) c.in_ok-stage.ensures.staged in
+    let y = tracked.shown c.in_ok-this.field-0 in
+    let says = c.in_ok-this.ensures in
+    let b = g.D.Device.time c.sync.new.dev in
+    let moved_y = moved_on p active x.store.entries y.store.entries x.trailing y.trailing says.markers says.trailing moved in
+    let placed_y : y.store.partition ≡ p.layout.metadata = ap (λ u. u.partition) says.same ∙ synced_place x.store ∙ placed in
+    let blobs : told → (q : Key) → (IsCopy p.layout q → ⊥) → disk b q ≡ disk a q = (λ t q not. always_now a b (OnlyOne x.store.partition x.store.older (disk a)) (c.sync.ensures.alone t) q (λ e. not (x.store.older, e ∙ ap (λ k. blob_of k x.store.older) placed))) in
+    moved_y.synced
+
+pub returns-clause-markers : goal.returns-clause-markers
+returns-clause-markers g c s not =
+    let p = shown g.I.Record.place c.args.self in
+    let here = here_of g.I.Record.place c.args.self g.met.I.CodecFixed.fixed.at_least in
+    let pages = are_pages g.row.S g.S.Seal g.S.Seal-dict in
+    let active = Contains c.args.active.now in
+    let decides = contains_or_not c.args.active.now in
+    let told = g.D.Device.Tells in
+    let a = g.D.Device.time c.args.dev.now in
+    let x = tracked.shown c.stage.new.self in
+    let moved : Moved p active x.store.entries x.trailing = record { trails = c.in_ok-stage.ensures.trails; synced = c.in_ok-stage.ensures.synced; moved = c.in_ok-stage.ensures.moved; active = c.in_ok-stage.ensures.active; marked = c.in_ok-stage.ensures.marked } in
+    let placed : x.store.partition ≡ p.layout.metadata = ap (λ u. u.partition) c.in_ok-stage.ensures.staged in
+    let y = tracked.shown c.in_ok-this.field-0 in
+    let says = c.in_ok-this.ensures in
+    let b = g.D.Device.time c.sync.new.dev in
+    let moved_y = moved_on p active x.store.entries y.store.entries x.trailing y.trailing says.markers says.trailing moved in
+    let placed_y : y.store.partition ≡ p.layout.metadata = ap (λ u. u.partition) says.same ∙ synced_place x.store ∙ placed in
+    let blobs : told → (q : Key) → (IsCopy p.layout q → ⊥) → disk b q ≡ disk a q = (λ t q not. always_now a b (OnlyOne x.store.partition x.store.older (disk a)) (c.sync.ensures.alone t) q (λ e. not (x.store.older, e ∙ ap (λ k. blob_of k x.store.older) placed))) in
+    (moved_y.moved s not).1 ∙ sym (moved_y.synced s)
+
+pub returns-clause-active : goal.returns-clause-active
+returns-clause-active g c s is =
+    let p = shown g.I.Record.place c.args.self in
+    let here = here_of g.I.Record.place c.args.self g.met.I.CodecFixed.fixed.at_least in
+    let pages = are_pages g.row.S g.S.Seal g.S.Seal-dict in
+    let active = Contains c.args.active.now in
+    let decides = contains_or_not c.args.active.now in
+    let told = g.D.Device.Tells in
+    let a = g.D.Device.time c.args.dev.now in
+    let x = tracked.shown c.stage.new.self in
+    let moved : Moved p active x.store.entries x.trailing = record { trails = c.in_ok-stage.ensures.trails; synced = c.in_ok-stage.ensures.synced; moved = c.in_ok-stage.ensures.moved; active = c.in_ok-stage.ensures.active; marked = c.in_ok-stage.ensures.marked } in
+    let placed : x.store.partition ≡ p.layout.metadata = ap (λ u. u.partition) c.in_ok-stage.ensures.staged in
+    let y = tracked.shown c.in_ok-this.field-0 in
+    let says = c.in_ok-this.ensures in
+    let b = g.D.Device.time c.sync.new.dev in
+    let moved_y = moved_on p active x.store.entries y.store.entries x.trailing y.trailing says.markers says.trailing moved in
+    let placed_y : y.store.partition ≡ p.layout.metadata = ap (λ u. u.partition) says.same ∙ synced_place x.store ∙ placed in
+    let blobs : told → (q : Key) → (IsCopy p.layout q → ⊥) → disk b q ≡ disk a q = (λ t q not. always_now a b (OnlyOne x.store.partition x.store.older (disk a)) (c.sync.ensures.alone t) q (λ e. not (x.store.older, e ∙ ap (λ k. blob_of k x.store.older) placed))) in
+    (moved_y.active s is).1
+
+pub returns-in_err-stage-clause-newer_stays : goal.returns-in_err-stage-clause-newer_stays
+returns-in_err-stage-clause-newer_stays g c t =
+    let p = shown g.I.Record.place c.args.self in
+    let here = here_of g.I.Record.place c.args.self g.met.I.CodecFixed.fixed.at_least in
+    let pages = are_pages g.row.S g.S.Seal g.S.Seal-dict in
+    let active = Contains c.args.active.now in
+    let decides = contains_or_not c.args.active.now in
+    let told = g.D.Device.Tells in
+    let a = g.D.Device.time c.args.dev.now in
+    let newer = blob_of p.layout.metadata (other_side p.store.older) in
+    always_start a (λ d. d newer ≡ disk a newer) refl
+
+pub returns-in_err-this-clause-newer_stays : goal.returns-in_err-this-clause-newer_stays
+returns-in_err-this-clause-newer_stays g c t =
+    let p = shown g.I.Record.place c.args.self in
+    let here = here_of g.I.Record.place c.args.self g.met.I.CodecFixed.fixed.at_least in
+    let pages = are_pages g.row.S g.S.Seal g.S.Seal-dict in
+    let active = Contains c.args.active.now in
+    let decides = contains_or_not c.args.active.now in
+    let told = g.D.Device.Tells in
+    let a = g.D.Device.time c.args.dev.now in
+    let x = tracked.shown c.stage.new.self in
+    let moved : Moved p active x.store.entries x.trailing = record { trails = c.in_ok-stage.ensures.trails; synced = c.in_ok-stage.ensures.synced; moved = c.in_ok-stage.ensures.moved; active = c.in_ok-stage.ensures.active; marked = c.in_ok-stage.ensures.marked } in
+    let placed : x.store.partition ≡ p.layout.metadata = ap (λ u. u.partition) c.in_ok-stage.ensures.staged in
+    let b = g.D.Device.time c.sync.new.dev in
+    let newer = blob_of p.layout.metadata (other_side p.store.older) in
+    always_weaker a b (OnlyOne x.store.partition x.store.older (disk a)) (λ d. d newer ≡ disk a newer)
+    (λ d only. only newer (λ e. sides_apart p.layout.metadata p.store.older (e ∙ ap (λ u. blob_of u.partition u.older) c.in_ok-stage.ensures.staged))) (c.sync.ensures.alone t)
+
+pub returns-clause-newer_stays : goal.returns-clause-newer_stays
+returns-clause-newer_stays g c t =
+    let p = shown g.I.Record.place c.args.self in
+    let here = here_of g.I.Record.place c.args.self g.met.I.CodecFixed.fixed.at_least in
+    let pages = are_pages g.row.S g.S.Seal g.S.Seal-dict in
+    let active = Contains c.args.active.now in
+    let decides = contains_or_not c.args.active.now in
+    let told = g.D.Device.Tells in
+    let a = g.D.Device.time c.args.dev.now in
+    let x = tracked.shown c.stage.new.self in
+    let moved : Moved p active x.store.entries x.trailing = record { trails = c.in_ok-stage.ensures.trails; synced = c.in_ok-stage.ensures.synced; moved = c.in_ok-stage.ensures.moved; active = c.in_ok-stage.ensures.active; marked = c.in_ok-stage.ensures.marked } in
+    let placed : x.store.partition ≡ p.layout.metadata = ap (λ u. u.partition) c.in_ok-stage.ensures.staged in
+    let b = g.D.Device.time c.sync.new.dev in
+    let newer = blob_of p.layout.metadata (other_side p.store.older) in
+    always_weaker a b (OnlyOne x.store.partition x.store.older (disk a)) (λ d. d newer ≡ disk a newer)
+    (λ d only. only newer (λ e. sides_apart p.layout.metadata p.store.older (e ∙ ap (λ u. blob_of u.partition u.older) c.in_ok-stage.ensures.staged))) (c.sync.ensures.alone t)
+
+pub returns-clause-marked : goal.returns-clause-marked
+returns-clause-marked g c =
+    let p = shown g.I.Record.place c.args.self in
+    let here = here_of g.I.Record.place c.args.self g.met.I.CodecFixed.fixed.at_least in
+    let pages = are_pages g.row.S g.S.Seal g.S.Seal-dict in
+    let active = Contains c.args.active.now in
+    let decides = contains_or_not c.args.active.now in
+    let told = g.D.Device.Tells in
+    let a = g.D.Device.time c.args.dev.now in
+    let x = tracked.shown c.stage.new.self in
+    let moved : Moved p active x.store.entries x.trailing = record { trails = c.in_ok-stage.ensures.trails; synced = c.in_ok-stage.ensures.synced; moved = c.in_ok-stage.ensures.moved; active = c.in_ok-stage.ensures.active; marked = c.in_ok-stage.ensures.marked } in
+    let placed : x.store.partition ≡ p.layout.metadata = ap (λ u. u.partition) c.in_ok-stage.ensures.staged in
+    let y = tracked.shown c.in_ok-this.field-0 in
+    let says = c.in_ok-this.ensures in
+    let b = g.D.Device.time c.sync.new.dev in
+    let moved_y = moved_on p active x.store.entries y.store.entries x.trailing y.trailing says.markers says.trailing moved in
+    let placed_y : y.store.partition ≡ p.layout.metadata = ap (λ u. u.partition) says.same ∙ synced_place x.store ∙ placed in
+    let blobs : told → (q : Key) → (IsCopy p.layout q → ⊥) → disk b q ≡ disk a q = (λ t q not. always_now a b (OnlyOne x.store.partition x.store.older (disk a)) (c.sync.ensures.alone t) q (λ e. not (x.store.older, e ∙ ap (λ k. blob_of k x.store.older) placed))) in
+    marked_synced _ _ told p active decides _ (disk a) here c.requires.over y.store.entries y.trailing moved_y

@@ -1,0 +1,12 @@
+-- How the places that records name follow each other.
+use Rattle.std.specs.Prelude.{◌≡◌, ℕ, ◌+◌, ◌≤◌, List, [], ◌∷◌}
+
+-- The places that records name begin here, each follows the one before and has at least four bytes, and there they end.
+abbrev pub Follow : (List ℕ → ℕ × ℕ) → ℕ → List (List ℕ) → ℕ → Type 0
+Follow place at [] end = at ≡ end
+Follow place at (r ∷ rs) end = ((place r).0 ≡ at) × (4 ≤ (place r).1) × Follow place (at + (place r).1) rs end
+
+-- where the places of these records end
+abbrev pub end_of : (List ℕ → ℕ × ℕ) → ℕ → List (List ℕ) → ℕ
+end_of place at [] = at
+end_of place at (r ∷ rs) = end_of place (at + (place r).1) rs

@@ -1,0 +1,46 @@
+// What a crash leaves of a section's records, from what it leaves of its two blobs.
+ghost use Rattle.std.specs.Prelude.{◌≡◌, ◌≤◌, ◌%◌, ◌*◌, ℕ, List, length, map, take, IsTrue};
+ghost use Rattle.std.specs.List.{AllByRecursion};
+ghost use Rattle.sealed_pages.specs.SealedPrefix.{sealed_prefix, Prefix};
+ghost use Rattle.segments.specs.Fronts.{IsFront};
+ghost use Rattle.paired.specs.Records.{records, entries_of, is_sound, front, entry_of};
+ghost use Rattle.paired.specs.Places.{Follow, end_of};
+ghost use Rattle.blob_device.specs.Disk.{Disk};
+ghost use Rattle.paired.specs.Crashes.{IsPrefix, Leaves, WasThere};
+ghost use Rattle.paired.specs.Holding.{AreGood, Facts, Holding, list_in};
+ghost use Rattle.paired.specs.Kept.{Layout, Markers};
+
+/// Where a crash leaves a prefix of the index bytes that holds `synced` records, and of the values those that had settled, what is
+/// kept is a prefix of the list with the synced records. It does nothing.
+pub fn kept_laws()
+    ensures { (seal : List ℕ → ℕ) (P size : ℕ) (place : List ℕ → ℕ × ℕ) (index values : List ℕ) (synced least settled marker : ℕ) (ci cv : List ℕ) (contents : List (List ℕ))
+        → 1 ≤ size → length index % size ≡ 0 → synced * size ≤ least → marker ≤ synced
+        → Follow place 0 (records size index) (length values)
+        → AllByRecursion (λ r. IsTrue (is_sound seal values (place r))) (records size index)
+        → end_of place 0 (take synced (records size index)) ≤ settled
+        → Prefix seal P index least ci
+        → IsFront (take settled values) cv
+        → AllByRecursion (λ c. IsFront c values) contents
+        → AllByRecursion (λ r. IsTrue (is_sound seal cv (place r)) → WasThere contents cv (place r)) (records size (sealed_prefix seal P ci))
+        → IsPrefix (entries_of place size index values) synced (map (entry_of place cv) (front (λ r. is_sound seal cv (place r)) marker 0 (records size (sealed_prefix seal P ci))))
+        × ((marker ≤ length (records size (sealed_prefix seal P ci)))
+        × (AllByRecursion (λ r. IsTrue (is_sound seal cv (place r))) (take marker (records size (sealed_prefix seal P ci)))
+        × (records size (sealed_prefix seal P ci) ≡ take (length (records size (sealed_prefix seal P ci))) (records size index)))) }
+{}
+
+/// How a pair is stored, and which of its sections may be gone.
+pub trait Stored {
+    /// How it is stored.
+    ghost layout: { Layout };
+
+    /// The section may be gone.
+    ghost IsGoing: { ℕ → Type 0 };
+}
+
+/// Where what is known of the sections is good, and the blobs stand so, each crash leaves of every section a prefix of its list that holds
+/// what was synced, or nothing of one that may be gone; and the markers are true. It does nothing.
+pub fn holding_laws<P: Stored>()
+    ensures { (facts : ℕ → Facts) (one other : Markers) (d : Disk)
+        → 1 ≤ P.layout.record_size → ((s : ℕ) → AreGood P.layout (facts s)) → Holding P.layout facts P.IsGoing one other d
+        → Leaves P.layout (λ s. list_in P.layout (facts s)) (λ s. (facts s).synced) P.IsGoing d }
+{}
