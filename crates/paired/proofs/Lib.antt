@@ -18,6 +18,9 @@ pub mod PairStays
 pub mod PairReads
 pub mod PairAppended
 pub mod TrackingLemmas
+pub mod PairOpened
+pub mod PlainLemmas
+pub mod NoteLemmas
 pub mod PairFailing
 pub mod PairFullMarkers
 pub mod PairRemoved
@@ -26,3 +29,5 @@ pub mod PairSections
 pub mod PairSynced
 pub mod PairSettling
 pub mod PairMarked
+pub mod PairFaultLemmas
+pub mod PairSyncing

@@ -11,6 +11,7 @@ use Rattle.blob_device.specs.Timeline.{Timeline, disk, Always, OnlyAt}
 use Rattle.blob_device.proofs.Moments.{always_start, always_then, always_weaker, always_now}
 use Rattle.sealed_pages.specs.Buffer.{bytes_of, IsSealed}
 use Rattle.sealed_pages.specs.ChanceSeal as pages
+use Rattle.sealed_pages.specs.Flushing.{Alone}
 use Rattle.sealed_pages.specs.declared.page_blob.PageBlob.{PageBlob}
 use Rattle.sealed_pages.specs.declared.write_blob.WriteBlob.{WriteBlob}
 use Rattle.sealed_pages.specs.Shown.{shown}
@@ -19,7 +20,7 @@ use Rattle.segments.specs.declared.buffer.SectionBuffer as buffer
 use Rattle.segments.specs.declared.unsealed.WriteFactory.{WriteFactory}
 use Rattle.segments.specs.Entries.{OnlyOwnEntry}
 use Rattle.segments.specs.FixedLasting.{IsBeginning as IsBeginningIndex}
-use Rattle.segments.specs.FixedLists.{Lists, IsJournal}
+use Rattle.segments.specs.FixedLists.{Lists, IsProven, IsJournal}
 use Rattle.segments.specs.FixedLists as fixed
 use Rattle.segments.specs.Leaving.{AllMoments}
 use Rattle.segments.specs.Sections.{Sections, section_key, key_of, IsHeld, IsSame, SameBounds}
@@ -48,7 +49,7 @@ use Rattle.paired.proofs.GlobLemmas.{buffers, glob_stays, section_counted}
 use Rattle.paired.proofs.PairAppending.{appended, append_good, append_tight, append_list, append_front, append_more, lengthened, lengthen_good, lengthen_list, lengthen_more}
 use Rattle.paired.proofs.PairBlobs.{values_of, opening_bare}
 use Rattle.paired.proofs.PairCalls.{append_values, append_held, append_made}
-use Rattle.paired.proofs.PairFacts.{Parts, facts_of, settled_held, not_there, unheld, values_within, good_of, whole_of, few_of, tight_of, no_records_left, holding_of, glob_outlasts}
+use Rattle.paired.proofs.PairFacts.{proven_of, Parts, facts_of, settled_held, not_there, unheld, values_within, good_of, whole_of, few_of, tight_of, no_records_left, holding_of, glob_outlasts}
 use Rattle.paired.proofs.PairMoments.{Stays, keeping_of}
 
 -- A pair's parts are where its layout says, and its index is made of page blobs under its seal.
@@ -74,7 +75,8 @@ module _ {F S : Type 0} {gs : _} (p : Pair F (PageBlob S gs)) (s : ℕ) where
 
   -- and a record
   pub record RecordMoments (r : List ℕ) (a b : Timeline) : Type 0 where
-    pub moments : (u : PageBlob S gs) → p.index.sections.held s ≡ Some u → pages.Sealing p.layout.seal u.page_size (fixed.section_bytes p.index.sections (disk a) s ++ r) u.settled (key_of p.index.sections s) a b
+    pub alone : Alone (key_of p.index.sections s) a b
+    pub moments : (u : PageBlob S gs) → p.index.sections.held s ≡ Some u → IsProven p.index s → pages.Sealing p.layout.seal u.page_size (fixed.section_bytes p.index.sections (disk a) s ++ r) u.settled (key_of p.index.sections s) a b
     pub made : p.index.sections.held s ≡ None → AllMoments (key_of p.index.sections s) (IsBeginningIndex p.layout.seal p.layout.page_size r (disk a (key_of p.index.sections s))) a b
 
   -- no other blob changes
@@ -88,13 +90,8 @@ module _ {F S : Type 0} {gs : _} (p : Pair F (PageBlob S gs)) (s : ℕ) where
       alone Q = always_weaker a b (OnlyAt (key_of p.values s) (disk a) Q) (λ d. (q : Key) → q ≢ key_of p.values s → d q ≡ disk a q) (λ d only. only.others)
 
   pub record_alone : (r : List ℕ) (a b : Timeline) → RecordMoments r a b → Always a b (λ d. (q : Key) → q ≢ key_of p.index.sections s → d q ≡ disk a q)
-  record_alone r a b is = elim (none_or_value (p.index.sections.held s)) [
-    | inl none ↦ alone (IsBeginningIndex p.layout.seal p.layout.page_size r (disk a (key_of p.index.sections s))) (is.made none)
-    | inr some ↦ alone (pages.Leaves p.layout.seal some.0.page_size (fixed.section_bytes p.index.sections (disk a) s ++ r) some.0.settled) (is.moments some.0 some.1)
-  ]
-    where
-      alone : (Q : Blob → Type 0) → Always a b (OnlyAt (key_of p.index.sections s) (disk a) Q) → Always a b (λ d. (q : Key) → q ≢ key_of p.index.sections s → d q ≡ disk a q)
-      alone Q = always_weaker a b (OnlyAt (key_of p.index.sections s) (disk a) Q) (λ d. (q : Key) → q ≢ key_of p.index.sections s → d q ≡ disk a q) (λ d only. only.others)
+  record_alone r a b is = always_weaker a b (OnlyAt (key_of p.index.sections s) (disk a) (λ b. Unit {0})) (λ d. (q : Key) → q ≢ key_of p.index.sections s → d q ≡ disk a q)
+      (λ d only. only.others) is.alone
 
   pub value_blobs : (spelled : List ℕ) (a b : Timeline) → ValueMoments spelled a b → (q : Key) → q ≢ key_of p.values s → disk b q ≡ disk a q
   value_blobs spelled a b is = always_now a b (λ d. (q : Key) → q ≢ key_of p.values s → d q ≡ disk a q) (value_alone spelled a b is)
@@ -136,6 +133,7 @@ module _ {F S : Type 0} {gs : _} (p : Pair F (PageBlob S gs)) (s : ℕ) where
     pub others : (q : ℕ) → q ≢ s → IsSame p.index.sections j.sections q
     pub bounds : SameBounds p.index.sections j.sections
     pub unrecovered : (q : ℕ) → j.unrecovered q ≡ p.index.unrecovered q
+    pub floors : (q : ℕ) → j.floor_of q ≡ p.index.floor_of q
     pub entries : OnlyOwnEntry (key_of p.index.sections s) old new
     pub adds : told → RecordMoments r a b
 
@@ -236,12 +234,12 @@ module _ {F S : Type 0} {gs : _} {g : buffer.Ghosts (PageBlob S gs)} {gives : F 
       journal = pair.index;
       values = pair.values;
       store = (pair.disk t).markers;
-      free = pair.whole.recovered;
+      proven = proven_of pair.whole;
       index_here = laid.index;
       values_here = laid.values;
       store_here = laid.store;
       paged = λ s u held. sym (laid.pages.page_size u) ∙ ap (λ (x : Setting). x.page_size) (pair.index.over.opened_list.setting s u held) ∙ laid.paged;
-      absent = (pair.disk t).absent;
+      absent = sound.absent;
       marked = pair.markers.marked;
       good = λ s. record {
         places = sound.places s;
@@ -396,7 +394,7 @@ module _ {F S : Type 0} {gs : _} {g : buffer.Ghosts (PageBlob S gs)} {gives : F 
                   (append_more p.layout laid.pos (facts s) (good s) r spelled fits whole long here (within s)) entry (append_front p.layout laid.pos (facts s) (good s) r spelled fits whole long here)
                   (λ _. ⊥) p.store.entries a b standing (Added) (values_added) stands_on c values_stood
                   (pages.Leaves p.layout.seal some.0.page_size (fixed.section_bytes p.index.sections (disk b) s ++ r) some.0.settled)
-                  (subst (λ (l : List ℕ). Always b c (OnlyAt (section_key l s) (disk b) (pages.Leaves p.layout.seal some.0.page_size (fixed.section_bytes p.index.sections (disk b) s ++ r) some.0.settled))) laid.index (item.moments some.0 some.1))
+                  (subst (λ (l : List ℕ). Always b c (OnlyAt (section_key l s) (disk b) (pages.Leaves p.layout.seal some.0.page_size (fixed.section_bytes p.index.sections (disk b) s ++ r) some.0.settled))) laid.index (item.moments some.0 some.1 (proven_of pair.whole s)))
                   (λ x is. lasts_held some.0 x some.1 is)
             ]
 
@@ -506,6 +504,7 @@ module _ {F S : Type 0} {gs : _} {g : buffer.Ghosts (PageBlob S gs)} {gives : F 
       whole_again : AreWhole (next index values page_size)
       whole_again = record {
         recovered = λ q. item.unrecovered q ∙ pair.whole.recovered q;
+        unfloored = λ q. item.floors q ∙ pair.whole.unfloored q;
         index_ceiling = item.bounds.ceiling ∙ pair.whole.index_ceiling;
         values_ceiling = value.bounds.ceiling ∙ pair.whole.values_ceiling;
         index_known = λ q. elim (cases_eq q s) [
@@ -535,14 +534,14 @@ module _ {F S : Type 0} {gs : _} {g : buffer.Ghosts (PageBlob S gs)} {gives : F 
         ];
       }
 
-      absent_again : told → (q : ℕ) → q < 2 ^ 64 → j.sections.held q ≡ None → longest (disk c (section_key index q)) ≡ 0
-      absent_again t q q_small none = elim (cases_eq q s) [
+      absent_again : told → IsSoundOn p (disk a) → (q : ℕ) → q < 2 ^ 64 → j.sections.held q ≡ None → longest (disk c (section_key index q)) ≡ 0
+      absent_again t sound q q_small none = elim (cases_eq q s) [
         | inl is ↦ absurd (cc (subst IsSome (subst (λ (k : ℕ). j.sections.held k ≡ None) is none) item.held))
         | inr other ↦
             let key : section_key index q ≡ key_of p.index.sections q = ap (λ (l : List ℕ). section_key l q) (same_index ∙ sym laid.index) in
             ap (λ (k : Key). longest (disk c k)) key
             ∙ ap longest (kept_blob t (key_of p.index.sections q) (other_index q s) (keys_differ p.index.sections.partition q s q_small small other))
-            ∙ ap (λ (l : List ℕ). longest (disk a (section_key l q))) laid.index ∙ (pair.disk t).absent q q_small (sym (item.others q other).held ∙ none)
+            ∙ ap (λ (l : List ℕ). longest (disk a (section_key l q))) laid.index ∙ sound.absent q q_small (sym (item.others q other).held ∙ none)
       ]
 
       copy_entry : (side : Side) → last (blob_of p.store.partition side) ≡ opened (blob_of p.store.partition side)
@@ -574,7 +573,6 @@ module _ {F S : Type 0} {gs : _} {g : buffer.Ghosts (PageBlob S gs)} {gives : F 
         synced = pair.synced;
         disk = λ t. record {
           markers = stands_same p.layout.markers p.store p.store.entries (disk a) (disk c) (copy_blob t Left) (copy_blob t Right) (pair.disk t).markers;
-          absent = absent_again t;
         };
       }
 
@@ -585,4 +583,5 @@ module _ {F S : Type 0} {gs : _} {g : buffer.Ghosts (PageBlob S gs)} {gives : F 
         places = places_now t sound s small spelled b (value.adds t) r fits long names m new last value j c item glob_again;
         sound = sound_now t sound s small spelled b (value.adds t) r fits long names m new last value j c item glob_again;
         values_settled = settled_now t sound s small spelled b (value.adds t) r fits long names m new last value j c item glob_again;
+        absent = absent_again t sound;
       }

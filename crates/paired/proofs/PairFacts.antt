@@ -11,7 +11,7 @@ use Rattle.sealed_pages.specs.ChanceSeal as pages
 use Rattle.sealed_pages.specs.Shown.{shown}
 use Rattle.sealed_pages.proofs.Holding.{holds_leaves}
 use Rattle.segments.specs.declared.buffer.SectionBuffer as buffer
-use Rattle.segments.specs.FixedLists.{Lists, IsJournal}
+use Rattle.segments.specs.FixedLists.{Lists, IsProven, IsJournal}
 use Rattle.segments.specs.FixedLists as fixed
 use Rattle.segments.specs.Sections.{Sections, section_key, key_of, IsHeld, IsOver}
 use Rattle.segments.specs.Setting.{Setting}
@@ -34,6 +34,7 @@ use Rattle.meta_store.proofs.SyncingLemmas.{stands_keeps}
 use Rattle.paired.specs.GlobLasting.{Outlasts}
 use Rattle.paired.specs.GlobSections.{IsGlob}
 use Rattle.paired.specs.GlobSections as glob
+use Rattle.paired.specs.Pair.{Pair, AreWhole}
 use Rattle.paired.specs.Places.{Follow, end_of}
 use Rattle.paired.specs.Records.{records, is_sound}
 use Rattle.paired.specs.Kept.{Layout, IsMarked}
@@ -56,12 +57,16 @@ not_there m opened d over t s small held unopened = go (d (key_of m s)).there re
       | inr known ↦ absurd (cc (subst IsSome unopened known))
     ]
 
--- each crash leaves of a held section that owes no replay a prefix of its bytes, with what has settled
+-- all pages of each section of a pair were read, or written since
+pub proven_of : {F S : Type 0} {gs : _} {p : Pair F (PageBlob S gs)} → AreWhole p → (s : ℕ) → IsProven p.index s
+proven_of whole s = record { checked = whole.recovered s; free = whole.unfloored s }
+
+-- each crash leaves of a held section that is proven a prefix of its bytes, with what has settled
 pub journal_lasts : {F S : Type 0} {gs : _} {g : buffer.Ghosts (PageBlob S gs)} {gives : F → Setting} {told : Type 0} (seal : List ℕ → ℕ) (size : ℕ) (j : Lists F (PageBlob S gs)) (opened : OpenedList) (d : Disk)
-    → IsJournal g gives seal size told j opened d → told → (s : ℕ) (u : PageBlob S gs) → j.sections.held s ≡ Some u → j.unrecovered s ≡ false
+    → IsJournal g gives seal size told j opened d → told → (s : ℕ) (u : PageBlob S gs) → j.sections.held s ≡ Some u → IsProven j s
     → pages.Leaves seal u.page_size (bytes_of (shown u) (d (key_of j.sections s)).content) u.settled (d (key_of j.sections s))
-journal_lasts seal size j opened d journal t s u held free =
-    holds_leaves seal (shown u) (bytes_of (shown u) (d (key_of j.sections s)).content) (d (key_of j.sections s)) u.fit.begun ((journal.disk t).sealed s u held free)
+journal_lasts seal size j opened d journal t s u held is_proven =
+    holds_leaves seal (shown u) (bytes_of (shown u) (d (key_of j.sections s)).content) (d (key_of j.sections s)) u.fit.begun ((journal.disk t).sealed s u held is_proven)
 
 -- each crash leaves of a held section of a glob what has settled of its values
 pub glob_outlasts : {F : Type 0} {takes : F → Setting} {told : Type 0} (m : Sections F WriteBlob) (opened : OpenedList) (d : Disk) → IsGlob buffers takes told m opened d → told → (s : ℕ) (v : WriteBlob) → m.held s ≡ Some v
@@ -131,13 +136,13 @@ module _ {F G S : Type 0} {gs : _} (l : Layout) (j : Lists F (PageBlob S gs)) (m
       values_of l (facts_of s) b
       (subst (λ (o : Option WriteBlob). Outlasts (take (glob.settled_held o) (glob.bytes_held o content)) (glob.bytes_held o content) b) (sym held) outlasts)
 
-  -- The three parts stand, no section owes a replay, and they are where the layout says; no crash brings bytes back into an index blob of a
+  -- The three parts stand, each section is proven, and they are where the layout says; no crash brings bytes back into an index blob of a
   -- section that is not held; and the markers are true.
   pub record Parts (g : buffer.Ghosts (PageBlob S gs)) (gives : F → Setting) (takes : G → Setting) (told : Type 0) (u : Store Key8 ℕ) (opened : OpenedList) : Type 0 where
     pub journal : IsJournal g gives l.seal l.record_size told j opened d
     pub values : IsGlob buffers takes told m opened d
     pub store : Stands l.markers u u.entries d
-    pub free : (s : ℕ) → j.unrecovered s ≡ false
+    pub proven : (s : ℕ) → IsProven j s
     pub index_here : j.sections.partition ≡ l.index
     pub values_here : m.partition ≡ l.values
     pub store_here : u.partition ≡ l.metadata
@@ -197,7 +202,7 @@ module _ {F G S : Type 0} {gs : _} (l : Layout) (j : Lists F (PageBlob S gs)) (m
       pub whole_of : (s : ℕ) → length (facts_of s).index % l.record_size ≡ 0
       whole_of s = elim (none_or_value (j.sections.held s)) [
         | inl none ↦ rw none (no_rest l.record_size)
-        | inr some ↦ rw some.1 (ap (λ (n : ℕ). n % l.record_size) (index_counted (shown some.0) (d (key_of j.sections s)).content) ∙ (parts.journal.disk t).whole s some.0 some.1 (parts.free s))
+        | inr some ↦ rw some.1 (ap (λ (n : ℕ). n % l.record_size) (index_counted (shown some.0) (d (key_of j.sections s)).content) ∙ (parts.journal.disk t).whole s some.0 some.1 (parts.proven s).checked)
       ]
 
       -- no more were synced than there are
@@ -212,7 +217,7 @@ module _ {F G S : Type 0} {gs : _} (l : Layout) (j : Lists F (PageBlob S gs)) (m
       -- a held section's index blob lasts
       pub index_lasts : (s : ℕ) (v : PageBlob S gs) → j.sections.held s ≡ Some v → IsLasting l (facts_of s) (d (section_key l.index s))
       index_lasts s v held = subst (λ (p : List ℕ). IsLasting l (facts_of s) (d (section_key p s))) parts.index_here
-          (lasting_held s v (d (key_of j.sections s)) held (parts.paged s v held) (journal_lasts l.seal l.record_size j opened d parts.journal t s v held (parts.free s)))
+          (lasting_held s v (d (key_of j.sections s)) held (parts.paged s v held) (journal_lasts l.seal l.record_size j opened d parts.journal t s v held (parts.proven s)))
 
       pub index_stands : (Gone : Type 0) (s : ℕ) → s < 2 ^ 64 → IndexStands l Gone (facts_of s) (d (section_key l.index s))
       index_stands Gone s lt = elim (none_or_value (j.sections.held s)) [

@@ -186,6 +186,7 @@ module _ {F S : Type 0} {gs : _} (g : buffer.Ghosts (PageBlob S gs)) (gives : F 
           (subst (λ (b : List ℕ). AllSound (fixed.section_bytes p.index.sections d s) b) (sym (values_same x s)) (sound.sound s));
       values_settled = λ s. subst (λ (b : List ℕ). end_of p.layout.place 0 (take (synced_length marked_pair s) (records p.layout.record_size b)) ≤ glob.settled_size p.values s) (sym (index_same x s))
           (subst (λ (n : ℕ). end_of p.layout.place 0 (take n (records p.layout.record_size (fixed.section_bytes p.index.sections d s))) ≤ glob.settled_size p.values s) (sym (moved.synced s)) (sound.values_settled s));
+      absent = λ s small none. ap longest (blobs x (section_key p.layout.index s) (λ is. pair.apart.metadata (ap (λ (k : Key). k.0) is.1))) ∙ sound.absent s small none;
     }
 
     pub marked_again : u.staged ≡ false → MayBeSynced p.layout.markers u.entries → IsOpened u.partition o' → ((q : Key) → (IsCopy p.layout q → ⊥) → o' q ≡ o q) → (told → Stands p.layout.markers u u.entries d')
@@ -197,6 +198,7 @@ module _ {F S : Type 0} {gs : _} (g : buffer.Ghosts (PageBlob S gs)) (gives : F 
       apart = pair.apart;
       whole = record {
         recovered = pair.whole.recovered;
+        unfloored = pair.whole.unfloored;
         index_ceiling = pair.whole.index_ceiling;
         values_ceiling = pair.whole.values_ceiling;
         index_known = pair.whole.index_known;
@@ -215,10 +217,7 @@ module _ {F S : Type 0} {gs : _} (g : buffer.Ghosts (PageBlob S gs)) (gives : F 
       metadata_opened = opened;
       storable = storable;
       synced = unstaged;
-      disk = λ x. record {
-        markers = stands x;
-        absent = λ s small none. ap longest (blobs x (section_key p.layout.index s) (λ is. pair.apart.metadata (ap (λ (k : Key). k.0) is.1))) ∙ (pair.disk x).absent s small none;
-      };
+      disk = λ x. record { markers = stands x };
     }
 
     -- the same of its layout

@@ -49,7 +49,7 @@ use Rattle.paired.proofs.CallLemmas.{some_held, held_some}
 use Rattle.paired.proofs.FrameLemmas.{length-with_number, length-bytes_at}
 use Rattle.paired.proofs.GlobLemmas.{buffers, glob_stays, section_counted}
 use Rattle.paired.proofs.KeptLemmas.{sound_parts}
-use Rattle.paired.proofs.PairFacts.{Parts, facts_of, good_of, holding_of}
+use Rattle.paired.proofs.PairFacts.{proven_of, Parts, facts_of, good_of, holding_of}
 use Rattle.paired.proofs.PairHolding.{leaves_of}
 use Rattle.paired.proofs.RecordLemmas.{length-records}
 
@@ -306,15 +306,15 @@ past_held {F} {S} {gs} m size s position = go (m.held s)
     go None = (λ none. absurd none, λ held. absurd (cc held.0))
     go (Some u) = (λ le. (refl, le), λ held. held.1)
 
--- no page of a sealed section is damaged
+-- no page of a proven section is damaged
 pub undamaged : {F S : Type 0} {gs : _} {g : buffer.Ghosts (PageBlob S gs)} {gives : F → Setting} {told : Type 0} (seal : List ℕ → ℕ) (size : ℕ) (j : fixed.Lists F (PageBlob S gs)) (opened : OpenedList) (d : Disk)
-    → fixed.IsJournal g gives seal size told j opened d → told → (s : ℕ) → j.unrecovered s ≡ false → (position k : ℕ) → IsSomeAnd (j.sections.held s) (λ u. IsDamaged size seal u (d (key_of j.sections s)).content position k) → ⊥
-undamaged {S = S} {gs = gs} seal size j opened d journal t s free position k damaged = elim (none_or_value (j.sections.held s)) [
+    → fixed.IsJournal g gives seal size told j opened d → told → (s : ℕ) → fixed.IsProven j s → (position k : ℕ) → IsSomeAnd (j.sections.held s) (λ u. IsDamaged size seal u (d (key_of j.sections s)).content position k) → ⊥
+undamaged {S = S} {gs = gs} seal size j opened d journal t s is_proven position k damaged = elim (none_or_value (j.sections.held s)) [
   | inl none ↦ subst (λ (o : Option (PageBlob S gs)). IsSomeAnd o (λ u. IsDamaged size seal u (d (key_of j.sections s)).content position k)) none damaged
   | inr some ↦
       let u : PageBlob S gs = some.0 in
       let b : Blob = d (key_of j.sections s) in
-      whole_read seal (shown u) (bytes_of (shown u) b.content) b ((journal.disk t).sealed s u some.1 free) (position * size) size k
+      whole_read seal (shown u) (bytes_of (shown u) b.content) b ((journal.disk t).sealed s u some.1 is_proven) (position * size) size k
       (subst (λ (o : Option (PageBlob S gs)). IsSomeAnd o (λ v. IsDamaged size seal v b.content position k)) some.1 damaged)
 ]
 
@@ -417,12 +417,12 @@ leaves_now {g = g} {gives = gives} {takes = takes} {told = told} p opened d pos 
       journal = pair.index;
       values = pair.values;
       store = (pair.disk t).markers;
-      free = pair.whole.recovered;
+      proven = proven_of pair.whole;
       index_here = index_here;
       values_here = values_here;
       store_here = store_here;
       paged = paged;
-      absent = (pair.disk t).absent;
+      absent = sound.absent;
       marked = pair.markers.marked;
       good = λ s. record {
         places = sound.places s;

@@ -154,6 +154,8 @@ module _ {F S : Type 0} {gs : _} (p : Pair F (PageBlob S gs)) (i : Lists F (Page
     pub values_kept : (s : ℕ) → least ≤ s → IsSame p.values v s
     pub free : (s : ℕ) → s < least → i.unrecovered s ≡ false
     pub owes : (s : ℕ) → least ≤ s → i.unrecovered s ≡ p.index.unrecovered s
+    pub lifted : (s : ℕ) → s < least → i.floor_of s ≡ 0
+    pub floors : (s : ℕ) → least ≤ s → i.floor_of s ≡ p.index.floor_of s
     pub below : (s : ℕ) → s < least → (trailing s ≡ None) × (marker_of u.entries s ≡ 0)
     pub above : (s : ℕ) → least ≤ s → (trailing s ≡ p.trailing s) × (marker_of u.entries s ≡ marker_of p.store.entries s)
     pub marked : (s n : ℕ) → IsMarked u.entries s n → (least ≤ s) × IsMarked p.store.entries s n
@@ -187,6 +189,10 @@ module _ {F S : Type 0} {gs : _} (p : Pair F (PageBlob S gs)) (i : Lists F (Page
       recovered = λ s. elim (cases_lt s least) [
         | inl lt ↦ removed.free s lt
         | inr from ↦ removed.owes s from ∙ whole.recovered s
+      ];
+      unfloored = λ s. elim (cases_lt s least) [
+        | inl lt ↦ removed.lifted s lt
+        | inr from ↦ removed.floors s from ∙ whole.unfloored s
       ];
       index_ceiling = index_ceiling ∙ whole.index_ceiling;
       values_ceiling = values_ceiling ∙ whole.values_ceiling;
@@ -231,19 +237,17 @@ module _ {F S : Type 0} {gs : _} (p : Pair F (PageBlob S gs)) (i : Lists F (Page
       ];
     }
 
-    -- where the index blob of each held section below the bound is gone, and no other one changed
-    pub removed_on : (d e : Disk) → IsPairOn p d → Stands p.layout.markers u u.entries e → ((s : ℕ) → s < least → IsHeld p.index.sections s → e (section_key p.layout.index s) ≡ nothing)
-        → ((s : ℕ) → s < 2 ^ 64 → (s < least → IsHeld p.index.sections s → ⊥) → e (section_key p.layout.index s) ≡ d (section_key p.layout.index s)) → IsPairOn after e
-    removed_on d e on stands gone others = record {
-      markers = stands;
-      absent = λ s small none. elim (cases_lt s least) [
-        | inl lt ↦ elim (none_or_value (p.index.sections.held s)) [
-          | inl absent ↦ subst HasNoBytes (sym (others s small (λ below held. absurd (cc (subst IsSome absent held))))) (on.absent s small absent)
-          | inr some ↦ subst HasNoBytes (sym (gone s lt (subst IsSome (sym some.1) refl))) refl
-        ]
-        | inr from ↦ subst HasNoBytes (sym (others s small (λ below held. absurd (omega (arith, below, from))))) (on.absent s small (sym (removed.index_kept s from).held ∙ none))
-      ];
-    }
+    -- where the index blob of each held section below the bound is gone, and no other one changed, no crash brings bytes back
+    removed_absent : (d e : Disk) → IsSoundOn p d → ((s : ℕ) → s < least → IsHeld p.index.sections s → e (section_key p.layout.index s) ≡ nothing)
+        → ((s : ℕ) → s < 2 ^ 64 → (s < least → IsHeld p.index.sections s → ⊥) → e (section_key p.layout.index s) ≡ d (section_key p.layout.index s))
+        → (s : ℕ) → s < 2 ^ 64 → i.sections.held s ≡ None → HasNoBytes (e (section_key p.layout.index s))
+    removed_absent d e sound gone others s small none = elim (cases_lt s least) [
+      | inl lt ↦ elim (none_or_value (p.index.sections.held s)) [
+        | inl absent ↦ subst HasNoBytes (sym (others s small (λ below held. absurd (cc (subst IsSome absent held))))) (sound.absent s small absent)
+        | inr some ↦ subst HasNoBytes (sym (gone s lt (subst IsSome (sym some.1) refl))) refl
+      ]
+      | inr from ↦ subst HasNoBytes (sym (others s small (λ below held. absurd (omega (arith, below, from))))) (sound.absent s small (sym (removed.index_kept s from).held ∙ none))
+    ]
 
     pub removed_pair : {told : Type 0} (g : buffer.Ghosts (PageBlob S gs)) (gives : F → Setting) (h : buffer.Ghosts WriteBlob) (takes : WriteFactory → Setting) (old new : OpenedList) (d e : Disk) → IsPair g gives h takes told p old d
         → IsJournal g gives p.layout.seal p.layout.record_size told i new e → IsGlob h takes told v new e → IsOpened u.partition new → MayBeSynced p.layout.markers u.entries → u.staged ≡ false
@@ -283,8 +287,9 @@ module _ {F S : Type 0} {gs : _} (p : Pair F (PageBlob S gs)) (i : Lists F (Page
             let few : length (fixed.section_bytes i.sections e s) / p.layout.record_size < 1 = div_below (length (fixed.section_bytes i.sections e s)) p.layout.record_size 1 (omega (arith, pos)) (omega (arith, none, pos)) in
             nil_from_length (records_of after e s) (omega (arith, few, length-records p.layout.record_size (fixed.section_bytes i.sections e s)))
 
-        pub removed_sound : IsSoundOn p d → IsSoundOn after e
-        removed_sound sound = record {
+        pub removed_sound : ((s : ℕ) → s < least → IsHeld p.index.sections s → e (section_key p.layout.index s) ≡ nothing)
+            → ((s : ℕ) → s < 2 ^ 64 → (s < least → IsHeld p.index.sections s → ⊥) → e (section_key p.layout.index s) ≡ d (section_key p.layout.index s)) → IsSoundOn p d → IsSoundOn after e
+        removed_sound gone others sound = record {
           places = λ s. elim (cases_lt s least) [
             | inl lt ↦ subst (λ (rs : List (List ℕ)). Follow p.layout.place 0 rs (glob.section_size v s)) (sym (no_records s lt)) (sym (ap glob.size_held (removed.values_gone s lt).held))
             | inr from ↦ subst (λ (rs : List (List ℕ)). Follow p.layout.place 0 rs (glob.section_size v s)) (sym (same_records s from))
@@ -301,6 +306,7 @@ module _ {F S : Type 0} {gs : _} (p : Pair F (PageBlob S gs)) (i : Lists F (Page
                 (subst (λ (rs : List (List ℕ)). end_of p.layout.place 0 (take (synced_length p s) rs) ≤ glob.settled_size v s) (sym (same_records s from))
                 (subst (λ (o : Option WriteBlob). end_of p.layout.place 0 (take (synced_length p s) (records_of p d s)) ≤ glob.settled_held o) (sym (removed.values_kept s from).held) (sound.values_settled s)))
           ];
+          absent = removed_absent d e sound gone others;
         }
 
 -- what holds of a pair with this layout holds of the pair, whose layout it is

@@ -33,7 +33,7 @@ use Rattle.paired.specs.Holding.{Facts, list_in, AreGood, AreMarked, Holding}
 use Rattle.paired.specs.Pair.{Pair, AreApart, IsPair, IsSoundOn, synced_length}
 use Rattle.paired.proofs.GlobLemmas.{buffers}
 use Rattle.paired.proofs.PairCalls.{sync_markers, remove_records, remove_values}
-use Rattle.paired.proofs.PairFacts.{Parts, facts_of, good_of, holding_of}
+use Rattle.paired.proofs.PairFacts.{proven_of, Parts, facts_of, good_of, holding_of}
 
 -- no blob that Q names changed, at no moment
 abbrev pub Untouched : (Key → Type 0) → Timeline → Timeline → Type 0
@@ -363,12 +363,12 @@ parts_of p opened d pair t sound index_here values_here store_here paged = recor
   journal = pair.index;
   values = pair.values;
   store = (pair.disk t).markers;
-  free = pair.whole.recovered;
+  proven = proven_of pair.whole;
   index_here = index_here;
   values_here = values_here;
   store_here = store_here;
   paged = paged;
-  absent = (pair.disk t).absent;
+  absent = sound.absent;
   marked = pair.markers.marked;
   good = λ s. record {
     places = sound.places s;

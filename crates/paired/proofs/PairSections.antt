@@ -44,6 +44,7 @@ pub record IndexSynced {F S : Type 0} {gs : _} (g : buffer.Ghosts (PageBlob S gs
   pub unopened : (s : ℕ) → k.sections.unopened s ≡ j.sections.unopened s
   pub bounds : SameBounds j.sections k.sections
   pub unrecovered : (s : ℕ) → k.unrecovered s ≡ j.unrecovered s
+  pub floors : (s : ℕ) → k.floor_of s ≡ j.floor_of s
   pub number : (s : ℕ) → IsHeld j.sections s → s < 2 ^ 64
   pub entries : (q : Key) → (IsKeyOf j.sections (λ s. IsNamed s × IsHeld j.sections s) q → ⊥) → new q ≡ old q
   pub blobs : told → (q : Key) → (IsKeyOf j.sections (λ s. IsNamed s × IsHeld j.sections s) q → ⊥) → e q ≡ d q

@@ -30,7 +30,7 @@ use Rattle.paired.specs.Records.{Entry, records}
 use Rattle.paired.proofs.GlobLemmas.{buffers}
 use Rattle.paired.proofs.PairBlobs.{lasting_none}
 use Rattle.paired.proofs.PairCalls.{sync_records, sync_values}
-use Rattle.paired.proofs.PairFacts.{facts_of, lasting_held, values_held, Parts, unvalued, good_of, holding_of, values_last}
+use Rattle.paired.proofs.PairFacts.{proven_of, facts_of, lasting_held, values_held, Parts, unvalued, good_of, holding_of, values_last}
 use Rattle.paired.proofs.PairHolding.{leaves_list}
 use Rattle.paired.proofs.PairSections.{IndexSynced, ValuesSynced}
 use Rattle.paired.proofs.PairSynced.{Here}
@@ -53,16 +53,17 @@ pub index_synced_of : {F S : Type 0} {gs : _} {g : buffer.Ghosts (PageBlob S gs)
     → IsJournal g gives seal size told j old (disk a)
     → ((s : ℕ) (u : PageBlob S gs) → IsNamed s → j.sections.held s ≡ Some u → IsSomeAnd (k.sections.held s) (λ v. IsSynced g told u v (disk a (key_of j.sections s)) (disk b (key_of j.sections s))))
     → ((s : ℕ) → j.sections.held s ≡ None → k.sections.held s ≡ None) → ((s : ℕ) → (IsNamed s → ⊥) → k.sections.held s ≡ j.sections.held s)
-    → ((s : ℕ) → k.sections.unopened s ≡ j.sections.unopened s) → SameBounds j.sections k.sections → ((s : ℕ) → k.unrecovered s ≡ j.unrecovered s)
+    → ((s : ℕ) → k.sections.unopened s ≡ j.sections.unopened s) → SameBounds j.sections k.sections → ((s : ℕ) → k.unrecovered s ≡ j.unrecovered s) → ((s : ℕ) → k.floor_of s ≡ j.floor_of s)
     → ((q : Key) → (IsKeyOf j.sections (λ s. IsNamed s × lasting.IsUnsettled g j.sections s) q → ⊥) → new q ≡ old q)
     → (told → Always a b (Each (fixed.Settling seal j IsNamed (disk a)))) → IndexSynced g told IsNamed j k old new (disk a) (disk b)
-index_synced_of {g = g} seal size IsNamed j k old new a b journal named none others unopened bounds unrecovered entries moments = record {
+index_synced_of {g = g} seal size IsNamed j k old new a b journal named none others unopened bounds unrecovered floors entries moments = record {
   named = named;
   none = none;
   others = others;
   unopened = unopened;
   bounds = bounds;
   unrecovered = unrecovered;
+  floors = floors;
   number = λ s held. journal.over.opened_list.number s (inl held);
   entries = λ q not. entries q (λ w. (let some = value_of (j.sections.held w.0) (λ u. g.unsettled u ≡ true) w.1.1 in not (w.0, (w.1.0, subst IsSome (sym some.is) refl), w.2)));
   blobs = λ t q not. (always_now a b (Each (fixed.Settling seal j IsNamed (disk a))) (moments t) q).others (λ w. not (w.0, (w.1.0, w.1.1), w.2));
@@ -255,7 +256,7 @@ module _ {F S : Type 0} {gs : _} (g : buffer.Ghosts (PageBlob S gs)) (gives : F 
       | inl none ↦ absurd (cc (subst IsSome none is.1))
       | inr some ↦ subst (λ (y : List ℕ). IsLasting p.layout (facts s) (d (section_key y s))) here.index
           (lasting_held p.layout p.index p.values (synced_length p) (disk a) s some.0 (d (key_of p.index.sections s)) some.1 (parts.paged s some.0 some.1)
-          ((each (key_of p.index.sections s)).named s some.0 is.0 some.1 (pair.whole.recovered s) refl))
+          ((each (key_of p.index.sections s)).named s some.0 is.0 some.1 (proven_of pair.whole s) refl))
     ]
 
     no_records : (s : ℕ) → p.values.held s ≡ None → records p.layout.record_size (facts s).index ≡ []
@@ -300,12 +301,12 @@ parts_of g gives told p pages o d here pair x sound = record {
   journal = pair.index;
   values = pair.values;
   store = (pair.disk x).markers;
-  free = pair.whole.recovered;
+  proven = proven_of pair.whole;
   index_here = here.index;
   values_here = here.values;
   store_here = here.store;
   paged = λ s u held. sym (pages.page_size u) ∙ ap (λ (y : Setting). y.page_size) (pair.index.over.opened_list.setting s u held) ∙ here.page_size;
-  absent = (pair.disk x).absent;
+  absent = sound.absent;
   marked = pair.markers.marked;
   good = λ s. record { places = sound.places s; sound = sound.sound s; index_settled = pair.settled.index s; values_settled = sound.values_settled s; lengths = pair.settled.lengths s };
 }

@@ -255,12 +255,12 @@ module _ {F S : Type 0} {gs : _} (g : buffer.Ghosts (PageBlob S gs)) (gives : F 
     | inr not ↦ (held_same s).1 (pair.markers.trails s x (sym (noted.others s not) ∙ trails)).0
   ]
 
-  absent_still : told → (s : ℕ) → s < 2 ^ 64 → k.sections.held s ≡ None → longest (d2 (section_key p.layout.index s)) ≡ 0
-  absent_still x s small none =
+  absent_still : told → IsSoundOn p d0 → (s : ℕ) → s < 2 ^ 64 → k.sections.held s ≡ None → longest (d2 (section_key p.layout.index s)) ≡ 0
+  absent_still x sound s small none =
       let unheld : p.index.sections.held s ≡ None = index_none p.layout.seal g pages told IsNamed decides p.index k o0 o1 d0 d1 index s none in
       let first : d1 (key_of p.index.sections s) ≡ d0 (key_of p.index.sections s) =
       index_blob p.layout.seal g pages told IsNamed decides p.index k o0 o1 d0 d1 index x s small (λ both. absurd (cc (subst IsSome unheld both.1))) in
-      ap longest (other_index_blob x (section_key p.layout.index s) refl) ∙ ap longest (subst (λ (q : List ℕ). d1 (section_key q s) ≡ d0 (section_key q s)) here.index first) ∙ (pair.disk x).absent s small unheld
+      ap longest (other_index_blob x (section_key p.layout.index s) refl) ∙ ap longest (subst (λ (q : List ℕ). d1 (section_key q s) ≡ d0 (section_key q s)) here.index first) ∙ sound.absent s small unheld
 
   -- ---- the pair may be used again
   module _ (journal : IsJournal g gives p.layout.seal p.layout.record_size told k o1 d1) (globs : IsGlob buffers takes told n o2 d2) where
@@ -272,6 +272,7 @@ module _ {F S : Type 0} {gs : _} (g : buffer.Ghosts (PageBlob S gs)) (gives : F 
       apart = pair.apart;
       whole = record {
         recovered = λ s. index.unrecovered s ∙ pair.whole.recovered s;
+        unfloored = λ s. index.floors s ∙ pair.whole.unfloored s;
         index_ceiling = index.bounds.ceiling ∙ pair.whole.index_ceiling;
         values_ceiling = values.bounds.ceiling ∙ pair.whole.values_ceiling;
         index_known = λ s. index.unopened s ∙ pair.whole.index_known s;
@@ -284,7 +285,7 @@ module _ {F S : Type 0} {gs : _} (g : buffer.Ghosts (PageBlob S gs)) (gives : F 
       metadata_opened = record { left = subst IsSome (sym (copy_entry Left)) pair.metadata_opened.left; right = subst IsSome (sym (copy_entry Right)) pair.metadata_opened.right };
       storable = pair.storable;
       synced = pair.synced;
-      disk = λ x. record { markers = store_stays p.layout.markers p.store p.store.entries d0 d2 (copy_blob x) (pair.disk x).markers; absent = absent_still x };
+      disk = λ x. record { markers = store_stays p.layout.markers p.store p.store.entries d0 d2 (copy_blob x) (pair.disk x).markers };
     }
 
     pub settled_as : (index_at values_at metadata_at : List ℕ) (size : ℕ) (u : Store Key8 ℕ) → index_at ≡ p.layout.index → values_at ≡ p.layout.values → metadata_at ≡ p.layout.metadata → size ≡ p.layout.page_size → u ≡ p.store
@@ -315,6 +316,7 @@ module _ {F S : Type 0} {gs : _} (g : buffer.Ghosts (PageBlob S gs)) (gives : F 
       sound = λ s. subst (λ (r : List (List ℕ)). AllByRecursion (λ y. IsTrue (is_sound p.layout.seal (glob.section_bytes n d2 s) (p.layout.place y))) r) (sym (rs_same s))
           (subst (λ (v : List ℕ). AllByRecursion (λ y. IsTrue (is_sound p.layout.seal v (p.layout.place y))) (rs s)) (sym (values_same x s)) (sound.sound s));
       values_settled = λ s. subst (λ (r : List (List ℕ)). end_of p.layout.place 0 (take (synced_length synced_pair s) r) ≤ glob.settled_size n s) (sym (rs_same s)) (settled_end s);
+      absent = absent_still x sound;
     }
 
     pub settled_sound_as : (index_at values_at metadata_at : List ℕ) (size : ℕ) (u : Store Key8 ℕ) → index_at ≡ p.layout.index → values_at ≡ p.layout.values → metadata_at ≡ p.layout.metadata → size ≡ p.layout.page_size → u ≡ p.store

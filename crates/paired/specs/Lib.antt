@@ -12,6 +12,8 @@ pub mod Crashes
 pub mod Pair
 pub mod PairShown
 pub mod PairRefusing
+pub mod PairFaults
+pub mod PairSync
 pub mod Places
 pub mod Holding
 pub mod Tracked

@@ -51,16 +51,17 @@ module _ {F S : Type 0} {gs : _} (p : Pair F (PageBlob S gs)) where
     abbrev pub list_of : ℕ → List Entry
     list_of s = entries_of p.layout.place p.layout.record_size (fixed.section_bytes p.index.sections d s) (glob.section_bytes p.values d s)
 
-    -- The markers are synced, and no crash brings bytes back into an index blob of a section that is not held.
+    -- The markers are synced.
     pub record IsPairOn : Type 0 where
       pub markers : Stands p.layout.markers p.store p.store.entries d
-      pub absent : (s : ℕ) → s < 2 ^ 64 → p.index.sections.held s ≡ None → HasNoBytes (d (section_key p.layout.index s))
 
-    -- Of each section, the values stand one behind the other up to the section's end, each sound, and what was synced has settled.
+    -- Of each section, the values stand one behind the other up to the section's end, each sound, and what was synced has settled. No crash
+    -- brings bytes back into an index blob of a section that is not held.
     pub record IsSoundOn : Type 0 where
       pub places : (s : ℕ) → Follow p.layout.place 0 (records_of s) (glob.section_size p.values s)
       pub sound : (s : ℕ) → AllByRecursion (λ r. IsTrue (is_sound p.layout.seal (glob.section_bytes p.values d s) (p.layout.place r))) (records_of s)
       pub values_settled : (s : ℕ) → end_of p.layout.place 0 (take (synced_length p s) (records_of s)) ≤ glob.settled_size p.values s
+      pub absent : (s : ℕ) → s < 2 ^ 64 → p.index.sections.held s ≡ None → HasNoBytes (d (section_key p.layout.index s))
 
   -- What was synced of the records has settled.
   pub record HasSettled : Type 0 where
@@ -83,9 +84,10 @@ pub record AreMarkers {F B : Type 0} (p : Pair F B) : Type 0 where
   pub marked : (s m : ℕ) → IsMarked p.store.entries s m → IsHeld p.index.sections s × (m ≤ synced_length p s)
   pub trails : (s n : ℕ) → p.trailing s ≡ Some n → IsHeld p.index.sections s × (n ≢ marker_of p.store.entries s)
 
--- All sections of both partitions are held, each takes an append, and each with values has records.
+-- All sections of both partitions are held, each takes an append, no marker stands in for a replay of one, and each with values has records.
 pub record AreWhole {F S : Type 0} {gs : _} (p : Pair F (PageBlob S gs)) : Type 0 where
   pub recovered : (s : ℕ) → p.index.unrecovered s ≡ false
+  pub unfloored : (s : ℕ) → p.index.floor_of s ≡ 0
   pub index_ceiling : p.index.sections.ceiling ≡ 2 ^ 64 - 1
   pub values_ceiling : p.values.ceiling ≡ 2 ^ 64 - 1
   pub index_known : (s : ℕ) → p.index.sections.unopened s ≡ None

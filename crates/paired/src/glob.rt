@@ -13,7 +13,7 @@ mod recovery;
 mod removing;
 mod syncing;
 #[cfg(test)]
-mod tests;
+pub(crate) mod tests;
 mod writing;
 
 pub(crate) use framing::frame_size;

@@ -4,6 +4,7 @@
 pub mod glob;
 mod laws;
 pub mod oversized;
+pub mod plain;
 mod record;
 
 pub use glob::{Glob, Recovery};

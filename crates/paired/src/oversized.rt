@@ -9,6 +9,8 @@ ghost use Rattle.paired.specs.Pair.{IsPair, IsSoundOn, list_of, synced_length};
 mod reading;
 mod removing;
 mod syncing;
+#[cfg(test)]
+mod tests;
 mod tracking;
 mod writing;
 

@@ -16,6 +16,7 @@ use Rattle.sealed_pages.specs.ChanceSeal.{Sealing}
 use Rattle.sealed_pages.specs.declared.page_blob.PageBlob.{PageBlob}
 use Rattle.sealed_pages.specs.Entries.{IsOpenAt}
 use Rattle.sealed_pages.specs.SealedPrefix.{adopted_size}
+use Rattle.sealed_pages.specs.Unrecovered.{IsAdopted, IsUnrecovered}
 use Rattle.sealed_pages.specs.Shown.{shown}
 use Rattle.sealed_pages.specs.View.{view, page_at}
 use Rattle.sealed_pages.proofs.Adopt.{length-data_from}
@@ -28,7 +29,7 @@ use Rattle.segments.specs.declared.journal.Error.TheVariants.{Full}
 use Rattle.segments.specs.Entries.{OnlyOwnEntry}
 use Rattle.segments.specs.FixedFull.{full_or_raised_of}
 use Rattle.segments.specs.FixedLasting.{IsBeginning}
-use Rattle.segments.specs.FixedLists.{Lists, section_bytes, section_size, IsJournal, IsRecovered}
+use Rattle.segments.specs.FixedLists.{Lists, section_bytes, section_size, IsJournal, IsRecovered, IsProven}
 use Rattle.segments.specs.Lasting.{IsOpening}
 use Rattle.segments.specs.Leaving.{AllMoments}
 use Rattle.segments.specs.Lending.{IsPut}
@@ -39,7 +40,7 @@ use Rattle.segments.specs.Setting.{Setting}
 use Rattle.segments.proofs.KeyLemmas.{keys_differ}
 use Rattle.segments.proofs.OverLemmas.{same_key, over_put}
 use Rattle.segments.proofs.WalkLemmas.{has_value, none_or_value, some_same}
-use Rattle.segments.proofs.FixedWriteLemmas.{ArePages, IsFine, fine_of, journal_of, fine_same}
+use Rattle.segments.proofs.FixedWriteLemmas.{ArePages, IsFine, proven_back, fine_of, journal_of, fine_same}
 use Rattle.segments.proofs.FixedCutLemmas.{no_rest, empty_sealed}
 
 no_items : (l : List ℕ) → length l ≡ 0 → l ≡ []
@@ -97,6 +98,10 @@ full_is runtime.OffsetOverflow is = refl
 full_is runtime.Mem is = absurd (cc is)
 full_is e is = absurd (cc is)
 
+-- what stands over its blob does so after a call that keeps it sealed, or else with its sealed prefix
+pub appended_adopted : (seal : List ℕ → ℕ) (u v : Buffer) (b c : Blob) → (IsSealed seal u b → IsSealed seal v c) → (IsUnrecovered seal u b → IsUnrecovered seal v c) → IsAdopted seal u b → IsAdopted seal v c
+appended_adopted seal u v b c sealed un is = elim is [ inl has ↦ inl (sealed has) | inr has ↦ inr (un has) ]
+
 -- what buffers are made with, part by part
 abbrev pub setting_of : ℕ → ℕ → Setting
 setting_of p m = record { page_size = p; capacity = m }
@@ -121,8 +126,8 @@ crashes_as seal u key k bytes more a b here same sealed crashes =
 module _ {F S : Type 0} {gs : _} (seal : List ℕ → ℕ) (size : ℕ) (told : Type 0) (g : buffer.Ghosts (PageBlob S gs)) (pages : ArePages g seal) (gives : F → Setting) (j : Lists F (PageBlob S gs)) (old : OpenedList) (a : Timeline)
     (journal : IsJournal g gives seal size told j old (disk a)) (s : ℕ) (recovered : IsRecovered j s) where
   -- where nothing was called, each crash leaves a prefix of the bytes and of what may follow
-  pub start_sealing : told → (u : PageBlob S gs) → j.sections.held s ≡ Some u → (more : List ℕ) → Sealing seal u.page_size (section_bytes j.sections (disk a) s ++ more) u.settled (key_of j.sections s) a a
-  start_sealing t u held more = rw held (sealed_start seal (shown u) more (key_of j.sections s) a u.fit.begun ((journal.disk t).sealed s u held recovered.checked))
+  pub start_sealing : told → (u : PageBlob S gs) → j.sections.held s ≡ Some u → IsProven j s → (more : List ℕ) → Sealing seal u.page_size (section_bytes j.sections (disk a) s ++ more) u.settled (key_of j.sections s) a a
+  start_sealing t u held proven more = rw held (sealed_start seal (shown u) more (key_of j.sections s) a u.fit.begun ((journal.disk t).sealed s u held proven))
 
   not_there : s < 2 ^ 64 → told → j.sections.held s ≡ None → (disk a (key_of j.sections s)).there ≡ false
   not_there small t none = go (disk a (key_of j.sections s)).there refl
@@ -158,11 +163,18 @@ module _ {F S : Type 0} {gs : _} (seal : List ℕ → ℕ) (size : ℕ) (told : 
         ∙ nothing_adopted seal (gives j.sections.factory).page_size (disk b (key_of j.sections s)).content
         (made_empty (disk a (key_of j.sections s)) (disk b (key_of j.sections s)) (not_there small t none) (takes.made t none))
 
-    pub taken_sealed : told → IsSealed seal (shown u) (disk b (key_of j.sections s))
-    taken_sealed t = elim (none_or_value (j.sections.held s)) [
+    -- it stands over its blob, and is sealed where it is new or proven
+    pub taken_adopted : told → IsAdopted seal (shown u) (disk b (key_of j.sections s))
+    taken_adopted t = (pages.stands u (disk b (key_of j.sections s)) (takes.stands t)).adopted
+
+    pub taken_sealed : told → (j.sections.held s ≡ None) ⊎ IsProven j s → IsSealed seal (shown u) (disk b (key_of j.sections s))
+    taken_sealed t which = elim which [
       | inl none ↦ empty_sealed seal (shown u) (disk b (key_of j.sections s)) u.fit.begun (made_size t none) (pages.stands u (disk b (key_of j.sections s)) (takes.stands t)).adopted
-      | inr w ↦ subst (λ (x : PageBlob S gs). IsSealed seal (shown x) (disk b (key_of j.sections s))) (sym (takes.same w.0 w.1))
-          (subst (λ (d : Disk). IsSealed seal (shown w.0) (d (key_of j.sections s))) (sym (takes.untouched (subst IsSome (sym w.1) refl))) ((journal.disk t).sealed s w.0 w.1 recovered.checked))
+      | inr proven ↦ elim (none_or_value (j.sections.held s)) [
+        | inl none ↦ empty_sealed seal (shown u) (disk b (key_of j.sections s)) u.fit.begun (made_size t none) (taken_adopted t)
+        | inr w ↦ subst (λ (x : PageBlob S gs). IsSealed seal (shown x) (disk b (key_of j.sections s))) (sym (takes.same w.0 w.1))
+            (subst (λ (d : Disk). IsSealed seal (shown w.0) (d (key_of j.sections s))) (sym (takes.untouched (subst IsSome (sym w.1) refl))) ((journal.disk t).sealed s w.0 w.1 proven))
+      ]
     ]
 
     pub taken_size : told ⊎ IsHeld j.sections s → size_of (shown u) ≡ section_size j.sections s
@@ -213,14 +225,15 @@ module _ {F S : Type 0} {gs : _} (seal : List ℕ → ℕ) (size : ℕ) (told : 
       pub setting : g.setting v ≡ gives j.sections.factory
       pub is_open : IsOpenAt new (key_of j.sections s) (g.extent v)
       pub entries : OnlyOwnEntry (key_of j.sections s) mid new
-      pub sealed : told → IsSealed seal (shown v) (disk c (key_of j.sections s))
+      pub adopted : told → IsAdopted seal (shown v) (disk c (key_of j.sections s))
+      pub sealed : told → IsSealed seal (shown u) (disk b (key_of j.sections s)) → IsSealed seal (shown v) (disk c (key_of j.sections s))
       pub long : size_of (shown v) ≡ size_of (shown u) + size
       pub settled : v.settled ≡ u.settled
       pub others : told → (q : Key) → q ≢ key_of j.sections s → disk c q ≡ disk b q
       pub before : told → (q : Key) → q ≢ key_of j.sections s → disk b q ≡ disk a q
 
     module _ (pos : 1 ≤ size) (m : Sections F (PageBlob S gs)) (mid : OpenedList) (over : IsOver g gives told m mid (disk b)) (known : IsKnown m s) (first : (q : ℕ) → q ≢ s → IsSame j.sections m q) (bounds : SameBounds j.sections m)
-        (c : Timeline) (v : PageBlob S gs) (new : OpenedList) (appends : Appends c v mid new) (k : Lists F (PageBlob S gs)) (put : IsPut s v m k.sections) (owes : (q : ℕ) → k.unrecovered q ≡ j.unrecovered q) where
+        (c : Timeline) (v : PageBlob S gs) (new : OpenedList) (appends : Appends c v mid new) (k : Lists F (PageBlob S gs)) (put : IsPut s v m k.sections) (owes : (q : ℕ) → k.unrecovered q ≡ j.unrecovered q) (floors : (q : ℕ) → k.floor_of q ≡ j.floor_of q) where
       here : key_of m s ≡ key_of j.sections s
       here = same_key j.sections m bounds s
 
@@ -236,7 +249,7 @@ module _ {F S : Type 0} {gs : _} (seal : List ℕ → ℕ) (size : ℕ) (told : 
           (subst (λ (q : Key). IsOpenAt new q (g.extent v)) (sym here) appends.is_open) (subst (λ (q : Key). OnlyOwnEntry q mid new) (sym here) appends.entries)
           (λ t. subst (λ (p : Key). (q : Key) → q ≢ p → disk c q ≡ disk b q) (sym here) (appends.others t))
           (λ t. subst (λ (q : Key). g.Stands v (disk c q)) (sym here) (pages.is_stands v (disk c (key_of j.sections s)) (record {
-            adopted = inl (appends.sealed t);
+            adopted = appends.adopted t;
             rest = λ all. absurd (omega (arith, all, appends.long, appends.settled, pos, u.order, u.fit.within));
           })))
 
@@ -245,7 +258,7 @@ module _ {F S : Type 0} {gs : _} (seal : List ℕ → ℕ) (size : ℕ) (told : 
         owes_held = λ is. subst IsSome (sym put.here) refl;
         owes_settled = λ w held is. absurd (cc (owes s, recovered.checked, is));
         sealed = λ t w held is. subst (λ (x : PageBlob S gs). IsSealed seal (shown x) (disk c (key_of k.sections s))) (some_same v w (sym put.here ∙ held))
-            (subst (λ (q : Key). IsSealed seal (shown v) (disk c q)) (sym (same_key j.sections k.sections same_bounds s)) (appends.sealed t));
+            (subst (λ (q : Key). IsSealed seal (shown v) (disk c q)) (sym (same_key j.sections k.sections same_bounds s)) (appends.sealed t (taken_sealed t (inr (proven_back j k s (owes s) (floors s) is)))));
         whole = λ t w held is. subst (λ (x : PageBlob S gs). size_of (shown x) % size ≡ 0) (some_same v w (sym put.here ∙ held))
             (ap (λ (n : ℕ). n % size) appends.long ∙ add-mod_right (size_of (shown u)) size ∙ taken_whole t);
         later = λ t is. absurd (cc (subst IsSome put.opened is));
@@ -255,7 +268,7 @@ module _ {F S : Type 0} {gs : _} (seal : List ℕ → ℕ) (size : ℕ) (told : 
       append_journal = journal_of seal size told g gives k new (disk c) over_again (λ q. elim (cases_eq q s) [
         | inl is ↦ subst (IsFine seal size told k (disk c)) (sym is) fine_here
         | inr other ↦ fine_same seal size told j k (disk a) (disk c) q same_bounds (fine_of seal size told g gives j old (disk a) journal q)
-            (record { held = (put.others q other).held ∙ (first q other).held; unopened = (put.others q other).unopened ∙ (first q other).unopened }) (owes q)
+            (record { held = (put.others q other).held ∙ (first q other).held; unopened = (put.others q other).unopened ∙ (first q other).unopened }) (owes q) (proven_back j k q (owes q) (floors q))
             (λ t w held. (let differ = keys_differ j.sections.partition q s (journal.over.opened_list.number q (inl (subst IsSome (sym held) refl))) small other in
             appends.others t (key_of j.sections q) differ ∙ appends.before t (key_of j.sections q) differ))
       ])

@@ -14,9 +14,10 @@ use Rattle.sealed_pages.specs.Cutting.{Settles}
 use Rattle.sealed_pages.specs.SealedPrefix.{sealed_prefix}
 use Rattle.sealed_pages.specs.Unrecovered.{IsAdopted, IsRecovery}
 use Rattle.sealed_pages.proofs.CutCalls.{sealing_less}
-use Rattle.sealed_pages.proofs.Holding.{holds_data, bytes_length}
+use Rattle.sealed_pages.proofs.Holding.{bytes_length}
 use Rattle.sealed_pages.proofs.Reaching.{rest_leaves}
 use Rattle.sealed_pages.proofs.Truncating.{all_flushed}
+use Rattle.sealed_pages.proofs.UnrecoveredLemmas.{adopted_backed}
 use Rattle.segments.specs.Sealed.{Stands}
 use Rattle.segments.specs.FixedStepping.{IsFlushed, IsCutBack}
 use Rattle.segments.proofs.FixedKept.{sealed_flushed}
@@ -25,13 +26,14 @@ module _ {S : Type 0} {gs : _} (seal : List ℕ → ℕ) (told : Type 0) (u v : 
   pub flushed_at : v.page_size ≡ u.page_size → size_of (shown v) ≡ size_of (shown u) → v.settled ≡ u.settled → v.from ≡ length v.tip.items
       → (told → IsSealed seal (shown u) (disk a (key_of (shown u))) → IsSealed seal (shown v) (disk b (key_of (shown u))))
       → (told → IsBacked (shown u) (disk a (key_of (shown u))).content → bytes_of (shown v) (disk b (key_of (shown u))).content ≡ bytes_of (shown u) (disk a (key_of (shown u))).content)
-      → IsFlushed seal told u (disk a K) v (disk b K)
-  flushed_at page size settled flushed sealed bytes = subst (λ (k : Key). IsFlushed seal told u (disk a k) v (disk b k)) key (record {
+      → (told → IsAdopted seal (shown u) (disk a K)) → IsFlushed seal told u (disk a K) v (disk b K)
+  flushed_at page size settled flushed sealed bytes adopted = subst (λ (k : Key). IsFlushed seal told u (disk a k) v (disk b k)) key (record {
     page_size = page;
     size = size;
     settled = settled;
     flushed = flushed;
-    sealed = λ t is. (sealed t is, bytes t (holds_data seal (shown u) (bytes_of (shown u) (disk a (key_of (shown u))).content) (disk a (key_of (shown u))) is));
+    sealed = sealed;
+    bytes = λ t. bytes t (adopted_backed seal (shown u) (disk a (key_of (shown u))) (subst (λ (k : Key). IsAdopted seal (shown u) (disk a k)) (sym key) (adopted t)));
   })
 
   -- A cut to at most the sealed prefix, of a buffer all of whose bytes have settled.

@@ -18,14 +18,14 @@ use Rattle.sealed_pages.proofs.SlotLemmas.{times_more}
 use Rattle.sealed_pages.proofs.Truncating.{all_flushed, settles_of}
 use Rattle.sealed_pages.proofs.UnrecoveredLemmas.{unrecovered_prefix, adopted_sealed}
 use Rattle.segments.specs.declared.buffer.SectionBuffer as buffer
-use Rattle.segments.specs.FixedLists.{Lists, section_bytes, IsJournal}
+use Rattle.segments.specs.FixedLists.{Lists, section_bytes, IsJournal, IsProven}
 use Rattle.segments.specs.Leaving.{Leaves, AllMoments}
 use Rattle.segments.specs.Sections.{key_of, IsSame, SameBounds, IsOver, IsCut}
 use Rattle.segments.specs.Setting.{Setting}
 use Rattle.segments.proofs.KeyLemmas.{keys_differ}
 use Rattle.segments.proofs.OverLemmas.{same_key}
 use Rattle.segments.proofs.WalkLemmas.{value_of, has_value, some_same, none_or_value}
-use Rattle.segments.proofs.FixedWriteLemmas.{ArePages, IsFine, fine_of, journal_of, fine_same, fine_none, leaves_sealed}
+use Rattle.segments.proofs.FixedWriteLemmas.{ArePages, IsFine, fine_of, journal_of, fine_same, fine_none, leaves_sealed, proven_back, proven_or_not}
 
 pub no_rest : (n : ℕ) → 0 % n ≡ 0
 no_rest n = omega (arith, div-add-mod 0 n)
@@ -61,18 +61,17 @@ module _ {F S : Type 0} {gs : _} (seal : List ℕ → ℕ) (size : ℕ) (told : 
     adopted : IsAdopted seal (shown u) (disk a (key_of j.sections s))
     adopted = (pages.stands u (disk a (key_of j.sections s)) ((journal.over.disk t).stands s u held)).adopted
 
-    pub safe_cut : (IsTrue (j.unrecovered s) → n ≤ length (sealed_prefix seal u.page_size (disk a (key_of j.sections s)).content)) → IsSafeCut seal (shown u) n (disk a (key_of j.sections s))
-    safe_cut bound = go (j.unrecovered s) refl
-      where
-        go : (owes : Bool) → j.unrecovered s ≡ owes → IsSafeCut seal (shown u) n (disk a (key_of j.sections s))
-        go false is = inl ((journal.disk t).sealed s u held is)
-        go true is = elim adopted [ inl sealed ↦ inl sealed | inr un ↦ inr (inl (un, bound is)) ]
+    pub safe_cut : ((IsProven j s → ⊥) → n ≤ length (sealed_prefix seal u.page_size (disk a (key_of j.sections s)).content)) → IsSafeCut seal (shown u) n (disk a (key_of j.sections s))
+    safe_cut bound = elim (proven_or_not j s) [
+      | inl proven ↦ inl ((journal.disk t).sealed s u held proven)
+      | inr not ↦ elim adopted [ inl sealed ↦ inl sealed | inr un ↦ inr (inl (un, bound not)) ]
+    ]
 
     module _ (moments : AllMoments (key_of j.sections s) (λ x. (w : PageBlob S gs) → j.sections.held s ≡ Some w → Leaves (g.NoChanceSeal w) (g.MayKeep w (disk a (key_of j.sections s)) (min (g.settled w) n)) x) a b) where
-      pub cut_sealing : j.unrecovered s ≡ false → Sealing seal u.page_size (section_bytes j.sections (disk a) s) (min u.settled n) (key_of j.sections s) a b
-      cut_sealing owes = only_weaker a b (key_of j.sections s) (disk a) (λ x. (w : PageBlob S gs) → j.sections.held s ≡ Some w → Leaves (g.NoChanceSeal w) (g.MayKeep w (disk a (key_of j.sections s)) (min (g.settled w) n)) x)
+      pub cut_sealing : IsProven j s → Sealing seal u.page_size (section_bytes j.sections (disk a) s) (min u.settled n) (key_of j.sections s) a b
+      cut_sealing proven = only_weaker a b (key_of j.sections s) (disk a) (λ x. (w : PageBlob S gs) → j.sections.held s ≡ Some w → Leaves (g.NoChanceSeal w) (g.MayKeep w (disk a (key_of j.sections s)) (min (g.settled w) n)) x)
           (chance.Leaves seal u.page_size (section_bytes j.sections (disk a) s) (min u.settled n))
-          (λ x leaves. rw held (leaves_sealed seal g pages u (disk a (key_of j.sections s)) x (min (g.settled u) n) (min u.settled n) (ap (λ (m : ℕ). min m n) (pages.settled u)) ((journal.disk t).sealed s u held owes) (leaves u held)))
+          (λ x leaves. rw held (leaves_sealed seal g pages u (disk a (key_of j.sections s)) x (min (g.settled u) n) (min u.settled n) (ap (λ (m : ℕ). min m n) (pages.settled u)) ((journal.disk t).sealed s u held proven) (leaves u held)))
           moments
 
       pub cut_front : IsTrue (j.unrecovered s) → Sealing seal u.page_size (sealed_prefix seal u.page_size (disk a (key_of j.sections s)).content)
@@ -83,9 +82,13 @@ module _ {F S : Type 0} {gs : _} (seal : List ℕ → ℕ) (size : ℕ) (told : 
           moments
 
   module _ (k : Lists F (PageBlob S gs)) (Q : Blob → Type 0) (small : s < 2 ^ 64) (bounds : SameBounds j.sections k.sections) (unopened : k.sections.unopened s ≡ j.sections.unopened s)
-      (owes : (q : ℕ) → (q ≢ s) ⊎ (0 < n) → k.unrecovered q ≡ j.unrecovered q) (emptied : n ≡ 0 → k.unrecovered s ≡ false) where
+      (owes : (q : ℕ) → (q ≢ s) ⊎ (0 < n) → k.unrecovered q ≡ j.unrecovered q) (emptied : n ≡ 0 → k.unrecovered s ≡ false)
+      (lowered : k.floor_of s ≡ min (j.floor_of s) n) (floors : (q : ℕ) → q ≢ s → k.floor_of q ≡ j.floor_of q) where
     fine : (q : ℕ) → IsFine seal size told j (disk a) q
     fine = fine_of seal size told g gives j old (disk a) journal
+
+    proven_before : 0 < n → IsProven k s → IsProven j s
+    proven_before some is = record { checked = sym (owes s (inr some)) ∙ is.checked; free = omega (arith, some, lowered, is.free) }
 
     owed_before : IsTrue (k.unrecovered s) → IsTrue (j.unrecovered s)
     owed_before is = elim (cases_eq n 0) [
@@ -121,7 +124,7 @@ module _ {F S : Type 0} {gs : _} (seal : List ℕ → ℕ) (size : ℕ) (told : 
           whole = λ t w held is. subst (λ (x : PageBlob S gs). size_of (shown x) % size ≡ 0) (u_is w held) (ap (λ (m : ℕ). m % size) (let e : size_of (shown u) ≡ 0 = omega (arith, le, none) in e) ∙ no_rest size);
           later = λ t is. omega (arith, bounds.ceiling, (fine s).later t (subst IsSome unopened is));
         }
-        | inr some ↦ fine_same seal size told j k (disk a) (disk b) s bounds (fine s) (record { held = now ∙ ap Some (did.same past_end) ∙ sym was; unopened = unopened }) (owes s (inr (omega (arith, some)))) (λ t w held. did.stays t past_end)
+        | inr some ↦ fine_same seal size told j k (disk a) (disk b) s bounds (fine s) (record { held = now ∙ ap Some (did.same past_end) ∙ sym was; unopened = unopened }) (owes s (inr (omega (arith, some)))) (proven_before (omega (arith, some))) (λ t w held. did.stays t past_end)
       ]
         where
           past_end : g.byte_count u ≤ n
@@ -136,7 +139,7 @@ module _ {F S : Type 0} {gs : _} (seal : List ℕ → ℕ) (size : ℕ) (told : 
         → (told → AllMoments (key_of j.sections s) Q a b) → IsJournal g gives seal size told k new (disk b)
     cut_journal new over cut absent others whole moments = journal_of seal size told g gives k new (disk b) over (λ q. elim (cases_eq q s) [
       | inl is ↦ subst (IsFine seal size told k (disk b)) (sym is) here
-      | inr other ↦ fine_same seal size told j k (disk a) (disk b) q bounds (fine q) (others q other) (owes q (inl other))
+      | inr other ↦ fine_same seal size told j k (disk a) (disk b) q bounds (fine q) (others q other) (owes q (inl other)) (proven_back j k q (owes q (inl other)) (floors q other))
           (λ t u held. (always_now a b (OnlyAt (key_of j.sections s) (disk a) Q) (moments t)).others (key_of j.sections q)
           (keys_differ j.sections.partition q s (journal.over.opened_list.number q (inl (subst IsSome (sym held) refl))) small other))
     ])

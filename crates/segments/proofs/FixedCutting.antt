@@ -2,7 +2,7 @@
 use Rattle.std.specs.Prelude.{◌≡◌, ◌⊎◌, ℕ, ◌+◌, ◌*◌, ◌/◌, ◌%◌, ◌^◌, ◌<◌, ◌≤◌, cond, Bool, true, false, List, length, take, IsTrue, IsSomeAnd, Option, None, Some, Result, Ok, Err, OnErr}
 use Rattle.std.proofs.Common.{inl, inr, refl, sym, ◌∙◌, ap, subst, arith, length-take}
 use Rattle.std.proofs.lemmas.Nat.{mod-mul-add, div-mul-add, mul-le}
-use Rattle.blob_device.specs.Disk.{Key, Blob, past}
+use Rattle.blob_device.specs.Disk.{Key, Blob, Disk, past}
 use Rattle.blob_device.specs.Opened.{OpenedList, reads_of}
 use Rattle.blob_device.specs.Timeline.{Timeline, disk, OnlyAt}
 use Rattle.blob_device.proofs.Moments.{always_now}
@@ -14,18 +14,19 @@ use Rattle.sealed_pages.specs.SealedPrefix.{Prefix, sealed_prefix}
 use Rattle.sealed_pages.proofs.CutCalls.{prefix_whole}
 use Rattle.value_codec.specs.declared.codec.Error as codec
 use Rattle.segments.specs.declared.buffer.SectionBuffer as buffer
+use Rattle.segments.specs.declared.journal.Damage.{Damage}
 use Rattle.segments.specs.declared.journal.Error.{Error}
 use Rattle.blob_device.specs.declared.runtime.RError.TheVariants.{InvalidChecksum}
 use Rattle.segments.specs.declared.journal.Error.TheVariants.{ItemOutOfRange, Runtime}
 use Rattle.segments.specs.Setting.{Setting}
 use Rattle.segments.specs.Sections.{key_of, IsHeld}
 use Rattle.segments.specs.Refusing.{HasFailed, HasDamage}
-use Rattle.segments.specs.FixedReplay.{Place, Walk, IsWalk, Replaying, kept_bytes}
+use Rattle.segments.specs.FixedReplay.{Place, Walk, IsWalk, Replaying, EndsBelow, kept_bytes}
 use Rattle.segments.specs.FixedStepping.{standing, OnlySections, Touches, IsCutBack, EndsAt, Steps}
 use Rattle.segments.proofs.FixedCounts.{count_here}
 use Rattle.segments.proofs.FixedErrorSteps.{cut_read, cut_other, cut_not_codec}
 use Rattle.segments.proofs.FixedKept.{whole_place}
-use Rattle.segments.proofs.FixedReading.{here, kept_here, number_here, reached_here, behind_here}
+use Rattle.segments.proofs.FixedReading.{here, kept_owed, number_here, reached_here, behind_here}
 use Rattle.segments.proofs.FixedSteps.{Called, Answered, call_failed, call_ended, call_refused}
 use Rattle.segments.proofs.FixedWalks.{MayCut, same_some, none_in, key_new, later_one}
 use Rattle.segments.proofs.FixedWalksOn.{replaying_here, moments_of}
@@ -38,6 +39,16 @@ leaves_whole seal P bytes n least b leaves left may = go left (leaves left may)
     go None has = has
     go (Some c) has = λ chance. prefix_whole seal P bytes n least c (has chance)
 
+-- a cut that would be below the floor
+pub ends_below : {F S : Type 0} {gs : _} (seal : List ℕ → ℕ) (size : ℕ) (w : Walk F (PageBlob S gs)) (r : Place) (d : Disk) (x : Damage) → x.section ≡ r.section → x.kept ≡ r.position * size → x.wanted ≡ w.journal.floor_of r.section → x.kept < x.wanted
+    → IsTrue (w.journal.unrecovered r.section) → EndsAt seal size (standing w r) d r true → EndsBelow seal size (standing w r) d x
+ends_below seal size w r d x at kept wanted less owed last = record {
+  owes = subst (λ (k : ℕ). IsTrue (w.journal.unrecovered k)) (sym at) owed;
+  kept = subst (λ (k : ℕ). x.kept ≡ length (kept_bytes seal size (standing w r) d k) / size * size) (sym at) (kept ∙ ap (λ (n : ℕ). n * size) (sym last.last));
+  wanted = wanted ∙ ap w.journal.floor_of (sym at);
+  less = less;
+}
+
 module _ {F S : Type 0} {gs : _} (seal : List ℕ → ℕ) (size : ℕ) (g : buffer.Ghosts (PageBlob S gs)) (gives : F → Setting) {told : Type 0} where
   -- What a cut of the section in which the replay stands asks of its buffer.
   module _ (w : Walk F (PageBlob S gs)) (r : Place) (before : OpenedList) (a : Timeline) (was : IsWalk g gives seal size told (standing w r) before (disk a)) (u : PageBlob S gs) (held : w.journal.sections.held r.section ≡ Some u) where
@@ -47,15 +58,15 @@ module _ {F S : Type 0} {gs : _} (seal : List ℕ → ℕ) (size : ℕ) (g : buf
     pub cut_within : r.position * size ≤ size_of (shown u)
     cut_within = subst (λ (x : PageBlob S gs). r.position * size ≤ size_of (shown x)) (sym mine) (here seal size g gives w r before (disk a) was).2.within
 
-    pub cut_prefix : 1 ≤ size → told → EndsAt seal size (standing w r) (disk a) r true → r.position * size ≤ length (sealed_prefix seal u.page_size (disk a (key_of w.journal.sections r.section)).content)
-    cut_prefix pos t last = subst (λ (x : PageBlob S gs). r.position * size ≤ length (sealed_prefix seal x.page_size (disk a (key_of w.journal.sections r.section)).content)) (sym mine)
+    pub cut_prefix : 1 ≤ size → told → IsTrue (w.journal.unrecovered r.section) → EndsAt seal size (standing w r) (disk a) r true → r.position * size ≤ length (sealed_prefix seal u.page_size (disk a (key_of w.journal.sections r.section)).content)
+    cut_prefix pos t owed last = subst (λ (x : PageBlob S gs). r.position * size ≤ length (sealed_prefix seal x.page_size (disk a (key_of w.journal.sections r.section)).content)) (sym mine)
         (let at = whole_place size (length (kept_bytes seal size (standing w r) (disk a) r.section)) r.position pos last.last in
-        omega (arith, at, ap length (kept_here seal size g gives w r before (disk a) was t)))
+        omega (arith, at, ap length (kept_owed seal size g gives w r before (disk a) was owed)))
 
   -- A cut of the section in which the replay stands.
   module _ (w new : Walk F (PageBlob S gs)) (r : Place) (before after : OpenedList) (a b : Timeline) (was : IsWalk g gives seal size told (standing w r) before (disk a)) (none : w.place ≡ None)
       {T : Type 0} (result : Result T Error) (only : OnlySections w new) (touch : Touches g gives told result r.section w.journal.sections new.journal.sections before after a b)
-      (owed : IsTrue (w.journal.unrecovered r.section)) (last : told → EndsAt seal size (standing w r) (disk a) r true) (pos : 1 ≤ size)
+      (owed : IsTrue (w.journal.unrecovered r.section)) (floor : w.journal.floor_of r.section ≤ r.position * size) (last : told → EndsAt seal size (standing w r) (disk a) r true) (pos : 1 ≤ size)
       (moments : told → (u : PageBlob S gs) → w.journal.sections.held r.section ≡ Some u
       → Sealing seal u.page_size (sealed_prefix seal u.page_size (disk a (key_of w.journal.sections r.section)).content) (r.position * size) (key_of w.journal.sections r.section) a b)
       {V : Type 0} (spelling : V → List ℕ) (accepted : V → Unit {0} → Type 0) (refusal : List ℕ → Unit {0} → Option codec.Error) (few many : ℕ) (le : few ≤ many) where
@@ -72,11 +83,11 @@ module _ {F S : Type 0} {gs : _} (seal : List ℕ → ℕ) (size : ℕ) (g : buf
     held = (here seal size g gives w r before (disk a) was).1
 
     kept_count : told → length (sealed_prefix seal u.page_size (disk a K).content) / size * size ≡ r.position * size
-    kept_count t = (λ i. length (sym (kept_here seal size g gives w r before (disk a) was t) i) / size * size) ∙ ap (λ (n : ℕ). n * size) (last t).last
+    kept_count t = (λ i. length (sym (kept_owed seal size g gives w r before (disk a) was owed) i) / size * size) ∙ ap (λ (n : ℕ). n * size) (last t).last
 
     -- what a crash leaves at any moment
-    cut_leaves : told → (x : Blob) → Leaves seal u.page_size (sealed_prefix seal u.page_size (disk a K).content) (r.position * size) x → MayCut seal size u (disk a K) x
-    cut_leaves t x leaves = inr (subst (λ (n : ℕ). Leaves seal u.page_size (sealed_prefix seal u.page_size (disk a K).content) n x) (sym (kept_count t)) leaves)
+    cut_leaves : told → (x : Blob) → Leaves seal u.page_size (sealed_prefix seal u.page_size (disk a K).content) (r.position * size) x → MayCut seal size u (w.journal.floor_of r.section) (disk a K) x
+    cut_leaves t x leaves = inr (omega (arith, floor, kept_count t), subst (λ (n : ℕ). Leaves seal u.page_size (sealed_prefix seal u.page_size (disk a K).content) n x) (sym (kept_count t)) leaves)
 
     not_free : w.journal.unrecovered r.section ≡ false → ⊥
     not_free free = cc (owed, free)
@@ -94,7 +105,7 @@ module _ {F S : Type 0} {gs : _} (seal : List ℕ → ℕ) (size : ℕ) (g : buf
     called = record {
       was = was;
       one = record {
-        same = record { bounds = touch.bounds; unrecovered = only.unrecovered; section = only.section; position = only.position };
+        same = record { bounds = touch.bounds; unrecovered = only.unrecovered; floors = only.floors; section = only.section; position = only.position };
         small = number_here seal size g gives w r before a was;
         numbers = numbers;
         others = touch.others;
@@ -107,8 +118,8 @@ module _ {F S : Type 0} {gs : _} (seal : List ℕ → ℕ) (size : ℕ) (g : buf
       moments = λ t. moments_of seal size (standing w r) (disk a) s (number_here seal size g gives w r before a was) numbers (reached_here seal size g gives w r before a was) a b
           (Leaves seal u.page_size (sealed_prefix seal u.page_size (disk a K).content) (r.position * size)) refl (was.disk t).sealed (moments t u held)
           (λ x leaves. replaying_here seal size (standing w r) (disk a) s (number_here seal size g gives w r before a was) numbers (reached_here seal size g gives w r before a was) x
-          (λ y is free. absurd (not_free free))
-          (λ y is owes. subst (λ (z : PageBlob S gs). MayCut seal size z (disk a K) x) (sym (same_some (w.journal.sections.held s) u y held is)) (cut_leaves t x leaves)));
+          (λ y is proven. absurd (not_free proven.checked))
+          (λ y is owes. subst (λ (z : PageBlob S gs). MayCut seal size z (w.journal.floor_of s) (disk a K) x) (sym (same_some (w.journal.sections.held s) u y held is)) (cut_leaves t x leaves)));
       from = from_new;
       faults = le;
     }
@@ -118,7 +129,9 @@ module _ {F S : Type 0} {gs : _} (seal : List ℕ → ℕ) (size : ℕ) (g : buf
         → (told → (k : ℕ) → x ≡ Runtime (InvalidChecksum k) → ⊥) → HasDamage {T = Option (ℕ × ℕ × V)} (Err x) ⊎ HasFailed {T = Option (ℕ × ℕ × V)} (Err x) few many
         → Steps seal size g gives spelling accepted refusal told (Err x) (standing w r) new before after a b few many
     cut_failed x ended lost sound cause = call_failed seal size g gives spelling accepted refusal told s (standing w r) new before after a b few many called x lost none_new
-        (λ t h. subst (λ (o : Option ℕ). IsSomeAnd o (λ n. n ≤ t)) only.next h) (inl (ended, cause)) (cut_other x x refl few many cause) sound (λ t e is. absurd (cut_not_codec x few many cause e is)) (cut_read x x refl few many cause)
+        (λ t h. subst (λ (o : Option ℕ). IsSomeAnd o (λ n. n ≤ t)) only.next h)
+        (inl (ended, elim cause [ inl page ↦ inl (page, λ t. sound t page.0 (let at = page.1 in cc at)) | inr failed ↦ inr failed ]))
+        (cut_other x x refl few many cause) (λ t k is. absurd (sound t k is)) (λ t e is. absurd (cut_not_codec x few many cause e is)) (cut_read x x refl few many cause)
 
     -- The section is cut.
     module _ (v : PageBlob S gs) (held_new : new.journal.sections.held r.section ≡ Some v) (going : w.ended ≡ false) (goes : new.ended ≡ false)
@@ -135,7 +148,7 @@ module _ {F S : Type 0} {gs : _} (seal : List ℕ → ℕ) (size : ℕ) (g : buf
       count_new : told → length (sealed_prefix seal v.page_size (disk b K).content) / size * size ≡ r.position * size
       count_new t =
           let long : r.position * size ≤ length (sealed_prefix seal u.page_size (disk a K).content) =
-          (let at = whole_place size (length (kept_bytes seal size (standing w r) (disk a) s)) r.position pos (last t).last in omega (arith, at, ap length (kept_here seal size g gives w r before (disk a) was t))) in
+          (let at = whole_place size (length (kept_bytes seal size (standing w r) (disk a) s)) r.position pos (last t).last in omega (arith, at, ap length (kept_owed seal size g gives w r before (disk a) was owed))) in
           let same : length (sealed_prefix seal v.page_size (disk b K).content) ≡ r.position * size + 0 =
           ap (λ (P : ℕ). length (sealed_prefix seal P (disk b K).content)) cut.page_size ∙ ap length (cut.prefix t) ∙ omega (arith, length-take (r.position * size) (sealed_prefix seal u.page_size (disk a K).content), long) in
           ap (λ (n : ℕ). n / size * size) same ∙ ap (λ (n : ℕ). n * size) (div-mul-add r.position size 0 (omega (arith, pos)))
@@ -147,12 +160,12 @@ module _ {F S : Type 0} {gs : _} (seal : List ℕ → ℕ) (size : ℕ) (g : buf
             | inr there ↦ absurd (none_in new.place (λ x. x.section ≡ k) none_new there)
           ])
           v held_new
-          (λ y is free x left. absurd (not_free free))
-          (λ y is owes x may. subst (λ (z : PageBlob S gs). MayCut seal size z (disk a K) x) (sym (same_some (w.journal.sections.held s) u y held is)) (elim may [
+          (λ y is proven x left. absurd (not_free proven.checked))
+          (λ y is owes x may. subst (λ (z : PageBlob S gs). MayCut seal size z (w.journal.floor_of s) (disk a K) x) (sym (same_some (w.journal.sections.held s) u y held is)) (elim may [
             | inl same ↦ cut_leaves t x (subst (Leaves seal u.page_size (sealed_prefix seal u.page_size (disk a K).content) (r.position * size)) (sym same)
                 (always_now a b (OnlyAt K (disk a) (Leaves seal u.page_size (sealed_prefix seal u.page_size (disk a K).content) (r.position * size))) (moments t u held)).here)
             | inr leaves ↦ cut_leaves t x (leaves_whole seal u.page_size (sealed_prefix seal u.page_size (disk a K).content) (r.position * size) (r.position * size) x
-                (shorter t x leaves))
+                (shorter t x leaves.1))
           ]))
         where
           shorter : told → (x : Blob) → Leaves seal v.page_size (sealed_prefix seal v.page_size (disk b K).content) (length (sealed_prefix seal v.page_size (disk b K).content) / size * size) x
@@ -170,8 +183,9 @@ module _ {F S : Type 0} {gs : _} (seal : List ℕ → ℕ) (size : ℕ) (g : buf
           held = held_new;
           not_ahead = λ h. (was.walk.come_to r refl).1 (subst (λ (o : Option ℕ). IsSomeAnd o (λ n. n ≤ r.section)) only.next h);
           settled = λ owes. cut.settled;
-          sealed = λ t free. absurd (not_free free);
-          gone_over = λ t out. sound t;
+          sealed = λ t proven. absurd (not_free proven.checked);
+          whole = λ t free. absurd (not_free free);
+          gone_over = λ t out read. sound t;
           place = λ x is. absurd (cc (none_new, is));
           begun = λ there. absurd (none_in new.place (λ x. x.section ≡ s) none_new there);
         };

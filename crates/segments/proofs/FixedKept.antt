@@ -1,12 +1,13 @@
 -- The bytes from which a replay gives items: what a reader has of them at hand, and where they end.
-use Rattle.std.proofs.Common.{◌≡◌, inl, inr, ℕ, ◌+◌, ◌*◌, ◌/◌, ◌<◌, ◌≤◌, List, length, take, drop, sym, ◌∙◌, ap, arith, length-take, length-drop}
+use Rattle.std.proofs.Common.{◌≡◌, inl, inr, ℕ, ◌+◌, ◌*◌, ◌/◌, ◌<◌, ◌≤◌, List, length, take, drop, refl, sym, ◌∙◌, ap, subst, arith, length-take, length-drop}
 use Rattle.std.proofs.lemmas.Bool.{cases_lt}
 use Rattle.std.proofs.lemmas.Nat.{le-div, div_below, mul-le}
-use Rattle.sealed_pages.proofs.Holding.{div_place}
+use Rattle.sealed_pages.proofs.Holding.{bytes_length, div_place}
 use Rattle.std.proofs.lemmas.List.{get_or-take, get_or-drop}
 use Rattle.std.proofs.Math.Nat.{div-mul-le_self}
 use Rattle.blob_device.specs.Disk.{Blob}
 use Rattle.sealed_pages.specs.Buffer.{Buffer, size_of, bytes_of, IsSealed}
+use Rattle.sealed_pages.specs.Flushing.{Data}
 use Rattle.sealed_pages.specs.Reads.{IsWanted, IsCovered, IsShort, needed}
 use Rattle.sealed_pages.specs.SealedPrefix.{sealed_prefix, adopted_size, data_from, place}
 use Rattle.sealed_pages.specs.Slots.{best_slot}
@@ -15,10 +16,11 @@ use Rattle.sealed_pages.specs.View.{View, view}
 use Rattle.sealed_pages.proofs.Adopt.{best_length, length-data_from, get_or-data_from}
 use Rattle.sealed_pages.proofs.Reaching.{own_prefix}
 use Rattle.sealed_pages.proofs.ReadLemmas.{read_data}
+use Rattle.sealed_pages.proofs.ReplayLemmas.{data_all}
 use Rattle.sealed_pages.proofs.SealedBytes.{covers_length}
 use Rattle.sealed_pages.proofs.SlotLemmas.{times_next}
 use Rattle.sealed_pages.proofs.Truncating.{holds_prefix, prefix_covers}
-use Rattle.sealed_pages.proofs.UnrecoveredLemmas.{prefix_short}
+use Rattle.sealed_pages.proofs.UnrecoveredLemmas.{adopted_backed, prefix_short}
 use Rattle.segments.specs.FixedItems.{item_at}
 
 data_front : (P m n k : ℕ) (v : View) → k ≤ n → take k (data_from P v m n) ≡ data_from P v m k
@@ -63,18 +65,18 @@ module _ (seal : List ℕ → ℕ) (P : ℕ) (c : List ℕ) (pos : 1 ≤ P) wher
     | inr le ↦ absurd (omega (arith, short.short, prefix_covers seal P c k (needed P m n k) (omega (arith, short.wanted.high, pos)) (omega arith) (omega (arith, le, short.wanted.high))))
   ]
 
-  prefix_data : sealed_prefix seal P c ≡ data_from P (view c) 0 (length (sealed_prefix seal P c))
+  pub prefix_data : sealed_prefix seal P c ≡ data_from P (view c) 0 (length (sealed_prefix seal P c))
   prefix_data =
       let own = own_prefix seal P c in
       own.is ∙ data_front P 0 (adopted_size seal P c) (length (sealed_prefix seal P c)) (view c) (omega (arith, own.no_longer, length-data_from P (view c) (adopted_size seal P c) 0))
 
   -- the item at hand
-  pub item_kept : (size p at : ℕ) (bytes : List ℕ) → bytes ≡ data_from P (view c) at (length bytes) → at ≡ p * size → size ≤ length bytes → at + length bytes ≤ length (sealed_prefix seal P c)
-      → take size bytes ≡ item_at size (sealed_prefix seal P c) p
-  item_kept size p at bytes is here has fits =
+  pub item_kept : (kept : List ℕ) → kept ≡ data_from P (view c) 0 (length kept) → (size p at : ℕ) (bytes : List ℕ) → bytes ≡ data_from P (view c) at (length bytes) → at ≡ p * size → size ≤ length bytes → at + length bytes ≤ length kept
+      → take size bytes ≡ item_at size kept p
+  item_kept kept stands size p at bytes is here has fits =
       ap (take size) is ∙ data_front P at (length bytes) size (view c) has ∙ ap (λ (m : ℕ). data_from P (view c) m size) here
-      ∙ sym (item_data P size (length (sealed_prefix seal P c)) p (view c) (omega (arith, here, has, fits)))
-      ∙ ap (λ (l : List ℕ). item_at size l p) (sym prefix_data)
+      ∙ sym (item_data P size (length kept) p (view c) (omega (arith, here, has, fits)))
+      ∙ ap (λ (l : List ℕ). item_at size l p) (sym stands)
 
   -- with bytes behind them that are covered too
   pub covered_on : (at n : ℕ) → IsCovered seal P c 0 at → IsCovered seal P c at n → IsCovered seal P c 0 (at + n)
@@ -93,6 +95,11 @@ module _ (seal : List ℕ → ℕ) (u : Buffer) (b : Blob) (begun : u.from < u.p
   -- the bytes of a sealed buffer are its sealed prefix, once they are flushed
   pub sealed_flushed : IsSealed seal u b → u.from ≡ length u.tip → sealed_prefix seal u.page_size b.content ≡ bytes_of u b.content
   sealed_flushed sealed flushed = holds_prefix seal u (bytes_of u b.content) b begun sealed flushed
+
+  -- they stand in the blob, once they are flushed, also where the buffer is not sealed
+  pub flushed_data : IsAdopted seal u b → u.from ≡ length u.tip → bytes_of u b.content ≡ data_from u.page_size (view b.content) 0 (length (bytes_of u b.content))
+  flushed_data adopted flushed = sym (data_all u.page_size (length (bytes_of u b.content)) (bytes_of u b.content) b.content (omega (arith, begun))
+      (subst (λ (n : ℕ). Data u.page_size (bytes_of u b.content) n (view b.content)) (omega (arith, flushed, bytes_length u b.content)) (adopted_backed seal u b adopted)) refl)
 
   -- a buffer whose sealed prefix has as many bytes as the buffer is sealed
   pub sealed_by_length : IsAdopted seal u b → size_of u ≤ length (sealed_prefix seal u.page_size b.content) → IsSealed seal u b

@@ -1,5 +1,5 @@
 -- Opening a fixed journal: which sections owe a replay, and that the journal may be used.
-use Rattle.std.proofs.Common.{◌≡◌, ◌≢◌, ◌⊎◌, ◌↔◌, inl, inr, ℕ, ◌%◌, ◌^◌, ◌<◌, Bool, false, List, Option, None, Some, IsSome, IsTrue, Result, Ok, Err, OnErr, refl, sym, ◌∙◌, ap, subst, arith}
+use Rattle.std.proofs.Common.{◌≡◌, ◌≢◌, ◌⊎◌, ◌↔◌, inl, inr, ℕ, ◌%◌, ◌^◌, ◌<◌, ◌≤◌, Bool, false, List, [], Option, None, Some, IsSome, IsTrue, Result, Ok, Err, OnErr, refl, sym, ◌∙◌, ap, subst, arith}
 use Rattle.std.specs.List.{Contains}
 use Rattle.std.specs.Result.{IsErrOf}
 use Rattle.blob_device.specs.declared.runtime.RError.TheVariants.{Fault, OffsetOverflow}
@@ -13,7 +13,11 @@ use Rattle.segments.specs.declared.journal.Error.{Error}
 use Rattle.segments.specs.declared.journal.Error.TheVariants.{Runtime, InvalidBlobName, Mem}
 use Rattle.segments.specs.declared.unopened.Unopened.{Unopened}
 use Rattle.segments.specs.declared.unopened.Unopened.TheVariants.{Section, Leftover}
-use Rattle.segments.specs.FixedLists.{size_held, section_size, section_bytes, IsJournal}
+use Rattle.std.specs.BTreeMap.{BTreeMap, is_at}
+use Rattle.std.specs.Map.{lookup}
+use Rattle.std.specs.Option.{unwrap_or}
+use Rattle.std.specs.Ordering.{nat_cmp}
+use Rattle.segments.specs.FixedLists.{floor_in, size_held, section_size, section_bytes, IsJournal}
 use Rattle.segments.specs.Refusing.{HasNoRoom, HasFailed}
 use Rattle.segments.specs.SealedLaws.{all_settled}
 use Rattle.segments.specs.Sections.{Sections, section_key, key_of, IsHeld, IsOver}
@@ -35,6 +39,15 @@ opened_cause e (Err x) before now is (inr (inl room)) = (let same : e ≡ Runtim
 opened_cause e (Err x) before now is (inr (inr (inl memory))) = (let same : e ≡ Mem = cc memory in inr (inr (inl (is ∙ ap Err same))))
 opened_cause e (Err x) before now is (inr (inr (inr fault))) = (let same : e ≡ Runtime Fault = cc fault.0 in inr (inr (inr (is ∙ ap Err same, fault.1))))
 
+-- a map without entries gives no floor
+pub no_floor : (m : BTreeMap ℕ ℕ) → m.entries ≡ [] → (s : ℕ) → floor_in m s ≡ 0
+no_floor m none s = ap (λ (es : List (ℕ × ℕ)). unwrap_or (lookup (is_at (nat_cmp s)) es) 0) none
+
+-- the sections with more bytes than their floor that were gone through are known, and the others are ahead
+pub record Longer {F S : Type 0} {gs : _} (m : Sections F (PageBlob S gs)) (floors : ℕ → ℕ) (has : ℕ → Bool) (ahead : List ℕ) : Type 0 where
+  pub sound : (s : ℕ) → IsTrue (has s) → floors s < section_size m s
+  pub whole : (s : ℕ) → floors s < section_size m s → IsTrue (has s) ⊎ Contains ahead s
+
 -- the sections with bytes that were gone through are known, and the others are ahead
 pub record Filled {F S : Type 0} {gs : _} (m : Sections F (PageBlob S gs)) (has : ℕ → Bool) (ahead : List ℕ) : Type 0 where
   pub sound : (s : ℕ) → IsTrue (has s) → 0 < section_size m s
@@ -52,22 +65,23 @@ module _ {F S : Type 0} {gs : _} (seal : List ℕ → ℕ) (size : ℕ) (told : 
       go (Some Section) is = omega (arith, same, ((above s (over.opened_list.number s (inr some))).0 is).1)
       go (Some Leftover) is = absurd (leftover s is)
 
-  -- the journal of a manager that has just been opened
-  pub opened_journal : (has : ℕ → Bool) → ((s : ℕ) (u : PageBlob S gs) → m.held s ≡ Some u → g.unsettled u ≡ false) → ((s : ℕ) → IsTrue (has s) ↔ (0 < section_size m s)) → (told → (s : ℕ) → IsSome (m.unopened s) → m.ceiling < s)
-      → IsJournal g gives seal size told (record { sections = m; unrecovered = has }) opened d
-  opened_journal has idle filled later = journal_of seal size told g gives (record { sections = m; unrecovered = has }) opened d over (λ s. record {
-    owes_held = λ is. size_some (m.held s) ((filled s).0 is);
+  -- the journal of a manager that has just been opened: a section owes a replay where it has more than its floor
+  pub opened_journal : (has : ℕ → Bool) (floors : ℕ → ℕ) → ((s : ℕ) (u : PageBlob S gs) → m.held s ≡ Some u → g.unsettled u ≡ false) → ((s : ℕ) → IsTrue (has s) ↔ (floors s < section_size m s))
+      → ((s : ℕ) → floors s ≤ section_size m s) → ((s : ℕ) → floors s % size ≡ 0) → (told → (s : ℕ) → IsSome (m.unopened s) → m.ceiling < s)
+      → IsJournal g gives seal size told (record { sections = m; unrecovered = has; floor_of = floors }) opened d
+  opened_journal has floors idle filled reached whole later = journal_of seal size told g gives (record { sections = m; unrecovered = has; floor_of = floors }) opened d over (λ s. record {
+    owes_held = λ is. (let more = (filled s).0 is in size_some (m.held s) (omega (arith, more)));
     owes_settled = λ u held is. all_settled (shown u) (sym (pages.unsettled u) ∙ idle s u held);
-    sealed = λ t u held is. empty_sealed seal (shown u) (d (key_of m s)) u.fit.begun (empty s u held is) (pages.stands u (d (key_of m s)) ((over.disk t).stands s u held)).adopted;
-    whole = λ t u held is. ap (λ (n : ℕ). n % size) (empty s u held is) ∙ no_rest size;
+    sealed = λ t u held is. empty_sealed seal (shown u) (d (key_of m s)) u.fit.begun (exact s u held is.checked ∙ is.free) (pages.stands u (d (key_of m s)) ((over.disk t).stands s u held)).adopted;
+    whole = λ t u held is. ap (λ (n : ℕ). n % size) (exact s u held is) ∙ whole s;
     later = λ t is. later t s is;
   })
     where
-      empty : (s : ℕ) (u : PageBlob S gs) → m.held s ≡ Some u → has s ≡ false → size_of (shown u) ≡ 0
-      empty s u held is =
+      exact : (s : ℕ) (u : PageBlob S gs) → m.held s ≡ Some u → has s ≡ false → size_of (shown u) ≡ floors s
+      exact s u held is =
           let long : section_size m s ≡ size_of (shown u) = rw held refl in
-          let none : 0 < section_size m s → ⊥ = λ pos. absurd (cc ((filled s).1 pos, is)) in
-          omega (arith, long, none)
+          let none : floors s < section_size m s → ⊥ = λ more. absurd (cc ((filled s).1 more, is)) in
+          omega (arith, long, none, reached s)
 
   -- the bytes of each section are those that a buffer finds in its blob
   pub opened_bytes : (partition : List ℕ) (factory : F) (old : Disk) → m.partition ≡ partition → m.factory ≡ factory

@@ -16,13 +16,15 @@ use Rattle.sealed_pages.specs.Reads.{pages_for}
 use Rattle.sealed_pages.specs.SealedPrefix.{sealed_prefix}
 use Rattle.sealed_pages.proofs.Holding.{fit_size}
 use Rattle.sealed_pages.proofs.ReplayLemmas.{covered_none}
+use Rattle.sealed_pages.specs.Flushing.{Alone}
 use Rattle.value_codec.specs.declared.codec.Error as codec
 use Rattle.segments.specs.declared.buffer.SectionBuffer as buffer
 use Rattle.segments.specs.declared.journal.Error.{Error}
 use Rattle.segments.specs.Setting.{Setting}
 use Rattle.segments.specs.Sections.{key_of, IsHeld}
 use Rattle.segments.specs.Refusing.{HasFailed}
-use Rattle.segments.specs.FixedReplay.{Place, Walk, IsAhead, IsIn, IsLeft, IsWalk, Replaying, StandsIn, ReadsIn, kept_of, kept_bytes, first_of}
+use Rattle.segments.specs.FixedLists.{IsProven}
+use Rattle.segments.specs.FixedReplay.{Place, Walk, IsAhead, IsIn, IsReadWhole, IsLeft, IsWalk, Replaying, StandsIn, ReadsIn, kept_of, kept_bytes, first_of}
 use Rattle.segments.specs.FixedStepping.{reads_left, way_of, sections_ahead, bytes_ahead, OnlySections, Touches, IsFlushed, BeginsOver, Steps}
 use Rattle.segments.proofs.FixedCounts.{count_here, count_ahead}
 use Rattle.segments.proofs.FixedEnding.{IsNext, next_after, next_from, ahead_from, next_back, fewer_ahead, nearer_begun}
@@ -31,6 +33,7 @@ use Rattle.segments.proofs.FixedErrorSteps.{failed_other, failed_sound, failed_n
 use Rattle.segments.proofs.FixedSteps.{Called, call_failed, call_passed}
 use Rattle.segments.proofs.FixedWalks.{IsBehind, IsReached, MayCut, is_some, same_some, none_in, key_new, first_same, held_back, held_on, kept_other, later_one}
 use Rattle.segments.proofs.FixedWalksOn.{IsKnownAgain, replaying_start, replaying_here, moments_of}
+use Rattle.segments.proofs.FixedWriteLemmas.{proven_or_not}
 
 -- the start's section is given from the start on
 pub first_here : {F B : Type 0} (w : Walk F B) (s : ℕ) → s ≡ w.start_section → first_of w s ≡ w.start_position
@@ -67,7 +70,7 @@ module _ {F S : Type 0} {gs : _} (seal : List ℕ → ℕ) (size : ℕ) (g : buf
       (touch : Touches g gives told result s w.journal.sections new.journal.sections before after a b)
       (u : PageBlob S gs) (held : w.journal.sections.held s ≡ Some u) (ahead : IsAhead w s) (least : (t : ℕ) → IsHeld w.journal.sections t → IsAhead w t → s ≤ t)
       (moments : told → IsSealed seal (shown u) (disk a (key_of w.journal.sections s)) → Sealing seal u.page_size (bytes_of (shown u) (disk a (key_of w.journal.sections s)).content) u.settled (key_of w.journal.sections s) a b)
-      (idle : u.settled ≡ size_of (shown u) → b ≡ a)
+      (alone : told → Alone (key_of w.journal.sections s) a b) (idle : u.settled ≡ size_of (shown u) → b ≡ a)
       {V : Type 0} (spelling : V → List ℕ) (accepted : V → Unit {0} → Type 0) (refusal : List ℕ → Unit {0} → Option codec.Error) (few many : ℕ) (le : few ≤ many) where
     abbrev key : Key
     key = key_of w.journal.sections s
@@ -104,7 +107,7 @@ module _ {F S : Type 0} {gs : _} (seal : List ℕ → ℕ) (size : ℕ) (g : buf
     called = record {
       was = was;
       one = record {
-        same = record { bounds = touch.bounds; unrecovered = only.unrecovered; section = only.section; position = only.position };
+        same = record { bounds = touch.bounds; unrecovered = only.unrecovered; floors = only.floors; section = only.section; position = only.position };
         small = small;
         numbers = numbers;
         others = touch.others;
@@ -122,18 +125,22 @@ module _ {F S : Type 0} {gs : _} (seal : List ℕ → ℕ) (size : ℕ) (g : buf
         moments_by : told → (owes : Bool) → w.journal.unrecovered s ≡ owes → Always a b (Each (Replaying seal size w (disk a)))
         moments_by t true owed = subst (λ (x : Timeline). Always a x (Each (Replaying seal size w (disk a)))) (sym (idle (was.walk.owes_settled.settled s u held owed)))
             (always_start a (Each (Replaying seal size w (disk a))) (λ q. replaying_start seal size w (disk a) (was.disk t).sealed q))
-        moments_by t false free = moments_of seal size w (disk a) s small numbers reached a b
-            (Leaves seal u.page_size (bytes_of (shown u) (disk a key).content) u.settled) refl (was.disk t).sealed (moments t ((was.disk t).sealed.sealed s u held free))
-            (λ x leaves. replaying_here seal size w (disk a) s small numbers reached x
-            (λ y is also. subst (λ (z : PageBlob S gs). Leaves seal z.page_size (bytes_of (shown z) (disk a key).content) z.settled x) (sym (same_some (w.journal.sections.held s) u y held is)) leaves)
-            (λ y is owes. absurd (cc (owes, free))))
+        moments_by t false free = elim (proven_or_not w.journal s) [
+          | inl proven ↦ moments_of seal size w (disk a) s small numbers reached a b
+              (Leaves seal u.page_size (bytes_of (shown u) (disk a key).content) u.settled) refl (was.disk t).sealed (moments t ((was.disk t).sealed.sealed s u held proven))
+              (λ x leaves. replaying_here seal size w (disk a) s small numbers reached x
+              (λ y is also. subst (λ (z : PageBlob S gs). Leaves seal z.page_size (bytes_of (shown z) (disk a key).content) z.settled x) (sym (same_some (w.journal.sections.held s) u y held is)) leaves)
+              (λ y is owes. absurd (cc (owes, free))))
+          | inr not ↦ moments_of seal size w (disk a) s small numbers reached a b (λ x. Unit {0}) refl (was.disk t).sealed (alone t)
+              (λ x any. replaying_here seal size w (disk a) s small numbers reached x (λ y is proven. absurd (not proven)) (λ y is owes. absurd (cc (owes, free))))
+        ]
 
     -- It was refused, and the section may be lost.
     pub begin_failed : (x : Error) → new.place ≡ None → new.ended ≡ w.ended → (new.journal.sections.held s ≡ None) ⊎ ((new.journal.sections.held s ≡ w.journal.sections.held s) × (b ≡ a))
         → HasFailed {T = Option (ℕ × ℕ × V)} (Err x) few many
         → Steps seal size g gives spelling accepted refusal told (Err x) w new before after a b few many
     begin_failed x none_new ended lost cause = call_failed seal size g gives spelling accepted refusal told s w new before after a b few many called x lost none_new ahead_back (inr ended)
-        (failed_other x x refl few many cause) (λ t. failed_sound x few many cause) (λ t e is. absurd (failed_not_codec x few many cause e is)) (inr (inr cause))
+        (failed_other x x refl few many cause) (λ t k is. absurd (failed_sound x few many cause k is)) (λ t e is. absurd (failed_not_codec x few many cause e is)) (inr (inr cause))
 
     -- The replay stands at the section's first item, or at its start.
     module _ (v : PageBlob S gs) (held_new : new.journal.sections.held s ≡ Some v) (R : Reader) (first : ℕ) (first_is : first ≡ cond (w.journal.unrecovered s) 0 (first_of w s))
@@ -165,6 +172,12 @@ module _ {F S : Type 0} {gs : _} (seal : List ℕ → ℕ) (size : ℕ) (g : buf
       first_new : first_of new s ≡ first_of w s
       first_new = first_same seal size s w new (disk a) (disk b) called.one s
 
+      first_zero : IsReadWhole new s → first ≡ 0
+      first_zero read = elim read [
+        | inl owed ↦ first_is ∙ ap (λ (o : Bool). cond o 0 (first_of w s)) (sym (only.unrecovered s) ∙ owed)
+        | inr none ↦ omega (arith, none_before, first_new, none)
+      ]
+
       stands : StandsIn size new r v
       stands = record {
         key = begins.key ∙ sym key_same;
@@ -180,15 +193,15 @@ module _ {F S : Type 0} {gs : _} (seal : List ℕ → ℕ) (size : ℕ) (g : buf
       reads : ReadsIn seal new (disk b) r v
       reads = record {
         replays = replays (disk b (key_of new.journal.sections s)).content;
-        checked = λ owed. (let is : first ≡ 0 = first_is ∙ ap (λ (o : Bool). cond o 0 (first_of w s)) (sym (only.unrecovered s) ∙ owed) in
+        checked = λ read. (let is : first ≡ 0 = first_zero read in
             covered_none seal v.page_size (disk b (key_of new.journal.sections s)).content 0 (first * size + 0) (omega (arith, ap (λ (k : ℕ). k * size) is)));
       }
 
-      sealed : told → w.journal.unrecovered s ≡ false → IsSealed seal (shown v) (disk b (key_of new.journal.sections s)) × (size_of (shown v) % size ≡ 0)
-      sealed t free = (
-        subst (λ (k : Key). IsSealed seal (shown v) (disk b k)) (sym key_same) (flush.sealed t ((was.disk t).sealed.sealed s u held free)).0,
-        ap (λ (k : ℕ). k % size) flush.size ∙ (was.disk t).sealed.whole s u held free,
-      )
+      sealed : told → IsProven w.journal s → IsSealed seal (shown v) (disk b (key_of new.journal.sections s))
+      sealed t proven = subst (λ (k : Key). IsSealed seal (shown v) (disk b k)) (sym key_same) (flush.sealed t ((was.disk t).sealed.sealed s u held proven))
+
+      whole : told → w.journal.unrecovered s ≡ false → size_of (shown v) % size ≡ 0
+      whole t free = ap (λ (k : ℕ). k % size) flush.size ∙ (was.disk t).sealed.whole s u held free
 
       same_time : IsTrue (w.journal.unrecovered s) → b ≡ a
       same_time owed = idle (was.walk.owes_settled.settled s u held owed)
@@ -207,7 +220,7 @@ module _ {F S : Type 0} {gs : _} (seal : List ℕ → ℕ) (size : ℕ) (g : buf
               ∙ (λ i. sealed_prefix seal (flush.page_size i) (disk (same_time owed i) key).content)
               ∙ ap (λ (o : Bool). kept_of seal o (Some u) (disk a key).content) (sym owed)
           go false free = ap (λ (o : Bool). kept_of seal o (Some v) (disk b key).content) free
-              ∙ (flush.sealed t ((was.disk t).sealed.sealed s u held free)).1
+              ∙ flush.bytes t
               ∙ ap (λ (o : Bool). kept_of seal o (Some u) (disk a key).content) (sym free)
 
       onward : (t : ℕ) → IsAhead new t ⊎ IsIn new t → IsAhead w t ⊎ IsIn w t
@@ -216,20 +229,21 @@ module _ {F S : Type 0} {gs : _} (seal : List ℕ → ℕ) (size : ℕ) (g : buf
 
       later : told → (q : Key) (x : Blob) → Replaying seal size new (disk b) q x → Replaying seal size w (disk a) q x
       later t = later_one seal size s w new (disk a) (disk b) called.one t reached onward v held_new
-          (λ y is free x left. subst (λ (z : PageBlob S gs). Leaves seal z.page_size (bytes_of (shown z) (disk a key).content) z.settled x) (sym (same_some (w.journal.sections.held s) u y held is)) (flushed_leaves free x left))
-          (λ y is owes x may. subst (λ (z : PageBlob S gs). MayCut seal size z (disk a key) x) (sym (same_some (w.journal.sections.held s) u y held is)) (cut_leaves owes x may))
+          (λ y is proven x left. subst (λ (z : PageBlob S gs). Leaves seal z.page_size (bytes_of (shown z) (disk a key).content) z.settled x) (sym (same_some (w.journal.sections.held s) u y held is)) (flushed_leaves x left))
+          (λ y is owes x may. subst (λ (z : PageBlob S gs). MayCut seal size z (w.journal.floor_of s) (disk a key) x) (sym (same_some (w.journal.sections.held s) u y held is)) (cut_leaves owes x may))
         where
-          flushed_leaves : w.journal.unrecovered s ≡ false → (x : Blob) → Leaves seal v.page_size (bytes_of (shown v) (disk b key).content) v.settled x → Leaves seal u.page_size (bytes_of (shown u) (disk a key).content) u.settled x
-          flushed_leaves free x left =
+          flushed_leaves : (x : Blob) → Leaves seal v.page_size (bytes_of (shown v) (disk b key).content) v.settled x → Leaves seal u.page_size (bytes_of (shown u) (disk a key).content) u.settled x
+          flushed_leaves x left =
               let paged : Leaves seal u.page_size (bytes_of (shown v) (disk b key).content) v.settled x = subst (λ (P : ℕ). Leaves seal P (bytes_of (shown v) (disk b key).content) v.settled x) flush.page_size left in
               let settled : Leaves seal u.page_size (bytes_of (shown v) (disk b key).content) u.settled x = subst (λ (k : ℕ). Leaves seal u.page_size (bytes_of (shown v) (disk b key).content) k x) flush.settled paged in
-              subst (λ (l : List ℕ). Leaves seal u.page_size l u.settled x) (flush.sealed t ((was.disk t).sealed.sealed s u held free)).1 settled
+              subst (λ (l : List ℕ). Leaves seal u.page_size l u.settled x) (flush.bytes t) settled
 
-          cut_leaves : IsTrue (w.journal.unrecovered s) → (x : Blob) → MayCut seal size v (disk b key) x → MayCut seal size u (disk a key) x
+          cut_leaves : IsTrue (w.journal.unrecovered s) → (x : Blob) → MayCut seal size v (w.journal.floor_of s) (disk b key) x → MayCut seal size u (w.journal.floor_of s) (disk a key) x
           cut_leaves owes x may =
               let blob : disk b key ≡ disk a key = ap (λ (y : Timeline). disk y key) (same_time owes) in
-              subst (λ (y : Blob). MayCut seal size u y x) blob
-              (subst (λ (P : ℕ). (x ≡ disk b key) ⊎ Leaves seal P (sealed_prefix seal P (disk b key).content) (length (sealed_prefix seal P (disk b key).content) / size * size) x) flush.page_size may)
+              subst (λ (y : Blob). MayCut seal size u (w.journal.floor_of s) y x) blob
+              (subst (λ (P : ℕ). (x ≡ disk b key) ⊎ ((w.journal.floor_of s ≤ length (sealed_prefix seal P (disk b key).content) / size * size)
+              × Leaves seal P (sealed_prefix seal P (disk b key).content) (length (sealed_prefix seal P (disk b key).content) / size * size) x)) flush.page_size may)
 
       again : IsKnownAgain seal size g gives w new before after (disk a) (disk b) was s v
       again = record {
@@ -237,7 +251,8 @@ module _ {F S : Type 0} {gs : _} (seal : List ℕ → ℕ) (size : ℕ) (g : buf
         not_ahead = λ h. omega (arith, (next_after s new.next_section next_new s small).0 h);
         settled = λ owed. flush.settled ∙ was.walk.owes_settled.settled s u held owed ∙ sym flush.size;
         sealed = sealed;
-        gone_over = λ t out. absurd (out in_new);
+        whole = whole;
+        gone_over = λ t out read. absurd (out in_new);
         place = λ x is. (let at : r ≡ x = cc (place_new, is) in
             subst (λ (y : Place). (y.section ≡ s) × StandsIn size new y v × (told → ReadsIn seal new (disk b) y v)) at (refl, stands, λ t. reads));
         begun = λ there. subst (λ (k : ℕ). k ≤ s) (sym only.section) start_before;

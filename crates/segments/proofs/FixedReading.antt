@@ -1,5 +1,5 @@
 -- A replay of a fixed journal reads on in its section: what is at hand then, and the step over one item.
-use Rattle.std.specs.Prelude.{◌≡◌, ◌≢◌, ◌⊎◌, ◌↔◌, ℕ, ◌+◌, ◌-◌, ◌*◌, ◌/◌, ◌^◌, ◌<◌, ◌≤◌, Bool, true, false, List, length, take, drop, IsSomeAnd, Option, None, Some, Result, Ok, Err, OnOk, OnErr}
+use Rattle.std.specs.Prelude.{◌≡◌, ◌≢◌, ◌⊎◌, ◌↔◌, ℕ, ◌+◌, ◌-◌, ◌*◌, ◌/◌, ◌^◌, ◌<◌, ◌≤◌, Bool, true, false, List, length, take, drop, IsTrue, IsSomeAnd, Option, None, Some, Result, Ok, Err, OnOk, OnErr}
 use Rattle.std.specs.Result.{IsErrOf}
 use Rattle.std.proofs.Common.{inl, inr, refl, sym, ◌∙◌, ap, subst, arith, length-drop}
 use Rattle.std.proofs.lemmas.Bool.{cases_eq, cases_lt}
@@ -18,30 +18,33 @@ use Rattle.sealed_pages.specs.Pieces.{next_missing}
 use Rattle.sealed_pages.specs.Reads.{IsCovered, IsWanted, needed, pages_for}
 use Rattle.sealed_pages.specs.Slots.{page_length}
 use Rattle.sealed_pages.specs.View.{view}
+use Rattle.sealed_pages.specs.Buffer.{bytes_of}
 use Rattle.sealed_pages.specs.SealedPrefix.{sealed_prefix, data_from}
+use Rattle.sealed_pages.specs.Unrecovered.{IsAdopted}
 use Rattle.sealed_pages.proofs.Holding.{bytes_length}
 use Rattle.sealed_pages.proofs.ReplayLemmas.{data_drop, covered_rest}
 use Rattle.sealed_pages.proofs.SlotLemmas.{times_next}
 use Rattle.sealed_pages.proofs.Truncating.{rose_since}
 use Rattle.segments.specs.declared.buffer.SectionBuffer as buffer
 use Rattle.segments.specs.declared.journal.Error.{Error}
+use Rattle.segments.specs.declared.journal.Damage.{Damage}
 use Rattle.blob_device.specs.declared.runtime.RError.TheVariants.{InvalidChecksum}
-use Rattle.segments.specs.declared.journal.Error.TheVariants.{ItemOutOfRange, Runtime, Codec, Mem}
+use Rattle.segments.specs.declared.journal.Error.TheVariants.{ItemOutOfRange, Corruption, Runtime, Codec, Mem}
 use Rattle.value_codec.specs.declared.codec.Error as codec
 use Rattle.segments.specs.Setting.{Setting}
 use Rattle.segments.specs.Sections.{Sections, key_of, IsHeld, IsKeyOf, HasOpened, StandsOver}
 use Rattle.segments.specs.FixedItems.{item_at, IsItem}
 use Rattle.segments.specs.Refusing.{HasFailed}
-use Rattle.segments.specs.FixedReading.{HasNotRead}
-use Rattle.segments.specs.FixedReplay.{Place, Walk, IsAhead, IsIn, IsLeft, SameWalk, IsWalk, WalksOver, StandsBefore, Gives, Refuses, Stops, Replaying, StandsIn, ReadsIn, kept_of, kept_bytes, first_of}
+use Rattle.segments.specs.FixedReading.{HasNotRead, IsBelowFloor}
+use Rattle.segments.specs.FixedReplay.{Place, Walk, IsAhead, IsIn, IsReadWhole, IsLeft, SameWalk, IsWalk, WalksOver, StandsBefore, Gives, Refuses, Stops, Replaying, EndsBelow, FindsDamage, StandsIn, ReadsIn, kept_of, kept_bytes, first_of}
 use Rattle.segments.specs.FixedStepping.{standing, after_item, way_of, reads_left, ReadsOnce, GoesOn, Carries, EndsAt, Steps}
 use Rattle.segments.proofs.KeyLemmas.{keys_differ}
 use Rattle.segments.proofs.FixedCounts.{count_here, count_apart, count_same}
-use Rattle.segments.proofs.FixedKept.{covered_on, covered_length, item_kept, sealed_flushed}
+use Rattle.segments.proofs.FixedKept.{covered_on, covered_length, item_kept, prefix_data, flushed_data}
 use Rattle.segments.proofs.FixedEnding.{ahead_from}
 use Rattle.segments.proofs.FixedWalks.{IsBehind, IsReached, is_some, same_some, none_in, left_later}
 use Rattle.segments.proofs.FixedWalksOn.{replaying_start}
-use Rattle.segments.proofs.FixedSteps.{Called, Answered, call_failed, call_ended, call_refused}
+use Rattle.segments.proofs.FixedSteps.{Called, Answered, call_stopped, call_failed, call_ended, call_refused}
 
 -- the value that has P
 pub the_some : {A : Type 0} {P : A → Type 0} → (o : Option A) → IsSomeAnd o P → (v : A) × (o ≡ Some v) × P v
@@ -97,30 +100,33 @@ module _ {F S : Type 0} {gs : _} (seal : List ℕ → ℕ) (size : ℕ) (g : buf
         let has = the_some (w.journal.sections.held r.section) ((was.disk t).place r refl) in
         subst (λ (u : PageBlob S gs). ReadsIn seal (standing w r) d r u) (same_some (w.journal.sections.held r.section) here.0 has.0 here.1 has.1) has.2
 
-    -- The bytes from which the section's items are given are its sealed prefix.
-    pub kept_here : told → kept_bytes seal size (standing w r) d r.section ≡ sealed_prefix seal here.0.page_size (d (key_of w.journal.sections r.section)).content
-    kept_here t = go (w.journal.unrecovered r.section) refl
-      where
-        c : List ℕ
-        c = (d (key_of w.journal.sections r.section)).content
+    opens : kept_bytes seal size (standing w r) d r.section ≡ kept_of seal (w.journal.unrecovered r.section) (Some here.0) (d (key_of w.journal.sections r.section)).content
+    opens = ap (λ (o : Option (PageBlob S gs)). kept_of seal (w.journal.unrecovered r.section) o (d (key_of w.journal.sections r.section)).content) here.1
 
-        opens : kept_bytes seal size (standing w r) d r.section ≡ kept_of seal (w.journal.unrecovered r.section) (Some here.0) (d (key_of w.journal.sections r.section)).content
-        opens = ap (λ (o : Option (PageBlob S gs)). kept_of seal (w.journal.unrecovered r.section) o (d (key_of w.journal.sections r.section)).content) here.1
+    -- The bytes from which the section's items are given are its sealed prefix where it owes a replay, else all its bytes.
+    pub kept_owed : IsTrue (w.journal.unrecovered r.section) → kept_bytes seal size (standing w r) d r.section ≡ sealed_prefix seal here.0.page_size (d (key_of w.journal.sections r.section)).content
+    kept_owed owed = opens ∙ ap (λ (o : Bool). kept_of seal o (Some here.0) (d (key_of w.journal.sections r.section)).content) owed
 
-        go : (owes : Bool) → w.journal.unrecovered r.section ≡ owes → kept_bytes seal size (standing w r) d r.section ≡ sealed_prefix seal here.0.page_size (d (key_of w.journal.sections r.section)).content
-        go true owed = opens ∙ ap (λ (o : Bool). kept_of seal o (Some here.0) (d (key_of w.journal.sections r.section)).content) owed
-        go false free = opens ∙ ap (λ (o : Bool). kept_of seal o (Some here.0) (d (key_of w.journal.sections r.section)).content) free
-            ∙ sym (sealed_flushed seal (shown here.0) (d (key_of w.journal.sections r.section)) here.0.fit.begun ((was.disk t).sealed.sealed r.section here.0 here.1 free) here.2.flushed)
+    pub kept_free : w.journal.unrecovered r.section ≡ false → kept_bytes seal size (standing w r) d r.section ≡ bytes_of (shown here.0) (d (key_of w.journal.sections r.section)).content
+    kept_free free = opens ∙ ap (λ (o : Bool). kept_of seal o (Some here.0) (d (key_of w.journal.sections r.section)).content) free
+
+    module _ (adopt : (u : PageBlob S gs) (b : Blob) → g.Stands u b → IsAdopted seal (shown u) b) where
+      -- They stand in the blob.
+      pub kept_data : told → kept_bytes seal size (standing w r) d r.section ≡ data_from here.0.page_size (view (d (key_of w.journal.sections r.section)).content) 0 (length (kept_bytes seal size (standing w r) d r.section))
+      kept_data t = go (w.journal.unrecovered r.section) refl
+        where
+          go : (owes : Bool) → w.journal.unrecovered r.section ≡ owes → kept_bytes seal size (standing w r) d r.section ≡ data_from here.0.page_size (view (d (key_of w.journal.sections r.section)).content) 0 (length (kept_bytes seal size (standing w r) d r.section))
+          go true owed = subst (λ (l : List ℕ). l ≡ data_from here.0.page_size (view (d (key_of w.journal.sections r.section)).content) 0 (length l)) (sym (kept_owed owed)) (prefix_data seal here.0.page_size (d (key_of w.journal.sections r.section)).content (omega (arith, here.0.fit.begun)))
+          go false free = subst (λ (l : List ℕ). l ≡ data_from here.0.page_size (view (d (key_of w.journal.sections r.section)).content) 0 (length l)) (sym (kept_free free))
+              (flushed_data seal (shown here.0) (d (key_of w.journal.sections r.section)) here.0.fit.begun (adopt here.0 (d (key_of w.journal.sections r.section)) ((was.over.disk t).stands r.section here.0 here.1)) here.2.flushed)
 
     -- All bytes at hand are among them.
-    pub long_here : told → next_of r.reader ≤ r.reader.size → next_of r.reader ≤ length (sealed_prefix seal here.0.page_size (d (key_of w.journal.sections r.section)).content)
+    pub long_here : told → next_of r.reader ≤ r.reader.size → next_of r.reader ≤ length (kept_bytes seal size (standing w r) d r.section)
     long_here t within = go (w.journal.unrecovered r.section) refl
       where
-        go : (owes : Bool) → w.journal.unrecovered r.section ≡ owes → next_of r.reader ≤ length (sealed_prefix seal here.0.page_size (d (key_of w.journal.sections r.section)).content)
-        go true owed = covered_length seal here.0.page_size (d (key_of w.journal.sections r.section)).content (omega (arith, here.0.fit.begun)) (next_of r.reader) ((reads_here t).checked owed)
-        go false free =
-            let is = ap length (sealed_flushed seal (shown here.0) (d (key_of w.journal.sections r.section)) here.0.fit.begun ((was.disk t).sealed.sealed r.section here.0 here.1 free) here.2.flushed) in
-            omega (arith, within, here.2.blob_size, is, bytes_length (shown here.0) (d (key_of w.journal.sections r.section)).content)
+        go : (owes : Bool) → w.journal.unrecovered r.section ≡ owes → next_of r.reader ≤ length (kept_bytes seal size (standing w r) d r.section)
+        go true owed = omega (arith, covered_length seal here.0.page_size (d (key_of w.journal.sections r.section)).content (omega (arith, here.0.fit.begun)) (next_of r.reader) ((reads_here t).checked (inl owed)), ap length (kept_owed owed))
+        go false free = omega (arith, within, here.2.blob_size, ap length (kept_free free), bytes_length (shown here.0) (d (key_of w.journal.sections r.section)).content)
 
   -- The reader took more bytes.
   module _ (r : Place) (more : Reader) (before after : OpenedList) (a b : Timeline) (n : ℕ) (was : IsWalk g gives seal size told (standing w r) before (disk a)) (same : SameReader r.reader more)
@@ -154,13 +160,16 @@ module _ {F S : Type 0} {gs : _} (seal : List ℕ → ℕ) (size : ℕ) (g : buf
         let now : IsReplayOf seal c more = subst (λ (k : Key). IsReplayOf seal (disk a k).content more) key_is (replays t (subst (λ (k : Key). IsReplayOf seal (disk a k).content r.reader) (sym key_is) was_reads.replays)) in
         record {
           replays = now;
-          checked = λ owed.
-              let old_covered : IsCovered seal u.page_size c 0 (r.reader.at + length r.reader.bytes) = was_reads.checked owed in
+          checked = λ read.
+              let old_covered : IsCovered seal u.page_size c 0 (r.reader.at + length r.reader.bytes) = was_reads.checked (read_same read) in
               let low : IsCovered seal u.page_size c 0 more.at = λ k wanted. old_low k wanted old_covered in
               let high : IsCovered seal u.page_size c more.at (length more.bytes) = subst (λ (P : ℕ). IsCovered seal P c more.at (length more.bytes)) stands_on.page_size now.covered in
               covered_on seal u.page_size c (omega (arith, u.fit.begun)) more.at (length more.bytes) low high;
         }
       where
+        read_same : IsReadWhole (standing w on) r.section → IsReadWhole (standing w r) r.section
+        read_same read = elim read [ inl owed ↦ inl owed | inr first ↦ inr first ]
+
         old_low : (k : ℕ) → IsWanted (here r before (disk a) was).0.page_size 0 more.at k → IsCovered seal (here r before (disk a) was).0.page_size (disk a (key_of w.journal.sections r.section)).content 0 (r.reader.at + length r.reader.bytes)
             → needed (here r before (disk a) was).0.page_size 0 more.at k ≤ page_length seal (here r before (disk a) was).0.page_size (disk a (key_of w.journal.sections r.section)).content k
         old_low k wanted covered =
@@ -170,7 +179,7 @@ module _ {F S : Type 0} {gs : _} (seal : List ℕ → ℕ) (size : ℕ) (g : buf
     walks_on : told → WalksOver seal size (standing w on) (disk a)
     walks_on t = let has = was.disk t in record {
       sealed = has.sealed;
-      gone_over = λ fine q u held over. has.gone_over fine q u held (record { begun = over.begun; not_ahead = over.not_ahead; not_in = λ is. over.not_in is });
+      gone_over = λ fine q u held over read. has.gone_over fine q u held (record { begun = over.begun; not_ahead = over.not_ahead; not_in = λ is. over.not_in is }) (elim read [ inl owed ↦ inl owed | inr first ↦ inr first ]);
       unopened = has.unopened;
       place = λ x is. (let at : on ≡ x = cc is in
           subst (λ (y : Place). IsSomeAnd (w.journal.sections.held y.section) (ReadsIn seal (standing w on) (disk a) y)) at
@@ -231,7 +240,7 @@ module _ {F S : Type 0} {gs : _} (seal : List ℕ → ℕ) (size : ℕ) (g : buf
       over = step.over;
       broken = step.broken;
       goes = goes_read result step.goes;
-      same = record { bounds = step.same.bounds; unrecovered = step.same.unrecovered; section = step.same.section; position = step.same.position };
+      same = record { bounds = step.same.bounds; unrecovered = step.same.unrecovered; floors = step.same.floors; section = step.same.section; position = step.same.position };
       nearer = λ is. omega (arith, step.nearer is, same.size, same.at);
       carries = λ t is. (let has = subst (λ (d : Disk). Carries seal size (standing w on) new d (disk c)) (same_disk t) (step.carries t is) in record {
         left = λ q p. (λ l. (left_read (disk a) q p).0 ((has.left q p).0 l), λ l. (has.left q p).1 ((left_read (disk a) q p).1 l));
@@ -246,7 +255,10 @@ module _ {F S : Type 0} {gs : _} (seal : List ℕ → ℕ) (size : ℕ) (g : buf
       });
       stops = λ t. stops_read t result (step.stops t);
       start = λ t p is. (let has = step.start t p is in (has.0, subst (λ (d : Disk). length (kept_bytes seal size (standing w on) d w.start_section) < p * size) (same_disk t) has.1, has.2));
-      damaged = step.damaged;
+      damage = λ t x is. (let has = step.damage t x is in
+          let below = subst (λ (d : Disk). EndsBelow seal size (standing w on) d x) (same_disk t) has.0 in
+          (record { owes = below.owes; kept = below.kept; wanted = below.wanted; less = below.less }, has.1));
+      damaged = λ t k is. (let has = step.damaged t k is in record { section = has.section; position = has.position; near = has.near; free = has.free; floor = has.floor; page = has.page });
       refused = λ t e is. (let has = subst (λ (d : Disk). Refuses seal size refusal (standing w on) new d (disk c) e) (same_disk t) (step.refused t e is) in record {
         section = has.section;
         position = has.position;
@@ -286,11 +298,12 @@ module _ {F S : Type 0} {gs : _} (seal : List ℕ → ℕ) (size : ℕ) (g : buf
         once_read (Ok y) read has = λ t held. omega (arith, has t held, count_read read t held)
         once_read (Err y) read has = tt
 
-        cause_read : (x : Result (Option (ℕ × ℕ × V)) Error) → OnErr x (IsErrOf x (ItemOutOfRange w.start_position) ⊎ HasNotRead x some many) → OnErr x (IsErrOf x (ItemOutOfRange w.start_position) ⊎ HasNotRead x few many)
+        cause_read : (x : Result (Option (ℕ × ℕ × V)) Error) → OnErr x (IsErrOf x (ItemOutOfRange w.start_position) ⊎ (IsBelowFloor x ⊎ HasNotRead x some many)) → OnErr x (IsErrOf x (ItemOutOfRange w.start_position) ⊎ (IsBelowFloor x ⊎ HasNotRead x few many))
         cause_read (Ok y) has = has
         cause_read (Err y) has = elim has [
           | inl start ↦ inl start
-          | inr failed ↦ inr (not_read_since (Err y) few some many le failed)
+          | inr (inl below) ↦ inr (inl below)
+          | inr (inr failed) ↦ inr (inr (not_read_since (Err y) few some many le failed))
         ]
 
   -- The replay stands at r, and w stands nowhere.
@@ -330,7 +343,7 @@ module _ {F S : Type 0} {gs : _} (seal : List ℕ → ℕ) (size : ℕ) (g : buf
       no_call = record {
         was = was;
         one = record {
-          same = record { bounds = record { place = record { partition = refl; factory = refl }; floor = refl; ceiling = refl }; unrecovered = λ s. refl; section = refl; position = refl };
+          same = record { bounds = record { place = record { partition = refl; factory = refl }; floor = refl; ceiling = refl }; unrecovered = λ s. refl; floors = λ s. refl; section = refl; position = refl };
           small = number_here;
           numbers = λ q held. was.over.opened_list.number q (inl held);
           others = λ q other. record { held = refl; unopened = refl };
@@ -346,10 +359,16 @@ module _ {F S : Type 0} {gs : _} (seal : List ℕ → ℕ) (size : ℕ) (g : buf
       }
 
       -- The section's reading failed.
-      pub read_failed : (x : Error) → ((p : ℕ) → x ≡ ItemOutOfRange p → ⊥) → (told → (k : ℕ) → x ≡ Runtime (InvalidChecksum k) → ⊥)
+      pub read_failed : (x : Error) → ((p : ℕ) → x ≡ ItemOutOfRange p → ⊥) → (told → (k : ℕ) → x ≡ Runtime (InvalidChecksum k) → FindsDamage seal size (standing w r) w (disk now) k)
           → (told → (e : codec.Error) → x ≡ Codec e → Refuses seal size refusal (standing w r) w (disk now) (disk now) e) → HasNotRead {T = Option (ℕ × ℕ × V)} (Err x) few many
           → Steps seal size g gives spelling accepted refusal told (Err x) (standing w r) w opened opened now now few many
-      read_failed x other sound refuses cause = call_failed seal size g gives spelling accepted refusal told r.section (standing w r) w opened opened now now few many no_call x (inr (refl, refl)) none (λ t h. h) (inr refl) other sound refuses cause
+      read_failed x other found refuses cause = call_failed seal size g gives spelling accepted refusal told r.section (standing w r) w opened opened now now few many no_call x (inr (refl, refl)) none (λ t h. h) (inr refl) other found refuses cause
+
+      -- Its whole items end below its floor.
+      pub floor_refused : (x : Damage) → (told → EndsBelow seal size (standing w r) (disk now) x) → x.section ≡ r.section → Steps seal size g gives spelling accepted refusal told (Err (Corruption x)) (standing w r) w opened opened now now few many
+      floor_refused x below at = call_stopped seal size g gives spelling accepted refusal told r.section (standing w r) w opened opened now now few many no_call (Corruption x) (inr (refl, refl)) none (λ t h. h) (inr refl) (λ p is. absurd (cc is))
+          (λ t y is. (let same : x ≡ y = cc is in subst (λ (z : Damage). EndsBelow seal size (standing w r) (disk now) z × (IsAhead (standing w r) z.section ⊎ IsIn (standing w r) z.section)) same (below t, inr (sym at))))
+          (λ t k is. absurd (cc is)) (λ t e is. absurd (cc is)) (inl (x, refl))
 
       -- The section is at its end, and was not cut.
       not_cut : (told → EndsAt seal size (standing w r) (disk now) r false) → Answered seal size g gives spelling accepted refusal told r.section (standing w r) w opened opened now now few many no_call (here r opened (disk now) was).0
@@ -360,8 +379,9 @@ module _ {F S : Type 0} {gs : _} (seal : List ℕ → ℕ) (size : ℕ) (g : buf
               held = h.1;
               not_ahead = not_ahead_here;
               settled = λ owed. was.walk.owes_settled.settled r.section h.0 h.1 owed;
-              sealed = λ t free. (ends t).whole refl h.0 h.1;
-              gone_over = λ t out. (ends t).whole refl h.0 h.1;
+              sealed = λ t proven. (was.disk t).sealed.sealed r.section h.0 h.1 proven;
+              whole = λ t free. (was.disk t).sealed.whole r.section h.0 h.1 free;
+              gone_over = λ t out read. (ends t).whole refl read h.0 h.1;
               place = λ x is. absurd (cc (none, is));
               begun = λ there. absurd (none_in w.place (λ x. x.section ≡ r.section) none there);
             };
@@ -400,8 +420,8 @@ module _ {F S : Type 0} {gs : _} (seal : List ℕ → ℕ) (size : ℕ) (g : buf
       reads_item : told → ReadsIn seal (standing w (after_item size r)) (disk now) (after_item size r) (here r opened (disk now) was).0
       reads_item t = let h = reads_here r opened (disk now) was t in record {
         replays = advanced seal (disk now (key_of w.journal.sections r.section)).content size r.reader has h.replays;
-        checked = λ owed. (let same : r.reader.at + length r.reader.bytes ≡ r.reader.at + size + length (drop size r.reader.bytes) = omega (arith, has, length-drop size r.reader.bytes) in
-            subst (λ (n : ℕ). IsCovered seal (here r opened (disk now) was).0.page_size (disk now (key_of w.journal.sections r.section)).content 0 n) same (h.checked owed));
+        checked = λ read. (let same : r.reader.at + length r.reader.bytes ≡ r.reader.at + size + length (drop size r.reader.bytes) = omega (arith, has, length-drop size r.reader.bytes) in
+            subst (λ (n : ℕ). IsCovered seal (here r opened (disk now) was).0.page_size (disk now (key_of w.journal.sections r.section)).content 0 n) same (h.checked (elim read [ inl owed ↦ inl owed | inr first ↦ inr first ])));
       }
 
       walk_item : IsWalk g gives seal size told (standing w (after_item size r)) opened (disk now)
@@ -422,7 +442,7 @@ module _ {F S : Type 0} {gs : _} (seal : List ℕ → ℕ) (size : ℕ) (g : buf
         };
         disk = λ t. (let is = was.disk t in record {
           sealed = is.sealed;
-          gone_over = λ fine q u held over. is.gone_over fine q u held (record { begun = over.begun; not_ahead = over.not_ahead; not_in = λ there. over.not_in there });
+          gone_over = λ fine q u held over read. is.gone_over fine q u held (record { begun = over.begun; not_ahead = over.not_ahead; not_in = λ there. over.not_in there }) (elim read [ inl owed ↦ inl owed | inr first ↦ inr first ]);
           unopened = is.unopened;
           place = λ x here_x. (let at : after_item size r ≡ x = cc here_x in
               subst (λ (y : Place). IsSomeAnd (w.journal.sections.held y.section) (ReadsIn seal (standing w (after_item size r)) (disk now) y)) at
@@ -448,15 +468,14 @@ module _ {F S : Type 0} {gs : _} (seal : List ℕ → ℕ) (size : ℕ) (g : buf
       whole_item : told → r.position < length (kept_bytes seal size (standing w r) (disk now) r.section) / size
       whole_item t =
           let long = long_here r opened (disk now) was t within in
-          let kept = ap length (kept_here r opened (disk now) was t) in
           omega (
             arith,
             le-div (r.position + 1) (length (kept_bytes seal size (standing w r) (disk now) r.section)) size (omega (arith, pos))
-                (omega (arith, times_next r.position size, long, kept, (here r opened (disk now) was).2.at, has)),
+                (omega (arith, times_next r.position size, long, (here r opened (disk now) was).2.at, has)),
           )
 
       same_walk : SameWalk (standing w r) (standing w (after_item size r))
-      same_walk = record { bounds = record { place = record { partition = refl; factory = refl }; floor = refl; ceiling = refl }; unrecovered = λ s. refl; section = refl; position = refl }
+      same_walk = record { bounds = record { place = record { partition = refl; factory = refl }; floor = refl; ceiling = refl }; unrecovered = λ s. refl; floors = λ s. refl; section = refl; position = refl }
 
       nearer_item : way_of (standing w (after_item size r)) < way_of (standing w r)
       nearer_item = omega (arith, pos, has, within)
@@ -489,17 +508,18 @@ module _ {F S : Type 0} {gs : _} (seal : List ℕ → ℕ) (size : ℕ) (g : buf
         | inr there ↦ elim before [ inl lt ↦ omega (arith, lt, there.0) | inr same ↦ omega (arith, same.1, there.1) ]
       ]
 
-      bytes_item : told → take size r.reader.bytes ≡ item_at size (kept_bytes seal size (standing w r) (disk now) r.section) r.position
-      bytes_item t =
-          item_kept seal (here r opened (disk now) was).0.page_size (disk now (key_of w.journal.sections r.section)).content (omega (arith, (here r opened (disk now) was).0.fit.begun)) size r.position r.reader.at r.reader.bytes (bytes_here t) (here r opened (disk now) was).2.at has (long_here r opened (disk now) was t within)
-          ∙ ap (λ (l : List ℕ). item_at size l r.position) (sym (kept_here r opened (disk now) was t))
+      module _ (adopt : (u : PageBlob S gs) (b : Blob) → g.Stands u b → IsAdopted seal (shown u) b) where
+        bytes_item : told → take size r.reader.bytes ≡ item_at size (kept_bytes seal size (standing w r) (disk now) r.section) r.position
+        bytes_item t =
+            item_kept seal (here r opened (disk now) was).0.page_size (disk now (key_of w.journal.sections r.section)).content (omega (arith, (here r opened (disk now) was).0.fit.begun)) (kept_bytes seal size (standing w r) (disk now) r.section) (kept_data r opened (disk now) was adopt t)
+            size r.position r.reader.at r.reader.bytes (bytes_here t) (here r opened (disk now) was).2.at has (long_here r opened (disk now) was t within)
 
-      module _ {V : Type 0} (spelling : V → List ℕ) (accepted : V → Unit {0} → Type 0) (refusal : List ℕ → Unit {0} → Option codec.Error) (going : w.ended ≡ false) where
+      module _ {V : Type 0} (spelling : V → List ℕ) (accepted : V → Unit {0} → Type 0) (refusal : List ℕ → Unit {0} → Option codec.Error) (going : w.ended ≡ false) (adopt : (u : PageBlob S gs) (b : Blob) → g.Stands u b → IsAdopted seal (shown u) b) where
         given_item : (v : V) → first_of w r.section ≤ r.position → IsItem spelling accepted (take size r.reader.bytes) v → told → Gives seal size spelling accepted (standing w r) (standing w (after_item size r)) (disk now) (disk now) r.section r.position v
         given_item v first item t = record {
           left = left_item going first t;
           first = first_item;
-          item = subst (λ (bytes : List ℕ). IsItem spelling accepted bytes v) (bytes_item t) item;
+          item = subst (λ (bytes : List ℕ). IsItem spelling accepted bytes v) (bytes_item adopt t) item;
           rest = λ x q. (
             λ l. elim l.ahead [
               | inl a ↦ (record { goes_on = l.goes_on; begun = l.begun; whole = l.whole; ahead = inl a }, inl (ahead_here x a.1))
@@ -523,7 +543,7 @@ module _ {F S : Type 0} {gs : _} (seal : List ℕ → ℕ) (size : ℕ) (g : buf
           position = r.position;
           left = left_item going first t;
           first = first_item;
-          refused = ap (λ (bytes : List ℕ). refusal bytes tt) (sym (bytes_item t)) ∙ is;
+          refused = ap (λ (bytes : List ℕ). refusal bytes tt) (sym (bytes_item adopt t)) ∙ is;
           rest = left_later seal size r.section (standing w r) w (disk now) (disk now) call.one call.behind none t refl;
         })
 
@@ -554,6 +574,7 @@ module _ {F S : Type 0} {gs : _} (seal : List ℕ → ℕ) (size : ℕ) (g : buf
                   (subst (λ (y : ℕ). Gives seal size spelling accepted (standing w r) (standing w (after_item size r)) (disk now) (disk now) r.section y v) (sym f.1) (given_item v f.2 f.3 t)));
               stops = λ t. tt;
               start = λ t p is. absurd (cc is);
+              damage = λ t x is. absurd (cc is);
               damaged = λ t k is. absurd (cc is);
               refused = λ t e is. absurd (cc is);
               ends = λ is. inl is;

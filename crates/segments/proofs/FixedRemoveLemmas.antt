@@ -13,6 +13,7 @@ use Rattle.segments.specs.Setting.{Setting}
 use Rattle.segments.specs.Sections.{key_of, IsKnown, IsGone, IsSame, IsKeyOf, SamePlace, IsOver}
 use Rattle.segments.specs.FixedLists.{Lists, IsJournal}
 use Rattle.segments.proofs.FixedSections.{is_held}
+use Rattle.segments.proofs.FixedWriteLemmas.{proven_back}
 
 same_number : (m n : ℕ) → m < 2 ^ 64 → n < 2 ^ 64 → to_be_bytes w64 m ≡ to_be_bytes w64 n → m ≡ n
 same_number m n fits fits' same = sym (from_be_bytes-to_be_bytes_8 m fits) ∙ ap (from_be_bytes w64) same ∙ from_be_bytes-to_be_bytes_8 n fits'
@@ -47,8 +48,8 @@ module _ {F S : Type 0} {gs : _} (g : buffer.Ghosts (PageBlob S gs)) (gives : F 
         absurd (omega (arith, same_number s q (numbers s known) (numbers q doomed.0) name, doomed.1, from))
 
     pub journal_pruned : SamePlace j.sections n.sections → n.sections.ceiling ≡ j.sections.ceiling → ((s : ℕ) → s < least → n.unrecovered s ≡ false) → ((s : ℕ) → least ≤ s → n.unrecovered s ≡ j.unrecovered s)
-        → (told → (q : Key) → (IsKeyOf j.sections (λ s. IsKnown j.sections s × (s < least)) q → ⊥) → e q ≡ d q) → IsJournal g gives seal size told n b e
-    journal_pruned place ceiling below unrecovered others = record {
+        → ((s : ℕ) → least ≤ s → n.floor_of s ≡ j.floor_of s) → (told → (q : Key) → (IsKeyOf j.sections (λ s. IsKnown j.sections s × (s < least)) q → ⊥) → e q ≡ d q) → IsJournal g gives seal size told n b e
+    journal_pruned place ceiling below unrecovered floors others = record {
       over = over;
       owes_held = record {
         held = λ s owes. elim (cases_lt s least) [
@@ -60,7 +61,7 @@ module _ {F S : Type 0} {gs : _} (g : buffer.Ghosts (PageBlob S gs)) (gives : F 
       disk = λ t. record {
         sealed = λ s u held checked. (let was = stayed s u held in
             let key : key_of n.sections s ≡ key_of j.sections s = ap (λ (p : List ℕ). (p, to_be_bytes w64 s)) place.partition in
-            subst (λ (x : Blob). IsSealed seal (shown u) x) (sym (ap e key ∙ others t (key_of j.sections s) (apart s u was.0 was.1))) ((is.disk t).sealed s u was.1 (sym (unrecovered s was.0) ∙ checked)));
+            subst (λ (x : Blob). IsSealed seal (shown u) x) (sym (ap e key ∙ others t (key_of j.sections s) (apart s u was.0 was.1))) ((is.disk t).sealed s u was.1 (proven_back j n s (unrecovered s was.0) (floors s was.0) checked)));
         whole = λ s u held checked. (let was = stayed s u held in (is.disk t).whole s u was.1 (sym (unrecovered s was.0) ∙ checked));
       };
       unopened = λ t. record {

@@ -1,5 +1,5 @@
 -- A replay of a fixed journal after some steps that gave nothing: what one more answers, from where the first began.
-use Rattle.std.specs.Prelude.{◌≡◌, ◌⊎◌, ℕ, ◌+◌, ◌*◌, ◌<◌, ◌≤◌, true, List, length, IsSomeAnd, Option, None, Some, Result, Ok, Err, OnOk, OnErr}
+use Rattle.std.specs.Prelude.{◌≡◌, ◌⊎◌, ℕ, ◌+◌, ◌*◌, ◌/◌, ◌<◌, ◌≤◌, true, List, length, IsSomeAnd, Option, None, Some, Result, Ok, Err, OnOk, OnErr}
 use Rattle.std.specs.Result.{IsErrOf}
 use Rattle.std.proofs.Common.{inl, inr, refl, sym, ◌∙◌, ap, subst, arith}
 use Rattle.blob_device.specs.Disk.{Key, Disk}
@@ -10,14 +10,15 @@ use Rattle.sealed_pages.specs.declared.page_blob.PageBlob.{PageBlob}
 use Rattle.value_codec.specs.declared.codec.Error as codec
 use Rattle.segments.specs.declared.buffer.SectionBuffer as buffer
 use Rattle.segments.specs.declared.journal.Error.{Error}
+use Rattle.segments.specs.declared.journal.Damage.{Damage}
 use Rattle.blob_device.specs.declared.runtime.RError.TheVariants.{InvalidChecksum}
-use Rattle.segments.specs.declared.journal.Error.TheVariants.{ItemOutOfRange, Runtime, Codec}
+use Rattle.segments.specs.declared.journal.Error.TheVariants.{ItemOutOfRange, Runtime, Codec, Corruption}
 use Rattle.segments.specs.Setting.{Setting}
 use Rattle.segments.specs.Sections.{section_key, key_of, IsHeld, IsKeyOf}
 use Rattle.segments.specs.FixedItems.{item_at, IsItem}
 use Rattle.segments.specs.Refusing.{HasFailed, HasDamage}
-use Rattle.segments.specs.FixedReading.{HasNotRead}
-use Rattle.segments.specs.FixedReplay.{Place, Walk, IsAhead, IsIn, IsLeft, IsDrained, SameWalk, IsWalk, Gives, Refuses, Stops, Replaying, kept_bytes}
+use Rattle.segments.specs.FixedReading.{HasNotRead, IsBelowFloor}
+use Rattle.segments.specs.FixedReplay.{Place, Walk, IsAhead, IsIn, IsLeft, IsDrained, SameWalk, IsWalk, Gives, Refuses, Stops, Replaying, EndsBelow, FindsDamage, kept_bytes}
 use Rattle.segments.specs.FixedStepping.{failing, reads_left, ReadsOnce, GoesOn, Carries, Steps}
 use Rattle.segments.proofs.FixedReading.{not_read_since, failed_since}
 use Rattle.segments.proofs.FixedWalks.{none_in}
@@ -68,7 +69,7 @@ module _ {F S : Type 0} {gs : _} (seal : List ℕ → ℕ) (size : ℕ) (g : buf
   running_start was = record {
     over = was;
     goes = record { failed = refl; ended = refl; held = λ s. (λ h. h, λ h. h); onward = λ s h. h };
-    same = record { bounds = record { place = record { partition = refl; factory = refl }; floor = refl; ceiling = refl }; unrecovered = λ s. refl; section = refl; position = refl };
+    same = record { bounds = record { place = record { partition = refl; factory = refl }; floor = refl; ceiling = refl }; unrecovered = λ s. refl; floors = λ s. refl; section = refl; position = refl };
     carries = λ t. record { left = λ s q. (λ l. l, λ l. l); kept = λ s h. refl; later = λ q x is. is };
     moments = λ t. always_start a (Each (Replaying seal size old (disk a))) (λ q. replaying_start seal size old (disk a) (was.disk t).sealed q);
     entries = λ q never. refl;
@@ -85,6 +86,7 @@ module _ {F S : Type 0} {gs : _} (seal : List ℕ → ℕ) (size : ℕ) (g : buf
         ceiling = more.bounds.ceiling ∙ run.same.bounds.ceiling;
       };
       unrecovered = λ s. more.unrecovered s ∙ run.same.unrecovered s;
+      floors = λ s. more.floors s ∙ run.same.floors s;
       section = more.section ∙ run.same.section;
       position = more.position ∙ run.same.position;
     }
@@ -184,8 +186,15 @@ module _ {F S : Type 0} {gs : _} (seal : List ℕ → ℕ) (size : ℕ) (g : buf
         ];
       }
 
-      pub damaged_after : (x : Error) → result ≡ Err x → told → (k : ℕ) → x ≡ Runtime (InvalidChecksum k) → ⊥
-      damaged_after x is t k same = step.damaged t k (is ∙ ap Err same)
+      pub damaged_after : (x : Error) → result ≡ Err x → told → (k : ℕ) → x ≡ Runtime (InvalidChecksum k) → FindsDamage seal size old (failing new) (disk c) k
+      damaged_after x is t k same = (let has = step.damaged t k (is ∙ ap Err same) in record {
+        section = has.section;
+        position = has.position;
+        near = run.goes.onward has.section has.near;
+        free = has.free;
+        floor = has.floor;
+        page = has.page;
+      })
 
       pub refused_after : (x : Error) → result ≡ Err x → told → (e : codec.Error) → x ≡ Codec e → Refuses seal size refusal old (failing new) (disk a) (disk c) e
       refused_after x is t e same = let has = step.refused t e (is ∙ ap Err same) in let run_left = (run.carries t).left in record {
@@ -201,11 +210,11 @@ module _ {F S : Type 0} {gs : _} (seal : List ℕ → ℕ) (size : ℕ) (g : buf
       }
 
       -- what ended the replay
-      pub ends_after : (x : Error) → result ≡ Err x → new.ended ≡ true → (old.ended ≡ true) ⊎ (HasDamage {T = V} (Err x) ⊎ HasFailed {T = V} (Err x) few many)
+      pub ends_after : (x : Error) → result ≡ Err x → new.ended ≡ true → (old.ended ≡ true) ⊎ ((HasDamage {T = V} (Err x) × (told → ⊥)) ⊎ HasFailed {T = V} (Err x) few many)
       ends_after x is ended = elim (step.ends ended) [
         | inl end ↦ inl (sym run.goes.ended ∙ end)
         | inr has ↦ inr (elim has [
-          | inl page ↦ (let at = page.1 in inl (page.0, cc (at, is)))
+          | inl page ↦ (let at = page.0.1 in inl ((page.0.0, cc (at, is)), page.1))
           | inr failed ↦ inr (elim (failed_since result few some many run.faults failed) [ inl mem ↦ inl (cc (mem, is)) | inr fault ↦ (let at = fault.0 in inr (cc (at, is), fault.1)) ])
         ])
       ]
@@ -217,8 +226,22 @@ module _ {F S : Type 0} {gs : _} (seal : List ℕ → ℕ) (size : ℕ) (g : buf
           let there : length (kept_bytes seal size old (disk a) now.start_section) < p * size = subst (λ (bytes : List ℕ). length bytes < p * size) same has.1 in
           (has.0 ∙ run.same.position, subst (λ (k : ℕ). length (kept_bytes seal size old (disk a) k) < p * size) run.same.section there)
 
-      pub cause_after : (x : Error) → result ≡ Err x → (x ≡ ItemOutOfRange old.start_position) ⊎ HasNotRead {T = V} (Err x) few many
+      pub damage_after : told → (x : Damage) → IsErrOf result (Corruption x) → EndsBelow seal size old (disk a) x × (IsAhead old x.section ⊎ IsIn old x.section)
+      damage_after t x is =
+          let has = step.damage t x is in
+          let same = (run.carries t).kept x.section has.1 in (
+            record {
+              owes = sym (run.same.unrecovered x.section) ∙ has.0.owes;
+              kept = subst (λ (bytes : List ℕ). x.kept ≡ length bytes / size * size) same has.0.kept;
+              wanted = has.0.wanted ∙ run.same.floors x.section;
+              less = has.0.less;
+            },
+            run.goes.onward x.section has.1,
+          )
+
+      pub cause_after : (x : Error) → result ≡ Err x → (x ≡ ItemOutOfRange old.start_position) ⊎ (IsBelowFloor {T = V} (Err x) ⊎ HasNotRead {T = V} (Err x) few many)
       cause_after x is = elim (err_at result x is step.cause) [
         | inl start ↦ (let same = run.same.position in inl (cc (start, is, same)))
-        | inr failed ↦ inr (other_result result x is few many (not_read_since result few some many run.faults failed))
+        | inr (inl below) ↦ (let at = below.1 in inr (inl (below.0, cc (at, is))))
+        | inr (inr failed) ↦ inr (inr (other_result result x is few many (not_read_since result few some many run.faults failed)))
       ]

@@ -11,19 +11,29 @@ use Rattle.sealed_pages.specs.Buffer.{size_of}
 use Rattle.value_codec.specs.declared.codec.Error as codec
 use Rattle.segments.specs.declared.buffer.SectionBuffer as buffer
 use Rattle.segments.specs.declared.journal.Error.{Error}
+use Rattle.segments.specs.declared.journal.Damage.{Damage}
 use Rattle.blob_device.specs.declared.runtime.RError.TheVariants.{InvalidChecksum}
-use Rattle.segments.specs.declared.journal.Error.TheVariants.{ItemOutOfRange, Runtime, Codec}
+use Rattle.segments.specs.declared.journal.Error.TheVariants.{ItemOutOfRange, Runtime, Codec, Corruption}
 use Rattle.segments.specs.Setting.{Setting}
 use Rattle.segments.specs.Sections.{key_of, IsHeld, IsKeyOf, IsOver}
 use Rattle.segments.specs.Refusing.{HasFailed, HasDamage}
-use Rattle.segments.specs.FixedReading.{HasNotRead}
-use Rattle.segments.specs.FixedReplay.{Place, Walk, IsAhead, IsIn, IsLeft, IsWalk, Refuses, Replaying, kept_bytes}
+use Rattle.segments.specs.FixedReading.{HasNotRead, IsBelowFloor}
+use Rattle.segments.specs.FixedReplay.{Place, Walk, IsAhead, IsIn, IsLeft, IsWalk, Refuses, Replaying, EndsBelow, FindsDamage, kept_bytes}
 use Rattle.segments.specs.FixedStepping.{word, sections_ahead, bytes_ahead, way_of, reads_left, ReadsOnce, GoesOn, Steps}
 use Rattle.segments.proofs.KeyLemmas.{keys_differ}
 use Rattle.segments.proofs.FixedCounts.{count_other, count_over}
 use Rattle.segments.proofs.FixedKept.{short_item}
 use Rattle.segments.proofs.FixedWalks.{OnlyOne, IsBehind, IsReached, is_some, none_in, key_new, blob_other, held_back, held_on, kept_other, not_ahead, not_near, left_later, left_all}
 use Rattle.segments.proofs.FixedWalksOn.{walk_broken, IsKnownAgain, walk_on, walk_refused}
+
+-- an error of a reading is none of a floor
+pub not_below : {T : Type 0} (x : Error) (few many : ℕ) → HasNotRead {T = T} (Err x) few many → (y : Damage) → x ≡ Corruption y → ⊥
+not_below x few many has y is = elim has [
+  | inl page ↦ (let at = page.1 in absurd (cc (at, is)))
+  | inr (inl code) ↦ (let at = code.1 in absurd (cc (at, is)))
+  | inr (inr (inl mem)) ↦ absurd (cc (mem, is))
+  | inr (inr (inr fault)) ↦ (let at = fault.0 in absurd (cc (at, is)))
+]
 
 module _ {F S V : Type 0} {gs : _} (seal : List ℕ → ℕ) (size : ℕ) (g : buffer.Ghosts (PageBlob S gs)) (gives : F → Setting) (spelling : V → List ℕ) (accepted : V → Unit {0} → Type 0) (refusal : List ℕ → Unit {0} → Option codec.Error) (told : Type 0)
     (s : ℕ) (old new : Walk F (PageBlob S gs)) (before after : OpenedList) (a b : Timeline) (few many : ℕ) where
@@ -48,11 +58,14 @@ module _ {F S V : Type 0} {gs : _} (seal : List ℕ → ℕ) (size : ℕ) (g : b
     ahead_back t small ahead = ((call.behind.ahead t small).0 ahead).0
 
     -- An error was answered; the section may be lost.
-    pub call_failed : (x : Error) → (new.journal.sections.held s ≡ None) ⊎ ((new.journal.sections.held s ≡ old.journal.sections.held s) × (b ≡ a)) → new.place ≡ None
-        → ((t : ℕ) → IsAhead new t → IsAhead old t) → ((new.ended ≡ true) × (HasDamage {T = Option (ℕ × ℕ × V)} (Err x) ⊎ HasFailed {T = Option (ℕ × ℕ × V)} (Err x) few many)) ⊎ (new.ended ≡ old.ended) → ((p : ℕ) → x ≡ ItemOutOfRange p → ⊥)
-        → (told → (k : ℕ) → x ≡ Runtime (InvalidChecksum k) → ⊥) → (told → (e : codec.Error) → x ≡ Codec e → Refuses seal size refusal old new (disk a) (disk b) e) → HasNotRead {T = Option (ℕ × ℕ × V)} (Err x) few many
+    pub call_stopped : (x : Error) → (new.journal.sections.held s ≡ None) ⊎ ((new.journal.sections.held s ≡ old.journal.sections.held s) × (b ≡ a)) → new.place ≡ None
+        → ((t : ℕ) → IsAhead new t → IsAhead old t)
+        → ((new.ended ≡ true) × ((HasDamage {T = Option (ℕ × ℕ × V)} (Err x) × (told → ⊥)) ⊎ HasFailed {T = Option (ℕ × ℕ × V)} (Err x) few many)) ⊎ (new.ended ≡ old.ended) → ((p : ℕ) → x ≡ ItemOutOfRange p → ⊥)
+        → (told → (y : Damage) → x ≡ Corruption y → EndsBelow seal size old (disk a) y × (IsAhead old y.section ⊎ IsIn old y.section))
+        → (told → (k : ℕ) → x ≡ Runtime (InvalidChecksum k) → FindsDamage seal size old new (disk b) k) → (told → (e : codec.Error) → x ≡ Codec e → Refuses seal size refusal old new (disk a) (disk b) e)
+        → IsBelowFloor {T = Option (ℕ × ℕ × V)} (Err x) ⊎ HasNotRead {T = Option (ℕ × ℕ × V)} (Err x) few many
         → Steps seal size g gives spelling accepted refusal told (Err x) old new before after a b few many
-    call_failed x lost none onward ended other sound refuses cause = record {
+    call_stopped x lost none onward ended other below found refuses cause = record {
       over = tt;
       broken = walk_broken seal size g gives old new before after (disk a) (disk b) call.was call.over call.one.same kept none onward call.from;
       goes = tt;
@@ -67,7 +80,8 @@ module _ {F S V : Type 0} {gs : _} (seal : List ℕ → ℕ) (size : ℕ) (g : b
         ];
       };
       start = λ t p is. absurd (other p (cc is));
-      damaged = λ t k is. sound t k (cc is);
+      damage = λ t y is. below t y (cc is);
+      damaged = λ t k is. found t k (cc is);
       refused = λ t e is. refuses t e (cc is);
       ends = λ is. elim ended [ inl end ↦ inr end.1 | inr going ↦ inl (sym going ∙ is) ];
       moments = call.moments;
@@ -92,6 +106,14 @@ module _ {F S V : Type 0} {gs : _} (seal : List ℕ → ℕ) (size : ℕ) (g : b
               let held_old : old.journal.sections.held q ≡ Some u = sym (call.one.others q apart).held ∙ held in
               (held_old, λ t. blob_other seal size s old new (disk a) (disk b) call.one t q apart (is_some (old.journal.sections.held q) u held_old))
         ]
+
+    -- It says nothing of a floor.
+    pub call_failed : (x : Error) → (new.journal.sections.held s ≡ None) ⊎ ((new.journal.sections.held s ≡ old.journal.sections.held s) × (b ≡ a)) → new.place ≡ None
+        → ((t : ℕ) → IsAhead new t → IsAhead old t)
+        → ((new.ended ≡ true) × ((HasDamage {T = Option (ℕ × ℕ × V)} (Err x) × (told → ⊥)) ⊎ HasFailed {T = Option (ℕ × ℕ × V)} (Err x) few many)) ⊎ (new.ended ≡ old.ended) → ((p : ℕ) → x ≡ ItemOutOfRange p → ⊥)
+        → (told → (k : ℕ) → x ≡ Runtime (InvalidChecksum k) → FindsDamage seal size old new (disk b) k) → (told → (e : codec.Error) → x ≡ Codec e → Refuses seal size refusal old new (disk a) (disk b) e)
+        → HasNotRead {T = Option (ℕ × ℕ × V)} (Err x) few many → Steps seal size g gives spelling accepted refusal told (Err x) old new before after a b few many
+    call_failed x lost none onward ended other found refuses cause = call_stopped x lost none onward ended other (λ t y is. absurd (not_below x few many cause y is)) found refuses (inr cause)
 
     -- The call succeeded, and the section is held again.
     pub record Answered (v : PageBlob S gs) : Type 0 where
@@ -138,6 +160,7 @@ module _ {F S V : Type 0} {gs : _} (seal : List ℕ → ℕ) (size : ℕ) (g : b
         item = λ t q p w is. absurd (cc is);
         stops = λ t. tt;
         start = λ t p is. absurd (cc is);
+        damage = λ t y is. absurd (cc is);
         damaged = λ t k is. absurd (cc is);
         refused = λ t e is. absurd (cc is);
         ends = λ is. inl (sym answer.ended ∙ is);
@@ -206,6 +229,7 @@ module _ {F S V : Type 0} {gs : _} (seal : List ℕ → ℕ) (size : ℕ) (g : b
                 subst (λ (n : ℕ). length (kept_bytes seal size old (disk a) old.start_section) < n * size) (sym at) there),
             subst (λ (k : ℕ). IsAhead old k ⊎ IsIn old k) first (inr near),
           );
+          damage = λ t y is. absurd (cc is);
           damaged = λ t k is. absurd (cc is);
           refused = λ t e is. absurd (cc is);
           ends = λ is. inl (sym answer.ended ∙ is);

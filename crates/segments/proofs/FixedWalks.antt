@@ -9,7 +9,8 @@ use Rattle.sealed_pages.specs.Buffer.{bytes_of}
 use Rattle.sealed_pages.specs.ChanceSeal.{Leaves}
 use Rattle.sealed_pages.specs.SealedPrefix.{sealed_prefix}
 use Rattle.segments.specs.Sections.{section_key, key_of, IsHeld, IsKeyOf, IsSame}
-use Rattle.segments.specs.FixedReplay.{Place, Walk, IsAhead, IsIn, IsLeft, first_of, kept_of, kept_bytes, SameWalk, Replaying}
+use Rattle.segments.specs.FixedLists.{IsProven}
+use Rattle.segments.specs.FixedReplay.{Place, Walk, IsAhead, IsIn, IsReadWhole, IsLeft, first_of, kept_of, kept_bytes, SameWalk, Replaying}
 use Rattle.segments.proofs.KeyLemmas.{keys_differ}
 
 pub some_of : {A : Type 0} → (o : Option A) → IsSome o → (v : A) × (o ≡ Some v)
@@ -26,9 +27,11 @@ pub none_in : {A : Type 0} → (o : Option A) (P : A → Type 0) → o ≡ None 
 none_in None P is has = has
 none_in (Some v) P is has = cc is
 
--- of a section that owes a replay a crash may leave this: it is as before, or has a prefix of its sealed prefix with all whole items of it
-abbrev pub MayCut : {S : Type 0} {gs : _} → (List ℕ → ℕ) → ℕ → PageBlob S gs → Blob → Blob → Type 0
-MayCut seal size u from b = (b ≡ from) ⊎ Leaves seal u.page_size (sealed_prefix seal u.page_size from.content) (length (sealed_prefix seal u.page_size from.content) / size * size) b
+-- Of a section that owes a replay a crash may leave this: it is as before, or has a prefix of its sealed prefix with all whole items of it,
+-- and these reach its floor.
+abbrev pub MayCut : {S : Type 0} {gs : _} → (List ℕ → ℕ) → ℕ → PageBlob S gs → ℕ → Blob → Blob → Type 0
+MayCut seal size u floor from b = (b ≡ from)
+    ⊎ ((floor ≤ length (sealed_prefix seal u.page_size from.content) / size * size) × Leaves seal u.page_size (sealed_prefix seal u.page_size from.content) (length (sealed_prefix seal u.page_size from.content) / size * size) b)
 
 module _ {F S : Type 0} {gs : _} (seal : List ℕ → ℕ) (size : ℕ) where
   -- Nothing changed but the section s and its blob.
@@ -77,6 +80,12 @@ module _ {F S : Type 0} {gs : _} (seal : List ℕ → ℕ) (size : ℕ) where
         go (Some u) is =
             let there = blob_other t q other (is_some (old.journal.sections.held q) u is) in
             λ i. kept_of seal (one.same.unrecovered q i) ((one.others q other).held i) (there i).content
+
+    pub proven_on : (t : ℕ) → IsProven old.journal t → IsProven new.journal t
+    proven_on t is = record { checked = one.same.unrecovered t ∙ is.checked; free = one.same.floors t ∙ is.free }
+
+    pub reads_back : (t : ℕ) → IsReadWhole new t → IsReadWhole old t
+    reads_back t is = elim is [ inl owed ↦ inl (subst IsTrue (one.same.unrecovered t) owed) | inr first ↦ inr (sym (first_same t) ∙ first) ]
 
     pub ahead_number : (t : ℕ) → IsHeld new.journal.sections t → t < 2 ^ 64
     ahead_number t held = elim (cases_eq t s) [
@@ -149,40 +158,41 @@ module _ {F S : Type 0} {gs : _} (seal : List ℕ → ℕ) (size : ℕ) where
     -- what a later call leaves, this one's replay may leave too
     pub later_one : told → IsReached s old → ((t : ℕ) → IsAhead new t ⊎ IsIn new t → IsAhead old t ⊎ IsIn old t)
         → (v : PageBlob S gs) → new.journal.sections.held s ≡ Some v
-        → ((u : PageBlob S gs) → old.journal.sections.held s ≡ Some u → old.journal.unrecovered s ≡ false → (b : Blob)
+        → ((u : PageBlob S gs) → old.journal.sections.held s ≡ Some u → IsProven old.journal s → (b : Blob)
         → Leaves seal v.page_size (bytes_of (shown v) (e (key_of old.journal.sections s)).content) v.settled b → Leaves seal u.page_size (bytes_of (shown u) (d (key_of old.journal.sections s)).content) u.settled b)
-        → ((u : PageBlob S gs) → old.journal.sections.held s ≡ Some u → IsTrue (old.journal.unrecovered s) → (b : Blob) → MayCut seal size v (e (key_of old.journal.sections s)) b → MayCut seal size u (d (key_of old.journal.sections s)) b)
+        → ((u : PageBlob S gs) → old.journal.sections.held s ≡ Some u → IsTrue (old.journal.unrecovered s) → (b : Blob) → MayCut seal size v (old.journal.floor_of s) (e (key_of old.journal.sections s)) b → MayCut seal size u (old.journal.floor_of s) (d (key_of old.journal.sections s)) b)
         → (q : Key) (b : Blob) → Replaying seal size new e q b → Replaying seal size old d q b
     later_one tells reached onward v held flush cuts q b rep = record { flushed = flushed; cut = cut; others = others }
       where
-        flushed : (t : ℕ) (u : PageBlob S gs) → old.journal.sections.held t ≡ Some u → old.journal.unrecovered t ≡ false → q ≡ key_of old.journal.sections t
+        flushed : (t : ℕ) (u : PageBlob S gs) → old.journal.sections.held t ≡ Some u → IsProven old.journal t → q ≡ key_of old.journal.sections t
             → Leaves seal u.page_size (bytes_of (shown u) (d q).content) u.settled b
         flushed t u is free here = elim (cases_eq t s) [
           | inl at ↦
               let key : q ≡ key_of old.journal.sections s = here ∙ ap (key_of old.journal.sections) at in
-              let free_s : old.journal.unrecovered s ≡ false = subst (λ (k : ℕ). old.journal.unrecovered k ≡ false) at free in
+              let free_s : IsProven old.journal s = subst (IsProven old.journal) at free in
               let after : Leaves seal v.page_size (bytes_of (shown v) (e (key_of old.journal.sections s)).content) v.settled b =
-              subst (λ (k : Key). Leaves seal v.page_size (bytes_of (shown v) (e k).content) v.settled b) key (rep.flushed s v held (one.same.unrecovered s ∙ free_s) (key ∙ sym (key_new s))) in
+              subst (λ (k : Key). Leaves seal v.page_size (bytes_of (shown v) (e k).content) v.settled b) key (rep.flushed s v held (proven_on s free_s) (key ∙ sym (key_new s))) in
               subst (λ (k : Key). Leaves seal u.page_size (bytes_of (shown u) (d k).content) u.settled b) (sym key)
               (flush u (subst (λ (k : ℕ). old.journal.sections.held k ≡ Some u) at is) free_s b after)
           | inr other ↦
               let same : e q ≡ d q = ap e here ∙ sym (ap e (key_new t)) ∙ blob_other tells t other (is_some (old.journal.sections.held t) u is) ∙ sym (ap d here) in
               subst (λ (x : Blob). Leaves seal u.page_size (bytes_of (shown u) x.content) u.settled b) same
-              (rep.flushed t u ((one.others t other).held ∙ is) (one.same.unrecovered t ∙ free) (here ∙ sym (key_new t)))
+              (rep.flushed t u ((one.others t other).held ∙ is) (proven_on t free) (here ∙ sym (key_new t)))
         ]
 
-        cut : (t : ℕ) (u : PageBlob S gs) → old.journal.sections.held t ≡ Some u → IsTrue (old.journal.unrecovered t) → q ≡ key_of old.journal.sections t → MayCut seal size u (d q) b
+        cut : (t : ℕ) (u : PageBlob S gs) → old.journal.sections.held t ≡ Some u → IsTrue (old.journal.unrecovered t) → q ≡ key_of old.journal.sections t → MayCut seal size u (old.journal.floor_of t) (d q) b
         cut t u is owed here = elim (cases_eq t s) [
           | inl at ↦
               let key : q ≡ key_of old.journal.sections s = here ∙ ap (key_of old.journal.sections) at in
               let owed_s : IsTrue (old.journal.unrecovered s) = subst (λ (k : ℕ). IsTrue (old.journal.unrecovered k)) at owed in
-              let after : MayCut seal size v (e (key_of old.journal.sections s)) b =
-              subst (λ (k : Key). MayCut seal size v (e k) b) key (rep.cut s v held (subst IsTrue (sym (one.same.unrecovered s)) owed_s) (key ∙ sym (key_new s))) in
-              subst (λ (k : Key). MayCut seal size u (d k) b) (sym key) (cuts u (subst (λ (k : ℕ). old.journal.sections.held k ≡ Some u) at is) owed_s b after)
+              let after : MayCut seal size v (old.journal.floor_of s) (e (key_of old.journal.sections s)) b =
+              subst (λ (n : ℕ). MayCut seal size v n (e (key_of old.journal.sections s)) b) (one.same.floors s)
+              (subst (λ (k : Key). MayCut seal size v (new.journal.floor_of s) (e k) b) key (rep.cut s v held (subst IsTrue (sym (one.same.unrecovered s)) owed_s) (key ∙ sym (key_new s)))) in
+              subst (λ (k : ℕ). MayCut seal size u (old.journal.floor_of k) (d q) b) (sym at) (subst (λ (k : Key). MayCut seal size u (old.journal.floor_of s) (d k) b) (sym key) (cuts u (subst (λ (k : ℕ). old.journal.sections.held k ≡ Some u) at is) owed_s b after))
           | inr other ↦
               let same : e q ≡ d q = ap e here ∙ sym (ap e (key_new t)) ∙ blob_other tells t other (is_some (old.journal.sections.held t) u is) ∙ sym (ap d here) in
-              subst (λ (x : Blob). MayCut seal size u x b) same
-              (rep.cut t u ((one.others t other).held ∙ is) (subst IsTrue (sym (one.same.unrecovered t)) owed) (here ∙ sym (key_new t)))
+              subst (λ (n : ℕ). MayCut seal size u n (d q) b) (one.same.floors t) (subst (λ (x : Blob). MayCut seal size u (new.journal.floor_of t) x b) same
+              (rep.cut t u ((one.others t other).held ∙ is) (subst IsTrue (sym (one.same.unrecovered t)) owed) (here ∙ sym (key_new t))))
         ]
 
         held_new : (t : ℕ) → IsHeld new.journal.sections t → IsHeld old.journal.sections t

@@ -15,11 +15,12 @@ use Rattle.sealed_pages.proofs.Holding.{holds_leaves}
 use Rattle.segments.specs.declared.buffer.SectionBuffer as buffer
 use Rattle.segments.specs.Setting.{Setting}
 use Rattle.segments.specs.Sections.{key_of, IsHeld, IsOver}
-use Rattle.segments.specs.FixedLists.{AreSealed}
-use Rattle.segments.specs.FixedReplay.{Place, Walk, IsAhead, IsIn, SameWalk, StandsIn, ReadsIn, IsGoneOver, HasWalk, WalksOver, IsWalk, Replaying}
+use Rattle.segments.specs.FixedLists.{AreSealed, IsProven}
+use Rattle.segments.specs.FixedReplay.{Place, Walk, IsAhead, IsIn, IsReadWhole, SameWalk, StandsIn, ReadsIn, IsGoneOver, HasWalk, WalksOver, IsWalk, Replaying}
 use Rattle.segments.specs.FixedStepping.{failing}
 use Rattle.segments.proofs.KeyLemmas.{key_injective}
-use Rattle.segments.proofs.FixedWalks.{OnlyOne, IsBehind, IsReached, MayCut, is_some, same_some, none_in, blob_other, held_on}
+use Rattle.segments.proofs.FixedWalks.{OnlyOne, IsBehind, IsReached, MayCut, is_some, same_some, none_in, blob_other, held_on, reads_back}
+use Rattle.segments.proofs.FixedWriteLemmas.{proven_back}
 
 module _ {F S : Type 0} {gs : _} (seal : List ℕ → ℕ) (size : ℕ) where
   module _ (old : Walk F (PageBlob S gs)) (d : Disk) where
@@ -36,14 +37,15 @@ module _ {F S : Type 0} {gs : _} (seal : List ℕ → ℕ) (size : ℕ) where
     module _ (s : ℕ) (small : s < 2 ^ 64) (numbers : (q : ℕ) → IsHeld old.journal.sections q → q < 2 ^ 64) (reached : IsReached seal size s old) where
       -- the blob of the section that changes
       pub replaying_here : (b : Blob)
-          → ((u : PageBlob S gs) → old.journal.sections.held s ≡ Some u → old.journal.unrecovered s ≡ false → Leaves seal u.page_size (bytes_of (shown u) (d (key_of old.journal.sections s)).content) u.settled b)
-          → ((u : PageBlob S gs) → old.journal.sections.held s ≡ Some u → IsTrue (old.journal.unrecovered s) → MayCut seal size u (d (key_of old.journal.sections s)) b)
+          → ((u : PageBlob S gs) → old.journal.sections.held s ≡ Some u → IsProven old.journal s → Leaves seal u.page_size (bytes_of (shown u) (d (key_of old.journal.sections s)).content) u.settled b)
+          → ((u : PageBlob S gs) → old.journal.sections.held s ≡ Some u → IsTrue (old.journal.unrecovered s) → MayCut seal size u (old.journal.floor_of s) (d (key_of old.journal.sections s)) b)
           → Replaying seal size old d (key_of old.journal.sections s) b
       replaying_here b flush cuts = record {
         flushed = λ t u is free here. (let at = number t u is here in
-            flush u (subst (λ (k : ℕ). old.journal.sections.held k ≡ Some u) at is) (subst (λ (k : ℕ). old.journal.unrecovered k ≡ false) at free));
+            flush u (subst (λ (k : ℕ). old.journal.sections.held k ≡ Some u) at is) (subst (IsProven old.journal) at free));
         cut = λ t u is owed here. (let at = number t u is here in
-            cuts u (subst (λ (k : ℕ). old.journal.sections.held k ≡ Some u) at is) (subst (λ (k : ℕ). IsTrue (old.journal.unrecovered k)) at owed));
+            subst (λ (k : ℕ). MayCut seal size u (old.journal.floor_of k) (d (key_of old.journal.sections s)) b) (sym at)
+            (cuts u (subst (λ (k : ℕ). old.journal.sections.held k ≡ Some u) at is) (subst (λ (k : ℕ). IsTrue (old.journal.unrecovered k)) at owed)));
         others = λ not. absurd (not (s, (reached.held, reached.near), refl));
       }
         where
@@ -90,7 +92,7 @@ module _ {F S : Type 0} {gs : _} (seal : List ℕ → ℕ) (size : ℕ) where
         walks : told → WalksOver seal size (failing new) e
         walks tells = record {
           sealed = record {
-            sealed = λ q u held free. subst (IsSealed seal (shown u)) (sym ((kept q u held).1 tells)) ((was.disk tells).sealed.sealed q u (kept q u held).0 (sym (same.unrecovered q) ∙ free));
+            sealed = λ q u held free. subst (IsSealed seal (shown u)) (sym ((kept q u held).1 tells)) ((was.disk tells).sealed.sealed q u (kept q u held).0 (proven_back old.journal new.journal q (same.unrecovered q) (same.floors q) free));
             whole = λ q u held free. (was.disk tells).sealed.whole q u (kept q u held).0 (sym (same.unrecovered q) ∙ free);
           };
           gone_over = λ no. absurd (cc no);
@@ -103,8 +105,9 @@ module _ {F S : Type 0} {gs : _} (seal : List ℕ → ℕ) (size : ℕ) where
       pub held : new.journal.sections.held s ≡ Some v
       pub not_ahead : IsAhead new s → ⊥
       pub settled : IsTrue (old.journal.unrecovered s) → v.settled ≡ size_of (shown v)
-      pub sealed : told → old.journal.unrecovered s ≡ false → IsSealed seal (shown v) (e (key_of new.journal.sections s)) × (size_of (shown v) % size ≡ 0)
-      pub gone_over : told → (IsIn new s → ⊥) → IsSealed seal (shown v) (e (key_of new.journal.sections s)) × (size_of (shown v) % size ≡ 0)
+      pub sealed : told → IsProven old.journal s → IsSealed seal (shown v) (e (key_of new.journal.sections s))
+      pub whole : told → old.journal.unrecovered s ≡ false → size_of (shown v) % size ≡ 0
+      pub gone_over : told → (IsIn new s → ⊥) → IsReadWhole old s → IsSealed seal (shown v) (e (key_of new.journal.sections s)) × (size_of (shown v) % size ≡ 0)
       pub place : (r : Place) → new.place ≡ Some r → (r.section ≡ s) × StandsIn size new r v × (told → ReadsIn seal new e r v)
       pub begun : IsIn new s → new.start_section ≤ s
 
@@ -144,13 +147,23 @@ module _ {F S : Type 0} {gs : _} (seal : List ℕ → ℕ) (size : ℕ) where
           subst (λ (k : ℕ). IsSealed seal (shown u) (e (key_of new.journal.sections k)) × (size_of (shown u) % size ≡ 0)) (sym at)
           (subst (λ (x : PageBlob S gs). IsSealed seal (shown x) (e (key_of new.journal.sections s)) × (size_of (shown x) % size ≡ 0)) (sym (same_v q u at held)) has)
 
-      sound : told → (q : ℕ) (u : PageBlob S gs) → new.journal.sections.held q ≡ Some u → new.journal.unrecovered q ≡ false → IsSealed seal (shown u) (e (key_of new.journal.sections q)) × (size_of (shown u) % size ≡ 0)
-      sound tells q u held free = elim (cases_eq q s) [
-        | inl at ↦ from_v q u at held (again.sealed tells (subst (λ (k : ℕ). old.journal.unrecovered k ≡ false) at (sym (one.same.unrecovered q) ∙ free)))
-        | inr other ↦
-            let held_old : old.journal.sections.held q ≡ Some u = sym (one.others q other).held ∙ held in
-            let free_old : old.journal.unrecovered q ≡ false = sym (one.same.unrecovered q) ∙ free in
-            (subst (IsSealed seal (shown u)) (sym (blob_same tells q u other held_old)) ((was.disk tells).sealed.sealed q u held_old free_old), (was.disk tells).sealed.whole q u held_old free_old)
+      sealed_still : told → (q : ℕ) (u : PageBlob S gs) → new.journal.sections.held q ≡ Some u → IsProven new.journal q → IsSealed seal (shown u) (e (key_of new.journal.sections q))
+      sealed_still tells q u held proven =
+          let proven_old : IsProven old.journal q = proven_back old.journal new.journal q (one.same.unrecovered q) (one.same.floors q) proven in
+          elim (cases_eq q s) [
+            | inl at ↦
+                let proven_s : IsProven old.journal s = subst (IsProven old.journal) at proven_old in
+                let checked : old.journal.unrecovered s ≡ false = proven_s.checked in
+                (from_v q u at held (again.sealed tells proven_s, again.whole tells checked)).0
+            | inr other ↦
+                let held_old : old.journal.sections.held q ≡ Some u = sym (one.others q other).held ∙ held in
+                subst (IsSealed seal (shown u)) (sym (blob_same tells q u other held_old)) ((was.disk tells).sealed.sealed q u held_old proven_old)
+          ]
+
+      whole_still : told → (q : ℕ) (u : PageBlob S gs) → new.journal.sections.held q ≡ Some u → new.journal.unrecovered q ≡ false → size_of (shown u) % size ≡ 0
+      whole_still tells q u held free = elim (cases_eq q s) [
+        | inl at ↦ subst (λ (x : PageBlob S gs). size_of (shown x) % size ≡ 0) (sym (same_v q u at held)) (again.whole tells (subst (λ (k : ℕ). old.journal.unrecovered k ≡ false) at (sym (one.same.unrecovered q) ∙ free)))
+        | inr other ↦ (was.disk tells).sealed.whole q u (sym (one.others q other).held ∙ held) (sym (one.same.unrecovered q) ∙ free)
       ]
 
       gone_old : (q : ℕ) → q ≢ s → IsHeld old.journal.sections q → IsGoneOver new q → IsGoneOver old q
@@ -175,7 +188,7 @@ module _ {F S : Type 0} {gs : _} (seal : List ℕ → ℕ) (size : ℕ) where
           ends = λ is. refl;
         };
         disk = λ tells. record {
-          sealed = record { sealed = λ q u held free. (sound tells q u held free).0; whole = λ q u held free. (sound tells q u held free).1 };
+          sealed = record { sealed = sealed_still tells; whole = whole_still tells };
           gone_over = λ no. absurd (cc no);
           unopened = λ no. absurd (cc no);
           place = λ r is. absurd (cc (none, is));
@@ -219,20 +232,20 @@ module _ {F S : Type 0} {gs : _} (seal : List ℕ → ℕ) (size : ℕ) where
 
           walks : told → WalksOver seal size new e
           walks tells = record {
-            sealed = record { sealed = λ q u held free. (sound tells q u held free).0; whole = λ q u held free. (sound tells q u held free).1 };
+            sealed = record { sealed = sealed_still tells; whole = whole_still tells };
             gone_over = gone;
             unopened = λ fine. record { later = later fine };
             place = λ r is. subst (λ (o : Option (PageBlob S gs)). IsSomeAnd o (ReadsIn seal new e r)) (sym (ap new.journal.sections.held (again.place r is).0 ∙ again.held)) ((again.place r is).2 tells);
           }
             where
-              gone : new.failed ≡ false → (q : ℕ) (u : PageBlob S gs) → new.journal.sections.held q ≡ Some u → IsGoneOver new q → IsSealed seal (shown u) (e (key_of new.journal.sections q)) × (size_of (shown u) % size ≡ 0)
-              gone fine q u held over_it = elim (cases_eq q s) [
-                | inl at ↦ from_v q u at held (again.gone_over tells (λ is. over_it.not_in (subst (IsIn new) (sym at) is)))
+              gone : new.failed ≡ false → (q : ℕ) (u : PageBlob S gs) → new.journal.sections.held q ≡ Some u → IsGoneOver new q → IsReadWhole new q → IsSealed seal (shown u) (e (key_of new.journal.sections q)) × (size_of (shown u) % size ≡ 0)
+              gone fine q u held over_it read = elim (cases_eq q s) [
+                | inl at ↦ from_v q u at held (again.gone_over tells (λ is. over_it.not_in (subst (IsIn new) (sym at) is)) (subst (IsReadWhole old) at (reads_back seal size s old new d e one q read)))
                 | inr other ↦
                     let held_old : old.journal.sections.held q ≡ Some u = sym (one.others q other).held ∙ held in
                     let is_held : IsHeld old.journal.sections q = is_some (old.journal.sections.held q) u held_old in
                     let over_old : IsGoneOver old q = gone_old q other is_held over_it in
-                    let has = (was.disk tells).gone_over (sym failed ∙ fine) q u held_old over_old in
+                    let has = (was.disk tells).gone_over (sym failed ∙ fine) q u held_old over_old (reads_back seal size s old new d e one q read) in
                     (subst (IsSealed seal (shown u)) (sym (blob_same tells q u other held_old)) has.0, has.1)
               ]
 

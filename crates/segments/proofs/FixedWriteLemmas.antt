@@ -1,6 +1,6 @@
 -- What a fixed journal keeps of one section, and what syncs of a fixed journal make of it and leave of its blobs.
 use Rattle.std.proofs.Common.{◌≡◌, ◌⊎◌, inl, inr, ℕ, ◌%◌, ◌<◌, ◌==◌, ◌^◌, not, Bool, true, false, List, Option, None, Some, IsSome, IsSomeAnd, IsTrue, refl, sym, ◌∙◌, ap, subst, arith}
-use Rattle.std.proofs.lemmas.Bool.{false_from_ne_true}
+use Rattle.std.proofs.lemmas.Bool.{cases_eq, false_from_ne_true}
 use Rattle.std.proofs.lemmas.Bool.Decides.{nat_tests}
 use Rattle.blob_device.specs.Disk.{Key, Blob, Disk, past}
 use Rattle.blob_device.specs.Opened.{OpenedList}
@@ -15,7 +15,7 @@ use Rattle.sealed_pages.specs.Shown.{shown}
 use Rattle.segments.specs.contracts.sealed.PageBlobSectionBuffer.TheImpl.{ghosts}
 use Rattle.segments.specs.declared.buffer.SectionBuffer as buffer
 use Rattle.segments.specs.FixedLasting.{Settling}
-use Rattle.segments.specs.FixedLists.{Lists, section_bytes, section_size, IsJournal}
+use Rattle.segments.specs.FixedLists.{Lists, section_bytes, section_size, IsJournal, IsProven}
 use Rattle.segments.specs.Lasting.{IsUnsettled, Syncing}
 use Rattle.segments.specs.Leaving.{Leaves}
 use Rattle.segments.specs.Sealed.{is_unsettled, adopted_bytes, Stands, MayKeep}
@@ -70,12 +70,23 @@ module _ {F S : Type 0} {gs : _} (m : Sections F (PageBlob S gs)) (s : ℕ) (u :
 pub is_settled : {B : Type 0} (g : buffer.Ghosts B) (o : Option B) (u : B) → o ≡ Some u → (IsSomeAnd o (λ v. g.unsettled v ≡ true) → ⊥) → g.unsettled u ≡ false
 is_settled g o u is none = false_from_ne_true (g.unsettled u) (λ e. none (has_value o (λ v. g.unsettled v ≡ true) u is e))
 
+-- a section that is proven was, if it owed no more and had the same floor
+pub proven_back : {F B : Type 0} (j k : Lists F B) (s : ℕ) → k.unrecovered s ≡ j.unrecovered s → k.floor_of s ≡ j.floor_of s → IsProven k s → IsProven j s
+proven_back j k s owes floors is = record { checked = sym owes ∙ is.checked; free = sym floors ∙ is.free }
+
+pub proven_or_not : {F B : Type 0} (j : Lists F B) (s : ℕ) → IsProven j s ⊎ (IsProven j s → ⊥)
+proven_or_not j s = go (j.unrecovered s) refl
+  where
+    go : (owes : Bool) → j.unrecovered s ≡ owes → IsProven j s ⊎ (IsProven j s → ⊥)
+    go true owed = inr (λ is. absurd (cc (owed, is.checked)))
+    go false checked = elim (cases_eq (j.floor_of s) 0) [ inl free ↦ inl (record { checked = checked; free = free }) | inr floor ↦ inr (λ is. floor is.free) ]
+
 module _ {F S : Type 0} {gs : _} (seal : List ℕ → ℕ) (size : ℕ) (told : Type 0) where
   -- what a journal keeps of one section
   pub record IsFine (j : Lists F (PageBlob S gs)) (d : Disk) (s : ℕ) : Type 0 where
     pub owes_held : IsTrue (j.unrecovered s) → IsHeld j.sections s
     pub owes_settled : (u : PageBlob S gs) → j.sections.held s ≡ Some u → IsTrue (j.unrecovered s) → u.settled ≡ size_of (shown u)
-    pub sealed : told → (u : PageBlob S gs) → j.sections.held s ≡ Some u → j.unrecovered s ≡ false → IsSealed seal (shown u) (d (key_of j.sections s))
+    pub sealed : told → (u : PageBlob S gs) → j.sections.held s ≡ Some u → IsProven j s → IsSealed seal (shown u) (d (key_of j.sections s))
     pub whole : told → (u : PageBlob S gs) → j.sections.held s ≡ Some u → j.unrecovered s ≡ false → size_of (shown u) % size ≡ 0
     pub later : told → IsSome (j.sections.unopened s) → j.sections.ceiling < s
 
@@ -100,12 +111,12 @@ module _ {F S : Type 0} {gs : _} (seal : List ℕ → ℕ) (size : ℕ) (told : 
 
   module _ (j k : Lists F (PageBlob S gs)) (d e : Disk) (s : ℕ) (bounds : SameBounds j.sections k.sections) (fine : IsFine j d s) where
     -- the section is as before, and owes a replay as before
-    pub fine_same : IsSame j.sections k.sections s → k.unrecovered s ≡ j.unrecovered s → (told → (u : PageBlob S gs) → j.sections.held s ≡ Some u → e (key_of j.sections s) ≡ d (key_of j.sections s)) → IsFine k e s
-    fine_same same owes blob = record {
+    pub fine_same : IsSame j.sections k.sections s → k.unrecovered s ≡ j.unrecovered s → (IsProven k s → IsProven j s) → (told → (u : PageBlob S gs) → j.sections.held s ≡ Some u → e (key_of j.sections s) ≡ d (key_of j.sections s)) → IsFine k e s
+    fine_same same owes proven blob = record {
       owes_held = λ is. subst IsSome (sym same.held) (fine.owes_held (sym owes ∙ is));
       owes_settled = λ u held is. fine.owes_settled u (sym same.held ∙ held) (sym owes ∙ is);
       sealed = λ t u held is. (let was : j.sections.held s ≡ Some u = sym same.held ∙ held in
-          subst (IsSealed seal (shown u)) (sym (ap e (same_key j.sections k.sections bounds s) ∙ blob t u was)) (fine.sealed t u was (sym owes ∙ is)));
+          subst (IsSealed seal (shown u)) (sym (ap e (same_key j.sections k.sections bounds s) ∙ blob t u was)) (fine.sealed t u was (proven is)));
       whole = λ t u held is. fine.whole t u (sym same.held ∙ held) (sym owes ∙ is);
       later = λ t is. omega (arith, bounds.ceiling, fine.later t (subst IsSome same.unopened is));
     }
@@ -125,13 +136,13 @@ module _ {F S : Type 0} {gs : _} (seal : List ℕ → ℕ) (size : ℕ) (told : 
 
     -- a sync made it
     pub fine_synced : (g : buffer.Ghosts (PageBlob S gs)) → ArePages g seal → (u v : PageBlob S gs) → j.sections.held s ≡ Some u → k.sections.held s ≡ Some v → k.sections.unopened s ≡ j.sections.unopened s → k.unrecovered s ≡ j.unrecovered s
-        → IsSynced g told u v (d (key_of j.sections s)) (e (key_of j.sections s)) → IsFine k e s
-    fine_synced g pages u v was now unopened owes did = record {
+        → (IsProven k s → IsProven j s) → IsSynced g told u v (d (key_of j.sections s)) (e (key_of j.sections s)) → IsFine k e s
+    fine_synced g pages u v was now unopened owes proven did = record {
       owes_held = λ is. subst IsSome (sym now) refl;
       owes_settled = λ w held is. subst (λ (x : PageBlob S gs). x.settled ≡ size_of (shown x)) (some_same v w (sym now ∙ held)) (sym (pages.settled v) ∙ did.settled ∙ sym did.size ∙ pages.count v);
       sealed = λ t w held is. subst (λ (x : PageBlob S gs). IsSealed seal (shown x) (e (key_of k.sections s))) (some_same v w (sym now ∙ held))
           (subst (λ (q : Key). IsSealed seal (shown v) (e q)) (sym (same_key j.sections k.sections bounds s))
-          (pages.whole v (e (key_of j.sections s)) (did.whole t (pages.is_whole u (d (key_of j.sections s)) (fine.sealed t u was (sym owes ∙ is))))));
+          (pages.whole v (e (key_of j.sections s)) (did.whole t (pages.is_whole u (d (key_of j.sections s)) (fine.sealed t u was (proven is))))));
       whole = λ t w held is. subst (λ (x : PageBlob S gs). size_of (shown x) % size ≡ 0) (some_same v w (sym now ∙ held))
           (ap (λ (n : ℕ). n % size) (sym (pages.count v) ∙ did.size ∙ pages.count u) ∙ fine.whole t u was (sym owes ∙ is));
       later = λ t is. omega (arith, bounds.ceiling, fine.later t (subst IsSome unopened is));
@@ -162,15 +173,15 @@ module _ {F S : Type 0} {gs : _} (seal : List ℕ → ℕ) (size : ℕ) (told : 
 
   pub settling_of : told → Always a b (Each (Syncing g j.sections IsNamed (disk a))) → Always a b (Each (Settling seal j IsNamed (disk a)))
   settling_of t = always_weaker a b (Each (Syncing g j.sections IsNamed (disk a))) (Each (Settling seal j IsNamed (disk a))) (λ d each q. record {
-    named = λ s u is held owes at. leaves_sealed seal g pages u (disk a q) (d q) (g.settled u) u.settled (pages.settled u)
-        (subst (λ (p : Key). IsSealed seal (shown u) (disk a p)) (sym at) ((journal.disk t).sealed s u held owes)) ((each q).named s u is held at);
+    named = λ s u is held proven at. leaves_sealed seal g pages u (disk a q) (d q) (g.settled u) u.settled (pages.settled u)
+        (subst (λ (p : Key). IsSealed seal (shown u) (disk a p)) (sym at) ((journal.disk t).sealed s u held proven)) ((each q).named s u is held at);
     others = λ not. (each q).others (λ w. (let owes = unsettled_recovered w.0 w.1.1 in not (w.0, (w.1.0, owes.0, owes.1), w.2)));
   })
 
   module _ (k : Lists F (PageBlob S gs)) (new : OpenedList) (decides : (s : ℕ) → IsNamed s ⊎ (IsNamed s → ⊥)) (over : IsOver g gives told k.sections new (disk b))
       (named : (s : ℕ) (u : PageBlob S gs) → IsNamed s → j.sections.held s ≡ Some u → IsSomeAnd (k.sections.held s) (λ v. IsSynced g told u v (disk a (key_of j.sections s)) (disk b (key_of j.sections s))))
       (none : (s : ℕ) → j.sections.held s ≡ None → k.sections.held s ≡ None) (others : (s : ℕ) → (IsNamed s → ⊥) → k.sections.held s ≡ j.sections.held s)
-      (unopened : (s : ℕ) → k.sections.unopened s ≡ j.sections.unopened s) (bounds : SameBounds j.sections k.sections) (owes : (s : ℕ) → k.unrecovered s ≡ j.unrecovered s)
+      (unopened : (s : ℕ) → k.sections.unopened s ≡ j.sections.unopened s) (bounds : SameBounds j.sections k.sections) (owes : (s : ℕ) → k.unrecovered s ≡ j.unrecovered s) (floors : (s : ℕ) → k.floor_of s ≡ j.floor_of s)
       (moments : told → Always a b (Each (Syncing g j.sections IsNamed (disk a)))) where
     number : (s : ℕ) (u : PageBlob S gs) → j.sections.held s ≡ Some u → s < 2 ^ 64
     number s u held = journal.over.opened_list.number s (inl (subst IsSome (sym held) refl))
@@ -185,7 +196,7 @@ module _ {F S : Type 0} {gs : _} (seal : List ℕ → ℕ) (size : ℕ) (told : 
       | inl is ↦ elim (none_or_value (j.sections.held s)) [
         | inl absent ↦ fine_none seal size told j k (disk a) (disk b) s bounds (fine_of seal size told g gives j old (disk a) journal s) absent (none s absent) (unopened s) (λ o. sym (owes s) ∙ o)
         | inr u ↦ (let v = value_of (k.sections.held s) (λ v. IsSynced g told u.0 v (disk a (key_of j.sections s)) (disk b (key_of j.sections s))) (named s u.0 is u.1) in
-            fine_synced seal size told j k (disk a) (disk b) s bounds (fine_of seal size told g gives j old (disk a) journal s) g pages u.0 v.value u.1 v.is (unopened s) (owes s) v.has)
+            fine_synced seal size told j k (disk a) (disk b) s bounds (fine_of seal size told g gives j old (disk a) journal s) g pages u.0 v.value u.1 v.is (unopened s) (owes s) (proven_back j k s (owes s) (floors s)) v.has)
       ]
-      | inr not ↦ fine_same seal size told j k (disk a) (disk b) s bounds (fine_of seal size told g gives j old (disk a) journal s) (record { held = others s not; unopened = unopened s }) (owes s) (λ t. untouched t s not)
+      | inr not ↦ fine_same seal size told j k (disk a) (disk b) s bounds (fine_of seal size told g gives j old (disk a) journal s) (record { held = others s not; unopened = unopened s }) (owes s) (proven_back j k s (owes s) (floors s)) (λ t. untouched t s not)
     ])

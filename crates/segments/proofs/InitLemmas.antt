@@ -45,10 +45,17 @@ opened_there from b there opening = elim opening [
     nothing_under_way = ap (λ (t : Bool). cond t from (record from { content = []; unsure = true; since = from.since ++ [] ∷ [] })) there
 
 module _ (partition : List ℕ) (ceiling : ℕ) (from : Disk) (q : Key) (b : Blob) (is : IsSettling partition ceiling from q b) where
-  settling_there : IsTrue (from q).there → IsTrue b.there
+  pub settling_there : IsTrue (from q).there → IsTrue b.there
   settling_there there = elim is [
     | inl same ↦ ap (λ (x : Blob). x.there) same ∙ there
     | inr settled ↦ ap (λ (x : Blob). x.there) settled.4
+  ]
+
+  -- and it was there, if it is
+  pub settling_was : IsTrue b.there → IsTrue (from q).there
+  settling_was there = elim is [
+    | inl same ↦ sym (ap (λ (x : Blob). x.there) same) ∙ there
+    | inr settled ↦ settled.3
   ]
 
   pub settling_content : b.content ≡ (from q).content
@@ -71,7 +78,7 @@ module _ (partition : List ℕ) (ceiling : ℕ) where
   settling_unchanged a b same = always_weaker a b (λ d. d ≡ disk a) (Each (IsSettling partition ceiling (disk a))) (λ d is q. inl (ap (λ (e : Disk). e q) is)) same
 
   -- one section more
-  settling_then : (s : ℕ) (a b c : Timeline) → s ≤ ceiling → IsTrue (disk a (section_key partition s)).there → Always a b (Each (IsSettling partition ceiling (disk a)))
+  pub settling_then : (s : ℕ) (a b c : Timeline) → s ≤ ceiling → IsTrue (disk a (section_key partition s)).there → Always a b (Each (IsSettling partition ceiling (disk a)))
       → AllMoments (section_key partition s) (IsOpening (disk b (section_key partition s))) b c → Always a c (Each (IsSettling partition ceiling (disk a)))
   settling_then s a b c le there first second =
       let k : Key = section_key partition s in

@@ -37,3 +37,5 @@ pub mod FixedBuffers
 pub mod FixedErrorSteps
 pub mod FixedCalls
 pub mod FixedBeginning
+pub mod FixedFloorLemmas
+pub mod TurnLemmas

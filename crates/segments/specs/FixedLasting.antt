@@ -7,13 +7,14 @@ use Rattle.sealed_pages.specs.Buffer.{bytes_of}
 use Rattle.sealed_pages.specs.ChanceSeal.{Leaves}
 use Rattle.segments.specs.Sections.{key_of, IsHeld, IsKeyOf}
 use Rattle.segments.specs.Lasting.{IsOpening}
-use Rattle.segments.specs.FixedLists.{Lists}
+use Rattle.segments.specs.FixedLists.{Lists, IsProven}
 
 -- The blob is made, or being made; then each crash leaves a prefix of these bytes in it.
 abbrev pub IsBeginning : (List ℕ → ℕ) → ℕ → List ℕ → Blob → Blob → Type 0
 IsBeginning seal P bytes from b = IsOpening from b ⊎ Leaves seal P bytes 0 b
 
--- Each crash leaves of a named section that is recovered a prefix of its bytes, no shorter than what had settled. No other blob changes.
+-- Each crash leaves of a named section that is proven a prefix of its bytes, no shorter than what had settled. No blob changes but
+-- those of the named sections that owe no replay.
 pub record Settling {F S : Type 0} {gs : _} (seal : List ℕ → ℕ) (j : Lists F (PageBlob S gs)) (IsNamed : ℕ → Type 0) (from : Disk) (q : Key) (b : Blob) : Type 0 where
-  pub named : (s : ℕ) (u : PageBlob S gs) → IsNamed s → j.sections.held s ≡ Some u → j.unrecovered s ≡ false → q ≡ key_of j.sections s → Leaves seal u.page_size (bytes_of (shown u) (from q).content) u.settled b
+  pub named : (s : ℕ) (u : PageBlob S gs) → IsNamed s → j.sections.held s ≡ Some u → IsProven j s → q ≡ key_of j.sections s → Leaves seal u.page_size (bytes_of (shown u) (from q).content) u.settled b
   pub others : (IsKeyOf j.sections (λ s. IsNamed s × IsHeld j.sections s × (j.unrecovered s ≡ false)) q → ⊥) → b ≡ from q

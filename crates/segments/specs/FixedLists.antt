@@ -1,5 +1,9 @@
--- What a fixed journal shows: its sections, and which of them owe a replay. When it may be used.
+-- What a fixed journal shows: its sections, which of them owe a replay, and how many bytes of each a marker vouches for (0 where there is
+-- none). When it may be used.
 use Rattle.std.specs.Prelude.{◌≡◌, ℕ, ◌%◌, ◌<◌, ◌≤◌, Bool, false, List, [], IsTrue, Option, None, Some, IsSome}
+use Rattle.std.specs.BTreeMap as tree
+use Rattle.std.specs.Option.{unwrap_or}
+use Rattle.std.specs.Ordering.{nat_cmp}
 use Rattle.blob_device.specs.Disk.{Disk}
 use Rattle.blob_device.specs.Opened.{OpenedList}
 use Rattle.sealed_pages.specs.declared.page_blob.PageBlob.{PageBlob}
@@ -9,14 +13,24 @@ use Rattle.segments.specs.declared.buffer.SectionBuffer as buffer
 use Rattle.segments.specs.Setting.{Setting}
 use Rattle.segments.specs.Sections.{Sections, key_of, IsHeld, IsOver}
 
+-- the floor that a map gives, 0 where it gives none
+abbrev pub floor_in : tree.BTreeMap ℕ ℕ → ℕ → ℕ
+floor_in m s = unwrap_or (tree.get nat_cmp m s) 0
+
 pub record Lists (F B : Type 0) : Type 0 where
   pub sections : Sections F B
   pub unrecovered : ℕ → Bool
+  pub floor_of : ℕ → ℕ
 
 -- The section takes an append: no bound of an opening is below it, and it owes no replay.
 pub record IsRecovered {F B : Type 0} (j : Lists F B) (s : ℕ) : Type 0 where
   pub below : s ≤ j.sections.ceiling
   pub checked : j.unrecovered s ≡ false
+
+-- The section owes no replay, and no marker stands in for one: all its pages were read, or written since.
+pub record IsProven {F B : Type 0} (j : Lists F B) (s : ℕ) : Type 0 where
+  pub checked : j.unrecovered s ≡ false
+  pub free : j.floor_of s ≡ 0
 
 module _ {S : Type 0} {gs : _} where
   abbrev pub bytes_held : Option (PageBlob S gs) → List ℕ → List ℕ
@@ -44,9 +58,9 @@ module _ {S : Type 0} {gs : _} where
   pub record OwesSettled {F : Type 0} (j : Lists F (PageBlob S gs)) : Type 0 where
     pub settled : (s : ℕ) (u : PageBlob S gs) → j.sections.held s ≡ Some u → IsTrue (j.unrecovered s) → u.settled ≡ size_of (shown u)
 
-  -- Any other held section is sealed, and has whole items.
+  -- Any other held section has whole items, and it is sealed where it has no floor.
   pub record AreSealed {F : Type 0} (seal : List ℕ → ℕ) (size : ℕ) (j : Lists F (PageBlob S gs)) (d : Disk) : Type 0 where
-    pub sealed : (s : ℕ) (u : PageBlob S gs) → j.sections.held s ≡ Some u → j.unrecovered s ≡ false → IsSealed seal (shown u) (d (key_of j.sections s))
+    pub sealed : (s : ℕ) (u : PageBlob S gs) → j.sections.held s ≡ Some u → IsProven j s → IsSealed seal (shown u) (d (key_of j.sections s))
     pub whole : (s : ℕ) (u : PageBlob S gs) → j.sections.held s ≡ Some u → j.unrecovered s ≡ false → size_of (shown u) % size ≡ 0
 
   -- what is known and not held stands above the bound of the opening
@@ -54,7 +68,7 @@ module _ {S : Type 0} {gs : _} where
     pub later : (s : ℕ) → IsSome (j.sections.unopened s) → j.sections.ceiling < s
 
   -- The journal's sections are those of the partition, and, where the disk is told, lists of items that are sealed but for the sections
-  -- that owe a replay.
+  -- that owe a replay or have a floor.
   pub record IsJournal {F : Type 0} (g : buffer.Ghosts (PageBlob S gs)) (gives : F → Setting) (seal : List ℕ → ℕ) (size : ℕ) (told : Type 0)
       (j : Lists F (PageBlob S gs)) (opened : OpenedList) (d : Disk) : Type 0 where
     pub over : IsOver g gives told j.sections opened d

@@ -7,8 +7,9 @@ use Rattle.sealed_pages.specs.declared.page_blob.PageBlob.{PageBlob}
 use Rattle.sealed_pages.specs.Shown.{shown}
 use Rattle.sealed_pages.specs.Buffer.{size_of}
 use Rattle.sealed_pages.specs.Reads.{IsShort, IsCovered, below}
+use Rattle.segments.specs.declared.journal.Damage.{Damage}
 use Rattle.segments.specs.declared.journal.Error.{Error}
-use Rattle.segments.specs.declared.journal.Error.TheVariants.{Runtime, Codec, SectionOutOfRange, ItemOutOfRange}
+use Rattle.segments.specs.declared.journal.Error.TheVariants.{Runtime, Codec, SectionOutOfRange, ItemOutOfRange, Corruption}
 use Rattle.segments.specs.Refusing.{HasFailed}
 
 module _ {S : Type 0} {gs : _} (size : ℕ) where
@@ -40,6 +41,10 @@ module _ {T : Type 0} (result : Result T Error) where
   -- the position is at or past the end
   abbrev pub IsPast : ℕ → Type 0
   IsPast p = IsErrOf result (ItemOutOfRange p)
+
+  -- a section keeps less than its floor
+  abbrev pub IsBelowFloor : Type 0
+  IsBelowFloor = (d : Damage) × IsErrOf result (Corruption d)
 
   -- a page is damaged, or the item does not decode, or the device failed, or there was no memory
   abbrev pub HasNotRead : ℕ → ℕ → Type 0

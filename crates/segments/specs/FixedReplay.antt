@@ -9,12 +9,13 @@ use Rattle.sealed_pages.specs.Buffer.{size_of, bytes_of, IsSealed}
 use Rattle.sealed_pages.specs.SealedPrefix.{sealed_prefix}
 use Rattle.sealed_pages.specs.ChanceSeal.{Leaves}
 use Rattle.sealed_pages.specs.Readers.{Reader, IsReplayOf}
-use Rattle.sealed_pages.specs.Reads.{IsCovered}
+use Rattle.sealed_pages.specs.Reads.{IsCovered, IsShort}
 use Rattle.segments.specs.declared.buffer.SectionBuffer as buffer
+use Rattle.segments.specs.declared.journal.Damage.{Damage}
 use Rattle.segments.specs.Setting.{Setting}
 use Rattle.segments.specs.Sections.{key_of, IsHeld, IsKeyOf, SameBounds, IsOver}
 use Rattle.segments.specs.FixedItems.{item_at, IsItem}
-use Rattle.segments.specs.FixedLists.{Lists, OwesHeld, OwesSettled, AreSealed, UnopenedLater}
+use Rattle.segments.specs.FixedLists.{Lists, IsProven, OwesHeld, OwesSettled, AreSealed, UnopenedLater}
 
 -- A place within a section: the reader is at the item of this position.
 pub record Place : Type 0 where
@@ -45,6 +46,10 @@ module _ {F B : Type 0} (w : Walk F B) where
   -- the position from which on items of the section are given
   abbrev pub first_of : ℕ → ℕ
   first_of s = cond (eqb s w.start_section) w.start_position 0
+
+  -- all of the section is read: a replay of it is owed, or its items are given from the first on
+  abbrev pub IsReadWhole : ℕ → Type 0
+  IsReadWhole s = IsTrue (w.journal.unrecovered s) ⊎ (first_of s ≡ 0)
 
   -- It stands in no section, and no held one is ahead.
   pub record IsDrained : Type 0 where
@@ -85,10 +90,10 @@ module _ {S : Type 0} {gs : _} where
     pub within : r.position * size ≤ size_of (shown u)
     pub begun : w.journal.unrecovered r.section ≡ false → first_of w r.section ≤ r.position
 
-  -- It reads what the blob has. Where a replay of the section is owed, all bytes up to the last one at hand were checked.
+  -- It reads what the blob has. Where all of the section is read, all bytes up to the last one at hand were checked.
   pub record ReadsIn {F : Type 0} (seal : List ℕ → ℕ) (w : Walk F (PageBlob S gs)) (d : Disk) (r : Place) (u : PageBlob S gs) : Type 0 where
     pub replays : IsReplayOf seal (d (key_of w.journal.sections r.section)).content r.reader
-    pub checked : IsTrue (w.journal.unrecovered r.section) → IsCovered seal u.page_size (d (key_of w.journal.sections r.section)).content 0 (r.reader.at + length r.reader.bytes)
+    pub checked : IsReadWhole w r.section → IsCovered seal u.page_size (d (key_of w.journal.sections r.section)).content 0 (r.reader.at + length r.reader.bytes)
 
   -- the replay has gone over the section
   pub record IsGoneOver {F : Type 0} (w : Walk F (PageBlob S gs)) (s : ℕ) : Type 0 where
@@ -107,10 +112,10 @@ module _ {S : Type 0} {gs : _} where
     pub start_kept : w.failed ≡ false → IsGoneOver w w.start_section → (u : PageBlob S gs) → w.journal.sections.held w.start_section ≡ Some u → w.start_position * size ≤ size_of (shown u)
     pub ends : w.ended ≡ true → w.failed ≡ true
 
-  -- Sections that owe no replay are sealed and have whole items, and so have those that the replay has gone over without an error.
+  -- The journal's sections are as sealed as it says, and those that the replay has read whole without an error are sealed.
   pub record WalksOver {F : Type 0} (seal : List ℕ → ℕ) (size : ℕ) (w : Walk F (PageBlob S gs)) (d : Disk) : Type 0 where
     pub sealed : AreSealed seal size w.journal d
-    pub gone_over : w.failed ≡ false → (s : ℕ) (u : PageBlob S gs) → w.journal.sections.held s ≡ Some u → IsGoneOver w s → IsSealed seal (shown u) (d (key_of w.journal.sections s)) × (size_of (shown u) % size ≡ 0)
+    pub gone_over : w.failed ≡ false → (s : ℕ) (u : PageBlob S gs) → w.journal.sections.held s ≡ Some u → IsGoneOver w s → IsReadWhole w s → IsSealed seal (shown u) (d (key_of w.journal.sections s)) × (size_of (shown u) % size ≡ 0)
     pub unopened : w.failed ≡ false → UnopenedLater w.journal
     pub place : (r : Place) → w.place ≡ Some r → IsSomeAnd (w.journal.sections.held r.section) (ReadsIn seal w d r)
 
@@ -138,18 +143,37 @@ module _ {S : Type 0} {gs : _} where
     pub refused : refusal (item_at size (kept_bytes seal size old from section) position) tt ≡ Some e
     pub rest : (t q : ℕ) → IsLeft seal size new to t q ↔ (IsLeft seal size old from t q × (section < t))
 
+  -- Page k has bytes of an item of a section that owes no replay and has a floor, and no matching slot covers it as far as the item goes. The
+  -- pages below a floor are taken as a marker vouches for them, so none was read before.
+  pub record FindsDamage {F : Type 0} (seal : List ℕ → ℕ) (size : ℕ) (old new : Walk F (PageBlob S gs)) (d : Disk) (k : ℕ) : Type 0 where
+    pub section : ℕ
+    pub position : ℕ
+    pub near : IsAhead old section ⊎ IsIn old section
+    pub free : new.journal.unrecovered section ≡ false
+    pub floor : 0 < new.journal.floor_of section
+    pub page : IsSomeAnd (new.journal.sections.held section) (λ u. IsShort seal u.page_size (d (key_of new.journal.sections section)).content (position * size) size k)
+
   -- An error ended the whole replay, or that of section s; the items of later sections are left.
   pub record Stops {F : Type 0} (seal : List ℕ → ℕ) (size : ℕ) (old new : Walk F (PageBlob S gs)) (d e : Disk) : Type 0 where
     pub rest : (new.ended ≡ true) ⊎ ((s : ℕ) × ((t q : ℕ) → IsLeft seal size new e t q ↔ (IsLeft seal size old d t q × (s < t))))
 
-  -- Of a section that is ahead or being read each crash leaves a prefix of its bytes, no shorter than what had settled, or where it owes a
-  -- replay a prefix of its sealed prefix that has all whole items of it. No other blob changes.
+  -- Of a proven section that is ahead or being read each crash leaves a prefix of its bytes, no shorter than what had settled, and of one
+  -- that owes a replay a prefix of its sealed prefix that has all whole items of it. It is cut only where those reach its floor. No other
+  -- blob changes.
   pub record Replaying {F : Type 0} (seal : List ℕ → ℕ) (size : ℕ) (w : Walk F (PageBlob S gs)) (from : Disk) (q : Key) (b : Blob) : Type 0 where
-    pub flushed : (s : ℕ) (u : PageBlob S gs) → w.journal.sections.held s ≡ Some u → w.journal.unrecovered s ≡ false → q ≡ key_of w.journal.sections s
+    pub flushed : (s : ℕ) (u : PageBlob S gs) → w.journal.sections.held s ≡ Some u → IsProven w.journal s → q ≡ key_of w.journal.sections s
         → Leaves seal u.page_size (bytes_of (shown u) (from q).content) u.settled b
     pub cut : (s : ℕ) (u : PageBlob S gs) → w.journal.sections.held s ≡ Some u → IsTrue (w.journal.unrecovered s) → q ≡ key_of w.journal.sections s
-        → (b ≡ from q) ⊎ Leaves seal u.page_size (sealed_prefix seal u.page_size (from q).content) (length (sealed_prefix seal u.page_size (from q).content) / size * size) b
+        → (b ≡ from q) ⊎ ((w.journal.floor_of s ≤ length (sealed_prefix seal u.page_size (from q).content) / size * size)
+        × Leaves seal u.page_size (sealed_prefix seal u.page_size (from q).content) (length (sealed_prefix seal u.page_size (from q).content) / size * size) b)
     pub others : (IsKeyOf w.journal.sections (λ s. IsHeld w.journal.sections s × (IsAhead w s ⊎ IsIn w s)) q → ⊥) → b ≡ from q
+
+-- The section of this damage owes a replay, and the whole items of its sealed prefix end below its floor.
+pub record EndsBelow {F S : Type 0} {gs : _} (seal : List ℕ → ℕ) (size : ℕ) (w : Walk F (PageBlob S gs)) (d : Disk) (x : Damage) : Type 0 where
+  pub owes : IsTrue (w.journal.unrecovered x.section)
+  pub kept : x.kept ≡ length (kept_bytes seal size w d x.section) / size * size
+  pub wanted : x.wanted ≡ w.journal.floor_of x.section
+  pub less : x.kept < x.wanted
 
 -- where a replay begins, and over which sections
 pub record Begins {F B : Type 0} (j : Lists F B) (s p : ℕ) (w : Walk F B) : Type 0 where
@@ -165,5 +189,6 @@ pub record Begins {F B : Type 0} (j : Lists F B) (s p : ℕ) (w : Walk F B) : Ty
 pub record SameWalk {F B : Type 0} (old new : Walk F B) : Type 0 where
   pub bounds : SameBounds old.journal.sections new.journal.sections
   pub unrecovered : (s : ℕ) → new.journal.unrecovered s ≡ old.journal.unrecovered s
+  pub floors : (s : ℕ) → new.journal.floor_of s ≡ old.journal.floor_of s
   pub section : new.start_section ≡ old.start_section
   pub position : new.start_position ≡ old.start_position

@@ -14,13 +14,14 @@ use Rattle.value_codec.specs.declared.codec.Error as codec
 use Rattle.segments.specs.declared.buffer.SectionBuffer as buffer
 use Rattle.segments.specs.declared.journal.Error.{Error}
 use Rattle.blob_device.specs.declared.runtime.RError.TheVariants.{InvalidChecksum}
-use Rattle.segments.specs.declared.journal.Error.TheVariants.{ItemOutOfRange, Runtime, Codec}
+use Rattle.segments.specs.declared.journal.Damage.{Damage}
+use Rattle.segments.specs.declared.journal.Error.TheVariants.{ItemOutOfRange, Runtime, Codec, Corruption}
 use Rattle.segments.specs.Setting.{Setting}
 use Rattle.segments.specs.Entries.{OnlyOwnEntry}
 use Rattle.segments.specs.Sections.{Sections, key_of, IsHeld, IsKeyOf, IsSame, SameBounds, IsOver}
 use Rattle.segments.specs.Refusing.{HasFailed, HasDamage}
-use Rattle.segments.specs.FixedReading.{HasNotRead}
-use Rattle.segments.specs.FixedReplay.{Place, Walk, IsAhead, IsIn, IsLeft, SameWalk, IsWalk, Gives, Refuses, Stops, Replaying, kept_bytes}
+use Rattle.segments.specs.FixedReading.{HasNotRead, IsBelowFloor}
+use Rattle.segments.specs.FixedReplay.{Place, Walk, IsAhead, IsIn, IsReadWhole, IsLeft, SameWalk, IsWalk, Gives, Refuses, Stops, Replaying, EndsBelow, FindsDamage, kept_bytes}
 
 -- greater than each number of a section, and than each place in one
 unfoldable pub word : ℕ
@@ -86,6 +87,7 @@ module _ {F B : Type 0} where
   -- A call on its sections leaves the replay as it was, but for whether it has ended.
   pub record OnlySections (old new : Walk F B) : Type 0 where
     pub unrecovered : (s : ℕ) → new.journal.unrecovered s ≡ old.journal.unrecovered s
+    pub floors : (s : ℕ) → new.journal.floor_of s ≡ old.journal.floor_of s
     pub section : new.start_section ≡ old.start_section
     pub position : new.start_position ≡ old.start_position
     pub next : new.next_section ≡ old.next_section
@@ -110,7 +112,8 @@ module _ {S : Type 0} {gs : _} (seal : List ℕ → ℕ) (told : Type 0) (u : Pa
     pub size : size_of (shown v) ≡ size_of (shown u)
     pub settled : v.settled ≡ u.settled
     pub flushed : v.from ≡ length v.tip.items
-    pub sealed : told → IsSealed seal (shown u) b → IsSealed seal (shown v) c × (bytes_of (shown v) c.content ≡ bytes_of (shown u) b.content)
+    pub sealed : told → IsSealed seal (shown u) b → IsSealed seal (shown v) c
+    pub bytes : told → bytes_of (shown v) c.content ≡ bytes_of (shown u) b.content
 
   -- It is what a cut of u to the first n bytes of its sealed prefix made of it.
   pub record IsCutBack (n : ℕ) : Type 0 where
@@ -136,16 +139,16 @@ module _ {F S : Type 0} {gs : _} (seal : List ℕ → ℕ) (size : ℕ) where
     pub kept : (s : ℕ) → IsAhead new s ⊎ IsIn new s → kept_bytes seal size new e s ≡ kept_bytes seal size old d s
     pub later : (q : Key) (b : Blob) → Replaying seal size new e q b → Replaying seal size old d q b
 
-  -- The place is behind the last whole item. Where the section is not cut there, it is sealed and has no partial item.
+  -- The place is behind the last whole item. Where the section was read whole and is not cut there, it is sealed and has no partial item.
   pub record EndsAt (w : Walk F (PageBlob S gs)) (d : Disk) (r : Place) (cuts : Bool) : Type 0 where
     pub last : length (kept_bytes seal size w d r.section) / size ≡ r.position
-    pub whole : cuts ≡ false → (u : PageBlob S gs) → w.journal.sections.held r.section ≡ Some u
+    pub whole : cuts ≡ false → IsReadWhole w r.section → (u : PageBlob S gs) → w.journal.sections.held r.section ≡ Some u
         → IsSealed seal (shown u) (d (key_of w.journal.sections r.section)) × (size_of (shown u) % size ≡ 0)
 
   module _ {V : Type 0} (g : buffer.Ghosts (PageBlob S gs)) (gives : F → Setting) (spelling : V → List ℕ) (accepted : V → Unit {0} → Type 0) (refusal : List ℕ → Unit {0} → Option codec.Error) (told : Type 0) where
     -- A step of the replay `old`, and the replay after it. It gives the first item that was left, or comes nearer to one, or gives an
-    -- error, which ends the section or the replay. Where the disk is told no page is found damaged: a section that owes a replay is cut
-    -- before such a page, and any other is sealed.
+    -- error, which ends the section or the replay. Where the disk is told a page is found damaged only in a section that owes no replay and
+    -- has a floor: one that owes a replay is cut before such a page, and any other is sealed.
     pub record Steps (result : Result (Option (ℕ × ℕ × V)) Error) (old new : Walk F (PageBlob S gs)) (before after : OpenedList) (begin end : Timeline) (few many : ℕ) : Type 0 where
       pub over : OnOk result (IsWalk g gives seal size told new after (disk end))
       pub broken : OnErr result (IsWalk g gives seal size told (failing new) after (disk end))
@@ -157,11 +160,12 @@ module _ {F S : Type 0} {gs : _} (seal : List ℕ → ℕ) (size : ℕ) where
       pub stops : told → OnErr result (Stops seal size old new (disk begin) (disk end))
       pub start : told → (p : ℕ) → IsErrOf result (ItemOutOfRange p) → (p ≡ old.start_position)
           × (length (kept_bytes seal size old (disk begin) old.start_section) < p * size) × (IsAhead old old.start_section ⊎ IsIn old old.start_section)
-      pub damaged : told → (k : ℕ) → IsErrOf result (Runtime (InvalidChecksum k)) → ⊥
+      pub damage : told → (x : Damage) → IsErrOf result (Corruption x) → EndsBelow seal size old (disk begin) x × (IsAhead old x.section ⊎ IsIn old x.section)
+      pub damaged : told → (k : ℕ) → IsErrOf result (Runtime (InvalidChecksum k)) → FindsDamage seal size old new (disk end) k
       pub refused : told → (e : codec.Error) → IsErrOf result (Codec e) → Refuses seal size refusal old new (disk begin) (disk end) e
-      pub ends : new.ended ≡ true → (old.ended ≡ true) ⊎ (HasDamage result ⊎ HasFailed result few many)
+      pub ends : new.ended ≡ true → (old.ended ≡ true) ⊎ ((HasDamage result × (told → ⊥)) ⊎ HasFailed result few many)
       pub moments : told → Always begin end (Each (Replaying seal size old (disk begin)))
       pub entries : (q : Key) → (IsKeyOf old.journal.sections (λ s. IsHeld old.journal.sections s × (IsAhead old s ⊎ IsIn old s)) q → ⊥) → after q ≡ before q
       pub once : OnOk result (ReadsOnce old new before after)
       pub faults : few ≤ many
-      pub cause : OnErr result (IsErrOf result (ItemOutOfRange old.start_position) ⊎ HasNotRead result few many)
+      pub cause : OnErr result (IsErrOf result (ItemOutOfRange old.start_position) ⊎ (IsBelowFloor result ⊎ HasNotRead result few many))

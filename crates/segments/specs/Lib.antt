@@ -26,3 +26,4 @@ pub mod FixedShown
 pub mod FixedReplay
 pub mod FixedStepping
 pub mod FixedWalking
+pub mod FixedFloors

@@ -9,7 +9,9 @@ ghost use Rattle.segments.specs.FixedItems.{HoldsFirstItems};
 ghost use Rattle.segments.specs.Refusing.{IsPruned};
 
 mod cutting;
+mod floors;
 mod opening;
+mod preflighting;
 mod reading;
 mod removing;
 mod replaying;
@@ -19,10 +21,11 @@ mod writing;
 
 use crate::journal::Error;
 use crate::{AppendFactory, Manager, SectionIter};
+pub use preflighting::{BoundaryIter, Preflight};
 pub use replaying::Replay;
 use sealed_pages::Pages;
 use std::alloc::Global;
-use std::collections::BTreeSet;
+use std::collections::{BTreeMap, BTreeSet};
 use std::marker::PhantomData;
 use value_codec::{CodecFixed, Seal};
 
@@ -49,13 +52,14 @@ impl Config {
 /// A list of items per section. Item p of a section stands at byte p times the item's size.
 ///
 /// A section that was opened with bytes in it takes no append until a replay from its start, or from an earlier section, was
-/// drained and finished. Calls that take the journal by value give it up where they refuse; its blobs are then opened again by
+/// drained and finished, unless it has just the bytes that a marker vouched for. Calls that take the journal by value give it up where they refuse; its blobs are then opened again by
 /// an `init`.
 #[derive(Drop)]
 pub struct Journal<A: CodecFixed, S: Seal> {
     alloc: Global,
     manager: Manager<AppendFactory<S>>,
     unrecovered: BTreeSet<u64>,
+    floors: BTreeMap<u64, u64>,
     item: PhantomData<A>,
     ghost sized: { 1 ≤ A.SIZE },
 }

@@ -27,6 +27,7 @@ use crate::journal::Error;
 use crate::unopened::Unopened;
 use crate::{BufferFactory, SectionBuffer};
 use blob_device::{Device, RError};
+pub(crate) use opening::section_numbers;
 use std::alloc::Global;
 use std::collections::BTreeMap;
 

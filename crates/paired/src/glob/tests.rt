@@ -7,7 +7,7 @@ ghost use Rattle.paired.specs.GlobSections.{IsGlob};
 mod crashes;
 mod refusals;
 mod values;
-mod zeros;
+pub(crate) mod zeros;
 
 use super::{Config, Glob, Recovery};
 use blob_device::{Device, Image, Memory};

@@ -13,6 +13,7 @@ ghost use Rattle.segments.specs.Refusing.{HasFailed};
 ghost use Rattle.paired.specs.Crashes.{IsCopy, IsIndexOf, IsOwn, IsValuesOf, InOrder, Keeping};
 ghost use Rattle.paired.specs.Kept.{IsSameLayout, IsMarked, marker_of};
 ghost use Rattle.paired.specs.Pair.{IsPair, IsSoundOn, list_of, synced_length};
+ghost use Rattle.paired.specs.PairFaults.{AreDropped};
 ghost use Rattle.paired.specs.PairRefusing.{HasLostMarkers};
 
 use super::Oversized;
@@ -68,6 +69,8 @@ impl<I: Record, V: Codec, S: Seal> Oversized<I, V, S> {
         ensures lost { HasLostMarkers result (D.faults dev.old) (D.faults dev.new) → ((s : ℕ) × (s < min) × ((m : ℕ) × IsMarked (shown I.place self).store.entries s m)) }
         // Where the device fails in the call of the markers, no section has lost anything.
         ensures lost_first { D.Tells → HasLostMarkers result (D.faults dev.old) (D.faults dev.new) → (q : Key) → (IsIndexOf (shown I.place self).layout (λ s. s < min) q ⊎ IsValuesOf (shown I.place self).layout (λ s. s < min) q) → disk (D.time dev.new) q ≡ disk (D.time dev.old) q }
+        // Where it fails later, the markers below the bound were dropped, durably.
+        ensures fault { D.Tells → IsErrOf result (Error.Runtime Fault) → AreDropped (shown I.place self) min (disk (D.time dev.new)) }
         ensures faults { D.faults dev.old ≤ D.faults dev.new }
         ensures cause { OnErr result (IsErrOf result Error.Full ⊎ (HasFailed result (D.faults dev.old) (D.faults dev.new) ⊎ HasLostMarkers result (D.faults dev.old) (D.faults dev.new))) }
     {

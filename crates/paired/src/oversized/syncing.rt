@@ -4,6 +4,7 @@ ghost use Rattle.std.specs.List.{Contains};
 ghost use Rattle.std.specs.Result.{IsErrOf};
 ghost use Rattle.blob_device.specs.Disk.{Key};
 ghost use Rattle.blob_device.specs.Timeline.{disk, Always};
+ghost use Rattle.blob_device.specs.declared.runtime.RError.TheVariants.{Fault};
 ghost use Rattle.segments.specs.Lasting.{IsUnsettled};
 ghost use Rattle.segments.specs.Sections.{IsHeld, IsSame, SameBounds};
 ghost use Rattle.segments.specs.Refusing.{HasFailed, IsPruned};
@@ -12,7 +13,9 @@ ghost use Rattle.paired.specs.Crashes.{IsBlobOf, IsCopy, IsIndexOf, IsOwn, IsVal
 ghost use Rattle.paired.specs.GlobSections as glob;
 ghost use Rattle.paired.specs.Kept.{IsMarked, IsSameLayout, marker_of};
 ghost use Rattle.paired.specs.Pair.{IsPair, IsSoundOn, IsMoving, list_of, length_of, synced_length};
+ghost use Rattle.paired.specs.PairFaults.{AreAtRest, FaultsInOrder};
 ghost use Rattle.paired.specs.PairRefusing.{HasLostMarkers};
+ghost use Rattle.paired.specs.PairSync.{IsSyncOf, SyncKeeps};
 ghost use Rattle.paired.specs.Tracked.{Trails, synced_of};
 ghost use Rattle.paired.specs.TrackedShown as tracked;
 ghost use Rattle.segments.specs.FixedLists.{section_size};
@@ -71,33 +74,12 @@ impl<I: Record, V: Codec, S: Seal> Oversized<I, V, S> {
         ensures over { IfOk result (λ r. IsPair ⟦<PageBlob<S> as SectionBuffer>⟧ ⟦<AppendFactory<S> as BufferFactory>⟧.gives ⟦<WriteBlob as SectionBuffer>⟧ ⟦<WriteFactory as BufferFactory>⟧.gives D.Tells (shown I.place r) (D.opened dev.new) (disk (D.time dev.new))) }
         ensures sound { D.Tells → IsSoundOn (shown I.place self) (disk (D.time dev.old)) → IfOk result (λ r. IsSoundOn (shown I.place r) (disk (D.time dev.new))) }
         ensures lists { D.Tells → IfOk result (λ r. (s : ℕ) → list_of (shown I.place r) (disk (D.time dev.new)) s ≡ list_of (shown I.place self) (disk (D.time dev.old)) s) }
-        ensures lengths { IfOk result (λ r. (s : ℕ) → length_of (shown I.place r) s ≡ length_of (shown I.place self) s) }
-        ensures held { IfOk result (λ r. (s : ℕ) → IsHeld (shown I.place r).index.sections s ↔ IsHeld (shown I.place self).index.sections s) }
-        ensures values_held { IfOk result (λ r. (s : ℕ) → IsHeld (shown I.place r).values s ↔ IsHeld (shown I.place self).values s) }
-        ensures same { IfOk result (λ r. (s : ℕ) → (Contains sections.now s → ⊥) → IsSame (shown I.place self).index.sections (shown I.place r).index.sections s × IsSame (shown I.place self).values (shown I.place r).values s) }
-        // What was synced of the named sections is all of them.
-        ensures named { IfOk result (λ r. (s : ℕ) → Contains sections.now s → synced_length (shown I.place r) s ≡ length_of (shown I.place self) s) }
-        ensures settled { IfOk result (λ r. (s : ℕ) → Contains sections.now s → IsHeld (shown I.place self).values s → glob.IsAllSettled (shown I.place r).values s) }
-        ensures others { IfOk result (λ r. (s : ℕ) → (Contains sections.now s → ⊥) → synced_length (shown I.place r) s ≡ synced_length (shown I.place self) s) }
-        // The marker of each section that is not named is then what was synced of it; no other moves.
-        ensures markers { IfOk result (λ r. (s : ℕ) → (Contains sections.now s → ⊥) → marker_of (shown I.place r).store.entries s ≡ synced_length (shown I.place r) s) }
-        ensures active { IfOk result (λ r. (s : ℕ) → Contains sections.now s → marker_of (shown I.place r).store.entries s ≡ marker_of (shown I.place self).store.entries s) }
-        // Each marker was there, or was moved to another number.
-        ensures marked { IfOk result (λ r. (s m : ℕ) → IsMarked (shown I.place r).store.entries s m → IsMarked (shown I.place self).store.entries s m ⊎ ((Contains sections.now s → ⊥) × (m ≡ synced_length (shown I.place r) s) × (m ≢ marker_of (shown I.place self).store.entries s))) }
-        ensures still { (((s : ℕ) × IsMoving (shown I.place self) (Contains sections.now) (Contains sections.now) s) → ⊥) → IfOk result (λ r. (shown I.place r).store ≡ (shown I.place self).store) }
-        ensures bounds { IfOk result (λ r. SameBounds (shown I.place self).index.sections (shown I.place r).index.sections × SameBounds (shown I.place self).values (shown I.place r).values) }
-        ensures layout { IfOk result (λ r. IsSameLayout (shown I.place self).layout (shown I.place r).layout) }
+        // All of the named sections is synced, and the markers of the others are moved to what was synced of these.
+        ensures synced { IfOk result (λ r. IsSyncOf (shown I.place self) (Contains sections.now) (Contains sections.now) (shown I.place r)) }
         ensures codec_config { IfOk result (λ r. r.values.codec_config ≡ self.values.codec_config) }
-        // At every moment, also where the call fails, each crash leaves of each section a prefix of its list that holds what was synced; the markers
-        // are true; no blob changes but those of the named sections, and of the markers where one moves.
-        ensures moments { D.Tells → IsSoundOn (shown I.place self) (disk (D.time dev.old)) → Keeping (shown I.place self).layout (list_of (shown I.place self) (disk (D.time dev.old))) (synced_length (shown I.place self)) (λ _. ⊥) (IsOwn (shown I.place self).layout (Contains sections.now)) (D.time dev.old) (D.time dev.new) }
-        ensures alone { D.Tells → (((s : ℕ) × IsMoving (shown I.place self) (Contains sections.now) (Contains sections.now) s) → ⊥) → Always (D.time dev.old) (D.time dev.new) (λ d. (q : Key) → IsCopy (shown I.place self).layout q → d q ≡ disk (D.time dev.old) q) }
-        // Also of a pair that is not sound: the markers are written over their older copy, and no other blob changes.
-        ensures untouched { D.Tells → Always (D.time dev.old) (D.time dev.new) (λ d. (q : Key) → (IsOwn (shown I.place self).layout (λ s. Contains sections.now s × IsHeld (shown I.place self).index.sections s) q → ⊥) → d q ≡ disk (D.time dev.old) q) }
-        ensures newer_stays { D.Tells → Always (D.time dev.old) (D.time dev.new) (λ d. d (blob_of (shown I.place self).layout.metadata (other_side (shown I.place self).store.older)) ≡ disk (D.time dev.old) (blob_of (shown I.place self).layout.metadata (other_side (shown I.place self).store.older))) }
-        // Records first, then values, then markers.
-        ensures order { D.Tells → InOrder (IsIndexOf (shown I.place self).layout (Contains sections.now)) (IsValuesOf (shown I.place self).layout (Contains sections.now)) (D.time dev.old) (D.time dev.new) }
-        ensures markers_last { D.Tells → InOrder (λ q. IsIndexOf (shown I.place self).layout (Contains sections.now) q ⊎ IsValuesOf (shown I.place self).layout (Contains sections.now) q) (IsCopy (shown I.place self).layout) (D.time dev.old) (D.time dev.new) }
+        // At every moment, also where the call fails, each crash leaves of each section a prefix of its list that holds what was synced, and markers that
+        // are true. Records change first, then values, then markers, and no other blob.
+        ensures moments { D.Tells → SyncKeeps (shown I.place self) (Contains sections.now) (Contains sections.now) (D.time dev.old) (D.time dev.new) }
         ensures guard { IsPruned result (shown I.place self).index.sections.floor ↔ ((s : ℕ) × Contains sections.now s × (s < (shown I.place self).index.sections.floor)) }
         ensures refuses { ((s : ℕ) × Contains sections.now s × (s < (shown I.place self).index.sections.floor)) → dev.new ≡ dev.old }
         // Where nothing is left to settle and no marker moves, no call of the device is made.
@@ -107,6 +89,9 @@ impl<I: Record, V: Codec, S: Seal> Oversized<I, V, S> {
         ensures full { IsErrOf result Error.Full → (2 ^ 64 ≤ (shown I.place self).store.version + 1) × ((s : ℕ) × IsMoving (shown I.place self) (Contains sections.now) (Contains sections.now) s) }
         ensures no_version { 2 ^ 64 ≤ (shown I.place self).store.version + 1 → ((s : ℕ) × IsMoving (shown I.place self) (Contains sections.now) (Contains sections.now) s) → OnOk result ⊥ }
         ensures lost { HasLostMarkers result (D.faults dev.old) (D.faults dev.new) → ((s : ℕ) × IsMoving (shown I.place self) (Contains sections.now) (Contains sections.now) s) }
+        // Where the device fails in a call of index or values, no copy of the markers has changed; where it fails in one of the markers, the
+        // named sections have settled.
+        ensures fault { D.Tells → FaultsInOrder (shown I.place self) (Contains sections.now) result (D.faults dev.old) (D.faults dev.new) (D.time dev.old) (D.time dev.new) }
         ensures faults { D.faults dev.old ≤ D.faults dev.new }
         ensures cause { OnErr result (IsPruned result (shown I.place self).index.sections.floor ⊎ (IsErrOf result Error.Full ⊎ (HasFailed result (D.faults dev.old) (D.faults dev.new) ⊎ HasLostMarkers result (D.faults dev.old) (D.faults dev.new)))) }
     {
@@ -123,33 +108,12 @@ impl<I: Record, V: Codec, S: Seal> Oversized<I, V, S> {
         ensures over { IfOk result (λ r. IsPair ⟦<PageBlob<S> as SectionBuffer>⟧ ⟦<AppendFactory<S> as BufferFactory>⟧.gives ⟦<WriteBlob as SectionBuffer>⟧ ⟦<WriteFactory as BufferFactory>⟧.gives D.Tells (shown I.place r.0) (D.opened dev.new) (disk (D.time dev.new))) }
         ensures sound { D.Tells → IsSoundOn (shown I.place self) (disk (D.time dev.old)) → IfOk result (λ r. IsSoundOn (shown I.place r.0) (disk (D.time dev.new))) }
         ensures lists { D.Tells → IfOk result (λ r. (s : ℕ) → list_of (shown I.place r.0) (disk (D.time dev.new)) s ≡ list_of (shown I.place self) (disk (D.time dev.old)) s) }
-        ensures lengths { IfOk result (λ r. (s : ℕ) → length_of (shown I.place r.0) s ≡ length_of (shown I.place self) s) }
-        ensures held { IfOk result (λ r. (s : ℕ) → IsHeld (shown I.place r.0).index.sections s ↔ IsHeld (shown I.place self).index.sections s) }
-        ensures values_held { IfOk result (λ r. (s : ℕ) → IsHeld (shown I.place r.0).values s ↔ IsHeld (shown I.place self).values s) }
-        ensures same { IfOk result (λ r. (s : ℕ) → (Contains sections.now s → ⊥) → IsSame (shown I.place self).index.sections (shown I.place r.0).index.sections s × IsSame (shown I.place self).values (shown I.place r.0).values s) }
-        // What was synced of the named sections is all of them.
-        ensures named { IfOk result (λ r. (s : ℕ) → Contains sections.now s → synced_length (shown I.place r.0) s ≡ length_of (shown I.place self) s) }
-        ensures settled { IfOk result (λ r. (s : ℕ) → Contains sections.now s → IsHeld (shown I.place self).values s → glob.IsAllSettled (shown I.place r.0).values s) }
-        ensures others { IfOk result (λ r. (s : ℕ) → (Contains sections.now s → ⊥) → synced_length (shown I.place r.0) s ≡ synced_length (shown I.place self) s) }
-        // The marker of each section that is not named is then what was synced of it; no other moves.
-        ensures markers { IfOk result (λ r. (s : ℕ) → (Contains sections.now s → ⊥) → marker_of (shown I.place r.0).store.entries s ≡ synced_length (shown I.place r.0) s) }
-        ensures active { IfOk result (λ r. (s : ℕ) → Contains sections.now s → marker_of (shown I.place r.0).store.entries s ≡ marker_of (shown I.place self).store.entries s) }
-        // Each marker was there, or was moved to another number.
-        ensures marked { IfOk result (λ r. (s m : ℕ) → IsMarked (shown I.place r.0).store.entries s m → IsMarked (shown I.place self).store.entries s m ⊎ ((Contains sections.now s → ⊥) × (m ≡ synced_length (shown I.place r.0) s) × (m ≢ marker_of (shown I.place self).store.entries s))) }
-        ensures still { (((s : ℕ) × IsMoving (shown I.place self) (Contains sections.now) (Contains sections.now) s) → ⊥) → IfOk result (λ r. (shown I.place r.0).store ≡ (shown I.place self).store) }
-        ensures bounds { IfOk result (λ r. SameBounds (shown I.place self).index.sections (shown I.place r.0).index.sections × SameBounds (shown I.place self).values (shown I.place r.0).values) }
-        ensures layout { IfOk result (λ r. IsSameLayout (shown I.place self).layout (shown I.place r.0).layout) }
+        // All of the named sections is synced, and the markers of the others are moved to what was synced of these.
+        ensures synced { IfOk result (λ r. IsSyncOf (shown I.place self) (Contains sections.now) (Contains sections.now) (shown I.place r.0)) }
         ensures codec_config { IfOk result (λ r. r.0.values.codec_config ≡ self.values.codec_config) }
-        // At every moment, also where the call fails, each crash leaves of each section a prefix of its list that holds what was synced; the markers
-        // are true; no blob changes but those of the named sections, and of the markers where one moves.
-        ensures moments { D.Tells → IsSoundOn (shown I.place self) (disk (D.time dev.old)) → Keeping (shown I.place self).layout (list_of (shown I.place self) (disk (D.time dev.old))) (synced_length (shown I.place self)) (λ _. ⊥) (IsOwn (shown I.place self).layout (Contains sections.now)) (D.time dev.old) (D.time dev.new) }
-        ensures alone { D.Tells → (((s : ℕ) × IsMoving (shown I.place self) (Contains sections.now) (Contains sections.now) s) → ⊥) → Always (D.time dev.old) (D.time dev.new) (λ d. (q : Key) → IsCopy (shown I.place self).layout q → d q ≡ disk (D.time dev.old) q) }
-        // Also of a pair that is not sound: the markers are written over their older copy, and no other blob changes.
-        ensures untouched { D.Tells → Always (D.time dev.old) (D.time dev.new) (λ d. (q : Key) → (IsOwn (shown I.place self).layout (λ s. Contains sections.now s × IsHeld (shown I.place self).index.sections s) q → ⊥) → d q ≡ disk (D.time dev.old) q) }
-        ensures newer_stays { D.Tells → Always (D.time dev.old) (D.time dev.new) (λ d. d (blob_of (shown I.place self).layout.metadata (other_side (shown I.place self).store.older)) ≡ disk (D.time dev.old) (blob_of (shown I.place self).layout.metadata (other_side (shown I.place self).store.older))) }
-        // Records first, then values, then markers.
-        ensures order { D.Tells → InOrder (IsIndexOf (shown I.place self).layout (Contains sections.now)) (IsValuesOf (shown I.place self).layout (Contains sections.now)) (D.time dev.old) (D.time dev.new) }
-        ensures markers_last { D.Tells → InOrder (λ q. IsIndexOf (shown I.place self).layout (Contains sections.now) q ⊎ IsValuesOf (shown I.place self).layout (Contains sections.now) q) (IsCopy (shown I.place self).layout) (D.time dev.old) (D.time dev.new) }
+        // At every moment, also where the call fails, each crash leaves of each section a prefix of its list that holds what was synced, and markers that
+        // are true. Records change first, then values, then markers, and no other blob.
+        ensures moments { D.Tells → SyncKeeps (shown I.place self) (Contains sections.now) (Contains sections.now) (D.time dev.old) (D.time dev.new) }
         ensures guard { IsPruned result (shown I.place self).index.sections.floor ↔ ((s : ℕ) × Contains sections.now s × (s < (shown I.place self).index.sections.floor)) }
         ensures refuses { ((s : ℕ) × Contains sections.now s × (s < (shown I.place self).index.sections.floor)) → dev.new ≡ dev.old }
         // Where nothing is left to settle and no marker moves, no call of the device is made.
@@ -159,6 +123,9 @@ impl<I: Record, V: Codec, S: Seal> Oversized<I, V, S> {
         ensures full { IsErrOf result Error.Full → (2 ^ 64 ≤ (shown I.place self).store.version + 1) × ((s : ℕ) × IsMoving (shown I.place self) (Contains sections.now) (Contains sections.now) s) }
         ensures no_version { 2 ^ 64 ≤ (shown I.place self).store.version + 1 → ((s : ℕ) × IsMoving (shown I.place self) (Contains sections.now) (Contains sections.now) s) → OnOk result ⊥ }
         ensures lost { HasLostMarkers result (D.faults dev.old) (D.faults dev.new) → ((s : ℕ) × IsMoving (shown I.place self) (Contains sections.now) (Contains sections.now) s) }
+        // Where the device fails in a call of index or values, no copy of the markers has changed; where it fails in one of the markers, the
+        // named sections have settled.
+        ensures fault { D.Tells → FaultsInOrder (shown I.place self) (Contains sections.now) result (D.faults dev.old) (D.faults dev.new) (D.time dev.old) (D.time dev.new) }
         ensures faults { D.faults dev.old ≤ D.faults dev.new }
         ensures cause { OnErr result (IsPruned result (shown I.place self).index.sections.floor ⊎ (IsErrOf result Error.Full ⊎ (HasFailed result (D.faults dev.old) (D.faults dev.new) ⊎ HasLostMarkers result (D.faults dev.old) (D.faults dev.new)))) }
     {
@@ -188,6 +155,8 @@ impl<I: Record, V: Codec, S: Seal> Oversized<I, V, S> {
         // Where nothing is left to settle, no call of the device is made.
         ensures idle { ((s : ℕ) → IsUnsettled ⟦<PageBlob<S> as SectionBuffer>⟧ (shown I.place self).index.sections s ⊎ glob.IsUnsettled (shown I.place self).values s → ⊥) → dev.new ≡ dev.old }
         ensures entries { (q : Key) → (IsIndexOf (shown I.place self).layout (λ _. ⊤) q → ⊥) → (IsValuesOf (shown I.place self).layout (λ _. ⊤) q → ⊥) → D.opened dev.new q ≡ D.opened dev.old q }
+        // No copy of the markers changes.
+        ensures fault { D.Tells → FaultsInOrder (shown I.place self) (λ _. ⊤) result (D.faults dev.old) (D.faults dev.new) (D.time dev.old) (D.time dev.new) }
         ensures faults { D.faults dev.old ≤ D.faults dev.new }
         ensures cause { OnErr result (HasFailed result (D.faults dev.old) (D.faults dev.new)) }
     {
@@ -216,6 +185,7 @@ impl<I: Record, V: Codec, S: Seal> Oversized<I, V, S> {
         ensures alone { D.Tells → Always (D.time dev.old) (D.time dev.new) (λ d. (q : Key) → (IsBlobOf (shown I.place self).layout (Contains sections.now) q → ⊥) → d q ≡ disk (D.time dev.old) q) }
         ensures untouched { D.Tells → Always (D.time dev.old) (D.time dev.new) (λ d. (q : Key) → (IsBlobOf (shown I.place self).layout (λ s. Contains sections.now s × IsHeld (shown I.place self).index.sections s) q → ⊥) → d q ≡ disk (D.time dev.old) q) }
         ensures order { D.Tells → InOrder (IsIndexOf (shown I.place self).layout (Contains sections.now)) (IsValuesOf (shown I.place self).layout (Contains sections.now)) (D.time dev.old) (D.time dev.new) }
+        ensures rests { D.Tells → OnOk result (AreAtRest (shown I.place self) (Contains sections.now) (disk (D.time dev.new))) }
         ensures guard { IsPruned result (shown I.place self).index.sections.floor ↔ ((s : ℕ) × Contains sections.now s × (s < (shown I.place self).index.sections.floor)) }
         ensures refuses { ((s : ℕ) × Contains sections.now s × (s < (shown I.place self).index.sections.floor)) → dev.new ≡ dev.old }
         ensures idle { ((s : ℕ) → Contains sections.now s → IsUnsettled ⟦<PageBlob<S> as SectionBuffer>⟧ (shown I.place self).index.sections s ⊎ glob.IsUnsettled (shown I.place self).values s → ⊥) → dev.new ≡ dev.old }
@@ -252,6 +222,8 @@ impl<I: Record, V: Codec, S: Seal> Oversized<I, V, S> {
         ensures full { IsErrOf result Error.Full → (2 ^ 64 ≤ (shown I.place self).store.version + 1) × ((s : ℕ) × IsMoving (shown I.place self) (λ _. ⊥) (Contains active.now) s) }
         ensures no_version { 2 ^ 64 ≤ (shown I.place self).store.version + 1 → ((s : ℕ) × IsMoving (shown I.place self) (λ _. ⊥) (Contains active.now) s) → OnOk result ⊥ }
         ensures lost { HasLostMarkers result (D.faults dev.old) (D.faults dev.new) → ((s : ℕ) × IsMoving (shown I.place self) (λ _. ⊥) (Contains active.now) s) }
+        // The device's failure is one of the markers.
+        ensures fault { IsErrOf result (Error.Runtime Fault) → ⊥ }
         ensures faults { D.faults dev.old ≤ D.faults dev.new }
         ensures cause { OnErr result (IsErrOf result Error.Full ⊎ (HasFailed result (D.faults dev.old) (D.faults dev.new) ⊎ HasLostMarkers result (D.faults dev.old) (D.faults dev.new))) }
     {
@@ -273,33 +245,12 @@ impl<I: Record, V: Codec, S: Seal> Oversized<I, V, S> {
         ensures over { IfOk result (λ r. IsPair ⟦<PageBlob<S> as SectionBuffer>⟧ ⟦<AppendFactory<S> as BufferFactory>⟧.gives ⟦<WriteBlob as SectionBuffer>⟧ ⟦<WriteFactory as BufferFactory>⟧.gives D.Tells (shown I.place r) (D.opened dev.new) (disk (D.time dev.new))) }
         ensures sound { D.Tells → IsSoundOn (shown I.place self) (disk (D.time dev.old)) → IfOk result (λ r. IsSoundOn (shown I.place r) (disk (D.time dev.new))) }
         ensures lists { D.Tells → IfOk result (λ r. (s : ℕ) → list_of (shown I.place r) (disk (D.time dev.new)) s ≡ list_of (shown I.place self) (disk (D.time dev.old)) s) }
-        ensures lengths { IfOk result (λ r. (s : ℕ) → length_of (shown I.place r) s ≡ length_of (shown I.place self) s) }
-        ensures held { IfOk result (λ r. (s : ℕ) → IsHeld (shown I.place r).index.sections s ↔ IsHeld (shown I.place self).index.sections s) }
-        ensures values_held { IfOk result (λ r. (s : ℕ) → IsHeld (shown I.place r).values s ↔ IsHeld (shown I.place self).values s) }
-        ensures same { IfOk result (λ r. (s : ℕ) → (Contains sections.now s → ⊥) → IsSame (shown I.place self).index.sections (shown I.place r).index.sections s × IsSame (shown I.place self).values (shown I.place r).values s) }
-        // What was synced of the named sections is all of them.
-        ensures named { IfOk result (λ r. (s : ℕ) → Contains sections.now s → synced_length (shown I.place r) s ≡ length_of (shown I.place self) s) }
-        ensures settled { IfOk result (λ r. (s : ℕ) → Contains sections.now s → IsHeld (shown I.place self).values s → glob.IsAllSettled (shown I.place r).values s) }
-        ensures others { IfOk result (λ r. (s : ℕ) → (Contains sections.now s → ⊥) → synced_length (shown I.place r) s ≡ synced_length (shown I.place self) s) }
-        // The marker of each section that is not active is then what was synced of it; no other moves.
-        ensures markers { IfOk result (λ r. (s : ℕ) → (Contains active.now s → ⊥) → marker_of (shown I.place r).store.entries s ≡ synced_length (shown I.place r) s) }
-        ensures active { IfOk result (λ r. (s : ℕ) → Contains active.now s → marker_of (shown I.place r).store.entries s ≡ marker_of (shown I.place self).store.entries s) }
-        // Each marker was there, or was moved to another number.
-        ensures marked { IfOk result (λ r. (s m : ℕ) → IsMarked (shown I.place r).store.entries s m → IsMarked (shown I.place self).store.entries s m ⊎ ((Contains active.now s → ⊥) × (m ≡ synced_length (shown I.place r) s) × (m ≢ marker_of (shown I.place self).store.entries s))) }
-        ensures still { (((s : ℕ) × IsMoving (shown I.place self) (Contains sections.now) (Contains active.now) s) → ⊥) → IfOk result (λ r. (shown I.place r).store ≡ (shown I.place self).store) }
-        ensures bounds { IfOk result (λ r. SameBounds (shown I.place self).index.sections (shown I.place r).index.sections × SameBounds (shown I.place self).values (shown I.place r).values) }
-        ensures layout { IfOk result (λ r. IsSameLayout (shown I.place self).layout (shown I.place r).layout) }
+        // All of the named sections is synced, and the markers of the sections that are not active are moved to what was synced of these.
+        ensures synced { IfOk result (λ r. IsSyncOf (shown I.place self) (Contains sections.now) (Contains active.now) (shown I.place r)) }
         ensures codec_config { IfOk result (λ r. r.values.codec_config ≡ self.values.codec_config) }
-        // At every moment, also where the call fails, each crash leaves of each section a prefix of its list that holds what was synced; the markers
-        // are true; no blob changes but those of the named sections, and of the markers where one moves.
-        ensures moments { D.Tells → IsSoundOn (shown I.place self) (disk (D.time dev.old)) → Keeping (shown I.place self).layout (list_of (shown I.place self) (disk (D.time dev.old))) (synced_length (shown I.place self)) (λ _. ⊥) (IsOwn (shown I.place self).layout (Contains sections.now)) (D.time dev.old) (D.time dev.new) }
-        ensures alone { D.Tells → (((s : ℕ) × IsMoving (shown I.place self) (Contains sections.now) (Contains active.now) s) → ⊥) → Always (D.time dev.old) (D.time dev.new) (λ d. (q : Key) → IsCopy (shown I.place self).layout q → d q ≡ disk (D.time dev.old) q) }
-        // Also of a pair that is not sound: the markers are written over their older copy, and no other blob changes.
-        ensures untouched { D.Tells → Always (D.time dev.old) (D.time dev.new) (λ d. (q : Key) → (IsOwn (shown I.place self).layout (λ s. Contains sections.now s × IsHeld (shown I.place self).index.sections s) q → ⊥) → d q ≡ disk (D.time dev.old) q) }
-        ensures newer_stays { D.Tells → Always (D.time dev.old) (D.time dev.new) (λ d. d (blob_of (shown I.place self).layout.metadata (other_side (shown I.place self).store.older)) ≡ disk (D.time dev.old) (blob_of (shown I.place self).layout.metadata (other_side (shown I.place self).store.older))) }
-        // Records first, then values, then markers.
-        ensures order { D.Tells → InOrder (IsIndexOf (shown I.place self).layout (Contains sections.now)) (IsValuesOf (shown I.place self).layout (Contains sections.now)) (D.time dev.old) (D.time dev.new) }
-        ensures markers_last { D.Tells → InOrder (λ q. IsIndexOf (shown I.place self).layout (Contains sections.now) q ⊎ IsValuesOf (shown I.place self).layout (Contains sections.now) q) (IsCopy (shown I.place self).layout) (D.time dev.old) (D.time dev.new) }
+        // At every moment, also where the call fails, each crash leaves of each section a prefix of its list that holds what was synced, and markers that
+        // are true. Records change first, then values, then markers, and no other blob.
+        ensures moments { D.Tells → SyncKeeps (shown I.place self) (Contains sections.now) (Contains active.now) (D.time dev.old) (D.time dev.new) }
         ensures guard { IsPruned result (shown I.place self).index.sections.floor ↔ ((s : ℕ) × Contains sections.now s × (s < (shown I.place self).index.sections.floor)) }
         ensures refuses { ((s : ℕ) × Contains sections.now s × (s < (shown I.place self).index.sections.floor)) → dev.new ≡ dev.old }
         // Where nothing is left to settle and no marker moves, no call of the device is made.
@@ -309,6 +260,9 @@ impl<I: Record, V: Codec, S: Seal> Oversized<I, V, S> {
         ensures full { IsErrOf result Error.Full → (2 ^ 64 ≤ (shown I.place self).store.version + 1) × ((s : ℕ) × IsMoving (shown I.place self) (Contains sections.now) (Contains active.now) s) }
         ensures no_version { 2 ^ 64 ≤ (shown I.place self).store.version + 1 → ((s : ℕ) × IsMoving (shown I.place self) (Contains sections.now) (Contains active.now) s) → OnOk result ⊥ }
         ensures lost { HasLostMarkers result (D.faults dev.old) (D.faults dev.new) → ((s : ℕ) × IsMoving (shown I.place self) (Contains sections.now) (Contains active.now) s) }
+        // Where the device fails in a call of index or values, no copy of the markers has changed; where it fails in one of the markers, the
+        // named sections have settled.
+        ensures fault { D.Tells → FaultsInOrder (shown I.place self) (Contains sections.now) result (D.faults dev.old) (D.faults dev.new) (D.time dev.old) (D.time dev.new) }
         ensures faults { D.faults dev.old ≤ D.faults dev.new }
         ensures cause { OnErr result (IsPruned result (shown I.place self).index.sections.floor ⊎ (IsErrOf result Error.Full ⊎ (HasFailed result (D.faults dev.old) (D.faults dev.new) ⊎ HasLostMarkers result (D.faults dev.old) (D.faults dev.new)))) }
     {
@@ -327,33 +281,12 @@ impl<I: Record, V: Codec, S: Seal> Oversized<I, V, S> {
         ensures over { IfOk result (λ r. IsPair ⟦<PageBlob<S> as SectionBuffer>⟧ ⟦<AppendFactory<S> as BufferFactory>⟧.gives ⟦<WriteBlob as SectionBuffer>⟧ ⟦<WriteFactory as BufferFactory>⟧.gives D.Tells (shown I.place r.0) (D.opened dev.new) (disk (D.time dev.new))) }
         ensures sound { D.Tells → IsSoundOn (shown I.place self) (disk (D.time dev.old)) → IfOk result (λ r. IsSoundOn (shown I.place r.0) (disk (D.time dev.new))) }
         ensures lists { D.Tells → IfOk result (λ r. (s : ℕ) → list_of (shown I.place r.0) (disk (D.time dev.new)) s ≡ list_of (shown I.place self) (disk (D.time dev.old)) s) }
-        ensures lengths { IfOk result (λ r. (s : ℕ) → length_of (shown I.place r.0) s ≡ length_of (shown I.place self) s) }
-        ensures held { IfOk result (λ r. (s : ℕ) → IsHeld (shown I.place r.0).index.sections s ↔ IsHeld (shown I.place self).index.sections s) }
-        ensures values_held { IfOk result (λ r. (s : ℕ) → IsHeld (shown I.place r.0).values s ↔ IsHeld (shown I.place self).values s) }
-        ensures same { IfOk result (λ r. (s : ℕ) → (Contains sections.now s → ⊥) → IsSame (shown I.place self).index.sections (shown I.place r.0).index.sections s × IsSame (shown I.place self).values (shown I.place r.0).values s) }
-        // What was synced of the named sections is all of them.
-        ensures named { IfOk result (λ r. (s : ℕ) → Contains sections.now s → synced_length (shown I.place r.0) s ≡ length_of (shown I.place self) s) }
-        ensures settled { IfOk result (λ r. (s : ℕ) → Contains sections.now s → IsHeld (shown I.place self).values s → glob.IsAllSettled (shown I.place r.0).values s) }
-        ensures others { IfOk result (λ r. (s : ℕ) → (Contains sections.now s → ⊥) → synced_length (shown I.place r.0) s ≡ synced_length (shown I.place self) s) }
-        // The marker of each section that is not active is then what was synced of it; no other moves.
-        ensures markers { IfOk result (λ r. (s : ℕ) → (Contains active.now s → ⊥) → marker_of (shown I.place r.0).store.entries s ≡ synced_length (shown I.place r.0) s) }
-        ensures active { IfOk result (λ r. (s : ℕ) → Contains active.now s → marker_of (shown I.place r.0).store.entries s ≡ marker_of (shown I.place self).store.entries s) }
-        // Each marker was there, or was moved to another number.
-        ensures marked { IfOk result (λ r. (s m : ℕ) → IsMarked (shown I.place r.0).store.entries s m → IsMarked (shown I.place self).store.entries s m ⊎ ((Contains active.now s → ⊥) × (m ≡ synced_length (shown I.place r.0) s) × (m ≢ marker_of (shown I.place self).store.entries s))) }
-        ensures still { (((s : ℕ) × IsMoving (shown I.place self) (Contains sections.now) (Contains active.now) s) → ⊥) → IfOk result (λ r. (shown I.place r.0).store ≡ (shown I.place self).store) }
-        ensures bounds { IfOk result (λ r. SameBounds (shown I.place self).index.sections (shown I.place r.0).index.sections × SameBounds (shown I.place self).values (shown I.place r.0).values) }
-        ensures layout { IfOk result (λ r. IsSameLayout (shown I.place self).layout (shown I.place r.0).layout) }
+        // All of the named sections is synced, and the markers of the sections that are not active are moved to what was synced of these.
+        ensures synced { IfOk result (λ r. IsSyncOf (shown I.place self) (Contains sections.now) (Contains active.now) (shown I.place r.0)) }
         ensures codec_config { IfOk result (λ r. r.0.values.codec_config ≡ self.values.codec_config) }
-        // At every moment, also where the call fails, each crash leaves of each section a prefix of its list that holds what was synced; the markers
-        // are true; no blob changes but those of the named sections, and of the markers where one moves.
-        ensures moments { D.Tells → IsSoundOn (shown I.place self) (disk (D.time dev.old)) → Keeping (shown I.place self).layout (list_of (shown I.place self) (disk (D.time dev.old))) (synced_length (shown I.place self)) (λ _. ⊥) (IsOwn (shown I.place self).layout (Contains sections.now)) (D.time dev.old) (D.time dev.new) }
-        ensures alone { D.Tells → (((s : ℕ) × IsMoving (shown I.place self) (Contains sections.now) (Contains active.now) s) → ⊥) → Always (D.time dev.old) (D.time dev.new) (λ d. (q : Key) → IsCopy (shown I.place self).layout q → d q ≡ disk (D.time dev.old) q) }
-        // Also of a pair that is not sound: the markers are written over their older copy, and no other blob changes.
-        ensures untouched { D.Tells → Always (D.time dev.old) (D.time dev.new) (λ d. (q : Key) → (IsOwn (shown I.place self).layout (λ s. Contains sections.now s × IsHeld (shown I.place self).index.sections s) q → ⊥) → d q ≡ disk (D.time dev.old) q) }
-        ensures newer_stays { D.Tells → Always (D.time dev.old) (D.time dev.new) (λ d. d (blob_of (shown I.place self).layout.metadata (other_side (shown I.place self).store.older)) ≡ disk (D.time dev.old) (blob_of (shown I.place self).layout.metadata (other_side (shown I.place self).store.older))) }
-        // Records first, then values, then markers.
-        ensures order { D.Tells → InOrder (IsIndexOf (shown I.place self).layout (Contains sections.now)) (IsValuesOf (shown I.place self).layout (Contains sections.now)) (D.time dev.old) (D.time dev.new) }
-        ensures markers_last { D.Tells → InOrder (λ q. IsIndexOf (shown I.place self).layout (Contains sections.now) q ⊎ IsValuesOf (shown I.place self).layout (Contains sections.now) q) (IsCopy (shown I.place self).layout) (D.time dev.old) (D.time dev.new) }
+        // At every moment, also where the call fails, each crash leaves of each section a prefix of its list that holds what was synced, and markers that
+        // are true. Records change first, then values, then markers, and no other blob.
+        ensures moments { D.Tells → SyncKeeps (shown I.place self) (Contains sections.now) (Contains active.now) (D.time dev.old) (D.time dev.new) }
         ensures guard { IsPruned result (shown I.place self).index.sections.floor ↔ ((s : ℕ) × Contains sections.now s × (s < (shown I.place self).index.sections.floor)) }
         ensures refuses { ((s : ℕ) × Contains sections.now s × (s < (shown I.place self).index.sections.floor)) → dev.new ≡ dev.old }
         // Where nothing is left to settle and no marker moves, no call of the device is made.
@@ -363,6 +296,9 @@ impl<I: Record, V: Codec, S: Seal> Oversized<I, V, S> {
         ensures full { IsErrOf result Error.Full → (2 ^ 64 ≤ (shown I.place self).store.version + 1) × ((s : ℕ) × IsMoving (shown I.place self) (Contains sections.now) (Contains active.now) s) }
         ensures no_version { 2 ^ 64 ≤ (shown I.place self).store.version + 1 → ((s : ℕ) × IsMoving (shown I.place self) (Contains sections.now) (Contains active.now) s) → OnOk result ⊥ }
         ensures lost { HasLostMarkers result (D.faults dev.old) (D.faults dev.new) → ((s : ℕ) × IsMoving (shown I.place self) (Contains sections.now) (Contains active.now) s) }
+        // Where the device fails in a call of index or values, no copy of the markers has changed; where it fails in one of the markers, the
+        // named sections have settled.
+        ensures fault { D.Tells → FaultsInOrder (shown I.place self) (Contains sections.now) result (D.faults dev.old) (D.faults dev.new) (D.time dev.old) (D.time dev.new) }
         ensures faults { D.faults dev.old ≤ D.faults dev.new }
         ensures cause { OnErr result (IsPruned result (shown I.place self).index.sections.floor ⊎ (IsErrOf result Error.Full ⊎ (HasFailed result (D.faults dev.old) (D.faults dev.new) ⊎ HasLostMarkers result (D.faults dev.old) (D.faults dev.new)))) }
     {

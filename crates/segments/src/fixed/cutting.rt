@@ -7,10 +7,12 @@ ghost use Rattle.blob_device.specs.Timeline.{disk};
 ghost use Rattle.sealed_pages.specs.Buffer.{size_of};
 ghost use Rattle.sealed_pages.specs.SealedPrefix.{sealed_prefix};
 ghost use Rattle.sealed_pages.specs.ChanceSeal.{Sealing};
+ghost use Rattle.sealed_pages.specs.Flushing.{Alone};
 ghost use Rattle.segments.specs.Sections.{key_of, IsSame, SameBounds, IsCut};
 ghost use Rattle.segments.specs.Refusing.{HasDamage, HasFailed, IsPruned};
 
 use super::Journal;
+use super::floors::lower_to;
 use crate::journal::Error;
 use crate::{AppendFactory, BufferFactory, SectionBuffer};
 use blob_device::Device;
@@ -31,10 +33,10 @@ fn forget_emptied(numbers: &mut BTreeSet<u64>, section: u64, size: u64)
 impl<A: CodecFixed, S: Seal> Journal<A, S> {
     ghost use Rattle.sealed_pages.specs.Shown as page_blob;
     ghost use Rattle.segments.specs.FixedShown.{shown};
-    ghost use Rattle.segments.specs.FixedLists.{IsJournal, section_bytes};
+    ghost use Rattle.segments.specs.FixedLists.{IsJournal, IsProven, section_bytes};
 
     /// Shortens this section to `size` bytes, if it is held and longer. A shorter length is durable when this returns. A section that
-    /// is cut to nothing takes appends again.
+    /// is cut to nothing takes appends again. The section's floor is no higher than `size` from then on.
     pub fn truncate_pending_section<D: Device>(
         self,
         dev: &mut D,
@@ -42,9 +44,9 @@ impl<A: CodecFixed, S: Seal> Journal<A, S> {
         size: u64,
     ) -> Result<Self, Error>
         requires over { IsJournal ⟦<PageBlob<S> as SectionBuffer>⟧ ⟦<AppendFactory<S> as BufferFactory>⟧.gives S.seal_of A.SIZE D.Tells (shown self) (D.opened dev.old) (disk (D.time dev.old)) }
-        // A cut is to whole items, and of a section that owes a replay to at most its sealed prefix.
+        // A cut is to whole items, and of a section that owes a replay or has a floor to at most its sealed prefix.
         requires whole { IsSomeAnd ((shown self).sections.held section) (λ u. size < size_of (page_blob.shown u)) → size % A.SIZE ≡ 0 }
-        requires sealed { D.Tells → (u : _) → (shown self).sections.held section ≡ Some u → size < size_of (page_blob.shown u) → IsTrue ((shown self).unrecovered section)
+        requires sealed { D.Tells → (u : _) → (shown self).sections.held section ≡ Some u → size < size_of (page_blob.shown u) → (IsProven (shown self) section → ⊥)
             → size ≤ length (sealed_prefix S.seal_of u.page_size (disk (D.time dev.old) (key_of (shown self).sections section)).content) }
         ensures over { IfOk result (λ r. IsJournal ⟦<PageBlob<S> as SectionBuffer>⟧ ⟦<AppendFactory<S> as BufferFactory>⟧.gives S.seal_of A.SIZE D.Tells (shown r) (D.opened dev.new) (disk (D.time dev.new))) }
         ensures cut { IfOk result (λ r. (u : _) → (shown self).sections.held section ≡ Some u
@@ -55,9 +57,13 @@ impl<A: CodecFixed, S: Seal> Journal<A, S> {
         ensures bounds { IfOk result (λ r. SameBounds (shown self).sections (shown r).sections) }
         ensures emptied { size ≡ 0 → IfOk result (λ r. (shown r).unrecovered section ≡ false) }
         ensures unrecovered { IfOk result (λ r. (q : ℕ) → (q ≢ section) ⊎ (0 < size) → (shown r).unrecovered q ≡ (shown self).unrecovered q) }
-        // At every moment, also where the call fails, each crash leaves of a recovered section a prefix of its bytes, no shorter than what had
-        // settled or than the cut; no other blob changes.
-        ensures moments { D.Tells → (u : _) → (shown self).sections.held section ≡ Some u → (shown self).unrecovered section ≡ false
+        ensures lowered { IfOk result (λ r. (shown r).floor_of section ≡ min ((shown self).floor_of section) size) }
+        ensures floors { IfOk result (λ r. (q : ℕ) → q ≢ section → (shown r).floor_of q ≡ (shown self).floor_of q) }
+        // At every moment, also where the call fails, no other blob changes.
+        ensures alone { D.Tells → Alone (key_of (shown self).sections section) (D.time dev.old) (D.time dev.new) }
+        // Each crash leaves of a section without a floor that owes no replay a prefix of its bytes, no shorter than what had settled or than
+        // the cut.
+        ensures moments { D.Tells → (u : _) → (shown self).sections.held section ≡ Some u → IsProven (shown self) section
             → Sealing S.seal_of u.page_size (section_bytes (shown self).sections (disk (D.time dev.old)) section) (min u.settled size) (key_of (shown self).sections section) (D.time dev.old) (D.time dev.new) }
         // Of a section that owes a replay it leaves a prefix of its sealed prefix as it reads, no shorter than the cut.
         ensures front { D.Tells → (u : _) → (shown self).sections.held section ≡ Some u → IsTrue ((shown self).unrecovered section)
@@ -75,6 +81,7 @@ impl<A: CodecFixed, S: Seal> Journal<A, S> {
         let mut this = self;
         this.manager = this.manager.truncate_pending_section(dev, section, size)?;
         forget_emptied(&mut this.unrecovered, section, size);
+        lower_to(&mut this.floors, section, size);
         Ok(this)
     }
 }

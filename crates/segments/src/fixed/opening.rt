@@ -19,7 +19,7 @@ use crate::{AppendFactory, BufferFactory, Manager, ManagerConfig, SectionBuffer}
 use blob_device::Device;
 use sealed_pages::PageBlob;
 use std::alloc::Global;
-use std::collections::BTreeSet;
+use std::collections::{BTreeMap, BTreeSet};
 use std::marker::PhantomData;
 use value_codec::{CodecFixed, Seal};
 
@@ -57,6 +57,7 @@ impl<A: CodecFixed, S: Seal> Journal<A, S> {
             → section_bytes (shown r).sections (disk (D.time dev.new)) s ≡ ⟦<PageBlob<S> as SectionBuffer>⟧.holds (⟦<AppendFactory<S> as BufferFactory>⟧.gives (shown r).sections.factory) (disk (D.time dev.old) (section_key (string_bytes cfg.now.partition) s)).content) }
         // A section with bytes owes a replay, and no other does.
         ensures unrecovered { IfOk result (λ r. (s : ℕ) → IsTrue ((shown r).unrecovered s) ↔ (0 < section_size (shown r).sections s)) }
+        ensures floors { IfOk result (λ r. (s : ℕ) → (shown r).floor_of s ≡ 0) }
         ensures partition { IfOk result (λ r. (shown r).sections.partition ≡ string_bytes cfg.now.partition) }
         ensures pages { IfOk result (λ r. (shown r).sections.factory.pages ≡ cfg.now.pages) }
         ensures write_buffer { IfOk result (λ r. (shown r).sections.factory.write_buffer ≡ cfg.now.write_buffer) }
@@ -97,6 +98,7 @@ impl<A: CodecFixed, S: Seal> Journal<A, S> {
             → section_bytes (shown r).sections (disk (D.time dev.new)) s ≡ ⟦<PageBlob<S> as SectionBuffer>⟧.holds (⟦<AppendFactory<S> as BufferFactory>⟧.gives (shown r).sections.factory) (disk (D.time dev.old) (section_key (string_bytes cfg.now.partition) s)).content) }
         // A section with bytes owes a replay, and no other does.
         ensures unrecovered { IfOk result (λ r. (s : ℕ) → IsTrue ((shown r).unrecovered s) ↔ (0 < section_size (shown r).sections s)) }
+        ensures floors { IfOk result (λ r. (s : ℕ) → (shown r).floor_of s ≡ 0) }
         ensures partition { IfOk result (λ r. (shown r).sections.partition ≡ string_bytes cfg.now.partition) }
         ensures pages { IfOk result (λ r. (shown r).sections.factory.pages ≡ cfg.now.pages) }
         ensures write_buffer { IfOk result (λ r. (shown r).sections.factory.write_buffer ≡ cfg.now.write_buffer) }
@@ -125,6 +127,7 @@ impl<A: CodecFixed, S: Seal> Journal<A, S> {
             alloc,
             manager,
             unrecovered,
+            floors: BTreeMap::new(alloc),
             item: PhantomData,
         })
     }

@@ -9,6 +9,7 @@ ghost use Rattle.segments.specs.Lasting.{Removing, EntriesLeave};
 ghost use Rattle.segments.specs.Refusing.{HasFailed};
 
 use super::Journal;
+use super::floors::lift_below;
 use crate::journal::Error;
 use crate::{AppendFactory, BufferFactory, SectionBuffer};
 use blob_device::Device;
@@ -44,6 +45,9 @@ impl<A: CodecFixed, S: Seal> Journal<A, S> {
         // A section that is removed owes no replay; the others do as before.
         ensures recovered { IfOk result (λ r. (s : ℕ) → s < min → (shown r.0).unrecovered s ≡ false) }
         ensures unrecovered { IfOk result (λ r. (s : ℕ) → min ≤ s → (shown r.0).unrecovered s ≡ (shown self).unrecovered s) }
+        // Nor has it a floor.
+        ensures lifted { IfOk result (λ r. (s : ℕ) → s < min → (shown r.0).floor_of s ≡ 0) }
+        ensures floors { IfOk result (λ r. (s : ℕ) → min ≤ s → (shown r.0).floor_of s ≡ (shown self).floor_of s) }
         // At every moment, also where the call fails, no section's blob is touched before those of all older ones are gone.
         ensures moments { D.Tells → Always (D.time dev.old) (D.time dev.new) (Removing (shown self).sections (λ s. IsKnown (shown self).sections s × (s < min)) (λ s t. s < t) (disk (D.time dev.old))) }
         ensures gone { D.Tells → OnOk result ((s : ℕ) → IsKnown (shown self).sections s → s < min → disk (D.time dev.new) (key_of (shown self).sections s) ≡ nothing) }
@@ -56,14 +60,17 @@ impl<A: CodecFixed, S: Seal> Journal<A, S> {
             alloc,
             manager,
             mut unrecovered,
+            mut floors,
             item,
         } = self;
         let (manager, was) = manager.prune(dev, min)?;
         forget_below(&mut unrecovered, min);
+        lift_below(&mut floors, min);
         let this = Journal {
             alloc,
             manager,
             unrecovered,
+            floors,
             item,
         };
         Ok((this, was))
@@ -75,6 +82,7 @@ impl<A: CodecFixed, S: Seal> Journal<A, S> {
         ensures over { IfOk result (λ r. IsJournal ⟦<PageBlob<S> as SectionBuffer>⟧ ⟦<AppendFactory<S> as BufferFactory>⟧.gives S.seal_of A.SIZE D.Tells (shown r) (D.opened dev.new) (disk (D.time dev.new))) }
         ensures removed { IfOk result (λ r. (s : ℕ) → IsGone (shown r).sections s) }
         ensures recovered { IfOk result (λ r. (s : ℕ) → (shown r).unrecovered s ≡ false) }
+        ensures lifted { IfOk result (λ r. (s : ℕ) → (shown r).floor_of s ≡ 0) }
         ensures place { IfOk result (λ r. SamePlace (shown self).sections (shown r).sections) }
         ensures floor { IfOk result (λ r. (shown r).sections.floor ≡ 0) }
         ensures ceiling { IfOk result (λ r. (shown r).sections.ceiling ≡ 2 ^ 64 - 1) }
@@ -88,6 +96,7 @@ impl<A: CodecFixed, S: Seal> Journal<A, S> {
         let mut this = self;
         this.manager = this.manager.clear(dev)?;
         this.unrecovered.clear();
+        this.floors.clear();
         Ok(this)
     }
 

@@ -9,15 +9,17 @@ ghost use Rattle.blob_device.specs.Opened.{reads_of};
 ghost use Rattle.blob_device.specs.Timeline.{disk, Always, Each};
 ghost use Rattle.sealed_pages.specs.Buffer.{size_of, bytes_of, IsSealed};
 ghost use Rattle.sealed_pages.specs.ChanceSeal.{Sealing};
+ghost use Rattle.sealed_pages.specs.Flushing.{Alone};
 ghost use Rattle.sealed_pages.specs.SealedPrefix.{sealed_prefix};
 ghost use Rattle.sealed_pages.specs.Shown as page_blob;
 ghost use Rattle.segments.specs.Sections.{key_of, IsHeld, IsKeyOf, IsOver};
 ghost use Rattle.segments.specs.Refusing.{HasDamage, HasFailed};
 ghost use Rattle.segments.specs.FixedItems.{IsItem};
-ghost use Rattle.segments.specs.FixedReading.{IsPast, HasNotRead};
+ghost use Rattle.segments.specs.FixedReading.{IsPast, IsBelowFloor, HasNotRead};
 
 use super::Journal;
-use crate::journal::Error;
+use super::floors::{floor_at, lift_after, lower_to};
+use crate::journal::{Damage, Error};
 use crate::{AppendFactory, BufferFactory, SectionBuffer};
 use blob_device::{Device, RError};
 use sealed_pages::{PageBlob, PageReplay};
@@ -71,16 +73,21 @@ impl<A: CodecFixed, S: Seal> Journal<A, S> {
     ghost use Rattle.segments.specs.FixedReplay.{IsWalk, Begins};
     ghost use Rattle.segments.specs.FixedWalking.{walk_of};
 
-    // No replay is owed any more of the sections behind this one, nor of this one itself where it was gone over from its start.
+    // No replay is owed any more of the sections behind this one, nor of this one itself where it was gone over from its start; and none of
+    // them has a floor.
     fn recovered_from(self, section: u64, position: u64) -> Self
         ensures sections { (shown result).sections ≡ (shown self).sections }
         ensures recovered { (s : ℕ) → (section < s) ⊎ ((position ≡ 0) × (section ≡ s)) → (shown result).unrecovered s ≡ false }
         ensures unrecovered { (s : ℕ) → (s < section) ⊎ ((0 < position) × (section ≡ s)) → (shown result).unrecovered s ≡ (shown self).unrecovered s }
+        ensures lifted { (s : ℕ) → (section < s) ⊎ ((position ≡ 0) × (section ≡ s)) → (shown result).floor_of s ≡ 0 }
+        ensures floors { (s : ℕ) → (s < section) ⊎ ((0 < position) × (section ≡ s)) → (shown result).floor_of s ≡ (shown self).floor_of s }
     {
         let mut this = self;
         forget_later(&mut this.unrecovered, section);
+        lift_after(&mut this.floors, section);
         if position == 0 {
             this.unrecovered.remove(&section);
+            lower_to(&mut this.floors, section, 0);
         }
         this
     }
@@ -132,7 +139,7 @@ impl<A: CodecFixed, S: Seal> Journal<A, S> {
 impl<A: CodecFixed, S: Seal> Replay<A, S> {
     ghost use Rattle.segments.specs.FixedShown.{shown};
     ghost use Rattle.segments.specs.FixedLists.{OwesHeld, OwesSettled, AreSealed, UnopenedLater};
-    ghost use Rattle.segments.specs.FixedReplay.{IsWalk, HasWalk, WalksOver, SameWalk, IsLeft, IsDrained, IsAhead, IsIn, first_of, Gives, Refuses, Stops, Replaying, kept_bytes};
+    ghost use Rattle.segments.specs.FixedReplay.{IsWalk, HasWalk, WalksOver, SameWalk, IsLeft, IsDrained, IsAhead, IsIn, first_of, Gives, Refuses, Stops, Replaying, EndsBelow, FindsDamage, kept_bytes};
     ghost use Rattle.segments.specs.FixedStepping.{standing, after_item, ReadsOnce, OnlySections, Touches, IsFlushed, IsCutBack, BeginsOver, EndsAt, Steps};
     ghost use Rattle.segments.specs.FixedWalking.{walk_of, walk_at, place_of};
     ghost use Rattle.sealed_pages.specs.Readers.{reading};
@@ -185,8 +192,8 @@ impl<A: CodecFixed, S: Seal> Replay<A, S> {
     /// The next item, with its section and its position; none where all were given, or where the replay has ended.
     ///
     /// A section of which a replay is owed is cut durably to its whole items before the first page that no matching slot covers, or
-    /// before a partial item at its end; then the replay goes on with the next section. An error ends its section, and an error
-    /// while a section is cut ends the replay.
+    /// before a partial item at its end; then the replay goes on with the next section. A cut below the section's floor is refused as
+    /// `Corruption`. An error ends its section, and an error while a section is cut ends the replay.
     pub fn next<D: Device>(&mut self, dev: &mut D) -> Option<Result<(u64, u64, A), Error>>
         requires { IsWalk ⟦<PageBlob<S> as SectionBuffer>⟧ ⟦<AppendFactory<S> as BufferFactory>⟧.gives S.seal_of A.SIZE D.Tells (walk_of self.old) (D.opened dev.old) (disk (D.time dev.old)) }
         ensures over { IsWalk ⟦<PageBlob<S> as SectionBuffer>⟧ ⟦<AppendFactory<S> as BufferFactory>⟧.gives S.seal_of A.SIZE D.Tells (walk_of self.new) (D.opened dev.new) (disk (D.time dev.new)) }
@@ -205,19 +212,22 @@ impl<A: CodecFixed, S: Seal> Replay<A, S> {
         // The start is refused only where its section keeps fewer items.
         ensures start { D.Tells → (p : ℕ) → result ≡ Some (Err (Error.ItemOutOfRange p)) → (p ≡ (walk_of self.old).start_position)
             × (length (kept_bytes S.seal_of A.SIZE (walk_of self.old) (disk (D.time dev.old)) (walk_of self.old).start_section) < p * A.SIZE) }
-        // Where the disk is told no page is found damaged: a section that owes a replay is cut before such a page, and any other is sealed.
-        ensures damaged { D.Tells → (k : ℕ) → result ≢ Some (Err (Error.Runtime (InvalidChecksum k))) }
+        // What is kept of a section is refused only where it is less than the floor of one of which a replay is owed; that is not cut.
+        ensures damage { D.Tells → (x : _) → result ≡ Some (Err (Error.Corruption x)) → EndsBelow S.seal_of A.SIZE (walk_of self.old) (disk (D.time dev.old)) x × (IsAhead (walk_of self.old) x.section ⊎ IsIn (walk_of self.old) x.section) }
+        // A page is found damaged, where the disk is told, only in a section that owes no replay and has a floor: one that owes a replay is cut
+        // before such a page, and any other is sealed.
+        ensures damaged { D.Tells → (k : ℕ) → result ≡ Some (Err (Error.Runtime (InvalidChecksum k))) → FindsDamage S.seal_of A.SIZE (walk_of self.old) (walk_of self.new) (disk (D.time dev.new)) k }
         // The codec's error is that of the first item that was left.
         ensures refused { D.Tells → (e : _) → result ≡ Some (Err (Error.Codec e)) → Refuses S.seal_of A.SIZE A.refusal (walk_of self.old) (walk_of self.new) (disk (D.time dev.old)) (disk (D.time dev.new)) e }
-        // The replay ends only by a damaged page, which none is where the disk is told, a fault or want of memory.
+        // The replay ends only by a damaged page, where the disk is not told, by a fault or want of memory.
         ensures ends { (walk_of self.new).ended ≡ true → ((walk_of self.old).ended ≡ true)
-            ⊎ ((e : _) × (result ≡ Some (Err e)) × (HasDamage {T = A} (Err e) ⊎ HasFailed {T = A} (Err e) (D.faults dev.old) (D.faults dev.new))) }
+            ⊎ ((e : _) × (result ≡ Some (Err e)) × ((HasDamage {T = A} (Err e) × (D.Tells → ⊥)) ⊎ HasFailed {T = A} (Err e) (D.faults dev.old) (D.faults dev.new))) }
         ensures moments { D.Tells → Always (D.time dev.old) (D.time dev.new) (Each (Replaying S.seal_of A.SIZE (walk_of self.old) (disk (D.time dev.old)))) }
         // Each page is read once, as long as the device and memory serve, and one once more where its section is cut within it.
         ensures once { (result ≡ None) ⊎ ((x : _) × (result ≡ Some (Ok x))) → ReadsOnce (walk_of self.old) (walk_of self.new) (D.opened dev.old) (D.opened dev.new) }
         ensures entries { (q : Key) → (IsKeyOf (walk_of self.old).journal.sections (λ s. IsHeld (walk_of self.old).journal.sections s × (IsAhead (walk_of self.old) s ⊎ IsIn (walk_of self.old) s)) q → ⊥) → D.opened dev.new q ≡ D.opened dev.old q }
         ensures faults { D.faults dev.old ≤ D.faults dev.new }
-        ensures cause { (e : _) → result ≡ Some (Err e) → (e ≡ Error.ItemOutOfRange (walk_of self.old).start_position) ⊎ HasNotRead {T = A} (Err e) (D.faults dev.old) (D.faults dev.new) }
+        ensures cause { (e : _) → result ≡ Some (Err e) → (e ≡ Error.ItemOutOfRange (walk_of self.old).start_position) ⊎ (IsBelowFloor {T = A} (Err e) ⊎ HasNotRead {T = A} (Err e) (D.faults dev.old) (D.faults dev.new)) }
     {
         'steps: while !self.is_over() {
             match self.step(dev) {
@@ -308,6 +318,7 @@ impl<A: CodecFixed, S: Seal> Replay<A, S> {
             × BeginsOver S.seal_of (key_of (walk_of self.old).journal.sections section) u v (reading r)) }
         ensures moments { D.Tells → (u : _) → (walk_of self.old).journal.sections.held section ≡ Some u → IsSealed S.seal_of (page_blob.shown u) (disk (D.time dev.old) (key_of (walk_of self.old).journal.sections section))
             → Sealing S.seal_of u.page_size (bytes_of (page_blob.shown u) (disk (D.time dev.old) (key_of (walk_of self.old).journal.sections section)).content) u.settled (key_of (walk_of self.old).journal.sections section) (D.time dev.old) (D.time dev.new) }
+        ensures alone { D.Tells → Alone (key_of (walk_of self.old).journal.sections section) (D.time dev.old) (D.time dev.new) }
         ensures idle { (u : _) → (walk_of self.old).journal.sections.held section ≡ Some u → u.settled ≡ size_of (page_blob.shown u) → D.time dev.new ≡ D.time dev.old }
         ensures reads { OnOk result (reads_of (D.opened dev.new (key_of (walk_of self.old).journal.sections section)) ≤ reads_of (D.opened dev.old (key_of (walk_of self.old).journal.sections section))) }
         ensures faults { D.faults dev.old ≤ D.faults dev.new }
@@ -403,7 +414,8 @@ impl<A: CodecFixed, S: Seal> Replay<A, S> {
         requires over { IsWalk ⟦<PageBlob<S> as SectionBuffer>⟧ ⟦<AppendFactory<S> as BufferFactory>⟧.gives S.seal_of A.SIZE D.Tells (walk_at self.old reading) (D.opened dev.old) (disk (D.time dev.old)) }
         requires going { (walk_of self.old).ended ≡ false }
         requires between { (walk_of self.old).place ≡ None }
-        requires last { D.Tells → IsTrue ((walk_of self.old).journal.unrecovered reading.section) × EndsAt S.seal_of A.SIZE (walk_at self.old reading) (disk (D.time dev.old)) (place_of reading) true }
+        requires last { D.Tells → (IsTrue ((walk_of self.old).journal.unrecovered reading.section) × EndsAt S.seal_of A.SIZE (walk_at self.old reading) (disk (D.time dev.old)) (place_of reading) true)
+            ⊎ (((walk_of self.old).journal.unrecovered reading.section ≡ false) × FindsDamage S.seal_of A.SIZE (walk_at self.old reading) (walk_of self.old) (disk (D.time dev.old)) page) }
         ensures { Steps S.seal_of A.SIZE ⟦<PageBlob<S> as SectionBuffer>⟧ ⟦<AppendFactory<S> as BufferFactory>⟧.gives A.spelling A.accepted A.refusal D.Tells result (walk_at self.old reading) (walk_of self.new) (D.opened dev.old) (D.opened dev.new) (D.time dev.old) (D.time dev.new) (D.faults dev.old) (D.faults dev.new) }
     {
         if !self.owes(reading.section) {
@@ -433,7 +445,7 @@ impl<A: CodecFixed, S: Seal> Replay<A, S> {
         Ok(None)
     }
 
-    // The same, where there is something to be cut off.
+    // The same, where there is something to be cut off. A cut below the section's floor is refused.
     fn end_cut<D: Device>(
         &mut self,
         dev: &mut D,
@@ -446,9 +458,29 @@ impl<A: CodecFixed, S: Seal> Replay<A, S> {
         requires last { D.Tells → EndsAt S.seal_of A.SIZE (walk_at self.old reading) (disk (D.time dev.old)) (place_of reading) true }
         ensures { Steps S.seal_of A.SIZE ⟦<PageBlob<S> as SectionBuffer>⟧ ⟦<AppendFactory<S> as BufferFactory>⟧.gives A.spelling A.accepted A.refusal D.Tells result (walk_at self.old reading) (walk_of self.new) (D.opened dev.old) (D.opened dev.new) (D.time dev.old) (D.time dev.new) (D.faults dev.old) (D.faults dev.new) }
     {
+        self.check_floor(reading.section, reading.position)?;
         self.cut(dev, reading.section, reading.position)?;
         self.check_start(reading.section, reading.position)?;
         Ok(None)
+    }
+
+    // Refuses a cut to so many items where the section's floor is higher.
+    fn check_floor(&self, section: u64, count: u64) -> Result<(), Error>
+        requires { count * A.SIZE < 2 ^ 64 }
+        ensures ok { OnOk result ((walk_of self.now).journal.floor_of section ≤ count * A.SIZE) }
+        ensures below { (x : _) → IsErrOf result (Error.Corruption x) → (x.section ≡ section) × (x.kept ≡ count * A.SIZE) × (x.wanted ≡ (walk_of self.now).journal.floor_of section) × (x.kept < x.wanted) }
+        ensures cause { OnErr result (IsBelowFloor result) }
+    {
+        let kept = count * A::SIZE as u64;
+        let wanted = floor_at(&self.journal.floors, section);
+        if kept < wanted {
+            return Err(Error::Corruption(Damage {
+                section,
+                kept,
+                wanted,
+            }));
+        }
+        Ok(())
     }
 
     // Refuses the start where its section has fewer items.
@@ -507,6 +539,9 @@ impl<A: CodecFixed, S: Seal> Replay<A, S> {
         // From a section's start on it owes no replay, and none of the later ones does; the others do as before.
         ensures recovered { IfOk result (λ r. (s : ℕ) → ((walk_of self).start_section < s) ⊎ (((walk_of self).start_position ≡ 0) × ((walk_of self).start_section ≡ s)) → (shown r).unrecovered s ≡ false) }
         ensures unrecovered { IfOk result (λ r. (s : ℕ) → (s < (walk_of self).start_section) ⊎ ((0 < (walk_of self).start_position) × ((walk_of self).start_section ≡ s)) → (shown r).unrecovered s ≡ (walk_of self).journal.unrecovered s) }
+        // So it is of their floors.
+        ensures lifted { IfOk result (λ r. (s : ℕ) → ((walk_of self).start_section < s) ⊎ (((walk_of self).start_position ≡ 0) × ((walk_of self).start_section ≡ s)) → (shown r).floor_of s ≡ 0) }
+        ensures floors { IfOk result (λ r. (s : ℕ) → (s < (walk_of self).start_section) ⊎ ((0 < (walk_of self).start_position) × ((walk_of self).start_section ≡ s)) → (shown r).floor_of s ≡ (walk_of self).journal.floor_of s) }
         ensures replay_failed { (result ≡ Err Error.ReplayFailed) ↔ (((walk_of self).failed ≡ true) ⊎ (IsDrained (walk_of self) → ⊥)) }
         ensures cause { OnErr result (result ≡ Err Error.ReplayFailed) }
     {

@@ -6,6 +6,7 @@ ghost use Rattle.segments.specs.FixedReplay.{IsWalk};
 ghost use Rattle.segments.specs.FixedShown.{shown};
 ghost use Rattle.segments.specs.FixedWalking.{walk_of};
 
+mod floors;
 mod lists;
 mod marks;
 mod refused;
@@ -14,6 +15,7 @@ mod rotten;
 mod stops;
 mod wide;
 
+use super::floors::floor_at;
 use super::{Config, Journal, Replay};
 use crate::journal::Error;
 use crate::{AppendFactory, BufferFactory, SectionBuffer};
@@ -91,7 +93,7 @@ fn extended<A: CodecFixed, S: Seal, D: Device>(
     Ok(journal)
 }
 
-/// Cuts a section that owes no replay to whole items.
+/// Cuts a section that owes no replay and has no floor to whole items.
 fn cut<A: CodecFixed, S: Seal, D: Device>(
     journal: Journal<A, S>,
     dev: &mut D,
@@ -101,7 +103,8 @@ fn cut<A: CodecFixed, S: Seal, D: Device>(
     requires { IsJournal ⟦<PageBlob<S> as SectionBuffer>⟧ ⟦<AppendFactory<S> as BufferFactory>⟧.gives S.seal_of A.SIZE D.Tells (shown journal) (D.opened dev.old) (disk (D.time dev.old)) }
     ensures { IfOk result (λ r. IsJournal ⟦<PageBlob<S> as SectionBuffer>⟧ ⟦<AppendFactory<S> as BufferFactory>⟧.gives S.seal_of A.SIZE D.Tells (shown r) (D.opened dev.new) (disk (D.time dev.new))) }
 {
-    if !journal.is_recovered(section) || size % A::SIZE as u64 != 0 {
+    let floor = floor_at(&journal.floors, section);
+    if !journal.is_recovered(section) || floor != 0 || size % A::SIZE as u64 != 0 {
         return Err(Error::ReplayFailed);
     }
     journal.truncate_pending_section(dev, section, size)

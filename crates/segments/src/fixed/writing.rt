@@ -6,6 +6,7 @@ ghost use Rattle.blob_device.specs.Disk.{Key};
 ghost use Rattle.blob_device.specs.Timeline.{disk, Always, Each};
 ghost use Rattle.sealed_pages.specs.Buffer.{extent, size_of, FlushesNothing};
 ghost use Rattle.sealed_pages.specs.ChanceSeal.{Sealing};
+ghost use Rattle.sealed_pages.specs.Flushing.{Alone};
 ghost use Rattle.segments.specs.Leaving.{AllMoments};
 ghost use Rattle.segments.specs.Entries.{OnlyOwnEntry};
 ghost use Rattle.segments.specs.Sections.{key_of, IsHeld, IsKeyOf, IsSame, SameBounds, IsSynced};
@@ -44,7 +45,7 @@ fn full_or_raised(e: RError) -> Error
 impl<A: CodecFixed, S: Seal> Journal<A, S> {
     ghost use Rattle.sealed_pages.specs.Shown as page_blob;
     ghost use Rattle.segments.specs.FixedShown.{shown};
-    ghost use Rattle.segments.specs.FixedLists.{IsJournal, IsRecovered, section_bytes, section_size};
+    ghost use Rattle.segments.specs.FixedLists.{IsJournal, IsRecovered, IsProven, section_bytes, section_size};
     ghost use Rattle.segments.specs.FixedLasting.{IsBeginning, Settling};
 
     /// Whether an append to the section would answer `Full`: whether one item more makes its blob, with both slots of its last page, pass the
@@ -81,9 +82,11 @@ impl<A: CodecFixed, S: Seal> Journal<A, S> {
         ensures others { IfOk result (λ r. (q : ℕ) → q ≢ section → IsSame (shown self).sections (shown r.0).sections q) }
         ensures bounds { IfOk result (λ r. SameBounds (shown self).sections (shown r.0).sections) }
         ensures unrecovered { IfOk result (λ r. (q : ℕ) → (shown r.0).unrecovered q ≡ (shown self).unrecovered q) }
-        // At every moment, also where the call fails, each crash leaves a prefix of the section's bytes, this item's included, and no shorter
-        // than what has settled; no other blob changes.
-        ensures moments { D.Tells → (u : _) → (shown self).sections.held section ≡ Some u
+        ensures floors { IfOk result (λ r. (q : ℕ) → (shown r.0).floor_of q ≡ (shown self).floor_of q) }
+        // At every moment, also where the call fails, no other blob changes.
+        ensures alone { D.Tells → Alone (key_of (shown self).sections section) (D.time dev.old) (D.time dev.new) }
+        // Each crash leaves of a section without a floor a prefix of its bytes, this item's included, and no shorter than what has settled.
+        ensures moments { D.Tells → (u : _) → (shown self).sections.held section ≡ Some u → IsProven (shown self) section
             → Sealing S.seal_of u.page_size (section_bytes (shown self).sections (disk (D.time dev.old)) section ++ A.spelling item.now) u.settled (key_of (shown self).sections section) (D.time dev.old) (D.time dev.new) }
         ensures made { D.Tells → (shown self).sections.held section ≡ None
             → AllMoments (key_of (shown self).sections section) (IsBeginning S.seal_of (shown self).sections.factory.pages.page_size (A.spelling item.now) (disk (D.time dev.old) (key_of (shown self).sections section))) (D.time dev.old) (D.time dev.new) }
@@ -122,7 +125,8 @@ impl<A: CodecFixed, S: Seal> Journal<A, S> {
         ensures unopened { IfOk result (λ r. (s : ℕ) → (shown r).sections.unopened s ≡ (shown self).sections.unopened s) }
         ensures bounds { IfOk result (λ r. SameBounds (shown self).sections (shown r).sections) }
         ensures unrecovered { IfOk result (λ r. (s : ℕ) → (shown r).unrecovered s ≡ (shown self).unrecovered s) }
-        // At every moment, also where the call fails, each crash leaves a prefix of the bytes of each named section that is recovered, no shorter
+        ensures floors { IfOk result (λ r. (s : ℕ) → (shown r).floor_of s ≡ (shown self).floor_of s) }
+        // At every moment, also where the call fails, each crash leaves a prefix of the bytes of each named section that is proven, no shorter
         // than what had settled; no other blob changes.
         ensures moments { D.Tells → Always (D.time dev.old) (D.time dev.new) (Each (Settling S.seal_of (shown self) (Contains sections.now) (disk (D.time dev.old)))) }
         // Where nothing named is unsettled, no call of the device is made.
@@ -153,7 +157,8 @@ impl<A: CodecFixed, S: Seal> Journal<A, S> {
         ensures unopened { IfOk result (λ r. (s : ℕ) → (shown r.0).sections.unopened s ≡ (shown self).sections.unopened s) }
         ensures bounds { IfOk result (λ r. SameBounds (shown self).sections (shown r.0).sections) }
         ensures unrecovered { IfOk result (λ r. (s : ℕ) → (shown r.0).unrecovered s ≡ (shown self).unrecovered s) }
-        // At every moment, also where the call fails, each crash leaves a prefix of the bytes of each named section that is recovered, no shorter
+        ensures floors { IfOk result (λ r. (s : ℕ) → (shown r.0).floor_of s ≡ (shown self).floor_of s) }
+        // At every moment, also where the call fails, each crash leaves a prefix of the bytes of each named section that is proven, no shorter
         // than what had settled; no other blob changes.
         ensures moments { D.Tells → Always (D.time dev.old) (D.time dev.new) (Each (Settling S.seal_of (shown self) (Contains sections.now) (disk (D.time dev.old)))) }
         // Where nothing named is unsettled, no call of the device is made.
@@ -178,7 +183,8 @@ impl<A: CodecFixed, S: Seal> Journal<A, S> {
         ensures unopened { IfOk result (λ r. (s : ℕ) → (shown r).sections.unopened s ≡ (shown self).sections.unopened s) }
         ensures bounds { IfOk result (λ r. SameBounds (shown self).sections (shown r).sections) }
         ensures unrecovered { IfOk result (λ r. (s : ℕ) → (shown r).unrecovered s ≡ (shown self).unrecovered s) }
-        // At every moment, also where the call fails, each crash leaves a prefix of the bytes of each section that is recovered, no shorter
+        ensures floors { IfOk result (λ r. (s : ℕ) → (shown r).floor_of s ≡ (shown self).floor_of s) }
+        // At every moment, also where the call fails, each crash leaves a prefix of the bytes of each section that is proven, no shorter
         // than what had settled; no other blob changes.
         ensures moments { D.Tells → Always (D.time dev.old) (D.time dev.new) (Each (Settling S.seal_of (shown self) (λ s. ⊤) (disk (D.time dev.old)))) }
         ensures idle { ((s : ℕ) → IsUnsettled ⟦<PageBlob<S> as SectionBuffer>⟧ (shown self).sections s → ⊥) → dev.new ≡ dev.old }

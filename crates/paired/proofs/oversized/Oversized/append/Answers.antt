@@ -60,12 +60,12 @@ returns-in_err-index-clause-moments g c t sound =
     let names : g.I.Record.place (g.I.Codec.spelling c.naming-entry.result) ≡ (glob.section_size (shown g.I.Record.place c.args.self).values c.args.section, length (frame g.S.Seal.seal_of (g.V.Codec.spelling c.args.value.now))) = c.naming-entry.ensures.place ∙ (λ i. (at i, size i)) in
     let same : g.I.Codec.spelling c.naming-entry.result ≡ g.I.Codec.spelling (g.I.Record.located c.args.entry (glob.section_size (shown g.I.Record.place c.args.self).values c.args.section) (length (frame g.S.Seal.seal_of (g.V.Codec.spelling c.args.value.now)))) =
     ap g.I.Codec.spelling c.naming-entry.ensures.located ∙ (λ i. g.I.Codec.spelling (g.I.Record.located c.args.entry (at i) (size i))) in
-    record_keeps_as (shown g.I.Record.place c.args.self) (g.D.Device.opened c.args.dev.now) (g.D.Device.time c.args.dev.now) c.requires.over laid t sound c.args.section c.ranges.section.fits (g.V.Codec.spelling c.args.value.now) (g.D.Device.time c.append.new.dev) (record { moments = c.append.ensures.moments t; made = c.append.ensures.made t }) (g.I.Codec.spelling c.naming-entry.result) (g.met.S.Seal.fits (g.V.Codec.spelling c.args.value.now)) long names (managed.shown c.in_ok-values.values.manager) (g.D.Device.opened c.args.dev.now) (g.D.Device.opened c.append.new.dev) value (g.D.Device.time c.append-2.new.dev) (record { moments = c.append-2.ensures.moments t; made = c.append-2.ensures.made t }) _ same
+    record_keeps_as (shown g.I.Record.place c.args.self) (g.D.Device.opened c.args.dev.now) (g.D.Device.time c.args.dev.now) c.requires.over laid t sound c.args.section c.ranges.section.fits (g.V.Codec.spelling c.args.value.now) (g.D.Device.time c.append.new.dev) (record { moments = c.append.ensures.moments t; made = c.append.ensures.made t }) (g.I.Codec.spelling c.naming-entry.result) (g.met.S.Seal.fits (g.V.Codec.spelling c.args.value.now)) long names (managed.shown c.in_ok-values.values.manager) (g.D.Device.opened c.args.dev.now) (g.D.Device.opened c.append.new.dev) value (g.D.Device.time c.append-2.new.dev) (record { alone = c.append-2.ensures.alone t; moments = c.append-2.ensures.moments t; made = c.append-2.ensures.made t }) _ same
 
 pub returns-in_err-index-clause-order : goal.returns-in_err-index-clause-order
 returns-in_err-index-clause-order g c t =
     let laid = is_laid c.requires.over (are_pages g.row.S g.S.Seal g.S.Seal-dict) refl refl refl refl g.met.I.CodecFixed.fixed.at_least in
-    record_order (shown g.I.Record.place c.args.self) (g.D.Device.opened c.args.dev.now) (g.D.Device.time c.args.dev.now) c.requires.over laid _ c.args.section (g.V.Codec.spelling c.args.value.now) (g.D.Device.time c.append.new.dev) (record { moments = c.append.ensures.moments t; made = c.append.ensures.made t }) (g.I.Codec.spelling c.naming-entry.result) (g.D.Device.time c.append-2.new.dev) (record { moments = c.append-2.ensures.moments t; made = c.append-2.ensures.made t })
+    record_order (shown g.I.Record.place c.args.self) (g.D.Device.opened c.args.dev.now) (g.D.Device.time c.args.dev.now) c.requires.over laid _ c.args.section (g.V.Codec.spelling c.args.value.now) (g.D.Device.time c.append.new.dev) (record { moments = c.append.ensures.moments t; made = c.append.ensures.made t }) (g.I.Codec.spelling c.naming-entry.result) (g.D.Device.time c.append-2.new.dev) (record { alone = c.append-2.ensures.alone t; moments = c.append-2.ensures.moments t; made = c.append-2.ensures.made t })
 
 pub returns-in_err-index-clause-below : goal.returns-in_err-index-clause-below
 returns-in_err-index-clause-below g c u v index values flushes few =
@@ -98,8 +98,9 @@ returns-clause-over g c =
       others = c.in_ok-index.ensures.others;
       bounds = c.in_ok-index.ensures.bounds;
       unrecovered = c.in_ok-index.ensures.unrecovered;
+      floors = c.in_ok-index.ensures.floors;
       entries = c.append-2.ensures.entries;
-      adds = λ t. (record { moments = c.append-2.ensures.moments t; made = c.append-2.ensures.made t });
+      adds = λ t. (record { alone = c.append-2.ensures.alone t; moments = c.append-2.ensures.moments t; made = c.append-2.ensures.made t });
     } in
     pair_again (shown g.I.Record.place c.args.self) (g.D.Device.opened c.args.dev.now) (g.D.Device.time c.args.dev.now) c.requires.over laid c.args.section c.ranges.section.fits (g.V.Codec.spelling c.args.value.now) (g.I.Codec.spelling c.naming-entry.result) (managed.shown c.in_ok-values.values.manager) (fixed.shown c.in_ok-index.index) (g.D.Device.opened c.append.new.dev) (g.D.Device.opened c.append-2.new.dev) (g.D.Device.time c.append.new.dev) (g.D.Device.time c.append-2.new.dev) value item _ _ _ c.in_ok-index.ensures.bounds.place.partition c.in_ok-values.ensures.bounds.place.partition
 
@@ -126,8 +127,9 @@ returns-clause-sound g c t sound =
       others = c.in_ok-index.ensures.others;
       bounds = c.in_ok-index.ensures.bounds;
       unrecovered = c.in_ok-index.ensures.unrecovered;
+      floors = c.in_ok-index.ensures.floors;
       entries = c.append-2.ensures.entries;
-      adds = λ t. (record { moments = c.append-2.ensures.moments t; made = c.append-2.ensures.made t });
+      adds = λ t. (record { alone = c.append-2.ensures.alone t; moments = c.append-2.ensures.moments t; made = c.append-2.ensures.made t });
     } in
     let long : length (g.I.Codec.spelling c.naming-entry.result) ≡ g.I.CodecFixed.SIZE = g.met.I.CodecFixed.fixed.sized c.naming-entry.result c.naming-entry.ensures.accepted in
     let at : c.in_ok-values.offset ≡ glob.section_size (shown g.I.Record.place c.args.self).values c.args.section = c.in_ok-values.ensures.place (inl t) in
@@ -158,8 +160,9 @@ returns-clause-list g c t sound =
       others = c.in_ok-index.ensures.others;
       bounds = c.in_ok-index.ensures.bounds;
       unrecovered = c.in_ok-index.ensures.unrecovered;
+      floors = c.in_ok-index.ensures.floors;
       entries = c.append-2.ensures.entries;
-      adds = λ t. (record { moments = c.append-2.ensures.moments t; made = c.append-2.ensures.made t });
+      adds = λ t. (record { alone = c.append-2.ensures.alone t; moments = c.append-2.ensures.moments t; made = c.append-2.ensures.made t });
     } in
     let long : length (g.I.Codec.spelling c.naming-entry.result) ≡ g.I.CodecFixed.SIZE = g.met.I.CodecFixed.fixed.sized c.naming-entry.result c.naming-entry.ensures.accepted in
     let at : c.in_ok-values.offset ≡ glob.section_size (shown g.I.Record.place c.args.self).values c.args.section = c.in_ok-values.ensures.place (inl t) in
@@ -192,8 +195,9 @@ returns-clause-other_lists g c t q other =
       others = c.in_ok-index.ensures.others;
       bounds = c.in_ok-index.ensures.bounds;
       unrecovered = c.in_ok-index.ensures.unrecovered;
+      floors = c.in_ok-index.ensures.floors;
       entries = c.append-2.ensures.entries;
-      adds = λ t. (record { moments = c.append-2.ensures.moments t; made = c.append-2.ensures.made t });
+      adds = λ t. (record { alone = c.append-2.ensures.alone t; moments = c.append-2.ensures.moments t; made = c.append-2.ensures.made t });
     } in
     other_list_now (shown g.I.Record.place c.args.self) (g.D.Device.opened c.args.dev.now) (g.D.Device.time c.args.dev.now) c.requires.over laid c.args.section c.ranges.section.fits (g.V.Codec.spelling c.args.value.now) (g.I.Codec.spelling c.naming-entry.result) (managed.shown c.in_ok-values.values.manager) (fixed.shown c.in_ok-index.index) (g.D.Device.opened c.append.new.dev) (g.D.Device.opened c.append-2.new.dev) (g.D.Device.time c.append.new.dev) (g.D.Device.time c.append-2.new.dev) value item t q other
 
@@ -217,23 +221,23 @@ returns-clause-moments g c t sound =
     let names : g.I.Record.place (g.I.Codec.spelling c.naming-entry.result) ≡ (glob.section_size (shown g.I.Record.place c.args.self).values c.args.section, length (frame g.S.Seal.seal_of (g.V.Codec.spelling c.args.value.now))) = c.naming-entry.ensures.place ∙ (λ i. (at i, size i)) in
     let same : g.I.Codec.spelling c.naming-entry.result ≡ g.I.Codec.spelling (g.I.Record.located c.args.entry (glob.section_size (shown g.I.Record.place c.args.self).values c.args.section) (length (frame g.S.Seal.seal_of (g.V.Codec.spelling c.args.value.now)))) =
     ap g.I.Codec.spelling c.naming-entry.ensures.located ∙ (λ i. g.I.Codec.spelling (g.I.Record.located c.args.entry (at i) (size i))) in
-    record_keeps_as (shown g.I.Record.place c.args.self) (g.D.Device.opened c.args.dev.now) (g.D.Device.time c.args.dev.now) c.requires.over laid t sound c.args.section c.ranges.section.fits (g.V.Codec.spelling c.args.value.now) (g.D.Device.time c.append.new.dev) (record { moments = c.append.ensures.moments t; made = c.append.ensures.made t }) (g.I.Codec.spelling c.naming-entry.result) (g.met.S.Seal.fits (g.V.Codec.spelling c.args.value.now)) long names (managed.shown c.in_ok-values.values.manager) (g.D.Device.opened c.args.dev.now) (g.D.Device.opened c.append.new.dev) value (g.D.Device.time c.append-2.new.dev) (record { moments = c.append-2.ensures.moments t; made = c.append-2.ensures.made t }) _ same
+    record_keeps_as (shown g.I.Record.place c.args.self) (g.D.Device.opened c.args.dev.now) (g.D.Device.time c.args.dev.now) c.requires.over laid t sound c.args.section c.ranges.section.fits (g.V.Codec.spelling c.args.value.now) (g.D.Device.time c.append.new.dev) (record { moments = c.append.ensures.moments t; made = c.append.ensures.made t }) (g.I.Codec.spelling c.naming-entry.result) (g.met.S.Seal.fits (g.V.Codec.spelling c.args.value.now)) long names (managed.shown c.in_ok-values.values.manager) (g.D.Device.opened c.args.dev.now) (g.D.Device.opened c.append.new.dev) value (g.D.Device.time c.append-2.new.dev) (record { alone = c.append-2.ensures.alone t; moments = c.append-2.ensures.moments t; made = c.append-2.ensures.made t }) _ same
 
 pub returns-clause-order : goal.returns-clause-order
 returns-clause-order g c t =
     let laid = is_laid c.requires.over (are_pages g.row.S g.S.Seal g.S.Seal-dict) refl refl refl refl g.met.I.CodecFixed.fixed.at_least in
-    record_order (shown g.I.Record.place c.args.self) (g.D.Device.opened c.args.dev.now) (g.D.Device.time c.args.dev.now) c.requires.over laid _ c.args.section (g.V.Codec.spelling c.args.value.now) (g.D.Device.time c.append.new.dev) (record { moments = c.append.ensures.moments t; made = c.append.ensures.made t }) (g.I.Codec.spelling c.naming-entry.result) (g.D.Device.time c.append-2.new.dev) (record { moments = c.append-2.ensures.moments t; made = c.append-2.ensures.made t })
+    record_order (shown g.I.Record.place c.args.self) (g.D.Device.opened c.args.dev.now) (g.D.Device.time c.args.dev.now) c.requires.over laid _ c.args.section (g.V.Codec.spelling c.args.value.now) (g.D.Device.time c.append.new.dev) (record { moments = c.append.ensures.moments t; made = c.append.ensures.made t }) (g.I.Codec.spelling c.naming-entry.result) (g.D.Device.time c.append-2.new.dev) (record { alone = c.append-2.ensures.alone t; moments = c.append-2.ensures.moments t; made = c.append-2.ensures.made t })
 
 pub returns-in_err-values-clause-untouched : goal.returns-in_err-values-clause-untouched
 returns-in_err-values-clause-untouched g c t = untouched_value (shown g.I.Record.place c.args.self) c.args.section (g.V.Codec.spelling c.args.value.now) (g.D.Device.time c.args.dev.now) (g.D.Device.time c.append.new.dev) (record { moments = c.append.ensures.moments t; made = c.append.ensures.made t })
 
 pub returns-in_err-index-clause-untouched : goal.returns-in_err-index-clause-untouched
 returns-in_err-index-clause-untouched g c t = untouched_record (shown g.I.Record.place c.args.self) c.args.section (g.V.Codec.spelling c.args.value.now) (g.I.Codec.spelling c.naming-entry.result) (g.D.Device.time c.args.dev.now) (g.D.Device.time c.append.new.dev) (g.D.Device.time c.append-2.new.dev)
-    (record { moments = c.append.ensures.moments t; made = c.append.ensures.made t }) (record { moments = c.append-2.ensures.moments t; made = c.append-2.ensures.made t })
+    (record { moments = c.append.ensures.moments t; made = c.append.ensures.made t }) (record { alone = c.append-2.ensures.alone t; moments = c.append-2.ensures.moments t; made = c.append-2.ensures.made t })
 
 pub returns-clause-untouched : goal.returns-clause-untouched
 returns-clause-untouched g c t = untouched_record (shown g.I.Record.place c.args.self) c.args.section (g.V.Codec.spelling c.args.value.now) (g.I.Codec.spelling c.naming-entry.result) (g.D.Device.time c.args.dev.now) (g.D.Device.time c.append.new.dev) (g.D.Device.time c.append-2.new.dev)
-    (record { moments = c.append.ensures.moments t; made = c.append.ensures.made t }) (record { moments = c.append-2.ensures.moments t; made = c.append-2.ensures.made t })
+    (record { moments = c.append.ensures.moments t; made = c.append.ensures.made t }) (record { alone = c.append-2.ensures.alone t; moments = c.append-2.ensures.moments t; made = c.append-2.ensures.made t })
 
 pub returns-clause-records : goal.returns-clause-records
 returns-clause-records g c t =
@@ -246,5 +250,5 @@ returns-clause-records g c t =
 pub returns-clause-values : goal.returns-clause-values
 returns-clause-values g c t =
     let laid = is_laid c.requires.over (are_pages g.row.S g.S.Seal g.S.Seal-dict) refl refl refl refl g.met.I.CodecFixed.fixed.at_least in
-    values_bytes_on (shown g.I.Record.place c.args.self) (g.D.Device.opened c.args.dev.now) (g.D.Device.time c.args.dev.now) c.requires.over laid c.args.section (managed.shown c.in_ok-values.values.manager) c.in_ok-values.ensures.bounds (g.I.Codec.spelling c.naming-entry.result) (g.D.Device.time c.append.new.dev) (g.D.Device.time c.append-2.new.dev) (record { moments = c.append-2.ensures.moments t; made = c.append-2.ensures.made t })
+    values_bytes_on (shown g.I.Record.place c.args.self) (g.D.Device.opened c.args.dev.now) (g.D.Device.time c.args.dev.now) c.requires.over laid c.args.section (managed.shown c.in_ok-values.values.manager) c.in_ok-values.ensures.bounds (g.I.Codec.spelling c.naming-entry.result) (g.D.Device.time c.append.new.dev) (g.D.Device.time c.append-2.new.dev) (record { alone = c.append-2.ensures.alone t; moments = c.append-2.ensures.moments t; made = c.append-2.ensures.made t })
     ∙ c.in_ok-values.ensures.bytes t

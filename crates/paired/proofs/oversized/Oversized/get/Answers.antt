@@ -7,6 +7,7 @@ use Rattle.segments.specs.FixedReading.{is_item_held}
 use Rattle.segments.specs.Sections.{key_of}
 use Rattle.paired.specs.PairShown.{shown}
 use Rattle.paired.proofs.PairReads.{listed_answer, in_list, held_by, from_floor, not_held, no_item, answered_inside, past_held, undamaged, gives_record, may_read, pair_read}
+use Rattle.paired.proofs.PairFacts.{proven_of}
 use Rattle.paired.proofs.oversized.Oversized.get.Goals as goal
 
 pub returns-clause-inside : goal.returns-clause-inside
@@ -41,7 +42,7 @@ returns-clause-gives g c t v accepted has =
     (λ pruned. from_floor p.index.sections _ d c.requires.index.over s held (says.guard.0 pruned))
     (λ absent. not_held p.index.sections s held (says.absent.0 absent).1)
     (λ past. omega (arith, found.0, (past_held p.index.sections g.I.CodecFixed.SIZE s c.args.position).0 (says.past.0 past)))
-    (λ k is. undamaged g.S.Seal.seal_of g.I.CodecFixed.SIZE p.index _ d c.requires.index t s (c.requires.whole.recovered s) c.args.position k (says.damaged t k is))
+    (λ k is. undamaged g.S.Seal.seal_of g.I.CodecFixed.SIZE p.index _ d c.requires.index t s (proven_of c.requires.whole s) c.args.position k (says.damaged t k is))
     (says.refused t) says.cause
 
 pub returns-clause-idle : goal.returns-clause-idle

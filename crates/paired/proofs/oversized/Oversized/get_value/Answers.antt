@@ -29,3 +29,14 @@ returns-clause-gives g c t whole position v accepted has =
     (λ over. frame_not_beyond p.values _ d c.requires.values t seal s at n sound (says.beyond over))
     (λ short. frame_not_short p.values _ d c.requires.values t seal s at n sound (says.short.0 short))
     (says.mismatch t) (says.refused t) says.cause
+
+-- a section below the floor is not held, and has no record
+pub returns-in_err-prune_guard-clause-gives : goal.returns-in_err-prune_guard-clause-gives
+returns-in_err-prune_guard-clause-gives g c t whole position v accepted has =
+    let p = shown g.I.Record.place c.args.self.now in
+    let d = disk (g.D.Device.time c.args.dev.now) in
+    let s = c.args.section in
+    let found = sound_entry p d s whole position c.args.offset c.args.size (g.V.Codec.spelling v) has in
+    let held = held_by p d s position g.met.I.CodecFixed.fixed.at_least found.0 in
+    let says = c.in_err-prune_guard.ensures in
+    absurd (from_floor p.index.sections _ d c.requires.index.over s held (says.guard.0 says.cause))

@@ -26,6 +26,7 @@ use Rattle.paired.specs.PairShown.{shown}
 use Rattle.paired.specs.TrackedShown as tracked
 use Rattle.paired.proofs.PairMarked.{Moved, moved_on, moved_marked, marked_synced, moving_differs, none_trails, some_or_none, synced_unstaged, synced_same, synced_place, marked_again, marked_as, marked_sound_as, marked_lists, markers_keep}
 use Rattle.paired.proofs.PairSettling.{parts_of}
+use Rattle.paired.proofs.PairFaultLemmas.{markers_apart}
 use Rattle.paired.proofs.PairFailing.{full_markers, false_true, no_error, not_both}
 use Rattle.paired.proofs.PairSynced.{here_of}
 use Rattle.paired.proofs.oversized.Oversized.move_markers.Goals as goal
@@ -449,3 +450,15 @@ returns-clause-marked g c =
     let placed_y : y.store.partition ≡ p.layout.metadata = ap (λ u. u.partition) says.same ∙ synced_place x.store ∙ placed in
     let blobs : told → (q : Key) → (IsCopy p.layout q → ⊥) → disk b q ≡ disk a q = (λ t q not. always_now a b (OnlyOne x.store.partition x.store.older (disk a)) (c.sync.ensures.alone t) q (λ e. not (x.store.older, e ∙ ap (λ k. blob_of k x.store.older) placed))) in
     marked_synced _ _ told p active decides _ (disk a) here c.requires.over y.store.entries y.trailing moved_y
+
+pub returns-in_err-stage-clause-fault : goal.returns-in_err-stage-clause-fault
+returns-in_err-stage-clause-fault g c has =
+    let r = c.from_residual.result in
+    let e = c.in_err-stage.field-0.0 in
+    markers_apart r e (err_of r (raised_metadata e) c.from_residual.ensures.1) has
+
+pub returns-in_err-this-clause-fault : goal.returns-in_err-this-clause-fault
+returns-in_err-this-clause-fault g c has =
+    let r = c.from_residual-in_err-this.result in
+    let e = c.in_err-this.field-0.0 in
+    markers_apart r e (err_of r (raised_metadata e) c.from_residual-in_err-this.ensures.1) has

@@ -22,9 +22,10 @@ use Rattle.paired.specs.Pair.{Pair, IsSoundOn, list_of}
 use Rattle.paired.specs.PairShown.{shown}
 use Rattle.paired.specs.TrackedShown as tracked
 use Rattle.paired.proofs.GlobLemmas.{glob_stays}
+use Rattle.paired.proofs.PairFaultLemmas.{markers_apart, dropped_still}
 use Rattle.paired.proofs.PairFullMarkers.{full_markers}
 use Rattle.paired.proofs.PairStays.{journal_stays}
-use Rattle.paired.proofs.PairRemoved.{marked_below, none_staged, staged_marked, marked_staged, stands_stays, index_bytes, either_flag, either_floor, IsRemoved, removed_synced, removed_floors, removed_on, removed_pair, removed_list, removed_sound, at_layout, pair_at, same_layout}
+use Rattle.paired.proofs.PairRemoved.{marked_below, none_staged, staged_marked, marked_staged, stands_stays, index_bytes, either_flag, either_floor, IsRemoved, removed_synced, removed_floors, removed_pair, removed_list, removed_sound, at_layout, pair_at, same_layout}
 use Rattle.paired.proofs.PairRemoving.{values_ascending, own_alone, copy_stays, newer_stays, sections_wait, prune_held, IsDoomed, IsLost, markers_gone, records_gone, values_gone, only_copies, none_leave, untouched_same, settled_keeps, synced_partition, synced_fresh, opened_stays, gone_absent, parts_of, prune_ways, known_held, known_valued, below_or_not, markers_first, records_first, ascending, copies_alone, index_first, index_last, values_first, copies_last, index_undoomed, own_entries, index_opened, index_still_opened, values_opened, copies_opened, keeps_markers, keeps_records, keeps_values}
 use Rattle.paired.proofs.oversized.Oversized.prune.Goals.{then-records, else-records}
 use Rattle.paired.proofs.oversized.Oversized.prune.Goals as goal
@@ -325,6 +326,8 @@ returns-clause-over g c =
       values_kept = c.in_ok-values.ensures.kept;
       free = c.in_ok-index.ensures.recovered;
       owes = c.in_ok-index.ensures.unrecovered;
+      lifted = c.in_ok-index.ensures.lifted;
+      floors = c.in_ok-index.ensures.floors;
       below = λ s lt. (ap (λ (f : ℕ → Option ℕ). f s) c.in_ok-this.ensures.trailing ∙ (c.drop_below.ensures.below s lt).0, ap (λ (m : Markers). marker_of m s) entries ∙ (c.drop_below.ensures.below s lt).1);
       above = λ s from. (ap (λ (f : ℕ → Option ℕ). f s) c.in_ok-this.ensures.trailing ∙ (c.drop_below.ensures.above s from).0, ap (λ (m : Markers). marker_of m s) entries ∙ (c.drop_below.ensures.above s from).1);
       marked = λ s n is. c.drop_below.ensures.marked s n (subst (λ (m : Markers). IsMarked m s n) entries is);
@@ -336,9 +339,6 @@ returns-clause-over g c =
     let journal = journal_stays p.layout.seal p.layout.record_size i (g.D.Device.opened c.prune.new.dev) (g.D.Device.opened c.prune-2.new.dev) (disk (g.D.Device.time c.prune.new.dev)) (disk (g.D.Device.time c.prune-2.new.dev)) (λ s lt. subst (λ (x : List ℕ). (g.D.Device.opened c.prune-2.new.dev) (section_key x s) ≡ (g.D.Device.opened c.prune.new.dev) (section_key x s)) (sym c.in_ok-index.ensures.place.partition) (index_still_opened ways (g.D.Device.opened c.args.dev.now) (g.D.Device.opened c.sync.new.dev) (g.D.Device.opened c.prune.new.dev) (g.D.Device.opened c.prune-2.new.dev) (subst (λ (x : List ℕ). OthersOpened x (g.D.Device.opened c.args.dev.now) (g.D.Device.opened c.sync.new.dev)) here c.sync.ensures.entries) c.prune.ensures.entries c.prune-2.ensures.entries s)) (λ t s lt. subst (λ (x : List ℕ). disk (g.D.Device.time c.prune-2.new.dev) (section_key x s) ≡ disk (g.D.Device.time c.prune.new.dev) (section_key x s)) (sym c.in_ok-index.ensures.place.partition) (index_last ways (g.D.Device.time c.args.dev.now) (g.D.Device.time c.prune-2.new.dev) (removes t) s)) c.in_ok-index.ensures.over in
     let stands = λ (t : g.D.Device.Tells). stands_stays p.layout.markers u u.entries (disk (g.D.Device.time c.sync.new.dev)) (disk (g.D.Device.time c.prune-2.new.dev)) (λ side. subst (λ (x : List ℕ). disk (g.D.Device.time c.prune-2.new.dev) (blob_of x side) ≡ disk (g.D.Device.time c.sync.new.dev) (blob_of x side)) (sym u_here) (copies_last ways (g.D.Device.time c.args.dev.now) (g.D.Device.time c.prune-2.new.dev) (removes t) side))
     (subst (λ (m : Markers). Stands p.layout.markers u m (disk (g.D.Device.time c.sync.new.dev))) (sym entries) (c.in_ok-this.ensures.stands t p.store.entries (c.drop_below.ensures.stands p.store.entries (disk (g.D.Device.time c.args.dev.now)) (c.requires.over.disk t).markers))) in
-    let on = λ (t : g.D.Device.Tells). removed_on p i v u trailing c.args.min removed (disk (g.D.Device.time c.args.dev.now)) (disk (g.D.Device.time c.prune-2.new.dev)) (c.requires.over.disk t) (stands t)
-    (λ s lt held. index_last ways (g.D.Device.time c.args.dev.now) (g.D.Device.time c.prune-2.new.dev) (removes t) s ∙ c.in_ok-index.ensures.gone t s (inl held) lt)
-    (λ s small not. index_undoomed ways (g.D.Device.time c.args.dev.now) (g.D.Device.time c.prune-2.new.dev) (removes t) s small (λ is. not is.1 (known_held p (g.D.Device.opened c.args.dev.now) (disk (g.D.Device.time c.args.dev.now)) c.requires.over refl refl s is.0))) in
     let floors = removed_floors p i v u trailing c.args.min removed c.in_ok-index.records c.in_ok-values.frames c.requires.over.whole (λ s held. c.requires.over.index.over.opened_list.from_floor s (inl held))
     (record { flag = c.in_ok-index.ensures.flag; floor = c.in_ok-index.ensures.floor; same_floor = c.in_ok-index.ensures.same_floor })
     (record { flag = c.in_ok-values.ensures.flag; floor = c.in_ok-values.ensures.floor; same_floor = c.in_ok-values.ensures.same_floor }) in
@@ -346,7 +346,7 @@ returns-clause-over g c =
     (subst (λ (x : List ℕ). IsOpened x (g.D.Device.opened c.sync.new.dev)) (sym (ap (λ (w : Store Key8 ℕ). w.partition) c.in_ok-this.ensures.same ∙ synced_partition new)) c.sync.ensures.opened) in
     let fresh = ap (λ (w : Store Key8 ℕ). w.staged) c.in_ok-this.ensures.same ∙ synced_fresh new in
     let storable = subst (MayBeSynced p.layout.markers) (sym entries) (c.drop_below.ensures.storable c.requires.over.storable) in
-    pair_at q p.layout layout (removed_pair p i v u trailing c.args.min removed _ _ _ _ (g.D.Device.opened c.args.dev.now) (g.D.Device.opened c.prune-2.new.dev) (disk (g.D.Device.time c.args.dev.now)) (disk (g.D.Device.time c.prune-2.new.dev)) c.requires.over journal c.in_ok-values.ensures.over opened storable fresh c.in_ok-index.ensures.ceiling c.in_ok-values.ensures.ceiling floors on)
+    pair_at q p.layout layout (removed_pair p i v u trailing c.args.min removed _ _ _ _ (g.D.Device.opened c.args.dev.now) (g.D.Device.opened c.prune-2.new.dev) (disk (g.D.Device.time c.args.dev.now)) (disk (g.D.Device.time c.prune-2.new.dev)) c.requires.over journal c.in_ok-values.ensures.over opened storable fresh c.in_ok-index.ensures.ceiling c.in_ok-values.ensures.ceiling floors (λ t. record { markers = stands t }))
 
 pub returns-clause-sound : goal.returns-clause-sound
 returns-clause-sound g c t sound =
@@ -366,6 +366,8 @@ returns-clause-sound g c t sound =
       values_kept = c.in_ok-values.ensures.kept;
       free = c.in_ok-index.ensures.recovered;
       owes = c.in_ok-index.ensures.unrecovered;
+      lifted = c.in_ok-index.ensures.lifted;
+      floors = c.in_ok-index.ensures.floors;
       below = λ s lt. (ap (λ (f : ℕ → Option ℕ). f s) c.in_ok-this.ensures.trailing ∙ (c.drop_below.ensures.below s lt).0, ap (λ (m : Markers). marker_of m s) entries ∙ (c.drop_below.ensures.below s lt).1);
       above = λ s from. (ap (λ (f : ℕ → Option ℕ). f s) c.in_ok-this.ensures.trailing ∙ (c.drop_below.ensures.above s from).0, ap (λ (m : Markers). marker_of m s) entries ∙ (c.drop_below.ensures.above s from).1);
       marked = λ s n is. c.drop_below.ensures.marked s n (subst (λ (m : Markers). IsMarked m s n) entries is);
@@ -377,7 +379,9 @@ returns-clause-sound g c t sound =
     let index_same = λ (s : ℕ) (from : c.args.min ≤ s). index_bytes p.index.sections i.sections (disk (g.D.Device.time c.args.dev.now)) (disk (g.D.Device.time c.prune-2.new.dev)) s (c.in_ok-index.ensures.kept s from).held
     (λ held. ap (λ (x : List ℕ). disk (g.D.Device.time c.prune-2.new.dev) (section_key x s)) c.in_ok-index.ensures.place.partition ∙ index_undoomed ways (g.D.Device.time c.args.dev.now) (g.D.Device.time c.prune-2.new.dev) (removes t) s (c.requires.over.index.over.opened_list.number s (inl held)) (λ is. absurd (omega (arith, is.1, from)))) in
     let values_same = λ (s : ℕ) (from : c.args.min ≤ s). c.in_ok-values.ensures.bytes t s from ∙ ap (λ (b : Blob). glob.bytes_held (p.values.held s) b.content) (values_first ways (g.D.Device.time c.args.dev.now) (g.D.Device.time c.prune-2.new.dev) (removes t) s) in
-    at_layout q p.layout (λ x. IsSoundOn x (disk (g.D.Device.time c.prune-2.new.dev))) layout (removed_sound p i v u trailing c.args.min removed (disk (g.D.Device.time c.args.dev.now)) (disk (g.D.Device.time c.prune-2.new.dev)) index_same values_same g.met.I.CodecFixed.fixed.at_least sound)
+    at_layout q p.layout (λ x. IsSoundOn x (disk (g.D.Device.time c.prune-2.new.dev))) layout (removed_sound p i v u trailing c.args.min removed (disk (g.D.Device.time c.args.dev.now)) (disk (g.D.Device.time c.prune-2.new.dev)) index_same values_same g.met.I.CodecFixed.fixed.at_least
+    (λ s lt held. index_last ways (g.D.Device.time c.args.dev.now) (g.D.Device.time c.prune-2.new.dev) (removes t) s ∙ c.in_ok-index.ensures.gone t s (inl held) lt)
+    (λ s small not. index_undoomed ways (g.D.Device.time c.args.dev.now) (g.D.Device.time c.prune-2.new.dev) (removes t) s small (λ is. not is.1 (known_held p (g.D.Device.opened c.args.dev.now) (disk (g.D.Device.time c.args.dev.now)) c.requires.over refl refl s is.0))) sound)
 
 pub returns-clause-lists : goal.returns-clause-lists
 returns-clause-lists g c t s from =
@@ -397,6 +401,8 @@ returns-clause-lists g c t s from =
       values_kept = c.in_ok-values.ensures.kept;
       free = c.in_ok-index.ensures.recovered;
       owes = c.in_ok-index.ensures.unrecovered;
+      lifted = c.in_ok-index.ensures.lifted;
+      floors = c.in_ok-index.ensures.floors;
       below = λ s lt. (ap (λ (f : ℕ → Option ℕ). f s) c.in_ok-this.ensures.trailing ∙ (c.drop_below.ensures.below s lt).0, ap (λ (m : Markers). marker_of m s) entries ∙ (c.drop_below.ensures.below s lt).1);
       above = λ s from. (ap (λ (f : ℕ → Option ℕ). f s) c.in_ok-this.ensures.trailing ∙ (c.drop_below.ensures.above s from).0, ap (λ (m : Markers). marker_of m s) entries ∙ (c.drop_below.ensures.above s from).1);
       marked = λ s n is. c.drop_below.ensures.marked s n (subst (λ (m : Markers). IsMarked m s n) entries is);
@@ -426,6 +432,8 @@ returns-clause-synced g c =
       values_kept = c.in_ok-values.ensures.kept;
       free = c.in_ok-index.ensures.recovered;
       owes = c.in_ok-index.ensures.unrecovered;
+      lifted = c.in_ok-index.ensures.lifted;
+      floors = c.in_ok-index.ensures.floors;
       below = λ s lt. (ap (λ (f : ℕ → Option ℕ). f s) c.in_ok-this.ensures.trailing ∙ (c.drop_below.ensures.below s lt).0, ap (λ (m : Markers). marker_of m s) entries ∙ (c.drop_below.ensures.below s lt).1);
       above = λ s from. (ap (λ (f : ℕ → Option ℕ). f s) c.in_ok-this.ensures.trailing ∙ (c.drop_below.ensures.above s from).0, ap (λ (m : Markers). marker_of m s) entries ∙ (c.drop_below.ensures.above s from).1);
       marked = λ s n is. c.drop_below.ensures.marked s n (subst (λ (m : Markers). IsMarked m s n) entries is);
@@ -448,6 +456,8 @@ returns-clause-markers g c s from =
       values_kept = c.in_ok-values.ensures.kept;
       free = c.in_ok-index.ensures.recovered;
       owes = c.in_ok-index.ensures.unrecovered;
+      lifted = c.in_ok-index.ensures.lifted;
+      floors = c.in_ok-index.ensures.floors;
       below = λ s lt. (ap (λ (f : ℕ → Option ℕ). f s) c.in_ok-this.ensures.trailing ∙ (c.drop_below.ensures.below s lt).0, ap (λ (m : Markers). marker_of m s) entries ∙ (c.drop_below.ensures.below s lt).1);
       above = λ s from. (ap (λ (f : ℕ → Option ℕ). f s) c.in_ok-this.ensures.trailing ∙ (c.drop_below.ensures.above s from).0, ap (λ (m : Markers). marker_of m s) entries ∙ (c.drop_below.ensures.above s from).1);
       marked = λ s n is. c.drop_below.ensures.marked s n (subst (λ (m : Markers). IsMarked m s n) entries is);
@@ -470,6 +480,8 @@ returns-clause-unmarked g c s lt =
       values_kept = c.in_ok-values.ensures.kept;
       free = c.in_ok-index.ensures.recovered;
       owes = c.in_ok-index.ensures.unrecovered;
+      lifted = c.in_ok-index.ensures.lifted;
+      floors = c.in_ok-index.ensures.floors;
       below = λ s lt. (ap (λ (f : ℕ → Option ℕ). f s) c.in_ok-this.ensures.trailing ∙ (c.drop_below.ensures.below s lt).0, ap (λ (m : Markers). marker_of m s) entries ∙ (c.drop_below.ensures.below s lt).1);
       above = λ s from. (ap (λ (f : ℕ → Option ℕ). f s) c.in_ok-this.ensures.trailing ∙ (c.drop_below.ensures.above s from).0, ap (λ (m : Markers). marker_of m s) entries ∙ (c.drop_below.ensures.above s from).1);
       marked = λ s n is. c.drop_below.ensures.marked s n (subst (λ (m : Markers). IsMarked m s n) entries is);
@@ -671,3 +683,32 @@ returns-clause-newer_stays g c t =
 
 pub returns-clause-marked : goal.returns-clause-marked
 returns-clause-marked g c s m is = c.drop_below.ensures.marked s m (subst (λ (x : Markers). IsMarked x s m) c.in_ok-this.ensures.markers is)
+
+pub returns-in_err-this-clause-fault : goal.returns-in_err-this-clause-fault
+returns-in_err-this-clause-fault g c t has =
+    let e = c.in_err-this.field-0.0 in
+    absurd (markers_apart c.from_residual.result e (err_of c.from_residual.result (raised_metadata e) c.from_residual.ensures.1) has)
+
+pub returns-in_err-index-clause-fault : goal.returns-in_err-index-clause-fault
+returns-in_err-index-clause-fault g c t is =
+    let p = shown g.I.Record.place c.args.self in
+    let new = (tracked.shown c.drop_below.new.self).store in
+    let ways = prune_ways p (g.D.Device.opened c.args.dev.now) (disk (g.D.Device.time c.args.dev.now)) c.requires.over refl refl c.args.min in
+    let here : new.partition ≡ p.layout.metadata = ap (λ (u : Store Key8 ℕ). u.partition) c.drop_below.ensures.staged in
+    let removes = records_gone p.layout p.values (IsLost p c.args.min) (only_copies p.layout new (g.D.Device.time c.args.dev.now) (g.D.Device.time c.sync.new.dev) here (c.sync.ensures.alone t)) (c.prune.ensures.moments t) in
+    let u = (tracked.shown c.in_ok-this.field-0).store in
+    let u_here : u.partition ≡ p.layout.metadata = ap (λ (w : Store Key8 ℕ). w.partition) c.in_ok-this.ensures.same ∙ synced_partition new ∙ here in
+    dropped_still p c.args.min u new.entries (disk (g.D.Device.time c.sync.new.dev)) (disk (g.D.Device.time c.prune.new.dev)) u_here c.in_ok-this.ensures.markers (copies_last ways (g.D.Device.time c.args.dev.now) (g.D.Device.time c.prune.new.dev) removes)
+    (c.in_ok-this.ensures.stands t p.store.entries (c.drop_below.ensures.stands p.store.entries (disk (g.D.Device.time c.args.dev.now)) (c.requires.over.disk t).markers)) c.drop_below.ensures.marked (λ s from. (c.drop_below.ensures.above s from).1)
+
+pub returns-in_err-values-clause-fault : goal.returns-in_err-values-clause-fault
+returns-in_err-values-clause-fault g c t is =
+    let p = shown g.I.Record.place c.args.self in
+    let new = (tracked.shown c.drop_below.new.self).store in
+    let ways = prune_ways p (g.D.Device.opened c.args.dev.now) (disk (g.D.Device.time c.args.dev.now)) c.requires.over refl refl c.args.min in
+    let here : new.partition ≡ p.layout.metadata = ap (λ (u : Store Key8 ℕ). u.partition) c.drop_below.ensures.staged in
+    let removes = values_gone p.layout (only_copies p.layout new (g.D.Device.time c.args.dev.now) (g.D.Device.time c.sync.new.dev) here (c.sync.ensures.alone t)) (c.prune.ensures.moments t) (c.prune-2.ensures.moments t) in
+    let u = (tracked.shown c.in_ok-this.field-0).store in
+    let u_here : u.partition ≡ p.layout.metadata = ap (λ (w : Store Key8 ℕ). w.partition) c.in_ok-this.ensures.same ∙ synced_partition new ∙ here in
+    dropped_still p c.args.min u new.entries (disk (g.D.Device.time c.sync.new.dev)) (disk (g.D.Device.time c.prune-2.new.dev)) u_here c.in_ok-this.ensures.markers (copies_last ways (g.D.Device.time c.args.dev.now) (g.D.Device.time c.prune-2.new.dev) removes)
+    (c.in_ok-this.ensures.stands t p.store.entries (c.drop_below.ensures.stands p.store.entries (disk (g.D.Device.time c.args.dev.now)) (c.requires.over.disk t).markers)) c.drop_below.ensures.marked (λ s from. (c.drop_below.ensures.above s from).1)

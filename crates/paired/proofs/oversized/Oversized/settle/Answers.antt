@@ -12,6 +12,7 @@ use Rattle.segments.proofs.WalkLemmas.{contains_or_not}
 use Rattle.paired.specs.Kept.{marker_of}
 use Rattle.paired.specs.PairShown.{shown}
 use Rattle.paired.specs.TrackedShown as tracked
+use Rattle.paired.proofs.PairFaultLemmas.{rests_after}
 use Rattle.paired.proofs.PairFailing.{pruned_ok, values_refused, values_failed}
 use Rattle.paired.proofs.PairSettling.{index_entry, values_entry, index_synced_of, values_synced_of, parts_of, settle_index_alone, settle_index_untouched, settle_index_order, settle_index_keeps, settle_alone, settle_untouched, settle_order, settle_keeps}
 use Rattle.paired.proofs.PairSynced.{here_of, values_ready, settled_as, settled_sound_as, lists_same, lengths_same, held_same, values_held_as, named_synced, others_synced}
@@ -31,7 +32,7 @@ sync-requires-2 g c =
     let k = fixed.shown c.in_ok-this.field-0 in
     let says = c.in_ok-this.ensures in
     let index = index_synced_of {told = told} p.layout.seal p.layout.record_size named p.index k (g.D.Device.opened c.args.dev.now) (g.D.Device.opened c.sync.new.dev) a b c.requires.over.index
-    says.named says.none says.others says.unopened says.bounds says.unrecovered c.sync.ensures.entries c.sync.ensures.moments in
+    says.named says.none says.others says.unopened says.bounds says.unrecovered says.floors c.sync.ensures.entries c.sync.ensures.moments in
     record { over = values_ready _ _ told p named k _ _ (disk a) (disk b) here c.requires.over index }
 
 pub note_synced-requires-clause-trails : goal.note_synced-requires-clause-trails
@@ -216,7 +217,7 @@ returns-clause-over g c =
     let k = fixed.shown c.in_ok-this.field-0 in
     let says = c.in_ok-this.ensures in
     let index = index_synced_of {told = told} p.layout.seal p.layout.record_size named p.index k (g.D.Device.opened c.args.dev.now) (g.D.Device.opened c.sync.new.dev) a b c.requires.over.index
-    says.named says.none says.others says.unopened says.bounds says.unrecovered c.sync.ensures.entries c.sync.ensures.moments in
+    says.named says.none says.others says.unopened says.bounds says.unrecovered says.floors c.sync.ensures.entries c.sync.ensures.moments in
     let n = manager.shown c.in_ok-this-2.field-0.manager in
     let puts = c.in_ok-this-2.ensures in
     let e = g.D.Device.time c.sync-2.new.dev in
@@ -244,7 +245,7 @@ returns-clause-sound g c x sound =
     let k = fixed.shown c.in_ok-this.field-0 in
     let says = c.in_ok-this.ensures in
     let index = index_synced_of {told = told} p.layout.seal p.layout.record_size named p.index k (g.D.Device.opened c.args.dev.now) (g.D.Device.opened c.sync.new.dev) a b c.requires.over.index
-    says.named says.none says.others says.unopened says.bounds says.unrecovered c.sync.ensures.entries c.sync.ensures.moments in
+    says.named says.none says.others says.unopened says.bounds says.unrecovered says.floors c.sync.ensures.entries c.sync.ensures.moments in
     let n = manager.shown c.in_ok-this-2.field-0.manager in
     let puts = c.in_ok-this-2.ensures in
     let e = g.D.Device.time c.sync-2.new.dev in
@@ -272,7 +273,7 @@ returns-clause-lists g c x =
     let k = fixed.shown c.in_ok-this.field-0 in
     let says = c.in_ok-this.ensures in
     let index = index_synced_of {told = told} p.layout.seal p.layout.record_size named p.index k (g.D.Device.opened c.args.dev.now) (g.D.Device.opened c.sync.new.dev) a b c.requires.over.index
-    says.named says.none says.others says.unopened says.bounds says.unrecovered c.sync.ensures.entries c.sync.ensures.moments in
+    says.named says.none says.others says.unopened says.bounds says.unrecovered says.floors c.sync.ensures.entries c.sync.ensures.moments in
     let n = manager.shown c.in_ok-this-2.field-0.manager in
     let puts = c.in_ok-this-2.ensures in
     let e = g.D.Device.time c.sync-2.new.dev in
@@ -300,7 +301,7 @@ returns-clause-lengths g c =
     let k = fixed.shown c.in_ok-this.field-0 in
     let says = c.in_ok-this.ensures in
     let index = index_synced_of {told = told} p.layout.seal p.layout.record_size named p.index k (g.D.Device.opened c.args.dev.now) (g.D.Device.opened c.sync.new.dev) a b c.requires.over.index
-    says.named says.none says.others says.unopened says.bounds says.unrecovered c.sync.ensures.entries c.sync.ensures.moments in
+    says.named says.none says.others says.unopened says.bounds says.unrecovered says.floors c.sync.ensures.entries c.sync.ensures.moments in
     let n = manager.shown c.in_ok-this-2.field-0.manager in
     let puts = c.in_ok-this-2.ensures in
     let e = g.D.Device.time c.sync-2.new.dev in
@@ -328,7 +329,7 @@ returns-clause-held g c =
     let k = fixed.shown c.in_ok-this.field-0 in
     let says = c.in_ok-this.ensures in
     let index = index_synced_of {told = told} p.layout.seal p.layout.record_size named p.index k (g.D.Device.opened c.args.dev.now) (g.D.Device.opened c.sync.new.dev) a b c.requires.over.index
-    says.named says.none says.others says.unopened says.bounds says.unrecovered c.sync.ensures.entries c.sync.ensures.moments in
+    says.named says.none says.others says.unopened says.bounds says.unrecovered says.floors c.sync.ensures.entries c.sync.ensures.moments in
     let n = manager.shown c.in_ok-this-2.field-0.manager in
     let puts = c.in_ok-this-2.ensures in
     let e = g.D.Device.time c.sync-2.new.dev in
@@ -356,7 +357,7 @@ returns-clause-named g c s is =
     let k = fixed.shown c.in_ok-this.field-0 in
     let says = c.in_ok-this.ensures in
     let index = index_synced_of {told = told} p.layout.seal p.layout.record_size named p.index k (g.D.Device.opened c.args.dev.now) (g.D.Device.opened c.sync.new.dev) a b c.requires.over.index
-    says.named says.none says.others says.unopened says.bounds says.unrecovered c.sync.ensures.entries c.sync.ensures.moments in
+    says.named says.none says.others says.unopened says.bounds says.unrecovered says.floors c.sync.ensures.entries c.sync.ensures.moments in
     let n = manager.shown c.in_ok-this-2.field-0.manager in
     let puts = c.in_ok-this-2.ensures in
     let e = g.D.Device.time c.sync-2.new.dev in
@@ -384,7 +385,7 @@ returns-clause-others g c s not =
     let k = fixed.shown c.in_ok-this.field-0 in
     let says = c.in_ok-this.ensures in
     let index = index_synced_of {told = told} p.layout.seal p.layout.record_size named p.index k (g.D.Device.opened c.args.dev.now) (g.D.Device.opened c.sync.new.dev) a b c.requires.over.index
-    says.named says.none says.others says.unopened says.bounds says.unrecovered c.sync.ensures.entries c.sync.ensures.moments in
+    says.named says.none says.others says.unopened says.bounds says.unrecovered says.floors c.sync.ensures.entries c.sync.ensures.moments in
     let n = manager.shown c.in_ok-this-2.field-0.manager in
     let puts = c.in_ok-this-2.ensures in
     let e = g.D.Device.time c.sync-2.new.dev in
@@ -539,7 +540,7 @@ returns-clause-values_held g c =
     let k = fixed.shown c.in_ok-this.field-0 in
     let says = c.in_ok-this.ensures in
     let index = index_synced_of {told = told} p.layout.seal p.layout.record_size named p.index k (g.D.Device.opened c.args.dev.now) (g.D.Device.opened c.sync.new.dev) a b c.requires.over.index
-    says.named says.none says.others says.unopened says.bounds says.unrecovered c.sync.ensures.entries c.sync.ensures.moments in
+    says.named says.none says.others says.unopened says.bounds says.unrecovered says.floors c.sync.ensures.entries c.sync.ensures.moments in
     let n = manager.shown c.in_ok-this-2.field-0.manager in
     let puts = c.in_ok-this-2.ensures in
     let e = g.D.Device.time c.sync-2.new.dev in
@@ -557,3 +558,22 @@ returns-clause-values_held g c =
 pub returns-clause-settled : goal.returns-clause-settled
 returns-clause-settled g c =
     c.in_ok-this-2.ensures.all_settled
+
+pub returns-clause-rests : goal.returns-clause-rests
+returns-clause-rests g c x =
+    let p = shown g.I.Record.place c.args.self in
+    let here = here_of g.I.Record.place c.args.self g.met.I.CodecFixed.fixed.at_least in
+    let named = Contains c.args.sections.now in
+    let told = g.D.Device.Tells in
+    let a = g.D.Device.time c.args.dev.now in
+    let b = g.D.Device.time c.sync.new.dev in
+    let k = fixed.shown c.in_ok-this.field-0 in
+    let says = c.in_ok-this.ensures in
+    let index = index_synced_of {told = told} p.layout.seal p.layout.record_size named p.index k (g.D.Device.opened c.args.dev.now) (g.D.Device.opened c.sync.new.dev) a b c.requires.over.index
+    says.named says.none says.others says.unopened says.bounds says.unrecovered says.floors c.sync.ensures.entries c.sync.ensures.moments in
+    let n = manager.shown c.in_ok-this-2.field-0.manager in
+    let puts = c.in_ok-this-2.ensures in
+    let e = g.D.Device.time c.sync-2.new.dev in
+    let values = values_synced_of {told = told} named p.values n (g.D.Device.opened c.sync.new.dev) (g.D.Device.opened c.sync-2.new.dev) b e
+    puts.named puts.none puts.others puts.unopened puts.bounds puts.bytes c.sync-2.ensures.entries c.sync-2.ensures.moments in
+    rests_after p named _ _ told k n _ _ _ (disk a) (disk b) (disk e) here c.requires.over.apart index values x

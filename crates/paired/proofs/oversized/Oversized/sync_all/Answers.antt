@@ -8,12 +8,13 @@ use Rattle.blob_device.proofs.Moments.{always_weaker}
 use Rattle.segments.specs.Sections.{IsHeld}
 use Rattle.segments.proofs.FixedWriteLemmas.{are_pages}
 use Rattle.segments.proofs.WalkLemmas.{contains_or_not}
-use Rattle.paired.specs.Crashes.{IsBlobOf, IsIndexOf, IsValuesOf}
+use Rattle.paired.specs.Crashes.{IsBlobOf, IsCopy, IsIndexOf, IsValuesOf}
 use Rattle.paired.specs.Pair.{list_of, synced_length}
 use Rattle.paired.specs.PairShown.{shown}
+use Rattle.paired.proofs.PairFaultLemmas.{none_lost, before_markers}
 use Rattle.paired.proofs.PairFailing.{only_failed}
 use Rattle.paired.proofs.PairMarked.{if_ok, if_both, lists_keep}
-use Rattle.paired.proofs.PairSettling.{all_in_order, any_blob, blob_within, keeping_wider, parts_of}
+use Rattle.paired.proofs.PairSettling.{all_in_order, any_blob, blob_within, copy_no_blob, keeping_wider, parts_of}
 use Rattle.paired.proofs.PairSynced.{here_of, unheld_synced}
 use Rattle.paired.proofs.oversized.Oversized.sync_all.Goals as goal
 
@@ -121,3 +122,16 @@ returns-clause-entries g c q index values =
       | inl of_index ↦ index of_index
       | inr of_values ↦ values of_values
     ])
+
+pub returns-clause-fault : goal.returns-clause-fault
+returns-clause-fault g c t =
+    let p = shown g.I.Record.place c.args.self in
+    let named = Contains c.as_slice.result.now in
+    let a = g.D.Device.time c.args.dev.now in
+    let b = g.D.Device.time c.settle.new.dev in
+    let r = c.settle.result in
+    let says = c.settle.ensures in
+    before_markers p (λ _. ⊤) r _ _ a b
+    (always_weaker a b (λ d. (q : Key) → (IsBlobOf p.layout named q → ⊥) → d q ≡ disk a q) (λ d. (q : Key) → IsCopy p.layout q → d q ≡ disk a q)
+    (λ d only q is. only q (copy_no_blob p.layout named c.requires.over.apart q is)) (says.alone t))
+    (none_lost r _ _ _ _ _ says.cause)

@@ -10,8 +10,10 @@ use Rattle.sealed_pages.specs.Buffer.{extent, bytes_of, FlushesNothing, IsBacked
 use Rattle.sealed_pages.specs.ChanceSeal.{Sealing}
 use Rattle.sealed_pages.specs.declared.page_blob.PageBlob.{PageBlob}
 use Rattle.sealed_pages.specs.Entries.{IsOpenAt}
+use Rattle.sealed_pages.specs.Flushing.{Alone}
 use Rattle.sealed_pages.specs.Shown as page_blob
-use Rattle.sealed_pages.proofs.PageCalls.{only_weaker}
+use Rattle.sealed_pages.specs.Unrecovered.{IsAdopted, IsUnrecovered}
+use Rattle.sealed_pages.proofs.PageCalls.{alone_start, alone_then, only_weaker}
 use Rattle.sealed_pages.proofs.UnrecoveredLemmas.{adopted_backed}
 use Rattle.segments.specs.declared.journal.Error.{Error}
 use Rattle.segments.specs.declared.journal.Error.TheVariants.{Runtime, Full, Mem}
@@ -24,19 +26,19 @@ use Rattle.segments.specs.Managed as managed
 use Rattle.segments.specs.Sections.{section_key, key_of}
 use Rattle.segments.proofs.WalkLemmas.{none_or_value}
 use Rattle.segments.proofs.FixedWriteLemmas.{are_pages, size_here, bytes_here}
-use Rattle.segments.proofs.FixedAppendLemmas.{Takes, Appends, start_sealing, held_sealing, beginning, taken_sealed, taken_size, taken_bytes, crashes_as, was_ok, was_err, at_ok, full_is, no_room_made, full_here, same_setting, append_journal}
+use Rattle.segments.proofs.FixedAppendLemmas.{Takes, Appends, appended_adopted, taken_adopted, start_sealing, held_sealing, beginning, taken_sealed, taken_size, taken_bytes, crashes_as, was_ok, was_err, at_ok, full_is, no_room_made, full_here, same_setting, append_journal}
 use Rattle.segments.proofs.fixed.Journal.append.Goals as goal
 
 pub returns-in_err-bytes-clause-moments : goal.returns-in_err-bytes-clause-moments
-returns-in_err-bytes-clause-moments g c t u held = start_sealing g.S.Seal.seal_of g.A.CodecFixed.SIZE g.D.Device.Tells _ (are_pages g.row.S g.S.Seal g.S.Seal-dict) _ (shown c.args.self) (g.D.Device.opened c.args.dev.now) (g.D.Device.time c.args.dev.now) c.requires.over c.args.section c.requires.recovered t u held (g.A.Codec.spelling c.args.item.now)
+returns-in_err-bytes-clause-moments g c t u held proven = start_sealing g.S.Seal.seal_of g.A.CodecFixed.SIZE g.D.Device.Tells _ (are_pages g.row.S g.S.Seal g.S.Seal-dict) _ (shown c.args.self) (g.D.Device.opened c.args.dev.now) (g.D.Device.time c.args.dev.now) c.requires.over c.args.section c.requires.recovered t u held proven (g.A.Codec.spelling c.args.item.now)
 
 pub returns-in_err-buffer-clause-moments : goal.returns-in_err-buffer-clause-moments
-returns-in_err-buffer-clause-moments g c t u held =
+returns-in_err-buffer-clause-moments g c t u held proven =
     let d = disk (g.D.Device.time c.args.dev.now) in
     let m = (shown c.args.self).sections in
     let stood : g.D.Device.time c.args.dev.now ≡ g.D.Device.time c.take.new.dev = ap g.D.Device.time (sym (c.take.ensures.untouched (subst IsSome (sym held) refl))) in
     subst (λ (x : Timeline). Sealing g.S.Seal.seal_of u.page_size (section_bytes m d c.args.section ++ g.A.Codec.spelling c.args.item.now) u.settled (key_of m c.args.section) (g.D.Device.time c.args.dev.now) x) stood
-    (start_sealing g.S.Seal.seal_of g.A.CodecFixed.SIZE g.D.Device.Tells _ (are_pages g.row.S g.S.Seal g.S.Seal-dict) _ (shown c.args.self) (g.D.Device.opened c.args.dev.now) (g.D.Device.time c.args.dev.now) c.requires.over c.args.section c.requires.recovered t u held (g.A.Codec.spelling c.args.item.now))
+    (start_sealing g.S.Seal.seal_of g.A.CodecFixed.SIZE g.D.Device.Tells _ (are_pages g.row.S g.S.Seal g.S.Seal-dict) _ (shown c.args.self) (g.D.Device.opened c.args.dev.now) (g.D.Device.time c.args.dev.now) c.requires.over c.args.section c.requires.recovered t u held proven (g.A.Codec.spelling c.args.item.now))
 
 pub returns-in_err-buffer-clause-made : goal.returns-in_err-buffer-clause-made
 returns-in_err-buffer-clause-made g c t none =
@@ -64,7 +66,7 @@ returns-in_err-buffer-clause-no_room g c t is =
     ]
 
 pub returns-in_err-buffer-2-clause-moments : goal.returns-in_err-buffer-2-clause-moments
-returns-in_err-buffer-2-clause-moments g c t w held =
+returns-in_err-buffer-2-clause-moments g c t w held proven =
     let takes : Takes g.S.Seal.seal_of g.A.CodecFixed.SIZE g.D.Device.Tells _ (are_pages g.row.S g.S.Seal g.S.Seal-dict) _ (shown c.args.self) (g.D.Device.opened c.args.dev.now) (g.D.Device.time c.args.dev.now) c.requires.over c.args.section c.requires.recovered (g.D.Device.time c.take.new.dev) c.in_ok-buffer.buffer = record {
       same = c.in_ok-buffer.ensures.same;
       untouched = λ held. ap (λ (x : g.row.D.Denot). disk (g.D.Device.time x)) (c.take.ensures.untouched held);
@@ -76,7 +78,7 @@ returns-in_err-buffer-2-clause-moments g c t w held =
     let u = c.in_ok-buffer.buffer in
     let now = g.D.Device.time c.take.new.dev in
     let sealing = crashes_as g.S.Seal.seal_of (page_blob.shown u) (pages.key_of (page_blob.shown u)) (key_of m c.args.section) c.as_slice.result.now (g.A.Codec.spelling c.args.item.now) now (g.D.Device.time c.append.new.dev)
-    c.in_ok-buffer.ensures.key (c.as_slice.ensures.value ∙ c.in_ok-bytes.ensures.bytes) (taken_sealed g.S.Seal.seal_of g.A.CodecFixed.SIZE g.D.Device.Tells _ (are_pages g.row.S g.S.Seal g.S.Seal-dict) _ (shown c.args.self) (g.D.Device.opened c.args.dev.now) (g.D.Device.time c.args.dev.now) c.requires.over c.args.section c.requires.recovered c.ranges.section.fits now u takes t) (c.append.ensures.crashes t) in
+    c.in_ok-buffer.ensures.key (c.as_slice.ensures.value ∙ c.in_ok-bytes.ensures.bytes) (taken_sealed g.S.Seal.seal_of g.A.CodecFixed.SIZE g.D.Device.Tells _ (are_pages g.row.S g.S.Seal g.S.Seal-dict) _ (shown c.args.self) (g.D.Device.opened c.args.dev.now) (g.D.Device.time c.args.dev.now) c.requires.over c.args.section c.requires.recovered c.ranges.section.fits now u takes t (inr proven)) (c.append.ensures.crashes t) in
     held_sealing g.S.Seal.seal_of g.A.CodecFixed.SIZE g.D.Device.Tells _ (are_pages g.row.S g.S.Seal g.S.Seal-dict) _ (shown c.args.self) (g.D.Device.opened c.args.dev.now) (g.D.Device.time c.args.dev.now) c.requires.over c.args.section c.requires.recovered c.ranges.section.fits now u takes t w held (g.A.Codec.spelling c.args.item.now) (g.D.Device.time c.append.new.dev)
     (ap g.D.Device.time (sym (c.take.ensures.untouched (subst IsSome (sym held) refl)))) sealing
 
@@ -93,7 +95,7 @@ returns-in_err-buffer-2-clause-made g c t none =
     let u = c.in_ok-buffer.buffer in
     let now = g.D.Device.time c.take.new.dev in
     let sealing = crashes_as g.S.Seal.seal_of (page_blob.shown u) (pages.key_of (page_blob.shown u)) (key_of m c.args.section) c.as_slice.result.now (g.A.Codec.spelling c.args.item.now) now (g.D.Device.time c.append.new.dev)
-    c.in_ok-buffer.ensures.key (c.as_slice.ensures.value ∙ c.in_ok-bytes.ensures.bytes) (taken_sealed g.S.Seal.seal_of g.A.CodecFixed.SIZE g.D.Device.Tells _ (are_pages g.row.S g.S.Seal g.S.Seal-dict) _ (shown c.args.self) (g.D.Device.opened c.args.dev.now) (g.D.Device.time c.args.dev.now) c.requires.over c.args.section c.requires.recovered c.ranges.section.fits now u takes t) (c.append.ensures.crashes t) in
+    c.in_ok-buffer.ensures.key (c.as_slice.ensures.value ∙ c.in_ok-bytes.ensures.bytes) (taken_sealed g.S.Seal.seal_of g.A.CodecFixed.SIZE g.D.Device.Tells _ (are_pages g.row.S g.S.Seal g.S.Seal-dict) _ (shown c.args.self) (g.D.Device.opened c.args.dev.now) (g.D.Device.time c.args.dev.now) c.requires.over c.args.section c.requires.recovered c.ranges.section.fits now u takes t (inl none)) (c.append.ensures.crashes t) in
     beginning g.S.Seal.seal_of g.A.CodecFixed.SIZE g.D.Device.Tells _ (are_pages g.row.S g.S.Seal g.S.Seal-dict) _ (shown c.args.self) (g.D.Device.opened c.args.dev.now) (g.D.Device.time c.args.dev.now) c.requires.over c.args.section c.requires.recovered c.ranges.section.fits m.factory.pages.page_size now (g.D.Device.time c.append.new.dev) u (g.A.Codec.spelling c.args.item.now) takes
     (λ told. λ i. (c.in_ok-buffer.ensures.setting i).page_size) t none (c.take.ensures.moments t) sealing
 
@@ -108,7 +110,7 @@ pub returns-in_err-buffer-2-clause-entries : goal.returns-in_err-buffer-2-clause
 returns-in_err-buffer-2-clause-entries g c q other = c.append.ensures.entries.others q (λ is. other (is ∙ c.in_ok-buffer.ensures.key)) ∙ c.take.ensures.entries q other
 
 pub returns-in_err-put-clause-moments : goal.returns-in_err-put-clause-moments
-returns-in_err-put-clause-moments g c t w held =
+returns-in_err-put-clause-moments g c t w held proven =
     let takes : Takes g.S.Seal.seal_of g.A.CodecFixed.SIZE g.D.Device.Tells _ (are_pages g.row.S g.S.Seal g.S.Seal-dict) _ (shown c.args.self) (g.D.Device.opened c.args.dev.now) (g.D.Device.time c.args.dev.now) c.requires.over c.args.section c.requires.recovered (g.D.Device.time c.take.new.dev) c.in_ok-buffer.buffer = record {
       same = c.in_ok-buffer.ensures.same;
       untouched = λ held. ap (λ (x : g.row.D.Denot). disk (g.D.Device.time x)) (c.take.ensures.untouched held);
@@ -120,7 +122,7 @@ returns-in_err-put-clause-moments g c t w held =
     let u = c.in_ok-buffer.buffer in
     let now = g.D.Device.time c.take.new.dev in
     let sealing = crashes_as g.S.Seal.seal_of (page_blob.shown u) (pages.key_of (page_blob.shown u)) (key_of m c.args.section) c.as_slice.result.now (g.A.Codec.spelling c.args.item.now) now (g.D.Device.time c.append.new.dev)
-    c.in_ok-buffer.ensures.key (c.as_slice.ensures.value ∙ c.in_ok-bytes.ensures.bytes) (taken_sealed g.S.Seal.seal_of g.A.CodecFixed.SIZE g.D.Device.Tells _ (are_pages g.row.S g.S.Seal g.S.Seal-dict) _ (shown c.args.self) (g.D.Device.opened c.args.dev.now) (g.D.Device.time c.args.dev.now) c.requires.over c.args.section c.requires.recovered c.ranges.section.fits now u takes t) (c.append.ensures.crashes t) in
+    c.in_ok-buffer.ensures.key (c.as_slice.ensures.value ∙ c.in_ok-bytes.ensures.bytes) (taken_sealed g.S.Seal.seal_of g.A.CodecFixed.SIZE g.D.Device.Tells _ (are_pages g.row.S g.S.Seal g.S.Seal-dict) _ (shown c.args.self) (g.D.Device.opened c.args.dev.now) (g.D.Device.time c.args.dev.now) c.requires.over c.args.section c.requires.recovered c.ranges.section.fits now u takes t (inr proven)) (c.append.ensures.crashes t) in
     held_sealing g.S.Seal.seal_of g.A.CodecFixed.SIZE g.D.Device.Tells _ (are_pages g.row.S g.S.Seal g.S.Seal-dict) _ (shown c.args.self) (g.D.Device.opened c.args.dev.now) (g.D.Device.time c.args.dev.now) c.requires.over c.args.section c.requires.recovered c.ranges.section.fits now u takes t w held (g.A.Codec.spelling c.args.item.now) (g.D.Device.time c.append.new.dev)
     (ap g.D.Device.time (sym (c.take.ensures.untouched (subst IsSome (sym held) refl)))) sealing
 
@@ -137,7 +139,7 @@ returns-in_err-put-clause-made g c t none =
     let u = c.in_ok-buffer.buffer in
     let now = g.D.Device.time c.take.new.dev in
     let sealing = crashes_as g.S.Seal.seal_of (page_blob.shown u) (pages.key_of (page_blob.shown u)) (key_of m c.args.section) c.as_slice.result.now (g.A.Codec.spelling c.args.item.now) now (g.D.Device.time c.append.new.dev)
-    c.in_ok-buffer.ensures.key (c.as_slice.ensures.value ∙ c.in_ok-bytes.ensures.bytes) (taken_sealed g.S.Seal.seal_of g.A.CodecFixed.SIZE g.D.Device.Tells _ (are_pages g.row.S g.S.Seal g.S.Seal-dict) _ (shown c.args.self) (g.D.Device.opened c.args.dev.now) (g.D.Device.time c.args.dev.now) c.requires.over c.args.section c.requires.recovered c.ranges.section.fits now u takes t) (c.append.ensures.crashes t) in
+    c.in_ok-buffer.ensures.key (c.as_slice.ensures.value ∙ c.in_ok-bytes.ensures.bytes) (taken_sealed g.S.Seal.seal_of g.A.CodecFixed.SIZE g.D.Device.Tells _ (are_pages g.row.S g.S.Seal g.S.Seal-dict) _ (shown c.args.self) (g.D.Device.opened c.args.dev.now) (g.D.Device.time c.args.dev.now) c.requires.over c.args.section c.requires.recovered c.ranges.section.fits now u takes t (inl none)) (c.append.ensures.crashes t) in
     beginning g.S.Seal.seal_of g.A.CodecFixed.SIZE g.D.Device.Tells _ (are_pages g.row.S g.S.Seal g.S.Seal-dict) _ (shown c.args.self) (g.D.Device.opened c.args.dev.now) (g.D.Device.time c.args.dev.now) c.requires.over c.args.section c.requires.recovered c.ranges.section.fits m.factory.pages.page_size now (g.D.Device.time c.append.new.dev) u (g.A.Codec.spelling c.args.item.now) takes
     (λ told. λ i. (c.in_ok-buffer.ensures.setting i).page_size) t none (c.take.ensures.moments t) sealing
 
@@ -152,7 +154,7 @@ pub returns-in_err-put-clause-entries : goal.returns-in_err-put-clause-entries
 returns-in_err-put-clause-entries g c q other = c.append.ensures.entries.others q (λ is. other (is ∙ c.in_ok-buffer.ensures.key)) ∙ c.take.ensures.entries q other
 
 pub returns-clause-moments : goal.returns-clause-moments
-returns-clause-moments g c t w held =
+returns-clause-moments g c t w held proven =
     let takes : Takes g.S.Seal.seal_of g.A.CodecFixed.SIZE g.D.Device.Tells _ (are_pages g.row.S g.S.Seal g.S.Seal-dict) _ (shown c.args.self) (g.D.Device.opened c.args.dev.now) (g.D.Device.time c.args.dev.now) c.requires.over c.args.section c.requires.recovered (g.D.Device.time c.take.new.dev) c.in_ok-buffer.buffer = record {
       same = c.in_ok-buffer.ensures.same;
       untouched = λ held. ap (λ (x : g.row.D.Denot). disk (g.D.Device.time x)) (c.take.ensures.untouched held);
@@ -164,7 +166,7 @@ returns-clause-moments g c t w held =
     let u = c.in_ok-buffer.buffer in
     let now = g.D.Device.time c.take.new.dev in
     let sealing = crashes_as g.S.Seal.seal_of (page_blob.shown u) (pages.key_of (page_blob.shown u)) (key_of m c.args.section) c.as_slice.result.now (g.A.Codec.spelling c.args.item.now) now (g.D.Device.time c.append.new.dev)
-    c.in_ok-buffer.ensures.key (c.as_slice.ensures.value ∙ c.in_ok-bytes.ensures.bytes) (taken_sealed g.S.Seal.seal_of g.A.CodecFixed.SIZE g.D.Device.Tells _ (are_pages g.row.S g.S.Seal g.S.Seal-dict) _ (shown c.args.self) (g.D.Device.opened c.args.dev.now) (g.D.Device.time c.args.dev.now) c.requires.over c.args.section c.requires.recovered c.ranges.section.fits now u takes t) (c.append.ensures.crashes t) in
+    c.in_ok-buffer.ensures.key (c.as_slice.ensures.value ∙ c.in_ok-bytes.ensures.bytes) (taken_sealed g.S.Seal.seal_of g.A.CodecFixed.SIZE g.D.Device.Tells _ (are_pages g.row.S g.S.Seal g.S.Seal-dict) _ (shown c.args.self) (g.D.Device.opened c.args.dev.now) (g.D.Device.time c.args.dev.now) c.requires.over c.args.section c.requires.recovered c.ranges.section.fits now u takes t (inr proven)) (c.append.ensures.crashes t) in
     held_sealing g.S.Seal.seal_of g.A.CodecFixed.SIZE g.D.Device.Tells _ (are_pages g.row.S g.S.Seal g.S.Seal-dict) _ (shown c.args.self) (g.D.Device.opened c.args.dev.now) (g.D.Device.time c.args.dev.now) c.requires.over c.args.section c.requires.recovered c.ranges.section.fits now u takes t w held (g.A.Codec.spelling c.args.item.now) (g.D.Device.time c.append.new.dev)
     (ap g.D.Device.time (sym (c.take.ensures.untouched (subst IsSome (sym held) refl)))) sealing
 
@@ -181,7 +183,7 @@ returns-clause-made g c t none =
     let u = c.in_ok-buffer.buffer in
     let now = g.D.Device.time c.take.new.dev in
     let sealing = crashes_as g.S.Seal.seal_of (page_blob.shown u) (pages.key_of (page_blob.shown u)) (key_of m c.args.section) c.as_slice.result.now (g.A.Codec.spelling c.args.item.now) now (g.D.Device.time c.append.new.dev)
-    c.in_ok-buffer.ensures.key (c.as_slice.ensures.value ∙ c.in_ok-bytes.ensures.bytes) (taken_sealed g.S.Seal.seal_of g.A.CodecFixed.SIZE g.D.Device.Tells _ (are_pages g.row.S g.S.Seal g.S.Seal-dict) _ (shown c.args.self) (g.D.Device.opened c.args.dev.now) (g.D.Device.time c.args.dev.now) c.requires.over c.args.section c.requires.recovered c.ranges.section.fits now u takes t) (c.append.ensures.crashes t) in
+    c.in_ok-buffer.ensures.key (c.as_slice.ensures.value ∙ c.in_ok-bytes.ensures.bytes) (taken_sealed g.S.Seal.seal_of g.A.CodecFixed.SIZE g.D.Device.Tells _ (are_pages g.row.S g.S.Seal g.S.Seal-dict) _ (shown c.args.self) (g.D.Device.opened c.args.dev.now) (g.D.Device.time c.args.dev.now) c.requires.over c.args.section c.requires.recovered c.ranges.section.fits now u takes t (inl none)) (c.append.ensures.crashes t) in
     beginning g.S.Seal.seal_of g.A.CodecFixed.SIZE g.D.Device.Tells _ (are_pages g.row.S g.S.Seal g.S.Seal-dict) _ (shown c.args.self) (g.D.Device.opened c.args.dev.now) (g.D.Device.time c.args.dev.now) c.requires.over c.args.section c.requires.recovered c.ranges.section.fits m.factory.pages.page_size now (g.D.Device.time c.append.new.dev) u (g.A.Codec.spelling c.args.item.now) takes
     (λ told. λ i. (c.in_ok-buffer.ensures.setting i).page_size) t none (c.take.ensures.moments t) sealing
 
@@ -309,9 +311,9 @@ returns-clause-bytes g c t =
     let n = managed.shown c.put.new.self in
     let d = disk (g.D.Device.time c.take.new.dev) in
     let e = disk (g.D.Device.time c.append.new.dev) in
-    let sealed = taken_sealed g.S.Seal.seal_of g.A.CodecFixed.SIZE g.D.Device.Tells _ (are_pages g.row.S g.S.Seal g.S.Seal-dict) _ (shown c.args.self) (g.D.Device.opened c.args.dev.now) (g.D.Device.time c.args.dev.now) c.requires.over c.args.section c.requires.recovered c.ranges.section.fits (g.D.Device.time c.take.new.dev) u takes t in
+    let adopted = taken_adopted g.S.Seal.seal_of g.A.CodecFixed.SIZE g.D.Device.Tells _ (are_pages g.row.S g.S.Seal g.S.Seal-dict) _ (shown c.args.self) (g.D.Device.opened c.args.dev.now) (g.D.Device.time c.args.dev.now) c.requires.over c.args.section c.requires.recovered c.ranges.section.fits (g.D.Device.time c.take.new.dev) u takes t in
     let here = c.in_ok-buffer.ensures.key in
-    let backed = subst (λ (q : Key). IsBacked (page_blob.shown u) (d q).content) (sym here) (adopted_backed g.S.Seal.seal_of (page_blob.shown u) (d (key_of m c.args.section)) (inl sealed)) in
+    let backed = subst (λ (q : Key). IsBacked (page_blob.shown u) (d q).content) (sym here) (adopted_backed g.S.Seal.seal_of (page_blob.shown u) (d (key_of m c.args.section)) adopted) in
     bytes_here n c.args.section v c.in_ok-put.ensures.put.here e
     ∙ ap (λ (p : List ℕ). bytes_of (page_blob.shown v) (e (section_key p c.args.section)).content) (c.in_ok-put.ensures.put.bounds.place.partition ∙ c.take.ensures.bounds.place.partition)
     ∙ ap (λ (q : Key). bytes_of (page_blob.shown v) (e q).content) (sym here)
@@ -338,18 +340,92 @@ returns-clause-over g c =
     let end = g.D.Device.time c.append.new.dev in
     let k = key_of m c.args.section in
     let here = c.in_ok-buffer.ensures.key in
+    let adopted : g.D.Device.Tells → IsAdopted g.S.Seal.seal_of (page_blob.shown u) (disk now (pages.key_of (page_blob.shown u))) = λ t. subst (λ (q : Key). IsAdopted g.S.Seal.seal_of (page_blob.shown u) (disk now q)) (sym here)
+    (taken_adopted g.S.Seal.seal_of g.A.CodecFixed.SIZE g.D.Device.Tells _ (are_pages g.row.S g.S.Seal g.S.Seal-dict) _ (shown c.args.self) (g.D.Device.opened c.args.dev.now) (g.D.Device.time c.args.dev.now) c.requires.over c.args.section c.requires.recovered c.ranges.section.fits now u takes t) in
     let appends : Appends g.S.Seal.seal_of g.A.CodecFixed.SIZE g.D.Device.Tells _ (are_pages g.row.S g.S.Seal g.S.Seal-dict) _ (shown c.args.self) (g.D.Device.opened c.args.dev.now) (g.D.Device.time c.args.dev.now) c.requires.over c.args.section c.requires.recovered c.ranges.section.fits now u takes end v (g.D.Device.opened c.take.new.dev) (g.D.Device.opened c.append.new.dev) = record {
       key = at_ok c.append.result (v, c.in_ok-buffer-2.offset) (λ (x : PageBlob g.row.S.Denot g.S.Seal × ℕ). pages.key_of (page_blob.shown x.0) ≡ pages.key_of (page_blob.shown u)) ok c.append.ensures.key ∙ here;
       setting = same_setting v.page_size u.page_size v.capacity u.capacity (at_ok c.append.result (v, c.in_ok-buffer-2.offset) (λ (x : PageBlob g.row.S.Denot g.S.Seal × ℕ). x.0.page_size ≡ u.page_size) ok c.append.ensures.page_size) (at_ok c.append.result (v, c.in_ok-buffer-2.offset) (λ (x : PageBlob g.row.S.Denot g.S.Seal × ℕ). x.0.capacity ≡ u.capacity) ok c.append.ensures.capacity) ∙ c.in_ok-buffer.ensures.setting;
       is_open = subst (λ (q : Key). IsOpenAt (g.D.Device.opened c.append.new.dev) q v.end) (at_ok c.append.result (v, c.in_ok-buffer-2.offset) (λ (x : PageBlob g.row.S.Denot g.S.Seal × ℕ). pages.key_of (page_blob.shown x.0) ≡ pages.key_of (page_blob.shown u)) ok c.append.ensures.key ∙ here) (at_ok c.append.result (v, c.in_ok-buffer-2.offset) (λ (x : PageBlob g.row.S.Denot g.S.Seal × ℕ). IsOpenAt (g.D.Device.opened c.append.new.dev) (pages.key_of (page_blob.shown x.0)) x.0.end) ok c.append.ensures.«open»);
       entries = λ q other. c.append.ensures.entries.others q (λ is. other (is ∙ here));
-      sealed = λ t. subst (λ (q : Key). IsSealed g.S.Seal.seal_of (page_blob.shown v) (disk end q)) here
-          (at_ok c.append.result (v, c.in_ok-buffer-2.offset) (λ (x : PageBlob g.row.S.Denot g.S.Seal × ℕ). IsSealed g.S.Seal.seal_of (page_blob.shown x.0) (disk end (pages.key_of (page_blob.shown u)))) ok (c.append.ensures.sealed t (subst (λ (q : Key). IsSealed g.S.Seal.seal_of (page_blob.shown u) (disk now q)) (sym here) (taken_sealed g.S.Seal.seal_of g.A.CodecFixed.SIZE g.D.Device.Tells _ (are_pages g.row.S g.S.Seal g.S.Seal-dict) _ (shown c.args.self) (g.D.Device.opened c.args.dev.now) (g.D.Device.time c.args.dev.now) c.requires.over c.args.section c.requires.recovered c.ranges.section.fits now u takes t))));
+      adopted = λ t. subst (λ (q : Key). IsAdopted g.S.Seal.seal_of (page_blob.shown v) (disk end q)) here
+          (appended_adopted g.S.Seal.seal_of (page_blob.shown u) (page_blob.shown v) (disk now (pages.key_of (page_blob.shown u))) (disk end (pages.key_of (page_blob.shown u)))
+          (λ is. at_ok c.append.result (v, c.in_ok-buffer-2.offset) (λ (x : PageBlob g.row.S.Denot g.S.Seal × ℕ). IsSealed g.S.Seal.seal_of (page_blob.shown x.0) (disk end (pages.key_of (page_blob.shown u)))) ok (c.append.ensures.sealed t is))
+          (λ is. at_ok c.append.result (v, c.in_ok-buffer-2.offset) (λ (x : PageBlob g.row.S.Denot g.S.Seal × ℕ). IsUnrecovered g.S.Seal.seal_of (page_blob.shown x.0) (disk end (pages.key_of (page_blob.shown u)))) ok (c.append.ensures.unrecovered t is))
+          (adopted t));
+      sealed = λ t is. subst (λ (q : Key). IsSealed g.S.Seal.seal_of (page_blob.shown v) (disk end q)) here
+          (at_ok c.append.result (v, c.in_ok-buffer-2.offset) (λ (x : PageBlob g.row.S.Denot g.S.Seal × ℕ). IsSealed g.S.Seal.seal_of (page_blob.shown x.0) (disk end (pages.key_of (page_blob.shown u)))) ok
+          (c.append.ensures.sealed t (subst (λ (q : Key). IsSealed g.S.Seal.seal_of (page_blob.shown u) (disk now q)) (sym here) is)));
       long = at_ok c.append.result (v, c.in_ok-buffer-2.offset) (λ (x : PageBlob g.row.S.Denot g.S.Seal × ℕ). pages.size_of (page_blob.shown x.0) ≡ pages.size_of (page_blob.shown u) + length c.as_slice.result.now) ok c.append.ensures.size ∙ ap (λ (n : ℕ). pages.size_of (page_blob.shown u) + n) long;
       settled = at_ok c.append.result (v, c.in_ok-buffer-2.offset) (λ (x : PageBlob g.row.S.Denot g.S.Seal × ℕ). x.0.settled ≡ u.settled) ok c.append.ensures.settled;
-      others = λ t q other.
-          (always_now now end _ (crashes_as g.S.Seal.seal_of (page_blob.shown u) (pages.key_of (page_blob.shown u)) k c.as_slice.result.now c.as_slice.result.now now end here refl (taken_sealed g.S.Seal.seal_of g.A.CodecFixed.SIZE g.D.Device.Tells _ (are_pages g.row.S g.S.Seal g.S.Seal-dict) _ (shown c.args.self) (g.D.Device.opened c.args.dev.now) (g.D.Device.time c.args.dev.now) c.requires.over c.args.section c.requires.recovered c.ranges.section.fits now u takes t) (c.append.ensures.crashes t))).others q other;
+      others = λ t q other. (always_now now end _ (c.append.ensures.alone t (adopted_backed g.S.Seal.seal_of (page_blob.shown u) (disk now (pages.key_of (page_blob.shown u))) (adopted t)))).others q (λ is. other (is ∙ here));
       before = λ t q other. (always_now (g.D.Device.time c.args.dev.now) now _ (c.take.ensures.moments t)).others q other;
     } in
     append_journal g.S.Seal.seal_of g.A.CodecFixed.SIZE g.D.Device.Tells _ (are_pages g.row.S g.S.Seal g.S.Seal-dict) _ (shown c.args.self) (g.D.Device.opened c.args.dev.now) (g.D.Device.time c.args.dev.now) c.requires.over c.args.section c.requires.recovered c.ranges.section.fits now u takes c.args.self.sized (managed.shown c.take.new.self) (g.D.Device.opened c.take.new.dev) c.take.ensures.over (inr (subst IsSome (sym c.in_ok-buffer.ensures.known) refl))
-    c.take.ensures.others c.take.ensures.bounds end v (g.D.Device.opened c.append.new.dev) appends _ c.in_ok-put.ensures.put (λ q. refl)
+    c.take.ensures.others c.take.ensures.bounds end v (g.D.Device.opened c.append.new.dev) appends _ c.in_ok-put.ensures.put (λ q. refl) (λ q. refl)
+
+pub returns-in_err-prune_guard-clause-alone : goal.returns-in_err-prune_guard-clause-alone
+returns-in_err-prune_guard-clause-alone g c t = alone_start (g.D.Device.time c.args.dev.now) (key_of (shown c.args.self).sections c.args.section)
+
+pub returns-in_err-bytes-clause-alone : goal.returns-in_err-bytes-clause-alone
+returns-in_err-bytes-clause-alone g c t = alone_start (g.D.Device.time c.args.dev.now) (key_of (shown c.args.self).sections c.args.section)
+
+pub returns-in_err-buffer-clause-alone : goal.returns-in_err-buffer-clause-alone
+returns-in_err-buffer-clause-alone g c t = (only_weaker (g.D.Device.time c.args.dev.now) (g.D.Device.time c.take.new.dev) (key_of (shown c.args.self).sections c.args.section) (disk (g.D.Device.time c.args.dev.now))
+    (IsOpening (disk (g.D.Device.time c.args.dev.now) (key_of (shown c.args.self).sections c.args.section))) (λ b. Unit {0}) (λ x is. tt) (c.take.ensures.moments t))
+
+pub returns-in_err-buffer-2-clause-alone : goal.returns-in_err-buffer-2-clause-alone
+returns-in_err-buffer-2-clause-alone g c t =
+    let takes : Takes g.S.Seal.seal_of g.A.CodecFixed.SIZE g.D.Device.Tells _ (are_pages g.row.S g.S.Seal g.S.Seal-dict) _ (shown c.args.self) (g.D.Device.opened c.args.dev.now) (g.D.Device.time c.args.dev.now) c.requires.over c.args.section c.requires.recovered (g.D.Device.time c.take.new.dev) c.in_ok-buffer.buffer = record {
+      same = c.in_ok-buffer.ensures.same;
+      untouched = λ held. ap (λ (x : g.row.D.Denot). disk (g.D.Device.time x)) (c.take.ensures.untouched held);
+      stands = c.in_ok-buffer.ensures.stands;
+      made = c.in_ok-buffer.ensures.made;
+      bytes = c.in_ok-buffer.ensures.bytes;
+    } in
+    let u = c.in_ok-buffer.buffer in
+    let now = g.D.Device.time c.take.new.dev in
+    let here = c.in_ok-buffer.ensures.key in
+    let adopted = subst (λ (q : Key). IsAdopted g.S.Seal.seal_of (page_blob.shown u) (disk now q)) (sym here)
+    (taken_adopted g.S.Seal.seal_of g.A.CodecFixed.SIZE g.D.Device.Tells _ (are_pages g.row.S g.S.Seal g.S.Seal-dict) _ (shown c.args.self) (g.D.Device.opened c.args.dev.now) (g.D.Device.time c.args.dev.now) c.requires.over c.args.section c.requires.recovered c.ranges.section.fits now u takes t) in
+    alone_then (g.D.Device.time c.args.dev.now) now (g.D.Device.time c.append.new.dev) (key_of (shown c.args.self).sections c.args.section)
+    (only_weaker (g.D.Device.time c.args.dev.now) (g.D.Device.time c.take.new.dev) (key_of (shown c.args.self).sections c.args.section) (disk (g.D.Device.time c.args.dev.now))
+    (IsOpening (disk (g.D.Device.time c.args.dev.now) (key_of (shown c.args.self).sections c.args.section))) (λ b. Unit {0}) (λ x is. tt) (c.take.ensures.moments t))
+    (subst (λ (q : Key). Alone q now (g.D.Device.time c.append.new.dev)) here (c.append.ensures.alone t (adopted_backed g.S.Seal.seal_of (page_blob.shown u) (disk now (pages.key_of (page_blob.shown u))) adopted)))
+
+pub returns-in_err-put-clause-alone : goal.returns-in_err-put-clause-alone
+returns-in_err-put-clause-alone g c t =
+    let takes : Takes g.S.Seal.seal_of g.A.CodecFixed.SIZE g.D.Device.Tells _ (are_pages g.row.S g.S.Seal g.S.Seal-dict) _ (shown c.args.self) (g.D.Device.opened c.args.dev.now) (g.D.Device.time c.args.dev.now) c.requires.over c.args.section c.requires.recovered (g.D.Device.time c.take.new.dev) c.in_ok-buffer.buffer = record {
+      same = c.in_ok-buffer.ensures.same;
+      untouched = λ held. ap (λ (x : g.row.D.Denot). disk (g.D.Device.time x)) (c.take.ensures.untouched held);
+      stands = c.in_ok-buffer.ensures.stands;
+      made = c.in_ok-buffer.ensures.made;
+      bytes = c.in_ok-buffer.ensures.bytes;
+    } in
+    let u = c.in_ok-buffer.buffer in
+    let now = g.D.Device.time c.take.new.dev in
+    let here = c.in_ok-buffer.ensures.key in
+    let adopted = subst (λ (q : Key). IsAdopted g.S.Seal.seal_of (page_blob.shown u) (disk now q)) (sym here)
+    (taken_adopted g.S.Seal.seal_of g.A.CodecFixed.SIZE g.D.Device.Tells _ (are_pages g.row.S g.S.Seal g.S.Seal-dict) _ (shown c.args.self) (g.D.Device.opened c.args.dev.now) (g.D.Device.time c.args.dev.now) c.requires.over c.args.section c.requires.recovered c.ranges.section.fits now u takes t) in
+    alone_then (g.D.Device.time c.args.dev.now) now (g.D.Device.time c.append.new.dev) (key_of (shown c.args.self).sections c.args.section)
+    (only_weaker (g.D.Device.time c.args.dev.now) (g.D.Device.time c.take.new.dev) (key_of (shown c.args.self).sections c.args.section) (disk (g.D.Device.time c.args.dev.now))
+    (IsOpening (disk (g.D.Device.time c.args.dev.now) (key_of (shown c.args.self).sections c.args.section))) (λ b. Unit {0}) (λ x is. tt) (c.take.ensures.moments t))
+    (subst (λ (q : Key). Alone q now (g.D.Device.time c.append.new.dev)) here (c.append.ensures.alone t (adopted_backed g.S.Seal.seal_of (page_blob.shown u) (disk now (pages.key_of (page_blob.shown u))) adopted)))
+
+pub returns-clause-alone : goal.returns-clause-alone
+returns-clause-alone g c t =
+    let takes : Takes g.S.Seal.seal_of g.A.CodecFixed.SIZE g.D.Device.Tells _ (are_pages g.row.S g.S.Seal g.S.Seal-dict) _ (shown c.args.self) (g.D.Device.opened c.args.dev.now) (g.D.Device.time c.args.dev.now) c.requires.over c.args.section c.requires.recovered (g.D.Device.time c.take.new.dev) c.in_ok-buffer.buffer = record {
+      same = c.in_ok-buffer.ensures.same;
+      untouched = λ held. ap (λ (x : g.row.D.Denot). disk (g.D.Device.time x)) (c.take.ensures.untouched held);
+      stands = c.in_ok-buffer.ensures.stands;
+      made = c.in_ok-buffer.ensures.made;
+      bytes = c.in_ok-buffer.ensures.bytes;
+    } in
+    let u = c.in_ok-buffer.buffer in
+    let now = g.D.Device.time c.take.new.dev in
+    let here = c.in_ok-buffer.ensures.key in
+    let adopted = subst (λ (q : Key). IsAdopted g.S.Seal.seal_of (page_blob.shown u) (disk now q)) (sym here)
+    (taken_adopted g.S.Seal.seal_of g.A.CodecFixed.SIZE g.D.Device.Tells _ (are_pages g.row.S g.S.Seal g.S.Seal-dict) _ (shown c.args.self) (g.D.Device.opened c.args.dev.now) (g.D.Device.time c.args.dev.now) c.requires.over c.args.section c.requires.recovered c.ranges.section.fits now u takes t) in
+    alone_then (g.D.Device.time c.args.dev.now) now (g.D.Device.time c.append.new.dev) (key_of (shown c.args.self).sections c.args.section)
+    (only_weaker (g.D.Device.time c.args.dev.now) (g.D.Device.time c.take.new.dev) (key_of (shown c.args.self).sections c.args.section) (disk (g.D.Device.time c.args.dev.now))
+    (IsOpening (disk (g.D.Device.time c.args.dev.now) (key_of (shown c.args.self).sections c.args.section))) (λ b. Unit {0}) (λ x is. tt) (c.take.ensures.moments t))
+    (subst (λ (q : Key). Alone q now (g.D.Device.time c.append.new.dev)) here (c.append.ensures.alone t (adopted_backed g.S.Seal.seal_of (page_blob.shown u) (disk now (pages.key_of (page_blob.shown u))) adopted)))

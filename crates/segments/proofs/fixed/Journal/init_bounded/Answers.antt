@@ -1,4 +1,4 @@
-use Rattle.std.proofs.Common.{◌≡◌, ◌↔◌, ◌+◌, ◌^◌, ◌<◌, ◌≤◌, ℕ, List, Some, Err, IsTrue, ◌∙◌, ap, subst}
+use Rattle.std.proofs.Common.{◌≡◌, ◌↔◌, ◌+◌, ◌^◌, ◌<◌, ◌≤◌, ◌%◌, ℕ, List, Some, Err, IsTrue, sym, ◌∙◌, ap, subst, arith}
 use Rattle.std.specs.Prelude.{string_bytes}
 use Rattle.std.specs.BTreeSet.{contains}
 use Rattle.std.specs.Ordering.{nat_cmp}
@@ -12,11 +12,13 @@ use Rattle.segments.specs.declared.journal.Error.TheVariants.{Runtime}
 use Rattle.segments.specs.declared.manager.Manager.{Manager}
 use Rattle.segments.specs.declared.sealed.AppendFactory.{AppendFactory}
 use Rattle.segments.specs.declared.unopened.Unopened.TheVariants.{Section}
+use Rattle.segments.specs.FixedLists.{floor_in, section_size}
 use Rattle.segments.specs.Managed.{shown}
 use Rattle.segments.specs.Refusing.{IsOpenedTooLong}
 use Rattle.segments.specs.Sections.{section_key, IsHeld}
 use Rattle.segments.proofs.FixedWriteLemmas.{are_pages}
-use Rattle.segments.proofs.FixedOpenLemmas.{opened_cause, above_ceiling, opened_journal, opened_bytes}
+use Rattle.segments.proofs.FixedCutLemmas.{no_rest}
+use Rattle.segments.proofs.FixedOpenLemmas.{no_floor, opened_cause, above_ceiling, opened_journal, opened_bytes}
 use Rattle.segments.proofs.fixed.Journal.init_bounded.Goals as goal
 
 pub returns-in_err-manager-clause-entries : goal.returns-in_err-manager-clause-entries
@@ -72,7 +74,12 @@ pub returns-clause-over : goal.returns-clause-over
 returns-clause-over g c =
     let m = shown c.in_ok-manager.manager in
     let pages = are_pages g.row.S g.S.Seal g.S.Seal-dict in
+    let none : (s : ℕ) → floor_in c.new-2.result s ≡ 0 = no_floor c.new-2.result c.new-2.ensures.empty in
     opened_journal g.S.Seal.seal_of g.A.CodecFixed.SIZE g.D.Device.Tells _ pages _ m (g.D.Device.opened c.init_bounded.new.dev) (disk (g.D.Device.time c.init_bounded.new.dev)) c.in_ok-manager.ensures.over
-    (contains nat_cmp c.in_ok-unrecovered.unrecovered) c.in_ok-manager.ensures.idle c.in_ok-unrecovered.ensures.filled
+    (contains nat_cmp c.in_ok-unrecovered.unrecovered) (floor_in c.new-2.result) c.in_ok-manager.ensures.idle (λ s. subst (λ (n : ℕ). IsTrue (contains nat_cmp c.in_ok-unrecovered.unrecovered s) ↔ (n < section_size m s)) (sym (none s)) (c.in_ok-unrecovered.ensures.filled s))
+    (λ s. omega (arith, none s)) (λ s. ap (λ (n : ℕ). n % g.A.CodecFixed.SIZE) (none s) ∙ no_rest g.A.CodecFixed.SIZE)
     (λ t. above_ceiling g.S.Seal.seal_of g.A.CodecFixed.SIZE g.D.Device.Tells _ pages _ m (g.D.Device.opened c.init_bounded.new.dev) (disk (g.D.Device.time c.init_bounded.new.dev)) c.in_ok-manager.ensures.over
     (λ s. IsTrue (disk (g.D.Device.time c.args.dev.now) (section_key (string_bytes c.in_ok-clone.field-0) s)).there) c.in_ok-manager.ensures.no_leftover c.args.ceiling c.in_ok-manager.ensures.ceiling (c.in_ok-manager.ensures.unopened t))
+
+pub returns-clause-floors : goal.returns-clause-floors
+returns-clause-floors g c = no_floor c.new-2.result c.new-2.ensures.empty

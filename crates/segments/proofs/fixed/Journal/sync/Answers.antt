@@ -17,7 +17,7 @@ returns-clause-moments g c t = settling_of g.S.Seal.seal_of g.A.CodecFixed.SIZE 
 pub returns-clause-over : goal.returns-clause-over
 returns-clause-over g c = synced_journal g.S.Seal.seal_of g.A.CodecFixed.SIZE g.D.Device.Tells _ (are_pages g.row.S g.S.Seal g.S.Seal-dict) _ (shown c.args.self) (g.D.Device.opened c.args.dev.now)
     (g.D.Device.time c.args.dev.now) (g.D.Device.time c.sync.new.dev) (Contains c.args.sections.now) c.requires.over _ (g.D.Device.opened c.sync.new.dev) (contains_or_not c.args.sections.now) c.in_ok-this.ensures.over
-    c.in_ok-this.ensures.named c.in_ok-this.ensures.none c.in_ok-this.ensures.others c.in_ok-this.ensures.unopened c.in_ok-this.ensures.bounds (λ s. refl) c.sync.ensures.moments
+    c.in_ok-this.ensures.named c.in_ok-this.ensures.none c.in_ok-this.ensures.others c.in_ok-this.ensures.unopened c.in_ok-this.ensures.bounds (λ s. refl) (λ s. refl) c.sync.ensures.moments
 
 pub returns-clause-idle : goal.returns-clause-idle
 returns-clause-idle g c none = c.sync.ensures.idle (λ s u is held. is_settled (ghosts g.row.S g.S.Seal g.S.Seal-dict) ((shown c.args.self).sections.held s) u held (none s is))

@@ -15,4 +15,4 @@ returns-clause-moments g c t = settling_of g.S.Seal.seal_of g.A.CodecFixed.SIZE 
 pub returns-clause-over : goal.returns-clause-over
 returns-clause-over g c = synced_journal g.S.Seal.seal_of g.A.CodecFixed.SIZE g.D.Device.Tells _ (are_pages g.row.S g.S.Seal g.S.Seal-dict) _ (shown c.args.self) (g.D.Device.opened c.args.dev.now)
     (g.D.Device.time c.args.dev.now) (g.D.Device.time c.sync_all.new.dev) (λ s. ⊤) c.requires.over _ (g.D.Device.opened c.sync_all.new.dev) (λ s. inl tt) c.in_ok-this.ensures.over
-    (λ s u is held. c.in_ok-this.ensures.all s u held) c.in_ok-this.ensures.none (λ s not. absurd (not tt)) c.in_ok-this.ensures.unopened c.in_ok-this.ensures.bounds (λ s. refl) c.sync_all.ensures.moments
+    (λ s u is held. c.in_ok-this.ensures.all s u held) c.in_ok-this.ensures.none (λ s not. absurd (not tt)) c.in_ok-this.ensures.unopened c.in_ok-this.ensures.bounds (λ s. refl) (λ s. refl) c.sync_all.ensures.moments

@@ -3,14 +3,29 @@ use Rattle.std.specs.Prelude.{◌≡◌, Err}
 use Rattle.std.proofs.Common.{sym, ◌∙◌, arith}
 use Rattle.std.proofs.lemmas.Result.{err_from_is_err_and}
 use Rattle.blob_device.specs.Timeline.{disk}
-use Rattle.segments.specs.declared.journal.Error.TheVariants.{ItemOutOfRange}
+use Rattle.sealed_pages.proofs.Holding.{fit_size}
+use Rattle.segments.specs.declared.journal.Error.TheVariants.{Corruption, ItemOutOfRange}
 use Rattle.segments.specs.FixedWalking.{walk_of, place_of}
-use Rattle.segments.proofs.FixedCutting.{cut_failed, cut_ended, cut_refused, cut_within, cut_prefix}
+use Rattle.segments.proofs.FixedCutting.{ends_below, cut_failed, cut_ended, cut_refused, cut_within, cut_prefix}
 use Rattle.segments.proofs.FixedOpening.{first_here}
 use Rattle.segments.proofs.FixedErrorSteps.{cut_as}
-use Rattle.segments.proofs.FixedReading.{here, reached_here}
+use Rattle.segments.proofs.FixedReading.{here, reached_here, floor_refused}
 use Rattle.segments.proofs.FixedWalks.{some_of}
 use Rattle.segments.proofs.fixed.replaying.Replay.end_cut.Goals as goal
+
+pub check_floor-requires : goal.check_floor-requires
+check_floor-requires g c =
+    let u = here g.S.Seal.seal_of g.A.CodecFixed.SIZE _ _ (walk_of c.args.self.now) (place_of c.args.reading) _ (disk (g.D.Device.time c.args.dev.now)) c.requires.over in
+    omega (arith, u.2.within, fit_size _ _ _ _ u.0.fit)
+
+pub returns-in_err-check_floor : goal.returns-in_err-check_floor
+returns-in_err-check_floor g c =
+    let p = err_from_is_err_and c.from_residual.result c.from_residual.ensures.1 in
+    let cause = c.in_err-check_floor.ensures.cause in
+    let below = c.in_err-check_floor.ensures.below cause.0 cause.1 in
+    let is : c.from_residual.result ≡ Err (Corruption cause.0) = (let at = p.1 in let same = p.2 in let refused = cause.1 in cc (at, same, refused)) in
+    rw is (floor_refused g.S.Seal.seal_of g.A.CodecFixed.SIZE _ _ (walk_of c.args.self.now) (place_of c.args.reading) _ (g.D.Device.time c.args.dev.now) c.requires.over g.A.Codec.spelling g.A.Codec.accepted g.A.Codec.refusal c.requires.between _ _ (omega arith) cause.0
+    (λ t. ends_below g.S.Seal.seal_of g.A.CodecFixed.SIZE (walk_of c.args.self.now) (place_of c.args.reading) (disk (g.D.Device.time c.args.dev.now)) cause.0 below.0 below.1 below.2 below.3 c.requires.owed (c.requires.last t)) below.0)
 
 pub cut-requires-clause-over : goal.cut-requires-clause-over
 cut-requires-clause-over g c = c.requires.over.over
@@ -25,13 +40,13 @@ pub cut-requires-clause-within : goal.cut-requires-clause-within
 cut-requires-clause-within g c u held = cut_within g.S.Seal.seal_of g.A.CodecFixed.SIZE _ _ (walk_of c.args.self.now) (place_of c.args.reading) _ (g.D.Device.time c.args.dev.now) c.requires.over u held
 
 pub cut-requires-clause-prefix : goal.cut-requires-clause-prefix
-cut-requires-clause-prefix g c t u held = cut_prefix g.S.Seal.seal_of g.A.CodecFixed.SIZE _ _ (walk_of c.args.self.now) (place_of c.args.reading) _ (g.D.Device.time c.args.dev.now) c.requires.over u held g.met.A.CodecFixed.fixed.at_least t (c.requires.last t)
+cut-requires-clause-prefix g c t u held = cut_prefix g.S.Seal.seal_of g.A.CodecFixed.SIZE _ _ (walk_of c.args.self.now) (place_of c.args.reading) _ (g.D.Device.time c.args.dev.now) c.requires.over u held g.met.A.CodecFixed.fixed.at_least t c.requires.owed (c.requires.last t)
 
 pub returns-in_err-cut : goal.returns-in_err-cut
 returns-in_err-cut g c =
-    let p = err_from_is_err_and c.from_residual.result c.from_residual.ensures.1 in
+    let p = err_from_is_err_and c.from_residual-in_err-cut.result c.from_residual-in_err-cut.ensures.1 in
     rw p.1 (cut_failed g.S.Seal.seal_of g.A.CodecFixed.SIZE _ _ (walk_of c.args.self.now) (walk_of c.cut.new.self) (place_of c.args.reading) _ _ (g.D.Device.time c.args.dev.now) (g.D.Device.time c.cut.new.dev)
-    c.requires.over c.requires.between c.cut.result c.cut.ensures.rest c.cut.ensures.touches c.requires.owed c.requires.last g.met.A.CodecFixed.fixed.at_least c.cut.ensures.moments g.A.Codec.spelling g.A.Codec.accepted g.A.Codec.refusal _ _ c.cut.ensures.faults
+    c.requires.over c.requires.between c.cut.result c.cut.ensures.rest c.cut.ensures.touches c.requires.owed c.in_ok-check_floor.ensures.ok c.requires.last g.met.A.CodecFixed.fixed.at_least c.cut.ensures.moments g.A.Codec.spelling g.A.Codec.accepted g.A.Codec.refusal _ _ c.cut.ensures.faults
     p.0 c.in_err-cut.ensures.ended c.in_err-cut.ensures.touches.lost (λ t k is. c.in_err-cut.ensures.damaged t k (let at = p.2 in cc (at, is))) (cut_as _ p.0 p.2 _ _ c.in_err-cut.ensures.cause))
 
 pub returns-in_err-check_start : goal.returns-in_err-check_start
@@ -44,7 +59,7 @@ returns-in_err-check_start g c =
     let again = some_of ((walk_of c.cut.new.self).journal.sections.held c.args.reading.section) c.in_ok-cut.ensures.touches.held in
     let u = here g.S.Seal.seal_of g.A.CodecFixed.SIZE _ _ (walk_of c.args.self.now) (place_of c.args.reading) _ (disk (g.D.Device.time c.args.dev.now)) c.requires.over in
     rw is (cut_refused g.S.Seal.seal_of g.A.CodecFixed.SIZE _ _ (walk_of c.args.self.now) (walk_of c.cut.new.self) (place_of c.args.reading) _ _ (g.D.Device.time c.args.dev.now) (g.D.Device.time c.cut.new.dev)
-    c.requires.over c.requires.between c.cut.result rest c.cut.ensures.touches c.requires.owed c.requires.last g.met.A.CodecFixed.fixed.at_least c.cut.ensures.moments g.A.Codec.spelling g.A.Codec.accepted g.A.Codec.refusal _ _ c.cut.ensures.faults
+    c.requires.over c.requires.between c.cut.result rest c.cut.ensures.touches c.requires.owed c.in_ok-check_floor.ensures.ok c.requires.last g.met.A.CodecFixed.fixed.at_least c.cut.ensures.moments g.A.Codec.spelling g.A.Codec.accepted g.A.Codec.refusal _ _ c.cut.ensures.faults
     again.0 again.1 c.requires.going c.in_ok-cut.ensures.going (c.in_ok-cut.ensures.cut u.0 again.0 u.1 again.1) (fewer.0 ∙ rest.section) (omega (arith, fewer.2, rest.position)))
 
 pub returns : goal.returns
@@ -52,6 +67,6 @@ returns g c =
     let again = some_of ((walk_of c.cut.new.self).journal.sections.held c.args.reading.section) c.in_ok-cut.ensures.touches.held in
     let u = here g.S.Seal.seal_of g.A.CodecFixed.SIZE _ _ (walk_of c.args.self.now) (place_of c.args.reading) _ (disk (g.D.Device.time c.args.dev.now)) c.requires.over in
     cut_ended g.S.Seal.seal_of g.A.CodecFixed.SIZE _ _ (walk_of c.args.self.now) (walk_of c.cut.new.self) (place_of c.args.reading) _ _ (g.D.Device.time c.args.dev.now) (g.D.Device.time c.cut.new.dev)
-    c.requires.over c.requires.between c.cut.result c.cut.ensures.rest c.cut.ensures.touches c.requires.owed c.requires.last g.met.A.CodecFixed.fixed.at_least c.cut.ensures.moments g.A.Codec.spelling g.A.Codec.accepted g.A.Codec.refusal _ _ c.cut.ensures.faults
+    c.requires.over c.requires.between c.cut.result c.cut.ensures.rest c.cut.ensures.touches c.requires.owed c.in_ok-check_floor.ensures.ok c.requires.last g.met.A.CodecFixed.fixed.at_least c.cut.ensures.moments g.A.Codec.spelling g.A.Codec.accepted g.A.Codec.refusal _ _ c.cut.ensures.faults
     again.0 again.1 c.requires.going c.in_ok-cut.ensures.going (c.in_ok-cut.ensures.cut u.0 again.0 u.1 again.1)
     (λ at. (let rest = c.cut.ensures.rest in omega (arith, c.in_ok-check_start.ensures.ok, first_here (walk_of c.cut.new.self) c.args.reading.section (at ∙ sym rest.section), rest.position))) c.in_ok-cut.ensures.reads

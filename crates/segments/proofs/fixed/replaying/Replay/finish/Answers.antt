@@ -5,7 +5,7 @@ use Rattle.segments.proofs.FixedBeginning.{finished_sealed, finished_start, owed
 use Rattle.segments.proofs.fixed.replaying.Replay.finish.Goals as goal
 
 pub returns-clause-sealed : goal.returns-clause-sealed
-returns-clause-sealed g c d over = finished_sealed g.S.Seal.seal_of g.A.CodecFixed.SIZE (walk_of c.args.self) (shown c.recovered_from.result) d over c.if-self.false (c.is_drained.ensures.0 c.if-not-is_drained.false) c.recovered_from.ensures.sections c.recovered_from.ensures.unrecovered
+returns-clause-sealed g c d over = finished_sealed g.S.Seal.seal_of g.A.CodecFixed.SIZE (walk_of c.args.self) (shown c.recovered_from.result) d over c.if-self.false (c.is_drained.ensures.0 c.if-not-is_drained.false) c.recovered_from.ensures.sections c.recovered_from.ensures.unrecovered c.recovered_from.ensures.floors
 
 pub returns-clause-held : goal.returns-clause-held
 returns-clause-held g c walk = finished_held (walk_of c.args.self) (shown c.recovered_from.result) c.recovered_from.ensures.sections c.if-self.false

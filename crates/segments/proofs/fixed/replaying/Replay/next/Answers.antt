@@ -2,7 +2,7 @@
 use Rattle.std.specs.Prelude.{◌≡◌, Bool, true, false, Some, Ok, Err}
 use Rattle.std.proofs.Common.{inl, inr, refl, sym, ◌∙◌}
 use Rattle.segments.specs.FixedWalking.{walk_of}
-use Rattle.segments.proofs.FixedRunning.{ok_at, err_at, running_start, running_on, left_none, same_after, moments_after, entries_after, once_after, faults_after, gives_after, stops_after, start_after, damaged_after, refused_after, ends_after, cause_after}
+use Rattle.segments.proofs.FixedRunning.{ok_at, err_at, running_start, running_on, left_none, same_after, moments_after, entries_after, once_after, faults_after, gives_after, stops_after, start_after, damage_after, damaged_after, refused_after, ends_after, cause_after}
 use Rattle.segments.proofs.fixed.replaying.Replay.next.Goals as goal
 
 not_true : (x : Bool) → (x ≡ true → ⊥) → x ≡ false
@@ -80,7 +80,7 @@ returns-in-Err-clause-over g c = (let is : c.step.result ≡ Err c.in-Err.e = cc
 
 pub returns-in-Err-clause-same : goal.returns-in-Err-clause-same
 returns-in-Err-clause-same g c = (let s = same_after g.S.Seal.seal_of g.A.CodecFixed.SIZE _ _ g.D.Device.Tells (walk_of c.args.self.now) (g.D.Device.opened c.args.dev.now) (g.D.Device.time c.args.dev.now) (g.D.Device.faults c.args.dev.now)
-    (walk_of c.steps.self) (g.D.Device.opened c.steps.dev) (g.D.Device.time c.steps.dev) (g.D.Device.faults c.steps.dev) c.steps.invariant g.A.Codec.spelling g.A.Codec.accepted g.A.Codec.refusal c.step.result (walk_of c.step.new.self) (g.D.Device.opened c.step.new.dev) (g.D.Device.time c.step.new.dev) (g.D.Device.faults c.step.new.dev) c.step.ensures in record { bounds = s.bounds; unrecovered = s.unrecovered; section = s.section; position = s.position })
+    (walk_of c.steps.self) (g.D.Device.opened c.steps.dev) (g.D.Device.time c.steps.dev) (g.D.Device.faults c.steps.dev) c.steps.invariant g.A.Codec.spelling g.A.Codec.accepted g.A.Codec.refusal c.step.result (walk_of c.step.new.self) (g.D.Device.opened c.step.new.dev) (g.D.Device.time c.step.new.dev) (g.D.Device.faults c.step.new.dev) c.step.ensures in record { bounds = s.bounds; unrecovered = s.unrecovered; floors = s.floors; section = s.section; position = s.position })
 
 pub returns-in-Err-clause-item : goal.returns-in-Err-clause-item
 returns-in-Err-clause-item g c t s p v is = absurd (cc is)
@@ -176,6 +176,16 @@ returns-in-Err-clause-once g c which = elim which [ inl none ↦ absurd (cc none
 
 pub returns-clause-once : goal.returns-clause-once
 returns-clause-once g c which = c.steps.invariant.once
+
+pub returns-in-Ok-Some-clause-damage : goal.returns-in-Ok-Some-clause-damage
+returns-in-Ok-Some-clause-damage g c t x is = absurd (cc is)
+
+pub returns-in-Err-clause-damage : goal.returns-in-Err-clause-damage
+returns-in-Err-clause-damage g c t p is = damage_after g.S.Seal.seal_of g.A.CodecFixed.SIZE _ _ g.D.Device.Tells (walk_of c.args.self.now) (g.D.Device.opened c.args.dev.now) (g.D.Device.time c.args.dev.now) (g.D.Device.faults c.args.dev.now)
+    (walk_of c.steps.self) (g.D.Device.opened c.steps.dev) (g.D.Device.time c.steps.dev) (g.D.Device.faults c.steps.dev) c.steps.invariant g.A.Codec.spelling g.A.Codec.accepted g.A.Codec.refusal c.step.result (walk_of c.step.new.self) (g.D.Device.opened c.step.new.dev) (g.D.Device.time c.step.new.dev) (g.D.Device.faults c.step.new.dev) c.step.ensures t p (let at : c.step.result ≡ Err c.in-Err.e = cc in cc (at, is))
+
+pub returns-clause-damage : goal.returns-clause-damage
+returns-clause-damage g c t x is = absurd (cc is)
 
 pub returns-in-Ok-Some-clause-damaged : goal.returns-in-Ok-Some-clause-damaged
 returns-in-Ok-Some-clause-damaged g c t k is = absurd (cc is)

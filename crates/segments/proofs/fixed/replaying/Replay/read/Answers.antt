@@ -18,7 +18,7 @@ use Rattle.sealed_pages.proofs.Holding.{fit_size}
 use Rattle.sealed_pages.proofs.SlotLemmas.{times_next}
 use Rattle.segments.specs.Sections.{key_of}
 use Rattle.segments.specs.FixedWalking.{walk_of, place_of}
-use Rattle.segments.proofs.FixedEnds.{ends_all, ends_short, short_owed}
+use Rattle.segments.proofs.FixedEnds.{ends_all, ends_short, short_owed, short_found}
 use Rattle.segments.proofs.FixedErrors.{runtime_of}
 use Rattle.segments.proofs.FixedErrorSteps.{reader_read, reader_other, reader_not_codec}
 use Rattle.blob_device.proofs.Results.{ok_with}
@@ -112,12 +112,20 @@ end_at_page-requires-clause-last g c t =
     let here_short : IsShort g.S.Seal.seal_of h.0.page_size (disk b (key_of w.journal.sections r.section)).content (next_of r.reader) (missing_of r.reader c.SIZE.result) page =
     subst (λ (l : List ℕ). IsShort g.S.Seal.seal_of h.0.page_size l (next_of r.reader) (missing_of r.reader c.SIZE.result) page) content
     (subst (λ (P : ℕ). IsShort g.S.Seal.seal_of P (disk a r.reader.key).content (next_of r.reader) (missing_of r.reader c.SIZE.result) page) paged short) in
-    let owed = short_owed g.S.Seal.seal_of g.A.CodecFixed.SIZE _ _ w (record { section = r.section; position = r.position; reader = more }) _ (disk b) was (λ u x stands. stands.adopted) g.met.A.CodecFixed.fixed.at_least
-    (next_of r.reader) (missing_of r.reader c.SIZE.result) page (omega (arith, here_short.wanted.some, e.same.at, e.same.size, h.2.blob_size, h.2.within, h.2.at)) t here_short in (
-      owed,
-      ends_short g.S.Seal.seal_of g.A.CodecFixed.SIZE _ _ w (record { section = r.section; position = r.position; reader = more }) _ (disk b) was (λ u x stands. stands.adopted) g.met.A.CodecFixed.fixed.at_least
-          (next_of r.reader) (missing_of r.reader c.SIZE.result) page (omega (arith, here_short.wanted.some, e.same.at, c.SIZE.ensures)) owed t here_short,
-    )
+    let far : next_of r.reader + missing_of r.reader c.SIZE.result ≤ more.at + g.A.CodecFixed.SIZE = omega (arith, here_short.wanted.some, e.same.at, c.SIZE.ensures) in
+    elim (short_owed g.S.Seal.seal_of g.A.CodecFixed.SIZE _ _ w (record { section = r.section; position = r.position; reader = more }) _ (disk b) was (λ u x stands. stands.adopted) g.met.A.CodecFixed.fixed.at_least
+    (next_of r.reader) (missing_of r.reader c.SIZE.result) page (omega (arith, here_short.wanted.some, e.same.at, e.same.size, h.2.blob_size, h.2.within, h.2.at)) t here_short) [
+      | inl owed ↦ inl (
+        owed,
+        ends_short g.S.Seal.seal_of g.A.CodecFixed.SIZE _ _ w (record { section = r.section; position = r.position; reader = more }) _ (disk b) was (λ u x stands. stands.adopted) g.met.A.CodecFixed.fixed.at_least
+            (next_of r.reader) (missing_of r.reader c.SIZE.result) page far owed t here_short,
+      )
+      | inr floor ↦ inr (
+        floor.0,
+        short_found g.S.Seal.seal_of g.A.CodecFixed.SIZE _ _ w (record { section = r.section; position = r.position; reader = more }) _ (disk b) was (λ u x stands. stands.adopted) g.met.A.CodecFixed.fixed.at_least
+            (next_of r.reader) (missing_of r.reader c.SIZE.result) page (omega (arith, e.same.at)) far floor.0 floor.1 here_short,
+      )
+    ]
 
 pub returns-in-Ok-true : goal.returns-in-Ok-true
 returns-in-Ok-true g c =
@@ -131,7 +139,7 @@ returns-in-Ok-true g c =
     let was = walk_read g.S.Seal.seal_of g.A.CodecFixed.SIZE _ _ w r more _ _ a b _ c.requires.over e.same e.replays e.unchanged e.reads in
     steps_read g.S.Seal.seal_of g.A.CodecFixed.SIZE _ _ w r more _ _ a b _ c.requires.over e.same e.replays e.unchanged e.reads g.A.Codec.spelling g.A.Codec.accepted g.A.Codec.refusal c.take_item.result (walk_of c.take_item.new.self) _ b _ _ _ e.faults (ok_with c.take_item.result (ok_at c.ensure.result true is e.once))
     (item_steps g.S.Seal.seal_of g.A.CodecFixed.SIZE _ _ w (record { section = r.section; position = r.position; reader = more }) _ b was g.met.A.CodecFixed.fixed.at_least
-    (omega (arith, IfOk-at_ok _ is e.at_hand refl, c.SIZE.ensures)) e.within g.A.Codec.spelling g.A.Codec.accepted g.A.Codec.refusal c.requires.going c.requires.between _ _ (omega arith) c.take_item.result (walk_of c.take_item.new.self)
+    (omega (arith, IfOk-at_ok _ is e.at_hand refl, c.SIZE.ensures)) e.within g.A.Codec.spelling g.A.Codec.accepted g.A.Codec.refusal c.requires.going (λ u x stands. stands.adopted) c.requires.between _ _ (omega arith) c.take_item.result (walk_of c.take_item.new.self)
     c.take_item.ensures.given c.take_item.ensures.skipped c.take_item.ensures.goes c.take_item.ensures.stays c.take_item.ensures.cause c.take_item.ensures.refused)
 
 pub returns-in-Ok-false : goal.returns-in-Ok-false
@@ -157,4 +165,4 @@ returns-in_default g c =
     let was = walk_read g.S.Seal.seal_of g.A.CodecFixed.SIZE _ _ w r more _ _ a b _ c.requires.over e.same e.replays e.unchanged e.reads in
     steps_read g.S.Seal.seal_of g.A.CodecFixed.SIZE _ _ w r more _ _ a b _ c.requires.over e.same e.replays e.unchanged e.reads g.A.Codec.spelling g.A.Codec.accepted g.A.Codec.refusal (Err c.from.result) w _ b (g.D.Device.faults c.args.dev.now) (g.D.Device.faults c.args.dev.now) (g.D.Device.faults c.ensure.new.dev) (omega arith) tt
     (read_failed g.S.Seal.seal_of g.A.CodecFixed.SIZE _ _ w (record { section = r.section; position = r.position; reader = more }) _ b was g.A.Codec.spelling g.A.Codec.accepted g.A.Codec.refusal c.requires.between _ _ e.faults c.from.result
-    (reader_other c.in-Err.e c.from.result c.from.ensures) (λ t k is. c.in_default.not-InvalidChecksum k (runtime_of c.in-Err.e (InvalidChecksum k) (sym c.from.ensures ∙ is))) (λ t x at. absurd (reader_not_codec c.in-Err.e c.from.result c.from.ensures x at)) (reader_read c.in-Err.e c.from.result _ _ _ c.from.ensures c.in-Err.ensures.cause))
+    (reader_other c.in-Err.e c.from.result c.from.ensures) (λ t k is. absurd (c.in_default.not-InvalidChecksum k (runtime_of c.in-Err.e (InvalidChecksum k) (sym c.from.ensures ∙ is)))) (λ t x at. absurd (reader_not_codec c.in-Err.e c.from.result c.from.ensures x at)) (reader_read c.in-Err.e c.from.result _ _ _ c.from.ensures c.in-Err.ensures.cause))

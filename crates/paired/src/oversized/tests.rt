@@ -1,0 +1,151 @@
+// The tracked pair over a device in memory.
+ghost use Rattle.std.specs.Prelude.{◌≡◌, ◌≤◌, ℕ, [], IfOk, IsTrue, string_bytes, codes};
+ghost use Rattle.blob_device.specs.Disk.{nothing};
+ghost use Rattle.blob_device.specs.Timeline.{disk};
+ghost use Rattle.segments.specs.Sections.{section_key};
+ghost use Rattle.meta_store.specs.Store as store;
+ghost use Rattle.paired.specs.Pair.{IsPair, IsSoundOn};
+ghost use Rattle.paired.specs.PairShown.{shown};
+
+mod counts;
+mod full;
+mod markers;
+mod notes;
+mod places;
+mod refusals;
+mod stopped;
+
+use super::Oversized;
+use super::tracking::Tracking;
+use crate::{Glob, Record, glob};
+use blob_device::Device;
+use meta_store::Metadata;
+use notes::{Note, numbered};
+use sealed_pages::{PageBlob, Pages, WriteBlob};
+use segments::journal::Error;
+use segments::{AppendFactory, BufferFactory, SectionBuffer, WriteFactory, fixed};
+use std::alloc::Global;
+use std::collections::BTreeMap;
+use value_codec::{Codec, Key8, Sha256Seal};
+
+/// A pair whose values are numbers, with frames of eight bytes.
+type Numbers = Oversized<Note, i32, Sha256Seal>;
+
+/// Where the index is kept.
+fn index_config(alloc: Global, page_size: u16, write_buffer: usize) -> Result<fixed::Config, Error>
+    ensures partition { IfOk result (λ c. string_bytes c.partition ≡ codes "i") }
+    ensures page_size { IfOk result (λ c. c.pages.page_size ≡ page_size) }
+{
+    Ok(fixed::Config {
+        partition: String::from_str(alloc, "i")?,
+        pages: Pages {
+            page_size,
+            cache_pages: 0,
+        },
+        write_buffer,
+    })
+}
+
+/// Where the values are kept.
+fn values_config<C: Drop>(
+    alloc: Global,
+    codec_config: C,
+    write_buffer: usize,
+) -> Result<glob::Config<C>, Error>
+    ensures partition { IfOk result (λ c. string_bytes c.partition ≡ codes "v") }
+    ensures codec_config { IfOk result (λ c. c.codec_config ≡ codec_config) }
+{
+    Ok(glob::Config {
+        partition: String::from_str(alloc, "v")?,
+        codec_config,
+        write_buffer,
+    })
+}
+
+/// Where the markers are kept.
+fn markers_config(alloc: Global) -> Result<meta_store::Config<()>, Error>
+    ensures partition { IfOk result (λ c. string_bytes c.partition ≡ codes "m") }
+{
+    Ok(meta_store::Config {
+        partition: String::from_str(alloc, "m")?,
+        codec_config: (),
+    })
+}
+
+/// Whether there is no marker.
+fn has_none(markers: &Metadata<Key8, u64, Sha256Seal>) -> bool
+    ensures { IsTrue result → (store.shown markers.now).entries ≡ [] }
+{
+    markers.keys().next().is_none()
+}
+
+/// The pair over a device without sections and without markers.
+fn pair_over<V: Codec, D: Device>(
+    alloc: Global,
+    dev: &mut D,
+    codec_config: V::Cfg,
+    page_size: u16,
+    write_buffer: usize,
+) -> Result<Oversized<Note, V, Sha256Seal>, Error>
+    requires told { D.Tells }
+    requires no_records { (s : ℕ) → disk (D.time dev.old) (section_key (codes "i") s) ≡ nothing }
+    requires no_values { (s : ℕ) → disk (D.time dev.old) (section_key (codes "v") s) ≡ nothing }
+    requires page_size { 1 ≤ page_size }
+    ensures over { IfOk result (λ r. IsPair ⟦<PageBlob<Sha256Seal> as SectionBuffer>⟧ ⟦<AppendFactory<Sha256Seal> as BufferFactory>⟧.gives ⟦<WriteBlob as SectionBuffer>⟧ ⟦<WriteFactory as BufferFactory>⟧.gives D.Tells (shown ⟦<Note as Record>⟧.place r) (D.opened dev.new) (disk (D.time dev.new))) }
+    ensures sound { IfOk result (λ r. IsSoundOn (shown ⟦<Note as Record>⟧.place r) (disk (D.time dev.new))) }
+    ensures codec_config { IfOk result (λ r. r.values.codec_config ≡ codec_config) }
+{
+    let metadata = Metadata::init(alloc, dev, &markers_config(alloc)?)?;
+    if !has_none(&metadata) {
+        return Err(Error::SectionOutOfRange(0));
+    }
+    let values = Glob::init(
+        alloc,
+        dev,
+        &values_config(alloc, codec_config, write_buffer)?,
+    )?;
+    let index = fixed::Journal::init(alloc, dev, &index_config(alloc, page_size, write_buffer)?)?;
+    let trailing = BTreeMap::new(alloc);
+    Ok(Oversized {
+        alloc,
+        index,
+        values,
+        tracking: Tracking { metadata, trailing },
+    })
+}
+
+/// The pair over an empty device.
+fn empty_pair<V: Codec, D: Device>(
+    alloc: Global,
+    dev: &mut D,
+    codec_config: V::Cfg,
+    page_size: u16,
+    write_buffer: usize,
+) -> Result<Oversized<Note, V, Sha256Seal>, Error>
+    requires told { D.Tells }
+    requires empty { disk (D.time dev.old) ≡ (λ _. nothing) }
+    requires page_size { 1 ≤ page_size }
+    ensures over { IfOk result (λ r. IsPair ⟦<PageBlob<Sha256Seal> as SectionBuffer>⟧ ⟦<AppendFactory<Sha256Seal> as BufferFactory>⟧.gives ⟦<WriteBlob as SectionBuffer>⟧ ⟦<WriteFactory as BufferFactory>⟧.gives D.Tells (shown ⟦<Note as Record>⟧.place r) (D.opened dev.new) (disk (D.time dev.new))) }
+    ensures sound { IfOk result (λ r. IsSoundOn (shown ⟦<Note as Record>⟧.place r) (disk (D.time dev.new))) }
+    ensures codec_config { IfOk result (λ r. r.values.codec_config ≡ codec_config) }
+{
+    pair_over(alloc, dev, codec_config, page_size, write_buffer)
+}
+
+/// Adds these numbers to a section, each as record and as value.
+fn extended<D: Device>(
+    pair: Numbers,
+    dev: &mut D,
+    section: u64,
+    numbers: &[u8],
+) -> Result<Numbers, Error>
+    requires over { IsPair ⟦<PageBlob<Sha256Seal> as SectionBuffer>⟧ ⟦<AppendFactory<Sha256Seal> as BufferFactory>⟧.gives ⟦<WriteBlob as SectionBuffer>⟧ ⟦<WriteFactory as BufferFactory>⟧.gives D.Tells (shown ⟦<Note as Record>⟧.place pair) (D.opened dev.old) (disk (D.time dev.old)) }
+    ensures over { IfOk result (λ r. IsPair ⟦<PageBlob<Sha256Seal> as SectionBuffer>⟧ ⟦<AppendFactory<Sha256Seal> as BufferFactory>⟧.gives ⟦<WriteBlob as SectionBuffer>⟧ ⟦<WriteFactory as BufferFactory>⟧.gives D.Tells (shown ⟦<Note as Record>⟧.place r) (D.opened dev.new) (disk (D.time dev.new))) }
+{
+    let mut pair = pair;
+    for number in numbers {
+        let value = i32::from(*number);
+        (pair, _, _, _) = pair.append(dev, section, numbered(u64::from(*number)), &value)?;
+    }
+    Ok(pair)
+}

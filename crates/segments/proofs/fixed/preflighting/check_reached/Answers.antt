@@ -1,0 +1,67 @@
+use Rattle.std.proofs.Common.{◌≡◌, ◌<◌, ◌≤◌, ℕ, List, Option, Some, IsSome, inl, inr, map, refl, sym, ◌∙◌, ap, subst, arith}
+use Rattle.std.specs.BTreeMap.{get}
+use Rattle.std.specs.List.{Contains}
+use Rattle.std.specs.Map.{keys_of}
+use Rattle.std.specs.Map.Iter.{deref_pair}
+use Rattle.std.specs.Option.{unwrap_or}
+use Rattle.std.specs.Ordering.{nat_cmp}
+use Rattle.std.proofs.lemmas.Cmp.{nat_cmp_total}
+use Rattle.std.proofs.lemmas.List.Elements.{Contains-push_cases}
+use Rattle.std.proofs.lemmas.Map.Iter.{btree_map_turn, iter_end}
+use Rattle.std.proofs.lemmas.Map.Views.{Contains-keys_from_lookup}
+use Rattle.segments.specs.declared.journal.Damage.{Damage}
+use Rattle.segments.specs.FixedLists.{floor_in, section_size}
+use Rattle.segments.specs.Managed.{shown}
+use Rattle.segments.proofs.CutLemmas.{numbers_of, numbers_push, numbers_shown, same_number}
+use Rattle.segments.proofs.TurnLemmas.{had_turn}
+use Rattle.segments.proofs.WalkLemmas.{none_or_value}
+use Rattle.segments.proofs.FixedFloorLemmas.{size_is}
+use Rattle.segments.proofs.fixed.preflighting.check_reached.Goals as goal
+
+pub returns-then-kept-wanted-clause-damage : goal.returns-then-kept-wanted-clause-damage
+returns-then-kept-wanted-clause-damage g c x is =
+    let m = shown c.args.manager.now in
+    let s = c.in-Some.section.now in
+    let found : get nat_cmp c.args.floors.now s ≡ Some c.in-Some.floor.now = (btree_map_turn deref_pair c.loop-section.yielded c.into_iter-section-iterator.result c.loop-section.section-iterator c.next.new.self c.next.result (c.in-Some.section, c.in-Some.floor) c.loop-section.yielded_by c.in-Some.is c.next.ensures.steps nat_cmp_total c.args.floors.now
+    c.into_iter-section-iterator.ensures.into_iter_gives.0 c.into_iter-section-iterator.ensures.into_iter_gives.5).1 in
+    let floor : floor_in c.args.floors.now s ≡ c.in-Some.floor.now = ap (λ (o : Option ℕ). unwrap_or o 0) found in
+    let kept : c.in_ok-kept.kept ≡ section_size m s = size_is (m.held s) c.in_ok-kept.kept c.in_ok-kept.ensures.size in
+    let d : Damage = record { section = s; kept = c.in_ok-kept.kept; wanted = c.in-Some.floor.now } in
+    let same : d ≡ x = cc is in
+    subst (λ (y : Damage). (y.kept ≡ section_size (shown c.args.manager.now) y.section) × (y.wanted ≡ floor_in c.args.floors.now y.section) × (y.kept < y.wanted)) same (kept, sym floor, c.if-kept-wanted.true)
+
+pub returns-then-kept-wanted-clause-first : goal.returns-then-kept-wanted-clause-first
+returns-then-kept-wanted-clause-first g c x is q before =
+    let s = c.in-Some.section.now in
+    let d : Damage = record { section = s; kept = c.in_ok-kept.kept; wanted = c.in-Some.floor.now } in
+    let same : d ≡ x = cc is in
+    let at : s ≡ x.section = ap (λ (y : Damage). y.section) same in
+    elim (none_or_value (get nat_cmp c.args.floors.now q)) [
+      | inl none ↦ (let floor : floor_in c.args.floors.now q ≡ 0 = ap (λ (o : Option ℕ). unwrap_or o 0) none in omega (arith, floor))
+      | inr v ↦ c.loop-section.invariant q (had_turn c.loop-section.yielded c.into_iter-section-iterator.result c.loop-section.section-iterator c.next.new.self c.next.result (c.in-Some.section, c.in-Some.floor) c.loop-section.yielded_by c.in-Some.is c.next.ensures.steps c.args.floors.now
+          c.into_iter-section-iterator.ensures.into_iter_gives.0 c.into_iter-section-iterator.ensures.into_iter_gives.5 q (subst IsSome (sym v.1) refl) (omega (arith, before, at)))
+    ]
+
+pub loop-section-preserved : goal.loop-section-preserved
+loop-section-preserved g c =
+    let m = shown c.args.manager.now in
+    let s = c.in-Some.section.now in
+    let found : get nat_cmp c.args.floors.now s ≡ Some c.in-Some.floor.now = (btree_map_turn deref_pair c.loop-section.yielded c.into_iter-section-iterator.result c.loop-section.section-iterator c.next.new.self c.next.result (c.in-Some.section, c.in-Some.floor) c.loop-section.yielded_by c.in-Some.is c.next.ensures.steps nat_cmp_total c.args.floors.now
+    c.into_iter-section-iterator.ensures.into_iter_gives.0 c.into_iter-section-iterator.ensures.into_iter_gives.5).1 in
+    let floor : floor_in c.args.floors.now s ≡ c.in-Some.floor.now = ap (λ (o : Option ℕ). unwrap_or o 0) found in
+    let kept : c.in_ok-kept.kept ≡ section_size m s = size_is (m.held s) c.in_ok-kept.kept c.in_ok-kept.ensures.size in
+    let here : floor_in c.args.floors.now s ≤ section_size m s = omega (arith, floor, kept, c.if-kept-wanted.false) in
+    λ q listed. elim (Contains-push_cases (numbers_of c.loop-section.yielded) s q (subst (λ (x : List ℕ). Contains x q) (numbers_push c.loop-section.yielded (c.in-Some.section, c.in-Some.floor)) listed)) [
+      | inl before ↦ c.loop-section.invariant q before
+      | inr same ↦ subst (λ (x : ℕ). floor_in c.args.floors.now x ≤ section_size (shown c.args.manager.now) x) same here
+    ]
+
+pub returns-clause-reached : goal.returns-clause-reached
+returns-clause-reached g c s =
+    let shows : map deref_pair c.loop-section.yielded ≡ c.args.floors.now.entries = (iter_end deref_pair c.args.floors.now.entries c.loop-section.yielded c.into_iter-section-iterator.result c.loop-section.section-iterator c.next.new.self c.next.result
+    c.into_iter-section-iterator.ensures.into_iter_gives.0 c.loop-section.yielded_by c.in-None.is c.next.ensures.steps).0 in
+    let all : numbers_of c.loop-section.yielded ≡ keys_of c.args.floors.now.entries = numbers_shown c.loop-section.yielded ∙ ap (λ (es : List (ℕ × ℕ)). keys_of es) shows in
+    elim (none_or_value (get nat_cmp c.args.floors.now s)) [
+      | inl none ↦ (let floor : floor_in c.args.floors.now s ≡ 0 = ap (λ (o : Option ℕ). unwrap_or o 0) none in omega (arith, floor))
+      | inr v ↦ c.loop-section.invariant s (subst (λ (x : List ℕ). Contains x s) (sym all) (Contains-keys_from_lookup same_number s c.args.floors.now.entries (subst IsSome (sym v.1) refl)))
+    ]
