@@ -20,7 +20,7 @@ use Rattle.segments.specs.declared.buffer.SectionBuffer as buffer
 use Rattle.segments.specs.declared.unsealed.WriteFactory.{WriteFactory}
 use Rattle.segments.specs.Entries.{OnlyOwnEntry}
 use Rattle.segments.specs.FixedLasting.{IsBeginning as IsBeginningIndex}
-use Rattle.segments.specs.FixedLists.{Lists, IsProven, IsJournal}
+use Rattle.segments.specs.FixedLists.{Lists, IsJournal}
 use Rattle.segments.specs.FixedLists as fixed
 use Rattle.segments.specs.Leaving.{AllMoments}
 use Rattle.segments.specs.Sections.{Sections, section_key, key_of, IsHeld, IsSame, SameBounds}
@@ -76,7 +76,7 @@ module _ {F S : Type 0} {gs : _} (p : Pair F (PageBlob S gs)) (s : ℕ) where
   -- and a record
   pub record RecordMoments (r : List ℕ) (a b : Timeline) : Type 0 where
     pub alone : Alone (key_of p.index.sections s) a b
-    pub moments : (u : PageBlob S gs) → p.index.sections.held s ≡ Some u → IsProven p.index s → pages.Sealing p.layout.seal u.page_size (fixed.section_bytes p.index.sections (disk a) s ++ r) u.settled (key_of p.index.sections s) a b
+    pub moments : (u : PageBlob S gs) → p.index.sections.held s ≡ Some u → IsSealed p.layout.seal (shown u) (disk a (key_of p.index.sections s)) → pages.Sealing p.layout.seal u.page_size (fixed.section_bytes p.index.sections (disk a) s ++ r) u.settled (key_of p.index.sections s) a b
     pub made : p.index.sections.held s ≡ None → AllMoments (key_of p.index.sections s) (IsBeginningIndex p.layout.seal p.layout.page_size r (disk a (key_of p.index.sections s))) a b
 
   -- no other blob changes
@@ -394,7 +394,7 @@ module _ {F S : Type 0} {gs : _} {g : buffer.Ghosts (PageBlob S gs)} {gives : F 
                   (append_more p.layout laid.pos (facts s) (good s) r spelled fits whole long here (within s)) entry (append_front p.layout laid.pos (facts s) (good s) r spelled fits whole long here)
                   (λ _. ⊥) p.store.entries a b standing (Added) (values_added) stands_on c values_stood
                   (pages.Leaves p.layout.seal some.0.page_size (fixed.section_bytes p.index.sections (disk b) s ++ r) some.0.settled)
-                  (subst (λ (l : List ℕ). Always b c (OnlyAt (section_key l s) (disk b) (pages.Leaves p.layout.seal some.0.page_size (fixed.section_bytes p.index.sections (disk b) s ++ r) some.0.settled))) laid.index (item.moments some.0 some.1 (proven_of pair.whole s)))
+                  (subst (λ (l : List ℕ). Always b c (OnlyAt (section_key l s) (disk b) (pages.Leaves p.layout.seal some.0.page_size (fixed.section_bytes p.index.sections (disk b) s ++ r) some.0.settled))) laid.index (item.moments some.0 some.1 (subst (IsSealed p.layout.seal (shown some.0)) (sym index_blob) ((pair.index.disk t).sealed s some.0 some.1 (proven_of pair.whole s)))))
                   (λ x is. lasts_held some.0 x some.1 is)
             ]
 

@@ -10,7 +10,7 @@ use Rattle.sealed_pages.specs.declared.page_blob.PageBlob.{PageBlob}
 use Rattle.sealed_pages.specs.declared.write_blob.WriteBlob.{WriteBlob}
 use Rattle.segments.specs.declared.buffer.SectionBuffer as buffer
 use Rattle.segments.specs.declared.journal.Error.{Error}
-use Rattle.segments.specs.declared.journal.Error.TheVariants.{Runtime}
+use Rattle.segments.specs.declared.journal.Error.TheVariants.{Runtime, Full}
 use Rattle.segments.specs.declared.unsealed.WriteFactory.{WriteFactory}
 use Rattle.segments.specs.FixedLists.{Lists}
 use Rattle.segments.specs.Raised.{raised_metadata}
@@ -27,8 +27,7 @@ use Rattle.meta_store.specs.declared.error.Error.TheVariants as store
 use Rattle.paired.specs.Crashes.{IsBlobOf, IsCopy}
 use Rattle.paired.specs.Pair.{Pair, AreApart}
 use Rattle.paired.specs.Kept.{Markers, IsMarked, marker_of}
-use Rattle.paired.specs.PairFaults.{AreAtRest, FaultsInOrder, AreDropped}
-use Rattle.paired.specs.PairRefusing.{HasLostMarkers}
+use Rattle.paired.specs.PairFaults.{AreAtRest, FaultsInOrder, StopsAtMarkers, AreDropped}
 use Rattle.paired.proofs.GlobLemmas.{buffers}
 use Rattle.paired.proofs.PairRemoved.{stands_stays}
 use Rattle.paired.proofs.PairSections.{other_partition, IndexSynced, ValuesSynced}
@@ -51,35 +50,50 @@ pub markers_apart : {T : Type 0} (r : Result T Error) (e : meta.Error) → r ≡
 markers_apart {T = T} r e is has = raised_apart e (same_error {T = T} (raised_metadata e) (Runtime Fault) (sym is ∙ has))
 
 module _ {T : Type 0} where
-  -- a call that failed before it came to the markers lost none
-  pub none_lost : (r : Result T Error) (floor a b x y : ℕ) → OnErr r (IsPruned r floor ⊎ HasFailed r a b) → HasLostMarkers r x y → ⊥
-  none_lost (Ok v) floor a b x y cause lost = absurd (cc lost.0)
-  none_lost (Err e) floor a b x y (inl pruned) lost = absurd (cc (pruned, lost.0))
-  none_lost (Err e) floor a b x y (inr (inl memory)) lost = absurd (cc (memory, lost.0))
-  none_lost (Err e) floor a b x y (inr (inr fault)) lost = absurd (cc (fault.0, lost.0))
+  -- a call that failed before it came to the markers did not end there
+  pub before_them : (r : Result T Error) (floor a b x y : ℕ) → OnErr r (IsPruned r floor ⊎ HasFailed r a b) → StopsAtMarkers r x y → ⊥
+  before_them (Ok v) floor a b x y cause (inl full) = absurd (cc full)
+  before_them (Ok v) floor a b x y cause (inr lost) = absurd (cc lost.0)
+  before_them (Err e) floor a b x y (inl pruned) (inl full) = absurd (cc (pruned, full))
+  before_them (Err e) floor a b x y (inl pruned) (inr lost) = absurd (cc (pruned, lost.0))
+  before_them (Err e) floor a b x y (inr (inl memory)) (inl full) = absurd (cc (memory, full))
+  before_them (Err e) floor a b x y (inr (inl memory)) (inr lost) = absurd (cc (memory, lost.0))
+  before_them (Err e) floor a b x y (inr (inr fault)) (inl full) = absurd (cc (fault.0, full))
+  before_them (Err e) floor a b x y (inr (inr fault)) (inr lost) = absurd (cc (fault.0, lost.0))
 
-  pub none_lost_as : {U : Type 0} (r : Result T Error) (e : Error) (floor a b x y : ℕ) → r ≡ Err e → IsPruned {T = U} (Err e) floor ⊎ HasFailed {T = U} (Err e) a b → HasLostMarkers r x y → ⊥
-  none_lost_as r e floor a b x y is (inl pruned) lost = absurd (cc (is, pruned, lost.0))
-  none_lost_as r e floor a b x y is (inr (inl memory)) lost = absurd (cc (is, memory, lost.0))
-  none_lost_as r e floor a b x y is (inr (inr fault)) lost = absurd (cc (is, fault.0, lost.0))
+  pub before_them_as : {U : Type 0} (r : Result T Error) (e : Error) (floor a b x y : ℕ) → r ≡ Err e → IsPruned {T = U} (Err e) floor ⊎ HasFailed {T = U} (Err e) a b → StopsAtMarkers r x y → ⊥
+  before_them_as r e floor a b x y is (inl pruned) (inl full) = absurd (cc (is, pruned, full))
+  before_them_as r e floor a b x y is (inl pruned) (inr lost) = absurd (cc (is, pruned, lost.0))
+  before_them_as r e floor a b x y is (inr (inl memory)) (inl full) = absurd (cc (is, memory, full))
+  before_them_as r e floor a b x y is (inr (inl memory)) (inr lost) = absurd (cc (is, memory, lost.0))
+  before_them_as r e floor a b x y is (inr (inr fault)) (inl full) = absurd (cc (is, fault.0, full))
+  before_them_as r e floor a b x y is (inr (inr fault)) (inr lost) = absurd (cc (is, fault.0, lost.0))
 
 module _ {F S : Type 0} {gs : _} (p : Pair F (PageBlob S gs)) (IsNamed : ℕ → Type 0) where
-  -- where no markers were lost, and their copies stayed
-  pub before_markers : {T : Type 0} (r : Result T Error) (x y : ℕ) (a b : Timeline) → Always a b (λ d. (q : Key) → IsCopy p.layout q → d q ≡ disk a q) → (HasLostMarkers r x y → ⊥) → FaultsInOrder p IsNamed r x y a b
-  before_markers r x y a b copies never = record { sections = λ is. copies; at_rest = λ lost. absurd (never lost); leaves = λ lost sound synced is. absurd (never lost) }
+  -- where the call did not end at the markers, and their copies stayed
+  pub before_markers : {T : Type 0} (r : Result T Error) (x y : ℕ) (a b : Timeline) → Always a b (λ d. (q : Key) → IsCopy p.layout q → d q ≡ disk a q) → (StopsAtMarkers r x y → ⊥) → FaultsInOrder p IsNamed r x y a b
+  before_markers r x y a b copies never = record { sections = λ is. copies; at_rest = λ stops. absurd (never stops); leaves = λ stops sound synced is. absurd (never stops) }
 
   -- an error that is handed on
   pub faults_as : {T U : Type 0} (r : Result T Error) (e : Error) (x y : ℕ) (a b : Timeline) → r ≡ Err e → FaultsInOrder p IsNamed {T = U} (Err e) x y a b → FaultsInOrder p IsNamed r x y a b
   faults_as {T = T} {U = U} r e x y a b is faults =
       let handed : (w : Error) → IsErrOf r w → IsErrOf {T = U} (Err e) w = λ w has. ap (answer U) (same_error {T = T} e w (sym is ∙ has)) in
+      let stopped : StopsAtMarkers r x y → StopsAtMarkers {T = U} (Err e) x y = λ stops. elim stops [
+        | inl full ↦ inl (handed Full full)
+        | inr lost ↦ inr (handed _ lost.0, lost.1)
+      ] in
       record {
         sections = λ has. faults.sections (handed (Runtime Fault) has);
-        at_rest = λ lost. faults.at_rest (handed _ lost.0, lost.1);
-        leaves = λ lost sound synced after. faults.leaves (handed _ lost.0, lost.1) sound synced after;
+        at_rest = λ stops. faults.at_rest (stopped stops);
+        leaves = λ stops sound synced after. faults.leaves (stopped stops) sound synced after;
       }
 
+  never_stops : {T : Type 0} (v : T) (x y : ℕ) → StopsAtMarkers {T = T} (Ok v) x y → ⊥
+  never_stops v x y (inl full) = absurd (cc full)
+  never_stops v x y (inr lost) = absurd (cc lost.0)
+
   pub faults_ok : {T : Type 0} (v : T) (x y : ℕ) (a b : Timeline) → FaultsInOrder p IsNamed {T = T} (Ok v) x y a b
-  faults_ok v x y a b = record { sections = λ is. absurd (cc is); at_rest = λ lost. absurd (cc lost.0); leaves = λ lost sound synced after. absurd (cc lost.0) }
+  faults_ok v x y a b = record { sections = λ is. absurd (cc is); at_rest = λ stops. absurd (never_stops v x y stops); leaves = λ stops sound synced after. absurd (never_stops v x y stops) }
 
   -- sections that have settled, while other blobs change
   pub rests_still : (d e : Disk) → ((s : ℕ) → IsHeld p.index.sections s → s < 2 ^ 64) → ((s : ℕ) → IsHeld p.values s → s < 2 ^ 64) → ((q : Key) → IsBlobOf p.layout IsNamed q → e q ≡ d q)

@@ -9,8 +9,6 @@ use Rattle.std.proofs.lemmas.Nat.{div_below}
 use Rattle.blob_device.specs.Disk.{Blob, Disk, Image, IsCrashOf, past, longest, MayLeave}
 use Rattle.sealed_pages.specs.ChanceSeal as pages
 use Rattle.sealed_pages.specs.SealedPrefix.{sealed_prefix, Prefix}
-use Rattle.sealed_pages.proofs.SealedBytes.{SoundTo, sound_prefix}
-use Rattle.sealed_pages.proofs.SlotLemmas.{slot_stands}
 use Rattle.segments.specs.Sections.{section_key}
 use Rattle.value_codec.specs.Keys.{key8_bytes}
 use Rattle.meta_store.specs.declared.error.Side.{Side}
@@ -23,6 +21,7 @@ use Rattle.paired.specs.Records.{Entry, records, is_sound, front, entry_of}
 use Rattle.paired.specs.Kept.{Layout, Markers, IsMarked, marker_of, content_at, stored_records, kept, IsTrueMarker}
 use Rattle.paired.specs.Crashes.{IsPrefix, WasThere, NoChanceSeal, Keeps, Leaves}
 use Rattle.paired.specs.Holding.{Facts, list_in, AreGood, IsLasting, IsFading, IndexStands, LeavesNoRecords, ValuesStand, SectionStands, AreMarked, Holding}
+use Rattle.segments.proofs.NothingSealed.{nothing_sealed}
 use Rattle.paired.proofs.RecordLemmas.{length-records, records-front, records-enough, all_take, all_by}
 use Rattle.paired.proofs.KeptLemmas.{kept_prefix, marker_sound, stored_entries, settled_length}
 
@@ -37,21 +36,17 @@ marker_least markers s n lt least =
     step false o least = omega arith
 
 module _ (l : Layout) (pos : 1 ≤ l.record_size) where
-  -- a blob without bytes has no records
-  empty_records : records l.record_size (sealed_prefix l.seal l.page_size []) ≡ []
-  empty_records =
-      let sound : SoundTo l.seal l.page_size [] [] = record {
-        within = λ k b start some. absurd (omega (arith, slot_stands l.seal l.page_size [] k b some));
-        same = λ k b i start lt. absurd (omega (arith, slot_stands l.seal l.page_size [] k b (omega (arith, lt))));
-      } in
-      let prefix : Prefix l.seal l.page_size [] 0 [] = sound_prefix l.seal l.page_size [] [] sound 0 (omega arith) in
-      let none : length (sealed_prefix l.seal l.page_size []) ≡ 0 = omega (arith, prefix.no_longer) in
-      few_records (sealed_prefix l.seal l.page_size []) (omega (arith, none, pos))
-    where
-      few_records : (bytes : List ℕ) → length bytes < l.record_size → records l.record_size bytes ≡ []
-      few_records bytes few =
-          let none : length bytes / l.record_size < 1 = div_below (length bytes) l.record_size 1 (omega (arith, pos)) (omega (arith, few)) in
-          nil_from_length (records l.record_size bytes) (omega (arith, none, length-records l.record_size bytes))
+  few_records : (bytes : List ℕ) → length bytes < l.record_size → records l.record_size bytes ≡ []
+  few_records bytes few =
+      let none : length bytes / l.record_size < 1 = div_below (length bytes) l.record_size 1 (omega (arith, pos)) (omega (arith, few)) in
+      nil_from_length (records l.record_size bytes) (omega (arith, none, length-records l.record_size bytes))
+
+  -- a blob without bytes has no records, where its sealed prefix has no bytes
+  empty_records : sealed_prefix l.seal l.page_size [] ≡ [] → records l.record_size (sealed_prefix l.seal l.page_size []) ≡ []
+  empty_records unsealed = few_records (sealed_prefix l.seal l.page_size []) (omega (arith, ap length unsealed, pos))
+
+  unsealed : sealed_prefix l.seal l.page_size [] ≡ []
+  unsealed = nothing_sealed l.seal l.page_size
 
   -- what may be left of each of the two blobs of a section
   module _ (f : Facts) (b : Blob) where
@@ -65,19 +60,19 @@ module _ (l : Layout) (pos : 1 ≤ l.record_size) where
 
     fading_prefix : (left : Option (List ℕ)) → MayLeave b left → IsFading l f b → pages.NoChanceSeal l.seal l.page_size (past b) (unwrap_or left [])
         → Prefix l.seal l.page_size f.index f.index_settled (unwrap_or left []) ⊎ (records l.record_size (sealed_prefix l.seal l.page_size (unwrap_or left [])) ≡ [])
-    fading_prefix None may fading seals = inr empty_records
+    fading_prefix None may fading seals = inr (empty_records unsealed)
     fading_prefix (Some c) may fading seals = inl (fading c may seals)
 
   no_records : (b : Blob) (left : Option (List ℕ)) → MayLeave b left → LeavesNoRecords l b → pages.NoChanceSeal l.seal l.page_size (past b) (unwrap_or left [])
       → records l.record_size (sealed_prefix l.seal l.page_size (unwrap_or left [])) ≡ []
-  no_records b None may none seals = empty_records
+  no_records b None may none seals = empty_records unsealed
   no_records b (Some c) may none seals = none c may seals
 
   -- no crash leaves a record where none leaves a byte
   pub no_bytes : (b : Blob) → longest b ≡ 0 → LeavesNoRecords l b
   no_bytes b none c may seals =
       let empty : c ≡ [] = nil_from_length c (omega (arith, none, may.1.no_longer)) in
-      ap (λ (x : List ℕ). records l.record_size (sealed_prefix l.seal l.page_size x)) empty ∙ empty_records
+      ap (λ (x : List ℕ). records l.record_size (sealed_prefix l.seal l.page_size x)) empty ∙ empty_records unsealed
 
   -- Left are a front of the records, and at the front of the values what has settled; and the contents are fronts of the values.
   record IsFound (f : Facts) (c cv : List ℕ) (contents : List (List ℕ)) : Type 0 where

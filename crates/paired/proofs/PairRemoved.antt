@@ -1,5 +1,5 @@
 -- What removing sections leaves of a pair: that it may be used again, is as sound, and has the same lists of the sections that stay.
-use Rattle.std.proofs.Common.{◌≡◌, ◌⊎◌, inl, inr, ℕ, zero, suc, ◌*◌, ◌/◌, ◌^◌, ◌<◌, ◌≤◌, Bool, true, false, List, [], length, take, IsTrue, Ok, Option, None, IsSome, IsSomeAnd, unwrap_or, refl, sym, ◌∙◌, ap, subst, arith}
+use Rattle.std.proofs.Common.{◌≡◌, ◌⊎◌, inl, inr, ℕ, zero, suc, ◌*◌, ◌/◌, ◌^◌, ◌<◌, ◌≤◌, Bool, true, false, List, [], length, take, IsTrue, Ok, Option, None, IsSome, unwrap_or, refl, sym, ◌∙◌, ap, subst, arith}
 use Rattle.std.specs.Prelude.{◌↔◌, ◌||◌}
 use Rattle.std.specs.Int.{w64, to_be_bytes}
 use Rattle.std.specs.List.{AllByRecursion}
@@ -9,16 +9,14 @@ use Rattle.std.proofs.lemmas.Bool.{cases_lt, cases_eq, cases_Bool, or_left}
 use Rattle.std.proofs.lemmas.List.{nil_from_length}
 use Rattle.std.proofs.lemmas.Nat.{div_below}
 use Rattle.blob_device.specs.Disk.{Blob, Disk, nothing, settled_at}
-use Rattle.blob_device.specs.Opened.{Opened, OpenedList}
+use Rattle.blob_device.specs.Opened.{OpenedList}
 use Rattle.sealed_pages.specs.declared.page_blob.PageBlob.{PageBlob}
 use Rattle.sealed_pages.specs.declared.write_blob.WriteBlob.{WriteBlob}
-use Rattle.sealed_pages.specs.Buffer.{IsSealed}
-use Rattle.sealed_pages.specs.Shown.{shown}
 use Rattle.segments.specs.declared.buffer.SectionBuffer as buffer
 use Rattle.segments.specs.declared.unsealed.WriteFactory.{WriteFactory}
 use Rattle.segments.specs.FixedLists.{Lists, IsJournal}
 use Rattle.segments.specs.FixedLists as fixed
-use Rattle.segments.specs.Sections.{Sections, section_key, key_of, IsHeld, IsSection, IsGone, IsSame, IsOver}
+use Rattle.segments.specs.Sections.{Sections, section_key, key_of, IsHeld, IsSection, IsGone, IsSame}
 use Rattle.segments.specs.Setting.{Setting}
 use Rattle.segments.proofs.WalkLemmas.{none_or_value}
 use Rattle.value_codec.specs.Keys.{key8_bytes}

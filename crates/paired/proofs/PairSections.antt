@@ -1,21 +1,21 @@
 -- A pair's two kinds of sections where some of them were synced: each has the bytes that it had.
-use Rattle.std.proofs.Common.{◌≡◌, ◌⊎◌, inl, inr, ℕ, ◌^◌, ◌<◌, List, Option, None, Some, IsSome, IsSomeAnd, IsTrue, refl, sym, ◌∙◌, ap, subst}
+use Rattle.std.proofs.Common.{◌≡◌, ◌⊎◌, inl, inr, ℕ, ◌^◌, ◌<◌, List, Option, None, Some, IsSome, IsSomeAnd, refl, sym, ◌∙◌, ap, subst}
 use Rattle.std.specs.Prelude.{◌↔◌, ◌≢◌}
 use Rattle.blob_device.specs.Disk.{Key, Blob, Disk}
 use Rattle.blob_device.specs.Opened.{Opened, OpenedList}
 use Rattle.sealed_pages.specs.declared.page_blob.PageBlob.{PageBlob}
 use Rattle.sealed_pages.specs.declared.write_blob.WriteBlob.{WriteBlob}
-use Rattle.sealed_pages.specs.Buffer.{bytes_of, IsSealed}
+use Rattle.sealed_pages.specs.Buffer.{bytes_of}
 use Rattle.sealed_pages.specs.Shown.{shown}
 use Rattle.segments.specs.declared.buffer.SectionBuffer as buffer
-use Rattle.segments.specs.FixedLists.{Lists, IsJournal}
+use Rattle.segments.specs.FixedLists.{Lists}
 use Rattle.segments.specs.FixedLists as fixed
 use Rattle.segments.specs.Sections.{Sections, section_key, key_of, IsHeld, IsKeyOf, SameBounds, IsSynced}
 use Rattle.segments.specs.Setting.{Setting}
 use Rattle.segments.proofs.FixedWriteLemmas.{ArePages}
 use Rattle.segments.proofs.KeyLemmas.{key_injective}
 use Rattle.segments.proofs.WalkLemmas.{none_or_value, value_of, some_same}
-use Rattle.paired.specs.GlobSections.{IsGlob, IsAllSettled}
+use Rattle.paired.specs.GlobSections.{IsGlob}
 use Rattle.paired.specs.GlobSections as glob
 use Rattle.paired.proofs.GlobLemmas.{buffers, glob_stays}
 

@@ -256,7 +256,7 @@ module _ {F S : Type 0} {gs : _} (g : buffer.Ghosts (PageBlob S gs)) (gives : F 
       | inl none ↦ absurd (cc (subst IsSome none is.1))
       | inr some ↦ subst (λ (y : List ℕ). IsLasting p.layout (facts s) (d (section_key y s))) here.index
           (lasting_held p.layout p.index p.values (synced_length p) (disk a) s some.0 (d (key_of p.index.sections s)) some.1 (parts.paged s some.0 some.1)
-          ((each (key_of p.index.sections s)).named s some.0 is.0 some.1 (proven_of pair.whole s) refl))
+          ((each (key_of p.index.sections s)).named s some.0 is.0 some.1 ((pair.index.disk x).sealed s some.0 some.1 (proven_of pair.whole s)) refl))
     ]
 
     no_records : (s : ℕ) → p.values.held s ≡ None → records p.layout.record_size (facts s).index ≡ []

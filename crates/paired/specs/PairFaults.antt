@@ -1,5 +1,5 @@
 -- Under which group the calls of a pair answer that the device failed: in a call of index or values, or in one of the markers.
-use Rattle.std.specs.Prelude.{◌≡◌, ℕ, ◌≤◌, Result}
+use Rattle.std.specs.Prelude.{◌≡◌, ◌⊎◌, ℕ, ◌≤◌, Result}
 use Rattle.std.specs.Result.{IsErrOf}
 use Rattle.blob_device.specs.Disk.{Key, Disk}
 use Rattle.blob_device.specs.Timeline.{Timeline, disk, Always}
@@ -8,13 +8,17 @@ use Rattle.sealed_pages.specs.Cutting.{IsAtRest}
 use Rattle.sealed_pages.specs.declared.page_blob.PageBlob.{PageBlob}
 use Rattle.segments.specs.Sections.{section_key, IsHeld}
 use Rattle.segments.specs.declared.journal.Error.{Error}
-use Rattle.segments.specs.declared.journal.Error.TheVariants.{Runtime}
+use Rattle.segments.specs.declared.journal.Error.TheVariants.{Runtime, Full}
 use Rattle.meta_store.specs.Store.{Store, Stands}
 use Rattle.value_codec.specs.declared.key.Key8.{Key8}
 use Rattle.paired.specs.Kept.{IsMarked, marker_of}
 use Rattle.paired.specs.Crashes.{IsCopy, Leaves}
 use Rattle.paired.specs.Pair.{Pair, IsSoundOn, list_of, length_of, synced_length}
 use Rattle.paired.specs.PairRefusing.{HasLostMarkers}
+
+-- A call came to the markers and ended there: their version had no next one, or the device failed in a call of theirs.
+abbrev pub StopsAtMarkers : {T : Type 0} → Result T Error → ℕ → ℕ → Type 0
+StopsAtMarkers result before now = IsErrOf result Full ⊎ HasLostMarkers result before now
 
 module _ {F S : Type 0} {gs : _} (p : Pair F (PageBlob S gs)) (IsNamed : ℕ → Type 0) where
   -- the blobs of the named sections that are held have settled
@@ -28,11 +32,12 @@ module _ {F S : Type 0} {gs : _} (p : Pair F (PageBlob S gs)) (IsNamed : ℕ →
     pub others : (s : ℕ) → (IsNamed s → ⊥) → synced s ≡ synced_length p s
 
   -- Sections settle first, then markers. Where the device failed in a call of index or values, no copy of the markers has changed, at no
-  -- moment. Where it failed in one of the markers, the named sections have settled, and each crash leaves their whole lists.
+  -- moment. Where the markers were full, or it failed in one of their calls, the named sections have settled, and each crash leaves their
+  -- whole lists.
   pub record FaultsInOrder {T : Type 0} (result : Result T Error) (before now : ℕ) (old new : Timeline) : Type 0 where
     pub sections : IsErrOf result (Runtime Fault) → Always old new (λ d. (q : Key) → IsCopy p.layout q → d q ≡ disk old q)
-    pub at_rest : HasLostMarkers result before now → AreAtRest (disk new)
-    pub leaves : HasLostMarkers result before now → IsSoundOn p (disk old) → (synced : ℕ → ℕ) → IsSyncedAfter synced → Leaves p.layout (list_of p (disk old)) synced (λ _. ⊥) (disk new)
+    pub at_rest : StopsAtMarkers result before now → AreAtRest (disk new)
+    pub leaves : StopsAtMarkers result before now → IsSoundOn p (disk old) → (synced : ℕ → ℕ) → IsSyncedAfter synced → Leaves p.layout (list_of p (disk old)) synced (λ _. ⊥) (disk new)
 
 -- The markers below the bound were dropped, durably: the copies have settled, and hold the others, as they were, and no more.
 pub record AreDropped {F B : Type 0} (p : Pair F B) (least : ℕ) (d : Disk) : Type 0 where

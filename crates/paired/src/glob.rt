@@ -16,7 +16,7 @@ mod syncing;
 pub(crate) mod tests;
 mod writing;
 
-pub(crate) use framing::frame_size;
+pub(crate) use framing::{frame_size, u32_in};
 pub use recovery::Recovery;
 use segments::journal::Error;
 use segments::{Manager, SectionIter, WriteFactory};

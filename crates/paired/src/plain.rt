@@ -1,8 +1,7 @@
 //! A plain, slow reading of what an image keeps of a pair: which records of a section, with which values, and which markers are true.
 //!
 //! It looks at whole blobs, a section at a time. What crashes leave is compared with it.
-ghost use Rattle.std.specs.Prelude.{◌≡◌, ◌↔◌, ◌≤◌, ◌<◌, ◌+◌, ◌-◌, ◌||◌, nat_lt, length, map, take, IfOk, IsTrue};
-ghost use Rattle.std.specs.Int.{w32, from_be_bytes};
+ghost use Rattle.std.specs.Prelude.{◌≡◌, ◌↔◌, ◌≤◌, ◌<◌, ◌-◌, ◌||◌, nat_lt, length, map, take, IfOk, IsTrue};
 ghost use Rattle.std.specs.List.{AllByRecursion};
 ghost use Rattle.sealed_pages.specs.SealedPrefix.{sealed_prefix};
 ghost use Rattle.segments.specs.FixedItems.{item_count, item_at};
@@ -10,6 +9,7 @@ ghost use Rattle.paired.specs.Frames.{bytes_at};
 ghost use Rattle.paired.specs.Records.{records, is_sound, front, entry_of};
 
 use crate::Record;
+use crate::glob::u32_in;
 use sealed_pages::plain::sealed_prefix;
 use segments::journal::Error;
 use std::alloc::Global;
@@ -47,14 +47,6 @@ impl Found {
     }
 }
 
-/// The number in the four bytes at a place, the highest first.
-fn u32_at(bytes: &[u8], at: usize) -> u32
-    requires { at + 4 ≤ length bytes.now }
-    ensures { result ≡ from_be_bytes w32 (bytes_at bytes.now at 4) }
-{
-    u32::from_be_bytes(<[u8; 4]>::try_from(&bytes[at..at + 4]).unwrap())
-}
-
 /// Whether a frame stands at this place, of so many bytes.
 pub fn is_sound<S: Seal>(values: &[u8], location: (u64, u32)) -> bool
     ensures { result ≡ is_sound S.seal_of values.now location }
@@ -73,10 +65,10 @@ pub fn is_sound<S: Seal>(values: &[u8], location: (u64, u32)) -> bool
     }
     let start = offset as usize;
     let end = start + (size as usize - 4);
-    S::seal(&values[start..end]) == u32_at(values, end)
+    S::seal(&values[start..end]) == u32_in(&values[end..end + 4])
 }
 
-/// Whether a record at this position, whose value is there, is kept where those before it are.
+// Whether a record at this position, whose value is there, is kept where those before it are.
 fn is_kept<S: Seal>(values: &[u8], location: (u64, u32), position: usize, marker: u64) -> bool
     ensures { result ≡ (nat_lt position marker || is_sound S.seal_of values.now location) }
 {
@@ -86,7 +78,7 @@ fn is_kept<S: Seal>(values: &[u8], location: (u64, u32), position: usize, marker
     is_sound::<S>(values, location)
 }
 
-/// As many bytes from a place on as there are, up to those of a frame of this size without its seal.
+// As many bytes from a place on as there are, up to those of a frame of this size without its seal.
 fn spelled_at(alloc: Global, values: &[u8], location: (u64, u32)) -> Result<Vec<u8>, Error>
     ensures { IfOk result (λ v. v.items ≡ bytes_at values.now location.0 (location.1 - 4)) }
 {
@@ -97,14 +89,14 @@ fn spelled_at(alloc: Global, values: &[u8], location: (u64, u32)) -> Result<Vec<
     Ok(rest[..len].to_vec(alloc)?)
 }
 
-/// How many records are whole in these bytes.
+// How many records are whole in these bytes.
 fn count_of<I: Record>(sealed: &[u8]) -> usize
     ensures { result ≡ item_count I.SIZE sealed.now }
 {
     sealed.len() / I::SIZE
 }
 
-/// The bytes of a record among them.
+// The bytes of a record among them.
 fn stored_at<I: Record>(sealed: &[u8], position: usize) -> &[u8]
     requires { position < item_count I.SIZE sealed.now }
     ensures { result.now ≡ item_at I.SIZE sealed.now position }
@@ -114,7 +106,7 @@ fn stored_at<I: Record>(sealed: &[u8], position: usize) -> &[u8]
     &sealed[start..start + size]
 }
 
-/// Where the value of a record with these bytes stands.
+// Where the value of a record with these bytes stands.
 fn location_of<I: Record>(alloc: Global, stored: &[u8]) -> Result<(u64, u32), Error>
     ensures { IfOk result (λ l. l ≡ I.place stored.now) }
 {
@@ -122,7 +114,7 @@ fn location_of<I: Record>(alloc: Global, stored: &[u8]) -> Result<(u64, u32), Er
     Ok(item.value_location())
 }
 
-/// The record with its value.
+// The record with its value.
 fn found_at(
     alloc: Global,
     stored: &[u8],

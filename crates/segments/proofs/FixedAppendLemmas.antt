@@ -10,13 +10,13 @@ use Rattle.blob_device.specs.Change.{Make, done}
 use Rattle.blob_device.specs.Disk.{Key, Blob, Disk}
 use Rattle.blob_device.specs.Opened.{Opened, OpenedList}
 use Rattle.blob_device.specs.Timeline.{Timeline, disk, Always, OnlyAt}
-use Rattle.blob_device.proofs.Moments.{always_now, always_then}
+use Rattle.blob_device.proofs.Moments.{always_now, always_then, only_start}
 use Rattle.sealed_pages.specs.Buffer.{Buffer, extent, size_of, bytes_of, IsSealed}
 use Rattle.sealed_pages.specs.ChanceSeal.{Sealing}
 use Rattle.sealed_pages.specs.declared.page_blob.PageBlob.{PageBlob}
 use Rattle.sealed_pages.specs.Entries.{IsOpenAt}
-use Rattle.sealed_pages.specs.SealedPrefix.{adopted_size}
-use Rattle.sealed_pages.specs.Unrecovered.{IsAdopted, IsUnrecovered}
+use Rattle.sealed_pages.specs.SealedPrefix.{sealed_prefix, adopted_size}
+use Rattle.sealed_pages.specs.Unrecovered.{HasPrefix, KeepsPrefix, IsAdopted, IsUnrecovered}
 use Rattle.sealed_pages.specs.Shown.{shown}
 use Rattle.sealed_pages.specs.View.{view, page_at}
 use Rattle.sealed_pages.proofs.Adopt.{length-data_from}
@@ -24,6 +24,7 @@ use Rattle.sealed_pages.proofs.CutCalls.{sealing_whole}
 use Rattle.sealed_pages.proofs.Holding.{holds_start}
 use Rattle.sealed_pages.proofs.PageCalls.{only_weaker}
 use Rattle.sealed_pages.proofs.Shortening.{size_before}
+use Rattle.sealed_pages.proofs.UnrecoveredLemmas.{unrecovered_prefix}
 use Rattle.segments.specs.declared.buffer.SectionBuffer as buffer
 use Rattle.segments.specs.declared.journal.Error.TheVariants.{Full}
 use Rattle.segments.specs.Entries.{OnlyOwnEntry}
@@ -116,6 +117,10 @@ sealed_start seal u more key t begun sealed =
     sealing_whole seal u.page_size (all ++ more) (length all) u.settled key t t
     (subst (λ (l : List ℕ). Sealing seal u.page_size l u.settled key t t) (sym (take-append_seam all more)) (holds_start seal u all key t begun sealed))
 
+-- One that is not keeps its sealed prefix.
+pub steady_start : (seal : List ℕ → ℕ) (u : Buffer) (key : Key) (t : Timeline) → u.from < u.page_size → IsUnrecovered seal u (disk t key) → KeepsPrefix seal u.page_size (sealed_prefix seal u.page_size (disk t key).content) key t t
+steady_start seal u key t begun un = only_start t key (HasPrefix seal u.page_size (sealed_prefix seal u.page_size (disk t key).content)) (unrecovered_prefix seal u (disk t key) (omega (arith, begun)) un).0
+
 -- the clause on crashes, by another name of the blob and of the bytes
 pub crashes_as : (seal : List ℕ → ℕ) (u : Buffer) (key k : Key) (bytes more : List ℕ) (a b : Timeline) → key ≡ k → bytes ≡ more → IsSealed seal u (disk a k)
     → (IsSealed seal u (disk a key) → Sealing seal u.page_size (bytes_of u (disk a key).content ++ bytes) u.settled key a b) → Sealing seal u.page_size (bytes_of u (disk a k).content ++ more) u.settled k a b
@@ -126,8 +131,8 @@ crashes_as seal u key k bytes more a b here same sealed crashes =
 module _ {F S : Type 0} {gs : _} (seal : List ℕ → ℕ) (size : ℕ) (told : Type 0) (g : buffer.Ghosts (PageBlob S gs)) (pages : ArePages g seal) (gives : F → Setting) (j : Lists F (PageBlob S gs)) (old : OpenedList) (a : Timeline)
     (journal : IsJournal g gives seal size told j old (disk a)) (s : ℕ) (recovered : IsRecovered j s) where
   -- where nothing was called, each crash leaves a prefix of the bytes and of what may follow
-  pub start_sealing : told → (u : PageBlob S gs) → j.sections.held s ≡ Some u → IsProven j s → (more : List ℕ) → Sealing seal u.page_size (section_bytes j.sections (disk a) s ++ more) u.settled (key_of j.sections s) a a
-  start_sealing t u held proven more = rw held (sealed_start seal (shown u) more (key_of j.sections s) a u.fit.begun ((journal.disk t).sealed s u held proven))
+  pub start_sealing : (u : PageBlob S gs) → j.sections.held s ≡ Some u → IsSealed seal (shown u) (disk a (key_of j.sections s)) → (more : List ℕ) → Sealing seal u.page_size (section_bytes j.sections (disk a) s ++ more) u.settled (key_of j.sections s) a a
+  start_sealing u held sealed more = rw held (sealed_start seal (shown u) more (key_of j.sections s) a u.fit.begun sealed)
 
   not_there : s < 2 ^ 64 → told → j.sections.held s ≡ None → (disk a (key_of j.sections s)).there ≡ false
   not_there small t none = go (disk a (key_of j.sections s)).there refl
@@ -167,13 +172,17 @@ module _ {F S : Type 0} {gs : _} (seal : List ℕ → ℕ) (size : ℕ) (told : 
     pub taken_adopted : told → IsAdopted seal (shown u) (disk b (key_of j.sections s))
     taken_adopted t = (pages.stands u (disk b (key_of j.sections s)) (takes.stands t)).adopted
 
+    -- it is sealed where the section was held and sealed
+    pub taken_still : (w : PageBlob S gs) → j.sections.held s ≡ Some w → IsSealed seal (shown w) (disk a (key_of j.sections s)) → IsSealed seal (shown u) (disk b (key_of j.sections s))
+    taken_still w held sealed = subst (λ (x : PageBlob S gs). IsSealed seal (shown x) (disk b (key_of j.sections s))) (sym (takes.same w held))
+        (subst (λ (d : Disk). IsSealed seal (shown w) (d (key_of j.sections s))) (sym (takes.untouched (subst IsSome (sym held) refl))) sealed)
+
     pub taken_sealed : told → (j.sections.held s ≡ None) ⊎ IsProven j s → IsSealed seal (shown u) (disk b (key_of j.sections s))
     taken_sealed t which = elim which [
       | inl none ↦ empty_sealed seal (shown u) (disk b (key_of j.sections s)) u.fit.begun (made_size t none) (pages.stands u (disk b (key_of j.sections s)) (takes.stands t)).adopted
       | inr proven ↦ elim (none_or_value (j.sections.held s)) [
         | inl none ↦ empty_sealed seal (shown u) (disk b (key_of j.sections s)) u.fit.begun (made_size t none) (taken_adopted t)
-        | inr w ↦ subst (λ (x : PageBlob S gs). IsSealed seal (shown x) (disk b (key_of j.sections s))) (sym (takes.same w.0 w.1))
-            (subst (λ (d : Disk). IsSealed seal (shown w.0) (d (key_of j.sections s))) (sym (takes.untouched (subst IsSome (sym w.1) refl))) ((journal.disk t).sealed s w.0 w.1 proven))
+        | inr w ↦ taken_still w.0 w.1 ((journal.disk t).sealed s w.0 w.1 proven)
       ]
     ]
 

@@ -2,15 +2,15 @@
 use Rattle.std.proofs.Common.{◌≡◌, ◌≢◌, ◌⊎◌, inl, inr, ℕ, ◌%◌, ◌^◌, ◌<◌, ◌≤◌, min, Bool, true, false, List, length, Option, None, Some, IsSome, IsSomeAnd, IsTrue, refl, sym, ◌∙◌, ap, subst, arith}
 use Rattle.std.proofs.lemmas.Bool.{cases_eq, cases_lt}
 use Rattle.std.proofs.Math.Nat.{div-add-mod}
-use Rattle.blob_device.specs.Disk.{Key, Blob, past}
+use Rattle.blob_device.specs.Disk.{Key, Blob}
 use Rattle.blob_device.specs.Opened.{OpenedList}
 use Rattle.blob_device.specs.Timeline.{Timeline, disk, OnlyAt}
 use Rattle.blob_device.proofs.Moments.{always_now}
 use Rattle.sealed_pages.specs.Buffer.{Buffer, size_of, bytes_of, IsSealed}
-use Rattle.sealed_pages.specs.ChanceSeal.{NoChanceSeal, Sealing}
+use Rattle.sealed_pages.specs.ChanceSeal.{Sealing}
 use Rattle.sealed_pages.specs.ChanceSeal as chance
 use Rattle.sealed_pages.specs.declared.page_blob.PageBlob.{PageBlob}
-use Rattle.sealed_pages.specs.SealedPrefix.{sealed_prefix, Prefix}
+use Rattle.sealed_pages.specs.SealedPrefix.{sealed_prefix}
 use Rattle.sealed_pages.specs.Shown.{shown}
 use Rattle.sealed_pages.specs.Unrecovered.{IsUnrecovered, IsAdopted, IsSafeCut}
 use Rattle.sealed_pages.proofs.PageCalls.{only_weaker}
@@ -25,7 +25,7 @@ use Rattle.segments.specs.Setting.{Setting}
 use Rattle.segments.proofs.KeyLemmas.{keys_differ}
 use Rattle.segments.proofs.OverLemmas.{same_key}
 use Rattle.segments.proofs.WalkLemmas.{value_of, has_value, some_same, none_or_value}
-use Rattle.segments.proofs.FixedWriteLemmas.{ArePages, IsFine, fine_of, journal_of, fine_same, fine_none, leaves_sealed, proven_back, proven_or_not}
+use Rattle.segments.proofs.FixedWriteLemmas.{ArePages, IsFine, fine_of, journal_of, fine_same, fine_none, leaves_sealed, leaves_front, proven_back, proven_or_not}
 
 pub no_rest : (n : ℕ) → 0 % n ≡ 0
 no_rest n = omega (arith, div-add-mod 0 n)
@@ -35,16 +35,6 @@ pub empty_sealed : (seal : List ℕ → ℕ) (u : Buffer) (b : Blob) → u.from 
 empty_sealed seal u b begun none adopted = adopted_sealed seal u b adopted (λ k lt. absurd (omega (arith, times_more k u.first u.page_size lt, none, begun)))
 
 module _ {S : Type 0} {gs : _} (seal : List ℕ → ℕ) (g : buffer.Ghosts (PageBlob S gs)) (pages : ArePages g seal) (u : PageBlob S gs) where
-  -- what passes the test of one that is not is a prefix of its sealed prefix
-  leaves_front : (from b : Blob) (least n : ℕ) → min least (length (sealed_prefix seal u.page_size from.content)) ≡ n → IsUnrecovered seal (shown u) from → Leaves (g.NoChanceSeal u) (g.MayKeep u from least) b
-      → chance.Leaves seal u.page_size (sealed_prefix seal u.page_size from.content) n b
-  leaves_front from b least n same un leaves left may = go left (leaves left may)
-    where
-      go : (l : Option (List ℕ)) → IsSomeAnd l (λ c. g.NoChanceSeal u (past b) c → g.MayKeep u from least (past b) c)
-          → IsSomeAnd l (λ c. NoChanceSeal seal u.page_size (past b) c → Prefix seal u.page_size (sealed_prefix seal u.page_size from.content) n c)
-      go None has = has
-      go (Some c) has = λ no. subst (λ (m : ℕ). Prefix seal u.page_size (sealed_prefix seal u.page_size from.content) m c) same ((pages.keeps u from least (past b) c (has (pages.no_chance u (past b) c no))).unrecovered un)
-
   -- of a buffer of which all has settled: its bytes are its sealed prefix, or it has more
   settled_front : (from b : Blob) (least n : ℕ) → u.settled ≡ size_of (shown u) → least ≡ min u.settled n → IsAdopted seal (shown u) from → Leaves (g.NoChanceSeal u) (g.MayKeep u from least) b
       → chance.Leaves seal u.page_size (sealed_prefix seal u.page_size from.content) (min n (length (sealed_prefix seal u.page_size from.content))) b
@@ -53,7 +43,7 @@ module _ {S : Type 0} {gs : _} (seal : List ℕ → ℕ) (g : buffer.Ghosts (Pag
       subst (λ (l : List ℕ). chance.Leaves seal u.page_size l (min n (length (sealed_prefix seal u.page_size from.content))) b) (sym settles.prefix)
       (leaves_sealed seal g pages u from b least (min n (length (sealed_prefix seal u.page_size from.content))) (omega (arith, is, settled, ap length settles.prefix, sealed.size)) sealed leaves)
   settled_front from b least n settled is (inr un) leaves =
-      leaves_front from b least (min n (length (sealed_prefix seal u.page_size from.content))) (omega (arith, is, settled, (unrecovered_prefix seal (shown u) from (omega (arith, u.fit.begun)) un).1)) un leaves
+      leaves_front seal g pages u from b least (min n (length (sealed_prefix seal u.page_size from.content))) (omega (arith, is, settled, (unrecovered_prefix seal (shown u) from (omega (arith, u.fit.begun)) un).1)) un leaves
 
 module _ {F S : Type 0} {gs : _} (seal : List ℕ → ℕ) (size : ℕ) (told : Type 0) (g : buffer.Ghosts (PageBlob S gs)) (pages : ArePages g seal) (gives : F → Setting) (j : Lists F (PageBlob S gs)) (old : OpenedList) (a b : Timeline)
     (journal : IsJournal g gives seal size told j old (disk a)) (s n : ℕ) where
@@ -68,10 +58,18 @@ module _ {F S : Type 0} {gs : _} (seal : List ℕ → ℕ) (size : ℕ) (told : 
     ]
 
     module _ (moments : AllMoments (key_of j.sections s) (λ x. (w : PageBlob S gs) → j.sections.held s ≡ Some w → Leaves (g.NoChanceSeal w) (g.MayKeep w (disk a (key_of j.sections s)) (min (g.settled w) n)) x) a b) where
-      pub cut_sealing : IsProven j s → Sealing seal u.page_size (section_bytes j.sections (disk a) s) (min u.settled n) (key_of j.sections s) a b
-      cut_sealing proven = only_weaker a b (key_of j.sections s) (disk a) (λ x. (w : PageBlob S gs) → j.sections.held s ≡ Some w → Leaves (g.NoChanceSeal w) (g.MayKeep w (disk a (key_of j.sections s)) (min (g.settled w) n)) x)
+      pub cut_sealing : IsSealed seal (shown u) (disk a (key_of j.sections s)) → Sealing seal u.page_size (section_bytes j.sections (disk a) s) (min u.settled n) (key_of j.sections s) a b
+      cut_sealing sealed = only_weaker a b (key_of j.sections s) (disk a) (λ x. (w : PageBlob S gs) → j.sections.held s ≡ Some w → Leaves (g.NoChanceSeal w) (g.MayKeep w (disk a (key_of j.sections s)) (min (g.settled w) n)) x)
           (chance.Leaves seal u.page_size (section_bytes j.sections (disk a) s) (min u.settled n))
-          (λ x leaves. rw held (leaves_sealed seal g pages u (disk a (key_of j.sections s)) x (min (g.settled u) n) (min u.settled n) (ap (λ (m : ℕ). min m n) (pages.settled u)) ((journal.disk t).sealed s u held proven) (leaves u held)))
+          (λ x leaves. rw held (leaves_sealed seal g pages u (disk a (key_of j.sections s)) x (min (g.settled u) n) (min u.settled n) (ap (λ (m : ℕ). min m n) (pages.settled u)) sealed (leaves u held)))
+          moments
+
+      pub cut_unsealed : IsUnrecovered seal (shown u) (disk a (key_of j.sections s)) → Sealing seal u.page_size (sealed_prefix seal u.page_size (disk a (key_of j.sections s)).content)
+          (min (min u.settled n) (length (sealed_prefix seal u.page_size (disk a (key_of j.sections s)).content))) (key_of j.sections s) a b
+      cut_unsealed un = only_weaker a b (key_of j.sections s) (disk a) (λ x. (w : PageBlob S gs) → j.sections.held s ≡ Some w → Leaves (g.NoChanceSeal w) (g.MayKeep w (disk a (key_of j.sections s)) (min (g.settled w) n)) x)
+          (chance.Leaves seal u.page_size (sealed_prefix seal u.page_size (disk a (key_of j.sections s)).content) (min (min u.settled n) (length (sealed_prefix seal u.page_size (disk a (key_of j.sections s)).content))))
+          (λ x leaves. leaves_front seal g pages u (disk a (key_of j.sections s)) x (min (g.settled u) n) (min (min u.settled n) (length (sealed_prefix seal u.page_size (disk a (key_of j.sections s)).content)))
+          (ap (λ (m : ℕ). min (min m n) (length (sealed_prefix seal u.page_size (disk a (key_of j.sections s)).content))) (pages.settled u)) un (leaves u held))
           moments
 
       pub cut_front : IsTrue (j.unrecovered s) → Sealing seal u.page_size (sealed_prefix seal u.page_size (disk a (key_of j.sections s)).content)

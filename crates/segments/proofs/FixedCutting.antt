@@ -21,8 +21,8 @@ use Rattle.segments.specs.declared.journal.Error.TheVariants.{ItemOutOfRange, Ru
 use Rattle.segments.specs.Setting.{Setting}
 use Rattle.segments.specs.Sections.{key_of, IsHeld}
 use Rattle.segments.specs.Refusing.{HasFailed, HasDamage}
-use Rattle.segments.specs.FixedReplay.{Place, Walk, IsWalk, Replaying, EndsBelow, kept_bytes}
-use Rattle.segments.specs.FixedStepping.{standing, OnlySections, Touches, IsCutBack, EndsAt, Steps}
+use Rattle.segments.specs.FixedReplay.{Place, Walk, IsWalk, HasNothingToCut, StaysStill, Replaying, EndsBelow, kept_bytes}
+use Rattle.segments.specs.FixedStepping.{word, sections_ahead, bytes_ahead, standing, OnlySections, Touches, IsCutBack, EndsAt, Steps}
 use Rattle.segments.proofs.FixedCounts.{count_here}
 use Rattle.segments.proofs.FixedErrorSteps.{cut_read, cut_other, cut_not_codec}
 use Rattle.segments.proofs.FixedKept.{whole_place}
@@ -92,6 +92,17 @@ module _ {F S : Type 0} {gs : _} (seal : List ℕ → ℕ) (size : ℕ) (g : buf
     not_free : w.journal.unrecovered r.section ≡ false → ⊥
     not_free free = cc (owed, free)
 
+    -- there is something to cut off
+    not_still : told → (y : PageBlob S gs) → w.journal.sections.held r.section ≡ Some y → StaysStill seal size (w.journal.unrecovered r.section) y (disk a K) → ⊥
+    not_still t y is rest = elim rest.1 [
+      | inl free ↦ not_free free
+      | inr none ↦
+          let none_u : HasNothingToCut seal size u (disk a K) = subst (λ (z : PageBlob S gs). HasNothingToCut seal size z (disk a K)) (same_some (w.journal.sections.held r.section) u y held is) none in
+          let whole : size_of (shown u) / size * size + size_of (shown u) % size ≡ size_of (shown u) = omega (arith, pos) in
+          let count : size_of (shown u) / size * size ≡ r.position * size = ap (λ (n : ℕ). n / size * size) (sym none_u.sealed) ∙ kept_count t in
+          omega (arith, whole, count, none_u.whole, (last t).longer refl u held)
+    ]
+
     none_new : new.place ≡ None
     none_new = only.place ∙ none
 
@@ -119,7 +130,8 @@ module _ {F S : Type 0} {gs : _} (seal : List ℕ → ℕ) (size : ℕ) (g : buf
           (Leaves seal u.page_size (sealed_prefix seal u.page_size (disk a K).content) (r.position * size)) refl (was.disk t).sealed (moments t u held)
           (λ x leaves. replaying_here seal size (standing w r) (disk a) s (number_here seal size g gives w r before a was) numbers (reached_here seal size g gives w r before a was) x
           (λ y is proven. absurd (not_free proven.checked))
-          (λ y is owes. subst (λ (z : PageBlob S gs). MayCut seal size z (w.journal.floor_of s) (disk a K) x) (sym (same_some (w.journal.sections.held s) u y held is)) (cut_leaves t x leaves)));
+          (λ y is owes. subst (λ (z : PageBlob S gs). MayCut seal size z (w.journal.floor_of s) (disk a K) x) (sym (same_some (w.journal.sections.held s) u y held is)) (cut_leaves t x leaves))
+          (λ y is rest. absurd (not_still t y is rest)));
       from = from_new;
       faults = le;
     }
@@ -128,7 +140,7 @@ module _ {F S : Type 0} {gs : _} (seal : List ℕ → ℕ) (size : ℕ) (g : buf
     pub cut_failed : (x : Error) → new.ended ≡ true → OnErr {T = Unit {0}} (Err x) ((new.journal.sections.held s ≡ None) ⊎ ((new.journal.sections.held s ≡ w.journal.sections.held s) × (b ≡ a)))
         → (told → (k : ℕ) → x ≡ Runtime (InvalidChecksum k) → ⊥) → HasDamage {T = Option (ℕ × ℕ × V)} (Err x) ⊎ HasFailed {T = Option (ℕ × ℕ × V)} (Err x) few many
         → Steps seal size g gives spelling accepted refusal told (Err x) (standing w r) new before after a b few many
-    cut_failed x ended lost sound cause = call_failed seal size g gives spelling accepted refusal told s (standing w r) new before after a b few many called x lost none_new
+    cut_failed x ended lost sound cause = call_failed seal size g gives spelling accepted refusal told s (standing w r) new before after a b few many called (omega (arith, ap (λ (o : Option ℕ). sections_ahead o * (word + 1)) only.next, ap bytes_ahead none_new)) x lost none_new
         (λ t h. subst (λ (o : Option ℕ). IsSomeAnd o (λ n. n ≤ t)) only.next h)
         (inl (ended, elim cause [ inl page ↦ inl (page, λ t. sound t page.0 (let at = page.1 in cc at)) | inr failed ↦ inr failed ]))
         (cut_other x x refl few many cause) (λ t k is. absurd (sound t k is)) (λ t e is. absurd (cut_not_codec x few many cause e is)) (cut_read x x refl few many cause)
@@ -167,6 +179,7 @@ module _ {F S : Type 0} {gs : _} (seal : List ℕ → ℕ) (size : ℕ) (g : buf
             | inr leaves ↦ cut_leaves t x (leaves_whole seal u.page_size (sealed_prefix seal u.page_size (disk a K).content) (r.position * size) (r.position * size) x
                 (shorter t x leaves.1))
           ]))
+          (λ y is rest. absurd (not_still t y is rest))
         where
           shorter : told → (x : Blob) → Leaves seal v.page_size (sealed_prefix seal v.page_size (disk b K).content) (length (sealed_prefix seal v.page_size (disk b K).content) / size * size) x
               → Leaves seal u.page_size (take (r.position * size) (sealed_prefix seal u.page_size (disk a K).content)) (r.position * size) x
@@ -191,6 +204,7 @@ module _ {F S : Type 0} {gs : _} (seal : List ℕ → ℕ) (size : ℕ) (g : buf
         };
         failed = only.failed;
         ended = goes ∙ sym going;
+        bytes = λ y is free. absurd (not_free free);
         later = later;
       }
 

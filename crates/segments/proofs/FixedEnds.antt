@@ -47,8 +47,8 @@ module _ {F S : Type 0} {gs : _} (seal : List ℕ → ℕ) (size : ℕ) (g : buf
             ∙ ap length (sealed_flushed seal (shown u) blob u.fit.begun (sealed_end t (inl owed)) (here seal size g gives w r opened d was).2.flushed) ∙ bytes_length (shown u) blob.content
         go false free = ap length (kept_free seal size g gives w r opened d was free) ∙ bytes_length (shown u) blob.content
 
-    pub ends_all : (cuts : Bool) → (cuts ≡ false → w.journal.unrecovered r.section ≡ true → length r.reader.bytes ≡ 0) → told → EndsAt seal size (standing w r) d r cuts
-    ends_all cuts empty t = record {
+    pub ends_all : (cuts : Bool) → (cuts ≡ false → w.journal.unrecovered r.section ≡ true → length r.reader.bytes ≡ 0) → (cuts ≡ true → 0 < length r.reader.bytes) → told → EndsAt seal size (standing w r) d r cuts
+    ends_all cuts empty some t = record {
       last =
           let h = (here seal size g gives w r opened d was).2 in
           last_place size (length (kept_bytes seal size (standing w r) d r.section)) r.position pos
@@ -56,6 +56,8 @@ module _ {F S : Type 0} {gs : _} (seal : List ℕ → ℕ) (size : ℕ) (g : buf
           (omega (arith, h.at, h.blob_size, done, count_all t));
       whole = λ not read v held. (let same = has_here v held in
           subst (λ (x : PageBlob S gs). IsSealed seal (shown x) blob × (size_of (shown x) % size ≡ 0)) (sym same) (sealed_end t read, even not (w.journal.unrecovered r.section) refl));
+      longer = λ cut v held. (let h = (here seal size g gives w r opened d was).2 in
+          subst (λ (x : PageBlob S gs). r.position * size < size_of (shown x)) (sym (has_here v held)) (omega (arith, h.at, h.blob_size, rest, some cut)));
     }
       where
         has_here : (v : PageBlob S gs) → w.journal.sections.held r.section ≡ Some v → v ≡ u
@@ -98,8 +100,8 @@ module _ {F S : Type 0} {gs : _} (seal : List ℕ → ℕ) (size : ℕ) (g : buf
   })
 
   -- A page is not covered as far as the next item goes.
-  pub ends_short : (m n k : ℕ) → m + n ≤ r.reader.at + size → IsTrue (w.journal.unrecovered r.section) → told → IsShort seal u.page_size blob.content m n k → EndsAt seal size (standing w r) d r true
-  ends_short m n k near owed t short = record {
+  pub ends_short : (m n k : ℕ) → m + n ≤ r.reader.at + size → m + n ≤ r.reader.size → IsTrue (w.journal.unrecovered r.section) → told → IsShort seal u.page_size blob.content m n k → EndsAt seal size (standing w r) d r true
+  ends_short m n k near within owed t short = record {
     last =
         let h = (here seal size g gives w r opened d was).2 in
         let P_pos : 1 ≤ u.page_size = omega (arith, u.fit.begun) in
@@ -109,4 +111,11 @@ module _ {F S : Type 0} {gs : _} (seal : List ℕ → ℕ) (size : ℕ) (g : buf
         (omega (arith, h.at, long, count))
         (omega (arith, h.at, short_length seal u.page_size blob.content P_pos m n k short, near, count));
     whole = λ not. absurd (cc not);
+    longer = λ cut v held.
+        let h = here seal size g gives w r opened d was in
+        let mine : v ≡ u = (let is = h.1 in cc (is, held)) in
+        let P_pos : 1 ≤ u.page_size = omega (arith, u.fit.begun) in
+        let long = covered_length seal u.page_size blob.content P_pos (next_of r.reader) ((reads_here seal size g gives w r opened d was t).checked (inl owed)) in
+        subst (λ (x : PageBlob S gs). r.position * size < size_of (shown x)) (sym mine)
+        (omega (arith, h.2.at, h.2.blob_size, long, within, short_length seal u.page_size blob.content P_pos m n k short));
   }

@@ -24,7 +24,7 @@ use Rattle.segments.specs.Setting.{Setting}
 use Rattle.segments.specs.Sections.{key_of, IsHeld}
 use Rattle.segments.specs.Refusing.{HasFailed}
 use Rattle.segments.specs.FixedLists.{IsProven}
-use Rattle.segments.specs.FixedReplay.{Place, Walk, IsAhead, IsIn, IsReadWhole, IsLeft, IsWalk, Replaying, StandsIn, ReadsIn, kept_of, kept_bytes, first_of}
+use Rattle.segments.specs.FixedReplay.{Place, Walk, IsAhead, IsIn, IsReadWhole, IsLeft, HasSameBytes, IsWalk, StaysStill, Replaying, StandsIn, ReadsIn, kept_of, kept_bytes, first_of}
 use Rattle.segments.specs.FixedStepping.{reads_left, way_of, sections_ahead, bytes_ahead, OnlySections, Touches, IsFlushed, BeginsOver, Steps}
 use Rattle.segments.proofs.FixedCounts.{count_here, count_ahead}
 use Rattle.segments.proofs.FixedEnding.{IsNext, next_after, next_from, ahead_from, next_back, fewer_ahead, nearer_begun}
@@ -122,25 +122,41 @@ module _ {F S : Type 0} {gs : _} (seal : List ℕ → ℕ) (size : ℕ) (g : buf
       faults = le;
     }
       where
-        moments_by : told → (owes : Bool) → w.journal.unrecovered s ≡ owes → Always a b (Each (Replaying seal size w (disk a)))
-        moments_by t true owed = subst (λ (x : Timeline). Always a x (Each (Replaying seal size w (disk a)))) (sym (idle (was.walk.owes_settled.settled s u held owed)))
+        none_by : told → u.settled ≡ size_of (shown u) → Always a b (Each (Replaying seal size w (disk a)))
+        none_by t settled = subst (λ (x : Timeline). Always a x (Each (Replaying seal size w (disk a)))) (sym (idle settled))
             (always_start a (Each (Replaying seal size w (disk a))) (λ q. replaying_start seal size w (disk a) (was.disk t).sealed q))
-        moments_by t false free = elim (proven_or_not w.journal s) [
+
+        not_still : (y : PageBlob S gs) → w.journal.sections.held s ≡ Some y → y.settled ≡ size_of (shown y) → (u.settled ≡ size_of (shown u) → ⊥) → ⊥
+        not_still y is settled more = more (subst (λ (z : PageBlob S gs). z.settled ≡ size_of (shown z)) (same_some (w.journal.sections.held s) u y held is) settled)
+
+        flush_by : told → w.journal.unrecovered s ≡ false → (u.settled ≡ size_of (shown u) → ⊥) → Always a b (Each (Replaying seal size w (disk a)))
+        flush_by t free more = elim (proven_or_not w.journal s) [
           | inl proven ↦ moments_of seal size w (disk a) s small numbers reached a b
               (Leaves seal u.page_size (bytes_of (shown u) (disk a key).content) u.settled) refl (was.disk t).sealed (moments t ((was.disk t).sealed.sealed s u held proven))
               (λ x leaves. replaying_here seal size w (disk a) s small numbers reached x
               (λ y is also. subst (λ (z : PageBlob S gs). Leaves seal z.page_size (bytes_of (shown z) (disk a key).content) z.settled x) (sym (same_some (w.journal.sections.held s) u y held is)) leaves)
-              (λ y is owes. absurd (cc (owes, free))))
+              (λ y is owes. absurd (cc (owes, free))) (λ y is rest. absurd (not_still y is rest.0 more)))
           | inr not ↦ moments_of seal size w (disk a) s small numbers reached a b (λ x. Unit {0}) refl (was.disk t).sealed (alone t)
-              (λ x any. replaying_here seal size w (disk a) s small numbers reached x (λ y is proven. absurd (not proven)) (λ y is owes. absurd (cc (owes, free))))
+              (λ x any. replaying_here seal size w (disk a) s small numbers reached x (λ y is proven. absurd (not proven)) (λ y is owes. absurd (cc (owes, free))) (λ y is rest. absurd (not_still y is rest.0 more)))
+        ]
+
+        moments_by : told → (owes : Bool) → w.journal.unrecovered s ≡ owes → Always a b (Each (Replaying seal size w (disk a)))
+        moments_by t true owed = none_by t (was.walk.owes_settled.settled s u held owed)
+        moments_by t false free = elim (cases_eq u.settled (size_of (shown u))) [
+          | inl settled ↦ none_by t settled
+          | inr more ↦ flush_by t free more
         ]
 
     -- It was refused, and the section may be lost.
     pub begin_failed : (x : Error) → new.place ≡ None → new.ended ≡ w.ended → (new.journal.sections.held s ≡ None) ⊎ ((new.journal.sections.held s ≡ w.journal.sections.held s) × (b ≡ a))
         → HasFailed {T = Option (ℕ × ℕ × V)} (Err x) few many
         → Steps seal size g gives spelling accepted refusal told (Err x) w new before after a b few many
-    begin_failed x none_new ended lost cause = call_failed seal size g gives spelling accepted refusal told s w new before after a b few many called x lost none_new ahead_back (inr ended)
+    begin_failed x none_new ended lost cause = call_failed seal size g gives spelling accepted refusal told s w new before after a b few many called nearer_failed x lost none_new ahead_back (inr ended)
         (failed_other x x refl few many cause) (λ t k is. absurd (failed_sound x few many cause k is)) (λ t e is. absurd (failed_not_codec x few many cause e is)) (inr (inr cause))
+      where
+        nearer_failed : way_of new < way_of w
+        nearer_failed =
+            omega (arith, ap bytes_ahead none_new, ap bytes_ahead none, nearer_begun (sections_ahead w.next_section) (sections_ahead new.next_section) 0 (fewer_ahead s w.next_section new.next_section small ahead next_new) (omega arith))
 
     -- The replay stands at the section's first item, or at its start.
     module _ (v : PageBlob S gs) (held_new : new.journal.sections.held s ≡ Some v) (R : Reader) (first : ℕ) (first_is : first ≡ cond (w.journal.unrecovered s) 0 (first_of w s))
@@ -231,7 +247,24 @@ module _ {F S : Type 0} {gs : _} (seal : List ℕ → ℕ) (size : ℕ) (g : buf
       later t = later_one seal size s w new (disk a) (disk b) called.one t reached onward v held_new
           (λ y is proven x left. subst (λ (z : PageBlob S gs). Leaves seal z.page_size (bytes_of (shown z) (disk a key).content) z.settled x) (sym (same_some (w.journal.sections.held s) u y held is)) (flushed_leaves x left))
           (λ y is owes x may. subst (λ (z : PageBlob S gs). MayCut seal size z (w.journal.floor_of s) (disk a key) x) (sym (same_some (w.journal.sections.held s) u y held is)) (cut_leaves owes x may))
+          (λ y is rest. stays (subst (λ (z : PageBlob S gs). StaysStill seal size (w.journal.unrecovered s) z (disk a key)) (same_some (w.journal.sections.held s) u y held is) rest))
         where
+          stays : StaysStill seal size (w.journal.unrecovered s) u (disk a key) → StaysStill seal size (w.journal.unrecovered s) v (disk b key) × (disk b key ≡ disk a key)
+          stays rest =
+              let blob : disk b key ≡ disk a key = ap (λ (y : Timeline). disk y key) (idle rest.0) in (
+                (
+                  flush.settled ∙ rest.0 ∙ sym flush.size,
+                  elim rest.1 [
+                    | inl free ↦ inl free
+                    | inr none ↦ inr (record {
+                      sealed = (λ i. length (sealed_prefix seal (flush.page_size i) (blob i).content)) ∙ none.sealed ∙ sym flush.size;
+                      whole = ap (λ (n : ℕ). n % size) flush.size ∙ none.whole;
+                    })
+                  ],
+                ),
+                blob,
+              )
+
           flushed_leaves : (x : Blob) → Leaves seal v.page_size (bytes_of (shown v) (disk b key).content) v.settled x → Leaves seal u.page_size (bytes_of (shown u) (disk a key).content) u.settled x
           flushed_leaves x left =
               let paged : Leaves seal u.page_size (bytes_of (shown v) (disk b key).content) v.settled x = subst (λ (P : ℕ). Leaves seal P (bytes_of (shown v) (disk b key).content) v.settled x) flush.page_size left in
@@ -309,7 +342,13 @@ module _ {F S : Type 0} {gs : _} (seal : List ℕ → ℕ) (size : ℕ) (g : buf
       pub begin_begun : reads_of (after (key_of w.journal.sections s)) ≤ reads_of (before (key_of w.journal.sections s)) → Steps seal size g gives spelling accepted refusal told (Ok None) w new before after a b few many
       unfolding called
       begin_begun none_begun = call_passed seal size g gives spelling accepted refusal told s w new before after a b few many called v
-          (record { again = again; failed = only.failed; ended = ended; later = later }) (λ fine out at. absurd (out new_here)) onward nearer left kept_all new_in reads_here
+          (record {
+            again = again;
+            failed = only.failed;
+            ended = ended;
+            bytes = λ y is free. subst (λ (z : PageBlob S gs). HasSameBytes told z (disk a key) v (disk b key)) (sym (same_some (w.journal.sections.held s) u y held is)) (record { size = flush.size; settled = flush.settled; bytes = flush.bytes });
+            later = later;
+          }) (λ fine out at. absurd (out new_here)) onward nearer left kept_all new_in reads_here
         where
           new_here : IsIn new s
           new_here = subst (λ (o : Option Place). IsSomeAnd o (λ y. y.section ≡ s)) (sym place_new) refl

@@ -36,13 +36,13 @@ use Rattle.segments.specs.Sections.{Sections, key_of, IsHeld, IsKeyOf, HasOpened
 use Rattle.segments.specs.FixedItems.{item_at, IsItem}
 use Rattle.segments.specs.Refusing.{HasFailed}
 use Rattle.segments.specs.FixedReading.{HasNotRead, IsBelowFloor}
-use Rattle.segments.specs.FixedReplay.{Place, Walk, IsAhead, IsIn, IsReadWhole, IsLeft, SameWalk, IsWalk, WalksOver, StandsBefore, Gives, Refuses, Stops, Replaying, EndsBelow, FindsDamage, StandsIn, ReadsIn, kept_of, kept_bytes, first_of}
-use Rattle.segments.specs.FixedStepping.{standing, after_item, way_of, reads_left, ReadsOnce, GoesOn, Carries, EndsAt, Steps}
+use Rattle.segments.specs.FixedReplay.{Place, Walk, IsAhead, IsIn, IsReadWhole, IsLeft, SameWalk, IsWalk, WalksOver, StandsBefore, IsFromCovered, Gives, Refuses, Stops, Replaying, EndsBelow, FindsDamage, StandsIn, ReadsIn, kept_of, kept_bytes, first_of}
+use Rattle.segments.specs.FixedStepping.{standing, after_item, bytes_ahead, way_of, reads_left, ReadsOnce, GoesOn, Carries, EndsAt, Steps}
 use Rattle.segments.proofs.KeyLemmas.{keys_differ}
 use Rattle.segments.proofs.FixedCounts.{count_here, count_apart, count_same}
 use Rattle.segments.proofs.FixedKept.{covered_on, covered_length, item_kept, prefix_data, flushed_data}
 use Rattle.segments.proofs.FixedEnding.{ahead_from}
-use Rattle.segments.proofs.FixedWalks.{IsBehind, IsReached, is_some, same_some, none_in, left_later}
+use Rattle.segments.proofs.FixedWalks.{IsBehind, IsReached, is_some, same_some, same_bytes, none_in, left_later}
 use Rattle.segments.proofs.FixedWalksOn.{replaying_start}
 use Rattle.segments.proofs.FixedSteps.{Called, Answered, call_stopped, call_failed, call_ended, call_refused}
 
@@ -216,7 +216,7 @@ module _ {F S : Type 0} {gs : _} (seal : List ℕ → ℕ) (size : ℕ) (g : buf
     )
 
     replaying_read : (d : Disk) (q : Key) (x : Blob) → Replaying seal size (standing w on) d q x → Replaying seal size (standing w r) d q x
-    replaying_read d q x is = record { flushed = is.flushed; cut = is.cut; others = λ never. is.others (λ k. never (k.0, k.1, k.2)) }
+    replaying_read d q x is = record { flushed = is.flushed; cut = is.cut; still = is.still; others = λ never. is.others (λ k. never (k.0, k.1, k.2)) }
 
     -- each read took a page that was not read
     count_read : ReadsUnread r.reader more before after → (t : ℕ) → IsHeld w.journal.sections t
@@ -241,7 +241,12 @@ module _ {F S : Type 0} {gs : _} (seal : List ℕ → ℕ) (size : ℕ) (g : buf
       broken = step.broken;
       goes = goes_read result step.goes;
       same = record { bounds = step.same.bounds; unrecovered = step.same.unrecovered; floors = step.same.floors; section = step.same.section; position = step.same.position };
-      nearer = λ is. omega (arith, step.nearer is, same.size, same.at);
+      nearer = omega (arith, step.nearer, same.size, same.at);
+      bytes = λ q u v held now free. (let has = step.bytes q u v held now free in record {
+        size = has.size;
+        settled = has.settled;
+        bytes = λ t. subst (λ (d : Disk). bytes_of (shown v) (disk c (key_of w.journal.sections q)).content ≡ bytes_of (shown u) (d (key_of w.journal.sections q)).content) (same_disk t) (has.bytes t);
+      });
       carries = λ t is. (let has = subst (λ (d : Disk). Carries seal size (standing w on) new d (disk c)) (same_disk t) (step.carries t is) in record {
         left = λ q p. (λ l. (left_read (disk a) q p).0 ((has.left q p).0 l), λ l. (has.left q p).1 ((left_read (disk a) q p).1 l));
         kept = has.kept;
@@ -251,6 +256,7 @@ module _ {F S : Type 0} {gs : _} (seal : List ℕ → ℕ) (size : ℕ) (g : buf
         left = (left_read (disk a) q p).0 has.left;
         first = λ x y l. has.first x y ((left_read (disk a) x y).1 l);
         item = has.item;
+        covered = has.covered;
         rest = λ x y. (λ l. (let was = (has.rest x y).0 l in ((left_read (disk a) x y).0 was.0, was.1)), λ l. (has.rest x y).1 ((left_read (disk a) x y).1 l.0, l.1));
       });
       stops = λ t. stops_read t result (step.stops t);
@@ -265,6 +271,7 @@ module _ {F S : Type 0} {gs : _} (seal : List ℕ → ℕ) (size : ℕ) (g : buf
         left = (left_read (disk a) has.section has.position).0 has.left;
         first = λ x y l. has.first x y ((left_read (disk a) x y).1 l);
         refused = has.refused;
+        covered = has.covered;
         rest = λ x y. (λ l. (let was = (has.rest x y).0 l in ((left_read (disk a) x y).0 was.0, was.1)), λ l. (has.rest x y).1 ((left_read (disk a) x y).1 l.0, l.1));
       });
       ends = λ is. elim (step.ends is) [ inl end ↦ inl end | inr failed ↦ inr (elim failed [ inl damage ↦ inl damage | inr has ↦ inr (failed_since result few some many le has) ]) ];
@@ -358,15 +365,18 @@ module _ {F S : Type 0} {gs : _} (seal : List ℕ → ℕ) (size : ℕ) (g : buf
         faults = le;
       }
 
+      nearer_none : way_of w < way_of (standing w r)
+      nearer_none = omega (arith, ap bytes_ahead none)
+
       -- The section's reading failed.
       pub read_failed : (x : Error) → ((p : ℕ) → x ≡ ItemOutOfRange p → ⊥) → (told → (k : ℕ) → x ≡ Runtime (InvalidChecksum k) → FindsDamage seal size (standing w r) w (disk now) k)
           → (told → (e : codec.Error) → x ≡ Codec e → Refuses seal size refusal (standing w r) w (disk now) (disk now) e) → HasNotRead {T = Option (ℕ × ℕ × V)} (Err x) few many
           → Steps seal size g gives spelling accepted refusal told (Err x) (standing w r) w opened opened now now few many
-      read_failed x other found refuses cause = call_failed seal size g gives spelling accepted refusal told r.section (standing w r) w opened opened now now few many no_call x (inr (refl, refl)) none (λ t h. h) (inr refl) other found refuses cause
+      read_failed x other found refuses cause = call_failed seal size g gives spelling accepted refusal told r.section (standing w r) w opened opened now now few many no_call nearer_none x (inr (refl, refl)) none (λ t h. h) (inr refl) other found refuses cause
 
       -- Its whole items end below its floor.
       pub floor_refused : (x : Damage) → (told → EndsBelow seal size (standing w r) (disk now) x) → x.section ≡ r.section → Steps seal size g gives spelling accepted refusal told (Err (Corruption x)) (standing w r) w opened opened now now few many
-      floor_refused x below at = call_stopped seal size g gives spelling accepted refusal told r.section (standing w r) w opened opened now now few many no_call (Corruption x) (inr (refl, refl)) none (λ t h. h) (inr refl) (λ p is. absurd (cc is))
+      floor_refused x below at = call_stopped seal size g gives spelling accepted refusal told r.section (standing w r) w opened opened now now few many no_call nearer_none (Corruption x) (inr (refl, refl)) none (λ t h. h) (inr refl) (λ p is. absurd (cc is))
           (λ t y is. (let same : x ≡ y = cc is in subst (λ (z : Damage). EndsBelow seal size (standing w r) (disk now) z × (IsAhead (standing w r) z.section ⊎ IsIn (standing w r) z.section)) same (below t, inr (sym at))))
           (λ t k is. absurd (cc is)) (λ t e is. absurd (cc is)) (inl (x, refl))
 
@@ -387,7 +397,8 @@ module _ {F S : Type 0} {gs : _} (seal : List ℕ → ℕ) (size : ℕ) (g : buf
             };
             failed = refl;
             ended = refl;
-            later = λ t q x is. record { flushed = is.flushed; cut = is.cut; others = λ never. is.others (λ k. absurd_near never k.0 k.1.0 k.1.1 k.2) };
+            bytes = λ u held free. same_bytes told u h.0 (disk now (key_of w.journal.sections r.section)) (disk now (key_of w.journal.sections r.section)) (same_some (w.journal.sections.held r.section) u h.0 held h.1) (λ t. refl);
+            later = λ t q x is. record { flushed = is.flushed; cut = is.cut; still = is.still; others = λ never. is.others (λ k. absurd_near never k.0 k.1.0 k.1.1 k.2) };
           }
         where
           absurd_near : {q : Key} → (IsKeyOf w.journal.sections (λ s. IsHeld w.journal.sections s × (IsAhead w s ⊎ IsIn (standing w r) s)) q → ⊥) → (s : ℕ) → IsHeld w.journal.sections s → IsAhead w s ⊎ IsIn w s → q ≡ key_of w.journal.sections s → ⊥
@@ -496,11 +507,19 @@ module _ {F S : Type 0} {gs : _} (seal : List ℕ → ℕ) (size : ℕ) (g : buf
           },
         );
         kept = λ s h. refl;
-        later = λ q x is. record { flushed = is.flushed; cut = is.cut; others = λ never. is.others (λ k. never (k.0, k.1, k.2)) };
+        later = λ q x is. record { flushed = is.flushed; cut = is.cut; still = is.still; others = λ never. is.others (λ k. never (k.0, k.1, k.2)) };
       }
 
       left_item : w.ended ≡ false → first_of w r.section ≤ r.position → told → IsLeft seal size (standing w r) (disk now) r.section r.position
       left_item going first t = record { goes_on = going; begun = first; whole = whole_item t; ahead = inr (refl, omega arith) }
+
+      covered_item : told → IsFromCovered seal size w (disk now) r.section r.position
+      covered_item t =
+          let h = here r opened (disk now) was in
+          let c = (disk now (key_of w.journal.sections r.section)).content in
+          let covers : IsCovered seal h.0.page_size c r.reader.at (length r.reader.bytes) = subst (λ (P : ℕ). IsCovered seal P c r.reader.at (length r.reader.bytes)) h.2.page_size (reads_here r opened (disk now) was t).replays.covered in
+          some_and (λ (v : PageBlob S gs). IsCovered seal v.page_size c (r.position * size) size) (w.journal.sections.held r.section) h.0 h.1 (λ k wanted.
+          omega (arith, h.2.at, has, covers k (record { some = omega (arith, pos, has); low = omega (arith, wanted.low, h.2.at); high = omega (arith, wanted.high, h.2.at, has) })))
 
       first_item : (x q : ℕ) → IsLeft seal size (standing w r) (disk now) x q → StandsBefore x q r.section r.position → ⊥
       first_item x q l before = elim l.ahead [
@@ -520,6 +539,7 @@ module _ {F S : Type 0} {gs : _} (seal : List ℕ → ℕ) (size : ℕ) (g : buf
           left = left_item going first t;
           first = first_item;
           item = subst (λ (bytes : List ℕ). IsItem spelling accepted bytes v) (bytes_item adopt t) item;
+          covered = covered_item t;
           rest = λ x q. (
             λ l. elim l.ahead [
               | inl a ↦ (record { goes_on = l.goes_on; begun = l.begun; whole = l.whole; ahead = inl a }, inl (ahead_here x a.1))
@@ -544,6 +564,7 @@ module _ {F S : Type 0} {gs : _} (seal : List ℕ → ℕ) (size : ℕ) (g : buf
           left = left_item going first t;
           first = first_item;
           refused = ap (λ (bytes : List ℕ). refusal bytes tt) (sym (bytes_item adopt t)) ∙ is;
+          covered = covered_item t;
           rest = left_later seal size r.section (standing w r) w (disk now) (disk now) call.one call.behind none t refl;
         })
 
@@ -567,7 +588,8 @@ module _ {F S : Type 0} {gs : _} (seal : List ℕ → ℕ) (size : ℕ) (g : buf
               broken = tt;
               goes = goes_item;
               same = same_walk;
-              nearer = λ is. nearer_item;
+              nearer = nearer_item;
+              bytes = λ q u v held now_held free. same_bytes told u v (disk now (key_of w.journal.sections q)) (disk now (key_of w.journal.sections q)) (same_some (w.journal.sections.held q) u v held now_held) (λ t. refl);
               carries = λ t is. passed_item (skipped is);
               item = λ t s p v is. (let f = given s p v is in
                   subst (λ (x : ℕ). Gives seal size spelling accepted (standing w r) (standing w (after_item size r)) (disk now) (disk now) x p v) (sym f.0)

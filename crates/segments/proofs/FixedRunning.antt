@@ -1,5 +1,5 @@
 -- A replay of a fixed journal after some steps that gave nothing: what one more answers, from where the first began.
-use Rattle.std.specs.Prelude.{◌≡◌, ◌⊎◌, ℕ, ◌+◌, ◌*◌, ◌/◌, ◌<◌, ◌≤◌, true, List, length, IsSomeAnd, Option, None, Some, Result, Ok, Err, OnOk, OnErr}
+use Rattle.std.specs.Prelude.{◌≡◌, ◌⊎◌, ℕ, ◌+◌, ◌*◌, ◌/◌, ◌<◌, ◌≤◌, Bool, true, false, List, length, IsSomeAnd, Option, None, Some, Result, Ok, Err, OnOk, OnErr}
 use Rattle.std.specs.Result.{IsErrOf}
 use Rattle.std.proofs.Common.{inl, inr, refl, sym, ◌∙◌, ap, subst, arith}
 use Rattle.blob_device.specs.Disk.{Key, Disk}
@@ -7,6 +7,8 @@ use Rattle.blob_device.specs.Opened.{OpenedList, reads_of}
 use Rattle.blob_device.specs.Timeline.{Timeline, disk, Always, Each}
 use Rattle.blob_device.proofs.Moments.{always_start, always_then, always_weaker}
 use Rattle.sealed_pages.specs.declared.page_blob.PageBlob.{PageBlob}
+use Rattle.sealed_pages.specs.Shown.{shown}
+use Rattle.sealed_pages.specs.Buffer.{size_of, bytes_of}
 use Rattle.value_codec.specs.declared.codec.Error as codec
 use Rattle.segments.specs.declared.buffer.SectionBuffer as buffer
 use Rattle.segments.specs.declared.journal.Error.{Error}
@@ -18,10 +20,13 @@ use Rattle.segments.specs.Sections.{section_key, key_of, IsHeld, IsKeyOf}
 use Rattle.segments.specs.FixedItems.{item_at, IsItem}
 use Rattle.segments.specs.Refusing.{HasFailed, HasDamage}
 use Rattle.segments.specs.FixedReading.{HasNotRead, IsBelowFloor}
-use Rattle.segments.specs.FixedReplay.{Place, Walk, IsAhead, IsIn, IsLeft, IsDrained, SameWalk, IsWalk, Gives, Refuses, Stops, Replaying, EndsBelow, FindsDamage, kept_bytes}
-use Rattle.segments.specs.FixedStepping.{failing, reads_left, ReadsOnce, GoesOn, Carries, Steps}
+use Rattle.segments.specs.FixedReplay.{Place, Walk, IsAhead, IsIn, IsLeft, IsDrained, SameWalk, KeepsBytes, HasWalk, IsWalk, Gives, Refuses, Stops, Replaying, EndsBelow, FindsDamage, kept_bytes}
+use Rattle.segments.specs.FixedStepping.{failing, way_of, reads_left, ReadsOnce, GoesOn, Carries, Steps}
 use Rattle.segments.proofs.FixedReading.{not_read_since, failed_since}
-use Rattle.segments.proofs.FixedWalks.{none_in}
+use Rattle.segments.specs.Sealed.{is_unsettled}
+use Rattle.segments.specs.SealedLaws.{all_settled}
+use Rattle.segments.proofs.FixedWalks.{is_some, same_some, some_of, same_bytes, none_in}
+use Rattle.segments.proofs.FixedWriteLemmas.{settled_idle}
 use Rattle.segments.proofs.FixedWalksOn.{replaying_start}
 
 module _ {F S : Type 0} {gs : _} (seal : List ℕ → ℕ) (size : ℕ) (g : buffer.Ghosts (PageBlob S gs)) (gives : F → Setting) {told : Type 0} {w v : Walk F (PageBlob S gs)} where
@@ -43,6 +48,15 @@ pub err_at : {T E P : Type 0} (r : Result T E) (x : E) → r ≡ Err x → OnErr
 err_at (Ok y) x is has = absurd (cc is)
 err_at (Err y) x is has = has
 
+-- What had nothing unsettled has nothing unsettled: its bytes are the same, or it owes a replay.
+pub idle_after : {F S : Type 0} {gs : _} (size : ℕ) (told : Type 0) (old new : Walk F (PageBlob S gs)) (d e : Disk) → HasWalk size new → SameWalk old new → KeepsBytes told old new d e
+    → (s : ℕ) (u v : PageBlob S gs) → old.journal.sections.held s ≡ Some u → new.journal.sections.held s ≡ Some v → is_unsettled (shown u) ≡ false → is_unsettled (shown v) ≡ false
+idle_after size told old new d e walk same keeps s u v was now idle = go (old.journal.unrecovered s) refl
+  where
+    go : (owes : Bool) → old.journal.unrecovered s ≡ owes → is_unsettled (shown v) ≡ false
+    go true owed = settled_idle v.settled (size_of (shown v)) (walk.owes_settled.settled s v now (same.unrecovered s ∙ owed))
+    go false free = (let has = keeps s u v was now free in settled_idle v.settled (size_of (shown v)) (has.settled ∙ all_settled (shown u) idle ∙ sym has.size))
+
 -- an error of one call is one of another
 other_result : {T U : Type 0} (r : Result T Error) (x : Error) → r ≡ Err x → (few many : ℕ) → HasNotRead r few many → HasNotRead {T = U} (Err x) few many
 other_result r x is few many has = elim has [
@@ -59,6 +73,8 @@ module _ {F S : Type 0} {gs : _} (seal : List ℕ → ℕ) (size : ℕ) (g : buf
     pub over : IsWalk g gives seal size told now opened (disk t)
     pub goes : GoesOn old now
     pub same : SameWalk old now
+    pub nearer : way_of now ≤ way_of old
+    pub bytes : KeepsBytes told old now (disk a) (disk t)
     pub carries : told → Carries seal size old now (disk a) (disk t)
     pub moments : told → Always a t (Each (Replaying seal size old (disk a)))
     pub entries : (q : Key) → (IsKeyOf old.journal.sections (λ s. IsHeld old.journal.sections s × (IsAhead old s ⊎ IsIn old s)) q → ⊥) → opened q ≡ before q
@@ -70,6 +86,8 @@ module _ {F S : Type 0} {gs : _} (seal : List ℕ → ℕ) (size : ℕ) (g : buf
     over = was;
     goes = record { failed = refl; ended = refl; held = λ s. (λ h. h, λ h. h); onward = λ s h. h };
     same = record { bounds = record { place = record { partition = refl; factory = refl }; floor = refl; ceiling = refl }; unrecovered = λ s. refl; floors = λ s. refl; section = refl; position = refl };
+    nearer = omega arith;
+    bytes = λ s u v held also free. same_bytes told u v (disk a (key_of old.journal.sections s)) (disk a (key_of old.journal.sections s)) (same_some (old.journal.sections.held s) u v held also) (λ t. refl);
     carries = λ t. record { left = λ s q. (λ l. l, λ l. l); kept = λ s h. refl; later = λ q x is. is };
     moments = λ t. always_start a (Each (Replaying seal size old (disk a))) (λ q. replaying_start seal size old (disk a) (was.disk t).sealed q);
     entries = λ q never. refl;
@@ -112,6 +130,21 @@ module _ {F S : Type 0} {gs : _} (seal : List ℕ → ℕ) (size : ℕ) (g : buf
       pub same_after : SameWalk old new
       same_after = same_then new step.same
 
+      pub nearer_after : way_of new < way_of old
+      nearer_after = omega (arith, run.nearer, step.nearer)
+
+      pub bytes_after : KeepsBytes told old new (disk a) (disk c)
+      bytes_after s u v held now_held free =
+          let x = some_of (now.journal.sections.held s) ((run.goes.held s).1 (is_some (old.journal.sections.held s) u held)) in
+          let first = run.bytes s u x.0 held x.1 free in
+          let more = step.bytes s x.0 v x.1 now_held (run.same.unrecovered s ∙ free) in
+          let key : key_of now.journal.sections s ≡ key_of old.journal.sections s = ap (λ (p : List ℕ). section_key p s) run.same.bounds.place.partition in
+          record {
+            size = more.size ∙ first.size;
+            settled = more.settled ∙ first.settled;
+            bytes = λ t. subst (λ (k : Key). bytes_of (shown v) (disk c k).content ≡ bytes_of (shown x.0) (disk b k).content) key (more.bytes t) ∙ first.bytes t;
+          }
+
       pub moments_after : told → Always a c (Each (Replaying seal size old (disk a)))
       moments_after t = always_then a b c (Each (Replaying seal size old (disk a))) (run.moments t)
           (always_weaker b c (Each (Replaying seal size now (disk b))) (Each (Replaying seal size old (disk a))) (λ x each q. (run.carries t).later q (x q) (each q)) (step.moments t))
@@ -142,6 +175,8 @@ module _ {F S : Type 0} {gs : _} (seal : List ℕ → ℕ) (size : ℕ) (g : buf
         over = ok_of result is step.over;
         goes = goes_then (ok_of result is step.goes);
         same = same_after;
+        nearer = omega (arith, nearer_after);
+        bytes = bytes_after;
         carries = λ t. (let more = step.carries t is in let onward = (ok_of result is step.goes).onward in record {
           left = λ s q. (λ l. ((run.carries t).left s q).0 ((more.left s q).0 l), λ l. (more.left s q).1 (((run.carries t).left s q).1 l));
           kept = λ s near. more.kept s near ∙ (run.carries t).kept s (onward s near);
@@ -169,6 +204,7 @@ module _ {F S : Type 0} {gs : _} (seal : List ℕ → ℕ) (size : ℕ) (g : buf
         left = (run_left s p).0 has.left;
         first = λ x q l. has.first x q ((run_left x q).1 l);
         item = subst (λ (bytes : List ℕ). IsItem spelling accepted (item_at size bytes p) v) ((run.carries t).kept s (near_of s p has.left)) has.item;
+        covered = has.covered;
         rest = λ x q. (λ l. (let k = (has.rest x q).0 l in ((run_left x q).0 k.0, k.1)), λ l. (has.rest x q).1 ((run_left x q).1 l.0, l.1));
       }
 
@@ -203,6 +239,7 @@ module _ {F S : Type 0} {gs : _} (seal : List ℕ → ℕ) (size : ℕ) (g : buf
         left = (run_left has.section has.position).0 has.left;
         first = λ y q l. has.first y q ((run_left y q).1 l);
         refused = subst (λ (bytes : List ℕ). refusal (item_at size bytes has.position) tt ≡ Some e) ((run.carries t).kept has.section (near_of has.section has.position has.left)) has.refused;
+        covered = has.covered;
         rest = λ y q. (
           λ l. (let k = (has.rest y q).0 (record { goes_on = l.goes_on; begun = l.begun; whole = l.whole; ahead = l.ahead }) in ((run_left y q).0 k.0, k.1)),
           λ l. (let k = (has.rest y q).1 ((run_left y q).1 l.0, l.1) in record { goes_on = k.goes_on; begun = k.begun; whole = k.whole; ahead = k.ahead }),

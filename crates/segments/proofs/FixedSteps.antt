@@ -18,12 +18,12 @@ use Rattle.segments.specs.Setting.{Setting}
 use Rattle.segments.specs.Sections.{key_of, IsHeld, IsKeyOf, IsOver}
 use Rattle.segments.specs.Refusing.{HasFailed, HasDamage}
 use Rattle.segments.specs.FixedReading.{HasNotRead, IsBelowFloor}
-use Rattle.segments.specs.FixedReplay.{Place, Walk, IsAhead, IsIn, IsLeft, IsWalk, Refuses, Replaying, EndsBelow, FindsDamage, kept_bytes}
+use Rattle.segments.specs.FixedReplay.{Place, Walk, IsAhead, IsIn, IsLeft, HasSameBytes, KeepsBytes, IsWalk, Refuses, Replaying, EndsBelow, FindsDamage, kept_bytes}
 use Rattle.segments.specs.FixedStepping.{word, sections_ahead, bytes_ahead, way_of, reads_left, ReadsOnce, GoesOn, Steps}
 use Rattle.segments.proofs.KeyLemmas.{keys_differ}
 use Rattle.segments.proofs.FixedCounts.{count_other, count_over}
 use Rattle.segments.proofs.FixedKept.{short_item}
-use Rattle.segments.proofs.FixedWalks.{OnlyOne, IsBehind, IsReached, is_some, none_in, key_new, blob_other, held_back, held_on, kept_other, not_ahead, not_near, left_later, left_all}
+use Rattle.segments.proofs.FixedWalks.{OnlyOne, IsBehind, IsReached, is_some, same_some, same_bytes, none_in, key_new, blob_other, held_back, held_on, kept_other, not_ahead, not_near, left_later, left_all}
 use Rattle.segments.proofs.FixedWalksOn.{walk_broken, IsKnownAgain, walk_on, walk_refused}
 
 -- an error of a reading is none of a floor
@@ -58,19 +58,22 @@ module _ {F S V : Type 0} {gs : _} (seal : List ℕ → ℕ) (size : ℕ) (g : b
     ahead_back t small ahead = ((call.behind.ahead t small).0 ahead).0
 
     -- An error was answered; the section may be lost.
-    pub call_stopped : (x : Error) → (new.journal.sections.held s ≡ None) ⊎ ((new.journal.sections.held s ≡ old.journal.sections.held s) × (b ≡ a)) → new.place ≡ None
+    pub call_stopped : way_of new < way_of old → (x : Error) → (new.journal.sections.held s ≡ None) ⊎ ((new.journal.sections.held s ≡ old.journal.sections.held s) × (b ≡ a)) → new.place ≡ None
         → ((t : ℕ) → IsAhead new t → IsAhead old t)
         → ((new.ended ≡ true) × ((HasDamage {T = Option (ℕ × ℕ × V)} (Err x) × (told → ⊥)) ⊎ HasFailed {T = Option (ℕ × ℕ × V)} (Err x) few many)) ⊎ (new.ended ≡ old.ended) → ((p : ℕ) → x ≡ ItemOutOfRange p → ⊥)
         → (told → (y : Damage) → x ≡ Corruption y → EndsBelow seal size old (disk a) y × (IsAhead old y.section ⊎ IsIn old y.section))
         → (told → (k : ℕ) → x ≡ Runtime (InvalidChecksum k) → FindsDamage seal size old new (disk b) k) → (told → (e : codec.Error) → x ≡ Codec e → Refuses seal size refusal old new (disk a) (disk b) e)
         → IsBelowFloor {T = Option (ℕ × ℕ × V)} (Err x) ⊎ HasNotRead {T = Option (ℕ × ℕ × V)} (Err x) few many
         → Steps seal size g gives spelling accepted refusal told (Err x) old new before after a b few many
-    call_stopped x lost none onward ended other below found refuses cause = record {
+    call_stopped nearer x lost none onward ended other below found refuses cause = record {
       over = tt;
       broken = walk_broken seal size g gives old new before after (disk a) (disk b) call.was call.over call.one.same kept none onward call.from;
       goes = tt;
       same = call.one.same;
-      nearer = λ is. absurd (cc is);
+      nearer = nearer;
+      bytes = λ q u v was now free. (let back = kept q v now in
+          same_bytes told u v (disk a (key_of old.journal.sections q)) (disk b (key_of old.journal.sections q)) (same_some (old.journal.sections.held q) u v was back.0)
+          (λ t. ap (disk b) (sym (key_new seal size s old new (disk a) (disk b) call.one q)) ∙ back.1 t));
       carries = λ t is. absurd (cc is);
       item = λ t q p v is. absurd (cc is);
       stops = λ t. record {
@@ -108,23 +111,35 @@ module _ {F S V : Type 0} {gs : _} (seal : List ℕ → ℕ) (size : ℕ) (g : b
         ]
 
     -- It says nothing of a floor.
-    pub call_failed : (x : Error) → (new.journal.sections.held s ≡ None) ⊎ ((new.journal.sections.held s ≡ old.journal.sections.held s) × (b ≡ a)) → new.place ≡ None
+    pub call_failed : way_of new < way_of old → (x : Error) → (new.journal.sections.held s ≡ None) ⊎ ((new.journal.sections.held s ≡ old.journal.sections.held s) × (b ≡ a)) → new.place ≡ None
         → ((t : ℕ) → IsAhead new t → IsAhead old t)
         → ((new.ended ≡ true) × ((HasDamage {T = Option (ℕ × ℕ × V)} (Err x) × (told → ⊥)) ⊎ HasFailed {T = Option (ℕ × ℕ × V)} (Err x) few many)) ⊎ (new.ended ≡ old.ended) → ((p : ℕ) → x ≡ ItemOutOfRange p → ⊥)
         → (told → (k : ℕ) → x ≡ Runtime (InvalidChecksum k) → FindsDamage seal size old new (disk b) k) → (told → (e : codec.Error) → x ≡ Codec e → Refuses seal size refusal old new (disk a) (disk b) e)
         → HasNotRead {T = Option (ℕ × ℕ × V)} (Err x) few many → Steps seal size g gives spelling accepted refusal told (Err x) old new before after a b few many
-    call_failed x lost none onward ended other found refuses cause = call_stopped x lost none onward ended other (λ t y is. absurd (not_below x few many cause y is)) found refuses (inr cause)
+    call_failed nearer x lost none onward ended other found refuses cause = call_stopped nearer x lost none onward ended other (λ t y is. absurd (not_below x few many cause y is)) found refuses (inr cause)
 
     -- The call succeeded, and the section is held again.
     pub record Answered (v : PageBlob S gs) : Type 0 where
       pub again : IsKnownAgain seal size g gives old new before after (disk a) (disk b) call.was s v
       pub failed : new.failed ≡ old.failed
       pub ended : new.ended ≡ old.ended
+      pub bytes : (u : PageBlob S gs) → old.journal.sections.held s ≡ Some u → old.journal.unrecovered s ≡ false → HasSameBytes told u (disk a (key_of old.journal.sections s)) v (disk b (key_of old.journal.sections s))
       pub later : told → (q : Key) (x : Blob) → Replaying seal size new (disk b) q x → Replaying seal size old (disk a) q x
 
     module _ (v : PageBlob S gs) (answer : Answered v) where
       ends : new.ended ≡ true → new.failed ≡ true
       ends is = answer.failed ∙ call.was.walk.ends (sym answer.ended ∙ is)
+
+      keeps_bytes : KeepsBytes told old new (disk a) (disk b)
+      keeps_bytes q u x was now free = elim (cases_eq q s) [
+        | inl at ↦
+            let same : x ≡ v = same_some (new.journal.sections.held s) v x answer.again.held (subst (λ (k : ℕ). new.journal.sections.held k ≡ Some x) at now) in
+            let there = answer.bytes u (subst (λ (k : ℕ). old.journal.sections.held k ≡ Some u) at was) (subst (λ (k : ℕ). old.journal.unrecovered k ≡ false) at free) in
+            subst (λ (k : ℕ). HasSameBytes told u (disk a (key_of old.journal.sections k)) x (disk b (key_of old.journal.sections k))) (sym at)
+            (subst (λ (y : PageBlob S gs). HasSameBytes told u (disk a (key_of old.journal.sections s)) y (disk b (key_of old.journal.sections s))) (sym same) there)
+        | inr other ↦ same_bytes told u x (disk a (key_of old.journal.sections q)) (disk b (key_of old.journal.sections q)) (same_some (old.journal.sections.held q) u x was (sym (call.one.others q other).held ∙ now))
+            (λ t. call.one.blobs t (key_of old.journal.sections q) (keys_differ old.journal.sections.partition q s (call.one.numbers q (is_some (old.journal.sections.held q) u was)) call.one.small other))
+      ]
 
       -- A start in the section is within it.
       abbrev pub StartsIn : Type 0
@@ -155,7 +170,8 @@ module _ {F S V : Type 0} {gs : _} (seal : List ℕ → ℕ) (size : ℕ) (g : b
         broken = tt;
         goes = goes_on onward;
         same = call.one.same;
-        nearer = λ is. nearer;
+        nearer = nearer;
+        bytes = keeps_bytes;
         carries = λ t is. record { left = left t; kept = kept t; later = answer.later t };
         item = λ t q p w is. absurd (cc is);
         stops = λ t. tt;
@@ -217,7 +233,8 @@ module _ {F S V : Type 0} {gs : _} (seal : List ℕ → ℕ) (size : ℕ) (g : b
           broken = walk_refused seal size g gives old new before after (disk a) (disk b) call.was s v call.one call.behind answer.again call.over call.from none;
           goes = tt;
           same = call.one.same;
-          nearer = λ is. absurd (cc is);
+          nearer = nearer_end;
+          bytes = keeps_bytes;
           carries = λ t is. absurd (cc is);
           item = λ t q p w is. absurd (cc is);
           stops = λ t. record { rest = inr (s, left_later seal size s old new (disk a) (disk b) call.one call.behind none t answer.ended) };

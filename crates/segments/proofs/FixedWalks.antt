@@ -1,16 +1,16 @@
 -- A replay of a fixed journal, where one of its sections changed: what is left, what a crash may leave, and that it is a replay again.
-use Rattle.std.specs.Prelude.{◌≡◌, ◌≢◌, ◌⊎◌, ◌↔◌, ℕ, ◌*◌, ◌/◌, ◌^◌, ◌<◌, ◌≤◌, eqb, cond, false, List, length, IsTrue, IsSomeAnd, Option, None, Some, IsSome}
+use Rattle.std.specs.Prelude.{◌≡◌, ◌≢◌, ◌⊎◌, ◌↔◌, ℕ, ◌*◌, ◌/◌, ◌^◌, ◌<◌, ◌≤◌, eqb, cond, Bool, false, List, length, IsTrue, IsSomeAnd, Option, None, Some, IsSome}
 use Rattle.std.proofs.Common.{inl, inr, refl, sym, ◌∙◌, ap, subst, arith}
 use Rattle.std.proofs.lemmas.Bool.{cases_eq}
 use Rattle.blob_device.specs.Disk.{Key, Blob, Disk}
 use Rattle.sealed_pages.specs.declared.page_blob.PageBlob.{PageBlob}
 use Rattle.sealed_pages.specs.Shown.{shown}
-use Rattle.sealed_pages.specs.Buffer.{bytes_of}
+use Rattle.sealed_pages.specs.Buffer.{size_of, bytes_of}
 use Rattle.sealed_pages.specs.ChanceSeal.{Leaves}
 use Rattle.sealed_pages.specs.SealedPrefix.{sealed_prefix}
 use Rattle.segments.specs.Sections.{section_key, key_of, IsHeld, IsKeyOf, IsSame}
 use Rattle.segments.specs.FixedLists.{IsProven}
-use Rattle.segments.specs.FixedReplay.{Place, Walk, IsAhead, IsIn, IsReadWhole, IsLeft, first_of, kept_of, kept_bytes, SameWalk, Replaying}
+use Rattle.segments.specs.FixedReplay.{Place, Walk, IsAhead, IsIn, IsReadWhole, IsLeft, first_of, kept_of, kept_bytes, SameWalk, HasSameBytes, StaysStill, Replaying}
 use Rattle.segments.proofs.KeyLemmas.{keys_differ}
 
 pub some_of : {A : Type 0} → (o : Option A) → IsSome o → (v : A) × (o ≡ Some v)
@@ -26,6 +26,14 @@ same_some o u v is also = cc (is, also)
 pub none_in : {A : Type 0} → (o : Option A) (P : A → Type 0) → o ≡ None → IsSomeAnd o P → ⊥
 none_in None P is has = has
 none_in (Some v) P is has = cc is
+
+-- the same buffer has the same bytes
+pub same_bytes : {S : Type 0} {gs : _} (told : Type 0) (u v : PageBlob S gs) (b c : Blob) → v ≡ u → (told → c ≡ b) → HasSameBytes told u b v c
+same_bytes {S = S} {gs = gs} told u v b c same blob = record {
+  size = ap (λ (x : PageBlob S gs). size_of (shown x)) same;
+  settled = ap (λ (x : PageBlob S gs). x.settled) same;
+  bytes = λ t. (let at = blob t in λ i. bytes_of (shown (same i)) (at i).content);
+}
 
 -- Of a section that owes a replay a crash may leave this: it is as before, or has a prefix of its sealed prefix with all whole items of it,
 -- and these reach its floor.
@@ -161,8 +169,10 @@ module _ {F S : Type 0} {gs : _} (seal : List ℕ → ℕ) (size : ℕ) where
         → ((u : PageBlob S gs) → old.journal.sections.held s ≡ Some u → IsProven old.journal s → (b : Blob)
         → Leaves seal v.page_size (bytes_of (shown v) (e (key_of old.journal.sections s)).content) v.settled b → Leaves seal u.page_size (bytes_of (shown u) (d (key_of old.journal.sections s)).content) u.settled b)
         → ((u : PageBlob S gs) → old.journal.sections.held s ≡ Some u → IsTrue (old.journal.unrecovered s) → (b : Blob) → MayCut seal size v (old.journal.floor_of s) (e (key_of old.journal.sections s)) b → MayCut seal size u (old.journal.floor_of s) (d (key_of old.journal.sections s)) b)
+        → ((u : PageBlob S gs) → old.journal.sections.held s ≡ Some u → StaysStill seal size (old.journal.unrecovered s) u (d (key_of old.journal.sections s))
+        → StaysStill seal size (old.journal.unrecovered s) v (e (key_of old.journal.sections s)) × (e (key_of old.journal.sections s) ≡ d (key_of old.journal.sections s)))
         → (q : Key) (b : Blob) → Replaying seal size new e q b → Replaying seal size old d q b
-    later_one tells reached onward v held flush cuts q b rep = record { flushed = flushed; cut = cut; others = others }
+    later_one tells reached onward v held flush cuts stays q b rep = record { flushed = flushed; cut = cut; still = still; others = others }
       where
         flushed : (t : ℕ) (u : PageBlob S gs) → old.journal.sections.held t ≡ Some u → IsProven old.journal t → q ≡ key_of old.journal.sections t
             → Leaves seal u.page_size (bytes_of (shown u) (d q).content) u.settled b
@@ -193,6 +203,23 @@ module _ {F S : Type 0} {gs : _} (seal : List ℕ → ℕ) (size : ℕ) where
               let same : e q ≡ d q = ap e here ∙ sym (ap e (key_new t)) ∙ blob_other tells t other (is_some (old.journal.sections.held t) u is) ∙ sym (ap d here) in
               subst (λ (n : ℕ). MayCut seal size u n (d q) b) (one.same.floors t) (subst (λ (x : Blob). MayCut seal size u (new.journal.floor_of t) x b) same
               (rep.cut t u ((one.others t other).held ∙ is) (subst IsTrue (sym (one.same.unrecovered t)) owed) (here ∙ sym (key_new t))))
+        ]
+
+        still : (t : ℕ) (u : PageBlob S gs) → old.journal.sections.held t ≡ Some u → StaysStill seal size (old.journal.unrecovered t) u (d q) → q ≡ key_of old.journal.sections t → b ≡ d q
+        still t u is rest here = elim (cases_eq t s) [
+          | inl at ↦
+              let key : q ≡ key_of old.journal.sections s = here ∙ ap (key_of old.journal.sections) at in
+              let rest_s : StaysStill seal size (old.journal.unrecovered s) u (d (key_of old.journal.sections s)) =
+              subst (λ (k : Key). StaysStill seal size (old.journal.unrecovered s) u (d k)) key (subst (λ (k : ℕ). StaysStill seal size (old.journal.unrecovered k) u (d q)) at rest) in
+              let now = stays u (subst (λ (k : ℕ). old.journal.sections.held k ≡ Some u) at is) rest_s in
+              let rest_v : StaysStill seal size (new.journal.unrecovered s) v (e q) =
+              subst (λ (o : Bool). StaysStill seal size o v (e q)) (sym (one.same.unrecovered s)) (subst (λ (k : Key). StaysStill seal size (old.journal.unrecovered s) v (e k)) (sym key) now.0) in
+              rep.still s v held rest_v (key ∙ sym (key_new s)) ∙ ap e key ∙ now.1 ∙ sym (ap d key)
+          | inr other ↦
+              let same : e q ≡ d q = ap e here ∙ sym (ap e (key_new t)) ∙ blob_other tells t other (is_some (old.journal.sections.held t) u is) ∙ sym (ap d here) in
+              let rest_new : StaysStill seal size (new.journal.unrecovered t) u (e q) =
+              subst (λ (x : Blob). StaysStill seal size (new.journal.unrecovered t) u x) (sym same) (subst (λ (o : Bool). StaysStill seal size o u (d q)) (sym (one.same.unrecovered t)) rest) in
+              rep.still t u ((one.others t other).held ∙ is) rest_new (here ∙ sym (key_new t)) ∙ same
         ]
 
         held_new : (t : ℕ) → IsHeld new.journal.sections t → IsHeld old.journal.sections t

@@ -16,7 +16,7 @@ use Rattle.segments.specs.declared.buffer.SectionBuffer as buffer
 use Rattle.segments.specs.Setting.{Setting}
 use Rattle.segments.specs.Sections.{key_of, IsHeld, IsOver}
 use Rattle.segments.specs.FixedLists.{AreSealed, IsProven}
-use Rattle.segments.specs.FixedReplay.{Place, Walk, IsAhead, IsIn, IsReadWhole, SameWalk, StandsIn, ReadsIn, IsGoneOver, HasWalk, WalksOver, IsWalk, Replaying}
+use Rattle.segments.specs.FixedReplay.{Place, Walk, IsAhead, IsIn, IsReadWhole, SameWalk, StandsIn, ReadsIn, IsGoneOver, HasWalk, WalksOver, IsWalk, StaysStill, Replaying}
 use Rattle.segments.specs.FixedStepping.{failing}
 use Rattle.segments.proofs.KeyLemmas.{key_injective}
 use Rattle.segments.proofs.FixedWalks.{OnlyOne, IsBehind, IsReached, MayCut, is_some, same_some, none_in, blob_other, held_on, reads_back}
@@ -31,6 +31,7 @@ module _ {F S : Type 0} {gs : _} (seal : List ℕ → ℕ) (size : ℕ) where
           (let left = holds_leaves seal (shown u) (bytes_of (shown u) (d (key_of old.journal.sections t)).content) (d (key_of old.journal.sections t)) u.fit.begun (are.sealed t u is free) in
           subst (λ (k : Key). Leaves seal u.page_size (bytes_of (shown u) (d k).content) u.settled (d k)) (sym here) left);
       cut = λ t u is owed here. inl refl;
+      still = λ t u is rest here. refl;
       others = λ not. refl;
     }
 
@@ -39,13 +40,16 @@ module _ {F S : Type 0} {gs : _} (seal : List ℕ → ℕ) (size : ℕ) where
       pub replaying_here : (b : Blob)
           → ((u : PageBlob S gs) → old.journal.sections.held s ≡ Some u → IsProven old.journal s → Leaves seal u.page_size (bytes_of (shown u) (d (key_of old.journal.sections s)).content) u.settled b)
           → ((u : PageBlob S gs) → old.journal.sections.held s ≡ Some u → IsTrue (old.journal.unrecovered s) → MayCut seal size u (old.journal.floor_of s) (d (key_of old.journal.sections s)) b)
+          → ((u : PageBlob S gs) → old.journal.sections.held s ≡ Some u → StaysStill seal size (old.journal.unrecovered s) u (d (key_of old.journal.sections s)) → b ≡ d (key_of old.journal.sections s))
           → Replaying seal size old d (key_of old.journal.sections s) b
-      replaying_here b flush cuts = record {
+      replaying_here b flush cuts stays = record {
         flushed = λ t u is free here. (let at = number t u is here in
             flush u (subst (λ (k : ℕ). old.journal.sections.held k ≡ Some u) at is) (subst (IsProven old.journal) at free));
         cut = λ t u is owed here. (let at = number t u is here in
             subst (λ (k : ℕ). MayCut seal size u (old.journal.floor_of k) (d (key_of old.journal.sections s)) b) (sym at)
             (cuts u (subst (λ (k : ℕ). old.journal.sections.held k ≡ Some u) at is) (subst (λ (k : ℕ). IsTrue (old.journal.unrecovered k)) at owed)));
+        still = λ t u is rest here. (let at = number t u is here in
+            stays u (subst (λ (k : ℕ). old.journal.sections.held k ≡ Some u) at is) (subst (λ (k : ℕ). StaysStill seal size (old.journal.unrecovered k) u (d (key_of old.journal.sections s))) at rest));
         others = λ not. absurd (not (s, (reached.held, reached.near), refl));
       }
         where

@@ -1,5 +1,5 @@
 -- What a fixed journal keeps of one section, and what syncs of a fixed journal make of it and leave of its blobs.
-use Rattle.std.proofs.Common.{◌≡◌, ◌⊎◌, inl, inr, ℕ, ◌%◌, ◌<◌, ◌==◌, ◌^◌, not, Bool, true, false, List, Option, None, Some, IsSome, IsSomeAnd, IsTrue, refl, sym, ◌∙◌, ap, subst, arith}
+use Rattle.std.proofs.Common.{◌≡◌, ◌⊎◌, inl, inr, ℕ, ◌%◌, ◌<◌, ◌==◌, ◌^◌, not, min, Bool, true, false, List, length, Option, None, Some, IsSome, IsSomeAnd, IsTrue, refl, sym, ◌∙◌, ap, subst, arith}
 use Rattle.std.proofs.lemmas.Bool.{cases_eq, false_from_ne_true}
 use Rattle.std.proofs.lemmas.Bool.Decides.{nat_tests}
 use Rattle.blob_device.specs.Disk.{Key, Blob, Disk, past}
@@ -10,7 +10,8 @@ use Rattle.sealed_pages.specs.Buffer.{size_of, bytes_of, IsSealed}
 use Rattle.sealed_pages.specs.ChanceSeal.{NoChanceSeal}
 use Rattle.sealed_pages.specs.ChanceSeal as chance
 use Rattle.sealed_pages.specs.declared.page_blob.PageBlob.{PageBlob}
-use Rattle.sealed_pages.specs.SealedPrefix.{Prefix}
+use Rattle.sealed_pages.specs.SealedPrefix.{sealed_prefix, Prefix}
+use Rattle.sealed_pages.specs.Unrecovered.{IsUnrecovered}
 use Rattle.sealed_pages.specs.Shown.{shown}
 use Rattle.segments.specs.contracts.sealed.PageBlobSectionBuffer.TheImpl.{ghosts}
 use Rattle.segments.specs.declared.buffer.SectionBuffer as buffer
@@ -56,7 +57,7 @@ are_pages R gs dict = record {
   no_chance = λ u contents c no. no;
 }
 
-settled_idle : (m n : ℕ) → m ≡ n → not (m == n) ≡ false
+pub settled_idle : (m n : ℕ) → m ≡ n → not (m == n) ≡ false
 settled_idle m n is = grind (arith, nat_tests)
 
 module _ {F S : Type 0} {gs : _} (m : Sections F (PageBlob S gs)) (s : ℕ) (u : PageBlob S gs) (held : m.held s ≡ Some u) where
@@ -158,6 +159,16 @@ module _ {S : Type 0} {gs : _} (seal : List ℕ → ℕ) (g : buffer.Ghosts (Pag
       go None has = has
       go (Some c) has = λ no. subst (λ (m : ℕ). Prefix seal u.page_size (bytes_of (shown u) from.content) m c) same ((pages.keeps u from least (past b) c (has (pages.no_chance u (past b) c no))).sealed sealed)
 
+  -- what passes the test of one that is not is a prefix of its sealed prefix
+  pub leaves_front : (from b : Blob) (least n : ℕ) → min least (length (sealed_prefix seal u.page_size from.content)) ≡ n → IsUnrecovered seal (shown u) from → Leaves (g.NoChanceSeal u) (g.MayKeep u from least) b
+      → chance.Leaves seal u.page_size (sealed_prefix seal u.page_size from.content) n b
+  leaves_front from b least n same un leaves left may = go left (leaves left may)
+    where
+      go : (l : Option (List ℕ)) → IsSomeAnd l (λ c. g.NoChanceSeal u (past b) c → g.MayKeep u from least (past b) c)
+          → IsSomeAnd l (λ c. NoChanceSeal seal u.page_size (past b) c → Prefix seal u.page_size (sealed_prefix seal u.page_size from.content) n c)
+      go None has = has
+      go (Some c) has = λ no. subst (λ (m : ℕ). Prefix seal u.page_size (sealed_prefix seal u.page_size from.content) m c) same ((pages.keeps u from least (past b) c (has (pages.no_chance u (past b) c no))).unrecovered un)
+
 -- a sync of some sections, or of all
 module _ {F S : Type 0} {gs : _} (seal : List ℕ → ℕ) (size : ℕ) (told : Type 0) (g : buffer.Ghosts (PageBlob S gs)) (pages : ArePages g seal) (gives : F → Setting) (j : Lists F (PageBlob S gs)) (old : OpenedList) (a b : Timeline)
     (IsNamed : ℕ → Type 0) (journal : IsJournal g gives seal size told j old (disk a)) where
@@ -173,8 +184,9 @@ module _ {F S : Type 0} {gs : _} (seal : List ℕ → ℕ) (size : ℕ) (told : 
 
   pub settling_of : told → Always a b (Each (Syncing g j.sections IsNamed (disk a))) → Always a b (Each (Settling seal j IsNamed (disk a)))
   settling_of t = always_weaker a b (Each (Syncing g j.sections IsNamed (disk a))) (Each (Settling seal j IsNamed (disk a))) (λ d each q. record {
-    named = λ s u is held proven at. leaves_sealed seal g pages u (disk a q) (d q) (g.settled u) u.settled (pages.settled u)
-        (subst (λ (p : Key). IsSealed seal (shown u) (disk a p)) (sym at) ((journal.disk t).sealed s u held proven)) ((each q).named s u is held at);
+    named = λ s u is held sealed at. leaves_sealed seal g pages u (disk a q) (d q) (g.settled u) u.settled (pages.settled u) sealed ((each q).named s u is held at);
+    front = λ s u is held un at. (let n = length (sealed_prefix seal u.page_size (disk a q).content) in
+        leaves_front seal g pages u (disk a q) (d q) (g.settled u) (min u.settled n) (ap (λ (m : ℕ). min m n) (pages.settled u)) un ((each q).named s u is held at));
     others = λ not. (each q).others (λ w. (let owes = unsettled_recovered w.0 w.1.1 in not (w.0, (w.1.0, owes.0, owes.1), w.2)));
   })
 

@@ -1,3 +1,4 @@
+pub mod NothingSealed
 pub mod EntryLemmas
 pub mod HeldLemmas
 pub mod KeyLemmas

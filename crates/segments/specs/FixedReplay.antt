@@ -67,6 +67,15 @@ module _ {S : Type 0} {gs : _} where
   kept_of seal false (Some u) content = bytes_of (shown u) content
   kept_of seal true (Some u) content = sealed_prefix seal u.page_size content
 
+  -- All bytes are in the sealed prefix, and they are whole items: there is nothing to cut off.
+  pub record HasNothingToCut (seal : List ℕ → ℕ) (size : ℕ) (u : PageBlob S gs) (b : Blob) : Type 0 where
+    pub sealed : length (sealed_prefix seal u.page_size b.content) ≡ size_of (shown u)
+    pub whole : size_of (shown u) % size ≡ 0
+
+  -- All bytes have settled, and no replay is owed or there is nothing to cut off: a replay writes nothing.
+  abbrev pub StaysStill : (List ℕ → ℕ) → ℕ → Bool → PageBlob S gs → Blob → Type 0
+  StaysStill seal size owes u b = (u.settled ≡ size_of (shown u)) × ((owes ≡ false) ⊎ HasNothingToCut seal size u b)
+
   module _ {F : Type 0} (seal : List ℕ → ℕ) (size : ℕ) (w : Walk F (PageBlob S gs)) (d : Disk) where
     -- the bytes from which a section's items are given
     abbrev pub kept_bytes : ℕ → List ℕ
@@ -119,6 +128,17 @@ module _ {S : Type 0} {gs : _} where
     pub unopened : w.failed ≡ false → UnopenedLater w.journal
     pub place : (r : Place) → w.place ≡ Some r → IsSomeAnd (w.journal.sections.held r.section) (ReadsIn seal w d r)
 
+  -- The buffer v over the blob c has the bytes that u had over b, and as many of them have settled.
+  pub record HasSameBytes (told : Type 0) (u : PageBlob S gs) (b : Blob) (v : PageBlob S gs) (c : Blob) : Type 0 where
+    pub size : size_of (shown v) ≡ size_of (shown u)
+    pub settled : v.settled ≡ u.settled
+    pub bytes : told → bytes_of (shown v) c.content ≡ bytes_of (shown u) b.content
+
+  -- each section that owes no replay, and is held before and after, has the bytes that it had
+  abbrev pub KeepsBytes : {F : Type 0} → Type 0 → Walk F (PageBlob S gs) → Walk F (PageBlob S gs) → Disk → Disk → Type 0
+  KeepsBytes told old new d e = (s : ℕ) (u v : PageBlob S gs) → old.journal.sections.held s ≡ Some u → new.journal.sections.held s ≡ Some v → old.journal.unrecovered s ≡ false
+      → HasSameBytes told u (d (key_of old.journal.sections s)) v (e (key_of old.journal.sections s))
+
   -- what a replay keeps
   pub record IsWalk {F : Type 0} (g : buffer.Ghosts (PageBlob S gs)) (gives : F → Setting) (seal : List ℕ → ℕ) (size : ℕ) (told : Type 0)
       (w : Walk F (PageBlob S gs)) (opened : OpenedList) (d : Disk) : Type 0 where
@@ -126,21 +146,28 @@ module _ {S : Type 0} {gs : _} where
     pub walk : HasWalk size w
     pub disk : told → WalksOver seal size w d
 
-  -- The item v of section s at p is the first that was left, and those behind it are left.
+  -- Matching slots cover each page that has bytes of the item of section s at p, as far as the item goes.
+  abbrev pub IsFromCovered : {F : Type 0} → (List ℕ → ℕ) → ℕ → Walk F (PageBlob S gs) → Disk → ℕ → ℕ → Type 0
+  IsFromCovered seal size w d s p = IsSomeAnd (w.journal.sections.held s) (λ u. IsCovered seal u.page_size (d (key_of w.journal.sections s)).content (p * size) size)
+
+  -- The item v of section s at p is the first that was left, from pages that are covered, and those behind it are left.
   pub record Gives {F V : Type 0} (seal : List ℕ → ℕ) (size : ℕ) (spelling : V → List ℕ) (accepted : V → Unit {0} → Type 0)
       (old new : Walk F (PageBlob S gs)) (d e : Disk) (s p : ℕ) (v : V) : Type 0 where
     pub left : IsLeft seal size old d s p
     pub first : (t q : ℕ) → IsLeft seal size old d t q → StandsBefore t q s p → ⊥
     pub item : IsItem spelling accepted (item_at size (kept_bytes seal size old d s) p) v
+    pub covered : IsFromCovered seal size new e s p
     pub rest : (t q : ℕ) → IsLeft seal size new e t q ↔ (IsLeft seal size old d t q × StandsBefore s p t q)
 
-  -- The item at `position` of a section is the first that was left, and its bytes are refused with e. The items of later sections are left.
+  -- The item at `position` of a section is the first that was left, and its bytes, from pages that are covered, are refused with e. The items
+  -- of later sections are left.
   pub record Refuses {F : Type 0} (seal : List ℕ → ℕ) (size : ℕ) (refusal : List ℕ → Unit {0} → Option codec.Error) (old new : Walk F (PageBlob S gs)) (from to : Disk) (e : codec.Error) : Type 0 where
     pub section : ℕ
     pub position : ℕ
     pub left : IsLeft seal size old from section position
     pub first : (t q : ℕ) → IsLeft seal size old from t q → StandsBefore t q section position → ⊥
     pub refused : refusal (item_at size (kept_bytes seal size old from section) position) tt ≡ Some e
+    pub covered : IsFromCovered seal size new to section position
     pub rest : (t q : ℕ) → IsLeft seal size new to t q ↔ (IsLeft seal size old from t q × (section < t))
 
   -- Page k has bytes of an item of a section that owes no replay and has a floor, and no matching slot covers it as far as the item goes. The
@@ -158,14 +185,15 @@ module _ {S : Type 0} {gs : _} where
     pub rest : (new.ended ≡ true) ⊎ ((s : ℕ) × ((t q : ℕ) → IsLeft seal size new e t q ↔ (IsLeft seal size old d t q × (s < t))))
 
   -- Of a proven section that is ahead or being read each crash leaves a prefix of its bytes, no shorter than what had settled, and of one
-  -- that owes a replay a prefix of its sealed prefix that has all whole items of it. It is cut only where those reach its floor. No other
-  -- blob changes.
+  -- that owes a replay a prefix of its sealed prefix that has all whole items of it. It is cut only where those reach its floor. A blob of
+  -- which all bytes have settled, and nothing is cut off, stays as it is. No other blob changes.
   pub record Replaying {F : Type 0} (seal : List ℕ → ℕ) (size : ℕ) (w : Walk F (PageBlob S gs)) (from : Disk) (q : Key) (b : Blob) : Type 0 where
     pub flushed : (s : ℕ) (u : PageBlob S gs) → w.journal.sections.held s ≡ Some u → IsProven w.journal s → q ≡ key_of w.journal.sections s
         → Leaves seal u.page_size (bytes_of (shown u) (from q).content) u.settled b
     pub cut : (s : ℕ) (u : PageBlob S gs) → w.journal.sections.held s ≡ Some u → IsTrue (w.journal.unrecovered s) → q ≡ key_of w.journal.sections s
         → (b ≡ from q) ⊎ ((w.journal.floor_of s ≤ length (sealed_prefix seal u.page_size (from q).content) / size * size)
         × Leaves seal u.page_size (sealed_prefix seal u.page_size (from q).content) (length (sealed_prefix seal u.page_size (from q).content) / size * size) b)
+    pub still : (s : ℕ) (u : PageBlob S gs) → w.journal.sections.held s ≡ Some u → StaysStill seal size (w.journal.unrecovered s) u (from q) → q ≡ key_of w.journal.sections s → b ≡ from q
     pub others : (IsKeyOf w.journal.sections (λ s. IsHeld w.journal.sections s × (IsAhead w s ⊎ IsIn w s)) q → ⊥) → b ≡ from q
 
 -- The section of this damage owes a replay, and the whole items of its sealed prefix end below its floor.

@@ -21,7 +21,7 @@ use Rattle.segments.specs.Entries.{OnlyOwnEntry}
 use Rattle.segments.specs.Sections.{Sections, key_of, IsHeld, IsKeyOf, IsSame, SameBounds, IsOver}
 use Rattle.segments.specs.Refusing.{HasFailed, HasDamage}
 use Rattle.segments.specs.FixedReading.{HasNotRead, IsBelowFloor}
-use Rattle.segments.specs.FixedReplay.{Place, Walk, IsAhead, IsIn, IsReadWhole, IsLeft, SameWalk, IsWalk, Gives, Refuses, Stops, Replaying, EndsBelow, FindsDamage, kept_bytes}
+use Rattle.segments.specs.FixedReplay.{Place, Walk, IsAhead, IsIn, IsReadWhole, IsLeft, SameWalk, KeepsBytes, IsWalk, Gives, Refuses, Stops, Replaying, EndsBelow, FindsDamage, kept_bytes}
 
 -- greater than each number of a section, and than each place in one
 unfoldable pub word : ℕ
@@ -65,7 +65,7 @@ abbrev pub after_item : ℕ → Place → Place
 after_item size r = record { section = r.section; position = r.position + 1; reader = record r.reader { at = r.reader.at + size; bytes = drop size r.reader.bytes } }
 
 module _ {F B : Type 0} where
-  -- How far a replay has to go. Each step that gives nothing makes it less.
+  -- How far a replay has to go. Each step makes it less.
   abbrev pub way_of : Walk F B → ℕ
   way_of w = sections_ahead w.next_section * (word + 1) + bytes_ahead w.place
 
@@ -139,11 +139,13 @@ module _ {F S : Type 0} {gs : _} (seal : List ℕ → ℕ) (size : ℕ) where
     pub kept : (s : ℕ) → IsAhead new s ⊎ IsIn new s → kept_bytes seal size new e s ≡ kept_bytes seal size old d s
     pub later : (q : Key) (b : Blob) → Replaying seal size new e q b → Replaying seal size old d q b
 
-  -- The place is behind the last whole item. Where the section was read whole and is not cut there, it is sealed and has no partial item.
+  -- The place is behind the last whole item. Where the section was read whole and is not cut there, it is sealed and has no partial item;
+  -- where it is cut there, bytes stand behind.
   pub record EndsAt (w : Walk F (PageBlob S gs)) (d : Disk) (r : Place) (cuts : Bool) : Type 0 where
     pub last : length (kept_bytes seal size w d r.section) / size ≡ r.position
     pub whole : cuts ≡ false → IsReadWhole w r.section → (u : PageBlob S gs) → w.journal.sections.held r.section ≡ Some u
         → IsSealed seal (shown u) (d (key_of w.journal.sections r.section)) × (size_of (shown u) % size ≡ 0)
+    pub longer : cuts ≡ true → (u : PageBlob S gs) → w.journal.sections.held r.section ≡ Some u → r.position * size < size_of (shown u)
 
   module _ {V : Type 0} (g : buffer.Ghosts (PageBlob S gs)) (gives : F → Setting) (spelling : V → List ℕ) (accepted : V → Unit {0} → Type 0) (refusal : List ℕ → Unit {0} → Option codec.Error) (told : Type 0) where
     -- A step of the replay `old`, and the replay after it. It gives the first item that was left, or comes nearer to one, or gives an
@@ -154,7 +156,8 @@ module _ {F S : Type 0} {gs : _} (seal : List ℕ → ℕ) (size : ℕ) where
       pub broken : OnErr result (IsWalk g gives seal size told (failing new) after (disk end))
       pub goes : OnOk result (GoesOn old new)
       pub same : SameWalk old new
-      pub nearer : result ≡ Ok None → way_of new < way_of old
+      pub nearer : way_of new < way_of old
+      pub bytes : KeepsBytes told old new (disk begin) (disk end)
       pub carries : told → result ≡ Ok None → Carries old new (disk begin) (disk end)
       pub item : told → (s p : ℕ) (v : V) → result ≡ Ok (Some (s, p, v)) → Gives seal size spelling accepted old new (disk begin) (disk end) s p v
       pub stops : told → OnErr result (Stops seal size old new (disk begin) (disk end))

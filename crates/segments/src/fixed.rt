@@ -1,5 +1,5 @@
 // A list of items of one size per section, each at its position.
-ghost use Rattle.std.specs.Prelude.{◌≡◌, ◌↔◌, ◌≤◌, ◌<◌, ◌/◌, ℕ, List, None, IfOk, IfSome, OnErr, IsTrue, string_len};
+ghost use Rattle.std.specs.Prelude.{◌≡◌, ◌↔◌, ◌≤◌, ◌<◌, ◌/◌, ℕ, List, [], None, IfOk, IfSome, OnErr, IsTrue, string_len};
 ghost use Rattle.std.specs.List.{Contains};
 ghost use Rattle.std.specs.List.Sorted.{IsStrictlySortedBy};
 ghost use Rattle.std.specs.Ordering.{nat_cmp};
@@ -65,9 +65,10 @@ pub struct Journal<A: CodecFixed, S: Seal> {
 }
 
 /// What the promises on crashes, which are on bytes, say of items: where a crash leaves a prefix of a section's bytes, the whole items in
-/// it are the first ones of the section, and no fewer than stand whole in the bytes that it has to keep.
+/// it are the first ones of the section, and no fewer than stand whole in the bytes that it has to keep. No bytes have none.
 pub fn item_laws<A: CodecFixed, S: Seal>()
-    ensures { (P : ℕ) (bytes : List ℕ) (least : ℕ) (c : List ℕ) → Prefix S.seal_of P bytes least c → HoldsFirstItems A.SIZE bytes least (sealed_prefix S.seal_of P c) }
+    ensures first { (P : ℕ) (bytes : List ℕ) (least : ℕ) (c : List ℕ) → Prefix S.seal_of P bytes least c → HoldsFirstItems A.SIZE bytes least (sealed_prefix S.seal_of P c) }
+    ensures none { (P : ℕ) → sealed_prefix S.seal_of P [] ≡ [] }
 {}
 
 impl<A: CodecFixed, S: Seal> Journal<A, S> {

@@ -1,6 +1,6 @@
 // Frames: a value's spelling, with the seal of the spelling behind it.
-ghost use Rattle.std.specs.Prelude.{◌≡◌, ◌≢◌, ◌↔◌, ◌+◌, ◌-◌, ◌≤◌, ◌<◌, ◌^◌, ℕ, List, length, drop, IfOk, OnErr};
-ghost use Rattle.std.specs.Int.{w32, to_be_bytes};
+ghost use Rattle.std.specs.Prelude.{◌≡◌, ◌≢◌, ◌↔◌, ◌+◌, ◌-◌, ◌≤◌, ◌<◌, ◌^◌, ℕ, List, length, IfOk, OnErr};
+ghost use Rattle.std.specs.Int.{w32, to_be_bytes, from_be_bytes};
 ghost use Rattle.std.specs.Result.{IsErrOf};
 ghost use Rattle.paired.specs.Frames.{frame, with_number};
 ghost use Rattle.paired.specs.GlobReading.{IsMismatch};
@@ -41,13 +41,13 @@ pub(super) fn framed<V: Codec, S: Seal>(
     Ok(bytes)
 }
 
-// The number in the last four bytes, the highest first.
-fn last_number(bytes: &[u8]) -> u32
-    requires { 4 ≤ length bytes.now }
-    ensures { to_be_bytes w32 result ≡ drop (length bytes.now - 4) bytes.now }
+/// The number in four bytes, the highest first.
+pub(crate) fn u32_in(bytes: &[u8]) -> u32
+    requires { length bytes.now ≡ 4 }
+    ensures spelled { to_be_bytes w32 result ≡ bytes.now }
+    ensures value { result ≡ from_be_bytes w32 bytes.now }
 {
-    let at = bytes.len() - SEAL_SIZE as usize;
-    u32::from_be_bytes(<[u8; 4]>::try_from(&bytes[at..]).unwrap())
+    u32::from_be_bytes(<[u8; 4]>::try_from(bytes).unwrap())
 }
 
 /// The spelling in a frame whose seal holds.
@@ -58,8 +58,9 @@ pub(super) fn spelled<S: Seal>(bytes: &[u8]) -> Result<&[u8], Error>
         → (stored ≢ computed) × (stored < 2 ^ 32) × ((front : List ℕ) × (computed ≡ S.seal_of front) × (bytes.now ≡ with_number front stored)) }
     ensures cause { OnErr result (IsMismatch result) }
 {
-    let front = &bytes[..bytes.len() - SEAL_SIZE as usize];
-    let stored = last_number(bytes);
+    let end = bytes.len() - SEAL_SIZE as usize;
+    let front = &bytes[..end];
+    let stored = u32_in(&bytes[end..]);
     let computed = S::seal(front);
     if stored != computed {
         return Err(Error::ChecksumMismatch(stored, computed));

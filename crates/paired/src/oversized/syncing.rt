@@ -89,8 +89,8 @@ impl<I: Record, V: Codec, S: Seal> Oversized<I, V, S> {
         ensures full { IsErrOf result Error.Full → (2 ^ 64 ≤ (shown I.place self).store.version + 1) × ((s : ℕ) × IsMoving (shown I.place self) (Contains sections.now) (Contains sections.now) s) }
         ensures no_version { 2 ^ 64 ≤ (shown I.place self).store.version + 1 → ((s : ℕ) × IsMoving (shown I.place self) (Contains sections.now) (Contains sections.now) s) → OnOk result ⊥ }
         ensures lost { HasLostMarkers result (D.faults dev.old) (D.faults dev.new) → ((s : ℕ) × IsMoving (shown I.place self) (Contains sections.now) (Contains sections.now) s) }
-        // Where the device fails in a call of index or values, no copy of the markers has changed; where it fails in one of the markers, the
-        // named sections have settled.
+        // Where the device fails in a call of index or values, no copy of the markers has changed; where the markers are full, or it fails in one
+        // of their calls, the named sections have settled.
         ensures fault { D.Tells → FaultsInOrder (shown I.place self) (Contains sections.now) result (D.faults dev.old) (D.faults dev.new) (D.time dev.old) (D.time dev.new) }
         ensures faults { D.faults dev.old ≤ D.faults dev.new }
         ensures cause { OnErr result (IsPruned result (shown I.place self).index.sections.floor ⊎ (IsErrOf result Error.Full ⊎ (HasFailed result (D.faults dev.old) (D.faults dev.new) ⊎ HasLostMarkers result (D.faults dev.old) (D.faults dev.new)))) }
@@ -123,8 +123,8 @@ impl<I: Record, V: Codec, S: Seal> Oversized<I, V, S> {
         ensures full { IsErrOf result Error.Full → (2 ^ 64 ≤ (shown I.place self).store.version + 1) × ((s : ℕ) × IsMoving (shown I.place self) (Contains sections.now) (Contains sections.now) s) }
         ensures no_version { 2 ^ 64 ≤ (shown I.place self).store.version + 1 → ((s : ℕ) × IsMoving (shown I.place self) (Contains sections.now) (Contains sections.now) s) → OnOk result ⊥ }
         ensures lost { HasLostMarkers result (D.faults dev.old) (D.faults dev.new) → ((s : ℕ) × IsMoving (shown I.place self) (Contains sections.now) (Contains sections.now) s) }
-        // Where the device fails in a call of index or values, no copy of the markers has changed; where it fails in one of the markers, the
-        // named sections have settled.
+        // Where the device fails in a call of index or values, no copy of the markers has changed; where the markers are full, or it fails in one
+        // of their calls, the named sections have settled.
         ensures fault { D.Tells → FaultsInOrder (shown I.place self) (Contains sections.now) result (D.faults dev.old) (D.faults dev.new) (D.time dev.old) (D.time dev.new) }
         ensures faults { D.faults dev.old ≤ D.faults dev.new }
         ensures cause { OnErr result (IsPruned result (shown I.place self).index.sections.floor ⊎ (IsErrOf result Error.Full ⊎ (HasFailed result (D.faults dev.old) (D.faults dev.new) ⊎ HasLostMarkers result (D.faults dev.old) (D.faults dev.new)))) }
@@ -260,8 +260,8 @@ impl<I: Record, V: Codec, S: Seal> Oversized<I, V, S> {
         ensures full { IsErrOf result Error.Full → (2 ^ 64 ≤ (shown I.place self).store.version + 1) × ((s : ℕ) × IsMoving (shown I.place self) (Contains sections.now) (Contains active.now) s) }
         ensures no_version { 2 ^ 64 ≤ (shown I.place self).store.version + 1 → ((s : ℕ) × IsMoving (shown I.place self) (Contains sections.now) (Contains active.now) s) → OnOk result ⊥ }
         ensures lost { HasLostMarkers result (D.faults dev.old) (D.faults dev.new) → ((s : ℕ) × IsMoving (shown I.place self) (Contains sections.now) (Contains active.now) s) }
-        // Where the device fails in a call of index or values, no copy of the markers has changed; where it fails in one of the markers, the
-        // named sections have settled.
+        // Where the device fails in a call of index or values, no copy of the markers has changed; where the markers are full, or it fails in one
+        // of their calls, the named sections have settled.
         ensures fault { D.Tells → FaultsInOrder (shown I.place self) (Contains sections.now) result (D.faults dev.old) (D.faults dev.new) (D.time dev.old) (D.time dev.new) }
         ensures faults { D.faults dev.old ≤ D.faults dev.new }
         ensures cause { OnErr result (IsPruned result (shown I.place self).index.sections.floor ⊎ (IsErrOf result Error.Full ⊎ (HasFailed result (D.faults dev.old) (D.faults dev.new) ⊎ HasLostMarkers result (D.faults dev.old) (D.faults dev.new)))) }
@@ -296,8 +296,8 @@ impl<I: Record, V: Codec, S: Seal> Oversized<I, V, S> {
         ensures full { IsErrOf result Error.Full → (2 ^ 64 ≤ (shown I.place self).store.version + 1) × ((s : ℕ) × IsMoving (shown I.place self) (Contains sections.now) (Contains active.now) s) }
         ensures no_version { 2 ^ 64 ≤ (shown I.place self).store.version + 1 → ((s : ℕ) × IsMoving (shown I.place self) (Contains sections.now) (Contains active.now) s) → OnOk result ⊥ }
         ensures lost { HasLostMarkers result (D.faults dev.old) (D.faults dev.new) → ((s : ℕ) × IsMoving (shown I.place self) (Contains sections.now) (Contains active.now) s) }
-        // Where the device fails in a call of index or values, no copy of the markers has changed; where it fails in one of the markers, the
-        // named sections have settled.
+        // Where the device fails in a call of index or values, no copy of the markers has changed; where the markers are full, or it fails in one
+        // of their calls, the named sections have settled.
         ensures fault { D.Tells → FaultsInOrder (shown I.place self) (Contains sections.now) result (D.faults dev.old) (D.faults dev.new) (D.time dev.old) (D.time dev.new) }
         ensures faults { D.faults dev.old ≤ D.faults dev.new }
         ensures cause { OnErr result (IsPruned result (shown I.place self).index.sections.floor ⊎ (IsErrOf result Error.Full ⊎ (HasFailed result (D.faults dev.old) (D.faults dev.new) ⊎ HasLostMarkers result (D.faults dev.old) (D.faults dev.new)))) }

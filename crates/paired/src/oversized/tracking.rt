@@ -33,14 +33,14 @@ pub(super) struct Tracking<S: Seal> {
     pub(super) trailing: BTreeMap<u64, u64>,
 }
 
-/// The key of a section's marker.
+// The key of a section's marker.
 fn marker_key(section: u64) -> Key8
     ensures { key8_bytes result ≡ to_be_bytes w64 section }
 {
     Key8::from_bytes(&section.to_be_bytes()).unwrap()
 }
 
-/// The number in eight bytes, the highest first.
+// The number in eight bytes, the highest first.
 fn number_in(bytes: &[u8]) -> u64
     requires { length bytes.now ≡ 8 }
     ensures { to_be_bytes w64 result ≡ bytes.now }
@@ -48,21 +48,21 @@ fn number_in(bytes: &[u8]) -> u64
     u64::from_be_bytes(<[u8; 8]>::try_from(bytes).unwrap())
 }
 
-/// The section of a marker's key.
+// The section of a marker's key.
 fn section_of(key: &Key8) -> u64
     ensures { to_be_bytes w64 result ≡ key8_bytes key.now }
 {
     number_in(key.as_bytes())
 }
 
-/// Whether the key is of a section at or above the bound.
+// Whether the key is of a section at or above the bound.
 fn is_from(key: &Key8, min: u64) -> bool
     ensures { IsFrom min key.now result }
 {
     min <= section_of(key)
 }
 
-/// Stages the marker of a section.
+// Stages the marker of a section.
 fn put_marker<S: Seal>(
     metadata: &mut Metadata<Key8, u64, S>,
     section: u64,
@@ -79,7 +79,7 @@ fn put_marker<S: Seal>(
     metadata.put(marker_key(section), len)
 }
 
-/// Stages the marker of a section that is not active.
+// Stages the marker of a section that is not active.
 fn put_inactive<S: Seal>(
     metadata: &mut Metadata<Key8, u64, S>,
     active: &[u64],
@@ -102,7 +102,7 @@ fn put_inactive<S: Seal>(
     put_marker(metadata, section, len)
 }
 
-/// Stages these lengths as markers, but for the active sections.
+// Stages these lengths as markers, but for the active sections.
 fn put_markers<S: Seal>(
     metadata: &mut Metadata<Key8, u64, S>,
     lens: &BTreeMap<u64, u64>,

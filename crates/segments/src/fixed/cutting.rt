@@ -4,10 +4,11 @@ ghost use Rattle.std.specs.Ordering.{nat_cmp};
 ghost use Rattle.std.specs.BTreeSet as set;
 ghost use Rattle.blob_device.specs.Disk.{Key};
 ghost use Rattle.blob_device.specs.Timeline.{disk};
-ghost use Rattle.sealed_pages.specs.Buffer.{size_of};
+ghost use Rattle.sealed_pages.specs.Buffer.{size_of, IsSealed};
 ghost use Rattle.sealed_pages.specs.SealedPrefix.{sealed_prefix};
 ghost use Rattle.sealed_pages.specs.ChanceSeal.{Sealing};
 ghost use Rattle.sealed_pages.specs.Flushing.{Alone};
+ghost use Rattle.sealed_pages.specs.Unrecovered.{IsUnrecovered};
 ghost use Rattle.segments.specs.Sections.{key_of, IsSame, SameBounds, IsCut};
 ghost use Rattle.segments.specs.Refusing.{HasDamage, HasFailed, IsPruned};
 
@@ -61,14 +62,18 @@ impl<A: CodecFixed, S: Seal> Journal<A, S> {
         ensures floors { IfOk result (λ r. (q : ℕ) → q ≢ section → (shown r).floor_of q ≡ (shown self).floor_of q) }
         // At every moment, also where the call fails, no other blob changes.
         ensures alone { D.Tells → Alone (key_of (shown self).sections section) (D.time dev.old) (D.time dev.new) }
-        // Each crash leaves of a section without a floor that owes no replay a prefix of its bytes, no shorter than what had settled or than
+        // Each crash leaves of a section that is sealed, as each proven one is, a prefix of its bytes, no shorter than what had settled or than
         // the cut.
-        ensures moments { D.Tells → (u : _) → (shown self).sections.held section ≡ Some u → IsProven (shown self) section
+        ensures moments { D.Tells → (u : _) → (shown self).sections.held section ≡ Some u → IsSealed S.seal_of (page_blob.shown u) (disk (D.time dev.old) (key_of (shown self).sections section))
             → Sealing S.seal_of u.page_size (section_bytes (shown self).sections (disk (D.time dev.old)) section) (min u.settled size) (key_of (shown self).sections section) (D.time dev.old) (D.time dev.new) }
         // Of a section that owes a replay it leaves a prefix of its sealed prefix as it reads, no shorter than the cut.
         ensures front { D.Tells → (u : _) → (shown self).sections.held section ≡ Some u → IsTrue ((shown self).unrecovered section)
             → Sealing S.seal_of u.page_size (sealed_prefix S.seal_of u.page_size (disk (D.time dev.old) (key_of (shown self).sections section)).content)
             (min size (length (sealed_prefix S.seal_of u.page_size (disk (D.time dev.old) (key_of (shown self).sections section)).content))) (key_of (shown self).sections section) (D.time dev.old) (D.time dev.new) }
+        // Of any other that is not sealed it leaves a prefix of that, no shorter than what had settled of it or than the cut.
+        ensures unsealed { D.Tells → (u : _) → (shown self).sections.held section ≡ Some u → IsUnrecovered S.seal_of (page_blob.shown u) (disk (D.time dev.old) (key_of (shown self).sections section))
+            → Sealing S.seal_of u.page_size (sealed_prefix S.seal_of u.page_size (disk (D.time dev.old) (key_of (shown self).sections section)).content)
+            (min (min u.settled size) (length (sealed_prefix S.seal_of u.page_size (disk (D.time dev.old) (key_of (shown self).sections section)).content))) (key_of (shown self).sections section) (D.time dev.old) (D.time dev.new) }
         ensures idle { (IsSomeAnd ((shown self).sections.held section) (λ u. size < size_of (page_blob.shown u)) → ⊥) → dev.new ≡ dev.old }
         ensures entries { (q : Key) → q ≢ key_of (shown self).sections section → D.opened dev.new q ≡ D.opened dev.old q }
         ensures guard { IsPruned result (shown self).sections.floor ↔ (section < (shown self).sections.floor) }

@@ -480,6 +480,8 @@ impl<A: CodecFixed, S: Seal> Preflight<A, S> {
         ensures unrecovered { IfOk result (λ r. (s : ℕ) → IsTrue ((journal.shown r).unrecovered s) ↔ ((shown self).floor_of s < section_size (journal.shown r).sections s)) }
         ensures reached { IfOk result (λ r. (s : ℕ) → (shown self).floor_of s ≤ section_size (journal.shown r).sections s) }
         ensures floors { IfOk result (λ r. (s : ℕ) → (journal.shown r).floor_of s ≡ (shown self).floor_of s) }
+        // Nothing is unsettled.
+        ensures idle { IfOk result (λ r. (s : ℕ) (u : _) → (journal.shown r).sections.held s ≡ Some u → ⟦<PageBlob<S> as SectionBuffer>⟧.unsettled u ≡ false) }
         ensures partition { IfOk result (λ r. (journal.shown r).sections.partition ≡ (shown self).partition) }
         ensures pages { IfOk result (λ r. (journal.shown r).sections.factory.pages ≡ (shown self).pages) }
         ensures write_buffer { IfOk result (λ r. (journal.shown r).sections.factory.write_buffer ≡ (shown self).write_buffer) }

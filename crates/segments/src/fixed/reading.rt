@@ -6,7 +6,7 @@ ghost use Rattle.std.specs.List.Sorted.{IsStrictlySortedBy};
 ghost use Rattle.std.specs.Ordering.{nat_cmp};
 ghost use Rattle.blob_device.specs.declared.runtime.RError.TheVariants.{InvalidChecksum};
 ghost use Rattle.blob_device.specs.Timeline.{disk};
-ghost use Rattle.sealed_pages.specs.Buffer.{size_of, bytes_of};
+ghost use Rattle.sealed_pages.specs.Buffer.{size_of, bytes_of, IsSealed};
 ghost use Rattle.sealed_pages.specs.Entries.{IsOpenAt, ReadsAtMost};
 ghost use Rattle.sealed_pages.specs.Reading.{Unchanged};
 ghost use Rattle.segments.specs.Sections.{key_of, IsHeld};
@@ -26,7 +26,7 @@ impl<A: CodecFixed, S: Seal> Journal<A, S> {
     ghost use Rattle.sealed_pages.specs.Buffer as pages;
     ghost use Rattle.sealed_pages.specs.Shown as page_blob;
     ghost use Rattle.segments.specs.FixedShown.{shown};
-    ghost use Rattle.segments.specs.FixedLists.{IsJournal, section_bytes, section_size};
+    ghost use Rattle.segments.specs.FixedLists.{IsJournal, IsProven, section_bytes, section_size};
 
     // The section's buffer.
     fn buffer_of(&self, section: u64) -> Result<&PageBlob<S>, Error>
@@ -162,6 +162,9 @@ impl<A: CodecFixed, S: Seal> Journal<A, S> {
         ensures checked { D.Tells → OnOk result (IsSomeAnd ((shown self.now).sections.held section) (λ u. IsItemCovered A.SIZE S.seal_of u (disk (D.time dev.old) (key_of (shown self.now).sections section)).content position)) }
         ensures damaged { D.Tells → (k : ℕ) → IsErrOf result (Error.Runtime (InvalidChecksum k))
             → IsSomeAnd ((shown self.now).sections.held section) (λ u. IsDamaged A.SIZE S.seal_of u (disk (D.time dev.old) (key_of (shown self.now).sections section)).content position k) }
+        // No page of a section that is proven, or sealed, is damaged.
+        ensures sound { D.Tells → IsProven (shown self.now) section ⊎ IsSomeAnd ((shown self.now).sections.held section) (λ u. IsSealed S.seal_of (page_blob.shown u) (disk (D.time dev.old) (key_of (shown self.now).sections section)))
+            → (k : ℕ) → IsErrOf result (Error.Runtime (InvalidChecksum k)) → ⊥ }
         ensures refused { D.Tells → (e : _) → IsErrOf result (Error.Codec e) → A.refusal (item_at A.SIZE (section_bytes (shown self.now).sections (disk (D.time dev.old)) section) position) tt ≡ Some e }
         // Seals come before spellings.
         ensures sealed_first { D.Tells → (e : _) → IsErrOf result (Error.Codec e) → IsSomeAnd ((shown self.now).sections.held section) (λ u. IsItemCovered A.SIZE S.seal_of u (disk (D.time dev.old) (key_of (shown self.now).sections section)).content position) }
@@ -230,6 +233,9 @@ impl<A: CodecFixed, S: Seal> Journal<A, S> {
         ensures absent { IsAbsent result section ↔ (((shown self.now).sections.floor ≤ section) × ((shown self.now).sections.held section ≡ None)) }
         ensures damaged { D.Tells → (k : ℕ) → IsErrOf result (Error.Runtime (InvalidChecksum k))
             → IsSomeAnd ((shown self.now).sections.held section) (λ u. IsDamaged A.SIZE S.seal_of u (disk (D.time dev.old) (key_of (shown self.now).sections section)).content (size_of (page_blob.shown u) / A.SIZE - 1) k) }
+        // No page of a section that is proven, or sealed, is damaged.
+        ensures sound { D.Tells → IsProven (shown self.now) section ⊎ IsSomeAnd ((shown self.now).sections.held section) (λ u. IsSealed S.seal_of (page_blob.shown u) (disk (D.time dev.old) (key_of (shown self.now).sections section)))
+            → (k : ℕ) → IsErrOf result (Error.Runtime (InvalidChecksum k)) → ⊥ }
         ensures refused { D.Tells → (e : _) → IsErrOf result (Error.Codec e)
             → A.refusal (item_at A.SIZE (section_bytes (shown self.now).sections (disk (D.time dev.old)) section) (section_size (shown self.now).sections section / A.SIZE - 1)) tt ≡ Some e }
         ensures checked { D.Tells → OnOk result ((u : _) → (shown self.now).sections.held section ≡ Some u → 0 < size_of (page_blob.shown u) / A.SIZE → IsItemCovered A.SIZE S.seal_of u (disk (D.time dev.old) (key_of (shown self.now).sections section)).content (size_of (page_blob.shown u) / A.SIZE - 1)) }

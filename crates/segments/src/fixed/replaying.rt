@@ -139,8 +139,8 @@ impl<A: CodecFixed, S: Seal> Journal<A, S> {
 impl<A: CodecFixed, S: Seal> Replay<A, S> {
     ghost use Rattle.segments.specs.FixedShown.{shown};
     ghost use Rattle.segments.specs.FixedLists.{OwesHeld, OwesSettled, AreSealed, UnopenedLater};
-    ghost use Rattle.segments.specs.FixedReplay.{IsWalk, HasWalk, WalksOver, SameWalk, IsLeft, IsDrained, IsAhead, IsIn, first_of, Gives, Refuses, Stops, Replaying, EndsBelow, FindsDamage, kept_bytes};
-    ghost use Rattle.segments.specs.FixedStepping.{standing, after_item, ReadsOnce, OnlySections, Touches, IsFlushed, IsCutBack, BeginsOver, EndsAt, Steps};
+    ghost use Rattle.segments.specs.FixedReplay.{IsWalk, HasWalk, WalksOver, SameWalk, KeepsBytes, IsLeft, IsDrained, IsAhead, IsIn, first_of, Gives, Refuses, Stops, Replaying, EndsBelow, FindsDamage, kept_bytes};
+    ghost use Rattle.segments.specs.FixedStepping.{way_of, standing, after_item, ReadsOnce, OnlySections, Touches, IsFlushed, IsCutBack, BeginsOver, EndsAt, Steps};
     ghost use Rattle.segments.specs.FixedWalking.{walk_of, walk_at, place_of};
     ghost use Rattle.sealed_pages.specs.Readers.{reading};
 
@@ -202,6 +202,13 @@ impl<A: CodecFixed, S: Seal> Replay<A, S> {
         ensures item { D.Tells → (s p : ℕ) (v : A) → result ≡ Some (Ok (s, p, v))
             → Gives S.seal_of A.SIZE A.spelling A.accepted (walk_of self.old) (walk_of self.new) (disk (D.time dev.old)) (disk (D.time dev.new)) s p v }
         ensures going { (s p : ℕ) (v : A) → result ≡ Some (Ok (s, p, v)) → (walk_of self.new).failed ≡ (walk_of self.old).failed }
+        // No section is lost but by an error, and no bytes but by a cut.
+        ensures held { (result ≡ None) ⊎ ((x : _) × (result ≡ Some (Ok x))) → (s : ℕ) → IsHeld (walk_of self.new).journal.sections s ↔ IsHeld (walk_of self.old).journal.sections s }
+        ensures bytes { KeepsBytes D.Tells (walk_of self.old) (walk_of self.new) (disk (D.time dev.old)) (disk (D.time dev.new)) }
+        ensures unsettled { (s : ℕ) (u v : _) → (walk_of self.old).journal.sections.held s ≡ Some u → (walk_of self.new).journal.sections.held s ≡ Some v
+            → ⟦<PageBlob<S> as SectionBuffer>⟧.unsettled u ≡ false → ⟦<PageBlob<S> as SectionBuffer>⟧.unsettled v ≡ false }
+        // Each answer, an error too, leaves less to go over.
+        ensures nearer { (x : _) → result ≡ Some x → way_of (walk_of self.new) < way_of (walk_of self.old) }
         // Without an answer nothing is left.
         ensures none { D.Tells → result ≡ None → (s p : ℕ) → IsLeft S.seal_of A.SIZE (walk_of self.old) (disk (D.time dev.old)) s p → ⊥ }
         ensures drained { result ≡ None → IsDrained (walk_of self.new) ⊎ ((walk_of self.new).ended ≡ true) }

@@ -4,8 +4,10 @@ ghost use Rattle.std.specs.Result.{IsErrOf};
 ghost use Rattle.std.specs.List.{Contains};
 ghost use Rattle.blob_device.specs.Disk.{Key};
 ghost use Rattle.blob_device.specs.Timeline.{disk, Always, Each};
-ghost use Rattle.sealed_pages.specs.Buffer.{extent, size_of, FlushesNothing};
+ghost use Rattle.sealed_pages.specs.Buffer.{extent, size_of, FlushesNothing, IsSealed};
 ghost use Rattle.sealed_pages.specs.ChanceSeal.{Sealing};
+ghost use Rattle.sealed_pages.specs.SealedPrefix.{sealed_prefix};
+ghost use Rattle.sealed_pages.specs.Unrecovered.{IsUnrecovered, KeepsPrefix};
 ghost use Rattle.sealed_pages.specs.Flushing.{Alone};
 ghost use Rattle.segments.specs.Leaving.{AllMoments};
 ghost use Rattle.segments.specs.Entries.{OnlyOwnEntry};
@@ -45,7 +47,7 @@ fn full_or_raised(e: RError) -> Error
 impl<A: CodecFixed, S: Seal> Journal<A, S> {
     ghost use Rattle.sealed_pages.specs.Shown as page_blob;
     ghost use Rattle.segments.specs.FixedShown.{shown};
-    ghost use Rattle.segments.specs.FixedLists.{IsJournal, IsRecovered, IsProven, section_bytes, section_size};
+    ghost use Rattle.segments.specs.FixedLists.{IsJournal, IsRecovered, section_bytes, section_size};
     ghost use Rattle.segments.specs.FixedLasting.{IsBeginning, Settling};
 
     /// Whether an append to the section would answer `Full`: whether one item more makes its blob, with both slots of its last page, pass the
@@ -85,9 +87,14 @@ impl<A: CodecFixed, S: Seal> Journal<A, S> {
         ensures floors { IfOk result (λ r. (q : ℕ) → (shown r.0).floor_of q ≡ (shown self).floor_of q) }
         // At every moment, also where the call fails, no other blob changes.
         ensures alone { D.Tells → Alone (key_of (shown self).sections section) (D.time dev.old) (D.time dev.new) }
-        // Each crash leaves of a section without a floor a prefix of its bytes, this item's included, and no shorter than what has settled.
-        ensures moments { D.Tells → (u : _) → (shown self).sections.held section ≡ Some u → IsProven (shown self) section
+        // Each crash leaves of a section that is sealed, as each proven one is, a prefix of its bytes, this item's included, and no shorter than
+        // what has settled. It stays sealed. Of one that is not sealed each crash leaves the sealed prefix, as it reads.
+        ensures moments { D.Tells → (u : _) → (shown self).sections.held section ≡ Some u → IsSealed S.seal_of (page_blob.shown u) (disk (D.time dev.old) (key_of (shown self).sections section))
             → Sealing S.seal_of u.page_size (section_bytes (shown self).sections (disk (D.time dev.old)) section ++ A.spelling item.now) u.settled (key_of (shown self).sections section) (D.time dev.old) (D.time dev.new) }
+        ensures sealed { D.Tells → IfOk result (λ r. (u v : _) → (shown self).sections.held section ≡ Some u → (shown r.0).sections.held section ≡ Some v
+            → IsSealed S.seal_of (page_blob.shown u) (disk (D.time dev.old) (key_of (shown self).sections section)) → IsSealed S.seal_of (page_blob.shown v) (disk (D.time dev.new) (key_of (shown self).sections section))) }
+        ensures steady { D.Tells → (u : _) → (shown self).sections.held section ≡ Some u → IsUnrecovered S.seal_of (page_blob.shown u) (disk (D.time dev.old) (key_of (shown self).sections section))
+            → KeepsPrefix S.seal_of u.page_size (sealed_prefix S.seal_of u.page_size (disk (D.time dev.old) (key_of (shown self).sections section)).content) (key_of (shown self).sections section) (D.time dev.old) (D.time dev.new) }
         ensures made { D.Tells → (shown self).sections.held section ≡ None
             → AllMoments (key_of (shown self).sections section) (IsBeginning S.seal_of (shown self).sections.factory.pages.page_size (A.spelling item.now) (disk (D.time dev.old) (key_of (shown self).sections section))) (D.time dev.old) (D.time dev.new) }
         // Below the buffer's capacity no call of the device is made.
@@ -126,8 +133,8 @@ impl<A: CodecFixed, S: Seal> Journal<A, S> {
         ensures bounds { IfOk result (λ r. SameBounds (shown self).sections (shown r).sections) }
         ensures unrecovered { IfOk result (λ r. (s : ℕ) → (shown r).unrecovered s ≡ (shown self).unrecovered s) }
         ensures floors { IfOk result (λ r. (s : ℕ) → (shown r).floor_of s ≡ (shown self).floor_of s) }
-        // At every moment, also where the call fails, each crash leaves a prefix of the bytes of each named section that is proven, no shorter
-        // than what had settled; no other blob changes.
+        // At every moment, also where the call fails, each crash leaves a prefix of the bytes of each named section that is sealed, as each
+        // proven one is, no shorter than what had settled; no other blob changes.
         ensures moments { D.Tells → Always (D.time dev.old) (D.time dev.new) (Each (Settling S.seal_of (shown self) (Contains sections.now) (disk (D.time dev.old)))) }
         // Where nothing named is unsettled, no call of the device is made.
         ensures idle { ((s : ℕ) → Contains sections.now s → IsUnsettled ⟦<PageBlob<S> as SectionBuffer>⟧ (shown self).sections s → ⊥) → dev.new ≡ dev.old }
@@ -158,8 +165,8 @@ impl<A: CodecFixed, S: Seal> Journal<A, S> {
         ensures bounds { IfOk result (λ r. SameBounds (shown self).sections (shown r.0).sections) }
         ensures unrecovered { IfOk result (λ r. (s : ℕ) → (shown r.0).unrecovered s ≡ (shown self).unrecovered s) }
         ensures floors { IfOk result (λ r. (s : ℕ) → (shown r.0).floor_of s ≡ (shown self).floor_of s) }
-        // At every moment, also where the call fails, each crash leaves a prefix of the bytes of each named section that is proven, no shorter
-        // than what had settled; no other blob changes.
+        // At every moment, also where the call fails, each crash leaves a prefix of the bytes of each named section that is sealed, as each
+        // proven one is, no shorter than what had settled; no other blob changes.
         ensures moments { D.Tells → Always (D.time dev.old) (D.time dev.new) (Each (Settling S.seal_of (shown self) (Contains sections.now) (disk (D.time dev.old)))) }
         // Where nothing named is unsettled, no call of the device is made.
         ensures idle { ((s : ℕ) → Contains sections.now s → IsUnsettled ⟦<PageBlob<S> as SectionBuffer>⟧ (shown self).sections s → ⊥) → dev.new ≡ dev.old }
@@ -184,8 +191,8 @@ impl<A: CodecFixed, S: Seal> Journal<A, S> {
         ensures bounds { IfOk result (λ r. SameBounds (shown self).sections (shown r).sections) }
         ensures unrecovered { IfOk result (λ r. (s : ℕ) → (shown r).unrecovered s ≡ (shown self).unrecovered s) }
         ensures floors { IfOk result (λ r. (s : ℕ) → (shown r).floor_of s ≡ (shown self).floor_of s) }
-        // At every moment, also where the call fails, each crash leaves a prefix of the bytes of each section that is proven, no shorter
-        // than what had settled; no other blob changes.
+        // At every moment, also where the call fails, each crash leaves a prefix of the bytes of each section that is sealed, as each proven
+        // one is, no shorter than what had settled; no other blob changes.
         ensures moments { D.Tells → Always (D.time dev.old) (D.time dev.new) (Each (Settling S.seal_of (shown self) (λ s. ⊤) (disk (D.time dev.old)))) }
         ensures idle { ((s : ℕ) → IsUnsettled ⟦<PageBlob<S> as SectionBuffer>⟧ (shown self).sections s → ⊥) → dev.new ≡ dev.old }
         ensures entries { (q : Key) → (IsKeyOf (shown self).sections (IsUnsettled ⟦<PageBlob<S> as SectionBuffer>⟧ (shown self).sections) q → ⊥) → D.opened dev.new q ≡ D.opened dev.old q }

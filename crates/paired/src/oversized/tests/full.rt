@@ -1,12 +1,15 @@
-// Markers of which no version follows. `Full` comes where one would be written, and then no call of the device is made.
+// Markers of which no version follows. `Full` comes where one would be written: to a sync once its sections have settled, to a prune before any
+// call of the device.
 ghost use Rattle.std.specs.Prelude.{◌≡◌, ℕ, IfOk, codes};
 ghost use Rattle.blob_device.specs.Disk.{nothing};
 ghost use Rattle.blob_device.specs.Timeline.{disk};
 ghost use Rattle.blob_device.specs.MemoryMeaning.{memory_time};
 ghost use Rattle.segments.specs.Sections.{section_key};
 
+use super::notes::Note;
 use super::{Numbers, extended, pair_over};
-use blob_device::{Device, Image, Memory};
+use crate::plain::has_sound;
+use blob_device::{CrashChoice, Device, Image, Memory};
 use segments::journal::Error;
 use std::alloc::Global;
 use std::test::Fail;
@@ -35,7 +38,15 @@ fn device(alloc: Global, version: u64) -> Result<Memory, Error>
     Ok(Memory::from_image(alloc, image)?)
 }
 
-// A sync that moves no marker is not refused, and settles; one that would move a marker settles first.
+/// Whether section 4 of the image has so many records, all of them sound.
+fn has_records(alloc: Global, image: &Image, count: u64) -> Result<bool, Error> {
+    let name = 4_u64.to_be_bytes();
+    let index = image.blob("i", name.as_slice()).unwrap_or(&[]);
+    let values = image.blob("v", name.as_slice()).unwrap_or(&[]);
+    has_sound::<Note, Sha256Seal>(alloc, 16, index, values, count)
+}
+
+// A sync that moves no marker is not refused, and settles. One that would move a marker, with no section left to settle, makes no call.
 #[test]
 fn moving(rt: HostRuntime) -> Result<(), Fail> {
     let alloc = rt.alloc();
@@ -49,6 +60,26 @@ fn moving(rt: HostRuntime) -> Result<(), Fail> {
     let refused = pair.sync_tracked(&mut dev, [4].as_slice(), [0].as_slice());
     assert_eq!(rt; refused.err(), Some(Error::Full));
     assert_eq!(rt; dev.calls(), calls);
+    Ok(())
+}
+
+// One that would move a marker settles its sections first, and changes no copy.
+#[test]
+fn settling(rt: HostRuntime) -> Result<(), Fail> {
+    let alloc = rt.alloc();
+    let mut dev = device(alloc, u64::MAX)?;
+    let pair: Numbers = pair_over(alloc, &mut dev, (), 16, 1024)?;
+    let pair = extended(pair, &mut dev, 4, [1].as_slice())?;
+    let pair = pair.sync_tracked(&mut dev, [4].as_slice(), [4].as_slice())?;
+    let pair = extended(pair, &mut dev, 4, [2].as_slice())?;
+    let before = dev.pick_crash(alloc, CrashChoice::Settled)?;
+    assert!(rt; has_records(alloc, &before, 1)? && !has_records(alloc, &before, 2)?);
+    let refused = pair.sync_tracked(&mut dev, [4].as_slice(), [0].as_slice());
+    assert_eq!(rt; refused.err(), Some(Error::Full));
+    let after = dev.pick_crash(alloc, CrashChoice::Settled)?;
+    assert!(rt; has_records(alloc, &after, 2)?);
+    assert_eq!(rt; after.blob("m", b"left"), before.blob("m", b"left"));
+    assert_eq!(rt; after.blob("m", b"right"), before.blob("m", b"right"));
     Ok(())
 }
 

@@ -16,28 +16,28 @@ use std::alloc::Global;
 use std::test::Fail;
 use value_codec::Sha256Seal;
 
-/// The left copy with the marker 2 of section 0, but for its seal.
-const LEFT: [u8; 45] = [
+/// The left copy with the marker 2 of section 0.
+const LEFT: [u8; 49] = [
     0, 0, 0, 0, 0, 0, 0, 1, 1, 0, 0, 0, 0, 0, 0, 0, 28, 0, 0, 0, 0, 0, 0, 0, 1, 0, 0, 0, 0, 0, 0,
-    0, 0, 0, 0, 0, 8, 0, 0, 0, 0, 0, 0, 0, 2,
+    0, 0, 0, 0, 0, 8, 0, 0, 0, 0, 0, 0, 0, 2, 76, 253, 58, 139,
 ];
 
-/// The right copy with the markers 2 of section 0 and 1 of section 4, but for its seal.
-const RIGHT: [u8; 65] = [
+/// The right copy with the markers 2 of section 0 and 1 of section 4.
+const RIGHT: [u8; 69] = [
     0, 0, 0, 0, 0, 0, 0, 2, 1, 0, 0, 0, 0, 0, 0, 0, 48, 0, 0, 0, 0, 0, 0, 0, 2, 0, 0, 0, 0, 0, 0,
     0, 0, 0, 0, 0, 8, 0, 0, 0, 0, 0, 0, 0, 2, 0, 0, 0, 0, 0, 0, 0, 4, 0, 0, 0, 8, 0, 0, 0, 0, 0, 0,
-    0, 1,
+    0, 1, 243, 245, 111, 73,
+];
+
+/// The right copy with the marker 1 of section 4 alone.
+const PRUNED: [u8; 49] = [
+    0, 0, 0, 0, 0, 0, 0, 2, 1, 0, 0, 0, 0, 0, 0, 0, 28, 0, 0, 0, 0, 0, 0, 0, 1, 0, 0, 0, 0, 0, 0,
+    0, 4, 0, 0, 0, 8, 0, 0, 0, 0, 0, 0, 0, 1, 126, 105, 189, 50,
 ];
 
 /// The bytes of a copy of the markers, none where it is not there.
 fn copy_of<'a>(image: &'a Image, side: &[u8]) -> &'a [u8] {
     image.blob("m", side).unwrap_or(&[])
-}
-
-/// Whether the copy has these bytes and a seal.
-fn is_copy(image: &Image, side: &[u8], front: &[u8]) -> bool {
-    let bytes = copy_of(image, side);
-    bytes.len() == front.len() + 4 && bytes.starts_with(front)
 }
 
 /// Whether the copy is there, without a byte.
@@ -62,12 +62,12 @@ fn writing(rt: HostRuntime) -> Result<(), Fail> {
     let pair = extended(pair, &mut dev, 4, [3].as_slice())?;
     let pair = pair.sync(&mut dev, [4].as_slice())?;
     let image = dev.pick_crash(alloc, CrashChoice::Settled)?;
-    assert!(rt; is_copy(&image, b"left", LEFT.as_slice()));
+    assert_eq!(rt; copy_of(&image, b"left"), LEFT.as_slice());
     assert!(rt; is_blank(&image, b"right"));
     let pair = pair.sync_tracked(&mut dev, [0, 4].as_slice(), [].as_slice())?;
     let image = dev.pick_crash(alloc, CrashChoice::Settled)?;
-    assert!(rt; is_copy(&image, b"left", LEFT.as_slice()));
-    assert!(rt; is_copy(&image, b"right", RIGHT.as_slice()));
+    assert_eq!(rt; copy_of(&image, b"left"), LEFT.as_slice());
+    assert_eq!(rt; copy_of(&image, b"right"), RIGHT.as_slice());
     let calls = dev.calls();
     pair.sync_tracked(&mut dev, [0, 4].as_slice(), [].as_slice())?;
     assert_eq!(rt; dev.calls(), calls);
@@ -108,7 +108,7 @@ fn pruning(rt: HostRuntime) -> Result<(), Fail> {
     let (pair, was) = pruned(alloc, &mut dev, &mut before)?;
     assert!(rt; was);
     assert_eq!(rt; dev.calls(), before.saturating_add(4));
-    assert_eq!(rt; copy_of(&dev.image(alloc)?, b"right").len(), 49);
+    assert_eq!(rt; copy_of(&dev.image(alloc)?, b"right"), PRUNED.as_slice());
     let (_, was) = pair.prune(&mut dev, 4)?;
     assert!(rt; !was);
     assert_eq!(rt; dev.calls(), before.saturating_add(4));

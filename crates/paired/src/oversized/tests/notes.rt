@@ -7,6 +7,7 @@ ghost use Rattle.value_codec.specs.Spelling.{size_refusal};
 ghost use Rattle.value_codec.specs.SpellingLaws.{size_too_few, size_too_many, size_few_only, size_many_only, size_not_memory};
 
 use crate::Record;
+use crate::glob::u32_in;
 use std::alloc::Global;
 use value_codec::{Codec, CodecFixed, codec};
 
@@ -38,15 +39,6 @@ fn u64_at(bytes: &[u8], at: usize) -> u64
     ensures value { result ≡ from_be_bytes w64 (take 8 (drop at bytes.now)) }
 {
     u64::from_be_bytes(<[u8; 8]>::try_from(&bytes[at..at + 8]).unwrap())
-}
-
-/// The number in the four bytes at a place, the highest first.
-fn u32_at(bytes: &[u8], at: usize) -> u32
-    requires { at + 4 ≤ length bytes.now }
-    ensures spelled { to_be_bytes w32 result ≡ take 4 (drop at bytes.now) }
-    ensures value { result ≡ from_be_bytes w32 (take 4 (drop at bytes.now)) }
-{
-    u32::from_be_bytes(<[u8; 4]>::try_from(&bytes[at..at + 4]).unwrap())
 }
 
 /// Each number is one of its type.
@@ -105,7 +97,7 @@ impl Codec for Note {
             number: u64_at(bytes, 0),
             tag: u64_at(bytes, 8),
             offset: u64_at(bytes, 16),
-            size: u32_at(bytes, 24),
+            size: u32_in(&bytes[24..28]),
         })
     }
 

@@ -18,7 +18,7 @@ use std::alloc::Global;
 use std::test::Fail;
 use value_codec::{Key, Key8, Sha256Seal};
 
-const CHOICES: [CrashChoice; 10] = [
+const CHOICES: [CrashChoice; 14] = [
     CrashChoice::Settled,
     CrashChoice::AsRead,
     CrashChoice::Mixed(0),
@@ -29,6 +29,10 @@ const CHOICES: [CrashChoice; 10] = [
     CrashChoice::Mixed(5),
     CrashChoice::Mixed(6),
     CrashChoice::Mixed(7),
+    CrashChoice::Mixed(u64::MAX),
+    CrashChoice::Mixed(u64::MAX - 1),
+    CrashChoice::Mixed(0x5555_5555_5555_5555),
+    CrashChoice::Mixed(0xAAAA_AAAA_AAAA_AAAA),
 ];
 
 const PAGE: u16 = 16;
@@ -131,7 +135,10 @@ fn filled<D: Device>(
     let (pair, handle) = pair.start_sync(dev, [0].as_slice())?;
     handle.wait();
     zero.settle();
-    grown(pair, dev, 4, four, [14].as_slice())
+    let pair = grown(pair, dev, 4, four, [14].as_slice())?;
+    let pair = pair.sync_tracked(dev, [4].as_slice(), [0].as_slice())?;
+    four.settle();
+    grown(pair, dev, 4, four, [15].as_slice())
 }
 
 /// Removes the one section, goes on with the other, and removes all.
@@ -146,12 +153,12 @@ fn emptied<D: Device>(
     zero.leave();
     let (pair, _) = pair.prune(dev, 4)?;
     zero.end();
-    let pair = grown(pair, dev, 4, four, [15, 16].as_slice())?;
+    let pair = grown(pair, dev, 4, four, [16, 17].as_slice())?;
     let pair = pair.sync_all(dev)?;
     four.settle();
     let (pair, handle) = pair.start_sync_tracked(dev, [4].as_slice(), [].as_slice())?;
     handle.wait();
-    let pair = grown(pair, dev, 4, four, [17].as_slice())?;
+    let pair = grown(pair, dev, 4, four, [18].as_slice())?;
     four.leave();
     pair.destroy(dev)?;
     four.end();

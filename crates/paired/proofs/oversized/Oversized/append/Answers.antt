@@ -252,3 +252,6 @@ returns-clause-values g c t =
     let laid = is_laid c.requires.over (are_pages g.row.S g.S.Seal g.S.Seal-dict) refl refl refl refl g.met.I.CodecFixed.fixed.at_least in
     values_bytes_on (shown g.I.Record.place c.args.self) (g.D.Device.opened c.args.dev.now) (g.D.Device.time c.args.dev.now) c.requires.over laid c.args.section (managed.shown c.in_ok-values.values.manager) c.in_ok-values.ensures.bounds (g.I.Codec.spelling c.naming-entry.result) (g.D.Device.time c.append.new.dev) (g.D.Device.time c.append-2.new.dev) (record { alone = c.append-2.ensures.alone t; moments = c.append-2.ensures.moments t; made = c.append-2.ensures.made t })
     ∙ c.in_ok-values.ensures.bytes t
+
+pub returns-clause-others : goal.returns-clause-others
+returns-clause-others g c s other = (c.in_ok-index.ensures.others s other, c.in_ok-values.ensures.others s other)

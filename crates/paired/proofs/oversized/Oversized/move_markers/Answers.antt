@@ -1,27 +1,22 @@
-use Rattle.std.proofs.Common.{◌≡◌, ◌⊎◌, inl, inr, ℕ, Bool, true, false, List, Option, None, Some, refl, sym, ◌∙◌, ap, subst, arith}
-use Rattle.std.specs.Prelude.{◌≤◌, ◌<◌, unwrap_or}
+use Rattle.std.proofs.Common.{◌≡◌, inl, inr, refl, sym, ◌∙◌, ap, subst, arith}
 use Rattle.std.specs.List.{Contains}
 use Rattle.std.proofs.lemmas.Bool.{cases_Bool}
-use Rattle.blob_device.specs.Disk.{Key, Disk}
-use Rattle.blob_device.specs.Timeline.{disk, Always}
+use Rattle.blob_device.specs.Disk.{Key}
+use Rattle.blob_device.specs.Timeline.{disk}
 use Rattle.blob_device.proofs.Results.{err_of}
 use Rattle.segments.specs.Raised.{raised_metadata}
 use Rattle.blob_device.proofs.Moments.{always_now, always_start, always_weaker}
 use Rattle.segments.specs.FixedShown as fixed
-use Rattle.segments.specs.Managed as manager
 use Rattle.segments.proofs.FixedWriteLemmas.{are_pages}
 use Rattle.segments.proofs.WalkLemmas.{contains_or_not}
-use Rattle.value_codec.specs.declared.key.Key8.{Key8}
 use Rattle.meta_store.specs.Blobs.{blob_of, other_side, OnlyOne}
 use Rattle.meta_store.specs.Calls.{IsOpened}
 use Rattle.meta_store.specs.Crashes as metadata
 use Rattle.meta_store.specs.declared.error.Side.TheVariants.{Left, Right}
-use Rattle.meta_store.specs.Store.{Store, Stands, MayBeSynced}
+use Rattle.meta_store.specs.Store.{Stands, MayBeSynced}
 use Rattle.meta_store.proofs.Sides.{sides_apart}
 use Rattle.meta_store.proofs.SyncingLemmas.{stands_alone}
 use Rattle.paired.specs.Crashes.{IsCopy}
-use Rattle.paired.specs.Kept.{Markers, IsMarked, marker_of}
-use Rattle.paired.specs.Pair.{Pair, IsPair, IsSoundOn}
 use Rattle.paired.specs.PairShown.{shown}
 use Rattle.paired.specs.TrackedShown as tracked
 use Rattle.paired.proofs.PairMarked.{Moved, moved_on, moved_marked, marked_synced, moving_differs, none_trails, some_or_none, synced_unstaged, synced_same, synced_place, marked_again, marked_as, marked_sound_as, marked_lists, markers_keep}

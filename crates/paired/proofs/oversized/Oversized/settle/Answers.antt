@@ -1,7 +1,6 @@
-use Rattle.std.proofs.Common.{◌≡◌, ◌⊎◌, inl, inr, ℕ, ◌/◌, refl, sym, ◌∙◌, ap, subst, arith}
-use Rattle.std.specs.Prelude.{◌≤◌, ◌<◌, unwrap_or}
+use Rattle.std.proofs.Common.{inl, inr, ℕ, ◌/◌, refl, sym, ◌∙◌, ap, arith}
+use Rattle.std.specs.Prelude.{◌<◌, unwrap_or}
 use Rattle.std.specs.List.{Contains}
-use Rattle.blob_device.specs.Disk.{Disk}
 use Rattle.blob_device.proofs.Results.{err_of}
 use Rattle.blob_device.specs.Timeline.{disk}
 use Rattle.segments.specs.FixedLists.{section_size}

@@ -11,7 +11,7 @@ use Rattle.segments.proofs.WalkLemmas.{contains_or_not}
 use Rattle.paired.specs.Crashes.{IsBlobOf, IsCopy, IsIndexOf, IsValuesOf}
 use Rattle.paired.specs.Pair.{list_of, synced_length}
 use Rattle.paired.specs.PairShown.{shown}
-use Rattle.paired.proofs.PairFaultLemmas.{none_lost, before_markers}
+use Rattle.paired.proofs.PairFaultLemmas.{before_them, before_markers}
 use Rattle.paired.proofs.PairFailing.{only_failed}
 use Rattle.paired.proofs.PairMarked.{if_ok, if_both, lists_keep}
 use Rattle.paired.proofs.PairSettling.{all_in_order, any_blob, blob_within, copy_no_blob, keeping_wider, parts_of}
@@ -134,4 +134,4 @@ returns-clause-fault g c t =
     before_markers p (λ _. ⊤) r _ _ a b
     (always_weaker a b (λ d. (q : Key) → (IsBlobOf p.layout named q → ⊥) → d q ≡ disk a q) (λ d. (q : Key) → IsCopy p.layout q → d q ≡ disk a q)
     (λ d only q is. only q (copy_no_blob p.layout named c.requires.over.apart q is)) (says.alone t))
-    (none_lost r _ _ _ _ _ says.cause)
+    (before_them r _ _ _ _ _ says.cause)

@@ -14,7 +14,7 @@ use Rattle.paired.specs.Kept.{Layout}
 use Rattle.paired.specs.Pair.{IsSoundOn, IsMoving, list_of, synced_length}
 use Rattle.paired.specs.PairShown.{shown}
 use Rattle.paired.proofs.PairMarked.{moving_after, moving_before, if_ok, if_both}
-use Rattle.paired.proofs.PairFaultLemmas.{none_lost_as, before_markers, rests_still}
+use Rattle.paired.proofs.PairFaultLemmas.{before_them_as, before_markers, rests_still}
 use Rattle.paired.proofs.PairFailing.{pruned_ok, not_pruned, lost_since, markers_failed}
 use Rattle.paired.proofs.PairSettling.{copy_no_blob, own_blob, in_order, in_order_then, keeping_wider}
 use Rattle.paired.proofs.PairMoments.{keeping_then}
@@ -315,7 +315,7 @@ returns-in_err-this-clause-fault g c t =
     before_markers p named r _ _ a b
     (always_weaker a b (λ d. (k : Key) → (IsBlobOf p.layout named k → ⊥) → d k ≡ disk a k) (λ d. (k : Key) → IsCopy p.layout k → d k ≡ disk a k)
     (λ d only k is. only k (copy_no_blob p.layout named c.requires.over.apart k is)) (c.settle.ensures.alone t))
-    (none_lost_as r e _ _ _ _ _ (err_of r e c.from_residual.ensures.1) c.in_err-this.ensures.cause)
+    (before_them_as r e _ _ _ _ _ (err_of r e c.from_residual.ensures.1) c.in_err-this.ensures.cause)
 
 pub returns-clause-fault : goal.returns-clause-fault
 returns-clause-fault g c t =
@@ -333,9 +333,9 @@ returns-clause-fault g c t =
     (λ d only k is. only k (λ copy. copy_no_blob p.layout named c.requires.over.apart k (subst (λ l. IsCopy l k) layouts copy) is)) (moves.alone t) in
     record {
       sections = λ is. absurd (moves.fault is);
-      at_rest = λ lost. rests_still p named (disk b) (disk e) (λ s held. c.requires.over.index.over.opened_list.number s (inl held)) (λ s held. c.requires.over.values.over.opened_list.number s (inl held))
+      at_rest = λ stops. rests_still p named (disk b) (disk e) (λ s held. c.requires.over.index.over.opened_list.number s (inl held)) (λ s held. c.requires.over.values.over.opened_list.number s (inl held))
           (always_now b e (λ d. (k : Key) → IsBlobOf p.layout named k → d k ≡ disk b k) blobs) (says.rests t);
-      leaves = λ lost sound synced after.
+      leaves = λ stops sound synced after.
           let more : (s : ℕ) → synced s ≤ synced_length q s = (λ s. elim (decides s) [
             | inl is ↦ omega (arith, says.named s is, after.named s is)
             | inr not ↦ omega (arith, says.others s not, after.others s not)

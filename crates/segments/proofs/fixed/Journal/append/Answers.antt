@@ -11,8 +11,9 @@ use Rattle.sealed_pages.specs.ChanceSeal.{Sealing}
 use Rattle.sealed_pages.specs.declared.page_blob.PageBlob.{PageBlob}
 use Rattle.sealed_pages.specs.Entries.{IsOpenAt}
 use Rattle.sealed_pages.specs.Flushing.{Alone}
+use Rattle.sealed_pages.specs.SealedPrefix.{sealed_prefix}
 use Rattle.sealed_pages.specs.Shown as page_blob
-use Rattle.sealed_pages.specs.Unrecovered.{IsAdopted, IsUnrecovered}
+use Rattle.sealed_pages.specs.Unrecovered.{IsAdopted, IsUnrecovered, KeepsPrefix}
 use Rattle.sealed_pages.proofs.PageCalls.{alone_start, alone_then, only_weaker}
 use Rattle.sealed_pages.proofs.UnrecoveredLemmas.{adopted_backed}
 use Rattle.segments.specs.declared.journal.Error.{Error}
@@ -26,19 +27,20 @@ use Rattle.segments.specs.Managed as managed
 use Rattle.segments.specs.Sections.{section_key, key_of}
 use Rattle.segments.proofs.WalkLemmas.{none_or_value}
 use Rattle.segments.proofs.FixedWriteLemmas.{are_pages, size_here, bytes_here}
-use Rattle.segments.proofs.FixedAppendLemmas.{Takes, Appends, appended_adopted, taken_adopted, start_sealing, held_sealing, beginning, taken_sealed, taken_size, taken_bytes, crashes_as, was_ok, was_err, at_ok, full_is, no_room_made, full_here, same_setting, append_journal}
+use Rattle.segments.proofs.FixedCalls.{moved}
+use Rattle.segments.proofs.FixedAppendLemmas.{Takes, Appends, steady_start, appended_adopted, taken_adopted, start_sealing, held_sealing, beginning, taken_still, taken_sealed, taken_size, taken_bytes, crashes_as, was_ok, was_err, at_ok, full_is, no_room_made, full_here, same_setting, append_journal}
 use Rattle.segments.proofs.fixed.Journal.append.Goals as goal
 
 pub returns-in_err-bytes-clause-moments : goal.returns-in_err-bytes-clause-moments
-returns-in_err-bytes-clause-moments g c t u held proven = start_sealing g.S.Seal.seal_of g.A.CodecFixed.SIZE g.D.Device.Tells _ (are_pages g.row.S g.S.Seal g.S.Seal-dict) _ (shown c.args.self) (g.D.Device.opened c.args.dev.now) (g.D.Device.time c.args.dev.now) c.requires.over c.args.section c.requires.recovered t u held proven (g.A.Codec.spelling c.args.item.now)
+returns-in_err-bytes-clause-moments g c t u held sealed = start_sealing g.S.Seal.seal_of g.A.CodecFixed.SIZE g.D.Device.Tells _ (are_pages g.row.S g.S.Seal g.S.Seal-dict) _ (shown c.args.self) (g.D.Device.opened c.args.dev.now) (g.D.Device.time c.args.dev.now) c.requires.over c.args.section c.requires.recovered u held sealed (g.A.Codec.spelling c.args.item.now)
 
 pub returns-in_err-buffer-clause-moments : goal.returns-in_err-buffer-clause-moments
-returns-in_err-buffer-clause-moments g c t u held proven =
+returns-in_err-buffer-clause-moments g c t u held sealed =
     let d = disk (g.D.Device.time c.args.dev.now) in
     let m = (shown c.args.self).sections in
     let stood : g.D.Device.time c.args.dev.now ≡ g.D.Device.time c.take.new.dev = ap g.D.Device.time (sym (c.take.ensures.untouched (subst IsSome (sym held) refl))) in
     subst (λ (x : Timeline). Sealing g.S.Seal.seal_of u.page_size (section_bytes m d c.args.section ++ g.A.Codec.spelling c.args.item.now) u.settled (key_of m c.args.section) (g.D.Device.time c.args.dev.now) x) stood
-    (start_sealing g.S.Seal.seal_of g.A.CodecFixed.SIZE g.D.Device.Tells _ (are_pages g.row.S g.S.Seal g.S.Seal-dict) _ (shown c.args.self) (g.D.Device.opened c.args.dev.now) (g.D.Device.time c.args.dev.now) c.requires.over c.args.section c.requires.recovered t u held proven (g.A.Codec.spelling c.args.item.now))
+    (start_sealing g.S.Seal.seal_of g.A.CodecFixed.SIZE g.D.Device.Tells _ (are_pages g.row.S g.S.Seal g.S.Seal-dict) _ (shown c.args.self) (g.D.Device.opened c.args.dev.now) (g.D.Device.time c.args.dev.now) c.requires.over c.args.section c.requires.recovered u held sealed (g.A.Codec.spelling c.args.item.now))
 
 pub returns-in_err-buffer-clause-made : goal.returns-in_err-buffer-clause-made
 returns-in_err-buffer-clause-made g c t none =
@@ -66,7 +68,7 @@ returns-in_err-buffer-clause-no_room g c t is =
     ]
 
 pub returns-in_err-buffer-2-clause-moments : goal.returns-in_err-buffer-2-clause-moments
-returns-in_err-buffer-2-clause-moments g c t w held proven =
+returns-in_err-buffer-2-clause-moments g c t w held sealed =
     let takes : Takes g.S.Seal.seal_of g.A.CodecFixed.SIZE g.D.Device.Tells _ (are_pages g.row.S g.S.Seal g.S.Seal-dict) _ (shown c.args.self) (g.D.Device.opened c.args.dev.now) (g.D.Device.time c.args.dev.now) c.requires.over c.args.section c.requires.recovered (g.D.Device.time c.take.new.dev) c.in_ok-buffer.buffer = record {
       same = c.in_ok-buffer.ensures.same;
       untouched = λ held. ap (λ (x : g.row.D.Denot). disk (g.D.Device.time x)) (c.take.ensures.untouched held);
@@ -78,7 +80,7 @@ returns-in_err-buffer-2-clause-moments g c t w held proven =
     let u = c.in_ok-buffer.buffer in
     let now = g.D.Device.time c.take.new.dev in
     let sealing = crashes_as g.S.Seal.seal_of (page_blob.shown u) (pages.key_of (page_blob.shown u)) (key_of m c.args.section) c.as_slice.result.now (g.A.Codec.spelling c.args.item.now) now (g.D.Device.time c.append.new.dev)
-    c.in_ok-buffer.ensures.key (c.as_slice.ensures.value ∙ c.in_ok-bytes.ensures.bytes) (taken_sealed g.S.Seal.seal_of g.A.CodecFixed.SIZE g.D.Device.Tells _ (are_pages g.row.S g.S.Seal g.S.Seal-dict) _ (shown c.args.self) (g.D.Device.opened c.args.dev.now) (g.D.Device.time c.args.dev.now) c.requires.over c.args.section c.requires.recovered c.ranges.section.fits now u takes t (inr proven)) (c.append.ensures.crashes t) in
+    c.in_ok-buffer.ensures.key (c.as_slice.ensures.value ∙ c.in_ok-bytes.ensures.bytes) (taken_still g.S.Seal.seal_of g.A.CodecFixed.SIZE g.D.Device.Tells _ (are_pages g.row.S g.S.Seal g.S.Seal-dict) _ (shown c.args.self) (g.D.Device.opened c.args.dev.now) (g.D.Device.time c.args.dev.now) c.requires.over c.args.section c.requires.recovered c.ranges.section.fits now u takes w held sealed) (c.append.ensures.crashes t) in
     held_sealing g.S.Seal.seal_of g.A.CodecFixed.SIZE g.D.Device.Tells _ (are_pages g.row.S g.S.Seal g.S.Seal-dict) _ (shown c.args.self) (g.D.Device.opened c.args.dev.now) (g.D.Device.time c.args.dev.now) c.requires.over c.args.section c.requires.recovered c.ranges.section.fits now u takes t w held (g.A.Codec.spelling c.args.item.now) (g.D.Device.time c.append.new.dev)
     (ap g.D.Device.time (sym (c.take.ensures.untouched (subst IsSome (sym held) refl)))) sealing
 
@@ -110,7 +112,7 @@ pub returns-in_err-buffer-2-clause-entries : goal.returns-in_err-buffer-2-clause
 returns-in_err-buffer-2-clause-entries g c q other = c.append.ensures.entries.others q (λ is. other (is ∙ c.in_ok-buffer.ensures.key)) ∙ c.take.ensures.entries q other
 
 pub returns-in_err-put-clause-moments : goal.returns-in_err-put-clause-moments
-returns-in_err-put-clause-moments g c t w held proven =
+returns-in_err-put-clause-moments g c t w held sealed =
     let takes : Takes g.S.Seal.seal_of g.A.CodecFixed.SIZE g.D.Device.Tells _ (are_pages g.row.S g.S.Seal g.S.Seal-dict) _ (shown c.args.self) (g.D.Device.opened c.args.dev.now) (g.D.Device.time c.args.dev.now) c.requires.over c.args.section c.requires.recovered (g.D.Device.time c.take.new.dev) c.in_ok-buffer.buffer = record {
       same = c.in_ok-buffer.ensures.same;
       untouched = λ held. ap (λ (x : g.row.D.Denot). disk (g.D.Device.time x)) (c.take.ensures.untouched held);
@@ -122,7 +124,7 @@ returns-in_err-put-clause-moments g c t w held proven =
     let u = c.in_ok-buffer.buffer in
     let now = g.D.Device.time c.take.new.dev in
     let sealing = crashes_as g.S.Seal.seal_of (page_blob.shown u) (pages.key_of (page_blob.shown u)) (key_of m c.args.section) c.as_slice.result.now (g.A.Codec.spelling c.args.item.now) now (g.D.Device.time c.append.new.dev)
-    c.in_ok-buffer.ensures.key (c.as_slice.ensures.value ∙ c.in_ok-bytes.ensures.bytes) (taken_sealed g.S.Seal.seal_of g.A.CodecFixed.SIZE g.D.Device.Tells _ (are_pages g.row.S g.S.Seal g.S.Seal-dict) _ (shown c.args.self) (g.D.Device.opened c.args.dev.now) (g.D.Device.time c.args.dev.now) c.requires.over c.args.section c.requires.recovered c.ranges.section.fits now u takes t (inr proven)) (c.append.ensures.crashes t) in
+    c.in_ok-buffer.ensures.key (c.as_slice.ensures.value ∙ c.in_ok-bytes.ensures.bytes) (taken_still g.S.Seal.seal_of g.A.CodecFixed.SIZE g.D.Device.Tells _ (are_pages g.row.S g.S.Seal g.S.Seal-dict) _ (shown c.args.self) (g.D.Device.opened c.args.dev.now) (g.D.Device.time c.args.dev.now) c.requires.over c.args.section c.requires.recovered c.ranges.section.fits now u takes w held sealed) (c.append.ensures.crashes t) in
     held_sealing g.S.Seal.seal_of g.A.CodecFixed.SIZE g.D.Device.Tells _ (are_pages g.row.S g.S.Seal g.S.Seal-dict) _ (shown c.args.self) (g.D.Device.opened c.args.dev.now) (g.D.Device.time c.args.dev.now) c.requires.over c.args.section c.requires.recovered c.ranges.section.fits now u takes t w held (g.A.Codec.spelling c.args.item.now) (g.D.Device.time c.append.new.dev)
     (ap g.D.Device.time (sym (c.take.ensures.untouched (subst IsSome (sym held) refl)))) sealing
 
@@ -154,7 +156,7 @@ pub returns-in_err-put-clause-entries : goal.returns-in_err-put-clause-entries
 returns-in_err-put-clause-entries g c q other = c.append.ensures.entries.others q (λ is. other (is ∙ c.in_ok-buffer.ensures.key)) ∙ c.take.ensures.entries q other
 
 pub returns-clause-moments : goal.returns-clause-moments
-returns-clause-moments g c t w held proven =
+returns-clause-moments g c t w held sealed =
     let takes : Takes g.S.Seal.seal_of g.A.CodecFixed.SIZE g.D.Device.Tells _ (are_pages g.row.S g.S.Seal g.S.Seal-dict) _ (shown c.args.self) (g.D.Device.opened c.args.dev.now) (g.D.Device.time c.args.dev.now) c.requires.over c.args.section c.requires.recovered (g.D.Device.time c.take.new.dev) c.in_ok-buffer.buffer = record {
       same = c.in_ok-buffer.ensures.same;
       untouched = λ held. ap (λ (x : g.row.D.Denot). disk (g.D.Device.time x)) (c.take.ensures.untouched held);
@@ -166,7 +168,7 @@ returns-clause-moments g c t w held proven =
     let u = c.in_ok-buffer.buffer in
     let now = g.D.Device.time c.take.new.dev in
     let sealing = crashes_as g.S.Seal.seal_of (page_blob.shown u) (pages.key_of (page_blob.shown u)) (key_of m c.args.section) c.as_slice.result.now (g.A.Codec.spelling c.args.item.now) now (g.D.Device.time c.append.new.dev)
-    c.in_ok-buffer.ensures.key (c.as_slice.ensures.value ∙ c.in_ok-bytes.ensures.bytes) (taken_sealed g.S.Seal.seal_of g.A.CodecFixed.SIZE g.D.Device.Tells _ (are_pages g.row.S g.S.Seal g.S.Seal-dict) _ (shown c.args.self) (g.D.Device.opened c.args.dev.now) (g.D.Device.time c.args.dev.now) c.requires.over c.args.section c.requires.recovered c.ranges.section.fits now u takes t (inr proven)) (c.append.ensures.crashes t) in
+    c.in_ok-buffer.ensures.key (c.as_slice.ensures.value ∙ c.in_ok-bytes.ensures.bytes) (taken_still g.S.Seal.seal_of g.A.CodecFixed.SIZE g.D.Device.Tells _ (are_pages g.row.S g.S.Seal g.S.Seal-dict) _ (shown c.args.self) (g.D.Device.opened c.args.dev.now) (g.D.Device.time c.args.dev.now) c.requires.over c.args.section c.requires.recovered c.ranges.section.fits now u takes w held sealed) (c.append.ensures.crashes t) in
     held_sealing g.S.Seal.seal_of g.A.CodecFixed.SIZE g.D.Device.Tells _ (are_pages g.row.S g.S.Seal g.S.Seal-dict) _ (shown c.args.self) (g.D.Device.opened c.args.dev.now) (g.D.Device.time c.args.dev.now) c.requires.over c.args.section c.requires.recovered c.ranges.section.fits now u takes t w held (g.A.Codec.spelling c.args.item.now) (g.D.Device.time c.append.new.dev)
     (ap g.D.Device.time (sym (c.take.ensures.untouched (subst IsSome (sym held) refl)))) sealing
 
@@ -429,3 +431,52 @@ returns-clause-alone g c t =
     (only_weaker (g.D.Device.time c.args.dev.now) (g.D.Device.time c.take.new.dev) (key_of (shown c.args.self).sections c.args.section) (disk (g.D.Device.time c.args.dev.now))
     (IsOpening (disk (g.D.Device.time c.args.dev.now) (key_of (shown c.args.self).sections c.args.section))) (λ b. Unit {0}) (λ x is. tt) (c.take.ensures.moments t))
     (subst (λ (q : Key). Alone q now (g.D.Device.time c.append.new.dev)) here (c.append.ensures.alone t (adopted_backed g.S.Seal.seal_of (page_blob.shown u) (disk now (pages.key_of (page_blob.shown u))) adopted)))
+
+pub returns-clause-sealed : goal.returns-clause-sealed
+returns-clause-sealed g c t w x held after sealed =
+    let takes : Takes g.S.Seal.seal_of g.A.CodecFixed.SIZE g.D.Device.Tells _ (are_pages g.row.S g.S.Seal g.S.Seal-dict) _ (shown c.args.self) (g.D.Device.opened c.args.dev.now) (g.D.Device.time c.args.dev.now) c.requires.over c.args.section c.requires.recovered (g.D.Device.time c.take.new.dev) c.in_ok-buffer.buffer = record {
+      same = c.in_ok-buffer.ensures.same;
+      untouched = λ held. ap (λ (x : g.row.D.Denot). disk (g.D.Device.time x)) (c.take.ensures.untouched held);
+      stands = c.in_ok-buffer.ensures.stands;
+      made = c.in_ok-buffer.ensures.made;
+      bytes = c.in_ok-buffer.ensures.bytes;
+    } in
+    let u = c.in_ok-buffer.buffer in
+    let v = c.in_ok-buffer-2.buffer in
+    let ok = was_ok Error c.append.result (v, c.in_ok-buffer-2.offset) c.in_ok-buffer-2.ensures.cases in
+    let now = g.D.Device.time c.take.new.dev in
+    let end = g.D.Device.time c.append.new.dev in
+    let here = c.in_ok-buffer.ensures.key in
+    let same : v ≡ x = (let put = c.in_ok-put.ensures.put.here in cc (put, after)) in
+    subst (λ (y : PageBlob g.row.S.Denot g.S.Seal). IsSealed g.S.Seal.seal_of (page_blob.shown y) (disk end (key_of (shown c.args.self).sections c.args.section))) same
+    (subst (λ (q : Key). IsSealed g.S.Seal.seal_of (page_blob.shown v) (disk end q)) here
+    (at_ok c.append.result (v, c.in_ok-buffer-2.offset) (λ (y : PageBlob g.row.S.Denot g.S.Seal × ℕ). IsSealed g.S.Seal.seal_of (page_blob.shown y.0) (disk end (pages.key_of (page_blob.shown u)))) ok
+    (c.append.ensures.sealed t (subst (λ (q : Key). IsSealed g.S.Seal.seal_of (page_blob.shown u) (disk now q)) (sym here) (taken_still g.S.Seal.seal_of g.A.CodecFixed.SIZE g.D.Device.Tells _ (are_pages g.row.S g.S.Seal g.S.Seal-dict) _ (shown c.args.self) (g.D.Device.opened c.args.dev.now) (g.D.Device.time c.args.dev.now) c.requires.over c.args.section c.requires.recovered c.ranges.section.fits now u takes w held sealed)))))
+
+pub returns-in_err-prune_guard-clause-steady : goal.returns-in_err-prune_guard-clause-steady
+returns-in_err-prune_guard-clause-steady g c t u held un = steady_start g.S.Seal.seal_of (page_blob.shown u) (key_of (shown c.args.self).sections c.args.section) (g.D.Device.time c.args.dev.now) u.fit.begun un
+
+pub returns-in_err-bytes-clause-steady : goal.returns-in_err-bytes-clause-steady
+returns-in_err-bytes-clause-steady g c t u held un = steady_start g.S.Seal.seal_of (page_blob.shown u) (key_of (shown c.args.self).sections c.args.section) (g.D.Device.time c.args.dev.now) u.fit.begun un
+
+pub returns-in_err-buffer-clause-steady : goal.returns-in_err-buffer-clause-steady
+returns-in_err-buffer-clause-steady g c t u held un =
+    let k = key_of (shown c.args.self).sections c.args.section in
+    let now = g.D.Device.time c.args.dev.now in
+    let stood : now ≡ g.D.Device.time c.take.new.dev = ap g.D.Device.time (sym (c.take.ensures.untouched (subst IsSome (sym held) refl))) in
+    subst (λ (x : Timeline). KeepsPrefix g.S.Seal.seal_of u.page_size (sealed_prefix g.S.Seal.seal_of u.page_size (disk now k).content) k now x) stood (steady_start g.S.Seal.seal_of (page_blob.shown u) k now u.fit.begun un)
+
+pub returns-in_err-buffer-2-clause-steady : goal.returns-in_err-buffer-2-clause-steady
+returns-in_err-buffer-2-clause-steady g c t w held un =
+    moved c.in_ok-buffer.buffer w (c.in_ok-buffer.ensures.same w held) (key_of (shown c.args.self).sections c.args.section) (g.D.Device.time c.take.new.dev) (g.D.Device.time c.args.dev.now) (ap g.D.Device.time (c.take.ensures.untouched (subst IsSome (sym held) refl))) c.in_ok-buffer.ensures.key
+    (λ (x : PageBlob g.row.S.Denot g.S.Seal) (k : Key) (s : Timeline). IsUnrecovered g.S.Seal.seal_of (page_blob.shown x) (disk s k) → KeepsPrefix g.S.Seal.seal_of x.page_size (sealed_prefix g.S.Seal.seal_of x.page_size (disk s k).content) k s (g.D.Device.time c.append.new.dev)) (c.append.ensures.steady t) un
+
+pub returns-in_err-put-clause-steady : goal.returns-in_err-put-clause-steady
+returns-in_err-put-clause-steady g c t w held un =
+    moved c.in_ok-buffer.buffer w (c.in_ok-buffer.ensures.same w held) (key_of (shown c.args.self).sections c.args.section) (g.D.Device.time c.take.new.dev) (g.D.Device.time c.args.dev.now) (ap g.D.Device.time (c.take.ensures.untouched (subst IsSome (sym held) refl))) c.in_ok-buffer.ensures.key
+    (λ (x : PageBlob g.row.S.Denot g.S.Seal) (k : Key) (s : Timeline). IsUnrecovered g.S.Seal.seal_of (page_blob.shown x) (disk s k) → KeepsPrefix g.S.Seal.seal_of x.page_size (sealed_prefix g.S.Seal.seal_of x.page_size (disk s k).content) k s (g.D.Device.time c.append.new.dev)) (c.append.ensures.steady t) un
+
+pub returns-clause-steady : goal.returns-clause-steady
+returns-clause-steady g c t w held un =
+    moved c.in_ok-buffer.buffer w (c.in_ok-buffer.ensures.same w held) (key_of (shown c.args.self).sections c.args.section) (g.D.Device.time c.take.new.dev) (g.D.Device.time c.args.dev.now) (ap g.D.Device.time (c.take.ensures.untouched (subst IsSome (sym held) refl))) c.in_ok-buffer.ensures.key
+    (λ (x : PageBlob g.row.S.Denot g.S.Seal) (k : Key) (s : Timeline). IsUnrecovered g.S.Seal.seal_of (page_blob.shown x) (disk s k) → KeepsPrefix g.S.Seal.seal_of x.page_size (sealed_prefix g.S.Seal.seal_of x.page_size (disk s k).content) k s (g.D.Device.time c.append.new.dev)) (c.append.ensures.steady t) un

@@ -7,9 +7,10 @@ use Rattle.sealed_pages.proofs.EntryLemmas.{only_read_of}
 use Rattle.sealed_pages.proofs.Looking.{unchanged_now}
 use Rattle.segments.specs.FixedItems.{item_at, IsItem}
 use Rattle.segments.specs.FixedReading.{IsDamaged, IsItemCovered}
+use Rattle.segments.specs.FixedShown as lists
 use Rattle.segments.specs.Managed.{shown}
 use Rattle.segments.specs.Sections.{key_of}
-use Rattle.segments.proofs.FixedSections.{bytes_own, own_here, journal_read, reads_as}
+use Rattle.segments.proofs.FixedSections.{bytes_own, own_here, journal_read, reads_as, sound_page}
 use Rattle.segments.proofs.fixed.Journal.get.Goals as goal
 
 pub returns-clause-item : goal.returns-clause-item
@@ -63,3 +64,10 @@ returns-clause-reads g c is =
     reads_as (g.A.CodecFixed.SIZE / u.page_size + 2) (g.A.CodecFixed.SIZE / m.factory.pages.page_size + 2) (pages.key_of (page_blob.shown u)) (key_of m c.args.section) _ _
     (let same : u.page_size ≡ m.factory.pages.page_size = λ i. (c.requires.over.opened_list.setting c.args.section u held i).page_size in ap (λ (P : ℕ). g.A.CodecFixed.SIZE / P + 2) same)
     (c.requires.over.opened_list.key c.args.section u held) c.read_item.ensures.reads
+
+pub returns-clause-sound : goal.returns-clause-sound
+returns-clause-sound g c t which k is =
+    let m = shown c.args.self.now.manager in
+    let u = c.in_ok-buffer.buffer.now in
+    sound_page _ _ g.S.Seal.seal_of g.A.CodecFixed.SIZE g.D.Device.Tells (lists.shown c.args.self.now) _ (disk (g.D.Device.time c.args.dev.now)) c.requires t c.args.section (λ v. c.args.position) k which
+    (own_here m c.args.section u c.in_ok-buffer.ensures.held (c.requires.over.opened_list.key c.args.section u c.in_ok-buffer.ensures.held) (λ v b. IsDamaged g.A.CodecFixed.SIZE g.S.Seal.seal_of v b.content c.args.position k) (disk (g.D.Device.time c.args.dev.now)) (c.read_item.ensures.damaged t k is))

@@ -9,10 +9,11 @@ use Rattle.segments.specs.declared.journal.Error.TheVariants.{Runtime, Codec}
 use Rattle.segments.specs.FixedItems.{item_at, IsItem}
 use Rattle.segments.specs.FixedLists.{section_bytes, section_size}
 use Rattle.segments.specs.FixedReading.{IsDamaged, IsItemCovered}
+use Rattle.segments.specs.FixedShown as lists
 use Rattle.segments.specs.Managed.{shown}
 use Rattle.segments.specs.Sections.{key_of}
 use Rattle.segments.proofs.FixedErrors.{of_error}
-use Rattle.segments.proofs.FixedSections.{size_here, from_here, bytes_own, own_here, journal_read, reads_as}
+use Rattle.segments.proofs.FixedSections.{size_here, from_here, bytes_own, own_here, journal_read, reads_as, sound_page}
 use Rattle.segments.proofs.fixed.Journal.last.Goals as goal
 
 pub returns-in_err-item-clause-damaged : goal.returns-in_err-item-clause-damaged
@@ -93,3 +94,8 @@ returns-clause-reads g c is =
     let same : u.page_size ≡ m.factory.pages.page_size = λ i. (c.requires.over.opened_list.setting c.args.section u held i).page_size in
     reads_as (g.A.CodecFixed.SIZE / u.page_size + 2) (g.A.CodecFixed.SIZE / m.factory.pages.page_size + 2) (pages.key_of (page_blob.shown u)) (key_of m c.args.section) _ _
     (ap (λ (P : ℕ). g.A.CodecFixed.SIZE / P + 2) same) (c.requires.over.opened_list.key c.args.section u held) c.in_ok-item.ensures.reads
+
+pub returns-in_err-item-clause-sound : goal.returns-in_err-item-clause-sound
+returns-in_err-item-clause-sound g c t which k is =
+    sound_page _ _ g.S.Seal.seal_of g.A.CodecFixed.SIZE g.D.Device.Tells (lists.shown c.args.self.now) _ (disk (g.D.Device.time c.args.dev.now)) c.requires t c.args.section (λ v. pages.size_of (page_blob.shown v) / g.A.CodecFixed.SIZE - 1) k which
+    (returns-in_err-item-clause-damaged g c t k is)

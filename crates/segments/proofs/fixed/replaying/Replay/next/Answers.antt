@@ -1,8 +1,10 @@
 -- Steps are made until one gives an item or an error, or nothing is left.
 use Rattle.std.specs.Prelude.{◌≡◌, Bool, true, false, Some, Ok, Err}
 use Rattle.std.proofs.Common.{inl, inr, refl, sym, ◌∙◌}
+use Rattle.blob_device.specs.Timeline.{disk}
+use Rattle.segments.specs.FixedStepping.{failing}
 use Rattle.segments.specs.FixedWalking.{walk_of}
-use Rattle.segments.proofs.FixedRunning.{ok_at, err_at, running_start, running_on, left_none, same_after, moments_after, entries_after, once_after, faults_after, gives_after, stops_after, start_after, damage_after, damaged_after, refused_after, ends_after, cause_after}
+use Rattle.segments.proofs.FixedRunning.{ok_at, err_at, running_start, running_on, left_none, same_after, nearer_after, bytes_after, idle_after, moments_after, entries_after, once_after, faults_after, gives_after, stops_after, start_after, damage_after, damaged_after, refused_after, ends_after, cause_after}
 use Rattle.segments.proofs.fixed.replaying.Replay.next.Goals as goal
 
 not_true : (x : Bool) → (x ≡ true → ⊥) → x ≡ false
@@ -22,7 +24,7 @@ pub step-requires-clause-more : goal.step-requires-clause-more
 step-requires-clause-more g c drained = (let on = c.is_over.ensures.1 (inl drained) in cc on)
 
 pub steps-smaller : goal.steps-smaller
-steps-smaller g c = c.step.ensures.nearer cc
+steps-smaller g c = c.step.ensures.nearer
 
 pub steps-preserved : goal.steps-preserved
 steps-preserved g c = running_on g.S.Seal.seal_of g.A.CodecFixed.SIZE _ _ g.D.Device.Tells (walk_of c.args.self.now) (g.D.Device.opened c.args.dev.now) (g.D.Device.time c.args.dev.now) (g.D.Device.faults c.args.dev.now)
@@ -216,3 +218,56 @@ returns-clause-refused g c t e is = absurd (cc is)
 
 pub returns-clause-ends : goal.returns-clause-ends
 returns-clause-ends g c is = inl (sym c.steps.invariant.goes.ended ∙ is)
+
+pub returns-in-Ok-Some-clause-nearer : goal.returns-in-Ok-Some-clause-nearer
+returns-in-Ok-Some-clause-nearer g c x is = nearer_after g.S.Seal.seal_of g.A.CodecFixed.SIZE _ _ g.D.Device.Tells (walk_of c.args.self.now) (g.D.Device.opened c.args.dev.now) (g.D.Device.time c.args.dev.now) (g.D.Device.faults c.args.dev.now)
+    (walk_of c.steps.self) (g.D.Device.opened c.steps.dev) (g.D.Device.time c.steps.dev) (g.D.Device.faults c.steps.dev) c.steps.invariant g.A.Codec.spelling g.A.Codec.accepted g.A.Codec.refusal c.step.result (walk_of c.step.new.self) (g.D.Device.opened c.step.new.dev) (g.D.Device.time c.step.new.dev) (g.D.Device.faults c.step.new.dev) c.step.ensures
+
+pub returns-in-Err-clause-nearer : goal.returns-in-Err-clause-nearer
+returns-in-Err-clause-nearer g c x is = nearer_after g.S.Seal.seal_of g.A.CodecFixed.SIZE _ _ g.D.Device.Tells (walk_of c.args.self.now) (g.D.Device.opened c.args.dev.now) (g.D.Device.time c.args.dev.now) (g.D.Device.faults c.args.dev.now)
+    (walk_of c.steps.self) (g.D.Device.opened c.steps.dev) (g.D.Device.time c.steps.dev) (g.D.Device.faults c.steps.dev) c.steps.invariant g.A.Codec.spelling g.A.Codec.accepted g.A.Codec.refusal c.step.result (walk_of c.step.new.self) (g.D.Device.opened c.step.new.dev) (g.D.Device.time c.step.new.dev) (g.D.Device.faults c.step.new.dev) c.step.ensures
+
+pub returns-clause-nearer : goal.returns-clause-nearer
+returns-clause-nearer g c x is = absurd (cc is)
+
+pub returns-in-Ok-Some-clause-held : goal.returns-in-Ok-Some-clause-held
+returns-in-Ok-Some-clause-held g c which s = (let at : c.step.result ≡ Ok (Some c.in-Ok-Some.item) = cc in
+    let more = ok_at c.step.result _ at c.step.ensures.goes in
+    (λ h. (c.steps.invariant.goes.held s).0 ((more.held s).0 h), λ h. (more.held s).1 ((c.steps.invariant.goes.held s).1 h)))
+
+pub returns-in-Err-clause-held : goal.returns-in-Err-clause-held
+returns-in-Err-clause-held g c which = elim which [ inl none ↦ absurd (cc none) | inr some ↦ (let at = some.1 in absurd (cc at)) ]
+
+pub returns-clause-held : goal.returns-clause-held
+returns-clause-held g c which = c.steps.invariant.goes.held
+
+pub returns-in-Ok-Some-clause-bytes : goal.returns-in-Ok-Some-clause-bytes
+returns-in-Ok-Some-clause-bytes g c s u v was now free = bytes_after g.S.Seal.seal_of g.A.CodecFixed.SIZE _ _ g.D.Device.Tells (walk_of c.args.self.now) (g.D.Device.opened c.args.dev.now) (g.D.Device.time c.args.dev.now) (g.D.Device.faults c.args.dev.now)
+    (walk_of c.steps.self) (g.D.Device.opened c.steps.dev) (g.D.Device.time c.steps.dev) (g.D.Device.faults c.steps.dev) c.steps.invariant g.A.Codec.spelling g.A.Codec.accepted g.A.Codec.refusal c.step.result (walk_of c.step.new.self) (g.D.Device.opened c.step.new.dev) (g.D.Device.time c.step.new.dev) (g.D.Device.faults c.step.new.dev) c.step.ensures s u v was now free
+
+pub returns-in-Err-clause-bytes : goal.returns-in-Err-clause-bytes
+returns-in-Err-clause-bytes g c s u v was now free = bytes_after g.S.Seal.seal_of g.A.CodecFixed.SIZE _ _ g.D.Device.Tells (walk_of c.args.self.now) (g.D.Device.opened c.args.dev.now) (g.D.Device.time c.args.dev.now) (g.D.Device.faults c.args.dev.now)
+    (walk_of c.steps.self) (g.D.Device.opened c.steps.dev) (g.D.Device.time c.steps.dev) (g.D.Device.faults c.steps.dev) c.steps.invariant g.A.Codec.spelling g.A.Codec.accepted g.A.Codec.refusal c.step.result (walk_of c.step.new.self) (g.D.Device.opened c.step.new.dev) (g.D.Device.time c.step.new.dev) (g.D.Device.faults c.step.new.dev) c.step.ensures s u v was now free
+
+pub returns-clause-bytes : goal.returns-clause-bytes
+returns-clause-bytes g c = c.steps.invariant.bytes
+
+pub returns-in-Ok-Some-clause-unsettled : goal.returns-in-Ok-Some-clause-unsettled
+returns-in-Ok-Some-clause-unsettled g c = (let at : c.step.result ≡ Ok (Some c.in-Ok-Some.item) = cc in
+    idle_after g.A.CodecFixed.SIZE g.D.Device.Tells (walk_of c.args.self.now) (walk_of c.step.new.self) (disk (g.D.Device.time c.args.dev.now)) (disk (g.D.Device.time c.step.new.dev)) (ok_at c.step.result _ at c.step.ensures.over).walk
+    (same_after g.S.Seal.seal_of g.A.CodecFixed.SIZE _ _ g.D.Device.Tells (walk_of c.args.self.now) (g.D.Device.opened c.args.dev.now) (g.D.Device.time c.args.dev.now) (g.D.Device.faults c.args.dev.now)
+    (walk_of c.steps.self) (g.D.Device.opened c.steps.dev) (g.D.Device.time c.steps.dev) (g.D.Device.faults c.steps.dev) c.steps.invariant g.A.Codec.spelling g.A.Codec.accepted g.A.Codec.refusal c.step.result (walk_of c.step.new.self) (g.D.Device.opened c.step.new.dev) (g.D.Device.time c.step.new.dev) (g.D.Device.faults c.step.new.dev) c.step.ensures)
+    (bytes_after g.S.Seal.seal_of g.A.CodecFixed.SIZE _ _ g.D.Device.Tells (walk_of c.args.self.now) (g.D.Device.opened c.args.dev.now) (g.D.Device.time c.args.dev.now) (g.D.Device.faults c.args.dev.now)
+    (walk_of c.steps.self) (g.D.Device.opened c.steps.dev) (g.D.Device.time c.steps.dev) (g.D.Device.faults c.steps.dev) c.steps.invariant g.A.Codec.spelling g.A.Codec.accepted g.A.Codec.refusal c.step.result (walk_of c.step.new.self) (g.D.Device.opened c.step.new.dev) (g.D.Device.time c.step.new.dev) (g.D.Device.faults c.step.new.dev) c.step.ensures))
+
+pub returns-in-Err-clause-unsettled : goal.returns-in-Err-clause-unsettled
+returns-in-Err-clause-unsettled g c = (let at : c.step.result ≡ Err c.in-Err.e = cc in
+    let s = (same_after g.S.Seal.seal_of g.A.CodecFixed.SIZE _ _ g.D.Device.Tells (walk_of c.args.self.now) (g.D.Device.opened c.args.dev.now) (g.D.Device.time c.args.dev.now) (g.D.Device.faults c.args.dev.now)
+    (walk_of c.steps.self) (g.D.Device.opened c.steps.dev) (g.D.Device.time c.steps.dev) (g.D.Device.faults c.steps.dev) c.steps.invariant g.A.Codec.spelling g.A.Codec.accepted g.A.Codec.refusal c.step.result (walk_of c.step.new.self) (g.D.Device.opened c.step.new.dev) (g.D.Device.time c.step.new.dev) (g.D.Device.faults c.step.new.dev) c.step.ensures) in
+    idle_after g.A.CodecFixed.SIZE g.D.Device.Tells (walk_of c.args.self.now) (failing (walk_of c.step.new.self)) (disk (g.D.Device.time c.args.dev.now)) (disk (g.D.Device.time c.step.new.dev)) (err_at c.step.result _ at c.step.ensures.broken).walk
+    (record { bounds = s.bounds; unrecovered = s.unrecovered; floors = s.floors; section = s.section; position = s.position })
+    (bytes_after g.S.Seal.seal_of g.A.CodecFixed.SIZE _ _ g.D.Device.Tells (walk_of c.args.self.now) (g.D.Device.opened c.args.dev.now) (g.D.Device.time c.args.dev.now) (g.D.Device.faults c.args.dev.now)
+    (walk_of c.steps.self) (g.D.Device.opened c.steps.dev) (g.D.Device.time c.steps.dev) (g.D.Device.faults c.steps.dev) c.steps.invariant g.A.Codec.spelling g.A.Codec.accepted g.A.Codec.refusal c.step.result (walk_of c.step.new.self) (g.D.Device.opened c.step.new.dev) (g.D.Device.time c.step.new.dev) (g.D.Device.faults c.step.new.dev) c.step.ensures))
+
+pub returns-clause-unsettled : goal.returns-clause-unsettled
+returns-clause-unsettled g c = idle_after g.A.CodecFixed.SIZE g.D.Device.Tells (walk_of c.args.self.now) (walk_of c.steps.self) (disk (g.D.Device.time c.args.dev.now)) (disk (g.D.Device.time c.steps.dev)) c.steps.invariant.over.walk c.steps.invariant.same c.steps.invariant.bytes

@@ -78,7 +78,7 @@ end_section-requires-clause-last g c t =
       | inr le ↦ absurd (cc ((IfOk-at_ok _ is e.exact).1 (omega (arith, le, e.same.at, e.same.size, c.SIZE.ensures))))
     ] in
     ends_all g.S.Seal.seal_of g.A.CodecFixed.SIZE _ _ w (record { section = r.section; position = r.position; reader = more }) _ (disk (g.D.Device.time c.ensure.new.dev)) was (λ u b stands. stands.adopted) g.met.A.CodecFixed.fixed.at_least
-    (IfOk-at_ok _ is e.rest refl) done c.is_torn-cuts.result (λ not owed. elim (cases_lt 0 (length more.bytes)) [ inl some ↦ absurd (cc (not, c.is_torn-cuts.ensures.1 (some, owed))) | inr none ↦ omega (arith, none) ]) t
+    (IfOk-at_ok _ is e.rest refl) done c.is_torn-cuts.result (λ not owed. elim (cases_lt 0 (length more.bytes)) [ inl some ↦ absurd (cc (not, c.is_torn-cuts.ensures.1 (some, owed))) | inr none ↦ omega (arith, none) ]) (λ cuts. (c.is_torn-cuts.ensures.0 cuts).0) t
 
 pub end_at_page-requires-clause-over : goal.end_at_page-requires-clause-over
 end_at_page-requires-clause-over g c =
@@ -113,12 +113,13 @@ end_at_page-requires-clause-last g c t =
     subst (λ (l : List ℕ). IsShort g.S.Seal.seal_of h.0.page_size l (next_of r.reader) (missing_of r.reader c.SIZE.result) page) content
     (subst (λ (P : ℕ). IsShort g.S.Seal.seal_of P (disk a r.reader.key).content (next_of r.reader) (missing_of r.reader c.SIZE.result) page) paged short) in
     let far : next_of r.reader + missing_of r.reader c.SIZE.result ≤ more.at + g.A.CodecFixed.SIZE = omega (arith, here_short.wanted.some, e.same.at, c.SIZE.ensures) in
+    let inside : next_of r.reader + missing_of r.reader c.SIZE.result ≤ more.size = omega (arith, here_short.wanted.some, e.same.at, e.same.size, h.2.blob_size, h.2.within, h.2.at) in
     elim (short_owed g.S.Seal.seal_of g.A.CodecFixed.SIZE _ _ w (record { section = r.section; position = r.position; reader = more }) _ (disk b) was (λ u x stands. stands.adopted) g.met.A.CodecFixed.fixed.at_least
-    (next_of r.reader) (missing_of r.reader c.SIZE.result) page (omega (arith, here_short.wanted.some, e.same.at, e.same.size, h.2.blob_size, h.2.within, h.2.at)) t here_short) [
+    (next_of r.reader) (missing_of r.reader c.SIZE.result) page inside t here_short) [
       | inl owed ↦ inl (
         owed,
         ends_short g.S.Seal.seal_of g.A.CodecFixed.SIZE _ _ w (record { section = r.section; position = r.position; reader = more }) _ (disk b) was (λ u x stands. stands.adopted) g.met.A.CodecFixed.fixed.at_least
-            (next_of r.reader) (missing_of r.reader c.SIZE.result) page far owed t here_short,
+            (next_of r.reader) (missing_of r.reader c.SIZE.result) page far inside owed t here_short,
       )
       | inr floor ↦ inr (
         floor.0,
