@@ -20,7 +20,7 @@ true_or_false true = inl refl
 true_or_false false = inr refl
 
 -- what a device promises of a blob
-pub record IsLawful (b : Blob) : Type 0 where
+pub record IsPromised (b : Blob) : Type 0 where
   pub bytes : HoldsBytes b
   pub agrees : PastAgrees b
   pub absent : AbsentIsNothing b
@@ -50,7 +50,7 @@ between_greatest n (c ∷ cs) =
     higher low high le (d ∷ ds) all = (omega (arith, le, all.0), higher low high le ds all.1)
 
 -- a crash may leave each content that the blob had
-past_held : (b : Blob) → IsLawful b → AllByRecursion (MayHold b) (past b)
+past_held : (b : Blob) → IsPromised b → AllByRecursion (MayHold b) (past b)
 past_held b lawful =
     let low = between_least (length b.settled) b.since in
     let high = between_greatest (length b.settled) b.since in
@@ -81,7 +81,7 @@ module _ {K V : Type 0} (f : Format K V) where
       alike (Whole v floor entries) is = absurd (empty_absent f.seal v 1 _ is.sealed)
 
   -- bytes with the copy of a content that the blob had read as that content
-  module _ (b : Blob) (lawful : IsLawful b) (c : List ℕ) (v form : ℕ) (body : List ℕ) (s : IsSealedAs f.seal c v form body) (maybe : b.unsure ≡ true) where
+  module _ (b : Blob) (lawful : IsPromised b) (c : List ℕ) (v form : ℕ) (body : List ℕ) (s : IsSealedAs f.seal c v form body) (maybe : b.unsure ≡ true) where
     from_past : (p : List ℕ) → MayHold b p → SamePlace (copy_length body) p c → NoChanceSeal f.seal (past b) p → LikeBefore b c
     from_past p held same none = record {
       left = Some p;
@@ -108,7 +108,7 @@ module _ {K V : Type 0} (f : Format K V) where
 
   module _ (fits : (l : List ℕ) → f.seal l < 2 ^ 32) where
     -- a blob that is not there, while it is made
-    making : (there' : Bool) (b : Blob) → IsLawful b → b.there ≡ false → (l : Option (List ℕ)) → MayLeave (record b { there = there'; content = []; unsure = true; since = b.since ++ [] ∷ [] }) l
+    making : (there' : Bool) (b : Blob) → IsPromised b → b.there ≡ false → (l : Option (List ℕ)) → MayLeave (record b { there = there'; content = []; unsure = true; since = b.since ++ [] ∷ [] }) l
         → NoChanceSeal f.seal (b.settled ∷ (b.since ++ [] ∷ [])) (bytes_of l) → LikeBefore b (bytes_of l)
     making there' b lawful there None may none = lacks_copy b [] there (empty_absent f.seal)
     making there' b lawful there (Some c) may none = elim (sealed_or_absent f.seal fits c may.1.bytes) [
@@ -124,7 +124,7 @@ module _ {K V : Type 0} (f : Format K V) where
         no_past v form body s (inr (inl same)) = empty_absent f.seal v form body (same_place f.seal [] c v form body same s)
         no_past v form body s (inr (inr none)) = none
 
-    by_opens : (b d : Blob) → IsLawful b → ReadsNoChance f.seal b → Opens b d → (l : Option (List ℕ)) → MayLeave d l → NoChanceSeal f.seal (past d) (bytes_of l) → LikeBefore b (bytes_of l)
+    pub by_opens : (b d : Blob) → IsPromised b → ReadsNoChance f.seal b → Opens b d → (l : Option (List ℕ)) → MayLeave d l → NoChanceSeal f.seal (past d) (bytes_of l) → LikeBefore b (bytes_of l)
     by_opens b d lawful chance opens l may none = go opens l may none
       where
         as_it_was : (x : Blob) → x ≡ b → (l : Option (List ℕ)) → MayLeave x l → NoChanceSeal f.seal (past x) (bytes_of l) → LikeBefore b (bytes_of l)
@@ -168,7 +168,7 @@ module _ {K V : Type 0} (f : Format K V) where
     }
 
     -- while both blobs are opened a crash leaves what it left before
-    pub opening_keeps : (p : List ℕ) (one other : List (K × V)) (from : Disk) → IsLawful (from (blob_of p Left)) → IsLawful (from (blob_of p Right)) → Keeps f p one other from
+    pub opening_keeps : (p : List ℕ) (one other : List (K × V)) (from : Disk) → IsPromised (from (blob_of p Left)) → IsPromised (from (blob_of p Right)) → Keeps f p one other from
         → ReadsNoChance f.seal (from (blob_of p Left)) → ReadsNoChance f.seal (from (blob_of p Right)) → (d : Disk) → Opening p from d → KeepsAlone f p one other from d
     opening_keeps p one other from lawful_l lawful_r keeps chance_l chance_r d opening = record {
       keeps = record {

@@ -3,21 +3,21 @@ use Rattle.std.specs.Prelude.{◌≡◌, ℕ, ◌<◌, ◌≤◌, min, List, len
 use Rattle.std.proofs.Common.{inl, inr, sym, ◌∙◌, ap, subst, arith}
 use Rattle.std.proofs.lemmas.Bool.{cases_lt}
 use Rattle.std.proofs.lemmas.List.{take_all}
-use Rattle.blob_device.specs.Disk.{Key}
+use Rattle.blob_device.specs.Disk.{Key, Blob}
 use Rattle.blob_device.specs.Timeline.{Timeline, disk}
 use Rattle.blob_device.proofs.Moments.{only_start}
 use Rattle.sealed_pages.specs.declared.page_blob.PageBlob.{PageBlob}
 use Rattle.sealed_pages.specs.Shown.{shown}
 use Rattle.sealed_pages.specs.Buffer.{Buffer, key_of, size_of, bytes_of, IsBacked, IsSealed}
 use Rattle.sealed_pages.specs.ChanceSeal.{Leaves, Sealing}
-use Rattle.sealed_pages.specs.Cutting.{Settles}
+use Rattle.sealed_pages.specs.Cutting.{IsAtRest, Settles}
 use Rattle.sealed_pages.specs.SealedPrefix.{sealed_prefix}
-use Rattle.sealed_pages.specs.Unrecovered.{IsAdopted, IsRecovery}
+use Rattle.sealed_pages.specs.Unrecovered.{IsAdopted, IsUnrecovered, IsRecovery, KeepsPrefix}
 use Rattle.sealed_pages.proofs.CutCalls.{sealing_less}
 use Rattle.sealed_pages.proofs.Holding.{bytes_length}
 use Rattle.sealed_pages.proofs.Reaching.{rest_leaves}
 use Rattle.sealed_pages.proofs.Truncating.{all_flushed}
-use Rattle.sealed_pages.proofs.UnrecoveredLemmas.{adopted_backed}
+use Rattle.sealed_pages.proofs.UnrecoveredLemmas.{adopted_backed, keeps_now}
 use Rattle.segments.specs.Sealed.{Stands}
 use Rattle.segments.specs.FixedStepping.{IsFlushed, IsCutBack}
 use Rattle.segments.proofs.FixedKept.{sealed_flushed}
@@ -25,14 +25,17 @@ use Rattle.segments.proofs.FixedKept.{sealed_flushed}
 module _ {S : Type 0} {gs : _} (seal : List ℕ → ℕ) (told : Type 0) (u v : PageBlob S gs) (K : Key) (a b : Timeline) (key : key_of (shown u) ≡ K) where
   pub flushed_at : v.page_size ≡ u.page_size → size_of (shown v) ≡ size_of (shown u) → v.settled ≡ u.settled → v.from ≡ length v.tip.items
       → (told → IsSealed seal (shown u) (disk a (key_of (shown u))) → IsSealed seal (shown v) (disk b (key_of (shown u))))
+      → (told → IsUnrecovered seal (shown u) (disk a (key_of (shown u))) → IsUnrecovered seal (shown v) (disk b (key_of (shown u))))
+      → (told → IsUnrecovered seal (shown u) (disk a (key_of (shown u))) → KeepsPrefix seal u.page_size (sealed_prefix seal u.page_size (disk a (key_of (shown u))).content) (key_of (shown u)) a b)
       → (told → IsBacked (shown u) (disk a (key_of (shown u))).content → bytes_of (shown v) (disk b (key_of (shown u))).content ≡ bytes_of (shown u) (disk a (key_of (shown u))).content)
       → (told → IsAdopted seal (shown u) (disk a K)) → IsFlushed seal told u (disk a K) v (disk b K)
-  flushed_at page size settled flushed sealed bytes adopted = subst (λ (k : Key). IsFlushed seal told u (disk a k) v (disk b k)) key (record {
+  flushed_at page size settled flushed sealed unsealed steady bytes adopted = subst (λ (k : Key). IsFlushed seal told u (disk a k) v (disk b k)) key (record {
     page_size = page;
     size = size;
     settled = settled;
     flushed = flushed;
     sealed = sealed;
+    unsealed = λ t un. (unsealed t un, keeps_now seal u.page_size (sealed_prefix seal u.page_size (disk a (key_of (shown u))).content) (key_of (shown u)) a b (steady t un));
     bytes = λ t. bytes t (adopted_backed seal (shown u) (disk a (key_of (shown u))) (subst (λ (k : Key). IsAdopted seal (shown u) (disk a k)) (sym key) (adopted t)));
   })
 
@@ -42,21 +45,21 @@ module _ {S : Type 0} {gs : _} (seal : List ℕ → ℕ) (told : Type 0) (u v : 
     full = all_flushed (shown u) u.fit.within u.order settled
 
     pub cut_at : v.page_size ≡ u.page_size → size_of (shown v) ≡ min (size_of (shown u)) n → (n < size_of (shown u) → v.settled ≡ n) → (size_of (shown u) ≤ n → (shown v ≡ shown u) × (b ≡ a))
-        → (told → IsAdopted seal (shown u) (disk a (key_of (shown u)))) → (told → n ≤ length (sealed_prefix seal u.page_size (disk a (key_of (shown u))).content))
+        → (told → Stands seal (shown u) (disk a (key_of (shown u)))) → (told → n < size_of (shown u) → IsAtRest (disk b (key_of (shown u)))) → (told → n ≤ length (sealed_prefix seal u.page_size (disk a (key_of (shown u))).content))
         → (told → IsSealed seal (shown u) (disk a (key_of (shown u))) → IsSealed seal (shown v) (disk b (key_of (shown u))))
         → (told → IsRecovery seal (shown u) n (disk a (key_of (shown u))) → IsSealed seal (shown v) (disk b (key_of (shown u))))
         → (told → IsRecovery seal (shown u) n (disk a (key_of (shown u))) → Settles seal u.page_size (take n (sealed_prefix seal u.page_size (disk a (key_of (shown u))).content)) (disk b (key_of (shown u))))
         → (told → n < size_of (shown u) → IsSealed seal (shown u) (disk a (key_of (shown u))) → Settles seal u.page_size (take n (bytes_of (shown u) (disk a (key_of (shown u))).content)) (disk b (key_of (shown u))))
         → IsCutBack seal told u (disk a K) v (disk b K) n
-    cut_at page size done same adopted long sealed recovered prefix again = subst (λ (k : Key). IsCutBack seal told u (disk a k) v (disk b k) n) key (record {
+    cut_at page size done same stands rests long sealed recovered prefix again = subst (λ (k : Key). IsCutBack seal told u (disk a k) v (disk b k) n) key (record {
       page_size = page;
       size = omega (arith, size, within);
       settled = elim (cases_lt n (size_of (shown u))) [
         | inl less ↦ omega (arith, done less, size, less)
         | inr all ↦ ap (λ (x : Buffer). x.settled) (same all).0 ∙ settled ∙ ap size_of (sym (same all).0)
       ];
-      sealed = λ t. elim (adopted t) [ inl is ↦ sealed t is | inr un ↦ recovered t (un, long t) ];
-      prefix = λ t. elim (adopted t) [
+      sealed = λ t. elim (stands t).adopted [ inl is ↦ sealed t is | inr un ↦ recovered t (un, long t) ];
+      prefix = λ t. elim (stands t).adopted [
         | inr un ↦ (prefix t (un, long t)).prefix
         | inl is ↦
             let all_bytes = sealed_flushed seal (shown u) (disk a (key_of (shown u))) u.fit.begun is full in
@@ -67,6 +70,11 @@ module _ {S : Type 0} {gs : _} (seal : List ℕ → ℕ) (told : Type 0) (u v : 
                   ∙ sym (take_all n (sealed_prefix seal u.page_size (disk a (key_of (shown u))).content) (omega (arith, all, ap length all_bytes, bytes_length (shown u) (disk a (key_of (shown u))).content)))
             ]
       ];
+      there = λ t. elim (cases_lt n (size_of (shown u))) [
+        | inl less ↦ ap (λ (x : Blob). x.there) (rests t less) ∙ sym (ap (λ (x : Blob). x.there) ((stands t).rest settled))
+        | inr all ↦ ap (λ (x : Timeline). (disk x (key_of (shown u))).there) (same all).1
+      ];
+      rests = λ t. elim (cases_lt n (size_of (shown u))) [ inl less ↦ inr (rests t less) | inr all ↦ inl (ap (λ (x : Timeline). disk x (key_of (shown u))) (same all).1) ];
     })
 
     -- what each crash leaves meanwhile

@@ -56,10 +56,6 @@ module _ {S : Type 0} {gs : _} (bu u : PageBlob S gs) (is : bu ≡ u) (K : Key) 
       let backed : IsBacked (shown bu) (disk a0 (key_of (shown bu))).content = subst (λ (k : Key). IsBacked (shown bu) (disk a0 k).content) (sym key) (adopted_backed seal (shown bu) (disk a0 K) stands.adopted) in
       (always_now a0 b (OnlyAt (key_of (shown bu)) (disk a0) (λ x. Unit {0})) (alone backed)).others q (λ at. other (at ∙ key)) ∙ ap (λ (t : Timeline). disk t q) same
 
-  pub alone_moved : (seal : List ℕ → ℕ) (b : Timeline) → Stands seal (shown bu) (disk a0 K) → (IsBacked (shown bu) (disk a0 (key_of (shown bu))).content → Alone (key_of (shown bu)) a0 b) → Alone K a b
-  alone_moved seal b stands alone = subst (λ (t : Timeline). Alone K t b) same (subst (λ (k : Key). Alone k a0 b) key
-      (alone (subst (λ (k : Key). IsBacked (shown bu) (disk a0 k).content) (sym key) (adopted_backed seal (shown bu) (disk a0 K) stands.adopted))))
-
   -- the buffer that a flush gives stands over the blob
   pub flush_stands : (seal : List ℕ → ℕ) (v : PageBlob S gs) (b : Timeline) → Stands seal (shown bu) (disk a0 K) → v.settled ≡ bu.settled → size_of (shown v) ≡ size_of (shown bu)
       → (flushed_of (shown bu) ≡ size_of (shown bu) → b ≡ a0)

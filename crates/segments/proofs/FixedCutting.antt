@@ -1,5 +1,5 @@
 -- A replay of a fixed journal cuts the section that it comes to the end of: the step that this is.
-use Rattle.std.specs.Prelude.{◌≡◌, ◌⊎◌, ℕ, ◌+◌, ◌*◌, ◌/◌, ◌%◌, ◌^◌, ◌<◌, ◌≤◌, cond, Bool, true, false, List, length, take, IsTrue, IsSomeAnd, Option, None, Some, Result, Ok, Err, OnErr}
+use Rattle.std.specs.Prelude.{◌≡◌, ◌⊎◌, ℕ, ◌+◌, ◌*◌, ◌/◌, ◌%◌, ◌^◌, ◌<◌, ◌≤◌, cond, Bool, true, false, List, length, take, IsTrue, IsSomeAnd, Option, None, Some, IsSome, Result, Ok, Err, OnErr}
 use Rattle.std.proofs.Common.{inl, inr, refl, sym, ◌∙◌, ap, subst, arith, length-take}
 use Rattle.std.proofs.lemmas.Nat.{mod-mul-add, div-mul-add, mul-le}
 use Rattle.blob_device.specs.Disk.{Key, Blob, Disk, past}
@@ -21,12 +21,14 @@ use Rattle.segments.specs.declared.journal.Error.TheVariants.{ItemOutOfRange, Ru
 use Rattle.segments.specs.Setting.{Setting}
 use Rattle.segments.specs.Sections.{key_of, IsHeld}
 use Rattle.segments.specs.Refusing.{HasFailed, HasDamage}
-use Rattle.segments.specs.FixedReplay.{Place, Walk, IsWalk, HasNothingToCut, StaysStill, Replaying, EndsBelow, kept_bytes}
+use Rattle.segments.specs.FixedLists.{size_held, section_size}
+use Rattle.segments.specs.FixedReplay.{Place, Walk, SameItems, IsSameOrCut, IsWalk, HasNothingToCut, StaysStill, IsCutting, Replaying, EndsBelow, kept_bytes}
 use Rattle.segments.specs.FixedStepping.{word, sections_ahead, bytes_ahead, standing, OnlySections, Touches, IsCutBack, EndsAt, Steps}
 use Rattle.segments.proofs.FixedCounts.{count_here}
 use Rattle.segments.proofs.FixedErrorSteps.{cut_read, cut_other, cut_not_codec}
 use Rattle.segments.proofs.FixedKept.{whole_place}
-use Rattle.segments.proofs.FixedReading.{here, kept_owed, number_here, reached_here, behind_here}
+use Rattle.segments.proofs.FixedReading.{here, kept_owed, ahead_here, number_here, reached_here, behind_here}
+use Rattle.segments.proofs.FixedOwed.{items_cut}
 use Rattle.segments.proofs.FixedSteps.{Called, Answered, call_failed, call_ended, call_refused}
 use Rattle.segments.proofs.FixedWalks.{MayCut, same_some, none_in, key_new, later_one}
 use Rattle.segments.proofs.FixedWalksOn.{replaying_here, moments_of}
@@ -41,9 +43,10 @@ leaves_whole seal P bytes n least b leaves left may = go left (leaves left may)
 
 -- a cut that would be below the floor
 pub ends_below : {F S : Type 0} {gs : _} (seal : List ℕ → ℕ) (size : ℕ) (w : Walk F (PageBlob S gs)) (r : Place) (d : Disk) (x : Damage) → x.section ≡ r.section → x.kept ≡ r.position * size → x.wanted ≡ w.journal.floor_of r.section → x.kept < x.wanted
-    → IsTrue (w.journal.unrecovered r.section) → EndsAt seal size (standing w r) d r true → EndsBelow seal size (standing w r) d x
-ends_below seal size w r d x at kept wanted less owed last = record {
+    → IsTrue (w.journal.unrecovered r.section) → IsHeld w.journal.sections r.section → EndsAt seal size (standing w r) d r true → EndsBelow seal size (standing w r) d x
+ends_below seal size w r d x at kept wanted less owed held last = record {
   owes = subst (λ (k : ℕ). IsTrue (w.journal.unrecovered k)) (sym at) owed;
+  held = subst (IsHeld w.journal.sections) (sym at) held;
   kept = subst (λ (k : ℕ). x.kept ≡ length (kept_bytes seal size (standing w r) d k) / size * size) (sym at) (kept ∙ ap (λ (n : ℕ). n * size) (sym last.last));
   wanted = wanted ∙ ap w.journal.floor_of (sym at);
   less = less;
@@ -127,22 +130,38 @@ module _ {F S : Type 0} {gs : _} (seal : List ℕ → ℕ) (size : ℕ) (g : buf
       over = touch.over;
       entries = touch.entries;
       moments = λ t. moments_of seal size (standing w r) (disk a) s (number_here seal size g gives w r before a was) numbers (reached_here seal size g gives w r before a was) a b
-          (Leaves seal u.page_size (sealed_prefix seal u.page_size (disk a K).content) (r.position * size)) refl (was.disk t).sealed (moments t u held)
+          (Leaves seal u.page_size (sealed_prefix seal u.page_size (disk a K).content) (r.position * size)) refl (moments t u held)
           (λ x leaves. replaying_here seal size (standing w r) (disk a) s (number_here seal size g gives w r before a was) numbers (reached_here seal size g gives w r before a was) x
-          (λ y is proven. absurd (not_free proven.checked))
+          (λ y is free sealed. absurd (not_free free)) (λ y is free un. absurd (not_free free))
           (λ y is owes. subst (λ (z : PageBlob S gs). MayCut seal size z (w.journal.floor_of s) (disk a K) x) (sym (same_some (w.journal.sections.held s) u y held is)) (cut_leaves t x leaves))
           (λ y is rest. absurd (not_still t y is rest)));
       from = from_new;
       faults = le;
     }
 
+    -- it is this section that is being cut
+    cutting : IsCutting seal size told (standing w r) (disk a)
+    cutting = record {
+      section = r.section;
+      near = inr refl;
+      owes = owed;
+      longer = λ t. (let count : length (kept_bytes seal size (standing w r) (disk a) r.section) / size * size ≡ r.position * size = ap (λ (n : ℕ). n * size) (last t).last in
+          let at : section_size w.journal.sections r.section ≡ size_of (shown u) = ap (λ (o : Option (PageBlob S gs)). size_held o) held in
+          omega (arith, count, at, (last t).longer refl u held));
+      given = λ t x q l near. elim l.ahead [
+        | inl here ↦ (let far : r.section < x = ahead_here seal size g gives w r before a was x here.1 in omega (arith, far, near))
+        | inr there ↦ (let whole : q < length (kept_bytes seal size (standing w r) (disk a) r.section) / size = subst (λ (k : ℕ). q < length (kept_bytes seal size (standing w r) (disk a) k) / size) (sym there.0) l.whole in
+            omega (arith, whole, there.1, (last t).last))
+      ];
+    }
+
     -- The cut failed, and the replay has ended.
-    pub cut_failed : (x : Error) → new.ended ≡ true → OnErr {T = Unit {0}} (Err x) ((new.journal.sections.held s ≡ None) ⊎ ((new.journal.sections.held s ≡ w.journal.sections.held s) × (b ≡ a)))
+    pub cut_failed : (x : Error) → new.ended ≡ true → OnErr {T = Unit {0}} (Err x) (((new.journal.sections.held s ≡ None) × IsSome (new.journal.sections.unopened s)) ⊎ ((new.journal.sections.held s ≡ w.journal.sections.held s) × (b ≡ a)))
         → (told → (k : ℕ) → x ≡ Runtime (InvalidChecksum k) → ⊥) → HasDamage {T = Option (ℕ × ℕ × V)} (Err x) ⊎ HasFailed {T = Option (ℕ × ℕ × V)} (Err x) few many
         → Steps seal size g gives spelling accepted refusal told (Err x) (standing w r) new before after a b few many
-    cut_failed x ended lost sound cause = call_failed seal size g gives spelling accepted refusal told s (standing w r) new before after a b few many called (omega (arith, ap (λ (o : Option ℕ). sections_ahead o * (word + 1)) only.next, ap bytes_ahead none_new)) x lost none_new
+    cut_failed x ended lost sound cause = call_failed seal size g gives spelling accepted refusal told s (standing w r) new before after a b few many called (omega (arith, ap (λ (o : Option ℕ). sections_ahead o * (word + 1)) only.next, ap bytes_ahead none_new)) x lost (λ going owes. absurd (cc (going, ended))) none_new
         (λ t h. subst (λ (o : Option ℕ). IsSomeAnd o (λ n. n ≤ t)) only.next h)
-        (inl (ended, elim cause [ inl page ↦ inl (page, λ t. sound t page.0 (let at = page.1 in cc at)) | inr failed ↦ inr failed ]))
+        (inl (ended, elim cause [ inl page ↦ inl (page, λ t. sound t page.0 (let at = page.1 in cc at)) | inr failed ↦ inr failed ], cutting))
         (cut_other x x refl few many cause) (λ t k is. absurd (sound t k is)) (λ t e is. absurd (cut_not_codec x few many cause e is)) (cut_read x x refl few many cause)
 
     -- The section is cut.
@@ -165,6 +184,11 @@ module _ {F S : Type 0} {gs : _} (seal : List ℕ → ℕ) (size : ℕ) (g : buf
           ap (λ (P : ℕ). length (sealed_prefix seal P (disk b K).content)) cut.page_size ∙ ap length (cut.prefix t) ∙ omega (arith, length-take (r.position * size) (sealed_prefix seal u.page_size (disk a K).content), long) in
           ap (λ (n : ℕ). n / size * size) same ∙ ap (λ (n : ℕ). n * size) (div-mul-add r.position size 0 (omega (arith, pos)))
 
+      -- the whole items are the same
+      items : told → SameItems seal u.page_size size (disk a K) (disk b K)
+      items t = items_cut seal u.page_size size (disk a K) (disk b K) r.position pos (ap (λ (l : List ℕ). length l / size) (sym (kept_owed seal size g gives w r before (disk a) was owed)) ∙ (last t).last)
+          (cut_prefix w r before a was u held pos t owed (last t)) (cut.prefix t) (cut.there t) (cut.rests t)
+
       later : told → (q : Key) (x : Blob) → Replaying seal size new (disk b) q x → Replaying seal size (standing w r) (disk a) q x
       later t = later_one seal size s (standing w r) new (disk a) (disk b) called.one t called.reached
           (λ k near. elim near [
@@ -172,7 +196,7 @@ module _ {F S : Type 0} {gs : _} (seal : List ℕ → ℕ) (size : ℕ) (g : buf
             | inr there ↦ absurd (none_in new.place (λ x. x.section ≡ k) none_new there)
           ])
           v held_new
-          (λ y is proven x left. absurd (not_free proven.checked))
+          (λ y is free sealed. absurd (not_free free)) (λ y is free un. absurd (not_free free))
           (λ y is owes x may. subst (λ (z : PageBlob S gs). MayCut seal size z (w.journal.floor_of s) (disk a K) x) (sym (same_some (w.journal.sections.held s) u y held is)) (elim may [
             | inl same ↦ cut_leaves t x (subst (Leaves seal u.page_size (sealed_prefix seal u.page_size (disk a K).content) (r.position * size)) (sym same)
                 (always_now a b (OnlyAt K (disk a) (Leaves seal u.page_size (sealed_prefix seal u.page_size (disk a K).content) (r.position * size))) (moments t u held)).here)
@@ -205,6 +229,12 @@ module _ {F S : Type 0} {gs : _} (seal : List ℕ → ℕ) (size : ℕ) (g : buf
         failed = only.failed;
         ended = goes ∙ sym going;
         bytes = λ y is free. absurd (not_free free);
+        cut = λ y is. subst (λ (z : PageBlob S gs). IsSameOrCut (w.journal.floor_of s) z v) (sym (same_some (w.journal.sections.held s) u y held is)) (record {
+          page_size = cut.page_size;
+          shorter = omega (arith, (here seal size g gives w r before (disk a) was).2.within, cut.size);
+          reached = inr (omega (arith, floor, cut.size));
+        });
+        items = λ t y is owes. subst (λ (z : PageBlob S gs). SameItems seal z.page_size size (disk a K) (disk b K)) (sym (same_some (w.journal.sections.held s) u y held is)) (items t);
         later = later;
       }
 

@@ -1,12 +1,14 @@
 -- What a check of markers shows before a fixed journal is opened, and what an opening above them makes of it.
 use Rattle.std.specs.Prelude.{OnErr, MatchOption, is_some, ◌≡◌, ◌≢◌, ◌⊎◌, ◌↔◌, ℕ, ◌+◌, ◌-◌, ◌*◌, ◌%◌, ◌^◌, ◌<◌, ◌≤◌, cond, Bool, true, false, List, [], ◌∷◌, ◌++◌, length, IsTrue, Option, Some, None, IsSome, IsSomeAnd, Result, Err}
-use Rattle.std.specs.List.{Contains}
+use Rattle.std.specs.List.{Contains, filter}
+use Rattle.std.specs.Map.{lookup}
 use Rattle.std.specs.Result.{IsErrOf}
 use Rattle.std.specs.BTreeMap as tree
 use Rattle.std.specs.Option.{unwrap_or}
 use Rattle.std.specs.Ordering.{nat_cmp}
 use Rattle.std.proofs.Common.{inl, inr, refl, sym, ◌∙◌, ap, subst, arith}
-use Rattle.std.proofs.lemmas.Bool.{cases_eq}
+use Rattle.std.proofs.lemmas.Bool.{cases_eq, cond-true, cond-false}
+use Rattle.std.proofs.lemmas.Map.Entries.{lookup-filter-keys}
 use Rattle.std.proofs.Math.Nat.{mul-mod_left}
 use Rattle.std.proofs.lemmas.List.Elements.{Contains-append_left, Contains-push, Contains-push_cases}
 use Rattle.blob_device.specs.Disk.{Key, Blob, Disk, settled_at}
@@ -39,15 +41,16 @@ use Rattle.sealed_pages.proofs.SlotLemmas.{times_next}
 use Rattle.segments.specs.declared.buffer.SectionBuffer as buffer
 use Rattle.segments.specs.declared.journal.Damage.{Damage}
 use Rattle.segments.specs.declared.journal.Error.{Error}
-use Rattle.segments.specs.declared.journal.Error.TheVariants.{Runtime, InvalidBlobName, Corruption, Mem}
+use Rattle.segments.specs.declared.journal.Error.TheVariants.{InvalidBlobName, Corruption}
 use Rattle.segments.specs.Entries.{OnlyOwnEntry}
-use Rattle.segments.specs.FixedFloors.{Floors, IsBoundary, Keeps, KeepsLast, IsUnsealed, IsRefused, size_at}
+use Rattle.segments.specs.FixedFloors.{Floors, IsBoundary, Keeps, KeepsBoundary, IsUnsealed, IsRefused, size_at}
 use Rattle.segments.specs.FixedLists.{floor_in, section_size, size_held}
 use Rattle.segments.specs.Lasting.{IsOpening, IsSettling}
 use Rattle.segments.specs.Raised.{raised}
 use Rattle.segments.specs.Refusing.{HasFailed, HasNoRoom, IsOpenedTooLong}
 use Rattle.segments.specs.Sections.{Sections, section_key, IsHeld}
 use Rattle.segments.specs.Setting.{Setting}
+use Rattle.segments.proofs.CutLemmas.{same_number}
 use Rattle.segments.proofs.FixedKept.{short_length}
 use Rattle.segments.proofs.FixedOpenLemmas.{opened_cause}
 use Rattle.segments.proofs.FixedWriteLemmas.{ArePages}
@@ -314,12 +317,15 @@ module _ {A : Type 0} (seal : List ℕ → ℕ) (size : ℕ) (spelling : A → L
       (v.value, v.has)
 
   -- a marker that was taken in has its last item
-  pub last_taken : (keys : List ℕ) (f : Floors A) → Checked keys f → told → (q n : ℕ) → Contains keys q → marks q ≡ Some n → KeepsLast seal pages.page_size size (disk from (section_key partition q)) n
+  pub last_taken : (keys : List ℕ) (f : Floors A) → Checked keys f → told → (q n : ℕ) → Contains keys q → marks q ≡ Some n → KeepsBoundary seal pages.page_size size spelling accepted (disk from (section_key partition q)) n
   last_taken keys f done t q n listed is = (let mark = done.marked q n listed is in record {
-    there = mark.there t;
-    fits = mark.fits;
-    covered = λ some. (last_value f q n (mark.boundary t some)).1.covered;
-    within = λ some. (last_value f q n (mark.boundary t some)).1.within;
+    last = record {
+      there = mark.there t;
+      fits = mark.fits;
+      covered = λ some. (last_value f q n (mark.boundary t some)).1.covered;
+      within = λ some. (last_value f q n (mark.boundary t some)).1.within;
+    };
+    decodes = λ some. last_value f q n (mark.boundary t some);
   })
 
   -- what a check of a marker asks and answers, by what was there at the start
@@ -351,8 +357,10 @@ module _ {A : Type 0} (seal : List ℕ → ℕ) (size : ℕ) (spelling : A → L
 
       pub marker_codec : (refusal : List ℕ → Unit {0} → Option codec.Error) (e : codec.Error)
           → (0 < n) × (refusal (data_from f.pages.page_size (view (disk now (section_key f.partition s)).content) ((n - 1) * size) size) tt ≡ Some e) × IsCovered seal f.pages.page_size (disk now (section_key f.partition s)).content ((n - 1) * size) size
+          → ((p k : ℕ) → p < s → marks p ≡ Some k → KeepsBoundary seal pages.page_size size spelling accepted (disk from (section_key partition p)) k)
           → (q m : ℕ) × (marks q ≡ Some m) × (0 < m) × (refusal (data_from pages.page_size (view (disk from (section_key partition q)).content) ((m - 1) * size) size) tt ≡ Some e) × IsCovered seal pages.page_size (disk from (section_key partition q)).content ((m - 1) * size) size
-      marker_codec refusal e found =
+          × ((p k : ℕ) → p < q → marks p ≡ Some k → KeepsBoundary seal pages.page_size size spelling accepted (disk from (section_key partition p)) k)
+      marker_codec refusal e found before =
           let content : (disk now (section_key f.partition s)).content ≡ (disk from (section_key partition s)).content = ap (λ (b : Blob). b.content) blob_here ∙ content_now partition ceiling from now moments s in (
             s,
             n,
@@ -360,6 +368,7 @@ module _ {A : Type 0} (seal : List ℕ → ℕ) (size : ℕ) (spelling : A → L
             found.0,
             subst (λ (c : List ℕ). refusal (data_from pages.page_size (view c) ((n - 1) * size) size) tt ≡ Some e) content (subst (λ (p : Pages). refusal (data_from p.page_size (view (disk now (section_key f.partition s)).content) ((n - 1) * size) size) tt ≡ Some e) done.paging found.1),
             subst (λ (c : List ℕ). IsCovered seal pages.page_size c ((n - 1) * size) size) content (subst (λ (p : Pages). IsCovered seal p.page_size (disk now (section_key f.partition s)).content ((n - 1) * size) size) done.paging found.2),
+            before,
           )
 
     pub settled_more : (first before after : OpenedList) (next : Timeline) (has : Bool) → s ≤ ceiling → (told → IsTrue has ↔ IsTrue (disk from (section_key partition s)).there) → (has ≡ false → next ≡ now)
@@ -388,6 +397,17 @@ module _ (m n : tree.BTreeMap ℕ ℕ) (k v : ℕ) (put : tree.get nat_cmp n k �
     | inl is ↦ subst (λ (x : ℕ). P x (floor_in n x)) (sym is) (subst (P k) (sym (ap (λ (o : Option ℕ). unwrap_or o 0) put)) new)
     | inr other ↦ subst (P q) (sym (floor_there q other)) (old q)
   ]
+
+-- ---- floors that are kept where the test of their section gives true
+module _ (keeps : ℕ → Bool) (m n : tree.BTreeMap ℕ ℕ) (is : n.entries ≡ filter (λ e. keeps e.0) m.entries) (s : ℕ) where
+  floor_left : tree.get nat_cmp n s ≡ cond (keeps s) (tree.get nat_cmp m s) None
+  floor_left = ap (λ (es : List (ℕ × ℕ)). lookup (tree.is_at (nat_cmp s)) es) is ∙ lookup-filter-keys (tree.is_at (nat_cmp s)) keeps (keeps s) (λ k at. ap keeps (sym (same_number s k at))) m.entries
+
+  pub floor_kept : keeps s ≡ true → floor_in n s ≡ floor_in m s
+  floor_kept has = ap (λ (o : Option ℕ). unwrap_or o 0) (floor_left ∙ cond-true (keeps s) _ _ has)
+
+  pub floor_lifted : keeps s ≡ false → floor_in n s ≡ 0
+  floor_lifted lacks = ap (λ (o : Option ℕ). unwrap_or o 0) (floor_left ∙ cond-false (keeps s) _ _ lacks)
 
 -- ---- an opening above the floors
 -- how many bytes a manager answers

@@ -1,5 +1,5 @@
 -- The bytes from which a replay gives items: what a reader has of them at hand, and where they end.
-use Rattle.std.proofs.Common.{◌≡◌, inl, inr, ℕ, ◌+◌, ◌*◌, ◌/◌, ◌<◌, ◌≤◌, List, length, take, drop, refl, sym, ◌∙◌, ap, subst, arith, length-take, length-drop}
+use Rattle.std.proofs.Common.{◌≡◌, inl, inr, ℕ, ◌+◌, ◌*◌, ◌/◌, ◌%◌, ◌<◌, ◌≤◌, List, length, take, drop, refl, sym, ◌∙◌, ap, subst, arith, length-take, length-drop}
 use Rattle.std.proofs.lemmas.Bool.{cases_lt}
 use Rattle.std.proofs.lemmas.Nat.{le-div, div_below, mul-le}
 use Rattle.sealed_pages.proofs.Holding.{bytes_length, div_place}
@@ -44,6 +44,15 @@ last_place size n p pos le lt =
 
 pub whole_place : (size n p : ℕ) → 1 ≤ size → n / size ≡ p → p * size ≤ n
 whole_place size n p pos is = omega (arith, div-mul-le_self n size, ap (λ (x : ℕ). x * size) is)
+
+-- an item that begins within whole items ends within them
+pub next_within : (size n p : ℕ) → 1 ≤ size → n % size ≡ 0 → p * size < n → (p + 1) * size ≤ n
+next_within size n p pos whole less =
+    let count : n / size * size + n % size ≡ n = omega (arith, pos) in
+    elim (cases_lt p (n / size)) [
+      | inl lt ↦ omega (arith, mul-le (p + 1) size (n / size) size (omega (arith, lt)) (omega arith), count, whole)
+      | inr le ↦ absurd (omega (arith, mul-le (n / size) size p size le (omega arith), count, whole, less))
+    ]
 
 -- fewer whole items than this have fewer bytes
 pub short_item : (size n p start : ℕ) → 1 ≤ size → n / size ≡ p → p < start → n < start * size

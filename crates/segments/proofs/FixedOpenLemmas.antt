@@ -24,7 +24,7 @@ use Rattle.segments.specs.Sections.{Sections, section_key, key_of, IsHeld, IsOve
 use Rattle.segments.specs.Setting.{Setting}
 use Rattle.segments.proofs.WalkLemmas.{none_or_value}
 use Rattle.segments.proofs.FixedWriteLemmas.{ArePages, journal_of}
-use Rattle.segments.proofs.FixedCutLemmas.{no_rest, empty_sealed}
+use Rattle.segments.proofs.FixedCutLemmas.{empty_sealed}
 
 size_some : {S : Type 0} {gs : _} (o : Option (PageBlob S gs)) → 0 < size_held o → IsSome o
 size_some None pos = absurd (omega (arith, pos))
@@ -47,11 +47,6 @@ no_floor m none s = ap (λ (es : List (ℕ × ℕ)). unwrap_or (lookup (is_at (n
 pub record Longer {F S : Type 0} {gs : _} (m : Sections F (PageBlob S gs)) (floors : ℕ → ℕ) (has : ℕ → Bool) (ahead : List ℕ) : Type 0 where
   pub sound : (s : ℕ) → IsTrue (has s) → floors s < section_size m s
   pub whole : (s : ℕ) → floors s < section_size m s → IsTrue (has s) ⊎ Contains ahead s
-
--- the sections with bytes that were gone through are known, and the others are ahead
-pub record Filled {F S : Type 0} {gs : _} (m : Sections F (PageBlob S gs)) (has : ℕ → Bool) (ahead : List ℕ) : Type 0 where
-  pub sound : (s : ℕ) → IsTrue (has s) → 0 < section_size m s
-  pub whole : (s : ℕ) → 0 < section_size m s → IsTrue (has s) ⊎ Contains ahead s
 
 module _ {F S : Type 0} {gs : _} (seal : List ℕ → ℕ) (size : ℕ) (told : Type 0) (g : buffer.Ghosts (PageBlob S gs)) (pages : ArePages g seal) (gives : F → Setting) (m : Sections F (PageBlob S gs)) (opened : OpenedList) (d : Disk)
     (over : IsOver g gives told m opened d) where

@@ -1,5 +1,5 @@
 -- A replay of a fixed journal begins a section: the step that this is.
-use Rattle.std.specs.Prelude.{◌≡◌, ◌⊎◌, ◌↔◌, ℕ, ◌+◌, ◌-◌, ◌*◌, ◌/◌, ◌%◌, ◌^◌, ◌<◌, ◌≤◌, cond, Bool, true, false, List, [], length, IsTrue, IsSomeAnd, Option, None, Some, Result, Ok, Err}
+use Rattle.std.specs.Prelude.{◌≡◌, ◌⊎◌, ◌↔◌, ℕ, ◌+◌, ◌-◌, ◌*◌, ◌/◌, ◌%◌, ◌^◌, ◌<◌, ◌≤◌, min, cond, Bool, true, false, List, [], length, IsTrue, IsSomeAnd, Option, None, Some, IsSome, Result, Ok, Err}
 use Rattle.std.proofs.Common.{inl, inr, refl, sym, ◌∙◌, ap, subst, arith, eqb}
 use Rattle.sealed_pages.proofs.Holding.{bool_or}
 use Rattle.std.proofs.lemmas.Bool.{cases_eq, eq-eqb, eqb-true}
@@ -14,26 +14,28 @@ use Rattle.sealed_pages.specs.ChanceSeal.{Leaves, Sealing}
 use Rattle.sealed_pages.specs.Readers.{Reader, IsReplayOf}
 use Rattle.sealed_pages.specs.Reads.{pages_for}
 use Rattle.sealed_pages.specs.SealedPrefix.{sealed_prefix}
+use Rattle.sealed_pages.specs.Unrecovered.{IsUnrecovered, IsAdopted, HasPrefix, KeepsPrefix}
 use Rattle.sealed_pages.proofs.Holding.{fit_size}
 use Rattle.sealed_pages.proofs.ReplayLemmas.{covered_none}
-use Rattle.sealed_pages.specs.Flushing.{Alone}
+use Rattle.sealed_pages.proofs.UnrecoveredLemmas.{prefix_leaves}
 use Rattle.value_codec.specs.declared.codec.Error as codec
 use Rattle.segments.specs.declared.buffer.SectionBuffer as buffer
 use Rattle.segments.specs.declared.journal.Error.{Error}
 use Rattle.segments.specs.Setting.{Setting}
 use Rattle.segments.specs.Sections.{key_of, IsHeld}
 use Rattle.segments.specs.Refusing.{HasFailed}
-use Rattle.segments.specs.FixedLists.{IsProven}
-use Rattle.segments.specs.FixedReplay.{Place, Walk, IsAhead, IsIn, IsReadWhole, IsLeft, HasSameBytes, IsWalk, StaysStill, Replaying, StandsIn, ReadsIn, kept_of, kept_bytes, first_of}
+use Rattle.segments.specs.FixedLists.{size_held, section_size, IsProven}
+use Rattle.segments.specs.FixedReplay.{Place, Walk, IsAhead, IsIn, IsReadWhole, IsLeft, IsSameOrCut, HasSameBytes, IsWalk, StaysStill, Replaying, StandsIn, ReadsIn, kept_of, kept_bytes, first_of}
 use Rattle.segments.specs.FixedStepping.{reads_left, way_of, sections_ahead, bytes_ahead, OnlySections, Touches, IsFlushed, BeginsOver, Steps}
+use Rattle.segments.specs.SealedLaws.{not_both}
 use Rattle.segments.proofs.FixedCounts.{count_here, count_ahead}
 use Rattle.segments.proofs.FixedEnding.{IsNext, next_after, next_from, ahead_from, next_back, fewer_ahead, nearer_begun}
 use Rattle.segments.proofs.FixedReading.{the_some, here}
 use Rattle.segments.proofs.FixedErrorSteps.{failed_other, failed_sound, failed_not_codec}
+use Rattle.segments.proofs.FixedOwed.{same_items}
 use Rattle.segments.proofs.FixedSteps.{Called, call_failed, call_passed}
-use Rattle.segments.proofs.FixedWalks.{IsBehind, IsReached, MayCut, is_some, same_some, none_in, key_new, first_same, held_back, held_on, kept_other, later_one}
+use Rattle.segments.proofs.FixedWalks.{IsBehind, IsReached, MayCut, MayFlush, MayFront, is_some, same_some, none_in, key_new, first_same, held_back, held_on, kept_other, later_one}
 use Rattle.segments.proofs.FixedWalksOn.{IsKnownAgain, replaying_start, replaying_here, moments_of}
-use Rattle.segments.proofs.FixedWriteLemmas.{proven_or_not}
 
 -- the start's section is given from the start on
 pub first_here : {F B : Type 0} (w : Walk F B) (s : ℕ) → s ≡ w.start_section → first_of w s ≡ w.start_position
@@ -70,7 +72,8 @@ module _ {F S : Type 0} {gs : _} (seal : List ℕ → ℕ) (size : ℕ) (g : buf
       (touch : Touches g gives told result s w.journal.sections new.journal.sections before after a b)
       (u : PageBlob S gs) (held : w.journal.sections.held s ≡ Some u) (ahead : IsAhead w s) (least : (t : ℕ) → IsHeld w.journal.sections t → IsAhead w t → s ≤ t)
       (moments : told → IsSealed seal (shown u) (disk a (key_of w.journal.sections s)) → Sealing seal u.page_size (bytes_of (shown u) (disk a (key_of w.journal.sections s)).content) u.settled (key_of w.journal.sections s) a b)
-      (alone : told → Alone (key_of w.journal.sections s) a b) (idle : u.settled ≡ size_of (shown u) → b ≡ a)
+      (steady : told → IsUnrecovered seal (shown u) (disk a (key_of w.journal.sections s)) → KeepsPrefix seal u.page_size (sealed_prefix seal u.page_size (disk a (key_of w.journal.sections s)).content) (key_of w.journal.sections s) a b)
+      (adopt : (x : PageBlob S gs) (c : Blob) → g.Stands x c → IsAdopted seal (shown x) c) (idle : u.settled ≡ size_of (shown u) → b ≡ a)
       {V : Type 0} (spelling : V → List ℕ) (accepted : V → Unit {0} → Type 0) (refusal : List ℕ → Unit {0} → Option codec.Error) (few many : ℕ) (le : few ≤ many) where
     abbrev key : Key
     key = key_of w.journal.sections s
@@ -124,20 +127,31 @@ module _ {F S : Type 0} {gs : _} (seal : List ℕ → ℕ) (size : ℕ) (g : buf
       where
         none_by : told → u.settled ≡ size_of (shown u) → Always a b (Each (Replaying seal size w (disk a)))
         none_by t settled = subst (λ (x : Timeline). Always a x (Each (Replaying seal size w (disk a)))) (sym (idle settled))
-            (always_start a (Each (Replaying seal size w (disk a))) (λ q. replaying_start seal size w (disk a) (was.disk t).sealed q))
+            (always_start a (Each (Replaying seal size w (disk a))) (λ q. replaying_start seal size w (disk a) q))
 
         not_still : (y : PageBlob S gs) → w.journal.sections.held s ≡ Some y → y.settled ≡ size_of (shown y) → (u.settled ≡ size_of (shown u) → ⊥) → ⊥
         not_still y is settled more = more (subst (λ (z : PageBlob S gs). z.settled ≡ size_of (shown z)) (same_some (w.journal.sections.held s) u y held is) settled)
 
+        not_owed : {A : Type 0} → w.journal.unrecovered s ≡ false → IsTrue (w.journal.unrecovered s) → A
+        not_owed free owes = absurd (cc (owes, free))
+
+        -- what is said of u is said of what is held
+        of_held : (P : PageBlob S gs → Type 0) → P u → (y : PageBlob S gs) → w.journal.sections.held s ≡ Some y → P y
+        of_held P has y is = subst P (sym (same_some (w.journal.sections.held s) u y held is)) has
+
         flush_by : told → w.journal.unrecovered s ≡ false → (u.settled ≡ size_of (shown u) → ⊥) → Always a b (Each (Replaying seal size w (disk a)))
-        flush_by t free more = elim (proven_or_not w.journal s) [
-          | inl proven ↦ moments_of seal size w (disk a) s small numbers reached a b
-              (Leaves seal u.page_size (bytes_of (shown u) (disk a key).content) u.settled) refl (was.disk t).sealed (moments t ((was.disk t).sealed.sealed s u held proven))
+        flush_by t free more = elim (adopt u (disk a key) ((was.over.disk t).stands s u held)) [
+          | inl sealed ↦ moments_of seal size w (disk a) s small numbers reached a b (MayFlush seal u (disk a key)) refl (moments t sealed)
               (λ x leaves. replaying_here seal size w (disk a) s small numbers reached x
-              (λ y is also. subst (λ (z : PageBlob S gs). Leaves seal z.page_size (bytes_of (shown z) (disk a key).content) z.settled x) (sym (same_some (w.journal.sections.held s) u y held is)) leaves)
-              (λ y is owes. absurd (cc (owes, free))) (λ y is rest. absurd (not_still y is rest.0 more)))
-          | inr not ↦ moments_of seal size w (disk a) s small numbers reached a b (λ x. Unit {0}) refl (was.disk t).sealed (alone t)
-              (λ x any. replaying_here seal size w (disk a) s small numbers reached x (λ y is proven. absurd (not proven)) (λ y is owes. absurd (cc (owes, free))) (λ y is rest. absurd (not_still y is rest.0 more)))
+              (λ y is free2 sealed2. of_held (λ (z : PageBlob S gs). MayFlush seal z (disk a key) x) leaves y is)
+              (λ y is free2. of_held (λ (z : PageBlob S gs). IsUnrecovered seal (shown z) (disk a key) → MayFront seal z (disk a key) x) (λ un. absurd (not_both seal (shown u) (disk a key) sealed un)) y is)
+              (λ y is. not_owed free) (λ y is rest. absurd (not_still y is rest.0 more)))
+          | inr un ↦ moments_of seal size w (disk a) s small numbers reached a b (HasPrefix seal u.page_size (sealed_prefix seal u.page_size (disk a key).content)) refl (steady t un)
+              (λ x has. replaying_here seal size w (disk a) s small numbers reached x
+              (λ y is free2. of_held (λ (z : PageBlob S gs). IsSealed seal (shown z) (disk a key) → MayFlush seal z (disk a key) x) (λ sealed. absurd (not_both seal (shown u) (disk a key) sealed un)) y is)
+              (λ y is free2 un2. of_held (λ (z : PageBlob S gs). MayFront seal z (disk a key) x)
+              (prefix_leaves seal u.page_size (sealed_prefix seal u.page_size (disk a key).content) (min u.settled (length (sealed_prefix seal u.page_size (disk a key).content))) x (omega arith) has) y is)
+              (λ y is. not_owed free) (λ y is rest. absurd (not_still y is rest.0 more)))
         ]
 
         moments_by : told → (owes : Bool) → w.journal.unrecovered s ≡ owes → Always a b (Each (Replaying seal size w (disk a)))
@@ -148,10 +162,10 @@ module _ {F S : Type 0} {gs : _} (seal : List ℕ → ℕ) (size : ℕ) (g : buf
         ]
 
     -- It was refused, and the section may be lost.
-    pub begin_failed : (x : Error) → new.place ≡ None → new.ended ≡ w.ended → (new.journal.sections.held s ≡ None) ⊎ ((new.journal.sections.held s ≡ w.journal.sections.held s) × (b ≡ a))
+    pub begin_failed : (x : Error) → new.place ≡ None → new.ended ≡ w.ended → ((new.journal.sections.held s ≡ None) × IsSome (new.journal.sections.unopened s)) ⊎ ((new.journal.sections.held s ≡ w.journal.sections.held s) × (b ≡ a))
         → HasFailed {T = Option (ℕ × ℕ × V)} (Err x) few many
         → Steps seal size g gives spelling accepted refusal told (Err x) w new before after a b few many
-    begin_failed x none_new ended lost cause = call_failed seal size g gives spelling accepted refusal told s w new before after a b few many called nearer_failed x lost none_new ahead_back (inr ended)
+    begin_failed x none_new ended lost cause = call_failed seal size g gives spelling accepted refusal told s w new before after a b few many called nearer_failed x lost (λ going owed. idle (was.walk.owes_settled.settled s u held owed)) none_new ahead_back (inr ended)
         (failed_other x x refl few many cause) (λ t k is. absurd (failed_sound x few many cause k is)) (λ t e is. absurd (failed_not_codec x few many cause e is)) (inr (inr cause))
       where
         nearer_failed : way_of new < way_of w
@@ -245,7 +259,10 @@ module _ {F S : Type 0} {gs : _} (seal : List ℕ → ℕ) (size : ℕ) (g : buf
 
       later : told → (q : Key) (x : Blob) → Replaying seal size new (disk b) q x → Replaying seal size w (disk a) q x
       later t = later_one seal size s w new (disk a) (disk b) called.one t reached onward v held_new
-          (λ y is proven x left. subst (λ (z : PageBlob S gs). Leaves seal z.page_size (bytes_of (shown z) (disk a key).content) z.settled x) (sym (same_some (w.journal.sections.held s) u y held is)) (flushed_leaves x left))
+          (λ y is free. subst (λ (z : PageBlob S gs). IsSealed seal (shown z) (disk a key) → IsSealed seal (shown v) (disk b key) × ((x : Blob) → MayFlush seal v (disk b key) x → MayFlush seal z (disk a key) x))
+          (sym (same_some (w.journal.sections.held s) u y held is)) (λ is_sealed. (flush.sealed t is_sealed, flushed_leaves)))
+          (λ y is free. subst (λ (z : PageBlob S gs). IsUnrecovered seal (shown z) (disk a key) → IsUnrecovered seal (shown v) (disk b key) × ((x : Blob) → MayFront seal v (disk b key) x → MayFront seal z (disk a key) x))
+          (sym (same_some (w.journal.sections.held s) u y held is)) (λ un. ((flush.unsealed t un).0, front_leaves (flush.unsealed t un).1)))
           (λ y is owes x may. subst (λ (z : PageBlob S gs). MayCut seal size z (w.journal.floor_of s) (disk a key) x) (sym (same_some (w.journal.sections.held s) u y held is)) (cut_leaves owes x may))
           (λ y is rest. stays (subst (λ (z : PageBlob S gs). StaysStill seal size (w.journal.unrecovered s) z (disk a key)) (same_some (w.journal.sections.held s) u y held is) rest))
         where
@@ -265,7 +282,16 @@ module _ {F S : Type 0} {gs : _} (seal : List ℕ → ℕ) (size : ℕ) (g : buf
                 blob,
               )
 
-          flushed_leaves : (x : Blob) → Leaves seal v.page_size (bytes_of (shown v) (disk b key).content) v.settled x → Leaves seal u.page_size (bytes_of (shown u) (disk a key).content) u.settled x
+          front_leaves : sealed_prefix seal u.page_size (disk b key).content ≡ sealed_prefix seal u.page_size (disk a key).content → (x : Blob) → MayFront seal v (disk b key) x → MayFront seal u (disk a key) x
+          front_leaves same x left =
+              let c = (disk b key).content in
+              let paged : Leaves seal u.page_size (sealed_prefix seal u.page_size c) (min v.settled (length (sealed_prefix seal u.page_size c))) x =
+              subst (λ (P : ℕ). Leaves seal P (sealed_prefix seal P c) (min v.settled (length (sealed_prefix seal P c))) x) flush.page_size left in
+              let settled : Leaves seal u.page_size (sealed_prefix seal u.page_size c) (min u.settled (length (sealed_prefix seal u.page_size c))) x =
+              subst (λ (k : ℕ). Leaves seal u.page_size (sealed_prefix seal u.page_size c) (min k (length (sealed_prefix seal u.page_size c))) x) flush.settled paged in
+              subst (λ (l : List ℕ). Leaves seal u.page_size l (min u.settled (length l)) x) same settled
+
+          flushed_leaves : (x : Blob) → MayFlush seal v (disk b key) x → MayFlush seal u (disk a key) x
           flushed_leaves x left =
               let paged : Leaves seal u.page_size (bytes_of (shown v) (disk b key).content) v.settled x = subst (λ (P : ℕ). Leaves seal P (bytes_of (shown v) (disk b key).content) v.settled x) flush.page_size left in
               let settled : Leaves seal u.page_size (bytes_of (shown v) (disk b key).content) u.settled x = subst (λ (k : ℕ). Leaves seal u.page_size (bytes_of (shown v) (disk b key).content) k x) flush.settled paged in
@@ -347,8 +373,10 @@ module _ {F S : Type 0} {gs : _} (seal : List ℕ → ℕ) (size : ℕ) (g : buf
             failed = only.failed;
             ended = ended;
             bytes = λ y is free. subst (λ (z : PageBlob S gs). HasSameBytes told z (disk a key) v (disk b key)) (sym (same_some (w.journal.sections.held s) u y held is)) (record { size = flush.size; settled = flush.settled; bytes = flush.bytes });
+            cut = λ y is. subst (λ (z : PageBlob S gs). IsSameOrCut (w.journal.floor_of s) z v) (sym (same_some (w.journal.sections.held s) u y held is)) (record { page_size = flush.page_size; shorter = omega (arith, flush.size); reached = inl flush.size });
+            items = λ t y is owed. same_items seal y.page_size size (disk a key) (disk b key) (ap (λ (x : Timeline). disk x key) (same_time owed));
             later = later;
-          }) (λ fine out at. absurd (out new_here)) onward nearer left kept_all new_in reads_here
+          }) (λ fine out at. absurd (out new_here)) onward nearer left kept_all size_same new_in reads_here
         where
           new_here : IsIn new s
           new_here = subst (λ (o : Option Place). IsSomeAnd o (λ y. y.section ≡ s)) (sym place_new) refl
@@ -370,6 +398,9 @@ module _ {F S : Type 0} {gs : _} (seal : List ℕ → ℕ) (size : ℕ) (g : buf
                 ap bytes_ahead none,
                 nearer_begun (sections_ahead w.next_section) (sections_ahead new.next_section) (R.size - first * size) (fewer_ahead s w.next_section new.next_section small ahead next_new) (omega (arith, fits, begins.size)),
               )
+
+          size_same : IsAhead new s ⊎ IsIn new s → section_size new.journal.sections s ≡ section_size w.journal.sections s
+          size_same near = ap (λ (o : Option (PageBlob S gs)). size_held o) held_new ∙ flush.size ∙ sym (ap (λ (o : Option (PageBlob S gs)). size_held o) held)
 
           kept_all : told → (t : ℕ) → IsAhead new t ⊎ IsIn new t → kept_bytes seal size new (disk b) t ≡ kept_bytes seal size w (disk a) t
           kept_all tells t near = elim (cases_eq t s) [

@@ -36,12 +36,14 @@ use Rattle.segments.specs.Sections.{Sections, key_of, IsHeld, IsKeyOf, HasOpened
 use Rattle.segments.specs.FixedItems.{item_at, IsItem}
 use Rattle.segments.specs.Refusing.{HasFailed}
 use Rattle.segments.specs.FixedReading.{HasNotRead, IsBelowFloor}
-use Rattle.segments.specs.FixedReplay.{Place, Walk, IsAhead, IsIn, IsReadWhole, IsLeft, SameWalk, IsWalk, WalksOver, StandsBefore, IsFromCovered, Gives, Refuses, Stops, Replaying, EndsBelow, FindsDamage, StandsIn, ReadsIn, kept_of, kept_bytes, first_of}
+use Rattle.segments.specs.FixedLists.{section_size}
+use Rattle.segments.specs.FixedReplay.{Place, Walk, IsAhead, IsIn, IsReadWhole, IsLeft, SameWalk, IsWalk, WalksOver, StandsBefore, KeepsItems, IsFromCovered, Gives, Refuses, Stops, Replaying, LeavesNoMore, EndsBelow, FindsDamage, StandsIn, ReadsIn, kept_of, kept_bytes, first_of}
 use Rattle.segments.specs.FixedStepping.{standing, after_item, bytes_ahead, way_of, reads_left, ReadsOnce, GoesOn, Carries, EndsAt, Steps}
 use Rattle.segments.proofs.KeyLemmas.{keys_differ}
 use Rattle.segments.proofs.FixedCounts.{count_here, count_apart, count_same}
 use Rattle.segments.proofs.FixedKept.{covered_on, covered_length, item_kept, prefix_data, flushed_data}
 use Rattle.segments.proofs.FixedEnding.{ahead_from}
+use Rattle.segments.proofs.FixedOwed.{same_items, same_or_cut}
 use Rattle.segments.proofs.FixedWalks.{IsBehind, IsReached, is_some, same_some, same_bytes, none_in, left_later}
 use Rattle.segments.proofs.FixedWalksOn.{replaying_start}
 use Rattle.segments.proofs.FixedSteps.{Called, Answered, call_stopped, call_failed, call_ended, call_refused}
@@ -216,7 +218,7 @@ module _ {F S : Type 0} {gs : _} (seal : List ℕ → ℕ) (size : ℕ) (g : buf
     )
 
     replaying_read : (d : Disk) (q : Key) (x : Blob) → Replaying seal size (standing w on) d q x → Replaying seal size (standing w r) d q x
-    replaying_read d q x is = record { flushed = is.flushed; cut = is.cut; still = is.still; others = λ never. is.others (λ k. never (k.0, k.1, k.2)) }
+    replaying_read d q x is = record { flushed = is.flushed; front = is.front; cut = is.cut; still = is.still; others = λ never. is.others (λ k. never (k.0, k.1, k.2)) }
 
     -- each read took a page that was not read
     count_read : ReadsUnread r.reader more before after → (t : ℕ) → IsHeld w.journal.sections t
@@ -247,10 +249,15 @@ module _ {F S : Type 0} {gs : _} (seal : List ℕ → ℕ) (size : ℕ) (g : buf
         settled = has.settled;
         bytes = λ t. subst (λ (d : Disk). bytes_of (shown v) (disk c (key_of w.journal.sections q)).content ≡ bytes_of (shown u) (d (key_of w.journal.sections q)).content) (same_disk t) (has.bytes t);
       });
+      onward = λ q h. step.onward q h;
+      stays = step.stays;
+      floors = step.floors;
+      items = λ t going. subst (λ (d : Disk). KeepsItems seal size (standing w on) d (disk c)) (same_disk t) (step.items t going);
+      later = λ t. later_read t result (step.later t);
       carries = λ t is. (let has = subst (λ (d : Disk). Carries seal size (standing w on) new d (disk c)) (same_disk t) (step.carries t is) in record {
         left = λ q p. (λ l. (left_read (disk a) q p).0 ((has.left q p).0 l), λ l. (has.left q p).1 ((left_read (disk a) q p).1 l));
         kept = has.kept;
-        later = λ q x is. replaying_read (disk a) q x (has.later q x is);
+        sizes = has.sizes;
       });
       item = λ t q p v is. (let has = subst (λ (d : Disk). Gives seal size spelling accepted (standing w on) new d (disk c) q p v) (same_disk t) (step.item t q p v is) in record {
         left = (left_read (disk a) q p).0 has.left;
@@ -263,8 +270,8 @@ module _ {F S : Type 0} {gs : _} (seal : List ℕ → ℕ) (size : ℕ) (g : buf
       start = λ t p is. (let has = step.start t p is in (has.0, subst (λ (d : Disk). length (kept_bytes seal size (standing w on) d w.start_section) < p * size) (same_disk t) has.1, has.2));
       damage = λ t x is. (let has = step.damage t x is in
           let below = subst (λ (d : Disk). EndsBelow seal size (standing w on) d x) (same_disk t) has.0 in
-          (record { owes = below.owes; kept = below.kept; wanted = below.wanted; less = below.less }, has.1));
-      damaged = λ t k is. (let has = step.damaged t k is in record { section = has.section; position = has.position; near = has.near; free = has.free; floor = has.floor; page = has.page });
+          (record { owes = below.owes; held = below.held; kept = below.kept; wanted = below.wanted; less = below.less }, has.1));
+      damaged = λ t k is. (let has = step.damaged t k is in record { section = has.section; position = has.position; near = has.near; free = has.free; floor = has.floor; within = has.within; page = has.page });
       refused = λ t e is. (let has = subst (λ (d : Disk). Refuses seal size refusal (standing w on) new d (disk c) e) (same_disk t) (step.refused t e is) in record {
         section = has.section;
         position = has.position;
@@ -275,9 +282,19 @@ module _ {F S : Type 0} {gs : _} (seal : List ℕ → ℕ) (size : ℕ) (g : buf
         rest = λ x y. (λ l. (let was = (has.rest x y).0 l in ((left_read (disk a) x y).0 was.0, was.1)), λ l. (has.rest x y).1 ((left_read (disk a) x y).1 l.0, l.1));
       });
       ends = λ is. elim (step.ends is) [ inl end ↦ inl end | inr failed ↦ inr (elim failed [ inl damage ↦ inl damage | inr has ↦ inr (failed_since result few some many le has) ]) ];
+      ends_cut = λ is. elim (step.ends_cut is) [
+        | inl end ↦ inl end
+        | inr has ↦ inr (record {
+          section = has.section;
+          near = has.near;
+          owes = has.owes;
+          longer = λ t. subst (λ (d : Disk). length (kept_bytes seal size (standing w on) d has.section) / size * size < section_size w.journal.sections has.section) (same_disk t) (has.longer t);
+          given = λ t x y l. has.given t x y (subst (λ (d : Disk). IsLeft seal size (standing w on) d x y) (sym (same_disk t)) ((left_read (disk a) x y).1 l));
+        })
+      ];
       moments = λ t. always_then a b c (Each (Replaying seal size (standing w r) (disk a)))
           (always_weaker a b (λ x. x ≡ disk a) (Each (Replaying seal size (standing w r) (disk a)))
-          (λ x is q. subst (λ (d : Disk). Replaying seal size (standing w r) (disk a) q (d q)) (sym is) (replaying_start seal size (standing w r) (disk a) (was.disk t).sealed q)) (stood t))
+          (λ x is q. subst (λ (d : Disk). Replaying seal size (standing w r) (disk a) q (d q)) (sym is) (replaying_start seal size (standing w r) (disk a) q)) (stood t))
           (always_weaker b c (Each (Replaying seal size (standing w on) (disk b))) (Each (Replaying seal size (standing w r) (disk a)))
           (λ x each q. replaying_read (disk a) q (x q) (subst (λ (d : Disk). Replaying seal size (standing w on) d q (x q)) (same_disk t) (each q))) (step.moments t));
       entries = λ q never. step.entries q (λ k. never (k.0, k.1, k.2)) ∙ reads.others q (λ is. never (r.section, (is_some (w.journal.sections.held r.section) (here r before (disk a) was).0 (here r before (disk a) was).1, inr refl), is ∙ key_is));
@@ -287,8 +304,12 @@ module _ {F S : Type 0} {gs : _} (seal : List ℕ → ℕ) (size : ℕ) (g : buf
     }
       where
         goes_read : (x : Result (Option (ℕ × ℕ × V)) Error) → OnOk x (GoesOn (standing w on) new) → OnOk x (GoesOn (standing w r) new)
-        goes_read (Ok y) has = record { failed = has.failed; ended = has.ended; held = has.held; onward = λ t h. has.onward t h }
+        goes_read (Ok y) has = record { failed = has.failed; ended = has.ended; held = has.held; known = has.known }
         goes_read (Err y) has = has
+
+        later_read : told → (x : Result (Option (ℕ × ℕ × V)) Error) → OnOk x (LeavesNoMore seal size (standing w on) new (disk b) (disk c)) → OnOk x (LeavesNoMore seal size (standing w r) new (disk a) (disk c))
+        later_read t (Ok y) has = λ q x is. replaying_read (disk a) q x (subst (λ (d : Disk). Replaying seal size (standing w on) d q x) (same_disk t) (has q x is))
+        later_read t (Err y) has = tt
 
         stops_read : told → (x : Result (Option (ℕ × ℕ × V)) Error) → OnErr x (Stops seal size (standing w on) new (disk b) (disk c)) → OnErr x (Stops seal size (standing w r) new (disk a) (disk c))
         stops_read t (Ok y) has = has
@@ -297,7 +318,11 @@ module _ {F S : Type 0} {gs : _} (seal : List ℕ → ℕ) (size : ℕ) (g : buf
             record {
               rest = elim stops.rest [
                 | inl end ↦ inl end
-                | inr some ↦ inr (some.0, λ x y. (λ l. (let was = (some.1 x y).0 l in ((left_read (disk a) x y).0 was.0, was.1)), λ l. (some.1 x y).1 ((left_read (disk a) x y).1 l.0, l.1)))
+                | inr some ↦ inr (
+                  some.0,
+                  λ x y l lt. some.1 x y ((left_read (disk a) x y).1 l) lt,
+                  λ x y. (λ l. (let was = (some.2 x y).0 l in ((left_read (disk a) x y).0 was.0, was.1)), λ l. (some.2 x y).1 ((left_read (disk a) x y).1 l.0, l.1)),
+                )
               ];
             }
 
@@ -360,7 +385,7 @@ module _ {F S : Type 0} {gs : _} (seal : List ℕ → ℕ) (size : ℕ) (g : buf
         reached = reached_here;
         over = was.over;
         entries = λ q other. refl;
-        moments = λ t. always_start now (Each (Replaying seal size (standing w r) (disk now))) (λ q. replaying_start seal size (standing w r) (disk now) (was.disk t).sealed q);
+        moments = λ t. always_start now (Each (Replaying seal size (standing w r) (disk now))) (λ q. replaying_start seal size (standing w r) (disk now) q);
         from = was.walk.from_start;
         faults = le;
       }
@@ -372,11 +397,11 @@ module _ {F S : Type 0} {gs : _} (seal : List ℕ → ℕ) (size : ℕ) (g : buf
       pub read_failed : (x : Error) → ((p : ℕ) → x ≡ ItemOutOfRange p → ⊥) → (told → (k : ℕ) → x ≡ Runtime (InvalidChecksum k) → FindsDamage seal size (standing w r) w (disk now) k)
           → (told → (e : codec.Error) → x ≡ Codec e → Refuses seal size refusal (standing w r) w (disk now) (disk now) e) → HasNotRead {T = Option (ℕ × ℕ × V)} (Err x) few many
           → Steps seal size g gives spelling accepted refusal told (Err x) (standing w r) w opened opened now now few many
-      read_failed x other found refuses cause = call_failed seal size g gives spelling accepted refusal told r.section (standing w r) w opened opened now now few many no_call nearer_none x (inr (refl, refl)) none (λ t h. h) (inr refl) other found refuses cause
+      read_failed x other found refuses cause = call_failed seal size g gives spelling accepted refusal told r.section (standing w r) w opened opened now now few many no_call nearer_none x (inr (refl, refl)) (λ going owed. refl) none (λ t h. h) (inr refl) other found refuses cause
 
       -- Its whole items end below its floor.
       pub floor_refused : (x : Damage) → (told → EndsBelow seal size (standing w r) (disk now) x) → x.section ≡ r.section → Steps seal size g gives spelling accepted refusal told (Err (Corruption x)) (standing w r) w opened opened now now few many
-      floor_refused x below at = call_stopped seal size g gives spelling accepted refusal told r.section (standing w r) w opened opened now now few many no_call nearer_none (Corruption x) (inr (refl, refl)) none (λ t h. h) (inr refl) (λ p is. absurd (cc is))
+      floor_refused x below at = call_stopped seal size g gives spelling accepted refusal told r.section (standing w r) w opened opened now now few many no_call nearer_none (Corruption x) (inr (refl, refl)) (λ going owed. refl) none (λ t h. h) (inr refl) (λ p is. absurd (cc is))
           (λ t y is. (let same : x ≡ y = cc is in subst (λ (z : Damage). EndsBelow seal size (standing w r) (disk now) z × (IsAhead (standing w r) z.section ⊎ IsIn (standing w r) z.section)) same (below t, inr (sym at))))
           (λ t k is. absurd (cc is)) (λ t e is. absurd (cc is)) (inl (x, refl))
 
@@ -398,7 +423,9 @@ module _ {F S : Type 0} {gs : _} (seal : List ℕ → ℕ) (size : ℕ) (g : buf
             failed = refl;
             ended = refl;
             bytes = λ u held free. same_bytes told u h.0 (disk now (key_of w.journal.sections r.section)) (disk now (key_of w.journal.sections r.section)) (same_some (w.journal.sections.held r.section) u h.0 held h.1) (λ t. refl);
-            later = λ t q x is. record { flushed = is.flushed; cut = is.cut; still = is.still; others = λ never. is.others (λ k. absurd_near never k.0 k.1.0 k.1.1 k.2) };
+            cut = λ u held. same_or_cut (w.journal.floor_of r.section) u h.0 (same_some (w.journal.sections.held r.section) u h.0 held h.1);
+            items = λ t u held owed. same_items seal u.page_size size (disk now (key_of w.journal.sections r.section)) (disk now (key_of w.journal.sections r.section)) refl;
+            later = λ t q x is. record { flushed = is.flushed; front = is.front; cut = is.cut; still = is.still; others = λ never. is.others (λ k. absurd_near never k.0 k.1.0 k.1.1 k.2) };
           }
         where
           absurd_near : {q : Key} → (IsKeyOf w.journal.sections (λ s. IsHeld w.journal.sections s × (IsAhead w s ⊎ IsIn (standing w r) s)) q → ⊥) → (s : ℕ) → IsHeld w.journal.sections s → IsAhead w s ⊎ IsIn w s → q ≡ key_of w.journal.sections s → ⊥
@@ -474,7 +501,7 @@ module _ {F S : Type 0} {gs : _} (seal : List ℕ → ℕ) (size : ℕ) (g : buf
       not_before x q before lt = elim before [ inl less ↦ omega (arith, less, lt) | inr same ↦ omega (arith, same.0, lt) ]
 
       goes_item : GoesOn (standing w r) (standing w (after_item size r))
-      goes_item = record { failed = refl; ended = refl; held = λ s. (λ h. h, λ h. h); onward = λ t h. h }
+      goes_item = record { failed = refl; ended = refl; held = λ s. (λ h. h, λ h. h); known = λ s. refl }
 
       whole_item : told → r.position < length (kept_bytes seal size (standing w r) (disk now) r.section) / size
       whole_item t =
@@ -507,8 +534,11 @@ module _ {F S : Type 0} {gs : _} (seal : List ℕ → ℕ) (size : ℕ) (g : buf
           },
         );
         kept = λ s h. refl;
-        later = λ q x is. record { flushed = is.flushed; cut = is.cut; still = is.still; others = λ never. is.others (λ k. never (k.0, k.1, k.2)) };
+        sizes = λ s h. refl;
       }
+
+      later_item : LeavesNoMore seal size (standing w r) (standing w (after_item size r)) (disk now) (disk now)
+      later_item q x is = record { flushed = is.flushed; front = is.front; cut = is.cut; still = is.still; others = λ never. is.others (λ k. never (k.0, k.1, k.2)) }
 
       left_item : w.ended ≡ false → first_of w r.section ≤ r.position → told → IsLeft seal size (standing w r) (disk now) r.section r.position
       left_item going first t = record { goes_on = going; begun = first; whole = whole_item t; ahead = inr (refl, omega arith) }
@@ -589,6 +619,11 @@ module _ {F S : Type 0} {gs : _} (seal : List ℕ → ℕ) (size : ℕ) (g : buf
               goes = goes_item;
               same = same_walk;
               nearer = nearer_item;
+              onward = λ t h. h;
+              stays = λ s none. (none, (λ h. h, λ h. h));
+              floors = λ s u v held now_held. same_or_cut (w.journal.floor_of s) u v (same_some (w.journal.sections.held s) u v held now_held);
+              items = λ t going s u held owed. same_items seal u.page_size size (disk now (key_of w.journal.sections s)) (disk now (key_of w.journal.sections s)) refl;
+              later = λ t. later_item;
               bytes = λ q u v held now_held free. same_bytes told u v (disk now (key_of w.journal.sections q)) (disk now (key_of w.journal.sections q)) (same_some (w.journal.sections.held q) u v held now_held) (λ t. refl);
               carries = λ t is. passed_item (skipped is);
               item = λ t s p v is. (let f = given s p v is in
@@ -600,7 +635,8 @@ module _ {F S : Type 0} {gs : _} (seal : List ℕ → ℕ) (size : ℕ) (g : buf
               damaged = λ t k is. absurd (cc is);
               refused = λ t e is. absurd (cc is);
               ends = λ is. inl is;
-              moments = λ t. always_start now (Each (Replaying seal size (standing w r) (disk now))) (λ q. replaying_start seal size (standing w r) (disk now) (was.disk t).sealed q);
+              ends_cut = λ is. inl is;
+              moments = λ t. always_start now (Each (Replaying seal size (standing w r) (disk now))) (λ q. replaying_start seal size (standing w r) (disk now) q);
               entries = λ q never. refl;
               once = λ t held. omega (arith, count_same w r (after_item size r) t refl unread_item);
               faults = le;

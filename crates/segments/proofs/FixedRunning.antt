@@ -1,5 +1,5 @@
 -- A replay of a fixed journal after some steps that gave nothing: what one more answers, from where the first began.
-use Rattle.std.specs.Prelude.{◌≡◌, ◌⊎◌, ℕ, ◌+◌, ◌*◌, ◌/◌, ◌<◌, ◌≤◌, Bool, true, false, List, length, IsSomeAnd, Option, None, Some, Result, Ok, Err, OnOk, OnErr}
+use Rattle.std.specs.Prelude.{◌≡◌, ◌⊎◌, ℕ, ◌+◌, ◌*◌, ◌/◌, ◌<◌, ◌≤◌, Bool, true, false, List, length, IsTrue, Option, None, Some, Result, Ok, Err, OnOk, OnErr}
 use Rattle.std.specs.Result.{IsErrOf}
 use Rattle.std.proofs.Common.{inl, inr, refl, sym, ◌∙◌, ap, subst, arith}
 use Rattle.blob_device.specs.Disk.{Key, Disk}
@@ -20,12 +20,14 @@ use Rattle.segments.specs.Sections.{section_key, key_of, IsHeld, IsKeyOf}
 use Rattle.segments.specs.FixedItems.{item_at, IsItem}
 use Rattle.segments.specs.Refusing.{HasFailed, HasDamage}
 use Rattle.segments.specs.FixedReading.{HasNotRead, IsBelowFloor}
-use Rattle.segments.specs.FixedReplay.{Place, Walk, IsAhead, IsIn, IsLeft, IsDrained, SameWalk, KeepsBytes, HasWalk, IsWalk, Gives, Refuses, Stops, Replaying, EndsBelow, FindsDamage, kept_bytes}
+use Rattle.segments.specs.FixedLists.{section_size}
+use Rattle.segments.specs.FixedReplay.{Walk, IsAhead, IsIn, IsLeft, IsDrained, SameWalk, SameItems, IsSameOrCut, KeepsSections, KeepsFloors, KeepsBytes, KeepsItems, HasWalk, IsWalk, Gives, Refuses, Stops, IsCutting, Replaying, LeavesNoMore, EndsBelow, FindsDamage, kept_bytes}
 use Rattle.segments.specs.FixedStepping.{failing, way_of, reads_left, ReadsOnce, GoesOn, Carries, Steps}
+use Rattle.segments.proofs.FixedOwed.{same_items, items_then, same_or_cut, cut_then}
 use Rattle.segments.proofs.FixedReading.{not_read_since, failed_since}
 use Rattle.segments.specs.Sealed.{is_unsettled}
 use Rattle.segments.specs.SealedLaws.{all_settled}
-use Rattle.segments.proofs.FixedWalks.{is_some, same_some, some_of, same_bytes, none_in}
+use Rattle.segments.proofs.FixedWalks.{is_some, same_some, some_of, same_bytes, none_in, in_section}
 use Rattle.segments.proofs.FixedWriteLemmas.{settled_idle}
 use Rattle.segments.proofs.FixedWalksOn.{replaying_start}
 
@@ -74,7 +76,11 @@ module _ {F S : Type 0} {gs : _} (seal : List ℕ → ℕ) (size : ℕ) (g : buf
     pub goes : GoesOn old now
     pub same : SameWalk old now
     pub nearer : way_of now ≤ way_of old
+    pub onward : (s : ℕ) → IsAhead now s ⊎ IsIn now s → IsAhead old s ⊎ IsIn old s
+    pub floors : KeepsFloors old now
     pub bytes : KeepsBytes told old now (disk a) (disk t)
+    pub items : told → now.ended ≡ false → KeepsItems seal size old (disk a) (disk t)
+    pub later : told → LeavesNoMore seal size old now (disk a) (disk t)
     pub carries : told → Carries seal size old now (disk a) (disk t)
     pub moments : told → Always a t (Each (Replaying seal size old (disk a)))
     pub entries : (q : Key) → (IsKeyOf old.journal.sections (λ s. IsHeld old.journal.sections s × (IsAhead old s ⊎ IsIn old s)) q → ⊥) → opened q ≡ before q
@@ -84,12 +90,16 @@ module _ {F S : Type 0} {gs : _} (seal : List ℕ → ℕ) (size : ℕ) (g : buf
   pub running_start : IsWalk g gives seal size told old before (disk a) → Running old before a few
   running_start was = record {
     over = was;
-    goes = record { failed = refl; ended = refl; held = λ s. (λ h. h, λ h. h); onward = λ s h. h };
+    goes = record { failed = refl; ended = refl; held = λ s. (λ h. h, λ h. h); known = λ s. refl };
     same = record { bounds = record { place = record { partition = refl; factory = refl }; floor = refl; ceiling = refl }; unrecovered = λ s. refl; floors = λ s. refl; section = refl; position = refl };
     nearer = omega arith;
+    onward = λ s h. h;
+    floors = λ s u v held also. same_or_cut (old.journal.floor_of s) u v (same_some (old.journal.sections.held s) u v held also);
+    items = λ t going s u held owed. same_items seal u.page_size size (disk a (key_of old.journal.sections s)) (disk a (key_of old.journal.sections s)) refl;
+    later = λ t q x is. is;
     bytes = λ s u v held also free. same_bytes told u v (disk a (key_of old.journal.sections s)) (disk a (key_of old.journal.sections s)) (same_some (old.journal.sections.held s) u v held also) (λ t. refl);
-    carries = λ t. record { left = λ s q. (λ l. l, λ l. l); kept = λ s h. refl; later = λ q x is. is };
-    moments = λ t. always_start a (Each (Replaying seal size old (disk a))) (λ q. replaying_start seal size old (disk a) (was.disk t).sealed q);
+    carries = λ t. record { left = λ s q. (λ l. l, λ l. l); kept = λ s h. refl; sizes = λ s h. refl };
+    moments = λ t. always_start a (Each (Replaying seal size old (disk a))) (λ q. replaying_start seal size old (disk a) q);
     entries = λ q never. refl;
     once = λ s held. omega arith;
     faults = omega arith;
@@ -111,7 +121,7 @@ module _ {F S : Type 0} {gs : _} (seal : List ℕ → ℕ) (size : ℕ) (g : buf
 
     never_now : (q : Key) → (IsKeyOf old.journal.sections (λ s. IsHeld old.journal.sections s × (IsAhead old s ⊎ IsIn old s)) q → ⊥)
         → IsKeyOf now.journal.sections (λ s. IsHeld now.journal.sections s × (IsAhead now s ⊎ IsIn now s)) q → ⊥
-    never_now q never k = never (k.0, ((run.goes.held k.0).0 k.1.0, run.goes.onward k.0 k.1.1), k.2 ∙ ap (λ (p : List ℕ). section_key p k.0) run.same.bounds.place.partition)
+    never_now q never k = never (k.0, ((run.goes.held k.0).0 k.1.0, run.onward k.0 k.1.1), k.2 ∙ ap (λ (p : List ℕ). section_key p k.0) run.same.bounds.place.partition)
 
     -- nothing is left where it is drained, or has ended
     pub left_none : told → IsDrained now ⊎ (now.ended ≡ true) → (s p : ℕ) → IsLeft seal size old (disk a) s p → ⊥
@@ -133,6 +143,34 @@ module _ {F S : Type 0} {gs : _} (seal : List ℕ → ℕ) (size : ℕ) (g : buf
       pub nearer_after : way_of new < way_of old
       nearer_after = omega (arith, run.nearer, step.nearer)
 
+      pub onward_after : (s : ℕ) → IsAhead new s ⊎ IsIn new s → IsAhead old s ⊎ IsIn old s
+      onward_after s near = run.onward s (step.onward s near)
+
+      pub stays_after : KeepsSections old new
+      stays_after s none = (let more = step.stays s none in
+          (sym (run.goes.known s) ∙ more.0, (λ h. (run.goes.held s).0 (more.1.0 h), λ h. more.1.1 ((run.goes.held s).1 h))))
+
+      -- the section's buffer after the first steps
+      between : (s : ℕ) (u : PageBlob S gs) → old.journal.sections.held s ≡ Some u → (x : PageBlob S gs) × (now.journal.sections.held s ≡ Some x)
+      between s u held = some_of (now.journal.sections.held s) ((run.goes.held s).1 (is_some (old.journal.sections.held s) u held))
+
+      pub floors_after : KeepsFloors old new
+      floors_after s u v held now_held =
+          let x = between s u held in
+          cut_then (old.journal.floor_of s) u x.0 v (run.floors s u x.0 held x.1) (subst (λ (n : ℕ). IsSameOrCut n x.0 v) (run.same.floors s) (step.floors s x.0 v x.1 now_held))
+
+      pub items_after : told → now.ended ≡ false → new.ended ≡ false → KeepsItems seal size old (disk a) (disk c)
+      items_after t going goes s u held owed =
+          let x = between s u held in
+          let key : key_of now.journal.sections s ≡ key_of old.journal.sections s = ap (λ (p : List ℕ). section_key p s) run.same.bounds.place.partition in
+          let paged : SameItems seal u.page_size size (disk b (key_of now.journal.sections s)) (disk c (key_of now.journal.sections s)) =
+          subst (λ (P : ℕ). SameItems seal P size (disk b (key_of now.journal.sections s)) (disk c (key_of now.journal.sections s))) (run.floors s u x.0 held x.1).page_size (step.items t goes s x.0 x.1 (subst IsTrue (sym (run.same.unrecovered s)) owed)) in
+          items_then seal u.page_size size (disk a (key_of old.journal.sections s)) (disk b (key_of old.journal.sections s)) (disk c (key_of old.journal.sections s)) (run.items t going s u held owed)
+          (subst (λ (k : Key). SameItems seal u.page_size size (disk b k) (disk c k)) key paged)
+
+      pub later_after : told → LeavesNoMore seal size now new (disk b) (disk c) → LeavesNoMore seal size old new (disk a) (disk c)
+      later_after t more q x has = run.later t q x (more q x has)
+
       pub bytes_after : KeepsBytes told old new (disk a) (disk c)
       bytes_after s u v held now_held free =
           let x = some_of (now.journal.sections.held s) ((run.goes.held s).1 (is_some (old.journal.sections.held s) u held)) in
@@ -147,7 +185,7 @@ module _ {F S : Type 0} {gs : _} (seal : List ℕ → ℕ) (size : ℕ) (g : buf
 
       pub moments_after : told → Always a c (Each (Replaying seal size old (disk a)))
       moments_after t = always_then a b c (Each (Replaying seal size old (disk a))) (run.moments t)
-          (always_weaker b c (Each (Replaying seal size now (disk b))) (Each (Replaying seal size old (disk a))) (λ x each q. (run.carries t).later q (x q) (each q)) (step.moments t))
+          (always_weaker b c (Each (Replaying seal size now (disk b))) (Each (Replaying seal size old (disk a))) (λ x each q. run.later t q (x q) (each q)) (step.moments t))
 
       pub entries_after : (q : Key) → (IsKeyOf old.journal.sections (λ s. IsHeld old.journal.sections s × (IsAhead old s ⊎ IsIn old s)) q → ⊥) → after q ≡ before q
       entries_after q never = step.entries q (never_now q never) ∙ run.entries q never
@@ -166,7 +204,7 @@ module _ {F S : Type 0} {gs : _} (seal : List ℕ → ℕ) (size : ℕ) (g : buf
         failed = more.failed ∙ run.goes.failed;
         ended = more.ended ∙ run.goes.ended;
         held = λ s. (λ h. (run.goes.held s).0 ((more.held s).0 h), λ h. (more.held s).1 ((run.goes.held s).1 h));
-        onward = λ s h. run.goes.onward s (more.onward s h);
+        known = λ s. more.known s ∙ run.goes.known s;
       }
 
       -- it gave nothing again
@@ -176,11 +214,15 @@ module _ {F S : Type 0} {gs : _} (seal : List ℕ → ℕ) (size : ℕ) (g : buf
         goes = goes_then (ok_of result is step.goes);
         same = same_after;
         nearer = omega (arith, nearer_after);
+        onward = onward_after;
+        floors = floors_after;
         bytes = bytes_after;
-        carries = λ t. (let more = step.carries t is in let onward = (ok_of result is step.goes).onward in record {
+        items = λ t going. items_after t (sym (ok_of result is step.goes).ended ∙ going) going;
+        later = λ t. later_after t (ok_of result is (step.later t));
+        carries = λ t. (let more = step.carries t is in record {
           left = λ s q. (λ l. ((run.carries t).left s q).0 ((more.left s q).0 l), λ l. (more.left s q).1 (((run.carries t).left s q).1 l));
-          kept = λ s near. more.kept s near ∙ (run.carries t).kept s (onward s near);
-          later = λ q x has. (run.carries t).later q x (more.later q x has);
+          kept = λ s near. more.kept s near ∙ (run.carries t).kept s (step.onward s near);
+          sizes = λ s near. more.sizes s near ∙ (run.carries t).sizes s (step.onward s near);
         });
         moments = moments_after;
         entries = entries_after;
@@ -193,11 +235,7 @@ module _ {F S : Type 0} {gs : _} (seal : List ℕ → ℕ) (size : ℕ) (g : buf
           ok_of (Err x) same has = absurd (cc same)
 
       near_of : (s p : ℕ) → IsLeft seal size now (disk b) s p → IsAhead now s ⊎ IsIn now s
-      near_of s p l = elim l.ahead [ inl here ↦ inl here.1 | inr there ↦ inr (part now.place there) ]
-        where
-          part : (o : Option Place) → IsSomeAnd o (λ r. (r.section ≡ s) × (r.position ≤ p)) → IsSomeAnd o (λ r. r.section ≡ s)
-          part None h = h
-          part (Some r) h = h.0
+      near_of s p l = elim l.ahead [ inl here ↦ inl here.1 | inr there ↦ inr (in_section now.place s p there) ]
 
       pub gives_after : told → (s p : ℕ) (v : V) → result ≡ Ok (Some (s, p, v)) → Gives seal size spelling accepted old new (disk a) (disk c) s p v
       gives_after t s p v is = let has = step.item t s p v is in let run_left = (run.carries t).left in record {
@@ -214,9 +252,10 @@ module _ {F S : Type 0} {gs : _} (seal : List ℕ → ℕ) (size : ℕ) (g : buf
           | inl end ↦ inl end
           | inr some ↦ inr (
             some.0,
+            λ x q l lt. some.1 x q (((run.carries t).left x q).1 l) lt,
             λ x q. (
-              λ l. (let k = (some.1 x q).0 (record { goes_on = l.goes_on; begun = l.begun; whole = l.whole; ahead = l.ahead }) in (((run.carries t).left x q).0 k.0, k.1)),
-              λ l. (let k = (some.1 x q).1 (((run.carries t).left x q).1 l.0, l.1) in record { goes_on = k.goes_on; begun = k.begun; whole = k.whole; ahead = k.ahead }),
+              λ l. (let k = (some.2 x q).0 (record { goes_on = l.goes_on; begun = l.begun; whole = l.whole; ahead = l.ahead }) in (((run.carries t).left x q).0 k.0, k.1)),
+              λ l. (let k = (some.2 x q).1 (((run.carries t).left x q).1 l.0, l.1) in record { goes_on = k.goes_on; begun = k.begun; whole = k.whole; ahead = k.ahead }),
             ),
           )
         ];
@@ -226,9 +265,10 @@ module _ {F S : Type 0} {gs : _} (seal : List ℕ → ℕ) (size : ℕ) (g : buf
       damaged_after x is t k same = (let has = step.damaged t k (is ∙ ap Err same) in record {
         section = has.section;
         position = has.position;
-        near = run.goes.onward has.section has.near;
+        near = run.onward has.section has.near;
         free = has.free;
         floor = has.floor;
+        within = has.within;
         page = has.page;
       })
 
@@ -256,6 +296,20 @@ module _ {F S : Type 0} {gs : _} (seal : List ℕ → ℕ) (size : ℕ) (g : buf
         ])
       ]
 
+      pub ends_cut_after : new.ended ≡ true → (old.ended ≡ true) ⊎ IsCutting seal size told old (disk a)
+      ends_cut_after ended = elim (step.ends_cut ended) [
+        | inl end ↦ inl (sym run.goes.ended ∙ end)
+        | inr has ↦ inr (record {
+          section = has.section;
+          near = run.onward has.section has.near;
+          owes = sym (run.same.unrecovered has.section) ∙ has.owes;
+          longer = λ t.
+              let less = subst (λ (bytes : List ℕ). length bytes / size * size < section_size now.journal.sections has.section) ((run.carries t).kept has.section has.near) (has.longer t) in
+              omega (arith, less, (run.carries t).sizes has.section has.near);
+          given = λ t x q l. has.given t x q (((run.carries t).left x q).1 l);
+        })
+      ]
+
       pub start_after : told → (p : ℕ) → IsErrOf result (ItemOutOfRange p) → (p ≡ old.start_position) × (length (kept_bytes seal size old (disk a) old.start_section) < p * size)
       start_after t p is =
           let has = step.start t p is in
@@ -269,11 +323,12 @@ module _ {F S : Type 0} {gs : _} (seal : List ℕ → ℕ) (size : ℕ) (g : buf
           let same = (run.carries t).kept x.section has.1 in (
             record {
               owes = sym (run.same.unrecovered x.section) ∙ has.0.owes;
+              held = (run.goes.held x.section).0 has.0.held;
               kept = subst (λ (bytes : List ℕ). x.kept ≡ length bytes / size * size) same has.0.kept;
               wanted = has.0.wanted ∙ run.same.floors x.section;
               less = has.0.less;
             },
-            run.goes.onward x.section has.1,
+            run.onward x.section has.1,
           )
 
       pub cause_after : (x : Error) → result ≡ Err x → (x ≡ ItemOutOfRange old.start_position) ⊎ (IsBelowFloor {T = V} (Err x) ⊎ HasNotRead {T = V} (Err x) few many)

@@ -1,8 +1,8 @@
 -- The steps by which a replay of a fixed journal begins a section, or comes to its end.
-use Rattle.std.specs.Prelude.{◌≡◌, ◌≢◌, ◌⊎◌, ◌↔◌, ℕ, ◌+◌, ◌*◌, ◌/◌, ◌^◌, ◌<◌, ◌≤◌, true, false, List, length, IsSomeAnd, Option, None, Some, Ok, Err}
+use Rattle.std.specs.Prelude.{◌≡◌, ◌≢◌, ◌⊎◌, ◌↔◌, ℕ, ◌+◌, ◌*◌, ◌/◌, ◌^◌, ◌<◌, ◌≤◌, true, false, List, length, IsTrue, IsSomeAnd, Option, None, Some, IsSome, Ok, Err}
 use Rattle.std.proofs.Common.{inl, inr, refl, sym, ◌∙◌, ap, subst, arith}
 use Rattle.std.proofs.lemmas.Bool.{cases_eq}
-use Rattle.blob_device.specs.Disk.{Key, Blob}
+use Rattle.blob_device.specs.Disk.{Key}
 use Rattle.blob_device.specs.Opened.{OpenedList, reads_of}
 use Rattle.blob_device.specs.Timeline.{Timeline, disk, Always, Each}
 use Rattle.sealed_pages.specs.declared.page_blob.PageBlob.{PageBlob}
@@ -18,12 +18,14 @@ use Rattle.segments.specs.Setting.{Setting}
 use Rattle.segments.specs.Sections.{key_of, IsHeld, IsKeyOf, IsOver}
 use Rattle.segments.specs.Refusing.{HasFailed, HasDamage}
 use Rattle.segments.specs.FixedReading.{HasNotRead, IsBelowFloor}
-use Rattle.segments.specs.FixedReplay.{Place, Walk, IsAhead, IsIn, IsLeft, HasSameBytes, KeepsBytes, IsWalk, Refuses, Replaying, EndsBelow, FindsDamage, kept_bytes}
+use Rattle.segments.specs.FixedLists.{size_held, section_size}
+use Rattle.segments.specs.FixedReplay.{Place, Walk, IsAhead, IsIn, IsLeft, SameItems, IsSameOrCut, KeepsSections, KeepsFloors, KeepsItems, HasSameBytes, KeepsBytes, IsWalk, Refuses, IsCutting, Replaying, LeavesNoMore, EndsBelow, FindsDamage, kept_bytes}
 use Rattle.segments.specs.FixedStepping.{word, sections_ahead, bytes_ahead, way_of, reads_left, ReadsOnce, GoesOn, Steps}
 use Rattle.segments.proofs.KeyLemmas.{keys_differ}
 use Rattle.segments.proofs.FixedCounts.{count_other, count_over}
 use Rattle.segments.proofs.FixedKept.{short_item}
-use Rattle.segments.proofs.FixedWalks.{OnlyOne, IsBehind, IsReached, is_some, same_some, same_bytes, none_in, key_new, blob_other, held_back, held_on, kept_other, not_ahead, not_near, left_later, left_all}
+use Rattle.segments.proofs.FixedOwed.{same_items, same_or_cut}
+use Rattle.segments.proofs.FixedWalks.{OnlyOne, IsBehind, IsReached, is_some, same_some, same_bytes, none_in, key_new, blob_other, held_back, held_on, kept_other, not_ahead, not_near, left_first, left_later, left_all}
 use Rattle.segments.proofs.FixedWalksOn.{walk_broken, IsKnownAgain, walk_on, walk_refused}
 
 -- an error of a reading is none of a floor
@@ -57,20 +59,46 @@ module _ {F S V : Type 0} {gs : _} (seal : List ℕ → ℕ) (size : ℕ) (g : b
     ahead_back : (t : ℕ) → t < 2 ^ 64 → IsAhead new t → IsAhead old t
     ahead_back t small ahead = ((call.behind.ahead t small).0 ahead).0
 
+    -- what is said of the section s is said of each
+    each_of : (P : ℕ → Type 0) → P s → ((t : ℕ) → t ≢ s → P t) → (t : ℕ) → P t
+    each_of P here others t = elim (cases_eq t s) [ inl at ↦ subst P (sym at) here | inr apart ↦ others t apart ]
+
+    apart_old : old.journal.sections.unopened s ≡ None
+    apart_old = call.was.over.opened_list.apart s call.reached.held
+
+    -- the section s is unopened, or held as it was
+    stays_by : (new.journal.sections.unopened s ≡ None → IsHeld new.journal.sections s) → KeepsSections old new
+    stays_by here = each_of (λ t. new.journal.sections.unopened t ≡ None → (old.journal.sections.unopened t ≡ None) × (IsHeld new.journal.sections t ↔ IsHeld old.journal.sections t))
+        (λ none. (apart_old, (λ h. call.reached.held, λ h. here none)))
+        (λ t apart none. (sym (call.one.others t apart).unopened ∙ none, (held_back seal size s old new (disk a) (disk b) call.one t apart, held_on seal size s old new (disk a) (disk b) call.one t apart)))
+
+    -- the items of each section are the same, if those of s are
+    items_by : told → ((u : PageBlob S gs) → old.journal.sections.held s ≡ Some u → IsTrue (old.journal.unrecovered s) → SameItems seal u.page_size size (disk a (key_of old.journal.sections s)) (disk b (key_of old.journal.sections s)))
+        → KeepsItems seal size old (disk a) (disk b)
+    items_by t here = each_of (λ q. (u : PageBlob S gs) → old.journal.sections.held q ≡ Some u → IsTrue (old.journal.unrecovered q) → SameItems seal u.page_size size (disk a (key_of old.journal.sections q)) (disk b (key_of old.journal.sections q)))
+        here
+        (λ q apart u was owed. same_items seal u.page_size size (disk a (key_of old.journal.sections q)) (disk b (key_of old.journal.sections q))
+        (call.one.blobs t (key_of old.journal.sections q) (keys_differ old.journal.sections.partition q s (call.one.numbers q (is_some (old.journal.sections.held q) u was)) call.one.small apart)))
+
     -- An error was answered; the section may be lost.
-    pub call_stopped : way_of new < way_of old → (x : Error) → (new.journal.sections.held s ≡ None) ⊎ ((new.journal.sections.held s ≡ old.journal.sections.held s) × (b ≡ a)) → new.place ≡ None
+    pub call_stopped : way_of new < way_of old → (x : Error) → ((new.journal.sections.held s ≡ None) × IsSome (new.journal.sections.unopened s)) ⊎ ((new.journal.sections.held s ≡ old.journal.sections.held s) × (b ≡ a)) → (new.ended ≡ false → IsTrue (old.journal.unrecovered s) → b ≡ a) → new.place ≡ None
         → ((t : ℕ) → IsAhead new t → IsAhead old t)
-        → ((new.ended ≡ true) × ((HasDamage {T = Option (ℕ × ℕ × V)} (Err x) × (told → ⊥)) ⊎ HasFailed {T = Option (ℕ × ℕ × V)} (Err x) few many)) ⊎ (new.ended ≡ old.ended) → ((p : ℕ) → x ≡ ItemOutOfRange p → ⊥)
+        → ((new.ended ≡ true) × ((HasDamage {T = Option (ℕ × ℕ × V)} (Err x) × (told → ⊥)) ⊎ HasFailed {T = Option (ℕ × ℕ × V)} (Err x) few many) × IsCutting seal size told old (disk a)) ⊎ (new.ended ≡ old.ended) → ((p : ℕ) → x ≡ ItemOutOfRange p → ⊥)
         → (told → (y : Damage) → x ≡ Corruption y → EndsBelow seal size old (disk a) y × (IsAhead old y.section ⊎ IsIn old y.section))
         → (told → (k : ℕ) → x ≡ Runtime (InvalidChecksum k) → FindsDamage seal size old new (disk b) k) → (told → (e : codec.Error) → x ≡ Codec e → Refuses seal size refusal old new (disk a) (disk b) e)
         → IsBelowFloor {T = Option (ℕ × ℕ × V)} (Err x) ⊎ HasNotRead {T = Option (ℕ × ℕ × V)} (Err x) few many
         → Steps seal size g gives spelling accepted refusal told (Err x) old new before after a b few many
-    call_stopped nearer x lost none onward ended other below found refuses cause = record {
+    call_stopped nearer x lost still none onward ended other below found refuses cause = record {
       over = tt;
       broken = walk_broken seal size g gives old new before after (disk a) (disk b) call.was call.over call.one.same kept none onward call.from;
       goes = tt;
       same = call.one.same;
       nearer = nearer;
+      onward = λ t near. elim near [ inl ahead ↦ inl (onward t ahead) | inr there ↦ absurd (none_in new.place (λ r. r.section ≡ t) none there) ];
+      stays = stays_by (λ known. elim lost [ inl gone ↦ (let unopened = gone.1 in absurd (cc (known, unopened))) | inr same ↦ subst IsSome (sym same.0) call.reached.held ]);
+      floors = λ q u v was now. same_or_cut (old.journal.floor_of q) u v (same_some (old.journal.sections.held q) u v was (kept q v now).0);
+      items = λ t going. items_by t (λ u was owed. same_items seal u.page_size size (disk a (key_of old.journal.sections s)) (disk b (key_of old.journal.sections s)) (ap (λ (x : Timeline). disk x (key_of old.journal.sections s)) (still going owed)));
+      later = λ t. tt;
       bytes = λ q u v was now free. (let back = kept q v now in
           same_bytes told u v (disk a (key_of old.journal.sections q)) (disk b (key_of old.journal.sections q)) (same_some (old.journal.sections.held q) u v was back.0)
           (λ t. ap (disk b) (sym (key_new seal size s old new (disk a) (disk b) call.one q)) ∙ back.1 t));
@@ -79,7 +107,7 @@ module _ {F S V : Type 0} {gs : _} (seal : List ℕ → ℕ) (size : ℕ) (g : b
       stops = λ t. record {
         rest = elim ended [
           | inl end ↦ inl end.0
-          | inr going ↦ inr (s, left_later seal size s old new (disk a) (disk b) call.one call.behind none t going)
+          | inr going ↦ inr (s, left_first seal size s old new (disk a) (disk b) call.one call.behind, left_later seal size s old new (disk a) (disk b) call.one call.behind none t going)
         ];
       };
       start = λ t p is. absurd (other p (cc is));
@@ -87,6 +115,7 @@ module _ {F S V : Type 0} {gs : _} (seal : List ℕ → ℕ) (size : ℕ) (g : b
       damaged = λ t k is. found t k (cc is);
       refused = λ t e is. refuses t e (cc is);
       ends = λ is. elim ended [ inl end ↦ inr end.1 | inr going ↦ inl (sym going ∙ is) ];
+      ends_cut = λ is. elim ended [ inl end ↦ inr end.2 | inr going ↦ inl (sym going ∙ is) ];
       moments = call.moments;
       entries = entries_of;
       once = tt;
@@ -99,7 +128,7 @@ module _ {F S V : Type 0} {gs : _} (seal : List ℕ → ℕ) (size : ℕ) (g : b
           | inl at ↦
               let here : new.journal.sections.held s ≡ Some u = subst (λ (k : ℕ). new.journal.sections.held k ≡ Some u) at held in
               elim lost [
-                | inl gone ↦ absurd (cc (gone, here))
+                | inl gone ↦ (let none = gone.0 in absurd (cc (none, here)))
                 | inr same ↦ (
                   subst (λ (k : ℕ). old.journal.sections.held k ≡ Some u) (sym at) (sym same.0 ∙ here),
                   λ t. ap (λ (x : Timeline). disk x (key_of new.journal.sections q)) same.1 ∙ ap (disk a) (key_new seal size s old new (disk a) (disk b) call.one q),
@@ -111,12 +140,12 @@ module _ {F S V : Type 0} {gs : _} (seal : List ℕ → ℕ) (size : ℕ) (g : b
         ]
 
     -- It says nothing of a floor.
-    pub call_failed : way_of new < way_of old → (x : Error) → (new.journal.sections.held s ≡ None) ⊎ ((new.journal.sections.held s ≡ old.journal.sections.held s) × (b ≡ a)) → new.place ≡ None
+    pub call_failed : way_of new < way_of old → (x : Error) → ((new.journal.sections.held s ≡ None) × IsSome (new.journal.sections.unopened s)) ⊎ ((new.journal.sections.held s ≡ old.journal.sections.held s) × (b ≡ a)) → (new.ended ≡ false → IsTrue (old.journal.unrecovered s) → b ≡ a) → new.place ≡ None
         → ((t : ℕ) → IsAhead new t → IsAhead old t)
-        → ((new.ended ≡ true) × ((HasDamage {T = Option (ℕ × ℕ × V)} (Err x) × (told → ⊥)) ⊎ HasFailed {T = Option (ℕ × ℕ × V)} (Err x) few many)) ⊎ (new.ended ≡ old.ended) → ((p : ℕ) → x ≡ ItemOutOfRange p → ⊥)
+        → ((new.ended ≡ true) × ((HasDamage {T = Option (ℕ × ℕ × V)} (Err x) × (told → ⊥)) ⊎ HasFailed {T = Option (ℕ × ℕ × V)} (Err x) few many) × IsCutting seal size told old (disk a)) ⊎ (new.ended ≡ old.ended) → ((p : ℕ) → x ≡ ItemOutOfRange p → ⊥)
         → (told → (k : ℕ) → x ≡ Runtime (InvalidChecksum k) → FindsDamage seal size old new (disk b) k) → (told → (e : codec.Error) → x ≡ Codec e → Refuses seal size refusal old new (disk a) (disk b) e)
         → HasNotRead {T = Option (ℕ × ℕ × V)} (Err x) few many → Steps seal size g gives spelling accepted refusal told (Err x) old new before after a b few many
-    call_failed nearer x lost none onward ended other found refuses cause = call_stopped nearer x lost none onward ended other (λ t y is. absurd (not_below x few many cause y is)) found refuses (inr cause)
+    call_failed nearer x lost still none onward ended other found refuses cause = call_stopped nearer x lost still none onward ended other (λ t y is. absurd (not_below x few many cause y is)) found refuses (inr cause)
 
     -- The call succeeded, and the section is held again.
     pub record Answered (v : PageBlob S gs) : Type 0 where
@@ -124,7 +153,9 @@ module _ {F S V : Type 0} {gs : _} (seal : List ℕ → ℕ) (size : ℕ) (g : b
       pub failed : new.failed ≡ old.failed
       pub ended : new.ended ≡ old.ended
       pub bytes : (u : PageBlob S gs) → old.journal.sections.held s ≡ Some u → old.journal.unrecovered s ≡ false → HasSameBytes told u (disk a (key_of old.journal.sections s)) v (disk b (key_of old.journal.sections s))
-      pub later : told → (q : Key) (x : Blob) → Replaying seal size new (disk b) q x → Replaying seal size old (disk a) q x
+      pub cut : (u : PageBlob S gs) → old.journal.sections.held s ≡ Some u → IsSameOrCut (old.journal.floor_of s) u v
+      pub items : told → (u : PageBlob S gs) → old.journal.sections.held s ≡ Some u → IsTrue (old.journal.unrecovered s) → SameItems seal u.page_size size (disk a (key_of old.journal.sections s)) (disk b (key_of old.journal.sections s))
+      pub later : told → LeavesNoMore seal size old new (disk a) (disk b)
 
     module _ (v : PageBlob S gs) (answer : Answered v) where
       ends : new.ended ≡ true → new.failed ≡ true
@@ -141,6 +172,14 @@ module _ {F S V : Type 0} {gs : _} (seal : List ℕ → ℕ) (size : ℕ) (g : b
             (λ t. call.one.blobs t (key_of old.journal.sections q) (keys_differ old.journal.sections.partition q s (call.one.numbers q (is_some (old.journal.sections.held q) u was)) call.one.small other))
       ]
 
+      held_new : IsHeld new.journal.sections s
+      held_new = is_some (new.journal.sections.held s) v answer.again.held
+
+      keeps_floors : KeepsFloors old new
+      keeps_floors = each_of (λ q. (u x : PageBlob S gs) → old.journal.sections.held q ≡ Some u → new.journal.sections.held q ≡ Some x → IsSameOrCut (old.journal.floor_of q) u x)
+          (λ u x was now. subst (λ (y : PageBlob S gs). IsSameOrCut (old.journal.floor_of s) u y) (sym (same_some (new.journal.sections.held s) v x answer.again.held now)) (answer.cut u was))
+          (λ q apart u x was now. same_or_cut (old.journal.floor_of q) u x (same_some (old.journal.sections.held q) u x was (sym (call.one.others q apart).held ∙ now)))
+
       -- A start in the section is within it.
       abbrev pub StartsIn : Type 0
       StartsIn = new.failed ≡ false → (IsIn new s → ⊥) → s ≡ new.start_section → new.start_position * size ≤ size_of (shown v)
@@ -148,31 +187,42 @@ module _ {F S V : Type 0} {gs : _} (seal : List ℕ → ℕ) (size : ℕ) (g : b
       on : StartsIn → IsWalk g gives seal size told new after (disk b)
       on start = walk_on seal size g gives old new before after (disk a) (disk b) call.was s v call.one call.behind answer.again call.over call.from answer.failed ends start
 
-      goes_on : ((t : ℕ) → IsAhead new t ⊎ IsIn new t → IsAhead old t ⊎ IsIn old t) → GoesOn old new
-      goes_on onward = record {
+      goes_on : GoesOn old new
+      goes_on = record {
         failed = answer.failed;
         ended = answer.ended;
         held = λ t. elim (cases_eq t s) [
           | inl at ↦ (λ h. subst (IsHeld old.journal.sections) (sym at) call.reached.held, λ h. subst (IsHeld new.journal.sections) (sym at) (is_some (new.journal.sections.held s) v answer.again.held))
           | inr apart ↦ (held_back seal size s old new (disk a) (disk b) call.one t apart, held_on seal size s old new (disk a) (disk b) call.one t apart)
         ];
-        onward = onward;
+        known = each_of (λ t. new.journal.sections.unopened t ≡ old.journal.sections.unopened t) (call.over.opened_list.apart s held_new ∙ sym apart_old) (λ t apart. (call.one.others t apart).unopened);
       }
 
       -- It gives nothing, and comes nearer.
       pub call_passed : StartsIn → ((t : ℕ) → IsAhead new t ⊎ IsIn new t → IsAhead old t ⊎ IsIn old t) → way_of new < way_of old
           → (told → (t q : ℕ) → IsLeft seal size new (disk b) t q ↔ IsLeft seal size old (disk a) t q)
           → (told → (t : ℕ) → IsAhead new t ⊎ IsIn new t → kept_bytes seal size new (disk b) t ≡ kept_bytes seal size old (disk a) t)
+          → (IsAhead new s ⊎ IsIn new s → section_size new.journal.sections s ≡ section_size old.journal.sections s)
           → ((x : ℕ) → IsIn new x → x ≡ s) → reads_of (after (key_of old.journal.sections s)) + reads_left new s ≤ reads_of (before (key_of old.journal.sections s)) + reads_left old s
           → Steps seal size g gives spelling accepted refusal told (Ok None) old new before after a b few many
-      call_passed start onward nearer left kept new_in here = record {
+      call_passed start onward nearer left kept size_here new_in here = record {
         over = on start;
         broken = tt;
-        goes = goes_on onward;
+        goes = goes_on;
         same = call.one.same;
         nearer = nearer;
+        onward = onward;
+        stays = stays_by (λ none. held_new);
+        floors = keeps_floors;
+        items = λ t going. items_by t (answer.items t);
+        later = answer.later;
         bytes = keeps_bytes;
-        carries = λ t is. record { left = left t; kept = kept t; later = answer.later t };
+        carries = λ t is. record {
+          left = left t;
+          kept = kept t;
+          sizes = each_of (λ q. IsAhead new q ⊎ IsIn new q → section_size new.journal.sections q ≡ section_size old.journal.sections q) size_here
+              (λ q apart near. ap (λ (o : Option (PageBlob S gs)). size_held o) (call.one.others q apart).held);
+        };
         item = λ t q p w is. absurd (cc is);
         stops = λ t. tt;
         start = λ t p is. absurd (cc is);
@@ -180,6 +230,7 @@ module _ {F S V : Type 0} {gs : _} (seal : List ℕ → ℕ) (size : ℕ) (g : b
         damaged = λ t k is. absurd (cc is);
         refused = λ t e is. absurd (cc is);
         ends = λ is. inl (sym answer.ended ∙ is);
+        ends_cut = λ is. inl (sym answer.ended ∙ is);
         moments = call.moments;
         entries = entries_of;
         once = reads_once;
@@ -223,6 +274,7 @@ module _ {F S V : Type 0} {gs : _} (seal : List ℕ → ℕ) (size : ℕ) (g : b
         call_ended start last reads = call_passed (λ fine out at. omega (arith, start (at ∙ call.one.same.section), ap (λ (n : ℕ). n * size) call.one.same.position)) onward_end nearer_end
             (λ t. left_all seal size s old new (disk a) (disk b) call.one call.behind none t answer.ended (never (last t)))
             (λ t q at. kept_other seal size s old new (disk a) (disk b) call.one t q (λ is. not_near seal size s old new (disk a) (disk b) call.one call.behind none (subst (λ (k : ℕ). IsAhead new k ⊎ IsIn new k) is at)))
+            (λ at. absurd (not_near seal size s old new (disk a) (disk b) call.one call.behind none at))
             (λ x there. absurd (none_in new.place (λ y. y.section ≡ x) none there)) (omega (arith, reads, count_over new s none (not_ahead seal size s old new (disk a) (disk b) call.one call.behind none)))
 
         -- It is, before the start of the replay.
@@ -234,10 +286,15 @@ module _ {F S V : Type 0} {gs : _} (seal : List ℕ → ℕ) (size : ℕ) (g : b
           goes = tt;
           same = call.one.same;
           nearer = nearer_end;
+          onward = onward_end;
+          stays = stays_by (λ known. held_new);
+          floors = keeps_floors;
+          items = λ t going. items_by t (answer.items t);
+          later = λ t. tt;
           bytes = keeps_bytes;
           carries = λ t is. absurd (cc is);
           item = λ t q p w is. absurd (cc is);
-          stops = λ t. record { rest = inr (s, left_later seal size s old new (disk a) (disk b) call.one call.behind none t answer.ended) };
+          stops = λ t. record { rest = inr (s, left_first seal size s old new (disk a) (disk b) call.one call.behind, left_later seal size s old new (disk a) (disk b) call.one call.behind none t answer.ended) };
           start = λ t p is. (
             cc is,
             (let at : p ≡ old.start_position = cc is in
@@ -250,6 +307,7 @@ module _ {F S V : Type 0} {gs : _} (seal : List ℕ → ℕ) (size : ℕ) (g : b
           damaged = λ t k is. absurd (cc is);
           refused = λ t e is. absurd (cc is);
           ends = λ is. inl (sym answer.ended ∙ is);
+          ends_cut = λ is. inl (sym answer.ended ∙ is);
           moments = call.moments;
           entries = entries_of;
           once = tt;

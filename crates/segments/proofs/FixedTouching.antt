@@ -66,7 +66,7 @@ module _ {F B : Type 0} (g : buffer.Ghosts B) (gives : F → Setting) {told : Ty
   })
 
   pub touch_out : {T : Type 0} (x : Error) → n.held s ≡ None → IsSome (n.unopened s) → Touches g gives told {T = T} (Err x) s m n before after a b
-  touch_out x none known = record { over = over_out none known; others = others; bounds = bounds; entries = entries; blobs = blobs; held = tt; lost = inl none }
+  touch_out x none known = record { over = over_out none known; others = others; bounds = bounds; entries = entries; blobs = blobs; held = tt; lost = inl (none, known) }
 
   pub touch_back : {T : Type 0} (y : T) (v : B) → n.held s ≡ Some v → n.unopened s ≡ None → g.key v ≡ key_of m s → g.setting v ≡ gives m.factory → IsOpenAt after (key_of m s) (g.extent v) → (told → g.Stands v (disk b (key_of m s)))
       → Touches g gives told {T = T} (Ok y) s m n before after a b

@@ -1,15 +1,15 @@
 -- A replay of a fixed journal, where one of its sections changed: what is left, what a crash may leave, and that it is a replay again.
-use Rattle.std.specs.Prelude.{◌≡◌, ◌≢◌, ◌⊎◌, ◌↔◌, ℕ, ◌*◌, ◌/◌, ◌^◌, ◌<◌, ◌≤◌, eqb, cond, Bool, false, List, length, IsTrue, IsSomeAnd, Option, None, Some, IsSome}
+use Rattle.std.specs.Prelude.{◌≡◌, ◌≢◌, ◌⊎◌, ◌↔◌, ℕ, ◌*◌, ◌/◌, ◌^◌, ◌<◌, ◌≤◌, min, eqb, cond, Bool, false, List, length, IsTrue, IsSomeAnd, Option, None, Some, IsSome}
 use Rattle.std.proofs.Common.{inl, inr, refl, sym, ◌∙◌, ap, subst, arith}
 use Rattle.std.proofs.lemmas.Bool.{cases_eq}
 use Rattle.blob_device.specs.Disk.{Key, Blob, Disk}
 use Rattle.sealed_pages.specs.declared.page_blob.PageBlob.{PageBlob}
 use Rattle.sealed_pages.specs.Shown.{shown}
-use Rattle.sealed_pages.specs.Buffer.{size_of, bytes_of}
+use Rattle.sealed_pages.specs.Buffer.{size_of, bytes_of, IsSealed}
 use Rattle.sealed_pages.specs.ChanceSeal.{Leaves}
 use Rattle.sealed_pages.specs.SealedPrefix.{sealed_prefix}
+use Rattle.sealed_pages.specs.Unrecovered.{IsUnrecovered}
 use Rattle.segments.specs.Sections.{section_key, key_of, IsHeld, IsKeyOf, IsSame}
-use Rattle.segments.specs.FixedLists.{IsProven}
 use Rattle.segments.specs.FixedReplay.{Place, Walk, IsAhead, IsIn, IsReadWhole, IsLeft, first_of, kept_of, kept_bytes, SameWalk, HasSameBytes, StaysStill, Replaying}
 use Rattle.segments.proofs.KeyLemmas.{keys_differ}
 
@@ -27,6 +27,11 @@ pub none_in : {A : Type 0} → (o : Option A) (P : A → Type 0) → o ≡ None 
 none_in None P is has = has
 none_in (Some v) P is has = cc is
 
+-- where it stands in a section at most at item q, it stands in the section
+pub in_section : (o : Option Place) (t q : ℕ) → IsSomeAnd o (λ r. (r.section ≡ t) × (r.position ≤ q)) → IsSomeAnd o (λ r. r.section ≡ t)
+in_section None t q has = has
+in_section (Some r) t q has = has.0
+
 -- the same buffer has the same bytes
 pub same_bytes : {S : Type 0} {gs : _} (told : Type 0) (u v : PageBlob S gs) (b c : Blob) → v ≡ u → (told → c ≡ b) → HasSameBytes told u b v c
 same_bytes {S = S} {gs = gs} told u v b c same blob = record {
@@ -40,6 +45,14 @@ same_bytes {S = S} {gs = gs} told u v b c same blob = record {
 abbrev pub MayCut : {S : Type 0} {gs : _} → (List ℕ → ℕ) → ℕ → PageBlob S gs → ℕ → Blob → Blob → Type 0
 MayCut seal size u floor from b = (b ≡ from)
     ⊎ ((floor ≤ length (sealed_prefix seal u.page_size from.content) / size * size) × Leaves seal u.page_size (sealed_prefix seal u.page_size from.content) (length (sealed_prefix seal u.page_size from.content) / size * size) b)
+
+-- Of one that owes none, and is sealed, a crash may leave a prefix of its bytes, no shorter than what had settled.
+abbrev pub MayFlush : {S : Type 0} {gs : _} → (List ℕ → ℕ) → PageBlob S gs → Blob → Blob → Type 0
+MayFlush seal u from b = Leaves seal u.page_size (bytes_of (shown u) from.content) u.settled b
+
+-- And of one that is not a prefix of its sealed prefix, no shorter than what had settled of that.
+abbrev pub MayFront : {S : Type 0} {gs : _} → (List ℕ → ℕ) → PageBlob S gs → Blob → Blob → Type 0
+MayFront seal u from b = Leaves seal u.page_size (sealed_prefix seal u.page_size from.content) (min u.settled (length (sealed_prefix seal u.page_size from.content))) b
 
 module _ {F S : Type 0} {gs : _} (seal : List ℕ → ℕ) (size : ℕ) where
   -- Nothing changed but the section s and its blob.
@@ -89,9 +102,6 @@ module _ {F S : Type 0} {gs : _} (seal : List ℕ → ℕ) (size : ℕ) where
             let there = blob_other t q other (is_some (old.journal.sections.held q) u is) in
             λ i. kept_of seal (one.same.unrecovered q i) ((one.others q other).held i) (there i).content
 
-    pub proven_on : (t : ℕ) → IsProven old.journal t → IsProven new.journal t
-    proven_on t is = record { checked = one.same.unrecovered t ∙ is.checked; free = one.same.floors t ∙ is.free }
-
     pub reads_back : (t : ℕ) → IsReadWhole new t → IsReadWhole old t
     reads_back t is = elim is [ inl owed ↦ inl (subst IsTrue (one.same.unrecovered t) owed) | inr first ↦ inr (sym (first_same t) ∙ first) ]
 
@@ -99,6 +109,13 @@ module _ {F S : Type 0} {gs : _} (seal : List ℕ → ℕ) (size : ℕ) where
     ahead_number t held = elim (cases_eq t s) [
       | inl is ↦ subst (λ (k : ℕ). k < 2 ^ 64) (sym is) one.small
       | inr other ↦ one.numbers t (held_back t other held)
+    ]
+
+    -- no item of an earlier section was left
+    pub left_first : IsBehind s old new → (t q : ℕ) → IsLeft seal size old d t q → t < s → ⊥
+    left_first behind t q l lt = elim l.ahead [
+      | inl here ↦ (let far : s < t = behind.later t here.0 here.1 (λ is. omega (arith, is, lt)) in omega (arith, far, lt))
+      | inr there ↦ (let at : t ≡ s = behind.in_old t (in_section old.place t q there) in omega (arith, at, lt))
     ]
 
     module _ (behind : IsBehind s old new) (none : new.place ≡ None) where
@@ -135,16 +152,9 @@ module _ {F S : Type 0} {gs : _} (seal : List ℕ → ℕ) (size : ℕ) where
                 whole = whole;
                 ahead = elim l.ahead [
                   | inl here ↦ inl (held_on t other here.0, (behind.ahead t (one.numbers t here.0)).1 (here.1, lt))
-                  | inr there ↦ absurd (other (behind.in_old t (in_of t q there)))
+                  | inr there ↦ absurd (other (behind.in_old t (in_section old.place t q there)))
                 ];
               }
-            where
-              in_of : (t q : ℕ) → IsSomeAnd old.place (λ r. (r.section ≡ t) × (r.position ≤ q)) → IsIn old t
-              in_of t q has = go old.place has
-                where
-                  go : (o : Option Place) → IsSomeAnd o (λ r. (r.section ≡ t) × (r.position ≤ q)) → IsSomeAnd o (λ r. r.section ≡ t)
-                  go None h = h
-                  go (Some r) h = h.0
 
       -- where none of the section was left, as many are left as before
       pub left_all : told → new.ended ≡ old.ended → ((q : ℕ) → IsLeft seal size old d s q → ⊥) → (t q : ℕ) → IsLeft seal size new e t q ↔ IsLeft seal size old d t q
@@ -155,39 +165,46 @@ module _ {F S : Type 0} {gs : _} (seal : List ℕ → ℕ) (size : ℕ) where
             | inl is ↦ absurd (never q (subst (λ (k : ℕ). IsLeft seal size old d k q) is l))
             | inr other ↦ elim l.ahead [
               | inl here ↦ behind.later t here.0 here.1 other
-              | inr there ↦ absurd (other (behind.in_old t (part old.place there)))
+              | inr there ↦ absurd (other (behind.in_old t (in_section old.place t q there)))
             ]
           ]
-            where
-              part : (o : Option Place) → IsSomeAnd o (λ r. (r.section ≡ t) × (r.position ≤ q)) → IsSomeAnd o (λ r. r.section ≡ t)
-              part None h = h
-              part (Some r) h = h.0
 
     -- what a later call leaves, this one's replay may leave too
     pub later_one : told → IsReached s old → ((t : ℕ) → IsAhead new t ⊎ IsIn new t → IsAhead old t ⊎ IsIn old t)
         → (v : PageBlob S gs) → new.journal.sections.held s ≡ Some v
-        → ((u : PageBlob S gs) → old.journal.sections.held s ≡ Some u → IsProven old.journal s → (b : Blob)
-        → Leaves seal v.page_size (bytes_of (shown v) (e (key_of old.journal.sections s)).content) v.settled b → Leaves seal u.page_size (bytes_of (shown u) (d (key_of old.journal.sections s)).content) u.settled b)
+        → ((u : PageBlob S gs) → old.journal.sections.held s ≡ Some u → old.journal.unrecovered s ≡ false → IsSealed seal (shown u) (d (key_of old.journal.sections s))
+        → IsSealed seal (shown v) (e (key_of old.journal.sections s)) × ((b : Blob) → MayFlush seal v (e (key_of old.journal.sections s)) b → MayFlush seal u (d (key_of old.journal.sections s)) b))
+        → ((u : PageBlob S gs) → old.journal.sections.held s ≡ Some u → old.journal.unrecovered s ≡ false → IsUnrecovered seal (shown u) (d (key_of old.journal.sections s))
+        → IsUnrecovered seal (shown v) (e (key_of old.journal.sections s)) × ((b : Blob) → MayFront seal v (e (key_of old.journal.sections s)) b → MayFront seal u (d (key_of old.journal.sections s)) b))
         → ((u : PageBlob S gs) → old.journal.sections.held s ≡ Some u → IsTrue (old.journal.unrecovered s) → (b : Blob) → MayCut seal size v (old.journal.floor_of s) (e (key_of old.journal.sections s)) b → MayCut seal size u (old.journal.floor_of s) (d (key_of old.journal.sections s)) b)
         → ((u : PageBlob S gs) → old.journal.sections.held s ≡ Some u → StaysStill seal size (old.journal.unrecovered s) u (d (key_of old.journal.sections s))
         → StaysStill seal size (old.journal.unrecovered s) v (e (key_of old.journal.sections s)) × (e (key_of old.journal.sections s) ≡ d (key_of old.journal.sections s)))
         → (q : Key) (b : Blob) → Replaying seal size new e q b → Replaying seal size old d q b
-    later_one tells reached onward v held flush cuts stays q b rep = record { flushed = flushed; cut = cut; still = still; others = others }
+    later_one tells reached onward v held flush front cuts stays q b rep = record {
+      flushed = may_still (λ u x. IsSealed seal (shown u) x) (MayFlush seal) flush rep.flushed;
+      front = may_still (λ u x. IsUnrecovered seal (shown u) x) (MayFront seal) front rep.front;
+      cut = cut;
+      still = still;
+      others = others;
+    }
       where
-        flushed : (t : ℕ) (u : PageBlob S gs) → old.journal.sections.held t ≡ Some u → IsProven old.journal t → q ≡ key_of old.journal.sections t
-            → Leaves seal u.page_size (bytes_of (shown u) (d q).content) u.settled b
-        flushed t u is free here = elim (cases_eq t s) [
+        -- of a section that owes no replay, where it is as `Is` says
+        may_still : (Is : PageBlob S gs → Blob → Type 0) (May : PageBlob S gs → Blob → Blob → Type 0)
+            → ((u : PageBlob S gs) → old.journal.sections.held s ≡ Some u → old.journal.unrecovered s ≡ false → Is u (d (key_of old.journal.sections s))
+            → Is v (e (key_of old.journal.sections s)) × ((x : Blob) → May v (e (key_of old.journal.sections s)) x → May u (d (key_of old.journal.sections s)) x))
+            → ((t : ℕ) (u : PageBlob S gs) → new.journal.sections.held t ≡ Some u → new.journal.unrecovered t ≡ false → Is u (e q) → q ≡ key_of new.journal.sections t → May u (e q) b)
+            → (t : ℕ) (u : PageBlob S gs) → old.journal.sections.held t ≡ Some u → old.journal.unrecovered t ≡ false → Is u (d q) → q ≡ key_of old.journal.sections t → May u (d q) b
+        may_still Is May changed may t u is free sound here = elim (cases_eq t s) [
           | inl at ↦
               let key : q ≡ key_of old.journal.sections s = here ∙ ap (key_of old.journal.sections) at in
-              let free_s : IsProven old.journal s = subst (IsProven old.journal) at free in
-              let after : Leaves seal v.page_size (bytes_of (shown v) (e (key_of old.journal.sections s)).content) v.settled b =
-              subst (λ (k : Key). Leaves seal v.page_size (bytes_of (shown v) (e k).content) v.settled b) key (rep.flushed s v held (proven_on s free_s) (key ∙ sym (key_new s))) in
-              subst (λ (k : Key). Leaves seal u.page_size (bytes_of (shown u) (d k).content) u.settled b) (sym key)
-              (flush u (subst (λ (k : ℕ). old.journal.sections.held k ≡ Some u) at is) free_s b after)
+              let free_s : old.journal.unrecovered s ≡ false = subst (λ (k : ℕ). old.journal.unrecovered k ≡ false) at free in
+              let has = changed u (subst (λ (k : ℕ). old.journal.sections.held k ≡ Some u) at is) free_s (subst (λ (k : Key). Is u (d k)) key sound) in
+              let after : May v (e (key_of old.journal.sections s)) b =
+              subst (λ (k : Key). May v (e k) b) key (may s v held (one.same.unrecovered s ∙ free_s) (subst (λ (k : Key). Is v (e k)) (sym key) has.0) (key ∙ sym (key_new s))) in
+              subst (λ (k : Key). May u (d k) b) (sym key) (has.1 b after)
           | inr other ↦
               let same : e q ≡ d q = ap e here ∙ sym (ap e (key_new t)) ∙ blob_other tells t other (is_some (old.journal.sections.held t) u is) ∙ sym (ap d here) in
-              subst (λ (x : Blob). Leaves seal u.page_size (bytes_of (shown u) x.content) u.settled b) same
-              (rep.flushed t u ((one.others t other).held ∙ is) (proven_on t free) (here ∙ sym (key_new t)))
+              subst (λ (x : Blob). May u x b) same (may t u ((one.others t other).held ∙ is) (one.same.unrecovered t ∙ free) (subst (Is u) (sym same) sound) (here ∙ sym (key_new t)))
         ]
 
         cut : (t : ℕ) (u : PageBlob S gs) → old.journal.sections.held t ≡ Some u → IsTrue (old.journal.unrecovered t) → q ≡ key_of old.journal.sections t → MayCut seal size u (old.journal.floor_of t) (d q) b

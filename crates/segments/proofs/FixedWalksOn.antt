@@ -1,5 +1,5 @@
 -- A replay of a fixed journal after one of its sections changed is a replay again; what was left of it at each moment.
-use Rattle.std.specs.Prelude.{◌≡◌, ◌≢◌, ℕ, ◌*◌, ◌%◌, ◌^◌, ◌<◌, ◌≤◌, true, false, List, IsTrue, IsSomeAnd, Option, None, Some, IsSome}
+use Rattle.std.specs.Prelude.{◌≡◌, ◌≢◌, ℕ, ◌*◌, ◌%◌, ◌^◌, ◌<◌, ◌≤◌, min, true, false, List, length, IsTrue, IsSomeAnd, Option, None, Some, IsSome}
 use Rattle.std.proofs.Common.{inl, inr, refl, sym, ◌∙◌, ap, subst, arith}
 use Rattle.std.proofs.lemmas.Bool.{cases_eq}
 use Rattle.blob_device.specs.Disk.{Key, Blob, Disk}
@@ -10,26 +10,28 @@ use Rattle.blob_device.proofs.Puts.{same_or_other}
 use Rattle.sealed_pages.specs.declared.page_blob.PageBlob.{PageBlob}
 use Rattle.sealed_pages.specs.Shown.{shown}
 use Rattle.sealed_pages.specs.Buffer.{size_of, bytes_of, IsSealed}
-use Rattle.sealed_pages.specs.ChanceSeal.{Leaves}
+use Rattle.sealed_pages.specs.SealedPrefix.{sealed_prefix}
+use Rattle.sealed_pages.specs.Unrecovered.{IsUnrecovered}
 use Rattle.sealed_pages.proofs.Holding.{holds_leaves}
+use Rattle.sealed_pages.proofs.UnrecoveredLemmas.{prefix_leaves, unrecovered_prefix}
 use Rattle.segments.specs.declared.buffer.SectionBuffer as buffer
 use Rattle.segments.specs.Setting.{Setting}
 use Rattle.segments.specs.Sections.{key_of, IsHeld, IsOver}
-use Rattle.segments.specs.FixedLists.{AreSealed, IsProven}
+use Rattle.segments.specs.FixedLists.{IsProven}
 use Rattle.segments.specs.FixedReplay.{Place, Walk, IsAhead, IsIn, IsReadWhole, SameWalk, StandsIn, ReadsIn, IsGoneOver, HasWalk, WalksOver, IsWalk, StaysStill, Replaying}
 use Rattle.segments.specs.FixedStepping.{failing}
 use Rattle.segments.proofs.KeyLemmas.{key_injective}
-use Rattle.segments.proofs.FixedWalks.{OnlyOne, IsBehind, IsReached, MayCut, is_some, same_some, none_in, blob_other, held_on, reads_back}
+use Rattle.segments.proofs.FixedWalks.{OnlyOne, IsBehind, IsReached, MayCut, MayFlush, MayFront, is_some, same_some, none_in, blob_other, held_on, reads_back}
 use Rattle.segments.proofs.FixedWriteLemmas.{proven_back}
 
 module _ {F S : Type 0} {gs : _} (seal : List ℕ → ℕ) (size : ℕ) where
   module _ (old : Walk F (PageBlob S gs)) (d : Disk) where
     -- before anything changed
-    pub replaying_start : AreSealed seal size old.journal d → (q : Key) → Replaying seal size old d q (d q)
-    replaying_start are q = record {
-      flushed = λ t u is free here.
-          (let left = holds_leaves seal (shown u) (bytes_of (shown u) (d (key_of old.journal.sections t)).content) (d (key_of old.journal.sections t)) u.fit.begun (are.sealed t u is free) in
-          subst (λ (k : Key). Leaves seal u.page_size (bytes_of (shown u) (d k).content) u.settled (d k)) (sym here) left);
+    pub replaying_start : (q : Key) → Replaying seal size old d q (d q)
+    replaying_start q = record {
+      flushed = λ t u is free sealed here. holds_leaves seal (shown u) (bytes_of (shown u) (d q).content) (d q) u.fit.begun sealed;
+      front = λ t u is free un here. (let kept = sealed_prefix seal u.page_size (d q).content in
+          prefix_leaves seal u.page_size kept (min u.settled (length kept)) (d q) (omega arith) (unrecovered_prefix seal (shown u) (d q) (omega (arith, u.fit.begun)) un).0);
       cut = λ t u is owed here. inl refl;
       still = λ t u is rest here. refl;
       others = λ not. refl;
@@ -38,13 +40,16 @@ module _ {F S : Type 0} {gs : _} (seal : List ℕ → ℕ) (size : ℕ) where
     module _ (s : ℕ) (small : s < 2 ^ 64) (numbers : (q : ℕ) → IsHeld old.journal.sections q → q < 2 ^ 64) (reached : IsReached seal size s old) where
       -- the blob of the section that changes
       pub replaying_here : (b : Blob)
-          → ((u : PageBlob S gs) → old.journal.sections.held s ≡ Some u → IsProven old.journal s → Leaves seal u.page_size (bytes_of (shown u) (d (key_of old.journal.sections s)).content) u.settled b)
+          → ((u : PageBlob S gs) → old.journal.sections.held s ≡ Some u → old.journal.unrecovered s ≡ false → IsSealed seal (shown u) (d (key_of old.journal.sections s)) → MayFlush seal u (d (key_of old.journal.sections s)) b)
+          → ((u : PageBlob S gs) → old.journal.sections.held s ≡ Some u → old.journal.unrecovered s ≡ false → IsUnrecovered seal (shown u) (d (key_of old.journal.sections s)) → MayFront seal u (d (key_of old.journal.sections s)) b)
           → ((u : PageBlob S gs) → old.journal.sections.held s ≡ Some u → IsTrue (old.journal.unrecovered s) → MayCut seal size u (old.journal.floor_of s) (d (key_of old.journal.sections s)) b)
           → ((u : PageBlob S gs) → old.journal.sections.held s ≡ Some u → StaysStill seal size (old.journal.unrecovered s) u (d (key_of old.journal.sections s)) → b ≡ d (key_of old.journal.sections s))
           → Replaying seal size old d (key_of old.journal.sections s) b
-      replaying_here b flush cuts stays = record {
-        flushed = λ t u is free here. (let at = number t u is here in
-            flush u (subst (λ (k : ℕ). old.journal.sections.held k ≡ Some u) at is) (subst (IsProven old.journal) at free));
+      replaying_here b flush front cuts stays = record {
+        flushed = λ t u is free sealed here. (let at = number t u is here in
+            flush u (subst (λ (k : ℕ). old.journal.sections.held k ≡ Some u) at is) (subst (λ (k : ℕ). old.journal.unrecovered k ≡ false) at free) sealed);
+        front = λ t u is free un here. (let at = number t u is here in
+            front u (subst (λ (k : ℕ). old.journal.sections.held k ≡ Some u) at is) (subst (λ (k : ℕ). old.journal.unrecovered k ≡ false) at free) un);
         cut = λ t u is owed here. (let at = number t u is here in
             subst (λ (k : ℕ). MayCut seal size u (old.journal.floor_of k) (d (key_of old.journal.sections s)) b) (sym at)
             (cuts u (subst (λ (k : ℕ). old.journal.sections.held k ≡ Some u) at is) (subst (λ (k : ℕ). IsTrue (old.journal.unrecovered k)) at owed)));
@@ -56,12 +61,12 @@ module _ {F S : Type 0} {gs : _} (seal : List ℕ → ℕ) (size : ℕ) where
           number : (t : ℕ) (u : PageBlob S gs) → old.journal.sections.held t ≡ Some u → key_of old.journal.sections s ≡ key_of old.journal.sections t → t ≡ s
           number t u is here = sym (key_injective old.journal.sections.partition s t small (numbers t (is_some (old.journal.sections.held t) u is)) here)
 
-      pub moments_of : (a b : Timeline) (Q : Blob → Type 0) → d ≡ disk a → AreSealed seal size old.journal d → Always a b (OnlyAt (key_of old.journal.sections s) (disk a) Q)
+      pub moments_of : (a b : Timeline) (Q : Blob → Type 0) → d ≡ disk a → Always a b (OnlyAt (key_of old.journal.sections s) (disk a) Q)
           → ((x : Blob) → Q x → Replaying seal size old d (key_of old.journal.sections s) x) → Always a b (Each (Replaying seal size old d))
-      moments_of a b Q from are always here = always_weaker a b (OnlyAt (key_of old.journal.sections s) (disk a) Q) (Each (Replaying seal size old d))
+      moments_of a b Q from always here = always_weaker a b (OnlyAt (key_of old.journal.sections s) (disk a) Q) (Each (Replaying seal size old d))
           (λ x only q. elim (same_or_other q (key_of old.journal.sections s)) [
             | inl is ↦ subst (λ (k : Key). Replaying seal size old d k (x k)) (sym is) (here (x (key_of old.journal.sections s)) only.here)
-            | inr other ↦ (let same : d q ≡ x q = ap (λ (y : Disk). y q) from ∙ sym (only.others q other) in subst (λ (y : Blob). Replaying seal size old d q y) same (replaying_start are q))
+            | inr other ↦ (let same : d q ≡ x q = ap (λ (y : Disk). y q) from ∙ sym (only.others q other) in subst (λ (y : Blob). Replaying seal size old d q y) same (replaying_start q))
           ]) always
 
   module _ (g : buffer.Ghosts (PageBlob S gs)) (gives : F → Setting) {told : Type 0} (old new : Walk F (PageBlob S gs)) (before after : OpenedList) (d e : Disk) (was : IsWalk g gives seal size told old before d) where

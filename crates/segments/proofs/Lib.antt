@@ -15,6 +15,7 @@ pub mod SealedCalls
 pub mod FixedKept
 pub mod FixedWalks
 pub mod FixedWalksOn
+pub mod FixedOwed
 pub mod FixedEnding
 pub mod FixedCounts
 pub mod FixedSteps

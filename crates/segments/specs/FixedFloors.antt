@@ -1,5 +1,5 @@
 -- What markers ask of the blobs of a fixed journal, what a check of them shows, and why one of them is refused.
-use Rattle.std.specs.Prelude.{◌≡◌, ◌⊎◌, ℕ, ◌-◌, ◌*◌, ◌/◌, ◌^◌, ◌<◌, ◌≤◌, cond, false, List, length, IsTrue, Option, Some, string_bytes}
+use Rattle.std.specs.Prelude.{◌≡◌, ◌⊎◌, ℕ, ◌-◌, ◌*◌, ◌/◌, ◌^◌, ◌<◌, ◌≤◌, cond, false, List, length, IsTrue, Option, string_bytes}
 use Rattle.std.specs.BTreeMap as tree
 use Rattle.std.specs.Ordering.{nat_cmp}
 use Rattle.blob_device.specs.Disk.{Blob}
@@ -51,6 +51,11 @@ module _ (seal : List ℕ → ℕ) (P size : ℕ) where
     pub fits : n * size < 2 ^ 64
     pub covered : 0 < n → IsCovered seal P b.content ((n - 1) * size) size
     pub within : 0 < n → n * size ≤ adopted_size seal P b.content
+
+  -- it has the last of n items, and that is one
+  pub record KeepsBoundary {V : Type 0} (spelling : V → List ℕ) (accepted : V → Unit {0} → Type 0) (b : Blob) (n : ℕ) : Type 0 where
+    pub last : KeepsLast b n
+    pub decodes : 0 < n → (v : V) × IsBoundary spelling accepted b.content n v
 
   -- n items have more bytes than a u64 counts; the damage counts items
   pub record IsTooMany (n : ℕ) (x : Damage) : Type 0 where

@@ -1,21 +1,23 @@
 -- What a replay of a fixed journal shows: the journal, where it stands in it, and which items are still to be given.
-use Rattle.std.specs.Prelude.{◌≡◌, ◌⊎◌, ◌↔◌, ℕ, ◌+◌, ◌*◌, ◌/◌, ◌%◌, ◌<◌, ◌≤◌, eqb, cond, Bool, true, false, List, [], length, Option, None, Some, IsSomeAnd, IsTrue}
+use Rattle.std.specs.Prelude.{◌≡◌, ◌⊎◌, ◌↔◌, ℕ, ◌+◌, ◌*◌, ◌/◌, ◌%◌, ◌<◌, ◌≤◌, min, eqb, cond, Bool, true, false, List, [], length, take, Option, None, Some, IsSomeAnd, IsTrue}
 use Rattle.blob_device.specs.Disk.{Key, Blob, Disk}
 use Rattle.blob_device.specs.Opened.{OpenedList}
 use Rattle.value_codec.specs.declared.codec.Error as codec
 use Rattle.sealed_pages.specs.declared.page_blob.PageBlob.{PageBlob}
 use Rattle.sealed_pages.specs.Shown.{shown}
 use Rattle.sealed_pages.specs.Buffer.{size_of, bytes_of, IsSealed}
+use Rattle.sealed_pages.specs.Cutting.{IsAtRest}
 use Rattle.sealed_pages.specs.SealedPrefix.{sealed_prefix}
 use Rattle.sealed_pages.specs.ChanceSeal.{Leaves}
 use Rattle.sealed_pages.specs.Readers.{Reader, IsReplayOf}
 use Rattle.sealed_pages.specs.Reads.{IsCovered, IsShort}
+use Rattle.sealed_pages.specs.Unrecovered.{IsUnrecovered}
 use Rattle.segments.specs.declared.buffer.SectionBuffer as buffer
 use Rattle.segments.specs.declared.journal.Damage.{Damage}
 use Rattle.segments.specs.Setting.{Setting}
 use Rattle.segments.specs.Sections.{key_of, IsHeld, IsKeyOf, SameBounds, IsOver}
 use Rattle.segments.specs.FixedItems.{item_at, IsItem}
-use Rattle.segments.specs.FixedLists.{Lists, IsProven, OwesHeld, OwesSettled, AreSealed, UnopenedLater}
+use Rattle.segments.specs.FixedLists.{Lists, section_size, OwesHeld, OwesSettled, AreSealed, UnopenedLater}
 
 -- A place within a section: the reader is at the item of this position.
 pub record Place : Type 0 where
@@ -59,6 +61,18 @@ module _ {F B : Type 0} (w : Walk F B) where
 -- item p of section s goes before item q of section t
 abbrev pub StandsBefore : ℕ → ℕ → ℕ → ℕ → Type 0
 StandsBefore s p t q = (s < t) ⊎ ((s ≡ t) × (p < q))
+
+-- The blob c has the whole items that b has in its sealed prefix, and no more: it is b, or it was cut, and has settled.
+pub record SameItems (seal : List ℕ → ℕ) (P size : ℕ) (b c : Blob) : Type 0 where
+  pub there : c.there ≡ b.there
+  pub count : length (sealed_prefix seal P c.content) / size ≡ length (sealed_prefix seal P b.content) / size
+  pub items : take (length (sealed_prefix seal P b.content) / size * size) (sealed_prefix seal P c.content) ≡ take (length (sealed_prefix seal P b.content) / size * size) (sealed_prefix seal P b.content)
+  pub rests : (c ≡ b) ⊎ IsAtRest c
+
+-- A section that is not unopened was not before, and is held if it was: one that an error lost is unopened.
+abbrev pub KeepsSections : {F B : Type 0} → Walk F B → Walk F B → Type 0
+KeepsSections old new = (s : ℕ) → new.journal.sections.unopened s ≡ None
+    → (old.journal.sections.unopened s ≡ None) × (IsHeld new.journal.sections s ↔ IsHeld old.journal.sections s)
 
 module _ {S : Type 0} {gs : _} where
   -- of a section that owes a replay the bytes of its sealed prefix, else all
@@ -139,6 +153,21 @@ module _ {S : Type 0} {gs : _} where
   KeepsBytes told old new d e = (s : ℕ) (u v : PageBlob S gs) → old.journal.sections.held s ≡ Some u → new.journal.sections.held s ≡ Some v → old.journal.unrecovered s ≡ false
       → HasSameBytes told u (d (key_of old.journal.sections s)) v (e (key_of old.journal.sections s))
 
+  -- The buffer v has pages as large as u has, and as many bytes, or it was cut to no fewer than the floor.
+  pub record IsSameOrCut (floor : ℕ) (u v : PageBlob S gs) : Type 0 where
+    pub page_size : v.page_size ≡ u.page_size
+    pub shorter : size_of (shown v) ≤ size_of (shown u)
+    pub reached : (size_of (shown v) ≡ size_of (shown u)) ⊎ (floor ≤ size_of (shown v))
+
+  -- no section that is held before and after is longer, or cut below its floor
+  abbrev pub KeepsFloors : {F : Type 0} → Walk F (PageBlob S gs) → Walk F (PageBlob S gs) → Type 0
+  KeepsFloors old new = (s : ℕ) (u v : PageBlob S gs) → old.journal.sections.held s ≡ Some u → new.journal.sections.held s ≡ Some v → IsSameOrCut (old.journal.floor_of s) u v
+
+  -- the blob of each held section that owes a replay keeps its whole items
+  abbrev pub KeepsItems : {F : Type 0} → (List ℕ → ℕ) → ℕ → Walk F (PageBlob S gs) → Disk → Disk → Type 0
+  KeepsItems seal size w d e = (s : ℕ) (u : PageBlob S gs) → w.journal.sections.held s ≡ Some u → IsTrue (w.journal.unrecovered s)
+      → SameItems seal u.page_size size (d (key_of w.journal.sections s)) (e (key_of w.journal.sections s))
+
   -- what a replay keeps
   pub record IsWalk {F : Type 0} (g : buffer.Ghosts (PageBlob S gs)) (gives : F → Setting) (seal : List ℕ → ℕ) (size : ℕ) (told : Type 0)
       (w : Walk F (PageBlob S gs)) (opened : OpenedList) (d : Disk) : Type 0 where
@@ -171,37 +200,55 @@ module _ {S : Type 0} {gs : _} where
     pub rest : (t q : ℕ) → IsLeft seal size new to t q ↔ (IsLeft seal size old from t q × (section < t))
 
   -- Page k has bytes of an item of a section that owes no replay and has a floor, and no matching slot covers it as far as the item goes. The
-  -- pages below a floor are taken as a marker vouches for them, so none was read before.
+  -- item ends within the section. The pages below a floor are taken as a marker vouches for them, so none was read before.
   pub record FindsDamage {F : Type 0} (seal : List ℕ → ℕ) (size : ℕ) (old new : Walk F (PageBlob S gs)) (d : Disk) (k : ℕ) : Type 0 where
     pub section : ℕ
     pub position : ℕ
     pub near : IsAhead old section ⊎ IsIn old section
     pub free : new.journal.unrecovered section ≡ false
     pub floor : 0 < new.journal.floor_of section
+    pub within : IsSomeAnd (new.journal.sections.held section) (λ u. (position + 1) * size ≤ size_of (shown u))
     pub page : IsSomeAnd (new.journal.sections.held section) (λ u. IsShort seal u.page_size (d (key_of new.journal.sections section)).content (position * size) size k)
 
-  -- An error ended the whole replay, or that of section s; the items of later sections are left.
+  -- An error ended the whole replay, or that of section s. No item of an earlier section was left, and the items of later ones are left.
   pub record Stops {F : Type 0} (seal : List ℕ → ℕ) (size : ℕ) (old new : Walk F (PageBlob S gs)) (d e : Disk) : Type 0 where
-    pub rest : (new.ended ≡ true) ⊎ ((s : ℕ) × ((t q : ℕ) → IsLeft seal size new e t q ↔ (IsLeft seal size old d t q × (s < t))))
+    pub rest : (new.ended ≡ true) ⊎ ((s : ℕ) × ((t q : ℕ) → IsLeft seal size old d t q → t < s → ⊥) × ((t q : ℕ) → IsLeft seal size new e t q ↔ (IsLeft seal size old d t q × (s < t))))
 
-  -- Of a proven section that is ahead or being read each crash leaves a prefix of its bytes, no shorter than what had settled, and of one
-  -- that owes a replay a prefix of its sealed prefix that has all whole items of it. It is cut only where those reach its floor. A blob of
-  -- which all bytes have settled, and nothing is cut off, stays as it is. No other blob changes.
+  -- A section is being cut: it owes a replay, and has more bytes than the whole items of its sealed prefix. No item of it was left, and none
+  -- of an earlier one.
+  pub record IsCutting {F : Type 0} (seal : List ℕ → ℕ) (size : ℕ) (told : Type 0) (w : Walk F (PageBlob S gs)) (d : Disk) : Type 0 where
+    pub section : ℕ
+    pub near : IsAhead w section ⊎ IsIn w section
+    pub owes : IsTrue (w.journal.unrecovered section)
+    pub longer : told → length (kept_bytes seal size w d section) / size * size < section_size w.journal.sections section
+    pub given : told → (t q : ℕ) → IsLeft seal size w d t q → t ≤ section → ⊥
+
+  -- Of a section that owes no replay each crash leaves, where it is sealed, as each proven one is, a prefix of its bytes, no shorter than
+  -- what had settled, and where it is not a prefix of its sealed prefix, no shorter than what had settled of that. Of one that owes a replay
+  -- it leaves a prefix of its sealed prefix that has all whole items of it; it is cut only where those reach its floor. A blob of which all
+  -- bytes have settled, and nothing is cut off, stays as it is. No blob changes but those of sections that are ahead or being read.
   pub record Replaying {F : Type 0} (seal : List ℕ → ℕ) (size : ℕ) (w : Walk F (PageBlob S gs)) (from : Disk) (q : Key) (b : Blob) : Type 0 where
-    pub flushed : (s : ℕ) (u : PageBlob S gs) → w.journal.sections.held s ≡ Some u → IsProven w.journal s → q ≡ key_of w.journal.sections s
+    pub flushed : (s : ℕ) (u : PageBlob S gs) → w.journal.sections.held s ≡ Some u → w.journal.unrecovered s ≡ false → IsSealed seal (shown u) (from q) → q ≡ key_of w.journal.sections s
         → Leaves seal u.page_size (bytes_of (shown u) (from q).content) u.settled b
+    pub front : (s : ℕ) (u : PageBlob S gs) → w.journal.sections.held s ≡ Some u → w.journal.unrecovered s ≡ false → IsUnrecovered seal (shown u) (from q) → q ≡ key_of w.journal.sections s
+        → Leaves seal u.page_size (sealed_prefix seal u.page_size (from q).content) (min u.settled (length (sealed_prefix seal u.page_size (from q).content))) b
     pub cut : (s : ℕ) (u : PageBlob S gs) → w.journal.sections.held s ≡ Some u → IsTrue (w.journal.unrecovered s) → q ≡ key_of w.journal.sections s
         → (b ≡ from q) ⊎ ((w.journal.floor_of s ≤ length (sealed_prefix seal u.page_size (from q).content) / size * size)
         × Leaves seal u.page_size (sealed_prefix seal u.page_size (from q).content) (length (sealed_prefix seal u.page_size (from q).content) / size * size) b)
     pub still : (s : ℕ) (u : PageBlob S gs) → w.journal.sections.held s ≡ Some u → StaysStill seal size (w.journal.unrecovered s) u (from q) → q ≡ key_of w.journal.sections s → b ≡ from q
     pub others : (IsKeyOf w.journal.sections (λ s. IsHeld w.journal.sections s × (IsAhead w s ⊎ IsIn w s)) q → ⊥) → b ≡ from q
 
--- The section of this damage owes a replay, and the whole items of its sealed prefix end below its floor.
+-- The section of this damage is held and owes a replay, and the whole items of its sealed prefix end below its floor.
 pub record EndsBelow {F S : Type 0} {gs : _} (seal : List ℕ → ℕ) (size : ℕ) (w : Walk F (PageBlob S gs)) (d : Disk) (x : Damage) : Type 0 where
   pub owes : IsTrue (w.journal.unrecovered x.section)
+  pub held : IsHeld w.journal.sections x.section
   pub kept : x.kept ≡ length (kept_bytes seal size w d x.section) / size * size
   pub wanted : x.wanted ≡ w.journal.floor_of x.section
   pub less : x.kept < x.wanted
+
+-- what the later replay may leave of a blob, the earlier one may leave
+abbrev pub LeavesNoMore : {F S : Type 0} {gs : _} → (List ℕ → ℕ) → ℕ → Walk F (PageBlob S gs) → Walk F (PageBlob S gs) → Disk → Disk → Type 0
+LeavesNoMore seal size old new d e = (q : Key) (b : Blob) → Replaying seal size new e q b → Replaying seal size old d q b
 
 -- where a replay begins, and over which sections
 pub record Begins {F B : Type 0} (j : Lists F B) (s p : ℕ) (w : Walk F B) : Type 0 where

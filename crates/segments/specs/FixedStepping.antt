@@ -1,5 +1,5 @@
 -- One step of a replay of a fixed journal: what it answers, what it leaves to be given, and what it keeps.
-use Rattle.std.specs.Prelude.{◌≡◌, ◌≢◌, ◌⊎◌, ◌↔◌, ℕ, ◌+◌, ◌-◌, ◌*◌, ◌/◌, ◌%◌, ◌^◌, ◌<◌, ◌≤◌, eqb, leb, cond, Bool, true, false, List, length, take, drop, Option, None, Some, Result, Ok, OnOk, OnErr}
+use Rattle.std.specs.Prelude.{◌≡◌, ◌≢◌, ◌⊎◌, ◌↔◌, ℕ, ◌+◌, ◌-◌, ◌*◌, ◌/◌, ◌%◌, ◌^◌, ◌<◌, ◌≤◌, eqb, leb, cond, Bool, true, false, List, length, take, drop, Option, None, Some, IsSome, Result, Ok, OnOk, OnErr}
 use Rattle.std.specs.Result.{IsErrOf}
 use Rattle.blob_device.specs.Disk.{Key, Blob, Disk}
 use Rattle.blob_device.specs.Opened.{OpenedList, reads_of}
@@ -7,9 +7,11 @@ use Rattle.blob_device.specs.Timeline.{Timeline, disk, Always, Each}
 use Rattle.sealed_pages.specs.declared.page_blob.PageBlob.{PageBlob}
 use Rattle.sealed_pages.specs.Shown.{shown}
 use Rattle.sealed_pages.specs.Buffer.{size_of, bytes_of, IsSealed}
+use Rattle.sealed_pages.specs.Cutting.{IsAtRest}
 use Rattle.sealed_pages.specs.SealedPrefix.{sealed_prefix}
 use Rattle.sealed_pages.specs.Readers.{Reader, IsReplayOf, unread_of}
 use Rattle.sealed_pages.specs.Reads.{pages_for}
+use Rattle.sealed_pages.specs.Unrecovered.{IsUnrecovered}
 use Rattle.value_codec.specs.declared.codec.Error as codec
 use Rattle.segments.specs.declared.buffer.SectionBuffer as buffer
 use Rattle.segments.specs.declared.journal.Error.{Error}
@@ -21,7 +23,8 @@ use Rattle.segments.specs.Entries.{OnlyOwnEntry}
 use Rattle.segments.specs.Sections.{Sections, key_of, IsHeld, IsKeyOf, IsSame, SameBounds, IsOver}
 use Rattle.segments.specs.Refusing.{HasFailed, HasDamage}
 use Rattle.segments.specs.FixedReading.{HasNotRead, IsBelowFloor}
-use Rattle.segments.specs.FixedReplay.{Place, Walk, IsAhead, IsIn, IsReadWhole, IsLeft, SameWalk, KeepsBytes, IsWalk, Gives, Refuses, Stops, Replaying, EndsBelow, FindsDamage, kept_bytes}
+use Rattle.segments.specs.FixedLists.{section_size}
+use Rattle.segments.specs.FixedReplay.{Place, Walk, IsAhead, IsIn, IsReadWhole, IsLeft, SameWalk, KeepsSections, KeepsFloors, KeepsBytes, KeepsItems, IsWalk, Gives, Refuses, Stops, IsCutting, Replaying, LeavesNoMore, EndsBelow, FindsDamage, kept_bytes}
 
 -- greater than each number of a section, and than each place in one
 unfoldable pub word : ℕ
@@ -77,12 +80,12 @@ module _ {F B : Type 0} where
   abbrev pub standing : Walk F B → Place → Walk F B
   standing w r = record w { place = Some r }
 
-  -- It goes on over the same sections. It has come to no fewer of them, and stands in none of those that it had gone over.
+  -- It goes on over the same sections.
   pub record GoesOn (old new : Walk F B) : Type 0 where
     pub failed : new.failed ≡ old.failed
     pub ended : new.ended ≡ old.ended
     pub held : (s : ℕ) → IsHeld new.journal.sections s ↔ IsHeld old.journal.sections s
-    pub onward : (s : ℕ) → IsAhead new s ⊎ IsIn new s → IsAhead old s ⊎ IsIn old s
+    pub known : (s : ℕ) → new.journal.sections.unopened s ≡ old.journal.sections.unopened s
 
   -- A call on its sections leaves the replay as it was, but for whether it has ended.
   pub record OnlySections (old new : Walk F B) : Type 0 where
@@ -95,7 +98,7 @@ module _ {F B : Type 0} where
     pub failed : new.failed ≡ old.failed
 
 module _ {F B : Type 0} (g : buffer.Ghosts B) (gives : F → Setting) (told : Type 0) where
-  -- A call on the section s was made. Of the others nothing changed; s is held, or its buffer is gone.
+  -- A call on the section s was made. Of the others nothing changed; s is held, or its buffer is gone, and s is unopened.
   pub record Touches {T : Type 0} (result : Result T Error) (s : ℕ) (m n : Sections F B) (before after : OpenedList) (begin end : Timeline) : Type 0 where
     pub over : IsOver g gives told n after (disk end)
     pub others : (q : ℕ) → q ≢ s → IsSame m n q
@@ -103,16 +106,17 @@ module _ {F B : Type 0} (g : buffer.Ghosts B) (gives : F → Setting) (told : Ty
     pub entries : OnlyOwnEntry (key_of m s) before after
     pub blobs : told → (q : Key) → q ≢ key_of m s → disk end q ≡ disk begin q
     pub held : OnOk result (IsHeld n s)
-    pub lost : OnErr result ((n.held s ≡ None) ⊎ ((n.held s ≡ m.held s) × (end ≡ begin)))
+    pub lost : OnErr result (((n.held s ≡ None) × IsSome (n.unopened s)) ⊎ ((n.held s ≡ m.held s) × (end ≡ begin)))
 
 module _ {S : Type 0} {gs : _} (seal : List ℕ → ℕ) (told : Type 0) (u : PageBlob S gs) (b : Blob) (v : PageBlob S gs) (c : Blob) where
-  -- The buffer v over the blob c is what u over b was, with all bytes flushed.
+  -- The buffer v over the blob c is what u over b was, with all bytes flushed. Where it is not sealed the blob's sealed prefix stays.
   pub record IsFlushed : Type 0 where
     pub page_size : v.page_size ≡ u.page_size
     pub size : size_of (shown v) ≡ size_of (shown u)
     pub settled : v.settled ≡ u.settled
     pub flushed : v.from ≡ length v.tip.items
     pub sealed : told → IsSealed seal (shown u) b → IsSealed seal (shown v) c
+    pub unsealed : told → IsUnrecovered seal (shown u) b → IsUnrecovered seal (shown v) c × (sealed_prefix seal u.page_size c.content ≡ sealed_prefix seal u.page_size b.content)
     pub bytes : told → bytes_of (shown v) c.content ≡ bytes_of (shown u) b.content
 
   -- It is what a cut of u to the first n bytes of its sealed prefix made of it.
@@ -122,6 +126,8 @@ module _ {S : Type 0} {gs : _} (seal : List ℕ → ℕ) (told : Type 0) (u : Pa
     pub settled : v.settled ≡ size_of (shown v)
     pub sealed : told → IsSealed seal (shown v) c
     pub prefix : told → sealed_prefix seal u.page_size c.content ≡ take n (sealed_prefix seal u.page_size b.content)
+    pub there : told → c.there ≡ b.there
+    pub rests : told → (c ≡ b) ⊎ IsAtRest c
 
 -- The reader is over all bytes of the buffer u, whose blob has this key and ends there, and stands at their start.
 pub record BeginsOver {S : Type 0} {gs : _} (seal : List ℕ → ℕ) (k : Key) (u v : PageBlob S gs) (r : Reader) : Type 0 where
@@ -133,11 +139,11 @@ pub record BeginsOver {S : Type 0} {gs : _} (seal : List ℕ → ℕ) (k : Key) 
   pub replays : (content : List ℕ) → IsReplayOf seal content r
 
 module _ {F S : Type 0} {gs : _} (seal : List ℕ → ℕ) (size : ℕ) where
-  -- The items that are left are the same, from the same bytes; what a later call leaves of a blob it may leave.
+  -- The items that are left are the same, from the same bytes, and what is still to be read is as long as before.
   pub record Carries (old new : Walk F (PageBlob S gs)) (d e : Disk) : Type 0 where
     pub left : (t q : ℕ) → IsLeft seal size new e t q ↔ IsLeft seal size old d t q
     pub kept : (s : ℕ) → IsAhead new s ⊎ IsIn new s → kept_bytes seal size new e s ≡ kept_bytes seal size old d s
-    pub later : (q : Key) (b : Blob) → Replaying seal size new e q b → Replaying seal size old d q b
+    pub sizes : (s : ℕ) → IsAhead new s ⊎ IsIn new s → section_size new.journal.sections s ≡ section_size old.journal.sections s
 
   -- The place is behind the last whole item. Where the section was read whole and is not cut there, it is sealed and has no partial item;
   -- where it is cut there, bytes stand behind.
@@ -149,15 +155,21 @@ module _ {F S : Type 0} {gs : _} (seal : List ℕ → ℕ) (size : ℕ) where
 
   module _ {V : Type 0} (g : buffer.Ghosts (PageBlob S gs)) (gives : F → Setting) (spelling : V → List ℕ) (accepted : V → Unit {0} → Type 0) (refusal : List ℕ → Unit {0} → Option codec.Error) (told : Type 0) where
     -- A step of the replay `old`, and the replay after it. It gives the first item that was left, or comes nearer to one, or gives an
-    -- error, which ends the section or the replay. Where the disk is told a page is found damaged only in a section that owes no replay and
-    -- has a floor: one that owes a replay is cut before such a page, and any other is sealed.
+    -- error, which ends the section or the replay. It never goes back to a section that it had gone over. Where the disk is told a page is
+    -- found damaged only in a section that owes no replay and has a floor: one that owes a replay is cut before such a page, and any other
+    -- is sealed.
     pub record Steps (result : Result (Option (ℕ × ℕ × V)) Error) (old new : Walk F (PageBlob S gs)) (before after : OpenedList) (begin end : Timeline) (few many : ℕ) : Type 0 where
       pub over : OnOk result (IsWalk g gives seal size told new after (disk end))
       pub broken : OnErr result (IsWalk g gives seal size told (failing new) after (disk end))
       pub goes : OnOk result (GoesOn old new)
       pub same : SameWalk old new
       pub nearer : way_of new < way_of old
+      pub onward : (s : ℕ) → IsAhead new s ⊎ IsIn new s → IsAhead old s ⊎ IsIn old s
+      pub stays : KeepsSections old new
+      pub floors : KeepsFloors old new
       pub bytes : KeepsBytes told old new (disk begin) (disk end)
+      pub items : told → new.ended ≡ false → KeepsItems seal size old (disk begin) (disk end)
+      pub later : told → OnOk result (LeavesNoMore seal size old new (disk begin) (disk end))
       pub carries : told → result ≡ Ok None → Carries old new (disk begin) (disk end)
       pub item : told → (s p : ℕ) (v : V) → result ≡ Ok (Some (s, p, v)) → Gives seal size spelling accepted old new (disk begin) (disk end) s p v
       pub stops : told → OnErr result (Stops seal size old new (disk begin) (disk end))
@@ -167,6 +179,7 @@ module _ {F S : Type 0} {gs : _} (seal : List ℕ → ℕ) (size : ℕ) where
       pub damaged : told → (k : ℕ) → IsErrOf result (Runtime (InvalidChecksum k)) → FindsDamage seal size old new (disk end) k
       pub refused : told → (e : codec.Error) → IsErrOf result (Codec e) → Refuses seal size refusal old new (disk begin) (disk end) e
       pub ends : new.ended ≡ true → (old.ended ≡ true) ⊎ ((HasDamage result × (told → ⊥)) ⊎ HasFailed result few many)
+      pub ends_cut : new.ended ≡ true → (old.ended ≡ true) ⊎ IsCutting seal size told old (disk begin)
       pub moments : told → Always begin end (Each (Replaying seal size old (disk begin)))
       pub entries : (q : Key) → (IsKeyOf old.journal.sections (λ s. IsHeld old.journal.sections s × (IsAhead old s ⊎ IsIn old s)) q → ⊥) → after q ≡ before q
       pub once : OnOk result (ReadsOnce old new before after)

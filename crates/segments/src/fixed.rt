@@ -52,8 +52,8 @@ impl Config {
 /// A list of items per section. Item p of a section stands at byte p times the item's size.
 ///
 /// A section that was opened with bytes in it takes no append until a replay from its start, or from an earlier section, was
-/// drained and finished, unless it has just the bytes that a marker vouched for. Calls that take the journal by value give it up where they refuse; its blobs are then opened again by
-/// an `init`.
+/// drained and finished, unless it has just the bytes that a marker vouched for. Calls that take the journal by value give it up
+/// where they refuse; its blobs are then opened again by an `init`.
 #[derive(Drop)]
 pub struct Journal<A: CodecFixed, S: Seal> {
     alloc: Global,

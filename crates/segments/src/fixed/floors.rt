@@ -1,7 +1,5 @@
 // How many bytes of each section a marker vouches for.
-ghost use Rattle.std.specs.Prelude.{◌≡◌, ◌≢◌, ◌<◌, ◌≤◌, min, ℕ, None, IfSome, IsSome};
-ghost use Rattle.std.specs.BTreeMap.{get};
-ghost use Rattle.std.specs.Ordering.{nat_cmp};
+ghost use Rattle.std.specs.Prelude.{◌≡◌, ◌≢◌, ◌<◌, ◌≤◌, min, ℕ};
 ghost use Rattle.segments.specs.FixedLists.{floor_in};
 
 use std::collections::BTreeMap;
@@ -13,44 +11,12 @@ pub(super) fn floor_at(floors: &BTreeMap<u64, u64>, section: u64) -> u64
     floors.get(&section).copied().unwrap_or(0)
 }
 
-// The least section below `min` that has a floor.
-fn first_below(floors: &BTreeMap<u64, u64>, min: u64) -> Option<u64>
-    ensures none { result ≡ None → (s : ℕ) → s < min → floor_in floors.now s ≡ 0 }
-    ensures below { IfSome result (λ n. n < min) }
-    ensures has { IfSome result (λ n. IsSome (get nat_cmp floors.now n)) }
-{
-    let Some((first, _)) = floors.first_key_value() else {
-        return None;
-    };
-    if *first < min {
-        return Some(*first);
-    }
-    None
-}
-
 /// Drops the floors of the sections below `min`.
 pub(super) fn lift_below(floors: &mut BTreeMap<u64, u64>, min: u64)
     ensures below { (s : ℕ) → s < min → floor_in floors.new s ≡ 0 }
     ensures others { (s : ℕ) → min ≤ s → floor_in floors.new s ≡ floor_in floors.old s }
 {
-    while let Some(first) = first_below(floors, min) {
-        floors.remove(&first);
-    }
-}
-
-// The greatest section behind this one that has a floor.
-fn last_behind(floors: &BTreeMap<u64, u64>, section: u64) -> Option<u64>
-    ensures none { result ≡ None → (s : ℕ) → section < s → floor_in floors.now s ≡ 0 }
-    ensures behind { IfSome result (λ n. section < n) }
-    ensures has { IfSome result (λ n. IsSome (get nat_cmp floors.now n)) }
-{
-    let Some((last, _)) = floors.last_key_value() else {
-        return None;
-    };
-    if *last > section {
-        return Some(*last);
-    }
-    None
+    floors.retain(|section, _| min <= *section);
 }
 
 /// Drops the floors of the sections behind this one.
@@ -58,9 +24,7 @@ pub(super) fn lift_after(floors: &mut BTreeMap<u64, u64>, section: u64)
     ensures later { (s : ℕ) → section < s → floor_in floors.new s ≡ 0 }
     ensures others { (s : ℕ) → s ≤ section → floor_in floors.new s ≡ floor_in floors.old s }
 {
-    while let Some(last) = last_behind(floors, section) {
-        floors.remove(&last);
-    }
+    floors.retain(|number, _| *number <= section);
 }
 
 /// Lowers the section's floor to `size`, if it is higher.

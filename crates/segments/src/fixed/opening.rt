@@ -1,17 +1,15 @@
 // Opening a fixed journal.
 ghost use Rattle.std.specs.Prelude.{◌≡◌, ◌≢◌, ◌↔◌, ◌⊎◌, ◌≤◌, ◌<◌, ◌+◌, ◌-◌, ◌^◌, ℕ, List, Some, None, Err, false, length, IfOk, OnOk, OnErr, IsTrue, string_bytes};
 ghost use Rattle.std.specs.Result.{IsErrOf};
-ghost use Rattle.std.specs.Ordering.{nat_cmp};
-ghost use Rattle.std.specs.BTreeSet as set;
 ghost use Rattle.blob_device.specs.Disk.{Key};
 ghost use Rattle.blob_device.specs.Timeline.{disk, Always, Each};
 ghost use Rattle.sealed_pages.specs.Reading.{Unchanged};
 ghost use Rattle.segments.specs.Sections.{section_key, IsHeld, IsOver};
 ghost use Rattle.segments.specs.Lasting.{IsSettling};
-ghost use Rattle.segments.specs.Managed as managed;
 ghost use Rattle.segments.specs.FixedLists.{section_size};
 ghost use Rattle.segments.specs.Refusing.{HasFailed, HasNoRoom, IsForeign, IsOpenedTooLong};
 
+use super::preflighting::longer_sections;
 use super::{Config, Journal};
 use crate::journal::Error;
 use crate::unopened::Unopened;
@@ -19,27 +17,9 @@ use crate::{AppendFactory, BufferFactory, Manager, ManagerConfig, SectionBuffer}
 use blob_device::Device;
 use sealed_pages::PageBlob;
 use std::alloc::Global;
-use std::collections::{BTreeMap, BTreeSet};
+use std::collections::BTreeMap;
 use std::marker::PhantomData;
 use value_codec::{CodecFixed, Seal};
-
-// The sections that have bytes.
-fn filled_sections<S: Seal>(
-    alloc: Global,
-    manager: &Manager<AppendFactory<S>>,
-) -> Result<BTreeSet<u64>, Error>
-    requires { (managed.shown manager.now).floor ≡ 0 }
-    ensures filled { IfOk result (λ r. (s : ℕ) → IsTrue (set.contains nat_cmp r s) ↔ (0 < section_size (managed.shown manager.now) s)) }
-    ensures cause { OnErr result (IsErrOf result Error.Mem) }
-{
-    let mut filled = BTreeSet::new(alloc);
-    for section in manager.sections() {
-        if manager.size(section)? > 0 {
-            filled.insert(section)?;
-        }
-    }
-    Ok(filled)
-}
 
 impl<A: CodecFixed, S: Seal> Journal<A, S> {
     ghost use Rattle.segments.specs.FixedShown.{shown};
@@ -122,12 +102,13 @@ impl<A: CodecFixed, S: Seal> Journal<A, S> {
             factory: AppendFactory::new(cfg.write_buffer, cfg.pages),
         };
         let manager = Manager::init_bounded(alloc, dev, config, ceiling)?;
-        let unrecovered = filled_sections(alloc, &manager)?;
+        let floors = BTreeMap::new(alloc);
+        let unrecovered = longer_sections(alloc, &manager, &floors)?;
         Ok(Journal {
             alloc,
             manager,
             unrecovered,
-            floors: BTreeMap::new(alloc),
+            floors,
             item: PhantomData,
         })
     }

@@ -114,8 +114,8 @@ fn stored_sections<D: Device>(
     set_of(alloc, numbers.as_slice())
 }
 
-// The sections with more bytes than their floor.
-fn longer_sections<S: Seal>(
+/// The sections with more bytes than their floor.
+pub(super) fn longer_sections<S: Seal>(
     alloc: Global,
     manager: &Manager<AppendFactory<S>>,
     floors: &BTreeMap<u64, u64>,
@@ -159,14 +159,15 @@ fn check_reached<S: Seal>(
 }
 
 impl<A: CodecFixed, S: Seal> Journal<A, S> {
-    ghost use Rattle.segments.specs.FixedFloors.{shown, IsBoundary, Keeps, KeepsLast, IsRefused};
+    ghost use Rattle.segments.specs.FixedFloors.{shown, IsBoundary, Keeps, KeepsBoundary, IsRefused};
 
     /// Checks what markers vouch for, so many first items of some sections, before the journal is opened up to the section `ceiling`.
     /// No byte is written.
     ///
-    /// It refuses a blob with a name that is no section's, before anything is opened. `Corruption` names the first section that has no
-    /// blob, or whose last item below the marker is not sealed; or one whose marker counts more bytes than a `u64` can. `Codec` says why
-    /// an item there is none.
+    /// It refuses a blob with a name that is no section's, before anything is opened. Then the sections with a marker are checked one by
+    /// one, ascending, and the first that is refused is answered: by `Corruption`, which names it, where its marker counts more bytes than a
+    /// `u64` can, where it has no blob, or where the last item below the marker is not sealed; by `Codec`, which says why, where the bytes
+    /// there are no item.
     pub fn preflight_floors<D: Device>(
         alloc: Global,
         dev: &mut D,
@@ -195,12 +196,14 @@ impl<A: CodecFixed, S: Seal> Journal<A, S> {
             → IsSomeAnd (tree.get nat_cmp floors.now x.section) (λ n. IsRefused S.seal_of cfg.now.pages.page_size A.SIZE (disk (D.time dev.old) (section_key (string_bytes cfg.now.partition) x.section)) n x) }
         ensures whole { D.Tells → ((s n : ℕ) → tree.get nat_cmp floors.now s ≡ Some n → Keeps S.seal_of cfg.now.pages.page_size A.SIZE (disk (D.time dev.old) (section_key (string_bytes cfg.now.partition) s)) n)
             → (x : _) → IsErrOf result (Error.Corruption x) → ⊥ }
-        // It is the first one that is.
+        // It is the first one that is, by this error or by the codec's: each marked section before it has its last item.
         ensures first { D.Tells → (x : _) → IsErrOf result (Error.Corruption x) → (s n : ℕ) → s < x.section → tree.get nat_cmp floors.now s ≡ Some n
-            → KeepsLast S.seal_of cfg.now.pages.page_size A.SIZE (disk (D.time dev.old) (section_key (string_bytes cfg.now.partition) s)) n }
+            → KeepsBoundary S.seal_of cfg.now.pages.page_size A.SIZE A.spelling A.accepted (disk (D.time dev.old) (section_key (string_bytes cfg.now.partition) s)) n }
         ensures refused { D.Tells → (e : _) → IsErrOf result (Error.Codec e) → (s n : ℕ) × (tree.get nat_cmp floors.now s ≡ Some n) × (0 < n)
             × (A.refusal (data_from cfg.now.pages.page_size (view (disk (D.time dev.old) (section_key (string_bytes cfg.now.partition) s)).content) ((n - 1) * A.SIZE) A.SIZE) tt ≡ Some e)
-            × IsCovered S.seal_of cfg.now.pages.page_size (disk (D.time dev.old) (section_key (string_bytes cfg.now.partition) s)).content ((n - 1) * A.SIZE) A.SIZE }
+            × IsCovered S.seal_of cfg.now.pages.page_size (disk (D.time dev.old) (section_key (string_bytes cfg.now.partition) s)).content ((n - 1) * A.SIZE) A.SIZE
+            × ((q m : ℕ) → q < s → tree.get nat_cmp floors.now q ≡ Some m
+            → KeepsBoundary S.seal_of cfg.now.pages.page_size A.SIZE A.spelling A.accepted (disk (D.time dev.old) (section_key (string_bytes cfg.now.partition) q)) m) }
         // At every moment, also where the call fails, each blob of the partition is as before, or settled as it read.
         ensures moments { D.Tells → Always (D.time dev.old) (D.time dev.new) (Each (IsSettling (string_bytes cfg.now.partition) ceiling (disk (D.time dev.old)))) }
         // A name that is no section's is refused, also above a bound, and then nothing was changed or opened.
@@ -211,7 +214,7 @@ impl<A: CodecFixed, S: Seal> Journal<A, S> {
         ensures name_entries { (n : List ℕ) → result ≡ Err (Error.InvalidBlobName n) → D.opened dev.new ≡ D.opened dev.old }
         ensures named { D.Tells → (n : List ℕ) → result ≡ Err (Error.InvalidBlobName n) → IsForeign (disk (D.time dev.old)) (string_bytes cfg.now.partition) n }
         ensures entries { (q : Key) → ((s : ℕ) → IsSome (tree.get nat_cmp floors.now s) → q ≢ section_key (string_bytes cfg.now.partition) s) → D.opened dev.new q ≡ D.opened dev.old q }
-        ensures overflow { HasNoRoom result → (s : ℕ) × IsOpenedTooLong (λ n. 2 ^ 64 ≤ n + (cfg.now.pages.page_size + 12)) (D.opened dev.new) (section_key (string_bytes cfg.now.partition) s) }
+        ensures overflow { HasNoRoom result → (s : ℕ) × IsSome (tree.get nat_cmp floors.now s) × IsOpenedTooLong (λ n. 2 ^ 64 ≤ n + (cfg.now.pages.page_size + 12)) (D.opened dev.new) (section_key (string_bytes cfg.now.partition) s) }
         ensures faults { D.faults dev.old ≤ D.faults dev.new }
         ensures cause { OnErr result (((n : List ℕ) × IsErrOf result (Error.InvalidBlobName n)) ⊎ (((x : _) × IsErrOf result (Error.Corruption x))
             ⊎ (((e : _) × IsErrOf result (Error.Codec e)) ⊎ (HasNoRoom result ⊎ HasFailed result (D.faults dev.old) (D.faults dev.new))))) }
@@ -474,6 +477,8 @@ impl<A: CodecFixed, S: Seal> Preflight<A, S> {
         ensures held { D.Tells → IfOk result (λ r. (s : ℕ) → s < 2 ^ 64 → IsHeld (journal.shown r).sections s ↔ (IsTrue (disk (D.time dev.old) (section_key (shown self).partition s)).there × (s ≤ (shown self).ceiling))) }
         ensures unopened { D.Tells → IfOk result (λ r. (s : ℕ) → s < 2 ^ 64 → ((journal.shown r).sections.unopened s ≡ Some Unopened.Section) ↔ (IsTrue (disk (D.time dev.old) (section_key (shown self).partition s)).there × ((shown self).ceiling < s))) }
         ensures no_leftover { IfOk result (λ r. (s : ℕ) → (journal.shown r).sections.unopened s ≢ Some Unopened.Leftover) }
+        // What is known and not held stands above the bound, also where the disk is not told.
+        ensures later { IfOk result (λ r. (s : ℕ) → IsSome ((journal.shown r).sections.unopened s) → (shown self).ceiling < s) }
         ensures bytes { D.Tells → IfOk result (λ r. (s : ℕ) → IsHeld (journal.shown r).sections s
             → section_bytes (journal.shown r).sections (disk (D.time dev.new)) s ≡ ⟦<PageBlob<S> as SectionBuffer>⟧.holds (⟦<AppendFactory<S> as BufferFactory>⟧.gives (journal.shown r).sections.factory) (disk (D.time dev.old) (section_key (shown self).partition s)).content) }
         // A section with more bytes than its floor owes a replay, and no other does. None has fewer.

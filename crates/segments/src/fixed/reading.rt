@@ -318,6 +318,9 @@ impl<A: CodecFixed, S: Seal> Journal<A, S> {
         ensures checked { D.Tells → OnOk result (IsSomeAnd ((shown self.now).sections.held section) (λ u. (p : ℕ) → Contains positions.now p → IsItemCovered A.SIZE S.seal_of u (disk (D.time dev.old) (key_of (shown self.now).sections section)).content p)) }
         ensures damaged { D.Tells → (k : ℕ) → IsErrOf result (Error.Runtime (InvalidChecksum k))
             → IsSomeAnd ((shown self.now).sections.held section) (λ u. (p : ℕ) × Contains positions.now p × IsDamaged A.SIZE S.seal_of u (disk (D.time dev.old) (key_of (shown self.now).sections section)).content p k) }
+        // No page of a section that is proven, or sealed, is damaged.
+        ensures sound { D.Tells → IsProven (shown self.now) section ⊎ IsSomeAnd ((shown self.now).sections.held section) (λ u. IsSealed S.seal_of (page_blob.shown u) (disk (D.time dev.old) (key_of (shown self.now).sections section)))
+            → (k : ℕ) → IsErrOf result (Error.Runtime (InvalidChecksum k)) → ⊥ }
         ensures refused { D.Tells → (e : _) → IsErrOf result (Error.Codec e)
             → ((p : ℕ) × Contains positions.now p × (A.refusal (item_at A.SIZE (section_bytes (shown self.now).sections (disk (D.time dev.old)) section) p) tt ≡ Some e)
             × IsSomeAnd ((shown self.now).sections.held section) (λ u. IsItemCovered A.SIZE S.seal_of u (disk (D.time dev.old) (key_of (shown self.now).sections section)).content p)) }

@@ -9,9 +9,9 @@ ghost use Rattle.blob_device.specs.Opened.{reads_of};
 ghost use Rattle.blob_device.specs.Timeline.{disk, Always, Each};
 ghost use Rattle.sealed_pages.specs.Buffer.{size_of, bytes_of, IsSealed};
 ghost use Rattle.sealed_pages.specs.ChanceSeal.{Sealing};
-ghost use Rattle.sealed_pages.specs.Flushing.{Alone};
 ghost use Rattle.sealed_pages.specs.SealedPrefix.{sealed_prefix};
 ghost use Rattle.sealed_pages.specs.Shown as page_blob;
+ghost use Rattle.sealed_pages.specs.Unrecovered.{IsUnrecovered, KeepsPrefix};
 ghost use Rattle.segments.specs.Sections.{key_of, IsHeld, IsKeyOf, IsOver};
 ghost use Rattle.segments.specs.Refusing.{HasDamage, HasFailed};
 ghost use Rattle.segments.specs.FixedItems.{IsItem};
@@ -139,7 +139,7 @@ impl<A: CodecFixed, S: Seal> Journal<A, S> {
 impl<A: CodecFixed, S: Seal> Replay<A, S> {
     ghost use Rattle.segments.specs.FixedShown.{shown};
     ghost use Rattle.segments.specs.FixedLists.{OwesHeld, OwesSettled, AreSealed, UnopenedLater};
-    ghost use Rattle.segments.specs.FixedReplay.{IsWalk, HasWalk, WalksOver, SameWalk, KeepsBytes, IsLeft, IsDrained, IsAhead, IsIn, first_of, Gives, Refuses, Stops, Replaying, EndsBelow, FindsDamage, kept_bytes};
+    ghost use Rattle.segments.specs.FixedReplay.{IsWalk, HasWalk, WalksOver, SameWalk, KeepsSections, KeepsFloors, KeepsBytes, KeepsItems, IsLeft, IsDrained, IsAhead, IsIn, first_of, Gives, Refuses, Stops, IsCutting, Replaying, LeavesNoMore, EndsBelow, FindsDamage, kept_bytes};
     ghost use Rattle.segments.specs.FixedStepping.{way_of, standing, after_item, ReadsOnce, OnlySections, Touches, IsFlushed, IsCutBack, BeginsOver, EndsAt, Steps};
     ghost use Rattle.segments.specs.FixedWalking.{walk_of, walk_at, place_of};
     ghost use Rattle.sealed_pages.specs.Readers.{reading};
@@ -202,6 +202,12 @@ impl<A: CodecFixed, S: Seal> Replay<A, S> {
         ensures item { D.Tells → (s p : ℕ) (v : A) → result ≡ Some (Ok (s, p, v))
             → Gives S.seal_of A.SIZE A.spelling A.accepted (walk_of self.old) (walk_of self.new) (disk (D.time dev.old)) (disk (D.time dev.new)) s p v }
         ensures going { (s p : ℕ) (v : A) → result ≡ Some (Ok (s, p, v)) → (walk_of self.new).failed ≡ (walk_of self.old).failed }
+        // What an error lost of a section is unopened; without an error none is lost.
+        ensures stays { KeepsSections (walk_of self.old) (walk_of self.new) }
+        ensures known { (result ≡ None) ⊎ ((x : _) × (result ≡ Some (Ok x))) → (s : ℕ) → (walk_of self.new).journal.sections.unopened s ≡ (walk_of self.old).journal.sections.unopened s }
+        // A cut leaves the whole items of a section, no more bytes than before and no fewer than its floor.
+        ensures items { D.Tells → (walk_of self.new).ended ≡ false → KeepsItems S.seal_of A.SIZE (walk_of self.old) (disk (D.time dev.old)) (disk (D.time dev.new)) }
+        ensures floors { KeepsFloors (walk_of self.old) (walk_of self.new) }
         // No section is lost but by an error, and no bytes but by a cut.
         ensures held { (result ≡ None) ⊎ ((x : _) × (result ≡ Some (Ok x))) → (s : ℕ) → IsHeld (walk_of self.new).journal.sections s ↔ IsHeld (walk_of self.old).journal.sections s }
         ensures bytes { KeepsBytes D.Tells (walk_of self.old) (walk_of self.new) (disk (D.time dev.old)) (disk (D.time dev.new)) }
@@ -213,6 +219,11 @@ impl<A: CodecFixed, S: Seal> Replay<A, S> {
         ensures none { D.Tells → result ≡ None → (s p : ℕ) → IsLeft S.seal_of A.SIZE (walk_of self.old) (disk (D.time dev.old)) s p → ⊥ }
         ensures drained { result ≡ None → IsDrained (walk_of self.new) ⊎ ((walk_of self.new).ended ≡ true) }
         ensures whole { result ≡ None → (walk_of self.new).failed ≡ (walk_of self.old).failed }
+        // It never goes back to a section that it has gone over, and may leave no more of a blob than before.
+        ensures onward { (s : ℕ) → IsAhead (walk_of self.new) s ⊎ IsIn (walk_of self.new) s → IsAhead (walk_of self.old) s ⊎ IsIn (walk_of self.old) s }
+        ensures later { (result ≡ None) ⊎ ((x : _) × (result ≡ Some (Ok x))) → D.Tells → LeavesNoMore S.seal_of A.SIZE (walk_of self.old) (walk_of self.new) (disk (D.time dev.old)) (disk (D.time dev.new)) }
+        // A replay that has ended does nothing more.
+        ensures ended { (walk_of self.old).ended ≡ true → (result ≡ None) × (self.new ≡ self.old) × (dev.new ≡ dev.old) }
         // An error ends its section, and one while a section is cut ends the replay.
         ensures failed { (e : _) → result ≡ Some (Err e) → (walk_of self.new).failed ≡ true }
         ensures stops { D.Tells → (e : _) → result ≡ Some (Err e) → Stops S.seal_of A.SIZE (walk_of self.old) (walk_of self.new) (disk (D.time dev.old)) (disk (D.time dev.new)) }
@@ -229,6 +240,8 @@ impl<A: CodecFixed, S: Seal> Replay<A, S> {
         // The replay ends only by a damaged page, where the disk is not told, by a fault or want of memory.
         ensures ends { (walk_of self.new).ended ≡ true → ((walk_of self.old).ended ≡ true)
             ⊎ ((e : _) × (result ≡ Some (Err e)) × ((HasDamage {T = A} (Err e) × (D.Tells → ⊥)) ⊎ HasFailed {T = A} (Err e) (D.faults dev.old) (D.faults dev.new))) }
+        // No error but that of a cut ends it.
+        ensures ends_cut { (walk_of self.new).ended ≡ true → ((walk_of self.old).ended ≡ true) ⊎ IsCutting S.seal_of A.SIZE D.Tells (walk_of self.old) (disk (D.time dev.old)) }
         ensures moments { D.Tells → Always (D.time dev.old) (D.time dev.new) (Each (Replaying S.seal_of A.SIZE (walk_of self.old) (disk (D.time dev.old)))) }
         // Each page is read once, as long as the device and memory serve, and one once more where its section is cut within it.
         ensures once { (result ≡ None) ⊎ ((x : _) × (result ≡ Some (Ok x))) → ReadsOnce (walk_of self.old) (walk_of self.new) (D.opened dev.old) (D.opened dev.new) }
@@ -325,7 +338,8 @@ impl<A: CodecFixed, S: Seal> Replay<A, S> {
             × BeginsOver S.seal_of (key_of (walk_of self.old).journal.sections section) u v (reading r)) }
         ensures moments { D.Tells → (u : _) → (walk_of self.old).journal.sections.held section ≡ Some u → IsSealed S.seal_of (page_blob.shown u) (disk (D.time dev.old) (key_of (walk_of self.old).journal.sections section))
             → Sealing S.seal_of u.page_size (bytes_of (page_blob.shown u) (disk (D.time dev.old) (key_of (walk_of self.old).journal.sections section)).content) u.settled (key_of (walk_of self.old).journal.sections section) (D.time dev.old) (D.time dev.new) }
-        ensures alone { D.Tells → Alone (key_of (walk_of self.old).journal.sections section) (D.time dev.old) (D.time dev.new) }
+        ensures steady { D.Tells → (u : _) → (walk_of self.old).journal.sections.held section ≡ Some u → IsUnrecovered S.seal_of (page_blob.shown u) (disk (D.time dev.old) (key_of (walk_of self.old).journal.sections section))
+            → KeepsPrefix S.seal_of u.page_size (sealed_prefix S.seal_of u.page_size (disk (D.time dev.old) (key_of (walk_of self.old).journal.sections section)).content) (key_of (walk_of self.old).journal.sections section) (D.time dev.old) (D.time dev.new) }
         ensures idle { (u : _) → (walk_of self.old).journal.sections.held section ≡ Some u → u.settled ≡ size_of (page_blob.shown u) → D.time dev.new ≡ D.time dev.old }
         ensures reads { OnOk result (reads_of (D.opened dev.new (key_of (walk_of self.old).journal.sections section)) ≤ reads_of (D.opened dev.old (key_of (walk_of self.old).journal.sections section))) }
         ensures faults { D.faults dev.old ≤ D.faults dev.new }

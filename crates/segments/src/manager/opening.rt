@@ -138,6 +138,8 @@ impl<F: BufferFactory> Manager<F> {
         ensures held { D.Tells → IfOk result (λ r. (s : ℕ) → s < 2 ^ 64 → IsHeld (shown r) s ↔ (IsTrue (disk (D.time dev.old) (section_key (string_bytes cfg.partition) s)).there × (s ≤ ceiling))) }
         ensures unopened { D.Tells → IfOk result (λ r. (s : ℕ) → s < 2 ^ 64 → ((shown r).unopened s ≡ Some Unopened.Section) ↔ (IsTrue (disk (D.time dev.old) (section_key (string_bytes cfg.partition) s)).there × (ceiling < s))) }
         ensures no_leftover { IfOk result (λ r. (s : ℕ) → (shown r).unopened s ≢ Some Unopened.Leftover) }
+        // What is known and not held stands above the bound, also where the disk is not told.
+        ensures later { IfOk result (λ r. (s : ℕ) → IsSome ((shown r).unopened s) → ceiling < s) }
         ensures bytes { D.Tells → IfOk result (λ r. (s : ℕ) (u : _) → (shown r).held s ≡ Some u
             → F.Buffer.bytes u (disk (D.time dev.new) (section_key (string_bytes cfg.partition) s)).content ≡ F.Buffer.holds (F.gives cfg.factory) (disk (D.time dev.old) (section_key (string_bytes cfg.partition) s)).content) }
         ensures idle { IfOk result (λ r. (s : ℕ) (u : _) → (shown r).held s ≡ Some u → F.Buffer.unsettled u ≡ false) }

@@ -8,11 +8,12 @@ use Rattle.sealed_pages.proofs.EntryLemmas.{only_read_of}
 use Rattle.sealed_pages.proofs.Looking.{unchanged_now}
 use Rattle.segments.specs.declared.journal.Error.TheVariants.{ItemOutOfRange}
 use Rattle.segments.specs.FixedItems.{item_at}
-use Rattle.segments.specs.FixedReading.{HasItem, IsItemCovered}
+use Rattle.segments.specs.FixedReading.{HasItem, IsDamaged, IsItemCovered}
+use Rattle.segments.specs.FixedShown as lists
 use Rattle.segments.specs.Managed.{shown}
 use Rattle.segments.specs.Sections.{key_of}
 use Rattle.segments.proofs.FixedErrors.{of_error}
-use Rattle.segments.proofs.FixedSections.{some_here, from_here, bytes_own, own_here, journal_read, reads_as}
+use Rattle.segments.proofs.FixedSections.{some_here, from_here, bytes_own, own_here, journal_read, reads_as, sound_page}
 use Rattle.segments.proofs.fixed.Journal.get_many.Goals as goal
 
 pub returns-in_err-check_positions-clause-first : goal.returns-in_err-check_positions-clause-first
@@ -38,6 +39,15 @@ returns-clause-checked g c t =
     (own_here m c.args.section u held (c.requires.over.over.opened_list.key c.args.section u held)
     (λ v b. (p : ℕ) → Contains c.args.positions.now p → IsItemCovered g.A.CodecFixed.SIZE g.S.Seal.seal_of v b.content p) (disk (g.D.Device.time c.args.dev.now)))
     (c.read_each.ensures.checked t)
+
+pub returns-clause-sound : goal.returns-clause-sound
+returns-clause-sound g c t which k is =
+    let m = shown c.args.self.now.manager in
+    let u = c.in_ok-buffer.buffer.now in
+    let held = c.in_ok-buffer.ensures.held in
+    let page = c.read_each.ensures.damaged t k is in
+    sound_page _ _ g.S.Seal.seal_of g.A.CodecFixed.SIZE g.D.Device.Tells (lists.shown c.args.self.now) _ (disk (g.D.Device.time c.args.dev.now)) c.requires.over t c.args.section (λ v. page.0) k which
+    (own_here m c.args.section u held (c.requires.over.over.opened_list.key c.args.section u held) (λ v b. IsDamaged g.A.CodecFixed.SIZE g.S.Seal.seal_of v b.content page.0 k) (disk (g.D.Device.time c.args.dev.now)) page.2)
 
 pub returns-clause-refused : goal.returns-clause-refused
 returns-clause-refused g c t e is =

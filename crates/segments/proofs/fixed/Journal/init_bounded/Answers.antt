@@ -1,4 +1,4 @@
-use Rattle.std.proofs.Common.{◌≡◌, ◌↔◌, ◌+◌, ◌^◌, ◌<◌, ◌≤◌, ◌%◌, ℕ, List, Some, Err, IsTrue, sym, ◌∙◌, ap, subst, arith}
+use Rattle.std.proofs.Common.{◌≡◌, ◌↔◌, ◌+◌, ◌^◌, ◌<◌, ◌≤◌, ◌%◌, ℕ, List, Some, Err, IsTrue, ◌∙◌, ap, subst, arith}
 use Rattle.std.specs.Prelude.{string_bytes}
 use Rattle.std.specs.BTreeSet.{contains}
 use Rattle.std.specs.Ordering.{nat_cmp}
@@ -74,12 +74,15 @@ pub returns-clause-over : goal.returns-clause-over
 returns-clause-over g c =
     let m = shown c.in_ok-manager.manager in
     let pages = are_pages g.row.S g.S.Seal g.S.Seal-dict in
-    let none : (s : ℕ) → floor_in c.new-2.result s ≡ 0 = no_floor c.new-2.result c.new-2.ensures.empty in
+    let none : (s : ℕ) → floor_in c.new-floors.result s ≡ 0 = no_floor c.new-floors.result c.new-floors.ensures.empty in
     opened_journal g.S.Seal.seal_of g.A.CodecFixed.SIZE g.D.Device.Tells _ pages _ m (g.D.Device.opened c.init_bounded.new.dev) (disk (g.D.Device.time c.init_bounded.new.dev)) c.in_ok-manager.ensures.over
-    (contains nat_cmp c.in_ok-unrecovered.unrecovered) (floor_in c.new-2.result) c.in_ok-manager.ensures.idle (λ s. subst (λ (n : ℕ). IsTrue (contains nat_cmp c.in_ok-unrecovered.unrecovered s) ↔ (n < section_size m s)) (sym (none s)) (c.in_ok-unrecovered.ensures.filled s))
+    (contains nat_cmp c.in_ok-unrecovered.unrecovered) (floor_in c.new-floors.result) c.in_ok-manager.ensures.idle c.in_ok-unrecovered.ensures.longer
     (λ s. omega (arith, none s)) (λ s. ap (λ (n : ℕ). n % g.A.CodecFixed.SIZE) (none s) ∙ no_rest g.A.CodecFixed.SIZE)
     (λ t. above_ceiling g.S.Seal.seal_of g.A.CodecFixed.SIZE g.D.Device.Tells _ pages _ m (g.D.Device.opened c.init_bounded.new.dev) (disk (g.D.Device.time c.init_bounded.new.dev)) c.in_ok-manager.ensures.over
     (λ s. IsTrue (disk (g.D.Device.time c.args.dev.now) (section_key (string_bytes c.in_ok-clone.field-0) s)).there) c.in_ok-manager.ensures.no_leftover c.args.ceiling c.in_ok-manager.ensures.ceiling (c.in_ok-manager.ensures.unopened t))
 
 pub returns-clause-floors : goal.returns-clause-floors
-returns-clause-floors g c = no_floor c.new-2.result c.new-2.ensures.empty
+returns-clause-floors g c = no_floor c.new-floors.result c.new-floors.ensures.empty
+
+pub returns-clause-unrecovered : goal.returns-clause-unrecovered
+returns-clause-unrecovered g c s = subst (λ (n : ℕ). IsTrue (contains nat_cmp c.in_ok-unrecovered.unrecovered s) ↔ (n < section_size (shown c.in_ok-manager.manager) s)) (no_floor c.new-floors.result c.new-floors.ensures.empty s) (c.in_ok-unrecovered.ensures.longer s)

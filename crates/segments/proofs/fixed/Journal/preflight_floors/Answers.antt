@@ -1,7 +1,6 @@
-use Rattle.std.proofs.Common.{Bool, ◌≡◌, ◌≢◌, ◌∙◌, ◌↔◌, ◌<◌, ◌≤◌, ◌*◌, ◌^◌, ◌+◌, ℕ, List, Err, Option, Some, None, IsSome, IsTrue, inl, inr, map, refl, sym, ap, subst, arith}
+use Rattle.std.proofs.Common.{Bool, ◌≡◌, ◌∙◌, ◌↔◌, ◌≤◌, ◌^◌, ◌+◌, ℕ, List, Err, Some, None, IsSome, IsTrue, inl, inr, map, refl, sym, ap, subst, arith}
 use Rattle.std.specs.Prelude.{string_bytes}
-use Rattle.std.specs.BTreeMap.{get, BTreeMap}
-use Rattle.std.specs.BTreeSet.{contains}
+use Rattle.std.specs.BTreeMap.{get}
 use Rattle.std.specs.Map.Iter.{deref_pair}
 use Rattle.std.specs.Map.{keys_of}
 use Rattle.std.specs.List.{Contains}
@@ -10,7 +9,6 @@ use Rattle.std.proofs.lemmas.Cmp.{nat_cmp_total, eq_by_cmp_equiv}
 use Rattle.std.proofs.lemmas.Map.Iter.{btree_map_turn, iter_end}
 use Rattle.std.proofs.lemmas.Map.Views.{Contains-keys_from_lookup, IsSome-lookup_from_Contains}
 use Rattle.blob_device.specs.Timeline.{disk}
-use Rattle.blob_device.proofs.Results.{err_of}
 use Rattle.segments.specs.declared.journal.Error.TheVariants.{Corruption, Codec, InvalidBlobName, Runtime}
 use Rattle.blob_device.specs.declared.runtime.RError.TheVariants.{OffsetOverflow}
 use Rattle.sealed_pages.specs.declared.pages.Pages.{Pages}
@@ -22,7 +20,7 @@ use Rattle.segments.proofs.TurnLemmas.{had_turn}
 use Rattle.segments.proofs.WalkLemmas.{none_or_value}
 use Rattle.segments.proofs.FixedErrors.{of_error}
 use Rattle.segments.proofs.InitLemmas.{settling_unchanged}
-use Rattle.segments.proofs.FixedFloorLemmas.{Checked, Settled, checked_none, checked_more, settled_more, within, there_asked, marker_refused, marker_codec, none_refused, last_taken}
+use Rattle.segments.proofs.FixedFloorLemmas.{Checked, checked_none, checked_more, settled_more, within, there_asked, marker_refused, marker_codec, none_refused, last_taken}
 use Rattle.segments.proofs.fixed.Journal.preflight_floors.Goals as goal
 
 pub loop-section-init : goal.loop-section-init
@@ -222,6 +220,9 @@ returns-in_err-found-clause-refused g c t e bad =
     let done = c.loop-section.invariant.checked in
     let settled = c.loop-section.invariant.settled in
     marker_codec seal size g.A.Codec.spelling g.A.Codec.accepted told place pages c.args.cfg.now.write_buffer c.args.ceiling marks from keys f done s n is now (settled.moments t) g.A.Codec.refusal e (c.in_err-found.ensures.refused t e (ap Err (of_error c.from_residual-in_err-found.result c.in_err-found.field-0.0 (Codec e) c.from_residual-in_err-found.ensures.1 bad)))
+    (λ q m before at. last_taken seal size g.A.Codec.spelling g.A.Codec.accepted told place pages c.args.cfg.now.write_buffer c.args.ceiling marks from keys f done t q m
+    (had_turn c.loop-section.yielded c.into_iter-section-iterator.result c.loop-section.section-iterator c.next.new.self c.next.result (c.in-Some.section, c.in-Some.items) c.loop-section.yielded_by c.in-Some.is c.next.ensures.steps c.args.floors.now
+    c.into_iter-section-iterator.ensures.into_iter_gives.0 c.into_iter-section-iterator.ensures.into_iter_gives.5 q (subst IsSome (sym at) refl) before) at)
 
 pub returns-clause-floors : goal.returns-clause-floors
 returns-clause-floors g c s n is =
@@ -357,8 +358,11 @@ pub returns-in_err-found-clause-overflow : goal.returns-in_err-found-clause-over
 returns-in_err-found-clause-overflow g c is =
     let same : c.in_err-found.field-0.0 ≡ Runtime OffsetOverflow = of_error c.from_residual-in_err-found.result c.in_err-found.field-0.0 (Runtime OffsetOverflow) c.from_residual-in_err-found.ensures.1 is in
     let done = c.loop-section.invariant.checked in
-    let s = c.in-Some.section.now in (
+    let s = c.in-Some.section.now in
+    let is_marked : get nat_cmp c.args.floors.now s ≡ Some c.in-Some.items.now = (btree_map_turn deref_pair c.loop-section.yielded c.into_iter-section-iterator.result c.loop-section.section-iterator c.next.new.self c.next.result (c.in-Some.section, c.in-Some.items) c.loop-section.yielded_by c.in-Some.is c.next.ensures.steps nat_cmp_total c.args.floors.now
+    c.into_iter-section-iterator.ensures.into_iter_gives.0 c.into_iter-section-iterator.ensures.into_iter_gives.5).1 in (
       s,
+      subst IsSome (sym is_marked) refl,
       subst (λ (p : List ℕ). IsOpenedTooLong (λ n. 2 ^ 64 ≤ n + (c.args.cfg.now.pages.page_size + 12)) (g.D.Device.opened c.checked.new.dev) (section_key p s)) done.place
           (subst (λ (p : Pages). IsOpenedTooLong (λ n. 2 ^ 64 ≤ n + (p.page_size + 12)) (g.D.Device.opened c.checked.new.dev) (section_key (shown c.loop-section.found).partition s)) done.paging (c.in_err-found.ensures.overflow (ap Err same))),
     )

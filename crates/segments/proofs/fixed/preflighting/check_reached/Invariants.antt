@@ -1,4 +1,4 @@
-use Rattle.std.proofs.Common.{ℕ, ◌≤◌, ◌⊎◌}
+use Rattle.std.proofs.Common.{ℕ, ◌≤◌}
 use Rattle.std.specs.List.{Contains}
 use Rattle.segments.specs.FixedLists.{floor_in, section_size}
 use Rattle.segments.specs.Managed.{shown}

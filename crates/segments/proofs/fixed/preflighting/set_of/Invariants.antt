@@ -1,4 +1,4 @@
-use Rattle.std.proofs.Common.{◌≡◌, ◌<◌, ℕ, true, get_or, IsTrue}
+use Rattle.std.proofs.Common.{◌<◌, ℕ, get_or, IsTrue}
 use Rattle.std.specs.BTreeSet.{contains}
 use Rattle.std.specs.List.{Contains}
 use Rattle.std.specs.Ordering.{nat_cmp}

@@ -1,4 +1,4 @@
-use Rattle.std.proofs.Common.{◌≡◌, ◌<◌, ◌^◌, ℕ, List, sym, subst}
+use Rattle.std.proofs.Common.{◌<◌, ◌^◌, ℕ, List, sym, subst}
 use Rattle.std.specs.Prelude.{◌↔◌, IsTrue}
 use Rattle.std.specs.BTreeSet.{contains}
 use Rattle.std.specs.List.{Contains}

@@ -1,5 +1,5 @@
 use Rattle.std.proofs.Common.{◌≡◌, ◌≢◌, ◌<◌, ◌≤◌, ◌^◌, inr, ℕ, List, Some, sym, ◌∙◌, ap, subst, arith}
-use Rattle.std.specs.Prelude.{◌↔◌, IsTrue, string_bytes}
+use Rattle.std.specs.Prelude.{◌↔◌, IsTrue, IsSome, string_bytes}
 use Rattle.std.specs.List.{Contains}
 use Rattle.std.specs.Option.{is_some}
 use Rattle.std.proofs.lemmas.Result.{IfOk-weaker}
@@ -11,7 +11,7 @@ use Rattle.segments.specs.declared.unopened.Unopened.TheVariants.{Section, Lefto
 use Rattle.segments.specs.Lasting.{IsSettling}
 use Rattle.segments.specs.Managed.{shown}
 use Rattle.segments.specs.Sections.{section_key, key_of, IsHeld}
-use Rattle.segments.proofs.InitLemmas.{Opened, settling_unchanged, settling_after, found_as, found_over, opened_as, listed_there, there_listed, none_foreign, held_exactly, unopened_exactly, none_leftover, bytes_as}
+use Rattle.segments.proofs.InitLemmas.{Opened, settling_unchanged, settling_after, found_as, found_over, opened_as, listed_there, there_listed, none_foreign, held_exactly, unopened_exactly, unopened_above, none_leftover, bytes_as}
 use Rattle.segments.proofs.manager.Manager.init_bounded.Goals as goal
 
 pub returns-in_err-names-clause-moments : goal.returns-in_err-names-clause-moments
@@ -75,6 +75,14 @@ returns-clause-no_leftover g c =
     let found = found_as c.in_ok-numbers.numbers.items c.as_slice.result.now c.as_slice.ensures.value (shown c.in_ok-this.this) c.in_ok-this.ensures.held c.in_ok-this.ensures.unopened c.in_ok-this.ensures.others in
     IfOk-weaker c.open_each.result (λ v. Opened c.in_ok-numbers.numbers.items (shown c.in_ok-this.this) found (shown v)) (λ v. (s : ℕ) → (shown v).unopened s ≢ Some Leftover)
     (λ v opened. none_leftover c.in_ok-numbers.numbers.items (shown c.in_ok-this.this) found (shown v) opened)
+    (opened_as c.in_ok-numbers.numbers.items c.as_slice-2.result.now c.as_slice-2.ensures.value (shown c.in_ok-this.this) g.F.Buffer.SectionBuffer g.F.BufferFactory.gives g.D.Device.Tells found (g.D.Device.opened c.open_each.new.dev) (disk (g.D.Device.time c.open_each.new.dev)) c.open_each.result (λ v. shown v)
+    c.open_each.ensures.held c.open_each.ensures.passed c.open_each.ensures.over)
+
+pub returns-clause-later : goal.returns-clause-later
+returns-clause-later g c =
+    let found = found_as c.in_ok-numbers.numbers.items c.as_slice.result.now c.as_slice.ensures.value (shown c.in_ok-this.this) c.in_ok-this.ensures.held c.in_ok-this.ensures.unopened c.in_ok-this.ensures.others in
+    IfOk-weaker c.open_each.result (λ v. Opened c.in_ok-numbers.numbers.items (shown c.in_ok-this.this) found (shown v)) (λ v. (s : ℕ) → IsSome ((shown v).unopened s) → c.args.ceiling < s)
+    (λ v opened s some. omega (arith, (unopened_above c.in_ok-numbers.numbers.items (shown c.in_ok-this.this) found (shown v) opened s some).1, c.in_ok-this.ensures.ceiling))
     (opened_as c.in_ok-numbers.numbers.items c.as_slice-2.result.now c.as_slice-2.ensures.value (shown c.in_ok-this.this) g.F.Buffer.SectionBuffer g.F.BufferFactory.gives g.D.Device.Tells found (g.D.Device.opened c.open_each.new.dev) (disk (g.D.Device.time c.open_each.new.dev)) c.open_each.result (λ v. shown v)
     c.open_each.ensures.held c.open_each.ensures.passed c.open_each.ensures.over)
 

@@ -1,4 +1,4 @@
-use Rattle.std.proofs.Common.{◌≡◌, ◌*◌, ℕ, Err, false, inl, inr, refl, ap, subst, rules}
+use Rattle.std.proofs.Common.{◌≡◌, Err, false, inl, inr, refl, ap, subst, rules}
 use Rattle.std.specs.Prelude.{string_bytes}
 use Rattle.blob_device.specs.Timeline.{disk}
 use Rattle.segments.specs.declared.journal.Damage.{Damage}

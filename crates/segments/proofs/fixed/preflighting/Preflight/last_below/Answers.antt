@@ -1,9 +1,8 @@
-use Rattle.std.proofs.Common.{◌≡◌, ◌⊎◌, ◌-◌, ◌*◌, ℕ, List, Err, inl, inr, sym, ◌∙◌, ap, subst, arith, rules}
+use Rattle.std.proofs.Common.{◌⊎◌, ◌-◌, ◌*◌, ℕ, List, inl, inr, sym, subst}
 use Rattle.std.specs.Prelude.{string_bytes}
-use Rattle.blob_device.specs.Timeline.{disk}
 use Rattle.sealed_pages.specs.Reads.{IsShort, PassesSize}
 use Rattle.segments.specs.Sections.{section_key}
-use Rattle.segments.proofs.FixedFloorLemmas.{settles_start, settles_content, settles_there, settles_on, own_then, unsealed_same, raised_other}
+use Rattle.segments.proofs.FixedFloorLemmas.{settles_start, settles_content, settles_there, settles_on}
 use Rattle.segments.proofs.fixed.preflighting.Preflight.last_below.Goals as goal
 
 pub returns-in_err-bytes-clause-settles : goal.returns-in_err-bytes-clause-settles

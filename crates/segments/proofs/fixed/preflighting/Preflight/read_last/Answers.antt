@@ -1,7 +1,5 @@
-use Rattle.std.proofs.Common.{◌≡◌, ◌-◌, ◌*◌, ◌≤◌, ◌^◌, ℕ, List, length, ap, subst, sym, ◌∙◌, arith}
-use Rattle.std.specs.Prelude.{string_bytes, IsSome}
-use Rattle.std.specs.Int.{w64, to_be_bytes}
-use Rattle.blob_device.specs.Disk.{Key}
+use Rattle.std.proofs.Common.{◌≡◌, ◌-◌, ◌*◌, ℕ, List, length, ap, subst, ◌∙◌, arith}
+use Rattle.std.specs.Prelude.{string_bytes}
 use Rattle.blob_device.specs.Timeline.{disk}
 use Rattle.blob_device.proofs.Results.{on_ok}
 use Rattle.sealed_pages.specs.Reads.{IsCovered, IsShort, PassesSize}

@@ -1,4 +1,4 @@
-use Rattle.std.proofs.Common.{◌≡◌, ◌*◌, ℕ, refl, ◌∙◌, ap, subst, arith}
+use Rattle.std.proofs.Common.{◌≡◌, ◌*◌, ℕ, refl, ap, subst, arith}
 use Rattle.std.specs.Prelude.{string_bytes}
 use Rattle.blob_device.specs.Timeline.{disk}
 use Rattle.segments.specs.declared.journal.Damage.{Damage}

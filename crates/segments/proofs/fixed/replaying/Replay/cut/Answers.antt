@@ -13,6 +13,7 @@ use Rattle.sealed_pages.specs.Unrecovered.{IsAdopted, IsSafeCut}
 use Rattle.sealed_pages.specs.SealedPrefix.{sealed_prefix}
 use Rattle.sealed_pages.proofs.Holding.{fit_size}
 use Rattle.segments.specs.Managed as manager
+use Rattle.segments.specs.Sealed.{Stands}
 use Rattle.segments.specs.Sections as sections
 use Rattle.segments.specs.FixedWalking.{walk_of}
 use Rattle.segments.proofs.FixedBuffers.{cut_at, no_cut_moments, cut_moved}
@@ -208,7 +209,7 @@ returns-clause-touches g c =
     let within : count ≤ size_of (shown bu) = subst (λ (x : PageBlob g.row.S.Denot g.S.Seal). count ≤ size_of (shown x)) (sym is) (omega (arith, size, c.requires.within mine.0 mine.1)) in
     let put = c.in_ok-put.ensures.put in
     let cut = cut_at g.S.Seal.seal_of g.D.Device.Tells bu c.in_ok-buffer-2.buffer K a0 b c.in_ok-buffer.ensures.key count settled within e.page_size e.size e.settled (λ past. (e.same past, ap g.D.Device.time (c.truncate.ensures.unchanged past)))
-    (λ t. subst (λ (k : Key). IsAdopted g.S.Seal.seal_of (shown bu) (disk a0 k)) (sym c.in_ok-buffer.ensures.key) (c.in_ok-buffer.ensures.stands t).adopted)
+    (λ t. subst (λ (k : Key). Stands g.S.Seal.seal_of (shown bu) (disk a0 k)) (sym c.in_ok-buffer.ensures.key) (c.in_ok-buffer.ensures.stands t)) e.rests
     (λ t. moved_back bu mine.0 is K a0 a times c.in_ok-buffer.ensures.key (λ (x : PageBlob g.row.S.Denot g.S.Seal) (k : Key) (s : Timeline). count ≤ length (sealed_prefix g.S.Seal.seal_of x.page_size (disk s k).content)) (omega (arith, size, c.requires.prefix t mine.0 mine.1)))
     e.sealed e.recovered e.prefix_again e.again in
     touch_back _ _ m q c.args.section mine.0 mine.1 (g.D.Device.opened c.args.dev.now) (g.D.Device.opened c.truncate.new.dev) a b c.requires.over
@@ -240,7 +241,7 @@ returns-clause-cut g c u v held held_new =
     let at = same_some (q.held c.args.section) c.in_ok-buffer-2.buffer v c.in_ok-put.ensures.put.here held_new in
     cut_back_moved bu u (c.in_ok-buffer.ensures.same u held) K a0 a times c.in_ok-buffer.ensures.key g.S.Seal.seal_of g.D.Device.Tells c.in_ok-buffer-2.buffer v b count (c.args.count * g.A.CodecFixed.SIZE) at size
     (cut_at g.S.Seal.seal_of g.D.Device.Tells bu c.in_ok-buffer-2.buffer K a0 b c.in_ok-buffer.ensures.key count settled within e.page_size e.size e.settled (λ past. (e.same past, ap g.D.Device.time (c.truncate.ensures.unchanged past)))
-    (λ t. subst (λ (k : Key). IsAdopted g.S.Seal.seal_of (shown bu) (disk a0 k)) (sym c.in_ok-buffer.ensures.key) (c.in_ok-buffer.ensures.stands t).adopted)
+    (λ t. subst (λ (k : Key). Stands g.S.Seal.seal_of (shown bu) (disk a0 k)) (sym c.in_ok-buffer.ensures.key) (c.in_ok-buffer.ensures.stands t)) e.rests
     (λ t. moved_back bu mine.0 is K a0 a times c.in_ok-buffer.ensures.key (λ (x : PageBlob g.row.S.Denot g.S.Seal) (k : Key) (s : Timeline). count ≤ length (sealed_prefix g.S.Seal.seal_of x.page_size (disk s k).content)) (omega (arith, size, c.requires.prefix t mine.0 mine.1)))
     e.sealed e.recovered e.prefix_again e.again)
 

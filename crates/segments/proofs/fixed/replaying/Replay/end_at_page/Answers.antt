@@ -1,5 +1,5 @@
 -- A damaged page is answered, or the section is cut before it.
-use Rattle.std.specs.Prelude.{◌≡◌, ℕ, Bool, true, false, IsTrue}
+use Rattle.std.specs.Prelude.{◌≡◌, ℕ, Bool, true, IsTrue}
 use Rattle.std.proofs.Common.{inl, inr, refl, sym, ◌∙◌, subst, arith}
 use Rattle.blob_device.specs.Timeline.{disk}
 use Rattle.segments.specs.FixedReplay.{FindsDamage}

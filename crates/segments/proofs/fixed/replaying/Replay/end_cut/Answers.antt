@@ -25,7 +25,8 @@ returns-in_err-check_floor g c =
     let below = c.in_err-check_floor.ensures.below cause.0 cause.1 in
     let is : c.from_residual.result ≡ Err (Corruption cause.0) = (let at = p.1 in let same = p.2 in let refused = cause.1 in cc (at, same, refused)) in
     rw is (floor_refused g.S.Seal.seal_of g.A.CodecFixed.SIZE _ _ (walk_of c.args.self.now) (place_of c.args.reading) _ (g.D.Device.time c.args.dev.now) c.requires.over g.A.Codec.spelling g.A.Codec.accepted g.A.Codec.refusal c.requires.between _ _ (omega arith) cause.0
-    (λ t. ends_below g.S.Seal.seal_of g.A.CodecFixed.SIZE (walk_of c.args.self.now) (place_of c.args.reading) (disk (g.D.Device.time c.args.dev.now)) cause.0 below.0 below.1 below.2 below.3 c.requires.owed (c.requires.last t)) below.0)
+    (λ t. ends_below g.S.Seal.seal_of g.A.CodecFixed.SIZE (walk_of c.args.self.now) (place_of c.args.reading) (disk (g.D.Device.time c.args.dev.now)) cause.0 below.0 below.1 below.2 below.3 c.requires.owed
+    (reached_here g.S.Seal.seal_of g.A.CodecFixed.SIZE _ _ (walk_of c.args.self.now) (place_of c.args.reading) _ (g.D.Device.time c.args.dev.now) c.requires.over).held (c.requires.last t)) below.0)
 
 pub cut-requires-clause-over : goal.cut-requires-clause-over
 cut-requires-clause-over g c = c.requires.over.over

@@ -8,16 +8,17 @@ use Rattle.sealed_pages.specs.declared.page_blob.PageBlob.{PageBlob}
 use Rattle.sealed_pages.specs.Buffer.{key_of, size_of, flushed_of, bytes_of, IsSealed}
 use Rattle.sealed_pages.specs.ChanceSeal.{Sealing}
 use Rattle.sealed_pages.specs.Entries.{IsOpenAt}
-use Rattle.sealed_pages.specs.Flushing.{Alone}
+use Rattle.sealed_pages.specs.SealedPrefix.{sealed_prefix}
 use Rattle.sealed_pages.specs.Shown.{shown}
+use Rattle.sealed_pages.specs.Unrecovered.{IsUnrecovered, KeepsPrefix}
 use Rattle.sealed_pages.proofs.Holding.{holds_start}
-use Rattle.sealed_pages.proofs.PageCalls.{alone_start}
 use Rattle.sealed_pages.proofs.Truncating.{all_flushed}
 use Rattle.segments.specs.Managed as manager
 use Rattle.segments.specs.Sections as sections
 use Rattle.segments.specs.FixedWalking.{walk_of}
+use Rattle.segments.proofs.FixedAppendLemmas.{steady_start}
 use Rattle.segments.proofs.FixedBuffers.{flushed_at}
-use Rattle.segments.proofs.FixedCalls.{bounds_then, same_then, own_entries, moved, alone_blobs, alone_moved, flush_stands, flushed_moved, begins_moved, open_at}
+use Rattle.segments.proofs.FixedCalls.{bounds_then, same_then, own_entries, moved, alone_blobs, flush_stands, flushed_moved, begins_moved, open_at}
 use Rattle.segments.proofs.FixedCounts.{no_reads}
 use Rattle.segments.proofs.FixedErrorSteps.{raised_failed}
 use Rattle.segments.proofs.FixedTouching.{touch_out, touch_back}
@@ -180,7 +181,7 @@ returns-clause-flushed g c u v held held_new =
     let e = c.in_ok-buffer-2.ensures in
     let at = same_some (q.held c.args.section) c.in_ok-buffer-2.buffer v c.in_ok-put.ensures.put.here held_new in (
       flushed_moved bu u (c.in_ok-buffer.ensures.same u held) K (g.D.Device.time c.take.new.dev) (g.D.Device.time c.args.dev.now) times c.in_ok-buffer.ensures.key g.S.Seal.seal_of g.D.Device.Tells c.in_ok-buffer-2.buffer v (g.D.Device.time c.replay.new.dev) at
-          (flushed_at g.S.Seal.seal_of g.D.Device.Tells bu c.in_ok-buffer-2.buffer K (g.D.Device.time c.take.new.dev) (g.D.Device.time c.replay.new.dev) c.in_ok-buffer.ensures.key e.page_size e.size e.settled e.flushed e.sealed e.bytes (λ t. (c.in_ok-buffer.ensures.stands t).adopted)),
+          (flushed_at g.S.Seal.seal_of g.D.Device.Tells bu c.in_ok-buffer-2.buffer K (g.D.Device.time c.take.new.dev) (g.D.Device.time c.replay.new.dev) c.in_ok-buffer.ensures.key e.page_size e.size e.settled e.flushed e.sealed e.unrecovered c.replay.ensures.steady e.bytes (λ t. (c.in_ok-buffer.ensures.stands t).adopted)),
       begins_moved bu u (c.in_ok-buffer.ensures.same u held) K (g.D.Device.time c.take.new.dev) (g.D.Device.time c.args.dev.now) times c.in_ok-buffer.ensures.key g.S.Seal.seal_of c.in_ok-buffer-2.buffer v _ at
           (record { key = e.over.0 ∙ c.in_ok-buffer.ensures.key; page_size = e.over.1; end = e.over.2; size = e.begins.1; at = e.begins.0; replays = e.replays }),
     )
@@ -201,24 +202,27 @@ pub returns-clause-reads : goal.returns-clause-reads
 returns-clause-reads g c = no_reads (key_of (shown c.in_ok-buffer.buffer)) (sections.key_of (walk_of c.args.self.now).journal.sections c.args.section) (g.D.Device.opened c.args.dev.now) (g.D.Device.opened c.take.new.dev) (g.D.Device.opened c.replay.new.dev)
     c.in_ok-buffer.ensures.key (ap g.D.Device.opened (c.take.ensures.untouched c.requires.held)) c.replay.ensures.entries
 
-pub returns-in_err-buffer-clause-alone : goal.returns-in_err-buffer-clause-alone
-returns-in_err-buffer-clause-alone g c t = subst (Alone (sections.key_of (walk_of c.args.self.now).journal.sections c.args.section) (g.D.Device.time c.args.dev.now)) (sym (ap g.D.Device.time (c.take.ensures.untouched c.requires.held)))
-    (alone_start (g.D.Device.time c.args.dev.now) (sections.key_of (walk_of c.args.self.now).journal.sections c.args.section))
+pub returns-in_err-buffer-clause-steady : goal.returns-in_err-buffer-clause-steady
+returns-in_err-buffer-clause-steady g c t u held un =
+    let K = sections.key_of (walk_of c.args.self.now).journal.sections c.args.section in
+    let a = g.D.Device.time c.args.dev.now in
+    subst (λ (x : Timeline). KeepsPrefix g.S.Seal.seal_of u.page_size (sealed_prefix g.S.Seal.seal_of u.page_size (disk a K).content) K a x) (sym (ap g.D.Device.time (c.take.ensures.untouched c.requires.held)))
+    (steady_start g.S.Seal.seal_of (shown u) K a u.fit.begun un)
 
-pub returns-in_err-buffer-2-clause-alone : goal.returns-in_err-buffer-2-clause-alone
-returns-in_err-buffer-2-clause-alone g c t =
-    let u = some_of ((walk_of c.args.self.now).journal.sections.held c.args.section) c.requires.held in
-    alone_moved c.in_ok-buffer.buffer u.0 (c.in_ok-buffer.ensures.same u.0 u.1) (sections.key_of (walk_of c.args.self.now).journal.sections c.args.section) (g.D.Device.time c.take.new.dev) (g.D.Device.time c.args.dev.now) (ap g.D.Device.time (c.take.ensures.untouched c.requires.held)) c.in_ok-buffer.ensures.key
-    g.S.Seal.seal_of (g.D.Device.time c.replay.new.dev) (c.in_ok-buffer.ensures.stands t) (c.replay.ensures.alone t)
+pub returns-in_err-buffer-2-clause-steady : goal.returns-in_err-buffer-2-clause-steady
+returns-in_err-buffer-2-clause-steady g c t u held un =
+    let K = sections.key_of (walk_of c.args.self.now).journal.sections c.args.section in
+    moved c.in_ok-buffer.buffer u (c.in_ok-buffer.ensures.same u held) K (g.D.Device.time c.take.new.dev) (g.D.Device.time c.args.dev.now) (ap g.D.Device.time (c.take.ensures.untouched c.requires.held)) c.in_ok-buffer.ensures.key
+    (λ (x : PageBlob g.row.S.Denot g.S.Seal) (k : Key) (s : Timeline). IsUnrecovered g.S.Seal.seal_of (shown x) (disk s k) → KeepsPrefix g.S.Seal.seal_of x.page_size (sealed_prefix g.S.Seal.seal_of x.page_size (disk s k).content) k s (g.D.Device.time c.replay.new.dev)) (c.replay.ensures.steady t) un
 
-pub returns-in_err-put-clause-alone : goal.returns-in_err-put-clause-alone
-returns-in_err-put-clause-alone g c t =
-    let u = some_of ((walk_of c.args.self.now).journal.sections.held c.args.section) c.requires.held in
-    alone_moved c.in_ok-buffer.buffer u.0 (c.in_ok-buffer.ensures.same u.0 u.1) (sections.key_of (walk_of c.args.self.now).journal.sections c.args.section) (g.D.Device.time c.take.new.dev) (g.D.Device.time c.args.dev.now) (ap g.D.Device.time (c.take.ensures.untouched c.requires.held)) c.in_ok-buffer.ensures.key
-    g.S.Seal.seal_of (g.D.Device.time c.replay.new.dev) (c.in_ok-buffer.ensures.stands t) (c.replay.ensures.alone t)
+pub returns-in_err-put-clause-steady : goal.returns-in_err-put-clause-steady
+returns-in_err-put-clause-steady g c t u held un =
+    let K = sections.key_of (walk_of c.args.self.now).journal.sections c.args.section in
+    moved c.in_ok-buffer.buffer u (c.in_ok-buffer.ensures.same u held) K (g.D.Device.time c.take.new.dev) (g.D.Device.time c.args.dev.now) (ap g.D.Device.time (c.take.ensures.untouched c.requires.held)) c.in_ok-buffer.ensures.key
+    (λ (x : PageBlob g.row.S.Denot g.S.Seal) (k : Key) (s : Timeline). IsUnrecovered g.S.Seal.seal_of (shown x) (disk s k) → KeepsPrefix g.S.Seal.seal_of x.page_size (sealed_prefix g.S.Seal.seal_of x.page_size (disk s k).content) k s (g.D.Device.time c.replay.new.dev)) (c.replay.ensures.steady t) un
 
-pub returns-clause-alone : goal.returns-clause-alone
-returns-clause-alone g c t =
-    let u = some_of ((walk_of c.args.self.now).journal.sections.held c.args.section) c.requires.held in
-    alone_moved c.in_ok-buffer.buffer u.0 (c.in_ok-buffer.ensures.same u.0 u.1) (sections.key_of (walk_of c.args.self.now).journal.sections c.args.section) (g.D.Device.time c.take.new.dev) (g.D.Device.time c.args.dev.now) (ap g.D.Device.time (c.take.ensures.untouched c.requires.held)) c.in_ok-buffer.ensures.key
-    g.S.Seal.seal_of (g.D.Device.time c.replay.new.dev) (c.in_ok-buffer.ensures.stands t) (c.replay.ensures.alone t)
+pub returns-clause-steady : goal.returns-clause-steady
+returns-clause-steady g c t u held un =
+    let K = sections.key_of (walk_of c.args.self.now).journal.sections c.args.section in
+    moved c.in_ok-buffer.buffer u (c.in_ok-buffer.ensures.same u held) K (g.D.Device.time c.take.new.dev) (g.D.Device.time c.args.dev.now) (ap g.D.Device.time (c.take.ensures.untouched c.requires.held)) c.in_ok-buffer.ensures.key
+    (λ (x : PageBlob g.row.S.Denot g.S.Seal) (k : Key) (s : Timeline). IsUnrecovered g.S.Seal.seal_of (shown x) (disk s k) → KeepsPrefix g.S.Seal.seal_of x.page_size (sealed_prefix g.S.Seal.seal_of x.page_size (disk s k).content) k s (g.D.Device.time c.replay.new.dev)) (c.replay.ensures.steady t) un
