@@ -1,5 +1,5 @@
 -- Markers by their sections, and what puts, staging and dropping leave of them.
-use Rattle.std.specs.Prelude.{◌≡◌, ◌≢◌, ℕ, ◌^◌, ◌<◌, ◌≤◌, ◌==◌, ◌+◌, ◌||◌, nat_le, nat_lt, if◌then◌else◌, cond, Bool, true, false, List, [], ◌∷◌, ◌++◌, length, Option, None, Some, unwrap_or, Result, Ok, Err, OnOk}
+use Rattle.std.specs.Prelude.{◌≡◌, ◌≢◌, ◌↔◌, ℕ, ◌^◌, ◌<◌, ◌≤◌, ◌==◌, ◌+◌, ◌||◌, nat_le, nat_lt, if◌then◌else◌, cond, Bool, true, false, List, [], ◌∷◌, ◌++◌, length, Option, None, Some, IsSome, is_some, unwrap_or, Result, Ok, Err, OnOk}
 use Rattle.std.specs.Int.{w64, to_be_bytes, from_be_bytes}
 use Rattle.std.specs.declared.cmp.Ordering.{Ordering}
 use Rattle.std.specs.declared.cmp.Ordering.TheVariants.{Less, Equal, Greater}
@@ -7,7 +7,7 @@ use Rattle.std.specs.Ordering.{nat_cmp, is_eq}
 use Rattle.std.specs.Cmp.Lexicographic.{slice_cmp}
 use Rattle.std.specs.Bool.{Decides}
 use Rattle.std.specs.List.{AllByRecursion, All, Contains, list_any, filter}
-use Rattle.std.specs.Map.{lookup}
+use Rattle.std.specs.Map.{keys_of, lookup}
 use Rattle.std.specs.BTreeMap.{is_at}
 use Rattle.std.specs.Str.{bytes_eq}
 use Rattle.std.specs.Borrow.{Bor}
@@ -377,3 +377,74 @@ synced_entries u = by u.staged
     by : (b : Bool) → (cond b (record u { version = u.version + 1; older = other_side u.older; staged = false }) u).entries ≡ u.entries
     by true = refl
     by false = refl
+
+-- ---- markers by their keys, one by one
+seen : (f : Key8 → Bool) (es : Markers) → is_some (lookup f es) ≡ list_any f (keys_of es)
+seen f [] = refl
+seen f (e ∷ es) = by (f e.0) (seen f es)
+  where
+    by : (b : Bool) → is_some (lookup f es) ≡ list_any f (keys_of es) → is_some (cond b (Some e.1) (lookup f es)) ≡ (b || list_any f (keys_of es))
+    by true is = refl
+    by false is = is
+
+marked_there : (es : Markers) (s : ℕ) → s < 2 ^ 64 → IsSome (lookup (is_key_of s) es) → IsMarked es s (marker_of es s)
+marked_there es s small has = (small, by (lookup (is_key_of s) es) has ∙ ap Some (sym (marker_below es s small)))
+  where
+    by : (o : Option ℕ) → IsSome o → o ≡ Some (unwrap_or o 0)
+    by None is = absurd (cc is)
+    by (Some m) is = refl
+
+-- The map has the markers but for those of the keys that are left, and no others. The sections of those keys are marked.
+pub record Gathered (es : Markers) (rest : List Key8) (got : ℕ → Option ℕ) : Type 0 where
+  pub found : (s m : ℕ) → got s ≡ Some m → IsMarked es s m
+  pub all : (s m : ℕ) → IsMarked es s m → (got s ≡ Some m) ⊎ (list_any (is_key_of s) rest ≡ true)
+  pub left : (s : ℕ) → s < 2 ^ 64 → list_any (is_key_of s) rest ≡ true → IsMarked es s (marker_of es s)
+
+pub gathered_none : (es : Markers) (rest : List Key8) (got : ℕ → Option ℕ) → rest ≡ keys_of es → ((s : ℕ) → got s ≡ None) → Gathered es rest got
+gathered_none es rest got is none = record {
+  found = λ s m has. absurd (cc (none s, has));
+  all = λ s m has. inr (ap (list_any (is_key_of s)) is ∙ sym (seen (is_key_of s) es) ∙ ap is_some has.1);
+  left = λ s small any. marked_there es s small (seen (is_key_of s) es ∙ sym (ap (list_any (is_key_of s)) is) ∙ any);
+}
+
+pub gathered_more : (es : Markers) (key : Key8) (later : List Key8) (got now : ℕ → Option ℕ) (s m : ℕ) → s < 2 ^ 64 → to_be_bytes w64 s ≡ key8_bytes key → m ≡ marker_of es s → now s ≡ Some m
+    → ((t : ℕ) → is_at (nat_cmp s) t ≡ false → now t ≡ got t) → Gathered es (key ∷ later) got → Gathered es later now
+gathered_more es key later got now s m small is value here others was = record {
+  found = λ t n has. ⊎_elim
+      (λ same.
+      let one : m ≡ n = cc (here, has, same) in
+      subst (λ (x : ℕ). IsMarked es x n) (sym same) (subst (λ (y : ℕ). IsMarked es s y) (sym value ∙ one) marked))
+      (λ other. was.found t n (sym (others t (apart t s other)) ∙ has))
+      (cases_eq t s);
+  all = λ t n has. ⊎_elim
+      (λ same.
+      let moved : IsMarked es s n = subst (λ (x : ℕ). IsMarked es x n) same has in
+      let one : n ≡ marker_of es s = cc (moved.1, marked.1) in
+      inl (subst (λ (x : ℕ). now x ≡ Some n) (sym same) (here ∙ ap Some (value ∙ sym one))))
+      (λ other. ⊎_elim
+      (λ (old : got t ≡ Some n). inl (others t (apart t s other) ∙ old))
+      (λ any. inr (sym (ap (λ (b : Bool). b || list_any (is_key_of t) later) (not_key t has.0 other)) ∙ any))
+      (was.all t n has))
+      (cases_eq t s);
+  left = λ t t_small any. was.left t t_small (ap (λ (b : Bool). is_key_of t key || b) any ∙ or_true (is_key_of t key));
+}
+  where
+    marked : IsMarked es s (marker_of es s)
+    marked = was.left s small (ap (λ (b : Bool). b || list_any (is_key_of s) later) (eq_when (key8_bytes key) (to_be_bytes w64 s) (sym is)))
+
+    not_key : (t : ℕ) → t < 2 ^ 64 → t ≢ s → is_key_of t key ≡ false
+    not_key t t_small other = false_from_ne_true (is_key_of t key) (λ yes. other (same_section t s t_small small (sym (when_eq (key8_bytes key) (to_be_bytes w64 t) yes) ∙ sym is)))
+
+    or_true : (b : Bool) → (b || true) ≡ true
+    or_true true = refl
+    or_true false = refl
+
+-- once no key is left, the map has the markers
+pub gathered_all : (es : Markers) (rest : List Key8) (got : ℕ → Option ℕ) → rest ≡ [] → Gathered es rest got → (s m : ℕ) → (got s ≡ Some m) ↔ IsMarked es s m
+gathered_all es rest got none was s m = (
+  was.found s m,
+  λ has. ⊎_elim
+      (λ (old : got s ≡ Some m). old)
+      (λ any. absurd (cc (sym (ap (list_any (is_key_of s)) none) ∙ any)))
+      (was.all s m has),
+)

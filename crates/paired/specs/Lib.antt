@@ -18,3 +18,9 @@ pub mod Places
 pub mod Holding
 pub mod Tracked
 pub mod TrackedShown
+pub mod Opening
+pub mod Replaying
+pub mod ReplayShown
+pub mod OpeningRefusing
+pub mod OpeningFound
+pub mod Reconciling

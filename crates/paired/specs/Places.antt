@@ -10,3 +10,9 @@ Follow place at (r ∷ rs) end = ((place r).0 ≡ at) × (4 ≤ (place r).1) × 
 abbrev pub end_of : (List ℕ → ℕ × ℕ) → ℕ → List (List ℕ) → ℕ
 end_of place at [] = at
 end_of place at (r ∷ rs) = end_of place (at + (place r).1) rs
+
+-- where the place of the last of these records ends, 0 where there is none
+abbrev pub last_end : (List ℕ → ℕ × ℕ) → List (List ℕ) → ℕ
+last_end place [] = 0
+last_end place (r ∷ []) = (place r).0 + (place r).1
+last_end place (r ∷ s ∷ rs) = last_end place (s ∷ rs)

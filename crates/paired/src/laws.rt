@@ -5,10 +5,11 @@ ghost use Rattle.sealed_pages.specs.SealedPrefix.{sealed_prefix, Prefix};
 ghost use Rattle.segments.specs.Fronts.{IsFront};
 ghost use Rattle.paired.specs.Records.{records, entries_of, is_sound, front, entry_of};
 ghost use Rattle.paired.specs.Places.{Follow, end_of};
-ghost use Rattle.blob_device.specs.Disk.{Disk};
+ghost use Rattle.blob_device.specs.Disk.{AbsentIsNothing, Disk, Key, NothingPending};
 ghost use Rattle.paired.specs.Crashes.{IsPrefix, Leaves, WasThere};
 ghost use Rattle.paired.specs.Holding.{AreGood, Facts, Holding, list_in};
 ghost use Rattle.paired.specs.Kept.{Layout, Markers};
+ghost use Rattle.paired.specs.Opening.{as_read, IsLawful, KeepsAll, MayBeOpened, Recalls};
 
 /// Where a crash leaves a prefix of the index bytes that holds `synced` records, and of the values those that had settled, what is
 /// kept is a prefix of the list with the synced records. It does nothing.
@@ -43,4 +44,13 @@ pub fn holding_laws<P: Stored>()
     ensures { (facts : ℕ → Facts) (one other : Markers) (d : Disk)
         → 1 ≤ P.layout.record_size → ((s : ℕ) → AreGood P.layout (facts s)) → Holding P.layout facts P.IsGoing one other d
         → Leaves P.layout (λ s. list_in P.layout (facts s)) (λ s. (facts s).synced) P.IsGoing d }
+{}
+
+/// What the promises of an opening say of a disk with nothing pending. It may be opened, where a blob that is not there is nothing, as the
+/// device's law has it. Each image that recalls it keeps just what it keeps, if it is lawful. And what two calls promise one after the
+/// other, both together promise. It does nothing.
+pub fn opening_laws<P: Stored>()
+    ensures pending { (d : Disk) → NothingPending d → ((k : Key) → AbsentIsNothing (d k)) → MayBeOpened P.layout d }
+    ensures keeps { (from d : Disk) (markers : Markers) → NothingPending from → IsLawful P.layout (as_read from) markers → Recalls P.layout from d → KeepsAll P.layout (as_read from) markers d }
+    ensures one_after_another { (a b c : Disk) → Recalls P.layout a b → Recalls P.layout b c → Recalls P.layout a c }
 {}

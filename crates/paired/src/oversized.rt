@@ -6,8 +6,11 @@ ghost use Rattle.segments.specs.Refusing.{IsPruned};
 ghost use Rattle.paired.specs.Crashes.{Leaves};
 ghost use Rattle.paired.specs.Pair.{IsPair, IsSoundOn, list_of, synced_length};
 
+mod opening;
 mod reading;
+mod recovery;
 mod removing;
+mod replaying;
 mod syncing;
 #[cfg(test)]
 mod tests;
@@ -16,6 +19,8 @@ mod writing;
 
 use crate::{Glob, Record};
 use blob_device::Device;
+pub use opening::Config;
+pub use replaying::Replay;
 use sealed_pages::{PageBlob, WriteBlob};
 use segments::journal::Error;
 use segments::{AppendFactory, BufferFactory, SectionBuffer, WriteFactory, fixed};

@@ -18,6 +18,7 @@ ghost use Rattle.segments.specs.Refusing.{HasFailed, IsPruned, IsForeign};
 ghost use Rattle.paired.specs.Frames.{IsSealed};
 ghost use Rattle.paired.specs.GlobReading.{IsInside};
 ghost use Rattle.paired.specs.GlobLasting.{Outlasts, settled_to, Cutting, Truncating};
+ghost use Rattle.paired.specs.Records.{is_sound};
 
 use super::framing::spelled;
 use super::reading::{check_range, read_frame};
@@ -63,6 +64,25 @@ impl<V: Codec, S: Seal> From<Recovery<V, S>> for Glob<V, S> {
 }
 
 impl<V: Codec, S: Seal> Recovery<V, S> {
+    /// The glob, whose frames are only read and checked from here on.
+    pub(crate) fn of(glob: Glob<V, S>) -> Self
+        ensures manager { result.manager ≡ glob.manager }
+        ensures codec_config { result.codec_config ≡ glob.codec_config }
+    {
+        let Glob {
+            alloc,
+            manager,
+            codec_config,
+            seal,
+        } = glob;
+        Recovery {
+            alloc,
+            manager,
+            codec_config,
+            seal,
+        }
+    }
+
     ghost use Rattle.segments.specs.Managed.{shown};
     ghost use Rattle.paired.specs.GlobSections.{IsGlob, section_bytes, section_size, HasSettled, IsAllSettled, IsLonger};
 
@@ -79,6 +99,8 @@ impl<V: Codec, S: Seal> Recovery<V, S> {
         ensures over { IfOk result (λ r. IsGlob ⟦<WriteBlob as SectionBuffer>⟧ ⟦<WriteFactory as BufferFactory>⟧.gives D.Tells (shown r.manager) (D.opened dev.new) (disk (D.time dev.new))) }
         ensures held { D.Tells → IfOk result (λ r. (s : ℕ) → s < 2 ^ 64 → IsHeld (shown r.manager) s ↔ (IsTrue (disk (D.time dev.old) (section_key (string_bytes cfg.now.partition) s)).there × (s ≤ ceiling))) }
         ensures unopened { D.Tells → IfOk result (λ r. (s : ℕ) → s < 2 ^ 64 → IsSome ((shown r.manager).unopened s) ↔ (IsTrue (disk (D.time dev.old) (section_key (string_bytes cfg.now.partition) s)).there × (ceiling < s))) }
+        // What is known and not held stands above the bound, also where the disk is not told.
+        ensures later { IfOk result (λ r. (s : ℕ) → IsSome ((shown r.manager).unopened s) → ceiling < s) }
         // A section's bytes are those of its blob, and all of them have settled.
         ensures bytes { D.Tells → IfOk result (λ r. (s : ℕ) → IsHeld (shown r.manager) s
             → section_bytes (shown r.manager) (disk (D.time dev.new)) s ≡ (disk (D.time dev.old) (section_key (string_bytes cfg.now.partition) s)).content) }
@@ -152,6 +174,8 @@ impl<V: Codec, S: Seal> Recovery<V, S> {
     ) -> Result<bool, Error>
         requires { IsGlob ⟦<WriteBlob as SectionBuffer>⟧ ⟦<WriteFactory as BufferFactory>⟧.gives D.Tells (shown self.now.manager) (D.opened dev.old) (disk (D.time dev.old)) }
         ensures sealed { D.Tells → IfOk result (λ r. IsTrue r ↔ IsSealed S.seal_of (section_bytes (shown self.now.manager) (disk (D.time dev.old)) section) offset size) }
+        // It is as sound as the test of a record's value says.
+        ensures sound { D.Tells → IfOk result (λ r. IsTrue r ↔ IsTrue (is_sound S.seal_of (section_bytes (shown self.now.manager) (disk (D.time dev.old)) section) (offset, size))) }
         // What is not inside is not sealed, and takes no call of the device.
         ensures outside { (shown self.now.manager).floor ≤ section → (IsSomeAnd ((shown self.now.manager).held section) (λ u. IsInside u offset size) → ⊥) → result ≡ Ok false }
         ensures idle { (IsSomeAnd ((shown self.now.manager).held section) (λ u. IsInside u offset size) → ⊥) → dev.new ≡ dev.old }

@@ -33,7 +33,10 @@ use std::alloc::Global;
 use value_codec::{Codec, Seal};
 
 // The numbers of the held sections.
-fn numbers<I: Record, S: Seal>(alloc: Global, index: &Journal<I, S>) -> Result<Vec<u64>, Error>
+pub(super) fn numbers<I: Record, S: Seal>(
+    alloc: Global,
+    index: &Journal<I, S>,
+) -> Result<Vec<u64>, Error>
     ensures each { IfOk result (λ r. (s : ℕ) → Contains r.items s ↔ IsHeld (fixed.shown index.now).sections s) }
     ensures cause { OnErr result (IsErrOf result Error.Mem) }
 {
@@ -45,7 +48,7 @@ fn numbers<I: Record, S: Seal>(alloc: Global, index: &Journal<I, S>) -> Result<V
 }
 
 // Notes of each of these sections that all its records are synced. Nothing is staged.
-fn note_synced<I: Record, S: Seal>(
+pub(super) fn note_synced<I: Record, S: Seal>(
     index: &Journal<I, S>,
     tracking: &mut Tracking<S>,
     sections: &[u64],
@@ -201,7 +204,7 @@ impl<I: Record, V: Codec, S: Seal> Oversized<I, V, S> {
     }
 
     // Moves the marker of each section that is not active to what was synced of it, and makes the markers durable, if one moved.
-    fn move_markers<D: Device>(self, dev: &mut D, active: &[u64]) -> Result<Self, Error>
+    pub(super) fn move_markers<D: Device>(self, dev: &mut D, active: &[u64]) -> Result<Self, Error>
         requires over { IsPair ⟦<PageBlob<S> as SectionBuffer>⟧ ⟦<AppendFactory<S> as BufferFactory>⟧.gives ⟦<WriteBlob as SectionBuffer>⟧ ⟦<WriteFactory as BufferFactory>⟧.gives D.Tells (shown I.place self) (D.opened dev.old) (disk (D.time dev.old)) }
         ensures over { IfOk result (λ r. IsPair ⟦<PageBlob<S> as SectionBuffer>⟧ ⟦<AppendFactory<S> as BufferFactory>⟧.gives ⟦<WriteBlob as SectionBuffer>⟧ ⟦<WriteFactory as BufferFactory>⟧.gives D.Tells (shown I.place r) (D.opened dev.new) (disk (D.time dev.new))) }
         ensures sound { D.Tells → IsSoundOn (shown I.place self) (disk (D.time dev.old)) → IfOk result (λ r. IsSoundOn (shown I.place r) (disk (D.time dev.new))) }

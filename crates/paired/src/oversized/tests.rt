@@ -6,17 +6,23 @@ ghost use Rattle.segments.specs.Sections.{section_key};
 ghost use Rattle.meta_store.specs.Store as store;
 ghost use Rattle.paired.specs.Pair.{IsPair, IsSoundOn};
 ghost use Rattle.paired.specs.PairShown.{shown};
+ghost use Rattle.paired.specs.ReplayShown.{run_of};
+ghost use Rattle.paired.specs.Replaying.{IsRun};
 
 mod counts;
 mod full;
+mod images;
 mod markers;
 mod notes;
+mod openings;
+mod outlasting;
 mod places;
 mod refusals;
+mod replays;
 mod stopped;
 
-use super::Oversized;
 use super::tracking::Tracking;
+use super::{Config, Oversized, Replay};
 use crate::{Glob, Record, glob};
 use blob_device::Device;
 use meta_store::Metadata;
@@ -30,6 +36,80 @@ use value_codec::{Codec, Key8, Sha256Seal};
 
 /// A pair whose values are numbers, with frames of eight bytes.
 type Numbers = Oversized<Note, i32, Sha256Seal>;
+
+/// Where the pair is kept, but for its markers.
+fn config<C: Drop>(
+    alloc: Global,
+    codec_config: C,
+    page_size: u16,
+    write_buffer: usize,
+) -> Result<Config<C>, Error>
+    ensures index { IfOk result (λ c. string_bytes c.index_partition ≡ codes "i") }
+    ensures values { IfOk result (λ c. string_bytes c.value_partition ≡ codes "v") }
+    ensures page_size { IfOk result (λ c. c.index_pages.page_size ≡ page_size) }
+    ensures codec_config { IfOk result (λ c. c.codec_config ≡ codec_config) }
+{
+    Ok(Config {
+        index_partition: String::from_str(alloc, "i")?,
+        value_partition: String::from_str(alloc, "v")?,
+        index_pages: Pages {
+            page_size,
+            cache_pages: 0,
+        },
+        index_write_buffer: write_buffer,
+        value_write_buffer: write_buffer,
+        replay_buffer: 64,
+        codec_config,
+    })
+}
+
+/// Begins the opening of the pair by its markers.
+fn begun<V: Codec, D: Device>(
+    alloc: Global,
+    dev: &mut D,
+    codec_config: V::Cfg,
+    page_size: u16,
+) -> Result<Replay<Note, V, Sha256Seal>, Error>
+    requires page_size { 1 ≤ page_size }
+    ensures over { IfOk result (λ r. IsRun (run_of ⟦<Note as Record>⟧.place r) ⟦<PageBlob<Sha256Seal> as SectionBuffer>⟧ ⟦<AppendFactory<Sha256Seal> as BufferFactory>⟧.gives ⟦<WriteBlob as SectionBuffer>⟧ ⟦<WriteFactory as BufferFactory>⟧.gives D.Tells (D.opened dev.new) (disk (D.time dev.new))) }
+{
+    let cfg = config(alloc, codec_config, page_size, 1024)?;
+    Oversized::init_with_metadata(alloc, dev, &cfg, "m")
+}
+
+/// Goes over the records of a replay, as far as they are fewer than 64, and says how many it gave.
+fn gone_over<V: Codec, D: Device>(
+    replay: Replay<Note, V, Sha256Seal>,
+    dev: &mut D,
+) -> Result<(Replay<Note, V, Sha256Seal>, usize), Error>
+    requires over { IsRun (run_of ⟦<Note as Record>⟧.place replay) ⟦<PageBlob<Sha256Seal> as SectionBuffer>⟧ ⟦<AppendFactory<Sha256Seal> as BufferFactory>⟧.gives ⟦<WriteBlob as SectionBuffer>⟧ ⟦<WriteFactory as BufferFactory>⟧.gives D.Tells (D.opened dev.old) (disk (D.time dev.old)) }
+    ensures over { IfOk result (λ r. IsRun (run_of ⟦<Note as Record>⟧.place r.0) ⟦<PageBlob<Sha256Seal> as SectionBuffer>⟧ ⟦<AppendFactory<Sha256Seal> as BufferFactory>⟧.gives ⟦<WriteBlob as SectionBuffer>⟧ ⟦<WriteFactory as BufferFactory>⟧.gives D.Tells (D.opened dev.new) (disk (D.time dev.new))) }
+{
+    let mut replay = replay;
+    for given in 0..64_usize {
+        match replay.next(dev) {
+            Some(Ok(_)) => {}
+            Some(Err(e)) => return Err(e),
+            None => return Ok((replay, given)),
+        }
+    }
+    Err(Error::ReplayFailed)
+}
+
+/// Opens the pair by its markers, as far as it has fewer than 64 records, and says how many it gave.
+fn opened<V: Codec, D: Device>(
+    alloc: Global,
+    dev: &mut D,
+    codec_config: V::Cfg,
+    page_size: u16,
+) -> Result<(Oversized<Note, V, Sha256Seal>, usize), Error>
+    requires page_size { 1 ≤ page_size }
+    ensures over { IfOk result (λ r. IsPair ⟦<PageBlob<Sha256Seal> as SectionBuffer>⟧ ⟦<AppendFactory<Sha256Seal> as BufferFactory>⟧.gives ⟦<WriteBlob as SectionBuffer>⟧ ⟦<WriteFactory as BufferFactory>⟧.gives D.Tells (shown ⟦<Note as Record>⟧.place r.0) (D.opened dev.new) (disk (D.time dev.new))) }
+{
+    let replay = begun(alloc, dev, codec_config, page_size)?;
+    let (replay, given) = gone_over(replay, dev)?;
+    Ok((replay.finish_tracked(dev)?, given))
+}
 
 /// Where the index is kept.
 fn index_config(alloc: Global, page_size: u16, write_buffer: usize) -> Result<fixed::Config, Error>

@@ -1,5 +1,5 @@
 // The markers of a pair, and which sections they trail.
-ghost use Rattle.std.specs.Prelude.{◌≡◌, ◌≢◌, ◌≤◌, ◌<◌, ◌+◌, ◌⊎◌, ◌^◌, ◌↔◌, ℕ, true, false, List, [], None, Some, Ok, Err, length, unwrap_or, IfOk, OnOk, OnErr, IsOk};
+ghost use Rattle.std.specs.Prelude.{◌≡◌, ◌≢◌, ◌≤◌, ◌<◌, ◌+◌, ◌⊎◌, ◌^◌, ◌↔◌, ℕ, true, false, List, [], None, Some, Ok, Err, length, unwrap_or, IfOk, OnOk, OnErr, IsOk, MatchResult};
 ghost use Rattle.std.specs.Int.{w64, to_be_bytes};
 ghost use Rattle.std.specs.List.{Contains};
 ghost use Rattle.std.specs.Result.{IsErrOf};
@@ -11,10 +11,13 @@ ghost use Rattle.blob_device.specs.Counts.{next};
 ghost use Rattle.value_codec.specs.Keys.{key8_bytes};
 ghost use Rattle.meta_store.specs.declared.error.Error.TheVariants.{Mem};
 ghost use Rattle.meta_store.specs.declared.error.Side.{Side};
-ghost use Rattle.meta_store.specs.Store.{Stands, MayBeSynced, synced_store};
+ghost use Rattle.meta_store.specs.declared.pair.Chosen.{Chosen};
+ghost use Rattle.meta_store.specs.declared.error.Side.TheVariants.{Left, Right};
+ghost use Rattle.meta_store.specs.Opening.{PairOn, Opening};
+ghost use Rattle.meta_store.specs.Store.{Stands, MayBeSynced, chosen_by, synced_store};
 ghost use Rattle.meta_store.specs.Store as store;
 ghost use Rattle.meta_store.specs.Calls.{IsOpened, OthersOpened, NoReads, CalledAtMost, GaveUp};
-ghost use Rattle.meta_store.specs.Crashes.{Mapping};
+ghost use Rattle.meta_store.specs.Crashes.{Keeps, Mapping, ReadsNoChance};
 ghost use Rattle.meta_store.specs.Removing.{Removing};
 ghost use Rattle.meta_store.specs.Blobs.{OnlyOne, blob_of};
 ghost use Rattle.paired.specs.Kept.{IsMarked, marker_of};
@@ -22,7 +25,8 @@ ghost use Rattle.paired.specs.Tracked.{synced_of, Trails, IsFrom};
 ghost use Rattle.paired.specs.TrackedShown.{marker_format};
 
 use blob_device::Device;
-use meta_store::{Error, Metadata};
+use meta_store::{Config, Error, Metadata};
+use std::alloc::Global;
 use std::collections::BTreeMap;
 use value_codec::{Key, Key8, Seal};
 
@@ -126,6 +130,67 @@ fn put_markers<S: Seal>(
 
 impl<S: Seal> Tracking<S> {
     ghost use Rattle.paired.specs.TrackedShown.{shown};
+
+    /// The markers that are kept in this partition. No section trails.
+    pub(super) fn init<D: Device>(
+        alloc: Global,
+        dev: &mut D,
+        partition: &str,
+    ) -> Result<Self, Error>
+        ensures reads { D.Tells → IfOk result (λ t. PairOn (marker_format S.Seal) partition.now (disk (D.time dev.old)) (Ok (chosen_by (shown t).store (shown t).store.entries))) }
+        ensures corrupt { D.Tells → (side : Side) → IsErrOf result (Error.Corruption side) → PairOn (marker_format S.Seal) partition.now (disk (D.time dev.old)) (Err side) }
+        ensures map { D.Tells → (chosen : Chosen _ _) → PairOn (marker_format S.Seal) partition.now (disk (D.time dev.old)) (Ok chosen)
+            → MatchResult result (λ t. chosen_by (shown t).store (shown t).store.entries ≡ chosen) (λ _. GaveUp result (D.faults dev.old) (D.faults dev.new)) }
+        ensures refused { D.Tells → (side : Side) → PairOn (marker_format S.Seal) partition.now (disk (D.time dev.old)) (Err side)
+            → (result ≡ Err (Error.Corruption side)) ⊎ GaveUp result (D.faults dev.old) (D.faults dev.new) }
+        // What a crash leaves at each moment is what it left before, if what the two blobs read as has no chance seal.
+        ensures crashes { D.Tells → (one other : List _) → Keeps (marker_format S.Seal) partition.now one other (disk (D.time dev.old))
+            → ReadsNoChance S.seal_of (disk (D.time dev.old) (blob_of partition.now Left)) → ReadsNoChance S.seal_of (disk (D.time dev.old) (blob_of partition.now Right))
+            → Mapping (marker_format S.Seal) partition.now one other (D.time dev.old) (D.time dev.new) }
+        ensures moments { D.Tells → Always (D.time dev.old) (D.time dev.new) (Opening partition.now (disk (D.time dev.old))) }
+        ensures stands { D.Tells → IfOk result (λ t. Stands (marker_format S.Seal) (shown t).store (shown t).store.entries (disk (D.time dev.new))) }
+        ensures storable { IfOk result (λ t. MayBeSynced (marker_format S.Seal) (shown t).store.entries) }
+        ensures partition { IfOk result (λ t. (shown t).store.partition ≡ partition.now) }
+        ensures staged { IfOk result (λ t. (shown t).store.staged ≡ false) }
+        ensures trailing { IfOk result (λ t. (s : ℕ) → (shown t).trailing s ≡ None) }
+        ensures opened { OnOk result (IsOpened partition.now (D.opened dev.new)) }
+        ensures entries { OthersOpened partition.now (D.opened dev.old) (D.opened dev.new) }
+        ensures faults { D.faults dev.old ≤ D.faults dev.new }
+        ensures cause { OnErr result (((side : Side) × (result ≡ Err (Error.Corruption side))) ⊎ GaveUp result (D.faults dev.old) (D.faults dev.new)) }
+    {
+        let config = Config {
+            partition: String::from_str(alloc, partition)?,
+            codec_config: (),
+        };
+        let metadata = Metadata::init(alloc, dev, &config)?;
+        Ok(Tracking {
+            metadata,
+            trailing: BTreeMap::new(alloc),
+        })
+    }
+
+    /// The section's marker, 0 where it has none. It takes no memory.
+    pub(super) fn marker(&self, section: u64) -> u64
+        ensures { result ≡ marker_of (shown self.now).store.entries section }
+    {
+        self.metadata
+            .get(&marker_key(section))
+            .copied()
+            .unwrap_or(0)
+    }
+
+    /// All markers, by section.
+    pub(super) fn markers(&self, alloc: Global) -> Result<BTreeMap<u64, u64>, Error>
+        ensures each { IfOk result (λ r. (s m : ℕ) → (get nat_cmp r s ≡ Some m) ↔ IsMarked (shown self.now).store.entries s m) }
+        ensures cause { OnErr result (IsErrOf result Mem) }
+    {
+        let mut markers = BTreeMap::new(alloc);
+        for key in self.metadata.keys() {
+            let section = section_of(key);
+            markers.insert(section, self.marker(section))?;
+        }
+        Ok(markers)
+    }
 
     /// Notes the length of a section that a sync has completed. Nothing is staged.
     pub(super) fn synced(&mut self, section: u64, len: u64) -> Result<(), Error>

@@ -18,7 +18,7 @@ use std::alloc::Global;
 use std::test::Fail;
 use value_codec::{Key, Key8, Sha256Seal};
 
-const CHOICES: [CrashChoice; 14] = [
+pub(super) const CHOICES: [CrashChoice; 14] = [
     CrashChoice::Settled,
     CrashChoice::AsRead,
     CrashChoice::Mixed(0),
@@ -180,7 +180,10 @@ fn worked<D: Device>(
 }
 
 /// The markers that an image holds.
-fn markers_in(alloc: Global, image: &Image) -> Result<Metadata<Key8, u64, Sha256Seal>, Error> {
+pub(super) fn markers_in(
+    alloc: Global,
+    image: &Image,
+) -> Result<Metadata<Key8, u64, Sha256Seal>, Error> {
     let mut dev = Memory::from_image(alloc, image.copy(alloc)?)?;
     Ok(Metadata::init(alloc, &mut dev, &markers_config(alloc)?)?)
 }

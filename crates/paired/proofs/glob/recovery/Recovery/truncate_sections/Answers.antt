@@ -50,3 +50,10 @@ pub returns-clause-all_settled : goal.returns-clause-all_settled
 returns-clause-all_settled g c s n is =
     let says = c.in_ok-this.ensures in
     one_all _ (shown c.args.self.manager) (shown c.in_ok-this.field-0) _ _ _ (disk (g.D.Device.time c.truncate_pending_sections.new.dev)) c.requires.over says.over says.bounds.place.partition says.absent s n (λ u held. says.cut s n u is held)
+
+pub returns-in_err-this-clause-guard : goal.returns-in_err-this-clause-guard
+returns-in_err-this-clause-guard g c =
+    let same = err_of c.from_residual.result c.in_err-this.field-0.0 c.from_residual.ensures.1 in (
+      λ is. c.in_err-this.ensures.guard.0 (cc (is, same)),
+      λ below. (let pruned = c.in_err-this.ensures.guard.1 below in cc (pruned, same)),
+    )

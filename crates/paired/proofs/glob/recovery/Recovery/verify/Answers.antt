@@ -1,4 +1,4 @@
-use Rattle.std.proofs.Common.{◌≡◌, ℕ, List, Bor, Some, inl, inr, sym, ◌∙◌, ap, subst, arith}
+use Rattle.std.proofs.Common.{◌≡◌, ◌+◌, ◌≤◌, ℕ, List, Bor, Some, inl, inr, sym, ◌∙◌, ap, subst, arith}
 use Rattle.std.specs.Prelude.{◌↔◌, IsTrue}
 use Rattle.std.specs.Option.{option_copied}
 use Rattle.blob_device.specs.Timeline.{disk}
@@ -9,6 +9,10 @@ use Rattle.segments.specs.Managed.{shown}
 use Rattle.paired.specs.Frames.{IsSealed}
 use Rattle.paired.specs.GlobSections.{section_bytes}
 use Rattle.paired.proofs.GlobLemmas.{glob_read}
+use Rattle.segments.specs.Unsealed.{count_of}
+use Rattle.paired.specs.Records.{is_sound}
+use Rattle.paired.proofs.KeptLemmas.{sound_parts}
+use Rattle.paired.proofs.SoundLemmas.{sound_verdict}
 use Rattle.paired.proofs.ReadLemmas.{own_key, as_long, bytes_read, frame_inside, refused_so, taken_so, verdict}
 use Rattle.paired.proofs.glob.recovery.Recovery.verify.Goals as goal
 
@@ -57,3 +61,44 @@ returns-clause-sealed g c t =
     (omega (arith, as_long _ m _ d c.requires c.args.section u held t, inside.inside))
     (bytes_read _ m _ d c.requires c.args.section u held c.as_slice.result.now c.args.offset c.args.size (c.as_slice.ensures.value ∙ c.in_ok-bytes.ensures.bytes t))
     c.spelled.ensures.sealed c.spelled.ensures.broken c.spelled.ensures.cause)
+
+pub returns-clause-sound : goal.returns-clause-sound
+returns-clause-sound g c t =
+    let m = shown c.args.self.now.manager in
+    let d = disk (g.D.Device.time c.args.dev.now) in
+    let u = c.in-Some.buffer.now in
+    let held : m.held c.args.section ≡ Some u = sym c.in_ok-buffer.ensures.held ∙ ap option_copied c.in-Some.is in
+    let all = section_bytes m d c.args.section in
+    let inside = taken_so c.check_range.result _ (sym c.is_err.ensures.value ∙ c.if-is_err.false) c.check_range.ensures.inside in
+    subst (λ b. IsTrue b ↔ IsTrue (is_sound g.S.Seal.seal_of all (c.args.offset, c.args.size))) (sym c.is_ok.ensures.value)
+    (sound_verdict g.S.Seal.seal_of g.met.S.Seal.fits c.spelled.result (λ (b : Bor (List ℕ)). b.now) all c.as_slice.result.now c.args.offset c.args.size
+    (omega (arith, as_long _ m _ d c.requires c.args.section u held t, inside.inside))
+    (bytes_read _ m _ d c.requires c.args.section u held c.as_slice.result.now c.args.offset c.args.size (c.as_slice.ensures.value ∙ c.in_ok-bytes.ensures.bytes t))
+    c.spelled.ensures.sealed c.spelled.ensures.broken c.spelled.ensures.cause)
+
+pub returns-then-is_err-clause-sound : goal.returns-then-is_err-clause-sound
+returns-then-is_err-clause-sound g c t =
+    let m = shown c.args.self.now.manager in
+    let u = c.in-Some.buffer.now in
+    let held : m.held c.args.section ≡ Some u = sym c.in_ok-buffer.ensures.held ∙ ap option_copied c.in-Some.is in
+    let says = c.check_range.ensures in
+    let why = refused_so c.check_range.result _ (sym c.is_err.ensures.value ∙ c.if-is_err.true) says.cause in (
+      λ yes. absurd (cc yes),
+      λ sound.
+          let parts = sound_parts g.S.Seal.seal_of (section_bytes m (disk (g.D.Device.time c.args.dev.now)) c.args.section) c.args.offset c.args.size sound in
+          let inside : c.args.offset + c.args.size ≤ count_of u = omega (arith, parts.1, as_long _ m _ (disk (g.D.Device.time c.args.dev.now)) c.requires c.args.section u held t) in
+          absurd (elim why [
+            | inl over ↦ absurd (omega (arith, says.overflow.0 over, says.bound, inside))
+            | inr short ↦ elim (says.short.0 short).1 [
+              | inl past ↦ absurd (omega (arith, past, inside))
+              | inr little ↦ absurd (omega (arith, little, parts.0))
+            ]
+          ]),
+    )
+
+pub returns-in_err-bytes-clause-reads : goal.returns-in_err-bytes-clause-reads
+returns-in_err-bytes-clause-reads g c =
+    let m = shown c.args.self.now.manager in
+    let u = c.in-Some.buffer.now in
+    let held : m.held c.args.section ≡ Some u = sym c.in_ok-buffer.ensures.held ∙ ap option_copied c.in-Some.is in
+    subst (λ (k : Key). ReadsAtMost 1 k (g.D.Device.opened c.args.dev.now) (g.D.Device.opened c.read_frame.new.dev)) (own_key _ m _ _ c.requires c.args.section u held) c.read_frame.ensures.reads

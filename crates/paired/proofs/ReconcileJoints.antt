@@ -1,0 +1,368 @@
+-- Between the stages of the end of an opening: all has settled, and the journal has the records that were given.
+use Rattle.std.proofs.Common.{◌≡◌, ◌↔◌, ◌⊎◌, inl, inr, ℕ, ◌+◌, ◌*◌, ◌^◌, ◌<◌, ◌≤◌, min, false, List, length, take, Option, None, Some, IsSome, IsSomeAnd, refl, sym, ◌∙◌, ap, subst, arith}
+use Rattle.std.specs.Prelude.{is_some, ◌≢◌}
+use Rattle.std.proofs.lemmas.Nat.{mul-le}
+use Rattle.blob_device.specs.Disk.{Key, Blob, MayLeave, reads, nothing}
+use Rattle.blob_device.specs.Opened.{OpenedList}
+use Rattle.blob_device.specs.Timeline.{Timeline, disk, Always, Each}
+use Rattle.blob_device.proofs.Moments.{always_now}
+use Rattle.sealed_pages.specs.declared.page_blob.PageBlob.{PageBlob}
+use Rattle.sealed_pages.specs.declared.write_blob.WriteBlob.{WriteBlob}
+use Rattle.segments.specs.declared.buffer.SectionBuffer as buffer
+use Rattle.segments.specs.declared.unsealed.WriteFactory.{WriteFactory}
+use Rattle.segments.specs.FixedLists.{Lists, IsJournal, IsProven}
+use Rattle.segments.specs.FixedLists as fixed
+use Rattle.segments.specs.Lasting.{EntriesLeave}
+use Rattle.segments.specs.Sections.{Sections, section_key, key_of, IsHeld, IsKeyOf, IsSame, SameBounds}
+use Rattle.segments.specs.Setting.{Setting}
+use Rattle.segments.specs.Unsealed.{count_of, is_unsettled}
+use Rattle.segments.proofs.FixedKept.{last_place}
+use Rattle.segments.proofs.KeyLemmas.{key_injective}
+use Rattle.segments.proofs.WalkLemmas.{none_or_value}
+use Rattle.meta_store.specs.declared.error.Side.{Side}
+use Rattle.meta_store.specs.declared.error.Side.TheVariants.{Left, Right}
+use Rattle.meta_store.specs.Blobs.{blob_of}
+use Rattle.meta_store.specs.Calls.{IsOpened}
+use Rattle.meta_store.proofs.Uses.{stands_same}
+use Rattle.paired.specs.Crashes.{IsIndexOf, IsValuesOf}
+use Rattle.paired.specs.GlobLasting.{Cutting}
+use Rattle.paired.specs.GlobSections.{IsGlob, IsAllSettled}
+use Rattle.paired.specs.GlobSections as glob
+use Rattle.paired.specs.Pair.{HasNoBytes}
+use Rattle.paired.specs.Places.{last_end}
+use Rattle.paired.specs.Reconciling.{CutTo, EndOf, Shortening}
+use Rattle.paired.specs.Records.{records}
+use Rattle.paired.specs.Replaying.{Run, marker, records_given}
+use Rattle.paired.proofs.GlobLemmas.{buffers, same_bytes}
+use Rattle.paired.proofs.PairSections.{glob_kept}
+use Rattle.paired.proofs.PairStays.{journal_stays}
+use Rattle.paired.proofs.RecordLemmas.{length-records, records-take, item_ends}
+use Rattle.paired.proofs.ReconcileResting.{Resting, index_number, values_number, index_key, values_key, none_stored}
+use Rattle.paired.proofs.ReconcileStart.{Drained, GaveBack, opening, walk_unfailed, back_rests, end_of, given_all, given_to, over_records}
+use Rattle.paired.proofs.ReconcilePhases.{bare_of, index_cut_only, values_cut_only, values_still}
+use Rattle.paired.proofs.ReconcileStages.{Joint, none_of_not, not_of_none}
+
+-- what the call that cuts records says
+pub record RecordsCut {F S : Type 0} {gs : _} (g : buffer.Ghosts (PageBlob S gs)) (gives : F → Setting) (told : Type 0) (run : Run F (PageBlob S gs)) (j k : Lists F (PageBlob S gs)) (o o1 : OpenedList) (a b : Timeline) : Type 0 where
+  pub over : IsJournal g gives run.layout.seal run.layout.record_size told k o1 (disk b)
+  pub proven : (s : ℕ) → IsProven k s
+  pub cut : told → (s n : ℕ) → run.ends s ≡ Some n → fixed.section_bytes k.sections (disk b) s ≡ take (n * run.layout.record_size) (fixed.section_bytes j.sections (disk a) s)
+  pub sizes : (s n : ℕ) → run.ends s ≡ Some n → fixed.section_size k.sections s ≡ min (fixed.section_size j.sections s) (n * run.layout.record_size)
+  pub others : (s : ℕ) → run.ends s ≡ None → IsSame j.sections k.sections s
+  pub held : (s : ℕ) → IsHeld k.sections s ↔ IsHeld j.sections s
+  pub unopened : (s : ℕ) → k.sections.unopened s ≡ j.sections.unopened s
+  pub settled : ((s : ℕ) (u : PageBlob S gs) → j.sections.held s ≡ Some u → g.unsettled u ≡ false) → (s : ℕ) (u : PageBlob S gs) → k.sections.held s ≡ Some u → g.unsettled u ≡ false
+  pub bounds : SameBounds j.sections k.sections
+  pub moments : told → Always a b (Each (Shortening run.layout.seal j.sections (λ s. CutTo run.layout.record_size (run.ends s)) (disk a)))
+  pub entries : (q : Key) → (IsKeyOf j.sections (λ s. IsSome (run.ends s)) q → ⊥) → o1 q ≡ o q
+
+-- what the call that cuts values says
+pub record ValuesCut {F S : Type 0} {gs : _} (g : buffer.Ghosts (PageBlob S gs)) (gives : F → Setting) (takes : WriteFactory → Setting) (told : Type 0) (run : Run F (PageBlob S gs)) (j : Lists F (PageBlob S gs)) (m n : Sections WriteFactory WriteBlob) (o o1 : OpenedList) (a b : Timeline) : Type 0 where
+  pub over : IsJournal g gives run.layout.seal run.layout.record_size told j o1 (disk b)
+  pub values : IsGlob buffers takes told n o1 (disk b)
+  pub cut : told → (s : ℕ) → IsHeld j.sections s → glob.section_bytes n (disk b) s ≡ take (last_end run.layout.place (records run.layout.record_size (fixed.section_bytes j.sections (disk a) s))) (glob.section_bytes m (disk a) s)
+  pub others : (s : ℕ) → j.sections.held s ≡ None → n.held s ≡ m.held s
+  pub held : (s : ℕ) → IsHeld n s ↔ IsHeld m s
+  pub unopened : (s : ℕ) → n.unopened s ≡ m.unopened s
+  pub settled : ((s : ℕ) → IsHeld m s → IsAllSettled m s) → (s : ℕ) → IsHeld n s → IsAllSettled n s
+  pub bounds : SameBounds m n
+  pub moments : told → Always a b (Each (Cutting m (EndOf run.layout.place run.layout.record_size j.sections (disk a)) (disk a)))
+  pub entries : (q : Key) → (IsKeyOf j.sections (IsHeld j.sections) q ⊎ IsKeyOf m (IsHeld j.sections) q → ⊥) → o1 q ≡ o q
+
+-- what the call that removes values says
+pub record ValuesRemoved (takes : WriteFactory → Setting) (told : Type 0) (Doomed : ℕ → Type 0) (m n : Sections WriteFactory WriteBlob) (o o1 : OpenedList) (a b : Timeline) : Type 0 where
+  pub values : IsGlob buffers takes told n o1 (disk b)
+  pub removed : (s : ℕ) → Doomed s → n.held s ≡ None
+  pub others : (s : ℕ) → (Doomed s → ⊥) → IsSame m n s
+  pub bytes : told → (s : ℕ) → (Doomed s → ⊥) → glob.section_bytes n (disk b) s ≡ glob.section_bytes m (disk a) s
+  pub unopened : (s : ℕ) → n.unopened s ≡ m.unopened s
+  pub bounds : SameBounds m n
+  pub gone : told → (s : ℕ) → Doomed s → IsHeld m s → disk b (key_of m s) ≡ nothing
+  pub moments : told → Always a b (λ d. (q : Key) → (IsKeyOf m (λ s. Doomed s × IsHeld m s) q → ⊥) → d q ≡ disk a q)
+  pub entries : EntriesLeave (IsKeyOf m Doomed) o o1
+
+module _ {F S : Type 0} {gs : _} {g : buffer.Ghosts (PageBlob S gs)} {gives : F → Setting} {takes : WriteFactory → Setting} {told : Type 0} {run : Run F (PageBlob S gs)} {o : OpenedList} (a : Timeline) (e : Drained g gives takes told run o (disk a)) where
+  copy_other : (side : Side) (partition : List ℕ) (s : ℕ) → (partition ≡ run.layout.index) ⊎ (partition ≡ run.layout.values) → blob_of run.layout.metadata side ≡ section_key partition s → ⊥
+  copy_other side partition s (inl is) same = e.over.apart.metadata (sym (ap (λ (k : Key). k.0) same ∙ is))
+  copy_other side partition s (inr is) same = e.over.apart.both (sym (ap (λ (k : Key). k.0) same ∙ is))
+
+  copy_at : (side : Side) → blob_of run.store.partition side ≡ blob_of run.layout.metadata side
+  copy_at side = ap (λ (p : List ℕ). blob_of p side) e.here.store
+
+  -- ---- after the cut of records
+  module _ (j : Lists F (PageBlob S gs)) (back : GaveBack run j) (k : Lists F (PageBlob S gs)) (o1 : OpenedList) (b : Timeline) (did : RecordsCut g gives told run j k o o1 a b) (readable : told → (q : Key) → MayLeave (disk b q) (reads (disk b q))) where
+    now_cut : told → (q : Key) → (IsIndexOf run.layout (λ s. IsSome (run.ends s)) q → ⊥) → disk b q ≡ disk a q
+    now_cut t = index_cut_only e j back t (disk b) (always_now a b (Each (Shortening run.layout.seal j.sections (λ s. CutTo run.layout.record_size (run.ends s)) (disk a))) (did.moments t))
+
+    index_uncut : told → (s : ℕ) → s < 2 ^ 64 → run.ends s ≡ None → disk b (section_key run.layout.index s) ≡ disk a (section_key run.layout.index s)
+    index_uncut t s small none = now_cut t (section_key run.layout.index s) (λ is. not_of_none (run.ends s) none (subst (λ (x : ℕ). IsSome (run.ends x)) (sym (key_injective run.layout.index s is.0 small is.1 is.3)) is.2))
+
+    pub values_uncut : told → (s : ℕ) → disk b (section_key run.layout.values s) ≡ disk a (section_key run.layout.values s)
+    values_uncut t s = now_cut t (section_key run.layout.values s) (λ is. e.over.apart.values (sym (ap (λ (q : Key). q.0) is.3)))
+
+    copies_uncut : told → (side : Side) → disk b (blob_of run.layout.metadata side) ≡ disk a (blob_of run.layout.metadata side)
+    copies_uncut t side = now_cut t (blob_of run.layout.metadata side) (λ is. copy_other side run.layout.index is.0 (inl refl) is.3)
+
+    entry_uncut : (q : Key) → (q.0 ≢ run.layout.index) → o1 q ≡ o q
+    entry_uncut q other = did.entries q (λ w. other (ap (λ (x : Key). x.0) (w.2 ∙ index_key (back_rests e j back) w.0)))
+
+    here_values : (s : ℕ) → key_of run.values s ≡ section_key run.layout.values s
+    here_values s = ap (λ (p : List ℕ). section_key p s) e.here.values
+
+    pub cut_held : (s : ℕ) → IsHeld k.sections s ↔ IsHeld run.walk.journal.sections s
+    cut_held s = subst (λ (m : Sections F (PageBlob S gs)). IsHeld k.sections s ↔ IsHeld m s) back.sections (did.held s)
+
+    pub cut_bounds : SameBounds run.walk.journal.sections k.sections
+    cut_bounds = subst (λ (m : Sections F (PageBlob S gs)). SameBounds m k.sections) back.sections did.bounds
+
+    pub cut_opened : IsOpened run.store.partition o1
+    cut_opened = record {
+      left = subst IsSome (sym (entry_uncut (blob_of run.store.partition Left) (λ is. e.over.apart.metadata (sym is ∙ e.here.store)))) e.over.metadata_opened.left;
+      right = subst IsSome (sym (entry_uncut (blob_of run.store.partition Right) (λ is. e.over.apart.metadata (sym is ∙ e.here.store)))) e.over.metadata_opened.right;
+    }
+
+    -- no section ends below its marker
+    pub cut_reached : (s : ℕ) → marker run s * run.layout.record_size ≤ fixed.section_size k.sections s
+    cut_reached s =
+        let floor : marker run s * run.layout.record_size ≤ fixed.section_size j.sections s =
+        subst (λ (m : Sections F (PageBlob S gs)). marker run s * run.layout.record_size ≤ fixed.section_size m s) (sym back.sections) (omega (arith, (opening e).floors s, (opening e).reached (walk_unfailed e) s)) in
+        elim (none_or_value (run.ends s)) [
+          | inl none ↦ omega (arith, floor, ap fixed.size_held (did.others s none).held)
+          | inr some ↦ omega (arith, floor, did.sizes s some.0 some.1, mul-le (marker run s) run.layout.record_size some.0 run.layout.record_size ((opening e).ends_from s some.0 some.1).1 (omega arith))
+        ]
+
+    pub cut_rests : Resting g gives takes told run.layout k run.values run.store o1 (disk b)
+    cut_rests =
+        let was = back_rests e j back in
+        record {
+          pages = e.pages;
+          journal = did.over;
+          proven = did.proven;
+          index_settled = did.settled was.index_settled;
+          index_known = λ s. did.unopened s ∙ was.index_known s;
+          index_here = did.bounds.place.partition ∙ was.index_here;
+          page_size = ap (λ (f : F). (gives f).page_size) did.bounds.place.factory ∙ was.page_size;
+          some = e.here.some;
+          values = glob_kept run.values o o1 (disk a) (disk b) (λ s. entry_uncut (key_of run.values s) (λ is. e.over.apart.values (sym is ∙ e.here.values))) (λ t s. subst (λ (q : Key). disk b q ≡ disk a q) (sym (here_values s)) (values_uncut t s)) e.over.values;
+          values_settled = was.values_settled;
+          values_known = was.values_known;
+          values_here = e.here.values;
+          store = λ t. stands_same run.layout.markers run.store run.store.entries (disk a) (disk b)
+              (subst (λ (q : Key). disk b q ≡ disk a q) (sym (copy_at Left)) (copies_uncut t Left)) (subst (λ (q : Key). disk b q ≡ disk a q) (sym (copy_at Right)) (copies_uncut t Right)) (e.over.markers t);
+          store_here = e.here.store;
+        }
+
+    -- the section's bytes where it has no end
+    same_index : told → (s : ℕ) → run.ends s ≡ None → fixed.section_bytes k.sections (disk b) s ≡ fixed.section_bytes j.sections (disk a) s
+    same_index t s none = elim (none_or_value (j.sections.held s)) [
+      | inl absent ↦ ap (λ (x : Option (PageBlob S gs)). fixed.bytes_held x (disk b (key_of k.sections s)).content) ((did.others s none).held ∙ absent)
+          ∙ sym (ap (λ (x : Option (PageBlob S gs)). fixed.bytes_held x (disk a (key_of j.sections s)).content) absent)
+      | inr some ↦
+          ap (λ (x : Option (PageBlob S gs)). fixed.bytes_held x (disk b (key_of k.sections s)).content) (did.others s none).held
+          ∙ ap (λ (q : Key). fixed.bytes_held (j.sections.held s) (disk b q).content) (index_key cut_rests s)
+          ∙ ap (λ (x : Blob). fixed.bytes_held (j.sections.held s) x.content) (index_uncut t s (index_number (back_rests e j back) s (ap is_some some.1)) none)
+          ∙ sym (ap (λ (q : Key). fixed.bytes_held (j.sections.held s) (disk a q).content) (index_key (back_rests e j back) s))
+    ]
+
+    -- p whole records
+    taken : (p : ℕ) (bytes : List ℕ) → p < length (records run.layout.record_size bytes) → records run.layout.record_size (take (p * run.layout.record_size) bytes) ≡ take p (records run.layout.record_size bytes)
+    taken p bytes lt =
+        let size : ℕ = run.layout.record_size in
+        let ends : p * size + size ≤ length bytes = item_ends size (length bytes) p (omega (arith, lt, length-records size bytes)) in
+        records-take size (p * size) bytes e.here.some (omega (arith, ends)) ∙ ap (λ (n : ℕ). take n (records size bytes)) (last_place size (p * size) p e.here.some (omega arith) (omega (arith, e.here.some)))
+
+    pub cut_records : told → (s : ℕ) → records run.layout.record_size (fixed.section_bytes k.sections (disk b) s) ≡ records_given run (disk a) s
+    cut_records t s = elim (none_or_value (run.ends s)) [
+      | inl none ↦ ap (records run.layout.record_size) (same_index t s none) ∙ sym (over_records e j back t s) ∙ sym (given_all e t s none)
+      | inr some ↦
+          ap (records run.layout.record_size) (did.cut t s some.0 some.1)
+          ∙ taken some.0 (fixed.section_bytes j.sections (disk a) s) (omega (arith, (end_of e t s some.0 some.1).within, ap length (over_records e j back t s)))
+          ∙ ap (take some.0) (sym (over_records e j back t s)) ∙ sym (given_to e t s some.0 some.1)
+    ]
+
+    -- a section that is not held has no end
+    unheld_none : told → (s : ℕ) → j.sections.held s ≡ None → run.ends s ≡ None
+    unheld_none t s absent = elim (none_or_value (run.ends s)) [
+      | inl none ↦ none
+      | inr some ↦ absurd (omega (arith, (end_of e t s some.0 some.1).within, ap length (over_records e j back t s), ap length (none_stored (back_rests e j back) t s absent)))
+    ]
+
+    pub cut_joint : Joint g gives takes told run (disk a) k run.values o1 (disk b)
+    cut_joint = record {
+      rests = cut_rests;
+      held = cut_held;
+      records = cut_records;
+      bare = λ t may.
+          let was = bare_of (back_rests e j back) t may in
+          record {
+            index = λ s small none.
+                let absent : j.sections.held s ≡ None = none_of_not (j.sections.held s) (λ has. not_of_none (k.sections.held s) none ((did.held s).1 has)) in
+                subst HasNoBytes (sym (index_uncut t s small (unheld_none t s absent))) (was.index s small absent);
+            values = λ s small none. subst HasNoBytes (sym (values_uncut t s)) (was.values s small none);
+          };
+      readable = readable;
+    }
+
+    -- the values are as they were
+    pub cut_values_same : told → (s : ℕ) → glob.section_bytes run.values (disk b) s ≡ glob.section_bytes run.values (disk a) s
+    cut_values_same t s = same_bytes run.values run.values (disk a) (disk b) s refl (λ held. subst (λ (q : Key). disk b q ≡ disk a q) (sym (here_values s)) (values_uncut t s))
+
+  -- ---- after the cut of values
+  module _ (b : Timeline) (j : Lists F (PageBlob S gs)) (o1 : OpenedList) (joint : Joint g gives takes told run (disk a) j run.values o1 (disk b)) (n : Sections WriteFactory WriteBlob) (o2 : OpenedList) (c : Timeline)
+      (did : ValuesCut g gives takes told run j run.values n o1 o2 b c) (readable : told → (q : Key) → MayLeave (disk c q) (reads (disk c q))) where
+    now_trim : told → (q : Key) → (IsValuesOf run.layout (IsHeld j.sections) q → ⊥) → disk c q ≡ disk b q
+    now_trim t = values_cut_only joint.rests t e.over.apart (disk c) (always_now b c (Each (Cutting run.values (EndOf run.layout.place run.layout.record_size j.sections (disk b)) (disk b))) (did.moments t))
+
+    index_untrimmed : told → (s : ℕ) → disk c (section_key run.layout.index s) ≡ disk b (section_key run.layout.index s)
+    index_untrimmed t s = now_trim t (section_key run.layout.index s) (λ is. e.over.apart.values (ap (λ (q : Key). q.0) is.3))
+
+    copies_untrimmed : told → (side : Side) → disk c (blob_of run.layout.metadata side) ≡ disk b (blob_of run.layout.metadata side)
+    copies_untrimmed t side = now_trim t (blob_of run.layout.metadata side) (λ is. copy_other side run.layout.values is.0 (inr refl) is.3)
+
+    pub trim_bytes : told → (s : ℕ) → fixed.section_bytes j.sections (disk c) s ≡ fixed.section_bytes j.sections (disk b) s
+    trim_bytes t s = ap (λ (q : Key). fixed.bytes_held (j.sections.held s) (disk c q).content) (index_key joint.rests s)
+        ∙ ap (λ (x : Blob). fixed.bytes_held (j.sections.held s) x.content) (index_untrimmed t s) ∙ sym (ap (λ (q : Key). fixed.bytes_held (j.sections.held s) (disk b q).content) (index_key joint.rests s))
+
+    pub trim_opened : IsOpened run.store.partition o1 → IsOpened run.store.partition o2
+    trim_opened was = record {
+      left = subst IsSome (sym (did.entries (blob_of run.store.partition Left) (other Left))) was.left;
+      right = subst IsSome (sym (did.entries (blob_of run.store.partition Right) (other Right))) was.right;
+    }
+      where
+        other : (side : Side) → IsKeyOf j.sections (IsHeld j.sections) (blob_of run.store.partition side) ⊎ IsKeyOf run.values (IsHeld j.sections) (blob_of run.store.partition side) → ⊥
+        other side (inl w) = copy_other side run.layout.index w.0 (inl refl) (sym (copy_at side) ∙ w.2 ∙ index_key joint.rests w.0)
+        other side (inr w) = copy_other side run.layout.values w.0 (inr refl) (sym (copy_at side) ∙ w.2 ∙ values_key joint.rests w.0)
+
+    pub trim_rests : Resting g gives takes told run.layout j n run.store o2 (disk c)
+    trim_rests = record {
+      pages = e.pages;
+      journal = did.over;
+      proven = joint.rests.proven;
+      index_settled = joint.rests.index_settled;
+      index_known = joint.rests.index_known;
+      index_here = joint.rests.index_here;
+      page_size = joint.rests.page_size;
+      some = e.here.some;
+      values = did.values;
+      values_settled = did.settled joint.rests.values_settled;
+      values_known = λ s. did.unopened s ∙ joint.rests.values_known s;
+      values_here = did.bounds.place.partition ∙ joint.rests.values_here;
+      store = λ t. stands_same run.layout.markers run.store run.store.entries (disk b) (disk c)
+          (subst (λ (q : Key). disk c q ≡ disk b q) (sym (copy_at Left)) (copies_untrimmed t Left)) (subst (λ (q : Key). disk c q ≡ disk b q) (sym (copy_at Right)) (copies_untrimmed t Right)) (joint.rests.store t);
+      store_here = e.here.store;
+    }
+
+    pub trim_joint : Joint g gives takes told run (disk a) j n o2 (disk c)
+    trim_joint = record {
+      rests = trim_rests;
+      held = joint.held;
+      records = λ t s. ap (records run.layout.record_size) (trim_bytes t s) ∙ joint.records t s;
+      bare = λ t may.
+          let was = joint.bare t may in
+          record {
+            index = λ s small none. subst HasNoBytes (sym (index_untrimmed t s)) (was.index s small none);
+            values = λ s small none.
+                let absent : run.values.held s ≡ None = none_of_not (run.values.held s) (λ has. not_of_none (n.held s) none ((did.held s).1 has)) in
+                subst HasNoBytes (sym (values_untrimmed t s small absent)) (was.values s small absent);
+          };
+      readable = readable;
+    }
+      where
+        values_untrimmed : told → (s : ℕ) → s < 2 ^ 64 → run.values.held s ≡ None → disk c (section_key run.layout.values s) ≡ disk b (section_key run.layout.values s)
+        values_untrimmed t s small none = values_still joint.rests t e.over.apart (disk c) (always_now b c (Each (Cutting run.values (EndOf run.layout.place run.layout.record_size j.sections (disk b)) (disk b))) (did.moments t)) s small none
+
+  -- ---- after the removal of values
+  module _ (c : Timeline) (j : Lists F (PageBlob S gs)) (m : Sections WriteFactory WriteBlob) (o2 : OpenedList) (joint : Joint g gives takes told run (disk a) j m o2 (disk c)) (Doomed : ℕ → Type 0) (decides : (s : ℕ) → Doomed s ⊎ (Doomed s → ⊥))
+      (doomed : (s : ℕ) → Doomed s ↔ (IsHeld m s × (IsHeld j.sections s → ⊥))) (n : Sections WriteFactory WriteBlob) (o3 : OpenedList) (f : Timeline) (did : ValuesRemoved takes told Doomed m n o2 o3 c f)
+      (readable : told → (q : Key) → MayLeave (disk f q) (reads (disk f q))) where
+    now_gone : told → (q : Key) → (IsKeyOf m (λ s. Doomed s × IsHeld m s) q → ⊥) → disk f q ≡ disk c q
+    now_gone t = always_now c f (λ d. (q : Key) → (IsKeyOf m (λ s. Doomed s × IsHeld m s) q → ⊥) → d q ≡ disk c q) (did.moments t)
+
+    index_kept : told → (s : ℕ) → disk f (section_key run.layout.index s) ≡ disk c (section_key run.layout.index s)
+    index_kept t s = now_gone t (section_key run.layout.index s) (λ w. e.over.apart.values (ap (λ (q : Key). q.0) (w.2 ∙ values_key joint.rests w.0)))
+
+    copies_kept : told → (side : Side) → disk f (blob_of run.layout.metadata side) ≡ disk c (blob_of run.layout.metadata side)
+    copies_kept t side = now_gone t (blob_of run.layout.metadata side) (λ w. copy_other side run.layout.values w.0 (inr refl) (w.2 ∙ values_key joint.rests w.0))
+
+    entry_kept : (q : Key) → (IsKeyOf m Doomed q → ⊥) → o3 q ≡ o2 q
+    entry_kept q none = elim (did.entries q) [
+      | inl same ↦ same
+      | inr gone ↦ absurd (none gone.0)
+    ]
+
+    pub removed_bytes : told → (s : ℕ) → fixed.section_bytes j.sections (disk f) s ≡ fixed.section_bytes j.sections (disk c) s
+    removed_bytes t s = ap (λ (q : Key). fixed.bytes_held (j.sections.held s) (disk f q).content) (index_key joint.rests s)
+        ∙ ap (λ (x : Blob). fixed.bytes_held (j.sections.held s) x.content) (index_kept t s) ∙ sym (ap (λ (q : Key). fixed.bytes_held (j.sections.held s) (disk c q).content) (index_key joint.rests s))
+
+    pub removed_opened : IsOpened run.store.partition o2 → IsOpened run.store.partition o3
+    removed_opened was = record {
+      left = subst IsSome (sym (entry_kept (blob_of run.store.partition Left) (λ w. copy_other Left run.layout.values w.0 (inr refl) (sym (copy_at Left) ∙ w.2 ∙ values_key joint.rests w.0)))) was.left;
+      right = subst IsSome (sym (entry_kept (blob_of run.store.partition Right) (λ w. copy_other Right run.layout.values w.0 (inr refl) (sym (copy_at Right) ∙ w.2 ∙ values_key joint.rests w.0)))) was.right;
+    }
+
+    -- only sections with records still have values
+    pub removed_held : (s : ℕ) → IsHeld n s ↔ (IsHeld m s × IsHeld run.walk.journal.sections s)
+    removed_held s = elim (decides s) [
+      | inl is ↦ (λ has. absurd (not_of_none (n.held s) (did.removed s is) has), λ both. absurd (((doomed s).0 is).1 ((joint.held s).1 both.1)))
+      | inr not ↦ (
+        λ has. (let was : IsHeld m s = subst IsSome (did.others s not).held has in (was, (joint.held s).0 (kept not was))),
+        λ both. subst IsSome (sym (did.others s not).held) both.0,
+      )
+    ]
+      where
+        kept : (Doomed s → ⊥) → IsHeld m s → IsHeld j.sections s
+        kept not was = elim (none_or_value (j.sections.held s)) [
+          | inl none ↦ absurd (not ((doomed s).1 (was, not_of_none (j.sections.held s) none)))
+          | inr some ↦ ap is_some some.1
+        ]
+
+    values_kept : told → (s : ℕ) → s < 2 ^ 64 → m.held s ≡ None → disk f (section_key run.layout.values s) ≡ disk c (section_key run.layout.values s)
+    values_kept t s small none = now_gone t (section_key run.layout.values s) (λ w.
+        not_of_none (m.held s) none (subst (IsHeld m) (sym (key_injective run.layout.values s w.0 small (values_number joint.rests w.0 w.1.1) (w.2 ∙ values_key joint.rests w.0))) w.1.1))
+
+    pub removed_rests : Resting g gives takes told run.layout j n run.store o3 (disk f)
+    removed_rests = record {
+      pages = e.pages;
+      journal = journal_stays run.layout.seal run.layout.record_size j o2 o3 (disk c) (disk f)
+          (λ s small. entry_kept (key_of j.sections s) (λ w. e.over.apart.values (ap (λ (q : Key). q.0) (sym (index_key joint.rests s) ∙ w.2 ∙ values_key joint.rests w.0))))
+          (λ t s small. subst (λ (q : Key). disk f q ≡ disk c q) (sym (index_key joint.rests s)) (index_kept t s)) joint.rests.journal;
+      proven = joint.rests.proven;
+      index_settled = joint.rests.index_settled;
+      index_known = joint.rests.index_known;
+      index_here = joint.rests.index_here;
+      page_size = joint.rests.page_size;
+      some = e.here.some;
+      values = did.values;
+      values_settled = λ s has. elim (decides s) [
+        | inl is ↦ absurd (not_of_none (n.held s) (did.removed s is) has)
+        | inr not ↦ subst (λ (x : Option WriteBlob). IsSomeAnd x (λ u. (u.settled ≡ count_of u) × (is_unsettled u ≡ false))) (sym (did.others s not).held) (joint.rests.values_settled s (subst IsSome (did.others s not).held has))
+      ];
+      values_known = λ s. did.unopened s ∙ joint.rests.values_known s;
+      values_here = did.bounds.place.partition ∙ joint.rests.values_here;
+      store = λ t. stands_same run.layout.markers run.store run.store.entries (disk c) (disk f)
+          (subst (λ (q : Key). disk f q ≡ disk c q) (sym (copy_at Left)) (copies_kept t Left)) (subst (λ (q : Key). disk f q ≡ disk c q) (sym (copy_at Right)) (copies_kept t Right)) (joint.rests.store t);
+      store_here = e.here.store;
+    }
+
+    pub removed_joint : Joint g gives takes told run (disk a) j n o3 (disk f)
+    removed_joint = record {
+      rests = removed_rests;
+      held = joint.held;
+      records = λ t s. ap (records run.layout.record_size) (removed_bytes t s) ∙ joint.records t s;
+      bare = λ t may.
+          let was = joint.bare t may in
+          record {
+            index = λ s small none. subst HasNoBytes (sym (index_kept t s)) (was.index s small none);
+            values = λ s small none. elim (none_or_value (m.held s)) [
+              | inl absent ↦ subst HasNoBytes (sym (values_kept t s small absent)) (was.values s small absent)
+              | inr some ↦ subst HasNoBytes (sym (removed_blob t s none (ap is_some some.1))) refl
+            ];
+          };
+      readable = readable;
+    }
+      where
+        removed_blob : told → (s : ℕ) → n.held s ≡ None → IsHeld m s → disk f (section_key run.layout.values s) ≡ nothing
+        removed_blob t s none has = elim (decides s) [
+          | inl is ↦ subst (λ (q : Key). disk f q ≡ nothing) (values_key joint.rests s) (did.gone t s is has)
+          | inr not ↦ absurd (not_of_none (n.held s) none (subst IsSome (sym (did.others s not).held) has))
+        ]

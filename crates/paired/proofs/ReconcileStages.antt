@@ -1,0 +1,150 @@
+-- Each stage of the end of an opening: records are cut, then values, then those without records are removed, then markers move.
+use Rattle.std.proofs.Common.{◌≡◌, ◌↔◌, inl, inr, ℕ, ◌^◌, ◌<◌, length, Option, None, Some, IsSome, IsSomeAnd, refl, sym, ◌∙◌, ap, subst, arith, length-take}
+use Rattle.std.specs.Prelude.{⊤}
+use Rattle.std.specs.Option.{option_map}
+use Rattle.blob_device.specs.Disk.{Key, Disk, MayLeave, reads}
+use Rattle.blob_device.specs.Opened.{OpenedList}
+use Rattle.blob_device.specs.Timeline.{Timeline, disk, Always, Each}
+use Rattle.blob_device.proofs.Moments.{always_weaker}
+use Rattle.sealed_pages.specs.declared.page_blob.PageBlob.{PageBlob}
+use Rattle.sealed_pages.specs.declared.write_blob.WriteBlob.{WriteBlob}
+use Rattle.segments.specs.declared.buffer.SectionBuffer as buffer
+use Rattle.segments.specs.declared.unsealed.WriteFactory.{WriteFactory}
+use Rattle.segments.specs.FixedLists.{Lists}
+use Rattle.segments.specs.FixedLists as fixed
+use Rattle.segments.specs.Sections.{Sections, IsHeld, IsKeyOf}
+use Rattle.segments.specs.Setting.{Setting}
+use Rattle.segments.specs.Unsealed.{count_of}
+use Rattle.segments.proofs.KeyLemmas.{key_injective}
+use Rattle.segments.proofs.WalkLemmas.{none_or_value}
+use Rattle.meta_store.proofs.Uses.{IsReadable}
+use Rattle.paired.specs.Crashes.{IsBlobOf, IsIndexOf}
+use Rattle.paired.specs.GlobLasting.{Cutting}
+use Rattle.paired.specs.GlobSections as glob
+use Rattle.paired.specs.Kept.{content_at, stored_records, is_sound_in}
+use Rattle.paired.specs.Opening.{as_read, MayBeOpened, Recalls}
+use Rattle.paired.specs.Places.{last_end}
+use Rattle.paired.specs.Reconciling.{CutTo, EndOf, Shortening}
+use Rattle.paired.specs.Records.{records, is_sound, front}
+use Rattle.paired.specs.Replaying.{Run, IsClean, marker, records_over, records_given}
+use Rattle.paired.proofs.ReconcileResting.{Resting, values_number, values_key, stored_at, values_at}
+use Rattle.paired.proofs.ReconcileStart.{Drained, GaveBack, end_of, given_to, given_whole}
+use Rattle.paired.proofs.ReconcilePhases.{Bare, index_cut_only, shortening_recalls, values_cut_only, cutting_recalls, removing_recalls}
+use Rattle.paired.proofs.ReconcileLeft.{Stage, HeldValues, OtherValues}
+
+pub none_of_not : {T : Type 0} (o : Option T) → (IsSome o → ⊥) → o ≡ None
+none_of_not None not = refl
+none_of_not (Some v) not = absurd (not refl)
+
+pub not_of_none : {T : Type 0} (o : Option T) → o ≡ None → IsSome o → ⊥
+not_of_none o none some = cc (subst IsSome none some)
+
+-- no longer than it is
+not_longer : {S : Type 0} {gs : _} (y : Option (PageBlob S gs)) (v : Option WriteBlob) (n : ℕ) → glob.size_held v ≡ n → IsSomeAnd (option_map (λ w. n) y) (λ k. IsSomeAnd v (λ w. k < count_of w)) → ⊥
+not_longer None v n same is = is
+not_longer (Some w) None n same is = is
+not_longer (Some w) (Some v) n same is = absurd (omega (arith, same, is))
+
+long_held : {S : Type 0} {gs : _} (y : Option (PageBlob S gs)) (v : Option WriteBlob) (n : ℕ) → IsSomeAnd (option_map (λ w. n) y) (λ k. IsSomeAnd v (λ w. k < count_of w)) → IsSome v
+long_held None v n is = absurd is
+long_held (Some w) None n is = absurd is
+long_held (Some w) (Some v) n is = refl
+
+-- Between two stages: all has settled, the same sections are held, and the journal has the records that were given.
+pub record Joint {F S : Type 0} {gs : _} (g : buffer.Ghosts (PageBlob S gs)) (gives : F → Setting) (takes : WriteFactory → Setting) (told : Type 0) (run : Run F (PageBlob S gs)) (start : Disk)
+    (j : Lists F (PageBlob S gs)) (m : Sections WriteFactory WriteBlob) (o : OpenedList) (d : Disk) : Type 0 where
+  pub rests : Resting g gives takes told run.layout j m run.store o d
+  pub held : (s : ℕ) → IsHeld j.sections s ↔ IsHeld run.walk.journal.sections s
+  pub records : told → (s : ℕ) → records run.layout.record_size (fixed.section_bytes j.sections d s) ≡ records_given run start s
+  pub bare : told → MayBeOpened run.layout start → Bare run.layout j m d
+  pub readable : told → (q : Key) → MayLeave (d q) (reads (d q))
+
+module _ {F S : Type 0} {gs : _} {g : buffer.Ghosts (PageBlob S gs)} {gives : F → Setting} {takes : WriteFactory → Setting} {told : Type 0} {run : Run F (PageBlob S gs)} {o : OpenedList} (a : Timeline) (e : Drained g gives takes told run o (disk a))
+    (map_readable : IsReadable run.layout.markers) (t : told) where
+  -- a section of which all records are given has no end
+  pub clean_none : (s : ℕ) → records_given run (disk a) s ≡ records_over run (disk a) s → run.ends s ≡ None
+  clean_none s same = elim (none_or_value (run.ends s)) [
+    | inl none ↦ none
+    | inr some ↦ absurd (omega (arith, ap length same, ap length (given_to e t s some.0 some.1), length-take some.0 (records_over run (disk a) s), (end_of e t s some.0 some.1).within))
+  ]
+
+  -- ---- records are cut
+  module _ (j : Lists F (PageBlob S gs)) (back : GaveBack run j) (readable : (q : Key) → MayLeave (disk a q) (reads (disk a q))) (b : Timeline)
+      (moments : Always a b (Each (Shortening run.layout.seal j.sections (λ s. CutTo run.layout.record_size (run.ends s)) (disk a)))) where
+    abbrev Cuts : Disk → Type 0
+    Cuts = Each (Shortening run.layout.seal j.sections (λ s. CutTo run.layout.record_size (run.ends s)) (disk a))
+
+    clean_cut : (s : ℕ) → IsClean run (disk a) s → (q : Key) → IsBlobOf run.layout (λ x. x ≡ s) q → IsIndexOf run.layout (λ x. IsSome (run.ends x)) q → ⊥
+    clean_cut s is q (inl index) cut =
+        let same : cut.0 ≡ s = key_injective run.layout.index cut.0 index.0 cut.1 index.1 (sym cut.3 ∙ index.3) ∙ index.2 in
+        not_of_none (run.ends s) (clean_none s is.given) (subst (λ (x : ℕ). IsSome (run.ends x)) same cut.2)
+    clean_cut s is q (inr values) cut = e.over.apart.values (ap (λ (k : Key). k.0) (sym cut.3 ∙ values.3))
+
+    pub records_stage : Stage run (IsIndexOf run.layout (λ _. ⊤)) (disk a) a b
+    records_stage = record {
+      only = always_weaker a b Cuts (λ d. (q : Key) → (IsIndexOf run.layout (λ _. ⊤) q → ⊥) → d q ≡ disk a q) (λ d each q none. index_cut_only e j back t d each q (λ is. none (is.0, is.1, tt, is.3))) moments;
+      recalls = λ may. always_weaker a b Cuts (Recalls run.layout (disk a)) (λ d each. shortening_recalls e j back t d each may readable map_readable) moments;
+      clean = λ s is. always_weaker a b Cuts (λ d. (q : Key) → IsBlobOf run.layout (λ x. x ≡ s) q → d q ≡ disk a q) (λ d each q own. index_cut_only e j back t d each q (clean_cut s is q own)) moments;
+      idle = λ all. always_weaker a b Cuts (λ d. d ≡ disk a) (λ d each i q. index_cut_only e j back t d each q (λ cut. not_of_none (run.ends cut.0) (clean_none cut.0 (all.clean cut.0).given) cut.2) i) moments;
+    }
+
+  -- ---- values are cut
+  module _ (b : Timeline) (j : Lists F (PageBlob S gs)) (o1 : OpenedList) (joint : Joint g gives takes told run (disk a) j run.values o1 (disk b)) (bytes : (s : ℕ) → glob.section_bytes run.values (disk b) s ≡ glob.section_bytes run.values (disk a) s) (c : Timeline)
+      (moments : Always b c (Each (Cutting run.values (EndOf run.layout.place run.layout.record_size j.sections (disk b)) (disk b)))) where
+    abbrev Trims : Disk → Type 0
+    Trims = Each (Cutting run.values (EndOf run.layout.place run.layout.record_size j.sections (disk b)) (disk b))
+
+    -- all records that are stored are kept
+    all_kept : (s : ℕ) → s < 2 ^ 64 → front (is_sound_in run.layout (as_read (disk b)) s) (marker run s) 0 (stored_records run.layout (as_read (disk b)) s) ≡ stored_records run.layout (as_read (disk b)) s
+    all_kept s small =
+        let stored : stored_records run.layout (as_read (disk b)) s ≡ records_given run (disk a) s = stored_at joint.rests t s small ∙ joint.records t s in
+        let values : content_at (as_read (disk b)) run.layout.values s ≡ glob.section_bytes run.values (disk a) s = values_at joint.rests t s small ∙ bytes s in
+        (λ i. front (λ r. is_sound run.layout.seal (values i) (run.layout.place r)) (marker run s) 0 (stored i)) ∙ given_whole e t s ∙ sym stored
+
+    clean_trim : (s : ℕ) → IsClean run (disk a) s → IsSomeAnd (EndOf run.layout.place run.layout.record_size j.sections (disk b) s) (glob.IsLonger run.values s) → ⊥
+    clean_trim s is = not_longer (j.sections.held s) (run.values.held s) (last_end run.layout.place (records run.layout.record_size (fixed.section_bytes j.sections (disk b) s)))
+        (is.values ∙ ap (last_end run.layout.place) (sym (joint.records t s ∙ is.given)))
+
+    clean_values : (s : ℕ) → IsClean run (disk a) s → (q : Key) → IsBlobOf run.layout (λ x. x ≡ s) q → IsKeyOf run.values (λ x. IsSomeAnd (EndOf run.layout.place run.layout.record_size j.sections (disk b) x) (glob.IsLonger run.values x)) q → ⊥
+    clean_values s is q (inl index) cut = e.over.apart.values (ap (λ (k : Key). k.0) (sym index.3 ∙ cut.2 ∙ values_key joint.rests cut.0))
+    clean_values s is q (inr values) cut =
+        let has = long_held (j.sections.held cut.0) (run.values.held cut.0) (last_end run.layout.place (records run.layout.record_size (fixed.section_bytes j.sections (disk b) cut.0))) cut.1 in
+        let same : cut.0 ≡ s = key_injective run.layout.values cut.0 values.0 (values_number joint.rests cut.0 has) values.1 (sym (cut.2 ∙ values_key joint.rests cut.0) ∙ values.3) ∙ values.2 in
+        clean_trim s is (subst (λ (x : ℕ). IsSomeAnd (EndOf run.layout.place run.layout.record_size j.sections (disk b) x) (glob.IsLonger run.values x)) same cut.1)
+
+    pub values_stage : Stage run (HeldValues run) (disk a) b c
+    values_stage = record {
+      only = always_weaker b c Trims (λ d. (q : Key) → (HeldValues run q → ⊥) → d q ≡ disk b q) (λ d each q none. values_cut_only joint.rests t e.over.apart d each q (λ is. none (is.0, is.1, (joint.held is.0).0 is.2, is.3))) moments;
+      recalls = λ may. always_weaker b c Trims (Recalls run.layout (disk b)) (λ d each. cutting_recalls joint.rests t e.over.apart d each (joint.bare t may) (joint.readable t) map_readable all_kept) moments;
+      clean = λ s is. always_weaker b c Trims (λ d. (q : Key) → IsBlobOf run.layout (λ x. x ≡ s) q → d q ≡ disk b q) (λ d each q own. (each q).others (clean_values s is q own)) moments;
+      idle = λ all. always_weaker b c Trims (λ d. d ≡ disk b) (λ d each i q. (each q).others (λ cut. clean_trim cut.0 (all.clean cut.0) cut.1) i) moments;
+    }
+
+  -- ---- values without records are removed
+  module _ (c : Timeline) (j : Lists F (PageBlob S gs)) (m : Sections WriteFactory WriteBlob) (o2 : OpenedList) (joint : Joint g gives takes told run (disk a) j m o2 (disk c)) (held : (s : ℕ) → IsHeld m s ↔ IsHeld run.values s)
+      (Doomed : ℕ → Type 0) (doomed : (s : ℕ) → Doomed s → IsHeld j.sections s → ⊥) (f : Timeline)
+      (moments : Always c f (λ d. (q : Key) → (IsKeyOf m (λ s. Doomed s × IsHeld m s) q → ⊥) → d q ≡ disk c q)) where
+    abbrev Removes : Disk → Type 0
+    Removes d = (q : Key) → (IsKeyOf m (λ s. Doomed s × IsHeld m s) q → ⊥) → d q ≡ disk c q
+
+    without : (s : ℕ) → Doomed s → run.walk.journal.sections.held s ≡ None
+    without s is = none_of_not (run.walk.journal.sections.held s) (λ has. doomed s is ((joint.held s).1 has))
+
+    clean_gone : (s : ℕ) → IsClean run (disk a) s → Doomed s → IsHeld m s → ⊥
+    clean_gone s is gone has = doomed s gone ((joint.held s).1 (is.held ((held s).0 has)))
+
+    clean_removed : (s : ℕ) → IsClean run (disk a) s → (q : Key) → IsBlobOf run.layout (λ x. x ≡ s) q → IsKeyOf m (λ x. Doomed x × IsHeld m x) q → ⊥
+    clean_removed s is q (inl index) cut = e.over.apart.values (ap (λ (k : Key). k.0) (sym index.3 ∙ cut.2 ∙ values_key joint.rests cut.0))
+    clean_removed s is q (inr values) cut =
+        let same : cut.0 ≡ s = key_injective run.layout.values cut.0 values.0 (values_number joint.rests cut.0 cut.1.1) values.1 (sym (cut.2 ∙ values_key joint.rests cut.0) ∙ values.3) ∙ values.2 in
+        clean_gone s is (subst Doomed same cut.1.0) (subst (IsHeld m) same cut.1.1)
+
+    pub removing_stage : Stage run (OtherValues run) (disk a) c f
+    removing_stage = record {
+      only = always_weaker c f Removes (λ d. (q : Key) → (OtherValues run q → ⊥) → d q ≡ disk c q)
+          (λ d same q none. same q (λ w. none (w.0, values_number joint.rests w.0 w.1.1, without w.0 w.1.0, w.2 ∙ values_key joint.rests w.0))) moments;
+      recalls = λ may. always_weaker c f Removes (Recalls run.layout (disk c)) (λ d same. removing_recalls joint.rests t e.over.apart d
+          (λ q none. same q (λ w. none (w.0, values_number joint.rests w.0 w.1.1, none_of_not (j.sections.held w.0) (doomed w.0 w.1.0), w.2 ∙ values_key joint.rests w.0))) (joint.bare t may) (joint.readable t) map_readable) moments;
+      clean = λ s is. always_weaker c f Removes (λ d. (q : Key) → IsBlobOf run.layout (λ x. x ≡ s) q → d q ≡ disk c q) (λ d same q own. same q (clean_removed s is q own)) moments;
+      idle = λ all. always_weaker c f Removes (λ d. d ≡ disk c) (λ d same i q. same q (λ w. clean_gone w.0 (all.clean w.0) w.1.0 w.1.1) i) moments;
+    }

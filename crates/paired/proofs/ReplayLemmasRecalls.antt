@@ -1,0 +1,203 @@
+-- What a crash keeps of a pair at a moment of the walk of an opening.
+use Rattle.std.specs.Prelude.{◌≡◌, ℕ, ◌*◌, ◌/◌, ◌^◌, ◌<◌, ◌≤◌, ⊤, cond, Bool, true, false, List, [], length, map, take, IsTrue, Option, None, Some, IsSome, is_some, unwrap_or}
+use Rattle.std.proofs.Common.{inl, inr, refl, sym, ◌∙◌, ap, subst, arith}
+use Rattle.std.specs.List.{AllByRecursion}
+use Rattle.std.proofs.lemmas.Bool.{cases_Bool}
+use Rattle.std.proofs.lemmas.List.{take_all, take-take, nil_from_length}
+use Rattle.std.proofs.lemmas.Nat.{le-div}
+use Rattle.std.proofs.Math.Nat.{div-mul-le_self}
+use Rattle.blob_device.specs.Disk.{Key, Blob, Disk, Image, IsCrashOf, IsSettled, MayLeave, past, reads, longest}
+use Rattle.blob_device.specs.Opened.{OpenedList}
+use Rattle.blob_device.specs.Timeline.{Each}
+use Rattle.sealed_pages.specs.declared.page_blob.PageBlob.{PageBlob}
+use Rattle.sealed_pages.specs.declared.write_blob.WriteBlob.{WriteBlob}
+use Rattle.sealed_pages.specs.Shown.{shown}
+use Rattle.sealed_pages.specs.ChanceSeal as pages
+use Rattle.sealed_pages.specs.Cutting.{IsAtRest}
+use Rattle.sealed_pages.specs.SealedPrefix.{sealed_prefix, Prefix}
+use Rattle.segments.specs.declared.buffer.SectionBuffer as buffer
+use Rattle.segments.specs.declared.unsealed.WriteFactory.{WriteFactory}
+use Rattle.segments.specs.FixedReplay.{Replaying}
+use Rattle.segments.specs.Sealed.{is_unsettled}
+use Rattle.segments.specs.SealedLaws.{all_settled, rested}
+use Rattle.segments.specs.UnsealedLaws.{rested as values_rested}
+use Rattle.segments.specs.Sections.{section_key, key_of, IsHeld}
+use Rattle.segments.specs.Setting.{Setting}
+use Rattle.segments.specs.Unsealed as unsealed
+use Rattle.segments.proofs.FixedWriteLemmas.{ArePages}
+use Rattle.segments.proofs.WalkLemmas.{none_or_value, value_of}
+use Rattle.paired.specs.Crashes.{IsIndexOf, NoChanceSeal}
+use Rattle.paired.specs.Kept.{Layout, Markers, marker_of, content_at, stored_records, is_sound_in}
+use Rattle.paired.specs.Opening.{MayBeOpened, RecallsAlone}
+use Rattle.paired.specs.Records.{records, is_sound, front, entry_of}
+use Rattle.paired.specs.Replaying.{Run, pair_of, IsRun, IsOpeningRun}
+use Rattle.paired.proofs.GlobLemmas.{buffers}
+use Rattle.paired.proofs.OpeningEnds.{KeptHere}
+use Rattle.paired.proofs.OpeningLaws.{left_as_read}
+use Rattle.paired.proofs.OpeningPhases.{IsPhase, IsBack, sections_of}
+use Rattle.paired.proofs.PairFacts.{not_there}
+use Rattle.paired.proofs.PairSynced.{Here}
+use Rattle.paired.proofs.ReplayLemmas.{records_of_items}
+
+-- ---- a blob at rest
+rest_settled : (b : Blob) → IsAtRest b → IsSettled b
+rest_settled b rest = record { sure = ap (λ (x : Blob). x.unsure) rest; since = ap (λ (x : Blob). x.since) rest; loose = ap (λ (x : Blob). x.loose) rest; content = sym (ap (λ (x : Blob). x.settled) rest) }
+
+rest_reads : (b : Blob) → IsAtRest b → reads b ≡ Some b.content
+rest_reads b rest = ap reads rest
+
+-- each crash leaves it as it reads
+rest_left : (b : Blob) → IsAtRest b → (left : Option (List ℕ)) → MayLeave b left → left ≡ Some b.content
+rest_left b rest left may = left_as_read b (rest_settled b rest) left may ∙ rest_reads b rest
+
+-- of one that no crash leaves a byte in, nothing is left
+nothing_left : (b : Blob) → longest b ≡ 0 → (left : Option (List ℕ)) → MayLeave b left → unwrap_or left [] ≡ []
+nothing_left b none None may = refl
+nothing_left b none (Some c) may = nil_from_length c (omega (arith, none, may.1.no_longer))
+
+absent_reads : (b : Blob) → b.there ≡ false → unwrap_or (reads b) [] ≡ []
+absent_reads b none = ap (λ (is : Bool). unwrap_or (cond is (Some b.content) None) []) none
+
+-- a prefix with all whole items has the same records
+by_prefix : (seal : List ℕ → ℕ) (P size : ℕ) (bytes c : List ℕ) → 1 ≤ size → Prefix seal P bytes (length bytes / size * size) c → records size (sealed_prefix seal P c) ≡ records size bytes
+by_prefix seal P size bytes c pos prefix =
+    let n : ℕ = length (sealed_prefix seal P c) in
+    let fewer : n / size ≤ length bytes / size = le-div (n / size) (length bytes) size (omega (arith, pos)) (omega (arith, div-mul-le_self n size, prefix.no_longer)) in
+    let more : length bytes / size ≤ n / size = le-div (length bytes / size) n size (omega (arith, pos)) prefix.no_shorter in
+    records_of_items size (sealed_prefix seal P c) bytes pos (omega (arith, fewer, more))
+    (ap (take (length bytes / size * size)) prefix.is ∙ take-take (length bytes / size * size) n bytes prefix.no_shorter)
+
+prefix_left : (seal : List ℕ → ℕ) (P : ℕ) (bytes : List ℕ) (least : ℕ) (b : Blob) (left : Option (List ℕ)) → MayLeave b left → pages.Leaves seal P bytes least b → pages.NoChanceSeal seal P (past b) (unwrap_or left [])
+    → IsSome left × Prefix seal P bytes least (unwrap_or left [])
+prefix_left seal P bytes least b None may leaves fresh = absurd (leaves None may)
+prefix_left seal P bytes least b (Some c) may leaves fresh = (refl, leaves (Some c) may fresh)
+
+-- ---- a section with the records and the values that it had
+kept_as : (l : Layout) (old image : Image) (markers : Markers) (s : ℕ) → (IsSome (old (section_key l.index s)) → IsSome (image (section_key l.index s))) → stored_records l image s ≡ stored_records l old s
+    → content_at image l.values s ≡ content_at old l.values s → KeptHere l old image markers s
+kept_as l old image markers s there records_same values =
+    let sound_same : is_sound_in l image s ≡ is_sound_in l old s = (λ i r. is_sound l.seal (values i) (l.place r)) in
+    record {
+      there = there;
+      stored = records_same ∙ sym (take_all (length (stored_records l image s)) (stored_records l old s) (omega (arith, ap length records_same)));
+      kept = (λ i. map (entry_of l.place (values i)) (front (sound_same i) (marker_of markers s) 0 (records_same i)));
+      marked = λ m is was. (
+        omega (arith, ap length records_same, was.enough),
+        subst (λ (rs : List (List ℕ)). AllByRecursion (λ r. IsTrue (is_sound_in l image s r)) (take m rs)) (sym records_same)
+            (subst (λ (f : List ℕ → Bool). AllByRecursion (λ r. IsTrue (f r)) (take m (stored_records l old s))) (sym sound_same) was.sound),
+      );
+    }
+
+-- ---- a moment of the walk
+module _ {F S : Type 0} {gs : _} {g : buffer.Ghosts (PageBlob S gs)} {gives : F → Setting} {takes : WriteFactory → Setting} {told : Type 0} {opened : OpenedList} (run : Run F (PageBlob S gs)) (d x : Disk)
+    (are : ArePages g run.layout.seal) (here : Here gives (pair_of run)) (over : IsRun run g gives buffers takes told opened d) (tracked : run.tracked ≡ true) (t : told)
+    (reads_so : (q : Key) → MayLeave (d q) (reads (d q))) (may_open : MayBeOpened run.layout d) (moment : Each (Replaying run.layout.seal run.layout.record_size run.walk d) x) where
+  opening : IsOpeningRun run g told d
+  opening = over.opening tracked
+
+  small_held : (s : ℕ) → IsHeld run.walk.journal.sections s → s < 2 ^ 64
+  small_held s held = over.index.over.opened_list.number s (inl held)
+
+  key_is : (s : ℕ) → key_of run.walk.journal.sections s ≡ section_key run.layout.index s
+  key_is s = ap (λ (p : List ℕ). section_key p s) here.index
+
+  value_key_is : (s : ℕ) → key_of run.values s ≡ section_key run.layout.values s
+  value_key_is s = ap (λ (p : List ℕ). section_key p s) here.values
+
+  page_is : (s : ℕ) (u : PageBlob S gs) → run.walk.journal.sections.held s ≡ Some u → u.page_size ≡ run.layout.page_size
+  page_is s u held = sym (are.page_size u) ∙ ap (λ (z : Setting). z.page_size) (over.index.over.opened_list.setting s u held) ∙ here.page_size
+
+  idle : (s : ℕ) (u : PageBlob S gs) → run.walk.journal.sections.held s ≡ Some u → is_unsettled (shown u) ≡ false
+  idle s u held = sym (are.unsettled u) ∙ opening.index_settled s u held
+
+  index_rests : (s : ℕ) (u : PageBlob S gs) → run.walk.journal.sections.held s ≡ Some u → IsAtRest (d (section_key run.layout.index s))
+  index_rests s u held = subst (λ (q : Key). IsAtRest (d q)) (key_is s)
+      (rested run.layout.seal (shown u) (d (key_of run.walk.journal.sections s)) (are.stands u (d (key_of run.walk.journal.sections s)) ((over.index.over.disk t).stands s u held)) (idle s u held))
+
+  -- no blob changes but those of held sections
+  others : (q : Key) → (IsIndexOf run.layout (λ s. IsTrue (is_some (run.walk.journal.sections.held s))) q → ⊥) → x q ≡ d q
+  others q not = (moment q).others (λ own. not (own.0, small_held own.0 own.1.0, own.1.0, own.2 ∙ key_is own.0))
+
+  abbrev IsChanged : ℕ → Bool
+  IsChanged s = is_some (run.walk.journal.sections.held s)
+
+  phase : IsPhase run.layout over.apart d x IsChanged false
+  phase = record {
+    readable = λ q own. reads_so q;
+    no_chance = may_open.no_chance;
+    others = λ q not. others q (λ own. not (inl own));
+  }
+
+  -- ---- the records of a held section
+  abbrev sealed : ℕ → List ℕ
+  sealed s = sealed_prefix run.layout.seal run.layout.page_size (d (section_key run.layout.index s)).content
+
+  module _ (image : Image) (crash : IsCrashOf x image) (fresh : NoChanceSeal run.layout x image) (s : ℕ) (small : s < 2 ^ 64) where
+    abbrev IsIndexKept : Type 0
+    IsIndexKept = IsSome (image (section_key run.layout.index s)) × (stored_records run.layout image s ≡ records run.layout.record_size (sealed s))
+
+    as_it_was : (u : PageBlob S gs) → run.walk.journal.sections.held s ≡ Some u → x (section_key run.layout.index s) ≡ d (section_key run.layout.index s) → IsIndexKept
+    as_it_was u held same =
+        let is : image (section_key run.layout.index s) ≡ Some (d (section_key run.layout.index s)).content =
+        rest_left (d (section_key run.layout.index s)) (index_rests s u held) (image (section_key run.layout.index s)) (subst (λ (b : Blob). MayLeave b (image (section_key run.layout.index s))) same (crash (section_key run.layout.index s))) in (
+          subst IsSome (sym is) refl,
+          ap (λ (o : Option (List ℕ)). records run.layout.record_size (sealed_prefix run.layout.seal run.layout.page_size (unwrap_or o []))) is,
+        )
+
+    cut_back : pages.Leaves run.layout.seal run.layout.page_size (sealed s) (length (sealed s) / run.layout.record_size * run.layout.record_size) (x (section_key run.layout.index s)) → IsIndexKept
+    cut_back leaves =
+        let left = prefix_left run.layout.seal run.layout.page_size (sealed s) (length (sealed s) / run.layout.record_size * run.layout.record_size) (x (section_key run.layout.index s)) (image (section_key run.layout.index s))
+        (crash (section_key run.layout.index s)) leaves (fresh.slots s small) in
+        (left.0, by_prefix run.layout.seal run.layout.page_size run.layout.record_size (sealed s) (content_at image run.layout.index s) here.some left.1)
+
+    abbrev LeavesAt : Key → ℕ → Type 0
+    LeavesAt q P = pages.Leaves run.layout.seal P (sealed_prefix run.layout.seal P (d q).content) (length (sealed_prefix run.layout.seal P (d q).content) / run.layout.record_size * run.layout.record_size) (x q)
+
+    index_kept : (u : PageBlob S gs) → run.walk.journal.sections.held s ≡ Some u → IsIndexKept
+    index_kept u held = elim (cases_Bool (run.walk.journal.unrecovered s)) [
+      | inr free ↦ as_it_was u held (subst (λ (q : Key). x q ≡ d q) (key_is s)
+          ((moment (key_of run.walk.journal.sections s)).still s u held (all_settled (shown u) (idle s u held), inl free) refl))
+      | inl owed ↦ elim ((moment (key_of run.walk.journal.sections s)).cut s u held owed refl) [
+        | inl same ↦ as_it_was u held (subst (λ (q : Key). x q ≡ d q) (key_is s) same)
+        | inr cut ↦ cut_back (subst (λ (q : Key). LeavesAt q run.layout.page_size) (key_is s) (subst (LeavesAt (key_of run.walk.journal.sections s)) (page_is s u held) cut.1))
+      ]
+    ]
+
+    -- ---- its values
+    values_same : x (section_key run.layout.values s) ≡ d (section_key run.layout.values s)
+    values_same = others (section_key run.layout.values s) (λ own. over.apart.values (sym (ap (λ (k : Key). k.0) own.3)))
+
+    values_left : MayLeave (d (section_key run.layout.values s)) (image (section_key run.layout.values s))
+    values_left = subst (λ (b : Blob). MayLeave b (image (section_key run.layout.values s))) values_same (crash (section_key run.layout.values s))
+
+    values_kept : content_at image run.layout.values s ≡ unwrap_or (reads (d (section_key run.layout.values s))) []
+    values_kept = elim (none_or_value (run.values.held s)) [
+      | inl none ↦
+          let gone : (d (section_key run.layout.values s)).there ≡ false = subst (λ (q : Key). (d q).there ≡ false) (value_key_is s) (not_there run.values opened d over.values.over t s small none (opening.values_known s)) in
+          nothing_left (d (section_key run.layout.values s)) (may_open.values_absent s small gone) (image (section_key run.layout.values s)) values_left ∙ sym (absent_reads (d (section_key run.layout.values s)) gone)
+      | inr some ↦
+          let all = value_of (run.values.held s) (λ (u : WriteBlob). (u.settled ≡ unsealed.count_of u) × (unsealed.is_unsettled u ≡ false)) (opening.values_settled s (subst IsSome (sym some.1) refl)) in
+          let rests : IsAtRest (d (section_key run.layout.values s)) = subst (λ (q : Key). IsAtRest (d q)) (value_key_is s)
+          (values_rested all.value (d (key_of run.values s)) ((over.values.over.disk t).stands s all.value all.is) all.has.1) in
+          ap (λ (o : Option (List ℕ)). unwrap_or o []) (rest_left (d (section_key run.layout.values s)) rests (image (section_key run.layout.values s)) values_left ∙ sym (rest_reads (d (section_key run.layout.values s)) rests))
+    ]
+
+    -- ---- both, against what was
+    section_kept : (old : Image) → IsBack run.layout over.apart d x IsChanged false image old → (markers : Markers) → IsTrue (IsChanged s) → KeptHere run.layout old image markers s
+    section_kept old back markers changed = elim (none_or_value (run.walk.journal.sections.held s)) [
+      | inl none ↦ absurd (cc (subst IsSome none changed))
+      | inr some ↦
+          let now = index_kept some.0 some.1 in
+          let was : old (section_key run.layout.index s) ≡ Some (d (section_key run.layout.index s)).content =
+          back.own (section_key run.layout.index s) (inl (s, small, changed, refl)) ∙ rest_reads (d (section_key run.layout.index s)) (index_rests s some.0 some.1) in
+          kept_as run.layout old image markers s (λ there. now.0)
+          (now.1 ∙ sym (ap (λ (o : Option (List ℕ)). records run.layout.record_size (sealed_prefix run.layout.seal run.layout.page_size (unwrap_or o []))) was))
+          (values_kept ∙ sym (ap (λ (o : Option (List ℕ)). unwrap_or o []) (back.own (section_key run.layout.values s) (inr (inl (s, small, changed, refl))))))
+    ]
+
+  -- At a moment of a replay each crash keeps what one before it would have kept.
+  pub replaying_recalls : RecallsAlone run.layout (IsIndexOf run.layout (λ _. ⊤)) d x
+  replaying_recalls = record {
+    recalls = sections_of run.layout over.apart d x IsChanged false phase refl (λ image old crash fresh back markers lawful s small changed. section_kept image crash fresh s small old back markers changed);
+    others = λ q not. others q (λ own. not (own.0, own.1, tt, own.3));
+  }

@@ -1,0 +1,26 @@
+-- What the end of an opening cuts, and what each moment of a cut leaves.
+use Rattle.std.specs.Prelude.{◌≡◌, ℕ, ◌*◌, ◌<◌, min, List, Option, None, Some, IsSomeAnd}
+use Rattle.std.specs.Option.{option_map}
+use Rattle.blob_device.specs.Disk.{Key, Blob, Disk}
+use Rattle.sealed_pages.specs.Buffer.{bytes_of, size_of}
+use Rattle.sealed_pages.specs.ChanceSeal.{Leaves}
+use Rattle.sealed_pages.specs.Shown.{shown}
+use Rattle.sealed_pages.specs.declared.page_blob.PageBlob.{PageBlob}
+use Rattle.segments.specs.FixedLists.{section_bytes}
+use Rattle.segments.specs.Sections.{Sections, key_of, IsKeyOf}
+use Rattle.paired.specs.Places.{last_end}
+use Rattle.paired.specs.Records.{records}
+
+-- to how many bytes a section is cut, where it is cut to so many records
+abbrev pub CutTo : ℕ → Option ℕ → Option ℕ
+CutTo size = option_map (λ n. n * size)
+
+module _ {F S : Type 0} {gs : _} where
+  -- Each crash leaves of a section that is cut a prefix of its bytes, no shorter than the cut or than what had settled. No other blob changes.
+  pub record Shortening (seal : List ℕ → ℕ) (m : Sections F (PageBlob S gs)) (size_to : ℕ → Option ℕ) (from : Disk) (q : Key) (b : Blob) : Type 0 where
+    pub shortened : (s n : ℕ) (u : PageBlob S gs) → size_to s ≡ Some n → m.held s ≡ Some u → q ≡ key_of m s → Leaves seal u.page_size (bytes_of (shown u) (from q).content) (min u.settled n) b
+    pub others : (IsKeyOf m (λ s. IsSomeAnd (size_to s) (λ n. IsSomeAnd (m.held s) (λ u. n < size_of (shown u)))) q → ⊥) → b ≡ from q
+
+  -- where the values of a held section end
+  abbrev pub EndOf : (List ℕ → ℕ × ℕ) → ℕ → Sections F (PageBlob S gs) → Disk → ℕ → Option ℕ
+  EndOf place size m d s = option_map (λ u. last_end place (records size (section_bytes m d s))) (m.held s)
