@@ -10,6 +10,7 @@ use Rattle.sealed_pages.specs.View.{page_at}
 use Rattle.sealed_pages.proofs.SlotLemmas.{times_more, times_next, page_next}
 use Rattle.sealed_pages.proofs.Steps.{below_sound}
 use Rattle.sealed_pages.proofs.SlotSteps.{settled_stands}
+use Rattle.sealed_pages.proofs.HadLemmas.{had_rest}
 use Rattle.sealed_pages.proofs.PageCalls.{other_slot}
 
 -- the page in which the flushed bytes end
@@ -115,6 +116,7 @@ module _ (seal : List ℕ → ℕ) (P : ℕ) (pos : 1 ≤ P) (all : List ℕ) (f
     };
     order = omega arith;
     rest = λ e. a.is;
+    had = had_rest b a.is;
     last = head_is seal P pos all first from newest behind torn begun b a;
     head = λ k low high. head_is seal P pos all first from newest behind torn begun b a k low high ∙ sym (ap (λ (t : Bool). cond t newest (next_slot P (first * P + from) newest k)) (eq-eqb (first * P + from) (first * P + from) refl));
   }

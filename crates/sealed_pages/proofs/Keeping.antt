@@ -18,6 +18,7 @@ use Rattle.sealed_pages.proofs.Steps.{slot_high, below_sound, named_same}
 use Rattle.sealed_pages.proofs.SlotSteps.{slot_is, settled_stands, slot_data_kept, slot_kept, held_slot}
 use Rattle.sealed_pages.proofs.Repairing.{cleared_below, behind_below, repaired_quiet}
 use Rattle.blob_device.proofs.GuardsLemmas.{sealed_after, sealed_start, sealed_on}
+use Rattle.sealed_pages.proofs.HadLemmas.{had_settled}
 use Rattle.sealed_pages.proofs.PageCalls.{only_weaker}
 use Rattle.sealed_pages.proofs.SealedBytes.{stands_leaves}
 
@@ -133,6 +134,7 @@ module _ (seal : List ℕ → ℕ) (P : ℕ) (bytes : List ℕ) (F : ℕ) (σ : 
       flushed = record { fits = kept.content.fits; quiet = repaired_quiet seal P F (disk t0 key).content q kept.content.below end start clean; same = kept.content.same; covers = kept.content.covers };
       order = omega arith;
       rest = λ e. refl;
+      had = had_settled (disk t0 key).content;
       last = head;
       head = λ k low high. head k low high ∙ sym (ap (λ (t : Bool). cond t newest (next_slot P F newest k)) (eq-eqb F F refl));
     })

@@ -4,6 +4,7 @@ pub mod SealedBytes
 pub mod Steps
 pub mod SlotSteps
 pub mod EntryLemmas
+pub mod HadLemmas
 pub mod PageCalls
 pub mod Adopt
 pub mod Repairing

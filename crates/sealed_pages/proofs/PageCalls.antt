@@ -14,6 +14,7 @@ use Rattle.sealed_pages.specs.Flushing.{next_slot, last_slot, with_slot, Quiet, 
 use Rattle.sealed_pages.specs.Slots.{slot_bytes}
 use Rattle.sealed_pages.specs.View.{View, view, page_at, slot_at, StandsAt}
 use Rattle.blob_device.proofs.GuardsLemmas.{sealed_start, sealed_on}
+use Rattle.sealed_pages.proofs.HadLemmas.{had_settled, had_write}
 use Rattle.sealed_pages.proofs.SealedBytes.{stands_leaves, all_map}
 use Rattle.sealed_pages.proofs.SlotLemmas.{times_more}
 use Rattle.sealed_pages.proofs.Steps.{tidy_sound, data_quiet, data_same}
@@ -114,6 +115,7 @@ module _ (seal : List ℕ → ℕ) (P : ℕ) (bytes : List ℕ) (F L : ℕ) (new
       flushed = subst (Flushed seal P bytes (k * P + length page) (with_slot begun.ready.τ k b)) (sym content2) (subst (λ (n : ℕ). Flushed seal P bytes n (with_slot begun.ready.τ k b) (written (written (disk t0 key).content (page_at P k + f) (drop f page)) (slot_at P k b) (slot_bytes seal P page))) far done_now);
       order = omega (arith, begun.ready.order, begun.is, begun.new);
       rest = λ e. absurd (omega (arith, e, begun.ready.order, begun.is, begun.new));
+      had = had_write key (slot_at P k b) (slot_bytes seal P page) u t1 t2 second;
       last = begun.ready.last;
       head = head_is;
     }
@@ -184,6 +186,7 @@ module _ (seal : List ℕ → ℕ) (P : ℕ) (pos : 1 ≤ P) (key : Key) (bytes 
     flushed = ready.flushed;
     order = omega arith;
     rest = λ e. refl;
+    had = had_settled b.content;
     last = λ k low high. ready.head k low high ∙ sym (pick k low high);
     head = λ k low high. ready.head k low high ∙ sym (pick k low high) ∙ sym (ap (λ (t : Bool). cond t slot (next_slot P F slot k)) (eq-eqb F F refl));
   }
@@ -223,6 +226,7 @@ module _ (seal : List ℕ → ℕ) (P : ℕ) (bytes more : List ℕ) where
     };
     order = ready.order;
     rest = ready.rest;
+    had = ready.had;
     last = ready.last;
     head = ready.head;
   }

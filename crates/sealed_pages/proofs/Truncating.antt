@@ -25,6 +25,7 @@ use Rattle.sealed_pages.proofs.Adopting.{end_page}
 use Rattle.sealed_pages.proofs.Cuts.{take_front, below_start, best_is, cut_prefix, cut_at_most, cut_quiet, zeros_below, zeros_quiet, zeros_covers, zeros_prefix, with_own}
 use Rattle.sealed_pages.proofs.CutCalls.{sealing_less, sealing_then}
 use Rattle.sealed_pages.proofs.Looking.{unchanged_now}
+use Rattle.sealed_pages.proofs.HadLemmas.{had_rest}
 use Rattle.sealed_pages.proofs.PageCalls.{alone_then}
 use Rattle.sealed_pages.proofs.Repairing.{page_order}
 use Rattle.sealed_pages.proofs.CutSteps.{other_not, last2, own2, prefix2, inside2}
@@ -91,6 +92,7 @@ module _ (seal : List ℕ → ℕ) (P : ℕ) where
     last = head;
     head = λ k low high. head k low high ∙ sym (ap (λ (t : Bool). cond t newest (next_slot P F newest k)) (eq-eqb F F refl));
     rest = λ e. rest;
+    had = had_rest b rest;
   }
 
   -- the content cut where page j begins

@@ -12,6 +12,7 @@ use Rattle.blob_device.proofs.GuardsLemmas.{guards_settled, guards_crash, guards
 use Rattle.blob_device.proofs.Moments.{always_now, ok_blob, only_start}
 use Rattle.sealed_pages.specs.Buffer.{Buffer, size_of, pages_of, bytes_of, IsBacked, IsSealed}
 use Rattle.sealed_pages.specs.ChanceSeal.{NoChanceSeal, Leaves, Sealing}
+use Rattle.sealed_pages.specs.Contents.{IsHad}
 use Rattle.sealed_pages.specs.Cutting.{IsAtRest}
 use Rattle.sealed_pages.specs.Found.{Finds}
 use Rattle.sealed_pages.specs.Starts.{StartsOver}
@@ -26,6 +27,7 @@ use Rattle.sealed_pages.proofs.Adopting.{pages_none, pages_some}
 use Rattle.sealed_pages.proofs.CutCalls.{sealing_then}
 use Rattle.sealed_pages.proofs.CutSteps.{settled_rest}
 use Rattle.sealed_pages.proofs.Cuts.{below_start}
+use Rattle.sealed_pages.proofs.HadLemmas.{had_settled, had_rest}
 use Rattle.sealed_pages.proofs.Syncing.{backed_more}
 use Rattle.sealed_pages.proofs.Truncating.{prefix_covers}
 use Rattle.sealed_pages.proofs.Fronts.{front_start, front_settle, front_look, front_now}
@@ -192,8 +194,8 @@ module _ (seal : List ℕ → ℕ) (u : Buffer) where
     now : HasFront (page_at u.page_size (un.page + 1)) (view (disk a key).content) (disk b key)
     now = (front_now (page_at u.page_size end) key a b spares).crashes (page_at u.page_size (un.page + 1)) (view (disk a key).content) reach un.front
 
-    pub spared_stays : (v : Buffer) → v.page_size ≡ u.page_size → un.page < v.first → IsBacked v (disk b key).content → (v.settled ≡ size_of v → IsAtRest (disk b key)) → IsUnrecovered seal v (disk b key)
-    spared_stays v same below backed rest = record {
+    pub spared_stays : (v : Buffer) → v.page_size ≡ u.page_size → un.page < v.first → IsBacked v (disk b key).content → (v.settled ≡ size_of v → IsAtRest (disk b key)) → IsHad (disk b key) → IsUnrecovered seal v (disk b key)
+    spared_stays v same below backed rest had = record {
       page = un.page;
       below = below;
       short = subst (λ (P : ℕ). page_length seal P (disk b key).content un.page < P) (sym same) (omega (
@@ -206,6 +208,7 @@ module _ (seal : List ℕ → ℕ) (u : Buffer) where
           (record { there = now.there; sure = now.sure; short = now.short; long = now.long; outside = now.outside; same = λ i lt. refl });
       backed = backed;
       rest = rest;
+      had = had;
     }
 
   -- no call was made
@@ -218,7 +221,7 @@ module _ (seal : List ℕ → ℕ) (u : Buffer) where
 
   pub settled_stays : {T : Type 0} (key : Key) (a b : Timeline) (x : T) (v : Buffer) → IsUnrecovered seal u (disk a key) → Passes key Settle (Ok x) a b → v.page_size ≡ u.page_size → v.first ≡ u.first → IsBacked v (disk b key).content → IsUnrecovered seal v (disk b key)
   settled_stays key a b x v un passes same first backed = spared_stays key a b un u.first un.below (front_settle (page_at u.page_size u.first) key a a b (Ok x) (front_start (page_at u.page_size u.first) key a) passes) v same (omega (arith, un.below, first)) backed
-      (λ e. settled_rest (disk b key) (disk a key).content (ok_blob key Settle x a b passes))
+      (λ e. settled_rest (disk b key) (disk a key).content (ok_blob key Settle x a b passes)) (had_rest (disk b key) (settled_rest (disk b key) (disk a key).content (ok_blob key Settle x a b passes)))
 
   -- more bytes in the tip
   pub more_stays : (v : Buffer) (more : List ℕ) (b : Blob) → v ≡ record u { tip = u.tip ++ more } → u.from ≤ length u.tip → u.settled ≤ size_of u → IsUnrecovered seal u b → IsUnrecovered seal v b
@@ -229,6 +232,7 @@ module _ (seal : List ℕ → ℕ) (u : Buffer) where
     front = un.front;
     backed = backed_more u (record u { tip = u.tip ++ more }) more b.content refl within un.backed;
     rest = λ e. un.rest (omega (arith, e, order, length-append u.tip more));
+    had = un.had;
   })
 
   -- the sealed prefix ends below the tip
@@ -259,6 +263,7 @@ module _ (seal : List ℕ → ℕ) (u : Buffer) where
           });
           backed = un.backed;
           rest = un.rest;
+          had = un.had;
         },
         found.1,
       )
@@ -284,7 +289,7 @@ module _ (seal : List ℕ → ℕ) (u : Buffer) (pos : 1 ≤ u.page_size) where
 
     pub cut_stays : keep ≤ page_length seal u.page_size (disk a key).content j → (v : Buffer) → v.page_size ≡ u.page_size → v.first ≡ j → IsBacked v (disk b key).content → IsAtRest (disk b key) → IsUnrecovered seal v (disk b key)
     cut_stays covered v same first backed rest = elim (behind_prefix seal u (disk a key) j keep pos un less) [
-      | inl before ↦ spared_stays seal u key a b before.0 j before.1 spares v same (omega (arith, before.1, first)) backed (λ e. rest)
+      | inl before ↦ spared_stays seal u key a b before.0 j before.1 spares v same (omega (arith, before.1, first)) backed (λ e. rest) (had_rest (disk b key) rest)
       | inr short ↦ absurd (omega (arith, short, covered))
     ]
 
@@ -318,6 +323,7 @@ adopted_unrecovered seal u c found buf pos finds over backed less = go found fin
             (λ i lt. refl);
         backed = backed;
         rest = λ e. refl;
+        had = had_settled c;
       }
       | inr here ↦ absurd (omega (arith, here))
     ]

@@ -11,10 +11,12 @@ use Rattle.blob_device.proofs.Puts.{put_same}
 use Rattle.blob_device.specs.Timeline.{Timeline, disk, Passes}
 use Rattle.blob_device.proofs.Bytes.{length-written, written_end}
 use Rattle.blob_device.proofs.Moments.{ok_blob}
+use Rattle.sealed_pages.specs.Contents.{IsHad}
 use Rattle.sealed_pages.specs.Entries.{IsOpenAt, NoReads, ReadsAtMost}
 use Rattle.sealed_pages.specs.Sparing.{Lasts, Spares, Sparing, LooseOnly}
 use Rattle.sealed_pages.proofs.SparingLemmas.{sparing_then, sparing_weaker, loose_spared, loose_then}
 use Rattle.sealed_pages.specs.Writing.{WriteBuffer, blob_key, bytes_of, size_of, run_of, is_idle, is_unsettled, Joins, StaysBelow, Over}
+use Rattle.sealed_pages.proofs.HadLemmas.{had_rest}
 use Rattle.sealed_pages.proofs.EntryLemmas.{open_some, open_updated, no_reads_part, no_reads_updated, no_reads_resize, open_written, open_resized}
 use Rattle.sealed_pages.proofs.WriteLemmas.{written_nothing, written_again, written_twice, written_cut}
 
@@ -43,16 +45,18 @@ idle_bytes u c is long = let parts = idle_parts u is in ap (written c u.at) part
 pub flushed_bytes : (c now run rest : List ℕ) (at : ℕ) → now ≡ written c at run → rest ≡ [] → written now at rest ≡ written c at run
 flushed_bytes c now run rest at is none = ap (written now at) none ∙ written_nothing now at (omega (arith, ap length is, length-written c at run)) ∙ is
 
-pub over_after : (u r : WriteBuffer) (R : ℕ → Type 0) (b c : Blob) → Spares R u.settled b c → r.settled ≡ u.settled → r.dirty ≡ true → Over u b → Over r c
-over_after u r R b c spares settled dirty over = record {
+pub over_after : (u r : WriteBuffer) (R : ℕ → Type 0) (b c : Blob) → Spares R u.settled b c → r.settled ≡ u.settled → r.dirty ≡ true → IsHad c → Over u b → Over r c
+over_after u r R b c spares settled dirty had over = record {
   lasts = subst (λ (n : ℕ). Lasts n c) (sym settled) (spares.lasts u.settled (omega arith) over.lasts);
   clean = λ is. absurd (cc (is, dirty));
+  had = had;
 }
 
 pub over_settled : (r : WriteBuffer) (b : Blob) → b ≡ settled_at b.content → r.settled ≤ length b.content → Over r b
 over_settled r b is within = record {
   lasts = subst (Lasts r.settled) (sym is) (record { there = refl; sure = refl; short = within; long = within });
   clean = λ clean. is;
+  had = had_rest b is;
 }
 
 -- the same call, its key and its bytes spelled otherwise

@@ -4,6 +4,10 @@ use Rattle.std.specs.List.{AllByRecursion, Contains}
 use Rattle.blob_device.specs.Disk.{Key, Blob, past}
 use Rattle.blob_device.specs.Timeline.{Timeline, disk, Always}
 
+-- what the blob reads as is one of the contents that it has had since it settled
+abbrev pub IsHad : Blob → Type 0
+IsHad b = Contains (past b) b.content
+
 -- each content that the blob has had since it settled has Q
 abbrev pub AllSince : (List ℕ → Type 0) → Blob → Type 0
 AllSince Q b = AllByRecursion Q (past b)

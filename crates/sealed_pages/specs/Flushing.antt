@@ -6,6 +6,7 @@ use Rattle.blob_device.specs.Timeline.{Timeline, disk, Always, OnlyAt}
 use Rattle.sealed_pages.specs.View.{View, view, page_at, slot_at, Within}
 use Rattle.sealed_pages.specs.Slots.{named_length, slot_length}
 use Rattle.sealed_pages.specs.ChanceSeal.{Sealing}
+use Rattle.sealed_pages.specs.Contents.{IsHad}
 
 -- the slot that a flush writes on page k: the one that is not settled, and slot A where none is
 abbrev pub next_slot : ℕ → ℕ → Bool → ℕ → Bool
@@ -58,7 +59,8 @@ module _ (seal : List ℕ → ℕ) (P : ℕ) where
     pub covers : Covers c F τ
 
   -- A blob between calls: of these bytes the first F are flushed and the first L settled, the last of those by the slot
-  -- `newest` where they end within a page. Where all that is flushed has settled, the blob has.
+  -- `newest` where they end within a page. Where all that is flushed has settled, the blob has. It reads as a content that it has
+  -- had, since a write that failed gives the buffer up.
   pub record Ready (bytes : List ℕ) (F L : ℕ) (newest : Bool) (b : Blob) : Type 0 where
     pub w : List ℕ
     pub σ : ℕ → Bool
@@ -70,6 +72,7 @@ module _ (seal : List ℕ → ℕ) (P : ℕ) where
     pub last : (k : ℕ) → k * P < L → L < k * P + P → σ k ≡ newest
     pub head : (k : ℕ) → k * P < F → F < k * P + P → τ k ≡ last_slot P F L newest k
     pub rest : L ≡ F → b ≡ settled_at b.content
+    pub had : IsHad b
 
   -- no slot covers more than F
   abbrev pub Below : ℕ → List ℕ → Type 0

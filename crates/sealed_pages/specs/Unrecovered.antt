@@ -9,6 +9,7 @@ use Rattle.sealed_pages.specs.Slots.{page_length}
 use Rattle.sealed_pages.specs.SealedPrefix.{sealed_prefix}
 use Rattle.sealed_pages.specs.Buffer.{Buffer, key_of, size_of, IsBacked, IsSealed}
 use Rattle.sealed_pages.specs.Cutting.{IsAtRest}
+use Rattle.sealed_pages.specs.Contents.{IsHad}
 
 -- a buffer's blob
 abbrev pub blob_of : Buffer → Timeline → Blob
@@ -44,7 +45,7 @@ module _ (seal : List ℕ → ℕ) (P : ℕ) where
   KeepsPrefix bytes key old new = Always old new (OnlyAt key (disk old) (HasPrefix bytes))
 
 -- A page below the tip's is not full, so the sealed prefix ends in it or before, and all up to its end outlives each crash.
--- What is flushed stands in the blob, and where all bytes have settled, so has the blob.
+-- What is flushed stands in the blob, and where all bytes have settled, so has the blob. It reads as a content that it has had.
 pub record IsUnrecovered (seal : List ℕ → ℕ) (u : Buffer) (b : Blob) : Type 0 where
   pub page : ℕ
   pub below : page < u.first
@@ -52,6 +53,7 @@ pub record IsUnrecovered (seal : List ℕ → ℕ) (u : Buffer) (b : Blob) : Typ
   pub front : HasFront (page_at u.page_size (page + 1)) (view b.content) b
   pub backed : IsBacked u b.content
   pub rest : u.settled ≡ size_of u → IsAtRest b
+  pub had : IsHad b
 
 -- What adopting a settled blob gives, and each call keeps.
 abbrev pub IsAdopted : (List ℕ → ℕ) → Buffer → Blob → Type 0

@@ -6,6 +6,7 @@ use Rattle.blob_device.specs.Keeps.{Keeps}
 use Rattle.sealed_pages.specs.declared.write_blob.WriteBlob.{WriteBlob}
 use Rattle.sealed_pages.specs.View.{Within}
 use Rattle.sealed_pages.specs.Sparing.{Lasts}
+use Rattle.sealed_pages.specs.Contents.{IsHad}
 
 -- What a buffer shows. `end` is the length of its blob. The run `pending` is not flushed; it begins at `at`. The first `settled` bytes
 -- have settled but for those written since, and `dirty` says that flushed ones have not.
@@ -77,9 +78,11 @@ abbrev pub AllPending : WriteBuffer → ℕ → ℕ → Type 0
 AllPending u offset n = (i : ℕ) → Within offset n i → Within u.at (length u.pending) i
 
 -- The buffer stands over this blob: the bytes that it counts as settled outlive every crash, and it knows where all have settled.
+-- The blob reads as a content that it has had, since a call that failed gives the buffer up.
 pub record Over (u : WriteBuffer) (b : Blob) : Type 0 where
   pub lasts : Lasts u.settled b
   pub clean : u.dirty ≡ false → b ≡ settled_at b.content
+  pub had : IsHad b
 
 -- All of the first `settled` bytes, as the buffer means them, outlive every crash, and the run has none of them. A sync makes it so,
 -- and it stays so while bytes are only written behind them.

@@ -1,9 +1,10 @@
 // All pages of a flush.
-ghost use Rattle.std.specs.Prelude.{◌≡◌, ◌≢◌, ◌+◌, ◌*◌, ◌≤◌, ◌<◌, ◌^◌, ◌-◌, ◌++◌, length, IfOk, Bool, ℕ, List};
+ghost use Rattle.std.specs.Prelude.{◌≡◌, ◌≢◌, ◌+◌, ◌*◌, ◌≤◌, ◌<◌, ◌^◌, ◌-◌, ◌++◌, length, IfOk, OnOk, Bool, ℕ, List};
 ghost use Rattle.blob_device.specs.Timeline.{disk};
 ghost use Rattle.blob_device.specs.Counts.{Rose};
 ghost use Rattle.sealed_pages.specs.View.{view, page_at, StandsAt};
 ghost use Rattle.sealed_pages.specs.Flushing.{Ready, PageFlushed, Data, Wrote, next_slot};
+ghost use Rattle.sealed_pages.specs.Contents.{IsHad};
 ghost use Rattle.sealed_pages.specs.Entries.{IsOpenAt, NoReads};
 ghost use Rattle.sealed_pages.specs.Leftover.{SettlesNothing};
 ghost use Rattle.sealed_pages.specs.Unrecovered.{SparesFront};
@@ -52,6 +53,7 @@ pub fn flush_pages<D: Device, S: Seal>(
         → Wrote page_size all (first * page_size + length tip.now) (partition.now, name.now) result (D.time dev.old) (D.time dev.new) }
     ensures front { D.Tells → SparesFront (page_at page_size first) (partition.now, name.now) (D.time dev.old) (D.time dev.new) }
     ensures stays { D.Tells → SettlesNothing (partition.now, name.now) (D.time dev.old) (D.time dev.new) }
+    ensures had { D.Tells → IsHad (disk (D.time dev.old) (partition.now, name.now)) → OnOk result (IsHad (disk (D.time dev.new) (partition.now, name.now))) }
     ensures length { IfOk result (λ n. IsOpenAt (D.opened dev.new) (partition.now, name.now) n) }
     ensures entries { NoReads (partition.now, name.now) (D.opened dev.old) (D.opened dev.new) }
     ensures faults { D.faults dev.old ≤ D.faults dev.new }

@@ -8,6 +8,7 @@ ghost use Rattle.sealed_pages.specs.View.{page_at};
 ghost use Rattle.sealed_pages.specs.ChanceSeal.{Leaves, Sealing};
 ghost use Rattle.sealed_pages.specs.Flushing.{Alone, last_slot};
 ghost use Rattle.sealed_pages.specs.Buffer.{Fit, Buffer, extent, key_of, size_of, bytes_of, flushed_of, FlushesNothing, Holds, IsSealed};
+ghost use Rattle.sealed_pages.specs.Contents.{IsHad};
 ghost use Rattle.sealed_pages.specs.Entries.{IsOpenAt, NoReads};
 ghost use Rattle.sealed_pages.specs.Cutting.{IsAtRest, Settles};
 
@@ -209,6 +210,7 @@ impl<S: Seal> PageBlob<S> {
         ensures clears { D.Tells → IsAtRest (blob_of (shown self) (D.time dev.old)) → Always (D.time dev.old) (D.time dev.new) (OnlyAt (key_of (shown self)) (disk (D.time dev.old)) (ClearsFirst S.seal_of self.page_size self.first self.from self.newest)) }
         ensures cleared { D.Tells → IsAtRest (blob_of (shown self) (D.time dev.old)) → Leftover S.seal_of self.page_size (blob_of (shown self) (D.time dev.old)).content self.first self.from self.newest self.behind self.torn → OnOk result (IsCleared S.seal_of self.page_size self.first self.from self.newest (blob_of (shown self) (D.time dev.new)).settled) }
         ensures settles { D.Tells → (self.behind || self.torn) ≡ true → OnOk result (IsAtRest (disk (D.time dev.new) (key_of (shown self)))) }
+        ensures had { D.Tells → IsHad (blob_of (shown self) (D.time dev.old)) → OnOk result (IsHad (blob_of (shown self) (D.time dev.new))) }
         ensures same { IfOk result (λ r. shown r ≡ record (shown self) { end = r.end; behind = false; torn = false }) }
         ensures length { IfOk result (λ r. IsOpenAt (D.opened dev.new) (key_of (shown self)) r.end) }
         ensures entries { NoReads (key_of (shown self)) (D.opened dev.old) (D.opened dev.new) }
@@ -250,6 +252,7 @@ impl<S: Seal> PageBlob<S> {
             → Wrote self.page_size all (size_of (shown self)) (key_of (shown self)) result (D.time dev.old) (D.time dev.new) }
         ensures front { D.Tells → SparesFront (page_at self.page_size self.first) (key_of (shown self)) (D.time dev.old) (D.time dev.new) }
         ensures stays { D.Tells → SettlesNothing (key_of (shown self)) (D.time dev.old) (D.time dev.new) }
+        ensures had { D.Tells → IsHad (blob_of (shown self) (D.time dev.old)) → OnOk result (IsHad (blob_of (shown self) (D.time dev.new))) }
         ensures same { IfOk result (λ r. shown r ≡ record (shown self) { end = r.end; first = r.first; tip = r.tip.items; from = length r.tip.items }) }
         ensures size { IfOk result (λ r. size_of (shown r) ≡ size_of (shown self)) }
         ensures tip { IfOk result (λ r. (all : List ℕ) → StandsAt all (self.first * self.page_size) self.tip.items → StandsAt all (r.first * r.page_size) r.tip.items) }

@@ -36,6 +36,7 @@ pages-init g c = record {
   later = omega arith;
   front = λ t. front_start (page_at c.args.page_size c.args.first) (c.args.partition.now, c.args.name.now) (g.D.Device.time c.args.dev.now);
   stays = λ t. settles_start (c.args.partition.now, c.args.name.now) (g.D.Device.time c.args.dev.now);
+  had = λ t had. had;
   place = λ lt. omega arith;
   told = λ t all ready at.
       let end : c.args.first * c.args.page_size + c.args.from ≡ c.args.first * c.args.page_size + (0 + c.args.from) = omega arith in
@@ -82,6 +83,7 @@ pages-preserved g c =
       later = omega (arith, c.pages.invariant.later);
       front = λ t. front_then (page_at c.args.page_size c.args.first) (c.args.partition.now, c.args.name.now) (g.D.Device.time c.args.dev.now) (g.D.Device.time c.pages.dev) (g.D.Device.time c.write_page.new.dev) (c.pages.invariant.front t) (front_page c.args.page_size c.args.first c.pages.page (c.args.partition.now, c.args.name.now) (g.D.Device.time c.pages.dev) (g.D.Device.time c.write_page.new.dev) c.pages.invariant.later (c.in_ok-reach.ensures.front t));
       stays = λ t. settles_then (c.args.partition.now, c.args.name.now) (g.D.Device.time c.args.dev.now) (g.D.Device.time c.pages.dev) (g.D.Device.time c.write_page.new.dev) (c.pages.invariant.stays t) (c.in_ok-reach.ensures.stays t);
+      had = λ t had. c.in_ok-reach.ensures.had t;
       place = λ lt. (let n_page : c.min-n.result ≡ c.args.page_size = omega (arith, lt, c.min-n.ensures, c.from-size.ensures) in omega (arith, place, n_page, times_next c.pages.page c.args.page_size));
       told = λ t all ready at.
           let now = c.pages.invariant.told t all ready at in

@@ -1,6 +1,7 @@
 use Rattle.std.proofs.Common.{◌≡◌, ◌≤◌, ◌<◌, ◌+◌, ◌*◌, ◌-◌, ℕ, List, length, Ok}
 use Rattle.blob_device.specs.declared.error.DevError.{DevError}
 use Rattle.blob_device.specs.Timeline.{disk}
+use Rattle.sealed_pages.specs.Contents.{IsHad}
 use Rattle.sealed_pages.specs.Entries.{IsOpenAt, NoReads}
 use Rattle.sealed_pages.specs.Flushing.{Data, Ready, PageFlushed, Wrote}
 use Rattle.sealed_pages.specs.Leftover.{SettlesNothing}
@@ -19,6 +20,7 @@ invariant-pages g l = record {
   later : l.first ≤ l.page;
   front : g.D.Device.Tells → SparesFront (page_at l.page_size l.first) (l.partition, l.name) (g.D.Device.time l.initial.dev) (g.D.Device.time l.dev);
   stays : g.D.Device.Tells → SettlesNothing (l.partition, l.name) (g.D.Device.time l.initial.dev) (g.D.Device.time l.dev);
+  had : g.D.Device.Tells → IsHad (disk (g.D.Device.time l.initial.dev) (l.partition, l.name)) → IsHad (disk (g.D.Device.time l.dev) (l.partition, l.name));
   place : l.at < length l.tip → l.page * l.page_size ≡ l.first * l.page_size + l.at;
   told : g.D.Device.Tells → (all : List ℕ) → Ready g.S.Seal.seal_of l.page_size all (l.first * l.page_size + l.from) l.settled l.newest (disk (g.D.Device.time l.initial.dev) (l.partition, l.name))
       → StandsAt all (l.first * l.page_size) l.tip

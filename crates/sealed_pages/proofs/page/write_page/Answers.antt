@@ -7,6 +7,7 @@ use Rattle.sealed_pages.proofs.PageCalls.{Begun, page_one, page_two, page_ready,
 use Rattle.sealed_pages.proofs.Fronts.{front_start, front_write}
 use Rattle.sealed_pages.specs.View.{page_at}
 use Rattle.sealed_pages.proofs.Clearing.{settles_start, settles_write}
+use Rattle.sealed_pages.proofs.HadLemmas.{had_write}
 use Rattle.sealed_pages.proofs.page.write_page.Goals as goal
 
 pub write_at-requires-clause-fits : goal.write_at-requires-clause-fits
@@ -108,3 +109,6 @@ returns-in_err-write_at-2-clause-stays g c t = settles_write (c.args.partition.n
 
 pub returns-clause-stays : goal.returns-clause-stays
 returns-clause-stays g c t = settles_write (c.args.partition.now, c.args.name.now) (g.D.Device.time c.args.dev.now) (g.D.Device.time c.write_at.new.self) (g.D.Device.time c.write_at-2.new.self) _ _ _ (settles_write (c.args.partition.now, c.args.name.now) (g.D.Device.time c.args.dev.now) (g.D.Device.time c.args.dev.now) (g.D.Device.time c.write_at.new.self) _ _ _ (settles_start (c.args.partition.now, c.args.name.now) (g.D.Device.time c.args.dev.now)) (c.in_ok-write_at.ensures.told t)) (c.in_ok-write_at-2.ensures.told t)
+
+pub returns-clause-had : goal.returns-clause-had
+returns-clause-had g c t = had_write (c.args.partition.now, c.args.name.now) _ _ _ (g.D.Device.time c.write_at.new.self) (g.D.Device.time c.write_at-2.new.self) (c.in_ok-write_at-2.ensures.told t)

@@ -1,10 +1,11 @@
 use Rattle.std.proofs.Common.{◌≡◌, ◌*◌, ap, sym, subst, ◌+◌, ◌≤◌, ◌<◌, ◌∙◌, ℕ, length, arith, false, List}
-use Rattle.std.specs.Prelude.{IfOk}
+use Rattle.std.specs.Prelude.{IfOk, OnOk}
 use Rattle.blob_device.specs.Disk.{Key}
 use Rattle.blob_device.specs.Timeline.{disk}
 use Rattle.sealed_pages.specs.Entries.{NoReads}
 use Rattle.sealed_pages.specs.Buffer.{Buffer, key_of, size_of, flushed_of, Holds, bytes_of, IsBacked}
 use Rattle.sealed_pages.specs.Entries.{NoReads}
+use Rattle.sealed_pages.specs.Contents.{IsHad}
 use Rattle.sealed_pages.specs.Flushing.{Data, Wrote}
 use Rattle.sealed_pages.specs.Shown.{shown}
 use Rattle.sealed_pages.specs.View.{view, StandsAt, page_at}
@@ -15,7 +16,7 @@ use Rattle.sealed_pages.proofs.PageCalls.{no_ok, alone_then}
 use Rattle.sealed_pages.proofs.UnrecoveredLemmas.{stood_keeps, spared_keeps, spared_stays, first_later}
 use Rattle.sealed_pages.specs.Unrecovered.{SparesFront, IsUnrecovered}
 use Rattle.sealed_pages.proofs.Fronts.{front_then, front_start}
-use Rattle.sealed_pages.proofs.Truncating.{map_ok, both_ok}
+use Rattle.sealed_pages.proofs.Truncating.{both_ok}
 use Rattle.blob_device.proofs.Results.{if_ok_with}
 use Rattle.sealed_pages.proofs.Clearing.{clears_then}
 use Rattle.sealed_pages.specs.Leftover.{SettlesNothing}
@@ -83,15 +84,17 @@ pub returns-clause-unrecovered : goal.returns-clause-unrecovered
 returns-clause-unrecovered g c t un =
     let same = c.in_ok-this.ensures.same in
     let unsettled : c.args.self.settled < size_of (shown c.args.self) = omega (arith, c.args.self.order, c.args.self.fit.within, c.if-self-len.false) in
-    map_ok c.written.result (λ v. (shown v ≡ record (shown c.in_ok-this.this) { end = v.end; first = v.first; tip = v.tip.items; from = length v.tip.items }) × ((size_of (shown v) ≡ size_of (shown c.in_ok-this.this)) × IsBacked (shown v) (disk (g.D.Device.time c.written.new.dev) (key_of (shown c.args.self))).content)) (λ v. IsUnrecovered g.S.Seal.seal_of (shown v) (disk (g.D.Device.time c.written.new.dev) (key_of (shown c.args.self))))
-    (λ v is. (let page : v.page_size ≡ c.args.self.page_size = ap (λ (x : Buffer). x.page_size) is.0 ∙ ap (λ (x : Buffer). x.page_size) same in
+    let key : key_of (shown c.in_ok-this.this) ≡ key_of (shown c.args.self) = ap key_of same in
+    let first = subst (λ (k : Key). IsHad (disk (g.D.Device.time c.repaired.new.dev) k)) (sym key) (c.in_ok-this.ensures.had t un.had) in
+    if_ok_with c.written.result (subst (λ (k : Key). OnOk c.written.result (IsHad (disk (g.D.Device.time c.written.new.dev) k))) key (c.written.ensures.had t first))
+    (both_ok c.written.result (λ v. shown v ≡ record (shown c.in_ok-this.this) { end = v.end; first = v.first; tip = v.tip.items; from = length v.tip.items }) (λ v. (size_of (shown v) ≡ size_of (shown c.in_ok-this.this)) × IsBacked (shown v) (disk (g.D.Device.time c.written.new.dev) (key_of (shown c.args.self))).content)
+    c.written.ensures.same (both_ok c.written.result (λ v. size_of (shown v) ≡ size_of (shown c.in_ok-this.this)) (λ v. IsBacked (shown v) (disk (g.D.Device.time c.written.new.dev) (key_of (shown c.args.self))).content) c.written.ensures.size (returns-clause-backed g c t un.backed)))
+    (λ v had is. (let page : v.page_size ≡ c.args.self.page_size = ap (λ (x : Buffer). x.page_size) is.0 ∙ ap (λ (x : Buffer). x.page_size) same in
     let size : size_of (shown v) ≡ size_of (shown c.args.self) = is.1.0 ∙ ap size_of same in
     let begun : length v.tip.items < v.page_size = omega (arith, v.fit.begun, ap (λ (x : Buffer). x.from) is.0) in
     let later : c.args.self.first ≤ v.first = first_later c.args.self.page_size c.args.self.first v.first (length c.args.self.tip.items) (length v.tip.items) (omega (arith, size, ap (λ (n : ℕ). v.first * n) page)) (omega (arith, begun, page)) in
     spared_stays g.S.Seal.seal_of (shown c.args.self) (key_of (shown c.args.self)) (g.D.Device.time c.args.dev.now) (g.D.Device.time c.written.new.dev) un c.args.self.first un.below (returns-clause-front g c t) (shown v) page (omega (arith, un.below, later)) is.1.1
-    (λ settled. (let own : v.settled ≡ c.args.self.settled = ap (λ (x : Buffer). x.settled) is.0 ∙ ap (λ (x : Buffer). x.settled) same in absurd (omega (arith, settled, size, unsettled, own))))))
-    (both_ok c.written.result (λ v. shown v ≡ record (shown c.in_ok-this.this) { end = v.end; first = v.first; tip = v.tip.items; from = length v.tip.items }) (λ v. (size_of (shown v) ≡ size_of (shown c.in_ok-this.this)) × IsBacked (shown v) (disk (g.D.Device.time c.written.new.dev) (key_of (shown c.args.self))).content)
-    c.written.ensures.same (both_ok c.written.result (λ v. size_of (shown v) ≡ size_of (shown c.in_ok-this.this)) (λ v. IsBacked (shown v) (disk (g.D.Device.time c.written.new.dev) (key_of (shown c.args.self))).content) c.written.ensures.size (returns-clause-backed g c t un.backed)))
+    (λ settled. (let own : v.settled ≡ c.args.self.settled = ap (λ (x : Buffer). x.settled) is.0 ∙ ap (λ (x : Buffer). x.settled) same in absurd (omega (arith, settled, size, unsettled, own)))) had))
 
 pub returns-clause-clears : goal.returns-clause-clears
 returns-clause-clears g c t rest left = clears_then g.S.Seal.seal_of c.args.self.page_size c.args.self.first c.args.self.from c.args.self.newest (key_of (shown c.args.self)) (g.D.Device.time c.args.dev.now) (g.D.Device.time c.repaired.new.dev) (g.D.Device.time c.written.new.dev) (c.in_ok-this.ensures.clears t rest) (c.in_ok-this.ensures.cleared t rest left)

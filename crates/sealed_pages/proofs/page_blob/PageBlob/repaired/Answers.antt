@@ -7,6 +7,7 @@ use Rattle.blob_device.specs.Timeline.{disk}
 use Rattle.sealed_pages.specs.Cutting.{IsAtRest}
 use Rattle.sealed_pages.proofs.Truncating.{key_as}
 use Rattle.sealed_pages.proofs.PageCalls.{no_ok}
+use Rattle.sealed_pages.proofs.HadLemmas.{had_rest}
 use Rattle.sealed_pages.specs.View.{page_at}
 use Rattle.sealed_pages.specs.Unrecovered.{SparesFront}
 use Rattle.sealed_pages.proofs.Fronts.{front_start}
@@ -35,6 +36,9 @@ returns-clause-wrote g c t all same =
 
 pub returns-clause-settles : goal.returns-clause-settles
 returns-clause-settles g c t left = key_as (λ (k : Key). IsAtRest (disk (g.D.Device.time c.repair.new.dev) k)) _ (string_bytes c.args.self.partition) _ c.args.self.name.items c.as_str.ensures.value c.as_slice.ensures.value (c.in_ok-end.ensures.settles t)
+
+pub returns-clause-had : goal.returns-clause-had
+returns-clause-had g c t had = had_rest (disk (g.D.Device.time c.repair.new.dev) (key_of (shown c.args.self))) (key_as (λ (k : Key). IsAtRest (disk (g.D.Device.time c.repair.new.dev) k)) _ (string_bytes c.args.self.partition) _ c.args.self.name.items c.as_str.ensures.value c.as_slice.ensures.value (c.in_ok-end.ensures.settles t))
 
 pub returns-then-not-self-clause-front : goal.returns-then-not-self-clause-front
 returns-then-not-self-clause-front g c t = front_start (page_at c.args.self.page_size c.args.self.first) (key_of (shown c.args.self)) (g.D.Device.time c.args.dev.now)

@@ -11,6 +11,7 @@ use Rattle.sealed_pages.specs.Unrecovered.{SparesFront}
 use Rattle.blob_device.specs.Disk.{Key}
 use Rattle.sealed_pages.proofs.Truncating.{key_as}
 use Rattle.sealed_pages.specs.Leftover.{SettlesNothing}
+use Rattle.sealed_pages.specs.Contents.{IsHad}
 use Rattle.sealed_pages.proofs.page_blob.PageBlob.written.Goals as goal
 
 pub flush_pages-requires-clause-room : goal.flush_pages-requires-clause-room
@@ -111,3 +112,6 @@ returns-in_err-end-clause-stays g c t = key_as (λ (k : Key). SettlesNothing k (
 
 pub returns-clause-stays : goal.returns-clause-stays
 returns-clause-stays g c t = key_as (λ (k : Key). SettlesNothing k (g.D.Device.time c.args.dev.now) (g.D.Device.time c.flush_pages.new.dev)) _ (string_bytes c.args.self.partition) _ c.args.self.name.items c.as_str.ensures.value c.as_slice.ensures.value (c.in_ok-end.ensures.stays t)
+
+pub returns-clause-had : goal.returns-clause-had
+returns-clause-had g c t had = key_as (λ (k : Key). IsHad (disk (g.D.Device.time c.args.dev.now) k) → IsHad (disk (g.D.Device.time c.flush_pages.new.dev) k)) _ (string_bytes c.args.self.partition) _ c.args.self.name.items c.as_str.ensures.value c.as_slice.ensures.value (c.in_ok-end.ensures.had t) had

@@ -5,6 +5,7 @@ use Rattle.sealed_pages.specs.Writing.{shown, blob_key, bytes_of, run_of}
 use Rattle.sealed_pages.proofs.SparingLemmas.{sparing_write, sparing_now}
 use Rattle.sealed_pages.proofs.WritingLemmas.{passes_write, written_content, flushed_bytes, over_after, part_at, grown_at, grown_open}
 use Rattle.sealed_pages.proofs.ContentLemmas.{adds_start, adds_write}
+use Rattle.sealed_pages.proofs.HadLemmas.{had_write}
 use Rattle.sealed_pages.proofs.write_blob.WriteBlob.flushed.Goals as goal
 
 pub returns-in_err-write_at-clause-spares : goal.returns-in_err-write_at-clause-spares
@@ -24,7 +25,8 @@ pub returns-clause-over : goal.returns-clause-over
 returns-clause-over g c t over =
     let k : Key = blob_key (shown c.args.self) in
     let spares = sparing_now (Outside (run_of (shown c.args.self) ∷ [])) c.args.self.settled k (g.D.Device.time c.args.dev.now) (g.D.Device.time c.write_at.new.self) (returns-clause-spares g c t) in
-    over_after (shown c.args.self) _ (Outside (run_of (shown c.args.self) ∷ [])) (disk (g.D.Device.time c.args.dev.now) k) (disk (g.D.Device.time c.write_at.new.self) k) spares refl refl over
+    over_after (shown c.args.self) _ (Outside (run_of (shown c.args.self) ∷ [])) (disk (g.D.Device.time c.args.dev.now) k) (disk (g.D.Device.time c.write_at.new.self) k) spares refl refl
+    (had_write k c.args.self.at c.args.self.pending.items _ (g.D.Device.time c.args.dev.now) (g.D.Device.time c.write_at.new.self) (passes_write c.as_str.ensures.value c.as_slice.ensures.value c.as_slice-2.ensures.value (c.in_ok-write_at.ensures.told t))) over
 
 pub returns-clause-bytes : goal.returns-clause-bytes
 returns-clause-bytes g c t =
