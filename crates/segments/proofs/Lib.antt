@@ -41,3 +41,4 @@ pub mod FixedCalls
 pub mod FixedBeginning
 pub mod FixedFloorLemmas
 pub mod TurnLemmas
+pub mod HadLemmas
