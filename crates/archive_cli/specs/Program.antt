@@ -1,6 +1,6 @@
 -- What the program answers to its input.
 use Rattle.std.specs.Prelude.{◌≡◌, ◌⊎◌, ℕ, ◌^◌, ◌≤◌, List, [], ◌++◌, length}
-use Rattle.archives.specs.declared.commands.Reply.{Reply}
+use Rattle.archives.specs.Replies.{Reply}
 use Rattle.archive_service.specs.Texts.{Spelled, replies_text, bad_line_text}
 use Rattle.archive_service.specs.Script.{Spells, IsFirstBad}
 use Rattle.archive_service.specs.Served.{AreReplies}

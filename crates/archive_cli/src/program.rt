@@ -2,6 +2,7 @@
 ghost use Rattle.std.specs.Prelude.{◌≡◌, ◌≢◌, ◌⊎◌, ◌+◌, ◌^◌, ◌≤◌, ◌∷◌, ◌++◌, [], ℕ, List, length, map, string_bytes, IfOk, Contains};
 ghost use Rattle.std.specs.Result.{IsOkUnless};
 ghost use Rattle.blob_device.specs.Counts.{Rose};
+ghost use Rattle.archives.specs.Machine.{replied};
 ghost use Rattle.archive_service.specs.Texts.{Spelled, replies_text};
 ghost use Rattle.archive_service.specs.Script.{Spells};
 ghost use Rattle.archive_cli.specs.Input.{TakesFront};
@@ -144,7 +145,7 @@ fn replies_of<D: Device>(
 }
 
 fn text_of(alloc: Global, replies: &[Reply<ByteValue>]) -> Result<Vec<u8>, ScriptError>
-    ensures text { IfOk result (λ text. text.items ≡ replies_text replies.now) }
+    ensures text { IfOk result (λ text. text.items ≡ replies_text (map (replied (λ v. v)) replies.now)) }
     ensures memory { IsOkUnless result ScriptError.Mem }
 {
     let mut text = Vec::new(alloc);

@@ -1,5 +1,5 @@
 -- A line says one command at most, and a text is one script at most.
-use Rattle.std.proofs.Common.{◌≡◌, ◌≢◌, ℕ, suc, ◌+◌, ◌<◌, List, [], ◌∷◌, ◌++◌, length, slice_index, Option, Some, None, codes, refl, sym, ap, ◌∙◌, lit<, arith}
+use Rattle.std.proofs.Common.{◌≡◌, ◌≢◌, ℕ, suc, ◌+◌, ◌<◌, List, [], ◌∷◌, ◌++◌, length, Option, Some, None, codes, refl, sym, ap, ◌∙◌, lit<, arith}
 use Rattle.std.specs.List.{AllByRecursion}
 use Rattle.std.specs.Prelude.{if◌then◌else◌}
 use Rattle.std.specs.Str.{bytes_eq}
@@ -8,7 +8,7 @@ use Rattle.std.specs.Fmt.{decimal}
 use Rattle.std.proofs.lemmas.Fmt.{decimal_injective}
 use Rattle.std.proofs.lemmas.List.{append-nil, append_assoc, length-append}
 use Rattle.hex.specs.Hex.{encode_lower}
-use Rattle.archives.specs.declared.commands.Command.TheVariants.{Put, Get, Has}
+use Rattle.archives.specs.Commands.{Put, Get, Has}
 use Rattle.archive_service.specs.Texts.{Spelled, line_of, script_text, value_text}
 use Rattle.archive_service.specs.Script.{BeginsBadly, CanBeSaid, GoodOrBad, IsCommandOf, IsFirstBad, IsFirstLine, IsReading, IsIndex, IsKey, IsValue, OneFirstBad, OneScript, Spells}
 use Rattle.archive_service.proofs.WordLemmas.{Lacks, all_append, cut_never, cut_once, decimal_lacks, encode_injective, encode_lacks, value_injective, value_lacks}
@@ -33,21 +33,25 @@ abbrev pub name_of : Spelled → List ℕ
 name_of (Put index key value) = codes "put"
 name_of (Get index) = codes "get"
 name_of (Has index) = codes "has"
+name_of command = []
 
 abbrev pub words_behind : Spelled → List ℕ
 words_behind (Put index key value) = decimal index ++ 32 ∷ (encode_lower key ++ 32 ∷ value_text value)
 words_behind (Get index) = decimal index
 words_behind (Has index) = decimal index
+words_behind command = []
 
-pub line_cut : (command : Spelled) → line_of command ≡ name_of command ++ 32 ∷ words_behind command
-line_cut (Put index key value) = line-put index key value
-line_cut (Get index) = line-get index
-line_cut (Has index) = line-has index
+pub line_cut : (max : ℕ) (command : Spelled) → CanBeSaid max command → line_of command ≡ name_of command ++ 32 ∷ words_behind command
+line_cut max (Put index key value) said = line-put index key value
+line_cut max (Get index) said = line-get index
+line_cut max (Has index) said = line-has index
+line_cut max command said = absurd said
 
 pub name_lacks : (c : ℕ) → c < 97 → (command : Spelled) → Lacks c (name_of command)
 name_lacks c low (Put index key value) = (omega arith, (omega arith, (omega arith, tt)))
 name_lacks c low (Get index) = (omega arith, (omega arith, (omega arith, tt)))
 name_lacks c low (Has index) = (omega arith, (omega arith, (omega arith, tt)))
+name_lacks c low command = tt
 
 -- one word behind another
 joined_lacks : (c : ℕ) (a b : List ℕ) → c ≢ 32 → Lacks c a → Lacks c b → Lacks c (a ++ 32 ∷ b)
@@ -60,45 +64,61 @@ behind_lacks max c low (Put index key value) h =
     (joined_lacks c (encode_lower key) (value_text value) apart (encode_lacks c key (omega arith) h.1.1) (value_lacks c max value (omega arith) h.2))
 behind_lacks max c low (Get index) h = decimal_lacks c index (omega arith) h
 behind_lacks max c low (Has index) h = decimal_lacks c index (omega arith) h
+behind_lacks max c low command h = absurd h
 
 pub line_lacks : (max c : ℕ) → c < 32 → (command : Spelled) → CanBeSaid max command → Lacks c (line_of command)
 line_lacks max c low command h =
-    rw line_cut (joined_lacks c (name_of command) (words_behind command) (omega arith) (name_lacks c (omega arith) command) (behind_lacks max c low command h))
+    rw (line_cut max command h) (joined_lacks c (name_of command) (words_behind command) (omega arith) (name_lacks c (omega arith) command) (behind_lacks max c low command h))
 
 -- the place of a command among the commands, and of a name among their names
 abbrev kind_of : Spelled → ℕ
 kind_of (Put index key value) = 0
 kind_of (Get index) = 1
 kind_of (Has index) = 2
+kind_of command = 3
 
 abbrev kind_named : List ℕ → ℕ
-kind_named name = if bytes_eq name (codes "put") then 0 else if bytes_eq name (codes "get") then 1 else 2
+kind_named name = if bytes_eq name (codes "put") then 0 else if bytes_eq name (codes "get") then 1 else if bytes_eq name (codes "has") then 2 else 3
 
 kind_named-name_of : (command : Spelled) → kind_named (name_of command) ≡ kind_of command
 kind_named-name_of (Put index key value) = refl
 kind_named-name_of (Get index) = refl
 kind_named-name_of (Has index) = refl
+kind_named-name_of command = refl
 
 -- commands of one name are of one kind
 same_kind : (a b : Spelled) → name_of a ≡ name_of b → kind_of a ≡ kind_of b
 same_kind a b e = sym (kind_named-name_of a) ∙ ap kind_named e ∙ kind_named-name_of b
 
-behind_same : (max : ℕ) (a b : Spelled) → CanBeSaid max a → CanBeSaid max b → name_of a ≡ name_of b → words_behind a ≡ words_behind b → a ≡ b
-behind_same max (Put i k v) (Put j l w) ha hb e f =
+-- the words behind a name say one command of that name
+put_same : (max i : ℕ) (k v : List ℕ) (b : Spelled) → CanBeSaid max (Put i k v) → CanBeSaid max b → codes "put" ≡ name_of b → words_behind (Put i k v) ≡ words_behind b → Put i k v ≡ b
+put_same max i k v (Put j l w) ha hb e f =
     let first = cut_once 32 (decimal i) (decimal j) _ _ (decimal_lacks 32 i (lit< tt) ha.0) (decimal_lacks 32 j (lit< tt) hb.0) f in
     let second = cut_once 32 (encode_lower k) (encode_lower l) _ _ (encode_lacks 32 k (lit< tt) ha.1.1) (encode_lacks 32 l (lit< tt) hb.1.1) first.1 in
     let index = decimal_injective i j ha.0 hb.0 first.0 in
     let key = encode_injective k l ha.1.1 hb.1.1 second.0 in
     let value = value_injective max v w ha.2 hb.2 second.1 in
     rw (index, key, value) refl
-behind_same max (Get i) (Get j) ha hb e f = ap Get (decimal_injective i j ha hb f)
-behind_same max (Has i) (Has j) ha hb e f = ap Has (decimal_injective i j ha hb f)
-behind_same max a b ha hb e f = absurd (omega (arith, same_kind a b e))
+put_same max i k v b ha hb e f = absurd (omega (arith, same_kind (Put i k v) b e))
+
+get_same : (max i : ℕ) (b : Spelled) → IsIndex i → CanBeSaid max b → codes "get" ≡ name_of b → decimal i ≡ words_behind b → Get i ≡ b
+get_same max i (Get j) ha hb e f = ap Get (decimal_injective i j ha hb f)
+get_same max i b ha hb e f = absurd (omega (arith, same_kind (Get i) b e))
+
+has_same : (max i : ℕ) (b : Spelled) → IsIndex i → CanBeSaid max b → codes "has" ≡ name_of b → decimal i ≡ words_behind b → Has i ≡ b
+has_same max i (Has j) ha hb e f = ap Has (decimal_injective i j ha hb f)
+has_same max i b ha hb e f = absurd (omega (arith, same_kind (Has i) b e))
+
+behind_same : (max : ℕ) (a b : Spelled) → CanBeSaid max a → CanBeSaid max b → name_of a ≡ name_of b → words_behind a ≡ words_behind b → a ≡ b
+behind_same max (Put i k v) b ha hb e f = put_same max i k v b ha hb e f
+behind_same max (Get i) b ha hb e f = get_same max i b ha hb e f
+behind_same max (Has i) b ha hb e f = has_same max i b ha hb e f
+behind_same max a b ha hb e f = absurd ha
 
 -- a line says one command
 pub line_injective : (max : ℕ) (a b : Spelled) → CanBeSaid max a → CanBeSaid max b → line_of a ≡ line_of b → a ≡ b
 line_injective max a b ha hb e =
-    let parts = cut_once 32 (name_of a) (name_of b) _ _ (name_lacks 32 (lit< tt) a) (name_lacks 32 (lit< tt) b) (sym (line_cut a) ∙ e ∙ line_cut b) in
+    let parts = cut_once 32 (name_of a) (name_of b) _ _ (name_lacks 32 (lit< tt) a) (name_lacks 32 (lit< tt) b) (sym (line_cut max a ha) ∙ e ∙ line_cut max b hb) in
     behind_same max a b ha hb parts.0 parts.1
 
 -- two texts that begin with lines are the same where their first commands and their rests are
@@ -160,23 +180,24 @@ one_first_bad max text m n hm hn =
 
 -- ---- how a line is read
 
-no_name : (max : ℕ) (name : List ℕ) → name ≢ codes "put" → name ≢ codes "get" → name ≢ codes "has" → (command : Spelled) → name ≢ name_of command
-no_name max name put get has (Put i k v) = put
-no_name max name put get has (Get i) = get
-no_name max name put get has (Has i) = has
+no_name : (max : ℕ) (name : List ℕ) → name ≢ codes "put" → name ≢ codes "get" → name ≢ codes "has" → (command : Spelled) → CanBeSaid max command → name ≢ name_of command
+no_name max name put get has (Put i k v) said = put
+no_name max name put get has (Get i) said = get
+no_name max name put get has (Has i) said = has
+no_name max name put get has command said = absurd said
 
 -- no command is named otherwise
 pub name_refused : (max : ℕ) (name words : List ℕ) → Lacks 32 name → name ≢ codes "put" → name ≢ codes "get" → name ≢ codes "has" → IsCommandOf max (name ++ 32 ∷ words) None
 name_refused max name words lacks put get has = λ command said e.
-    no_name max name put get has command (cut_once 32 name (name_of command) words (words_behind command) lacks (name_lacks 32 (lit< tt) command) (e ∙ line_cut command)).0
+    no_name max name put get has command said (cut_once 32 name (name_of command) words (words_behind command) lacks (name_lacks 32 (lit< tt) command) (e ∙ line_cut max command said)).0
 
 -- a line with no space is no command
 pub word_refused : (max : ℕ) (line : List ℕ) → Lacks 32 line → IsCommandOf max line None
-word_refused max line lacks = λ command said e. cut_never 32 line (name_of command) (words_behind command) lacks (e ∙ line_cut command)
+word_refused max line lacks = λ command said e. cut_never 32 line (name_of command) (words_behind command) lacks (e ∙ line_cut max command said)
 
 -- what stands behind a name, where a line is that of a command
 behind : (max : ℕ) (a b : Spelled) (words : List ℕ) → CanBeSaid max b → name_of a ++ 32 ∷ words ≡ line_of b → (name_of a ≡ name_of b) × (words ≡ words_behind b)
-behind max a b words said e = cut_once 32 (name_of a) (name_of b) words (words_behind b) (name_lacks 32 (lit< tt) a) (name_lacks 32 (lit< tt) b) (e ∙ line_cut b)
+behind max a b words said e = cut_once 32 (name_of a) (name_of b) words (words_behind b) (name_lacks 32 (lit< tt) a) (name_lacks 32 (lit< tt) b) (e ∙ line_cut max b said)
 
 get_refused : (max : ℕ) (words : List ℕ) → ((i : ℕ) → IsIndex i → words ≢ decimal i) → (command : Spelled) → CanBeSaid max command → codes "get" ++ 32 ∷ words ≢ line_of command
 get_refused max words none (Get i) said e = none i said (behind max (Get 0) (Get i) words said e).1
@@ -261,7 +282,7 @@ none_read max text = record { said = tt; text_is = refl }
 
 said_push : (max : ℕ) (commands : List Spelled) (command : Spelled) → AllByRecursion (CanBeSaid max) commands → CanBeSaid max command → AllByRecursion (CanBeSaid max) (commands ++ command ∷ [])
 said_push max [] command all said = (said, tt)
-said_push max (first ∷ commands) command all said = (all.0, said_push max commands command all.1 said)
+said_push max (c ∷ commands) command all said = (all.0, said_push max commands command all.1 said)
 
 text_push : (commands : List Spelled) (command : Spelled) (rest : List ℕ) → script_text (commands ++ command ∷ []) ++ rest ≡ script_text commands ++ (line_of command ++ 10 ∷ rest)
 text_push [] command rest = append_assoc (line_of command) (10 ∷ []) rest

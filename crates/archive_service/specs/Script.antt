@@ -1,7 +1,7 @@
 -- The grammar of scripts: from bytes to a list of commands, line by line.
 use Rattle.std.specs.Prelude.{◌≡◌, ◌≢◌, ℕ, ◌+◌, ◌^◌, ◌<◌, ◌≤◌, List, [], ◌∷◌, ◌++◌, length, Option, Some, None}
 use Rattle.std.specs.List.{AllByRecursion}
-use Rattle.archives.specs.declared.commands.Command.TheVariants.{Put, Get, Has}
+use Rattle.archives.specs.Commands.{Put, Get, Has}
 use Rattle.archive_service.specs.declared.script.ScriptError.{ScriptError}
 use Rattle.archive_service.specs.declared.script.ScriptError.TheVariants.{Line, Mem}
 use Rattle.archive_service.specs.Texts.{Spelled, line_of, script_text}
@@ -19,10 +19,12 @@ IsKey key = (length key ≡ 8) × AreBytes key
 abbrev pub IsValue : ℕ → List ℕ → Type 0
 IsValue max value = (length value ≤ max) × AreBytes value
 
+-- so far the reader takes three commands
 abbrev pub CanBeSaid : ℕ → Spelled → Type 0
 CanBeSaid max (Put index key value) = IsIndex index × IsKey key × IsValue max value
 CanBeSaid max (Get index) = IsIndex index
 CanBeSaid max (Has index) = IsIndex index
+CanBeSaid max command = ⊥
 
 -- the text is the script of these commands: their lines, one behind the other, and nothing else
 pub record Spells (max : ℕ) (text : List ℕ) (commands : List Spelled) : Type 0 where

@@ -12,7 +12,7 @@ use value_codec::{ByteValue, Key, Key8};
 /// The line of a command, without its LF.
 #[tactic(auto, unfolding(crate::specs::Texts::line_of))]
 pub fn line_text(alloc: Global, command: &Command<Key8, ByteValue>) -> Result<String, AllocError>
-    ensures { IfOk result (λ line. string_bytes line ≡ line_of (asked key8_bytes command.now)) }
+    ensures { IfOk result (λ line. string_bytes line ≡ line_of (asked key8_bytes (λ v. v) command.now)) }
 {
     match command {
         Command::Put(index, key, value) => {
@@ -41,7 +41,7 @@ pub fn whole_text(
     alloc: Global,
     commands: &[Command<Key8, ByteValue>],
 ) -> Result<String, AllocError>
-    ensures { IfOk result (λ text. string_bytes text ≡ script_text (map (asked key8_bytes) commands.now)) }
+    ensures { IfOk result (λ text. string_bytes text ≡ script_text (map (asked key8_bytes (λ v. v)) commands.now)) }
 {
     let mut text = String::new(alloc);
     for command in commands {
@@ -58,7 +58,7 @@ pub fn begins_with(
     text: &[u8],
     command: &Command<Key8, ByteValue>,
 ) -> Result<bool, AllocError>
-    ensures { IfOk result (λ yes. IsTrue yes ↔ BeginsWith text.now (line_of (asked key8_bytes command.now))) }
+    ensures { IfOk result (λ yes. IsTrue yes ↔ BeginsWith text.now (line_of (asked key8_bytes (λ v. v) command.now))) }
 {
     let mut line = line_text(alloc, command)?;
     line.push_str("\n")?;

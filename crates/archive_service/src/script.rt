@@ -47,19 +47,19 @@ pub struct Script {
 
 impl Model for Script {
     ghost use Rattle.std.specs.Prelude.{List, ℕ, map};
-    ghost use Rattle.archives.specs.declared.commands.Command.{Command};
+    ghost use Rattle.archives.specs.Commands.{Command};
     ghost use Rattle.archives.specs.Machine.{asked};
     ghost use Rattle.value_codec.specs.Keys.{key8_bytes};
 
-    ghost Value = { List (Command (List ℕ) (List ℕ)) };
+    ghost Value = { List (Command (List ℕ)) };
 
-    ghost view = { λ s. map (asked key8_bytes) s.commands.items };
+    ghost view = { λ s. map (asked key8_bytes (λ v. v)) s.commands.items };
 }
 
 impl Script {
     /// The commands, in the order of their lines.
     pub fn as_slice(&self) -> &[Command<Key8, ByteValue>]
-        ensures { map (asked key8_bytes) result.now ≡ self.now }
+        ensures { map (asked key8_bytes (λ v. v)) result.now ≡ self.now }
     {
         self.commands.as_slice()
     }
@@ -90,7 +90,7 @@ fn first_command(
     text: &[u8],
     max_value: u32,
 ) -> Result<Option<(Command<Key8, ByteValue>, &[u8])>, AllocError>
-    ensures { IfOk result (λ found. IsFirstLine max_value text.now (option_map (λ x. (asked key8_bytes x.0, x.1.now)) found)) }
+    ensures { IfOk result (λ found. IsFirstLine max_value text.now (option_map (λ x. (asked key8_bytes (λ v. v) x.0, x.1.now)) found)) }
 {
     let Some((line, rest)) = cut(text, b'\n') else {
         return Ok(None);
@@ -107,7 +107,7 @@ fn command_of(
     line: &[u8],
     max_value: u32,
 ) -> Result<Option<Command<Key8, ByteValue>>, AllocError>
-    ensures { IfOk result (λ found. IsCommandOf max_value line.now (option_map (asked key8_bytes) found)) }
+    ensures { IfOk result (λ found. IsCommandOf max_value line.now (option_map (asked key8_bytes (λ v. v)) found)) }
 {
     let Some((name, words)) = cut(line, b' ') else {
         return Ok(None);
@@ -129,7 +129,7 @@ fn put_of(
     words: &[u8],
     max_value: u32,
 ) -> Result<Option<Command<Key8, ByteValue>>, AllocError>
-    ensures { IfOk result (λ found. IsCommandOf max_value (codes "put" ++ 32 ∷ words.now) (option_map (asked key8_bytes) found)) }
+    ensures { IfOk result (λ found. IsCommandOf max_value (codes "put" ++ 32 ∷ words.now) (option_map (asked key8_bytes (λ v. v)) found)) }
 {
     let Some((index, words)) = cut(words, b' ') else {
         return Ok(None);

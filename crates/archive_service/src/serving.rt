@@ -1,6 +1,6 @@
 // Commands in order, each with its reply.
 ghost use Rattle.std.specs.Prelude.{◌≡◌, ◌∷◌, ◌++◌, ℕ, length, map, OnOk, OnErr};
-ghost use Rattle.archives.specs.Machine.{Step, asked};
+ghost use Rattle.archives.specs.Machine.{Step, asked, replied};
 ghost use Rattle.archives.specs.Plain.{state_of};
 ghost use Rattle.archive_service.specs.Served.{AddsReply, AreReplies, EndsAt};
 
@@ -20,7 +20,7 @@ pub fn serve<D: Device, K: Key, V: Codec + Clone>(
     commands: &[Command<K, V>],
 ) -> Served<V>
     requires { (v w : V) → V.is_clone v w → w ≡ v }
-    ensures replies { (items : ℕ) → AreReplies items (map (asked K.key_bytes) commands.now) result.replies }
+    ensures replies { (items : ℕ) → AreReplies items (map (asked K.key_bytes (λ v. v)) commands.now) (map (replied (λ v. v)) result.replies) }
     ensures end { EndsAt result.end (length result.replies) (length commands.now) }
     ensures device { dev.new ≡ dev.old }
 {
@@ -48,7 +48,7 @@ fn answer<K: Key, V: Clone>(
 ) -> Result<(), Error>
     requires { (v w : V) → V.is_clone v w → w ≡ v }
     ensures ok { OnOk result (AddsReply replies.old replies.new (λ reply. (n : ℕ) →
-        Step n (state_of K.key_bytes n machine.old) (asked K.key_bytes command.now) reply (state_of K.key_bytes n machine.new))) }
+        Step n (state_of K.key_bytes n machine.old) (asked K.key_bytes (λ v. v) command.now) (replied (λ v. v) reply) (state_of K.key_bytes n machine.new))) }
     ensures err { OnErr result (replies.new ≡ replies.old) }
 {
     let reply = machine.step(command)?;

@@ -1,5 +1,6 @@
 // The texts of replies.
 ghost use Rattle.std.specs.Prelude.{◌≡◌, ◌++◌, codes, OnOk, OnErr, IfErr};
+ghost use Rattle.archives.specs.Machine.{replied};
 ghost use Rattle.hex.specs.Hex.{encode_lower};
 ghost use Rattle.archive_service.specs.declared.script.ScriptError.TheVariants.{Mem};
 ghost use Rattle.archive_service.specs.Texts.{Appends, bad_line_text, reply_text, value_text};
@@ -11,7 +12,7 @@ use value_codec::ByteValue;
 
 /// Appends the line of a reply, with its LF.
 pub fn write_reply(reply: &Reply<ByteValue>, out: &mut Vec<u8>) -> Result<(), ScriptError>
-    ensures ok { OnOk result (out.new.items ≡ out.old.items ++ reply_text reply.now) }
+    ensures ok { OnOk result (out.new.items ≡ out.old.items ++ reply_text (replied (λ v. v) reply.now)) }
     ensures err { OnErr result (out.new.items ≡ out.old.items) }
     ensures cause { IfErr result (λ e. e ≡ Mem) }
 {
@@ -37,7 +38,7 @@ pub fn write_bad_line(number: u64, out: &mut Vec<u8>) -> Result<(), ScriptError>
 }
 
 fn append_reply(reply: &Reply<ByteValue>, out: &mut Vec<u8>) -> Result<(), AllocError>
-    ensures { Appends result out.old.items (reply_text reply.now) out.new.items }
+    ensures { Appends result out.old.items (reply_text (replied (λ v. v) reply.now)) out.new.items }
 {
     match reply {
         Reply::Done => out.extend_from_slice(b"ok\n"),

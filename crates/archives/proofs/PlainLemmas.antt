@@ -72,6 +72,7 @@ lists_push {K} {X} key_bytes n all r s =
 pub state_push : {K X : Type 0} (key_bytes : K → List ℕ) (n : ℕ) (all : List (Item K X)) (r : Item K X)
     → state_with key_bytes n (all ++ r ∷ []) ≡ appended n r.index (key_bytes r.key) r.value (state_with key_bytes n all)
 state_push key_bytes n all r = λ i. record {
+  is_open = true;
   lists = λ s. lists_push key_bytes n all r s i;
   synced = λ s. 0;
   floor = 0;

@@ -1,5 +1,5 @@
 -- The state that a plain list of records stands for.
-use Rattle.std.specs.Prelude.{ℕ, ◌==◌, List, filter, find, map, Option}
+use Rattle.std.specs.Prelude.{ℕ, true, ◌==◌, List, filter, find, map, Option}
 use Rattle.std.specs.Option.{option_map}
 use Rattle.archives.specs.declared.plain.Item.{Item}
 use Rattle.archives.specs.declared.plain.Machine.{Machine}
@@ -9,9 +9,10 @@ module _ {K V : Type 0} (key_bytes : K → List ℕ) where
   abbrev pub entry_of : Item K V → Entry V
   entry_of r = record { index = r.index; key = key_bytes r.key; value = r.value }
 
-  -- each section has its records in the order in which they were put; nothing is synced
+  -- open; each section has its records in the order in which they were put; nothing is synced
   abbrev pub state_with : ℕ → List (Item K V) → State V
   state_with items all = record {
+    is_open = true;
     lists = λ s. map entry_of (filter (λ r. s == section_of items r.index) all);
     synced = λ s. 0;
     floor = 0;

@@ -1,6 +1,7 @@
 //! What an archive is asked, what it replies, and the machine of records that says which replies are right.
 //!
-//! `specs/Machine.antt` has the machine: a state, and a step for each command and reply. `plain` runs it on one list.
+//! `specs/Machine.antt` has the machine, with all commands of an archive: a state, and a step for each command and reply.
+//! `plain` runs the commands that are built, on one list.
 #![tactic(auto)]
 
 mod commands;

@@ -9,7 +9,7 @@ use Rattle.archive_service.proofs.plain.begins_with.Goals as goal
 
 pub returns : goal.returns
 returns c =
-    let line = line_of (asked key8_bytes c.args.command.now) in
+    let line = line_of (asked key8_bytes (λ v. v) c.args.command.now) in
     let needle : c.as_bytes.result.now ≡ line ++ 10 ∷ [] =
     c.as_bytes.ensures.value ∙ c.in_ok-push_str.ensures.bytes ∙ ap (λ l. l ++ 10 ∷ []) c.in_ok-line.ensures in
     let test = starts_is Decides-eqb c.args.text.now c.as_bytes.result.now c.starts_with.result c.starts_with.ensures.value in (

@@ -6,4 +6,4 @@ use Rattle.archive_service.specs.Texts.{script_text}
 use Rattle.archive_service.proofs.plain.whole_text.Given as goal
 
 abbrev pub invariant-loop-command : goal.invariant-loop-command
-invariant-loop-command l = string_bytes l.text ≡ script_text (map (asked key8_bytes) (take l.command-index l.commands))
+invariant-loop-command l = string_bytes l.text ≡ script_text (map (asked key8_bytes (λ v. v)) (take l.command-index l.commands))

@@ -3,7 +3,8 @@ use Rattle.std.proofs.Common.{List, ℕ, true, false, Option, Some, None, refl, 
 use Rattle.std.specs.Option.{option_map}
 use Rattle.std.specs.Str.{bytes_eq}
 use Rattle.std.proofs.lemmas.Slice.Eq.{bytes_eq-Decides}
-use Rattle.archives.specs.declared.commands.Command.TheVariants.{Get, Has}
+use Rattle.archives.specs.Commands.{Get, Has}
+use Rattle.archives.specs.declared.commands.Command.TheVariants as ask
 use Rattle.archives.specs.Machine.{asked}
 use Rattle.value_codec.specs.Keys.{key8_bytes}
 use Rattle.archive_service.specs.Script.{IsCommandOf}
@@ -22,11 +23,11 @@ other name word as_slice is e same =
     let yes = (bytes_eq-Decides name as_slice).1 (same ∙ sym is) in
     cc
 
-asked_get : (o : Option ℕ) → option_map (asked {V = List ℕ} key8_bytes) (option_map Get o) ≡ option_map Get o
+asked_get : (o : Option ℕ) → option_map (asked {V = List ℕ} key8_bytes (λ v. v)) (option_map ask.Get o) ≡ option_map Get o
 asked_get None = refl
 asked_get (Some index) = refl
 
-asked_has : (o : Option ℕ) → option_map (asked {V = List ℕ} key8_bytes) (option_map Has o) ≡ option_map Has o
+asked_has : (o : Option ℕ) → option_map (asked {V = List ℕ} key8_bytes (λ v. v)) (option_map ask.Has o) ≡ option_map Has o
 asked_has None = refl
 asked_has (Some index) = refl
 
@@ -34,16 +35,16 @@ pub returns-then-eq-2 : goal.returns-then-eq-2
 returns-then-eq-2 c =
     let name = named c.in-Some.name.now (codes "get") c.as_slice-else-eq.result.now c.as_slice-else-eq.ensures c.if-eq-2.ensures in
     let line : c.args.line.now ≡ codes "get" ++ 32 ∷ c.in-Some.words.now = c.in-Some.ensures.0 ∙ ap (λ n. n ++ 32 ∷ c.in-Some.words.now) name in
-    let command : c.map.result ≡ option_map Get c.index_of.result = search rules in
-    let seen = ap (option_map (asked key8_bytes)) command ∙ asked_get c.index_of.result in
+    let command : c.map.result ≡ option_map ask.Get c.index_of.result = search rules in
+    let seen = ap (option_map (asked key8_bytes (λ v. v))) command ∙ asked_get c.index_of.result in
     rw (line, seen) (get_reading c.args.max_value c.in-Some.words.now c.index_of.result c.index_of.ensures)
 
 pub returns-then-eq-3 : goal.returns-then-eq-3
 returns-then-eq-3 c =
     let name = named c.in-Some.name.now (codes "has") c.as_slice-else-eq-2.result.now c.as_slice-else-eq-2.ensures c.if-eq-3.ensures in
     let line : c.args.line.now ≡ codes "has" ++ 32 ∷ c.in-Some.words.now = c.in-Some.ensures.0 ∙ ap (λ n. n ++ 32 ∷ c.in-Some.words.now) name in
-    let command : c.map-then-eq-3.result ≡ option_map Has c.index_of-then-eq-3.result = search rules in
-    let seen = ap (option_map (asked key8_bytes)) command ∙ asked_has c.index_of-then-eq-3.result in
+    let command : c.map-then-eq-3.result ≡ option_map ask.Has c.index_of-then-eq-3.result = search rules in
+    let seen = ap (option_map (asked key8_bytes (λ v. v))) command ∙ asked_has c.index_of-then-eq-3.result in
     rw (line, seen) (has_reading c.args.max_value c.in-Some.words.now c.index_of-then-eq-3.result c.index_of-then-eq-3.ensures)
 
 pub returns-else-eq-3 : goal.returns-else-eq-3

@@ -10,7 +10,7 @@ returns-in_default c = first_refused c.args.max_value c.args.text.now c.in_defau
 
 pub returns : goal.returns
 returns c =
-    first_reading c.args.max_value c.args.text.now c.in-Some.line.now c.in-Some.rest.now (Some (asked key8_bytes c.in-Some-2.command)) c.in-Some.ensures
+    first_reading c.args.max_value c.args.text.now c.in-Some.line.now c.in-Some.rest.now (Some (asked key8_bytes (λ v. v) c.in-Some-2.command)) c.in-Some.ensures
     (rw c.in-Some-2.is at c.in_ok-command.ensures)
 
 pub returns-in_default-2 : goal.returns-in_default-2
