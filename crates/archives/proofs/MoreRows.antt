@@ -3,7 +3,7 @@ use Rattle.std.proofs.Common.{◌≡◌, inl, inr, refl, subst, ℕ, zero, suc, 
 use Rattle.std.proofs.lemmas.Bool.{false≢true}
 use Rattle.archives.specs.Commands.{Put, PutSync, PutStart, MultiSync, MultiStart, Has, HasKey, Missing, Ranges, RangesFrom, First, Last, Start, Prune, Reopen}
 use Rattle.archives.specs.Replies as reply
-use Rattle.archives.specs.Numbers.{Set, AreMissing, IsMissing, IsLeast, IsGreatest, AreRuns, AreRunsFrom}
+use Rattle.ordinal_store.specs.Numbers.{Set, AreMissing, IsMissing, IsLeast, IsGreatest, AreRuns, AreRunsFrom}
 use Rattle.archives.specs.Machine.{IsReopened, Run, ContainsKey, empty_state, has_index, appended, emptied_below, after_sync}
 use Rattle.archives.proofs.MachineLaws.{IsInOrder, step_keeps_order}
 use Rattle.archives.proofs.Rows.{Stand, key_of, reopened, whole}

@@ -8,7 +8,7 @@ use Rattle.archives.specs.Replies as reply
 use Rattle.archives.specs.Replies.{Reply}
 use Rattle.archives.specs.Machine.{Entry, State, Run, IsReopened, empty_state, has_index, appended, emptied_below, after_sync, after_destroy}
 use Rattle.archives.proofs.MachineLaws.{IsInOrder, run_append}
-use Rattle.archives.specs.Numbers.{Set, IsRun, AreMissing, IsMissing, IsRunEnd, IsNextRun}
+use Rattle.ordinal_store.specs.Numbers.{Set, IsRun, AreMissing, IsMissing, IsRunEnd, IsNextRun}
 use Rattle.archives.proofs.Sets.{HasOnly, appended_has_only, each_of, emptied_has_only, empty_has_only, is_lone, lone_runs, none_missing}
 
 -- a key of eight bytes

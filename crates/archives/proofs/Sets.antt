@@ -6,7 +6,7 @@ use Rattle.std.proofs.lemmas.List.Elements.{Contains-append_left, Contains-push,
 use Rattle.std.proofs.lemmas.List.Folds.{list_any-append}
 use Rattle.std.proofs.lemmas.Bool.{cases_lt, eqb-true, false≢true}
 use Rattle.std.proofs.lemmas.Bool.Decides.{nat_tests}
-use Rattle.archives.specs.Numbers.{Set, IsRun, AreRuns, AreRunsFrom, AreMissing}
+use Rattle.ordinal_store.specs.Numbers.{Set, IsRun, AreRuns, AreRunsFrom, AreMissing}
 use Rattle.archives.specs.Machine.{Entry, State, section_of, has_index, appended, emptied_below}
 
 -- ---- one element after another

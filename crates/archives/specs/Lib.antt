@@ -2,6 +2,5 @@
 -- a list of records for each section. It says nothing of devices, nor of what an image keeps.
 pub mod Commands
 pub mod Machine
-pub mod Numbers
 pub mod Plain
 pub mod Replies

@@ -4,7 +4,7 @@ use Rattle.std.specs.List.{list_any}
 use Rattle.archives.specs.Commands.{Command, Put, PutSync, PutStart, Multi, MultiSync, MultiStart, Get, GetKey, All, Has, HasKey, HasAt, Gap, Missing, Ranges, RangesFrom, First, Last, Sync, Start, Prune, Reopen, Destroy}
 use Rattle.archives.specs.Replies as reply
 use Rattle.archives.specs.Replies.{Reply}
-use Rattle.archives.specs.Numbers.{Set, AreRuns, AreRunsFrom, IsRunEnd, IsNextRun, AreMissing, IsLeast, IsGreatest}
+use Rattle.ordinal_store.specs.Numbers.{Set, AreRuns, AreRunsFrom, IsRunEnd, IsNextRun, AreMissing, IsLeast, IsGreatest}
 use Rattle.archives.specs.declared.commands.Command as asking
 use Rattle.archives.specs.declared.commands.Command.TheVariants as ask
 use Rattle.archives.specs.declared.commands.Reply as answering
