@@ -4,3 +4,4 @@ pub mod Commands
 pub mod Machine
 pub mod Plain
 pub mod Replies
+pub mod Words

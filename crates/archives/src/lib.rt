@@ -4,9 +4,13 @@
 //! `plain` runs the commands that are built, on one list.
 #![tactic(auto)]
 
+mod archive;
 mod commands;
 mod error;
 pub mod plain;
+mod translator;
 
+pub use archive::Identifier;
 pub use commands::{Command, Reply};
 pub use error::Error;
+pub use translator::{FourCap, Translator};
