@@ -4,4 +4,5 @@ pub mod Commands
 pub mod Machine
 pub mod Plain
 pub mod Replies
+pub mod Raised
 pub mod Words
