@@ -8,6 +8,7 @@ mod archive;
 mod commands;
 mod error;
 pub mod plain;
+pub mod prunable;
 mod translator;
 
 pub use archive::Identifier;

@@ -1,0 +1,6 @@
+// The archive whose front can be pruned.
+mod config;
+mod limits;
+
+pub use config::Config;
+pub use limits::Limits;
