@@ -2,6 +2,8 @@
 -- a list of records for each section. It says nothing of devices, nor of what an image keeps.
 pub mod Commands
 pub mod Config
+pub mod IndexRecord
+pub mod IndexRecordLaws
 pub mod Limits
 pub mod Machine
 pub mod Plain

@@ -1,5 +1,6 @@
 // The archive whose front can be pruned.
 mod config;
+mod index_record;
 mod limits;
 
 pub use config::Config;
