@@ -91,11 +91,12 @@ index_record-joined index offset size bytes a r b s c d e f h whole rest last =
 
 -- ---- how many bytes there are
 
-whole_kept : (n : ℕ) (bytes : List ℕ) → length bytes ≡ n → size_refusal n bytes ≡ None
-whole_kept n bytes long = grind (arith, nat_tests)
+-- as many bytes as a record has are never refused
+pub size_kept : (n : ℕ) (bytes : List ℕ) → length bytes ≡ n → size_refusal n bytes ≡ None
+size_kept n bytes long = grind (arith, nat_tests)
 
 pub index_record_kept : (n index : ℕ) (key : List ℕ) (offset size : ℕ) → length key ≡ n → size_refusal (n + 20) (index_record index key offset size) ≡ None
-index_record_kept n index key offset size e = whole_kept (n + 20) (index_record index key offset size) (length-index_record n index key offset size e)
+index_record_kept n index key offset size e = size_kept (n + 20) (index_record index key offset size) (length-index_record n index key offset size e)
 
 pub index_record_at_least : (n : ℕ) → 1 ≤ n + 20
 index_record_at_least n = omega arith
