@@ -4,3 +4,6 @@ pub mod PlainLemmas
 pub mod Refused
 pub mod Rows
 pub mod Sets
+pub mod TableLemmas
+pub mod StandLemmas
+pub mod RecallLemmas

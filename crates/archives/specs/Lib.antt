@@ -1,12 +1,16 @@
 -- What this layer means to the layers above: which replies a list of commands may get, as a run of a machine whose state is
--- a list of records for each section. It says nothing of devices, nor of what an image keeps.
+-- a list of records for each section; and which images are lawful for an archive, what they keep, and which states they stand for.
 pub mod Commands
+pub mod Replies
+pub mod Machine
+pub mod Plain
+pub mod Words
+pub mod Raised
+pub mod Limits
 pub mod Config
 pub mod IndexRecord
 pub mod IndexRecordLaws
-pub mod Limits
-pub mod Machine
-pub mod Plain
-pub mod Replies
-pub mod Raised
-pub mod Words
+pub mod Rows
+pub mod Filing
+pub mod Lawful
+pub mod Standing

@@ -2,6 +2,7 @@
 mod config;
 mod index_record;
 mod limits;
+mod tables;
 
 pub use config::Config;
 pub use limits::Limits;

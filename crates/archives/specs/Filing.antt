@@ -1,0 +1,42 @@
+-- How an archive files its records, and what an image keeps of them.
+use Rattle.std.specs.Prelude.{◌≡◌, ℕ, List, map, Option}
+use Rattle.blob_device.specs.Disk.{Image}
+use Rattle.value_codec.specs.declared.codec.Error as codec
+use Rattle.paired.specs.Kept.{IsSameLayout, Layout, Markers, marker_of}
+use Rattle.paired.specs.Kept as pair
+use Rattle.paired.specs.Records as stored
+use Rattle.archives.specs.IndexRecord.{index_of, key_of}
+use Rattle.archives.specs.Machine.{Entry}
+
+-- How the pair of records and values is stored, how many indices a section has room for, how many bytes a key has, why the codec
+-- refuses the spelling of a value, if it does, and how many sections, and records in a section, there may be.
+pub record Filing : Type 1 where
+  pub layout : Layout
+  pub items : ℕ
+  pub key_size : ℕ
+  pub refusal : List ℕ → Option codec.Error
+  pub most_sections : ℕ
+  pub most_records : ℕ
+
+-- the same partitions, pages, items, keys, codec and limits
+pub record IsSameFiling (f g : Filing) : Type 0 where
+  pub layout : IsSameLayout f.layout g.layout
+  pub items : g.items ≡ f.items
+  pub key_size : g.key_size ≡ f.key_size
+  pub refusal : (bytes : List ℕ) → g.refusal bytes ≡ f.refusal bytes
+  pub most_sections : g.most_sections ≡ f.most_sections
+  pub most_records : g.most_records ≡ f.most_records
+
+module _ (f : Filing) where
+  -- a record as the machine has it: the index and the key that its bytes say, and the spelling of its value
+  abbrev pub filed : stored.Entry → Entry (List ℕ)
+  filed e = record { index = index_of e.stored; key = key_of f.key_size e.stored; value = e.value }
+
+  module _ (image : Image) (markers : Markers) where
+    -- the records that the image keeps of a section, with their values
+    abbrev pub kept_entries : ℕ → List stored.Entry
+    kept_entries s = pair.kept f.layout image (marker_of markers s) s
+
+    -- the same, as the machine has them
+    abbrev pub kept : ℕ → List (Entry (List ℕ))
+    kept s = map filed (kept_entries s)

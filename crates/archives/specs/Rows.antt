@@ -1,0 +1,47 @@
+-- What an archive holds in memory of its records: a row for each, by section and position.
+use Rattle.std.specs.Prelude.{◌≡◌, ◌≢◌, ◌⊎◌, ℕ, ◌<◌, List, [], length, map, Option, None, Some, IsSomeAnd}
+use Rattle.std.specs.List.{AllByRecursion}
+use Rattle.std.specs.List.Sorted.{IsStrictlySortedBy}
+use Rattle.std.specs.Global.{Vec}
+use Rattle.std.specs.Ordering.{nat_cmp}
+use Rattle.std.specs.BTreeMap.{get}
+use Rattle.std.specs.Vec.{vec_len, vec_capacity}
+use Rattle.archives.specs.IndexRecord.{index_of, key_of}
+use Rattle.archives.specs.declared.prunable.tables.Entry.{Entry}
+use Rattle.archives.specs.declared.prunable.tables.Tables.{Tables}
+
+pub record Row : Type 0 where
+  pub index : ℕ
+  pub key : List ℕ
+
+-- the row of a record, by its bytes, in which the key has n
+abbrev pub row_in : ℕ → List ℕ → Row
+row_in n r = record { index = index_of r; key = key_of n r }
+
+module _ {K : Type 0} (key_bytes : K → List ℕ) where
+  abbrev pub row_of : Entry K → Row
+  row_of e = record { index = e.index; key = key_bytes e.key }
+
+  abbrev pub rows_in : Option (Vec (Entry K)) → List Row
+  rows_in None = []
+  rows_in (Some table) = map row_of table.items
+
+  -- the rows of a section, by position
+  abbrev pub rows_of : Tables K → ℕ → List Row
+  rows_of t s = rows_in (get nat_cmp t.tables s)
+
+-- no table is empty, but perhaps that of a section that P names
+abbrev pub AreFilledBut : {K : Type 0} → (ℕ → Type 0) → Tables K → Type 0
+AreFilledBut {K} P t = (s : ℕ) (table : Vec (Entry K)) → get nat_cmp t.tables s ≡ Some table → (P s → ⊥) → table.items ≢ []
+
+-- fewer sections than n have rows
+abbrev pub FewerThan : ℕ → (ℕ → List Row) → Type 0
+FewerThan n rows = (ss : List ℕ) → IsStrictlySortedBy nat_cmp ss → AllByRecursion (λ s. rows s ≢ []) ss → length ss < n
+
+-- At most so many sections with rows, and so many rows in each, may be had; one more row fits into the section.
+abbrev pub HasRoom : ℕ → ℕ → (ℕ → List Row) → ℕ → Type 0
+HasRoom sections per_section rows s = ((rows s ≢ []) × (length (rows s) < per_section)) ⊎ ((rows s ≡ []) × FewerThan sections rows)
+
+-- the section has a table, and one record more fits into it without memory
+abbrev pub HasSpare : {K : Type 0} → Tables K → ℕ → Type 0
+HasSpare t s = IsSomeAnd (get nat_cmp t.tables s) (λ table. vec_len table < vec_capacity table)

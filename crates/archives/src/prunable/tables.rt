@@ -1,0 +1,100 @@
+// Which records the sections keep, held in memory.
+ghost use Rattle.std.specs.Prelude.{◌≡◌, ◌≢◌, ◌↔◌, ◌<◌, ◌++◌, ◌∷◌, [], ℕ, List, None, length, slice_get, IfSome, IsSomeAnd, IsTrue, IsOk, OnErr, OnOk};
+ghost use Rattle.archives.specs.Rows.{AreFilledBut, HasRoom, HasSpare, Row, rows_of};
+
+use super::Limits;
+use std::alloc::{AllocError, Global};
+use std::collections::BTreeMap;
+use value_codec::Key;
+
+/// What is held in memory of a record.
+#[derive(Clone, Copy)]
+struct Entry<K> {
+    index: u64,
+    key: K,
+}
+
+/// Of each section that keeps a record a table: the entries of its records, by position.
+///
+/// No table is empty, but while a record is being added for which room was made.
+#[derive(Drop)]
+pub(super) struct Tables<K> {
+    alloc: Global,
+    tables: BTreeMap<u64, Vec<Entry<K>>>,
+}
+
+impl<K: Key> Tables<K> {
+    /// No section keeps a record. It takes no memory.
+    pub(super) fn new(alloc: Global) -> Tables<K>
+        ensures none { (s : ℕ) → rows_of K.key_bytes result s ≡ [] }
+        ensures filled { AreFilledBut (λ _. ⊥) result }
+    {
+        Tables {
+            alloc,
+            tables: BTreeMap::new(alloc),
+        }
+    }
+
+    /// Whether the limits allow one record more in the section.
+    pub(super) fn has_room(&self, limits: Limits, section: u64) -> bool
+        requires filled { AreFilledBut (λ _. ⊥) self.now }
+        ensures { IsTrue result ↔ HasRoom limits.sections limits.per_section (rows_of K.key_bytes self.now) section }
+    {
+        match self.tables.get(&section) {
+            Some(table) => (table.len() as u64) < limits.per_section,
+            None => (self.tables.len() as u64) < u64::from(limits.sections),
+        }
+    }
+
+    /// Makes room for one record more in the section. Then adding it takes no memory.
+    pub(super) fn reserve(&mut self, section: u64) -> Result<(), AllocError>
+        requires filled { AreFilledBut (λ _. ⊥) self.old }
+        ensures same { (s : ℕ) → rows_of K.key_bytes self.new s ≡ rows_of K.key_bytes self.old s }
+        ensures filled { AreFilledBut (λ s. s ≡ section) self.new }
+        ensures room { OnOk result (HasSpare self.new section) }
+    {
+        let table = self.tables.entry(section)?.or_insert(Vec::new(self.alloc));
+        table.reserve(1)
+    }
+
+    /// Adds a record behind those of its section. It fails only for want of memory, and then no row changed.
+    pub(super) fn push(&mut self, section: u64, index: u64, key: K) -> Result<(), AllocError>
+        requires filled { AreFilledBut (λ s. s ≡ section) self.old }
+        ensures added { OnOk result (rows_of K.key_bytes self.new section ≡ rows_of K.key_bytes self.old section ++ record { index = index; key = K.key_bytes key } ∷ []) }
+        ensures others { (s : ℕ) → s ≢ section → rows_of K.key_bytes self.new s ≡ rows_of K.key_bytes self.old s }
+        ensures filled { OnOk result (AreFilledBut (λ _. ⊥) self.new) }
+        ensures room { HasSpare self.old section → IsOk result }
+        ensures unchanged { OnErr result ((s : ℕ) → rows_of K.key_bytes self.new s ≡ rows_of K.key_bytes self.old s) }
+        ensures filled_but { OnErr result (AreFilledBut (λ s. s ≡ section) self.new) }
+    {
+        let table = self.tables.entry(section)?.or_insert(Vec::new(self.alloc));
+        table.push(Entry { index, key })?;
+        Ok(())
+    }
+
+    /// The position of the first record in the section that has this index.
+    pub(super) fn position_of(&self, section: u64, index: u64) -> Option<u64>
+        ensures found { IfSome result (λ p. IsSomeAnd (slice_get (rows_of K.key_bytes self.now section) p) (λ r. r.index ≡ index)) }
+        ensures first { IfSome result (λ p. (q : ℕ) → q < p → IsSomeAnd (slice_get (rows_of K.key_bytes self.now section) q) (λ r. r.index ≢ index)) }
+        ensures none { result ≡ None → (q : ℕ) → IsSomeAnd (slice_get (rows_of K.key_bytes self.now section) q) (λ r. r.index ≡ index) → ⊥ }
+    {
+        let table = self.tables.get(&section)?;
+        let position = table.iter().position(|entry| entry.index == index)?;
+        Some(position as u64)
+    }
+
+    /// Section and position of the first record with this key, the least section first.
+    pub(super) fn place_of(&self, key: &K) -> Option<(u64, u64)>
+        ensures found { IfSome result (λ r. IsSomeAnd (slice_get (rows_of K.key_bytes self.now r.0) r.1) (λ row. row.key ≡ K.key_bytes key.now)) }
+        ensures first { IfSome result (λ r. (q : ℕ) → q < r.1 → IsSomeAnd (slice_get (rows_of K.key_bytes self.now r.0) q) (λ row. row.key ≢ K.key_bytes key.now)) }
+        ensures least { IfSome result (λ r. (s q : ℕ) → s < r.0 → IsSomeAnd (slice_get (rows_of K.key_bytes self.now s) q) (λ row. row.key ≡ K.key_bytes key.now) → ⊥) }
+        ensures none { result ≡ None → (s q : ℕ) → IsSomeAnd (slice_get (rows_of K.key_bytes self.now s) q) (λ row. row.key ≡ K.key_bytes key.now) → ⊥ }
+    {
+        for (section, table) in &self.tables {
+            if let Some(position) = table.iter().position(|entry| entry.key == *key) {
+                return Some((*section, position as u64));
+            }
+        }
+        None
+    }
+}
