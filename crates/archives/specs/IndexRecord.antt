@@ -1,5 +1,5 @@
 -- How an index record is spelled, and what any bytes say as one. Numbers have the highest byte first, and a key has n bytes.
-use Rattle.std.specs.Prelude.{ℕ, ◌+◌, ◌<◌, ◌^◌, List, ◌++◌, take, drop}
+use Rattle.std.specs.Prelude.{◌≡◌, length, ℕ, ◌+◌, ◌<◌, ◌^◌, List, ◌++◌, take, drop}
 use Rattle.std.specs.Int.{w32, w64, to_be_bytes, from_be_bytes}
 use Rattle.archives.specs.declared.prunable.index_record.IndexRecord.{IndexRecord}
 
@@ -26,3 +26,15 @@ key_of n bytes = take n (drop 8 bytes)
 -- and the frame's place and size
 unfoldable pub place_of : ℕ → List ℕ → ℕ × ℕ
 place_of n bytes = (from_be_bytes w64 (take 8 (drop (n + 8) bytes)), from_be_bytes w32 (take 4 (drop (n + 16) bytes)))
+
+-- the bytes are the spelling of a record with a key of n bytes
+pub record IsSpelled (n : ℕ) (bytes : List ℕ) : Type 0 where
+  pub index : ℕ
+  pub key : List ℕ
+  pub offset : ℕ
+  pub size : ℕ
+  pub index_fits : index < 2 ^ 64
+  pub key_size : length key ≡ n
+  pub offset_fits : offset < 2 ^ 64
+  pub size_fits : size < 2 ^ 32
+  pub is : bytes ≡ index_record index key offset size

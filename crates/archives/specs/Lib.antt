@@ -14,3 +14,11 @@ pub mod Rows
 pub mod Filing
 pub mod Lawful
 pub mod Standing
+pub mod Archives
+pub mod Shown
+pub mod Refusing
+pub mod Putting
+pub mod Syncing
+pub mod Finding
+pub mod Reading
+pub mod Opening

@@ -1,4 +1,5 @@
-//! What an archive is asked, what it replies, and the machine of records that says which replies are right.
+//! Stores of values by index and key: the archive whose front can be pruned; what an archive is asked, what it replies, and the machine of
+//! records that says which replies are right.
 //!
 //! `specs/Machine.antt` has the machine, with all commands of an archive: a state, and a step for each command and reply.
 //! `plain` runs the commands that are built, on one list.
@@ -11,7 +12,7 @@ pub mod plain;
 pub mod prunable;
 mod translator;
 
-pub use archive::Identifier;
+pub use archive::{Archive, Identifier};
 pub use commands::{Command, Reply};
 pub use error::Error;
 pub use translator::{FourCap, Translator};

@@ -1,0 +1,109 @@
+-- Why an opening of an archive refuses what its parts refuse.
+use Rattle.std.proofs.Common.{◌≡◌, ◌≢◌, ◌⊎◌, inl, inr, refl, sym, ◌∙◌, ap, subst, ℕ, zero, suc, ◌+◌, ◌*◌, ◌<◌, ◌≤◌, ◌^◌, cond, Bool, true, false, List, [], ◌∷◌, length, map, take, get_or, Option, None, Some, arith}
+use Rattle.std.specs.List.{AllByRecursion, Contains}
+use Rattle.std.proofs.lemmas.Bool.{cases_lt}
+use Rattle.std.proofs.lemmas.List.{length-map, nil_from_length}
+use Rattle.std.proofs.lemmas.List.Elements.{Contains-get_or}
+use Rattle.std.proofs.lemmas.Nat.{mul-le}
+use Rattle.blob_device.specs.Disk.{Disk, Image}
+use Rattle.sealed_pages.specs.Reads.{IsShort}
+use Rattle.sealed_pages.specs.declared.page_blob.PageBlob.{PageBlob}
+use Rattle.segments.specs.Sections.{section_key}
+use Rattle.segments.specs.declared.journal.Damage.{Damage}
+use Rattle.value_codec.specs.declared.codec.Error as codec
+use Rattle.value_codec.specs.Spelling.{size_refusal}
+use Rattle.paired.specs.Kept.{Layout, Markers, IsMarked, content_at, is_sound_in, marker_of, stored_records}
+use Rattle.paired.specs.OpeningRefusing.{IsSomeRefused}
+use Rattle.paired.specs.Records as stored
+use Rattle.paired.specs.Records.{entry_of, front, records}
+use Rattle.paired.specs.Replaying.{Run, is_sound_over, marker, records_given, records_over}
+use Rattle.paired.proofs.KeptLemmas.{stored_entries}
+use Rattle.paired.proofs.OpeningEnds.{marked_is, marked_or_zero}
+use Rattle.paired.proofs.ReconcileErrors.{each_at}
+use Rattle.paired.proofs.RecordLemmas.{all_by, all_take, front-take}
+use Rattle.archives.specs.Filing.{Filing, kept_entries}
+use Rattle.archives.specs.IndexRecord.{index_of}
+use Rattle.archives.specs.Lawful.{Lawful}
+use Rattle.archives.specs.Machine.{section_of}
+use Rattle.archives.specs.Opening.{FindsShort, HasStray, IsOver}
+use Rattle.archives.proofs.ArchiveStands.{all_unmap}
+use Rattle.archives.proofs.InitRecords.{all_whole}
+use Rattle.archives.proofs.InitState.{all_has}
+
+-- ---- what a marker counts
+module _ (entries : Markers) (size : ℕ) (floor_of : ℕ → ℕ) (floors : (s : ℕ) → floor_of s ≡ marker_of entries s * size) where
+  -- a section with fewer bytes than its floor has a marker
+  pub marked_damage : (x : Damage) → (x.wanted ≡ floor_of x.section) × (x.kept < x.wanted) → (m : ℕ) × IsMarked entries x.section m × (x.wanted ≡ m * size) × (x.kept < x.wanted)
+  marked_damage x says = elim (marked_or_zero entries x.section) [
+    | inl some ↦ (some.0, some.1, says.0 ∙ floors x.section ∙ ap (λ (n : ℕ). n * size) (marked_is entries x.section some.0 some.1), says.1)
+    | inr none ↦ absurd (omega (arith, says.0, says.1, floors x.section, ap (λ (n : ℕ). n * size) none))
+  ]
+
+  -- a page with bytes of a record below the floor has bytes of one that the marker counts
+  pub marked_short : (l : Layout) → l.record_size ≡ size → 1 ≤ size → (d : Disk) (k : ℕ) → FindsShort l floor_of d k
+      → (s : ℕ) × (m : ℕ) × (p : ℕ) × IsMarked entries s m × (p < m) × IsShort l.seal l.page_size (d (section_key l.index s)).content (p * l.record_size) l.record_size k
+  marked_short l same pos d k finds =
+      let s : ℕ = finds.section in
+      let p : ℕ = finds.position in
+      let below : (p + 1) * size ≤ marker_of entries s * size = omega (arith, subst (λ (n : ℕ). (p + 1) * n ≤ floor_of s) same finds.below, floors s) in
+      elim (cases_lt p (marker_of entries s)) [
+        | inr behind ↦ absurd (omega (arith, pos, below, mul-le (marker_of entries s) size p size behind (omega arith)))
+        | inl before ↦ elim (marked_or_zero entries s) [
+          | inl some ↦ (s, some.0, p, some.1, omega (arith, before, marked_is entries s some.0 some.1), finds.page)
+          | inr none ↦ absurd (omega (arith, before, none))
+        ]
+      ]
+
+-- ---- what a lawful image keeps
+blank : stored.Entry
+blank = record { stored = []; value = [] }
+
+get_or_stored : (xs : List stored.Entry) (p : ℕ) → p < length xs → get_or (map (λ x. x.stored) xs) p [] ≡ (get_or xs p blank).stored
+get_or_stored [] p lt = absurd (omega (arith, lt))
+get_or_stored (x ∷ xs) zero lt = refl
+get_or_stored (x ∷ xs) (suc p) lt = get_or_stored xs p (omega (arith, lt))
+
+module _ (f : Filing) (image : Image) (markers : Markers) where
+  module _ (lawful : Lawful f image markers) where
+    pub lawful_no_stray : HasStray f.items (kept_entries f image markers) → ⊥
+    lawful_no_stray (s, x, small, has, stray) =
+        let P : List ℕ → Type 0 = λ r. section_of f.items (index_of r) ≡ s in
+        let Q : stored.Entry → Type 0 = λ y. section_of f.items (index_of y.stored) ≡ s in
+        let all : List (List ℕ) = stored_records f.layout image s in
+        let sound = is_sound_in f.layout image s in
+        let some : List (List ℕ) = front sound (marker_of markers s) 0 all in
+        let first : AllByRecursion P some = subst (AllByRecursion P) (sym (front-take sound (marker_of markers s) 0 all)) (all_take P (length some) all (lawful.in_section s small)) in
+        let again = stored_entries f.layout.place (content_at image f.layout.values s) some in
+        let entries : AllByRecursion Q (kept_entries f image markers s) = all_unmap (λ y. y.stored) P (kept_entries f image markers s) (subst (AllByRecursion P) (sym again) first) in
+        stray (all_has Q (kept_entries f image markers s) x entries has)
+
+    pub lawful_no_over : IsOver f.most_sections f.most_records (kept_entries f image markers) → ⊥
+    lawful_no_over (inl (ss, sorted, all, more)) = omega (arith, more, lawful.few_sections ss sorted all)
+    lawful_no_over (inr (s, small, more)) = omega (arith, more, lawful.few_records s small)
+
+  -- ---- what a replay gives of it
+  module _ (given : ℕ → List (List ℕ)) (is : (s : ℕ) → s < 2 ^ 64 → given s ≡ map (λ x. x.stored) (kept_entries f image markers s)) where
+    pub stray_of : (s p : ℕ) → s < 2 ^ 64 → p < length (given s) → section_of f.items (index_of (get_or (given s) p [])) ≢ s → HasStray f.items (kept_entries f image markers)
+    stray_of s p small lt stray =
+        let entries : List stored.Entry = kept_entries f image markers s in
+        let within : p < length entries = omega (arith, lt, ap length (is s small), length-map entries (λ x. x.stored)) in
+        let same : get_or (given s) p [] ≡ (get_or entries p blank).stored = ap (λ (rs : List (List ℕ)). get_or rs p []) (is s small) ∙ get_or_stored entries p within in
+        (s, get_or entries p blank, small, Contains-get_or entries p blank within, λ here. stray (ap (λ (r : List ℕ). section_of f.items (index_of r)) same ∙ here))
+
+    pub over_of : (sections per_section : ℕ) → IsOver sections per_section given → IsOver sections per_section (kept_entries f image markers)
+    over_of sections per_section (inl (ss, sorted, all, more)) =
+        inl (ss, sorted, all_by (λ s. (s < 2 ^ 64) × (given s ≢ [])) (λ s. (s < 2 ^ 64) × (kept_entries f image markers s ≢ [])) (λ s has. (has.0, λ none. has.1 (is s has.0 ∙ ap (map (λ x. x.stored)) none))) ss all, more)
+    over_of sections per_section (inr (s, small, more)) = inr (s, small, omega (arith, more, ap length (is s small), length-map (kept_entries f image markers s) (λ x. x.stored)))
+
+-- ---- no record is refused by its size
+pub none_refused : {F S : Type 0} {gs : _} (run : Run F (PageBlob S gs)) (d : Disk) → run.tracked ≡ true → (s : ℕ) (e : codec.Error) → IsSomeRefused (λ bytes _. size_refusal run.layout.record_size bytes) (records_given run d s) e → ⊥
+none_refused run d tracked s e has =
+    let P : List ℕ → Type 0 = λ r. size_refusal run.layout.record_size r ≡ None in
+    let over : List (List ℕ) = records_over run d s in
+    let sound = is_sound_over run d s in
+    let some : List (List ℕ) = front sound (marker run s) 0 over in
+    let given : records_given run d s ≡ some = ap (λ b. cond b some over) tracked in
+    let first : AllByRecursion P some = subst (AllByRecursion P) (sym (front-take sound (marker run s) 0 over)) (all_take P (length some) over (all_whole run.layout.record_size _)) in
+    let fine : P (get_or (records_given run d s) has.position []) = each_at P (records_given run d s) has.position [] (subst (AllByRecursion P) (sym given) first) has.within in
+    let bad = has.refused in
+    cc (fine, bad)

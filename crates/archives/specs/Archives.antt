@@ -1,0 +1,89 @@
+-- What a prunable archive means: a state of the record machine. When it may be used.
+use Rattle.std.specs.Prelude.{◌≡◌, ◌≢◌, ℕ, ◌<◌, ◌≤◌, ◌^◌, Bool, true, false, List, [], length, map, Option, None, Some, IsTrue}
+use Rattle.std.specs.List.{AllByRecursion}
+use Rattle.std.specs.List.Sorted.{IsStrictlySortedBy}
+use Rattle.std.specs.Ordering.{nat_cmp}
+use Rattle.blob_device.specs.Disk.{Disk, MayLeave}
+use Rattle.blob_device.specs.Opened.{OpenedList}
+use Rattle.value_codec.specs.declared.codec.Error as codec
+use Rattle.sealed_pages.specs.declared.page_blob.PageBlob.{PageBlob}
+use Rattle.sealed_pages.specs.declared.write_blob.WriteBlob.{WriteBlob}
+use Rattle.segments.specs.declared.buffer.SectionBuffer as buffer
+use Rattle.segments.specs.declared.unsealed.WriteFactory.{WriteFactory}
+use Rattle.segments.specs.Setting.{Setting}
+use Rattle.paired.specs.GlobSections as glob
+use Rattle.paired.specs.Kept.{Layout}
+use Rattle.segments.specs.Sections.{section_key}
+use Rattle.paired.specs.Pair.{HasNoBytes, Pair, IsPair, IsSoundOn, length_of, list_of, records_of, synced_length}
+use Rattle.archives.specs.Filing.{Filing, filed}
+use Rattle.archives.specs.IndexRecord.{IsSpelled}
+use Rattle.archives.specs.Machine.{State, section_of}
+use Rattle.archives.specs.Rows.{Row, row_in}
+
+-- What an archive shows: its pair; how many indices a section has room for, how many bytes a key has, and why the codec refuses a
+-- spelling; the limits; the floor, below which all was pruned; of each section a row for each record, by position;
+-- that memory holds no table without rows; and which sections were written since the last sync.
+pub record Archive (F B : Type 0) : Type 1 where
+  pub pair : Pair F B
+  pub items : ℕ
+  pub key_size : ℕ
+  pub refusal : List ℕ → Option codec.Error
+  pub most_sections : ℕ
+  pub most_records : ℕ
+  pub floor : ℕ
+  pub rows : ℕ → List Row
+  pub Filled : Type 0
+  pub is_written : ℕ → Bool
+
+-- how it files its records
+abbrev pub filing_of : {F B : Type 0} → Archive F B → Filing
+filing_of a = record {
+  layout = a.pair.layout;
+  items = a.items;
+  key_size = a.key_size;
+  refusal = a.refusal;
+  most_sections = a.most_sections;
+  most_records = a.most_records;
+}
+
+-- no crash leaves a blob in the partitions of records and values whose name is no section's
+pub record LeavesNoForeign (l : Layout) (d : Disk) : Type 0 where
+  pub index : (name c : List ℕ) → MayLeave (d (l.index, name)) (Some c) → length name ≡ 8
+  pub values : (name c : List ℕ) → MayLeave (d (l.values, name)) (Some c) → length name ≡ 8
+
+module _ {F S : Type 0} {gs : _} (a : Archive F (PageBlob S gs)) where
+  module _ (d : Disk) where
+    -- the state of the machine
+    abbrev pub state_of : State (List ℕ)
+    state_of = record {
+      is_open = true;
+      lists = λ s. map (filed (filing_of a)) (list_of a.pair d s);
+      synced = synced_length a.pair;
+      floor = a.floor;
+    }
+
+    -- The pair is sound; each value is a spelling that the codec accepts; a u64 counts the bytes of each section's values; and no crash leaves
+    -- values of a section of which nothing is held, or a foreign name. So it is of an archive that was opened over a lawful image.
+    pub record IsSoundArchive : Type 0 where
+      pub pair : IsSoundOn a.pair d
+      pub decoded : (s : ℕ) → AllByRecursion (λ e. a.refusal e.value ≡ None) (list_of a.pair d s)
+      pub counted : (s : ℕ) → glob.section_size a.pair.values s < 2 ^ 64
+      pub absent : (s : ℕ) → s < 2 ^ 64 → a.pair.index.sections.held s ≡ None → a.pair.values.held s ≡ None → HasNoBytes (d (section_key a.pair.layout.values s))
+      pub names : LeavesNoForeign a.pair.layout d
+
+  -- The archive may be used: its pair may; the rows are those of the records, each of them spelled, and in its section, and no more than the
+  -- limits allow; nothing was pruned; what is not synced is in sections that were written; and each of these has a row.
+  pub record IsArchive (g : buffer.Ghosts (PageBlob S gs)) (gives : F → Setting) (h : buffer.Ghosts WriteBlob) (takes : WriteFactory → Setting) (told : Type 0)
+      (opened : OpenedList) (d : Disk) : Type 0 where
+    pub pair : IsPair g gives h takes told a.pair opened d
+    pub items : 1 ≤ a.items
+    pub floor : a.floor ≡ 0
+    pub pair_floor : a.pair.index.sections.floor ≡ 0
+    pub listed : told → (s : ℕ) → a.rows s ≡ map (row_in a.key_size) (records_of a.pair d s)
+    pub spelled : told → (s : ℕ) → AllByRecursion (IsSpelled a.key_size) (records_of a.pair d s)
+    pub filled : a.Filled
+    pub in_section : (s : ℕ) → AllByRecursion (λ r. section_of a.items r.index ≡ s) (a.rows s)
+    pub few_sections : (ss : List ℕ) → IsStrictlySortedBy nat_cmp ss → AllByRecursion (λ s. a.rows s ≢ []) ss → length ss ≤ a.most_sections
+    pub few_records : (s : ℕ) → length (a.rows s) ≤ a.most_records
+    pub unwritten : (s : ℕ) → a.is_written s ≡ false → synced_length a.pair s ≡ length_of a.pair s
+    pub written : (s : ℕ) → IsTrue (a.is_written s) → a.rows s ≢ []

@@ -1,0 +1,51 @@
+-- What an archive shows of itself, and how one that is opened files its records.
+use Rattle.std.specs.Prelude.{ℕ, ◌+◌, List, Option, string_bytes}
+use Rattle.std.specs.BTreeSet as set
+use Rattle.std.specs.Ordering.{nat_cmp}
+use Rattle.value_codec.specs.declared.codec.Error as codec
+use Rattle.value_codec.specs.declared.seal.Seal as seal
+use Rattle.sealed_pages.specs.declared.page_blob.PageBlob.{PageBlob}
+use Rattle.segments.specs.declared.sealed.AppendFactory.{AppendFactory}
+use Rattle.paired.specs.PairShown as pair
+use Rattle.paired.specs.TrackedShown.{marker_format}
+use Rattle.archives.specs.Archives as meaning
+use Rattle.archives.specs.Filing.{Filing}
+use Rattle.archives.specs.IndexRecord.{place_of}
+use Rattle.archives.specs.Rows.{AreFilledBut, rows_of}
+use Rattle.archives.specs.declared.prunable.Archive.{Archive}
+use Rattle.archives.specs.declared.prunable.config.Config.{Config}
+
+abbrev pub shown : {T K V S W C : Type 0} {translator word_eq word_hash key key_eq key_ord key_partial codec seal stored fixed stored_codec : _}
+    → Archive T K V S W C translator word_eq word_hash key key_eq key_ord key_partial codec seal stored fixed stored_codec → meaning.Archive (AppendFactory S) (PageBlob S seal)
+shown {key = k} {codec = c} {seal = s} a = record {
+  pair = pair.shown (place_of k.SIZE) a.pair;
+  items = a.items_per_section;
+  key_size = k.SIZE;
+  refusal = λ bytes. c.refusal bytes a.pair.values.codec_config;
+  most_sections = a.limits.sections;
+  most_records = a.limits.per_section;
+  floor = 0;
+  rows = rows_of k.key_bytes a.tables;
+  Filled = AreFilledBut (λ _. ⊥) a.tables;
+  is_written = set.contains nat_cmp a.written;
+}
+
+-- with keys of n bytes, under this seal, and values that the codec refuses so
+abbrev pub filing_for : {T S C : Type 0} → ℕ → seal.Ghosts S → (List ℕ → C → Option codec.Error) → Config T C → Filing
+filing_for n sealing refusal cfg = record {
+  layout = record {
+    index = string_bytes cfg.key_partition;
+    values = string_bytes cfg.value_partition;
+    metadata = string_bytes cfg.metadata_partition;
+    page_size = cfg.key_pages.page_size;
+    record_size = n + 20;
+    seal = sealing.seal_of;
+    place = place_of n;
+    markers = marker_format sealing;
+  };
+  items = cfg.items_per_section;
+  key_size = n;
+  refusal = λ bytes. refusal bytes cfg.codec_config;
+  most_sections = cfg.limits.sections;
+  most_records = cfg.limits.per_section;
+}
