@@ -7,6 +7,7 @@ pub mod HistoryLemmas
 pub mod ImageLemmas
 pub mod KeepsLemmas
 pub mod LengthLemmas
+pub mod ListedLemmas
 pub mod Logged
 pub mod Maps
 pub mod Marks

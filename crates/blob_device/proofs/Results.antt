@@ -1,5 +1,6 @@
 -- What holds of a result by its variant.
 use Rattle.std.proofs.Common.{◌≡◌, Result, Ok, Err, OnOk, OnErr, IfOk, IsErrAnd, ap}
+use Rattle.std.specs.Result.{result_ok}
 
 pub on_err : {T E : Type 0} {P Q : Type 0} (r : Result T E) → (P → Q) → OnErr r P → OnErr r Q
 on_err (Ok v) f p = tt
@@ -32,3 +33,9 @@ err_of {T = T} {E = E} (Err e) x is = let f : E → Result T E = λ y. Err y in 
 pub if_ok_with : {T E : Type 0} {Q : Type 0} {P R : T → Type 0} (r : Result T E) → OnOk r Q → IfOk r P → ((v : T) → Q → P v → R v) → IfOk r R
 if_ok_with (Ok v) q p f = f v q p
 if_ok_with (Err e) q p f = tt
+
+-- two results that have the same value, if any, fail together
+pub err_like : {T E F : Type 0} {P Q : Type 0} (r : Result T E) (q : Result T F) → result_ok r ≡ result_ok q → (P → Q) → OnErr q P → OnErr r Q
+err_like (Ok v) q same f p = tt
+err_like (Err e) (Ok v) same f p = absurd (cc same)
+err_like (Err e) (Err x) same f p = f p

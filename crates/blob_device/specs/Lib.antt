@@ -9,12 +9,15 @@ pub mod Counts
 pub mod Disk
 pub mod Errors
 pub mod Failing
+pub mod FileMeaning
+pub mod FolderNames
 pub mod Guards
 pub mod Histories
 pub mod Images
 pub mod Keeps
 pub mod Laws
 pub mod Lengths
+pub mod Listed
 pub mod MemStreams
 pub mod MemoryMeaning
 pub mod NameList

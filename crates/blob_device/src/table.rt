@@ -1,6 +1,6 @@
 // A table of values, each by a partition and a name, in the order of their bytes.
 ghost use Rattle.std.specs.Prelude.{◌≡◌, ◌≢◌, List, ℕ, Option, Some, None, OnOk, OnErr, IsSome};
-ghost use Rattle.std.specs.Option.{option_copied};
+ghost use Rattle.std.specs.Option.{option_copied, option_map};
 ghost use Rattle.blob_device.specs.Disk.{Key, put};
 ghost use Rattle.blob_device.specs.Tables.{at_name, at_key};
 
@@ -51,6 +51,15 @@ impl<V: Drop> Table<V> {
         }
     }
 
+    /// Puts another value in the place of the one at this partition and name, if there is one. It takes no memory.
+    pub fn replace(&mut self, partition: &[u8], name: &[u8], value: V)
+        ensures { at_key self.new.partitions ≡ put (at_key self.old.partitions) (partition.now, name.now) (option_map (λ _. value) (at_key self.old.partitions (partition.now, name.now))) }
+    {
+        if let Some(names) = self.partitions.get_mut(partition) {
+            replace_name(names, name, value);
+        }
+    }
+
     /// Takes the value away, if there is one.
     pub fn remove(&mut self, partition: &[u8], name: &[u8])
         ensures { at_key self.new.partitions ≡ put (at_key self.old.partitions) (partition.now, name.now) None }
@@ -58,6 +67,15 @@ impl<V: Drop> Table<V> {
         if let Some(names) = self.partitions.get_mut(partition) {
             remove_name(names, name);
         }
+    }
+}
+
+fn replace_name<V: Drop>(names: &mut BTreeMap<Vec<u8>, V>, name: &[u8], value: V)
+    ensures here { at_name names.new name.now ≡ option_map (λ _. value) (at_name names.old name.now) }
+    ensures others { (q : List ℕ) → q ≢ name.now → at_name names.new q ≡ at_name names.old q }
+{
+    if let Some(place) = names.get_mut(name) {
+        *place = value;
     }
 }
 

@@ -1,0 +1,339 @@
+// A device over a folder of a file system: the edge at which the proofs end.
+ghost use Rattle.std.specs.Prelude.{◌≡◌, ◌+◌, ◌<◌, ◌^◌, ◌⊎◌, max, true, false, None, Err, IsSome, OnOk, OnErr, IfOk, IfSome, length};
+ghost use Rattle.std.specs.Result.{IsOkUnless, result_ok};
+ghost use Rattle.blob_device.specs.Counts.{Counted};
+ghost use Rattle.blob_device.specs.FolderNames.{is_folder_name};
+ghost use Rattle.blob_device.specs.Opened.{entered, updated, left, with_len, one_more_read};
+
+mod file;
+mod files;
+mod names;
+mod opened;
+mod stop;
+#[cfg(test)]
+mod tests;
+
+use crate::{DevError, Device, Names};
+use files::BlobFiles;
+use opened::OpenedBlobs;
+use std::alloc::{AllocError, Global};
+use std::fmt;
+use std::rt::Files;
+use stop::Stop;
+
+/// A device over a folder of a file system.
+///
+/// A partition is a folder below the root and is made when needed; it stays when its last blob is removed. A blob is the
+/// file whose name is the lower-case hexadecimal of the blob's name, and other files are passed over. A partition's name has
+/// 1 to 64 of the characters a to z, 0 to 9, `_` and `-`; any other is a fault. A blob's name has 1 to 127 bytes: the system
+/// refuses other files, which is a fault too.
+///
+/// `open_blob` and `sync` sync the file. The names of a partition's files and folder are synced when the device first opens a
+/// blob there, and when it makes or removes a file or folder; the name of the root itself is not. After a sync that failed no
+/// call answers that a blob is settled, since the system may have dropped what it was to write. The device does not tell its
+/// disk: what the system does with the files is outside the proofs.
+#[derive(Drop)]
+pub struct FileDevice<R: Files + Clone + Drop> {
+    alloc: Global,
+    files: BlobFiles<R>,
+    opened: OpenedBlobs,
+    calls: u64,
+    faults: u64,
+    last_failure: Option<String>,
+}
+
+impl<R: Files + Clone + Drop> FileDevice<R> {
+    ghost use Rattle.blob_device.specs.FileMeaning.{file_time, file_faults, file_opened};
+
+    /// A device over this folder, with no blob opened. It touches no file. An empty root is the working folder.
+    pub fn new(rt: &R, alloc: Global, root: &str) -> Result<FileDevice<R>, DevError>
+        ensures memory { IsOkUnless result DevError.Mem }
+        ensures none_opened { IfOk result (λ d. file_opened d ≡ (λ _. None)) }
+        ensures none_made { IfOk result (λ d. (file_time d).calls ≡ 0) }
+        ensures no_fault { IfOk result (λ d. file_faults d ≡ 0) }
+    {
+        Ok(FileDevice {
+            alloc,
+            files: BlobFiles::new(rt, alloc, root)?,
+            opened: OpenedBlobs::new(alloc),
+            calls: 0,
+            faults: 0,
+            last_failure: None,
+        })
+    }
+
+    /// How often a call failed, up to the end of a u64. Want of memory does not count.
+    pub fn faults(&self) -> u64
+        ensures { result ≡ file_faults self.now }
+    {
+        self.faults
+    }
+
+    /// What failed at the last fault, in one line: the call, the file, and the reason. None before the first fault, and where
+    /// there was no memory for the line.
+    pub fn last_failure(&self) -> Option<&str> {
+        match &self.last_failure {
+            Some(line) => Some(line.as_str()),
+            None => None,
+        }
+    }
+
+    fn try_scan(&self, alloc: Global, partition: &str) -> Result<Names, Stop>
+        ensures folder { OnOk result (is_folder_name partition.now ≡ true) }
+        ensures bad { is_folder_name partition.now ≡ false → result ≡ Err Stop.BadPartition }
+    {
+        Ok(Names::from_vec(self.files.scan(alloc, partition)?))
+    }
+
+    fn try_open(&mut self, partition: &str, name: &[u8]) -> Result<u64, Stop>
+        ensures ok { IfOk result (λ n. file_opened self.new ≡ entered (file_opened self.old) (partition.now, name.now) n) }
+        ensures err { OnErr result (file_opened self.new ≡ file_opened self.old) }
+        ensures folder { OnOk result (is_folder_name partition.now ≡ true) }
+        ensures bad { is_folder_name partition.now ≡ false → result ≡ Err Stop.BadPartition }
+        ensures calls { (file_time self.new).calls ≡ (file_time self.old).calls }
+        ensures faults { file_faults self.new ≡ file_faults self.old }
+    {
+        let len = self.opened.get(partition, name).map(|entry| entry.len);
+        let len = self.files.open(partition, name, len)?;
+        self.opened.enter(partition, name, len)?;
+        Ok(len)
+    }
+
+    fn try_read(
+        &mut self,
+        partition: &str,
+        name: &[u8],
+        offset: u64,
+        buf: &mut [u8],
+    ) -> Result<(), Stop>
+        requires { IsSome (file_opened self.old (partition.now, name.now)) }
+        ensures opened { file_opened self.new ≡ updated (file_opened self.old) (partition.now, name.now) one_more_read }
+        ensures calls { (file_time self.new).calls ≡ (file_time self.old).calls }
+        ensures faults { file_faults self.new ≡ file_faults self.old }
+    {
+        let len = self.len(partition, name);
+        self.opened.begin_read(partition, name);
+        self.files.read(partition, name, len, offset, buf)
+    }
+
+    fn try_write(
+        &mut self,
+        partition: &str,
+        name: &[u8],
+        offset: u64,
+        bytes: &[u8],
+    ) -> Result<(), Stop>
+        requires open { IsSome (file_opened self.old (partition.now, name.now)) }
+        requires fits { offset + length bytes.now < 2 ^ 64 }
+        ensures ok { OnOk result (file_opened self.new ≡ updated (file_opened self.old) (partition.now, name.now) (λ o. with_len (max o.len (offset + length bytes.now)) o)) }
+        ensures err { OnErr result (file_opened self.new ≡ file_opened self.old) }
+        ensures calls { (file_time self.new).calls ≡ (file_time self.old).calls }
+        ensures faults { file_faults self.new ≡ file_faults self.old }
+    {
+        let len = self.len(partition, name);
+        self.files.write(partition, name, len, offset, bytes)?;
+        let end = offset + bytes.len() as u64;
+        self.opened.set_len(partition, name, len.max(end));
+        Ok(())
+    }
+
+    fn try_resize(&mut self, partition: &str, name: &[u8], len: u64) -> Result<(), Stop>
+        requires { IsSome (file_opened self.old (partition.now, name.now)) }
+        ensures ok { OnOk result (file_opened self.new ≡ updated (file_opened self.old) (partition.now, name.now) (with_len len)) }
+        ensures err { OnErr result (file_opened self.new ≡ file_opened self.old) }
+        ensures calls { (file_time self.new).calls ≡ (file_time self.old).calls }
+        ensures faults { file_faults self.new ≡ file_faults self.old }
+    {
+        let old = self.len(partition, name);
+        self.files.resize(partition, name, old, len)?;
+        self.opened.set_len(partition, name, len);
+        Ok(())
+    }
+
+    fn try_sync(&mut self, partition: &str, name: &[u8]) -> Result<(), Stop>
+        requires { IsSome (file_opened self.old (partition.now, name.now)) }
+        ensures opened { file_opened self.new ≡ file_opened self.old }
+        ensures calls { (file_time self.new).calls ≡ (file_time self.old).calls }
+        ensures faults { file_faults self.new ≡ file_faults self.old }
+    {
+        let len = self.len(partition, name);
+        self.files.sync(partition, name, len)
+    }
+
+    // Once its file is gone, the blob is not opened, also where the removal could not be settled.
+    fn try_remove(&mut self, partition: &str, name: &[u8]) -> Result<(), Stop>
+        ensures ok { OnOk result (file_opened self.new ≡ left (file_opened self.old) (partition.now, name.now)) }
+        ensures err { OnErr result ((file_opened self.new ≡ file_opened self.old) ⊎ (file_opened self.new ≡ left (file_opened self.old) (partition.now, name.now))) }
+        ensures folder { OnOk result (is_folder_name partition.now ≡ true) }
+        ensures bad { is_folder_name partition.now ≡ false → result ≡ Err Stop.BadPartition }
+        ensures calls { (file_time self.new).calls ≡ (file_time self.old).calls }
+        ensures faults { file_faults self.new ≡ file_faults self.old }
+    {
+        self.files.remove(partition, name)?;
+        self.opened.leave(partition, name);
+        self.files.settle_removals(partition)
+    }
+
+    // The length of an opened blob.
+    fn len(&self, partition: &str, name: &[u8]) -> u64
+        requires { IsSome (file_opened self.now (partition.now, name.now)) }
+        ensures { IfSome (file_opened self.now (partition.now, name.now)) (λ o. o.len ≡ result) }
+    {
+        match self.opened.get(partition, name) {
+            Some(entry) => entry.len,
+            None => unreachable!(),
+        }
+    }
+
+    fn failure(
+        &self,
+        call: Call,
+        partition: &str,
+        name: &[u8],
+        stop: &Stop,
+    ) -> Result<String, AllocError> {
+        let path = self.files.shown_path(partition, name)?;
+        format!(in self.alloc; "cannot {call} {path:?}: {stop}")
+    }
+
+    // Counts a call that has ended. Where the files failed it, the fault counts too.
+    fn end<T>(
+        &mut self,
+        call: Call,
+        partition: &str,
+        name: &[u8],
+        done: Result<T, Stop>,
+    ) -> Result<T, DevError>
+        ensures counts { Counted result (file_faults self.old) (file_faults self.new) (file_time self.old).calls (file_time self.new).calls }
+        ensures opened { file_opened self.new ≡ file_opened self.old }
+        ensures value { result_ok result ≡ result_ok done }
+        ensures bad { done ≡ Err Stop.BadPartition → result ≡ Err DevError.Fault }
+    {
+        self.calls = self.calls.saturating_add(1);
+        match done {
+            Ok(value) => Ok(value),
+            Err(Stop::NoMemory) => Err(DevError::Mem),
+            Err(stop) => {
+                self.faults = self.faults.saturating_add(1);
+                self.last_failure = self.failure(call, partition, name, &stop).ok();
+                Err(DevError::Fault)
+            }
+        }
+    }
+}
+
+impl<R: Files + Clone + Drop> Device for FileDevice<R> {
+    ghost use Rattle.blob_device.specs.FileMeaning.{file_time, file_faults, file_opened};
+
+    ghost Tells = { ⊥ };
+
+    ghost time = { file_time };
+
+    ghost faults = { file_faults };
+
+    ghost opened = { file_opened };
+
+    ghost opened_stands = { λ told d k. absurd told };
+
+    ghost holds_bytes = { λ told d k. absurd told };
+
+    ghost agrees = { λ told d k. absurd told };
+
+    ghost absent = { λ told d k. absurd told };
+
+    ghost as_read = { λ told d k. absurd told };
+
+    fn scan(&mut self, alloc: Global, partition: &str) -> Result<Names, DevError>
+        ensures counts { Counted result (file_faults self.old) (file_faults self.new) (file_time self.old).calls (file_time self.new).calls }
+        ensures opened { file_opened self.new ≡ file_opened self.old }
+        ensures folder { OnOk result (is_folder_name partition.now ≡ true) }
+        ensures bad_folder { is_folder_name partition.now ≡ false → result ≡ Err DevError.Fault }
+    {
+        let done = self.try_scan(alloc, partition);
+        self.end(Call::Scan, partition, b"", done)
+    }
+
+    fn open_blob(&mut self, partition: &str, name: &[u8]) -> Result<u64, DevError>
+        ensures counts { Counted result (file_faults self.old) (file_faults self.new) (file_time self.old).calls (file_time self.new).calls }
+        ensures opened { IfOk result (λ n. file_opened self.new ≡ entered (file_opened self.old) (partition.now, name.now) n) }
+        ensures opened_err { OnErr result (file_opened self.new ≡ file_opened self.old) }
+        ensures folder { OnOk result (is_folder_name partition.now ≡ true) }
+        ensures bad_folder { is_folder_name partition.now ≡ false → result ≡ Err DevError.Fault }
+    {
+        let done = self.try_open(partition, name);
+        self.end(Call::Open, partition, name, done)
+    }
+
+    fn read_at(
+        &mut self,
+        partition: &str,
+        name: &[u8],
+        offset: u64,
+        buf: &mut [u8],
+    ) -> Result<(), DevError> {
+        let done = self.try_read(partition, name, offset, buf);
+        self.end(Call::Read, partition, name, done)
+    }
+
+    fn write_at(
+        &mut self,
+        partition: &str,
+        name: &[u8],
+        offset: u64,
+        bytes: &[u8],
+    ) -> Result<(), DevError> {
+        let done = self.try_write(partition, name, offset, bytes);
+        self.end(Call::Write, partition, name, done)
+    }
+
+    fn resize(&mut self, partition: &str, name: &[u8], len: u64) -> Result<(), DevError> {
+        let done = self.try_resize(partition, name, len);
+        self.end(Call::Resize, partition, name, done)
+    }
+
+    fn sync(&mut self, partition: &str, name: &[u8]) -> Result<(), DevError> {
+        let done = self.try_sync(partition, name);
+        self.end(Call::Sync, partition, name, done)
+    }
+
+    fn remove(&mut self, partition: &str, name: &[u8]) -> Result<(), DevError>
+        ensures counts { Counted result (file_faults self.old) (file_faults self.new) (file_time self.old).calls (file_time self.new).calls }
+        ensures opened { OnOk result (file_opened self.new ≡ left (file_opened self.old) (partition.now, name.now)) }
+        ensures opened_err { OnErr result ((file_opened self.new ≡ file_opened self.old) ⊎ (file_opened self.new ≡ left (file_opened self.old) (partition.now, name.now))) }
+        ensures folder { OnOk result (is_folder_name partition.now ≡ true) }
+        ensures bad_folder { is_folder_name partition.now ≡ false → result ≡ Err DevError.Fault }
+    {
+        let done = self.try_remove(partition, name);
+        self.end(Call::Remove, partition, name, done)
+    }
+
+    fn calls(&self) -> u64 {
+        self.calls
+    }
+}
+
+/// A call of the device, as a message names it.
+#[derive(Clone, Copy)]
+enum Call {
+    Scan,
+    Open,
+    Read,
+    Write,
+    Resize,
+    Sync,
+    Remove,
+}
+
+impl fmt::Display for Call {
+    fn fmt<W: fmt::Write>(&self, f: &mut fmt::Formatter<W>) -> fmt::Result {
+        f.write_str(match self {
+            Call::Scan => "scan",
+            Call::Open => "open",
+            Call::Read => "read",
+            Call::Write => "write",
+            Call::Resize => "resize",
+            Call::Sync => "sync",
+            Call::Remove => "remove",
+        })
+    }
+}
