@@ -14,8 +14,6 @@ mod reading;
 mod repair;
 mod replay;
 mod start;
-#[cfg(test)]
-mod tests;
 mod write_blob;
 
 pub use page_blob::PageBlob;

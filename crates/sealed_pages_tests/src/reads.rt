@@ -1,7 +1,7 @@
 // Reads over a device in memory, of whole blobs and of blobs with other bytes in their slots.
-use super::opened;
-use crate::PageBlob;
+use crate::buffer::opened;
 use blob_device::{Device, Image, Memory, RError};
+use sealed_pages::PageBlob;
 use std::alloc::Global;
 use std::test::Fail;
 use value_codec::Sha256Seal;

@@ -1,5 +1,5 @@
 // Cuts of a buffer, and what each crash leaves on the way.
-use super::opened;
+use crate::buffer::opened;
 use blob_device::{CrashChoice, Device, Image, Memory, RError};
 use std::alloc::Global;
 use std::test::Fail;

@@ -1,5 +1,5 @@
 // Images that a crash may leave, opened and written on.
-use super::{opened, put};
+use crate::buffer::{opened, put};
 use blob_device::{CrashChoice, Image, Memory, RError};
 use std::alloc::Global;
 use std::test::Fail;

@@ -4,10 +4,10 @@ ghost use Rattle.blob_device.specs.MemoryMeaning.{memory_opened};
 ghost use Rattle.sealed_pages.specs.Entries.{IsOpenAt};
 ghost use Rattle.sealed_pages.specs.Readers.{reading};
 
-use super::opened;
-use super::plain::page;
-use crate::PageReplay;
+use crate::buffer::opened;
+use crate::plain::page;
 use blob_device::{Device, Image, Memory, RError};
+use sealed_pages::PageReplay;
 use std::alloc::{AllocError, Global};
 use std::process::Abort;
 use std::test::Fail;

@@ -1,13 +1,12 @@
 // The plain reading of pages, against hand-made bytes, against what the buffer writes, and against what it adopts.
 ghost use Rattle.std.specs.Prelude.{◌≤◌, length};
 
-use super::opened;
-use crate::page::slot_of;
-use crate::plain;
+use crate::buffer::opened;
 use blob_device::{Image, Memory, RError};
+use sealed_pages::plain;
 use std::alloc::{AllocError, Global};
 use std::test::Fail;
-use value_codec::Sha256Seal;
+use value_codec::{Seal, Sha256Seal};
 
 /// The size at which a blob of these bytes is adopted.
 fn adopted(alloc: Global, bytes: &[u8]) -> Result<u64, RError> {
@@ -25,6 +24,15 @@ fn reads_as(alloc: Global, bytes: &[u8], sealed: &[u8], size: u64) -> Result<boo
     Ok(prefix.as_slice() == sealed && plain_size == size && adopted(alloc, bytes)? == size)
 }
 
+/// A slot over these bytes, spelled out: their number, and the seal of the number and of the bytes.
+fn slot_over(bytes: &[u8]) -> [u8; 6]
+    requires { length bytes.now ≤ 4 }
+{
+    let len = (bytes.len() as u16).to_be_bytes();
+    let seal = Sha256Seal::seal2(&len, bytes).to_be_bytes();
+    [len[0], len[1], seal[0], seal[1], seal[2], seal[3]]
+}
+
 /// A page with these data bytes, a slot over the first, and a slot over all of them.
 pub fn page(
     alloc: Global,
@@ -36,8 +44,8 @@ pub fn page(
     requires second { length second.now ≤ 4 }
 {
     let mut bytes = data.to_vec(alloc)?;
-    bytes.extend_from_slice(&slot_of::<Sha256Seal>(4, first))?;
-    bytes.extend_from_slice(&slot_of::<Sha256Seal>(4, second))?;
+    bytes.extend_from_slice(&slot_over(first))?;
+    bytes.extend_from_slice(&slot_over(second))?;
     Ok(bytes)
 }
 

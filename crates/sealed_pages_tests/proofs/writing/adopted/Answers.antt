@@ -3,7 +3,7 @@ use Rattle.blob_device.specs.Disk.{Key}
 use Rattle.blob_device.specs.MemoryMeaning.{memory_opened}
 use Rattle.sealed_pages.specs.Entries.{IsOpenAt}
 use Rattle.sealed_pages.proofs.EntryLemmas.{open_entered}
-use Rattle.sealed_pages.proofs.tests.writing.adopted.Goals as goal
+use Rattle.sealed_pages_tests.proofs.writing.adopted.Goals as goal
 
 pub returns : goal.returns
 returns c =

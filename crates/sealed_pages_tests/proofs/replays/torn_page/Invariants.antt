@@ -1,7 +1,7 @@
 use Rattle.blob_device.specs.MemoryMeaning.{memory_opened}
 use Rattle.sealed_pages.specs.Entries.{IsOpenAt}
 use Rattle.sealed_pages.specs.Readers.{reading}
-use Rattle.sealed_pages.proofs.tests.replays.torn_page.Given as goal
+use Rattle.sealed_pages_tests.proofs.replays.torn_page.Given as goal
 
 abbrev pub invariant-given : goal.invariant-given
 invariant-given g l = IsOpenAt (memory_opened l.dev) (reading l.replay).key (reading l.replay).end

@@ -5,21 +5,18 @@ ghost use Rattle.sealed_pages.specs.Buffer.{key_of};
 ghost use Rattle.sealed_pages.specs.Shown.{shown};
 ghost use Rattle.sealed_pages.specs.Entries.{IsOpenAt};
 
-mod cutting;
-mod images;
-mod plain;
-mod reads;
-mod replays;
-mod writing;
-
-use crate::{PageBlob, Pages};
 use blob_device::{CrashChoice, Device, Image, Memory, RError};
+use sealed_pages::{PageBlob, Pages};
 use std::alloc::Global;
 use std::test::Fail;
 use value_codec::Sha256Seal;
 
 /// Opens the blob and adopts it.
-fn opened(alloc: Global, dev: &mut Memory, page_size: u16) -> Result<PageBlob<Sha256Seal>, RError>
+pub fn opened(
+    alloc: Global,
+    dev: &mut Memory,
+    page_size: u16,
+) -> Result<PageBlob<Sha256Seal>, RError>
     requires { 1 ≤ page_size }
     ensures { IfOk result (λ r. IsOpenAt (memory_opened dev.new) (key_of (shown r)) r.end) }
 {
@@ -59,7 +56,7 @@ fn adopted_size(alloc: Global, image: Image) -> Result<u64, RError> {
 }
 
 /// Opens and adopts the blob, adds bytes, and settles them.
-fn put(alloc: Global, dev: &mut Memory, bytes: &[u8]) -> Result<(), RError> {
+pub fn put(alloc: Global, dev: &mut Memory, bytes: &[u8]) -> Result<(), RError> {
     let blob = opened(alloc, dev, 8)?;
     let (blob, _) = blob.append(dev, bytes)?;
     blob.sync(dev)?;

@@ -4,8 +4,8 @@ ghost use Rattle.blob_device.specs.MemoryMeaning.{memory_opened};
 ghost use Rattle.sealed_pages.specs.Entries.{IsOpenAt};
 ghost use Rattle.sealed_pages.specs.Writing.{shown, blob_key};
 
-use crate::WriteBlob;
 use blob_device::{CrashChoice, Device, Memory, RError};
+use sealed_pages::WriteBlob;
 use std::alloc::{AllocError, Global};
 use std::process::Abort;
 use std::test::Fail;
