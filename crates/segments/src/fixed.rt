@@ -15,12 +15,11 @@ mod preflighting;
 mod reading;
 mod removing;
 mod replaying;
-#[cfg(test)]
-mod tests;
 mod writing;
 
 use crate::journal::Error;
 use crate::{AppendFactory, Manager, SectionIter};
+use floors::floor_at;
 pub use preflighting::{BoundaryIter, Preflight};
 pub use replaying::Replay;
 use sealed_pages::Pages;
@@ -83,6 +82,14 @@ impl<A: CodecFixed, S: Seal> Journal<A, S> {
         ensures { IsTrue result ↔ IsRecovered (shown self.now) section }
     {
         section <= self.manager.ceiling() && !self.unrecovered.contains(&section)
+    }
+
+    /// How many bytes of the section a marker vouches for; 0 where there is none. A finished replay from the section's start, or from
+    /// an earlier section, sets it to 0, and a cut to no more than is left.
+    pub fn floor_of(&self, section: u64) -> u64
+        ensures { result ≡ (shown self.now).floor_of section }
+    {
+        floor_at(&self.floors, section)
     }
 
     /// How many whole items the section has, those not flushed too; 0 where it is not held. It takes no memory.

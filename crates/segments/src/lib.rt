@@ -8,8 +8,6 @@ mod items;
 pub mod journal;
 mod manager;
 mod sealed;
-#[cfg(test)]
-mod tests;
 mod unopened;
 mod unsealed;
 

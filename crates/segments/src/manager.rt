@@ -19,8 +19,6 @@ mod cutting;
 mod opening;
 mod removing;
 mod syncing;
-#[cfg(test)]
-mod tests;
 
 use crate::held::{Held, SectionIter};
 use crate::journal::Error;
