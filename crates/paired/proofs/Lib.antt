@@ -18,9 +18,7 @@ pub mod PairStays
 pub mod PairReads
 pub mod PairAppended
 pub mod TrackingLemmas
-pub mod PairOpened
 pub mod PlainLemmas
-pub mod NoteLemmas
 pub mod PairFailing
 pub mod PairFullMarkers
 pub mod PairRemoved

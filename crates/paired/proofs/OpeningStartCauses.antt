@@ -120,8 +120,8 @@ module _ {T : Type 0} (r : Result T Error) (a b : ℕ) where
   early_has_cause why l from refusal corrupt = record {
     corrupt = corrupt;
     named = λ n has. absurd (early_name why n has);
-    damage = λ markers held x has. absurd (early_damage why x has);
-    refused = λ markers held e has. absurd (early_codec why e has);
+    damage = λ x has. absurd (early_damage why x has);
+    refused = λ e has. absurd (early_codec why e has);
   }
 
 -- ---- the parts are refused
@@ -204,8 +204,8 @@ pub never_cause : {T : Type 0} (r : Result T Error) → OnErr r ⊥ → (l : Lay
 never_cause r cause l from refusal = record {
   corrupt = λ side has. absurd (never r (journal.Metadata (store.Corruption side)) cause has);
   named = λ n has. absurd (never r (journal.InvalidBlobName n) cause has);
-  damage = λ markers held x has. absurd (never r (journal.Corruption x) cause has);
-  refused = λ markers held e has. absurd (never r (journal.Codec e) cause has);
+  damage = λ x has. absurd (never r (journal.Corruption x) cause has);
+  refused = λ e has. absurd (never r (journal.Codec e) cause has);
 }
 
 -- ---- what the markers' map answers is handed on as it is

@@ -24,7 +24,7 @@ use Rattle.paired.specs.GlobSections as glob
 use Rattle.paired.specs.Kept.{stored_records, kept}
 use Rattle.paired.specs.Opening.{as_read, IsLawful, MayBeOpened}
 use Rattle.paired.specs.OpeningFound.{GivesInPlace, HasKept}
-use Rattle.paired.specs.Pair.{Pair, IsSoundOn, list_of, records_of}
+use Rattle.paired.specs.Pair.{HasNoBytes, Pair, IsSoundOn, list_of, records_of}
 use Rattle.paired.specs.Places.{Follow, end_of, last_end}
 use Rattle.paired.specs.Records.{records, is_sound, entry_of}
 use Rattle.paired.specs.Replaying.{Run, marker, records_over, records_given, is_sound_over}
@@ -230,12 +230,16 @@ module _ {F S : Type 0} {gs : _} {g : buffer.Ghosts (PageBlob S gs)} {gives : F 
       records = here;
       stored = λ s small. here s ∙ sym (kept_stored e j0 back t s small);
       values = λ s has. now s ∙ did.values t s has;
-      orphans = λ s has none. alone (section_key run.layout.values s) (λ copy. e.over.apart.both (ap (λ (k : Key). k.0) copy.1)) ∙ did.orphans t s has none;
+      orphans = λ s has none. no_copy s ∙ did.orphans t s has none;
       in_place = in_place_lawful;
       lists = λ s small is. lists s ∙ lists_kept s small is;
       sound = λ may each. sound (sound_pair may each);
+      bare = λ may s small none. subst HasNoBytes (sym (no_copy s)) ((did.joint.bare t may).values s small (ap (λ (x : Sections WriteFactory WriteBlob). x.held s) (sym values) ∙ none));
     }
       where
+        no_copy : (s : ℕ) → f (section_key run.layout.values s) ≡ d (section_key run.layout.values s)
+        no_copy s = alone (section_key run.layout.values s) (λ copy. e.over.apart.both (ap (λ (k : Key). k.0) copy.1))
+
         index_blob : (s : ℕ) → f (key_of j.sections s) ≡ d (key_of j.sections s)
         index_blob s = alone (key_of j.sections s) (λ copy. e.over.apart.metadata (sym did.joint.rests.index_here ∙ ap (λ (k : Key). k.0) copy.1))
 

@@ -16,7 +16,7 @@ use Rattle.paired.specs.GlobSections as glob
 use Rattle.paired.specs.Kept.{Layout, Markers, IsMarked, IsSameLayout, kept, marker_of}
 use Rattle.paired.specs.Opening.{as_read, HoldMarkers, IsLawful, MayBeOpened}
 use Rattle.paired.specs.OpeningRefusing.{IsLost, IsProved, IsUnreadable}
-use Rattle.paired.specs.Pair.{Pair, IsSoundOn, length_of, list_of, records_of, synced_length}
+use Rattle.paired.specs.Pair.{HasNoBytes, Pair, IsSoundOn, length_of, list_of, records_of, synced_length}
 use Rattle.paired.specs.Places.{Follow, last_end}
 use Rattle.paired.specs.Replaying.{Run, IsDue, is_sound_over, marker, records_given}
 
@@ -37,8 +37,8 @@ module _ (l : Layout) (from : Disk) where
   pub record HasCause {T : Type 0} (refusal : List ℕ → Unit {0} → Option codec.Error) (result : Result T Error) : Type 0 where
     pub corrupt : (side : Side) → IsErrOf result (journal.Metadata (metadata.Corruption side)) → PairOn l.markers l.metadata from (Err side)
     pub named : (n : List ℕ) → result ≡ Err (journal.InvalidBlobName n) → IsForeign from l.index n ⊎ IsForeign from l.values n
-    pub damage : (markers : Markers) → HoldMarkers l (as_read from) markers → (x : _) → IsErrOf result (journal.Corruption x) → IsLost l (IsMarked markers) from x
-    pub refused : (markers : Markers) → HoldMarkers l (as_read from) markers → (e : codec.Error) → IsErrOf result (journal.Codec e) → IsUnreadable l (IsMarked markers) refusal from e
+    pub damage : (x : _) → IsErrOf result (journal.Corruption x) → (markers : Markers) × HoldMarkers l (as_read from) markers × IsLost l (IsMarked markers) from x
+    pub refused : (e : codec.Error) → IsErrOf result (journal.Codec e) → (markers : Markers) × HoldMarkers l (as_read from) markers × IsUnreadable l (IsMarked markers) refusal from e
 
 module _ {F S : Type 0} {gs : _} (run : Run F (PageBlob S gs)) where
   -- The values of the records that are given of a section stand one behind the other from 0 on, each sound.
@@ -49,7 +49,7 @@ module _ {F S : Type 0} {gs : _} (run : Run F (PageBlob S gs)) where
 
   -- Each section of the pair has the records that were given, which are those that the disk kept, and the values up to the end of the last one's;
   -- values without records are gone. Where the values of the given records are in place, as on a lawful disk, the lists are what the disk kept,
-  -- and the pair is sound, whatever stood behind them.
+  -- and the pair is sound, whatever stood behind them. No crash brings values back into a section that has none.
   pub record HasKept (from to : Disk) (p : Pair F (PageBlob S gs)) : Type 0 where
     pub records : (s : ℕ) → records_of p to s ≡ records_given run from s
     pub stored : (s : ℕ) → s < 2 ^ 64 → records_of p to s ≡ map (λ e. e.stored) (kept run.layout (as_read from) (marker run s) s)
@@ -58,6 +58,7 @@ module _ {F S : Type 0} {gs : _} (run : Run F (PageBlob S gs)) where
     pub in_place : IsLawful run.layout (as_read from) run.store.entries → (s : ℕ) → GivesInPlace from s
     pub lists : (s : ℕ) → s < 2 ^ 64 → GivesInPlace from s → list_of p to s ≡ kept run.layout (as_read from) (marker run s) s
     pub sound : MayBeOpened run.layout from → ((s : ℕ) → GivesInPlace from s) → IsSoundOn p to
+    pub bare : MayBeOpened run.layout from → (s : ℕ) → s < 2 ^ 64 → p.values.held s ≡ None → HasNoBytes (to (section_key run.layout.values s))
 
   -- The pair has the sections of the replay with a blob of records, though it be empty, and no floor. Each marker is the section's number of
   -- records, no marker counting as 0, and all was synced. Only a marker that moves is staged. Partitions, pages and write buffers are those of

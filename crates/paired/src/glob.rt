@@ -12,8 +12,6 @@ mod reading;
 mod recovery;
 mod removing;
 mod syncing;
-#[cfg(test)]
-pub(crate) mod tests;
 mod writing;
 
 pub(crate) use framing::{frame_size, u32_in};

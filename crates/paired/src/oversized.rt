@@ -12,8 +12,6 @@ mod recovery;
 mod removing;
 mod replaying;
 mod syncing;
-#[cfg(test)]
-mod tests;
 mod tracking;
 mod writing;
 

@@ -31,7 +31,7 @@ use Rattle.meta_store.specs.Opening.{Opening}
 use Rattle.meta_store.specs.Store.{Stands, MayBeSynced, chosen_by}
 use Rattle.paired.specs.GlobSections.{section_size}
 use Rattle.paired.specs.Kept.{Layout, Markers, IsMarked}
-use Rattle.paired.specs.Opening.{as_read, IsLawful, OnlyOpens}
+use Rattle.paired.specs.Opening.{as_read, HoldMarkers, IsLawful, OnlyOpens}
 use Rattle.paired.specs.Pair.{AreApart}
 use Rattle.paired.specs.ReplayShown.{layout_for, run_of}
 use Rattle.paired.specs.TrackedShown as tracking
@@ -322,11 +322,13 @@ returns-in_err-index-clause-refusals g c t =
     let x = c.in_err-index.field-0.0 in
     let is = err_of r x c.from_residual-in_err-index.ensures.1 in
     let why : PartsRefuse r fa fe = parts_refuse r x is fa fb fe c.init.ensures.faults c.in_err-index.ensures.cause in
+    let store = (tracking.shown c.in_ok-tracking.tracking).store in
+    let held : HoldMarkers l (as_read (disk a)) store.entries = record { chosen = chosen_by store store.entries; reads = c.in_ok-tracking.ensures.reads t; map = refl } in
     record {
       corrupt = λ side has. absurd (parts_corrupt r fa fe why side has);
       named = λ n has. named_before l c.requires.apart (disk a) (disk b) opening n (c.in_err-index.ensures.named t n (error_back r x is (journal_error.InvalidBlobName n) has));
-      damage = λ markers held d has. lost_as l [] (λ s n. get nat_cmp c.in_ok-floors.floors s ≡ Some n) (IsMarked markers) (λ s n is_n. subst (λ (es : Markers). IsMarked es s n) (ap (λ (k : Chosen Key8 ℕ). k.entries) (c.in_ok-tracking.ensures.map t held.chosen held.reads) ∙ held.map) ((c.in_ok-floors.ensures.each s n).0 is_n)) (disk b) (disk a) (λ s. index_stays l c.requires.apart (disk a) (disk b) opening (to_be_bytes w64 s)) (λ s. values_stay l c.requires.apart (disk a) (disk b) opening (to_be_bytes w64 s)) d (c.in_err-index.ensures.damage t d (error_back r x is (journal_error.Corruption d) has));
-      refused = λ markers held y has. unreadable_as l [] (λ s n. get nat_cmp c.in_ok-floors.floors s ≡ Some n) (IsMarked markers) (λ s n is_n. subst (λ (es : Markers). IsMarked es s n) (ap (λ (k : Chosen Key8 ℕ). k.entries) (c.in_ok-tracking.ensures.map t held.chosen held.reads) ∙ held.map) ((c.in_ok-floors.ensures.each s n).0 is_n)) (disk b) (disk a) (λ s. index_stays l c.requires.apart (disk a) (disk b) opening (to_be_bytes w64 s)) (λ s. values_stay l c.requires.apart (disk a) (disk b) opening (to_be_bytes w64 s)) g.I.Codec.refusal y (c.in_err-index.ensures.refused t y (error_back r x is (journal_error.Codec y) has));
+      damage = λ d has. (store.entries, held, lost_as l [] (λ s n. get nat_cmp c.in_ok-floors.floors s ≡ Some n) (IsMarked store.entries) (λ s n is_n. (c.in_ok-floors.ensures.each s n).0 is_n) (disk b) (disk a) (λ s. index_stays l c.requires.apart (disk a) (disk b) opening (to_be_bytes w64 s)) (λ s. values_stay l c.requires.apart (disk a) (disk b) opening (to_be_bytes w64 s)) d (c.in_err-index.ensures.damage t d (error_back r x is (journal_error.Corruption d) has)));
+      refused = λ y has. (store.entries, held, unreadable_as l [] (λ s n. get nat_cmp c.in_ok-floors.floors s ≡ Some n) (IsMarked store.entries) (λ s n is_n. (c.in_ok-floors.ensures.each s n).0 is_n) (disk b) (disk a) (λ s. index_stays l c.requires.apart (disk a) (disk b) opening (to_be_bytes w64 s)) (λ s. values_stay l c.requires.apart (disk a) (disk b) opening (to_be_bytes w64 s)) g.I.Codec.refusal y (c.in_err-index.ensures.refused t y (error_back r x is (journal_error.Codec y) has)));
     }
 
 pub returns-in_err-index-clause-corrupt_copies : goal.returns-in_err-index-clause-corrupt_copies
