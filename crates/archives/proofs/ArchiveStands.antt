@@ -1,30 +1,24 @@
 -- What an archive says of its pair's lists, and what a crash at a moment of a call of the pair leaves of its state.
-use Rattle.std.proofs.Common.{◌≡◌, ◌≢◌, ◌⊎◌, inl, inr, refl, sym, ◌∙◌, ap, subst, ℕ, zero, suc, ◌+◌, ◌<◌, ◌≤◌, ◌^◌, List, [], ◌∷◌, ◌++◌, length, take, map, Option, None, Some, IsSome, IsTrue, true, false, if◌then◌else◌, arith}
+use Rattle.std.proofs.Common.{◌≡◌, ◌≢◌, inl, inr, refl, sym, ◌∙◌, ap, subst, ℕ, ◌<◌, ◌^◌, List, [], ◌∷◌, length, map, Option, None, Some, IsSome, arith}
 use Rattle.std.specs.List.{AllByRecursion}
-use Rattle.std.specs.List.Sorted.{IsStrictlySortedBy}
-use Rattle.std.specs.Ordering.{nat_cmp}
-use Rattle.std.proofs.lemmas.List.{length-map, length-take, take-map}
+use Rattle.std.proofs.lemmas.List.{length-map}
 use Rattle.std.proofs.lemmas.Bool.Decides.{nat_tests}
 use Rattle.blob_device.specs.Disk.{Disk, Image, IsCrashOf, Key, MayLeave}
 use Rattle.sealed_pages.specs.declared.page_blob.PageBlob.{PageBlob}
-use Rattle.segments.specs.Sections.{section_key}
-use Rattle.meta_store.specs.Blobs.{blob_of}
 use Rattle.paired.specs.Crashes.{IsOwn, Keeps, NoChanceSeal}
 use Rattle.paired.specs.Crashes as pair
 use Rattle.paired.specs.GlobSections as glob
 use Rattle.paired.specs.Kept.{Layout}
 use Rattle.paired.specs.Opening.{AreNamed}
-use Rattle.paired.specs.Pair.{AreApart, Pair, list_of, records_of, synced_length}
+use Rattle.paired.specs.Pair.{AreApart, list_of, records_of, synced_length}
 use Rattle.paired.specs.Places.{Follow}
 use Rattle.paired.specs.Records as stored
 use Rattle.paired.proofs.RecordLemmas.{all_by}
 use Rattle.archives.specs.Archives.{Archive, IsArchive, IsSoundArchive, LeavesNoForeign, filing_of, state_of}
-use Rattle.archives.specs.Commands.{Command}
-use Rattle.archives.specs.Filing.{Filing, filed, kept}
 use Rattle.archives.specs.IndexRecord.{index_of}
-use Rattle.archives.specs.Machine.{Entry, State, section_of}
+use Rattle.archives.specs.Machine.{section_of}
 use Rattle.archives.specs.Rows.{Row, row_in}
-use Rattle.archives.specs.Standing.{IsPrefix, IsGoing, Leaves, StandsFor, submitted}
+use Rattle.archives.specs.Standing.{Leaves}
 use Rattle.archives.proofs.StandLemmas.{AreFiled, all_map, keeps_stand}
 
 -- what holds of each that a map makes holds of each that it makes it of
@@ -70,13 +64,13 @@ module _ {F S : Type 0} {gs : _} (a : Archive F (PageBlob S gs)) (d : Disk) wher
   -- the lists of an archive that is sound are filed as a lawful image asks
   pub are_filed : {g : _} {gives : _} {h : _} {takes : _} {told : Type 0} {opened : _} → IsArchive a g gives h takes told opened d → told → IsSoundArchive a d → AreFiled (filing_of a) (list_of a.pair d)
   are_filed {told = told} archive t sound = record {
-    in_section = λ s small. in_section (archive.listed t) s (archive.in_section s);
+    in_section = λ s small. in_section (archive.listed t) s (archive.within.in_section s);
     decoded = λ s small. sound.decoded s;
     end = λ s. glob.section_size a.pair.values s;
     fits = λ s small. sound.counted s;
     follow = λ s small. subst (λ rs. Follow a.pair.layout.place 0 rs (glob.section_size a.pair.values s)) (sym (list_records s)) (sound.pair.places s);
-    few_sections = λ ss sorted all. archive.few_sections ss sorted (all_by (λ s. (s < 2 ^ 64) × (list_of a.pair d s ≢ [])) (λ s. a.rows s ≢ []) (λ s has none. has.1 (no_list (archive.listed t) s none)) ss all);
-    few_records = λ s small. omega (arith, length_rows (archive.listed t) s, archive.few_records s);
+    few_sections = λ ss sorted all. archive.within.few_sections ss sorted (all_by (λ s. (s < 2 ^ 64) × (list_of a.pair d s ≢ [])) (λ s. a.rows s ≢ []) (λ s has none. has.1 (no_list (archive.listed t) s none)) ss all);
+    few_records = λ s small. omega (arith, length_rows (archive.listed t) s, archive.within.few_records s);
   }
 
 -- ---- names

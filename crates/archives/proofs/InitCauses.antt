@@ -1,9 +1,7 @@
 -- Why an opening of an archive refuses what its parts refuse.
-use Rattle.std.proofs.Common.{◌≡◌, ◌≢◌, ◌⊎◌, inl, inr, refl, sym, ◌∙◌, ap, subst, ℕ, zero, suc, ◌+◌, ◌*◌, ◌<◌, ◌≤◌, ◌^◌, cond, Bool, true, false, List, [], ◌∷◌, length, map, take, get_or, Option, None, Some, arith}
-use Rattle.std.specs.List.{AllByRecursion, Contains}
+use Rattle.std.proofs.Common.{◌≡◌, inl, inr, sym, ◌∙◌, ap, subst, ℕ, ◌+◌, ◌*◌, ◌<◌, ◌≤◌, cond, true, List, [], length, get_or, None, arith}
+use Rattle.std.specs.List.{AllByRecursion}
 use Rattle.std.proofs.lemmas.Bool.{cases_lt}
-use Rattle.std.proofs.lemmas.List.{length-map, nil_from_length}
-use Rattle.std.proofs.lemmas.List.Elements.{Contains-get_or}
 use Rattle.std.proofs.lemmas.Nat.{mul-le}
 use Rattle.blob_device.specs.Disk.{Disk, Image}
 use Rattle.sealed_pages.specs.Reads.{IsShort}
@@ -15,12 +13,12 @@ use Rattle.value_codec.specs.Spelling.{size_refusal}
 use Rattle.paired.specs.Kept.{Layout, Markers, IsMarked, content_at, is_sound_in, marker_of, stored_records}
 use Rattle.paired.specs.OpeningRefusing.{IsSomeRefused}
 use Rattle.paired.specs.Records as stored
-use Rattle.paired.specs.Records.{entry_of, front, records}
+use Rattle.paired.specs.Records.{front}
 use Rattle.paired.specs.Replaying.{Run, is_sound_over, marker, records_given, records_over}
 use Rattle.paired.proofs.KeptLemmas.{stored_entries}
 use Rattle.paired.proofs.OpeningEnds.{marked_is, marked_or_zero}
 use Rattle.paired.proofs.ReconcileErrors.{each_at}
-use Rattle.paired.proofs.RecordLemmas.{all_by, all_take, front-take}
+use Rattle.paired.proofs.RecordLemmas.{all_take, front-take}
 use Rattle.archives.specs.Filing.{Filing, kept_entries}
 use Rattle.archives.specs.IndexRecord.{index_of}
 use Rattle.archives.specs.Lawful.{Lawful}
@@ -33,9 +31,9 @@ use Rattle.archives.proofs.InitState.{all_has}
 -- ---- what a marker counts
 module _ (entries : Markers) (size : ℕ) (floor_of : ℕ → ℕ) (floors : (s : ℕ) → floor_of s ≡ marker_of entries s * size) where
   -- a section with fewer bytes than its floor has a marker
-  pub marked_damage : (x : Damage) → (x.wanted ≡ floor_of x.section) × (x.kept < x.wanted) → (m : ℕ) × IsMarked entries x.section m × (x.wanted ≡ m * size) × (x.kept < x.wanted)
-  marked_damage x says = elim (marked_or_zero entries x.section) [
-    | inl some ↦ (some.0, some.1, says.0 ∙ floors x.section ∙ ap (λ (n : ℕ). n * size) (marked_is entries x.section some.0 some.1), says.1)
+  pub marked_damage : (x : Damage) (bytes : ℕ) → (x.wanted ≡ floor_of x.section) × (x.kept < x.wanted) × (x.kept ≡ bytes) → (m : ℕ) × IsMarked entries x.section m × (x.wanted ≡ m * size) × (x.kept ≡ bytes) × (x.kept < x.wanted)
+  marked_damage x bytes says = elim (marked_or_zero entries x.section) [
+    | inl some ↦ (some.0, some.1, says.0 ∙ floors x.section ∙ ap (λ (n : ℕ). n * size) (marked_is entries x.section some.0 some.1), says.2, says.1)
     | inr none ↦ absurd (omega (arith, says.0, says.1, floors x.section, ap (λ (n : ℕ). n * size) none))
   ]
 
@@ -55,14 +53,6 @@ module _ (entries : Markers) (size : ℕ) (floor_of : ℕ → ℕ) (floors : (s 
       ]
 
 -- ---- what a lawful image keeps
-blank : stored.Entry
-blank = record { stored = []; value = [] }
-
-get_or_stored : (xs : List stored.Entry) (p : ℕ) → p < length xs → get_or (map (λ x. x.stored) xs) p [] ≡ (get_or xs p blank).stored
-get_or_stored [] p lt = absurd (omega (arith, lt))
-get_or_stored (x ∷ xs) zero lt = refl
-get_or_stored (x ∷ xs) (suc p) lt = get_or_stored xs p (omega (arith, lt))
-
 module _ (f : Filing) (image : Image) (markers : Markers) where
   module _ (lawful : Lawful f image markers) where
     pub lawful_no_stray : HasStray f.items (kept_entries f image markers) → ⊥
@@ -80,20 +70,6 @@ module _ (f : Filing) (image : Image) (markers : Markers) where
     pub lawful_no_over : IsOver f.most_sections f.most_records (kept_entries f image markers) → ⊥
     lawful_no_over (inl (ss, sorted, all, more)) = omega (arith, more, lawful.few_sections ss sorted all)
     lawful_no_over (inr (s, small, more)) = omega (arith, more, lawful.few_records s small)
-
-  -- ---- what a replay gives of it
-  module _ (given : ℕ → List (List ℕ)) (is : (s : ℕ) → s < 2 ^ 64 → given s ≡ map (λ x. x.stored) (kept_entries f image markers s)) where
-    pub stray_of : (s p : ℕ) → s < 2 ^ 64 → p < length (given s) → section_of f.items (index_of (get_or (given s) p [])) ≢ s → HasStray f.items (kept_entries f image markers)
-    stray_of s p small lt stray =
-        let entries : List stored.Entry = kept_entries f image markers s in
-        let within : p < length entries = omega (arith, lt, ap length (is s small), length-map entries (λ x. x.stored)) in
-        let same : get_or (given s) p [] ≡ (get_or entries p blank).stored = ap (λ (rs : List (List ℕ)). get_or rs p []) (is s small) ∙ get_or_stored entries p within in
-        (s, get_or entries p blank, small, Contains-get_or entries p blank within, λ here. stray (ap (λ (r : List ℕ). section_of f.items (index_of r)) same ∙ here))
-
-    pub over_of : (sections per_section : ℕ) → IsOver sections per_section given → IsOver sections per_section (kept_entries f image markers)
-    over_of sections per_section (inl (ss, sorted, all, more)) =
-        inl (ss, sorted, all_by (λ s. (s < 2 ^ 64) × (given s ≢ [])) (λ s. (s < 2 ^ 64) × (kept_entries f image markers s ≢ [])) (λ s has. (has.0, λ none. has.1 (is s has.0 ∙ ap (map (λ x. x.stored)) none))) ss all, more)
-    over_of sections per_section (inr (s, small, more)) = inr (s, small, omega (arith, more, ap length (is s small), length-map (kept_entries f image markers s) (λ x. x.stored)))
 
 -- ---- no record is refused by its size
 pub none_refused : {F S : Type 0} {gs : _} (run : Run F (PageBlob S gs)) (d : Disk) → run.tracked ≡ true → (s : ℕ) (e : codec.Error) → IsSomeRefused (λ bytes _. size_refusal run.layout.record_size bytes) (records_given run d s) e → ⊥

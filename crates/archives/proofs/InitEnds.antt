@@ -1,14 +1,14 @@
 -- The end of the opening of an archive's pair, where it fails.
-use Rattle.std.proofs.Common.{◌≡◌, ◌≢◌, ◌⊎◌, inl, inr, refl, sym, ◌∙◌, ap, subst, ℕ, ◌<◌, ◌≤◌, ◌^◌, cond, Bool, true, false, List, [], length, map, Option, None, Some, arith}
-use Rattle.std.proofs.lemmas.Bool.{cases_Bool, cases_lt}
+use Rattle.std.proofs.Common.{◌≡◌, ◌≢◌, ◌⊎◌, inl, inr, refl, sym, ◌∙◌, ap, ℕ, ◌<◌, ◌^◌, cond, Bool, true, false, [], length, map, Option, None, arith}
+use Rattle.std.proofs.lemmas.Bool.{cases_lt}
 use Rattle.std.proofs.lemmas.List.{length-map}
 use Rattle.blob_device.specs.Disk.{Disk}
 use Rattle.blob_device.specs.Opened.{OpenedList}
 use Rattle.sealed_pages.specs.declared.page_blob.PageBlob.{PageBlob}
 use Rattle.segments.specs.declared.buffer.SectionBuffer as buffer
 use Rattle.segments.specs.declared.unsealed.WriteFactory.{WriteFactory}
-use Rattle.segments.specs.FixedLists.{Lists, UnopenedLater}
-use Rattle.segments.specs.FixedReplay.{IsDrained, WalksOver, kept_of}
+use Rattle.segments.specs.FixedLists.{Lists}
+use Rattle.segments.specs.FixedReplay.{IsDrained, kept_of}
 use Rattle.segments.specs.Sections.{key_of}
 use Rattle.segments.specs.Setting.{Setting}
 use Rattle.segments.proofs.FixedBeginning.{finished_sealed}

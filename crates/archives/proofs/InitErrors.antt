@@ -15,7 +15,7 @@ use Rattle.segments.specs.FixedReading.{HasNotRead}
 use Rattle.paired.specs.PairRefusing as pair
 use Rattle.archives.specs.Opening.{IsOpeningError}
 use Rattle.archives.specs.Raised.{raised, raised_metadata}
-use Rattle.archives.specs.Refusing.{HasFailed, HasLostMarkers, HasNoRoom}
+use Rattle.archives.specs.Refusing.{HasFailed, HasLostMarkers}
 use Rattle.archives.specs.declared.error.Error.{Error}
 use Rattle.archives.specs.declared.error.Error.TheVariants.{Journal, Metadata, RecordCorrupted, Full, Mem}
 

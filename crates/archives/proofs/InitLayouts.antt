@@ -1,5 +1,5 @@
 -- The layout of an archive's pair, as its filing says it.
-use Rattle.std.proofs.Common.{◌≡◌, refl, sym, ◌∙◌, ap, subst, ℕ, ◌+◌, List, Option}
+use Rattle.std.proofs.Common.{◌≡◌, ap, ℕ, ◌+◌, List, Option}
 use Rattle.std.specs.Prelude.{string_bytes}
 use Rattle.sealed_pages.specs.declared.pages.Pages.{Pages}
 use Rattle.value_codec.specs.declared.codec.Error as codec

@@ -1,7 +1,7 @@
 -- What the parts of an opening of an archive leave at each moment, one after another.
-use Rattle.std.proofs.Common.{◌≡◌, ◌≢◌, ◌⊎◌, inl, inr, refl, sym, ◌∙◌, ap, subst, ℕ, ◌<◌, ◌≤◌, ◌^◌, List, [], length, Option, None, Some, arith}
+use Rattle.std.proofs.Common.{◌≡◌, ◌⊎◌, inl, inr, sym, ◌∙◌, subst, ℕ, List, [], None, Some}
 use Rattle.std.specs.Prelude.{⊤}
-use Rattle.blob_device.specs.Disk.{Disk, Image, Key}
+use Rattle.blob_device.specs.Disk.{Disk, Key}
 use Rattle.blob_device.specs.Opened.{OpenedList}
 use Rattle.blob_device.specs.Timeline.{Timeline, disk, Always}
 use Rattle.blob_device.proofs.Moments.{always_now, always_start, always_then, always_weaker}

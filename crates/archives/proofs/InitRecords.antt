@@ -1,17 +1,17 @@
 -- What the records of an archive are by their size, and which markers an image holds.
-use Rattle.std.proofs.Common.{◌≡◌, ◌≢◌, ◌⊎◌, inl, inr, refl, sym, ◌∙◌, ap, subst, ℕ, zero, suc, ◌+◌, ◌-◌, ◌*◌, ◌<◌, ◌≤◌, ◌^◌, List, [], ◌∷◌, length, take, drop, Option, None, Some, Result, Ok, Err, arith, length-drop}
+use Rattle.std.proofs.Common.{◌≡◌, sym, ◌∙◌, ap, subst, ℕ, zero, suc, ◌+◌, ◌-◌, ◌*◌, ◌<◌, ◌≤◌, ◌^◌, List, length, drop, None, Ok, arith, length-drop}
 use Rattle.std.specs.List.{AllByRecursion}
 use Rattle.std.proofs.lemmas.Bool.Decides.{nat_tests}
 use Rattle.std.proofs.lemmas.List.{length-take-le}
-use Rattle.blob_device.specs.Disk.{Blob, Disk, Image, Key, reads}
+use Rattle.blob_device.specs.Disk.{Blob, Disk, Image, reads}
 use Rattle.value_codec.specs.Spelling.{size_refusal}
+use Rattle.value_codec.specs.declared.codec.Error as codec
 use Rattle.value_codec.specs.declared.key.Key8.{Key8}
 use Rattle.sealed_pages.proofs.Adopt.{length-data_from}
 use Rattle.sealed_pages.specs.View.{view}
 use Rattle.segments.specs.FixedItems.{item_at, item_count}
 use Rattle.segments.specs.Sections.{section_key}
 use Rattle.meta_store.specs.declared.copy.CopyText.{CopyText}
-use Rattle.meta_store.specs.declared.error.Side.{Side}
 use Rattle.meta_store.specs.declared.error.Side.TheVariants.{Left, Right}
 use Rattle.meta_store.specs.declared.pair.Chosen.{Chosen}
 use Rattle.meta_store.specs.Blobs.{blob_of, bytes_of}
@@ -23,7 +23,7 @@ use Rattle.meta_store.specs.Store.{Stands, Store, chosen_by}
 use Rattle.meta_store.proofs.Uses.{IsReadable, one_map, one_reading}
 use Rattle.paired.specs.Kept.{Layout, Markers}
 use Rattle.paired.specs.Opening.{as_read, HoldMarkers, OnlyOpens}
-use Rattle.paired.specs.OpeningRefusing.{last_of}
+use Rattle.paired.specs.OpeningRefusing.{IsUnreadable, last_of}
 use Rattle.paired.specs.Pair.{AreApart}
 use Rattle.paired.specs.Records.{each_below, records}
 use Rattle.paired.proofs.OpeningStart.{read_alike}
@@ -46,6 +46,13 @@ all_whole size bytes = all_below (λ r. size_refusal size r ≡ None) (item_coun
 -- so is the last record below a marker
 pub last_whole : (l : Layout) (d : Disk) (s n : ℕ) → size_refusal l.record_size (last_of l d s n) ≡ None
 last_whole l d s n = whole_fits l.record_size (last_of l d s n) (length-data_from l.page_size (view (d (section_key l.index s)).content) l.record_size ((n - 1) * l.record_size))
+
+-- no such record is refused
+pub none_unreadable : (l : Layout) (d : Disk) (Marked : ℕ → ℕ → Type 0) (e : codec.Error) → IsUnreadable l Marked (λ bytes _. size_refusal l.record_size bytes) d e → ⊥
+none_unreadable l d Marked e is =
+    let fine : size_refusal l.record_size (last_of l d is.section is.items) ≡ None = last_whole l d is.section is.items in
+    let bad = is.refused in
+    cc (fine, bad)
 
 -- ---- markers
 module _ {K V : Type 0} (f : Format K V) (readable : IsReadable f) where

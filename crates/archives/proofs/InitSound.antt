@@ -1,49 +1,39 @@
--- What an opening over a disk that may be opened, and whose crashes leave lawful images, has left: an archive that is sound.
-use Rattle.std.proofs.Common.{◌≡◌, ◌≢◌, ◌⊎◌, inl, inr, refl, sym, ◌∙◌, ap, subst, ℕ, zero, suc, ◌+◌, ◌<◌, ◌≤◌, ◌^◌, List, [], ◌∷◌, length, map, take, Option, None, Some, IsSome, IsTrue, false, unwrap_or, arith, Bool, true, cond}
+-- What is lawful on a disk whose crashes leave lawful images, and what an archive has that keeps what a lawful image keeps.
+use Rattle.std.proofs.Common.{◌≡◌, ◌≢◌, inl, inr, refl, sym, ◌∙◌, ap, subst, ℕ, ◌+◌, ◌<◌, ◌≤◌, ◌^◌, List, [], ◌∷◌, length, map, take, Option, None, Some, IsSome, IsTrue, unwrap_or, arith}
 use Rattle.std.specs.Prelude.{⊤}
-use Rattle.std.specs.Int.{w64, to_be_bytes}
 use Rattle.std.specs.List.{AllByRecursion}
 use Rattle.std.proofs.lemmas.Bool.{cases_lt}
 use Rattle.std.proofs.lemmas.Bool.Decides.{nat_tests}
-use Rattle.std.proofs.lemmas.List.{length-map}
-use Rattle.blob_device.specs.Disk.{Disk, Image, IsCrashOf, Key, MayLeave, longest, past, put, reads}
-use Rattle.blob_device.specs.Opened.{OpenedList}
+use Rattle.blob_device.specs.Disk.{Disk, Image, IsCrashOf, Key, MayLeave, past, put, reads}
 use Rattle.blob_device.proofs.Puts.{put_other, put_same, same_or_other}
 use Rattle.sealed_pages.specs.ChanceSeal as pages
 use Rattle.sealed_pages.specs.SealedPrefix.{sealed_prefix}
 use Rattle.sealed_pages.specs.declared.page_blob.PageBlob.{PageBlob}
-use Rattle.segments.specs.declared.unsealed.WriteFactory.{WriteFactory}
-use Rattle.segments.specs.FixedReplay.{kept_of}
-use Rattle.segments.specs.Sections.{IsHeld, IsOver, key_of, section_key}
-use Rattle.segments.specs.Setting.{Setting}
+use Rattle.segments.specs.Sections.{IsHeld, section_key}
 use Rattle.segments.proofs.FixedWalks.{is_some}
 use Rattle.segments.proofs.WalkLemmas.{none_or_value}
-use Rattle.meta_store.specs.declared.error.Side.{Side}
 use Rattle.meta_store.specs.Blobs.{blob_of, bytes_of}
 use Rattle.meta_store.specs.Crashes as metadata
-use Rattle.paired.specs.Crashes.{IsOwn, Keeps, NoChanceSeal, WasThere}
+use Rattle.paired.specs.Crashes.{IsOwn, NoChanceSeal, WasThere}
 use Rattle.paired.specs.Crashes as pair
 use Rattle.paired.specs.GlobSections as glob
 use Rattle.paired.specs.Kept.{Layout, Markers, content_at, is_sound_in, marker_of, stored_records}
-use Rattle.paired.specs.Opening.{as_read, MayBeOpened}
-use Rattle.paired.specs.OpeningFound.{CountsAll, HasKept}
-use Rattle.paired.specs.Pair.{AreApart, HasNoBytes, IsSoundOn, Pair, list_of, records_of, synced_length}
-use Rattle.paired.specs.Places.{Follow, end_of, last_end}
-use Rattle.paired.specs.Replaying.{Run, IsClean, is_sound_over, marker, records_over}
+use Rattle.paired.specs.Opening.{as_read}
+use Rattle.paired.specs.Pair.{AreApart, IsSoundOn, list_of, records_of, synced_length}
+use Rattle.paired.specs.Places.{Follow, end_of}
 use Rattle.paired.specs.Records as stored
 use Rattle.paired.specs.Records.{front, is_sound, records}
 use Rattle.paired.proofs.KeptLemmas.{stored_entries}
 use Rattle.paired.proofs.OpeningEnds.{follow_first}
-use Rattle.paired.proofs.PairFacts.{not_there}
-use Rattle.paired.proofs.ReconcileResting.{none_of}
 use Rattle.paired.proofs.RecordLemmas.{all_by, all_take, front-take}
 use Rattle.archives.specs.Archives.{Archive, LeavesNoForeign, filing_of, state_of}
 use Rattle.archives.specs.Filing.{Filing, filed, kept_entries}
 use Rattle.archives.specs.IndexRecord.{index_of}
 use Rattle.archives.specs.Lawful.{Lawful}
 use Rattle.archives.specs.Machine.{State, section_of}
-use Rattle.archives.specs.Standing.{Leaves, StandsFor}
-use Rattle.archives.proofs.ArchiveStands.{all_unmap, foreign_not_own, list_records, names_left, no_foreign}
+use Rattle.archives.specs.Opening.{LeavesLawful}
+use Rattle.archives.specs.Standing.{Leaves}
+use Rattle.archives.proofs.ArchiveStands.{all_unmap, foreign_not_own, list_records, names_left}
 use Rattle.archives.proofs.StandLemmas.{AreFiled, keeps_stand}
 
 -- ---- what a lawful image keeps is filed as a lawful image asks
@@ -116,10 +106,14 @@ module _ (l : Layout) (d : Disk) (was new : Image) (same : (q : Key) → IsOwn l
     copies = λ side. subst (λ (o : Option (List ℕ)). metadata.NoChanceSeal l.markers.seal (past (d (blob_of l.metadata side))) (bytes_of o)) (sym (same (blob_of l.metadata side) (inr (inr (side, refl))))) (none.copies side);
   }
 
-module _ (f : Filing) (st : State (List ℕ)) (from : Disk) (law : (q : Key) → MayLeave (from q) (reads (from q))) (may : MayBeOpened f.layout from) (leaves : Leaves f st None from) where
+-- what stands for a state is lawful
+pub all_lawful : (f : Filing) (st : State (List ℕ)) (from : Disk) → Leaves f st None from → LeavesLawful f from
+all_lawful f st from leaves image crash no_chance = (let stands = leaves image crash no_chance in (stands.markers, stands.lawful))
+
+module _ (f : Filing) (from : Disk) (law : (q : Key) → MayLeave (from q) (reads (from q))) (none : NoChanceSeal f.layout from (as_read from)) (leaves : LeavesLawful f from) where
   -- the image as the disk reads is one that a crash leaves
-  pub stands_read : StandsFor f st None (as_read from)
-  stands_read = leaves (as_read from) law may.no_chance
+  pub lawful_read : (markers : Markers) × Lawful f (as_read from) markers
+  lawful_read = leaves (as_read from) law none
 
   -- a crash may leave another blob so, and the pair's as they read
   module _ (k : Key) (other : IsOwn f.layout (λ _. ⊤) k → ⊥) (c : List ℕ) (left : MayLeave (from k) (Some c)) where
@@ -135,8 +129,8 @@ module _ (f : Filing) (st : State (List ℕ)) (from : Disk) (law : (q : Key) →
     still_own : (q : Key) → IsOwn f.layout (λ _. ⊤) q → with_left q ≡ as_read from q
     still_own q own = put_other (as_read from) k (Some c) q (λ same. other (subst (IsOwn f.layout (λ _. ⊤)) same own))
 
-    stands_left : StandsFor f st None with_left
-    stands_left = leaves with_left is_crash (no_chance_alike f.layout from (as_read from) with_left still_own may.no_chance)
+    lawful_left : (markers : Markers) × Lawful f with_left markers
+    lawful_left = leaves with_left is_crash (no_chance_alike f.layout from (as_read from) with_left still_own none)
 
     is_left : IsSome (with_left k)
     is_left = subst IsSome (sym (put_same (as_read from) k (Some c))) refl
@@ -144,8 +138,8 @@ module _ (f : Filing) (st : State (List ℕ)) (from : Disk) (law : (q : Key) →
   -- so no crash leaves a foreign name
   pub no_foreign_before : AreApart f.layout → LeavesNoForeign f.layout from
   no_foreign_before apart = record {
-    index = λ name c left. decide (length name) (λ other. (stands_left (f.layout.index, name) (foreign_not_own f.layout apart (λ _. ⊤) name other).0 c left).lawful.pair.names.index name (is_left (f.layout.index, name) (foreign_not_own f.layout apart (λ _. ⊤) name other).0 c left));
-    values = λ name c left. decide (length name) (λ other. (stands_left (f.layout.values, name) (foreign_not_own f.layout apart (λ _. ⊤) name other).1 c left).lawful.pair.names.values name (is_left (f.layout.values, name) (foreign_not_own f.layout apart (λ _. ⊤) name other).1 c left));
+    index = λ name c left. decide (length name) (λ other. (lawful_left (f.layout.index, name) (foreign_not_own f.layout apart (λ _. ⊤) name other).0 c left).1.pair.names.index name (is_left (f.layout.index, name) (foreign_not_own f.layout apart (λ _. ⊤) name other).0 c left));
+    values = λ name c left. decide (length name) (λ other. (lawful_left (f.layout.values, name) (foreign_not_own f.layout apart (λ _. ⊤) name other).1 c left).1.pair.names.values name (is_left (f.layout.values, name) (foreign_not_own f.layout apart (λ _. ⊤) name other).1 c left));
   }
     where
       decide : (n : ℕ) → ((n ≡ 8 → ⊥) → n ≡ 8) → n ≡ 8
@@ -183,35 +177,3 @@ module _ {F S : Type 0} {gs : _} (f : Filing) (from : Disk) (markers : Markers) 
       keeps_stand f (list_of arch.pair z) (synced_length arch.pair) image lists_filed (names_left f.layout z names image crash)
       (subst (λ (l : Layout). pair.Leaves l (list_of arch.pair z) (synced_length arch.pair) (λ _. ⊥) z) own leaves image crash no_chance)
       (state_of arch z) None (λ s small. same s) (λ s small. omega arith)
-
--- ---- values that are not held
-module _ {F S : Type 0} {gs : _} {h : _} {takes : WriteFactory → Setting} {told : Type 0} (walked : Run F (PageBlob S gs)) (p : Pair F (PageBlob S gs)) (o : OpenedList) (e z : Disk) (may : MayBeOpened walked.layout e) (keeps : HasKept walked e z p) (counts : CountsAll walked p)
-    (over : IsOver h takes told walked.values o e) (t : told) (known : (s : ℕ) → walked.values.unopened s ≡ None) (here : walked.values.partition ≡ walked.layout.values)
-    (some : 1 ≤ walked.layout.record_size) (clean : (s : ℕ) → IsClean walked e s → s < 2 ^ 64 → z (section_key walked.layout.values s) ≡ e (section_key walked.layout.values s)) where
-  abbrev given_from : ℕ → List (List ℕ) → List (List ℕ)
-  given_from s rs = cond walked.tracked (front (is_sound_over walked e s) (marker walked s) 0 rs) rs
-
-  -- nothing is given of no records
-  given_none : (s : ℕ) (b : Bool) → cond b (front (is_sound_over walked e s) (marker walked s) 0 []) [] ≡ []
-  given_none s true = refl
-  given_none s false = refl
-
-  -- a section of which nothing is held has nothing to be cut
-  none_clean : (s : ℕ) → walked.walk.journal.sections.held s ≡ None → walked.values.held s ≡ None → IsClean walked e s
-  none_clean s bare gone =
-      let over : records_over walked e s ≡ [] = ap (λ (x : Option (PageBlob S gs)). records walked.layout.record_size (kept_of walked.layout.seal (walked.walk.journal.unrecovered s) x (e (key_of walked.walk.journal.sections s)).content)) bare ∙ none_of walked.layout.record_size some in
-      record {
-        given = ap (given_from s) over ∙ given_none s walked.tracked ∙ sym over;
-        values = ap glob.size_held gone ∙ sym (ap (last_end walked.layout.place) over);
-        held = λ is. absurd (cc (gone, is));
-      }
-
-  -- no crash leaves values of a section of which nothing is held
-  pub absent_left : (s : ℕ) → s < 2 ^ 64 → p.index.sections.held s ≡ None → p.values.held s ≡ None → HasNoBytes (z (section_key walked.layout.values s))
-  absent_left s small empty none = elim (none_or_value (walked.walk.journal.sections.held s)) [
-    | inl bare ↦ elim (none_or_value (walked.values.held s)) [
-      | inl gone ↦ subst HasNoBytes (sym (clean s (none_clean s bare gone) small)) (may.values_absent s small (subst (λ (x : List ℕ). (e (section_key x s)).there ≡ false) here (not_there walked.values o e over t s small gone (known s))))
-      | inr held ↦ ap longest (keeps.orphans s (is_some (walked.values.held s) held.0 held.1) bare)
-    ]
-    | inr index ↦ absurd (cc (empty, (counts.held s).1 (is_some (walked.walk.journal.sections.held s) index.0 index.1)))
-  ]

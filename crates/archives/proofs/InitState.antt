@@ -1,12 +1,11 @@
 -- What an opening of an archive has kept: the state that it begins with.
-use Rattle.std.proofs.Common.{◌≡◌, ◌≢◌, ◌⊎◌, inl, inr, refl, sym, ◌∙◌, ap, subst, ℕ, zero, suc, ◌+◌, ◌/◌, ◌<◌, ◌≤◌, ◌^◌, Bool, List, [], ◌∷◌, length, map, take, Option, None, Some, arith}
+use Rattle.std.proofs.Common.{◌≡◌, ◌≢◌, inl, inr, refl, sym, ◌∙◌, ap, subst, ℕ, ◌/◌, ◌<◌, ◌≤◌, ◌^◌, Bool, List, [], length, map, Option, None, arith}
 use Rattle.std.specs.List.{AllByRecursion, Contains}
 use Rattle.std.specs.List.Sorted.{IsStrictlySortedBy}
 use Rattle.std.specs.Ordering.{nat_cmp}
-use Rattle.std.proofs.lemmas.Bool.{cases_lt}
 use Rattle.std.proofs.lemmas.List.{length-map, nil_from_length}
 use Rattle.std.proofs.lemmas.List.Elements.{All-contains, All-from_recursion}
-use Rattle.blob_device.specs.Disk.{Disk, Image, Key}
+use Rattle.blob_device.specs.Disk.{Disk}
 use Rattle.value_codec.specs.declared.codec.Error as codec
 use Rattle.value_codec.specs.declared.key.Key8.{Key8}
 use Rattle.meta_store.specs.Store.{Store}
@@ -18,7 +17,7 @@ use Rattle.segments.proofs.FixedWalks.{is_some}
 use Rattle.segments.proofs.WalkLemmas.{none_or_value}
 use Rattle.paired.specs.GlobSections as glob
 use Rattle.paired.specs.Kept.{Layout, Markers, kept, marker_of}
-use Rattle.paired.specs.Opening.{as_read, HoldMarkers, IsLawful, MayBeOpened}
+use Rattle.paired.specs.Opening.{as_read, HoldMarkers, IsLawful}
 use Rattle.paired.specs.OpeningFound.{CountsAll, GivesInPlace, HasFound, HasKept}
 use Rattle.paired.specs.Pair.{Pair, length_of, list_of, records_of}
 use Rattle.paired.specs.Records as stored
@@ -77,6 +76,13 @@ module _ {F S : Type 0} {gs : _} (p : Pair F (PageBlob S gs)) (pos : 1 ≤ p.lay
   pub unheld_list : p.index.sections.held s ≡ None → list_of p d s ≡ []
   unheld_list none = ap (map (stored.entry_of p.layout.place (glob.section_bytes p.values d s))) (unheld_records none)
 
+  -- nor has one that no u64 names
+  pub none_behind : (IsHeld p.index.sections s → s < 2 ^ 64) → 2 ^ 64 ≤ s → list_of p d s ≡ []
+  none_behind number behind = elim (none_or_value (p.index.sections.held s)) [
+    | inl none ↦ unheld_list none
+    | inr some ↦ absurd (omega (arith, behind, number (is_some (p.index.sections.held s) some.0 some.1)))
+  ]
+
   -- a section's length is that of its list
   pub length_left : length_of p s ≡ length (list_of p d s)
   length_left =
@@ -125,18 +131,12 @@ module _ {F S : Type 0} {gs : _} (f : Filing) (readable : IsReadable f.layout.ma
         lists_left s small = keeps.lists s small (in_place s) ∙ since_start s small
 
         module _ (pos : 1 ≤ arch.pair.layout.record_size) (number : (s : ℕ) → IsHeld arch.pair.index.sections s → s < 2 ^ 64) where
-          pub none_behind : (s : ℕ) → 2 ^ 64 ≤ s → list_of arch.pair z s ≡ []
-          none_behind s behind = elim (none_or_value (arch.pair.index.sections.held s)) [
-            | inl none ↦ unheld_list arch.pair pos z s none
-            | inr some ↦ absurd (omega (arith, behind, number s (is_some (arch.pair.index.sections.held s) some.0 some.1)))
-          ]
-
           pub starts : arch.key_size ≡ f.key_size → arch.floor ≡ 0 → CountsAll walked arch.pair → IsStart f (as_read a) markers (state_of arch z)
           starts key floor counts = record {
             held = held;
             is_open = refl;
             lists = λ s small. filed_as arch.key_size f.key_size (list_of arch.pair z s) key ∙ ap (map (filed f)) (lists_left s small);
-            no_more = λ s behind. ap (map (filed (filing_of arch))) (none_behind s behind);
+            no_more = λ s behind. ap (map (filed (filing_of arch))) (none_behind arch.pair pos z s (number s) behind);
             synced = λ s. counts.synced s ∙ length_left arch.pair pos z s ∙ sym (length-map (list_of arch.pair z s) (filed (filing_of arch)));
             floor = floor;
           }

@@ -1,81 +1,84 @@
 -- What the replay of an opening goes over, against what the disk stores and keeps.
-use Rattle.std.proofs.Common.{◌≡◌, ◌⊎◌, inl, inr, refl, sym, ◌∙◌, ap, subst, ℕ, ◌+◌, ◌-◌, ◌*◌, ◌/◌, ◌<◌, ◌≤◌, ◌^◌, cond, Bool, true, false, List, [], length, map, IsTrue, Option, None, Some, unwrap_or, arith}
-use Rattle.std.specs.Int.{w64, to_be_bytes}
-use Rattle.std.proofs.Math.Nat.{div-mul-le_self}
+use Rattle.std.proofs.Common.{◌≡◌, inl, inr, sym, ◌∙◌, ap, subst, ℕ, ◌+◌, ◌-◌, ◌*◌, ◌/◌, ◌<◌, ◌≤◌, ◌^◌, cond, Bool, true, false, List, [], length, Option, None, Some, IsSome, unwrap_or, arith}
 use Rattle.std.proofs.lemmas.Bool.{cases_Bool}
-use Rattle.std.proofs.lemmas.Nat.{div_below, mul-le}
+use Rattle.std.proofs.lemmas.Nat.{div_below}
 use Rattle.blob_device.specs.Disk.{Blob, Disk, Key, reads}
 use Rattle.blob_device.specs.Opened.{OpenedList}
 use Rattle.sealed_pages.specs.declared.page_blob.PageBlob.{PageBlob}
 use Rattle.sealed_pages.specs.declared.write_blob.WriteBlob.{WriteBlob}
-use Rattle.sealed_pages.specs.Buffer.{IsSealed, bytes_of, size_of}
+use Rattle.sealed_pages.specs.Buffer.{bytes_of, size_of}
 use Rattle.sealed_pages.specs.Cutting.{IsAtRest}
 use Rattle.sealed_pages.specs.SealedPrefix.{sealed_prefix}
 use Rattle.sealed_pages.specs.Shown.{shown}
-use Rattle.sealed_pages.proofs.Truncating.{all_flushed}
 use Rattle.segments.specs.declared.buffer.SectionBuffer as buffer
 use Rattle.segments.specs.declared.unsealed.WriteFactory.{WriteFactory}
 use Rattle.segments.specs.FixedLists as fixed
-use Rattle.segments.specs.FixedReplay.{IsLeft, kept_bytes, kept_of}
+use Rattle.segments.specs.FixedReplay.{kept_of}
 use Rattle.segments.specs.SealedLaws.{all_settled}
-use Rattle.segments.specs.Sections.{Sections, section_key, key_of, IsHeld}
+use Rattle.segments.specs.Sections.{section_key, key_of, IsHeld}
 use Rattle.segments.specs.Setting.{Setting}
 use Rattle.segments.specs.Unsealed.{count_of, is_unsettled}
 use Rattle.segments.specs.UnsealedLaws.{rested, found_again}
-use Rattle.segments.proofs.FixedKept.{sealed_by_length, sealed_flushed}
 use Rattle.segments.proofs.FixedWalks.{is_some}
 use Rattle.segments.proofs.FixedWriteLemmas.{ArePages}
 use Rattle.segments.proofs.NothingSealed.{nothing_sealed}
 use Rattle.segments.proofs.WalkLemmas.{none_or_value, some_same, value_of}
 use Rattle.paired.specs.GlobSections as glob
-use Rattle.paired.specs.Kept.{Layout, content_at, is_sound_in, kept, stored_records}
-use Rattle.paired.specs.Opening.{as_read, IsLawful, OnlyOpens}
-use Rattle.paired.specs.Pair.{AreApart}
-use Rattle.paired.specs.Records.{entry_of, front, is_sound, records}
+use Rattle.paired.specs.Kept.{content_at, stored_records}
+use Rattle.paired.specs.Opening.{as_read}
+use Rattle.paired.specs.Records.{front, records}
 use Rattle.paired.specs.Replaying.{HasFailed, IsOpeningRun, IsRun, LeftAtMost, Run, is_sound_over, marker, pair_of, records_given, records_over}
 use Rattle.paired.proofs.GlobLemmas.{buffers, idle_whole}
-use Rattle.paired.proofs.KeptLemmas.{stored_entries}
-use Rattle.paired.proofs.OpeningEnds.{marked_is, marked_or_zero}
-use Rattle.paired.proofs.OpeningStart.{index_reads}
-use Rattle.paired.proofs.OpeningStartMoments.{opens_content}
 use Rattle.paired.proofs.PairFacts.{not_there}
 use Rattle.paired.proofs.PairReads.{index_size}
 use Rattle.paired.proofs.PairSynced.{Here}
 use Rattle.paired.proofs.ReconcileResting.{none_of, reads_absent, reads_there, rest_there}
 use Rattle.paired.proofs.RecordLemmas.{length-records}
 
--- a blob that was there reads as its content once it was opened
-pub there_now : (l : Layout) → AreApart l → (from d : Disk) → OnlyOpens l from d → (s : ℕ) → IsTrue (from (section_key l.index s)).there → reads (d (section_key l.index s)) ≡ Some (d (section_key l.index s)).content
-there_now l apart from d opens s is =
-    let some : List ℕ → Option (List ℕ) = λ c. Some c in
-    index_reads l apart from d opens (to_be_bytes w64 s) ∙ reads_there (from (section_key l.index s)) is ∙ ap some (sym (opens_content l from d opens s))
-
 module _ {F S : Type 0} {gs : _} {g : buffer.Ghosts (PageBlob S gs)} {gives : F → Setting} {takes : WriteFactory → Setting} {told : Type 0} (run : Run F (PageBlob S gs)) (o : OpenedList) (d : Disk)
-    (pages : ArePages g run.layout.seal) (here : Here gives (pair_of run)) (was : IsRun run g gives buffers takes told o d) (tracked : run.tracked ≡ true) (unfailed : HasFailed run → ⊥) (t : told)
-    (there : (s : ℕ) → IsHeld run.walk.journal.sections s → reads (d (section_key run.layout.index s)) ≡ Some (d (section_key run.layout.index s)).content) where
-  old : IsOpeningRun run g told d
+    (pages : ArePages g run.layout.seal) (here : Here gives (pair_of run)) (was : IsRun run g gives buffers takes told o d) (tracked : run.tracked ≡ true) (unfailed : HasFailed run → ⊥) (t : told) where
+  pub old : IsOpeningRun run g told d
   old = was.opening tracked
 
-  fine : run.walk.failed ≡ false
+  pub fine : run.walk.failed ≡ false
   fine = elim (cases_Bool run.walk.failed) [ inl is ↦ absurd (unfailed (inr is)) | inr is ↦ is ]
 
-  key_here : (s : ℕ) → key_of run.walk.journal.sections s ≡ section_key run.layout.index s
+  pub key_here : (s : ℕ) → key_of run.walk.journal.sections s ≡ section_key run.layout.index s
   key_here s = ap (λ (p : List ℕ). section_key p s) here.index
 
-  paged : (s : ℕ) (u : PageBlob S gs) → run.walk.journal.sections.held s ≡ Some u → u.page_size ≡ run.layout.page_size
+  pub paged : (s : ℕ) (u : PageBlob S gs) → run.walk.journal.sections.held s ≡ Some u → u.page_size ≡ run.layout.page_size
   paged s u held = sym (pages.page_size u) ∙ ap (λ (y : Setting). y.page_size) (was.index.over.opened_list.setting s u held) ∙ here.page_size
+
+  pub settled_at : (s : ℕ) (u : PageBlob S gs) → run.walk.journal.sections.held s ≡ Some u → u.settled ≡ size_of (shown u)
+  settled_at s u held = all_settled (shown u) (sym (pages.unsettled u) ∙ old.index_settled s u held)
+
+  -- the blob of a held section is there
+  there : (s : ℕ) → IsHeld run.walk.journal.sections s → reads (d (section_key run.layout.index s)) ≡ Some (d (section_key run.layout.index s)).content
+  there s held = elim (none_or_value (run.walk.journal.sections.held s)) [
+    | inl none ↦ absurd (cc (subst IsSome none held))
+    | inr some ↦
+        let b : Blob = d (key_of run.walk.journal.sections s) in
+        let rest : IsAtRest b = (pages.stands some.0 b ((was.index.over.disk t).stands s some.0 some.1)).rest (settled_at s some.0 some.1) in
+        subst (λ (k : Key). reads (d k) ≡ Some (d k).content) (key_here s) (reads_there b (rest_there b rest))
+  ]
 
   pub held_number : (s : ℕ) → IsHeld run.walk.journal.sections s → s < 2 ^ 64
   held_number s held = was.index.over.opened_list.number s (inl held)
 
-  stored_here : (s : ℕ) (u : PageBlob S gs) → run.walk.journal.sections.held s ≡ Some u
+  pub stored_here : (s : ℕ) (u : PageBlob S gs) → run.walk.journal.sections.held s ≡ Some u
       → stored_records run.layout (as_read d) s ≡ records run.layout.record_size (sealed_prefix run.layout.seal u.page_size (d (key_of run.walk.journal.sections s)).content)
   stored_here s u held =
       ap (λ (x : Option (List ℕ)). records run.layout.record_size (sealed_prefix run.layout.seal run.layout.page_size (unwrap_or x []))) (there s (is_some (run.walk.journal.sections.held s) u held))
       ∙ ap (λ (k : Key). records run.layout.record_size (sealed_prefix run.layout.seal run.layout.page_size (d k).content)) (sym (key_here s))
       ∙ sym (ap (λ (n : ℕ). records run.layout.record_size (sealed_prefix run.layout.seal n (d (key_of run.walk.journal.sections s)).content)) (paged s u held))
 
-  over_at : (s : ℕ) (u : PageBlob S gs) (owes : Bool) → run.walk.journal.sections.held s ≡ Some u → run.walk.journal.unrecovered s ≡ owes
+  pub stored_none : (s : ℕ) → s < 2 ^ 64 → run.walk.journal.sections.held s ≡ None → stored_records run.layout (as_read d) s ≡ []
+  stored_none s small none =
+      ap (λ (k : Key). records run.layout.record_size (sealed_prefix run.layout.seal run.layout.page_size (unwrap_or (reads (d k)) []))) (sym (key_here s))
+      ∙ ap (λ (x : Option (List ℕ)). records run.layout.record_size (sealed_prefix run.layout.seal run.layout.page_size (unwrap_or x []))) (reads_absent (d (key_of run.walk.journal.sections s)) (not_there run.walk.journal.sections o d was.index.over t s small none (old.index_known fine s)))
+      ∙ ap (records run.layout.record_size) (nothing_sealed run.layout.seal run.layout.page_size) ∙ none_of run.layout.record_size here.some
+
+  pub over_at : (s : ℕ) (u : PageBlob S gs) (owes : Bool) → run.walk.journal.sections.held s ≡ Some u → run.walk.journal.unrecovered s ≡ owes
       → records_over run d s ≡ records run.layout.record_size (kept_of run.layout.seal owes (Some u) (d (key_of run.walk.journal.sections s)).content)
   over_at s u owes held is =
       ap (λ (x : Option (PageBlob S gs)). records run.layout.record_size (kept_of run.layout.seal (run.walk.journal.unrecovered s) x (d (key_of run.walk.journal.sections s)).content)) held
@@ -117,7 +120,7 @@ module _ {F S : Type 0} {gs : _} {g : buffer.Ghosts (PageBlob S gs)} {gives : F 
       let w = value_of (run.values.held s) (λ x. (x.settled ≡ count_of x) × (is_unsettled x ≡ false)) (old.values_settled s (is_some (run.values.held s) v held)) in
       subst (λ (x : WriteBlob). is_unsettled x ≡ false) (some_same w.value v (sym w.is ∙ held)) w.has.1
 
-  values_at : (s : ℕ) → s < 2 ^ 64 → content_at (as_read d) run.layout.values s ≡ glob.section_bytes run.values d s
+  pub values_at : (s : ℕ) → s < 2 ^ 64 → content_at (as_read d) run.layout.values s ≡ glob.section_bytes run.values d s
   values_at s small = subst (λ (k : Key). unwrap_or (reads (d k)) [] ≡ glob.section_bytes run.values d s) (ap (λ (x : List ℕ). section_key x s) here.values) (elim (none_or_value (run.values.held s)) [
     | inl none ↦ ap (λ (x : Option (List ℕ)). unwrap_or x []) (reads_absent (d (key_of run.values s)) (not_there run.values o d was.values.over t s small none (old.values_known s)))
         ∙ sym (ap (λ (x : Option WriteBlob). glob.bytes_held x (d (key_of run.values s)).content) none)
@@ -129,51 +132,6 @@ module _ {F S : Type 0} {gs : _} {g : buffer.Ghosts (PageBlob S gs)} {gives : F 
         ∙ found_again some.0 (d (key_of run.values s)) stands (idle_whole some.0 (d (key_of run.values s)) stands idle) idle
         ∙ sym (ap (λ (x : Option WriteBlob). glob.bytes_held x (d (key_of run.values s)).content) some.1)
   ])
-
-  module _ (lawful : IsLawful run.layout (as_read d) run.store.entries) where
-    -- the records below a marker are sealed
-    marked_sealed : (s : ℕ) (u : PageBlob S gs) → run.walk.journal.sections.held s ≡ Some u
-        → marker run s * run.layout.record_size ≤ length (sealed_prefix run.layout.seal u.page_size (d (key_of run.walk.journal.sections s)).content)
-    marked_sealed s u held = elim (marked_or_zero run.store.entries s) [
-      | inr zero_is ↦ omega (arith, ap (λ (n : ℕ). n * run.layout.record_size) zero_is)
-      | inl some ↦
-          let bytes : List ℕ = sealed_prefix run.layout.seal u.page_size (d (key_of run.walk.journal.sections s)).content in
-          let enough : some.0 ≤ length bytes / run.layout.record_size = omega (arith, (lawful.true_markers s some.0 some.1).enough, ap length (stored_here s u held), length-records run.layout.record_size bytes) in
-          let same : marker run s ≡ some.0 = marked_is run.store.entries s some.0 some.1 in
-          omega (arith, ap (λ (n : ℕ). n * run.layout.record_size) same, mul-le some.0 run.layout.record_size (length bytes / run.layout.record_size) run.layout.record_size enough (omega arith), div-mul-le_self (length bytes) run.layout.record_size)
-    ]
-
-    free_sealed : (s : ℕ) (u : PageBlob S gs) → run.walk.journal.sections.held s ≡ Some u → run.walk.journal.unrecovered s ≡ false
-        → sealed_prefix run.layout.seal u.page_size (d (key_of run.walk.journal.sections s)).content ≡ bytes_of (shown u) (d (key_of run.walk.journal.sections s)).content
-    free_sealed s u held free =
-        let b : Blob = d (key_of run.walk.journal.sections s) in
-        let settled : u.settled ≡ size_of (shown u) = all_settled (shown u) (sym (pages.unsettled u) ∙ old.index_settled s u held) in
-        let adopted = (pages.stands u b ((was.index.over.disk t).stands s u held)).adopted in
-        let few : size_of (shown u) ≤ marker run s * run.layout.record_size = omega (arith, old.unowed s free, old.floors s, ap fixed.size_held held) in
-        let sealed : IsSealed run.layout.seal (shown u) b = sealed_by_length run.layout.seal (shown u) b u.fit.begun adopted (omega (arith, few, marked_sealed s u held)) in
-        sealed_flushed run.layout.seal (shown u) b u.fit.begun sealed (all_flushed (shown u) u.fit.within u.order settled)
-
-    -- what is gone over is what is stored
-    pub over_stored : (s : ℕ) → s < 2 ^ 64 → records_over run d s ≡ stored_records run.layout (as_read d) s
-    over_stored s small = elim (none_or_value (run.walk.journal.sections.held s)) [
-      | inl none ↦
-          over_none s none
-          ∙ sym (ap (λ (k : Key). records run.layout.record_size (sealed_prefix run.layout.seal run.layout.page_size (unwrap_or (reads (d k)) []))) (sym (key_here s))
-          ∙ ap (λ (x : Option (List ℕ)). records run.layout.record_size (sealed_prefix run.layout.seal run.layout.page_size (unwrap_or x []))) (reads_absent (d (key_of run.walk.journal.sections s)) (not_there run.walk.journal.sections o d was.index.over t s small none (old.index_known fine s)))
-          ∙ ap (records run.layout.record_size) (nothing_sealed run.layout.seal run.layout.page_size) ∙ none_of run.layout.record_size here.some)
-      | inr some ↦ elim (cases_Bool (run.walk.journal.unrecovered s)) [
-        | inl owed ↦ over_at s some.0 true some.1 owed ∙ sym (stored_here s some.0 some.1)
-        | inr free ↦ over_at s some.0 false some.1 free ∙ ap (records run.layout.record_size) (sym (free_sealed s some.0 some.1 free)) ∙ sym (stored_here s some.0 some.1)
-      ]
-    ]
-
-    -- and what is given is what is kept
-    pub given_kept : (s : ℕ) → s < 2 ^ 64 → records_given run d s ≡ map (λ x. x.stored) (kept run.layout (as_read d) (marker run s) s)
-    given_kept s small =
-        let sound : is_sound_over run d s ≡ is_sound_in run.layout (as_read d) s = (λ i r. is_sound run.layout.seal (sym (values_at s small) i) (run.layout.place r)) in
-        ap (λ (b : Bool). cond b (front (is_sound_over run d s) (marker run s) 0 (records_over run d s)) (records_over run d s)) tracked
-        ∙ (λ i. front (sound i) (marker run s) 0 (over_stored s small i))
-        ∙ sym (stored_entries run.layout.place (content_at (as_read d) run.layout.values s) (front (is_sound_in run.layout (as_read d) s) (marker run s) 0 (stored_records run.layout (as_read d) s)))
 
   -- a section of which a record is given is held
   pub given_number : (s p : ℕ) → p < length (records_given run d s) → s < 2 ^ 64

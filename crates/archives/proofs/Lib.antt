@@ -1,6 +1,7 @@
 pub mod MachineLaws
 pub mod MoreRows
 pub mod PlainLemmas
+pub mod PlainSteps
 pub mod Refused
 pub mod Rows
 pub mod Sets
@@ -8,6 +9,7 @@ pub mod TableLemmas
 pub mod StandLemmas
 pub mod RecallLemmas
 pub mod ArchiveStands
+pub mod OpenedAgain
 pub mod PutRows
 pub mod PutLemmas
 pub mod PutStands
@@ -31,10 +33,15 @@ pub mod InitStored
 pub mod InitCauses
 pub mod InitEnds
 pub mod InitSound
-pub mod InitMarkers
+pub mod InitLeft
 pub mod OpenEnter
 pub mod OpenWalk
 pub mod OpenLoop
 pub mod OpenRows
 pub mod OpenErrors
 pub mod OpenFull
+pub mod OpenPassed
+pub mod OpenKept
+pub mod Reopening
+pub mod MachineTerms
+pub mod Faults

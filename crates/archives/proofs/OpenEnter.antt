@@ -8,8 +8,7 @@ use Rattle.std.specs.Ordering.{nat_cmp}
 use Rattle.std.proofs.lemmas.Bool.{cases_eq, eq-eqb, eqb-true, false≢true}
 use Rattle.paired.proofs.RecordLemmas.{all_by, all_with}
 use Rattle.archives.specs.Machine.{section_of}
-use Rattle.archives.specs.Opening.{AreWithin}
-use Rattle.archives.specs.Rows.{HasRoom, Row}
+use Rattle.archives.specs.Rows.{AreWithin, HasRoom, Row}
 
 -- the list without the first s
 abbrev without : ℕ → List ℕ → List ℕ

@@ -1,7 +1,9 @@
 -- What an error of an opening's walk says, as the archive answers it.
-use Rattle.std.specs.Prelude.{◌≡◌, ◌⊎◌, ℕ, zero, suc, ◌+◌, ◌*◌, ◌/◌, ◌<◌, ◌≤◌, true, List, [], length, get_or, Option, None, Some, IsSomeAnd, Result, Ok, Err, OnErr}
+use Rattle.std.specs.Prelude.{◌≡◌, ◌⊎◌, ℕ, zero, suc, ◌+◌, ◌*◌, ◌/◌, ◌^◌, ◌<◌, ◌≤◌, true, List, [], length, get_or, Option, None, Some, IsSomeAnd, Result, Ok, Err, OnErr}
 use Rattle.std.proofs.Common.{inl, inr, sym, ◌∙◌, ap, subst, arith, drop, length-drop, length-take}
+use Rattle.std.proofs.lemmas.Bool.{cases_lt}
 use Rattle.std.proofs.lemmas.Bool.Decides.{nat_tests}
+use Rattle.std.proofs.lemmas.Nat.{mul-le}
 use Rattle.std.specs.List.{AllByRecursion}
 use Rattle.std.specs.Result.{IsErrOf}
 use Rattle.blob_device.specs.Disk.{Disk}
@@ -10,12 +12,14 @@ use Rattle.blob_device.specs.Timeline.{Timeline, disk}
 use Rattle.blob_device.specs.declared.runtime.RError.TheVariants as runtime
 use Rattle.value_codec.specs.Spelling.{size_refusal}
 use Rattle.value_codec.specs.declared.codec.Error as codec
+use Rattle.value_codec.specs.declared.key.Key8.{Key8}
 use Rattle.sealed_pages.specs.Buffer.{size_of}
 use Rattle.sealed_pages.specs.Reads.{IsShort}
 use Rattle.sealed_pages.specs.Shown.{shown}
 use Rattle.sealed_pages.specs.declared.page_blob.PageBlob.{PageBlob}
 use Rattle.meta_store.specs.declared.error.Error.TheVariants as store
 use Rattle.meta_store.specs.declared.error.Side.{Side}
+use Rattle.meta_store.specs.Store.{Store}
 use Rattle.segments.specs.declared.buffer.SectionBuffer as buffer
 use Rattle.segments.specs.declared.journal.Damage.{Damage}
 use Rattle.segments.specs.declared.journal.Error as journal
@@ -28,11 +32,11 @@ use Rattle.segments.specs.Sections.{key_of, section_key}
 use Rattle.segments.specs.Setting.{Setting}
 use Rattle.segments.proofs.FixedReading.{the_some}
 use Rattle.segments.proofs.FixedWriteLemmas.{ArePages}
-use Rattle.paired.specs.Kept.{Layout}
+use Rattle.paired.specs.Kept.{Layout, marker_of, stored_records}
 use Rattle.paired.specs.Opening.{as_read, IsLawful}
 use Rattle.paired.specs.OpeningRefusing.{AreSpellings}
 use Rattle.paired.specs.Records.{each_below, records}
-use Rattle.paired.specs.Replaying.{IsOpeningRun, IsUnspelled, Run, pair_of, records_over}
+use Rattle.paired.specs.Replaying.{IsOpeningRun, IsUnspelled, Run, marker, pair_of, records_over}
 use Rattle.paired.proofs.NextAnswers.{Clauses}
 use Rattle.paired.proofs.PairFailing.{rose_before}
 use Rattle.paired.proofs.PairSynced.{Here}
@@ -44,6 +48,7 @@ use Rattle.archives.specs.Opening.{FindsShort, IsOpeningError}
 use Rattle.archives.specs.Raised.{raised}
 use Rattle.archives.specs.Refusing.{HasFailed}
 use Rattle.archives.proofs.OpenLoop.{Going, Passed}
+use Rattle.archives.proofs.OpenPassed.{short_same, short_stored}
 
 -- An error of a journal is that of the journal below.
 raised_journal : (y e : journal.Error) → raised y ≡ Journal e → y ≡ e
@@ -134,7 +139,8 @@ answered r e z back is = err_is (sym back ∙ is)
 -- What an answer of an opening says, where an error of its walk made it.
 pub record Answer {T F S : Type 0} {gs : _} (told : Type 0) (start : Run F (PageBlob S gs)) (from to : Disk) (first many : ℕ) (r : Result T archive.Error) : Type 0 where
   pub stray : IsErrOf r RecordCorrupted → ⊥
-  pub damage : told → (d : Damage) → IsErrOf r (Journal (section.Corruption d)) → (d.wanted ≡ start.walk.journal.floor_of d.section) × (d.kept < d.wanted)
+  pub damage : told → (d : Damage) → IsErrOf r (Journal (section.Corruption d))
+      → (d.wanted ≡ start.walk.journal.floor_of d.section) × (d.kept < d.wanted) × (d.kept ≡ length (stored_records start.layout (as_read from) d.section) * start.layout.record_size)
   pub damaged : told → (k : ℕ) → IsErrOf r (Journal (section.Runtime (runtime.InvalidChecksum k))) → FindsShort start.layout start.walk.journal.floor_of to k
   pub start_within : told → (n : ℕ) → IsErrOf r (Journal (section.ItemOutOfRange n)) → ⊥
   pub unspelled : told → (z : codec.Error) → IsErrOf r (Journal (section.Codec z)) → ⊥
@@ -157,10 +163,26 @@ module _ {F S : Type 0} {gs : _} (g : buffer.Ghosts (PageBlob S gs)) (gives : F 
   gave_so : (z : journal.Error) → raised y ≡ Journal z → result ≡ Some (Err z)
   gave_so z is = gave ∙ ap (λ (w : journal.Error). let r : Result (ℕ × ℕ × V) journal.Error = Err w in let o : Option (Result (ℕ × ℕ × V) journal.Error) = Some r in o) (raised_journal y z is)
 
-  below_floor : told → (d : Damage) → raised y ≡ Journal (section.Corruption d) → (d.wanted ≡ start.walk.journal.floor_of d.section) × (d.kept < d.wanted)
-  below_floor t d is =
+  below_floor : ArePages g now.layout.seal → Here gives (pair_of now) → told → (d : Damage) → raised y ≡ Journal (section.Corruption d)
+      → (d.wanted ≡ start.walk.journal.floor_of d.section) × (d.kept < d.wanted) × (d.kept ≡ length (stored_records start.layout (as_read (disk a)) d.section) * start.layout.record_size)
+  below_floor pages here t d is =
       let low = says.damage t d (gave_so (section.Corruption d) is) in
-      (low.wanted ∙ was.same.walk.floors d.section, low.less)
+      let s : ℕ = d.section in
+      let size : ℕ = now.layout.record_size in
+      let small : s < 2 ^ 64 = was.over.index.over.opened_list.number s (inl low.held) in
+      let stored : d.kept ≡ length (stored_records now.layout (as_read (disk e)) s) * size = short_stored now mid (disk e) pages here was.over tracked_now going.going t d low in
+      let few : length (stored_records now.layout (as_read (disk e)) s) < marker now s = elim (cases_lt (length (stored_records now.layout (as_read (disk e)) s)) (marker now s)) [
+        | inl lt ↦ lt
+        | inr le ↦ absurd (omega (arith, stored, low.wanted, low.less, is_opening.floors s, mul-le (marker now s) size (length (stored_records now.layout (as_read (disk e)) s)) size le (omega arith)))
+      ] in
+      let few_start : length (stored_records start.layout (as_read (disk e)) s) < marker start s =
+      subst (λ (u : Store Key8 ℕ). length (stored_records start.layout (as_read (disk e)) s) < marker_of u.entries s) was.same.store
+      (subst (λ (l : Layout). length (stored_records l (as_read (disk e)) s) < marker now s) laid few) in (
+        low.wanted ∙ was.same.walk.floors s,
+        low.less,
+        stored ∙ ap (λ (l : Layout). length (stored_records l (as_read (disk e)) s) * l.record_size) laid
+            ∙ ap (λ (n : ℕ). n * start.layout.record_size) (sym (short_same start.layout (as_read (disk a)) (as_read (disk e)) (marker start s) s (going.stays.keeps t s small) few_start)),
+      )
 
   start_within : told → (n : ℕ) → raised y ≡ Journal (section.ItemOutOfRange n) → ⊥
   start_within t n is =
@@ -246,10 +268,10 @@ module _ {F S : Type 0} {gs : _} (g : buffer.Ghosts (PageBlob S gs)) (gives : F 
       })
 
   -- All of that of the answer.
-  pub answer : {T : Type 0} → ArePages g now.layout.seal → Here gives (pair_of x) → (r : Result T archive.Error) → r ≡ Err (raised y) → Answer told start (disk a) (disk f) first many r
-  answer pages here r back = record {
+  pub answer : {T : Type 0} → ArePages g now.layout.seal → Here gives (pair_of now) → Here gives (pair_of x) → (r : Result T archive.Error) → r ≡ Err (raised y) → Answer told start (disk a) (disk f) first many r
+  answer pages before_here here r back = record {
     stray = λ is. raised_stray y (answered r (raised y) RecordCorrupted back is);
-    damage = λ t d is. below_floor t d (answered r (raised y) (Journal (section.Corruption d)) back is);
+    damage = λ t d is. below_floor pages before_here t d (answered r (raised y) (Journal (section.Corruption d)) back is);
     damaged = λ t k is. finds_short pages here t k (answered r (raised y) (Journal (section.Runtime (runtime.InvalidChecksum k))) back is);
     start_within = λ t n is. start_within t n (answered r (raised y) (Journal (section.ItemOutOfRange n)) back is);
     unspelled = λ t z is. none_unspelled t z (answered r (raised y) (Journal (section.Codec z)) back is);

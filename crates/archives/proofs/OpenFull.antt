@@ -1,20 +1,11 @@
 -- Where an opening's walk gave a record for which there was no room, more is kept than the limits allow.
-use Rattle.std.specs.Prelude.{◌≡◌, ◌≢◌, ◌⊎◌, ◌↔◌, ℕ, zero, suc, ◌+◌, ◌^◌, ◌<◌, ◌≤◌, cond, Bool, true, false, List, [], ◌∷◌, length, map, take}
+use Rattle.std.specs.Prelude.{◌≡◌, ◌≢◌, ◌⊎◌, ℕ, zero, suc, ◌+◌, ◌^◌, ◌<◌, ◌≤◌, cond, Bool, true, false, List, [], ◌∷◌, length, map, take}
 use Rattle.std.proofs.Common.{inl, inr, refl, sym, ◌∙◌, ap, subst, Less, arith}
 use Rattle.std.specs.Cmp.{nat_cmp_is, ranked}
 use Rattle.std.specs.List.{AllByRecursion}
 use Rattle.std.specs.List.Sorted.{IsStrictlySortedBy}
 use Rattle.std.specs.Ordering.{nat_cmp}
 use Rattle.std.proofs.lemmas.Bool.{cases_eq, cases_lt, false≢true}
-use Rattle.blob_device.specs.Disk.{Disk}
-use Rattle.blob_device.specs.Opened.{OpenedList}
-use Rattle.sealed_pages.specs.declared.page_blob.PageBlob.{PageBlob}
-use Rattle.sealed_pages.specs.declared.write_blob.WriteBlob.{WriteBlob}
-use Rattle.segments.specs.declared.buffer.SectionBuffer as buffer
-use Rattle.segments.specs.declared.unsealed.WriteFactory.{WriteFactory}
-use Rattle.segments.specs.Setting.{Setting}
-use Rattle.paired.specs.Replaying.{IsDue, IsRun, Run, records_given}
-use Rattle.paired.proofs.NextTurn.{left_held}
 use Rattle.paired.proofs.RecordLemmas.{all_by}
 use Rattle.archives.specs.Opening.{IsOver}
 use Rattle.archives.specs.Rows.{FewerThan, HasRoom, Row}
@@ -150,7 +141,7 @@ list_cases : {X : Type 0} (xs : List X) → (xs ≡ []) ⊎ (xs ≢ [])
 list_cases [] = inl refl
 list_cases (x ∷ xs) = inr (λ is. cc)
 
-is_over : {X : Type 0} (sections per_section s : ℕ) (rows : ℕ → List Row) (given : ℕ → List X) → ((t : ℕ) → rows t ≢ [] → given t ≢ []) → ((t : ℕ) → given t ≢ [] → t < 2 ^ 64)
+pub is_over : {X : Type 0} (sections per_section s : ℕ) (rows : ℕ → List Row) (given : ℕ → List X) → ((t : ℕ) → rows t ≢ [] → given t ≢ []) → ((t : ℕ) → given t ≢ [] → t < 2 ^ 64)
     → length (rows s) < length (given s) → (HasRoom sections per_section rows s → ⊥) → IsOver sections per_section given
 is_over sections per_section s rows given wider small left none = elim (list_cases (rows s)) [
   | inl is ↦ inl (more_sections rows given (2 ^ 64) wider small sections s (λ few. none (inr (is, few))) is some)
@@ -168,24 +159,11 @@ is_over sections per_section s rows given wider small left none = elim (list_cas
     some is = omega (arith, left, ap length is)
 
 -- A section that has rows was given some record.
-rows_given : (f : List ℕ → Row) (rows : List Row) (given : List (List ℕ)) → rows ≡ map f (take (length rows) given) → rows ≢ [] → given ≢ []
+pub rows_given : (f : List ℕ → Row) (rows : List Row) (given : List (List ℕ)) → rows ≡ map f (take (length rows) given) → rows ≢ [] → given ≢ []
 rows_given f [] given is some = absurd (some refl)
 rows_given f (r ∷ rs) [] is some = absurd (cc is)
 rows_given f (r ∷ rs) (g ∷ gs) is some = λ none. cc
 
--- There was no room for record p of a section, the next of those that are entered.
-pub over_given : (f : List ℕ → Row) (sections per_section s p : ℕ) (rows : ℕ → List Row) (was given : ℕ → List (List ℕ)) → ((t : ℕ) → was t ≡ given t) → ((t : ℕ) → rows t ≡ map f (take (length (rows t)) (was t)))
-    → ((t : ℕ) → given t ≢ [] → t < 2 ^ 64) → p ≡ length (rows s) → p < length (was s) → (HasRoom sections per_section rows s → ⊥) → IsOver sections per_section given
-over_given f sections per_section s p rows was given same listed small at within none = is_over sections per_section s rows given
-    (λ t some. subst (λ (rs : List (List ℕ)). rs ≢ []) (same t) (rows_given f (rows t) (was t) (listed t) some)) small
-    (subst (λ (rs : List (List ℕ)). length (rows s) < length rs) (same s) (omega (arith, at, within))) none
-
-some_long : {X : Type 0} (xs : List X) → xs ≢ [] → 0 < length xs
+pub some_long : {X : Type 0} (xs : List X) → xs ≢ [] → 0 < length xs
 some_long [] some = absurd (some refl)
 some_long (x ∷ xs) some = omega arith
-
--- A section of which a record is given has a number of 64 bits.
-pub small_given : {F S : Type 0} {gs : _} (g : buffer.Ghosts (PageBlob S gs)) (gives : F → Setting) (h : buffer.Ghosts WriteBlob) (takes : WriteFactory → Setting) (told : Type 0) (run : Run F (PageBlob S gs)) (opened : OpenedList) (d : Disk)
-    → IsRun run g gives h takes told opened d → 1 ≤ run.layout.record_size → ((s p : ℕ) → IsDue run d s p ↔ (p < length (records_given run d s))) → (s : ℕ) → records_given run d s ≢ [] → s < 2 ^ 64
-small_given g gives h takes told run opened d over pos due s some =
-    over.index.over.opened_list.number s (inl (left_held run.layout.seal run.layout.record_size run.walk d s 0 pos ((due s 0).1 (some_long (records_given run d s) some)).left))

@@ -13,8 +13,8 @@ use Rattle.paired.specs.Replaying.{GivesRecord, IsDue, Run, records_given}
 use Rattle.archives.specs.IndexRecord.{IsInRange, IsSpelled, index_of, spelling_of}
 use Rattle.archives.specs.IndexRecordLaws.{index_of-index_record, key_of-index_record}
 use Rattle.archives.specs.Machine.{section_of}
-use Rattle.archives.specs.Opening.{AreWithin, HasEntered}
-use Rattle.archives.specs.Rows.{Row, row_in}
+use Rattle.archives.specs.Opening.{HasEntered}
+use Rattle.archives.specs.Rows.{AreWithin, Row, row_in}
 use Rattle.archives.proofs.OpenEnter.{all_push}
 use Rattle.archives.specs.declared.prunable.index_record.IndexRecord.{IndexRecord}
 

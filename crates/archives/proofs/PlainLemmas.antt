@@ -1,11 +1,13 @@
 -- A plain list of records, and the state that it stands for.
-use Rattle.std.proofs.Common.{◌≡◌, refl, sym, ◌∙◌, ap, ℕ, Bool, true, false, ◌||◌, ◌==◌, if◌then◌else◌, cond, List, [], ◌∷◌, ◌++◌, map, filter, find, nat_lt, Some, arith}
+use Rattle.std.proofs.Common.{◌≡◌, refl, sym, ◌∙◌, ap, subst, ℕ, suc, Bool, true, false, not, ◌||◌, ◌==◌, if◌then◌else◌, cond, List, [], ◌∷◌, ◌++◌, length, map, filter, find, take, drop, nat_lt, ◌≤◌, Some, arith}
 use Rattle.std.specs.List.{list_any}
 use Rattle.std.specs.Option.{option_map}
-use Rattle.std.proofs.lemmas.List.{map-append}
+use Rattle.std.proofs.lemmas.List.{append-nil, drop_all, length-map, map-append, take_all}
+use Rattle.std.proofs.lemmas.List.Elements.{filter-append}
+use Rattle.std.proofs.lemmas.List.Filters.{length-filter_both}
 use Rattle.std.proofs.lemmas.Bool.{eqb-true, eq-eqb, false≢true}
 use Rattle.std.proofs.lemmas.Bool.Decides.{nat_tests}
-use Rattle.archives.specs.Machine.{State, appended, after_put, entries_at, first_value, has_index, section_of}
+use Rattle.archives.specs.Machine.{IsReopened, State, appended, after_put, after_sync, entries_at, first_value, has_index, section_of}
 use Rattle.archives.specs.declared.plain.Item.{Item}
 use Rattle.archives.specs.Plain.{entry_of, first_at, state_with}
 
@@ -46,37 +48,100 @@ first_here {K} {X} key_bytes n index (r ∷ all) =
     here true behind = refl
     here false behind = behind
 
-filter_push : {X : Type 0} (p : X → Bool) (all : List X) (r : X) → filter p (all ++ r ∷ []) ≡ filter p all ++ cond (p r) (r ∷ []) []
-filter_push p [] r = refl
-filter_push {X} p (q ∷ all) r = elim (p q) as (λ t. cond t (q ∷ filter p (all ++ r ∷ [])) (filter p (all ++ r ∷ [])) ≡ cond t (q ∷ filter p all) (filter p all) ++ cond (p r) (r ∷ []) []) [
-  | true ↦ ap (λ (xs : List X). q ∷ xs) (filter_push p all r)
-  | false ↦ filter_push p all r
-]
-
-append_none : {X : Type 0} (xs : List X) → xs ++ [] ≡ xs
-append_none [] = refl
-append_none (x ∷ xs) = ap (λ ys. x ∷ ys) (append_none xs)
-
 -- the list of each section after one more record
 lists_push : {K X : Type 0} (key_bytes : K → List ℕ) (n : ℕ) (all : List (Item K X)) (r : Item K X) (s : ℕ)
     → map (entry_of key_bytes) (filter (λ q. s == section_of n q.index) (all ++ r ∷ []))
     ≡ (if s == section_of n r.index then map (entry_of key_bytes) (filter (λ q. s == section_of n q.index) all) ++ entry_of key_bytes r ∷ [] else map (entry_of key_bytes) (filter (λ q. s == section_of n q.index) all))
 lists_push {K} {X} key_bytes n all r s =
-    ap (map (entry_of key_bytes)) (filter_push (λ q. s == section_of n q.index) all r)
+    ap (map (entry_of key_bytes)) (filter-append (λ q. s == section_of n q.index) all (r ∷ []))
     ∙ elim (s == section_of n r.index) as (λ t. map (entry_of key_bytes) (filter (λ q. s == section_of n q.index) all ++ cond t (r ∷ []) [])
     ≡ (if t then map (entry_of key_bytes) (filter (λ q. s == section_of n q.index) all) ++ entry_of key_bytes r ∷ [] else map (entry_of key_bytes) (filter (λ q. s == section_of n q.index) all))) [
       | true ↦ map-append (entry_of key_bytes) (filter (λ q. s == section_of n q.index) all) (r ∷ [])
-      | false ↦ ap (map (entry_of key_bytes)) (append_none (filter (λ q. s == section_of n q.index) all))
+      | false ↦ ap (map (entry_of key_bytes)) (append-nil (filter (λ q. s == section_of n q.index) all))
     ]
 
-pub state_push : {K X : Type 0} (key_bytes : K → List ℕ) (n : ℕ) (all : List (Item K X)) (r : Item K X)
+-- and its synced records, since the new record is not synced
+synced_push : {K X : Type 0} (n : ℕ) (all : List (Item K X)) (r : Item K X) (s : ℕ) → r.is_synced ≡ false
+    → filter (λ q. q.is_synced) (filter (λ q. s == section_of n q.index) (all ++ r ∷ []))
+    ≡ filter (λ q. q.is_synced) (filter (λ q. s == section_of n q.index) all)
+synced_push {K} {X} n all r s unsynced =
+    let is_synced : Item K X → Bool = λ q. q.is_synced in
+    let here : List (Item K X) = filter (λ q. s == section_of n q.index) all in
+    ap (filter is_synced) (filter-append (λ q. s == section_of n q.index) all (r ∷ []))
+    ∙ elim (s == section_of n r.index) as (λ t. filter is_synced (here ++ cond t (r ∷ []) []) ≡ filter is_synced here) [
+      | true ↦ filter-append is_synced here (r ∷ []) ∙ ap (λ b. filter is_synced here ++ cond b (r ∷ []) []) unsynced ∙ append-nil (filter is_synced here)
+      | false ↦ ap (filter is_synced) (append-nil here)
+    ]
+
+pub state_push : {K X : Type 0} (key_bytes : K → List ℕ) (n : ℕ) (all : List (Item K X)) (r : Item K X) → r.is_synced ≡ false
     → state_with key_bytes n (all ++ r ∷ []) ≡ appended n r.index (key_bytes r.key) r.value (state_with key_bytes n all)
-state_push key_bytes n all r = λ i. record {
+state_push key_bytes n all r unsynced = λ i. record {
   is_open = true;
   lists = λ s. lists_push key_bytes n all r s i;
-  synced = λ s. 0;
+  synced = λ s. length (synced_push n all r s unsynced i);
   floor = 0;
 }
+
+-- ---- a sync
+
+-- the record, counted as synced
+abbrev pub as_synced : {K V : Type 0} → Item K V → Item K V
+as_synced r = record r { is_synced = true }
+
+-- behind a pass over all records, each is synced
+pub all_passed : {K V : Type 0} (first items : List (Item K V)) (at : ℕ) → length first ≤ at → items ≡ map as_synced (take at first) ++ drop at first → items ≡ map as_synced first
+all_passed first items at passed so_far = so_far ∙ (λ i. map as_synced (take_all at first passed i) ++ drop_all at first passed i) ∙ append-nil (map as_synced first)
+
+lists_synced : {K X : Type 0} (key_bytes : K → List ℕ) (n : ℕ) (all : List (Item K X)) (s : ℕ)
+    → map (entry_of key_bytes) (filter (λ q. s == section_of n q.index) (map as_synced all))
+    ≡ map (entry_of key_bytes) (filter (λ q. s == section_of n q.index) all)
+lists_synced key_bytes n [] s = refl
+lists_synced {K} {X} key_bytes n (r ∷ all) s =
+    let here : List (Item K X) → List (Item K X) = filter (λ q. s == section_of n q.index) in
+    elim (s == section_of n r.index) as (λ t. map (entry_of key_bytes) (cond t (as_synced r ∷ here (map as_synced all)) (here (map as_synced all))) ≡ map (entry_of key_bytes) (cond t (r ∷ here all) (here all))) [
+      | true ↦ ap (λ xs. entry_of key_bytes r ∷ xs) (lists_synced key_bytes n all s)
+      | false ↦ lists_synced key_bytes n all s
+    ]
+
+all_synced : {K X : Type 0} (key_bytes : K → List ℕ) (n : ℕ) (all : List (Item K X)) (s : ℕ)
+    → length (filter (λ q. q.is_synced) (filter (λ q. s == section_of n q.index) (map as_synced all)))
+    ≡ length (map (entry_of key_bytes) (filter (λ q. s == section_of n q.index) all))
+all_synced key_bytes n [] s = refl
+all_synced {K} {X} key_bytes n (r ∷ all) s =
+    let here : List (Item K X) → List (Item K X) = filter (λ q. s == section_of n q.index) in
+    elim (s == section_of n r.index) as (λ t. length (filter (λ q. q.is_synced) (cond t (as_synced r ∷ here (map as_synced all)) (here (map as_synced all)))) ≡ length (map (entry_of key_bytes) (cond t (r ∷ here all) (here all)))) [
+      | true ↦ ap (λ (k : ℕ). suc k) (all_synced key_bytes n all s)
+      | false ↦ all_synced key_bytes n all s
+    ]
+
+pub state_synced : {K X : Type 0} (key_bytes : K → List ℕ) (n : ℕ) (all : List (Item K X))
+    → state_with key_bytes n (map as_synced all) ≡ after_sync (state_with key_bytes n all)
+state_synced key_bytes n all = λ i. record {
+  is_open = true;
+  lists = λ s. lists_synced key_bytes n all s i;
+  synced = λ s. all_synced key_bytes n all s i;
+  floor = 0;
+}
+
+-- A reopening may cut nothing: what is synced of a section is no more than is there.
+pub reopened_whole : {K X : Type 0} (key_bytes : K → List ℕ) (n : ℕ) (all : List (Item K X)) (new : State X)
+    → new ≡ after_sync (state_with key_bytes n all) → IsReopened (state_with key_bytes n all) new
+reopened_whole {K} {X} key_bytes n all new is = subst (IsReopened (state_with key_bytes n all)) (sym is) (record {
+  opened = refl;
+  cut = λ s. sym (take_all _ (map (entry_of key_bytes) (here s)) (omega arith));
+  at_least = λ s. omega (
+    arith,
+    length-map (here s) (entry_of key_bytes),
+    length-filter_both (λ q. q.is_synced) (λ q. not q.is_synced) (λ q. refl) (here s),
+  );
+  synced = λ s. refl;
+  floor = refl;
+})
+  where
+    here : ℕ → List (Item K X)
+    here s = filter (λ q. s == section_of n q.index) all
+
+-- ---- a put
 
 -- a put of an index that is taken changes nothing
 pub put_taken : {X : Type 0} (n index : ℕ) (key : List ℕ) (value : X) (st : State X) → has_index n st index ≡ true

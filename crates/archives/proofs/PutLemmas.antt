@@ -121,8 +121,8 @@ module _ {F S : Type 0} {gs : _} (a : Archive F (PageBlob S gs)) (q : Pair F (Pa
     in_section_now : (s : ℕ) → AllByRecursion (λ r. section_of a.items r.index ≡ s) (rows s)
     in_section_now s = elim (other_or_same sec s) [
       | inl same ↦ subst (λ (u : ℕ). AllByRecursion (λ r. section_of a.items r.index ≡ u) (rows u)) (sym same)
-          (subst (AllByRecursion (λ r. section_of a.items r.index ≡ sec)) (sym adds.row) (all_push (λ r. section_of a.items r.index ≡ sec) (a.rows sec) new_row (archive.in_section sec) (sym here)))
-      | inr other ↦ subst (AllByRecursion (λ r. section_of a.items r.index ≡ s)) (sym (adds.other_rows s other)) (archive.in_section s)
+          (subst (AllByRecursion (λ r. section_of a.items r.index ≡ sec)) (sym adds.row) (all_push (λ r. section_of a.items r.index ≡ sec) (a.rows sec) new_row (archive.within.in_section sec) (sym here)))
+      | inr other ↦ subst (AllByRecursion (λ r. section_of a.items r.index ≡ s)) (sym (adds.other_rows s other)) (archive.within.in_section s)
     ]
 
     written_rows : (s : ℕ) → IsTrue (is_written s) → rows s ≢ []
@@ -156,10 +156,12 @@ module _ {F S : Type 0} {gs : _} (a : Archive F (PageBlob S gs)) (q : Pair F (Pa
       listed = listed_now;
       spelled = spelled_now;
       filled = adds.filled;
-      in_section = in_section_now;
-      few_sections = λ ss up all. few_sections_now a.most_sections a.most_records a.rows rows sec new_row adds.row adds.other_rows some (λ s. 0 ≤ s) fits
-          (λ ts up all. archive.few_sections ts up (all_rows a.rows ts all)) ss up (all_with_rows rows ss all);
-      few_records = few_now a.most_sections a.most_records a.rows rows sec new_row adds.row adds.other_rows some fits archive.few_records;
+      within = record {
+        in_section = in_section_now;
+        few_sections = λ ss up all. few_sections_now a.most_sections a.most_records a.rows rows sec new_row adds.row adds.other_rows some (λ s. 0 ≤ s) fits
+            (λ ts up all. archive.within.few_sections ts up (all_rows a.rows ts all)) ss up (all_with_rows rows ss all);
+        few_records = few_now a.most_sections a.most_records a.rows rows sec new_row adds.row adds.other_rows some fits archive.within.few_records;
+      };
       unwritten = λ s is.
           let was = adds.written s is in
           adds.synced s ∙ archive.unwritten s was.1 ∙ sym (other_length s was.0);

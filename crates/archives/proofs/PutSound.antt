@@ -84,13 +84,13 @@ module _ {F S : Type 0} {gs : _} (a : Archive F (PageBlob S gs)) (q : Pair F (Pa
       | inr other ↦ omega (arith, other_size s other, sound.counted s)
     ]
 
-    absent_now : (s : ℕ) → s < 2 ^ 64 → q.index.sections.held s ≡ None → q.values.held s ≡ None → HasNoBytes (e (section_key q.layout.values s))
-    absent_now s small bare none = elim (other_or_same sec s) [
+    absent_now : (s : ℕ) → s < 2 ^ 64 → q.values.held s ≡ None → HasNoBytes (e (section_key q.layout.values s))
+    absent_now s small none = elim (other_or_same sec s) [
       | inl same ↦
           let size : glob.section_size q.values sec ≡ 0 = ap (λ (u : ℕ). glob.size_held (q.values.held u)) (sym same) ∙ ap glob.size_held none in
           absurd (omega (arith, size, size_now, asked.some))
       | inr other ↦
-          let was : HasNoBytes (d (section_key a.pair.layout.values s)) = sound.absent s small (sym (adds.others s other).0.held ∙ bare) (sym (adds.others s other).1.held ∙ none) in
+          let was : HasNoBytes (d (section_key a.pair.layout.values s)) = sound.absent s small (sym (adds.others s other).1.held ∙ none) in
           let alone : e (section_key a.pair.layout.values s) ≡ d (section_key a.pair.layout.values s) = sounds.alone (section_key a.pair.layout.values s)
           (λ is. archive.pair.apart.values (sym (ap (λ (k : Key). k.0) is))) (keys_differ a.pair.layout.values s sec small sounds.small other) in
           subst (λ (p : List ℕ). HasNoBytes (e (section_key p s))) (sym sounds.values_here) (subst HasNoBytes (sym alone) was)

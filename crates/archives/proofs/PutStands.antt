@@ -224,7 +224,7 @@ module _ {F S : Type 0} {gs : _} (a : Archive F (PageBlob S gs)) (index sec : �
             in_section = λ s small. elim (other_or_same sec s) [
               | inl same ↦ subst (λ (u : ℕ). AllByRecursion (λ e. section_of a.items (index_of e.stored) ≡ u) (wanted u)) (sym same)
                   (subst (AllByRecursion (λ e. section_of a.items (index_of e.stored) ≡ sec)) (sym wanted_here)
-                  (all_push (λ e. section_of a.items (index_of e.stored) ≡ sec) (list_of a.pair d sec) new_entry (in_section a d (archive.listed t) sec (archive.in_section sec))
+                  (all_push (λ e. section_of a.items (index_of e.stored) ≡ sec) (list_of a.pair d sec) new_entry (in_section a d (archive.listed t) sec (archive.within.in_section sec))
                   (ap (section_of a.items) (index_of-index_record index key (glob.section_size a.pair.values sec) n asked.small) ∙ sym here)))
               | inr other ↦ subst (AllByRecursion (λ e. section_of a.items (index_of e.stored) ≡ s)) (sym (wanted_other s other)) (old.in_section s small)
             ];
@@ -245,7 +245,7 @@ module _ {F S : Type 0} {gs : _} (a : Archive F (PageBlob S gs)) (index sec : �
             ];
             few_sections = few_sections_now a.most_sections a.most_records (list_of a.pair d) wanted sec new_entry wanted_here wanted_other one (λ s. s < 2 ^ 64) (room_lists room) old.few_sections;
             few_records = λ s small. few_now a.most_sections a.most_records (list_of a.pair d) wanted sec new_entry wanted_here wanted_other one (room_lists room)
-                (λ u. omega (arith, length_rows a d (archive.listed t) u, archive.few_records u)) s;
+                (λ u. omega (arith, length_rows a d (archive.listed t) u, archive.within.few_records u)) s;
           }
 
       -- At a moment at which each crash leaves of the pair's lists a prefix, the record included, it leaves what stands for the state with the put under way.

@@ -9,6 +9,7 @@ use Rattle.blob_device.proofs.Moments.{always_now, always_start, always_then, al
 use Rattle.meta_store.specs.Blobs.{blob_of}
 use Rattle.meta_store.specs.Store.{Store}
 use Rattle.meta_store.specs.declared.error.Error.TheVariants as metadata
+use Rattle.value_codec.specs.declared.codec.Error as codec
 use Rattle.value_codec.specs.declared.key.Key8.{Key8}
 use Rattle.sealed_pages.specs.declared.page_blob.PageBlob.{PageBlob}
 use Rattle.segments.specs.Sections.{section_key}
@@ -46,24 +47,19 @@ stands_as f was now one other same fewer stays d leaves image crash no_chance =
       ];
     }
 
--- the same way of filing, where what the types say is the same
-pub one_filing : (f g : Filing) → IsSameFiling f g → g.layout.record_size ≡ f.layout.record_size → g.layout.seal ≡ f.layout.seal → g.layout.place ≡ f.layout.place → g.layout.markers ≡ f.layout.markers → g ≡ f
-one_filing f g same record_size seal place markers = λ i. record {
-  layout = record {
-    index = same.layout.index i;
-    values = same.layout.values i;
-    metadata = same.layout.metadata i;
-    page_size = same.layout.page_size i;
-    record_size = record_size i;
-    seal = seal i;
-    place = place i;
-    markers = markers i;
-  };
-  items = same.items i;
-  key_size = same.key_size i;
-  refusal = λ bytes. same.refusal bytes i;
-  most_sections = same.most_sections i;
-  most_records = same.most_records i;
+-- a pair that is stored the same, with a codec that refuses the same, is filed the same
+pub same_filing : (f : Filing) (l : Layout) (refusal : List ℕ → Option codec.Error) → IsSameLayout f.layout l → l.record_size ≡ f.layout.record_size → ((bytes : List ℕ) → l.seal bytes ≡ f.layout.seal bytes)
+    → ((bytes : List ℕ) → l.place bytes ≡ f.layout.place bytes) → ((bytes : List ℕ) → refusal bytes ≡ f.refusal bytes) → IsSameFiling f (record f { layout = l; refusal = refusal })
+same_filing f l refusal layout record_size seal place same = record {
+  layout = layout;
+  record_size = record_size;
+  seal = seal;
+  place = place;
+  items = refl;
+  key_size = refl;
+  refusal = same;
+  most_sections = refl;
+  most_records = refl;
 }
 
 pub filing_then : (f g h : Filing) → IsSameFiling f g → IsSameFiling g h → IsSameFiling f h
@@ -74,6 +70,9 @@ filing_then f g h one two = record {
     metadata = two.layout.metadata ∙ one.layout.metadata;
     page_size = two.layout.page_size ∙ one.layout.page_size;
   };
+  record_size = two.record_size ∙ one.record_size;
+  seal = λ bytes. two.seal bytes ∙ one.seal bytes;
+  place = λ bytes. two.place bytes ∙ one.place bytes;
   items = two.items ∙ one.items;
   key_size = two.key_size ∙ one.key_size;
   refusal = λ bytes. two.refusal bytes ∙ one.refusal bytes;

@@ -48,9 +48,7 @@ archive_read a archive new e pair same = record {
   listed = λ t s. archive.listed t s ∙ ap (λ (x : Disk). map (row_in a.key_size) (records_of a.pair x s)) (sym (same t));
   spelled = λ t s. subst (λ (x : Disk). AllByRecursion (IsSpelled a.key_size) (records_of a.pair x s)) (sym (same t)) (archive.spelled t s);
   filled = archive.filled;
-  in_section = archive.in_section;
-  few_sections = archive.few_sections;
-  few_records = archive.few_records;
+  within = archive.within;
   unwritten = archive.unwritten;
   written = archive.written;
 }

@@ -1,5 +1,5 @@
 -- What stands for a state still does where it keeps just what a crash before would have kept.
-use Rattle.std.proofs.Common.{◌≡◌, ◌≢◌, ◌⊎◌, inl, inr, refl, sym, ◌∙◌, ap, subst, ℕ, ◌<◌, ◌≤◌, ◌^◌, List, [], length, take, map, Option, None, Some, arith}
+use Rattle.std.proofs.Common.{◌≡◌, ◌≢◌, ◌⊎◌, inl, inr, sym, ◌∙◌, ap, subst, ℕ, ◌<◌, ◌^◌, List, [], length, take, map, Option, None, arith}
 use Rattle.std.specs.List.{AllByRecursion}
 use Rattle.blob_device.specs.Disk.{Image, Disk}
 use Rattle.paired.specs.Kept.{Markers, stored_records}

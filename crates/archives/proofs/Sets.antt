@@ -11,7 +11,7 @@ use Rattle.archives.specs.Machine.{Entry, State, section_of, has_index, appended
 
 -- ---- one element after another
 
-first_or_rest : {X : Type 0} (x : X) (xs : List X) (y : X) → Contains (x ∷ xs) y → (y ≡ x) ⊎ Contains xs y
+pub first_or_rest : {X : Type 0} (x : X) (xs : List X) (y : X) → Contains (x ∷ xs) y → (y ≡ x) ⊎ Contains xs y
 first_or_rest x xs y (zero, within, e) = inl (sym e)
 first_or_rest x xs y (suc k, within, e) = inr (k, omega arith, e)
 

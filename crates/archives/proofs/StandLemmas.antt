@@ -1,23 +1,23 @@
 -- What an image of a pair stands for, where the pair's lists are filed as an archive files them.
-use Rattle.std.proofs.Common.{◌≡◌, ◌≢◌, ◌⊎◌, inl, inr, refl, sym, ◌∙◌, ap, subst, ℕ, zero, suc, ◌<◌, ◌≤◌, ◌^◌, min, List, [], ◌∷◌, length, take, map, Option, None, Some, arith}
+use Rattle.std.proofs.Common.{◌≡◌, ◌≢◌, inl, inr, refl, sym, ◌∙◌, ap, subst, ℕ, zero, suc, ◌<◌, ◌≤◌, ◌^◌, List, [], ◌∷◌, length, take, map, Option, None, arith}
 use Rattle.std.specs.List.{AllByRecursion}
 use Rattle.std.specs.List.Sorted.{IsStrictlySortedBy}
 use Rattle.std.specs.Ordering.{nat_cmp}
 use Rattle.std.proofs.lemmas.List.{length-map, length-take, take-map}
-use Rattle.blob_device.specs.Disk.{Image, Disk}
+use Rattle.blob_device.specs.Disk.{Image}
 use Rattle.paired.specs.Crashes.{Keeps}
-use Rattle.paired.specs.Kept.{Markers, marker_of, stored_records}
-use Rattle.paired.specs.Opening.{AreNamed, IsInPlace, IsLawful, KeepsAs, Recalls}
+use Rattle.paired.specs.Kept.{Markers, stored_records}
+use Rattle.paired.specs.Opening.{AreNamed, IsInPlace}
 use Rattle.paired.specs.Places.{Follow, end_of}
 use Rattle.paired.specs.Records as pair
 use Rattle.paired.proofs.OpeningEnds.{follow_first}
 use Rattle.paired.proofs.RecordLemmas.{all_take, all_by}
-use Rattle.archives.specs.Commands.{Command, Reopen}
-use Rattle.archives.specs.Filing.{Filing, filed, kept, kept_entries}
+use Rattle.archives.specs.Commands.{Command}
+use Rattle.archives.specs.Filing.{Filing, filed, kept_entries}
 use Rattle.archives.specs.IndexRecord.{index_of}
 use Rattle.archives.specs.Lawful.{Lawful}
-use Rattle.archives.specs.Machine.{Entry, State, section_of}
-use Rattle.archives.specs.Standing.{StandsFor, IsPrefix, IsGoing, Leaves, submitted}
+use Rattle.archives.specs.Machine.{State, section_of}
+use Rattle.archives.specs.Standing.{StandsFor, submitted}
 
 stored_of : pair.Entry → List ℕ
 stored_of e = e.stored

@@ -146,9 +146,7 @@ module _ {F S : Type 0} {gs : _} (a : Archive F (PageBlob S gs)) where
         listed = λ t s. archive.listed t s ∙ ap (map (row_in a.key_size)) (sym (records_same a.pair p d e s (lists t s)));
         spelled = λ t s. subst (AllByRecursion (IsSpelled a.key_size)) (sym (records_same a.pair p d e s (lists t s))) (archive.spelled t s);
         filled = archive.filled;
-        in_section = archive.in_section;
-        few_sections = archive.few_sections;
-        few_records = archive.few_records;
+        within = archive.within;
         unwritten = λ s _. all_synced s;
         written = λ s is. absurd (not_true (is_written s) (none s) is);
       }
@@ -176,12 +174,6 @@ module _ {F S : Type 0} {gs : _} (a : Archive F (PageBlob S gs)) where
             | inr some ↦ absurd (cc (none, (sync.values_held s).1 (subst IsSome (sym some.1) refl)))
           ]
 
-          still_bare : (s : ℕ) → p.index.sections.held s ≡ None → a.pair.index.sections.held s ≡ None
-          still_bare s none = elim (none_or_value (a.pair.index.sections.held s)) [
-            | inl was ↦ was
-            | inr some ↦ absurd (cc (none, (sync.held s).1 (subst IsSome (sym some.1) refl)))
-          ]
-
           module _ (others : (q : Key) → (IsOwn a.pair.layout (λ s. IsNamed s × IsHeld a.pair.index.sections s) q → ⊥) → e q ≡ d q) (written : (s : ℕ) → IsNamed s → IsHeld a.pair.values s) where
             -- a section's values that are not held are none of the blobs that change
             not_touched : (s : ℕ) → s < 2 ^ 64 → a.pair.values.held s ≡ None → IsOwn a.pair.layout (λ s. IsNamed s × IsHeld a.pair.index.sections s) (section_key a.pair.layout.values s) → ⊥
@@ -196,9 +188,9 @@ module _ {F S : Type 0} {gs : _} (a : Archive F (PageBlob S gs)) where
               pair = pair_sound;
               decoded = λ s. subst (AllByRecursion (λ x. refusal x.value ≡ None)) (sym (lists s)) (all_by (λ x. a.refusal x.value ≡ None) (λ x. refusal x.value ≡ None) (λ x is. refuses x.value ∙ is) (list_of a.pair d s) (sound.decoded s));
               counted = λ s. omega (arith, sound.counted s, size_same s);
-              absent = λ s small bare none.
+              absent = λ s small none.
                   (let was = still_unheld s none in
-                  let blob : HasNoBytes (e (section_key a.pair.layout.values s)) = subst HasNoBytes (sym (others (section_key a.pair.layout.values s) (not_touched s small was))) (sound.absent s small (still_bare s bare) was) in
+                  let blob : HasNoBytes (e (section_key a.pair.layout.values s)) = subst HasNoBytes (sym (others (section_key a.pair.layout.values s) (not_touched s small was))) (sound.absent s small was) in
                   subst (λ (l : Layout). HasNoBytes (e (section_key l.values s))) (sym layout) blob);
               names = subst (λ (l : Layout). LeavesNoForeign l e) (sym layout) (no_foreign a.pair.layout archive.pair.apart (λ s. IsNamed s × IsHeld a.pair.index.sections s) d e others sound.names);
             }

@@ -1,8 +1,6 @@
 -- What a prunable archive means: a state of the record machine. When it may be used.
 use Rattle.std.specs.Prelude.{◌≡◌, ◌≢◌, ℕ, ◌<◌, ◌≤◌, ◌^◌, Bool, true, false, List, [], length, map, Option, None, Some, IsTrue}
 use Rattle.std.specs.List.{AllByRecursion}
-use Rattle.std.specs.List.Sorted.{IsStrictlySortedBy}
-use Rattle.std.specs.Ordering.{nat_cmp}
 use Rattle.blob_device.specs.Disk.{Disk, MayLeave}
 use Rattle.blob_device.specs.Opened.{OpenedList}
 use Rattle.value_codec.specs.declared.codec.Error as codec
@@ -17,8 +15,8 @@ use Rattle.segments.specs.Sections.{section_key}
 use Rattle.paired.specs.Pair.{HasNoBytes, Pair, IsPair, IsSoundOn, length_of, list_of, records_of, synced_length}
 use Rattle.archives.specs.Filing.{Filing, filed}
 use Rattle.archives.specs.IndexRecord.{IsSpelled}
-use Rattle.archives.specs.Machine.{State, section_of}
-use Rattle.archives.specs.Rows.{Row, row_in}
+use Rattle.archives.specs.Machine.{State}
+use Rattle.archives.specs.Rows.{AreWithin, Row, row_in}
 
 -- What an archive shows: its pair; how many indices a section has room for, how many bytes a key has, and why the codec refuses a
 -- spelling; the limits; the floor, below which all was pruned; of each section a row for each record, by position;
@@ -63,12 +61,12 @@ module _ {F S : Type 0} {gs : _} (a : Archive F (PageBlob S gs)) where
     }
 
     -- The pair is sound; each value is a spelling that the codec accepts; a u64 counts the bytes of each section's values; and no crash leaves
-    -- values of a section of which nothing is held, or a foreign name. So it is of an archive that was opened over a lawful image.
+    -- values of a section of which none are held, or a foreign name. So it is of an archive that was opened over a lawful image.
     pub record IsSoundArchive : Type 0 where
       pub pair : IsSoundOn a.pair d
       pub decoded : (s : ℕ) → AllByRecursion (λ e. a.refusal e.value ≡ None) (list_of a.pair d s)
       pub counted : (s : ℕ) → glob.section_size a.pair.values s < 2 ^ 64
-      pub absent : (s : ℕ) → s < 2 ^ 64 → a.pair.index.sections.held s ≡ None → a.pair.values.held s ≡ None → HasNoBytes (d (section_key a.pair.layout.values s))
+      pub absent : (s : ℕ) → s < 2 ^ 64 → a.pair.values.held s ≡ None → HasNoBytes (d (section_key a.pair.layout.values s))
       pub names : LeavesNoForeign a.pair.layout d
 
   -- The archive may be used: its pair may; the rows are those of the records, each of them spelled, and in its section, and no more than the
@@ -82,8 +80,6 @@ module _ {F S : Type 0} {gs : _} (a : Archive F (PageBlob S gs)) where
     pub listed : told → (s : ℕ) → a.rows s ≡ map (row_in a.key_size) (records_of a.pair d s)
     pub spelled : told → (s : ℕ) → AllByRecursion (IsSpelled a.key_size) (records_of a.pair d s)
     pub filled : a.Filled
-    pub in_section : (s : ℕ) → AllByRecursion (λ r. section_of a.items r.index ≡ s) (a.rows s)
-    pub few_sections : (ss : List ℕ) → IsStrictlySortedBy nat_cmp ss → AllByRecursion (λ s. a.rows s ≢ []) ss → length ss ≤ a.most_sections
-    pub few_records : (s : ℕ) → length (a.rows s) ≤ a.most_records
+    pub within : AreWithin a.items a.most_sections a.most_records a.rows
     pub unwritten : (s : ℕ) → a.is_written s ≡ false → synced_length a.pair s ≡ length_of a.pair s
     pub written : (s : ℕ) → IsTrue (a.is_written s) → a.rows s ≢ []

@@ -18,9 +18,13 @@ pub record Filing : Type 1 where
   pub most_sections : ℕ
   pub most_records : ℕ
 
--- the same partitions, pages, items, keys, codec and limits
+-- The same partitions, pages, records, items, keys, codec and limits. Two that are the same, and whose markers are stored the same way, as those of
+-- archives of one type are, are equal (`FilingLaws`).
 pub record IsSameFiling (f g : Filing) : Type 0 where
   pub layout : IsSameLayout f.layout g.layout
+  pub record_size : g.layout.record_size ≡ f.layout.record_size
+  pub seal : (bytes : List ℕ) → g.layout.seal bytes ≡ f.layout.seal bytes
+  pub place : (bytes : List ℕ) → g.layout.place bytes ≡ f.layout.place bytes
   pub items : g.items ≡ f.items
   pub key_size : g.key_size ≡ f.key_size
   pub refusal : (bytes : List ℕ) → g.refusal bytes ≡ f.refusal bytes

@@ -17,10 +17,15 @@ abbrev pub wanted_of : {K : Type 0} → (K → List ℕ) → Identifier K → Wa
 wanted_of key_bytes (identifier.Index i) = Index i
 wanted_of key_bytes (identifier.Key k) = Key (key_bytes k.now)
 
--- The row of a record of section s that is wanted. One by its index is looked for in the index's section alone.
+-- The row of a record of section s that a lookup has to look at: one that has the index, or a key with the word of the wanted one. One by its
+-- index is looked for in the index's section alone.
+abbrev pub IsCandidate : {W : Type 0} → (List ℕ → W) → ℕ → Wanted → ℕ → Row → Type 0
+IsCandidate word items (Index i) s r = (s ≡ section_of items i) × (r.index ≡ i)
+IsCandidate word items (Key k) s r = word r.key ≡ word k
+
+-- the row of one that is wanted: the same, by whole keys in place of words
 abbrev pub IsWanted : ℕ → Wanted → ℕ → Row → Type 0
-IsWanted items (Index i) s r = (s ≡ section_of items i) × (r.index ≡ i)
-IsWanted items (Key k) s r = r.key ≡ k
+IsWanted = IsCandidate (λ key. key)
 
 -- the commands that ask for its value, and whether it is there
 abbrev pub get_command : Wanted → Command (List ℕ)
@@ -44,11 +49,6 @@ module _ {F B : Type 0} (a : Archive F B) (wanted : Wanted) where
   pub record IsFirst (s p : ℕ) : Type 0 where
     pub here : IsAt s p
     pub first : (q : ℕ) → q < p → IsAt s q → ⊥
-
--- the row of a record of section s that a lookup has to look at: one that has the index, or a key with the word of the wanted one
-abbrev pub IsCandidate : {W : Type 0} → (List ℕ → W) → ℕ → Wanted → ℕ → Row → Type 0
-IsCandidate word items (Index i) s r = (s ≡ section_of items i) × (r.index ≡ i)
-IsCandidate word items (Key k) s r = word r.key ≡ word k
 
 -- record p of section s is one of these
 abbrev pub IsNear : {W F B : Type 0} → (List ℕ → W) → Archive F B → Wanted → ℕ → ℕ → Type 0

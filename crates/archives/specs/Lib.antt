@@ -12,6 +12,7 @@ pub mod IndexRecord
 pub mod IndexRecordLaws
 pub mod Rows
 pub mod Filing
+pub mod FilingLaws
 pub mod Lawful
 pub mod Standing
 pub mod Archives

@@ -164,8 +164,15 @@ Run items old (command ∷ commands) [] new = ⊥
 -- a command whose key is seen as its bytes, and its value as spelled
 abbrev pub asked : {K V W : Type 0} → (K → List ℕ) → (V → W) → asking.Command K V → Command W
 asked key_bytes spelled (ask.Put index key value) = Put index (key_bytes key) (spelled value)
+asked key_bytes spelled (ask.PutSync index key value) = PutSync index (key_bytes key) (spelled value)
+asked key_bytes spelled (ask.PutStart index key value) = PutStart index (key_bytes key) (spelled value)
 asked key_bytes spelled (ask.Get index) = Get index
+asked key_bytes spelled (ask.GetKey key) = GetKey (key_bytes key)
 asked key_bytes spelled (ask.Has index) = Has index
+asked key_bytes spelled (ask.HasKey key) = HasKey (key_bytes key)
+asked key_bytes spelled ask.Sync = Sync
+asked key_bytes spelled ask.Start = Start
+asked key_bytes spelled ask.Reopen = Reopen
 
 -- a reply whose value is seen as spelled
 abbrev pub replied : {V W : Type 0} → (V → W) → answering.Reply V → Reply W

@@ -19,8 +19,8 @@ use Rattle.segments.specs.declared.journal.Damage.{Damage}
 use Rattle.segments.specs.declared.journal.Error.TheVariants as journal
 use Rattle.sealed_pages.specs.declared.page_blob.PageBlob.{PageBlob}
 use Rattle.paired.specs.Crashes.{NoChanceSeal}
-use Rattle.paired.specs.Kept.{Layout, Markers, IsMarked, marker_of}
-use Rattle.paired.specs.Opening.{HoldMarkers, IsLawful, as_read}
+use Rattle.paired.specs.Kept.{Layout, Markers, IsMarked, marker_of, stored_records}
+use Rattle.paired.specs.Opening.{HoldMarkers, as_read}
 use Rattle.paired.specs.OpeningRefusing.{IsLost}
 use Rattle.paired.specs.Records as stored
 use Rattle.paired.specs.Replaying.{Run, IsDue, records_given}
@@ -33,21 +33,15 @@ use Rattle.archives.specs.Rows.{Row, row_in}
 use Rattle.archives.specs.declared.error.Error.{Error}
 use Rattle.archives.specs.declared.error.Error.TheVariants.{Journal, Metadata, RecordCorrupted, Full}
 
--- each row lies in its section, and the limits are kept
-pub record AreWithin (items sections per_section : ℕ) (rows : ℕ → List Row) : Type 0 where
-  pub in_section : (s : ℕ) → AllByRecursion (λ r. section_of items r.index ≡ s) (rows s)
-  pub few_sections : (ss : List ℕ) → IsStrictlySortedBy nat_cmp ss → AllByRecursion (λ s. rows s ≢ []) ss → length ss ≤ sections
-  pub few_records : (s : ℕ) → length (rows s) ≤ per_section
-
 module _ {F S : Type 0} {gs : _} (key_size : ℕ) (rows : ℕ → List Row) (run : Run F (PageBlob S gs)) (d : Disk) where
   -- Of each section the first records that the replay gives are entered, and the others are still to be given.
   pub record HasEntered : Type 0 where
     pub listed : (s : ℕ) → rows s ≡ map (row_in key_size) (take (length (rows s)) (records_given run d s))
     pub due : (s p : ℕ) → IsDue run d s p ↔ ((length (rows s) ≤ p) × (p < length (records_given run d s)))
 
--- What the image keeps, with the markers that it holds, has this.
+-- The image holds markers, and what it keeps with them has this.
 abbrev pub OfKept : Filing → Image → ((ℕ → List stored.Entry) → Type 0) → Type 0
-OfKept f image P = (markers : Markers) → HoldMarkers f.layout image markers → P (kept_entries f image markers)
+OfKept f image P = (markers : Markers) × HoldMarkers f.layout image markers × P (kept_entries f image markers)
 
 -- a record lies in another section than its index
 abbrev pub HasStray : ℕ → (ℕ → List stored.Entry) → Type 0
@@ -80,21 +74,19 @@ module _ {T : Type 0} (result : Result T Error) where
     pub corrupt : (side : Side) → IsErrOf result (Metadata (metadata.Corruption side)) → PairOn f.layout.markers f.layout.metadata from (Err side)
     pub named : (n : List ℕ) → IsErrOf result (Journal (journal.InvalidBlobName n)) → IsForeign from f.layout.index n ⊎ IsForeign from f.layout.values n
     -- A marker is lost, or the whole records of its section's sealed prefix are fewer than it says.
-    pub damage : (x : Damage) → IsErrOf result (Journal (journal.Corruption x))
-        → ((markers : Markers) → HoldMarkers f.layout (as_read from) markers → IsLost f.layout (IsMarked markers) from x)
-        ⊎ ((markers : Markers) × HoldMarkers f.layout (as_read from) markers × ((m : ℕ) × IsMarked markers x.section m × (x.wanted ≡ m * f.layout.record_size) × (x.kept < x.wanted)))
+    pub damage : (x : Damage) → IsErrOf result (Journal (journal.Corruption x)) → (markers : Markers) × HoldMarkers f.layout (as_read from) markers
+        × (IsLost f.layout (IsMarked markers) from x ⊎ ((m : ℕ) × IsMarked markers x.section m × (x.wanted ≡ m * f.layout.record_size)
+        × (x.kept ≡ length (stored_records f.layout (as_read from) x.section) * f.layout.record_size) × (x.kept < x.wanted)))
     -- No matching slot covers the page as far as a record goes that a marker counts.
     pub damaged : (k : ℕ) → IsErrOf result (Journal (journal.Runtime (runtime.InvalidChecksum k)))
         → (markers : Markers) × HoldMarkers f.layout (as_read from) markers
         × ((s m p : ℕ) × IsMarked markers s m × (p < m) × IsShort f.layout.seal f.layout.page_size (to (section_key f.layout.index s)).content (p * f.layout.record_size) f.layout.record_size k)
     pub start : (n : ℕ) → IsErrOf result (Journal (journal.ItemOutOfRange n)) → ⊥
     pub spelled : (e : codec.Error) → IsErrOf result (Journal (journal.Codec e)) → ⊥
-    -- The image keeps a record in another section than its index, or more than the limits allow; or a marker moves, and there is no next version. It
-    -- is said of images whose markers and places are in order.
-    pub stray : IsErrOf result RecordCorrupted → (markers : Markers) × HoldMarkers f.layout (as_read from) markers × (IsLawful f.layout (as_read from) markers → HasStray f.items (kept_entries f (as_read from) markers))
-    pub full : IsErrOf result Full → (markers : Markers) × HoldMarkers f.layout (as_read from) markers
-        × ((IsLawful f.layout (as_read from) markers → IsOver f.most_sections f.most_records (kept_entries f (as_read from) markers))
-        ⊎ (HasNoVersion f.layout from × ((s : ℕ) × (s < 2 ^ 64) × (marker_of markers s ≢ length (kept_entries f (as_read from) markers s)))))
+    -- The image keeps a record in another section than its index, or more than the limits allow; or a marker moves, and there is no next version.
+    pub stray : IsErrOf result RecordCorrupted → OfKept f (as_read from) (HasStray f.items)
+    pub full : IsErrOf result Full → OfKept f (as_read from) (IsOver f.most_sections f.most_records)
+        ⊎ (HasNoVersion f.layout from × ((markers : Markers) × HoldMarkers f.layout (as_read from) markers × ((s : ℕ) × (s < 2 ^ 64) × (marker_of markers s ≢ length (kept_entries f (as_read from) markers s)))))
 
 -- each image that a crash leaves without a chance seal is lawful
 abbrev pub LeavesLawful : Filing → Disk → Type 0

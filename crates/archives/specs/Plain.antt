@@ -1,5 +1,5 @@
 -- The state that a plain list of records stands for.
-use Rattle.std.specs.Prelude.{ℕ, true, ◌==◌, List, filter, find, map, Option}
+use Rattle.std.specs.Prelude.{ℕ, Bool, true, ◌==◌, List, filter, find, length, map, Option}
 use Rattle.std.specs.Option.{option_map}
 use Rattle.archives.specs.declared.plain.Item.{Item}
 use Rattle.archives.specs.declared.plain.Machine.{Machine}
@@ -9,12 +9,12 @@ module _ {K V : Type 0} (key_bytes : K → List ℕ) where
   abbrev pub entry_of : Item K V → Entry V
   entry_of r = record { index = r.index; key = key_bytes r.key; value = r.value }
 
-  -- open; each section has its records in the order in which they were put; nothing is synced
+  -- open; each section has its records in the order in which they were put, and synced is what was there at the last sync
   abbrev pub state_with : ℕ → List (Item K V) → State V
   state_with items all = record {
     is_open = true;
     lists = λ s. map entry_of (filter (λ r. s == section_of items r.index) all);
-    synced = λ s. 0;
+    synced = λ s. length (filter (λ r. r.is_synced) (filter (λ r. s == section_of items r.index) all));
     floor = 0;
   }
 
@@ -24,3 +24,7 @@ module _ {K V : Type 0} (key_bytes : K → List ℕ) where
 -- the value of the first record with this index, if any
 abbrev pub first_at : {K V : Type 0} → ℕ → List (Item K V) → Option V
 first_at index all = option_map (λ r. r.value) (find (λ r. r.index == index) all)
+
+-- the value of the first record with this key, if any
+abbrev pub first_under : {K V : Type 0} → (K → Bool) → List (Item K V) → Option V
+first_under is_it all = option_map (λ r. r.value) (find (λ r. is_it r.key) all)

@@ -1,14 +1,16 @@
 -- What a put asks of an archive before it writes.
-use Rattle.std.specs.Prelude.{◌≡◌, ◌⊎◌, ℕ, ◌+◌, ◌-◌, ◌^◌, ◌<◌, ◌≤◌, Bool, false, ◌==◌, IsTrue, IsSomeAnd}
+use Rattle.std.specs.Prelude.{◌≡◌, ◌⊎◌, ℕ, ◌+◌, ◌-◌, ◌*◌, ◌^◌, ◌<◌, ◌≤◌, Bool, false, ◌==◌, IsTrue, IsSomeAnd, List, length, sum_by}
 use Rattle.std.specs.List.{list_any}
 use Rattle.sealed_pages.specs.declared.page_blob.PageBlob.{PageBlob}
 use Rattle.sealed_pages.specs.Buffer.{extent, size_of}
 use Rattle.sealed_pages.specs.Shown as page_blob
 use Rattle.segments.specs.Sections.{IsHeld}
 use Rattle.segments.specs.Unsealed.{count_of}
+use Rattle.paired.specs.Frames.{frame}
 use Rattle.paired.specs.Pair as pair
 use Rattle.archives.specs.Archives.{Archive}
-use Rattle.archives.specs.Machine.{section_of}
+use Rattle.archives.specs.Filing.{Filing}
+use Rattle.archives.specs.Machine.{State, section_of}
 use Rattle.archives.specs.Rows.{HasRoom}
 
 module _ {F S : Type 0} {gs : _} (a : Archive F (PageBlob S gs)) (index : ℕ) where
@@ -47,3 +49,9 @@ module _ {F S : Type 0} {gs : _} (a : Archive F (PageBlob S gs)) (index : ℕ) w
   -- then a sync moves a marker
   abbrev pub IsMovingAfter : Type 0
   IsMovingAfter = (s : ℕ) × pair.IsMoving a.pair IsWrittenAfter IsWrittenAfter s
+
+-- In a state of the machine: the records of the index's section, with both slots of their last page, or the frames of its values, would
+-- pass 2^64 with one record more, whose frame has n bytes.
+abbrev pub WouldPass : Filing → State (List ℕ) → ℕ → ℕ → Type 0
+WouldPass f st index n = (2 ^ 64 ≤ extent f.layout.page_size ((length (st.lists (section_of f.items index)) + 1) * f.layout.record_size))
+    ⊎ (2 ^ 64 ≤ sum_by (λ r. length (frame f.layout.seal r.value)) (st.lists (section_of f.items index)) + n)

@@ -24,3 +24,7 @@ module _ {T : Type 0} (result : Result T Error) where
   -- a blob leaves no room for what a buffer needs behind it
   abbrev pub HasNoRoom : Type 0
   HasNoRoom = IsErrOf result (Journal (journal.Runtime OffsetOverflow))
+
+  -- the device failed, in a call of the records or values, or of the markers
+  abbrev pub IsFault : Type 0
+  IsFault = IsErrOf result (Journal (journal.Runtime Fault)) ⊎ IsErrOf result (Metadata (metadata.Runtime Fault))

@@ -1,5 +1,5 @@
 -- What an archive holds in memory of its records: a row for each, by section and position.
-use Rattle.std.specs.Prelude.{◌≡◌, ◌≢◌, ◌⊎◌, ℕ, ◌<◌, List, [], length, map, Option, None, Some, IsSomeAnd}
+use Rattle.std.specs.Prelude.{◌≡◌, ◌≢◌, ◌⊎◌, ℕ, ◌<◌, ◌≤◌, List, [], length, map, Option, None, Some, IsSomeAnd}
 use Rattle.std.specs.List.{AllByRecursion}
 use Rattle.std.specs.List.Sorted.{IsStrictlySortedBy}
 use Rattle.std.specs.Global.{Vec}
@@ -7,6 +7,7 @@ use Rattle.std.specs.Ordering.{nat_cmp}
 use Rattle.std.specs.BTreeMap.{get}
 use Rattle.std.specs.Vec.{vec_len, vec_capacity}
 use Rattle.archives.specs.IndexRecord.{index_of, key_of}
+use Rattle.archives.specs.Machine.{section_of}
 use Rattle.archives.specs.declared.prunable.tables.Entry.{Entry}
 use Rattle.archives.specs.declared.prunable.tables.Tables.{Tables}
 
@@ -34,14 +35,20 @@ module _ {K : Type 0} (key_bytes : K → List ℕ) where
 abbrev pub AreFilledBut : {K : Type 0} → (ℕ → Type 0) → Tables K → Type 0
 AreFilledBut {K} P t = (s : ℕ) (table : Vec (Entry K)) → get nat_cmp t.tables s ≡ Some table → (P s → ⊥) → table.items ≢ []
 
--- fewer sections than n have rows
-abbrev pub FewerThan : ℕ → (ℕ → List Row) → Type 0
-FewerThan n rows = (ss : List ℕ) → IsStrictlySortedBy nat_cmp ss → AllByRecursion (λ s. rows s ≢ []) ss → length ss < n
+-- of these lists, by section, fewer than n have elements
+abbrev pub FewerThan : {X : Type 0} → ℕ → (ℕ → List X) → Type 0
+FewerThan n lists = (ss : List ℕ) → IsStrictlySortedBy nat_cmp ss → AllByRecursion (λ s. lists s ≢ []) ss → length ss < n
 
--- At most so many sections with rows, and so many rows in each, may be had; one more row fits into the section.
-abbrev pub HasRoom : ℕ → ℕ → (ℕ → List Row) → ℕ → Type 0
-HasRoom sections per_section rows s = ((rows s ≢ []) × (length (rows s) < per_section)) ⊎ ((rows s ≡ []) × FewerThan sections rows)
+-- At most so many lists with elements, and so many elements in each, may be had; one more element fits into the list of the section.
+abbrev pub HasRoom : {X : Type 0} → ℕ → ℕ → (ℕ → List X) → ℕ → Type 0
+HasRoom sections per_section lists s = ((lists s ≢ []) × (length (lists s) < per_section)) ⊎ ((lists s ≡ []) × FewerThan sections lists)
 
 -- the section has a table, and one record more fits into it without memory
 abbrev pub HasSpare : {K : Type 0} → Tables K → ℕ → Type 0
 HasSpare t s = IsSomeAnd (get nat_cmp t.tables s) (λ table. vec_len table < vec_capacity table)
+
+-- each row lies in its section, and the limits are kept
+pub record AreWithin (items sections per_section : ℕ) (rows : ℕ → List Row) : Type 0 where
+  pub in_section : (s : ℕ) → AllByRecursion (λ r. section_of items r.index ≡ s) (rows s)
+  pub few_sections : (ss : List ℕ) → IsStrictlySortedBy nat_cmp ss → AllByRecursion (λ s. rows s ≢ []) ss → length ss ≤ sections
+  pub few_records : (s : ℕ) → length (rows s) ≤ per_section

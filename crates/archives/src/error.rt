@@ -3,9 +3,6 @@ ghost use Rattle.std.specs.Prelude.{◌≡◌};
 ghost use Rattle.archives.specs.declared.error.Error.TheVariants.{Mem};
 ghost use Rattle.archives.specs.Raised.{raised, raised_metadata};
 
-#[cfg(test)]
-mod tests;
-
 use segments::journal;
 use std::alloc::{AllocError, AllocFailed};
 
@@ -21,7 +18,8 @@ pub enum Error {
     /// A record is stored in a section that is not its index's.
     #[error("record-corrupted")]
     RecordCorrupted,
-    /// A limit would be passed, or a number would pass its type. A put that answers it wrote nothing.
+    /// A limit would be passed, or a number would pass its type. A put that answers it wrote nothing; one that also syncs, and a sync, may answer it once all has
+    /// settled, where the markers have no next version.
     #[error("full")]
     Full,
     /// There was no memory. It may come at any growth.

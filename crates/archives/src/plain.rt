@@ -1,11 +1,11 @@
 //! The machine of records on one plain list, in the order in which the records were put. It is slow, since each command
-//! scans the list, and made to be read beside the definitions. It serves until the archive on the device takes its place.
+//! scans the list, and made to be read beside the definitions: the archive on the device is compared with it.
 ghost use Rattle.std.specs.Prelude.{◌≡◌, ℕ, ◌==◌, [], IfOk, OnErr, OnOk};
 ghost use Rattle.std.specs.Option.{option_copied};
 ghost use Rattle.std.specs.Result.{IsOkUnless};
 ghost use Rattle.std.specs.List.{list_any};
-ghost use Rattle.archives.specs.Machine.{Step, after_put, asked, empty_state, entries_at, first_value, has_index, replied};
-ghost use Rattle.archives.specs.Plain.{first_at, state_of};
+ghost use Rattle.archives.specs.Machine.{Step, after_put, after_sync, asked, empty_state, entries_at, first_value, has_index, replied};
+ghost use Rattle.archives.specs.Plain.{first_at, first_under, state_of};
 
 use crate::{Command, Error, Reply};
 use std::alloc::Global;
@@ -17,6 +17,7 @@ pub struct Item<K, V> {
     index: u64,
     key: K,
     value: V,
+    is_synced: bool,
 }
 
 /// A machine of records with nothing pruned.
@@ -35,6 +36,13 @@ fn value_at<K, V>(items: &[Item<K, V>], index: u64) -> Option<&V>
     ensures { option_copied result ≡ first_at index items.now }
 {
     let item = items.iter().find(|r| r.index == index)?;
+    Some(&item.value)
+}
+
+fn value_under<'a, K: Key, V>(items: &'a [Item<K, V>], key: &K) -> Option<&'a V>
+    ensures { option_copied result ≡ first_under (λ k. K.eq k key.now) items.now }
+{
+    let item = items.iter().find(|r| r.key == *key)?;
     Some(&item.value)
 }
 
@@ -83,11 +91,37 @@ impl<K: Key, V: Clone> Machine<K, V> {
             return Ok(());
         }
         let value = value.clone()?;
-        self.items.push(Item { index, key, value })?;
+        self.items.push(Item {
+            index,
+            key,
+            value,
+            is_synced: false,
+        })?;
         Ok(())
     }
 
-    /// Carries out one command. A copy of a value has to equal it. After an Err nothing changed.
+    // All that was put counts as synced.
+    fn sync(&mut self)
+        ensures { (n : ℕ) → state_of K.key_bytes n self.new ≡ after_sync (state_of K.key_bytes n self.old) }
+    {
+        for item in self.items.iter_mut() {
+            item.is_synced = true;
+        }
+    }
+
+    fn put_and_sync(&mut self, index: u64, key: K, value: &V) -> Result<(), Error>
+        requires { (v w : V) → V.is_clone v w → w ≡ v }
+        ensures put { OnOk result ((n : ℕ) → state_of K.key_bytes n self.new ≡ after_sync (after_put n index (K.key_bytes key) value.now (state_of K.key_bytes n self.old))) }
+        ensures memory { IsOkUnless result Error.Mem }
+        ensures unchanged { OnErr result (self.new.items.items ≡ self.old.items.items) }
+    {
+        self.put(index, key, value)?;
+        self.sync();
+        Ok(())
+    }
+
+    /// Carries out one command. A copy of a value has to equal it. After an Err nothing changed. A reopening loses nothing here: what is cut
+    /// is free up to what was synced.
     pub fn step(&mut self, command: &Command<K, V>) -> Result<Reply<V>, Error>
         requires { (v w : V) → V.is_clone v w → w ≡ v }
         ensures step { IfOk result (λ reply. (n : ℕ) → Step n (state_of K.key_bytes n self.old) (asked K.key_bytes (λ v. v) command.now) (replied (λ v. v) reply) (state_of K.key_bytes n self.new)) }
@@ -99,8 +133,23 @@ impl<K: Key, V: Clone> Machine<K, V> {
                 self.put(*index, *key, value)?;
                 Ok(Reply::Done)
             }
+            Command::PutSync(index, key, value) | Command::PutStart(index, key, value) => {
+                self.put_and_sync(*index, *key, value)?;
+                Ok(Reply::Done)
+            }
             Command::Get(index) => Ok(Reply::Value(self.get(*index)?)),
+            Command::GetKey(key) => {
+                Ok(Reply::Value(copied(value_under(self.items.as_slice(), key))?))
+            }
             Command::Has(index) => Ok(Reply::Flag(self.has(*index))),
+            Command::HasKey(key) => {
+                let value = value_under(self.items.as_slice(), key);
+                Ok(Reply::Flag(value.is_some()))
+            }
+            Command::Sync | Command::Start | Command::Reopen => {
+                self.sync();
+                Ok(Reply::Done)
+            }
         }
     }
 }

@@ -1,6 +1,7 @@
 //! The archive whose front can be pruned.
 ghost use Rattle.std.specs.Prelude.{◌≡◌, ◌≢◌, ◌↔◌, ◌⊎◌, ◌≤◌, ◌<◌, ◌+◌, ◌-◌, ◌/◌, ◌^◌, ⊤, ℕ, Ok, Some, None, true, false, IfOk, IfSome, OnErr, OnOk, IsTrue, IsSomeAnd, length, map, option_map};
 ghost use Rattle.std.specs.Result.{IsErrOf};
+ghost use Rattle.blob_device.specs.Counts.{Rose};
 ghost use Rattle.blob_device.specs.Disk.{Disk, Key};
 ghost use Rattle.blob_device.specs.Opened.{reads_of};
 ghost use Rattle.blob_device.specs.Timeline.{disk, Always};
@@ -11,6 +12,7 @@ ghost use Rattle.segments.specs.Sections.{section_key};
 ghost use Rattle.paired.specs.Crashes.{IsBlobOf, IsIndexOf, IsOwn};
 ghost use Rattle.paired.specs.Frames.{frame};
 ghost use Rattle.paired.specs.GlobSections as glob;
+ghost use Rattle.paired.specs.Kept.{marker_of};
 ghost use Rattle.paired.specs.Pair.{records_of, synced_length};
 ghost use Rattle.paired.specs.PairSync.{IsSyncOf};
 ghost use Rattle.archives.specs.Archives.{IsArchive, IsSoundArchive, filing_of, state_of};
@@ -20,7 +22,7 @@ ghost use Rattle.archives.specs.Finding.{Index, IsNear, get_command, has_command
 ghost use Rattle.archives.specs.Machine.{Step, after_put, after_sync, has_index, section_of};
 ghost use Rattle.archives.specs.Putting.{IsAllowed, IsFullFor, IsKnown, IsMovingAfter, IsPassed, IsTooLargeFor, IsWrittenAfter, is_taken};
 ghost use Rattle.archives.specs.Reading.{HasCause, HasReadingError};
-ghost use Rattle.archives.specs.Refusing.{HasFailed, HasLostMarkers, HasNoRoom, IsTooLarge};
+ghost use Rattle.archives.specs.Refusing.{HasFailed, HasLostMarkers, HasNoRoom, IsFault, IsTooLarge};
 ghost use Rattle.archives.specs.Replies as reply;
 ghost use Rattle.archives.specs.Rows.{row_in};
 ghost use Rattle.archives.specs.Standing.{Leaves};
@@ -39,7 +41,7 @@ mod writing;
 use crate::{Error, Identifier, Translator};
 use blob_device::{Device, Handle};
 pub use config::Config;
-use index_record::IndexRecord;
+pub use index_record::IndexRecord;
 pub use limits::Limits;
 use paired::{Oversized, Record};
 use sealed_pages::{PageBlob, WriteBlob};
@@ -52,7 +54,8 @@ use value_codec::{Codec, Key, Seal};
 /// Values by index and by key. The indices are cut into sections, each of them named by its first index, and a section is a list of records
 /// in the order in which they were put.
 ///
-/// Of each record the archive holds index and key in memory. Lookups go over these, and read only the record and the value that they answer.
+/// Of each record the archive holds index and key in memory. Lookups go over these, and read no blob but those of a section in which a record has the
+/// index, or a key with the key's word.
 #[derive(Drop)]
 pub struct Archive<T: Translator, K: Key, V: Codec, S: Seal>
 where
@@ -87,6 +90,14 @@ impl<T: Translator, K: Key, V: Codec, S: Seal> crate::Archive for Archive<T, K, 
 
     ghost IsUsable = { λ a told opened d. IsArchive (shown a) ⟦<PageBlob<S> as SectionBuffer>⟧ ⟦<AppendFactory<S> as BufferFactory>⟧.gives ⟦<WriteBlob as SectionBuffer>⟧ ⟦<WriteFactory as BufferFactory>⟧.gives told opened d };
 
+    ghost IsSound = { λ a d. IsSoundArchive (shown a) d };
+
+    ghost items = { λ a. (shown a).items };
+
+    ghost state = { λ a d. state_of (shown a) d };
+
+    ghost has = { λ a i. is_taken (shown a) i };
+
     ghost accepts = { λ a v. V.accepted v a.pair.values.codec_config };
 
     /// Keeps the value at the end of its index's section. Where the index is taken nothing is stored.
@@ -98,6 +109,7 @@ impl<T: Translator, K: Key, V: Codec, S: Seal> crate::Archive for Archive<T, K, 
         requires over { IsArchive (shown self) ⟦<PageBlob<S> as SectionBuffer>⟧ ⟦<AppendFactory<S> as BufferFactory>⟧.gives ⟦<WriteBlob as SectionBuffer>⟧ ⟦<WriteFactory as BufferFactory>⟧.gives D.Tells (D.opened dev.old) (disk (D.time dev.old)) }
         requires value { V.accepted value.now self.pair.values.codec_config }
         ensures over { IfOk result (λ r. IsArchive (shown r) ⟦<PageBlob<S> as SectionBuffer>⟧ ⟦<AppendFactory<S> as BufferFactory>⟧.gives ⟦<WriteBlob as SectionBuffer>⟧ ⟦<WriteFactory as BufferFactory>⟧.gives D.Tells (D.opened dev.new) (disk (D.time dev.new))) }
+        ensures items { IfOk result (λ r. (shown r).items ≡ (shown self).items) }
         ensures accepts { IfOk result (λ r. (v : V) → V.accepted v self.pair.values.codec_config → V.accepted v r.pair.values.codec_config) }
         ensures sound { D.Tells → IsSoundArchive (shown self) (disk (D.time dev.old)) → IfOk result (λ r. IsSoundArchive (shown r) (disk (D.time dev.new))) }
         ensures step { D.Tells → IsSoundArchive (shown self) (disk (D.time dev.old)) → IfOk result (λ r. Step (shown self).items (state_of (shown self) (disk (D.time dev.old))) (Put index (K.key_bytes key) (V.spelling value.now)) reply.Done (state_of (shown r) (disk (D.time dev.new)))) }
@@ -123,6 +135,7 @@ impl<T: Translator, K: Key, V: Codec, S: Seal> crate::Archive for Archive<T, K, 
         ensures large { IsTooLargeFor (shown self) index (length (frame S.seal_of (V.spelling value.now))) → IsTooLarge result ⊎ IsErrOf result Error.Mem }
         ensures refused { IsTooLarge result ⊎ (IsKnown (shown self) index D.Tells × IsErrOf result Error.Full) → dev.new ≡ dev.old }
         ensures faults { D.faults dev.old ≤ D.faults dev.new }
+        ensures fault { IsFault result → Rose (D.faults dev.old) (D.faults dev.new) }
         ensures cause { OnErr result (IsErrOf result Error.Full ⊎ (IsTooLarge result ⊎ ((HasNoRoom result × (D.Tells → ⊥)) ⊎ HasFailed result (D.faults dev.old) (D.faults dev.new)))) }
     {
         if self.has_index(index) {
@@ -136,6 +149,7 @@ impl<T: Translator, K: Key, V: Codec, S: Seal> crate::Archive for Archive<T, K, 
         requires over { IsArchive (shown self) ⟦<PageBlob<S> as SectionBuffer>⟧ ⟦<AppendFactory<S> as BufferFactory>⟧.gives ⟦<WriteBlob as SectionBuffer>⟧ ⟦<WriteFactory as BufferFactory>⟧.gives D.Tells (D.opened dev.old) (disk (D.time dev.old)) }
         requires value { V.accepted value.now self.pair.values.codec_config }
         ensures over { IfOk result (λ r. IsArchive (shown r) ⟦<PageBlob<S> as SectionBuffer>⟧ ⟦<AppendFactory<S> as BufferFactory>⟧.gives ⟦<WriteBlob as SectionBuffer>⟧ ⟦<WriteFactory as BufferFactory>⟧.gives D.Tells (D.opened dev.new) (disk (D.time dev.new))) }
+        ensures items { IfOk result (λ r. (shown r).items ≡ (shown self).items) }
         ensures accepts { IfOk result (λ r. (v : V) → V.accepted v self.pair.values.codec_config → V.accepted v r.pair.values.codec_config) }
         ensures sound { D.Tells → IsSoundArchive (shown self) (disk (D.time dev.old)) → IfOk result (λ r. IsSoundArchive (shown r) (disk (D.time dev.new))) }
         ensures step { D.Tells → IsSoundArchive (shown self) (disk (D.time dev.old)) → IfOk result (λ r. Step (shown self).items (state_of (shown self) (disk (D.time dev.old))) (PutSync index (K.key_bytes key) (V.spelling value.now)) reply.Done (state_of (shown r) (disk (D.time dev.new)))) }
@@ -143,13 +157,16 @@ impl<T: Translator, K: Key, V: Codec, S: Seal> crate::Archive for Archive<T, K, 
         // At every moment, also where the call fails, each crash leaves a lawful image that stands for the state with this command under way.
         ensures moments { D.Tells → IsSoundArchive (shown self) (disk (D.time dev.old)) → Always (D.time dev.old) (D.time dev.new) (Leaves (filing_of (shown self)) (state_of (shown self) (disk (D.time dev.old))) (Some (PutSync index (K.key_bytes key) (V.spelling value.now)))) }
         ensures rest { D.Tells → IsSoundArchive (shown self) (disk (D.time dev.old)) → IfOk result (λ r. Leaves (filing_of (shown r)) (state_of (shown r) (disk (D.time dev.new))) None (disk (D.time dev.new))) }
+        // All sections are settled, and the markers of those that were not written are moved to what was synced of them.
+        ensures none_written { IfOk result (λ r. (s : ℕ) → (shown r).is_written s ≡ false) }
+        ensures markers { IfOk result (λ r. (s : ℕ) → (IsWrittenAfter (shown self) index s → ⊥) → marker_of (shown r).pair.store.entries s ≡ synced_length (shown self).pair s) }
         ensures alone { D.Tells → Always (D.time dev.old) (D.time dev.new) (λ d. (q : Key) → (IsOwn (shown self).pair.layout (IsWrittenAfter (shown self) index) q → ⊥) → d q ≡ (disk (D.time dev.old)) q) }
         ensures entries { (q : Key) → (IsOwn (shown self).pair.layout (IsWrittenAfter (shown self) index) q → ⊥) → D.opened dev.new q ≡ D.opened dev.old q }
         // `Full` as [`put`](crate::Archive::put) answers it, and then nothing was written; or, once the record has settled, where a marker moves
         // and the version of the markers would pass the greatest `u64`.
         ensures full { D.Tells → IsErrOf result Error.Full → (IsFullFor (shown self) index (length (frame S.seal_of (V.spelling value.now))) × (dev.new ≡ dev.old)) ⊎ ((2 ^ 64 ≤ (shown self).pair.store.version + 1) × IsMovingAfter (shown self) index) }
         ensures over_limit { is_taken (shown self) index ≡ false → (IsAllowed (shown self) index → ⊥) → IsErrOf result Error.Full × (dev.new ≡ dev.old) }
-        ensures no_room { D.Tells → IsFullFor (shown self) index (length (frame S.seal_of (V.spelling value.now))) → IsErrOf result Error.Full ⊎ IsErrOf result Error.Mem }
+        ensures no_room { D.Tells → IsFullFor (shown self) index (length (frame S.seal_of (V.spelling value.now))) → (IsErrOf result Error.Full × (dev.new ≡ dev.old)) ⊎ IsErrOf result Error.Mem }
         ensures no_version { 2 ^ 64 ≤ (shown self).pair.store.version + 1 → IsMovingAfter (shown self) index → OnOk result ⊥ }
         ensures lost { HasLostMarkers result (D.faults dev.old) (D.faults dev.new) → IsMovingAfter (shown self) index }
         ensures settled { D.Tells → IsSoundArchive (shown self) (disk (D.time dev.old)) → HasLostMarkers result (D.faults dev.old) (D.faults dev.new) ⊎ (IsErrOf result Error.Full × (IsFullFor (shown self) index (length (frame S.seal_of (V.spelling value.now))) → ⊥))
@@ -158,6 +175,7 @@ impl<T: Translator, K: Key, V: Codec, S: Seal> crate::Archive for Archive<T, K, 
         ensures large { IsTooLargeFor (shown self) index (length (frame S.seal_of (V.spelling value.now))) → IsTooLarge result ⊎ IsErrOf result Error.Mem }
         ensures refused { IsTooLarge result → dev.new ≡ dev.old }
         ensures faults { D.faults dev.old ≤ D.faults dev.new }
+        ensures fault { IsFault result → Rose (D.faults dev.old) (D.faults dev.new) }
         ensures cause { OnErr result (IsErrOf result Error.Full ⊎ (IsTooLarge result ⊎ ((HasNoRoom result × (D.Tells → ⊥)) ⊎ (HasFailed result (D.faults dev.old) (D.faults dev.new) ⊎ HasLostMarkers result (D.faults dev.old) (D.faults dev.new))))) }
     {
         let this = self.put(dev, index, key, value)?;
@@ -175,6 +193,7 @@ impl<T: Translator, K: Key, V: Codec, S: Seal> crate::Archive for Archive<T, K, 
         requires over { IsArchive (shown self) ⟦<PageBlob<S> as SectionBuffer>⟧ ⟦<AppendFactory<S> as BufferFactory>⟧.gives ⟦<WriteBlob as SectionBuffer>⟧ ⟦<WriteFactory as BufferFactory>⟧.gives D.Tells (D.opened dev.old) (disk (D.time dev.old)) }
         requires value { V.accepted value.now self.pair.values.codec_config }
         ensures over { IfOk result (λ r. IsArchive (shown r.0) ⟦<PageBlob<S> as SectionBuffer>⟧ ⟦<AppendFactory<S> as BufferFactory>⟧.gives ⟦<WriteBlob as SectionBuffer>⟧ ⟦<WriteFactory as BufferFactory>⟧.gives D.Tells (D.opened dev.new) (disk (D.time dev.new))) }
+        ensures items { IfOk result (λ r. (shown r.0).items ≡ (shown self).items) }
         ensures accepts { IfOk result (λ r. (v : V) → V.accepted v self.pair.values.codec_config → V.accepted v r.0.pair.values.codec_config) }
         ensures sound { D.Tells → IsSoundArchive (shown self) (disk (D.time dev.old)) → IfOk result (λ r. IsSoundArchive (shown r.0) (disk (D.time dev.new))) }
         ensures step { D.Tells → IsSoundArchive (shown self) (disk (D.time dev.old)) → IfOk result (λ r. Step (shown self).items (state_of (shown self) (disk (D.time dev.old))) (PutStart index (K.key_bytes key) (V.spelling value.now)) reply.Done (state_of (shown r.0) (disk (D.time dev.new)))) }
@@ -182,13 +201,16 @@ impl<T: Translator, K: Key, V: Codec, S: Seal> crate::Archive for Archive<T, K, 
         // At every moment, also where the call fails, each crash leaves a lawful image that stands for the state with this command under way.
         ensures moments { D.Tells → IsSoundArchive (shown self) (disk (D.time dev.old)) → Always (D.time dev.old) (D.time dev.new) (Leaves (filing_of (shown self)) (state_of (shown self) (disk (D.time dev.old))) (Some (PutStart index (K.key_bytes key) (V.spelling value.now)))) }
         ensures rest { D.Tells → IsSoundArchive (shown self) (disk (D.time dev.old)) → IfOk result (λ r. Leaves (filing_of (shown r.0)) (state_of (shown r.0) (disk (D.time dev.new))) None (disk (D.time dev.new))) }
+        // All sections are settled, and the markers of those that were not written are moved to what was synced of them.
+        ensures none_written { IfOk result (λ r. (s : ℕ) → (shown r.0).is_written s ≡ false) }
+        ensures markers { IfOk result (λ r. (s : ℕ) → (IsWrittenAfter (shown self) index s → ⊥) → marker_of (shown r.0).pair.store.entries s ≡ synced_length (shown self).pair s) }
         ensures alone { D.Tells → Always (D.time dev.old) (D.time dev.new) (λ d. (q : Key) → (IsOwn (shown self).pair.layout (IsWrittenAfter (shown self) index) q → ⊥) → d q ≡ (disk (D.time dev.old)) q) }
         ensures entries { (q : Key) → (IsOwn (shown self).pair.layout (IsWrittenAfter (shown self) index) q → ⊥) → D.opened dev.new q ≡ D.opened dev.old q }
         // `Full` as [`put`](crate::Archive::put) answers it, and then nothing was written; or, once the record has settled, where a marker moves
         // and the version of the markers would pass the greatest `u64`.
         ensures full { D.Tells → IsErrOf result Error.Full → (IsFullFor (shown self) index (length (frame S.seal_of (V.spelling value.now))) × (dev.new ≡ dev.old)) ⊎ ((2 ^ 64 ≤ (shown self).pair.store.version + 1) × IsMovingAfter (shown self) index) }
         ensures over_limit { is_taken (shown self) index ≡ false → (IsAllowed (shown self) index → ⊥) → IsErrOf result Error.Full × (dev.new ≡ dev.old) }
-        ensures no_room { D.Tells → IsFullFor (shown self) index (length (frame S.seal_of (V.spelling value.now))) → IsErrOf result Error.Full ⊎ IsErrOf result Error.Mem }
+        ensures no_room { D.Tells → IsFullFor (shown self) index (length (frame S.seal_of (V.spelling value.now))) → (IsErrOf result Error.Full × (dev.new ≡ dev.old)) ⊎ IsErrOf result Error.Mem }
         ensures no_version { 2 ^ 64 ≤ (shown self).pair.store.version + 1 → IsMovingAfter (shown self) index → OnOk result ⊥ }
         ensures lost { HasLostMarkers result (D.faults dev.old) (D.faults dev.new) → IsMovingAfter (shown self) index }
         ensures settled { D.Tells → IsSoundArchive (shown self) (disk (D.time dev.old)) → HasLostMarkers result (D.faults dev.old) (D.faults dev.new) ⊎ (IsErrOf result Error.Full × (IsFullFor (shown self) index (length (frame S.seal_of (V.spelling value.now))) → ⊥))
@@ -197,6 +219,7 @@ impl<T: Translator, K: Key, V: Codec, S: Seal> crate::Archive for Archive<T, K, 
         ensures large { IsTooLargeFor (shown self) index (length (frame S.seal_of (V.spelling value.now))) → IsTooLarge result ⊎ IsErrOf result Error.Mem }
         ensures refused { IsTooLarge result → dev.new ≡ dev.old }
         ensures faults { D.faults dev.old ≤ D.faults dev.new }
+        ensures fault { IsFault result → Rose (D.faults dev.old) (D.faults dev.new) }
         ensures cause { OnErr result (IsErrOf result Error.Full ⊎ (IsTooLarge result ⊎ ((HasNoRoom result × (D.Tells → ⊥)) ⊎ (HasFailed result (D.faults dev.old) (D.faults dev.new) ⊎ HasLostMarkers result (D.faults dev.old) (D.faults dev.new))))) }
     {
         let this = self.put(dev, index, key, value)?;
@@ -222,6 +245,7 @@ impl<T: Translator, K: Key, V: Codec, S: Seal> crate::Archive for Archive<T, K, 
             → (reads_of (D.opened dev.new (section_key (shown self.now).pair.layout.index s)) ≤ reads_of (D.opened dev.old (section_key (shown self.now).pair.layout.index s)) + ((shown self.now).pair.layout.record_size / (shown self.now).pair.layout.page_size + 2))
             × (reads_of (D.opened dev.new (section_key (shown self.now).pair.layout.values s)) ≤ reads_of (D.opened dev.old (section_key (shown self.now).pair.layout.values s)) + 1) }
         ensures faults { D.faults dev.old ≤ D.faults dev.new }
+        ensures fault { IsFault result → Rose (D.faults dev.old) (D.faults dev.new) }
         ensures causes { D.Tells → OnErr result (HasFailed result (D.faults dev.old) (D.faults dev.new) ⊎ ((s p : ℕ) × IsNear (T.word_of self.now.translator) (shown self.now) (wanted_of K.key_bytes identifier.entry) s p × HasCause (shown self.now) (disk (D.time dev.old)) s p result)) }
         ensures cause { OnErr result (HasReadingError result ⊎ HasFailed result (D.faults dev.old) (D.faults dev.new)) }
     {
@@ -241,6 +265,7 @@ impl<T: Translator, K: Key, V: Codec, S: Seal> crate::Archive for Archive<T, K, 
         ensures entries { (q : Key) → (IsIndexOf (shown self.now).pair.layout (λ s. (p : ℕ) × IsNear (T.word_of self.now.translator) (shown self.now) (wanted_of K.key_bytes identifier.entry) s p) q → ⊥) → D.opened dev.new q ≡ D.opened dev.old q }
         ensures gives { D.Tells → IsSoundArchive (shown self.now) (disk (D.time dev.old)) → OnErr result (HasFailed result (D.faults dev.old) (D.faults dev.new)) }
         ensures faults { D.faults dev.old ≤ D.faults dev.new }
+        ensures fault { IsFault result → Rose (D.faults dev.old) (D.faults dev.new) }
         ensures causes { D.Tells → OnErr result (HasFailed result (D.faults dev.old) (D.faults dev.new) ⊎ ((s p : ℕ) × IsNear (T.word_of self.now.translator) (shown self.now) (wanted_of K.key_bytes identifier.entry) s p × HasCause (shown self.now) (disk (D.time dev.old)) s p result)) }
         ensures cause { OnErr result (HasReadingError result ⊎ HasFailed result (D.faults dev.old) (D.faults dev.new)) }
     {
@@ -258,9 +283,12 @@ impl<T: Translator, K: Key, V: Codec, S: Seal> crate::Archive for Archive<T, K, 
 
     /// Makes durable what was written since the last sync. What was synced before is marked, so that the next opening does not read its
     /// values.
+    ///
+    /// It answers `Full` where a marker has to move and the markers have no next version; then all has settled.
     fn sync<D: Device>(self, dev: &mut D) -> Result<Self, Error>
         requires over { IsArchive (shown self) ⟦<PageBlob<S> as SectionBuffer>⟧ ⟦<AppendFactory<S> as BufferFactory>⟧.gives ⟦<WriteBlob as SectionBuffer>⟧ ⟦<WriteFactory as BufferFactory>⟧.gives D.Tells (D.opened dev.old) (disk (D.time dev.old)) }
         ensures over { IfOk result (λ r. IsArchive (shown r) ⟦<PageBlob<S> as SectionBuffer>⟧ ⟦<AppendFactory<S> as BufferFactory>⟧.gives ⟦<WriteBlob as SectionBuffer>⟧ ⟦<WriteFactory as BufferFactory>⟧.gives D.Tells (D.opened dev.new) (disk (D.time dev.new))) }
+        ensures items { IfOk result (λ r. (shown r).items ≡ (shown self).items) }
         ensures accepts { IfOk result (λ r. (v : V) → V.accepted v self.pair.values.codec_config → V.accepted v r.pair.values.codec_config) }
         ensures sound { D.Tells → IsSoundArchive (shown self) (disk (D.time dev.old)) → IfOk result (λ r. IsSoundArchive (shown r) (disk (D.time dev.new))) }
         ensures step { D.Tells → IfOk result (λ r. Step (shown self).items (state_of (shown self) (disk (D.time dev.old))) Sync reply.Done (state_of (shown r) (disk (D.time dev.new)))) }
@@ -283,6 +311,7 @@ impl<T: Translator, K: Key, V: Codec, S: Seal> crate::Archive for Archive<T, K, 
         // Where the markers stopped the call, all has settled that was written.
         ensures settled { D.Tells → IsSoundArchive (shown self) (disk (D.time dev.old)) → IsErrOf result Error.Full ⊎ HasLostMarkers result (D.faults dev.old) (D.faults dev.new) → Leaves (filing_of (shown self)) (after_sync (state_of (shown self) (disk (D.time dev.old)))) None (disk (D.time dev.new)) }
         ensures faults { D.faults dev.old ≤ D.faults dev.new }
+        ensures fault { IsFault result → Rose (D.faults dev.old) (D.faults dev.new) }
         ensures cause { OnErr result (IsErrOf result Error.Full ⊎ (HasFailed result (D.faults dev.old) (D.faults dev.new) ⊎ HasLostMarkers result (D.faults dev.old) (D.faults dev.new))) }
     {
         self.settle(dev)
@@ -292,6 +321,7 @@ impl<T: Translator, K: Key, V: Codec, S: Seal> crate::Archive for Archive<T, K, 
     fn start_sync<D: Device>(self, dev: &mut D) -> Result<(Self, Handle), Error>
         requires over { IsArchive (shown self) ⟦<PageBlob<S> as SectionBuffer>⟧ ⟦<AppendFactory<S> as BufferFactory>⟧.gives ⟦<WriteBlob as SectionBuffer>⟧ ⟦<WriteFactory as BufferFactory>⟧.gives D.Tells (D.opened dev.old) (disk (D.time dev.old)) }
         ensures over { IfOk result (λ r. IsArchive (shown r.0) ⟦<PageBlob<S> as SectionBuffer>⟧ ⟦<AppendFactory<S> as BufferFactory>⟧.gives ⟦<WriteBlob as SectionBuffer>⟧ ⟦<WriteFactory as BufferFactory>⟧.gives D.Tells (D.opened dev.new) (disk (D.time dev.new))) }
+        ensures items { IfOk result (λ r. (shown r.0).items ≡ (shown self).items) }
         ensures accepts { IfOk result (λ r. (v : V) → V.accepted v self.pair.values.codec_config → V.accepted v r.0.pair.values.codec_config) }
         ensures sound { D.Tells → IsSoundArchive (shown self) (disk (D.time dev.old)) → IfOk result (λ r. IsSoundArchive (shown r.0) (disk (D.time dev.new))) }
         ensures step { D.Tells → IfOk result (λ r. Step (shown self).items (state_of (shown self) (disk (D.time dev.old))) Start reply.Done (state_of (shown r.0) (disk (D.time dev.new)))) }
@@ -314,6 +344,7 @@ impl<T: Translator, K: Key, V: Codec, S: Seal> crate::Archive for Archive<T, K, 
         // Where the markers stopped the call, all has settled that was written.
         ensures settled { D.Tells → IsSoundArchive (shown self) (disk (D.time dev.old)) → IsErrOf result Error.Full ⊎ HasLostMarkers result (D.faults dev.old) (D.faults dev.new) → Leaves (filing_of (shown self)) (after_sync (state_of (shown self) (disk (D.time dev.old)))) None (disk (D.time dev.new)) }
         ensures faults { D.faults dev.old ≤ D.faults dev.new }
+        ensures fault { IsFault result → Rose (D.faults dev.old) (D.faults dev.new) }
         ensures cause { OnErr result (IsErrOf result Error.Full ⊎ (HasFailed result (D.faults dev.old) (D.faults dev.new) ⊎ HasLostMarkers result (D.faults dev.old) (D.faults dev.new))) }
     {
         self.start_settling(dev)

@@ -2,9 +2,6 @@
 ghost use Rattle.std.specs.Prelude.{◌≡◌, ℕ, List};
 ghost use Rattle.archives.specs.Words.{four_bytes};
 
-#[cfg(test)]
-mod tests;
-
 use std::hash::Hash;
 
 /// Makes words of keys. A word is short, and several keys may have one; it stands for a key where memory is to be spared.

@@ -3,9 +3,6 @@ ghost use Rattle.std.specs.Prelude.{◌≡◌, ◌↔◌, IsTrue, IfOk, OnErr, s
 ghost use Rattle.std.specs.Result.{IsErrOf};
 ghost use Rattle.archives.specs.Config.{HasPartitions, IsValid};
 
-#[cfg(test)]
-mod tests;
-
 use super::Limits;
 use crate::Error;
 use paired::oversized;

@@ -7,16 +7,15 @@ ghost use Rattle.value_codec.specs.SpellingLaws.{size_too_few, size_too_many, si
 ghost use Rattle.archives.specs.IndexRecord.{IsInRange, place_of, spelling_of};
 ghost use Rattle.archives.specs.IndexRecordLaws.{index_record_at_least, index_record_at_most, index_record_kept, length-index_record, one_index_record, place_of-index_record};
 
-#[cfg(test)]
-mod tests;
-
 use paired::Record;
 use std::alloc::Global;
 use value_codec::{Codec, CodecFixed, Key, codec};
 
 /// A record of the index: what was put under which index and key, and where the value's frame stands.
+///
+/// An archive makes and reads its records itself. Who looks at the blobs of one, as by `paired::plain`, reads them by this.
 #[derive(Clone, Copy)]
-pub(crate) struct IndexRecord<K> {
+pub struct IndexRecord<K> {
     index: u64,
     key: K,
     offset: u64,
@@ -25,7 +24,7 @@ pub(crate) struct IndexRecord<K> {
 
 impl<K: Key> IndexRecord<K> {
     /// A record that names no value yet.
-    pub(crate) fn new(index: u64, key: K) -> IndexRecord<K>
+    pub fn new(index: u64, key: K) -> IndexRecord<K>
         ensures { result ≡ record { index = index; key = key; offset = 0; size = 0 } }
     {
         IndexRecord {
@@ -37,14 +36,14 @@ impl<K: Key> IndexRecord<K> {
     }
 
     /// The index.
-    pub(crate) fn index(&self) -> u64
+    pub fn index(&self) -> u64
         ensures { result ≡ self.now.index }
     {
         self.index
     }
 
     /// The key.
-    pub(crate) fn key(&self) -> &K
+    pub fn key(&self) -> &K
         ensures { result.now ≡ self.now.key }
     {
         &self.key

@@ -1,5 +1,5 @@
 // Opening the archive over what its blobs keep.
-ghost use Rattle.std.specs.Prelude.{◌≡◌, ◌≢◌, ◌↔◌, ◌⊎◌, ◌≤◌, ◌<◌, ◌+◌, ◌-◌, ◌++◌, ◌∷◌, ◌^◌, ⊤, [], ℕ, List, false, true, Err, get_or, map, length, IfOk, OnErr, OnOk};
+ghost use Rattle.std.specs.Prelude.{◌≡◌, ◌≢◌, ◌↔◌, ◌⊎◌, ◌≤◌, ◌<◌, ◌+◌, ◌-◌, ◌*◌, ◌++◌, ◌∷◌, ◌^◌, ⊤, [], ℕ, List, false, true, Err, map, length, IfOk, OnErr, OnOk};
 ghost use Rattle.std.specs.List.{AllByRecursion};
 ghost use Rattle.std.specs.Result.{IsErrOf};
 ghost use Rattle.blob_device.specs.Disk.{Key};
@@ -14,9 +14,9 @@ ghost use Rattle.meta_store.specs.declared.error.Error.TheVariants as metadata;
 ghost use Rattle.segments.specs.declared.journal.Error.TheVariants as journal;
 ghost use Rattle.meta_store.specs.declared.error.Side.{Side};
 ghost use Rattle.segments.specs.Refusing.{IsForeign, IsOpenedTooLong};
-ghost use Rattle.paired.specs.Kept.{Markers, kept, marker_of, stored_records};
+ghost use Rattle.paired.specs.Kept.{IsMarked, Markers, kept, marker_of, stored_records};
 ghost use Rattle.paired.specs.Opening.{as_read, HoldMarkers, IsLawful, MayBeOpened, RecallsAlone};
-ghost use Rattle.paired.specs.OpeningRefusing.{AreCounted};
+ghost use Rattle.paired.specs.OpeningRefusing.{AreCounted, IsProved};
 ghost use Rattle.paired.specs.Pair.{length_of, records_of};
 ghost use Rattle.paired.specs.ReplayShown.{run_of};
 ghost use Rattle.paired.specs.Replaying.{IsDue, IsRun, LeftAtMost, SameRun, records_given};
@@ -25,12 +25,13 @@ ghost use Rattle.archives.specs.Archives.{IsArchive, IsSoundArchive, filing_of, 
 ghost use Rattle.archives.specs.Commands.{Reopen};
 ghost use Rattle.archives.specs.Config.{IsValid};
 ghost use Rattle.archives.specs.Filing.{IsSameFiling, kept_entries};
-ghost use Rattle.archives.specs.IndexRecord.{IsSpelled, index_of, place_of};
+ghost use Rattle.archives.specs.IndexRecord.{IsSpelled, place_of};
 ghost use Rattle.archives.specs.Lawful.{Lawful};
-ghost use Rattle.archives.specs.Machine.{State, section_of};
-ghost use Rattle.archives.specs.Opening.{AreWithin, FindsShort, HasCause, HasNoVersion, HasStray, IsOpeningError, IsOver, LeavesLawful, OfKept};
+ghost use Rattle.archives.specs.Machine.{State, Step, section_of};
+ghost use Rattle.archives.specs.Opening.{FindsShort, HasCause, HasNoVersion, HasStray, IsOpeningError, IsOver, LeavesLawful, OfKept};
 ghost use Rattle.archives.specs.Refusing.{HasFailed, HasLostMarkers, HasNoRoom};
-ghost use Rattle.archives.specs.Rows.{AreFilledBut, HasRoom, row_in, rows_of};
+ghost use Rattle.archives.specs.Replies as reply;
+ghost use Rattle.archives.specs.Rows.{AreFilledBut, AreWithin, HasRoom, row_in, rows_of};
 ghost use Rattle.archives.specs.Shown.{filing_for, shown};
 ghost use Rattle.archives.specs.Standing.{IsStart, Leaves};
 
@@ -92,10 +93,13 @@ impl<T: Translator, K: Key, V: Codec, S: Seal> Archive<T, K, V, S> {
         ensures write_buffers { IfOk result (λ r. ((shown r).pair.index.sections.factory.write_buffer ≡ cfg.now.key_write_buffer) × ((shown r).pair.values.factory.capacity ≡ cfg.now.value_write_buffer)) }
         ensures codec_config { IfOk result (λ r. r.pair.values.codec_config ≡ cfg.now.codec_config) }
         ensures none_written { IfOk result (λ r. (s : ℕ) → (shown r).is_written s ≡ false) }
-        // The records are those that the image keeps; of a lawful image the state is its start state, and the archive is sound.
+        // The records are those that the image keeps; of a lawful image the state is its start state. The archive is sound where crashes leave
+        // lawful images once it is opened: so where they did before (`lawful`), and where what was unlawful has been cut off.
         ensures records { D.Tells → IfOk result (λ r. OfKept (filing_for K.SIZE S.Seal V.refusal cfg.now) (as_read (disk (D.time dev.old))) (λ entries. (s : ℕ) → s < 2 ^ 64 → records_of (shown r).pair (disk (D.time dev.new)) s ≡ map (λ e. e.stored) (entries s))) }
         ensures start { D.Tells → (markers : Markers) → Lawful (filing_for K.SIZE S.Seal V.refusal cfg.now) (as_read (disk (D.time dev.old))) markers → IfOk result (λ r. IsStart (filing_for K.SIZE S.Seal V.refusal cfg.now) (as_read (disk (D.time dev.old))) markers (state_of (shown r) (disk (D.time dev.new)))) }
-        ensures sound { D.Tells → MayBeOpened (filing_for K.SIZE S.Seal V.refusal cfg.now).layout (disk (D.time dev.old)) → (st : State (List ℕ)) → Leaves (filing_for K.SIZE S.Seal V.refusal cfg.now) st None (disk (D.time dev.old)) → IfOk result (λ r. IsSoundArchive (shown r) (disk (D.time dev.new))) }
+        ensures sound { D.Tells → MayBeOpened (filing_for K.SIZE S.Seal V.refusal cfg.now).layout (disk (D.time dev.old)) → LeavesLawful (filing_for K.SIZE S.Seal V.refusal cfg.now) (disk (D.time dev.new)) → IfOk result (λ r. IsSoundArchive (shown r) (disk (D.time dev.new))) }
+        // It is the reopening of each state for which the disk stands, and of which nothing is synced behind the last section that a u64 names.
+        ensures step { D.Tells → MayBeOpened (filing_for K.SIZE S.Seal V.refusal cfg.now).layout (disk (D.time dev.old)) → (st : State (List ℕ)) → Leaves (filing_for K.SIZE S.Seal V.refusal cfg.now) st None (disk (D.time dev.old)) → ((s : ℕ) → 2 ^ 64 ≤ s → st.synced s ≡ 0) → IfOk result (λ r. Step (shown r).items st Reopen reply.Done (state_of (shown r) (disk (D.time dev.new)))) }
         // At every moment, also where the call fails, what a crash leaves keeps what a crash before the call would have kept: what stood for a
         // state still does.
         ensures moments { D.Tells → MayBeOpened (filing_for K.SIZE S.Seal V.refusal cfg.now).layout (disk (D.time dev.old)) → Always (D.time dev.old) (D.time dev.new) (RecallsAlone (filing_for K.SIZE S.Seal V.refusal cfg.now).layout (IsOwn (filing_for K.SIZE S.Seal V.refusal cfg.now).layout (λ _. ⊤)) (disk (D.time dev.old))) }
@@ -115,6 +119,8 @@ impl<T: Translator, K: Key, V: Codec, S: Seal> Archive<T, K, V, S> {
         ensures refused { D.Tells → (markers : Markers) → HoldMarkers (filing_for K.SIZE S.Seal V.refusal cfg.now).layout (as_read (disk (D.time dev.old))) markers → HasStray (filing_for K.SIZE S.Seal V.refusal cfg.now).items (kept_entries (filing_for K.SIZE S.Seal V.refusal cfg.now) (as_read (disk (D.time dev.old))) markers) ⊎ IsOver (filing_for K.SIZE S.Seal V.refusal cfg.now).most_sections (filing_for K.SIZE S.Seal V.refusal cfg.now).most_records (kept_entries (filing_for K.SIZE S.Seal V.refusal cfg.now) (as_read (disk (D.time dev.old))) markers) → OnOk result ⊥ }
         ensures corrupt_copies { D.Tells → (side : Side) → PairOn (filing_for K.SIZE S.Seal V.refusal cfg.now).layout.markers (filing_for K.SIZE S.Seal V.refusal cfg.now).layout.metadata (disk (D.time dev.old)) (Err side)
             → IsErrOf result (Error.Metadata (metadata.Corruption side)) ⊎ (HasFailed result (D.faults dev.old) (D.faults dev.new) ⊎ HasLostMarkers result (D.faults dev.old) (D.faults dev.new)) }
+        // Where it is opened, each marker's records are there: the last one is sealed, and its value stands within the section's values.
+        ensures proved { D.Tells → (markers : Markers) → HoldMarkers (filing_for K.SIZE S.Seal V.refusal cfg.now).layout (as_read (disk (D.time dev.old))) markers → OnOk result ((s m : ℕ) → IsMarked markers s m → IsProved (filing_for K.SIZE S.Seal V.refusal cfg.now).layout (disk (D.time dev.old)) s m) }
         ensures overflow { HasNoRoom result → (s : ℕ) × IsOpenedTooLong (λ n. 2 ^ 64 ≤ n + ((filing_for K.SIZE S.Seal V.refusal cfg.now).layout.page_size + 12)) (D.opened dev.new) (section_key (filing_for K.SIZE S.Seal V.refusal cfg.now).layout.index s) }
         ensures no_version { D.Tells → (markers : Markers) → HoldMarkers (filing_for K.SIZE S.Seal V.refusal cfg.now).layout (as_read (disk (D.time dev.old))) markers → HasNoVersion (filing_for K.SIZE S.Seal V.refusal cfg.now).layout (disk (D.time dev.old)) → ((s : ℕ) × (s < 2 ^ 64) × (marker_of markers s ≢ length (kept_entries (filing_for K.SIZE S.Seal V.refusal cfg.now) (as_read (disk (D.time dev.old))) markers s))) → OnOk result ⊥ }
         ensures foreign { D.Tells → (name : List ℕ) → IsForeign (disk (D.time dev.old)) (filing_for K.SIZE S.Seal V.refusal cfg.now).layout.index name ⊎ IsForeign (disk (D.time dev.old)) (filing_for K.SIZE S.Seal V.refusal cfg.now).layout.values name → OnOk result ⊥ }
@@ -174,10 +180,11 @@ impl<T: Translator, K: Key, V: Codec, S: Seal> Archive<T, K, V, S> {
         ensures reads { D.Tells → (s n : ℕ) → s < 2 ^ 64 → LeftAtMost (run_of (place_of K.SIZE) replay.old) (disk (D.time dev.old)) s n → reads_of (D.opened dev.new (section_key (run_of (place_of K.SIZE) replay.old).layout.values s)) ≤ reads_of (D.opened dev.old (section_key (run_of (place_of K.SIZE) replay.old).layout.values s)) + n }
         ensures entries { (q : Key) → (IsOwn (run_of (place_of K.SIZE) replay.old).layout (λ _. ⊤) q → ⊥) → D.opened dev.new q ≡ D.opened dev.old q }
         ensures untouched { D.Tells → Always (D.time dev.old) (D.time dev.new) (λ d. (q : Key) → (IsOwn (run_of (place_of K.SIZE) replay.old).layout (λ _. ⊤) q → ⊥) → d q ≡ (disk (D.time dev.old)) q) }
-        ensures stray { D.Tells → IsErrOf result Error.RecordCorrupted → (s : ℕ) × (p : ℕ) × (p < length (records_given (run_of (place_of K.SIZE) replay.old) (disk (D.time dev.old)) s)) × (section_of cfg.now.items_per_section (index_of (get_or (records_given (run_of (place_of K.SIZE) replay.old) (disk (D.time dev.old)) s) p [])) ≢ s) }
-        ensures full { D.Tells → IsErrOf result Error.Full → IsOver cfg.now.limits.sections cfg.now.limits.per_section (records_given (run_of (place_of K.SIZE) replay.old) (disk (D.time dev.old))) }
-        // A damaged page is of a section with a marker, and so is a section that is shorter than it.
-        ensures damage { D.Tells → (x : _) → IsErrOf result (Error.Journal (journal.Corruption x)) → (x.wanted ≡ (run_of (place_of K.SIZE) replay.old).walk.journal.floor_of x.section) × (x.kept < x.wanted) }
+        // What is refused is among what the image keeps: the walk has gone past it, so it is sealed.
+        ensures stray { D.Tells → IsErrOf result Error.RecordCorrupted → HasStray cfg.now.items_per_section (λ s. kept (run_of (place_of K.SIZE) replay.old).layout (as_read (disk (D.time dev.old))) (run.marker (run_of (place_of K.SIZE) replay.old) s) s) }
+        ensures full { D.Tells → IsErrOf result Error.Full → IsOver cfg.now.limits.sections cfg.now.limits.per_section (λ s. kept (run_of (place_of K.SIZE) replay.old).layout (as_read (disk (D.time dev.old))) (run.marker (run_of (place_of K.SIZE) replay.old) s) s) }
+        // A damaged page is of a section with a marker, and so is a section with fewer whole sealed records than it says.
+        ensures damage { D.Tells → (x : _) → IsErrOf result (Error.Journal (journal.Corruption x)) → (x.wanted ≡ (run_of (place_of K.SIZE) replay.old).walk.journal.floor_of x.section) × (x.kept < x.wanted) × (x.kept ≡ length (stored_records (run_of (place_of K.SIZE) replay.old).layout (as_read (disk (D.time dev.old))) x.section) * (run_of (place_of K.SIZE) replay.old).layout.record_size) }
         ensures damaged { D.Tells → (k : ℕ) → IsErrOf result (Error.Journal (journal.Runtime (InvalidChecksum k))) → FindsShort (run_of (place_of K.SIZE) replay.old).layout ((run_of (place_of K.SIZE) replay.old).walk.journal.floor_of) (disk (D.time dev.new)) k }
         ensures start { D.Tells → (n : ℕ) → IsErrOf result (Error.Journal (journal.ItemOutOfRange n)) → ⊥ }
         ensures unspelled { D.Tells → (e : _) → IsErrOf result (Error.Journal (journal.Codec e)) → ⊥ }

@@ -1,4 +1,4 @@
-use Rattle.std.proofs.Common.{◌==◌, if◌then◌else◌, ◌≡◌, ◌≢◌, ◌⊎◌, inl, inr, refl, sym, ◌∙◌, ap, subst, ◌≤◌, ◌+◌, ◌-◌, ◌^◌, ℕ, List, [], ◌∷◌, ◌++◌, length, Err, false, arith}
+use Rattle.std.proofs.Common.{◌==◌, if◌then◌else◌, ◌≡◌, ◌≢◌, ◌⊎◌, inl, inr, refl, sym, ◌∙◌, ap, subst, ◌≤◌, ◌-◌, ◌^◌, ℕ, List, [], ◌∷◌, ◌++◌, length, Err, arith}
 use Rattle.std.specs.BTreeSet.{contains}
 use Rattle.std.specs.Ordering.{nat_cmp}
 use Rattle.std.proofs.lemmas.Bool.{cases_lt}
@@ -16,18 +16,18 @@ use Rattle.paired.specs.PairShown as pair
 use Rattle.paired.specs.Pair.{list_of, synced_length}
 use Rattle.paired.proofs.FrameLemmas.{length-frame}
 use Rattle.paired.proofs.ValueEnds.{not_at}
-use Rattle.archives.specs.Archives.{IsSoundArchive}
+use Rattle.archives.specs.Archives.{IsSoundArchive, filing_of}
 use Rattle.archives.specs.IndexRecord.{index_record, place_of}
 use Rattle.archives.specs.IndexRecordLaws.{place_of-index_record}
 use Rattle.archives.specs.Raised.{raised}
 use Rattle.archives.specs.Rows.{AreFilledBut, Row, rows_of}
 use Rattle.archives.specs.Shown.{shown}
-use Rattle.archives.specs.declared.error.Error.TheVariants.{Full}
 use Rattle.archives.specs.declared.prunable.index_record.IndexRecord.{IndexRecord}
 use Rattle.archives.proofs.PutErrors.{answers, full_from, large_from, two_errors}
 use Rattle.archives.proofs.PutLemmas.{Adds, grown_archive}
 use Rattle.archives.proofs.PutRows.{grows, still_none}
 use Rattle.archives.proofs.PutSound.{Sounds, grown_sound, grown_state}
+use Rattle.archives.proofs.PutSync.{same_filing}
 use Rattle.archives.proofs.PutStands.{IsFree, at_rest, full_or_room, put_moments, put_unmoved, wanted}
 use Rattle.archives.proofs.prunable.Archive.append.Given as given
 use Rattle.archives.proofs.prunable.Archive.append.Goals as goal
@@ -273,3 +273,9 @@ returns-clause-over_limit g c none = absurd (none (rw (sym c.section_of-section.
 pub returns-clause-no_room : goal.returns-clause-no_room
 returns-clause-no_room g c =
     rw (sym c.section_of-section.ensures) (λ t le passed. absurd (cc ((c.in_ok-pair.ensures.full (inl t)).1 (le, omega (arith, c.requires.over.pair_floor), passed))))
+
+pub returns-clause-filing : goal.returns-clause-filing
+returns-clause-filing g c =
+    let says = c.in_ok-pair.ensures in
+    let p = pair.shown (place_of g.K.Key.SIZE) c.in_ok-pair.pair in
+    same_filing (filing_of (shown c.args.self)) p.layout (λ bytes. g.V.Codec.refusal bytes c.in_ok-pair.pair.values.codec_config) says.layout refl (λ _. refl) (λ _. refl) (λ bytes. ap (g.V.Codec.refusal bytes) says.codec_config)

@@ -1,6 +1,8 @@
-use Rattle.std.proofs.Common.{rules, ◌≡◌, ◌+◌, inr, refl, sym, ◌∙◌, ap, subst, ℕ, List, [], Some, Ok, Err, arith, get_or, length, map, take}
+use Rattle.std.proofs.Common.{rules, ◌≡◌, ◌+◌, ◌<◌, ◌^◌, inr, refl, sym, ◌∙◌, ap, subst, ℕ, List, [], Some, Ok, Err, arith, get_or, length, map, take}
 use Rattle.std.specs.List.{AllByRecursion}
-use Rattle.paired.specs.Replaying.{GivesRecord, records_given}
+use Rattle.paired.specs.Kept.{kept}
+use Rattle.paired.specs.Opening.{as_read}
+use Rattle.paired.specs.Replaying.{GivesRecord, marker, records_given}
 use Rattle.archives.specs.Rows.{Row, row_in, rows_of}
 use Rattle.archives.specs.declared.error.Error.TheVariants.{Full, RecordCorrupted}
 use Rattle.blob_device.specs.Timeline.{disk}
@@ -16,7 +18,7 @@ use Rattle.archives.specs.IndexRecordLaws.{index_record_at_least}
 use Rattle.archives.specs.Raised.{raised}
 use Rattle.archives.specs.declared.prunable.index_record.IndexRecord.{IndexRecord}
 use Rattle.archives.proofs.OpenErrors.{Answer, answer, any_error, whole_kept}
-use Rattle.archives.proofs.OpenFull.{over_given, small_given}
+use Rattle.archives.proofs.OpenKept.{given_rows, kept_start, over_kept, stray_kept, undue, undue_rows}
 use Rattle.archives.proofs.OpenLoop.{Going, Passed, drained_on, going_on, going_start, passed_on, passed_start, reads_end, run_layout}
 use Rattle.archives.proofs.OpenRows.{all_of, all_rows, entered_on, entered_start, is_spelled, next_row, one_more, row_spelled, stray_given, within_start}
 use Rattle.archives.proofs.prunable.Archive.entered.Given as given
@@ -180,7 +182,7 @@ error_back g c = search rules
 error_answer : (g : given.Over) (c : goal.After-drop-tables g) → Answer g.D.Device.Tells (run_of (place_of g.K.Key.SIZE) c.args.replay.now) (disk (g.D.Device.time c.args.dev.now)) (disk (g.D.Device.time c.next.new.dev)) (g.D.Device.faults c.args.dev.now) (g.D.Device.faults c.next.new.dev) c.from_residual.result
 error_answer g c = answer (page_blob.ghosts g.row.S g.S.Seal g.S.Seal-dict) page_setting (λ f. record { page_size = 1; capacity = f.capacity }) g.D.Device.Tells (λ bytes _. size_refusal (g.K.Key.SIZE + 20) bytes) (spelling_of g.K.Key.key_bytes) (λ r _. IsInRange r) (run_of (place_of g.K.Key.SIZE) c.args.replay.now) (g.D.Device.time c.args.dev.now) (g.D.Device.opened c.args.dev.now) c.requires.tracked (run_of (place_of g.K.Key.SIZE) c.loop-given.replay) (g.D.Device.time c.loop-given.dev) (g.D.Device.opened c.loop-given.dev) c.loop-given.invariant.passed c.loop-given.invariant.going (run_of (place_of g.K.Key.SIZE) c.next.new.self) (g.D.Device.time c.next.new.dev) (g.D.Device.opened c.next.new.dev) (g.D.Device.faults c.args.dev.now) (g.D.Device.faults c.loop-given.dev) (g.D.Device.faults c.next.new.dev) c.loop-given.invariant.faults
     c.next.result c.in_err-section.field-0.0 (error_gave g c) (error_says g c) (error_laid g c) (run_layout (place_of g.K.Key.SIZE) c.loop-given.replay c.next.new.self c.next.ensures.same) (λ r long. whole_kept (g.K.Key.SIZE + 20) r long)
-    (are_pages g.row.S g.S.Seal g.S.Seal-dict) (here_run (place_of g.K.Key.SIZE) c.next.new.self (index_record_at_least g.K.Key.SIZE)) c.from_residual.result (error_back g c)
+    (are_pages g.row.S g.S.Seal g.S.Seal-dict) (here_run (place_of g.K.Key.SIZE) c.loop-given.replay (index_record_at_least g.K.Key.SIZE)) (here_run (place_of g.K.Key.SIZE) c.next.new.self (index_record_at_least g.K.Key.SIZE)) c.from_residual.result (error_back g c)
 
 refused_gave : (g : given.Over) (c : goal.After-drop-tables-in_err-enter g) → c.next.result ≡ Some (Ok (c.in_ok-section.section, c.in_ok-section.field-0-1, c.in_ok-section.record))
 refused_gave g c = let at = c.in_ok-section.was in let is = c.in-Some.is in cc (is, at)
@@ -302,24 +304,49 @@ returns-in_err-enter-clause-reads g c = reads_end (page_blob.ghosts g.row.S g.S.
 pub returns-in_err-enter-clause-faults : goal.returns-in_err-enter-clause-faults
 returns-in_err-enter-clause-faults g c = omega (arith, c.loop-given.invariant.faults, c.next.ensures.faults)
 
+-- the walk has gone past the record that is refused, with no error
+refused_going : (g : given.Over) (c : goal.After-drop-tables-in_err-enter g) → Going g.D.Device.Tells (run_of (place_of g.K.Key.SIZE) c.args.replay.now) (g.D.Device.time c.args.dev.now) (run_of (place_of g.K.Key.SIZE) c.next.new.self) (g.D.Device.time c.next.new.dev)
+refused_going g c = going_on (page_blob.ghosts g.row.S g.S.Seal g.S.Seal-dict) page_setting (λ f. record { page_size = 1; capacity = f.capacity }) g.D.Device.Tells (λ bytes _. size_refusal (g.K.Key.SIZE + 20) bytes) (spelling_of g.K.Key.key_bytes) (λ r _. IsInRange r) (run_of (place_of g.K.Key.SIZE) c.args.replay.now) (g.D.Device.time c.args.dev.now) (g.D.Device.opened c.args.dev.now) c.requires.tracked (run_of (place_of g.K.Key.SIZE) c.loop-given.replay) (g.D.Device.time c.loop-given.dev) (g.D.Device.opened c.loop-given.dev) c.loop-given.invariant.passed c.loop-given.invariant.going (run_of (place_of g.K.Key.SIZE) c.next.new.self) (g.D.Device.time c.next.new.dev) (g.D.Device.opened c.next.new.dev) (g.D.Device.faults c.loop-given.dev) (g.D.Device.faults c.next.new.dev) c.next.result (refused_says g c) (refused_laid g c)
+    (c.next.ensures.going c.in_ok-section.section c.in_ok-section.field-0-1 c.in_ok-section.record (refused_gave g c) c.loop-given.invariant.going.going)
+
+refused_same : (g : given.Over) (c : goal.After-drop-tables-in_err-enter g) → g.D.Device.Tells → (s : ℕ) → records_given (run_of (place_of g.K.Key.SIZE) c.next.new.self) (disk (g.D.Device.time c.next.new.dev)) s ≡ records_given (run_of (place_of g.K.Key.SIZE) c.loop-given.replay) (disk (g.D.Device.time c.loop-given.dev)) s
+refused_same g c t s = (refused_going g c).given t s ∙ sym (c.loop-given.invariant.going.given t s)
+
+refused_kept : (g : given.Over) (c : goal.After-drop-tables-in_err-enter g) → g.D.Device.Tells → (s : ℕ) → s < 2 ^ 64 → kept (run_of (place_of g.K.Key.SIZE) c.next.new.self).layout (as_read (disk (g.D.Device.time c.next.new.dev))) (marker (run_of (place_of g.K.Key.SIZE) c.next.new.self) s) s
+    ≡ kept (run_of (place_of g.K.Key.SIZE) c.args.replay.now).layout (as_read (disk (g.D.Device.time c.args.dev.now))) (marker (run_of (place_of g.K.Key.SIZE) c.args.replay.now) s) s
+refused_kept g c = kept_start g.D.Device.Tells (run_of (place_of g.K.Key.SIZE) c.args.replay.now) (run_of (place_of g.K.Key.SIZE) c.next.new.self) (g.D.Device.time c.args.dev.now) (g.D.Device.time c.next.new.dev) (run_layout (place_of g.K.Key.SIZE) c.args.replay.now c.next.new.self (refused_passed g c).same) (refused_passed g c).same.store (refused_going g c).stays
+
 pub returns-in_err-enter-clause-stray : goal.returns-in_err-enter-clause-stray
 returns-in_err-enter-clause-stray g c = λ t is.
     let bad : c.enter.result ≡ Err RecordCorrupted = search rules in
     let gives = refused_gives g c t in
-    let apart = stray_given g.K.Key.key_bytes c.args.cfg.now.items_per_section c.in_ok-section.section c.in_ok-section.field-0-1 c.in_ok-section.record (records_given (run_of (place_of g.K.Key.SIZE) c.loop-given.replay) (disk (g.D.Device.time c.loop-given.dev)) c.in_ok-section.section) (records_given (run_of (place_of g.K.Key.SIZE) c.args.replay.now) (disk (g.D.Device.time c.args.dev.now)) c.in_ok-section.section)
-    (c.loop-given.invariant.going.given t c.in_ok-section.section) gives.due.given gives.item.spelled gives.item.allowed (c.enter.ensures.stray.0 bad) in
-    (c.in_ok-section.section, c.in_ok-section.field-0-1, apart.0, apart.1)
+    let start = run_of (place_of g.K.Key.SIZE) c.args.replay.now in
+    let run = run_of (place_of g.K.Key.SIZE) c.next.new.self in
+    let apart = stray_given g.K.Key.key_bytes c.args.cfg.now.items_per_section c.in_ok-section.section c.in_ok-section.field-0-1 c.in_ok-section.record (records_given (run_of (place_of g.K.Key.SIZE) c.loop-given.replay) (disk (g.D.Device.time c.loop-given.dev)) c.in_ok-section.section) (records_given run (disk (g.D.Device.time c.next.new.dev)) c.in_ok-section.section)
+    (sym (refused_same g c t c.in_ok-section.section)) gives.due.given gives.item.spelled gives.item.allowed (c.enter.ensures.stray.0 bad) in
+    stray_kept run (g.D.Device.opened c.next.new.dev) (disk (g.D.Device.time c.next.new.dev)) (are_pages g.row.S g.S.Seal g.S.Seal-dict) (here_run (place_of g.K.Key.SIZE) c.next.new.self (index_record_at_least g.K.Key.SIZE)) (refused_passed g c).over ((refused_passed g c).same.tracked ∙ c.requires.tracked) (refused_going g c).going t
+    (λ s. kept start.layout (as_read (disk (g.D.Device.time c.args.dev.now))) (marker start s) s) (refused_kept g c t) c.args.cfg.now.items_per_section c.in_ok-section.section c.in_ok-section.field-0-1 apart.0
+    (undue g.K.Key.SIZE (rows_of g.K.Key.key_bytes c.loop-given.tables) (run_of (place_of g.K.Key.SIZE) c.loop-given.replay) run (disk (g.D.Device.time c.loop-given.dev)) (disk (g.D.Device.time c.next.new.dev)) (c.loop-given.invariant.entered t) (spelling_of g.K.Key.key_bytes) (λ r _. IsInRange r) c.in_ok-section.section c.in_ok-section.field-0-1 c.in_ok-section.record gives)
+    apart.1
 
 pub returns-in_err-enter-clause-full : goal.returns-in_err-enter-clause-full
 returns-in_err-enter-clause-full g c = λ t is.
     let bad : c.enter.result ≡ Err Full = search rules in
     let gives = refused_gives g c t in
     let entered = c.loop-given.invariant.entered t in
-    over_given (row_in g.K.Key.SIZE) c.args.cfg.now.limits.sections c.args.cfg.now.limits.per_section c.in_ok-section.section c.in_ok-section.field-0-1 (rows_of g.K.Key.key_bytes c.loop-given.tables)
-    (records_given (run_of (place_of g.K.Key.SIZE) c.loop-given.replay) (disk (g.D.Device.time c.loop-given.dev))) (records_given (run_of (place_of g.K.Key.SIZE) c.args.replay.now) (disk (g.D.Device.time c.args.dev.now))) (c.loop-given.invariant.going.given t) entered.listed
-    (small_given (page_blob.ghosts g.row.S g.S.Seal g.S.Seal-dict) page_setting _ (λ f. record { page_size = 1; capacity = f.capacity }) g.D.Device.Tells (run_of (place_of g.K.Key.SIZE) c.args.replay.now) (g.D.Device.opened c.args.dev.now) (disk (g.D.Device.time c.args.dev.now))
-    c.requires.over (omega arith) (c.requires.due t))
-    (next_row g.K.Key.SIZE (rows_of g.K.Key.key_bytes c.loop-given.tables) (run_of (place_of g.K.Key.SIZE) c.loop-given.replay) (disk (g.D.Device.time c.loop-given.dev)) entered c.in_ok-section.section c.in_ok-section.field-0-1 gives.due gives.first) gives.due.given
+    let rows = rows_of g.K.Key.key_bytes c.loop-given.tables in
+    let start = run_of (place_of g.K.Key.SIZE) c.args.replay.now in
+    let walked = run_of (place_of g.K.Key.SIZE) c.loop-given.replay in
+    let run = run_of (place_of g.K.Key.SIZE) c.next.new.self in
+    let d = disk (g.D.Device.time c.loop-given.dev) in
+    let e = disk (g.D.Device.time c.next.new.dev) in
+    over_kept run (g.D.Device.opened c.next.new.dev) e (are_pages g.row.S g.S.Seal g.S.Seal-dict) (here_run (place_of g.K.Key.SIZE) c.next.new.self (index_record_at_least g.K.Key.SIZE)) (refused_passed g c).over ((refused_passed g c).same.tracked ∙ c.requires.tracked) (refused_going g c).going t
+    (λ s. kept start.layout (as_read (disk (g.D.Device.time c.args.dev.now))) (marker start s) s) (refused_kept g c t) c.args.cfg.now.limits.sections c.args.cfg.now.limits.per_section c.in_ok-section.section c.in_ok-section.field-0-1 rows
+    (undue_rows g.K.Key.SIZE rows walked run d e entered (spelling_of g.K.Key.key_bytes) (λ r _. IsInRange r) c.in_ok-section.section c.in_ok-section.field-0-1 c.in_ok-section.record gives)
+    (given_rows g.K.Key.SIZE rows walked run d e entered (spelling_of g.K.Key.key_bytes) (λ r _. IsInRange r) c.in_ok-section.section c.in_ok-section.field-0-1 c.in_ok-section.record gives (refused_same g c t))
+    (next_row g.K.Key.SIZE rows walked d entered c.in_ok-section.section c.in_ok-section.field-0-1 gives.due gives.first)
+    (subst (λ (rs : List (List ℕ)). c.in_ok-section.field-0-1 < length rs) (sym (refused_same g c t c.in_ok-section.section)) gives.due.given)
+    (undue g.K.Key.SIZE rows walked run d e entered (spelling_of g.K.Key.key_bytes) (λ r _. IsInRange r) c.in_ok-section.section c.in_ok-section.field-0-1 c.in_ok-section.record gives)
     (c.enter.ensures.full.0 bad).1
 
 pub returns-clause-same : goal.returns-clause-same

@@ -8,8 +8,8 @@ use Rattle.paired.specs.Replaying.{records_given}
 use Rattle.paired.specs.ReplayShown.{run_of}
 use Rattle.paired.proofs.PairSynced.{page_setting}
 use Rattle.archives.specs.IndexRecord.{IsSpelled, place_of}
-use Rattle.archives.specs.Opening.{AreWithin, HasEntered}
-use Rattle.archives.specs.Rows.{AreFilledBut, rows_of}
+use Rattle.archives.specs.Opening.{HasEntered}
+use Rattle.archives.specs.Rows.{AreFilledBut, AreWithin, rows_of}
 use Rattle.archives.proofs.OpenLoop.{Going, Passed}
 use Rattle.archives.proofs.prunable.Archive.entered.Given as goal
 

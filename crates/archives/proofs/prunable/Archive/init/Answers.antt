@@ -1,4 +1,4 @@
-use Rattle.std.proofs.Common.{rules, ◌≡◌, ◌↔◌, ◌⊎◌, inl, inr, refl, sym, ◌∙◌, ap, subst, ℕ, ◌+◌, ◌-◌, ◌*◌, ◌≤◌, ◌<◌, ◌^◌, true, List, [], length, map, Option, None, Some, Err, arith}
+use Rattle.std.proofs.Common.{◌≡◌, ◌⊎◌, inl, inr, refl, sym, ◌∙◌, ap, subst, ℕ, ◌+◌, ◌-◌, ◌*◌, ◌≤◌, ◌<◌, ◌^◌, true, length, map, None, Err, arith}
 use Rattle.std.specs.Prelude.{⊤}
 use Rattle.std.specs.List.{AllByRecursion}
 use Rattle.blob_device.specs.Timeline.{disk, Always}
@@ -18,40 +18,43 @@ use Rattle.blob_device.proofs.Moments.{always_now}
 use Rattle.sealed_pages.specs.declared.page_blob.PageBlob.{PageBlob}
 use Rattle.segments.specs.declared.sealed.AppendFactory.{AppendFactory}
 use Rattle.segments.proofs.FixedWriteLemmas.{are_pages}
-use Rattle.paired.specs.Crashes.{IsBlobOf}
-use Rattle.paired.specs.Kept.{IsMarked, kept, marker_of, stored_records}
+use Rattle.paired.specs.Kept.{IsMarked, IsSameLayout, Markers, kept, marker_of, stored_records}
 use Rattle.paired.specs.Opening.{HoldMarkers, IsLawful, MayBeOpened, OnlyOpens, as_read}
 use Rattle.paired.specs.OpeningFound.{HasFound, HasKept}
-use Rattle.paired.specs.Pair.{AreApart, HasNoBytes, IsSoundOn, list_of, records_of}
+use Rattle.paired.specs.Pair.{AreApart, IsSoundOn, list_of, records_of}
 use Rattle.paired.specs.PairShown as pair
-use Rattle.paired.specs.Replaying.{LeftAtMost, marker, pair_of, records_given}
+use Rattle.paired.specs.Replaying.{LeftAtMost, marker, pair_of}
 use Rattle.paired.proofs.OpeningStart.{read_alike, stored_alike}
 use Rattle.paired.proofs.PairReads.{leaves_now}
-use Rattle.paired.proofs.PairSynced.{Here, page_setting}
+use Rattle.paired.proofs.PairSynced.{Here, here_of, page_setting}
 use Rattle.paired.proofs.ReconcileEntries.{drained_from, markers_readable, run_here}
 use Rattle.paired.specs.OpeningRefusing.{AreCounted, IsLost}
 use Rattle.paired.specs.ReplayShown.{layout_for, run_of}
-use Rattle.archives.specs.Archives.{Archive, LeavesNoForeign}
+use Rattle.archives.specs.Archives.{Archive, LeavesNoForeign, filing_of}
 use Rattle.archives.specs.Filing.{kept_entries}
+use Rattle.archives.specs.FilingLaws.{one_filing}
 use Rattle.archives.specs.IndexRecord.{IsSpelled, place_of}
 use Rattle.archives.specs.Lawful.{Lawful}
-use Rattle.archives.specs.Opening.{FindsShort}
+use Rattle.archives.specs.Opening.{FindsShort, LeavesLawful}
 use Rattle.archives.specs.declared.error.Error.TheVariants.{Full, Journal, Metadata, RecordCorrupted}
 use Rattle.archives.specs.Raised.{raised}
 use Rattle.archives.specs.Rows.{AreFilledBut, row_in, rows_of}
 use Rattle.archives.specs.Standing.{StandsFor}
 use Rattle.archives.specs.Shown.{filing_for}
 use Rattle.archives.proofs.InitErrors.{end_stops, gives_up_before, gives_up_on, handed, journal_back, no_refusal, after_replay, end_full, end_no_copy, end_no_name, end_no_start, metadata_back, no_stray_back, pair_no_full, pair_no_page, pair_no_start, own_back, own_failed, own_stops, pair_stops}
+use Rattle.archives.proofs.PutSync.{same_filing}
 use Rattle.archives.proofs.SyncLemmas.{none_in}
-use Rattle.archives.proofs.InitCauses.{none_refused, lawful_no_over, lawful_no_stray, marked_damage, marked_short, over_of, stray_of}
+use Rattle.archives.proofs.InitCauses.{none_refused, lawful_no_over, lawful_no_stray, marked_damage, marked_short}
 use Rattle.archives.proofs.InitEnds.{drained_given, moved_kept, moved_small, not_replay}
 use Rattle.archives.proofs.ArchiveStands.{no_foreign}
-use Rattle.archives.proofs.InitSound.{absent_left, counted, decoded, no_foreign_before, rests, stands_read}
-use Rattle.archives.proofs.InitMarkers.{none_unreadable}
-use Rattle.archives.proofs.InitStored.{given_kept, given_number, left_at_most, there_now}
+use Rattle.archives.proofs.InitSound.{all_lawful, no_foreign_before, rests}
+use Rattle.archives.proofs.InitLeft.{pair_rests, sound_left}
+use Rattle.archives.proofs.Reopening.{reopens}
+use Rattle.archives.proofs.OpenKept.{over_same, stray_same}
+use Rattle.archives.proofs.InitStored.{left_at_most}
 use Rattle.archives.proofs.InitLayouts.{layout_same}
-use Rattle.archives.proofs.InitRecords.{all_whole, has_no_version, no_version_left, one_markers}
-use Rattle.archives.proofs.InitState.{archive_over, given_count, in_place, lists_left, none_behind, marker_is, none_over, none_stray, records_left, starts}
+use Rattle.archives.proofs.InitRecords.{all_whole, has_no_version, no_version_left, none_unreadable, one_markers}
+use Rattle.archives.proofs.InitState.{archive_over, given_count, in_place, lists_left, marker_is, none_over, none_stray, records_left, starts}
 use Rattle.archives.proofs.InitMoments.{EntriesStay, OthersStay, Recalling, StaysOpen, entries_as, entries_on, moments_lawful, moments_stand, open_as, others_as, others_on, others_opened, recalling_as, recalling_on, same_layout, standing_still}
 use Rattle.archives.proofs.prunable.Archive.init.Goals as goal
 
@@ -103,10 +106,10 @@ returns-in_err-replay-clause-causes g c t =
     record {
       corrupt = λ side has. subst (λ y. PairOn y.markers y.metadata (disk a) (Err side)) named ((c.in_err-replay.ensures.refusals t).corrupt side (metadata_back r _ x is (store.Corruption side) has));
       named = λ n has. subst (λ y. IsForeign (disk a) y.index n ⊎ IsForeign (disk a) y.values n) named ((c.in_err-replay.ensures.refusals t).named n (journal_back r _ x is (section.InvalidBlobName n) has));
-      damage = λ y has. inl (λ markers held. subst (λ z. IsLost z (IsMarked markers) (disk a) y) named ((c.in_err-replay.ensures.refusals t).damage markers (subst (λ z. HoldMarkers z (as_read (disk a)) markers) (sym named) held) y (journal_back r _ x is (section.Corruption y) has)));
+      damage = λ y has. (let w = (c.in_err-replay.ensures.refusals t).damage y (journal_back r _ x is (section.Corruption y) has) in (w.0, subst (λ z. HoldMarkers z (as_read (disk a)) w.0) named w.1, inl (subst (λ z. IsLost z (IsMarked w.0) (disk a) y) named w.2)));
       damaged = λ k has. absurd (pair_no_page r _ x is fa fb c.in_err-replay.ensures.cause k has);
       start = λ n has. pair_no_start r _ x is fa fb c.in_err-replay.ensures.cause n has;
-      spelled = λ y has. none_unreadable l (disk a) y _ fa fb (journal_back r _ x is (section.Codec y) has) (λ markers held. (c.in_err-replay.ensures.refusals t).refused markers held y (journal_back r _ x is (section.Codec y) has)) (λ side pair_has. c.in_err-replay.ensures.corrupt_copies t side pair_has);
+      spelled = λ y has. (let w = (c.in_err-replay.ensures.refusals t).refused y (journal_back r _ x is (section.Codec y) has) in none_unreadable l (disk a) (IsMarked w.0) y w.2);
       stray = λ has. no_stray_back r ⊤ x is has;
       full = λ has. absurd (pair_no_full r _ x is fa fb c.in_err-replay.ensures.cause has);
     }
@@ -211,13 +214,11 @@ returns-in_err-tables-clause-reads g c t markers held s small =
     let readable : IsReadable f.layout.markers = markers_readable g.S.Seal in
     let found : HasFound f.layout (disk a) (disk b) run = subst (λ y. HasFound y (disk a) (disk b) run) named (c.in_ok-replay.ensures.found t) in
     let apart : AreApart f.layout = subst AreApart here c.in_ok-replay.ensures.over.apart in let opens : OnlyOpens f.layout (disk a) (disk b) = always_now a b (OnlyOpens f.layout (disk a)) (subst (λ x. Always a b (OnlyOpens x (disk a))) named (c.init_with_metadata.ensures.settles t)) in
-    let there : (s : ℕ) → IsHeld run.walk.journal.sections s → reads (disk b (section_key run.layout.index s)) ≡ Some (disk b (section_key run.layout.index s)).content = λ s held. subst (λ y. reads (disk b (section_key y.index s)) ≡ Some (disk b (section_key y.index s)).content) (sym here)
-    (there_now f.layout apart (disk a) (disk b) opens s (((found.index_held s (c.in_ok-replay.ensures.over.index.over.opened_list.number s (inl held))).0) held)) in
     let at_home : Here page_setting (pair_of run) = run_here (place_of g.K.Key.SIZE) c.in_ok-replay.replay (omega arith) in
     let same : run.store.entries ≡ markers = one_markers f.layout readable (as_read (disk a)) run.store.entries markers found.markers held in
     let stored : stored_records run.layout (as_read (disk b)) s ≡ stored_records f.layout (as_read (disk a)) s = ap (λ y. stored_records y (as_read (disk b)) s) here ∙ stored_alike f.layout (as_read (disk a)) (as_read (disk b)) (read_alike f.layout apart (disk a) (disk b) opens) s in
     let left : LeftAtMost run (disk b) s (length (stored_records f.layout (as_read (disk a)) s) - marker_of markers s) =
-    subst (λ n. LeftAtMost run (disk b) s n) (λ i. length (stored i) - marker_of (same i) s) (left_at_most run (g.D.Device.opened c.init_with_metadata.new.dev) (disk b) (are_pages g.row.S g.S.Seal g.S.Seal-dict) at_home c.in_ok-replay.ensures.over c.in_ok-replay.ensures.tracked c.in_ok-replay.ensures.going t there s) in
+    subst (λ n. LeftAtMost run (disk b) s n) (λ i. length (stored i) - marker_of (same i) s) (left_at_most run (g.D.Device.opened c.init_with_metadata.new.dev) (disk b) (are_pages g.row.S g.S.Seal g.S.Seal-dict) at_home c.in_ok-replay.ensures.over c.in_ok-replay.ensures.tracked c.in_ok-replay.ensures.going t s) in
     let one : reads_of (p (section_key f.layout.values s)) ≤ reads_of (o (section_key f.layout.values s)) = subst (λ y. reads_of (p (section_key y.values s)) ≤ reads_of (o (section_key y.values s))) named (c.init_with_metadata.ensures.reads s small) in
     let two : reads_of (r (section_key f.layout.values s)) ≤ reads_of (p (section_key f.layout.values s)) + (length (stored_records f.layout (as_read (disk a)) s) - marker_of markers s) =
     subst (λ y. reads_of (r (section_key y.values s)) ≤ reads_of (p (section_key y.values s)) + (length (stored_records f.layout (as_read (disk a)) s) - marker_of markers s)) here (c.entered.ensures.reads t s (length (stored_records f.layout (as_read (disk a)) s) - marker_of markers s) small left) in
@@ -231,19 +232,16 @@ returns-in_err-tables-clause-causes g c t =
     let run = run_of (place_of g.K.Key.SIZE) c.in_ok-replay.replay in let here : run.layout ≡ f.layout = same_layout l run.layout c.in_ok-replay.ensures.layout ∙ named in let e = g.D.Device.time c.entered.new.dev in
     let found : HasFound f.layout (disk a) (disk b) run = subst (λ y. HasFound y (disk a) (disk b) run) named (c.in_ok-replay.ensures.found t) in
     let apart : AreApart f.layout = subst AreApart here c.in_ok-replay.ensures.over.apart in let opens : OnlyOpens f.layout (disk a) (disk b) = always_now a b (OnlyOpens f.layout (disk a)) (subst (λ x. Always a b (OnlyOpens x (disk a))) named (c.init_with_metadata.ensures.settles t)) in
-    let there : (s : ℕ) → IsHeld run.walk.journal.sections s → reads (disk b (section_key run.layout.index s)) ≡ Some (disk b (section_key run.layout.index s)).content = λ s held. subst (λ y. reads (disk b (section_key y.index s)) ≡ Some (disk b (section_key y.index s)).content) (sym here)
-    (there_now f.layout apart (disk a) (disk b) opens s (((found.index_held s (c.in_ok-replay.ensures.over.index.over.opened_list.number s (inl held))).0) held)) in
-    let at_home : Here page_setting (pair_of run) = run_here (place_of g.K.Key.SIZE) c.in_ok-replay.replay (omega arith) in
-    let given : IsLawful f.layout (as_read (disk a)) run.store.entries → (s : ℕ) → s < 2 ^ 64 → records_given run (disk b) s ≡ map (λ y. y.stored) (kept_entries f (as_read (disk a)) run.store.entries s) = λ lawful s small.
-    given_kept run (g.D.Device.opened c.init_with_metadata.new.dev) (disk b) (are_pages g.row.S g.S.Seal g.S.Seal-dict) at_home c.in_ok-replay.ensures.over c.in_ok-replay.ensures.tracked c.in_ok-replay.ensures.going t there (subst (λ y. IsLawful y (as_read (disk b)) run.store.entries) (sym here) (found.lawful run.store.entries lawful)) s small
-    ∙ ap (λ y. map (λ x. x.stored) (kept y (as_read (disk b)) (marker run s) s)) here ∙ ap (map (λ x. x.stored)) (found.same s small) in
-    let number : (s p : ℕ) → p < length (records_given run (disk b) s) → s < 2 ^ 64 = λ s p lt. given_number run (g.D.Device.opened c.init_with_metadata.new.dev) (disk b) (are_pages g.row.S g.S.Seal g.S.Seal-dict) at_home c.in_ok-replay.ensures.over c.in_ok-replay.ensures.tracked c.in_ok-replay.ensures.going t there s p lt in
+    let bytes : (s : ℕ) → length (stored_records run.layout (as_read (disk b)) s) * run.layout.record_size ≡ length (stored_records f.layout (as_read (disk a)) s) * f.layout.record_size = λ s.
+    ap (λ y. length (stored_records y (as_read (disk b)) s) * y.record_size) here ∙ ap (λ xs. length xs * f.layout.record_size) (stored_alike f.layout (as_read (disk a)) (as_read (disk b)) (read_alike f.layout apart (disk a) (disk b) opens) s) in
+    let same : (s : ℕ) → s < 2 ^ 64 → kept run.layout (as_read (disk b)) (marker run s) s ≡ kept_entries f (as_read (disk a)) run.store.entries s = λ s small. ap (λ y. kept y (as_read (disk b)) (marker run s) s) here ∙ found.same s small in
     let floors : (s : ℕ) → run.walk.journal.floor_of s ≡ marker_of run.store.entries s * f.layout.record_size = (c.in_ok-replay.ensures.over.opening c.in_ok-replay.ensures.tracked).floors in
     let r = c.from_residual-in_err-tables.result in let x = c.in_err-tables.field-0.0 in let is : r ≡ Err x = err_of r x c.from_residual-in_err-tables.ensures.1 in
     record {
       corrupt = λ side has. absurd (c.in_err-tables.ensures.whole_copies side (own_back r _ x is (Metadata (store.Corruption side)) has));
       named = λ n has. absurd (c.in_err-tables.ensures.own_names n (own_back r _ x is (Journal (section.InvalidBlobName n)) has));
-      damage = λ y has. inr (run.store.entries, found.markers, marked_damage run.store.entries f.layout.record_size run.walk.journal.floor_of floors y (c.in_err-tables.ensures.damage t y (own_back r _ x is (Journal (section.Corruption y)) has)));
+      damage = λ y has. (let w = c.in_err-tables.ensures.damage t y (own_back r _ x is (Journal (section.Corruption y)) has) in
+          (run.store.entries, found.markers, inr (marked_damage run.store.entries f.layout.record_size run.walk.journal.floor_of floors y (length (stored_records f.layout (as_read (disk a)) y.section) * f.layout.record_size) (w.0, w.1, w.2 ∙ bytes y.section))));
       damaged = λ k has. (
         run.store.entries,
         found.markers,
@@ -252,13 +250,8 @@ returns-in_err-tables-clause-causes g c t =
       );
       start = λ n has. c.in_err-tables.ensures.start t n (own_back r _ x is (Journal (section.ItemOutOfRange n)) has);
       spelled = λ y has. c.in_err-tables.ensures.unspelled t y (own_back r _ x is (Journal (section.Codec y)) has);
-      stray = λ has. (
-        run.store.entries,
-        found.markers,
-        λ lawful. (let w = c.in_err-tables.ensures.stray t (own_back r _ x is RecordCorrupted has) in
-            stray_of f (as_read (disk a)) run.store.entries (records_given run (disk b)) (given lawful) w.0 w.1 (number w.0 w.1 w.2) w.2 w.3),
-      );
-      full = λ has. (run.store.entries, found.markers, inl (λ lawful. over_of f (as_read (disk a)) run.store.entries (records_given run (disk b)) (given lawful) f.most_sections f.most_records (c.in_err-tables.ensures.full t (own_back r _ x is Full has))));
+      stray = λ has. (run.store.entries, found.markers, stray_same (λ s. kept run.layout (as_read (disk b)) (marker run s) s) (kept_entries f (as_read (disk a)) run.store.entries) same f.items (c.in_err-tables.ensures.stray t (own_back r _ x is RecordCorrupted has)));
+      full = λ has. inl (run.store.entries, found.markers, over_same (λ s. kept run.layout (as_read (disk b)) (marker run s) s) (kept_entries f (as_read (disk a)) run.store.entries) same f.most_sections f.most_records (c.in_err-tables.ensures.full t (own_back r _ x is Full has)));
     }
 
 pub returns-in_err-tables-clause-corrupt_copies : goal.returns-in_err-tables-clause-corrupt_copies
@@ -277,23 +270,14 @@ returns-in_err-tables-clause-complete g c t markers lawful counted =
     let run = run_of (place_of g.K.Key.SIZE) c.in_ok-replay.replay in let here : run.layout ≡ f.layout = same_layout l run.layout c.in_ok-replay.ensures.layout ∙ named in
     let readable : IsReadable f.layout.markers = markers_readable g.S.Seal in
     let found : HasFound f.layout (disk a) (disk b) run = subst (λ y. HasFound y (disk a) (disk b) run) named (c.in_ok-replay.ensures.found t) in
-    let apart : AreApart f.layout = subst AreApart here c.in_ok-replay.ensures.over.apart in let opens : OnlyOpens f.layout (disk a) (disk b) = always_now a b (OnlyOpens f.layout (disk a)) (subst (λ x. Always a b (OnlyOpens x (disk a))) named (c.init_with_metadata.ensures.settles t)) in
-    let there : (s : ℕ) → IsHeld run.walk.journal.sections s → reads (disk b (section_key run.layout.index s)) ≡ Some (disk b (section_key run.layout.index s)).content = λ s held. subst (λ y. reads (disk b (section_key y.index s)) ≡ Some (disk b (section_key y.index s)).content) (sym here)
-    (there_now f.layout apart (disk a) (disk b) opens s (((found.index_held s (c.in_ok-replay.ensures.over.index.over.opened_list.number s (inl held))).0) held)) in
-    let at_home : Here page_setting (pair_of run) = run_here (place_of g.K.Key.SIZE) c.in_ok-replay.replay (omega arith) in
-    let given : IsLawful f.layout (as_read (disk a)) run.store.entries → (s : ℕ) → s < 2 ^ 64 → records_given run (disk b) s ≡ map (λ y. y.stored) (kept_entries f (as_read (disk a)) run.store.entries s) = λ lawful s small.
-    given_kept run (g.D.Device.opened c.init_with_metadata.new.dev) (disk b) (are_pages g.row.S g.S.Seal g.S.Seal-dict) at_home c.in_ok-replay.ensures.over c.in_ok-replay.ensures.tracked c.in_ok-replay.ensures.going t there (subst (λ y. IsLawful y (as_read (disk b)) run.store.entries) (sym here) (found.lawful run.store.entries lawful)) s small
-    ∙ ap (λ y. map (λ x. x.stored) (kept y (as_read (disk b)) (marker run s) s)) here ∙ ap (map (λ x. x.stored)) (found.same s small) in
-    let number : (s p : ℕ) → p < length (records_given run (disk b) s) → s < 2 ^ 64 = λ s p lt. given_number run (g.D.Device.opened c.init_with_metadata.new.dev) (disk b) (are_pages g.row.S g.S.Seal g.S.Seal-dict) at_home c.in_ok-replay.ensures.over c.in_ok-replay.ensures.tracked c.in_ok-replay.ensures.going t there s p lt in
+    let keeps : (s : ℕ) → s < 2 ^ 64 → kept run.layout (as_read (disk b)) (marker run s) s ≡ kept_entries f (as_read (disk a)) run.store.entries s = λ s small. ap (λ y. kept y (as_read (disk b)) (marker run s) s) here ∙ found.same s small in
     let r = c.from_residual-in_err-tables.result in let x = c.in_err-tables.field-0.0 in let is : r ≡ Err x = err_of r x c.from_residual-in_err-tables.ensures.1 in
     let same : markers ≡ run.store.entries = one_markers f.layout readable (as_read (disk a)) markers run.store.entries lawful.pair.held found.markers in
     let own_lawful : Lawful f (as_read (disk a)) run.store.entries = subst (Lawful f (as_read (disk a))) same lawful in
     let lawful_now : IsLawful run.layout (as_read (disk b)) run.store.entries = subst (λ y. IsLawful y (as_read (disk b)) run.store.entries) (sym here) (found.lawful markers lawful.pair) in
     err_with r (elim (c.in_err-tables.ensures.complete t lawful_now) [
-      | inl stray ↦ (let w = c.in_err-tables.ensures.stray t stray in
-          absurd (lawful_no_stray f (as_read (disk a)) run.store.entries own_lawful (stray_of f (as_read (disk a)) run.store.entries (records_given run (disk b)) (given own_lawful.pair) w.0 w.1 (number w.0 w.1 w.2) w.2 w.3)))
-      | inr (inl full) ↦ absurd (lawful_no_over f (as_read (disk a)) run.store.entries own_lawful (over_of f (as_read (disk a)) run.store.entries (records_given run (disk b)) (given own_lawful.pair) f.most_sections f.most_records
-          (c.in_err-tables.ensures.full t full)))
+      | inl stray ↦ absurd (lawful_no_stray f (as_read (disk a)) run.store.entries own_lawful (stray_same (λ s. kept run.layout (as_read (disk b)) (marker run s) s) (kept_entries f (as_read (disk a)) run.store.entries) keeps f.items (c.in_err-tables.ensures.stray t stray)))
+      | inr (inl full) ↦ absurd (lawful_no_over f (as_read (disk a)) run.store.entries own_lawful (over_same (λ s. kept run.layout (as_read (disk b)) (marker run s) s) (kept_entries f (as_read (disk a)) run.store.entries) keeps f.most_sections f.most_records (c.in_err-tables.ensures.full t full)))
       | inr (inr failed) ↦ inr (gives_up_before r fa fb fe c.init_with_metadata.ensures.faults (inl (own_failed r _ x is fb fe failed)))
     ])
 
@@ -380,13 +364,11 @@ returns-in_err-finish_tracked-clause-reads g c t markers held s small =
     let readable : IsReadable f.layout.markers = markers_readable g.S.Seal in
     let found : HasFound f.layout (disk a) (disk b) run = subst (λ y. HasFound y (disk a) (disk b) run) named (c.in_ok-replay.ensures.found t) in
     let apart : AreApart f.layout = subst AreApart here c.in_ok-replay.ensures.over.apart in let opens : OnlyOpens f.layout (disk a) (disk b) = always_now a b (OnlyOpens f.layout (disk a)) (subst (λ x. Always a b (OnlyOpens x (disk a))) named (c.init_with_metadata.ensures.settles t)) in
-    let there : (s : ℕ) → IsHeld run.walk.journal.sections s → reads (disk b (section_key run.layout.index s)) ≡ Some (disk b (section_key run.layout.index s)).content = λ s held. subst (λ y. reads (disk b (section_key y.index s)) ≡ Some (disk b (section_key y.index s)).content) (sym here)
-    (there_now f.layout apart (disk a) (disk b) opens s (((found.index_held s (c.in_ok-replay.ensures.over.index.over.opened_list.number s (inl held))).0) held)) in
     let at_home : Here page_setting (pair_of run) = run_here (place_of g.K.Key.SIZE) c.in_ok-replay.replay (omega arith) in
     let same : run.store.entries ≡ markers = one_markers f.layout readable (as_read (disk a)) run.store.entries markers found.markers held in
     let stored : stored_records run.layout (as_read (disk b)) s ≡ stored_records f.layout (as_read (disk a)) s = ap (λ y. stored_records y (as_read (disk b)) s) here ∙ stored_alike f.layout (as_read (disk a)) (as_read (disk b)) (read_alike f.layout apart (disk a) (disk b) opens) s in
     let left : LeftAtMost run (disk b) s (length (stored_records f.layout (as_read (disk a)) s) - marker_of markers s) =
-    subst (λ n. LeftAtMost run (disk b) s n) (λ i. length (stored i) - marker_of (same i) s) (left_at_most run (g.D.Device.opened c.init_with_metadata.new.dev) (disk b) (are_pages g.row.S g.S.Seal g.S.Seal-dict) at_home c.in_ok-replay.ensures.over c.in_ok-replay.ensures.tracked c.in_ok-replay.ensures.going t there s) in
+    subst (λ n. LeftAtMost run (disk b) s n) (λ i. length (stored i) - marker_of (same i) s) (left_at_most run (g.D.Device.opened c.init_with_metadata.new.dev) (disk b) (are_pages g.row.S g.S.Seal g.S.Seal-dict) at_home c.in_ok-replay.ensures.over c.in_ok-replay.ensures.tracked c.in_ok-replay.ensures.going t s) in
     let one : reads_of (p (section_key f.layout.values s)) ≤ reads_of (o (section_key f.layout.values s)) = subst (λ y. reads_of (p (section_key y.values s)) ≤ reads_of (o (section_key y.values s))) named (c.init_with_metadata.ensures.reads s small) in
     let two : reads_of (r (section_key f.layout.values s)) ≤ reads_of (p (section_key f.layout.values s)) + (length (stored_records f.layout (as_read (disk a)) s) - marker_of markers s) =
     subst (λ y. reads_of (r (section_key y.values s)) ≤ reads_of (p (section_key y.values s)) + (length (stored_records f.layout (as_read (disk a)) s) - marker_of markers s)) here (c.entered.ensures.reads t s (length (stored_records f.layout (as_read (disk a)) s) - marker_of markers s) small left) in
@@ -418,13 +400,9 @@ returns-in_err-finish_tracked-clause-causes g c t =
       full = λ has.
           (let full = end_full r _ x is fe fz (after_replay (λ replay. not_replay walked tracked c.in_ok-tables.ensures.going c.in_ok-tables.ensures.drained (c.in_err-finish_tracked.ensures.replay_failed.0 replay)) c.in_err-finish_tracked.ensures.cause) has in
           let w = c.in_err-finish_tracked.ensures.full_moves t full in
-          let small : w.0 < 2 ^ 64 = moved_small walked (g.D.Device.opened c.entered.new.dev) (disk e) (drained_from (are_pages g.row.S g.S.Seal g.S.Seal-dict) (run_here (place_of g.K.Key.SIZE) c.entered.new.replay (omega arith)) c.entered.ensures.over tracked c.in_ok-tables.ensures.going c.in_ok-tables.ensures.drained) w.0 w.1 in (
-            run.store.entries,
-            found.markers,
-            inr (
-              has_no_version f.layout readable apart (disk a) (disk b) opens run.store part (c.in_ok-replay.ensures.over.markers t) found.markers (subst (λ u. 2 ^ 64 ≤ u.version + 1) store (c.in_err-finish_tracked.ensures.full full)),
-              (w.0, small, moved_kept f readable run walked (disk a) (disk b) (disk e) still store found stays (drained_given walked (g.D.Device.opened c.entered.new.dev) (disk e) (drained_from (are_pages g.row.S g.S.Seal g.S.Seal-dict) (run_here (place_of g.K.Key.SIZE) c.entered.new.replay (omega arith)) c.entered.ensures.over tracked c.in_ok-tables.ensures.going c.in_ok-tables.ensures.drained) t) w.0 small w.1),
-            ),
+          let small : w.0 < 2 ^ 64 = moved_small walked (g.D.Device.opened c.entered.new.dev) (disk e) (drained_from (are_pages g.row.S g.S.Seal g.S.Seal-dict) (run_here (place_of g.K.Key.SIZE) c.entered.new.replay (omega arith)) c.entered.ensures.over tracked c.in_ok-tables.ensures.going c.in_ok-tables.ensures.drained) w.0 w.1 in inr (
+            has_no_version f.layout readable apart (disk a) (disk b) opens run.store part (c.in_ok-replay.ensures.over.markers t) found.markers (subst (λ u. 2 ^ 64 ≤ u.version + 1) store (c.in_err-finish_tracked.ensures.full full)),
+            (run.store.entries, found.markers, (w.0, small, moved_kept f readable run walked (disk a) (disk b) (disk e) still store found stays (drained_given walked (g.D.Device.opened c.entered.new.dev) (disk e) (drained_from (are_pages g.row.S g.S.Seal g.S.Seal-dict) (run_here (place_of g.K.Key.SIZE) c.entered.new.replay (omega arith)) c.entered.ensures.over tracked c.in_ok-tables.ensures.going c.in_ok-tables.ensures.drained) t) w.0 small w.1)),
           ));
     }
 
@@ -484,15 +462,25 @@ returns-clause-over g c =
       listed = λ t s. c.in_ok-tables.ensures.rows t s ∙ ap (map (row_in g.K.Key.SIZE)) (sym ((c.in_ok-finish_tracked.ensures.kept t).records s));
       spelled = λ t s. subst (AllByRecursion (IsSpelled g.K.Key.SIZE)) (sym ((c.in_ok-finish_tracked.ensures.kept t).records s)) (c.in_ok-tables.ensures.spelled t s);
       filled = c.in_ok-tables.ensures.filled;
-      in_section = c.in_ok-tables.ensures.within.in_section;
-      few_sections = c.in_ok-tables.ensures.within.few_sections;
-      few_records = c.in_ok-tables.ensures.within.few_records;
+      within = c.in_ok-tables.ensures.within;
       unwritten = λ s none. c.in_ok-finish_tracked.ensures.counts.synced s;
       written = λ s is. absurd (cc (is, none_in c.new.result c.new.ensures.empty s));
     }
 
+pub returns-clause-filing : goal.returns-clause-filing
+returns-clause-filing g c =
+    let f = filing_for g.K.Key.SIZE g.S.Seal g.V.Codec.refusal c.args.cfg.now in
+    let l = layout_for (place_of g.K.Key.SIZE) (g.K.Key.SIZE + 20) g.S.Seal c.in_ok-pair.field-0 c.as_str.result.now in let named : l ≡ f.layout = layout_same g.K.Key.SIZE g.S.Seal g.V.Codec.refusal c.args.cfg.now c.in_ok-pair.field-0 c.as_str.result.now c.in_ok-pair.ensures.records c.in_ok-pair.ensures.values c.as_str.ensures.value c.in_ok-pair.ensures.pages in
+    let run = run_of (place_of g.K.Key.SIZE) c.in_ok-replay.replay in let here : run.layout ≡ f.layout = same_layout l run.layout c.in_ok-replay.ensures.layout ∙ named in
+    let walked = run_of (place_of g.K.Key.SIZE) c.entered.new.replay in let still : walked.layout ≡ f.layout = same_layout run.layout walked.layout c.entered.ensures.same.layout ∙ here in
+    let p = pair.shown (place_of g.K.Key.SIZE) c.in_ok-finish_tracked.field-0 in
+    let own : p.layout ≡ f.layout = same_layout walked.layout p.layout c.in_ok-finish_tracked.ensures.counts.layout ∙ still in
+    let config : c.in_ok-finish_tracked.field-0.values.codec_config ≡ c.args.cfg.now.codec_config = c.in_ok-finish_tracked.ensures.codec_config ∙ c.entered.ensures.codec_config ∙ c.in_ok-replay.ensures.codec_config ∙ c.in_ok-pair.ensures.codec_config in
+    let layout : IsSameLayout f.layout p.layout = record { index = ap (λ y. y.index) own; values = ap (λ y. y.values) own; metadata = ap (λ y. y.metadata) own; page_size = ap (λ y. y.page_size) own } in
+    same_filing f p.layout (λ bytes. g.V.Codec.refusal bytes c.in_ok-finish_tracked.field-0.values.codec_config) layout refl (λ _. refl) (λ _. refl) (λ bytes. ap (g.V.Codec.refusal bytes) config)
+
 pub returns-clause-records : goal.returns-clause-records
-returns-clause-records g c t markers held s small =
+returns-clause-records g c t =
     let f = filing_for g.K.Key.SIZE g.S.Seal g.V.Codec.refusal c.args.cfg.now in
     let a = g.D.Device.time c.args.dev.now in let b = g.D.Device.time c.init_with_metadata.new.dev in
     let l = layout_for (place_of g.K.Key.SIZE) (g.K.Key.SIZE + 20) g.S.Seal c.in_ok-pair.field-0 c.as_str.result.now in let named : l ≡ f.layout = layout_same g.K.Key.SIZE g.S.Seal g.V.Codec.refusal c.args.cfg.now c.in_ok-pair.field-0 c.as_str.result.now c.in_ok-pair.ensures.records c.in_ok-pair.ensures.values c.as_str.ensures.value c.in_ok-pair.ensures.pages in
@@ -505,7 +493,16 @@ returns-clause-records g c t markers held s small =
     let found : HasFound f.layout (disk a) (disk b) run = subst (λ y. HasFound y (disk a) (disk b) run) named (c.in_ok-replay.ensures.found t) in
     let stays : (s : ℕ) → s < 2 ^ 64 → kept f.layout (as_read (disk e)) (marker run s) s ≡ kept f.layout (as_read (disk b)) (marker run s) s = λ s small. subst (λ y. kept y (as_read (disk e)) (marker run s) s ≡ kept y (as_read (disk b)) (marker run s) s) here (c.in_ok-tables.ensures.kept t s small) in
     let keeps : HasKept walked (disk e) (disk z) arch.pair = c.in_ok-finish_tracked.ensures.kept t in
-    records_left f readable run walked (disk a) (disk b) (disk e) still store found stays markers held (disk z) arch keeps s small
+    (run.store.entries, found.markers, records_left f readable run walked (disk a) (disk b) (disk e) still store found stays run.store.entries found.markers (disk z) arch keeps)
+
+pub returns-clause-proved : goal.returns-clause-proved
+returns-clause-proved g c t markers held s m is =
+    let f = filing_for g.K.Key.SIZE g.S.Seal g.V.Codec.refusal c.args.cfg.now in
+    let a = g.D.Device.time c.args.dev.now in let b = g.D.Device.time c.init_with_metadata.new.dev in
+    let l = layout_for (place_of g.K.Key.SIZE) (g.K.Key.SIZE + 20) g.S.Seal c.in_ok-pair.field-0 c.as_str.result.now in let named : l ≡ f.layout = layout_same g.K.Key.SIZE g.S.Seal g.V.Codec.refusal c.args.cfg.now c.in_ok-pair.field-0 c.as_str.result.now c.in_ok-pair.ensures.records c.in_ok-pair.ensures.values c.as_str.ensures.value c.in_ok-pair.ensures.pages in
+    let run = run_of (place_of g.K.Key.SIZE) c.in_ok-replay.replay in let readable : IsReadable f.layout.markers = markers_readable g.S.Seal in
+    let found : HasFound f.layout (disk a) (disk b) run = subst (λ y. HasFound y (disk a) (disk b) run) named (c.in_ok-replay.ensures.found t) in
+    found.proved s m (subst (λ (es : Markers). IsMarked es s m) (one_markers f.layout readable (as_read (disk a)) markers run.store.entries held found.markers) is)
 
 pub returns-clause-start : goal.returns-clause-start
 returns-clause-start g c t markers lawful =
@@ -526,7 +523,7 @@ returns-clause-start g c t markers lawful =
     starts f readable run walked (disk a) (disk b) (disk e) still store found stays markers lawful.pair.held (disk z) arch keeps lawful.pair lawful_on (omega arith) number refl refl c.in_ok-finish_tracked.ensures.counts
 
 pub returns-clause-sound : goal.returns-clause-sound
-returns-clause-sound g c t may st leaves =
+returns-clause-sound g c t may leaves =
     let f = filing_for g.K.Key.SIZE g.S.Seal g.V.Codec.refusal c.args.cfg.now in
     let a = g.D.Device.time c.args.dev.now in let b = g.D.Device.time c.init_with_metadata.new.dev in
     let l = layout_for (place_of g.K.Key.SIZE) (g.K.Key.SIZE + 20) g.S.Seal c.in_ok-pair.field-0 c.as_str.result.now in let named : l ≡ f.layout = layout_same g.K.Key.SIZE g.S.Seal g.V.Codec.refusal c.args.cfg.now c.in_ok-pair.field-0 c.as_str.result.now c.in_ok-pair.ensures.records c.in_ok-pair.ensures.values c.as_str.ensures.value c.in_ok-pair.ensures.pages in
@@ -535,33 +532,22 @@ returns-clause-sound g c t may st leaves =
     let arch : Archive (AppendFactory g.row.S.Denot) (PageBlob g.row.S.Denot g.S.Seal) =
     archive_over (pair.shown (place_of g.K.Key.SIZE) c.in_ok-finish_tracked.field-0) f (λ bytes. g.V.Codec.refusal bytes c.in_ok-finish_tracked.field-0.values.codec_config) (rows_of g.K.Key.key_bytes c.in_ok-tables.tables)
     (AreFilledBut (λ _. ⊥) c.in_ok-tables.tables) (set.contains nat_cmp c.new.result) in
-    let readable : IsReadable f.layout.markers = markers_readable g.S.Seal in let store : walked.store ≡ run.store = c.entered.ensures.same.store in
-    let found : HasFound f.layout (disk a) (disk b) run = subst (λ y. HasFound y (disk a) (disk b) run) named (c.in_ok-replay.ensures.found t) in
-    let stays : (s : ℕ) → s < 2 ^ 64 → kept f.layout (as_read (disk e)) (marker run s) s ≡ kept f.layout (as_read (disk b)) (marker run s) s = λ s small. subst (λ y. kept y (as_read (disk e)) (marker run s) s ≡ kept y (as_read (disk b)) (marker run s) s) here (c.in_ok-tables.ensures.kept t s small) in
-    let keeps : HasKept walked (disk e) (disk z) arch.pair = c.in_ok-finish_tracked.ensures.kept t in
-    let apart : AreApart f.layout = subst AreApart here c.in_ok-replay.ensures.over.apart in
     let open_one : StaysOpen f.layout a b = open_as l f.layout named a b (c.init_with_metadata.ensures.opened t) in
     let open_two : StaysOpen f.layout a e = λ may. open_as run.layout f.layout here b e (c.in_ok-tables.ensures.opened t) (open_one may) in
-    let first : Always a b (OthersStay f.layout (disk a)) = others_opened f.layout a b (subst (λ x. Always a b (OnlyOpens x (disk a))) named (c.init_with_metadata.ensures.settles t)) in
-    let second : Always a e (OthersStay f.layout (disk a)) = others_on f.layout a b e first (others_as run.layout f.layout here b e (c.entered.ensures.untouched t)) in
-    let third : Always a z (OthersStay f.layout (disk a)) = others_on f.layout a e z second (others_as walked.layout f.layout still e z (c.finish_tracked.ensures.untouched t)) in
-    let number : (s : ℕ) → IsHeld arch.pair.index.sections s → s < 2 ^ 64 = λ s is. c.in_ok-finish_tracked.ensures.over.index.over.opened_list.number s (inl is) in
-    let lawful_on : IsLawful f.layout (as_read (disk b)) run.store.entries → IsLawful f.layout (as_read (disk e)) run.store.entries = subst (λ y. IsLawful y (as_read (disk b)) run.store.entries → IsLawful y (as_read (disk e)) run.store.entries) here (c.in_ok-tables.ensures.lawful t) in
-    let law : (q : Key) → MayLeave (disk a q) (reads (disk a q)) = λ q. g.met.D.Device.as_read t c.args.dev.now q in let was : StandsFor f st None (as_read (disk a)) = stands_read f st (disk a) law may leaves in let own : arch.pair.layout ≡ f.layout = same_layout walked.layout arch.pair.layout c.in_ok-finish_tracked.ensures.counts.layout ∙ still in
-    let lists : (s : ℕ) → s < 2 ^ 64 → list_of arch.pair (disk z) s ≡ kept_entries f (as_read (disk a)) was.markers s = λ s small. lists_left f readable run walked (disk a) (disk b) (disk e) still store found stays was.markers was.lawful.pair.held (disk z) arch keeps was.lawful.pair lawful_on s small in
-    let sound_pair : IsSoundOn arch.pair (disk z) = keeps.sound (subst (λ y. MayBeOpened y (disk e)) (sym still) (open_two may)) (in_place f readable run walked (disk a) (disk b) (disk e) still store found stays was.markers was.lawful.pair.held (disk z) arch keeps was.lawful.pair lawful_on) in
-    let names : LeavesNoForeign f.layout (disk z) = no_foreign f.layout apart (λ _. ⊤) (disk a) (disk z) (always_now a z (OthersStay f.layout (disk a)) third) (no_foreign_before f st (disk a) law may leaves apart) in
-    let tracked : walked.tracked ≡ true = c.entered.ensures.same.tracked ∙ c.in_ok-replay.ensures.tracked in
-    let behind : (s : ℕ) → 2 ^ 64 ≤ s → list_of arch.pair (disk z) s ≡ [] = λ s far. none_behind f readable run walked (disk a) (disk b) (disk e) still store found stays was.markers was.lawful.pair.held (disk z) arch keeps was.lawful.pair lawful_on (omega arith) number s far in
-    let config : c.in_ok-finish_tracked.field-0.values.codec_config ≡ c.args.cfg.now.codec_config = c.in_ok-finish_tracked.ensures.codec_config ∙ c.entered.ensures.codec_config ∙ c.in_ok-replay.ensures.codec_config ∙ c.in_ok-pair.ensures.codec_config in
-    record {
-      pair = sound_pair;
-      decoded = decoded f (disk a) was.markers was.lawful arch (disk z) own lists sound_pair behind (λ bytes. ap (g.V.Codec.refusal bytes) config);
-      counted = counted f (disk a) was.markers was.lawful arch (disk z) own lists sound_pair (λ s is. c.in_ok-finish_tracked.ensures.over.values.over.opened_list.number s (inl is));
-      absent = λ s small bare none. subst (λ y. HasNoBytes (disk z (section_key y.values s))) (still ∙ sym own) (absent_left walked arch.pair (g.D.Device.opened c.entered.new.dev) (disk e) (disk z) (subst (λ y. MayBeOpened y (disk e)) (sym still) (open_two may)) keeps c.in_ok-finish_tracked.ensures.counts
-          c.entered.ensures.over.values.over t (c.entered.ensures.over.opening tracked).values_known refl (omega arith) (λ n is few. always_now e z (λ d. (q : Key) → IsBlobOf walked.layout (λ u. u ≡ n) q → d q ≡ disk e q) (c.finish_tracked.ensures.clean t n is) (section_key walked.layout.values n) (inr (n, few, refl, refl))) s small bare none);
-      names = subst (λ y. LeavesNoForeign y (disk z)) (sym own) names;
-    }
+    let own : arch.pair.layout ≡ walked.layout = same_layout walked.layout arch.pair.layout c.in_ok-finish_tracked.ensures.counts.layout in
+    let filing : filing_of arch ≡ f = one_filing f (filing_of arch) (returns-clause-filing g c) refl in
+    let opened = g.D.Device.opened c.finish_tracked.new.dev in let over = c.in_ok-finish_tracked.ensures.over in
+    sound_left arch opened (disk z)
+    (pair_rests arch.pair opened (disk z) (are_pages g.row.S g.S.Seal g.S.Seal-dict) (here_of (place_of g.K.Key.SIZE) c.in_ok-finish_tracked.field-0 (omega arith)) over c.in_ok-finish_tracked.ensures.index_settled c.in_ok-finish_tracked.ensures.settled) t
+    walked (disk e) (sym own) c.in_ok-finish_tracked.ensures.counts (c.in_ok-finish_tracked.ensures.kept t) (markers_readable g.S.Seal)
+    (λ q. g.met.D.Device.as_read t c.finish_tracked.new.dev q) over (subst (λ y. MayBeOpened y (disk e)) (sym still) (open_two may)) (subst (λ x. LeavesLawful x (disk z)) (sym filing) leaves)
+
+pub returns-clause-step : goal.returns-clause-step
+returns-clause-step g c t may st leaves none =
+    let f = filing_for g.K.Key.SIZE g.S.Seal g.V.Codec.refusal c.args.cfg.now in
+    let a = disk (g.D.Device.time c.args.dev.now) in
+    let was : StandsFor f st None (as_read a) = leaves (as_read a) (λ q. g.met.D.Device.as_read t c.args.dev.now q) may.no_chance in
+    reopens f (as_read a) st _ was (returns-clause-start g c t was.markers was.lawful) f.items none
 
 pub returns-clause-moments : goal.returns-clause-moments
 returns-clause-moments g c t =
@@ -626,10 +612,10 @@ returns-clause-rest g c t may st leaves =
     let second : Always a e (OthersStay f.layout (disk a)) = others_on f.layout a b e first (others_as run.layout f.layout here b e (c.entered.ensures.untouched t)) in
     let third : Always a z (OthersStay f.layout (disk a)) = others_on f.layout a e z second (others_as walked.layout f.layout still e z (c.finish_tracked.ensures.untouched t)) in
     let lawful_on : IsLawful f.layout (as_read (disk b)) run.store.entries → IsLawful f.layout (as_read (disk e)) run.store.entries = subst (λ y. IsLawful y (as_read (disk b)) run.store.entries → IsLawful y (as_read (disk e)) run.store.entries) here (c.in_ok-tables.ensures.lawful t) in
-    let law : (q : Key) → MayLeave (disk a q) (reads (disk a q)) = λ q. g.met.D.Device.as_read t c.args.dev.now q in let was : StandsFor f st None (as_read (disk a)) = stands_read f st (disk a) law may leaves in let own : arch.pair.layout ≡ f.layout = same_layout walked.layout arch.pair.layout c.in_ok-finish_tracked.ensures.counts.layout ∙ still in
+    let law : (q : Key) → MayLeave (disk a q) (reads (disk a q)) = λ q. g.met.D.Device.as_read t c.args.dev.now q in let was : StandsFor f st None (as_read (disk a)) = leaves (as_read (disk a)) law may.no_chance in let own : arch.pair.layout ≡ f.layout = same_layout walked.layout arch.pair.layout c.in_ok-finish_tracked.ensures.counts.layout ∙ still in
     let lists : (s : ℕ) → s < 2 ^ 64 → list_of arch.pair (disk z) s ≡ kept_entries f (as_read (disk a)) was.markers s = λ s small. lists_left f readable run walked (disk a) (disk b) (disk e) still store found stays was.markers was.lawful.pair.held (disk z) arch keeps was.lawful.pair lawful_on s small in
     let sound_pair : IsSoundOn arch.pair (disk z) = keeps.sound (subst (λ y. MayBeOpened y (disk e)) (sym still) (open_two may)) (in_place f readable run walked (disk a) (disk b) (disk e) still store found stays was.markers was.lawful.pair.held (disk z) arch keeps was.lawful.pair lawful_on) in
-    let names : LeavesNoForeign f.layout (disk z) = no_foreign f.layout apart (λ _. ⊤) (disk a) (disk z) (always_now a z (OthersStay f.layout (disk a)) third) (no_foreign_before f st (disk a) law may leaves apart) in
+    let names : LeavesNoForeign f.layout (disk z) = no_foreign f.layout apart (λ _. ⊤) (disk a) (disk z) (always_now a z (OthersStay f.layout (disk a)) third) (no_foreign_before f (disk a) law may.no_chance (all_lawful f st (disk a) leaves) apart) in
     rests f (disk a) was.markers was.lawful arch (disk z) own lists sound_pair refl (λ s. refl) names
     (leaves_now arch.pair (g.D.Device.opened c.finish_tracked.new.dev) (disk z) (omega arith) refl refl refl (λ s v held. λ i. (c.in_ok-finish_tracked.ensures.over.index.over.opened_list.setting s v held i).page_size) c.in_ok-finish_tracked.ensures.over t sound_pair)
 
@@ -668,13 +654,11 @@ returns-clause-reads g c t markers held s small =
     let readable : IsReadable f.layout.markers = markers_readable g.S.Seal in
     let found : HasFound f.layout (disk a) (disk b) run = subst (λ y. HasFound y (disk a) (disk b) run) named (c.in_ok-replay.ensures.found t) in
     let apart : AreApart f.layout = subst AreApart here c.in_ok-replay.ensures.over.apart in let opens : OnlyOpens f.layout (disk a) (disk b) = always_now a b (OnlyOpens f.layout (disk a)) (subst (λ x. Always a b (OnlyOpens x (disk a))) named (c.init_with_metadata.ensures.settles t)) in
-    let there : (s : ℕ) → IsHeld run.walk.journal.sections s → reads (disk b (section_key run.layout.index s)) ≡ Some (disk b (section_key run.layout.index s)).content = λ s held. subst (λ y. reads (disk b (section_key y.index s)) ≡ Some (disk b (section_key y.index s)).content) (sym here)
-    (there_now f.layout apart (disk a) (disk b) opens s (((found.index_held s (c.in_ok-replay.ensures.over.index.over.opened_list.number s (inl held))).0) held)) in
     let at_home : Here page_setting (pair_of run) = run_here (place_of g.K.Key.SIZE) c.in_ok-replay.replay (omega arith) in
     let same : run.store.entries ≡ markers = one_markers f.layout readable (as_read (disk a)) run.store.entries markers found.markers held in
     let stored : stored_records run.layout (as_read (disk b)) s ≡ stored_records f.layout (as_read (disk a)) s = ap (λ y. stored_records y (as_read (disk b)) s) here ∙ stored_alike f.layout (as_read (disk a)) (as_read (disk b)) (read_alike f.layout apart (disk a) (disk b) opens) s in
     let left : LeftAtMost run (disk b) s (length (stored_records f.layout (as_read (disk a)) s) - marker_of markers s) =
-    subst (λ n. LeftAtMost run (disk b) s n) (λ i. length (stored i) - marker_of (same i) s) (left_at_most run (g.D.Device.opened c.init_with_metadata.new.dev) (disk b) (are_pages g.row.S g.S.Seal g.S.Seal-dict) at_home c.in_ok-replay.ensures.over c.in_ok-replay.ensures.tracked c.in_ok-replay.ensures.going t there s) in
+    subst (λ n. LeftAtMost run (disk b) s n) (λ i. length (stored i) - marker_of (same i) s) (left_at_most run (g.D.Device.opened c.init_with_metadata.new.dev) (disk b) (are_pages g.row.S g.S.Seal g.S.Seal-dict) at_home c.in_ok-replay.ensures.over c.in_ok-replay.ensures.tracked c.in_ok-replay.ensures.going t s) in
     let one : reads_of (p (section_key f.layout.values s)) ≤ reads_of (o (section_key f.layout.values s)) = subst (λ y. reads_of (p (section_key y.values s)) ≤ reads_of (o (section_key y.values s))) named (c.init_with_metadata.ensures.reads s small) in
     let two : reads_of (r (section_key f.layout.values s)) ≤ reads_of (p (section_key f.layout.values s)) + (length (stored_records f.layout (as_read (disk a)) s) - marker_of markers s) =
     subst (λ y. reads_of (r (section_key y.values s)) ≤ reads_of (p (section_key y.values s)) + (length (stored_records f.layout (as_read (disk a)) s) - marker_of markers s)) here (c.entered.ensures.reads t s (length (stored_records f.layout (as_read (disk a)) s) - marker_of markers s) small left) in

@@ -11,6 +11,7 @@ use Rattle.archives.specs.IndexRecord.{place_of}
 use Rattle.archives.specs.Raised.{raised}
 use Rattle.archives.specs.Shown.{shown}
 use Rattle.archives.specs.Standing.{Leaves}
+use Rattle.archives.proofs.PutSync.{same_filing}
 use Rattle.archives.proofs.SyncErrors.{full_again, lost_again, stops_again}
 use Rattle.archives.proofs.SyncLemmas.{has_values, none_in, stands_now, sync_moments, sync_settled, synced_over, synced_sound, synced_state}
 use Rattle.archives.proofs.SyncNames.{moving_as, moving_of, own_more, sync_alone, sync_as, sync_others}
@@ -215,6 +216,12 @@ returns-clause-synced g c t =
     let p = pair.shown (place_of g.K.Key.SIZE) c.in_ok-pair.pair in
     let sync = sync_as a.pair first second written named active p says.synced in
     synced_state a p (λ bytes. g.V.Codec.refusal bytes c.in_ok-pair.pair.values.codec_config) (set.contains nat_cmp c.clear.new.self) sync before (disk old) (disk new) c.requires.over (says.lists t)
+
+pub returns-clause-filing : goal.returns-clause-filing
+returns-clause-filing g c =
+    let says = c.in_ok-pair.ensures in
+    let p = pair.shown (place_of g.K.Key.SIZE) c.in_ok-pair.pair in
+    same_filing (filing_of (shown c.args.self)) p.layout (λ bytes. g.V.Codec.refusal bytes c.in_ok-pair.pair.values.codec_config) says.synced.layout refl (λ _. refl) (λ _. refl) (λ bytes. ap (g.V.Codec.refusal bytes) says.codec_config)
 
 pub returns-clause-tracked : goal.returns-clause-tracked
 returns-clause-tracked g c =

@@ -1,10 +1,11 @@
-use Rattle.std.proofs.Common.{rules, ◌<◌, ◌^◌, inr, ap, ℕ}
+use Rattle.std.proofs.Common.{rules, ◌<◌, ◌^◌, inr, ap, ℕ, Some, None}
 use Rattle.blob_device.specs.Timeline.{disk}
 use Rattle.blob_device.proofs.Results.{err_of, err_with}
 use Rattle.sealed_pages.proofs.Looking.{unchanged_now}
 use Rattle.archives.specs.Archives.{state_of}
 use Rattle.archives.specs.Finding.{IsNear, wanted_of}
 use Rattle.archives.specs.Shown.{shown}
+use Rattle.archives.proofs.Faults.{answer_no_fault, read_fault}
 use Rattle.archives.proofs.ReadFails.{same_cause, same_error}
 use Rattle.archives.proofs.ReadFinding.{get_found, get_none, near}
 use Rattle.archives.proofs.ReadValues.{at_most, no_others}
@@ -70,3 +71,12 @@ returns-in_ok-value_at-in-Some-clause-step g c t =
 pub returns-in-None-clause-step : goal.returns-in-None-clause-step
 returns-in-None-clause-step g c t =
     get_none (shown c.args.self.now) (disk (g.D.Device.time c.args.dev.now)) (c.requires.over.listed t) (wanted_of g.K.Key.key_bytes c.args.identifier) (c.place_of.ensures.none c.in-None.is)
+
+pub returns-in_err-value_at-in-Some-clause-fault : goal.returns-in_err-value_at-in-Some-clause-fault
+returns-in_err-value_at-in-Some-clause-fault g c = read_fault c.from_residual.result _ _ (returns-in_err-value_at-in-Some-clause-cause g c)
+
+pub returns-in_ok-value_at-in-Some-clause-fault : goal.returns-in_ok-value_at-in-Some-clause-fault
+returns-in_ok-value_at-in-Some-clause-fault g c = answer_no_fault (Some c.in_ok-value_at-in-Some.field-0)
+
+pub returns-in-None-clause-fault : goal.returns-in-None-clause-fault
+returns-in-None-clause-fault g c = answer_no_fault None

@@ -3,6 +3,7 @@ use Rattle.blob_device.specs.Timeline.{disk}
 use Rattle.archives.specs.Finding.{wanted_of}
 use Rattle.archives.specs.Shown.{shown}
 use Rattle.archives.specs.declared.error.Error.{Error}
+use Rattle.archives.proofs.Faults.{answer_no_fault}
 use Rattle.archives.proofs.ReadFinding.{has_reply, taken}
 use Rattle.archives.proofs.prunable.ArchiveArchive.has.Goals as goal
 
@@ -15,3 +16,6 @@ pub returns-clause-by_index : goal.returns-clause-by_index
 returns-clause-by_index g c i is =
     let ok : Bool → Result Bool Error = λ b. Ok b in
     (ap ok (c.is_some.ensures ∙ taken (shown c.args.self.now) (wanted_of g.K.Key.key_bytes c.args.identifier) c.place_of.result c.place_of.ensures.found c.place_of.ensures.none i is), refl)
+
+pub returns-clause-fault : goal.returns-clause-fault
+returns-clause-fault g c = answer_no_fault c.is_some.result

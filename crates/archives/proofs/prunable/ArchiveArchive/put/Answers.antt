@@ -1,8 +1,11 @@
-use Rattle.std.proofs.Common.{◌≡◌, inl, inr, refl, sym, ◌∙◌, subst, true, false, arith}
+use Rattle.std.proofs.Common.{◌≡◌, inl, inr, refl, sym, ◌∙◌, subst, false, arith}
 use Rattle.blob_device.specs.Timeline.{disk}
 use Rattle.paired.proofs.PairMarked.{if_both, if_ok}
+use Rattle.archives.specs.Archives.{filing_of}
+use Rattle.archives.specs.Filing.{IsSameFiling}
 use Rattle.archives.specs.Putting.{is_taken}
 use Rattle.archives.specs.Shown.{shown}
+use Rattle.archives.proofs.Faults.{answer_no_fault, put_fault}
 use Rattle.archives.proofs.PutStands.{at_rest, put_taken, put_unmoved}
 use Rattle.archives.proofs.prunable.ArchiveArchive.put.Goals as goal
 
@@ -57,3 +60,13 @@ returns-clause-large g c large = c.append.ensures.large large.allowed large.larg
 
 pub returns-clause-accepts : goal.returns-clause-accepts
 returns-clause-accepts g c = if_ok c.append.result (λ r. r.pair.values.codec_config ≡ c.args.self.pair.values.codec_config) _ (λ r same v accepted. subst (g.V.Codec.accepted v) (sym same) accepted) c.append.ensures.codec_config
+
+pub returns-then-has_index-clause-fault : goal.returns-then-has_index-clause-fault
+returns-then-has_index-clause-fault g c = answer_no_fault c.args.self
+
+pub returns-clause-fault : goal.returns-clause-fault
+returns-clause-fault g c =
+    put_fault c.append.result (g.D.Device.faults c.args.dev.now) (g.D.Device.faults c.append.new.dev) (g.D.Device.Tells → ⊥) c.append.ensures.cause
+
+pub returns-clause-items : goal.returns-clause-items
+returns-clause-items g c = if_ok c.append.result (λ r. IsSameFiling (filing_of (shown c.args.self)) (filing_of (shown r))) _ (λ r same. same.items) c.append.ensures.filing

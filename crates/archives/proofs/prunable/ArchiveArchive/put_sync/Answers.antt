@@ -1,4 +1,4 @@
-use Rattle.std.proofs.Common.{◌≡◌, inl, inr, refl, ◌∙◌, ap, ℕ, Err, Some, arith}
+use Rattle.std.proofs.Common.{◌≡◌, inl, inr, refl, ◌∙◌, ap, IsTrue, ℕ, Err, Some, arith}
 use Rattle.blob_device.specs.Timeline.{disk}
 use Rattle.blob_device.specs.declared.runtime.RError.TheVariants as runtime
 use Rattle.blob_device.proofs.Moments.{always_then}
@@ -7,15 +7,18 @@ use Rattle.meta_store.specs.Store.{Store}
 use Rattle.meta_store.specs.declared.error.Error.TheVariants as metadata
 use Rattle.value_codec.specs.declared.key.Key8.{Key8}
 use Rattle.segments.specs.declared.journal.Error.TheVariants as section
+use Rattle.paired.specs.PairSync.{IsSyncOf}
 use Rattle.paired.proofs.PairMarked.{if_ok}
 use Rattle.archives.specs.Archives.{filing_of, state_of}
 use Rattle.archives.specs.Commands.{PutSync}
 use Rattle.archives.specs.Filing.{IsSameFiling}
+use Rattle.archives.specs.FilingLaws.{one_filing}
 use Rattle.archives.specs.Machine.{after_sync}
 use Rattle.archives.specs.Shown.{shown}
 use Rattle.archives.specs.Standing.{Leaves}
 use Rattle.archives.specs.declared.error.Error.TheVariants.{Full, Journal, Mem, Metadata}
-use Rattle.archives.proofs.PutSync.{alone_put, alone_sync, at_err, filing_then, left_by_put, left_then, lost_by_sync, moving_after, moving_now, one_filing, passed_on, put_cause, put_keeps_markers, settled_put, sync_cause, sync_not_large, under_put_sync, under_sync_put}
+use Rattle.archives.proofs.Faults.{both_fault}
+use Rattle.archives.proofs.PutSync.{alone_put, alone_sync, at_err, filing_then, left_by_put, left_then, lost_by_sync, moving_after, moving_now, passed_on, put_cause, put_keeps_markers, settled_put, sync_cause, sync_not_large, under_put_sync, under_sync_put}
 use Rattle.archives.proofs.prunable.ArchiveArchive.put_sync.Goals as goal
 
 pub returns-in_err-this-clause-moments : goal.returns-in_err-this-clause-moments
@@ -51,7 +54,7 @@ returns-in_err-this-clause-no_room g c t full =
     let e = c.in_err-this.field-0.0 in
     let answer : c.from_residual.result ≡ Err e = err_of c.from_residual.result e c.from_residual.ensures.1 in
     elim (c.in_err-this.ensures.no_room t full) [
-      | inl is ↦ inl (passed_on c.from_residual.result (Err e) e Full answer refl (is))
+      | inl is ↦ (let refusal = inr (inl t, is) in inl (passed_on c.from_residual.result (Err e) e Full answer refl is, c.in_err-this.ensures.refused refusal))
       | inr is ↦ inr (passed_on c.from_residual.result (Err e) e Mem answer refl (is))
     ]
 
@@ -116,7 +119,7 @@ returns-clause-filing g c =
 
 pub returns-clause-moments : goal.returns-clause-moments
 returns-clause-moments g c t sound =
-    let filing = (one_filing (filing_of (shown c.args.self)) (filing_of (shown c.in_ok-this.this)) c.in_ok-this.ensures.filing refl refl refl refl) in
+    let filing = (one_filing (filing_of (shown c.args.self)) (filing_of (shown c.in_ok-this.this)) c.in_ok-this.ensures.filing refl) in
     let step = c.in_ok-this.ensures.step t sound in
     always_then (g.D.Device.time c.args.dev.now) (g.D.Device.time c.put.new.dev) (g.D.Device.time c.sync.new.dev) (Leaves (filing_of (shown c.args.self)) (state_of (shown c.args.self) (disk (g.D.Device.time c.args.dev.now))) (Some (PutSync c.args.index (g.K.Key.key_bytes c.args.key) (g.V.Codec.spelling c.args.value.now))))
     (under_put_sync (filing_of (shown c.args.self)) (state_of (shown c.args.self) (disk (g.D.Device.time c.args.dev.now))) c.args.index (g.K.Key.key_bytes c.args.key) (g.V.Codec.spelling c.args.value.now) (g.D.Device.time c.args.dev.now) (g.D.Device.time c.put.new.dev) (c.put.ensures.moments t sound))
@@ -162,7 +165,7 @@ returns-clause-lost g c lost =
 
 pub returns-clause-settled : goal.returns-clause-settled
 returns-clause-settled g c t sound stopped =
-    let filing = (one_filing (filing_of (shown c.args.self)) (filing_of (shown c.in_ok-this.this)) c.in_ok-this.ensures.filing refl refl refl refl) in
+    let filing = (one_filing (filing_of (shown c.args.self)) (filing_of (shown c.in_ok-this.this)) c.in_ok-this.ensures.filing refl) in
     let step = c.in_ok-this.ensures.step t sound in
     settled_put (shown c.args.self) (shown c.in_ok-this.this) (disk (g.D.Device.time c.args.dev.now)) (disk (g.D.Device.time c.put.new.dev)) c.args.index (g.K.Key.key_bytes c.args.key) (g.V.Codec.spelling c.args.value.now) filing step c.in_ok-this.ensures.synced (disk (g.D.Device.time c.sync.new.dev))
     (c.sync.ensures.settled t (c.in_ok-this.ensures.sound t sound) (elim stopped [
@@ -185,3 +188,25 @@ returns-clause-refused g c is =
 pub returns-clause-cause : goal.returns-clause-cause
 returns-clause-cause g c =
     on_err c.sync.result (sync_cause c.sync.result (g.D.Device.faults c.args.dev.now) (g.D.Device.faults c.put.new.dev) (g.D.Device.faults c.sync.new.dev) c.put.ensures.faults) c.sync.ensures.cause
+
+pub returns-in_err-this-clause-fault : goal.returns-in_err-this-clause-fault
+returns-in_err-this-clause-fault g c =
+    both_fault c.from_residual.result (g.D.Device.faults c.args.dev.now) (g.D.Device.faults c.put.new.dev) (g.D.Device.Tells → ⊥) (returns-in_err-this-clause-cause g c)
+
+pub returns-clause-fault : goal.returns-clause-fault
+returns-clause-fault g c =
+    both_fault c.sync.result (g.D.Device.faults c.args.dev.now) (g.D.Device.faults c.sync.new.dev) (g.D.Device.Tells → ⊥) (returns-clause-cause g c)
+
+pub returns-clause-items : goal.returns-clause-items
+returns-clause-items g c = if_ok c.sync.result (λ r. (shown r).items ≡ (shown c.in_ok-this.this).items) _ (λ r same. same ∙ c.in_ok-this.ensures.items) c.sync.ensures.items
+
+pub returns-clause-none_written : goal.returns-clause-none_written
+returns-clause-none_written g c = c.sync.ensures.none_written
+
+pub returns-clause-markers : goal.returns-clause-markers
+returns-clause-markers g c =
+    if_ok c.sync.result (λ r. IsSyncOf (shown c.in_ok-this.this).pair (λ s. IsTrue ((shown c.in_ok-this.this).is_written s)) (λ s. IsTrue ((shown c.in_ok-this.this).is_written s)) (shown r).pair) _
+    (λ r did s not_written.
+    let still : IsTrue ((shown c.in_ok-this.this).is_written s) → ⊥ = λ is. not_written ((c.in_ok-this.ensures.written s).0 is) in
+    did.markers s still ∙ did.others s still ∙ c.in_ok-this.ensures.synced s)
+    c.sync.ensures.tracked

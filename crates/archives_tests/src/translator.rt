@@ -1,5 +1,5 @@
 //! Words of keys.
-use super::{FourCap, Translator};
+use archives::{FourCap, Translator};
 
 /// The word of a key, by the bound.
 fn word_of<T: Translator>(translator: T, key: &[u8]) -> T::Word {

@@ -1,5 +1,5 @@
 //! What lower errors become, and the texts.
-use super::Error;
+use archives::Error;
 use blob_device::RError;
 use meta_store::Side;
 use segments::journal::{self, Damage};

@@ -1,5 +1,5 @@
 //! Exact bytes of records, and what other bytes say.
-use super::IndexRecord;
+use archives::prunable::IndexRecord;
 use paired::Record;
 use std::alloc::Global;
 use std::process::Abort;
