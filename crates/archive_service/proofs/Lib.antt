@@ -1,3 +1,13 @@
+pub mod CauseLemmas
+pub mod Going
+pub mod LineLemmas
+pub mod Looking
+pub mod LoopSteps
+pub mod OpeningAnswers
+pub mod PutAnswers
+pub mod RecordLemmas
 pub mod ScriptLemmas
-pub mod ServedLemmas
+pub mod ServingLoop
+pub mod StoreLemmas
+pub mod TextLemmas
 pub mod WordLemmas

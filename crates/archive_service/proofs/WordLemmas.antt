@@ -1,12 +1,12 @@
 -- What the words of scripts are made of, and how they are read.
 use Rattle.std.proofs.Common.{◌≡◌, ◌≢◌, ℕ, zero, suc, Bool, true, false, ◌&&◌, ◌||◌, cond, ◌+◌, ◌*◌, ◌/◌, ◌%◌, ◌<◌, inl, inr, List, [], ◌∷◌, ◌++◌, length, take, drop, get_or, slice_index, Option, Some, None, Result, Ok, Err, codes, IsSome, not, unwrap_or, refl, sym, ap, ◌∙◌, subst, lit<, rules, arith}
-use Rattle.std.specs.Prelude.{nat_le, nat_lt, nat_eq, IfSome, IsOk, MatchResult, ◌↔◌}
+use Rattle.std.specs.Prelude.{nat_le, nat_lt, nat_eq, IfNone, IfSome, IsOk, MatchResult, ◌↔◌}
 use Rattle.std.specs.List.{AllByRecursion, position, position_from}
 use Rattle.std.specs.Option.{option_map}
 use Rattle.std.specs.Result.{result_ok}
 use Rattle.std.specs.Fmt.{decimal}
 use Rattle.std.specs.Int.{IsInRange}
-use Rattle.std.specs.Str.{IsAscii}
+use Rattle.std.specs.Str.{IsAscii, bytes_eq}
 use Rattle.std.specs.Str.Parse.{AllDigits, ParsesUnsigned, digits_value}
 use Rattle.std.proofs.lemmas.Bool.{and_parts, cases_Bool, cases_lt, eqb-false, eqb-true, ltb-true}
 use Rattle.std.proofs.lemmas.Bool.Decides.{nat_tests}
@@ -16,6 +16,7 @@ use Rattle.std.proofs.lemmas.List.Quantifiers.{position-Some}
 use Rattle.std.proofs.lemmas.Iterator.Adapters.{position_from-zero}
 use Rattle.std.proofs.lemmas.Str.Parse.{IsNumeralModel, digit_from_value, numerals_by_value, parse_plain}
 use Rattle.std.proofs.lemmas.Fmt.{IsAscii-from_digits, decimal-digits_value, decimal_digit, decimal_is_IsNumeral, decimal_nonempty, digits_value-decimal, first_decimal}
+use Rattle.std.proofs.lemmas.Slice.Eq.{bytes_eq-Decides}
 use Rattle.hex.specs.Hex.{IsBytes, decode_of, decode_sized, encode_lower, encode_with, hex_digit_value, lower_digits}
 use Rattle.hex.specs.declared.error.FromHexError.{FromHexError}
 use Rattle.hex.proofs.HexLemmas.{decode_of-encode_lower, decode_sized-encode_lower, decode_sized-ok, decode_sized-twice, length-encode_with}
@@ -23,6 +24,19 @@ use Rattle.value_codec.specs.declared.key.Key8.{Key8}
 use Rattle.archive_service.specs.Texts.{value_text}
 use Rattle.archive_service.specs.Script.{AreBytes, IsIndex, IsKey, IsReading, IsValue}
 use Rattle.archive_service.specs.Words.{IsDecimal, IsHexText, IsLowerDigit, IsValueText}
+
+-- a word that was compared
+pub same_word : (name word tested : List ℕ) → tested ≡ word → true ≡ bytes_eq name tested → name ≡ word
+same_word name word tested is e = (bytes_eq-Decides name tested).0 (sym e) ∙ is
+
+pub other_word : (name word tested : List ℕ) → tested ≡ word → false ≡ bytes_eq name tested → name ≢ word
+other_word name word tested is e same =
+    let yes = (bytes_eq-Decides name tested).1 (same ∙ sym is) in
+    cc
+
+pub if_none : {A : Type 0} (o : Option A) (P : Type 0) → P → IfNone o P
+if_none None P holds = holds
+if_none (Some x) P holds = tt
 
 -- the text has no such byte
 abbrev pub Lacks : ℕ → List ℕ → Type 0
@@ -47,6 +61,19 @@ cut_never c (t ∷ ts) [] x h e = h.0 (cc)
 cut_never c (t ∷ ts) (a ∷ more) x h e =
     let rest : ts ≡ more ++ c ∷ x = cc in
     cut_never c ts more x h.1 rest
+
+-- nor is a text cut elsewhere than at its one such byte
+pub cut_alone : (c : ℕ) (a b x y : List ℕ) → Lacks c a → Lacks c b → x ++ c ∷ y ≡ a ++ c ∷ b → (x ≡ a) × (y ≡ b)
+cut_alone c [] b [] y ha hb e = (refl, cc)
+cut_alone c (a ∷ more) b [] y ha hb e = absurd (ha.0 (cc))
+cut_alone c [] b (x ∷ xs) y ha hb e =
+    let rest : b ≡ xs ++ c ∷ y = cc in
+    absurd (cut_never c b xs y hb rest)
+cut_alone c (a ∷ more) b (x ∷ xs) y ha hb e =
+    let head : x ≡ a = cc in
+    let rest : xs ++ c ∷ y ≡ more ++ c ∷ b = cc in
+    let parts = cut_alone c more b xs y ha.1 hb rest in
+    (cc (head, parts.0), parts.1)
 
 -- where a fact implies another, so it does of each element
 pub all_implies : (P Q : ℕ → Type 0) → ((b : ℕ) → P b → Q b) → (xs : List ℕ) → AllByRecursion P xs → AllByRecursion Q xs
@@ -103,7 +130,7 @@ encode_digits (b ∷ bytes) h =
     let byte : b < 256 = h.0 in
     (lower_digit_at (b / 16) (omega arith), (lower_digit_at (b % 16) (omega arith), encode_digits bytes h.1))
 
-are_bytes : (bytes : List ℕ) → AreBytes bytes → IsBytes bytes
+pub are_bytes : (bytes : List ℕ) → AreBytes bytes → IsBytes bytes
 are_bytes [] h i = omega arith
 are_bytes (b ∷ bytes) h zero = h.0
 are_bytes (b ∷ bytes) h (suc i) = are_bytes bytes h.1 i

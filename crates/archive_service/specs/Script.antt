@@ -1,10 +1,12 @@
 -- The grammar of scripts: from bytes to a list of commands, line by line.
-use Rattle.std.specs.Prelude.{◌≡◌, ◌≢◌, ℕ, ◌+◌, ◌^◌, ◌<◌, ◌≤◌, List, [], ◌∷◌, ◌++◌, length, Option, Some, None}
-use Rattle.std.specs.List.{AllByRecursion}
-use Rattle.archives.specs.Commands.{Put, Get, Has}
+use Rattle.std.specs.Prelude.{◌≡◌, ◌≢◌, ◌⊎◌, ℕ, ◌+◌, ◌^◌, ◌<◌, ◌≤◌, List, [], ◌∷◌, ◌++◌, length, Option, Some, None}
+use Rattle.std.specs.Fmt.{decimal}
+use Rattle.hex.specs.Hex.{encode_lower}
+use Rattle.std.specs.List.{AllByRecursion, join_with_byte}
+use Rattle.archives.specs.Commands.{Put, PutSync, PutStart, Get, GetKey, Has, HasKey, Sync, Start, Reopen}
 use Rattle.archive_service.specs.declared.script.ScriptError.{ScriptError}
 use Rattle.archive_service.specs.declared.script.ScriptError.TheVariants.{Line, Mem}
-use Rattle.archive_service.specs.Texts.{Spelled, line_of, script_text}
+use Rattle.archive_service.specs.Texts.{Spelled, line_of, script_text, value_text}
 
 abbrev pub AreBytes : List ℕ → Type 0
 AreBytes bytes = AllByRecursion (λ byte. byte < 256) bytes
@@ -19,12 +21,41 @@ IsKey key = (length key ≡ 8) × AreBytes key
 abbrev pub IsValue : ℕ → List ℕ → Type 0
 IsValue max value = (length value ≤ max) × AreBytes value
 
--- so far the reader takes three commands
+-- an index, a key and a value, as a put has them, and their words with one space (32) between two
+abbrev pub Record : Type 0
+Record = ℕ × List ℕ × List ℕ
+
+abbrev pub IsRecord : ℕ → Record → Type 0
+IsRecord max (index, key, value) = IsIndex index × IsKey key × IsValue max value
+
+abbrev pub record_text : Record → List ℕ
+record_text (index, key, value) = join_with_byte 32 (decimal index ∷ encode_lower key ∷ value_text value ∷ [])
+
+-- a command of one word
+abbrev pub IsLone : Spelled → Type 0
+IsLone Sync = Unit {0}
+IsLone Start = Unit {0}
+IsLone Reopen = Unit {0}
+IsLone command = ⊥
+
+-- a command of two words
+abbrev pub IsShort : Spelled → Type 0
+IsShort (Get index) = IsIndex index
+IsShort (Has index) = IsIndex index
+IsShort (GetKey key) = IsKey key
+IsShort (HasKey key) = IsKey key
+IsShort command = ⊥
+
+-- a put, with a value of at most max bytes
+abbrev pub IsLongOf : ℕ → Spelled → Type 0
+IsLongOf max (Put index key value) = IsRecord max (index, key, value)
+IsLongOf max (PutSync index key value) = IsRecord max (index, key, value)
+IsLongOf max (PutStart index key value) = IsRecord max (index, key, value)
+IsLongOf max command = ⊥
+
+-- the commands that the reader takes so far
 abbrev pub CanBeSaid : ℕ → Spelled → Type 0
-CanBeSaid max (Put index key value) = IsIndex index × IsKey key × IsValue max value
-CanBeSaid max (Get index) = IsIndex index
-CanBeSaid max (Has index) = IsIndex index
-CanBeSaid max command = ⊥
+CanBeSaid max command = IsLone command ⊎ (IsShort command ⊎ IsLongOf max command)
 
 -- the text is the script of these commands: their lines, one behind the other, and nothing else
 pub record Spells (max : ℕ) (text : List ℕ) (commands : List Spelled) : Type 0 where

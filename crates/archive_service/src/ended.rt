@@ -1,6 +1,10 @@
 // How a call of the program ended.
-ghost use Rattle.std.specs.Prelude.{◌≡◌};
+ghost use Rattle.std.specs.Prelude.{◌≡◌, [], None};
 ghost use Rattle.archive_service.specs.Ended.{code_of};
+
+use crate::Marks;
+use archives::Error;
+use std::alloc::Global;
 
 /// How a call of the program ended.
 #[derive(Clone, Copy, Debug, PartialEq, Eq)]
@@ -15,6 +19,8 @@ pub enum Status {
     ReadFault = 3,
     /// The sink failed.
     WriteFault = 4,
+    /// The store failed, or refused a command.
+    StoreError = 5,
     /// There was no memory.
     NoMemory = 6,
     /// The input has more bytes than an input may have.
@@ -22,19 +28,27 @@ pub enum Status {
 }
 
 /// What a call of the program hands back.
-#[derive(Clone, Copy, Debug, PartialEq, Eq)]
+#[derive(Debug, Drop)]
 pub struct Ended {
     /// The status of the process: the number of a [`Status`].
     pub status: u8,
+    /// When the commands began that were begun, by the device's number of calls.
+    pub marks: Marks,
+    /// The error with which the commands ended, other than want of memory.
+    pub error: Option<Error>,
 }
 
 impl Ended {
-    /// The end with this status.
-    pub fn new(status: Status) -> Ended
-        ensures { result.status ≡ code_of status }
+    /// The end with this status of a call that served no command.
+    pub fn unserved(alloc: Global, status: Status) -> Ended
+        ensures status { result.status ≡ code_of status }
+        ensures marks { result.marks ≡ [] }
+        ensures error { result.error ≡ None }
     {
         Ended {
             status: status as u8,
+            marks: Marks::new(alloc),
+            error: None,
         }
     }
 }

@@ -3,6 +3,7 @@
 ghost use Rattle.std.specs.Prelude.{◌≡◌, ◌↔◌, IfOk, IsTrue, map, string_bytes};
 ghost use Rattle.archives.specs.Machine.{asked};
 ghost use Rattle.value_codec.specs.Keys.{key8_bytes};
+ghost use Rattle.archive_service.specs.Script.{record_text};
 ghost use Rattle.archive_service.specs.Texts.{BeginsWith, line_of, script_text, value_text};
 
 use archives::Command;
@@ -16,13 +17,45 @@ pub fn line_text(alloc: Global, command: &Command<Key8, ByteValue>) -> Result<St
 {
     match command {
         Command::Put(index, key, value) => {
-            let key = hex::encode(alloc, key.as_bytes())?;
-            let value = value_word(alloc, value.as_bytes())?;
-            format!(in alloc; "put {index} {key} {value}")
+            let record = record_text(alloc, *index, key, value)?;
+            format!(in alloc; "put {record}")
+        }
+        Command::PutSync(index, key, value) => {
+            let record = record_text(alloc, *index, key, value)?;
+            format!(in alloc; "putsync {record}")
+        }
+        Command::PutStart(index, key, value) => {
+            let record = record_text(alloc, *index, key, value)?;
+            format!(in alloc; "putstart {record}")
         }
         Command::Get(index) => format!(in alloc; "get {index}"),
+        Command::GetKey(key) => {
+            let key = hex::encode(alloc, key.as_bytes())?;
+            format!(in alloc; "getk {key}")
+        }
         Command::Has(index) => format!(in alloc; "has {index}"),
+        Command::HasKey(key) => {
+            let key = hex::encode(alloc, key.as_bytes())?;
+            format!(in alloc; "hask {key}")
+        }
+        Command::Sync => String::from_str(alloc, "sync"),
+        Command::Start => String::from_str(alloc, "start"),
+        Command::Reopen => String::from_str(alloc, "reopen"),
     }
+}
+
+/// The words of a record.
+fn record_text(
+    alloc: Global,
+    index: u64,
+    key: &Key8,
+    value: &ByteValue,
+) -> Result<String, AllocError>
+    ensures { IfOk result (λ text. string_bytes text ≡ record_text (index, key8_bytes key.now, value.now)) }
+{
+    let key = hex::encode(alloc, key.as_bytes())?;
+    let value = value_word(alloc, value.as_bytes())?;
+    format!(in alloc; "{index} {key} {value}")
 }
 
 /// A value's word.

@@ -1,6 +1,7 @@
 // What a run of commands gives.
 ghost use Rattle.std.specs.Prelude.{◌≡◌, [], ◌∷◌, ◌++◌, OnOk, OnErr};
 
+use crate::Marks;
 use archives::{Error, Reply};
 use std::alloc::{AllocError, Global};
 use std::marker::Model;
@@ -54,15 +55,17 @@ impl<V> Replies<V> {
 pub enum End {
     /// Each command has a reply.
     Done,
-    /// The command behind the last reply ended in this error.
+    /// The opening, or the command behind the last reply, ended in this error.
     Failed(Error),
 }
 
-/// What a run of commands gave: the replies, and how it ended.
+/// What a run of commands gave: the replies, when the commands began, and how it ended.
 #[derive(Debug, Drop)]
 pub struct Served<V> {
     /// The replies, also where the run failed.
     pub replies: Replies<V>,
+    /// A mark for each command that was begun.
+    pub marks: Marks,
     /// How the run ended.
     pub end: End,
 }

@@ -1,9 +1,11 @@
 // From the bytes of a script to its commands.
-ghost use Rattle.std.specs.Prelude.{◌≡◌, ◌++◌, ◌∷◌, codes, ℕ, map, IfOk, IfErr};
+ghost use Rattle.std.specs.Prelude.{◌≡◌, ◌≢◌, ◌++◌, ◌∷◌, ℕ, map, IfOk, IfErr, IfSome, IfNone};
+ghost use Rattle.std.specs.List.{AllByRecursion};
 ghost use Rattle.std.specs.Option.{option_map};
 ghost use Rattle.archives.specs.Machine.{asked};
 ghost use Rattle.value_codec.specs.Keys.{key8_bytes};
-ghost use Rattle.archive_service.specs.Script.{GoodOrBad, IsCause, IsCommandOf, IsFirstLine, OneFirstBad, OneScript, Spells};
+ghost use Rattle.archive_service.specs.Script.{GoodOrBad, IsCause, IsCommandOf, IsFirstLine, IsLone, IsLongOf, IsReading, IsRecord, IsShort, OneFirstBad, OneScript, Spells, record_text};
+ghost use Rattle.archive_service.specs.Texts.{Spelled, line_of};
 ghost use Rattle.archive_service.specs.declared.script.ScriptError.TheVariants.{Mem};
 
 use crate::words::{cut, index_of, key_of, value_of};
@@ -109,27 +111,81 @@ fn command_of(
 ) -> Result<Option<Command<Key8, ByteValue>>, AllocError>
     ensures { IfOk result (λ found. IsCommandOf max_value line.now (option_map (asked key8_bytes (λ v. v)) found)) }
 {
-    let Some((name, words)) = cut(line, b' ') else {
-        return Ok(None);
-    };
-    if name == b"put".as_slice() {
-        put_of(alloc, words, max_value)
-    } else if name == b"get".as_slice() {
-        Ok(index_of(words).map(Command::Get))
+    match cut(line, b' ') {
+        None => Ok(lone_command(line)),
+        Some((name, words)) => match short_command(name, words) {
+            Some(command) => Ok(Some(command)),
+            None => put_command(alloc, name, words, max_value),
+        },
+    }
+}
+
+/// The command that one word says.
+fn lone_command(word: &[u8]) -> Option<Command<Key8, ByteValue>>
+    ensures found { IfSome result (λ command. IsLone (asked key8_bytes (λ v. v) command) × (word.now ≡ line_of (asked key8_bytes (λ v. v) command))) }
+    ensures none { IfNone result ((command : Spelled) → IsLone command → word.now ≢ line_of command) }
+{
+    if word == b"sync".as_slice() {
+        Some(Command::Sync)
+    } else if word == b"start".as_slice() {
+        Some(Command::Start)
+    } else if word == b"reopen".as_slice() {
+        Some(Command::Reopen)
+    } else {
+        None
+    }
+}
+
+/// The command that a name and one word behind it say.
+fn short_command(name: &[u8], word: &[u8]) -> Option<Command<Key8, ByteValue>>
+    ensures found { IfSome result (λ command. IsShort (asked key8_bytes (λ v. v) command) × (name.now ++ 32 ∷ word.now ≡ line_of (asked key8_bytes (λ v. v) command))) }
+    ensures none { IfNone result ((command : Spelled) → IsShort command → name.now ++ 32 ∷ word.now ≢ line_of command) }
+{
+    if name == b"get".as_slice() {
+        Some(Command::Get(index_of(word)?))
     } else if name == b"has".as_slice() {
-        Ok(index_of(words).map(Command::Has))
+        Some(Command::Has(index_of(word)?))
+    } else if name == b"getk".as_slice() {
+        Some(Command::GetKey(key_of(word)?))
+    } else if name == b"hask".as_slice() {
+        Some(Command::HasKey(key_of(word)?))
+    } else {
+        None
+    }
+}
+
+/// The put that a name and the words behind it say.
+fn put_command(
+    alloc: Global,
+    name: &[u8],
+    words: &[u8],
+    max_value: u32,
+) -> Result<Option<Command<Key8, ByteValue>>, AllocError>
+    ensures found { IfOk result (λ found. IfSome found (λ command. IsLongOf max_value (asked key8_bytes (λ v. v) command) × (name.now ++ 32 ∷ words.now ≡ line_of (asked key8_bytes (λ v. v) command)))) }
+    // A name with a space in it would be a name and a word.
+    ensures none { AllByRecursion (λ b. b ≢ 32) name.now → IfOk result (λ found. IfNone found ((command : Spelled) → IsLongOf max_value command → name.now ++ 32 ∷ words.now ≢ line_of command)) }
+{
+    if name == b"put".as_slice() {
+        let record = record_of(alloc, words, max_value)?;
+        Ok(record.map(|(index, key, value)| Command::Put(index, key, value)))
+    } else if name == b"putsync".as_slice() {
+        let record = record_of(alloc, words, max_value)?;
+        Ok(record.map(|(index, key, value)| Command::PutSync(index, key, value)))
+    } else if name == b"putstart".as_slice() {
+        let record = record_of(alloc, words, max_value)?;
+        Ok(record.map(|(index, key, value)| Command::PutStart(index, key, value)))
     } else {
         Ok(None)
     }
 }
 
-/// The record that the words behind `put` say.
-fn put_of(
+/// The index, the key and the value that three words say.
+fn record_of(
     alloc: Global,
     words: &[u8],
     max_value: u32,
-) -> Result<Option<Command<Key8, ByteValue>>, AllocError>
-    ensures { IfOk result (λ found. IsCommandOf max_value (codes "put" ++ 32 ∷ words.now) (option_map (asked key8_bytes (λ v. v)) found)) }
+) -> Result<Option<(u64, Key8, ByteValue)>, AllocError>
+    ensures { IfOk result (λ found. IsReading (IsRecord max_value) record_text words.now (option_map (λ r. (r.0, key8_bytes r.1, r.2)) found)) }
 {
     let Some((index, words)) = cut(words, b' ') else {
         return Ok(None);
@@ -146,7 +202,7 @@ fn put_of(
     let Some(value) = value_of(alloc, value, max_value)? else {
         return Ok(None);
     };
-    Ok(Some(Command::Put(index, key, value)))
+    Ok(Some((index, key, value)))
 }
 
 /// What makes the answers of [`read_script`] exact. A text spells at most one script; one that spells a script has no

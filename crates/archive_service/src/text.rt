@@ -67,7 +67,7 @@ fn append_value(bytes: &[u8], out: &mut Vec<u8>) -> Result<(), AllocError>
     }
 }
 
-fn append_hex(bytes: &[u8], out: &mut Vec<u8>) -> Result<(), AllocError>
+pub(crate) fn append_hex(bytes: &[u8], out: &mut Vec<u8>) -> Result<(), AllocError>
     ensures { Appends result out.old.items (encode_lower bytes.now) out.new.items }
 {
     let text = hex::encode(*out.allocator(), bytes)?;

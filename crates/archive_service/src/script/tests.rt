@@ -10,7 +10,7 @@ const MOST: u32 = 4;
 /// A text, and the number of its first bad line, if any.
 type Row = (&'static [u8], Option<u64>);
 
-const GOOD: [Row; 6] = [
+const GOOD: [Row; 8] = [
     (b"", None),
     (b"put 5 0000000000000001 aa\nget 5\nget 6\nhas 5\n", None),
     (
@@ -23,6 +23,29 @@ const GOOD: [Row; 6] = [
         b"put 1 ffffffffffffffff 00\nput 1 ffffffffffffffff -\n",
         None,
     ),
+    (
+        b"sync\nstart\nreopen\ngetk 0000000000000001\nhask ffffffffffffffff\n",
+        None,
+    ),
+    (
+        b"putsync 7 0000000000000001 aa\nputstart 8 0000000000000001 -\nsync\n",
+        None,
+    ),
+];
+
+const BAD_NAMES: [Row; 12] = [
+    (b"sync \n", Some(1)),
+    (b"sync 1\n", Some(1)),
+    (b"syncs\n", Some(1)),
+    (b"Start\n", Some(1)),
+    (b"sync\nreopen now\n", Some(2)),
+    (b"getk 1\n", Some(1)),
+    (b"getk 000000000000000A\n", Some(1)),
+    (b"hask\n", Some(1)),
+    (b"hask 0000000000000001 aa\n", Some(1)),
+    (b"putsync 7\n", Some(1)),
+    (b"putstart 07 0000000000000001 aa\n", Some(1)),
+    (b"puts 7 0000000000000001 aa\n", Some(1)),
 ];
 
 const BAD_LINES: [Row; 8] = [
@@ -111,6 +134,7 @@ fn check_rows(rt: &(impl Abort + AllocGlobal), rows: &[Row]) -> Result<(), Fail>
 fn reads_scripts_and_names_first_bad_lines(rt: HostRuntime) -> Result<(), Fail> {
     check_rows(&rt, &GOOD)?;
     check_rows(&rt, &BAD_LINES)?;
+    check_rows(&rt, &BAD_NAMES)?;
     check_rows(&rt, &BAD_NUMBERS)?;
     check_rows(&rt, &BAD_WORDS)?;
     check_rows(&rt, &BAD_DIGITS)
@@ -144,7 +168,8 @@ fn names_the_first_of_many_empty_lines(rt: HostRuntime) -> Result<(), Fail> {
 
 const COMMANDS: &[u8] =
     b"get 0\nget 1\nget 5\nhas 1\nput 0 0123456789abcdef 00ff1234\nput 1 ffffffffffffffff 00
-put 1 0000000000000001 aa\nput 5 0000000000000001 aa\nput 18446744073709551615 0000000000000001 -\n";
+put 1 0000000000000001 aa\nput 5 0000000000000001 aa\nput 18446744073709551615 0000000000000001 -
+putsync 7 0000000000000001 aa\nsync\n";
 
 /// How many of the commands a text begins with, each of them tried.
 fn count_beginnings(
@@ -175,6 +200,7 @@ fn check_beginnings(rt: &(impl Abort + AllocGlobal), rows: &[Row]) -> Result<(),
 fn reads_a_first_line_where_a_command_has_that_text(rt: HostRuntime) -> Result<(), Fail> {
     check_beginnings(&rt, &GOOD)?;
     check_beginnings(&rt, &BAD_LINES)?;
+    check_beginnings(&rt, &BAD_NAMES)?;
     check_beginnings(&rt, &BAD_NUMBERS)?;
     check_beginnings(&rt, &BAD_WORDS)?;
     check_beginnings(&rt, &BAD_DIGITS)

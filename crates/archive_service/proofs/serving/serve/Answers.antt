@@ -1,32 +1,35 @@
-use Rattle.std.proofs.Common.{[], length, map, subst, sym, ap, arith}
-use Rattle.archives.specs.Machine.{Run, asked, empty_state, replied}
-use Rattle.archives.specs.Plain.{state_of}
-use Rattle.archive_service.specs.Served.{AreReplies}
-use Rattle.archive_service.proofs.ServedLemmas.{as_many, are_replies, run_more}
+-- `c.cfg-1.given` is what the only arm of the match on the kind is told: the configuration, and that the store is of it.
+use Rattle.blob_device.specs.Counts.{Rose}
+use Rattle.archive_service.specs.Causes.{IsFault}
+use Rattle.archive_service.proofs.LoopSteps.{failed_fault}
 use Rattle.archive_service.proofs.serving.serve.Goals as goal
 
-pub loop-command-init : goal.loop-command-init
-loop-command-init g c n =
-    subst (λ replies. Run n empty_state [] (map (replied (λ v. v)) replies) (state_of g.K.Key.key_bytes n c.new-machine.result)) (sym c.new-replies.ensures) (c.new-machine.ensures n)
+pub serve_by-done-requires-clause-valid : goal.serve_by-done-requires-clause-valid
+serve_by-done-requires-clause-valid g c =
+    let valid = rw c.cfg-1.given.1 at c.requires.valid in
+    rw c.cfg-1.given.1 valid
 
-pub returns-in-Err-clause-replies : goal.returns-in-Err-clause-replies
-returns-in-Err-clause-replies g c =
-    λ items. subst (λ replies. AreReplies items (map (asked g.K.Key.key_bytes (λ v. v)) c.args.commands.now) (map (replied (λ v. v)) replies)) (sym c.in-Err.ensures.err)
-    (are_replies (asked g.K.Key.key_bytes (λ v. v)) (replied (λ v. v)) c.args.commands.now c.loop-command.command-index c.loop-command.replies (λ n. state_of g.K.Key.key_bytes n c.loop-command.machine) c.loop-command.invariant (omega arith) items)
+pub serve_by-done-requires-clause-values : goal.serve_by-done-requires-clause-values
+serve_by-done-requires-clause-values g c =
+    let values = rw c.cfg-1.given.1 at c.requires.values in
+    rw c.cfg-1.given.1 values
 
-pub returns-in-Err-clause-end : goal.returns-in-Err-clause-end
-returns-in-Err-clause-end g c =
-    omega (arith, ap length c.in-Err.ensures.err, as_many (asked g.K.Key.key_bytes (λ v. v)) (replied (λ v. v)) c.args.commands.now c.loop-command.command-index c.loop-command.replies (λ n. state_of g.K.Key.key_bytes n c.loop-command.machine) c.loop-command.invariant (omega arith))
+pub returns-clause-serves : goal.returns-clause-serves
+returns-clause-serves g c t pending markers lawful =
+    let image = rw c.cfg-1.given.1 at lawful in
+    let serves = rw c.cfg-1.given.1 at (c.serve_by-done.ensures.serves t pending markers) in
+    rw (c.cfg-1.given.1, c.ended-end.ensures) (serves image)
 
-pub loop-command-preserved : goal.loop-command-preserved
-loop-command-preserved g c =
-    run_more (asked g.K.Key.key_bytes (λ v. v)) (replied (λ v. v)) c.args.commands.now c.loop-command.command-index c.loop-command.replies (λ n. state_of g.K.Key.key_bytes n c.loop-command.machine) c.loop-command.invariant
-    c.command-item.result c.answer.new.replies (λ n. state_of g.K.Key.key_bytes n c.answer.new.machine) c.loop-command-test.true c.command-item.is c.in_default.ensures.ok
+pub returns-clause-looks : goal.returns-clause-looks
+returns-clause-looks g c t =
+    let looks = rw c.cfg-1.given.1 at (c.serve_by-done.ensures.looks t) in
+    rw c.cfg-1.given.1 looks
 
-pub returns-clause-replies : goal.returns-clause-replies
-returns-clause-replies g c =
-    are_replies (asked g.K.Key.key_bytes (λ v. v)) (replied (λ v. v)) c.args.commands.now c.loop-command.command-index c.loop-command.replies (λ n. state_of g.K.Key.key_bytes n c.loop-command.machine) c.loop-command.invariant (omega arith)
+pub returns-clause-begun : goal.returns-clause-begun
+returns-clause-begun g c = rw c.ended-end.ensures c.serve_by-done.ensures.begun
 
-pub returns-clause-end : goal.returns-clause-end
-returns-clause-end g c =
-    omega (arith, as_many (asked g.K.Key.key_bytes (λ v. v)) (replied (λ v. v)) c.args.commands.now c.loop-command.command-index c.loop-command.replies (λ n. state_of g.K.Key.key_bytes n c.loop-command.machine) c.loop-command.invariant (omega arith))
+pub returns-clause-fault : goal.returns-clause-fault
+returns-clause-fault g c = rw c.ended-end.ensures (failed_fault c.serve_by-done.result (λ e. IsFault e → Rose (g.D.Device.faults c.args.dev.now) (g.D.Device.faults c.serve_by-done.new.dev)) c.serve_by-done.ensures.fault)
+
+pub returns-clause-faults : goal.returns-clause-faults
+returns-clause-faults g c = c.serve_by-done.ensures.faults

@@ -1,0 +1,392 @@
+-- A line says one command at most: its words can be read back.
+use Rattle.std.proofs.Common.{◌≡◌, ◌≢◌, ℕ, Bool, true, ◌&&◌, ◌<◌, ◌↔◌, inl, inr, List, [], ◌∷◌, ◌++◌, length, Option, Some, None, Result, Ok, Err, codes, refl, sym, ap, ◌∙◌, subst, lit<, arith}
+use Rattle.std.specs.Prelude.{if◌then◌else◌, nat_lt, IfOk, IfSome, IfNone}
+use Rattle.std.specs.List.{AllByRecursion, join_with_byte}
+use Rattle.std.specs.Option.{option_map}
+use Rattle.std.specs.Str.{bytes_eq}
+use Rattle.std.specs.Str.Parse.{digits_value}
+use Rattle.std.specs.Fmt.{decimal}
+use Rattle.std.proofs.lemmas.Bool.{and_parts, ltb-true}
+use Rattle.std.proofs.lemmas.Fmt.{decimal_is_IsNumeral}
+use Rattle.hex.specs.Hex.{decode_of, encode_lower}
+use Rattle.hex.specs.declared.error.FromHexError.{FromHexError}
+use Rattle.hex.proofs.HexLemmas.{decode_of-encode_lower}
+use Rattle.archives.specs.Commands.{Put, PutSync, PutStart, Get, GetKey, Has, HasKey, Sync, Start, Reopen, Destroy}
+use Rattle.archive_service.specs.Texts.{Spelled, line_of, value_text, words_of}
+use Rattle.archive_service.specs.Script.{CanBeSaid, IsCommandOf, IsIndex, IsKey, IsLone, IsLongOf, IsReading, IsRecord, IsShort, IsValue, Record, record_text}
+use Rattle.archive_service.proofs.WordLemmas.{Lacks, all_append, are_bytes, cut_alone, cut_never, cut_once, decimal_lacks, encode_lacks, value_lacks}
+
+-- ---- words that are joined
+
+-- words that lack the byte between them are joined in one way
+pub joined_once : (c : ℕ) (xs ys : List (List ℕ)) → 0 < length xs → 0 < length ys → AllByRecursion (Lacks c) xs → AllByRecursion (Lacks c) ys
+    → join_with_byte c xs ≡ join_with_byte c ys → xs ≡ ys
+joined_once c [] ys some more hx hy e = absurd (omega arith)
+joined_once c (x ∷ xs) [] some more hx hy e = absurd (omega arith)
+joined_once c (x ∷ []) (y ∷ []) some more hx hy e = ap (λ w. w ∷ []) e
+joined_once c (x ∷ []) (y ∷ z ∷ ys) some more hx hy e = absurd (cut_never c x y _ hx.0 e)
+joined_once c (x ∷ w ∷ xs) (y ∷ []) some more hx hy e = absurd (cut_never c y x _ hy.0 (sym e))
+joined_once c (x ∷ w ∷ xs) (y ∷ z ∷ ys) some more hx hy e =
+    let parts = cut_once c x y _ _ hx.0 hy.0 e in
+    let rest = joined_once c (w ∷ xs) (z ∷ ys) (omega arith) (omega arith) hx.1 hy.1 parts.1 in
+    rw (parts.0, rest) refl
+
+joined_lacks : (c between : ℕ) → between ≢ c → (xs : List (List ℕ)) → AllByRecursion (Lacks c) xs → Lacks c (join_with_byte between xs)
+joined_lacks c between apart [] h = tt
+joined_lacks c between apart (x ∷ []) h = h.0
+joined_lacks c between apart (x ∷ y ∷ xs) h = all_append (λ b. b ≢ c) x (between ∷ join_with_byte between (y ∷ xs)) h.0 (apart, joined_lacks c between apart (y ∷ xs) h.1)
+
+-- a line with a space has two words at least; where it has two, it is cut between them
+one_word : (c : ℕ) (words : List (List ℕ)) → length words ≡ 1 → AllByRecursion (Lacks c) words → Lacks c (join_with_byte c words)
+one_word c [] one h = absurd (omega arith)
+one_word c (word ∷ []) one h = h.0
+one_word c (word ∷ other ∷ words) one h = absurd (omega arith)
+
+two_words : (c : ℕ) (x y : List ℕ) (words : List (List ℕ)) → length words ≡ 2 → AllByRecursion (Lacks c) words → x ++ c ∷ y ≡ join_with_byte c words → words ≡ x ∷ y ∷ []
+two_words c x y [] two h e = absurd (omega arith)
+two_words c x y (a ∷ []) two h e = absurd (omega arith)
+two_words c x y (a ∷ b ∷ []) two h e =
+    let parts = cut_alone c a b x y h.0 h.1.0 e in
+    rw (parts.0, parts.1) refl
+two_words c x y (a ∷ b ∷ d ∷ words) two h e = absurd (omega arith)
+
+-- ---- the words of a command: how many they are, and what they lack
+
+abbrev first_of : List (List ℕ) → List ℕ
+first_of [] = []
+first_of (word ∷ words) = word
+
+abbrev second_of : List (List ℕ) → List ℕ
+second_of (first ∷ word ∷ words) = word
+second_of words = []
+
+-- letters
+abbrev is_name : List ℕ → Bool
+is_name [] = true
+is_name (letter ∷ letters) = nat_lt 96 letter && is_name letters
+
+name_lacks : (c : ℕ) → c < 97 → (name : List ℕ) → is_name name ≡ true → Lacks c name
+name_lacks c low [] h = tt
+name_lacks c low (letter ∷ letters) h =
+    let parts = and_parts (nat_lt 96 letter) (is_name letters) h in
+    let high : 96 < letter = ltb-true 96 letter parts.0 in
+    (omega (arith, high), name_lacks c low letters parts.1)
+
+lone_count : (command : Spelled) → IsLone command → length (words_of command) ≡ 1
+lone_count Sync said = refl
+lone_count Start said = refl
+lone_count Reopen said = refl
+lone_count command said = absurd said
+
+short_count : (command : Spelled) → IsShort command → length (words_of command) ≡ 2
+short_count (Get index) said = refl
+short_count (Has index) said = refl
+short_count (GetKey key) said = refl
+short_count (HasKey key) said = refl
+short_count command said = absurd said
+
+long_count : (max : ℕ) (command : Spelled) → IsLongOf max command → length (words_of command) ≡ 4
+long_count max (Put index key value) said = refl
+long_count max (PutSync index key value) said = refl
+long_count max (PutStart index key value) said = refl
+long_count max command said = absurd said
+
+module _ (c : ℕ) (low : c < 45) where
+  lone_lacks : (command : Spelled) → IsLone command → AllByRecursion (Lacks c) (words_of command)
+  lone_lacks Sync said = (name_lacks c (omega (arith, low)) (codes "sync") refl, tt)
+  lone_lacks Start said = (name_lacks c (omega (arith, low)) (codes "start") refl, tt)
+  lone_lacks Reopen said = (name_lacks c (omega (arith, low)) (codes "reopen") refl, tt)
+  lone_lacks command said = absurd said
+
+  index_lacks : (name : List ℕ) → is_name name ≡ true → (index : ℕ) → IsIndex index → AllByRecursion (Lacks c) (name ∷ decimal index ∷ [])
+  index_lacks name letters index h = (name_lacks c (omega (arith, low)) name letters, (decimal_lacks c index (omega (arith, low)) h, tt))
+
+  key_lacks : (name : List ℕ) → is_name name ≡ true → (key : List ℕ) → IsKey key → AllByRecursion (Lacks c) (name ∷ encode_lower key ∷ [])
+  key_lacks name letters key h = (name_lacks c (omega (arith, low)) name letters, (encode_lacks c key (omega (arith, low)) h.1, tt))
+
+  short_lacks : (command : Spelled) → IsShort command → AllByRecursion (Lacks c) (words_of command)
+  short_lacks (Get index) said = index_lacks (codes "get") refl index said
+  short_lacks (Has index) said = index_lacks (codes "has") refl index said
+  short_lacks (GetKey key) said = key_lacks (codes "getk") refl key said
+  short_lacks (HasKey key) said = key_lacks (codes "hask") refl key said
+  short_lacks command said = absurd said
+
+  module _ (max : ℕ) where
+    record_lacks : (name : List ℕ) → is_name name ≡ true → (index : ℕ) (key value : List ℕ) → IsRecord max (index, key, value)
+        → AllByRecursion (Lacks c) (name ∷ decimal index ∷ encode_lower key ∷ value_text value ∷ [])
+    record_lacks name letters index key value h =
+        (name_lacks c (omega (arith, low)) name letters, (decimal_lacks c index (omega (arith, low)) h.0, (encode_lacks c key (omega (arith, low)) h.1.1, (value_lacks c max value low h.2, tt))))
+
+    long_lacks : (command : Spelled) → IsLongOf max command → AllByRecursion (Lacks c) (words_of command)
+    long_lacks (Put index key value) said = record_lacks (codes "put") refl index key value said
+    long_lacks (PutSync index key value) said = record_lacks (codes "putsync") refl index key value said
+    long_lacks (PutStart index key value) said = record_lacks (codes "putstart") refl index key value said
+    long_lacks command said = absurd said
+
+    words_lack : (command : Spelled) → CanBeSaid max command → AllByRecursion (Lacks c) (words_of command)
+    words_lack command (inl lone) = lone_lacks command lone
+    words_lack command (inr (inl short)) = short_lacks command short
+    words_lack command (inr (inr long)) = long_lacks command long
+
+words_some : (max : ℕ) (command : Spelled) → CanBeSaid max command → 0 < length (words_of command)
+words_some max command (inl lone) = omega (arith, lone_count command lone)
+words_some max command (inr (inl short)) = omega (arith, short_count command short)
+words_some max command (inr (inr long)) = omega (arith, long_count max command long)
+
+pub line_lacks : (max c : ℕ) → c < 32 → (command : Spelled) → CanBeSaid max command → Lacks c (line_of command)
+unfolding line_of
+line_lacks max c low command said = joined_lacks c 32 (omega arith) (words_of command) (words_lack c (omega arith) max command said)
+
+-- ---- words that are read back
+
+abbrev pub number_in : List ℕ → ℕ
+number_in word = digits_value 10 word
+
+number_again : (index : ℕ) → IsIndex index → number_in (decimal index) ≡ index
+number_again index h = (decimal_is_IsNumeral index h).1
+
+abbrev pub decoded : Result (List ℕ) FromHexError → List ℕ
+decoded (Ok bytes) = bytes
+decoded (Err e) = []
+
+-- a dash has an odd length, and so reads as no bytes
+abbrev pub bytes_in : List ℕ → List ℕ
+bytes_in word = decoded (decode_of word)
+
+key_again : (key : List ℕ) → IsKey key → bytes_in (encode_lower key) ≡ key
+key_again key h = ap decoded (decode_of-encode_lower key (are_bytes key h.1))
+
+value_again : (max : ℕ) (value : List ℕ) → IsValue max value → bytes_in (value_text value) ≡ value
+value_again max [] h = refl
+value_again max (byte ∷ bytes) h = ap decoded (decode_of-encode_lower (byte ∷ bytes) (are_bytes (byte ∷ bytes) h.1))
+
+-- the command of a name and what stands behind it; the last one is said by no line
+abbrev lone_named : List ℕ → Spelled
+lone_named name =
+    if bytes_eq name (codes "sync") then Sync
+    else if bytes_eq name (codes "start") then Start
+    else if bytes_eq name (codes "reopen") then Reopen
+    else Destroy
+
+abbrev pub short_named : List ℕ → List ℕ → Spelled
+short_named name word =
+    if bytes_eq name (codes "get") then Get (number_in word)
+    else if bytes_eq name (codes "has") then Has (number_in word)
+    else if bytes_eq name (codes "getk") then GetKey (bytes_in word)
+    else if bytes_eq name (codes "hask") then HasKey (bytes_in word)
+    else Destroy
+
+abbrev long_named : List ℕ → ℕ → List ℕ → List ℕ → Spelled
+long_named name index key value =
+    if bytes_eq name (codes "put") then Put index key value
+    else if bytes_eq name (codes "putsync") then PutSync index key value
+    else if bytes_eq name (codes "putstart") then PutStart index key value
+    else Destroy
+
+abbrev said_by : List (List ℕ) → Spelled
+said_by (name ∷ []) = lone_named name
+said_by (name ∷ word ∷ []) = short_named name word
+said_by (name ∷ index ∷ key ∷ value ∷ []) = long_named name (number_in index) (bytes_in key) (bytes_in value)
+said_by words = Destroy
+
+lone_again : (command : Spelled) → IsLone command → said_by (words_of command) ≡ command
+lone_again Sync said = refl
+lone_again Start said = refl
+lone_again Reopen said = refl
+lone_again command said = absurd said
+
+short_again : (command : Spelled) → IsShort command → said_by (words_of command) ≡ command
+short_again (Get index) said = ap Get (number_again index said)
+short_again (Has index) said = ap Has (number_again index said)
+short_again (GetKey key) said = ap GetKey (key_again key said)
+short_again (HasKey key) said = ap HasKey (key_again key said)
+short_again command said = absurd said
+
+record_again : (max : ℕ) (make : ℕ → List ℕ → List ℕ → Spelled) (index : ℕ) (key value : List ℕ) → IsRecord max (index, key, value)
+    → make (number_in (decimal index)) (bytes_in (encode_lower key)) (bytes_in (value_text value)) ≡ make index key value
+record_again max make index key value h = rw (number_again index h.0, key_again key h.1, value_again max value h.2) refl
+
+long_again : (max : ℕ) (command : Spelled) → IsLongOf max command → said_by (words_of command) ≡ command
+long_again max (Put index key value) said = record_again max Put index key value said
+long_again max (PutSync index key value) said = record_again max PutSync index key value said
+long_again max (PutStart index key value) said = record_again max PutStart index key value said
+long_again max command said = absurd said
+
+again : (max : ℕ) (command : Spelled) → CanBeSaid max command → said_by (words_of command) ≡ command
+again max command (inl lone) = lone_again command lone
+again max command (inr (inl short)) = short_again command short
+again max command (inr (inr long)) = long_again max command long
+
+-- a line says one command
+pub line_injective : (max : ℕ) (a b : Spelled) → CanBeSaid max a → CanBeSaid max b → line_of a ≡ line_of b → a ≡ b
+unfolding line_of
+line_injective max a b ha hb e =
+    let words = joined_once 32 (words_of a) (words_of b) (words_some max a ha) (words_some max b hb) (words_lack 32 (lit< tt) max a ha) (words_lack 32 (lit< tt) max b hb) e in
+    sym (again max a ha) ∙ ap said_by words ∙ again max b hb
+
+-- ---- one word
+
+pub lone_refused : (word : List ℕ) → word ≢ codes "sync" → word ≢ codes "start" → word ≢ codes "reopen" → (command : Spelled) → IsLone command → word ≢ line_of command
+unfolding line_of
+lone_refused word sync start reopen Sync said = sync
+lone_refused word sync start reopen Start said = start
+lone_refused word sync start reopen Reopen said = reopen
+lone_refused word sync start reopen command said = absurd said
+
+-- no other command is said by one word
+pub lone_only : (max : ℕ) (word : List ℕ) → Lacks 32 word → (command : Spelled) → CanBeSaid max command → word ≡ line_of command → IsLone command
+unfolding line_of
+lone_only max word lacks command (inl lone) e = lone
+lone_only max word lacks command (inr (inl short)) e =
+    let words = joined_once 32 (word ∷ []) (words_of command) (omega arith) (words_some max command (inr (inl short))) (lacks, tt) (short_lacks 32 (lit< tt) command short) e in
+    absurd (omega (arith, ap length words, short_count command short))
+lone_only max word lacks command (inr (inr long)) e =
+    let words = joined_once 32 (word ∷ []) (words_of command) (omega arith) (words_some max command (inr (inr long))) (lacks, tt) (long_lacks 32 (lit< tt) max command long) e in
+    absurd (omega (arith, ap length words, long_count max command long))
+
+-- and none of those by more words
+pub lone_never : (name words : List ℕ) (command : Spelled) → IsLone command → name ++ 32 ∷ words ≢ line_of command
+unfolding line_of
+lone_never name words command said e = cut_never 32 (join_with_byte 32 (words_of command)) name words (one_word 32 (words_of command) (lone_count command said) (lone_lacks 32 (lit< tt) command said)) (sym e)
+
+-- ---- two words
+
+short_words : (name word : List ℕ) (command : Spelled) → IsShort command → name ++ 32 ∷ word ≡ line_of command → words_of command ≡ name ∷ word ∷ []
+unfolding line_of
+short_words name word command said e = two_words 32 name word (words_of command) (short_count command said) (short_lacks 32 (lit< tt) command said) e
+
+pub short_unnamed : (name word : List ℕ) → name ≢ codes "get" → name ≢ codes "has" → name ≢ codes "getk" → name ≢ codes "hask"
+    → (command : Spelled) → IsShort command → name ++ 32 ∷ word ≢ line_of command
+short_unnamed name word get has getk hask (Get index) said e = get (sym (ap first_of (short_words name word (Get index) said e)))
+short_unnamed name word get has getk hask (Has index) said e = has (sym (ap first_of (short_words name word (Has index) said e)))
+short_unnamed name word get has getk hask (GetKey key) said e = getk (sym (ap first_of (short_words name word (GetKey key) said e)))
+short_unnamed name word get has getk hask (HasKey key) said e = hask (sym (ap first_of (short_words name word (HasKey key) said e)))
+short_unnamed name word get has getk hask command said e = absurd said
+
+-- the command of this name is made of what its one word reads as
+pub record IsNamed {A : Type 0} (may_be : A → Type 0) (text_of : A → List ℕ) (read : List ℕ → A) (make : A → Spelled) (own : List ℕ) : Type 0 where
+  pub is_short : (thing : A) → IsShort (make thing) ↔ may_be thing
+  pub words : (thing : A) → words_of (make thing) ≡ own ∷ text_of thing ∷ []
+  pub named : (word : List ℕ) → short_named own word ≡ make (read word)
+
+pub get_named : IsNamed IsIndex decimal number_in Get (codes "get")
+get_named = record { is_short = λ index. ((λ h. h), (λ h. h)); words = λ index. refl; named = λ word. refl }
+
+pub has_named : IsNamed IsIndex decimal number_in Has (codes "has")
+has_named = record { is_short = λ index. ((λ h. h), (λ h. h)); words = λ index. refl; named = λ word. refl }
+
+pub getk_named : IsNamed IsKey encode_lower bytes_in GetKey (codes "getk")
+getk_named = record { is_short = λ key. ((λ h. h), (λ h. h)); words = λ key. refl; named = λ word. refl }
+
+pub hask_named : IsNamed IsKey encode_lower bytes_in HasKey (codes "hask")
+hask_named = record { is_short = λ key. ((λ h. h), (λ h. h)); words = λ key. refl; named = λ word. refl }
+
+module _ {A : Type 0} (may_be : A → Type 0) (text_of : A → List ℕ) (read : List ℕ → A) (make : A → Spelled) (own : List ℕ) (by : IsNamed may_be text_of read make own)
+    (name word : List ℕ) (is : name ≡ own) where
+  pub short_found : (thing : A) → IsReading may_be text_of word (Some thing) → IsShort (make thing) × (name ++ 32 ∷ word ≡ line_of (make thing))
+  unfolding line_of
+  short_found thing reading =
+      let text : name ++ 32 ∷ word ≡ own ++ 32 ∷ text_of thing = rw (is, reading.1) refl in
+      ((by.is_short thing).1 reading.0, text ∙ sym (ap (join_with_byte 32) (by.words thing)))
+
+  pub short_refused : IsReading may_be text_of word None → (command : Spelled) → IsShort command → name ++ 32 ∷ word ≢ line_of command
+  short_refused none command said e =
+      let have = short_words name word command said e ∙ ap (λ n. n ∷ word ∷ []) is in
+      let made : command ≡ make (read word) = sym (short_again command said) ∙ ap said_by have ∙ by.named word in
+      let thing = (by.is_short (read word)).0 (subst IsShort made said) in
+      none (read word) thing (ap second_of (sym have ∙ ap words_of made ∙ by.words (read word)))
+
+-- ---- four words
+
+-- the name of a command of four words, and its record
+abbrev LongParts : ℕ → List ℕ → List ℕ → Spelled → Type 0
+LongParts max name words command = (r : Record) × IsRecord max r × (words ≡ record_text r) × (name ≡ first_of (words_of command))
+
+-- where a line begins with this name, the record stands behind it
+long_cut : (max : ℕ) (name words : List ℕ) → Lacks 32 name → (own : List ℕ) → is_name own ≡ true → (r : Record) → IsRecord max r → name ++ 32 ∷ words ≡ own ++ 32 ∷ record_text r
+    → (s : Record) × IsRecord max s × (words ≡ record_text s) × (name ≡ own)
+long_cut max name words lacks own letters r said e =
+    let parts = cut_once 32 name own words (record_text r) lacks (name_lacks 32 (lit< tt) own letters) e in
+    (r, said, parts.1, parts.0)
+
+long_parts : (max : ℕ) (name words : List ℕ) → Lacks 32 name → (command : Spelled) → IsLongOf max command → name ++ 32 ∷ words ≡ line_of command → LongParts max name words command
+unfolding line_of
+long_parts max name words lacks (Put index key value) said e = long_cut max name words lacks (codes "put") refl (index, key, value) said e
+long_parts max name words lacks (PutSync index key value) said e = long_cut max name words lacks (codes "putsync") refl (index, key, value) said e
+long_parts max name words lacks (PutStart index key value) said e = long_cut max name words lacks (codes "putstart") refl (index, key, value) said e
+long_parts max name words lacks command said e = absurd said
+
+pub long_unnamed : (max : ℕ) (name words : List ℕ) → Lacks 32 name → name ≢ codes "put" → name ≢ codes "putsync" → name ≢ codes "putstart"
+    → (command : Spelled) → IsLongOf max command → name ++ 32 ∷ words ≢ line_of command
+long_unnamed max name words lacks put putsync putstart (Put index key value) said e = put (long_parts max name words lacks (Put index key value) said e).3
+long_unnamed max name words lacks put putsync putstart (PutSync index key value) said e = putsync (long_parts max name words lacks (PutSync index key value) said e).3
+long_unnamed max name words lacks put putsync putstart (PutStart index key value) said e = putstart (long_parts max name words lacks (PutStart index key value) said e).3
+long_unnamed max name words lacks put putsync putstart command said e = absurd said
+
+pub long_refused : (max : ℕ) (name words : List ℕ) → Lacks 32 name → IsReading (IsRecord max) record_text words None
+    → (command : Spelled) → IsLongOf max command → name ++ 32 ∷ words ≢ line_of command
+long_refused max name words lacks none command said e =
+    let parts = long_parts max name words lacks command said e in
+    none parts.0 parts.1 parts.2
+
+-- the put of this name has a record for its words
+pub record IsLongNamed (max : ℕ) (make : ℕ → List ℕ → List ℕ → Spelled) (own : List ℕ) : Type 0 where
+  pub is_long : (index : ℕ) (key value : List ℕ) → IsRecord max (index, key, value) → IsLongOf max (make index key value)
+  pub words : (index : ℕ) (key value : List ℕ) → words_of (make index key value) ≡ own ∷ decimal index ∷ encode_lower key ∷ value_text value ∷ []
+
+pub put_named : (max : ℕ) → IsLongNamed max Put (codes "put")
+put_named max = record { is_long = λ index key value h. h; words = λ index key value. refl }
+
+pub putsync_named : (max : ℕ) → IsLongNamed max PutSync (codes "putsync")
+putsync_named max = record { is_long = λ index key value h. h; words = λ index key value. refl }
+
+pub putstart_named : (max : ℕ) → IsLongNamed max PutStart (codes "putstart")
+putstart_named max = record { is_long = λ index key value h. h; words = λ index key value. refl }
+
+-- what is made of a record is seen as the command of that name
+module _ {K C : Type 0} (key_bytes : K → List ℕ) (seen : C → Spelled) (max : ℕ) (make : ℕ → List ℕ → List ℕ → Spelled) (own : List ℕ) (by : IsLongNamed max make own)
+    (made : ℕ → K → List ℕ → C) (sees : (index : ℕ) (key : K) (value : List ℕ) → seen (made index key value) ≡ make index (key_bytes key) value)
+    (name words : List ℕ) where
+  pub long_found : name ≡ own → (r : Option (ℕ × K × List ℕ)) → IsReading (IsRecord max) record_text words (option_map (λ r. (r.0, key_bytes r.1, r.2)) r)
+      → IfSome (option_map (λ r. made r.0 r.1 r.2) r) (λ x. IsLongOf max (seen x) × (name ++ 32 ∷ words ≡ line_of (seen x)))
+  unfolding line_of
+  long_found is None none = tt
+  long_found is (Some r) reading =
+      let same = sees r.0 r.1 r.2 in
+      let text : name ++ 32 ∷ words ≡ own ++ 32 ∷ record_text (r.0, key_bytes r.1, r.2) = rw (is, reading.1) refl in
+      (subst (IsLongOf max) (sym same) (by.is_long r.0 (key_bytes r.1) r.2 reading.0), text ∙ sym (ap (join_with_byte 32) (by.words r.0 (key_bytes r.1) r.2)) ∙ ap line_of (sym same))
+
+  pub long_missed : Lacks 32 name → (r : Option (ℕ × K × List ℕ)) → IsReading (IsRecord max) record_text words (option_map (λ r. (r.0, key_bytes r.1, r.2)) r)
+      → IfNone (option_map (λ r. made r.0 r.1 r.2) r) ((command : Spelled) → IsLongOf max command → name ++ 32 ∷ words ≢ line_of command)
+  long_missed lacks None none = long_refused max name words lacks none
+  long_missed lacks (Some r) reading = tt
+
+-- ---- any line
+
+-- what is found is seen as a command
+module _ {A : Type 0} (seen : A → Spelled) (max : ℕ) (line : List ℕ) where
+  pub lone_reading : Lacks 32 line → (found : Option A) → IfSome found (λ x. IsLone (seen x) × (line ≡ line_of (seen x)))
+      → IfNone found ((command : Spelled) → IsLone command → line ≢ line_of command) → IsCommandOf max line (option_map seen found)
+  lone_reading lacks (Some x) is none = (inl is.0, is.1)
+  lone_reading lacks None is none = λ command said e. none command (lone_only max line lacks command said e) e
+
+  -- a name, and words behind it
+  module _ (name words : List ℕ) (at : line ≡ name ++ 32 ∷ words) where
+    pub short_reading : (x : A) → IsShort (seen x) × (name ++ 32 ∷ words ≡ line_of (seen x)) → IsCommandOf max line (Some (seen x))
+    short_reading x is = (inr (inl is.0), at ∙ is.1)
+
+    module _ (no_short : (command : Spelled) → IsShort command → name ++ 32 ∷ words ≢ line_of command) where
+      refused : ((command : Spelled) → IsLongOf max command → name ++ 32 ∷ words ≢ line_of command) → (command : Spelled) → CanBeSaid max command → line ≢ line_of command
+      refused no_long command (inl lone) e = lone_never name words command lone (sym at ∙ e)
+      refused no_long command (inr (inl short)) e = no_short command short (sym at ∙ e)
+      refused no_long command (inr (inr long)) e = no_long command long (sym at ∙ e)
+
+      long_reading : (found : Option A) → IfSome found (λ x. IsLongOf max (seen x) × (name ++ 32 ∷ words ≡ line_of (seen x)))
+          → IfNone found ((command : Spelled) → IsLongOf max command → name ++ 32 ∷ words ≢ line_of command) → IsCommandOf max line (option_map seen found)
+      long_reading (Some x) is none = (inr (inr is.0), at ∙ is.1)
+      long_reading None is none = refused none
+
+      pub long_result : {E : Type 0} (r : Result (Option A) E) → IfOk r (λ found. IfSome found (λ x. IsLongOf max (seen x) × (name ++ 32 ∷ words ≡ line_of (seen x))))
+          → IfOk r (λ found. IfNone found ((command : Spelled) → IsLongOf max command → name ++ 32 ∷ words ≢ line_of command)) → IfOk r (λ found. IsCommandOf max line (option_map seen found))
+      long_result (Ok found) is none = long_reading found is none
+      long_result (Err e) is none = tt

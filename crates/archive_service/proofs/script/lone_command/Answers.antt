@@ -1,0 +1,25 @@
+-- The word is one of three names, or no command.
+use Rattle.std.proofs.Common.{codes}
+use Rattle.archive_service.specs.Texts.{line_of}
+use Rattle.archive_service.proofs.LineLemmas.{lone_refused}
+use Rattle.archive_service.proofs.WordLemmas.{other_word, same_word}
+use Rattle.archive_service.proofs.script.lone_command.Goals as goal
+
+pub returns-then-eq-clause-found : goal.returns-then-eq-clause-found
+unfolding line_of
+returns-then-eq-clause-found c = (tt, same_word c.args.word.now (codes "sync") c.as_slice.result.now c.as_slice.ensures c.if-eq.ensures)
+
+pub returns-then-eq-2-clause-found : goal.returns-then-eq-2-clause-found
+unfolding line_of
+returns-then-eq-2-clause-found c = (tt, same_word c.args.word.now (codes "start") c.as_slice-else-eq.result.now c.as_slice-else-eq.ensures c.if-eq-2.ensures)
+
+pub returns-then-eq-3-clause-found : goal.returns-then-eq-3-clause-found
+unfolding line_of
+returns-then-eq-3-clause-found c = (tt, same_word c.args.word.now (codes "reopen") c.as_slice-else-eq-2.result.now c.as_slice-else-eq-2.ensures c.if-eq-3.ensures)
+
+pub returns-else-eq-3-clause-none : goal.returns-else-eq-3-clause-none
+returns-else-eq-3-clause-none c =
+    lone_refused c.args.word.now
+    (other_word c.args.word.now (codes "sync") c.as_slice.result.now c.as_slice.ensures c.if-eq.ensures)
+    (other_word c.args.word.now (codes "start") c.as_slice-else-eq.result.now c.as_slice-else-eq.ensures c.if-eq-2.ensures)
+    (other_word c.args.word.now (codes "reopen") c.as_slice-else-eq-2.result.now c.as_slice-else-eq-2.ensures c.if-eq-3.ensures)
