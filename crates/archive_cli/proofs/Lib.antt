@@ -1,3 +1,7 @@
+pub mod CauseLemmas
+pub mod FoundLemmas
 pub mod InputLemmas
+pub mod LawLemmas
 pub mod ProgramLemmas
+pub mod ServedLemmas
 pub mod WordsLemmas

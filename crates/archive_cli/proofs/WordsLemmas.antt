@@ -1,4 +1,5 @@
 -- Three words, and the number that the last of them is.
+use Rattle.std.specs.Prelude.{◌==◌}
 use Rattle.std.proofs.Common.{◌≡◌, ℕ, Bool, true, false, not, ◌^◌, ◌<◌, List, [], ◌∷◌, length, map, get_or, refl, sym, ap, ◌∙◌, arith}
 use Rattle.std.specs.Str.{bytes_eq}
 use Rattle.std.proofs.lemmas.Slice.Eq.{bytes_eq-Decides}
@@ -21,6 +22,15 @@ pub asks_it : (words : List (List ℕ)) (folder kind last : List ℕ) (number it
 asks_it words folder kind last number items are fits is asks =
     decimal_injective number items fits (omega (arith, asks.limit))
     (sym is ∙ ap (λ ws. get_or ws 2 []) (sym are ∙ asks.words_are))
+
+-- words ask for one number only
+pub one_number : (words : List (List ℕ)) (a b : ℕ) → AreWordsFor words a → AreWordsFor words b → a ≡ b
+one_number words a b one other =
+    decimal_injective a b (omega (arith, one.limit)) (omega (arith, other.limit)) (ap (λ (ws : List (List ℕ)). get_or ws 2 []) (sym one.words_are ∙ other.words_are))
+
+-- a text that is tested not to be empty
+pub some_text : (bytes : List ℕ) (len : ℕ) → len ≡ length bytes → false ≡ (len == 0) → bytes ≡ [] → ⊥
+some_text bytes len is some nil = let none : len ≡ 0 = omega (arith, is, ap length nil) in cc (some ∙ ap (λ (n : ℕ). n == 0) none)
 
 -- a test of two texts that finds no difference
 pub same_text : (xs ys : List ℕ) → false ≡ not (bytes_eq xs ys) → xs ≡ ys

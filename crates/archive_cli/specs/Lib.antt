@@ -1,3 +1,4 @@
+pub mod Config
 pub mod Input
 pub mod Output
 pub mod Program

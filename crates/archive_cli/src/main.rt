@@ -1,19 +1,24 @@
-//! `archive_cli` keeps records in an archive, driven by a script of commands on standard input.
+//! `archive_cli` keeps records in an archive in a folder, driven by a script of commands on standard input.
 //!
 //! `run` in `program.rt` carries the theorem: what is written is the text of replies that the machine of records may
-//! give to the script. This file only makes the device, the source and the sink, and says on standard error what is wrong.
+//! give to the script, and at every moment each crash leaves what it may. This file only makes the device, the source and
+//! the sink, and says on standard error what is wrong.
 #![tactic(auto)]
 
-ghost use Rattle.std.specs.Prelude.{◌≡◌, [], ◌∷◌, Contains, IsSome, IsNone};
+ghost use Rattle.std.specs.Prelude.{◌≡◌, ◌≤◌, IsSome, IsNone};
 
+mod answer;
+mod config;
 mod input;
+mod laws;
 mod output;
 mod program;
 mod words;
 
 use archive_service::Status;
-use blob_device::{Device, Memory, StdSink, StdSource};
-pub use program::run;
+use blob_device::{Device, FileDevice, Memory, StdSink, StdSource};
+pub use laws::an_empty_device_may_be_served;
+pub use program::{run, run_with};
 use std::io::ErrorKind;
 use std::process::ExitCode;
 use std::{env, io};
@@ -21,27 +26,35 @@ use std::{env, io};
 const HELP: &str = "\
 Keeps records in an archive, driven by a script of commands on standard input.
 
-usage: archive_cli - prunable ITEMS < SCRIPT
+usage: archive_cli DIR prunable ITEMS < SCRIPT
        archive_cli --help | --version
 
-  -         the archive is kept in memory, and is gone when the program ends
+  DIR       the folder that keeps the archive, made when it is needed; with -
+            the archive is kept in memory, and is gone when the program ends
   prunable  the kind of the archive
   ITEMS     how many indices a section has room for, from 1 to 1048576
 
 A script has one command a line, and each gets one line of reply:
 
-  put INDEX KEY VALUE  keep VALUE under INDEX and KEY, unless INDEX is taken: ok
-  get INDEX            value VALUE, or none
-  has INDEX            yes or no
+  put INDEX KEY VALUE       keep VALUE under INDEX and KEY, unless INDEX is
+                            taken: ok
+  putsync INDEX KEY VALUE   the same, and make all that was put durable: ok
+  putstart INDEX KEY VALUE  the same, by a sync that is started: ok
+  get INDEX, getk KEY       value VALUE, or none
+  has INDEX, hask KEY       yes or no
+  sync, start               make all that was put durable: ok
+  reopen                    give up what is not durable yet, but for what was
+                            written, and open the archive again: ok
 
 INDEX is a decimal number below 2^64, KEY has 16 lower-case hexadecimal digits,
 and VALUE is lower-case hexadecimal of at most 65536 bytes, or - for the empty
-value.
+value. What was put and not synced is lost when the program ends, but for what
+was written by then.
 
-status: 0 done, 1 usage, 2 bad script, 3 read fault, 4 write fault, 6 no memory,
-        7 input longer than 16777216 bytes";
+status: 0 done, 1 usage, 2 bad script, 3 read fault, 4 write fault, 5 store
+        error, 6 no memory, 7 input longer than 16777216 bytes";
 
-const USAGE: &str = "usage: archive_cli - prunable ITEMS < SCRIPT (archive_cli --help says more)";
+const USAGE: &str = "usage: archive_cli DIR prunable ITEMS < SCRIPT (archive_cli --help says more)";
 
 const VERSION: &str = "archive_cli 0.1.0";
 
@@ -51,14 +64,14 @@ fn main(rt: HostRuntime) -> ExitCode {
 
 // The status of the process.
 fn status(rt: &HostRuntime) -> u8
-    ensures { Contains (0 ∷ 1 ∷ 2 ∷ 3 ∷ 4 ∷ 6 ∷ 7 ∷ []) result }
+    ensures { result ≤ 7 }
 {
     let words = match arguments(rt) {
         Ok(words) => words,
         Err(error) if error.kind() == ErrorKind::OutOfMemory => {
-            return report(rt, Status::NoMemory as u8);
+            return report(rt, Status::NoMemory as u8, None);
         }
-        Err(_) => return report(rt, Status::Usage as u8),
+        Err(_) => return report(rt, Status::Usage as u8, None),
     };
     if let [word] = words.as_slice() {
         match word.as_str() {
@@ -67,7 +80,18 @@ fn status(rt: &HostRuntime) -> u8
             _ => {}
         }
     }
-    run_on(rt, words.as_slice(), &mut Memory::new(rt.alloc()))
+    match folder_of(words.as_slice()) {
+        None => run_in_memory(rt, words.as_slice()),
+        Some(folder) => run_in(rt, words.as_slice(), folder),
+    }
+}
+
+// The folder that keeps the archive; none where it is kept in memory, or where there are no words.
+fn folder_of(words: &[String]) -> Option<&str> {
+    match words.first()?.as_str() {
+        "" | "-" => None,
+        folder => Some(folder),
+    }
 }
 
 // The words behind the program's name. Words that are no text are an error.
@@ -79,33 +103,52 @@ fn arguments(rt: &HostRuntime) -> io::Result<Vec<String>> {
     Ok(words)
 }
 
+// Runs the program in memory.
+fn run_in_memory(rt: &HostRuntime, words: &[String]) -> u8
+    ensures { result ≤ 7 }
+{
+    let status = run_on(rt, words, &mut Memory::new(rt.alloc()));
+    report(rt, status, None)
+}
+
+// Runs the program on this folder.
+fn run_in(rt: &HostRuntime, words: &[String], folder: &str) -> u8
+    ensures { result ≤ 7 }
+{
+    let Ok(mut device) = FileDevice::new(rt, rt.alloc(), folder) else {
+        return report(rt, Status::NoMemory as u8, None);
+    };
+    let status = run_on(rt, words, &mut device);
+    report(rt, status, device.last_failure())
+}
+
 // Runs the program on this device, between standard input and output.
 fn run_on<D: Device>(rt: &HostRuntime, words: &[String], device: &mut D) -> u8
-    ensures status { Contains (0 ∷ 1 ∷ 2 ∷ 3 ∷ 4 ∷ 6 ∷ 7 ∷ []) result }
-    ensures device { device.new ≡ device.old }
+    ensures { result ≤ 7 }
 {
     let mut input = StdSource::new(rt.reader());
     let mut out = StdSink::new(io::writer(rt));
-    report(
-        rt,
-        run(rt.alloc(), words, device, &mut input, &mut out).status,
-    )
+    run(rt.alloc(), words, device, &mut input, &mut out).status
 }
 
 fn show(rt: &HostRuntime, text: &str) -> u8
-    ensures { Contains (0 ∷ 4 ∷ []) result }
+    ensures { result ≤ 7 }
 {
     match println!(rt; "{text}") {
         Ok(()) => Status::Done as u8,
-        Err(_) => report(rt, Status::WriteFault as u8),
+        Err(_) => report(rt, Status::WriteFault as u8, None),
     }
 }
 
-// Says on standard error what is wrong, if anything is, and answers the status.
-fn report(rt: &HostRuntime, status: u8) -> u8
+// Says on standard error what is wrong, if anything is, and answers the status. What failed in the folder says more than the status does.
+fn report(rt: &HostRuntime, status: u8, failure: Option<&str>) -> u8
     ensures { result ≡ status }
 {
-    if let Some(text) = fault_text(status) {
+    let text = match failure {
+        Some(line) if status == Status::StoreError as u8 => Some(line),
+        _ => fault_text(status),
+    };
+    if let Some(text) = text {
         // There is nobody else to tell if this fails.
         let _ = eprintln!(rt; "archive_cli: {text}");
     }
@@ -115,13 +158,14 @@ fn report(rt: &HostRuntime, status: u8) -> u8
 // What a status other than 0 means.
 fn fault_text(status: u8) -> Option<&'static str>
     ensures silent { status ≡ 0 → IsNone result }
-    ensures said { Contains (1 ∷ 2 ∷ 3 ∷ 4 ∷ 6 ∷ 7 ∷ []) status → IsSome result }
+    ensures said { 1 ≤ status → status ≤ 7 → IsSome result }
 {
     match status {
         1 => Some(USAGE),
         2 => Some("the script has a bad line, whose number is on standard output"),
         3 => Some("standard input could not be read"),
         4 => Some("standard output could not be written"),
+        5 => Some("the archive failed or refused, as standard output says"),
         6 => Some("out of memory"),
         7 => Some("the script is longer than 16777216 bytes"),
         _ => None,

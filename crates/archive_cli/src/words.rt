@@ -7,7 +7,7 @@ use archive_service::index_of;
 /// The most indices that a section may have room for.
 pub const ITEMS_LIMIT: u64 = 1 << 20;
 
-/// The number of indices per section that the words `- prunable ITEMS` ask for.
+/// The number of indices per section that the words `DIR prunable ITEMS` ask for.
 pub fn items_of(words: &[String]) -> Option<u64>
     ensures asked { IfSome result (AreWordsFor (map string_bytes words.now)) }
     ensures refused { IfNone result (AreOfNoForm (map string_bytes words.now)) }
@@ -15,7 +15,7 @@ pub fn items_of(words: &[String]) -> Option<u64>
     let [folder, kind, items] = words else {
         return None;
     };
-    if folder.as_str() != "-" || kind.as_str() != "prunable" {
+    if folder.is_empty() || kind.as_str() != "prunable" {
         return None;
     }
     let items = index_of(items.as_bytes())?;

@@ -1,219 +1,101 @@
-// What the program prints and answers, over sources and sinks in memory.
-ghost use Rattle.std.specs.Prelude.{◌<◌};
+// The program over devices in memory and in a folder, with sources and sinks in memory.
+mod commands;
+mod crashes;
+mod failing;
+mod folders;
+mod owed;
+mod rows;
+mod scripts;
+mod streams;
 
-use super::run;
-use blob_device::{MemSink, MemSource, Memory};
+use super::{run, run_with};
+use archive_service::{Ended, Settings};
+use blob_device::{Device, MemSink, MemSource};
 use std::alloc::{AllocError, Global};
 use std::test::Fail;
 
+/// The words of an archive in memory, with four indices a section.
 const IN_MEMORY: &[&str] = &["-", "prunable", "4"];
 
-// Scripts of lines, and what they give.
-const SCRIPTS: &[(&str, u8, &str)] = &[
-    ("", 0, ""),
-    (
-        "put 5 0000000000000001 aa\nget 5\nget 6\nhas 5\n",
-        0,
-        "ok\nvalue aa\nnone\nyes\n",
-    ),
-    // The first record at an index stays.
-    (
-        "put 5 0000000000000001 aa\nput 5 0000000000000002 bb\nget 5\nhas 5\nhas 4\n",
-        0,
-        "ok\nok\nvalue aa\nyes\nno\n",
-    ),
-    // The greatest index, and the empty value.
-    (
-        "put 18446744073709551615 0000000000000001 -\nget 18446744073709551615\nput 0 ffffffffffffffff 00ff\nget 0\n",
-        0,
-        "ok\nvalue -\nok\nvalue 00ff\n",
-    ),
-    // A number with a leading zero, or too great, or with a sign, or none.
-    (
-        "put 1 0000000000000001 aa\nput 01 0000000000000001 aa\n",
-        2,
-        "error line 2\n",
-    ),
-    ("get 18446744073709551616\n", 2, "error line 1\n"),
-    ("get 00\n", 2, "error line 1\n"),
-    ("get +1\n", 2, "error line 1\n"),
-    ("get -1\n", 2, "error line 1\n"),
-    ("get 1a\n", 2, "error line 1\n"),
-    ("get \n", 2, "error line 1\n"),
-    // A key of another length, or in upper case, or of no digits.
-    ("put 1 000000000000001 aa\n", 2, "error line 1\n"),
-    ("put 1 00000000000000001 aa\n", 2, "error line 1\n"),
-    ("put 1 000000000000000A aa\n", 2, "error line 1\n"),
-    ("put 1 000000000000000g aa\n", 2, "error line 1\n"),
-    ("put 1 - aa\n", 2, "error line 1\n"),
-    // A value of an odd length, in upper case, or of no digits.
-    ("put 1 0000000000000001 aaa\n", 2, "error line 1\n"),
-    ("put 1 0000000000000001 AA\n", 2, "error line 1\n"),
-    ("put 1 0000000000000001 --\n", 2, "error line 1\n"),
-    ("put 1 0000000000000001 \n", 2, "error line 1\n"),
-    // Spaces in the wrong place, and other white space.
-    ("get  1\n", 2, "error line 1\n"),
-    (" get 1\n", 2, "error line 1\n"),
-    ("get 1 \n", 2, "error line 1\n"),
-    ("get 1\r\n", 2, "error line 1\n"),
-    ("get\t1\n", 2, "error line 1\n"),
-    // Too few words, too many, or an unknown one.
-    ("get\n", 2, "error line 1\n"),
-    ("get 1 2\n", 2, "error line 1\n"),
-    ("put 1 0000000000000001\n", 2, "error line 1\n"),
-    ("put 1 0000000000000001 aa aa\n", 2, "error line 1\n"),
-    ("GET 1\n", 2, "error line 1\n"),
-    ("sync\n", 2, "error line 1\n"),
-    ("g\u{e9}t 1\n", 2, "error line 1\n"),
-    // An empty line, and a last line without LF. The first bad line is the one that is named.
-    ("\n", 2, "error line 1\n"),
-    ("has 1\n\nhas 1\n", 2, "error line 2\n"),
-    ("has 1\nhas 1", 2, "error line 2\n"),
-    ("has 1\nhas x\nhas 1\nhas y\n", 2, "error line 2\n"),
-];
+/// How many bytes a source gives at a time, and a sink takes.
+const PIECE: usize = 1 << 20;
 
-// Words that are not of the stated form.
-const BAD_WORDS: &[&[&str]] = &[
-    &[],
-    &[""],
-    &["-", "prunable"],
-    &["-", "prunable", "0"],
-    &["-", "prunable", "04"],
-    &["-", "prunable", "1048577"],
-    &["-", "prunable", "four"],
-    &["-", "prunable", "4", "make"],
-    &["-", "prunable", "4", "make", "10"],
-    &["-", "other", "4"],
-    &["-", "immutable", "4"],
-    &["folder", "prunable", "4"],
-    &["--help"],
-];
-
-// The status and the output of one call, with at most `piece` bytes at a time.
-fn outcome(alloc: Global, words: &[&str], input: &[u8], piece: usize) -> Result<(u8, Vec<u8>), Fail>
-    requires { 0 < piece }
-{
-    let mut source = MemSource::new(alloc, input, piece)?;
-    let mut sink = MemSink::new(alloc, piece);
-    let status = run_on(alloc, words, &mut source, &mut sink)?;
-    Ok((status, sink.bytes().to_vec(alloc)?))
+/// How a run of the program ended, and what it wrote.
+#[derive(Debug, Drop)]
+struct Outcome {
+    ended: Ended,
+    written: String,
 }
 
-fn run_on(
-    alloc: Global,
-    words: &[&str],
-    source: &mut MemSource,
-    sink: &mut MemSink,
-) -> Result<u8, AllocError> {
+impl Outcome {
+    /// The outcome of a run that ended so and wrote to this sink.
+    fn new(alloc: Global, ended: Ended, sink: &MemSink) -> Result<Outcome, Fail> {
+        Ok(Outcome {
+            ended,
+            written: String::from_utf8(sink.bytes().to_vec(alloc)?)?,
+        })
+    }
+
+    /// Whether the run had this status, and wrote this.
+    fn gives(&self, status: u8, text: &str) -> bool {
+        self.ended.status == status && self.written.as_str() == text
+    }
+}
+
+/// The words as the program takes them.
+fn owned(alloc: Global, words: &[&str]) -> Result<Vec<String>, AllocError> {
     let mut owned = Vec::new(alloc);
     for word in words {
         owned.push(String::from_str(alloc, word)?)?;
     }
-    let mut device = Memory::new(alloc);
-    Ok(run(alloc, owned.as_slice(), &mut device, source, sink).status)
+    Ok(owned)
 }
 
-#[test]
-fn scripts_give_their_replies(rt: HostRuntime) -> Result<(), Fail> {
-    for (script, status, output) in SCRIPTS {
-        for piece in [1usize, 1 << 20] {
-            let (found, written) = outcome(rt.alloc(), IN_MEMORY, script.as_bytes(), piece)?;
-            assert_eq!(rt; found, *status, "{script:?}");
-            assert_eq!(rt; written.as_slice(), output.as_bytes(), "{script:?}");
-        }
-    }
-    Ok(())
+/// Runs the program with these words between a source and a sink.
+fn run_on<D: Device>(
+    alloc: Global,
+    words: &[&str],
+    dev: &mut D,
+    source: &mut MemSource,
+    sink: &mut MemSink,
+) -> Result<Ended, AllocError> {
+    let words = owned(alloc, words)?;
+    Ok(run(alloc, words.as_slice(), dev, source, sink))
 }
 
-#[test]
-fn other_words_are_a_usage_error(rt: HostRuntime) -> Result<(), Fail> {
-    for words in BAD_WORDS {
-        let (status, written) = outcome(rt.alloc(), words, b"has 1\n", 8)?;
-        assert_eq!(rt; status, 1, "{words:?}");
-        assert!(rt; written.is_empty(), "{words:?}");
-    }
-    for items in ["1", "1048576"] {
-        let (status, written) = outcome(rt.alloc(), &["-", "prunable", items], b"has 1\n", 8)?;
-        assert_eq!(rt; status, 0, "{items}");
-        assert_eq!(rt; written.as_slice(), b"no\n".as_slice(), "{items}");
-    }
-    Ok(())
+/// Runs the program with these words on a script.
+fn outcome_of<D: Device>(
+    alloc: Global,
+    words: &[&str],
+    dev: &mut D,
+    script: &[u8],
+) -> Result<Outcome, Fail> {
+    let mut source = MemSource::new(alloc, script, PIECE)?;
+    let mut sink = MemSink::new(alloc, PIECE);
+    let ended = run_on(alloc, words, dev, &mut source, &mut sink)?;
+    Outcome::new(alloc, ended, &sink)
 }
 
-#[test]
-fn an_input_has_a_limit(rt: HostRuntime) -> Result<(), Fail> {
-    let mut input = vec![in rt.alloc(); b'\n'; 1 << 24]?;
-    let (status, written) = outcome(rt.alloc(), IN_MEMORY, &input, 1 << 20)?;
-    assert_eq!(rt; status, 2);
-    assert_eq!(rt; written.as_slice(), b"error line 1\n".as_slice());
-    input.push(b'\n')?;
-    let (status, written) = outcome(rt.alloc(), IN_MEMORY, &input, 1 << 20)?;
-    assert_eq!(rt; status, 7);
-    assert!(rt; written.is_empty());
-    Ok(())
-}
-
-#[test]
-fn a_value_has_a_limit_and_a_line_is_ascii(rt: HostRuntime) -> Result<(), Fail> {
-    for (bytes, status) in [(65_536usize, 0u8), (65_537, 2)] {
-        let mut script = b"put 1 0000000000000001 ".to_vec(rt.alloc())?;
-        for _ in 0..bytes {
-            script.extend_from_slice(b"0a")?;
-        }
-        script.push(b'\n')?;
-        let (found, _) = outcome(rt.alloc(), IN_MEMORY, &script, 1 << 20)?;
-        assert_eq!(rt; found, status, "{bytes} bytes");
+/// Runs the program with these settings on a script, with four indices a section.
+fn outcome_with<D: Device>(
+    alloc: Global,
+    settings: &Settings,
+    dev: &mut D,
+    script: &str,
+) -> Result<Outcome, Fail> {
+    if !settings.is_valid() {
+        return Err(Fail::new("the settings are not valid"));
     }
-    for line in [
-        b"has \xff\n".as_slice(),
-        b"\xef\xbb\xbfhas 1\n",
-        b"has 1\0\n",
-    ] {
-        let (found, written) = outcome(rt.alloc(), IN_MEMORY, line, 1 << 20)?;
-        assert_eq!(rt; found, 2, "{line:?}");
-        assert_eq!(rt;
-            written.as_slice(),
-            b"error line 1\n".as_slice(),
-            "{line:?}"
-        );
-    }
-    Ok(())
-}
-
-const SCRIPT: &[u8] = b"put 5 0000000000000001 aa\nget 5\n";
-
-const REPLIES: &[u8] = b"ok\nvalue aa\n";
-
-#[test]
-fn a_failing_read_writes_nothing(rt: HostRuntime) -> Result<(), Fail> {
-    // Eight reads take the 32 bytes, and a ninth finds the end.
-    for nth in 0..12u64 {
-        let mut source = MemSource::new(rt.alloc(), SCRIPT, 4)?;
-        source.fail_at(nth)?;
-        let mut sink = MemSink::new(rt.alloc(), 64);
-        let status = run_on(rt.alloc(), IN_MEMORY, &mut source, &mut sink)?;
-        if nth < 9 {
-            assert_eq!(rt; status, 3, "read {nth}");
-            assert!(rt; sink.bytes().is_empty(), "read {nth}");
-        } else {
-            assert_eq!(rt; status, 0, "read {nth}");
-            assert_eq!(rt; sink.bytes(), REPLIES, "read {nth}");
-        }
-    }
-    Ok(())
-}
-
-#[test]
-fn a_failing_write_leaves_a_front(rt: HostRuntime) -> Result<(), Fail> {
-    for nth in 0..14u64 {
-        let mut source = MemSource::new(rt.alloc(), SCRIPT, 64)?;
-        let mut sink = MemSink::new(rt.alloc(), 1);
-        sink.fail_at(nth)?;
-        let status = run_on(rt.alloc(), IN_MEMORY, &mut source, &mut sink)?;
-        let front = REPLIES.get(..nth as usize).unwrap_or(REPLIES);
-        assert_eq!(rt; sink.bytes(), front, "write {nth}");
-        let wanted = if nth < 12 { 4 } else { 0 };
-        assert_eq!(rt; status, wanted, "write {nth}");
-    }
-    Ok(())
+    let words = owned(alloc, IN_MEMORY)?;
+    let mut source = MemSource::new(alloc, script.as_bytes(), PIECE)?;
+    let mut sink = MemSink::new(alloc, PIECE);
+    let ended = run_with(
+        alloc,
+        words.as_slice(),
+        dev,
+        &mut source,
+        &mut sink,
+        settings,
+    );
+    Outcome::new(alloc, ended, &sink)
 }

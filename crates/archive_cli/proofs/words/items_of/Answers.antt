@@ -1,5 +1,6 @@
 use Rattle.std.proofs.Common.{◌≡◌, [], ◌∷◌, ap, sym, ◌∙◌, arith, string_bytes, codes}
-use Rattle.archive_cli.proofs.WordsLemmas.{three_words, asks_it, same_text}
+use Rattle.std.specs.String.{string_len}
+use Rattle.archive_cli.proofs.WordsLemmas.{three_words, asks_it, same_text, some_text}
 use Rattle.archive_cli.proofs.words.items_of.Goals as goal
 use Rattle.archive_cli.proofs.words.items_of.Goals.{then-items-lt1-via-then-items-lt1, then-items-lt1-via-else-items-lt1+then-items-gt-ITEMS_LIMIT}
 
@@ -17,13 +18,13 @@ pub returns-clause-asked : goal.returns-clause-asked
 returns-clause-asked c =
     let words = three_words string_bytes c.args.words.now c.folder-item.result c.kind-item.result c.items-item.result
     (omega (arith, c.in-len3.len_at_least, c.in-len3.len_below)) c.folder-item.is c.kind-item.is c.items-item.is in
-    let folder = sym c.as_str.ensures.value ∙ same_text _ (codes "-") c.if-ne.ensures in
-    let kind = sym c.as_str-else-ne.ensures.value ∙ same_text _ (codes "prunable") c.if-ne-2.ensures in
+    let kind = sym c.as_str.ensures.value ∙ same_text _ (codes "prunable") c.if-ne.ensures in
     let items = sym c.as_bytes.ensures.value ∙ c.in_ok-items.ensures.1 in
     record {
-      words_are = words ∙ ap (λ w. w ∷ string_bytes c.kind-item.result ∷ string_bytes c.items-item.result ∷ []) folder
-          ∙ ap (λ w. codes "-" ∷ w ∷ string_bytes c.items-item.result ∷ []) kind
-          ∙ ap (λ w. codes "-" ∷ codes "prunable" ∷ w ∷ []) items;
+      folder = string_bytes c.folder-item.result;
+      named = λ nil. some_text (string_bytes c.folder-item.result) (string_len c.folder-item.result) (omega (arith, c.folder-item.result.bytes.ok.0)) c.if-is_empty.ensures nil;
+      words_are = words ∙ ap (λ w. string_bytes c.folder-item.result ∷ w ∷ string_bytes c.items-item.result ∷ []) kind
+          ∙ ap (λ w. string_bytes c.folder-item.result ∷ codes "prunable" ∷ w ∷ []) items;
       some = c.if-items-lt1.false;
       limit = c.if-items-gt-ITEMS_LIMIT.false;
     }
