@@ -1,0 +1,158 @@
+// What is measured: an archive is filled, and opened again.
+ghost use Rattle.std.specs.Prelude.{◌≤◌, ℕ, length, IfOk};
+ghost use Rattle.blob_device.specs.Timeline.{disk};
+ghost use Rattle.archives.specs.Config.{IsValid};
+ghost use Rattle.value_codec.specs.declared.byte_value.ByteValue.{ByteValue};
+
+use crate::config::{config_of, index_pages};
+use crate::counting::Counting;
+use crate::error::BenchError;
+use crate::report::{PutCosts, Report};
+use archive_service::Settings;
+use archives::{Archive, FourCap, prunable};
+use blob_device::Device;
+use std::alloc::{AllocError, Global};
+use value_codec::{ByteValue, Key, Key8, Sha256Seal};
+
+// The archive that is measured.
+type Measured = prunable::Archive<FourCap, Key8, ByteValue, Sha256Seal>;
+
+// How many bytes a value has.
+const VALUE_BYTES: usize = 100;
+
+// After how many puts a sync is made.
+const SYNC_EVERY: u64 = 100;
+
+/// Fills an archive on the device with so many records, and opens it twice again.
+pub fn measure<D: Device>(
+    alloc: Global,
+    dev: &mut Counting<D>,
+    puts: u64,
+) -> Result<Report, BenchError> {
+    let settings = Settings::DEFAULT;
+    let config = config_of(alloc, &settings)?;
+    dev.take();
+    let costs = filled(alloc, dev, &config, puts)?;
+    let filling = dev.take();
+    opened(alloc, dev, &config)?;
+    let opening = dev.take();
+    let archive = opened(alloc, dev, &config)?;
+    let opening_again = dev.take();
+    let records = records_below(&archive, puts);
+    Ok(Report {
+        costs,
+        filling,
+        opening,
+        opening_again,
+        records,
+        index_pages: index_pages(&settings, records),
+    })
+}
+
+// Opens the archive.
+fn opened<D: Device>(
+    alloc: Global,
+    dev: &mut D,
+    config: &prunable::Config<FourCap, u32>,
+) -> Result<Measured, BenchError>
+    requires valid { IsValid config.now }
+    requires values { VALUE_BYTES ≤ config.now.codec_config }
+    ensures usable { IfOk result (λ r. ⟦<Measured as Archive>⟧.IsUsable r D.Tells (D.opened dev.new) (disk (D.time dev.new))) }
+    ensures accepts { IfOk result (λ r. (v : ByteValue) → length v ≤ VALUE_BYTES → ⟦<Measured as Archive>⟧.accepts r v) }
+{
+    Ok(Measured::init(alloc, dev, config)?)
+}
+
+// Opens the archive, which has to be empty, and fills it with so many records.
+fn filled<D: Device>(
+    alloc: Global,
+    dev: &mut D,
+    config: &prunable::Config<FourCap, u32>,
+    puts: u64,
+) -> Result<PutCosts, BenchError>
+    requires valid { IsValid config.now }
+    requires values { VALUE_BYTES ≤ config.now.codec_config }
+{
+    let archive = opened(alloc, dev, config)?;
+    if archive.has_index(0) {
+        return Err(BenchError::NotEmpty);
+    }
+    let mut costs = PutCosts::NONE;
+    fill(archive, alloc, dev, puts, &mut costs)?;
+    Ok(costs)
+}
+
+// Puts so many records, with a sync after every hundred of them. What is left over is not synced.
+fn fill<A, D: Device>(
+    archive: A,
+    alloc: Global,
+    dev: &mut D,
+    puts: u64,
+    costs: &mut PutCosts,
+) -> Result<(), BenchError>
+where
+    A: Archive<Key = Key8, Value = ByteValue> + Drop,
+    requires usable { A.IsUsable archive D.Tells (D.opened dev.old) (disk (D.time dev.old)) }
+    requires accepts { (v : ByteValue) → length v ≤ VALUE_BYTES → A.accepts archive v }
+{
+    let mut archive = archive;
+    for index in 0..puts {
+        archive = put_one(archive, alloc, dev, index, costs)?;
+        if index % SYNC_EVERY == SYNC_EVERY - 1 {
+            archive = archive.sync(dev)?;
+        }
+    }
+    Ok(())
+}
+
+// Puts the record of an index, and counts the calls.
+fn put_one<A, D: Device>(
+    archive: A,
+    alloc: Global,
+    dev: &mut D,
+    index: u64,
+    costs: &mut PutCosts,
+) -> Result<A, BenchError>
+where
+    A: Archive<Key = Key8, Value = ByteValue> + Drop,
+    requires usable { A.IsUsable archive D.Tells (D.opened dev.old) (disk (D.time dev.old)) }
+    requires accepts { (v : ByteValue) → length v ≤ VALUE_BYTES → A.accepts archive v }
+    ensures usable { IfOk result (λ r. A.IsUsable r D.Tells (D.opened dev.new) (disk (D.time dev.new))) }
+    ensures accepts { IfOk result (λ r. (v : ByteValue) → length v ≤ VALUE_BYTES → A.accepts r v) }
+{
+    let value = value_of(alloc, index)?;
+    let before = dev.calls();
+    let archive = archive.put(dev, index, key_of(index), &value)?;
+    costs.enter(dev.calls().saturating_sub(before));
+    Ok(archive)
+}
+
+// The key of an index: its eight bytes.
+fn key_of(index: u64) -> Key8 {
+    match Key8::from_bytes(&index.to_be_bytes()) {
+        Some(key) => key,
+        None => unreachable!(),
+    }
+}
+
+// The value of an index: its last byte, again and again.
+fn value_of(alloc: Global, index: u64) -> Result<ByteValue, AllocError>
+    ensures { IfOk result (λ v. length v ≤ VALUE_BYTES) }
+{
+    let [_, _, _, _, _, _, _, last] = index.to_be_bytes();
+    match ByteValue::new(alloc, &[last; VALUE_BYTES]) {
+        Ok(value) => Ok(value),
+        Err(_) => Err(AllocError),
+    }
+}
+
+// How many of the first so many indices have a record.
+fn records_below<A: Archive>(archive: &A, indices: u64) -> u64 {
+    let mut records: u64 = 0;
+    for index in 0..indices {
+        if archive.has_index(index) {
+            records = records.saturating_add(1);
+        }
+    }
+    records
+}

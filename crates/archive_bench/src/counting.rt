@@ -1,0 +1,144 @@
+// A device that counts the calls of another one.
+ghost use Rattle.std.specs.Prelude.{◌≡◌, ◌≤◌};
+
+use crate::config::KEY_PARTITION;
+use crate::counts::Tally;
+use blob_device::{DevError, Device, Names};
+use std::alloc::Global;
+
+/// A device that passes each call on to another one, and counts it. It tells its disk where that one does.
+#[derive(Drop)]
+pub struct Counting<D> {
+    inner: D,
+    // how many bytes a page of an index blob has in the blob
+    page_bytes: u64,
+    ghost has_bytes: { 1 ≤ page_bytes },
+    tally: Tally,
+}
+
+impl<D> Counting<D> {
+    /// Counts the calls of this device from now on. A page of an index blob has so many bytes in the blob.
+    pub fn new(inner: D, page_bytes: u64) -> Counting<D>
+        requires { 1 ≤ page_bytes }
+        ensures { result.inner ≡ inner }
+    {
+        Counting {
+            inner,
+            page_bytes,
+            tally: Tally::NONE,
+        }
+    }
+
+    /// The device whose calls are counted.
+    pub fn inner(&self) -> &D
+        ensures { result.now ≡ self.now.inner }
+    {
+        &self.inner
+    }
+
+    /// What was counted so far. The count begins anew.
+    pub fn take(&mut self) -> Tally
+        ensures { self.new.inner ≡ self.old.inner }
+    {
+        let tally = self.tally;
+        self.tally = Tally::NONE;
+        tally
+    }
+
+    // Counts the pages of an index blob into which a read of so many bytes reaches.
+    fn count_pages(&mut self, partition: &str, offset: u64, len: u64)
+        ensures { self.new.inner ≡ self.old.inner }
+    {
+        if partition == KEY_PARTITION {
+            let behind = offset.saturating_add(len).div_ceil(self.page_bytes);
+            let pages = behind.saturating_sub(offset / self.page_bytes);
+            self.tally.index_pages = self.tally.index_pages.saturating_add(pages);
+        }
+    }
+}
+
+// One more.
+fn count(number: &mut u64) {
+    *number = number.saturating_add(1);
+}
+
+// So many bytes more.
+fn count_bytes(number: &mut u64, bytes: usize) {
+    *number = number.saturating_add(bytes as u64);
+}
+
+impl<D: Device> Device for Counting<D> {
+    ghost Tells = { D.Tells };
+
+    ghost time = { λ c. D.time c.inner };
+
+    ghost faults = { λ c. D.faults c.inner };
+
+    ghost opened = { λ c. D.opened c.inner };
+
+    ghost opened_stands = { λ told c k. D.opened_stands told c.inner k };
+
+    ghost holds_bytes = { λ told c k. D.holds_bytes told c.inner k };
+
+    ghost agrees = { λ told c k. D.agrees told c.inner k };
+
+    ghost absent = { λ told c k. D.absent told c.inner k };
+
+    ghost as_read = { λ told c k. D.as_read told c.inner k };
+
+    fn scan(&mut self, alloc: Global, partition: &str) -> Result<Names, DevError> {
+        count(&mut self.tally.at(partition).scans);
+        self.inner.scan(alloc, partition)
+    }
+
+    fn open_blob(&mut self, partition: &str, name: &[u8]) -> Result<u64, DevError> {
+        count(&mut self.tally.at(partition).opens);
+        self.inner.open_blob(partition, name)
+    }
+
+    fn read_at(
+        &mut self,
+        partition: &str,
+        name: &[u8],
+        offset: u64,
+        buf: &mut [u8],
+    ) -> Result<(), DevError> {
+        let counts = self.tally.at(partition);
+        count(&mut counts.reads);
+        count_bytes(&mut counts.bytes_read, buf.len());
+        self.count_pages(partition, offset, buf.len() as u64);
+        self.inner.read_at(partition, name, offset, buf)
+    }
+
+    fn write_at(
+        &mut self,
+        partition: &str,
+        name: &[u8],
+        offset: u64,
+        bytes: &[u8],
+    ) -> Result<(), DevError> {
+        let counts = self.tally.at(partition);
+        count(&mut counts.writes);
+        count_bytes(&mut counts.bytes_written, bytes.len());
+        self.inner.write_at(partition, name, offset, bytes)
+    }
+
+    fn resize(&mut self, partition: &str, name: &[u8], len: u64) -> Result<(), DevError> {
+        count(&mut self.tally.at(partition).resizes);
+        self.inner.resize(partition, name, len)
+    }
+
+    fn sync(&mut self, partition: &str, name: &[u8]) -> Result<(), DevError> {
+        count(&mut self.tally.at(partition).syncs);
+        self.inner.sync(partition, name)
+    }
+
+    fn remove(&mut self, partition: &str, name: &[u8]) -> Result<(), DevError> {
+        count(&mut self.tally.at(partition).removes);
+        self.inner.remove(partition, name)
+    }
+
+    fn calls(&self) -> u64 {
+        self.inner.calls()
+    }
+}
