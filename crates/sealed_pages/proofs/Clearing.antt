@@ -1,25 +1,24 @@
 -- What a crash left in a blob is removed and settled before a byte is written.
-use Rattle.std.proofs.Common.{◌≡◌, ◌⊎◌, inl, inr, ℕ, zero, suc, ◌+◌, ◌<◌, ◌≤◌, ◌||◌, not, Bool, true, false, cond, List, [], length, get_or, Result, Ok, Err, refl, sym, ◌∙◌, ap, subst, arith}
+use Rattle.std.proofs.Common.{◌≡◌, ◌⊎◌, inl, inr, ℕ, zero, suc, ◌+◌, ◌<◌, ◌≤◌, not, Bool, true, false, cond, List, [], length, get_or, Result, refl, sym, ◌∙◌, ap, subst, arith}
 use Rattle.std.proofs.lemmas.Bool.{cases_lt}
 use Rattle.blob_device.specs.declared.error.DevError.{DevError}
-use Rattle.blob_device.specs.Change.{Change, Write, Resize, Settle, during, done, FailedTo, written, resized}
-use Rattle.blob_device.specs.Disk.{Key, Blob, Disk, Outside, settled_at}
+use Rattle.blob_device.specs.Change.{Write, Resize, Settle, during, done, FailedTo, written, resized}
+use Rattle.blob_device.specs.Disk.{Key, Blob, Outside}
 use Rattle.blob_device.specs.Timeline.{Timeline, disk, Passes, Always, OnlyAt}
 use Rattle.blob_device.proofs.Bytes.{length-written, length-resized, outside_push}
-use Rattle.blob_device.proofs.Moments.{always_now, only_start, only_on, ok_blob, err_has}
+use Rattle.blob_device.proofs.Moments.{always_now, only_start}
 use Rattle.blob_device.proofs.Places.{resized_below}
 use Rattle.sealed_pages.specs.Buffer.{pages_of}
 use Rattle.sealed_pages.specs.Cutting.{IsAtRest}
 use Rattle.sealed_pages.specs.Flushing.{no_slot}
 use Rattle.sealed_pages.specs.Leftover.{IsBlank, IsTorn, Leftover, IsCleared, OnlySlot, ClearsFirst, SettlesNothing}
 use Rattle.sealed_pages.specs.Slots.{slot_length}
-use Rattle.sealed_pages.specs.View.{view, page_at, slot_at, Within}
+use Rattle.sealed_pages.specs.View.{page_at, slot_at}
 use Rattle.sealed_pages.proofs.Adopting.{pages_some}
 use Rattle.sealed_pages.proofs.Fronts.{kept_on}
 use Rattle.sealed_pages.proofs.Keeping.{cut_same}
 use Rattle.sealed_pages.proofs.PageCalls.{only_then, only_weaker}
-use Rattle.sealed_pages.proofs.Repairing.{page_order}
-use Rattle.sealed_pages.proofs.SlotLemmas.{page_next, page_apart}
+use Rattle.sealed_pages.proofs.SlotLemmas.{page_next}
 use Rattle.sealed_pages.proofs.SlotSteps.{slot_is}
 use Rattle.sealed_pages.proofs.Steps.{slot_high}
 

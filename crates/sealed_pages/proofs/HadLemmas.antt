@@ -8,7 +8,7 @@ use Rattle.blob_device.specs.Timeline.{Timeline, disk, Passes}
 use Rattle.blob_device.proofs.Moments.{ok_blob}
 use Rattle.sealed_pages.specs.Buffer.{Buffer, State, Holds}
 use Rattle.sealed_pages.specs.Contents.{IsHad}
-use Rattle.sealed_pages.specs.Unrecovered.{IsUnrecovered, IsAdopted}
+use Rattle.sealed_pages.specs.Unrecovered.{IsAdopted}
 
 pub had_settled : (c : List ℕ) → IsHad (settled_at c)
 had_settled c = (0, omega arith, refl)

@@ -1,11 +1,11 @@
 -- What a crash may have left: behind the last page with a matching slot, and in its other slot.
-use Rattle.std.proofs.Common.{◌≡◌, ℕ, ◌+◌, ◌<◌, ◌≤◌, not, ltb, Bool, true, false, cond, List, length, get_or, refl, sym, ◌∙◌, ap, arith}
+use Rattle.std.proofs.Common.{◌≡◌, ℕ, ◌+◌, ◌<◌, not, ltb, Bool, true, false, cond, List, length, get_or, refl, sym, ◌∙◌, ap, arith}
 use Rattle.std.specs.Prelude.{◌↔◌}
 use Rattle.std.proofs.lemmas.Bool.Decides.{Decides-ltb}
 use Rattle.sealed_pages.specs.Buffer.{pages_of}
-use Rattle.sealed_pages.specs.Leftover.{IsBlank, IsTorn, Leftover}
+use Rattle.sealed_pages.specs.Leftover.{IsBlank, Leftover}
 use Rattle.sealed_pages.specs.Reading.{page_of}
-use Rattle.sealed_pages.specs.Slots.{slot_length, best_slot}
+use Rattle.sealed_pages.specs.Slots.{slot_length}
 use Rattle.sealed_pages.specs.View.{view, page_at, slot_at}
 use Rattle.sealed_pages.proofs.Adopting.{pages_none, pages_some}
 use Rattle.sealed_pages.proofs.Looking.{page_zero, part_view}

@@ -1,5 +1,5 @@
 -- Pages in a piece of a blob, and the sealed prefix page by page.
-use Rattle.std.proofs.Common.{◌≡◌, ◌⊎◌, inl, inr, ℕ, zero, suc, ◌+◌, ◌-◌, ◌*◌, ◌<◌, ◌≤◌, min, List, length, take, drop, refl, sym, ◌∙◌, ap, arith, length-drop}
+use Rattle.std.proofs.Common.{◌≡◌, ◌⊎◌, inl, inr, ℕ, zero, suc, ◌+◌, ◌-◌, ◌*◌, ◌^◌, ◌<◌, ◌≤◌, min, List, length, take, drop, refl, sym, ◌∙◌, ap, arith, length-drop}
 use Rattle.std.proofs.Math.Nat.{mul-le-mul_right}
 use Rattle.std.proofs.lemmas.Bool.{cases_lt}
 use Rattle.std.proofs.lemmas.List.{take-take, drop-drop, drop-take, take_rest, drop_all}
@@ -34,6 +34,18 @@ span_page P q room L k have b c long is from upto =
     ∙ ap (take (P + 12)) (drop-take (page_at P (k - q)) (L - page_at P (k - q)) (drop (page_at P q) c))
     ∙ take-take (P + 12) (L - page_at P (k - q)) (drop (page_at P (k - q)) (drop (page_at P q) c)) (omega (arith, high))
     ∙ ap (take (P + 12)) (drop-drop (page_at P (k - q)) (page_at P q) c ∙ ap (λ (n : ℕ). drop n c) at)
+
+pub page_room : (P q : ℕ) → page_at P q < 2 ^ 64 → q + 1 < 2 ^ 64
+unfolding page_at
+page_room P q fits = let e : q * (P + 12) ≡ q * P + q * 12 = omega arith in omega (arith, e, fits)
+
+-- one page that is held alone
+pub one_page : (P q k have : ℕ) (l b c : List ℕ) → take have l ≡ b → b ≡ page_of P c q → q ≤ k → k < q + 1 → page_of P (take have l) (k - q) ≡ page_of P c k
+one_page P q k have l b c held is from upto =
+    let same : q ≡ k = omega (arith, from, upto) in
+    let none : k - q ≡ 0 = omega (arith, from, upto) in
+    let start : page_at P (k - q) ≡ 0 = ap (page_at P) none ∙ page_times P 0 ∙ (let e : 0 * (P + 12) ≡ 0 = omega arith in e) in
+    ap (λ (n : ℕ). take (P + 12) (drop n (take have l))) start ∙ ap (take (P + 12)) (held ∙ is) ∙ take-take (P + 12) (P + 12) (drop (page_at P q) c) (omega arith) ∙ ap (page_of P c) same
 
 -- a page cut out of a piece
 pub page_slice : (P j from n : ℕ) (held : List ℕ) → from ≡ min (j * (P + 12)) (length held) → n ≡ min (P + 12) (length held - from) → take n (take (length held - from) (drop from held)) ≡ page_of P held j

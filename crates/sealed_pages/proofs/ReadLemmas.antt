@@ -6,7 +6,8 @@ use Rattle.std.proofs.Math.Nat.{mul-le-mul_right}
 use Rattle.std.proofs.lemmas.Nat.{le-div}
 use Rattle.std.proofs.lemmas.Slice.{take-put_mid}
 use borrow.Rule.Slice.PartMut.{put_mid}
-use Rattle.std.specs.Prelude.{IfSome, IfNone}
+use Rattle.std.specs.Prelude.{IfSome, IfNone, Err}
+use Rattle.std.specs.Result.{IsErrOf}
 use Rattle.sealed_pages.specs.declared.reading.LastPage.{LastPage}
 use Rattle.sealed_pages.specs.Buffer.{extent}
 use Rattle.sealed_pages.specs.Found.{Finds}
@@ -171,3 +172,7 @@ extent_room P n k pos fits lt =
     let next : (k + 1) * P ≤ n + (P - 1) = omega (arith, lt, pos, times_next k P) in
     let le : k + 1 ≤ (n + (P - 1)) / P = le-div (k + 1) (n + (P - 1)) P (omega (arith, pos)) next in
     omega (arith, fits, page_order (λ x. 0) P k ((n + (P - 1)) / P) (omega (arith, le)))
+
+-- an error is the same whatever else might have been answered
+pub same_error : {T U E : Type 0} {a b : E} → IsErrOf {T = T} {E = E} (Err a) b → IsErrOf {T = U} {E = E} (Err a) b
+same_error is = cc

@@ -1,5 +1,6 @@
 -- How a buffer starts over an adopted blob.
 use Rattle.std.proofs.Common.{◌≡◌, ◌≢◌, ◌⊎◌, inl, inr, ℕ, ◌+◌, ◌-◌, ◌*◌, ◌/◌, ◌^◌, ◌<◌, ◌≤◌, not, ltb, max, Bool, true, false, cond, List, length, get_or, take, length-take, Option, Some, None, refl, sym, ◌∙◌, ap, subst, arith}
+use Rattle.std.specs.Prelude.{IfSome}
 use Rattle.std.proofs.lemmas.Bool.{cases_lt, cases_order, ltb-true, ltb-false}
 use Rattle.blob_device.specs.Disk.{settled_at}
 use Rattle.sealed_pages.specs.Buffer.{extent, Buffer, bytes_of, pages_of, Adopted, IsBacked}
@@ -171,3 +172,8 @@ extent_pages P first from begun =
 
 pub start_fits : (P first from : ℕ) → from < P → page_at P (pages_of first from) < 2 ^ 64 → first * P + from < 2 ^ 64
 start_fits P first from begun place = omega (arith, extent_more P (first * P + from) (omega (arith, begun)), extent_pages P first from begun, place)
+
+-- the bytes of the page that was found, also by another name
+pub found_page : (seal : List ℕ → ℕ) (P : ℕ) (c : List ℕ) (found : Option LastPage) (buf bytes : List ℕ) → bytes ≡ buf → Finds seal P c found buf → IfSome found (λ p. take p.have bytes ≡ page_of P c p.page)
+found_page seal P c None buf bytes same finds = tt
+found_page seal P c (Some p) buf bytes same finds = ap (take p.have) same ∙ finds.4

@@ -1,15 +1,14 @@
 -- Adopted blobs whose sealed prefix is shorter than their size: what the first pages say of that prefix, and what calls leave of it.
-use Rattle.std.proofs.Common.{◌≡◌, ◌⊎◌, inl, inr, ℕ, zero, suc, ◌+◌, ◌-◌, ◌*◌, ◌<◌, ◌≤◌, eqb, min, max, Bool, true, false, cond, List, [], ◌++◌, length, take, Result, Ok, Option, Some, None, IsSomeAnd, length-append, refl, sym, ◌∙◌, ap, subst, arith, get_or, length-take}
-use Rattle.std.proofs.lemmas.Bool.{cases_lt, cases_eq, cases_order}
+use Rattle.std.proofs.Common.{◌≡◌, ◌⊎◌, inl, inr, ℕ, zero, suc, ◌+◌, ◌*◌, ◌<◌, ◌≤◌, max, Bool, true, false, List, ◌++◌, length, take, Result, Ok, Option, Some, None, IsSomeAnd, length-append, refl, sym, ◌∙◌, ap, subst, arith, get_or, length-take}
+use Rattle.std.proofs.lemmas.Bool.{cases_lt}
 use Rattle.std.proofs.lemmas.Nat.{le-div}
 use Rattle.std.proofs.lemmas.List.{take_all, get_or-take, get_or_append_left, ext_get_or}
 use Rattle.blob_device.specs.declared.error.DevError.{DevError}
 use Rattle.blob_device.specs.Change.{Settle}
 use Rattle.blob_device.specs.Disk.{Key, Blob, past, settled_at, shortest}
-use Rattle.blob_device.specs.Guards.{Guards}
-use Rattle.blob_device.specs.Timeline.{Timeline, disk, Passes, Always, OnlyAt}
+use Rattle.blob_device.specs.Timeline.{Timeline, disk, Passes, OnlyAt}
 use Rattle.blob_device.proofs.GuardsLemmas.{guards_settled, guards_crash, guards_left}
-use Rattle.blob_device.proofs.Moments.{always_now, ok_blob, only_start}
+use Rattle.blob_device.proofs.Moments.{always_now, ok_blob}
 use Rattle.sealed_pages.specs.Buffer.{Buffer, size_of, pages_of, bytes_of, IsBacked, IsSealed}
 use Rattle.sealed_pages.specs.ChanceSeal.{NoChanceSeal, Leaves, Sealing}
 use Rattle.sealed_pages.specs.Contents.{IsHad}
@@ -36,7 +35,7 @@ use Rattle.sealed_pages.proofs.Reaching.{prefix_sound, prefix_size, own_prefix}
 use Rattle.sealed_pages.proofs.Holding.{holds_data}
 use Rattle.sealed_pages.proofs.Repairing.{page_order}
 use Rattle.sealed_pages.proofs.SealedBytes.{rest, sealed_step, rest_is, page_length-le, covers_length}
-use Rattle.sealed_pages.proofs.SlotLemmas.{times_next, times_more, page_next, page_apart, bytes_at-same, slot_same, slot_stands}
+use Rattle.sealed_pages.proofs.SlotLemmas.{times_next, times_more, page_next, bytes_at-same, slot_same, slot_stands}
 use Rattle.sealed_pages.proofs.Steps.{slot_low, slot_high}
 
 module _ (seal : List ℕ → ℕ) (P : ℕ) where

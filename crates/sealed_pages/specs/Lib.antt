@@ -22,5 +22,6 @@ pub mod Reads
 pub mod Leftover
 pub mod Reopening
 pub mod Pieces
+pub mod Held
 pub mod Proven
 pub mod Readers

@@ -2,8 +2,10 @@
 use Rattle.std.specs.Prelude.{◌≡◌, ℕ, ◌+◌, ◌-◌, ◌/◌, ◌≤◌, min, List, length, drop, string_bytes}
 use Rattle.blob_device.specs.Disk.{Key}
 use Rattle.blob_device.specs.Opened.{OpenedList, reads_of}
+use Rattle.sealed_pages.specs.declared.held.HeldPages.{HeldPages}
 use Rattle.sealed_pages.specs.declared.piece.Piece.{Piece}
 use Rattle.sealed_pages.specs.declared.replay.PageReplay.{PageReplay}
+use Rattle.sealed_pages.specs.Held.{AreHeldOf}
 use Rattle.sealed_pages.specs.Pieces.{IsPieceOf, next_missing}
 use Rattle.sealed_pages.specs.Reads.{IsCovered, pages_for}
 use Rattle.sealed_pages.specs.SealedPrefix.{data_from}
@@ -18,6 +20,7 @@ pub record Reader : Type 0 where
   pub at : ℕ
   pub bytes : List ℕ
   pub piece : Piece
+  pub pages : HeldPages
 
 abbrev pub reading : {S : Type 0} {g : _} → PageReplay S g → Reader
 reading r = record {
@@ -28,6 +31,7 @@ reading r = record {
   at = r.at;
   bytes = drop r.used r.held.items;
   piece = r.piece;
+  pages = r.pages;
 }
 
 -- where the next byte stands that is not at hand
@@ -48,6 +52,7 @@ pub record IsReplayOf (seal : List ℕ → ℕ) (content : List ℕ) (r : Reader
   pub bytes : r.bytes ≡ data_from r.page_size (view content) r.at (length r.bytes)
   pub covered : IsCovered seal r.page_size content r.at (length r.bytes)
   pub piece : IsPieceOf content r.piece
+  pub pages : AreHeldOf content r.pages
 
 -- Reads that began on the blob, and pages that are not yet read, come to no more than before: each read takes a page that was not.
 abbrev pub ReadsUnread : Reader → Reader → OpenedList → OpenedList → Type 0

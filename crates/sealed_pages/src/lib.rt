@@ -3,6 +3,7 @@
 
 mod cut;
 mod flush;
+mod held;
 mod page;
 mod page_blob;
 mod pages;

@@ -1,5 +1,5 @@
 // A buffer over a blob whose pages carry seals.
-ghost use Rattle.std.specs.Prelude.{◌≡◌, ◌≢◌, ◌+◌, ◌*◌, ◌≤◌, ◌<◌, ◌^◌, ◌-◌, ◌++◌, ◌↔◌, ◌==◌, ◌||◌, ◌⊎◌, Err, not, length, drop, IfOk, IsOkAnd, OnOk, OnErr, Bool, true, false, ℕ, List, IsTrue};
+ghost use Rattle.std.specs.Prelude.{◌≡◌, ◌≢◌, ◌+◌, ◌*◌, ◌≤◌, ◌<◌, ◌^◌, ◌-◌, ◌++◌, ◌↔◌, ◌==◌, ◌||◌, ◌⊎◌, Err, not, length, drop, take, IfOk, IfSome, IsOkAnd, OnOk, OnErr, Bool, true, false, ℕ, List, IsTrue};
 ghost use Rattle.std.specs.Result.{IsErrOf};
 ghost use Rattle.blob_device.specs.declared.runtime.RError.TheVariants.{Fault, OffsetOverflow};
 ghost use Rattle.blob_device.specs.Timeline.{disk};
@@ -11,13 +11,16 @@ ghost use Rattle.sealed_pages.specs.Buffer.{Fit, Buffer, extent, key_of, size_of
 ghost use Rattle.sealed_pages.specs.Contents.{IsHad};
 ghost use Rattle.sealed_pages.specs.Entries.{IsOpenAt, NoReads};
 ghost use Rattle.sealed_pages.specs.Cutting.{IsAtRest, Settles};
+ghost use Rattle.sealed_pages.specs.Held.{AreHeldOf};
+ghost use Rattle.sealed_pages.specs.Reading.{page_of};
 
 mod cutting;
 mod reads;
 
 use crate::Pages;
 use crate::flush::{flush_pages, next_slot_of};
-use crate::reading::find_last;
+use crate::held::HeldPages;
+use crate::reading::{LastPage, find_last};
 use crate::repair::repair;
 use crate::start::start_of;
 use blob_device::{DevError, Device, RError};
@@ -27,8 +30,9 @@ use value_codec::Seal;
 
 /// A buffer over an opened blob whose pages carry two seals each.
 ///
-/// The tip is held in memory: the bytes of a last page that is not full, and all bytes that are not flushed. A refused
-/// call gives the buffer up; the blob is then opened and adopted again.
+/// The tip is held in memory: the bytes of a last page that is not full, and all bytes that are not flushed. So is the page that adopting
+/// read, until the blob is written to, unless `cache_pages` is 0: an opening reads it no second time. A refused call gives the buffer up;
+/// the blob is then opened and adopted again.
 #[derive(Drop)]
 pub struct PageBlob<S: Seal> {
     alloc: Global,
@@ -44,6 +48,7 @@ pub struct PageBlob<S: Seal> {
     newest: bool,
     behind: bool,
     torn: bool,
+    held: HeldPages,
     seal: PhantomData<S>,
     ghost fit: { Fit page_size first from tip.items },
     ghost inside: { torn ≡ true → 0 < from },
@@ -89,6 +94,20 @@ fn last_slot_of(
     next_slot_of(page_size, page, settled, newest)
 }
 
+// The page that was found, to be held, where pages are held.
+fn held_of(pages: Pages, found: &Option<LastPage>, bytes: Vec<u8>) -> HeldPages
+    requires wide { length bytes.items ≡ pages.page_size + 12 }
+    requires within { IfSome found.now (λ p. p.have ≤ pages.page_size + 12) }
+    ensures { (c : List ℕ) → IfSome found.now (λ p. take p.have bytes.items ≡ page_of pages.page_size c p.page) → AreHeldOf c result }
+{
+    match found {
+        Some(last) if pages.cache_pages > 0 => {
+            HeldPages::of_page(pages.page_size, last.page, bytes, last.have)
+        }
+        _ => HeldPages::none(),
+    }
+}
+
 impl<S: Seal> PageBlob<S> {
     ghost use Rattle.sealed_pages.specs.Shown.{shown};
     ghost use Rattle.sealed_pages.specs.SealedPrefix.{sealed_prefix, adopted_size};
@@ -126,6 +145,7 @@ impl<S: Seal> PageBlob<S> {
             → IfOk result (λ r. IsUnrecovered S.seal_of (shown r) (disk (D.time dev.old) (partition.now, name.now))) }
         ensures adopted { D.Tells → IsAtRest (disk (D.time dev.old) (partition.now, name.now)) → IfOk result (λ r. IsAdopted S.seal_of (shown r) (disk (D.time dev.old) (partition.now, name.now))) }
         ensures leftover { D.Tells → IfOk result (λ r. Leftover S.seal_of r.page_size (disk (D.time dev.old) (partition.now, name.now)).content r.first r.from r.newest r.behind r.torn) }
+        ensures held { D.Tells → IfOk result (λ r. AreHeldOf (disk (D.time dev.old) (partition.now, name.now)).content r.held) }
         ensures unchanged { D.Tells → Unchanged (D.time dev.old) (D.time dev.new) }
         ensures settled { IfOk result (λ r. r.settled ≡ size_of (shown r)) }
         ensures key { IfOk result (λ r. key_of (shown r) ≡ (partition.now, name.now)) }
@@ -146,10 +166,12 @@ impl<S: Seal> PageBlob<S> {
         let mut bytes = vec![in alloc; 0; unit]?;
         let buf = bytes.as_mut_slice();
         let found = find_last::<D, S>(dev, partition, name, pages.page_size, size, buf)?;
-        let start = start_of::<S>(pages.page_size, size, &found, buf);
+        let page = bytes.as_slice();
+        let start = start_of::<S>(pages.page_size, size, &found, page);
         let partition = String::from_str(alloc, partition)?;
         let name = name.to_vec(alloc)?;
-        let tip = buf[..start.from].to_vec(alloc)?;
+        let tip = page[..start.from].to_vec(alloc)?;
+        let held = held_of(pages, &found, bytes);
         Ok(PageBlob {
             alloc,
             partition,
@@ -164,6 +186,7 @@ impl<S: Seal> PageBlob<S> {
             newest: start.newest,
             behind: start.behind,
             torn: start.torn,
+            held,
             seal: PhantomData,
         })
     }
@@ -211,6 +234,7 @@ impl<S: Seal> PageBlob<S> {
         ensures cleared { D.Tells → IsAtRest (blob_of (shown self) (D.time dev.old)) → Leftover S.seal_of self.page_size (blob_of (shown self) (D.time dev.old)).content self.first self.from self.newest self.behind self.torn → OnOk result (IsCleared S.seal_of self.page_size self.first self.from self.newest (blob_of (shown self) (D.time dev.new)).settled) }
         ensures settles { D.Tells → (self.behind || self.torn) ≡ true → OnOk result (IsAtRest (disk (D.time dev.new) (key_of (shown self)))) }
         ensures had { D.Tells → IsHad (blob_of (shown self) (D.time dev.old)) → OnOk result (IsHad (blob_of (shown self) (D.time dev.new))) }
+        ensures held { D.Tells → AreHeldOf (disk (D.time dev.old) (key_of (shown self))).content self.held → IfOk result (λ r. AreHeldOf (disk (D.time dev.new) (key_of (shown self))).content r.held) }
         ensures same { IfOk result (λ r. shown r ≡ record (shown self) { end = r.end; behind = false; torn = false }) }
         ensures length { IfOk result (λ r. IsOpenAt (D.opened dev.new) (key_of (shown self)) r.end) }
         ensures entries { NoReads (key_of (shown self)) (D.opened dev.old) (D.opened dev.new) }
@@ -236,6 +260,7 @@ impl<S: Seal> PageBlob<S> {
         this.end = end;
         this.behind = false;
         this.torn = false;
+        this.held = HeldPages::none();
         Ok(this)
     }
 
@@ -253,6 +278,7 @@ impl<S: Seal> PageBlob<S> {
         ensures front { D.Tells → SparesFront (page_at self.page_size self.first) (key_of (shown self)) (D.time dev.old) (D.time dev.new) }
         ensures stays { D.Tells → SettlesNothing (key_of (shown self)) (D.time dev.old) (D.time dev.new) }
         ensures had { D.Tells → IsHad (blob_of (shown self) (D.time dev.old)) → OnOk result (IsHad (blob_of (shown self) (D.time dev.new))) }
+        ensures held { IfOk result (λ r. (c : List ℕ) → AreHeldOf c r.held) }
         ensures same { IfOk result (λ r. shown r ≡ record (shown self) { end = r.end; first = r.first; tip = r.tip.items; from = length r.tip.items }) }
         ensures size { IfOk result (λ r. size_of (shown r) ≡ size_of (shown self)) }
         ensures tip { IfOk result (λ r. (all : List ℕ) → StandsAt all (self.first * self.page_size) self.tip.items → StandsAt all (r.first * r.page_size) r.tip.items) }
@@ -306,6 +332,7 @@ impl<S: Seal> PageBlob<S> {
             newest,
             behind,
             torn,
+            held: HeldPages::none(),
             seal,
         })
     }
@@ -326,6 +353,7 @@ impl<S: Seal> PageBlob<S> {
         ensures front { D.Tells → SparesFront (page_at self.page_size self.first) (key_of (shown self)) (D.time dev.old) (D.time dev.new) }
         ensures clears { D.Tells → IsAtRest (blob_of (shown self) (D.time dev.old)) → Leftover S.seal_of self.page_size (blob_of (shown self) (D.time dev.old)).content self.first self.from self.newest self.behind self.torn → Always (D.time dev.old) (D.time dev.new) (OnlyAt (key_of (shown self)) (disk (D.time dev.old)) (ClearsFirst S.seal_of self.page_size self.first self.from self.newest)) }
         ensures backed { D.Tells → IsBacked (shown self) (blob_of (shown self) (D.time dev.old)).content → IfOk result (λ r. IsBacked (shown r) (blob_of (shown self) (D.time dev.new)).content) }
+        ensures held { D.Tells → AreHeldOf (disk (D.time dev.old) (key_of (shown self))).content self.held → IfOk result (λ r. AreHeldOf (disk (D.time dev.new) (key_of (shown self))).content r.held) }
         ensures idle { length self.tip.items ≤ self.from → dev.new ≡ dev.old }
         ensures fine { length self.tip.items ≤ self.from → IsOkAnd result (λ r. shown r ≡ shown self) }
         ensures key { IfOk result (λ r. key_of (shown r) ≡ key_of (shown self)) }
@@ -370,6 +398,7 @@ impl<S: Seal> PageBlob<S> {
             → IfOk result (λ r. bytes_of (shown r.0) (disk (D.time dev.new) (key_of (shown self))).content ≡ bytes_of (shown self) (disk (D.time dev.old) (key_of (shown self))).content ++ bytes.now) }
         ensures backed { D.Tells → IsBacked (shown self) (disk (D.time dev.old) (key_of (shown self))).content
             → IfOk result (λ r. IsBacked (shown r.0) (disk (D.time dev.new) (key_of (shown self))).content) }
+        ensures held { D.Tells → AreHeldOf (disk (D.time dev.old) (key_of (shown self))).content self.held → IfOk result (λ r. AreHeldOf (disk (D.time dev.new) (key_of (shown self))).content r.0.held) }
         // Below the capacity, and where nothing is to be flushed, no call of the device is made, and so none fails.
         ensures below { FlushesNothing (shown self) (length bytes.now) → dev.new ≡ dev.old }
         ensures faultless { FlushesNothing (shown self) (length bytes.now) → OnErr result ((result ≡ Err RError.OffsetOverflow) ⊎ (result ≡ Err RError.Mem)) }
@@ -421,6 +450,7 @@ impl<S: Seal> PageBlob<S> {
             → IfOk result (λ r. bytes_of (shown r) (disk (D.time dev.new) (key_of (shown self))).content ≡ bytes_of (shown self) (disk (D.time dev.old) (key_of (shown self))).content) }
         ensures backed { D.Tells → IsBacked (shown self) (disk (D.time dev.old) (key_of (shown self))).content
             → IfOk result (λ r. IsBacked (shown r) (disk (D.time dev.new) (key_of (shown self))).content) }
+        ensures held { D.Tells → AreHeldOf (disk (D.time dev.old) (key_of (shown self))).content self.held → IfOk result (λ r. AreHeldOf (disk (D.time dev.new) (key_of (shown self))).content r.held) }
         ensures idle { self.settled ≡ size_of (shown self) → dev.new ≡ dev.old }
         ensures same { self.settled ≡ size_of (shown self) → IsOkAnd result (λ r. shown r ≡ shown self) }
         // What has settled outlives each crash.

@@ -3,7 +3,7 @@ ghost use Rattle.std.specs.Prelude.{◌≡◌, ◌≤◌, ◌↔◌, IsTrue};
 
 /// The data bytes of a page, and how many full pages are held in memory besides the tip.
 ///
-/// The cache is not built yet: whatever `cache_pages` says, the tip alone is held.
+/// The cache is not built yet: beside the tip those pages alone are held that an opening read, and only where `cache_pages` is at least 1.
 #[derive(Clone, Copy, Debug, PartialEq, Eq)]
 pub struct Pages {
     /// From 1 on.

@@ -6,6 +6,7 @@ ghost use Rattle.sealed_pages.specs.Reading.{Unchanged};
 ghost use Rattle.sealed_pages.specs.Proven.{proven_prefix};
 ghost use Rattle.sealed_pages.specs.Entries.{IsOpenAt, ReadsAtMost};
 
+use crate::held::HeldPages;
 use crate::piece::Piece;
 use crate::reading::covered_len;
 use blob_device::{Device, RError};
@@ -33,10 +34,11 @@ pub fn prefix_len<D: Device, S: Seal>(
     ensures cause { OnErr result ((result ≡ Err RError.Mem) ⊎ ((result ≡ Err RError.Fault) × Rose (D.faults dev.old) (D.faults dev.new))) }
 {
     let mut piece = Piece::new(alloc, page_size, buffer)?;
+    let none = HeldPages::none();
     let pages = end / (u64::from(page_size) + 12) + 1;
     let mut page = first;
     'pages: while page < pages {
-        piece.load(dev, partition, name, end, page)?;
+        piece.load(dev, partition, name, end, page, &none)?;
         let len = covered_len::<S>(page_size, piece.page_bytes(page));
         if len < usize::from(page_size) {
             return Ok(page * u64::from(page_size) + len as u64);

@@ -13,7 +13,9 @@ ghost use Rattle.sealed_pages.specs.Reading.{Unchanged, OnlyRead};
 ghost use Rattle.sealed_pages.specs.Reads.{IsWanted, IsCovered, IsShort, touched};
 ghost use Rattle.sealed_pages.specs.Entries.{IsOpenAt, ReadsAtMost};
 ghost use Rattle.sealed_pages.specs.Reopening.{OnlySettles, StaysOpen};
+ghost use Rattle.sealed_pages.specs.Held.{AreHeldOf};
 
+use crate::held::HeldPages;
 use crate::reading::{LastPage, covered_len, find_last, read_page};
 use blob_device::{DevError, Device, RError};
 use std::alloc::Global;
@@ -45,6 +47,7 @@ pub fn read_part<D: Device, S: Seal>(
     page_size: u16,
     end: u64,
     page: u64,
+    held: &HeldPages,
     skip: usize,
     out: &mut [u8],
     page_buf: &mut [u8],
@@ -53,15 +56,15 @@ pub fn read_part<D: Device, S: Seal>(
     requires page_buf { length page_buf.old ≡ page_size + 12 }
     requires room { page_at page_size page < 2 ^ 64 }
     requires part { skip + length out.old ≤ page_size }
-    ensures bytes { D.Tells → OnOk result ((i : ℕ) → i < length out.old → slice_index out.new i ≡ view (disk (D.time dev.old) (partition.now, name.now)).content (page_at page_size page + (skip + i))) }
-    ensures covered { D.Tells → OnOk result (skip + length out.old ≤ page_length S.seal_of page_size (disk (D.time dev.old) (partition.now, name.now)).content page) }
-    ensures short { D.Tells → IsErrOf result (RError.InvalidChecksum page) → page_length S.seal_of page_size (disk (D.time dev.old) (partition.now, name.now)).content page < skip + length out.old }
+    ensures bytes { D.Tells → AreHeldOf (disk (D.time dev.old) (partition.now, name.now)).content held.now → OnOk result ((i : ℕ) → i < length out.old → slice_index out.new i ≡ view (disk (D.time dev.old) (partition.now, name.now)).content (page_at page_size page + (skip + i))) }
+    ensures covered { D.Tells → AreHeldOf (disk (D.time dev.old) (partition.now, name.now)).content held.now → OnOk result (skip + length out.old ≤ page_length S.seal_of page_size (disk (D.time dev.old) (partition.now, name.now)).content page) }
+    ensures short { D.Tells → AreHeldOf (disk (D.time dev.old) (partition.now, name.now)).content held.now → IsErrOf result (RError.InvalidChecksum page) → page_length S.seal_of page_size (disk (D.time dev.old) (partition.now, name.now)).content page < skip + length out.old }
     ensures unchanged { D.Tells → Unchanged (D.time dev.old) (D.time dev.new) }
     ensures entries { ReadsAtMost 1 (partition.now, name.now) (D.opened dev.old) (D.opened dev.new) }
     ensures faults { D.faults dev.old ≤ D.faults dev.new }
     ensures cause { OnErr result ((result ≡ Err (RError.InvalidChecksum page)) ⊎ ((result ≡ Err RError.Mem) ⊎ ((result ≡ Err RError.Fault) × Rose (D.faults dev.old) (D.faults dev.new)))) }
 {
-    let have = read_page(dev, partition, name, page_size, end, page, page_buf)?;
+    let have = read_page(dev, partition, name, page_size, end, page, held, page_buf)?;
     let found = &page_buf[..have];
     let upto = skip + out.len();
     if covered_len::<S>(page_size, found) < upto {
@@ -71,13 +74,14 @@ pub fn read_part<D: Device, S: Seal>(
     Ok(())
 }
 
-/// Reads the bytes from `offset` on, page by page. `page_buf` takes a whole page.
+/// Reads the bytes from `offset` on, page by page, of pages that are held or of the blob. `page_buf` takes a whole page.
 pub fn read_each<D: Device, S: Seal>(
     dev: &mut D,
     partition: &str,
     name: &[u8],
     page_size: u16,
     end: u64,
+    held: &HeldPages,
     offset: u64,
     out: &mut [u8],
     page_buf: &mut [u8],
@@ -86,9 +90,9 @@ pub fn read_each<D: Device, S: Seal>(
     requires page_buf { length page_buf.old ≡ page_size + 12 }
     requires some { 1 ≤ page_size }
     requires room { (k : ℕ) → k * page_size < offset + length out.old → page_at page_size k < 2 ^ 64 }
-    ensures bytes { D.Tells → OnOk result ((i : ℕ) → i < length out.old → slice_index out.new i ≡ view (disk (D.time dev.old) (partition.now, name.now)).content (place page_size (offset + i))) }
-    ensures covered { D.Tells → OnOk result (IsCovered S.seal_of page_size (disk (D.time dev.old) (partition.now, name.now)).content offset (length out.old)) }
-    ensures short { D.Tells → (p : ℕ) → IsErrOf result (RError.InvalidChecksum p) → IsShort S.seal_of page_size (disk (D.time dev.old) (partition.now, name.now)).content offset (length out.old) p }
+    ensures bytes { D.Tells → AreHeldOf (disk (D.time dev.old) (partition.now, name.now)).content held.now → OnOk result ((i : ℕ) → i < length out.old → slice_index out.new i ≡ view (disk (D.time dev.old) (partition.now, name.now)).content (place page_size (offset + i))) }
+    ensures covered { D.Tells → AreHeldOf (disk (D.time dev.old) (partition.now, name.now)).content held.now → OnOk result (IsCovered S.seal_of page_size (disk (D.time dev.old) (partition.now, name.now)).content offset (length out.old)) }
+    ensures short { D.Tells → AreHeldOf (disk (D.time dev.old) (partition.now, name.now)).content held.now → (p : ℕ) → IsErrOf result (RError.InvalidChecksum p) → IsShort S.seal_of page_size (disk (D.time dev.old) (partition.now, name.now)).content offset (length out.old) p }
     ensures unchanged { D.Tells → Unchanged (D.time dev.old) (D.time dev.new) }
     ensures entries { ReadsAtMost (touched page_size offset (length out.old)) (partition.now, name.now) (D.opened dev.old) (D.opened dev.new) }
     ensures faults { D.faults dev.old ≤ D.faults dev.new }
@@ -102,7 +106,7 @@ pub fn read_each<D: Device, S: Seal>(
         let n = (out.len() - at).min(size - skip);
         let part = &mut out[at..at + n];
         read_part::<D, S>(
-            dev, partition, name, page_size, end, page, skip, part, page_buf,
+            dev, partition, name, page_size, end, page, held, skip, part, page_buf,
         )?;
         at += n;
         skip = 0;
@@ -111,7 +115,7 @@ pub fn read_each<D: Device, S: Seal>(
     Ok(())
 }
 
-/// Reads the bytes from `offset` on. No bytes need no memory and no call of the device.
+/// Reads the bytes from `offset` on, of pages that are held or of the blob. No bytes need no memory and no call of the device.
 pub fn read_pages<D: Device, S: Seal>(
     alloc: Global,
     dev: &mut D,
@@ -119,15 +123,16 @@ pub fn read_pages<D: Device, S: Seal>(
     name: &[u8],
     page_size: u16,
     end: u64,
+    held: &HeldPages,
     offset: u64,
     out: &mut [u8],
 ) -> Result<(), RError>
     requires open { IsOpenAt (D.opened dev.old) (partition.now, name.now) end }
     requires some { 1 ≤ page_size }
     requires room { (k : ℕ) → k * page_size < offset + length out.old → page_at page_size k < 2 ^ 64 }
-    ensures bytes { D.Tells → OnOk result ((i : ℕ) → i < length out.old → slice_index out.new i ≡ view (disk (D.time dev.old) (partition.now, name.now)).content (place page_size (offset + i))) }
-    ensures covered { D.Tells → OnOk result (IsCovered S.seal_of page_size (disk (D.time dev.old) (partition.now, name.now)).content offset (length out.old)) }
-    ensures short { D.Tells → (p : ℕ) → IsErrOf result (RError.InvalidChecksum p) → IsShort S.seal_of page_size (disk (D.time dev.old) (partition.now, name.now)).content offset (length out.old) p }
+    ensures bytes { D.Tells → AreHeldOf (disk (D.time dev.old) (partition.now, name.now)).content held.now → OnOk result ((i : ℕ) → i < length out.old → slice_index out.new i ≡ view (disk (D.time dev.old) (partition.now, name.now)).content (place page_size (offset + i))) }
+    ensures covered { D.Tells → AreHeldOf (disk (D.time dev.old) (partition.now, name.now)).content held.now → OnOk result (IsCovered S.seal_of page_size (disk (D.time dev.old) (partition.now, name.now)).content offset (length out.old)) }
+    ensures short { D.Tells → AreHeldOf (disk (D.time dev.old) (partition.now, name.now)).content held.now → (p : ℕ) → IsErrOf result (RError.InvalidChecksum p) → IsShort S.seal_of page_size (disk (D.time dev.old) (partition.now, name.now)).content offset (length out.old) p }
     ensures none { length out.old ≡ 0 → dev.new ≡ dev.old }
     ensures unchanged { D.Tells → Unchanged (D.time dev.old) (D.time dev.new) }
     ensures entries { ReadsAtMost (touched page_size offset (length out.old)) (partition.now, name.now) (D.opened dev.old) (D.opened dev.new) }
@@ -140,7 +145,7 @@ pub fn read_pages<D: Device, S: Seal>(
     let unit = usize::from(page_size) + 12;
     let mut page_buf = vec![in alloc; 0; unit]?;
     let buf = page_buf.as_mut_slice();
-    read_each::<D, S>(dev, partition, name, page_size, end, offset, out, buf)
+    read_each::<D, S>(dev, partition, name, page_size, end, held, offset, out, buf)
 }
 
 /// The size that the last page with a matching slot gives a blob; 0 with no such page.
@@ -225,6 +230,9 @@ pub fn read_opened<D: Device, S: Seal>(
 {
     let size = adopted_len::<D, S>(alloc, dev, partition, name, page_size, end)?;
     check_range(offset, buf.len(), size)?;
-    read_pages::<D, S>(alloc, dev, partition, name, page_size, end, offset, buf)?;
+    let none = HeldPages::none();
+    read_pages::<D, S>(
+        alloc, dev, partition, name, page_size, end, &none, offset, buf,
+    )?;
     Ok(())
 }

@@ -1,5 +1,5 @@
 // Reading a page and its slots.
-ghost use Rattle.std.specs.Prelude.{◌≡◌, ◌≢◌, ◌+◌, ◌*◌, ◌≤◌, ◌<◌, ◌^◌, ◌-◌, length, take, drop, max, IfOk, IfSome, Bool, ℕ, List};
+ghost use Rattle.std.specs.Prelude.{◌≡◌, ◌≢◌, ◌+◌, ◌*◌, ◌≤◌, ◌<◌, ◌^◌, ◌-◌, Err, length, take, drop, max, IfOk, IfSome, Bool, ℕ, List};
 ghost use Rattle.blob_device.specs.Timeline.{disk};
 ghost use Rattle.blob_device.specs.Counts.{Rose};
 ghost use Rattle.sealed_pages.specs.View.{page_at, slot_at};
@@ -7,7 +7,9 @@ ghost use Rattle.sealed_pages.specs.Slots.{slot_length, page_length};
 ghost use Rattle.sealed_pages.specs.Reading.{page_of, Unchanged, OnlyRead};
 ghost use Rattle.sealed_pages.specs.Entries.{IsOpenAt, ReadsAtMost};
 ghost use Rattle.sealed_pages.specs.Found.{Finds, found_of};
+ghost use Rattle.sealed_pages.specs.Held.{AreHeldOf};
 
+use crate::held::HeldPages;
 use crate::page::page_place;
 use blob_device::{DevError, Device};
 use value_codec::Seal;
@@ -81,7 +83,39 @@ pub fn read_span<D: Device>(
     Ok(have)
 }
 
-/// Reads the bytes of a page that stand below the blob's end, which is at `end`. The answer is how many there are.
+/// As [`read_span`], for so many bytes at most.
+pub fn read_front<D: Device>(
+    dev: &mut D,
+    partition: &str,
+    name: &[u8],
+    end: u64,
+    place: u64,
+    most: usize,
+    buf: &mut [u8],
+) -> Result<usize, DevError>
+    requires open { IsOpenAt (D.opened dev.old) (partition.now, name.now) end }
+    requires fits { most ≤ length buf.old }
+    ensures bytes { D.Tells → IfOk result (λ n. take n buf.new ≡ take most (drop place (disk (D.time dev.old) (partition.now, name.now)).content)) }
+    ensures within { IfOk result (λ n. n ≤ most) }
+    ensures unchanged { D.Tells → Unchanged (D.time dev.old) (D.time dev.new) }
+    ensures entries { ReadsAtMost 1 (partition.now, name.now) (D.opened dev.old) (D.opened dev.new) }
+    ensures faults { D.faults dev.old ≤ D.faults dev.new }
+    ensures cause { result ≡ Err DevError.Fault → Rose (D.faults dev.old) (D.faults dev.new) }
+{
+    let part = &mut buf[..most];
+    read_span(dev, partition, name, end, place, part)
+}
+
+/// Writes bytes over the first ones.
+pub fn copy_front(buf: &mut [u8], bytes: &[u8])
+    requires { length bytes.now ≤ length buf.old }
+    ensures { take (length bytes.now) buf.new ≡ bytes.now }
+{
+    buf[..bytes.len()].copy_from_slice(bytes);
+}
+
+/// Takes the bytes of a page that stand below the blob's end, which is at `end`, from the pages that are held, or reads them. The answer
+/// is how many there are.
 pub fn read_page<D: Device>(
     dev: &mut D,
     partition: &str,
@@ -89,18 +123,23 @@ pub fn read_page<D: Device>(
     page_size: u16,
     end: u64,
     page: u64,
+    held: &HeldPages,
     buf: &mut [u8],
 ) -> Result<usize, DevError>
     requires open { IsOpenAt (D.opened dev.old) (partition.now, name.now) end }
     requires buf { length buf.old ≡ page_size + 12 }
     requires room { page_at page_size page < 2 ^ 64 }
-    ensures bytes { D.Tells → IfOk result (λ n. take n buf.new ≡ page_of page_size (disk (D.time dev.old) (partition.now, name.now)).content page) }
+    ensures bytes { D.Tells → AreHeldOf (disk (D.time dev.old) (partition.now, name.now)).content held.now → IfOk result (λ n. take n buf.new ≡ page_of page_size (disk (D.time dev.old) (partition.now, name.now)).content page) }
     ensures within { IfOk result (λ n. n ≤ page_size + 12) }
     ensures unchanged { D.Tells → Unchanged (D.time dev.old) (D.time dev.new) }
     ensures entries { ReadsAtMost 1 (partition.now, name.now) (D.opened dev.old) (D.opened dev.new) }
     ensures faults { D.faults dev.old ≤ D.faults dev.new }
     ensures cause { result ≡ Err DevError.Fault → Rose (D.faults dev.old) (D.faults dev.new) }
 {
+    if let Some(bytes) = held.page(page_size, page) {
+        copy_front(buf, bytes);
+        return Ok(bytes.len());
+    }
     let place = page_place(page_size, page);
     read_span(dev, partition, name, end, place, buf)
 }
@@ -132,10 +171,11 @@ pub fn find_last<D: Device, S: Seal>(
     ensures faults { D.faults dev.old ≤ D.faults dev.new }
     ensures cause { result ≡ Err DevError.Fault → Rose (D.faults dev.old) (D.faults dev.new) }
 {
+    let none = HeldPages::none();
     let mut page = end / (u64::from(page_size) + 12) + 1;
     'back: while page > 0 {
         page -= 1;
-        let have = read_page(dev, partition, name, page_size, end, page, buf)?;
+        let have = read_page(dev, partition, name, page_size, end, page, &none, buf)?;
         let first_len = matching_len::<S>(page_size, &buf[..have], false);
         let second_len = matching_len::<S>(page_size, &buf[..have], true);
         if first_len.max(second_len) > 0 {

@@ -10,6 +10,7 @@ ghost use Rattle.sealed_pages.specs.Reads.{IsWanted, IsShort, touched, EndsAtOrP
 ghost use Rattle.sealed_pages.specs.Slots.{page_length};
 ghost use Rattle.sealed_pages.specs.Entries.{IsOpenAt, ReadsAtMost};
 
+use crate::held::HeldPages;
 use crate::page_blob::drop_front;
 use crate::piece::Piece;
 use crate::reading::covered_len;
@@ -33,6 +34,7 @@ pub struct PageReplay<S: Seal> {
     held: Vec<u8>,
     used: usize,
     piece: Piece,
+    pages: HeldPages,
     seal: PhantomData<S>,
     ghost taken: { used ≤ length held.items },
     ghost inside: { at + (length held.items - used) ≤ size },
@@ -42,9 +44,11 @@ pub struct PageReplay<S: Seal> {
 }
 
 impl<S: Seal> PageReplay<S> {
+    ghost use Rattle.sealed_pages.specs.Held.{AreHeldOf};
     ghost use Rattle.sealed_pages.specs.Readers.{reading, next_of, missing_of, IsReplayOf, ReadsUnread, SameReader};
 
-    /// A reader from 0 over a blob that ends at `end`, and has `size` bytes in pages. It reads pieces of about `buffer` bytes.
+    /// A reader from 0 over a blob that ends at `end`, and has `size` bytes in pages. It reads pieces of about `buffer` bytes, but for the
+    /// pages that are held.
     pub(crate) fn new(
         alloc: Global,
         partition: &str,
@@ -53,6 +57,7 @@ impl<S: Seal> PageReplay<S> {
         end: u64,
         size: u64,
         buffer: usize,
+        pages: HeldPages,
     ) -> Result<PageReplay<S>, RError>
         requires some { 1 ≤ page_size }
         requires room { extent page_size size < 2 ^ 64 }
@@ -61,7 +66,7 @@ impl<S: Seal> PageReplay<S> {
         ensures end { IfOk result (λ r. (reading r).end ≡ end) }
         ensures size { IfOk result (λ r. (reading r).size ≡ size) }
         ensures begin { IfOk result (λ r. (reading r).at ≡ 0) }
-        ensures replays { IfOk result (λ r. (content : List ℕ) → IsReplayOf S.seal_of content (reading r)) }
+        ensures replays { IfOk result (λ r. (content : List ℕ) → AreHeldOf content pages → IsReplayOf S.seal_of content (reading r)) }
         ensures cause { OnErr result (result ≡ Err RError.Mem) }
     {
         let partition = String::from_str(alloc, partition)?;
@@ -77,6 +82,7 @@ impl<S: Seal> PageReplay<S> {
             held: Vec::new(alloc),
             used: 0,
             piece,
+            pages,
             seal: PhantomData,
         })
     }
@@ -164,7 +170,8 @@ impl<S: Seal> PageReplay<S> {
         let start = page * data;
         let partition = self.partition.as_str();
         let name = self.name.as_slice();
-        self.piece.load(dev, partition, name, self.end, page)?;
+        self.piece
+            .load(dev, partition, name, self.end, page, &self.pages)?;
         let found = self.piece.page_bytes(page);
         let covered = covered_len::<S>(self.page_size, found);
         let need = (goal - start).min(data) as usize;

@@ -6,6 +6,8 @@ mod buffer;
 #[cfg(test)]
 mod cutting;
 #[cfg(test)]
+mod held;
+#[cfg(test)]
 mod images;
 #[cfg(test)]
 mod plain;

@@ -11,9 +11,11 @@ ghost use Rattle.sealed_pages.specs.Flushing.{Alone};
 ghost use Rattle.sealed_pages.specs.Buffer.{extent, key_of, size_of, bytes_of, Holds, IsSealed};
 ghost use Rattle.sealed_pages.specs.Entries.{IsOpenAt, NoReads};
 ghost use Rattle.sealed_pages.specs.Cutting.{IsAtRest, Settles, FewReads};
+ghost use Rattle.sealed_pages.specs.Held.{AreHeldOf};
 
 use super::PageBlob;
 use crate::cut::{Head, cut_inside, cut_pages, read_head};
+use crate::held::HeldPages;
 use crate::page::page_place;
 use blob_device::{Device, RError};
 use value_codec::Seal;
@@ -30,7 +32,8 @@ impl<S: Seal> PageBlob<S> {
     fn ending_with(self, end: u64, page: u64, tip: Vec<u8>, newest: bool) -> PageBlob<S>
         requires short { length tip.items < self.page_size }
         requires room { extent self.page_size (page * self.page_size + length tip.items) < 2 ^ 64 }
-        ensures { shown result ≡ record (shown self) { end = end; first = page; tip = tip.items; from = length tip.items; settled = page * self.page_size + length tip.items; newest = newest; behind = false; torn = false } }
+        ensures held { (c : List ℕ) → AreHeldOf c result.held }
+        ensures same { shown result ≡ record (shown self) { end = end; first = page; tip = tip.items; from = length tip.items; settled = page * self.page_size + length tip.items; newest = newest; behind = false; torn = false } }
     {
         let PageBlob {
             alloc,
@@ -56,6 +59,7 @@ impl<S: Seal> PageBlob<S> {
             newest,
             behind: false,
             torn: false,
+            held: HeldPages::none(),
             seal,
         }
     }
@@ -79,6 +83,7 @@ impl<S: Seal> PageBlob<S> {
             → length all ≡ page * self.page_size
             → IfOk result (λ r. IsBacked (shown r) (disk (D.time dev.new) (key_of (shown self))).content) }
         ensures rests { D.Tells → OnOk result (IsAtRest (disk (D.time dev.new) (key_of (shown self)))) }
+        ensures held { IfOk result (λ r. (c : List ℕ) → AreHeldOf c r.held) }
         ensures same { IfOk result (λ r. shown r ≡ record (shown self) { end = r.end; first = page; tip = []; from = 0; settled = page * self.page_size + 0; newest = r.newest; behind = false; torn = false }) }
         ensures alone { D.Tells → Alone (key_of (shown self)) (D.time dev.old) (D.time dev.new) }
         ensures front { D.Tells → SparesFront (page_at self.page_size page) (key_of (shown self)) (D.time dev.old) (D.time dev.new) }
@@ -125,6 +130,7 @@ impl<S: Seal> PageBlob<S> {
             → length all ≡ page * self.page_size + keep
             → IfOk result (λ r. IsBacked (shown r) (disk (D.time dev.new) (key_of (shown self))).content) }
         ensures rests { D.Tells → OnOk result (IsAtRest (disk (D.time dev.new) (key_of (shown self)))) }
+        ensures held { IfOk result (λ r. (c : List ℕ) → AreHeldOf c r.held) }
         ensures same { IfOk result (λ r. shown r ≡ record (shown self) { end = r.end; first = page; tip = r.tip.items; from = length r.tip.items; settled = page * self.page_size + length r.tip.items; newest = r.newest; behind = false; torn = false }) }
         ensures long { IfOk result (λ r. length r.tip.items ≡ keep) }
         ensures alone { D.Tells → Alone (key_of (shown self)) (D.time dev.old) (D.time dev.new) }
@@ -196,6 +202,7 @@ impl<S: Seal> PageBlob<S> {
         ensures backed { D.Tells → IsBacked (shown self) (disk (D.time dev.old) (key_of (shown self))).content
             → IfOk result (λ r. IsBacked (shown r) (disk (D.time dev.new) (key_of (shown self))).content) }
         ensures alone { D.Tells → IsBacked (shown self) (disk (D.time dev.old) (key_of (shown self))).content → Alone (key_of (shown self)) (D.time dev.old) (D.time dev.new) }
+        ensures held { D.Tells → AreHeldOf (disk (D.time dev.old) (key_of (shown self))).content self.held → IfOk result (λ r. AreHeldOf (disk (D.time dev.new) (key_of (shown self))).content r.held) }
         ensures unchanged { size_of (shown self) ≤ len → dev.new ≡ dev.old }
         ensures same { size_of (shown self) ≤ len → IsOkAnd result (λ r. shown r ≡ shown self) }
         // Where it cut, all has settled, and adopting the blob gives it again.

@@ -15,8 +15,10 @@ ghost use Rattle.sealed_pages.specs.Reads.{IsWanted, IsCovered, IsShort, IsHeld,
 ghost use Rattle.sealed_pages.specs.Entries.{IsOpenAt, ReadsAtMost, NoReads};
 ghost use Rattle.sealed_pages.specs.ChanceSeal.{Sealing};
 ghost use Rattle.sealed_pages.specs.Flushing.{Alone};
+ghost use Rattle.sealed_pages.specs.Held.{AreHeldOf};
 
 use super::PageBlob;
+use crate::piece::Piece;
 use crate::prefix::prefix_len;
 use crate::range::{check_range, open_again, read_opened, read_pages};
 use crate::replay::PageReplay;
@@ -55,18 +57,19 @@ impl<S: Seal> PageBlob<S> {
         buf.copy_from_slice(&self.tip[skip..skip + buf.len()]);
     }
 
-    /// Reads the bytes from `offset` on. Those of the tip are held; each other page is read once, and checked.
+    /// Reads the bytes from `offset` on. Those of the tip are held, and so are the page that adopting read and those of a
+    /// [`hold`](PageBlob::hold), until the blob is written to; each other page is read once. A page is checked.
     ///
     /// `InvalidChecksum` names a page that no matching slot covers as far as the read needs it. After an error `buf` holds any
     /// bytes. An empty `buf` reads nothing.
     pub fn read_at<D: Device>(&self, dev: &mut D, offset: u64, buf: &mut [u8]) -> Result<(), RError>
         requires { IsOpenAt (D.opened dev.old) (key_of (shown self.now)) self.now.end }
-        ensures bytes { D.Tells → OnOk result (buf.new ≡ take (length buf.old) (drop offset (bytes_of (shown self.now) (disk (D.time dev.old) (key_of (shown self.now))).content))) }
-        ensures checked { D.Tells → OnOk result (IsCovered S.seal_of self.now.page_size (disk (D.time dev.old) (key_of (shown self.now))).content offset (below self.now.page_size self.now.first offset (length buf.old))) }
-        ensures checksum { D.Tells → (p : ℕ) → IsErrOf result (RError.InvalidChecksum p)
+        ensures bytes { D.Tells → AreHeldOf (disk (D.time dev.old) (key_of (shown self.now))).content self.now.held → OnOk result (buf.new ≡ take (length buf.old) (drop offset (bytes_of (shown self.now) (disk (D.time dev.old) (key_of (shown self.now))).content))) }
+        ensures checked { D.Tells → AreHeldOf (disk (D.time dev.old) (key_of (shown self.now))).content self.now.held → OnOk result (IsCovered S.seal_of self.now.page_size (disk (D.time dev.old) (key_of (shown self.now))).content offset (below self.now.page_size self.now.first offset (length buf.old))) }
+        ensures checksum { D.Tells → AreHeldOf (disk (D.time dev.old) (key_of (shown self.now))).content self.now.held → (p : ℕ) → IsErrOf result (RError.InvalidChecksum p)
             → IsShort S.seal_of self.now.page_size (disk (D.time dev.old) (key_of (shown self.now))).content offset (below self.now.page_size self.now.first offset (length buf.old)) p }
         // No page of a sealed buffer is refused.
-        ensures whole { D.Tells → IsSealed S.seal_of (shown self.now) (disk (D.time dev.old) (key_of (shown self.now))) → (p : ℕ) → IsErrOf result (RError.InvalidChecksum p) → ⊥ }
+        ensures whole { D.Tells → AreHeldOf (disk (D.time dev.old) (key_of (shown self.now))).content self.now.held → IsSealed S.seal_of (shown self.now) (disk (D.time dev.old) (key_of (shown self.now))) → (p : ℕ) → IsErrOf result (RError.InvalidChecksum p) → ⊥ }
         ensures overflow { IsErrOf result OffsetOverflow ↔ (2 ^ 64 ≤ offset + length buf.old) }
         ensures short { IsErrOf result BlobInsufficientLength ↔ ((offset + length buf.old < 2 ^ 64) × (size_of (shown self.now) < offset + length buf.old)) }
         ensures refused { size_of (shown self.now) < offset + length buf.old → dev.new ≡ dev.old }
@@ -89,10 +92,44 @@ impl<S: Seal> PageBlob<S> {
             self.name.as_slice(),
             self.page_size,
             self.end,
+            &self.held,
             offset,
             front,
         )?;
         self.copy_held(offset + below as u64, &mut buf[below..]);
+        Ok(())
+    }
+
+    /// Reads those pages of the bytes from `offset` on that stand below the tip and are not held, and holds them until the blob is written
+    /// to: calls that read them read them no second time. The bytes stand within the size. It makes one read at most.
+    pub fn hold<D: Device>(&mut self, dev: &mut D, offset: u64, len: usize) -> Result<(), RError>
+        requires open { IsOpenAt (D.opened dev.old) (key_of (shown self.old)) self.old.end }
+        requires within { offset + len ≤ size_of (shown self.old) }
+        ensures same { shown self.new ≡ shown self.old }
+        ensures held { D.Tells → AreHeldOf (disk (D.time dev.old) (key_of (shown self.old))).content self.old.held → AreHeldOf (disk (D.time dev.old) (key_of (shown self.old))).content self.new.held }
+        ensures unchanged { D.Tells → Unchanged (D.time dev.old) (D.time dev.new) }
+        ensures open { IsOpenAt (D.opened dev.new) (key_of (shown self.new)) self.new.end }
+        ensures entries { ReadsAtMost 1 (key_of (shown self.old)) (D.opened dev.old) (D.opened dev.new) }
+        ensures faults { D.faults dev.old ≤ D.faults dev.new }
+        ensures cause { OnErr result ((result ≡ Err RError.Mem) ⊎ ((result ≡ Err RError.Fault) × Rose (D.faults dev.old) (D.faults dev.new))) }
+    {
+        let below = self.below_tip(offset, len);
+        if below == 0 {
+            return Ok(());
+        }
+        let page_size = u64::from(self.page_size);
+        let first = offset / page_size;
+        if self.held.page(self.page_size, first).is_some() {
+            return Ok(());
+        }
+        let count = (offset + (below as u64 - 1)) / page_size - first + 1;
+        let unit = usize::from(self.page_size) + 12;
+        let buffer = (count as usize).saturating_mul(unit);
+        let mut piece = Piece::new(self.alloc, self.page_size, buffer)?;
+        let partition = self.partition.as_str();
+        let name = self.name.as_slice();
+        piece.load(dev, partition, name, self.end, first, &self.held)?;
+        self.held.add(piece);
         Ok(())
     }
 
@@ -184,7 +221,8 @@ impl<S: Seal> PageBlob<S> {
         )
     }
 
-    /// Flushes what is not flushed, and gives a reader over all the bytes, from 0. It reads pieces of about `buffer` bytes.
+    /// Flushes what is not flushed, and gives a reader over all the bytes, from 0. It reads pieces of about `buffer` bytes, and no page
+    /// that is held.
     pub fn replay<D: Device>(
         self,
         dev: &mut D,
@@ -213,7 +251,8 @@ impl<S: Seal> PageBlob<S> {
         // Where all is flushed, no call of the device is made.
         ensures idle { flushed_of (shown self) ≡ size_of (shown self) → dev.new ≡ dev.old }
         ensures same { flushed_of (shown self) ≡ size_of (shown self) → IfOk result (λ r. shown r.0 ≡ shown self) }
-        ensures replays { IfOk result (λ r. (content : List ℕ) → IsReplayOf S.seal_of content (reading r.1)) }
+        ensures replays { IfOk result (λ r. (content : List ℕ) → AreHeldOf content r.0.held → IsReplayOf S.seal_of content (reading r.1)) }
+        ensures held { D.Tells → AreHeldOf (disk (D.time dev.old) (key_of (shown self))).content self.held → IfOk result (λ r. AreHeldOf (disk (D.time dev.new) (key_of (shown self))).content r.0.held) }
         ensures begins { IfOk result (λ r. ((reading r.1).at ≡ 0) × ((reading r.1).size ≡ size_of (shown self))) }
         ensures over { IfOk result (λ r. ((reading r.1).key ≡ key_of (shown self)) × ((reading r.1).page_size ≡ self.page_size) × ((reading r.1).end ≡ r.0.end)) }
         ensures flushed { IfOk result (λ r. r.0.from ≡ length r.0.tip.items) }
@@ -237,6 +276,7 @@ impl<S: Seal> PageBlob<S> {
             this.end,
             this.size(),
             buffer,
+            this.held.try_clone()?,
         )?;
         Ok((this, replay))
     }

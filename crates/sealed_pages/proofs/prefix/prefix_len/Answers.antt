@@ -26,7 +26,7 @@ pub returns-then-len-from-clause-length : goal.returns-then-len-from-clause-leng
 returns-then-len-from-clause-length g c t =
     let same : disk (g.D.Device.time c.pages.dev) ≡ disk (g.D.Device.time c.args.dev.now) = unchanged_now (g.D.Device.time c.args.dev.now) (g.D.Device.time c.pages.dev) (c.pages.invariant.unchanged t) in
     let was : IsPieceOf (disk (g.D.Device.time c.pages.dev) (c.args.partition.now, c.args.name.now)).content c.pages.piece = subst (λ (d : Disk). IsPieceOf (d (c.args.partition.now, c.args.name.now)).content c.pages.piece) (sym same) (c.pages.invariant.piece_of t) in
-    let is : IsPieceOf (disk (g.D.Device.time c.args.dev.now) (c.args.partition.now, c.args.name.now)).content c.load.new.self = subst (λ (d : Disk). IsPieceOf (d (c.args.partition.now, c.args.name.now)).content c.load.new.self) same (c.in_ok-load.ensures.piece t was) in
+    let is : IsPieceOf (disk (g.D.Device.time c.args.dev.now) (c.args.partition.now, c.args.name.now)).content c.load.new.self = subst (λ (d : Disk). IsPieceOf (d (c.args.partition.now, c.args.name.now)).content c.load.new.self) same (c.in_ok-load.ensures.piece t (c.none-none.ensures _) was) in
     let covered : c.covered_len-len.result ≡ page_length g.S.Seal.seal_of c.args.page_size (disk (g.D.Device.time c.args.dev.now) (c.args.partition.now, c.args.name.now)).content c.pages.page
     = piece_covered g.S.Seal.seal_of c.args.page_size (disk (g.D.Device.time c.args.dev.now) (c.args.partition.now, c.args.name.now)).content c.load.new.self c.pages.page c.page_bytes.result.now c.covered_len-len.result (c.in_ok-load.ensures.page_size ∙ c.pages.invariant.page_size) is c.in_ok-load.ensures.holds c.page_bytes.ensures c.covered_len-len.ensures.covers in
     let size : c.from-in-pages.result ≡ c.args.page_size = c.from-in-pages.ensures in
@@ -50,7 +50,7 @@ pages-preserved g c =
     let below : page_at c.args.page_size c.pages.page ≤ c.args.end = page_below c.args.page_size c.args.end c.pages.page (omega (arith, c.pages-test.true, count)) in
     let same : g.D.Device.Tells → disk (g.D.Device.time c.pages.dev) ≡ disk (g.D.Device.time c.args.dev.now) = λ t. unchanged_now (g.D.Device.time c.args.dev.now) (g.D.Device.time c.pages.dev) (c.pages.invariant.unchanged t) in
     let was : (t : g.D.Device.Tells) → IsPieceOf (disk (g.D.Device.time c.pages.dev) (c.args.partition.now, c.args.name.now)).content c.pages.piece = λ t. subst (λ (d : Disk). IsPieceOf (d (c.args.partition.now, c.args.name.now)).content c.pages.piece) (sym (same t)) (c.pages.invariant.piece_of t) in
-    let is : (t : g.D.Device.Tells) → IsPieceOf (disk (g.D.Device.time c.args.dev.now) (c.args.partition.now, c.args.name.now)).content c.load.new.self = λ t. subst (λ (d : Disk). IsPieceOf (d (c.args.partition.now, c.args.name.now)).content c.load.new.self) (same t) (c.in_ok-load.ensures.piece t (was t)) in
+    let is : (t : g.D.Device.Tells) → IsPieceOf (disk (g.D.Device.time c.args.dev.now) (c.args.partition.now, c.args.name.now)).content c.load.new.self = λ t. subst (λ (d : Disk). IsPieceOf (d (c.args.partition.now, c.args.name.now)).content c.load.new.self) (same t) (c.in_ok-load.ensures.piece t (c.none-none.ensures _) (was t)) in
     record {
       from = omega (arith, c.pages.invariant.from);
       upto = λ lt. omega (arith, c.pages-test.true);

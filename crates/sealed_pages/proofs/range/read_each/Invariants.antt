@@ -1,6 +1,7 @@
 use Rattle.std.proofs.Common.{◌≡◌, ◌≤◌, ◌<◌, ◌+◌, ◌-◌, ◌*◌, ◌/◌, ℕ, length, get_or}
 use Rattle.blob_device.specs.Timeline.{disk}
 use Rattle.sealed_pages.specs.Entries.{ReadsAtMost}
+use Rattle.sealed_pages.specs.Held.{AreHeldOf}
 use Rattle.sealed_pages.specs.Reading.{Unchanged}
 use Rattle.sealed_pages.specs.Reads.{IsWanted, needed}
 use Rattle.sealed_pages.specs.SealedPrefix.{place}
@@ -21,8 +22,8 @@ invariant-pages g l = record {
   reads : ReadsAtMost (l.page - l.offset / l.page_size) (l.partition, l.name) (g.D.Device.opened l.initial.dev) (g.D.Device.opened l.dev);
   faults : g.D.Device.faults l.initial.dev ≤ g.D.Device.faults l.dev;
   unchanged : g.D.Device.Tells → Unchanged (g.D.Device.time l.initial.dev) (g.D.Device.time l.dev);
-  bytes : g.D.Device.Tells → (i : ℕ) → i < l.at → get_or l.out i 0 ≡ view (disk (g.D.Device.time l.initial.dev) (l.partition, l.name)).content (place l.page_size (l.offset + i));
-  covered : g.D.Device.Tells → (k : ℕ) → k < l.page → IsWanted l.page_size l.offset (length l.out) k → needed l.page_size l.offset (length l.out) k ≤ page_length g.S.Seal.seal_of l.page_size (disk (g.D.Device.time l.initial.dev) (l.partition, l.name)).content k;
+  bytes : g.D.Device.Tells → AreHeldOf (disk (g.D.Device.time l.initial.dev) (l.partition, l.name)).content l.held → (i : ℕ) → i < l.at → get_or l.out i 0 ≡ view (disk (g.D.Device.time l.initial.dev) (l.partition, l.name)).content (place l.page_size (l.offset + i));
+  covered : g.D.Device.Tells → AreHeldOf (disk (g.D.Device.time l.initial.dev) (l.partition, l.name)).content l.held → (k : ℕ) → k < l.page → IsWanted l.page_size l.offset (length l.out) k → needed l.page_size l.offset (length l.out) k ≤ page_length g.S.Seal.seal_of l.page_size (disk (g.D.Device.time l.initial.dev) (l.partition, l.name)).content k;
 }
 
 abbrev pub decreases-pages : goal.decreases-pages

@@ -12,4 +12,4 @@ returns-clause-bytes g c t =
     let long : length c.read_pages.new.out ≡ length c.args.buf.now = search rules in
     let same : disk (g.D.Device.time c.adopted_len.new.dev) ≡ disk (g.D.Device.time c.args.dev.now) = unchanged_now (g.D.Device.time c.args.dev.now) (g.D.Device.time c.adopted_len.new.dev) (c.in_ok-size.ensures.unchanged t) in
     read_data c.args.page_size c.args.offset (length c.args.buf.now) (view (disk (g.D.Device.time c.args.dev.now) (c.args.partition.now, c.args.name.now)).content) c.read_pages.new.out long
-    (λ i lt. c.in_ok-read_pages.ensures.bytes t i (omega (arith, lt, long)) ∙ ap (λ (d : Disk). view (d (c.args.partition.now, c.args.name.now)).content (place c.args.page_size (c.args.offset + i))) same)
+    (λ i lt. c.in_ok-read_pages.ensures.bytes t (c.none-none.ensures _) i (omega (arith, lt, long)) ∙ ap (λ (d : Disk). view (d (c.args.partition.now, c.args.name.now)).content (place c.args.page_size (c.args.offset + i))) same)

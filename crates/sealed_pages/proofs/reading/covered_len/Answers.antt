@@ -1,7 +1,7 @@
-use Rattle.std.proofs.Common.{inl, inr, true, false, ◌≡◌, ◌≤◌, length, arith}
+use Rattle.std.proofs.Common.{inl, inr, true, false, arith}
 use Rattle.std.proofs.lemmas.Bool.{cases_lt}
 use Rattle.sealed_pages.specs.Slots.{slot_length}
-use Rattle.sealed_pages.proofs.Looking.{page_length_is, page_zero}
+use Rattle.sealed_pages.proofs.Looking.{page_length_is}
 use Rattle.sealed_pages.proofs.SlotLemmas.{slot_length-le, slot_stands}
 use Rattle.sealed_pages.proofs.reading.covered_len.Goals as goal
 

@@ -1,5 +1,5 @@
-use Rattle.sealed_pages.proofs.EntryLemmas.{reads_once, reads_start}
-use Rattle.sealed_pages.proofs.Looking.{unchanged_on, unchanged_start}
+use Rattle.sealed_pages.proofs.EntryLemmas.{reads_once}
+use Rattle.sealed_pages.proofs.Looking.{unchanged_on}
 use Rattle.sealed_pages.proofs.reading.read_span.Goals as goal
 
 pub returns-in_err-read_at-clause-unchanged : goal.returns-in_err-read_at-clause-unchanged

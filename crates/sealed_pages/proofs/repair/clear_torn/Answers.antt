@@ -1,4 +1,4 @@
-use Rattle.std.proofs.Common.{◌+◌, ◌≤◌, max, refl, arith, ◌∙◌, ◌≡◌, Bool, cond, ap, sym, List, ℕ}
+use Rattle.std.proofs.Common.{◌+◌, ◌≤◌, max, refl, arith, ◌∙◌, ◌≡◌, Bool, cond, ap, sym}
 use Rattle.sealed_pages.proofs.PageCalls.{passes_as, no_ok, alone_start, alone_on}
 use Rattle.sealed_pages.proofs.EntryLemmas.{open_some, no_reads_part, no_reads_updated, open_written}
 use Rattle.sealed_pages.proofs.Keeping.{kept_start, clear_any, clear_ok, clear_data}

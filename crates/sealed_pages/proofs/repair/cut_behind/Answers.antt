@@ -1,4 +1,4 @@
-use Rattle.std.proofs.Common.{◌≤◌, arith, ◌∙◌, ◌≡◌, Bool, cond, ap, sym, List, ℕ}
+use Rattle.std.proofs.Common.{◌≤◌, arith, ◌∙◌, ◌≡◌, Bool, cond, ap, sym}
 use Rattle.sealed_pages.proofs.PageCalls.{no_ok, alone_start, alone_on}
 use Rattle.sealed_pages.proofs.EntryLemmas.{open_some, no_reads_resize, no_reads_updated, open_resized}
 use Rattle.sealed_pages.proofs.Keeping.{kept_start, behind_any, behind_ok, resize_as, cut_data}

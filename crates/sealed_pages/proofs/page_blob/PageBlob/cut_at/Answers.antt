@@ -34,7 +34,7 @@ returns-clause-done g c t rest long inside =
     let far : c.args.page * c.args.self.page_size ≡ c.args.page * c.args.self.page_size + length c.new-tip.result.items = omega (arith, none) in
     let size : length (take (c.args.page * c.args.self.page_size) (sealed_prefix g.S.Seal.seal_of c.args.self.page_size (disk (g.D.Device.time c.args.dev.now) (key_of (shown c.args.self))).content)) ≡ c.args.page * c.args.self.page_size
     = omega (arith, length-take (c.args.page * c.args.self.page_size) (sealed_prefix g.S.Seal.seal_of c.args.self.page_size (disk (g.D.Device.time c.args.dev.now) (key_of (shown c.args.self))).content), inside) in
-    holds_cut g.S.Seal.seal_of (shown c.args.self) (shown c.ending_with.result) all (disk (g.D.Device.time c.cut_pages.new.dev) (key_of (shown c.args.self))) c.args.page c.page_place-end.result c.new-tip.result.items false c.ending_with.ensures
+    holds_cut g.S.Seal.seal_of (shown c.args.self) (shown c.ending_with.result) all (disk (g.D.Device.time c.cut_pages.new.dev) (key_of (shown c.args.self))) c.args.page c.page_place-end.result c.new-tip.result.items false c.ending_with.ensures.same
     (subst (λ (n : ℕ). Ready g.S.Seal.seal_of c.args.self.page_size all n n false (disk (g.D.Device.time c.cut_pages.new.dev) (key_of (shown c.args.self)))) far ready)
     (stands_none all c.new-tip.result.items (c.args.page * c.args.self.page_size) none (omega (arith, size))) (size ∙ far)
 
@@ -45,7 +45,7 @@ returns-clause-bytes g c t all same size =
     let settles = key_as (λ (k : Key). disk (g.D.Device.time c.cut_pages.new.dev) k ≡ settled_at (resized (disk (g.D.Device.time c.args.dev.now) k).content (page_at c.args.self.page_size c.args.page))) _ (string_bytes c.args.self.partition) _ c.args.self.name.items c.as_str.ensures.value c.as_slice.ensures.value (c.in_ok-cut_pages.ensures.settles t) in
     let far : c.args.page * c.args.self.page_size ≡ c.args.page * c.args.self.page_size + length c.new-tip.result.items = omega (arith, none) in
     let left = subst (λ (b : Blob). Data c.args.self.page_size all (c.args.page * c.args.self.page_size) (view b.content)) (sym settles) (resized_data c.args.self.page_size all (c.args.page * c.args.self.page_size) (disk (g.D.Device.time c.args.dev.now) (key_of (shown c.args.self))).content c.args.page (omega arith) same) in
-    cut_bytes (shown c.args.self) (shown c.ending_with.result) all (disk (g.D.Device.time c.cut_pages.new.dev) (key_of (shown c.args.self))).content c.args.page c.page_place-end.result c.new-tip.result.items false pos c.ending_with.ensures
+    cut_bytes (shown c.args.self) (shown c.ending_with.result) all (disk (g.D.Device.time c.cut_pages.new.dev) (key_of (shown c.args.self))).content c.args.page c.page_place-end.result c.new-tip.result.items false pos c.ending_with.ensures.same
     (subst (λ (n : ℕ). Data c.args.self.page_size all n (view (disk (g.D.Device.time c.cut_pages.new.dev) (key_of (shown c.args.self))).content)) far left)
     (stands_none all c.new-tip.result.items (c.args.page * c.args.self.page_size) none (omega (arith, size))) (size ∙ far)
 
@@ -56,7 +56,7 @@ returns-clause-backed g c t all same size =
     let settles = key_as (λ (k : Key). disk (g.D.Device.time c.cut_pages.new.dev) k ≡ settled_at (resized (disk (g.D.Device.time c.args.dev.now) k).content (page_at c.args.self.page_size c.args.page))) _ (string_bytes c.args.self.partition) _ c.args.self.name.items c.as_str.ensures.value c.as_slice.ensures.value (c.in_ok-cut_pages.ensures.settles t) in
     let far : c.args.page * c.args.self.page_size ≡ c.args.page * c.args.self.page_size + length c.new-tip.result.items = omega (arith, none) in
     let left = subst (λ (b : Blob). Data c.args.self.page_size all (c.args.page * c.args.self.page_size) (view b.content)) (sym settles) (resized_data c.args.self.page_size all (c.args.page * c.args.self.page_size) (disk (g.D.Device.time c.args.dev.now) (key_of (shown c.args.self))).content c.args.page (omega arith) same) in
-    cut_backed (shown c.args.self) (shown c.ending_with.result) all (disk (g.D.Device.time c.cut_pages.new.dev) (key_of (shown c.args.self))).content c.args.page c.page_place-end.result c.new-tip.result.items false pos c.ending_with.ensures
+    cut_backed (shown c.args.self) (shown c.ending_with.result) all (disk (g.D.Device.time c.cut_pages.new.dev) (key_of (shown c.args.self))).content c.args.page c.page_place-end.result c.new-tip.result.items false pos c.ending_with.ensures.same
     (subst (λ (n : ℕ). Data c.args.self.page_size all n (view (disk (g.D.Device.time c.cut_pages.new.dev) (key_of (shown c.args.self))).content)) far left)
     (stands_none all c.new-tip.result.items (c.args.page * c.args.self.page_size) none (omega (arith, size))) (size ∙ far)
 

@@ -102,7 +102,7 @@ returns-clause-done g c t rest inside =
     let ready = within_ready g.S.Seal.seal_of c.args.self.page_size pos (disk (g.D.Device.time c.args.dev.now) (key_of (shown c.args.self))).content c.args.page c.in_ok-head.head.second c.in_ok-head.head.bytes.items g.met.S.Seal.fits small some short own covers page_is within (disk (g.D.Device.time c.cut_inside.new.dev) (key_of (shown c.args.self))) settles in
     let stands = within_stands g.S.Seal.seal_of c.args.self.page_size pos (disk (g.D.Device.time c.args.dev.now) (key_of (shown c.args.self))).content c.args.page c.in_ok-head.head.second c.in_ok-head.head.bytes.items g.met.S.Seal.fits small some short own covers page_is within in
     let all : List ℕ = take (c.args.page * c.args.self.page_size + length c.in_ok-head.head.bytes.items) (sealed_prefix g.S.Seal.seal_of c.args.self.page_size (disk (g.D.Device.time c.args.dev.now) (key_of (shown c.args.self))).content) in
-    let holds = holds_cut g.S.Seal.seal_of (shown c.args.self) (shown c.ending_with.result) all (disk (g.D.Device.time c.cut_inside.new.dev) (key_of (shown c.args.self))) c.args.page c.in_ok-end.end c.in_ok-head.head.bytes.items (not c.in_ok-head.head.second) c.ending_with.ensures ready stands
+    let holds = holds_cut g.S.Seal.seal_of (shown c.args.self) (shown c.ending_with.result) all (disk (g.D.Device.time c.cut_inside.new.dev) (key_of (shown c.args.self))) c.args.page c.in_ok-end.end c.in_ok-head.head.bytes.items (not c.in_ok-head.head.second) c.ending_with.ensures.same ready stands
     (omega (arith, length-take (c.args.page * c.args.self.page_size + length c.in_ok-head.head.bytes.items) (sealed_prefix g.S.Seal.seal_of c.args.self.page_size (disk (g.D.Device.time c.args.dev.now) (key_of (shown c.args.self))).content), within)) in
     subst (λ (n : ℕ). Holds g.S.Seal.seal_of (shown c.ending_with.result) (take (c.args.page * c.args.self.page_size + n) (sealed_prefix g.S.Seal.seal_of c.args.self.page_size (disk (g.D.Device.time c.args.dev.now) (key_of (shown c.args.self))).content)) (disk (g.D.Device.time c.cut_inside.new.dev) (key_of (shown c.args.self)))) long holds
 
@@ -120,7 +120,7 @@ returns-clause-bytes g c t all same size =
     let left = subst (λ (b : Blob). Data c.args.self.page_size all (c.args.page * c.args.self.page_size + c.args.keep) (view b.content)) (sym settles)
     (page_cut_data g.S.Seal.seal_of c.args.self.page_size all (c.args.page * c.args.self.page_size + c.args.keep) (disk (g.D.Device.time c.args.dev.now) (key_of (shown c.args.self))).content c.args.page c.in_ok-head.head.second c.in_ok-head.head.bytes.items (omega (arith, c.requires.short, times_next c.args.page c.args.self.page_size)) same) in
     let stands = head_stands c.args.self.page_size all (disk (g.D.Device.time c.args.dev.now) (key_of (shown c.args.self))).content c.args.page c.args.keep c.in_ok-head.head.bytes.items (omega (arith, c.requires.short)) is_part long size same in
-    cut_bytes (shown c.args.self) (shown c.ending_with.result) all (disk (g.D.Device.time c.cut_inside.new.dev) (key_of (shown c.args.self))).content c.args.page c.in_ok-end.end c.in_ok-head.head.bytes.items (not c.in_ok-head.head.second) pos c.ending_with.ensures
+    cut_bytes (shown c.args.self) (shown c.ending_with.result) all (disk (g.D.Device.time c.cut_inside.new.dev) (key_of (shown c.args.self))).content c.args.page c.in_ok-end.end c.in_ok-head.head.bytes.items (not c.in_ok-head.head.second) pos c.ending_with.ensures.same
     (subst (λ (n : ℕ). Data c.args.self.page_size all (c.args.page * c.args.self.page_size + n) (view (disk (g.D.Device.time c.cut_inside.new.dev) (key_of (shown c.args.self))).content)) (sym long) left) stands (omega (arith, size, long))
 
 pub returns-clause-alone : goal.returns-clause-alone
@@ -147,7 +147,7 @@ returns-clause-backed g c t all same size =
     let left = subst (λ (b : Blob). Data c.args.self.page_size all (c.args.page * c.args.self.page_size + c.args.keep) (view b.content)) (sym settles)
     (page_cut_data g.S.Seal.seal_of c.args.self.page_size all (c.args.page * c.args.self.page_size + c.args.keep) (disk (g.D.Device.time c.args.dev.now) (key_of (shown c.args.self))).content c.args.page c.in_ok-head.head.second c.in_ok-head.head.bytes.items (omega (arith, c.requires.short, times_next c.args.page c.args.self.page_size)) same) in
     let stands = head_stands c.args.self.page_size all (disk (g.D.Device.time c.args.dev.now) (key_of (shown c.args.self))).content c.args.page c.args.keep c.in_ok-head.head.bytes.items (omega (arith, c.requires.short)) is_part long size same in
-    cut_backed (shown c.args.self) (shown c.ending_with.result) all (disk (g.D.Device.time c.cut_inside.new.dev) (key_of (shown c.args.self))).content c.args.page c.in_ok-end.end c.in_ok-head.head.bytes.items (not c.in_ok-head.head.second) pos c.ending_with.ensures
+    cut_backed (shown c.args.self) (shown c.ending_with.result) all (disk (g.D.Device.time c.cut_inside.new.dev) (key_of (shown c.args.self))).content c.args.page c.in_ok-end.end c.in_ok-head.head.bytes.items (not c.in_ok-head.head.second) pos c.ending_with.ensures.same
     (subst (λ (n : ℕ). Data c.args.self.page_size all (c.args.page * c.args.self.page_size + n) (view (disk (g.D.Device.time c.cut_inside.new.dev) (key_of (shown c.args.self))).content)) (sym long) left) stands (omega (arith, size, long))
 
 pub returns-in_err-head-clause-front : goal.returns-in_err-head-clause-front

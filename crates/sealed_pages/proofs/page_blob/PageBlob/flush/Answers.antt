@@ -1,4 +1,4 @@
-use Rattle.std.proofs.Common.{◌≡◌, ◌*◌, ap, sym, subst, ◌+◌, ◌≤◌, ◌<◌, ◌∙◌, ℕ, length, arith, false, List}
+use Rattle.std.proofs.Common.{◌≡◌, ◌*◌, ap, sym, subst, ◌≤◌, ◌<◌, ◌∙◌, ℕ, length, arith, List}
 use Rattle.std.specs.Prelude.{IfOk, OnOk}
 use Rattle.blob_device.specs.Disk.{Key}
 use Rattle.blob_device.specs.Timeline.{disk}
@@ -14,12 +14,14 @@ use Rattle.sealed_pages.proofs.Syncing.{flush_told, flushed_backed}
 use Rattle.sealed_pages.proofs.EntryLemmas.{no_reads_then}
 use Rattle.sealed_pages.proofs.PageCalls.{no_ok, alone_then}
 use Rattle.sealed_pages.proofs.UnrecoveredLemmas.{stood_keeps, spared_keeps, spared_stays, first_later}
-use Rattle.sealed_pages.specs.Unrecovered.{SparesFront, IsUnrecovered}
+use Rattle.sealed_pages.specs.Unrecovered.{SparesFront}
 use Rattle.sealed_pages.proofs.Fronts.{front_then, front_start}
 use Rattle.sealed_pages.proofs.Truncating.{both_ok}
 use Rattle.blob_device.proofs.Results.{if_ok_with}
 use Rattle.sealed_pages.proofs.Clearing.{clears_then}
 use Rattle.sealed_pages.specs.Leftover.{SettlesNothing}
+use Rattle.sealed_pages.specs.Held.{AreHeldOf}
+use Rattle.sealed_pages.proofs.Truncating.{map_ok}
 use Rattle.sealed_pages.proofs.page_blob.PageBlob.flush.Goals as goal
 
 pub returns-then-self-len-clause-told : goal.returns-then-self-len-clause-told
@@ -99,3 +101,6 @@ returns-clause-unrecovered g c t un =
 pub returns-clause-clears : goal.returns-clause-clears
 returns-clause-clears g c t rest left = clears_then g.S.Seal.seal_of c.args.self.page_size c.args.self.first c.args.self.from c.args.self.newest (key_of (shown c.args.self)) (g.D.Device.time c.args.dev.now) (g.D.Device.time c.repaired.new.dev) (g.D.Device.time c.written.new.dev) (c.in_ok-this.ensures.clears t rest) (c.in_ok-this.ensures.cleared t rest left)
     (subst (λ (x : Buffer). SettlesNothing (key_of x) (g.D.Device.time c.repaired.new.dev) (g.D.Device.time c.written.new.dev)) c.in_ok-this.ensures.same (c.written.ensures.stays t))
+
+pub returns-clause-held : goal.returns-clause-held
+returns-clause-held g c t was = map_ok c.written.result (λ v. (l : List ℕ) → AreHeldOf l v.held) (λ v. AreHeldOf (disk (g.D.Device.time c.written.new.dev) (key_of (shown c.args.self))).content v.held) (λ v held. held _) c.written.ensures.held

@@ -48,11 +48,23 @@ returns-in_err-replay-clause-alone g c t backed =
     let b0 = disk (g.D.Device.time c.args.dev.now) (key_of (shown c.args.self)) in
     (c.in_ok-this.ensures.wrote t (bytes_of u b0.content) backed (tip_stands u b0.content)).alone
 
+pub returns-in_err-try_clone-clause-alone : goal.returns-in_err-try_clone-clause-alone
+returns-in_err-try_clone-clause-alone g c t backed =
+    let u : Buffer = shown c.args.self in
+    let b0 = disk (g.D.Device.time c.args.dev.now) (key_of (shown c.args.self)) in
+    (c.in_ok-this.ensures.wrote t (bytes_of u b0.content) backed (tip_stands u b0.content)).alone
+
 pub returns-clause-alone : goal.returns-clause-alone
 returns-clause-alone g c t backed =
     let u : Buffer = shown c.args.self in
     let b0 = disk (g.D.Device.time c.args.dev.now) (key_of (shown c.args.self)) in
     (c.in_ok-this.ensures.wrote t (bytes_of u b0.content) backed (tip_stands u b0.content)).alone
+
+pub returns-in_err-replay-clause-crashes : goal.returns-in_err-replay-clause-crashes
+returns-in_err-replay-clause-crashes g c t sealed =
+    let u : Buffer = shown c.args.self in
+    let b0 = disk (g.D.Device.time c.args.dev.now) (key_of (shown c.args.self)) in
+    c.in_ok-this.ensures.told t (bytes_of u b0.content) sealed
 
 pub returns-clause-crashes : goal.returns-clause-crashes
 returns-clause-crashes g c t sealed =
@@ -65,3 +77,6 @@ returns-clause-whole g c t sealed =
     let b0 = disk (g.D.Device.time c.args.dev.now) (key_of (shown c.args.self)) in
     subst (λ (x : ℕ). IsCovered g.S.Seal.seal_of x (disk (g.D.Device.time c.flush.new.dev) (key_of (shown c.args.self))).content 0 (size_of (shown c.args.self))) c.in_ok-this.ensures.page_size
     (whole_covered g.S.Seal.seal_of (shown c.in_ok-this.this) (bytes_of (shown c.args.self) b0.content) _ (c.in_ok-this.ensures.done t (bytes_of (shown c.args.self) b0.content) sealed) (size_of (shown c.args.self)) (omega (arith, c.in_ok-this.ensures.flushed, c.in_ok-this.ensures.size)))
+
+pub returns-clause-replays : goal.returns-clause-replays
+returns-clause-replays g c content held = c.in_ok-replay.ensures.replays content (c.in_ok-try_clone.ensures content held)

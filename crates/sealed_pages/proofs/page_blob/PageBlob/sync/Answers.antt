@@ -3,6 +3,7 @@ use Rattle.blob_device.specs.Disk.{Key, Blob}
 use Rattle.blob_device.specs.Timeline.{disk}
 use Rattle.sealed_pages.specs.Buffer.{Buffer, key_of, size_of, flushed_of, bytes_of, IsBacked}
 use Rattle.sealed_pages.specs.ChanceSeal.{Leaves, Sealing}
+use Rattle.sealed_pages.specs.Held.{AreHeldOf}
 use Rattle.sealed_pages.specs.Shown.{shown}
 use Rattle.sealed_pages.specs.Entries.{IsOpenAt}
 use Rattle.sealed_pages.proofs.EntryLemmas.{open_same}
@@ -264,3 +265,11 @@ returns-clause-clears g c t rest left =
     let p : c.as_str.result.now ≡ string_bytes c.args.self.partition = c.as_str.ensures.value ∙ ap (λ (k : Key). k.0) c.in_ok-this.ensures.key in
     let n : c.as_slice.result.now ≡ c.args.self.name.items = c.as_slice.ensures.value ∙ ap (λ (k : Key). k.1) c.in_ok-this.ensures.key in
     clears_settle g.S.Seal.seal_of c.args.self.page_size c.args.self.first c.args.self.from c.args.self.newest (key_of (shown c.args.self)) (g.D.Device.time c.args.dev.now) (g.D.Device.time c.flush.new.dev) (g.D.Device.time c.sync.new.self) (Ok tt) (c.in_ok-this.ensures.clears t rest left) (settle_as (Ok tt) _ _ _ _ (g.D.Device.time c.flush.new.dev) (g.D.Device.time c.sync.new.self) p n (c.in_ok-sync.ensures.told t))
+
+pub returns-clause-held : goal.returns-clause-held
+returns-clause-held g c t was =
+    let p : c.as_str.result.now ≡ string_bytes c.args.self.partition = c.as_str.ensures.value ∙ ap (λ (k : Key). k.0) c.in_ok-this.ensures.key in
+    let n : c.as_slice.result.now ≡ c.args.self.name.items = c.as_slice.ensures.value ∙ ap (λ (k : Key). k.1) c.in_ok-this.ensures.key in
+    let passes-ok = settle_as (Ok tt) _ _ _ _ (g.D.Device.time c.flush.new.dev) (g.D.Device.time c.sync.new.self) p n (c.in_ok-sync.ensures.told t) in
+    let same = ok_blob (key_of (shown c.args.self)) Settle tt (g.D.Device.time c.flush.new.dev) (g.D.Device.time c.sync.new.self) passes-ok in
+    subst (λ (b : Blob). AreHeldOf b.content c.in_ok-this.this.held) (sym same) (c.in_ok-this.ensures.held t was)

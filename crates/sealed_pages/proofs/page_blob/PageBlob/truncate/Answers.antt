@@ -1,4 +1,4 @@
-use Rattle.std.proofs.Common.{◌≡◌, ◌+◌, ◌*◌, ◌/◌, ◌%◌, ◌≤◌, ◌<◌, ◌∙◌, min, ap, sym, subst, ℕ, List, [], false, length, take, refl, arith, length-take, inl, inr}
+use Rattle.std.proofs.Common.{◌≡◌, ◌+◌, ◌*◌, ◌/◌, ◌%◌, ◌≤◌, ◌<◌, ◌∙◌, min, ap, sym, subst, ℕ, List, [], false, length, take, arith, length-take, inl, inr}
 use Rattle.std.specs.Prelude.{IfOk, OnOk}
 use Rattle.std.proofs.lemmas.List.{take_all}
 use Rattle.blob_device.specs.Disk.{Key, Disk, Blob}
@@ -9,12 +9,13 @@ use Rattle.sealed_pages.specs.Cutting.{Settles, IsAtRest, FewReads}
 use Rattle.sealed_pages.specs.Flushing.{Alone, Data}
 use Rattle.sealed_pages.specs.SealedPrefix.{sealed_prefix, adopted_size}
 use Rattle.sealed_pages.specs.Slots.{page_length}
+use Rattle.sealed_pages.specs.Held.{AreHeldOf}
 use Rattle.sealed_pages.specs.Shown.{shown}
 use Rattle.sealed_pages.specs.View.{page_at, view}
 use Rattle.sealed_pages.proofs.CutCalls.{sealing_less}
 use Rattle.sealed_pages.proofs.Holding.{holds_start, holds_data, holds_sealed, holds_bytes, bytes_length}
 use Rattle.sealed_pages.proofs.PageCalls.{alone_start, alone_then}
-use Rattle.sealed_pages.proofs.Truncating.{as_of, all_flushed, after_sync, page_stands, cut_place, sync_then, map_ok, both_ok, data_taken, rest_stood, settles_of, leaves_of, prefix_covers, page_named, not_named, rose_since}
+use Rattle.sealed_pages.proofs.Truncating.{as_of, all_flushed, after_sync, page_stands, cut_place, sync_then, map_ok, both_ok, data_taken, settles_of, leaves_of, prefix_covers, page_named, not_named, rose_since}
 use Rattle.sealed_pages.proofs.UnrecoveredLemmas.{prefix_short, stood_keeps, keeps_sealing, keeps_now, keeps_then, keeps_cut, prefix_stands, cut_keeps, cut_stays, front_covers}
 use Rattle.sealed_pages.specs.Unrecovered.{SparesFront, KeepsPrefix}
 use Rattle.blob_device.proofs.Results.{if_ok_with, on_ok_two, on_ok, ok_with}
@@ -581,3 +582,9 @@ returns-clause-covered_below g c t less below whole =
     = front_covers g.S.Seal.seal_of c.args.self.page_size c.args.self.first (disk (g.D.Device.time c.args.dev.now) (key_of (shown c.args.self))) (disk (g.D.Device.time c.sync.new.dev) (key_of (shown c.args.self))) (c.args.len / c.args.self.page_size) (front_now (page_at c.args.self.page_size c.args.self.first) (key_of (shown c.args.self)) (g.D.Device.time c.args.dev.now) (g.D.Device.time c.sync.new.dev) (c.in_ok-this.ensures.front t)) below whole in
     let covered = as_of (λ (k : Key) (n : ℕ). OnOk c.cut_within.result ((c.args.len % c.from-page_size.result) ≤ page_length g.S.Seal.seal_of n (disk (g.D.Device.time c.sync.new.dev) k).content (c.args.len / c.from-page_size.result))) c.in_ok-this.ensures.key page (c.cut_within.ensures.covered t) in
     on_ok c.cut_within.result (λ le. omega (arith, le, rest, as_before, ap (page_length g.S.Seal.seal_of c.args.self.page_size (disk (g.D.Device.time c.sync.new.dev) (key_of (shown c.args.self))).content) own)) covered
+
+pub returns-then-keep-eq0-clause-held : goal.returns-then-keep-eq0-clause-held
+returns-then-keep-eq0-clause-held g c t was = map_ok c.cut_at.result (λ v. (l : List ℕ) → AreHeldOf l v.held) (λ v. AreHeldOf (disk (g.D.Device.time c.cut_at.new.dev) (key_of (shown c.args.self))).content v.held) (λ v held. held _) c.cut_at.ensures.held
+
+pub returns-clause-held : goal.returns-clause-held
+returns-clause-held g c t was = map_ok c.cut_within.result (λ v. (l : List ℕ) → AreHeldOf l v.held) (λ v. AreHeldOf (disk (g.D.Device.time c.cut_within.new.dev) (key_of (shown c.args.self))).content v.held) (λ v held. held _) c.cut_within.ensures.held

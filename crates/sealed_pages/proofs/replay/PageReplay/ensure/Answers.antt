@@ -1,5 +1,4 @@
-use Rattle.std.proofs.Common.{◌≡◌, ◌<◌, ◌+◌, ◌-◌, ◌∙◌, inl, inr, Err, ℕ, List, refl, length, ap, sym, subst, arith}
-use Rattle.std.specs.Result.{IsErrOf}
+use Rattle.std.proofs.Common.{◌≡◌, ◌<◌, ◌+◌, ◌-◌, ◌∙◌, inl, inr, ℕ, List, refl, length, ap, sym, subst, arith}
 use Rattle.std.proofs.lemmas.Result.{err_from_is_err_and}
 use Rattle.blob_device.specs.Disk.{Key}
 use Rattle.blob_device.specs.Timeline.{disk}
@@ -7,11 +6,9 @@ use Rattle.sealed_pages.specs.Entries.{ReadsAtMost}
 use Rattle.sealed_pages.specs.Readers.{Reader, ReadsUnread, reading, next_of, missing_of, IsReplayOf, SameReader}
 use Rattle.sealed_pages.specs.Reads.{IsWanted, IsShort}
 use Rattle.sealed_pages.proofs.Looking.{unchanged_start, unchanged_now, unchanged_then}
+use Rattle.sealed_pages.proofs.ReadLemmas.{same_error}
 use Rattle.sealed_pages.proofs.ReplayLemmas.{page_reads_next, page_reads_last, page_reads_start, unread_then, wanted_all, short_all}
 use Rattle.sealed_pages.proofs.replay.PageReplay.ensure.Goals as goal
-
-same_error : {T U E : Type 0} {a b : E} → IsErrOf {T = T} {E = E} (Err a) b → IsErrOf {T = U} {E = E} (Err a) b
-same_error is = cc
 
 pub fill-preserved : goal.fill-preserved
 fill-preserved g c =

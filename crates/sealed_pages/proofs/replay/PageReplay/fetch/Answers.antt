@@ -4,6 +4,7 @@ use Rattle.std.proofs.Math.Nat.{div-mul-le_self}
 use Rattle.blob_device.specs.Disk.{Key}
 use Rattle.blob_device.specs.Timeline.{disk}
 use Rattle.blob_device.specs.Opened.{OpenedList, reads_of}
+use Rattle.sealed_pages.specs.Held.{AreHeldOf}
 use Rattle.sealed_pages.specs.Pieces.{IsPieceOf, HasPage}
 use Rattle.sealed_pages.specs.Readers.{reading, next_of}
 use Rattle.sealed_pages.specs.Reading.{page_of}
@@ -30,7 +31,8 @@ returns-in_err-load-clause-replays g c t is =
     record {
       bytes = is.bytes;
       covered = is.covered;
-      piece = subst (λ (k : Key). IsPieceOf (disk (g.D.Device.time c.args.dev.now) k).content c.args.self.now.piece → IsPieceOf (disk (g.D.Device.time c.args.dev.now) k).content c.load.new.self) key (c.load.ensures.piece t) is.piece;
+      piece = subst (λ (k : Key). AreHeldOf (disk (g.D.Device.time c.args.dev.now) k).content c.args.self.now.pages → IsPieceOf (disk (g.D.Device.time c.args.dev.now) k).content c.args.self.now.piece → IsPieceOf (disk (g.D.Device.time c.args.dev.now) k).content c.load.new.self) key (c.load.ensures.piece t) is.pages is.piece;
+      pages = is.pages;
     }
 
 pub returns-then-covered-need-clause-replays : goal.returns-then-covered-need-clause-replays
@@ -39,13 +41,14 @@ returns-then-covered-need-clause-replays g c t is =
     record {
       bytes = is.bytes;
       covered = is.covered;
-      piece = subst (λ (k : Key). IsPieceOf (disk (g.D.Device.time c.args.dev.now) k).content c.args.self.now.piece → IsPieceOf (disk (g.D.Device.time c.args.dev.now) k).content c.load.new.self) key (c.load.ensures.piece t) is.piece;
+      piece = subst (λ (k : Key). AreHeldOf (disk (g.D.Device.time c.args.dev.now) k).content c.args.self.now.pages → IsPieceOf (disk (g.D.Device.time c.args.dev.now) k).content c.args.self.now.piece → IsPieceOf (disk (g.D.Device.time c.args.dev.now) k).content c.load.new.self) key (c.load.ensures.piece t) is.pages is.piece;
+      pages = is.pages;
     }
 
 pub returns-then-covered-need-clause-short : goal.returns-then-covered-need-clause-short
 returns-then-covered-need-clause-short g c t is p e =
     let key : (c.as_str-partition.result.now, c.as_slice-name.result.now) ≡ (string_bytes c.args.self.now.partition, c.args.self.now.name.items) = λ j. (c.as_str-partition.ensures.value j, c.as_slice-name.ensures.value j) in
-    let piece = subst (λ (k : Key). IsPieceOf (disk (g.D.Device.time c.args.dev.now) k).content c.args.self.now.piece → IsPieceOf (disk (g.D.Device.time c.args.dev.now) k).content c.load.new.self) key (c.load.ensures.piece t) is.piece in
+    let piece = subst (λ (k : Key). AreHeldOf (disk (g.D.Device.time c.args.dev.now) k).content c.args.self.now.pages → IsPieceOf (disk (g.D.Device.time c.args.dev.now) k).content c.args.self.now.piece → IsPieceOf (disk (g.D.Device.time c.args.dev.now) k).content c.load.new.self) key (c.load.ensures.piece t) is.pages is.piece in
     let covered : c.covered_len-covered.result ≡ page_length g.S.Seal.seal_of c.args.self.now.page_size (disk (g.D.Device.time c.args.dev.now) (string_bytes c.args.self.now.partition, c.args.self.now.name.items)).content ((c.args.self.now.at + c.remaining.result) / c.from-data.result)
     = piece_covered g.S.Seal.seal_of c.args.self.now.page_size (disk (g.D.Device.time c.args.dev.now) (string_bytes c.args.self.now.partition, c.args.self.now.name.items)).content c.load.new.self ((c.args.self.now.at + c.remaining.result) / c.from-data.result) c.page_bytes-found.result.now c.covered_len-covered.result (c.in_ok-load.ensures.page_size ∙ c.args.self.now.same_pages) piece c.in_ok-load.ensures.holds c.page_bytes-found.ensures c.covered_len-covered.ensures.covers in
     let page : (c.args.self.now.at + c.remaining.result) / c.from-data.result ≡ p = cc e in
@@ -86,18 +89,19 @@ invariant_of-self-2 g c =
 pub returns-in_err-extend_from_slice-clause-replays : goal.returns-in_err-extend_from_slice-clause-replays
 returns-in_err-extend_from_slice-clause-replays g c t is =
     let key : (c.as_str-partition.result.now, c.as_slice-name.result.now) ≡ (string_bytes c.args.self.now.partition, c.args.self.now.name.items) = λ j. (c.as_str-partition.ensures.value j, c.as_slice-name.ensures.value j) in
-    let piece = subst (λ (k : Key). IsPieceOf (disk (g.D.Device.time c.args.dev.now) k).content c.args.self.now.piece → IsPieceOf (disk (g.D.Device.time c.args.dev.now) k).content c.load.new.self) key (c.load.ensures.piece t) is.piece in
+    let piece = subst (λ (k : Key). AreHeldOf (disk (g.D.Device.time c.args.dev.now) k).content c.args.self.now.pages → IsPieceOf (disk (g.D.Device.time c.args.dev.now) k).content c.args.self.now.piece → IsPieceOf (disk (g.D.Device.time c.args.dev.now) k).content c.load.new.self) key (c.load.ensures.piece t) is.pages is.piece in
     let same : c.extend_from_slice.new.self.items ≡ c.args.self.now.held.items = search rules in
     record {
       bytes = ap (drop c.args.self.now.used) same ∙ is.bytes ∙ ap (λ (l : List ℕ). data_from c.args.self.now.page_size (view (disk (g.D.Device.time c.args.dev.now) (string_bytes c.args.self.now.partition, c.args.self.now.name.items)).content) c.args.self.now.at (length (drop c.args.self.now.used l))) (sym same);
       covered = subst (λ (l : List ℕ). IsCovered g.S.Seal.seal_of c.args.self.now.page_size (disk (g.D.Device.time c.args.dev.now) (string_bytes c.args.self.now.partition, c.args.self.now.name.items)).content c.args.self.now.at (length (drop c.args.self.now.used l))) (sym same) is.covered;
       piece = piece;
+      pages = is.pages;
     }
 
 pub returns-clause-replays : goal.returns-clause-replays
 returns-clause-replays g c t is =
     let key : (c.as_str-partition.result.now, c.as_slice-name.result.now) ≡ (string_bytes c.args.self.now.partition, c.args.self.now.name.items) = λ j. (c.as_str-partition.ensures.value j, c.as_slice-name.ensures.value j) in
-    let piece = subst (λ (k : Key). IsPieceOf (disk (g.D.Device.time c.args.dev.now) k).content c.args.self.now.piece → IsPieceOf (disk (g.D.Device.time c.args.dev.now) k).content c.load.new.self) key (c.load.ensures.piece t) is.piece in
+    let piece = subst (λ (k : Key). AreHeldOf (disk (g.D.Device.time c.args.dev.now) k).content c.args.self.now.pages → IsPieceOf (disk (g.D.Device.time c.args.dev.now) k).content c.args.self.now.piece → IsPieceOf (disk (g.D.Device.time c.args.dev.now) k).content c.load.new.self) key (c.load.ensures.piece t) is.pages is.piece in
     let covered : c.covered_len-covered.result ≡ page_length g.S.Seal.seal_of c.args.self.now.page_size (disk (g.D.Device.time c.args.dev.now) (string_bytes c.args.self.now.partition, c.args.self.now.name.items)).content ((c.args.self.now.at + c.remaining.result) / c.from-data.result)
     = piece_covered g.S.Seal.seal_of c.args.self.now.page_size (disk (g.D.Device.time c.args.dev.now) (string_bytes c.args.self.now.partition, c.args.self.now.name.items)).content c.load.new.self ((c.args.self.now.at + c.remaining.result) / c.from-data.result) c.page_bytes-found.result.now c.covered_len-covered.result (c.in_ok-load.ensures.page_size ∙ c.args.self.now.same_pages) piece c.in_ok-load.ensures.holds c.page_bytes-found.ensures c.covered_len-covered.ensures.covers in
     let reach : c.min-upto.result ≤ length c.page_bytes-found.result.now = omega (arith, c.min-upto.ensures, c.covered_len-covered.ensures.held) in
@@ -113,6 +117,7 @@ returns-clause-replays g c t is =
       bytes = more_bytes c.args.self.now.used (c.args.self.now.at + c.remaining.result - (c.args.self.now.at + c.remaining.result) / c.from-data.result * c.from-data.result) c.min-upto.result c.args.self.now.held.items c.extend_from_slice.new.self.items c.page_bytes-found.result.now c.args.self.now.taken reach more g.S.Seal.seal_of c.args.self.now.page_size c.args.self.now.at (c.args.self.now.at + c.remaining.result) ((c.args.self.now.at + c.remaining.result) / c.from-data.result) (disk (g.D.Device.time c.args.dev.now) (string_bytes c.args.self.now.partition, c.args.self.now.name.items)).content next place (omega (arith, some)) fits page is.bytes;
       covered = more_covered c.args.self.now.used (c.args.self.now.at + c.remaining.result - (c.args.self.now.at + c.remaining.result) / c.from-data.result * c.from-data.result) c.min-upto.result c.args.self.now.held.items c.extend_from_slice.new.self.items c.page_bytes-found.result.now c.args.self.now.taken reach more g.S.Seal.seal_of c.args.self.now.page_size c.args.self.now.at (c.args.self.now.at + c.remaining.result) ((c.args.self.now.at + c.remaining.result) / c.from-data.result) (disk (g.D.Device.time c.args.dev.now) (string_bytes c.args.self.now.partition, c.args.self.now.name.items)).content next place (omega (arith, some)) fits page (omega (arith, c.min-upto.ensures, covered)) is.covered;
       piece = piece;
+      pages = is.pages;
     }
 
 pub returns-clause-reaches : goal.returns-clause-reaches
