@@ -15,6 +15,7 @@ use Rattle.sealed_pages.specs.Buffer.{Buffer, extent, size_of, bytes_of, IsSeale
 use Rattle.sealed_pages.specs.ChanceSeal.{Sealing}
 use Rattle.sealed_pages.specs.declared.page_blob.PageBlob.{PageBlob}
 use Rattle.sealed_pages.specs.Entries.{IsOpenAt}
+use Rattle.sealed_pages.specs.Held.{AreHeldOf}
 use Rattle.sealed_pages.specs.SealedPrefix.{sealed_prefix, adopted_size}
 use Rattle.sealed_pages.specs.Unrecovered.{HasPrefix, KeepsPrefix, IsAdopted, IsUnrecovered}
 use Rattle.sealed_pages.specs.Shown.{shown}
@@ -235,6 +236,7 @@ module _ {F S : Type 0} {gs : _} (seal : List ℕ → ℕ) (size : ℕ) (told : 
       pub is_open : IsOpenAt new (key_of j.sections s) (g.extent v)
       pub entries : OnlyOwnEntry (key_of j.sections s) mid new
       pub adopted : told → IsAdopted seal (shown v) (disk c (key_of j.sections s))
+      pub holds : told → AreHeldOf (disk c (key_of j.sections s)).content v.held
       pub sealed : told → IsSealed seal (shown u) (disk b (key_of j.sections s)) → IsSealed seal (shown v) (disk c (key_of j.sections s))
       pub long : size_of (shown v) ≡ size_of (shown u) + size
       pub settled : v.settled ≡ u.settled
@@ -260,7 +262,7 @@ module _ {F S : Type 0} {gs : _} (seal : List ℕ → ℕ) (size : ℕ) (told : 
           (λ t. subst (λ (q : Key). g.Stands v (disk c q)) (sym here) (pages.is_stands v (disk c (key_of j.sections s)) (record {
             adopted = appends.adopted t;
             rest = λ all. absurd (omega (arith, all, appends.long, appends.settled, pos, u.order, u.fit.within));
-          })))
+          }) (appends.holds t)))
 
       fine_here : IsFine seal size told k (disk c) s
       fine_here = record {

@@ -11,6 +11,7 @@ use Rattle.sealed_pages.specs.Shown.{shown}
 use Rattle.sealed_pages.specs.Buffer.{key_of, size_of, flushed_of, IsBacked, IsSealed}
 use Rattle.sealed_pages.specs.Cutting.{IsAtRest}
 use Rattle.sealed_pages.specs.Entries.{IsOpenAt}
+use Rattle.sealed_pages.specs.Held.{AreHeldOf}
 use Rattle.sealed_pages.specs.Readers.{Reader}
 use Rattle.sealed_pages.specs.Flushing.{Alone}
 use Rattle.sealed_pages.specs.Unrecovered.{IsUnrecovered}
@@ -88,6 +89,11 @@ module _ {S : Type 0} {gs : _} (bu u : PageBlob S gs) (is : bu ≡ u) (K : Key) 
 -- the blob of a buffer is opened at the section's key
 pub open_at : {S : Type 0} {gs : _} (v : PageBlob S gs) (K : Key) (o : OpenedList) → key_of (shown v) ≡ K → IsOpenAt o (key_of (shown v)) v.end → IsOpenAt o K v.end
 open_at v K o key is = subst (λ (k : Key). IsOpenAt o k v.end) key is
+
+-- the pages that a call left held are as in the section's blob
+pub held_on : {S : Type 0} {gs : _} (bu v : PageBlob S gs) (K : Key) (a0 b : Timeline) → key_of (shown bu) ≡ K → (AreHeldOf (disk a0 (key_of (shown bu))).content bu.held → AreHeldOf (disk b (key_of (shown bu))).content v.held)
+    → AreHeldOf (disk a0 K).content bu.held → AreHeldOf (disk b K).content v.held
+held_on bu v K a0 b key call = subst (λ (k : Key). AreHeldOf (disk a0 k).content bu.held → AreHeldOf (disk b k).content v.held) key call
 
 -- a buffer that was cut stands over the blob
 pub cut_stands : {S : Type 0} {gs : _} (seal : List ℕ → ℕ) {told : Type 0} (bu v : PageBlob S gs) (K : Key) (a0 b : Timeline) (key : key_of (shown bu) ≡ K) (n : ℕ) (t : told) → Stands seal (shown bu) (disk a0 K) → bu.settled ≡ size_of (shown bu)

@@ -1,5 +1,5 @@
 -- What a check of markers shows before a fixed journal is opened, and what an opening above them makes of it.
-use Rattle.std.specs.Prelude.{OnErr, MatchOption, is_some, ◌≡◌, ◌≢◌, ◌⊎◌, ◌↔◌, ℕ, ◌+◌, ◌-◌, ◌*◌, ◌%◌, ◌^◌, ◌<◌, ◌≤◌, cond, Bool, true, false, List, [], ◌∷◌, ◌++◌, length, IsTrue, Option, Some, None, IsSome, IsSomeAnd, Result, Err}
+use Rattle.std.specs.Prelude.{OnErr, MatchOption, ◌≡◌, ◌≢◌, ◌⊎◌, ◌↔◌, ℕ, ◌+◌, ◌-◌, ◌*◌, ◌%◌, ◌^◌, ◌<◌, ◌≤◌, cond, Bool, true, false, List, [], ◌∷◌, ◌++◌, length, IsTrue, Option, Some, None, IsSome, IsSomeAnd, Result, Err}
 use Rattle.std.specs.List.{Contains, filter}
 use Rattle.std.specs.Map.{lookup}
 use Rattle.std.specs.Result.{IsErrOf}
@@ -7,132 +7,65 @@ use Rattle.std.specs.BTreeMap as tree
 use Rattle.std.specs.Option.{unwrap_or}
 use Rattle.std.specs.Ordering.{nat_cmp}
 use Rattle.std.proofs.Common.{inl, inr, refl, sym, ◌∙◌, ap, subst, arith}
-use Rattle.std.proofs.lemmas.Bool.{cases_eq, cond-true, cond-false}
+use Rattle.std.proofs.lemmas.Bool.{cases_eq, cases_lt, cond-true, cond-false}
 use Rattle.std.proofs.lemmas.Map.Entries.{lookup-filter-keys}
 use Rattle.std.proofs.Math.Nat.{mul-mod_left}
 use Rattle.std.proofs.lemmas.List.Elements.{Contains-append_left, Contains-push, Contains-push_cases}
-use Rattle.blob_device.specs.Disk.{Key, Blob, Disk, settled_at}
-use Rattle.blob_device.specs.declared.error.DevError.{DevError}
+use Rattle.blob_device.specs.Disk.{Key, Blob, Disk}
 use Rattle.blob_device.specs.declared.runtime.RError.{RError}
 use Rattle.blob_device.specs.declared.runtime.RError.TheVariants.{Fault, InvalidChecksum, BlobInsufficientLength, OffsetOverflow}
 use Rattle.blob_device.specs.declared.runtime.RError.TheVariants as runtime
-use Rattle.blob_device.specs.Change.{Make}
 use Rattle.blob_device.specs.Counts.{Rose}
 use Rattle.blob_device.specs.Opened.{Opened, OpenedList}
-use Rattle.blob_device.specs.Timeline.{Timeline, disk, Passes, Always, OnlyAt, Each}
-use Rattle.blob_device.proofs.Moments.{always_then, always_weaker, always_now, only_start}
+use Rattle.blob_device.specs.Timeline.{Timeline, disk, Always, Each}
+use Rattle.blob_device.proofs.Moments.{always_then, always_weaker, always_now}
 use Rattle.sealed_pages.specs.declared.pages.Pages.{Pages}
 use Rattle.blob_device.proofs.Results.{on_err}
 use Rattle.value_codec.specs.declared.codec.Error as codec
 use Rattle.sealed_pages.specs.declared.page_blob.PageBlob.{PageBlob}
 use Rattle.sealed_pages.specs.Reads.{IsCovered, IsShort, PassesSize}
-use Rattle.sealed_pages.specs.Reopening.{OnlySettles}
+use Rattle.sealed_pages.specs.Reading.{Unchanged}
 use Rattle.sealed_pages.specs.SealedPrefix.{sealed_prefix, adopted_size, data_from}
 use Rattle.sealed_pages.specs.Shown.{shown}
 use Rattle.sealed_pages.specs.View.{view}
 use Rattle.sealed_pages.proofs.Adopt.{length-data_from}
-use Rattle.sealed_pages.specs.Buffer.{size_of}
+use Rattle.sealed_pages.specs.Buffer.{size_of, bytes_of}
 use Rattle.sealed_pages.specs.Entries.{IsOpenAt}
 use Rattle.sealed_pages.proofs.Holding.{bytes_length}
-use Rattle.sealed_pages.proofs.Reopen.{open_settles}
-use Rattle.sealed_pages.proofs.Truncating.{rose_since}
+use Rattle.sealed_pages.proofs.Looking.{unchanged_now}
 use Rattle.sealed_pages.proofs.Reaching.{prefix_size}
 use Rattle.sealed_pages.proofs.SlotLemmas.{times_next}
 use Rattle.segments.specs.declared.buffer.SectionBuffer as buffer
 use Rattle.segments.specs.declared.journal.Damage.{Damage}
 use Rattle.segments.specs.declared.journal.Error.{Error}
-use Rattle.segments.specs.declared.journal.Error.TheVariants.{InvalidBlobName, Corruption}
+use Rattle.segments.specs.declared.journal.Error.TheVariants.{InvalidBlobName, Corruption, Codec}
+use Rattle.segments.specs.declared.unopened.Unopened.TheVariants.{Section, Leftover}
 use Rattle.segments.specs.Entries.{OnlyOwnEntry}
-use Rattle.segments.specs.FixedFloors.{Floors, IsBoundary, Keeps, KeepsBoundary, IsUnsealed, IsRefused, size_at}
-use Rattle.segments.specs.FixedLists.{floor_in, section_size, size_held}
-use Rattle.segments.specs.Lasting.{IsOpening, IsSettling}
-use Rattle.segments.specs.Raised.{raised}
-use Rattle.segments.specs.Refusing.{HasFailed, HasNoRoom, IsOpenedTooLong}
-use Rattle.segments.specs.Sections.{Sections, section_key, IsHeld}
+use Rattle.segments.specs.FixedFloors.{Floors, AreAdopted, IsBoundary, Keeps, KeepsBoundary, IsUnsealed, IsRefused}
+use Rattle.segments.specs.FixedLists.{floor_in, bytes_held, size_held, section_bytes, section_size}
+use Rattle.segments.specs.Lasting.{IsSettling}
+use Rattle.segments.specs.Refusing.{HasFailed, HasNoRoom}
+use Rattle.segments.specs.Sealed.{adopted_bytes}
+use Rattle.segments.specs.SealedLaws.{all_settled}
+use Rattle.segments.specs.Sections.{Sections, section_key, key_of, IsHeld, StandsOver, IsOver}
 use Rattle.segments.specs.Setting.{Setting}
 use Rattle.segments.proofs.CutLemmas.{same_number}
 use Rattle.segments.proofs.FixedKept.{short_length}
-use Rattle.segments.proofs.FixedOpenLemmas.{opened_cause}
 use Rattle.segments.proofs.FixedWriteLemmas.{ArePages}
-use Rattle.segments.proofs.InitLemmas.{settling_was, settling_there, settling_content, settling_then}
-use Rattle.segments.proofs.WalkLemmas.{some_same, value_of, has_value}
+use Rattle.segments.proofs.InitLemmas.{settling_was, settling_there, settling_content}
+use Rattle.segments.proofs.KeyLemmas.{keys_differ}
+use Rattle.segments.proofs.WalkLemmas.{some_same, value_of, has_value, none_or_value}
 
--- ---- a blob that only settles
-module _ (k : Key) where
-  pub settles_start : (t : Timeline) → OnlySettles k t t
-  settles_start t = only_start t k (λ b. (b ≡ disk t k) ⊎ (b ≡ settled_at (disk t k).content)) (inl refl)
-
-  module _ (a b : Timeline) (first : OnlySettles k a b) where
-    settles_now : (disk b k ≡ disk a k) ⊎ (disk b k ≡ settled_at (disk a k).content)
-    settles_now = (always_now a b (OnlyAt k (disk a) (λ x. (x ≡ disk a k) ⊎ (x ≡ settled_at (disk a k).content))) first).here
-
-    pub settles_content : (disk b k).content ≡ (disk a k).content
-    settles_content = elim settles_now [
-      | inl is ↦ ap (λ (x : Blob). x.content) is
-      | inr is ↦ ap (λ (x : Blob). x.content) is
-    ]
-
-    pub settles_there : IsTrue (disk a k).there → IsTrue (disk b k).there
-    settles_there there = elim settles_now [
-      | inl is ↦ ap (λ (x : Blob). x.there) is ∙ there
-      | inr is ↦ ap (λ (x : Blob). x.there) is
-    ]
-
-    pub settles_on : (c : Timeline) → OnlySettles k b c → OnlySettles k a c
-    settles_on c second =
-        let Q : Disk → Type 0 = OnlyAt k (disk a) (λ x. (x ≡ disk a k) ⊎ (x ≡ settled_at (disk a k).content)) in
-        let now = always_now a b Q first in
-        always_then a b c Q first (always_weaker b c (OnlyAt k (disk b) (λ x. (x ≡ disk b k) ⊎ (x ≡ settled_at (disk b k).content))) Q (λ d only. record {
-          here = elim only.here [
-            | inl is ↦ subst (λ (x : Blob). (x ≡ disk a k) ⊎ (x ≡ settled_at (disk a k).content)) (sym is) now.here
-            | inr is ↦ inr (is ∙ ap settled_at settles_content)
-          ];
-          others = λ q other. only.others q other ∙ now.others q other;
-        }) second)
-
-pub own_then : (k : Key) (a b c : OpenedList) → OnlyOwnEntry k a b → OnlyOwnEntry k b c → OnlyOwnEntry k a c
-own_then k a b c first second q other = second q other ∙ first q other
-
--- ---- the blob at k is opened, by a call that names it p
-module _ (k p : Key) (is : p ≡ k) (a b : Timeline) (r : Result ℕ DevError) (passes : Passes p Make r a b) (there : IsTrue (disk a k).there) where
-  pub open_settling : OnlySettles k a b
-  open_settling = subst (λ (x : Key). OnlySettles x a b) is (open_settles p r a b passes (ap (λ (x : Key). (disk a x).there) is ∙ there))
-
-  -- and then by a call that names it q
-  module _ (q : Key) (same : q ≡ k) where
-    pub opened_content : (disk b q).content ≡ (disk a k).content
-    opened_content = ap (λ (x : Key). (disk b x).content) same ∙ settles_content k a b open_settling
-
-    pub then_settling : (c : Timeline) → OnlySettles q b c → OnlySettles k a c
-    then_settling c second = settles_on k a b open_settling c (subst (λ (x : Key). OnlySettles x b c) same second)
-
-pub too_long : (opened : OpenedList) (k : Key) (n room : ℕ) → IsOpenAt opened k n → 2 ^ 64 ≤ n + room → IsOpenedTooLong (λ m. 2 ^ 64 ≤ m + room) opened k
-too_long opened k n room is long = go (opened k) is
-  where
-    go : (o : Option Opened) → IsSomeAnd o (λ x. x.len ≡ n) → IsSomeAnd o (λ x. 2 ^ 64 ≤ x.len + room)
-    go None is = absurd is
-    go (Some x) is = omega (arith, is, long)
-
--- a read that ends below the greatest u64, after a call during which no fault was taken back
-pub read_cause : {T : Type 0} (r : Result T RError) (W : ℕ → Type 0) (first before now : ℕ) → first ≤ before → (r ≡ Err OffsetOverflow → ⊥)
+-- a read that ends below the greatest u64
+pub read_cause : {T : Type 0} (r : Result T RError) (W : ℕ → Type 0) (before now : ℕ) → (r ≡ Err OffsetOverflow → ⊥)
     → OnErr r ((r ≡ Err OffsetOverflow) ⊎ ((r ≡ Err BlobInsufficientLength) ⊎ (((k : ℕ) × (r ≡ Err (InvalidChecksum k)) × W k) ⊎ ((r ≡ Err runtime.Mem) ⊎ ((r ≡ Err Fault) × Rose before now)))))
-    → OnErr r ((r ≡ Err BlobInsufficientLength) ⊎ (((k : ℕ) × (r ≡ Err (InvalidChecksum k))) ⊎ ((r ≡ Err runtime.Mem) ⊎ ((r ≡ Err Fault) × Rose first now))))
-read_cause r W first before now le fits = on_err r (λ (c : (r ≡ Err OffsetOverflow) ⊎ ((r ≡ Err BlobInsufficientLength) ⊎ (((k : ℕ) × (r ≡ Err (InvalidChecksum k)) × W k) ⊎ ((r ≡ Err runtime.Mem) ⊎ ((r ≡ Err Fault) × Rose before now))))). elim c [
+    → OnErr r ((r ≡ Err BlobInsufficientLength) ⊎ (((k : ℕ) × (r ≡ Err (InvalidChecksum k))) ⊎ ((r ≡ Err runtime.Mem) ⊎ ((r ≡ Err Fault) × Rose before now))))
+read_cause r W before now fits = on_err r (λ (c : (r ≡ Err OffsetOverflow) ⊎ ((r ≡ Err BlobInsufficientLength) ⊎ (((k : ℕ) × (r ≡ Err (InvalidChecksum k)) × W k) ⊎ ((r ≡ Err runtime.Mem) ⊎ ((r ≡ Err Fault) × Rose before now))))). elim c [
   | inl over ↦ absurd (fits over)
   | inr (inl short) ↦ inl short
   | inr (inr (inl page)) ↦ inr (inl (page.0, page.1))
-  | inr (inr (inr (inl mem))) ↦ inr (inr (inl mem))
-  | inr (inr (inr (inr fault))) ↦ inr (inr (inr (fault.0, rose_since first before now le fault.1)))
+  | inr (inr (inr other)) ↦ inr (inr other)
 ])
-
-pub both_false : (a b : Bool) → IsTrue a ↔ IsTrue b → a ≡ false → b ≡ false
-both_false a true both is = absurd (cc (both.1 refl, is))
-both_false a false both is = refl
-
--- an error of a buffer is no damage
-pub raised_other : (e : RError) (y : Error) → y ≡ raised e → (x : Damage) → y ≡ Corruption x → ⊥
-raised_other runtime.Mem y is x at = cc (is, at)
-raised_other e y is x at = cc (is, at)
 
 -- the last of n items ends where all do
 pub whole_end : (n size : ℕ) → 0 < n → (n - 1) * size + size ≡ n * size
@@ -194,28 +127,101 @@ module _ (partition : List ℕ) (ceiling : ℕ) (from : Timeline) where
     pub was_there : IsTrue (disk now (section_key partition s)).there → IsTrue (disk from (section_key partition s)).there
     was_there = settling_was partition ceiling (disk from) (section_key partition s) (disk now (section_key partition s)) settling_now
 
-    -- a marker more, whether it is refused or not
-    pub settling_more : (is_there : Bool) (next : Timeline) → s ≤ ceiling → (IsTrue is_there ↔ IsTrue (disk from (section_key partition s)).there) → (is_there ≡ false → next ≡ now)
-        → OnlySettles (section_key partition s) now next → Always from next (Each (IsSettling partition ceiling (disk from)))
-    settling_more false next le there idle settles = subst (λ (t : Timeline). Always from t (Each (IsSettling partition ceiling (disk from)))) (sym (idle refl)) moments
-    settling_more true next le there idle settles =
-        let k : Key = section_key partition s in
-        settling_then partition ceiling s from now next le (there.0 refl) moments (always_weaker now next
-        (OnlyAt k (disk now) (λ x. (x ≡ disk now k) ⊎ (x ≡ settled_at (disk now k).content))) (OnlyAt k (disk now) (IsOpening (disk now k))) (λ d only. record {
-          here = elim only.here [
-            | inl is ↦ inl is
-            | inr is ↦ inr (inr (is ∙ sym (ap (λ (t : Bool). settled_at (cond t (disk now k).content [])) (there_now (there.0 refl)))))
-          ];
-          others = only.others;
-        }) settles)
-
--- what the checks did to the device
-pub record Settled (told : Type 0) (partition : List ℕ) (ceiling : ℕ) (marks : ℕ → Option ℕ) (from now : Timeline) (first opened : OpenedList) : Type 0 where
+-- what the opening and the checks did to the device
+pub record Settled (told : Type 0) (partition : List ℕ) (ceiling : ℕ) (from now : Timeline) (first opened : OpenedList) : Type 0 where
   pub moments : told → Always from now (Each (IsSettling partition ceiling (disk from)))
-  pub entries : (q : Key) → ((s : ℕ) → IsSome (marks s) → q ≢ section_key partition s) → opened q ≡ first q
+  pub entries : (q : Key) → ((s : ℕ) → s ≤ ceiling → q ≢ section_key partition s) → opened q ≡ first q
+
+-- a read of the section s more
+pub settled_read : (told : Type 0) (partition : List ℕ) (ceiling : ℕ) (from now next : Timeline) (first before after : OpenedList) (s : ℕ) → s ≤ ceiling → (told → Unchanged now next) → OnlyOwnEntry (section_key partition s) before after
+    → Settled told partition ceiling from now first before → Settled told partition ceiling from next first after
+settled_read told partition ceiling from now next first before after s le same own settled = record {
+  moments = λ t. (let R : Disk → Type 0 = Each (IsSettling partition ceiling (disk from)) in
+      always_then from now next R (settled.moments t) (always_weaker now next (λ d. d ≡ disk now) R (λ d is. subst R (sym is) (always_now from now R (settled.moments t))) (same t)));
+  entries = λ q none. own q (none s le) ∙ settled.entries q none;
+}
+
+-- ---- the sections of an opening up to a ceiling
+module _ {F S : Type 0} {gs : _} (g : buffer.Ghosts (PageBlob S gs)) (gives : F → Setting) (told : Type 0) (partition : List ℕ) (ceiling : ℕ) (from : Timeline) where
+  -- what the opening made of them, and the checks keep
+  pub record AreOpened (m : Sections F (PageBlob S gs)) (now : Timeline) (opened : OpenedList) : Type 0 where
+    pub over : IsOver g gives told m opened (disk now)
+    pub held : told → (s : ℕ) → s < 2 ^ 64 → IsHeld m s ↔ (IsTrue (disk from (section_key partition s)).there × (s ≤ ceiling))
+    pub unopened : told → (s : ℕ) → s < 2 ^ 64 → (m.unopened s ≡ Some Section) ↔ (IsTrue (disk from (section_key partition s)).there × (ceiling < s))
+    pub no_leftover : (s : ℕ) → m.unopened s ≢ Some Leftover
+    pub later : (s : ℕ) → IsSome (m.unopened s) → ceiling < s
+    pub bytes : told → (s : ℕ) → IsHeld m s → section_bytes m (disk now) s ≡ g.holds (gives m.factory) (disk from (section_key partition s)).content
+    pub idle : (s : ℕ) (u : PageBlob S gs) → m.held s ≡ Some u → g.unsettled u ≡ false
+    pub floor : m.floor ≡ 0
+    pub place : m.partition ≡ partition
+
+  -- they are alike after a read
+  pub opened_read : (m n : Sections F (PageBlob S gs)) (now next : Timeline) (before after : OpenedList) → n ≡ m → (told → Unchanged now next) → IsOver g gives told m after (disk next) → AreOpened m now before → AreOpened n next after
+  opened_read m n now next before after is same over opened = subst (λ (x : Sections F (PageBlob S gs)). AreOpened x next after) (sym is) (record {
+    over = over;
+    held = opened.held;
+    unopened = opened.unopened;
+    no_leftover = opened.no_leftover;
+    later = opened.later;
+    bytes = λ t s held. subst (λ (d : Disk). section_bytes m d s ≡ g.holds (gives m.factory) (disk from (section_key partition s)).content) (sym (unchanged_now now next (same t))) (opened.bytes t s held);
+    idle = opened.idle;
+    floor = opened.floor;
+    place = opened.place;
+  })
+
+  module _ (m : Sections F (PageBlob S gs)) (now : Timeline) (before : OpenedList) (opened : AreOpened m now before) (moments : told → Always from now (Each (IsSettling partition ceiling (disk from)))) (t : told) where
+    own_key : (s : ℕ) → key_of m s ≡ section_key partition s
+    own_key s = ap (λ (p : List ℕ). section_key p s) opened.place
+
+    -- each is held where its blob is there, as it is now
+    pub held_now : (s : ℕ) → s < 2 ^ 64 → IsHeld m s ↔ (IsTrue (disk now (key_of m s)).there × (s ≤ ceiling))
+    held_now s small = (
+      λ held. (let had = (opened.held t s small).0 held in (ap (λ (k : Key). (disk now k).there) (own_key s) ∙ there_now partition ceiling from now (moments t) s had.0, had.1)),
+      λ there. (opened.held t s small).1 (was_there partition ceiling from now (moments t) s (ap (λ (k : Key). (disk now k).there) (sym (own_key s)) ∙ there.0), there.1),
+    )
+
+    -- by a buffer as adopting makes it
+    pub adopted_now : (seal : List ℕ → ℕ) → ArePages g seal → AreAdopted seal m (disk now)
+    adopted_now seal are s u held =
+        let blob = disk now (key_of m s) in
+        let is_held : IsHeld m s = subst IsSome (sym held) refl in
+        let had : section_bytes m (disk now) s ≡ bytes_of (shown u) (disk now (key_of m s)).content = ap (λ (o : Option (PageBlob S gs)). bytes_held o (disk now (key_of m s)).content) held in
+        let content : (disk from (section_key partition s)).content ≡ (disk now (key_of m s)).content = sym (ap (λ (k : Key). (disk now k).content) (own_key s) ∙ content_now partition ceiling from now (moments t) s) in
+        let page : (gives m.factory).page_size ≡ u.page_size = sym (ap (λ (x : Setting). x.page_size) (opened.over.opened_list.setting s u held)) ∙ are.page_size u in
+        let bytes : bytes_of (shown u) blob.content ≡ adopted_bytes seal u.page_size blob.content = sym had ∙ opened.bytes t s is_held ∙ are.holds (gives m.factory) (disk from (section_key partition s)).content
+        ∙ ap (λ (n : ℕ). adopted_bytes seal n (disk from (section_key partition s)).content) page ∙ ap (adopted_bytes seal u.page_size) content in
+        record {
+          there = ((held_now s (opened.over.opened_list.number s (inl is_held))).0 is_held).0;
+          size = sym (bytes_length (shown u) blob.content) ∙ ap length bytes ∙ length-data_from u.page_size (view blob.content) (adopted_size seal u.page_size blob.content) 0;
+          bytes = bytes;
+          settled = all_settled (shown u) (sym (are.unsettled u) ∙ opened.idle s u held);
+          held = are.held u blob ((opened.over.disk t).stands s u held);
+        }
+
+-- ---- a section's blob was read
+module _ {F B : Type 0} (g : buffer.Ghosts B) (gives : F → Setting) (told : Type 0) (m : Sections F B) (old new : OpenedList) (d e : Disk) (s : ℕ) (u : B) (held : m.held s ≡ Some u) (over : IsOver g gives told m old d) where
+  pub over_read : OnlyOwnEntry (key_of m s) old new → IsOpenAt new (key_of m s) (g.extent u) → (told → e ≡ d) → IsOver g gives told m new e
+  over_read own is_open same = record {
+    opened_list = record {
+      key = over.opened_list.key;
+      setting = over.opened_list.setting;
+      is_open = λ q v at. elim (cases_eq q s) [
+        | inl is ↦ (let same_buffer : u ≡ v = some_same u v (sym held ∙ sym (ap m.held is) ∙ at) in
+            subst (λ (x : ℕ). IsOpenAt new (key_of m x) (g.extent v)) (sym is) (subst (λ (w : B). IsOpenAt new (key_of m s) (g.extent w)) same_buffer is_open))
+        | inr other ↦ subst (λ (o : Option Opened). IsSomeAnd o (λ p. p.len ≡ g.extent v))
+            (sym (own (key_of m q) (keys_differ m.partition q s (over.opened_list.number q (inl (subst IsSome (sym at) refl))) (over.opened_list.number s (inl (subst IsSome (sym held) refl))) other)))
+            (over.opened_list.is_open q v at)
+      ];
+      to_ceiling = over.opened_list.to_ceiling;
+      apart = over.opened_list.apart;
+      from_floor = over.opened_list.from_floor;
+      number = over.opened_list.number;
+    };
+    disk = λ t. subst (StandsOver g m) (sym (same t)) (over.disk t);
+  }
 
 module _ {A : Type 0} (seal : List ℕ → ℕ) (size : ℕ) (spelling : A → List ℕ) (accepted : A → Unit {0} → Type 0) (told : Type 0)
-    (partition : List ℕ) (pages : Pages) (buffer ceiling : ℕ) (marks : ℕ → Option ℕ) (from : Timeline) where
+    (partition : List ℕ) (pages : Pages) (capacity ceiling : ℕ) (marks : ℕ → Option ℕ) (from : Timeline) where
   -- the last of n items of the section is taken in
   abbrev pub HasLast : Floors A → ℕ → ℕ → Type 0
   HasLast f s n = IsSomeAnd (f.boundary_of s) (λ o. IsSomeAnd o (IsBoundary seal pages.page_size size spelling accepted (disk from (section_key partition s)).content n))
@@ -236,10 +242,10 @@ module _ {A : Type 0} (seal : List ℕ → ℕ) (size : ℕ) (spelling : A → L
     pub boundaries : (s : ℕ) → (Contains keys s → ⊥) → f.boundary_of s ≡ None
     pub place : f.partition ≡ partition
     pub paging : f.pages ≡ pages
-    pub buffering : f.write_buffer ≡ buffer
+    pub buffering : f.write_buffer ≡ capacity
     pub bound : f.ceiling ≡ ceiling
 
-  pub checked_none : (f : Floors A) → ((s : ℕ) → f.floor_of s ≡ 0) → ((s : ℕ) → f.boundary_of s ≡ None) → f.partition ≡ partition → f.pages ≡ pages → f.write_buffer ≡ buffer → f.ceiling ≡ ceiling → Checked [] f
+  pub checked_none : (f : Floors A) → ((s : ℕ) → f.floor_of s ≡ 0) → ((s : ℕ) → f.boundary_of s ≡ None) → f.partition ≡ partition → f.pages ≡ pages → f.write_buffer ≡ capacity → f.ceiling ≡ ceiling → Checked [] f
   checked_none f floors boundaries here paged buffered most = record {
     named = λ s listed. absurd (omega (arith, listed.1));
     marked = λ s n listed. absurd (omega (arith, listed.1));
@@ -328,6 +334,34 @@ module _ {A : Type 0} (seal : List ℕ → ℕ) (size : ℕ) (spelling : A → L
     decodes = λ some. last_value f q n (mark.boundary t some);
   })
 
+  -- where all markers are taken in, each section reaches its floor
+  module _ {F S : Type 0} {gs : _} (g : buffer.Ghosts (PageBlob S gs)) (gives : F → Setting) (are : ArePages g seal) (m : Sections F (PageBlob S gs)) (now : Timeline) (list : OpenedList)
+      (opened : AreOpened g gives told partition ceiling from m now list) (moments : told → Always from now (Each (IsSettling partition ceiling (disk from)))) where
+    pub reaches : (keys : List ℕ) (f : Floors A) → Checked keys f → ((s : ℕ) → IsSome (marks s) → Contains keys s) → ((s : ℕ) → marks s ≡ None → Contains keys s → ⊥)
+        → ((s : ℕ) → IsSome (marks s) → s ≤ ceiling) → ceiling < 2 ^ 64 → (gives m.factory).page_size ≡ pages.page_size → told → (s : ℕ) → f.floor_of s ≤ section_size m s
+    reaches keys f done taken never most small page t s = elim (none_or_value (marks s)) [
+      | inl none ↦ omega (arith, done.floors s (never s none))
+      | inr n ↦
+          let some : IsSome (marks s) = subst IsSome (sym n.1) refl in
+          let mark = done.marked s n.0 (taken s some) n.1 in
+          elim (cases_lt 0 n.0) [
+            | inl more ↦
+                let last = last_value f s n.0 (mark.boundary t more) in
+                let held : IsHeld m s = (opened.held t s (omega (arith, most s some, small))).1 (mark.there t, most s some) in
+                elim (none_or_value (m.held s)) [
+                  | inl gone ↦ absurd (cc (subst IsSome gone held))
+                  | inr u ↦
+                      let adopted = adopted_now g gives told partition ceiling from m now list opened moments t seal are s u.0 u.1 in
+                      let here : section_size m s ≡ size_of (shown u.0) = ap size_held u.1 in
+                      let paged : u.0.page_size ≡ pages.page_size = sym (are.page_size u.0) ∙ ap (λ (x : Setting). x.page_size) (opened.over.opened_list.setting s u.0 u.1) ∙ page in
+                      let content : (disk now (key_of m s)).content ≡ (disk from (section_key partition s)).content = ap (λ (p : List ℕ). (disk now (section_key p s)).content) opened.place ∙ content_now partition ceiling from now (moments t) s in
+                      let size : adopted_size seal u.0.page_size (disk now (key_of m s)).content ≡ adopted_size seal pages.page_size (disk from (section_key partition s)).content = ap (λ (x : ℕ). adopted_size seal x (disk now (key_of m s)).content) paged ∙ ap (adopted_size seal pages.page_size) content in
+                      omega (arith, mark.floor, last.1.within, here, adopted.size, size)
+                ]
+            | inr none ↦ (let zero_is : n.0 ≡ 0 = omega (arith, none) in omega (arith, mark.floor, ap (λ (x : ℕ). x * size) zero_is))
+          ]
+    ]
+
   -- what a check of a marker asks and answers, by what was there at the start
   module _ (keys : List ℕ) (f : Floors A) (done : Checked keys f) (s n : ℕ) (is : marks s ≡ Some n) (now : Timeline) where
     here : section_key f.partition s ≡ section_key partition s
@@ -340,12 +374,6 @@ module _ {A : Type 0} (seal : List ℕ → ℕ) (size : ℕ) (spelling : A → L
     within most = omega (arith, done.bound, most s (subst IsSome (sym is) refl))
 
     module _ (moments : Always from now (Each (IsSettling partition ceiling (disk from)))) where
-      pub there_asked : (has : Bool) → (IsTrue has ↔ IsTrue (disk from (section_key partition s)).there) → IsTrue has ↔ IsTrue (disk now (section_key f.partition s)).there
-      there_asked has stored = (
-        λ yes. ap (λ (b : Blob). b.there) blob_here ∙ there_now partition ceiling from now moments s (stored.0 yes),
-        λ there. stored.1 (was_there partition ceiling from now moments s (ap (λ (b : Blob). b.there) (sym blob_here) ∙ there)),
-      )
-
       pub marker_refused : (x : Damage) → (x.section ≡ s) × IsRefused seal f.pages.page_size size (disk now (section_key f.partition s)) n x
           → IsSomeAnd (marks x.section) (λ m. IsRefused seal pages.page_size size (disk from (section_key partition x.section)) m x)
       marker_refused x refused =
@@ -370,14 +398,6 @@ module _ {A : Type 0} (seal : List ℕ → ℕ) (size : ℕ) (spelling : A → L
             subst (λ (c : List ℕ). IsCovered seal pages.page_size c ((n - 1) * size) size) content (subst (λ (p : Pages). IsCovered seal p.page_size (disk now (section_key f.partition s)).content ((n - 1) * size) size) done.paging found.2),
             before,
           )
-
-    pub settled_more : (first before after : OpenedList) (next : Timeline) (has : Bool) → s ≤ ceiling → (told → IsTrue has ↔ IsTrue (disk from (section_key partition s)).there) → (has ≡ false → next ≡ now)
-        → (told → OnlySettles (section_key f.partition s) now next) → OnlyOwnEntry (section_key f.partition s) before after
-        → Settled told partition ceiling marks from now first before → Settled told partition ceiling marks from next first after
-    settled_more first before after next has le there idle settles own settled = record {
-      moments = λ t. settling_more partition ceiling from now (settled.moments t) s has next le (there t) idle (subst (λ (k : Key). OnlySettles k now next) here (settles t));
-      entries = λ q none. own q (λ same. none s (subst IsSome (sym is) refl) (same ∙ here)) ∙ settled.entries q none;
-    }
 
   -- a marker whose items stand in the sealed prefix is not refused
   pub none_refused : ((s n : ℕ) → marks s ≡ Some n → Keeps seal pages.page_size size (disk from (section_key partition s)) n)
@@ -415,38 +435,16 @@ pub size_is : {S : Type 0} {gs : _} (o : Option (PageBlob S gs)) (n : ℕ) → M
 size_is None n is = is
 size_is (Some u) n is = is
 
-module _ {F S : Type 0} {gs : _} (seal : List ℕ → ℕ) (g : buffer.Ghosts (PageBlob S gs)) (are : ArePages g seal) (setting : Setting) (m : Sections F (PageBlob S gs)) (partition : List ℕ) (old new : Disk) where
-  -- how many bytes a section has that was opened
-  pub opened_size : (P ceiling s : ℕ) → setting.page_size ≡ P → ((s : ℕ) → s < 2 ^ 64 → IsHeld m s ↔ (IsTrue (old (section_key partition s)).there × (s ≤ ceiling)))
-      → ((s : ℕ) (u : PageBlob S gs) → m.held s ≡ Some u → g.bytes u (new (section_key partition s)).content ≡ g.holds setting (old (section_key partition s)).content)
-      → s ≤ ceiling → ceiling < 2 ^ 64 → section_size m s ≡ size_at seal P (old (section_key partition s))
-  opened_size P ceiling s page held bytes le small = go (m.held s) refl
-    where
-      blob : Blob
-      blob = old (section_key partition s)
-
-      opened : IsHeld m s ↔ (IsTrue blob.there × (s ≤ ceiling))
-      opened = held s (omega (arith, le, small))
-
-      not_there : (t : Bool) → blob.there ≡ t → m.held s ≡ None → blob.there ≡ false
-      not_there true is none = absurd (cc (ap is_some none, opened.1 (is, le)))
-      not_there false is none = is
-
-      go : (o : Option (PageBlob S gs)) → m.held s ≡ o → section_size m s ≡ cond blob.there (adopted_size seal P blob.content) 0
-      go None is = ap size_held is ∙ sym (ap (λ (t : Bool). cond t (adopted_size seal P blob.content) 0) (not_there blob.there refl is))
-      go (Some u) is =
-          let there : IsTrue blob.there = (opened.0 (subst IsSome (sym is) refl)).0 in
-          ap size_held is ∙ sym (bytes_length (shown u) (new (section_key partition s)).content) ∙ ap length (sym (are.bytes u (new (section_key partition s)).content) ∙ bytes s u is ∙ are.holds setting blob.content)
-          ∙ length-data_from setting.page_size (view blob.content) (adopted_size seal setting.page_size blob.content) 0
-          ∙ ap (λ (n : ℕ). adopted_size seal n blob.content) page ∙ sym (ap (λ (t : Bool). cond t (adopted_size seal P blob.content) 0) there)
-
--- what an opening refuses with is what its manager did, and no damage
-pub floored_cause : {T U : Type 0} (e : Error) (r : Result U Error) (before now : ℕ) → r ≡ Err e → ((n : List ℕ) × IsErrOf {T = T} (Err e) (InvalidBlobName n)) ⊎ (HasNoRoom {T = T} (Err e) ⊎ HasFailed {T = T} (Err e) before now)
-    → OnErr r (((n : List ℕ) × IsErrOf r (InvalidBlobName n)) ⊎ (((x : Damage) × IsErrOf r (Corruption x)) ⊎ (HasNoRoom r ⊎ HasFailed r before now)))
-floored_cause e r before now is cause = on_err r (λ (c : ((n : List ℕ) × IsErrOf r (InvalidBlobName n)) ⊎ (HasNoRoom r ⊎ HasFailed r before now)). elim c [ inl name ↦ inl name | inr other ↦ inr (inr other) ]) (opened_cause e r before now is cause)
-
+-- what an opening refuses with is no damage of a section
 pub not_damaged : {T : Type 0} (e : Error) (before now : ℕ) → ((n : List ℕ) × IsErrOf {T = T} (Err e) (InvalidBlobName n)) ⊎ (HasNoRoom {T = T} (Err e) ⊎ HasFailed {T = T} (Err e) before now) → (x : Damage) → e ≡ Corruption x → ⊥
 not_damaged e before now (inl name) x is = (let at = name.1 in absurd (cc (at, is)))
 not_damaged e before now (inr (inl room)) x is = absurd (cc (room, is))
 not_damaged e before now (inr (inr (inl memory))) x is = absurd (cc (memory, is))
 not_damaged e before now (inr (inr (inr fault))) x is = (let at = fault.0 in absurd (cc (at, is)))
+
+-- nor of an item
+pub not_coded : {T : Type 0} (e : Error) (before now : ℕ) → ((n : List ℕ) × IsErrOf {T = T} (Err e) (InvalidBlobName n)) ⊎ (HasNoRoom {T = T} (Err e) ⊎ HasFailed {T = T} (Err e) before now) → (x : codec.Error) → e ≡ Codec x → ⊥
+not_coded e before now (inl name) x is = (let at = name.1 in absurd (cc (at, is)))
+not_coded e before now (inr (inl room)) x is = absurd (cc (room, is))
+not_coded e before now (inr (inr (inl memory))) x is = absurd (cc (memory, is))
+not_coded e before now (inr (inr (inr fault))) x is = (let at = fault.0 in absurd (cc (at, is)))

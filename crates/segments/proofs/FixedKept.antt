@@ -28,7 +28,7 @@ data_front P m n k v le = read_data P m k v (take k (data_from P v m n)) (omega 
     (λ i lt. get_or-take k (data_from P v m n) i 0 lt ∙ get_or-data_from P v n m i (omega (arith, lt, le)))
 
 -- an item among data
-item_data : (P size n p : ℕ) (v : View) → p * size + size ≤ n → item_at size (data_from P v 0 n) p ≡ data_from P v (p * size) size
+pub item_data : (P size n p : ℕ) (v : View) → p * size + size ≤ n → item_at size (data_from P v 0 n) p ≡ data_from P v (p * size) size
 item_data P size n p v fits =
     let all = data_from P v 0 n in
     read_data P (p * size) size v (take size (drop (p * size) all)) (omega (arith, length-take size (drop (p * size) all), length-drop (p * size) all, length-data_from P v n 0, fits))

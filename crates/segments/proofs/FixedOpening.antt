@@ -11,6 +11,7 @@ use Rattle.sealed_pages.specs.declared.page_blob.PageBlob.{PageBlob}
 use Rattle.sealed_pages.specs.Shown.{shown}
 use Rattle.sealed_pages.specs.Buffer.{size_of, bytes_of, IsSealed}
 use Rattle.sealed_pages.specs.ChanceSeal.{Leaves, Sealing}
+use Rattle.sealed_pages.specs.Held.{AreHeldOf}
 use Rattle.sealed_pages.specs.Readers.{Reader, IsReplayOf}
 use Rattle.sealed_pages.specs.Reads.{pages_for}
 use Rattle.sealed_pages.specs.SealedPrefix.{sealed_prefix}
@@ -175,7 +176,7 @@ module _ {F S : Type 0} {gs : _} (seal : List ℕ → ℕ) (size : ℕ) (g : buf
     -- The replay stands at the section's first item, or at its start.
     module _ (v : PageBlob S gs) (held_new : new.journal.sections.held s ≡ Some v) (R : Reader) (first : ℕ) (first_is : first ≡ cond (w.journal.unrecovered s) 0 (first_of w s))
         (flush : IsFlushed seal told u (disk a (key_of w.journal.sections s)) v (disk b (key_of w.journal.sections s))) (begins : BeginsOver seal (key_of w.journal.sections s) u v R)
-        (replays : (content : List ℕ) → IsReplayOf seal content (record R { at = first * size; bytes = [] }))
+        (replays : (content : List ℕ) → AreHeldOf content v.held → IsReplayOf seal content (record R { at = first * size; bytes = [] })) (holds : (x : PageBlob S gs) (c : Blob) → g.Stands x c → AreHeldOf c.content x.held)
         (at_first : p ≡ Some (record { section = s; position = first; reader = record R { at = first * size; bytes = [] } })) (ended : new.ended ≡ w.ended) (pos : 1 ≤ size) where
       abbrev r : Place
       r = record { section = s; position = first; reader = record R { at = first * size; bytes = [] } }
@@ -220,9 +221,9 @@ module _ {F S : Type 0} {gs : _} (seal : List ℕ → ℕ) (size : ℕ) (g : buf
         begun = λ free. (let is : first ≡ first_of w s = first_is ∙ ap (λ (o : Bool). cond o 0 (first_of w s)) (sym (only.unrecovered s) ∙ free) in omega (arith, is, first_new));
       }
 
-      reads : ReadsIn seal new (disk b) r v
-      reads = record {
-        replays = replays (disk b (key_of new.journal.sections s)).content;
+      reads : told → ReadsIn seal new (disk b) r v
+      reads t = record {
+        replays = replays (disk b (key_of new.journal.sections s)).content (holds v (disk b (key_of new.journal.sections s)) ((touch.over.disk t).stands s v held_new));
         checked = λ read. (let is : first ≡ 0 = first_zero read in
             covered_none seal v.page_size (disk b (key_of new.journal.sections s)).content 0 (first * size + 0) (omega (arith, ap (λ (k : ℕ). k * size) is)));
       }
@@ -313,7 +314,7 @@ module _ {F S : Type 0} {gs : _} (seal : List ℕ → ℕ) (size : ℕ) (g : buf
         whole = whole;
         gone_over = λ t out read. absurd (out in_new);
         place = λ x is. (let at : r ≡ x = cc (place_new, is) in
-            subst (λ (y : Place). (y.section ≡ s) × StandsIn size new y v × (told → ReadsIn seal new (disk b) y v)) at (refl, stands, λ t. reads));
+            subst (λ (y : Place). (y.section ≡ s) × StandsIn size new y v × (told → ReadsIn seal new (disk b) y v)) at (refl, stands, reads));
         begun = λ there. subst (λ (k : ℕ). k ≤ s) (sym only.section) start_before;
       }
 

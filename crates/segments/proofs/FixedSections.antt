@@ -7,6 +7,7 @@ use Rattle.sealed_pages.specs.declared.page_blob.PageBlob.{PageBlob}
 use Rattle.sealed_pages.specs.Buffer.{size_of, bytes_of, IsSealed}
 use Rattle.sealed_pages.specs.Buffer as pages
 use Rattle.sealed_pages.specs.Entries.{IsOpenAt, ReadsAtMost}
+use Rattle.sealed_pages.specs.Held.{AreHeldOf}
 use Rattle.sealed_pages.specs.Reading.{OnlyRead}
 use Rattle.sealed_pages.specs.Shown.{shown}
 use Rattle.sealed_pages.proofs.WholeLemmas.{whole_read}
@@ -40,6 +41,10 @@ module _ {F S : Type 0} {gs : _} (m : Sections F (PageBlob S gs)) (s : ℕ) (u :
     -- what holds of the buffer and its blob
     pub own_here : (P : PageBlob S gs → Blob → Type 0) (d : Disk) → P u (d (pages.key_of (shown u))) → IsSomeAnd (m.held s) (λ v. P v (d (key_of m s)))
     own_here P d has = some_here (λ v. P v (d (key_of m s))) (subst (λ (q : Key). P u (d q)) key has)
+
+    -- the pages that it holds are as in its blob
+    pub holds_own : (d : Disk) → AreHeldOf (d (key_of m s)).content u.held → AreHeldOf (d (pages.key_of (shown u))).content u.held
+    holds_own d has = subst (λ (q : Key). AreHeldOf (d q).content u.held) (sym key) has
 
 module _ {F S : Type 0} {gs : _} (g : buffer.Ghosts (PageBlob S gs)) (gives : F → Setting) where
   -- reads leave each blob opened, as long as it was

@@ -12,6 +12,7 @@ pub mod SyncLemmas
 pub mod CutLemmas
 pub mod UnsealedCalls
 pub mod SealedCalls
+pub mod FixedHolding
 pub mod FixedKept
 pub mod FixedWalks
 pub mod FixedWalksOn
@@ -29,6 +30,7 @@ pub mod NumberLemmas
 pub mod InitLemmas
 pub mod FixedWriteLemmas
 pub mod FixedCutLemmas
+pub mod FixedAdopted
 pub mod FixedAppendLemmas
 pub mod FixedOpenLemmas
 pub mod FixedErrors

@@ -4,7 +4,7 @@ use Rattle.std.specs.Prelude.{IfOk, IsOkAnd, OnOk, OnErr}
 use Rattle.std.proofs.lemmas.Bool.{cases_lt}
 use Rattle.blob_device.specs.declared.runtime.RError.{RError}
 use Rattle.blob_device.specs.declared.runtime.RError.TheVariants.{Fault, InvalidChecksum, Mem}
-use Rattle.blob_device.specs.Disk.{Key}
+use Rattle.blob_device.specs.Disk.{Key, Blob}
 use Rattle.blob_device.specs.Timeline.{Timeline, disk}
 use Rattle.blob_device.proofs.Results.{if_ok_with}
 use Rattle.sealed_pages.specs.Buffer.{Buffer, size_of, bytes_of, IsBacked, IsSealed}
@@ -12,6 +12,7 @@ use Rattle.sealed_pages.specs.ChanceSeal.{NoChanceSeal, Sealing}
 use Rattle.sealed_pages.specs.ChanceSeal as chance
 use Rattle.sealed_pages.specs.Cutting.{IsAtRest}
 use Rattle.sealed_pages.specs.declared.page_blob.PageBlob.{PageBlob}
+use Rattle.sealed_pages.specs.Held.{AreHeldOf}
 use Rattle.sealed_pages.specs.SealedPrefix.{sealed_prefix, adopted_size}
 use Rattle.sealed_pages.specs.Shown.{shown}
 use Rattle.sealed_pages.specs.Unrecovered.{KeepsPrefix, IsUnrecovered, IsRecovery, IsAdopted, IsSafeCut}
@@ -20,12 +21,17 @@ use Rattle.sealed_pages.proofs.PageCalls.{only_weaker}
 use Rattle.sealed_pages.proofs.Truncating.{map_ok}
 use Rattle.sealed_pages.proofs.UnrecoveredLemmas.{keeps_sealing}
 use Rattle.segments.specs.Leaving.{Leaves, AllMoments}
-use Rattle.segments.specs.Sealed.{adopted_bytes, Stands, MayKeep}
+use Rattle.segments.specs.Sealed.{adopted_bytes, Stands, StandsHolding, MayKeep}
 use Rattle.segments.specs.SealedLaws.{sealed_keeps, unrecovered_keeps, again}
 
 ok_has : {T E : Type 0} (r : Result T E) (P : T → Type 0) → IsOkAnd r P → IfOk r P
 ok_has (Ok v) P has = has
 ok_has (Err e) P has = absurd has
+
+-- what a call answers stands over the blob, and holds pages that are as in it
+pub stands_holding : {S : Type 0} {g : _} (seal : List ℕ → ℕ) (b : Blob) (r : Result (PageBlob S g) RError) → IfOk r (λ v. Stands seal (shown v) b) → IfOk r (λ v. AreHeldOf b.content v.held) → IfOk r (λ v. StandsHolding seal v b)
+stands_holding seal b (Ok v) stands held = record { stands = stands; held = held }
+stands_holding seal b (Err e) stands held = stands
 
 module _ (seal : List ℕ → ℕ) (u : Buffer) (key : Key) (old new : Timeline) where
   module _ (least : ℕ) where

@@ -1,18 +1,26 @@
 -- What markers ask of the blobs of a fixed journal, what a check of them shows, and why one of them is refused.
-use Rattle.std.specs.Prelude.{◌≡◌, ◌⊎◌, ℕ, ◌-◌, ◌*◌, ◌/◌, ◌^◌, ◌<◌, ◌≤◌, cond, false, List, length, IsTrue, Option, string_bytes}
+use Rattle.std.specs.Prelude.{◌≡◌, ◌⊎◌, ℕ, ◌-◌, ◌*◌, ◌/◌, ◌^◌, ◌<◌, ◌≤◌, false, List, length, IsTrue, Option, Some, string_bytes}
 use Rattle.std.specs.BTreeMap as tree
 use Rattle.std.specs.Ordering.{nat_cmp}
-use Rattle.blob_device.specs.Disk.{Blob}
+use Rattle.blob_device.specs.Disk.{Blob, Disk}
+use Rattle.sealed_pages.specs.Buffer.{size_of, bytes_of}
+use Rattle.sealed_pages.specs.declared.page_blob.PageBlob.{PageBlob}
 use Rattle.sealed_pages.specs.declared.pages.Pages.{Pages}
+use Rattle.sealed_pages.specs.Held.{AreHeldOf}
+use Rattle.sealed_pages.specs.Shown as page_blob
 use Rattle.sealed_pages.specs.Reads.{IsCovered, IsShort, PassesSize}
 use Rattle.sealed_pages.specs.SealedPrefix.{sealed_prefix, adopted_size, data_from}
 use Rattle.sealed_pages.specs.View.{view}
 use Rattle.segments.specs.declared.journal.Damage.{Damage}
+use Rattle.segments.specs.declared.sealed.AppendFactory.{AppendFactory}
 use Rattle.segments.specs.declared.fixed.preflighting.Preflight.{Preflight}
 use Rattle.segments.specs.FixedItems.{IsItem}
-use Rattle.segments.specs.FixedLists.{floor_in}
+use Rattle.segments.specs.FixedLists.{Lists, floor_in}
+use Rattle.segments.specs.FixedShown as journal
+use Rattle.segments.specs.Sealed.{adopted_bytes}
+use Rattle.segments.specs.Sections.{Sections, key_of}
 
--- Where the journal is and how it is kept, and up to which section it will be opened; how many bytes of each section a marker vouches for;
+-- Where the journal is and how it is kept, and up to which section it was opened; how many bytes of each section a marker vouches for;
 -- and, of each section with a marker, the last item that it vouches for, if any.
 pub record Floors (A : Type 0) : Type 0 where
   pub partition : List ℕ
@@ -24,13 +32,31 @@ pub record Floors (A : Type 0) : Type 0 where
 
 abbrev pub shown : {A S : Type 0} {fixed codec seal : _} → Preflight A S fixed codec seal → Floors A
 shown p = record {
-  partition = string_bytes p.partition;
-  pages = p.pages;
-  write_buffer = p.write_buffer;
-  ceiling = p.ceiling;
-  floor_of = floor_in p.floors;
+  partition = string_bytes p.journal.manager.partition;
+  pages = p.journal.manager.factory.pages;
+  write_buffer = p.journal.manager.factory.write_buffer;
+  ceiling = p.journal.manager.ceiling;
+  floor_of = floor_in p.journal.floors;
   boundary_of = tree.get nat_cmp p.boundaries;
 }
+
+-- the journal that was opened
+abbrev pub journal_of : {A S : Type 0} {fixed codec seal : _} → Preflight A S fixed codec seal → Lists (AppendFactory S) (PageBlob S seal)
+journal_of p = journal.shown p.journal
+
+module _ (seal : List ℕ → ℕ) where
+  -- A buffer as adopting makes it over this blob: its bytes are the data up to the size at which the blob is adopted, all of them have
+  -- settled, and the pages that it holds are as in it.
+  pub record IsAdoptedOver {S : Type 0} {g : _} (u : PageBlob S g) (b : Blob) : Type 0 where
+    pub there : IsTrue b.there
+    pub size : size_of (page_blob.shown u) ≡ adopted_size seal u.page_size b.content
+    pub bytes : bytes_of (page_blob.shown u) b.content ≡ adopted_bytes seal u.page_size b.content
+    pub settled : u.settled ≡ size_of (page_blob.shown u)
+    pub held : AreHeldOf b.content u.held
+
+  -- each section is held by such a buffer
+  abbrev pub AreAdopted : {F S : Type 0} {g : _} → Sections F (PageBlob S g) → Disk → Type 0
+  AreAdopted {S = S} {g = g} m d = (s : ℕ) (u : PageBlob S g) → m.held s ≡ Some u → IsAdoptedOver u (d (key_of m s))
 
 module _ (seal : List ℕ → ℕ) (P size : ℕ) where
   -- v is the last of n items: matching slots cover its pages as far as it goes, and its bytes stand there
@@ -83,13 +109,3 @@ module _ (seal : List ℕ → ℕ) (P size : ℕ) where
   -- why a marker of n items is refused
   abbrev pub IsRefused : Blob → ℕ → Damage → Type 0
   IsRefused b n x = IsTooMany n x ⊎ (IsMissing b n x ⊎ IsUnsealed b n x)
-
--- with how many bytes a blob is adopted, 0 where none is there
-abbrev pub size_at : (List ℕ → ℕ) → ℕ → Blob → ℕ
-size_at seal P b = cond b.there (adopted_size seal P b.content) 0
-
--- The blob is adopted with fewer bytes than the floor.
-pub record FallsShort (seal : List ℕ → ℕ) (P : ℕ) (b : Blob) (floor : ℕ) (x : Damage) : Type 0 where
-  pub kept : x.kept ≡ size_at seal P b
-  pub wanted : x.wanted ≡ floor
-  pub less : x.kept < x.wanted

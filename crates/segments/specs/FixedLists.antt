@@ -8,10 +8,10 @@ use Rattle.blob_device.specs.Disk.{Disk}
 use Rattle.blob_device.specs.Opened.{OpenedList}
 use Rattle.sealed_pages.specs.declared.page_blob.PageBlob.{PageBlob}
 use Rattle.sealed_pages.specs.Shown.{shown}
-use Rattle.sealed_pages.specs.Buffer.{size_of, bytes_of, IsSealed}
+use Rattle.sealed_pages.specs.Buffer.{Buffer, size_of, bytes_of, IsSealed}
 use Rattle.segments.specs.declared.buffer.SectionBuffer as buffer
 use Rattle.segments.specs.Setting.{Setting}
-use Rattle.segments.specs.Sections.{Sections, key_of, IsHeld, IsOver}
+use Rattle.segments.specs.Sections.{Sections, key_of, IsHeld, IsOver, SameBounds}
 
 -- the floor that a map gives, 0 where it gives none
 abbrev pub floor_in : tree.BTreeMap ℕ ℕ → ℕ → ℕ
@@ -49,6 +49,17 @@ module _ {S : Type 0} {gs : _} where
     -- how many those are
     abbrev pub section_size : ℕ → ℕ
     section_size s = size_held (m.held s)
+
+  -- what a buffer shows, of one that is held
+  abbrev pub shown_held : Option (PageBlob S gs) → Option Buffer
+  shown_held None = None
+  shown_held (Some u) = Some (shown u)
+
+  -- The sections are the same, in buffers that show the same: they may hold other pages in memory.
+  pub record AreAlike {F : Type 0} (m n : Sections F (PageBlob S gs)) : Type 0 where
+    pub held : (s : ℕ) → shown_held (n.held s) ≡ shown_held (m.held s)
+    pub unopened : (s : ℕ) → n.unopened s ≡ m.unopened s
+    pub bounds : SameBounds m n
 
   -- A section that owes a replay is held.
   pub record OwesHeld {F : Type 0} (j : Lists F (PageBlob S gs)) : Type 0 where

@@ -25,7 +25,6 @@ use crate::journal::Error;
 use crate::unopened::Unopened;
 use crate::{BufferFactory, SectionBuffer};
 use blob_device::{Device, RError};
-pub(crate) use opening::section_numbers;
 use std::alloc::Global;
 use std::collections::BTreeMap;
 
@@ -66,6 +65,13 @@ impl<F: BufferFactory> Manager<F> {
             return Err(Error::AlreadyPrunedToSection(self.floor));
         }
         Ok(())
+    }
+
+    /// What makes the sections' buffers.
+    pub(crate) fn factory(&self) -> &F
+        ensures { result.now ≡ (shown self.now).factory }
+    {
+        &self.factory
     }
 
     /// Whether the section is below the floor, up to which sections were pruned.

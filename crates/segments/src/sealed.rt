@@ -51,7 +51,7 @@ impl<S: Seal> SectionBuffer for PageBlob<S> {
     ghost use Rattle.sealed_pages.specs.Buffer.{key_of, size_of, bytes_of, IsSealed};
     ghost use Rattle.sealed_pages.specs.ChanceSeal.{NoChanceSeal};
     ghost use Rattle.sealed_pages.specs.Unrecovered.{IsSafeCut};
-    ghost use Rattle.segments.specs.Sealed.{is_unsettled, adopted_bytes, Stands, MayKeep};
+    ghost use Rattle.segments.specs.Sealed.{is_unsettled, adopted_bytes, StandsHolding, MayKeep};
     ghost use Rattle.segments.specs.SealedLaws.{passes, looser, counted, settled_within, no_chance, all_settled, rested, found_again};
 
     ghost setting = { λ u. record { page_size = u.page_size; capacity = u.capacity } };
@@ -72,7 +72,7 @@ impl<S: Seal> SectionBuffer for PageBlob<S> {
 
     ghost StartsReads = { ⊤ };
 
-    ghost Stands = { λ u b. Stands S.seal_of (shown u) b };
+    ghost Stands = { λ u b. StandsHolding S.seal_of u b };
 
     ghost IsWhole = { λ u b. IsSealed S.seal_of (shown u) b };
 
@@ -107,7 +107,7 @@ impl<S: Seal> SectionBuffer for PageBlob<S> {
         self.truncate(dev, len)
     }
 
-    ghost passes = { λ u. passes S.seal_of (shown u) u.fit u.order };
+    ghost passes = { λ u b over. passes S.seal_of (shown u) u.fit u.order b over.stands };
 
     ghost looser = { λ u b few more contents. looser S.seal_of (shown u) b few more };
 
@@ -119,7 +119,7 @@ impl<S: Seal> SectionBuffer for PageBlob<S> {
 
     ghost all_settled = { λ u. all_settled (shown u) };
 
-    ghost rested = { λ u. rested S.seal_of (shown u) };
+    ghost rested = { λ u b over. rested S.seal_of (shown u) b over.stands };
 
     ghost found_again = { λ u b stands. found_again S.seal_of (shown u) u.fit u.order b };
 }

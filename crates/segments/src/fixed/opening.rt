@@ -1,5 +1,5 @@
 // Opening a fixed journal.
-ghost use Rattle.std.specs.Prelude.{◌≡◌, ◌≢◌, ◌↔◌, ◌⊎◌, ◌≤◌, ◌<◌, ◌+◌, ◌-◌, ◌^◌, ℕ, List, Some, None, Err, false, length, IfOk, OnOk, OnErr, IsTrue, string_bytes};
+ghost use Rattle.std.specs.Prelude.{◌≡◌, ◌≢◌, ◌↔◌, ◌⊎◌, ◌≤◌, ◌<◌, ◌+◌, ◌-◌, ◌^◌, ℕ, List, Some, None, Err, false, length, IfOk, OnOk, OnErr, IsSome, IsTrue, string_bytes};
 ghost use Rattle.std.specs.Result.{IsErrOf};
 ghost use Rattle.blob_device.specs.Disk.{Key};
 ghost use Rattle.blob_device.specs.Timeline.{disk, Always, Each};
@@ -74,11 +74,15 @@ impl<A: CodecFixed, S: Seal> Journal<A, S> {
         ensures held { D.Tells → IfOk result (λ r. (s : ℕ) → s < 2 ^ 64 → IsHeld (shown r).sections s ↔ (IsTrue (disk (D.time dev.old) (section_key (string_bytes cfg.now.partition) s)).there × (s ≤ ceiling))) }
         ensures unopened { D.Tells → IfOk result (λ r. (s : ℕ) → s < 2 ^ 64 → ((shown r).sections.unopened s ≡ Some Unopened.Section) ↔ (IsTrue (disk (D.time dev.old) (section_key (string_bytes cfg.now.partition) s)).there × (ceiling < s))) }
         ensures no_leftover { IfOk result (λ r. (s : ℕ) → (shown r).sections.unopened s ≢ Some Unopened.Leftover) }
+        // What is known and not held stands above the bound, also where the disk is not told.
+        ensures later { IfOk result (λ r. (s : ℕ) → IsSome ((shown r).sections.unopened s) → ceiling < s) }
         ensures bytes { D.Tells → IfOk result (λ r. (s : ℕ) → IsHeld (shown r).sections s
             → section_bytes (shown r).sections (disk (D.time dev.new)) s ≡ ⟦<PageBlob<S> as SectionBuffer>⟧.holds (⟦<AppendFactory<S> as BufferFactory>⟧.gives (shown r).sections.factory) (disk (D.time dev.old) (section_key (string_bytes cfg.now.partition) s)).content) }
         // A section with bytes owes a replay, and no other does.
         ensures unrecovered { IfOk result (λ r. (s : ℕ) → IsTrue ((shown r).unrecovered s) ↔ (0 < section_size (shown r).sections s)) }
         ensures floors { IfOk result (λ r. (s : ℕ) → (shown r).floor_of s ≡ 0) }
+        // Nothing is unsettled.
+        ensures idle { IfOk result (λ r. (s : ℕ) (u : _) → (shown r).sections.held s ≡ Some u → ⟦<PageBlob<S> as SectionBuffer>⟧.unsettled u ≡ false) }
         ensures partition { IfOk result (λ r. (shown r).sections.partition ≡ string_bytes cfg.now.partition) }
         ensures pages { IfOk result (λ r. (shown r).sections.factory.pages ≡ cfg.now.pages) }
         ensures write_buffer { IfOk result (λ r. (shown r).sections.factory.write_buffer ≡ cfg.now.write_buffer) }

@@ -12,12 +12,14 @@ ghost use Rattle.std.specs.BTreeSet as set;
 ghost use Rattle.blob_device.specs.Counts.{Rose};
 ghost use Rattle.blob_device.specs.Disk.{Key};
 ghost use Rattle.blob_device.specs.Timeline.{disk, Always, Each};
+ghost use Rattle.sealed_pages.specs.Buffer.{key_of};
+ghost use Rattle.sealed_pages.specs.Entries.{IsOpenAt};
 ghost use Rattle.sealed_pages.specs.Reading.{Unchanged};
 ghost use Rattle.sealed_pages.specs.Reads.{IsCovered, IsShort, PassesSize};
-ghost use Rattle.sealed_pages.specs.Reopening.{OnlySettles};
-ghost use Rattle.sealed_pages.specs.SealedPrefix.{sealed_prefix, adopted_size, data_from};
+ghost use Rattle.sealed_pages.specs.SealedPrefix.{adopted_size, data_from};
+ghost use Rattle.sealed_pages.specs.Shown as page_blob;
 ghost use Rattle.sealed_pages.specs.View.{view};
-ghost use Rattle.segments.specs.Sections.{section_key, IsHeld};
+ghost use Rattle.segments.specs.Sections.{section_key, IsHeld, IsOver};
 ghost use Rattle.segments.specs.Lasting.{IsSettling};
 ghost use Rattle.segments.specs.Entries.{OnlyOwnEntry};
 ghost use Rattle.segments.specs.Managed as managed;
@@ -27,14 +29,13 @@ ghost use Rattle.segments.specs.Refusing.{HasFailed, HasNoRoom, IsForeign, IsOpe
 use super::floors::floor_at;
 use super::{Config, Journal};
 use crate::journal::{Damage, Error};
-use crate::manager::section_numbers;
 use crate::unopened::Unopened;
-use crate::{AppendFactory, BufferFactory, Manager, ManagerConfig, SectionBuffer};
+use crate::{AppendFactory, BufferFactory, Manager, SectionBuffer};
 use blob_device::{Device, RError};
-use sealed_pages::{PageBlob, Pages};
+use sealed_pages::PageBlob;
 use std::alloc::Global;
 use std::collections::{BTreeMap, BTreeSet, btree_map};
-use std::marker::{Model, PhantomData};
+use std::marker::Model;
 use value_codec::{CodecFixed, Seal};
 
 /// Sections of which a marker vouches for the first items, ascending, each with the last of these items, if there is one.
@@ -66,52 +67,13 @@ impl<'a, A> Iterator for BoundaryIter<'a, A> {
     }
 }
 
-/// A journal that is not open yet, of which the items that markers vouch for were checked.
+/// A journal that is opened, of which the items that markers vouch for were checked, and nothing was written.
 #[derive(Drop)]
 pub struct Preflight<A: CodecFixed, S: Seal> {
-    alloc: Global,
-    partition: String,
-    pages: Pages,
-    write_buffer: usize,
-    ceiling: u64,
-    floors: BTreeMap<u64, u64>,
+    journal: Journal<A, S>,
     boundaries: BTreeMap<u64, Option<A>>,
-    seal: PhantomData<S>,
-    ghost valid: { 1 ≤ pages.page_size },
-    ghost whole: { (s : ℕ) → floor_in floors s % A.SIZE ≡ 0 },
-    ghost bounded: { (s : ℕ) → 0 < floor_in floors s → s ≤ ceiling },
-}
-
-// The set of these numbers.
-fn set_of(alloc: Global, numbers: &[u64]) -> Result<BTreeSet<u64>, Error>
-    ensures each { IfOk result (λ r. (s : ℕ) → IsTrue (set.contains nat_cmp r s) ↔ Contains numbers.now s) }
-    ensures number { (s : ℕ) → Contains numbers.now s → s < 2 ^ 64 }
-    ensures cause { OnErr result (IsErrOf result Error.Mem) }
-{
-    let mut set = BTreeSet::new(alloc);
-    for number in numbers {
-        set.insert(*number)?;
-    }
-    Ok(set)
-}
-
-// The sections whose blobs are there.
-fn stored_sections<D: Device>(
-    alloc: Global,
-    dev: &mut D,
-    partition: &str,
-) -> Result<BTreeSet<u64>, Error>
-    ensures stored { D.Tells → IfOk result (λ r. (s : ℕ) → s < 2 ^ 64 → IsTrue (set.contains nat_cmp r s) ↔ IsTrue (disk (D.time dev.old) (section_key partition.now s)).there) }
-    ensures unchanged { D.Tells → Unchanged (D.time dev.old) (D.time dev.new) }
-    ensures entries { D.opened dev.new ≡ D.opened dev.old }
-    ensures foreign { D.Tells → (name : List ℕ) → IsForeign (disk (D.time dev.old)) partition.now name → OnOk result ⊥ }
-    ensures named { D.Tells → (n : List ℕ) → result ≡ Err (Error.InvalidBlobName n) → IsForeign (disk (D.time dev.old)) partition.now n }
-    ensures faults { D.faults dev.old ≤ D.faults dev.new }
-    ensures cause { OnErr result (((n : List ℕ) × IsErrOf result (Error.InvalidBlobName n)) ⊎ HasFailed result (D.faults dev.old) (D.faults dev.new)) }
-{
-    let names = dev.scan(alloc, partition)?;
-    let numbers = section_numbers(alloc, &names)?;
-    set_of(alloc, numbers.as_slice())
+    ghost whole: { (s : ℕ) → floor_in journal.floors s % A.SIZE ≡ 0 },
+    ghost bounded: { (s : ℕ) → 0 < floor_in journal.floors s → s ≤ journal.manager.ceiling },
 }
 
 /// The sections with more bytes than their floor.
@@ -159,15 +121,20 @@ fn check_reached<S: Seal>(
 }
 
 impl<A: CodecFixed, S: Seal> Journal<A, S> {
-    ghost use Rattle.segments.specs.FixedFloors.{shown, IsBoundary, Keeps, KeepsBoundary, IsRefused};
+    ghost use Rattle.segments.specs.FixedFloors.{shown, journal_of, IsBoundary, Keeps, KeepsBoundary, IsRefused};
+    ghost use Rattle.segments.specs.FixedLists.{AreAlike};
+    ghost use Rattle.segments.specs.FixedShown as journal;
+    ghost use Rattle.segments.specs.FixedLists.{IsJournal, section_bytes};
 
-    /// Checks what markers vouch for, so many first items of some sections, before the journal is opened up to the section `ceiling`.
-    /// No byte is written.
+    /// Opens the sections of the partition up to the section `ceiling`, as [`init_bounded`](Journal::init_bounded) does, and checks what
+    /// markers vouch for, so many first items of some of them. No byte is written.
     ///
     /// It refuses a blob with a name that is no section's, before anything is opened. Then the sections with a marker are checked one by
     /// one, ascending, and the first that is refused is answered: by `Corruption`, which names it, where its marker counts more bytes than a
     /// `u64` can, where it has no blob, or where the last item below the marker is not sealed; by `Codec`, which says why, where the bytes
-    /// there are no item.
+    /// there are no item. A section with more bytes than its floor owes a replay, which cuts nothing below the floor.
+    ///
+    /// The pages that it reads are held, unless `cache_pages` is 0: a replay reads no page a second time.
     pub fn preflight_floors<D: Device>(
         alloc: Global,
         dev: &mut D,
@@ -190,6 +157,21 @@ impl<A: CodecFixed, S: Seal> Journal<A, S> {
         ensures pages { IfOk result (λ r. (shown r).pages ≡ cfg.now.pages) }
         ensures write_buffer { IfOk result (λ r. (shown r).write_buffer ≡ cfg.now.write_buffer) }
         ensures ceiling { IfOk result (λ r. (shown r).ceiling ≡ ceiling) }
+        // The journal that it opened.
+        ensures over { IfOk result (λ r. IsJournal ⟦<PageBlob<S> as SectionBuffer>⟧ ⟦<AppendFactory<S> as BufferFactory>⟧.gives S.seal_of A.SIZE D.Tells (journal_of r) (D.opened dev.new) (disk (D.time dev.new))) }
+        ensures held { D.Tells → IfOk result (λ r. (s : ℕ) → s < 2 ^ 64 → IsHeld (journal_of r).sections s ↔ (IsTrue (disk (D.time dev.old) (section_key (string_bytes cfg.now.partition) s)).there × (s ≤ ceiling))) }
+        ensures unopened { D.Tells → IfOk result (λ r. (s : ℕ) → s < 2 ^ 64 → ((journal_of r).sections.unopened s ≡ Some Unopened.Section) ↔ (IsTrue (disk (D.time dev.old) (section_key (string_bytes cfg.now.partition) s)).there × (ceiling < s))) }
+        ensures no_leftover { IfOk result (λ r. (s : ℕ) → (journal_of r).sections.unopened s ≢ Some Unopened.Leftover) }
+        // What is known and not held stands above the bound, also where the disk is not told.
+        ensures later { IfOk result (λ r. (s : ℕ) → IsSome ((journal_of r).sections.unopened s) → ceiling < s) }
+        ensures bytes { D.Tells → IfOk result (λ r. (s : ℕ) → IsHeld (journal_of r).sections s
+            → section_bytes (journal_of r).sections (disk (D.time dev.new)) s ≡ ⟦<PageBlob<S> as SectionBuffer>⟧.holds (⟦<AppendFactory<S> as BufferFactory>⟧.gives (journal_of r).sections.factory) (disk (D.time dev.old) (section_key (string_bytes cfg.now.partition) s)).content) }
+        // A section with more bytes than its floor owes a replay, and no other does. None has fewer.
+        ensures unrecovered { IfOk result (λ r. (s : ℕ) → IsTrue ((journal_of r).unrecovered s) ↔ ((shown r).floor_of s < section_size (journal_of r).sections s)) }
+        ensures reached { IfOk result (λ r. (s : ℕ) → (shown r).floor_of s ≤ section_size (journal_of r).sections s) }
+        // Nothing is unsettled.
+        ensures idle { IfOk result (λ r. (s : ℕ) (u : _) → (journal_of r).sections.held s ≡ Some u → ⟦<PageBlob<S> as SectionBuffer>⟧.unsettled u ≡ false) }
+        ensures floor { IfOk result (λ r. (journal_of r).sections.floor ≡ 0) }
         // A marker is refused only where no blob is there, its bytes pass a u64, or its last item is not sealed; never where the items are
         // all sealed.
         ensures damage { D.Tells → (x : _) → IsErrOf result (Error.Corruption x)
@@ -213,48 +195,121 @@ impl<A: CodecFixed, S: Seal> Journal<A, S> {
         ensures foreign_entries { D.Tells → (name : List ℕ) → IsForeign (disk (D.time dev.old)) (string_bytes cfg.now.partition) name → D.opened dev.new ≡ D.opened dev.old }
         ensures name_entries { (n : List ℕ) → result ≡ Err (Error.InvalidBlobName n) → D.opened dev.new ≡ D.opened dev.old }
         ensures named { D.Tells → (n : List ℕ) → result ≡ Err (Error.InvalidBlobName n) → IsForeign (disk (D.time dev.old)) (string_bytes cfg.now.partition) n }
-        ensures entries { (q : Key) → ((s : ℕ) → IsSome (tree.get nat_cmp floors.now s) → q ≢ section_key (string_bytes cfg.now.partition) s) → D.opened dev.new q ≡ D.opened dev.old q }
-        ensures overflow { HasNoRoom result → (s : ℕ) × IsSome (tree.get nat_cmp floors.now s) × IsOpenedTooLong (λ n. 2 ^ 64 ≤ n + (cfg.now.pages.page_size + 12)) (D.opened dev.new) (section_key (string_bytes cfg.now.partition) s) }
+        ensures entries { (q : Key) → ((s : ℕ) → s ≤ ceiling → q ≢ section_key (string_bytes cfg.now.partition) s) → D.opened dev.new q ≡ D.opened dev.old q }
+        ensures overflow { HasNoRoom result → (s : ℕ) × IsOpenedTooLong (λ n. 2 ^ 64 ≤ n + (cfg.now.pages.page_size + 12)) (D.opened dev.new) (section_key (string_bytes cfg.now.partition) s) }
         ensures faults { D.faults dev.old ≤ D.faults dev.new }
         ensures cause { OnErr result (((n : List ℕ) × IsErrOf result (Error.InvalidBlobName n)) ⊎ (((x : _) × IsErrOf result (Error.Corruption x))
             ⊎ (((e : _) × IsErrOf result (Error.Codec e)) ⊎ (HasNoRoom result ⊎ HasFailed result (D.faults dev.old) (D.faults dev.new))))) }
     {
-        let stored = stored_sections(alloc, dev, cfg.partition.as_str())?;
-        let unchecked = Preflight::unchecked(alloc, cfg, ceiling)?;
+        let journal = Journal::init_holding(alloc, dev, cfg, floors, ceiling)?;
+        let unchecked = Preflight::unchecked(alloc, journal);
         let mut found = unchecked;
         for (section, items) in floors {
-            found = found.checked(dev, *section, *items, stored.contains(section))?;
+            found = found.checked(dev, *section, *items)?;
         }
-        Ok(found)
+        let owing = found.owing_longer()?;
+        Ok(owing)
+    }
+
+    // As [`init_bounded`](Journal::init_bounded). The pages of the last item below each marker are held, unless no page is to be held.
+    fn init_holding<D: Device>(
+        alloc: Global,
+        dev: &mut D,
+        cfg: &Config,
+        floors: &BTreeMap<u64, u64>,
+        ceiling: u64,
+    ) -> Result<Self, Error>
+        requires valid { 1 ≤ cfg.now.pages.page_size }
+        ensures over { IfOk result (λ r. IsOver ⟦<PageBlob<S> as SectionBuffer>⟧ ⟦<AppendFactory<S> as BufferFactory>⟧.gives D.Tells (journal.shown r).sections (D.opened dev.new) (disk (D.time dev.new))) }
+        ensures held { D.Tells → IfOk result (λ r. (s : ℕ) → s < 2 ^ 64 → IsHeld (journal.shown r).sections s ↔ (IsTrue (disk (D.time dev.old) (section_key (string_bytes cfg.now.partition) s)).there × (s ≤ ceiling))) }
+        ensures unopened { D.Tells → IfOk result (λ r. (s : ℕ) → s < 2 ^ 64 → ((journal.shown r).sections.unopened s ≡ Some Unopened.Section) ↔ (IsTrue (disk (D.time dev.old) (section_key (string_bytes cfg.now.partition) s)).there × (ceiling < s))) }
+        ensures no_leftover { IfOk result (λ r. (s : ℕ) → (journal.shown r).sections.unopened s ≢ Some Unopened.Leftover) }
+        ensures later { IfOk result (λ r. (s : ℕ) → IsSome ((journal.shown r).sections.unopened s) → ceiling < s) }
+        ensures bytes { D.Tells → IfOk result (λ r. (s : ℕ) → IsHeld (journal.shown r).sections s
+            → section_bytes (journal.shown r).sections (disk (D.time dev.new)) s ≡ ⟦<PageBlob<S> as SectionBuffer>⟧.holds (⟦<AppendFactory<S> as BufferFactory>⟧.gives (journal.shown r).sections.factory) (disk (D.time dev.old) (section_key (string_bytes cfg.now.partition) s)).content) }
+        ensures floors { IfOk result (λ r. (s : ℕ) → (journal.shown r).floor_of s ≡ 0) }
+        ensures idle { IfOk result (λ r. (s : ℕ) (u : _) → (journal.shown r).sections.held s ≡ Some u → ⟦<PageBlob<S> as SectionBuffer>⟧.unsettled u ≡ false) }
+        ensures partition { IfOk result (λ r. (journal.shown r).sections.partition ≡ string_bytes cfg.now.partition) }
+        ensures pages { IfOk result (λ r. (journal.shown r).sections.factory.pages ≡ cfg.now.pages) }
+        ensures write_buffer { IfOk result (λ r. (journal.shown r).sections.factory.write_buffer ≡ cfg.now.write_buffer) }
+        ensures floor { IfOk result (λ r. (journal.shown r).sections.floor ≡ 0) }
+        ensures ceiling { IfOk result (λ r. (journal.shown r).sections.ceiling ≡ ceiling) }
+        ensures moments { D.Tells → Always (D.time dev.old) (D.time dev.new) (Each (IsSettling (string_bytes cfg.now.partition) ceiling (disk (D.time dev.old)))) }
+        ensures foreign { D.Tells → (name : List ℕ) → IsForeign (disk (D.time dev.old)) (string_bytes cfg.now.partition) name → OnOk result ⊥ × (HasNoRoom result → ⊥) }
+        ensures foreign_disk { D.Tells → (name : List ℕ) → IsForeign (disk (D.time dev.old)) (string_bytes cfg.now.partition) name → Unchanged (D.time dev.old) (D.time dev.new) }
+        ensures foreign_entries { D.Tells → (name : List ℕ) → IsForeign (disk (D.time dev.old)) (string_bytes cfg.now.partition) name → D.opened dev.new ≡ D.opened dev.old }
+        ensures name_entries { (n : List ℕ) → result ≡ Err (Error.InvalidBlobName n) → D.opened dev.new ≡ D.opened dev.old }
+        ensures named { D.Tells → (n : List ℕ) → result ≡ Err (Error.InvalidBlobName n) → IsForeign (disk (D.time dev.old)) (string_bytes cfg.now.partition) n }
+        ensures entries { (q : Key) → ((s : ℕ) → s ≤ ceiling → q ≢ section_key (string_bytes cfg.now.partition) s) → D.opened dev.new q ≡ D.opened dev.old q }
+        ensures overflow { HasNoRoom result → (s : ℕ) × IsOpenedTooLong (λ n. 2 ^ 64 ≤ n + (cfg.now.pages.page_size + 12)) (D.opened dev.new) (section_key (string_bytes cfg.now.partition) s) }
+        ensures faults { D.faults dev.old ≤ D.faults dev.new }
+        ensures cause { OnErr result (((n : List ℕ) × IsErrOf result (Error.InvalidBlobName n)) ⊎ (HasNoRoom result ⊎ HasFailed result (D.faults dev.old) (D.faults dev.new))) }
+    {
+        let opened = Journal::init_bounded(alloc, dev, cfg, ceiling)?;
+        opened.holding(dev, floors)
+    }
+
+    // Reads the pages of the last item below each marker, and holds them, unless no page is to be held.
+    fn holding<D: Device>(self, dev: &mut D, floors: &BTreeMap<u64, u64>) -> Result<Self, Error>
+        requires over { IsOver ⟦<PageBlob<S> as SectionBuffer>⟧ ⟦<AppendFactory<S> as BufferFactory>⟧.gives D.Tells (journal.shown self).sections (D.opened dev.old) (disk (D.time dev.old)) }
+        requires floor { (journal.shown self).sections.floor ≡ 0 }
+        ensures over { IfOk result (λ r. IsOver ⟦<PageBlob<S> as SectionBuffer>⟧ ⟦<AppendFactory<S> as BufferFactory>⟧.gives D.Tells (journal.shown r).sections (D.opened dev.new) (disk (D.time dev.new))) }
+        ensures alike { IfOk result (λ r. AreAlike (journal.shown self).sections (journal.shown r).sections) }
+        ensures floors { IfOk result (λ r. (s : ℕ) → (journal.shown r).floor_of s ≡ (journal.shown self).floor_of s) }
+        ensures unchanged { D.Tells → Unchanged (D.time dev.old) (D.time dev.new) }
+        ensures entries { (q : Key) → ((s : ℕ) → IsHeld (journal.shown self).sections s → q ≢ section_key (journal.shown self).sections.partition s) → D.opened dev.new q ≡ D.opened dev.old q }
+        ensures faults { D.faults dev.old ≤ D.faults dev.new }
+        ensures cause { OnErr result (HasFailed result (D.faults dev.old) (D.faults dev.new)) }
+    {
+        let mut this = self;
+        if this.manager.factory().pages.cache_pages == 0 {
+            return Ok(this);
+        }
+        for (section, items) in floors {
+            this = this.holding_last(dev, *section, *items)?;
+        }
+        Ok(this)
+    }
+
+    // Reads the pages of the last of a section's first items, and holds them, where the section has that item.
+    fn holding_last<D: Device>(self, dev: &mut D, section: u64, items: u64) -> Result<Self, Error>
+        requires over { IsOver ⟦<PageBlob<S> as SectionBuffer>⟧ ⟦<AppendFactory<S> as BufferFactory>⟧.gives D.Tells (journal.shown self).sections (D.opened dev.old) (disk (D.time dev.old)) }
+        requires floor { (journal.shown self).sections.floor ≡ 0 }
+        ensures over { IfOk result (λ r. IsOver ⟦<PageBlob<S> as SectionBuffer>⟧ ⟦<AppendFactory<S> as BufferFactory>⟧.gives D.Tells (journal.shown r).sections (D.opened dev.new) (disk (D.time dev.new))) }
+        ensures alike { IfOk result (λ r. AreAlike (journal.shown self).sections (journal.shown r).sections) }
+        ensures floors { IfOk result (λ r. (s : ℕ) → (journal.shown r).floor_of s ≡ (journal.shown self).floor_of s) }
+        ensures unchanged { D.Tells → Unchanged (D.time dev.old) (D.time dev.new) }
+        ensures entries { OnlyOwnEntry (section_key (journal.shown self).sections.partition section) (D.opened dev.old) (D.opened dev.new) }
+        ensures idle { (journal.shown self).sections.held section ≡ None → dev.new ≡ dev.old }
+        ensures faults { D.faults dev.old ≤ D.faults dev.new }
+        ensures cause { OnErr result (HasFailed result (D.faults dev.old) (D.faults dev.new)) }
+    {
+        let end = items.saturating_mul(A::SIZE as u64);
+        if end == 0 || self.manager.size(section)? < end {
+            return Ok(self);
+        }
+        let mut this = self;
+        let mut buffer = this.manager.take(dev, section)?;
+        buffer.hold(dev, end - A::SIZE as u64, A::SIZE)?;
+        this.manager.put(section, buffer)?;
+        Ok(this)
     }
 }
 
 impl<A: CodecFixed, S: Seal> Preflight<A, S> {
-    ghost use Rattle.segments.specs.FixedFloors.{shown, IsBoundary, IsRefused, IsUnsealed, FallsShort, size_at};
+    ghost use Rattle.segments.specs.FixedFloors.{shown, journal_of, IsBoundary, IsRefused, IsUnsealed, IsAdoptedOver, AreAdopted};
     ghost use Rattle.segments.specs.FixedShown as journal;
-    ghost use Rattle.segments.specs.FixedLists.{IsJournal, section_bytes};
 
     // No section has a marker yet.
-    fn unchecked(alloc: Global, cfg: &Config, ceiling: u64) -> Result<Self, Error>
-        requires valid { 1 ≤ cfg.now.pages.page_size }
-        ensures floors { IfOk result (λ r. (s : ℕ) → (shown r).floor_of s ≡ 0) }
-        ensures boundaries { IfOk result (λ r. (s : ℕ) → (shown r).boundary_of s ≡ None) }
-        ensures partition { IfOk result (λ r. (shown r).partition ≡ string_bytes cfg.now.partition) }
-        ensures pages { IfOk result (λ r. (shown r).pages ≡ cfg.now.pages) }
-        ensures write_buffer { IfOk result (λ r. (shown r).write_buffer ≡ cfg.now.write_buffer) }
-        ensures ceiling { IfOk result (λ r. (shown r).ceiling ≡ ceiling) }
-        ensures cause { OnErr result (IsErrOf result Error.Mem) }
+    fn unchecked(alloc: Global, opened: Journal<A, S>) -> Self
+        requires { (s : ℕ) → (journal.shown opened).floor_of s ≡ 0 }
+        ensures journal { journal_of result ≡ journal.shown opened }
+        ensures boundaries { (s : ℕ) → (shown result).boundary_of s ≡ None }
     {
-        Ok(Preflight {
-            alloc,
-            partition: cfg.partition.clone()?,
-            pages: cfg.pages,
-            write_buffer: cfg.write_buffer,
-            ceiling,
-            floors: BTreeMap::new(alloc),
+        Preflight {
+            journal: opened,
             boundaries: BTreeMap::new(alloc),
-            seal: PhantomData,
-        })
+        }
     }
 
     // How many bytes so many items have. It refuses a number that passes the greatest u64.
@@ -275,51 +330,44 @@ impl<A: CodecFixed, S: Seal> Preflight<A, S> {
     }
 
     // Checks the marker of a section of which none was checked.
-    fn checked<D: Device>(
-        self,
-        dev: &mut D,
-        section: u64,
-        items: u64,
-        is_there: bool,
-    ) -> Result<Self, Error>
+    fn checked<D: Device>(self, dev: &mut D, section: u64, items: u64) -> Result<Self, Error>
         requires bounded { section ≤ (shown self).ceiling }
-        requires there { D.Tells → IsTrue is_there ↔ IsTrue (disk (D.time dev.old) (section_key (shown self).partition section)).there }
+        requires floor { (journal_of self).sections.floor ≡ 0 }
+        requires over { IsOver ⟦<PageBlob<S> as SectionBuffer>⟧ ⟦<AppendFactory<S> as BufferFactory>⟧.gives D.Tells (journal_of self).sections (D.opened dev.old) (disk (D.time dev.old)) }
+        requires adopted { D.Tells → AreAdopted S.seal_of (journal_of self).sections (disk (D.time dev.old)) }
+        requires held { D.Tells → (s : ℕ) → s < 2 ^ 64 → IsHeld (journal_of self).sections s ↔ (IsTrue (disk (D.time dev.old) (section_key (shown self).partition s)).there × (s ≤ (shown self).ceiling)) }
+        ensures over { IsOver ⟦<PageBlob<S> as SectionBuffer>⟧ ⟦<AppendFactory<S> as BufferFactory>⟧.gives D.Tells (journal_of self).sections (D.opened dev.new) (disk (D.time dev.new)) }
+        ensures sections { IfOk result (λ r. (journal_of r).sections ≡ (journal_of self).sections) }
         ensures floor { IfOk result (λ r. (shown r).floor_of section ≡ items * A.SIZE) }
         ensures fits { OnOk result (items * A.SIZE < 2 ^ 64) }
-        ensures there { OnOk result (IsTrue is_there) }
+        ensures there { D.Tells → OnOk result (IsTrue (disk (D.time dev.old) (section_key (shown self).partition section)).there) }
         ensures empty { items ≡ 0 → IfOk result (λ r. (shown r).boundary_of section ≡ Some None) }
         ensures boundary { D.Tells → 0 < items → IfOk result (λ r. IsSomeAnd ((shown r).boundary_of section) (λ o. IsSomeAnd o
             (IsBoundary S.seal_of (shown self).pages.page_size A.SIZE A.spelling A.accepted (disk (D.time dev.old) (section_key (shown self).partition section)).content items))) }
         ensures floors { IfOk result (λ r. (q : ℕ) → q ≢ section → (shown r).floor_of q ≡ (shown self).floor_of q) }
         ensures boundaries { IfOk result (λ r. (q : ℕ) → q ≢ section → (shown r).boundary_of q ≡ (shown self).boundary_of q) }
-        ensures partition { IfOk result (λ r. (shown r).partition ≡ (shown self).partition) }
-        ensures pages { IfOk result (λ r. (shown r).pages ≡ (shown self).pages) }
-        ensures write_buffer { IfOk result (λ r. (shown r).write_buffer ≡ (shown self).write_buffer) }
-        ensures ceiling { IfOk result (λ r. (shown r).ceiling ≡ (shown self).ceiling) }
         ensures damage { D.Tells → (x : _) → IsErrOf result (Error.Corruption x) → (x.section ≡ section)
             × IsRefused S.seal_of (shown self).pages.page_size A.SIZE (disk (D.time dev.old) (section_key (shown self).partition section)) items x }
         ensures refused { D.Tells → (e : _) → IsErrOf result (Error.Codec e) → (0 < items)
             × (A.refusal (data_from (shown self).pages.page_size (view (disk (D.time dev.old) (section_key (shown self).partition section)).content) ((items - 1) * A.SIZE) A.SIZE) tt ≡ Some e)
             × IsCovered S.seal_of (shown self).pages.page_size (disk (D.time dev.old) (section_key (shown self).partition section)).content ((items - 1) * A.SIZE) A.SIZE }
-        ensures settles { D.Tells → OnlySettles (section_key (shown self).partition section) (D.time dev.old) (D.time dev.new) }
-        ensures absent { is_there ≡ false → dev.new ≡ dev.old }
+        ensures unchanged { D.Tells → Unchanged (D.time dev.old) (D.time dev.new) }
         ensures entries { OnlyOwnEntry (section_key (shown self).partition section) (D.opened dev.old) (D.opened dev.new) }
-        ensures overflow { HasNoRoom result → IsOpenedTooLong (λ n. 2 ^ 64 ≤ n + ((shown self).pages.page_size + 12)) (D.opened dev.new) (section_key (shown self).partition section) }
         ensures faults { D.faults dev.old ≤ D.faults dev.new }
-        ensures cause { OnErr result (((x : _) × IsErrOf result (Error.Corruption x)) ⊎ (((e : _) × IsErrOf result (Error.Codec e)) ⊎ (HasNoRoom result ⊎ HasFailed result (D.faults dev.old) (D.faults dev.new)))) }
+        ensures cause { OnErr result (((x : _) × IsErrOf result (Error.Corruption x)) ⊎ (((e : _) × IsErrOf result (Error.Codec e)) ⊎ HasFailed result (D.faults dev.old) (D.faults dev.new))) }
     {
         let floor = Self::bytes_of(section, items)?;
-        if !is_there {
+        let Some(buffer) = self.journal.manager.get(section)? else {
             return Err(Error::Corruption(Damage {
                 section,
                 kept: 0,
                 wanted: floor,
             }));
-        }
+        };
         if items == 0 {
             return self.with_floor(section, floor, None);
         }
-        let item = self.last_below(dev, section, items)?;
+        let item = self.last_below(dev, buffer, section, items)?;
         self.with_floor(section, floor, Some(item))
     }
 
@@ -331,63 +379,103 @@ impl<A: CodecFixed, S: Seal> Preflight<A, S> {
         ensures boundary { IfOk result (λ r. (shown r).boundary_of section ≡ Some item) }
         ensures floors { IfOk result (λ r. (q : ℕ) → q ≢ section → (shown r).floor_of q ≡ (shown self).floor_of q) }
         ensures boundaries { IfOk result (λ r. (q : ℕ) → q ≢ section → (shown r).boundary_of q ≡ (shown self).boundary_of q) }
-        ensures partition { IfOk result (λ r. (shown r).partition ≡ (shown self).partition) }
-        ensures pages { IfOk result (λ r. (shown r).pages ≡ (shown self).pages) }
-        ensures write_buffer { IfOk result (λ r. (shown r).write_buffer ≡ (shown self).write_buffer) }
-        ensures ceiling { IfOk result (λ r. (shown r).ceiling ≡ (shown self).ceiling) }
+        ensures sections { IfOk result (λ r. (journal_of r).sections ≡ (journal_of self).sections) }
         ensures cause { OnErr result (IsErrOf result Error.Mem) }
     {
         let mut this = self;
-        this.floors.insert(section, floor)?;
+        let journal = &mut this.journal;
+        journal.floors.insert(section, floor)?;
         this.boundaries.insert(section, item)?;
         Ok(this)
     }
 
-    // Reads the last of a section's first items, whose bytes a u64 counts. Its blob is there.
-    fn last_below<D: Device>(&self, dev: &mut D, section: u64, items: u64) -> Result<A, Error>
+    // Reads the last of a section's first items, whose bytes a u64 counts.
+    fn last_below<D: Device>(
+        &self,
+        dev: &mut D,
+        buffer: &PageBlob<S>,
+        section: u64,
+        items: u64,
+    ) -> Result<A, Error>
         requires some { 0 < items }
         requires fits { items * A.SIZE < 2 ^ 64 }
-        requires there { D.Tells → IsTrue (disk (D.time dev.old) (section_key (shown self.now).partition section)).there }
-        ensures item { D.Tells → IfOk result (IsBoundary S.seal_of (shown self.now).pages.page_size A.SIZE A.spelling A.accepted (disk (D.time dev.old) (section_key (shown self.now).partition section)).content items) }
+        requires open { IsOpenAt (D.opened dev.old) (key_of (page_blob.shown buffer.now)) buffer.now.end }
+        requires adopted { D.Tells → IsAdoptedOver S.seal_of buffer.now (disk (D.time dev.old) (key_of (page_blob.shown buffer.now))) }
+        ensures item { D.Tells → IfOk result (IsBoundary S.seal_of buffer.now.page_size A.SIZE A.spelling A.accepted (disk (D.time dev.old) (key_of (page_blob.shown buffer.now))).content items) }
         ensures damage { D.Tells → (x : _) → IsErrOf result (Error.Corruption x) → (x.section ≡ section)
-            × IsUnsealed S.seal_of (shown self.now).pages.page_size A.SIZE (disk (D.time dev.old) (section_key (shown self.now).partition section)) items x }
-        ensures refused { D.Tells → (e : _) → IsErrOf result (Error.Codec e)
-            → (A.refusal (data_from (shown self.now).pages.page_size (view (disk (D.time dev.old) (section_key (shown self.now).partition section)).content) ((items - 1) * A.SIZE) A.SIZE) tt ≡ Some e)
-            × IsCovered S.seal_of (shown self.now).pages.page_size (disk (D.time dev.old) (section_key (shown self.now).partition section)).content ((items - 1) * A.SIZE) A.SIZE }
-        ensures settles { D.Tells → OnlySettles (section_key (shown self.now).partition section) (D.time dev.old) (D.time dev.new) }
-        ensures entries { OnlyOwnEntry (section_key (shown self.now).partition section) (D.opened dev.old) (D.opened dev.new) }
-        ensures overflow { HasNoRoom result → IsOpenedTooLong (λ n. 2 ^ 64 ≤ n + ((shown self.now).pages.page_size + 12)) (D.opened dev.new) (section_key (shown self.now).partition section) }
+            × IsUnsealed S.seal_of buffer.now.page_size A.SIZE (disk (D.time dev.old) (key_of (page_blob.shown buffer.now))) items x }
+        ensures refused { D.Tells → (e : _) → IsErrOf result (Error.Codec e) → (0 < items)
+            × (A.refusal (data_from buffer.now.page_size (view (disk (D.time dev.old) (key_of (page_blob.shown buffer.now))).content) ((items - 1) * A.SIZE) A.SIZE) tt ≡ Some e)
+            × IsCovered S.seal_of buffer.now.page_size (disk (D.time dev.old) (key_of (page_blob.shown buffer.now))).content ((items - 1) * A.SIZE) A.SIZE }
+        ensures unchanged { D.Tells → Unchanged (D.time dev.old) (D.time dev.new) }
+        ensures entries { OnlyOwnEntry (key_of (page_blob.shown buffer.now)) (D.opened dev.old) (D.opened dev.new) }
+        ensures open { IsOpenAt (D.opened dev.new) (key_of (page_blob.shown buffer.now)) buffer.now.end }
         ensures faults { D.faults dev.old ≤ D.faults dev.new }
-        ensures cause { OnErr result (((x : _) × IsErrOf result (Error.Corruption x)) ⊎ (((e : _) × IsErrOf result (Error.Codec e)) ⊎ (HasNoRoom result ⊎ HasFailed result (D.faults dev.old) (D.faults dev.new)))) }
+        ensures cause { OnErr result (((x : _) × IsErrOf result (Error.Corruption x)) ⊎ (((e : _) × IsErrOf result (Error.Codec e)) ⊎ HasFailed result (D.faults dev.old) (D.faults dev.new))) }
     {
-        let mut bytes = vec![in self.alloc; 0; A::SIZE]?;
-        match self.read_last(dev, section, items, bytes.as_mut_slice()) {
-            Ok(()) => Ok(A::decode_cfg(self.alloc, bytes.as_slice(), ())?),
+        let mut bytes = vec![in self.journal.alloc; 0; A::SIZE]?;
+        match Self::read_last(dev, buffer, items, bytes.as_mut_slice()) {
+            Ok(()) => Ok(A::decode_cfg(self.journal.alloc, bytes.as_slice(), ())?),
             Err(e) => match e {
-                RError::InvalidChecksum(_) => self.refuse(dev, section, items),
-                RError::BlobInsufficientLength => self.refuse(dev, section, items),
+                RError::InvalidChecksum(_) => self.refuse(dev, buffer, section, items),
+                RError::BlobInsufficientLength => self.refuse(dev, buffer, section, items),
                 e => Err(Error::from(e)),
             },
         }
     }
 
-    // Refuses the last of a section's first items, which is not sealed, with how much of the section is.
-    fn refuse<D: Device>(&self, dev: &mut D, section: u64, items: u64) -> Result<A, Error>
+    // Reads the bytes of the last of a section's first items.
+    fn read_last<D: Device>(
+        dev: &mut D,
+        buffer: &PageBlob<S>,
+        items: u64,
+        bytes: &mut [u8],
+    ) -> Result<(), RError>
         requires some { 0 < items }
         requires fits { items * A.SIZE < 2 ^ 64 }
-        requires there { D.Tells → IsTrue (disk (D.time dev.old) (section_key (shown self.now).partition section)).there }
-        requires broken { D.Tells → ((k : ℕ) × IsShort S.seal_of (shown self.now).pages.page_size (disk (D.time dev.old) (section_key (shown self.now).partition section)).content ((items - 1) * A.SIZE) A.SIZE k)
-            ⊎ PassesSize S.seal_of (shown self.now).pages.page_size (disk (D.time dev.old) (section_key (shown self.now).partition section)).content ((items - 1) * A.SIZE) A.SIZE }
+        requires room { length bytes.old ≡ A.SIZE }
+        requires open { IsOpenAt (D.opened dev.old) (key_of (page_blob.shown buffer.now)) buffer.now.end }
+        requires adopted { D.Tells → IsAdoptedOver S.seal_of buffer.now (disk (D.time dev.old) (key_of (page_blob.shown buffer.now))) }
+        ensures bytes { D.Tells → OnOk result (bytes.new ≡ data_from buffer.now.page_size (view (disk (D.time dev.old) (key_of (page_blob.shown buffer.now))).content) ((items - 1) * A.SIZE) A.SIZE) }
+        ensures checked { D.Tells → OnOk result (IsCovered S.seal_of buffer.now.page_size (disk (D.time dev.old) (key_of (page_blob.shown buffer.now))).content ((items - 1) * A.SIZE) A.SIZE) }
+        ensures within { D.Tells → OnOk result (items * A.SIZE ≤ adopted_size S.seal_of buffer.now.page_size (disk (D.time dev.old) (key_of (page_blob.shown buffer.now))).content) }
+        ensures checksum { D.Tells → (k : ℕ) → IsErrOf result (RError.InvalidChecksum k) → IsShort S.seal_of buffer.now.page_size (disk (D.time dev.old) (key_of (page_blob.shown buffer.now))).content ((items - 1) * A.SIZE) A.SIZE k }
+        ensures short { D.Tells → IsErrOf result RError.BlobInsufficientLength → PassesSize S.seal_of buffer.now.page_size (disk (D.time dev.old) (key_of (page_blob.shown buffer.now))).content ((items - 1) * A.SIZE) A.SIZE }
+        ensures unchanged { D.Tells → Unchanged (D.time dev.old) (D.time dev.new) }
+        ensures entries { OnlyOwnEntry (key_of (page_blob.shown buffer.now)) (D.opened dev.old) (D.opened dev.new) }
+        ensures open { IsOpenAt (D.opened dev.new) (key_of (page_blob.shown buffer.now)) buffer.now.end }
+        ensures faults { D.faults dev.old ≤ D.faults dev.new }
+        ensures cause { OnErr result ((result ≡ Err RError.BlobInsufficientLength) ⊎ (((k : ℕ) × (result ≡ Err (RError.InvalidChecksum k)))
+            ⊎ ((result ≡ Err RError.Mem) ⊎ ((result ≡ Err RError.Fault) × Rose (D.faults dev.old) (D.faults dev.new))))) }
+    {
+        buffer.read_at(dev, (items - 1) * A::SIZE as u64, bytes)
+    }
+
+    // Refuses the last of a section's first items, which is not sealed, with how much of the section is.
+    fn refuse<D: Device>(
+        &self,
+        dev: &mut D,
+        buffer: &PageBlob<S>,
+        section: u64,
+        items: u64,
+    ) -> Result<A, Error>
+        requires some { 0 < items }
+        requires fits { items * A.SIZE < 2 ^ 64 }
+        requires open { IsOpenAt (D.opened dev.old) (key_of (page_blob.shown buffer.now)) buffer.now.end }
+        requires there { D.Tells → IsTrue (disk (D.time dev.old) (key_of (page_blob.shown buffer.now))).there }
+        requires broken { D.Tells → ((k : ℕ) × IsShort S.seal_of buffer.now.page_size (disk (D.time dev.old) (key_of (page_blob.shown buffer.now))).content ((items - 1) * A.SIZE) A.SIZE k)
+            ⊎ PassesSize S.seal_of buffer.now.page_size (disk (D.time dev.old) (key_of (page_blob.shown buffer.now))).content ((items - 1) * A.SIZE) A.SIZE }
         ensures fails { OnOk result ⊥ }
         ensures damage { D.Tells → (x : _) → IsErrOf result (Error.Corruption x) → (x.section ≡ section)
-            × IsUnsealed S.seal_of (shown self.now).pages.page_size A.SIZE (disk (D.time dev.old) (section_key (shown self.now).partition section)) items x }
-        ensures settles { D.Tells → OnlySettles (section_key (shown self.now).partition section) (D.time dev.old) (D.time dev.new) }
-        ensures entries { OnlyOwnEntry (section_key (shown self.now).partition section) (D.opened dev.old) (D.opened dev.new) }
-        ensures overflow { HasNoRoom result → IsOpenedTooLong (λ n. 2 ^ 64 ≤ n + ((shown self.now).pages.page_size + 12)) (D.opened dev.new) (section_key (shown self.now).partition section) }
+            × IsUnsealed S.seal_of buffer.now.page_size A.SIZE (disk (D.time dev.old) (key_of (page_blob.shown buffer.now))) items x }
+        ensures unchanged { D.Tells → Unchanged (D.time dev.old) (D.time dev.new) }
+        ensures entries { OnlyOwnEntry (key_of (page_blob.shown buffer.now)) (D.opened dev.old) (D.opened dev.new) }
+        ensures open { IsOpenAt (D.opened dev.new) (key_of (page_blob.shown buffer.now)) buffer.now.end }
         ensures faults { D.faults dev.old ≤ D.faults dev.new }
-        ensures cause { OnErr result (((x : _) × IsErrOf result (Error.Corruption x)) ⊎ (HasNoRoom result ⊎ HasFailed result (D.faults dev.old) (D.faults dev.new))) }
+        ensures cause { OnErr result (((x : _) × IsErrOf result (Error.Corruption x)) ⊎ HasFailed result (D.faults dev.old) (D.faults dev.new)) }
     {
-        let kept = self.sealed_len(dev, section)?;
+        let piece = self.journal.manager.factory().write_buffer;
+        let kept = buffer.recoverable_prefix_len(dev, 0, piece)?;
         Err(Error::Corruption(Damage {
             section,
             kept,
@@ -395,67 +483,22 @@ impl<A: CodecFixed, S: Seal> Preflight<A, S> {
         }))
     }
 
-    // Reads the bytes of the last of a section's first items.
-    fn read_last<D: Device>(
-        &self,
-        dev: &mut D,
-        section: u64,
-        items: u64,
-        bytes: &mut [u8],
-    ) -> Result<(), RError>
-        requires some { 0 < items }
-        requires fits { items * A.SIZE < 2 ^ 64 }
-        requires room { length bytes.old ≡ A.SIZE }
-        requires there { D.Tells → IsTrue (disk (D.time dev.old) (section_key (shown self.now).partition section)).there }
-        ensures bytes { D.Tells → OnOk result (bytes.new ≡ data_from (shown self.now).pages.page_size (view (disk (D.time dev.old) (section_key (shown self.now).partition section)).content) ((items - 1) * A.SIZE) A.SIZE) }
-        ensures checked { D.Tells → OnOk result (IsCovered S.seal_of (shown self.now).pages.page_size (disk (D.time dev.old) (section_key (shown self.now).partition section)).content ((items - 1) * A.SIZE) A.SIZE) }
-        ensures within { D.Tells → OnOk result (items * A.SIZE ≤ adopted_size S.seal_of (shown self.now).pages.page_size (disk (D.time dev.old) (section_key (shown self.now).partition section)).content) }
-        ensures checksum { D.Tells → (k : ℕ) → IsErrOf result (RError.InvalidChecksum k) → IsShort S.seal_of (shown self.now).pages.page_size (disk (D.time dev.old) (section_key (shown self.now).partition section)).content ((items - 1) * A.SIZE) A.SIZE k }
-        ensures short { D.Tells → IsErrOf result RError.BlobInsufficientLength → PassesSize S.seal_of (shown self.now).pages.page_size (disk (D.time dev.old) (section_key (shown self.now).partition section)).content ((items - 1) * A.SIZE) A.SIZE }
-        ensures settles { D.Tells → OnlySettles (section_key (shown self.now).partition section) (D.time dev.old) (D.time dev.new) }
-        ensures entries { OnlyOwnEntry (section_key (shown self.now).partition section) (D.opened dev.old) (D.opened dev.new) }
-        ensures faults { D.faults dev.old ≤ D.faults dev.new }
-        ensures cause { OnErr result ((result ≡ Err RError.BlobInsufficientLength) ⊎ (((k : ℕ) × (result ≡ Err (RError.InvalidChecksum k)))
-            ⊎ ((result ≡ Err RError.Mem) ⊎ ((result ≡ Err RError.Fault) × Rose (D.faults dev.old) (D.faults dev.new))))) }
+    // The sections with more bytes than their floor owe a replay. It refuses the first one with fewer.
+    fn owing_longer(self) -> Result<Self, Error>
+        requires floor { (journal_of self).sections.floor ≡ 0 }
+        ensures same { IfOk result (λ r. shown r ≡ shown self) }
+        ensures sections { IfOk result (λ r. (journal_of r).sections ≡ (journal_of self).sections) }
+        ensures unrecovered { IfOk result (λ r. (s : ℕ) → IsTrue ((journal_of r).unrecovered s) ↔ ((shown r).floor_of s < section_size (journal_of r).sections s)) }
+        ensures reached { IfOk result (λ r. (s : ℕ) → (shown r).floor_of s ≤ section_size (journal_of r).sections s) }
+        ensures damage { (x : _) → IsErrOf result (Error.Corruption x) → section_size (journal_of self).sections x.section < (shown self).floor_of x.section }
+        ensures cause { OnErr result (((x : _) × IsErrOf result (Error.Corruption x)) ⊎ IsErrOf result Error.Mem) }
     {
-        let name = section.to_be_bytes();
-        let partition = self.partition.as_str();
-        dev.open_blob(partition, name.as_slice())?;
-        PageBlob::<S>::read_range(
-            self.alloc,
-            dev,
-            partition,
-            name.as_slice(),
-            self.pages.page_size,
-            (items - 1) * A::SIZE as u64,
-            bytes,
-        )
-    }
-
-    // How many bytes of a section's blob, which is there, are sealed from its start on.
-    fn sealed_len<D: Device>(&self, dev: &mut D, section: u64) -> Result<u64, Error>
-        requires there { D.Tells → IsTrue (disk (D.time dev.old) (section_key (shown self.now).partition section)).there }
-        ensures length { D.Tells → IfOk result (λ n. n ≡ length (sealed_prefix S.seal_of (shown self.now).pages.page_size (disk (D.time dev.old) (section_key (shown self.now).partition section)).content)) }
-        ensures settles { D.Tells → OnlySettles (section_key (shown self.now).partition section) (D.time dev.old) (D.time dev.new) }
-        ensures entries { OnlyOwnEntry (section_key (shown self.now).partition section) (D.opened dev.old) (D.opened dev.new) }
-        ensures overflow { HasNoRoom result → IsOpenedTooLong (λ n. 2 ^ 64 ≤ n + ((shown self.now).pages.page_size + 12)) (D.opened dev.new) (section_key (shown self.now).partition section) }
-        ensures faults { D.faults dev.old ≤ D.faults dev.new }
-        ensures cause { OnErr result (HasNoRoom result ⊎ HasFailed result (D.faults dev.old) (D.faults dev.new)) }
-    {
-        let name = section.to_be_bytes();
-        let partition = self.partition.as_str();
-        let size = dev.open_blob(partition, name.as_slice())?;
-        let buffer = PageBlob::<S>::adopt(
-            self.alloc,
-            dev,
-            partition,
-            name.as_slice(),
-            size,
-            self.write_buffer,
-            self.pages,
-        )?;
-        let kept = buffer.recoverable_prefix_len(dev, 0, self.write_buffer)?;
-        Ok(kept)
+        let mut this = self;
+        let journal = &this.journal;
+        check_reached(&journal.manager, &journal.floors)?;
+        let longer = longer_sections(journal.alloc, &journal.manager, &journal.floors)?;
+        this.journal.unrecovered = longer;
+        Ok(this)
     }
 
     /// The sections with a marker, ascending, each with the last item that it vouches for.
@@ -468,71 +511,12 @@ impl<A: CodecFixed, S: Seal> Preflight<A, S> {
         }
     }
 
-    /// Opens the journal up to the ceiling, as [`init_bounded`](Journal::init_bounded) does. A section with more bytes than its floor
-    /// owes a replay, which cuts nothing below the floor.
-    ///
-    /// `Corruption` names the first section that is adopted with fewer bytes than its floor.
-    pub fn finish<D: Device>(self, dev: &mut D) -> Result<Journal<A, S>, Error>
-        ensures over { IfOk result (λ r. IsJournal ⟦<PageBlob<S> as SectionBuffer>⟧ ⟦<AppendFactory<S> as BufferFactory>⟧.gives S.seal_of A.SIZE D.Tells (journal.shown r) (D.opened dev.new) (disk (D.time dev.new))) }
-        ensures held { D.Tells → IfOk result (λ r. (s : ℕ) → s < 2 ^ 64 → IsHeld (journal.shown r).sections s ↔ (IsTrue (disk (D.time dev.old) (section_key (shown self).partition s)).there × (s ≤ (shown self).ceiling))) }
-        ensures unopened { D.Tells → IfOk result (λ r. (s : ℕ) → s < 2 ^ 64 → ((journal.shown r).sections.unopened s ≡ Some Unopened.Section) ↔ (IsTrue (disk (D.time dev.old) (section_key (shown self).partition s)).there × ((shown self).ceiling < s))) }
-        ensures no_leftover { IfOk result (λ r. (s : ℕ) → (journal.shown r).sections.unopened s ≢ Some Unopened.Leftover) }
-        // What is known and not held stands above the bound, also where the disk is not told.
-        ensures later { IfOk result (λ r. (s : ℕ) → IsSome ((journal.shown r).sections.unopened s) → (shown self).ceiling < s) }
-        ensures bytes { D.Tells → IfOk result (λ r. (s : ℕ) → IsHeld (journal.shown r).sections s
-            → section_bytes (journal.shown r).sections (disk (D.time dev.new)) s ≡ ⟦<PageBlob<S> as SectionBuffer>⟧.holds (⟦<AppendFactory<S> as BufferFactory>⟧.gives (journal.shown r).sections.factory) (disk (D.time dev.old) (section_key (shown self).partition s)).content) }
-        // A section with more bytes than its floor owes a replay, and no other does. None has fewer.
-        ensures unrecovered { IfOk result (λ r. (s : ℕ) → IsTrue ((journal.shown r).unrecovered s) ↔ ((shown self).floor_of s < section_size (journal.shown r).sections s)) }
-        ensures reached { IfOk result (λ r. (s : ℕ) → (shown self).floor_of s ≤ section_size (journal.shown r).sections s) }
-        ensures floors { IfOk result (λ r. (s : ℕ) → (journal.shown r).floor_of s ≡ (shown self).floor_of s) }
-        // Nothing is unsettled.
-        ensures idle { IfOk result (λ r. (s : ℕ) (u : _) → (journal.shown r).sections.held s ≡ Some u → ⟦<PageBlob<S> as SectionBuffer>⟧.unsettled u ≡ false) }
-        ensures partition { IfOk result (λ r. (journal.shown r).sections.partition ≡ (shown self).partition) }
-        ensures pages { IfOk result (λ r. (journal.shown r).sections.factory.pages ≡ (shown self).pages) }
-        ensures write_buffer { IfOk result (λ r. (journal.shown r).sections.factory.write_buffer ≡ (shown self).write_buffer) }
-        ensures floor { IfOk result (λ r. (journal.shown r).sections.floor ≡ 0) }
-        ensures ceiling { IfOk result (λ r. (journal.shown r).sections.ceiling ≡ (shown self).ceiling) }
-        // A floor is refused only where the blob is adopted with fewer bytes.
-        ensures damage { D.Tells → (x : _) → IsErrOf result (Error.Corruption x)
-            → FallsShort S.seal_of (shown self).pages.page_size (disk (D.time dev.old) (section_key (shown self).partition x.section)) ((shown self).floor_of x.section) x }
-        // It is the first one: the sections before it are adopted with no fewer.
-        ensures first { D.Tells → (x : _) → IsErrOf result (Error.Corruption x) → (s : ℕ) → s < x.section
-            → (shown self).floor_of s ≤ size_at S.seal_of (shown self).pages.page_size (disk (D.time dev.old) (section_key (shown self).partition s)) }
-        // At every moment, also where the call fails, each blob of the partition is as before, or settled as it read.
-        ensures moments { D.Tells → Always (D.time dev.old) (D.time dev.new) (Each (IsSettling (shown self).partition (shown self).ceiling (disk (D.time dev.old)))) }
-        // A name that is no section's is refused, also above a bound, and then nothing was changed or opened.
-        ensures foreign { D.Tells → (name : List ℕ) → IsForeign (disk (D.time dev.old)) (shown self).partition name → OnOk result ⊥ × (((x : _) → IsErrOf result (Error.Corruption x) → ⊥) × (HasNoRoom result → ⊥)) }
-        ensures foreign_disk { D.Tells → (name : List ℕ) → IsForeign (disk (D.time dev.old)) (shown self).partition name → Unchanged (D.time dev.old) (D.time dev.new) }
-        ensures foreign_entries { D.Tells → (name : List ℕ) → IsForeign (disk (D.time dev.old)) (shown self).partition name → D.opened dev.new ≡ D.opened dev.old }
-        ensures name_entries { (n : List ℕ) → result ≡ Err (Error.InvalidBlobName n) → D.opened dev.new ≡ D.opened dev.old }
-        ensures named { D.Tells → (n : List ℕ) → result ≡ Err (Error.InvalidBlobName n) → IsForeign (disk (D.time dev.old)) (shown self).partition n }
-        ensures entries { (q : Key) → ((s : ℕ) → s ≤ (shown self).ceiling → q ≢ section_key (shown self).partition s) → D.opened dev.new q ≡ D.opened dev.old q }
-        ensures overflow { HasNoRoom result → (s : ℕ) × IsOpenedTooLong (λ n. 2 ^ 64 ≤ n + ((shown self).pages.page_size + 12)) (D.opened dev.new) (section_key (shown self).partition s) }
-        ensures faults { D.faults dev.old ≤ D.faults dev.new }
-        ensures cause { OnErr result (((n : List ℕ) × IsErrOf result (Error.InvalidBlobName n)) ⊎ (((x : _) × IsErrOf result (Error.Corruption x)) ⊎ (HasNoRoom result ⊎ HasFailed result (D.faults dev.old) (D.faults dev.new)))) }
+    /// Gives the journal, which was opened when the markers were checked. It makes no call of the device.
+    pub fn finish<D: Device>(self, _dev: &mut D) -> Result<Journal<A, S>, Error>
+        ensures journal { IfOk result (λ r. journal.shown r ≡ journal_of self) }
+        ensures unchanged { _dev.new ≡ _dev.old }
+        ensures cause { OnErr result ⊥ }
     {
-        let Preflight {
-            alloc,
-            partition,
-            pages,
-            write_buffer,
-            ceiling,
-            floors,
-            ..
-        } = self;
-        let config = ManagerConfig {
-            partition,
-            factory: AppendFactory::new(write_buffer, pages),
-        };
-        let manager = Manager::init_bounded(alloc, dev, config, ceiling)?;
-        check_reached(&manager, &floors)?;
-        let unrecovered = longer_sections(alloc, &manager, &floors)?;
-        Ok(Journal {
-            alloc,
-            manager,
-            unrecovered,
-            floors,
-            item: PhantomData,
-        })
+        Ok(self.journal)
     }
 }

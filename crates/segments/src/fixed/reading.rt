@@ -8,6 +8,7 @@ ghost use Rattle.blob_device.specs.declared.runtime.RError.TheVariants.{InvalidC
 ghost use Rattle.blob_device.specs.Timeline.{disk};
 ghost use Rattle.sealed_pages.specs.Buffer.{size_of, bytes_of, IsSealed};
 ghost use Rattle.sealed_pages.specs.Entries.{IsOpenAt, ReadsAtMost};
+ghost use Rattle.sealed_pages.specs.Held.{AreHeldOf};
 ghost use Rattle.sealed_pages.specs.Reading.{Unchanged};
 ghost use Rattle.segments.specs.Sections.{key_of, IsHeld};
 ghost use Rattle.segments.specs.Refusing.{HasFailed, IsPruned};
@@ -75,9 +76,9 @@ impl<A: CodecFixed, S: Seal> Journal<A, S> {
         requires open { IsOpenAt (D.opened dev.old) (pages.key_of (page_blob.shown buffer.now)) buffer.now.end }
         requires inside { HasItem A.SIZE buffer.now position }
         requires room { length bytes.old ≡ A.SIZE }
-        ensures bytes { D.Tells → OnOk result (bytes.new ≡ item_at A.SIZE (bytes_of (page_blob.shown buffer.now) (disk (D.time dev.old) (pages.key_of (page_blob.shown buffer.now))).content) position) }
-        ensures checked { D.Tells → OnOk result (IsItemCovered A.SIZE S.seal_of buffer.now (disk (D.time dev.old) (pages.key_of (page_blob.shown buffer.now))).content position) }
-        ensures damaged { D.Tells → (k : ℕ) → IsErrOf result (Error.Runtime (InvalidChecksum k)) → IsDamaged A.SIZE S.seal_of buffer.now (disk (D.time dev.old) (pages.key_of (page_blob.shown buffer.now))).content position k }
+        ensures bytes { D.Tells → AreHeldOf (disk (D.time dev.old) (pages.key_of (page_blob.shown buffer.now))).content buffer.now.held → OnOk result (bytes.new ≡ item_at A.SIZE (bytes_of (page_blob.shown buffer.now) (disk (D.time dev.old) (pages.key_of (page_blob.shown buffer.now))).content) position) }
+        ensures checked { D.Tells → AreHeldOf (disk (D.time dev.old) (pages.key_of (page_blob.shown buffer.now))).content buffer.now.held → OnOk result (IsItemCovered A.SIZE S.seal_of buffer.now (disk (D.time dev.old) (pages.key_of (page_blob.shown buffer.now))).content position) }
+        ensures damaged { D.Tells → AreHeldOf (disk (D.time dev.old) (pages.key_of (page_blob.shown buffer.now))).content buffer.now.held → (k : ℕ) → IsErrOf result (Error.Runtime (InvalidChecksum k)) → IsDamaged A.SIZE S.seal_of buffer.now (disk (D.time dev.old) (pages.key_of (page_blob.shown buffer.now))).content position k }
         ensures held { IfOk result (λ r. r ≡ is_item_held A.SIZE buffer.now position) }
         ensures idle { is_item_held A.SIZE buffer.now position ≡ true → dev.new ≡ dev.old }
         ensures unchanged { D.Tells → Unchanged (D.time dev.old) (D.time dev.new) }
@@ -104,11 +105,11 @@ impl<A: CodecFixed, S: Seal> Journal<A, S> {
         requires open { IsOpenAt (D.opened dev.old) (pages.key_of (page_blob.shown buffer.now)) buffer.now.end }
         requires inside { HasItem A.SIZE buffer.now position }
         requires room { length bytes.old ≡ A.SIZE }
-        ensures item { D.Tells → IfOk result (λ r. IsItem A.spelling A.accepted (item_at A.SIZE (bytes_of (page_blob.shown buffer.now) (disk (D.time dev.old) (pages.key_of (page_blob.shown buffer.now))).content) position) r.0) }
-        ensures checked { D.Tells → OnOk result (IsItemCovered A.SIZE S.seal_of buffer.now (disk (D.time dev.old) (pages.key_of (page_blob.shown buffer.now))).content position) }
-        ensures damaged { D.Tells → (k : ℕ) → IsErrOf result (Error.Runtime (InvalidChecksum k)) → IsDamaged A.SIZE S.seal_of buffer.now (disk (D.time dev.old) (pages.key_of (page_blob.shown buffer.now))).content position k }
-        ensures refused { D.Tells → (e : _) → IsErrOf result (Error.Codec e) → A.refusal (item_at A.SIZE (bytes_of (page_blob.shown buffer.now) (disk (D.time dev.old) (pages.key_of (page_blob.shown buffer.now))).content) position) tt ≡ Some e }
-        ensures sealed_first { D.Tells → (e : _) → IsErrOf result (Error.Codec e) → IsItemCovered A.SIZE S.seal_of buffer.now (disk (D.time dev.old) (pages.key_of (page_blob.shown buffer.now))).content position }
+        ensures item { D.Tells → AreHeldOf (disk (D.time dev.old) (pages.key_of (page_blob.shown buffer.now))).content buffer.now.held → IfOk result (λ r. IsItem A.spelling A.accepted (item_at A.SIZE (bytes_of (page_blob.shown buffer.now) (disk (D.time dev.old) (pages.key_of (page_blob.shown buffer.now))).content) position) r.0) }
+        ensures checked { D.Tells → AreHeldOf (disk (D.time dev.old) (pages.key_of (page_blob.shown buffer.now))).content buffer.now.held → OnOk result (IsItemCovered A.SIZE S.seal_of buffer.now (disk (D.time dev.old) (pages.key_of (page_blob.shown buffer.now))).content position) }
+        ensures damaged { D.Tells → AreHeldOf (disk (D.time dev.old) (pages.key_of (page_blob.shown buffer.now))).content buffer.now.held → (k : ℕ) → IsErrOf result (Error.Runtime (InvalidChecksum k)) → IsDamaged A.SIZE S.seal_of buffer.now (disk (D.time dev.old) (pages.key_of (page_blob.shown buffer.now))).content position k }
+        ensures refused { D.Tells → AreHeldOf (disk (D.time dev.old) (pages.key_of (page_blob.shown buffer.now))).content buffer.now.held → (e : _) → IsErrOf result (Error.Codec e) → A.refusal (item_at A.SIZE (bytes_of (page_blob.shown buffer.now) (disk (D.time dev.old) (pages.key_of (page_blob.shown buffer.now))).content) position) tt ≡ Some e }
+        ensures sealed_first { D.Tells → AreHeldOf (disk (D.time dev.old) (pages.key_of (page_blob.shown buffer.now))).content buffer.now.held → (e : _) → IsErrOf result (Error.Codec e) → IsItemCovered A.SIZE S.seal_of buffer.now (disk (D.time dev.old) (pages.key_of (page_blob.shown buffer.now))).content position }
         ensures accepted { IfOk result (λ r. A.accepted r.0 tt) }
         ensures held { IfOk result (λ r. r.1 ≡ is_item_held A.SIZE buffer.now position) }
         ensures idle { is_item_held A.SIZE buffer.now position ≡ true → dev.new ≡ dev.old }
@@ -131,11 +132,11 @@ impl<A: CodecFixed, S: Seal> Journal<A, S> {
     ) -> Result<A, Error>
         requires open { IsOpenAt (D.opened dev.old) (pages.key_of (page_blob.shown buffer.now)) buffer.now.end }
         requires inside { HasItem A.SIZE buffer.now position }
-        ensures item { D.Tells → IfOk result (IsItem A.spelling A.accepted (item_at A.SIZE (bytes_of (page_blob.shown buffer.now) (disk (D.time dev.old) (pages.key_of (page_blob.shown buffer.now))).content) position)) }
-        ensures checked { D.Tells → OnOk result (IsItemCovered A.SIZE S.seal_of buffer.now (disk (D.time dev.old) (pages.key_of (page_blob.shown buffer.now))).content position) }
-        ensures damaged { D.Tells → (k : ℕ) → IsErrOf result (Error.Runtime (InvalidChecksum k)) → IsDamaged A.SIZE S.seal_of buffer.now (disk (D.time dev.old) (pages.key_of (page_blob.shown buffer.now))).content position k }
-        ensures refused { D.Tells → (e : _) → IsErrOf result (Error.Codec e) → A.refusal (item_at A.SIZE (bytes_of (page_blob.shown buffer.now) (disk (D.time dev.old) (pages.key_of (page_blob.shown buffer.now))).content) position) tt ≡ Some e }
-        ensures sealed_first { D.Tells → (e : _) → IsErrOf result (Error.Codec e) → IsItemCovered A.SIZE S.seal_of buffer.now (disk (D.time dev.old) (pages.key_of (page_blob.shown buffer.now))).content position }
+        ensures item { D.Tells → AreHeldOf (disk (D.time dev.old) (pages.key_of (page_blob.shown buffer.now))).content buffer.now.held → IfOk result (IsItem A.spelling A.accepted (item_at A.SIZE (bytes_of (page_blob.shown buffer.now) (disk (D.time dev.old) (pages.key_of (page_blob.shown buffer.now))).content) position)) }
+        ensures checked { D.Tells → AreHeldOf (disk (D.time dev.old) (pages.key_of (page_blob.shown buffer.now))).content buffer.now.held → OnOk result (IsItemCovered A.SIZE S.seal_of buffer.now (disk (D.time dev.old) (pages.key_of (page_blob.shown buffer.now))).content position) }
+        ensures damaged { D.Tells → AreHeldOf (disk (D.time dev.old) (pages.key_of (page_blob.shown buffer.now))).content buffer.now.held → (k : ℕ) → IsErrOf result (Error.Runtime (InvalidChecksum k)) → IsDamaged A.SIZE S.seal_of buffer.now (disk (D.time dev.old) (pages.key_of (page_blob.shown buffer.now))).content position k }
+        ensures refused { D.Tells → AreHeldOf (disk (D.time dev.old) (pages.key_of (page_blob.shown buffer.now))).content buffer.now.held → (e : _) → IsErrOf result (Error.Codec e) → A.refusal (item_at A.SIZE (bytes_of (page_blob.shown buffer.now) (disk (D.time dev.old) (pages.key_of (page_blob.shown buffer.now))).content) position) tt ≡ Some e }
+        ensures sealed_first { D.Tells → AreHeldOf (disk (D.time dev.old) (pages.key_of (page_blob.shown buffer.now))).content buffer.now.held → (e : _) → IsErrOf result (Error.Codec e) → IsItemCovered A.SIZE S.seal_of buffer.now (disk (D.time dev.old) (pages.key_of (page_blob.shown buffer.now))).content position }
         ensures accepted { IfOk result (λ v. A.accepted v tt) }
         ensures idle { is_item_held A.SIZE buffer.now position ≡ true → dev.new ≡ dev.old }
         ensures unchanged { D.Tells → Unchanged (D.time dev.old) (D.time dev.new) }
@@ -268,13 +269,13 @@ impl<A: CodecFixed, S: Seal> Journal<A, S> {
         requires open { IsOpenAt (D.opened dev.old) (pages.key_of (page_blob.shown buffer.now)) buffer.now.end }
         requires inside { (p : ℕ) → Contains positions.now p → HasItem A.SIZE buffer.now p }
         requires room { length positions.now * A.SIZE ≤ length buf.old }
-        ensures items { D.Tells → IfOk result (λ r. map A.spelling r.0 ≡ map (item_at A.SIZE (bytes_of (page_blob.shown buffer.now) (disk (D.time dev.old) (pages.key_of (page_blob.shown buffer.now))).content)) positions.now) }
+        ensures items { D.Tells → AreHeldOf (disk (D.time dev.old) (pages.key_of (page_blob.shown buffer.now))).content buffer.now.held → IfOk result (λ r. map A.spelling r.0 ≡ map (item_at A.SIZE (bytes_of (page_blob.shown buffer.now) (disk (D.time dev.old) (pages.key_of (page_blob.shown buffer.now))).content)) positions.now) }
         ensures accepted { IfOk result (λ r. (v : A) → Contains r.0 v → A.accepted v tt) }
         ensures held { IfOk result (λ r. r.1 ≡ count_by (is_item_held A.SIZE buffer.now) positions.now) }
-        ensures checked { D.Tells → OnOk result ((p : ℕ) → Contains positions.now p → IsItemCovered A.SIZE S.seal_of buffer.now (disk (D.time dev.old) (pages.key_of (page_blob.shown buffer.now))).content p) }
-        ensures damaged { D.Tells → (k : ℕ) → IsErrOf result (Error.Runtime (InvalidChecksum k))
+        ensures checked { D.Tells → AreHeldOf (disk (D.time dev.old) (pages.key_of (page_blob.shown buffer.now))).content buffer.now.held → OnOk result ((p : ℕ) → Contains positions.now p → IsItemCovered A.SIZE S.seal_of buffer.now (disk (D.time dev.old) (pages.key_of (page_blob.shown buffer.now))).content p) }
+        ensures damaged { D.Tells → AreHeldOf (disk (D.time dev.old) (pages.key_of (page_blob.shown buffer.now))).content buffer.now.held → (k : ℕ) → IsErrOf result (Error.Runtime (InvalidChecksum k))
             → ((p : ℕ) × Contains positions.now p × IsDamaged A.SIZE S.seal_of buffer.now (disk (D.time dev.old) (pages.key_of (page_blob.shown buffer.now))).content p k) }
-        ensures refused { D.Tells → (e : _) → IsErrOf result (Error.Codec e)
+        ensures refused { D.Tells → AreHeldOf (disk (D.time dev.old) (pages.key_of (page_blob.shown buffer.now))).content buffer.now.held → (e : _) → IsErrOf result (Error.Codec e)
             → ((p : ℕ) × Contains positions.now p × (A.refusal (item_at A.SIZE (bytes_of (page_blob.shown buffer.now) (disk (D.time dev.old) (pages.key_of (page_blob.shown buffer.now))).content) p) tt ≡ Some e) × IsItemCovered A.SIZE S.seal_of buffer.now (disk (D.time dev.old) (pages.key_of (page_blob.shown buffer.now))).content p) }
         ensures unchanged { D.Tells → Unchanged (D.time dev.old) (D.time dev.new) }
         ensures reads { ReadsAtMost (length positions.now * (A.SIZE / buffer.now.page_size + 2)) (pages.key_of (page_blob.shown buffer.now)) (D.opened dev.old) (D.opened dev.new) }

@@ -42,7 +42,7 @@ fn section_number(alloc: Global, name: &[u8]) -> Result<u64, Error>
 }
 
 // The numbers that the names spell, in their order. It refuses the first name that spells none.
-pub(crate) fn section_numbers(alloc: Global, names: &Names) -> Result<Vec<u64>, Error>
+fn section_numbers(alloc: Global, names: &Names) -> Result<Vec<u64>, Error>
     ensures numbers { IfOk result (λ r. map (to_be_bytes w64) r.items ≡ names.now) }
     ensures foreign { (n : List ℕ) → result ≡ Err (Error.InvalidBlobName n) → Contains names.now n × (length n ≢ 8) }
     ensures cause { OnErr result (IsErrOf result Error.Mem ⊎ ((n : List ℕ) × IsErrOf result (Error.InvalidBlobName n))) }

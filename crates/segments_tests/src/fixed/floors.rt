@@ -3,6 +3,7 @@ ghost use Rattle.std.specs.Prelude.{◌≡◌, ◌≤◌, ◌-◌, ◌^◌, ℕ,
 ghost use Rattle.std.specs.BTreeMap.{get};
 ghost use Rattle.std.specs.Ordering.{nat_cmp};
 ghost use Rattle.blob_device.specs.Timeline.{disk};
+ghost use Rattle.segments.specs.FixedFloors.{journal_of};
 ghost use Rattle.segments.specs.FixedLists.{IsJournal};
 ghost use Rattle.segments.specs.FixedShown.{shown};
 
@@ -32,23 +33,38 @@ fn markers(alloc: Global, items: &[(u64, u64)], ceiling: u64) -> Result<BTreeMap
     Ok(markers)
 }
 
-/// Checks markers of numbers in pages of 16 bytes.
-fn checked<D: Device>(
+/// Opens a journal and checks markers of numbers in pages of 16 bytes, of which so many may be held.
+fn checked_holding<D: Device>(
     alloc: Global,
     dev: &mut D,
     items: &[(u64, u64)],
     ceiling: u64,
-) -> Result<Checked, Error> {
+    cache_pages: u32,
+) -> Result<Checked, Error>
+    ensures { IfOk result (λ r. IsJournal ⟦<PageBlob<Sha256Seal> as SectionBuffer>⟧ ⟦<AppendFactory<Sha256Seal> as BufferFactory>⟧.gives ⟦<Sha256Seal as Seal>⟧.seal_of 8 D.Tells (journal_of r) (D.opened dev.new) (disk (D.time dev.new))) }
+{
     let cfg = Config {
         partition: String::from_str(alloc, "p")?,
         pages: Pages {
             page_size: 16,
-            cache_pages: 0,
+            cache_pages,
         },
         write_buffer: 1024,
     };
     let markers = markers(alloc, items, ceiling)?;
     Journal::preflight_floors(alloc, dev, &cfg, &markers, ceiling)
+}
+
+/// Opens a journal and checks markers of numbers in pages of 16 bytes.
+fn checked<D: Device>(
+    alloc: Global,
+    dev: &mut D,
+    items: &[(u64, u64)],
+    ceiling: u64,
+) -> Result<Checked, Error>
+    ensures { IfOk result (λ r. IsJournal ⟦<PageBlob<Sha256Seal> as SectionBuffer>⟧ ⟦<AppendFactory<Sha256Seal> as BufferFactory>⟧.gives ⟦<Sha256Seal as Seal>⟧.seal_of 8 D.Tells (journal_of r) (D.opened dev.new) (disk (D.time dev.new))) }
+{
+    checked_holding(alloc, dev, items, ceiling, 0)
 }
 
 /// Opens a journal above markers of numbers.
@@ -61,6 +77,14 @@ fn floored<D: Device>(
     ensures { IfOk result (λ r. IsJournal ⟦<PageBlob<Sha256Seal> as SectionBuffer>⟧ ⟦<AppendFactory<Sha256Seal> as BufferFactory>⟧.gives ⟦<Sha256Seal as Seal>⟧.seal_of 8 D.Tells (shown r) (D.opened dev.new) (disk (D.time dev.new))) }
 {
     let found = checked(alloc, dev, items, ceiling)?;
+    given(dev, found)
+}
+
+/// Gives the journal that was opened.
+fn given<D: Device>(dev: &mut D, found: Checked) -> Result<Numbers, Error>
+    requires { IsJournal ⟦<PageBlob<Sha256Seal> as SectionBuffer>⟧ ⟦<AppendFactory<Sha256Seal> as BufferFactory>⟧.gives ⟦<Sha256Seal as Seal>⟧.seal_of 8 D.Tells (journal_of found) (D.opened dev.old) (disk (D.time dev.old)) }
+    ensures { IfOk result (λ r. IsJournal ⟦<PageBlob<Sha256Seal> as SectionBuffer>⟧ ⟦<AppendFactory<Sha256Seal> as BufferFactory>⟧.gives ⟦<Sha256Seal as Seal>⟧.seal_of 8 D.Tells (shown r) (D.opened dev.new) (disk (D.time dev.new))) }
+{
     found.finish(dev)
 }
 
@@ -83,7 +107,7 @@ fn reached(rt: HostRuntime) -> Result<(), Fail> {
     assert_eq!(rt; boundaries.next(), Some((1, Some(&12))));
     assert_eq!(rt; boundaries.next(), Some((2, Some(&20))));
     assert_eq!(rt; boundaries.next(), None);
-    let journal = found.finish(&mut dev)?;
+    let journal = given(&mut dev, found)?;
     assert!(rt; !journal.is_recovered(1));
     assert!(rt; journal.is_recovered(2));
     assert!(rt; !journal.is_recovered(3));
@@ -256,24 +280,93 @@ fn foreign(rt: HostRuntime) -> Result<(), Fail> {
     image.drop_blob("p", b"other".as_slice());
     let mut dev = Memory::from_image(alloc, image)?;
     let found = checked(alloc, &mut dev, [(1, 5)].as_slice(), 2)?;
+    assert_eq!(rt; found.finish(&mut dev)?.newest_section(), Some(2));
     let mut image = dev.image(alloc)?;
     image.set_blob("p", b"other".as_slice(), b"".as_slice())?;
     let mut dev = Memory::from_image(alloc, image)?;
-    let refused = found.finish(&mut dev).err();
+    let refused = checked(alloc, &mut dev, [(1, 5)].as_slice(), 2).err();
     assert!(rt; matches!(refused, Some(Error::InvalidBlobName(_))));
     Ok(())
 }
 
-// The blob was cut between the check and the opening.
+// A blob that lost its end, or is gone, after an opening that took its marker: the next one refuses it.
 #[test]
 fn cut_between(rt: HostRuntime) -> Result<(), Fail> {
     let alloc = rt.alloc();
     let mut dev = five(alloc)?;
     let found = checked(alloc, &mut dev, [(1, 5), (2, 1)].as_slice(), 2)?;
+    assert_eq!(rt; found.finish(&mut dev)?.section_len(1)?, 5);
     let image = damaged(alloc, &dev, "p", 1, 72, 84)?;
     let mut dev = Memory::from_image(alloc, image)?;
-    assert_eq!(rt; found.finish(&mut dev).err(), lost(1, 32, 40));
+    let refused = checked(alloc, &mut dev, [(1, 5), (2, 1)].as_slice(), 2);
+    assert_eq!(rt; refused.err(), lost(1, 32, 40));
     let journal = opened(alloc, &mut dev, 1024)?;
     assert_eq!(rt; journal.section_len(1)?, 4);
+    let mut image = dev.image(alloc)?;
+    image.drop_blob("p", name_of(1).as_slice());
+    let mut dev = Memory::from_image(alloc, image)?;
+    let refused = checked(alloc, &mut dev, [(1, 5), (2, 1)].as_slice(), 2);
+    assert_eq!(rt; refused.err(), lost(1, 0, 40));
+    Ok(())
+}
+
+// The journal is opened by the check of its markers: giving it makes no call of the device.
+#[test]
+fn finish_is_silent(rt: HostRuntime) -> Result<(), Fail> {
+    let alloc = rt.alloc();
+    let mut dev = five(alloc)?;
+    let idle = dev.calls();
+    let found = checked(alloc, &mut dev, [(1, 3), (2, 1)].as_slice(), 2)?;
+    let before = dev.calls();
+    assert!(rt; idle < before);
+    let journal = found.finish(&mut dev)?;
+    assert_eq!(rt; dev.calls(), before);
+    assert_eq!(rt; journal.section_len(1)?, 5);
+    assert_eq!(rt; journal.section_len(2)?, 1);
+    assert_eq!(rt; journal.floor_of(1), 24);
+    assert_eq!(rt; journal.floor_of(2), 8);
+    assert_eq!(rt; journal.oldest_section(), Some(1));
+    assert_eq!(rt; journal.newest_section(), Some(2));
+    assert!(rt; !journal.is_recovered(1));
+    assert!(rt; journal.is_recovered(2));
+    // It is what was there when the markers were checked, also where the device is another one by now.
+    let found = checked(alloc, &mut dev, [(1, 5), (2, 1)].as_slice(), 2)?;
+    let image = damaged(alloc, &dev, "p", 1, 72, 84)?;
+    let mut other = Memory::from_image(alloc, image)?;
+    let before = other.calls();
+    let journal = found.finish(&mut other)?;
+    assert_eq!(rt; other.calls(), before);
+    assert_eq!(rt; journal.section_len(1)?, 5);
+    assert!(rt; journal.is_recovered(1));
+    Ok(())
+}
+
+/// How many calls an opening of the sections 1 and 2 makes, and how many their replay then does.
+fn calls_of_opening(alloc: Global, cache_pages: u32, buffer: usize) -> Result<(u64, u64), Error> {
+    let mut dev = five(alloc)?;
+    let start = dev.calls();
+    let found = checked_holding(alloc, &mut dev, [(1, 3), (2, 1)].as_slice(), 2, cache_pages)?;
+    let journal = given(&mut dev, found)?;
+    let opened = dev.calls();
+    let replay = journal.replay(&mut dev, 1, 0, buffer)?;
+    let (_, given) = drained(alloc, &mut dev, replay)?;
+    if given.errors != 0 || given.items.len() != 6 {
+        return Err(Error::ReplayFailed);
+    }
+    let replayed = dev.calls();
+    Ok((
+        opened.saturating_sub(start),
+        replayed.saturating_sub(opened),
+    ))
+}
+
+// Section 1 has three pages, section 2 has one. The opening lists and opens them, reads the last page of each, and the page of the item
+// below the marker of section 1. With pages held the replay reads the one page that was not read; with none it reads all four.
+#[test]
+fn an_opening_reads_each_page_once(rt: HostRuntime) -> Result<(), Fail> {
+    let alloc = rt.alloc();
+    assert_eq!(rt; calls_of_opening(alloc, 1, 1)?, (6, 1));
+    assert_eq!(rt; calls_of_opening(alloc, 16, 256)?, (6, 1));
+    assert_eq!(rt; calls_of_opening(alloc, 0, 1)?, (6, 4));
     Ok(())
 }

@@ -11,6 +11,7 @@ use Rattle.sealed_pages.specs.ChanceSeal.{Sealing}
 use Rattle.sealed_pages.specs.declared.page_blob.PageBlob.{PageBlob}
 use Rattle.sealed_pages.specs.Entries.{IsOpenAt}
 use Rattle.sealed_pages.specs.Flushing.{Alone}
+use Rattle.sealed_pages.specs.Held.{AreHeldOf}
 use Rattle.sealed_pages.specs.SealedPrefix.{sealed_prefix}
 use Rattle.sealed_pages.specs.Shown as page_blob
 use Rattle.sealed_pages.specs.Unrecovered.{IsAdopted, IsUnrecovered, KeepsPrefix}
@@ -27,7 +28,7 @@ use Rattle.segments.specs.Managed as managed
 use Rattle.segments.specs.Sections.{section_key, key_of}
 use Rattle.segments.proofs.WalkLemmas.{none_or_value}
 use Rattle.segments.proofs.FixedWriteLemmas.{are_pages, size_here, bytes_here}
-use Rattle.segments.proofs.FixedCalls.{moved}
+use Rattle.segments.proofs.FixedCalls.{moved, held_on}
 use Rattle.segments.proofs.FixedAppendLemmas.{Takes, Appends, steady_start, appended_adopted, taken_adopted, start_sealing, held_sealing, beginning, taken_still, taken_sealed, taken_size, taken_bytes, crashes_as, was_ok, was_err, at_ok, full_is, no_room_made, full_here, same_setting, append_journal}
 use Rattle.segments.proofs.fixed.Journal.append.Goals as goal
 
@@ -354,6 +355,9 @@ returns-clause-over g c =
           (λ is. at_ok c.append.result (v, c.in_ok-buffer-2.offset) (λ (x : PageBlob g.row.S.Denot g.S.Seal × ℕ). IsSealed g.S.Seal.seal_of (page_blob.shown x.0) (disk end (pages.key_of (page_blob.shown u)))) ok (c.append.ensures.sealed t is))
           (λ is. at_ok c.append.result (v, c.in_ok-buffer-2.offset) (λ (x : PageBlob g.row.S.Denot g.S.Seal × ℕ). IsUnrecovered g.S.Seal.seal_of (page_blob.shown x.0) (disk end (pages.key_of (page_blob.shown u)))) ok (c.append.ensures.unrecovered t is))
           (adopted t));
+      holds = λ t. held_on u v k now end here
+          (λ has. at_ok c.append.result (v, c.in_ok-buffer-2.offset) (λ (x : PageBlob g.row.S.Denot g.S.Seal × ℕ). AreHeldOf (disk end (pages.key_of (page_blob.shown u))).content x.0.held) ok (c.append.ensures.held t has))
+          (c.in_ok-buffer.ensures.stands t).held;
       sealed = λ t is. subst (λ (q : Key). IsSealed g.S.Seal.seal_of (page_blob.shown v) (disk end q)) here
           (at_ok c.append.result (v, c.in_ok-buffer-2.offset) (λ (x : PageBlob g.row.S.Denot g.S.Seal × ℕ). IsSealed g.S.Seal.seal_of (page_blob.shown x.0) (disk end (pages.key_of (page_blob.shown u)))) ok
           (c.append.ensures.sealed t (subst (λ (q : Key). IsSealed g.S.Seal.seal_of (page_blob.shown u) (disk now q)) (sym here) is)));

@@ -20,17 +20,17 @@ returns-then-try_read_held-clause-held g c =
     (size_of (shown u)) c.try_read_held.result g.met.A.CodecFixed.fixed.at_least (item_within g.A.CodecFixed.SIZE (size_of (shown u)) c.args.position c.requires.inside) c.try_read_held.ensures.held
 
 pub returns-then-try_read_held-clause-checked : goal.returns-then-try_read_held-clause-checked
-returns-then-try_read_held-clause-checked g c t =
+returns-then-try_read_held-clause-checked g c t holds =
     let u = c.args.buffer.now in
     held_covered g.S.Seal.seal_of u.page_size u.first g.A.CodecFixed.SIZE c.args.position (disk (g.D.Device.time c.args.dev.now) (key_of (shown u))).content (sym (returns-then-try_read_held-clause-held g c))
 
 pub returns-in_err-read_at-clause-damaged : goal.returns-in_err-read_at-clause-damaged
-returns-in_err-read_at-clause-damaged g c t k is =
+returns-in_err-read_at-clause-damaged g c t holds k is =
     let u = c.args.buffer.now in
     let at : c.args.position * c.SIZE.result ≡ c.args.position * g.A.CodecFixed.SIZE = ap (λ (n : ℕ). c.args.position * n) c.SIZE.ensures in
     let same : c.in_err-read_at.field-0.0 ≡ InvalidChecksum k = of_buffer c.from_residual.result c.in_err-read_at.field-0.0 (InvalidChecksum k) c.from_residual.ensures.1 is in
     short_item u.page_size u.first g.A.CodecFixed.SIZE c.args.position (c.args.position * c.SIZE.result) (length c.try_read_held.new.buf) at (c.try_read_held.auto.buf ∙ c.requires.room)
-    g.S.Seal.seal_of (disk (g.D.Device.time c.args.dev.now) (key_of (shown u))).content k (c.in_err-read_at.ensures.checksum t k (cc same))
+    g.S.Seal.seal_of (disk (g.D.Device.time c.args.dev.now) (key_of (shown u))).content k (c.in_err-read_at.ensures.checksum t holds k (cc same))
 
 pub returns-in_err-read_at-clause-idle : goal.returns-in_err-read_at-clause-idle
 returns-in_err-read_at-clause-idle g c held =
@@ -56,10 +56,10 @@ returns-in_err-read_at-clause-cause g c =
     (λ short. omega (arith, (c.in_err-read_at.ensures.short.0 short).1, within, at, c.try_read_held.auto.buf, c.requires.room)) c.in_err-read_at.ensures.cause
 
 pub returns-clause-bytes : goal.returns-clause-bytes
-returns-clause-bytes g c t =
+returns-clause-bytes g c t holds =
     let u = c.args.buffer.now in
     read_item u.page_size u.first g.A.CodecFixed.SIZE c.args.position (c.args.position * c.SIZE.result) (length c.try_read_held.new.buf) (ap (λ (n : ℕ). c.args.position * n) c.SIZE.ensures) (c.try_read_held.auto.buf ∙ c.requires.room)
-    c.read_at.new.buf (bytes_of (shown u) (disk (g.D.Device.time c.args.dev.now) (key_of (shown u))).content) (c.in_ok-read_at.ensures.bytes t)
+    c.read_at.new.buf (bytes_of (shown u) (disk (g.D.Device.time c.args.dev.now) (key_of (shown u))).content) (c.in_ok-read_at.ensures.bytes t holds)
 
 pub returns-clause-held : goal.returns-clause-held
 returns-clause-held g c =

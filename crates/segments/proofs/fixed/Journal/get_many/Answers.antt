@@ -1,4 +1,4 @@
-use Rattle.std.proofs.Common.{◌≡◌, ◌∙◌, ◌+◌, ◌*◌, ◌/◌, ℕ, List, Err, length, ap, arith}
+use Rattle.std.proofs.Common.{◌≡◌, ◌∙◌, ◌+◌, ◌*◌, ◌/◌, ℕ, List, Err, IfOk, length, map, sym, ap, subst, arith}
 use Rattle.std.specs.List.{Contains}
 use Rattle.blob_device.specs.Timeline.{disk}
 use Rattle.blob_device.proofs.Results.{on_ok}
@@ -13,7 +13,7 @@ use Rattle.segments.specs.FixedShown as lists
 use Rattle.segments.specs.Managed.{shown}
 use Rattle.segments.specs.Sections.{key_of}
 use Rattle.segments.proofs.FixedErrors.{of_error}
-use Rattle.segments.proofs.FixedSections.{some_here, from_here, bytes_own, own_here, journal_read, reads_as, sound_page}
+use Rattle.segments.proofs.FixedSections.{some_here, from_here, bytes_own, own_here, holds_own, journal_read, reads_as, sound_page}
 use Rattle.segments.proofs.fixed.Journal.get_many.Goals as goal
 
 pub returns-in_err-check_positions-clause-first : goal.returns-in_err-check_positions-clause-first
@@ -30,22 +30,44 @@ returns-clause-inside g c v p is has past =
     let inside = from_here m c.args.section v is (λ w. HasItem g.A.CodecFixed.SIZE w p) (some_here m c.args.section u c.in_ok-buffer.ensures.held (λ w. HasItem g.A.CodecFixed.SIZE w p) (c.in_ok-check_positions.ensures.ok p has)) in
     absurd (omega (arith, inside, past))
 
+pub returns-clause-items : goal.returns-clause-items
+returns-clause-items g c t =
+    let m = shown c.args.self.now.manager in
+    let u = c.in_ok-buffer.buffer.now in
+    let held = c.in_ok-buffer.ensures.held in
+    let key = c.requires.over.over.opened_list.key c.args.section u held in
+    let d = disk (g.D.Device.time c.args.dev.now) in
+    let holds = holds_own m c.args.section u held key d ((c.requires.over.over.disk t).stands c.args.section u held).held in
+    subst (λ (l : List ℕ). IfOk c.read_each.result (λ r. map g.A.Codec.spelling r.0 ≡ map (item_at g.A.CodecFixed.SIZE l) c.args.positions.now)) (sym (bytes_own m c.args.section u held key d)) (c.read_each.ensures.items t holds)
+
 pub returns-clause-checked : goal.returns-clause-checked
 returns-clause-checked g c t =
     let m = shown c.args.self.now.manager in
     let u = c.in_ok-buffer.buffer.now in
     let held = c.in_ok-buffer.ensures.held in
+    let holds = holds_own m c.args.section u held (c.requires.over.over.opened_list.key c.args.section u held) (disk (g.D.Device.time c.args.dev.now)) ((c.requires.over.over.disk t).stands c.args.section u held).held in
     on_ok c.read_each.result
     (own_here m c.args.section u held (c.requires.over.over.opened_list.key c.args.section u held)
     (λ v b. (p : ℕ) → Contains c.args.positions.now p → IsItemCovered g.A.CodecFixed.SIZE g.S.Seal.seal_of v b.content p) (disk (g.D.Device.time c.args.dev.now)))
-    (c.read_each.ensures.checked t)
+    (c.read_each.ensures.checked t holds)
+
+pub returns-clause-damaged : goal.returns-clause-damaged
+returns-clause-damaged g c t k is =
+    let m = shown c.args.self.now.manager in
+    let u = c.in_ok-buffer.buffer.now in
+    let held = c.in_ok-buffer.ensures.held in
+    let key = c.requires.over.over.opened_list.key c.args.section u held in
+    let d = disk (g.D.Device.time c.args.dev.now) in
+    let holds = holds_own m c.args.section u held key d ((c.requires.over.over.disk t).stands c.args.section u held).held in
+    own_here m c.args.section u held key (λ v b. (p : ℕ) × Contains c.args.positions.now p × IsDamaged g.A.CodecFixed.SIZE g.S.Seal.seal_of v b.content p k) d (c.read_each.ensures.damaged t holds k is)
 
 pub returns-clause-sound : goal.returns-clause-sound
 returns-clause-sound g c t which k is =
     let m = shown c.args.self.now.manager in
     let u = c.in_ok-buffer.buffer.now in
     let held = c.in_ok-buffer.ensures.held in
-    let page = c.read_each.ensures.damaged t k is in
+    let holds = holds_own m c.args.section u held (c.requires.over.over.opened_list.key c.args.section u held) (disk (g.D.Device.time c.args.dev.now)) ((c.requires.over.over.disk t).stands c.args.section u held).held in
+    let page = c.read_each.ensures.damaged t holds k is in
     sound_page _ _ g.S.Seal.seal_of g.A.CodecFixed.SIZE g.D.Device.Tells (lists.shown c.args.self.now) _ (disk (g.D.Device.time c.args.dev.now)) c.requires.over t c.args.section (λ v. page.0) k which
     (own_here m c.args.section u held (c.requires.over.over.opened_list.key c.args.section u held) (λ v b. IsDamaged g.A.CodecFixed.SIZE g.S.Seal.seal_of v b.content page.0 k) (disk (g.D.Device.time c.args.dev.now)) page.2)
 
@@ -56,7 +78,8 @@ returns-clause-refused g c t e is =
     let held = c.in_ok-buffer.ensures.held in
     let key = c.requires.over.over.opened_list.key c.args.section u held in
     let d = disk (g.D.Device.time c.args.dev.now) in
-    let has = c.read_each.ensures.refused t e is in (
+    let holds = holds_own m c.args.section u held key d ((c.requires.over.over.disk t).stands c.args.section u held).held in
+    let has = c.read_each.ensures.refused t holds e is in (
       has.0,
       has.1,
       ap (λ (l : List ℕ). g.A.Codec.refusal (item_at g.A.CodecFixed.SIZE l has.0) tt) (bytes_own m c.args.section u held key d) ∙ has.2,

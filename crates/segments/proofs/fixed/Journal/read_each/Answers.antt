@@ -7,6 +7,7 @@ use Rattle.blob_device.specs.Disk.{Disk}
 use Rattle.blob_device.specs.Timeline.{disk}
 use Rattle.blob_device.specs.declared.runtime.RError.TheVariants.{InvalidChecksum}
 use Rattle.sealed_pages.specs.Buffer.{key_of, bytes_of}
+use Rattle.sealed_pages.specs.Held.{AreHeldOf}
 use Rattle.sealed_pages.specs.Shown.{shown}
 use Rattle.sealed_pages.proofs.EntryLemmas.{reads_then}
 use Rattle.sealed_pages.proofs.Holding.{bool_or}
@@ -22,25 +23,27 @@ pub read_into-requires-clause-inside : goal.read_into-requires-clause-inside
 read_into-requires-clause-inside g c = c.requires.inside (get_or c.args.positions.now c.loop-i.i 0) (Contains-get_or c.args.positions.now c.loop-i.i 0 c.loop-i-test.true)
 
 pub returns-in_err-item-clause-damaged : goal.returns-in_err-item-clause-damaged
-returns-in_err-item-clause-damaged g c t k is =
+returns-in_err-item-clause-damaged g c t holds k is =
     let u = c.args.buffer.now in
+    let same = unchanged_now (g.D.Device.time c.args.dev.now) (g.D.Device.time c.loop-i.dev) (c.loop-i.invariant.unchanged t) in
     let p = get_or c.args.positions.now c.loop-i.i 0 in (
       p,
       Contains-get_or c.args.positions.now c.loop-i.i 0 c.loop-i-test.true,
-      subst (λ (d : Disk). IsDamaged g.A.CodecFixed.SIZE g.S.Seal.seal_of u (d (key_of (shown u))).content p k) (unchanged_now (g.D.Device.time c.args.dev.now) (g.D.Device.time c.loop-i.dev) (c.loop-i.invariant.unchanged t))
-          (c.in_err-item.ensures.damaged t k (ap Err (of_error c.from_residual.result c.in_err-item.field-0.0 (Runtime (InvalidChecksum k)) c.from_residual.ensures.1 is))),
+      subst (λ (d : Disk). IsDamaged g.A.CodecFixed.SIZE g.S.Seal.seal_of u (d (key_of (shown u))).content p k) same
+          (c.in_err-item.ensures.damaged t (subst (λ (d : Disk). AreHeldOf (d (key_of (shown u))).content u.held) (sym same) holds) k (ap Err (of_error c.from_residual.result c.in_err-item.field-0.0 (Runtime (InvalidChecksum k)) c.from_residual.ensures.1 is))),
     )
 
 pub returns-in_err-item-clause-refused : goal.returns-in_err-item-clause-refused
-returns-in_err-item-clause-refused g c t e is =
+returns-in_err-item-clause-refused g c t holds e is =
     let u = c.args.buffer.now in
     let p = get_or c.args.positions.now c.loop-i.i 0 in
     let same = unchanged_now (g.D.Device.time c.args.dev.now) (g.D.Device.time c.loop-i.dev) (c.loop-i.invariant.unchanged t) in
+    let here = subst (λ (d : Disk). AreHeldOf (d (key_of (shown u))).content u.held) (sym same) holds in
     let err = ap Err (of_error c.from_residual.result c.in_err-item.field-0.0 (Codec e) c.from_residual.ensures.1 is) in (
       p,
       Contains-get_or c.args.positions.now c.loop-i.i 0 c.loop-i-test.true,
-      ap (λ (d : Disk). g.A.Codec.refusal (item_at g.A.CodecFixed.SIZE (bytes_of (shown u) (d (key_of (shown u))).content) p) tt) (sym same) ∙ c.in_err-item.ensures.refused t e err,
-      subst (λ (d : Disk). IsItemCovered g.A.CodecFixed.SIZE g.S.Seal.seal_of u (d (key_of (shown u))).content p) same (c.in_err-item.ensures.sealed_first t e err),
+      ap (λ (d : Disk). g.A.Codec.refusal (item_at g.A.CodecFixed.SIZE (bytes_of (shown u) (d (key_of (shown u))).content) p) tt) (sym same) ∙ c.in_err-item.ensures.refused t here e err,
+      subst (λ (d : Disk). IsItemCovered g.A.CodecFixed.SIZE g.S.Seal.seal_of u (d (key_of (shown u))).content p) same (c.in_err-item.ensures.sealed_first t here e err),
     )
 
 pub returns-in_err-item-clause-unchanged : goal.returns-in_err-item-clause-unchanged
@@ -73,12 +76,13 @@ loop-i-preserved g c =
     let lt : c.loop-i.i < length c.args.positions.now = c.loop-i-test.true in
     let X = g.A.CodecFixed.SIZE / c.args.buffer.now.page_size + 2 in
     let same = λ (t : g.D.Device.Tells). unchanged_now (g.D.Device.time c.args.dev.now) (g.D.Device.time c.loop-i.dev) (c.loop-i.invariant.unchanged t) in
+    let here = λ (t : g.D.Device.Tells) (holds : AreHeldOf (d0 (key_of (shown u))).content u.held). subst (λ (d : Disk). AreHeldOf (d (key_of (shown u))).content u.held) (sym (same t)) holds in
     let pushed : c.push.new.self.items ≡ c.loop-i.items.items ++ c.in_ok-item.item ∷ [] = c.in_ok-push.ensures.items in
     record {
-      items = λ t. (let F = item_at g.A.CodecFixed.SIZE (bytes_of (shown u) (d0 (key_of (shown u))).content) in
+      items = λ t holds. (let F = item_at g.A.CodecFixed.SIZE (bytes_of (shown u) (d0 (key_of (shown u))).content) in
           let one : g.A.Codec.spelling c.in_ok-item.item ≡ item_at g.A.CodecFixed.SIZE (bytes_of (shown u) (d0 (key_of (shown u))).content) p
-          = (c.in_ok-item.ensures.item t).spelled ∙ ap (λ (d : Disk). item_at g.A.CodecFixed.SIZE (bytes_of (shown u) (d (key_of (shown u))).content) p) (same t) in
-          ap (map g.A.Codec.spelling) pushed ∙ map-append g.A.Codec.spelling c.loop-i.items.items (c.in_ok-item.item ∷ []) ∙ (λ j. c.loop-i.invariant.items t j ++ one j ∷ []) ∙ sym (map_more F xs i 0 lt));
+          = (c.in_ok-item.ensures.item t (here t holds)).spelled ∙ ap (λ (d : Disk). item_at g.A.CodecFixed.SIZE (bytes_of (shown u) (d (key_of (shown u))).content) p) (same t) in
+          ap (map g.A.Codec.spelling) pushed ∙ map-append g.A.Codec.spelling c.loop-i.items.items (c.in_ok-item.item ∷ []) ∙ (λ j. c.loop-i.invariant.items t holds j ++ one j ∷ []) ∙ sym (map_more F xs i 0 lt));
       accepted = λ v has. elim (Contains-push_cases c.loop-i.items.items c.in_ok-item.item v (subst (λ (l : List g.row.A.Denot). Contains l v) pushed has)) [
         | inl before ↦ c.loop-i.invariant.accepted v before
         | inr is ↦ subst (λ (w : g.row.A.Denot). g.A.Codec.accepted w tt) is c.in_ok-item.ensures.accepted
@@ -87,8 +91,8 @@ loop-i-preserved g c =
         | inl is_held ↦ (let one : c.from-held_count.result ≡ 1 = rw is_held at c.from-held_count.ensures in omega (arith, one, c.loop-i.invariant.held, count_by_more_yes (is_item_held g.A.CodecFixed.SIZE u) xs i 0 lt (sym c.in_ok-item.ensures.held ∙ is_held)))
         | inr not_held ↦ (let none : c.from-held_count.result ≡ 0 = rw not_held at c.from-held_count.ensures in omega (arith, none, c.loop-i.invariant.held, count_by_more_no (is_item_held g.A.CodecFixed.SIZE u) xs i 0 lt (sym c.in_ok-item.ensures.held ∙ not_held)))
       ];
-      checked = λ t. below_more (λ k. IsItemCovered g.A.CodecFixed.SIZE g.S.Seal.seal_of u (d0 (key_of (shown u))).content (get_or xs k 0)) i (c.loop-i.invariant.checked t)
-          (subst (λ (d : Disk). IsItemCovered g.A.CodecFixed.SIZE g.S.Seal.seal_of u (d (key_of (shown u))).content p) (same t) (c.in_ok-item.ensures.checked t));
+      checked = λ t holds. below_more (λ k. IsItemCovered g.A.CodecFixed.SIZE g.S.Seal.seal_of u (d0 (key_of (shown u))).content (get_or xs k 0)) i (c.loop-i.invariant.checked t holds)
+          (subst (λ (d : Disk). IsItemCovered g.A.CodecFixed.SIZE g.S.Seal.seal_of u (d (key_of (shown u))).content p) (same t) (c.in_ok-item.ensures.checked t (here t holds)));
       is_open = c.in_ok-item.ensures.reads.length u.end c.loop-i.invariant.is_open;
       unchanged = λ t. unchanged_then _ _ _ (c.loop-i.invariant.unchanged t) (c.in_ok-item.ensures.unchanged t);
       reads = reads_then _ (i * X) X ((i + 1) * X) _ _ _ (omega (arith, times_next i X)) c.loop-i.invariant.reads c.in_ok-item.ensures.reads;
@@ -96,8 +100,8 @@ loop-i-preserved g c =
     }
 
 pub returns-clause-checked : goal.returns-clause-checked
-returns-clause-checked g c t p has =
+returns-clause-checked g c t holds p has =
     let u = c.args.buffer.now in
     let xs = c.args.positions.now in
     subst (λ (q : ℕ). IsItemCovered g.A.CodecFixed.SIZE g.S.Seal.seal_of u (disk (g.D.Device.time c.args.dev.now) (key_of (shown u))).content q) (get_or_default xs has.0 0 p has.1 ∙ has.2)
-    (c.loop-i.invariant.checked t has.0 (omega (arith, has.1, c.loop-i-test.false)))
+    (c.loop-i.invariant.checked t holds has.0 (omega (arith, has.1, c.loop-i-test.false)))

@@ -1,9 +1,10 @@
 use Rattle.std.proofs.Common.{◌≡◌, ◌*◌, ℕ, refl, ap, subst, arith}
-use Rattle.std.specs.Prelude.{string_bytes}
+use Rattle.std.proofs.lemmas.Nat.{div_below}
 use Rattle.blob_device.specs.Timeline.{disk}
+use Rattle.sealed_pages.specs.Buffer.{key_of}
+use Rattle.sealed_pages.specs.Shown.{shown}
 use Rattle.segments.specs.declared.journal.Damage.{Damage}
 use Rattle.segments.specs.FixedFloors.{IsUnsealed}
-use Rattle.segments.specs.Sections.{section_key}
 use Rattle.segments.proofs.FixedFloorLemmas.{unsealed_less}
 use Rattle.segments.proofs.fixed.preflighting.Preflight.refuse.Goals as goal
 
@@ -11,14 +12,14 @@ pub returns-clause-damage : goal.returns-clause-damage
 returns-clause-damage g c t x is =
     let size = g.A.CodecFixed.SIZE in
     let n = c.args.items in
-    let P = c.args.self.now.pages.page_size in
-    let blob = disk (g.D.Device.time c.args.dev.now) (section_key (string_bytes c.args.self.now.partition) c.args.section) in
+    let u = c.args.buffer.now in
+    let blob = disk (g.D.Device.time c.args.dev.now) (key_of (shown c.args.buffer.now)) in
     let wanted : c.args.items * c.SIZE.result ≡ c.args.items * g.A.CodecFixed.SIZE = ap (λ (m : ℕ). c.args.items * m) c.SIZE.ensures in
-    let kept = c.in_ok-kept.ensures.length t in
+    let kept = c.in_ok-kept.ensures.sealed t (λ k lt. absurd (omega (arith, lt, div_below 0 u.page_size 1 (omega (arith, u.fit.begun)) (omega (arith, u.fit.begun))))) in
     let d : Damage = record { section = c.args.section; kept = c.in_ok-kept.kept; wanted = c.args.items * c.SIZE.result } in
     let same : d ≡ x = cc is in
     subst (λ (y : Damage). (y.section ≡ c.args.section)
-    × IsUnsealed g.S.Seal.seal_of c.args.self.now.pages.page_size g.A.CodecFixed.SIZE (disk (g.D.Device.time c.args.dev.now) (section_key (string_bytes c.args.self.now.partition) c.args.section)) c.args.items y) same (
+    × IsUnsealed g.S.Seal.seal_of c.args.buffer.now.page_size g.A.CodecFixed.SIZE (disk (g.D.Device.time c.args.dev.now) (key_of (shown c.args.buffer.now))) c.args.items y) same (
       refl,
       record {
         there = c.requires.there t;
@@ -27,6 +28,6 @@ returns-clause-damage g c t x is =
         broken = c.requires.broken t;
         kept = kept;
         wanted = wanted;
-        less = omega (arith, kept, wanted, unsealed_less g.S.Seal.seal_of P size blob.content n c.args.self.now.valid c.requires.some (c.requires.broken t));
+        less = omega (arith, kept, wanted, unsealed_less g.S.Seal.seal_of u.page_size size blob.content n (omega (arith, u.fit.begun)) c.requires.some (c.requires.broken t));
       },
     )

@@ -77,7 +77,7 @@ end_section-requires-clause-last g c t =
       | inl lt ↦ lt
       | inr le ↦ absurd (cc ((IfOk-at_ok _ is e.exact).1 (omega (arith, le, e.same.at, e.same.size, c.SIZE.ensures))))
     ] in
-    ends_all g.S.Seal.seal_of g.A.CodecFixed.SIZE _ _ w (record { section = r.section; position = r.position; reader = more }) _ (disk (g.D.Device.time c.ensure.new.dev)) was (λ u b stands. stands.adopted) g.met.A.CodecFixed.fixed.at_least
+    ends_all g.S.Seal.seal_of g.A.CodecFixed.SIZE _ _ w (record { section = r.section; position = r.position; reader = more }) _ (disk (g.D.Device.time c.ensure.new.dev)) was (λ u b stands. stands.stands.adopted) g.met.A.CodecFixed.fixed.at_least
     (IfOk-at_ok _ is e.rest refl) done c.is_torn-cuts.result (λ not owed. elim (cases_lt 0 (length more.bytes)) [ inl some ↦ absurd (cc (not, c.is_torn-cuts.ensures.1 (some, owed))) | inr none ↦ omega (arith, none) ]) (λ cuts. (c.is_torn-cuts.ensures.0 cuts).0) t
 
 pub end_at_page-requires-clause-over : goal.end_at_page-requires-clause-over
@@ -114,16 +114,16 @@ end_at_page-requires-clause-last g c t =
     (subst (λ (P : ℕ). IsShort g.S.Seal.seal_of P (disk a r.reader.key).content (next_of r.reader) (missing_of r.reader c.SIZE.result) page) paged short) in
     let far : next_of r.reader + missing_of r.reader c.SIZE.result ≤ more.at + g.A.CodecFixed.SIZE = omega (arith, here_short.wanted.some, e.same.at, c.SIZE.ensures) in
     let inside : next_of r.reader + missing_of r.reader c.SIZE.result ≤ more.size = omega (arith, here_short.wanted.some, e.same.at, e.same.size, h.2.blob_size, h.2.within, h.2.at) in
-    elim (short_owed g.S.Seal.seal_of g.A.CodecFixed.SIZE _ _ w (record { section = r.section; position = r.position; reader = more }) _ (disk b) was (λ u x stands. stands.adopted) g.met.A.CodecFixed.fixed.at_least
+    elim (short_owed g.S.Seal.seal_of g.A.CodecFixed.SIZE _ _ w (record { section = r.section; position = r.position; reader = more }) _ (disk b) was (λ u x stands. stands.stands.adopted) g.met.A.CodecFixed.fixed.at_least
     (next_of r.reader) (missing_of r.reader c.SIZE.result) page inside t here_short) [
       | inl owed ↦ inl (
         owed,
-        ends_short g.S.Seal.seal_of g.A.CodecFixed.SIZE _ _ w (record { section = r.section; position = r.position; reader = more }) _ (disk b) was (λ u x stands. stands.adopted) g.met.A.CodecFixed.fixed.at_least
+        ends_short g.S.Seal.seal_of g.A.CodecFixed.SIZE _ _ w (record { section = r.section; position = r.position; reader = more }) _ (disk b) was (λ u x stands. stands.stands.adopted) g.met.A.CodecFixed.fixed.at_least
             (next_of r.reader) (missing_of r.reader c.SIZE.result) page far inside owed t here_short,
       )
       | inr floor ↦ inr (
         floor.0,
-        short_found g.S.Seal.seal_of g.A.CodecFixed.SIZE _ _ w (record { section = r.section; position = r.position; reader = more }) _ (disk b) was (λ u x stands. stands.adopted) g.met.A.CodecFixed.fixed.at_least
+        short_found g.S.Seal.seal_of g.A.CodecFixed.SIZE _ _ w (record { section = r.section; position = r.position; reader = more }) _ (disk b) was (λ u x stands. stands.stands.adopted) g.met.A.CodecFixed.fixed.at_least
             (next_of r.reader) (missing_of r.reader c.SIZE.result) page (omega (arith, e.same.at)) far inside t floor.0 floor.1 here_short,
       )
     ]
@@ -140,7 +140,7 @@ returns-in-Ok-true g c =
     let was = walk_read g.S.Seal.seal_of g.A.CodecFixed.SIZE _ _ w r more _ _ a b _ c.requires.over e.same e.replays e.unchanged e.reads in
     steps_read g.S.Seal.seal_of g.A.CodecFixed.SIZE _ _ w r more _ _ a b _ c.requires.over e.same e.replays e.unchanged e.reads g.A.Codec.spelling g.A.Codec.accepted g.A.Codec.refusal c.take_item.result (walk_of c.take_item.new.self) _ b _ _ _ e.faults (ok_with c.take_item.result (ok_at c.ensure.result true is e.once))
     (item_steps g.S.Seal.seal_of g.A.CodecFixed.SIZE _ _ w (record { section = r.section; position = r.position; reader = more }) _ b was g.met.A.CodecFixed.fixed.at_least
-    (omega (arith, IfOk-at_ok _ is e.at_hand refl, c.SIZE.ensures)) e.within g.A.Codec.spelling g.A.Codec.accepted g.A.Codec.refusal c.requires.going (λ u x stands. stands.adopted) c.requires.between _ _ (omega arith) c.take_item.result (walk_of c.take_item.new.self)
+    (omega (arith, IfOk-at_ok _ is e.at_hand refl, c.SIZE.ensures)) e.within g.A.Codec.spelling g.A.Codec.accepted g.A.Codec.refusal c.requires.going (λ u x stands. stands.stands.adopted) c.requires.between _ _ (omega arith) c.take_item.result (walk_of c.take_item.new.self)
     c.take_item.ensures.given c.take_item.ensures.skipped c.take_item.ensures.goes c.take_item.ensures.stays c.take_item.ensures.cause c.take_item.ensures.refused)
 
 pub returns-in-Ok-false : goal.returns-in-Ok-false
