@@ -2,20 +2,20 @@
 use Rattle.std.proofs.Common.{◌≡◌, ◌↔◌, inl, inr, ℕ, zero, suc, ◌+◌, ◌*◌, ◌-◌, ◌<◌, ◌≤◌, Bool, cond, List, [], length, IsTrue, Option, None, Some, IsSomeAnd, unwrap_or, true, false, refl, sym, ◌∙◌, ap, subst, arith}
 use Rattle.std.specs.Prelude.{is_some, IsSome}
 use Rattle.std.proofs.lemmas.Bool.{false_from_ne_true}
-use Rattle.blob_device.specs.Disk.{Blob, Disk}
+use Rattle.blob_device.specs.Disk.{Disk}
 use Rattle.blob_device.specs.Opened.{OpenedList}
 use Rattle.sealed_pages.specs.declared.write_blob.WriteBlob.{WriteBlob}
-use Rattle.sealed_pages.specs.SealedPrefix.{adopted_size, data_from}
+use Rattle.sealed_pages.specs.SealedPrefix.{data_from}
 use Rattle.sealed_pages.specs.View.{view}
 use Rattle.segments.specs.declared.journal.Damage.{Damage}
-use Rattle.segments.specs.FixedFloors.{IsBoundary, FallsShort, size_at}
+use Rattle.segments.specs.FixedFloors.{IsBoundary}
 use Rattle.segments.specs.Sections.{Sections, section_key, IsHeld}
 use Rattle.segments.specs.Setting.{Setting}
 use Rattle.segments.proofs.WalkLemmas.{none_or_value}
 use Rattle.paired.specs.GlobSections.{size_held, section_bytes, section_size, IsGlob}
 use Rattle.paired.specs.Kept.{Layout, content_at}
 use Rattle.paired.specs.Opening.{as_read}
-use Rattle.paired.specs.OpeningRefusing.{EndsWithin, IsLost, IsCutOff, IsOutside}
+use Rattle.paired.specs.OpeningRefusing.{EndsWithin, IsLost, IsOutside}
 use Rattle.paired.proofs.GlobLemmas.{buffers, section_counted}
 
 -- the item of a boundary
@@ -90,17 +90,3 @@ module _ {V : Type 0} (l : Layout) (spelling : V → List ℕ) (accepted : V →
                   (subst (λ (m : ℕ). IsOutside (location v) m x) (same (suc n) marked) outside);
             });
           }
-
-  -- a blob with these bytes is not adopted with fewer than its marker asks
-  pub not_short : (x : Damage) (b : Blob) (floor : ℕ) → ((n : ℕ) → floors x.section ≡ Some n → IsTrue b.there) → b.content ≡ (d (section_key l.index x.section)).content
-      → (floors x.section ≡ None → floor ≡ 0) → ((n : ℕ) → floors x.section ≡ Some n → floor ≡ n * l.record_size) → FallsShort l.seal l.page_size b floor x → ⊥
-  not_short x b floor there content none some short = go (floors x.section) refl
-    where
-      go : (o : Option ℕ) → floors x.section ≡ o → ⊥
-      go None is = omega (arith, none is, short.wanted, short.less)
-      go (Some zero) is = omega (arith, some zero is, short.wanted, short.less)
-      go (Some (suc n)) is =
-          let e = bounded (IsBoundary l.seal l.page_size l.record_size spelling accepted (d (section_key l.index x.section)).content (suc n)) (boundary x.section) (found x.section (suc n) is (omega arith)) in
-          let size : size_at l.seal l.page_size b ≡ adopted_size l.seal l.page_size (d (section_key l.index x.section)).content =
-          ap (λ (t : Bool). cond t (adopted_size l.seal l.page_size b.content) 0) (there (suc n) is) ∙ ap (adopted_size l.seal l.page_size) content in
-          omega (arith, some (suc n) is, short.wanted, short.less, short.kept, size, e.has.within)

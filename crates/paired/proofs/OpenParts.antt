@@ -82,10 +82,6 @@ unreadable_found l refusal floors d partition size e s n part pages marked some 
 abbrev pub OnlyNamed : {T : Type 0} → Result T Error → ℕ → ℕ → Type 0
 OnlyNamed r a b = ((n : List ℕ) × IsErrOf r (journal.InvalidBlobName n)) ⊎ HasFailed r a b
 
--- nor does one of the records, once they were checked
-abbrev pub NoRecord : {T : Type 0} → Result T Error → ℕ → ℕ → Type 0
-NoRecord r a b = ((n : List ℕ) × IsErrOf r (journal.InvalidBlobName n)) ⊎ (((x : Damage) × IsErrOf r (journal.Corruption x)) ⊎ (HasNoRoom r ⊎ HasFailed r a b))
-
 module _ {T U : Type 0} (r : Result T Error) (e : Error) (is : r ≡ Err e) (a b : ℕ) where
   pub named_no_damage : OnlyNamed {T = U} (Err e) a b → (x : Damage) → IsErrOf r (journal.Corruption x) → ⊥
   named_no_damage (inl named) x has = cc (is, named.1, has)
@@ -102,24 +98,11 @@ module _ {T U : Type 0} (r : Result T Error) (e : Error) (is : r ≡ Err e) (a b
   named_no_room (inr (inl memory)) has = cc (is, memory, has)
   named_no_room (inr (inr fault)) has = cc (is, fault.0, has)
 
-  pub no_codec : NoRecord {T = U} (Err e) a b → (x : codec.Error) → IsErrOf r (journal.Codec x) → ⊥
-  no_codec (inl named) x has = cc (is, named.1, has)
-  no_codec (inr (inl damage)) x has = cc (is, damage.1, has)
-  no_codec (inr (inr (inl room))) x has = cc (is, room, has)
-  no_codec (inr (inr (inr (inl memory)))) x has = cc (is, memory, has)
-  no_codec (inr (inr (inr (inr fault)))) x has = cc (is, fault.0, has)
-
 -- why both parts' opening fails, where the one part's does
 module _ {T : Type 0} (r : Result T Error) (a b : ℕ) where
   pub named_refuse : OnlyNamed r a b → PartsRefuse r a b
   named_refuse (inl named) = inl named
   named_refuse (inr failed) = inr (inr (inr (inr failed)))
-
-  pub no_record_refuse : NoRecord r a b → PartsRefuse r a b
-  no_record_refuse (inl named) = inl named
-  no_record_refuse (inr (inl damage)) = inr (inl damage)
-  no_record_refuse (inr (inr (inl room))) = inr (inr (inr (inl room)))
-  no_record_refuse (inr (inr (inr failed))) = inr (inr (inr (inr failed)))
 
 -- a check of the markers' sections answers damage or want of memory alone
 pub only_damage : {T U : Type 0} (r : Result T Error) (e : Error) → r ≡ Err e → ((x : Damage) × IsErrOf {T = U} (Err e) (journal.Corruption x)) ⊎ IsErrOf {T = U} (Err e) journal.Mem

@@ -1,5 +1,5 @@
 -- Steps of an opening: what two partitions' openings leave of their blobs, and boundaries that are gone over one by one.
-use Rattle.std.proofs.Common.{◌≡◌, ◌≢◌, ◌↔◌, ◌⊎◌, inl, inr, ℕ, ◌+◌, ◌*◌, ◌-◌, ◌<◌, ◌≤◌, Bool, List, [], ◌∷◌, IsTrue, Option, None, Some, IsSome, refl, sym, ◌∙◌, ap, subst, arith}
+use Rattle.std.proofs.Common.{◌≡◌, ◌≢◌, ◌↔◌, ◌⊎◌, inl, inr, ℕ, List, [], ◌∷◌, IsTrue, Option, Some, IsSome, refl, sym, ◌∙◌, ap, subst, arith}
 use Rattle.std.specs.BTreeMap.{is_at}
 use Rattle.std.specs.List.{All, AllByRecursion, Contains}
 use Rattle.std.specs.Map.{lookup}
@@ -22,18 +22,6 @@ module _ (ceiling : ℕ) (partition : List ℕ) (from d : Disk) (each : Each (Is
     | inr found ↦ absurd (other (ap (λ (k : Key). k.0) found.2))
   ]
 
-  pub settling_there : (q : Key) → (d q).there ≡ (from q).there
-  settling_there q = elim (each q) [
-    | inl same ↦ ap (λ (b : Blob). b.there) same
-    | inr found ↦ ap (λ (b : Blob). b.there) found.4 ∙ sym found.3
-  ]
-
-  pub settling_content : (q : Key) → (d q).content ≡ (from q).content
-  settling_content q = elim (each q) [
-    | inl same ↦ ap (λ (b : Blob). b.content) same
-    | inr found ↦ ap (λ (b : Blob). b.content) found.4
-  ]
-
 -- the same of the partition and the bound by other names
 pub settling_of : (p q : List ℕ) (m n : ℕ) (a b : Timeline) → p ≡ q → m ≡ n → Always a b (Each (IsSettling p m (disk a))) → Always a b (Each (IsSettling q n (disk a)))
 settling_of p q m n a b same bound always = subst (λ (x : List ℕ). Always a b (Each (IsSettling x n (disk a)))) same (subst (λ (k : ℕ). Always a b (Each (IsSettling p k (disk a)))) bound always)
@@ -48,7 +36,7 @@ settling_on ceiling partition from mid q b first second = elim second [
   ]
 ]
 
--- One partition is settled, then another, then the first again.
+-- One partition is settled, then another.
 module _ (ceiling : ℕ) (i v : List ℕ) (differ : i ≢ v) (t0 t1 : Timeline) (first : Always t0 t1 (Each (IsSettling i ceiling (disk t0)))) where
   abbrev pub Both : Disk → Type 0
   Both = Each (λ q b. IsSettling i ceiling (disk t0) q b ⊎ IsSettling v ceiling (disk t0) q b)
@@ -66,15 +54,6 @@ module _ (ceiling : ℕ) (i v : List ℕ) (differ : i ≢ v) (t0 t1 : Timeline) 
     now_second : Each (IsSettling v ceiling (disk t1)) (disk t2)
     now_second = always_now t1 t2 (Each (IsSettling v ceiling (disk t1))) second
 
-    pub index_second : (q : Key) → q.0 ≡ i → disk t2 q ≡ disk t1 q
-    index_second q is = settling_others ceiling v (disk t1) (disk t2) now_second q (λ same. differ (sym is ∙ same))
-
-    pub index_there : (name : List ℕ) → (disk t2 (i, name)).there ≡ (disk t0 (i, name)).there
-    index_there name = ap (λ (b : Blob). b.there) (index_second (i, name) refl) ∙ settling_there ceiling i (disk t0) (disk t1) now_first (i, name)
-
-    pub index_content : (name : List ℕ) → (disk t2 (i, name)).content ≡ (disk t0 (i, name)).content
-    index_content name = ap (λ (b : Blob). b.content) (index_second (i, name) refl) ∙ settling_content ceiling i (disk t0) (disk t1) now_first (i, name)
-
     both_at : (d : Disk) → Each (IsSettling v ceiling (disk t1)) d → Both d
     both_at d each q = elim (each q) [
       | inl same ↦ inl (subst (IsSettling i ceiling (disk t0) q) (sym same) (now_first q))
@@ -86,20 +65,9 @@ module _ (ceiling : ℕ) (i v : List ℕ) (differ : i ≢ v) (t0 t1 : Timeline) 
     pub both_second : Always t0 t2 Both
     both_second = always_then t0 t1 t2 Both both_first (always_weaker t1 t2 (Each (IsSettling v ceiling (disk t1))) Both both_at second)
 
-    module _ (t3 : Timeline) (third : Always t2 t3 (Each (IsSettling i ceiling (disk t2)))) where
-      pub values_third : (name : List ℕ) → disk t3 (v, name) ≡ disk t2 (v, name)
-      values_third name = settling_others ceiling i (disk t2) (disk t3) (always_now t2 t3 (Each (IsSettling i ceiling (disk t2))) third) (v, name) (λ same. differ (sym same))
-
-      both_last : (d : Disk) → Each (IsSettling i ceiling (disk t2)) d → Both d
-      both_last d each q = elim (each q) [
-        | inl same ↦ subst (λ (b : Blob). IsSettling i ceiling (disk t0) q b ⊎ IsSettling v ceiling (disk t0) q b) (sym same) (both_at (disk t2) now_second q)
-        | inr found ↦
-            let was : disk t2 q ≡ disk t1 q = index_second q (ap (λ (k : Key). k.0) found.2) in
-            inl (settling_on ceiling i (disk t0) (disk t2) q (d q) (subst (IsSettling i ceiling (disk t0) q) (sym was) (now_first q)) (inr found))
-      ]
-
-      pub both_third : Always t0 t3 Both
-      both_third = always_then t0 t2 t3 Both both_second (always_weaker t2 t3 (Each (IsSettling i ceiling (disk t2))) Both both_last third)
+    -- nor does it change since
+    pub both_still : (t3 : Timeline) → t3 ≡ t2 → Always t0 t3 Both
+    both_still t3 same = subst (λ (t : Timeline). Always t0 t Both) (sym same) both_second
 
 -- ---- boundaries, one by one
 -- Those that are left are among all, and each other one ends within.

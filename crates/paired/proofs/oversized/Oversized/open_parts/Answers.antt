@@ -1,4 +1,4 @@
-use Rattle.std.proofs.Common.{◌≡◌, ◌↔◌, inl, inr, ℕ, ◌+◌, ◌-◌, ◌^◌, ◌<◌, ◌≤◌, List, [], IsTrue, refl, sym, ◌∙◌, ap, subst, arith}
+use Rattle.std.proofs.Common.{◌≡◌, ◌↔◌, inl, inr, ℕ, ◌+◌, ◌-◌, ◌^◌, ◌<◌, ◌≤◌, List, [], IsTrue, None, Some, false, refl, sym, ◌∙◌, ap, subst, arith}
 use Rattle.std.specs.Prelude.{IsSome, string_bytes}
 use Rattle.std.specs.Int.{w64, to_be_bytes}
 use Rattle.std.specs.BTreeMap.{get}
@@ -7,62 +7,63 @@ use Rattle.blob_device.specs.Disk.{Key, Blob}
 use Rattle.blob_device.specs.Opened.{reads_of}
 use Rattle.blob_device.specs.Timeline.{disk, Always, Each}
 use Rattle.blob_device.specs.declared.runtime.RError.TheVariants.{OffsetOverflow}
+use Rattle.blob_device.proofs.Moments.{always_now}
 use Rattle.blob_device.proofs.Results.{err_of, err_with}
 use Rattle.sealed_pages.specs.declared.pages.Pages.{Pages}
+use Rattle.sealed_pages.specs.Shown as page_blob
+use Rattle.segments.specs.contracts.sealed.AppendFactoryBufferFactory.TheImpl as factory
+use Rattle.segments.specs.contracts.sealed.PageBlobSectionBuffer.TheImpl as pages
 use Rattle.segments.specs.declared.journal.Error.TheVariants as journal_error
+use Rattle.segments.specs.declared.sealed.AppendFactory.{AppendFactory}
 use Rattle.segments.specs.FixedFloors as floors
-use Rattle.segments.specs.FixedFloors.{FallsShort}
 use Rattle.segments.specs.FixedLists as fixed
-use Rattle.segments.specs.FixedShown as journal
+use Rattle.segments.specs.FixedLists.{Lists, IsJournal}
 use Rattle.segments.specs.Lasting.{IsSettling}
 use Rattle.segments.specs.Managed as managed
 use Rattle.segments.specs.Refusing.{IsForeign, IsOpenedTooLong}
-use Rattle.segments.specs.Sealed.{adopted_bytes}
-use Rattle.segments.specs.Sections.{section_key, key_of}
-use Rattle.paired.specs.GlobSections.{bytes_held, section_size}
+use Rattle.segments.specs.Sealed.{adopted_bytes, is_unsettled}
+use Rattle.segments.specs.Sections.{section_key, key_of, IsHeld}
+use Rattle.paired.specs.GlobSections.{section_bytes, section_size}
 use Rattle.paired.specs.ReplayShown.{layout_for}
-use Rattle.paired.proofs.BoundaryLemmas.{boundary_as, cut_off, ends_within, not_short, opened_size}
-use Rattle.paired.proofs.OpeningLemmas.{both_first, both_second, both_third, index_content, index_there, settling_of, values_first, values_third}
+use Rattle.paired.proofs.BoundaryLemmas.{boundary_as, cut_off, ends_within, opened_size}
+use Rattle.paired.proofs.OpeningLemmas.{both_first, both_second, both_still, settling_of, settling_others, values_first}
 use Rattle.paired.proofs.OpeningStartCauses.{error_back, parts_refuse}
-use Rattle.paired.proofs.OpenParts.{floor_given, foreign_as, held_before, keys_apart, named_key, named_no_codec, named_no_damage, named_no_room, named_refuse, no_codec, no_record_refuse, only_damage, refused_lost, unknown, unreadable_found}
+use Rattle.paired.proofs.OpenParts.{floor_given, foreign_as, held_before, keys_apart, named_key, named_no_codec, named_no_damage, named_no_room, named_refuse, only_damage, refused_lost, unknown, unreadable_found}
 use Rattle.paired.proofs.PairSections.{glob_kept}
+use Rattle.paired.proofs.PairStays.{journal_stays}
 use Rattle.paired.proofs.oversized.Oversized.open_parts.Goals as goal
+
+pub returns-clause-index : goal.returns-clause-index
+returns-clause-index g c =
+    let i : List ℕ = string_bytes c.args.cfg.now.index_partition in
+    let v : List ℕ = string_bytes c.args.cfg.now.value_partition in
+    let b = g.D.Device.time c.preflight_floors.new.dev in
+    let e = g.D.Device.time c.init.new.dev in
+    let f = g.D.Device.time c.finish.new._dev in
+    let is_i : string_bytes c.in_ok-index.field-0.partition ≡ i = c.in_ok-index.ensures.partition in
+    let is_v : string_bytes c.in_ok-values.field-0.partition ≡ v = c.in_ok-values.ensures.partition in
+    let j = floors.journal_of c.in_ok-found.found in
+    let here : j.sections.partition ≡ i = c.in_ok-found.ensures.partition ∙ is_i in
+    subst (λ (k : Lists _ _). IsJournal (pages.ghosts g.row.S g.S.Seal g.S.Seal-dict) (factory.ghosts g.row.S g.S.Seal g.S.Seal-dict).gives g.S.Seal.seal_of g.I.CodecFixed.SIZE g.D.Device.Tells k (g.D.Device.opened c.finish.new._dev) (disk f)) (sym c.in_ok-index-2.ensures.journal)
+    (journal_stays g.S.Seal.seal_of g.I.CodecFixed.SIZE j (g.D.Device.opened c.preflight_floors.new.dev) (g.D.Device.opened c.finish.new._dev) (disk b) (disk f)
+    (λ s small. ap (λ x. g.D.Device.opened x (key_of j.sections s)) c.finish.ensures.unchanged ∙ c.init.ensures.entries (key_of j.sections s) (λ q le. keys_apart (string_bytes c.in_ok-values.field-0.partition) j.sections.partition (λ same. c.requires.apart (sym here ∙ sym same ∙ is_v)) s q))
+    (λ t s small. ap (λ x. disk (g.D.Device.time x) (key_of j.sections s)) c.finish.ensures.unchanged ∙ settling_others (2 ^ 64 - 1) (string_bytes c.in_ok-values.field-0.partition) (disk b) (disk e) (always_now b e _ (c.init.ensures.moments t)) (key_of j.sections s) (λ same. c.requires.apart (sym here ∙ same ∙ is_v)))
+    c.in_ok-found.ensures.over)
 
 pub returns-clause-values : goal.returns-clause-values
 returns-clause-values g c =
-    let i : List ℕ = string_bytes c.args.cfg.now.index_partition in
-    let v : List ℕ = string_bytes c.args.cfg.now.value_partition in
-    let a = g.D.Device.time c.args.dev.now in
-    let b = g.D.Device.time c.preflight_floors.new.dev in
-    let e = g.D.Device.time c.init.new.dev in
-    let f = g.D.Device.time c.finish.new.dev in
-    let is_i : string_bytes c.in_ok-index.field-0.partition ≡ i = c.in_ok-index.ensures.partition in
-    let is_v : string_bytes c.in_ok-values.field-0.partition ≡ v = c.in_ok-values.ensures.partition in
-    let found = floors.shown c.in_ok-found.found in
-    let here : found.partition ≡ i = c.in_ok-found.ensures.partition ∙ is_i in
     let m = managed.shown c.in_ok-values-2.values.manager in
-    let of_v : m.partition ≡ v = c.in_ok-values-2.ensures.partition ∙ is_v in
-    glob_kept m (g.D.Device.opened c.init.new.dev) (g.D.Device.opened c.finish.new.dev) (disk e) (disk f)
-    (λ s. c.finish.ensures.entries (key_of m s) (λ q le. keys_apart found.partition m.partition (λ same. c.requires.apart (sym here ∙ same ∙ of_v)) s q))
-    (λ t s. let first : Always a b (Each (IsSettling i (2 ^ 64 - 1) (disk a))) = settling_of (string_bytes c.in_ok-index.field-0.partition) i (2 ^ 64 - 1) (2 ^ 64 - 1) a b is_i refl (c.preflight_floors.ensures.moments t) in let second : Always b e (Each (IsSettling v (2 ^ 64 - 1) (disk b))) = settling_of (string_bytes c.in_ok-values.field-0.partition) v (2 ^ 64 - 1) (2 ^ 64 - 1) b e is_v refl (c.init.ensures.moments t) in let third : Always e f (Each (IsSettling i (2 ^ 64 - 1) (disk e))) = settling_of found.partition i found.ceiling (2 ^ 64 - 1) e f here c.in_ok-found.ensures.ceiling (c.finish.ensures.moments t) in
-    subst (λ p. disk f (section_key p s) ≡ disk e (section_key p s)) (sym of_v) (values_third (2 ^ 64 - 1) i v c.requires.apart a b first e second f third (to_be_bytes w64 s)))
-    c.in_ok-values-2.ensures.over
+    glob_kept m (g.D.Device.opened c.init.new.dev) (g.D.Device.opened c.finish.new._dev) (disk (g.D.Device.time c.init.new.dev)) (disk (g.D.Device.time c.finish.new._dev)) (λ s. ap (λ x. g.D.Device.opened x (key_of m s)) c.finish.ensures.unchanged)
+    (λ t s. ap (λ x. disk (g.D.Device.time x) (key_of m s)) c.finish.ensures.unchanged) c.in_ok-values-2.ensures.over
 
 pub returns-clause-index_held : goal.returns-clause-index_held
 returns-clause-index_held g c t s small =
     let i : List ℕ = string_bytes c.args.cfg.now.index_partition in
-    let v : List ℕ = string_bytes c.args.cfg.now.value_partition in
     let a = g.D.Device.time c.args.dev.now in
-    let b = g.D.Device.time c.preflight_floors.new.dev in
-    let e = g.D.Device.time c.init.new.dev in
     let is_i : string_bytes c.in_ok-index.field-0.partition ≡ i = c.in_ok-index.ensures.partition in
-    let is_v : string_bytes c.in_ok-values.field-0.partition ≡ v = c.in_ok-values.ensures.partition in
-    let found = floors.shown c.in_ok-found.found in
-    let here : found.partition ≡ i = c.in_ok-found.ensures.partition ∙ is_i in
-    let first : Always a b (Each (IsSettling i (2 ^ 64 - 1) (disk a))) = settling_of (string_bytes c.in_ok-index.field-0.partition) i (2 ^ 64 - 1) (2 ^ 64 - 1) a b is_i refl (c.preflight_floors.ensures.moments t) in
-    let second : Always b e (Each (IsSettling v (2 ^ 64 - 1) (disk b))) = settling_of (string_bytes c.in_ok-values.field-0.partition) v (2 ^ 64 - 1) (2 ^ 64 - 1) b e is_v refl (c.init.ensures.moments t) in
-    held_before (disk e (section_key found.partition s)) (disk a (section_key i s)) s found.ceiling (c.in_ok-index-2.ensures.held t s small) (omega (arith, small, c.in_ok-found.ensures.ceiling))
-    (ap (λ (k : Key). (disk e k).there) (named_key found.partition i s here) ∙ index_there (2 ^ 64 - 1) i v c.requires.apart a b first e second (to_be_bytes w64 s))
+    subst (λ (k : Lists _ _). IsHeld k.sections s ↔ IsTrue (disk a (section_key i s)).there) (sym c.in_ok-index-2.ensures.journal)
+    (held_before (disk a (section_key (string_bytes c.in_ok-index.field-0.partition) s)) (disk a (section_key i s)) s (2 ^ 64 - 1) (c.in_ok-found.ensures.held t s small) (omega (arith, small))
+    (ap (λ (k : Key). (disk a k).there) (named_key (string_bytes c.in_ok-index.field-0.partition) i s is_i)))
 
 pub returns-clause-values_held : goal.returns-clause-values_held
 returns-clause-values_held g c t s small =
@@ -78,10 +79,9 @@ returns-clause-values_held g c t s small =
 
 pub returns-clause-index_known : goal.returns-clause-index_known
 returns-clause-index_known g c =
-    let f = g.D.Device.time c.finish.new.dev in
-    let found = floors.shown c.in_ok-found.found in
-    let j = journal.shown c.in_ok-index-2.index in
-    unknown j.sections (g.D.Device.opened c.finish.new.dev) (disk f) found.ceiling c.in_ok-index-2.ensures.over.over (omega (arith, c.in_ok-found.ensures.ceiling)) c.in_ok-index-2.ensures.later
+    let j = floors.journal_of c.in_ok-found.found in
+    subst (λ (k : Lists _ _). (s : ℕ) → k.sections.unopened s ≡ None) (sym c.in_ok-index-2.ensures.journal)
+    (unknown j.sections (g.D.Device.opened c.preflight_floors.new.dev) (disk (g.D.Device.time c.preflight_floors.new.dev)) (2 ^ 64 - 1) c.in_ok-found.ensures.over.over (omega arith) c.in_ok-found.ensures.later)
 
 pub returns-clause-values_known : goal.returns-clause-values_known
 returns-clause-values_known g c =
@@ -90,22 +90,22 @@ returns-clause-values_known g c =
     unknown m (g.D.Device.opened c.init.new.dev) (disk e) (2 ^ 64 - 1) c.in_ok-values-2.ensures.over.over (omega arith) c.in_ok-values-2.ensures.later
 
 pub returns-clause-index_bytes : goal.returns-clause-index_bytes
-returns-clause-index_bytes g c t s held =
+returns-clause-index_bytes g c t =
     let i : List ℕ = string_bytes c.args.cfg.now.index_partition in
     let v : List ℕ = string_bytes c.args.cfg.now.value_partition in
     let a = g.D.Device.time c.args.dev.now in
     let b = g.D.Device.time c.preflight_floors.new.dev in
     let e = g.D.Device.time c.init.new.dev in
-    let f = g.D.Device.time c.finish.new.dev in
+    let f = g.D.Device.time c.finish.new._dev in
     let is_i : string_bytes c.in_ok-index.field-0.partition ≡ i = c.in_ok-index.ensures.partition in
     let is_v : string_bytes c.in_ok-values.field-0.partition ≡ v = c.in_ok-values.ensures.partition in
-    let found = floors.shown c.in_ok-found.found in
-    let here : found.partition ≡ i = c.in_ok-found.ensures.partition ∙ is_i in
-    let j = journal.shown c.in_ok-index-2.index in
-    let first : Always a b (Each (IsSettling i (2 ^ 64 - 1) (disk a))) = settling_of (string_bytes c.in_ok-index.field-0.partition) i (2 ^ 64 - 1) (2 ^ 64 - 1) a b is_i refl (c.preflight_floors.ensures.moments t) in
-    let second : Always b e (Each (IsSettling v (2 ^ 64 - 1) (disk b))) = settling_of (string_bytes c.in_ok-values.field-0.partition) v (2 ^ 64 - 1) (2 ^ 64 - 1) b e is_v refl (c.init.ensures.moments t) in
-    c.in_ok-index-2.ensures.bytes t s held ∙ ap (λ (x : List ℕ). adopted_bytes g.S.Seal.seal_of j.sections.factory.pages.page_size x)
-    (ap (λ (k : Key). (disk e k).content) (named_key found.partition i s here) ∙ index_content (2 ^ 64 - 1) i v c.requires.apart a b first e second (to_be_bytes w64 s))
+    let j = floors.journal_of c.in_ok-found.found in
+    let here : j.sections.partition ≡ i = c.in_ok-found.ensures.partition ∙ is_i in
+    subst (λ (k : Lists _ _). (s : ℕ) → IsHeld k.sections s → fixed.section_bytes k.sections (disk f) s ≡ adopted_bytes g.S.Seal.seal_of k.sections.factory.pages.page_size (disk a (section_key i s)).content) (sym c.in_ok-index-2.ensures.journal)
+    (λ s held. ap (λ x. fixed.section_bytes j.sections (disk (g.D.Device.time x)) s) c.finish.ensures.unchanged
+    ∙ ap (λ (x : Blob). fixed.bytes_held (j.sections.held s) x.content) (settling_others (2 ^ 64 - 1) (string_bytes c.in_ok-values.field-0.partition) (disk b) (disk e) (always_now b e _ (c.init.ensures.moments t)) (key_of j.sections s) (λ same. c.requires.apart (sym here ∙ same ∙ is_v)))
+    ∙ c.in_ok-found.ensures.bytes t s held
+    ∙ ap (λ (k : Key). adopted_bytes g.S.Seal.seal_of j.sections.factory.pages.page_size (disk a k).content) (named_key (string_bytes c.in_ok-index.field-0.partition) i s is_i))
 
 pub returns-clause-values_bytes : goal.returns-clause-values_bytes
 returns-clause-values_bytes g c t s held =
@@ -113,34 +113,26 @@ returns-clause-values_bytes g c t s held =
     let v : List ℕ = string_bytes c.args.cfg.now.value_partition in
     let a = g.D.Device.time c.args.dev.now in
     let b = g.D.Device.time c.preflight_floors.new.dev in
-    let e = g.D.Device.time c.init.new.dev in
-    let f = g.D.Device.time c.finish.new.dev in
     let is_i : string_bytes c.in_ok-index.field-0.partition ≡ i = c.in_ok-index.ensures.partition in
     let is_v : string_bytes c.in_ok-values.field-0.partition ≡ v = c.in_ok-values.ensures.partition in
-    let found = floors.shown c.in_ok-found.found in
-    let here : found.partition ≡ i = c.in_ok-found.ensures.partition ∙ is_i in
     let m = managed.shown c.in_ok-values-2.values.manager in
-    let of_v : m.partition ≡ v = c.in_ok-values-2.ensures.partition ∙ is_v in
     let first : Always a b (Each (IsSettling i (2 ^ 64 - 1) (disk a))) = settling_of (string_bytes c.in_ok-index.field-0.partition) i (2 ^ 64 - 1) (2 ^ 64 - 1) a b is_i refl (c.preflight_floors.ensures.moments t) in
-    let second : Always b e (Each (IsSettling v (2 ^ 64 - 1) (disk b))) = settling_of (string_bytes c.in_ok-values.field-0.partition) v (2 ^ 64 - 1) (2 ^ 64 - 1) b e is_v refl (c.init.ensures.moments t) in
-    let third : Always e f (Each (IsSettling i (2 ^ 64 - 1) (disk e))) = settling_of found.partition i found.ceiling (2 ^ 64 - 1) e f here c.in_ok-found.ensures.ceiling (c.finish.ensures.moments t) in
-    ap (λ (x : Blob). bytes_held (m.held s) x.content) (subst (λ p. disk f (section_key p s) ≡ disk e (section_key p s)) (sym of_v) (values_third (2 ^ 64 - 1) i v c.requires.apart a b first e second f third (to_be_bytes w64 s)))
+    ap (λ x. section_bytes m (disk (g.D.Device.time x)) s) c.finish.ensures.unchanged
     ∙ c.in_ok-values-2.ensures.bytes t s held
     ∙ ap (λ (k : Key). (disk b k).content) (named_key (string_bytes c.in_ok-values.field-0.partition) v s is_v) ∙ ap (λ (x : Blob). x.content) (values_first (2 ^ 64 - 1) i v c.requires.apart a b first (to_be_bytes w64 s))
 
 pub returns-clause-unrecovered : goal.returns-clause-unrecovered
-returns-clause-unrecovered g c s =
-    let j = journal.shown c.in_ok-index-2.index in
-    subst (λ (n : ℕ). IsTrue (j.unrecovered s) ↔ (n < fixed.section_size j.sections s)) (sym (c.in_ok-index-2.ensures.floors s)) (c.in_ok-index-2.ensures.unrecovered s)
+returns-clause-unrecovered g c =
+    subst (λ (k : Lists _ _). (s : ℕ) → IsTrue (k.unrecovered s) ↔ (k.floor_of s < fixed.section_size k.sections s)) (sym c.in_ok-index-2.ensures.journal) c.in_ok-found.ensures.unrecovered
 
 pub returns-clause-reached : goal.returns-clause-reached
-returns-clause-reached g c s =
-    omega (arith, c.in_ok-index-2.ensures.reached s, c.in_ok-index-2.ensures.floors s)
+returns-clause-reached g c =
+    subst (λ (k : Lists _ _). (s : ℕ) → k.floor_of s ≤ fixed.section_size k.sections s) (sym c.in_ok-index-2.ensures.journal) c.in_ok-found.ensures.reached
 
 pub returns-clause-floors : goal.returns-clause-floors
 returns-clause-floors g c s =
     let found = floors.shown c.in_ok-found.found in
-    c.in_ok-index-2.ensures.floors s ∙ floor_given (get nat_cmp c.args.floors.now s) (found.floor_of s) g.I.CodecFixed.SIZE (λ n is. c.in_ok-found.ensures.floors s n is) (λ is. c.in_ok-found.ensures.none s is)
+    ap (λ (k : Lists _ _). k.floor_of s) c.in_ok-index-2.ensures.journal ∙ floor_given (get nat_cmp c.args.floors.now s) (found.floor_of s) g.I.CodecFixed.SIZE (λ n is. c.in_ok-found.ensures.floors s n is) (λ is. c.in_ok-found.ensures.none s is)
 
 pub returns-clause-within : goal.returns-clause-within
 returns-clause-within g c t s n marked some =
@@ -156,7 +148,7 @@ returns-clause-within g c t s n marked some =
 
 pub returns-clause-index_partition : goal.returns-clause-index_partition
 returns-clause-index_partition g c =
-    c.in_ok-index-2.ensures.partition ∙ c.in_ok-found.ensures.partition ∙ c.in_ok-index.ensures.partition
+    ap (λ (k : Lists _ _). k.sections.partition) c.in_ok-index-2.ensures.journal ∙ c.in_ok-found.ensures.partition ∙ c.in_ok-index.ensures.partition
 
 pub returns-clause-values_partition : goal.returns-clause-values_partition
 returns-clause-values_partition g c =
@@ -164,11 +156,11 @@ returns-clause-values_partition g c =
 
 pub returns-clause-pages : goal.returns-clause-pages
 returns-clause-pages g c =
-    c.in_ok-index-2.ensures.pages ∙ c.in_ok-found.ensures.pages ∙ c.in_ok-index.ensures.pages
+    ap (λ (k : Lists (AppendFactory _) _). k.sections.factory.pages) c.in_ok-index-2.ensures.journal ∙ c.in_ok-found.ensures.pages ∙ c.in_ok-index.ensures.pages
 
 pub returns-clause-write_buffers : goal.returns-clause-write_buffers
 returns-clause-write_buffers g c =
-    (c.in_ok-index-2.ensures.write_buffer ∙ c.in_ok-found.ensures.write_buffer ∙ c.in_ok-index.ensures.write_buffer, c.in_ok-values-2.ensures.capacity ∙ c.in_ok-values.ensures.write_buffer)
+    (ap (λ (k : Lists (AppendFactory _) _). k.sections.factory.write_buffer) c.in_ok-index-2.ensures.journal ∙ c.in_ok-found.ensures.write_buffer ∙ c.in_ok-index.ensures.write_buffer, c.in_ok-values-2.ensures.capacity ∙ c.in_ok-values.ensures.write_buffer)
 
 pub returns-clause-codec_config : goal.returns-clause-codec_config
 returns-clause-codec_config g c =
@@ -176,7 +168,7 @@ returns-clause-codec_config g c =
 
 pub returns-clause-bounds : goal.returns-clause-bounds
 returns-clause-bounds g c =
-    (c.in_ok-index-2.ensures.floor, c.in_ok-index-2.ensures.ceiling ∙ c.in_ok-found.ensures.ceiling, c.in_ok-values-2.ensures.floor, c.in_ok-values-2.ensures.ceiling)
+    (ap (λ (k : Lists _ _). k.sections.floor) c.in_ok-index-2.ensures.journal ∙ c.in_ok-found.ensures.floor, ap (λ (k : Lists _ _). k.sections.ceiling) c.in_ok-index-2.ensures.journal ∙ c.in_ok-found.ensures.ceiling, c.in_ok-values-2.ensures.floor, c.in_ok-values-2.ensures.ceiling)
 
 pub returns-clause-moments : goal.returns-clause-moments
 returns-clause-moments g c t =
@@ -185,15 +177,12 @@ returns-clause-moments g c t =
     let a = g.D.Device.time c.args.dev.now in
     let b = g.D.Device.time c.preflight_floors.new.dev in
     let e = g.D.Device.time c.init.new.dev in
-    let f = g.D.Device.time c.finish.new.dev in
+    let f = g.D.Device.time c.finish.new._dev in
     let is_i : string_bytes c.in_ok-index.field-0.partition ≡ i = c.in_ok-index.ensures.partition in
     let is_v : string_bytes c.in_ok-values.field-0.partition ≡ v = c.in_ok-values.ensures.partition in
-    let found = floors.shown c.in_ok-found.found in
-    let here : found.partition ≡ i = c.in_ok-found.ensures.partition ∙ is_i in
     let first : Always a b (Each (IsSettling i (2 ^ 64 - 1) (disk a))) = settling_of (string_bytes c.in_ok-index.field-0.partition) i (2 ^ 64 - 1) (2 ^ 64 - 1) a b is_i refl (c.preflight_floors.ensures.moments t) in
     let second : Always b e (Each (IsSettling v (2 ^ 64 - 1) (disk b))) = settling_of (string_bytes c.in_ok-values.field-0.partition) v (2 ^ 64 - 1) (2 ^ 64 - 1) b e is_v refl (c.init.ensures.moments t) in
-    let third : Always e f (Each (IsSettling i (2 ^ 64 - 1) (disk e))) = settling_of found.partition i found.ceiling (2 ^ 64 - 1) e f here c.in_ok-found.ensures.ceiling (c.finish.ensures.moments t) in
-    both_third (2 ^ 64 - 1) i v c.requires.apart a b first e second f third
+    both_still (2 ^ 64 - 1) i v c.requires.apart a b first e second f (ap g.D.Device.time c.finish.ensures.unchanged)
 
 pub returns-clause-entries : goal.returns-clause-entries
 returns-clause-entries g c q not =
@@ -201,18 +190,14 @@ returns-clause-entries g c q not =
     let v : List ℕ = string_bytes c.args.cfg.now.value_partition in
     let is_i : string_bytes c.in_ok-index.field-0.partition ≡ i = c.in_ok-index.ensures.partition in
     let is_v : string_bytes c.in_ok-values.field-0.partition ≡ v = c.in_ok-values.ensures.partition in
-    let found = floors.shown c.in_ok-found.found in
-    let here : found.partition ≡ i = c.in_ok-found.ensures.partition ∙ is_i in
-    c.finish.ensures.entries q (λ s le is. (not s (omega (arith, le, c.in_ok-found.ensures.ceiling))).0 (is ∙ named_key found.partition i s here)) ∙ c.init.ensures.entries q (λ s le is. (not s (omega (arith, le))).1 (is ∙ named_key (string_bytes c.in_ok-values.field-0.partition) v s is_v)) ∙ c.preflight_floors.ensures.entries q (λ s has is. (not s (c.requires.floors s has)).0 (is ∙ named_key (string_bytes c.in_ok-index.field-0.partition) i s is_i))
+    ap (λ x. g.D.Device.opened x q) c.finish.ensures.unchanged ∙ c.init.ensures.entries q (λ s le is. (not s (omega (arith, le))).1 (is ∙ named_key (string_bytes c.in_ok-values.field-0.partition) v s is_v)) ∙ c.preflight_floors.ensures.entries q (λ s le is. (not s (omega (arith, le))).0 (is ∙ named_key (string_bytes c.in_ok-index.field-0.partition) i s is_i))
 
 pub returns-clause-reads : goal.returns-clause-reads
 returns-clause-reads g c s small =
     let i : List ℕ = string_bytes c.args.cfg.now.index_partition in
     let v : List ℕ = string_bytes c.args.cfg.now.value_partition in
     let is_i : string_bytes c.in_ok-index.field-0.partition ≡ i = c.in_ok-index.ensures.partition in
-    let found = floors.shown c.in_ok-found.found in
-    let here : found.partition ≡ i = c.in_ok-found.ensures.partition ∙ is_i in
-    omega (arith, ap reads_of (c.preflight_floors.ensures.entries (section_key v s) (λ q has. keys_apart (string_bytes c.in_ok-index.field-0.partition) v (λ same. c.requires.apart (sym is_i ∙ same)) s q)), c.init.ensures.reads (section_key v s), ap reads_of (c.finish.ensures.entries (section_key v s) (λ q le. keys_apart found.partition v (λ same. c.requires.apart (sym here ∙ same)) s q)))
+    omega (arith, ap reads_of (c.preflight_floors.ensures.entries (section_key v s) (λ q le. keys_apart (string_bytes c.in_ok-index.field-0.partition) v (λ same. c.requires.apart (sym is_i ∙ same)) s q)), c.init.ensures.reads (section_key v s), ap (λ x. reads_of (g.D.Device.opened x (section_key v s))) c.finish.ensures.unchanged)
 
 pub returns-in_err-found-clause-moments : goal.returns-in_err-found-clause-moments
 returns-in_err-found-clause-moments g c t =
@@ -228,14 +213,14 @@ pub returns-in_err-found-clause-entries : goal.returns-in_err-found-clause-entri
 returns-in_err-found-clause-entries g c q not =
     let i : List ℕ = string_bytes c.args.cfg.now.index_partition in
     let is_i : string_bytes c.in_ok-index.field-0.partition ≡ i = c.in_ok-index.ensures.partition in
-    c.preflight_floors.ensures.entries q (λ s has is. (not s (c.requires.floors s has)).0 (is ∙ named_key (string_bytes c.in_ok-index.field-0.partition) i s is_i))
+    c.preflight_floors.ensures.entries q (λ s le is. (not s (omega (arith, le))).0 (is ∙ named_key (string_bytes c.in_ok-index.field-0.partition) i s is_i))
 
 pub returns-in_err-found-clause-reads : goal.returns-in_err-found-clause-reads
 returns-in_err-found-clause-reads g c s small =
     let i : List ℕ = string_bytes c.args.cfg.now.index_partition in
     let v : List ℕ = string_bytes c.args.cfg.now.value_partition in
     let is_i : string_bytes c.in_ok-index.field-0.partition ≡ i = c.in_ok-index.ensures.partition in
-    omega (arith, ap reads_of (c.preflight_floors.ensures.entries (section_key v s) (λ q has. keys_apart (string_bytes c.in_ok-index.field-0.partition) v (λ same. c.requires.apart (sym is_i ∙ same)) s q)))
+    omega (arith, ap reads_of (c.preflight_floors.ensures.entries (section_key v s) (λ q le. keys_apart (string_bytes c.in_ok-index.field-0.partition) v (λ same. c.requires.apart (sym is_i ∙ same)) s q)))
 
 pub returns-in_err-values-clause-moments : goal.returns-in_err-values-clause-moments
 returns-in_err-values-clause-moments g c t =
@@ -251,14 +236,14 @@ pub returns-in_err-values-clause-entries : goal.returns-in_err-values-clause-ent
 returns-in_err-values-clause-entries g c q not =
     let i : List ℕ = string_bytes c.args.cfg.now.index_partition in
     let is_i : string_bytes c.in_ok-index.field-0.partition ≡ i = c.in_ok-index.ensures.partition in
-    c.preflight_floors.ensures.entries q (λ s has is. (not s (c.requires.floors s has)).0 (is ∙ named_key (string_bytes c.in_ok-index.field-0.partition) i s is_i))
+    c.preflight_floors.ensures.entries q (λ s le is. (not s (omega (arith, le))).0 (is ∙ named_key (string_bytes c.in_ok-index.field-0.partition) i s is_i))
 
 pub returns-in_err-values-clause-reads : goal.returns-in_err-values-clause-reads
 returns-in_err-values-clause-reads g c s small =
     let i : List ℕ = string_bytes c.args.cfg.now.index_partition in
     let v : List ℕ = string_bytes c.args.cfg.now.value_partition in
     let is_i : string_bytes c.in_ok-index.field-0.partition ≡ i = c.in_ok-index.ensures.partition in
-    omega (arith, ap reads_of (c.preflight_floors.ensures.entries (section_key v s) (λ q has. keys_apart (string_bytes c.in_ok-index.field-0.partition) v (λ same. c.requires.apart (sym is_i ∙ same)) s q)))
+    omega (arith, ap reads_of (c.preflight_floors.ensures.entries (section_key v s) (λ q le. keys_apart (string_bytes c.in_ok-index.field-0.partition) v (λ same. c.requires.apart (sym is_i ∙ same)) s q)))
 
 pub returns-in_err-values-2-clause-moments : goal.returns-in_err-values-2-clause-moments
 returns-in_err-values-2-clause-moments g c t =
@@ -279,14 +264,14 @@ returns-in_err-values-2-clause-entries g c q not =
     let v : List ℕ = string_bytes c.args.cfg.now.value_partition in
     let is_i : string_bytes c.in_ok-index.field-0.partition ≡ i = c.in_ok-index.ensures.partition in
     let is_v : string_bytes c.in_ok-values.field-0.partition ≡ v = c.in_ok-values.ensures.partition in
-    c.init.ensures.entries q (λ s le is. (not s (omega (arith, le))).1 (is ∙ named_key (string_bytes c.in_ok-values.field-0.partition) v s is_v)) ∙ c.preflight_floors.ensures.entries q (λ s has is. (not s (c.requires.floors s has)).0 (is ∙ named_key (string_bytes c.in_ok-index.field-0.partition) i s is_i))
+    c.init.ensures.entries q (λ s le is. (not s (omega (arith, le))).1 (is ∙ named_key (string_bytes c.in_ok-values.field-0.partition) v s is_v)) ∙ c.preflight_floors.ensures.entries q (λ s le is. (not s (omega (arith, le))).0 (is ∙ named_key (string_bytes c.in_ok-index.field-0.partition) i s is_i))
 
 pub returns-in_err-values-2-clause-reads : goal.returns-in_err-values-2-clause-reads
 returns-in_err-values-2-clause-reads g c s small =
     let i : List ℕ = string_bytes c.args.cfg.now.index_partition in
     let v : List ℕ = string_bytes c.args.cfg.now.value_partition in
     let is_i : string_bytes c.in_ok-index.field-0.partition ≡ i = c.in_ok-index.ensures.partition in
-    omega (arith, ap reads_of (c.preflight_floors.ensures.entries (section_key v s) (λ q has. keys_apart (string_bytes c.in_ok-index.field-0.partition) v (λ same. c.requires.apart (sym is_i ∙ same)) s q)), c.init.ensures.reads (section_key v s))
+    omega (arith, ap reads_of (c.preflight_floors.ensures.entries (section_key v s) (λ q le. keys_apart (string_bytes c.in_ok-index.field-0.partition) v (λ same. c.requires.apart (sym is_i ∙ same)) s q)), c.init.ensures.reads (section_key v s))
 
 pub returns-in_err-check_values-clause-moments : goal.returns-in_err-check_values-clause-moments
 returns-in_err-check_values-clause-moments g c t =
@@ -307,50 +292,14 @@ returns-in_err-check_values-clause-entries g c q not =
     let v : List ℕ = string_bytes c.args.cfg.now.value_partition in
     let is_i : string_bytes c.in_ok-index.field-0.partition ≡ i = c.in_ok-index.ensures.partition in
     let is_v : string_bytes c.in_ok-values.field-0.partition ≡ v = c.in_ok-values.ensures.partition in
-    c.init.ensures.entries q (λ s le is. (not s (omega (arith, le))).1 (is ∙ named_key (string_bytes c.in_ok-values.field-0.partition) v s is_v)) ∙ c.preflight_floors.ensures.entries q (λ s has is. (not s (c.requires.floors s has)).0 (is ∙ named_key (string_bytes c.in_ok-index.field-0.partition) i s is_i))
+    c.init.ensures.entries q (λ s le is. (not s (omega (arith, le))).1 (is ∙ named_key (string_bytes c.in_ok-values.field-0.partition) v s is_v)) ∙ c.preflight_floors.ensures.entries q (λ s le is. (not s (omega (arith, le))).0 (is ∙ named_key (string_bytes c.in_ok-index.field-0.partition) i s is_i))
 
 pub returns-in_err-check_values-clause-reads : goal.returns-in_err-check_values-clause-reads
 returns-in_err-check_values-clause-reads g c s small =
     let i : List ℕ = string_bytes c.args.cfg.now.index_partition in
     let v : List ℕ = string_bytes c.args.cfg.now.value_partition in
     let is_i : string_bytes c.in_ok-index.field-0.partition ≡ i = c.in_ok-index.ensures.partition in
-    omega (arith, ap reads_of (c.preflight_floors.ensures.entries (section_key v s) (λ q has. keys_apart (string_bytes c.in_ok-index.field-0.partition) v (λ same. c.requires.apart (sym is_i ∙ same)) s q)), c.init.ensures.reads (section_key v s))
-
-pub returns-in_err-index-2-clause-moments : goal.returns-in_err-index-2-clause-moments
-returns-in_err-index-2-clause-moments g c t =
-    let i : List ℕ = string_bytes c.args.cfg.now.index_partition in
-    let v : List ℕ = string_bytes c.args.cfg.now.value_partition in
-    let a = g.D.Device.time c.args.dev.now in
-    let b = g.D.Device.time c.preflight_floors.new.dev in
-    let e = g.D.Device.time c.init.new.dev in
-    let f = g.D.Device.time c.finish.new.dev in
-    let is_i : string_bytes c.in_ok-index.field-0.partition ≡ i = c.in_ok-index.ensures.partition in
-    let is_v : string_bytes c.in_ok-values.field-0.partition ≡ v = c.in_ok-values.ensures.partition in
-    let found = floors.shown c.in_ok-found.found in
-    let here : found.partition ≡ i = c.in_ok-found.ensures.partition ∙ is_i in
-    let first : Always a b (Each (IsSettling i (2 ^ 64 - 1) (disk a))) = settling_of (string_bytes c.in_ok-index.field-0.partition) i (2 ^ 64 - 1) (2 ^ 64 - 1) a b is_i refl (c.preflight_floors.ensures.moments t) in
-    let second : Always b e (Each (IsSettling v (2 ^ 64 - 1) (disk b))) = settling_of (string_bytes c.in_ok-values.field-0.partition) v (2 ^ 64 - 1) (2 ^ 64 - 1) b e is_v refl (c.init.ensures.moments t) in
-    let third : Always e f (Each (IsSettling i (2 ^ 64 - 1) (disk e))) = settling_of found.partition i found.ceiling (2 ^ 64 - 1) e f here c.in_ok-found.ensures.ceiling (c.finish.ensures.moments t) in
-    both_third (2 ^ 64 - 1) i v c.requires.apart a b first e second f third
-
-pub returns-in_err-index-2-clause-entries : goal.returns-in_err-index-2-clause-entries
-returns-in_err-index-2-clause-entries g c q not =
-    let i : List ℕ = string_bytes c.args.cfg.now.index_partition in
-    let v : List ℕ = string_bytes c.args.cfg.now.value_partition in
-    let is_i : string_bytes c.in_ok-index.field-0.partition ≡ i = c.in_ok-index.ensures.partition in
-    let is_v : string_bytes c.in_ok-values.field-0.partition ≡ v = c.in_ok-values.ensures.partition in
-    let found = floors.shown c.in_ok-found.found in
-    let here : found.partition ≡ i = c.in_ok-found.ensures.partition ∙ is_i in
-    c.finish.ensures.entries q (λ s le is. (not s (omega (arith, le, c.in_ok-found.ensures.ceiling))).0 (is ∙ named_key found.partition i s here)) ∙ c.init.ensures.entries q (λ s le is. (not s (omega (arith, le))).1 (is ∙ named_key (string_bytes c.in_ok-values.field-0.partition) v s is_v)) ∙ c.preflight_floors.ensures.entries q (λ s has is. (not s (c.requires.floors s has)).0 (is ∙ named_key (string_bytes c.in_ok-index.field-0.partition) i s is_i))
-
-pub returns-in_err-index-2-clause-reads : goal.returns-in_err-index-2-clause-reads
-returns-in_err-index-2-clause-reads g c s small =
-    let i : List ℕ = string_bytes c.args.cfg.now.index_partition in
-    let v : List ℕ = string_bytes c.args.cfg.now.value_partition in
-    let is_i : string_bytes c.in_ok-index.field-0.partition ≡ i = c.in_ok-index.ensures.partition in
-    let found = floors.shown c.in_ok-found.found in
-    let here : found.partition ≡ i = c.in_ok-found.ensures.partition ∙ is_i in
-    omega (arith, ap reads_of (c.preflight_floors.ensures.entries (section_key v s) (λ q has. keys_apart (string_bytes c.in_ok-index.field-0.partition) v (λ same. c.requires.apart (sym is_i ∙ same)) s q)), c.init.ensures.reads (section_key v s), ap reads_of (c.finish.ensures.entries (section_key v s) (λ q le. keys_apart found.partition v (λ same. c.requires.apart (sym here ∙ same)) s q)))
+    omega (arith, ap reads_of (c.preflight_floors.ensures.entries (section_key v s) (λ q le. keys_apart (string_bytes c.in_ok-index.field-0.partition) v (λ same. c.requires.apart (sym is_i ∙ same)) s q)), c.init.ensures.reads (section_key v s))
 
 pub returns-in_err-check_held-clause-moments : goal.returns-in_err-check_held-clause-moments
 returns-in_err-check_held-clause-moments g c t =
@@ -359,15 +308,12 @@ returns-in_err-check_held-clause-moments g c t =
     let a = g.D.Device.time c.args.dev.now in
     let b = g.D.Device.time c.preflight_floors.new.dev in
     let e = g.D.Device.time c.init.new.dev in
-    let f = g.D.Device.time c.finish.new.dev in
+    let f = g.D.Device.time c.finish.new._dev in
     let is_i : string_bytes c.in_ok-index.field-0.partition ≡ i = c.in_ok-index.ensures.partition in
     let is_v : string_bytes c.in_ok-values.field-0.partition ≡ v = c.in_ok-values.ensures.partition in
-    let found = floors.shown c.in_ok-found.found in
-    let here : found.partition ≡ i = c.in_ok-found.ensures.partition ∙ is_i in
     let first : Always a b (Each (IsSettling i (2 ^ 64 - 1) (disk a))) = settling_of (string_bytes c.in_ok-index.field-0.partition) i (2 ^ 64 - 1) (2 ^ 64 - 1) a b is_i refl (c.preflight_floors.ensures.moments t) in
     let second : Always b e (Each (IsSettling v (2 ^ 64 - 1) (disk b))) = settling_of (string_bytes c.in_ok-values.field-0.partition) v (2 ^ 64 - 1) (2 ^ 64 - 1) b e is_v refl (c.init.ensures.moments t) in
-    let third : Always e f (Each (IsSettling i (2 ^ 64 - 1) (disk e))) = settling_of found.partition i found.ceiling (2 ^ 64 - 1) e f here c.in_ok-found.ensures.ceiling (c.finish.ensures.moments t) in
-    both_third (2 ^ 64 - 1) i v c.requires.apart a b first e second f third
+    both_still (2 ^ 64 - 1) i v c.requires.apart a b first e second f (ap g.D.Device.time c.finish.ensures.unchanged)
 
 pub returns-in_err-check_held-clause-entries : goal.returns-in_err-check_held-clause-entries
 returns-in_err-check_held-clause-entries g c q not =
@@ -375,18 +321,14 @@ returns-in_err-check_held-clause-entries g c q not =
     let v : List ℕ = string_bytes c.args.cfg.now.value_partition in
     let is_i : string_bytes c.in_ok-index.field-0.partition ≡ i = c.in_ok-index.ensures.partition in
     let is_v : string_bytes c.in_ok-values.field-0.partition ≡ v = c.in_ok-values.ensures.partition in
-    let found = floors.shown c.in_ok-found.found in
-    let here : found.partition ≡ i = c.in_ok-found.ensures.partition ∙ is_i in
-    c.finish.ensures.entries q (λ s le is. (not s (omega (arith, le, c.in_ok-found.ensures.ceiling))).0 (is ∙ named_key found.partition i s here)) ∙ c.init.ensures.entries q (λ s le is. (not s (omega (arith, le))).1 (is ∙ named_key (string_bytes c.in_ok-values.field-0.partition) v s is_v)) ∙ c.preflight_floors.ensures.entries q (λ s has is. (not s (c.requires.floors s has)).0 (is ∙ named_key (string_bytes c.in_ok-index.field-0.partition) i s is_i))
+    ap (λ x. g.D.Device.opened x q) c.finish.ensures.unchanged ∙ c.init.ensures.entries q (λ s le is. (not s (omega (arith, le))).1 (is ∙ named_key (string_bytes c.in_ok-values.field-0.partition) v s is_v)) ∙ c.preflight_floors.ensures.entries q (λ s le is. (not s (omega (arith, le))).0 (is ∙ named_key (string_bytes c.in_ok-index.field-0.partition) i s is_i))
 
 pub returns-in_err-check_held-clause-reads : goal.returns-in_err-check_held-clause-reads
 returns-in_err-check_held-clause-reads g c s small =
     let i : List ℕ = string_bytes c.args.cfg.now.index_partition in
     let v : List ℕ = string_bytes c.args.cfg.now.value_partition in
     let is_i : string_bytes c.in_ok-index.field-0.partition ≡ i = c.in_ok-index.ensures.partition in
-    let found = floors.shown c.in_ok-found.found in
-    let here : found.partition ≡ i = c.in_ok-found.ensures.partition ∙ is_i in
-    omega (arith, ap reads_of (c.preflight_floors.ensures.entries (section_key v s) (λ q has. keys_apart (string_bytes c.in_ok-index.field-0.partition) v (λ same. c.requires.apart (sym is_i ∙ same)) s q)), c.init.ensures.reads (section_key v s), ap reads_of (c.finish.ensures.entries (section_key v s) (λ q le. keys_apart found.partition v (λ same. c.requires.apart (sym here ∙ same)) s q)))
+    omega (arith, ap reads_of (c.preflight_floors.ensures.entries (section_key v s) (λ q le. keys_apart (string_bytes c.in_ok-index.field-0.partition) v (λ same. c.requires.apart (sym is_i ∙ same)) s q)), c.init.ensures.reads (section_key v s), ap (λ x. reads_of (g.D.Device.opened x (section_key v s))) c.finish.ensures.unchanged)
 
 pub returns-in_err-found-clause-damage : goal.returns-in_err-found-clause-damage
 returns-in_err-found-clause-damage g c t x has =
@@ -431,7 +373,7 @@ returns-in_err-found-clause-overflow g c room =
     (let w = c.in_err-found.ensures.overflow (error_back r y is (journal_error.Runtime OffsetOverflow) room) in (
       w.0,
       subst (λ (k : Key). IsOpenedTooLong (λ n. 2 ^ 64 ≤ n + (c.args.cfg.now.index_pages.page_size + 12)) (g.D.Device.opened c.preflight_floors.new.dev) k) (named_key (string_bytes c.in_ok-index.field-0.partition) i w.0 is_i)
-          (subst (λ (k : ℕ). IsOpenedTooLong (λ n. 2 ^ 64 ≤ n + (k + 12)) (g.D.Device.opened c.preflight_floors.new.dev) (section_key (string_bytes c.in_ok-index.field-0.partition) w.0)) (ap (λ (p : Pages). p.page_size) c.in_ok-index.ensures.pages) w.2),
+          (subst (λ (k : ℕ). IsOpenedTooLong (λ n. 2 ^ 64 ≤ n + (k + 12)) (g.D.Device.opened c.preflight_floors.new.dev) (section_key (string_bytes c.in_ok-index.field-0.partition) w.0)) (ap (λ (p : Pages). p.page_size) c.in_ok-index.ensures.pages) w.1),
     ))
 
 pub returns-in_err-found-clause-cause : goal.returns-in_err-found-clause-cause
@@ -542,110 +484,15 @@ returns-in_err-check_values-clause-overflow g c room =
     let is = err_of r y c.from_residual-in_err-check_values.ensures.1 in
     absurd (cc (is, c.in_err-check_values.ensures.cause.1, room))
 
-pub returns-in_err-index-2-clause-damage : goal.returns-in_err-index-2-clause-damage
-returns-in_err-index-2-clause-damage g c t x has =
-    let r = c.from_residual-in_err-index-2.result in
-    let y = c.in_err-index-2.field-0.0 in
-    let is = err_of r y c.from_residual-in_err-index-2.ensures.1 in
-    let i : List ℕ = string_bytes c.args.cfg.now.index_partition in
-    let v : List ℕ = string_bytes c.args.cfg.now.value_partition in
-    let a = g.D.Device.time c.args.dev.now in
-    let b = g.D.Device.time c.preflight_floors.new.dev in
-    let e = g.D.Device.time c.init.new.dev in
-    let is_i : string_bytes c.in_ok-index.field-0.partition ≡ i = c.in_ok-index.ensures.partition in
-    let is_v : string_bytes c.in_ok-values.field-0.partition ≡ v = c.in_ok-values.ensures.partition in
-    let found = floors.shown c.in_ok-found.found in
-    let here : found.partition ≡ i = c.in_ok-found.ensures.partition ∙ is_i in
-    let first : Always a b (Each (IsSettling i (2 ^ 64 - 1) (disk a))) = settling_of (string_bytes c.in_ok-index.field-0.partition) i (2 ^ 64 - 1) (2 ^ 64 - 1) a b is_i refl (c.preflight_floors.ensures.moments t) in
-    let second : Always b e (Each (IsSettling v (2 ^ 64 - 1) (disk b))) = settling_of (string_bytes c.in_ok-values.field-0.partition) v (2 ^ 64 - 1) (2 ^ 64 - 1) b e is_v refl (c.init.ensures.moments t) in
-    let l = layout_for g.I.Record.place g.I.CodecFixed.SIZE g.S.Seal c.args.cfg.now [] in
-    absurd (not_short l g.I.Codec.spelling g.I.Codec.accepted g.I.Record.location g.met.I.Record.spelled (get nat_cmp c.args.floors.now) found.boundary_of (disk a) c.in_ok-found.ensures.unmarked c.in_ok-found.ensures.empty
-    (λ s n marked some. boundary_as g.S.Seal.seal_of g.I.CodecFixed.SIZE g.I.Codec.spelling g.I.Codec.accepted (disk a) s n (found.boundary_of s) (string_bytes c.in_ok-index.field-0.partition) i c.in_ok-index.field-0.pages.page_size c.args.cfg.now.index_pages.page_size
-    is_i (ap (λ (p : Pages). p.page_size) c.in_ok-index.ensures.pages) (c.in_ok-found.ensures.boundary t s n marked some)) x (disk e (section_key found.partition x.section)) (found.floor_of x.section)
-    (λ n marked. (ap (λ (k : Key). (disk e k).there) (named_key found.partition i x.section here) ∙ index_there (2 ^ 64 - 1) i v c.requires.apart a b first e second (to_be_bytes w64 x.section))
-    ∙ subst (λ (p : List ℕ). IsTrue (disk a (section_key p x.section)).there) is_i (c.in_ok-found.ensures.there t x.section (subst IsSome (sym marked) refl)))
-    (ap (λ (k : Key). (disk e k).content) (named_key found.partition i x.section here) ∙ index_content (2 ^ 64 - 1) i v c.requires.apart a b first e second (to_be_bytes w64 x.section))
-    (λ none. c.in_ok-found.ensures.none x.section none) (λ n marked. c.in_ok-found.ensures.floors x.section n marked)
-    (subst (λ (k : ℕ). FallsShort g.S.Seal.seal_of k (disk e (section_key found.partition x.section)) (found.floor_of x.section) x) (ap (λ (p : Pages). p.page_size) (c.in_ok-found.ensures.pages ∙ c.in_ok-index.ensures.pages))
-    (c.in_err-index-2.ensures.damage t x (error_back r y is (journal_error.Corruption x) has))))
-
-pub returns-in_err-index-2-clause-refused : goal.returns-in_err-index-2-clause-refused
-returns-in_err-index-2-clause-refused g c t x has =
-    let r = c.from_residual-in_err-index-2.result in
-    let y = c.in_err-index-2.field-0.0 in
-    let is = err_of r y c.from_residual-in_err-index-2.ensures.1 in
-    let fe = g.D.Device.faults c.init.new.dev in
-    let ff = g.D.Device.faults c.finish.new.dev in
-    absurd (no_codec r y is fe ff c.in_err-index-2.ensures.cause x has)
-
-pub returns-in_err-index-2-clause-named : goal.returns-in_err-index-2-clause-named
-returns-in_err-index-2-clause-named g c t n has =
-    let r = c.from_residual-in_err-index-2.result in
-    let y = c.in_err-index-2.field-0.0 in
-    let is = err_of r y c.from_residual-in_err-index-2.ensures.1 in
-    let i : List ℕ = string_bytes c.args.cfg.now.index_partition in
-    let v : List ℕ = string_bytes c.args.cfg.now.value_partition in
-    let a = g.D.Device.time c.args.dev.now in
-    let b = g.D.Device.time c.preflight_floors.new.dev in
-    let e = g.D.Device.time c.init.new.dev in
-    let is_i : string_bytes c.in_ok-index.field-0.partition ≡ i = c.in_ok-index.ensures.partition in
-    let is_v : string_bytes c.in_ok-values.field-0.partition ≡ v = c.in_ok-values.ensures.partition in
-    let found = floors.shown c.in_ok-found.found in
-    let here : found.partition ≡ i = c.in_ok-found.ensures.partition ∙ is_i in
-    let first : Always a b (Each (IsSettling i (2 ^ 64 - 1) (disk a))) = settling_of (string_bytes c.in_ok-index.field-0.partition) i (2 ^ 64 - 1) (2 ^ 64 - 1) a b is_i refl (c.preflight_floors.ensures.moments t) in
-    let second : Always b e (Each (IsSettling v (2 ^ 64 - 1) (disk b))) = settling_of (string_bytes c.in_ok-values.field-0.partition) v (2 ^ 64 - 1) (2 ^ 64 - 1) b e is_v refl (c.init.ensures.moments t) in
-    inl (foreign_as (disk e) (disk a) i n (index_there (2 ^ 64 - 1) i v c.requires.apart a b first e second n)
-    (subst (λ (p : List ℕ). IsForeign (disk e) p n) here (c.in_err-index-2.ensures.named t n (error_back r y is (journal_error.InvalidBlobName n) has))))
-
-pub returns-in_err-index-2-clause-overflow : goal.returns-in_err-index-2-clause-overflow
-returns-in_err-index-2-clause-overflow g c room =
-    let r = c.from_residual-in_err-index-2.result in
-    let y = c.in_err-index-2.field-0.0 in
-    let is = err_of r y c.from_residual-in_err-index-2.ensures.1 in
-    let i : List ℕ = string_bytes c.args.cfg.now.index_partition in
-    let is_i : string_bytes c.in_ok-index.field-0.partition ≡ i = c.in_ok-index.ensures.partition in
-    let found = floors.shown c.in_ok-found.found in
-    let here : found.partition ≡ i = c.in_ok-found.ensures.partition ∙ is_i in
-    (let w = c.in_err-index-2.ensures.overflow (error_back r y is (journal_error.Runtime OffsetOverflow) room) in (
-      w.0,
-      subst (λ (k : Key). IsOpenedTooLong (λ n. 2 ^ 64 ≤ n + (c.args.cfg.now.index_pages.page_size + 12)) (g.D.Device.opened c.finish.new.dev) k) (named_key found.partition i w.0 here)
-          (subst (λ (k : ℕ). IsOpenedTooLong (λ n. 2 ^ 64 ≤ n + (k + 12)) (g.D.Device.opened c.finish.new.dev) (section_key found.partition w.0)) (ap (λ (p : Pages). p.page_size) (c.in_ok-found.ensures.pages ∙ c.in_ok-index.ensures.pages)) w.1),
-    ))
-
-pub returns-in_err-index-2-clause-cause : goal.returns-in_err-index-2-clause-cause
-returns-in_err-index-2-clause-cause g c =
-    let r = c.from_residual-in_err-index-2.result in
-    let y = c.in_err-index-2.field-0.0 in
-    let is = err_of r y c.from_residual-in_err-index-2.ensures.1 in
-    let fa = g.D.Device.faults c.args.dev.now in
-    let fe = g.D.Device.faults c.init.new.dev in
-    let ff = g.D.Device.faults c.finish.new.dev in
-    err_with r (parts_refuse r y is fa fe ff (omega (arith, c.preflight_floors.ensures.faults, c.init.ensures.faults)) (no_record_refuse _ _ _ c.in_err-index-2.ensures.cause))
-
 pub returns-in_err-check_held-clause-damage : goal.returns-in_err-check_held-clause-damage
 returns-in_err-check_held-clause-damage g c t x has =
     let r = c.from_residual-in_err-check_held.result in
     let y = c.in_err-check_held.field-0.0 in
     let is = err_of r y c.from_residual-in_err-check_held.ensures.1 in
-    let i : List ℕ = string_bytes c.args.cfg.now.index_partition in
-    let v : List ℕ = string_bytes c.args.cfg.now.value_partition in
-    let a = g.D.Device.time c.args.dev.now in
-    let b = g.D.Device.time c.preflight_floors.new.dev in
-    let e = g.D.Device.time c.init.new.dev in
-    let f = g.D.Device.time c.finish.new.dev in
-    let is_i : string_bytes c.in_ok-index.field-0.partition ≡ i = c.in_ok-index.ensures.partition in
-    let is_v : string_bytes c.in_ok-values.field-0.partition ≡ v = c.in_ok-values.ensures.partition in
-    let found = floors.shown c.in_ok-found.found in
-    let here : found.partition ≡ i = c.in_ok-found.ensures.partition ∙ is_i in
-    let j = journal.shown c.in_ok-index-2.index in
-    let first : Always a b (Each (IsSettling i (2 ^ 64 - 1) (disk a))) = settling_of (string_bytes c.in_ok-index.field-0.partition) i (2 ^ 64 - 1) (2 ^ 64 - 1) a b is_i refl (c.preflight_floors.ensures.moments t) in
-    let second : Always b e (Each (IsSettling v (2 ^ 64 - 1) (disk b))) = settling_of (string_bytes c.in_ok-values.field-0.partition) v (2 ^ 64 - 1) (2 ^ 64 - 1) b e is_v refl (c.init.ensures.moments t) in
     let w = c.in_err-check_held.ensures.absent x (error_back r y is (journal_error.Corruption x) has) in
     let small = c.requires.floors x.section w.0 in
-    let there : IsTrue (disk a (section_key i x.section)).there = subst (λ (p : List ℕ). IsTrue (disk a (section_key p x.section)).there) is_i (c.in_ok-found.ensures.there t x.section w.0) in
-    let held = (held_before (disk e (section_key found.partition x.section)) (disk a (section_key i x.section)) x.section found.ceiling (c.in_ok-index-2.ensures.held t x.section small) (omega (arith, small, c.in_ok-found.ensures.ceiling))
-    (ap (λ (k : Key). (disk e k).there) (named_key found.partition i x.section here) ∙ index_there (2 ^ 64 - 1) i v c.requires.apart a b first e second (to_be_bytes w64 x.section))).1 there in
-    absurd (cc (subst IsSome w.1 held))
+    let held = (c.in_ok-found.ensures.held t x.section small).1 (c.in_ok-found.ensures.there t x.section w.0, omega (arith, small)) in
+    absurd (cc (subst IsSome (subst (λ (k : Lists _ _). k.sections.held x.section ≡ None) c.in_ok-index-2.ensures.journal w.1) held))
 
 pub returns-in_err-check_held-clause-refused : goal.returns-in_err-check_held-clause-refused
 returns-in_err-check_held-clause-refused g c t x has =
@@ -681,3 +528,7 @@ returns-clause-foreign g c t name has =
       | inl is ↦ (c.in_ok-found.ensures.foreign t name (subst (λ (p : List ℕ). IsForeign (disk a) p name) (sym is_i) is)).0
       | inr is ↦ c.in_ok-values-2.ensures.foreign t name (subst (λ (p : List ℕ). IsForeign (disk b) p name) (sym is_v) (foreign_as (disk a) (disk b) v name (sym (ap (λ (x : Blob). x.there) (values_first (2 ^ 64 - 1) i v c.requires.apart a b first name))) is))
     ])
+
+pub returns-clause-index_settled : goal.returns-clause-index_settled
+returns-clause-index_settled g c =
+    subst (λ (k : Lists _ _). (s : ℕ) (u : _) → k.sections.held s ≡ Some u → is_unsettled (page_blob.shown u) ≡ false) (sym c.in_ok-index-2.ensures.journal) c.in_ok-found.ensures.idle
