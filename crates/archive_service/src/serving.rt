@@ -60,7 +60,8 @@ where
         → Serves (filing_in K.SIZE S.Seal V.refusal store.now) (D.faults dev.old) (D.faults dev.new) (D.time dev.old) (D.time dev.new)
         (map (asked K.key_bytes V.spelling) commands.now) result.marks (map (replied V.spelling) result.replies) result.end }
 
-    // From any image, a lookup changes nothing, a put nothing but its section's blobs, and nothing is done between the commands and at the end.
+    // From any image: no blob changes from a lookup's start to that of the next command or the call's end, and with a put that does not sync none
+    // but its section's two.
     ensures looks { D.Tells → Looks (filing_in K.SIZE S.Seal V.refusal store.now) (D.time dev.old) (D.time dev.new) (map (asked K.key_bytes V.spelling) commands.now) result.marks }
 
     // Over any device and any image: how many commands were begun, and that a fault is the device's.
