@@ -7,7 +7,7 @@ use Rattle.std.specs.Map.{lookup}
 use Rattle.std.specs.Str.{bytes_eq}
 use Rattle.std.proofs.lemmas.Bool.{le-ltb, or_right, or_left, cases_lt}
 use Rattle.std.proofs.lemmas.Bool.Decides.{nat_tests}
-use Rattle.std.proofs.lemmas.List.{take_all, take-take, get_or-take}
+use Rattle.std.proofs.lemmas.List.{take_all, take-take, take-map, get_or-take}
 use Rattle.blob_device.specs.Disk.{Image}
 use Rattle.value_codec.specs.Keys.{key8_bytes}
 use Rattle.segments.specs.Fronts.{IsFront}
@@ -18,7 +18,7 @@ use Rattle.meta_store.specs.Blobs.{blob_of, bytes_of}
 use Rattle.meta_store.specs.Pairs.{HoldMap}
 use Rattle.paired.specs.Crashes.{Keeps}
 use Rattle.paired.specs.Kept.{Layout, Markers, IsMarked, marker_of, content_at, stored_records, is_sound_in, kept, IsTrueMarker}
-use Rattle.paired.specs.Opening.{AreNamed, IsInPlace, IsLawful, KeepsAs}
+use Rattle.paired.specs.Opening.{AreNamed, IsInPlace, IsLawful, Relation, IsOrder, Same, Front, UpTo, KeepsBy}
 use Rattle.paired.specs.Places.{Follow, end_of, last_end}
 use Rattle.paired.specs.Records.{Entry, is_sound, front, entry_of}
 use Rattle.paired.proofs.KeptLemmas.{EndsBy, follow_least, follow_ends, entry_same, settled_bytes, sound_parts, sound_settled, stored_entries}
@@ -145,74 +145,143 @@ marked_or_zero markers s = elim (cases_lt s (2 ^ 64)) [
   | inr large ↦ inr (unmarked_zero markers s (λ m is. absurd (omega (arith, large, is.0))))
 ]
 
-module _ (l : Layout) (old image : Image) where
-  -- The image keeps of the section what the old one keeps, by the same marker, which is true if it was.
-  pub record KeptHere (markers : Markers) (s : ℕ) : Type 0 where
-    pub there : IsSome (old (section_key l.index s)) → IsSome (image (section_key l.index s))
-    pub stored : stored_records l image s ≡ take (length (stored_records l image s)) (stored_records l old s)
-    pub kept : kept l image (marker_of markers s) s ≡ kept l old (marker_of markers s) s
-    pub marked : (m : ℕ) → IsMarked markers s m → IsTrueMarker l old s m → (m ≤ length (stored_records l image s)) × AllByRecursion (λ r. IsTrue (is_sound_in l image s r)) (take m (stored_records l image s))
+-- ---- relations between what is kept
+pub same_order : IsOrder Same
+same_order = record { itself = λ s list. refl; onward = λ s last found list more first. more ∙ first }
 
+front_onward : (last found list : List Entry) → last ≡ take (length last) found → found ≡ take (length found) list → last ≡ take (length last) list
+front_onward last found list more first =
+    more ∙ ap (take (length last)) first ∙ take-take (length last) (length found) list (omega (arith, ap length more, length-take (length last) found))
+
+pub front_order : IsOrder Front
+front_order = record {
+  itself = λ s list. sym (take_all (length list) list (omega arith));
+  onward = λ s last found list more first. front_onward last found list more first;
+}
+
+pub up_to_order : (section least : ℕ) → IsOrder (UpTo section least)
+up_to_order section least = record {
+  itself = λ s list. record { front = sym (take_all (length list) list (omega arith)); before = λ lt. refl; here = λ is. omega arith };
+  onward = λ s last found list more first. record {
+    front = front_onward last found list more.front first.front;
+    before = λ lt. more.before lt ∙ first.before lt;
+    here = λ is. omega (arith, more.here is, first.here is);
+  };
+}
+
+-- what is the same stands so
+pub by_same : (Rel : Relation) → IsOrder Rel → (s : ℕ) (found list : List Entry) → found ≡ list → Rel s found list
+by_same Rel order s found list same = subst (Rel s found) same (order.itself s found)
+
+-- of the first records the first of what is kept of all of them is kept
+pub front_of_first : (sound : List ℕ → Bool) (marker position k : ℕ) (rs : List (List ℕ)) → front sound marker position (take k rs) ≡ take k (front sound marker position rs)
+front_of_first sound marker position zero rs = refl
+front_of_first sound marker position (suc k) [] = refl
+front_of_first sound marker position (suc k) (r ∷ rs) = step (nat_lt position marker || sound r) (front_of_first sound marker (position + 1) k rs)
+  where
+    step : (b : Bool) → front sound marker (position + 1) (take k rs) ≡ take k (front sound marker (position + 1) rs)
+        → (if b then r ∷ front sound marker (position + 1) (take k rs) else []) ≡ take (suc k) (if b then r ∷ front sound marker (position + 1) rs else [])
+    step true rest = ap (λ (xs : List (List ℕ)). r ∷ xs) rest
+    step false rest = refl
+
+take_front : (k : ℕ) (list : List Entry) → Front 0 (take k list) list
+take_front k list = elim (cases_lt k (length list)) [
+  | inl few ↦ ap (λ (n : ℕ). take n list) (sym (length-take-le k list (omega (arith, few))))
+  | inr many ↦
+      let all : take k list ≡ list = take_all k list (omega (arith, many)) in
+      all ∙ sym (take_all (length (take k list)) list (omega (arith, ap length all)))
+]
+
+-- Cut anywhere, the first are kept; cut to so many at the least, so many.
+module _ (view : List ℕ → Entry) (sound : List ℕ → Bool) (marker : ℕ) (rs : List (List ℕ)) where
+  cut_first : (k : ℕ) → map view (front sound marker 0 (take k rs)) ≡ take k (map view (front sound marker 0 rs))
+  cut_first k = ap (map view) (front_of_first sound marker 0 k rs) ∙ sym (take-map view k (front sound marker 0 rs))
+
+  pub cut_front : (s k : ℕ) → Front s (map view (front sound marker 0 (take k rs))) (map view (front sound marker 0 rs))
+  cut_front s k = subst (λ (found : List Entry). Front s found (map view (front sound marker 0 rs))) (sym (cut_first k)) (take_front k (map view (front sound marker 0 rs)))
+
+  pub cut_up_to : (section least s k : ℕ) → section ≤ s → (s ≡ section → least ≤ k) → UpTo section least s (map view (front sound marker 0 (take k rs))) (map view (front sound marker 0 rs))
+  cut_up_to section least s k behind enough = record {
+    front = cut_front s k;
+    before = λ lt. absurd (omega (arith, lt, behind));
+    here = λ is. omega (arith, enough is, ap length (cut_first k), length-take k (map view (front sound marker 0 rs)));
+  }
+
+-- What the image keeps of the section stands so to what the old one keeps, by the same marker, which is true if it was.
+pub record KeptBy (l : Layout) (Rel : Relation) (old image : Image) (markers : Markers) (s : ℕ) : Type 0 where
+  pub stored : stored_records l image s ≡ take (length (stored_records l image s)) (stored_records l old s)
+  pub kept : Rel s (kept l image (marker_of markers s) s) (kept l old (marker_of markers s) s)
+  pub marked : (m : ℕ) → IsMarked markers s m → IsTrueMarker l old s m → IsTrueMarker l image s m
+
+-- it keeps just that
+abbrev pub KeptHere : Layout → Image → Image → Markers → ℕ → Type 0
+KeptHere l = KeptBy l Same
+
+module _ (l : Layout) (Rel : Relation) (order : IsOrder Rel) (old image : Image) where
   -- all its bytes are as they were
-  pub as_before : (markers : Markers) (s : ℕ) → image (section_key l.index s) ≡ old (section_key l.index s) → content_at image l.values s ≡ content_at old l.values s → KeptHere markers s
+  pub as_before : (markers : Markers) (s : ℕ) → image (section_key l.index s) ≡ old (section_key l.index s) → content_at image l.values s ≡ content_at old l.values s → KeptBy l Rel old image markers s
   as_before markers s index values =
       let records_same : stored_records l image s ≡ stored_records l old s = ap (λ (o : Option (List ℕ)). stored_records l (λ _. o) s) index in
       let sound_same : is_sound_in l image s ≡ is_sound_in l old s = (λ i r. is_sound l.seal (values i) (l.place r)) in
       record {
-        there = λ is. subst IsSome (sym index) is;
         stored = records_same ∙ sym (take_all (length (stored_records l image s)) (stored_records l old s) (omega (arith, ap length records_same)));
-        kept = (λ i. map (entry_of l.place (values i)) (front (sound_same i) (marker_of markers s) 0 (records_same i)));
-        marked = λ m is was. (
-          omega (arith, ap length records_same, was.enough),
-          subst (λ (rs : List (List ℕ)). AllByRecursion (λ r. IsTrue (is_sound_in l image s r)) (take m rs)) (sym records_same)
-              (subst (λ (f : List ℕ → Bool). AllByRecursion (λ r. IsTrue (f r)) (take m (stored_records l old s))) (sym sound_same) was.sound),
-        );
+        kept = by_same Rel order s _ _ (λ i. map (entry_of l.place (values i)) (front (sound_same i) (marker_of markers s) 0 (records_same i)));
+        marked = λ m is was. record {
+          index_blob = subst IsSome (sym index) was.index_blob;
+          enough = omega (arith, ap length records_same, was.enough);
+          sound = subst (λ (rs : List (List ℕ)). AllByRecursion (λ r. IsTrue (is_sound_in l image s r)) (take m rs)) (sym records_same)
+              (subst (λ (f : List ℕ → Bool). AllByRecursion (λ r. IsTrue (f r)) (take m (stored_records l old s))) (sym sound_same) was.sound);
+        };
       }
 
   -- neither has a record of it
-  pub without_records : (markers : Markers) (s : ℕ) → (IsSome (old (section_key l.index s)) → IsSome (image (section_key l.index s))) → stored_records l image s ≡ [] → stored_records l old s ≡ [] → KeptHere markers s
+  pub without_records : (markers : Markers) (s : ℕ) → (IsSome (old (section_key l.index s)) → IsSome (image (section_key l.index s))) → stored_records l image s ≡ [] → stored_records l old s ≡ [] → KeptBy l Rel old image markers s
   without_records markers s there bare none = record {
-    there = there;
     stored = bare ∙ sym (take_all (length (stored_records l image s)) [] (omega arith)) ∙ ap (take (length (stored_records l image s))) (sym none);
-    kept = ap (λ (rs : List (List ℕ)). map (entry_of l.place (content_at image l.values s)) (front (is_sound_in l image s) (marker_of markers s) 0 rs)) bare
-        ∙ sym (ap (λ (rs : List (List ℕ)). map (entry_of l.place (content_at old l.values s)) (front (is_sound_in l old s) (marker_of markers s) 0 rs)) none);
-    marked = λ m is was. (
-      omega (arith, ap length none, was.enough),
-      subst (λ (rs : List (List ℕ)). AllByRecursion (λ r. IsTrue (is_sound_in l image s r)) (take m rs)) (sym bare) (all_none m),
-    );
+    kept = by_same Rel order s _ _ (ap (λ (rs : List (List ℕ)). map (entry_of l.place (content_at image l.values s)) (front (is_sound_in l image s) (marker_of markers s) 0 rs)) bare
+        ∙ sym (ap (λ (rs : List (List ℕ)). map (entry_of l.place (content_at old l.values s)) (front (is_sound_in l old s) (marker_of markers s) 0 rs)) none));
+    marked = λ m is was. record {
+      index_blob = there was.index_blob;
+      enough = omega (arith, ap length none, was.enough);
+      sound = subst (λ (rs : List (List ℕ)). AllByRecursion (λ r. IsTrue (is_sound_in l image s r)) (take m rs)) (sym bare) (all_none m);
+    };
   }
     where
       all_none : (m : ℕ) → AllByRecursion (λ r. IsTrue (is_sound_in l image s r)) (take m [])
       all_none zero = tt
       all_none (suc m) = tt
 
-  -- Its records are cut off behind the last that is kept, at the earliest; its values are as they were.
+  -- Its index blob is gone or without records, and its section has no marker.
+  pub index_removed : (markers : Markers) (s : ℕ) → ((m : ℕ) → IsMarked markers s m → ⊥) → stored_records l image s ≡ [] → Rel s [] (kept l old (marker_of markers s) s) → KeptBy l Rel old image markers s
+  index_removed markers s unmarked bare gone = record {
+    stored = bare ∙ sym (ap (λ (rs : List (List ℕ)). take (length rs) (stored_records l old s)) bare);
+    kept = subst (λ (rs : List (List ℕ)). Rel s (map (entry_of l.place (content_at image l.values s)) (front (is_sound_in l image s) (marker_of markers s) 0 rs)) (kept l old (marker_of markers s) s)) (sym bare) gone;
+    marked = λ m is was. absurd (unmarked m is);
+  }
+
+  -- Its records are cut to p at the least, where what is kept of so many stands so to what is kept of all; its values are as they were.
   module _ (markers : Markers) (s p : ℕ) (there : IsSome (image (section_key l.index s))) (values : content_at image l.values s ≡ content_at old l.values s)
-      (first : stored_records l image s ≡ take (length (stored_records l image s)) (stored_records l old s)) (reach : p ≤ length (stored_records l image s)) (within : p < length (stored_records l old s))
-      (high : marker_of markers s ≤ p) (fails : is_sound_in l old s (get_or (stored_records l old s) p []) ≡ false) (good : (q : ℕ) → q < p → IsGoodAt (is_sound_in l old s) (marker_of markers s) 0 (stored_records l old s) q) where
+      (first : stored_records l image s ≡ take (length (stored_records l image s)) (stored_records l old s)) (reach : p ≤ length (stored_records l image s)) (high : marker_of markers s ≤ p)
+      (fronts : (k : ℕ) → p ≤ k → k ≤ length (stored_records l old s) → Rel s (map (entry_of l.place (content_at old l.values s)) (front (is_sound_in l old s) (marker_of markers s) 0 (take k (stored_records l old s)))) (kept l old (marker_of markers s) s)) where
     less : length (stored_records l image s) ≤ length (stored_records l old s)
     less = omega (arith, ap length first, length-take (length (stored_records l image s)) (stored_records l old s))
 
     same_sound : is_sound_in l image s ≡ is_sound_in l old s
     same_sound = λ i r. is_sound l.seal (values i) (l.place r)
 
-    same_front : front (is_sound_in l image s) (marker_of markers s) 0 (stored_records l image s) ≡ front (is_sound_in l old s) (marker_of markers s) 0 (stored_records l old s)
-    same_front =
-        ap (λ (f : List ℕ → Bool). front f (marker_of markers s) 0 (stored_records l image s)) same_sound
-        ∙ ap (front (is_sound_in l old s) (marker_of markers s) 0) first
-        ∙ front_cut (is_sound_in l old s) (marker_of markers s) p (length (stored_records l image s)) (stored_records l old s) reach less within good high fails
-
-    pub records_cut : KeptHere markers s
+    pub records_cut : KeptBy l Rel old image markers s
     records_cut = record {
-      there = λ was. there;
       stored = first;
-      kept = (λ i. map (entry_of l.place (values i)) (same_front i));
+      kept = subst (λ (found : List Entry). Rel s found (kept l old (marker_of markers s) s))
+          (sym (λ i. map (entry_of l.place (values i)) (front (same_sound i) (marker_of markers s) 0 (first i))))
+          (fronts (length (stored_records l image s)) reach less);
       marked = λ m is was.
-          let few : m ≤ length (stored_records l image s) = omega (arith, marked_is markers s m is, high, reach) in (
-            few,
-            subst (λ (f : List ℕ → Bool). AllByRecursion (λ r. IsTrue (f r)) (take m (stored_records l image s))) (sym same_sound)
-                (subst (AllByRecursion (λ r. IsTrue (is_sound_in l old s r))) (sym (ap (take m) first ∙ take-take m (length (stored_records l image s)) (stored_records l old s) few)) was.sound),
-          );
+          let few : m ≤ length (stored_records l image s) = omega (arith, marked_is markers s m is, high, reach) in record {
+            index_blob = there;
+            enough = few;
+            sound = subst (λ (f : List ℕ → Bool). AllByRecursion (λ r. IsTrue (f r)) (take m (stored_records l image s))) (sym same_sound)
+                (subst (AllByRecursion (λ r. IsTrue (is_sound_in l old s r))) (sym (ap (take m) first ∙ take-take m (length (stored_records l image s)) (stored_records l old s) few)) was.sound);
+          };
     }
 
   -- All its records are kept and stand where they did; its values are cut off behind those that the records name, at the earliest.
@@ -241,18 +310,18 @@ module _ (l : Layout) (old image : Image) where
         (λ r ends was. entry_same l.place (content_at old l.values s) (content_at image l.values s) r
         (settled_bytes (content_at old l.values s) (content_at image l.values s) n (l.place r).0 (l.place r).1 is_front (inside r ends was))) rs by_end sound)
 
-    pub values_cut : KeptHere markers s
+    pub values_cut : KeptBy l Rel old image markers s
     values_cut = record {
-      there = λ is. subst IsSome (sym index) is;
       stored = same_records ∙ sym (take_all (length (stored_records l image s)) rs (omega (arith, ap length same_records)));
-      kept = ap (λ (xs : List (List ℕ)). map (entry_of l.place (content_at image l.values s)) (front (is_sound_in l image s) (marker_of markers s) 0 xs)) same_records
+      kept = by_same Rel order s _ _ (ap (λ (xs : List (List ℕ)). map (entry_of l.place (content_at image l.values s)) (front (is_sound_in l image s) (marker_of markers s) 0 xs)) same_records
           ∙ ap (map (entry_of l.place (content_at image l.values s))) (front_sound (is_sound_in l image s) (marker_of markers s) 0 rs still_sound)
           ∙ same_entries
-          ∙ sym (ap (map (entry_of l.place (content_at old l.values s))) (front_sound (is_sound_in l old s) (marker_of markers s) 0 rs sound));
-      marked = λ m is was. (
-        omega (arith, ap length same_records, was.enough),
-        subst (λ (xs : List (List ℕ)). AllByRecursion (λ r. IsTrue (is_sound_in l image s r)) (take m xs)) (sym same_records) (all_take (λ r. IsTrue (is_sound_in l image s r)) m rs still_sound),
-      );
+          ∙ sym (ap (map (entry_of l.place (content_at old l.values s))) (front_sound (is_sound_in l old s) (marker_of markers s) 0 rs sound)));
+      marked = λ m is was. record {
+        index_blob = subst IsSome (sym index) was.index_blob;
+        enough = omega (arith, ap length same_records, was.enough);
+        sound = subst (λ (xs : List (List ℕ)). AllByRecursion (λ r. IsTrue (is_sound_in l image s r)) (take m xs)) (sym same_records) (all_take (λ r. IsTrue (is_sound_in l image s r)) m rs still_sound);
+      };
     }
 
   places_first : (s : ℕ) → stored_records l image s ≡ take (length (stored_records l image s)) (stored_records l old s) → IsInPlace l old s → IsInPlace l image s
@@ -265,19 +334,15 @@ module _ (l : Layout) (old image : Image) where
       }
 
   -- Where each section is kept so, and the copies are as they were, the image keeps what the old one keeps.
-  pub sections_kept : (markers : Markers) → AreNamed l image → ((side : Side) → image (blob_of l.metadata side) ≡ old (blob_of l.metadata side)) → ((s : ℕ) → s < 2 ^ 64 → KeptHere markers s)
-      → IsLawful l old markers → KeepsAs l old markers image
+  pub sections_kept : (markers : Markers) → AreNamed l image → ((side : Side) → image (blob_of l.metadata side) ≡ old (blob_of l.metadata side)) → ((s : ℕ) → s < 2 ^ 64 → KeptBy l Rel old image markers s)
+      → IsLawful l old markers → KeepsBy l Rel old markers image
   sections_kept markers names copies each lawful = record {
     markers = markers;
     lawful = record {
       names = names;
       held = subst (λ (o : Option (List ℕ)). HoldMap l.markers (bytes_of o) (bytes_of (image (blob_of l.metadata Right))) markers) (sym (copies Left))
           (subst (λ (o : Option (List ℕ)). HoldMap l.markers (bytes_of (old (blob_of l.metadata Left))) (bytes_of o) markers) (sym (copies Right)) lawful.held);
-      true_markers = λ s m is.
-          let was = lawful.true_markers s m is in
-          let here = each s is.0 in
-          let still = here.marked m is was in
-          record { index_blob = here.there was.index_blob; enough = still.0; sound = still.1 };
+      true_markers = λ s m is. (each s is.0).marked m is (lawful.true_markers s m is);
       places = λ s small. places_first s (each s small).stored (lawful.places s small);
     };
     same = λ s small. (each s small).kept;
@@ -286,7 +351,7 @@ module _ (l : Layout) (old image : Image) where
 
   -- Where the image keeps, of each section, a prefix of what the old one keeps with all of it, it keeps just that, whatever its markers are.
   pub markers_moved : (markers : Markers) (wanted : ℕ → List Entry) → AreNamed l image → IsLawful l old markers → ((s : ℕ) → s < 2 ^ 64 → wanted s ≡ kept l old (marker_of markers s) s)
-      → Keeps l wanted (λ s. length (wanted s)) (λ _. ⊥) image → KeepsAs l old markers image
+      → Keeps l wanted (λ s. length (wanted s)) (λ _. ⊥) image → KeepsBy l Rel old markers image
   markers_moved markers wanted names lawful list keeps = record {
     markers = keeps.markers;
     lawful = record {
@@ -296,7 +361,7 @@ module _ (l : Layout) (old image : Image) where
       places = λ s small. places_first s (first s small) (lawful.places s small);
     };
     same = λ s small. elim (keeps.lists s small) [
-      | inl prefix ↦ prefix.same ∙ take_all _ (wanted s) (omega (arith, prefix.synced)) ∙ list s small
+      | inl prefix ↦ by_same Rel order s _ _ (prefix.same ∙ take_all _ (wanted s) (omega (arith, prefix.synced)) ∙ list s small)
       | inr gone ↦ absurd gone.1
     ];
     stored = first;

@@ -2,7 +2,7 @@
 use Rattle.std.specs.Prelude.{◌≡◌, ℕ, ◌^◌, ◌<◌, ◌≤◌, ⊤, cond, Bool, true, false, List, [], ◌∷◌, length, take, IsTrue, Option, None, Some, unwrap_or}
 use Rattle.std.proofs.Common.{inl, inr, refl, sym, ◌∙◌, ap, subst, arith, length-take}
 use Rattle.std.specs.List.{AllByRecursion}
-use Rattle.std.proofs.lemmas.List.{take-take}
+use Rattle.std.proofs.lemmas.List.{take_all, take-take}
 use Rattle.std.proofs.lemmas.List.Elements.{Contains-push}
 use Rattle.blob_device.specs.Disk.{Key, Blob, Disk, Image, IsCrashOf, IsSettled, NothingPending, AbsentIsNothing, AreBytes, MayLeave, past, reads, longest}
 use Rattle.sealed_pages.specs.ChanceSeal as pages
@@ -13,8 +13,10 @@ use Rattle.meta_store.specs.Blobs.{blob_of}
 use Rattle.meta_store.specs.Crashes as metadata
 use Rattle.meta_store.proofs.Leaving.{settled_content}
 use Rattle.paired.specs.Crashes.{IsOwn, NoChanceSeal, WasThere}
-use Rattle.paired.specs.Kept.{Layout, Markers, content_at, stored_records, is_sound_in}
-use Rattle.paired.specs.Opening.{as_read, IsLawful, KeepsAll, KeepsAs, MayBeOpened, Recalls}
+use Rattle.paired.specs.Kept.{Layout, Markers, marker_of, content_at, stored_records, is_sound_in, kept}
+use Rattle.paired.specs.Records.{Entry}
+use Rattle.paired.proofs.OpeningEnds.{same_order}
+use Rattle.paired.specs.Opening.{as_read, IsLawful, Relation, IsOrder, Same, KeepsBy, KeepsAllBy, KeepsAll, MayBeOpened, RecallsBy, Recalls}
 
 -- a blob of which nothing is pending
 abbrev pub settled_as : Bool → List ℕ → Blob
@@ -104,32 +106,66 @@ module _ (l : Layout) where
     values_absent = λ s small none. ap longest (absent (section_key l.values s) none (settled (section_key l.values s)).sure);
   }
 
-  pub recalls_all : (from d : Disk) (markers : Markers) → NothingPending from → IsLawful l (as_read from) markers → Recalls l from d → KeepsAll l (as_read from) markers d
-  recalls_all from d markers settled lawful recalls image crash fresh =
-      let known = recalls image crash fresh in
-      let same : known.old ≡ as_read from = crash_as_read from known.old settled known.crash in
-      subst (λ (old : Image). IsLawful l old markers → KeepsAs l old markers image) same (known.keeps markers) lawful
+  -- ---- by a relation
+  module _ (Rel : Relation) where
+    pub recalls_all_by : (from d : Disk) (markers : Markers) → NothingPending from → IsLawful l (as_read from) markers → RecallsBy l Rel from d → KeepsAllBy l Rel (as_read from) markers d
+    recalls_all_by from d markers settled lawful recalls image crash fresh =
+        let known = recalls image crash fresh in
+        let same : known.old ≡ as_read from = crash_as_read from known.old settled known.crash in
+        subst (λ (old : Image). IsLawful l old markers → KeepsBy l Rel old markers image) same (known.keeps markers) lawful
 
-  -- what keeps what keeps
-  pub keeps_on : (a b c : Image) (one : Markers) (keeps : KeepsAs l a one b) → KeepsAs l b keeps.markers c → KeepsAs l a one c
-  keeps_on a b c one first second = record {
-    markers = second.markers;
-    lawful = second.lawful;
-    same = λ s small. second.same s small ∙ first.same s small;
-    stored = λ s small.
-        let m : ℕ = length (stored_records l b s) in
-        let n : ℕ = length (stored_records l c s) in
-        let le : n ≤ m = omega (arith, ap length (second.stored s small), length-take n (stored_records l b s)) in
-        second.stored s small ∙ ap (take n) (first.stored s small) ∙ take-take n m (stored_records l a s) le;
-  }
+    module _ (order : IsOrder Rel) where
+      -- an image keeps what it keeps
+      pub keeps_itself : (image : Image) (markers : Markers) → IsLawful l image markers → KeepsBy l Rel image markers image
+      keeps_itself image markers lawful = record {
+        markers = markers;
+        lawful = lawful;
+        same = λ s small. order.itself s (kept l image (marker_of markers s) s);
+        stored = λ s small. sym (take_all (length (stored_records l image s)) (stored_records l image s) (omega arith));
+      }
+
+      -- a disk recalls itself
+      pub recalls_itself : (d : Disk) → RecallsBy l Rel d d
+      recalls_itself d image crash fresh = record { old = image; crash = crash; no_chance = fresh; keeps = keeps_itself image }
+
+      -- what keeps what keeps
+      pub keeps_on_by : (a b c : Image) (one : Markers) (keeps : KeepsBy l Rel a one b) → KeepsBy l Rel b keeps.markers c → KeepsBy l Rel a one c
+      keeps_on_by a b c one first second = record {
+        markers = second.markers;
+        lawful = second.lawful;
+        same = λ s small. order.onward s (kept l c (marker_of second.markers s) s) (kept l b (marker_of first.markers s) s) (kept l a (marker_of one s) s) (second.same s small) (first.same s small);
+        stored = λ s small.
+            let m : ℕ = length (stored_records l b s) in
+            let n : ℕ = length (stored_records l c s) in
+            let le : n ≤ m = omega (arith, ap length (second.stored s small), length-take n (stored_records l b s)) in
+            second.stored s small ∙ ap (take n) (first.stored s small) ∙ take-take n m (stored_records l a s) le;
+      }
+
+      pub recalls_on_by : (a b c : Disk) → RecallsBy l Rel a b → RecallsBy l Rel b c → RecallsBy l Rel a c
+      recalls_on_by a b c first second image crash fresh =
+          let now = second image crash fresh in
+          let before = first now.old now.crash now.no_chance in
+          record {
+            old = before.old;
+            crash = before.crash;
+            no_chance = before.no_chance;
+            keeps = λ markers lawful. (let kept_before = before.keeps markers lawful in keeps_on_by before.old now.old image markers kept_before (now.keeps kept_before.markers kept_before.lawful));
+          }
+
+    -- what keeps all keeps so much, where each relation holds of what the other holds of
+    pub recalls_weaker : (Less : Relation) → ((s : ℕ) (found list : List Entry) → Rel s found list → Less s found list) → (a b : Disk) → RecallsBy l Rel a b → RecallsBy l Less a b
+    recalls_weaker Less weaker a b recalls image crash fresh =
+        let now = recalls image crash fresh in
+        record {
+          old = now.old;
+          crash = now.crash;
+          no_chance = now.no_chance;
+          keeps = λ markers lawful. (let keeps = now.keeps markers lawful in
+              record { markers = keeps.markers; lawful = keeps.lawful; same = λ s small. weaker s (kept l image (marker_of keeps.markers s) s) (kept l now.old (marker_of markers s) s) (keeps.same s small); stored = keeps.stored });
+        }
+
+  pub recalls_all : (from d : Disk) (markers : Markers) → NothingPending from → IsLawful l (as_read from) markers → Recalls l from d → KeepsAll l (as_read from) markers d
+  recalls_all = recalls_all_by Same
 
   pub recalls_on : (a b c : Disk) → Recalls l a b → Recalls l b c → Recalls l a c
-  recalls_on a b c first second image crash fresh =
-      let now = second image crash fresh in
-      let before = first now.old now.crash now.no_chance in
-      record {
-        old = before.old;
-        crash = before.crash;
-        no_chance = before.no_chance;
-        keeps = λ markers lawful. (let kept_before = before.keeps markers lawful in keeps_on before.old now.old image markers kept_before (now.keeps kept_before.markers kept_before.lawful));
-      }
+  recalls_on = recalls_on_by Same same_order

@@ -1,5 +1,5 @@
 -- What each phase of the end of an opening leaves of a pair: each crash keeps the lists that a crash before the phase keeps.
-use Rattle.std.specs.Prelude.{◌≡◌, ◌≢◌, ◌⊎◌, ℕ, ◌*◌, ◌^◌, ◌<◌, ◌≤◌, Bool, false, List, [], length, take, get_or, IsTrue, IsSome, Option, None, Some, unwrap_or}
+use Rattle.std.specs.Prelude.{◌≡◌, ◌≢◌, ◌⊎◌, ℕ, ◌*◌, ◌^◌, ◌<◌, ◌≤◌, Bool, false, List, [], length, map, take, get_or, IsTrue, IsSome, Option, None, Some, unwrap_or}
 use Rattle.std.proofs.Common.{inl, inr, refl, sym, ◌∙◌, ap, subst, arith}
 use Rattle.std.specs.Int.{w64, from_be_bytes}
 use Rattle.std.specs.List.{AllByRecursion}
@@ -17,11 +17,11 @@ use Rattle.meta_store.specs.Blobs.{blob_of, bytes_of}
 use Rattle.meta_store.specs.Crashes as metadata
 use Rattle.paired.specs.Crashes.{IsIndexOf, IsValuesOf, IsCopy, Keeps, NoChanceSeal, WasThere}
 use Rattle.paired.specs.Kept.{Layout, Markers, IsMarked, marker_of, content_at, stored_records, is_sound_in, kept}
-use Rattle.paired.specs.Opening.{AreNamed, as_read, IsLawful, KeepsAs, Recalls}
+use Rattle.paired.specs.Opening.{AreNamed, as_read, IsLawful, Relation, IsOrder, Same, KeepsBy, RecallsBy, Recalls}
 use Rattle.paired.specs.Pair.{AreApart}
 use Rattle.paired.specs.Places.{Follow, last_end}
-use Rattle.paired.specs.Records.{Entry, records, is_sound, front}
-use Rattle.paired.proofs.OpeningEnds.{IsGoodAt, KeptHere, as_before, without_records, records_cut, values_cut, sections_kept, markers_moved, marked_is, marked_or_zero, follow_last_end, front_is_sound}
+use Rattle.paired.specs.Records.{Entry, records, is_sound, front, entry_of}
+use Rattle.paired.proofs.OpeningEnds.{IsGoodAt, KeptBy, KeptHere, same_order, as_before, without_records, index_removed, records_cut, values_cut, sections_kept, markers_moved, marked_is, marked_or_zero, follow_last_end, front_is_sound, front_cut}
 use Rattle.paired.proofs.RecordLemmas.{records-front, records-enough}
 
 -- a key is that of a section of the partition that P names, or of none
@@ -190,8 +190,8 @@ module _ (l : Layout) (apart : AreApart l) (from d : Disk) (IsChanged : ℕ → 
       no_chance_back = record { slots = slots_back; frames = frames_back; copies = copies_back }
 
     -- what is to be shown of each image that a crash leaves now
-    pub recalls_of : ((image old : Image) → IsCrashOf d image → NoChanceSeal l d image → IsBack image old → (markers : Markers) → IsLawful l old markers → KeepsAs l old markers image) → Recalls l from d
-    recalls_of keeps image crash fresh = record {
+    pub recalls_of : (Rel : Relation) → ((image old : Image) → IsCrashOf d image → NoChanceSeal l d image → IsBack image old → (markers : Markers) → IsLawful l old markers → KeepsBy l Rel old markers image) → RecallsBy l Rel from d
+    recalls_of Rel keeps image crash fresh = record {
       old = put_back image;
       crash = back_crash image crash;
       no_chance = no_chance_back image (put_back image) fresh (is_back image);
@@ -217,15 +217,19 @@ module _ (l : Layout) (apart : AreApart l) (from d : Disk) (IsChanged : ℕ → 
     }
 
     -- where the copies stay, what is to be shown of each section that changed
-    pub sections_of : copies ≡ false
-        → ((image old : Image) → IsCrashOf d image → NoChanceSeal l d image → IsBack image old → (markers : Markers) → IsLawful l old markers → (s : ℕ) → s < 2 ^ 64 → IsTrue (IsChanged s) → KeptHere l old image markers s) → Recalls l from d
-    sections_of still each = recalls_of (λ image old crash fresh back markers lawful. sections_kept l old image markers (named_still image old back lawful.names)
+    pub sections_by : (Rel : Relation) → IsOrder Rel → copies ≡ false
+        → ((image old : Image) → IsCrashOf d image → NoChanceSeal l d image → IsBack image old → (markers : Markers) → IsLawful l old markers → (s : ℕ) → s < 2 ^ 64 → IsTrue (IsChanged s) → KeptBy l Rel old image markers s) → RecallsBy l Rel from d
+    sections_by Rel order still each = recalls_of Rel (λ image old crash fresh back markers lawful. sections_kept l Rel order old image markers (named_still image old back lawful.names)
         (λ side. sym (back.other (blob_of l.metadata side) (not_copy side still)))
         (λ s small. elim (cases_Bool (IsChanged s)) [
           | inl changed ↦ each image old crash fresh back markers lawful s small changed
-          | inr not ↦ as_before l old image markers s (sym (back.other (section_key l.index s) (not_index s small not)))
+          | inr not ↦ as_before l Rel order old image markers s (sym (back.other (section_key l.index s) (not_index s small not)))
               (ap (λ (o : Option (List ℕ)). unwrap_or o []) (sym (back.other (section_key l.values s) (not_values s small not))))
         ]) lawful)
+
+    pub sections_of : copies ≡ false
+        → ((image old : Image) → IsCrashOf d image → NoChanceSeal l d image → IsBack image old → (markers : Markers) → IsLawful l old markers → (s : ℕ) → s < 2 ^ 64 → IsTrue (IsChanged s) → KeptHere l old image markers s) → Recalls l from d
+    sections_of = sections_by Same same_order
 
     -- ---- a section that changed is put back as it read
     module _ (image old : Image) (back : IsBack image old) (s : ℕ) (small : s < 2 ^ 64) (changed : IsTrue (IsChanged s)) where
@@ -242,8 +246,17 @@ module _ (l : Layout) (apart : AreApart l) (from d : Disk) (IsChanged : ℕ → 
       read_sound = λ i r. is_sound l.seal (values_read i) (l.place r)
 
     -- ---- records are cut
-    -- The section is cut to p records, where the front of those that it reads as stops by the marker: each crash leaves a prefix of them that has
-    -- these, and the values as they read.
+    -- The section is cut to p records at the least, at or above its marker: each crash leaves a prefix of those that it reads as, of which what is
+    -- kept stands so to what is kept of all, and the values as they read.
+    pub record IsCut (Rel : Relation) (marker s : ℕ) : Type 0 where
+      pub p : ℕ
+      pub high : marker ≤ p
+      pub fronts : (k : ℕ) → p ≤ k → k ≤ length (stored_records l (as_read from) s)
+          → Rel s (map (entry_of l.place (content_at (as_read from) l.values s)) (front (is_sound_in l (as_read from) s) marker 0 (take k (stored_records l (as_read from) s)))) (kept l (as_read from) marker s)
+      pub leaves : pages.Leaves l.seal l.page_size (sealed_prefix l.seal l.page_size (content_at (as_read from) l.index s)) (p * l.record_size) (d (section_key l.index s))
+      pub values : (left : Option (List ℕ)) → MayLeave (d (section_key l.values s)) left → unwrap_or left [] ≡ content_at (as_read from) l.values s
+
+    -- It is cut to p records, where the front of those that it reads as stops by the marker.
     pub record IsShortened (marker s : ℕ) : Type 0 where
       pub p : ℕ
       pub within : p < length (stored_records l (as_read from) s)
@@ -253,42 +266,78 @@ module _ (l : Layout) (apart : AreApart l) (from d : Disk) (IsChanged : ℕ → 
       pub leaves : pages.Leaves l.seal l.page_size (sealed_prefix l.seal l.page_size (content_at (as_read from) l.index s)) (p * l.record_size) (d (section_key l.index s))
       pub values : (left : Option (List ℕ)) → MayLeave (d (section_key l.values s)) left → unwrap_or left [] ≡ content_at (as_read from) l.values s
 
+    -- so just what was kept is kept
+    cut_shortened : (marker s : ℕ) → IsShortened marker s → IsCut Same marker s
+    cut_shortened marker s short = record {
+      p = short.p;
+      high = short.high;
+      fronts = λ k le few. ap (map (entry_of l.place (content_at (as_read from) l.values s)))
+          (front_cut (is_sound_in l (as_read from) s) marker short.p k (stored_records l (as_read from) s) le few short.within short.good short.high short.fails);
+      leaves = short.leaves;
+      values = short.values;
+    }
+
     prefix_left : (bytes : List ℕ) (least : ℕ) (b : Blob) (left : Option (List ℕ)) → MayLeave b left → pages.Leaves l.seal l.page_size bytes least b → pages.NoChanceSeal l.seal l.page_size (past b) (unwrap_or left [])
         → IsSome left × Prefix l.seal l.page_size bytes least (unwrap_or left [])
     prefix_left bytes least b None may leaves fresh = absurd (leaves None may)
     prefix_left bytes least b (Some c) may leaves fresh = (refl, leaves (Some c) may fresh)
 
-    module _ (pos : 1 ≤ l.record_size) (image old : Image) (crash : IsCrashOf d image) (fresh : NoChanceSeal l d image) (back : IsBack image old) (markers : Markers) (s : ℕ) (small : s < 2 ^ 64) (changed : IsTrue (IsChanged s))
-        (short : IsShortened (marker_of markers s) s) where
+    module _ (Rel : Relation) (order : IsOrder Rel) (pos : 1 ≤ l.record_size) (image old : Image) (crash : IsCrashOf d image) (fresh : NoChanceSeal l d image) (back : IsBack image old) (markers : Markers) (s : ℕ) (small : s < 2 ^ 64) (changed : IsTrue (IsChanged s))
+        (cut : IsCut Rel (marker_of markers s) s) where
       abbrev sealed : List ℕ
       sealed = sealed_prefix l.seal l.page_size (content_at (as_read from) l.index s)
 
-      left : IsSome (image (section_key l.index s)) × Prefix l.seal l.page_size sealed (short.p * l.record_size) (content_at image l.index s)
-      left = prefix_left sealed (short.p * l.record_size) (d (section_key l.index s)) (image (section_key l.index s)) (crash (section_key l.index s)) short.leaves (fresh.slots s small)
+      left : IsSome (image (section_key l.index s)) × Prefix l.seal l.page_size sealed (cut.p * l.record_size) (content_at image l.index s)
+      left = prefix_left sealed (cut.p * l.record_size) (d (section_key l.index s)) (image (section_key l.index s)) (crash (section_key l.index s)) cut.leaves (fresh.slots s small)
 
       first : stored_records l image s ≡ take (length (stored_records l image s)) (stored_records l old s)
       first = records-front l.record_size sealed (sealed_prefix l.seal l.page_size (content_at image l.index s)) pos left.1.is left.1.no_longer
           ∙ ap (take (length (stored_records l image s))) (sym (read_records image old back s small changed))
 
-      sound_at : (q : ℕ) → is_sound_in l old s (get_or (stored_records l old s) q []) ≡ is_sound_in l (as_read from) s (get_or (stored_records l (as_read from) s) q [])
-      sound_at q = λ i. read_sound image old back s small changed i (get_or (read_records image old back s small changed i) q [])
+      -- what is said of the records and values as they read is said of the old ones
+      abbrev IsFronted : List ℕ → List (List ℕ) → Type 0
+      IsFronted values rs = (k : ℕ) → cut.p ≤ k → k ≤ length rs
+          → Rel s (map (entry_of l.place values) (front (λ r. is_sound l.seal values (l.place r)) (marker_of markers s) 0 (take k rs))) (map (entry_of l.place values) (front (λ r. is_sound l.seal values (l.place r)) (marker_of markers s) 0 rs))
 
-      good_old : (q : ℕ) → IsGoodAt (is_sound_in l (as_read from) s) (marker_of markers s) 0 (stored_records l (as_read from) s) q → IsGoodAt (is_sound_in l old s) (marker_of markers s) 0 (stored_records l old s) q
-      good_old q (inl lt) = inl lt
-      good_old q (inr is) = inr (sound_at q ∙ is)
+      fronted : IsFronted (content_at old l.values s) (stored_records l old s)
+      fronted = subst (λ (values : List ℕ). IsFronted values (stored_records l old s)) (sym (values_read image old back s small changed))
+          (subst (IsFronted (content_at (as_read from) l.values s)) (sym (read_records image old back s small changed)) cut.fronts)
 
-      shortened : KeptHere l old image markers s
-      shortened = records_cut l old image markers s short.p left.0 (short.values (image (section_key l.values s)) (crash (section_key l.values s)) ∙ sym (values_read image old back s small changed)) first
-          (records-enough l.record_size short.p (sealed_prefix l.seal l.page_size (content_at image l.index s)) pos left.1.no_shorter)
-          (omega (arith, short.within, ap length (read_records image old back s small changed))) short.high (sound_at short.p ∙ short.fails) (λ q lt. good_old q (short.good q lt))
+      shortened : KeptBy l Rel old image markers s
+      shortened = records_cut l Rel order old image markers s cut.p left.0 (cut.values (image (section_key l.values s)) (crash (section_key l.values s)) ∙ sym (values_read image old back s small changed)) first
+          (records-enough l.record_size cut.p (sealed_prefix l.seal l.page_size (content_at image l.index s)) pos left.1.no_shorter) cut.high fronted
 
     -- by the markers that the pair has
     abbrev pub HasMarkers : (ℕ → ℕ) → Type 0
     HasMarkers marker = (image old : Image) (markers : Markers) → IsCrashOf d image → IsBack image old → IsLawful l old markers → (s : ℕ) → s < 2 ^ 64 → marker_of markers s ≡ marker s
 
+    pub records_by : (Rel : Relation) → IsOrder Rel → copies ≡ false → 1 ≤ l.record_size → (marker : ℕ → ℕ) → HasMarkers marker → ((s : ℕ) → s < 2 ^ 64 → IsTrue (IsChanged s) → IsCut Rel (marker s) s) → RecallsBy l Rel from d
+    records_by Rel order still pos marker has each = sections_by Rel order still (λ image old crash fresh back markers lawful s small changed.
+        shortened Rel order pos image old crash fresh back markers s small changed (subst (λ (m : ℕ). IsCut Rel m s) (sym (has image old markers crash back lawful s small)) (each s small changed)))
+
     pub records_phase : copies ≡ false → 1 ≤ l.record_size → (marker : ℕ → ℕ) → HasMarkers marker → ((s : ℕ) → s < 2 ^ 64 → IsTrue (IsChanged s) → IsShortened (marker s) s) → Recalls l from d
-    records_phase still pos marker has each = sections_of still (λ image old crash fresh back markers lawful s small changed.
-        shortened pos image old crash fresh back markers s small changed (subst (λ (m : ℕ). IsShortened m s) (sym (has image old markers crash back lawful s small)) (each s small changed)))
+    records_phase still pos marker has each = records_by Same same_order still pos marker has (λ s small changed. cut_shortened (marker s) s (each s small changed))
+
+    -- ---- index blobs are removed
+    -- The section has no marker. Each crash leaves its index blob as it reads, and its values too; or without records, as is allowed.
+    pub record IsDropped (Rel : Relation) (marker s : ℕ) : Type 0 where
+      pub allowed : Rel s [] (kept l (as_read from) marker s)
+      pub index : (left : Option (List ℕ)) → MayLeave (d (section_key l.index s)) left → (left ≡ reads (from (section_key l.index s))) ⊎ (records l.record_size (sealed_prefix l.seal l.page_size (unwrap_or left [])) ≡ [])
+      pub values : (left : Option (List ℕ)) → MayLeave (d (section_key l.values s)) left → unwrap_or left [] ≡ content_at (as_read from) l.values s
+
+    pub removed_by : (Rel : Relation) → IsOrder Rel → copies ≡ false → (marker : ℕ → ℕ) → HasMarkers marker
+        → ((image old : Image) (markers : Markers) → IsCrashOf d image → IsBack image old → IsLawful l old markers → (s m : ℕ) → IsTrue (IsChanged s) → IsMarked markers s m → ⊥)
+        → ((s : ℕ) → s < 2 ^ 64 → IsTrue (IsChanged s) → IsDropped Rel (marker s) s) → RecallsBy l Rel from d
+    removed_by Rel order still marker has unmarked each = sections_by Rel order still (λ image old crash fresh back markers lawful s small changed.
+        let drop = each s small changed in
+        let values : content_at image l.values s ≡ content_at old l.values s = drop.values (image (section_key l.values s)) (crash (section_key l.values s)) ∙ sym (values_read image old back s small changed) in
+        let same_marker : marker_of markers s ≡ marker s = has image old markers crash back lawful s small in
+        let list_old : kept l old (marker_of markers s) s ≡ kept l (as_read from) (marker s) s = (λ i. map (entry_of l.place (values_read image old back s small changed i))
+        (front (read_sound image old back s small changed i) (same_marker i) 0 (read_records image old back s small changed i))) in
+        elim (drop.index (image (section_key l.index s)) (crash (section_key l.index s))) [
+          | inl same ↦ as_before l Rel order old image markers s (same ∙ sym (index_read image old back s small changed)) values
+          | inr bare ↦ index_removed l Rel order old image markers s (λ m. unmarked image old markers crash back lawful s m changed) bare (subst (Rel s []) (sym list_old) drop.allowed)
+        ])
 
     -- ---- values are cut, or removed
     -- The section's values are cut to n bytes, behind the last record's; all its records are kept, and left as they read; each crash leaves these bytes.
@@ -305,7 +354,7 @@ module _ (l : Layout) (apart : AreApart l) (from d : Disk) (IsChanged : ℕ → 
       pub none : stored_records l (as_read from) s ≡ []
       pub index : (left : Option (List ℕ)) → MayLeave (d (section_key l.index s)) left → records l.record_size (sealed_prefix l.seal l.page_size (unwrap_or left [])) ≡ []
 
-    module _ (image old : Image) (crash : IsCrashOf d image) (back : IsBack image old) (markers : Markers) (lawful : IsLawful l old markers) (s : ℕ) (small : s < 2 ^ 64) (changed : IsTrue (IsChanged s)) where
+    module _ (Rel : Relation) (order : IsOrder Rel) (image old : Image) (crash : IsCrashOf d image) (back : IsBack image old) (markers : Markers) (lawful : IsLawful l old markers) (s : ℕ) (small : s < 2 ^ 64) (changed : IsTrue (IsChanged s)) where
       module _ (trim : IsTrimmed (marker_of markers s) s) where
         abbrev places_end : ℕ
         places_end = (lawful.places s small).end
@@ -329,24 +378,32 @@ module _ (l : Layout) (apart : AreApart l) (from d : Disk) (IsChanged : ℕ → 
           | inr is ↦ omega (arith, is, trim.reach, ap (last_end l.place) (read_records image old back s small changed))
         ]
 
-        trimmed : KeptHere l old image markers s
-        trimmed = values_cut l old image markers s trim.n (trim.index (image (section_key l.index s)) (crash (section_key l.index s)) ∙ sym (index_read image old back s small changed)) (lawful.places s small) reached
+        trimmed : KeptBy l Rel old image markers s
+        trimmed = values_cut l Rel order old image markers s trim.n (trim.index (image (section_key l.index s)) (crash (section_key l.index s)) ∙ sym (index_read image old back s small changed)) (lawful.places s small) reached
             (subst (λ (c : List ℕ). IsFront (take trim.n c) (content_at image l.values s)) (sym (values_read image old back s small changed)) (trim.leaves (image (section_key l.values s)) (crash (section_key l.values s)))) all_sound
 
-      bare_kept : IsBare s → KeptHere l old image markers s
-      bare_kept bare = without_records l old image markers s (λ some. absurd (cc (subst IsSome (index_read image old back s small changed ∙ bare.absent) some)))
+      bare_kept : IsBare s → KeptBy l Rel old image markers s
+      bare_kept bare = without_records l Rel order old image markers s (λ some. absurd (cc (subst IsSome (index_read image old back s small changed ∙ bare.absent) some)))
           (bare.index (image (section_key l.index s)) (crash (section_key l.index s))) (read_records image old back s small changed ∙ bare.none)
 
-    pub values_phase : copies ≡ false → (marker : ℕ → ℕ) → HasMarkers marker → ((s : ℕ) → s < 2 ^ 64 → IsTrue (IsChanged s) → IsTrimmed (marker s) s ⊎ IsBare s) → Recalls l from d
-    values_phase still marker has each = sections_of still (λ image old crash fresh back markers lawful s small changed. elim (each s small changed) [
-      | inl trim ↦ trimmed image old crash back markers lawful s small changed (subst (λ (m : ℕ). IsTrimmed m s) (sym (has image old markers crash back lawful s small)) trim)
-      | inr bare ↦ bare_kept image old crash back markers lawful s small changed bare
+    pub values_by : (Rel : Relation) → IsOrder Rel → copies ≡ false → (marker : ℕ → ℕ) → HasMarkers marker → ((s : ℕ) → s < 2 ^ 64 → IsTrue (IsChanged s) → IsTrimmed (marker s) s ⊎ IsBare s) → RecallsBy l Rel from d
+    values_by Rel order still marker has each = sections_by Rel order still (λ image old crash fresh back markers lawful s small changed. elim (each s small changed) [
+      | inl trim ↦ trimmed Rel order image old crash back markers lawful s small changed (subst (λ (m : ℕ). IsTrimmed m s) (sym (has image old markers crash back lawful s small)) trim)
+      | inr bare ↦ bare_kept Rel order image old crash back markers lawful s small changed bare
     ])
+
+    pub values_phase : copies ≡ false → (marker : ℕ → ℕ) → HasMarkers marker → ((s : ℕ) → s < 2 ^ 64 → IsTrue (IsChanged s) → IsTrimmed (marker s) s ⊎ IsBare s) → Recalls l from d
+    values_phase = values_by Same same_order
 
     -- ---- markers are moved
     -- The image keeps the whole list of each section, which is what the old image keeps.
+    pub markers_by : (Rel : Relation) → IsOrder Rel → (wanted : ℕ → List Entry)
+        → ((image old : Image) (markers : Markers) → IsCrashOf d image → NoChanceSeal l d image → IsBack image old → IsLawful l old markers → (s : ℕ) → s < 2 ^ 64 → wanted s ≡ kept l old (marker_of markers s) s)
+        → ((image old : Image) (markers : Markers) → IsCrashOf d image → NoChanceSeal l d image → IsBack image old → IsLawful l old markers → Keeps l wanted (λ s. length (wanted s)) (λ _. ⊥) image) → RecallsBy l Rel from d
+    markers_by Rel order wanted list keeps = recalls_of Rel (λ image old crash fresh back markers lawful. markers_moved l Rel order old image markers wanted (named_still image old back lawful.names) lawful
+        (λ s small. list image old markers crash fresh back lawful s small) (keeps image old markers crash fresh back lawful))
+
     pub markers_phase : (wanted : ℕ → List Entry)
         → ((image old : Image) (markers : Markers) → IsCrashOf d image → NoChanceSeal l d image → IsBack image old → IsLawful l old markers → (s : ℕ) → s < 2 ^ 64 → wanted s ≡ kept l old (marker_of markers s) s)
         → ((image old : Image) (markers : Markers) → IsCrashOf d image → NoChanceSeal l d image → IsBack image old → IsLawful l old markers → Keeps l wanted (λ s. length (wanted s)) (λ _. ⊥) image) → Recalls l from d
-    markers_phase wanted list keeps = recalls_of (λ image old crash fresh back markers lawful. markers_moved l old image markers wanted (named_still image old back lawful.names) lawful
-        (λ s small. list image old markers crash fresh back lawful s small) (keeps image old markers crash fresh back lawful))
+    markers_phase = markers_by Same same_order

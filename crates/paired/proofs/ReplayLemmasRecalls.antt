@@ -78,14 +78,14 @@ kept_as : (l : Layout) (old image : Image) (markers : Markers) (s : ℕ) → (Is
 kept_as l old image markers s there records_same values =
     let sound_same : is_sound_in l image s ≡ is_sound_in l old s = (λ i r. is_sound l.seal (values i) (l.place r)) in
     record {
-      there = there;
       stored = records_same ∙ sym (take_all (length (stored_records l image s)) (stored_records l old s) (omega (arith, ap length records_same)));
       kept = (λ i. map (entry_of l.place (values i)) (front (sound_same i) (marker_of markers s) 0 (records_same i)));
-      marked = λ m is was. (
-        omega (arith, ap length records_same, was.enough),
-        subst (λ (rs : List (List ℕ)). AllByRecursion (λ r. IsTrue (is_sound_in l image s r)) (take m rs)) (sym records_same)
-            (subst (λ (f : List ℕ → Bool). AllByRecursion (λ r. IsTrue (f r)) (take m (stored_records l old s))) (sym sound_same) was.sound),
-      );
+      marked = λ m is was. record {
+        index_blob = there was.index_blob;
+        enough = omega (arith, ap length records_same, was.enough);
+        sound = subst (λ (rs : List (List ℕ)). AllByRecursion (λ r. IsTrue (is_sound_in l image s r)) (take m rs)) (sym records_same)
+            (subst (λ (f : List ℕ → Bool). AllByRecursion (λ r. IsTrue (f r)) (take m (stored_records l old s))) (sym sound_same) was.sound);
+      };
     }
 
 -- ---- a moment of the walk

@@ -1,5 +1,5 @@
 -- What an opening by markers promises of the disk: which images are lawful, what one image keeps of another, and what is refused.
-use Rattle.std.specs.Prelude.{◌≡◌, ℕ, ◌-◌, ◌^◌, ◌<◌, ⊤, false, List, length, IsSome, IsTrue, take}
+use Rattle.std.specs.Prelude.{◌≡◌, ℕ, ◌-◌, ◌^◌, ◌<◌, ◌≤◌, ⊤, false, List, length, min, IsSome, IsTrue, take}
 use Rattle.std.specs.List.{AllByRecursion}
 use Rattle.blob_device.specs.Disk.{Key, Disk, Image, IsCrashOf, past, reads}
 use Rattle.sealed_pages.specs.ChanceSeal as pages
@@ -14,10 +14,37 @@ use Rattle.paired.specs.Crashes.{IsOwn, NoChanceSeal, WasThere}
 use Rattle.paired.specs.Kept.{Layout, Markers, IsMarked, marker_of, content_at, stored_records, is_sound_in, kept, IsTrueMarker}
 use Rattle.paired.specs.Pair.{HasNoBytes}
 use Rattle.paired.specs.Places.{Follow}
+use Rattle.paired.specs.Records.{Entry}
 
 -- the image as the disk reads
 abbrev pub as_read : Disk → Image
 as_read d k = reads (d k)
+
+-- ---- how what is kept of a section stands to what was kept of it before
+abbrev pub Relation : Type 1
+Relation = ℕ → List Entry → List Entry → Type 0
+
+-- It holds where nothing changes, and of two changes one after the other where it holds of each.
+pub record IsOrder (Rel : Relation) : Type 0 where
+  pub itself : (s : ℕ) (list : List Entry) → Rel s list list
+  pub onward : (s : ℕ) (last found list : List Entry) → Rel s last found → Rel s found list → Rel s last list
+
+-- just that
+abbrev pub Same : Relation
+Same s found list = found ≡ list
+
+-- the first entries of it
+abbrev pub Front : Relation
+Front s found list = found ≡ take (length found) list
+
+-- just that of a section before this one, the first entries of another, and of this one at least so many
+pub record IsUpTo (section least s : ℕ) (found list : List Entry) : Type 0 where
+  pub front : found ≡ take (length found) list
+  pub before : s < section → found ≡ list
+  pub here : s ≡ section → min least (length list) ≤ length found
+
+abbrev pub UpTo : ℕ → ℕ → Relation
+UpTo section least = IsUpTo section least
 
 module _ (l : Layout) where
   -- the copies of an image hold this map of markers
@@ -43,28 +70,50 @@ module _ (l : Layout) where
     pub true_markers : (s m : ℕ) → IsMarked markers s m → IsTrueMarker l image s m
     pub places : (s : ℕ) → s < 2 ^ 64 → IsInPlace image s
 
+  module _ (Rel : Relation) where
+    -- The image `new` is lawful, and what it keeps of each section stands so to what `old` keeps. The records that it stores are the first ones
+    -- that `old` stores.
+    pub record KeepsBy (old : Image) (old_markers : Markers) (new : Image) : Type 0 where
+      pub markers : Markers
+      pub lawful : IsLawful new markers
+      pub same : (s : ℕ) → s < 2 ^ 64 → Rel s (kept l new (marker_of markers s) s) (kept l old (marker_of old_markers s) s)
+      pub stored : (s : ℕ) → s < 2 ^ 64 → stored_records l new s ≡ take (length (stored_records l new s)) (stored_records l old s)
+
+    -- A crash of the disk `from` leaves the image `old` without a chance seal, and `new` keeps so much of what that keeps, if it is lawful.
+    pub record IsKeptBy (from : Disk) (new : Image) : Type 0 where
+      pub old : Image
+      pub crash : IsCrashOf from old
+      pub no_chance : NoChanceSeal l from old
+      pub keeps : (markers : Markers) → IsLawful old markers → KeepsBy old markers new
+
+    -- Each image that a crash leaves now without a chance seal keeps so much of what a crash of the disk `from` would have kept.
+    abbrev pub RecallsBy : Disk → Disk → Type 0
+    RecallsBy from d = (image : Image) → IsCrashOf d image → NoChanceSeal l d image → IsKeptBy from image
+
+    -- and no blob changes but those that the call may touch
+    pub record RecallsAloneBy (MayTouch : Key → Type 0) (from d : Disk) : Type 0 where
+      pub recalls : RecallsBy from d
+      pub others : (q : Key) → (MayTouch q → ⊥) → d q ≡ from q
+
+    -- Each image that a crash leaves without a chance seal is lawful, and keeps so much of what the image `old` keeps.
+    abbrev pub KeepsAllBy : Image → Markers → Disk → Type 0
+    KeepsAllBy old markers d = (image : Image) → IsCrashOf d image → NoChanceSeal l d image → KeepsBy old markers image
+
   -- The image `new` is lawful, and keeps of each section what `old` keeps. The records that it stores are the first ones that `old` stores.
-  pub record KeepsAs (old : Image) (old_markers : Markers) (new : Image) : Type 0 where
-    pub markers : Markers
-    pub lawful : IsLawful new markers
-    pub same : (s : ℕ) → s < 2 ^ 64 → kept l new (marker_of markers s) s ≡ kept l old (marker_of old_markers s) s
-    pub stored : (s : ℕ) → s < 2 ^ 64 → stored_records l new s ≡ take (length (stored_records l new s)) (stored_records l old s)
+  abbrev pub KeepsAs : Image → Markers → Image → Type 0
+  KeepsAs = KeepsBy Same
 
   -- A crash of the disk `from` leaves the image `old` without a chance seal, and `new` keeps what that keeps, if it is lawful.
-  pub record IsKeptFrom (from : Disk) (new : Image) : Type 0 where
-    pub old : Image
-    pub crash : IsCrashOf from old
-    pub no_chance : NoChanceSeal l from old
-    pub keeps : (markers : Markers) → IsLawful old markers → KeepsAs old markers new
+  abbrev pub IsKeptFrom : Disk → Image → Type 0
+  IsKeptFrom = IsKeptBy Same
 
   -- Each image that a crash leaves now without a chance seal keeps just what a crash of the disk `from` would have kept.
   abbrev pub Recalls : Disk → Disk → Type 0
-  Recalls from d = (image : Image) → IsCrashOf d image → NoChanceSeal l d image → IsKeptFrom from image
+  Recalls = RecallsBy Same
 
   -- and no blob changes but those that the call may touch
-  pub record RecallsAlone (MayTouch : Key → Type 0) (from d : Disk) : Type 0 where
-    pub recalls : Recalls from d
-    pub others : (q : Key) → (MayTouch q → ⊥) → d q ≡ from q
+  abbrev pub RecallsAlone : (Key → Type 0) → Disk → Disk → Type 0
+  RecallsAlone = RecallsAloneBy Same
 
   -- each slot of a section's index blob whose seal holds in the image is one that the blob had there
   abbrev pub NoChanceSlots : Disk → Image → ℕ → Type 0
@@ -85,7 +134,7 @@ module _ (l : Layout) where
 
   -- Each image that a crash leaves without a chance seal is lawful, and keeps just what the image `old` keeps.
   abbrev pub KeepsAll : Image → Markers → Disk → Type 0
-  KeepsAll old markers d = (image : Image) → IsCrashOf d image → NoChanceSeal l d image → KeepsAs old markers image
+  KeepsAll = KeepsAllBy Same
 
   -- No byte changes: a section's blob is as before, or settled as it read; a copy of the markers is being opened; any other blob is as before.
   pub record OnlyOpens (from d : Disk) : Type 0 where
