@@ -43,6 +43,7 @@ pub mod OpeningPhases
 pub mod ReconcileResting
 pub mod ReconcileStart
 pub mod ReconcilePhases
+pub mod Steps
 pub mod ReconcileLeft
 pub mod ReconcileStages
 pub mod ReconcileJoints

@@ -40,7 +40,7 @@ section_or_not partition P q = elim (cases_lt (from_be_bytes w64 q.1) (2 ^ 64)) 
   ]
 ]
 
-copy_or_not : (l : Layout) (q : Key) → IsCopy l q ⊎ (IsCopy l q → ⊥)
+pub copy_or_not : (l : Layout) (q : Key) → IsCopy l q ⊎ (IsCopy l q → ⊥)
 copy_or_not l q = elim (same_or_other q (blob_of l.metadata Left)) [
   | inl is ↦ inl (Left, is)
   | inr first ↦ elim (same_or_other q (blob_of l.metadata Right)) [

@@ -1,7 +1,6 @@
 -- The stages of the end of an opening, one behind another, and what they leave together, also where one fails.
-use Rattle.std.proofs.Common.{◌≡◌, inl, inr, ℕ, length, None, refl, sym, ◌∙◌, ap, subst, arith}
-use Rattle.std.proofs.lemmas.List.{take_all}
-use Rattle.std.specs.Prelude.{⊤}
+use Rattle.std.proofs.Common.{◌≡◌, inl, inr, ℕ, zero, suc, ◌<◌, ◌≤◌, None, refl, sym, ◌∙◌, ap, subst, arith}
+use Rattle.std.specs.Prelude.{⊤, is_some}
 use Rattle.blob_device.specs.Disk.{Key, Disk}
 use Rattle.blob_device.specs.Timeline.{Timeline, disk, Always}
 use Rattle.blob_device.proofs.Moments.{always_start, always_then, always_weaker, always_now}
@@ -10,70 +9,15 @@ use Rattle.sealed_pages.specs.Reading.{Unchanged}
 use Rattle.segments.specs.Sections.{IsHeld}
 use Rattle.meta_store.specs.Blobs.{blob_of, other_side}
 use Rattle.paired.specs.Crashes.{IsBlobOf, IsCopy, IsIndexOf, IsOwn, IsValuesOf, InOrder}
-use Rattle.paired.specs.Kept.{Layout, stored_records}
-use Rattle.paired.specs.Opening.{MayBeOpened, Recalls, RecallsAlone}
+use Rattle.paired.specs.Opening.{MayBeOpened, Same, Recalls, RecallsAlone}
 use Rattle.paired.specs.Pair.{AreApart}
 use Rattle.paired.specs.Replaying.{Run, IsAllKept, IsClean}
 use Rattle.segments.proofs.KeyLemmas.{key_injective}
-use Rattle.paired.proofs.OpeningLaws.{recalls_on}
-use Rattle.paired.proofs.PairSettling.{in_order}
-
--- no blob that P names changes
-abbrev pub Stay : (Key → Type 0) → Timeline → Timeline → Type 0
-Stay P a b = Always a b (λ d. (q : Key) → P q → d q ≡ disk a q)
-
-pub stay_then : (P : Key → Type 0) (a b c : Timeline) → Stay P a b → Stay P b c → Stay P a c
-stay_then P a b c first second = always_then a b c (λ d. (q : Key) → P q → d q ≡ disk a q) first
-    (always_weaker b c (λ d. (q : Key) → P q → d q ≡ disk b q) (λ d. (q : Key) → P q → d q ≡ disk a q) (λ d same q is. same q is ∙ always_now a b (λ x. (k : Key) → P k → x k ≡ disk a k) first q is) second)
-
-pub stay_start : (P : Key → Type 0) (a : Timeline) → Stay P a a
-stay_start P a = always_start a (λ d. (q : Key) → P q → d q ≡ disk a q) (λ q is. refl)
-
-pub stay_fewer : (P Q : Key → Type 0) (a b : Timeline) → ((q : Key) → Q q → P q) → Stay P a b → Stay Q a b
-stay_fewer P Q a b fewer = always_weaker a b (λ d. (q : Key) → P q → d q ≡ disk a q) (λ d. (q : Key) → Q q → d q ≡ disk a q) (λ d same q is. same q (fewer q is))
-
-unchanged_then : (a b c : Timeline) → Unchanged a b → Unchanged b c → Unchanged a c
-unchanged_then a b c first second = always_then a b c (λ d. d ≡ disk a) first (always_weaker b c (λ d. d ≡ disk b) (λ d. d ≡ disk a) (λ d is. is ∙ always_now a b (λ x. x ≡ disk a) first) second)
-
-recalls_then : (l : Layout) (a b c : Timeline) → Always a b (Recalls l (disk a)) → Always b c (Recalls l (disk b)) → Always a c (Recalls l (disk a))
-recalls_then l a b c first second = always_then a b c (Recalls l (disk a)) first
-    (always_weaker b c (Recalls l (disk b)) (Recalls l (disk a)) (λ d more. recalls_on l (disk a) (disk b) d (always_now a b (Recalls l (disk a)) first) more) second)
-
--- two things at each moment
-pub both_always : (a b : Timeline) (P Q : Disk → Type 0) → Always a b P → Always a b Q → Always a b (λ d. P d × Q d)
-both_always a b P Q first second = record { later = first.later; kept = first.kept; each = λ m lo hi. (first.each m lo hi, second.each m lo hi) }
+use Rattle.segments.proofs.WalkLemmas.{none_or_value}
+use Rattle.paired.proofs.OpeningEnds.{same_order}
+use Rattle.paired.proofs.Steps.{Stay, stay_fewer, both_always, Step, no_step, step_then, step_wider, order_fewer, FirstKinds, LaterKinds, Ascends, ascend_start, ascend_then}
 
 module _ {F S : Type 0} {gs : _} (run : Run F (PageBlob S gs)) where
-  -- A stage touches these blobs alone, and none of a section that was clean at the start. Each crash keeps what it kept.
-  pub record Stage (Touched : Key → Type 0) (start : Disk) (b c : Timeline) : Type 0 where
-    pub only : Stay (λ q. Touched q → ⊥) b c
-    pub recalls : MayBeOpened run.layout start → Always b c (Recalls run.layout (disk b))
-    pub clean : (s : ℕ) → IsClean run start s → Stay (IsBlobOf run.layout (λ t. t ≡ s)) b c
-    pub idle : IsAllKept run start → Unchanged b c
-
-  -- a disk recalls itself
-  recalls_self : (d : Disk) → Recalls run.layout d d
-  recalls_self d image crash fresh = record {
-    old = image;
-    crash = crash;
-    no_chance = fresh;
-    keeps = λ markers lawful. record {
-      markers = markers;
-      lawful = lawful;
-      same = λ s small. refl;
-      stored = λ s small. sym (take_all (length (stored_records run.layout image s)) (stored_records run.layout image s) (omega arith));
-    };
-  }
-
-  -- a stage that was not begun
-  pub no_stage : (Touched : Key → Type 0) (start : Disk) (b : Timeline) → Stage Touched start b b
-  no_stage Touched start b = record {
-    only = stay_start (λ q. Touched q → ⊥) b;
-    recalls = λ may. always_start b (Recalls run.layout (disk b)) (recalls_self (disk b));
-    clean = λ s is. stay_start (IsBlobOf run.layout (λ t. t ≡ s)) b;
-    idle = λ is. always_start b (λ d. d ≡ disk b) refl;
-  }
-
   abbrev pub newer : Key
   newer = blob_of run.layout.metadata (other_side run.store.older)
 
@@ -82,6 +26,26 @@ module _ {F S : Type 0} {gs : _} (run : Run F (PageBlob S gs)) where
 
   abbrev pub OtherValues : Key → Type 0
   OtherValues = IsValuesOf run.layout (λ s. run.walk.journal.sections.held s ≡ None)
+
+  -- the kinds of blobs, in the order of the stages
+  abbrev pub Kind : ℕ → Key → Type 0
+  Kind zero = IsIndexOf run.layout (λ _. ⊤)
+  Kind (suc zero) = HeldValues
+  Kind (suc (suc zero)) = OtherValues
+  Kind (suc (suc (suc zero))) = IsCopy run.layout
+  Kind (suc (suc (suc (suc k)))) = λ q. ⊥
+
+  -- a blob of no section that was clean at the start, where not all was kept
+  pub record IsDirty (start : Disk) (q : Key) : Type 0 where
+    pub section : (s : ℕ) → IsClean run start s → IsBlobOf run.layout (λ t. t ≡ s) q → ⊥
+    pub some : IsAllKept run start → ⊥
+
+  -- A stage touches blobs of one kind alone, and none that is clean.
+  abbrev pub Stage : ℕ → Disk → Timeline → Timeline → Type 0
+  Stage k start = Step run.layout Same (MayBeOpened run.layout start) (λ q. Kind k q × IsDirty start q)
+
+  pub no_stage : (k : ℕ) (start : Disk) (b : Timeline) → Stage k start b b
+  no_stage k start = no_step run.layout Same (MayBeOpened run.layout start) same_order (λ q. Kind k q × IsDirty start q)
 
   -- what the stages leave together
   pub record Left (a f : Timeline) : Type 0 where
@@ -108,69 +72,90 @@ module _ {F S : Type 0} {gs : _} (run : Run F (PageBlob S gs)) where
     held_no_other q is other = (let same = key_injective run.layout.values is.0 other.0 is.1 other.1 (sym is.3 ∙ other.3) in
         absurd (cc (subst (λ (s : ℕ). run.walk.journal.sections.held s ≡ None) (sym same) other.2, is.2)))
 
-    all_values : (P : ℕ → Type 0) (q : Key) → IsValuesOf run.layout P q → IsOwn run.layout (λ _. ⊤) q
-    all_values P q is = inr (inl (is.0, is.1, tt, is.3))
+    kinds_apart : (i j : ℕ) (q : Key) → i < j → Kind i q → Kind j q → ⊥
+    kinds_apart i zero q lt first second = omega (arith, lt)
+    kinds_apart zero (suc zero) q lt first second = index_no_values (λ _. ⊤) (IsHeld run.walk.journal.sections) q first second
+    kinds_apart (suc i) (suc zero) q lt first second = omega (arith, lt)
+    kinds_apart zero (suc (suc zero)) q lt first second = index_no_values (λ _. ⊤) (λ s. run.walk.journal.sections.held s ≡ None) q first second
+    kinds_apart (suc zero) (suc (suc zero)) q lt first second = held_no_other q first second
+    kinds_apart (suc (suc i)) (suc (suc zero)) q lt first second = omega (arith, lt)
+    kinds_apart zero (suc (suc (suc zero))) q lt first second = index_no_copy (λ _. ⊤) q first second
+    kinds_apart (suc zero) (suc (suc (suc zero))) q lt first second = values_no_copy (IsHeld run.walk.journal.sections) q first second
+    kinds_apart (suc (suc zero)) (suc (suc (suc zero))) q lt first second = values_no_copy (λ s. run.walk.journal.sections.held s ≡ None) q first second
+    kinds_apart (suc (suc (suc i))) (suc (suc (suc zero))) q lt first second = omega (arith, lt)
+    kinds_apart i (suc (suc (suc (suc j)))) q lt first second = second
 
-    module _ (a b c e f : Timeline) (first : Stage (IsIndexOf run.layout (λ _. ⊤)) (disk a) a b) (second : Stage HeldValues (disk a) b c) (third : Stage OtherValues (disk a) c e)
-        (fourth : Stage (IsCopy run.layout) (disk a) e f) (stays : Always e f (λ d. d newer ≡ disk e newer)) where
-      -- what each leaves of a kind of blobs
-      first_stay : (P : Key → Type 0) → ((q : Key) → P q → IsIndexOf run.layout (λ _. ⊤) q → ⊥) → Stay P a b
-      first_stay P none = stay_fewer (λ q. IsIndexOf run.layout (λ _. ⊤) q → ⊥) P a b none first.only
+    kind_own : (k : ℕ) (q : Key) → Kind k q → IsOwn run.layout (λ _. ⊤) q
+    kind_own zero q is = inl is
+    kind_own (suc zero) q is = inr (inl (is.0, is.1, tt, is.3))
+    kind_own (suc (suc zero)) q is = inr (inl (is.0, is.1, tt, is.3))
+    kind_own (suc (suc (suc zero))) q is = inr (inr is)
+    kind_own (suc (suc (suc (suc k)))) q is = absurd is
 
-      second_stay : (P : Key → Type 0) → ((q : Key) → P q → HeldValues q → ⊥) → Stay P b c
-      second_stay P none = stay_fewer (λ q. HeldValues q → ⊥) P b c none second.only
+    values_kind : (q : Key) → IsValuesOf run.layout (λ _. ⊤) q → LaterKinds Kind 0 q
+    values_kind q is = elim (none_or_value (run.walk.journal.sections.held is.0)) [
+      | inl none ↦ (2, omega arith, (is.0, is.1, none, is.3))
+      | inr some ↦ (1, omega arith, (is.0, is.1, ap is_some some.1, is.3))
+    ]
 
-      third_stay : (P : Key → Type 0) → ((q : Key) → P q → OtherValues q → ⊥) → Stay P c e
-      third_stay P none = stay_fewer (λ q. OtherValues q → ⊥) P c e none third.only
+    blob_kind : (q : Key) → IsBlobOf run.layout (λ _. ⊤) q → FirstKinds Kind 2 q
+    blob_kind q (inl is) = (0, omega arith, is)
+    blob_kind q (inr is) = elim (none_or_value (run.walk.journal.sections.held is.0)) [
+      | inl none ↦ (2, omega arith, (is.0, is.1, none, is.3))
+      | inr some ↦ (1, omega arith, (is.0, is.1, ap is_some some.1, is.3))
+    ]
 
-      fourth_stay : (P : Key → Type 0) → ((q : Key) → P q → IsCopy run.layout q → ⊥) → Stay P e f
-      fourth_stay P none = stay_fewer (λ q. IsCopy run.layout q → ⊥) P e f none fourth.only
+    -- ---- the stages so far, the last of the kind k
+    pub record Stages (start : Disk) (k : ℕ) (a f : Timeline) : Type 0 where
+      pub step : Step run.layout Same (MayBeOpened run.layout start) (λ q. IsOwn run.layout (λ _. ⊤) q × IsDirty start q) a f
+      pub ascends : Ascends Kind k a f
 
-      to_e : (P : Key → Type 0) → Stay P a b → Stay P b c → Stay P c e → Stay P a e
-      to_e P one two three = stay_then P a c e (stay_then P a b c one two) three
+    pub no_stages : (start : Disk) (a : Timeline) → Stages start 0 a a
+    no_stages start a = record {
+      step = no_step run.layout Same (MayBeOpened run.layout start) same_order (λ q. IsOwn run.layout (λ _. ⊤) q × IsDirty start q) a;
+      ascends = ascend_start Kind 0 a;
+    }
 
-      all_stay : Stay (λ q. IsOwn run.layout (λ _. ⊤) q → ⊥) a f
-      all_stay = stay_then (λ q. IsOwn run.layout (λ _. ⊤) q → ⊥) a e f
-          (to_e (λ q. IsOwn run.layout (λ _. ⊤) q → ⊥) (first_stay (λ q. IsOwn run.layout (λ _. ⊤) q → ⊥) (λ q none is. none (inl is)))
-          (second_stay (λ q. IsOwn run.layout (λ _. ⊤) q → ⊥) (λ q none is. none (all_values (IsHeld run.walk.journal.sections) q is)))
-          (third_stay (λ q. IsOwn run.layout (λ _. ⊤) q → ⊥) (λ q none is. none (all_values (λ s. run.walk.journal.sections.held s ≡ None) q is))))
-          (fourth_stay (λ q. IsOwn run.layout (λ _. ⊤) q → ⊥) (λ q none is. none (inr (inr is))))
+    pub stages_then : (start : Disk) (k m : ℕ) (a b c : Timeline) → k ≤ m → Stages start k a b → Stage m start b c → Stages start m a c
+    stages_then start k m a b c le first more = record {
+      step = step_then run.layout Same (MayBeOpened run.layout start) same_order (λ q. IsOwn run.layout (λ _. ⊤) q × IsDirty start q) a b c first.step
+          (step_wider run.layout Same (MayBeOpened run.layout start) (λ q. Kind m q × IsDirty start q) (λ q. IsOwn run.layout (λ _. ⊤) q × IsDirty start q) b c (λ q is. (kind_own m q is.0, is.1)) more);
+      ascends = ascend_then Kind kinds_apart k m a b c le first.ascends (stay_fewer (λ q. Kind m q × IsDirty start q → ⊥) (λ q. Kind m q → ⊥) b c (λ q none is. none is.0) more.only);
+    }
 
-      copies_stay : Stay (IsCopy run.layout) a e
-      copies_stay = to_e (IsCopy run.layout) (first_stay (IsCopy run.layout) (λ q copy is. index_no_copy (λ _. ⊤) q is copy))
-          (second_stay (IsCopy run.layout) (λ q copy is. values_no_copy (IsHeld run.walk.journal.sections) q is copy))
-          (third_stay (IsCopy run.layout) (λ q copy is. values_no_copy (λ s. run.walk.journal.sections.held s ≡ None) q is copy))
+    pub left_by : (k : ℕ) (a f : Timeline) → Stages (disk a) k a f → Always a f (λ d. d newer ≡ disk a newer) → Left a f
+    left_by k a f all stays =
+        let IsTouched : Key → Type 0 = λ q. IsOwn run.layout (λ _. ⊤) q × IsDirty (disk a) q in
+        record {
+          moments = λ may. always_weaker a f (λ d. Recalls run.layout (disk a) d × ((q : Key) → (IsTouched q → ⊥) → d q ≡ disk a q)) (RecallsAlone run.layout (IsOwn run.layout (λ _. ⊤)) (disk a))
+              (λ d is. record { recalls = is.0; others = λ q none. is.1 q (λ touched. none touched.0) })
+              (both_always a f (Recalls run.layout (disk a)) (λ d. (q : Key) → (IsTouched q → ⊥) → d q ≡ disk a q) (all.step.recalls may) all.step.only);
+          untouched = stay_fewer (λ q. IsTouched q → ⊥) (λ q. IsOwn run.layout (λ _. ⊤) q → ⊥) a f (λ q none touched. none touched.0) all.step.only;
+          order = order_fewer (FirstKinds Kind 0) (LaterKinds Kind 0) (IsIndexOf run.layout (λ _. ⊤)) (IsValuesOf run.layout (λ _. ⊤)) a f (λ q is. (0, omega arith, is)) values_kind (all.ascends.orders 0);
+          orphans_last = order_fewer (FirstKinds Kind 1) (LaterKinds Kind 1) HeldValues OtherValues a f (λ q is. (1, omega arith, is)) (λ q is. (2, omega arith, is)) (all.ascends.orders 1);
+          markers_last = order_fewer (FirstKinds Kind 2) (LaterKinds Kind 2) (IsBlobOf run.layout (λ _. ⊤)) (IsCopy run.layout) a f blob_kind (λ q is. (3, omega arith, is)) (all.ascends.orders 2);
+          newer_stays = stays;
+          clean = λ s is. stay_fewer (λ q. IsTouched q → ⊥) (IsBlobOf run.layout (λ t. t ≡ s)) a f (λ q own touched. touched.1.section s is own) all.step.only;
+          idle = λ is. always_weaker a f (λ d. (q : Key) → (IsTouched q → ⊥) → d q ≡ disk a q) (λ d. d ≡ disk a) (λ d same i q. same q (λ touched. touched.1.some is) i) all.step.only;
+        }
 
-      recalls_all : MayBeOpened run.layout (disk a) → Always a f (Recalls run.layout (disk a))
-      recalls_all may = recalls_then run.layout a e f (recalls_then run.layout a c e (recalls_then run.layout a b c (first.recalls may) (second.recalls may)) (third.recalls may)) (fourth.recalls may)
+    copies_stay : (start : Disk) (a e : Timeline) → Stages start 2 a e → Stay (IsCopy run.layout) a e
+    copies_stay start a e all = stay_fewer (LaterKinds Kind 2) (IsCopy run.layout) a e (λ q is. (3, omega arith, is)) all.ascends.later
 
-      pub left_of : Left a f
-      left_of = record {
-        moments = λ may. always_weaker a f (λ d. Recalls run.layout (disk a) d × ((q : Key) → (IsOwn run.layout (λ _. ⊤) q → ⊥) → d q ≡ disk a q)) (RecallsAlone run.layout (IsOwn run.layout (λ _. ⊤)) (disk a))
-            (λ d is. record { recalls = is.0; others = is.1 }) (both_always a f (Recalls run.layout (disk a)) (λ d. (q : Key) → (IsOwn run.layout (λ _. ⊤) q → ⊥) → d q ≡ disk a q) (recalls_all may) all_stay);
-        untouched = all_stay;
-        order = in_order (IsIndexOf run.layout (λ _. ⊤)) (IsValuesOf run.layout (λ _. ⊤)) a b f
-            (first_stay (IsValuesOf run.layout (λ _. ⊤)) (λ q values is. index_no_values (λ _. ⊤) (λ _. ⊤) q is values))
-            (stay_then (IsIndexOf run.layout (λ _. ⊤)) b e f (stay_then (IsIndexOf run.layout (λ _. ⊤)) b c e
-            (second_stay (IsIndexOf run.layout (λ _. ⊤)) (λ q is values. index_no_values (λ _. ⊤) (IsHeld run.walk.journal.sections) q is values))
-            (third_stay (IsIndexOf run.layout (λ _. ⊤)) (λ q is values. index_no_values (λ _. ⊤) (λ s. run.walk.journal.sections.held s ≡ None) q is values)))
-            (fourth_stay (IsIndexOf run.layout (λ _. ⊤)) (λ q is copy. index_no_copy (λ _. ⊤) q is copy)));
-        orphans_last = in_order HeldValues OtherValues a c f
-            (stay_then OtherValues a b c (first_stay OtherValues (λ q values is. index_no_values (λ _. ⊤) (λ s. run.walk.journal.sections.held s ≡ None) q is values))
-            (second_stay OtherValues (λ q other is. held_no_other q is other)))
-            (stay_then HeldValues c e f (third_stay HeldValues held_no_other) (fourth_stay HeldValues (λ q is copy. values_no_copy (IsHeld run.walk.journal.sections) q is copy)));
-        markers_last = in_order (IsBlobOf run.layout (λ _. ⊤)) (IsCopy run.layout) a e f copies_stay
-            (fourth_stay (IsBlobOf run.layout (λ _. ⊤)) (λ q is copy. elim is [
-              | inl index ↦ index_no_copy (λ _. ⊤) q index copy
-              | inr values ↦ values_no_copy (λ _. ⊤) q values copy
-            ]));
-        newer_stays = always_then a e f (λ d. d newer ≡ disk a newer)
-            (always_weaker a e (λ d. (q : Key) → IsCopy run.layout q → d q ≡ disk a q) (λ d. d newer ≡ disk a newer) (λ d same. same newer (other_side run.store.older, refl)) copies_stay)
-            (always_weaker e f (λ d. d newer ≡ disk e newer) (λ d. d newer ≡ disk a newer) (λ d same. same ∙ always_now a e (λ x. (q : Key) → IsCopy run.layout q → x q ≡ disk a q) copies_stay newer (other_side run.store.older, refl)) stays);
-        clean = λ s is. stay_then (IsBlobOf run.layout (λ t. t ≡ s)) a e f (to_e (IsBlobOf run.layout (λ t. t ≡ s)) (first.clean s is) (second.clean s is) (third.clean s is)) (fourth.clean s is);
-        idle = λ is. unchanged_then a e f (unchanged_then a c e (unchanged_then a b c (first.idle is) (second.idle is)) (third.idle is)) (fourth.idle is);
-      }
+    three_stages : (a b c e : Timeline) → Stage 0 (disk a) a b → Stage 1 (disk a) b c → Stage 2 (disk a) c e → Stages (disk a) 2 a e
+    three_stages a b c e first second third = stages_then (disk a) 1 2 a c e (omega arith)
+        (stages_then (disk a) 0 1 a b c (omega arith) (stages_then (disk a) 0 0 a a b (omega arith) (no_stages (disk a) a) first) second) third
+
+    newer_before : (a e : Timeline) → Stages (disk a) 2 a e → Always a e (λ d. d newer ≡ disk a newer)
+    newer_before a e all = always_weaker a e (λ d. (q : Key) → IsCopy run.layout q → d q ≡ disk a q) (λ d. d newer ≡ disk a newer) (λ d same. same newer (other_side run.store.older, refl)) (copies_stay (disk a) a e all)
+
+    pub left_of : (a b c e f : Timeline) → Stage 0 (disk a) a b → Stage 1 (disk a) b c → Stage 2 (disk a) c e → Stage 3 (disk a) e f → Always e f (λ d. d newer ≡ disk e newer) → Left a f
+    left_of a b c e f first second third fourth stays =
+        let before = three_stages a b c e first second third in
+        left_by 3 a f (stages_then (disk a) 2 3 a e f (omega arith) before fourth)
+        (always_then a e f (λ d. d newer ≡ disk a newer) (newer_before a e before)
+        (always_weaker e f (λ d. d newer ≡ disk e newer) (λ d. d newer ≡ disk a newer) (λ d same. same ∙ always_now a e (λ x. x newer ≡ disk a newer) (newer_before a e before)) stays))
 
     -- where the markers were not come to
-    pub left_before : (a b c e : Timeline) → Stage (IsIndexOf run.layout (λ _. ⊤)) (disk a) a b → Stage HeldValues (disk a) b c → Stage OtherValues (disk a) c e → Left a e
-    left_before a b c e first second third = left_of a b c e e first second third (no_stage (IsCopy run.layout) (disk a) e) (always_start e (λ d. d newer ≡ disk e newer) refl)
+    pub left_before : (a b c e : Timeline) → Stage 0 (disk a) a b → Stage 1 (disk a) b c → Stage 2 (disk a) c e → Left a e
+    left_before a b c e first second third = (let before = three_stages a b c e first second third in left_by 2 a e before (newer_before a e before))

@@ -30,12 +30,12 @@ use Rattle.paired.specs.Places.{Follow, last_end}
 use Rattle.paired.specs.Records.{records, is_sound, front, entry_of}
 use Rattle.paired.specs.Replaying.{Run, marker, records_given, is_sound_over}
 use Rattle.paired.proofs.OpeningEnds.{front_sound, marked_is, marked_or_zero}
-use Rattle.paired.proofs.OpeningPhases.{IsPhase, IsBack, not_index, not_values, markers_phase}
+use Rattle.paired.proofs.OpeningPhases.{copy_or_not, IsPhase, IsBack, not_index, not_values, markers_phase}
 use Rattle.paired.proofs.RecordLemmas.{all_by}
 use Rattle.paired.proofs.ReconcileResting.{stored_at, values_at, rests_no_chance}
 use Rattle.paired.proofs.ReconcileStart.{Drained, GaveBack}
 use Rattle.paired.proofs.ReconcilePhases.{index_left, values_left, markers_one}
-use Rattle.paired.proofs.ReconcileLeft.{Stage}
+use Rattle.paired.proofs.ReconcileLeft.{IsDirty, Stage}
 use Rattle.paired.proofs.ReconcilePair.{Reconciled, Notes, pair_with, all_synced, length_given, moves}
 use Rattle.paired.proofs.ReconcileKept.{none_given, none_in_place, in_place_from, sound_longer, sound_values, sound_pair}
 
@@ -145,15 +145,27 @@ module _ {F S : Type 0} {gs : _} {g : buffer.Ghosts (PageBlob S gs)} {gives : F 
   marks : Always f h Marks
   marks = record { later = alone.later; kept = alone.kept; each = λ m lo hi. (alone.each m lo hi, λ sound. (moments sound).each m lo hi) }
 
-  pub markers_stage : Stage run (IsCopy run.layout) (disk a) f h
-  markers_stage = record {
-    only = alone;
-    recalls = λ may. always_weaker f h Marks (Recalls run.layout (disk f)) (λ d is. marking_recalls a e t j0 back j n o3 f did trailing notes map_readable may d is.0 is.1) marks;
-    clean = λ s is. always_weaker f h (λ d. (q : Key) → (IsCopy run.layout q → ⊥) → d q ≡ disk f q) (λ d. (q : Key) → IsBlobOf run.layout (λ x. x ≡ s) q → d q ≡ disk f q) (λ d same q own. same q (λ copy. no_blob s q copy own)) alone;
-    idle = λ all. still (λ w. moves a e j n o3 (disk f) did trailing notes (λ _. ⊥) w.0 w.1
-        (length_given a e j n o3 (disk f) did trailing notes t w.0 ∙ ap length (all.clean w.0).given ∙ sym (all.markers w.0)));
+  -- a marker moves only where not all was kept
+  dirty_copy : (q : Key) → IsCopy run.layout q → (s : ℕ) × IsMoving (pair_with run j n trailing) (λ _. ⊥) (λ _. ⊥) s → IsDirty run (disk a) q
+  dirty_copy q copy w = record {
+    section = λ s is own. no_blob s q copy own;
+    some = λ all. moves a e j n o3 (disk f) did trailing notes (λ _. ⊥) w.0 w.1
+        (length_given a e j n o3 (disk f) did trailing notes t w.0 ∙ ap length (all.clean w.0).given ∙ sym (all.markers w.0));
   }
     where
       no_blob : (s : ℕ) (q : Key) → IsCopy run.layout q → IsBlobOf run.layout (λ x. x ≡ s) q → ⊥
       no_blob s q copy (inl is) = e.over.apart.metadata (ap (λ (k : Key). k.0) (sym is.3 ∙ copy.1))
       no_blob s q copy (inr is) = e.over.apart.both (ap (λ (k : Key). k.0) (sym is.3 ∙ copy.1))
+
+  pub markers_stage : Stage run 3 (disk a) f h
+  markers_stage = record {
+    only = record {
+      later = alone.later;
+      kept = alone.kept;
+      each = λ m lo hi q none. elim (copy_or_not run.layout q) [
+        | inr other ↦ alone.each m lo hi q other
+        | inl copy ↦ (let same : h.at m ≡ disk f = (still (λ w. none (copy, dirty_copy q copy w))).each m lo hi in ap (λ (x : Disk). x q) same)
+      ];
+    };
+    recalls = λ may. always_weaker f h Marks (Recalls run.layout (disk f)) (λ d is. marking_recalls a e t j0 back j n o3 f did trailing notes map_readable may d is.0 is.1) marks;
+  }

@@ -51,7 +51,7 @@ module _ {F S : Type 0} {gs : _} {g : buffer.Ghosts (PageBlob S gs)} {gives : F 
 
   module _ (t : told) (j0 : Lists F (PageBlob S gs)) (back : GaveBack run j0) (map_readable : IsReadable run.layout.markers) (h : Timeline) where
     pub stage_as : Always f h (λ d. (x : Key) → (IsCopy q.layout x → ⊥) → d x ≡ disk f x) → (IsSoundOn q (disk f) → Keeping q.layout (list_of q (disk f)) (synced_length q) (λ _. ⊥) (IsCopy q.layout) f h)
-        → ((((s : ℕ) × IsMoving q (λ _. ⊥) IsActive s) → ⊥) → Unchanged f h) → Stage run (IsCopy run.layout) (disk a) f h
+        → ((((s : ℕ) × IsMoving q (λ _. ⊥) IsActive s) → ⊥) → Unchanged f h) → Stage run 3 (disk a) f h
     stage_as alone moments still = markers_stage a e t j0 back j n o3 f did trailing notes map_readable h
         (subst (λ (p : Pair F (PageBlob S gs)). Always f h (λ d. (x : Key) → (IsCopy p.layout x → ⊥) → d x ≡ disk f x)) (sym same) alone)
         (subst (λ (p : Pair F (PageBlob S gs)). IsSoundOn p (disk f) → Keeping p.layout (list_of p (disk f)) (synced_length p) (λ _. ⊥) (IsCopy p.layout) f h) (sym same) moments)

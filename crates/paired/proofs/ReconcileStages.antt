@@ -30,7 +30,7 @@ use Rattle.paired.specs.Replaying.{Run, IsClean, marker, records_over, records_g
 use Rattle.paired.proofs.ReconcileResting.{Resting, values_number, values_key, stored_at, values_at}
 use Rattle.paired.proofs.ReconcileStart.{Drained, GaveBack, end_of, given_to, given_whole}
 use Rattle.paired.proofs.ReconcilePhases.{Bare, index_cut_only, shortening_recalls, values_cut_only, cutting_recalls, removing_recalls}
-use Rattle.paired.proofs.ReconcileLeft.{Stage, HeldValues, OtherValues}
+use Rattle.paired.proofs.ReconcileLeft.{HeldValues, OtherValues, IsDirty, Stage}
 
 pub none_of_not : {T : Type 0} (o : Option T) → (IsSome o → ⊥) → o ≡ None
 none_of_not None not = refl
@@ -49,6 +49,10 @@ long_held : {S : Type 0} {gs : _} (y : Option (PageBlob S gs)) (v : Option Write
 long_held None v n is = absurd is
 long_held (Some w) None n is = absurd is
 long_held (Some w) (Some v) n is = refl
+
+ends_held : {S : Type 0} {gs : _} (y : Option (PageBlob S gs)) (v : Option WriteBlob) (n : ℕ) → IsSomeAnd (option_map (λ w. n) y) (λ k. IsSomeAnd v (λ w. k < count_of w)) → IsSome y
+ends_held None v n is = absurd is
+ends_held (Some w) v n is = refl
 
 -- Between two stages: all has settled, the same sections are held, and the journal has the records that were given.
 pub record Joint {F S : Type 0} {gs : _} (g : buffer.Ghosts (PageBlob S gs)) (gives : F → Setting) (takes : WriteFactory → Setting) (told : Type 0) (run : Run F (PageBlob S gs)) (start : Disk)
@@ -80,12 +84,17 @@ module _ {F S : Type 0} {gs : _} {g : buffer.Ghosts (PageBlob S gs)} {gives : F 
         not_of_none (run.ends s) (clean_none s is.given) (subst (λ (x : ℕ). IsSome (run.ends x)) same cut.2)
     clean_cut s is q (inr values) cut = e.over.apart.values (ap (λ (k : Key). k.0) (sym cut.3 ∙ values.3))
 
-    pub records_stage : Stage run (IsIndexOf run.layout (λ _. ⊤)) (disk a) a b
+    dirty_cut : (q : Key) → IsIndexOf run.layout (λ x. IsSome (run.ends x)) q → IsDirty run (disk a) q
+    dirty_cut q cut = record {
+      section = λ s is own. clean_cut s is q own cut;
+      some = λ all. not_of_none (run.ends cut.0) (clean_none cut.0 (all.clean cut.0).given) cut.2;
+    }
+
+    pub records_stage : Stage run 0 (disk a) a b
     records_stage = record {
-      only = always_weaker a b Cuts (λ d. (q : Key) → (IsIndexOf run.layout (λ _. ⊤) q → ⊥) → d q ≡ disk a q) (λ d each q none. index_cut_only e j back t d each q (λ is. none (is.0, is.1, tt, is.3))) moments;
+      only = always_weaker a b Cuts (λ d. (q : Key) → (IsIndexOf run.layout (λ _. ⊤) q × IsDirty run (disk a) q → ⊥) → d q ≡ disk a q)
+          (λ d each q none. index_cut_only e j back t d each q (λ cut. none ((cut.0, cut.1, tt, cut.3), dirty_cut q cut))) moments;
       recalls = λ may. always_weaker a b Cuts (Recalls run.layout (disk a)) (λ d each. shortening_recalls e j back t d each may readable map_readable) moments;
-      clean = λ s is. always_weaker a b Cuts (λ d. (q : Key) → IsBlobOf run.layout (λ x. x ≡ s) q → d q ≡ disk a q) (λ d each q own. index_cut_only e j back t d each q (clean_cut s is q own)) moments;
-      idle = λ all. always_weaker a b Cuts (λ d. d ≡ disk a) (λ d each i q. index_cut_only e j back t d each q (λ cut. not_of_none (run.ends cut.0) (clean_none cut.0 (all.clean cut.0).given) cut.2) i) moments;
     }
 
   -- ---- values are cut
@@ -112,12 +121,18 @@ module _ {F S : Type 0} {gs : _} {g : buffer.Ghosts (PageBlob S gs)} {gives : F 
         let same : cut.0 ≡ s = key_injective run.layout.values cut.0 values.0 (values_number joint.rests cut.0 has) values.1 (sym (cut.2 ∙ values_key joint.rests cut.0) ∙ values.3) ∙ values.2 in
         clean_trim s is (subst (λ (x : ℕ). IsSomeAnd (EndOf run.layout.place run.layout.record_size j.sections (disk b) x) (glob.IsLonger run.values x)) same cut.1)
 
-    pub values_stage : Stage run (HeldValues run) (disk a) b c
+    touches : (q : Key) → IsKeyOf run.values (λ x. IsSomeAnd (EndOf run.layout.place run.layout.record_size j.sections (disk b) x) (glob.IsLonger run.values x)) q → HeldValues run q × IsDirty run (disk a) q
+    touches q cut =
+        let ending = last_end run.layout.place (records run.layout.record_size (fixed.section_bytes j.sections (disk b) cut.0)) in
+        let has = long_held (j.sections.held cut.0) (run.values.held cut.0) ending cut.1 in (
+          (cut.0, values_number joint.rests cut.0 has, (joint.held cut.0).0 (ends_held (j.sections.held cut.0) (run.values.held cut.0) ending cut.1), cut.2 ∙ values_key joint.rests cut.0),
+          record { section = λ s is own. clean_values s is q own cut; some = λ all. clean_trim cut.0 (all.clean cut.0) cut.1 },
+        )
+
+    pub values_stage : Stage run 1 (disk a) b c
     values_stage = record {
-      only = always_weaker b c Trims (λ d. (q : Key) → (HeldValues run q → ⊥) → d q ≡ disk b q) (λ d each q none. values_cut_only joint.rests t e.over.apart d each q (λ is. none (is.0, is.1, (joint.held is.0).0 is.2, is.3))) moments;
+      only = always_weaker b c Trims (λ d. (q : Key) → (HeldValues run q × IsDirty run (disk a) q → ⊥) → d q ≡ disk b q) (λ d each q none. (each q).others (λ cut. none (touches q cut))) moments;
       recalls = λ may. always_weaker b c Trims (Recalls run.layout (disk b)) (λ d each. cutting_recalls joint.rests t e.over.apart d each (joint.bare t may) (joint.readable t) map_readable all_kept) moments;
-      clean = λ s is. always_weaker b c Trims (λ d. (q : Key) → IsBlobOf run.layout (λ x. x ≡ s) q → d q ≡ disk b q) (λ d each q own. (each q).others (clean_values s is q own)) moments;
-      idle = λ all. always_weaker b c Trims (λ d. d ≡ disk b) (λ d each i q. (each q).others (λ cut. clean_trim cut.0 (all.clean cut.0) cut.1) i) moments;
     }
 
   -- ---- values without records are removed
@@ -139,12 +154,16 @@ module _ {F S : Type 0} {gs : _} {g : buffer.Ghosts (PageBlob S gs)} {gives : F 
         let same : cut.0 ≡ s = key_injective run.layout.values cut.0 values.0 (values_number joint.rests cut.0 cut.1.1) values.1 (sym (cut.2 ∙ values_key joint.rests cut.0) ∙ values.3) ∙ values.2 in
         clean_gone s is (subst Doomed same cut.1.0) (subst (IsHeld m) same cut.1.1)
 
-    pub removing_stage : Stage run (OtherValues run) (disk a) c f
+    pub removing_stage : Stage run 2 (disk a) c f
     removing_stage = record {
-      only = always_weaker c f Removes (λ d. (q : Key) → (OtherValues run q → ⊥) → d q ≡ disk c q)
-          (λ d same q none. same q (λ w. none (w.0, values_number joint.rests w.0 w.1.1, without w.0 w.1.0, w.2 ∙ values_key joint.rests w.0))) moments;
+      only = always_weaker c f Removes (λ d. (q : Key) → (OtherValues run q × IsDirty run (disk a) q → ⊥) → d q ≡ disk c q)
+          (λ d same q none. same q (λ w. none (
+            (w.0, values_number joint.rests w.0 w.1.1, without w.0 w.1.0, w.2 ∙ values_key joint.rests w.0),
+            record {
+              section = λ s is own. clean_removed s is q own w;
+              some = λ all. clean_gone w.0 (all.clean w.0) w.1.0 w.1.1;
+            },
+          ))) moments;
       recalls = λ may. always_weaker c f Removes (Recalls run.layout (disk c)) (λ d same. removing_recalls joint.rests t e.over.apart d
           (λ q none. same q (λ w. none (w.0, values_number joint.rests w.0 w.1.1, none_of_not (j.sections.held w.0) (doomed w.0 w.1.0), w.2 ∙ values_key joint.rests w.0))) (joint.bare t may) (joint.readable t) map_readable) moments;
-      clean = λ s is. always_weaker c f Removes (λ d. (q : Key) → IsBlobOf run.layout (λ x. x ≡ s) q → d q ≡ disk c q) (λ d same q own. same q (clean_removed s is q own)) moments;
-      idle = λ all. always_weaker c f Removes (λ d. d ≡ disk c) (λ d same i q. same q (λ w. clean_gone w.0 (all.clean w.0) w.1.0 w.1.1) i) moments;
     }

@@ -1,5 +1,4 @@
 use Rattle.std.proofs.Common.{◌≡◌, ◌↔◌, ◌⊎◌, inl, inr, ℕ, true, false, length, Err, refl, sym, ◌∙◌, ap, subst, arith}
-use Rattle.std.specs.Prelude.{⊤}
 use Rattle.std.specs.List.{Contains}
 use Rattle.std.specs.BTreeSet as set
 use Rattle.std.specs.Ordering.{nat_cmp}
@@ -15,7 +14,7 @@ use Rattle.segments.specs.declared.journal.Error.TheVariants.{Codec, Corruption,
 use Rattle.segments.specs.Sections.{section_key, IsHeld}
 use Rattle.segments.proofs.FixedWriteLemmas.{are_pages}
 use Rattle.segments.proofs.WalkLemmas.{contains_or_not}
-use Rattle.paired.specs.Crashes.{IsIndexOf, IsCopy}
+use Rattle.paired.specs.Crashes.{IsCopy}
 use Rattle.paired.specs.OpeningRefusing.{IsSomeRefused}
 use Rattle.paired.specs.PairShown.{shown}
 use Rattle.paired.specs.ReplayShown.{run_of}
@@ -26,7 +25,7 @@ use Rattle.paired.proofs.ReconcileStart.{opening, back_journal, back_proven}
 use Rattle.paired.proofs.PairMarked.{if_ok}
 use Rattle.paired.proofs.PairSynced.{made, page_setting}
 use Rattle.paired.specs.Pair.{IsMoving}
-use Rattle.paired.proofs.ReconcileLeft.{Stage, HeldValues, OtherValues, Left, left_of, left_before, no_stage}
+use Rattle.paired.proofs.ReconcileLeft.{Stage, Left, left_of, left_before, no_stage}
 use Rattle.paired.proofs.ReconcileStages.{records_stage, values_stage, removing_stage}
 use Rattle.paired.proofs.ReconcileJoints.{cut_joint, cut_values_same, trim_joint, removed_joint}
 use Rattle.paired.proofs.ReconcilePair.{pair_with, reconciled_of}
@@ -66,7 +65,7 @@ cut_values-requires g c =
     let back = as_back a e j0 (record { sections = back_says.sections; held = back_says.held; settled = back_says.settled; sealed = back_says.sealed; unopened = back_says.unopened; recovered = back_says.recovered; lifted = back_says.lifted }) in
     let b = g.D.Device.time c.cut_records.new.dev in
     let o1 = g.D.Device.opened c.cut_records.new.dev in
-    let s1 : told → Stage run (IsIndexOf run.layout (λ _. ⊤)) (disk a) a b = λ t. records_stage a e readable t j0 back (λ q. g.met.D.Device.as_read t c.args.dev.now q) b (c.cut_records.ensures.moments t) in
+    let s1 : told → Stage run 0 (disk a) a b = λ t. records_stage a e readable t j0 back (λ q. g.met.D.Device.as_read t c.args.dev.now q) b (c.cut_records.ensures.moments t) in
     let k = fixed.shown c.in_ok-index.index in
     let cuts = c.in_ok-index.ensures in
     let cut = as_cut a e j0 k o1 b (record { over = cuts.over; proven = cuts.proven; cut = cuts.cut; sizes = cuts.sizes; others = cuts.others; held = cuts.held; unopened = cuts.unopened; settled = cuts.settled; bounds = cuts.bounds; moments = c.cut_records.ensures.moments; entries = c.cut_records.ensures.entries }) in
@@ -88,14 +87,14 @@ remove_values-requires g c =
     let back = as_back a e j0 (record { sections = back_says.sections; held = back_says.held; settled = back_says.settled; sealed = back_says.sealed; unopened = back_says.unopened; recovered = back_says.recovered; lifted = back_says.lifted }) in
     let b = g.D.Device.time c.cut_records.new.dev in
     let o1 = g.D.Device.opened c.cut_records.new.dev in
-    let s1 : told → Stage run (IsIndexOf run.layout (λ _. ⊤)) (disk a) a b = λ t. records_stage a e readable t j0 back (λ q. g.met.D.Device.as_read t c.args.dev.now q) b (c.cut_records.ensures.moments t) in
+    let s1 : told → Stage run 0 (disk a) a b = λ t. records_stage a e readable t j0 back (λ q. g.met.D.Device.as_read t c.args.dev.now q) b (c.cut_records.ensures.moments t) in
     let k = fixed.shown c.in_ok-index.index in
     let cuts = c.in_ok-index.ensures in
     let cut = as_cut a e j0 k o1 b (record { over = cuts.over; proven = cuts.proven; cut = cuts.cut; sizes = cuts.sizes; others = cuts.others; held = cuts.held; unopened = cuts.unopened; settled = cuts.settled; bounds = cuts.bounds; moments = c.cut_records.ensures.moments; entries = c.cut_records.ensures.entries }) in
     let joint1 = cut_joint a e j0 back k o1 b cut (λ t q. g.met.D.Device.as_read t c.cut_records.new.dev q) in
     let d = g.D.Device.time c.cut_values.new.dev in
     let o2 = g.D.Device.opened c.cut_values.new.dev in
-    let s2 : told → Stage run (HeldValues run) (disk a) b d = λ t. values_stage a e readable t b k o1 joint1 (cut_values_same a e j0 back k o1 b cut (λ x q. g.met.D.Device.as_read x c.cut_records.new.dev q) t) d (c.cut_values.ensures.moments t) in
+    let s2 : told → Stage run 1 (disk a) b d = λ t. values_stage a e readable t b k o1 joint1 (cut_values_same a e j0 back k o1 b cut (λ x q. g.met.D.Device.as_read x c.cut_records.new.dev q) t) d (c.cut_values.ensures.moments t) in
     let m = manager.shown c.in_ok-values.values.manager in
     let trims = c.in_ok-values.ensures in
     let trim = as_trim a e k m o1 o2 b d (record { over = trims.over; values = trims.values; cut = trims.cut; others = trims.others; held = trims.held; unopened = trims.unopened; settled = trims.settled; bounds = trims.bounds; moments = c.cut_values.ensures.moments; entries = c.cut_values.ensures.entries }) in
@@ -117,7 +116,7 @@ note_synced-requires g c =
     let back = as_back a e j0 (record { sections = back_says.sections; held = back_says.held; settled = back_says.settled; sealed = back_says.sealed; unopened = back_says.unopened; recovered = back_says.recovered; lifted = back_says.lifted }) in
     let b = g.D.Device.time c.cut_records.new.dev in
     let o1 = g.D.Device.opened c.cut_records.new.dev in
-    let s1 : told → Stage run (IsIndexOf run.layout (λ _. ⊤)) (disk a) a b = λ t. records_stage a e readable t j0 back (λ q. g.met.D.Device.as_read t c.args.dev.now q) b (c.cut_records.ensures.moments t) in
+    let s1 : told → Stage run 0 (disk a) a b = λ t. records_stage a e readable t j0 back (λ q. g.met.D.Device.as_read t c.args.dev.now q) b (c.cut_records.ensures.moments t) in
     let k = fixed.shown c.in_ok-index.index in
     let cuts = c.in_ok-index.ensures in
     let cut = as_cut a e j0 k o1 b (record { over = cuts.over; proven = cuts.proven; cut = cuts.cut; sizes = cuts.sizes; others = cuts.others; held = cuts.held; unopened = cuts.unopened; settled = cuts.settled; bounds = cuts.bounds; moments = c.cut_records.ensures.moments; entries = c.cut_records.ensures.entries }) in
@@ -139,14 +138,14 @@ move_markers-requires g c =
     let back = as_back a e j0 (record { sections = back_says.sections; held = back_says.held; settled = back_says.settled; sealed = back_says.sealed; unopened = back_says.unopened; recovered = back_says.recovered; lifted = back_says.lifted }) in
     let b = g.D.Device.time c.cut_records.new.dev in
     let o1 = g.D.Device.opened c.cut_records.new.dev in
-    let s1 : told → Stage run (IsIndexOf run.layout (λ _. ⊤)) (disk a) a b = λ t. records_stage a e readable t j0 back (λ q. g.met.D.Device.as_read t c.args.dev.now q) b (c.cut_records.ensures.moments t) in
+    let s1 : told → Stage run 0 (disk a) a b = λ t. records_stage a e readable t j0 back (λ q. g.met.D.Device.as_read t c.args.dev.now q) b (c.cut_records.ensures.moments t) in
     let k = fixed.shown c.in_ok-index.index in
     let cuts = c.in_ok-index.ensures in
     let cut = as_cut a e j0 k o1 b (record { over = cuts.over; proven = cuts.proven; cut = cuts.cut; sizes = cuts.sizes; others = cuts.others; held = cuts.held; unopened = cuts.unopened; settled = cuts.settled; bounds = cuts.bounds; moments = c.cut_records.ensures.moments; entries = c.cut_records.ensures.entries }) in
     let joint1 = cut_joint a e j0 back k o1 b cut (λ t q. g.met.D.Device.as_read t c.cut_records.new.dev q) in
     let d = g.D.Device.time c.cut_values.new.dev in
     let o2 = g.D.Device.opened c.cut_values.new.dev in
-    let s2 : told → Stage run (HeldValues run) (disk a) b d = λ t. values_stage a e readable t b k o1 joint1 (cut_values_same a e j0 back k o1 b cut (λ x q. g.met.D.Device.as_read x c.cut_records.new.dev q) t) d (c.cut_values.ensures.moments t) in
+    let s2 : told → Stage run 1 (disk a) b d = λ t. values_stage a e readable t b k o1 joint1 (cut_values_same a e j0 back k o1 b cut (λ x q. g.met.D.Device.as_read x c.cut_records.new.dev q) t) d (c.cut_values.ensures.moments t) in
     let m = manager.shown c.in_ok-values.values.manager in
     let trims = c.in_ok-values.ensures in
     let trim = as_trim a e k m o1 o2 b d (record { over = trims.over; values = trims.values; cut = trims.cut; others = trims.others; held = trims.held; unopened = trims.unopened; settled = trims.settled; bounds = trims.bounds; moments = c.cut_values.ensures.moments; entries = c.cut_values.ensures.entries }) in
@@ -156,7 +155,7 @@ move_markers-requires g c =
     let doomed = doomed_of m k (λ s. set.contains nat_cmp c.in_ok-held_sections.field-0 s) c.in_ok-held_sections.ensures.each doom (subst (λ xs. (s : ℕ) → Contains xs s ↔ (IsHeld m s × (set.contains nat_cmp c.in_ok-held_sections.field-0 s ≡ false))) (sym c.as_slice.ensures.value) c.in_ok-alone.ensures.each) in
     let f = g.D.Device.time c.remove_values.new.dev in
     let o3 = g.D.Device.opened c.remove_values.new.dev in
-    let s3 : told → Stage run (OtherValues run) (disk a) d f = λ t. removing_stage a e readable t d k m o2 joint2 trims.held doom (λ s is. ((doomed s).0 is).1) f (c.remove_values.ensures.moments t) in
+    let s3 : told → Stage run 2 (disk a) d f = λ t. removing_stage a e readable t d k m o2 joint2 trims.held doom (λ s is. ((doomed s).0 is).1) f (c.remove_values.ensures.moments t) in
     let n = manager.shown c.in_ok-values-2.values.manager in
     let gone = c.in_ok-values-2.ensures in
     let removed = as_removed a e doom m n o2 o3 d f (record { values = gone.over; removed = gone.removed; others = gone.others; bytes = gone.bytes; unopened = gone.unopened; bounds = gone.bounds; gone = gone.gone; moments = c.remove_values.ensures.moments; entries = c.remove_values.ensures.entries }) in
@@ -175,7 +174,7 @@ returns-then-not-self g c =
     let a = g.D.Device.time c.args.dev.now in
     let o = g.D.Device.opened c.args.dev.now in
     let readable = markers_readable g.S.Seal in
-    let left : told → Left run a a = λ t. left_before run c.requires.over.apart a a a a (no_stage run (IsIndexOf run.layout (λ _. ⊤)) (disk a) a) (no_stage run (HeldValues run) (disk a) a) (no_stage run (OtherValues run) (disk a) a) in
+    let left : told → Left run a a = λ t. left_before run c.requires.over.apart a a a a (no_stage run 0 (disk a) a) (no_stage run 1 (disk a) a) (no_stage run 2 (disk a) a) in
     record {
       over = tt;
       kept = λ t. tt;
@@ -213,7 +212,7 @@ returns-in_err-finish g c =
     let a = g.D.Device.time c.args.dev.now in
     let o = g.D.Device.opened c.args.dev.now in
     let readable = markers_readable g.S.Seal in
-    let left : told → Left run a a = λ t. left_before run c.requires.over.apart a a a a (no_stage run (IsIndexOf run.layout (λ _. ⊤)) (disk a) a) (no_stage run (HeldValues run) (disk a) a) (no_stage run (OtherValues run) (disk a) a) in
+    let left : told → Left run a a = λ t. left_before run c.requires.over.apart a a a a (no_stage run 0 (disk a) a) (no_stage run 1 (disk a) a) (no_stage run 2 (disk a) a) in
     let r = c.from_residual.result in
     let w = c.in_err-finish.field-0.0 in
     let is = err_of r w c.from_residual.ensures.1 in
@@ -263,11 +262,11 @@ returns-in_err-index g c =
     let back = as_back a e j0 (record { sections = back_says.sections; held = back_says.held; settled = back_says.settled; sealed = back_says.sealed; unopened = back_says.unopened; recovered = back_says.recovered; lifted = back_says.lifted }) in
     let b = g.D.Device.time c.cut_records.new.dev in
     let o1 = g.D.Device.opened c.cut_records.new.dev in
-    let s1 : told → Stage run (IsIndexOf run.layout (λ _. ⊤)) (disk a) a b = λ t. records_stage a e readable t j0 back (λ q. g.met.D.Device.as_read t c.args.dev.now q) b (c.cut_records.ensures.moments t) in
+    let s1 : told → Stage run 0 (disk a) a b = λ t. records_stage a e readable t j0 back (λ q. g.met.D.Device.as_read t c.args.dev.now q) b (c.cut_records.ensures.moments t) in
     let r = c.from_residual-in_err-index.result in
     let w = c.in_err-index.field-0.0 in
     let is = err_of r w c.from_residual-in_err-index.ensures.1 in
-    let left : told → Left run a b = λ t. left_before run e.over.apart a b b b (s1 t) (no_stage run (HeldValues run) (disk a) b) (no_stage run (OtherValues run) (disk a) b) in
+    let left : told → Left run a b = λ t. left_before run e.over.apart a b b b (s1 t) (no_stage run 1 (disk a) b) (no_stage run 2 (disk a) b) in
     let failed = damaged_on r w is (g.D.Device.faults c.args.dev.now) (g.D.Device.faults c.args.dev.now) (g.D.Device.faults c.cut_records.new.dev) (omega arith) c.in_err-index.ensures.cause in
     record {
       over = if_err r w is _;
@@ -314,18 +313,18 @@ returns-in_err-values g c =
     let back = as_back a e j0 (record { sections = back_says.sections; held = back_says.held; settled = back_says.settled; sealed = back_says.sealed; unopened = back_says.unopened; recovered = back_says.recovered; lifted = back_says.lifted }) in
     let b = g.D.Device.time c.cut_records.new.dev in
     let o1 = g.D.Device.opened c.cut_records.new.dev in
-    let s1 : told → Stage run (IsIndexOf run.layout (λ _. ⊤)) (disk a) a b = λ t. records_stage a e readable t j0 back (λ q. g.met.D.Device.as_read t c.args.dev.now q) b (c.cut_records.ensures.moments t) in
+    let s1 : told → Stage run 0 (disk a) a b = λ t. records_stage a e readable t j0 back (λ q. g.met.D.Device.as_read t c.args.dev.now q) b (c.cut_records.ensures.moments t) in
     let k = fixed.shown c.in_ok-index.index in
     let cuts = c.in_ok-index.ensures in
     let cut = as_cut a e j0 k o1 b (record { over = cuts.over; proven = cuts.proven; cut = cuts.cut; sizes = cuts.sizes; others = cuts.others; held = cuts.held; unopened = cuts.unopened; settled = cuts.settled; bounds = cuts.bounds; moments = c.cut_records.ensures.moments; entries = c.cut_records.ensures.entries }) in
     let joint1 = cut_joint a e j0 back k o1 b cut (λ t q. g.met.D.Device.as_read t c.cut_records.new.dev q) in
     let d = g.D.Device.time c.cut_values.new.dev in
     let o2 = g.D.Device.opened c.cut_values.new.dev in
-    let s2 : told → Stage run (HeldValues run) (disk a) b d = λ t. values_stage a e readable t b k o1 joint1 (cut_values_same a e j0 back k o1 b cut (λ x q. g.met.D.Device.as_read x c.cut_records.new.dev q) t) d (c.cut_values.ensures.moments t) in
+    let s2 : told → Stage run 1 (disk a) b d = λ t. values_stage a e readable t b k o1 joint1 (cut_values_same a e j0 back k o1 b cut (λ x q. g.met.D.Device.as_read x c.cut_records.new.dev q) t) d (c.cut_values.ensures.moments t) in
     let r = c.from_residual-in_err-values.result in
     let w = c.in_err-values.field-0.0 in
     let is = err_of r w c.from_residual-in_err-values.ensures.1 in
-    let left : told → Left run a d = λ t. left_before run e.over.apart a b d d (s1 t) (s2 t) (no_stage run (OtherValues run) (disk a) d) in
+    let left : told → Left run a d = λ t. left_before run e.over.apart a b d d (s1 t) (s2 t) (no_stage run 2 (disk a) d) in
     let failed = read_on r w is (g.D.Device.faults c.args.dev.now) (g.D.Device.faults c.cut_records.new.dev) (g.D.Device.faults c.cut_values.new.dev) (omega (arith, c.cut_records.ensures.faults)) c.in_err-values.ensures.cause in
     record {
       over = if_err r w is _;
@@ -372,14 +371,14 @@ returns-in_err-held_sections g c =
     let back = as_back a e j0 (record { sections = back_says.sections; held = back_says.held; settled = back_says.settled; sealed = back_says.sealed; unopened = back_says.unopened; recovered = back_says.recovered; lifted = back_says.lifted }) in
     let b = g.D.Device.time c.cut_records.new.dev in
     let o1 = g.D.Device.opened c.cut_records.new.dev in
-    let s1 : told → Stage run (IsIndexOf run.layout (λ _. ⊤)) (disk a) a b = λ t. records_stage a e readable t j0 back (λ q. g.met.D.Device.as_read t c.args.dev.now q) b (c.cut_records.ensures.moments t) in
+    let s1 : told → Stage run 0 (disk a) a b = λ t. records_stage a e readable t j0 back (λ q. g.met.D.Device.as_read t c.args.dev.now q) b (c.cut_records.ensures.moments t) in
     let k = fixed.shown c.in_ok-index.index in
     let cuts = c.in_ok-index.ensures in
     let cut = as_cut a e j0 k o1 b (record { over = cuts.over; proven = cuts.proven; cut = cuts.cut; sizes = cuts.sizes; others = cuts.others; held = cuts.held; unopened = cuts.unopened; settled = cuts.settled; bounds = cuts.bounds; moments = c.cut_records.ensures.moments; entries = c.cut_records.ensures.entries }) in
     let joint1 = cut_joint a e j0 back k o1 b cut (λ t q. g.met.D.Device.as_read t c.cut_records.new.dev q) in
     let d = g.D.Device.time c.cut_values.new.dev in
     let o2 = g.D.Device.opened c.cut_values.new.dev in
-    let s2 : told → Stage run (HeldValues run) (disk a) b d = λ t. values_stage a e readable t b k o1 joint1 (cut_values_same a e j0 back k o1 b cut (λ x q. g.met.D.Device.as_read x c.cut_records.new.dev q) t) d (c.cut_values.ensures.moments t) in
+    let s2 : told → Stage run 1 (disk a) b d = λ t. values_stage a e readable t b k o1 joint1 (cut_values_same a e j0 back k o1 b cut (λ x q. g.met.D.Device.as_read x c.cut_records.new.dev q) t) d (c.cut_values.ensures.moments t) in
     let m = manager.shown c.in_ok-values.values.manager in
     let trims = c.in_ok-values.ensures in
     let trim = as_trim a e k m o1 o2 b d (record { over = trims.over; values = trims.values; cut = trims.cut; others = trims.others; held = trims.held; unopened = trims.unopened; settled = trims.settled; bounds = trims.bounds; moments = c.cut_values.ensures.moments; entries = c.cut_values.ensures.entries }) in
@@ -387,7 +386,7 @@ returns-in_err-held_sections g c =
     let r = c.from_residual-in_err-held_sections.result in
     let w = c.in_err-held_sections.field-0.0 in
     let is = err_of r w c.from_residual-in_err-held_sections.ensures.1 in
-    let left : told → Left run a d = λ t. left_before run e.over.apart a b d d (s1 t) (s2 t) (no_stage run (OtherValues run) (disk a) d) in
+    let left : told → Left run a d = λ t. left_before run e.over.apart a b d d (s1 t) (s2 t) (no_stage run 2 (disk a) d) in
     let failed = memory_on r w is (g.D.Device.faults c.args.dev.now) (g.D.Device.faults c.args.dev.now) (g.D.Device.faults c.cut_values.new.dev) (omega arith) c.in_err-held_sections.ensures.cause in
     record {
       over = if_err r w is _;
@@ -434,14 +433,14 @@ returns-in_err-alone g c =
     let back = as_back a e j0 (record { sections = back_says.sections; held = back_says.held; settled = back_says.settled; sealed = back_says.sealed; unopened = back_says.unopened; recovered = back_says.recovered; lifted = back_says.lifted }) in
     let b = g.D.Device.time c.cut_records.new.dev in
     let o1 = g.D.Device.opened c.cut_records.new.dev in
-    let s1 : told → Stage run (IsIndexOf run.layout (λ _. ⊤)) (disk a) a b = λ t. records_stage a e readable t j0 back (λ q. g.met.D.Device.as_read t c.args.dev.now q) b (c.cut_records.ensures.moments t) in
+    let s1 : told → Stage run 0 (disk a) a b = λ t. records_stage a e readable t j0 back (λ q. g.met.D.Device.as_read t c.args.dev.now q) b (c.cut_records.ensures.moments t) in
     let k = fixed.shown c.in_ok-index.index in
     let cuts = c.in_ok-index.ensures in
     let cut = as_cut a e j0 k o1 b (record { over = cuts.over; proven = cuts.proven; cut = cuts.cut; sizes = cuts.sizes; others = cuts.others; held = cuts.held; unopened = cuts.unopened; settled = cuts.settled; bounds = cuts.bounds; moments = c.cut_records.ensures.moments; entries = c.cut_records.ensures.entries }) in
     let joint1 = cut_joint a e j0 back k o1 b cut (λ t q. g.met.D.Device.as_read t c.cut_records.new.dev q) in
     let d = g.D.Device.time c.cut_values.new.dev in
     let o2 = g.D.Device.opened c.cut_values.new.dev in
-    let s2 : told → Stage run (HeldValues run) (disk a) b d = λ t. values_stage a e readable t b k o1 joint1 (cut_values_same a e j0 back k o1 b cut (λ x q. g.met.D.Device.as_read x c.cut_records.new.dev q) t) d (c.cut_values.ensures.moments t) in
+    let s2 : told → Stage run 1 (disk a) b d = λ t. values_stage a e readable t b k o1 joint1 (cut_values_same a e j0 back k o1 b cut (λ x q. g.met.D.Device.as_read x c.cut_records.new.dev q) t) d (c.cut_values.ensures.moments t) in
     let m = manager.shown c.in_ok-values.values.manager in
     let trims = c.in_ok-values.ensures in
     let trim = as_trim a e k m o1 o2 b d (record { over = trims.over; values = trims.values; cut = trims.cut; others = trims.others; held = trims.held; unopened = trims.unopened; settled = trims.settled; bounds = trims.bounds; moments = c.cut_values.ensures.moments; entries = c.cut_values.ensures.entries }) in
@@ -449,7 +448,7 @@ returns-in_err-alone g c =
     let r = c.from_residual-in_err-alone.result in
     let w = c.in_err-alone.field-0.0 in
     let is = err_of r w c.from_residual-in_err-alone.ensures.1 in
-    let left : told → Left run a d = λ t. left_before run e.over.apart a b d d (s1 t) (s2 t) (no_stage run (OtherValues run) (disk a) d) in
+    let left : told → Left run a d = λ t. left_before run e.over.apart a b d d (s1 t) (s2 t) (no_stage run 2 (disk a) d) in
     let failed = memory_on r w is (g.D.Device.faults c.args.dev.now) (g.D.Device.faults c.args.dev.now) (g.D.Device.faults c.cut_values.new.dev) (omega arith) c.in_err-alone.ensures.cause in
     record {
       over = if_err r w is _;
@@ -496,14 +495,14 @@ returns-in_err-values-2 g c =
     let back = as_back a e j0 (record { sections = back_says.sections; held = back_says.held; settled = back_says.settled; sealed = back_says.sealed; unopened = back_says.unopened; recovered = back_says.recovered; lifted = back_says.lifted }) in
     let b = g.D.Device.time c.cut_records.new.dev in
     let o1 = g.D.Device.opened c.cut_records.new.dev in
-    let s1 : told → Stage run (IsIndexOf run.layout (λ _. ⊤)) (disk a) a b = λ t. records_stage a e readable t j0 back (λ q. g.met.D.Device.as_read t c.args.dev.now q) b (c.cut_records.ensures.moments t) in
+    let s1 : told → Stage run 0 (disk a) a b = λ t. records_stage a e readable t j0 back (λ q. g.met.D.Device.as_read t c.args.dev.now q) b (c.cut_records.ensures.moments t) in
     let k = fixed.shown c.in_ok-index.index in
     let cuts = c.in_ok-index.ensures in
     let cut = as_cut a e j0 k o1 b (record { over = cuts.over; proven = cuts.proven; cut = cuts.cut; sizes = cuts.sizes; others = cuts.others; held = cuts.held; unopened = cuts.unopened; settled = cuts.settled; bounds = cuts.bounds; moments = c.cut_records.ensures.moments; entries = c.cut_records.ensures.entries }) in
     let joint1 = cut_joint a e j0 back k o1 b cut (λ t q. g.met.D.Device.as_read t c.cut_records.new.dev q) in
     let d = g.D.Device.time c.cut_values.new.dev in
     let o2 = g.D.Device.opened c.cut_values.new.dev in
-    let s2 : told → Stage run (HeldValues run) (disk a) b d = λ t. values_stage a e readable t b k o1 joint1 (cut_values_same a e j0 back k o1 b cut (λ x q. g.met.D.Device.as_read x c.cut_records.new.dev q) t) d (c.cut_values.ensures.moments t) in
+    let s2 : told → Stage run 1 (disk a) b d = λ t. values_stage a e readable t b k o1 joint1 (cut_values_same a e j0 back k o1 b cut (λ x q. g.met.D.Device.as_read x c.cut_records.new.dev q) t) d (c.cut_values.ensures.moments t) in
     let m = manager.shown c.in_ok-values.values.manager in
     let trims = c.in_ok-values.ensures in
     let trim = as_trim a e k m o1 o2 b d (record { over = trims.over; values = trims.values; cut = trims.cut; others = trims.others; held = trims.held; unopened = trims.unopened; settled = trims.settled; bounds = trims.bounds; moments = c.cut_values.ensures.moments; entries = c.cut_values.ensures.entries }) in
@@ -513,7 +512,7 @@ returns-in_err-values-2 g c =
     let doomed = doomed_of m k (λ s. set.contains nat_cmp c.in_ok-held_sections.field-0 s) c.in_ok-held_sections.ensures.each doom (subst (λ xs. (s : ℕ) → Contains xs s ↔ (IsHeld m s × (set.contains nat_cmp c.in_ok-held_sections.field-0 s ≡ false))) (sym c.as_slice.ensures.value) c.in_ok-alone.ensures.each) in
     let f = g.D.Device.time c.remove_values.new.dev in
     let o3 = g.D.Device.opened c.remove_values.new.dev in
-    let s3 : told → Stage run (OtherValues run) (disk a) d f = λ t. removing_stage a e readable t d k m o2 joint2 trims.held doom (λ s is. ((doomed s).0 is).1) f (c.remove_values.ensures.moments t) in
+    let s3 : told → Stage run 2 (disk a) d f = λ t. removing_stage a e readable t d k m o2 joint2 trims.held doom (λ s is. ((doomed s).0 is).1) f (c.remove_values.ensures.moments t) in
     let r = c.from_residual-in_err-values-2.result in
     let w = c.in_err-values-2.field-0.0 in
     let is = err_of r w c.from_residual-in_err-values-2.ensures.1 in
@@ -564,14 +563,14 @@ returns-in_err-held g c =
     let back = as_back a e j0 (record { sections = back_says.sections; held = back_says.held; settled = back_says.settled; sealed = back_says.sealed; unopened = back_says.unopened; recovered = back_says.recovered; lifted = back_says.lifted }) in
     let b = g.D.Device.time c.cut_records.new.dev in
     let o1 = g.D.Device.opened c.cut_records.new.dev in
-    let s1 : told → Stage run (IsIndexOf run.layout (λ _. ⊤)) (disk a) a b = λ t. records_stage a e readable t j0 back (λ q. g.met.D.Device.as_read t c.args.dev.now q) b (c.cut_records.ensures.moments t) in
+    let s1 : told → Stage run 0 (disk a) a b = λ t. records_stage a e readable t j0 back (λ q. g.met.D.Device.as_read t c.args.dev.now q) b (c.cut_records.ensures.moments t) in
     let k = fixed.shown c.in_ok-index.index in
     let cuts = c.in_ok-index.ensures in
     let cut = as_cut a e j0 k o1 b (record { over = cuts.over; proven = cuts.proven; cut = cuts.cut; sizes = cuts.sizes; others = cuts.others; held = cuts.held; unopened = cuts.unopened; settled = cuts.settled; bounds = cuts.bounds; moments = c.cut_records.ensures.moments; entries = c.cut_records.ensures.entries }) in
     let joint1 = cut_joint a e j0 back k o1 b cut (λ t q. g.met.D.Device.as_read t c.cut_records.new.dev q) in
     let d = g.D.Device.time c.cut_values.new.dev in
     let o2 = g.D.Device.opened c.cut_values.new.dev in
-    let s2 : told → Stage run (HeldValues run) (disk a) b d = λ t. values_stage a e readable t b k o1 joint1 (cut_values_same a e j0 back k o1 b cut (λ x q. g.met.D.Device.as_read x c.cut_records.new.dev q) t) d (c.cut_values.ensures.moments t) in
+    let s2 : told → Stage run 1 (disk a) b d = λ t. values_stage a e readable t b k o1 joint1 (cut_values_same a e j0 back k o1 b cut (λ x q. g.met.D.Device.as_read x c.cut_records.new.dev q) t) d (c.cut_values.ensures.moments t) in
     let m = manager.shown c.in_ok-values.values.manager in
     let trims = c.in_ok-values.ensures in
     let trim = as_trim a e k m o1 o2 b d (record { over = trims.over; values = trims.values; cut = trims.cut; others = trims.others; held = trims.held; unopened = trims.unopened; settled = trims.settled; bounds = trims.bounds; moments = c.cut_values.ensures.moments; entries = c.cut_values.ensures.entries }) in
@@ -581,7 +580,7 @@ returns-in_err-held g c =
     let doomed = doomed_of m k (λ s. set.contains nat_cmp c.in_ok-held_sections.field-0 s) c.in_ok-held_sections.ensures.each doom (subst (λ xs. (s : ℕ) → Contains xs s ↔ (IsHeld m s × (set.contains nat_cmp c.in_ok-held_sections.field-0 s ≡ false))) (sym c.as_slice.ensures.value) c.in_ok-alone.ensures.each) in
     let f = g.D.Device.time c.remove_values.new.dev in
     let o3 = g.D.Device.opened c.remove_values.new.dev in
-    let s3 : told → Stage run (OtherValues run) (disk a) d f = λ t. removing_stage a e readable t d k m o2 joint2 trims.held doom (λ s is. ((doomed s).0 is).1) f (c.remove_values.ensures.moments t) in
+    let s3 : told → Stage run 2 (disk a) d f = λ t. removing_stage a e readable t d k m o2 joint2 trims.held doom (λ s is. ((doomed s).0 is).1) f (c.remove_values.ensures.moments t) in
     let n = manager.shown c.in_ok-values-2.values.manager in
     let gone = c.in_ok-values-2.ensures in
     let removed = as_removed a e doom m n o2 o3 d f (record { values = gone.over; removed = gone.removed; others = gone.others; bytes = gone.bytes; unopened = gone.unopened; bounds = gone.bounds; gone = gone.gone; moments = c.remove_values.ensures.moments; entries = c.remove_values.ensures.entries }) in
@@ -637,14 +636,14 @@ returns-in_err-note_synced g c =
     let back = as_back a e j0 (record { sections = back_says.sections; held = back_says.held; settled = back_says.settled; sealed = back_says.sealed; unopened = back_says.unopened; recovered = back_says.recovered; lifted = back_says.lifted }) in
     let b = g.D.Device.time c.cut_records.new.dev in
     let o1 = g.D.Device.opened c.cut_records.new.dev in
-    let s1 : told → Stage run (IsIndexOf run.layout (λ _. ⊤)) (disk a) a b = λ t. records_stage a e readable t j0 back (λ q. g.met.D.Device.as_read t c.args.dev.now q) b (c.cut_records.ensures.moments t) in
+    let s1 : told → Stage run 0 (disk a) a b = λ t. records_stage a e readable t j0 back (λ q. g.met.D.Device.as_read t c.args.dev.now q) b (c.cut_records.ensures.moments t) in
     let k = fixed.shown c.in_ok-index.index in
     let cuts = c.in_ok-index.ensures in
     let cut = as_cut a e j0 k o1 b (record { over = cuts.over; proven = cuts.proven; cut = cuts.cut; sizes = cuts.sizes; others = cuts.others; held = cuts.held; unopened = cuts.unopened; settled = cuts.settled; bounds = cuts.bounds; moments = c.cut_records.ensures.moments; entries = c.cut_records.ensures.entries }) in
     let joint1 = cut_joint a e j0 back k o1 b cut (λ t q. g.met.D.Device.as_read t c.cut_records.new.dev q) in
     let d = g.D.Device.time c.cut_values.new.dev in
     let o2 = g.D.Device.opened c.cut_values.new.dev in
-    let s2 : told → Stage run (HeldValues run) (disk a) b d = λ t. values_stage a e readable t b k o1 joint1 (cut_values_same a e j0 back k o1 b cut (λ x q. g.met.D.Device.as_read x c.cut_records.new.dev q) t) d (c.cut_values.ensures.moments t) in
+    let s2 : told → Stage run 1 (disk a) b d = λ t. values_stage a e readable t b k o1 joint1 (cut_values_same a e j0 back k o1 b cut (λ x q. g.met.D.Device.as_read x c.cut_records.new.dev q) t) d (c.cut_values.ensures.moments t) in
     let m = manager.shown c.in_ok-values.values.manager in
     let trims = c.in_ok-values.ensures in
     let trim = as_trim a e k m o1 o2 b d (record { over = trims.over; values = trims.values; cut = trims.cut; others = trims.others; held = trims.held; unopened = trims.unopened; settled = trims.settled; bounds = trims.bounds; moments = c.cut_values.ensures.moments; entries = c.cut_values.ensures.entries }) in
@@ -654,7 +653,7 @@ returns-in_err-note_synced g c =
     let doomed = doomed_of m k (λ s. set.contains nat_cmp c.in_ok-held_sections.field-0 s) c.in_ok-held_sections.ensures.each doom (subst (λ xs. (s : ℕ) → Contains xs s ↔ (IsHeld m s × (set.contains nat_cmp c.in_ok-held_sections.field-0 s ≡ false))) (sym c.as_slice.ensures.value) c.in_ok-alone.ensures.each) in
     let f = g.D.Device.time c.remove_values.new.dev in
     let o3 = g.D.Device.opened c.remove_values.new.dev in
-    let s3 : told → Stage run (OtherValues run) (disk a) d f = λ t. removing_stage a e readable t d k m o2 joint2 trims.held doom (λ s is. ((doomed s).0 is).1) f (c.remove_values.ensures.moments t) in
+    let s3 : told → Stage run 2 (disk a) d f = λ t. removing_stage a e readable t d k m o2 joint2 trims.held doom (λ s is. ((doomed s).0 is).1) f (c.remove_values.ensures.moments t) in
     let n = manager.shown c.in_ok-values-2.values.manager in
     let gone = c.in_ok-values-2.ensures in
     let removed = as_removed a e doom m n o2 o3 d f (record { values = gone.over; removed = gone.removed; others = gone.others; bytes = gone.bytes; unopened = gone.unopened; bounds = gone.bounds; gone = gone.gone; moments = c.remove_values.ensures.moments; entries = c.remove_values.ensures.entries }) in
@@ -710,14 +709,14 @@ returns g c =
     let back = as_back a e j0 (record { sections = back_says.sections; held = back_says.held; settled = back_says.settled; sealed = back_says.sealed; unopened = back_says.unopened; recovered = back_says.recovered; lifted = back_says.lifted }) in
     let b = g.D.Device.time c.cut_records.new.dev in
     let o1 = g.D.Device.opened c.cut_records.new.dev in
-    let s1 : told → Stage run (IsIndexOf run.layout (λ _. ⊤)) (disk a) a b = λ t. records_stage a e readable t j0 back (λ q. g.met.D.Device.as_read t c.args.dev.now q) b (c.cut_records.ensures.moments t) in
+    let s1 : told → Stage run 0 (disk a) a b = λ t. records_stage a e readable t j0 back (λ q. g.met.D.Device.as_read t c.args.dev.now q) b (c.cut_records.ensures.moments t) in
     let k = fixed.shown c.in_ok-index.index in
     let cuts = c.in_ok-index.ensures in
     let cut = as_cut a e j0 k o1 b (record { over = cuts.over; proven = cuts.proven; cut = cuts.cut; sizes = cuts.sizes; others = cuts.others; held = cuts.held; unopened = cuts.unopened; settled = cuts.settled; bounds = cuts.bounds; moments = c.cut_records.ensures.moments; entries = c.cut_records.ensures.entries }) in
     let joint1 = cut_joint a e j0 back k o1 b cut (λ t q. g.met.D.Device.as_read t c.cut_records.new.dev q) in
     let d = g.D.Device.time c.cut_values.new.dev in
     let o2 = g.D.Device.opened c.cut_values.new.dev in
-    let s2 : told → Stage run (HeldValues run) (disk a) b d = λ t. values_stage a e readable t b k o1 joint1 (cut_values_same a e j0 back k o1 b cut (λ x q. g.met.D.Device.as_read x c.cut_records.new.dev q) t) d (c.cut_values.ensures.moments t) in
+    let s2 : told → Stage run 1 (disk a) b d = λ t. values_stage a e readable t b k o1 joint1 (cut_values_same a e j0 back k o1 b cut (λ x q. g.met.D.Device.as_read x c.cut_records.new.dev q) t) d (c.cut_values.ensures.moments t) in
     let m = manager.shown c.in_ok-values.values.manager in
     let trims = c.in_ok-values.ensures in
     let trim = as_trim a e k m o1 o2 b d (record { over = trims.over; values = trims.values; cut = trims.cut; others = trims.others; held = trims.held; unopened = trims.unopened; settled = trims.settled; bounds = trims.bounds; moments = c.cut_values.ensures.moments; entries = c.cut_values.ensures.entries }) in
@@ -727,7 +726,7 @@ returns g c =
     let doomed = doomed_of m k (λ s. set.contains nat_cmp c.in_ok-held_sections.field-0 s) c.in_ok-held_sections.ensures.each doom (subst (λ xs. (s : ℕ) → Contains xs s ↔ (IsHeld m s × (set.contains nat_cmp c.in_ok-held_sections.field-0 s ≡ false))) (sym c.as_slice.ensures.value) c.in_ok-alone.ensures.each) in
     let f = g.D.Device.time c.remove_values.new.dev in
     let o3 = g.D.Device.opened c.remove_values.new.dev in
-    let s3 : told → Stage run (OtherValues run) (disk a) d f = λ t. removing_stage a e readable t d k m o2 joint2 trims.held doom (λ s is. ((doomed s).0 is).1) f (c.remove_values.ensures.moments t) in
+    let s3 : told → Stage run 2 (disk a) d f = λ t. removing_stage a e readable t d k m o2 joint2 trims.held doom (λ s is. ((doomed s).0 is).1) f (c.remove_values.ensures.moments t) in
     let n = manager.shown c.in_ok-values-2.values.manager in
     let gone = c.in_ok-values-2.ensures in
     let removed = as_removed a e doom m n o2 o3 d f (record { values = gone.over; removed = gone.removed; others = gone.others; bytes = gone.bytes; unopened = gone.unopened; bounds = gone.bounds; gone = gone.gone; moments = c.remove_values.ensures.moments; entries = c.remove_values.ensures.entries }) in
