@@ -76,7 +76,7 @@ module _ {F S : Type 0} {gs : _} {g : buffer.Ghosts (PageBlob S gs)} {gives : F 
   -- ---- entries of other blobs
   module _ (q : Key) (not : IsOwn run.layout (λ _. ⊤) q → ⊥) where
     pub cut_entry : (j : Lists F (PageBlob S gs)) (back : GaveBack run j) (o1 : OpenedList) → ((k : Key) → (IsKeyOf j.sections (λ s. IsSome (run.ends s)) k → ⊥) → o1 k ≡ o k) → o1 q ≡ o q
-    cut_entry j back o1 entries = entries q (λ w. not (inl (w.0, small w.0 (run.ends w.0) refl w.1, tt, w.2 ∙ index_key (back_rests e j back) w.0)))
+    cut_entry j back o1 entries = entries q (λ w. not (inl (w.0, small w.0 (run.ends w.0) refl w.1, tt, w.2 ∙ index_key (back_rests e j back).parts w.0)))
       where
         small : (s : ℕ) (y : Option ℕ) → run.ends s ≡ y → IsSome (run.ends s) → s < 2 ^ 64
         small s None none some = absurd (not_of_none (run.ends s) none some)
@@ -85,20 +85,20 @@ module _ {F S : Type 0} {gs : _} {g : buffer.Ghosts (PageBlob S gs)} {gives : F 
     pub trim_entry : (b : Timeline) (k : Lists F (PageBlob S gs)) (o1 o2 : OpenedList) → Joint g gives takes told run (disk a) k run.values o1 (disk b)
         → ((x : Key) → (IsKeyOf k.sections (IsHeld k.sections) x ⊎ IsKeyOf run.values (IsHeld k.sections) x → ⊥) → o2 x ≡ o1 x) → o2 q ≡ o1 q
     trim_entry b k o1 o2 joint entries = entries q (λ w. elim w [
-      | inl index ↦ not (inl (index.0, index_number joint.rests index.0 index.1, tt, index.2 ∙ index_key joint.rests index.0))
-      | inr values ↦ not (inr (inl (values.0, index_number joint.rests values.0 values.1, tt, values.2 ∙ values_key joint.rests values.0)))
+      | inl index ↦ not (inl (index.0, index_number joint.rests.parts index.0 index.1, tt, index.2 ∙ index_key joint.rests.parts index.0))
+      | inr values ↦ not (inr (inl (values.0, index_number joint.rests.parts values.0 values.1, tt, values.2 ∙ values_key joint.rests.parts values.0)))
     ])
 
     pub removed_entry : (c : Timeline) (k : Lists F (PageBlob S gs)) (m : Sections WriteFactory WriteBlob) (o2 o3 : OpenedList) → Joint g gives takes told run (disk a) k m o2 (disk c) → (Doomed : ℕ → Type 0) → ((s : ℕ) → Doomed s → IsHeld m s)
         → EntriesLeave (IsKeyOf m Doomed) o2 o3 → o3 q ≡ o2 q
     removed_entry c k m o2 o3 joint Doomed held entries = elim (entries q) [
       | inl same ↦ same
-      | inr gone ↦ absurd (not (inr (inl (gone.0.0, values_number joint.rests gone.0.0 (held gone.0.0 gone.0.1), tt, gone.0.2 ∙ values_key joint.rests gone.0.0))))
+      | inr gone ↦ absurd (not (inr (inl (gone.0.0, values_number joint.rests.parts gone.0.0 (held gone.0.0 gone.0.1), tt, gone.0.2 ∙ values_key joint.rests.parts gone.0.0))))
     ]
 
   -- ---- reads of values
   pub cut_reads : (j : Lists F (PageBlob S gs)) (back : GaveBack run j) (o1 : OpenedList) → ((k : Key) → (IsKeyOf j.sections (λ s. IsSome (run.ends s)) k → ⊥) → o1 k ≡ o k) → (s : ℕ) → o1 (section_key run.layout.values s) ≡ o (section_key run.layout.values s)
-  cut_reads j back o1 entries s = entries (section_key run.layout.values s) (λ w. e.over.apart.values (sym (ap (λ (k : Key). k.0) (w.2 ∙ index_key (back_rests e j back) w.0))))
+  cut_reads j back o1 entries s = entries (section_key run.layout.values s) (λ w. e.over.apart.values (sym (ap (λ (k : Key). k.0) (w.2 ∙ index_key (back_rests e j back).parts w.0))))
 
   pub trim_reads : (o1 o2 : OpenedList) → ((s : ℕ) → reads_of (o2 (key_of run.values s)) ≤ reads_of (o1 (key_of run.values s))) → (s : ℕ) → reads_of (o2 (section_key run.layout.values s)) ≤ reads_of (o1 (section_key run.layout.values s))
   trim_reads o1 o2 reads s = subst (λ (p : List ℕ). reads_of (o2 (section_key p s)) ≤ reads_of (o1 (section_key p s))) e.here.values (reads s)

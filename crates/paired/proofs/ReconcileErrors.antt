@@ -290,7 +290,7 @@ module _ {F S : Type 0} {gs : _} {g : buffer.Ghosts (PageBlob S gs)} {gives : F 
       ]
     where
       unheld : (k : ℕ) → 2 ^ 64 ≤ k → records run.layout.record_size (fixed.section_bytes j.sections d k) ≡ []
-      unheld k large = none_stored (back_rests e j back) t k (none_of_not (j.sections.held k) (λ has. absurd (omega (arith, large, index_number (back_rests e j back) k has))))
+      unheld k large = none_stored (back_rests e j back) t k (none_of_not (j.sections.held k) (λ has. absurd (omega (arith, large, index_number (back_rests e j back).parts k has))))
 
 -- nothing is said of an answer that there is not
 pub if_err : {T : Type 0} (r : Result T Error) (e : Error) → r ≡ Err e → (P : T → Type 0) → IfOk r P

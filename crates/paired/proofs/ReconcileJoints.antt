@@ -2,7 +2,7 @@
 use Rattle.std.proofs.Common.{◌≡◌, ◌↔◌, ◌⊎◌, inl, inr, ℕ, ◌+◌, ◌*◌, ◌^◌, ◌<◌, ◌≤◌, min, false, List, length, take, Option, None, Some, IsSome, IsSomeAnd, refl, sym, ◌∙◌, ap, subst, arith}
 use Rattle.std.specs.Prelude.{is_some, ◌≢◌}
 use Rattle.std.proofs.lemmas.Nat.{mul-le}
-use Rattle.blob_device.specs.Disk.{Key, Blob, MayLeave, reads, nothing}
+use Rattle.blob_device.specs.Disk.{Key, Blob, Disk, MayLeave, reads, nothing}
 use Rattle.blob_device.specs.Opened.{OpenedList}
 use Rattle.blob_device.specs.Timeline.{Timeline, disk, Always, Each}
 use Rattle.blob_device.proofs.Moments.{always_now}
@@ -37,7 +37,7 @@ use Rattle.paired.proofs.GlobLemmas.{buffers, same_bytes}
 use Rattle.paired.proofs.PairSections.{glob_kept}
 use Rattle.paired.proofs.PairStays.{journal_stays}
 use Rattle.paired.proofs.RecordLemmas.{length-records, records-take, item_ends}
-use Rattle.paired.proofs.ReconcileResting.{Resting, index_number, values_number, index_key, values_key, none_stored}
+use Rattle.paired.proofs.ReconcileResting.{Resting, MarksRest, index_number, values_number, index_key, values_key, none_stored}
 use Rattle.paired.proofs.ReconcileStart.{Drained, GaveBack, opening, walk_unfailed, back_rests, end_of, given_all, given_to, over_records}
 use Rattle.paired.proofs.ReconcilePhases.{bare_of, index_cut_only, values_cut_only, values_still}
 use Rattle.paired.proofs.ReconcileStages.{Joint, none_of_not, not_of_none}
@@ -89,6 +89,14 @@ module _ {F S : Type 0} {gs : _} {g : buffer.Ghosts (PageBlob S gs)} {gives : F 
   copy_at : (side : Side) → blob_of run.store.partition side ≡ blob_of run.layout.metadata side
   copy_at side = ap (λ (p : List ℕ). blob_of p side) e.here.store
 
+  -- the markers are synced still
+  marks_stay : (b c : Disk) → (told → (side : Side) → c (blob_of run.layout.metadata side) ≡ b (blob_of run.layout.metadata side)) → MarksRest told run.layout run.store b → MarksRest told run.layout run.store c
+  marks_stay b c same was = record {
+    stands = λ t. stands_same run.layout.markers run.store run.store.entries b c
+        (subst (λ (q : Key). c q ≡ b q) (sym (copy_at Left)) (same t Left)) (subst (λ (q : Key). c q ≡ b q) (sym (copy_at Right)) (same t Right)) (was.stands t);
+    here = was.here;
+  }
+
   -- ---- after the cut of records
   module _ (j : Lists F (PageBlob S gs)) (back : GaveBack run j) (k : Lists F (PageBlob S gs)) (o1 : OpenedList) (b : Timeline) (did : RecordsCut g gives told run j k o o1 a b) (readable : told → (q : Key) → MayLeave (disk b q) (reads (disk b q))) where
     now_cut : told → (q : Key) → (IsIndexOf run.layout (λ s. IsSome (run.ends s)) q → ⊥) → disk b q ≡ disk a q
@@ -104,7 +112,7 @@ module _ {F S : Type 0} {gs : _} {g : buffer.Ghosts (PageBlob S gs)} {gives : F 
     copies_uncut t side = now_cut t (blob_of run.layout.metadata side) (λ is. copy_other side run.layout.index is.0 (inl refl) is.3)
 
     entry_uncut : (q : Key) → (q.0 ≢ run.layout.index) → o1 q ≡ o q
-    entry_uncut q other = did.entries q (λ w. other (ap (λ (x : Key). x.0) (w.2 ∙ index_key (back_rests e j back) w.0)))
+    entry_uncut q other = did.entries q (λ w. other (ap (λ (x : Key). x.0) (w.2 ∙ index_key (back_rests e j back).parts w.0)))
 
     here_values : (s : ℕ) → key_of run.values s ≡ section_key run.layout.values s
     here_values s = ap (λ (p : List ℕ). section_key p s) e.here.values
@@ -135,21 +143,22 @@ module _ {F S : Type 0} {gs : _} {g : buffer.Ghosts (PageBlob S gs)} {gives : F 
     cut_rests =
         let was = back_rests e j back in
         record {
-          pages = e.pages;
+          parts = record {
+            pages = e.pages;
+            index = did.over.over;
+            index_settled = did.settled was.parts.index_settled;
+            index_here = did.bounds.place.partition ∙ was.parts.index_here;
+            page_size = ap (λ (f : F). (gives f).page_size) did.bounds.place.factory ∙ was.parts.page_size;
+            some = e.here.some;
+            values = glob_kept run.values o o1 (disk a) (disk b) (λ s. entry_uncut (key_of run.values s) (λ is. e.over.apart.values (sym is ∙ e.here.values))) (λ t s. subst (λ (q : Key). disk b q ≡ disk a q) (sym (here_values s)) (values_uncut t s)) e.over.values;
+            values_settled = was.parts.values_settled;
+            values_known = was.parts.values_known;
+            values_here = e.here.values;
+          };
           journal = did.over;
           proven = did.proven;
-          index_settled = did.settled was.index_settled;
           index_known = λ s. did.unopened s ∙ was.index_known s;
-          index_here = did.bounds.place.partition ∙ was.index_here;
-          page_size = ap (λ (f : F). (gives f).page_size) did.bounds.place.factory ∙ was.page_size;
-          some = e.here.some;
-          values = glob_kept run.values o o1 (disk a) (disk b) (λ s. entry_uncut (key_of run.values s) (λ is. e.over.apart.values (sym is ∙ e.here.values))) (λ t s. subst (λ (q : Key). disk b q ≡ disk a q) (sym (here_values s)) (values_uncut t s)) e.over.values;
-          values_settled = was.values_settled;
-          values_known = was.values_known;
-          values_here = e.here.values;
-          store = λ t. stands_same run.layout.markers run.store run.store.entries (disk a) (disk b)
-              (subst (λ (q : Key). disk b q ≡ disk a q) (sym (copy_at Left)) (copies_uncut t Left)) (subst (λ (q : Key). disk b q ≡ disk a q) (sym (copy_at Right)) (copies_uncut t Right)) (e.over.markers t);
-          store_here = e.here.store;
+          marks = marks_stay (disk a) (disk b) copies_uncut was.marks;
         }
 
     -- the section's bytes where it has no end
@@ -159,9 +168,9 @@ module _ {F S : Type 0} {gs : _} {g : buffer.Ghosts (PageBlob S gs)} {gives : F 
           ∙ sym (ap (λ (x : Option (PageBlob S gs)). fixed.bytes_held x (disk a (key_of j.sections s)).content) absent)
       | inr some ↦
           ap (λ (x : Option (PageBlob S gs)). fixed.bytes_held x (disk b (key_of k.sections s)).content) (did.others s none).held
-          ∙ ap (λ (q : Key). fixed.bytes_held (j.sections.held s) (disk b q).content) (index_key cut_rests s)
-          ∙ ap (λ (x : Blob). fixed.bytes_held (j.sections.held s) x.content) (index_uncut t s (index_number (back_rests e j back) s (ap is_some some.1)) none)
-          ∙ sym (ap (λ (q : Key). fixed.bytes_held (j.sections.held s) (disk a q).content) (index_key (back_rests e j back) s))
+          ∙ ap (λ (q : Key). fixed.bytes_held (j.sections.held s) (disk b q).content) (index_key cut_rests.parts s)
+          ∙ ap (λ (x : Blob). fixed.bytes_held (j.sections.held s) x.content) (index_uncut t s (index_number (back_rests e j back).parts s (ap is_some some.1)) none)
+          ∙ sym (ap (λ (q : Key). fixed.bytes_held (j.sections.held s) (disk a q).content) (index_key (back_rests e j back).parts s))
     ]
 
     -- p whole records
@@ -220,8 +229,8 @@ module _ {F S : Type 0} {gs : _} {g : buffer.Ghosts (PageBlob S gs)} {gives : F 
     copies_untrimmed t side = now_trim t (blob_of run.layout.metadata side) (λ is. copy_other side run.layout.values is.0 (inr refl) is.3)
 
     pub trim_bytes : told → (s : ℕ) → fixed.section_bytes j.sections (disk c) s ≡ fixed.section_bytes j.sections (disk b) s
-    trim_bytes t s = ap (λ (q : Key). fixed.bytes_held (j.sections.held s) (disk c q).content) (index_key joint.rests s)
-        ∙ ap (λ (x : Blob). fixed.bytes_held (j.sections.held s) x.content) (index_untrimmed t s) ∙ sym (ap (λ (q : Key). fixed.bytes_held (j.sections.held s) (disk b q).content) (index_key joint.rests s))
+    trim_bytes t s = ap (λ (q : Key). fixed.bytes_held (j.sections.held s) (disk c q).content) (index_key joint.rests.parts s)
+        ∙ ap (λ (x : Blob). fixed.bytes_held (j.sections.held s) x.content) (index_untrimmed t s) ∙ sym (ap (λ (q : Key). fixed.bytes_held (j.sections.held s) (disk b q).content) (index_key joint.rests.parts s))
 
     pub trim_opened : IsOpened run.store.partition o1 → IsOpened run.store.partition o2
     trim_opened was = record {
@@ -230,26 +239,27 @@ module _ {F S : Type 0} {gs : _} {g : buffer.Ghosts (PageBlob S gs)} {gives : F 
     }
       where
         other : (side : Side) → IsKeyOf j.sections (IsHeld j.sections) (blob_of run.store.partition side) ⊎ IsKeyOf run.values (IsHeld j.sections) (blob_of run.store.partition side) → ⊥
-        other side (inl w) = copy_other side run.layout.index w.0 (inl refl) (sym (copy_at side) ∙ w.2 ∙ index_key joint.rests w.0)
-        other side (inr w) = copy_other side run.layout.values w.0 (inr refl) (sym (copy_at side) ∙ w.2 ∙ values_key joint.rests w.0)
+        other side (inl w) = copy_other side run.layout.index w.0 (inl refl) (sym (copy_at side) ∙ w.2 ∙ index_key joint.rests.parts w.0)
+        other side (inr w) = copy_other side run.layout.values w.0 (inr refl) (sym (copy_at side) ∙ w.2 ∙ values_key joint.rests.parts w.0)
 
     pub trim_rests : Resting g gives takes told run.layout j n run.store o2 (disk c)
     trim_rests = record {
-      pages = e.pages;
+      parts = record {
+        pages = joint.rests.parts.pages;
+        index = did.over.over;
+        index_settled = joint.rests.parts.index_settled;
+        index_here = joint.rests.parts.index_here;
+        page_size = joint.rests.parts.page_size;
+        some = joint.rests.parts.some;
+        values = did.values;
+        values_settled = did.settled joint.rests.parts.values_settled;
+        values_known = λ s. did.unopened s ∙ joint.rests.parts.values_known s;
+        values_here = did.bounds.place.partition ∙ joint.rests.parts.values_here;
+      };
       journal = did.over;
       proven = joint.rests.proven;
-      index_settled = joint.rests.index_settled;
       index_known = joint.rests.index_known;
-      index_here = joint.rests.index_here;
-      page_size = joint.rests.page_size;
-      some = e.here.some;
-      values = did.values;
-      values_settled = did.settled joint.rests.values_settled;
-      values_known = λ s. did.unopened s ∙ joint.rests.values_known s;
-      values_here = did.bounds.place.partition ∙ joint.rests.values_here;
-      store = λ t. stands_same run.layout.markers run.store run.store.entries (disk b) (disk c)
-          (subst (λ (q : Key). disk c q ≡ disk b q) (sym (copy_at Left)) (copies_untrimmed t Left)) (subst (λ (q : Key). disk c q ≡ disk b q) (sym (copy_at Right)) (copies_untrimmed t Right)) (joint.rests.store t);
-      store_here = e.here.store;
+      marks = marks_stay (disk b) (disk c) copies_untrimmed joint.rests.marks;
     }
 
     pub trim_joint : Joint g gives takes told run (disk a) j n o2 (disk c)
@@ -279,10 +289,10 @@ module _ {F S : Type 0} {gs : _} {g : buffer.Ghosts (PageBlob S gs)} {gives : F 
     now_gone t = always_now c f (λ d. (q : Key) → (IsKeyOf m (λ s. Doomed s × IsHeld m s) q → ⊥) → d q ≡ disk c q) (did.moments t)
 
     index_kept : told → (s : ℕ) → disk f (section_key run.layout.index s) ≡ disk c (section_key run.layout.index s)
-    index_kept t s = now_gone t (section_key run.layout.index s) (λ w. e.over.apart.values (ap (λ (q : Key). q.0) (w.2 ∙ values_key joint.rests w.0)))
+    index_kept t s = now_gone t (section_key run.layout.index s) (λ w. e.over.apart.values (ap (λ (q : Key). q.0) (w.2 ∙ values_key joint.rests.parts w.0)))
 
     copies_kept : told → (side : Side) → disk f (blob_of run.layout.metadata side) ≡ disk c (blob_of run.layout.metadata side)
-    copies_kept t side = now_gone t (blob_of run.layout.metadata side) (λ w. copy_other side run.layout.values w.0 (inr refl) (w.2 ∙ values_key joint.rests w.0))
+    copies_kept t side = now_gone t (blob_of run.layout.metadata side) (λ w. copy_other side run.layout.values w.0 (inr refl) (w.2 ∙ values_key joint.rests.parts w.0))
 
     entry_kept : (q : Key) → (IsKeyOf m Doomed q → ⊥) → o3 q ≡ o2 q
     entry_kept q none = elim (did.entries q) [
@@ -291,13 +301,13 @@ module _ {F S : Type 0} {gs : _} {g : buffer.Ghosts (PageBlob S gs)} {gives : F 
     ]
 
     pub removed_bytes : told → (s : ℕ) → fixed.section_bytes j.sections (disk f) s ≡ fixed.section_bytes j.sections (disk c) s
-    removed_bytes t s = ap (λ (q : Key). fixed.bytes_held (j.sections.held s) (disk f q).content) (index_key joint.rests s)
-        ∙ ap (λ (x : Blob). fixed.bytes_held (j.sections.held s) x.content) (index_kept t s) ∙ sym (ap (λ (q : Key). fixed.bytes_held (j.sections.held s) (disk c q).content) (index_key joint.rests s))
+    removed_bytes t s = ap (λ (q : Key). fixed.bytes_held (j.sections.held s) (disk f q).content) (index_key joint.rests.parts s)
+        ∙ ap (λ (x : Blob). fixed.bytes_held (j.sections.held s) x.content) (index_kept t s) ∙ sym (ap (λ (q : Key). fixed.bytes_held (j.sections.held s) (disk c q).content) (index_key joint.rests.parts s))
 
     pub removed_opened : IsOpened run.store.partition o2 → IsOpened run.store.partition o3
     removed_opened was = record {
-      left = subst IsSome (sym (entry_kept (blob_of run.store.partition Left) (λ w. copy_other Left run.layout.values w.0 (inr refl) (sym (copy_at Left) ∙ w.2 ∙ values_key joint.rests w.0)))) was.left;
-      right = subst IsSome (sym (entry_kept (blob_of run.store.partition Right) (λ w. copy_other Right run.layout.values w.0 (inr refl) (sym (copy_at Right) ∙ w.2 ∙ values_key joint.rests w.0)))) was.right;
+      left = subst IsSome (sym (entry_kept (blob_of run.store.partition Left) (λ w. copy_other Left run.layout.values w.0 (inr refl) (sym (copy_at Left) ∙ w.2 ∙ values_key joint.rests.parts w.0)))) was.left;
+      right = subst IsSome (sym (entry_kept (blob_of run.store.partition Right) (λ w. copy_other Right run.layout.values w.0 (inr refl) (sym (copy_at Right) ∙ w.2 ∙ values_key joint.rests.parts w.0)))) was.right;
     }
 
     -- only sections with records still have values
@@ -318,31 +328,35 @@ module _ {F S : Type 0} {gs : _} {g : buffer.Ghosts (PageBlob S gs)} {gives : F 
 
     values_kept : told → (s : ℕ) → s < 2 ^ 64 → m.held s ≡ None → disk f (section_key run.layout.values s) ≡ disk c (section_key run.layout.values s)
     values_kept t s small none = now_gone t (section_key run.layout.values s) (λ w.
-        not_of_none (m.held s) none (subst (IsHeld m) (sym (key_injective run.layout.values s w.0 small (values_number joint.rests w.0 w.1.1) (w.2 ∙ values_key joint.rests w.0))) w.1.1))
+        not_of_none (m.held s) none (subst (IsHeld m) (sym (key_injective run.layout.values s w.0 small (values_number joint.rests.parts w.0 w.1.1) (w.2 ∙ values_key joint.rests.parts w.0))) w.1.1))
 
     pub removed_rests : Resting g gives takes told run.layout j n run.store o3 (disk f)
     removed_rests = record {
-      pages = e.pages;
-      journal = journal_stays run.layout.seal run.layout.record_size j o2 o3 (disk c) (disk f)
-          (λ s small. entry_kept (key_of j.sections s) (λ w. e.over.apart.values (ap (λ (q : Key). q.0) (sym (index_key joint.rests s) ∙ w.2 ∙ values_key joint.rests w.0))))
-          (λ t s small. subst (λ (q : Key). disk f q ≡ disk c q) (sym (index_key joint.rests s)) (index_kept t s)) joint.rests.journal;
+      parts = record {
+        pages = joint.rests.parts.pages;
+        index = kept_journal.over;
+        index_settled = joint.rests.parts.index_settled;
+        index_here = joint.rests.parts.index_here;
+        page_size = joint.rests.parts.page_size;
+        some = joint.rests.parts.some;
+        values = did.values;
+        values_settled = λ s has. elim (decides s) [
+          | inl is ↦ absurd (not_of_none (n.held s) (did.removed s is) has)
+          | inr not ↦ subst (λ (x : Option WriteBlob). IsSomeAnd x (λ u. (u.settled ≡ count_of u) × (is_unsettled u ≡ false))) (sym (did.others s not).held) (joint.rests.parts.values_settled s (subst IsSome (did.others s not).held has))
+        ];
+        values_known = λ s. did.unopened s ∙ joint.rests.parts.values_known s;
+        values_here = did.bounds.place.partition ∙ joint.rests.parts.values_here;
+      };
+      journal = kept_journal;
       proven = joint.rests.proven;
-      index_settled = joint.rests.index_settled;
       index_known = joint.rests.index_known;
-      index_here = joint.rests.index_here;
-      page_size = joint.rests.page_size;
-      some = e.here.some;
-      values = did.values;
-      values_settled = λ s has. elim (decides s) [
-        | inl is ↦ absurd (not_of_none (n.held s) (did.removed s is) has)
-        | inr not ↦ subst (λ (x : Option WriteBlob). IsSomeAnd x (λ u. (u.settled ≡ count_of u) × (is_unsettled u ≡ false))) (sym (did.others s not).held) (joint.rests.values_settled s (subst IsSome (did.others s not).held has))
-      ];
-      values_known = λ s. did.unopened s ∙ joint.rests.values_known s;
-      values_here = did.bounds.place.partition ∙ joint.rests.values_here;
-      store = λ t. stands_same run.layout.markers run.store run.store.entries (disk c) (disk f)
-          (subst (λ (q : Key). disk f q ≡ disk c q) (sym (copy_at Left)) (copies_kept t Left)) (subst (λ (q : Key). disk f q ≡ disk c q) (sym (copy_at Right)) (copies_kept t Right)) (joint.rests.store t);
-      store_here = e.here.store;
+      marks = marks_stay (disk c) (disk f) copies_kept joint.rests.marks;
     }
+      where
+        kept_journal : IsJournal g gives run.layout.seal run.layout.record_size told j o3 (disk f)
+        kept_journal = journal_stays run.layout.seal run.layout.record_size j o2 o3 (disk c) (disk f)
+            (λ s small. entry_kept (key_of j.sections s) (λ w. e.over.apart.values (ap (λ (q : Key). q.0) (sym (index_key joint.rests.parts s) ∙ w.2 ∙ values_key joint.rests.parts w.0))))
+            (λ t s small. subst (λ (q : Key). disk f q ≡ disk c q) (sym (index_key joint.rests.parts s)) (index_kept t s)) joint.rests.journal
 
     pub removed_joint : Joint g gives takes told run (disk a) j n o3 (disk f)
     removed_joint = record {
@@ -363,6 +377,6 @@ module _ {F S : Type 0} {gs : _} {g : buffer.Ghosts (PageBlob S gs)} {gives : F 
       where
         removed_blob : told → (s : ℕ) → n.held s ≡ None → IsHeld m s → disk f (section_key run.layout.values s) ≡ nothing
         removed_blob t s none has = elim (decides s) [
-          | inl is ↦ subst (λ (q : Key). disk f q ≡ nothing) (values_key joint.rests s) (did.gone t s is has)
+          | inl is ↦ subst (λ (q : Key). disk f q ≡ nothing) (values_key joint.rests.parts s) (did.gone t s is has)
           | inr not ↦ absurd (not_of_none (n.held s) none (subst IsSome (sym (did.others s not).held) has))
         ]

@@ -174,7 +174,7 @@ module _ {F S : Type 0} {gs : _} {g : buffer.Ghosts (PageBlob S gs)} {gives : F 
       pub ends_there : glob.section_size n s ≡ last_end run.layout.place (given s)
       ends_there =
           let low : last_end run.layout.place (given s) ≤ length (old_values s) = last_by run.layout.place (length (old_values s)) (given s) (sound_within run.layout.seal run.layout.place (old_values s) (given s) is.sound) in
-          sym (section_counted takes n o3 d did.joint.rests.values t s) ∙ ap length (did.values t s has) ∙ length-take-le (last_end run.layout.place (given s)) (old_values s) low
+          sym (section_counted takes n o3 d did.joint.rests.parts.values t s) ∙ ap length (did.values t s has) ∙ length-take-le (last_end run.layout.place (given s)) (old_values s) low
 
     unheld : (s : ℕ) → run.walk.journal.sections.held s ≡ None → n.held s ≡ None
     unheld s none = none_of_not (n.held s) (λ has. not_of_none (run.walk.journal.sections.held s) none ((did.values_held s).0 has).1)
@@ -204,7 +204,7 @@ module _ {F S : Type 0} {gs : _} {g : buffer.Ghosts (PageBlob S gs)} {gives : F 
     settled_all : (s : ℕ) → glob.settled_size n s ≡ glob.section_size n s
     settled_all s = elim (none_or_value (n.held s)) [
       | inl none ↦ ap glob.settled_held none ∙ sym (ap glob.size_held none)
-      | inr some ↦ ap glob.settled_held some.1 ∙ (value_idle did.joint.rests s some.0 some.1).0 ∙ sym (ap glob.size_held some.1)
+      | inr some ↦ ap glob.settled_held some.1 ∙ (value_idle did.joint.rests.parts s some.0 some.1).0 ∙ sym (ap glob.size_held some.1)
     ]
 
     pub sound_pair : MayBeOpened run.layout (disk a) → ((s : ℕ) → GivesInPlace run (disk a) s) → IsSoundOn (pair_with run j n trailing) d
@@ -241,10 +241,10 @@ module _ {F S : Type 0} {gs : _} {g : buffer.Ghosts (PageBlob S gs)} {gives : F 
         no_copy s = alone (section_key run.layout.values s) (λ copy. e.over.apart.both (ap (λ (k : Key). k.0) copy.1))
 
         index_blob : (s : ℕ) → f (key_of j.sections s) ≡ d (key_of j.sections s)
-        index_blob s = alone (key_of j.sections s) (λ copy. e.over.apart.metadata (sym did.joint.rests.index_here ∙ ap (λ (k : Key). k.0) copy.1))
+        index_blob s = alone (key_of j.sections s) (λ copy. e.over.apart.metadata (sym did.joint.rests.parts.index_here ∙ ap (λ (k : Key). k.0) copy.1))
 
         values_blob : (s : ℕ) → f (key_of n s) ≡ d (key_of n s)
-        values_blob s = alone (key_of n s) (λ copy. e.over.apart.both (sym did.joint.rests.values_here ∙ ap (λ (k : Key). k.0) copy.1))
+        values_blob s = alone (key_of n s) (λ copy. e.over.apart.both (sym did.joint.rests.parts.values_here ∙ ap (λ (k : Key). k.0) copy.1))
 
         here : (s : ℕ) → records_of q f s ≡ records_given run (disk a) s
         here s = ap (λ (k : ℕ). records k (fixed.section_bytes q.index.sections f s)) sized

@@ -67,7 +67,7 @@ module _ {F S : Type 0} {gs : _} {g : buffer.Ghosts (PageBlob S gs)} {gives : F 
           let none = not_values run.layout e.over.apart (disk f) d (λ _. false) true s small refl in
           ap (λ (x : Option (List ℕ)). unwrap_or x []) (back_to.other (section_key run.layout.values s) none)
           ∙ values_left did.joint.rests t (did.joint.bare t may) s small (image (section_key run.layout.values s)) (subst (λ (b : Blob). MayLeave b (image (section_key run.layout.values s))) (marking.others (section_key run.layout.values s) none) (crash (section_key run.layout.values s)))
-          ∙ values_at did.joint.rests t s small
+          ∙ values_at did.joint.rests.parts t s small
 
       old_stored : (s : ℕ) → s < 2 ^ 64 → stored_records run.layout old s ≡ records_given run (disk a) s
       old_stored s small = ap (λ (c : List ℕ). records run.layout.record_size (sealed_prefix run.layout.seal run.layout.page_size c)) (old_index s small) ∙ stored_at did.joint.rests t s small ∙ did.joint.records t s

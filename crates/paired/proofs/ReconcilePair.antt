@@ -77,7 +77,7 @@ module _ {F S : Type 0} {gs : _} {g : buffer.Ghosts (PageBlob S gs)} {gives : F 
     orphans = λ t s has none.
         let was : IsHeld m s = (trims.held s).1 has in
         let is : Doomed s = (doomed s).1 (was, λ held. not_of_none (run.walk.journal.sections.held s) none ((joint.held s).0 held)) in
-        subst (λ (q : Key). disk f q ≡ nothing) (values_key joint_c.rests s) (removes.gone t s is was);
+        subst (λ (q : Key). disk f q ≡ nothing) (values_key joint_c.rests.parts s) (removes.gone t s is was);
   }
 
   -- ---- the pair that they have made, once it is noted that all is synced
@@ -106,7 +106,7 @@ module _ {F S : Type 0} {gs : _} {g : buffer.Ghosts (PageBlob S gs)} {gives : F 
     pub is_pair : IsPair g gives buffers takes told (pair_with run j n trailing) o3 d
     is_pair = record {
       index = did.joint.rests.journal;
-      values = did.joint.rests.values;
+      values = did.joint.rests.parts.values;
       apart = e.over.apart;
       whole = record {
         recovered = λ s. (did.joint.rests.proven s).checked;
@@ -114,7 +114,7 @@ module _ {F S : Type 0} {gs : _} {g : buffer.Ghosts (PageBlob S gs)} {gives : F 
         index_ceiling = did.index_bounds.ceiling ∙ (opening e).index_ceiling;
         values_ceiling = did.values_bounds.ceiling ∙ (opening e).values_ceiling;
         index_known = did.joint.rests.index_known;
-        values_known = did.joint.rests.values_known;
+        values_known = did.joint.rests.parts.values_known;
         values_held = λ s has. (did.joint.held s).1 ((did.values_held s).0 has).1;
         floors = omega (arith, did.values_bounds.floor, (opening e).values_floor);
       };
@@ -127,7 +127,7 @@ module _ {F S : Type 0} {gs : _} {g : buffer.Ghosts (PageBlob S gs)} {gives : F 
           arith,
           ap (λ (x : ℕ). x * run.layout.record_size) (all_synced s),
           div-mul-le_self (fixed.section_size j.sections s) run.layout.record_size,
-          all_of did.joint.rests s v held,
+          all_of did.joint.rests.parts s v held,
           ap (λ (x : Option (PageBlob S gs)). fixed.size_held x) held,
         );
         lengths = λ s. omega (arith, all_synced s);
@@ -135,7 +135,7 @@ module _ {F S : Type 0} {gs : _} {g : buffer.Ghosts (PageBlob S gs)} {gives : F 
       metadata_opened = did.opened;
       storable = e.over.storable;
       synced = e.over.synced;
-      disk = λ t. record { markers = did.joint.rests.store t };
+      disk = λ t. record { markers = did.joint.rests.marks.stands t };
     }
       where
         trail_held : (s k : ℕ) → trailing s ≡ Some k → IsHeld j.sections s
@@ -165,7 +165,7 @@ module _ {F S : Type 0} {gs : _} {g : buffer.Ghosts (PageBlob S gs)} {gives : F 
       where
         small : (j.sections.held s ≡ None) ⊎ ((v : PageBlob S gs) × (j.sections.held s ≡ Some v)) → s < 2 ^ 64
         small (inl absent) = absurd (differs (ap (λ (x : Option (PageBlob S gs)). fixed.size_held x / run.layout.record_size) absent ∙ no_length run.layout.record_size e.here.some ∙ sym (unheld_marker s absent)))
-        small (inr some) = index_number did.joint.rests s (ap is_some some.1)
+        small (inr some) = index_number did.joint.rests.parts s (ap is_some some.1)
 
     -- the markers that were moved count all records
     pub counts_of : (q : Pair F (PageBlob S gs)) → q.index ≡ j → q.values ≡ n → IsSameLayout run.layout q.layout → q.layout.record_size ≡ run.layout.record_size

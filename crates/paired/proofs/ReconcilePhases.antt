@@ -9,6 +9,7 @@ use Rattle.blob_device.specs.Opened.{OpenedList}
 use Rattle.blob_device.specs.Timeline.{Each}
 use Rattle.sealed_pages.specs.Buffer.{bytes_of, size_of}
 use Rattle.sealed_pages.specs.ChanceSeal as pages
+use Rattle.sealed_pages.specs.Cutting.{IsAtRest}
 use Rattle.sealed_pages.specs.SealedPrefix.{sealed_prefix}
 use Rattle.sealed_pages.specs.Shown.{shown}
 use Rattle.sealed_pages.specs.declared.page_blob.PageBlob.{PageBlob}
@@ -46,7 +47,7 @@ use Rattle.paired.specs.Replaying.{Run, IsGood, marker}
 use Rattle.paired.proofs.OpeningEnds.{IsGoodAt}
 use Rattle.paired.proofs.OpeningPhases.{IsPhase, IsShortened, IsTrimmed, IsBare, HasMarkers, not_copy, records_phase, values_phase}
 use Rattle.paired.proofs.RecordLemmas.{length-records, item_ends}
-use Rattle.paired.proofs.ReconcileResting.{Resting, index_number, values_number, index_key, values_key, paged, all_of, value_idle, index_settles, index_rest, index_absent, stored_at, none_stored, values_rest, values_absent, copy_rest, rests_no_chance, rest_left, rest_there, left_bare, reads_there, reads_absent}
+use Rattle.paired.proofs.ReconcileResting.{Resting, index_number, values_number, index_key, values_key, paged, all_of, value_idle, index_settles, index_rest, index_absent, stored_at, none_stored, values_rest, values_absent, frames_at, copy_rest, rests_no_chance, rest_left, rest_there, left_bare, reads_there, reads_absent}
 use Rattle.paired.proofs.ReconcileStart.{Drained, GaveBack, end_of, back_rests, over_records, over_stored, over_sound}
 
 -- ---- small facts
@@ -94,7 +95,7 @@ module _ {F S : Type 0} {gs : _} {g : buffer.Ghosts (PageBlob S gs)} {gives : F 
   pub bare_of : MayBeOpened l d → Bare l j m d
   bare_of may = record {
     index = λ s small none. may.absent s small (index_absent rests t s small none);
-    values = λ s small none. may.values_absent s small (values_absent rests t s small none);
+    values = λ s small none. may.values_absent s small (values_absent rests.parts t s small none);
   }
 
   module _ (bare : Bare l j m d) where
@@ -109,20 +110,35 @@ module _ {F S : Type 0} {gs : _} {g : buffer.Ghosts (PageBlob S gs)} {gives : F 
     pub values_left : (s : ℕ) → s < 2 ^ 64 → (left : Option (List ℕ)) → MayLeave (d (section_key l.values s)) left → unwrap_or left [] ≡ content_at (as_read d) l.values s
     values_left s small left may = elim (none_or_value (m.held s)) [
       | inl none ↦ left_bare (d (section_key l.values s)) (bare.values s small none) left may
-          ∙ sym (ap (λ (x : Option (List ℕ)). unwrap_or x []) (reads_absent (d (section_key l.values s)) (values_absent rests t s small none)))
-      | inr some ↦ ap (λ (x : Option (List ℕ)). unwrap_or x []) (rest_left (d (section_key l.values s)) (values_rest rests t s some.0 some.1).0 left may)
+          ∙ sym (ap (λ (x : Option (List ℕ)). unwrap_or x []) (reads_absent (d (section_key l.values s)) (values_absent rests.parts t s small none)))
+      | inr some ↦ ap (λ (x : Option (List ℕ)). unwrap_or x []) (rest_left (d (section_key l.values s)) (values_rest rests.parts t s some.0 some.1).0 left may)
     ]
+
+    -- so the disk may be opened
+    pub rests_open : MayBeOpened l d
+    rests_open = record {
+      no_chance = rests_no_chance rests t;
+      named = λ image crash s small slots. frames_at rests.parts t s small (stored_records l image s);
+      absent = λ s small gone. elim (none_or_value (j.sections.held s)) [
+        | inl none ↦ bare.index s small none
+        | inr some ↦ absurd (cc (gone, rest_there (d (section_key l.index s)) (index_rest rests.parts t s some.0 some.1)))
+      ];
+      values_absent = λ s small gone. elim (none_or_value (m.held s)) [
+        | inl none ↦ bare.values s small none
+        | inr some ↦ absurd (cc (gone, rest_there (d (section_key l.values s)) (values_rest rests.parts t s some.0 some.1).0))
+      ];
+    }
 
   -- the copies hold the entries alone
   module _ (readable : IsReadable l.markers) where
     pub copies_hold : HoldMap l.markers (metadata.bytes_of (reads (d (blob_of l.metadata Left)))) (metadata.bytes_of (reads (d (blob_of l.metadata Right)))) u.entries
     copies_hold =
-        let left : reads (d (blob_of l.metadata Left)) ≡ Some (d (blob_of l.metadata Left)).content = reads_there (d (blob_of l.metadata Left)) (rest_there (d (blob_of l.metadata Left)) (copy_rest rests t Left)) in
-        let right : reads (d (blob_of l.metadata Right)) ≡ Some (d (blob_of l.metadata Right)).content = reads_there (d (blob_of l.metadata Right)) (rest_there (d (blob_of l.metadata Right)) (copy_rest rests t Right)) in
+        let left : reads (d (blob_of l.metadata Left)) ≡ Some (d (blob_of l.metadata Left)).content = reads_there (d (blob_of l.metadata Left)) (rest_there (d (blob_of l.metadata Left)) (copy_rest rests.marks t Left)) in
+        let right : reads (d (blob_of l.metadata Right)) ≡ Some (d (blob_of l.metadata Right)).content = reads_there (d (blob_of l.metadata Right)) (rest_there (d (blob_of l.metadata Right)) (copy_rest rests.marks t Right)) in
         subst (λ (x : Option (List ℕ)). HoldMap l.markers (metadata.bytes_of x) (metadata.bytes_of (reads (d (blob_of l.metadata Right)))) u.entries) (sym left)
         (subst (λ (x : Option (List ℕ)). HoldMap l.markers (d (blob_of l.metadata Left)).content (metadata.bytes_of x) u.entries) (sym right)
-        (subst (λ (p : List ℕ). HoldMap l.markers (d (blob_of p Left)).content (d (blob_of p Right)).content u.entries) rests.store_here
-        (record { chosen = chosen_by u u.entries; reads = (rests.store t).pair; map = refl })))
+        (subst (λ (p : List ℕ). HoldMap l.markers (d (blob_of p Left)).content (d (blob_of p Right)).content u.entries) rests.marks.here
+        (record { chosen = chosen_by u u.entries; reads = (rests.marks.stands t).pair; map = refl })))
 
     -- so an image that has them as they read is lawful with these alone
     pub markers_one : (old : Image) → ((side : Side) → old (blob_of l.metadata side) ≡ reads (d (blob_of l.metadata side))) → (markers : Markers) → IsLawful l old markers → markers ≡ u.entries
@@ -136,7 +152,7 @@ module _ {F S : Type 0} {gs : _} {g : buffer.Ghosts (PageBlob S gs)} {gives : F 
     has_markers apart x IsChanged phase image old markers crash back lawful s small =
         ap (λ (ms : Markers). marker_of ms s) (markers_one old (λ side.
         back.other (blob_of l.metadata side) (not_copy l apart d x IsChanged false side refl)
-        ∙ rest_left (d (blob_of l.metadata side)) (copy_rest rests t side) (image (blob_of l.metadata side))
+        ∙ rest_left (d (blob_of l.metadata side)) (copy_rest rests.marks t side) (image (blob_of l.metadata side))
         (subst (λ (b : Blob). MayLeave b (image (blob_of l.metadata side))) (phase.others (blob_of l.metadata side) (not_copy l apart d x IsChanged false side refl)) (crash (blob_of l.metadata side)))) markers lawful)
 
   -- ---- values are cut
@@ -145,12 +161,12 @@ module _ {F S : Type 0} {gs : _} {g : buffer.Ghosts (PageBlob S gs)} {gives : F 
     held_end s is = ends_both (j.sections.held s) (m.held s) (last_end l.place (records l.record_size (fixed.section_bytes j.sections d s))) is
 
     pub values_cut_only : (q : Key) → (IsValuesOf l (IsHeld j.sections) q → ⊥) → x q ≡ d q
-    values_cut_only q none = (each q).others (λ w. (let held = held_end w.0 w.1 in none (w.0, index_number rests w.0 held.0, held.0, w.2 ∙ values_key rests w.0)))
+    values_cut_only q none = (each q).others (λ w. (let held = held_end w.0 w.1 in none (w.0, index_number rests.parts w.0 held.0, held.0, w.2 ∙ values_key rests.parts w.0)))
 
     pub values_still : (s : ℕ) → s < 2 ^ 64 → m.held s ≡ None → x (section_key l.values s) ≡ d (section_key l.values s)
     values_still s small none = (each (section_key l.values s)).others (λ w.
         let held = (held_end w.0 w.1).1 in
-        let same : s ≡ w.0 = key_injective l.values s w.0 small (values_number rests w.0 held) (w.2 ∙ values_key rests w.0) in
+        let same : s ≡ w.0 = key_injective l.values s w.0 small (values_number rests.parts w.0 held) (w.2 ∙ values_key rests.parts w.0) in
         absurd (cc (subst IsSome none (subst (IsHeld m) (sym same) held))))
 
     index_still : (s : ℕ) → x (section_key l.index s) ≡ d (section_key l.index s)
@@ -165,24 +181,30 @@ module _ {F S : Type 0} {gs : _} {g : buffer.Ghosts (PageBlob S gs)} {gives : F 
         others = λ q none. values_cut_only q (λ is. none (inr (inl is)));
       }
 
+      rest_of : (s : ℕ) → IsHeld j.sections s → IsAtRest (d (section_key l.index s))
+      rest_of s held = elim (none_or_value (j.sections.held s)) [
+        | inl none ↦ absurd (cc (subst IsSome none held))
+        | inr some ↦ index_rest rests.parts t s some.0 some.1
+      ]
+
       abbrev ending : ℕ → ℕ
       ending s = last_end l.place (records l.record_size (fixed.section_bytes j.sections d s))
 
       trim_left : (s : ℕ) → s < 2 ^ 64 → IsHeld j.sections s → (left : Option (List ℕ)) → MayLeave (x (section_key l.values s)) left → IsFront (take (ending s) (content_at (as_read d) l.values s)) (unwrap_or left [])
       trim_left s small held left may = elim (none_or_value (m.held s)) [
         | inl none ↦ front_none (ending s) (content_at (as_read d) l.values s) (unwrap_or left [])
-            (ap (λ (y : Option (List ℕ)). unwrap_or y []) (reads_absent (d (section_key l.values s)) (values_absent rests t s small none)))
+            (ap (λ (y : Option (List ℕ)). unwrap_or y []) (reads_absent (d (section_key l.values s)) (values_absent rests.parts t s small none)))
             (left_bare (d (section_key l.values s)) (bare.values s small none) left (subst (λ (b : Blob). MayLeave b left) (values_still s small none) may))
         | inr some ↦ elim (none_or_value (j.sections.held s)) [
           | inl absent ↦ absurd (cc (subst IsSome absent held))
           | inr has ↦
               let v = some.0 in
               let content : List ℕ = (d (section_key l.values s)).content in
-              let rest = values_rest rests t s v some.1 in
-              let stands = (rests.values.over.disk t).stands s v some.1 in
-              let bytes : content_of v content ≡ content = sym (rest.1 ∙ ap (λ (y : Option WriteBlob). glob.bytes_held y (d (key_of m s)).content) some.1 ∙ ap (λ (k : Key). content_of v (d k).content) (values_key rests s)) in
-              let long : v.settled ≡ length content = (value_idle rests s v some.1).0 ∙ sym (counted v (d (key_of m s)) stands) ∙ ap (λ (k : Key). length (content_of v (d k).content)) (values_key rests s) ∙ ap length bytes in
-              let out : Outlasts (settled_to (ending s) v content) (content_of v content) (x (section_key l.values s)) = (each (section_key l.values s)).shortened s (ending s) v (ap (λ (y : Option (PageBlob S gs)). option_map (λ w. ending s) y) has.1) some.1 (sym (values_key rests s)) in
+              let rest = values_rest rests.parts t s v some.1 in
+              let stands = (rests.parts.values.over.disk t).stands s v some.1 in
+              let bytes : content_of v content ≡ content = sym (rest.1 ∙ ap (λ (y : Option WriteBlob). glob.bytes_held y (d (key_of m s)).content) some.1 ∙ ap (λ (k : Key). content_of v (d k).content) (values_key rests.parts s)) in
+              let long : v.settled ≡ length content = (value_idle rests.parts s v some.1).0 ∙ sym (counted v (d (key_of m s)) stands) ∙ ap (λ (k : Key). length (content_of v (d k).content)) (values_key rests.parts s) ∙ ap length bytes in
+              let out : Outlasts (settled_to (ending s) v content) (content_of v content) (x (section_key l.values s)) = (each (section_key l.values s)).shortened s (ending s) v (ap (λ (y : Option (PageBlob S gs)). option_map (λ w. ending s) y) has.1) some.1 (sym (values_key rests.parts s)) in
               subst (λ (c : List ℕ). IsFront (take (ending s) c) (unwrap_or left [])) (sym (ap (λ (y : Option (List ℕ)). unwrap_or y []) (reads_there (d (section_key l.values s)) (rest_there (d (section_key l.values s)) rest.0))))
               (subst (λ (c : List ℕ). IsFront c (unwrap_or left [])) (ap (take (min v.settled (ending s))) bytes ∙ take_min v.settled (ending s) content long)
               (front_of (settled_to (ending s) v content) left (out.leaves left may)))
@@ -195,7 +217,7 @@ module _ {F S : Type 0} {gs : _} {g : buffer.Ghosts (PageBlob S gs)} {gives : F 
         reach = omega (arith, ap (last_end l.place) (stored_at rests t s small));
         whole = whole s small;
         leaves = trim_left s small held;
-        index = λ left may. rest_left (d (section_key l.index s)) (index_rest rests t s held) left (subst (λ (b : Blob). MayLeave b left) (index_still s) may);
+        index = λ left may. rest_left (d (section_key l.index s)) (rest_of s held) left (subst (λ (b : Blob). MayLeave b left) (index_still s) may);
       }
 
       pub cutting_recalls : Recalls l d x
@@ -239,7 +261,7 @@ module _ {F S : Type 0} {gs : _} {g : buffer.Ghosts (PageBlob S gs)} {gives : F 
   both (Some p) (Some v) is = (refl, refl)
 
   pub index_cut_only : (q : Key) → (IsIndexOf run.layout (λ s. IsSome (run.ends s)) q → ⊥) → x q ≡ d q
-  index_cut_only q none = (each q).others (λ w. (let has = both (run.ends w.0) (j.sections.held w.0) w.1 in none (w.0, index_number (back_rests e j back) w.0 has.1, has.0, w.2 ∙ index_key (back_rests e j back) w.0)))
+  index_cut_only q none = (each q).others (λ w. (let has = both (run.ends w.0) (j.sections.held w.0) w.1 in none (w.0, index_number (back_rests e j back).parts w.0 has.1, has.0, w.2 ∙ index_key (back_rests e j back).parts w.0)))
 
   values_same : (s : ℕ) → x (section_key run.layout.values s) ≡ d (section_key run.layout.values s)
   values_same s = index_cut_only (section_key run.layout.values s) (λ is. e.over.apart.values (sym (ap (λ (k : Key). k.0) is.3)))
@@ -262,17 +284,17 @@ module _ {F S : Type 0} {gs : _} {g : buffer.Ghosts (PageBlob S gs)} {gives : F 
           let v = some.0 in
           let key = section_key l.index s in
           let settles = index_settles (back_rests e j back) t s v some.1 in
-          let bytes : bytes_of (shown v) (d key).content ≡ fixed.section_bytes j.sections d s = sym (ap (λ (y : Option (PageBlob S gs)). fixed.bytes_held y (d (key_of j.sections s)).content) some.1 ∙ ap (λ (k : Key). bytes_of (shown v) (d k).content) (index_key (back_rests e j back) s)) in
+          let bytes : bytes_of (shown v) (d key).content ≡ fixed.section_bytes j.sections d s = sym (ap (λ (y : Option (PageBlob S gs)). fixed.bytes_held y (d (key_of j.sections s)).content) some.1 ∙ ap (λ (k : Key). bytes_of (shown v) (d k).content) (index_key (back_rests e j back).parts s)) in
           let count : length (records l.record_size (fixed.section_bytes j.sections d s)) ≡ length (fixed.section_bytes j.sections d s) / l.record_size = length-records l.record_size (fixed.section_bytes j.sections d s) in
           let lt : p < length (fixed.section_bytes j.sections d s) / l.record_size = omega (arith, (end_of e t s p is).within, ap length (over_records e j back t s), count) in
           let ends : p * l.record_size + l.record_size ≤ length (fixed.section_bytes j.sections d s) = item_ends l.record_size (length (fixed.section_bytes j.sections d s)) p lt in
-          let least : min v.settled (p * l.record_size) ≡ p * l.record_size = omega (arith, all_of (back_rests e j back) s v some.1, sealed_laws.counted (shown v) (d key).content, ap length bytes, ends) in
+          let least : min v.settled (p * l.record_size) ≡ p * l.record_size = omega (arith, all_of (back_rests e j back).parts s v some.1, sealed_laws.counted (shown v) (d key).content, ap length bytes, ends) in
           let there : content_at (as_read d) l.index s ≡ (d key).content = ap (λ (y : Option (List ℕ)). unwrap_or y []) (reads_there (d key) (rest_there (d key) settles.rest)) in
           subst (λ (c : List ℕ). pages.Leaves l.seal l.page_size (sealed_prefix l.seal l.page_size c) (p * l.record_size) (x key)) (sym there)
           (subst (λ (c : List ℕ). pages.Leaves l.seal l.page_size c (p * l.record_size) (x key)) (bytes ∙ sym settles.prefix)
           (subst (λ (n : ℕ). pages.Leaves l.seal l.page_size (bytes_of (shown v) (d key).content) n (x key)) least
-          (subst (λ (n : ℕ). pages.Leaves l.seal n (bytes_of (shown v) (d key).content) (min v.settled (p * l.record_size)) (x key)) (paged (back_rests e j back) s v some.1)
-          ((each key).shortened s (p * l.record_size) v (ap (CutTo l.record_size) is) some.1 (sym (index_key (back_rests e j back) s))))))
+          (subst (λ (n : ℕ). pages.Leaves l.seal n (bytes_of (shown v) (d key).content) (min v.settled (p * l.record_size)) (x key)) (paged (back_rests e j back).parts s v some.1)
+          ((each key).shortened s (p * l.record_size) v (ap (CutTo l.record_size) is) some.1 (sym (index_key (back_rests e j back).parts s))))))
     ]
 
     pub shortened_at : (s p : ℕ) → s < 2 ^ 64 → run.ends s ≡ Some p → IsShortened run.layout e.over.apart d x (λ s. is_some (run.ends s)) false shortening (marker run s) s

@@ -20,7 +20,7 @@ use Rattle.segments.specs.FixedLists.{Lists, IsJournal, IsProven}
 use Rattle.segments.specs.FixedLists as fixed
 use Rattle.segments.specs.SealedLaws.{no_chance}
 use Rattle.segments.specs.SealedLaws as sealed_laws
-use Rattle.segments.specs.Sections.{Sections, section_key, key_of, IsHeld}
+use Rattle.segments.specs.Sections.{Sections, section_key, key_of, IsHeld, IsOver}
 use Rattle.segments.specs.Setting.{Setting}
 use Rattle.segments.specs.Unsealed.{count_of, is_unsettled}
 use Rattle.segments.specs.UnsealedLaws.{rested, found_again}
@@ -94,41 +94,53 @@ was_there : (c : List ℕ) (at : ℕ × ℕ) → WasThere (c ∷ []) c at
 was_there c (at, n) = inl refl
 
 -- ---- a pair's parts, of which all has settled
-pub record Resting {F S : Type 0} {gs : _} (g : buffer.Ghosts (PageBlob S gs)) (gives : F → Setting) (takes : WriteFactory → Setting) (told : Type 0) (l : Layout)
-    (j : Lists F (PageBlob S gs)) (m : Sections WriteFactory WriteBlob) (u : Store Key8 ℕ) (o : OpenedList) (d : Disk) : Type 0 where
+-- Index and values are those of their partitions, and all that is held has settled. Nothing is said of a replay that is owed, nor of a section whose
+-- records an error took.
+pub record Rests {F S : Type 0} {gs : _} (g : buffer.Ghosts (PageBlob S gs)) (gives : F → Setting) (takes : WriteFactory → Setting) (told : Type 0) (l : Layout)
+    (i : Sections F (PageBlob S gs)) (m : Sections WriteFactory WriteBlob) (o : OpenedList) (d : Disk) : Type 0 where
   pub pages : ArePages g l.seal
-  pub journal : IsJournal g gives l.seal l.record_size told j o d
-  pub proven : (s : ℕ) → IsProven j s
-  pub index_settled : (s : ℕ) (v : PageBlob S gs) → j.sections.held s ≡ Some v → g.unsettled v ≡ false
-  pub index_known : (s : ℕ) → j.sections.unopened s ≡ None
-  pub index_here : j.sections.partition ≡ l.index
-  pub page_size : (gives j.sections.factory).page_size ≡ l.page_size
+  pub index : IsOver g gives told i o d
+  pub index_settled : (s : ℕ) (v : PageBlob S gs) → i.held s ≡ Some v → g.unsettled v ≡ false
+  pub index_here : i.partition ≡ l.index
+  pub page_size : (gives i.factory).page_size ≡ l.page_size
   pub some : 1 ≤ l.record_size
   pub values : IsGlob buffers takes told m o d
   pub values_settled : (s : ℕ) → IsHeld m s → IsAllSettled m s
   pub values_known : (s : ℕ) → m.unopened s ≡ None
   pub values_here : m.partition ≡ l.values
-  pub store : told → Stands l.markers u u.entries d
-  pub store_here : u.partition ≡ l.metadata
+
+-- The markers are synced.
+pub record MarksRest (told : Type 0) (l : Layout) (u : Store Key8 ℕ) (d : Disk) : Type 0 where
+  pub stands : told → Stands l.markers u u.entries d
+  pub here : u.partition ≡ l.metadata
+
+-- Both, where no replay is owed and every section is known: each is proven.
+pub record Resting {F S : Type 0} {gs : _} (g : buffer.Ghosts (PageBlob S gs)) (gives : F → Setting) (takes : WriteFactory → Setting) (told : Type 0) (l : Layout)
+    (j : Lists F (PageBlob S gs)) (m : Sections WriteFactory WriteBlob) (u : Store Key8 ℕ) (o : OpenedList) (d : Disk) : Type 0 where
+  pub parts : Rests g gives takes told l j.sections m o d
+  pub journal : IsJournal g gives l.seal l.record_size told j o d
+  pub proven : (s : ℕ) → IsProven j s
+  pub index_known : (s : ℕ) → j.sections.unopened s ≡ None
+  pub marks : MarksRest told l u d
 
 module _ {F S : Type 0} {gs : _} {g : buffer.Ghosts (PageBlob S gs)} {gives : F → Setting} {takes : WriteFactory → Setting} {told : Type 0} {l : Layout}
-    {j : Lists F (PageBlob S gs)} {m : Sections WriteFactory WriteBlob} {u : Store Key8 ℕ} {o : OpenedList} {d : Disk} (rests : Resting g gives takes told l j m u o d) where
-  pub index_number : (s : ℕ) → IsHeld j.sections s → s < 2 ^ 64
-  index_number s held = rests.journal.over.opened_list.number s (inl held)
+    {i : Sections F (PageBlob S gs)} {m : Sections WriteFactory WriteBlob} {o : OpenedList} {d : Disk} (rests : Rests g gives takes told l i m o d) where
+  pub index_number : (s : ℕ) → IsHeld i s → s < 2 ^ 64
+  index_number s held = rests.index.opened_list.number s (inl held)
 
   pub values_number : (s : ℕ) → IsHeld m s → s < 2 ^ 64
   values_number s held = rests.values.over.opened_list.number s (inl held)
 
-  pub index_key : (s : ℕ) → key_of j.sections s ≡ section_key l.index s
+  pub index_key : (s : ℕ) → key_of i s ≡ section_key l.index s
   index_key s = ap (λ (x : List ℕ). section_key x s) rests.index_here
 
   pub values_key : (s : ℕ) → key_of m s ≡ section_key l.values s
   values_key s = ap (λ (x : List ℕ). section_key x s) rests.values_here
 
-  pub paged : (s : ℕ) (v : PageBlob S gs) → j.sections.held s ≡ Some v → v.page_size ≡ l.page_size
-  paged s v held = sym (rests.pages.page_size v) ∙ ap (λ (x : Setting). x.page_size) (rests.journal.over.opened_list.setting s v held) ∙ rests.page_size
+  pub paged : (s : ℕ) (v : PageBlob S gs) → i.held s ≡ Some v → v.page_size ≡ l.page_size
+  paged s v held = sym (rests.pages.page_size v) ∙ ap (λ (x : Setting). x.page_size) (rests.index.opened_list.setting s v held) ∙ rests.page_size
 
-  pub all_of : (s : ℕ) (v : PageBlob S gs) → j.sections.held s ≡ Some v → v.settled ≡ size_of (shown v)
+  pub all_of : (s : ℕ) (v : PageBlob S gs) → i.held s ≡ Some v → v.settled ≡ size_of (shown v)
   all_of s v held = sealed_laws.all_settled (shown v) (sym (rests.pages.unsettled v) ∙ rests.index_settled s v held)
 
   pub value_idle : (s : ℕ) (v : WriteBlob) → m.held s ≡ Some v → (v.settled ≡ count_of v) × (is_unsettled v ≡ false)
@@ -137,36 +149,13 @@ module _ {F S : Type 0} {gs : _} {g : buffer.Ghosts (PageBlob S gs)} {gives : F 
       subst (λ (x : WriteBlob). (x.settled ≡ count_of x) × (is_unsettled x ≡ false)) (some_same w.value v (sym w.is ∙ held)) w.has
 
   module _ (t : told) where
-    -- a held section of records has settled with its bytes
-    pub index_settles : (s : ℕ) (v : PageBlob S gs) → j.sections.held s ≡ Some v → Settles l.seal l.page_size (fixed.section_bytes j.sections d s) (d (section_key l.index s))
-    index_settles s v held =
-        subst (λ (k : Key). Settles l.seal l.page_size (fixed.section_bytes j.sections d s) (d k)) (index_key s)
-        (subst (λ (x : Option (PageBlob S gs)). Settles l.seal l.page_size (fixed.bytes_held x (d (key_of j.sections s)).content) (d (key_of j.sections s))) (sym held)
-        (settles_of l.seal (shown v) l.page_size (bytes_of (shown v) (d (key_of j.sections s)).content) (d (key_of j.sections s)) (paged s v held) v.fit.begun
-        (all_flushed (shown v) v.fit.within v.order (all_of s v held)) (all_of s v held) ((rests.journal.disk t).sealed s v held (rests.proven s))))
+    -- a held section of records is at rest
+    pub index_rest : (s : ℕ) (v : PageBlob S gs) → i.held s ≡ Some v → IsAtRest (d (section_key l.index s))
+    index_rest s v held = subst (λ (k : Key). IsAtRest (d k)) (index_key s)
+        (sealed_laws.rested l.seal (shown v) (d (key_of i s)) (rests.pages.stands v (d (key_of i s)) ((rests.index.disk t).stands s v held)) (sym (rests.pages.unsettled v) ∙ rests.index_settled s v held))
 
-    pub index_rest : (s : ℕ) → IsHeld j.sections s → IsAtRest (d (section_key l.index s))
-    index_rest s held = elim (none_or_value (j.sections.held s)) [
-      | inl none ↦ absurd (cc (subst IsSome none held))
-      | inr some ↦ (index_settles s some.0 some.1).rest
-    ]
-
-    pub index_absent : (s : ℕ) → s < 2 ^ 64 → j.sections.held s ≡ None → (d (section_key l.index s)).there ≡ false
-    index_absent s small none = subst (λ (k : Key). (d k).there ≡ false) (index_key s) (not_there j.sections o d rests.journal.over t s small none (rests.index_known s))
-
-    -- the records that are stored are those that the journal has
-    pub stored_at : (s : ℕ) → s < 2 ^ 64 → stored_records l (as_read d) s ≡ records l.record_size (fixed.section_bytes j.sections d s)
-    stored_at s small = elim (none_or_value (j.sections.held s)) [
-      | inl none ↦ ap (λ (x : Option (List ℕ)). records l.record_size (sealed_prefix l.seal l.page_size (unwrap_or x []))) (reads_absent (d (section_key l.index s)) (index_absent s small none))
-          ∙ ap (records l.record_size) (nothing_sealed l.seal l.page_size) ∙ sym (ap (λ (x : Option (PageBlob S gs)). records l.record_size (fixed.bytes_held x (d (key_of j.sections s)).content)) none)
-      | inr some ↦
-          let settles = index_settles s some.0 some.1 in
-          ap (λ (x : Option (List ℕ)). records l.record_size (sealed_prefix l.seal l.page_size (unwrap_or x []))) (reads_there (d (section_key l.index s)) (rest_there (d (section_key l.index s)) settles.rest))
-          ∙ ap (records l.record_size) settles.prefix
-    ]
-
-    pub none_stored : (s : ℕ) → j.sections.held s ≡ None → records l.record_size (fixed.section_bytes j.sections d s) ≡ []
-    none_stored s none = ap (λ (x : Option (PageBlob S gs)). records l.record_size (fixed.bytes_held x (d (key_of j.sections s)).content)) none ∙ none_of l.record_size rests.some
+    pub absent_of : ((s : ℕ) → i.unopened s ≡ None) → (s : ℕ) → s < 2 ^ 64 → i.held s ≡ None → (d (section_key l.index s)).there ≡ false
+    absent_of known s small none = subst (λ (k : Key). (d k).there ≡ false) (index_key s) (not_there i o d rests.index t s small none (known s))
 
     -- a held section of values has settled with its bytes
     pub values_rest : (s : ℕ) (v : WriteBlob) → m.held s ≡ Some v → IsAtRest (d (section_key l.values s)) × ((d (section_key l.values s)).content ≡ glob.section_bytes m d s)
@@ -191,30 +180,67 @@ module _ {F S : Type 0} {gs : _} {g : buffer.Ghosts (PageBlob S gs)} {gives : F 
           ap (λ (x : Option (List ℕ)). unwrap_or x []) (reads_there (d (section_key l.values s)) (rest_there (d (section_key l.values s)) rest.0)) ∙ rest.1
     ]
 
-    pub copy_rest : (side : Side) → IsAtRest (d (blob_of l.metadata side))
-    copy_rest side = subst (λ (x : List ℕ). IsAtRest (d (blob_of x side))) rests.store_here (go side)
-      where
-        go : (x : Side) → IsAtRest (d (blob_of u.partition x))
-        go Left = (rests.store t).left
-        go Right = (rests.store t).right
-
-    slots_at : (s : ℕ) → s < 2 ^ 64 → pages.NoChanceSeal l.seal l.page_size (past (d (section_key l.index s))) (content_at (as_read d) l.index s)
-    slots_at s small = elim (none_or_value (j.sections.held s)) [
-      | inl none ↦ subst (λ (x : Option (List ℕ)). pages.NoChanceSeal l.seal l.page_size (past (d (section_key l.index s))) (unwrap_or x [])) (sym (reads_absent (d (section_key l.index s)) (index_absent s small none)))
+    slots_at : ((s : ℕ) → i.unopened s ≡ None) → (s : ℕ) → s < 2 ^ 64 → pages.NoChanceSeal l.seal l.page_size (past (d (section_key l.index s))) (content_at (as_read d) l.index s)
+    slots_at known s small = elim (none_or_value (i.held s)) [
+      | inl none ↦ subst (λ (x : Option (List ℕ)). pages.NoChanceSeal l.seal l.page_size (past (d (section_key l.index s))) (unwrap_or x [])) (sym (reads_absent (d (section_key l.index s)) (absent_of known s small none)))
           (no_slots l.seal l.page_size (past (d (section_key l.index s))))
-      | inr some ↦ of_rest (pages.NoChanceSeal l.seal l.page_size) (d (section_key l.index s)) (index_settles s some.0 some.1).rest (λ c. no_chance l.seal l.page_size (c ∷ []) c (Contains-push [] c))
+      | inr some ↦ of_rest (pages.NoChanceSeal l.seal l.page_size) (d (section_key l.index s)) (index_rest s some.0 some.1) (λ c. no_chance l.seal l.page_size (c ∷ []) c (Contains-push [] c))
     ]
 
-    frame_at : (s : ℕ) → s < 2 ^ 64 → (r : List ℕ) → IsTrue (is_sound_in l (as_read d) s r) → WasThere (past (d (section_key l.values s))) (content_at (as_read d) l.values s) (l.place r)
+    pub frame_at : (s : ℕ) → s < 2 ^ 64 → (r : List ℕ) → IsTrue (is_sound_in l (as_read d) s r) → WasThere (past (d (section_key l.values s))) (content_at (as_read d) l.values s) (l.place r)
     frame_at s small r sound = elim (none_or_value (m.held s)) [
       | inl none ↦ absurd (none_sound l.seal (l.place r).0 (l.place r).1
           (subst (λ (x : Option (List ℕ)). IsTrue (is_sound l.seal (unwrap_or x []) (l.place r))) (reads_absent (d (section_key l.values s)) (values_absent s small none)) sound))
       | inr some ↦ of_rest (λ contents c. WasThere contents c (l.place r)) (d (section_key l.values s)) (values_rest s some.0 some.1).0 (λ c. was_there c (l.place r))
     ]
 
-    pub rests_no_chance : NoChanceSeal l d (as_read d)
-    rests_no_chance = record {
-      slots = slots_at;
-      frames = λ s small. each_of (λ r. IsTrue (is_sound_in l (as_read d) s r) → WasThere (past (d (section_key l.values s))) (content_at (as_read d) l.values s) (l.place r)) (frame_at s small) (stored_records l (as_read d) s);
-      copies = λ side. of_rest (metadata.NoChanceSeal l.markers.seal) (d (blob_of l.metadata side)) (copy_rest side) (λ c version form body sealed. inl refl);
+    -- no seal of records and values holds by chance
+    pub frames_at : (s : ℕ) → s < 2 ^ 64 → (rs : List (List ℕ)) → AllByRecursion (λ r. IsTrue (is_sound_in l (as_read d) s r) → WasThere (past (d (section_key l.values s))) (content_at (as_read d) l.values s) (l.place r)) rs
+    frames_at s small rs = each_of (λ r. IsTrue (is_sound_in l (as_read d) s r) → WasThere (past (d (section_key l.values s))) (content_at (as_read d) l.values s) (l.place r)) (frame_at s small) rs
+
+    pub parts_no_chance : ((s : ℕ) → i.unopened s ≡ None) → ((side : Side) → IsAtRest (d (blob_of l.metadata side))) → NoChanceSeal l d (as_read d)
+    parts_no_chance known copies = record {
+      slots = slots_at known;
+      frames = λ s small. frames_at s small (stored_records l (as_read d) s);
+      copies = λ side. of_rest (metadata.NoChanceSeal l.markers.seal) (d (blob_of l.metadata side)) (copies side) (λ c version form body sealed. inl refl);
     }
+
+-- ---- markers
+pub copy_rest : {told : Type 0} {l : Layout} {u : Store Key8 ℕ} {d : Disk} (marks : MarksRest told l u d) (t : told) (side : Side) → IsAtRest (d (blob_of l.metadata side))
+copy_rest {u = u} {d = d} marks t side = subst (λ (x : List ℕ). IsAtRest (d (blob_of x side))) marks.here (go side)
+  where
+    go : (x : Side) → IsAtRest (d (blob_of u.partition x))
+    go Left = (marks.stands t).left
+    go Right = (marks.stands t).right
+
+-- ---- sections that are proven
+module _ {F S : Type 0} {gs : _} {g : buffer.Ghosts (PageBlob S gs)} {gives : F → Setting} {takes : WriteFactory → Setting} {told : Type 0} {l : Layout}
+    {j : Lists F (PageBlob S gs)} {m : Sections WriteFactory WriteBlob} {u : Store Key8 ℕ} {o : OpenedList} {d : Disk} (rests : Resting g gives takes told l j m u o d) where
+  module _ (t : told) where
+    pub index_absent : (s : ℕ) → s < 2 ^ 64 → j.sections.held s ≡ None → (d (section_key l.index s)).there ≡ false
+    index_absent = absent_of rests.parts t rests.index_known
+
+    -- a held section of records has settled with its bytes
+    pub index_settles : (s : ℕ) (v : PageBlob S gs) → j.sections.held s ≡ Some v → Settles l.seal l.page_size (fixed.section_bytes j.sections d s) (d (section_key l.index s))
+    index_settles s v held =
+        subst (λ (k : Key). Settles l.seal l.page_size (fixed.section_bytes j.sections d s) (d k)) (index_key rests.parts s)
+        (subst (λ (x : Option (PageBlob S gs)). Settles l.seal l.page_size (fixed.bytes_held x (d (key_of j.sections s)).content) (d (key_of j.sections s))) (sym held)
+        (settles_of l.seal (shown v) l.page_size (bytes_of (shown v) (d (key_of j.sections s)).content) (d (key_of j.sections s)) (paged rests.parts s v held) v.fit.begun
+        (all_flushed (shown v) v.fit.within v.order (all_of rests.parts s v held)) (all_of rests.parts s v held) ((rests.journal.disk t).sealed s v held (rests.proven s))))
+
+    -- the records that are stored are those that the journal has
+    pub stored_at : (s : ℕ) → s < 2 ^ 64 → stored_records l (as_read d) s ≡ records l.record_size (fixed.section_bytes j.sections d s)
+    stored_at s small = elim (none_or_value (j.sections.held s)) [
+      | inl none ↦ ap (λ (x : Option (List ℕ)). records l.record_size (sealed_prefix l.seal l.page_size (unwrap_or x []))) (reads_absent (d (section_key l.index s)) (index_absent s small none))
+          ∙ ap (records l.record_size) (nothing_sealed l.seal l.page_size) ∙ sym (ap (λ (x : Option (PageBlob S gs)). records l.record_size (fixed.bytes_held x (d (key_of j.sections s)).content)) none)
+      | inr some ↦
+          let settles = index_settles s some.0 some.1 in
+          ap (λ (x : Option (List ℕ)). records l.record_size (sealed_prefix l.seal l.page_size (unwrap_or x []))) (reads_there (d (section_key l.index s)) (rest_there (d (section_key l.index s)) settles.rest))
+          ∙ ap (records l.record_size) settles.prefix
+    ]
+
+    pub none_stored : (s : ℕ) → j.sections.held s ≡ None → records l.record_size (fixed.section_bytes j.sections d s) ≡ []
+    none_stored s none = ap (λ (x : Option (PageBlob S gs)). records l.record_size (fixed.bytes_held x (d (key_of j.sections s)).content)) none ∙ none_of l.record_size rests.parts.some
+
+    pub rests_no_chance : NoChanceSeal l d (as_read d)
+    rests_no_chance = parts_no_chance rests.parts t rests.index_known (copy_rest rests.marks t)

@@ -88,8 +88,8 @@ module _ {F S : Type 0} {gs : _} {g : buffer.Ghosts (PageBlob S gs)} {gives : F 
 
   pub settled_result : {T E : Type 0} (r : Result T E) (shows : T → Pair F (PageBlob S gs)) → IfOk r (λ v. (shows v).values ≡ q.values) → IfOk r (λ v. (s : ℕ) → IsHeld (shows v).values s → IsAllSettled (shows v).values s)
   settled_result (Err x) shows values = tt
-  settled_result (Ok v) shows values = subst (λ (m : Sections WriteFactory WriteBlob). (s : ℕ) → IsHeld m s → IsAllSettled m s) (sym (values ∙ sym (ap (λ (p : Pair F (PageBlob S gs)). p.values) same))) did.joint.rests.values_settled
+  settled_result (Ok v) shows values = subst (λ (m : Sections WriteFactory WriteBlob). (s : ℕ) → IsHeld m s → IsAllSettled m s) (sym (values ∙ sym (ap (λ (p : Pair F (PageBlob S gs)). p.values) same))) did.joint.rests.parts.values_settled
 
   pub index_result : {T E : Type 0} (r : Result T E) (shows : T → Pair F (PageBlob S gs)) → IfOk r (λ v. (shows v).index ≡ q.index) → IfOk r (λ v. (s : ℕ) (u : PageBlob S gs) → (shows v).index.sections.held s ≡ Some u → g.unsettled u ≡ false)
   index_result (Err x) shows index = tt
-  index_result (Ok v) shows index = subst (λ (m : Lists F (PageBlob S gs)). (s : ℕ) (u : PageBlob S gs) → m.sections.held s ≡ Some u → g.unsettled u ≡ false) (sym (index ∙ sym (ap (λ (p : Pair F (PageBlob S gs)). p.index) same))) did.joint.rests.index_settled
+  index_result (Ok v) shows index = subst (λ (m : Lists F (PageBlob S gs)). (s : ℕ) (u : PageBlob S gs) → m.sections.held s ≡ Some u → g.unsettled u ≡ false) (sym (index ∙ sym (ap (λ (p : Pair F (PageBlob S gs)). p.index) same))) did.joint.rests.parts.index_settled

@@ -107,7 +107,7 @@ module _ {F S : Type 0} {gs : _} {g : buffer.Ghosts (PageBlob S gs)} {gives : F 
     all_kept : (s : ℕ) → s < 2 ^ 64 → front (is_sound_in run.layout (as_read (disk b)) s) (marker run s) 0 (stored_records run.layout (as_read (disk b)) s) ≡ stored_records run.layout (as_read (disk b)) s
     all_kept s small =
         let stored : stored_records run.layout (as_read (disk b)) s ≡ records_given run (disk a) s = stored_at joint.rests t s small ∙ joint.records t s in
-        let values : content_at (as_read (disk b)) run.layout.values s ≡ glob.section_bytes run.values (disk a) s = values_at joint.rests t s small ∙ bytes s in
+        let values : content_at (as_read (disk b)) run.layout.values s ≡ glob.section_bytes run.values (disk a) s = values_at joint.rests.parts t s small ∙ bytes s in
         (λ i. front (λ r. is_sound run.layout.seal (values i) (run.layout.place r)) (marker run s) 0 (stored i)) ∙ given_whole e t s ∙ sym stored
 
     clean_trim : (s : ℕ) → IsClean run (disk a) s → IsSomeAnd (EndOf run.layout.place run.layout.record_size j.sections (disk b) s) (glob.IsLonger run.values s) → ⊥
@@ -115,17 +115,17 @@ module _ {F S : Type 0} {gs : _} {g : buffer.Ghosts (PageBlob S gs)} {gives : F 
         (is.values ∙ ap (last_end run.layout.place) (sym (joint.records t s ∙ is.given)))
 
     clean_values : (s : ℕ) → IsClean run (disk a) s → (q : Key) → IsBlobOf run.layout (λ x. x ≡ s) q → IsKeyOf run.values (λ x. IsSomeAnd (EndOf run.layout.place run.layout.record_size j.sections (disk b) x) (glob.IsLonger run.values x)) q → ⊥
-    clean_values s is q (inl index) cut = e.over.apart.values (ap (λ (k : Key). k.0) (sym index.3 ∙ cut.2 ∙ values_key joint.rests cut.0))
+    clean_values s is q (inl index) cut = e.over.apart.values (ap (λ (k : Key). k.0) (sym index.3 ∙ cut.2 ∙ values_key joint.rests.parts cut.0))
     clean_values s is q (inr values) cut =
         let has = long_held (j.sections.held cut.0) (run.values.held cut.0) (last_end run.layout.place (records run.layout.record_size (fixed.section_bytes j.sections (disk b) cut.0))) cut.1 in
-        let same : cut.0 ≡ s = key_injective run.layout.values cut.0 values.0 (values_number joint.rests cut.0 has) values.1 (sym (cut.2 ∙ values_key joint.rests cut.0) ∙ values.3) ∙ values.2 in
+        let same : cut.0 ≡ s = key_injective run.layout.values cut.0 values.0 (values_number joint.rests.parts cut.0 has) values.1 (sym (cut.2 ∙ values_key joint.rests.parts cut.0) ∙ values.3) ∙ values.2 in
         clean_trim s is (subst (λ (x : ℕ). IsSomeAnd (EndOf run.layout.place run.layout.record_size j.sections (disk b) x) (glob.IsLonger run.values x)) same cut.1)
 
     touches : (q : Key) → IsKeyOf run.values (λ x. IsSomeAnd (EndOf run.layout.place run.layout.record_size j.sections (disk b) x) (glob.IsLonger run.values x)) q → HeldValues run q × IsDirty run (disk a) q
     touches q cut =
         let ending = last_end run.layout.place (records run.layout.record_size (fixed.section_bytes j.sections (disk b) cut.0)) in
         let has = long_held (j.sections.held cut.0) (run.values.held cut.0) ending cut.1 in (
-          (cut.0, values_number joint.rests cut.0 has, (joint.held cut.0).0 (ends_held (j.sections.held cut.0) (run.values.held cut.0) ending cut.1), cut.2 ∙ values_key joint.rests cut.0),
+          (cut.0, values_number joint.rests.parts cut.0 has, (joint.held cut.0).0 (ends_held (j.sections.held cut.0) (run.values.held cut.0) ending cut.1), cut.2 ∙ values_key joint.rests.parts cut.0),
           record { section = λ s is own. clean_values s is q own cut; some = λ all. clean_trim cut.0 (all.clean cut.0) cut.1 },
         )
 
@@ -149,21 +149,21 @@ module _ {F S : Type 0} {gs : _} {g : buffer.Ghosts (PageBlob S gs)} {gives : F 
     clean_gone s is gone has = doomed s gone ((joint.held s).1 (is.held ((held s).0 has)))
 
     clean_removed : (s : ℕ) → IsClean run (disk a) s → (q : Key) → IsBlobOf run.layout (λ x. x ≡ s) q → IsKeyOf m (λ x. Doomed x × IsHeld m x) q → ⊥
-    clean_removed s is q (inl index) cut = e.over.apart.values (ap (λ (k : Key). k.0) (sym index.3 ∙ cut.2 ∙ values_key joint.rests cut.0))
+    clean_removed s is q (inl index) cut = e.over.apart.values (ap (λ (k : Key). k.0) (sym index.3 ∙ cut.2 ∙ values_key joint.rests.parts cut.0))
     clean_removed s is q (inr values) cut =
-        let same : cut.0 ≡ s = key_injective run.layout.values cut.0 values.0 (values_number joint.rests cut.0 cut.1.1) values.1 (sym (cut.2 ∙ values_key joint.rests cut.0) ∙ values.3) ∙ values.2 in
+        let same : cut.0 ≡ s = key_injective run.layout.values cut.0 values.0 (values_number joint.rests.parts cut.0 cut.1.1) values.1 (sym (cut.2 ∙ values_key joint.rests.parts cut.0) ∙ values.3) ∙ values.2 in
         clean_gone s is (subst Doomed same cut.1.0) (subst (IsHeld m) same cut.1.1)
 
     pub removing_stage : Stage run 2 (disk a) c f
     removing_stage = record {
       only = always_weaker c f Removes (λ d. (q : Key) → (OtherValues run q × IsDirty run (disk a) q → ⊥) → d q ≡ disk c q)
           (λ d same q none. same q (λ w. none (
-            (w.0, values_number joint.rests w.0 w.1.1, without w.0 w.1.0, w.2 ∙ values_key joint.rests w.0),
+            (w.0, values_number joint.rests.parts w.0 w.1.1, without w.0 w.1.0, w.2 ∙ values_key joint.rests.parts w.0),
             record {
               section = λ s is own. clean_removed s is q own w;
               some = λ all. clean_gone w.0 (all.clean w.0) w.1.0 w.1.1;
             },
           ))) moments;
       recalls = λ may. always_weaker c f Removes (Recalls run.layout (disk c)) (λ d same. removing_recalls joint.rests t e.over.apart d
-          (λ q none. same q (λ w. none (w.0, values_number joint.rests w.0 w.1.1, none_of_not (j.sections.held w.0) (doomed w.0 w.1.0), w.2 ∙ values_key joint.rests w.0))) (joint.bare t may) (joint.readable t) map_readable) moments;
+          (λ q none. same q (λ w. none (w.0, values_number joint.rests.parts w.0 w.1.1, none_of_not (j.sections.held w.0) (doomed w.0 w.1.0), w.2 ∙ values_key joint.rests.parts w.0))) (joint.bare t may) (joint.readable t) map_readable) moments;
     }

@@ -136,20 +136,22 @@ module _ {F S : Type 0} {gs : _} {g : buffer.Ghosts (PageBlob S gs)} {gives : F 
 
     pub back_rests : Resting g gives takes told run.layout j run.values run.store o d
     back_rests = record {
-      pages = e.pages;
+      parts = record {
+        pages = e.pages;
+        index = back_journal.over;
+        index_settled = λ s v held. opening.index_settled s v (sym (ap (λ (m : Sections F (PageBlob S gs)). m.held s) back.sections) ∙ held);
+        index_here = ap (λ (m : Sections F (PageBlob S gs)). m.partition) back.sections ∙ e.here.index;
+        page_size = ap (λ (m : Sections F (PageBlob S gs)). (gives m.factory).page_size) back.sections ∙ e.here.page_size;
+        some = e.here.some;
+        values = e.over.values;
+        values_settled = opening.values_settled;
+        values_known = opening.values_known;
+        values_here = e.here.values;
+      };
       journal = back_journal;
       proven = back_proven;
-      index_settled = λ s v held. opening.index_settled s v (sym (ap (λ (m : Sections F (PageBlob S gs)). m.held s) back.sections) ∙ held);
       index_known = λ s. ap (λ (m : Sections F (PageBlob S gs)). m.unopened s) back.sections ∙ known s;
-      index_here = ap (λ (m : Sections F (PageBlob S gs)). m.partition) back.sections ∙ e.here.index;
-      page_size = ap (λ (m : Sections F (PageBlob S gs)). (gives m.factory).page_size) back.sections ∙ e.here.page_size;
-      some = e.here.some;
-      values = e.over.values;
-      values_settled = opening.values_settled;
-      values_known = opening.values_known;
-      values_here = e.here.values;
-      store = e.over.markers;
-      store_here = e.here.store;
+      marks = record { stands = e.over.markers; here = e.here.store };
     }
 
     module _ (t : told) where
@@ -188,12 +190,12 @@ module _ {F S : Type 0} {gs : _} {g : buffer.Ghosts (PageBlob S gs)} {gives : F 
       over_stored s small = stored_at back_rests t s small ∙ sym (over_records s)
 
       pub over_sound : (s : ℕ) → s < 2 ^ 64 → is_sound_in run.layout (as_read d) s ≡ is_sound_over run d s
-      over_sound s small = λ i r. is_sound run.layout.seal (values_at back_rests t s small i) (run.layout.place r)
+      over_sound s small = λ i r. is_sound run.layout.seal (values_at back_rests.parts t s small i) (run.layout.place r)
 
       -- and what the disk keeps is what was given
       pub kept_given : (s : ℕ) → s < 2 ^ 64 → kept run.layout (as_read d) (marker run s) s ≡ map (entry_of run.layout.place (glob.section_bytes run.values d s)) (records_given run d s)
       kept_given s small =
-          (λ i. map (entry_of run.layout.place (values_at back_rests t s small i)) (front (over_sound s small i) (marker run s) 0 (over_stored s small i)))
+          (λ i. map (entry_of run.layout.place (values_at back_rests.parts t s small i)) (front (over_sound s small i) (marker run s) 0 (over_stored s small i)))
           ∙ ap (map (entry_of run.layout.place (glob.section_bytes run.values d s))) (sym (front_given t s))
 
       pub kept_stored : (s : ℕ) → s < 2 ^ 64 → map (λ x. x.stored) (kept run.layout (as_read d) (marker run s) s) ≡ records_given run d s

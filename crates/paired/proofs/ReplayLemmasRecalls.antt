@@ -17,15 +17,13 @@ use Rattle.sealed_pages.specs.Cutting.{IsAtRest}
 use Rattle.sealed_pages.specs.SealedPrefix.{sealed_prefix, Prefix}
 use Rattle.segments.specs.declared.buffer.SectionBuffer as buffer
 use Rattle.segments.specs.declared.unsealed.WriteFactory.{WriteFactory}
-use Rattle.segments.specs.FixedReplay.{Replaying}
+use Rattle.segments.specs.FixedReplay.{Walk, Replaying}
 use Rattle.segments.specs.Sealed.{is_unsettled}
-use Rattle.segments.specs.SealedLaws.{all_settled, rested}
-use Rattle.segments.specs.UnsealedLaws.{rested as values_rested}
-use Rattle.segments.specs.Sections.{section_key, key_of, IsHeld}
+use Rattle.segments.specs.SealedLaws.{all_settled}
+use Rattle.segments.specs.Sections.{Sections, section_key, key_of}
 use Rattle.segments.specs.Setting.{Setting}
-use Rattle.segments.specs.Unsealed as unsealed
 use Rattle.segments.proofs.FixedWriteLemmas.{ArePages}
-use Rattle.segments.proofs.WalkLemmas.{none_or_value, value_of}
+use Rattle.segments.proofs.WalkLemmas.{none_or_value}
 use Rattle.paired.specs.Crashes.{IsIndexOf, NoChanceSeal}
 use Rattle.paired.specs.Kept.{Layout, Markers, marker_of, content_at, stored_records, is_sound_in}
 use Rattle.paired.specs.Opening.{MayBeOpened, RecallsAlone}
@@ -35,8 +33,9 @@ use Rattle.paired.proofs.GlobLemmas.{buffers}
 use Rattle.paired.proofs.OpeningEnds.{KeptHere}
 use Rattle.paired.proofs.OpeningLaws.{left_as_read}
 use Rattle.paired.proofs.OpeningPhases.{IsPhase, IsBack, sections_of}
-use Rattle.paired.proofs.PairFacts.{not_there}
+use Rattle.paired.specs.Pair.{AreApart}
 use Rattle.paired.proofs.PairSynced.{Here}
+use Rattle.paired.proofs.ReconcileResting.{Rests, index_number, index_key, paged, index_rest, values_rest, values_absent}
 use Rattle.paired.proofs.ReplayLemmas.{records_of_items}
 
 -- ---- a blob at rest
@@ -89,39 +88,21 @@ kept_as l old image markers s there records_same values =
     }
 
 -- ---- a moment of the walk
-module _ {F S : Type 0} {gs : _} {g : buffer.Ghosts (PageBlob S gs)} {gives : F → Setting} {takes : WriteFactory → Setting} {told : Type 0} {opened : OpenedList} (run : Run F (PageBlob S gs)) (d x : Disk)
-    (are : ArePages g run.layout.seal) (here : Here gives (pair_of run)) (over : IsRun run g gives buffers takes told opened d) (tracked : run.tracked ≡ true) (t : told)
-    (reads_so : (q : Key) → MayLeave (d q) (reads (d q))) (may_open : MayBeOpened run.layout d) (moment : Each (Replaying run.layout.seal run.layout.record_size run.walk d) x) where
-  opening : IsOpeningRun run g told d
-  opening = over.opening tracked
-
-  small_held : (s : ℕ) → IsHeld run.walk.journal.sections s → s < 2 ^ 64
-  small_held s held = over.index.over.opened_list.number s (inl held)
-
-  key_is : (s : ℕ) → key_of run.walk.journal.sections s ≡ section_key run.layout.index s
-  key_is s = ap (λ (p : List ℕ). section_key p s) here.index
-
-  value_key_is : (s : ℕ) → key_of run.values s ≡ section_key run.layout.values s
-  value_key_is s = ap (λ (p : List ℕ). section_key p s) here.values
-
-  page_is : (s : ℕ) (u : PageBlob S gs) → run.walk.journal.sections.held s ≡ Some u → u.page_size ≡ run.layout.page_size
-  page_is s u held = sym (are.page_size u) ∙ ap (λ (z : Setting). z.page_size) (over.index.over.opened_list.setting s u held) ∙ here.page_size
-
-  idle : (s : ℕ) (u : PageBlob S gs) → run.walk.journal.sections.held s ≡ Some u → is_unsettled (shown u) ≡ false
-  idle s u held = sym (are.unsettled u) ∙ opening.index_settled s u held
-
-  index_rests : (s : ℕ) (u : PageBlob S gs) → run.walk.journal.sections.held s ≡ Some u → IsAtRest (d (section_key run.layout.index s))
-  index_rests s u held = subst (λ (q : Key). IsAtRest (d q)) (key_is s)
-      (rested run.layout.seal (shown u) (d (key_of run.walk.journal.sections s)) (are.stands u (d (key_of run.walk.journal.sections s)) ((over.index.over.disk t).stands s u held)) (idle s u held))
+-- Over parts that are at rest: whether by markers, up to a ceiling or neither.
+module _ {F S : Type 0} {gs : _} {g : buffer.Ghosts (PageBlob S gs)} {gives : F → Setting} {takes : WriteFactory → Setting} {told : Type 0} {opened : OpenedList} (l : Layout) (w : Walk F (PageBlob S gs)) (m : Sections WriteFactory WriteBlob) (d x : Disk)
+    (rests : Rests g gives takes told l w.journal.sections m opened d) (apart : AreApart l) (t : told)
+    (reads_so : (q : Key) → MayLeave (d q) (reads (d q))) (may_open : MayBeOpened l d) (moment : Each (Replaying l.seal l.record_size w d) x) where
+  idle : (s : ℕ) (u : PageBlob S gs) → w.journal.sections.held s ≡ Some u → is_unsettled (shown u) ≡ false
+  idle s u held = sym (rests.pages.unsettled u) ∙ rests.index_settled s u held
 
   -- no blob changes but those of held sections
-  others : (q : Key) → (IsIndexOf run.layout (λ s. IsTrue (is_some (run.walk.journal.sections.held s))) q → ⊥) → x q ≡ d q
-  others q not = (moment q).others (λ own. not (own.0, small_held own.0 own.1.0, own.1.0, own.2 ∙ key_is own.0))
+  others : (q : Key) → (IsIndexOf l (λ s. IsTrue (is_some (w.journal.sections.held s))) q → ⊥) → x q ≡ d q
+  others q not = (moment q).others (λ own. not (own.0, index_number rests own.0 own.1.0, own.1.0, own.2 ∙ index_key rests own.0))
 
   abbrev IsChanged : ℕ → Bool
-  IsChanged s = is_some (run.walk.journal.sections.held s)
+  IsChanged s = is_some (w.journal.sections.held s)
 
-  phase : IsPhase run.layout over.apart d x IsChanged false
+  phase : IsPhase l apart d x IsChanged false
   phase = record {
     readable = λ q own. reads_so q;
     no_chance = may_open.no_chance;
@@ -130,74 +111,96 @@ module _ {F S : Type 0} {gs : _} {g : buffer.Ghosts (PageBlob S gs)} {gives : F 
 
   -- ---- the records of a held section
   abbrev sealed : ℕ → List ℕ
-  sealed s = sealed_prefix run.layout.seal run.layout.page_size (d (section_key run.layout.index s)).content
+  sealed s = sealed_prefix l.seal l.page_size (d (section_key l.index s)).content
 
-  module _ (image : Image) (crash : IsCrashOf x image) (fresh : NoChanceSeal run.layout x image) (s : ℕ) (small : s < 2 ^ 64) where
+  module _ (image : Image) (crash : IsCrashOf x image) (fresh : NoChanceSeal l x image) (s : ℕ) (small : s < 2 ^ 64) where
     abbrev IsIndexKept : Type 0
-    IsIndexKept = IsSome (image (section_key run.layout.index s)) × (stored_records run.layout image s ≡ records run.layout.record_size (sealed s))
+    IsIndexKept = IsSome (image (section_key l.index s)) × (stored_records l image s ≡ records l.record_size (sealed s))
 
-    as_it_was : (u : PageBlob S gs) → run.walk.journal.sections.held s ≡ Some u → x (section_key run.layout.index s) ≡ d (section_key run.layout.index s) → IsIndexKept
+    as_it_was : (u : PageBlob S gs) → w.journal.sections.held s ≡ Some u → x (section_key l.index s) ≡ d (section_key l.index s) → IsIndexKept
     as_it_was u held same =
-        let is : image (section_key run.layout.index s) ≡ Some (d (section_key run.layout.index s)).content =
-        rest_left (d (section_key run.layout.index s)) (index_rests s u held) (image (section_key run.layout.index s)) (subst (λ (b : Blob). MayLeave b (image (section_key run.layout.index s))) same (crash (section_key run.layout.index s))) in (
+        let is : image (section_key l.index s) ≡ Some (d (section_key l.index s)).content =
+        rest_left (d (section_key l.index s)) (index_rest rests t s u held) (image (section_key l.index s)) (subst (λ (b : Blob). MayLeave b (image (section_key l.index s))) same (crash (section_key l.index s))) in (
           subst IsSome (sym is) refl,
-          ap (λ (o : Option (List ℕ)). records run.layout.record_size (sealed_prefix run.layout.seal run.layout.page_size (unwrap_or o []))) is,
+          ap (λ (o : Option (List ℕ)). records l.record_size (sealed_prefix l.seal l.page_size (unwrap_or o []))) is,
         )
 
-    cut_back : pages.Leaves run.layout.seal run.layout.page_size (sealed s) (length (sealed s) / run.layout.record_size * run.layout.record_size) (x (section_key run.layout.index s)) → IsIndexKept
+    cut_back : pages.Leaves l.seal l.page_size (sealed s) (length (sealed s) / l.record_size * l.record_size) (x (section_key l.index s)) → IsIndexKept
     cut_back leaves =
-        let left = prefix_left run.layout.seal run.layout.page_size (sealed s) (length (sealed s) / run.layout.record_size * run.layout.record_size) (x (section_key run.layout.index s)) (image (section_key run.layout.index s))
-        (crash (section_key run.layout.index s)) leaves (fresh.slots s small) in
-        (left.0, by_prefix run.layout.seal run.layout.page_size run.layout.record_size (sealed s) (content_at image run.layout.index s) here.some left.1)
+        let left = prefix_left l.seal l.page_size (sealed s) (length (sealed s) / l.record_size * l.record_size) (x (section_key l.index s)) (image (section_key l.index s))
+        (crash (section_key l.index s)) leaves (fresh.slots s small) in
+        (left.0, by_prefix l.seal l.page_size l.record_size (sealed s) (content_at image l.index s) rests.some left.1)
 
     abbrev LeavesAt : Key → ℕ → Type 0
-    LeavesAt q P = pages.Leaves run.layout.seal P (sealed_prefix run.layout.seal P (d q).content) (length (sealed_prefix run.layout.seal P (d q).content) / run.layout.record_size * run.layout.record_size) (x q)
+    LeavesAt q P = pages.Leaves l.seal P (sealed_prefix l.seal P (d q).content) (length (sealed_prefix l.seal P (d q).content) / l.record_size * l.record_size) (x q)
 
-    index_kept : (u : PageBlob S gs) → run.walk.journal.sections.held s ≡ Some u → IsIndexKept
-    index_kept u held = elim (cases_Bool (run.walk.journal.unrecovered s)) [
-      | inr free ↦ as_it_was u held (subst (λ (q : Key). x q ≡ d q) (key_is s)
-          ((moment (key_of run.walk.journal.sections s)).still s u held (all_settled (shown u) (idle s u held), inl free) refl))
-      | inl owed ↦ elim ((moment (key_of run.walk.journal.sections s)).cut s u held owed refl) [
-        | inl same ↦ as_it_was u held (subst (λ (q : Key). x q ≡ d q) (key_is s) same)
-        | inr cut ↦ cut_back (subst (λ (q : Key). LeavesAt q run.layout.page_size) (key_is s) (subst (LeavesAt (key_of run.walk.journal.sections s)) (page_is s u held) cut.1))
+    index_kept : (u : PageBlob S gs) → w.journal.sections.held s ≡ Some u → IsIndexKept
+    index_kept u held = elim (cases_Bool (w.journal.unrecovered s)) [
+      | inr free ↦ as_it_was u held (subst (λ (q : Key). x q ≡ d q) (index_key rests s)
+          ((moment (key_of w.journal.sections s)).still s u held (all_settled (shown u) (idle s u held), inl free) refl))
+      | inl owed ↦ elim ((moment (key_of w.journal.sections s)).cut s u held owed refl) [
+        | inl same ↦ as_it_was u held (subst (λ (q : Key). x q ≡ d q) (index_key rests s) same)
+        | inr cut ↦ cut_back (subst (λ (q : Key). LeavesAt q l.page_size) (index_key rests s) (subst (LeavesAt (key_of w.journal.sections s)) (paged rests s u held) cut.1))
       ]
     ]
 
     -- ---- its values
-    values_same : x (section_key run.layout.values s) ≡ d (section_key run.layout.values s)
-    values_same = others (section_key run.layout.values s) (λ own. over.apart.values (sym (ap (λ (k : Key). k.0) own.3)))
+    values_same : x (section_key l.values s) ≡ d (section_key l.values s)
+    values_same = others (section_key l.values s) (λ own. apart.values (sym (ap (λ (k : Key). k.0) own.3)))
 
-    values_left : MayLeave (d (section_key run.layout.values s)) (image (section_key run.layout.values s))
-    values_left = subst (λ (b : Blob). MayLeave b (image (section_key run.layout.values s))) values_same (crash (section_key run.layout.values s))
+    values_left : MayLeave (d (section_key l.values s)) (image (section_key l.values s))
+    values_left = subst (λ (b : Blob). MayLeave b (image (section_key l.values s))) values_same (crash (section_key l.values s))
 
-    values_kept : content_at image run.layout.values s ≡ unwrap_or (reads (d (section_key run.layout.values s))) []
-    values_kept = elim (none_or_value (run.values.held s)) [
+    values_kept : content_at image l.values s ≡ unwrap_or (reads (d (section_key l.values s))) []
+    values_kept = elim (none_or_value (m.held s)) [
       | inl none ↦
-          let gone : (d (section_key run.layout.values s)).there ≡ false = subst (λ (q : Key). (d q).there ≡ false) (value_key_is s) (not_there run.values opened d over.values.over t s small none (opening.values_known s)) in
-          nothing_left (d (section_key run.layout.values s)) (may_open.values_absent s small gone) (image (section_key run.layout.values s)) values_left ∙ sym (absent_reads (d (section_key run.layout.values s)) gone)
+          let gone : (d (section_key l.values s)).there ≡ false = values_absent rests t s small none in
+          nothing_left (d (section_key l.values s)) (may_open.values_absent s small gone) (image (section_key l.values s)) values_left ∙ sym (absent_reads (d (section_key l.values s)) gone)
       | inr some ↦
-          let all = value_of (run.values.held s) (λ (u : WriteBlob). (u.settled ≡ unsealed.count_of u) × (unsealed.is_unsettled u ≡ false)) (opening.values_settled s (subst IsSome (sym some.1) refl)) in
-          let rests : IsAtRest (d (section_key run.layout.values s)) = subst (λ (q : Key). IsAtRest (d q)) (value_key_is s)
-          (values_rested all.value (d (key_of run.values s)) ((over.values.over.disk t).stands s all.value all.is) all.has.1) in
-          ap (λ (o : Option (List ℕ)). unwrap_or o []) (rest_left (d (section_key run.layout.values s)) rests (image (section_key run.layout.values s)) values_left ∙ sym (rest_reads (d (section_key run.layout.values s)) rests))
+          let rest : IsAtRest (d (section_key l.values s)) = (values_rest rests t s some.0 some.1).0 in
+          ap (λ (o : Option (List ℕ)). unwrap_or o []) (rest_left (d (section_key l.values s)) rest (image (section_key l.values s)) values_left ∙ sym (rest_reads (d (section_key l.values s)) rest))
     ]
 
     -- ---- both, against what was
-    section_kept : (old : Image) → IsBack run.layout over.apart d x IsChanged false image old → (markers : Markers) → IsTrue (IsChanged s) → KeptHere run.layout old image markers s
-    section_kept old back markers changed = elim (none_or_value (run.walk.journal.sections.held s)) [
+    section_kept : (old : Image) → IsBack l apart d x IsChanged false image old → (markers : Markers) → IsTrue (IsChanged s) → KeptHere l old image markers s
+    section_kept old back markers changed = elim (none_or_value (w.journal.sections.held s)) [
       | inl none ↦ absurd (cc (subst IsSome none changed))
       | inr some ↦
           let now = index_kept some.0 some.1 in
-          let was : old (section_key run.layout.index s) ≡ Some (d (section_key run.layout.index s)).content =
-          back.own (section_key run.layout.index s) (inl (s, small, changed, refl)) ∙ rest_reads (d (section_key run.layout.index s)) (index_rests s some.0 some.1) in
-          kept_as run.layout old image markers s (λ there. now.0)
-          (now.1 ∙ sym (ap (λ (o : Option (List ℕ)). records run.layout.record_size (sealed_prefix run.layout.seal run.layout.page_size (unwrap_or o []))) was))
-          (values_kept ∙ sym (ap (λ (o : Option (List ℕ)). unwrap_or o []) (back.own (section_key run.layout.values s) (inr (inl (s, small, changed, refl))))))
+          let was : old (section_key l.index s) ≡ Some (d (section_key l.index s)).content =
+          back.own (section_key l.index s) (inl (s, small, changed, refl)) ∙ rest_reads (d (section_key l.index s)) (index_rest rests t s some.0 some.1) in
+          kept_as l old image markers s (λ there. now.0)
+          (now.1 ∙ sym (ap (λ (o : Option (List ℕ)). records l.record_size (sealed_prefix l.seal l.page_size (unwrap_or o []))) was))
+          (values_kept ∙ sym (ap (λ (o : Option (List ℕ)). unwrap_or o []) (back.own (section_key l.values s) (inr (inl (s, small, changed, refl))))))
     ]
 
   -- At a moment of a replay each crash keeps what one before it would have kept.
-  pub replaying_recalls : RecallsAlone run.layout (IsIndexOf run.layout (λ _. ⊤)) d x
-  replaying_recalls = record {
-    recalls = sections_of run.layout over.apart d x IsChanged false phase refl (λ image old crash fresh back markers lawful s small changed. section_kept image crash fresh s small old back markers changed);
+  pub walk_recalls : RecallsAlone l (IsIndexOf l (λ _. ⊤)) d x
+  walk_recalls = record {
+    recalls = sections_of l apart d x IsChanged false phase refl (λ image old crash fresh back markers lawful s small changed. section_kept image crash fresh s small old back markers changed);
     others = λ q not. others q (λ own. not (own.0, own.1, tt, own.3));
   }
+
+-- so it is in an opening by markers
+module _ {F S : Type 0} {gs : _} {g : buffer.Ghosts (PageBlob S gs)} {gives : F → Setting} {takes : WriteFactory → Setting} {told : Type 0} {opened : OpenedList} (run : Run F (PageBlob S gs)) (d x : Disk)
+    (are : ArePages g run.layout.seal) (here : Here gives (pair_of run)) (over : IsRun run g gives buffers takes told opened d) (tracked : run.tracked ≡ true) (t : told)
+    (reads_so : (q : Key) → MayLeave (d q) (reads (d q))) (may_open : MayBeOpened run.layout d) (moment : Each (Replaying run.layout.seal run.layout.record_size run.walk d) x) where
+  opening : IsOpeningRun run g told d
+  opening = over.opening tracked
+
+  run_rests : Rests g gives takes told run.layout run.walk.journal.sections run.values opened d
+  run_rests = record {
+    pages = are;
+    index = over.index.over;
+    index_settled = opening.index_settled;
+    index_here = here.index;
+    page_size = here.page_size;
+    some = here.some;
+    values = over.values;
+    values_settled = opening.values_settled;
+    values_known = opening.values_known;
+    values_here = here.values;
+  }
+
+  pub replaying_recalls : RecallsAlone run.layout (IsIndexOf run.layout (λ _. ⊤)) d x
+  replaying_recalls = walk_recalls run.layout run.walk run.values d x run_rests over.apart t reads_so may_open moment

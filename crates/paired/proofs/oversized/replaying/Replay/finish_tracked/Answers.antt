@@ -70,7 +70,7 @@ cut_values-requires g c =
     let cuts = c.in_ok-index.ensures in
     let cut = as_cut a e j0 k o1 b (record { over = cuts.over; proven = cuts.proven; cut = cuts.cut; sizes = cuts.sizes; others = cuts.others; held = cuts.held; unopened = cuts.unopened; settled = cuts.settled; bounds = cuts.bounds; moments = c.cut_records.ensures.moments; entries = c.cut_records.ensures.entries }) in
     let joint1 = cut_joint a e j0 back k o1 b cut (λ t q. g.met.D.Device.as_read t c.cut_records.new.dev q) in
-    record { over = joint1.rests.journal; values = joint1.rests.values; proven = joint1.rests.proven; floors = (cuts.bounds.floor ∙ ap (λ x. x.floor) back_says.sections ∙ (opening e).index_floor, (opening e).values_floor); apart = λ is. e.over.apart.values (sym joint1.rests.index_here ∙ is ∙ e.here.values) }
+    record { over = joint1.rests.journal; values = joint1.rests.parts.values; proven = joint1.rests.proven; floors = (cuts.bounds.floor ∙ ap (λ x. x.floor) back_says.sections ∙ (opening e).index_floor, (opening e).values_floor); apart = λ is. e.over.apart.values (sym joint1.rests.parts.index_here ∙ is ∙ e.here.values) }
 
 pub remove_values-requires : goal.remove_values-requires
 remove_values-requires g c =
@@ -164,7 +164,7 @@ move_markers-requires g c =
     let after = tracked.shown c.note_synced.new.tracking in
     let notes = notes_of run k after (Contains c.as_slice-2.result.now) (subst (λ xs. (s : ℕ) → Contains xs s ↔ IsHeld k.sections s) (sym c.as_slice-2.ensures.value) c.in_ok-held.ensures.each) c.note_synced.ensures.store c.in_ok-note_synced.ensures.trails c.in_ok-note_synced.ensures.named c.in_ok-note_synced.ensures.others (opening e).trailing in
     let q = made (pair_of run) k n after.trailing k.sections.partition n.partition after.store.partition k.sections.factory.pages.page_size after.store in
-    let same : pair_with run k n after.trailing ≡ q = noted_same page_setting run k n after.store after.trailing after.store.partition k.sections.factory.pages.page_size joint3.rests.index_here joint3.rests.values_here (ap (λ u. u.partition) c.note_synced.ensures.store) joint3.rests.page_size c.note_synced.ensures.store in
+    let same : pair_with run k n after.trailing ≡ q = noted_same page_setting run k n after.store after.trailing after.store.partition k.sections.factory.pages.page_size joint3.rests.parts.index_here joint3.rests.parts.values_here (ap (λ u. u.partition) c.note_synced.ensures.store) joint3.rests.parts.page_size c.note_synced.ensures.store in
     record { over = pair_is a e k n o3 f did after.trailing notes q same (λ _. ⊥) (λ s is. is) }
 
 pub returns-then-not-self : goal.returns-then-not-self
@@ -735,7 +735,7 @@ returns g c =
     let after = tracked.shown c.note_synced.new.tracking in
     let notes = notes_of run k after (Contains c.as_slice-2.result.now) (subst (λ xs. (s : ℕ) → Contains xs s ↔ IsHeld k.sections s) (sym c.as_slice-2.ensures.value) c.in_ok-held.ensures.each) c.note_synced.ensures.store c.in_ok-note_synced.ensures.trails c.in_ok-note_synced.ensures.named c.in_ok-note_synced.ensures.others (opening e).trailing in
     let q = made (pair_of run) k n after.trailing k.sections.partition n.partition after.store.partition k.sections.factory.pages.page_size after.store in
-    let same : pair_with run k n after.trailing ≡ q = noted_same page_setting run k n after.store after.trailing after.store.partition k.sections.factory.pages.page_size joint3.rests.index_here joint3.rests.values_here (ap (λ u. u.partition) c.note_synced.ensures.store) joint3.rests.page_size c.note_synced.ensures.store in
+    let same : pair_with run k n after.trailing ≡ q = noted_same page_setting run k n after.store after.trailing after.store.partition k.sections.factory.pages.page_size joint3.rests.parts.index_here joint3.rests.parts.values_here (ap (λ u. u.partition) c.note_synced.ensures.store) joint3.rests.parts.page_size c.note_synced.ensures.store in
     let h = g.D.Device.time c.move_markers.new.dev in
     let r = c.move_markers.result in
     let says = c.move_markers.ensures in
