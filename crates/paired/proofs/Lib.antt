@@ -44,6 +44,8 @@ pub mod ReconcileResting
 pub mod ReconcileStart
 pub mod ReconcilePhases
 pub mod Steps
+pub mod Ends
+pub mod CutSteps
 pub mod ReconcileLeft
 pub mod ReconcileStages
 pub mod ReconcileJoints

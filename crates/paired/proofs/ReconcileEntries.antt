@@ -34,8 +34,8 @@ use Rattle.paired.proofs.GlobLemmas.{buffers}
 use Rattle.paired.proofs.PairSynced.{Here, page_setting, made, pair_as}
 use Rattle.paired.proofs.ReconcileResting.{index_number, values_number, index_key, values_key}
 use Rattle.paired.proofs.ReconcileStart.{Drained, GaveBack, opening, back_rests}
-use Rattle.paired.proofs.ReconcileStages.{Joint, not_of_none}
-use Rattle.paired.proofs.ReconcileJoints.{RecordsCut, ValuesCut, ValuesRemoved}
+use Rattle.paired.proofs.Ends.{RecordsCut, ValuesCut, ValuesRemoved, not_of_none}
+use Rattle.paired.proofs.ReconcileStages.{Joint}
 use Rattle.paired.proofs.ReconcilePair.{Notes, pair_with}
 
 -- ---- the replay at its end
@@ -64,10 +64,10 @@ module _ {F S : Type 0} {gs : _} {g : buffer.Ghosts (PageBlob S gs)} {gives : F 
   pub as_back : (j : Lists F (PageBlob S gs)) → GaveBack run j → GaveBack run j
   as_back j is = is
 
-  pub as_cut : (j k : Lists F (PageBlob S gs)) (o1 : OpenedList) (b : Timeline) → RecordsCut g gives told run j k o o1 a b → RecordsCut g gives told run j k o o1 a b
+  pub as_cut : (j k : Lists F (PageBlob S gs)) (o1 : OpenedList) (b : Timeline) → RecordsCut g gives told run.layout run.ends j k o o1 a b → RecordsCut g gives told run.layout run.ends j k o o1 a b
   as_cut j k o1 b is = is
 
-  pub as_trim : (k : Lists F (PageBlob S gs)) (m : Sections WriteFactory WriteBlob) (o1 o2 : OpenedList) (b c : Timeline) → ValuesCut g gives takes told run k run.values m o1 o2 b c → ValuesCut g gives takes told run k run.values m o1 o2 b c
+  pub as_trim : (k : Lists F (PageBlob S gs)) (m : Sections WriteFactory WriteBlob) (o1 o2 : OpenedList) (b c : Timeline) → ValuesCut g gives takes told run.layout k run.values m o1 o2 b c → ValuesCut g gives takes told run.layout k run.values m o1 o2 b c
   as_trim k m o1 o2 b c is = is
 
   pub as_removed : (Doomed : ℕ → Type 0) (m n : Sections WriteFactory WriteBlob) (o2 o3 : OpenedList) (c f : Timeline) → ValuesRemoved takes told Doomed m n o2 o3 c f → ValuesRemoved takes told Doomed m n o2 o3 c f

@@ -39,7 +39,7 @@ use Rattle.paired.proofs.OpeningEnds.{marked_is, marked_or_zero}
 use Rattle.paired.proofs.PairFailing.{failed_before}
 use Rattle.paired.proofs.RecordLemmas.{length-records}
 use Rattle.paired.proofs.ReconcileResting.{index_number, none_stored}
-use Rattle.paired.proofs.ReconcileStages.{none_of_not}
+use Rattle.paired.proofs.Ends.{none_of_not}
 use Rattle.paired.proofs.ReconcileStart.{Drained, GaveBack, opening, walk_unfailed, back_rests, end_of, given_all, given_to, given_good, over_records, over_stored}
 
 abbrev answer : (T : Type 0) → Error → Result T Error

@@ -35,7 +35,7 @@ use Rattle.paired.proofs.PairSynced.{end_within}
 use Rattle.paired.proofs.RecordLemmas.{all_with, all_by, map-same}
 use Rattle.paired.proofs.ReconcileResting.{value_idle, none_of}
 use Rattle.paired.proofs.ReconcileStart.{Drained, GaveBack, end_of as ending_of, given_all, given_to, given_whole, over_stored, over_sound, kept_given, kept_stored}
-use Rattle.paired.proofs.ReconcileStages.{none_of_not, not_of_none}
+use Rattle.paired.proofs.Ends.{none_of_not, not_of_none}
 use Rattle.paired.proofs.ReconcilePair.{Reconciled, Notes, pair_with}
 
 -- ---- places

@@ -1,7 +1,7 @@
 -- The pair at the end of an opening, before its markers move: it may be used, and what its markers will be.
 use Rattle.std.proofs.Common.{◌≡◌, ◌↔◌, ◌⊎◌, inl, inr, ℕ, ◌*◌, ◌/◌, ◌^◌, ◌<◌, ◌≤◌, length, take, Option, None, Some, unwrap_or, sym, ◌∙◌, ap, subst, arith}
 use Rattle.std.specs.Prelude.{is_some, ◌≢◌}
-use Rattle.std.proofs.lemmas.Nat.{div_below, le-div}
+use Rattle.std.proofs.lemmas.Nat.{mul-le, div_below, le-div}
 use Rattle.std.proofs.Math.Nat.{div-mul-le_self}
 use Rattle.blob_device.specs.Disk.{Key, Disk, nothing}
 use Rattle.blob_device.specs.Opened.{OpenedList}
@@ -28,9 +28,10 @@ use Rattle.paired.proofs.GlobLemmas.{buffers}
 use Rattle.paired.proofs.OpeningEnds.{marked_is, marked_or_zero}
 use Rattle.paired.proofs.RecordLemmas.{length-records}
 use Rattle.paired.proofs.ReconcileResting.{index_number, all_of, values_key}
-use Rattle.paired.proofs.ReconcileStart.{Drained, GaveBack, opening, walk_unfailed}
-use Rattle.paired.proofs.ReconcileStages.{Joint, not_of_none}
-use Rattle.paired.proofs.ReconcileJoints.{RecordsCut, ValuesCut, ValuesRemoved, cut_bounds, cut_opened, cut_reached, cut_values_same, trim_opened, removed_opened, removed_held}
+use Rattle.paired.proofs.ReconcileStart.{Drained, GaveBack, opening, walk_unfailed, ends_of}
+use Rattle.paired.proofs.Ends.{RecordsCut, ValuesCut, ValuesRemoved, not_of_none}
+use Rattle.paired.proofs.ReconcileStages.{Joint}
+use Rattle.paired.proofs.ReconcileJoints.{cut_bounds, cut_opened, cut_values_same, trim_opened, removed_opened, removed_held}
 
 no_length : (size : ℕ) → 1 ≤ size → 0 / size ≡ 0
 no_length size pos = omega (arith, div_below 0 size 1 (omega (arith, pos)) (omega (arith, pos)))
@@ -57,23 +58,33 @@ abbrev pub pair_with : {F B : Type 0} → Run F B → Lists F B → Sections Wri
 pair_with run j n trailing = record { layout = run.layout; index = j; values = n; store = run.store; trailing = trailing }
 
 module _ {F S : Type 0} {gs : _} {g : buffer.Ghosts (PageBlob S gs)} {gives : F → Setting} {takes : WriteFactory → Setting} {told : Type 0} {run : Run F (PageBlob S gs)} {o : OpenedList} (a : Timeline) (e : Drained g gives takes told run o (disk a)) where
+  -- no section ends below its marker
+  cut_reached : (j : Lists F (PageBlob S gs)) (back : GaveBack run j) (k : Lists F (PageBlob S gs)) (o1 : OpenedList) (b : Timeline) → RecordsCut g gives told run.layout run.ends j k o o1 a b → (s : ℕ) → marker run s * run.layout.record_size ≤ fixed.section_size k.sections s
+  cut_reached j back k o1 b did s =
+      let floor : marker run s * run.layout.record_size ≤ fixed.section_size j.sections s =
+      subst (λ (m : Sections F (PageBlob S gs)). marker run s * run.layout.record_size ≤ fixed.section_size m s) (sym back.sections) (omega (arith, (opening e).floors s, (opening e).reached (walk_unfailed e) s)) in
+      elim (none_or_value (run.ends s)) [
+        | inl none ↦ omega (arith, floor, ap fixed.size_held (did.others s none).held)
+        | inr some ↦ omega (arith, floor, did.sizes s some.0 some.1, mul-le (marker run s) run.layout.record_size some.0 run.layout.record_size ((opening e).ends_from s some.0 some.1).1 (omega arith))
+      ]
+
   -- ---- the three stages together
-  pub reconciled_of : (j : Lists F (PageBlob S gs)) (back : GaveBack run j) (k : Lists F (PageBlob S gs)) (o1 : OpenedList) (b : Timeline) (did : RecordsCut g gives told run j k o o1 a b) (joint : Joint g gives takes told run (disk a) k run.values o1 (disk b))
-      (m : Sections WriteFactory WriteBlob) (o2 : OpenedList) (c : Timeline) (trims : ValuesCut g gives takes told run k run.values m o1 o2 b c) (joint_c : Joint g gives takes told run (disk a) k m o2 (disk c))
+  pub reconciled_of : (j : Lists F (PageBlob S gs)) (back : GaveBack run j) (k : Lists F (PageBlob S gs)) (o1 : OpenedList) (b : Timeline) (did : RecordsCut g gives told run.layout run.ends j k o o1 a b) (joint : Joint g gives takes told run (disk a) k run.values o1 (disk b))
+      (m : Sections WriteFactory WriteBlob) (o2 : OpenedList) (c : Timeline) (trims : ValuesCut g gives takes told run.layout k run.values m o1 o2 b c) (joint_c : Joint g gives takes told run (disk a) k m o2 (disk c))
       (Doomed : ℕ → Type 0) (decides : (s : ℕ) → Doomed s ⊎ (Doomed s → ⊥)) (doomed : (s : ℕ) → Doomed s ↔ (IsHeld m s × (IsHeld k.sections s → ⊥))) (n : Sections WriteFactory WriteBlob) (o3 : OpenedList) (f : Timeline)
       (removes : ValuesRemoved takes told Doomed m n o2 o3 c f) (joint_f : Joint g gives takes told run (disk a) k n o3 (disk f)) → Reconciled g gives takes told run (disk a) k n o3 (disk f)
   reconciled_of j back k o1 b did joint m o2 c trims joint_c Doomed decides doomed n o3 f removes joint_f = record {
     joint = joint_f;
-    reached = cut_reached a e j back k o1 b did joint.readable;
-    index_bounds = cut_bounds a e j back k o1 b did joint.readable;
+    reached = cut_reached j back k o1 b did;
+    index_bounds = cut_bounds a (ends_of e j back) k o1 b did joint.readable;
     values_bounds = same_bounds run.values m n trims.bounds removes.bounds;
-    values_held = λ s. (let both = removed_held a e c k m o2 joint_c Doomed decides doomed n o3 f removes joint_f.readable s in
+    values_held = λ s. (let both = removed_held a (ends_of e j back) c k m o2 joint_c Doomed decides doomed n o3 f removes joint_f.readable s in
         (λ has. ((trims.held s).0 (both.0 has).0, (both.0 has).1), λ has. both.1 ((trims.held s).1 has.0, has.1)));
-    opened = removed_opened a e c k m o2 joint_c Doomed decides doomed n o3 f removes joint_f.readable (trim_opened a e b k o1 joint m o2 c trims joint_c.readable (cut_opened a e j back k o1 b did joint.readable));
+    opened = removed_opened a (ends_of e j back) c k m o2 joint_c Doomed decides doomed n o3 f removes joint_f.readable (trim_opened a (ends_of e j back) b k o1 joint m o2 c trims joint_c.readable (cut_opened a (ends_of e j back) k o1 b did joint.readable e.over.metadata_opened));
     values = λ t s has.
         let held : IsHeld k.sections s = (joint.held s).1 has in
         removes.bytes t s (λ is. ((doomed s).0 is).1 held) ∙ trims.cut t s held
-        ∙ (λ i. take (last_end run.layout.place (joint.records t s i)) (cut_values_same a e j back k o1 b did joint.readable t s i));
+        ∙ (λ i. take (last_end run.layout.place (joint.records t s i)) (cut_values_same a (ends_of e j back) k o1 b did joint.readable t s i));
     orphans = λ t s has none.
         let was : IsHeld m s = (trims.held s).1 has in
         let is : Doomed s = (doomed s).1 (was, λ held. not_of_none (run.walk.journal.sections.held s) none ((joint.held s).0 held)) in

@@ -38,17 +38,15 @@ use Rattle.paired.specs.Crashes.{IsIndexOf, IsValuesOf}
 use Rattle.paired.specs.GlobLasting.{Cutting, Outlasts, settled_to}
 use Rattle.paired.specs.GlobSections as glob
 use Rattle.paired.specs.Kept.{Layout, Markers, marker_of, content_at, stored_records, is_sound_in, kept}
-use Rattle.paired.specs.Opening.{as_read, IsLawful, MayBeOpened, Recalls}
+use Rattle.paired.specs.Opening.{as_read, IsLawful, MayBeOpened, Relation, IsOrder, RecallsBy}
 use Rattle.paired.specs.Pair.{AreApart, HasNoBytes}
 use Rattle.paired.specs.Places.{last_end}
 use Rattle.paired.specs.Reconciling.{CutTo, EndOf, Shortening}
 use Rattle.paired.specs.Records.{records, front}
-use Rattle.paired.specs.Replaying.{Run, IsGood, marker}
-use Rattle.paired.proofs.OpeningEnds.{IsGoodAt}
-use Rattle.paired.proofs.OpeningPhases.{IsPhase, IsShortened, IsTrimmed, IsBare, HasMarkers, not_copy, records_phase, values_phase}
+use Rattle.paired.proofs.OpeningPhases.{IsPhase, IsCut, IsTrimmed, IsBare, HasMarkers, not_copy, records_by, values_by}
 use Rattle.paired.proofs.RecordLemmas.{length-records, item_ends}
 use Rattle.paired.proofs.ReconcileResting.{Resting, index_number, values_number, index_key, values_key, paged, all_of, value_idle, index_settles, index_rest, index_absent, stored_at, none_stored, values_rest, values_absent, frames_at, copy_rest, rests_no_chance, rest_left, rest_there, left_bare, reads_there, reads_absent}
-use Rattle.paired.proofs.ReconcileStart.{Drained, GaveBack, end_of, back_rests, over_records, over_stored, over_sound}
+use Rattle.paired.proofs.Ends.{Bare, Ends}
 
 -- ---- small facts
 pub some_or_none : {T : Type 0} (o : Option T) → (is_some o ≡ true) ⊎ (o ≡ None)
@@ -83,11 +81,6 @@ ends_both : {S : Type 0} {gs : _} (y : Option (PageBlob S gs)) (v : Option Write
 ends_both None v n is = absurd is
 ends_both (Some w) None n is = absurd is
 ends_both (Some w) (Some v) n is = (refl, refl)
-
--- no crash brings bytes back into the blobs of sections that are not held
-pub record Bare {F B : Type 0} (l : Layout) (j : Lists F B) (m : Sections WriteFactory WriteBlob) (d : Disk) : Type 0 where
-  pub index : (s : ℕ) → s < 2 ^ 64 → j.sections.held s ≡ None → HasNoBytes (d (section_key l.index s))
-  pub values : (s : ℕ) → s < 2 ^ 64 → m.held s ≡ None → HasNoBytes (d (section_key l.values s))
 
 module _ {F S : Type 0} {gs : _} {g : buffer.Ghosts (PageBlob S gs)} {gives : F → Setting} {takes : WriteFactory → Setting} {told : Type 0} {l : Layout}
     {j : Lists F (PageBlob S gs)} {m : Sections WriteFactory WriteBlob} {u : Store Key8 ℕ} {o : OpenedList} {d : Disk} (rests : Resting g gives takes told l j m u o d) (t : told) where
@@ -220,8 +213,8 @@ module _ {F S : Type 0} {gs : _} {g : buffer.Ghosts (PageBlob S gs)} {gives : F 
         index = λ left may. rest_left (d (section_key l.index s)) (rest_of s held) left (subst (λ (b : Blob). MayLeave b left) (index_still s) may);
       }
 
-      pub cutting_recalls : Recalls l d x
-      cutting_recalls = values_phase l apart d x (λ s. is_some (j.sections.held s)) false trimming refl (λ s. marker_of u.entries s) (has_markers map_readable apart x (λ s. is_some (j.sections.held s)) trimming)
+      pub cutting_recalls : (Rel : Relation) → IsOrder Rel → RecallsBy l Rel d x
+      cutting_recalls Rel order = values_by l apart d x (λ s. is_some (j.sections.held s)) false trimming Rel order refl (λ s. marker_of u.entries s) (has_markers map_readable apart x (λ s. is_some (j.sections.held s)) trimming)
           (λ s small changed. inl (trimmed s small changed))
 
   -- ---- values without records are removed
@@ -248,78 +241,67 @@ module _ {F S : Type 0} {gs : _} {g : buffer.Ghosts (PageBlob S gs)} {gives : F 
               ∙ stored_at rests t s small ∙ none_stored rests t s none;
         }
 
-    pub removing_recalls : Recalls l d x
-    removing_recalls = values_phase l apart d x (λ s. not (is_some (j.sections.held s))) false removing refl (λ s. marker_of u.entries s) (has_markers map_readable apart x (λ s. not (is_some (j.sections.held s))) removing)
+    pub removing_recalls : (Rel : Relation) → IsOrder Rel → RecallsBy l Rel d x
+    removing_recalls Rel order = values_by l apart d x (λ s. not (is_some (j.sections.held s))) false removing Rel order refl (λ s. marker_of u.entries s) (has_markers map_readable apart x (λ s. not (is_some (j.sections.held s))) removing)
         (λ s small changed. inr (bare_now s small changed))
 
 -- ---- records are cut
-module _ {F S : Type 0} {gs : _} {g : buffer.Ghosts (PageBlob S gs)} {gives : F → Setting} {takes : WriteFactory → Setting} {told : Type 0} {run : Run F (PageBlob S gs)} {o : OpenedList} {d : Disk} (e : Drained g gives takes told run o d)
-    (j : Lists F (PageBlob S gs)) (back : GaveBack run j) (t : told) (x : Disk) (each : Each (Shortening run.layout.seal j.sections (λ s. CutTo run.layout.record_size (run.ends s)) d) x) where
-  both : (ends : Option ℕ) (held : Option (PageBlob S gs)) → IsSomeAnd (CutTo run.layout.record_size ends) (λ n. IsSomeAnd held (λ v. n < size_of (shown v))) → IsSome ends × IsSome held
+module _ {F S : Type 0} {gs : _} {g : buffer.Ghosts (PageBlob S gs)} {gives : F → Setting} {takes : WriteFactory → Setting} {told : Type 0} {Rel : Relation} {l : Layout} {i0 : Sections F (PageBlob S gs)} {m0 : Sections WriteFactory WriteBlob} {u : Store Key8 ℕ} {ends : ℕ → Option ℕ} {given : ℕ → List (List ℕ)} {j : Lists F (PageBlob S gs)} {o : OpenedList}
+    {d : Disk} (e : Ends g gives takes told Rel l i0 m0 u ends given j o d) (t : told) (x : Disk) (each : Each (Shortening l.seal j.sections (λ s. CutTo l.record_size (ends s)) d) x) where
+  both : (end : Option ℕ) (held : Option (PageBlob S gs)) → IsSomeAnd (CutTo l.record_size end) (λ n. IsSomeAnd held (λ v. n < size_of (shown v))) → IsSome end × IsSome held
   both None held is = absurd is
   both (Some p) None is = absurd is
   both (Some p) (Some v) is = (refl, refl)
 
-  pub index_cut_only : (q : Key) → (IsIndexOf run.layout (λ s. IsSome (run.ends s)) q → ⊥) → x q ≡ d q
-  index_cut_only q none = (each q).others (λ w. (let has = both (run.ends w.0) (j.sections.held w.0) w.1 in none (w.0, index_number (back_rests e j back).parts w.0 has.1, has.0, w.2 ∙ index_key (back_rests e j back).parts w.0)))
+  pub index_cut_only : (q : Key) → (IsIndexOf l (λ s. IsSome (ends s)) q → ⊥) → x q ≡ d q
+  index_cut_only q none = (each q).others (λ w. (let has = both (ends w.0) (j.sections.held w.0) w.1 in none (w.0, index_number e.rests.parts w.0 has.1, has.0, w.2 ∙ index_key e.rests.parts w.0)))
 
-  values_same : (s : ℕ) → x (section_key run.layout.values s) ≡ d (section_key run.layout.values s)
-  values_same s = index_cut_only (section_key run.layout.values s) (λ is. e.over.apart.values (sym (ap (λ (k : Key). k.0) is.3)))
+  values_same : (s : ℕ) → x (section_key l.values s) ≡ d (section_key l.values s)
+  values_same s = index_cut_only (section_key l.values s) (λ is. e.apart.values (sym (ap (λ (k : Key). k.0) is.3)))
 
-  module _ (may : MayBeOpened run.layout d) (readable : (q : Key) → MayLeave (d q) (reads (d q))) (map_readable : IsReadable run.layout.markers) where
-    pub shortening : IsPhase run.layout e.over.apart d x (λ s. is_some (run.ends s)) false
+  module _ (may : MayBeOpened l d) (readable : (q : Key) → MayLeave (d q) (reads (d q))) (map_readable : IsReadable l.markers) where
+    pub shortening : IsPhase l e.apart d x (λ s. is_some (ends s)) false
     shortening = record {
       readable = λ q own. readable q;
-      no_chance = rests_no_chance (back_rests e j back) t;
+      no_chance = rests_no_chance e.rests t;
       others = λ q none. index_cut_only q (λ is. none (inl is));
     }
 
     -- what is left of a section that is cut
-    cut_left : (s p : ℕ) → s < 2 ^ 64 → run.ends s ≡ Some p
-        → pages.Leaves run.layout.seal run.layout.page_size (sealed_prefix run.layout.seal run.layout.page_size (content_at (as_read d) run.layout.index s)) (p * run.layout.record_size) (x (section_key run.layout.index s))
+    cut_left : (s p : ℕ) → s < 2 ^ 64 → ends s ≡ Some p
+        → pages.Leaves l.seal l.page_size (sealed_prefix l.seal l.page_size (content_at (as_read d) l.index s)) (p * l.record_size) (x (section_key l.index s))
     cut_left s p small is = elim (none_or_value (j.sections.held s)) [
-      | inl none ↦ absurd (omega (arith, (end_of e t s p is).within, ap length (over_records e j back t s), ap length (none_stored (back_rests e j back) t s none)))
+      | inl none ↦ absurd (omega (arith, e.within t s p is, ap length (none_stored e.rests t s none)))
       | inr some ↦
-          let l = run.layout in
           let v = some.0 in
           let key = section_key l.index s in
-          let settles = index_settles (back_rests e j back) t s v some.1 in
-          let bytes : bytes_of (shown v) (d key).content ≡ fixed.section_bytes j.sections d s = sym (ap (λ (y : Option (PageBlob S gs)). fixed.bytes_held y (d (key_of j.sections s)).content) some.1 ∙ ap (λ (k : Key). bytes_of (shown v) (d k).content) (index_key (back_rests e j back).parts s)) in
+          let settles = index_settles e.rests t s v some.1 in
+          let bytes : bytes_of (shown v) (d key).content ≡ fixed.section_bytes j.sections d s = sym (ap (λ (y : Option (PageBlob S gs)). fixed.bytes_held y (d (key_of j.sections s)).content) some.1 ∙ ap (λ (k : Key). bytes_of (shown v) (d k).content) (index_key e.rests.parts s)) in
           let count : length (records l.record_size (fixed.section_bytes j.sections d s)) ≡ length (fixed.section_bytes j.sections d s) / l.record_size = length-records l.record_size (fixed.section_bytes j.sections d s) in
-          let lt : p < length (fixed.section_bytes j.sections d s) / l.record_size = omega (arith, (end_of e t s p is).within, ap length (over_records e j back t s), count) in
-          let ends : p * l.record_size + l.record_size ≤ length (fixed.section_bytes j.sections d s) = item_ends l.record_size (length (fixed.section_bytes j.sections d s)) p lt in
-          let least : min v.settled (p * l.record_size) ≡ p * l.record_size = omega (arith, all_of (back_rests e j back).parts s v some.1, sealed_laws.counted (shown v) (d key).content, ap length bytes, ends) in
+          let lt : p < length (fixed.section_bytes j.sections d s) / l.record_size = omega (arith, e.within t s p is, count) in
+          let fit : p * l.record_size + l.record_size ≤ length (fixed.section_bytes j.sections d s) = item_ends l.record_size (length (fixed.section_bytes j.sections d s)) p lt in
+          let least : min v.settled (p * l.record_size) ≡ p * l.record_size = omega (arith, all_of e.rests.parts s v some.1, sealed_laws.counted (shown v) (d key).content, ap length bytes, fit) in
           let there : content_at (as_read d) l.index s ≡ (d key).content = ap (λ (y : Option (List ℕ)). unwrap_or y []) (reads_there (d key) (rest_there (d key) settles.rest)) in
           subst (λ (c : List ℕ). pages.Leaves l.seal l.page_size (sealed_prefix l.seal l.page_size c) (p * l.record_size) (x key)) (sym there)
           (subst (λ (c : List ℕ). pages.Leaves l.seal l.page_size c (p * l.record_size) (x key)) (bytes ∙ sym settles.prefix)
           (subst (λ (n : ℕ). pages.Leaves l.seal l.page_size (bytes_of (shown v) (d key).content) n (x key)) least
-          (subst (λ (n : ℕ). pages.Leaves l.seal n (bytes_of (shown v) (d key).content) (min v.settled (p * l.record_size)) (x key)) (paged (back_rests e j back).parts s v some.1)
-          ((each key).shortened s (p * l.record_size) v (ap (CutTo l.record_size) is) some.1 (sym (index_key (back_rests e j back).parts s))))))
+          (subst (λ (n : ℕ). pages.Leaves l.seal n (bytes_of (shown v) (d key).content) (min v.settled (p * l.record_size)) (x key)) (paged e.rests.parts s v some.1)
+          ((each key).shortened s (p * l.record_size) v (ap (CutTo l.record_size) is) some.1 (sym (index_key e.rests.parts s))))))
     ]
 
-    pub shortened_at : (s p : ℕ) → s < 2 ^ 64 → run.ends s ≡ Some p → IsShortened run.layout e.over.apart d x (λ s. is_some (run.ends s)) false shortening (marker run s) s
-    shortened_at s p small is =
-        let end = end_of e t s p is in
-        let same = over_stored e j back t s small in
-        let sounds = over_sound e j back t s small in
-        record {
-          p = p;
-          within = omega (arith, end.within, ap length same);
-          high = end.from;
-          fails = (λ i. sounds i (get_or (same i) p [])) ∙ end.fails;
-          good = λ q lt. good_as q (end.good q lt);
-          leaves = cut_left s p small is;
-          values = λ left left_may. values_left (back_rests e j back) t (bare_of (back_rests e j back) t may) s small left (subst (λ (b : Blob). MayLeave b left) (values_same s) left_may);
-        }
-      where
-        good_as : (q : ℕ) → IsGood run d s q → IsGoodAt (is_sound_in run.layout (as_read d) s) (marker run s) 0 (stored_records run.layout (as_read d) s) q
-        good_as q (inl lt) = inl (omega (arith, lt))
-        good_as q (inr sound) = inr ((λ i. over_sound e j back t s small i (get_or (over_stored e j back t s small i) q [])) ∙ sound)
+    pub cut_at : (s p : ℕ) → s < 2 ^ 64 → ends s ≡ Some p → IsCut l e.apart d x (λ s. is_some (ends s)) false shortening Rel (marker_of u.entries s) s
+    cut_at s p small is = record {
+      p = p;
+      high = (e.from s p is).1;
+      fronts = e.fronts t s p small is;
+      leaves = cut_left s p small is;
+      values = λ left left_may. values_left e.rests t (bare_of e.rests t may) s small left (subst (λ (b : Blob). MayLeave b left) (values_same s) left_may);
+    }
 
-    pub shortening_recalls : Recalls run.layout d x
-    shortening_recalls = records_phase run.layout e.over.apart d x (λ s. is_some (run.ends s)) false shortening refl e.here.some (marker run) (has_markers (back_rests e j back) t map_readable e.over.apart x (λ s. is_some (run.ends s)) shortening)
-        (λ s small changed. go s small (run.ends s) refl changed)
+    pub shortening_recalls : RecallsBy l Rel d x
+    shortening_recalls = records_by l e.apart d x (λ s. is_some (ends s)) false shortening Rel e.order refl e.rests.parts.some (λ s. marker_of u.entries s) (has_markers e.rests t map_readable e.apart x (λ s. is_some (ends s)) shortening)
+        (λ s small changed. go s small (ends s) refl changed)
       where
-        go : (s : ℕ) → s < 2 ^ 64 → (y : Option ℕ) → run.ends s ≡ y → IsTrue (is_some (run.ends s)) → IsShortened run.layout e.over.apart d x (λ s. is_some (run.ends s)) false shortening (marker run s) s
+        go : (s : ℕ) → s < 2 ^ 64 → (y : Option ℕ) → ends s ≡ y → IsTrue (is_some (ends s)) → IsCut l e.apart d x (λ s. is_some (ends s)) false shortening Rel (marker_of u.entries s) s
         go s small None is changed = absurd (cc (subst IsSome is changed))
-        go s small (Some p) is changed = shortened_at s p small is
+        go s small (Some p) is changed = cut_at s p small is

@@ -21,47 +21,22 @@ use Rattle.meta_store.proofs.Uses.{IsReadable}
 use Rattle.paired.specs.Crashes.{IsBlobOf, IsIndexOf}
 use Rattle.paired.specs.GlobLasting.{Cutting}
 use Rattle.paired.specs.GlobSections as glob
-use Rattle.paired.specs.Kept.{content_at, stored_records, is_sound_in}
-use Rattle.paired.specs.Opening.{as_read, MayBeOpened, Recalls}
+use Rattle.paired.specs.Opening.{MayBeOpened, Same}
 use Rattle.paired.specs.Places.{last_end}
 use Rattle.paired.specs.Reconciling.{CutTo, EndOf, Shortening}
 use Rattle.paired.specs.Records.{records, is_sound, front}
 use Rattle.paired.specs.Replaying.{Run, IsClean, marker, records_over, records_given}
-use Rattle.paired.proofs.ReconcileResting.{Resting, values_number, values_key, stored_at, values_at}
-use Rattle.paired.proofs.ReconcileStart.{Drained, GaveBack, end_of, given_to, given_whole}
-use Rattle.paired.proofs.ReconcilePhases.{Bare, index_cut_only, shortening_recalls, values_cut_only, cutting_recalls, removing_recalls}
-use Rattle.paired.proofs.ReconcileLeft.{HeldValues, OtherValues, IsDirty, Stage}
-
-pub none_of_not : {T : Type 0} (o : Option T) → (IsSome o → ⊥) → o ≡ None
-none_of_not None not = refl
-none_of_not (Some v) not = absurd (not refl)
-
-pub not_of_none : {T : Type 0} (o : Option T) → o ≡ None → IsSome o → ⊥
-not_of_none o none some = cc (subst IsSome none some)
-
--- no longer than it is
-not_longer : {S : Type 0} {gs : _} (y : Option (PageBlob S gs)) (v : Option WriteBlob) (n : ℕ) → glob.size_held v ≡ n → IsSomeAnd (option_map (λ w. n) y) (λ k. IsSomeAnd v (λ w. k < count_of w)) → ⊥
-not_longer None v n same is = is
-not_longer (Some w) None n same is = is
-not_longer (Some w) (Some v) n same is = absurd (omega (arith, same, is))
-
-long_held : {S : Type 0} {gs : _} (y : Option (PageBlob S gs)) (v : Option WriteBlob) (n : ℕ) → IsSomeAnd (option_map (λ w. n) y) (λ k. IsSomeAnd v (λ w. k < count_of w)) → IsSome v
-long_held None v n is = absurd is
-long_held (Some w) None n is = absurd is
-long_held (Some w) (Some v) n is = refl
-
-ends_held : {S : Type 0} {gs : _} (y : Option (PageBlob S gs)) (v : Option WriteBlob) (n : ℕ) → IsSomeAnd (option_map (λ w. n) y) (λ k. IsSomeAnd v (λ w. k < count_of w)) → IsSome y
-ends_held None v n is = absurd is
-ends_held (Some w) v n is = refl
+use Rattle.paired.proofs.ReconcileResting.{values_number, values_key}
+use Rattle.paired.proofs.ReconcileStart.{Drained, GaveBack, end_of, given_to, given_whole, ends_of}
+use Rattle.paired.proofs.CutSteps.{records_step, values_step, removing_step}
+use Rattle.paired.proofs.Ends.{Between, none_of_not, not_of_none, not_longer, long_held, ends_held}
+use Rattle.paired.proofs.OpeningEnds.{same_order}
+use Rattle.paired.proofs.Steps.{step_wider}
+use Rattle.paired.proofs.ReconcileLeft.{HeldValues, Kind, IsDirty, Stage}
 
 -- Between two stages: all has settled, the same sections are held, and the journal has the records that were given.
-pub record Joint {F S : Type 0} {gs : _} (g : buffer.Ghosts (PageBlob S gs)) (gives : F → Setting) (takes : WriteFactory → Setting) (told : Type 0) (run : Run F (PageBlob S gs)) (start : Disk)
-    (j : Lists F (PageBlob S gs)) (m : Sections WriteFactory WriteBlob) (o : OpenedList) (d : Disk) : Type 0 where
-  pub rests : Resting g gives takes told run.layout j m run.store o d
-  pub held : (s : ℕ) → IsHeld j.sections s ↔ IsHeld run.walk.journal.sections s
-  pub records : told → (s : ℕ) → records run.layout.record_size (fixed.section_bytes j.sections d s) ≡ records_given run start s
-  pub bare : told → MayBeOpened run.layout start → Bare run.layout j m d
-  pub readable : told → (q : Key) → MayLeave (d q) (reads (d q))
+abbrev pub Joint : {F S : Type 0} {gs : _} → buffer.Ghosts (PageBlob S gs) → (F → Setting) → (WriteFactory → Setting) → Type 0 → Run F (PageBlob S gs) → Disk → Lists F (PageBlob S gs) → Sections WriteFactory WriteBlob → OpenedList → Disk → Type 0
+Joint g gives takes told run start = Between g gives takes told run.layout run.walk.journal.sections run.store (records_given run start) (MayBeOpened run.layout start)
 
 module _ {F S : Type 0} {gs : _} {g : buffer.Ghosts (PageBlob S gs)} {gives : F → Setting} {takes : WriteFactory → Setting} {told : Type 0} {run : Run F (PageBlob S gs)} {o : OpenedList} (a : Timeline) (e : Drained g gives takes told run o (disk a))
     (map_readable : IsReadable run.layout.markers) (t : told) where
@@ -75,9 +50,6 @@ module _ {F S : Type 0} {gs : _} {g : buffer.Ghosts (PageBlob S gs)} {gives : F 
   -- ---- records are cut
   module _ (j : Lists F (PageBlob S gs)) (back : GaveBack run j) (readable : (q : Key) → MayLeave (disk a q) (reads (disk a q))) (b : Timeline)
       (moments : Always a b (Each (Shortening run.layout.seal j.sections (λ s. CutTo run.layout.record_size (run.ends s)) (disk a)))) where
-    abbrev Cuts : Disk → Type 0
-    Cuts = Each (Shortening run.layout.seal j.sections (λ s. CutTo run.layout.record_size (run.ends s)) (disk a))
-
     clean_cut : (s : ℕ) → IsClean run (disk a) s → (q : Key) → IsBlobOf run.layout (λ x. x ≡ s) q → IsIndexOf run.layout (λ x. IsSome (run.ends x)) q → ⊥
     clean_cut s is q (inl index) cut =
         let same : cut.0 ≡ s = key_injective run.layout.index cut.0 index.0 cut.1 index.1 (sym cut.3 ∙ index.3) ∙ index.2 in
@@ -91,25 +63,12 @@ module _ {F S : Type 0} {gs : _} {g : buffer.Ghosts (PageBlob S gs)} {gives : F 
     }
 
     pub records_stage : Stage run 0 (disk a) a b
-    records_stage = record {
-      only = always_weaker a b Cuts (λ d. (q : Key) → (IsIndexOf run.layout (λ _. ⊤) q × IsDirty run (disk a) q → ⊥) → d q ≡ disk a q)
-          (λ d each q none. index_cut_only e j back t d each q (λ cut. none ((cut.0, cut.1, tt, cut.3), dirty_cut q cut))) moments;
-      recalls = λ may. always_weaker a b Cuts (Recalls run.layout (disk a)) (λ d each. shortening_recalls e j back t d each may readable map_readable) moments;
-    }
+    records_stage = step_wider run.layout Same (MayBeOpened run.layout (disk a)) (IsIndexOf run.layout (λ s. IsSome (run.ends s))) (λ q. Kind run 0 q × IsDirty run (disk a) q) a b (λ q cut. ((cut.0, cut.1, tt, cut.3), dirty_cut q cut))
+        (records_step a (ends_of e j back) map_readable t readable b moments)
 
   -- ---- values are cut
   module _ (b : Timeline) (j : Lists F (PageBlob S gs)) (o1 : OpenedList) (joint : Joint g gives takes told run (disk a) j run.values o1 (disk b)) (bytes : (s : ℕ) → glob.section_bytes run.values (disk b) s ≡ glob.section_bytes run.values (disk a) s) (c : Timeline)
       (moments : Always b c (Each (Cutting run.values (EndOf run.layout.place run.layout.record_size j.sections (disk b)) (disk b)))) where
-    abbrev Trims : Disk → Type 0
-    Trims = Each (Cutting run.values (EndOf run.layout.place run.layout.record_size j.sections (disk b)) (disk b))
-
-    -- all records that are stored are kept
-    all_kept : (s : ℕ) → s < 2 ^ 64 → front (is_sound_in run.layout (as_read (disk b)) s) (marker run s) 0 (stored_records run.layout (as_read (disk b)) s) ≡ stored_records run.layout (as_read (disk b)) s
-    all_kept s small =
-        let stored : stored_records run.layout (as_read (disk b)) s ≡ records_given run (disk a) s = stored_at joint.rests t s small ∙ joint.records t s in
-        let values : content_at (as_read (disk b)) run.layout.values s ≡ glob.section_bytes run.values (disk a) s = values_at joint.rests.parts t s small ∙ bytes s in
-        (λ i. front (λ r. is_sound run.layout.seal (values i) (run.layout.place r)) (marker run s) 0 (stored i)) ∙ given_whole e t s ∙ sym stored
-
     clean_trim : (s : ℕ) → IsClean run (disk a) s → IsSomeAnd (EndOf run.layout.place run.layout.record_size j.sections (disk b) s) (glob.IsLonger run.values s) → ⊥
     clean_trim s is = not_longer (j.sections.held s) (run.values.held s) (last_end run.layout.place (records run.layout.record_size (fixed.section_bytes j.sections (disk b) s)))
         (is.values ∙ ap (last_end run.layout.place) (sym (joint.records t s ∙ is.given)))
@@ -130,18 +89,13 @@ module _ {F S : Type 0} {gs : _} {g : buffer.Ghosts (PageBlob S gs)} {gives : F 
         )
 
     pub values_stage : Stage run 1 (disk a) b c
-    values_stage = record {
-      only = always_weaker b c Trims (λ d. (q : Key) → (HeldValues run q × IsDirty run (disk a) q → ⊥) → d q ≡ disk b q) (λ d each q none. (each q).others (λ cut. none (touches q cut))) moments;
-      recalls = λ may. always_weaker b c Trims (Recalls run.layout (disk b)) (λ d each. cutting_recalls joint.rests t e.over.apart d each (joint.bare t may) (joint.readable t) map_readable all_kept) moments;
-    }
+    values_stage = step_wider run.layout Same (MayBeOpened run.layout (disk a)) (IsKeyOf run.values (λ s. IsSomeAnd (EndOf run.layout.place run.layout.record_size j.sections (disk b) s) (glob.IsLonger run.values s))) (λ q. Kind run 1 q × IsDirty run (disk a) q) b c touches
+        (values_step Same same_order e.over.apart map_readable t b j run.values o1 joint (λ s. (λ i. front (λ r. is_sound run.layout.seal (bytes s i) (run.layout.place r)) (marker run s) 0 (records_given run (disk a) s)) ∙ given_whole e t s) c moments)
 
   -- ---- values without records are removed
   module _ (c : Timeline) (j : Lists F (PageBlob S gs)) (m : Sections WriteFactory WriteBlob) (o2 : OpenedList) (joint : Joint g gives takes told run (disk a) j m o2 (disk c)) (held : (s : ℕ) → IsHeld m s ↔ IsHeld run.values s)
       (Doomed : ℕ → Type 0) (doomed : (s : ℕ) → Doomed s → IsHeld j.sections s → ⊥) (f : Timeline)
       (moments : Always c f (λ d. (q : Key) → (IsKeyOf m (λ s. Doomed s × IsHeld m s) q → ⊥) → d q ≡ disk c q)) where
-    abbrev Removes : Disk → Type 0
-    Removes d = (q : Key) → (IsKeyOf m (λ s. Doomed s × IsHeld m s) q → ⊥) → d q ≡ disk c q
-
     without : (s : ℕ) → Doomed s → run.walk.journal.sections.held s ≡ None
     without s is = none_of_not (run.walk.journal.sections.held s) (λ has. doomed s is ((joint.held s).1 has))
 
@@ -155,15 +109,12 @@ module _ {F S : Type 0} {gs : _} {g : buffer.Ghosts (PageBlob S gs)} {gives : F 
         clean_gone s is (subst Doomed same cut.1.0) (subst (IsHeld m) same cut.1.1)
 
     pub removing_stage : Stage run 2 (disk a) c f
-    removing_stage = record {
-      only = always_weaker c f Removes (λ d. (q : Key) → (OtherValues run q × IsDirty run (disk a) q → ⊥) → d q ≡ disk c q)
-          (λ d same q none. same q (λ w. none (
-            (w.0, values_number joint.rests.parts w.0 w.1.1, without w.0 w.1.0, w.2 ∙ values_key joint.rests.parts w.0),
-            record {
-              section = λ s is own. clean_removed s is q own w;
-              some = λ all. clean_gone w.0 (all.clean w.0) w.1.0 w.1.1;
-            },
-          ))) moments;
-      recalls = λ may. always_weaker c f Removes (Recalls run.layout (disk c)) (λ d same. removing_recalls joint.rests t e.over.apart d
-          (λ q none. same q (λ w. none (w.0, values_number joint.rests.parts w.0 w.1.1, none_of_not (j.sections.held w.0) (doomed w.0 w.1.0), w.2 ∙ values_key joint.rests.parts w.0))) (joint.bare t may) (joint.readable t) map_readable) moments;
-    }
+    removing_stage = step_wider run.layout Same (MayBeOpened run.layout (disk a)) (IsKeyOf m (λ s. Doomed s × IsHeld m s)) (λ q. Kind run 2 q × IsDirty run (disk a) q) c f
+        (λ q w. (
+          (w.0, values_number joint.rests.parts w.0 w.1.1, without w.0 w.1.0, w.2 ∙ values_key joint.rests.parts w.0),
+          record {
+            section = λ s is own. clean_removed s is q own w;
+            some = λ all. clean_gone w.0 (all.clean w.0) w.1.0 w.1.1;
+          },
+        ))
+        (removing_step Same same_order e.over.apart map_readable t c j m o2 joint Doomed doomed f moments)

@@ -16,13 +16,14 @@ use Rattle.segments.specs.Setting.{Setting}
 use Rattle.segments.proofs.FixedWriteLemmas.{ArePages}
 use Rattle.segments.proofs.WalkLemmas.{none_or_value}
 use Rattle.paired.specs.GlobSections as glob
-use Rattle.paired.specs.Kept.{stored_records, is_sound_in, kept}
-use Rattle.paired.specs.Opening.{as_read}
+use Rattle.paired.specs.Kept.{content_at, stored_records, is_sound_in, kept}
+use Rattle.paired.specs.Opening.{as_read, Same}
 use Rattle.paired.specs.Records.{records, is_sound, front, entry_of}
 use Rattle.paired.specs.Replaying.{Run, HasFailed, HasLostNone, IsUnbroken, IsGood, IsEnd, IsChecked, IsOpeningRun, IsRun, pair_of, marker, records_over, records_given, is_sound_over}
 use Rattle.paired.proofs.GlobLemmas.{buffers}
 use Rattle.paired.proofs.KeptLemmas.{stored_entries}
-use Rattle.paired.proofs.OpeningEnds.{IsGoodAt, front_stops, front_all}
+use Rattle.paired.proofs.Ends.{Ends}
+use Rattle.paired.proofs.OpeningEnds.{IsGoodAt, same_order, front_stops, front_all, front_cut}
 use Rattle.paired.proofs.PairSynced.{Here}
 use Rattle.paired.proofs.ReconcileResting.{Resting, stored_at, values_at, index_settles}
 
@@ -200,3 +201,30 @@ module _ {F S : Type 0} {gs : _} {g : buffer.Ghosts (PageBlob S gs)} {gives : F 
 
       pub kept_stored : (s : ℕ) → s < 2 ^ 64 → map (λ x. x.stored) (kept run.layout (as_read d) (marker run s) s) ≡ records_given run d s
       kept_stored s small = ap (map (λ x. x.stored)) (kept_given s small) ∙ stored_entries run.layout.place (glob.section_bytes run.values d s) (records_given run d s)
+
+      fronts_of : (s p : ℕ) → s < 2 ^ 64 → run.ends s ≡ Some p → (k : ℕ) → p ≤ k → k ≤ length (stored_records run.layout (as_read d) s)
+          → map (entry_of run.layout.place (content_at (as_read d) run.layout.values s)) (front (is_sound_in run.layout (as_read d) s) (marker run s) 0 (take k (stored_records run.layout (as_read d) s))) ≡ kept run.layout (as_read d) (marker run s) s
+      fronts_of s p small is k le few =
+          let end = end_of t s p is in
+          let same = over_stored s small in
+          let sounds = over_sound s small in
+          ap (map (entry_of run.layout.place (content_at (as_read d) run.layout.values s))) (front_cut (is_sound_in run.layout (as_read d) s) (marker run s) p k (stored_records run.layout (as_read d) s) le few
+          (omega (arith, end.within, ap length same)) (λ q lt. good_as q (end.good q lt)) (omega (arith, end.from)) ((λ i. sounds i (get_or (same i) p [])) ∙ end.fails))
+        where
+          good_as : (q : ℕ) → IsGood run d s q → IsGoodAt (is_sound_in run.layout (as_read d) s) (marker run s) 0 (stored_records run.layout (as_read d) s) q
+          good_as q (inl lt) = inl (omega (arith, lt))
+          good_as q (inr sound) = inr ((λ i. over_sound s small i (get_or (over_stored s small i) q [])) ∙ sound)
+
+    -- the ends that the replay found
+    pub ends_of : Ends g gives takes told Same run.layout run.walk.journal.sections run.values run.store run.ends (records_given run d) j o d
+    ends_of = record {
+      order = same_order;
+      begins = back.sections;
+      rests = back_rests;
+      apart = e.over.apart;
+      from = λ s p is. opening.ends_from s p is;
+      within = λ t s p is. omega (arith, (end_of t s p is).within, ap length (over_records t s));
+      gives_all = λ t s none. given_all t s none ∙ over_records t s;
+      gives_to = λ t s p is. given_to t s p is ∙ ap (take p) (over_records t s);
+      fronts = λ t s p small is k le few. fronts_of t s p small is k le few;
+    }

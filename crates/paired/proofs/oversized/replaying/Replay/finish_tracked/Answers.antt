@@ -21,7 +21,7 @@ use Rattle.paired.specs.ReplayShown.{run_of}
 use Rattle.paired.specs.Replaying.{pair_of}
 use Rattle.paired.specs.TrackedShown as tracked
 use Rattle.paired.proofs.PairFailing.{no_error, not_both}
-use Rattle.paired.proofs.ReconcileStart.{opening, back_journal, back_proven}
+use Rattle.paired.proofs.ReconcileStart.{opening, back_journal, back_proven, ends_of}
 use Rattle.paired.proofs.PairMarked.{if_ok}
 use Rattle.paired.proofs.PairSynced.{made, page_setting}
 use Rattle.paired.specs.Pair.{IsMoving}
@@ -69,7 +69,7 @@ cut_values-requires g c =
     let k = fixed.shown c.in_ok-index.index in
     let cuts = c.in_ok-index.ensures in
     let cut = as_cut a e j0 k o1 b (record { over = cuts.over; proven = cuts.proven; cut = cuts.cut; sizes = cuts.sizes; others = cuts.others; held = cuts.held; unopened = cuts.unopened; settled = cuts.settled; bounds = cuts.bounds; moments = c.cut_records.ensures.moments; entries = c.cut_records.ensures.entries }) in
-    let joint1 = cut_joint a e j0 back k o1 b cut (λ t q. g.met.D.Device.as_read t c.cut_records.new.dev q) in
+    let joint1 = cut_joint a (ends_of e j0 back) k o1 b cut (λ t q. g.met.D.Device.as_read t c.cut_records.new.dev q) in
     record { over = joint1.rests.journal; values = joint1.rests.parts.values; proven = joint1.rests.proven; floors = (cuts.bounds.floor ∙ ap (λ x. x.floor) back_says.sections ∙ (opening e).index_floor, (opening e).values_floor); apart = λ is. e.over.apart.values (sym joint1.rests.parts.index_here ∙ is ∙ e.here.values) }
 
 pub remove_values-requires : goal.remove_values-requires
@@ -91,14 +91,14 @@ remove_values-requires g c =
     let k = fixed.shown c.in_ok-index.index in
     let cuts = c.in_ok-index.ensures in
     let cut = as_cut a e j0 k o1 b (record { over = cuts.over; proven = cuts.proven; cut = cuts.cut; sizes = cuts.sizes; others = cuts.others; held = cuts.held; unopened = cuts.unopened; settled = cuts.settled; bounds = cuts.bounds; moments = c.cut_records.ensures.moments; entries = c.cut_records.ensures.entries }) in
-    let joint1 = cut_joint a e j0 back k o1 b cut (λ t q. g.met.D.Device.as_read t c.cut_records.new.dev q) in
+    let joint1 = cut_joint a (ends_of e j0 back) k o1 b cut (λ t q. g.met.D.Device.as_read t c.cut_records.new.dev q) in
     let d = g.D.Device.time c.cut_values.new.dev in
     let o2 = g.D.Device.opened c.cut_values.new.dev in
-    let s2 : told → Stage run 1 (disk a) b d = λ t. values_stage a e readable t b k o1 joint1 (cut_values_same a e j0 back k o1 b cut (λ x q. g.met.D.Device.as_read x c.cut_records.new.dev q) t) d (c.cut_values.ensures.moments t) in
+    let s2 : told → Stage run 1 (disk a) b d = λ t. values_stage a e readable t b k o1 joint1 (cut_values_same a (ends_of e j0 back) k o1 b cut (λ x q. g.met.D.Device.as_read x c.cut_records.new.dev q) t) d (c.cut_values.ensures.moments t) in
     let m = manager.shown c.in_ok-values.values.manager in
     let trims = c.in_ok-values.ensures in
     let trim = as_trim a e k m o1 o2 b d (record { over = trims.over; values = trims.values; cut = trims.cut; others = trims.others; held = trims.held; unopened = trims.unopened; settled = trims.settled; bounds = trims.bounds; moments = c.cut_values.ensures.moments; entries = c.cut_values.ensures.entries }) in
-    let joint2 = trim_joint a e b k o1 joint1 m o2 d trim (λ t q. g.met.D.Device.as_read t c.cut_values.new.dev q) in
+    let joint2 = trim_joint a (ends_of e j0 back) b k o1 joint1 m o2 d trim (λ t q. g.met.D.Device.as_read t c.cut_values.new.dev q) in
     record { over = trims.values; floor = trims.bounds.floor ∙ (opening e).values_floor }
 
 pub note_synced-requires : goal.note_synced-requires
@@ -120,7 +120,7 @@ note_synced-requires g c =
     let k = fixed.shown c.in_ok-index.index in
     let cuts = c.in_ok-index.ensures in
     let cut = as_cut a e j0 k o1 b (record { over = cuts.over; proven = cuts.proven; cut = cuts.cut; sizes = cuts.sizes; others = cuts.others; held = cuts.held; unopened = cuts.unopened; settled = cuts.settled; bounds = cuts.bounds; moments = c.cut_records.ensures.moments; entries = c.cut_records.ensures.entries }) in
-    let joint1 = cut_joint a e j0 back k o1 b cut (λ t q. g.met.D.Device.as_read t c.cut_records.new.dev q) in
+    let joint1 = cut_joint a (ends_of e j0 back) k o1 b cut (λ t q. g.met.D.Device.as_read t c.cut_records.new.dev q) in
     record { trails = λ s x is. absurd (cc ((opening e).trailing s, is)); kept = λ s is. omega (arith, cuts.bounds.floor, ap (λ x. x.floor) back_says.sections, (opening e).index_floor) }
 
 pub move_markers-requires : goal.move_markers-requires
@@ -142,14 +142,14 @@ move_markers-requires g c =
     let k = fixed.shown c.in_ok-index.index in
     let cuts = c.in_ok-index.ensures in
     let cut = as_cut a e j0 k o1 b (record { over = cuts.over; proven = cuts.proven; cut = cuts.cut; sizes = cuts.sizes; others = cuts.others; held = cuts.held; unopened = cuts.unopened; settled = cuts.settled; bounds = cuts.bounds; moments = c.cut_records.ensures.moments; entries = c.cut_records.ensures.entries }) in
-    let joint1 = cut_joint a e j0 back k o1 b cut (λ t q. g.met.D.Device.as_read t c.cut_records.new.dev q) in
+    let joint1 = cut_joint a (ends_of e j0 back) k o1 b cut (λ t q. g.met.D.Device.as_read t c.cut_records.new.dev q) in
     let d = g.D.Device.time c.cut_values.new.dev in
     let o2 = g.D.Device.opened c.cut_values.new.dev in
-    let s2 : told → Stage run 1 (disk a) b d = λ t. values_stage a e readable t b k o1 joint1 (cut_values_same a e j0 back k o1 b cut (λ x q. g.met.D.Device.as_read x c.cut_records.new.dev q) t) d (c.cut_values.ensures.moments t) in
+    let s2 : told → Stage run 1 (disk a) b d = λ t. values_stage a e readable t b k o1 joint1 (cut_values_same a (ends_of e j0 back) k o1 b cut (λ x q. g.met.D.Device.as_read x c.cut_records.new.dev q) t) d (c.cut_values.ensures.moments t) in
     let m = manager.shown c.in_ok-values.values.manager in
     let trims = c.in_ok-values.ensures in
     let trim = as_trim a e k m o1 o2 b d (record { over = trims.over; values = trims.values; cut = trims.cut; others = trims.others; held = trims.held; unopened = trims.unopened; settled = trims.settled; bounds = trims.bounds; moments = c.cut_values.ensures.moments; entries = c.cut_values.ensures.entries }) in
-    let joint2 = trim_joint a e b k o1 joint1 m o2 d trim (λ t q. g.met.D.Device.as_read t c.cut_values.new.dev q) in
+    let joint2 = trim_joint a (ends_of e j0 back) b k o1 joint1 m o2 d trim (λ t q. g.met.D.Device.as_read t c.cut_values.new.dev q) in
     let doom = Contains c.as_slice.result.now in
     let decides = contains_or_not c.as_slice.result.now in
     let doomed = doomed_of m k (λ s. set.contains nat_cmp c.in_ok-held_sections.field-0 s) c.in_ok-held_sections.ensures.each doom (subst (λ xs. (s : ℕ) → Contains xs s ↔ (IsHeld m s × (set.contains nat_cmp c.in_ok-held_sections.field-0 s ≡ false))) (sym c.as_slice.ensures.value) c.in_ok-alone.ensures.each) in
@@ -159,7 +159,7 @@ move_markers-requires g c =
     let n = manager.shown c.in_ok-values-2.values.manager in
     let gone = c.in_ok-values-2.ensures in
     let removed = as_removed a e doom m n o2 o3 d f (record { values = gone.over; removed = gone.removed; others = gone.others; bytes = gone.bytes; unopened = gone.unopened; bounds = gone.bounds; gone = gone.gone; moments = c.remove_values.ensures.moments; entries = c.remove_values.ensures.entries }) in
-    let joint3 = removed_joint a e d k m o2 joint2 doom decides doomed n o3 f removed (λ t q. g.met.D.Device.as_read t c.remove_values.new.dev q) in
+    let joint3 = removed_joint a (ends_of e j0 back) d k m o2 joint2 doom decides doomed n o3 f removed (λ t q. g.met.D.Device.as_read t c.remove_values.new.dev q) in
     let did = reconciled_of a e j0 back k o1 b cut joint1 m o2 d trim joint2 doom decides doomed n o3 f removed joint3 in
     let after = tracked.shown c.note_synced.new.tracking in
     let notes = notes_of run k after (Contains c.as_slice-2.result.now) (subst (λ xs. (s : ℕ) → Contains xs s ↔ IsHeld k.sections s) (sym c.as_slice-2.ensures.value) c.in_ok-held.ensures.each) c.note_synced.ensures.store c.in_ok-note_synced.ensures.trails c.in_ok-note_synced.ensures.named c.in_ok-note_synced.ensures.others (opening e).trailing in
@@ -317,10 +317,10 @@ returns-in_err-values g c =
     let k = fixed.shown c.in_ok-index.index in
     let cuts = c.in_ok-index.ensures in
     let cut = as_cut a e j0 k o1 b (record { over = cuts.over; proven = cuts.proven; cut = cuts.cut; sizes = cuts.sizes; others = cuts.others; held = cuts.held; unopened = cuts.unopened; settled = cuts.settled; bounds = cuts.bounds; moments = c.cut_records.ensures.moments; entries = c.cut_records.ensures.entries }) in
-    let joint1 = cut_joint a e j0 back k o1 b cut (λ t q. g.met.D.Device.as_read t c.cut_records.new.dev q) in
+    let joint1 = cut_joint a (ends_of e j0 back) k o1 b cut (λ t q. g.met.D.Device.as_read t c.cut_records.new.dev q) in
     let d = g.D.Device.time c.cut_values.new.dev in
     let o2 = g.D.Device.opened c.cut_values.new.dev in
-    let s2 : told → Stage run 1 (disk a) b d = λ t. values_stage a e readable t b k o1 joint1 (cut_values_same a e j0 back k o1 b cut (λ x q. g.met.D.Device.as_read x c.cut_records.new.dev q) t) d (c.cut_values.ensures.moments t) in
+    let s2 : told → Stage run 1 (disk a) b d = λ t. values_stage a e readable t b k o1 joint1 (cut_values_same a (ends_of e j0 back) k o1 b cut (λ x q. g.met.D.Device.as_read x c.cut_records.new.dev q) t) d (c.cut_values.ensures.moments t) in
     let r = c.from_residual-in_err-values.result in
     let w = c.in_err-values.field-0.0 in
     let is = err_of r w c.from_residual-in_err-values.ensures.1 in
@@ -375,14 +375,14 @@ returns-in_err-held_sections g c =
     let k = fixed.shown c.in_ok-index.index in
     let cuts = c.in_ok-index.ensures in
     let cut = as_cut a e j0 k o1 b (record { over = cuts.over; proven = cuts.proven; cut = cuts.cut; sizes = cuts.sizes; others = cuts.others; held = cuts.held; unopened = cuts.unopened; settled = cuts.settled; bounds = cuts.bounds; moments = c.cut_records.ensures.moments; entries = c.cut_records.ensures.entries }) in
-    let joint1 = cut_joint a e j0 back k o1 b cut (λ t q. g.met.D.Device.as_read t c.cut_records.new.dev q) in
+    let joint1 = cut_joint a (ends_of e j0 back) k o1 b cut (λ t q. g.met.D.Device.as_read t c.cut_records.new.dev q) in
     let d = g.D.Device.time c.cut_values.new.dev in
     let o2 = g.D.Device.opened c.cut_values.new.dev in
-    let s2 : told → Stage run 1 (disk a) b d = λ t. values_stage a e readable t b k o1 joint1 (cut_values_same a e j0 back k o1 b cut (λ x q. g.met.D.Device.as_read x c.cut_records.new.dev q) t) d (c.cut_values.ensures.moments t) in
+    let s2 : told → Stage run 1 (disk a) b d = λ t. values_stage a e readable t b k o1 joint1 (cut_values_same a (ends_of e j0 back) k o1 b cut (λ x q. g.met.D.Device.as_read x c.cut_records.new.dev q) t) d (c.cut_values.ensures.moments t) in
     let m = manager.shown c.in_ok-values.values.manager in
     let trims = c.in_ok-values.ensures in
     let trim = as_trim a e k m o1 o2 b d (record { over = trims.over; values = trims.values; cut = trims.cut; others = trims.others; held = trims.held; unopened = trims.unopened; settled = trims.settled; bounds = trims.bounds; moments = c.cut_values.ensures.moments; entries = c.cut_values.ensures.entries }) in
-    let joint2 = trim_joint a e b k o1 joint1 m o2 d trim (λ t q. g.met.D.Device.as_read t c.cut_values.new.dev q) in
+    let joint2 = trim_joint a (ends_of e j0 back) b k o1 joint1 m o2 d trim (λ t q. g.met.D.Device.as_read t c.cut_values.new.dev q) in
     let r = c.from_residual-in_err-held_sections.result in
     let w = c.in_err-held_sections.field-0.0 in
     let is = err_of r w c.from_residual-in_err-held_sections.ensures.1 in
@@ -437,14 +437,14 @@ returns-in_err-alone g c =
     let k = fixed.shown c.in_ok-index.index in
     let cuts = c.in_ok-index.ensures in
     let cut = as_cut a e j0 k o1 b (record { over = cuts.over; proven = cuts.proven; cut = cuts.cut; sizes = cuts.sizes; others = cuts.others; held = cuts.held; unopened = cuts.unopened; settled = cuts.settled; bounds = cuts.bounds; moments = c.cut_records.ensures.moments; entries = c.cut_records.ensures.entries }) in
-    let joint1 = cut_joint a e j0 back k o1 b cut (λ t q. g.met.D.Device.as_read t c.cut_records.new.dev q) in
+    let joint1 = cut_joint a (ends_of e j0 back) k o1 b cut (λ t q. g.met.D.Device.as_read t c.cut_records.new.dev q) in
     let d = g.D.Device.time c.cut_values.new.dev in
     let o2 = g.D.Device.opened c.cut_values.new.dev in
-    let s2 : told → Stage run 1 (disk a) b d = λ t. values_stage a e readable t b k o1 joint1 (cut_values_same a e j0 back k o1 b cut (λ x q. g.met.D.Device.as_read x c.cut_records.new.dev q) t) d (c.cut_values.ensures.moments t) in
+    let s2 : told → Stage run 1 (disk a) b d = λ t. values_stage a e readable t b k o1 joint1 (cut_values_same a (ends_of e j0 back) k o1 b cut (λ x q. g.met.D.Device.as_read x c.cut_records.new.dev q) t) d (c.cut_values.ensures.moments t) in
     let m = manager.shown c.in_ok-values.values.manager in
     let trims = c.in_ok-values.ensures in
     let trim = as_trim a e k m o1 o2 b d (record { over = trims.over; values = trims.values; cut = trims.cut; others = trims.others; held = trims.held; unopened = trims.unopened; settled = trims.settled; bounds = trims.bounds; moments = c.cut_values.ensures.moments; entries = c.cut_values.ensures.entries }) in
-    let joint2 = trim_joint a e b k o1 joint1 m o2 d trim (λ t q. g.met.D.Device.as_read t c.cut_values.new.dev q) in
+    let joint2 = trim_joint a (ends_of e j0 back) b k o1 joint1 m o2 d trim (λ t q. g.met.D.Device.as_read t c.cut_values.new.dev q) in
     let r = c.from_residual-in_err-alone.result in
     let w = c.in_err-alone.field-0.0 in
     let is = err_of r w c.from_residual-in_err-alone.ensures.1 in
@@ -499,14 +499,14 @@ returns-in_err-values-2 g c =
     let k = fixed.shown c.in_ok-index.index in
     let cuts = c.in_ok-index.ensures in
     let cut = as_cut a e j0 k o1 b (record { over = cuts.over; proven = cuts.proven; cut = cuts.cut; sizes = cuts.sizes; others = cuts.others; held = cuts.held; unopened = cuts.unopened; settled = cuts.settled; bounds = cuts.bounds; moments = c.cut_records.ensures.moments; entries = c.cut_records.ensures.entries }) in
-    let joint1 = cut_joint a e j0 back k o1 b cut (λ t q. g.met.D.Device.as_read t c.cut_records.new.dev q) in
+    let joint1 = cut_joint a (ends_of e j0 back) k o1 b cut (λ t q. g.met.D.Device.as_read t c.cut_records.new.dev q) in
     let d = g.D.Device.time c.cut_values.new.dev in
     let o2 = g.D.Device.opened c.cut_values.new.dev in
-    let s2 : told → Stage run 1 (disk a) b d = λ t. values_stage a e readable t b k o1 joint1 (cut_values_same a e j0 back k o1 b cut (λ x q. g.met.D.Device.as_read x c.cut_records.new.dev q) t) d (c.cut_values.ensures.moments t) in
+    let s2 : told → Stage run 1 (disk a) b d = λ t. values_stage a e readable t b k o1 joint1 (cut_values_same a (ends_of e j0 back) k o1 b cut (λ x q. g.met.D.Device.as_read x c.cut_records.new.dev q) t) d (c.cut_values.ensures.moments t) in
     let m = manager.shown c.in_ok-values.values.manager in
     let trims = c.in_ok-values.ensures in
     let trim = as_trim a e k m o1 o2 b d (record { over = trims.over; values = trims.values; cut = trims.cut; others = trims.others; held = trims.held; unopened = trims.unopened; settled = trims.settled; bounds = trims.bounds; moments = c.cut_values.ensures.moments; entries = c.cut_values.ensures.entries }) in
-    let joint2 = trim_joint a e b k o1 joint1 m o2 d trim (λ t q. g.met.D.Device.as_read t c.cut_values.new.dev q) in
+    let joint2 = trim_joint a (ends_of e j0 back) b k o1 joint1 m o2 d trim (λ t q. g.met.D.Device.as_read t c.cut_values.new.dev q) in
     let doom = Contains c.as_slice.result.now in
     let decides = contains_or_not c.as_slice.result.now in
     let doomed = doomed_of m k (λ s. set.contains nat_cmp c.in_ok-held_sections.field-0 s) c.in_ok-held_sections.ensures.each doom (subst (λ xs. (s : ℕ) → Contains xs s ↔ (IsHeld m s × (set.contains nat_cmp c.in_ok-held_sections.field-0 s ≡ false))) (sym c.as_slice.ensures.value) c.in_ok-alone.ensures.each) in
@@ -567,14 +567,14 @@ returns-in_err-held g c =
     let k = fixed.shown c.in_ok-index.index in
     let cuts = c.in_ok-index.ensures in
     let cut = as_cut a e j0 k o1 b (record { over = cuts.over; proven = cuts.proven; cut = cuts.cut; sizes = cuts.sizes; others = cuts.others; held = cuts.held; unopened = cuts.unopened; settled = cuts.settled; bounds = cuts.bounds; moments = c.cut_records.ensures.moments; entries = c.cut_records.ensures.entries }) in
-    let joint1 = cut_joint a e j0 back k o1 b cut (λ t q. g.met.D.Device.as_read t c.cut_records.new.dev q) in
+    let joint1 = cut_joint a (ends_of e j0 back) k o1 b cut (λ t q. g.met.D.Device.as_read t c.cut_records.new.dev q) in
     let d = g.D.Device.time c.cut_values.new.dev in
     let o2 = g.D.Device.opened c.cut_values.new.dev in
-    let s2 : told → Stage run 1 (disk a) b d = λ t. values_stage a e readable t b k o1 joint1 (cut_values_same a e j0 back k o1 b cut (λ x q. g.met.D.Device.as_read x c.cut_records.new.dev q) t) d (c.cut_values.ensures.moments t) in
+    let s2 : told → Stage run 1 (disk a) b d = λ t. values_stage a e readable t b k o1 joint1 (cut_values_same a (ends_of e j0 back) k o1 b cut (λ x q. g.met.D.Device.as_read x c.cut_records.new.dev q) t) d (c.cut_values.ensures.moments t) in
     let m = manager.shown c.in_ok-values.values.manager in
     let trims = c.in_ok-values.ensures in
     let trim = as_trim a e k m o1 o2 b d (record { over = trims.over; values = trims.values; cut = trims.cut; others = trims.others; held = trims.held; unopened = trims.unopened; settled = trims.settled; bounds = trims.bounds; moments = c.cut_values.ensures.moments; entries = c.cut_values.ensures.entries }) in
-    let joint2 = trim_joint a e b k o1 joint1 m o2 d trim (λ t q. g.met.D.Device.as_read t c.cut_values.new.dev q) in
+    let joint2 = trim_joint a (ends_of e j0 back) b k o1 joint1 m o2 d trim (λ t q. g.met.D.Device.as_read t c.cut_values.new.dev q) in
     let doom = Contains c.as_slice.result.now in
     let decides = contains_or_not c.as_slice.result.now in
     let doomed = doomed_of m k (λ s. set.contains nat_cmp c.in_ok-held_sections.field-0 s) c.in_ok-held_sections.ensures.each doom (subst (λ xs. (s : ℕ) → Contains xs s ↔ (IsHeld m s × (set.contains nat_cmp c.in_ok-held_sections.field-0 s ≡ false))) (sym c.as_slice.ensures.value) c.in_ok-alone.ensures.each) in
@@ -584,7 +584,7 @@ returns-in_err-held g c =
     let n = manager.shown c.in_ok-values-2.values.manager in
     let gone = c.in_ok-values-2.ensures in
     let removed = as_removed a e doom m n o2 o3 d f (record { values = gone.over; removed = gone.removed; others = gone.others; bytes = gone.bytes; unopened = gone.unopened; bounds = gone.bounds; gone = gone.gone; moments = c.remove_values.ensures.moments; entries = c.remove_values.ensures.entries }) in
-    let joint3 = removed_joint a e d k m o2 joint2 doom decides doomed n o3 f removed (λ t q. g.met.D.Device.as_read t c.remove_values.new.dev q) in
+    let joint3 = removed_joint a (ends_of e j0 back) d k m o2 joint2 doom decides doomed n o3 f removed (λ t q. g.met.D.Device.as_read t c.remove_values.new.dev q) in
     let did = reconciled_of a e j0 back k o1 b cut joint1 m o2 d trim joint2 doom decides doomed n o3 f removed joint3 in
     let r = c.from_residual-in_err-held.result in
     let w = c.in_err-held.field-0.0 in
@@ -640,14 +640,14 @@ returns-in_err-note_synced g c =
     let k = fixed.shown c.in_ok-index.index in
     let cuts = c.in_ok-index.ensures in
     let cut = as_cut a e j0 k o1 b (record { over = cuts.over; proven = cuts.proven; cut = cuts.cut; sizes = cuts.sizes; others = cuts.others; held = cuts.held; unopened = cuts.unopened; settled = cuts.settled; bounds = cuts.bounds; moments = c.cut_records.ensures.moments; entries = c.cut_records.ensures.entries }) in
-    let joint1 = cut_joint a e j0 back k o1 b cut (λ t q. g.met.D.Device.as_read t c.cut_records.new.dev q) in
+    let joint1 = cut_joint a (ends_of e j0 back) k o1 b cut (λ t q. g.met.D.Device.as_read t c.cut_records.new.dev q) in
     let d = g.D.Device.time c.cut_values.new.dev in
     let o2 = g.D.Device.opened c.cut_values.new.dev in
-    let s2 : told → Stage run 1 (disk a) b d = λ t. values_stage a e readable t b k o1 joint1 (cut_values_same a e j0 back k o1 b cut (λ x q. g.met.D.Device.as_read x c.cut_records.new.dev q) t) d (c.cut_values.ensures.moments t) in
+    let s2 : told → Stage run 1 (disk a) b d = λ t. values_stage a e readable t b k o1 joint1 (cut_values_same a (ends_of e j0 back) k o1 b cut (λ x q. g.met.D.Device.as_read x c.cut_records.new.dev q) t) d (c.cut_values.ensures.moments t) in
     let m = manager.shown c.in_ok-values.values.manager in
     let trims = c.in_ok-values.ensures in
     let trim = as_trim a e k m o1 o2 b d (record { over = trims.over; values = trims.values; cut = trims.cut; others = trims.others; held = trims.held; unopened = trims.unopened; settled = trims.settled; bounds = trims.bounds; moments = c.cut_values.ensures.moments; entries = c.cut_values.ensures.entries }) in
-    let joint2 = trim_joint a e b k o1 joint1 m o2 d trim (λ t q. g.met.D.Device.as_read t c.cut_values.new.dev q) in
+    let joint2 = trim_joint a (ends_of e j0 back) b k o1 joint1 m o2 d trim (λ t q. g.met.D.Device.as_read t c.cut_values.new.dev q) in
     let doom = Contains c.as_slice.result.now in
     let decides = contains_or_not c.as_slice.result.now in
     let doomed = doomed_of m k (λ s. set.contains nat_cmp c.in_ok-held_sections.field-0 s) c.in_ok-held_sections.ensures.each doom (subst (λ xs. (s : ℕ) → Contains xs s ↔ (IsHeld m s × (set.contains nat_cmp c.in_ok-held_sections.field-0 s ≡ false))) (sym c.as_slice.ensures.value) c.in_ok-alone.ensures.each) in
@@ -657,7 +657,7 @@ returns-in_err-note_synced g c =
     let n = manager.shown c.in_ok-values-2.values.manager in
     let gone = c.in_ok-values-2.ensures in
     let removed = as_removed a e doom m n o2 o3 d f (record { values = gone.over; removed = gone.removed; others = gone.others; bytes = gone.bytes; unopened = gone.unopened; bounds = gone.bounds; gone = gone.gone; moments = c.remove_values.ensures.moments; entries = c.remove_values.ensures.entries }) in
-    let joint3 = removed_joint a e d k m o2 joint2 doom decides doomed n o3 f removed (λ t q. g.met.D.Device.as_read t c.remove_values.new.dev q) in
+    let joint3 = removed_joint a (ends_of e j0 back) d k m o2 joint2 doom decides doomed n o3 f removed (λ t q. g.met.D.Device.as_read t c.remove_values.new.dev q) in
     let did = reconciled_of a e j0 back k o1 b cut joint1 m o2 d trim joint2 doom decides doomed n o3 f removed joint3 in
     let r = c.from_residual-in_err-note_synced.result in
     let w = c.in_err-note_synced.field-0.0 in
@@ -713,14 +713,14 @@ returns g c =
     let k = fixed.shown c.in_ok-index.index in
     let cuts = c.in_ok-index.ensures in
     let cut = as_cut a e j0 k o1 b (record { over = cuts.over; proven = cuts.proven; cut = cuts.cut; sizes = cuts.sizes; others = cuts.others; held = cuts.held; unopened = cuts.unopened; settled = cuts.settled; bounds = cuts.bounds; moments = c.cut_records.ensures.moments; entries = c.cut_records.ensures.entries }) in
-    let joint1 = cut_joint a e j0 back k o1 b cut (λ t q. g.met.D.Device.as_read t c.cut_records.new.dev q) in
+    let joint1 = cut_joint a (ends_of e j0 back) k o1 b cut (λ t q. g.met.D.Device.as_read t c.cut_records.new.dev q) in
     let d = g.D.Device.time c.cut_values.new.dev in
     let o2 = g.D.Device.opened c.cut_values.new.dev in
-    let s2 : told → Stage run 1 (disk a) b d = λ t. values_stage a e readable t b k o1 joint1 (cut_values_same a e j0 back k o1 b cut (λ x q. g.met.D.Device.as_read x c.cut_records.new.dev q) t) d (c.cut_values.ensures.moments t) in
+    let s2 : told → Stage run 1 (disk a) b d = λ t. values_stage a e readable t b k o1 joint1 (cut_values_same a (ends_of e j0 back) k o1 b cut (λ x q. g.met.D.Device.as_read x c.cut_records.new.dev q) t) d (c.cut_values.ensures.moments t) in
     let m = manager.shown c.in_ok-values.values.manager in
     let trims = c.in_ok-values.ensures in
     let trim = as_trim a e k m o1 o2 b d (record { over = trims.over; values = trims.values; cut = trims.cut; others = trims.others; held = trims.held; unopened = trims.unopened; settled = trims.settled; bounds = trims.bounds; moments = c.cut_values.ensures.moments; entries = c.cut_values.ensures.entries }) in
-    let joint2 = trim_joint a e b k o1 joint1 m o2 d trim (λ t q. g.met.D.Device.as_read t c.cut_values.new.dev q) in
+    let joint2 = trim_joint a (ends_of e j0 back) b k o1 joint1 m o2 d trim (λ t q. g.met.D.Device.as_read t c.cut_values.new.dev q) in
     let doom = Contains c.as_slice.result.now in
     let decides = contains_or_not c.as_slice.result.now in
     let doomed = doomed_of m k (λ s. set.contains nat_cmp c.in_ok-held_sections.field-0 s) c.in_ok-held_sections.ensures.each doom (subst (λ xs. (s : ℕ) → Contains xs s ↔ (IsHeld m s × (set.contains nat_cmp c.in_ok-held_sections.field-0 s ≡ false))) (sym c.as_slice.ensures.value) c.in_ok-alone.ensures.each) in
@@ -730,7 +730,7 @@ returns g c =
     let n = manager.shown c.in_ok-values-2.values.manager in
     let gone = c.in_ok-values-2.ensures in
     let removed = as_removed a e doom m n o2 o3 d f (record { values = gone.over; removed = gone.removed; others = gone.others; bytes = gone.bytes; unopened = gone.unopened; bounds = gone.bounds; gone = gone.gone; moments = c.remove_values.ensures.moments; entries = c.remove_values.ensures.entries }) in
-    let joint3 = removed_joint a e d k m o2 joint2 doom decides doomed n o3 f removed (λ t q. g.met.D.Device.as_read t c.remove_values.new.dev q) in
+    let joint3 = removed_joint a (ends_of e j0 back) d k m o2 joint2 doom decides doomed n o3 f removed (λ t q. g.met.D.Device.as_read t c.remove_values.new.dev q) in
     let did = reconciled_of a e j0 back k o1 b cut joint1 m o2 d trim joint2 doom decides doomed n o3 f removed joint3 in
     let after = tracked.shown c.note_synced.new.tracking in
     let notes = notes_of run k after (Contains c.as_slice-2.result.now) (subst (λ xs. (s : ℕ) → Contains xs s ↔ IsHeld k.sections s) (sym c.as_slice-2.ensures.value) c.in_ok-held.ensures.each) c.note_synced.ensures.store c.in_ok-note_synced.ensures.trails c.in_ok-note_synced.ensures.named c.in_ok-note_synced.ensures.others (opening e).trailing in
