@@ -46,6 +46,7 @@ pub mod ReconcilePhases
 pub mod Steps
 pub mod Ends
 pub mod CutSteps
+pub mod CappedEnds
 pub mod ReconcileLeft
 pub mod ReconcileStages
 pub mod ReconcileJoints

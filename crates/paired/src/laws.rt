@@ -9,7 +9,7 @@ ghost use Rattle.blob_device.specs.Disk.{AbsentIsNothing, Disk, Key, NothingPend
 ghost use Rattle.paired.specs.Crashes.{IsPrefix, Leaves, WasThere};
 ghost use Rattle.paired.specs.Holding.{AreGood, Facts, Holding, list_in};
 ghost use Rattle.paired.specs.Kept.{Layout, Markers};
-ghost use Rattle.paired.specs.Opening.{as_read, IsLawful, KeepsAll, MayBeOpened, Recalls};
+ghost use Rattle.paired.specs.Opening.{as_read, Front, IsLawful, KeepsAll, KeepsAllBy, MayBeOpened, Recalls, RecallsBy, UpTo};
 
 /// Where a crash leaves a prefix of the index bytes that holds `synced` records, and of the values those that had settled, what is
 /// kept is a prefix of the list with the synced records. It does nothing.
@@ -53,4 +53,11 @@ pub fn opening_laws<P: Stored>()
     ensures pending { (d : Disk) → NothingPending d → ((k : Key) → AbsentIsNothing (d k)) → MayBeOpened P.layout d }
     ensures keeps { (from d : Disk) (markers : Markers) → NothingPending from → IsLawful P.layout (as_read from) markers → Recalls P.layout from d → KeepsAll P.layout (as_read from) markers d }
     ensures one_after_another { (a b c : Disk) → Recalls P.layout a b → Recalls P.layout b c → Recalls P.layout a c }
+    // So it is of calls that keep the first of what was kept, and of calls that keep it up to a checkpoint; each that keeps all keeps so much.
+    ensures first_after_another { (a b c : Disk) → RecallsBy P.layout Front a b → RecallsBy P.layout Front b c → RecallsBy P.layout Front a c }
+    ensures up_to_after_another { (section least : ℕ) (a b c : Disk) → RecallsBy P.layout (UpTo section least) a b → RecallsBy P.layout (UpTo section least) b c → RecallsBy P.layout (UpTo section least) a c }
+    ensures first_of_all { (a b : Disk) → Recalls P.layout a b → RecallsBy P.layout Front a b }
+    ensures up_to_of_all { (section least : ℕ) (a b : Disk) → Recalls P.layout a b → RecallsBy P.layout (UpTo section least) a b }
+    ensures keeps_first { (from d : Disk) (markers : Markers) → NothingPending from → IsLawful P.layout (as_read from) markers → RecallsBy P.layout Front from d → KeepsAllBy P.layout Front (as_read from) markers d }
+    ensures keeps_up_to { (section least : ℕ) (from d : Disk) (markers : Markers) → NothingPending from → IsLawful P.layout (as_read from) markers → RecallsBy P.layout (UpTo section least) from d → KeepsAllBy P.layout (UpTo section least) (as_read from) markers d }
 {}

@@ -1,0 +1,70 @@
+-- Ends that a bound gives: one section is cut to so many records, of which what was kept is kept.
+use Rattle.std.proofs.Common.{◌≡◌, ℕ, ◌^◌, ◌<◌, ◌≤◌, ◌==◌, if◌then◌else◌, Bool, true, false, List, [], length, map, take, Option, None, Some, refl, sym, ap, arith}
+use Rattle.std.proofs.lemmas.Bool.{eqb-true}
+use Rattle.blob_device.specs.Disk.{Disk}
+use Rattle.blob_device.specs.Opened.{OpenedList}
+use Rattle.sealed_pages.specs.declared.page_blob.PageBlob.{PageBlob}
+use Rattle.sealed_pages.specs.declared.write_blob.WriteBlob.{WriteBlob}
+use Rattle.segments.specs.declared.buffer.SectionBuffer as buffer
+use Rattle.segments.specs.declared.unsealed.WriteFactory.{WriteFactory}
+use Rattle.segments.specs.FixedLists.{Lists}
+use Rattle.segments.specs.FixedLists as fixed
+use Rattle.segments.specs.Sections.{Sections}
+use Rattle.segments.specs.Setting.{Setting}
+use Rattle.segments.proofs.WalkLemmas.{some_same}
+use Rattle.value_codec.specs.declared.key.Key8.{Key8}
+use Rattle.meta_store.specs.Store.{Store}
+use Rattle.paired.specs.Kept.{Layout, marker_of, content_at, stored_records, is_sound_in, kept}
+use Rattle.paired.specs.Opening.{as_read, Relation, IsOrder, Front, UpTo}
+use Rattle.paired.specs.Pair.{AreApart}
+use Rattle.paired.specs.Records.{records, front, entry_of}
+use Rattle.paired.proofs.Ends.{Ends}
+use Rattle.paired.proofs.OpeningEnds.{front_order, up_to_order, cut_front, cut_up_to}
+use Rattle.paired.proofs.ReconcileResting.{Resting}
+
+-- n at that section alone
+abbrev pub only_at : ℕ → ℕ → ℕ → Option ℕ
+only_at section n s = if s == section then Some n else None
+
+-- the records before the end, or all
+abbrev pub cut_to : Option ℕ → List (List ℕ) → List (List ℕ)
+cut_to None rs = rs
+cut_to (Some n) rs = take n rs
+
+is_at : (section n s p : ℕ) → only_at section n s ≡ Some p → (s ≡ section) × (n ≡ p)
+is_at section n s p = go (s == section) refl
+  where
+    go : (b : Bool) → (s == section) ≡ b → (if b then Some n else None) ≡ Some p → (s ≡ section) × (n ≡ p)
+    go true same is = (eqb-true s section same, some_same n p is)
+    go false same is = absurd (cc is)
+
+module _ {F S : Type 0} {gs : _} {g : buffer.Ghosts (PageBlob S gs)} {gives : F → Setting} {takes : WriteFactory → Setting} {told : Type 0} {l : Layout} {j : Lists F (PageBlob S gs)} {m : Sections WriteFactory WriteBlob} {u : Store Key8 ℕ} {o : OpenedList} {d : Disk}
+    (rests : Resting g gives takes told l j m u o d) (apart : AreApart l) (section n : ℕ) (small : section < 2 ^ 64) (high : marker_of u.entries section ≤ n)
+    (more : told → n < length (records l.record_size (fixed.section_bytes j.sections d section))) where
+  abbrev given : ℕ → List (List ℕ)
+  given s = cut_to (only_at section n s) (records l.record_size (fixed.section_bytes j.sections d s))
+
+  module _ (Rel : Relation) (order : IsOrder Rel) (fronts : (s k : ℕ) → s ≡ section → n ≤ k
+      → Rel s (map (entry_of l.place (content_at (as_read d) l.values s)) (front (is_sound_in l (as_read d) s) (marker_of u.entries s) 0 (take k (stored_records l (as_read d) s)))) (kept l (as_read d) (marker_of u.entries s) s)) where
+    ends_by : Ends g gives takes told Rel l j.sections m u (only_at section n) given j o d
+    ends_by = record {
+      order = order;
+      begins = refl;
+      rests = rests;
+      apart = apart;
+      from = λ s p is. (let at = is_at section n s p is in (omega (arith, at.0, small), omega (arith, ap (marker_of u.entries) at.0, high, at.1)));
+      within = λ t s p is. (let at = is_at section n s p is in
+          omega (arith, at.1, more t, ap (λ (x : ℕ). length (records l.record_size (fixed.section_bytes j.sections d x))) at.0));
+      gives_all = λ t s none. ap (λ (x : Option ℕ). cut_to x (records l.record_size (fixed.section_bytes j.sections d s))) none;
+      gives_to = λ t s p is. ap (λ (x : Option ℕ). cut_to x (records l.record_size (fixed.section_bytes j.sections d s))) is;
+      fronts = λ t s p fits is k le few. (let at = is_at section n s p is in fronts s k at.0 (omega (arith, at.1, le)));
+    }
+
+  -- where the first of what was kept are to be kept
+  pub ends_front : Ends g gives takes told Front l j.sections m u (only_at section n) given j o d
+  ends_front = ends_by Front front_order (λ s k is le. cut_front (entry_of l.place (content_at (as_read d) l.values s)) (is_sound_in l (as_read d) s) (marker_of u.entries s) (stored_records l (as_read d) s) s k)
+
+  -- and at least n of them
+  pub ends_up_to : Ends g gives takes told (UpTo section n) l j.sections m u (only_at section n) given j o d
+  ends_up_to = ends_by (UpTo section n) (up_to_order section n) (λ s k is le. cut_up_to (entry_of l.place (content_at (as_read d) l.values s)) (is_sound_in l (as_read d) s) (marker_of u.entries s) (stored_records l (as_read d) s) section n s k
+      (omega (arith, is)) (λ same. omega (arith, le)))
