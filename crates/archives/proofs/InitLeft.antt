@@ -44,20 +44,25 @@ pub pair_rests : {F S : Type 0} {gs : _} {g : buffer.Ghosts (PageBlob S gs)} {gi
     → ((s : ℕ) (v : PageBlob S gs) → p.index.sections.held s ≡ Some v → g.unsettled v ≡ false) → ((s : ℕ) → IsHeld p.values s → IsAllSettled p.values s)
     → Resting g gives takes told p.layout p.index p.values p.store o d
 pair_rests p o d are_pages here pair index values = record {
-  pages = are_pages;
+  parts = record {
+    pages = are_pages;
+    index = pair.index.over;
+    index_settled = index;
+    index_here = here.index;
+    page_size = here.page_size;
+    some = here.some;
+    values = pair.values;
+    values_settled = values;
+    values_known = pair.whole.values_known;
+    values_here = here.values;
+  };
   journal = pair.index;
   proven = proven_of pair.whole;
-  index_settled = index;
   index_known = pair.whole.index_known;
-  index_here = here.index;
-  page_size = here.page_size;
-  some = here.some;
-  values = pair.values;
-  values_settled = values;
-  values_known = pair.whole.values_known;
-  values_here = here.values;
-  store = λ t. (pair.disk t).markers;
-  store_here = here.store;
+  marks = record {
+    stands = λ t. (pair.disk t).markers;
+    here = here.store;
+  };
 }
 
 module _ {F S : Type 0} {gs : _} {g : buffer.Ghosts (PageBlob S gs)} {gives : F → Setting} {takes : WriteFactory → Setting} {told : Type 0} (arch : Archive F (PageBlob S gs)) (o : OpenedList) (z : Disk)
@@ -69,7 +74,7 @@ module _ {F S : Type 0} {gs : _} {g : buffer.Ghosts (PageBlob S gs)} {gives : F 
 
   -- the marker of a section counts its records
   marked_all : (s : ℕ) → length (records_of arch.pair z s) ≡ marker_of arch.pair.store.entries s
-  marked_all s = sym (length_list arch z s) ∙ sym (length_left arch.pair rests.some z s) ∙ sym (counts.markers s)
+  marked_all s = sym (length_list arch z s) ∙ sym (length_left arch.pair rests.parts.some z s) ∙ sym (counts.markers s)
 
   -- ---- the disk as it reads is lawful
   module _ (markers : Markers) (lawful : Lawful (filing_of arch) (as_read z) markers) where
@@ -85,7 +90,7 @@ module _ {F S : Type 0} {gs : _} {g : buffer.Ghosts (PageBlob S gs)} {gives : F 
               let was = (lawful.pair.true_markers s is.0 (subst (λ (ms : Markers). IsMarked ms s is.0) (sym own_markers) is.1)).sound in
               let all : take is.0 (stored_records arch.pair.layout (as_read z) s) ≡ rs =
               ap (take is.0) (stored_at rests t s small) ∙ take_all is.0 rs (omega (arith, marked_all s, marked_is arch.pair.store.entries s is.0 is.1)) in
-              subst (λ (c : List ℕ). AllByRecursion (λ r. IsTrue (is_sound arch.pair.layout.seal c (arch.pair.layout.place r))) rs) (values_at rests t s small)
+              subst (λ (c : List ℕ). AllByRecursion (λ r. IsTrue (is_sound arch.pair.layout.seal c (arch.pair.layout.place r))) rs) (values_at rests.parts t s small)
               (subst (AllByRecursion (λ r. IsTrue (is_sound_in arch.pair.layout (as_read z) s r))) all was)
           | inr none ↦ subst (AllByRecursion (λ r. IsTrue (is_sound arch.pair.layout.seal (values_now s) (arch.pair.layout.place r)))) (sym (nil_from_length rs (marked_all s ∙ none))) tt
         ]
@@ -94,7 +99,7 @@ module _ {F S : Type 0} {gs : _} {g : buffer.Ghosts (PageBlob S gs)} {gives : F 
     in_place_left : (s : ℕ) → GivesInPlace walked e s
     in_place_left s = elim (none_or_value (arch.pair.index.sections.held s)) [
       | inl none ↦
-          let given : [] ≡ records_given walked e s = sym (unheld_records arch.pair rests.some z s none) ∙ keeps.records s in
+          let given : [] ≡ records_given walked e s = sym (unheld_records arch.pair rests.parts.some z s none) ∙ keeps.records s in
           record {
             end = 0;
             follow = subst (λ (rs : List (List ℕ)). Follow walked.layout.place 0 rs 0) given refl;
@@ -102,7 +107,7 @@ module _ {F S : Type 0} {gs : _} {g : buffer.Ghosts (PageBlob S gs)} {gives : F 
           }
       | inr some ↦
           let has : IsHeld arch.pair.index.sections s = is_some (arch.pair.index.sections.held s) some.0 some.1 in
-          let small : s < 2 ^ 64 = index_number rests s has in
+          let small : s < 2 ^ 64 = index_number rests.parts s has in
           let places = lawful.pair.places s small in
           let n : ℕ = last_end walked.layout.place (records_given walked e s) in
           let old : List ℕ = glob.section_bytes walked.values e s in
@@ -126,7 +131,7 @@ module _ {F S : Type 0} {gs : _} {g : buffer.Ghosts (PageBlob S gs)} {gives : F 
         let l = arch.pair.layout in
         let rs : List (List ℕ) = records_of arch.pair z s in
         sym (
-        (λ i. map (entry_of l.place (values_at rests t s small i)) (front (λ r. is_sound l.seal (values_at rests t s small i) (l.place r)) (marker_of markers s) 0 (stored_at rests t s small i)))
+        (λ i. map (entry_of l.place (values_at rests.parts t s small i)) (front (λ r. is_sound l.seal (values_at rests.parts t s small i) (l.place r)) (marker_of markers s) 0 (stored_at rests t s small i)))
         ∙ ap (map (entry_of l.place (values_now s))) (front_sound (λ r. is_sound l.seal (values_now s) (l.place r)) (marker_of markers s) 0 rs (all_sound s small))
         )
 
@@ -139,8 +144,8 @@ module _ {F S : Type 0} {gs : _} {g : buffer.Ghosts (PageBlob S gs)} {gives : F 
       let sound : IsSoundOn arch.pair z = keeps.sound may (in_place_left lawful.0 lawful.1) in
       record {
         pair = sound;
-        decoded = decoded (filing_of arch) z lawful.0 lawful.1 arch z refl lists sound (λ s far. none_behind arch.pair rests.some z s (index_number rests s) far) (λ bytes. refl);
-        counted = counted (filing_of arch) z lawful.0 lawful.1 arch z refl lists sound (values_number rests);
+        decoded = decoded (filing_of arch) z lawful.0 lawful.1 arch z refl lists sound (λ s far. none_behind arch.pair rests.parts.some z s (index_number rests.parts s) far) (λ bytes. refl);
+        counted = counted (filing_of arch) z lawful.0 lawful.1 arch z refl lists sound (values_number rests.parts);
         absent = λ s small gone. subst (λ (l : Layout). HasNoBytes (z (section_key l.values s))) still (keeps.bare may s small gone);
         names = no_foreign_before (filing_of arch) z law none leaves pair.apart;
       }
