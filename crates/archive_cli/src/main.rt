@@ -1,24 +1,15 @@
 //! `archive_cli` keeps records in an archive in a folder, driven by a script of commands on standard input.
 //!
-//! `run` in `program.rt` carries the theorem: what is written is the text of replies that the machine of records may
+//! `run` of `archive_program` carries the theorem: what is written is the text of replies that the machine of records may
 //! give to the script, and at every moment each crash leaves what it may. This file only makes the device, the source and
 //! the sink, and says on standard error what is wrong.
 #![tactic(auto)]
 
 ghost use Rattle.std.specs.Prelude.{◌≡◌, ◌≤◌, IsSome, IsNone};
 
-mod answer;
-mod config;
-mod input;
-mod laws;
-mod output;
-mod program;
-mod words;
-
+use archive_program::run;
 use archive_service::Status;
 use blob_device::{Device, FileDevice, Memory, StdSink, StdSource};
-pub use laws::an_empty_device_may_be_served;
-pub use program::{run, run_with};
 use std::io::ErrorKind;
 use std::process::ExitCode;
 use std::{env, io};

@@ -150,6 +150,3 @@ fn append_with(text: &[u8], number: u64, out: &mut Vec<u8>) -> Result<(), AllocE
     let digits = format!(in *out.allocator(); "{number}")?;
     out.extend_from_slice(digits.as_bytes())
 }
-
-#[cfg(test)]
-mod tests;

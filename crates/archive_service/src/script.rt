@@ -212,6 +212,3 @@ pub fn reading_is_exact()
     ensures good_or_bad { GoodOrBad }
     ensures one_first { OneFirstBad }
 {}
-
-#[cfg(test)]
-mod tests;

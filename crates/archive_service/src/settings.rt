@@ -75,6 +75,3 @@ fn is_power_of_two(n: u32) -> bool
 {
     n.count_ones() == 1
 }
-
-#[cfg(test)]
-mod tests;

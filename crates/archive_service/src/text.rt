@@ -73,28 +73,3 @@ pub(crate) fn append_hex(bytes: &[u8], out: &mut Vec<u8>) -> Result<(), AllocErr
     let text = hex::encode(*out.allocator(), bytes)?;
     out.extend_from_slice(text.as_bytes())
 }
-
-#[cfg(test)]
-mod tests {
-    use super::*;
-    use std::test::Fail;
-
-    #[test]
-    fn writes_the_lines_of_replies(rt: HostRuntime) -> Result<(), Fail> {
-        let mut out = Vec::new(rt.alloc());
-        let value = ByteValue::new(rt.alloc(), &[0xaa, 0x0f])?;
-        let empty = ByteValue::new(rt.alloc(), &[])?;
-        write_reply(&Reply::Done, &mut out)?;
-        write_reply(&Reply::Value(Some(value)), &mut out)?;
-        write_reply(&Reply::Value(Some(empty)), &mut out)?;
-        write_reply(&Reply::Value(None), &mut out)?;
-        write_reply(&Reply::Flag(true), &mut out)?;
-        write_reply(&Reply::Flag(false), &mut out)?;
-        write_bad_line(2, &mut out)?;
-        write_bad_line(u64::MAX, &mut out)?;
-        let want =
-            b"ok\nvalue aa0f\nvalue -\nnone\nyes\nno\nerror line 2\nerror line 18446744073709551615\n";
-        assert_eq!(rt; out.as_slice(), want.as_slice());
-        Ok(())
-    }
-}

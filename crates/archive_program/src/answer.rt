@@ -1,0 +1,188 @@
+// The answer to a whole input: what is to be written, and how the program then ends.
+ghost use Rattle.std.specs.Prelude.{◌≡◌, ◌⊎◌, ◌≤◌, ◌++◌, [], ℕ, None, Some, IfSome, OnOk, map};
+ghost use Rattle.std.specs.List.{AllByRecursion};
+ghost use Rattle.std.specs.Result.{IsOkUnless};
+ghost use Rattle.blob_device.specs.Counts.{Rose};
+ghost use Rattle.archives.specs.Machine.{replied};
+ghost use Rattle.archive_service.specs.Causes.{IsFault};
+ghost use Rattle.archive_service.specs.ErrorTexts.{error_line, served_text};
+ghost use Rattle.archive_service.specs.Script.{CanBeSaid};
+ghost use Rattle.archive_service.specs.Settings.{AreSettings};
+ghost use Rattle.archive_service.specs.Texts.{bad_line_text, replies_text};
+ghost use Rattle.archive_program.specs.Program.{Answers, AnswersCommands, EndsWith, HasNoMemory, IsServedBy, error_of, status_of};
+
+use crate::config::config_of;
+use archive_service::{
+    End, Ended, Marks, Replies, Script, ScriptError, Served, Settings, Status, read_script, serve,
+    write_bad_line, write_error_line, write_reply,
+};
+use archives::{Error, FourCap};
+use blob_device::Device;
+use std::alloc::Global;
+use value_codec::{ByteValue, Key8, Sha256Hash, Sha256Seal};
+
+/// What is to be written, and how the program ends once it is.
+#[derive(Drop)]
+pub struct Answer {
+    /// The status, the marks and the error.
+    pub ended: Ended,
+    /// What is to be written.
+    pub text: Vec<u8>,
+}
+
+impl Answer {
+    // No text, since there was no memory.
+    fn no_memory(alloc: Global, marks: Marks, error: Option<Error>) -> Answer
+        ensures status { result.ended.status ≡ 6 }
+        ensures marks { result.ended.marks ≡ marks }
+        ensures error { result.ended.error ≡ error }
+        ensures text { result.text.items ≡ [] }
+    {
+        Answer {
+            ended: Ended {
+                status: Status::NoMemory as u8,
+                marks,
+                error,
+            },
+            text: Vec::new(alloc),
+        }
+    }
+}
+
+/// The answer to a whole input.
+pub fn answer_of<D: Device>(
+    alloc: Global,
+    dev: &mut D,
+    input: &[u8],
+    items: u64,
+    settings: &Settings,
+) -> Answer
+    requires settings { AreSettings settings.now }
+    requires items { 1 ≤ items }
+    ensures answers { Answers settings.now.max_value (IsServedBy settings.now items D.Tells (D.faults dev.old) (D.faults dev.new) (D.time dev.old) (D.time dev.new) result.ended.marks) (dev.new ≡ dev.old) input.now result.ended result.text.items }
+    ensures fault { IfSome result.ended.error (λ e. IsFault e → Rose (D.faults dev.old) (D.faults dev.new)) }
+    ensures faults { D.faults dev.old ≤ D.faults dev.new }
+{
+    match read_script(alloc, input, settings.max_value) {
+        Ok(script) => served(alloc, dev, &script, items, settings),
+        Err(ScriptError::Line(number)) => bad_line(alloc, number),
+        Err(ScriptError::Mem) => Answer::no_memory(alloc, Marks::new(alloc), None),
+    }
+}
+
+// The answer to a script whose line of this number is bad.
+fn bad_line(alloc: Global, number: u64) -> Answer
+    ensures { EndsWith (bad_line_text number) 2 [] None result.ended result.text.items }
+{
+    let mut text = Vec::new(alloc);
+    match write_bad_line(number, &mut text) {
+        Ok(()) => Answer {
+            ended: Ended::unserved(alloc, Status::BadScript),
+            text,
+        },
+        Err(_) => Answer::no_memory(alloc, Marks::new(alloc), None),
+    }
+}
+
+// The answer to a script.
+fn served<D: Device>(
+    alloc: Global,
+    dev: &mut D,
+    script: &Script,
+    items: u64,
+    settings: &Settings,
+) -> Answer
+    requires settings { AreSettings settings.now }
+    requires items { 1 ≤ items }
+    requires values { AllByRecursion (CanBeSaid settings.now.max_value) script.now }
+    ensures answers { ((dev.new ≡ dev.old) × HasNoMemory result.ended result.text.items)
+        ⊎ AnswersCommands (IsServedBy settings.now items D.Tells (D.faults dev.old) (D.faults dev.new) (D.time dev.old) (D.time dev.new) result.ended.marks) script.now result.ended result.text.items }
+    ensures fault { IfSome result.ended.error (λ e. IsFault e → Rose (D.faults dev.old) (D.faults dev.new)) }
+    ensures faults { D.faults dev.old ≤ D.faults dev.new }
+{
+    let Ok(config) = config_of(alloc, items, settings) else {
+        return Answer::no_memory(alloc, Marks::new(alloc), None);
+    };
+    let Served {
+        replies,
+        marks,
+        end,
+    } = serve::<D, FourCap, Key8, ByteValue, Sha256Seal, Sha256Hash>(
+        alloc,
+        dev,
+        &config,
+        script.as_slice(),
+    );
+    answer_at(alloc, &replies, marks, end)
+}
+
+// The answer of a run that came to this end.
+fn answer_at(alloc: Global, replies: &Replies<ByteValue>, marks: Marks, end: End) -> Answer
+    ensures { EndsWith (served_text (map (replied (λ v. v)) replies.now) end) (status_of end) marks (error_of end) result.ended result.text.items }
+{
+    match end {
+        End::Done => answered(alloc, replies, marks),
+        End::Failed(error) => stopped(alloc, replies, marks, error),
+    }
+}
+
+// The answer of a run that ended in an error.
+fn stopped(alloc: Global, replies: &Replies<ByteValue>, marks: Marks, error: Error) -> Answer
+    ensures { EndsWith (served_text (map (replied (λ v. v)) replies.now) (End.Failed error)) (status_of (End.Failed error)) marks (error_of (End.Failed error)) result.ended result.text.items }
+{
+    match error {
+        Error::Mem => Answer::no_memory(alloc, marks, None),
+        error => failed(alloc, replies, marks, error),
+    }
+}
+
+// The answer of a run that is done.
+fn answered(alloc: Global, replies: &Replies<ByteValue>, marks: Marks) -> Answer
+    ensures { EndsWith (replies_text (map (replied (λ v. v)) replies.now)) 0 marks None result.ended result.text.items }
+{
+    let mut text = Vec::new(alloc);
+    match append_replies(replies, &mut text) {
+        Ok(()) => Answer {
+            ended: Ended {
+                status: Status::Done as u8,
+                marks,
+                error: None,
+            },
+            text,
+        },
+        Err(_) => Answer::no_memory(alloc, marks, None),
+    }
+}
+
+// The answer of a run that ended in an error other than want of memory.
+fn failed(alloc: Global, replies: &Replies<ByteValue>, marks: Marks, error: Error) -> Answer
+    ensures { EndsWith (replies_text (map (replied (λ v. v)) replies.now) ++ error_line error) 5 marks (Some error) result.ended result.text.items }
+{
+    let mut text = Vec::new(alloc);
+    let written = match append_replies(replies, &mut text) {
+        Ok(()) => write_error_line(&error, &mut text),
+        Err(e) => Err(e),
+    };
+    match written {
+        Ok(()) => Answer {
+            ended: Ended {
+                status: Status::StoreError as u8,
+                marks,
+                error: Some(error),
+            },
+            text,
+        },
+        Err(_) => Answer::no_memory(alloc, marks, Some(error)),
+    }
+}
+
+// Appends the lines of all replies.
+fn append_replies(replies: &Replies<ByteValue>, text: &mut Vec<u8>) -> Result<(), ScriptError>
+    ensures text { OnOk result (text.new.items ≡ text.old.items ++ replies_text (map (replied (λ v. v)) replies.now)) }
+    ensures memory { IsOkUnless result ScriptError.Mem }
+{
+    for reply in replies.as_slice() {
+        write_reply(reply, text)?;
+    }
+    Ok(())
+}

@@ -1,0 +1,86 @@
+// Runs in which one call of the device fails, and when their commands began.
+use crate::judge::wrong_with;
+use crate::outcome::Outcome;
+use crate::owed::course_of;
+use crate::stop::{Stop, ok};
+use crate::trial::{MOST_CALLS, Trial};
+use archives::Error;
+use blob_device::{Device, RError};
+use segments::journal;
+
+/// Each call fails alone, until a run has no failure. It stops the run, and what is left keeps what is owed.
+pub fn each_call_fails(trial: &Trial<'_>, least: u64) -> Result<String, Stop> {
+    let alloc = trial.alloc;
+    let whole = trial.run(&mut trial.device()?, trial.script)?;
+    let course = course_of(trial)?;
+    for nth in 0..MOST_CALLS {
+        let mut dev = trial.device()?;
+        dev.fail_at(nth)?;
+        let failed = trial.run(&mut dev, trial.script)?;
+        if dev.faults() == 0 {
+            if failed.is_same(&whole) && dev.calls() == nth && nth >= least {
+                return ok(alloc);
+            }
+            return Ok(format!(in alloc; "without a failure there are {nth} calls: {failed:?}")?);
+        }
+        if dev.faults() != 1 || !is_stopped(nth, &whole, &failed) {
+            return Ok(format!(in alloc; "call {nth} fails: {failed:?}")?);
+        }
+        let owed = course.owed(trial, &failed)?;
+        let image = dev.image(alloc)?;
+        let wrong = wrong_with(trial, &image, &mut dev, &owed)?;
+        if !wrong.is_empty() {
+            return Ok(format!(in alloc; "call {nth} fails: {wrong}")?);
+        }
+    }
+    Err(Stop::Said("the run has too many calls"))
+}
+
+// Whether the run was that of the whole one up to this call, which failed: all commands were begun whose marks were reached, all of
+// these but the last have their replies, and the last line is that of a fault.
+fn is_stopped(nth: u64, whole: &Outcome, failed: &Outcome) -> bool {
+    let marks = whole.ended.marks.as_slice();
+    let begun = marks.iter().take_while(|mark| **mark <= nth).count();
+    let replied = begun.saturating_sub(1);
+    let same = failed
+        .written
+        .lines()
+        .zip(whole.written.lines())
+        .take_while(|(line, reply)| line == reply)
+        .count();
+    let last = failed.written.lines().last().unwrap_or("");
+    failed.ended.status == 5
+        && is_fault(&failed.ended.error)
+        && Some(failed.ended.marks.as_slice()) == marks.get(..begun)
+        && failed.written.lines().count() == replied.saturating_add(1)
+        && same == replied
+        && last.starts_with("error ")
+        && last.ends_with(" runtime fault")
+}
+
+// Whether it is a failure of the device.
+fn is_fault(error: &Option<Error>) -> bool {
+    let of_records = Some(Error::Journal(journal::Error::Runtime(RError::Fault)));
+    let of_markers = Some(Error::Metadata(meta_store::Error::Runtime(RError::Fault)));
+    *error == of_records || *error == of_markers
+}
+
+/// A mark is the number of calls that the opening and the commands before it make.
+pub fn marks_count(trial: &Trial<'_>) -> Result<String, Stop> {
+    let alloc = trial.alloc;
+    let whole = trial.run(&mut trial.device()?, trial.script)?;
+    let mut before = String::new(alloc);
+    for (line, mark) in trial.script.lines().zip(whole.ended.marks.as_slice()) {
+        let mut dev = trial.device()?;
+        trial.run(&mut dev, before.as_str())?;
+        if dev.calls() != *mark {
+            return Ok(format!(in alloc; "{line} began at call {mark}")?);
+        }
+        before.push_str(line)?;
+        before.push_str("\n")?;
+    }
+    if before.as_str() != trial.script {
+        return Err(Stop::Said("a command was not begun"));
+    }
+    ok(alloc)
+}

@@ -1,0 +1,182 @@
+// What an image must be, wherever the run before it stopped: lawful, what is owed, and opened as what it keeps.
+use crate::kept::{Kept, blob_of, found_in, index_in, kept_in, record_of, records_of, word_in};
+use crate::owed::Owed;
+use crate::stop::Stop;
+use crate::trial::Trial;
+use archives::prunable::IndexRecord;
+use blob_device::{Image, Memory};
+use paired::Record;
+use paired::plain::{Found, has_sound};
+use std::alloc::{AllocError, Global};
+use std::fmt::Write;
+use value_codec::{Key8, Sha256Seal};
+
+/// What is wrong with an image, which is what the device reads as; nothing where all is well. A new run over the device must find what
+/// the plain program finds in the image.
+pub fn wrong_with(
+    trial: &Trial<'_>,
+    image: &Image,
+    dev: &mut Memory,
+    owed: &Owed,
+) -> Result<&'static str, Stop> {
+    let alloc = trial.alloc;
+    let page_size = trial.settings.page_size;
+    let kept = kept_in(alloc, page_size, image)?;
+    let why = unlawful(alloc, page_size, trial.items, image, &kept)?;
+    if !why.is_empty() {
+        return Ok(why);
+    }
+    if !owed.allows(&kept) {
+        return Ok("it keeps other records than those that are owed");
+    }
+    let looks = looks_of(trial, owed, &kept)?;
+    let run = trial.run(dev, looks.script.as_str())?;
+    if run.ended.status != 0 || run.written.as_str() != looks.replies.as_str() {
+        return Ok("a new run does not find what is kept");
+    }
+    let after = kept_in(alloc, page_size, &dev.image(alloc)?)?;
+    if !are_settled(&kept, &after) {
+        return Ok("a new run keeps something else, or leaves it unmarked");
+    }
+    Ok("")
+}
+
+/// Why an image is not lawful; nothing where it is: each record stands in its section and names the place behind the one before, and
+/// the markers are true.
+pub fn unlawful(
+    alloc: Global,
+    page_size: u16,
+    items: u64,
+    image: &Image,
+    kept: &[Kept],
+) -> Result<&'static str, Stop> {
+    for one in kept {
+        let all = found_in(alloc, page_size, image, one.section, u64::MAX)?;
+        if !are_records(alloc, items, one.section, &all)? {
+            return Ok("a record is in another section than its own, or leaves a gap");
+        }
+        if !is_marked_truly(alloc, page_size, image, one)? {
+            return Ok("a marker is not true");
+        }
+    }
+    Ok("")
+}
+
+// Whether these are records of the section, whose values follow one another.
+fn are_records(alloc: Global, items: u64, section: u64, found: &[Found]) -> Result<bool, Stop> {
+    let mut end = 0;
+    for item in found {
+        let record = record_of(alloc, item)?;
+        let (offset, size) = record.value_location();
+        let index = record.index();
+        let first = index.saturating_sub(index.checked_rem(items).unwrap_or(0));
+        if first != section || offset != end || size < 4 {
+            return Ok(false);
+        }
+        end = offset.saturating_add(u64::from(size));
+    }
+    Ok(true)
+}
+
+// Whether the section's marker is true: it has a blob, so many records, and all of these are sound.
+fn is_marked_truly(
+    alloc: Global,
+    page_size: u16,
+    image: &Image,
+    one: &Kept,
+) -> Result<bool, Stop> {
+    let Some(marker) = one.marker else {
+        return Ok(true);
+    };
+    let is_sound = has_sound::<IndexRecord<Key8>, Sha256Seal>(
+        alloc,
+        page_size,
+        blob_of(image, "keys", one.section),
+        blob_of(image, "values", one.section),
+        marker,
+    );
+    let name = one.section.to_be_bytes();
+    let is_there = image.blob("keys", name.as_slice()).is_some();
+    match is_sound {
+        Ok(is_sound) => Ok(is_sound && is_there),
+        Err(error) => Err(Stop::from(archives::Error::from(error))),
+    }
+}
+
+// Lookups, and the replies that they must get.
+#[derive(Drop)]
+struct Looks {
+    script: String,
+    replies: String,
+}
+
+// How many indices of a section are looked up, besides those that were put.
+const LOOKED: u64 = 16;
+
+// Lookups of indices of each section, and of each put by its index and its key.
+fn looks_of(trial: &Trial<'_>, owed: &Owed, kept: &[Kept]) -> Result<Looks, AllocError> {
+    let mut looks = Looks {
+        script: String::new(trial.alloc),
+        replies: String::new(trial.alloc),
+    };
+    for section in owed.sections.iter() {
+        let end = section.first.saturating_add(trial.items.min(LOOKED));
+        for index in section.first..end {
+            looks.ask_index(index, records_of(kept, section.first))?;
+        }
+        for put in section.puts.iter() {
+            let index = index_in(put.as_str()).unwrap_or(0);
+            looks.ask_index(index, records_of(kept, section.first))?;
+            looks.ask_key(word_in(put.as_str(), 1), kept)?;
+        }
+    }
+    Ok(looks)
+}
+
+impl Looks {
+    // Asks for an index, of whose section these records are kept.
+    fn ask_index(&mut self, index: u64, records: &[String]) -> Result<(), AllocError> {
+        writeln!(self.script, "has {index}\nget {index}")?;
+        for record in records {
+            if index_in(record.as_str()) == Some(index) {
+                let value = word_in(record.as_str(), 2);
+                return writeln!(self.replies, "yes\nvalue {value}");
+            }
+        }
+        self.replies.push_str("no\nnone\n")
+    }
+
+    // Asks for a key, unless two records have it.
+    fn ask_key(&mut self, key: &str, kept: &[Kept]) -> Result<(), AllocError> {
+        let mut count = 0_u64;
+        let mut value = "";
+        for record in kept.iter().flat_map(|one| one.records.iter()) {
+            if word_in(record.as_str(), 1) == key {
+                count = count.saturating_add(1);
+                value = word_in(record.as_str(), 2);
+            }
+        }
+        if count > 1 {
+            return Ok(());
+        }
+        writeln!(self.script, "hask {key}\ngetk {key}")?;
+        if count == 1 {
+            writeln!(self.replies, "yes\nvalue {value}")
+        } else {
+            self.replies.push_str("no\nnone\n")
+        }
+    }
+}
+
+// Whether the same is kept afterwards, with a marker of all records of each section.
+fn are_settled(kept: &[Kept], after: &[Kept]) -> bool {
+    for one in kept {
+        if records_of(after, one.section) != one.records.as_slice() {
+            return false;
+        }
+    }
+    after.iter().all(|one| {
+        one.marker.unwrap_or(0) == one.records.len() as u64
+            && records_of(kept, one.section) == one.records.as_slice()
+    })
+}

@@ -1,0 +1,107 @@
+// A run of the program between a source and a sink in memory.
+use crate::stop::Stop;
+use archive_program::run_with;
+use archive_service::{Ended, Settings, Status};
+use blob_device::{Device, MemSink, MemSource};
+use std::alloc::Global;
+
+/// How a run of the program ended, and what it wrote.
+#[derive(Debug, Drop)]
+pub struct Outcome {
+    pub ended: Ended,
+    pub written: String,
+}
+
+impl Outcome {
+    /// The outcome of no run.
+    pub fn unserved(alloc: Global) -> Outcome {
+        Outcome {
+            ended: Ended::unserved(alloc, Status::Usage),
+            written: String::new(alloc),
+        }
+    }
+
+    /// Whether both ended so: with the same status, marks and error, and the same output.
+    pub fn is_same(&self, other: &Outcome) -> bool {
+        self.written.as_str() == other.written.as_str()
+            && self.ended.status == other.ended.status
+            && self.served_same(other)
+    }
+
+    /// Whether both have the same marks and error.
+    pub fn served_same(&self, other: &Outcome) -> bool {
+        self.ended.marks.as_slice() == other.ended.marks.as_slice()
+            && self.ended.error == other.ended.error
+    }
+}
+
+/// How the input comes and the output goes.
+#[derive(Clone, Copy)]
+pub struct Streams {
+    /// How many bytes a source gives at a time, and a sink takes.
+    pub piece: usize,
+    /// Which read fails.
+    pub failing_read: Option<u64>,
+    /// Which write fails.
+    pub failing_write: Option<u64>,
+}
+
+/// Streams that pass all at once, and do not fail.
+pub const WHOLE: Streams = Streams {
+    piece: 1 << 20,
+    failing_read: None,
+    failing_write: None,
+};
+
+/// What the program is called with, beside a device.
+#[derive(Drop)]
+pub struct Call<'a> {
+    pub words: &'a [String],
+    pub settings: &'a Settings,
+    pub input: &'a [u8],
+}
+
+// The source of a run.
+fn source_of(alloc: Global, input: &[u8], streams: Streams) -> Result<MemSource, Stop> {
+    let mut source = MemSource::new(alloc, input, streams.piece.max(1))?;
+    if let Some(nth) = streams.failing_read {
+        source.fail_at(nth)?;
+    }
+    Ok(source)
+}
+
+// The sink of a run.
+fn sink_of(alloc: Global, streams: Streams) -> Result<MemSink, Stop> {
+    let mut sink = MemSink::new(alloc, streams.piece.max(1));
+    if let Some(nth) = streams.failing_write {
+        sink.fail_at(nth)?;
+    }
+    Ok(sink)
+}
+
+/// Runs the program over a device.
+pub fn outcome_of<D: Device>(
+    alloc: Global,
+    call: &Call<'_>,
+    streams: Streams,
+    dev: &mut D,
+) -> Result<Outcome, Stop> {
+    if !call.settings.is_valid() {
+        return Err(Stop::Said("the settings are not valid"));
+    }
+    let mut source = source_of(alloc, call.input, streams)?;
+    let mut sink = sink_of(alloc, streams)?;
+    let ended = run_with(
+        alloc,
+        call.words,
+        dev,
+        &mut source,
+        &mut sink,
+        call.settings,
+    );
+    let written = std::str::from_utf8(sink.bytes()).unwrap_or("no text");
+    Ok(Outcome {
+        ended,
+        written: String::from_str(alloc, written)?,
+    })
+}

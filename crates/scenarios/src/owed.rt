@@ -1,0 +1,177 @@
+// What an image has to keep of a run that stopped, by its script and by how far it came.
+use crate::kept::{Kept, index_in, kept_in, records_of};
+use crate::outcome::Outcome;
+use crate::stop::Stop;
+use crate::trial::Trial;
+use std::alloc::Global;
+
+/// The puts that a section took, in order, and how many of them are synced.
+#[derive(Drop)]
+pub struct Section {
+    pub first: u64,
+    pub puts: Vec<String>,
+    synced: usize,
+}
+
+/// What is owed of each section.
+#[derive(Drop)]
+pub struct Owed {
+    alloc: Global,
+    items: u64,
+    pub sections: Vec<Section>,
+}
+
+impl Owed {
+    // All that is kept, as synced.
+    fn of_kept(alloc: Global, items: u64, kept: &[Kept]) -> Result<Owed, Stop> {
+        let mut owed = Owed {
+            alloc,
+            items,
+            sections: Vec::new(alloc),
+        };
+        for one in kept {
+            for record in one.records.iter() {
+                owed.submit(record.as_str())?;
+            }
+        }
+        owed.settle();
+        Ok(owed)
+    }
+
+    // A put of this record begins. Where its index is taken it changes nothing.
+    fn submit(&mut self, record: &str) -> Result<(), Stop> {
+        let Some(index) = index_in(record) else {
+            return Ok(());
+        };
+        let first = index.saturating_sub(index.checked_rem(self.items).unwrap_or(0));
+        let text = String::from_str(self.alloc, record)?;
+        for section in self.sections.iter_mut() {
+            if section.first == first {
+                return section.submit(index, text);
+            }
+        }
+        let mut section = Section {
+            first,
+            puts: Vec::new(self.alloc),
+            synced: 0,
+        };
+        section.puts.push(text)?;
+        self.sections.push(section)?;
+        Ok(())
+    }
+
+    // All that was put is synced.
+    fn settle(&mut self) {
+        for section in self.sections.iter_mut() {
+            section.synced = section.puts.len();
+        }
+    }
+
+    // The archive was opened again over what was kept.
+    fn reopen(&mut self, kept: &[Kept]) {
+        for section in self.sections.iter_mut() {
+            section
+                .puts
+                .truncate(records_of(kept, section.first).len());
+        }
+        self.settle();
+    }
+
+    /// Whether an image may keep this: of each section the first puts, with all that are synced, and nothing else.
+    pub fn allows(&self, kept: &[Kept]) -> bool {
+        let of_owed = self
+            .sections
+            .iter()
+            .all(|section| section.allows(records_of(kept, section.first)));
+        of_owed && kept.iter().all(|one| one.records.is_empty() || self.has(one.section))
+    }
+
+    // Whether something was put in the section.
+    fn has(&self, first: u64) -> bool {
+        self.sections.iter().any(|section| section.first == first)
+    }
+}
+
+impl Section {
+    // Takes a put of this index, unless it is taken.
+    fn submit(&mut self, index: u64, record: String) -> Result<(), Stop> {
+        if self
+            .puts
+            .iter()
+            .all(|put| index_in(put.as_str()) != Some(index))
+        {
+            self.puts.push(record)?;
+        }
+        Ok(())
+    }
+
+    // Whether these are its first puts, with all that are synced.
+    fn allows(&self, records: &[String]) -> bool {
+        records.len() >= self.synced && self.puts.get(..records.len()) == Some(records)
+    }
+}
+
+/// What a trial owes as it goes on: what the first image keeps, and what is kept before each opening again.
+#[derive(Drop)]
+pub struct Course {
+    openings: Vec<Vec<Kept>>,
+}
+
+/// The course of a trial. What an opening finds is what the plain program says is kept of the lines before it.
+pub fn course_of(trial: &Trial<'_>) -> Result<Course, Stop> {
+    let alloc = trial.alloc;
+    let page_size = trial.settings.page_size;
+    let mut openings = Vec::new(alloc);
+    openings.push(kept_in(alloc, page_size, trial.start)?)?;
+    let mut before = String::new(alloc);
+    for line in trial.script.lines() {
+        if line == "reopen" {
+            let mut dev = trial.device()?;
+            trial.run(&mut dev, before.as_str())?;
+            openings.push(kept_in(alloc, page_size, &dev.image(alloc)?)?)?;
+        }
+        before.push_str(line)?;
+        before.push_str("\n")?;
+    }
+    Ok(Course { openings })
+}
+
+impl Course {
+    /// What is owed of a run: the commands that were begun may be kept, and those that have replies are done.
+    pub fn owed(&self, trial: &Trial<'_>, run: &Outcome) -> Result<Owed, Stop> {
+        let mut openings = self.openings.iter();
+        let first = openings.next().map_or([].as_slice(), |kept| kept.as_slice());
+        let mut owed = Owed::of_kept(trial.alloc, trial.items, first)?;
+        let begun = run.ended.marks.as_slice().len();
+        let replied = replies_in(run);
+        for (at, line) in trial.script.lines().take(begun).enumerate() {
+            let (word, record) = line.split_once(' ').unwrap_or((line, ""));
+            if word.starts_with("put") {
+                owed.submit(record)?;
+            }
+            if at >= replied {
+                continue;
+            }
+            match word {
+                "putsync" | "putstart" | "sync" | "start" => owed.settle(),
+                "reopen" => {
+                    let kept = openings.next().map_or([].as_slice(), |kept| kept.as_slice());
+                    if !owed.allows(kept) {
+                        return Err(Stop::Said("what is kept before an opening is not owed"));
+                    }
+                    owed.reopen(kept);
+                }
+                _ => {}
+            }
+        }
+        Ok(owed)
+    }
+}
+
+// How many replies a run gave.
+fn replies_in(run: &Outcome) -> usize {
+    run.written
+        .lines()
+        .filter(|line| !line.starts_with("error "))
+        .count()
+}

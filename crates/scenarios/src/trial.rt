@@ -1,0 +1,75 @@
+// A script, and the image over which it is tried again and again.
+use crate::image::device;
+use crate::outcome::{Call, Outcome, Streams, WHOLE, outcome_of};
+use crate::stage::Stage;
+use crate::stop::Stop;
+use archive_service::{Settings, index_of};
+use blob_device::{Image, Memory};
+use std::alloc::Global;
+
+/// How many calls a run may make that is tried at each of them.
+pub const MOST_CALLS: u64 = 1024;
+
+/// A script, and the image over which it is tried.
+#[derive(Drop)]
+pub struct Trial<'a> {
+    pub alloc: Global,
+    pub words: &'a [String],
+    pub settings: &'a Settings,
+    /// How many indices a section has room for.
+    pub items: u64,
+    pub script: &'a str,
+    /// The replies that its lines must get.
+    pub wanted: &'a [String],
+    pub fuse: Option<u64>,
+    pub start: &'a Image,
+}
+
+impl<'a> Trial<'a> {
+    /// A trial of the script that was gathered, over this image.
+    pub fn new(stage: &'a Stage, start: &'a Image) -> Result<Trial<'a>, Stop> {
+        let items = stage.words.get(2).and_then(|word| index_of(word.as_bytes()));
+        let Ok(script) = std::str::from_utf8(stage.input.as_slice()) else {
+            return Err(Stop::Said("the script is no text"));
+        };
+        Ok(Trial {
+            alloc: stage.alloc,
+            words: stage.words.as_slice(),
+            settings: &stage.settings,
+            items: items.unwrap_or(1),
+            script,
+            wanted: stage.wanted.as_slice(),
+            fuse: stage.fuse,
+            start,
+        })
+    }
+
+    /// A device over the image.
+    pub fn device(&self) -> Result<Memory, Stop> {
+        let mut dev = device(self.alloc, self.start)?;
+        if let Some(nth) = self.fuse {
+            dev.fuse_at(nth);
+        }
+        Ok(dev)
+    }
+
+    /// Runs these lines over a device, between these streams.
+    pub fn run_between(
+        &self,
+        dev: &mut Memory,
+        input: &[u8],
+        streams: Streams,
+    ) -> Result<Outcome, Stop> {
+        let call = Call {
+            words: self.words,
+            settings: self.settings,
+            input,
+        };
+        outcome_of(self.alloc, &call, streams, dev)
+    }
+
+    /// Runs these lines over a device.
+    pub fn run(&self, dev: &mut Memory, script: &str) -> Result<Outcome, Stop> {
+        self.run_between(dev, script.as_bytes(), WHOLE)
+    }
+}
