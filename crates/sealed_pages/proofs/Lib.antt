@@ -37,3 +37,4 @@ pub mod Fronts
 pub mod UnrecoveredLemmas
 pub mod Shortening
 pub mod Clearing
+pub mod TruncateEnds

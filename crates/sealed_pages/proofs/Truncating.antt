@@ -258,12 +258,6 @@ page_stands seal P c j lt = elim (cases_lt (length c) (page_at P j)) [
 pub cut_place : (P len : ℕ) → len / P * P + len % P ≡ len
 cut_place P len = omega (arith, mod-eq-sub-div-mul len P, div-mul-le_self len P)
 
--- first a sync, then a cut of what is settled
-pub sync_then : (seal : List ℕ → ℕ) (P : ℕ) (all bytes : List ℕ) (settled len L : ℕ) (key : Key) (a b d : Timeline) → Sealing seal P all settled key a b → bytes ≡ all → L ≡ len → Sealing seal P bytes L key b d → Sealing seal P all (min settled len) key a d
-sync_then seal P all bytes settled len L key a b d first same is second = sealing_then seal P all (min settled len) key a b d
-    (sealing_less seal P all settled (min settled len) key a b (omega arith) first)
-    (subst (λ (l : List ℕ). Sealing seal P l (min settled len) key b d) same (sealing_less seal P bytes L (min settled len) key b d (omega (arith, is)) second))
-
 -- what holds of an answer
 pub map_ok : {T E : Type 0} (r : Result T E) (A B : T → Type 0) → ((v : T) → A v → B v) → IfOk r A → IfOk r B
 map_ok (Ok v) A B f has = f v has

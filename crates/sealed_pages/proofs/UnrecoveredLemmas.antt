@@ -167,10 +167,6 @@ module _ (seal : List ℕ → ℕ) (P : ℕ) (bytes : List ℕ) (key : Key) wher
   pub keeps_then : (a b c : Timeline) → KeepsPrefix seal P bytes key a b → KeepsPrefix seal P (sealed_prefix seal P (disk b key).content) key b c → KeepsPrefix seal P bytes key a c
   keeps_then a b c first second = only_then a b c key (HasPrefix seal P bytes) first (subst (λ (l : List ℕ). KeepsPrefix seal P l key b c) (keeps_now a b first) second)
 
-  -- first all stays, then what is sealed is cut
-  pub keeps_cut : (L : ℕ) (a b c : Timeline) → L ≤ length bytes → KeepsPrefix seal P bytes key a b → Sealing seal P (sealed_prefix seal P (disk b key).content) L key b c → Sealing seal P bytes L key a c
-  keeps_cut L a b c le first second = sealing_then seal P bytes L key a b c (keeps_sealing L a b le first) (subst (λ (l : List ℕ). Sealing seal P l L key b c) (keeps_now a b first) second)
-
 -- a page below the end of what is spared, which stands whole, is covered as before
 pub front_covers : (seal : List ℕ → ℕ) (P first : ℕ) (a b : Blob) (k : ℕ) → FrontOf (page_at P first) a b → k < first → page_at P (k + 1) ≤ length a.content → page_length seal P b.content k ≡ page_length seal P a.content k
 front_covers seal P first a b k has less whole =
