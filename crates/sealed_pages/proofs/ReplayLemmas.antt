@@ -11,7 +11,7 @@ use Rattle.sealed_pages.specs.declared.piece.Piece.{Piece}
 use Rattle.sealed_pages.specs.Entries.{ReadsAtMost}
 use Rattle.sealed_pages.specs.Pieces.{HasPage, next_missing}
 use Rattle.sealed_pages.specs.Reading.{page_of}
-use Rattle.sealed_pages.specs.Readers.{Reader, ReadsUnread}
+use Rattle.sealed_pages.specs.Readers.{Reader, ReadsUnread, SameReader}
 use Rattle.sealed_pages.specs.Reads.{IsWanted, IsCovered, IsShort, EndsAtOrPast, needed, pages_for, touched}
 use Rattle.sealed_pages.specs.SealedPrefix.{place, data_from}
 use Rattle.sealed_pages.specs.Slots.{page_length}
@@ -205,3 +205,13 @@ module _ (P m n next goal : ℕ) (k : Key) (a b c : OpenedList) (pos : 1 ≤ P) 
 
 pub unread_then : (old mid new : Reader) (a b c : OpenedList) → mid.key ≡ old.key → ReadsUnread old mid a b → ReadsUnread mid new b c → ReadsUnread old new a c
 unread_then old mid new a b c key first second = omega (arith, first, second, ap (λ (k : Key). reads_of (b k)) key, ap (λ (k : Key). reads_of (c k)) key)
+
+-- one step after another leaves the reader the same
+pub same_then : (a b c : Reader) → SameReader a b → SameReader b c → SameReader a c
+same_then a b c first second = record {
+  key = second.key ∙ first.key;
+  page_size = second.page_size ∙ first.page_size;
+  end = second.end ∙ first.end;
+  size = second.size ∙ first.size;
+  at = second.at ∙ first.at;
+}

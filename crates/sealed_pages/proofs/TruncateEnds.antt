@@ -1,7 +1,6 @@
 -- A cut of a buffer whose bytes a sync has settled first: what it owes, from what the two calls say.
 use Rattle.std.proofs.Common.{◌≡◌, ◌+◌, ◌*◌, ◌/◌, ◌%◌, ◌≤◌, ◌<◌, ◌∙◌, ◌⊎◌, min, ap, sym, subst, ℕ, Bool, List, false, length, take, refl, arith, length-take, inl, inr, Result, Ok, Err, Option, Some, None, IsSomeAnd}
 use Rattle.std.specs.Prelude.{IfOk, OnOk, OnErr}
-use Rattle.std.specs.Result.{IsErr}
 use Rattle.blob_device.specs.Counts.{Rose}
 use Rattle.blob_device.specs.Disk.{Key, Disk, Blob}
 use Rattle.blob_device.specs.Opened.{Opened, OpenedList, reads_of}
@@ -342,11 +341,6 @@ module _ {T : Type 0} {see : T → Buffer} {seal : List ℕ → ℕ} {u w : Buff
 -- where nothing is cut
 pub no_recovery : (seal : List ℕ → ℕ) (u : Buffer) (len : ℕ) (b : Blob) → u.from < u.page_size → size_of u ≤ len → IsRecovery seal u len b → ⊥
 no_recovery seal u len b begun past recovery = omega (arith, prefix_short seal u b (omega (arith, begun)) recovery.0, recovery.1, past)
-
--- what a call that failed says of its value
-pub no_value : {T E : Type 0} (P : T → Type 0) (r : Result T E) → IsErr r → IfOk r P
-no_value P (Ok v) is = absurd (cc is)
-no_value P (Err e) is = tt
 
 -- what holds of a value holds of it in other words
 pub ok_of : {T E : Type 0} {A B : T → Type 0} (r : Result T E) → IfOk r A → ((v : T) → A v → B v) → IfOk r B

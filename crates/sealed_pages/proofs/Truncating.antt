@@ -1,5 +1,5 @@
 -- A buffer that is cut: what it holds before and after.
-use Rattle.std.proofs.Common.{eqb, ◌≡◌, ◌≢◌, ◌⊎◌, inl, inr, ℕ, ◌+◌, ◌-◌, ◌*◌, ◌/◌, ◌%◌, ◌^◌, ◌<◌, ◌≤◌, ◌||◌, not, min, Bool, false, cond, List, length, get_or, take, drop, Result, Ok, Err, refl, sym, ◌∙◌, ap, subst, arith, length-take}
+use Rattle.std.proofs.Common.{eqb, ◌≡◌, ◌≢◌, ◌⊎◌, inl, inr, ℕ, ◌+◌, ◌-◌, ◌*◌, ◌/◌, ◌%◌, ◌^◌, ◌<◌, ◌≤◌, ◌||◌, not, min, Bool, false, cond, List, length, get_or, take, drop, Result, Ok, Err, refl, sym, ◌∙◌, ap, subst, arith, length-take, IsErrAnd}
 use Rattle.std.proofs.lemmas.Bool.{cases_lt, cases_eq, eq-eqb, ne_eqb}
 use Rattle.std.proofs.lemmas.List.{get_or-take, get_or-drop}
 use Rattle.blob_device.specs.Change.{written, resized}
@@ -8,6 +8,10 @@ use Rattle.blob_device.specs.Counts.{Rose}
 use Rattle.blob_device.specs.Timeline.{Timeline, disk, OnlyAt}
 use Rattle.blob_device.proofs.Moments.{always_weaker, only_start}
 use Rattle.std.specs.Prelude.{IfOk, OnErr}
+use Rattle.std.specs.Result.{IsErr}
+use Rattle.blob_device.specs.Errors.{raised}
+use Rattle.blob_device.specs.declared.error.DevError.{DevError}
+use Rattle.blob_device.specs.declared.error.DevError.TheVariants as device
 use Rattle.blob_device.specs.declared.runtime.RError.{RError}
 use Rattle.blob_device.specs.declared.runtime.RError.TheVariants.{Fault, InvalidChecksum, Mem}
 use Rattle.std.proofs.Math.Nat.{div-mul-le_self, mod-eq-sub-div-mul}
@@ -262,6 +266,18 @@ cut_place P len = omega (arith, mod-eq-sub-div-mul len P, div-mul-le_self len P)
 pub map_ok : {T E : Type 0} (r : Result T E) (A B : T → Type 0) → ((v : T) → A v → B v) → IfOk r A → IfOk r B
 map_ok (Ok v) A B f has = f v has
 map_ok (Err e) A B f has = has
+
+-- what a call that failed says of its value
+pub no_value : {T E : Type 0} (P : T → Type 0) (r : Result T E) → IsErr r → IfOk r P
+no_value P (Ok v) is = absurd (cc is)
+no_value P (Err e) is = tt
+
+-- an error of the device, raised
+pub raised_cause : {T : Type 0} (r : Result T RError) (e : DevError) (n m : ℕ) → IsErrAnd r (λ x. x ≡ raised e) → (e ≡ device.Fault → Rose n m)
+    → OnErr r ((r ≡ Err Mem) ⊎ ((r ≡ Err Fault) × Rose n m))
+raised_cause (Ok v) e n m is rose = tt
+raised_cause (Err x) device.Fault n m is rose = inr (ap Err is, rose refl)
+raised_cause (Err x) device.Mem n m is rose = inl (ap Err is)
 
 pub both_ok : {T E : Type 0} (r : Result T E) (A B : T → Type 0) → IfOk r A → IfOk r B → IfOk r (λ v. A v × B v)
 both_ok (Ok v) A B a b = (a, b)

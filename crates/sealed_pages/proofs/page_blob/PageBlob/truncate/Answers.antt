@@ -17,9 +17,9 @@ use Rattle.sealed_pages.proofs.CutCalls.{sealing_less}
 use Rattle.sealed_pages.proofs.CutEntries.{few_none, few_then, then_few}
 use Rattle.sealed_pages.proofs.Holding.{holds_start, bytes_length}
 use Rattle.sealed_pages.proofs.PageCalls.{alone_start}
-use Rattle.sealed_pages.proofs.Truncating.{as_of, cut_place, both_ok, page_named, not_named, rose_since}
+use Rattle.sealed_pages.proofs.Truncating.{no_value, as_of, cut_place, both_ok, page_named, not_named, rose_since}
 use Rattle.sealed_pages.proofs.TruncateEnds as ends
-use Rattle.sealed_pages.proofs.TruncateEnds.{SyncedCut, IsCut, placed, is_cut, cut_as, cut_open, failed_since, cause_since, caused, page_around, few_start, no_page, no_recovery, no_value, ok_of}
+use Rattle.sealed_pages.proofs.TruncateEnds.{SyncedCut, IsCut, placed, is_cut, cut_as, cut_open, failed_since, cause_since, caused, page_around, few_start, no_page, no_recovery, ok_of}
 use Rattle.sealed_pages.proofs.UnrecoveredLemmas.{stood_keeps, keeps_sealing}
 use Rattle.sealed_pages.proofs.page_blob.PageBlob.truncate.Given as given
 use Rattle.sealed_pages.proofs.page_blob.PageBlob.truncate.Goals as goal

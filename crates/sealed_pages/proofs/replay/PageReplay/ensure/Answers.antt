@@ -1,13 +1,14 @@
-use Rattle.std.proofs.Common.{◌≡◌, ◌<◌, ◌+◌, ◌-◌, ◌∙◌, inl, inr, ℕ, List, refl, length, ap, sym, subst, arith}
+use Rattle.std.proofs.Common.{◌≡◌, ◌<◌, ◌+◌, ◌-◌, ◌∙◌, inl, inr, ℕ, List, refl, length, length-drop, ap, sym, subst, arith}
 use Rattle.std.proofs.lemmas.Result.{err_from_is_err_and}
 use Rattle.blob_device.specs.Disk.{Key}
 use Rattle.blob_device.specs.Timeline.{disk}
-use Rattle.sealed_pages.specs.Entries.{ReadsAtMost}
+use Rattle.sealed_pages.specs.Entries.{IsOpenAt, ReadsAtMost}
 use Rattle.sealed_pages.specs.Readers.{Reader, ReadsUnread, reading, next_of, missing_of, IsReplayOf, SameReader}
 use Rattle.sealed_pages.specs.Reads.{IsWanted, IsShort}
 use Rattle.sealed_pages.proofs.Looking.{unchanged_start, unchanged_now, unchanged_then}
 use Rattle.sealed_pages.proofs.ReadLemmas.{same_error}
-use Rattle.sealed_pages.proofs.ReplayLemmas.{page_reads_next, page_reads_last, page_reads_start, unread_then, wanted_all, short_all}
+use Rattle.sealed_pages.proofs.Truncating.{no_value}
+use Rattle.sealed_pages.proofs.ReplayLemmas.{page_reads_next, page_reads_last, page_reads_start, unread_then, wanted_all, short_all, same_then}
 use Rattle.sealed_pages.proofs.replay.PageReplay.ensure.Goals as goal
 
 pub fill-preserved : goal.fill-preserved
@@ -16,13 +17,7 @@ fill-preserved g c =
     let further : next_of (reading c.fill.self) < next_of (reading c.fetch.new.self) = c.in_ok-fetch.ensures.grows in
     record {
       have_is = c.remaining-have-in-fill.ensures;
-      same = record {
-        key = c.in_ok-fetch.ensures.same.key ∙ c.fill.invariant.same.key;
-        page_size = c.in_ok-fetch.ensures.same.page_size ∙ c.fill.invariant.same.page_size;
-        end = c.in_ok-fetch.ensures.same.end ∙ c.fill.invariant.same.end;
-        size = c.in_ok-fetch.ensures.same.size ∙ c.fill.invariant.same.size;
-        at = c.in_ok-fetch.ensures.same.at ∙ c.fill.invariant.same.at;
-      };
+      same = same_then (reading c.args.self.now) (reading c.fill.self) (reading c.fetch.new.self) c.fill.invariant.same c.in_ok-fetch.ensures.same;
       grows = omega (arith, c.fill.invariant.grows, further, c.in_ok-fetch.ensures.same.at);
       replays = λ t is.
           let disks : disk (g.D.Device.time c.fill.dev) ≡ disk (g.D.Device.time c.args.dev.now) = unchanged_now (g.D.Device.time c.args.dev.now) (g.D.Device.time c.fill.dev) (c.fill.invariant.unchanged t) in
@@ -54,48 +49,50 @@ fill-init g c =
       unchanged = λ t. unchanged_start (g.D.Device.time c.args.dev.now);
     }
 
-pub returns-in_err-fetch-clause-replays : goal.returns-in_err-fetch-clause-replays
-returns-in_err-fetch-clause-replays g c t is =
-    let disks : disk (g.D.Device.time c.fill.dev) ≡ disk (g.D.Device.time c.args.dev.now) = unchanged_now (g.D.Device.time c.args.dev.now) (g.D.Device.time c.fill.dev) (c.fill.invariant.unchanged t) in
-    let same : (disk (g.D.Device.time c.fill.dev) (reading c.fill.self).key).content ≡ (disk (g.D.Device.time c.args.dev.now) (reading c.args.self.now).key).content = λ j. (disks j (c.fill.invariant.same.key j)).content in
-    subst (λ (l : List ℕ). IsReplayOf g.S.Seal.seal_of l (reading c.fetch.new.self)) same (c.fetch.ensures.replays t (subst (λ (l : List ℕ). IsReplayOf g.S.Seal.seal_of l (reading c.fill.self)) (sym same) (c.fill.invariant.replays t is)))
-
-pub returns-in_err-fetch-clause-checksum : goal.returns-in_err-fetch-clause-checksum
-returns-in_err-fetch-clause-checksum g c t is p e =
-    let disks : disk (g.D.Device.time c.fill.dev) ≡ disk (g.D.Device.time c.args.dev.now) = unchanged_now (g.D.Device.time c.args.dev.now) (g.D.Device.time c.fill.dev) (c.fill.invariant.unchanged t) in
-    let same : (disk (g.D.Device.time c.fill.dev) (reading c.fill.self).key).content ≡ (disk (g.D.Device.time c.args.dev.now) (reading c.args.self.now).key).content = λ j. (disks j (c.fill.invariant.same.key j)).content in
+pub returns-in_err-fetch : goal.returns-in_err-fetch
+returns-in_err-fetch g c =
     let given = err_from_is_err_and c.from_residual.result c.from_residual.ensures.1 in
-    let short : IsShort g.S.Seal.seal_of c.fill.self.page_size (disk (g.D.Device.time c.fill.dev) (reading c.fill.self).key).content (next_of (reading c.fill.self)) (c.args.self.now.at + c.min-want.result - next_of (reading c.fill.self)) p
-    = c.in_err-fetch.ensures.short t (subst (λ (l : List ℕ). IsReplayOf g.S.Seal.seal_of l (reading c.fill.self)) (sym same) (c.fill.invariant.replays t is)) p (same_error (rw (given.1, given.2) at e)) in
-    short_all g.S.Seal.seal_of c.args.self.now.page_size (next_of (reading c.args.self.now)) (missing_of (reading c.args.self.now) c.args.n) (next_of (reading c.fill.self)) (c.args.self.now.at + c.min-want.result) p (disk (g.D.Device.time c.args.dev.now) (reading c.args.self.now).key).content (omega (arith, c.fill.invariant.grows, c.fill.invariant.same.at)) (omega (arith, c.fill-test.true, c.fill.invariant.have_is, c.fill.invariant.same.at)) (omega (arith, c.fill-test.true, c.min-want.ensures, c.fill.invariant.have_is, c.fill.invariant.grows))
-    (subst (λ (x : ℕ × List ℕ). IsShort g.S.Seal.seal_of x.0 x.1 (next_of (reading c.fill.self)) (c.args.self.now.at + c.min-want.result - next_of (reading c.fill.self)) p) (λ j. (c.fill.invariant.same.page_size j, same j)) short)
-
-pub returns-in_err-fetch-clause-unchanged : goal.returns-in_err-fetch-clause-unchanged
-returns-in_err-fetch-clause-unchanged g c t = unchanged_then (g.D.Device.time c.args.dev.now) (g.D.Device.time c.fill.dev) (g.D.Device.time c.fetch.new.dev) (c.fill.invariant.unchanged t) (c.fetch.ensures.unchanged t)
-
-pub returns-in_err-fetch-clause-reads : goal.returns-in_err-fetch-clause-reads
-returns-in_err-fetch-clause-reads g c =
-    page_reads_last c.args.self.now.page_size (next_of (reading c.args.self.now)) (missing_of (reading c.args.self.now) c.args.n) (next_of (reading c.fill.self)) (c.args.self.now.at + c.min-want.result) (reading c.args.self.now).key
+    let same = same_then (reading c.args.self.now) (reading c.fill.self) (reading c.fetch.new.self) c.fill.invariant.same c.fetch.ensures.same in
+    let reads = page_reads_last c.args.self.now.page_size (next_of (reading c.args.self.now)) (missing_of (reading c.args.self.now) c.args.n) (next_of (reading c.fill.self)) (c.args.self.now.at + c.min-want.result) (reading c.args.self.now).key
     (g.D.Device.opened c.args.dev.now) (g.D.Device.opened c.fill.dev) (g.D.Device.opened c.fetch.new.dev) c.args.self.now.some
     (omega (arith, c.fill-test.true, c.min-want.ensures, c.fill.invariant.have_is, c.fill.invariant.grows)) (omega (arith, c.fill.invariant.grows, c.fill.invariant.same.at)) (omega (arith, c.fill-test.true, c.fill.invariant.have_is, c.fill.invariant.same.at)) c.fill.invariant.reads
-    (subst (λ (k : Key). ReadsAtMost 1 k (g.D.Device.opened c.fill.dev) (g.D.Device.opened c.fetch.new.dev)) c.fill.invariant.same.key c.fetch.ensures.entries)
-
-pub returns-in_err-fetch-clause-cause : goal.returns-in_err-fetch-clause-cause
-returns-in_err-fetch-clause-cause g c =
-    let given = err_from_is_err_and c.from_residual.result c.from_residual.ensures.1 in
-    rw (given.1, given.2) (elim c.in_err-fetch.ensures.cause [
-      | inl (k, is, wanted) ↦ inl (
-        k,
-        same_error is,
-        wanted_all c.args.self.now.page_size (next_of (reading c.args.self.now)) (missing_of (reading c.args.self.now) c.args.n) (next_of (reading c.fill.self)) (c.args.self.now.at + c.min-want.result) k (omega (arith, c.fill.invariant.grows, c.fill.invariant.same.at)) (omega (arith, c.fill-test.true, c.fill.invariant.have_is, c.fill.invariant.same.at)) (omega (arith, c.fill-test.true, c.min-want.ensures, c.fill.invariant.have_is, c.fill.invariant.grows))
-            (subst (λ (x : ℕ). IsWanted x (next_of (reading c.fill.self)) (c.args.self.now.at + c.min-want.result - next_of (reading c.fill.self)) k) c.fill.invariant.same.page_size wanted),
-      )
-      | inr (inl mem) ↦ inr (inl (same_error mem))
-      | inr (inr (fault, rose)) ↦ inr (inr (same_error fault, omega (arith, rose, c.fill.invariant.faults)))
-    ])
-
-pub returns-in_err-fetch-clause-judged : goal.returns-in_err-fetch-clause-judged
-returns-in_err-fetch-clause-judged g c p e =
-    let given = err_from_is_err_and c.from_residual.result c.from_residual.ensures.1 in
-    unread_then (reading c.args.self.now) (reading c.fill.self) (reading c.fetch.new.self) (g.D.Device.opened c.args.dev.now) (g.D.Device.opened c.fill.dev) (g.D.Device.opened c.fetch.new.dev) c.fill.invariant.same.key c.fill.invariant.once
-    (c.in_err-fetch.ensures.judged p (same_error (rw (given.1, given.2) at e)))
+    (subst (λ (k : Key). ReadsAtMost 1 k (g.D.Device.opened c.fill.dev) (g.D.Device.opened c.fetch.new.dev)) c.fill.invariant.same.key c.fetch.ensures.entries) in
+    record {
+      at_hand = no_value _ _ c.from_residual.ensures.0;
+      rest = no_value _ _ c.from_residual.ensures.0;
+      exact = no_value _ _ c.from_residual.ensures.0;
+      ready = λ le. absurd (omega (arith, le, c.fill-test.true, c.min-want.ensures, c.fill.invariant.have_is, c.fill.invariant.grows));
+      within = omega (arith, c.fetch.new.self.inside, length-drop c.fetch.new.self.used c.fetch.new.self.held.items);
+      same = same;
+      grows = omega (arith, ap (λ (l : List ℕ). length l) c.in_err-fetch.ensures.stays, c.fill.invariant.grows);
+      replays = λ t is.
+            let disks : disk (g.D.Device.time c.fill.dev) ≡ disk (g.D.Device.time c.args.dev.now) = unchanged_now (g.D.Device.time c.args.dev.now) (g.D.Device.time c.fill.dev) (c.fill.invariant.unchanged t) in
+            let same : (disk (g.D.Device.time c.fill.dev) (reading c.fill.self).key).content ≡ (disk (g.D.Device.time c.args.dev.now) (reading c.args.self.now).key).content = λ j. (disks j (c.fill.invariant.same.key j)).content in
+            subst (λ (l : List ℕ). IsReplayOf g.S.Seal.seal_of l (reading c.fetch.new.self)) same (c.fetch.ensures.replays t (subst (λ (l : List ℕ). IsReplayOf g.S.Seal.seal_of l (reading c.fill.self)) (sym same) (c.fill.invariant.replays t is)));
+      checksum = λ t is p e.
+            let disks : disk (g.D.Device.time c.fill.dev) ≡ disk (g.D.Device.time c.args.dev.now) = unchanged_now (g.D.Device.time c.args.dev.now) (g.D.Device.time c.fill.dev) (c.fill.invariant.unchanged t) in
+            let same : (disk (g.D.Device.time c.fill.dev) (reading c.fill.self).key).content ≡ (disk (g.D.Device.time c.args.dev.now) (reading c.args.self.now).key).content = λ j. (disks j (c.fill.invariant.same.key j)).content in
+            let short : IsShort g.S.Seal.seal_of c.fill.self.page_size (disk (g.D.Device.time c.fill.dev) (reading c.fill.self).key).content (next_of (reading c.fill.self)) (c.args.self.now.at + c.min-want.result - next_of (reading c.fill.self)) p
+            = c.in_err-fetch.ensures.short t (subst (λ (l : List ℕ). IsReplayOf g.S.Seal.seal_of l (reading c.fill.self)) (sym same) (c.fill.invariant.replays t is)) p (same_error (rw (given.1, given.2) at e)) in
+            short_all g.S.Seal.seal_of c.args.self.now.page_size (next_of (reading c.args.self.now)) (missing_of (reading c.args.self.now) c.args.n) (next_of (reading c.fill.self)) (c.args.self.now.at + c.min-want.result) p (disk (g.D.Device.time c.args.dev.now) (reading c.args.self.now).key).content (omega (arith, c.fill.invariant.grows, c.fill.invariant.same.at)) (omega (arith, c.fill-test.true, c.fill.invariant.have_is, c.fill.invariant.same.at)) (omega (arith, c.fill-test.true, c.min-want.ensures, c.fill.invariant.have_is, c.fill.invariant.grows))
+            (subst (λ (x : ℕ × List ℕ). IsShort g.S.Seal.seal_of x.0 x.1 (next_of (reading c.fill.self)) (c.args.self.now.at + c.min-want.result - next_of (reading c.fill.self)) p) (λ j. (c.fill.invariant.same.page_size j, same j)) short);
+      unchanged = λ t. unchanged_then (g.D.Device.time c.args.dev.now) (g.D.Device.time c.fill.dev) (g.D.Device.time c.fetch.new.dev) (c.fill.invariant.unchanged t) (c.fetch.ensures.unchanged t);
+      «open» = subst (λ (x : Key × ℕ). IsOpenAt (g.D.Device.opened c.fetch.new.dev) x.0 x.1) (λ j. (sym same.key j, sym same.end j))
+            (reads.length (reading c.args.self.now).end c.requires);
+      reads = reads;
+      once = no_value _ _ c.from_residual.ensures.0;
+      judged = λ p e.
+            unread_then (reading c.args.self.now) (reading c.fill.self) (reading c.fetch.new.self) (g.D.Device.opened c.args.dev.now) (g.D.Device.opened c.fill.dev) (g.D.Device.opened c.fetch.new.dev) c.fill.invariant.same.key c.fill.invariant.once
+            (c.in_err-fetch.ensures.judged p (same_error (rw (given.1, given.2) at e)));
+      faults = omega (arith, c.fill.invariant.faults, c.fetch.ensures.faults);
+      cause = rw (given.1, given.2) (elim c.in_err-fetch.ensures.cause [
+              | inl (k, is, wanted) ↦ inl (
+                k,
+                same_error is,
+                wanted_all c.args.self.now.page_size (next_of (reading c.args.self.now)) (missing_of (reading c.args.self.now) c.args.n) (next_of (reading c.fill.self)) (c.args.self.now.at + c.min-want.result) k (omega (arith, c.fill.invariant.grows, c.fill.invariant.same.at)) (omega (arith, c.fill-test.true, c.fill.invariant.have_is, c.fill.invariant.same.at)) (omega (arith, c.fill-test.true, c.min-want.ensures, c.fill.invariant.have_is, c.fill.invariant.grows))
+                    (subst (λ (x : ℕ). IsWanted x (next_of (reading c.fill.self)) (c.args.self.now.at + c.min-want.result - next_of (reading c.fill.self)) k) c.fill.invariant.same.page_size wanted),
+              )
+              | inr (inl mem) ↦ inr (inl (same_error mem))
+              | inr (inr (fault, rose)) ↦ inr (inr (same_error fault, omega (arith, rose, c.fill.invariant.faults)))
+            ]);
+    }
