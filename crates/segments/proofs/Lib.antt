@@ -34,6 +34,7 @@ pub mod FixedAdopted
 pub mod FixedAppendLemmas
 pub mod FixedOpenLemmas
 pub mod FixedErrors
+pub mod FixedPassing
 pub mod FixedReadLemmas
 pub mod FixedSections
 pub mod FixedRemoveLemmas

@@ -9,10 +9,12 @@ use Rattle.std.proofs.lemmas.Cmp.{nat_cmp_total, eq_by_cmp_equiv}
 use Rattle.std.proofs.lemmas.Map.Iter.{btree_map_turn, iter_end}
 use Rattle.std.proofs.lemmas.Map.Views.{Contains-keys_from_lookup, IsSome-lookup_from_Contains}
 use Rattle.blob_device.specs.Timeline.{disk}
+use Rattle.blob_device.proofs.Results.{err_of}
 use Rattle.sealed_pages.specs.declared.page_blob.PageBlob.{PageBlob}
 use Rattle.sealed_pages.specs.declared.pages.Pages.{Pages}
 use Rattle.segments.specs.contracts.sealed.PageBlobSectionBuffer.TheImpl.{ghosts}
 use Rattle.segments.specs.declared.journal.Error.TheVariants.{Corruption, Codec}
+use Rattle.segments.specs.declared.journal.Damage.{Damage}
 use Rattle.segments.specs.declared.sealed.AppendFactory.{AppendFactory}
 use Rattle.segments.specs.Entries.{OnlyOwnEntry}
 use Rattle.segments.specs.FixedFloors.{Floors, shown, journal_of}
@@ -22,6 +24,7 @@ use Rattle.segments.proofs.CutLemmas.{numbers_of, numbers_push, numbers_shown, s
 use Rattle.segments.proofs.TurnLemmas.{had_turn}
 use Rattle.segments.proofs.WalkLemmas.{none_or_value}
 use Rattle.segments.proofs.FixedErrors.{of_error}
+use Rattle.segments.proofs.FixedPassing.{no_value, opening_on, checked_on, checked_named, checked_room, owing_cause, owing_coded}
 use Rattle.segments.proofs.FixedOpenLemmas.{opened_journal}
 use Rattle.segments.proofs.FixedWriteLemmas.{are_pages}
 use Rattle.segments.proofs.FixedFloorLemmas.{Checked, AreOpened, checked_none, checked_more, settled_read, opened_read, held_now, adopted_now, reaches, within, was_there, marker_refused, marker_codec, none_refused, last_taken, not_damaged, not_coded}
@@ -151,40 +154,52 @@ loop-section-preserved g c =
       faults = omega (arith, c.loop-section.invariant.faults, c.checked.ensures.faults);
     }
 
-pub returns-in_err-found-clause-moments : goal.returns-in_err-found-clause-moments
-returns-in_err-found-clause-moments g c t =
-    let told = g.D.Device.Tells in
-    let place = string_bytes c.args.cfg.now.partition in
-    let marks = get nat_cmp c.args.floors.now in
-    let from = g.D.Device.time c.args.dev.now in
-    let now = g.D.Device.time c.loop-section.dev in
-    let s = c.in-Some.section.now in
-    let n = c.in-Some.items.now in
-    let is : marks s ≡ Some n = (btree_map_turn deref_pair c.loop-section.yielded c.into_iter-section-iterator.result c.loop-section.section-iterator c.next.new.self c.next.result (c.in-Some.section, c.in-Some.items) c.loop-section.yielded_by c.in-Some.is c.next.ensures.steps nat_cmp_total c.args.floors.now
-    c.into_iter-section-iterator.ensures.into_iter_gives.0 c.into_iter-section-iterator.ensures.into_iter_gives.5).1 in
-    let done = c.loop-section.invariant.checked in
-    let settled = c.loop-section.invariant.settled in
-    (settled_read told place c.args.ceiling from now (g.D.Device.time c.checked.new.dev) (g.D.Device.opened c.args.dev.now) (g.D.Device.opened c.loop-section.dev) (g.D.Device.opened c.checked.new.dev) s (c.requires.ceiling s (subst IsSome (sym is) refl)) c.checked.ensures.unchanged
-    (subst (λ (p : List ℕ). OnlyOwnEntry (section_key p c.in-Some.section.now) (g.D.Device.opened c.loop-section.dev) (g.D.Device.opened c.checked.new.dev)) done.place c.checked.ensures.entries) settled).moments t
+pub returns-in_err-journal : goal.returns-in_err-journal
+returns-in_err-journal g c =
+    let is = err_of c.from_residual.result c.in_err-journal.field-0.0 c.from_residual.ensures.1 in
+    let sound : (x : Damage) → c.from_residual.result ≡ Err (Corruption x) → ⊥ = λ x bad. not_damaged c.in_err-journal.field-0.0 (g.D.Device.faults c.args.dev.now) (g.D.Device.faults c.init_holding.new.dev)
+    c.in_err-journal.ensures.cause x (of_error c.from_residual.result c.in_err-journal.field-0.0 (Corruption x) c.from_residual.ensures.1 bad) in
+    record {
+      floors = no_value _ _ c.from_residual.ensures.0;
+      none = no_value _ _ c.from_residual.ensures.0;
+      unmarked = no_value _ _ c.from_residual.ensures.0;
+      empty = no_value _ _ c.from_residual.ensures.0;
+      boundary = λ t. no_value _ _ c.from_residual.ensures.0;
+      there = λ t. no_value _ _ c.from_residual.ensures.0;
+      fits = no_value _ _ c.from_residual.ensures.0;
+      partition = no_value _ _ c.from_residual.ensures.0;
+      pages = no_value _ _ c.from_residual.ensures.0;
+      write_buffer = no_value _ _ c.from_residual.ensures.0;
+      ceiling = no_value _ _ c.from_residual.ensures.0;
+      over = no_value _ _ c.from_residual.ensures.0;
+      held = λ t. no_value _ _ c.from_residual.ensures.0;
+      unopened = λ t. no_value _ _ c.from_residual.ensures.0;
+      no_leftover = no_value _ _ c.from_residual.ensures.0;
+      later = no_value _ _ c.from_residual.ensures.0;
+      bytes = λ t. no_value _ _ c.from_residual.ensures.0;
+      unrecovered = no_value _ _ c.from_residual.ensures.0;
+      reached = no_value _ _ c.from_residual.ensures.0;
+      idle = no_value _ _ c.from_residual.ensures.0;
+      floor = no_value _ _ c.from_residual.ensures.0;
+      damage = λ t x bad. absurd (sound x bad);
+      whole = λ t keeps x bad. absurd (sound x bad);
+      first = λ t x bad q m before at. absurd (sound x bad);
+      refused = λ t e bad. absurd (not_coded c.in_err-journal.field-0.0 (g.D.Device.faults c.args.dev.now) (g.D.Device.faults c.init_holding.new.dev) c.in_err-journal.ensures.cause e (of_error c.from_residual.result c.in_err-journal.field-0.0 (Codec e) c.from_residual.ensures.1 bad));
+      moments = c.in_err-journal.ensures.moments;
+      foreign = λ t name foreign. (no_value _ _ c.from_residual.ensures.0, (sound, λ room. (c.in_err-journal.ensures.foreign t name foreign).1 (cc (is, room))));
+      foreign_items = λ t name foreign e bad. absurd (not_coded c.in_err-journal.field-0.0 (g.D.Device.faults c.args.dev.now) (g.D.Device.faults c.init_holding.new.dev) c.in_err-journal.ensures.cause e (of_error c.from_residual.result c.in_err-journal.field-0.0 (Codec e) c.from_residual.ensures.1 bad));
+      foreign_disk = c.in_err-journal.ensures.foreign_disk;
+      foreign_entries = c.in_err-journal.ensures.foreign_entries;
+      name_entries = λ n bad. c.in_err-journal.ensures.name_entries n (cc (is, bad));
+      named = λ t n bad. c.in_err-journal.ensures.named t n (cc (is, bad));
+      entries = c.in_err-journal.ensures.entries;
+      overflow = λ room. c.in_err-journal.ensures.overflow (cc (is, room));
+      faults = c.in_err-journal.ensures.faults;
+      cause = opening_on c.from_residual.result c.in_err-journal.field-0.0 (g.D.Device.faults c.args.dev.now) (g.D.Device.faults c.init_holding.new.dev) is c.in_err-journal.ensures.cause;
+    }
 
-pub returns-in_err-found-clause-entries : goal.returns-in_err-found-clause-entries
-returns-in_err-found-clause-entries g c =
-    let told = g.D.Device.Tells in
-    let place = string_bytes c.args.cfg.now.partition in
-    let marks = get nat_cmp c.args.floors.now in
-    let from = g.D.Device.time c.args.dev.now in
-    let now = g.D.Device.time c.loop-section.dev in
-    let s = c.in-Some.section.now in
-    let n = c.in-Some.items.now in
-    let is : marks s ≡ Some n = (btree_map_turn deref_pair c.loop-section.yielded c.into_iter-section-iterator.result c.loop-section.section-iterator c.next.new.self c.next.result (c.in-Some.section, c.in-Some.items) c.loop-section.yielded_by c.in-Some.is c.next.ensures.steps nat_cmp_total c.args.floors.now
-    c.into_iter-section-iterator.ensures.into_iter_gives.0 c.into_iter-section-iterator.ensures.into_iter_gives.5).1 in
-    let done = c.loop-section.invariant.checked in
-    let settled = c.loop-section.invariant.settled in
-    (settled_read told place c.args.ceiling from now (g.D.Device.time c.checked.new.dev) (g.D.Device.opened c.args.dev.now) (g.D.Device.opened c.loop-section.dev) (g.D.Device.opened c.checked.new.dev) s (c.requires.ceiling s (subst IsSome (sym is) refl)) c.checked.ensures.unchanged
-    (subst (λ (p : List ℕ). OnlyOwnEntry (section_key p c.in-Some.section.now) (g.D.Device.opened c.loop-section.dev) (g.D.Device.opened c.checked.new.dev)) done.place c.checked.ensures.entries) settled).entries
-
-pub returns-in_err-found-clause-damage : goal.returns-in_err-found-clause-damage
-returns-in_err-found-clause-damage g c t x bad =
+pub returns-in_err-found : goal.returns-in_err-found
+returns-in_err-found g c =
     let seal = g.S.Seal.seal_of in
     let size = g.A.CodecFixed.SIZE in
     let told = g.D.Device.Tells in
@@ -201,10 +216,59 @@ returns-in_err-found-clause-damage g c t x bad =
     c.into_iter-section-iterator.ensures.into_iter_gives.0 c.into_iter-section-iterator.ensures.into_iter_gives.5).1 in
     let done = c.loop-section.invariant.checked in
     let settled = c.loop-section.invariant.settled in
-    marker_refused seal size g.A.Codec.spelling g.A.Codec.accepted told place pages c.args.cfg.now.write_buffer c.args.ceiling marks from keys f done s n is now (settled.moments t) x (c.in_err-found.ensures.damage t x (ap Err (of_error c.from_residual-in_err-found.result c.in_err-found.field-0.0 (Corruption x) c.from_residual-in_err-found.ensures.1 bad)))
+    let failed = err_of c.from_residual-in_err-found.result c.in_err-found.field-0.0 c.from_residual-in_err-found.ensures.1 in
+    record {
+      floors = no_value _ _ c.from_residual-in_err-found.ensures.0;
+      none = no_value _ _ c.from_residual-in_err-found.ensures.0;
+      unmarked = no_value _ _ c.from_residual-in_err-found.ensures.0;
+      empty = no_value _ _ c.from_residual-in_err-found.ensures.0;
+      boundary = λ t. no_value _ _ c.from_residual-in_err-found.ensures.0;
+      there = λ t. no_value _ _ c.from_residual-in_err-found.ensures.0;
+      fits = no_value _ _ c.from_residual-in_err-found.ensures.0;
+      partition = no_value _ _ c.from_residual-in_err-found.ensures.0;
+      pages = no_value _ _ c.from_residual-in_err-found.ensures.0;
+      write_buffer = no_value _ _ c.from_residual-in_err-found.ensures.0;
+      ceiling = no_value _ _ c.from_residual-in_err-found.ensures.0;
+      over = no_value _ _ c.from_residual-in_err-found.ensures.0;
+      held = λ t. no_value _ _ c.from_residual-in_err-found.ensures.0;
+      unopened = λ t. no_value _ _ c.from_residual-in_err-found.ensures.0;
+      no_leftover = no_value _ _ c.from_residual-in_err-found.ensures.0;
+      later = no_value _ _ c.from_residual-in_err-found.ensures.0;
+      bytes = λ t. no_value _ _ c.from_residual-in_err-found.ensures.0;
+      unrecovered = no_value _ _ c.from_residual-in_err-found.ensures.0;
+      reached = no_value _ _ c.from_residual-in_err-found.ensures.0;
+      idle = no_value _ _ c.from_residual-in_err-found.ensures.0;
+      floor = no_value _ _ c.from_residual-in_err-found.ensures.0;
+      damage = λ t x bad. marker_refused seal size g.A.Codec.spelling g.A.Codec.accepted told place pages c.args.cfg.now.write_buffer c.args.ceiling marks from keys f done s n is now (settled.moments t) x (c.in_err-found.ensures.damage t x (ap Err (of_error c.from_residual-in_err-found.result c.in_err-found.field-0.0 (Corruption x) c.from_residual-in_err-found.ensures.1 bad)));
+      whole = λ t keeps x bad. none_refused seal size g.A.Codec.spelling g.A.Codec.accepted told place pages c.args.cfg.now.write_buffer c.args.ceiling marks from keeps x (marker_refused seal size g.A.Codec.spelling g.A.Codec.accepted told place pages c.args.cfg.now.write_buffer c.args.ceiling marks from keys f done s n is now (settled.moments t) x (c.in_err-found.ensures.damage t x (ap Err (of_error c.from_residual-in_err-found.result c.in_err-found.field-0.0 (Corruption x) c.from_residual-in_err-found.ensures.1 bad))));
+      first = λ t x bad q m before at.
+            let found = c.in_err-found.ensures.damage t x (ap Err (of_error c.from_residual-in_err-found.result c.in_err-found.field-0.0 (Corruption x) c.from_residual-in_err-found.ensures.1 bad)) in
+            last_taken seal size g.A.Codec.spelling g.A.Codec.accepted told place pages c.args.cfg.now.write_buffer c.args.ceiling marks from keys f done t q m
+            (had_turn c.loop-section.yielded c.into_iter-section-iterator.result c.loop-section.section-iterator c.next.new.self c.next.result (c.in-Some.section, c.in-Some.items) c.loop-section.yielded_by c.in-Some.is c.next.ensures.steps c.args.floors.now
+            c.into_iter-section-iterator.ensures.into_iter_gives.0 c.into_iter-section-iterator.ensures.into_iter_gives.5 q (subst IsSome (sym at) refl) (omega (arith, before, found.0))) at;
+      refused = λ t e bad.
+            marker_codec seal size g.A.Codec.spelling g.A.Codec.accepted told place pages c.args.cfg.now.write_buffer c.args.ceiling marks from keys f done s n is now (settled.moments t) g.A.Codec.refusal e (c.in_err-found.ensures.refused t e (ap Err (of_error c.from_residual-in_err-found.result c.in_err-found.field-0.0 (Codec e) c.from_residual-in_err-found.ensures.1 bad)))
+            (λ q m before at. last_taken seal size g.A.Codec.spelling g.A.Codec.accepted told place pages c.args.cfg.now.write_buffer c.args.ceiling marks from keys f done t q m
+            (had_turn c.loop-section.yielded c.into_iter-section-iterator.result c.loop-section.section-iterator c.next.new.self c.next.result (c.in-Some.section, c.in-Some.items) c.loop-section.yielded_by c.in-Some.is c.next.ensures.steps c.args.floors.now
+            c.into_iter-section-iterator.ensures.into_iter_gives.0 c.into_iter-section-iterator.ensures.into_iter_gives.5 q (subst IsSome (sym at) refl) before) at);
+      moments = λ t.
+            (settled_read told place c.args.ceiling from now (g.D.Device.time c.checked.new.dev) (g.D.Device.opened c.args.dev.now) (g.D.Device.opened c.loop-section.dev) (g.D.Device.opened c.checked.new.dev) s (c.requires.ceiling s (subst IsSome (sym is) refl)) c.checked.ensures.unchanged
+            (subst (λ (p : List ℕ). OnlyOwnEntry (section_key p c.in-Some.section.now) (g.D.Device.opened c.loop-section.dev) (g.D.Device.opened c.checked.new.dev)) done.place c.checked.ensures.entries) settled).moments t;
+      foreign = λ t name foreign. absurd (c.in_ok-journal.ensures.foreign t name foreign).0;
+      foreign_items = λ t name foreign e bad. absurd (c.in_ok-journal.ensures.foreign t name foreign).0;
+      foreign_disk = λ t name foreign. absurd (c.in_ok-journal.ensures.foreign t name foreign).0;
+      foreign_entries = λ t name foreign. absurd (c.in_ok-journal.ensures.foreign t name foreign).0;
+      name_entries = λ n bad. absurd (checked_named c.from_residual-in_err-found.result c.in_err-found.field-0.0 (g.D.Device.faults c.args.dev.now) (g.D.Device.faults c.loop-section.dev) (g.D.Device.faults c.checked.new.dev) failed c.in_err-found.ensures.cause n bad);
+      named = λ t n bad. absurd (checked_named c.from_residual-in_err-found.result c.in_err-found.field-0.0 (g.D.Device.faults c.args.dev.now) (g.D.Device.faults c.loop-section.dev) (g.D.Device.faults c.checked.new.dev) failed c.in_err-found.ensures.cause n bad);
+      entries = (settled_read told place c.args.ceiling from now (g.D.Device.time c.checked.new.dev) (g.D.Device.opened c.args.dev.now) (g.D.Device.opened c.loop-section.dev) (g.D.Device.opened c.checked.new.dev) s (c.requires.ceiling s (subst IsSome (sym is) refl)) c.checked.ensures.unchanged
+            (subst (λ (p : List ℕ). OnlyOwnEntry (section_key p c.in-Some.section.now) (g.D.Device.opened c.loop-section.dev) (g.D.Device.opened c.checked.new.dev)) done.place c.checked.ensures.entries) settled).entries;
+      overflow = λ room. absurd (checked_room c.from_residual-in_err-found.result c.in_err-found.field-0.0 (g.D.Device.faults c.args.dev.now) (g.D.Device.faults c.loop-section.dev) (g.D.Device.faults c.checked.new.dev) failed c.in_err-found.ensures.cause room);
+      faults = omega (arith, c.loop-section.invariant.faults, c.checked.ensures.faults);
+      cause = checked_on c.from_residual-in_err-found.result c.in_err-found.field-0.0 (g.D.Device.faults c.args.dev.now) (g.D.Device.faults c.loop-section.dev) (g.D.Device.faults c.checked.new.dev) failed c.in_err-found.ensures.cause c.loop-section.invariant.faults;
+    }
 
-pub returns-in_err-found-clause-whole : goal.returns-in_err-found-clause-whole
-returns-in_err-found-clause-whole g c t keeps x bad =
+pub returns-in_err-owing : goal.returns-in_err-owing
+returns-in_err-owing g c =
     let seal = g.S.Seal.seal_of in
     let size = g.A.CodecFixed.SIZE in
     let told = g.D.Device.Tells in
@@ -215,363 +279,112 @@ returns-in_err-found-clause-whole g c t keeps x bad =
     let now = g.D.Device.time c.loop-section.dev in
     let f = shown c.loop-section.found in
     let keys = numbers_of c.loop-section.yielded in
-    let s = c.in-Some.section.now in
-    let n = c.in-Some.items.now in
-    let is : marks s ≡ Some n = (btree_map_turn deref_pair c.loop-section.yielded c.into_iter-section-iterator.result c.loop-section.section-iterator c.next.new.self c.next.result (c.in-Some.section, c.in-Some.items) c.loop-section.yielded_by c.in-Some.is c.next.ensures.steps nat_cmp_total c.args.floors.now
-    c.into_iter-section-iterator.ensures.into_iter_gives.0 c.into_iter-section-iterator.ensures.into_iter_gives.5).1 in
-    let done = c.loop-section.invariant.checked in
-    let settled = c.loop-section.invariant.settled in
-    none_refused seal size g.A.Codec.spelling g.A.Codec.accepted told place pages c.args.cfg.now.write_buffer c.args.ceiling marks from keeps x (marker_refused seal size g.A.Codec.spelling g.A.Codec.accepted told place pages c.args.cfg.now.write_buffer c.args.ceiling marks from keys f done s n is now (settled.moments t) x (c.in_err-found.ensures.damage t x (ap Err (of_error c.from_residual-in_err-found.result c.in_err-found.field-0.0 (Corruption x) c.from_residual-in_err-found.ensures.1 bad))))
-
-pub returns-in_err-found-clause-refused : goal.returns-in_err-found-clause-refused
-returns-in_err-found-clause-refused g c t e bad =
-    let seal = g.S.Seal.seal_of in
-    let size = g.A.CodecFixed.SIZE in
-    let told = g.D.Device.Tells in
-    let place = string_bytes c.args.cfg.now.partition in
-    let pages = c.args.cfg.now.pages in
-    let marks = get nat_cmp c.args.floors.now in
-    let from = g.D.Device.time c.args.dev.now in
-    let now = g.D.Device.time c.loop-section.dev in
-    let f = shown c.loop-section.found in
-    let keys = numbers_of c.loop-section.yielded in
-    let s = c.in-Some.section.now in
-    let n = c.in-Some.items.now in
-    let is : marks s ≡ Some n = (btree_map_turn deref_pair c.loop-section.yielded c.into_iter-section-iterator.result c.loop-section.section-iterator c.next.new.self c.next.result (c.in-Some.section, c.in-Some.items) c.loop-section.yielded_by c.in-Some.is c.next.ensures.steps nat_cmp_total c.args.floors.now
-    c.into_iter-section-iterator.ensures.into_iter_gives.0 c.into_iter-section-iterator.ensures.into_iter_gives.5).1 in
-    let done = c.loop-section.invariant.checked in
-    let settled = c.loop-section.invariant.settled in
-    marker_codec seal size g.A.Codec.spelling g.A.Codec.accepted told place pages c.args.cfg.now.write_buffer c.args.ceiling marks from keys f done s n is now (settled.moments t) g.A.Codec.refusal e (c.in_err-found.ensures.refused t e (ap Err (of_error c.from_residual-in_err-found.result c.in_err-found.field-0.0 (Codec e) c.from_residual-in_err-found.ensures.1 bad)))
-    (λ q m before at. last_taken seal size g.A.Codec.spelling g.A.Codec.accepted told place pages c.args.cfg.now.write_buffer c.args.ceiling marks from keys f done t q m
-    (had_turn c.loop-section.yielded c.into_iter-section-iterator.result c.loop-section.section-iterator c.next.new.self c.next.result (c.in-Some.section, c.in-Some.items) c.loop-section.yielded_by c.in-Some.is c.next.ensures.steps c.args.floors.now
-    c.into_iter-section-iterator.ensures.into_iter_gives.0 c.into_iter-section-iterator.ensures.into_iter_gives.5 q (subst IsSome (sym at) refl) before) at)
-
-pub returns-in_err-found-clause-first : goal.returns-in_err-found-clause-first
-returns-in_err-found-clause-first g c t x bad q m before at =
-    let seal = g.S.Seal.seal_of in
-    let size = g.A.CodecFixed.SIZE in
-    let told = g.D.Device.Tells in
-    let place = string_bytes c.args.cfg.now.partition in
-    let pages = c.args.cfg.now.pages in
-    let marks = get nat_cmp c.args.floors.now in
-    let from = g.D.Device.time c.args.dev.now in
-    let f = shown c.loop-section.found in
-    let keys = numbers_of c.loop-section.yielded in
-    let done = c.loop-section.invariant.checked in
-    let found = c.in_err-found.ensures.damage t x (ap Err (of_error c.from_residual-in_err-found.result c.in_err-found.field-0.0 (Corruption x) c.from_residual-in_err-found.ensures.1 bad)) in
-    last_taken seal size g.A.Codec.spelling g.A.Codec.accepted told place pages c.args.cfg.now.write_buffer c.args.ceiling marks from keys f done t q m
-    (had_turn c.loop-section.yielded c.into_iter-section-iterator.result c.loop-section.section-iterator c.next.new.self c.next.result (c.in-Some.section, c.in-Some.items) c.loop-section.yielded_by c.in-Some.is c.next.ensures.steps c.args.floors.now
-    c.into_iter-section-iterator.ensures.into_iter_gives.0 c.into_iter-section-iterator.ensures.into_iter_gives.5 q (subst IsSome (sym at) refl) (omega (arith, before, found.0))) at
-
-pub returns-clause-floors : goal.returns-clause-floors
-returns-clause-floors g c s n is =
     let shows : map deref_pair c.loop-section.yielded ≡ c.args.floors.now.entries = (iter_end deref_pair c.args.floors.now.entries c.loop-section.yielded c.into_iter-section-iterator.result c.loop-section.section-iterator c.next.new.self c.next.result
     c.into_iter-section-iterator.ensures.into_iter_gives.0 c.loop-section.yielded_by c.in-None.is c.next.ensures.steps).0 in
     let all : numbers_of c.loop-section.yielded ≡ keys_of c.args.floors.now.entries = numbers_shown c.loop-section.yielded ∙ ap (λ (es : List (ℕ × ℕ)). keys_of es) shows in
     let taken : (s : ℕ) → IsSome (get nat_cmp c.args.floors.now s) → Contains (numbers_of c.loop-section.yielded) s = λ s some. subst (λ (x : List ℕ). Contains x s) (sym all) (Contains-keys_from_lookup same_number s c.args.floors.now.entries some) in
-    let done = subst (λ (f : Floors g.row.A.Denot). Checked g.S.Seal.seal_of g.A.CodecFixed.SIZE g.A.Codec.spelling g.A.Codec.accepted g.D.Device.Tells (string_bytes c.args.cfg.now.partition) c.args.cfg.now.pages c.args.cfg.now.write_buffer c.args.ceiling (get nat_cmp c.args.floors.now) (g.D.Device.time c.args.dev.now) (numbers_of c.loop-section.yielded) f)
-    (sym c.in_ok-owing.ensures.same) c.loop-section.invariant.checked in
-    (done.marked s n (taken s (subst IsSome (sym is) refl)) is).floor
-
-pub returns-clause-none : goal.returns-clause-none
-returns-clause-none g c s none =
-    let shows : map deref_pair c.loop-section.yielded ≡ c.args.floors.now.entries = (iter_end deref_pair c.args.floors.now.entries c.loop-section.yielded c.into_iter-section-iterator.result c.loop-section.section-iterator c.next.new.self c.next.result
-    c.into_iter-section-iterator.ensures.into_iter_gives.0 c.loop-section.yielded_by c.in-None.is c.next.ensures.steps).0 in
-    let all : numbers_of c.loop-section.yielded ≡ keys_of c.args.floors.now.entries = numbers_shown c.loop-section.yielded ∙ ap (λ (es : List (ℕ × ℕ)). keys_of es) shows in
     let never : (s : ℕ) → get nat_cmp c.args.floors.now s ≡ None → Contains (numbers_of c.loop-section.yielded) s → ⊥ = λ s none listed. absurd (cc (subst IsSome none (IsSome-lookup_from_Contains (eq_by_cmp_equiv nat_cmp_total) s c.args.floors.now.entries (subst (λ (x : List ℕ). Contains x s) all listed)))) in
-    let done = subst (λ (f : Floors g.row.A.Denot). Checked g.S.Seal.seal_of g.A.CodecFixed.SIZE g.A.Codec.spelling g.A.Codec.accepted g.D.Device.Tells (string_bytes c.args.cfg.now.partition) c.args.cfg.now.pages c.args.cfg.now.write_buffer c.args.ceiling (get nat_cmp c.args.floors.now) (g.D.Device.time c.args.dev.now) (numbers_of c.loop-section.yielded) f)
-    (sym c.in_ok-owing.ensures.same) c.loop-section.invariant.checked in
-    done.floors s (never s none)
+    let done = c.loop-section.invariant.checked in
+    let settled = c.loop-section.invariant.settled in
+    let opened = c.loop-section.invariant.opened in
+    let sound : (t : told) (x : Damage) → c.from_residual-in_err-owing.result ≡ Err (Corruption x) → ⊥ = λ t x bad. (
+        let same : c.in_err-owing.field-0.0 ≡ Corruption x = of_error c.from_residual-in_err-owing.result c.in_err-owing.field-0.0 (Corruption x) c.from_residual-in_err-owing.ensures.1 bad in
+        let less = c.in_err-owing.ensures.damage x (ap Err same) in
+        let reached = reaches seal size g.A.Codec.spelling g.A.Codec.accepted told place pages c.args.cfg.now.write_buffer c.args.ceiling marks from (ghosts g.row.S g.S.Seal g.S.Seal-dict) (λ (f : AppendFactory g.row.S.Denot). record { page_size = f.pages.page_size; capacity = f.write_buffer }) (are_pages g.row.S g.S.Seal g.S.Seal-dict) (journal_of c.loop-section.found).sections now (g.D.Device.opened c.loop-section.dev) opened settled.moments keys f done taken never c.requires.ceiling c.ranges.ceiling.fits (ap (λ (p : Pages). p.page_size) done.paging) t x.section in
+        omega (arith, less, reached)) in
+    let failed = err_of c.from_residual-in_err-owing.result c.in_err-owing.field-0.0 c.from_residual-in_err-owing.ensures.1 in
+    record {
+      floors = no_value _ _ c.from_residual-in_err-owing.ensures.0;
+      none = no_value _ _ c.from_residual-in_err-owing.ensures.0;
+      unmarked = no_value _ _ c.from_residual-in_err-owing.ensures.0;
+      empty = no_value _ _ c.from_residual-in_err-owing.ensures.0;
+      boundary = λ t. no_value _ _ c.from_residual-in_err-owing.ensures.0;
+      there = λ t. no_value _ _ c.from_residual-in_err-owing.ensures.0;
+      fits = no_value _ _ c.from_residual-in_err-owing.ensures.0;
+      partition = no_value _ _ c.from_residual-in_err-owing.ensures.0;
+      pages = no_value _ _ c.from_residual-in_err-owing.ensures.0;
+      write_buffer = no_value _ _ c.from_residual-in_err-owing.ensures.0;
+      ceiling = no_value _ _ c.from_residual-in_err-owing.ensures.0;
+      over = no_value _ _ c.from_residual-in_err-owing.ensures.0;
+      held = λ t. no_value _ _ c.from_residual-in_err-owing.ensures.0;
+      unopened = λ t. no_value _ _ c.from_residual-in_err-owing.ensures.0;
+      no_leftover = no_value _ _ c.from_residual-in_err-owing.ensures.0;
+      later = no_value _ _ c.from_residual-in_err-owing.ensures.0;
+      bytes = λ t. no_value _ _ c.from_residual-in_err-owing.ensures.0;
+      unrecovered = no_value _ _ c.from_residual-in_err-owing.ensures.0;
+      reached = no_value _ _ c.from_residual-in_err-owing.ensures.0;
+      idle = no_value _ _ c.from_residual-in_err-owing.ensures.0;
+      floor = no_value _ _ c.from_residual-in_err-owing.ensures.0;
+      damage = λ t x bad. absurd (sound t x bad);
+      whole = λ t keeps x bad. absurd (sound t x bad);
+      first = λ t x bad q m before at. absurd (sound t x bad);
+      refused = λ t e bad. absurd (owing_coded c.from_residual-in_err-owing.result c.in_err-owing.field-0.0 e failed c.in_err-owing.ensures.cause bad);
+      moments = c.loop-section.invariant.settled.moments;
+      foreign = λ t name foreign. absurd (c.in_ok-journal.ensures.foreign t name foreign).0;
+      foreign_items = λ t name foreign e bad. absurd (c.in_ok-journal.ensures.foreign t name foreign).0;
+      foreign_disk = λ t name foreign. absurd (c.in_ok-journal.ensures.foreign t name foreign).0;
+      foreign_entries = λ t name foreign. absurd (c.in_ok-journal.ensures.foreign t name foreign).0;
+      name_entries = λ n bad. absurd (checked_named c.from_residual-in_err-owing.result c.in_err-owing.field-0.0 (g.D.Device.faults c.args.dev.now) (g.D.Device.faults c.loop-section.dev) (g.D.Device.faults c.loop-section.dev) failed (owing_cause c.in_err-owing.field-0.0 (g.D.Device.faults c.loop-section.dev) (g.D.Device.faults c.loop-section.dev) c.in_err-owing.ensures.cause) n bad);
+      named = λ t n bad. absurd (checked_named c.from_residual-in_err-owing.result c.in_err-owing.field-0.0 (g.D.Device.faults c.args.dev.now) (g.D.Device.faults c.loop-section.dev) (g.D.Device.faults c.loop-section.dev) failed (owing_cause c.in_err-owing.field-0.0 (g.D.Device.faults c.loop-section.dev) (g.D.Device.faults c.loop-section.dev) c.in_err-owing.ensures.cause) n bad);
+      entries = c.loop-section.invariant.settled.entries;
+      overflow = λ room. absurd (checked_room c.from_residual-in_err-owing.result c.in_err-owing.field-0.0 (g.D.Device.faults c.args.dev.now) (g.D.Device.faults c.loop-section.dev) (g.D.Device.faults c.loop-section.dev) failed (owing_cause c.in_err-owing.field-0.0 (g.D.Device.faults c.loop-section.dev) (g.D.Device.faults c.loop-section.dev) c.in_err-owing.ensures.cause) room);
+      faults = c.loop-section.invariant.faults;
+      cause = checked_on c.from_residual-in_err-owing.result c.in_err-owing.field-0.0 (g.D.Device.faults c.args.dev.now) (g.D.Device.faults c.loop-section.dev) (g.D.Device.faults c.loop-section.dev) failed (owing_cause c.in_err-owing.field-0.0 (g.D.Device.faults c.loop-section.dev) (g.D.Device.faults c.loop-section.dev) c.in_err-owing.ensures.cause) c.loop-section.invariant.faults;
+    }
 
-pub returns-clause-unmarked : goal.returns-clause-unmarked
-returns-clause-unmarked g c s none =
+pub returns : goal.returns
+returns g c =
     let shows : map deref_pair c.loop-section.yielded ≡ c.args.floors.now.entries = (iter_end deref_pair c.args.floors.now.entries c.loop-section.yielded c.into_iter-section-iterator.result c.loop-section.section-iterator c.next.new.self c.next.result
     c.into_iter-section-iterator.ensures.into_iter_gives.0 c.loop-section.yielded_by c.in-None.is c.next.ensures.steps).0 in
     let all : numbers_of c.loop-section.yielded ≡ keys_of c.args.floors.now.entries = numbers_shown c.loop-section.yielded ∙ ap (λ (es : List (ℕ × ℕ)). keys_of es) shows in
+    let taken : (s : ℕ) → IsSome (get nat_cmp c.args.floors.now s) → Contains (numbers_of c.loop-section.yielded) s = λ s some. subst (λ (x : List ℕ). Contains x s) (sym all) (Contains-keys_from_lookup same_number s c.args.floors.now.entries some) in
+    let done = subst (λ (f : Floors g.row.A.Denot). Checked g.S.Seal.seal_of g.A.CodecFixed.SIZE g.A.Codec.spelling g.A.Codec.accepted g.D.Device.Tells (string_bytes c.args.cfg.now.partition) c.args.cfg.now.pages c.args.cfg.now.write_buffer c.args.ceiling (get nat_cmp c.args.floors.now) (g.D.Device.time c.args.dev.now) (numbers_of c.loop-section.yielded) f)
+    (sym c.in_ok-owing.ensures.same) c.loop-section.invariant.checked in
     let never : (s : ℕ) → get nat_cmp c.args.floors.now s ≡ None → Contains (numbers_of c.loop-section.yielded) s → ⊥ = λ s none listed. absurd (cc (subst IsSome none (IsSome-lookup_from_Contains (eq_by_cmp_equiv nat_cmp_total) s c.args.floors.now.entries (subst (λ (x : List ℕ). Contains x s) all listed)))) in
-    let done = subst (λ (f : Floors g.row.A.Denot). Checked g.S.Seal.seal_of g.A.CodecFixed.SIZE g.A.Codec.spelling g.A.Codec.accepted g.D.Device.Tells (string_bytes c.args.cfg.now.partition) c.args.cfg.now.pages c.args.cfg.now.write_buffer c.args.ceiling (get nat_cmp c.args.floors.now) (g.D.Device.time c.args.dev.now) (numbers_of c.loop-section.yielded) f)
-    (sym c.in_ok-owing.ensures.same) c.loop-section.invariant.checked in
-    done.boundaries s (never s none)
-
-pub returns-clause-empty : goal.returns-clause-empty
-returns-clause-empty g c s is =
-    let shows : map deref_pair c.loop-section.yielded ≡ c.args.floors.now.entries = (iter_end deref_pair c.args.floors.now.entries c.loop-section.yielded c.into_iter-section-iterator.result c.loop-section.section-iterator c.next.new.self c.next.result
-    c.into_iter-section-iterator.ensures.into_iter_gives.0 c.loop-section.yielded_by c.in-None.is c.next.ensures.steps).0 in
-    let all : numbers_of c.loop-section.yielded ≡ keys_of c.args.floors.now.entries = numbers_shown c.loop-section.yielded ∙ ap (λ (es : List (ℕ × ℕ)). keys_of es) shows in
-    let taken : (s : ℕ) → IsSome (get nat_cmp c.args.floors.now s) → Contains (numbers_of c.loop-section.yielded) s = λ s some. subst (λ (x : List ℕ). Contains x s) (sym all) (Contains-keys_from_lookup same_number s c.args.floors.now.entries some) in
-    let done = subst (λ (f : Floors g.row.A.Denot). Checked g.S.Seal.seal_of g.A.CodecFixed.SIZE g.A.Codec.spelling g.A.Codec.accepted g.D.Device.Tells (string_bytes c.args.cfg.now.partition) c.args.cfg.now.pages c.args.cfg.now.write_buffer c.args.ceiling (get nat_cmp c.args.floors.now) (g.D.Device.time c.args.dev.now) (numbers_of c.loop-section.yielded) f)
-    (sym c.in_ok-owing.ensures.same) c.loop-section.invariant.checked in
-    (done.marked s 0 (taken s (subst IsSome (sym is) refl)) is).empty refl
-
-pub returns-clause-boundary : goal.returns-clause-boundary
-returns-clause-boundary g c t s n is some =
-    let shows : map deref_pair c.loop-section.yielded ≡ c.args.floors.now.entries = (iter_end deref_pair c.args.floors.now.entries c.loop-section.yielded c.into_iter-section-iterator.result c.loop-section.section-iterator c.next.new.self c.next.result
-    c.into_iter-section-iterator.ensures.into_iter_gives.0 c.loop-section.yielded_by c.in-None.is c.next.ensures.steps).0 in
-    let all : numbers_of c.loop-section.yielded ≡ keys_of c.args.floors.now.entries = numbers_shown c.loop-section.yielded ∙ ap (λ (es : List (ℕ × ℕ)). keys_of es) shows in
-    let taken : (s : ℕ) → IsSome (get nat_cmp c.args.floors.now s) → Contains (numbers_of c.loop-section.yielded) s = λ s some. subst (λ (x : List ℕ). Contains x s) (sym all) (Contains-keys_from_lookup same_number s c.args.floors.now.entries some) in
-    let done = subst (λ (f : Floors g.row.A.Denot). Checked g.S.Seal.seal_of g.A.CodecFixed.SIZE g.A.Codec.spelling g.A.Codec.accepted g.D.Device.Tells (string_bytes c.args.cfg.now.partition) c.args.cfg.now.pages c.args.cfg.now.write_buffer c.args.ceiling (get nat_cmp c.args.floors.now) (g.D.Device.time c.args.dev.now) (numbers_of c.loop-section.yielded) f)
-    (sym c.in_ok-owing.ensures.same) c.loop-section.invariant.checked in
-    (done.marked s n (taken s (subst IsSome (sym is) refl)) is).boundary t some
-
-pub returns-clause-there : goal.returns-clause-there
-returns-clause-there g c t s some =
-    let shows : map deref_pair c.loop-section.yielded ≡ c.args.floors.now.entries = (iter_end deref_pair c.args.floors.now.entries c.loop-section.yielded c.into_iter-section-iterator.result c.loop-section.section-iterator c.next.new.self c.next.result
-    c.into_iter-section-iterator.ensures.into_iter_gives.0 c.loop-section.yielded_by c.in-None.is c.next.ensures.steps).0 in
-    let all : numbers_of c.loop-section.yielded ≡ keys_of c.args.floors.now.entries = numbers_shown c.loop-section.yielded ∙ ap (λ (es : List (ℕ × ℕ)). keys_of es) shows in
-    let taken : (s : ℕ) → IsSome (get nat_cmp c.args.floors.now s) → Contains (numbers_of c.loop-section.yielded) s = λ s some. subst (λ (x : List ℕ). Contains x s) (sym all) (Contains-keys_from_lookup same_number s c.args.floors.now.entries some) in
-    let done = subst (λ (f : Floors g.row.A.Denot). Checked g.S.Seal.seal_of g.A.CodecFixed.SIZE g.A.Codec.spelling g.A.Codec.accepted g.D.Device.Tells (string_bytes c.args.cfg.now.partition) c.args.cfg.now.pages c.args.cfg.now.write_buffer c.args.ceiling (get nat_cmp c.args.floors.now) (g.D.Device.time c.args.dev.now) (numbers_of c.loop-section.yielded) f)
-    (sym c.in_ok-owing.ensures.same) c.loop-section.invariant.checked in
-    elim (none_or_value (get nat_cmp c.args.floors.now s)) [
-      | inl none ↦ absurd (cc (subst IsSome none some))
-      | inr v ↦ (done.marked s v.0 (taken s some) v.1).there t
-    ]
-
-pub returns-clause-fits : goal.returns-clause-fits
-returns-clause-fits g c s n is =
-    let shows : map deref_pair c.loop-section.yielded ≡ c.args.floors.now.entries = (iter_end deref_pair c.args.floors.now.entries c.loop-section.yielded c.into_iter-section-iterator.result c.loop-section.section-iterator c.next.new.self c.next.result
-    c.into_iter-section-iterator.ensures.into_iter_gives.0 c.loop-section.yielded_by c.in-None.is c.next.ensures.steps).0 in
-    let all : numbers_of c.loop-section.yielded ≡ keys_of c.args.floors.now.entries = numbers_shown c.loop-section.yielded ∙ ap (λ (es : List (ℕ × ℕ)). keys_of es) shows in
-    let taken : (s : ℕ) → IsSome (get nat_cmp c.args.floors.now s) → Contains (numbers_of c.loop-section.yielded) s = λ s some. subst (λ (x : List ℕ). Contains x s) (sym all) (Contains-keys_from_lookup same_number s c.args.floors.now.entries some) in
-    let done = subst (λ (f : Floors g.row.A.Denot). Checked g.S.Seal.seal_of g.A.CodecFixed.SIZE g.A.Codec.spelling g.A.Codec.accepted g.D.Device.Tells (string_bytes c.args.cfg.now.partition) c.args.cfg.now.pages c.args.cfg.now.write_buffer c.args.ceiling (get nat_cmp c.args.floors.now) (g.D.Device.time c.args.dev.now) (numbers_of c.loop-section.yielded) f)
-    (sym c.in_ok-owing.ensures.same) c.loop-section.invariant.checked in
-    (done.marked s n (taken s (subst IsSome (sym is) refl)) is).fits
-
-pub returns-clause-partition : goal.returns-clause-partition
-returns-clause-partition g c =
-    let done = subst (λ (f : Floors g.row.A.Denot). Checked g.S.Seal.seal_of g.A.CodecFixed.SIZE g.A.Codec.spelling g.A.Codec.accepted g.D.Device.Tells (string_bytes c.args.cfg.now.partition) c.args.cfg.now.pages c.args.cfg.now.write_buffer c.args.ceiling (get nat_cmp c.args.floors.now) (g.D.Device.time c.args.dev.now) (numbers_of c.loop-section.yielded) f)
-    (sym c.in_ok-owing.ensures.same) c.loop-section.invariant.checked in
-    done.place
-
-pub returns-clause-pages : goal.returns-clause-pages
-returns-clause-pages g c =
-    let done = subst (λ (f : Floors g.row.A.Denot). Checked g.S.Seal.seal_of g.A.CodecFixed.SIZE g.A.Codec.spelling g.A.Codec.accepted g.D.Device.Tells (string_bytes c.args.cfg.now.partition) c.args.cfg.now.pages c.args.cfg.now.write_buffer c.args.ceiling (get nat_cmp c.args.floors.now) (g.D.Device.time c.args.dev.now) (numbers_of c.loop-section.yielded) f)
-    (sym c.in_ok-owing.ensures.same) c.loop-section.invariant.checked in
-    done.paging
-
-pub returns-clause-write_buffer : goal.returns-clause-write_buffer
-returns-clause-write_buffer g c =
-    let done = subst (λ (f : Floors g.row.A.Denot). Checked g.S.Seal.seal_of g.A.CodecFixed.SIZE g.A.Codec.spelling g.A.Codec.accepted g.D.Device.Tells (string_bytes c.args.cfg.now.partition) c.args.cfg.now.pages c.args.cfg.now.write_buffer c.args.ceiling (get nat_cmp c.args.floors.now) (g.D.Device.time c.args.dev.now) (numbers_of c.loop-section.yielded) f)
-    (sym c.in_ok-owing.ensures.same) c.loop-section.invariant.checked in
-    done.buffering
-
-pub returns-clause-ceiling : goal.returns-clause-ceiling
-returns-clause-ceiling g c =
-    let done = subst (λ (f : Floors g.row.A.Denot). Checked g.S.Seal.seal_of g.A.CodecFixed.SIZE g.A.Codec.spelling g.A.Codec.accepted g.D.Device.Tells (string_bytes c.args.cfg.now.partition) c.args.cfg.now.pages c.args.cfg.now.write_buffer c.args.ceiling (get nat_cmp c.args.floors.now) (g.D.Device.time c.args.dev.now) (numbers_of c.loop-section.yielded) f)
-    (sym c.in_ok-owing.ensures.same) c.loop-section.invariant.checked in
-    done.bound
-
-pub returns-clause-over : goal.returns-clause-over
-returns-clause-over g c =
-    let done = subst (λ (f : Floors g.row.A.Denot). Checked g.S.Seal.seal_of g.A.CodecFixed.SIZE g.A.Codec.spelling g.A.Codec.accepted g.D.Device.Tells (string_bytes c.args.cfg.now.partition) c.args.cfg.now.pages c.args.cfg.now.write_buffer c.args.ceiling (get nat_cmp c.args.floors.now) (g.D.Device.time c.args.dev.now) (numbers_of c.loop-section.yielded) f)
-    (sym c.in_ok-owing.ensures.same) c.loop-section.invariant.checked in
     let opened = subst (λ (m : Held g). AreOpened (ghosts g.row.S g.S.Seal g.S.Seal-dict) (λ (f : AppendFactory g.row.S.Denot). record { page_size = f.pages.page_size; capacity = f.write_buffer }) g.D.Device.Tells (string_bytes c.args.cfg.now.partition) c.args.ceiling (g.D.Device.time c.args.dev.now) m (g.D.Device.time c.loop-section.dev) (g.D.Device.opened c.loop-section.dev))
     (sym c.in_ok-owing.ensures.sections) c.loop-section.invariant.opened in
     let m = (journal_of c.in_ok-owing.owing).sections in
-    opened_journal g.S.Seal.seal_of g.A.CodecFixed.SIZE g.D.Device.Tells _ (are_pages g.row.S g.S.Seal g.S.Seal-dict) _ m (g.D.Device.opened c.loop-section.dev) (disk (g.D.Device.time c.loop-section.dev)) opened.over
-    (journal_of c.in_ok-owing.owing).unrecovered (journal_of c.in_ok-owing.owing).floor_of opened.idle c.in_ok-owing.ensures.unrecovered c.in_ok-owing.ensures.reached c.in_ok-owing.owing.whole
-    (λ t s some. omega (arith, done.bound, opened.later s some))
-
-pub returns-clause-held : goal.returns-clause-held
-returns-clause-held g c =
-    let opened = subst (λ (m : Held g). AreOpened (ghosts g.row.S g.S.Seal g.S.Seal-dict) (λ (f : AppendFactory g.row.S.Denot). record { page_size = f.pages.page_size; capacity = f.write_buffer }) g.D.Device.Tells (string_bytes c.args.cfg.now.partition) c.args.ceiling (g.D.Device.time c.args.dev.now) m (g.D.Device.time c.loop-section.dev) (g.D.Device.opened c.loop-section.dev))
-    (sym c.in_ok-owing.ensures.sections) c.loop-section.invariant.opened in
-    opened.held
-
-pub returns-clause-unopened : goal.returns-clause-unopened
-returns-clause-unopened g c =
-    let opened = subst (λ (m : Held g). AreOpened (ghosts g.row.S g.S.Seal g.S.Seal-dict) (λ (f : AppendFactory g.row.S.Denot). record { page_size = f.pages.page_size; capacity = f.write_buffer }) g.D.Device.Tells (string_bytes c.args.cfg.now.partition) c.args.ceiling (g.D.Device.time c.args.dev.now) m (g.D.Device.time c.loop-section.dev) (g.D.Device.opened c.loop-section.dev))
-    (sym c.in_ok-owing.ensures.sections) c.loop-section.invariant.opened in
-    opened.unopened
-
-pub returns-clause-no_leftover : goal.returns-clause-no_leftover
-returns-clause-no_leftover g c =
-    let opened = subst (λ (m : Held g). AreOpened (ghosts g.row.S g.S.Seal g.S.Seal-dict) (λ (f : AppendFactory g.row.S.Denot). record { page_size = f.pages.page_size; capacity = f.write_buffer }) g.D.Device.Tells (string_bytes c.args.cfg.now.partition) c.args.ceiling (g.D.Device.time c.args.dev.now) m (g.D.Device.time c.loop-section.dev) (g.D.Device.opened c.loop-section.dev))
-    (sym c.in_ok-owing.ensures.sections) c.loop-section.invariant.opened in
-    opened.no_leftover
-
-pub returns-clause-later : goal.returns-clause-later
-returns-clause-later g c =
-    let opened = subst (λ (m : Held g). AreOpened (ghosts g.row.S g.S.Seal g.S.Seal-dict) (λ (f : AppendFactory g.row.S.Denot). record { page_size = f.pages.page_size; capacity = f.write_buffer }) g.D.Device.Tells (string_bytes c.args.cfg.now.partition) c.args.ceiling (g.D.Device.time c.args.dev.now) m (g.D.Device.time c.loop-section.dev) (g.D.Device.opened c.loop-section.dev))
-    (sym c.in_ok-owing.ensures.sections) c.loop-section.invariant.opened in
-    opened.later
-
-pub returns-clause-bytes : goal.returns-clause-bytes
-returns-clause-bytes g c =
-    let opened = subst (λ (m : Held g). AreOpened (ghosts g.row.S g.S.Seal g.S.Seal-dict) (λ (f : AppendFactory g.row.S.Denot). record { page_size = f.pages.page_size; capacity = f.write_buffer }) g.D.Device.Tells (string_bytes c.args.cfg.now.partition) c.args.ceiling (g.D.Device.time c.args.dev.now) m (g.D.Device.time c.loop-section.dev) (g.D.Device.opened c.loop-section.dev))
-    (sym c.in_ok-owing.ensures.sections) c.loop-section.invariant.opened in
-    opened.bytes
-
-pub returns-clause-idle : goal.returns-clause-idle
-returns-clause-idle g c =
-    let opened = subst (λ (m : Held g). AreOpened (ghosts g.row.S g.S.Seal g.S.Seal-dict) (λ (f : AppendFactory g.row.S.Denot). record { page_size = f.pages.page_size; capacity = f.write_buffer }) g.D.Device.Tells (string_bytes c.args.cfg.now.partition) c.args.ceiling (g.D.Device.time c.args.dev.now) m (g.D.Device.time c.loop-section.dev) (g.D.Device.opened c.loop-section.dev))
-    (sym c.in_ok-owing.ensures.sections) c.loop-section.invariant.opened in
-    opened.idle
-
-pub returns-clause-floor : goal.returns-clause-floor
-returns-clause-floor g c =
-    let opened = subst (λ (m : Held g). AreOpened (ghosts g.row.S g.S.Seal g.S.Seal-dict) (λ (f : AppendFactory g.row.S.Denot). record { page_size = f.pages.page_size; capacity = f.write_buffer }) g.D.Device.Tells (string_bytes c.args.cfg.now.partition) c.args.ceiling (g.D.Device.time c.args.dev.now) m (g.D.Device.time c.loop-section.dev) (g.D.Device.opened c.loop-section.dev))
-    (sym c.in_ok-owing.ensures.sections) c.loop-section.invariant.opened in
-    opened.floor
-
-pub returns-clause-unrecovered : goal.returns-clause-unrecovered
-returns-clause-unrecovered g c =
-    c.in_ok-owing.ensures.unrecovered
-
-pub returns-clause-reached : goal.returns-clause-reached
-returns-clause-reached g c =
-    c.in_ok-owing.ensures.reached
-
-pub returns-clause-moments : goal.returns-clause-moments
-returns-clause-moments g c =
-    c.loop-section.invariant.settled.moments
-
-pub returns-clause-entries : goal.returns-clause-entries
-returns-clause-entries g c =
-    c.loop-section.invariant.settled.entries
-
-pub returns-in_err-owing-clause-moments : goal.returns-in_err-owing-clause-moments
-returns-in_err-owing-clause-moments g c =
-    c.loop-section.invariant.settled.moments
-
-pub returns-in_err-owing-clause-entries : goal.returns-in_err-owing-clause-entries
-returns-in_err-owing-clause-entries g c =
-    c.loop-section.invariant.settled.entries
-
-pub returns-in_err-owing-clause-damage : goal.returns-in_err-owing-clause-damage
-returns-in_err-owing-clause-damage g c t x bad =
-    let seal = g.S.Seal.seal_of in
-    let size = g.A.CodecFixed.SIZE in
-    let told = g.D.Device.Tells in
-    let place = string_bytes c.args.cfg.now.partition in
-    let pages = c.args.cfg.now.pages in
-    let marks = get nat_cmp c.args.floors.now in
-    let from = g.D.Device.time c.args.dev.now in
-    let now = g.D.Device.time c.loop-section.dev in
-    let f = shown c.loop-section.found in
-    let keys = numbers_of c.loop-section.yielded in
-    let shows : map deref_pair c.loop-section.yielded ≡ c.args.floors.now.entries = (iter_end deref_pair c.args.floors.now.entries c.loop-section.yielded c.into_iter-section-iterator.result c.loop-section.section-iterator c.next.new.self c.next.result
-    c.into_iter-section-iterator.ensures.into_iter_gives.0 c.loop-section.yielded_by c.in-None.is c.next.ensures.steps).0 in
-    let all : numbers_of c.loop-section.yielded ≡ keys_of c.args.floors.now.entries = numbers_shown c.loop-section.yielded ∙ ap (λ (es : List (ℕ × ℕ)). keys_of es) shows in
-    let taken : (s : ℕ) → IsSome (get nat_cmp c.args.floors.now s) → Contains (numbers_of c.loop-section.yielded) s = λ s some. subst (λ (x : List ℕ). Contains x s) (sym all) (Contains-keys_from_lookup same_number s c.args.floors.now.entries some) in
-    let never : (s : ℕ) → get nat_cmp c.args.floors.now s ≡ None → Contains (numbers_of c.loop-section.yielded) s → ⊥ = λ s none listed. absurd (cc (subst IsSome none (IsSome-lookup_from_Contains (eq_by_cmp_equiv nat_cmp_total) s c.args.floors.now.entries (subst (λ (x : List ℕ). Contains x s) all listed)))) in
-    let done = c.loop-section.invariant.checked in
-    let settled = c.loop-section.invariant.settled in
-    let opened = c.loop-section.invariant.opened in
-    let same : c.in_err-owing.field-0.0 ≡ Corruption x = of_error c.from_residual-in_err-owing.result c.in_err-owing.field-0.0 (Corruption x) c.from_residual-in_err-owing.ensures.1 bad in
-    let less = c.in_err-owing.ensures.damage x (ap Err same) in
-    let reached = reaches seal size g.A.Codec.spelling g.A.Codec.accepted told place pages c.args.cfg.now.write_buffer c.args.ceiling marks from (ghosts g.row.S g.S.Seal g.S.Seal-dict) (λ (f : AppendFactory g.row.S.Denot). record { page_size = f.pages.page_size; capacity = f.write_buffer }) (are_pages g.row.S g.S.Seal g.S.Seal-dict) (journal_of c.loop-section.found).sections now (g.D.Device.opened c.loop-section.dev) opened settled.moments keys f done taken never c.requires.ceiling c.ranges.ceiling.fits (ap (λ (p : Pages). p.page_size) done.paging) t x.section in
-    absurd (omega (arith, less, reached))
-
-pub returns-in_err-owing-clause-whole : goal.returns-in_err-owing-clause-whole
-returns-in_err-owing-clause-whole g c t keeps x bad =
-    let seal = g.S.Seal.seal_of in
-    let size = g.A.CodecFixed.SIZE in
-    let told = g.D.Device.Tells in
-    let place = string_bytes c.args.cfg.now.partition in
-    let pages = c.args.cfg.now.pages in
-    let marks = get nat_cmp c.args.floors.now in
-    let from = g.D.Device.time c.args.dev.now in
-    let now = g.D.Device.time c.loop-section.dev in
-    let f = shown c.loop-section.found in
-    let keys = numbers_of c.loop-section.yielded in
-    let shows : map deref_pair c.loop-section.yielded ≡ c.args.floors.now.entries = (iter_end deref_pair c.args.floors.now.entries c.loop-section.yielded c.into_iter-section-iterator.result c.loop-section.section-iterator c.next.new.self c.next.result
-    c.into_iter-section-iterator.ensures.into_iter_gives.0 c.loop-section.yielded_by c.in-None.is c.next.ensures.steps).0 in
-    let all : numbers_of c.loop-section.yielded ≡ keys_of c.args.floors.now.entries = numbers_shown c.loop-section.yielded ∙ ap (λ (es : List (ℕ × ℕ)). keys_of es) shows in
-    let taken : (s : ℕ) → IsSome (get nat_cmp c.args.floors.now s) → Contains (numbers_of c.loop-section.yielded) s = λ s some. subst (λ (x : List ℕ). Contains x s) (sym all) (Contains-keys_from_lookup same_number s c.args.floors.now.entries some) in
-    let never : (s : ℕ) → get nat_cmp c.args.floors.now s ≡ None → Contains (numbers_of c.loop-section.yielded) s → ⊥ = λ s none listed. absurd (cc (subst IsSome none (IsSome-lookup_from_Contains (eq_by_cmp_equiv nat_cmp_total) s c.args.floors.now.entries (subst (λ (x : List ℕ). Contains x s) all listed)))) in
-    let done = c.loop-section.invariant.checked in
-    let settled = c.loop-section.invariant.settled in
-    let opened = c.loop-section.invariant.opened in
-    let same : c.in_err-owing.field-0.0 ≡ Corruption x = of_error c.from_residual-in_err-owing.result c.in_err-owing.field-0.0 (Corruption x) c.from_residual-in_err-owing.ensures.1 bad in
-    let less = c.in_err-owing.ensures.damage x (ap Err same) in
-    let reached = reaches seal size g.A.Codec.spelling g.A.Codec.accepted told place pages c.args.cfg.now.write_buffer c.args.ceiling marks from (ghosts g.row.S g.S.Seal g.S.Seal-dict) (λ (f : AppendFactory g.row.S.Denot). record { page_size = f.pages.page_size; capacity = f.write_buffer }) (are_pages g.row.S g.S.Seal g.S.Seal-dict) (journal_of c.loop-section.found).sections now (g.D.Device.opened c.loop-section.dev) opened settled.moments keys f done taken never c.requires.ceiling c.ranges.ceiling.fits (ap (λ (p : Pages). p.page_size) done.paging) t x.section in
-    absurd (omega (arith, less, reached))
-
-pub returns-in_err-owing-clause-first : goal.returns-in_err-owing-clause-first
-returns-in_err-owing-clause-first g c t x bad q m before at =
-    let seal = g.S.Seal.seal_of in
-    let size = g.A.CodecFixed.SIZE in
-    let told = g.D.Device.Tells in
-    let place = string_bytes c.args.cfg.now.partition in
-    let pages = c.args.cfg.now.pages in
-    let marks = get nat_cmp c.args.floors.now in
-    let from = g.D.Device.time c.args.dev.now in
-    let now = g.D.Device.time c.loop-section.dev in
-    let f = shown c.loop-section.found in
-    let keys = numbers_of c.loop-section.yielded in
-    let shows : map deref_pair c.loop-section.yielded ≡ c.args.floors.now.entries = (iter_end deref_pair c.args.floors.now.entries c.loop-section.yielded c.into_iter-section-iterator.result c.loop-section.section-iterator c.next.new.self c.next.result
-    c.into_iter-section-iterator.ensures.into_iter_gives.0 c.loop-section.yielded_by c.in-None.is c.next.ensures.steps).0 in
-    let all : numbers_of c.loop-section.yielded ≡ keys_of c.args.floors.now.entries = numbers_shown c.loop-section.yielded ∙ ap (λ (es : List (ℕ × ℕ)). keys_of es) shows in
-    let taken : (s : ℕ) → IsSome (get nat_cmp c.args.floors.now s) → Contains (numbers_of c.loop-section.yielded) s = λ s some. subst (λ (x : List ℕ). Contains x s) (sym all) (Contains-keys_from_lookup same_number s c.args.floors.now.entries some) in
-    let never : (s : ℕ) → get nat_cmp c.args.floors.now s ≡ None → Contains (numbers_of c.loop-section.yielded) s → ⊥ = λ s none listed. absurd (cc (subst IsSome none (IsSome-lookup_from_Contains (eq_by_cmp_equiv nat_cmp_total) s c.args.floors.now.entries (subst (λ (x : List ℕ). Contains x s) all listed)))) in
-    let done = c.loop-section.invariant.checked in
-    let settled = c.loop-section.invariant.settled in
-    let opened = c.loop-section.invariant.opened in
-    let same : c.in_err-owing.field-0.0 ≡ Corruption x = of_error c.from_residual-in_err-owing.result c.in_err-owing.field-0.0 (Corruption x) c.from_residual-in_err-owing.ensures.1 bad in
-    let less = c.in_err-owing.ensures.damage x (ap Err same) in
-    let reached = reaches seal size g.A.Codec.spelling g.A.Codec.accepted told place pages c.args.cfg.now.write_buffer c.args.ceiling marks from (ghosts g.row.S g.S.Seal g.S.Seal-dict) (λ (f : AppendFactory g.row.S.Denot). record { page_size = f.pages.page_size; capacity = f.write_buffer }) (are_pages g.row.S g.S.Seal g.S.Seal-dict) (journal_of c.loop-section.found).sections now (g.D.Device.opened c.loop-section.dev) opened settled.moments keys f done taken never c.requires.ceiling c.ranges.ceiling.fits (ap (λ (p : Pages). p.page_size) done.paging) t x.section in
-    absurd (omega (arith, less, reached))
-
-pub returns-in_err-found-clause-foreign : goal.returns-in_err-found-clause-foreign
-returns-in_err-found-clause-foreign g c t name foreign =
-    absurd (c.in_ok-journal.ensures.foreign t name foreign).0
-
-pub returns-in_err-found-clause-foreign_items : goal.returns-in_err-found-clause-foreign_items
-returns-in_err-found-clause-foreign_items g c t name foreign e bad =
-    absurd (c.in_ok-journal.ensures.foreign t name foreign).0
-
-pub returns-in_err-found-clause-foreign_disk : goal.returns-in_err-found-clause-foreign_disk
-returns-in_err-found-clause-foreign_disk g c t name foreign =
-    absurd (c.in_ok-journal.ensures.foreign t name foreign).0
-
-pub returns-in_err-found-clause-foreign_entries : goal.returns-in_err-found-clause-foreign_entries
-returns-in_err-found-clause-foreign_entries g c t name foreign =
-    absurd (c.in_ok-journal.ensures.foreign t name foreign).0
-
-pub returns-in_err-owing-clause-foreign : goal.returns-in_err-owing-clause-foreign
-returns-in_err-owing-clause-foreign g c t name foreign =
-    absurd (c.in_ok-journal.ensures.foreign t name foreign).0
-
-pub returns-in_err-owing-clause-foreign_items : goal.returns-in_err-owing-clause-foreign_items
-returns-in_err-owing-clause-foreign_items g c t name foreign e bad =
-    absurd (c.in_ok-journal.ensures.foreign t name foreign).0
-
-pub returns-in_err-owing-clause-foreign_disk : goal.returns-in_err-owing-clause-foreign_disk
-returns-in_err-owing-clause-foreign_disk g c t name foreign =
-    absurd (c.in_ok-journal.ensures.foreign t name foreign).0
-
-pub returns-in_err-owing-clause-foreign_entries : goal.returns-in_err-owing-clause-foreign_entries
-returns-in_err-owing-clause-foreign_entries g c t name foreign =
-    absurd (c.in_ok-journal.ensures.foreign t name foreign).0
-
-pub returns-clause-foreign : goal.returns-clause-foreign
-returns-clause-foreign g c t name foreign =
-    absurd (c.in_ok-journal.ensures.foreign t name foreign).0
-
-pub returns-clause-foreign_disk : goal.returns-clause-foreign_disk
-returns-clause-foreign_disk g c t name foreign =
-    absurd (c.in_ok-journal.ensures.foreign t name foreign).0
-
-pub returns-clause-foreign_entries : goal.returns-clause-foreign_entries
-returns-clause-foreign_entries g c t name foreign =
-    absurd (c.in_ok-journal.ensures.foreign t name foreign).0
-
-pub returns-in_err-journal-clause-damage : goal.returns-in_err-journal-clause-damage
-returns-in_err-journal-clause-damage g c t x bad =
-    absurd (not_damaged c.in_err-journal.field-0.0 (g.D.Device.faults c.args.dev.now) (g.D.Device.faults c.init_holding.new.dev) c.in_err-journal.ensures.cause x (of_error c.from_residual.result c.in_err-journal.field-0.0 (Corruption x) c.from_residual.ensures.1 bad))
-
-pub returns-in_err-journal-clause-whole : goal.returns-in_err-journal-clause-whole
-returns-in_err-journal-clause-whole g c t keeps x bad =
-    absurd (not_damaged c.in_err-journal.field-0.0 (g.D.Device.faults c.args.dev.now) (g.D.Device.faults c.init_holding.new.dev) c.in_err-journal.ensures.cause x (of_error c.from_residual.result c.in_err-journal.field-0.0 (Corruption x) c.from_residual.ensures.1 bad))
-
-pub returns-in_err-journal-clause-first : goal.returns-in_err-journal-clause-first
-returns-in_err-journal-clause-first g c t x bad q m before at =
-    absurd (not_damaged c.in_err-journal.field-0.0 (g.D.Device.faults c.args.dev.now) (g.D.Device.faults c.init_holding.new.dev) c.in_err-journal.ensures.cause x (of_error c.from_residual.result c.in_err-journal.field-0.0 (Corruption x) c.from_residual.ensures.1 bad))
-
-pub returns-in_err-journal-clause-refused : goal.returns-in_err-journal-clause-refused
-returns-in_err-journal-clause-refused g c t e bad =
-    absurd (not_coded c.in_err-journal.field-0.0 (g.D.Device.faults c.args.dev.now) (g.D.Device.faults c.init_holding.new.dev) c.in_err-journal.ensures.cause e (of_error c.from_residual.result c.in_err-journal.field-0.0 (Codec e) c.from_residual.ensures.1 bad))
-
-pub returns-in_err-journal-clause-foreign_items : goal.returns-in_err-journal-clause-foreign_items
-returns-in_err-journal-clause-foreign_items g c t name foreign e bad =
-    absurd (not_coded c.in_err-journal.field-0.0 (g.D.Device.faults c.args.dev.now) (g.D.Device.faults c.init_holding.new.dev) c.in_err-journal.ensures.cause e (of_error c.from_residual.result c.in_err-journal.field-0.0 (Codec e) c.from_residual.ensures.1 bad))
+    record {
+      floors = λ s n is. (done.marked s n (taken s (subst IsSome (sym is) refl)) is).floor;
+      none = λ s none. done.floors s (never s none);
+      unmarked = λ s none. done.boundaries s (never s none);
+      empty = λ s is. (done.marked s 0 (taken s (subst IsSome (sym is) refl)) is).empty refl;
+      boundary = λ t s n is some. (done.marked s n (taken s (subst IsSome (sym is) refl)) is).boundary t some;
+      there = λ t s some.
+            elim (none_or_value (get nat_cmp c.args.floors.now s)) [
+              | inl none ↦ absurd (cc (subst IsSome none some))
+              | inr v ↦ (done.marked s v.0 (taken s some) v.1).there t
+            ];
+      fits = λ s n is. (done.marked s n (taken s (subst IsSome (sym is) refl)) is).fits;
+      partition = done.place;
+      pages = done.paging;
+      write_buffer = done.buffering;
+      ceiling = done.bound;
+      over = opened_journal g.S.Seal.seal_of g.A.CodecFixed.SIZE g.D.Device.Tells _ (are_pages g.row.S g.S.Seal g.S.Seal-dict) _ m (g.D.Device.opened c.loop-section.dev) (disk (g.D.Device.time c.loop-section.dev)) opened.over
+            (journal_of c.in_ok-owing.owing).unrecovered (journal_of c.in_ok-owing.owing).floor_of opened.idle c.in_ok-owing.ensures.unrecovered c.in_ok-owing.ensures.reached c.in_ok-owing.owing.whole
+            (λ t s some. omega (arith, done.bound, opened.later s some));
+      held = opened.held;
+      unopened = opened.unopened;
+      no_leftover = opened.no_leftover;
+      later = opened.later;
+      bytes = opened.bytes;
+      unrecovered = c.in_ok-owing.ensures.unrecovered;
+      reached = c.in_ok-owing.ensures.reached;
+      idle = opened.idle;
+      floor = opened.floor;
+      damage = λ t x bad. absurd (cc bad);
+      whole = λ t keeps x bad. absurd (cc bad);
+      first = λ t x bad q m before at. absurd (cc bad);
+      refused = λ t e bad. absurd (cc bad);
+      moments = c.loop-section.invariant.settled.moments;
+      foreign = λ t name foreign. absurd (c.in_ok-journal.ensures.foreign t name foreign).0;
+      foreign_items = λ t name foreign e bad. absurd (cc bad);
+      foreign_disk = λ t name foreign. absurd (c.in_ok-journal.ensures.foreign t name foreign).0;
+      foreign_entries = λ t name foreign. absurd (c.in_ok-journal.ensures.foreign t name foreign).0;
+      name_entries = λ n bad. absurd (cc bad);
+      named = λ t n bad. absurd (cc bad);
+      entries = c.loop-section.invariant.settled.entries;
+      overflow = λ room. absurd (cc room);
+      faults = c.loop-section.invariant.faults;
+      cause = tt;
+    }

@@ -1,18 +1,47 @@
 use Rattle.std.proofs.Common.{inl, refl}
 use Rattle.std.specs.Prelude.{⊤}
+use Rattle.blob_device.proofs.Results.{err_of, err_with}
+use Rattle.segments.specs.contracts.sealed.PageBlobSectionBuffer.TheImpl.{ghosts}
 use Rattle.segments.specs.FixedShown.{shown}
-use Rattle.segments.proofs.FixedWriteLemmas.{are_pages, settling_of, synced_journal}
+use Rattle.segments.proofs.FixedPassing.{no_value, failed_on}
+use Rattle.segments.proofs.FixedWriteLemmas.{are_pages, is_settled, settling_of, synced_journal}
 use Rattle.segments.proofs.fixed.Journal.sync_all.Goals as goal
 
-pub returns-in_err-this-clause-moments : goal.returns-in_err-this-clause-moments
-returns-in_err-this-clause-moments g c t = settling_of g.S.Seal.seal_of g.A.CodecFixed.SIZE g.D.Device.Tells _ (are_pages g.row.S g.S.Seal g.S.Seal-dict) _ (shown c.args.self) (g.D.Device.opened c.args.dev.now)
-    (g.D.Device.time c.args.dev.now) (g.D.Device.time c.sync_all.new.dev) (λ s. ⊤) c.requires.over t (c.sync_all.ensures.moments t)
+pub returns-in_err-this : goal.returns-in_err-this
+returns-in_err-this g c =
+  let is = err_of c.from_residual.result c.in_err-this.field-0.0 c.from_residual.ensures.1 in
+  record {
+    over = no_value _ _ c.from_residual.ensures.0;
+    all = no_value _ _ c.from_residual.ensures.0;
+    none = no_value _ _ c.from_residual.ensures.0;
+    unopened = no_value _ _ c.from_residual.ensures.0;
+    bounds = no_value _ _ c.from_residual.ensures.0;
+    unrecovered = no_value _ _ c.from_residual.ensures.0;
+    floors = no_value _ _ c.from_residual.ensures.0;
+    moments = λ t. settling_of g.S.Seal.seal_of g.A.CodecFixed.SIZE g.D.Device.Tells _ (are_pages g.row.S g.S.Seal g.S.Seal-dict) _ (shown c.args.self)
+      (g.D.Device.opened c.args.dev.now) (g.D.Device.time c.args.dev.now) (g.D.Device.time c.sync_all.new.dev) (λ s. ⊤) c.requires.over t (c.sync_all.ensures.moments t);
+    idle = λ none. c.sync_all.ensures.idle (λ s u held. is_settled (ghosts g.row.S g.S.Seal g.S.Seal-dict) ((shown c.args.self).sections.held s) u held (none s));
+    entries = c.sync_all.ensures.entries;
+    faults = c.sync_all.ensures.faults;
+    cause = err_with c.from_residual.result (failed_on c.from_residual.result c.in_err-this.field-0.0 _ _ is c.in_err-this.ensures.cause);
+  }
 
-pub returns-clause-moments : goal.returns-clause-moments
-returns-clause-moments g c t = settling_of g.S.Seal.seal_of g.A.CodecFixed.SIZE g.D.Device.Tells _ (are_pages g.row.S g.S.Seal g.S.Seal-dict) _ (shown c.args.self) (g.D.Device.opened c.args.dev.now)
-    (g.D.Device.time c.args.dev.now) (g.D.Device.time c.sync_all.new.dev) (λ s. ⊤) c.requires.over t (c.sync_all.ensures.moments t)
-
-pub returns-clause-over : goal.returns-clause-over
-returns-clause-over g c = synced_journal g.S.Seal.seal_of g.A.CodecFixed.SIZE g.D.Device.Tells _ (are_pages g.row.S g.S.Seal g.S.Seal-dict) _ (shown c.args.self) (g.D.Device.opened c.args.dev.now)
-    (g.D.Device.time c.args.dev.now) (g.D.Device.time c.sync_all.new.dev) (λ s. ⊤) c.requires.over _ (g.D.Device.opened c.sync_all.new.dev) (λ s. inl tt) c.in_ok-this.ensures.over
-    (λ s u is held. c.in_ok-this.ensures.all s u held) c.in_ok-this.ensures.none (λ s not. absurd (not tt)) c.in_ok-this.ensures.unopened c.in_ok-this.ensures.bounds (λ s. refl) (λ s. refl) c.sync_all.ensures.moments
+pub returns : goal.returns
+returns g c = record {
+  over = synced_journal g.S.Seal.seal_of g.A.CodecFixed.SIZE g.D.Device.Tells _ (are_pages g.row.S g.S.Seal g.S.Seal-dict) _ (shown c.args.self)
+    (g.D.Device.opened c.args.dev.now) (g.D.Device.time c.args.dev.now) (g.D.Device.time c.sync_all.new.dev) (λ s. ⊤) c.requires.over _
+    (g.D.Device.opened c.sync_all.new.dev) (λ s. inl tt) c.in_ok-this.ensures.over (λ s u is held. c.in_ok-this.ensures.all s u held)
+    c.in_ok-this.ensures.none (λ s not. absurd (not tt)) c.in_ok-this.ensures.unopened c.in_ok-this.ensures.bounds (λ s. refl) (λ s. refl) c.sync_all.ensures.moments;
+  all = c.in_ok-this.ensures.all;
+  none = c.in_ok-this.ensures.none;
+  unopened = c.in_ok-this.ensures.unopened;
+  bounds = c.in_ok-this.ensures.bounds;
+  unrecovered = λ s. refl;
+  floors = λ s. refl;
+  moments = λ t. settling_of g.S.Seal.seal_of g.A.CodecFixed.SIZE g.D.Device.Tells _ (are_pages g.row.S g.S.Seal g.S.Seal-dict) _ (shown c.args.self)
+    (g.D.Device.opened c.args.dev.now) (g.D.Device.time c.args.dev.now) (g.D.Device.time c.sync_all.new.dev) (λ s. ⊤) c.requires.over t (c.sync_all.ensures.moments t);
+  idle = λ none. c.sync_all.ensures.idle (λ s u held. is_settled (ghosts g.row.S g.S.Seal g.S.Seal-dict) ((shown c.args.self).sections.held s) u held (none s));
+  entries = c.sync_all.ensures.entries;
+  faults = c.sync_all.ensures.faults;
+  cause = tt;
+}
