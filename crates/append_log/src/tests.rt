@@ -80,7 +80,7 @@ fn synced(stopped: u64) -> usize
 }
 
 #[test]
-fn two_records(rt: HostRuntime) -> Result<(), Fail> {
+fn two_records_take_seven_calls_with_a_mark_each(rt: HostRuntime) -> Result<(), Fail> {
     let (dev, appended) = run_to(rt.alloc(), Plan::From(100))?;
     let appended = appended.ok_or("opened")?;
     assert_eq!(rt; appended.result, Ok(()));
@@ -93,7 +93,7 @@ fn two_records(rt: HostRuntime) -> Result<(), Fail> {
 }
 
 #[test]
-fn stopped_at_each_call(rt: HostRuntime) -> Result<(), Fail> {
+fn a_stop_at_each_call_leaves_what_was_synced(rt: HostRuntime) -> Result<(), Fail> {
     for nth in 0..8 {
         for plan in [Plan::From(nth), Plan::At(nth)] {
             let (dev, appended) = run_to(rt.alloc(), plan)?;

@@ -6,8 +6,6 @@ mod error;
 mod keys;
 mod metadata;
 mod pair;
-#[cfg(test)]
-mod tests;
 
 pub use copy::{CopyEntries, CopyText};
 pub use error::{Error, Side};
