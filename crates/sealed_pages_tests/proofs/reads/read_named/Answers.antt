@@ -1,7 +1,0 @@
-use Rattle.blob_device.specs.MemoryMeaning.{memory_opened}
-use Rattle.sealed_pages.proofs.EntryLemmas.{open_entered, open_some}
-use Rattle.sealed_pages_tests.proofs.reads.read_named.Goals as goal
-
-pub read_range-requires-clause-open : goal.read_range-requires-clause-open
-read_range-requires-clause-open c = open_some (memory_opened c.open_blob.new.self) (c.args.partition.now, c.args.name.now) c.in_ok-open_blob.field-0
-    (open_entered (c.args.partition.now, c.args.name.now) (memory_opened c.args.dev.now) (memory_opened c.open_blob.new.self) c.in_ok-open_blob.field-0 c.in_ok-open_blob.ensures.opened)
