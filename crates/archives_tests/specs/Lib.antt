@@ -1,0 +1,2 @@
+-- What holds of an open archive between the steps of a scenario.
+pub mod Over
