@@ -1,7 +1,8 @@
 // Runs in which one call of the device fails, and when their commands began.
-use crate::judge::wrong_with;
+use crate::judge::judge_over;
 use crate::outcome::Outcome;
 use crate::owed::course_of;
+use crate::runs::verdict;
 use crate::stop::{Stop, ok};
 use crate::trial::{MOST_CALLS, Trial};
 use archives::Error;
@@ -21,14 +22,17 @@ pub fn each_call_fails(trial: &Trial<'_>, least: u64) -> Result<String, Stop> {
             if failed.is_same(&whole) && dev.calls() == nth && nth >= least {
                 return ok(alloc);
             }
-            return Ok(format!(in alloc; "without a failure there are {nth} calls: {failed:?}")?);
+            return Ok(format!(in alloc;
+                "without a failure there are {nth} calls, or it ends otherwise"
+            )?);
         }
         if dev.faults() != 1 || !is_stopped(nth, &whole, &failed) {
-            return Ok(format!(in alloc; "call {nth} fails: {failed:?}")?);
+            let said = verdict(alloc, &failed, &[])?;
+            return Ok(format!(in alloc; "call {nth} fails: {said}")?);
         }
         let owed = course.owed(trial, &failed)?;
         let image = dev.image(alloc)?;
-        let wrong = wrong_with(trial, &image, &mut dev, &owed)?;
+        let wrong = judge_over(trial, &course, image, &mut dev)?.against(&owed);
         if !wrong.is_empty() {
             return Ok(format!(in alloc; "call {nth} fails: {wrong}")?);
         }
@@ -40,29 +44,35 @@ pub fn each_call_fails(trial: &Trial<'_>, least: u64) -> Result<String, Stop> {
 // these but the last have their replies, and the last line is that of a fault.
 fn is_stopped(nth: u64, whole: &Outcome, failed: &Outcome) -> bool {
     let marks = whole.ended.marks.as_slice();
-    let begun = marks.iter().take_while(|mark| **mark <= nth).count();
+    let mut begun = 0_usize;
+    for mark in marks {
+        if *mark <= nth {
+            begun = begun.saturating_add(1);
+        }
+    }
     let replied = begun.saturating_sub(1);
-    let same = failed
+    for (line, reply) in failed
         .written
         .lines()
+        .take(replied)
         .zip(whole.written.lines())
-        .take_while(|(line, reply)| line == reply)
-        .count();
+    {
+        if line != reply {
+            return false;
+        }
+    }
     let last = failed.written.lines().last().unwrap_or("");
-    failed.ended.status == 5
-        && is_fault(&failed.ended.error)
+    let is_fault = match &failed.ended.error {
+        Some(Error::Journal(journal::Error::Runtime(RError::Fault))) => true,
+        Some(Error::Metadata(meta_store::Error::Runtime(RError::Fault))) => true,
+        _ => false,
+    };
+    is_fault
+        && failed.ended.status == 5
         && Some(failed.ended.marks.as_slice()) == marks.get(..begun)
         && failed.written.lines().count() == replied.saturating_add(1)
-        && same == replied
         && last.starts_with("error ")
         && last.ends_with(" runtime fault")
-}
-
-// Whether it is a failure of the device.
-fn is_fault(error: &Option<Error>) -> bool {
-    let of_records = Some(Error::Journal(journal::Error::Runtime(RError::Fault)));
-    let of_markers = Some(Error::Metadata(meta_store::Error::Runtime(RError::Fault)));
-    *error == of_records || *error == of_markers
 }
 
 /// A mark is the number of calls that the opening and the commands before it make.

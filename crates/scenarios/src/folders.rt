@@ -2,8 +2,8 @@
 use crate::stage::Stage;
 use crate::stop::{Stop, ok};
 use scenario_text::Step;
-use std::fs;
 use std::alloc::Global;
+use std::fs;
 
 /// Does with files what the step says.
 pub fn use_files(rt: &HostRuntime, stage: &mut Stage, step: &Step) -> Result<String, Stop> {
@@ -12,11 +12,17 @@ pub fn use_files(rt: &HostRuntime, stage: &mut Stage, step: &Step) -> Result<Str
     match step.word() {
         "folder" => {
             clear(rt, path);
-            stage.folder = if path == "-" { None } else { Some(String::from_str(alloc, path)?) };
+            stage.folder = if path == "-" {
+                None
+            } else {
+                Some(String::from_str(alloc, path)?)
+            };
         }
         "clear" => clear(rt, path),
         "file" => {
-            let bytes = step.bytes(alloc, 1)?.ok_or(Stop::Said("bytes are missing"))?;
+            let bytes = step
+                .bytes(alloc, 1)?
+                .ok_or(Stop::Said("bytes are missing"))?;
             if fs::write(rt, path, bytes.as_slice()).is_err() {
                 return Err(Stop::Said("the file cannot be written"));
             }

@@ -30,9 +30,15 @@ pub fn give(stage: &mut Stage, step: &Step) -> Result<String, Stop> {
 
 // Appends a text many times.
 fn repeat(stage: &mut Stage, step: &Step) -> Result<(), Stop> {
+    let count = number(step, 0)? as usize;
     let mut text = Vec::new(stage.alloc);
     append_text(&mut text, step.argument(1))?;
-    for _ in 0..number(step, 0)? {
+    if let [byte] = text.as_slice() {
+        let len = stage.input.len().saturating_add(count);
+        stage.input.resize(len, *byte)?;
+        return Ok(());
+    }
+    for _ in 0..count {
         stage.input.extend_from_slice(text.as_slice())?;
     }
     Ok(())
@@ -40,11 +46,11 @@ fn repeat(stage: &mut Stage, step: &Step) -> Result<(), Stop> {
 
 // Takes a line of the script, with the reply that it must get.
 fn take_line(stage: &mut Stage, step: &Step) -> Result<(), Stop> {
-    for (at, word) in step.rest().iter().enumerate() {
-        if at > 0 {
-            stage.input.push(b' ')?;
-        }
+    let mut separator: &[u8] = b"";
+    for word in step.rest() {
+        stage.input.extend_from_slice(separator)?;
         stage.input.extend_from_slice(word.as_bytes())?;
+        separator = b" ";
     }
     stage.input.push(b'\n')?;
     if step.wanted.as_str() != "nothing" {
@@ -57,39 +63,47 @@ fn take_line(stage: &mut Stage, step: &Step) -> Result<(), Stop> {
 fn words_of(alloc: Global, step: &Step) -> Result<Vec<String>, Stop> {
     let mut words = Vec::new(alloc);
     for word in step.rest() {
-        let text = if word.as_str() == "\"\"" { "" } else { word.as_str() };
+        let text = if word.as_str() == "\"\"" {
+            ""
+        } else {
+            word.as_str()
+        };
         words.push(String::from_str(alloc, text)?)?;
     }
     Ok(words)
 }
 
-const TOO_GREAT: Stop = Stop::Said("the number is too great for the setting");
-
 /// Changes the setting of this name.
 pub fn set_number(settings: &mut Settings, name: &str, number: u64) -> Result<(), Stop> {
     match name {
-        "page_size" => settings.page_size = u16::try_from(number).map_err(|_| TOO_GREAT)?,
-        "cache_pages" => settings.cache_pages = u32::try_from(number).map_err(|_| TOO_GREAT)?,
         "write_buffer" => settings.write_buffer = number as usize,
         "replay_buffer" => settings.replay_buffer = number as usize,
-        "max_value" => settings.max_value = u32::try_from(number).map_err(|_| TOO_GREAT)?,
         "per_section" => settings.limits.per_section = number,
         "value_target_size" => settings.value_target_size = number,
-        _ => return set_table(settings, name, number),
+        "page_size" => match u16::try_from(number) {
+            Ok(small) => settings.page_size = small,
+            Err(_) => return Err(Stop::Said("the number is too great")),
+        },
+        "table_resize_frequency" => match u8::try_from(number) {
+            Ok(small) => settings.table_resize_frequency = small,
+            Err(_) => return Err(Stop::Said("the number is too great")),
+        },
+        _ => return set_small(settings, name, number),
     }
     Ok(())
 }
 
-// Changes a setting of the hash table, or how many sections there may be.
-fn set_table(settings: &mut Settings, name: &str, number: u64) -> Result<(), Stop> {
-    let small = u32::try_from(number).map_err(|_| TOO_GREAT)?;
+// Changes a setting of 32 bits.
+fn set_small(settings: &mut Settings, name: &str, number: u64) -> Result<(), Stop> {
+    let Ok(small) = u32::try_from(number) else {
+        return Err(Stop::Said("the number is too great"));
+    };
     match name {
+        "cache_pages" => settings.cache_pages = small,
+        "max_value" => settings.max_value = small,
         "sections" => settings.limits.sections = small,
         "table_initial_size" => settings.table_initial_size = small,
         "table_resize_chunk_size" => settings.table_resize_chunk_size = small,
-        "table_resize_frequency" => {
-            settings.table_resize_frequency = u8::try_from(number).map_err(|_| TOO_GREAT)?;
-        }
         _ => return Err(Stop::Said("no such setting")),
     }
     Ok(())
@@ -97,12 +111,12 @@ fn set_table(settings: &mut Settings, name: &str, number: u64) -> Result<(), Sto
 
 /// Appends what a word spells, of which a backslash begins a byte that a word cannot have.
 pub fn append_text(out: &mut Vec<u8>, text: &str) -> Result<(), Stop> {
-    for (at, piece) in text.split('\\').enumerate() {
-        if at == 0 {
-            out.extend_from_slice(piece.as_bytes())?;
-        } else {
-            append_escape(out, piece.as_bytes())?;
-        }
+    let mut pieces = text.split('\\');
+    if let Some(plain) = pieces.next() {
+        out.extend_from_slice(plain.as_bytes())?;
+    }
+    for piece in pieces {
+        append_escape(out, piece.as_bytes())?;
     }
     Ok(())
 }

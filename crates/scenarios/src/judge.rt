@@ -1,6 +1,7 @@
 // What an image must be, wherever the run before it stopped: lawful, what is owed, and opened as what it keeps.
+use crate::image::device;
 use crate::kept::{Kept, blob_of, found_in, index_in, kept_in, record_of, records_of, word_in};
-use crate::owed::Owed;
+use crate::owed::{Course, Owed};
 use crate::stop::Stop;
 use crate::trial::Trial;
 use archives::prunable::IndexRecord;
@@ -11,34 +12,98 @@ use std::alloc::{AllocError, Global};
 use std::fmt::Write;
 use value_codec::{Key8, Sha256Seal};
 
-/// What is wrong with an image, which is what the device reads as; nothing where all is well. A new run over the device must find what
-/// the plain program finds in the image.
-pub fn wrong_with(
+/// An image, what the plain program says that it keeps, and what is wrong with it.
+#[derive(Drop)]
+pub struct Judged {
+    image: Image,
+    kept: Vec<Kept>,
+    wrong: &'static str,
+}
+
+impl Judged {
+    /// What is wrong with an image of which this is owed; nothing where all is well.
+    pub fn against(&self, owed: &Owed) -> &'static str {
+        if self.wrong.is_empty() && !owed.allows(&self.kept) {
+            return "it keeps other records than those that are owed";
+        }
+        self.wrong
+    }
+}
+
+/// Judges an image, which is what the device reads as. A new run over the device must find what the plain program finds in the image,
+/// where it looks for the records of the course.
+pub fn judge_over(
     trial: &Trial<'_>,
-    image: &Image,
+    course: &Course,
+    image: Image,
     dev: &mut Memory,
-    owed: &Owed,
-) -> Result<&'static str, Stop> {
+) -> Result<Judged, Stop> {
     let alloc = trial.alloc;
     let page_size = trial.settings.page_size;
-    let kept = kept_in(alloc, page_size, image)?;
-    let why = unlawful(alloc, page_size, trial.items, image, &kept)?;
-    if !why.is_empty() {
-        return Ok(why);
+    let kept = kept_in(alloc, page_size, &image)?;
+    let mut wrong = unlawful(alloc, page_size, trial.items, &image, &kept)?;
+    if wrong.is_empty() {
+        wrong = unfound(trial, course, &kept, dev)?;
     }
-    if !owed.allows(&kept) {
-        return Ok("it keeps other records than those that are owed");
-    }
-    let looks = looks_of(trial, owed, &kept)?;
+    Ok(Judged { image, kept, wrong })
+}
+
+// What a new run over the device finds wrong, where this must be kept.
+fn unfound(
+    trial: &Trial<'_>,
+    course: &Course,
+    kept: &[Kept],
+    dev: &mut Memory,
+) -> Result<&'static str, Stop> {
+    let alloc = trial.alloc;
+    let looks = looks_of(trial, course, kept)?;
     let run = trial.run(dev, looks.script.as_str())?;
     if run.ended.status != 0 || run.written.as_str() != looks.replies.as_str() {
         return Ok("a new run does not find what is kept");
     }
-    let after = kept_in(alloc, page_size, &dev.image(alloc)?)?;
-    if !are_settled(&kept, &after) {
+    let after = kept_in(alloc, trial.settings.page_size, &dev.image(alloc)?)?;
+    if !are_settled(kept, &after) {
         return Ok("a new run keeps something else, or leaves it unmarked");
     }
     Ok("")
+}
+
+// How many images are looked for again. Images of calls that follow one another are alike.
+const LATEST: usize = 32;
+
+/// What is wrong with an image of which this is owed; nothing where all is well. Images that were judged of late are not judged again.
+pub fn wrong_with(
+    trial: &Trial<'_>,
+    course: &Course,
+    latest: &mut Vec<Judged>,
+    image: &Image,
+    owed: &Owed,
+) -> Result<&'static str, Stop> {
+    for judged in latest.iter().rev().take(LATEST) {
+        if are_same(&course.sections, &judged.image, image) {
+            return Ok(judged.against(owed));
+        }
+    }
+    let image = image.copy(trial.alloc)?;
+    let mut dev = device(trial.alloc, &image)?;
+    let judged = judge_over(trial, course, image, &mut dev)?;
+    let wrong = judged.against(owed);
+    latest.push(judged)?;
+    Ok(wrong)
+}
+
+// Whether two images have the same blobs of these sections, and the same copies of the markers.
+fn are_same(sections: &[u64], some: &Image, other: &Image) -> bool {
+    for section in sections {
+        let name = section.to_be_bytes();
+        for partition in ["keys", "values"] {
+            if some.blob(partition, name.as_slice()) != other.blob(partition, name.as_slice()) {
+                return false;
+            }
+        }
+    }
+    some.blob("meta", b"left") == other.blob("meta", b"left")
+        && some.blob("meta", b"right") == other.blob("meta", b"right")
 }
 
 /// Why an image is not lawful; nothing where it is: each record stands in its section and names the place behind the one before, and
@@ -79,12 +144,7 @@ fn are_records(alloc: Global, items: u64, section: u64, found: &[Found]) -> Resu
 }
 
 // Whether the section's marker is true: it has a blob, so many records, and all of these are sound.
-fn is_marked_truly(
-    alloc: Global,
-    page_size: u16,
-    image: &Image,
-    one: &Kept,
-) -> Result<bool, Stop> {
+fn is_marked_truly(alloc: Global, page_size: u16, image: &Image, one: &Kept) -> Result<bool, Stop> {
     let Some(marker) = one.marker else {
         return Ok(true);
     };
@@ -110,25 +170,27 @@ struct Looks {
     replies: String,
 }
 
-// How many indices of a section are looked up, besides those that were put.
+// How many indices of a section are looked up, besides those of records.
 const LOOKED: u64 = 16;
 
-// Lookups of indices of each section, and of each put by its index and its key.
-fn looks_of(trial: &Trial<'_>, owed: &Owed, kept: &[Kept]) -> Result<Looks, AllocError> {
+// Lookups of indices of each section, and of each record by its key, and by its index where that is not among these.
+fn looks_of(trial: &Trial<'_>, course: &Course, kept: &[Kept]) -> Result<Looks, AllocError> {
     let mut looks = Looks {
         script: String::new(trial.alloc),
         replies: String::new(trial.alloc),
     };
-    for section in owed.sections.iter() {
-        let end = section.first.saturating_add(trial.items.min(LOOKED));
-        for index in section.first..end {
-            looks.ask_index(index, records_of(kept, section.first))?;
+    for first in course.sections.iter() {
+        for index in *first..first.saturating_add(trial.items.min(LOOKED)) {
+            looks.ask_index(index, records_of(kept, *first))?;
         }
-        for put in section.puts.iter() {
-            let index = index_in(put.as_str()).unwrap_or(0);
-            looks.ask_index(index, records_of(kept, section.first))?;
-            looks.ask_key(word_in(put.as_str(), 1), kept)?;
+    }
+    for record in course.records.iter() {
+        let index = index_in(record.as_str()).unwrap_or(0);
+        let first = trial.first_of(index);
+        if index.saturating_sub(first) >= LOOKED {
+            looks.ask_index(index, records_of(kept, first))?;
         }
+        looks.ask_key(word_in(record.as_str(), 1), kept)?;
     }
     Ok(looks)
 }
@@ -150,10 +212,12 @@ impl Looks {
     fn ask_key(&mut self, key: &str, kept: &[Kept]) -> Result<(), AllocError> {
         let mut count = 0_u64;
         let mut value = "";
-        for record in kept.iter().flat_map(|one| one.records.iter()) {
-            if word_in(record.as_str(), 1) == key {
-                count = count.saturating_add(1);
-                value = word_in(record.as_str(), 2);
+        for one in kept {
+            for record in one.records.iter() {
+                if word_in(record.as_str(), 1) == key {
+                    count = count.saturating_add(1);
+                    value = word_in(record.as_str(), 2);
+                }
             }
         }
         if count > 1 {
@@ -175,8 +239,12 @@ fn are_settled(kept: &[Kept], after: &[Kept]) -> bool {
             return false;
         }
     }
-    after.iter().all(|one| {
-        one.marker.unwrap_or(0) == one.records.len() as u64
-            && records_of(kept, one.section) == one.records.as_slice()
-    })
+    for one in after {
+        if one.marker.unwrap_or(0) != one.records.len() as u64
+            || records_of(kept, one.section) != one.records.as_slice()
+        {
+            return false;
+        }
+    }
+    true
 }

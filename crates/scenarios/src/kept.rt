@@ -56,7 +56,10 @@ fn markers_in(alloc: Global, image: &Image) -> Result<Markers, Stop> {
 // The section's marker among these.
 fn marker_of(markers: &Markers, section: u64) -> Option<u64> {
     let name = section.to_be_bytes();
-    Key8::from_bytes(name.as_slice()).and_then(|key| markers.get(&key).copied())
+    match Key8::from_bytes(name.as_slice()) {
+        Some(key) => markers.get(&key).copied(),
+        None => None,
+    }
 }
 
 // The sections that have a blob or a marker.

@@ -4,8 +4,9 @@ use crate::image::name_of;
 use crate::judge::unlawful;
 use crate::kept::{Kept, kept_in, records_of};
 use crate::stage::Stage;
-use crate::stop::{Stop, ok};
-use archive_service::{index_of, write_error};
+use crate::stop::Stop;
+use crate::trial::items_of;
+use archive_service::write_error;
 use blob_device::{Device, Image};
 use scenario_text::Step;
 use std::alloc::Global;
@@ -103,12 +104,9 @@ pub fn judged(stage: &Stage, step: &Step) -> Result<String, Stop> {
         "kept" => kept_text(alloc, records_of(&kept, number(step, 0)?)),
         "marker" => marker_text(alloc, &kept, number(step, 0)?),
         _ => {
-            let items = stage.words.get(2).and_then(|word| index_of(word.as_bytes()));
-            let why = unlawful(alloc, page_size, items.unwrap_or(1), &image, &kept)?;
-            if why.is_empty() {
-                return ok(alloc);
-            }
-            Ok(String::from_str(alloc, why)?)
+            let items = items_of(stage.words.as_slice());
+            let why = unlawful(alloc, page_size, items, &image, &kept)?;
+            Ok(String::from_str(alloc, if why.is_empty() { "ok" } else { why })?)
         }
     }
 }

@@ -76,7 +76,11 @@ fn said(rt: &HostRuntime, stage: &mut Stage, step: &Step) -> Result<String, Stop
         ">" | "words" | "set" | "input" | "repeat" | "fail" | "fuse" => given::give(stage, step),
         "empty" | "blob" | "drop" | "damage" | "crash" => image::change(stage, step),
         "run" => runs::run(rt, stage),
-        "each-call-fails" | "each-call-stops" | "stops-twice" | "marks-count" | "input-cut"
+        "each-call-fails"
+        | "each-call-stops"
+        | "stops-twice"
+        | "marks-count"
+        | "input-cut"
         | "streams" => runs::try_out(stage, step),
         "begun" | "cost" | "error" | "calls" | "faults" | "shows" | "changed" => {
             looking::look(stage, step)

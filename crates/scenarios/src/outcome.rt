@@ -6,7 +6,7 @@ use blob_device::{Device, MemSink, MemSource};
 use std::alloc::Global;
 
 /// How a run of the program ended, and what it wrote.
-#[derive(Debug, Drop)]
+#[derive(Drop)]
 pub struct Outcome {
     pub ended: Ended,
     pub written: String,
@@ -35,10 +35,13 @@ impl Outcome {
     }
 }
 
-/// How the input comes and the output goes.
-#[derive(Clone, Copy)]
-pub struct Streams {
-    /// How many bytes a source gives at a time, and a sink takes.
+/// What the program is called with, beside a device.
+#[derive(Drop)]
+pub struct Call<'a> {
+    pub words: &'a [String],
+    pub settings: &'a Settings,
+    pub input: &'a [u8],
+    /// How many bytes the source gives at a time, and the sink takes.
     pub piece: usize,
     /// Which read fails.
     pub failing_read: Option<u64>,
@@ -46,51 +49,22 @@ pub struct Streams {
     pub failing_write: Option<u64>,
 }
 
-/// Streams that pass all at once, and do not fail.
-pub const WHOLE: Streams = Streams {
-    piece: 1 << 20,
-    failing_read: None,
-    failing_write: None,
-};
-
-/// What the program is called with, beside a device.
-#[derive(Drop)]
-pub struct Call<'a> {
-    pub words: &'a [String],
-    pub settings: &'a Settings,
-    pub input: &'a [u8],
-}
-
-// The source of a run.
-fn source_of(alloc: Global, input: &[u8], streams: Streams) -> Result<MemSource, Stop> {
-    let mut source = MemSource::new(alloc, input, streams.piece.max(1))?;
-    if let Some(nth) = streams.failing_read {
-        source.fail_at(nth)?;
-    }
-    Ok(source)
-}
-
-// The sink of a run.
-fn sink_of(alloc: Global, streams: Streams) -> Result<MemSink, Stop> {
-    let mut sink = MemSink::new(alloc, streams.piece.max(1));
-    if let Some(nth) = streams.failing_write {
-        sink.fail_at(nth)?;
-    }
-    Ok(sink)
-}
+/// So many bytes at a time are as good as all at once.
+pub const WHOLE: usize = 1 << 20;
 
 /// Runs the program over a device.
-pub fn outcome_of<D: Device>(
-    alloc: Global,
-    call: &Call<'_>,
-    streams: Streams,
-    dev: &mut D,
-) -> Result<Outcome, Stop> {
+pub fn outcome_of<D: Device>(alloc: Global, call: &Call<'_>, dev: &mut D) -> Result<Outcome, Stop> {
     if !call.settings.is_valid() {
         return Err(Stop::Said("the settings are not valid"));
     }
-    let mut source = source_of(alloc, call.input, streams)?;
-    let mut sink = sink_of(alloc, streams)?;
+    let mut source = MemSource::new(alloc, call.input, call.piece.max(1))?;
+    if let Some(nth) = call.failing_read {
+        source.fail_at(nth)?;
+    }
+    let mut sink = MemSink::new(alloc, call.piece.max(1));
+    if let Some(nth) = call.failing_write {
+        sink.fail_at(nth)?;
+    }
     let ended = run_with(
         alloc,
         call.words,

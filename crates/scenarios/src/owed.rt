@@ -7,9 +7,9 @@ use std::alloc::Global;
 
 /// The puts that a section took, in order, and how many of them are synced.
 #[derive(Drop)]
-pub struct Section {
-    pub first: u64,
-    pub puts: Vec<String>,
+struct Section {
+    first: u64,
+    puts: Vec<String>,
     synced: usize,
 }
 
@@ -18,7 +18,7 @@ pub struct Section {
 pub struct Owed {
     alloc: Global,
     items: u64,
-    pub sections: Vec<Section>,
+    sections: Vec<Section>,
 }
 
 impl Owed {
@@ -70,44 +70,40 @@ impl Owed {
     // The archive was opened again over what was kept.
     fn reopen(&mut self, kept: &[Kept]) {
         for section in self.sections.iter_mut() {
-            section
-                .puts
-                .truncate(records_of(kept, section.first).len());
+            section.puts.truncate(records_of(kept, section.first).len());
         }
         self.settle();
     }
 
     /// Whether an image may keep this: of each section the first puts, with all that are synced, and nothing else.
     pub fn allows(&self, kept: &[Kept]) -> bool {
-        let of_owed = self
-            .sections
-            .iter()
-            .all(|section| section.allows(records_of(kept, section.first)));
-        of_owed && kept.iter().all(|one| one.records.is_empty() || self.has(one.section))
-    }
-
-    // Whether something was put in the section.
-    fn has(&self, first: u64) -> bool {
-        self.sections.iter().any(|section| section.first == first)
+        let mut left = 0_usize;
+        for one in kept {
+            left = left.saturating_add(one.records.len());
+        }
+        for section in self.sections.iter() {
+            let records = records_of(kept, section.first);
+            if records.len() < section.synced
+                || section.puts.get(..records.len()) != Some(records)
+            {
+                return false;
+            }
+            left = left.saturating_sub(records.len());
+        }
+        left == 0
     }
 }
 
 impl Section {
     // Takes a put of this index, unless it is taken.
     fn submit(&mut self, index: u64, record: String) -> Result<(), Stop> {
-        if self
-            .puts
-            .iter()
-            .all(|put| index_in(put.as_str()) != Some(index))
-        {
-            self.puts.push(record)?;
+        for put in self.puts.iter() {
+            if index_in(put.as_str()) == Some(index) {
+                return Ok(());
+            }
         }
+        self.puts.push(record)?;
         Ok(())
-    }
-
-    // Whether these are its first puts, with all that are synced.
-    fn allows(&self, records: &[String]) -> bool {
-        records.len() >= self.synced && self.puts.get(..records.len()) == Some(records)
     }
 }
 
@@ -115,6 +111,10 @@ impl Section {
 #[derive(Drop)]
 pub struct Course {
     openings: Vec<Vec<Kept>>,
+    /// All records that the first image keeps or the script puts.
+    pub records: Vec<String>,
+    /// The sections that the first image has, and those of the records.
+    pub sections: Vec<u64>,
 }
 
 /// The course of a trial. What an opening finds is what the plain program says is kept of the lines before it.
@@ -122,7 +122,10 @@ pub fn course_of(trial: &Trial<'_>) -> Result<Course, Stop> {
     let alloc = trial.alloc;
     let page_size = trial.settings.page_size;
     let mut openings = Vec::new(alloc);
-    openings.push(kept_in(alloc, page_size, trial.start)?)?;
+    let first = kept_in(alloc, page_size, trial.start)?;
+    let records = records_in(trial, &first)?;
+    let sections = sections_of(trial, &first, &records)?;
+    openings.push(first)?;
     let mut before = String::new(alloc);
     for line in trial.script.lines() {
         if line == "reopen" {
@@ -133,15 +136,50 @@ pub fn course_of(trial: &Trial<'_>) -> Result<Course, Stop> {
         before.push_str(line)?;
         before.push_str("\n")?;
     }
-    Ok(Course { openings })
+    Ok(Course {
+        openings,
+        records,
+        sections,
+    })
+}
+
+// All records that the first image keeps or the script puts.
+fn records_in(trial: &Trial<'_>, first: &[Kept]) -> Result<Vec<String>, Stop> {
+    let mut records = Vec::new(trial.alloc);
+    for one in first {
+        for record in one.records.iter() {
+            records.push(record.clone()?)?;
+        }
+    }
+    for line in trial.script.lines() {
+        let (word, record) = line.split_once(' ').unwrap_or((line, ""));
+        if word.starts_with("put") {
+            records.push(String::from_str(trial.alloc, record)?)?;
+        }
+    }
+    Ok(records)
+}
+
+// The sections that the first image has, and those of the records.
+fn sections_of(trial: &Trial<'_>, first: &[Kept], records: &[String]) -> Result<Vec<u64>, Stop> {
+    let mut sections = Vec::new(trial.alloc);
+    for one in first {
+        sections.push(one.section)?;
+    }
+    for record in records {
+        let section = trial.first_of(index_in(record.as_str()).unwrap_or(0));
+        if !sections.contains(&section) {
+            sections.push(section)?;
+        }
+    }
+    Ok(sections)
 }
 
 impl Course {
     /// What is owed of a run: the commands that were begun may be kept, and those that have replies are done.
     pub fn owed(&self, trial: &Trial<'_>, run: &Outcome) -> Result<Owed, Stop> {
-        let mut openings = self.openings.iter();
-        let first = openings.next().map_or([].as_slice(), |kept| kept.as_slice());
-        let mut owed = Owed::of_kept(trial.alloc, trial.items, first)?;
+        let mut openings = self.openings.as_slice();
+        let mut owed = Owed::of_kept(trial.alloc, trial.items, next_of(&mut openings))?;
         let begun = run.ended.marks.as_slice().len();
         let replied = replies_in(run);
         for (at, line) in trial.script.lines().take(begun).enumerate() {
@@ -155,7 +193,7 @@ impl Course {
             match word {
                 "putsync" | "putstart" | "sync" | "start" => owed.settle(),
                 "reopen" => {
-                    let kept = openings.next().map_or([].as_slice(), |kept| kept.as_slice());
+                    let kept = next_of(&mut openings);
                     if !owed.allows(kept) {
                         return Err(Stop::Said("what is kept before an opening is not owed"));
                     }
@@ -168,10 +206,24 @@ impl Course {
     }
 }
 
+// The first of these, which is taken from them.
+fn next_of<'a>(openings: &mut &'a [Vec<Kept>]) -> &'a [Kept] {
+    match openings.split_first() {
+        Some((first, others)) => {
+            *openings = others;
+            first.as_slice()
+        }
+        None => &[],
+    }
+}
+
 // How many replies a run gave.
 fn replies_in(run: &Outcome) -> usize {
-    run.written
-        .lines()
-        .filter(|line| !line.starts_with("error "))
-        .count()
+    let mut count = 0_usize;
+    for line in run.written.lines() {
+        if !line.starts_with("error ") {
+            count = count.saturating_add(1);
+        }
+    }
+    count
 }

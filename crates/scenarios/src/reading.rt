@@ -1,13 +1,12 @@
 // Texts that are no run: scripts that are read or refused, and settings.
 use crate::given::{append_text, number, set_number};
-use crate::outcome::{Call, Outcome, Streams, WHOLE, outcome_of};
+use crate::outcome::{Call, WHOLE, outcome_of};
+use crate::runs::append_line;
 use crate::stage::Stage;
 use crate::stop::{Stop, ok};
 use archive_service::{ScriptError, plain, read_script};
 use blob_device::Memory;
 use scenario_text::Step;
-use std::alloc::Global;
-use std::fmt::Write;
 
 /// Says what becomes of a text, or of a setting.
 pub fn read(stage: &Stage, step: &Step) -> Result<String, Stop> {
@@ -23,29 +22,26 @@ pub fn read(stage: &Stage, step: &Step) -> Result<String, Stop> {
 
 // What a run over an empty device answers to a script, a byte at a time and all at once.
 fn answered(stage: &Stage, text: &[u8]) -> Result<String, Stop> {
-    let narrow = Streams { piece: 1, ..WHOLE };
-    let one = answer(stage, text, narrow)?;
-    let all = answer(stage, text, WHOLE)?;
-    if !one.is_same(&all) {
-        return Err(Stop::Said("streams of a byte change the answer"));
-    }
-    let mut said = format!(in stage.alloc; "{}", all.ended.status)?;
-    let mut separator = ": ";
-    for line in all.written.lines() {
-        write!(said, "{separator}{line}")?;
-        separator = " / ";
-    }
-    Ok(said)
-}
-
-// A run over an empty device.
-fn answer(stage: &Stage, text: &[u8], streams: Streams) -> Result<Outcome, Stop> {
-    let call = Call {
+    let alloc = stage.alloc;
+    let mut call = Call {
         words: stage.words.as_slice(),
         settings: &stage.settings,
         input: text,
+        piece: 1,
+        failing_read: None,
+        failing_write: None,
     };
-    outcome_of(stage.alloc, &call, streams, &mut Memory::new(stage.alloc))
+    let one = outcome_of(alloc, &call, &mut Memory::new(alloc))?;
+    call.piece = WHOLE;
+    let all = outcome_of(alloc, &call, &mut Memory::new(alloc))?;
+    if !one.is_same(&all) {
+        return Err(Stop::Said("streams of a byte change the answer"));
+    }
+    let mut said = format!(in alloc; "{}", all.ended.status)?;
+    for (at, line) in all.written.lines().enumerate() {
+        append_line(&mut said, at, line)?;
+    }
+    Ok(said)
 }
 
 // How many commands a text is, which the plain program writes as that text; or its first bad line.

@@ -7,8 +7,7 @@ use crate::trial::Trial;
 use crate::{cuts, failing, stopping};
 use blob_device::{Device, FileDevice};
 use scenario_text::Step;
-use std::alloc::Global;
-use std::fmt::Write;
+use std::alloc::{AllocError, Global};
 
 /// Carries out the script over the device.
 pub fn run(rt: &HostRuntime, stage: &mut Stage) -> Result<String, Stop> {
@@ -17,13 +16,16 @@ pub fn run(rt: &HostRuntime, stage: &mut Stage) -> Result<String, Stop> {
         words: stage.words.as_slice(),
         settings: &stage.settings,
         input: stage.input.as_slice(),
+        piece: WHOLE,
+        failing_read: None,
+        failing_write: None,
     };
     stage.before = stage.dev.image(alloc)?;
     stage.last = match &stage.folder {
-        None => outcome_of(alloc, &call, WHOLE, &mut stage.dev)?,
+        None => outcome_of(alloc, &call, &mut stage.dev)?,
         Some(folder) => {
             let mut dev = FileDevice::new(rt, alloc, folder.as_str())?;
-            outcome_of(alloc, &call, WHOLE, &mut dev)?
+            outcome_of(alloc, &call, &mut dev)?
         }
     };
     stage.calls = stage.dev.calls();
@@ -31,6 +33,16 @@ pub fn run(rt: &HostRuntime, stage: &mut Stage) -> Result<String, Stop> {
     stage.input = Vec::new(alloc);
     stage.wanted = Vec::new(alloc);
     said
+}
+
+/// Appends a line that was written: behind a colon, or behind the lines before it.
+pub fn append_line(said: &mut String, at: usize, line: &str) -> Result<(), AllocError> {
+    if at == 0 {
+        said.push_str(": ")?;
+    } else {
+        said.push_str(" / ")?;
+    }
+    said.push_str(line)
 }
 
 /// What is said of a run whose lines must get these replies: the first other reply, or the status and what was written besides.
@@ -43,10 +55,8 @@ pub fn verdict(alloc: Global, outcome: &Outcome, wanted: &[String]) -> Result<St
         }
     }
     let mut said = format!(in alloc; "status {}", outcome.ended.status)?;
-    let mut separator = ": ";
-    for line in lines {
-        write!(said, "{separator}{line}")?;
-        separator = " / ";
+    for (at, line) in lines.enumerate() {
+        append_line(&mut said, at, line)?;
     }
     if said.as_str() == "status 0" {
         return ok(alloc);

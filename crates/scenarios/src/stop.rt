@@ -4,7 +4,7 @@ use blob_device::DevError;
 use std::alloc::{AllocError, AllocFailed, Global};
 
 /// Why a step cannot go on.
-#[derive(Debug, Drop)]
+#[derive(Drop)]
 pub enum Stop {
     /// There was no memory.
     Mem,

@@ -1,10 +1,9 @@
 // Runs that stop at each call of the device, and what crashes then leave.
-use crate::image::device;
 use crate::judge::wrong_with;
-use crate::owed::{Owed, course_of};
+use crate::owed::course_of;
 use crate::stop::{Stop, ok};
 use crate::trial::{MOST_CALLS, Trial};
-use blob_device::{CrashChoice, Image, Memory};
+use blob_device::{CrashChoice, Image};
 use scenario_text::CHOICES;
 
 /// All calls from each one on fail. Each crash then leaves what is owed.
@@ -44,6 +43,7 @@ fn stopped(
 ) -> Result<String, Stop> {
     let alloc = trial.alloc;
     let course = course_of(trial)?;
+    let mut latest = Vec::new(alloc);
     for nth in 0..MOST_CALLS {
         let mut dev = trial.device()?;
         dev.fuse_at(nth);
@@ -51,7 +51,7 @@ fn stopped(
         let owed = course.owed(trial, &run)?;
         for choice in choices {
             let image = dev.pick_crash(alloc, *choice)?;
-            let wrong = wrong_with(trial, &image, &mut device(alloc, &image)?, &owed)?;
+            let wrong = wrong_with(trial, &course, &mut latest, &image, &owed)?;
             if !wrong.is_empty() {
                 return Ok(format!(in alloc; "stopped at call {nth}, {choice:?}: {wrong}")?);
             }

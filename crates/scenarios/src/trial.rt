@@ -1,6 +1,6 @@
 // A script, and the image over which it is tried again and again.
 use crate::image::device;
-use crate::outcome::{Call, Outcome, Streams, WHOLE, outcome_of};
+use crate::outcome::{Call, Outcome, WHOLE, outcome_of};
 use crate::stage::Stage;
 use crate::stop::Stop;
 use archive_service::{Settings, index_of};
@@ -25,10 +25,17 @@ pub struct Trial<'a> {
     pub start: &'a Image,
 }
 
+/// How many indices a section has room for, by these words.
+pub fn items_of(words: &[String]) -> u64 {
+    match words.get(2) {
+        Some(word) => index_of(word.as_bytes()).unwrap_or(1),
+        None => 1,
+    }
+}
+
 impl<'a> Trial<'a> {
     /// A trial of the script that was gathered, over this image.
     pub fn new(stage: &'a Stage, start: &'a Image) -> Result<Trial<'a>, Stop> {
-        let items = stage.words.get(2).and_then(|word| index_of(word.as_bytes()));
         let Ok(script) = std::str::from_utf8(stage.input.as_slice()) else {
             return Err(Stop::Said("the script is no text"));
         };
@@ -36,7 +43,7 @@ impl<'a> Trial<'a> {
             alloc: stage.alloc,
             words: stage.words.as_slice(),
             settings: &stage.settings,
-            items: items.unwrap_or(1),
+            items: items_of(stage.words.as_slice()),
             script,
             wanted: stage.wanted.as_slice(),
             fuse: stage.fuse,
@@ -53,23 +60,25 @@ impl<'a> Trial<'a> {
         Ok(dev)
     }
 
-    /// Runs these lines over a device, between these streams.
-    pub fn run_between(
-        &self,
-        dev: &mut Memory,
-        input: &[u8],
-        streams: Streams,
-    ) -> Result<Outcome, Stop> {
-        let call = Call {
+    /// The section of an index, which is its first index.
+    pub fn first_of(&self, index: u64) -> u64 {
+        index.saturating_sub(index.checked_rem(self.items).unwrap_or(0))
+    }
+
+    /// A call with this script.
+    pub fn call<'b>(&'b self, script: &'b str) -> Call<'b> {
+        Call {
             words: self.words,
             settings: self.settings,
-            input,
-        };
-        outcome_of(self.alloc, &call, streams, dev)
+            input: script.as_bytes(),
+            piece: WHOLE,
+            failing_read: None,
+            failing_write: None,
+        }
     }
 
     /// Runs these lines over a device.
     pub fn run(&self, dev: &mut Memory, script: &str) -> Result<Outcome, Stop> {
-        self.run_between(dev, script.as_bytes(), WHOLE)
+        outcome_of(self.alloc, &self.call(script), dev)
     }
 }
