@@ -277,8 +277,13 @@ module _ {T : Type 0} {see : T → Buffer} {seal : List ℕ → ℕ} {u w : Buff
   cut_covered same = on_ok r (λ le. omega (arith, le, place.rest, ap (λ (x : Timeline). page_length seal u.page_size (disk x (key_of u)).content j) same, ap (page_length seal u.page_size (blob_of u a).content) place.page)) k.covered
 
   pub cut_covered_below : len / u.page_size < u.first → page_at u.page_size (len / u.page_size + 1) ≤ length (blob_of u a).content → OnOk r (len % u.page_size ≤ page_length seal u.page_size (blob_of u a).content (len / u.page_size))
-  cut_covered_below below stood = on_ok r (λ le. omega (arith, le, place.rest, ap (page_length seal u.page_size (blob_of u b).content) place.page,
-    front_covers seal u.page_size u.first (blob_of u a) (blob_of u b) (len / u.page_size) (front_now (page_at u.page_size u.first) (key_of u) a b s.front) below stood)) k.covered
+  cut_covered_below below stood = on_ok r (λ le. omega (
+    arith,
+    le,
+    place.rest,
+    ap (page_length seal u.page_size (blob_of u b).content) place.page,
+    front_covers seal u.page_size u.first (blob_of u a) (blob_of u b) (len / u.page_size) (front_now (page_at u.page_size u.first) (key_of u) a b s.front) below stood,
+  )) k.covered
 
   -- where no byte is cut that is not sealed, the page is covered
   pub safe_covered : IsSafeCut seal u len (blob_of u a) → page_length seal u.page_size (blob_of u b).content j < keep → ⊥

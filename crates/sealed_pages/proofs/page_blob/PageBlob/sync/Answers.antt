@@ -101,26 +101,26 @@ returns-in_err-sync g c =
     let unsettled : c.args.self.settled ≢ size_of (shown c.args.self) = needs c.args.self.settled (size_of (shown c.args.self)) c.needs_sync.result c.needs_sync.ensures c.if-not-needs_sync.false in
     record {
       crashes = λ t sealed.
-            let passes = settle_as c.sync.result _ _ _ _ (g.D.Device.time c.flush.new.dev) (g.D.Device.time c.sync.new.self) p n (c.sync.ensures.told t) in
-            let before = c.in_ok-this.ensures.told t (bytes_of u b0.content) sealed in
-            let now = c.in_ok-this.ensures.done t (bytes_of u b0.content) sealed in
-            let after = subst (λ (m : ℕ). Sealing g.S.Seal.seal_of c.args.self.page_size (bytes_of u b0.content) m key (g.D.Device.time c.flush.new.dev) (g.D.Device.time c.sync.new.self)) c.in_ok-this.ensures.settled
-            (subst (λ (m : ℕ). Sealing g.S.Seal.seal_of m (bytes_of u b0.content) c.in_ok-this.this.settled key (g.D.Device.time c.flush.new.dev) (g.D.Device.time c.sync.new.self)) c.in_ok-this.ensures.page_size
-            (holds_settle g.S.Seal.seal_of r (bytes_of u b0.content) key (g.D.Device.time c.flush.new.dev) (g.D.Device.time c.sync.new.self) c.sync.result c.in_ok-this.this.fit.begun now passes)) in
-            only_then (g.D.Device.time c.args.dev.now) (g.D.Device.time c.flush.new.dev) (g.D.Device.time c.sync.new.self) key (Leaves g.S.Seal.seal_of c.args.self.page_size (bytes_of u b0.content) c.args.self.settled) before after;
+          let passes = settle_as c.sync.result _ _ _ _ (g.D.Device.time c.flush.new.dev) (g.D.Device.time c.sync.new.self) p n (c.sync.ensures.told t) in
+          let before = c.in_ok-this.ensures.told t (bytes_of u b0.content) sealed in
+          let now = c.in_ok-this.ensures.done t (bytes_of u b0.content) sealed in
+          let after = subst (λ (m : ℕ). Sealing g.S.Seal.seal_of c.args.self.page_size (bytes_of u b0.content) m key (g.D.Device.time c.flush.new.dev) (g.D.Device.time c.sync.new.self)) c.in_ok-this.ensures.settled
+          (subst (λ (m : ℕ). Sealing g.S.Seal.seal_of m (bytes_of u b0.content) c.in_ok-this.this.settled key (g.D.Device.time c.flush.new.dev) (g.D.Device.time c.sync.new.self)) c.in_ok-this.ensures.page_size
+          (holds_settle g.S.Seal.seal_of r (bytes_of u b0.content) key (g.D.Device.time c.flush.new.dev) (g.D.Device.time c.sync.new.self) c.sync.result c.in_ok-this.this.fit.begun now passes)) in
+          only_then (g.D.Device.time c.args.dev.now) (g.D.Device.time c.flush.new.dev) (g.D.Device.time c.sync.new.self) key (Leaves g.S.Seal.seal_of c.args.self.page_size (bytes_of u b0.content) c.args.self.settled) before after;
       sealed = λ t sealed. no_value _ _ c.from_residual-in_err-sync.ensures.0;
       clears = λ t rest left. clears_settle g.S.Seal.seal_of c.args.self.page_size c.args.self.first c.args.self.from c.args.self.newest (key_of (shown c.args.self)) (g.D.Device.time c.args.dev.now) (g.D.Device.time c.flush.new.dev) (g.D.Device.time c.sync.new.self) c.sync.result (c.in_ok-this.ensures.clears t rest left) (settle_as c.sync.result _ _ _ _ (g.D.Device.time c.flush.new.dev) (g.D.Device.time c.sync.new.self) p n (c.sync.ensures.told t));
       steady = λ t un.
-            let passes = settle_as c.sync.result _ _ _ _ (g.D.Device.time c.flush.new.dev) (g.D.Device.time c.sync.new.self) p n (c.sync.ensures.told t) in
-            let now = c.in_ok-this.ensures.unrecovered t un in
-            let second = settled_keeps g.S.Seal.seal_of (shown c.in_ok-this.this) (key_of (shown c.args.self)) (g.D.Device.time c.flush.new.dev) (g.D.Device.time c.sync.new.self) c.sync.result now passes in
-            keeps_then g.S.Seal.seal_of c.args.self.page_size (sealed_prefix g.S.Seal.seal_of c.args.self.page_size (disk (g.D.Device.time c.args.dev.now) (key_of (shown c.args.self))).content) (key_of (shown c.args.self)) (g.D.Device.time c.args.dev.now) (g.D.Device.time c.flush.new.dev) (g.D.Device.time c.sync.new.self) (c.in_ok-this.ensures.steady t un)
-            (subst (λ (P : ℕ). KeepsPrefix g.S.Seal.seal_of P (sealed_prefix g.S.Seal.seal_of P (disk (g.D.Device.time c.flush.new.dev) (key_of (shown c.args.self))).content) (key_of (shown c.args.self)) (g.D.Device.time c.flush.new.dev) (g.D.Device.time c.sync.new.self)) c.in_ok-this.ensures.page_size second);
+          let passes = settle_as c.sync.result _ _ _ _ (g.D.Device.time c.flush.new.dev) (g.D.Device.time c.sync.new.self) p n (c.sync.ensures.told t) in
+          let now = c.in_ok-this.ensures.unrecovered t un in
+          let second = settled_keeps g.S.Seal.seal_of (shown c.in_ok-this.this) (key_of (shown c.args.self)) (g.D.Device.time c.flush.new.dev) (g.D.Device.time c.sync.new.self) c.sync.result now passes in
+          keeps_then g.S.Seal.seal_of c.args.self.page_size (sealed_prefix g.S.Seal.seal_of c.args.self.page_size (disk (g.D.Device.time c.args.dev.now) (key_of (shown c.args.self))).content) (key_of (shown c.args.self)) (g.D.Device.time c.args.dev.now) (g.D.Device.time c.flush.new.dev) (g.D.Device.time c.sync.new.self) (c.in_ok-this.ensures.steady t un)
+          (subst (λ (P : ℕ). KeepsPrefix g.S.Seal.seal_of P (sealed_prefix g.S.Seal.seal_of P (disk (g.D.Device.time c.flush.new.dev) (key_of (shown c.args.self))).content) (key_of (shown c.args.self)) (g.D.Device.time c.flush.new.dev) (g.D.Device.time c.sync.new.self)) c.in_ok-this.ensures.page_size second);
       unrecovered = λ t un. no_value _ _ c.from_residual-in_err-sync.ensures.0;
       front = λ t. front_settle (page_at c.args.self.page_size c.args.self.first) (key_of (shown c.args.self)) (g.D.Device.time c.args.dev.now) (g.D.Device.time c.flush.new.dev) (g.D.Device.time c.sync.new.self) c.sync.result (c.in_ok-this.ensures.front t) (settle_as c.sync.result _ _ _ _ (g.D.Device.time c.flush.new.dev) (g.D.Device.time c.sync.new.self) p n (c.sync.ensures.told t));
       alone = λ t backed.
-            let passes = settle_as c.sync.result _ _ _ _ (g.D.Device.time c.flush.new.dev) (g.D.Device.time c.sync.new.self) p n (c.sync.ensures.told t) in
-            alone_on (c.in_ok-this.ensures.wrote t (bytes_of u b0.content) backed (tip_stands u b0.content)).alone passes;
+          let passes = settle_as c.sync.result _ _ _ _ (g.D.Device.time c.flush.new.dev) (g.D.Device.time c.sync.new.self) p n (c.sync.ensures.told t) in
+          alone_on (c.in_ok-this.ensures.wrote t (bytes_of u b0.content) backed (tip_stands u b0.content)).alone passes;
       bytes = λ t backed. no_value _ _ c.from_residual-in_err-sync.ensures.0;
       backed = λ t backed. no_value _ _ c.from_residual-in_err-sync.ensures.0;
       held = λ t was. no_value _ _ c.from_residual-in_err-sync.ensures.0;
@@ -138,7 +138,7 @@ returns-in_err-sync g c =
       entries = subst (NoReads (key_of (shown c.args.self)) (g.D.Device.opened c.args.dev.now)) (sym c.sync.ensures.opened) c.in_ok-this.ensures.entries;
       faults = omega (arith, c.in_ok-this.ensures.faults, c.sync.ensures.counts.later);
       cause = raised_cause c.from_residual-in_err-sync.result c.in_err-sync.field-0.0 (g.D.Device.faults c.args.dev.now) (g.D.Device.faults c.sync.new.self) c.from_residual-in_err-sync.ensures.1
-            (λ is. rose_since (g.D.Device.faults c.args.dev.now) (g.D.Device.faults c.flush.new.dev) (g.D.Device.faults c.sync.new.self) c.in_ok-this.ensures.faults (c.in_err-sync.ensures.counts.cause (ap Err is)));
+          (λ is. rose_since (g.D.Device.faults c.args.dev.now) (g.D.Device.faults c.flush.new.dev) (g.D.Device.faults c.sync.new.self) c.in_ok-this.ensures.faults (c.in_err-sync.ensures.counts.cause (ap Err is)));
     }
 
 pub returns : goal.returns
@@ -158,73 +158,73 @@ returns g c =
     let unsettled : c.args.self.settled ≢ size_of (shown c.args.self) = needs c.args.self.settled (size_of (shown c.args.self)) c.needs_sync.result c.needs_sync.ensures c.if-not-needs_sync.false in
     record {
       crashes = λ t sealed.
-            let passes = settle_as c.sync.result _ _ _ _ (g.D.Device.time c.flush.new.dev) (g.D.Device.time c.sync.new.self) p n (c.sync.ensures.told t) in
-            let before = c.in_ok-this.ensures.told t (bytes_of u b0.content) sealed in
-            let now = c.in_ok-this.ensures.done t (bytes_of u b0.content) sealed in
-            let after = subst (λ (m : ℕ). Sealing g.S.Seal.seal_of c.args.self.page_size (bytes_of u b0.content) m key (g.D.Device.time c.flush.new.dev) (g.D.Device.time c.sync.new.self)) c.in_ok-this.ensures.settled
-            (subst (λ (m : ℕ). Sealing g.S.Seal.seal_of m (bytes_of u b0.content) c.in_ok-this.this.settled key (g.D.Device.time c.flush.new.dev) (g.D.Device.time c.sync.new.self)) c.in_ok-this.ensures.page_size
-            (holds_settle g.S.Seal.seal_of r (bytes_of u b0.content) key (g.D.Device.time c.flush.new.dev) (g.D.Device.time c.sync.new.self) c.sync.result c.in_ok-this.this.fit.begun now passes)) in
-            only_then (g.D.Device.time c.args.dev.now) (g.D.Device.time c.flush.new.dev) (g.D.Device.time c.sync.new.self) key (Leaves g.S.Seal.seal_of c.args.self.page_size (bytes_of u b0.content) c.args.self.settled) before after;
+          let passes = settle_as c.sync.result _ _ _ _ (g.D.Device.time c.flush.new.dev) (g.D.Device.time c.sync.new.self) p n (c.sync.ensures.told t) in
+          let before = c.in_ok-this.ensures.told t (bytes_of u b0.content) sealed in
+          let now = c.in_ok-this.ensures.done t (bytes_of u b0.content) sealed in
+          let after = subst (λ (m : ℕ). Sealing g.S.Seal.seal_of c.args.self.page_size (bytes_of u b0.content) m key (g.D.Device.time c.flush.new.dev) (g.D.Device.time c.sync.new.self)) c.in_ok-this.ensures.settled
+          (subst (λ (m : ℕ). Sealing g.S.Seal.seal_of m (bytes_of u b0.content) c.in_ok-this.this.settled key (g.D.Device.time c.flush.new.dev) (g.D.Device.time c.sync.new.self)) c.in_ok-this.ensures.page_size
+          (holds_settle g.S.Seal.seal_of r (bytes_of u b0.content) key (g.D.Device.time c.flush.new.dev) (g.D.Device.time c.sync.new.self) c.sync.result c.in_ok-this.this.fit.begun now passes)) in
+          only_then (g.D.Device.time c.args.dev.now) (g.D.Device.time c.flush.new.dev) (g.D.Device.time c.sync.new.self) key (Leaves g.S.Seal.seal_of c.args.self.page_size (bytes_of u b0.content) c.args.self.settled) before after;
       sealed = λ t sealed.
-            let passes = settle_as c.sync.result _ _ _ _ (g.D.Device.time c.flush.new.dev) (g.D.Device.time c.sync.new.self) p n (c.sync.ensures.told t) in
-            let passes-ok = settle_as (Ok tt) _ _ _ _ (g.D.Device.time c.flush.new.dev) (g.D.Device.time c.sync.new.self) p n (c.in_ok-sync.ensures.told t) in
-            holds_sealed g.S.Seal.seal_of after (bytes_of u b0.content) _ (omega (arith, c.in_ok-this.this.fit.begun))
-            (holds_synced g.S.Seal.seal_of r (bytes_of u b0.content) key (g.D.Device.time c.flush.new.dev) (g.D.Device.time c.sync.new.self) tt c.flushed-end.result c.last_slot_of-slot.result c.in_ok-this.this.fit.begun open_ c.flushed-end.ensures c.last_slot_of-slot.ensures
-            (c.in_ok-this.ensures.done t (bytes_of u b0.content) sealed) passes-ok);
+          let passes = settle_as c.sync.result _ _ _ _ (g.D.Device.time c.flush.new.dev) (g.D.Device.time c.sync.new.self) p n (c.sync.ensures.told t) in
+          let passes-ok = settle_as (Ok tt) _ _ _ _ (g.D.Device.time c.flush.new.dev) (g.D.Device.time c.sync.new.self) p n (c.in_ok-sync.ensures.told t) in
+          holds_sealed g.S.Seal.seal_of after (bytes_of u b0.content) _ (omega (arith, c.in_ok-this.this.fit.begun))
+          (holds_synced g.S.Seal.seal_of r (bytes_of u b0.content) key (g.D.Device.time c.flush.new.dev) (g.D.Device.time c.sync.new.self) tt c.flushed-end.result c.last_slot_of-slot.result c.in_ok-this.this.fit.begun open_ c.flushed-end.ensures c.last_slot_of-slot.ensures
+          (c.in_ok-this.ensures.done t (bytes_of u b0.content) sealed) passes-ok);
       clears = λ t rest left. clears_settle g.S.Seal.seal_of c.args.self.page_size c.args.self.first c.args.self.from c.args.self.newest (key_of (shown c.args.self)) (g.D.Device.time c.args.dev.now) (g.D.Device.time c.flush.new.dev) (g.D.Device.time c.sync.new.self) (Ok tt) (c.in_ok-this.ensures.clears t rest left) (settle_as (Ok tt) _ _ _ _ (g.D.Device.time c.flush.new.dev) (g.D.Device.time c.sync.new.self) p n (c.in_ok-sync.ensures.told t));
       steady = λ t un.
-            let passes = settle_as (Ok tt) _ _ _ _ (g.D.Device.time c.flush.new.dev) (g.D.Device.time c.sync.new.self) p n (c.in_ok-sync.ensures.told t) in
-            let now = c.in_ok-this.ensures.unrecovered t un in
-            let second = settled_keeps g.S.Seal.seal_of (shown c.in_ok-this.this) (key_of (shown c.args.self)) (g.D.Device.time c.flush.new.dev) (g.D.Device.time c.sync.new.self) (Ok tt) now passes in
-            keeps_then g.S.Seal.seal_of c.args.self.page_size (sealed_prefix g.S.Seal.seal_of c.args.self.page_size (disk (g.D.Device.time c.args.dev.now) (key_of (shown c.args.self))).content) (key_of (shown c.args.self)) (g.D.Device.time c.args.dev.now) (g.D.Device.time c.flush.new.dev) (g.D.Device.time c.sync.new.self) (c.in_ok-this.ensures.steady t un)
-            (subst (λ (P : ℕ). KeepsPrefix g.S.Seal.seal_of P (sealed_prefix g.S.Seal.seal_of P (disk (g.D.Device.time c.flush.new.dev) (key_of (shown c.args.self))).content) (key_of (shown c.args.self)) (g.D.Device.time c.flush.new.dev) (g.D.Device.time c.sync.new.self)) c.in_ok-this.ensures.page_size second);
+          let passes = settle_as (Ok tt) _ _ _ _ (g.D.Device.time c.flush.new.dev) (g.D.Device.time c.sync.new.self) p n (c.in_ok-sync.ensures.told t) in
+          let now = c.in_ok-this.ensures.unrecovered t un in
+          let second = settled_keeps g.S.Seal.seal_of (shown c.in_ok-this.this) (key_of (shown c.args.self)) (g.D.Device.time c.flush.new.dev) (g.D.Device.time c.sync.new.self) (Ok tt) now passes in
+          keeps_then g.S.Seal.seal_of c.args.self.page_size (sealed_prefix g.S.Seal.seal_of c.args.self.page_size (disk (g.D.Device.time c.args.dev.now) (key_of (shown c.args.self))).content) (key_of (shown c.args.self)) (g.D.Device.time c.args.dev.now) (g.D.Device.time c.flush.new.dev) (g.D.Device.time c.sync.new.self) (c.in_ok-this.ensures.steady t un)
+          (subst (λ (P : ℕ). KeepsPrefix g.S.Seal.seal_of P (sealed_prefix g.S.Seal.seal_of P (disk (g.D.Device.time c.flush.new.dev) (key_of (shown c.args.self))).content) (key_of (shown c.args.self)) (g.D.Device.time c.flush.new.dev) (g.D.Device.time c.sync.new.self)) c.in_ok-this.ensures.page_size second);
       unrecovered = λ t un.
-            let passes = settle_as (Ok tt) _ _ _ _ (g.D.Device.time c.flush.new.dev) (g.D.Device.time c.sync.new.self) p n (c.in_ok-sync.ensures.told t) in
-            settled_stays g.S.Seal.seal_of (shown c.in_ok-this.this) (key_of (shown c.args.self)) (g.D.Device.time c.flush.new.dev) (g.D.Device.time c.sync.new.self) tt (record (shown c.in_ok-this.this) { settled = c.flushed-end.result; newest = c.last_slot_of-slot.result }) (c.in_ok-this.ensures.unrecovered t un) passes refl refl (subst (λ (b : Blob). IsBacked (shown c.in_ok-this.this) b.content) (sym (ok_blob (key_of (shown c.args.self)) Settle tt (g.D.Device.time c.flush.new.dev) (g.D.Device.time c.sync.new.self) passes)) (c.in_ok-this.ensures.backed t un.backed));
+          let passes = settle_as (Ok tt) _ _ _ _ (g.D.Device.time c.flush.new.dev) (g.D.Device.time c.sync.new.self) p n (c.in_ok-sync.ensures.told t) in
+          settled_stays g.S.Seal.seal_of (shown c.in_ok-this.this) (key_of (shown c.args.self)) (g.D.Device.time c.flush.new.dev) (g.D.Device.time c.sync.new.self) tt (record (shown c.in_ok-this.this) { settled = c.flushed-end.result; newest = c.last_slot_of-slot.result }) (c.in_ok-this.ensures.unrecovered t un) passes refl refl (subst (λ (b : Blob). IsBacked (shown c.in_ok-this.this) b.content) (sym (ok_blob (key_of (shown c.args.self)) Settle tt (g.D.Device.time c.flush.new.dev) (g.D.Device.time c.sync.new.self) passes)) (c.in_ok-this.ensures.backed t un.backed));
       front = λ t. front_settle (page_at c.args.self.page_size c.args.self.first) (key_of (shown c.args.self)) (g.D.Device.time c.args.dev.now) (g.D.Device.time c.flush.new.dev) (g.D.Device.time c.sync.new.self) (Ok tt) (c.in_ok-this.ensures.front t) (settle_as (Ok tt) _ _ _ _ (g.D.Device.time c.flush.new.dev) (g.D.Device.time c.sync.new.self) p n (c.in_ok-sync.ensures.told t));
       alone = λ t backed.
-            let passes = settle_as c.sync.result _ _ _ _ (g.D.Device.time c.flush.new.dev) (g.D.Device.time c.sync.new.self) p n (c.sync.ensures.told t) in
-            alone_on (c.in_ok-this.ensures.wrote t (bytes_of u b0.content) backed (tip_stands u b0.content)).alone passes;
+          let passes = settle_as c.sync.result _ _ _ _ (g.D.Device.time c.flush.new.dev) (g.D.Device.time c.sync.new.self) p n (c.sync.ensures.told t) in
+          alone_on (c.in_ok-this.ensures.wrote t (bytes_of u b0.content) backed (tip_stands u b0.content)).alone passes;
       bytes = λ t backed.
-            let passes = settle_as c.sync.result _ _ _ _ (g.D.Device.time c.flush.new.dev) (g.D.Device.time c.sync.new.self) p n (c.sync.ensures.told t) in
-            let passes-ok = settle_as (Ok tt) _ _ _ _ (g.D.Device.time c.flush.new.dev) (g.D.Device.time c.sync.new.self) p n (c.in_ok-sync.ensures.told t) in
-            let wrote = c.in_ok-this.ensures.wrote t (bytes_of u b0.content) backed (tip_stands u b0.content) in
-            let same = settle_data c.args.self.page_size (bytes_of u b0.content) (size_of u) key (g.D.Device.time c.flush.new.dev) (g.D.Device.time c.sync.new.self) tt passes-ok wrote.done in
-            flushed_bytes after c.args.self.page_size (size_of u) (bytes_of u b0.content) _ (omega (arith, c.in_ok-this.this.fit.begun)) c.in_ok-this.ensures.page_size size same (c.in_ok-this.ensures.tip (bytes_of u b0.content) (tip_stands u b0.content)) (bytes_length u b0.content);
+          let passes = settle_as c.sync.result _ _ _ _ (g.D.Device.time c.flush.new.dev) (g.D.Device.time c.sync.new.self) p n (c.sync.ensures.told t) in
+          let passes-ok = settle_as (Ok tt) _ _ _ _ (g.D.Device.time c.flush.new.dev) (g.D.Device.time c.sync.new.self) p n (c.in_ok-sync.ensures.told t) in
+          let wrote = c.in_ok-this.ensures.wrote t (bytes_of u b0.content) backed (tip_stands u b0.content) in
+          let same = settle_data c.args.self.page_size (bytes_of u b0.content) (size_of u) key (g.D.Device.time c.flush.new.dev) (g.D.Device.time c.sync.new.self) tt passes-ok wrote.done in
+          flushed_bytes after c.args.self.page_size (size_of u) (bytes_of u b0.content) _ (omega (arith, c.in_ok-this.this.fit.begun)) c.in_ok-this.ensures.page_size size same (c.in_ok-this.ensures.tip (bytes_of u b0.content) (tip_stands u b0.content)) (bytes_length u b0.content);
       backed = λ t backed.
-            let passes = settle_as c.sync.result _ _ _ _ (g.D.Device.time c.flush.new.dev) (g.D.Device.time c.sync.new.self) p n (c.sync.ensures.told t) in
-            let passes-ok = settle_as (Ok tt) _ _ _ _ (g.D.Device.time c.flush.new.dev) (g.D.Device.time c.sync.new.self) p n (c.in_ok-sync.ensures.told t) in
-            let wrote = c.in_ok-this.ensures.wrote t (bytes_of u b0.content) backed (tip_stands u b0.content) in
-            let same = settle_data c.args.self.page_size (bytes_of u b0.content) (size_of u) key (g.D.Device.time c.flush.new.dev) (g.D.Device.time c.sync.new.self) tt passes-ok wrote.done in
-            flushed_backed after c.args.self.page_size (size_of u) (bytes_of u b0.content) _ (omega (arith, c.in_ok-this.this.fit.begun)) c.in_ok-this.ensures.page_size size same (c.in_ok-this.ensures.tip (bytes_of u b0.content) (tip_stands u b0.content)) (bytes_length u b0.content) (omega (arith, c.in_ok-this.ensures.flushed));
+          let passes = settle_as c.sync.result _ _ _ _ (g.D.Device.time c.flush.new.dev) (g.D.Device.time c.sync.new.self) p n (c.sync.ensures.told t) in
+          let passes-ok = settle_as (Ok tt) _ _ _ _ (g.D.Device.time c.flush.new.dev) (g.D.Device.time c.sync.new.self) p n (c.in_ok-sync.ensures.told t) in
+          let wrote = c.in_ok-this.ensures.wrote t (bytes_of u b0.content) backed (tip_stands u b0.content) in
+          let same = settle_data c.args.self.page_size (bytes_of u b0.content) (size_of u) key (g.D.Device.time c.flush.new.dev) (g.D.Device.time c.sync.new.self) tt passes-ok wrote.done in
+          flushed_backed after c.args.self.page_size (size_of u) (bytes_of u b0.content) _ (omega (arith, c.in_ok-this.this.fit.begun)) c.in_ok-this.ensures.page_size size same (c.in_ok-this.ensures.tip (bytes_of u b0.content) (tip_stands u b0.content)) (bytes_length u b0.content) (omega (arith, c.in_ok-this.ensures.flushed));
       held = λ t was.
-            let passes-ok = settle_as (Ok tt) _ _ _ _ (g.D.Device.time c.flush.new.dev) (g.D.Device.time c.sync.new.self) p n (c.in_ok-sync.ensures.told t) in
-            let same = ok_blob (key_of (shown c.args.self)) Settle tt (g.D.Device.time c.flush.new.dev) (g.D.Device.time c.sync.new.self) passes-ok in
-            subst (λ (b : Blob). AreHeldOf b.content c.in_ok-this.this.held) (sym same) (c.in_ok-this.ensures.held t was);
+          let passes-ok = settle_as (Ok tt) _ _ _ _ (g.D.Device.time c.flush.new.dev) (g.D.Device.time c.sync.new.self) p n (c.in_ok-sync.ensures.told t) in
+          let same = ok_blob (key_of (shown c.args.self)) Settle tt (g.D.Device.time c.flush.new.dev) (g.D.Device.time c.sync.new.self) passes-ok in
+          subst (λ (b : Blob). AreHeldOf b.content c.in_ok-this.this.held) (sym same) (c.in_ok-this.ensures.held t was);
       idle = λ e. absurd (unsettled e);
       same = λ e. absurd (unsettled e);
       leaves = λ t sealed.
-            let passes = settle_as c.sync.result _ _ _ _ (g.D.Device.time c.flush.new.dev) (g.D.Device.time c.sync.new.self) p n (c.sync.ensures.told t) in
-            let passes-ok = settle_as (Ok tt) _ _ _ _ (g.D.Device.time c.flush.new.dev) (g.D.Device.time c.sync.new.self) p n (c.in_ok-sync.ensures.told t) in
-            let holds = (holds_synced g.S.Seal.seal_of r (bytes_of u b0.content) key (g.D.Device.time c.flush.new.dev) (g.D.Device.time c.sync.new.self) tt c.flushed-end.result c.last_slot_of-slot.result c.in_ok-this.this.fit.begun open_ c.flushed-end.ensures c.last_slot_of-slot.ensures
-            (c.in_ok-this.ensures.done t (bytes_of u b0.content) sealed) passes-ok) in
-            leaves_of g.S.Seal.seal_of after c.args.self.page_size (size_of u) (bytes_of u b0.content) (disk (g.D.Device.time c.sync.new.self) (key_of (shown c.args.self))) c.in_ok-this.ensures.page_size c.in_ok-this.this.fit.begun end holds;
+          let passes = settle_as c.sync.result _ _ _ _ (g.D.Device.time c.flush.new.dev) (g.D.Device.time c.sync.new.self) p n (c.sync.ensures.told t) in
+          let passes-ok = settle_as (Ok tt) _ _ _ _ (g.D.Device.time c.flush.new.dev) (g.D.Device.time c.sync.new.self) p n (c.in_ok-sync.ensures.told t) in
+          let holds = (holds_synced g.S.Seal.seal_of r (bytes_of u b0.content) key (g.D.Device.time c.flush.new.dev) (g.D.Device.time c.sync.new.self) tt c.flushed-end.result c.last_slot_of-slot.result c.in_ok-this.this.fit.begun open_ c.flushed-end.ensures c.last_slot_of-slot.ensures
+          (c.in_ok-this.ensures.done t (bytes_of u b0.content) sealed) passes-ok) in
+          leaves_of g.S.Seal.seal_of after c.args.self.page_size (size_of u) (bytes_of u b0.content) (disk (g.D.Device.time c.sync.new.self) (key_of (shown c.args.self))) c.in_ok-this.ensures.page_size c.in_ok-this.this.fit.begun end holds;
       rests = λ t before.
-            let passes-ok = settle_as (Ok tt) _ _ _ _ (g.D.Device.time c.flush.new.dev) (g.D.Device.time c.sync.new.self) p n (c.in_ok-sync.ensures.told t) in
-            settled_rest (disk (g.D.Device.time c.sync.new.self) (key_of (shown c.args.self))) _ (ok_blob (key_of (shown c.args.self)) Settle tt (g.D.Device.time c.flush.new.dev) (g.D.Device.time c.sync.new.self) passes-ok);
+          let passes-ok = settle_as (Ok tt) _ _ _ _ (g.D.Device.time c.flush.new.dev) (g.D.Device.time c.sync.new.self) p n (c.in_ok-sync.ensures.told t) in
+          settled_rest (disk (g.D.Device.time c.sync.new.self) (key_of (shown c.args.self))) _ (ok_blob (key_of (shown c.args.self)) Settle tt (g.D.Device.time c.flush.new.dev) (g.D.Device.time c.sync.new.self) passes-ok);
       again = λ t sealed.
-            let passes = settle_as c.sync.result _ _ _ _ (g.D.Device.time c.flush.new.dev) (g.D.Device.time c.sync.new.self) p n (c.sync.ensures.told t) in
-            let passes-ok = settle_as (Ok tt) _ _ _ _ (g.D.Device.time c.flush.new.dev) (g.D.Device.time c.sync.new.self) p n (c.in_ok-sync.ensures.told t) in
-            let holds = (holds_synced g.S.Seal.seal_of r (bytes_of u b0.content) key (g.D.Device.time c.flush.new.dev) (g.D.Device.time c.sync.new.self) tt c.flushed-end.result c.last_slot_of-slot.result c.in_ok-this.this.fit.begun open_ c.flushed-end.ensures c.last_slot_of-slot.ensures
-            (c.in_ok-this.ensures.done t (bytes_of u b0.content) sealed) passes-ok) in
-            settles_of g.S.Seal.seal_of after c.args.self.page_size (bytes_of u b0.content) (disk (g.D.Device.time c.sync.new.self) (key_of (shown c.args.self))) c.in_ok-this.ensures.page_size c.in_ok-this.this.fit.begun flushed (end ∙ sym size) holds;
+          let passes = settle_as c.sync.result _ _ _ _ (g.D.Device.time c.flush.new.dev) (g.D.Device.time c.sync.new.self) p n (c.sync.ensures.told t) in
+          let passes-ok = settle_as (Ok tt) _ _ _ _ (g.D.Device.time c.flush.new.dev) (g.D.Device.time c.sync.new.self) p n (c.in_ok-sync.ensures.told t) in
+          let holds = (holds_synced g.S.Seal.seal_of r (bytes_of u b0.content) key (g.D.Device.time c.flush.new.dev) (g.D.Device.time c.sync.new.self) tt c.flushed-end.result c.last_slot_of-slot.result c.in_ok-this.this.fit.begun open_ c.flushed-end.ensures c.last_slot_of-slot.ensures
+          (c.in_ok-this.ensures.done t (bytes_of u b0.content) sealed) passes-ok) in
+          settles_of g.S.Seal.seal_of after c.args.self.page_size (bytes_of u b0.content) (disk (g.D.Device.time c.sync.new.self) (key_of (shown c.args.self))) c.in_ok-this.ensures.page_size c.in_ok-this.this.fit.begun flushed (end ∙ sym size) holds;
       settled = c.flushed-end.ensures ∙ ap (λ (m : ℕ). c.in_ok-this.this.first * c.in_ok-this.this.page_size + m) c.in_ok-this.ensures.flushed;
       size = c.in_ok-this.ensures.size;
       key = c.in_ok-this.ensures.key;
       page_size = c.in_ok-this.ensures.page_size;
       capacity = c.in_ok-this.ensures.capacity;
       «open» = subst (λ (k : Key). IsOpenAt (g.D.Device.opened c.sync.new.self) k c.in_ok-this.this.end) (sym c.in_ok-this.ensures.key)
-            (open_same (key_of (shown c.args.self)) (g.D.Device.opened c.flush.new.dev) _ c.in_ok-this.this.end c.in_ok-sync.ensures.opened c.in_ok-this.ensures.length);
+          (open_same (key_of (shown c.args.self)) (g.D.Device.opened c.flush.new.dev) _ c.in_ok-this.this.end c.in_ok-sync.ensures.opened c.in_ok-this.ensures.length);
       entries = subst (NoReads (key_of (shown c.args.self)) (g.D.Device.opened c.args.dev.now)) (sym c.sync.ensures.opened) c.in_ok-this.ensures.entries;
       faults = omega (arith, c.in_ok-this.ensures.faults, c.sync.ensures.counts.later);
       cause = tt;

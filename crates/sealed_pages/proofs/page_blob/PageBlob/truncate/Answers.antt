@@ -31,47 +31,47 @@ cut_within-requires-clause-below g c =
 -- nothing is to be cut
 pub returns-then-len-size : goal.returns-then-len-size
 returns-then-len-size g c =
-  let past : size_of (shown c.args.self) ≤ c.args.len = omega (arith, c.size.ensures, c.if-len-size.true) in
-  record {
-    crashes = λ t sealed. sealing_less g.S.Seal.seal_of _ _ c.args.self.settled _ _ _ _ (omega arith)
-        (holds_start g.S.Seal.seal_of (shown c.args.self) _ _ _ c.args.self.fit.begun sealed);
-    sealed = λ t sealed. sealed;
-    recovering = λ t recovery. absurd (no_recovery g.S.Seal.seal_of (shown c.args.self) c.args.len (disk (g.D.Device.time c.args.dev.now) (key_of (shown c.args.self))) c.args.self.fit.begun past recovery);
-    recovered = λ t recovery. absurd (no_recovery g.S.Seal.seal_of (shown c.args.self) c.args.len (disk (g.D.Device.time c.args.dev.now) (key_of (shown c.args.self))) c.args.self.fit.begun past recovery);
-    prefix = λ t recovery. absurd (no_recovery g.S.Seal.seal_of (shown c.args.self) c.args.len (disk (g.D.Device.time c.args.dev.now) (key_of (shown c.args.self))) c.args.self.fit.begun past recovery);
-    prefix_again = λ t recovery. absurd (no_recovery g.S.Seal.seal_of (shown c.args.self) c.args.len (disk (g.D.Device.time c.args.dev.now) (key_of (shown c.args.self))) c.args.self.fit.begun past recovery);
-    prefix_leaves = λ t recovery. absurd (no_recovery g.S.Seal.seal_of (shown c.args.self) c.args.len (disk (g.D.Device.time c.args.dev.now) (key_of (shown c.args.self))) c.args.self.fit.begun past recovery);
-    steady = λ t un past. stood_keeps g.S.Seal.seal_of (shown c.args.self) (key_of (shown c.args.self)) (g.D.Device.time c.args.dev.now) un;
-    unrecovered = λ t un past. un;
-    bytes = λ t backed. sym (take_all c.args.len (bytes_of (shown c.args.self) (disk (g.D.Device.time c.args.dev.now) (key_of (shown c.args.self))).content) (omega (arith, bytes_length (shown c.args.self) (disk (g.D.Device.time c.args.dev.now) (key_of (shown c.args.self))).content, past)));
-    backed = λ t backed. backed;
-    alone = λ t backed. alone_start (g.D.Device.time c.args.dev.now) (key_of (shown c.args.self));
-    held = λ t was. was;
-    unchanged = λ le. refl;
-    same = λ le. refl;
-    settled = λ lt. absurd (omega (arith, lt, past));
-    rests = λ t lt. absurd (omega (arith, lt, past));
-    shorter = λ t lt. absurd (omega (arith, lt, past));
-    again = λ t lt sealed. absurd (omega (arith, lt, past));
-    leaves = λ t lt sealed. absurd (omega (arith, lt, past));
-    size = omega (arith, past);
-    key = refl;
-    page_size = refl;
-    capacity = refl;
-    «open» = c.requires.open;
-    entries = few_start 1 c.args.self.end (key_of (shown c.args.self)) (g.D.Device.opened c.args.dev.now) c.requires.open;
-    faults = omega arith;
-    checksum = λ t p is. absurd (cc is);
-    uncut_pages = λ t p is. absurd (cc is);
-    uncut = λ t backed p is. absurd (cc is);
-    uncut_rests = λ t rests p is. absurd (cc is);
-    untouched = λ t settled p is. absurd (cc is);
-    covered = λ t settled lt. absurd (omega (arith, lt, past));
-    covered_below = λ t lt below whole. absurd (omega (arith, lt, past));
-    whole = λ t safe. tt;
-    page = λ p is. absurd (cc is);
-    cause = tt;
-  }
+    let past : size_of (shown c.args.self) ≤ c.args.len = omega (arith, c.size.ensures, c.if-len-size.true) in
+    record {
+      crashes = λ t sealed. sealing_less g.S.Seal.seal_of _ _ c.args.self.settled _ _ _ _ (omega arith)
+          (holds_start g.S.Seal.seal_of (shown c.args.self) _ _ _ c.args.self.fit.begun sealed);
+      sealed = λ t sealed. sealed;
+      recovering = λ t recovery. absurd (no_recovery g.S.Seal.seal_of (shown c.args.self) c.args.len (disk (g.D.Device.time c.args.dev.now) (key_of (shown c.args.self))) c.args.self.fit.begun past recovery);
+      recovered = λ t recovery. absurd (no_recovery g.S.Seal.seal_of (shown c.args.self) c.args.len (disk (g.D.Device.time c.args.dev.now) (key_of (shown c.args.self))) c.args.self.fit.begun past recovery);
+      prefix = λ t recovery. absurd (no_recovery g.S.Seal.seal_of (shown c.args.self) c.args.len (disk (g.D.Device.time c.args.dev.now) (key_of (shown c.args.self))) c.args.self.fit.begun past recovery);
+      prefix_again = λ t recovery. absurd (no_recovery g.S.Seal.seal_of (shown c.args.self) c.args.len (disk (g.D.Device.time c.args.dev.now) (key_of (shown c.args.self))) c.args.self.fit.begun past recovery);
+      prefix_leaves = λ t recovery. absurd (no_recovery g.S.Seal.seal_of (shown c.args.self) c.args.len (disk (g.D.Device.time c.args.dev.now) (key_of (shown c.args.self))) c.args.self.fit.begun past recovery);
+      steady = λ t un past. stood_keeps g.S.Seal.seal_of (shown c.args.self) (key_of (shown c.args.self)) (g.D.Device.time c.args.dev.now) un;
+      unrecovered = λ t un past. un;
+      bytes = λ t backed. sym (take_all c.args.len (bytes_of (shown c.args.self) (disk (g.D.Device.time c.args.dev.now) (key_of (shown c.args.self))).content) (omega (arith, bytes_length (shown c.args.self) (disk (g.D.Device.time c.args.dev.now) (key_of (shown c.args.self))).content, past)));
+      backed = λ t backed. backed;
+      alone = λ t backed. alone_start (g.D.Device.time c.args.dev.now) (key_of (shown c.args.self));
+      held = λ t was. was;
+      unchanged = λ le. refl;
+      same = λ le. refl;
+      settled = λ lt. absurd (omega (arith, lt, past));
+      rests = λ t lt. absurd (omega (arith, lt, past));
+      shorter = λ t lt. absurd (omega (arith, lt, past));
+      again = λ t lt sealed. absurd (omega (arith, lt, past));
+      leaves = λ t lt sealed. absurd (omega (arith, lt, past));
+      size = omega (arith, past);
+      key = refl;
+      page_size = refl;
+      capacity = refl;
+      «open» = c.requires.open;
+      entries = few_start 1 c.args.self.end (key_of (shown c.args.self)) (g.D.Device.opened c.args.dev.now) c.requires.open;
+      faults = omega arith;
+      checksum = λ t p is. absurd (cc is);
+      uncut_pages = λ t p is. absurd (cc is);
+      uncut = λ t backed p is. absurd (cc is);
+      uncut_rests = λ t rests p is. absurd (cc is);
+      untouched = λ t settled p is. absurd (cc is);
+      covered = λ t settled lt. absurd (omega (arith, lt, past));
+      covered_below = λ t lt below whole. absurd (omega (arith, lt, past));
+      whole = λ t safe. tt;
+      page = λ p is. absurd (cc is);
+      cause = tt;
+    }
 
 -- why the sync failed
 cause-sync : (g : given.Over) (c : goal.After-from_residual g)
@@ -85,46 +85,46 @@ not-sync g c p is = no_page (Rose (g.D.Device.faults c.args.dev.now) (g.D.Device
 -- the sync failed
 pub returns-in_err-this : goal.returns-in_err-this
 returns-in_err-this g c =
-  let lt : c.args.len < size_of (shown c.args.self) = omega (arith, c.size.ensures, c.if-len-size.false) in
-  record {
-    crashes = λ t sealed. sealing_less g.S.Seal.seal_of _ _ c.args.self.settled _ _ _ _ (omega arith) (c.in_err-this.ensures.crashes t sealed);
-    sealed = λ t sealed. no_value _ _ c.from_residual.ensures.0;
-    recovering = λ t recovery. keeps_sealing g.S.Seal.seal_of _ _ _ _ _ _ recovery.1 (c.in_err-this.ensures.steady t recovery.0);
-    recovered = λ t recovery. no_value _ _ c.from_residual.ensures.0;
-    prefix = λ t recovery. no_value _ _ c.from_residual.ensures.0;
-    prefix_again = λ t recovery. no_value _ _ c.from_residual.ensures.0;
-    prefix_leaves = λ t recovery. no_value _ _ c.from_residual.ensures.0;
-    steady = λ t un past. c.in_err-this.ensures.steady t un;
-    unrecovered = λ t un past. no_value _ _ c.from_residual.ensures.0;
-    bytes = λ t backed. no_value _ _ c.from_residual.ensures.0;
-    backed = λ t backed. no_value _ _ c.from_residual.ensures.0;
-    alone = c.in_err-this.ensures.alone;
-    held = λ t was. no_value _ _ c.from_residual.ensures.0;
-    unchanged = λ le. absurd (omega (arith, le, lt));
-    same = λ le. absurd (omega (arith, le, lt));
-    settled = λ less. no_value _ _ c.from_residual.ensures.0;
-    rests = λ t less. no_value _ _ c.from_residual.ensures.0;
-    shorter = λ t less. no_value _ _ c.from_residual.ensures.0;
-    again = λ t less sealed. no_value _ _ c.from_residual.ensures.0;
-    leaves = λ t less sealed. no_value _ _ c.from_residual.ensures.0;
-    size = no_value _ _ c.from_residual.ensures.0;
-    key = no_value _ _ c.from_residual.ensures.0;
-    page_size = no_value _ _ c.from_residual.ensures.0;
-    capacity = no_value _ _ c.from_residual.ensures.0;
-    «open» = no_value _ _ c.from_residual.ensures.0;
-    entries = few_none 1 (key_of (shown c.args.self)) _ _ c.in_err-this.ensures.entries;
-    faults = c.in_err-this.ensures.faults;
-    checksum = λ t p is. absurd (not-sync g c p is);
-    uncut_pages = λ t p is. absurd (not-sync g c p is);
-    uncut = λ t backed p is. absurd (not-sync g c p is);
-    uncut_rests = λ t rests p is. absurd (not-sync g c p is);
-    untouched = λ t settled p is. absurd (not-sync g c p is);
-    covered = λ t settled less. no_value _ _ c.from_residual.ensures.0;
-    covered_below = λ t less below whole. no_value _ _ c.from_residual.ensures.0;
-    whole = λ t safe. cause-sync g c;
-    page = λ p is. absurd (not-sync g c p is);
-    cause = on_err c.from_residual.result inr (cause-sync g c);
-  }
+    let lt : c.args.len < size_of (shown c.args.self) = omega (arith, c.size.ensures, c.if-len-size.false) in
+    record {
+      crashes = λ t sealed. sealing_less g.S.Seal.seal_of _ _ c.args.self.settled _ _ _ _ (omega arith) (c.in_err-this.ensures.crashes t sealed);
+      sealed = λ t sealed. no_value _ _ c.from_residual.ensures.0;
+      recovering = λ t recovery. keeps_sealing g.S.Seal.seal_of _ _ _ _ _ _ recovery.1 (c.in_err-this.ensures.steady t recovery.0);
+      recovered = λ t recovery. no_value _ _ c.from_residual.ensures.0;
+      prefix = λ t recovery. no_value _ _ c.from_residual.ensures.0;
+      prefix_again = λ t recovery. no_value _ _ c.from_residual.ensures.0;
+      prefix_leaves = λ t recovery. no_value _ _ c.from_residual.ensures.0;
+      steady = λ t un past. c.in_err-this.ensures.steady t un;
+      unrecovered = λ t un past. no_value _ _ c.from_residual.ensures.0;
+      bytes = λ t backed. no_value _ _ c.from_residual.ensures.0;
+      backed = λ t backed. no_value _ _ c.from_residual.ensures.0;
+      alone = c.in_err-this.ensures.alone;
+      held = λ t was. no_value _ _ c.from_residual.ensures.0;
+      unchanged = λ le. absurd (omega (arith, le, lt));
+      same = λ le. absurd (omega (arith, le, lt));
+      settled = λ less. no_value _ _ c.from_residual.ensures.0;
+      rests = λ t less. no_value _ _ c.from_residual.ensures.0;
+      shorter = λ t less. no_value _ _ c.from_residual.ensures.0;
+      again = λ t less sealed. no_value _ _ c.from_residual.ensures.0;
+      leaves = λ t less sealed. no_value _ _ c.from_residual.ensures.0;
+      size = no_value _ _ c.from_residual.ensures.0;
+      key = no_value _ _ c.from_residual.ensures.0;
+      page_size = no_value _ _ c.from_residual.ensures.0;
+      capacity = no_value _ _ c.from_residual.ensures.0;
+      «open» = no_value _ _ c.from_residual.ensures.0;
+      entries = few_none 1 (key_of (shown c.args.self)) _ _ c.in_err-this.ensures.entries;
+      faults = c.in_err-this.ensures.faults;
+      checksum = λ t p is. absurd (not-sync g c p is);
+      uncut_pages = λ t p is. absurd (not-sync g c p is);
+      uncut = λ t backed p is. absurd (not-sync g c p is);
+      uncut_rests = λ t rests p is. absurd (not-sync g c p is);
+      untouched = λ t settled p is. absurd (not-sync g c p is);
+      covered = λ t settled less. no_value _ _ c.from_residual.ensures.0;
+      covered_below = λ t less below whole. no_value _ _ c.from_residual.ensures.0;
+      whole = λ t safe. cause-sync g c;
+      page = λ p is. absurd (not-sync g c p is);
+      cause = on_err c.from_residual.result inr (cause-sync g c);
+    }
 
 -- where that cut stands
 at-start : (g : given.Over) (c : goal.After-cut_at g) → (c.args.len / c.from-page_size.result) * c.in_ok-this.this.page_size ≡ c.args.len
@@ -138,7 +138,7 @@ marks-start g c = ok_of c.cut_at.result c.cut_at.ensures.same (λ v is. is_cut (
 -- what the two calls say
 ends-start : (g : given.Over) (c : goal.After-cut_at g) → g.D.Device.Tells
     → SyncedCut shown g.S.Seal.seal_of (shown c.args.self) (shown c.in_ok-this.this) c.args.len (c.args.len / c.from-page_size.result) (c.args.len % c.from-page_size.result)
-      c.cut_at.result (g.D.Device.time c.args.dev.now) (g.D.Device.time c.sync.new.dev) (g.D.Device.time c.cut_at.new.dev)
+    c.cut_at.result (g.D.Device.time c.args.dev.now) (g.D.Device.time c.sync.new.dev) (g.D.Device.time c.cut_at.new.dev)
 ends-start g c t = record {
   synced = record {
     key = c.in_ok-this.ensures.key;
@@ -206,7 +206,7 @@ returns-then-keep-eq0 g c = record {
   capacity = ok_of c.cut_at.result (marks-start g c) (λ v m. m.capacity);
   «open» = cut_open shown (shown c.args.self) (shown c.in_ok-this.this) c.args.len (c.args.len / c.from-page_size.result) (g.D.Device.opened c.cut_at.new.dev) c.cut_at.result c.in_ok-this.ensures.key (marks-start g c) c.cut_at.ensures.length;
   entries = few_then 1 (key_of (shown c.args.self)) _ (g.D.Device.opened c.sync.new.dev) _ (few_none 1 (key_of (shown c.args.self)) _ _ c.in_ok-this.ensures.entries)
-    (subst (λ (q : Key). NoReads q (g.D.Device.opened c.sync.new.dev) (g.D.Device.opened c.cut_at.new.dev)) c.in_ok-this.ensures.key c.cut_at.ensures.entries);
+      (subst (λ (q : Key). NoReads q (g.D.Device.opened c.sync.new.dev) (g.D.Device.opened c.cut_at.new.dev)) c.in_ok-this.ensures.key c.cut_at.ensures.entries);
   faults = omega (arith, c.in_ok-this.ensures.faults, c.cut_at.ensures.faults);
   checksum = λ t p is. absurd (not-start g c p is);
   uncut_pages = λ t p is. absurd (not-start g c p is);
@@ -233,7 +233,7 @@ marks-inside g c = ok_of c.cut_within.result (both_ok _ _ _ c.cut_within.ensures
 -- what the two calls say
 ends-inside : (g : given.Over) (c : goal.After-cut_within g) → g.D.Device.Tells
     → SyncedCut shown g.S.Seal.seal_of (shown c.args.self) (shown c.in_ok-this.this) c.args.len (c.args.len / c.from-page_size.result) (c.args.len % c.from-page_size.result)
-      c.cut_within.result (g.D.Device.time c.args.dev.now) (g.D.Device.time c.sync.new.dev) (g.D.Device.time c.cut_within.new.dev)
+    c.cut_within.result (g.D.Device.time c.args.dev.now) (g.D.Device.time c.sync.new.dev) (g.D.Device.time c.cut_within.new.dev)
 ends-inside g c t = record {
   synced = record {
     key = c.in_ok-this.ensures.key;
@@ -307,20 +307,20 @@ returns g c = record {
   capacity = ok_of c.cut_within.result (marks-inside g c) (λ v m. m.capacity);
   «open» = cut_open shown (shown c.args.self) (shown c.in_ok-this.this) c.args.len (c.args.len / c.from-page_size.result) (g.D.Device.opened c.cut_within.new.dev) c.cut_within.result c.in_ok-this.ensures.key (marks-inside g c) c.cut_within.ensures.length;
   entries = then_few 1 (key_of (shown c.args.self)) _ (g.D.Device.opened c.sync.new.dev) _ c.in_ok-this.ensures.entries
-    (subst (λ (q : Key). FewReads 1 q (g.D.Device.opened c.sync.new.dev) (g.D.Device.opened c.cut_within.new.dev)) c.in_ok-this.ensures.key c.cut_within.ensures.entries);
+      (subst (λ (q : Key). FewReads 1 q (g.D.Device.opened c.sync.new.dev) (g.D.Device.opened c.cut_within.new.dev)) c.in_ok-this.ensures.key c.cut_within.ensures.entries);
   faults = omega (arith, c.in_ok-this.ensures.faults, c.cut_within.ensures.faults);
   checksum = λ t p is. ends.refused_short (ends-inside g c t) (short g c t p is) p (page-of g c p is);
   uncut_pages = λ t p is. ends.refused_front (ends-inside g c t) (short g c t p is);
   uncut = λ t backed p is. ends.refused_data (ends-inside g c t) (short g c t p is) backed;
   uncut_rests = λ t rests p is. ends.refused_rests (ends-inside g c t) (short g c t p is) (c.in_ok-this.ensures.rests t rests);
   untouched = λ t settled p is. subst (λ (x : Timeline). Unchanged x (g.D.Device.time c.cut_within.new.dev))
-    (ap g.D.Device.time (c.in_ok-this.ensures.idle settled)) ((ends-inside g c t).cut.refused (short g c t p is));
+      (ap g.D.Device.time (c.in_ok-this.ensures.idle settled)) ((ends-inside g c t).cut.refused (short g c t p is));
   covered = λ t settled lt. ends.cut_covered (ends-inside g c t) (ap g.D.Device.time (c.in_ok-this.ensures.idle settled));
   covered_below = λ t lt below whole. ends.cut_covered_below (ends-inside g c t) below whole;
   whole = λ t safe. not_named c.cut_within.result (c.args.len / c.from-page_size.result) (Rose (g.D.Device.faults c.sync.new.dev) (g.D.Device.faults c.cut_within.new.dev)) (Rose (g.D.Device.faults c.args.dev.now) (g.D.Device.faults c.cut_within.new.dev)) (λ is. ends.safe_covered (ends-inside g c t) safe (short g c t _ is))
-    (rose_since (g.D.Device.faults c.args.dev.now) (g.D.Device.faults c.sync.new.dev) (g.D.Device.faults c.cut_within.new.dev) c.in_ok-this.ensures.faults) c.cut_within.ensures.cause;
+      (rose_since (g.D.Device.faults c.args.dev.now) (g.D.Device.faults c.sync.new.dev) (g.D.Device.faults c.cut_within.new.dev) c.in_ok-this.ensures.faults) c.cut_within.ensures.cause;
   page = λ p is. page_around c.args.self.page_size c.args.len (c.args.len / c.from-page_size.result) (c.args.len % c.from-page_size.result) p (size_of (shown c.args.self))
-    (placed c.args.self.page_size c.from-page_size.result c.args.len (c.from-page_size.ensures ∙ c.in_ok-this.ensures.page_size))
-    (omega (arith, c.args.self.fit.begun)) (omega (arith, c.if-keep-eq0.false)) (omega (arith, c.size.ensures, c.if-len-size.false)) (page-of g c p is);
+      (placed c.args.self.page_size c.from-page_size.result c.args.len (c.from-page_size.ensures ∙ c.in_ok-this.ensures.page_size))
+      (omega (arith, c.args.self.fit.begun)) (omega (arith, c.if-keep-eq0.false)) (omega (arith, c.size.ensures, c.if-len-size.false)) (page-of g c p is);
   cause = cause_since c.cut_within.result (c.args.len / c.from-page_size.result) (g.D.Device.faults c.args.dev.now) (g.D.Device.faults c.sync.new.dev) (g.D.Device.faults c.cut_within.new.dev) c.in_ok-this.ensures.faults c.cut_within.ensures.cause;
 }

@@ -66,33 +66,33 @@ returns-in_err-fetch g c =
       same = same;
       grows = omega (arith, ap (λ (l : List ℕ). length l) c.in_err-fetch.ensures.stays, c.fill.invariant.grows);
       replays = λ t is.
-            let disks : disk (g.D.Device.time c.fill.dev) ≡ disk (g.D.Device.time c.args.dev.now) = unchanged_now (g.D.Device.time c.args.dev.now) (g.D.Device.time c.fill.dev) (c.fill.invariant.unchanged t) in
-            let same : (disk (g.D.Device.time c.fill.dev) (reading c.fill.self).key).content ≡ (disk (g.D.Device.time c.args.dev.now) (reading c.args.self.now).key).content = λ j. (disks j (c.fill.invariant.same.key j)).content in
-            subst (λ (l : List ℕ). IsReplayOf g.S.Seal.seal_of l (reading c.fetch.new.self)) same (c.fetch.ensures.replays t (subst (λ (l : List ℕ). IsReplayOf g.S.Seal.seal_of l (reading c.fill.self)) (sym same) (c.fill.invariant.replays t is)));
+          let disks : disk (g.D.Device.time c.fill.dev) ≡ disk (g.D.Device.time c.args.dev.now) = unchanged_now (g.D.Device.time c.args.dev.now) (g.D.Device.time c.fill.dev) (c.fill.invariant.unchanged t) in
+          let same : (disk (g.D.Device.time c.fill.dev) (reading c.fill.self).key).content ≡ (disk (g.D.Device.time c.args.dev.now) (reading c.args.self.now).key).content = λ j. (disks j (c.fill.invariant.same.key j)).content in
+          subst (λ (l : List ℕ). IsReplayOf g.S.Seal.seal_of l (reading c.fetch.new.self)) same (c.fetch.ensures.replays t (subst (λ (l : List ℕ). IsReplayOf g.S.Seal.seal_of l (reading c.fill.self)) (sym same) (c.fill.invariant.replays t is)));
       checksum = λ t is p e.
-            let disks : disk (g.D.Device.time c.fill.dev) ≡ disk (g.D.Device.time c.args.dev.now) = unchanged_now (g.D.Device.time c.args.dev.now) (g.D.Device.time c.fill.dev) (c.fill.invariant.unchanged t) in
-            let same : (disk (g.D.Device.time c.fill.dev) (reading c.fill.self).key).content ≡ (disk (g.D.Device.time c.args.dev.now) (reading c.args.self.now).key).content = λ j. (disks j (c.fill.invariant.same.key j)).content in
-            let short : IsShort g.S.Seal.seal_of c.fill.self.page_size (disk (g.D.Device.time c.fill.dev) (reading c.fill.self).key).content (next_of (reading c.fill.self)) (c.args.self.now.at + c.min-want.result - next_of (reading c.fill.self)) p
-            = c.in_err-fetch.ensures.short t (subst (λ (l : List ℕ). IsReplayOf g.S.Seal.seal_of l (reading c.fill.self)) (sym same) (c.fill.invariant.replays t is)) p (same_error (rw (given.1, given.2) at e)) in
-            short_all g.S.Seal.seal_of c.args.self.now.page_size (next_of (reading c.args.self.now)) (missing_of (reading c.args.self.now) c.args.n) (next_of (reading c.fill.self)) (c.args.self.now.at + c.min-want.result) p (disk (g.D.Device.time c.args.dev.now) (reading c.args.self.now).key).content (omega (arith, c.fill.invariant.grows, c.fill.invariant.same.at)) (omega (arith, c.fill-test.true, c.fill.invariant.have_is, c.fill.invariant.same.at)) (omega (arith, c.fill-test.true, c.min-want.ensures, c.fill.invariant.have_is, c.fill.invariant.grows))
-            (subst (λ (x : ℕ × List ℕ). IsShort g.S.Seal.seal_of x.0 x.1 (next_of (reading c.fill.self)) (c.args.self.now.at + c.min-want.result - next_of (reading c.fill.self)) p) (λ j. (c.fill.invariant.same.page_size j, same j)) short);
+          let disks : disk (g.D.Device.time c.fill.dev) ≡ disk (g.D.Device.time c.args.dev.now) = unchanged_now (g.D.Device.time c.args.dev.now) (g.D.Device.time c.fill.dev) (c.fill.invariant.unchanged t) in
+          let same : (disk (g.D.Device.time c.fill.dev) (reading c.fill.self).key).content ≡ (disk (g.D.Device.time c.args.dev.now) (reading c.args.self.now).key).content = λ j. (disks j (c.fill.invariant.same.key j)).content in
+          let short : IsShort g.S.Seal.seal_of c.fill.self.page_size (disk (g.D.Device.time c.fill.dev) (reading c.fill.self).key).content (next_of (reading c.fill.self)) (c.args.self.now.at + c.min-want.result - next_of (reading c.fill.self)) p
+          = c.in_err-fetch.ensures.short t (subst (λ (l : List ℕ). IsReplayOf g.S.Seal.seal_of l (reading c.fill.self)) (sym same) (c.fill.invariant.replays t is)) p (same_error (rw (given.1, given.2) at e)) in
+          short_all g.S.Seal.seal_of c.args.self.now.page_size (next_of (reading c.args.self.now)) (missing_of (reading c.args.self.now) c.args.n) (next_of (reading c.fill.self)) (c.args.self.now.at + c.min-want.result) p (disk (g.D.Device.time c.args.dev.now) (reading c.args.self.now).key).content (omega (arith, c.fill.invariant.grows, c.fill.invariant.same.at)) (omega (arith, c.fill-test.true, c.fill.invariant.have_is, c.fill.invariant.same.at)) (omega (arith, c.fill-test.true, c.min-want.ensures, c.fill.invariant.have_is, c.fill.invariant.grows))
+          (subst (λ (x : ℕ × List ℕ). IsShort g.S.Seal.seal_of x.0 x.1 (next_of (reading c.fill.self)) (c.args.self.now.at + c.min-want.result - next_of (reading c.fill.self)) p) (λ j. (c.fill.invariant.same.page_size j, same j)) short);
       unchanged = λ t. unchanged_then (g.D.Device.time c.args.dev.now) (g.D.Device.time c.fill.dev) (g.D.Device.time c.fetch.new.dev) (c.fill.invariant.unchanged t) (c.fetch.ensures.unchanged t);
       «open» = subst (λ (x : Key × ℕ). IsOpenAt (g.D.Device.opened c.fetch.new.dev) x.0 x.1) (λ j. (sym same.key j, sym same.end j))
-            (reads.length (reading c.args.self.now).end c.requires);
+          (reads.length (reading c.args.self.now).end c.requires);
       reads = reads;
       once = no_value _ _ c.from_residual.ensures.0;
       judged = λ p e.
-            unread_then (reading c.args.self.now) (reading c.fill.self) (reading c.fetch.new.self) (g.D.Device.opened c.args.dev.now) (g.D.Device.opened c.fill.dev) (g.D.Device.opened c.fetch.new.dev) c.fill.invariant.same.key c.fill.invariant.once
-            (c.in_err-fetch.ensures.judged p (same_error (rw (given.1, given.2) at e)));
+          unread_then (reading c.args.self.now) (reading c.fill.self) (reading c.fetch.new.self) (g.D.Device.opened c.args.dev.now) (g.D.Device.opened c.fill.dev) (g.D.Device.opened c.fetch.new.dev) c.fill.invariant.same.key c.fill.invariant.once
+          (c.in_err-fetch.ensures.judged p (same_error (rw (given.1, given.2) at e)));
       faults = omega (arith, c.fill.invariant.faults, c.fetch.ensures.faults);
       cause = rw (given.1, given.2) (elim c.in_err-fetch.ensures.cause [
-              | inl (k, is, wanted) ↦ inl (
-                k,
-                same_error is,
-                wanted_all c.args.self.now.page_size (next_of (reading c.args.self.now)) (missing_of (reading c.args.self.now) c.args.n) (next_of (reading c.fill.self)) (c.args.self.now.at + c.min-want.result) k (omega (arith, c.fill.invariant.grows, c.fill.invariant.same.at)) (omega (arith, c.fill-test.true, c.fill.invariant.have_is, c.fill.invariant.same.at)) (omega (arith, c.fill-test.true, c.min-want.ensures, c.fill.invariant.have_is, c.fill.invariant.grows))
-                    (subst (λ (x : ℕ). IsWanted x (next_of (reading c.fill.self)) (c.args.self.now.at + c.min-want.result - next_of (reading c.fill.self)) k) c.fill.invariant.same.page_size wanted),
-              )
-              | inr (inl mem) ↦ inr (inl (same_error mem))
-              | inr (inr (fault, rose)) ↦ inr (inr (same_error fault, omega (arith, rose, c.fill.invariant.faults)))
-            ]);
+        | inl (k, is, wanted) ↦ inl (
+          k,
+          same_error is,
+          wanted_all c.args.self.now.page_size (next_of (reading c.args.self.now)) (missing_of (reading c.args.self.now) c.args.n) (next_of (reading c.fill.self)) (c.args.self.now.at + c.min-want.result) k (omega (arith, c.fill.invariant.grows, c.fill.invariant.same.at)) (omega (arith, c.fill-test.true, c.fill.invariant.have_is, c.fill.invariant.same.at)) (omega (arith, c.fill-test.true, c.min-want.ensures, c.fill.invariant.have_is, c.fill.invariant.grows))
+              (subst (λ (x : ℕ). IsWanted x (next_of (reading c.fill.self)) (c.args.self.now.at + c.min-want.result - next_of (reading c.fill.self)) k) c.fill.invariant.same.page_size wanted),
+        )
+        | inr (inl mem) ↦ inr (inl (same_error mem))
+        | inr (inr (fault, rose)) ↦ inr (inr (same_error fault, omega (arith, rose, c.fill.invariant.faults)))
+      ]);
     }

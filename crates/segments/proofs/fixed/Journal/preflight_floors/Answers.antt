@@ -242,18 +242,18 @@ returns-in_err-found g c =
       damage = λ t x bad. marker_refused seal size g.A.Codec.spelling g.A.Codec.accepted told place pages c.args.cfg.now.write_buffer c.args.ceiling marks from keys f done s n is now (settled.moments t) x (c.in_err-found.ensures.damage t x (ap Err (of_error c.from_residual-in_err-found.result c.in_err-found.field-0.0 (Corruption x) c.from_residual-in_err-found.ensures.1 bad)));
       whole = λ t keeps x bad. none_refused seal size g.A.Codec.spelling g.A.Codec.accepted told place pages c.args.cfg.now.write_buffer c.args.ceiling marks from keeps x (marker_refused seal size g.A.Codec.spelling g.A.Codec.accepted told place pages c.args.cfg.now.write_buffer c.args.ceiling marks from keys f done s n is now (settled.moments t) x (c.in_err-found.ensures.damage t x (ap Err (of_error c.from_residual-in_err-found.result c.in_err-found.field-0.0 (Corruption x) c.from_residual-in_err-found.ensures.1 bad))));
       first = λ t x bad q m before at.
-            let found = c.in_err-found.ensures.damage t x (ap Err (of_error c.from_residual-in_err-found.result c.in_err-found.field-0.0 (Corruption x) c.from_residual-in_err-found.ensures.1 bad)) in
-            last_taken seal size g.A.Codec.spelling g.A.Codec.accepted told place pages c.args.cfg.now.write_buffer c.args.ceiling marks from keys f done t q m
-            (had_turn c.loop-section.yielded c.into_iter-section-iterator.result c.loop-section.section-iterator c.next.new.self c.next.result (c.in-Some.section, c.in-Some.items) c.loop-section.yielded_by c.in-Some.is c.next.ensures.steps c.args.floors.now
-            c.into_iter-section-iterator.ensures.into_iter_gives.0 c.into_iter-section-iterator.ensures.into_iter_gives.5 q (subst IsSome (sym at) refl) (omega (arith, before, found.0))) at;
+          let found = c.in_err-found.ensures.damage t x (ap Err (of_error c.from_residual-in_err-found.result c.in_err-found.field-0.0 (Corruption x) c.from_residual-in_err-found.ensures.1 bad)) in
+          last_taken seal size g.A.Codec.spelling g.A.Codec.accepted told place pages c.args.cfg.now.write_buffer c.args.ceiling marks from keys f done t q m
+          (had_turn c.loop-section.yielded c.into_iter-section-iterator.result c.loop-section.section-iterator c.next.new.self c.next.result (c.in-Some.section, c.in-Some.items) c.loop-section.yielded_by c.in-Some.is c.next.ensures.steps c.args.floors.now
+          c.into_iter-section-iterator.ensures.into_iter_gives.0 c.into_iter-section-iterator.ensures.into_iter_gives.5 q (subst IsSome (sym at) refl) (omega (arith, before, found.0))) at;
       refused = λ t e bad.
-            marker_codec seal size g.A.Codec.spelling g.A.Codec.accepted told place pages c.args.cfg.now.write_buffer c.args.ceiling marks from keys f done s n is now (settled.moments t) g.A.Codec.refusal e (c.in_err-found.ensures.refused t e (ap Err (of_error c.from_residual-in_err-found.result c.in_err-found.field-0.0 (Codec e) c.from_residual-in_err-found.ensures.1 bad)))
-            (λ q m before at. last_taken seal size g.A.Codec.spelling g.A.Codec.accepted told place pages c.args.cfg.now.write_buffer c.args.ceiling marks from keys f done t q m
-            (had_turn c.loop-section.yielded c.into_iter-section-iterator.result c.loop-section.section-iterator c.next.new.self c.next.result (c.in-Some.section, c.in-Some.items) c.loop-section.yielded_by c.in-Some.is c.next.ensures.steps c.args.floors.now
-            c.into_iter-section-iterator.ensures.into_iter_gives.0 c.into_iter-section-iterator.ensures.into_iter_gives.5 q (subst IsSome (sym at) refl) before) at);
+          marker_codec seal size g.A.Codec.spelling g.A.Codec.accepted told place pages c.args.cfg.now.write_buffer c.args.ceiling marks from keys f done s n is now (settled.moments t) g.A.Codec.refusal e (c.in_err-found.ensures.refused t e (ap Err (of_error c.from_residual-in_err-found.result c.in_err-found.field-0.0 (Codec e) c.from_residual-in_err-found.ensures.1 bad)))
+          (λ q m before at. last_taken seal size g.A.Codec.spelling g.A.Codec.accepted told place pages c.args.cfg.now.write_buffer c.args.ceiling marks from keys f done t q m
+          (had_turn c.loop-section.yielded c.into_iter-section-iterator.result c.loop-section.section-iterator c.next.new.self c.next.result (c.in-Some.section, c.in-Some.items) c.loop-section.yielded_by c.in-Some.is c.next.ensures.steps c.args.floors.now
+          c.into_iter-section-iterator.ensures.into_iter_gives.0 c.into_iter-section-iterator.ensures.into_iter_gives.5 q (subst IsSome (sym at) refl) before) at);
       moments = λ t.
-            (settled_read told place c.args.ceiling from now (g.D.Device.time c.checked.new.dev) (g.D.Device.opened c.args.dev.now) (g.D.Device.opened c.loop-section.dev) (g.D.Device.opened c.checked.new.dev) s (c.requires.ceiling s (subst IsSome (sym is) refl)) c.checked.ensures.unchanged
-            (subst (λ (p : List ℕ). OnlyOwnEntry (section_key p c.in-Some.section.now) (g.D.Device.opened c.loop-section.dev) (g.D.Device.opened c.checked.new.dev)) done.place c.checked.ensures.entries) settled).moments t;
+          (settled_read told place c.args.ceiling from now (g.D.Device.time c.checked.new.dev) (g.D.Device.opened c.args.dev.now) (g.D.Device.opened c.loop-section.dev) (g.D.Device.opened c.checked.new.dev) s (c.requires.ceiling s (subst IsSome (sym is) refl)) c.checked.ensures.unchanged
+          (subst (λ (p : List ℕ). OnlyOwnEntry (section_key p c.in-Some.section.now) (g.D.Device.opened c.loop-section.dev) (g.D.Device.opened c.checked.new.dev)) done.place c.checked.ensures.entries) settled).moments t;
       foreign = λ t name foreign. absurd (c.in_ok-journal.ensures.foreign t name foreign).0;
       foreign_items = λ t name foreign e bad. absurd (c.in_ok-journal.ensures.foreign t name foreign).0;
       foreign_disk = λ t name foreign. absurd (c.in_ok-journal.ensures.foreign t name foreign).0;
@@ -261,7 +261,7 @@ returns-in_err-found g c =
       name_entries = λ n bad. absurd (checked_named c.from_residual-in_err-found.result c.in_err-found.field-0.0 (g.D.Device.faults c.args.dev.now) (g.D.Device.faults c.loop-section.dev) (g.D.Device.faults c.checked.new.dev) failed c.in_err-found.ensures.cause n bad);
       named = λ t n bad. absurd (checked_named c.from_residual-in_err-found.result c.in_err-found.field-0.0 (g.D.Device.faults c.args.dev.now) (g.D.Device.faults c.loop-section.dev) (g.D.Device.faults c.checked.new.dev) failed c.in_err-found.ensures.cause n bad);
       entries = (settled_read told place c.args.ceiling from now (g.D.Device.time c.checked.new.dev) (g.D.Device.opened c.args.dev.now) (g.D.Device.opened c.loop-section.dev) (g.D.Device.opened c.checked.new.dev) s (c.requires.ceiling s (subst IsSome (sym is) refl)) c.checked.ensures.unchanged
-            (subst (λ (p : List ℕ). OnlyOwnEntry (section_key p c.in-Some.section.now) (g.D.Device.opened c.loop-section.dev) (g.D.Device.opened c.checked.new.dev)) done.place c.checked.ensures.entries) settled).entries;
+          (subst (λ (p : List ℕ). OnlyOwnEntry (section_key p c.in-Some.section.now) (g.D.Device.opened c.loop-section.dev) (g.D.Device.opened c.checked.new.dev)) done.place c.checked.ensures.entries) settled).entries;
       overflow = λ room. absurd (checked_room c.from_residual-in_err-found.result c.in_err-found.field-0.0 (g.D.Device.faults c.args.dev.now) (g.D.Device.faults c.loop-section.dev) (g.D.Device.faults c.checked.new.dev) failed c.in_err-found.ensures.cause room);
       faults = omega (arith, c.loop-section.invariant.faults, c.checked.ensures.faults);
       cause = checked_on c.from_residual-in_err-found.result c.in_err-found.field-0.0 (g.D.Device.faults c.args.dev.now) (g.D.Device.faults c.loop-section.dev) (g.D.Device.faults c.checked.new.dev) failed c.in_err-found.ensures.cause c.loop-section.invariant.faults;
@@ -288,10 +288,10 @@ returns-in_err-owing g c =
     let settled = c.loop-section.invariant.settled in
     let opened = c.loop-section.invariant.opened in
     let sound : (t : told) (x : Damage) → c.from_residual-in_err-owing.result ≡ Err (Corruption x) → ⊥ = λ t x bad. (
-        let same : c.in_err-owing.field-0.0 ≡ Corruption x = of_error c.from_residual-in_err-owing.result c.in_err-owing.field-0.0 (Corruption x) c.from_residual-in_err-owing.ensures.1 bad in
-        let less = c.in_err-owing.ensures.damage x (ap Err same) in
-        let reached = reaches seal size g.A.Codec.spelling g.A.Codec.accepted told place pages c.args.cfg.now.write_buffer c.args.ceiling marks from (ghosts g.row.S g.S.Seal g.S.Seal-dict) (λ (f : AppendFactory g.row.S.Denot). record { page_size = f.pages.page_size; capacity = f.write_buffer }) (are_pages g.row.S g.S.Seal g.S.Seal-dict) (journal_of c.loop-section.found).sections now (g.D.Device.opened c.loop-section.dev) opened settled.moments keys f done taken never c.requires.ceiling c.ranges.ceiling.fits (ap (λ (p : Pages). p.page_size) done.paging) t x.section in
-        omega (arith, less, reached)) in
+    let same : c.in_err-owing.field-0.0 ≡ Corruption x = of_error c.from_residual-in_err-owing.result c.in_err-owing.field-0.0 (Corruption x) c.from_residual-in_err-owing.ensures.1 bad in
+    let less = c.in_err-owing.ensures.damage x (ap Err same) in
+    let reached = reaches seal size g.A.Codec.spelling g.A.Codec.accepted told place pages c.args.cfg.now.write_buffer c.args.ceiling marks from (ghosts g.row.S g.S.Seal g.S.Seal-dict) (λ (f : AppendFactory g.row.S.Denot). record { page_size = f.pages.page_size; capacity = f.write_buffer }) (are_pages g.row.S g.S.Seal g.S.Seal-dict) (journal_of c.loop-section.found).sections now (g.D.Device.opened c.loop-section.dev) opened settled.moments keys f done taken never c.requires.ceiling c.ranges.ceiling.fits (ap (λ (p : Pages). p.page_size) done.paging) t x.section in
+    omega (arith, less, reached)) in
     let failed = err_of c.from_residual-in_err-owing.result c.in_err-owing.field-0.0 c.from_residual-in_err-owing.ensures.1 in
     record {
       floors = no_value _ _ c.from_residual-in_err-owing.ensures.0;
@@ -351,18 +351,18 @@ returns g c =
       empty = λ s is. (done.marked s 0 (taken s (subst IsSome (sym is) refl)) is).empty refl;
       boundary = λ t s n is some. (done.marked s n (taken s (subst IsSome (sym is) refl)) is).boundary t some;
       there = λ t s some.
-            elim (none_or_value (get nat_cmp c.args.floors.now s)) [
-              | inl none ↦ absurd (cc (subst IsSome none some))
-              | inr v ↦ (done.marked s v.0 (taken s some) v.1).there t
-            ];
+          elim (none_or_value (get nat_cmp c.args.floors.now s)) [
+            | inl none ↦ absurd (cc (subst IsSome none some))
+            | inr v ↦ (done.marked s v.0 (taken s some) v.1).there t
+          ];
       fits = λ s n is. (done.marked s n (taken s (subst IsSome (sym is) refl)) is).fits;
       partition = done.place;
       pages = done.paging;
       write_buffer = done.buffering;
       ceiling = done.bound;
       over = opened_journal g.S.Seal.seal_of g.A.CodecFixed.SIZE g.D.Device.Tells _ (are_pages g.row.S g.S.Seal g.S.Seal-dict) _ m (g.D.Device.opened c.loop-section.dev) (disk (g.D.Device.time c.loop-section.dev)) opened.over
-            (journal_of c.in_ok-owing.owing).unrecovered (journal_of c.in_ok-owing.owing).floor_of opened.idle c.in_ok-owing.ensures.unrecovered c.in_ok-owing.ensures.reached c.in_ok-owing.owing.whole
-            (λ t s some. omega (arith, done.bound, opened.later s some));
+          (journal_of c.in_ok-owing.owing).unrecovered (journal_of c.in_ok-owing.owing).floor_of opened.idle c.in_ok-owing.ensures.unrecovered c.in_ok-owing.ensures.reached c.in_ok-owing.owing.whole
+          (λ t s some. omega (arith, done.bound, opened.later s some));
       held = opened.held;
       unopened = opened.unopened;
       no_leftover = opened.no_leftover;

@@ -9,29 +9,29 @@ use Rattle.segments.proofs.fixed.Journal.sync_all.Goals as goal
 
 pub returns-in_err-this : goal.returns-in_err-this
 returns-in_err-this g c =
-  let is = err_of c.from_residual.result c.in_err-this.field-0.0 c.from_residual.ensures.1 in
-  record {
-    over = no_value _ _ c.from_residual.ensures.0;
-    all = no_value _ _ c.from_residual.ensures.0;
-    none = no_value _ _ c.from_residual.ensures.0;
-    unopened = no_value _ _ c.from_residual.ensures.0;
-    bounds = no_value _ _ c.from_residual.ensures.0;
-    unrecovered = no_value _ _ c.from_residual.ensures.0;
-    floors = no_value _ _ c.from_residual.ensures.0;
-    moments = λ t. settling_of g.S.Seal.seal_of g.A.CodecFixed.SIZE g.D.Device.Tells _ (are_pages g.row.S g.S.Seal g.S.Seal-dict) _ (shown c.args.self)
-      (g.D.Device.opened c.args.dev.now) (g.D.Device.time c.args.dev.now) (g.D.Device.time c.sync_all.new.dev) (λ s. ⊤) c.requires.over t (c.sync_all.ensures.moments t);
-    idle = λ none. c.sync_all.ensures.idle (λ s u held. is_settled (ghosts g.row.S g.S.Seal g.S.Seal-dict) ((shown c.args.self).sections.held s) u held (none s));
-    entries = c.sync_all.ensures.entries;
-    faults = c.sync_all.ensures.faults;
-    cause = err_with c.from_residual.result (failed_on c.from_residual.result c.in_err-this.field-0.0 _ _ is c.in_err-this.ensures.cause);
-  }
+    let is = err_of c.from_residual.result c.in_err-this.field-0.0 c.from_residual.ensures.1 in
+    record {
+      over = no_value _ _ c.from_residual.ensures.0;
+      all = no_value _ _ c.from_residual.ensures.0;
+      none = no_value _ _ c.from_residual.ensures.0;
+      unopened = no_value _ _ c.from_residual.ensures.0;
+      bounds = no_value _ _ c.from_residual.ensures.0;
+      unrecovered = no_value _ _ c.from_residual.ensures.0;
+      floors = no_value _ _ c.from_residual.ensures.0;
+      moments = λ t. settling_of g.S.Seal.seal_of g.A.CodecFixed.SIZE g.D.Device.Tells _ (are_pages g.row.S g.S.Seal g.S.Seal-dict) _ (shown c.args.self)
+          (g.D.Device.opened c.args.dev.now) (g.D.Device.time c.args.dev.now) (g.D.Device.time c.sync_all.new.dev) (λ s. ⊤) c.requires.over t (c.sync_all.ensures.moments t);
+      idle = λ none. c.sync_all.ensures.idle (λ s u held. is_settled (ghosts g.row.S g.S.Seal g.S.Seal-dict) ((shown c.args.self).sections.held s) u held (none s));
+      entries = c.sync_all.ensures.entries;
+      faults = c.sync_all.ensures.faults;
+      cause = err_with c.from_residual.result (failed_on c.from_residual.result c.in_err-this.field-0.0 _ _ is c.in_err-this.ensures.cause);
+    }
 
 pub returns : goal.returns
 returns g c = record {
   over = synced_journal g.S.Seal.seal_of g.A.CodecFixed.SIZE g.D.Device.Tells _ (are_pages g.row.S g.S.Seal g.S.Seal-dict) _ (shown c.args.self)
-    (g.D.Device.opened c.args.dev.now) (g.D.Device.time c.args.dev.now) (g.D.Device.time c.sync_all.new.dev) (λ s. ⊤) c.requires.over _
-    (g.D.Device.opened c.sync_all.new.dev) (λ s. inl tt) c.in_ok-this.ensures.over (λ s u is held. c.in_ok-this.ensures.all s u held)
-    c.in_ok-this.ensures.none (λ s not. absurd (not tt)) c.in_ok-this.ensures.unopened c.in_ok-this.ensures.bounds (λ s. refl) (λ s. refl) c.sync_all.ensures.moments;
+      (g.D.Device.opened c.args.dev.now) (g.D.Device.time c.args.dev.now) (g.D.Device.time c.sync_all.new.dev) (λ s. ⊤) c.requires.over _
+      (g.D.Device.opened c.sync_all.new.dev) (λ s. inl tt) c.in_ok-this.ensures.over (λ s u is held. c.in_ok-this.ensures.all s u held)
+      c.in_ok-this.ensures.none (λ s not. absurd (not tt)) c.in_ok-this.ensures.unopened c.in_ok-this.ensures.bounds (λ s. refl) (λ s. refl) c.sync_all.ensures.moments;
   all = c.in_ok-this.ensures.all;
   none = c.in_ok-this.ensures.none;
   unopened = c.in_ok-this.ensures.unopened;
@@ -39,7 +39,7 @@ returns g c = record {
   unrecovered = λ s. refl;
   floors = λ s. refl;
   moments = λ t. settling_of g.S.Seal.seal_of g.A.CodecFixed.SIZE g.D.Device.Tells _ (are_pages g.row.S g.S.Seal g.S.Seal-dict) _ (shown c.args.self)
-    (g.D.Device.opened c.args.dev.now) (g.D.Device.time c.args.dev.now) (g.D.Device.time c.sync_all.new.dev) (λ s. ⊤) c.requires.over t (c.sync_all.ensures.moments t);
+      (g.D.Device.opened c.args.dev.now) (g.D.Device.time c.args.dev.now) (g.D.Device.time c.sync_all.new.dev) (λ s. ⊤) c.requires.over t (c.sync_all.ensures.moments t);
   idle = λ none. c.sync_all.ensures.idle (λ s u held. is_settled (ghosts g.row.S g.S.Seal g.S.Seal-dict) ((shown c.args.self).sections.held s) u held (none s));
   entries = c.sync_all.ensures.entries;
   faults = c.sync_all.ensures.faults;
