@@ -10,8 +10,6 @@ mod files;
 mod names;
 mod opened;
 mod stop;
-#[cfg(test)]
-mod tests;
 
 use crate::{DevError, Device, Names};
 use files::BlobFiles;

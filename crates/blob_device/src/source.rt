@@ -165,27 +165,3 @@ impl<R: Read> Source for StdSource<R> {
         }
     }
 }
-
-#[cfg(test)]
-mod tests {
-    use super::*;
-    use crate::{Sink, StdSink};
-    use std::io::Cursor;
-    use std::test::Fail;
-
-    #[test]
-    fn streams_of_std_pass_bytes_on(rt: HostRuntime) -> Result<(), Fail> {
-        let mut source = StdSource::new(Cursor::new(b"abcde".as_slice()));
-        let mut buf = [0u8; 3];
-        assert_eq!(rt; source.read(&mut buf).ok(), Some(3));
-        assert_eq!(rt; buf.as_slice(), b"abc".as_slice());
-        assert_eq!(rt; source.read(&mut buf).ok(), Some(2));
-        assert_eq!(rt; source.read(&mut buf).ok(), Some(0));
-        let mut bytes = Vec::new(rt.alloc());
-        let mut sink = StdSink::new(&mut bytes);
-        assert_eq!(rt; sink.write(b"ab").ok(), Some(2));
-        assert_eq!(rt; sink.write(b"c").ok(), Some(1));
-        assert_eq!(rt; bytes.as_slice(), b"abc".as_slice());
-        Ok(())
-    }
-}
