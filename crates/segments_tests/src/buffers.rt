@@ -1,33 +1,41 @@
-// Section buffers of both kinds over a device in memory, made and called through their bounds.
-ghost use Rattle.std.specs.Prelude.{IfOk};
-ghost use Rattle.sealed_pages.specs.Entries.{IsOpenAt};
-
-use blob_device::{Device, Image, Memory, RError};
-use sealed_pages::{PageBlob, Pages};
+// Section buffers of both kinds, made and called through their bounds.
+use crate::said::Said;
+use crate::words::number;
+use blob_device::{Device, Memory, RError};
+use scenario_text::Step;
+use sealed_pages::Pages;
+use segments::journal::Error;
 use segments::{AppendFactory, BufferFactory, SectionBuffer, WriteFactory};
 use std::alloc::Global;
-use std::test::Fail;
 use value_codec::Sha256Seal;
 
-/// Opens a blob, and makes a buffer over it.
-fn made<F: BufferFactory, D: Device>(
-    alloc: Global,
-    dev: &mut D,
-    factory: &F,
-) -> Result<F::Buffer, RError>
-    ensures { IfOk result (λ b. IsOpenAt (D.opened dev.new) (F.Buffer.key b) (F.Buffer.extent b)) }
-{
-    let size = dev.open_blob("p", b"x")?;
-    factory.create(alloc, dev, "p", b"x", size)
+/// Makes a buffer over the blob `x` of the partition `p`, of the kind and capacity that the step
+/// names. Says the size that each of the syncs settles.
+pub fn buffered(alloc: Global, dev: &mut Memory, step: &Step) -> Result<Said, Error> {
+    let capacity = number(step, 1) as usize;
+    let pages = Pages {
+        page_size: 4,
+        cache_pages: 0,
+    };
+    let size = match step.argument(0) {
+        "write" => settled_size(alloc, dev, &WriteFactory { capacity })?,
+        _ => settled_size(
+            alloc,
+            dev,
+            &AppendFactory::<Sha256Seal>::new(capacity, pages),
+        )?,
+    };
+    Ok(Said::Maybe(size))
 }
 
-/// The size of a section that each of the syncs settles.
+// Opens the blob, and makes a buffer over it. The size that each of the syncs settles.
 fn settled_size<F: BufferFactory, D: Device>(
     alloc: Global,
     dev: &mut D,
     factory: &F,
 ) -> Result<Option<u64>, RError> {
-    let buffer = made(alloc, dev, factory)?;
+    let size = dev.open_blob("p", b"x")?;
+    let buffer = factory.create(alloc, dev, "p", b"x", size)?;
     let buffer = buffer.sync(dev)?;
     let (buffer, handle) = buffer.start_sync(dev)?;
     handle.wait();
@@ -36,35 +44,4 @@ fn settled_size<F: BufferFactory, D: Device>(
         return Ok(None);
     }
     Ok(Some(buffer.size()))
-}
-
-/// A device whose one blob has these bytes.
-fn device(alloc: Global, bytes: &[u8]) -> Result<Memory, RError> {
-    let mut image = Image::new(alloc);
-    image.set_blob("p", b"x", bytes)?;
-    Ok(Memory::from_image(alloc, image)?)
-}
-
-#[test]
-fn unsealed_section(rt: HostRuntime) -> Result<(), Fail> {
-    let alloc = rt.alloc();
-    let factory = WriteFactory { capacity: 8 };
-    let mut dev = device(alloc, b"0123456789")?;
-    assert_eq!(rt; settled_size(alloc, &mut dev, &factory)?, Some(10));
-    Ok(())
-}
-
-#[test]
-fn sealed_section(rt: HostRuntime) -> Result<(), Fail> {
-    let alloc = rt.alloc();
-    let pages = Pages {
-        page_size: 4,
-        cache_pages: 0,
-    };
-    let factory = AppendFactory::<Sha256Seal>::new(8, pages);
-    let mut dev = device(alloc, b"")?;
-    assert_eq!(rt; settled_size(alloc, &mut dev, &factory)?, Some(0));
-    let buffer: PageBlob<Sha256Seal> = made(alloc, &mut dev, &factory)?;
-    assert_eq!(rt; SectionBuffer::size(&buffer), 0);
-    Ok(())
 }

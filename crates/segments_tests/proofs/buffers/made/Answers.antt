@@ -1,5 +1,0 @@
-use Rattle.sealed_pages.proofs.EntryLemmas.{open_entered}
-use Rattle.segments_tests.proofs.buffers.made.Goals as goal
-
-pub create-requires : goal.create-requires
-create-requires g c = record { «open» = open_entered _ _ _ _ c.in_ok-size.ensures.opened }

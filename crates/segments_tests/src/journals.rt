@@ -1,0 +1,162 @@
+// A fixed journal that is open, and the commands over it.
+ghost use Rattle.std.specs.Prelude.{◌≤◌, IfOk};
+ghost use Rattle.segments_tests.specs.Stores.{IsOpen};
+
+use crate::items::Low;
+use crate::reading::{ask, read};
+use crate::replays::replay;
+use crate::said::{Part, Said};
+use crate::store::{Store, or_closed};
+use crate::words::{Told, number};
+use blob_device::Memory;
+use scenario_text::Step;
+use sealed_pages::Pages;
+use segments::fixed::{Config, Journal};
+use segments::journal::Error;
+use std::alloc::Global;
+use value_codec::{Codec, Sha256Seal};
+
+/// A journal of numbers below 100.
+pub type Lows = Journal<Low, Sha256Seal>;
+
+/// How a journal is kept: its partition, the size of a page, that of the write buffer, and how
+/// many pages are held.
+pub fn config(
+    alloc: Global,
+    partition: &str,
+    page: u64,
+    buffer: u64,
+    held: u64,
+) -> Result<Config, Error>
+    ensures { IfOk result (λ r. 1 ≤ r.pages.page_size) }
+{
+    let page_size = u16::try_from(page).unwrap_or(16);
+    Ok(Config {
+        partition: String::from_str(alloc, partition)?,
+        pages: Pages {
+            page_size: page_size.max(1),
+            cache_pages: u32::try_from(held).unwrap_or(0),
+        },
+        write_buffer: buffer as usize,
+    })
+}
+
+/// Opens a journal, up to a section where the step names one.
+pub fn open(alloc: Global, dev: &mut Memory, step: &Step) -> Result<(Store, Said), Error>
+    ensures { IfOk result (λ r. IsOpen dev.new r.0) }
+{
+    let (page, buffer, held) = (number(step, 1), number(step, 2), number(step, 3));
+    let cfg = config(alloc, step.argument(0), page, buffer, held)?;
+    match step.number(4) {
+        Some(ceiling) => {
+            let journal = Journal::init_bounded(alloc, dev, &cfg, ceiling)?;
+            Ok((Store::Items(journal), Said::Done))
+        }
+        None => {
+            let journal = Journal::init(alloc, dev, &cfg)?;
+            Ok((Store::Items(journal), Said::Done))
+        }
+    }
+}
+
+/// Carries out a command over a journal.
+pub fn obey(
+    alloc: Global,
+    journal: Lows,
+    dev: &mut Memory,
+    step: &Step,
+    told: &Told,
+) -> (Store, Result<Said, Error>)
+    requires { IsOpen dev.old (Store.Items journal) }
+    ensures { IsOpen dev.new result.0 }
+{
+    match step.word() {
+        "append" => or_closed(append(alloc, journal, dev, step, told), dev),
+        "sync" | "start-sync" | "sync-all" | "prune" | "clear" | "destroy" => {
+            or_closed(change(journal, dev, step, told), dev)
+        }
+        "cut" => or_closed(cut(journal, dev, number(step, 0), number(step, 1)), dev),
+        "replay" => or_closed(replay(alloc, journal, dev, step), dev),
+        "get" | "last" | "get-many" => {
+            let answer = read(alloc, &journal, dev, step);
+            (Store::Items(journal), answer)
+        }
+        _ => {
+            let answer = ask(alloc, &journal, step);
+            (Store::Items(journal), answer)
+        }
+    }
+}
+
+// Adds numbers to a section, and says their positions. A section that takes none is left as it is.
+fn append(
+    alloc: Global,
+    journal: Lows,
+    dev: &mut Memory,
+    step: &Step,
+    told: &Told,
+) -> Result<(Store, Said), Error>
+    requires { IsOpen dev.old (Store.Items journal) }
+    ensures { IfOk result (λ r. IsOpen dev.new r.0) }
+{
+    let section = number(step, 0);
+    let mut journal = journal;
+    let mut row = Vec::new(alloc);
+    'numbers: for number in told.numbers.as_slice().get(1..).unwrap_or(&[]) {
+        let item = Low { number: *number };
+        if !journal.is_recovered(section) {
+            return Ok((Store::Items(journal), Said::Text("a replay is owed")));
+        }
+        if !item.accepts(()) {
+            return Ok((Store::Items(journal), Said::Text("no item")));
+        }
+        let (next, position) = journal.append(dev, section, &item)?;
+        journal = next;
+        let _ = row.push(Part::Number(position));
+    }
+    Ok((Store::Items(journal), Said::Row(row)))
+}
+
+// Settles or removes sections.
+fn change(journal: Lows, dev: &mut Memory, step: &Step, told: &Told) -> Result<(Store, Said), Error>
+    requires { IsOpen dev.old (Store.Items journal) }
+    ensures { IfOk result (λ r. IsOpen dev.new r.0) }
+{
+    let sections = told.numbers.as_slice();
+    match step.word() {
+        "sync" => Ok((Store::Items(journal.sync(dev, sections)?), Said::Done)),
+        "start-sync" => {
+            let (journal, handle) = journal.start_sync(dev, sections)?;
+            handle.wait();
+            Ok((Store::Items(journal), Said::Done))
+        }
+        "sync-all" => Ok((Store::Items(journal.sync_all(dev)?), Said::Done)),
+        "prune" => {
+            let (journal, was) = journal.prune(dev, number(step, 0))?;
+            Ok((Store::Items(journal), Said::Truth(was)))
+        }
+        "clear" => Ok((Store::Items(journal.clear(dev)?), Said::Done)),
+        _ => {
+            journal.destroy(dev)?;
+            Ok((Store::Closed, Said::Done))
+        }
+    }
+}
+
+// Cuts any section to nothing, or one that owes no replay and has no floor to whole items.
+fn cut(journal: Lows, dev: &mut Memory, section: u64, size: u64) -> Result<(Store, Said), Error>
+    requires { IsOpen dev.old (Store.Items journal) }
+    ensures { IfOk result (λ r. IsOpen dev.new r.0) }
+{
+    let floor = journal.floor_of(section);
+    if size == 0 {
+        let journal = journal.truncate_pending_section(dev, section, 0)?;
+        return Ok((Store::Items(journal), Said::Done));
+    }
+    if !journal.is_recovered(section) || floor != 0 || size % 8 != 0 {
+        let why = "no cut of whole items that are proven";
+        return Ok((Store::Items(journal), Said::Text(why)));
+    }
+    let journal = journal.truncate_pending_section(dev, section, size)?;
+    Ok((Store::Items(journal), Said::Done))
+}
