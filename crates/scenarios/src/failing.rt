@@ -77,20 +77,24 @@ fn is_stopped(nth: u64, whole: &Outcome, failed: &Outcome) -> bool {
 
 /// A mark is the number of calls that the opening and the commands before it make.
 pub fn marks_count(trial: &Trial<'_>) -> Result<String, Stop> {
-    let alloc = trial.alloc;
     let whole = trial.run(&mut trial.device()?, trial.script)?;
-    let mut before = String::new(alloc);
+    let mut len = 0_usize;
     for (line, mark) in trial.script.lines().zip(whole.ended.marks.as_slice()) {
-        let mut dev = trial.device()?;
-        trial.run(&mut dev, before.as_str())?;
-        if dev.calls() != *mark {
-            return Ok(format!(in alloc; "{line} began at call {mark}")?);
+        let before = trial.script.get(..len).unwrap_or("");
+        if calls_of(trial, before)? != *mark {
+            return Ok(format!(in trial.alloc; "{line} did not begin at call {mark}")?);
         }
-        before.push_str(line)?;
-        before.push_str("\n")?;
+        len = len.saturating_add(line.len()).saturating_add(1);
     }
-    if before.as_str() != trial.script {
+    if len != trial.script.len() {
         return Err(Stop::Said("a command was not begun"));
     }
-    ok(alloc)
+    ok(trial.alloc)
+}
+
+// How many calls a run of these lines makes.
+fn calls_of(trial: &Trial<'_>, script: &str) -> Result<u64, Stop> {
+    let mut dev = trial.device()?;
+    trial.run(&mut dev, script)?;
+    Ok(dev.calls())
 }

@@ -53,6 +53,7 @@ pub fn change(stage: &mut Stage, step: &Step) -> Result<String, Stop> {
         _ => damage(alloc, &mut image, step, &name)?,
     }
     stage.dev = Memory::from_image(alloc, image)?;
+    stage.fuse = None;
     ok(alloc)
 }
 

@@ -56,6 +56,11 @@ fn unfound(
     dev: &mut Memory,
 ) -> Result<&'static str, Stop> {
     let alloc = trial.alloc;
+    for one in kept {
+        if !course.sections.contains(&one.section) {
+            return Ok("it has a section of which nothing was put");
+        }
+    }
     let looks = looks_of(trial, course, kept)?;
     let run = trial.run(dev, looks.script.as_str())?;
     if run.ended.status != 0 || run.written.as_str() != looks.replies.as_str() {

@@ -1,7 +1,7 @@
 // Texts that are no run: scripts that are read or refused, and settings.
 use crate::given::{append_text, number, set_number};
 use crate::outcome::{Call, WHOLE, outcome_of};
-use crate::runs::append_line;
+use crate::runs::verdict;
 use crate::stage::Stage;
 use crate::stop::{Stop, ok};
 use archive_service::{ScriptError, plain, read_script};
@@ -37,11 +37,7 @@ fn answered(stage: &Stage, text: &[u8]) -> Result<String, Stop> {
     if !one.is_same(&all) {
         return Err(Stop::Said("streams of a byte change the answer"));
     }
-    let mut said = format!(in alloc; "{}", all.ended.status)?;
-    for (at, line) in all.written.lines().enumerate() {
-        append_line(&mut said, at, line)?;
-    }
-    Ok(said)
+    verdict(alloc, &all, &[])
 }
 
 // How many commands a text is, which the plain program writes as that text; or its first bad line.

@@ -7,7 +7,7 @@ use crate::trial::Trial;
 use crate::{cuts, failing, stopping};
 use blob_device::{Device, FileDevice};
 use scenario_text::Step;
-use std::alloc::{AllocError, Global};
+use std::alloc::Global;
 
 /// Carries out the script over the device.
 pub fn run(rt: &HostRuntime, stage: &mut Stage) -> Result<String, Stop> {
@@ -35,16 +35,6 @@ pub fn run(rt: &HostRuntime, stage: &mut Stage) -> Result<String, Stop> {
     said
 }
 
-/// Appends a line that was written: behind a colon, or behind the lines before it.
-pub fn append_line(said: &mut String, at: usize, line: &str) -> Result<(), AllocError> {
-    if at == 0 {
-        said.push_str(": ")?;
-    } else {
-        said.push_str(" / ")?;
-    }
-    said.push_str(line)
-}
-
 /// What is said of a run whose lines must get these replies: the first other reply, or the status and what was written besides.
 pub fn verdict(alloc: Global, outcome: &Outcome, wanted: &[String]) -> Result<String, Stop> {
     let mut lines = outcome.written.lines();
@@ -55,8 +45,11 @@ pub fn verdict(alloc: Global, outcome: &Outcome, wanted: &[String]) -> Result<St
         }
     }
     let mut said = format!(in alloc; "status {}", outcome.ended.status)?;
-    for (at, line) in lines.enumerate() {
-        append_line(&mut said, at, line)?;
+    let mut is_first = true;
+    for line in lines {
+        said.push_str(if is_first { ": " } else { " / " })?;
+        said.push_str(line)?;
+        is_first = false;
     }
     if said.as_str() == "status 0" {
         return ok(alloc);
