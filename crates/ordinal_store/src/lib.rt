@@ -4,8 +4,7 @@
 mod error;
 mod filed;
 mod lists;
-#[cfg(test)]
-mod plain_set;
+pub mod plain;
 mod range_map;
 
 pub use error::RMapError;

@@ -1,0 +1,5 @@
+use Rattle.ordinal_store.proofs.PlainList.{IsGreatest-from_list}
+use Rattle.ordinal_store.proofs.plain.PlainSet.last.Goals as goal
+
+pub returns : goal.returns
+returns c = rw (← c.deref.ensures.value) (IsGreatest-from_list _ c.greatest.result c.greatest.ensures.empty.0 c.greatest.ensures.contained c.greatest.ensures.greatest)
