@@ -10,6 +10,3 @@ mod log;
 
 pub use error::LogError;
 pub use log::{Appended, append, append_all};
-
-#[cfg(test)]
-mod tests;
