@@ -2,6 +2,7 @@ pub mod Building
 pub mod Bytes
 pub mod CrashLemmas
 pub mod EntryLemmas
+pub mod FootprintLemmas
 pub mod GuardsLemmas
 pub mod HistoryLemmas
 pub mod ImageLemmas

@@ -1,5 +1,6 @@
 -- What this layer means to the layers above: a disk of named blobs, with the history of each at every moment, and what a crash
--- may leave of it (`Disk`, `Change`, `Timeline`); the list of opened blobs (`Opened`) and the counts of calls and faults (`Counts`);
+-- may leave of it (`Disk`, `Change`, `Timeline`); the list of opened blobs (`Opened`) and the counts of calls and faults (`Counts`); what a
+-- call touches of all that (`Footprint`);
 -- sources and sinks of bytes (`Streams`).
 pub mod Agreeing
 pub mod Building
@@ -11,6 +12,7 @@ pub mod Errors
 pub mod Failing
 pub mod FileMeaning
 pub mod FolderNames
+pub mod Footprint
 pub mod Guards
 pub mod Histories
 pub mod Images
