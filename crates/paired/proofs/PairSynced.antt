@@ -185,7 +185,7 @@ module _ {F S : Type 0} {gs : _} (g : buffer.Ghosts (PageBlob S gs)) (gives : F 
   pub values_held_as : (s : ℕ) → IsHeld n s ↔ IsHeld p.values s
   values_held_as s = (λ is. values_held_same told IsNamed decides p.values n o1 o2 d1 d2 values s is, λ is. values_held_on s is)
 
-  values_same_size : (s : ℕ) → glob.section_size n s ≡ glob.section_size p.values s
+  pub values_same_size : (s : ℕ) → glob.section_size n s ≡ glob.section_size p.values s
   values_same_size = values_size told IsNamed decides p.values n o1 o2 d1 d2 values
 
   key_here : (s : ℕ) → key_of k.sections s ≡ section_key p.layout.index s

@@ -14,6 +14,7 @@ module _ {I V S C : Type 0} {fixed_size codec seal : _} (place : List ℕ → �
   -- sections have settled, and no marker has moved
   pub record HasSettledNamed : Type 0 where
     pub lengths : (s : ℕ) → length_of (shown place m) s ≡ length_of (shown place o) s
+    pub sizes : (s : ℕ) → glob.section_size (shown place m).values s ≡ glob.section_size (shown place o).values s
     pub held : (s : ℕ) → IsHeld (shown place m).index.sections s ↔ IsHeld (shown place o).index.sections s
     pub values_held : (s : ℕ) → IsHeld (shown place m).values s ↔ IsHeld (shown place o).values s
     pub named : (s : ℕ) → IsNamed s → synced_length (shown place m) s ≡ length_of (shown place o) s
@@ -34,6 +35,7 @@ module _ {I V S C : Type 0} {fixed_size codec seal : _} (place : List ℕ → �
   sync_of says (Err e) index values synced markers active marked still layout = tt
   sync_of says (Ok v) index values synced markers active marked still layout = record {
     lengths = λ s. ap (λ j. fixed.section_size j.sections s / (shown place o).layout.record_size) index ∙ says.lengths s;
+    sizes = λ s. ap (λ n. glob.section_size n s) values ∙ says.sizes s;
     held = λ s. subst (λ j. IsHeld j.sections s ↔ IsHeld (shown place o).index.sections s) (sym index) (says.held s);
     values_held = λ s. subst (λ n. IsHeld n s ↔ IsHeld (shown place o).values s) (sym values) (says.values_held s);
     named = λ s is. synced s ∙ says.named s is;

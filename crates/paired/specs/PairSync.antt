@@ -14,6 +14,7 @@ module _ {F S : Type 0} {gs : _} (p : Pair F (PageBlob S gs)) (IsNamed IsActive 
   -- The pair r is what a sync of the named sections made of p, which moved the markers of the sections that are not active.
   pub record IsSyncOf (r : Pair F (PageBlob S gs)) : Type 0 where
     pub lengths : (s : ℕ) → length_of r s ≡ length_of p s
+    pub sizes : (s : ℕ) → glob.section_size r.values s ≡ glob.section_size p.values s
     pub held : (s : ℕ) → IsHeld r.index.sections s ↔ IsHeld p.index.sections s
     pub values_held : (s : ℕ) → IsHeld r.values s ↔ IsHeld p.values s
     -- What was synced of the named sections is all of them. No other section changes.

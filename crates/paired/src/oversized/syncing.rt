@@ -174,6 +174,7 @@ impl<I: Record, V: Codec, S: Seal> Oversized<I, V, S> {
         ensures sound { D.Tells → IsSoundOn (shown I.place self) (disk (D.time dev.old)) → IfOk result (λ r. IsSoundOn (shown I.place r) (disk (D.time dev.new))) }
         ensures lists { D.Tells → IfOk result (λ r. (s : ℕ) → list_of (shown I.place r) (disk (D.time dev.new)) s ≡ list_of (shown I.place self) (disk (D.time dev.old)) s) }
         ensures lengths { IfOk result (λ r. (s : ℕ) → length_of (shown I.place r) s ≡ length_of (shown I.place self) s) }
+        ensures sizes { IfOk result (λ r. (s : ℕ) → glob.section_size (shown I.place r).values s ≡ glob.section_size (shown I.place self).values s) }
         ensures held { IfOk result (λ r. (s : ℕ) → IsHeld (shown I.place r).index.sections s ↔ IsHeld (shown I.place self).index.sections s) }
         ensures values_held { IfOk result (λ r. (s : ℕ) → IsHeld (shown I.place r).values s ↔ IsHeld (shown I.place self).values s) }
         ensures same { IfOk result (λ r. (s : ℕ) → (Contains sections.now s → ⊥) → IsSame (shown I.place self).index.sections (shown I.place r).index.sections s × IsSame (shown I.place self).values (shown I.place r).values s) }

@@ -14,7 +14,7 @@ use Rattle.paired.specs.TrackedShown as tracked
 use Rattle.paired.proofs.PairFaultLemmas.{rests_after}
 use Rattle.paired.proofs.PairFailing.{pruned_ok, values_refused, values_failed}
 use Rattle.paired.proofs.PairSettling.{index_entry, values_entry, index_synced_of, values_synced_of, parts_of, settle_index_alone, settle_index_untouched, settle_index_order, settle_index_keeps, settle_alone, settle_untouched, settle_order, settle_keeps}
-use Rattle.paired.proofs.PairSynced.{here_of, values_ready, settled_as, settled_sound_as, lists_same, lengths_same, held_same, values_held_as, named_synced, others_synced}
+use Rattle.paired.proofs.PairSynced.{here_of, values_ready, settled_as, settled_sound_as, lists_same, lengths_same, held_same, values_held_as, values_same_size, named_synced, others_synced}
 use Rattle.paired.proofs.TrackingLemmas.{Noted}
 use Rattle.paired.proofs.oversized.Oversized.settle.Goals as goal
 
@@ -314,6 +314,34 @@ returns-clause-lengths g c =
       store = refl;
     } in
     lengths_same _ _ told p pages named decides k n t.trailing _ _ _ (disk a) (disk b) (disk e) here c.requires.over index values noted
+
+pub returns-clause-sizes : goal.returns-clause-sizes
+returns-clause-sizes g c =
+    let p = shown g.I.Record.place c.args.self in
+    let here = here_of g.I.Record.place c.args.self g.met.I.CodecFixed.fixed.at_least in
+    let pages = are_pages g.row.S g.S.Seal g.S.Seal-dict in
+    let named = Contains c.args.sections.now in
+    let decides = contains_or_not c.args.sections.now in
+    let told = g.D.Device.Tells in
+    let a = g.D.Device.time c.args.dev.now in
+    let b = g.D.Device.time c.sync.new.dev in
+    let k = fixed.shown c.in_ok-this.field-0 in
+    let says = c.in_ok-this.ensures in
+    let index = index_synced_of {told = told} p.layout.seal p.layout.record_size named p.index k (g.D.Device.opened c.args.dev.now) (g.D.Device.opened c.sync.new.dev) a b c.requires.over.index
+    says.named says.none says.others says.unopened says.bounds says.unrecovered says.floors c.sync.ensures.entries c.sync.ensures.moments in
+    let n = manager.shown c.in_ok-this-2.field-0.manager in
+    let puts = c.in_ok-this-2.ensures in
+    let e = g.D.Device.time c.sync-2.new.dev in
+    let values = values_synced_of {told = told} named p.values n (g.D.Device.opened c.sync.new.dev) (g.D.Device.opened c.sync-2.new.dev) b e
+    puts.named puts.none puts.others puts.unopened puts.bounds puts.bytes c.sync-2.ensures.entries c.sync-2.ensures.moments in
+    let t = tracked.shown c.note_synced.new.tracking in
+    let noted : Noted named (λ s. section_size k.sections s / p.layout.record_size) (tracked.shown c.args.self.tracking) (record { store = p.store; trailing = t.trailing }) = record {
+      trails = λ s x trails. (λ same. c.in_ok-note_synced.ensures.trails s x trails (same ∙ ap (λ u. marker_of u.entries s) (sym c.note_synced.ensures.store)));
+      named = λ s is. ap (λ u. unwrap_or (t.trailing s) (marker_of u.entries s)) (sym c.note_synced.ensures.store) ∙ c.in_ok-note_synced.ensures.named s is;
+      others = c.in_ok-note_synced.ensures.others;
+      store = refl;
+    } in
+    values_same_size _ _ told p pages named decides k n t.trailing _ _ _ (disk a) (disk b) (disk e) here c.requires.over index values noted
 
 pub returns-clause-held : goal.returns-clause-held
 returns-clause-held g c =

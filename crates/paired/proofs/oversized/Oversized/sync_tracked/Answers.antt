@@ -107,6 +107,7 @@ returns-clause-synced g c =
     let moving : ((s : ℕ) × IsMoving q (λ _. ⊥) active s) → ((s : ℕ) × IsMoving p named active s) = (λ w. (w.0, moving_after p q named active decides says.store says.named says.others w.0 w.1)) in
     sync_of g.I.Record.place c.args.self c.in_ok-this.this named active (record {
       lengths = says.lengths;
+      sizes = says.sizes;
       held = says.held;
       values_held = says.values_held;
       named = says.named;
