@@ -1,0 +1,91 @@
+// Why the words of a command line are not of the form that is wanted.
+
+use crate::number::{NumberComplaint, complaint_of_number, number_of};
+use std::fmt;
+
+/// The most indices that a section may have room for.
+pub const MOST_ITEMS: u64 = 1 << 20;
+
+/// Why the words are not `DIR prunable ITEMS`. It is the first word that is wrong.
+#[derive(Clone, Copy, Debug)]
+pub enum WordsComplaint<'a> {
+    /// There are no words.
+    NoFolder,
+    /// The first word is empty.
+    EmptyFolder,
+    /// The only word begins with a dash and is no option.
+    UnknownOption(&'a str),
+    /// The second word is missing.
+    NoKind,
+    /// The second word names no kind of archive.
+    UnknownKind(&'a str),
+    /// The third word is missing.
+    NoItems,
+    /// The third word is no number.
+    NoNumber(&'a str, NumberComplaint),
+    /// The third word is a number out of range.
+    OutOfRange(&'a str),
+    /// A fourth word stands there.
+    Further(&'a str),
+}
+
+/// What is wrong with the words of a command line, if anything is.
+pub fn complaint_of_words(words: &[String]) -> Option<WordsComplaint<'_>> {
+    match words {
+        [] => Some(WordsComplaint::NoFolder),
+        [folder, ..] if folder.is_empty() => Some(WordsComplaint::EmptyFolder),
+        [option] if is_option(option.as_str()) => {
+            Some(WordsComplaint::UnknownOption(option.as_str()))
+        }
+        [_] => Some(WordsComplaint::NoKind),
+        [_, kind, ..] if kind.as_str() != "prunable" => {
+            Some(WordsComplaint::UnknownKind(kind.as_str()))
+        }
+        [_, _] => Some(WordsComplaint::NoItems),
+        [_, _, items] => complaint_of_items(items.as_str()),
+        [_, _, items, further, ..] => {
+            complaint_of_items(items.as_str()).or(Some(WordsComplaint::Further(further.as_str())))
+        }
+    }
+}
+
+// Whether a word looks like an option. A dash alone is a folder's place.
+fn is_option(word: &str) -> bool {
+    word.starts_with("-") && word != "-"
+}
+
+fn complaint_of_items(word: &str) -> Option<WordsComplaint<'_>> {
+    if let Some(complaint) = complaint_of_number(word.as_bytes()) {
+        return Some(WordsComplaint::NoNumber(word, complaint));
+    }
+    match number_of(word.as_bytes()) {
+        Some(1..=MOST_ITEMS) => None,
+        _ => Some(WordsComplaint::OutOfRange(word)),
+    }
+}
+
+impl fmt::Display for WordsComplaint<'_> {
+    fn fmt<W: fmt::Write>(&self, f: &mut fmt::Formatter<W>) -> fmt::Result {
+        match self {
+            WordsComplaint::NoFolder => f.write_str("DIR is missing, the folder of the archive"),
+            WordsComplaint::EmptyFolder => {
+                f.write_str("DIR is empty: it is a folder, or - for memory")
+            }
+            WordsComplaint::UnknownOption(word) => write!(f, "{word:?} is no option"),
+            WordsComplaint::NoKind => {
+                f.write_str("the kind of the archive is missing behind DIR: prunable")
+            }
+            WordsComplaint::UnknownKind(word) => {
+                write!(f, "{word:?} is no kind of archive: there is only prunable")
+            }
+            WordsComplaint::NoItems => {
+                f.write_str("ITEMS is missing behind prunable: a number from 1 to 1048576")
+            }
+            WordsComplaint::NoNumber(word, why) => write!(f, "{word:?} is no ITEMS: {why}"),
+            WordsComplaint::OutOfRange(word) => {
+                write!(f, "{word:?} is no ITEMS: it is from 1 to 1048576")
+            }
+            WordsComplaint::Further(word) => write!(f, "{word:?} is one word too many"),
+        }
+    }
+}
