@@ -1,6 +1,6 @@
 -- How a history goes on over one change.
 use Rattle.std.proofs.Common.{◌≡◌, ℕ, ◌/◌, min, max, Bool, true, false, cond, List, [], ◌∷◌, ◌++◌, length, take, refl, sym, ◌∙◌, ap, subst, arith}
-use Rattle.blob_device.specs.declared.history.History.{History}
+use Rattle.blob_device.specs.declared.memory.history.History.{History}
 use Rattle.blob_device.specs.Disk.{Blob, settled_at, shortest, longest}
 use Rattle.blob_device.specs.Change.{Make, Write, during, done, written}
 use Rattle.blob_device.specs.Calls.{result_of}

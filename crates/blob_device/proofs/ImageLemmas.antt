@@ -4,8 +4,8 @@ use Rattle.std.specs.List.{list_all}
 use Rattle.std.specs.Option.{option_map, option_and_then}
 use Rattle.std.specs.declared.alloc.Global.{Global}
 use Rattle.std.proofs.lemmas.Option.{same_Some}
-use Rattle.blob_device.specs.declared.blob_log.BlobLog.{BlobLog}
-use Rattle.blob_device.specs.declared.blob_log.Call.{Call}
+use Rattle.blob_device.specs.declared.memory.blob_log.BlobLog.{BlobLog}
+use Rattle.blob_device.specs.declared.memory.blob_log.Call.{Call}
 use Rattle.blob_device.specs.Disk.{Blob, AbsentIsNothing, nothing, begun}
 use Rattle.blob_device.specs.Calls.{Track, started, now, replay, change_of, writes_bytes, IsSound}
 use Rattle.blob_device.proofs.Replay.{all_below}

@@ -9,7 +9,7 @@ use Rattle.std.specs.Cmp.Lexicographic.{slice_cmp}
 use Rattle.std.specs.declared.alloc.Global.{Global}
 use Rattle.std.proofs.lemmas.Map.Text.{is_eq-slice_cmp}
 use Rattle.std.proofs.lemmas.Slice.Eq.{bytes_eq-Decides}
-use Rattle.blob_device.specs.declared.blob_log.BlobLog.{BlobLog}
+use Rattle.blob_device.specs.declared.memory.blob_log.BlobLog.{BlobLog}
 use Rattle.blob_device.specs.Disk.{Key, Blob, AreNamesIn}
 use Rattle.blob_device.specs.Timeline.{disk}
 use Rattle.blob_device.specs.Laws.{disk_now}

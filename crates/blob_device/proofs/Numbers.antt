@@ -15,8 +15,8 @@ use Rattle.std.proofs.lemmas.Slice.Eq.{bytes_eq-Decides}
 use Rattle.std.proofs.lemmas.List.{get_or-map, length-map}
 use Rattle.std.proofs.lemmas.List.Elements.{Contains-append_left, Contains-append_right, Contains-append_cases}
 use Rattle.std.proofs.lemmas.List.Sums.{take_while-cons, sum_by-cons, sum_by-append}
-use Rattle.blob_device.specs.declared.blob_log.BlobLog.{BlobLog}
-use Rattle.blob_device.specs.declared.crash.Mixer.{Mixer}
+use Rattle.blob_device.specs.declared.memory.blob_log.BlobLog.{BlobLog}
+use Rattle.blob_device.specs.declared.memory.crash.Mixer.{Mixer}
 use Rattle.blob_device.specs.Building.{IsSortedTable, state_in, after_all, state_at}
 use Rattle.blob_device.specs.Calls.{now, replay, no_track}
 use Rattle.blob_device.specs.Disk.{Key, Blob, Disk, same_key}

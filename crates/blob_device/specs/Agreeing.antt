@@ -2,7 +2,7 @@
 use Rattle.std.specs.Prelude.{◌≡◌, ◌⊎◌, ℕ, ◌+◌, ◌/◌, ◌<◌, ◌≤◌, Bool, true, false, cond, List, [], ◌∷◌, ◌++◌, length, take, Option, Some, None}
 use Rattle.std.proofs.Common.{refl, sym, ◌∙◌, inl, inr, get_or, arith, length-take}
 use Rattle.std.specs.List.{AllByRecursion}
-use Rattle.blob_device.specs.declared.blob_log.Call.{Call}
+use Rattle.blob_device.specs.declared.memory.blob_log.Call.{Call}
 use Rattle.blob_device.specs.Disk.{Blob, Outside, Agrees, PastAgrees, shortest, begun}
 use Rattle.blob_device.specs.Change.{Change, Make, Write, Resize, Settle, Remove, Look, written, resized}
 use Rattle.blob_device.specs.Calls.{result_of, change_of, after, replay, now, Track}

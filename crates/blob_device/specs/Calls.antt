@@ -3,9 +3,9 @@ use Rattle.std.specs.Prelude.{◌≡◌, ◌&&◌, ℕ, ◌+◌, ◌*◌, ◌/�
 use Rattle.std.specs.List.{list_all}
 use Rattle.std.specs.Option.{option_map}
 use Rattle.std.specs.declared.alloc.Global.{Global}
-use Rattle.blob_device.specs.declared.blob_log.Call.{Call}
-use Rattle.blob_device.specs.declared.blob_log.Step.{Step}
-use Rattle.blob_device.specs.declared.blob_log.Step.TheVariants as step
+use Rattle.blob_device.specs.declared.memory.blob_log.Call.{Call}
+use Rattle.blob_device.specs.declared.memory.blob_log.Step.{Step}
+use Rattle.blob_device.specs.declared.memory.blob_log.Step.TheVariants as step
 use Rattle.blob_device.specs.Disk.{Key, Blob, AbsentIsNothing, begun}
 use Rattle.blob_device.specs.Change.{Change, Make, Write, Resize, Settle, Remove, Look, during, done, written}
 use Rattle.blob_device.specs.Timeline.{Timeline}

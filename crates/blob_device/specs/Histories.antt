@@ -1,6 +1,6 @@
 -- A history that the code holds tells a blob.
 use Rattle.std.specs.Prelude.{◌≡◌}
-use Rattle.blob_device.specs.declared.history.History.{History}
+use Rattle.blob_device.specs.declared.memory.history.History.{History}
 use Rattle.blob_device.specs.Disk.{Blob, shortest, longest}
 
 pub record IsHistory (h : History) (b : Blob) : Type 0 where

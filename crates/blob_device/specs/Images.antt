@@ -1,7 +1,7 @@
 -- What an image holds.
 use Rattle.std.specs.Prelude.{ℕ, List, Option}
 use Rattle.std.specs.Option.{option_map}
-use Rattle.blob_device.specs.declared.image.Image.{Image}
+use Rattle.blob_device.specs.declared.memory.image.Image.{Image}
 use Rattle.blob_device.specs.Disk.{Key}
 use Rattle.blob_device.specs.Tables.{at_key}
 

@@ -5,7 +5,7 @@ use Rattle.std.specs.List.{list_all}
 use Rattle.std.specs.Option.{option_map}
 use Rattle.std.proofs.lemmas.Bool.{and_parts}
 use Rattle.std.proofs.lemmas.Bool.Decides.{Decides-ltb, nat_tests}
-use Rattle.blob_device.specs.declared.blob_log.Call.{Call}
+use Rattle.blob_device.specs.declared.memory.blob_log.Call.{Call}
 use Rattle.blob_device.specs.Disk.{Key, Blob, settled_at, shortest, longest, least, greatest, AreBytes, HoldsBytes, PastAgrees, AbsentIsNothing, MayLeave, reads, begun}
 use Rattle.blob_device.specs.Change.{Change, Make, Write, Resize, Settle, Remove, Look, during, written, resized}
 use Rattle.blob_device.specs.Timeline.{disk}

@@ -5,7 +5,7 @@ use Rattle.std.specs.List.Sorted.{IsStrictlySortedBy}
 use Rattle.std.specs.Ordering.{nat_cmp}
 use Rattle.std.specs.Cmp.Lexicographic.{slice_cmp}
 use Rattle.std.specs.declared.alloc.Global.{Global}
-use Rattle.blob_device.specs.declared.blob_log.BlobLog.{BlobLog}
+use Rattle.blob_device.specs.declared.memory.blob_log.BlobLog.{BlobLog}
 use Rattle.blob_device.specs.Disk.{Key, Blob}
 use Rattle.blob_device.specs.Calls.{Track, now}
 use Rattle.blob_device.specs.Tracks.{track_of}

@@ -2,8 +2,8 @@
 use Rattle.std.specs.Prelude.{◌≡◌, ℕ, Bool, List, Option, Some, None, Vec}
 use Rattle.std.specs.declared.alloc.Global.{Global}
 use Rattle.std.specs.BTreeMap.{BTreeMap}
-use Rattle.blob_device.specs.declared.blob_log.BlobLog.{BlobLog}
-use Rattle.blob_device.specs.declared.blob_log.Call.{Call}
+use Rattle.blob_device.specs.declared.memory.blob_log.BlobLog.{BlobLog}
+use Rattle.blob_device.specs.declared.memory.blob_log.Call.{Call}
 use Rattle.blob_device.specs.declared.table.Table.{Table}
 use Rattle.blob_device.specs.Disk.{Key, put}
 use Rattle.blob_device.specs.Change.{Change}

@@ -1,17 +1,11 @@
 //! A disk of named blobs, with a model of what a crash at any moment may leave, and sources and sinks of bytes.
 #![tactic(auto)]
 
-mod blob_log;
-mod build;
-mod crash;
 mod device;
 mod error;
 mod failing;
 mod file_device;
-mod history;
-mod image;
 mod io_fault;
-mod logs;
 mod memory;
 mod names;
 mod runtime;
@@ -19,13 +13,11 @@ mod sink;
 mod source;
 mod table;
 
-pub use crash::CrashChoice;
 pub use device::Device;
 pub use error::DevError;
 pub use file_device::FileDevice;
-pub use image::Image;
 pub use io_fault::IoFault;
-pub use memory::Memory;
+pub use memory::{CrashChoice, Image, Memory};
 pub use names::Names;
 pub use runtime::{Handle, RError};
 pub use sink::{MemSink, Sink, StdSink};

@@ -4,7 +4,7 @@ use Rattle.blob_device.specs.Timeline.{disk}
 use Rattle.blob_device.specs.Tables.{at_key}
 use Rattle.blob_device.specs.Calls.{now, timeline_of}
 use Rattle.blob_device.specs.Tracks.{tracks_of}
-use Rattle.blob_device.specs.declared.crash.Mixer.{Mixer}
+use Rattle.blob_device.specs.declared.memory.crash.Mixer.{Mixer}
 use Rattle.blob_device.specs.Images.{contents}
 use Rattle.blob_device.specs.Laws.{disk_now, now_holds_bytes, now_between}
 use Rattle.blob_device.specs.Picked.{mixed_of, free_in, ahead_of}
