@@ -1,5 +1,5 @@
 -- A device made from an image, and images made from a device.
-use Rattle.std.proofs.Common.{◌≡◌, ◌&&◌, ℕ, Bool, not, List, [], Option, Some, None, is_some, Vec, refl, sym, ap, subst}
+use Rattle.std.proofs.Common.{◌≡◌, ◌&&◌, ℕ, not, List, [], Option, Some, None, is_some, Vec, refl, sym, ap, subst}
 use Rattle.std.specs.List.{list_all}
 use Rattle.std.specs.Option.{option_map, option_and_then}
 use Rattle.std.specs.declared.alloc.Global.{Global}
@@ -7,7 +7,7 @@ use Rattle.std.proofs.lemmas.Option.{same_Some}
 use Rattle.blob_device.specs.declared.memory.blob_log.BlobLog.{BlobLog}
 use Rattle.blob_device.specs.declared.memory.blob_log.Call.{Call}
 use Rattle.blob_device.specs.Disk.{Blob, AbsentIsNothing, nothing, begun}
-use Rattle.blob_device.specs.Calls.{Track, started, now, replay, change_of, writes_bytes, IsSound}
+use Rattle.blob_device.specs.Calls.{started, now, replay, change_of, writes_bytes, IsSound}
 use Rattle.blob_device.proofs.Replay.{all_below}
 use Rattle.blob_device.specs.Tracks.{track_of, track_at}
 

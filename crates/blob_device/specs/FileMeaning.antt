@@ -1,5 +1,5 @@
 -- What a device over files means.
-use Rattle.std.specs.Prelude.{ℕ}
+use Rattle.std.specs.Prelude.{ℕ, Bool}
 use Rattle.blob_device.specs.declared.file_device.FileDevice.{FileDevice}
 use Rattle.blob_device.specs.Disk.{nothing}
 use Rattle.blob_device.specs.Opened.{OpenedList}
@@ -14,6 +14,10 @@ module _ {R File Dir : Type 0} where
 
   abbrev pub file_faults : FileDevice R File Dir → ℕ
   file_faults d = d.faults
+
+  -- whether a sync has failed
+  abbrev pub file_lost : FileDevice R File Dir → Bool
+  file_lost d = d.has_lost
 
   abbrev pub file_opened : FileDevice R File Dir → OpenedList
   file_opened d = listed d.opened

@@ -28,6 +28,7 @@ pub mod Opened
 pub mod Picked
 pub mod Places
 pub mod StdStreams
+pub mod Stops
 pub mod Streams
 pub mod Tables
 pub mod Timeline

@@ -1,9 +1,7 @@
 -- The opened list that a device over files keeps.
-use Rattle.std.specs.Prelude.{Option}
 use Rattle.std.specs.Option.{option_map}
 use Rattle.blob_device.specs.declared.file_device.opened.Entry.{Entry}
 use Rattle.blob_device.specs.declared.file_device.opened.OpenedBlobs.{OpenedBlobs}
-use Rattle.blob_device.specs.Disk.{Key}
 use Rattle.blob_device.specs.Opened.{Opened, OpenedList}
 use Rattle.blob_device.specs.Tables.{at_key}
 

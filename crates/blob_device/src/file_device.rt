@@ -1,9 +1,10 @@
 // A device over a folder of a file system: the edge at which the proofs end.
-ghost use Rattle.std.specs.Prelude.{◌≡◌, ◌+◌, ◌<◌, ◌^◌, ◌⊎◌, max, true, false, None, Err, IsSome, OnOk, OnErr, IfOk, IfSome, length};
+ghost use Rattle.std.specs.Prelude.{◌≡◌, ◌+◌, ◌<◌, ◌^◌, ◌⊎◌, ◌≤◌, ◌||◌, max, true, false, None, Err, IsSome, IsSomeAnd, IsErr, IsErrAnd, OnOk, OnErr, IfOk, IfSome, length};
 ghost use Rattle.std.specs.Result.{IsOkUnless, result_ok};
-ghost use Rattle.blob_device.specs.Counts.{Counted};
+ghost use Rattle.blob_device.specs.Counts.{Counted, Noted};
 ghost use Rattle.blob_device.specs.FolderNames.{is_folder_name};
-ghost use Rattle.blob_device.specs.Opened.{entered, updated, left, with_len, one_more_read};
+ghost use Rattle.blob_device.specs.Opened.{entered, updated, left, with_len, one_more_read, PartlyGrown};
+ghost use Rattle.blob_device.specs.Stops.{is_fault, has_failed_to_sync};
 
 mod file;
 mod files;
@@ -37,11 +38,12 @@ pub struct FileDevice<R: Files + Clone + Drop> {
     opened: OpenedBlobs,
     calls: u64,
     faults: u64,
+    has_lost: bool,
     last_failure: Option<String>,
 }
 
 impl<R: Files + Clone + Drop> FileDevice<R> {
-    ghost use Rattle.blob_device.specs.FileMeaning.{file_time, file_faults, file_opened};
+    ghost use Rattle.blob_device.specs.FileMeaning.{file_time, file_faults, file_opened, file_lost};
 
     /// A device over this folder, with no blob opened. It touches no file. An empty root is the working folder.
     pub fn new(rt: &R, alloc: Global, root: &str) -> Result<FileDevice<R>, DevError>
@@ -49,6 +51,7 @@ impl<R: Files + Clone + Drop> FileDevice<R> {
         ensures none_opened { IfOk result (λ d. file_opened d ≡ (λ _. None)) }
         ensures none_made { IfOk result (λ d. (file_time d).calls ≡ 0) }
         ensures no_fault { IfOk result (λ d. file_faults d ≡ 0) }
+        ensures none_lost { IfOk result (λ d. file_lost d ≡ false) }
     {
         Ok(FileDevice {
             alloc,
@@ -56,6 +59,7 @@ impl<R: Files + Clone + Drop> FileDevice<R> {
             opened: OpenedBlobs::new(alloc),
             calls: 0,
             faults: 0,
+            has_lost: false,
             last_failure: None,
         })
     }
@@ -65,6 +69,14 @@ impl<R: Files + Clone + Drop> FileDevice<R> {
         ensures { result ≡ file_faults self.now }
     {
         self.faults
+    }
+
+    /// Whether a sync has failed, so that what it was to write may be lost. It stays so, and no `open_blob`, `sync` or `remove`
+    /// of this device answers Ok again: the system may have dropped the bytes, and a second sync would not tell.
+    pub fn has_lost(&self) -> bool
+        ensures { result ≡ file_lost self.now }
+    {
+        self.has_lost
     }
 
     /// What failed at the last fault, in one line: the call, the file, and the reason. None before the first fault, and where
@@ -78,7 +90,7 @@ impl<R: Files + Clone + Drop> FileDevice<R> {
 
     fn try_scan(&self, alloc: Global, partition: &str) -> Result<Names, Stop>
         ensures folder { OnOk result (is_folder_name partition.now ≡ true) }
-        ensures bad { is_folder_name partition.now ≡ false → result ≡ Err Stop.BadPartition }
+        ensures bad { is_folder_name partition.now ≡ false → IsErrAnd result (λ s. is_fault s ≡ true) }
     {
         Ok(Names::from_vec(self.files.scan(alloc, partition)?))
     }
@@ -87,10 +99,15 @@ impl<R: Files + Clone + Drop> FileDevice<R> {
         ensures ok { IfOk result (λ n. file_opened self.new ≡ entered (file_opened self.old) (partition.now, name.now) n) }
         ensures err { OnErr result (file_opened self.new ≡ file_opened self.old) }
         ensures folder { OnOk result (is_folder_name partition.now ≡ true) }
-        ensures bad { is_folder_name partition.now ≡ false → result ≡ Err Stop.BadPartition }
+        ensures bad { is_folder_name partition.now ≡ false → IsErrAnd result (λ s. is_fault s ≡ true) }
         ensures calls { (file_time self.new).calls ≡ (file_time self.old).calls }
         ensures faults { file_faults self.new ≡ file_faults self.old }
+        ensures lost { file_lost self.new ≡ file_lost self.old }
+        ensures lost_fails { file_lost self.old ≡ true → IsErrAnd result (λ s. is_fault s ≡ true) }
     {
+        if self.has_lost {
+            return Err(Stop::Lost);
+        }
         let len = self.opened.get(partition, name).map(|entry| entry.len);
         let len = self.files.open(partition, name, len)?;
         self.opened.enter(partition, name, len)?;
@@ -108,6 +125,7 @@ impl<R: Files + Clone + Drop> FileDevice<R> {
         ensures opened { file_opened self.new ≡ updated (file_opened self.old) (partition.now, name.now) one_more_read }
         ensures calls { (file_time self.new).calls ≡ (file_time self.old).calls }
         ensures faults { file_faults self.new ≡ file_faults self.old }
+        ensures lost { file_lost self.new ≡ file_lost self.old }
     {
         let len = self.len(partition, name);
         self.opened.begin_read(partition, name);
@@ -127,6 +145,7 @@ impl<R: Files + Clone + Drop> FileDevice<R> {
         ensures err { OnErr result (file_opened self.new ≡ file_opened self.old) }
         ensures calls { (file_time self.new).calls ≡ (file_time self.old).calls }
         ensures faults { file_faults self.new ≡ file_faults self.old }
+        ensures lost { file_lost self.new ≡ file_lost self.old }
     {
         let len = self.len(partition, name);
         self.files.write(partition, name, len, offset, bytes)?;
@@ -141,6 +160,7 @@ impl<R: Files + Clone + Drop> FileDevice<R> {
         ensures err { OnErr result (file_opened self.new ≡ file_opened self.old) }
         ensures calls { (file_time self.new).calls ≡ (file_time self.old).calls }
         ensures faults { file_faults self.new ≡ file_faults self.old }
+        ensures lost { file_lost self.new ≡ file_lost self.old }
     {
         let old = self.len(partition, name);
         self.files.resize(partition, name, old, len)?;
@@ -153,7 +173,12 @@ impl<R: Files + Clone + Drop> FileDevice<R> {
         ensures opened { file_opened self.new ≡ file_opened self.old }
         ensures calls { (file_time self.new).calls ≡ (file_time self.old).calls }
         ensures faults { file_faults self.new ≡ file_faults self.old }
+        ensures lost { file_lost self.new ≡ file_lost self.old }
+        ensures lost_fails { file_lost self.old ≡ true → IsErrAnd result (λ s. is_fault s ≡ true) }
     {
+        if self.has_lost {
+            return Err(Stop::Lost);
+        }
         let len = self.len(partition, name);
         self.files.sync(partition, name, len)
     }
@@ -163,10 +188,15 @@ impl<R: Files + Clone + Drop> FileDevice<R> {
         ensures ok { OnOk result (file_opened self.new ≡ left (file_opened self.old) (partition.now, name.now)) }
         ensures err { OnErr result ((file_opened self.new ≡ file_opened self.old) ⊎ (file_opened self.new ≡ left (file_opened self.old) (partition.now, name.now))) }
         ensures folder { OnOk result (is_folder_name partition.now ≡ true) }
-        ensures bad { is_folder_name partition.now ≡ false → result ≡ Err Stop.BadPartition }
+        ensures bad { is_folder_name partition.now ≡ false → IsErrAnd result (λ s. is_fault s ≡ true) }
         ensures calls { (file_time self.new).calls ≡ (file_time self.old).calls }
         ensures faults { file_faults self.new ≡ file_faults self.old }
+        ensures lost { file_lost self.new ≡ file_lost self.old }
+        ensures lost_fails { file_lost self.old ≡ true → IsErrAnd result (λ s. is_fault s ≡ true) }
     {
+        if self.has_lost {
+            return Err(Stop::Lost);
+        }
         self.files.remove(partition, name)?;
         self.opened.leave(partition, name);
         self.files.settle_removals(partition)
@@ -205,7 +235,9 @@ impl<R: Files + Clone + Drop> FileDevice<R> {
         ensures counts { Counted result (file_faults self.old) (file_faults self.new) (file_time self.old).calls (file_time self.new).calls }
         ensures opened { file_opened self.new ≡ file_opened self.old }
         ensures value { result_ok result ≡ result_ok done }
-        ensures bad { done ≡ Err Stop.BadPartition → result ≡ Err DevError.Fault }
+        ensures refuses { IsErrAnd done (λ s. is_fault s ≡ true) → result ≡ Err DevError.Fault }
+        ensures noted { Noted result (file_faults self.old) (file_faults self.new) (file_lost self.old) (file_lost self.new) }
+        ensures lost { file_lost self.new ≡ (file_lost self.old || has_failed_to_sync done) }
     {
         self.calls = self.calls.saturating_add(1);
         match done {
@@ -213,6 +245,8 @@ impl<R: Files + Clone + Drop> FileDevice<R> {
             Err(Stop::NoMemory) => Err(DevError::Mem),
             Err(stop) => {
                 self.faults = self.faults.saturating_add(1);
+                // A sync that failed may have dropped what it was to write: none is answered by an Ok again.
+                self.has_lost |= matches!(&stop, Stop::Sync(_));
                 self.last_failure = self.failure(call, partition, name, &stop).ok();
                 Err(DevError::Fault)
             }
@@ -221,7 +255,7 @@ impl<R: Files + Clone + Drop> FileDevice<R> {
 }
 
 impl<R: Files + Clone + Drop> Device for FileDevice<R> {
-    ghost use Rattle.blob_device.specs.FileMeaning.{file_time, file_faults, file_opened};
+    ghost use Rattle.blob_device.specs.FileMeaning.{file_time, file_faults, file_opened, file_lost};
 
     ghost Tells = { ⊥ };
 
@@ -243,6 +277,7 @@ impl<R: Files + Clone + Drop> Device for FileDevice<R> {
 
     fn scan(&mut self, alloc: Global, partition: &str) -> Result<Names, DevError>
         ensures counts { Counted result (file_faults self.old) (file_faults self.new) (file_time self.old).calls (file_time self.new).calls }
+        ensures noted { Noted result (file_faults self.old) (file_faults self.new) (file_lost self.old) (file_lost self.new) }
         ensures opened { file_opened self.new ≡ file_opened self.old }
         ensures folder { OnOk result (is_folder_name partition.now ≡ true) }
         ensures bad_folder { is_folder_name partition.now ≡ false → result ≡ Err DevError.Fault }
@@ -253,10 +288,12 @@ impl<R: Files + Clone + Drop> Device for FileDevice<R> {
 
     fn open_blob(&mut self, partition: &str, name: &[u8]) -> Result<u64, DevError>
         ensures counts { Counted result (file_faults self.old) (file_faults self.new) (file_time self.old).calls (file_time self.new).calls }
+        ensures noted { Noted result (file_faults self.old) (file_faults self.new) (file_lost self.old) (file_lost self.new) }
         ensures opened { IfOk result (λ n. file_opened self.new ≡ entered (file_opened self.old) (partition.now, name.now) n) }
         ensures opened_err { OnErr result (file_opened self.new ≡ file_opened self.old) }
         ensures folder { OnOk result (is_folder_name partition.now ≡ true) }
         ensures bad_folder { is_folder_name partition.now ≡ false → result ≡ Err DevError.Fault }
+        ensures lost_fails { file_lost self.old ≡ true → result ≡ Err DevError.Fault }
     {
         let done = self.try_open(partition, name);
         self.end(Call::Open, partition, name, done)
@@ -268,7 +305,12 @@ impl<R: Files + Clone + Drop> Device for FileDevice<R> {
         name: &[u8],
         offset: u64,
         buf: &mut [u8],
-    ) -> Result<(), DevError> {
+    ) -> Result<(), DevError>
+        requires { IsSomeAnd (file_opened self.old (partition.now, name.now)) (λ o. offset + length buf.old ≤ o.len) }
+        ensures counts { Counted result (file_faults self.old) (file_faults self.new) (file_time self.old).calls (file_time self.new).calls }
+        ensures noted { Noted result (file_faults self.old) (file_faults self.new) (file_lost self.old) (file_lost self.new) }
+        ensures opened { file_opened self.new ≡ updated (file_opened self.old) (partition.now, name.now) one_more_read }
+    {
         let done = self.try_read(partition, name, offset, buf);
         self.end(Call::Read, partition, name, done)
     }
@@ -279,27 +321,48 @@ impl<R: Files + Clone + Drop> Device for FileDevice<R> {
         name: &[u8],
         offset: u64,
         bytes: &[u8],
-    ) -> Result<(), DevError> {
+    ) -> Result<(), DevError>
+        requires open { IsSome (file_opened self.old (partition.now, name.now)) }
+        requires fits { offset + length bytes.now < 2 ^ 64 }
+        ensures counts { Counted result (file_faults self.old) (file_faults self.new) (file_time self.old).calls (file_time self.new).calls }
+        ensures noted { Noted result (file_faults self.old) (file_faults self.new) (file_lost self.old) (file_lost self.new) }
+        ensures opened { OnOk result (file_opened self.new ≡ updated (file_opened self.old) (partition.now, name.now) (λ o. with_len (max o.len (offset + length bytes.now)) o)) }
+        ensures opened_err { OnErr result (PartlyGrown (partition.now, name.now) (offset + length bytes.now) (file_opened self.old) (file_opened self.new)) }
+    {
         let done = self.try_write(partition, name, offset, bytes);
         self.end(Call::Write, partition, name, done)
     }
 
-    fn resize(&mut self, partition: &str, name: &[u8], len: u64) -> Result<(), DevError> {
+    fn resize(&mut self, partition: &str, name: &[u8], len: u64) -> Result<(), DevError>
+        requires { IsSome (file_opened self.old (partition.now, name.now)) }
+        ensures counts { Counted result (file_faults self.old) (file_faults self.new) (file_time self.old).calls (file_time self.new).calls }
+        ensures noted { Noted result (file_faults self.old) (file_faults self.new) (file_lost self.old) (file_lost self.new) }
+        ensures opened { OnOk result (file_opened self.new ≡ updated (file_opened self.old) (partition.now, name.now) (with_len len)) }
+        ensures opened_err { OnErr result ((file_opened self.new ≡ file_opened self.old) ⊎ (file_opened self.new ≡ updated (file_opened self.old) (partition.now, name.now) (with_len len))) }
+    {
         let done = self.try_resize(partition, name, len);
         self.end(Call::Resize, partition, name, done)
     }
 
-    fn sync(&mut self, partition: &str, name: &[u8]) -> Result<(), DevError> {
+    fn sync(&mut self, partition: &str, name: &[u8]) -> Result<(), DevError>
+        requires { IsSome (file_opened self.old (partition.now, name.now)) }
+        ensures counts { Counted result (file_faults self.old) (file_faults self.new) (file_time self.old).calls (file_time self.new).calls }
+        ensures noted { Noted result (file_faults self.old) (file_faults self.new) (file_lost self.old) (file_lost self.new) }
+        ensures opened { file_opened self.new ≡ file_opened self.old }
+        ensures lost_fails { file_lost self.old ≡ true → result ≡ Err DevError.Fault }
+    {
         let done = self.try_sync(partition, name);
         self.end(Call::Sync, partition, name, done)
     }
 
     fn remove(&mut self, partition: &str, name: &[u8]) -> Result<(), DevError>
         ensures counts { Counted result (file_faults self.old) (file_faults self.new) (file_time self.old).calls (file_time self.new).calls }
+        ensures noted { Noted result (file_faults self.old) (file_faults self.new) (file_lost self.old) (file_lost self.new) }
         ensures opened { OnOk result (file_opened self.new ≡ left (file_opened self.old) (partition.now, name.now)) }
         ensures opened_err { OnErr result ((file_opened self.new ≡ file_opened self.old) ⊎ (file_opened self.new ≡ left (file_opened self.old) (partition.now, name.now))) }
         ensures folder { OnOk result (is_folder_name partition.now ≡ true) }
         ensures bad_folder { is_folder_name partition.now ≡ false → result ≡ Err DevError.Fault }
+        ensures lost_fails { file_lost self.old ≡ true → result ≡ Err DevError.Fault }
     {
         let done = self.try_remove(partition, name);
         self.end(Call::Remove, partition, name, done)

@@ -5,6 +5,7 @@ mod device;
 mod error;
 mod failing;
 mod file_device;
+mod flushing;
 mod io_fault;
 mod memory;
 mod names;

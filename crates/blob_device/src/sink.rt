@@ -1,11 +1,12 @@
 // Where bytes are written to: the trait, a sink in memory, and one over a writer of std.
-ghost use Rattle.std.specs.Prelude.{◌≡◌, ◌≤◌, ◌<◌, ◌||◌, ◌==◌, min, take, ℕ, Bool, true, false, List, [], length, IfOk, IfSome, OnOk, OnErr};
+ghost use Rattle.std.specs.Prelude.{◌≡◌, ◌≤◌, ◌<◌, ◌||◌, ◌==◌, min, take, ℕ, Bool, true, false, List, [], length, IfOk, OnOk, OnErr};
 ghost use Rattle.std.specs.Result.{IsErrOf, IsOkUnless};
 ghost use Rattle.blob_device.specs.Counts.{next};
 ghost use Rattle.std.specs.Io.KnownBytes.{Appends};
-ghost use Rattle.blob_device.specs.Streams.{Faulted, HasWritten};
+ghost use Rattle.blob_device.specs.Streams.{Faulted, FaultsAre, HasWritten};
 
 use crate::failing::is_in_list;
+use crate::flushing::write_flushed;
 use crate::{DevError, IoFault};
 use std::alloc::Global;
 use std::io::Write;
@@ -138,17 +139,6 @@ impl<W: Write> StdSink<W> {
     {
         StdSink { writer, faults: 0 }
     }
-
-    // None where an error came or nothing was taken.
-    fn write_and_flush(&mut self, bytes: &[u8]) -> Option<usize>
-        ensures faults { write_faults self.new ≡ write_faults self.old }
-        ensures bound { IfSome result (λ n. (0 < n) × (n ≤ length bytes.now)) }
-        ensures written { IfSome result (λ n. Appends (W.contents (writer_of self.old)) (W.contents (writer_of self.new)) (take n bytes.now)) }
-    {
-        let count = self.writer.write(bytes).ok()?;
-        self.writer.flush().ok()?;
-        if count == 0 { None } else { Some(count) }
-    }
 }
 
 impl<W: Write> Sink for StdSink<W> {
@@ -165,9 +155,11 @@ impl<W: Write> Sink for StdSink<W> {
         ensures bound { IfOk result (λ n. (0 < n) × (n ≤ length bytes.now)) }
         ensures faults { Faulted result (write_faults self.old) (write_faults self.new) }
         ensures told { ⊥ → HasWritten result [] [] bytes.now }
+        ensures takes_no_memory { ¬ IsErrOf result IoFault.Mem }
+        ensures counted { FaultsAre result (write_faults self.old) (write_faults self.new) }
         ensures written { IfOk result (λ n. Appends (W.contents (writer_of self.old)) (W.contents (writer_of self.new)) (take n bytes.now)) }
     {
-        match self.write_and_flush(bytes) {
+        match write_flushed(&mut self.writer, bytes) {
             Some(count) => Ok(count),
             None => {
                 self.faults = self.faults.saturating_add(1);

@@ -2,7 +2,7 @@
 ghost use Rattle.std.specs.Prelude.{◌≡◌, ◌≤◌, ◌<◌, ◌||◌, ◌==◌, min, IsSome, take, ℕ, Bool, true, false, List, [], length, IfOk, IsOk, IsErr, OnOk, OnErr, IsErrOf};
 ghost use Rattle.std.specs.Result.{IsOkUnless};
 ghost use Rattle.blob_device.specs.Counts.{next};
-ghost use Rattle.blob_device.specs.Streams.{Faulted, HasRead, known};
+ghost use Rattle.blob_device.specs.Streams.{Faulted, FaultsAre, HasRead, known};
 
 use crate::failing::is_in_list;
 use crate::{DevError, IoFault};
@@ -155,7 +155,14 @@ impl<R: Read> Source for StdSource<R> {
 
     ghost faults = { read_faults };
 
-    fn read(&mut self, buf: &mut [u8]) -> Result<usize, IoFault> {
+    fn read(&mut self, buf: &mut [u8]) -> Result<usize, IoFault>
+        requires { 0 < length buf.old }
+        ensures bound { IfOk result (λ n. n ≤ length buf.new) }
+        ensures faults { Faulted result (read_faults self.old) (read_faults self.new) }
+        ensures takes_no_memory { ¬ IsErrOf result IoFault.Mem }
+        ensures told { ((r : R) → IsSome (R.remaining r)) → HasRead result (known (R.remaining (reader_of self.old))) (known (R.remaining (reader_of self.new))) buf.new }
+        ensures counted { FaultsAre result (read_faults self.old) (read_faults self.new) }
+    {
         match self.reader.read(buf) {
             Ok(count) => Ok(count),
             Err(_) => {
