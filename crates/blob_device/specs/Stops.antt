@@ -1,11 +1,12 @@
 -- What stopped a call on files, as the counts of the device see it.
 use Rattle.std.specs.Prelude.{Bool, true, false, Result, Ok, Err}
 use Rattle.blob_device.specs.declared.file_device.stop.Stop.{Stop}
-use Rattle.blob_device.specs.declared.file_device.stop.Stop.TheVariants.{BadPartition, TooShort, Sync, Lost, System, NoMemory}
+use Rattle.blob_device.specs.declared.file_device.stop.Stop.TheVariants.{BadPartition, InUse, TooShort, Sync, Lost, System, NoMemory}
 
 -- all but the want of memory are faults
 abbrev pub is_fault : Stop → Bool
 is_fault BadPartition = true
+is_fault InUse = true
 is_fault TooShort = true
 is_fault (Sync e) = true
 is_fault Lost = true
@@ -15,6 +16,7 @@ is_fault NoMemory = false
 -- a sync failed
 abbrev pub is_failed_sync : Stop → Bool
 is_failed_sync BadPartition = false
+is_failed_sync InUse = false
 is_failed_sync TooShort = false
 is_failed_sync (Sync e) = true
 is_failed_sync Lost = false

@@ -8,8 +8,11 @@ ghost use Rattle.blob_device.specs.Stops.{is_fault, has_failed_to_sync};
 
 mod file;
 mod files;
+mod folders;
 mod names;
+mod open_files;
 mod opened;
+mod places;
 mod stop;
 
 use crate::{DevError, Device, Names};
@@ -27,10 +30,12 @@ use stop::Stop;
 /// 1 to 64 of the characters a to z, 0 to 9, `_` and `-`; any other is a fault. A blob's name has 1 to 127 bytes: the system
 /// refuses other files, which is a fault too.
 ///
-/// `open_blob` and `sync` sync the file. The names of a partition's files and folder are synced when the device first opens a
-/// blob there, and when it makes or removes a file or folder; the name of the root itself is not. After a sync that failed no
-/// call answers that a blob is settled, since the system may have dropped what it was to write. The device does not tell its
-/// disk: what the system does with the files is outside the proofs.
+/// `open_blob` and `sync` sync the file. The names of a partition's files and folder are synced when the device first opens
+/// a blob there or lists its names, and when it makes or removes a file or folder. A folder that is made for the root, or
+/// above it, is synced into the one above. Of the open files, at most 256, none is closed with writes that are not synced.
+/// After a sync that failed no call answers that a blob is settled ([`has_lost`](FileDevice::has_lost)). A file's length is
+/// looked at when it is opened, before it is changed, and when it settles. The device does not tell its disk: what the
+/// system does with the files is outside the proofs.
 #[derive(Drop)]
 pub struct FileDevice<R: Files + Clone + Drop> {
     alloc: Global,
@@ -53,15 +58,39 @@ impl<R: Files + Clone + Drop> FileDevice<R> {
         ensures no_fault { IfOk result (λ d. file_faults d ≡ 0) }
         ensures none_lost { IfOk result (λ d. file_lost d ≡ false) }
     {
-        Ok(FileDevice {
+        Ok(FileDevice::over(alloc, BlobFiles::new(rt, alloc, root, false)?))
+    }
+
+    /// A device that has this folder alone, with no blob opened. It touches no file yet.
+    ///
+    /// Its first call makes the folder where it is absent, and opens the file `LOCK` in it. Where the runtime refuses that as
+    /// [`WouldBlock`](std::io::ErrorKind::WouldBlock), another program has the folder, and the call is a fault that touches
+    /// nothing. The file stays open as long as the device does. [`HostFiles`](crate::HostFiles) lock it.
+    pub fn alone(rt: &R, alloc: Global, root: &str) -> Result<FileDevice<R>, DevError>
+        ensures memory { IsOkUnless result DevError.Mem }
+        ensures none_opened { IfOk result (λ d. file_opened d ≡ (λ _. None)) }
+        ensures none_made { IfOk result (λ d. (file_time d).calls ≡ 0) }
+        ensures no_fault { IfOk result (λ d. file_faults d ≡ 0) }
+        ensures none_lost { IfOk result (λ d. file_lost d ≡ false) }
+    {
+        Ok(FileDevice::over(alloc, BlobFiles::new(rt, alloc, root, true)?))
+    }
+
+    fn over(alloc: Global, files: BlobFiles<R>) -> FileDevice<R>
+        ensures none_opened { file_opened result ≡ (λ _. None) }
+        ensures none_made { (file_time result).calls ≡ 0 }
+        ensures no_fault { file_faults result ≡ 0 }
+        ensures none_lost { file_lost result ≡ false }
+    {
+        FileDevice {
             alloc,
-            files: BlobFiles::new(rt, alloc, root)?,
+            files,
             opened: OpenedBlobs::new(alloc),
             calls: 0,
             faults: 0,
             has_lost: false,
             last_failure: None,
-        })
+        }
     }
 
     /// How often a call failed, up to the end of a u64. Want of memory does not count.
@@ -88,7 +117,11 @@ impl<R: Files + Clone + Drop> FileDevice<R> {
         }
     }
 
-    fn try_scan(&self, alloc: Global, partition: &str) -> Result<Names, Stop>
+    fn try_scan(&mut self, alloc: Global, partition: &str) -> Result<Names, Stop>
+        ensures opened { file_opened self.new ≡ file_opened self.old }
+        ensures calls { (file_time self.new).calls ≡ (file_time self.old).calls }
+        ensures faults { file_faults self.new ≡ file_faults self.old }
+        ensures lost { file_lost self.new ≡ file_lost self.old }
         ensures folder { OnOk result (is_folder_name partition.now ≡ true) }
         ensures bad { is_folder_name partition.now ≡ false → IsErrAnd result (λ s. is_fault s ≡ true) }
     {
@@ -199,6 +232,7 @@ impl<R: Files + Clone + Drop> FileDevice<R> {
         }
         self.files.remove(partition, name)?;
         self.opened.leave(partition, name);
+        // Settled last: the file is gone by now, and the blob out of the list, whatever comes of this.
         self.files.settle_removals(partition)
     }
 
@@ -220,6 +254,11 @@ impl<R: Files + Clone + Drop> FileDevice<R> {
         name: &[u8],
         stop: &Stop,
     ) -> Result<String, AllocError> {
+        if matches!(stop, Stop::InUse) {
+            // The folder itself is what another program uses.
+            let root = self.files.root();
+            return format!(in self.alloc; "cannot {call} {root:?}: {stop}");
+        }
         let path = self.files.shown_path(partition, name)?;
         format!(in self.alloc; "cannot {call} {path:?}: {stop}")
     }

@@ -1,96 +1,54 @@
-// The files of the blobs below a root folder, of which a bounded number is kept open.
-ghost use Rattle.std.specs.Prelude.{◌≡◌, true, false, Err, OnOk};
+// The files of the blobs below a root folder.
+ghost use Rattle.std.specs.Prelude.{◌≡◌, true, false, IsErrAnd, OnOk};
 ghost use Rattle.blob_device.specs.FolderNames.{is_folder_name};
+ghost use Rattle.blob_device.specs.Stops.{is_fault};
 
-use crate::file_device::file::{read, resize, settle, synced, write};
-use crate::file_device::names::{blob_name, file_path, folder_path, joined};
+use crate::file_device::file::{read, resize, settle, write};
+use crate::file_device::folders::Folders;
+use crate::file_device::names::check_folder_name;
+use crate::file_device::open_files::{Kept, OpenFiles};
+use crate::file_device::places::Places;
 use crate::file_device::stop::Stop;
-use lru::LruCache;
 use std::alloc::{AllocError, Global};
-use std::collections::BTreeSet;
 use std::fs;
-use std::fs::{OpenFile, OpenOptions};
 use std::io::ErrorKind;
-use std::num::NonZeroUsize;
 use std::rt::Files;
 
-// A process may have 1,024 files open by default, and the program needs some of its own.
-const MOST_OPEN: usize = 256;
-
-/// The files of the blobs below a root folder. Those that were used last are open.
+/// The files of the blobs below a root folder.
 #[derive(Drop)]
 pub struct BlobFiles<R: Files + Clone + Drop> {
     rt: R,
-    alloc: Global,
-    root: String,
-    open: LruCache<String, R::File>,
-    // The partitions whose folder outlasts a crash, and those whose files' names do.
-    rooted: BTreeSet<String>,
-    settled: BTreeSet<String>,
-    has_failed_to_sync: bool,
-}
-
-fn open_file<R: Files>(rt: &R, path: &str, makes: bool) -> Result<R::File, Stop> {
-    let mut options = OpenOptions::new();
-    options.read(true).write(true).create(makes);
-    Ok(options.open(rt, path)?)
-}
-
-// Makes the names in a folder outlast a crash.
-fn sync_folder<R: Files>(rt: &R, folder: &str) -> Result<(), Stop> {
-    synced(fs::open(rt, folder)?.sync_all())
-}
-
-// The names of the blobs that have a file in the folder, in any order. A folder that is not there has none.
-fn names_in<R: Files + Clone + Drop>(
-    rt: &R,
-    alloc: Global,
-    folder: &str,
-) -> Result<Vec<Vec<u8>>, Stop> {
-    let mut names = Vec::new(alloc);
-    let rt = (rt.clone()?, alloc);
-    let entries = match fs::read_dir(&rt, folder) {
-        Ok(entries) => entries,
-        Err(e) if e.kind() == ErrorKind::NotFound => return Ok(names),
-        Err(e) => return Err(Stop::from(e)),
-    };
-    for entry in entries {
-        match entry {
-            Ok(entry) => {
-                if let Some(name) = blob_name(alloc, entry.file_name())? {
-                    names.push(name)?;
-                }
-            }
-            // A name that is no text is no blob's.
-            Err(e) if e.kind() == ErrorKind::InvalidFilename => {}
-            Err(e) => return Err(Stop::from(e)),
-        }
-    }
-    Ok(names)
+    places: Places,
+    folders: Folders<R>,
+    open: OpenFiles<R>,
 }
 
 impl<R: Files + Clone + Drop> BlobFiles<R> {
-    /// The files below this folder, or where its name is empty below the working folder. It touches none.
-    pub fn new(rt: &R, alloc: Global, root: &str) -> Result<Self, AllocError> {
+    /// The files below this folder, or where its name is empty below the working folder. It touches none. With `alone` the
+    /// first call takes the folder's lock.
+    pub fn new(rt: &R, alloc: Global, root: &str, alone: bool) -> Result<Self, AllocError> {
         let root = if root.is_empty() { "." } else { root };
         Ok(BlobFiles {
             rt: rt.clone()?,
-            alloc,
-            root: String::from_str(alloc, root)?,
-            open: LruCache::new(alloc, NonZeroUsize::new(MOST_OPEN).unwrap())?,
-            rooted: BTreeSet::new(alloc),
-            settled: BTreeSet::new(alloc),
-            has_failed_to_sync: false,
+            places: Places::new(alloc, root)?,
+            folders: Folders::new(rt, alloc, root, alone)?,
+            open: OpenFiles::new(rt, alloc)?,
         })
     }
 
+    /// The root.
+    pub fn root(&self) -> &str {
+        self.folders.root()
+    }
+
     /// The names of the blobs in a partition, ascending.
-    pub fn scan(&self, alloc: Global, partition: &str) -> Result<Vec<Vec<u8>>, Stop>
+    pub fn scan(&mut self, alloc: Global, partition: &str) -> Result<Vec<Vec<u8>>, Stop>
         ensures folder { OnOk result (is_folder_name partition.now ≡ true) }
-        ensures bad { is_folder_name partition.now ≡ false → result ≡ Err Stop.BadPartition }
+        ensures bad { is_folder_name partition.now ≡ false → IsErrAnd result (λ s. is_fault s ≡ true) }
     {
-        let folder = folder_path(alloc, self.root.as_str(), partition)?;
-        let mut names = names_in(&self.rt, alloc, folder.as_str())?;
+        check_folder_name(partition)?;
+        self.folders.enter()?;
+        let mut names = self.folders.names(alloc, partition)?;
         names.sort()?;
         Ok(names)
     }
@@ -99,74 +57,60 @@ impl<R: Files + Clone + Drop> BlobFiles<R> {
     /// it is opened.
     pub fn open(&mut self, partition: &str, name: &[u8], len: Option<u64>) -> Result<u64, Stop>
         ensures folder { OnOk result (is_folder_name partition.now ≡ true) }
-        ensures bad { is_folder_name partition.now ≡ false → result ≡ Err Stop.BadPartition }
+        ensures bad { is_folder_name partition.now ≡ false → IsErrAnd result (λ s. is_fault s ≡ true) }
     {
-        let folder = folder_path(self.alloc, self.root.as_str(), partition)?;
-        let path = file_path(self.alloc, folder.as_str(), name)?;
-        let opened = self.open_settled(partition, folder.as_str(), path, len);
-        self.noted(opened)
+        check_folder_name(partition)?;
+        self.folders.enter()?;
+        self.open_settled(partition, name, len)
     }
 
     fn open_settled(
         &mut self,
         partition: &str,
-        folder: &str,
-        path: String,
+        name: &[u8],
         len: Option<u64>,
     ) -> Result<u64, Stop> {
-        let file = match self.open.pop(path.as_str()) {
-            Some(file) => file,
-            None => self.find(partition, folder, path.as_str(), len.is_some())?,
-        };
-        self.settle_names(partition, folder)?;
-        let len = settle(&file, len)?;
-        self.keep_open(path, file);
-        Ok(len)
+        let mut kept = self.find(partition, name, len.is_some())?;
+        let settled = self.settle(partition, &mut kept, len);
+        self.keep(partition, name, kept)?;
+        settled
     }
 
     // Opens a file, which is made where the blob is not opened and has none.
     fn find(
         &mut self,
         partition: &str,
-        folder: &str,
-        path: &str,
+        name: &[u8],
         is_opened: bool,
-    ) -> Result<R::File, Stop> {
-        match open_file(&self.rt, path, false) {
+    ) -> Result<Kept<R::File>, Stop> {
+        let place = self.places.get(partition, name)?;
+        match self.open.find(place) {
             Err(Stop::System(e)) if e.kind() == ErrorKind::NotFound && !is_opened => {
-                self.settled.remove(partition);
-                fs::create_dir_all(&self.rt, folder)?;
-                open_file(&self.rt, path, true)
+                // Taken back before the file is made, since its making may fail in between.
+                self.folders.unsettle(partition);
+                self.folders.make(partition)?;
+                self.open.open(place, true)
             }
             found => found,
         }
     }
 
-    // Makes the names of a partition's files, and of its folder, outlast a crash. What is known to do so is not synced again; of what was
-    // there before the device was made nothing is known.
-    fn settle_names(&mut self, partition: &str, folder: &str) -> Result<(), Stop> {
-        if !self.rooted.contains(partition) {
-            sync_folder(&self.rt, self.root.as_str())?;
-            self.rooted
-                .insert(String::from_str(self.alloc, partition)?)?;
-        }
-        if !self.settled.contains(partition) {
-            sync_folder(&self.rt, folder)?;
-            self.settled
-                .insert(String::from_str(self.alloc, partition)?)?;
-        }
-        Ok(())
+    // Settles an open file and its name.
+    fn settle(
+        &mut self,
+        partition: &str,
+        kept: &mut Kept<R::File>,
+        len: Option<u64>,
+    ) -> Result<u64, Stop> {
+        self.folders.settle(partition)?;
+        let len = settle(&kept.file, len)?;
+        kept.is_written = false;
+        Ok(len)
     }
 
-    // A sync that failed may have dropped what it was to write, and a later one would not tell: none is answered by an Ok again.
-    fn noted<T: Drop>(&mut self, settled: Result<T, Stop>) -> Result<T, Stop> {
-        if self.has_failed_to_sync {
-            return Err(Stop::Lost);
-        }
-        if let Err(Stop::Sync(_)) = &settled {
-            self.has_failed_to_sync = true;
-        }
-        settled
+    fn keep(&mut self, partition: &str, name: &[u8], kept: Kept<R::File>) -> Result<(), Stop> {
+        let place = self.places.get(partition, name)?;
+        self.open.keep(place.number, kept)
     }
 
     /// Reads a part of a blob of this length.
@@ -178,11 +122,11 @@ impl<R: Files + Clone + Drop> BlobFiles<R> {
         offset: u64,
         buf: &mut [u8],
     ) -> Result<(), Stop> {
-        let path = self.path(partition, name)?;
-        let mut file = self.take(path.as_str())?;
-        read(&mut file, len, offset, buf)?;
-        self.keep_open(path, file);
-        Ok(())
+        let place = self.places.get(partition, name)?;
+        let mut kept = self.open.take(place, len)?;
+        let done = read(&mut kept.file, offset, buf);
+        self.open.keep(place.number, kept)?;
+        done
     }
 
     /// Writes into a blob of this length.
@@ -194,29 +138,34 @@ impl<R: Files + Clone + Drop> BlobFiles<R> {
         offset: u64,
         bytes: &[u8],
     ) -> Result<(), Stop> {
-        let path = self.path(partition, name)?;
-        let mut file = self.take(path.as_str())?;
-        write(&mut file, len, offset, bytes)?;
-        self.keep_open(path, file);
-        Ok(())
+        let place = self.places.get(partition, name)?;
+        let mut kept = self.open.take(place, len)?;
+        // Marked before, since a write that fails may have written.
+        kept.is_written = true;
+        let done = write(&mut kept.file, len, offset, bytes);
+        self.open.keep(place.number, kept)?;
+        done
     }
 
     /// Gives a blob of the length `old` the length `new`.
     pub fn resize(&mut self, partition: &str, name: &[u8], old: u64, new: u64) -> Result<(), Stop> {
-        let path = self.path(partition, name)?;
-        let file = self.take(path.as_str())?;
-        resize(&file, old, new)?;
-        self.keep_open(path, file);
-        Ok(())
+        let place = self.places.get(partition, name)?;
+        let mut kept = self.open.take(place, old)?;
+        // Marked before, since a cut that fails may have cut.
+        kept.is_written = true;
+        let done = resize(&kept.file, old, new);
+        self.open.keep(place.number, kept)?;
+        done
     }
 
     /// Settles a blob of this length.
     pub fn sync(&mut self, partition: &str, name: &[u8], len: u64) -> Result<(), Stop> {
-        let path = self.path(partition, name)?;
-        let file = self.take(path.as_str())?;
-        let settled = settle(&file, Some(len));
-        self.noted(settled)?;
-        self.keep_open(path, file);
+        let place = self.places.get(partition, name)?;
+        let mut kept = self.open.take(place, len)?;
+        let settled = settle(&kept.file, Some(len));
+        kept.is_written = kept.is_written && settled.is_err();
+        self.open.keep(place.number, kept)?;
+        settled?;
         Ok(())
     }
 
@@ -224,53 +173,31 @@ impl<R: Files + Clone + Drop> BlobFiles<R> {
     /// [`settle_removals`](BlobFiles::settle_removals).
     pub fn remove(&mut self, partition: &str, name: &[u8]) -> Result<(), Stop>
         ensures folder { OnOk result (is_folder_name partition.now ≡ true) }
-        ensures bad { is_folder_name partition.now ≡ false → result ≡ Err Stop.BadPartition }
+        ensures bad { is_folder_name partition.now ≡ false → IsErrAnd result (λ s. is_fault s ≡ true) }
     {
-        let folder = folder_path(self.alloc, self.root.as_str(), partition)?;
-        let path = file_path(self.alloc, folder.as_str(), name)?;
-        self.open.pop(path.as_str());
-        self.settled.remove(partition);
-        match fs::remove_file(&self.rt, path.as_str()) {
-            Ok(()) => Ok(()),
-            Err(e) if e.kind() == ErrorKind::NotFound => Ok(()),
-            Err(e) => Err(Stop::from(e)),
+        check_folder_name(partition)?;
+        self.folders.enter()?;
+        let place = self.places.get(partition, name)?;
+        // Taken back before the removal, since the sync behind it may fail.
+        self.folders.unsettle(partition);
+        match fs::remove_file(&self.rt, place.path.as_str()) {
+            Ok(()) => {}
+            Err(e) if e.kind() == ErrorKind::NotFound => {}
+            Err(e) => return Err(Stop::from(e)),
         }
+        // Closed behind the removal: a file that stays keeps its writes.
+        self.open.leave(place.number);
+        self.places.forget(partition, name);
+        Ok(())
     }
 
-    /// Makes the removals in a partition outlast a crash. It also runs where nothing was removed, since the call that did
-    /// may have failed before it came to this.
+    /// Makes the removals in a partition outlast a crash.
     pub fn settle_removals(&mut self, partition: &str) -> Result<(), Stop> {
-        let folder = folder_path(self.alloc, self.root.as_str(), partition)?;
-        let settled = match fs::open(&self.rt, folder.as_str()) {
-            Ok(folder) => synced(folder.sync_all()),
-            Err(e) if e.kind() == ErrorKind::NotFound => Ok(()),
-            Err(e) => Err(Stop::from(e)),
-        };
-        self.noted(settled)
+        self.folders.settle_removals(partition)
     }
 
     /// The path that a blob's file has or would have, for a message.
     pub fn shown_path(&self, partition: &str, name: &[u8]) -> Result<String, AllocError> {
-        let folder = joined(self.alloc, self.root.as_str(), partition)?;
-        file_path(self.alloc, folder.as_str(), name)
-    }
-
-    fn path(&self, partition: &str, name: &[u8]) -> Result<String, Stop> {
-        let folder = folder_path(self.alloc, self.root.as_str(), partition)?;
-        let path = file_path(self.alloc, folder.as_str(), name)?;
-        Ok(path)
-    }
-
-    // The file is closed where the call fails: only `keep_open` keeps it.
-    fn take(&mut self, path: &str) -> Result<R::File, Stop> {
-        match self.open.pop(path) {
-            Some(file) => Ok(file),
-            None => open_file(&self.rt, path, false),
-        }
-    }
-
-    // Where it finds no memory, it closes the file, and the next call opens it again.
-    fn keep_open(&mut self, path: String, file: R::File) {
-        let _ = self.open.put(path, file);
+        self.places.path(partition, name)
     }
 }

@@ -8,6 +8,9 @@ use crate::file_device::stop::Stop;
 use hex::FromHexError;
 use std::alloc::{AllocError, Global};
 
+/// The file below the root that a device which has the folder alone keeps open and locked. No partition has such a name.
+pub const LOCK_NAME: &str = "LOCK";
+
 fn is_folder_byte(byte: u8) -> bool
     ensures { result ≡ is_folder_byte byte }
 {
@@ -34,16 +37,16 @@ pub fn joined(alloc: Global, folder: &str, name: &str) -> Result<String, AllocEr
     Ok(path)
 }
 
-/// The folder of a partition. A name that is not 1 to 64 of the characters a to z, 0 to 9, `_` and `-` has none.
-pub fn folder_path(alloc: Global, root: &str, partition: &str) -> Result<String, Stop>
+/// Refuses a partition that no folder can be named after: the name has 1 to 64 of the characters a to z, 0 to 9, `_` and `-`.
+pub fn check_folder_name(partition: &str) -> Result<(), Stop>
     ensures folder { OnOk result (is_folder_name partition.now ≡ true) }
     ensures bad { is_folder_name partition.now ≡ false → result ≡ Err Stop.BadPartition }
 {
-    if !is_folder_name(partition.as_bytes()) {
-        return Err(Stop::BadPartition);
+    if is_folder_name(partition.as_bytes()) {
+        Ok(())
+    } else {
+        Err(Stop::BadPartition)
     }
-    let path = joined(alloc, root, partition)?;
-    Ok(path)
 }
 
 /// The file of a blob in its partition's folder.

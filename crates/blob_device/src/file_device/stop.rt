@@ -9,6 +9,9 @@ pub enum Stop {
     /// No folder can have the partition's name.
     #[error("a partition's name has 1 to 64 of the characters a to z, 0 to 9, _ and -")]
     BadPartition,
+    /// Another program has the folder.
+    #[error("another program uses this folder")]
+    InUse,
     /// The file is shorter than the blob has been since it was opened.
     #[error("the file is shorter than the blob")]
     TooShort,

@@ -1,0 +1,104 @@
+// The open files of a device, of which there is a bounded number.
+use crate::file_device::file::{check_len, synced};
+use crate::file_device::places::Place;
+use crate::file_device::stop::Stop;
+use lru::LruCache;
+use std::alloc::{AllocError, Global};
+use std::fs::{OpenFile, OpenOptions};
+use std::num::NonZeroUsize;
+use std::rt::Files;
+
+// A process may have 1,024 files open by default, and the program needs some of its own.
+const MOST_OPEN: usize = 256;
+
+/// An open file, which may have writes that are not synced.
+#[derive(Drop)]
+pub struct Kept<F> {
+    pub file: F,
+    pub is_written: bool,
+}
+
+/// The open files of a device, by the numbers of their places. Those that were used last are kept.
+#[derive(Drop)]
+pub struct OpenFiles<R: Files + Clone + Drop> {
+    rt: R,
+    kept: LruCache<u64, Kept<R::File>>,
+}
+
+/// Opens a file to read and write it. Where it is absent, it is made if `makes` says so.
+pub fn open_file<R: Files>(rt: &R, path: &str, makes: bool) -> Result<R::File, Stop> {
+    let mut options = OpenOptions::new();
+    options.read(true).write(true).create(makes);
+    Ok(options.open(rt, path)?)
+}
+
+// Closes a file. Its writes are synced before, since a failure to write them may never be told to who opens it again.
+fn close<F: OpenFile + Drop>(kept: Kept<F>) -> Result<(), Stop> {
+    if kept.is_written {
+        synced(kept.file.sync_all())?;
+    }
+    Ok(())
+}
+
+impl<R: Files + Clone + Drop> OpenFiles<R> {
+    /// No open files.
+    pub fn new(rt: &R, alloc: Global) -> Result<Self, AllocError> {
+        Ok(OpenFiles {
+            rt: rt.clone()?,
+            kept: LruCache::new(alloc, NonZeroUsize::new(MOST_OPEN).unwrap())?,
+        })
+    }
+
+    /// Takes the file of a blob of this length out of the open ones, or opens it. It comes back by [`keep`](OpenFiles::keep).
+    pub fn take(&mut self, place: &Place, len: u64) -> Result<Kept<R::File>, Stop> {
+        if let Some(kept) = self.kept.pop(&place.number) {
+            return Ok(kept);
+        }
+        let kept = self.open(place, false)?;
+        check_len(&kept.file, len)?;
+        Ok(kept)
+    }
+
+    /// Takes the file of a blob out of the open ones, or opens it, if it is there.
+    pub fn find(&mut self, place: &Place) -> Result<Kept<R::File>, Stop> {
+        match self.kept.pop(&place.number) {
+            Some(kept) => Ok(kept),
+            None => self.open(place, false),
+        }
+    }
+
+    /// Opens the file of a blob, which is made if `makes` says so.
+    pub fn open(&mut self, place: &Place, makes: bool) -> Result<Kept<R::File>, Stop> {
+        self.make_room()?;
+        let file = open_file(&self.rt, place.path.as_str(), makes)?;
+        Ok(Kept {
+            file,
+            is_written: false,
+        })
+    }
+
+    // Closes the file that was not used the longest, where no other could be opened beside it.
+    fn make_room(&mut self) -> Result<(), Stop> {
+        if self.kept.len() < MOST_OPEN {
+            return Ok(());
+        }
+        match self.kept.pop_lru() {
+            Some((_, kept)) => close(kept),
+            None => Ok(()),
+        }
+    }
+
+    /// Keeps a file open. Where there is no memory for that, it is closed, and the next call opens it again.
+    pub fn keep(&mut self, number: u64, kept: Kept<R::File>) -> Result<(), Stop> {
+        match self.kept.push(number, kept) {
+            Ok(Some((_, other))) => close(other),
+            Ok(None) => Ok(()),
+            Err(failed) => close(failed.value.1),
+        }
+    }
+
+    /// Closes the file of a blob that is gone. Its bytes went with it.
+    pub fn leave(&mut self, number: u64) {
+        self.kept.pop(&number);
+    }
+}
