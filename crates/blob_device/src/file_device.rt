@@ -9,6 +9,7 @@ ghost use Rattle.blob_device.specs.Stops.{is_fault, has_failed_to_sync};
 mod file;
 mod files;
 mod folders;
+mod host_files;
 mod names;
 mod open_files;
 mod opened;
@@ -17,6 +18,7 @@ mod stop;
 
 use crate::{DevError, Device, Names};
 use files::BlobFiles;
+pub use host_files::{HostFiles, PlacedFile};
 use opened::OpenedBlobs;
 use std::alloc::{AllocError, Global};
 use std::fmt;

@@ -16,7 +16,7 @@ mod table;
 
 pub use device::Device;
 pub use error::DevError;
-pub use file_device::FileDevice;
+pub use file_device::{FileDevice, HostFiles, PlacedFile};
 pub use io_fault::IoFault;
 pub use memory::{CrashChoice, Image, Memory};
 pub use names::Names;
