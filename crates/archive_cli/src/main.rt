@@ -14,7 +14,7 @@ mod texts;
 
 use archive_service::Status;
 use archive_words::Noting;
-use blob_device::{FileDevice, Memory};
+use blob_device::{DevError, FileDevice, HostFiles, Memory};
 use ran::run_on;
 use std::io::ErrorKind;
 use std::process::ExitCode;
@@ -76,16 +76,24 @@ fn run_in_memory(rt: &HostRuntime, words: &[String]) -> u8
     tell(rt, &ran, device.notebook(), None)
 }
 
-// Runs the program on this folder.
+// Runs the program on this folder, which no other program can use meanwhile.
 fn run_in(rt: &HostRuntime, words: &[String], folder: &str) -> u8
     ensures { result ≤ 7 }
 {
-    let Ok(files) = FileDevice::new(rt, rt.alloc(), folder) else {
+    let Ok(files) = files_of(rt, folder) else {
         return report(rt, Status::NoMemory as u8);
     };
     let mut device = Noting::new(rt.alloc(), files);
     let ran = run_on(rt, words, &mut device);
     tell(rt, &ran, device.notebook(), device.inner().last_failure())
+}
+
+// The device over this folder. Only want of memory refuses it, and it touches no file yet.
+fn files_of(
+    rt: &HostRuntime,
+    folder: &str,
+) -> Result<FileDevice<HostFiles<HostRuntime>>, DevError> {
+    FileDevice::alone(&HostFiles::new(rt)?, rt.alloc(), folder)
 }
 
 fn show(rt: &HostRuntime, text: &str) -> u8

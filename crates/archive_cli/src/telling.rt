@@ -53,6 +53,10 @@ fn tell_bad_line(rt: &HostRuntime, ran: &Ran<'_>) {
         let _ = report(rt, Status::BadScript as u8);
         return;
     };
+    if line.text.is_empty() {
+        let _ = eprintln!(rt; "archive_cli: line {number}: an empty line is no command");
+        return;
+    }
     let text = Shown(line.text);
     let _ = match complaint_of_line(line, Settings::DEFAULT.max_value) {
         Some(complaint) => eprintln!(rt; "archive_cli: line {number}: {text}: {complaint}"),
