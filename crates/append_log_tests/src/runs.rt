@@ -4,7 +4,6 @@ use crate::plain::whole;
 use crate::said::{Said, digits};
 use append_log::LogError;
 use blob_device::{CrashChoice, DevError, Device, Memory};
-use scenario_text::CHOICES;
 use std::alloc::Global;
 
 /// How often a run is made at most.
@@ -84,7 +83,7 @@ fn judged(alloc: Global, dev: &mut Memory, run: Run<'_>) -> Result<Outcome, DevE
 fn crashes(alloc: Global, dev: &Memory, records: &[Vec<u8>]) -> Result<String, DevError> {
     let mut least = usize::MAX;
     let mut most = 0;
-    for choice in CHOICES {
+    for choice in CrashChoice::SAMPLES {
         let bytes = left(alloc, dev, choice)?.unwrap_or(Vec::new(alloc));
         least = least.min(whole(records, &bytes));
         most = most.max(bytes.len());
@@ -103,7 +102,7 @@ fn reopened(alloc: Global, dev: &mut Memory) -> Result<String, DevError> {
 
 // The same, of a log that reads as these bytes.
 fn settled(alloc: Global, dev: &Memory, len: u64, read: &[u8]) -> Result<String, DevError> {
-    for choice in CHOICES {
+    for choice in CrashChoice::SAMPLES {
         if !leaves(alloc, dev, choice, read)? {
             return Ok(String::from_str(alloc, "unsettled")?);
         }

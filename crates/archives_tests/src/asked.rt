@@ -1,8 +1,8 @@
 // Steps that no archive is needed for.
 use crate::records;
 use crate::settings::{Settings, set, usual};
-use blob_device::{DevError, Device, Memory};
-use scenario_text::{CHOICES, Step};
+use blob_device::{CrashChoice, DevError, Device, Memory};
+use scenario_text::Step;
 use std::alloc::{AllocError, Global};
 
 /// What is noted between steps.
@@ -91,7 +91,7 @@ fn length(alloc: Global, dev: &Memory, step: &Step) -> Result<String, AllocError
 // What the fourteen crashes may now leave: each blob with its name, and how many bytes these have.
 fn crashes(alloc: Global, dev: &Memory) -> Result<Vec<u8>, AllocError> {
     let mut all = Vec::new(alloc);
-    for choice in CHOICES {
+    for choice in CrashChoice::SAMPLES {
         let left = dev
             .pick_crash(alloc, choice)
             .and_then(|image| Memory::from_image(alloc, image));

@@ -1,8 +1,7 @@
 // What images hold, by the plain reading and by opening the map.
 use crate::plain::{Entries, number, reading, text_of};
 use crate::session::{Map, opened};
-use blob_device::{DevError, Image, Memory};
-use scenario_text::CHOICES;
+use blob_device::{CrashChoice, DevError, Image, Memory};
 use std::alloc::{AllocError, Global};
 use value_codec::Key;
 
@@ -39,7 +38,7 @@ pub fn judged(alloc: Global, image: &Image) -> Result<String, DevError> {
 pub fn crashes(alloc: Global, dev: &Memory) -> Result<String, DevError> {
     let mut seen: Vec<String> = Vec::new(alloc);
     let mut said = String::new(alloc);
-    for choice in CHOICES {
+    for choice in CrashChoice::SAMPLES {
         let outcome = judged(alloc, &dev.pick_crash(alloc, choice)?)?;
         if !seen.contains(&outcome) {
             let between = if said.is_empty() { "" } else { " or " };

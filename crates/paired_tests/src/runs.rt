@@ -8,8 +8,8 @@ use crate::plainly::is_same;
 use crate::said::text_of;
 use crate::store::{Store, obey};
 use crate::words::{Family, family_of, number};
-use blob_device::{Image, Memory};
-use scenario_text::{CHOICES, Report, Step};
+use blob_device::{CrashChoice, Image, Memory};
+use scenario_text::{Report, Step};
 use segments::journal::Error;
 use std::alloc::{AllocError, Global};
 use std::mem;
@@ -134,7 +134,7 @@ fn judge(
     report: &mut Report,
 ) -> Result<(), AllocError> {
     let mut at = 0_u64;
-    for choice in CHOICES {
+    for choice in CrashChoice::SAMPLES {
         let is_passed = match at {
             0 | 1 | 7 | 11 | 13 => false,
             _ => bench.is_again,

@@ -15,12 +15,10 @@
 //! where one failed.
 #![tactic(auto)]
 
-mod choices;
 mod files;
 mod report;
 mod scenario;
 
-pub use choices::CHOICES;
 pub use files::{Driver, run_files};
 pub use report::Report;
 pub use scenario::{ReadError, Scenario, Step, scenarios_in};

@@ -4,18 +4,17 @@ use crate::owed::course_of;
 use crate::stop::{Stop, ok};
 use crate::trial::{MOST_CALLS, Trial};
 use blob_device::{CrashChoice, Image};
-use scenario_text::CHOICES;
 
 /// All calls from each one on fail. Each crash then leaves what is owed.
 pub fn each_call_stops(trial: &Trial<'_>, least: u64) -> Result<String, Stop> {
     let mut left = Vec::new(trial.alloc);
-    stopped(trial, &CHOICES, least, &mut left)
+    stopped(trial, &CrashChoice::SAMPLES, least, &mut left)
 }
 
 /// The same; and of what is left each image of so many is opened by runs that stop at each call, and loses nothing.
 pub fn stops_twice(trial: &Trial<'_>, step: u64) -> Result<String, Stop> {
     let mut left = Vec::new(trial.alloc);
-    let said = stopped(trial, &CHOICES, 0, &mut left)?;
+    let said = stopped(trial, &CrashChoice::SAMPLES, 0, &mut left)?;
     if said.as_str() != "ok" {
         return Ok(said);
     }

@@ -8,8 +8,8 @@ use crate::pages::adopted;
 use crate::said::{Said, Stop, text_of};
 use crate::store::{Store, obey};
 use crate::words::{Family, family_of, page_size};
-use blob_device::{DevError, Image, Memory, RError};
-use scenario_text::{CHOICES, Report, Step};
+use blob_device::{CrashChoice, DevError, Image, Memory, RError};
+use scenario_text::{Report, Step};
 use sealed_pages::Pages;
 use std::alloc::{AllocError, Global};
 use std::mem;
@@ -153,7 +153,7 @@ fn run_once(
 
 // Notes a failure where a crash now leaves what this step does not name.
 fn judge(alloc: Global, dev: &Memory, owed: &Step, report: &mut Report) -> Result<(), AllocError> {
-    for choice in CHOICES {
+    for choice in CrashChoice::SAMPLES {
         let Ok(image) = dev.pick_crash(alloc, choice) else {
             return Err(AllocError);
         };

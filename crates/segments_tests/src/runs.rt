@@ -8,7 +8,7 @@ use crate::said::text_of;
 use crate::store::{Store, obey};
 use crate::words::read_words;
 use blob_device::{CrashChoice, DevError, Memory};
-use scenario_text::{CHOICES, Report, Step};
+use scenario_text::{Report, Step};
 use std::alloc::{AllocError, Global};
 use std::mem;
 
@@ -164,7 +164,7 @@ fn run_once(
     }
     let after = run.get(end.saturating_add(1)..).unwrap_or(&[]);
     let at = play(alloc, dev, run, report)?;
-    for choice in CHOICES {
+    for choice in CrashChoice::SAMPLES {
         let played = match crashed(alloc, dev, choice) {
             Ok(mut left) => play(alloc, &mut left, after, report),
             Err(_) => Err(AllocError),
