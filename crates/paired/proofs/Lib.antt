@@ -20,6 +20,7 @@ pub mod PairAppended
 pub mod TrackingLemmas
 pub mod PlainLemmas
 pub mod PairFailing
+pub mod PairPassing
 pub mod PairFullMarkers
 pub mod PairRemoved
 pub mod PairRemoving
