@@ -94,3 +94,25 @@ reads_still n k old = record { others = λ q other. refl; length = λ len is. is
 -- a section with bytes is held
 pub not_empty : {F S : Type 0} {gs : _} (m : Sections F (PageBlob S gs)) (s : ℕ) → (section_size m s ≡ 0 → ⊥) → m.held s ≡ None → ⊥
 not_empty m s some none = some (ap size_held none)
+
+-- a section below the floor, or such a failure, before the markers
+module _ {T U : Type 0} (r : Result T Error) (e : Error) (floor n m : ℕ) (is : r ≡ Err e) (cause : IsPruned {T = U} (Err e) floor ⊎ HasFailed {T = U} (Err e) n m) where
+  pub settled_cause : OnErr r (IsPruned r floor ⊎ (IsErrOf r Full ⊎ (HasFailed r n m ⊎ HasLostMarkers r n m)))
+  settled_cause = err_with r (elim cause [
+    | inl pruned ↦ inl (cc (is, pruned))
+    | inr failed ↦ inr (inr (inl (failed_as {U = U} r e n m is failed)))
+  ])
+
+  pub settled_full : IsErrOf r Full → ⊥
+  settled_full full = elim cause [
+    | inl pruned ↦ cc (is, pruned, full)
+    | inr (inl none) ↦ cc (is, none, full)
+    | inr (inr (fault, rose)) ↦ cc (is, fault, full)
+  ]
+
+  pub settled_lost : HasLostMarkers r n m → ⊥
+  settled_lost (lost, more) = elim cause [
+    | inl pruned ↦ cc (is, pruned, lost)
+    | inr (inl none) ↦ cc (is, none, lost)
+    | inr (inr (fault, rose)) ↦ cc (is, fault, lost)
+  ]

@@ -13,7 +13,7 @@ use Rattle.paired.specs.Crashes.{IsBlobOf, IsCopy, IsIndexOf, IsOwn, IsValuesOf,
 use Rattle.paired.specs.Kept.{Layout}
 use Rattle.paired.specs.Pair.{IsSoundOn, IsMoving, list_of, synced_length}
 use Rattle.paired.specs.PairShown.{shown}
-use Rattle.paired.proofs.PairMarked.{moving_after, moving_before, if_ok, if_both}
+use Rattle.paired.proofs.PairMarked.{moving_after, moving_before, if_ok}
 use Rattle.paired.proofs.PairFaultLemmas.{before_them_as, before_markers, rests_still}
 use Rattle.paired.proofs.PairFailing.{pruned_ok, not_pruned, lost_since, markers_failed}
 use Rattle.paired.proofs.PairSettling.{copy_no_blob, own_blob, in_order, in_order_then, keeping_wider}
@@ -21,328 +21,151 @@ use Rattle.paired.proofs.PairMoments.{keeping_then}
 use Rattle.paired.proofs.PairPruned.{pruned_as}
 use Rattle.paired.proofs.PairSynced.{layout_as}
 use Rattle.paired.proofs.PairSyncing.{sync_of}
+use Rattle.paired.proofs.PairPassing.{no_value, settled_cause, settled_full, settled_lost}
 use Rattle.paired.proofs.oversized.Oversized.sync_tracked.Goals as goal
 
-pub returns-in_err-this-clause-moments : goal.returns-in_err-this-clause-moments
-returns-in_err-this-clause-moments g c t =
+pub returns-in_err-this : goal.returns-in_err-this
+returns-in_err-this g c =
+    let is = err_of c.from_residual.result c.in_err-this.field-0.0 c.from_residual.ensures.1 in
     let p = shown g.I.Record.place c.args.self in
     let named = Contains c.args.sections.now in
-    let active = Contains c.args.active.now in
     let a = g.D.Device.time c.args.dev.now in
     let b = g.D.Device.time c.settle.new.dev in
-    let copies : Always a b (λ d. (k : Key) → IsCopy p.layout k → d k ≡ disk a k) = always_weaker a b (λ d. (k : Key) → (IsBlobOf p.layout named k → ⊥) → d k ≡ disk a k) (λ d. (k : Key) → IsCopy p.layout k → d k ≡ disk a k)
-    (λ d only k is. only k (copy_no_blob p.layout named c.requires.over.apart k is)) (c.settle.ensures.alone t) in
-    let first : Always a b (λ d. (k : Key) → (IsOwn p.layout (λ s. named s × IsHeld p.index.sections s) k → ⊥) → d k ≡ disk a k) = always_weaker a b (λ d. (k : Key) → (IsBlobOf p.layout (λ s. named s × IsHeld p.index.sections s) k → ⊥) → d k ≡ disk a k)
-    (λ d. (k : Key) → (IsOwn p.layout (λ s. named s × IsHeld p.index.sections s) k → ⊥) → d k ≡ disk a k) (λ d only k not. only k (λ is. not (own_blob p.layout (λ s. named s × IsHeld p.index.sections s) k is))) (c.settle.ensures.untouched t) in
     let newer = blob_of p.layout.metadata (other_side p.store.older) in
-    let newer_first : Always a b (λ d. d newer ≡ disk a newer) = always_weaker a b (λ d. (k : Key) → IsCopy p.layout k → d k ≡ disk a k) (λ d. d newer ≡ disk a newer) (λ d same. same newer (other_side p.store.older, refl)) copies in
-    let settles : IsSoundOn p (disk a) → Keeping p.layout (list_of p (disk a)) (synced_length p) (λ _. ⊥) (IsOwn p.layout named) a b = λ sound. keeping_wider p.layout (list_of p (disk a)) (list_of p (disk a)) (synced_length p) (synced_length p) (λ _. ⊥) (IsBlobOf p.layout named) (IsOwn p.layout named) a b
-    (λ s. take-length (list_of p (disk a) s)) (λ s. omega arith) (own_blob p.layout named) (c.settle.ensures.moments t sound) in
+    let r = c.from_residual.result in
+    let e = c.in_err-this.field-0.0 in
     record {
-      moments = settles;
-      alone = λ none. copies;
-      untouched = first;
-      newer_stays = newer_first;
-      order = c.settle.ensures.order t;
-      markers_last = always_weaker a b (λ d. (k : Key) → IsCopy p.layout k → d k ≡ disk a k)
-          (λ d. ((k : Key) → IsCopy p.layout k → d k ≡ disk a k) ⊎ ((k : Key) → IsBlobOf p.layout named k → d k ≡ disk b k)) (λ d same. inl same) copies;
+      over = no_value _ _ c.from_residual.ensures.0;
+      sound = λ t sound. no_value _ _ c.from_residual.ensures.0;
+      lists = λ t. no_value _ _ c.from_residual.ensures.0;
+      synced = no_value _ _ c.from_residual.ensures.0;
+      codec_config = no_value _ _ c.from_residual.ensures.0;
+      moments = λ t.
+          let copies : Always a b (λ d. (k : Key) → IsCopy p.layout k → d k ≡ disk a k) = always_weaker a b (λ d. (k : Key) → (IsBlobOf p.layout named k → ⊥) → d k ≡ disk a k) (λ d. (k : Key) → IsCopy p.layout k → d k ≡ disk a k)
+          (λ d only k is. only k (copy_no_blob p.layout named c.requires.over.apart k is)) (c.settle.ensures.alone t) in
+          let first : Always a b (λ d. (k : Key) → (IsOwn p.layout (λ s. named s × IsHeld p.index.sections s) k → ⊥) → d k ≡ disk a k) = always_weaker a b (λ d. (k : Key) → (IsBlobOf p.layout (λ s. named s × IsHeld p.index.sections s) k → ⊥) → d k ≡ disk a k)
+          (λ d. (k : Key) → (IsOwn p.layout (λ s. named s × IsHeld p.index.sections s) k → ⊥) → d k ≡ disk a k) (λ d only k not. only k (λ is. not (own_blob p.layout (λ s. named s × IsHeld p.index.sections s) k is))) (c.settle.ensures.untouched t) in
+          let newer_first : Always a b (λ d. d newer ≡ disk a newer) = always_weaker a b (λ d. (k : Key) → IsCopy p.layout k → d k ≡ disk a k) (λ d. d newer ≡ disk a newer) (λ d same. same newer (other_side p.store.older, refl)) copies in
+          let settles : IsSoundOn p (disk a) → Keeping p.layout (list_of p (disk a)) (synced_length p) (λ _. ⊥) (IsOwn p.layout named) a b = λ sound. keeping_wider p.layout (list_of p (disk a)) (list_of p (disk a)) (synced_length p) (synced_length p) (λ _. ⊥) (IsBlobOf p.layout named) (IsOwn p.layout named) a b
+          (λ s. take-length (list_of p (disk a) s)) (λ s. omega arith) (own_blob p.layout named) (c.settle.ensures.moments t sound) in
+          record {
+            moments = settles;
+            alone = λ none. copies;
+            untouched = first;
+            newer_stays = newer_first;
+            order = c.settle.ensures.order t;
+            markers_last = always_weaker a b (λ d. (k : Key) → IsCopy p.layout k → d k ≡ disk a k)
+                (λ d. ((k : Key) → IsCopy p.layout k → d k ≡ disk a k) ⊎ ((k : Key) → IsBlobOf p.layout named k → d k ≡ disk b k)) (λ d same. inl same) copies;
+          };
+      guard = pruned_as r e _ _ (err_of r e c.from_residual.ensures.1) c.in_err-this.ensures.guard;
+      refuses = c.settle.ensures.refuses;
+      idle = λ none still. c.settle.ensures.idle none;
+      entries = λ k not. c.settle.ensures.entries k (λ is. not (own_blob p.layout named k is));
+      full = λ full. absurd (settled_full c.from_residual.result c.in_err-this.field-0.0 _ _ _ is c.in_err-this.ensures.cause full);
+      no_version = λ long some. no_value _ _ c.from_residual.ensures.0;
+      lost = λ lost. absurd (settled_lost c.from_residual.result c.in_err-this.field-0.0 _ _ _ is c.in_err-this.ensures.cause lost);
+      fault = λ t.
+          before_markers p named r _ _ a b
+          (always_weaker a b (λ d. (k : Key) → (IsBlobOf p.layout named k → ⊥) → d k ≡ disk a k) (λ d. (k : Key) → IsCopy p.layout k → d k ≡ disk a k)
+          (λ d only k is. only k (copy_no_blob p.layout named c.requires.over.apart k is)) (c.settle.ensures.alone t))
+          (before_them_as r e _ _ _ _ _ (err_of r e c.from_residual.ensures.1) c.in_err-this.ensures.cause);
+      faults = c.settle.ensures.faults;
+      cause = settled_cause c.from_residual.result c.in_err-this.field-0.0 _ _ _ is c.in_err-this.ensures.cause;
     }
 
-pub returns-clause-moments : goal.returns-clause-moments
-returns-clause-moments g c t =
+pub returns : goal.returns
+returns g c =
     let p = shown g.I.Record.place c.args.self in
     let named = Contains c.args.sections.now in
     let active = Contains c.args.active.now in
+    let decides = contains_or_not c.args.sections.now in
     let a = g.D.Device.time c.args.dev.now in
     let b = g.D.Device.time c.settle.new.dev in
-    let decides = contains_or_not c.args.sections.now in
     let q = shown g.I.Record.place c.in_ok-this.this in
     let says = c.in_ok-this.ensures in
     let e = g.D.Device.time c.move_markers.new.dev in
+    let r = c.move_markers.result in
     let moves = c.move_markers.ensures in
     let layouts : q.layout ≡ p.layout = layout_as p.layout q.layout.index q.layout.values q.layout.metadata q.layout.page_size says.layout.index says.layout.values says.layout.metadata says.layout.page_size in
-    let copies : Always a b (λ d. (k : Key) → IsCopy p.layout k → d k ≡ disk a k) = always_weaker a b (λ d. (k : Key) → (IsBlobOf p.layout named k → ⊥) → d k ≡ disk a k) (λ d. (k : Key) → IsCopy p.layout k → d k ≡ disk a k)
-    (λ d only k is. only k (copy_no_blob p.layout named c.requires.over.apart k is)) (c.settle.ensures.alone t) in
-    let first : Always a b (λ d. (k : Key) → (IsOwn p.layout (λ s. named s × IsHeld p.index.sections s) k → ⊥) → d k ≡ disk a k) = always_weaker a b (λ d. (k : Key) → (IsBlobOf p.layout (λ s. named s × IsHeld p.index.sections s) k → ⊥) → d k ≡ disk a k)
-    (λ d. (k : Key) → (IsOwn p.layout (λ s. named s × IsHeld p.index.sections s) k → ⊥) → d k ≡ disk a k) (λ d only k not. only k (λ is. not (own_blob p.layout (λ s. named s × IsHeld p.index.sections s) k is))) (c.settle.ensures.untouched t) in
-    let newer = blob_of p.layout.metadata (other_side p.store.older) in
-    let newer_first : Always a b (λ d. d newer ≡ disk a newer) = always_weaker a b (λ d. (k : Key) → IsCopy p.layout k → d k ≡ disk a k) (λ d. d newer ≡ disk a newer) (λ d same. same newer (other_side p.store.older, refl)) copies in
-    let settles : IsSoundOn p (disk a) → Keeping p.layout (list_of p (disk a)) (synced_length p) (λ _. ⊥) (IsOwn p.layout named) a b = λ sound. keeping_wider p.layout (list_of p (disk a)) (list_of p (disk a)) (synced_length p) (synced_length p) (λ _. ⊥) (IsBlobOf p.layout named) (IsOwn p.layout named) a b
-    (λ s. take-length (list_of p (disk a) s)) (λ s. omega arith) (own_blob p.layout named) (c.settle.ensures.moments t sound) in
-    let blobs : Always b e (λ d. (k : Key) → IsBlobOf p.layout named k → d k ≡ disk b k) = always_weaker b e (λ d. (k : Key) → (IsCopy q.layout k → ⊥) → d k ≡ disk b k) (λ d. (k : Key) → IsBlobOf p.layout named k → d k ≡ disk b k)
-    (λ d only k is. only k (λ copy. copy_no_blob p.layout named c.requires.over.apart k (subst (λ l. IsCopy l k) layouts copy) is)) (moves.alone t) in
     let moving : ((s : ℕ) × IsMoving q (λ _. ⊥) active s) → ((s : ℕ) × IsMoving p named active s) = (λ w. (w.0, moving_after p q named active decides says.store says.named says.others w.0 w.1)) in
+    let newer = blob_of p.layout.metadata (other_side p.store.older) in
     let later = blob_of q.layout.metadata (other_side q.store.older) in
     let same_newer : later ≡ newer = ap (λ l. blob_of l.metadata (other_side q.store.older)) layouts ∙ ap (λ u. blob_of p.layout.metadata (other_side u.older)) says.store in
     let more : (s : ℕ) → synced_length p s ≤ synced_length q s = (λ s. elim (decides s) [
       | inl is ↦ omega (arith, says.named s is, c.requires.over.settled.lengths s)
       | inr not ↦ omega (arith, says.others s not)
     ]) in
+    let moved : ((s : ℕ) × IsMoving p named active s) → ((s : ℕ) × IsMoving q (λ _. ⊥) active s) = (λ w. (w.0, moving_before p q named active decides says.store says.named says.others w.0 w.1)) in
     record {
-      moments = λ sound. keeping_then p.layout (list_of p (disk a)) (synced_length p) (λ _. ⊥) (IsOwn p.layout named) a b e (settles sound)
-          (keeping_wider p.layout (list_of q (disk b)) (list_of p (disk a)) (synced_length q) (synced_length p) (λ _. ⊥) (IsCopy p.layout) (IsOwn p.layout named) b e
-          (λ s. ap (take (length (list_of q (disk b) s))) (sym (says.lists t s)) ∙ take-length (list_of q (disk b) s)) more (λ k is. inr (inr is))
-          (subst (λ (l : Layout). Keeping l (list_of q (disk b)) (synced_length q) (λ _. ⊥) (IsCopy l) b e) layouts (moves.moments t (says.sound t sound))));
-      alone = λ none. subst (λ dev. Always a (g.D.Device.time dev) (λ d. (k : Key) → IsCopy p.layout k → d k ≡ disk a k)) (sym (moves.still (λ w. none (moving w))).0) copies;
-      untouched = always_then a b e (λ d. (k : Key) → (IsOwn p.layout (λ s. named s × IsHeld p.index.sections s) k → ⊥) → d k ≡ disk a k) first (always_weaker b e (λ d. (k : Key) → (IsCopy q.layout k → ⊥) → d k ≡ disk b k) (λ d. (k : Key) → (IsOwn p.layout (λ s. named s × IsHeld p.index.sections s) k → ⊥) → d k ≡ disk a k)
-          (λ d only k not. only k (λ copy. not (inr (inr (subst (λ l. IsCopy l k) layouts copy)))) ∙ always_now a b (λ d. (k : Key) → (IsOwn p.layout (λ s. named s × IsHeld p.index.sections s) k → ⊥) → d k ≡ disk a k) first k not) (moves.alone t));
-      newer_stays = always_then a b e (λ d. d newer ≡ disk a newer) newer_first (always_weaker b e (λ d. d later ≡ disk b later) (λ d. d newer ≡ disk a newer)
-          (λ d same. subst (λ k. d k ≡ disk b k) same_newer same ∙ always_now a b (λ d. d newer ≡ disk a newer) newer_first) (moves.newer_stays t));
-      order = in_order_then (IsIndexOf p.layout named) (IsValuesOf p.layout named) a b e (c.settle.ensures.order t)
-          (always_weaker b e (λ d. (k : Key) → IsBlobOf p.layout named k → d k ≡ disk b k) (λ d. (k : Key) → IsIndexOf p.layout named k → d k ≡ disk b k) (λ d same k is. same k (inl is)) blobs);
-      markers_last = in_order (IsBlobOf p.layout named) (IsCopy p.layout) a b e copies blobs;
-    }
-
-pub returns-clause-synced : goal.returns-clause-synced
-returns-clause-synced g c =
-    let p = shown g.I.Record.place c.args.self in
-    let named = Contains c.args.sections.now in
-    let active = Contains c.args.active.now in
-    let a = g.D.Device.time c.args.dev.now in
-    let b = g.D.Device.time c.settle.new.dev in
-    let decides = contains_or_not c.args.sections.now in
-    let q = shown g.I.Record.place c.in_ok-this.this in
-    let says = c.in_ok-this.ensures in
-    let moves = c.move_markers.ensures in
-    let moving : ((s : ℕ) × IsMoving q (λ _. ⊥) active s) → ((s : ℕ) × IsMoving p named active s) = (λ w. (w.0, moving_after p q named active decides says.store says.named says.others w.0 w.1)) in
-    sync_of g.I.Record.place c.args.self c.in_ok-this.this named active (record {
-      lengths = says.lengths;
-      sizes = says.sizes;
-      held = says.held;
-      values_held = says.values_held;
-      named = says.named;
-      settled = says.settled;
-      same = says.same;
-      others = says.others;
-      store = says.store;
-      bounds = says.bounds;
-      layout = says.layout;
-    }) c.move_markers.result moves.index moves.values moves.synced moves.markers moves.active moves.marked (λ none. (moves.still (λ w. none (moving w))).1) moves.layout
-
-pub returns-clause-entries : goal.returns-clause-entries
-returns-clause-entries g c k not =
-    let p = shown g.I.Record.place c.args.self in
-    let named = Contains c.args.sections.now in
-    let active = Contains c.args.active.now in
-    let decides = contains_or_not c.args.sections.now in
-    let a = g.D.Device.time c.args.dev.now in
-    let b = g.D.Device.time c.settle.new.dev in
-    let q = shown g.I.Record.place c.in_ok-this.this in
-    let says = c.in_ok-this.ensures in
-    let e = g.D.Device.time c.move_markers.new.dev in
-    let r = c.move_markers.result in
-    let moves = c.move_markers.ensures in
-    let layouts : q.layout ≡ p.layout = layout_as p.layout q.layout.index q.layout.values q.layout.metadata q.layout.page_size says.layout.index says.layout.values says.layout.metadata says.layout.page_size in
-    moves.entries k (λ is. not (inr (inr (subst (λ l. IsCopy l k) layouts is)))) ∙ c.settle.ensures.entries k (λ is. not (own_blob p.layout named k is))
-
-pub returns-in_err-this-clause-entries : goal.returns-in_err-this-clause-entries
-returns-in_err-this-clause-entries g c k not =
-    let p = shown g.I.Record.place c.args.self in
-    let named = Contains c.args.sections.now in
-    let active = Contains c.args.active.now in
-    let decides = contains_or_not c.args.sections.now in
-    let a = g.D.Device.time c.args.dev.now in
-    let b = g.D.Device.time c.settle.new.dev in
-    c.settle.ensures.entries k (λ is. not (own_blob p.layout named k is))
-
-pub returns-clause-guard : goal.returns-clause-guard
-returns-clause-guard g c =
-    let p = shown g.I.Record.place c.args.self in
-    let named = Contains c.args.sections.now in
-    let active = Contains c.args.active.now in
-    let decides = contains_or_not c.args.sections.now in
-    let a = g.D.Device.time c.args.dev.now in
-    let b = g.D.Device.time c.settle.new.dev in
-    let q = shown g.I.Record.place c.in_ok-this.this in
-    let says = c.in_ok-this.ensures in
-    let e = g.D.Device.time c.move_markers.new.dev in
-    let r = c.move_markers.result in
-    let moves = c.move_markers.ensures in
-    let layouts : q.layout ≡ p.layout = layout_as p.layout q.layout.index q.layout.values q.layout.metadata q.layout.page_size says.layout.index says.layout.values says.layout.metadata says.layout.page_size in
-    (λ is. absurd (not_pruned r p.index.sections.floor _ _ moves.cause is), λ w. absurd (pruned_ok _ _ (says.guard.1 w)))
-
-pub returns-clause-refuses : goal.returns-clause-refuses
-returns-clause-refuses g c w =
-    absurd (pruned_ok _ _ (c.in_ok-this.ensures.guard.1 w))
-
-pub returns-clause-full : goal.returns-clause-full
-returns-clause-full g c is =
-    let p = shown g.I.Record.place c.args.self in
-    let named = Contains c.args.sections.now in
-    let active = Contains c.args.active.now in
-    let decides = contains_or_not c.args.sections.now in
-    let a = g.D.Device.time c.args.dev.now in
-    let b = g.D.Device.time c.settle.new.dev in
-    let q = shown g.I.Record.place c.in_ok-this.this in
-    let says = c.in_ok-this.ensures in
-    let e = g.D.Device.time c.move_markers.new.dev in
-    let r = c.move_markers.result in
-    let moves = c.move_markers.ensures in
-    let layouts : q.layout ≡ p.layout = layout_as p.layout q.layout.index q.layout.values q.layout.metadata q.layout.page_size says.layout.index says.layout.values says.layout.metadata says.layout.page_size in
-    let moving : ((s : ℕ) × IsMoving q (λ _. ⊥) active s) → ((s : ℕ) × IsMoving p named active s) = (λ w. (w.0, moving_after p q named active decides says.store says.named says.others w.0 w.1)) in
-    let moved : ((s : ℕ) × IsMoving p named active s) → ((s : ℕ) × IsMoving q (λ _. ⊥) active s) = (λ w. (w.0, moving_before p q named active decides says.store says.named says.others w.0 w.1)) in
-    (omega (arith, (moves.full is).0, ap (λ u. u.version) says.store), moving (moves.full is).1)
-
-pub returns-clause-no_version : goal.returns-clause-no_version
-returns-clause-no_version g c large w =
-    let p = shown g.I.Record.place c.args.self in
-    let named = Contains c.args.sections.now in
-    let active = Contains c.args.active.now in
-    let decides = contains_or_not c.args.sections.now in
-    let a = g.D.Device.time c.args.dev.now in
-    let b = g.D.Device.time c.settle.new.dev in
-    let q = shown g.I.Record.place c.in_ok-this.this in
-    let says = c.in_ok-this.ensures in
-    let e = g.D.Device.time c.move_markers.new.dev in
-    let r = c.move_markers.result in
-    let moves = c.move_markers.ensures in
-    let layouts : q.layout ≡ p.layout = layout_as p.layout q.layout.index q.layout.values q.layout.metadata q.layout.page_size says.layout.index says.layout.values says.layout.metadata says.layout.page_size in
-    let moving : ((s : ℕ) × IsMoving q (λ _. ⊥) active s) → ((s : ℕ) × IsMoving p named active s) = (λ w. (w.0, moving_after p q named active decides says.store says.named says.others w.0 w.1)) in
-    let moved : ((s : ℕ) × IsMoving p named active s) → ((s : ℕ) × IsMoving q (λ _. ⊥) active s) = (λ w. (w.0, moving_before p q named active decides says.store says.named says.others w.0 w.1)) in
-    moves.no_version (omega (arith, large, ap (λ u. u.version) says.store)) (moved w)
-
-pub returns-clause-lost : goal.returns-clause-lost
-returns-clause-lost g c is =
-    let p = shown g.I.Record.place c.args.self in
-    let named = Contains c.args.sections.now in
-    let active = Contains c.args.active.now in
-    let decides = contains_or_not c.args.sections.now in
-    let a = g.D.Device.time c.args.dev.now in
-    let b = g.D.Device.time c.settle.new.dev in
-    let q = shown g.I.Record.place c.in_ok-this.this in
-    let says = c.in_ok-this.ensures in
-    let e = g.D.Device.time c.move_markers.new.dev in
-    let r = c.move_markers.result in
-    let moves = c.move_markers.ensures in
-    let layouts : q.layout ≡ p.layout = layout_as p.layout q.layout.index q.layout.values q.layout.metadata q.layout.page_size says.layout.index says.layout.values says.layout.metadata says.layout.page_size in
-    let moving : ((s : ℕ) × IsMoving q (λ _. ⊥) active s) → ((s : ℕ) × IsMoving p named active s) = (λ w. (w.0, moving_after p q named active decides says.store says.named says.others w.0 w.1)) in
-    let moved : ((s : ℕ) × IsMoving p named active s) → ((s : ℕ) × IsMoving q (λ _. ⊥) active s) = (λ w. (w.0, moving_before p q named active decides says.store says.named says.others w.0 w.1)) in
-    moving (moves.lost (lost_since r _ _ _ moves.cause is))
-
-pub returns-clause-cause : goal.returns-clause-cause
-returns-clause-cause g c =
-    let p = shown g.I.Record.place c.args.self in
-    let named = Contains c.args.sections.now in
-    let active = Contains c.args.active.now in
-    let decides = contains_or_not c.args.sections.now in
-    let a = g.D.Device.time c.args.dev.now in
-    let b = g.D.Device.time c.settle.new.dev in
-    let q = shown g.I.Record.place c.in_ok-this.this in
-    let says = c.in_ok-this.ensures in
-    let e = g.D.Device.time c.move_markers.new.dev in
-    let r = c.move_markers.result in
-    let moves = c.move_markers.ensures in
-    let layouts : q.layout ≡ p.layout = layout_as p.layout q.layout.index q.layout.values q.layout.metadata q.layout.page_size says.layout.index says.layout.values says.layout.metadata says.layout.page_size in
-    markers_failed r p.index.sections.floor _ _ _ c.settle.ensures.faults moves.cause
-
-pub returns-clause-lists : goal.returns-clause-lists
-returns-clause-lists g c t =
-    let p = shown g.I.Record.place c.args.self in
-    let named = Contains c.args.sections.now in
-    let active = Contains c.args.active.now in
-    let decides = contains_or_not c.args.sections.now in
-    let a = g.D.Device.time c.args.dev.now in
-    let b = g.D.Device.time c.settle.new.dev in
-    let q = shown g.I.Record.place c.in_ok-this.this in
-    let says = c.in_ok-this.ensures in
-    let e = g.D.Device.time c.move_markers.new.dev in
-    let r = c.move_markers.result in
-    let moves = c.move_markers.ensures in
-    let layouts : q.layout ≡ p.layout = layout_as p.layout q.layout.index q.layout.values q.layout.metadata q.layout.page_size says.layout.index says.layout.values says.layout.metadata says.layout.page_size in
-    if_ok r _ _ (λ v same s. same s ∙ says.lists t s) (moves.lists t)
-
-pub returns-clause-codec_config : goal.returns-clause-codec_config
-returns-clause-codec_config g c =
-    let p = shown g.I.Record.place c.args.self in
-    let named = Contains c.args.sections.now in
-    let active = Contains c.args.active.now in
-    let decides = contains_or_not c.args.sections.now in
-    let a = g.D.Device.time c.args.dev.now in
-    let b = g.D.Device.time c.settle.new.dev in
-    let q = shown g.I.Record.place c.in_ok-this.this in
-    let says = c.in_ok-this.ensures in
-    let e = g.D.Device.time c.move_markers.new.dev in
-    let r = c.move_markers.result in
-    let moves = c.move_markers.ensures in
-    let layouts : q.layout ≡ p.layout = layout_as p.layout q.layout.index q.layout.values q.layout.metadata q.layout.page_size says.layout.index says.layout.values says.layout.metadata says.layout.page_size in
-    if_ok r _ _ (λ v same. same ∙ says.codec_config) moves.codec_config
-
-pub returns-in_err-this-clause-idle : goal.returns-in_err-this-clause-idle
-returns-in_err-this-clause-idle g c none still =
-    let p = shown g.I.Record.place c.args.self in
-    let named = Contains c.args.sections.now in
-    let active = Contains c.args.active.now in
-    let decides = contains_or_not c.args.sections.now in
-    let a = g.D.Device.time c.args.dev.now in
-    let b = g.D.Device.time c.settle.new.dev in
-    c.settle.ensures.idle none
-
-pub returns-clause-idle : goal.returns-clause-idle
-returns-clause-idle g c none still =
-    let p = shown g.I.Record.place c.args.self in
-    let named = Contains c.args.sections.now in
-    let active = Contains c.args.active.now in
-    let decides = contains_or_not c.args.sections.now in
-    let a = g.D.Device.time c.args.dev.now in
-    let b = g.D.Device.time c.settle.new.dev in
-    let q = shown g.I.Record.place c.in_ok-this.this in
-    let says = c.in_ok-this.ensures in
-    let e = g.D.Device.time c.move_markers.new.dev in
-    let r = c.move_markers.result in
-    let moves = c.move_markers.ensures in
-    let layouts : q.layout ≡ p.layout = layout_as p.layout q.layout.index q.layout.values q.layout.metadata q.layout.page_size says.layout.index says.layout.values says.layout.metadata says.layout.page_size in
-    let moving : ((s : ℕ) × IsMoving q (λ _. ⊥) active s) → ((s : ℕ) × IsMoving p named active s) = (λ w. (w.0, moving_after p q named active decides says.store says.named says.others w.0 w.1)) in
-    let moved : ((s : ℕ) × IsMoving p named active s) → ((s : ℕ) × IsMoving q (λ _. ⊥) active s) = (λ w. (w.0, moving_before p q named active decides says.store says.named says.others w.0 w.1)) in
-    (moves.still (λ w. still (moving w))).0 ∙ c.settle.ensures.idle none
-
-pub returns-in_err-this-clause-guard : goal.returns-in_err-this-clause-guard
-returns-in_err-this-clause-guard g c =
-    let r = c.from_residual.result in
-    let e = c.in_err-this.field-0.0 in
-    pruned_as r e _ _ (err_of r e c.from_residual.ensures.1) c.in_err-this.ensures.guard
-
-pub returns-clause-sound : goal.returns-clause-sound
-returns-clause-sound g c t sound =
-    c.move_markers.ensures.sound t (c.in_ok-this.ensures.sound t sound)
-
-pub returns-in_err-this-clause-fault : goal.returns-in_err-this-clause-fault
-returns-in_err-this-clause-fault g c t =
-    let p = shown g.I.Record.place c.args.self in
-    let named = Contains c.args.sections.now in
-    let a = g.D.Device.time c.args.dev.now in
-    let b = g.D.Device.time c.settle.new.dev in
-    let r = c.from_residual.result in
-    let e = c.in_err-this.field-0.0 in
-    before_markers p named r _ _ a b
-    (always_weaker a b (λ d. (k : Key) → (IsBlobOf p.layout named k → ⊥) → d k ≡ disk a k) (λ d. (k : Key) → IsCopy p.layout k → d k ≡ disk a k)
-    (λ d only k is. only k (copy_no_blob p.layout named c.requires.over.apart k is)) (c.settle.ensures.alone t))
-    (before_them_as r e _ _ _ _ _ (err_of r e c.from_residual.ensures.1) c.in_err-this.ensures.cause)
-
-pub returns-clause-fault : goal.returns-clause-fault
-returns-clause-fault g c t =
-    let p = shown g.I.Record.place c.args.self in
-    let named = Contains c.args.sections.now in
-    let decides = contains_or_not c.args.sections.now in
-    let a = g.D.Device.time c.args.dev.now in
-    let b = g.D.Device.time c.settle.new.dev in
-    let q = shown g.I.Record.place c.in_ok-this.this in
-    let says = c.in_ok-this.ensures in
-    let e = g.D.Device.time c.move_markers.new.dev in
-    let moves = c.move_markers.ensures in
-    let layouts : q.layout ≡ p.layout = layout_as p.layout q.layout.index q.layout.values q.layout.metadata q.layout.page_size says.layout.index says.layout.values says.layout.metadata says.layout.page_size in
-    let blobs : Always b e (λ d. (k : Key) → IsBlobOf p.layout named k → d k ≡ disk b k) = always_weaker b e (λ d. (k : Key) → (IsCopy q.layout k → ⊥) → d k ≡ disk b k) (λ d. (k : Key) → IsBlobOf p.layout named k → d k ≡ disk b k)
-    (λ d only k is. only k (λ copy. copy_no_blob p.layout named c.requires.over.apart k (subst (λ l. IsCopy l k) layouts copy) is)) (moves.alone t) in
-    record {
-      sections = λ is. absurd (moves.fault is);
-      at_rest = λ stops. rests_still p named (disk b) (disk e) (λ s held. c.requires.over.index.over.opened_list.number s (inl held)) (λ s held. c.requires.over.values.over.opened_list.number s (inl held))
-          (always_now b e (λ d. (k : Key) → IsBlobOf p.layout named k → d k ≡ disk b k) blobs) (says.rests t);
-      leaves = λ stops sound synced after.
-          let more : (s : ℕ) → synced s ≤ synced_length q s = (λ s. elim (decides s) [
-            | inl is ↦ omega (arith, says.named s is, after.named s is)
-            | inr not ↦ omega (arith, says.others s not, after.others s not)
-          ]) in
-          (always_now b e (LeavesAlone p.layout (list_of p (disk a)) synced (λ _. ⊥) (IsOwn p.layout named) (disk b))
-          (keeping_wider p.layout (list_of q (disk b)) (list_of p (disk a)) (synced_length q) synced (λ _. ⊥) (IsCopy p.layout) (IsOwn p.layout named) b e
-          (λ s. ap (take (length (list_of q (disk b) s))) (sym (says.lists t s)) ∙ take-length (list_of q (disk b) s)) more (λ k is. inr (inr is))
-          (subst (λ (l : Layout). Keeping l (list_of q (disk b)) (synced_length q) (λ _. ⊥) (IsCopy l) b e) layouts (moves.moments t (says.sound t sound))))).leaves;
+      over = c.move_markers.ensures.over;
+      sound = λ t sound. c.move_markers.ensures.sound t (c.in_ok-this.ensures.sound t sound);
+      lists = λ t. if_ok r _ _ (λ v same s. same s ∙ says.lists t s) (moves.lists t);
+      synced =
+          sync_of g.I.Record.place c.args.self c.in_ok-this.this named active (record {
+            lengths = says.lengths;
+            sizes = says.sizes;
+            held = says.held;
+            values_held = says.values_held;
+            named = says.named;
+            settled = says.settled;
+            same = says.same;
+            others = says.others;
+            store = says.store;
+            bounds = says.bounds;
+            layout = says.layout;
+          }) c.move_markers.result moves.index moves.values moves.synced moves.markers moves.active moves.marked (λ none. (moves.still (λ w. none (moving w))).1) moves.layout;
+      codec_config = if_ok r _ _ (λ v same. same ∙ says.codec_config) moves.codec_config;
+      moments = λ t.
+          let copies : Always a b (λ d. (k : Key) → IsCopy p.layout k → d k ≡ disk a k) = always_weaker a b (λ d. (k : Key) → (IsBlobOf p.layout named k → ⊥) → d k ≡ disk a k) (λ d. (k : Key) → IsCopy p.layout k → d k ≡ disk a k)
+          (λ d only k is. only k (copy_no_blob p.layout named c.requires.over.apart k is)) (c.settle.ensures.alone t) in
+          let first : Always a b (λ d. (k : Key) → (IsOwn p.layout (λ s. named s × IsHeld p.index.sections s) k → ⊥) → d k ≡ disk a k) = always_weaker a b (λ d. (k : Key) → (IsBlobOf p.layout (λ s. named s × IsHeld p.index.sections s) k → ⊥) → d k ≡ disk a k)
+          (λ d. (k : Key) → (IsOwn p.layout (λ s. named s × IsHeld p.index.sections s) k → ⊥) → d k ≡ disk a k) (λ d only k not. only k (λ is. not (own_blob p.layout (λ s. named s × IsHeld p.index.sections s) k is))) (c.settle.ensures.untouched t) in
+          let newer_first : Always a b (λ d. d newer ≡ disk a newer) = always_weaker a b (λ d. (k : Key) → IsCopy p.layout k → d k ≡ disk a k) (λ d. d newer ≡ disk a newer) (λ d same. same newer (other_side p.store.older, refl)) copies in
+          let settles : IsSoundOn p (disk a) → Keeping p.layout (list_of p (disk a)) (synced_length p) (λ _. ⊥) (IsOwn p.layout named) a b = λ sound. keeping_wider p.layout (list_of p (disk a)) (list_of p (disk a)) (synced_length p) (synced_length p) (λ _. ⊥) (IsBlobOf p.layout named) (IsOwn p.layout named) a b
+          (λ s. take-length (list_of p (disk a) s)) (λ s. omega arith) (own_blob p.layout named) (c.settle.ensures.moments t sound) in
+          let blobs : Always b e (λ d. (k : Key) → IsBlobOf p.layout named k → d k ≡ disk b k) = always_weaker b e (λ d. (k : Key) → (IsCopy q.layout k → ⊥) → d k ≡ disk b k) (λ d. (k : Key) → IsBlobOf p.layout named k → d k ≡ disk b k)
+          (λ d only k is. only k (λ copy. copy_no_blob p.layout named c.requires.over.apart k (subst (λ l. IsCopy l k) layouts copy) is)) (moves.alone t) in
+          record {
+            moments = λ sound. keeping_then p.layout (list_of p (disk a)) (synced_length p) (λ _. ⊥) (IsOwn p.layout named) a b e (settles sound)
+                (keeping_wider p.layout (list_of q (disk b)) (list_of p (disk a)) (synced_length q) (synced_length p) (λ _. ⊥) (IsCopy p.layout) (IsOwn p.layout named) b e
+                (λ s. ap (take (length (list_of q (disk b) s))) (sym (says.lists t s)) ∙ take-length (list_of q (disk b) s)) more (λ k is. inr (inr is))
+                (subst (λ (l : Layout). Keeping l (list_of q (disk b)) (synced_length q) (λ _. ⊥) (IsCopy l) b e) layouts (moves.moments t (says.sound t sound))));
+            alone = λ none. subst (λ dev. Always a (g.D.Device.time dev) (λ d. (k : Key) → IsCopy p.layout k → d k ≡ disk a k)) (sym (moves.still (λ w. none (moving w))).0) copies;
+            untouched = always_then a b e (λ d. (k : Key) → (IsOwn p.layout (λ s. named s × IsHeld p.index.sections s) k → ⊥) → d k ≡ disk a k) first (always_weaker b e (λ d. (k : Key) → (IsCopy q.layout k → ⊥) → d k ≡ disk b k) (λ d. (k : Key) → (IsOwn p.layout (λ s. named s × IsHeld p.index.sections s) k → ⊥) → d k ≡ disk a k)
+                (λ d only k not. only k (λ copy. not (inr (inr (subst (λ l. IsCopy l k) layouts copy)))) ∙ always_now a b (λ d. (k : Key) → (IsOwn p.layout (λ s. named s × IsHeld p.index.sections s) k → ⊥) → d k ≡ disk a k) first k not) (moves.alone t));
+            newer_stays = always_then a b e (λ d. d newer ≡ disk a newer) newer_first (always_weaker b e (λ d. d later ≡ disk b later) (λ d. d newer ≡ disk a newer)
+                (λ d same. subst (λ k. d k ≡ disk b k) same_newer same ∙ always_now a b (λ d. d newer ≡ disk a newer) newer_first) (moves.newer_stays t));
+            order = in_order_then (IsIndexOf p.layout named) (IsValuesOf p.layout named) a b e (c.settle.ensures.order t)
+                (always_weaker b e (λ d. (k : Key) → IsBlobOf p.layout named k → d k ≡ disk b k) (λ d. (k : Key) → IsIndexOf p.layout named k → d k ≡ disk b k) (λ d same k is. same k (inl is)) blobs);
+            markers_last = in_order (IsBlobOf p.layout named) (IsCopy p.layout) a b e copies blobs;
+          };
+      guard = (λ is. absurd (not_pruned r p.index.sections.floor _ _ moves.cause is), λ w. absurd (pruned_ok _ _ (says.guard.1 w)));
+      refuses = λ w. absurd (pruned_ok _ _ (c.in_ok-this.ensures.guard.1 w));
+      idle = λ none still. (moves.still (λ w. still (moving w))).0 ∙ c.settle.ensures.idle none;
+      entries = λ k not. moves.entries k (λ is. not (inr (inr (subst (λ l. IsCopy l k) layouts is)))) ∙ c.settle.ensures.entries k (λ is. not (own_blob p.layout named k is));
+      full = λ is. (omega (arith, (moves.full is).0, ap (λ u. u.version) says.store), moving (moves.full is).1);
+      no_version = λ large w.
+          let moving : ((s : ℕ) × IsMoving q (λ _. ⊥) active s) → ((s : ℕ) × IsMoving p named active s) = (λ w. (w.0, moving_after p q named active decides says.store says.named says.others w.0 w.1)) in
+          let moved : ((s : ℕ) × IsMoving p named active s) → ((s : ℕ) × IsMoving q (λ _. ⊥) active s) = (λ w. (w.0, moving_before p q named active decides says.store says.named says.others w.0 w.1)) in
+          moves.no_version (omega (arith, large, ap (λ u. u.version) says.store)) (moved w);
+      lost = λ is. moving (moves.lost (lost_since r _ _ _ moves.cause is));
+      fault = λ t.
+          let blobs : Always b e (λ d. (k : Key) → IsBlobOf p.layout named k → d k ≡ disk b k) = always_weaker b e (λ d. (k : Key) → (IsCopy q.layout k → ⊥) → d k ≡ disk b k) (λ d. (k : Key) → IsBlobOf p.layout named k → d k ≡ disk b k)
+          (λ d only k is. only k (λ copy. copy_no_blob p.layout named c.requires.over.apart k (subst (λ l. IsCopy l k) layouts copy) is)) (moves.alone t) in
+          record {
+            sections = λ is. absurd (moves.fault is);
+            at_rest = λ stops. rests_still p named (disk b) (disk e) (λ s held. c.requires.over.index.over.opened_list.number s (inl held)) (λ s held. c.requires.over.values.over.opened_list.number s (inl held))
+                (always_now b e (λ d. (k : Key) → IsBlobOf p.layout named k → d k ≡ disk b k) blobs) (says.rests t);
+            leaves = λ stops sound synced after.
+                let more : (s : ℕ) → synced s ≤ synced_length q s = (λ s. elim (decides s) [
+                  | inl is ↦ omega (arith, says.named s is, after.named s is)
+                  | inr not ↦ omega (arith, says.others s not, after.others s not)
+                ]) in
+                (always_now b e (LeavesAlone p.layout (list_of p (disk a)) synced (λ _. ⊥) (IsOwn p.layout named) (disk b))
+                (keeping_wider p.layout (list_of q (disk b)) (list_of p (disk a)) (synced_length q) synced (λ _. ⊥) (IsCopy p.layout) (IsOwn p.layout named) b e
+                (λ s. ap (take (length (list_of q (disk b) s))) (sym (says.lists t s)) ∙ take-length (list_of q (disk b) s)) more (λ k is. inr (inr is))
+                (subst (λ (l : Layout). Keeping l (list_of q (disk b)) (synced_length q) (λ _. ⊥) (IsCopy l) b e) layouts (moves.moments t (says.sound t sound))))).leaves;
+          };
+      faults = omega (arith, c.settle.ensures.faults, c.move_markers.ensures.faults);
+      cause = markers_failed r p.index.sections.floor _ _ _ c.settle.ensures.faults moves.cause;
     }
