@@ -1,0 +1,110 @@
+// Calls of a device, as steps of a scenario spell them.
+ghost use Rattle.std.specs.Prelude.{IsSome};
+
+use crate::stop::Stop;
+use blob_device::{DevError, Device};
+use scenario_text::Step;
+use std::alloc::Global;
+
+/// A change of the blob that is open.
+#[derive(Drop)]
+pub enum Change {
+    Write(u32, Vec<u8>),
+    Resize(u32),
+    Sync,
+}
+
+/// A blob, which is opened and changed.
+#[derive(Drop)]
+pub struct Visit {
+    pub partition: String,
+    pub name: Vec<u8>,
+    pub changes: Vec<Change>,
+}
+
+/// What a device is asked for.
+#[derive(Drop)]
+pub enum Call {
+    Open(Visit),
+    Remove(Visit),
+    Scan(String),
+}
+
+/// Adds what a step asks for. A change goes to the blob that was opened last.
+pub fn add_call(alloc: Global, step: &Step, calls: &mut Vec<Call>) -> Result<(), Stop> {
+    let call = match step.word() {
+        "open" => Call::Open(visit_of(alloc, step)?),
+        "remove" => Call::Remove(visit_of(alloc, step)?),
+        "scan" => Call::Scan(String::from_str(alloc, step.argument(0))?),
+        _ => {
+            let change = change_of(alloc, step)?;
+            return add_change(calls, change);
+        }
+    };
+    calls.push(call)?;
+    Ok(())
+}
+
+/// Adds a change of the blob that was opened last.
+pub fn add_change(calls: &mut Vec<Call>, change: Change) -> Result<(), Stop> {
+    match calls.last_mut() {
+        Some(Call::Open(visit)) => {
+            visit.changes.push(change)?;
+            Ok(())
+        }
+        _ => Err(Stop::Said("no blob is open")),
+    }
+}
+
+// The change that a step spells.
+fn change_of(alloc: Global, step: &Step) -> Result<Change, Stop> {
+    let number = step.number(0).unwrap_or(0).min(MOST) as u32;
+    match step.word() {
+        "write" => Ok(Change::Write(number, bytes_of(alloc, step, 1)?)),
+        "resize" => Ok(Change::Resize(number)),
+        "sync" => Ok(Change::Sync),
+        _ => Err(Stop::Said("no such command")),
+    }
+}
+
+// No offset and no length of a step is greater.
+const MOST: u64 = 65_536;
+
+fn visit_of(alloc: Global, step: &Step) -> Result<Visit, Stop> {
+    Ok(Visit {
+        partition: String::from_str(alloc, step.argument(0))?,
+        name: bytes_of(alloc, step, 1)?,
+        changes: Vec::new(alloc),
+    })
+}
+
+/// The bytes at this place behind the first word of a step.
+pub fn bytes_of(alloc: Global, step: &Step, at: usize) -> Result<Vec<u8>, Stop> {
+    match step.bytes(alloc, at)? {
+        Some(bytes) => Ok(bytes),
+        None => Err(Stop::Said("bytes are missing")),
+    }
+}
+
+/// Changes a blob that is open.
+pub fn changed<D: Device>(
+    dev: &mut D,
+    partition: &str,
+    name: &[u8],
+    change: &Change,
+) -> Result<(), DevError>
+    requires { IsSome (D.opened dev.old (partition.now, name.now)) }
+    ensures { IsSome (D.opened dev.new (partition.now, name.now)) }
+{
+    match change {
+        Change::Write(offset, bytes) => {
+            let offset = u64::from(*offset);
+            if offset.checked_add(bytes.len() as u64).is_none() {
+                return Err(DevError::Fault);
+            }
+            dev.write_at(partition, name, offset, bytes)
+        }
+        Change::Resize(len) => dev.resize(partition, name, u64::from(*len)),
+        Change::Sync => dev.sync(partition, name),
+    }
+}
