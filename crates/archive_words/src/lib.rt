@@ -24,6 +24,3 @@ pub use number::{NumberComplaint, complaint_of_number};
 pub use script_line::{Arguments, LineComplaint, complaint_of_line};
 pub use script_text::{ScriptLine, line_at};
 pub use shown::Shown;
-
-#[cfg(test)]
-mod tests;
