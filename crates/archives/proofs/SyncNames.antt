@@ -49,6 +49,7 @@ module _ {F S : Type 0} {gs : _} (p : Pair F (PageBlob S gs)) (P A Q : ℕ → T
   pub sync_as : (r : Pair F (PageBlob S gs)) → IsSyncOf p P A r → IsSyncOf p Q Q r
   sync_as r of = record {
     lengths = of.lengths;
+    sizes = of.sizes;
     held = of.held;
     values_held = of.values_held;
     named = λ s is. of.named s ((named s).1 is);
