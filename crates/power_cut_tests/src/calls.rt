@@ -30,6 +30,16 @@ pub enum Call {
     Scan(String),
 }
 
+impl Call {
+    /// The partition that it speaks of.
+    pub fn partition(&self) -> &str {
+        match self {
+            Call::Open(visit) | Call::Remove(visit) => visit.partition.as_str(),
+            Call::Scan(partition) => partition.as_str(),
+        }
+    }
+}
+
 /// Adds what a step asks for. A change goes to the blob that was opened last.
 pub fn add_call(alloc: Global, step: &Step, calls: &mut Vec<Call>) -> Result<(), Stop> {
     let call = match step.word() {

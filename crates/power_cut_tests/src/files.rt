@@ -58,6 +58,14 @@ impl DiskFiles {
         }
     }
 
+    /// Whether no later sync writes what a file had not synced when it was closed.
+    pub fn closing_forgets(&self) -> bool {
+        match self.disk.try_borrow() {
+            Ok(disk) => disk.closing_forgets,
+            Err(_) => false,
+        }
+    }
+
     /// The disk when the power was gone and is back.
     pub fn after_power(&self, choice: CrashChoice) -> Result<Disk, Stop> {
         match self.disk.try_borrow() {
