@@ -5,10 +5,11 @@
     tools/believe.py --check    changes nothing, and exits with 1 where the file is not what would be written
 
 It begins at the contracts of `run` and `run_with` and at the traits that they speak of, and follows each name by the imports of its
-file to the definition, and on from there. A name that a definition binds itself is not followed. Of an impl, and of a trait that is
-known by its ghosts alone, those ghosts count that some definition names. A line counts where it is neither empty nor a comment.
+file to the definition, and on from there. It lists too much where a variable has the name of a definition that is imported.
+Of an impl, and of a trait that is known by its ghosts alone, those ghosts count that some definition names. Of a type that contracts
+see by a `Model`, that impl counts too. A line counts where it is neither empty nor a comment.
 """
-import os, re, sys, textwrap
+import glob, os, re, sys, textwrap
 
 ROOT = os.path.dirname(os.path.dirname(os.path.abspath(__file__)))
 PAGE = os.path.join(ROOT, "docs", "BELIEVE.md")
@@ -29,31 +30,27 @@ ELSEWHERE = {"archives/specs/IndexRecord.antt": 3, "archives/specs/Filing.antt":
 WORD = re.compile(r"(?<![\w'.])[^\W\d][\w'-]*(?:\.[\w'-]+)*")
 IMPORT = re.compile(r"^\s*(?:pub |ghost )?use ([\w.]+?)(?:\.\{([^}]*)\}| as (\w+))?;?$", re.M)
 DEFINITION = re.compile(r"^( *)(?:(?:abbrev|unfoldable|pub|record|data) )+([^\s:({]+)")
-# parameters and fields, lambdas, lets, and the left-hand side of a clause
-BOUND = re.compile(r"[({]([\w' ]+) :|^ *pub ([\w']+) :|λ ([^.]*)\.|\blet (\w+) =|^ *\w+ ([^=:]*?) =", re.M)
 
 
 class Item:
     """What is read of a file as one: a definition, the `module` line over some, or a part of the code."""
     def __init__(self, path, name, number, lines, module=None):
-        self.path, self.name, self.number, self.lines, self.module = path, name, number, counted(lines), module
-        self.text = "\n".join(re.sub(r" -- .*", "", it) for it in self.lines)
-        found = [] if self.text.startswith("impl") else [" ".join(it) for it in BOUND.findall(self.text)]
-        self.bound = {it for names in found for it in re.findall(r"[a-z_][\w']*", names)} - {name}
+        self.path, self.name, self.number, self.size, self.module = path, name, number, len(counted(lines)), module
+        self.text = "\n".join(re.sub(r" -- .*", "", it) for it in counted(lines))
 
 
-def counted(lines):
-    return [it for it in lines if it.strip() and not it.strip().startswith(("--", "//", "#["))]
+def counted(lines): return [it for it in lines if it.strip() and not it.strip().startswith(("--", "//", "#["))]
 
 
-def spec_of(whence):
-    """the file of definitions from which a name comes, where it comes from one"""
-    return "/".join(whence.split(".")[1:4]) + ".antt"
+# the file of definitions from which a name comes, where it comes from one
+def spec_of(whence): return "/".join(whence.split(".")[1:4]) + ".antt"
 
 
 class File:
     def __init__(self, path):
-        self.path, self.items, self.names, self.aliases = path, {}, {}, {}
+        self.path, self.crate = path, path.split("/")[0]
+        # definitions and their constructors, and what is imported: names, and names of whole files
+        self.items, self.made, self.names, self.aliases = {}, {}, {}, {}
         with open(os.path.join(ROOT, "crates", path), encoding="utf-8") as it: self.lines = it.read().split("\n")
         for whence, names, alias in IMPORT.findall("\n".join(self.lines)):
             if alias: self.aliases[alias] = whence
@@ -78,11 +75,10 @@ class File:
                 def goes_on(line): return not counted([line]) or line.startswith(" " * (indent + 1)) or clause.match(line)
                 while at < len(self.lines) and goes_on(self.lines[at]): at += 1
                 item = self.items[found[2]] = Item(self.path, found[2], begin, self.lines[begin:at], module)
-                if " data " in " " + line:
-                    self.items.update((made, item) for made in re.findall(r"^ *([\w']+) :", item.text, re.M))
+                if " data " in line: self.made.update((it, item) for it in re.findall(r"^ *([\w']+) :", item.text, re.M))
 
     def code(self, name, members=None):
-        """a type, a trait, a function's contract, or an impl, which is named by its type and its trait"""
+        """a type, a trait, a function's contract, or an impl, which is named by its type and its trait; of some the members alone"""
         for number, line in enumerate(self.lines):
             made = re.match(r"impl(?:<[^>]*>)? ((\w+)(?:<[^>]*>)? for (\w+))", line)
             is_impl = made and made[3][0].upper() + made[3][1:] + made[2] == name
@@ -93,15 +89,17 @@ class File:
             if members is not None and (is_impl or line.startswith("pub trait")):
                 lines = lines[:1] + [it for it in lines if re.match(r" *ghost (%s)\b" % "|".join(sorted(members) or "-"), it)]
             return Item(self.path, made[1] if is_impl else name, number, lines)
-        # the impl is derived
         kinds = [it for it in re.findall(r"^pub (?:struct|enum) (\w+)", "\n".join(self.lines), re.M) if name.startswith(it)]
-        return self.code(kinds[0]) if kinds else sys.exit("no %s in crates/%s" % (name, self.path))
+        return self.code(kinds[0]) if kinds else sys.exit("no %s in crates/%s" % (name, self.path))  # a derived impl: the type
 
 
 class Reading:
     """All that is needed, and of the kit the names; what is needed of an impl shows only at the end, so it is read until no more shows."""
     def __init__(self):
-        self.files, self.members, known = {}, set(), None
+        self.files, self.members, self.views, known = {}, set(), {}, None
+        for path in glob.glob(os.path.join(ROOT, "crates", "*", "src", "**", "*.rt"), recursive=True):
+            file = self.file(os.path.relpath(path, os.path.join(ROOT, "crates")))
+            self.views.update(((file.crate, name), file.path) for name in re.findall(r"^impl.* Model for (\w+)", "\n".join(file.lines), re.M))
         while known != len(self.members):
             known, self.needed, self.kit = len(self.members), {}, {}
             for path, name in STARTS: self.take(self.file(path), self.file(path).code(name))
@@ -113,23 +111,21 @@ class Reading:
     def take(self, file, item):
         if (item.path, item.number) in self.needed: return
         self.needed[item.path, item.number] = item
-        bound, module = set(item.bound), item.module
-        while module:
-            bound |= module.bound
-            self.take(file, module)
-            module = module.module
+        if item.module: self.take(file, item.module)
         # neither what is quoted nor the labels of a record
         for word in WORD.findall(re.sub(r"\"[^\"]*\"|\b\w+ =(?= )", " ", item.text)):
             first, _, rest = word.partition(".")
             if rest.startswith("ghosts.") or rest and ".Ghosts" in item.text: self.members.add(word.split(".")[-1])
-            if first in bound: continue
-            if first in file.aliases: self.follow(file.aliases[first], rest.split(".")[0])
+            if first in file.aliases and rest: self.follow(file.aliases[first], rest.split(".")[0], is_sure=False)
             elif first in file.items: self.take(file, file.items[first])
             elif first in file.names: self.follow(file.names[first], first)
         for name, whence in file.names.items():
             if not re.match(r"[\w'-]+$", name) and all(piece in item.text for piece in name.split("◌")): self.follow(whence, name)
+        for name in re.findall(r"\b[A-Z]\w*", item.text) if re.match(r"pub (struct|enum|trait|fn)", item.text) else ():
+            path = self.views.get((file.crate, name))
+            if path: self.take(self.file(path), self.file(path).code(name + "Model"))
 
-    def follow(self, whence, name):
+    def follow(self, whence, name, is_sure=True):
         parts = whence.split(".")
         if parts[0] != "Rattle" or not os.path.isdir(os.path.join(ROOT, "crates", parts[1])):
             self.kit.setdefault(whence.replace("Rattle.", ""), set()).add(name)
@@ -139,9 +135,9 @@ class Reading:
             self.take(file, file.code(inner[-1], self.members))
         else:
             file = self.file(spec_of(whence))
-            if name in file.items: self.take(file, file.items[name])
+            if name in file.items or name in file.made: self.take(file, file.items.get(name) or file.made[name])
             elif name in file.names: self.follow(file.names[name], name)
-            else: sys.exit("no %s in crates/%s" % (name, file.path))
+            elif is_sure: sys.exit("no %s in crates/%s" % (name, file.path))
 
     def sitting(self, number):
         """the files of a sitting, lower crates first and a file behind those that it imports, each with what is needed of it"""
@@ -157,9 +153,6 @@ class Reading:
         return [(path, [item for key, item in sorted(self.needed.items()) if key[0] == path]) for path in ordered]
 
 
-def size(items): return sum(len(it.lines) for it in items)
-
-
 # a tilde stands for a space at which no line ends
 def wrapped(text): return textwrap.fill(text, 110, subsequent_indent="  ", break_long_words=False, break_on_hyphens=False).replace("~", " ")
 
@@ -168,14 +161,14 @@ def generated():
     """the generated parts of the page, by their names"""
     reading = Reading()
     sittings = {number: reading.sitting(number) for number in range(1, 6)}
-    sizes = {number: sum(size(items) for _, items in files) for number, files in sittings.items()}
+    sizes = {number: sum(it.size for _, items in files for it in items) for number, files in sittings.items()}
     parts = {"total": "**%s lines to believe**: %d definitions, types and contracts in %d files." % (
         format(sum(sizes.values()), ","), sum(1 for it in reading.needed.values() if it.name), sum(map(len, sittings.values())))}
     for number, files in sittings.items():
         rows = ["%d lines:" % sizes[number], ""]
         for path, items in files:
-            names = ", ".join("`%s`~%d" % (it.name, len(it.lines)) for it in items if it.name)
-            rows.append(wrapped("- [`%s`](../crates/%s), %d: %s" % (path, path, size(items), names)))
+            names = ", ".join("`%s`~%d" % (it.name, it.size) for it in items if it.name)
+            rows.append(wrapped("- [`%s`](../crates/%s), %d: %s" % (path, path, sum(it.size for it in items), names)))
         parts["sitting %d" % number] = "\n".join(rows)
     rows = ["- `%s`: %s" % (whence, " ".join("`%s`" % it for it in sorted(names))) for whence, names in sorted(reading.kit.items())]
     parts["kit"] = "\n".join(map(wrapped, rows))
