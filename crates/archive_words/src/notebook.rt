@@ -7,6 +7,10 @@ use std::fmt;
 /// How many notes are kept. Of further ones only their number is.
 pub const MOST_NOTES: usize = 1000;
 
+// How many bytes a page's slot has. A write of so many zeros voids a slot, which cuts the page. It is never a part of a page's
+// data: that is written in records and pages, whose lengths the program has as multiples of four.
+const SLOT_BYTES: usize = 6;
+
 /// What a call took off a blob.
 #[derive(Clone, Copy, Debug, PartialEq, Eq)]
 pub enum Loss {
@@ -17,7 +21,7 @@ pub enum Loss {
         /// The length after.
         to: u64,
     },
-    /// Zeros were written over so many of its bytes.
+    /// A slot inside the blob was voided: zeros were written over so many of its bytes.
     Erased {
         /// Where they begin.
         at: u64,
@@ -154,7 +158,7 @@ impl Notebook {
             *len = end;
             return Ok(());
         }
-        if !bytes.is_empty() && bytes.iter().all(|b| *b == 0) {
+        if bytes.len() == SLOT_BYTES && bytes.iter().all(|b| *b == 0) {
             let loss = Loss::Erased {
                 at: offset,
                 bytes: bytes.len() as u64,

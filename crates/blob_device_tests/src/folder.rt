@@ -4,17 +4,20 @@ ghost use Rattle.blob_device.specs.FileMeaning.{file_opened};
 ghost use Rattle.blob_device_tests.specs.Holding.{IsHeld};
 
 use crate::disk::{Held, carried_out, hex_of};
-use blob_device::{DevError, FileDevice};
+use blob_device::{DevError, Device, FileDevice, HostFiles};
 use scenario_text::{Report, Step};
-use std::alloc::AllocError;
+use std::alloc::{AllocError, Global};
 use std::{fs, io};
+
+type Files = HostFiles<HostRuntime>;
 
 /// Carries out the steps of a scenario.
 pub fn run(rt: &HostRuntime, steps: &[Step], report: &mut Report) -> Result<(), DevError> {
-    let mut dev = FileDevice::new(rt, rt.alloc(), "")?;
+    let files = HostFiles::new(rt)?;
+    let mut dev = FileDevice::new(&files, rt.alloc(), "")?;
     let mut held = None;
     for step in steps {
-        let (next, said) = in_folder(rt, &mut dev, held, step)?;
+        let (next, said) = in_folder(rt, &files, &mut dev, held, step)?;
         held = next;
         report.compare(step, said.as_str())?;
     }
@@ -24,7 +27,8 @@ pub fn run(rt: &HostRuntime, steps: &[Step], report: &mut Report) -> Result<(), 
 /// Carries out a step. The answer is the blob that is open then, and what the step says.
 fn in_folder(
     rt: &HostRuntime,
-    dev: &mut FileDevice<HostRuntime>,
+    files: &Files,
+    dev: &mut FileDevice<Files>,
     held: Option<Held>,
     step: &Step,
 ) -> Result<(Option<Held>, String), DevError>
@@ -34,9 +38,14 @@ fn in_folder(
     let alloc = rt.alloc();
     match step.word() {
         "folder" => {
-            *dev = FileDevice::new(rt, alloc, step.argument(0))?;
+            *dev = FileDevice::new(files, alloc, step.argument(0))?;
             Ok((None, String::from_str(alloc, "ok")?))
         }
+        "alone" => {
+            *dev = FileDevice::alone(files, alloc, step.argument(0))?;
+            Ok((None, String::from_str(alloc, "ok")?))
+        }
+        "second" => Ok((held, second(files, alloc, step.argument(0))?)),
         "faults" => Ok((held, format!(in alloc; "{}", dev.faults())?)),
         "failure" => {
             let line = String::from_str(alloc, dev.last_failure().unwrap_or("none"))?;
@@ -45,6 +54,16 @@ fn in_folder(
         "file" | "file-bytes" | "there" | "clear" => Ok((held, file_told(rt, step)?)),
         _ => carried_out(alloc, dev, held, step),
     }
+}
+
+/// What a second device says that is to have the folder alone.
+fn second(files: &Files, alloc: Global, root: &str) -> Result<String, DevError> {
+    let mut dev = FileDevice::alone(files, alloc, root)?;
+    let said = match dev.open_blob("keys", b"a") {
+        Ok(_) => "ok",
+        Err(_) => dev.last_failure().unwrap_or("none"),
+    };
+    Ok(String::from_str(alloc, said)?)
 }
 
 /// What a step about a file says, also where the system refuses it.

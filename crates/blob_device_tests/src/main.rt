@@ -29,6 +29,8 @@
 //! | Command | What it does, and what it says |
 //! |---|---|
 //! | `folder PATH` | a new device over this folder; no blob is open |
+//! | `alone PATH` | the same, and the device has the folder alone from its first call on |
+//! | `second PATH` | whether a further device can have this folder alone: `ok`, or the line of its fault |
 //! | `failure` | the line of the last fault, or `none` |
 //! | `file PATH HEX`, `file-bytes PATH` | writes a file; its bytes |
 //! | `there PATH`, `clear PATH` | whether something stands there; removes it |
