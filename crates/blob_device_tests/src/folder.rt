@@ -59,11 +59,10 @@ fn in_folder(
 /// What a second device says that is to have the folder alone.
 fn second(files: &Files, alloc: Global, root: &str) -> Result<String, DevError> {
     let mut dev = FileDevice::alone(files, alloc, root)?;
-    let said = match dev.open_blob("keys", b"a") {
-        Ok(_) => "ok",
-        Err(_) => dev.last_failure().unwrap_or("none"),
-    };
-    Ok(String::from_str(alloc, said)?)
+    if dev.open_blob("keys", b"a").is_ok() {
+        return Ok(String::from_str(alloc, "ok")?);
+    }
+    Ok(String::from_str(alloc, dev.last_failure().unwrap_or("none"))?)
 }
 
 /// What a step about a file says, also where the system refuses it.
