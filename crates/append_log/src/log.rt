@@ -1,4 +1,28 @@
 // Records at the end of a blob.
+//
+// # Format
+//
+//     0                                           the blob's length
+//     +----------+----------+-- .. --+------------+
+//     | record 0 | record 1 |        | record n-1 |
+//     +----------+----------+-- .. --+------------+
+//
+// The bytes of the records stand one behind the other, with no length and no seal between them. Where a
+// record ends, its reader has to know.
+//
+// # Sync
+//
+// An append is synced before it returns Ok. `append_all` syncs each record before it writes the next.
+//
+// # Crashes
+//
+// At every moment, and after an error too, a crash leaves all that was synced. Behind it stand at most as
+// many bytes as the record under way has, and any bytes. Nothing tells such a torn record from a whole one.
+//
+// # Cost
+//
+// A record takes three calls of the device: it opens the blob, writes and syncs. `append_all` holds a mark a
+// record in memory.
 ghost use Rattle.std.specs.Prelude.{◌≡◌, ◌≢◌, ◌+◌, ◌<◌, ◌≤◌, ◌^◌, ◌++◌, length, OnOk, IsSome};
 ghost use Rattle.blob_device.specs.Timeline.{disk, Always, OnlyAt, Stretches};
 ghost use Rattle.blob_device.specs.Disk.{Key};
@@ -29,11 +53,14 @@ pub fn append<D: Device>(
     ensures full { D.Tells → result ≡ Err LogError.Full → 2 ^ 64 ≤ length (disk (D.time dev.old) (partition.now, name.now)).content + length bytes.now }
     ensures room { D.Tells → OnOk result (length (disk (D.time dev.old) (partition.now, name.now)).content + length bytes.now < 2 ^ 64) }
 {
+    // An opening settles what stands there, and only it tells where the record goes.
     let len = dev.open_blob(partition, name)?;
     if bytes.len() as u64 > u64::MAX - len {
         return Err(LogError::Full);
     }
+    // Behind the end and nowhere else: no place below it becomes loose.
     dev.write_at(partition, name, len, bytes)?;
+    // Before the answer, since after an Ok every crash leaves the record.
     dev.sync(partition, name)?;
     Ok(())
 }
@@ -73,12 +100,14 @@ pub fn append_all<D: Device>(
 {
     let mut marks = Vec::new(alloc);
     'records: for record in records {
+        // The mark is taken before the record's first call, so that no moment of the append lies before it.
         if marks.push(dev.calls()).is_err() {
             return Appended {
                 marks,
                 result: Err(LogError::Device(DevError::Mem)),
             };
         }
+        // For good before the next one begins: so at most one record is torn.
         match append(dev, partition, name, record.as_slice()) {
             Ok(()) => {}
             Err(e) => {

@@ -1,4 +1,41 @@
 // A device over a folder of a file system: the edge at which the proofs end.
+//
+// # Format
+//
+//     ROOT/
+//       LOCK                    empty, and locked by a device that has the folder alone
+//       keys/                   a partition: its name has 1 to 64 of a to z, 0 to 9, `_` and `-`
+//         0000000000000004      a blob: the file is named by the hexadecimal of the blob's name
+//       meta/
+//         6c656674              the blob `left`
+//
+// A file has the blob's bytes. Behind a write that failed it may be longer than the blob. The surplus is cut
+// before the next call that changes or settles the blob.
+//
+// # Sync
+//
+// What is synced before a call answers Ok:
+//
+//     open_blob    the root, where the partition is new to the device; the partition's folder, where its
+//                  names may not have settled; then the file
+//     sync         the file, at the blob's length
+//     remove       the partition's folder, behind the removal
+//     scan         the partition's folder, where its names may not have settled; only then it is listed
+//
+// Each is `sync_all`. A folder that is made for the root is synced into the one above. Reads, writes and
+// resizes sync nothing, but for a written file that is closed to make room for another.
+//
+// # Crashes
+//
+// The device tells nothing of its disk (`Tells` is empty): that what was synced lasts is trusted. After a
+// sync that failed no call answers again that a blob is settled. The system may have dropped what it was to
+// write.
+//
+// # Cost
+//
+// At most 256 files are open, those that were used last. A path is built once a blob. With `HostFiles` a read
+// of an open file is one call of the system. A write and a resize look at the file's length first. `new` and
+// `alone` touch no file.
 ghost use Rattle.std.specs.Prelude.{◌≡◌, ◌+◌, ◌<◌, ◌^◌, ◌⊎◌, ◌≤◌, ◌||◌, max, true, false, None, Err, IsSome, IsSomeAnd, IsErr, IsErrAnd, OnOk, OnErr, IfOk, IfSome, length};
 ghost use Rattle.std.specs.Result.{IsOkUnless, result_ok};
 ghost use Rattle.blob_device.specs.Counts.{Counted, Noted};
@@ -27,25 +64,38 @@ use stop::Stop;
 
 /// A device over a folder of a file system.
 ///
-/// A partition is a folder below the root and is made when needed; it stays when its last blob is removed. A blob is the
-/// file whose name is the lower-case hexadecimal of the blob's name, and other files are passed over. A partition's name has
-/// 1 to 64 of the characters a to z, 0 to 9, `_` and `-`; any other is a fault. A blob's name has 1 to 127 bytes: the system
-/// refuses other files, which is a fault too.
+/// A partition is a folder below the root and is made when needed; it stays when its last blob is removed. A
+/// blob is the file whose name is the lower-case hexadecimal of the blob's name, and other files are passed
+/// over. A partition's name has 1 to 64 of the characters a to z, 0 to 9, `_` and `-`; any other is a fault.
+/// A blob's name has 1 to 127 bytes: the system refuses other files, which is a fault too.
 ///
-/// `open_blob` and `sync` sync the file. The names of a partition's files and folder are synced when the device first opens
-/// a blob there or lists its names, and when it makes or removes a file or folder. A folder that is made for the root, or
-/// above it, is synced into the one above. Of the open files, at most 256, none is closed with writes that are not synced.
-/// After a sync that failed no call answers that a blob is settled ([`has_lost`](FileDevice::has_lost)). A file's length is
-/// looked at when it is opened, before it is changed, and when it settles. The device does not tell its disk: what the
-/// system does with the files is outside the proofs.
+/// `open_blob` and `sync` sync the file. The names in a partition's folder are synced when the device first
+/// opens a blob there or lists them. They are synced again where it makes or removes a file. A folder that is
+/// made for the root, or above it, is synced into the one above. Of the open files, at most 256, none is
+/// closed with writes that are not synced. After a sync that failed no call answers that a blob is settled
+/// ([`has_lost`](FileDevice::has_lost)). A file's length is looked at when it is opened, before it is
+/// changed, and when it settles. The device does not tell its disk: what the system does with the files is
+/// outside the proofs.
+///
+/// ```rust let mut dev = FileDevice::alone(&HostFiles::new(rt)?, alloc, "archive")?;    // no file is touched
+/// yet dev.open_blob("p", b"a")?;              // locks archive/LOCK, makes archive/p/61, and syncs it and
+/// its names dev.write_at("p", b"a", 0, b"abc")?;    // the file has the bytes, and a power cut may take them
+/// dev.sync("p", b"a")?;                   // abc lasts, as far as the system keeps what it has synced ```
 #[derive(Drop)]
 pub struct FileDevice<R: Files + Clone + Drop> {
+    /// Where memory for the list, paths and lines comes from.
     alloc: Global,
+    /// The files below the root.
     files: BlobFiles<R>,
+    /// The opened blobs, with length in bytes and reads, as the calls leave them (`file_opened`).
     opened: OpenedBlobs,
+    /// How many calls ended, up to the end of a u64; each raises it (`Counted.calls`).
     calls: u64,
+    /// How many of them failed but for want of memory, up to the end of a u64 (`Noted.faults`).
     faults: u64,
+    /// Whether a sync has failed. It never goes back to false (`Noted.lost_stays`).
     has_lost: bool,
+    /// What failed at the last fault, in one line for people. No contract speaks of it.
     last_failure: Option<String>,
 }
 
@@ -144,6 +194,7 @@ impl<R: Files + Clone + Drop> FileDevice<R> {
             return Err(Stop::Lost);
         }
         let len = self.opened.get(partition, name).map(|entry| entry.len);
+        // With the length of an opened blob, so that what a failed write left behind it does not settle.
         let len = self.files.open(partition, name, len)?;
         self.opened.enter(partition, name, len)?;
         Ok(len)
@@ -183,6 +234,7 @@ impl<R: Files + Clone + Drop> FileDevice<R> {
         ensures lost { file_lost self.new ≡ file_lost self.old }
     {
         let len = self.len(partition, name);
+        // Before the list: where the write fails, the blob is as long as it was.
         self.files.write(partition, name, len, offset, bytes)?;
         let end = offset + bytes.len() as u64;
         self.opened.set_len(partition, name, len.max(end));
@@ -198,6 +250,7 @@ impl<R: Files + Clone + Drop> FileDevice<R> {
         ensures lost { file_lost self.new ≡ file_lost self.old }
     {
         let old = self.len(partition, name);
+        // Before the list: where the file fails, the blob keeps its length.
         self.files.resize(partition, name, old, len)?;
         self.opened.set_len(partition, name, len);
         Ok(())
@@ -215,6 +268,7 @@ impl<R: Files + Clone + Drop> FileDevice<R> {
             return Err(Stop::Lost);
         }
         let len = self.len(partition, name);
+        // At the length in the list, so that what a failed write left behind it does not settle.
         self.files.sync(partition, name, len)
     }
 
@@ -232,6 +286,7 @@ impl<R: Files + Clone + Drop> FileDevice<R> {
         if self.has_lost {
             return Err(Stop::Lost);
         }
+        // Before the list: where the file stays, the blob is still opened.
         self.files.remove(partition, name)?;
         self.opened.leave(partition, name);
         // Settled last: the file is gone by now, and the blob out of the list, whatever comes of this.

@@ -1,4 +1,17 @@
-//! A disk of named blobs, with a model of what a crash at any moment may leave, and sources and sinks of bytes.
+//! A disk of named blobs, with a model of what a crash at any moment may leave, and sources and sinks of
+//! bytes.
+//!
+//! [`Device`] is the disk as a store sees it. [`Memory`] meets all of its contract, and [`FileDevice`] keeps
+//! blobs as files. `docs/CRASHES.md` explains the model moment by moment.
+//!
+//! ```rust
+//! let mut dev = Memory::new(alloc);
+//! dev.open_blob("p", b"a")?;                               // makes the blob: every crash leaves it, empty
+//! dev.write_at("p", b"a", 0, b"abc")?;                     // a crash leaves 0 to 3 bytes, and any bytes
+//! let crash = dev.pick_crash(alloc, CrashChoice::Mixed(5))?;
+//! // crash.blob("p", b"a") is 61 ff 63: byte 1 was lost
+//! dev.sync("p", b"a")?;                                    // every crash from here on leaves abc
+//! ```
 #![tactic(auto)]
 
 mod device;

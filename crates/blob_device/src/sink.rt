@@ -34,11 +34,17 @@ pub trait Sink {
 /// A sink in memory that takes bytes in pieces, with writes that fail where a test wants it.
 #[derive(Drop)]
 pub struct MemSink {
+    /// All bytes that were taken, in their order (`sink_taken`).
     bytes: Vec<u8>,
+    /// The most bytes that one write takes.
     piece: usize,
+    /// The numbers of the writes that are to fail, in any order (`sink_fails`).
     failing: Vec<u64>,
+    /// The number of the next write: how many were begun, up to the end of a u64.
     writes: u64,
+    /// How many writes failed, up to the end of a u64.
     faults: u64,
+    // A write that does not fail takes a byte.
     ghost piece_is_some: { 0 < piece },
 }
 
@@ -121,11 +127,13 @@ impl Sink for MemSink {
 
 /// A writer of std, flushed after each write, with the number of its errors.
 ///
-/// It does not tell the bytes that it took, since a writer may have taken some before its flush failed. What a write that
-/// ends Ok added to the writer is told.
+/// It does not tell the bytes that it took, since a writer may have taken some before its flush failed. What
+/// a write that ends Ok added to the writer is told.
 #[derive(Drop)]
 pub struct StdSink<W> {
+    /// What the bytes go to; it is flushed behind each write.
     writer: W,
+    /// How many writes ended in an error or took nothing, up to the end of a u64 (`FaultsAre`).
     faults: u64,
 }
 

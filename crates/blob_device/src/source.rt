@@ -33,13 +33,21 @@ pub trait Source {
 /// Bytes in memory, given in pieces, with reads that fail where a test wants it.
 #[derive(Drop)]
 pub struct MemSource {
+    /// All bytes, those that were read too.
     bytes: Vec<u8>,
+    /// How many were read (`source_left`).
     at: usize,
+    /// The most bytes that one read gives.
     piece: usize,
+    /// The numbers of the reads that are to fail, in any order (`source_fails`).
     failing: Vec<u64>,
+    /// The number of the next read: how many were begun, up to the end of a u64.
     reads: u64,
+    /// How many reads failed, up to the end of a u64.
     faults: u64,
+    // No more was read than there is.
     ghost within: { at ≤ length bytes.items },
+    // A read gives a byte, where one is left.
     ghost piece_is_some: { 0 < piece },
 }
 
@@ -127,10 +135,13 @@ impl Source for MemSource {
     }
 }
 
-/// A reader of std, with the number of its errors. It tells the bytes that are left where the reader's type does.
+/// A reader of std, with the number of its errors. It tells the bytes that are left where the reader's type
+/// does.
 #[derive(Drop)]
 pub struct StdSource<R> {
+    /// What the bytes come from.
     reader: R,
+    /// How many reads ended in an error, up to the end of a u64 (`FaultsAre`).
     faults: u64,
 }
 

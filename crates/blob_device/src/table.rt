@@ -13,6 +13,7 @@ pub type ByName<V> = BTreeMap<Vec<u8>, V>;
 /// Values by partition and name.
 #[derive(Drop)]
 pub struct Table<V> {
+    /// By partition, and in it by name, both ascending by their bytes (`at_key`).
     pub partitions: BTreeMap<Vec<u8>, BTreeMap<Vec<u8>, V>>,
 }
 

@@ -6,6 +6,7 @@ use std::marker::Model;
 /// The entries of a copy, in ascending order of their keys.
 #[derive(Drop)]
 pub struct CopyEntries<K, V> {
+    /// The entries. Of a copy that was read, the keys ascend strictly (`IsEntries.ascending`).
     items: Vec<(K, V)>,
 }
 

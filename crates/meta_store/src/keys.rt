@@ -9,6 +9,7 @@ use value_codec::Key;
 /// The keys of a map that are left, in ascending order.
 #[derive(Drop)]
 pub struct KeyIter<'a, K: Key, V> {
+    /// The map's own iterator, over the keys that are left.
     inner: btree_map::Keys<'a, K, V>,
 }
 

@@ -1,4 +1,43 @@
 // A map in two copies, and its calls.
+//
+// All entries are in memory, and changes are staged there. A sync makes them durable together.
+//
+// # Format
+//
+// The map stands in two blobs of a partition, `left` and `right`. Each begins with a copy, or has none:
+//
+//     0          8      9                  17
+//     +----------+------+------------------+--------------+-------------------+
+//     | version  | form | length of body   | body         | seal of all       |
+//     | 8 bytes  | 1    | 8 bytes          |              | before it, 4      |
+//     +----------+------+------------------+--------------+-------------------+
+//
+//     body:   | number of entries, 8 | entry | entry | ..
+//     entry:  | key | length of the spelling, 4 | spelling of the value |
+//
+// Numbers are big-endian, keys ascend strictly, and bytes behind the seal are ignored. Of two copies the one
+// with the greater version is the map. With no copy the map is empty.
+//
+// # Sync
+//
+// A sync writes the whole map as the next version over the older or absent copy, and settles that blob. The
+// newer copy is not touched. With nothing staged no call is made.
+//
+//                 left         right
+//     sync 1      version 1    none
+//     sync 2      version 1    version 2
+//     sync 3      version 3    version 2
+//
+// # Crashes
+//
+// At every moment a crash leaves the map that was synced last, or the one of the sync under way, a chance
+// seal aside. Where the copy that is written is torn, its seal fails, and the other one is the map. `destroy`
+// removes the older copy first, so an older map never comes back.
+//
+// # Cost
+//
+// An opening makes four calls: two openings and two reads. A sync with a change makes two, a write and a
+// sync, and `destroy` two. All other calls make none.
 ghost use Rattle.std.specs.Prelude.{◌≡◌, ◌≢◌, ◌≤◌, ◌<◌, ◌+◌, ◌^◌, ◌⊎◌, ◌↔◌, ◌||◌, cond, nat_lt, length, List, Ok, Err, OnOk, OnErr, IfOk, IfSome, IsOk, OnSome, IfNone, Bool, true, false, ℕ, IsTrue};
 ghost use Rattle.std.specs.Option.{option_copied, option_copied_mut};
 ghost use Rattle.std.specs.Map.{keys_of};
@@ -33,17 +72,25 @@ pub struct Config<C> {
 
 /// A map that is kept in two copies on a device.
 ///
-/// Changes are staged in memory, and a sync writes them as the next version over the older copy. A call that takes the map
-/// and is refused gives it up; it is then opened again.
+/// Changes are staged in memory, and a sync writes them as the next version over the older copy. A call that
+/// takes the map and is refused gives it up; it is then opened again.
 #[derive(Drop)]
 pub struct Metadata<K: Key, V: Codec, S: Seal> {
+    /// Where memory for entries and copies comes from.
     alloc: Global,
+    /// The partition of both copies.
     partition: String,
+    /// What the codec of the values asks for. The copies were read under it.
     codec_config: V::Cfg,
+    /// The map with its staged changes, ascending by key. With none staged it is as synced (`Stands.fresh`).
     entries: BTreeMap<K, V>,
+    /// The greater version of the two copies; 0 where there is none (`Stands.pair`).
     version: u64,
+    /// The side of the older or absent copy, which the next sync writes over (`Stands.pair`).
     older: Side,
+    /// Whether there was a change since the opening or the last sync (`Stands.fresh`).
     staged: bool,
+    /// The kind of seal; no data.
     seal: PhantomData<S>,
 }
 

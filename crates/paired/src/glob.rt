@@ -1,4 +1,41 @@
 // Values in sealed frames, by section and place.
+//
+// # Format
+//
+// A section is a blob without sealed pages. Its bytes are frames, one behind the other:
+//
+//     0                               place                 place + size
+//     +---------------------+------+- .. +-----------+------+
+//     | spelling            | seal |     | spelling  | seal |
+//     | as the codec writes | 4    |     |           | 4    |
+//     +---------------------+------+- .. +-----------+------+
+//                                        |<-- a frame ----->|
+//
+// The seal is over the spelling, and big-endian. The size of a frame counts it. No length is stored: `append`
+// answers place and size, and the caller keeps both, as a pair does in its records.
+//
+// A read takes the frame in one piece, and holds its last four bytes against the seal of those before. Only
+// then the codec reads the value.
+//
+// # Sync
+//
+// An append goes into the section's buffer, which flushes at its capacity and settles nothing. `sync` settles
+// the named sections.
+//
+// # Crashes
+//
+// Each crash leaves the bytes that had settled, up to a cut. Behind them it may leave any bytes. Each content
+// that a section's blob had since it settled is a prefix of the section's bytes. So, a chance seal aside, a
+// frame whose seal holds is the one that stands there.
+//
+// # Pruning
+//
+// Sections below a bound are removed, the oldest first.
+//
+// # Cost
+//
+// A value takes its spelling and four bytes. An append below the buffer's capacity makes no call where the
+// section is held. A value is read by one call, and by none where its frame is not flushed.
 ghost use Rattle.std.specs.Prelude.{◌≡◌, ◌↔◌, ◌≤◌, ◌<◌, ℕ, None, IfOk, IfSome, OnErr, IsTrue, string_len};
 ghost use Rattle.std.specs.List.{Contains};
 ghost use Rattle.std.specs.List.Sorted.{IsStrictlySortedBy};
@@ -42,16 +79,28 @@ impl<C> Config<C> {
     }
 }
 
-/// Values by section and place. A value stands in a frame: its spelling, and the seal of that in four bytes, the highest first.
-/// Where a frame stands and how long it is, [`append`](Glob::append) answers, and the caller keeps.
+/// Values by section and place. A value stands in a frame: its spelling, and the seal of that in four bytes,
+/// the highest first. Where a frame stands and how long it is, [`append`](Glob::append) answers, and the
+/// caller keeps.
 ///
 /// Calls that take the glob by value give it up where they refuse; its blobs are then opened again by an
 /// [`init`](Glob::init).
+///
+/// ```rust
+/// let glob = Glob::<ByteValue, Sha256Seal>::init(alloc, &mut dev, &cfg)?;
+/// let (glob, place, size) = glob.append(&mut dev, 4, &value)?;    // in memory, below the buffer's capacity
+/// let glob = glob.sync(&mut dev, &[4])?;
+/// glob.get(&mut dev, 4, place, size)?
+/// ```
 #[derive(Drop)]
 pub struct Glob<V: Codec, S: Seal> {
+    /// Where memory for frames and values comes from.
     alloc: Global,
+    /// The sections, each in a buffer without seals to which bytes are only added (`IsGlob`).
     manager: Manager<WriteFactory>,
+    /// What the codec of the values asks for.
     codec_config: V::Cfg,
+    /// The kind of seal; no data.
     seal: PhantomData<S>,
 }
 

@@ -19,7 +19,9 @@ use value_codec::Seal;
 /// A record's bytes, and the spelling of its value.
 #[derive(Drop)]
 pub struct Found {
+    /// The record's bytes, as the index has them.
     stored: Vec<u8>,
+    /// The spelling of its value, without the seal.
     value: Vec<u8>,
 }
 

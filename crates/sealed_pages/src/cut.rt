@@ -44,7 +44,9 @@ pub fn cut_pages<D: Device, S: Seal>(
     ensures cause { result ≡ Err DevError.Fault → Rose (D.faults dev.old) (D.faults dev.new) }
 {
     let place = page_place(page_size, page);
+    // Where a page begins, so that no slot has to change.
     dev.resize(partition, name, place)?;
+    // At once: no crash may bring the pages back once others are written there.
     dev.sync(partition, name)?;
     Ok(())
 }
@@ -76,6 +78,7 @@ pub fn cut_later<D: Device, S: Seal>(
     if end <= place {
         return Ok(end);
     }
+    // Only where the blob reaches further: else nothing is to be settled.
     cut_pages::<D, S>(dev, partition, name, page_size, page)?;
     Ok(place)
 }
@@ -112,7 +115,9 @@ pub fn add_slot<D: Device, S: Seal>(
 {
     let slot = slot_of::<S>(page_size, bytes);
     let place = slot_place(page_size, page, second);
+    // Beside the old slot, which covers the page until this one has settled.
     dev.write_at(partition, name, place, &slot)?;
+    // Before the old slot is cleared: at every moment a settled slot covers what is kept.
     dev.sync(partition, name)?;
     Ok(end.max(place + 6))
 }
@@ -146,7 +151,9 @@ pub fn clear_slot<D: Device, S: Seal>(
     ensures cause { result ≡ Err DevError.Fault → Rose (D.faults dev.old) (D.faults dev.new) }
 {
     let place = slot_place(page_size, page, second);
+    // Last, since the cut counts only now: of two slots that match the longer one does.
     dev.write_at(partition, name, place, &[0; 6])?;
+    // Else a crash could bring back the old slot, and with it the bytes that were cut.
     dev.sync(partition, name)?;
     Ok(end.max(place + 6))
 }
@@ -182,15 +189,20 @@ pub fn cut_inside<D: Device, S: Seal>(
     ensures faults { D.faults dev.old ≤ D.faults dev.new }
     ensures cause { result ≡ Err DevError.Fault → Rose (D.faults dev.old) (D.faults dev.new) }
 {
+    // Later pages first: behind a page that is not full they would not be sealed.
     let cut = cut_later::<D, S>(dev, partition, name, page_size, end, page + 1)?;
+    // Then the new slot, while the old one still covers the page.
     let both = add_slot::<D, S>(dev, partition, name, page_size, cut, page, bytes, !second)?;
+    // The old slot goes last, once the new one has settled.
     clear_slot::<D, S>(dev, partition, name, page_size, both, page, second)
 }
 
 /// The first bytes of a page, and the slot of greater length that covers them.
 #[derive(Drop)]
 pub struct Head {
+    /// The page's first bytes, as many as are kept (`long` of `read_head`).
     pub bytes: Vec<u8>,
+    /// The slot: false for A, true for B. At a tie it is A (`best_slot`).
     pub second: bool,
 }
 

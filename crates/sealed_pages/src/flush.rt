@@ -70,6 +70,7 @@ pub fn flush_pages<D: Device, S: Seal>(
     'pages: while at < tip.len() {
         let n = (tip.len() - at).min(size);
         let second = next_slot_of(page_size, page, settled, newest);
+        // In order, so that a call that fails leaves the pages before it whole.
         reach = write_page::<D, S>(
             dev,
             partition,

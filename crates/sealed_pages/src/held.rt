@@ -6,10 +6,13 @@ ghost use Rattle.sealed_pages.specs.Reading.{page_of};
 use crate::piece::Piece;
 use std::alloc::AllocError;
 
-/// Pages that were read before, until the blob is written to: the last one with a matching slot, and some before it.
+/// Pages that were read before, until the blob is written to: the last one with a matching slot, and some
+/// before it.
 #[derive(Drop)]
 pub struct HeldPages {
+    /// Pages of a `hold`; a later one replaces them (`AreHeldOf.earlier`).
     earlier: Option<Piece>,
+    /// The last page with a matching slot, which adopting read (`AreHeldOf.last`).
     last: Option<Piece>,
 }
 

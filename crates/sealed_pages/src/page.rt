@@ -77,9 +77,11 @@ pub fn write_page<D: Device, S: Seal>(
 {
     let start = page_place(page_size, page);
     let chunk = &bytes[from..];
+    // The data first: then the blob never has this slot over bytes that are not there.
     dev.write_at(partition, name, start + from as u64, chunk)?;
     let slot = slot_of::<S>(page_size, bytes);
     let place = slot_place(page_size, page, second);
+    // Into the slot that has not settled: where this write is torn, the other one covers what was synced.
     dev.write_at(partition, name, place, &slot)?;
     Ok(end.max(place + 6))
 }

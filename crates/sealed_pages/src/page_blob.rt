@@ -1,4 +1,56 @@
 // A buffer over a blob whose pages carry seals.
+//
+// It means a list of bytes, which is extended at its end, read anywhere, and cut. Whatever a crash tears,
+// what was synced is found again by the seals.
+//
+// # Format
+//
+// A page has P data bytes and two slots, so page k begins at byte k * (P + 12) of the blob:
+//
+//     0                              P                    P + 6                P + 12
+//     +------------------------------+--------------------+--------------------+
+//     | data                         | slot A             | slot B             |
+//     | P bytes                      | length 2 | seal 4  | length 2 | seal 4  |
+//     +------------------------------+--------------------+--------------------+
+//
+// A slot covers as many first data bytes as its length says. Its seal is over the two length bytes and these.
+// Numbers are big-endian. A slot matches where its length is 1 to P, its seal holds, and it stands whole in
+// the blob. A page is as long as the longer of its matching slots says. The sealed prefix is the data of the
+// pages up to the first that is not full so.
+//
+// In memory is the tip: the bytes of a last page that is not full, and all that is not flushed:
+//
+//     page 0         page 1         page 2
+//     | full       | | full       | | flushed | not flushed .. |
+//                                   |<--------- tip --------->|
+//                                   `first`   `from`          the size
+//
+// # Sync
+//
+// An append flushes where the bytes that are not flushed reach the capacity. A flush settles nothing. It goes
+// page by page: the new data, then a slot over all data of the page. That is the slot that has not settled,
+// so a torn one costs nothing that was synced. `sync` flushes and settles. `truncate` settles first, cuts,
+// and settles each step.
+//
+// # Crashes
+//
+// Of a sealed buffer each crash leaves a blob whose sealed prefix is a prefix of the bytes, a chance seal
+// aside. It is no shorter than what has settled, or than a cut. So it is at every moment, and after an error.
+//
+//     settled             data "ef"              slot A covers 2       slot B covers nothing
+//     "gh" is flushed     data "efgh"            slot A covers 2       slot B covers 4
+//     a crash leaves      "ef" and any bytes     slot A covers 2       slot B old, new or torn
+//
+// What an earlier crash left in a blob that is adopted goes for good before the first new byte is written.
+// Where the sealed prefix of such a blob is shorter than its size, every crash leaves that prefix as it is. A
+// cut to at most the prefix makes the buffer sealed.
+//
+// # Cost
+//
+// A flush makes two writes a page, and the first one over leftovers up to three calls before. A sync makes
+// one call more. A read makes one call a page that is not held. A cut inside a page reads it, and makes up to
+// three changes, each with a sync. Adopting reads page by page from the last one back to one with a matching
+// slot.
 ghost use Rattle.std.specs.Prelude.{◌≡◌, ◌≢◌, ◌+◌, ◌*◌, ◌≤◌, ◌<◌, ◌^◌, ◌-◌, ◌++◌, ◌↔◌, ◌==◌, ◌||◌, ◌⊎◌, Err, not, length, drop, take, IfOk, IfSome, IsOkAnd, OnOk, OnErr, Bool, true, false, ℕ, List, IsTrue};
 ghost use Rattle.std.specs.Result.{IsErrOf};
 ghost use Rattle.blob_device.specs.declared.runtime.RError.TheVariants.{Fault, OffsetOverflow};
@@ -30,28 +82,47 @@ use value_codec::Seal;
 
 /// A buffer over an opened blob whose pages carry two seals each.
 ///
-/// The tip is held in memory: the bytes of a last page that is not full, and all bytes that are not flushed. So is the page that adopting
-/// read, until the blob is written to, unless `cache_pages` is 0: an opening reads it no second time. A refused call gives the buffer up;
-/// the blob is then opened and adopted again.
+/// The tip is held in memory: the bytes of a last page that is not full, and all bytes that are not flushed.
+/// So is the page that adopting read, until the blob is written to, unless `cache_pages` is 0: an opening
+/// reads it no second time. A refused call gives the buffer up; the blob is then opened and adopted again.
 #[derive(Drop)]
 pub struct PageBlob<S: Seal> {
+    /// Where memory for tips and pages comes from.
     alloc: Global,
+    /// The partition of the blob.
     partition: String,
+    /// The blob's name.
     name: Vec<u8>,
+    /// The data bytes of a page, at least 1 (`Fit.begun`).
     page_size: u16,
+    /// From how many bytes on an append flushes those that are not flushed (`FlushesNothing`).
     capacity: usize,
+    /// Where the blob ends, in bytes of the blob, slots counted. The opened list has it (`IsOpenAt`).
     end: u64,
+    /// The number of the page with which the tip begins. Those below it stand in the blob.
     first: u64,
+    /// The data bytes from that page on, flushed or not (`Holds.tip_at`).
     tip: Vec<u8>,
+    /// How many bytes of the tip are flushed, less than a page (`Fit.begun`, `Fit.within`).
     from: usize,
+    /// How many data bytes have settled, from the first on (`Ready.settled`, `Ready.order`).
     settled: u64,
+    /// The slot that covers the page in which they end: false for A, true for B (`Ready.last`).
     newest: bool,
+    /// Whether bytes stand behind the last page with a matching slot. The first flush cuts them
+    /// (`Leftover.behind_is`).
     behind: bool,
+    /// Whether that page's other slot is torn. The first flush clears it (`Leftover.torn_is`).
     torn: bool,
+    /// Pages as they were read. A write to the blob drops them all (`AreHeldOf`).
     held: HeldPages,
+    /// The kind of seal; no data.
     seal: PhantomData<S>,
+    // The tip begins where a page does, and all pages with their slots end below 2^64.
     ghost fit: { Fit page_size first from tip.items },
+    // A torn slot stands beside one that covers bytes of the tip.
     ghost inside: { torn ≡ true → 0 < from },
+    // No more has settled than is flushed.
     ghost order: { settled ≤ first * page_size + from },
 }
 
@@ -287,6 +358,7 @@ impl<S: Seal> PageBlob<S> {
         ensures faults { D.faults dev.old ≤ D.faults dev.new }
         ensures cause { result ≡ Err DevError.Fault → Rose (D.faults dev.old) (D.faults dev.new) }
     {
+        // Before the tip lets a page go: until it is written, the bytes are here alone.
         let end = flush_pages::<D, S>(
             dev,
             self.partition.as_str(),
@@ -372,7 +444,9 @@ impl<S: Seal> PageBlob<S> {
         if self.from >= self.tip.len() {
             return Ok(self);
         }
+        // For good before the first new byte: beside new bytes old ones could match again.
         let this = self.repaired(dev)?;
+        // Only now, with nothing left in the blob that new bytes could bring to match.
         this.written(dev)
     }
 
@@ -425,6 +499,7 @@ impl<S: Seal> PageBlob<S> {
         if this.tip.len() - this.from < this.capacity {
             return Ok((this, at));
         }
+        // At the capacity, which bounds what is in memory. Nothing settles.
         let this = this.flush(dev)?;
         Ok((this, at))
     }
@@ -474,7 +549,9 @@ impl<S: Seal> PageBlob<S> {
         if !self.needs_sync() {
             return Ok(self);
         }
+        // All that is pending first, since the device settles only what the blob has.
         let mut this = self.flush(dev)?;
+        // Once, behind all pages: until then the old slots cover what had settled.
         dev.sync(this.partition.as_str(), this.name.as_slice())?;
         let end = this.flushed();
         let slot = last_slot_of(

@@ -15,15 +15,25 @@ use std::alloc::{AllocError, Global};
 /// Pages from `page` on, `count` of them; no page where it is 0.
 #[derive(Drop)]
 pub struct Piece {
+    /// The data bytes of a page.
     page_size: u16,
+    /// How many whole pages there is room for, slots counted.
     room: u64,
+    /// That room. Only the first `have` bytes are the blob's.
     bytes: Vec<u8>,
+    /// How many bytes are the blob's. The last page may end with the blob.
     have: usize,
+    /// The number of the first page.
     page: u64,
+    /// How many pages there are (`HasPage`); they are as in the blob (`IsPieceOf`).
     count: u64,
+    // The room is of whole pages.
     ghost wide: { room * (page_size + 12) ≡ length bytes.items },
+    // There is room for a page.
     ghost some: { 1 ≤ room },
+    // What was read fits the room.
     ghost within: { have ≤ length bytes.items },
+    // So do the pages.
     ghost fits: { count ≤ room },
 }
 

@@ -197,6 +197,7 @@ pub fn open_again<D: Device>(dev: &mut D, partition: &str, name: &[u8]) -> Resul
     ensures faults { D.faults dev.old ≤ D.faults dev.new }
     ensures cause { result ≡ Err DevError.Fault → Rose (D.faults dev.old) (D.faults dev.new) }
 {
+    // Nothing else tells the length of a blob that has no buffer.
     dev.open_blob(partition, name)
 }
 

@@ -144,12 +144,17 @@ pub fn read_page<D: Device>(
     read_span(dev, partition, name, end, place, buf)
 }
 
-/// The last page with a matching slot: its number, the lengths of its slots, and how many of its bytes stand below the end.
+/// The last page with a matching slot: its number, the lengths of its slots, and how many of its bytes stand
+/// below the end.
 #[derive(Clone, Copy)]
 pub struct LastPage {
+    /// Its number.
     pub page: u64,
+    /// How many data bytes slot A covers; 0 where it does not match.
     pub first_len: usize,
+    /// The same of slot B. One of the two is greater than 0.
     pub second_len: usize,
+    /// How many of its bytes stand below the blob's end, slots counted.
     pub have: usize,
 }
 

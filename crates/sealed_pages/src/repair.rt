@@ -60,6 +60,7 @@ pub fn cut_behind<D: Device, S: Seal>(
         return Ok(end);
     }
     let place = page_place(page_size, pages);
+    // Before new data: a slot that stands behind could match again over it.
     dev.resize(partition, name, place)?;
     Ok(place)
 }
@@ -101,6 +102,7 @@ pub fn clear_torn<D: Device, S: Seal>(
         return Ok(end);
     }
     let place = slot_place(page_size, page, second);
+    // Before new data: over more bytes of its page the torn slot could come to match.
     dev.write_at(partition, name, place, &[0; 6])?;
     Ok(end.max(place + 6))
 }
@@ -138,8 +140,10 @@ pub fn repair<D: Device, S: Seal>(
     ensures cause { result ≡ Err DevError.Fault → Rose (D.faults dev.old) (D.faults dev.new) }
 {
     let pages = pages_below(first, from);
+    // The cut first, so that the page of the torn slot is the last one.
     let cut = cut_behind::<D, S>(dev, partition, name, page_size, end, pages, behind)?;
     let reach = clear_torn::<D, S>(dev, partition, name, page_size, cut, first, !newest, torn)?;
+    // Settled before a data byte is written: no crash brings the leftovers back beside new bytes.
     dev.sync(partition, name)?;
     Ok(reach)
 }

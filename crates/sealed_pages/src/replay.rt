@@ -21,25 +21,41 @@ use value_codec::Seal;
 
 /// Reads a blob whose bytes are all flushed, from a position on.
 ///
-/// A condition of its calls is that the blob was not changed since it was made. Each page is checked before its bytes are
-/// given, and judged only as far as bytes of it are wanted.
+/// A condition of its calls is that the blob was not changed since it was made. Each page is checked before
+/// its bytes are given, and judged only as far as bytes of it are wanted.
 #[derive(Drop)]
 pub struct PageReplay<S: Seal> {
+    /// The partition of the blob.
     partition: String,
+    /// The blob's name.
     name: Vec<u8>,
+    /// The data bytes of a page.
     page_size: u16,
+    /// Where the blob ends, in bytes of the blob. The opened list has it (`IsOpenAt`).
     end: u64,
+    /// How many data bytes there are.
     size: u64,
+    /// The position: how many data bytes stand before those at hand.
     at: u64,
+    /// Bytes that were checked: those passed by, and behind them those at hand (`IsReplayOf.covered`).
     held: Vec<u8>,
+    /// How many of these were passed by.
     used: usize,
+    /// The pages that were read last (`IsReplayOf.piece`).
     piece: Piece,
+    /// Pages that the buffer held, which are read no second time (`IsReplayOf.pages`).
     pages: HeldPages,
+    /// The kind of seal; no data.
     seal: PhantomData<S>,
+    // No more was passed by than was checked.
     ghost taken: { used ≤ length held.items },
+    // What is at hand ends within the data.
     ghost inside: { at + (length held.items - used) ≤ size },
+    // A page has a byte.
     ghost some: { 1 ≤ page_size },
+    // All pages with their slots end below 2^64.
     ghost room: { extent page_size size < 2 ^ 64 },
+    // The pages that were read are cut as those of the blob.
     ghost same_pages: { piece.page_size ≡ page_size },
 }
 

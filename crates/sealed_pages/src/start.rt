@@ -15,10 +15,15 @@ use value_codec::Seal;
 /// Where the tip begins, how many of its bytes stand in the blob, and what a crash may have left.
 #[derive(Clone, Copy)]
 pub struct Start {
+    /// The page in which the tip begins (`Starts.size`).
     pub first: u64,
+    /// How many of the tip's bytes stand in the blob, less than a page (`Starts.begun`).
     pub from: usize,
+    /// The longer slot of the last page with one that matches: false for A, true for B (`Starts.newest_is`).
     pub newest: bool,
+    /// Whether bytes stand behind that page (`Leftover.behind_is`).
     pub behind: bool,
+    /// Whether its other slot is torn; never where the page is full (`Leftover.torn_is`).
     pub torn: bool,
 }
 

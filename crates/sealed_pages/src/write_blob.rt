@@ -1,4 +1,40 @@
 // A buffer over a blob without seals.
+//
+// It means the bytes of its blob, with one run of bytes over them. It is for bytes that carry seals of their
+// own, as the frames of a glob do.
+//
+// # Format
+//
+// The blob has the bytes as they are. The run is in memory, and stands at any place:
+//
+//     0                      `settled`          `end`
+//     +----------------------+------------------+
+//     | blob                 |                  |
+//     +----------------------+------------------+
+//                                         +------------------+
+//                                         | run, not flushed |
+//                                         +------------------+
+//                                         `at`
+//
+// A write that begins in the run or at its end joins it. Any other flushes the run, and begins a new one.
+// Between the blob's end and a run behind it the bytes are zeros.
+//
+// # Sync
+//
+// A write flushes where the run reaches the capacity. A flush is one write, and settles nothing. `sync`
+// flushes and settles. `truncate` flushes what the run keeps, cuts, and settles.
+//
+// # Crashes
+//
+// Each byte that had settled and was not written since outlives every crash, up to a cut. Of any other byte a
+// crash may leave anything: no seal tells a torn write from a whole one. Only places of the run and of the
+// call are touched. After an error the buffer is gone, so a write that failed is never read as one that was
+// made.
+//
+// # Cost
+//
+// A write or append makes at most two calls, and one where its bytes join the run. A sync makes at most two,
+// and a cut three. A read makes one, and none where all its bytes are in the run.
 ghost use Rattle.std.specs.Prelude.{◌≡◌, ◌≢◌, ◌+◌, ◌-◌, ◌≤◌, ◌<◌, ◌^◌, ◌↔◌, ◌⊎◌, max, min, Err, length, take, IfOk, IsOkAnd, OnOk, OnErr, Bool, true, false, ℕ, List, [], ◌∷◌, ◌++◌, IsTrue};
 ghost use Rattle.std.specs.Result.{IsErrOf};
 ghost use Rattle.blob_device.specs.declared.runtime.RError.TheVariants.{Fault, OffsetOverflow};
@@ -20,21 +56,40 @@ use std::alloc::{AllocError, Global};
 
 /// A buffer over an opened blob that carries no seals.
 ///
-/// One run of bytes is held in memory. A write that begins in the run or at its end goes into it; any other flushes the run
-/// and begins a new one. No byte is written that was not handed to the buffer since its last flush: gaps are left to the
-/// device. A refused call gives the buffer up; the blob is then opened and adopted again.
+/// One run of bytes is held in memory. A write that begins in the run or at its end goes into it; any other
+/// flushes the run and begins a new one. No byte is written that was not handed to the buffer since its last
+/// flush: gaps are left to the device. A refused call gives the buffer up; the blob is then opened and
+/// adopted again.
+///
+/// ```rust
+/// let blob = WriteBlob::adopt(alloc, "p", b"v", end, 1024)?;
+/// let (blob, at) = blob.append(&mut dev, b"abc")?;    // in the run, below 1,024 bytes
+/// let blob = blob.write_at(&mut dev, at, b"x")?;      // in the run: xbc
+/// let blob = blob.sync(&mut dev)?;                    // one write and one sync
+/// ```
 #[derive(Drop)]
 pub struct WriteBlob {
+    /// The partition of the blob.
     partition: String,
+    /// The blob's name.
     name: Vec<u8>,
+    /// From how many bytes in the run on a write flushes it (`StaysBelow`).
     capacity: usize,
+    /// How long the blob is, in bytes. The opened list has it (`IsOpenAt`).
     end: u64,
+    /// Where the run begins, in bytes from the blob's beginning. It may be behind the end.
     at: u64,
+    /// The run: what was handed in and is not flushed (`HoldsOnly`).
     pending: Vec<u8>,
+    /// How many first bytes have settled, but for those written since (`Over.lasts`).
     settled: u64,
+    /// Whether the blob has bytes, or an end, that have not settled (`Over.clean`).
     dirty: bool,
+    // The run ends below 2^64.
     ghost fit: { at + length pending.items < 2 ^ 64 },
+    // No more has settled than the blob has.
     ghost order: { settled ≤ end },
+    // Where the blob has settled, all of it counts as settled.
     ghost rests: { dirty ≡ false → settled ≡ end },
 }
 
@@ -124,6 +179,7 @@ impl WriteBlob {
             return Ok(self);
         }
         let end = self.size();
+        // The run alone: a byte that was not handed in is never loose.
         dev.write_at(
             self.partition.as_str(),
             self.name.as_slice(),
@@ -160,6 +216,7 @@ impl WriteBlob {
         ensures faults { D.faults dev.old ≤ D.faults dev.new }
         ensures cause { OnErr result ((result ≡ Err RError.Mem) ⊎ ((result ≡ Err RError.Fault) × Rose (D.faults dev.old) (D.faults dev.new))) }
     {
+        // Written and no more: nothing settles before a sync is asked for.
         Ok(self.flushed(dev)?)
     }
 
@@ -176,6 +233,7 @@ impl WriteBlob {
         ensures faults { D.faults dev.old ≤ D.faults dev.new }
         ensures cause { result ≡ Err DevError.Fault → Rose (D.faults dev.old) (D.faults dev.new) }
     {
+        // Behind the flush, so that all the blob has by now counts as settled.
         dev.sync(self.partition.as_str(), self.name.as_slice())?;
         let mut this = self;
         this.settled = this.end;
@@ -209,7 +267,9 @@ impl WriteBlob {
         if !self.needs_sync() {
             return Ok(self);
         }
+        // The run first, since the device settles only what the blob has.
         let this = self.flushed(dev)?;
+        // All bytes are in the blob by now, so this settles them all.
         Ok(this.rested(dev)?)
     }
 
@@ -236,6 +296,7 @@ impl WriteBlob {
         if self.joins(offset) {
             return Ok(self);
         }
+        // There is one run: the old one goes before another begins.
         let mut this = self.flushed(dev)?;
         this.at = offset;
         Ok(this)
@@ -300,6 +361,7 @@ impl WriteBlob {
         if this.pending.len() < this.capacity {
             return Ok(this);
         }
+        // At the capacity, which bounds what is in memory. Nothing settles.
         Ok(this.flushed(dev)?)
     }
 

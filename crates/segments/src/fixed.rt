@@ -1,4 +1,48 @@
 // A list of items of one size per section, each at its position.
+//
+// # Format
+//
+// A section is a blob of sealed pages. Its data are the items, one behind the other:
+//
+//     0         SIZE      2 SIZE                 n SIZE
+//     +---------+---------+------ .. --+---------+
+//     | item 0  | item 1  |            | item n-1 |
+//     +---------+---------+------ .. --+---------+
+//
+// Item p begins at byte p times the size. An item may lie across pages. There is no header, and no seal but
+// those of the pages.
+//
+// # Sync
+//
+// An append goes into the section's buffer, which flushes at its capacity and settles nothing. `sync` settles
+// the named sections.
+//
+// # Crashes
+//
+// Of a sealed section each crash leaves a prefix of its bytes that holds all that had settled. The whole
+// items in it are the first ones of the section (`item_laws`). A part of one more may stand behind them.
+//
+// # Opening
+//
+//     0                    floor                              size
+//     +--------------------+----------------------------------+
+//     | a marker vouches   | a replay is owed: read, checked, |
+//     | for these items    | and cut where no seal covers     |
+//     +--------------------+----------------------------------+
+//
+// A section with more bytes than its floor owes a replay, and takes no append before. Without a marker the
+// floor is 0. A replay reads such a section from its start. It cuts it, durably, to the whole items of its
+// sealed prefix, and never below its floor. Once a replay from its start, or from an earlier section, was
+// drained and finished, it owes none, and its floor is 0.
+//
+// # Pruning
+//
+// Sections below a bound are removed, the oldest first.
+//
+// # Cost
+//
+// An append below the buffer's capacity makes no call. An item is read by at most two reads more than the
+// pages that it fills. A replay reads each page once, and one once more where it cuts.
 ghost use Rattle.std.specs.Prelude.{◌≡◌, ◌↔◌, ◌≤◌, ◌<◌, ◌/◌, ℕ, List, [], None, IfOk, IfSome, OnErr, IsTrue, string_len};
 ghost use Rattle.std.specs.List.{Contains};
 ghost use Rattle.std.specs.List.Sorted.{IsStrictlySortedBy};
@@ -50,16 +94,22 @@ impl Config {
 
 /// A list of items per section. Item p of a section stands at byte p times the item's size.
 ///
-/// A section that was opened with bytes in it takes no append until a replay from its start, or from an earlier section, was
-/// drained and finished, unless it has just the bytes that a marker vouched for. Calls that take the journal by value give it up
-/// where they refuse; its blobs are then opened again by an `init`.
+/// A section that was opened with more bytes than a marker vouches for takes no append at first. It owes a
+/// replay from its start, or from an earlier section, that is drained and finished. Calls that take the
+/// journal by value give it up where they refuse; its blobs are then opened again by an `init`.
 #[derive(Drop)]
 pub struct Journal<A: CodecFixed, S: Seal> {
+    /// Where memory for items comes from.
     alloc: Global,
+    /// The sections, each in a buffer of sealed pages (`IsJournal.over`).
     manager: Manager<AppendFactory<S>>,
+    /// The sections that owe a replay. Each is held, with all its bytes settled (`OwesHeld`, `OwesSettled`).
     unrecovered: BTreeSet<u64>,
+    /// How many bytes of a section a marker vouches for; 0 where it is not in the map (`floor_of`).
     floors: BTreeMap<u64, u64>,
+    /// The kind of item; no data.
     item: PhantomData<A>,
+    // An item has a byte, so that positions can be found by division.
     ghost sized: { 1 ≤ A.SIZE },
 }
 

@@ -15,6 +15,7 @@ use std::marker::Model;
 /// Numbers of sections, ascending.
 #[derive(Drop)]
 pub struct SectionIter<'a> {
+    /// The numbers that are left, ascending.
     inner: btree_set::Range<'a, u64>,
 }
 
@@ -41,8 +42,11 @@ impl<'a> Iterator for SectionIter<'a> {
 /// Buffers by the number of their section, with the numbers alone beside them.
 #[derive(Drop)]
 pub struct Held<B> {
+    /// The buffer of each section that is held.
     buffers: BTreeMap<u64, B>,
+    /// The numbers of these sections, so that they can be gone over without the buffers.
     numbers: BTreeSet<u64>,
+    // The two have the same numbers.
     ghost same: { numbers.keys ≡ keys buffers },
 }
 

@@ -6,6 +6,7 @@ use std::marker::Model;
 /// Items, in the order in which they were asked for.
 #[derive(Drop)]
 pub struct Items<V> {
+    /// The items.
     items: Vec<V>,
 }
 

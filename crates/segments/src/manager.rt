@@ -1,4 +1,44 @@
 // Sections by their number.
+//
+// A manager opens, makes, settles, cuts and removes the sections of a partition. What the bytes of a section
+// mean is the affair of its buffer, a `SectionBuffer` over a blob of its own.
+//
+// # Format
+//
+// A section's blob is named by the eight bytes of its number, big-endian. The partition has no other blob:
+//
+//     partition
+//       0000000000000004     section 4
+//       0000000000000102     section 258
+//
+// Floor and ceiling are in memory alone:
+//
+//     0              floor                  ceiling
+//     +--------------+----------------------+-------------------------+
+//     | pruned: each | held, or not there:  | known and not opened    |
+//     | call refuses | a call makes it      | until they are removed  |
+//     +--------------+----------------------+-------------------------+
+//
+// # Sync
+//
+// `sync` settles the named sections, all of them checked before one is touched. Where nothing named is
+// unsettled it makes no call. A cut and a removal are durable when they return.
+//
+// # Crashes
+//
+// Of a section a crash leaves what passes its buffer's test (`MayKeep`), of all that had settled, up to a
+// cut. Removals go one after another: the oldest section first, or before a cut the newest first. So a crash
+// among them leaves the last sections, or the first ones, and no hole.
+//
+// # Pruning
+//
+// `prune` removes the sections below its bound. Where there was one, the bound is then the floor. The floor
+// is not stored: a pruned section may be made again once the partition is opened anew.
+//
+// # Cost
+//
+// An opening scans once, and opens the blob of each section up to the ceiling; a buffer with seals then reads
+// pages. A removal makes one call a section. All else makes the calls of the buffers.
 ghost use Rattle.std.specs.Prelude.{◌≡◌, ◌≢◌, ◌↔◌, ◌+◌, ◌≤◌, ◌<◌, ◌⊎◌, ℕ, Option, Some, None, Bool, true, false, List, length, IfOk, OnOk, OnErr, IfSome, IsSome, IsTrue, MatchOption, string_bytes};
 ghost use Rattle.std.specs.Option.{option_copied};
 ghost use Rattle.std.specs.List.{Contains};
@@ -28,7 +68,20 @@ use blob_device::{Device, RError};
 use std::alloc::Global;
 use std::collections::BTreeMap;
 
-/// Where the sections are, and what makes their buffers.
+/// The sections of a partition, each a buffer over a blob of its own. The blob's name is the eight big-endian
+/// bytes of the section's number.
+///
+/// Calls that take the manager by value give it up where they refuse; its blobs are then opened again by an
+/// `init`. The others leave the sections as they were.
+///
+/// ```rust
+/// let mut manager = Manager::init(alloc, &mut dev, cfg)?;      // cfg.factory makes the buffers
+/// let buffer = manager.take(&mut dev, 4)?;                     // made where it is not held
+/// let (buffer, at) = buffer.append(&mut dev, b"abc")?;
+/// manager.put(4, buffer)?;
+/// let manager = manager.sync(&mut dev, &[4])?;
+/// let (manager, was) = manager.prune(&mut dev, 8)?;            // removes section 4
+/// ```
 #[derive(Drop)]
 pub struct ManagerConfig<F> {
     /// The partition that holds the sections' blobs, and no other blob.
@@ -37,19 +90,28 @@ pub struct ManagerConfig<F> {
     pub factory: F,
 }
 
-/// The sections of a partition, each a buffer over a blob of its own. The blob's name is the eight big-endian bytes of the
-/// section's number.
+/// The sections of a partition, each a buffer over a blob of its own. The blob's name is the eight big-endian
+/// bytes of the section's number.
 ///
-/// Calls that take the manager by value give it up where they refuse; its blobs are then opened again by an `init`. The others
-/// leave the sections as they were.
+/// Calls that take the manager by value give it up where they refuse; its blobs are then opened again by an
+/// `init`. The others leave the sections as they were.
 #[derive(Drop)]
 pub struct Manager<F: BufferFactory> {
+    /// Where memory for maps and buffers comes from.
     alloc: Global,
+    /// The partition of all sections' blobs.
     partition: String,
+    /// What makes the sections' buffers; each is as it makes them (`HasOpened.setting`).
     factory: F,
+    /// The buffers by section, each over its section's blob, which is opened (`StandsOver.stands`,
+    /// `HasOpened.key`).
     held: Held<F::Buffer>,
+    /// The sections that are not held, though their blobs may be there (`StandsOver.whose`,
+    /// `HasOpened.apart`).
     unopened: BTreeMap<u64, Unopened>,
+    /// The section up to which sections were pruned; 0 where none was (`HasOpened.from_floor`).
     floor: u64,
+    /// The greatest section that may be held; `u64::MAX` without a bound (`HasOpened.to_ceiling`).
     ceiling: u64,
 }
 

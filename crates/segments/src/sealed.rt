@@ -14,8 +14,11 @@ pub struct AppendFactory<S> {
     pub write_buffer: usize,
     /// How a blob is cut into pages, each of at least one data byte.
     pub pages: Pages,
+    /// The kind of seal; no data.
     seal: PhantomData<S>,
+    // A page has at least one byte.
     ghost valid: { 1 ≤ pages.page_size },
+    // A page's length fits the two bytes of a slot.
     ghost small: { pages.page_size < 2 ^ 16 },
 }
 
@@ -91,10 +94,12 @@ impl<S: Seal> SectionBuffer for PageBlob<S> {
     }
 
     fn sync<D: Device>(self, dev: &mut D) -> Result<Self, RError> {
+        // `PageBlob::sync` makes no call where nothing is unsettled, as the trait asks.
         self.sync(dev)
     }
 
     fn start_sync<D: Device>(self, dev: &mut D) -> Result<(Self, Handle), RError> {
+        // Settled before the handle is given out: it is of a sync that has finished.
         let this = self.sync(dev)?;
         Ok((this, Handle::finished()))
     }
@@ -104,6 +109,7 @@ impl<S: Seal> SectionBuffer for PageBlob<S> {
     }
 
     fn truncate<D: Device>(self, dev: &mut D, len: u64) -> Result<Self, RError> {
+        // The buffer's own cut settles what is pending first, and then the cut.
         self.truncate(dev, len)
     }
 

@@ -53,10 +53,12 @@ impl SectionBuffer for WriteBlob {
     }
 
     fn sync<D: Device>(self, dev: &mut D) -> Result<Self, RError> {
+        // `WriteBlob::sync` makes no call where nothing is unsettled, as the trait asks.
         self.sync(dev)
     }
 
     fn start_sync<D: Device>(self, dev: &mut D) -> Result<(Self, Handle), RError> {
+        // Settled before the handle is given out: it is of a sync that has finished.
         let this = self.sync(dev)?;
         Ok((this, Handle::finished()))
     }
@@ -66,6 +68,7 @@ impl SectionBuffer for WriteBlob {
     }
 
     fn truncate<D: Device>(self, dev: &mut D, len: u64) -> Result<Self, RError> {
+        // The buffer's own cut flushes what stays of the run first, and then settles the cut.
         self.truncate(dev, len)
     }
 

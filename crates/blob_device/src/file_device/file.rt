@@ -10,6 +10,7 @@ fn cut<F: OpenFile>(file: &F, len: u64) -> Result<(), Stop> {
         return Err(Stop::TooShort);
     }
     if found > len {
+        // Now, while only this surplus is there: later bytes could not be told from it.
         file.set_len(len)?;
     }
     Ok(())

@@ -17,9 +17,13 @@ use std::rt::Files;
 /// The files of the blobs below a root folder.
 #[derive(Drop)]
 pub struct BlobFiles<R: Files + Clone + Drop> {
+    /// The runtime that has the files.
     rt: R,
+    /// The path of each blob that was named, built once.
     places: Places,
+    /// The root and the partitions' folders: the lock, and whose names have settled.
     folders: Folders<R>,
+    /// The open files, by the numbers of their places.
     open: OpenFiles<R>,
 }
 
@@ -89,6 +93,7 @@ impl<R: Files + Clone + Drop> BlobFiles<R> {
                 // Taken back before the file is made, since its making may fail in between.
                 self.folders.unsettle(partition);
                 self.folders.make(partition)?;
+                // Made only now, with its folder there.
                 self.open.open(place, true)
             }
             found => found,
@@ -102,6 +107,7 @@ impl<R: Files + Clone + Drop> BlobFiles<R> {
         kept: &mut Kept<R::File>,
         len: Option<u64>,
     ) -> Result<u64, Stop> {
+        // The names too, not the bytes alone: a file whose name is lost is lost.
         self.folders.settle(partition)?;
         let len = settle(&kept.file, len)?;
         kept.is_written = false;
@@ -162,6 +168,7 @@ impl<R: Files + Clone + Drop> BlobFiles<R> {
     pub fn sync(&mut self, partition: &str, name: &[u8], len: u64) -> Result<(), Stop> {
         let place = self.places.get(partition, name)?;
         let mut kept = self.open.take(place, len)?;
+        // Before it counts as not written: one that is written is synced where it is closed.
         let settled = settle(&kept.file, Some(len));
         kept.is_written = kept.is_written && settled.is_err();
         self.open.keep(place.number, kept)?;

@@ -24,17 +24,23 @@ enum Lock<F> {
 /// The root of a device and the folders in it.
 #[derive(Drop)]
 pub struct Folders<R: Files + Clone + Drop> {
+    /// The runtime that has the files.
     rt: R,
+    /// Where memory for paths and names comes from.
     alloc: Global,
+    /// The path of the root.
     root: String,
+    /// The lock of the root. Once it is held, it stays so.
     lock: Lock<R::File>,
-    // The partitions whose folder outlasts a crash, and those whose files' names do.
+    /// The partitions whose folder was synced into the root, so that its name outlasts a crash.
     rooted: BTreeSet<String>,
+    /// The partitions whose names of files outlast a crash. One is taken out before a name changes.
     settled: BTreeSet<String>,
 }
 
 // Makes the names in a folder outlast a crash.
 fn sync_folder<R: Files>(rt: &R, folder: &str) -> Result<(), Stop> {
+    // By a file that is opened for this alone: folders are not among the open files.
     synced(fs::open(rt, folder)?.sync_all())
 }
 
@@ -42,6 +48,7 @@ fn sync_folder<R: Files>(rt: &R, folder: &str) -> Result<(), Stop> {
 fn sync_if_there<R: Files>(rt: &R, folder: &str) -> Result<bool, Stop> {
     match fs::open(rt, folder) {
         Ok(folder) => {
+            // Only a folder that is there has names to settle.
             synced(folder.sync_all())?;
             Ok(true)
         }
@@ -137,6 +144,7 @@ impl<R: Files + Clone + Drop> Folders<R> {
             return Ok(());
         }
         let path = joined(self.alloc, self.root.as_str(), LOCK_NAME)?;
+        // Before the lock: its file stands in the root.
         make_folders(&self.rt, self.root.as_str())?;
         match open_file(&self.rt, path.as_str(), true) {
             Ok(file) => {
@@ -194,6 +202,7 @@ impl<R: Files + Clone + Drop> Folders<R> {
         }
         if !self.settled.contains(partition) {
             let folder = self.path(partition)?;
+            // Also where the file was there before: the run that made it may have failed before its sync.
             sync_folder(&self.rt, folder.as_str())?;
             self.note_settled(partition);
         }

@@ -9,10 +9,12 @@ use std::rt::Files;
 /// The files of a runtime over std's `File`, for a device that has its folder alone.
 ///
 /// A file named `LOCK` is locked when it is opened. Where another program has it open so, the answer is
-/// [`WouldBlock`](ErrorKind::WouldBlock) at once. The system lets the lock go when the file is closed, however the program
-/// ends. A seek only notes the place, so that a read or a write is one call of the system.
+/// [`WouldBlock`](ErrorKind::WouldBlock) at once. The system lets the lock go when the file is closed,
+/// however the program ends. A seek only notes the place, so that a read or a write is one call of the
+/// system.
 #[derive(Drop)]
 pub struct HostFiles<R> {
+    /// The runtime that has the files.
     rt: R,
 }
 
@@ -92,7 +94,9 @@ impl<R: Files<File = File> + Clone + Drop> Files for HostFiles<R> {
 /// An open file with the place of its next read or write.
 #[derive(Drop)]
 pub struct PlacedFile {
+    /// The open file.
     file: File,
+    /// Where the next read or write begins, in bytes. The system's own place is not used.
     at: u64,
 }
 
@@ -124,6 +128,7 @@ impl Read for PlacedFile {
 
 impl Write for PlacedFile {
     fn write(&mut self, buf: &[u8]) -> io::Result<usize> {
+        // At the noted place in one call, so that no seek of the system goes before.
         let count = self.file.write_at(buf, self.at)?;
         self.at = self.at.saturating_add(count as u64);
         Ok(count)

@@ -14,14 +14,18 @@ const MOST_OPEN: usize = 256;
 /// An open file, which may have writes that are not synced.
 #[derive(Drop)]
 pub struct Kept<F> {
+    /// The open file.
     pub file: F,
+    /// Whether it may have writes that are not synced. It is set before a write.
     pub is_written: bool,
 }
 
 /// The open files of a device, by the numbers of their places. Those that were used last are kept.
 #[derive(Drop)]
 pub struct OpenFiles<R: Files + Clone + Drop> {
+    /// The runtime that has the files.
     rt: R,
+    /// At most `MOST_OPEN` files, by number; the one that was not used the longest goes first.
     kept: LruCache<u64, Kept<R::File>>,
 }
 
@@ -35,6 +39,7 @@ pub fn open_file<R: Files>(rt: &R, path: &str, makes: bool) -> Result<R::File, S
 // Closes a file. Its writes are synced before, since a failure to write them may never be told to who opens it again.
 fn close<F: OpenFile + Drop>(kept: Kept<F>) -> Result<(), Stop> {
     if kept.is_written {
+        // Before the close: who opens the file again may not be told of a write that failed.
         synced(kept.file.sync_all())?;
     }
     Ok(())

@@ -9,14 +9,18 @@ use std::alloc::{AllocError, Global};
 /// An opened blob: its length in bytes, and how many reads began on it, up to the end of a u64.
 #[derive(Clone, Copy)]
 pub struct Entry {
+    /// The blob's length in bytes, as the calls left it.
     pub len: u64,
+    /// How many reads began on it, up to the end of a u64.
     pub reads: u64,
 }
 
 /// The opened blobs.
 #[derive(Drop)]
 pub struct OpenedBlobs {
+    /// Where memory for the list comes from.
     alloc: Global,
+    /// The entry of each opened blob, and of no other (`listed`).
     entries: Table<Entry>,
 }
 

@@ -9,16 +9,22 @@ use std::alloc::{AllocError, Global};
 /// The file of a blob: its path, and a number that no other blob of the device has.
 #[derive(Drop)]
 pub struct Place {
+    /// Its number, from 1. No number is given twice.
     pub number: u64,
+    /// The path of its file.
     pub path: String,
 }
 
 /// The places of blobs below a root folder.
 #[derive(Drop)]
 pub struct Places {
+    /// Where memory for paths comes from.
     alloc: Global,
+    /// The path of the root.
     root: String,
+    /// The place of each blob that was named and not removed since.
     known: Table<Place>,
+    /// How many numbers were given: the last one, up to the end of a u64.
     made: u64,
 }
 

@@ -13,7 +13,9 @@ use std::alloc::{AllocError, Global};
 #[derive(Drop)]
 pub enum Step {
     Make,
+    /// Where the bytes go, and the bytes.
     Write(u64, Vec<u8>),
+    /// The length in bytes that the blob is to have.
     Resize(u64),
     Settle,
     Remove,
@@ -22,8 +24,11 @@ pub enum Step {
 /// A call that began: its number, its change, and whether it failed.
 #[derive(Drop)]
 pub struct Call {
+    /// Its number on the device, from 0 (`IsCall.number`).
     pub number: u64,
+    /// What it changes (`IsCall.change`).
     pub step: Step,
+    /// Whether it failed; then it is under way for good (`IsCall.failed`).
     pub failed: bool,
 }
 
@@ -44,6 +49,7 @@ pub fn write_into(content: &mut Vec<u8>, at: usize, bytes: &[u8]) -> Result<(), 
     // After this there is room, and no step fails.
     content.reserve(end - len)?;
     content.truncate(at);
+    // The gap behind the old end, which reads as zeros.
     content.resize(at, 0)?;
     content.extend_from_slice(bytes)?;
     Ok(())
@@ -63,7 +69,9 @@ pub fn left_of(bytes: &[u8], failed: bool) -> &[u8]
 /// What a blob reads as.
 #[derive(Drop)]
 pub struct Found {
+    /// Whether the blob is there (`Reads.is_there`).
     pub there: bool,
+    /// Its bytes, none where it is not there (`Reads.reads_as`).
     pub content: Vec<u8>,
 }
 
@@ -92,6 +100,7 @@ impl Found {
             }
             Step::Resize(len) => {
                 if !failed {
+                    // New bytes are zeros. A resize that fails leaves what was there.
                     self.content.resize(*len as usize, 0)?;
                 }
             }
@@ -114,11 +123,17 @@ impl Found {
 /// The calls on one blob since the device was made, and what they left.
 #[derive(Drop)]
 pub struct BlobLog {
+    /// The bytes that it had when the device was made, if it was there.
     start: Option<Vec<u8>>,
+    /// The calls that changed it since, in their order (`IsSound.below`).
     calls: Vec<Call>,
+    /// What they left, so that a read need not go through them (kept true by `tied`).
     found: Found,
+    /// How many reads began since it was opened, up to the end of a u64; none where it is not opened.
     reads: Option<u64>,
+    // What it began with are bytes.
     ghost bytes: { starts_with_bytes (start_of start) ≡ true },
+    // Going through the calls from the start gives what was found.
     ghost tied: { Reads (replay calls.items (begun (start_of start))) found.there found.content.items },
 }
 

@@ -62,7 +62,9 @@ impl Make<BlobLog, Vec<u8>> for AsSettled {
 /// Gives each blob mixed. The number of the next free place runs along, modulo 64.
 #[derive(Drop)]
 pub(crate) struct Mixer {
+    /// The number of the choice: its bit 0 says the lengths, its bit i mod 64 the byte of free place i.
     bits: u64,
+    /// The number of the next free place, modulo 64 (`number_past`).
     number: u64,
 }
 

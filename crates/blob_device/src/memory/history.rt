@@ -14,12 +14,19 @@ use std::alloc::{AllocError, Global};
 /// What a blob reads as, what it settled as, and which lengths and places a crash may change.
 #[derive(Drop)]
 pub struct History {
+    /// Whether the blob is there as the disk reads (`IsHistory.is_there`).
     pub there: bool,
+    /// Whether a making or a removal is under way or failed (`IsHistory.is_unsure`).
     pub unsure: bool,
+    /// What it reads as (`IsHistory.reads_as`).
     pub content: Vec<u8>,
+    /// What it last settled as, empty where it never did (`IsHistory.settled_as`).
     pub settled: Vec<u8>,
+    /// The least length of the settled content and those since, in bytes (`IsHistory.least_is`).
     pub shortest: u64,
+    /// The greatest of these lengths (`IsHistory.greatest_is`).
     pub longest: u64,
+    /// The ranges written since, each as its start and its length in bytes (`IsHistory.loose_are`).
     pub loose: Vec<(u64, u64)>,
 }
 
@@ -121,6 +128,7 @@ impl History {
         if failed {
             return Ok(());
         }
+        // Behind `begin`: a crash may leave this length whether or not the resize failed.
         self.content.resize(len as usize, 0)?;
         Ok(())
     }

@@ -14,7 +14,9 @@ use std::alloc::{AllocError, Global};
 /// The bytes of each blob that is there. A partition exists exactly if a blob stands in it.
 #[derive(Drop)]
 pub struct Image {
+    /// Where memory for the blobs comes from.
     alloc: Global,
+    /// The bytes of each blob that is there (`contents`).
     pub(crate) blobs: Table<Vec<u8>>,
 }
 

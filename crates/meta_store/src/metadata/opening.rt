@@ -123,7 +123,9 @@ fn open_copies<D: Device>(dev: &mut D, partition: &str) -> Result<(u64, u64), De
     ensures faults { D.faults dev.old ≤ D.faults dev.new }
     ensures cause { result ≡ Err DevError.Fault → Rose (D.faults dev.old) (D.faults dev.new) }
 {
+    // Opened before it is read: that settles the copy, so no crash takes back the map that is read.
     let left = dev.open_blob(partition, Side::Left.name())?;
+    // Opened too before a copy is read: which one is newer shows only by both.
     let right = dev.open_blob(partition, Side::Right.name())?;
     Ok((left, right))
 }

@@ -24,16 +24,22 @@ pub(super) const FORM: u8 = 1;
 /// A copy whose seal holds.
 #[derive(Drop)]
 struct SealedCopy<'a> {
+    /// What bytes 0 to 7 spell (`IsSealedAs`).
     version: u64,
+    /// Byte 8. Any but 1 is refused (`IsText.is_first_form`).
     form: u8,
+    /// The bytes behind the head, as many as it says. The seal stands behind them.
     body: &'a [u8],
 }
 
 /// An entry at the front of some bytes, and how many it takes.
 #[derive(Drop)]
 struct Entry<K, V> {
+    /// The key, `K::SIZE` bytes.
     key: K,
+    /// The value, which the configuration accepts (`IsStorable`).
     value: V,
+    /// How many bytes key, length and spelling take together.
     len: usize,
 }
 

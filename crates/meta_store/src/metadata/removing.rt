@@ -33,7 +33,9 @@ impl<K: Key, V: Codec, S: Seal> Metadata<K, V, S> {
         ensures cause { OnErr result (GaveUp result (D.faults dev.old) (D.faults dev.new)) }
     {
         let older = self.older;
+        // The older copy first: were the newer one gone alone, the older map would come back.
         dev.remove(self.partition.as_str(), older.name())?;
+        // Only now, with no older copy left: a crash leaves the last map or none.
         dev.remove(self.partition.as_str(), older.other().name())?;
         Ok(())
     }

@@ -59,7 +59,9 @@ impl<K: Key, V: Codec, S: Seal> Metadata<K, V, S> {
         }
         let version = self.version + 1;
         let copy = self.copy(version)?;
+        // Over the older copy: whatever a crash tears here, the newer one stays whole.
         dev.write_at(self.partition.as_str(), self.older.name(), 0, &copy)?;
+        // Settled now, since the next sync writes over the other copy.
         dev.sync(self.partition.as_str(), self.older.name())?;
         let mut this = self;
         this.version = version;
@@ -97,6 +99,7 @@ impl<K: Key, V: Codec, S: Seal> Metadata<K, V, S> {
     {
         let mut this = self;
         this.put(key, value)?;
+        // Behind the put, so that the copy has it. A copy is always the whole map.
         this.sync(dev)
     }
 
@@ -124,6 +127,7 @@ impl<K: Key, V: Codec, S: Seal> Metadata<K, V, S> {
         ensures untouched { IsErrOf result Error.Full → dev.new ≡ dev.old }
         ensures cause { OnErr result ((result ≡ Err Error.Full) ⊎ GaveUp result (D.faults dev.old) (D.faults dev.new)) }
     {
+        // Settled before the handle is given out: it is of a sync that has finished.
         let this = self.sync(dev)?;
         Ok((this, Handle::finished()))
     }

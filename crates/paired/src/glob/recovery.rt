@@ -32,15 +32,20 @@ use std::collections::BTreeMap;
 use std::marker::PhantomData;
 use value_codec::{Codec, Seal};
 
-/// A glob under recovery. It takes no value; its frames are checked and its sections cut, until it becomes a [`Glob`].
+/// A glob under recovery. It takes no value; its frames are checked and its sections cut, until it becomes a
+/// [`Glob`].
 ///
 /// Calls that take it by value give it up where they refuse; its blobs are then opened again by an
 /// [`init`](Recovery::init).
 #[derive(Drop)]
 pub struct Recovery<V: Codec, S: Seal> {
+    /// Where memory for frames comes from.
     alloc: Global,
+    /// The sections, each in a buffer without seals (`IsGlob`).
     manager: Manager<WriteFactory>,
+    /// What the codec of the values asks for. Nothing is decoded before the glob is made.
     codec_config: V::Cfg,
+    /// The kind of seal; no data.
     seal: PhantomData<S>,
 }
 
@@ -230,6 +235,7 @@ impl<V: Codec, S: Seal> Recovery<V, S> {
         ensures cause { OnErr result (IsPruned result (shown self.manager).floor ⊎ HasFailed result (D.faults dev.old) (D.faults dev.new)) }
     {
         let mut this = self;
+        // The manager removes the later sections first: none outlasts the cut of one before it.
         this.manager = this.manager.truncate_pending(dev, section, size)?;
         Ok(this)
     }
@@ -267,6 +273,7 @@ impl<V: Codec, S: Seal> Recovery<V, S> {
         ensures cause { OnErr result (IsPruned result (shown self.manager).floor ⊎ HasFailed result (D.faults dev.old) (D.faults dev.new)) }
     {
         let mut this = self;
+        // Durable when it returns, so that frames may be written there again.
         this.manager = this.manager.truncate_pending_section(dev, section, size)?;
         Ok(this)
     }
@@ -303,6 +310,7 @@ impl<V: Codec, S: Seal> Recovery<V, S> {
         ensures cause { OnErr result (IsPruned result (shown self.manager).floor ⊎ HasFailed result (D.faults dev.old) (D.faults dev.new)) }
     {
         let mut this = self;
+        // In one call, which checks all sections before one is cut.
         this.manager = this.manager.truncate_pending_sections(dev, sizes)?;
         Ok(this)
     }

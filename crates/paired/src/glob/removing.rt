@@ -46,6 +46,7 @@ impl<V: Codec, S: Seal> Glob<V, S> {
             codec_config,
             seal,
         } = self;
+        // The blobs are all that has to go: a glob notes nothing of a section.
         let (manager, was) = manager.prune(dev, min)?;
         let this = Glob {
             alloc,
@@ -83,6 +84,7 @@ impl<V: Codec, S: Seal> Glob<V, S> {
             codec_config,
             seal,
         } = self;
+        // The blob is all that has to go: a glob notes nothing of a section.
         let (manager, was) = manager.remove_section(dev, section)?;
         let this = Glob {
             alloc,
@@ -104,6 +106,7 @@ impl<V: Codec, S: Seal> Glob<V, S> {
         ensures cause { OnErr result (HasFailed result (D.faults dev.old) (D.faults dev.new)) }
     {
         let Glob { manager, .. } = self;
+        // The blobs are all that has to go: a glob notes nothing of a section.
         manager.destroy(dev)
     }
 }

@@ -47,6 +47,7 @@ impl<V: Codec, S: Seal> Glob<V, S> {
         ensures cause { OnErr result (IsPruned result (shown self.manager).floor ⊎ HasFailed result (D.faults dev.old) (D.faults dev.new)) }
     {
         let mut this = self;
+        // Section by section: that records go before values is the affair of the pair.
         this.manager = this.manager.sync(dev, sections)?;
         Ok(this)
     }
@@ -78,6 +79,7 @@ impl<V: Codec, S: Seal> Glob<V, S> {
         ensures faults { D.faults dev.old ≤ D.faults dev.new }
         ensures cause { OnErr result (IsPruned result (shown self.manager).floor ⊎ HasFailed result (D.faults dev.old) (D.faults dev.new)) }
     {
+        // Settled before the handle is given out: it is of a sync that has finished.
         let this = self.sync(dev, sections)?;
         Ok((this, Handle::finished()))
     }
@@ -103,6 +105,7 @@ impl<V: Codec, S: Seal> Glob<V, S> {
         ensures cause { OnErr result (HasFailed result (D.faults dev.old) (D.faults dev.new)) }
     {
         let mut this = self;
+        // The buffers are all there is to settle: a glob notes nothing beside them.
         this.manager = this.manager.sync_all(dev)?;
         Ok(this)
     }

@@ -95,7 +95,9 @@ impl<V: Codec, S: Seal> Glob<V, S> {
         }
         let frame = framed::<V, S>(self.alloc, value, size)?;
         let mut this = self;
+        // Behind all refusals: a section is made only for a frame that there is.
         let buffer = this.manager.take(dev, section)?;
+        // Spelling and seal together, so that the frame reaches the device in one write.
         let (buffer, offset) = buffer
             .append(dev, frame.as_slice())
             .map_err(full_or_raised)?;

@@ -256,6 +256,7 @@ impl<I: Record, V: Codec, S: Seal> Oversized<I, V, S> {
         ensures faults { D.faults dev.old ≤ D.faults dev.new }
         ensures cause { OnErr result (((n : List ℕ) × IsErrOf result (Error.InvalidBlobName n)) ⊎ (((x : _) × IsErrOf result (Error.Corruption x)) ⊎ (((e : _) × IsErrOf result (Error.Codec e)) ⊎ (HasNoRoom result ⊎ HasFailed result (D.faults dev.old) (D.faults dev.new))))) }
     {
+        // Opened and checked with no byte changed, so that a refusal costs nothing.
         let found: Preflight<I, S> = fixed::Journal::preflight_floors(
             alloc,
             dev,
@@ -263,6 +264,7 @@ impl<I: Record, V: Codec, S: Seal> Oversized<I, V, S> {
             floors,
             u64::MAX,
         )?;
+        // Then the values, within which those of the last marked records have to end.
         let values = Recovery::init(alloc, dev, &cfg.values()?, u64::MAX)?;
         check_values(&found, &values)?;
         let index = found.finish(dev)?;
@@ -317,6 +319,7 @@ impl<I: Record, V: Codec, S: Seal> Oversized<I, V, S> {
         ensures faults { D.faults dev.old ≤ D.faults dev.new }
         ensures cause { OnErr result (((side : Side) × IsErrOf result (Error.Metadata (metadata.Corruption side))) ⊎ (((n : List ℕ) × IsErrOf result (Error.InvalidBlobName n)) ⊎ (((x : _) × IsErrOf result (Error.Corruption x)) ⊎ (((e : _) × IsErrOf result (Error.Codec e)) ⊎ (HasNoRoom result ⊎ (HasFailed result (D.faults dev.old) (D.faults dev.new) ⊎ HasLostMarkers result (D.faults dev.old) (D.faults dev.new))))))) }
     {
+        // The markers first: they say what has to be found of records and values.
         let tracking = Tracking::init(alloc, dev, metadata_partition)?;
         let floors = tracking.markers(alloc)?;
         let (index, values) = Self::open_parts(alloc, dev, cfg, &floors)?;

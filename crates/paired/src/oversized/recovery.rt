@@ -84,6 +84,7 @@ fn cut_records<I: Record, S: Seal, D: Device>(
     let mut index = index;
     for (section, count) in ends {
         let size = count.saturating_mul(I::SIZE as u64);
+        // Durable before a value goes: no record that comes back may name bytes that were cut.
         index = index.truncate_pending_section(dev, *section, size)?;
     }
     Ok(index)
@@ -187,6 +188,7 @@ fn cut_values<I: Record, V: Codec, S: Seal, D: Device>(
     ensures cause { OnErr result (((x : _) × IsErrOf result (Error.Corruption x)) ⊎ HasNotRead result (D.faults dev.old) (D.faults dev.new)) }
 {
     let ends = value_ends(alloc, dev, index, &values)?;
+    // Behind the cut of the records, by whose last one the end is known. New frames go there.
     let values = values.truncate_sections(dev, &ends)?;
     Ok(Glob::from(values))
 }
@@ -233,6 +235,7 @@ fn remove_values<V: Codec, S: Seal, D: Device>(
 {
     let mut values = values;
     for section in sections {
+        // No record names them. Left there, they would stand before the section's first new frame.
         let (rest, _) = values.remove_section(dev, *section)?;
         values = rest;
     }
@@ -294,9 +297,12 @@ impl<I: Record, V: Codec, S: Seal> Replay<I, V, S> {
             ends,
             ..
         } = self;
+        // Records go before the values that they name.
         let index = cut_records(dev, index.finish()?, &ends)?;
+        // No record names these bytes any more.
         let values = cut_values(alloc, dev, &index, values)?;
         let alone = orphans(alloc, &held_sections(alloc, &index)?, &values)?;
+        // Behind the cuts, as `orphans_last` says. No record stands in these sections.
         let values = remove_values(dev, values, alone.as_slice())?;
         let mut pair = Oversized {
             alloc,
@@ -306,6 +312,7 @@ impl<I: Record, V: Codec, S: Seal> Replay<I, V, S> {
         };
         let held = numbers(alloc, &pair.index)?;
         note_synced(&pair.index, &mut pair.tracking, held.as_slice())?;
+        // Last: a marker may count only what is kept for good. No section is active yet.
         pair.move_markers(dev, [].as_slice())
     }
 }

@@ -76,8 +76,11 @@ impl<I: Record, V: Codec, S: Seal> Oversized<I, V, S> {
     {
         let mut this = self;
         this.tracking.drop_below(min);
+        // The markers first, for good: none may count records that are gone.
         this.tracking = this.tracking.sync(dev)?;
+        // Then the records: none may be left that names a value which is gone.
         let (index, records) = this.index.prune(dev, min)?;
+        // Last the values, which no record names by now.
         let (values, frames) = this.values.prune(dev, min)?;
         this.index = index;
         this.values = values;
@@ -115,8 +118,11 @@ impl<I: Record, V: Codec, S: Seal> Oversized<I, V, S> {
             tracking,
             ..
         } = self;
+        // The markers first: none may count records that are gone.
         tracking.destroy(dev)?;
+        // Then the records: none may be left that names a value which is gone.
         index.destroy(dev)?;
+        // Last the values, which no record names by now.
         values.destroy(dev)
     }
 }

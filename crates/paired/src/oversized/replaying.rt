@@ -47,19 +47,25 @@ use value_codec::{Codec, Seal};
 
 /// A walk over the records of a pair, which gives the pair back.
 ///
-/// The walk of an opening by markers keeps of each section the records below its marker, and those behind them up to the first whose value
-/// fails. It reads no other value.
+/// The walk of an opening by markers keeps of each section the records below its marker. Behind them it keeps
+/// those up to the first whose value fails. It reads no other value.
 #[derive(Drop)]
 pub struct Replay<I: Record, V: Codec, S: Seal> {
+    /// Where memory for the pair comes from.
     pub(super) alloc: Global,
+    /// The walk over the records (`IsRun.index`).
     pub(super) index: fixed::Replay<I, S>,
+    /// The frames, which are only read and checked (`IsRun.values`).
     pub(super) values: Recovery<V, S>,
+    /// The markers, which stay as they are until the walk is finished (`IsRun.markers`).
     pub(super) tracking: Tracking<S>,
+    /// Whether the walk is that of an opening; else it is over an open pair (`IsRun.opening`, `IsRun.live`).
     pub(super) is_tracked: bool,
-    // of each section in which a value failed, the position of its record
+    /// Of each section in which a value failed, the position of its record (`IsChecked.ends`).
     pub(super) ends: BTreeMap<u64, u64>,
-    // the last section that ended since a value could not be checked
+    /// The last section that ended since a value could not be checked (`IsChecked.broken`).
     pub(super) ended_section: Option<u64>,
+    /// Whether an error was given. Then the pair is not given back.
     pub(super) has_failed: bool,
 }
 
@@ -97,6 +103,7 @@ impl<I: Record, V: Codec, S: Seal> Oversized<I, V, S> {
             values,
             tracking,
         } = self;
+        // This flushes nothing: the walk flushes a section when it comes to it.
         let index = index.replay(dev, start_section, start_position, buffer)?;
         Ok(Replay {
             alloc,
@@ -133,6 +140,7 @@ impl<I: Record, V: Codec, S: Seal> Replay<I, V, S> {
         ensures unchanged { dev.new ≡ dev.old }
         ensures cause { OnErr result ⊥ }
     {
+        // All sections from their first record on: only so it is known what each keeps.
         let index = index.replay(dev, 0, 0, buffer)?;
         Ok(Replay {
             alloc,

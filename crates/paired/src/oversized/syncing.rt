@@ -198,8 +198,12 @@ impl<I: Record, V: Codec, S: Seal> Oversized<I, V, S> {
         ensures cause { OnErr result (IsPruned result (shown I.place self).index.sections.floor ⊎ HasFailed result (D.faults dev.old) (D.faults dev.new)) }
     {
         let mut this = self;
+        // Records, then values, as `SyncKeeps.order` says. Either order is safe: an opening checks values
+        // above a marker.
         this.index = this.index.sync(dev, sections)?;
+        // Before it is noted what was synced: a record counts only with its value.
         this.values = this.values.sync(dev, sections)?;
+        // Only now: a marker may move to this.
         note_synced(&this.index, &mut this.tracking, sections)?;
         Ok(this)
     }
@@ -233,6 +237,7 @@ impl<I: Record, V: Codec, S: Seal> Oversized<I, V, S> {
     {
         let mut this = self;
         this.tracking.stage(active)?;
+        // Behind the sync of all that the markers count.
         this.tracking = this.tracking.sync(dev)?;
         Ok(this)
     }
@@ -270,6 +275,7 @@ impl<I: Record, V: Codec, S: Seal> Oversized<I, V, S> {
         ensures faults { D.faults dev.old ≤ D.faults dev.new }
         ensures cause { OnErr result (IsPruned result (shown I.place self).index.sections.floor ⊎ (IsErrOf result Error.Full ⊎ (HasFailed result (D.faults dev.old) (D.faults dev.new) ⊎ HasLostMarkers result (D.faults dev.old) (D.faults dev.new)))) }
     {
+        // First what the markers are to count.
         let this = self.settle(dev, sections)?;
         this.move_markers(dev, active)
     }
@@ -306,6 +312,7 @@ impl<I: Record, V: Codec, S: Seal> Oversized<I, V, S> {
         ensures faults { D.faults dev.old ≤ D.faults dev.new }
         ensures cause { OnErr result (IsPruned result (shown I.place self).index.sections.floor ⊎ (IsErrOf result Error.Full ⊎ (HasFailed result (D.faults dev.old) (D.faults dev.new) ⊎ HasLostMarkers result (D.faults dev.old) (D.faults dev.new)))) }
     {
+        // Settled before the handle is given out: it is of a sync that has finished.
         let this = self.sync_tracked(dev, sections, active)?;
         Ok((this, Handle::finished()))
     }

@@ -30,10 +30,14 @@ use std::alloc::Global;
 use std::collections::BTreeMap;
 use value_codec::{Key, Key8, Seal};
 
-/// The markers, and of each section whose marker is another number, its length at its last completed sync or opening.
+/// The markers, and of each section whose marker is another number, its length at its last completed sync or
+/// opening.
 #[derive(Drop)]
 pub(super) struct Tracking<S: Seal> {
+    /// By section how many of its first records have sound values. Between calls nothing is staged
+    /// (`IsPair.synced`).
     pub(super) metadata: Metadata<Key8, u64, S>,
+    /// By section how many records were synced, where that is not the marker (`AreMarkers.trails`).
     pub(super) trailing: BTreeMap<u64, u64>,
 }
 
@@ -258,6 +262,7 @@ impl<S: Seal> Tracking<S> {
         ensures cause { OnErr result ((result ≡ Err Error.Full) ⊎ GaveUp result (D.faults dev.old) (D.faults dev.new)) }
     {
         let Tracking { metadata, trailing } = self;
+        // All that was staged in one copy, so that the markers move together.
         let metadata = metadata.sync(dev)?;
         Ok(Tracking { metadata, trailing })
     }
@@ -298,6 +303,7 @@ impl<S: Seal> Tracking<S> {
         ensures faults { D.faults dev.old ≤ D.faults dev.new }
         ensures cause { OnErr result (GaveUp result (D.faults dev.old) (D.faults dev.new)) }
     {
+        // As they stand: a map of no markers need not be written first.
         self.metadata.destroy(dev)
     }
 }

@@ -95,12 +95,15 @@ impl<I: Record, V: Codec, S: Seal> Oversized<I, V, S> {
         ensures cause { OnErr result (IsErrOf result Error.ValueTooLarge ⊎ (IsPruned result (shown I.place self).index.sections.floor ⊎ (IsErrOf result Error.Full ⊎ (HasNoRoom result ⊎ HasFailed result (D.faults dev.old) (D.faults dev.new))))) }
     {
         frame_size(value)?;
+        // Asked before a byte is written, so that no refusal leaves a value without its record.
         if self.index.is_full(section)? {
             return Err(Error::Full);
         }
         let mut this = self;
+        // The value first, since the record names its place.
         let (values, offset, size) = this.values.append(dev, section, value)?;
         let entry = naming(entry, offset, size);
+        // Behind the value, so that no record is added whose value failed.
         let (index, position) = this.index.append(dev, section, &entry)?;
         this.values = values;
         this.index = index;

@@ -94,6 +94,7 @@ impl<S: Seal> PageBlob<S> {
         ensures cause { OnErr result ((result ≡ Err RError.Mem) ⊎ ((result ≡ Err RError.Fault) × Rose (D.faults dev.old) (D.faults dev.new))) }
     {
         let end = page_place(self.page_size, page);
+        // No page has to be read: those below keep their slots.
         cut_pages::<D, S>(
             dev,
             self.partition.as_str(),
@@ -144,6 +145,7 @@ impl<S: Seal> PageBlob<S> {
         ensures refused { D.Tells → page_length S.seal_of self.page_size (blob_of (shown self) (D.time dev.old)).content page < keep → Unchanged (D.time dev.old) (D.time dev.new) }
         ensures cause { OnErr result ((result ≡ Err (RError.InvalidChecksum page)) ⊎ ((result ≡ Err RError.Mem) ⊎ ((result ≡ Err RError.Fault) × Rose (D.faults dev.old) (D.faults dev.new)))) }
     {
+        // Before anything is cut: where no slot covers so much, the cut is refused and costs nothing.
         let head = read_head::<D, S>(
             self.alloc,
             dev,
@@ -245,6 +247,7 @@ impl<S: Seal> PageBlob<S> {
         if len >= self.size() {
             return Ok(self);
         }
+        // What is pending settles first: a cut that is refused then costs no byte.
         let this = self.sync(dev)?;
         let page_size = u64::from(this.page_size);
         let page = len / page_size;

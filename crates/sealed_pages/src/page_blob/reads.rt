@@ -267,6 +267,7 @@ impl<S: Seal> PageBlob<S> {
         ensures faults { D.faults dev.old ≤ D.faults dev.new }
         ensures cause { OnErr result ((result ≡ Err RError.Mem) ⊎ ((result ≡ Err RError.Fault) × Rose (D.faults dev.old) (D.faults dev.new))) }
     {
+        // Flushed, since the reader goes over the blob and does not see the tip.
         let this = self.flush(dev)?;
         let replay = PageReplay::new(
             this.alloc,

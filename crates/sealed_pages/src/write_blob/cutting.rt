@@ -44,6 +44,7 @@ impl WriteBlob {
         if self.end <= len {
             return Ok(self);
         }
+        // Behind the flush: what the run had below the cut is in the blob by now.
         dev.resize(self.partition.as_str(), self.name.as_slice(), len)?;
         let mut this = self;
         this.end = len;
@@ -87,8 +88,11 @@ impl WriteBlob {
         if len >= self.size() {
             return Ok(self);
         }
+        // What the run keeps goes first, since the cut settles all bytes below it.
         let this = self.cut_run(len).flushed(dev)?;
+        // Then the end, so that one sync settles both.
         let this = this.shortened(dev, len)?;
+        // At once: no crash may bring the bytes back once others are written there.
         Ok(this.rested(dev)?)
     }
 }

@@ -84,6 +84,7 @@ impl<A: CodecFixed, S: Seal> Journal<A, S> {
         ensures cause { OnErr result (IsPruned result (shown self).sections.floor ⊎ (HasDamage result ⊎ HasFailed result (D.faults dev.old) (D.faults dev.new))) }
     {
         let mut this = self;
+        // Durable before the notes follow: only a section that is cut to nothing owes no replay any more.
         this.manager = this.manager.truncate_pending_section(dev, section, size)?;
         forget_emptied(&mut this.unrecovered, section, size);
         lower_to(&mut this.floors, section, size);

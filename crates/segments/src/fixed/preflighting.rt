@@ -38,9 +38,11 @@ use std::collections::{BTreeMap, BTreeSet, btree_map};
 use std::marker::Model;
 use value_codec::{CodecFixed, Seal};
 
-/// Sections of which a marker vouches for the first items, ascending, each with the last of these items, if there is one.
+/// Sections of which a marker vouches for the first items, ascending, each with the last of these items, if
+/// there is one.
 #[derive(Drop)]
 pub struct BoundaryIter<'a, A> {
+    /// The map's own iterator, over the sections that are left.
     inner: btree_map::Iter<'a, u64, Option<A>>,
 }
 
@@ -70,9 +72,13 @@ impl<'a, A> Iterator for BoundaryIter<'a, A> {
 /// A journal that is opened, of which the items that markers vouch for were checked, and nothing was written.
 #[derive(Drop)]
 pub struct Preflight<A: CodecFixed, S: Seal> {
+    /// The opened journal, with the floors of the markers that were checked.
     journal: Journal<A, S>,
+    /// By section with a checked marker its last item, none where the marker is 0 (`KeepsBoundary`).
     boundaries: BTreeMap<u64, Option<A>>,
+    // A floor is of whole items.
     ghost whole: { (s : ℕ) → floor_in journal.floors s % A.SIZE ≡ 0 },
+    // A section with a floor was opened.
     ghost bounded: { (s : ℕ) → 0 < floor_in journal.floors s → s ≤ journal.manager.ceiling },
 }
 
@@ -201,6 +207,7 @@ impl<A: CodecFixed, S: Seal> Journal<A, S> {
         ensures cause { OnErr result (((n : List ℕ) × IsErrOf result (Error.InvalidBlobName n)) ⊎ (((x : _) × IsErrOf result (Error.Corruption x))
             ⊎ (((e : _) × IsErrOf result (Error.Codec e)) ⊎ (HasNoRoom result ⊎ HasFailed result (D.faults dev.old) (D.faults dev.new))))) }
     {
+        // Opened before a marker is checked: the check reads by the buffers, and writes nothing.
         let journal = Journal::init_holding(alloc, dev, cfg, floors, ceiling)?;
         let unchecked = Preflight::unchecked(alloc, journal);
         let mut found = unchecked;

@@ -63,6 +63,7 @@ impl<A: CodecFixed, S: Seal> Journal<A, S> {
             mut floors,
             item,
         } = self;
+        // The blobs first; then no note is kept of a section that is gone.
         let (manager, was) = manager.prune(dev, min)?;
         forget_below(&mut unrecovered, min);
         lift_below(&mut floors, min);
@@ -94,6 +95,7 @@ impl<A: CodecFixed, S: Seal> Journal<A, S> {
         ensures cause { OnErr result (HasFailed result (D.faults dev.old) (D.faults dev.new)) }
     {
         let mut this = self;
+        // The blobs first; then no note is kept of a section that is gone.
         this.manager = this.manager.clear(dev)?;
         this.unrecovered.clear();
         this.floors.clear();
@@ -111,6 +113,7 @@ impl<A: CodecFixed, S: Seal> Journal<A, S> {
         ensures cause { OnErr result (HasFailed result (D.faults dev.old) (D.faults dev.new)) }
     {
         let Journal { manager, .. } = self;
+        // The blobs are all there is: notes are in memory alone.
         manager.destroy(dev)
     }
 }

@@ -29,21 +29,32 @@ use value_codec::{CodecFixed, Seal};
 /// Where a replay stands within a section. The reader is at the item of this position.
 #[derive(Drop)]
 struct Reading<S: Seal> {
+    /// The section, which is held (`HasWalk.place`).
     section: u64,
+    /// The position of the next item, which the reader stands at (`StandsIn.at`).
     position: u64,
+    /// Over the section's blob, of which all bytes are flushed (`StandsIn.flushed`).
     reader: PageReplay<S>,
 }
 
 /// A walk over the items of a journal, which gives the journal back.
 #[derive(Drop)]
 pub struct Replay<A: CodecFixed, S: Seal> {
+    /// The journal that is gone over, and that `finish` gives back (`IsWalk`).
     journal: Journal<A, S>,
+    /// About how many bytes one read takes.
     buffer: usize,
+    /// The section of the first item that is given.
     start_section: u64,
+    /// Its position, within that section (`HasWalk.start_within`).
     start_position: u64,
+    /// The replay has come to the sections below; to all where there is none (`IsAhead`).
     next_section: Option<u64>,
+    /// Where it stands in a section; none between two (`HasWalk.come_to`).
     reading: Option<Reading<S>>,
+    /// Whether an error was given. Then `finish` refuses.
     has_failed: bool,
+    /// Whether it gives no more, since an error came while a section was cut (`HasWalk.ends`).
     has_ended: bool,
 }
 
@@ -346,6 +357,7 @@ impl<A: CodecFixed, S: Seal> Replay<A, S> {
         ensures cause { OnErr result (HasFailed result (D.faults dev.old) (D.faults dev.new)) }
     {
         let buffer = self.journal.manager.take(dev, section)?;
+        // Flushed by this, since the reader does not see what is in the buffer alone.
         let (buffer, reader) = buffer.replay(dev, self.buffer)?;
         self.journal.manager.put(section, buffer)?;
         Ok(reader)
@@ -480,6 +492,7 @@ impl<A: CodecFixed, S: Seal> Replay<A, S> {
         ensures { Steps S.seal_of A.SIZE ⟦<PageBlob<S> as SectionBuffer>⟧ ⟦<AppendFactory<S> as BufferFactory>⟧.gives A.spelling A.accepted A.refusal D.Tells result (walk_at self.old reading) (walk_of self.new) (D.opened dev.old) (D.opened dev.new) (D.time dev.old) (D.time dev.new) (D.faults dev.old) (D.faults dev.new) }
     {
         self.check_floor(reading.section, reading.position)?;
+        // Behind the check of the floor: no item that a marker vouches for is cut.
         self.cut(dev, reading.section, reading.position)?;
         self.check_start(reading.section, reading.position)?;
         Ok(None)
@@ -537,8 +550,10 @@ impl<A: CodecFixed, S: Seal> Replay<A, S> {
         ensures damaged { D.Tells → (k : ℕ) → IsErrOf result (Error.Runtime (InvalidChecksum k)) → ⊥ }
         ensures cause { OnErr result (HasDamage result ⊎ HasFailed result (D.faults dev.old) (D.faults dev.new)) }
     {
+        // Set until the cut is durable: an error in between ends the replay.
         self.has_ended = true;
         let buffer = self.journal.manager.take(dev, section)?;
+        // Before any append: none may stand behind bytes that no seal covers.
         let buffer = buffer.truncate(dev, count * A::SIZE as u64)?;
         self.journal.manager.put(section, buffer)?;
         self.has_ended = false;

@@ -113,6 +113,7 @@ impl<A: CodecFixed, S: Seal> Journal<A, S> {
         self.manager.prune_guard(section)?;
         let bytes = spelled(self.alloc, item)?;
         let mut this = self;
+        // Behind the spelling: where there is no memory for that, no section is made.
         let buffer = this.manager.take(dev, section)?;
         let (buffer, offset) = buffer
             .append(dev, bytes.as_slice())
@@ -145,6 +146,7 @@ impl<A: CodecFixed, S: Seal> Journal<A, S> {
         ensures cause { OnErr result (IsPruned result (shown self).sections.floor ⊎ HasFailed result (D.faults dev.old) (D.faults dev.new)) }
     {
         let mut this = self;
+        // The buffers are all there is to settle: what the journal notes is in memory alone.
         this.manager = this.manager.sync(dev, sections)?;
         Ok(this)
     }
@@ -176,6 +178,7 @@ impl<A: CodecFixed, S: Seal> Journal<A, S> {
         ensures faults { D.faults dev.old ≤ D.faults dev.new }
         ensures cause { OnErr result (IsPruned result (shown self).sections.floor ⊎ HasFailed result (D.faults dev.old) (D.faults dev.new)) }
     {
+        // Settled before the handle is given out: it is of a sync that has finished.
         let this = self.sync(dev, sections)?;
         Ok((this, Handle::finished()))
     }
@@ -200,6 +203,7 @@ impl<A: CodecFixed, S: Seal> Journal<A, S> {
         ensures cause { OnErr result (HasFailed result (D.faults dev.old) (D.faults dev.new)) }
     {
         let mut this = self;
+        // As in `sync`: the buffers are all there is to settle.
         this.manager = this.manager.sync_all(dev)?;
         Ok(this)
     }

@@ -58,6 +58,7 @@ impl<F: BufferFactory> Manager<F> {
         let Some(buffer) = this.held.remove(section) else {
             return Ok(this);
         };
+        // By the buffer, which settles the cut: bytes may be written there again when this returns.
         let buffer = buffer.truncate(dev, size)?;
         this.held.insert(section, buffer)?;
         Ok(this)
@@ -100,9 +101,11 @@ impl<F: BufferFactory> Manager<F> {
         ensures cause { OnErr result (IsPruned result (shown self).floor ⊎ (HasDamage result ⊎ HasFailed result (D.faults dev.old) (D.faults dev.new))) }
     {
         self.prune_guard(section)?;
+        // The later sections first: a crash leaves none of them behind a section that is cut.
         let (this, _) = self.remove_all(dev, Doomed::After(section))?;
         let mut this = this;
         this.ceiling = u64::MAX;
+        // Last, once the later sections are gone for good.
         this.cut_one(dev, section, size)
     }
 
@@ -137,6 +140,7 @@ impl<F: BufferFactory> Manager<F> {
         ensures cause { OnErr result (IsPruned result (shown self).floor ⊎ (HasDamage result ⊎ HasFailed result (D.faults dev.old) (D.faults dev.new))) }
     {
         self.prune_guard(section)?;
+        // Behind the check alone: the other sections stay.
         self.cut_one(dev, section, size)
     }
 
@@ -183,6 +187,7 @@ impl<F: BufferFactory> Manager<F> {
         self.check_sizes(sizes)?;
         let mut this = self;
         for (section, size) in sizes {
+            // Behind the check of all, so that a refusal has cut none.
             this = this.cut_one(dev, *section, *size)?;
         }
         Ok(this)

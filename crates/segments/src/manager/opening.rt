@@ -161,6 +161,7 @@ impl<F: BufferFactory> Manager<F> {
         ensures cause { OnErr result (((n : List ℕ) × IsErrOf result (Error.InvalidBlobName n)) ⊎ (HasNoRoom result ⊎ HasFailed result (D.faults dev.old) (D.faults dev.new))) }
     {
         let ManagerConfig { partition, factory } = cfg;
+        // All names before a blob is opened: a foreign one is refused with nothing changed.
         let names = dev.scan(alloc, partition.as_str())?;
         let numbers = section_numbers(alloc, &names)?;
         let this = Manager::found(alloc, partition, factory, numbers.as_slice(), ceiling)?;
@@ -244,6 +245,7 @@ impl<F: BufferFactory> Manager<F> {
     {
         let name = section.to_be_bytes();
         let partition = self.partition.as_str();
+        // An opening settles what stands there, so no crash takes bytes over which the buffer is made.
         let size = dev.open_blob(partition, name.as_slice())?;
         let buffer = self
             .factory
@@ -322,6 +324,7 @@ impl<F: BufferFactory> Manager<F> {
         ensures cause { OnErr result (HasNoRoom result ⊎ HasFailed result (D.faults dev.old) (D.faults dev.new)) }
     {
         self.expect(section)?;
+        // Known before it is opened: a call that fails may have made the blob.
         let buffer = self.open(dev, section)?;
         self.unopened.insert(section, Unopened::Section)?;
         Ok(buffer)
@@ -393,6 +396,7 @@ impl<F: BufferFactory> Manager<F> {
             return Ok(());
         }
         self.expect(section)?;
+        // Known before it is opened: a call that fails may have made the blob.
         let buffer = self.open(dev, section)?;
         self.put(section, buffer)?;
         Ok(())

@@ -87,6 +87,7 @@ impl<F: BufferFactory> Manager<F> {
         ensures cause { OnErr result (HasFailed result (D.faults dev.old) (D.faults dev.new)) }
     {
         let name = section.to_be_bytes();
+        // Before the section is forgotten: only a removal that returned Ok lasts.
         dev.remove(self.partition.as_str(), name.as_slice())?;
         let mut this = self;
         this.held.remove(section);
@@ -117,6 +118,7 @@ impl<F: BufferFactory> Manager<F> {
         let mut removed = false;
         while let Some(section) = this.next_doomed(doomed) {
             removed = removed || this.is_section(section);
+            // Each has returned before the next one begins, so that a crash leaves no hole.
             this = this.remove_known(dev, section)?;
         }
         Ok((this, removed))
@@ -144,6 +146,7 @@ impl<F: BufferFactory> Manager<F> {
         if min == 0 {
             return Ok((self, false));
         }
+        // Before the floor moves: calls are refused only below what is gone.
         let (this, removed) = self.remove_all(dev, Doomed::Through(min - 1))?;
         let mut this = this;
         if removed {
@@ -175,6 +178,7 @@ impl<F: BufferFactory> Manager<F> {
         if !self.held.contains(section) {
             return Ok((self, false));
         }
+        // Behind the checks: a pruned section is refused, and one that is not held is left alone.
         Ok((self.remove_known(dev, section)?, true))
     }
 
@@ -193,6 +197,7 @@ impl<F: BufferFactory> Manager<F> {
         ensures faults { D.faults dev.old ≤ D.faults dev.new }
         ensures cause { OnErr result (HasFailed result (D.faults dev.old) (D.faults dev.new)) }
     {
+        // Before the bounds are lifted: sections above the ceiling are removed too.
         let (this, _) = self.remove_all(dev, Doomed::Through(u64::MAX))?;
         let mut this = this;
         this.floor = 0;
@@ -210,6 +215,7 @@ impl<F: BufferFactory> Manager<F> {
         ensures faults { D.faults dev.old ≤ D.faults dev.new }
         ensures cause { OnErr result (HasFailed result (D.faults dev.old) (D.faults dev.new)) }
     {
+        // As `clear` does it: the bounds that it lifts are lost with the manager.
         self.clear(dev)?;
         Ok(())
     }

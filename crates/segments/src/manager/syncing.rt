@@ -64,6 +64,7 @@ impl<F: BufferFactory> Manager<F> {
         let Some(buffer) = this.held.remove(section) else {
             return Ok(this);
         };
+        // Only where a byte has not settled, so that an idle sync makes no call.
         let buffer = buffer.sync(dev)?;
         this.held.insert(section, buffer)?;
         Ok(this)
@@ -88,6 +89,7 @@ impl<F: BufferFactory> Manager<F> {
     {
         let mut this = self;
         for section in sections {
+            // One by one: a crash treats each section by itself, so no order is owed.
             this = this.sync_one(dev, *section)?;
         }
         Ok(this)
@@ -126,6 +128,7 @@ impl<F: BufferFactory> Manager<F> {
         ensures cause { OnErr result (IsPruned result (shown self).floor ⊎ HasFailed result (D.faults dev.old) (D.faults dev.new)) }
     {
         self.check_all(sections)?;
+        // Behind the check of all, so that a refusal has touched none.
         self.sync_each(dev, sections)
     }
 
@@ -152,6 +155,7 @@ impl<F: BufferFactory> Manager<F> {
         ensures faults { D.faults dev.old ≤ D.faults dev.new }
         ensures cause { OnErr result (IsPruned result (shown self).floor ⊎ HasFailed result (D.faults dev.old) (D.faults dev.new)) }
     {
+        // Settled before the handle is given out: it is of a sync that has finished.
         let this = self.sync(dev, sections)?;
         Ok((this, Handle::finished()))
     }
@@ -173,6 +177,7 @@ impl<F: BufferFactory> Manager<F> {
         ensures cause { OnErr result (HasFailed result (D.faults dev.old) (D.faults dev.new)) }
     {
         let numbers = self.numbers()?;
+        // With no check: what is held is not below the floor.
         self.sync_each(dev, numbers.as_slice())
     }
 }
