@@ -1,6 +1,6 @@
 // What is measured: an archive is filled, and opened again.
 ghost use Rattle.std.specs.Prelude.{◌≤◌, ℕ, length, IfOk};
-ghost use Rattle.blob_device.specs.Timeline.{disk};
+ghost use Rattle.archives.specs.Changes.{MayUse};
 ghost use Rattle.archives.specs.Config.{IsValid};
 ghost use Rattle.value_codec.specs.declared.byte_value.ByteValue.{ByteValue};
 
@@ -9,7 +9,7 @@ use crate::counting::Counting;
 use crate::error::BenchError;
 use crate::report::{PutCosts, Report};
 use archive_service::Settings;
-use archives::{Archive, FourCap, prunable};
+use archives::{Archive, Error, FourCap, prunable};
 use blob_device::Device;
 use std::alloc::{AllocError, Global};
 use value_codec::{ByteValue, Key, Key8, Sha256Seal};
@@ -57,8 +57,9 @@ fn opened<D: Device>(
 ) -> Result<Measured, BenchError>
     requires valid { IsValid config.now }
     requires values { VALUE_BYTES ≤ config.now.codec_config }
-    ensures usable { IfOk result (λ r. ⟦<Measured as Archive>⟧.IsUsable r D.Tells (D.opened dev.new) (disk (D.time dev.new))) }
-    ensures accepts { IfOk result (λ r. (v : ByteValue) → length v ≤ VALUE_BYTES → ⟦<Measured as Archive>⟧.accepts r v) }
+    ensures usable { IfOk result (λ r. MayUse ⟦<Measured as Archive>⟧.meaning D.Device r dev.new) }
+    ensures accepts { IfOk result (λ r. (v : ByteValue) → length v ≤ VALUE_BYTES
+        → ⟦<Measured as Archive>⟧.meaning.Accepts r v) }
 {
     Ok(Measured::init(alloc, dev, config)?)
 }
@@ -92,14 +93,14 @@ fn fill<A, D: Device>(
 ) -> Result<(), BenchError>
 where
     A: Archive<Key = Key8, Value = ByteValue> + Drop,
-    requires usable { A.IsUsable archive D.Tells (D.opened dev.old) (disk (D.time dev.old)) }
-    requires accepts { (v : ByteValue) → length v ≤ VALUE_BYTES → A.accepts archive v }
+    requires usable { MayUse A.meaning D.Device archive dev.old }
+    requires accepts { (v : ByteValue) → length v ≤ VALUE_BYTES → A.meaning.Accepts archive v }
 {
     let mut archive = archive;
     for index in 0..puts {
         archive = put_one(archive, alloc, dev, index, costs)?;
         if index % SYNC_EVERY == SYNC_EVERY - 1 {
-            archive = archive.sync(dev)?;
+            archive = synced(archive, dev)?;
         }
     }
     Ok(())
@@ -115,16 +116,30 @@ fn put_one<A, D: Device>(
 ) -> Result<A, BenchError>
 where
     A: Archive<Key = Key8, Value = ByteValue> + Drop,
-    requires usable { A.IsUsable archive D.Tells (D.opened dev.old) (disk (D.time dev.old)) }
-    requires accepts { (v : ByteValue) → length v ≤ VALUE_BYTES → A.accepts archive v }
-    ensures usable { IfOk result (λ r. A.IsUsable r D.Tells (D.opened dev.new) (disk (D.time dev.new))) }
-    ensures accepts { IfOk result (λ r. (v : ByteValue) → length v ≤ VALUE_BYTES → A.accepts r v) }
+    requires usable { MayUse A.meaning D.Device archive dev.old }
+    requires accepts { (v : ByteValue) → length v ≤ VALUE_BYTES → A.meaning.Accepts archive v }
+    ensures usable { IfOk result (λ r. MayUse A.meaning D.Device r dev.new) }
+    ensures accepts { IfOk result (λ r. (v : ByteValue) → length v ≤ VALUE_BYTES
+        → A.meaning.Accepts r v) }
 {
     let value = value_of(alloc, index)?;
     let before = dev.calls();
     let archive = archive.put(dev, index, key_of(index), &value)?;
     costs.enter(dev.calls().saturating_sub(before));
     Ok(archive)
+}
+
+// Makes all that was put durable.
+fn synced<A, D: Device>(archive: A, dev: &mut D) -> Result<A, Error>
+where
+    A: Archive<Key = Key8, Value = ByteValue> + Drop,
+    requires usable { MayUse A.meaning D.Device archive dev.old }
+    requires accepts { (v : ByteValue) → length v ≤ VALUE_BYTES → A.meaning.Accepts archive v }
+    ensures usable { IfOk result (λ r. MayUse A.meaning D.Device r dev.new) }
+    ensures accepts { IfOk result (λ r. (v : ByteValue) → length v ≤ VALUE_BYTES
+        → A.meaning.Accepts r v) }
+{
+    archive.sync(dev)
 }
 
 // The key of an index: its eight bytes.

@@ -5,7 +5,9 @@
 //! the sink (`ran.rt`), and says on standard error what is wrong and what the run took off the archive's files (`telling.rt`).
 #![tactic(auto)]
 
-ghost use Rattle.std.specs.Prelude.{◌≤◌};
+ghost use Rattle.std.specs.Prelude.{◌≡◌, ◌⊎◌, ◌≤◌, Some, map, string_bytes};
+ghost use Rattle.std.specs.Option.{option_copied};
+ghost use Rattle.archive_program.specs.Words.{IsStatusFor, IsStatusIn, IsStatusOf, folder_in};
 
 mod meaning;
 mod ran;
@@ -30,28 +32,43 @@ fn main(rt: HostRuntime) -> ExitCode {
 fn status(rt: &HostRuntime) -> u8
     ensures { result ≤ 7 }
 {
-    let words = match arguments(rt) {
-        Ok(words) => words,
+    match arguments(rt) {
+        Ok(words) => status_of(rt, words.as_slice()),
         Err(error) if error.kind() == ErrorKind::OutOfMemory => {
-            return report(rt, Status::NoMemory as u8);
+            report(rt, Status::NoMemory as u8)
         }
-        Err(_) => return report(rt, Status::Usage as u8),
-    };
-    if let [word] = words.as_slice() {
+        Err(_) => report(rt, Status::Usage as u8),
+    }
+}
+
+// The status for these words.
+fn status_of(rt: &HostRuntime, words: &[String]) -> u8
+    ensures { IsStatusOf (map string_bytes words.now) result }
+{
+    if let [word] = words {
         match word.as_str() {
             "--help" | "-h" => return show(rt, HELP),
             "--version" => return show(rt, VERSION),
             _ => {}
         }
     }
-    match folder_of(words.as_slice()) {
-        None => run_in_memory(rt, words.as_slice()),
-        Some(folder) => run_in(rt, words.as_slice(), folder),
+    served(rt, words)
+}
+
+// Serves what these words ask for, in the folder that they name, or in memory.
+fn served(rt: &HostRuntime, words: &[String]) -> u8
+    ensures { IsStatusIn (map string_bytes words.now) result }
+{
+    match folder_of(words) {
+        None => run_in_memory(rt, words),
+        Some(folder) => run_in(rt, words, folder),
     }
 }
 
 // The folder that keeps the archive; none where it is kept in memory, or where there are no words.
-fn folder_of(words: &[String]) -> Option<&str> {
+fn folder_of(words: &[String]) -> Option<&str>
+    ensures { option_copied result ≡ folder_in (map string_bytes words.now) }
+{
     match words.first()?.as_str() {
         "" | "-" => None,
         folder => Some(folder),
@@ -69,7 +86,7 @@ fn arguments(rt: &HostRuntime) -> io::Result<Vec<String>> {
 
 // Runs the program in memory.
 fn run_in_memory(rt: &HostRuntime, words: &[String]) -> u8
-    ensures { result ≤ 7 }
+    ensures { IsStatusFor (map string_bytes words.now) result }
 {
     let mut device = Noting::new(rt.alloc(), Memory::new(rt.alloc()));
     let ran = run_on(rt, words, &mut device);
@@ -78,7 +95,8 @@ fn run_in_memory(rt: &HostRuntime, words: &[String]) -> u8
 
 // Runs the program on this folder, which no other program can use meanwhile.
 fn run_in(rt: &HostRuntime, words: &[String], folder: &str) -> u8
-    ensures { result ≤ 7 }
+    requires { folder_in (map string_bytes words.now) ≡ Some folder.now }
+    ensures { IsStatusIn (map string_bytes words.now) result }
 {
     let Ok(files) = files_of(rt, folder) else {
         return report(rt, Status::NoMemory as u8);
@@ -96,8 +114,9 @@ fn files_of(
     FileDevice::alone(&HostFiles::new(rt)?, rt.alloc(), folder)
 }
 
+// Writes a text that a question asks for.
 fn show(rt: &HostRuntime, text: &str) -> u8
-    ensures { result ≤ 7 }
+    ensures { (result ≡ 0) ⊎ (result ≡ 4) }
 {
     match println!(rt; "{text}") {
         Ok(()) => Status::Done as u8,

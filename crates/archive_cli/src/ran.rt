@@ -1,5 +1,6 @@
 // A run of the program, and what can be said of it afterwards.
-ghost use Rattle.std.specs.Prelude.{◌≤◌};
+ghost use Rattle.std.specs.Prelude.{◌≤◌, map, string_bytes};
+ghost use Rattle.archive_program.specs.Words.{IsStatusFor};
 
 use archive_program::run;
 use archive_service::{Ended, ScriptError, Settings, read_script};
@@ -30,7 +31,9 @@ pub enum Moment<'a> {
 }
 
 /// Runs the program on this device, between standard input and output.
-pub fn run_on<'a, D: Device>(rt: &HostRuntime, words: &'a [String], device: &mut D) -> Ran<'a> {
+pub fn run_on<'a, D: Device>(rt: &HostRuntime, words: &'a [String], device: &mut D) -> Ran<'a>
+    ensures { IsStatusFor (map string_bytes words.now) result.ended.status }
+{
     let mut input = Keeping::new(rt.alloc(), StdSource::new(rt.reader()));
     let mut out = StdSink::new(io::writer(rt));
     let ended = run(rt.alloc(), words, device, &mut input, &mut out);

@@ -1,29 +1,30 @@
--- What a call of the program comes to, by what its parts came to: each lemma is named as the field of `Runs` that it proves.
+-- What a call of the program comes to, by what its parts came to: each lemma is named as the field of `Runs`, or of `RunsJob`, that it proves.
 use Rattle.std.specs.Prelude.{◌≢◌, Option, None, IsSome, IfSome}
 use Rattle.std.proofs.Common.{◌≡◌, ◌⊎◌, inl, inr, ℕ, zero, suc, ◌+◌, ◌*◌, ◌^◌, ◌≤◌, List, [], ◌∷◌, ◌++◌, length, Contains, Result, Ok, refl, sym, ap, subst, ◌∙◌, lit<, append-nil, append_assoc, length-append, arith}
 use Rattle.std.specs.List.{AllByRecursion}
 use Rattle.blob_device.specs.Counts.{Rose}
-use Rattle.blob_device.specs.Timeline.{Timeline}
+use Rattle.blob_device.specs.declared.device.Device as device
 use Rattle.blob_device.specs.declared.io_fault.IoFault.{IoFault}
-use Rattle.paired.specs.Opening.{as_read}
-use Rattle.paired.specs.OpeningRefusing.{AreCounted}
+use Rattle.blob_device.specs.declared.sink.Sink as sink
+use Rattle.blob_device.specs.declared.source.Source as source
 use Rattle.archives.specs.Replies.{Reply}
 use Rattle.archives.specs.declared.error.Error.{Error}
-use Rattle.archive_service.specs.Causes.{IsFault}
+use Rattle.archives.specs.Refusing.{IsFault}
+use Rattle.archive_service.specs.RunLaws.{AreCountedIfOpening}
 use Rattle.archive_service.specs.Script.{Spells}
 use Rattle.archive_service.specs.Texts.{Spelled}
 use Rattle.archive_service.specs.declared.ended.Ended.{Ended}
 use Rattle.archive_service.specs.declared.replies.End.{End}
 use Rattle.archive_service.specs.declared.replies.End.TheVariants.{Done}
 use Rattle.archive_service.specs.declared.settings.Settings.{Settings}
-use Rattle.archive_service.proofs.ScriptLemmas.{good_or_bad}
+use Rattle.archive_service.proofs.ScriptLemmas.{good_or_bad, one_script}
 use Rattle.archive_program.specs.Input.{TakesAll, TakesFront}
 use Rattle.archive_program.specs.Output.{WritesFront}
-use Rattle.archive_program.specs.Program.{Answers, AnswersInput, AnswersScript, InFull, InPart, IsRefusal, IsServedBy, IsUnserved, MayBeServed, NamesBadLine, Runs, Writes, error_of, program_filing}
-use Rattle.archive_program.specs.Words.{AreOfNoForm, AreWordsFor}
+use Rattle.archive_program.specs.Program.{AnswersInput, AnswersScript, AnswersWhole, Gives, InFull, InPart, IsBadAt, IsGiven, IsGivenScript, IsRefusal, IsUnserved, MayBeServed, NamesBadLine, Orders, Reads, ReadsFor, ReadsWhole, Runs, RunsJob, ServedBy, error_of, items_of, program_filing}
+use Rattle.archive_program.specs.Words.{AreOfNoForm, AsksFor, Job, Script}
 use Rattle.archive_program.proofs.CauseLemmas.{refusal_only}
 use Rattle.archive_program.proofs.FoundLemmas.{Found, bad, failed, found_of, none, short, whole}
-use Rattle.archive_program.proofs.WordsLemmas.{one_number}
+use Rattle.archive_program.proofs.WordsLemmas.{one_job}
 
 pub in_part : {T : Type 0} (result : Result T IoFault) (old new text : List ℕ) → WritesFront result old new text → InPart text old new
 in_part result old new text wrote = record { front = wrote.written; rest = wrote.rest; text_is = wrote.front; taken = wrote.taken }
@@ -51,134 +52,166 @@ longer_front wanted text rest old new is part = record {
   taken = part.taken;
 }
 
-module _ (settings : Settings) (words : List (List ℕ)) (ended : Ended)
-    (told : Type 0) (faults_old faults_new : ℕ) (old new : Timeline) (IsUntouched : Type 0)
-    (SourceTells : Type 0) (misread_old misread_new : ℕ) (left_old left_new : List ℕ) (IsUnread : Type 0)
-    (SinkTells : Type 0) (miswritten_old miswritten_new : ℕ) (taken_old taken_new : List ℕ) (IsUnwritten : Type 0) where
+-- ---- what a job is, by its kind
+
+reads_whole : (job : Job) (IsUnread SourceTells : Type 0) (left_old left_new input : List ℕ) → Reads job → ReadsWhole SourceTells left_old left_new input
+    → ReadsFor job IsUnread SourceTells left_old left_new input
+reads_whole (Script items) IsUnread SourceTells left_old left_new input reads is_whole = is_whole
+
+module _ (max : ℕ) (SourceTells : Type 0) (left : List ℕ) (faults_old faults_new : ℕ) (commands : List Spelled) where
+  -- a job that reads is given a script
+  given_script : (job : Job) → Reads job → IsGiven job max SourceTells left faults_old faults_new commands → IsGivenScript max SourceTells left faults_old faults_new commands
+  given_script (Script items) reads given = given
+
+  -- what is given has no bad line
+  given_never_bad : (job : Job) (input : List ℕ) (number : ℕ) → IsGiven job max SourceTells left faults_old faults_new commands → left ≡ input → IsBadAt job max input number → ⊥
+  given_never_bad (Script items) input number given same is_bad =
+      good_or_bad max input commands number (subst (λ (t : List ℕ). Spells max t commands) same given.spelled) is_bad
+
+  -- and orders no other commands
+  one_order : (job : Job) (input : List ℕ) (others : List Spelled) → IsGiven job max SourceTells left faults_old faults_new commands → left ≡ input → Orders job max input others → commands ≡ others
+  one_order (Script items) input others given same ordered =
+      one_script max input commands others (subst (λ (t : List ℕ). Spells max t commands) same given.spelled) ordered
+
+module _ {D S W : Type 0} (settings : Settings) (words : List (List ℕ)) (ended : Ended) (dev : device.Ghosts D) (old new : D)
+    (input : source.Ghosts S) (input_old input_new : S) (out : sink.Ghosts W) (out_old out_new : W) where
   abbrev pub Unserved : Type 0
-  Unserved = IsUnserved settings words ended told faults_old faults_new old new IsUntouched SourceTells misread_old misread_new left_old left_new IsUnread SinkTells miswritten_old miswritten_new taken_old taken_new IsUnwritten
+  Unserved = IsUnserved settings words ended dev old new input input_old input_new out out_old out_new
 
   abbrev pub Ran : Type 0
-  Ran = Runs settings words ended told faults_old faults_new old new IsUntouched SourceTells misread_old misread_new left_old left_new IsUnread SinkTells miswritten_old miswritten_new taken_old taken_new IsUnwritten
+  Ran = Runs settings words ended dev old new input input_old input_new out out_old out_new
 
-  -- the commands were served, with room for n indices in a section
-  abbrev pub By : ℕ → List Spelled → List (Reply (List ℕ)) → End → Type 0
-  By n = IsServedBy settings n told faults_old faults_new old new ended.marks
+  abbrev pub RanJob : Job → Type 0
+  RanJob job = RunsJob settings words ended dev old new input input_old input_new out out_old out_new job
 
-  abbrev pub Gives : (List ℕ → List ℕ → Type 0) → (List ℕ → List ℕ → List ℕ → Type 0) → Type 0
-  Gives P Extent = Writes SourceTells SinkTells P Extent left_old left_new taken_old taken_new
+  abbrev pub GivesFor : Job → (List ℕ → List ℕ → Type 0) → (List ℕ → List ℕ → List ℕ → Type 0) → Type 0
+  GivesFor job P Extent = Gives settings words ended dev old new input input_old input_new out out_old out_new job P Extent
+
+  -- the commands were served
+  abbrev pub By : Job → List Spelled → List (Reply (List ℕ)) → End → Type 0
+  By job = ServedBy settings job dev old new ended.marks
+
+  abbrev pub TakesUpTo : (ℕ → Type 0) → Type 0
+  TakesUpTo P = TakesFront (input.left input_old) (input.left input_new) P
 
   -- ---- where no script was served
 
-  module _ (served : Unserved) (unwritten : IsUnwritten) (faults : faults_old ≤ faults_new) where
+  module _ (served : Unserved) (unwritten : out_new ≡ out_old) (faults : dev.faults old ≤ dev.faults new) where
     no_error : IsSome ended.error → ⊥
     no_error some = cc (subst IsSome served.error some)
 
-    no_fault : IfSome ended.error (λ e. IsFault e → Rose faults_old faults_new)
-    no_fault = subst (λ (o : Option Error). IfSome o (λ e. IsFault e → Rose faults_old faults_new)) (sym served.error) tt
+    no_fault : IfSome ended.error (λ e. IsFault e → Rose (dev.faults old) (dev.faults new))
+    no_fault = subst (λ (o : Option Error). IfSome o (λ e. IsFault e → Rose (dev.faults old) (dev.faults new))) (sym served.error) tt
 
-    pub runs_usage : ended.status ≡ 1 → AreOfNoForm words → IsUnread → left_old ≡ left_new → Ran
-    runs_usage status no_form unread stays = record {
+    pub runs_usage : ended.status ≡ 1 → AreOfNoForm words → input_new ≡ input_old → Ran
+    runs_usage status no_form unread = record {
       statuses = omega (arith, status);
-      done = λ items form is. absurd (omega (arith, is, status));
       usage = λ is. no_form;
       form = λ other. absurd (other status);
-      bad_script = λ is. absurd (omega (arith, is, status));
-      read_fault = λ is. absurd (omega (arith, is, status));
-      write_fault = λ items form is. absurd (omega (arith, is, status));
-      store_error = λ items form is. absurd (omega (arith, is, status));
+      asked = λ job asks. absurd (no_form job asks);
       has_error = λ some. absurd (no_error some);
-      no_memory = λ items form is. absurd (omega (arith, is, status));
-      too_long = λ is. absurd (omega (arith, is, status));
-      at_most = λ s. record { taken = []; number = omega arith; rest = stays };
+      at_most = λ s. record { taken = []; number = omega arith; rest = ap (λ (x : S). input.left x) (sym unread) };
       unserved = λ among. served;
       unread = λ is. unread;
       silent = λ among. unwritten;
       fault = no_fault;
       faults = faults;
-      complete = λ s t items form. absurd (no_form items form);
     }
 
     -- The input was not read: by a fault of the source, for its length, or for want of memory.
-    module _ (items : ℕ) (form : AreWordsFor words items) (at_most : SourceTells → TakesFront left_old left_new (λ n. n ≤ 2 ^ 24 + 1)) where
-      runs_unread : (s : ℕ) → ended.status ≡ s → s ≤ 7 → AllByRecursion (λ x. x ≢ s) (0 ∷ 1 ∷ 2 ∷ 4 ∷ 5 ∷ [])
-          → (s ≡ 3 → Rose misread_old misread_new × (SourceTells → TakesFront left_old left_new (λ n. n ≤ 2 ^ 24)))
-          → (s ≡ 7 → SourceTells → TakesFront left_old left_new (λ n. n ≡ 2 ^ 24 + 1))
-          → (SourceTells → length left_old ≤ 2 ^ 24 → (Rose misread_old misread_new → ⊥) → s ≡ 6) → Ran
-      runs_unread s status le unlike read_fault too_long memory = record {
-        statuses = omega (arith, status, le);
-        done = λ others also is. absurd (unlike.0 (sym is ∙ status));
-        usage = λ is. absurd (unlike.1.0 (sym is ∙ status));
-        form = λ other. (items, form);
+    module _ (job : Job) (form : AsksFor words job) (reads : Reads job) (at_most : input.Tells → TakesUpTo (λ n. n ≤ 2 ^ 24 + 1)) where
+      unread_job : (s : ℕ) → ended.status ≡ s → AllByRecursion (λ x. x ≢ s) (0 ∷ 1 ∷ 2 ∷ 4 ∷ 5 ∷ [])
+          → (s ≡ 3 → Rose (input.faults input_old) (input.faults input_new) × (input.Tells → TakesUpTo (λ n. n ≤ 2 ^ 24)))
+          → (s ≡ 7 → input.Tells → TakesUpTo (λ n. n ≡ 2 ^ 24 + 1))
+          → (input.Tells → length (input.left input_old) ≤ 2 ^ 24 → (Rose (input.faults input_old) (input.faults input_new) → ⊥) → s ≡ 6) → RanJob job
+      unread_job s status unlike read_fault too_long memory = record {
+        done = λ is. absurd (unlike.0 (sym is ∙ status));
         bad_script = λ is. absurd (unlike.1.1.0 (sym is ∙ status));
-        read_fault = λ is. read_fault (sym status ∙ is);
-        write_fault = λ others also is. absurd (unlike.1.1.1.0 (sym is ∙ status));
-        store_error = λ others also is. absurd (unlike.1.1.1.1.0 (sym is ∙ status));
+        read_fault = λ is. (reads, read_fault (sym status ∙ is));
+        too_long = λ is. (reads, too_long (sym status ∙ is));
+        write_fault = λ is. absurd (unlike.1.1.1.0 (sym is ∙ status));
+        store_error = λ is. absurd (unlike.1.1.1.1.0 (sym is ∙ status));
+        no_memory = λ is. inl (served, unwritten);
+        complete = λ t may commands given counted calm calm_out.
+            let script = given_script settings.max_value input.Tells (input.left input_old) (input.faults input_old) (input.faults input_new) commands job reads given in
+            inl (1, lit< tt, sym (status ∙ memory script.told script.limit script.calm));
+      }
+
+      runs_unread : (s : ℕ) → ended.status ≡ s → s ≤ 7 → s ≢ 1 → RanJob job → Ran
+      runs_unread s status le other ran = record {
+        statuses = omega (arith, status, le);
+        usage = λ is. absurd (other (sym status ∙ is));
+        form = λ no_usage. (job, form);
+        asked = λ also asks. subst RanJob (one_job words job also form asks) ran;
         has_error = λ some. absurd (no_error some);
-        no_memory = λ others also is. inl (served, unwritten);
-        too_long = λ is. too_long (sym status ∙ is);
         at_most = at_most;
         unserved = λ among. served;
-        unread = λ is. absurd (unlike.1.0 (sym is ∙ status));
+        unread = λ is. absurd (other (sym status ∙ is));
         silent = λ among. unwritten;
         fault = no_fault;
         faults = faults;
-        complete = λ source t others also may counted commands spelled fits calm_in calm calm_out. inl (1, lit< tt, sym (status ∙ memory source fits calm_in));
       }
 
-      pub runs_read_fault : ended.status ≡ 3 → Rose misread_old misread_new → (SourceTells → TakesFront left_old left_new (λ n. n ≤ 2 ^ 24)) → Ran
-      runs_read_fault status rose within = runs_unread 3 status (omega arith) (λ e. omega (arith, e), (λ e. omega (arith, e), (λ e. omega (arith, e), (λ e. omega (arith, e), (λ e. omega (arith, e), tt)))))
-          (λ is. (rose, within)) (λ is. absurd (omega (arith, is))) (λ source fits calm. absurd (calm rose))
+      pub runs_read_fault : ended.status ≡ 3 → Rose (input.faults input_old) (input.faults input_new) → (input.Tells → TakesUpTo (λ n. n ≤ 2 ^ 24)) → Ran
+      runs_read_fault status rose within = runs_unread 3 status (omega arith) (λ e. omega (arith, e))
+          (unread_job 3 status (λ e. omega (arith, e), (λ e. omega (arith, e), (λ e. omega (arith, e), (λ e. omega (arith, e), (λ e. omega (arith, e), tt)))))
+          (λ is. (rose, within)) (λ is. absurd (omega (arith, is))) (λ told fits calm. absurd (calm rose)))
 
-      pub runs_too_long : ended.status ≡ 7 → (SourceTells → TakesFront left_old left_new (λ n. n ≡ 2 ^ 24 + 1)) → Ran
-      runs_too_long status taken = runs_unread 7 status (omega arith) (λ e. omega (arith, e), (λ e. omega (arith, e), (λ e. omega (arith, e), (λ e. omega (arith, e), (λ e. omega (arith, e), tt)))))
-          (λ is. absurd (omega (arith, is))) (λ is. taken) (λ source fits calm. absurd (not_too_long left_old left_new fits (taken source)))
+      pub runs_too_long : ended.status ≡ 7 → (input.Tells → TakesUpTo (λ n. n ≡ 2 ^ 24 + 1)) → Ran
+      runs_too_long status taken = runs_unread 7 status (omega arith) (λ e. omega (arith, e))
+          (unread_job 7 status (λ e. omega (arith, e), (λ e. omega (arith, e), (λ e. omega (arith, e), (λ e. omega (arith, e), (λ e. omega (arith, e), tt)))))
+          (λ is. absurd (omega (arith, is))) (λ is. taken) (λ told fits calm. absurd (not_too_long (input.left input_old) (input.left input_new) fits (taken told))))
 
       pub runs_no_memory : ended.status ≡ 6 → Ran
-      runs_no_memory status = runs_unread 6 status (omega arith) (λ e. omega (arith, e), (λ e. omega (arith, e), (λ e. omega (arith, e), (λ e. omega (arith, e), (λ e. omega (arith, e), tt)))))
-          (λ is. absurd (omega (arith, is))) (λ is. absurd (omega (arith, is))) (λ source fits calm. refl)
+      runs_no_memory status = runs_unread 6 status (omega arith) (λ e. omega (arith, e))
+          (unread_job 6 status (λ e. omega (arith, e), (λ e. omega (arith, e), (λ e. omega (arith, e), (λ e. omega (arith, e), (λ e. omega (arith, e), tt)))))
+          (λ is. absurd (omega (arith, is))) (λ is. absurd (omega (arith, is))) (λ told fits calm. refl))
 
   -- ---- where the input was read
 
-  -- The input was read as `bytes`, which is `input` as it was handed on, and has this answer. Its text was handed on as `shown`.
-  module _ (items : ℕ) (form : AreWordsFor words items) (bytes input text shown : List ℕ) (before : Ended) (marks_stay : before.marks ≡ ended.marks) (error_stays : before.error ≡ ended.error)
-      (answers : Answers settings.max_value (IsServedBy settings items told faults_old faults_new old new before.marks) IsUntouched input before text)
-      (same_input : input ≡ bytes) (same_text : shown ≡ text) (took : SourceTells → TakesAll left_old left_new bytes) (limit : length bytes ≤ 2 ^ 24)
-      (at_most : SourceTells → TakesFront left_old left_new (λ n. n ≤ 2 ^ 24 + 1))
-      (fault : IfSome before.error (λ e. IsFault e → Rose faults_old faults_new)) (faults : faults_old ≤ faults_new) where
-    abbrev pub FoundAt : ℕ → Type 0
-    FoundAt n = Found settings.max_value (By n) Unserved ended.error input text before.status
+  -- The input was read as `bytes`, which is `taken` as it was handed on, and has this answer. Its text was handed on as `shown`.
+  module _ (job : Job) (form : AsksFor words job) (reads : Reads job) (bytes taken text shown : List ℕ) (before : Ended) (marks_stay : before.marks ≡ ended.marks)
+      (error_stays : before.error ≡ ended.error) (answers : AnswersWhole settings job dev old new taken before text) (same_input : taken ≡ bytes) (same_text : shown ≡ text)
+      (took : input.Tells → TakesAll (input.left input_old) (input.left input_new) bytes) (limit : length bytes ≤ 2 ^ 24) (at_most : input.Tells → TakesUpTo (λ n. n ≤ 2 ^ 24 + 1)) where
+    abbrev pub FoundNow : Type 0
+    FoundNow = Found job settings.max_value (By job) Unserved ended.error taken text before.status
 
-    answer : FoundAt items
-    answer = found_of settings.max_value (IsServedBy settings items told faults_old faults_new old new before.marks) (By items) IsUntouched Unserved ended.error input text before
-        (λ commands replies end so. subst (λ (m : List ℕ). IsServedBy settings items told faults_old faults_new old new m commands replies end) marks_stay so) error_stays
-        (λ untouched marks error. record { untouched = untouched; marks = sym marks_stay ∙ marks; error = sym error_stays ∙ error }) answers
+    answer : FoundNow
+    answer = found_of job settings.max_value (ServedBy settings job dev old new before.marks) (By job) (new ≡ old) Unserved ended.error taken text before
+        (λ commands replies end so. subst (λ (m : List ℕ). ServedBy settings job dev old new m commands replies end) marks_stay so) error_stays
+        (λ untouched marks error. record { untouched = untouched; marks = sym marks_stay ∙ marks; error = sym error_stays ∙ error }) answers.answer
 
-    is_fault : IfSome ended.error (λ e. IsFault e → Rose faults_old faults_new)
-    is_fault = subst (λ (o : Option Error). IfSome o (λ e. IsFault e → Rose faults_old faults_new)) error_stays fault
+    is_fault : IfSome ended.error (λ e. IsFault e → Rose (dev.faults old) (dev.faults new))
+    is_fault = subst (λ (o : Option Error). IfSome o (λ e. IsFault e → Rose (dev.faults old) (dev.faults new))) error_stays answers.fault
 
-    read : SourceTells → left_old ≡ input
+    read : input.Tells → input.left input_old ≡ taken
     read s = (took s).all ∙ sym same_input
 
-    -- the words ask for one number of indices only
-    answer_at : (n : ℕ) → AreWordsFor words n → FoundAt n
-    answer_at n also = subst FoundAt (one_number words items n form also) answer
-
-    gives : (P : List ℕ → List ℕ → Type 0) (Extent : List ℕ → List ℕ → List ℕ → Type 0) (wanted : List ℕ) → P input wanted → (SinkTells → Extent wanted taken_old taken_new) → Gives P Extent
+    gives : (P : List ℕ → List ℕ → Type 0) (Extent : List ℕ → List ℕ → List ℕ → Type 0) (wanted : List ℕ) → P taken wanted
+        → (out.Tells → Extent wanted (out.taken out_old) (out.taken out_new)) → GivesFor job P Extent
     gives P Extent wanted is written = record {
-      input = input;
+      input = taken;
       text = wanted;
-      read = λ s. (read s, (took s).rest);
-      limit = omega (arith, limit, ap length same_input);
+      read = reads_whole job (input_new ≡ input_old) input.Tells (input.left input_old) (input.left input_new) taken reads (record {
+        read = λ s. (read s, (took s).rest);
+        limit = omega (arith, limit, ap length same_input);
+      });
       answers = is;
       written = written;
     }
 
+    -- what was served to its end, up to this end, or with this error, or the first bad line
+    abbrev UpTo : (End → Type 0) → List ℕ → List ℕ → Type 0
+    UpTo IsEnd = AnswersScript settings.max_value (By job) job IsEnd
+
+    abbrev Any : List ℕ → List ℕ → Type 0
+    Any = AnswersInput job settings.max_value (By job) ended.error Unserved
+
     -- an end with no error is one that hands out none
-    by_error : (n : ℕ) → ended.error ≡ None → AnswersScript settings.max_value (By n) (λ end. end ≡ Done) input text → AnswersScript settings.max_value (By n) (λ end. ended.error ≡ error_of end) input text
-    by_error n is script = record {
+    by_error : ended.error ≡ None → UpTo (λ end. end ≡ Done) taken text → UpTo (λ end. ended.error ≡ error_of end) taken text
+    by_error is script = record {
       commands = script.commands;
-      spelled = script.spelled;
+      ordered = script.ordered;
       replies = script.replies;
       end = script.end;
       served = script.served;
@@ -188,11 +221,11 @@ module _ (settings : Settings) (words : List (List ℕ)) (ended : Ended)
 
     -- ---- all was written
 
-    module _ (same : ended.status ≡ before.status) (wrote : SinkTells → InFull shown taken_old taken_new) (unwritten : shown ≡ [] → IsUnwritten) where
-      written : SinkTells → InFull text taken_old taken_new
-      written w = wrote w ∙ ap (λ (t : List ℕ). taken_old ++ t) same_text
+    module _ (same : ended.status ≡ before.status) (wrote : out.Tells → InFull shown (out.taken out_old) (out.taken out_new)) (unwritten : shown ≡ [] → out_new ≡ out_old) where
+      written : out.Tells → InFull text (out.taken out_old) (out.taken out_new)
+      written w = wrote w ∙ ap (λ (t : List ℕ). out.taken out_old ++ t) same_text
 
-      statuses : FoundAt items → ended.status ≤ 7
+      statuses : FoundNow → ended.status ≤ 7
       statuses (none s u e) = omega (arith, same, s)
       statuses (bad s u names) = omega (arith, same, s)
       statuses (whole s e script) = omega (arith, same, s)
@@ -200,134 +233,174 @@ module _ (settings : Settings) (words : List (List ℕ)) (ended : Ended)
       statuses (short s wanted rest answers is) = omega (arith, same, s)
 
       -- nothing else than these
-      apart : FoundAt items → (s : ℕ) → s ≢ 0 → s ≢ 2 → s ≢ 5 → s ≢ 6 → ended.status ≡ s → ⊥
+      apart : FoundNow → (s : ℕ) → s ≢ 0 → s ≢ 2 → s ≢ 5 → s ≢ 6 → ended.status ≡ s → ⊥
       apart (none s u e) n n0 n2 n5 n6 is = n6 (sym is ∙ same ∙ s)
       apart (bad s u names) n n0 n2 n5 n6 is = n2 (sym is ∙ same ∙ s)
       apart (whole s e script) n n0 n2 n5 n6 is = n0 (sym is ∙ same ∙ s)
       apart (failed s some script) n n0 n2 n5 n6 is = n5 (sym is ∙ same ∙ s)
       apart (short s wanted rest answers is) n n0 n2 n5 n6 e = n6 (sym e ∙ same ∙ s)
 
-      done : (n : ℕ) → FoundAt n → ended.status ≡ 0 → (ended.error ≡ None) × Gives (AnswersScript settings.max_value (By n) (λ end. end ≡ Done)) InFull
-      done n (none s u e) is = absurd (omega (arith, same, s, is))
-      done n (bad s u names) is = absurd (omega (arith, same, s, is))
-      done n (whole s e script) is = (e, gives (AnswersScript settings.max_value (By n) (λ end. end ≡ Done)) InFull text script written)
-      done n (failed s some script) is = absurd (omega (arith, same, s, is))
-      done n (short s wanted rest answers front) is = absurd (omega (arith, same, s, is))
+      never : (s : ℕ) → s ≢ 0 → s ≢ 2 → s ≢ 5 → s ≢ 6 → ended.status ≡ s → ⊥
+      never = apart answer
 
-      bad_script : FoundAt items → ended.status ≡ 2 → Gives (NamesBadLine settings.max_value) InFull
+      done : FoundNow → ended.status ≡ 0 → (ended.error ≡ None) × GivesFor job (UpTo (λ end. end ≡ Done)) InFull
+      done (none s u e) is = absurd (omega (arith, same, s, is))
+      done (bad s u names) is = absurd (omega (arith, same, s, is))
+      done (whole s e script) is = (e, gives (UpTo (λ end. end ≡ Done)) InFull text script written)
+      done (failed s some script) is = absurd (omega (arith, same, s, is))
+      done (short s wanted rest answers front) is = absurd (omega (arith, same, s, is))
+
+      bad_script : FoundNow → ended.status ≡ 2 → GivesFor job (NamesBadLine job settings.max_value) InFull
       bad_script (none s u e) is = absurd (omega (arith, same, s, is))
-      bad_script (bad s u names) is = gives (NamesBadLine settings.max_value) InFull text names written
+      bad_script (bad s u names) is = gives (NamesBadLine job settings.max_value) InFull text names written
       bad_script (whole s e script) is = absurd (omega (arith, same, s, is))
       bad_script (failed s some script) is = absurd (omega (arith, same, s, is))
       bad_script (short s wanted rest answers front) is = absurd (omega (arith, same, s, is))
 
-      store_error : (n : ℕ) → FoundAt n → ended.status ≡ 5 → IsSome ended.error × Gives (AnswersScript settings.max_value (By n) (λ end. ended.error ≡ error_of end)) InFull
-      store_error n (none s u e) is = absurd (omega (arith, same, s, is))
-      store_error n (bad s u names) is = absurd (omega (arith, same, s, is))
-      store_error n (whole s e script) is = absurd (omega (arith, same, s, is))
-      store_error n (failed s some script) is = (some, gives (AnswersScript settings.max_value (By n) (λ end. ended.error ≡ error_of end)) InFull text script written)
-      store_error n (short s wanted rest answers front) is = absurd (omega (arith, same, s, is))
+      store_error : FoundNow → ended.status ≡ 5 → IsSome ended.error × GivesFor job (UpTo (λ end. ended.error ≡ error_of end)) InFull
+      store_error (none s u e) is = absurd (omega (arith, same, s, is))
+      store_error (bad s u names) is = absurd (omega (arith, same, s, is))
+      store_error (whole s e script) is = absurd (omega (arith, same, s, is))
+      store_error (failed s some script) is = (some, gives (UpTo (λ end. ended.error ≡ error_of end)) InFull text script written)
+      store_error (short s wanted rest answers front) is = absurd (omega (arith, same, s, is))
 
-      has_error : FoundAt items → IsSome ended.error → Contains (4 ∷ 5 ∷ 6 ∷ []) ended.status
+      has_error : FoundNow → IsSome ended.error → Contains (4 ∷ 5 ∷ 6 ∷ []) ended.status
       has_error (none s u e) some = (2, lit< tt, sym (same ∙ s))
       has_error (bad s u names) some = absurd (cc (subst IsSome u.error some))
       has_error (whole s e script) some = absurd (cc (subst IsSome e some))
       has_error (failed s e script) some = (1, lit< tt, sym (same ∙ s))
       has_error (short s wanted rest answers front) some = (2, lit< tt, sym (same ∙ s))
 
-      no_memory : (n : ℕ) → FoundAt n → ended.status ≡ 6 → (Unserved × IsUnwritten) ⊎ Gives (AnswersInput settings.max_value (By n) ended.error Unserved) InPart
-      no_memory n (none s u e) is = inl (u, unwritten (same_text ∙ e))
-      no_memory n (bad s u names) is = absurd (omega (arith, same, s, is))
-      no_memory n (whole s e script) is = absurd (omega (arith, same, s, is))
-      no_memory n (failed s some script) is = absurd (omega (arith, same, s, is))
-      no_memory n (short s wanted rest answers front) is =
-          inr (gives (AnswersInput settings.max_value (By n) ended.error Unserved) InPart wanted answers (λ w. record { front = text; rest = rest; text_is = front; taken = written w }))
+      no_memory : FoundNow → ended.status ≡ 6 → (Unserved × (out_new ≡ out_old)) ⊎ GivesFor job Any InPart
+      no_memory (none s u e) is = inl (u, unwritten (same_text ∙ e))
+      no_memory (bad s u names) is = absurd (omega (arith, same, s, is))
+      no_memory (whole s e script) is = absurd (omega (arith, same, s, is))
+      no_memory (failed s some script) is = absurd (omega (arith, same, s, is))
+      no_memory (short s wanted rest answers front) is =
+          inr (gives Any InPart wanted answers (λ w. record { front = text; rest = rest; text_is = front; taken = written w }))
 
-      unserved : FoundAt items → Contains (1 ∷ 2 ∷ 3 ∷ 7 ∷ []) ended.status → Unserved
+      unserved : FoundNow → Contains (1 ∷ 2 ∷ 3 ∷ 7 ∷ []) ended.status → Unserved
       unserved (none s u e) among = u
       unserved (bad s u names) among = u
       unserved (whole s e script) among = absurd (not_listed (1 ∷ 2 ∷ 3 ∷ 7 ∷ []) ended.status (λ x. omega (arith, same, s, x), (λ x. omega (arith, same, s, x), (λ x. omega (arith, same, s, x), (λ x. omega (arith, same, s, x), tt)))) among)
       unserved (failed s some script) among = absurd (not_listed (1 ∷ 2 ∷ 3 ∷ 7 ∷ []) ended.status (λ x. omega (arith, same, s, x), (λ x. omega (arith, same, s, x), (λ x. omega (arith, same, s, x), (λ x. omega (arith, same, s, x), tt)))) among)
       unserved (short s wanted rest answers front) among = absurd (not_listed (1 ∷ 2 ∷ 3 ∷ 7 ∷ []) ended.status (λ x. omega (arith, same, s, x), (λ x. omega (arith, same, s, x), (λ x. omega (arith, same, s, x), (λ x. omega (arith, same, s, x), tt)))) among)
 
-      silent : Contains (1 ∷ 3 ∷ 7 ∷ []) ended.status → ⊥
-      silent among = not_listed (1 ∷ 3 ∷ 7 ∷ []) ended.status (λ x. apart answer 1 (λ e. omega (arith, e)) (λ e. omega (arith, e)) (λ e. omega (arith, e)) (λ e. omega (arith, e)) (sym x), (λ x. apart answer 3 (λ e. omega (arith, e)) (λ e. omega (arith, e)) (λ e. omega (arith, e)) (λ e. omega (arith, e)) (sym x), (λ x. apart answer 7 (λ e. omega (arith, e)) (λ e. omega (arith, e)) (λ e. omega (arith, e)) (λ e. omega (arith, e)) (sym x), tt))) among
+      never_1 : ended.status ≡ 1 → ⊥
+      never_1 = never 1 (λ e. omega (arith, e)) (λ e. omega (arith, e)) (λ e. omega (arith, e)) (λ e. omega (arith, e))
 
-      complete : (n : ℕ) → FoundAt n → SourceTells → told → MayBeServed settings n old
-          → ((m : ℕ) → 2 * old.calls ≤ m → m ≤ 2 * new.calls → AreCounted (program_filing settings n).layout (as_read (new.at m)))
-          → (commands : List Spelled) → Spells settings.max_value left_old commands → (Rose faults_old faults_new → ⊥)
-          → Contains (0 ∷ 6 ∷ []) ended.status ⊎ ((ended.status ≡ 5) × IfSome ended.error IsRefusal)
-      complete n (none s u e) source t may counted commands spelled calm = inl (1, lit< tt, sym (same ∙ s))
-      complete n (bad s u names) source t may counted commands spelled calm =
-          absurd (good_or_bad settings.max_value input commands names.number (subst (λ (t : List ℕ). Spells settings.max_value t commands) (read source) spelled) names.first)
-      complete n (whole s e script) source t may counted commands spelled calm = inl (0, lit< tt, sym (same ∙ s))
-      complete n (failed s some script) source t may counted commands spelled calm =
-          inr (same ∙ s, refusal_only (program_filing settings n) faults_old faults_new old new script.commands ended.marks script.replies counted calm script.end ended.error (script.served.serves t may) script.ended some)
-      complete n (short s wanted rest answers front) source t may counted commands spelled calm = inl (1, lit< tt, sym (same ∙ s))
+      never_3 : ended.status ≡ 3 → ⊥
+      never_3 = never 3 (λ e. omega (arith, e)) (λ e. omega (arith, e)) (λ e. omega (arith, e)) (λ e. omega (arith, e))
+
+      never_4 : ended.status ≡ 4 → ⊥
+      never_4 = never 4 (λ e. omega (arith, e)) (λ e. omega (arith, e)) (λ e. omega (arith, e)) (λ e. omega (arith, e))
+
+      never_7 : ended.status ≡ 7 → ⊥
+      never_7 = never 7 (λ e. omega (arith, e)) (λ e. omega (arith, e)) (λ e. omega (arith, e)) (λ e. omega (arith, e))
+
+      silent : Contains (1 ∷ 3 ∷ 7 ∷ []) ended.status → ⊥
+      silent among = not_listed (1 ∷ 3 ∷ 7 ∷ []) ended.status (λ x. never_1 (sym x), (λ x. never_3 (sym x), (λ x. never_7 (sym x), tt))) among
+
+      module _ (t : dev.Tells) (may : MayBeServed settings (items_of job) (dev.time old)) (commands : List Spelled)
+          (given : IsGiven job settings.max_value input.Tells (input.left input_old) (input.faults input_old) (input.faults input_new) commands)
+          (counted : AreCountedIfOpening (program_filing settings (items_of job)).layout (dev.time old) (dev.time new) commands ended.marks)
+          (calm : Rose (dev.faults old) (dev.faults new) → ⊥) where
+        told : input.left input_old ≡ taken
+        told = read (given_script settings.max_value input.Tells (input.left input_old) (input.faults input_old) (input.faults input_new) commands job reads given).told
+
+        complete : FoundNow → Contains (0 ∷ 6 ∷ []) ended.status ⊎ ((ended.status ≡ 5) × IfSome ended.error IsRefusal)
+        complete (none s u e) = inl (1, lit< tt, sym (same ∙ s))
+        complete (bad s u names) =
+            absurd (given_never_bad settings.max_value input.Tells (input.left input_old) (input.faults input_old) (input.faults input_new) commands job taken names.number given told names.first)
+        complete (whole s e script) = inl (0, lit< tt, sym (same ∙ s))
+        complete (failed s some script) =
+            let these : commands ≡ script.commands = one_order settings.max_value input.Tells (input.left input_old) (input.faults input_old) (input.faults input_new) commands
+            job taken script.commands given told script.ordered in
+            inr (
+              same ∙ s,
+              refusal_only (program_filing settings (items_of job)) settings.write_buffer settings.write_buffer (dev.faults old) (dev.faults new) (dev.time old) (dev.time new)
+                  script.commands ended.marks script.replies
+                  (subst (λ (cs : List Spelled). AreCountedIfOpening (program_filing settings (items_of job)).layout (dev.time old) (dev.time new) cs ended.marks) these counted)
+                  calm script.end ended.error (script.served.serves t may.nothing_pending (may.markers, may.lawful)) script.ended some,
+            )
+        complete (short s wanted rest answers front) = inl (1, lit< tt, sym (same ∙ s))
+
+      written_job : RanJob job
+      written_job = record {
+        done = done answer;
+        bad_script = bad_script answer;
+        read_fault = λ is. absurd (never_3 is);
+        too_long = λ is. absurd (never_7 is);
+        write_fault = λ is. absurd (never_4 is);
+        store_error = store_error answer;
+        no_memory = no_memory answer;
+        complete = λ t may commands given counted calm calm_out. complete t may commands given counted calm answer;
+      }
 
       pub runs_written : Ran
       runs_written = record {
         statuses = statuses answer;
-        done = λ n also. done n (answer_at n also);
-        usage = λ is. absurd (apart answer 1 (λ x. omega (arith, x)) (λ x. omega (arith, x)) (λ x. omega (arith, x)) (λ x. omega (arith, x)) is);
-        form = λ other. (items, form);
-        bad_script = bad_script answer;
-        read_fault = λ is. absurd (apart answer 3 (λ x. omega (arith, x)) (λ x. omega (arith, x)) (λ x. omega (arith, x)) (λ x. omega (arith, x)) is);
-        write_fault = λ n also is. absurd (apart answer 4 (λ x. omega (arith, x)) (λ x. omega (arith, x)) (λ x. omega (arith, x)) (λ x. omega (arith, x)) is);
-        store_error = λ n also. store_error n (answer_at n also);
+        usage = λ is. absurd (never_1 is);
+        form = λ other. (job, form);
+        asked = λ also asks. subst RanJob (one_job words job also form asks) written_job;
         has_error = has_error answer;
-        no_memory = λ n also. no_memory n (answer_at n also);
-        too_long = λ is. absurd (apart answer 7 (λ x. omega (arith, x)) (λ x. omega (arith, x)) (λ x. omega (arith, x)) (λ x. omega (arith, x)) is);
         at_most = at_most;
         unserved = unserved answer;
-        unread = λ is. absurd (apart answer 1 (λ x. omega (arith, x)) (λ x. omega (arith, x)) (λ x. omega (arith, x)) (λ x. omega (arith, x)) is);
+        unread = λ is. absurd (never_1 is);
         silent = λ among. absurd (silent among);
         fault = is_fault;
-        faults = faults;
-        complete = λ source t n also may counted commands spelled fits calm_in calm calm_out. complete n (answer_at n also) source t may counted commands spelled calm;
+        faults = answers.faults;
       }
 
     -- ---- the sink failed, or had no memory, in the midst of the text
 
-    module _ (wrote : SinkTells → InPart shown taken_old taken_new) (some_text : shown ≡ [] → ⊥) where
-      went_out : SinkTells → InPart text taken_old taken_new
-      went_out w = subst (λ (t : List ℕ). InPart t taken_old taken_new) same_text (wrote w)
+    module _ (wrote : out.Tells → InPart shown (out.taken out_old) (out.taken out_new)) (some_text : shown ≡ [] → ⊥) where
+      went_out : out.Tells → InPart text (out.taken out_old) (out.taken out_new)
+      went_out w = subst (λ (t : List ℕ). InPart t (out.taken out_old) (out.taken out_new)) same_text (wrote w)
 
-      gives_part : (n : ℕ) → FoundAt n → Gives (AnswersInput settings.max_value (By n) ended.error Unserved) InPart
-      gives_part n (none s u e) = absurd (some_text (same_text ∙ e))
-      gives_part n (bad s u names) = gives (AnswersInput settings.max_value (By n) ended.error Unserved) InPart text (inr (names, u)) went_out
-      gives_part n (whole s e script) = gives (AnswersInput settings.max_value (By n) ended.error Unserved) InPart text (inl (by_error n e script)) went_out
-      gives_part n (failed s some script) = gives (AnswersInput settings.max_value (By n) ended.error Unserved) InPart text (inl script) went_out
-      gives_part n (short s wanted rest answers front) =
-          gives (AnswersInput settings.max_value (By n) ended.error Unserved) InPart wanted answers (λ w. longer_front wanted text rest taken_old taken_new front (went_out w))
+      gives_part : FoundNow → GivesFor job Any InPart
+      gives_part (none s u e) = absurd (some_text (same_text ∙ e))
+      gives_part (bad s u names) = gives Any InPart text (inr (names, u)) went_out
+      gives_part (whole s e script) = gives Any InPart text (inl (by_error e script)) went_out
+      gives_part (failed s some script) = gives Any InPart text (inl script) went_out
+      gives_part (short s wanted rest answers front) = gives Any InPart wanted answers (λ w. longer_front wanted text rest (out.taken out_old) (out.taken out_new) front (went_out w))
 
-      runs_cut : (s : ℕ) → ended.status ≡ s → AllByRecursion (λ x. x ≢ s) (0 ∷ 1 ∷ 2 ∷ 3 ∷ 5 ∷ 7 ∷ []) → s ≤ 7 → Contains (4 ∷ 5 ∷ 6 ∷ []) s
-          → (s ≡ 4 → Rose miswritten_old miswritten_new) → ((Rose miswritten_old miswritten_new → ⊥) → s ≡ 6) → Ran
-      runs_cut s is unlike le listed rose calm_six = record {
-        statuses = omega (arith, is, le);
-        done = λ n also e. absurd (unlike.0 (sym e ∙ is));
-        usage = λ e. absurd (unlike.1.0 (sym e ∙ is));
-        form = λ other. (items, form);
+      cut_job : (s : ℕ) → ended.status ≡ s → AllByRecursion (λ x. x ≢ s) (0 ∷ 1 ∷ 2 ∷ 3 ∷ 5 ∷ 7 ∷ [])
+          → (s ≡ 4 → Rose (out.faults out_old) (out.faults out_new)) → ((Rose (out.faults out_old) (out.faults out_new) → ⊥) → s ≡ 6) → RanJob job
+      cut_job s is unlike rose calm_six = record {
+        done = λ e. absurd (unlike.0 (sym e ∙ is));
         bad_script = λ e. absurd (unlike.1.1.0 (sym e ∙ is));
         read_fault = λ e. absurd (unlike.1.1.1.0 (sym e ∙ is));
-        write_fault = λ n also e. (rose (sym is ∙ e), gives_part n (answer_at n also));
-        store_error = λ n also e. absurd (unlike.1.1.1.1.0 (sym e ∙ is));
-        has_error = λ some. subst (λ (n : ℕ). Contains (4 ∷ 5 ∷ 6 ∷ []) n) (sym is) listed;
-        no_memory = λ n also e. inr (gives_part n (answer_at n also));
         too_long = λ e. absurd (unlike.1.1.1.1.1.0 (sym e ∙ is));
+        write_fault = λ e. (rose (sym is ∙ e), gives_part answer);
+        store_error = λ e. absurd (unlike.1.1.1.1.0 (sym e ∙ is));
+        no_memory = λ e. inr (gives_part answer);
+        complete = λ t may commands given counted calm calm_out. inl (1, lit< tt, sym (is ∙ calm_six calm_out));
+      }
+
+      runs_cut : (s : ℕ) → ended.status ≡ s → AllByRecursion (λ x. x ≢ s) (0 ∷ 1 ∷ 2 ∷ 3 ∷ 5 ∷ 7 ∷ []) → s ≤ 7 → Contains (4 ∷ 5 ∷ 6 ∷ []) s → RanJob job → Ran
+      runs_cut s is unlike le listed ran = record {
+        statuses = omega (arith, is, le);
+        usage = λ e. absurd (unlike.1.0 (sym e ∙ is));
+        form = λ other. (job, form);
+        asked = λ also asks. subst RanJob (one_job words job also form asks) ran;
+        has_error = λ some. subst (λ (n : ℕ). Contains (4 ∷ 5 ∷ 6 ∷ []) n) (sym is) listed;
         at_most = at_most;
         unserved = λ among. absurd (not_listed (1 ∷ 2 ∷ 3 ∷ 7 ∷ []) ended.status (λ x. unlike.1.0 (x ∙ is), (λ x. unlike.1.1.0 (x ∙ is), (λ x. unlike.1.1.1.0 (x ∙ is), (λ x. unlike.1.1.1.1.1.0 (x ∙ is), tt)))) among);
         unread = λ e. absurd (unlike.1.0 (sym e ∙ is));
         silent = λ among. absurd (not_listed (1 ∷ 3 ∷ 7 ∷ []) ended.status (λ x. unlike.1.0 (x ∙ is), (λ x. unlike.1.1.1.0 (x ∙ is), (λ x. unlike.1.1.1.1.1.0 (x ∙ is), tt))) among);
         fault = is_fault;
-        faults = faults;
-        complete = λ source t n also may counted commands spelled fits calm_in calm calm_out. inl (1, lit< tt, sym (is ∙ calm_six calm_out));
+        faults = answers.faults;
       }
 
-      pub runs_write_fault : ended.status ≡ 4 → Rose miswritten_old miswritten_new → Ran
-      runs_write_fault is rose = runs_cut 4 is (λ e. omega (arith, e), (λ e. omega (arith, e), (λ e. omega (arith, e), (λ e. omega (arith, e), (λ e. omega (arith, e), (λ e. omega (arith, e), tt))))))
-          (omega arith) (0, lit< tt, refl) (λ e. rose) (λ calm. absurd (calm rose))
+      pub runs_write_fault : ended.status ≡ 4 → Rose (out.faults out_old) (out.faults out_new) → Ran
+      runs_write_fault is rose =
+          let unlike : AllByRecursion (λ x. x ≢ 4) (0 ∷ 1 ∷ 2 ∷ 3 ∷ 5 ∷ 7 ∷ []) =
+          (λ e. omega (arith, e), (λ e. omega (arith, e), (λ e. omega (arith, e), (λ e. omega (arith, e), (λ e. omega (arith, e), (λ e. omega (arith, e), tt)))))) in
+          runs_cut 4 is unlike (omega arith) (0, lit< tt, refl) (cut_job 4 is unlike (λ e. rose) (λ calm. absurd (calm rose)))
 
       pub runs_short_of_memory : ended.status ≡ 6 → Ran
-      runs_short_of_memory is = runs_cut 6 is (λ e. omega (arith, e), (λ e. omega (arith, e), (λ e. omega (arith, e), (λ e. omega (arith, e), (λ e. omega (arith, e), (λ e. omega (arith, e), tt))))))
-          (omega arith) (2, lit< tt, refl) (λ e. absurd (omega (arith, e))) (λ calm. refl)
+      runs_short_of_memory is =
+          let unlike : AllByRecursion (λ x. x ≢ 6) (0 ∷ 1 ∷ 2 ∷ 3 ∷ 5 ∷ 7 ∷ []) =
+          (λ e. omega (arith, e), (λ e. omega (arith, e), (λ e. omega (arith, e), (λ e. omega (arith, e), (λ e. omega (arith, e), (λ e. omega (arith, e), tt)))))) in
+          runs_cut 6 is unlike (omega arith) (2, lit< tt, refl) (cut_job 6 is unlike (λ e. absurd (omega (arith, e))) (λ calm. refl))

@@ -1,20 +1,15 @@
 -- From what serving promises to what the program says of it.
 use Rattle.std.specs.Prelude.{Option, Some, None, IfSome}
-use Rattle.std.proofs.Common.{◌≡◌, inl, inr, ℕ, ◌≤◌, List, [], ◌∷◌, ◌++◌, length, map, refl, sym, subst}
+use Rattle.std.proofs.Common.{◌≡◌, inl, inr, ℕ, ◌≤◌, List, [], ◌∷◌, ◌++◌, length, map, refl, sym, ap, subst, arith}
 use Rattle.std.specs.List.{AllByRecursion}
-use Rattle.std.proofs.lemmas.List.{length-map}
 use Rattle.blob_device.specs.Counts.{Rose}
-use Rattle.blob_device.specs.Disk.{NothingPending}
-use Rattle.blob_device.specs.Timeline.{Timeline, disk}
+use Rattle.blob_device.specs.declared.device.Device as device
 use Rattle.value_codec.specs.Keys.{key8_bytes}
 use Rattle.value_codec.specs.Spelling.{length_refusal}
 use Rattle.value_codec.specs.declared.key.Key8.{Key8}
 use Rattle.value_codec.specs.contracts.seal.Sha256SealSeal.TheImpl as sha256
-use Rattle.paired.specs.Kept.{Markers}
-use Rattle.paired.specs.Opening.{as_read}
 use Rattle.archives.specs.Filing.{Filing}
 use Rattle.archives.specs.FilingLaws.{one_filing}
-use Rattle.archives.specs.Lawful.{Lawful}
 use Rattle.archives.specs.Machine.{asked}
 use Rattle.archives.specs.Replies.{Reply}
 use Rattle.archives.specs.Shown.{filing_for}
@@ -23,12 +18,13 @@ use Rattle.archives.specs.declared.commands.Command.TheVariants as ask
 use Rattle.archives.specs.declared.error.Error.{Error}
 use Rattle.archives.specs.declared.error.Error.TheVariants.{Mem}
 use Rattle.archives.specs.declared.translator.FourCap.{FourCap}
-use Rattle.archive_service.specs.Causes.{IfFailed, IsFault}
+use Rattle.archives.specs.Refusing.{IsFault}
 use Rattle.archive_service.specs.ErrorTexts.{error_line, served_text}
-use Rattle.archive_service.specs.Script.{CanBeSaid}
-use Rattle.archive_service.specs.Serves.{Begun, Looks, Serves}
-use Rattle.archive_service.specs.Stores.{PutsOnly, filing_in}
-use Rattle.archive_service.specs.Texts.{Spelled, replies_text}
+use Rattle.archive_service.specs.PrunableKind.{prunable_kind}
+use Rattle.archive_service.specs.Script.{CanBeSaid, IsFirstBad, Spells}
+use Rattle.archive_service.specs.Serves.{IfFailed, ServesBy}
+use Rattle.archive_service.specs.Stores.{PutsOnly, filing_in, kind_in}
+use Rattle.archive_service.specs.Texts.{Spelled, bad_line_text, replies_text}
 use Rattle.archive_service.specs.declared.ended.Ended.{Ended}
 use Rattle.archive_service.specs.declared.replies.End.{End}
 use Rattle.archive_service.specs.declared.replies.End.TheVariants.{Done, Failed}
@@ -36,7 +32,8 @@ use Rattle.archive_service.specs.declared.serving.StoreConfig.{StoreConfig}
 use Rattle.archive_service.specs.declared.serving.StoreConfig.TheVariants.{Prunable}
 use Rattle.archive_service.specs.declared.settings.Settings.{Settings}
 use Rattle.archive_program.specs.Config.{IsConfigFor}
-use Rattle.archive_program.specs.Program.{AnswersCommands, EndsWith, IsServedBy, error_of, program_filing, status_of}
+use Rattle.archive_program.specs.Program.{AnswerOf, AnswersCommands, AnswersServed, AnswersWhole, EndsWith, HasNoMemory, ServedBy, bad_line, error_of, no_memory, program_filing, served, status_of}
+use Rattle.archive_program.specs.Words.{Script}
 
 -- the configuration's archive is the program's
 pub same_filing : (settings : Settings) (items : ℕ) (store : StoreConfig FourCap ℕ) → IsConfigFor settings items store
@@ -63,20 +60,19 @@ values_may_be_put max limit commands script is same said =
 
 -- ---- the commands were served
 
-module _ (settings : Settings) (items : ℕ) (g : Filing) (same : g ≡ program_filing settings items) (told : Type 0) (faults_old faults_new : ℕ) (old new : Timeline) (marks : List ℕ) where
-  pub is_served_by : {X Y : Type 0} (spells : X → Spelled) (shows : Y → Reply (List ℕ)) (asks : List X) (gives : List Y) (commands : List Spelled) (end : End) → map spells asks ≡ commands
-      → Begun end (length asks) (length marks) (length gives)
-      → (told → Looks g old new (map spells asks) marks)
-      → (told → NothingPending (disk old) → (markers : Markers) → Lawful g (as_read (disk old)) markers → Serves g faults_old faults_new old new (map spells asks) marks (map shows gives) end)
-      → IsServedBy settings items told faults_old faults_new old new marks commands (map shows gives) end
-  is_served_by spells shows asks gives commands end is begun looks serves =
-      subst (λ (cs : List Spelled). IsServedBy settings items told faults_old faults_new old new marks cs (map shows gives) end) is (record {
-        begun = subst (λ (n : ℕ). Begun end n (length marks) (length (map shows gives))) (sym (length-map asks spells))
-            (subst (λ (n : ℕ). Begun end (length asks) (length marks) n) (sym (length-map gives shows)) begun);
-        looks = λ t. subst (λ (f : Filing). Looks f old new (map spells asks) marks) same (looks t);
-        serves = λ t may. subst (λ (f : Filing). Serves f faults_old faults_new old new (map spells asks) marks (map shows gives) end) same
-            (serves t may.nothing_pending may.markers (subst (λ (f : Filing). Lawful f (as_read (disk old)) may.markers) (sym same) may.lawful));
-      })
+module _ {D : Type 0} (settings : Settings) (items : ℕ) (dev : device.Ghosts D) (old new : D) (marks : List ℕ) where
+  -- by the configuration, as by the program's kind of store
+  pub is_served_by : (store : StoreConfig FourCap ℕ) → IsConfigFor settings items store → (asks commands : List Spelled) (replies : List (Reply (List ℕ))) (end : End) → asks ≡ commands
+      → ServesBy (kind_in 8 sha256.ghosts (λ bytes most. length_refusal most bytes) store) dev asks marks replies end old new
+      → ServedBy settings (Script items) dev old new marks commands replies end
+  is_served_by (Prunable cfg) is asks commands replies end same serves =
+      let f = program_filing settings items in
+      let records : cfg.key_write_buffer ≡ settings.write_buffer = ap (λ (b : ℕ × ℕ × ℕ × ℕ). b.1) is.buffers in
+      let values : cfg.value_write_buffer ≡ settings.write_buffer = ap (λ (b : ℕ × ℕ × ℕ × ℕ). b.2) is.buffers in
+      subst (λ (cs : List Spelled). ServesBy (prunable_kind f settings.write_buffer settings.write_buffer) dev cs marks replies end old new) same
+      (subst (λ (n : ℕ). ServesBy (prunable_kind f settings.write_buffer n) dev asks marks replies end old new) values
+      (subst (λ (n : ℕ). ServesBy (prunable_kind f n cfg.value_write_buffer) dev asks marks replies end old new) records
+      (subst (λ (g : Filing). ServesBy (prunable_kind g cfg.key_write_buffer cfg.value_write_buffer) dev asks marks replies end old new) (same_filing settings items (Prunable cfg) is) serves)))
 
 -- ---- the answer, by the end
 
@@ -95,8 +91,9 @@ module _ (replies : List (Reply (List ℕ))) (marks : List ℕ) (ended : Ended) 
   ends_for_memory Mem is status same error nil = record { marks = same; error = error; written = inr (status, nil) }
   ends_for_memory e is status same error nil = absurd (cc is)
 
-  pub commands_answered : (Served : List ℕ → List Spelled → List (Reply (List ℕ)) → End → Type 0) (commands : List Spelled) (end : End) → EndsAt end → Served marks commands replies end → AnswersCommands (Served ended.marks) commands ended text
-  commands_answered Served commands end ends so = record {
+  pub commands_answered : (items : ℕ) (Served : List ℕ → List Spelled → List (Reply (List ℕ)) → End → Type 0) (commands : List Spelled) (end : End) → EndsAt end → Served marks commands replies end
+      → AnswersCommands (Script items) (Served ended.marks) commands ended text
+  commands_answered items Served commands end ends so = record {
     replies = replies;
     end = end;
     served = subst (λ (m : List ℕ). Served m commands replies end) (sym ends.marks) so;
@@ -112,3 +109,34 @@ handed faults_old faults_new (Failed e) fault = fault
 
 pub handed_fault : (faults_old faults_new : ℕ) (end : End) (error : Option Error) → error ≡ error_of end → IfFailed end (λ e. IsFault e → Rose faults_old faults_new) → IfSome error (λ e. IsFault e → Rose faults_old faults_new)
 handed_fault faults_old faults_new end error is fault = subst (λ (o : Option Error). IfSome o (λ e. IsFault e → Rose faults_old faults_new)) (sym is) (handed faults_old faults_new end fault)
+
+-- ---- the answers
+
+module _ {D : Type 0} (settings : Settings) (items : ℕ) (dev : device.Ghosts D) (old : D) (ended : Ended) (text : List ℕ) where
+  -- no error is handed out
+  calm : ended.error ≡ None → IfSome ended.error (λ e. IsFault e → Rose (dev.faults old) (dev.faults old))
+  calm none = subst (λ (o : Option Error). IfSome o (λ e. IsFault e → Rose (dev.faults old) (dev.faults old))) (sym none) tt
+
+  -- there was no memory before a command was served
+  pub not_served : (commands : List Spelled) → HasNoMemory ended text → AnswersServed settings (Script items) dev old old commands ended text
+  not_served commands none = record { answer = inl (refl, none); fault = calm none.error; faults = omega arith }
+
+  pub not_answered : (input : List ℕ) → HasNoMemory ended text → AnswersWhole settings (Script items) dev old old input ended text
+  not_answered input none = record { answer = no_memory refl none; fault = calm none.error; faults = omega arith }
+
+  -- the first bad line is named
+  pub line_named : (input : List ℕ) (number : ℕ) → IsFirstBad settings.max_value input number → EndsWith (bad_line_text number) 2 [] None ended text
+      → AnswersWhole settings (Script items) dev old old input ended text
+  line_named input number first ends = record { answer = bad_line refl number first ends; fault = calm ends.error; faults = omega arith }
+
+  -- the input is a script, and this is the answer to it
+  pub script_answered : (new : D) (input : List ℕ) (commands : List Spelled) → Spells settings.max_value input commands
+      → AnswersServed settings (Script items) dev old new commands ended text → AnswersWhole settings (Script items) dev old new input ended text
+  script_answered new input commands spelled answers = record {
+    answer = elim answers.answer as (λ _. AnswerOf (Script items) settings.max_value (ServedBy settings (Script items) dev old new ended.marks) (new ≡ old) input ended text) [
+      | inl short ↦ no_memory short.0 short.1
+      | inr so ↦ served commands spelled so
+    ];
+    fault = answers.fault;
+    faults = answers.faults;
+  }

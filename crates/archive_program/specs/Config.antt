@@ -16,7 +16,11 @@ buffers_of (Prunable cfg) = (cfg.key_pages.cache_pages, cfg.key_write_buffer, cf
 
 -- It is valid, allows values up to the settings' limit, and files records as the program's archive does.
 pub record IsConfigFor (settings : Settings) (items : ℕ) (store : StoreConfig FourCap ℕ) : Type 0 where
+  -- it is valid
   pub valid : IsValidStore store
+  -- it allows values up to so many bytes
   pub values : codec_config_of store ≡ settings.max_value
+  -- its buffers are of the stated sizes
   pub buffers : buffers_of store ≡ (settings.cache_pages, settings.write_buffer, settings.write_buffer, settings.replay_buffer)
+  -- it files records as the program's archive
   pub filing : IsSameFiling (program_filing settings items) (filing_in 8 sha256.ghosts (λ bytes most. length_refusal most bytes) store)

@@ -1,5 +1,5 @@
 -- How much of an input was taken.
-use Rattle.std.specs.Prelude.{◌≡◌, ℕ, ◌+◌, ◌^◌, ◌≤◌, Bool, false, List, [], ◌++◌, length, Result, Err, OnOk, IfOk}
+use Rattle.std.specs.Prelude.{◌≡◌, ℕ, ◌+◌, ◌^◌, ◌≤◌, ◌<◌, Bool, true, false, List, [], ◌++◌, length, Result, Err, OnOk, IfOk}
 use Rattle.blob_device.specs.Counts.{Rose}
 use Rattle.archive_program.specs.declared.input.InputError.{InputError}
 use Rattle.archive_program.specs.declared.input.InputError.TheVariants.{Fault, TooLong, Mem}
@@ -30,3 +30,11 @@ pub record TakesPiece (result : Result Bool InputError) (old new bytes_old bytes
   pub added : OnOk result (bytes_new ≡ bytes_old ++ piece)
   pub failed : result ≡ Err Fault → piece ≡ []
   pub ended : IfOk result (λ more. more ≡ false → (old ≡ []) × (new ≡ []) × (bytes_new ≡ bytes_old))
+
+-- Bytes were added, by one reading: some where there are more to come, and none at the end. So far they are within the limit, but for one byte that tells that it
+-- is passed, and that is not said here.
+pub record AddsBytes (result : Result Bool InputError) (before now : ℕ) : Type 0 where
+  pub grows : IfOk result (λ more. more ≡ true → before < now)
+  pub ended : IfOk result (λ more. more ≡ false → now ≡ before)
+  pub bound : now ≤ 2 ^ 24 + 1
+  pub in_limit : ¬ (result ≡ Err TooLong)

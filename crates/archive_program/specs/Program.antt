@@ -1,15 +1,17 @@
 -- What the program answers to its input, and what it leaves on its device at every moment.
-use Rattle.std.specs.Prelude.{◌≡◌, ◌≢◌, ◌⊎◌, ℕ, ◌+◌, ◌*◌, ◌^◌, ◌≤◌, List, [], ◌∷◌, ◌++◌, length, Contains, Option, Some, None, IsSome, IfSome, codes}
+use Rattle.std.specs.Prelude.{◌≡◌, ◌≢◌, ◌⊎◌, ⊤, ℕ, ◌+◌, ◌^◌, ◌≤◌, List, [], ◌∷◌, ◌++◌, length, Contains, Option, Some, None, IsSome, IfSome, codes}
 use Rattle.blob_device.specs.Counts.{Rose}
 use Rattle.blob_device.specs.Disk.{NothingPending}
 use Rattle.blob_device.specs.Timeline.{Timeline, disk}
+use Rattle.blob_device.specs.declared.device.Device as device
+use Rattle.blob_device.specs.declared.sink.Sink as sink
+use Rattle.blob_device.specs.declared.source.Source as source
 use Rattle.value_codec.specs.Digest.{seal_number}
 use Rattle.value_codec.specs.Spelling.{length_refusal}
 use Rattle.value_codec.specs.contracts.seal.Sha256SealSeal.TheImpl as sha256
 use Rattle.segments.specs.declared.journal.Error.TheVariants as journal
 use Rattle.paired.specs.Kept.{Markers}
 use Rattle.paired.specs.Opening.{as_read}
-use Rattle.paired.specs.OpeningRefusing.{AreCounted}
 use Rattle.paired.specs.TrackedShown.{marker_format}
 use Rattle.archives.specs.Filing.{Filing}
 use Rattle.archives.specs.IndexRecord.{place_of}
@@ -17,16 +19,19 @@ use Rattle.archives.specs.Lawful.{Lawful}
 use Rattle.archives.specs.Replies.{Reply}
 use Rattle.archives.specs.declared.error.Error.{Error}
 use Rattle.archives.specs.declared.error.Error.TheVariants.{Journal, Full, Mem}
-use Rattle.archive_service.specs.Causes.{IsFault}
+use Rattle.archives.specs.Refusing.{IsFault}
 use Rattle.archive_service.specs.ErrorTexts.{served_text}
 use Rattle.archive_service.specs.Script.{Spells, IsFirstBad}
-use Rattle.archive_service.specs.Serves.{Begun, Looks, Serves}
+use Rattle.archive_service.specs.Kinds.{Kind}
+use Rattle.archive_service.specs.PrunableKind.{prunable_kind}
+use Rattle.archive_service.specs.RunLaws.{AreCountedIfOpening}
+use Rattle.archive_service.specs.Serves.{ServesBy}
 use Rattle.archive_service.specs.Texts.{Spelled, bad_line_text}
 use Rattle.archive_service.specs.declared.ended.Ended.{Ended}
 use Rattle.archive_service.specs.declared.replies.End.{End}
 use Rattle.archive_service.specs.declared.replies.End.TheVariants.{Done, Failed}
 use Rattle.archive_program.specs.Input.{TakesFront}
-use Rattle.archive_program.specs.Words.{AreOfNoForm, AreWordsFor}
+use Rattle.archive_program.specs.Words.{AreOfNoForm, AsksFor, Job, Script}
 use Rattle.archive_service.specs.declared.settings.Settings.{Settings}
 
 -- How the program's archive files its records, where a section has room for so many indices: keys have eight bytes, a value is its bytes, and
@@ -62,83 +67,184 @@ status_of Done = 0
 status_of (Failed Mem) = 6
 status_of (Failed e) = 5
 
--- the archive refused a put
+-- the archive refused a put, or had no next version for its markers
 abbrev pub IsRefusal : Error → Type 0
 IsRefusal e = (e ≡ Full) ⊎ (e ≡ Journal journal.ValueTooLarge)
 
-module _ (settings : Settings) (items : ℕ) where
-  -- The device has nothing pending, and as it reads it holds a lawful image.
-  pub record MayBeServed (t : Timeline) : Type 0 where
-    pub nothing_pending : NothingPending (disk t)
-    pub markers : Markers
-    pub lawful : Lawful (program_filing settings items) (as_read (disk t)) markers
+-- The program's archive as a kind of store. Both of its buffers, of records and of values, flush from the write buffer on.
+abbrev pub program_kind : Settings → ℕ → Kind
+program_kind settings items = prunable_kind (program_filing settings items) settings.write_buffer settings.write_buffer
 
-  -- The commands were served: over a device that tells its disk, and from a lawful image on, as the headline says.
-  pub record IsServedBy (told : Type 0) (faults_old faults_new : ℕ) (old new : Timeline) (marks : List ℕ) (commands : List Spelled) (replies : List (Reply (List ℕ))) (end : End) : Type 0 where
-    pub begun : Begun end (length commands) (length marks) (length replies)
-    pub looks : told → Looks (program_filing settings items) old new commands marks
-    pub serves : told → MayBeServed old → Serves (program_filing settings items) faults_old faults_new old new commands marks replies end
+-- The device has nothing pending, and as it reads it holds a lawful image.
+pub record MayBeServed (settings : Settings) (items : ℕ) (t : Timeline) : Type 0 where
+  -- nothing is pending
+  pub nothing_pending : NothingPending (disk t)
+  -- by these markers the image is lawful
+  pub markers : Markers
+  pub lawful : Lawful (program_filing settings items) (as_read (disk t)) markers
+
+-- ---- what the program is asked for
+
+-- how many indices a section has room for
+abbrev pub items_of : Job → ℕ
+items_of (Script items) = items
+
+-- ---- where the commands come from
+
+-- the commands that it serves, of this input, where a value may have so many bytes
+abbrev pub Orders : Job → ℕ → List ℕ → List Spelled → Type 0
+Orders (Script items) max input commands = Spells max input commands
+
+-- the input orders nothing, since the line of this number is bad
+abbrev pub IsBadAt : Job → ℕ → List ℕ → ℕ → Type 0
+IsBadAt (Script items) max input number = IsFirstBad max input number
+
+-- the job reads the source
+abbrev pub Reads : Job → Type 0
+Reads (Script items) = ⊤
+
+-- A script is read to its end, and is no longer than an input may be. What was read is said where the source tells it.
+pub record ReadsWhole (SourceTells : Type 0) (left_old left_new input : List ℕ) : Type 0 where
+  -- the input is all that was left, and nothing is left behind it
+  pub read : SourceTells → (left_old ≡ input) × (left_new ≡ [])
+  -- it is no longer than an input may be
+  pub limit : length input ≤ 2 ^ 24
+
+-- What is done with the source. `IsUnread` says that it was left as it was.
+abbrev pub ReadsFor : Job → (IsUnread SourceTells : Type 0) → (left_old left_new : List ℕ) → List ℕ
+    → Type 0
+ReadsFor (Script items) IsUnread SourceTells left_old left_new input = ReadsWhole SourceTells left_old left_new input
+
+-- The source has the script of these commands to give, and gives it: it tells what is left, and does not fail. The numbers are its counts of faults.
+pub record IsGivenScript (max : ℕ) (SourceTells : Type 0) (left : List ℕ) (faults_old faults_new : ℕ) (commands : List Spelled) : Type 0 where
+  -- the source tells what is left,
+  pub told : SourceTells
+  -- which is the script,
+  pub spelled : Spells max left commands
+  -- no longer than an input may be,
+  pub limit : length left ≤ 2 ^ 24
+  -- and it does not fail
+  pub calm : ¬ Rose faults_old faults_new
+
+-- the job is given these commands to serve
+abbrev pub IsGiven : Job → ℕ → (SourceTells : Type 0) → (left : List ℕ)
+    → (faults_old faults_new : ℕ) → List Spelled → Type 0
+IsGiven (Script items) max SourceTells left faults_old faults_new commands = IsGivenScript max SourceTells left faults_old faults_new commands
+
+-- ---- how they are served
+
+-- the commands were served, with these marks and replies, up to this end: the headline, and what holds over any image
+abbrev pub ServedBy : {D : Type 0} → Settings → Job → device.Ghosts D → D → D → List ℕ
+    → List Spelled → List (Reply (List ℕ)) → End → Type 0
+ServedBy settings job dev old new marks commands replies end = ServesBy (program_kind settings (items_of job)) dev commands marks replies end old new
+
+-- ---- which text is owed
+
+-- the text of what was served: of a script the replies, and the error that ended it
+abbrev pub owed : Job → List (Reply (List ℕ)) → End → List ℕ
+owed (Script items) replies end = served_text replies end
 
 module _ (max : ℕ) (Served : List Spelled → List (Reply (List ℕ)) → End → Type 0) where
-  -- the input is a script, its commands were served up to such an end, and the text is that of their replies, and of the error
-  pub record AnswersScript (IsEnd : End → Type 0) (input text : List ℕ) : Type 0 where
+  -- the input orders commands, they were served up to such an end, and the text is what is then owed
+  pub record AnswersScript (job : Job) (IsEnd : End → Type 0) (input text : List ℕ) : Type 0 where
+    -- these are the commands that the input orders
     pub commands : List Spelled
-    pub spelled : Spells max input commands
+    pub ordered : Orders job max input commands
+    -- they were served with these replies, up to this end
     pub replies : List (Reply (List ℕ))
     pub end : End
     pub served : Served commands replies end
     pub ended : IsEnd end
-    pub text_is : text ≡ served_text replies end
+    -- and this is their text
+    pub text_is : text ≡ owed job replies end
 
 -- the input is no script, and the text names its first bad line
-pub record NamesBadLine (max : ℕ) (input text : List ℕ) : Type 0 where
+pub record NamesBadLine (job : Job) (max : ℕ) (input text : List ℕ) : Type 0 where
+  -- the line of this number is the first bad one
   pub number : ℕ
-  pub first : IsFirstBad max input number
+  pub first : IsBadAt job max input number
+  -- and the text names it
   pub text_is : text ≡ bad_line_text number
 
--- an answer to the input, whether it is a script or not; where it is none no command was served
-abbrev pub AnswersInput : ℕ → (List Spelled → List (Reply (List ℕ)) → End → Type 0) → Option Error → Type 0 → List ℕ → List ℕ → Type 0
-AnswersInput max Served error IsUnserved input text = AnswersScript max Served (λ end. error ≡ error_of end) input text ⊎ (NamesBadLine max input text × IsUnserved)
+-- an answer to the input, whether it orders commands or not; where it does not no command was served
+abbrev pub AnswersInput : Job → ℕ → (List Spelled → List (Reply (List ℕ)) → End → Type 0)
+    → Option Error → Type 0
+    → List ℕ → List ℕ → Type 0
+AnswersInput job max Served error IsUnserved input text =
+    AnswersScript max Served job (λ end. error ≡ error_of end) input text ⊎ (NamesBadLine job max input text × IsUnserved)
 
 -- ---- what is to be written, and how the program then ends
 
 -- there was no memory before a command was served
 pub record HasNoMemory (ended : Ended) (text : List ℕ) : Type 0 where
+  -- the status says so
   pub status : ended.status ≡ 6
+  -- no command was begun, and no error is handed out
   pub marks : ended.marks ≡ []
   pub error : ended.error ≡ None
+  -- nothing is to be written
   pub nothing : text ≡ []
 
 -- this text and this status; or nothing, and no memory
 pub record EndsWith (wanted : List ℕ) (code : ℕ) (when : List ℕ) (failure : Option Error) (ended : Ended) (text : List ℕ) : Type 0 where
+  -- with these marks, and this error
   pub marks : ended.marks ≡ when
   pub error : ended.error ≡ failure
+  -- the text, or no memory for it
   pub written : ((ended.status ≡ code) × (text ≡ wanted)) ⊎ ((ended.status ≡ 6) × (text ≡ []))
 
 -- the commands were served, and this is their answer
-pub record AnswersCommands (Served : List Spelled → List (Reply (List ℕ)) → End → Type 0) (commands : List Spelled) (ended : Ended) (text : List ℕ) : Type 0 where
+pub record AnswersCommands (job : Job) (Served : List Spelled → List (Reply (List ℕ)) → End → Type 0) (commands : List Spelled)
+    (ended : Ended) (text : List ℕ) : Type 0 where
+  -- they got these replies, up to this end
   pub replies : List (Reply (List ℕ))
   pub end : End
   pub served : Served commands replies end
+  -- its error is handed out
   pub error : ended.error ≡ error_of end
-  pub written : ((ended.status ≡ status_of end) × (text ≡ served_text replies end)) ⊎ ((ended.status ≡ 6) × (text ≡ []))
+  -- and this is the text, or there was no memory for it
+  pub written : ((ended.status ≡ status_of end) × (text ≡ owed job replies end)) ⊎ ((ended.status ≡ 6) × (text ≡ []))
 
--- The answer to an input: there was no memory, its first bad line is named, or its commands were served.
-pub data Answers (max : ℕ) (Served : List Spelled → List (Reply (List ℕ)) → End → Type 0) (Untouched : Type 0) (input : List ℕ) (ended : Ended) (text : List ℕ) : Type 0 where
-  no_memory : Untouched → HasNoMemory ended text → Answers max Served Untouched input ended text
-  bad_line : Untouched → (number : ℕ) → IsFirstBad max input number → EndsWith (bad_line_text number) 2 [] None ended text → Answers max Served Untouched input ended text
-  served : (commands : List Spelled) → Spells max input commands → AnswersCommands Served commands ended text → Answers max Served Untouched input ended text
+-- How an input was answered: there was no memory, its first bad line is named, or its commands were served.
+pub data AnswerOf (job : Job) (max : ℕ) (Served : List Spelled → List (Reply (List ℕ)) → End → Type 0) (Untouched : Type 0)
+    (input : List ℕ) (ended : Ended) (text : List ℕ) : Type 0 where
+  no_memory : Untouched → HasNoMemory ended text → AnswerOf job max Served Untouched input ended text
+  bad_line : Untouched → (number : ℕ) → IsBadAt job max input number → EndsWith (bad_line_text number) 2 [] None ended text
+      → AnswerOf job max Served Untouched input ended text
+  served : (commands : List Spelled) → Orders job max input commands → AnswersCommands job Served commands ended text
+      → AnswerOf job max Served Untouched input ended text
+
+-- The answer to a whole input, with the device once as it was and once as it is.
+pub record AnswersWhole {D : Type 0} (settings : Settings) (job : Job) (dev : device.Ghosts D) (old new : D) (input : List ℕ) (ended : Ended)
+    (text : List ℕ) : Type 0 where
+  -- what is answered
+  pub answer : AnswerOf job settings.max_value (ServedBy settings job dev old new ended.marks) (new ≡ old) input ended text
+  -- a fault is the device's
+  pub fault : IfSome ended.error (λ e. IsFault e → Rose (dev.faults old) (dev.faults new))
+  pub faults : dev.faults old ≤ dev.faults new
+
+-- The answer to commands: they were served, or there was no memory before.
+pub record AnswersServed {D : Type 0} (settings : Settings) (job : Job) (dev : device.Ghosts D) (old new : D) (commands : List Spelled) (ended : Ended)
+    (text : List ℕ) : Type 0 where
+  -- what is answered
+  pub answer : ((new ≡ old) × HasNoMemory ended text) ⊎ AnswersCommands job (ServedBy settings job dev old new ended.marks) commands ended text
+  -- a fault is the device's
+  pub fault : IfSome ended.error (λ e. IsFault e → Rose (dev.faults old) (dev.faults new))
+  pub faults : dev.faults old ≤ dev.faults new
 
 -- ---- what was read and written
 
--- A whole input was read, no longer than an input may be, and P holds of it and of a text, of which Extent says how much
--- was written. What was read and written is said where the source and the sink tell it.
-pub record Writes (SourceTells SinkTells : Type 0) (P : List ℕ → List ℕ → Type 0) (Extent : List ℕ → List ℕ → List ℕ → Type 0) (left_old left_new taken_old taken_new : List ℕ) : Type 0 where
+-- P holds of an input, of which Input says how it was read, and of a text, of which Extent says how much was written. What was written is said where the sink tells
+-- it.
+pub record Writes (Input : List ℕ → Type 0) (SinkTells : Type 0) (P : List ℕ → List ℕ → Type 0)
+    (Extent : List ℕ → List ℕ → List ℕ → Type 0) (taken_old taken_new : List ℕ) : Type 0 where
+  -- the input, as it was read
   pub input : List ℕ
+  -- the text, as it is owed
   pub text : List ℕ
-  pub read : SourceTells → (left_old ≡ input) × (left_new ≡ [])
-  pub limit : length input ≤ 2 ^ 24
+  pub read : Input input
   pub answers : P input text
+  -- so much of it was written
   pub written : SinkTells → Extent text taken_old taken_new
 
 -- all of the text was written
@@ -154,63 +260,77 @@ pub record InPart (text old new : List ℕ) : Type 0 where
 
 -- ---- what a call of the program comes to
 
--- By its words and its settings, how it ended, the device, what was read from the source, and what was written to the sink, each before and
--- after; the numbers are counts of faults.
-module _ (settings : Settings) (words : List (List ℕ)) (ended : Ended)
-    (told : Type 0) (faults_old faults_new : ℕ) (old new : Timeline) (IsUntouched : Type 0)
-    (SourceTells : Type 0) (misread_old misread_new : ℕ) (left_old left_new : List ℕ) (IsUnread : Type 0)
-    (SinkTells : Type 0) (miswritten_old miswritten_new : ℕ) (taken_old taken_new : List ℕ) (IsUnwritten : Type 0) where
+-- By its words and its settings, how it ended, and the device, the source and the sink, each once as it was and once as it is.
+module _ {D S W : Type 0} (settings : Settings) (words : List (List ℕ)) (ended : Ended) (dev : device.Ghosts D) (old new : D)
+    (input : source.Ghosts S) (input_old input_new : S) (out : sink.Ghosts W) (out_old out_new : W) where
   -- no command was served
   pub record IsUnserved : Type 0 where
-    pub untouched : IsUntouched
+    -- the device is as it was
+    pub untouched : new ≡ old
+    -- no command was begun, and no error is handed out
     pub marks : ended.marks ≡ []
     pub error : ended.error ≡ None
 
   -- the commands were served, with these marks
-  abbrev pub Served : ℕ → List Spelled → List (Reply (List ℕ)) → End → Type 0
-  Served items = IsServedBy settings items told faults_old faults_new old new ended.marks
+  abbrev pub Served : Job → List Spelled → List (Reply (List ℕ)) → End → Type 0
+  Served job = ServedBy settings job dev old new ended.marks
 
-  -- the input was read to its end, this is the answer to it, and so much of its text was written
-  abbrev pub Gives : (List ℕ → List ℕ → Type 0) → (List ℕ → List ℕ → List ℕ → Type 0) → Type 0
-  Gives P Extent = Writes SourceTells SinkTells P Extent left_old left_new taken_old taken_new
+  -- the source was read as the job asks, this is the answer to the input, and so much of its text was written
+  abbrev pub Gives : Job → (List ℕ → List ℕ → Type 0) → (List ℕ → List ℕ → List ℕ → Type 0) → Type 0
+  Gives job P Extent = Writes (ReadsFor job (input_new ≡ input_old) input.Tells (input.left input_old) (input.left input_new))
+      out.Tells P Extent (out.taken out_old) (out.taken out_new)
+
+  -- The ends of a call that was asked for a job.
+  pub record RunsJob (job : Job) : Type 0 where
+    -- 0: all commands replied, and all was written.
+    pub done : ended.status ≡ 0
+        → (ended.error ≡ None) × Gives job (AnswersScript settings.max_value (Served job) job (λ end. end ≡ Done)) InFull
+    -- 2: the input orders nothing.
+    pub bad_script : ended.status ≡ 2 → Gives job (NamesBadLine job settings.max_value) InFull
+    -- 3: the source failed, and had not given more than an input may have.
+    pub read_fault : ended.status ≡ 3
+        → Reads job × (Rose (input.faults input_old) (input.faults input_new)
+        × (input.Tells → TakesFront (input.left input_old) (input.left input_new) (λ n. n ≤ 2 ^ 24)))
+    -- 7: the input has more bytes than an input may have.
+    pub too_long : ended.status ≡ 7 → Reads job
+        × (input.Tells → TakesFront (input.left input_old) (input.left input_new) (λ n. n ≡ 2 ^ 24 + 1))
+    -- 4: the sink failed, and a front of the text went out.
+    pub write_fault : ended.status ≡ 4 → Rose (out.faults out_old) (out.faults out_new)
+        × Gives job (AnswersInput job settings.max_value (Served job) ended.error IsUnserved) InPart
+    -- 5: the commands ended in an error. All of the text was written.
+    pub store_error : ended.status ≡ 5
+        → IsSome ended.error × Gives job (AnswersScript settings.max_value (Served job) job (λ end. ended.error ≡ error_of end)) InFull
+    -- 6: there was no memory, and a front of the text went out, or nothing.
+    pub no_memory : ended.status ≡ 6
+        → (IsUnserved × (out_new ≡ out_old)) ⊎ Gives job (AnswersInput job settings.max_value (Served job) ended.error IsUnserved) InPart
+    -- Commands that are given, over a lawful image, are served, unless a count rises, memory is short, a put is refused, or the markers would have no next
+    -- version. Where the opening under way at the end finds a blob of records that ends within one page, with its slots, of 2^64 bytes, nothing of that
+    -- is promised.
+    pub complete : dev.Tells → MayBeServed settings (items_of job) (dev.time old)
+        → (commands : List Spelled)
+        → IsGiven job settings.max_value input.Tells (input.left input_old) (input.faults input_old) (input.faults input_new) commands
+        → AreCountedIfOpening (program_filing settings (items_of job)).layout (dev.time old) (dev.time new) commands ended.marks
+        → ¬ Rose (dev.faults old) (dev.faults new) → ¬ Rose (out.faults out_old) (out.faults out_new)
+        → Contains (0 ∷ 6 ∷ []) ended.status ⊎ ((ended.status ≡ 5) × IfSome ended.error IsRefusal)
 
   -- The table of the program's ends.
   pub record Runs : Type 0 where
+    -- The status is one of the table.
     pub statuses : ended.status ≤ 7
-    -- 0: all commands replied, and all was written.
-    pub done : (items : ℕ) → AreWordsFor words items → ended.status ≡ 0
-        → (ended.error ≡ None) × Gives (AnswersScript settings.max_value (Served items) (λ end. end ≡ Done)) InFull
-    -- 1: exactly where the words are not of the stated form. Words with `make`, or another kind, are not yet.
+    -- 1: exactly where the words ask for no job.
     pub usage : ended.status ≡ 1 → AreOfNoForm words
-    pub form : ended.status ≢ 1 → (items : ℕ) × AreWordsFor words items
-    -- 2: the input is no script.
-    pub bad_script : ended.status ≡ 2 → Gives (NamesBadLine settings.max_value) InFull
-    -- 3: the source failed, and had not given more than an input may have.
-    pub read_fault : ended.status ≡ 3 → Rose misread_old misread_new × (SourceTells → TakesFront left_old left_new (λ n. n ≤ 2 ^ 24))
-    -- 4: the sink failed, and a front of the text went out.
-    pub write_fault : (items : ℕ) → AreWordsFor words items → ended.status ≡ 4
-        → Rose miswritten_old miswritten_new × Gives (AnswersInput settings.max_value (Served items) ended.error IsUnserved) InPart
-    -- 5: exactly where the commands ended in an error, unless the text could not be written or memory was short. All of the text was written.
-    pub store_error : (items : ℕ) → AreWordsFor words items → ended.status ≡ 5
-        → IsSome ended.error × Gives (AnswersScript settings.max_value (Served items) (λ end. ended.error ≡ error_of end)) InFull
+    pub form : ended.status ≢ 1 → (job : Job) × AsksFor words job
+    -- 0, and 2 to 7
+    pub asked : (job : Job) → AsksFor words job → RunsJob job
+    -- 5, or 4 or 6 in its place: exactly where the commands ended in an error.
     pub has_error : IsSome ended.error → Contains (4 ∷ 5 ∷ 6 ∷ []) ended.status
-    -- 6: there was no memory, and a front of the text went out, or nothing.
-    pub no_memory : (items : ℕ) → AreWordsFor words items → ended.status ≡ 6
-        → (IsUnserved × IsUnwritten) ⊎ Gives (AnswersInput settings.max_value (Served items) ended.error IsUnserved) InPart
-    -- 7: the input has more bytes than an input may have. Of no input more are taken than one byte more than that.
-    pub too_long : ended.status ≡ 7 → SourceTells → TakesFront left_old left_new (λ n. n ≡ 2 ^ 24 + 1)
-    pub at_most : SourceTells → TakesFront left_old left_new (λ n. n ≤ 2 ^ 24 + 1)
+    -- Of no input more bytes are taken than one more than an input may have.
+    pub at_most : input.Tells
+        → TakesFront (input.left input_old) (input.left input_new) (λ n. n ≤ 2 ^ 24 + 1)
     -- Where no script was served nothing was done; with words of another form nothing was read either, and without a whole input nothing was written.
     pub unserved : Contains (1 ∷ 2 ∷ 3 ∷ 7 ∷ []) ended.status → IsUnserved
-    pub unread : ended.status ≡ 1 → IsUnread
-    pub silent : Contains (1 ∷ 3 ∷ 7 ∷ []) ended.status → IsUnwritten
+    pub unread : ended.status ≡ 1 → input_new ≡ input_old
+    pub silent : Contains (1 ∷ 3 ∷ 7 ∷ []) ended.status → out_new ≡ out_old
     -- A fault is the device's.
-    pub fault : IfSome ended.error (λ e. IsFault e → Rose faults_old faults_new)
-    pub faults : faults_old ≤ faults_new
-    -- A script of lawful length over a lawful image is served, unless a count rises, memory is short, or a put is refused. Where an index blob ends within
-    -- one page, with its slots, of 2^64 bytes, nothing of that is promised.
-    pub complete : SourceTells → told → (items : ℕ) → AreWordsFor words items → MayBeServed settings items old
-        → ((m : ℕ) → 2 * old.calls ≤ m → m ≤ 2 * new.calls → AreCounted (program_filing settings items).layout (as_read (new.at m)))
-        → (commands : List Spelled) → Spells settings.max_value left_old commands → length left_old ≤ 2 ^ 24
-        → ¬ Rose misread_old misread_new → ¬ Rose faults_old faults_new → ¬ Rose miswritten_old miswritten_new
-        → Contains (0 ∷ 6 ∷ []) ended.status ⊎ ((ended.status ≡ 5) × IfSome ended.error IsRefusal)
+    pub fault : IfSome ended.error (λ e. IsFault e → Rose (dev.faults old) (dev.faults new))
+    pub faults : dev.faults old ≤ dev.faults new

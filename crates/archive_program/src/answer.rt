@@ -1,15 +1,14 @@
 // The answer to a whole input: what is to be written, and how the program then ends.
-ghost use Rattle.std.specs.Prelude.{◌≡◌, ◌⊎◌, ◌≤◌, ◌++◌, [], ℕ, None, Some, IfSome, OnOk, map};
+ghost use Rattle.std.specs.Prelude.{◌≡◌, ◌≤◌, ◌++◌, [], None, Some, OnOk, map};
 ghost use Rattle.std.specs.List.{AllByRecursion};
 ghost use Rattle.std.specs.Result.{IsOkUnless};
-ghost use Rattle.blob_device.specs.Counts.{Rose};
 ghost use Rattle.archives.specs.Machine.{replied};
-ghost use Rattle.archive_service.specs.Causes.{IsFault};
 ghost use Rattle.archive_service.specs.ErrorTexts.{error_line, served_text};
 ghost use Rattle.archive_service.specs.Script.{CanBeSaid};
 ghost use Rattle.archive_service.specs.Settings.{AreSettings};
 ghost use Rattle.archive_service.specs.Texts.{bad_line_text, replies_text};
-ghost use Rattle.archive_program.specs.Program.{Answers, AnswersCommands, EndsWith, HasNoMemory, IsServedBy, error_of, status_of};
+ghost use Rattle.archive_program.specs.Program.{AnswersServed, AnswersWhole, EndsWith, error_of, status_of};
+ghost use Rattle.archive_program.specs.Words as job;
 
 use crate::config::config_of;
 use archive_service::{
@@ -59,9 +58,8 @@ pub fn answer_of<D: Device>(
 ) -> Answer
     requires settings { AreSettings settings.now }
     requires items { 1 ≤ items }
-    ensures answers { Answers settings.now.max_value (IsServedBy settings.now items D.Tells (D.faults dev.old) (D.faults dev.new) (D.time dev.old) (D.time dev.new) result.ended.marks) (dev.new ≡ dev.old) input.now result.ended result.text.items }
-    ensures fault { IfSome result.ended.error (λ e. IsFault e → Rose (D.faults dev.old) (D.faults dev.new)) }
-    ensures faults { D.faults dev.old ≤ D.faults dev.new }
+    ensures { AnswersWhole settings.now (job.Script items) D.Device dev.old dev.new input.now
+        result.ended result.text.items }
 {
     match read_script(alloc, input, settings.max_value) {
         Ok(script) => served(alloc, dev, &script, items, settings),
@@ -95,10 +93,8 @@ fn served<D: Device>(
     requires settings { AreSettings settings.now }
     requires items { 1 ≤ items }
     requires values { AllByRecursion (CanBeSaid settings.now.max_value) script.now }
-    ensures answers { ((dev.new ≡ dev.old) × HasNoMemory result.ended result.text.items)
-        ⊎ AnswersCommands (IsServedBy settings.now items D.Tells (D.faults dev.old) (D.faults dev.new) (D.time dev.old) (D.time dev.new) result.ended.marks) script.now result.ended result.text.items }
-    ensures fault { IfSome result.ended.error (λ e. IsFault e → Rose (D.faults dev.old) (D.faults dev.new)) }
-    ensures faults { D.faults dev.old ≤ D.faults dev.new }
+    ensures { AnswersServed settings.now (job.Script items) D.Device dev.old dev.new script.now
+        result.ended result.text.items }
 {
     let Ok(config) = config_of(alloc, items, settings) else {
         return Answer::no_memory(alloc, Marks::new(alloc), None);
@@ -118,7 +114,8 @@ fn served<D: Device>(
 
 // The answer of a run that came to this end.
 fn answer_at(alloc: Global, replies: &Replies<ByteValue>, marks: Marks, end: End) -> Answer
-    ensures { EndsWith (served_text (map (replied (λ v. v)) replies.now) end) (status_of end) marks (error_of end) result.ended result.text.items }
+    ensures { EndsWith (served_text (map (replied (λ v. v)) replies.now) end)
+        (status_of end) marks (error_of end) result.ended result.text.items }
 {
     match end {
         End::Done => answered(alloc, replies, marks),
@@ -128,7 +125,8 @@ fn answer_at(alloc: Global, replies: &Replies<ByteValue>, marks: Marks, end: End
 
 // The answer of a run that ended in an error.
 fn stopped(alloc: Global, replies: &Replies<ByteValue>, marks: Marks, error: Error) -> Answer
-    ensures { EndsWith (served_text (map (replied (λ v. v)) replies.now) (End.Failed error)) (status_of (End.Failed error)) marks (error_of (End.Failed error)) result.ended result.text.items }
+    ensures { EndsWith (served_text (map (replied (λ v. v)) replies.now) (End.Failed error))
+        (status_of (End.Failed error)) marks (error_of (End.Failed error)) result.ended result.text.items }
 {
     match error {
         Error::Mem => Answer::no_memory(alloc, marks, None),
@@ -138,7 +136,8 @@ fn stopped(alloc: Global, replies: &Replies<ByteValue>, marks: Marks, error: Err
 
 // The answer of a run that is done.
 fn answered(alloc: Global, replies: &Replies<ByteValue>, marks: Marks) -> Answer
-    ensures { EndsWith (replies_text (map (replied (λ v. v)) replies.now)) 0 marks None result.ended result.text.items }
+    ensures { EndsWith (replies_text (map (replied (λ v. v)) replies.now))
+        0 marks None result.ended result.text.items }
 {
     let mut text = Vec::new(alloc);
     match append_replies(replies, &mut text) {
@@ -156,7 +155,8 @@ fn answered(alloc: Global, replies: &Replies<ByteValue>, marks: Marks) -> Answer
 
 // The answer of a run that ended in an error other than want of memory.
 fn failed(alloc: Global, replies: &Replies<ByteValue>, marks: Marks, error: Error) -> Answer
-    ensures { EndsWith (replies_text (map (replied (λ v. v)) replies.now) ++ error_line error) 5 marks (Some error) result.ended result.text.items }
+    ensures { EndsWith (replies_text (map (replied (λ v. v)) replies.now) ++ error_line error)
+        5 marks (Some error) result.ended result.text.items }
 {
     let mut text = Vec::new(alloc);
     let written = match append_replies(replies, &mut text) {
@@ -178,7 +178,8 @@ fn failed(alloc: Global, replies: &Replies<ByteValue>, marks: Marks, error: Erro
 
 // Appends the lines of all replies.
 fn append_replies(replies: &Replies<ByteValue>, text: &mut Vec<u8>) -> Result<(), ScriptError>
-    ensures text { OnOk result (text.new.items ≡ text.old.items ++ replies_text (map (replied (λ v. v)) replies.now)) }
+    ensures text { OnOk result (text.new.items
+        ≡ text.old.items ++ replies_text (map (replied (λ v. v)) replies.now)) }
     ensures memory { IsOkUnless result ScriptError.Mem }
 {
     for reply in replies.as_slice() {

@@ -1,7 +1,7 @@
 // The input of the program, read to its end.
 ghost use Rattle.std.specs.Prelude.{◌≡◌, ◌+◌, ◌-◌, ◌^◌, ◌<◌, ◌≤◌, ℕ, true, false, List, [], ◌++◌, length, vec_len, IfOk, IfErr, OnOk};
 ghost use Rattle.blob_device.specs.Counts.{Rose};
-ghost use Rattle.archive_program.specs.Input.{IsInputCause, TakesFront, TakesAll, TakesPiece};
+ghost use Rattle.archive_program.specs.Input.{AddsBytes, IsInputCause, TakesFront, TakesAll, TakesPiece};
 ghost use Rattle.archive_program.specs.declared.input.InputError.TheVariants.{Mem};
 
 use blob_device::{IoFault, Source};
@@ -34,12 +34,16 @@ impl From<AllocError> for InputError {
 
 /// Reads an input to its end. At most [`INPUT_LIMIT`] + 1 bytes are taken.
 pub fn read_input<S: Source>(alloc: Global, input: &mut S) -> Result<Vec<u8>, InputError>
-    ensures whole { S.Tells → IfOk result (λ bytes. TakesAll (S.left input.old) (S.left input.new) bytes.items) }
+    ensures whole { S.Tells → IfOk result (λ bytes. TakesAll (S.left input.old)
+        (S.left input.new) bytes.items) }
     ensures limit { IfOk result (λ bytes. length bytes.items ≤ INPUT_LIMIT) }
     ensures cause { IfErr result (IsInputCause (S.faults input.old) (S.faults input.new)) }
-    ensures within { S.Tells → result ≡ Err InputError.Fault → TakesFront (S.left input.old) (S.left input.new) (λ n. n ≤ INPUT_LIMIT) }
-    ensures too_long { S.Tells → result ≡ Err InputError.TooLong → TakesFront (S.left input.old) (S.left input.new) (λ n. n ≡ INPUT_LIMIT + 1) }
-    ensures at_most { S.Tells → TakesFront (S.left input.old) (S.left input.new) (λ n. n ≤ INPUT_LIMIT + 1) }
+    ensures within { S.Tells → result ≡ Err InputError.Fault
+        → TakesFront (S.left input.old) (S.left input.new) (λ n. n ≤ INPUT_LIMIT) }
+    ensures too_long { S.Tells → result ≡ Err InputError.TooLong
+        → TakesFront (S.left input.old) (S.left input.new) (λ n. n ≡ INPUT_LIMIT + 1) }
+    ensures at_most { S.Tells → TakesFront (S.left input.old) (S.left input.new)
+        (λ n. n ≤ INPUT_LIMIT + 1) }
 {
     let mut piece = zeros(alloc, PIECE)?;
     let mut bytes = Vec::new(alloc);
@@ -67,13 +71,11 @@ fn read_piece<S: Source>(
 ) -> Result<bool, InputError>
     requires room { 0 < length piece.old }
     requires within { vec_len bytes.old ≤ INPUT_LIMIT }
-    ensures grows { IfOk result (λ more. more ≡ true → vec_len bytes.old < vec_len bytes.new) }
-    ensures ended { IfOk result (λ more. more ≡ false → vec_len bytes.new ≡ vec_len bytes.old) }
-    ensures bound { vec_len bytes.new ≤ INPUT_LIMIT + 1 }
+    ensures adds { AddsBytes result (vec_len bytes.old) (vec_len bytes.new) }
     ensures cause { IfErr result (IsInputCause (S.faults input.old) (S.faults input.new)) }
-    ensures in_limit { ¬ (result ≡ Err InputError.TooLong) }
     ensures faults { S.faults input.old ≤ S.faults input.new }
-    ensures told { S.Tells → TakesPiece result (S.left input.old) (S.left input.new) bytes.old.items bytes.new.items }
+    ensures told { S.Tells → TakesPiece result (S.left input.old)
+        (S.left input.new) bytes.old.items bytes.new.items }
 {
     let most = piece.len().min(INPUT_LIMIT + 1 - bytes.len());
     match input.read(&mut piece[..most]) {

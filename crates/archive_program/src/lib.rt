@@ -16,5 +16,5 @@ mod output;
 mod program;
 mod words;
 
-pub use laws::an_empty_device_may_be_served;
+pub use laws::{an_empty_device_may_be_served, run_laws};
 pub use program::{run, run_with};

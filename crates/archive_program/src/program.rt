@@ -1,5 +1,5 @@
 // The program: words, then the input to its end, then the script, then the commands, then the replies.
-ghost use Rattle.std.specs.Prelude.{◌≡◌, map, string_bytes};
+ghost use Rattle.std.specs.Prelude.{map, string_bytes};
 ghost use Rattle.archive_service.specs.Settings.{AreSettings, usual};
 ghost use Rattle.archive_program.specs.Program.{Runs};
 
@@ -19,9 +19,8 @@ pub fn run<D: Device, S: Source, W: Sink>(
     input: &mut S,
     out: &mut W,
 ) -> Ended
-    ensures { Runs usual (map string_bytes words.now) result D.Tells (D.faults dev.old) (D.faults dev.new) (D.time dev.old) (D.time dev.new) (dev.new ≡ dev.old)
-        S.Tells (S.faults input.old) (S.faults input.new) (S.left input.old) (S.left input.new) (input.new ≡ input.old)
-        W.Tells (W.faults out.old) (W.faults out.new) (W.taken out.old) (W.taken out.new) (out.new ≡ out.old) }
+    ensures { Runs usual (map string_bytes words.now) result D.Device dev.old dev.new
+        S.Source input.old input.new W.Sink out.old out.new }
 {
     run_with(alloc, words, dev, input, out, &Settings::DEFAULT)
 }
@@ -39,9 +38,8 @@ pub fn run_with<D: Device, S: Source, W: Sink>(
     settings: &Settings,
 ) -> Ended
     requires { AreSettings settings.now }
-    ensures { Runs settings.now (map string_bytes words.now) result D.Tells (D.faults dev.old) (D.faults dev.new) (D.time dev.old) (D.time dev.new) (dev.new ≡ dev.old)
-        S.Tells (S.faults input.old) (S.faults input.new) (S.left input.old) (S.left input.new) (input.new ≡ input.old)
-        W.Tells (W.faults out.old) (W.faults out.new) (W.taken out.old) (W.taken out.new) (out.new ≡ out.old) }
+    ensures { Runs settings.now (map string_bytes words.now) result D.Device dev.old dev.new
+        S.Source input.old input.new W.Sink out.old out.new }
 {
     let Some(items) = items_of(words) else {
         return Ended::unserved(alloc, Status::Usage);

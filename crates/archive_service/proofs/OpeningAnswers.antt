@@ -1,180 +1,297 @@
--- Why an opening fails, over an image that is lawful.
-use Rattle.std.proofs.Common.{◌≡◌, ◌⊎◌, inl, inr, sym, ◌∙◌, subst, ℕ, ◌^◌, ◌≤◌, List, Option, Some, None, Result, Ok, Err, IfOk, OnErr, arith}
-use Rattle.std.specs.Prelude.{⊤}
-use Rattle.std.specs.Result.{IsErrOf}
+-- What an opening promises, in the terms of a store that serves commands: the first one, and a reopening.
+use Rattle.std.specs.Prelude.{IfSome, IsSomeAnd, IsTrue, cond}
+use Rattle.std.specs.Option.{unwrap_or}
+use Rattle.std.proofs.Common.{◌≡◌, ◌⊎◌, inl, inr, refl, sym, ◌∙◌, ap, subst, ℕ, ◌+◌, ◌≤◌, ◌<◌, ◌^◌, List, [], ◌∷◌, length, map, Bool, Option, Some, None, Result, Ok, Err, arith}
 use Rattle.blob_device.specs.Counts.{Rose}
-use Rattle.blob_device.specs.Disk.{Disk, Key, MayLeave, reads}
-use Rattle.blob_device.specs.Timeline.{Timeline, disk, Always}
+use Rattle.blob_device.specs.Disk.{Blob, Disk, Key, MayLeave, NothingPending, reads}
+use Rattle.blob_device.specs.Footprint.{Footprint, NoBound}
+use Rattle.blob_device.specs.Opened.{Opened as Entry}
+use Rattle.blob_device.specs.Timeline.{Always, disk}
+use Rattle.blob_device.specs.declared.device.Device as device
 use Rattle.blob_device.specs.declared.runtime.RError.TheVariants as runtime
 use Rattle.meta_store.specs.declared.error.Error.TheVariants as metadata
+use Rattle.blob_device.proofs.FootprintLemmas.{footprint_wider}
 use Rattle.meta_store.proofs.Uses.{IsReadable}
+use Rattle.segments.specs.Refusing.{IsOpenedTooLong}
+use Rattle.segments.specs.Sections.{section_key}
 use Rattle.segments.specs.declared.journal.Error.TheVariants as journal
+use Rattle.segments.specs.declared.sealed.AppendFactory.{AppendFactory}
 use Rattle.sealed_pages.specs.declared.page_blob.PageBlob.{PageBlob}
-use Rattle.paired.specs.Crashes.{IsOwn}
-use Rattle.paired.specs.Kept.{Markers}
+use Rattle.paired.specs.Kept.{Markers, content_at}
 use Rattle.paired.specs.Opening.{MayBeOpened, as_read}
 use Rattle.paired.specs.OpeningRefusing.{AreCounted}
-use Rattle.archives.specs.Archives.{Archive, IsSoundArchive, state_of}
+use Rattle.archives.specs.Archives.{IsSoundArchive, state_of}
+use Rattle.archives.specs.Changes.{Asked, outcome, state_over}
 use Rattle.archives.specs.Commands.{Reopen}
 use Rattle.archives.specs.Filing.{Filing, kept_entries}
+use Rattle.archives.specs.FilingLaws.{one_filing}
 use Rattle.archives.specs.Lawful.{Lawful}
-use Rattle.archives.specs.Machine.{State, Step, replied}
-use Rattle.archives.specs.Opening.{HasCause, HasNoVersion, IsOpeningError, IsOver, LeavesLawful, OfKept}
-use Rattle.archives.specs.Refusing as refusing
+use Rattle.archives.specs.Machine.{State, Step}
+use Rattle.archives.specs.Opening.{HasNoVersion, IsPastLimits, LeavesLawful, OfKept}
+use Rattle.archives.specs.Opens.{HasToMove, IsOpeningCause, MayBeKept, NotOpened, OfMarkers, Opened, Opens}
+use Rattle.archives.specs.Outlasts.{MayStart}
+use Rattle.archives.specs.Prunable.{Prunable, Setup, filing_by}
+use Rattle.archives.specs.Refusing.{IsFault}
 use Rattle.archives.specs.Replies as reply
+use Rattle.archives.specs.Rows.{row_in}
 use Rattle.archives.specs.Standing.{IsStart, Leaves}
-use Rattle.archives.specs.declared.commands.Reply as answering
-use Rattle.archives.specs.declared.commands.Reply.TheVariants as answer
 use Rattle.archives.specs.declared.error.Error.{Error}
 use Rattle.archives.specs.declared.error.Error.TheVariants.{Full, Journal, Mem, Metadata, RecordCorrupted}
 use Rattle.archives.proofs.InitRecords.{one_markers}
-use Rattle.archives.proofs.InitSound.{all_lawful, lawful_read}
-use Rattle.archive_service.specs.Answering.{Answers, answer_of}
-use Rattle.archive_service.specs.Causes.{IsCause, IsFault, IsOpening, MayMoveMarkers}
-use Rattle.archive_service.specs.Serves.{Answered, Asked, Opened}
-use Rattle.archive_service.proofs.StoreLemmas.{always_as, cause_is, err_each, err_same}
+use Rattle.archives.proofs.Reopening.{none_beyond}
+use Rattle.archive_service.specs.Causes.{HasLongBlob, Held, IsCause, IsCauseAnywhere, IsOpening, IsUnfit, MayMoveMarkers, MustMoveHeld, MustMoveNow, MustRefuseAnywhere, holding_nothing}
+use Rattle.archive_service.specs.Kinds.{Answers, OpensStore}
+use Rattle.archive_service.specs.PrunableKind.{IsFound}
+use Rattle.archive_service.specs.PrunableStore.{IsUsableStore, held_by, prunable_serving}
+use Rattle.archive_service.specs.Starts.{start_of, starts}
+use Rattle.archive_service.proofs.StoreLemmas.{Given, always_as, leaves_as, lists_long_of, no_refusal, none_long, rows_long_of}
 
-module _ {R : Type 0} (f : Filing) (from to : Disk) (faults_old faults_new : ℕ) (result : Result R Error) (readable : IsReadable f.layout.markers) (markers : Markers) (lawful : Lawful f (as_read from) markers)
-    (causes : HasCause result f from to)
-    (complete : AreCounted f.layout (as_read from) → OnErr result ((IsErrOf result Full × HasNoVersion f.layout from) ⊎ (refusing.HasFailed result faults_old faults_new ⊎ refusing.HasLostMarkers result faults_old faults_new)))
-    (cause : OnErr result (IsOpeningError result ⊎ (refusing.HasFailed result faults_old faults_new ⊎ refusing.HasLostMarkers result faults_old faults_new))) where
-  -- what a lawful image keeps is within the limits
-  not_over : OfKept f (as_read from) (IsOver f.most_sections f.most_records) → ⊥
-  not_over (others, held, over) =
-      let same : others ≡ markers = one_markers f.layout readable (as_read from) others markers held lawful.pair.held in
-      elim (subst (λ (m : Markers). IsOver f.most_sections f.most_records (kept_entries f (as_read from) m)) same over) as (λ _. ⊥) [
-        | inl (ss, sorted, all, more) ↦ omega (arith, more, lawful.few_sections ss sorted all)
-        | inr (s, small, more) ↦ omega (arith, more, lawful.few_records s small)
-      ]
+-- an opening before the first command is under way as none is
+none_for_reopen : (f : Filing) (st : State (List ℕ)) (d : Disk) → Leaves f st (Some Reopen) d → Leaves f st None d
+none_for_reopen f st d leaves = leaves_as f st (Some Reopen) None d (λ s. refl) (λ s going. going) leaves
 
-  module _ (st : State (List ℕ)) (c : Option Asked) (opening : IsOpening c) (may : MayMoveMarkers c) (e : Error) (is : result ≡ Err e) where
-    abbrev Cause : Error → Type 0
-    Cause = IsCause f st c from faults_old faults_new
+map_twice : {X Y Z : Type 0} (g : Y → Z) (h : X → Y) (xs : List X) → map g (map h xs) ≡ map (λ x. g (h x)) xs
+map_twice g h [] = refl
+map_twice g h (x ∷ xs) = ap (λ ys. g (h x) ∷ ys) (map_twice g h xs)
 
-    here : (x : Error) → IsErrOf result x → Cause x → Cause e
-    here x err holds = cause_is f st c from faults_old faults_new {T = R} e x (sym is ∙ err) holds
+-- what a lawful disk leaves is lawful
+all_lawful : (f : Filing) (st : State (List ℕ)) (d : Disk) → Leaves f st None d → LeavesLawful f d
+all_lawful f st d leaves image crash calm = (let stands = leaves image crash calm in (stands.markers, stands.lawful))
 
-    holds_now : {P : Type 0} → OnErr result P → P
-    holds_now {P} holds = subst (λ (x : Result R Error). OnErr x P) is holds
+module _ {A V S D : Type 0} {gs : _} (p : Prunable A V (AppendFactory S) (PageBlob S gs)) (setup : Setup V) (valid : Type 0) (dev : device.Ghosts D) (old new : D) where
+  abbrev f : Filing
+  f = setup.filing
 
-    same_error : (x y : Error) → IsErrOf result x → IsErrOf result y → x ≡ y
-    same_error x y one other = cc (one, other)
+  abbrev from : Disk
+  from = disk (dev.time old)
 
-    -- No other error comes of a lawful image whose blobs are counted.
-    none_counted : (x : Error) → IsErrOf result x → (x ≡ Full → ⊥) → (x ≡ Mem → ⊥) → (x ≡ Journal (journal.Runtime runtime.Fault) → ⊥) → (x ≡ Metadata (metadata.Runtime runtime.Fault) → ⊥)
-        → AreCounted f.layout (as_read from) → ⊥
-    none_counted x err not_full not_memory not_fault not_lost counted = elim (holds_now (complete counted)) as (λ _. ⊥) [
-      | inl full ↦ not_full (same_error x Full err full.0)
-      | inr (inl (inl memory)) ↦ not_memory (same_error x Mem err memory)
-      | inr (inl (inr fault)) ↦ not_fault (same_error x (Journal (journal.Runtime runtime.Fault)) err fault.0)
-      | inr (inr lost) ↦ not_lost (same_error x (Metadata (metadata.Runtime runtime.Fault)) err lost.0)
-    ]
+  abbrev to : Disk
+  to = disk (dev.time new)
 
-    pub opening_cause : Cause e
-    opening_cause = elim (holds_now cause) as (λ _. Cause e) [
-      | inl (inl (side, err)) ↦ here _ err (opening, none_counted _ err (λ x. cc) (λ x. cc) (λ x. cc) (λ x. cc))
-      | inl (inr (inl (name, err))) ↦ here _ err (opening, none_counted _ err (λ x. cc) (λ x. cc) (λ x. cc) (λ x. cc))
-      | inl (inr (inr (inl (damage, err)))) ↦ here _ err (opening, none_counted _ err (λ x. cc) (λ x. cc) (λ x. cc) (λ x. cc))
-      | inl (inr (inr (inr (inl (page, err))))) ↦ here _ err (opening, none_counted _ err (λ x. cc) (λ x. cc) (λ x. cc) (λ x. cc))
-      | inl (inr (inr (inr (inr (inl (item, err)))))) ↦ here _ err (opening, none_counted _ err (λ x. cc) (λ x. cc) (λ x. cc) (λ x. cc))
-      | inl (inr (inr (inr (inr (inr (inl (why, err))))))) ↦ here _ err (opening, none_counted _ err (λ x. cc) (λ x. cc) (λ x. cc) (λ x. cc))
-      | inl (inr (inr (inr (inr (inr (inr (inl room))))))) ↦ here _ room (opening, none_counted _ room (λ x. cc) (λ x. cc) (λ x. cc) (λ x. cc))
-      | inl (inr (inr (inr (inr (inr (inr (inr (inl stray)))))))) ↦ here RecordCorrupted stray (opening, none_counted _ stray (λ x. cc) (λ x. cc) (λ x. cc) (λ x. cc))
-      | inl (inr (inr (inr (inr (inr (inr (inr (inr full)))))))) ↦ here Full full (inr (may, (elim (causes.full full) as (λ _. HasNoVersion f.layout from) [ inl over ↦ absurd (not_over over) | inr version ↦ version.0 ])))
-      | inr (inl (inl memory)) ↦ here Mem memory tt
-      | inr (inl (inr fault)) ↦ here _ fault.0 fault.1
-      | inr (inr lost) ↦ here _ lost.0 (may, lost.1)
-    ]
+  -- ---- the archive that was opened
 
--- where the device failed, in an opening, its count rose
-pub opening_fault : {R : Type 0} (result : Result R Error) (a b : ℕ) → OnErr result (IsOpeningError result ⊎ (refusing.HasFailed result a b ⊎ refusing.HasLostMarkers result a b)) → (e : Error) → result ≡ Err e
-    → refusing.IsFault result → Rose a b
-opening_fault {R} result a b cause e is fault = elim (subst (λ (x : Result R Error). OnErr x (IsOpeningError result ⊎ (refusing.HasFailed result a b ⊎ refusing.HasLostMarkers result a b))) is cause) as (λ _. Rose a b) [
-  | inl (inl (side, err)) ↦ absurd (no_fault _ (λ x. cc) (λ x. cc) err)
-  | inl (inr (inl (name, err))) ↦ absurd (no_fault _ (λ x. cc) (λ x. cc) err)
-  | inl (inr (inr (inl (damage, err)))) ↦ absurd (no_fault _ (λ x. cc) (λ x. cc) err)
-  | inl (inr (inr (inr (inl (page, err))))) ↦ absurd (no_fault _ (λ x. cc) (λ x. cc) err)
-  | inl (inr (inr (inr (inr (inl (item, err)))))) ↦ absurd (no_fault _ (λ x. cc) (λ x. cc) err)
-  | inl (inr (inr (inr (inr (inr (inl (why, err))))))) ↦ absurd (no_fault _ (λ x. cc) (λ x. cc) err)
-  | inl (inr (inr (inr (inr (inr (inr (inl room))))))) ↦ absurd (no_fault _ (λ x. cc) (λ x. cc) room)
-  | inl (inr (inr (inr (inr (inr (inr (inr (inl stray)))))))) ↦ absurd (no_fault _ (λ x. cc) (λ x. cc) stray)
-  | inl (inr (inr (inr (inr (inr (inr (inr (inr full)))))))) ↦ absurd (no_fault _ (λ x. cc) (λ x. cc) full)
-  | inr (inl (inl memory)) ↦ absurd (no_fault _ (λ x. cc) (λ x. cc) memory)
-  | inr (inl (inr err)) ↦ err.1
-  | inr (inr lost) ↦ lost.1
-]
-  where
-    no_fault : (x : Error) → (x ≡ Journal (journal.Runtime runtime.Fault) → ⊥) → (x ≡ Metadata (metadata.Runtime runtime.Fault) → ⊥) → IsErrOf result x → ⊥
-    no_fault x one other err = elim fault as (λ _. ⊥) [ inl here ↦ one (cc (err, here)) | inr there ↦ other (cc (err, there)) ]
+  module _ (r : A) (opened : Opened p dev setup r old new) where
+    pub opened_usable : IsUsableStore p setup r dev.Tells (dev.opened new) to
+    opened_usable = record {
+      usable = opened.over;
+      filing = opened.filing;
+      accepts = λ v allowed. (opened.accepts v).1 allowed;
+      write_buffer = opened.write_buffer;
+      value_buffer = opened.value_buffer;
+      flushed = λ t s unwritten. opened.flushed t s;
+    }
 
--- said of the errors themselves
-pub opening_fault_is : {R : Type 0} (result : Result R Error) (a b : ℕ) → OnErr result (IsOpeningError result ⊎ (refusing.HasFailed result a b ⊎ refusing.HasLostMarkers result a b)) → (e : Error) → result ≡ Err e → IsFault e → Rose a b
-opening_fault_is {R} result a b cause e is fault = opening_fault result a b cause e is (elim fault [ inl one ↦ inl (is ∙ err_same one) | inr other ↦ inr (is ∙ err_same other) ])
+    pub opened_found : 1 ≤ f.layout.record_size → dev.Tells → IsFound f setup.write_buffer setup.value_buffer from to (held_by p r)
+    opened_found sized t =
+        let told = opened.told t in
+        let some_bytes = subst (λ (n : ℕ). 1 ≤ n) (sym opened.filing.record_size) sized in
+        record {
+          is_open = refl;
+          floor = opened.over.floor;
+          rows = (
+            told.records.0,
+            told.records.1,
+            λ s small. opened.over.listed t s ∙ ap (map (row_in (p.see r).key_size)) (told.records.2 s small)
+                ∙ map_twice (row_in (p.see r).key_size) (λ e. e.stored) (kept_entries f (as_read from) told.records.0 s)
+                ∙ ap (λ (n : ℕ). map (λ e. row_in n e.stored) (kept_entries f (as_read from) told.records.0 s)) opened.filing.key_size,
+          );
+          no_more = λ s far. none_long ((p.see r).rows s) (rows_long_of p setup valid dev r new opened.over t s ∙ sym (lists_long_of p setup valid dev r new s)
+              ∙ ap length (none_beyond (p.see r) (dev.opened new) to some_bytes opened.over s far).0);
+          bytes = told.values;
+          settled = record {
+            synced = λ s. opened.over.unwritten s (opened.none_written s) ∙ sym (rows_long_of p setup valid dev r new opened.over t s);
+            record_tail = λ s. (opened.flushed t s).0;
+            value_tail = λ s. (opened.flushed t s).1;
+          };
+        }
 
--- ---- the first opening
+  -- what may be kept does not have to be refused
+  kept_fit : MayBeKept f from → IsUnfit f from → ⊥
+  kept_fit kept (inl bad) = kept.copies bad.0 bad.1
+  kept_fit kept (inr (inl foreign)) = kept.names foreign.0 foreign.1
+  kept_fit kept (inr (inr (inl stray))) = kept.in_section stray
+  kept_fit kept (inr (inr (inr over))) = kept.within over
 
--- A state for which the disk stands before the opening is the one that it comes to.
-pub opened_so : {A : Type 0} (result : Result A Error) (f : Filing) (IsSound : A → Type 0) (state : A → State (List ℕ)) (old new : Timeline) (markers : Markers) → IfOk result (λ r. IsStart f (as_read (disk old)) markers (state r))
-    → ((st : State (List ℕ)) → IsStart f (as_read (disk old)) markers st → Leaves f st None (disk old)) → (LeavesLawful f (disk new) → IfOk result IsSound)
-    → ((st : State (List ℕ)) → Leaves f st None (disk old) → IfOk result (λ r. Leaves f (state r) None (disk new))) → IfOk result (λ r. IsSound r × Opened f old new markers (state r))
-opened_so (Err e) f IsSound state old new markers starts stands sound rest = tt
-opened_so (Ok r) f IsSound state old new markers starts stands sound rest =
-    let leaves : Leaves f (state r) None (disk old) = stands (state r) starts in
-    let after : Leaves f (state r) None (disk new) = rest (state r) leaves in
-    (sound (all_lawful f (state r) (disk new) after), record { start = starts; rest = after })
+  kept_allowed : (held : Held) → MayBeKept f from → MustRefuseAnywhere f held from Reopen → ⊥
+  kept_allowed held kept (inl puts) = puts
+  kept_allowed held kept (inr (inl moves)) = kept.version moves.1 moves.0
+  kept_allowed held kept (inr (inr unfit)) = kept_fit kept unfit.1
 
--- ---- a reopening
+  -- ---- why it was not opened
 
-module _ {F S : Type 0} {gs : _} {A V : Type 0} (x : A) (show : A → Archive F (PageBlob S gs)) (spelled : V → List ℕ) (told : Type 0) (f : Filing) (old new : Timeline) (faults_old faults_new : ℕ) (result : Result A Error) where
-  abbrev st : State (List ℕ)
-  st = state_of (show x) (disk old)
+  -- a fault is the device's
+  pub opening_fault : (e : Error) → IsOpeningCause f dev old new e → IsFault e → Rose (dev.faults old) (dev.faults new)
+  opening_fault e why (inl records) = subst (IsOpeningCause f dev old new) records why
+  opening_fault e why (inr markers) = subst (IsOpeningCause f dev old new) markers why
 
-  -- What is known of the archive that is given up, and what the opening promises.
-  pub record Reopens : Type 0 where
-    pub readable : IsReadable f.layout.markers
-    pub law : told → (q : Key) → MayLeave (disk old q) (reads (disk old q))
-    pub may : told → IsSoundArchive (show x) (disk old) → MayBeOpened f.layout (disk old)
-    pub leaves : told → IsSoundArchive (show x) (disk old) → Leaves f st None (disk old)
-    pub beyond : (s : ℕ) → 2 ^ 64 ≤ s → st.synced s ≡ 0
-    pub start : told → (markers : Markers) → Lawful f (as_read (disk old)) markers → IfOk result (λ r. IsStart f (as_read (disk old)) markers (state_of (show r) (disk new)))
-    pub sound : told → MayBeOpened f.layout (disk old) → LeavesLawful f (disk new) → IfOk result (λ r. IsSoundArchive (show r) (disk new))
-    pub step : told → MayBeOpened f.layout (disk old) → (was : State (List ℕ)) → Leaves f was None (disk old) → ((s : ℕ) → 2 ^ 64 ≤ s → was.synced s ≡ 0) → IfOk result (λ r. Step (show r).items was Reopen reply.Done (state_of (show r) (disk new)))
-    pub stands : told → MayBeOpened f.layout (disk old) → (was : State (List ℕ)) → Leaves f was None (disk old) → Always old new (Leaves f was (Some Reopen))
-    pub rest : told → MayBeOpened f.layout (disk old) → (was : State (List ℕ)) → Leaves f was None (disk old) → IfOk result (λ r. Leaves f (state_of (show r) (disk new)) None (disk new))
-    pub alone : told → Always old new (λ d. (q : Key) → (IsOwn f.layout (λ _. ⊤) q → ⊥) → d q ≡ disk old q)
-    pub causes : told → HasCause result f (disk old) (disk new)
-    pub complete : told → (markers : Markers) → Lawful f (as_read (disk old)) markers → AreCounted f.layout (as_read (disk old)) → OnErr result ((IsErrOf result Full × HasNoVersion f.layout (disk old)) ⊎ (refusing.HasFailed result faults_old faults_new ⊎ refusing.HasLostMarkers result faults_old faults_new))
-    pub cause : OnErr result (IsOpeningError result ⊎ (refusing.HasFailed result faults_old faults_new ⊎ refusing.HasLostMarkers result faults_old faults_new))
-    pub faults : faults_old ≤ faults_new
+  -- an entry of an opened blob tells how long the blob is
+  abbrev pub TellsLengths : Type 0
+  TellsLengths = (q : Key) → IfSome (dev.opened new q) (λ o. (IsTrue (to q).there) × (length (to q).content ≡ o.len))
 
-  abbrev done : A → A × answering.Reply V
-  done r = (r, answer.Done)
+  module _ (t : dev.Tells) (u : Option Asked) (opening : IsOpening u) (may : MayMoveMarkers u) (held : Held) where
+    pub opening_anywhere : (long : (s : ℕ) → IsOpenedTooLong (λ n. 2 ^ 64 ≤ n + (f.layout.page_size + 12)) (dev.opened new) (section_key f.layout.index s) → HasLongBlob f to)
+        → (moves : OfMarkers f from (HasToMove f from) → MustMoveHeld f held from u) → (e : Error) → IsOpeningCause f dev old new e → IsCauseAnywhere f held u from to e
+    opening_anywhere long moves Mem why = tt
+    opening_anywhere long moves (Journal (journal.Runtime runtime.Fault)) why = tt
+    opening_anywhere long moves (Metadata (metadata.Runtime runtime.Fault)) why = may
+    opening_anywhere long moves (Metadata (metadata.Corruption side)) why = (opening, why t)
+    opening_anywhere long moves (Journal (journal.InvalidBlobName name)) why = (opening, why t)
+    opening_anywhere long moves (Journal (journal.Corruption x)) why = (opening, why t)
+    opening_anywhere long moves (Journal (journal.Runtime (runtime.InvalidChecksum k))) why = inl (opening, why t)
+    opening_anywhere long moves (Journal (journal.Runtime runtime.OffsetOverflow)) why = inl (opening, long why.0 why.1)
+    opening_anywhere long moves RecordCorrupted why = (opening, why t)
+    opening_anywhere long moves Full why = inr (elim (why t) as (λ _. (IsOpening u × OfKept f (as_read from) (IsPastLimits f.most_sections f.most_records)) ⊎ (MustMoveHeld f held from u × HasNoVersion f.layout from)) [
+      | inl over ↦ inl (opening, over)
+      | inr moving ↦ inr (moves moving.1, moving.0)
+    ])
+    opening_anywhere long moves (Journal (journal.ItemOutOfRange n)) why = absurd (why t)
+    opening_anywhere long moves (Journal (journal.Codec x)) why = absurd (why t)
+    opening_anywhere long moves e why = absurd why
 
-  module _ (reopens : Reopens) where
-    lawful_before : (t : told) → IsSoundArchive (show x) (disk old) → (markers : Markers) × Lawful f (as_read (disk old)) markers
-    lawful_before t sound = lawful_read f (disk old) (reopens.law t) (reopens.may t sound).no_chance (all_lawful f st (disk old) (reopens.leaves t sound))
+    -- what a lawful image keeps is within the limits
+    not_over : (readable : IsReadable f.layout.markers) (markers : Markers) → Lawful f (as_read from) markers → OfKept f (as_read from) (IsPastLimits f.most_sections f.most_records) → ⊥
+    not_over readable markers lawful (others, held_by_image, over) =
+        let same : others ≡ markers = one_markers f.layout readable (as_read from) others markers held_by_image lawful.pair.held in
+        elim (subst (λ (m : Markers). IsPastLimits f.most_sections f.most_records (kept_entries f (as_read from) m)) same over) as (λ _. ⊥) [
+          | inl (ss, sorted, all, more) ↦ omega (arith, more, lawful.few_sections ss sorted all)
+          | inr (s, small, more) ↦ omega (arith, more, lawful.few_records s small)
+        ]
 
-    reopened_so : (out : Result A Error) → (markers : Markers) → IfOk out (λ r. IsStart f (as_read (disk old)) markers (state_of (show r) (disk new))) → (LeavesLawful f (disk new) → IfOk out (λ r. IsSoundArchive (show r) (disk new)))
-        → IfOk out (λ r. Step (show r).items st Reopen reply.Done (state_of (show r) (disk new))) → IfOk out (λ r. Leaves f (state_of (show r) (disk new)) None (disk new))
-        → IfOk (answer_of done out) (λ r. IsSoundArchive (show r.0) (disk new) × Answered f old new st Reopen (replied spelled r.1) (state_of (show r.0) (disk new)))
-    reopened_so (Err e) markers start sound step rest = tt
-    reopened_so (Ok r) markers start sound step rest = (sound (all_lawful f (state_of (show r) (disk new)) (disk new) rest), record { step = step; reopened = λ _. (markers, start); allowed = λ must. must; rest = rest })
+    pub opening_cause : (readable : IsReadable f.layout.markers) (markers : Markers) → Lawful f (as_read from) markers → (st : State (List ℕ))
+        → (moves : OfMarkers f from (HasToMove f from) → MustMoveNow f st from u) → (e : Error) → NotOpened p dev setup e old new → IsCause f st u from e
+    opening_cause readable markers lawful st moves Mem failed = tt
+    opening_cause readable markers lawful st moves (Journal (journal.Runtime runtime.Fault)) failed = tt
+    opening_cause readable markers lawful st moves (Metadata (metadata.Runtime runtime.Fault)) failed = inl opening
+    opening_cause readable markers lawful st moves Full failed = inr (elim (failed.cause t) as (λ _. MustMoveNow f st from u × HasNoVersion f.layout from) [
+      | inl over ↦ absurd (not_over readable markers lawful over)
+      | inr moving ↦ (moves moving.1, moving.0)
+    ])
+    opening_cause readable markers lawful st moves (Journal (journal.Runtime runtime.OffsetOverflow)) failed = (
+      opening,
+      λ counted. elim (failed.complete t markers lawful counted) as (λ _. ⊥) [
+        | inl full ↦ (let is = full.0 in cc is)
+        | inr (inl (inl memory)) ↦ cc memory
+        | inr (inl (inr fault)) ↦ (let is = fault.0 in cc is)
+        | inr (inr lost) ↦ (let is = lost.0 in cc is)
+      ],
+    )
+    -- A lawful image has none of these. `NotOpened.complete` says so where blobs are counted; it has to say it of each error but `OffsetOverflow` of any lawful image.
+    opening_cause readable markers lawful st moves e failed = ?
 
-    pub reopened_answers : (outer : Result (A × answering.Reply V) Error) → outer ≡ answer_of done result
-        → Answers f told old new faults_old faults_new (λ y d. IsSoundArchive (show y) d) (λ y d. state_of (show y) d) spelled x Reopen outer
-    reopened_answers outer is = subst (λ (o : Result (A × answering.Reply V) Error). Answers f told old new faults_old faults_new (λ y d. IsSoundArchive (show y) d) (λ y d. state_of (show y) d) spelled x Reopen o) (sym is) (record {
-      answered = λ t sound.
-          let lawful = lawful_before t sound in
-          let may = reopens.may t sound in
-          let leaves = reopens.leaves t sound in
-          reopened_so result lawful.0 (reopens.start t lawful.0 lawful.1) (reopens.sound t may) (reopens.step t may st leaves reopens.beyond) (reopens.rest t may st leaves);
-      moments = λ t sound. reopens.stands t (reopens.may t sound) st (reopens.leaves t sound);
-      looks = λ t lookup. absurd lookup;
-      spares = λ t index key value same. absurd (cc same);
-      later = λ t. always_as old new (λ d. (q : Key) → (IsOwn f.layout (λ _. ⊤) q → ⊥) → d q ≡ disk old q) (λ _. ⊤) (λ d _. tt) (reopens.alone t);
-      cause = λ t sound. (let lawful = lawful_before t sound in err_each done result (IsCause f st (Some Reopen) (disk old) faults_old faults_new)
-          (opening_cause f (disk old) (disk new) faults_old faults_new result reopens.readable lawful.0 lawful.1 (reopens.causes t) (reopens.complete t lawful.0 lawful.1) reopens.cause st (Some Reopen) tt tt));
-      unwritten = λ t sound. err_each done result _ (λ e same refused. absurd (elim refused [ inl full ↦ full.1 | inr large ↦ large.1 ]));
-      fault = err_each done result (λ e. IsFault e → Rose faults_old faults_new) (opening_fault_is result faults_old faults_new reopens.cause);
-      faults = reopens.faults;
-    })
+  -- a blob whose entry is too long is so long
+  module _ (tells : TellsLengths) where
+    long_content : (b : Blob) (n m : ℕ) → IsTrue b.there → length b.content ≡ n → 2 ^ 64 ≤ n + m → 2 ^ 64 ≤ length (unwrap_or (reads b) []) + m
+    long_content b n m there is over = subst (λ (x : Bool). 2 ^ 64 ≤ length (unwrap_or (cond x (Some b.content) None) []) + m) (sym there) (omega (arith, over, is))
+
+    long_blob : (s : ℕ) → IsOpenedTooLong (λ n. 2 ^ 64 ≤ n + (f.layout.page_size + 12)) (dev.opened new) (section_key f.layout.index s) → HasLongBlob f to
+    long_blob s long = (s, go (dev.opened new (section_key f.layout.index s)) (tells (section_key f.layout.index s)) long)
+      where
+        go : (o : Option Entry) → IfSome o (λ x. (IsTrue (to (section_key f.layout.index s)).there) × (length (to (section_key f.layout.index s)).content ≡ x.len))
+            → IsSomeAnd o (λ x. 2 ^ 64 ≤ x.len + (f.layout.page_size + 12)) → 2 ^ 64 ≤ length (content_at (as_read to) f.layout.index s) + (f.layout.page_size + 12)
+        go None known over = absurd over
+        go (Some x) known over = long_content (to (section_key f.layout.index s)) x.len (f.layout.page_size + 12) known.0 known.1 over
+
+  -- ---- the first opening
+
+  module _ (readable : IsReadable f.layout.markers) (sized : 1 ≤ f.layout.record_size) (may : dev.Tells → MayStart f from) (tells : dev.Tells → TellsLengths) where
+    -- a start state by the markers that the lawful image has
+    start_by : (lawful : (markers : Markers) × Lawful f (as_read from) markers) (st : State (List ℕ)) → ((markers : Markers) × IsStart f (as_read from) markers st) → IsStart f (as_read from) lawful.0 st
+    start_by lawful st start =
+        subst (λ (m : Markers). IsStart f (as_read from) m st) (one_markers f.layout readable (as_read from) start.0 lawful.0 start.1.held lawful.1.pair.held) start.1
+
+    leaves_now : (t : dev.Tells) → NothingPending from → (lawful : (markers : Markers) × Lawful f (as_read from) markers) (st : State (List ℕ)) → IsStart f (as_read from) lawful.0 st → Leaves f st None from
+    leaves_now t pending lawful st start = (may t).stands pending lawful.0 st lawful.1 start
+
+    moments_so : (result : Result A Error) → Opens p dev setup result old new → (t : dev.Tells) → NothingPending from → (lawful : (markers : Markers) × Lawful f (as_read from) markers) (st : State (List ℕ))
+        → ((markers : Markers) × IsStart f (as_read from) markers st) → Always (dev.time old) (dev.time new) (Leaves f st None)
+    moments_so result opens t pending lawful st start =
+        always_as (dev.time old) (dev.time new) (Leaves f st (Some Reopen)) (Leaves f st None) (none_for_reopen f st)
+        ((opens.moments t ((may t).opened pending)).stands st (leaves_now t pending lawful st (start_by lawful st start)))
+
+    own_alone : (result : Result A Error) → Opens p dev setup result old new → Footprint dev (prunable_serving p setup valid).kind.IsOwn NoBound old new
+    own_alone result opens = footprint_wider dev _ _ _ NoBound old new (λ q own. own) (λ q n none. absurd none) opens.footprint
+
+    pub open_answers : (result : Result A Error) → Opens p dev setup result old new → OpensStore (prunable_serving p setup valid) dev result old new
+    open_answers (Ok r) opens = record {
+      moments = moments_so (Ok r) opens;
+      footprint = own_alone (Ok r) opens;
+      ends = record {
+        usable = opened_usable r opens.ends;
+        sound = λ t pending lawful.
+            let st = start_of f (as_read from) lawful.0 in
+            let told = opens.ends.told t in
+            let ready = (may t).opened pending in
+            told.sound ready (all_lawful f _ to (told.rest ready st (leaves_now t pending lawful st (starts f (as_read from) lawful.0 lawful.1))));
+        start = λ t pending lawful. (lawful.0, (opens.ends.told t).start lawful.0 lawful.1);
+        allowed = λ t pending lawful must. elim must as (λ _. ⊥) [ inl adds ↦ adds | inr moves ↦ (opens.ends.told t).kept.version moves.1 moves.0 ];
+        rest = λ t pending lawful.
+            let st = start_of f (as_read from) lawful.0 in
+            (opens.ends.told t).rest ((may t).opened pending) st (leaves_now t pending lawful st (starts f (as_read from) lawful.0 lawful.1));
+        found = opened_found r opens.ends sized;
+        allowed_anywhere = λ t. kept_allowed holding_nothing (opens.ends.told t).kept;
+      };
+    }
+    open_answers (Err e) opens = record {
+      moments = moments_so (Err e) opens;
+      footprint = own_alone (Err e) opens;
+      ends = record {
+        cause = λ t pending lawful st start. opening_cause t None tt tt holding_nothing readable lawful.0 lawful.1 st (λ moving. moving) e opens.ends;
+        anywhere = λ t held. opening_anywhere t None tt tt held (long_blob (tells t)) (λ moving. moving) e opens.ends.cause;
+        fault = opening_fault e opens.ends.cause;
+      };
+    }
+
+  -- ---- a reopening
+
+  module _ (a : A) (given : Given p setup valid dev a old) (readable : IsReadable f.layout.markers) (sized : 1 ≤ f.layout.record_size) (tells : dev.Tells → TellsLengths)
+      (law : dev.Tells → (q : Key) → MayLeave (from q) (reads (from q))) where
+    abbrev was : State (List ℕ)
+    was = state_of (p.see a) from
+
+    own : filing_by p a ≡ f
+    own = one_filing f (filing_by p a) given.usable.filing (given.markers a)
+
+    ready_for : dev.Tells → IsSoundArchive (p.see a) from → MayBeOpened f.layout from
+    ready_for t sound = subst (λ (h : Filing). MayBeOpened h.layout from) own (given.laws.opened t sound)
+
+    leaves_before : dev.Tells → IsSoundArchive (p.see a) from → Leaves f was None from
+    leaves_before t sound = subst (λ (h : Filing). Leaves h was None from) own (given.laws.leaves t sound)
+
+    lawful_before : dev.Tells → IsSoundArchive (p.see a) from → (markers : Markers) × Lawful f (as_read from) markers
+    lawful_before t sound = all_lawful f was from (leaves_before t sound) (as_read from) (law t) (ready_for t sound).no_chance
+
+    pub reopen_answers : (result : Result A Error) → Opens p dev setup result old new → Answers (prunable_serving p setup valid) dev a Reopen (outcome (λ r. (r, reply.Done)) result) old new
+    reopen_answers (Ok r) opens = record {
+      moments = λ t sound. (opens.moments t (ready_for t sound)).stands was (leaves_before t sound);
+      alone = opens.footprint.alone;
+      footprint = footprint_wider dev _ _ _ NoBound old new (λ q own. own) (λ q n none. absurd none) opens.footprint;
+      quiet = λ t never. absurd never;
+      ends = record {
+        usable = opened_usable r opens.ends;
+        sound = λ t sound.
+            let told = opens.ends.told t in
+            told.sound (ready_for t sound) (all_lawful f _ to (told.rest (ready_for t sound) was (leaves_before t sound)));
+        step = λ t sound.
+            let told = opens.ends.told t in
+            subst (λ (n : ℕ). Step n was Reopen reply.Done (state_of (p.see r) to)) opens.ends.filing.items
+            (told.step (ready_for t sound) was (leaves_before t sound) given.laws.none_synced);
+        reopened = λ t sound is. (let lawful = lawful_before t sound in (lawful.0, (opens.ends.told t).start lawful.0 lawful.1));
+        allowed = λ t sound must. elim must as (λ _. ⊥) [ inl adds ↦ adds | inr moves ↦ (opens.ends.told t).kept.version moves.1 moves.0 ];
+        rest = λ t sound. (opens.ends.told t).rest (ready_for t sound) was (leaves_before t sound);
+        learns = opened_found r opens.ends sized;
+        allowed_anywhere = λ t. kept_allowed (held_by p a) (opens.ends.told t).kept;
+      };
+    }
+    reopen_answers (Err e) opens = record {
+      moments = λ t sound. (opens.moments t (ready_for t sound)).stands was (leaves_before t sound);
+      alone = opens.footprint.alone;
+      footprint = footprint_wider dev _ _ _ NoBound old new (λ q own. own) (λ q n none. absurd none) opens.footprint;
+      quiet = λ t never. absurd never;
+      ends = record {
+        cause = λ t sound. (let lawful = lawful_before t sound in opening_cause t (Some Reopen) refl tt (held_by p a) readable lawful.0 lawful.1 was (λ moving. moving) e opens.ends);
+        unwritten = λ t sound refuses. absurd (no_refusal refuses);
+        anywhere = λ t. opening_anywhere t (Some Reopen) refl tt (held_by p a) (long_blob (tells t)) (λ moving. moving) e opens.ends.cause;
+        unwritten_anywhere = λ t refuses. absurd (no_refusal refuses);
+        fault = opening_fault e opens.ends.cause;
+      };
+    }

@@ -1,82 +1,46 @@
--- What the calls of a prunable archive promise, in the terms of the headline.
-use Rattle.std.proofs.Common.{◌≡◌, ◌≢◌, ◌⊎◌, inl, inr, refl, sym, ◌∙◌, ap, subst, ℕ, ◌*◌, ◌≤◌, List, [], length, take, Option, Some, None, Result, Ok, Err, IfOk, IfErr, OnErr, OnOk, arith}
-use Rattle.std.specs.Prelude.{⊤}
-use Rattle.std.specs.Result.{IsErrOf}
-use Rattle.blob_device.specs.Counts.{Rose}
-use Rattle.blob_device.specs.Disk.{Disk, Key}
+-- What an archive says of itself, in the terms of a store that serves commands.
+use Rattle.std.proofs.Common.{◌≡◌, ◌≢◌, ◌⊎◌, inl, inr, refl, sym, ◌∙◌, ap, subst, ℕ, ◌+◌, ◌-◌, ◌*◌, ◌/◌, ◌%◌, ◌^◌, ◌<◌, ◌≤◌, ◌||◌, ◌&&◌, not, ◌==◌, nat_lt, if◌then◌else◌, Bool, true, false, List, [], ◌∷◌, ◌++◌, length, map, take, Option, Some, None, IsSomeAnd, Result, Ok, Err, arith}
+use Rattle.std.specs.Prelude.{IsTrue}
+use Rattle.std.specs.Option.{option_map_or}
+use Rattle.std.proofs.lemmas.Bool.{cases_lt, cases_Bool, eq-eqb, eqb-true}
+use Rattle.std.proofs.lemmas.Bool.Decides.{nat_tests}
+use Rattle.std.proofs.lemmas.List.{length-map}
+use Rattle.std.proofs.Math.Nat.{div-add-mod}
+use Rattle.blob_device.specs.Disk.{Disk}
+use Rattle.blob_device.specs.Opened.{OpenedList}
 use Rattle.blob_device.specs.Timeline.{Timeline, disk, Always}
-use Rattle.blob_device.specs.declared.runtime.RError.TheVariants as runtime
-use Rattle.meta_store.specs.declared.error.Error.TheVariants as metadata
-use Rattle.segments.specs.declared.journal.Error.TheVariants as journal
-use Rattle.segments.specs.Sections.{section_key}
+use Rattle.blob_device.specs.declared.device.Device as device
+use Rattle.sealed_pages.specs.Buffer.{FlushesNothing, extent, size_of}
 use Rattle.sealed_pages.specs.Reading.{Unchanged}
+use Rattle.sealed_pages.specs.Shown as page_blob
 use Rattle.sealed_pages.specs.declared.page_blob.PageBlob.{PageBlob}
-use Rattle.archives.specs.Archives.{Archive, IsSoundArchive, filing_of, state_of}
-use Rattle.archives.specs.Commands.{Get, GetKey, Has, HasKey, Put, Reopen}
-use Rattle.archives.specs.Filing.{Filing, IsSameFiling, kept}
+use Rattle.sealed_pages.specs.declared.write_blob.WriteBlob.{WriteBlob}
+use Rattle.segments.specs.FixedLists as fixed
+use Rattle.segments.specs.Unsealed.{count_of}
+use Rattle.segments.specs.declared.sealed.AppendFactory.{AppendFactory}
+use Rattle.paired.specs.GlobSections as glob
+use Rattle.paired.specs.Pair.{length_of, list_of, records_of, synced_length}
+use Rattle.paired.specs.Records as stored
+use Rattle.paired.proofs.PairReads.{index_size}
+use Rattle.paired.proofs.RecordLemmas.{length-records}
+use Rattle.archives.specs.Archives.{IsArchive, IsSoundArchive, filing_of, state_of}
+use Rattle.archives.specs.Changes.{Asked, Replied, outcome}
+use Rattle.archives.specs.Commands.{Reopen}
+use Rattle.archives.specs.Filing.{Filing, IsSameFiling, filed, kept}
 use Rattle.archives.specs.FilingLaws.{one_filing}
-use Rattle.archives.specs.Finding.{Wanted, get_command, has_command}
-use Rattle.archives.specs.Finding as finding
-use Rattle.archives.specs.Machine.{State, Step, replied, section_of}
-use Rattle.archives.specs.Opening.{HasNoVersion}
-use Rattle.archives.specs.Refusing as refusing
-use Rattle.archives.specs.Replies as reply
-use Rattle.archives.specs.Replies.{Reply}
+use Rattle.archives.specs.Machine.{Entry, State, has_index, section_of}
+use Rattle.archives.specs.Outlasts.{Outlasts}
+use Rattle.archives.specs.Prunable.{Prunable, Setup, filing_by, meaning, write_buffer_of}
+use Rattle.archives.specs.Putting.{HasBufferRoom, IsAllowed, IsFullFor, IsFullOver, IsPassed, IsTooLargeFor, WouldPass, frame_size, is_taken, record_tail, value_tail}
+use Rattle.archives.specs.Rows.{HasRoom, row_in}
 use Rattle.archives.specs.Standing.{IsGoing, IsPrefix, Leaves, submitted}
-use Rattle.archives.specs.declared.commands.Reply as answering
-use Rattle.archives.specs.declared.commands.Reply.TheVariants as answer
+use Rattle.archives.specs.Syncing.{IsMovingBy, IsMovingIn}
 use Rattle.archives.specs.declared.error.Error.{Error}
-use Rattle.archives.specs.declared.error.Error.TheVariants.{Full, Journal, Mem, Metadata}
-use Rattle.archives.proofs.PutSync.{filing_then}
-use Rattle.archive_service.specs.Answering.{Answers, answer_of}
-use Rattle.archive_service.specs.Causes.{IsCause, IsFault, MayMoveMarkers, MustRefuse, RefusesPut}
-use Rattle.archive_service.specs.Serves.{Answered, Asked, IsBlobAt, IsLookup}
-
--- ---- another command under way
-
--- where it submits the same, and no section is going
-pub leaves_as : (f : Filing) (st : State (List ℕ)) (a b : Option Asked) (d : Disk) → ((s : ℕ) → submitted f.items st a s ≡ submitted f.items st b s) → ((s : ℕ) → IsGoing f.items st a s → ⊥)
-    → Leaves f st a d → Leaves f st b d
-leaves_as f st a b d same stays leaves image crash calm =
-    let stands = leaves image crash calm in
-    record {
-      markers = stands.markers;
-      lawful = stands.lawful;
-      each = λ s small. elim (stands.each s small) as (λ _. IsPrefix f st b image stands.markers s ⊎ ((kept f image stands.markers s ≡ []) × IsGoing f.items st b s)) [
-        | inl held ↦ inl (record { same = held.same ∙ ap (take (length (kept f image stands.markers s))) (same s); synced = held.synced })
-        | inr gone ↦ absurd (stays s gone.1)
-      ];
-    }
-
--- An opening of an archive is under way before the first command: none is.
-pub none_for_reopen : (f : Filing) (st : State (List ℕ)) (d : Disk) → Leaves f st (Some Reopen) d → Leaves f st None d
-none_for_reopen f st d leaves = leaves_as f st (Some Reopen) None d (λ s. refl) (λ s going. going) leaves
-
--- a lookup under way submits nothing
-pub get_for_none : (f : Filing) (st : State (List ℕ)) (w : Wanted) (d : Disk) → Leaves f st None d → Leaves f st (Some (get_command w)) d
-get_for_none f st (finding.Index i) d leaves = leaves_as f st None (Some (Get i)) d (λ s. refl) (λ s going. going) leaves
-get_for_none f st (finding.Key k) d leaves = leaves_as f st None (Some (GetKey k)) d (λ s. refl) (λ s going. going) leaves
-
-pub has_for_none : (f : Filing) (st : State (List ℕ)) (w : Wanted) (d : Disk) → Leaves f st None d → Leaves f st (Some (has_command w)) d
-has_for_none f st (finding.Index i) d leaves = leaves_as f st None (Some (Has i)) d (λ s. refl) (λ s going. going) leaves
-has_for_none f st (finding.Key k) d leaves = leaves_as f st None (Some (HasKey k)) d (λ s. refl) (λ s going. going) leaves
-
--- it is no reopening, and nothing that is refused
-pub get_not_reopen : (w : Wanted) → get_command w ≡ Reopen → ⊥
-get_not_reopen (finding.Index i) is = absurd (cc is)
-get_not_reopen (finding.Key k) is = absurd (cc is)
-
-pub has_not_reopen : (w : Wanted) → has_command w ≡ Reopen → ⊥
-has_not_reopen (finding.Index i) is = absurd (cc is)
-has_not_reopen (finding.Key k) is = absurd (cc is)
-
-pub get_not_refused : (f : Filing) (st : State (List ℕ)) (w : Wanted) → MustRefuse f st (get_command w) → ⊥
-get_not_refused f st (finding.Index i) must = must
-get_not_refused f st (finding.Key k) must = must
-
-pub has_not_refused : (f : Filing) (st : State (List ℕ)) (w : Wanted) → MustRefuse f st (has_command w) → ⊥
-has_not_refused f st (finding.Index i) must = must
-has_not_refused f st (finding.Key k) must = must
+use Rattle.archives.proofs.PutLemmas.{whole_bytes}
+use Rattle.archive_service.specs.Causes.{Held, IfFree, IsOverLimits, IsPastAll, IsPastSizeAlone, IsRefusedAsFull, IsRefusedAsTooLarge, IsSurelyFull, PassesNumbers, PutOf, added_by, adds_to, holds, skips}
+use Rattle.archive_service.specs.Kinds.{Answers, Serving}
+use Rattle.archive_service.specs.PrunableKind.{FitsBuffers, IsBuffered, prunable_kind}
+use Rattle.archive_service.specs.PrunableStore.{IsUsableStore, held_by, prunable_serving}
 
 -- ---- moments
 
@@ -94,217 +58,328 @@ unchanged_end a b unchanged = unchanged.each (2 * b.calls) (omega (arith, unchan
 pub nothing_done : {Dev : Type 0} (time : Dev → Timeline) (before now : Dev) → now ≡ before → Unchanged (time before) (time now)
 nothing_done {Dev = Dev} time before now same = subst (λ (x : Dev). Unchanged (time before) (time x)) (sym same) (record { later = omega arith; kept = λ m le. refl; each = λ m lo hi. ap (λ (k : ℕ). (time before).at k) (omega (arith, lo, hi)) })
 
--- ---- errors
-
-pub cause_is : (f : Filing) (st : State (List ℕ)) (c : Option Asked) (from : Disk) (a b : ℕ) {T : Type 0} (e x : Error) → ◌≡◌ {A = Result T Error} (Err e) (Err x) → IsCause f st c from a b x → IsCause f st c from a b e
-cause_is f st c from a b e x is cause = (let same : x ≡ e = cc is in subst (λ (y : Error). IsCause f st c from a b y) same cause)
-
-pub err_same : {T : Type 0} {x y : Error} → x ≡ y → ◌≡◌ {A = Result T Error} (Err x) (Err y)
-err_same {T} same = let f : Error → Result T Error = λ e. Err e in ap f same
-
--- what holds of each error holds of the one that there is
-pub err_each : {R Q E : Type 0} (p : R → Q) (result : Result R E) (P : E → Type 0) → ((e : E) → result ≡ Err e → P e) → IfErr (answer_of p result) P
-err_each p (Ok r) P each = tt
-err_each p (Err e) P each = each e refl
-
-pub on_each : {Q E : Type 0} (result : Result Q E) (P : E → Type 0) → ((e : E) → result ≡ Err e → P e) → IfErr result P
-on_each (Ok r) P each = tt
-on_each (Err e) P each = each e refl
-
--- where the device failed its count rose, whatever is answered with the archive
-pub fault_so : {R Q : Type 0} (p : R → Q) (result : Result R Error) (a b : ℕ) → (refusing.IsFault result → Rose a b) → IfErr (answer_of p result) (λ e. IsFault e → Rose a b)
-fault_so p (Ok r) a b rose = tt
-fault_so p (Err e) a b rose = λ is. rose (elim is [ inl one ↦ inl (err_same one) | inr other ↦ inr (err_same other) ])
-
--- want of memory, or a fault of the records and values, is a cause with any command under way
-pub failed_so : {R : Type 0} (f : Filing) (st : State (List ℕ)) (c : Asked) (from : Disk) (a b : ℕ) (e : Error) → refusing.HasFailed {T = R} (Err e) a b → IsCause f st (Some c) from a b e
-failed_so {R = R} f st c from a b e (inl memory) = cause_is f st (Some c) from a b {T = R} e Mem memory tt
-failed_so {R = R} f st c from a b e (inr fault) = cause_is f st (Some c) from a b {T = R} e (Journal (journal.Runtime runtime.Fault)) fault.0 fault.1
-
--- ---- a call that changes the archive
-
-module _ {F S : Type 0} {gs : _} {R A V : Type 0} (x : A) (show : A → Archive F (PageBlob S gs)) (spelled : V → List ℕ) (this : R → A) (told : Type 0) (c : Asked) (old new : Timeline) (faults_old faults_new : ℕ) where
-  abbrev f : Filing
-  f = filing_of (show x)
-
-  abbrev st : State (List ℕ)
-  st = state_of (show x) (disk old)
-
-  pub record Changes (result : Result R Error) : Type 1 where
-    pub sound : told → IsSoundArchive (show x) (disk old) → IfOk result (λ r. IsSoundArchive (show (this r)) (disk new))
-    pub step : told → IsSoundArchive (show x) (disk old) → IfOk result (λ r. Step (show x).items st c reply.Done (state_of (show (this r)) (disk new)))
-    pub filing : IfOk result (λ r. IsSameFiling f (filing_of (show (this r))))
-    pub markers : (r : R) → (filing_of (show (this r))).layout.markers ≡ f.layout.markers
-    pub moments : told → IsSoundArchive (show x) (disk old) → Always old new (Leaves f st (Some c))
-    pub rest : told → IsSoundArchive (show x) (disk old) → IfOk result (λ r. Leaves (filing_of (show (this r))) (state_of (show (this r)) (disk new)) None (disk new))
-    pub no_lookup : IsLookup c → ⊥
-    pub no_reopen : c ≡ Reopen → ⊥
-    pub spares : told → (index : ℕ) (key value : List ℕ) → c ≡ Put index key value → Always old new (λ d. (q : Key) → (IsBlobAt f index q → ⊥) → d q ≡ disk old q)
-    pub later : told → Always old new (λ _. ⊤)
-    pub allowed : told → IsSoundArchive (show x) (disk old) → MustRefuse f st c → OnOk result ⊥
-    pub cause : told → IsSoundArchive (show x) (disk old) → (e : Error) → result ≡ Err e → IsCause f st (Some c) (disk old) faults_old faults_new e
-    pub unwritten : told → IsSoundArchive (show x) (disk old) → (e : Error) → result ≡ Err e → RefusesPut f st (Some c) e → Unchanged old new
-    pub fault : refusing.IsFault result → Rose faults_old faults_new
-    pub faults : faults_old ≤ faults_new
-
-  abbrev done : R → A × answering.Reply V
-  done r = (this r, answer.Done)
-
-  answered_so : (result : Result R Error) → Changes result → told → IsSoundArchive (show x) (disk old)
-      → IfOk (answer_of done result) (λ r. IsSoundArchive (show r.0) (disk new) × Answered f old new st c (replied spelled r.1) (state_of (show r.0) (disk new)))
-  answered_so (Err e) changes t sound = tt
-  answered_so (Ok r) changes t sound = (
-    changes.sound t sound,
+-- where another command under way submits the same, and no section is going
+pub leaves_as : (f : Filing) (st : State (List ℕ)) (a b : Option Asked) (d : Disk) → ((s : ℕ) → submitted f.items st a s ≡ submitted f.items st b s) → ((s : ℕ) → IsGoing f.items st a s → ⊥)
+    → Leaves f st a d → Leaves f st b d
+leaves_as f st a b d same stays leaves image crash calm =
+    let stands = leaves image crash calm in
     record {
-      step = changes.step t sound;
-      reopened = λ is. absurd (changes.no_reopen is);
-      allowed = changes.allowed t sound;
-      rest = subst (λ (g : Filing). Leaves g (state_of (show (this r)) (disk new)) None (disk new)) (one_filing f (filing_of (show (this r))) changes.filing (changes.markers r)) (changes.rest t sound);
-    },
-  )
+      markers = stands.markers;
+      lawful = stands.lawful;
+      each = λ s small. elim (stands.each s small) as (λ _. IsPrefix f st b image stands.markers s ⊎ ((kept f image stands.markers s ≡ []) × IsGoing f.items st b s)) [
+        | inl held ↦ inl (record { same = held.same ∙ ap (take (length (kept f image stands.markers s))) (same s); synced = held.synced })
+        | inr gone ↦ absurd (stays s gone.1)
+      ];
+    }
 
-  pub changed_answers : (result : Result R Error) (outer : Result (A × answering.Reply V) Error) → outer ≡ answer_of done result → Changes result
-      → Answers f told old new faults_old faults_new (λ y d. IsSoundArchive (show y) d) (λ y d. state_of (show y) d) spelled x c outer
-  changed_answers result outer is changes = subst (λ (o : Result (A × answering.Reply V) Error). Answers f told old new faults_old faults_new (λ y d. IsSoundArchive (show y) d) (λ y d. state_of (show y) d) spelled x c o) (sym is) (record {
-    answered = answered_so result changes;
-    moments = changes.moments;
-    looks = λ t lookup. absurd (changes.no_lookup lookup);
-    spares = changes.spares;
-    later = changes.later;
-    cause = λ t sound. err_each done result (IsCause f st (Some c) (disk old) faults_old faults_new) (changes.cause t sound);
-    unwritten = λ t sound. err_each done result (λ e. RefusesPut f st (Some c) e → Unchanged old new) (changes.unwritten t sound);
-    fault = fault_so done result faults_old faults_new changes.fault;
-    faults = changes.faults;
-  })
+-- ---- results
 
--- ---- a call that only reads
+-- how a store's result is seen that is made of an archive's
+pub seen_so : {R Q P : Type 0} (see : Q → P) (made : R → Q) (result : Result R Error) (outer : Result Q Error) → outer ≡ outcome made result → outcome see outer ≡ outcome (λ r. see (made r)) result
+seen_so see made (Ok r) outer is = ap (outcome see) is
+seen_so see made (Err e) outer is = ap (outcome see) is
 
-module _ {F S : Type 0} {gs : _} {R A V : Type 0} (x : A) (show : A → Archive F (PageBlob S gs)) (spelled : V → List ℕ) (reply_of : R → answering.Reply V) (told : Type 0) (c : Asked) (old new : Timeline) (faults_old faults_new : ℕ) where
-  pub record Looks (result : Result R Error) : Type 0 where
-    pub step : told → IfOk result (λ r. Step (show x).items (state_of (show x) (disk old)) c (replied spelled (reply_of r)) (state_of (show x) (disk new)))
-    pub unchanged : told → Unchanged old new
-    pub leaves : told → IsSoundArchive (show x) (disk old) → Leaves (filing_of (show x)) (state_of (show x) (disk old)) None (disk old)
-    pub under_way : (d : Disk) → Leaves (filing_of (show x)) (state_of (show x) (disk old)) None d → Leaves (filing_of (show x)) (state_of (show x) (disk old)) (Some c) d
-    pub no_reopen : c ≡ Reopen → ⊥
-    pub allowed : MustRefuse (filing_of (show x)) (state_of (show x) (disk old)) c → ⊥
-    pub gives : told → IsSoundArchive (show x) (disk old) → OnErr result (refusing.HasFailed result faults_old faults_new)
-    pub fault : refusing.IsFault result → Rose faults_old faults_new
-    pub faults : faults_old ≤ faults_new
+-- the same where it is seen by its first part, as by the archive of a sync that is started
+pub seen_first : {R Q P A : Type 0} (see : Q → P) (made : R → Q) (first : R → A) (again : A → P) (result : Result R Error) (outer : Result Q Error) → outer ≡ outcome made result
+    → ((r : R) → see (made r) ≡ again (first r)) → outcome see outer ≡ outcome again (outcome first result)
+seen_first see made first again (Ok r) outer is same = ap (outcome see) is ∙ ap (λ x. Ok x) (same r)
+seen_first see made first again (Err e) outer is same = ap (outcome see) is
 
-  abbrev with_it : R → A × answering.Reply V
-  with_it r = (x, reply_of r)
+-- ---- numbers
 
-  looked_so : (result : Result R Error) → Looks result → told → IsSoundArchive (show x) (disk old)
-      → IfOk (answer_of with_it result) (λ r. IsSoundArchive (show r.0) (disk new) × Answered (filing_of (show x)) old new (state_of (show x) (disk old)) c (replied spelled r.1) (state_of (show r.0) (disk new)))
-  looked_so (Err e) looks t sound = tt
-  looked_so (Ok r) looks t sound =
-      let same : disk old ≡ disk new = sym (unchanged_end old new (looks.unchanged t)) in (
-        subst (λ (d : Disk). IsSoundArchive (show x) d) same sound,
-        record {
-          step = looks.step t;
-          reopened = λ is. absurd (looks.no_reopen is);
-          allowed = looks.allowed;
-          rest = subst (λ (d : Disk). Leaves (filing_of (show x)) (state_of (show x) d) None d) same (looks.leaves t sound);
-        },
-      )
+-- whole records are as many as their bytes hold
+one_more : (size n count : ℕ) → count ≡ n / size → n % size ≡ 0 → (count + 1) * size ≡ n + size
+one_more size n count is whole = omega (arith, div-add-mod n size, whole, ap (λ (k : ℕ). size * k) is)
 
-  looked_cause : (result : Result R Error) → Looks result → told → IsSoundArchive (show x) (disk old) → IfErr (answer_of with_it result) (IsCause (filing_of (show x)) (state_of (show x) (disk old)) (Some c) (disk old) faults_old faults_new)
-  looked_cause (Ok r) looks t sound = tt
-  looked_cause (Err e) looks t sound = failed_so {R = R} (filing_of (show x)) (state_of (show x) (disk old)) c (disk old) faults_old faults_new e (looks.gives t sound)
+pub not_below : (i : ℕ) → nat_lt i 0 ≡ false
+not_below i = grind (arith, nat_tests)
 
-  looked_unwritten : (result : Result R Error) (P : Error → Type 0) → Unchanged old new → IfErr (answer_of with_it result) (λ e. P e → Unchanged old new)
-  looked_unwritten (Ok r) P unchanged = tt
-  looked_unwritten (Err e) P unchanged = λ _. unchanged
+at_most : (n m : ℕ) → (m < n → ⊥) → n ≤ m
+at_most n m not_more = elim (cases_lt m n) as (λ _. n ≤ m) [ inl more ↦ absurd (not_more more) | inr le ↦ le ]
 
-  pub looked_answers : (result : Result R Error) (outer : Result (A × answering.Reply V) Error) → outer ≡ answer_of with_it result → Looks result
-      → Answers (filing_of (show x)) told old new faults_old faults_new (λ y d. IsSoundArchive (show y) d) (λ y d. state_of (show y) d) spelled x c outer
-  looked_answers result outer is looks =
-      subst (λ (o : Result (A × answering.Reply V) Error). Answers (filing_of (show x)) told old new faults_old faults_new (λ y d. IsSoundArchive (show y) d) (λ y d. state_of (show y) d) spelled x c o) (sym is) (record {
-        answered = looked_so result looks;
-        moments = λ t sound. unchanged_always old new (Leaves (filing_of (show x)) (state_of (show x) (disk old)) (Some c)) (looks.unchanged t) (looks.under_way (disk old) (looks.leaves t sound));
-        looks = λ t _. looks.unchanged t;
-        spares = λ t index key value _. unchanged_always old new (λ d. (q : Key) → (IsBlobAt (filing_of (show x)) index q → ⊥) → d q ≡ disk old q) (looks.unchanged t) (λ q other. refl);
-        later = λ t. unchanged_always old new (λ _. ⊤) (looks.unchanged t) tt;
-        cause = looked_cause result looks;
-        unwritten = λ t sound. looked_unwritten result (RefusesPut (filing_of (show x)) (state_of (show x) (disk old)) (Some c)) (looks.unchanged t);
-        fault = fault_so with_it result faults_old faults_new looks.fault;
-        faults = looks.faults;
-      })
+zero_div : (m : ℕ) → 0 / m ≡ 0
+zero_div m = omega (arith, div-add-mod 0 m)
 
--- ---- what is said of a result is said of the answer that is made of it
+pub none_long : {X : Type 0} (xs : List X) → length xs ≡ 0 → xs ≡ []
+none_long [] is = refl
+none_long (x ∷ xs) is = absurd (omega (arith, is))
 
-abbrev pub first : {X Y : Type 0} → X × Y → X
-first p = p.0
+added_free : (i floor : ℕ) (r : Entry (List ℕ)) (taken : Bool) → floor ≡ 0 → ◌≡◌ {A = Option (Entry (List ℕ))} (if nat_lt i floor || taken then None else Some r) (if taken then None else Some r)
+added_free i floor r taken none = ap (λ (m : ℕ). if nat_lt i m || taken then None else Some r) none ∙ ap (λ (b : Bool). if b || taken then None else Some r) (not_below i)
 
--- what does not speak of the value
-pub ok_always : {R Q E : Type 0} (p : R → Q) (result : Result R E) (outer : Result Q E) → outer ≡ answer_of p result → (P : Q → Type 0) → ((r : R) → P (p r)) → IfOk outer P
-ok_always {R} {Q} {E} p result outer is P holds = subst (λ (o : Result Q E). IfOk o P) (sym is) (inside result)
-  where
-    inside : (r : Result R E) → IfOk (answer_of p r) P
-    inside (Ok x) = holds x
-    inside (Err e) = tt
+free_adds : (skipped : Bool) (r : Entry (List ℕ)) (P : Entry (List ℕ) → Type 0) → skipped ≡ false → P r → IsSomeAnd (if skipped then None else Some r) P
+free_adds skipped r P free has = subst (λ (b : Bool). IsSomeAnd (if b then None else Some r) P) (sym free) has
 
-pub ok_of : {R Q E : Type 0} (p : R → Q) (result : Result R E) (outer : Result Q E) → outer ≡ answer_of p result → (P : Q → Type 0) → IfOk result (λ r. P (p r)) → IfOk outer P
-ok_of {R} {Q} {E} p result outer is P holds = subst (λ (o : Result Q E). IfOk o P) (sym is) (inside result holds)
-  where
-    inside : (r : Result R E) → IfOk r (λ x. P (p x)) → IfOk (answer_of p r) P
-    inside (Ok x) has = has
-    inside (Err e) has = tt
+adds_free : (skipped : Bool) (r : Entry (List ℕ)) (P : Entry (List ℕ) → Type 0) → IsSomeAnd (if skipped then None else Some r) P → (skipped ≡ false) × P r
+adds_free true r P none = absurd none
+adds_free false r P has = (refl, has)
 
--- ---- a sync
+-- what puts nothing, moves no marker, and is no reopening is not refused
+pub refused_by_none : {X Y : Type 0} (c : Asked) → (c ≡ Reopen → ⊥) → ⊥ ⊎ ((⊥ × X) ⊎ ((c ≡ Reopen) × Y)) → ⊥
+refused_by_none c never (inl puts) = puts
+refused_by_none c never (inr (inl moves)) = moves.0
+refused_by_none c never (inr (inr over)) = never over.0
 
-pub sync_cause : {R : Type 0} (f : Filing) (st : State (List ℕ)) (c : Asked) (from : Disk) (a b : ℕ) (result : Result R Error) → MayMoveMarkers (Some c) → (IsErrOf result Full → HasNoVersion f.layout from)
-    → OnErr result (IsErrOf result Full ⊎ (refusing.HasFailed result a b ⊎ refusing.HasLostMarkers result a b)) → (e : Error) → result ≡ Err e → IsCause f st (Some c) from a b e
-sync_cause {R} f st c from a b result may full cause e is =
-    elim (subst (λ (x : Result R Error). OnErr x (IsErrOf result Full ⊎ (refusing.HasFailed result a b ⊎ refusing.HasLostMarkers result a b))) is cause) as (λ _. IsCause f st (Some c) from a b e) [
-      | inl here ↦ cause_is f st (Some c) from a b {T = R} e Full (sym is ∙ here) (inr (may, full here))
-      | inr (inl failed) ↦ failed_so {R = R} f st c from a b e (subst (λ (x : Result R Error). refusing.HasFailed x a b) is failed)
-      | inr (inr lost) ↦ cause_is f st (Some c) from a b {T = R} e (Metadata (metadata.Runtime runtime.Fault)) (sym is ∙ lost.0) (may, lost.1)
-    ]
+pub refused_by_none_now : {X : Type 0} → ⊥ ⊎ (⊥ × X) → ⊥
+refused_by_none_now (inl puts) = puts
+refused_by_none_now (inr moves) = moves.0
 
--- ---- a put
+pub no_refusal : {X Y : Type 0} → (X × ⊥) ⊎ (Y × ⊥) → ⊥
+no_refusal (inl full) = full.1
+no_refusal (inr large) = large.1
 
--- the blobs that a put spares are those that it is to spare
-pub spares_so : (f : Filing) (i : ℕ) (k v : List ℕ) (a b : Timeline) → Always a b (λ d. (q : Key) → q ≢ section_key f.layout.index (section_of f.items i) → q ≢ section_key f.layout.values (section_of f.items i) → d q ≡ disk a q)
-    → (index : ℕ) (key value : List ℕ) → ◌≡◌ {A = Asked} (Put i k v) (Put index key value) → Always a b (λ d. (q : Key) → (IsBlobAt f index q → ⊥) → d q ≡ disk a q)
-spares_so f i k v a b always index key value is =
-    let same : i ≡ index = cc is in
-    subst (λ (n : ℕ). Always a b (λ d. (q : Key) → (IsBlobAt f n q → ⊥) → d q ≡ disk a q)) same
-    (always_as a b (λ d. (q : Key) → q ≢ section_key f.layout.index (section_of f.items i) → q ≢ section_key f.layout.values (section_of f.items i) → d q ≡ disk a q) (λ d. (q : Key) → (IsBlobAt f i q → ⊥) → d q ≡ disk a q)
-    (λ d spared q other. spared q (λ one. other (inl one)) (λ two. other (inr two))) always)
+-- what adds to a section, and what does not
+pub adds_where : (taken here : Bool) → (not taken && here) ≡ true → (taken ≡ false) × (here ≡ true)
+adds_where true here is = absurd (cc is)
+adds_where false here is = (refl, is)
 
--- ---- an archive of a configuration that goes on to be one
+pub adds_not : (taken here : Bool) → (not taken && here) ≡ false → here ≡ true → taken ≡ true
+adds_not true here is at = refl
+adds_not false here is at = absurd (cc (is, at))
 
--- as it comes of an opening
-pub opened_usable : {A V C : Type 0} (result : Result A Error) (P Q : A → Type 0) (accepted : V → C → Type 0) (config : A → C) (asked : C) → IfOk result P → IfOk result Q → IfOk result (λ r. config r ≡ asked)
-    → IfOk result (λ r. P r × Q r × ((v : V) → accepted v asked → accepted v (config r)))
-opened_usable (Err e) P Q accepted config asked over filed same = tt
-opened_usable (Ok r) P Q accepted config asked over filed same = (over, filed, λ v holds. subst (accepted v) (sym same) holds)
+-- ---- an archive that may be used
 
--- as it comes of another call
-pub still_usable : {B V : Type 0} (result : Result B Error) (P : B → Type 0) (filing : B → Filing) (f own : Filing) (Allowed Took : V → Type 0) (Takes : B → V → Type 0) → IsSameFiling f own → ((v : V) → Allowed v → Took v) → IfOk result P
-    → IfOk result (λ r. IsSameFiling own (filing r)) → IfOk result (λ r. (v : V) → Took v → Takes r v) → IfOk result (λ r. P r × IsSameFiling f (filing r) × ((v : V) → Allowed v → Takes r v))
-still_usable (Err e) P filing f own Allowed Took Takes filed takes over files took = tt
-still_usable (Ok r) P filing f own Allowed Took Takes filed takes over files took = (over, filing_then f own (filing r) filed files, λ v holds. took v (takes v holds))
+module _ {A V S D : Type 0} {gs : _} (p : Prunable A V (AppendFactory S) (PageBlob S gs)) (setup : Setup V) (valid : Type 0) (dev : device.Ghosts D) where
+  -- the store of archives that file their records so
+  abbrev pub serving_by : Filing → Serving A V
+  serving_by f = record {
+    kind = prunable_kind f setup.write_buffer setup.value_buffer;
+    IsValid = valid;
+    Accepts = setup.Allows;
+    IsUsable = IsUsableStore p setup;
+    IsSound = λ a d. IsSoundArchive (p.see a) d;
+    state = λ a d. state_of (p.see a) d;
+    known = held_by p;
+  }
 
--- as one that only reads keeps it
-pub same_as_itself : (f : Filing) → IsSameFiling f f
-same_as_itself f = record {
-  layout = record { index = refl; values = refl; metadata = refl; page_size = refl };
-  record_size = refl;
-  seal = λ bytes. refl;
-  place = λ bytes. refl;
-  items = refl;
-  key_size = refl;
-  refusal = λ bytes. refl;
-  most_sections = refl;
-  most_records = refl;
-}
+  -- there is a row for each record
+  pub rows_long_of : (x : A) (now : D) → IsArchive (p.see x) p.buffers dev.Tells (dev.opened now) (disk (dev.time now)) → dev.Tells
+      → (s : ℕ) → length ((p.see x).rows s) ≡ length_of (p.see x).pair s
+  rows_long_of x now over t s =
+      ap length (over.listed t s) ∙ length-map (records_of (p.see x).pair (disk (dev.time now)) s) (row_in (p.see x).key_size)
+      ∙ length-records (p.see x).pair.layout.record_size (fixed.section_bytes (p.see x).pair.index.sections (disk (dev.time now)) s)
+      ∙ ap (λ (n : ℕ). n / (p.see x).pair.layout.record_size) (index_size (p.see x).pair.index.sections (disk (dev.time now)) s)
 
--- ---- what is answered by one way of filing, and to one command, is by and to the same
+  -- and so many records the state has
+  pub lists_long_of : (x : A) (now : D) (s : ℕ) → length ((state_of (p.see x) (disk (dev.time now))).lists s) ≡ length_of (p.see x).pair s
+  lists_long_of x now s =
+      length-map (list_of (p.see x).pair (disk (dev.time now)) s) (filed (filing_of (p.see x)))
+      ∙ length-map (records_of (p.see x).pair (disk (dev.time now)) s)
+      (stored.entry_of (p.see x).pair.layout.place (glob.section_bytes (p.see x).pair.values (disk (dev.time now)) s))
+      ∙ length-records (p.see x).pair.layout.record_size (fixed.section_bytes (p.see x).pair.index.sections (disk (dev.time now)) s)
+      ∙ ap (λ (n : ℕ). n / (p.see x).pair.layout.record_size) (index_size (p.see x).pair.index.sections (disk (dev.time now)) s)
 
-pub answers_as : {A V told : Type 0} {old new : Timeline} {faults_old faults_new : ℕ} {IsSound : A → Disk → Type 0} {state : A → Disk → State (List ℕ)} {spelled : V → List ℕ} {x : A} {outer : Result (A × answering.Reply V) Error} (own f : Filing) (c also : Asked) → own ≡ f → c ≡ also
-    → Answers own told old new faults_old faults_new IsSound state spelled x c outer → Answers f told old new faults_old faults_new IsSound state spelled x also outer
-answers_as {A} {V} {told} {old} {new} {faults_old} {faults_new} {IsSound} {state} {spelled} {x} {outer} own f c also same is answers =
-    subst (λ (k : Asked). Answers f told old new faults_old faults_new IsSound state spelled x k outer) is
-    (subst (λ (h : Filing). Answers h told old new faults_old faults_new IsSound state spelled x c outer) same answers)
+  -- What is known of the archive before a call: it may be used, and what its state says; how its markers are stored; and how its buffers are made.
+  pub record Given (a : A) (old : D) : Type 1 where
+    pub usable : IsUsableStore p setup a dev.Tells (dev.opened old) (disk (dev.time old))
+    pub laws : Outlasts p dev a old
+    pub markers : (x : A) → (filing_by p x).layout.markers ≡ setup.filing.layout.markers
+    pub buffers : (s : ℕ) (u : PageBlob S gs) → (p.see a).pair.index.sections.held s ≡ Some u
+        → (u.page_size ≡ (p.see a).pair.layout.page_size) × (u.capacity ≡ write_buffer_of (p.see a))
+
+  module _ (a : A) (old : D) (given : Given a old) where
+    abbrev pub d : Disk
+    d = disk (dev.time old)
+
+    abbrev pub f : Filing
+    f = filing_by p a
+
+    abbrev pub st : State (List ℕ)
+    st = state_of (p.see a) d
+
+    abbrev pub known : Held
+    known = held_by p a
+
+    own : f ≡ setup.filing
+    own = one_filing setup.filing f given.usable.filing (given.markers a)
+
+    -- what holds in the terms of the archive holds in those of the configuration
+    pub as_asked : (command : Asked) (result : Result (A × Replied) Error) (new : D) → Answers (serving_by f) dev a command result old new
+        → Answers (prunable_serving p setup valid) dev a command result old new
+    as_asked command result new answers = subst (λ (g : Filing). Answers (serving_by g) dev a command result old new) own answers
+
+    -- ---- how many rows
+
+    pub rows_long : dev.Tells → (s : ℕ) → length ((p.see a).rows s) ≡ length_of (p.see a).pair s
+    rows_long = rows_long_of a old given.usable.usable
+
+    pub lists_long : (s : ℕ) → length (st.lists s) ≡ length_of (p.see a).pair s
+    lists_long = lists_long_of a old
+
+    -- what the state says of markers the rows say
+    pub moving_by_rows : dev.Tells → (lengths rows synced : ℕ → ℕ) → ((s : ℕ) → rows s ≡ lengths s) → IsMovingBy f d lengths synced → IsMovingBy f d rows synced
+    moving_by_rows t lengths rows synced same moving = subst (λ (long : ℕ → ℕ). IsMovingBy f d long synced) (λ i s. sym (same s) i) moving
+
+    pub moving_held : dev.Tells → IsMovingIn f d st → IsMovingBy f d (λ s. length (known.rows s)) known.synced
+    moving_held t moving = moving_by_rows t (λ s. length (st.lists s)) (λ s. length (known.rows s)) known.synced (λ s. rows_long t s ∙ sym (lists_long s)) moving
+
+    -- and what the rows say the state does
+    pub held_moving : dev.Tells → IsMovingBy f d (λ s. length (known.rows s)) known.synced → IsMovingIn f d st
+    held_moving t moving = moving_by_rows t (λ s. length (known.rows s)) (λ s. length (st.lists s)) known.synced (λ s. lists_long s ∙ sym (rows_long t s)) moving
+
+    -- ---- a record that is put
+
+    module _ (t : dev.Tells) (i : ℕ) (k v : List ℕ) where
+      abbrev pub r : Entry (List ℕ)
+      r = record { index = i; key = k; value = v }
+
+      abbrev pub n : ℕ
+      n = frame_size f.layout v
+
+      abbrev pub Added : (Entry (List ℕ) → Type 0) → Type 0
+      Added P = IsSomeAnd (added_by f st (IfFree r)) P
+
+      free_is : added_by f st (IfFree r) ≡ (if has_index f.items st i then None else Some r)
+      free_is = added_free i (p.see a).floor r (has_index f.items st i) given.usable.usable.floor
+
+      taken_is : is_taken (p.see a) i ≡ has_index f.items st i
+      taken_is = (given.laws.state t).taken i
+
+      low_is : nat_lt i (p.see a).floor ≡ false
+      low_is = ap (nat_lt i) given.usable.usable.floor ∙ not_below i
+
+      -- what is put is dropped, by what is held, just where its index is taken
+      pub put_free : is_taken (p.see a) i ≡ false → (skips f known i || holds f known i) ≡ false
+      put_free free = ap (λ (b : Bool). b || is_taken (p.see a) i) low_is ∙ free
+
+      pub free_put : (skips f known i || holds f known i) ≡ false → is_taken (p.see a) i ≡ false
+      free_put free = sym (ap (λ (b : Bool). b || is_taken (p.see a) i) low_is) ∙ free
+
+      pub adds_is : (s : ℕ) → adds_to f known (IfFree r) s ≡ (not (is_taken (p.see a) i) && (s == section_of f.items i))
+      adds_is s = ap (λ (b : Bool). not (b || is_taken (p.see a) i) && (s == section_of f.items i)) low_is
+
+      pub adds_now : (P : Entry (List ℕ) → Type 0) → is_taken (p.see a) i ≡ false → P r → Added P
+      adds_now P free has = subst (λ (o : Option (Entry (List ℕ))). IsSomeAnd o P) (sym free_is) (free_adds (has_index f.items st i) r P (sym taken_is ∙ free) has)
+
+      pub now_adds : (P : Entry (List ℕ) → Type 0) → Added P → (is_taken (p.see a) i ≡ false) × P r
+      now_adds P adds = (let found = adds_free (has_index f.items st i) r P (subst (λ (o : Option (Entry (List ℕ))). IsSomeAnd o P) free_is adds) in (taken_is ∙ found.0, found.1))
+
+      pub full_for : IsFullOver (p.see a) i dev.Tells n → IsFullFor (p.see a) i n
+      full_for over = record {
+        free = over.free;
+        full = elim over.full as (λ _. (IsAllowed (p.see a) i → ⊥) ⊎ ((n ≤ 2 ^ 32 - 1) × IsPassed (p.see a) i n)) [ inl limits ↦ inl limits | inr passed ↦ inr (passed.0, passed.1 (inl t)) ];
+      }
+
+      pub full_adds : IsSoundArchive (p.see a) d → IsFullFor (p.see a) i n → Added (IsRefusedAsFull f st)
+      full_adds sound full = adds_now (IsRefusedAsFull f st) full.free (elim full.full as (λ _. IsRefusedAsFull f st r) [
+        | inl over ↦ inl (λ room. over (((given.laws.state t).allowed i).1 room))
+        | inr passed ↦ inr ((λ large. absurd (omega (arith, large, passed.0))), ((given.laws.state t).passed sound i n (omega (arith, passed.0))).0 passed.1)
+      ])
+
+      pub adds_full : IsSoundArchive (p.see a) d → Added (IsRefusedAsFull f st) → IsFullFor (p.see a) i n
+      adds_full sound adds =
+          let found = now_adds (IsRefusedAsFull f st) adds in
+          record {
+            free = found.0;
+            full = elim found.1 as (λ _. (IsAllowed (p.see a) i → ⊥) ⊎ ((n ≤ 2 ^ 32 - 1) × IsPassed (p.see a) i n)) [
+              | inl over ↦ inl (λ room. over (((given.laws.state t).allowed i).0 room))
+              | inr none ↦ (let few : n ≤ 2 ^ 32 - 1 = at_most n (2 ^ 32 - 1) none.0 in inr (few, ((given.laws.state t).passed sound i n (omega (arith, few))).1 none.1))
+            ];
+          }
+
+      pub large_adds : IsTooLargeFor (p.see a) i n → Added (IsRefusedAsTooLarge f st)
+      large_adds large = adds_now (IsRefusedAsTooLarge f st) large.free (record { allowed = λ over. over (((given.laws.state t).allowed i).0 large.allowed); large = large.large })
+
+      -- what contradicts that it is too large contradicts that the state says so
+      pub not_large : (IsTooLargeFor (p.see a) i n → ⊥) → Added (IsRefusedAsTooLarge f st) → ⊥
+      not_large never adds =
+          let found = now_adds (IsRefusedAsTooLarge f st) adds in
+          found.1.allowed (λ room. never (record { free = found.0; allowed = ((given.laws.state t).allowed i).1 room; large = found.1.large }))
+
+      -- ---- over any image
+
+      abbrev pub here : ℕ
+      here = section_of f.items i
+
+      -- as many bytes of records as the buffer has, and one more
+      index_long : (u : PageBlob S gs) → (p.see a).pair.index.sections.held here ≡ Some u
+          → size_of (page_blob.shown u) + f.layout.record_size ≡ (length (known.rows here) + 1) * f.layout.record_size
+      index_long u is =
+          let whole = whole_bytes (p.see a).pair (dev.opened old) d given.usable.usable.pair t here in
+          let bytes : List ℕ = fixed.section_bytes (p.see a).pair.index.sections d here in
+          let size : length bytes ≡ size_of (page_blob.shown u) = index_size (p.see a).pair.index.sections d here ∙ ap (λ (o : Option (PageBlob S gs)). fixed.size_held o) is in
+          let count : length (known.rows here) ≡ length bytes / f.layout.record_size = rows_long t here
+          ∙ sym (ap (λ (m : ℕ). m / f.layout.record_size) (index_size (p.see a).pair.index.sections d here)) in
+          omega (arith, one_more f.layout.record_size (length bytes) (length (known.rows here)) count whole, size)
+
+      numbers : IsPassed (p.see a) i n → PassesNumbers f known.rows known.bytes r
+      numbers (inl index) = go ((p.see a).pair.index.sections.held here) refl index
+        where
+          go : (o : Option (PageBlob S gs)) → (p.see a).pair.index.sections.held here ≡ o → IsSomeAnd o (λ u. 2 ^ 64 ≤ extent u.page_size (size_of (page_blob.shown u) + (p.see a).pair.layout.record_size)) → PassesNumbers f known.rows known.bytes r
+          go None is over = absurd over
+          go (Some u) is over = inl (subst (λ (m : ℕ). 2 ^ 64 ≤ extent f.layout.page_size m) (index_long u is)
+              (subst (λ (P : ℕ). 2 ^ 64 ≤ extent P (size_of (page_blob.shown u) + f.layout.record_size)) (given.buffers here u is).0 over))
+      numbers (inr values) = go ((p.see a).pair.values.held here) refl values
+        where
+          go : (o : Option WriteBlob) → (p.see a).pair.values.held here ≡ o → IsSomeAnd o (λ u. 2 ^ 64 ≤ count_of u + n) → PassesNumbers f known.rows known.bytes r
+          go None is over = absurd over
+          go (Some u) is over = (let size : glob.section_size (p.see a).pair.values here ≡ count_of u = ap glob.size_held is in inr (omega (arith, over, size)))
+
+      pub past : IsFullFor (p.see a) i n → IsPastAll f known r
+      past full = elim full.full as (λ _. IsPastAll f known r) [
+        | inl over ↦ inl over
+        | inr passed ↦ inr ((λ large. omega (arith, large, passed.0)), numbers passed.1)
+      ]
+
+      pub past_size : IsTooLargeFor (p.see a) i n → IsPastSizeAlone f known r
+      past_size large = record { allowed = λ over. over large.allowed; large = large.large }
+
+      -- a section with rows is held
+      held_index : known.rows here ≢ [] → (p.see a).pair.index.sections.held here ≡ None → ⊥
+      held_index some none = some (none_long (known.rows here)
+          (rows_long t here ∙ ap (λ (o : Option (PageBlob S gs)). fixed.size_held o / f.layout.record_size) none ∙ zero_div f.layout.record_size))
+
+      passed_by : known.rows here ≢ [] → n ≤ 2 ^ 32 - 1 → PassesNumbers f known.rows known.bytes r → IsPassed (p.see a) i n
+      passed_by some few (inl index) = inl (go ((p.see a).pair.index.sections.held here) refl)
+        where
+          go : (o : Option (PageBlob S gs)) → (p.see a).pair.index.sections.held here ≡ o → IsSomeAnd o (λ u. 2 ^ 64 ≤ extent u.page_size (size_of (page_blob.shown u) + (p.see a).pair.layout.record_size))
+          go None is = absurd (held_index some is)
+          go (Some u) is = subst (λ (P : ℕ). 2 ^ 64 ≤ extent P (size_of (page_blob.shown u) + f.layout.record_size)) (sym (given.buffers here u is).0)
+              (subst (λ (m : ℕ). 2 ^ 64 ≤ extent f.layout.page_size m) (sym (index_long u is)) index)
+      passed_by some few (inr values) = inr (go ((p.see a).pair.values.held here) refl)
+        where
+          go : (o : Option WriteBlob) → (p.see a).pair.values.held here ≡ o → IsSomeAnd o (λ u. 2 ^ 64 ≤ count_of u + n)
+          go None is = (let none : glob.section_size (p.see a).pair.values here ≡ 0 = ap glob.size_held is in absurd (omega (arith, values, none, few)))
+          go (Some u) is = (let size : glob.section_size (p.see a).pair.values here ≡ count_of u = ap glob.size_held is in omega (arith, values, size))
+
+      -- what is held is surely full for the record, and so the archive is
+      pub surely_full : is_taken (p.see a) i ≡ false → IsSurelyFull f known r → IsFullFor (p.see a) i n
+      surely_full free sure = record {
+        free = free;
+        full = elim sure.0 as (λ _. (IsAllowed (p.see a) i → ⊥) ⊎ ((n ≤ 2 ^ 32 - 1) × IsPassed (p.see a) i n)) [
+          | inl over ↦ inl over
+          | inr none ↦ elim sure.1 as (λ _. (IsAllowed (p.see a) i → ⊥) ⊎ ((n ≤ 2 ^ 32 - 1) × IsPassed (p.see a) i n)) [
+            | inl over ↦ inl over
+            | inr some ↦ (let few : n ≤ 2 ^ 32 - 1 = at_most n (2 ^ 32 - 1) none.0 in inr (few, passed_by some few none.1))
+          ]
+        ];
+      }
+
+      pub not_large_held : (IsTooLargeFor (p.see a) i n → ⊥) → is_taken (p.see a) i ≡ false → IsPastSizeAlone f known r → ⊥
+      not_large_held never free alone = alone.allowed (λ room. never (record { free = free; allowed = room; large = alone.large }))
+
+      -- both buffers have room, by what is known
+      pub room : FitsBuffers f setup.write_buffer setup.value_buffer known (IfFree r) here → HasBufferRoom (p.see a) i n
+      room fits = held_room ((p.see a).pair.index.sections.held here) refl ((p.see a).pair.values.held here) refl
+        where
+          held_room : (o : Option (PageBlob S gs)) → (p.see a).pair.index.sections.held here ≡ o → (q : Option WriteBlob) → (p.see a).pair.values.held here ≡ q → HasBufferRoom (p.see a) i n
+          held_room None is q also = absurd (held_index fits.records_there is)
+          held_room (Some u) is None also = absurd (fits.values_there (ap glob.size_held also))
+          held_room (Some u) is (Some w) also =
+              let tail : record_tail (p.see a) here ≡ length (page_blob.shown u).tip - (page_blob.shown u).from = ap (λ (o : Option (PageBlob S gs)). option_map_or (λ x. length (page_blob.shown x).tip - (page_blob.shown x).from) o 0) is in
+              let capacity : u.capacity ≡ setup.write_buffer = (given.buffers here u is).1 ∙ given.usable.write_buffer in
+              record {
+                records = u;
+                held = is;
+                no_flush = inl (omega (arith, fits.record_room, tail, capacity));
+                values = w;
+                values_held = also;
+                below = omega (arith, fits.value_room, given.usable.value_buffer);
+              }
+
+      pub buffered : (new : D) → (IsTrue (is_taken (p.see a) i) → new ≡ old) → (HasBufferRoom (p.see a) i n → new ≡ old)
+          → IsBuffered f setup.write_buffer setup.value_buffer known (IfFree r) → new ≡ old
+      buffered new taken below fits = elim (cases_Bool (is_taken (p.see a) i)) as (λ _. new ≡ old) [
+        | inl there ↦ taken there
+        | inr free ↦ below (room (fits here (adds_is here ∙ ap (λ (b : Bool). not b && (here == here)) free ∙ eq-eqb here here refl)))
+      ]

@@ -1,57 +1,99 @@
--- Why a run of commands ends in an error, by the state of the record machine that it has come to.
-use Rattle.std.specs.Prelude.{◌≡◌, ◌≢◌, ◌⊎◌, ℕ, ◌+◌, ◌-◌, ◌*◌, ◌^◌, ◌<◌, ◌≤◌, ◌||◌, nat_lt, if◌then◌else◌, ⊤, List, [], length, map, sum, Option, Some, None, IsSomeAnd}
-use Rattle.std.specs.List.{AllByRecursion}
-use Rattle.std.specs.List.Sorted.{IsStrictlySortedBy}
-use Rattle.std.specs.Ordering.{nat_cmp}
-use Rattle.blob_device.specs.Counts.{Rose}
+-- Why a run of commands over a prunable archive ends in an error: by the state of the record machine that it has come to, and over any image by the
+-- rows and the bytes that it holds.
+use Rattle.std.specs.Prelude.{◌≡◌, ◌≢◌, ◌⊎◌, ℕ, ◌+◌, ◌-◌, ◌*◌, ◌^◌, ◌<◌, ◌≤◌, ◌||◌, ◌&&◌, not, nat_lt, ◌==◌, if◌then◌else◌, Bool, true, false, ⊤, List, [], ◌∷◌, ◌++◌, length, sum_by, Option, Some, None, IsSomeAnd}
+use Rattle.std.specs.List.{list_any}
 use Rattle.blob_device.specs.Disk.{Disk}
 use Rattle.blob_device.specs.declared.runtime.RError.TheVariants as runtime
 use Rattle.sealed_pages.specs.Buffer.{extent}
 use Rattle.meta_store.specs.declared.error.Error.TheVariants as metadata
+use Rattle.meta_store.specs.declared.error.Side.{Side}
 use Rattle.segments.specs.declared.journal.Error.TheVariants as journal
+use Rattle.paired.specs.Kept.{IsMarked, content_at}
 use Rattle.paired.specs.Opening.{as_read}
 use Rattle.paired.specs.OpeningRefusing.{AreCounted}
-use Rattle.archives.specs.Commands.{Command, Put, PutSync, PutStart, Multi, MultiSync, MultiStart, Sync, Start, Reopen}
+use Rattle.archives.specs.Changes.{Asked}
+use Rattle.archives.specs.Commands.{Put, PutSync, PutStart, Multi, MultiSync, MultiStart, Get, GetKey, All, Has, HasKey, HasAt, Gap, Missing, Ranges, RangesFrom, First, Last, Sync, Start, Prune, Reopen, Destroy}
 use Rattle.archives.specs.Filing.{Filing}
-use Rattle.archives.specs.Machine.{Entry, State, has_index, section_of}
-use Rattle.archives.specs.Opening.{HasNoVersion}
+use Rattle.archives.specs.Machine.{Entry, State, after_multi, after_put, has_index, section_of}
+use Rattle.archives.specs.Opening.{HasNoVersion, HasStray, IsPastLimits, OfKept}
+use Rattle.archives.specs.Opens.{HasDamagedPage, HasForeign, HasToMove, HaveBadCopy, IsShortOf, OfMarkers}
+use Rattle.archives.specs.Putting.{frame_size}
+use Rattle.archives.specs.Rows.{HasRoom, Row}
+use Rattle.archives.specs.Syncing.{IsMovingBy, IsMovingIn}
 use Rattle.archives.specs.declared.error.Error.{Error}
-use Rattle.archives.specs.declared.error.Error.TheVariants.{Journal, Metadata, Full, Mem}
-use Rattle.archive_service.specs.declared.replies.End.{End}
-use Rattle.archive_service.specs.declared.replies.End.TheVariants.{Done, Failed}
+use Rattle.archives.specs.declared.error.Error.TheVariants.{Journal, Metadata, RecordCorrupted, Full, Mem}
 
--- the device failed, in a call of the records and values, or of the markers
-abbrev pub IsFault : Error → Type 0
-IsFault e = (e ≡ Journal (journal.Runtime runtime.Fault)) ⊎ (e ≡ Metadata (metadata.Runtime runtime.Fault))
+-- ---- what a command is, by name
 
--- where a run failed, its error has P
-abbrev pub IfFailed : End → (Error → Type 0) → Type 0
-IfFailed Done P = ⊤
-IfFailed (Failed e) P = P e
+-- a command that asks, and changes nothing
+abbrev pub IsLookup : Asked → Type 0
+IsLookup (Get i) = ⊤
+IsLookup (GetKey k) = ⊤
+IsLookup (All i) = ⊤
+IsLookup (Has i) = ⊤
+IsLookup (HasKey k) = ⊤
+IsLookup (HasAt i k) = ⊤
+IsLookup (Gap i) = ⊤
+IsLookup (Missing i n) = ⊤
+IsLookup Ranges = ⊤
+IsLookup (RangesFrom i) = ⊤
+IsLookup First = ⊤
+IsLookup Last = ⊤
+IsLookup (Put i k v) = ⊥
+IsLookup (PutSync i k v) = ⊥
+IsLookup (PutStart i k v) = ⊥
+IsLookup (Multi i k v) = ⊥
+IsLookup (MultiSync i k v) = ⊥
+IsLookup (MultiStart i k v) = ⊥
+IsLookup Sync = ⊥
+IsLookup Start = ⊥
+IsLookup (Prune bound) = ⊥
+IsLookup Reopen = ⊥
+IsLookup Destroy = ⊥
 
--- The record that goes last in its section by the step of a put: none where its index is below the floor, nor, of a put that keeps one record
--- at an index, where the index is taken.
-abbrev pub added : ℕ → State (List ℕ) → Command (List ℕ) → Option (Entry (List ℕ))
-added items st (Put i k v) = if nat_lt i st.floor || has_index items st i then None else Some (record { index = i; key = k; value = v })
-added items st (PutSync i k v) = if nat_lt i st.floor || has_index items st i then None else Some (record { index = i; key = k; value = v })
-added items st (PutStart i k v) = if nat_lt i st.floor || has_index items st i then None else Some (record { index = i; key = k; value = v })
-added items st (Multi i k v) = if nat_lt i st.floor then None else Some (record { index = i; key = k; value = v })
-added items st (MultiSync i k v) = if nat_lt i st.floor then None else Some (record { index = i; key = k; value = v })
-added items st (MultiStart i k v) = if nat_lt i st.floor then None else Some (record { index = i; key = k; value = v })
-added items st command = None
+-- What a command puts: nothing, a record where its index is free, or a record in any case.
+pub data PutOf : Type 0 where
+  Nothing : PutOf
+  IfFree : Entry (List ℕ) → PutOf
+  InAnyCase : Entry (List ℕ) → PutOf
 
--- how many bytes the frame of a value has: its spelling and a seal of four
-abbrev pub frame_size : Entry (List ℕ) → ℕ
-frame_size r = length r.value + 4
+abbrev pub put_of : Asked → PutOf
+put_of (Put i k v) = IfFree (record { index = i; key = k; value = v })
+put_of (PutSync i k v) = IfFree (record { index = i; key = k; value = v })
+put_of (PutStart i k v) = IfFree (record { index = i; key = k; value = v })
+put_of (Multi i k v) = InAnyCase (record { index = i; key = k; value = v })
+put_of (MultiSync i k v) = InAnyCase (record { index = i; key = k; value = v })
+put_of (MultiStart i k v) = InAnyCase (record { index = i; key = k; value = v })
+put_of (Get i) = Nothing
+put_of (GetKey k) = Nothing
+put_of (All i) = Nothing
+put_of (Has i) = Nothing
+put_of (HasKey k) = Nothing
+put_of (HasAt i k) = Nothing
+put_of (Gap i) = Nothing
+put_of (Missing i n) = Nothing
+put_of Ranges = Nothing
+put_of (RangesFrom i) = Nothing
+put_of First = Nothing
+put_of Last = Nothing
+put_of Sync = Nothing
+put_of Start = Nothing
+put_of (Prune bound) = Nothing
+put_of Reopen = Nothing
+put_of Destroy = Nothing
 
 -- with none under way an archive is opened, as it is by a reopening
-abbrev pub IsOpening : Option (Command (List ℕ)) → Type 0
+abbrev pub IsOpening : Option Asked → Type 0
 IsOpening None = ⊤
-IsOpening (Some Reopen) = ⊤
-IsOpening under_way = ⊥
+IsOpening (Some command) = command ≡ Reopen
 
--- an opening may move markers, and so may a command that syncs
-abbrev pub MayMoveMarkers : Option (Command (List ℕ)) → Type 0
+-- a lookup is under way
+abbrev pub IsLooking : Option Asked → Type 0
+IsLooking None = ⊥
+IsLooking (Some command) = IsLookup command
+
+-- an opening moves markers, and so does a command that syncs or drops sections
+abbrev pub MayMoveMarkers : Option Asked → Type 0
 MayMoveMarkers None = ⊤
 MayMoveMarkers (Some (PutSync i k v)) = ⊤
 MayMoveMarkers (Some (PutStart i k v)) = ⊤
@@ -59,65 +101,300 @@ MayMoveMarkers (Some (MultiSync i k v)) = ⊤
 MayMoveMarkers (Some (MultiStart i k v)) = ⊤
 MayMoveMarkers (Some Sync) = ⊤
 MayMoveMarkers (Some Start) = ⊤
+MayMoveMarkers (Some (Prune bound)) = ⊤
 MayMoveMarkers (Some Reopen) = ⊤
-MayMoveMarkers under_way = ⊥
+MayMoveMarkers (Some Destroy) = ⊤
+MayMoveMarkers (Some (Put i k v)) = ⊥
+MayMoveMarkers (Some (Multi i k v)) = ⊥
+MayMoveMarkers (Some (Get i)) = ⊥
+MayMoveMarkers (Some (GetKey k)) = ⊥
+MayMoveMarkers (Some (All i)) = ⊥
+MayMoveMarkers (Some (Has i)) = ⊥
+MayMoveMarkers (Some (HasKey k)) = ⊥
+MayMoveMarkers (Some (HasAt i k)) = ⊥
+MayMoveMarkers (Some (Gap i)) = ⊥
+MayMoveMarkers (Some (Missing i n)) = ⊥
+MayMoveMarkers (Some Ranges) = ⊥
+MayMoveMarkers (Some (RangesFrom i)) = ⊥
+MayMoveMarkers (Some First) = ⊥
+MayMoveMarkers (Some Last) = ⊥
+
+-- ---- which commands stage a change of the markers
+
+-- Over the disk, where `Moves` says that a sync behind what is put has to move a marker. A prune drops the markers below its bound. A destroy stages
+-- nothing, since it removes the markers whole.
+module _ (f : Filing) (Moves : PutOf → Type 0) (d : Disk) where
+  abbrev pub Stages : Asked → Type 0
+  Stages (PutSync i k v) = Moves (put_of (PutSync i k v))
+  Stages (PutStart i k v) = Moves (put_of (PutStart i k v))
+  Stages (MultiSync i k v) = Moves (put_of (MultiSync i k v))
+  Stages (MultiStart i k v) = Moves (put_of (MultiStart i k v))
+  Stages Sync = Moves Nothing
+  Stages Start = Moves Nothing
+  Stages Reopen = OfMarkers f d (HasToMove f d)
+  Stages (Prune bound) = OfMarkers f d (λ markers. (s m : ℕ) × IsMarked markers s m × (s < section_of f.items bound))
+  Stages Destroy = ⊥
+  Stages (Put i k v) = ⊥
+  Stages (Multi i k v) = ⊥
+  Stages (Get i) = ⊥
+  Stages (GetKey k) = ⊥
+  Stages (All i) = ⊥
+  Stages (Has i) = ⊥
+  Stages (HasKey k) = ⊥
+  Stages (HasAt i k) = ⊥
+  Stages (Gap i) = ⊥
+  Stages (Missing i n) = ⊥
+  Stages Ranges = ⊥
+  Stages (RangesFrom i) = ⊥
+  Stages First = ⊥
+  Stages Last = ⊥
+
+  -- so does what is under way; an opening as a reopening does
+  abbrev pub StagesNow : Option Asked → Type 0
+  StagesNow None = Stages Reopen
+  StagesNow (Some command) = Stages command
+
+-- ---- what a put finds
+
+-- nothing is put: the archive is closed, or the index is below the floor
+abbrev pub drops : Bool → ℕ → ℕ → Bool
+drops is_open floor index = not is_open || nat_lt index floor
+
+-- Of a record that is put to lists by section, whose values have so many bytes of each section.
+module _ {X : Type 0} (f : Filing) (lists : ℕ → List X) (bytes : ℕ → ℕ) (r : Entry (List ℕ)) where
+  -- with the record one section, or the records of its section, would be one more than the limits allow
+  abbrev pub IsOverLimits : Type 0
+  IsOverLimits = HasRoom f.most_sections f.most_records lists (section_of f.items r.index) → ⊥
+
+  -- a u32 does not count the bytes of its frame
+  abbrev pub IsTooLarge : Type 0
+  IsTooLarge = 2 ^ 32 - 1 < frame_size f.layout r.value
+
+  -- the records of its section, with both slots of their last page, or the frames of its values, would pass 2^64
+  abbrev pub PassesNumbers : Type 0
+  PassesNumbers = (2 ^ 64 ≤ extent f.layout.page_size ((length (lists (section_of f.items r.index)) + 1) * f.layout.record_size))
+      ⊎ (2 ^ 64 ≤ bytes (section_of f.items r.index) + frame_size f.layout r.value)
+
+  -- Why a put of the record is refused, in this order.
+  abbrev pub IsFull : Type 0
+  IsFull = IsOverLimits ⊎ ((IsTooLarge → ⊥) × PassesNumbers)
+
+  pub record IsLargeAlone : Type 0 where
+    -- the limits allow it,
+    pub allowed : IsOverLimits → ⊥
+    -- and its frame is too large
+    pub large : IsTooLarge
+
+-- ---- by the state of the machine
 
 module _ (f : Filing) (st : State (List ℕ)) where
-  -- fewer sections than the limit keep a record
-  abbrev pub HasSectionsLeft : Type 0
-  HasSectionsLeft = (ss : List ℕ) → IsStrictlySortedBy nat_cmp ss → AllByRecursion (λ s. st.lists s ≢ []) ss → length ss < f.most_sections
+  -- The record that goes last in its section by the step of a put: none where the archive is closed, or its index is below the floor, nor, of a put
+  -- that keeps one record at an index, where the index is taken.
+  abbrev pub added_by : PutOf → Option (Entry (List ℕ))
+  added_by Nothing = None
+  added_by (IfFree r) = if drops st.is_open st.floor r.index || has_index f.items st r.index then None else Some r
+  added_by (InAnyCase r) = if drops st.is_open st.floor r.index then None else Some r
 
-  -- one record more in the section passes neither limit
-  abbrev pub HasRoom : ℕ → Type 0
-  HasRoom s = ((st.lists s ≢ []) × (length (st.lists s) < f.most_records)) ⊎ ((st.lists s ≡ []) × HasSectionsLeft)
-
-  module _ (r : Entry (List ℕ)) where
-    -- with the record one section, or the records of its section, would be one more than the limits allow
-    abbrev pub IsOverLimits : Type 0
-    IsOverLimits = HasRoom (section_of f.items r.index) → ⊥
-
-    -- a u32 does not count the bytes of its frame
-    abbrev pub IsTooLarge : Type 0
-    IsTooLarge = 2 ^ 32 - 1 < frame_size r
-
-    -- with the record, the pages of its section's records, or the frames of its section's values, would pass 2^64
-    abbrev pub HasNoPlace : Type 0
-    HasNoPlace = (2 ^ 64 ≤ extent f.layout.page_size ((length (st.lists (section_of f.items r.index)) + 1) * f.layout.record_size))
-        ⊎ (2 ^ 64 ≤ sum (map frame_size (st.lists (section_of f.items r.index))) + frame_size r)
-
-    -- Why a put of the record is refused, in this order.
-    abbrev pub IsRefusedAsFull : Type 0
-    IsRefusedAsFull = IsOverLimits ⊎ ((IsTooLarge → ⊥) × HasNoPlace)
-
-    pub record IsRefusedAsTooLarge : Type 0 where
-      pub allowed : IsOverLimits → ⊥
-      pub large : IsTooLarge
+  abbrev pub added : Asked → Option (Entry (List ℕ))
+  added command = added_by (put_of command)
 
   -- the record that the command under way adds, if it adds one, has P
-  abbrev pub Adds : Option (Command (List ℕ)) → (Entry (List ℕ) → Type 0) → Type 0
+  abbrev pub Adds : Option Asked → (Entry (List ℕ) → Type 0) → Type 0
   Adds None P = ⊥
-  Adds (Some command) P = IsSomeAnd (added f.items st command) P
+  Adds (Some command) P = IsSomeAnd (added command) P
 
-  -- the command is one that is refused, whatever the device does
-  abbrev pub MustRefuse : Command (List ℕ) → Type 0
-  MustRefuse command = Adds (Some command) (λ r. IsRefusedAsFull r ⊎ IsRefusedAsTooLarge r)
+  -- how many bytes the frames of a section's values have
+  abbrev pub framed : ℕ → ℕ
+  framed s = sum_by (λ r. frame_size f.layout r.value) (st.lists s)
 
-  -- the error refuses the put that was under way
-  abbrev pub RefusesPut : Option (Command (List ℕ)) → Error → Type 0
-  RefusesPut under_way e = ((e ≡ Full) × Adds under_way IsRefusedAsFull) ⊎ ((e ≡ Journal journal.ValueTooLarge) × Adds under_way IsRefusedAsTooLarge)
+  -- why a put of the record is refused
+  abbrev pub IsRefusedAsFull : Entry (List ℕ) → Type 0
+  IsRefusedAsFull r = IsFull f st.lists framed r
+
+  abbrev pub IsRefusedAsTooLarge : Entry (List ℕ) → Type 0
+  IsRefusedAsTooLarge r = IsLargeAlone f st.lists framed r
+
+  -- the state with what is put; a closed one stays
+  abbrev pub with_put_of : PutOf → State (List ℕ)
+  with_put_of Nothing = st
+  with_put_of (IfFree r) = if st.is_open then after_put f.items r.index r.key r.value st else st
+  with_put_of (InAnyCase r) = if st.is_open then after_multi f.items r.index r.key r.value st else st
+
+  -- Over the disk, the command has to move a marker, or what is under way has: the put has settled, if it is one.
+  abbrev pub MustMove : Disk → Asked → Type 0
+  MustMove d = Stages f (λ put. IsMovingIn f d (with_put_of put)) d
+
+  abbrev pub MustMoveNow : Disk → Option Asked → Type 0
+  MustMoveNow d = StagesNow f (λ put. IsMovingIn f d (with_put_of put)) d
+
+  -- What is under way has to call the markers: an opening reads them, a destroy removes them, and others move one.
+  abbrev pub MustTouchMarkers : Disk → Option Asked → Type 0
+  MustTouchMarkers d under_way = IsOpening under_way ⊎ ((under_way ≡ Some Destroy) ⊎ MustMoveNow d under_way)
+
+  -- The command is one that is refused, whatever the device does: a put, or one that has to move a marker where the markers have no next version.
+  abbrev pub MustRefuse : Disk → Asked → Type 0
+  MustRefuse d command = Adds (Some command) (λ r. IsRefusedAsFull r ⊎ IsRefusedAsTooLarge r) ⊎ (MustMove d command × HasNoVersion f.layout d)
+
+  -- the error refuses the put
+  abbrev pub RefusesPut : Asked → Error → Type 0
+  RefusesPut command e = ((e ≡ Full) × Adds (Some command) IsRefusedAsFull) ⊎ ((e ≡ Journal journal.ValueTooLarge) × Adds (Some command) IsRefusedAsTooLarge)
 
   -- What an error says of a state that a lawful image has led to, where it ends the command that was then under way, or, with none under
-  -- way, the opening. `from` is the disk as the command began, and the numbers are the device's counts of faults before and after.
-  module _ (under_way : Option (Command (List ℕ))) (from : Disk) (faults_old faults_new : ℕ) where
+  -- way, the opening. `from` is the disk as the command began.
+  module _ (under_way : Option Asked) (from : Disk) where
     abbrev pub IsCause : Error → Type 0
     -- want of memory is free
     IsCause Mem = ⊤
-    -- the device failed
-    IsCause (Journal (journal.Runtime runtime.Fault)) = Rose faults_old faults_new
-    IsCause (Metadata (metadata.Runtime runtime.Fault)) = MayMoveMarkers under_way × Rose faults_old faults_new
+    -- the device failed, and counted it; in a call of the markers only where one has to be made
+    IsCause (Journal (journal.Runtime runtime.Fault)) = ⊤
+    IsCause (Metadata (metadata.Runtime runtime.Fault)) = MustTouchMarkers from under_way
     -- a put of such a value
     IsCause (Journal journal.ValueTooLarge) = Adds under_way IsRefusedAsTooLarge
     -- a put that passes a limit or a number, or a marker to move where the markers have no next version
-    IsCause Full = Adds under_way IsRefusedAsFull ⊎ (MayMoveMarkers under_way × HasNoVersion f.layout from)
-    -- No other comes, but perhaps of an opening where an index blob ends within one page, with its slots, of 2^64 bytes.
-    IsCause e = IsOpening under_way × (AreCounted f.layout (as_read from) → ⊥)
+    IsCause Full = Adds under_way IsRefusedAsFull ⊎ (MustMoveNow from under_way × HasNoVersion f.layout from)
+    -- of an opening where an index blob ends within one page, with its slots, of 2^64 bytes
+    IsCause (Journal (journal.Runtime runtime.OffsetOverflow)) = IsOpening under_way × (AreCounted f.layout (as_read from) → ⊥)
+    -- no other comes
+    IsCause e = ⊥
+
+-- ---- over any image
+
+-- What an archive knows of itself, and of each section.
+pub record Held : Type 0 where
+  -- it is open, and not destroyed
+  pub is_open : Bool
+  -- below this index all was pruned
+  pub floor : ℕ
+  -- a row for each record
+  pub rows : ℕ → List Row
+  -- how many bytes its values have
+  pub bytes : ℕ → ℕ
+  -- how many records are synced
+  pub synced : ℕ → ℕ
+  -- how many bytes of its records, and of its values, are not flushed
+  pub record_tail : ℕ → ℕ
+  pub value_tail : ℕ → ℕ
+
+-- what is known of an archive that was not opened
+abbrev pub holding_nothing : Held
+holding_nothing = record {
+  is_open = true;
+  floor = 0;
+  rows = λ s. [];
+  bytes = λ s. 0;
+  synced = λ s. 0;
+  record_tail = λ s. 0;
+  value_tail = λ s. 0;
+}
+
+-- the row of what is put, if anything is
+abbrev pub row_by : PutOf → List Row
+row_by Nothing = []
+row_by (IfFree r) = record { index = r.index; key = r.key } ∷ []
+row_by (InAnyCase r) = record { index = r.index; key = r.key } ∷ []
+
+module _ (f : Filing) where
+  -- how many bytes its frame has
+  abbrev pub frame_by : PutOf → ℕ
+  frame_by Nothing = 0
+  frame_by (IfFree r) = frame_size f.layout r.value
+  frame_by (InAnyCase r) = frame_size f.layout r.value
+
+  module _ (held : Held) where
+    -- a record has the index
+    abbrev pub holds : ℕ → Bool
+    holds index = list_any (λ r. r.index == index) (held.rows (section_of f.items index))
+
+    -- what is put at the index is dropped
+    abbrev pub skips : ℕ → Bool
+    skips index = drops held.is_open held.floor index
+
+    -- a record is added to the section: that of the index, unless it is dropped, where the index is free or need not be
+    abbrev pub adds_to : PutOf → ℕ → Bool
+    adds_to Nothing s = false
+    adds_to (IfFree r) s = not (skips r.index || holds r.index) && (s == section_of f.items r.index)
+    adds_to (InAnyCase r) s = not (skips r.index) && (s == section_of f.items r.index)
+
+    -- the rows of a section then, and how many bytes its values have
+    abbrev pub rows_with : PutOf → ℕ → List Row
+    rows_with put s = if adds_to put s then held.rows s ++ row_by put else held.rows s
+
+    abbrev pub bytes_with : PutOf → ℕ → ℕ
+    bytes_with put s = if adds_to put s then held.bytes s + frame_by put else held.bytes s
+
+    -- the put of a record is refused by what is held, as by a state: at the limits, for its size, or for a number
+    abbrev pub IsPastAll : Entry (List ℕ) → Type 0
+    IsPastAll r = IsFull f held.rows held.bytes r
+
+    abbrev pub IsPastSizeAlone : Entry (List ℕ) → Type 0
+    IsPastSizeAlone r = IsLargeAlone f held.rows held.bytes r
+
+    -- Surely so: a number is passed only in a section that has rows, since the first record of one passes none.
+    abbrev pub IsSurelyFull : Entry (List ℕ) → Type 0
+    IsSurelyFull r = IsPastAll r × (IsOverLimits f held.rows held.bytes r ⊎ (held.rows (section_of f.items r.index) ≢ []))
+
+    -- something is put and not dropped, at an index that has to be free where it must be, and the record has P
+    abbrev pub PutsBy : PutOf → (Entry (List ℕ) → Type 0) → Type 0
+    PutsBy Nothing P = ⊥
+    PutsBy (IfFree r) P = ((skips r.index || holds r.index) ≡ false) × P r
+    PutsBy (InAnyCase r) P = (skips r.index ≡ false) × P r
+
+    abbrev pub PutsHere : Option Asked → (Entry (List ℕ) → Type 0) → Type 0
+    PutsHere None P = ⊥
+    PutsHere (Some command) P = PutsBy (put_of command) P
+
+    -- Over the disk, what is under way has to move a marker. It is an opening, or it syncs where a section with all its records synced has another marker.
+    abbrev pub MustMoveHeld : Disk → Option Asked → Type 0
+    MustMoveHeld d = StagesNow f (λ put. IsMovingBy f d (λ s. length (rows_with put s)) held.synced) d
+
+  -- a blob of records ends within one page, with its slots, of 2^64 bytes
+  abbrev pub HasLongBlob : Disk → Type 0
+  HasLongBlob d = (s : ℕ) × (2 ^ 64 ≤ length (content_at (as_read d) f.layout.index s) + (f.layout.page_size + 12))
+
+  -- the disk has what an opening refuses: a bad copy of the markers, a foreign name, a record in another section than its index, or more than the limits
+  abbrev pub IsUnfit : Disk → Type 0
+  IsUnfit d = ((side : Side) × HaveBadCopy f d side) ⊎ (((name : List ℕ) × HasForeign f d name)
+      ⊎ (OfKept f (as_read d) (HasStray f.items) ⊎ OfKept f (as_read d) (IsPastLimits f.most_sections f.most_records)))
+
+  -- Over the disk, from any image on, the command is one that is refused, whatever the device does: a put, one that has to move a marker where the markers
+  -- have no next version, or a reopening of an unfit disk.
+  abbrev pub MustRefuseAnywhere : Held → Disk → Asked → Type 0
+  MustRefuseAnywhere held d command = PutsHere held (Some command) (λ r. IsSurelyFull held r ⊎ IsPastSizeAlone held r)
+      ⊎ ((MustMoveHeld held d (Some command) × HasNoVersion f.layout d) ⊎ ((command ≡ Reopen) × IsUnfit d))
+
+  -- the error refuses the put
+  abbrev pub RefusesAnywhere : Held → Asked → Error → Type 0
+  RefusesAnywhere held command e = ((e ≡ Full) × PutsHere held (Some command) (IsSurelyFull held))
+      ⊎ ((e ≡ Journal journal.ValueTooLarge) × PutsHere held (Some command) (IsPastSizeAlone held))
+
+  -- Why an error ends what was under way, from any image on, where the store held so much. `from` is the disk as it began, and `to` as it ended. Which
+  -- stored bytes a lookup met is not said here.
+  module _ (held : Held) (under_way : Option Asked) (from to : Disk) where
+    abbrev pub IsCauseAnywhere : Error → Type 0
+    -- want of memory is free
+    IsCauseAnywhere Mem = ⊤
+    -- the device failed, and counted it
+    IsCauseAnywhere (Journal (journal.Runtime runtime.Fault)) = ⊤
+    IsCauseAnywhere (Metadata (metadata.Runtime runtime.Fault)) = MayMoveMarkers under_way
+    -- a put, of a record at a free index: the limits first, then its size, then the numbers
+    IsCauseAnywhere (Journal journal.ValueTooLarge) = PutsHere held under_way (IsPastSizeAlone held)
+    -- or an opening that keeps more than the limits, or a marker to move where the markers have no next version
+    IsCauseAnywhere Full = PutsHere held under_way (IsPastAll held)
+        ⊎ ((IsOpening under_way × OfKept f (as_read from) (IsPastLimits f.most_sections f.most_records))
+        ⊎ (MustMoveHeld held from under_way × HasNoVersion f.layout from))
+    -- the copies of the markers, a name, or a record that is kept in another section than its index
+    IsCauseAnywhere (Metadata (metadata.Corruption side)) = IsOpening under_way × HaveBadCopy f from side
+    IsCauseAnywhere (Journal (journal.InvalidBlobName name)) = IsOpening under_way × HasForeign f from name
+    IsCauseAnywhere RecordCorrupted = IsOpening under_way × OfKept f (as_read from) (HasStray f.items)
+    -- a section has less than its marker says
+    IsCauseAnywhere (Journal (journal.Corruption x)) = IsOpening under_way × OfMarkers f from (λ markers. IsShortOf f from markers x)
+    IsCauseAnywhere (Journal (journal.Runtime (runtime.InvalidChecksum k))) =
+        (IsOpening under_way × OfMarkers f from (λ markers. HasDamagedPage f to markers k)) ⊎ IsLooking under_way
+    IsCauseAnywhere (Journal (journal.Runtime runtime.OffsetOverflow)) = (IsOpening under_way × HasLongBlob to) ⊎ IsLooking under_way
+    -- stored bytes that a lookup met
+    IsCauseAnywhere (Journal (journal.Runtime runtime.BlobInsufficientLength)) = IsLooking under_way
+    IsCauseAnywhere (Journal (journal.SectionOutOfRange n)) = IsLooking under_way
+    IsCauseAnywhere (Journal (journal.ChecksumMismatch stored computed)) = IsLooking under_way
+    IsCauseAnywhere (Journal (journal.Codec e)) = IsLooking under_way
+    -- no other comes
+    IsCauseAnywhere e = ⊥

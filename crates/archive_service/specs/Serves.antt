@@ -1,32 +1,20 @@
--- What a run of commands over an archive promises: its replies are a run of the record machine, and at every moment, whatever becomes of it,
+-- What a run of commands over a store promises: its replies are a run of the kind's machine, and at every moment, whatever becomes of it,
 -- each crash leaves a lawful image that stands for what was submitted, with all that was synced.
-use Rattle.std.specs.Prelude.{◌≡◌, ◌⊎◌, ℕ, zero, suc, ◌+◌, ◌*◌, ◌≤◌, ◌<◌, ⊤, List, [], ◌∷◌, ◌++◌, length, get_or, slice_get, Option, Some, None, Result, Ok, Err}
-use Rattle.blob_device.specs.Disk.{Image, Key}
+use Rattle.std.specs.Prelude.{◌≡◌, ◌≢◌, ◌⊎◌, ⊤, ℕ, zero, suc, ◌+◌, ◌*◌, ◌≤◌, ◌<◌, List, [], ◌∷◌, ◌++◌, length, get_or, slice_get, Option, Some, None, Result, Ok, Err}
+use Rattle.blob_device.specs.Counts.{Rose}
+use Rattle.blob_device.specs.Disk.{Disk, Key, NothingPending}
+use Rattle.blob_device.specs.Footprint.{Footprint, NoBound}
 use Rattle.blob_device.specs.Timeline.{Timeline, disk, Stretches}
-use Rattle.segments.specs.Sections.{section_key}
-use Rattle.paired.specs.Kept.{Markers}
+use Rattle.blob_device.specs.declared.device.Device as device
 use Rattle.paired.specs.Opening.{as_read}
-use Rattle.archives.specs.Commands.{Command, Get, GetKey, Has, HasKey, Put, Reopen}
-use Rattle.archives.specs.Filing.{Filing}
-use Rattle.archives.specs.Machine.{State, Step, section_of}
-use Rattle.archives.specs.Replies.{Reply}
-use Rattle.archives.specs.Standing.{IsStart, Leaves}
+use Rattle.archives.specs.Changes.{Asked, Replied}
+use Rattle.archives.specs.Commands.{Reopen}
+use Rattle.archives.specs.Refusing.{IsFault}
 use Rattle.archives.specs.declared.error.Error.{Error}
 use Rattle.archives.specs.declared.error.Error.TheVariants.{Mem}
-use Rattle.archive_service.specs.Causes.{IsCause, MustRefuse, RefusesPut}
+use Rattle.archive_service.specs.Kinds.{Answers, Kind, Serving}
 use Rattle.archive_service.specs.declared.replies.End.{End}
 use Rattle.archive_service.specs.declared.replies.End.TheVariants.{Done, Failed}
-
--- commands and replies with keys as their bytes, and values as spelled
-abbrev pub Asked : Type 0
-Asked = Command (List ℕ)
-
-abbrev pub Replied : Type 0
-Replied = Reply (List ℕ)
-
--- the image as the disk read when so many calls were made
-abbrev pub read_at : Timeline → ℕ → Image
-read_at t calls = as_read (t.at (2 * calls))
 
 -- The call is cut into stretches. Stretch 0 goes from its beginning to the first mark: the archive is opened, and no command is under way.
 -- Stretch i + 1 goes from mark i to the next one, or to the end: command i is under way, for good where it ends in an error.
@@ -35,7 +23,7 @@ under_way commands zero = None
 under_way commands (suc i) = slice_get commands i
 
 -- the state in a stretch is the one after the replies before it
-abbrev pub state_in : (ℕ → State (List ℕ)) → ℕ → State (List ℕ)
+abbrev pub state_in : {St : Type 0} → (ℕ → St) → ℕ → St
 state_in states zero = states 0
 state_in states (suc i) = states i
 
@@ -49,78 +37,134 @@ abbrev pub Begun : End → ℕ → ℕ → ℕ → Type 0
 Begun Done commands marks replies = (marks ≡ commands) × (replies ≡ commands)
 Begun (Failed e) commands marks replies = (marks ≤ commands) × ((marks ≡ replies + 1) ⊎ ((marks ≡ replies) × ((e ≡ Mem) ⊎ (replies ≡ 0))))
 
--- a command that asks, and changes nothing
-abbrev pub IsLookup : Asked → Type 0
-IsLookup (Get index) = ⊤
-IsLookup (GetKey key) = ⊤
-IsLookup (Has index) = ⊤
-IsLookup (HasKey key) = ⊤
-IsLookup command = ⊥
-
--- one of the two blobs of the section of an index
-abbrev pub IsBlobAt : Filing → ℕ → Key → Type 0
-IsBlobAt f index q = (q ≡ section_key f.layout.index (section_of f.items index)) ⊎ (q ≡ section_key f.layout.values (section_of f.items index))
-
--- While a lookup is under way, to the start of the next command or to the end of the call, no blob's history changes: nothing is written and
--- nothing synced, neither before the next command nor at the end. While a put that does not sync is, none changes but those of the two blobs of
--- its section.
-pub record Looks (f : Filing) (old new : Timeline) (commands : List Asked) (marks : List ℕ) : Type 0 where
-  pub still : (i : ℕ) (command : Asked) → i < length marks → slice_get commands i ≡ Some command → IsLookup command
-      → (m : ℕ) → 2 * begin old new marks (i + 1) ≤ m → m ≤ 2 * begin old new marks (i + 2) → new.at m ≡ new.at (2 * begin old new marks (i + 1))
-  pub puts : (i index : ℕ) (key value : List ℕ) → i < length marks → slice_get commands i ≡ Some (Put index key value)
-      → (m : ℕ) → 2 * begin old new marks (i + 1) ≤ m → m ≤ 2 * begin old new marks (i + 2)
-      → (q : Key) → (IsBlobAt f index q → ⊥) → new.at m q ≡ new.at (2 * begin old new marks (i + 1)) q
+-- where a run failed, its error has P
+abbrev pub IfFailed : End → (Error → Type 0) → Type 0
+IfFailed Done P = ⊤
+IfFailed (Failed e) P = P e
 
 -- how a run ended, by what its function answered
 abbrev pub end_of : Result Unit Error → End
 end_of (Ok done) = Done
 end_of (Err e) = Failed e
 
-module _ (f : Filing) where
-  -- The replies are those of a run of the machine over the first of the commands: state i is the one after i replies. What is held after a
-  -- `Reopen` is what the image kept as it read at the command's first moment, so that its cut is no free choice. And no command got a reply
-  -- that has to be refused.
-  pub record IsRun (first_moment : ℕ → Image) (commands : List Asked) (replies : List Replied) (states : ℕ → State (List ℕ)) : Type 0 where
+-- the disk at which stretch i begins
+abbrev pub disk_at : Timeline → Timeline → List ℕ → ℕ → Disk
+disk_at old new marks i = new.at (2 * begin old new marks i)
+
+-- From one moment of a timeline to another, each blob but these stays as it was at the first.
+abbrev pub StaysBut : Timeline → ℕ → ℕ → (Key → Type 0) → Type 0
+StaysBut t from to MayChange = (m : ℕ) → from ≤ m → m ≤ to → (q : Key) → (MayChange q → ⊥) → t.at m q ≡ t.at from q
+
+module _ (k : Kind) where
+  -- The replies are those of a run over the first of the commands: state i is the one after i replies. What is held after a `Reopen` is what an opening
+  -- of the image comes to, as it read at the command's first moment, so that its cut is no free choice. And no command got a reply that has to be
+  -- refused. `first i` is the disk at the first moment of command i.
+  pub record IsRun (first : ℕ → Disk) (commands : List Asked) (replies : List Replied) (states : ℕ → k.State) : Type 0 where
+    -- no more replies than commands
     pub enough : length replies ≤ length commands
-    pub steps : (i : ℕ) (command : Asked) (reply : Replied) → slice_get commands i ≡ Some command → slice_get replies i ≡ Some reply
-        → Step f.items (states i) command reply (states (i + 1))
-    pub reopened : (i : ℕ) → i < length replies → slice_get commands i ≡ Some Reopen → (markers : Markers) × IsStart f (first_moment i) markers (states (i + 1))
-    pub allowed : (i : ℕ) (command : Asked) → i < length replies → slice_get commands i ≡ Some command → MustRefuse f (states i) command → ⊥
+    -- each reply is a step
+    pub steps : (i : ℕ) (command : Asked) (reply : Replied) → slice_get commands i ≡ Some command
+        → slice_get replies i ≡ Some reply
+        → k.Step (states i) command reply (states (i + 1))
+    -- a reopening comes to the start state of what the disk kept
+    pub reopened : (i : ℕ) → i < length replies → slice_get commands i ≡ Some Reopen
+        → k.IsStart (as_read (first i)) (states (i + 1))
+    -- no command was answered that has to be refused
+    pub allowed : (i : ℕ) (command : Asked) → i < length replies
+        → slice_get commands i ≡ Some command → k.MustRefuse (states i) (first i) command → ⊥
 
-  -- The headline.
-  pub record Serves (faults_old faults_new : ℕ) (old new : Timeline) (commands : List Asked) (marks : List ℕ) (replies : List Replied) (end : End) : Type 0 where
-    -- the state after each reply
-    pub states : ℕ → State (List ℕ)
-    -- The first one is the start state of the image as it read: what it keeps counts as submitted and synced.
-    pub markers : Markers
-    pub start : IsStart f (as_read (disk old)) markers (states 0)
-    -- The replies are a run of the machine from there.
-    pub run : IsRun (λ i. read_at new (begin old new marks (i + 1))) commands replies states
+  module _ (old new : Timeline) (commands : List Asked) (marks : List ℕ) where
+    -- The headline. The numbers are the device's counts of faults before and after.
+    pub record Serves (faults_old faults_new : ℕ) (replies : List Replied) (end : End) : Type 0 where
+      -- the state after each reply
+      pub states : ℕ → k.State
+      -- So many commands were begun, as over any device.
+      pub begun : Begun end (length commands) (length marks) (length replies)
+      -- The first one is the start state of the image as it read: what it keeps counts as submitted and synced.
+      pub start : k.IsStart (as_read (disk old)) (states 0)
+      -- Where the opening was done, it did not have to be refused.
+      pub allowed : (marks ≢ []) ⊎ (end ≡ Done) → k.MustRefuse (states 0) (disk old) Reopen → ⊥
+      -- The replies are a run from there.
+      pub run : IsRun (λ i. disk_at old new marks (i + 1)) commands replies states
+      -- At every moment, from the beginning of the call to its end, inside each call of the device, and after an error as well, each image that a
+      -- crash leaves without a chance seal is lawful and stands for the state at that moment with the command under way.
+      pub moments : Stretches old new (old.calls ∷ marks) (λ i. k.Leaves (state_in states i) (under_way commands i))
+      -- Where each command that was begun has its reply, the end stands for the state behind the last of them, with none under way.
+      pub rest : length marks ≡ length replies → k.Leaves (states (length replies)) None (disk new)
+      -- An error has its cause, by the state and the command at which it came. Want of memory is free. A fault is the device's.
+      pub stopped : (e : Error) → end ≡ Failed e → e ≢ Mem
+          → k.IsCause (state_in states (length marks)) (under_way commands (length marks)) (disk_at old new marks (length marks)) e
+      pub fault : IfFailed end (λ e. IsFault e → Rose faults_old faults_new)
+      -- A refusal writes nothing.
+      pub unwritten : (e : Error) (command : Asked) → end ≡ Failed e → e ≢ Mem
+          → under_way commands (length marks) ≡ Some command
+          → k.Refuses (state_in states (length marks)) command e
+          → StaysBut new (2 * begin old new marks (length marks)) (2 * new.calls) (λ q. ⊥)
+
+    -- From any image on, on a device that tells its disk: of a run that got so many replies.
+    pub record OverAnyImage (replied : ℕ) (end : End) : Type 0 where
+      -- While a command is under way, to the start of the next one or to the end of the call, no blob changes but those that it may change: none by a
+      -- lookup, and by a put that does not sync the two of its section.
+      pub touched : (i : ℕ) (command : Asked) → i < length marks
+          → slice_get commands i ≡ Some command
+          → StaysBut new (2 * begin old new marks (i + 1)) (2 * begin old new marks (i + 2)) (k.MayChange command)
+      -- What the store knows of itself after each reply.
+      pub known : ℕ → k.Known
+      pub found : marks ≢ [] → k.IsFound (disk old) (disk_at old new marks 1) (known 0)
+      pub learns : (i : ℕ) (command : Asked) → i + 1 < length marks
+          → slice_get commands i ≡ Some command
+          → k.Learns (known i) command (disk_at old new marks (i + 1)) (disk_at old new marks (i + 2)) (known (i + 1))
+      -- A command that makes no call of the device ends where it began.
+      pub quiet : (i : ℕ) (command : Asked) → i < length marks → slice_get commands i ≡ Some command
+          → k.IsQuiet (known i) command
+          → begin old new marks (i + 2) ≡ begin old new marks (i + 1)
+      -- By what was known, no command got a reply that has to be refused, nor was an opening done that has to be.
+      pub allowed : (i : ℕ) (command : Asked) → i < replied → slice_get commands i ≡ Some command
+          → k.MustRefuseAnywhere (known i) (disk_at old new marks (i + 1)) command → ⊥
+      pub opened : (marks ≢ []) ⊎ (end ≡ Done) → k.MustRefuseAnywhere k.unknown (disk old) Reopen
+          → ⊥
+      -- An error has its cause by what was known.
+      pub cause : (e : Error) → end ≡ Failed e → e ≢ Mem
+          → k.IsCauseAnywhere (state_in known (length marks)) (under_way commands (length marks)) (disk_at old new marks (length marks)) (disk new) e
+      -- A refusal writes nothing.
+      pub unwritten : (e : Error) (command : Asked) → end ≡ Failed e → e ≢ Mem
+          → under_way commands (length marks) ≡ Some command
+          → k.RefusesAnywhere (state_in known (length marks)) command e
+          → StaysBut new (2 * begin old new marks (length marks)) (2 * new.calls) (λ q. ⊥)
+
+  -- What serving promises of a device, once as it was and once as it is: how many commands were begun, and, over any device, that blobs of others are left
+  -- alone, at every moment and in the list of opened blobs; which blobs each command touched and why it ended, over any image; and the headline, from a
+  -- lawful image on of which nothing is pending.
+  pub record ServesBy {D : Type 0} (dev : device.Ghosts D) (commands : List Asked) (marks : List ℕ) (replies : List Replied) (end : End)
+      (old new : D) : Type 0 where
+    -- So many commands were begun.
     pub begun : Begun end (length commands) (length marks) (length replies)
-    -- At every moment, from the beginning of the call to its end, inside each call of the device, and after an error as well, each image that a
-    -- crash leaves without a chance seal is lawful and stands for the state at that moment with the command under way.
-    pub moments : Stretches old new (old.calls ∷ marks) (λ i. Leaves f (state_in states i) (under_way commands i))
-    -- Where each command that was begun has its reply, the end stands for the state behind the last of them, with none under way.
-    pub rest : length marks ≡ length replies → Leaves f (states (length replies)) None (disk new)
-    -- An error has its cause, by the state and the command at which it came.
-    pub stopped : (e : Error) → end ≡ Failed e
-        → IsCause f (state_in states (length marks)) (under_way commands (length marks)) (new.at (2 * begin old new marks (length marks))) faults_old faults_new e
-    -- A put that is refused writes nothing.
-    pub unwritten : (e : Error) → end ≡ Failed e → RefusesPut f (state_in states (length marks)) (under_way commands (length marks)) e
-        → (m : ℕ) → 2 * begin old new marks (length marks) ≤ m → m ≤ 2 * new.calls → new.at m ≡ new.at (2 * begin old new marks (length marks))
+    -- A fault is the device's.
+    pub fault : IfFailed end (λ e. IsFault e → Rose (dev.faults old) (dev.faults new))
+    -- Blobs of others are left alone.
+    pub footprint : Footprint dev k.IsOwn NoBound old new
+    -- What holds over any image,
+    pub anywhere : dev.Tells
+        → OverAnyImage (dev.time old) (dev.time new) commands marks (length replies) end
+    -- and from a lawful one on.
+    pub serves : dev.Tells → NothingPending (disk (dev.time old))
+        → k.Lawful (as_read (disk (dev.time old)))
+        → Serves (dev.time old) (dev.time new) commands marks (dev.faults old) (dev.faults new) replies end
 
-  -- An archive was opened: it has come to the start state of the image as it read, for which each crash stands.
-  pub record Opened (old new : Timeline) (markers : Markers) (st : State (List ℕ)) : Type 0 where
-    pub start : IsStart f (as_read (disk old)) markers st
-    pub rest : Leaves f st None (disk new)
+-- ---- one command of a run
 
-  -- One command was answered in a state: the reply is a step to the next one, for which each crash then stands.
-  pub record Answered (old new : Timeline) (st : State (List ℕ)) (command : Asked) (reply : Replied) (next : State (List ℕ)) : Type 0 where
-    pub step : Step f.items st command reply next
-    pub reopened : command ≡ Reopen → (markers : Markers) × IsStart f (as_read (disk old)) markers next
-    pub allowed : MustRefuse f st command → ⊥
-    pub rest : Leaves f next None (disk new)
+-- The answer's reply goes last among those so far, unless there is no memory for it.
+abbrev pub KeepsReply : {A : Type 0} → Result (A × Replied) Error → Result A Error → List Replied
+    → List Replied → Type 0
+KeepsReply (Ok r) result old new = ((result ≡ Ok r.0) × (new ≡ old ++ r.1 ∷ [])) ⊎ ((result ≡ Err Mem) × (new ≡ old))
+KeepsReply (Err e) result old new = (result ≡ Err e) × (new ≡ old)
 
--- one reply was added, which has P
-abbrev pub AddsReply : {R : Type 0} → List R → List R → (R → Type 0) → Type 0
-AddsReply {R} old new P = (reply : R) × (new ≡ old ++ reply ∷ []) × P reply
+-- A command of the run was served to the store a: there was no memory for its mark, and nothing was done; or its mark goes last among those so far, it was
+-- answered, and its reply was kept.
+pub data ServesOne {A V D : Type 0} (s : Serving A V) (dev : device.Ghosts D) (a : A) (command : Asked) (result : Result A Error) (old new : D)
+    (marks_old marks_new : List ℕ) (replies_old replies_new : List Replied) : Type 0 where
+  unmarked : result ≡ Err Mem → new ≡ old → marks_new ≡ marks_old → replies_new ≡ replies_old
+      → ServesOne s dev a command result old new marks_old marks_new replies_old replies_new
+  marked : marks_new ≡ marks_old ++ (dev.time old).calls ∷ [] → (answer : Result (A × Replied) Error) → Answers s dev a command answer old new
+      → KeepsReply answer result replies_old replies_new
+      → ServesOne s dev a command result old new marks_old marks_new replies_old replies_new

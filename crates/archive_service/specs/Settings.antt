@@ -39,3 +39,8 @@ module _ (s : Settings) where
     pub value : s.max_value ≤ 65536
     pub limits : AreLimits s.limits
     pub tables : AreForTables
+
+-- these are the settings with which the program runs, and they are valid
+pub record IsUsual (s : Settings) : Type 0 where
+  pub is : s ≡ usual
+  pub valid : AreSettings s

@@ -7,6 +7,8 @@ use Rattle.archives.specs.Filing.{Filing}
 use Rattle.archives.specs.Shown.{filing_for}
 use Rattle.archives.specs.declared.commands.Command as asking
 use Rattle.archives.specs.declared.commands.Command.TheVariants as ask
+use Rattle.archive_service.specs.Kinds.{Kind}
+use Rattle.archive_service.specs.PrunableKind.{prunable_kind}
 use Rattle.archive_service.specs.declared.serving.StoreConfig.{StoreConfig}
 use Rattle.archive_service.specs.declared.serving.StoreConfig.TheVariants.{Prunable}
 
@@ -19,12 +21,24 @@ abbrev pub codec_config_of : {T C : Type 0} → StoreConfig T C → C
 codec_config_of (Prunable cfg) = cfg.codec_config
 
 -- how the archive files its records, with keys of n bytes, under this seal, and values that the codec refuses so
-abbrev pub filing_in : {T S C : Type 0} → ℕ → seal.Ghosts S → (List ℕ → C → Option codec.Error) → StoreConfig T C → Filing
+abbrev pub filing_in : {T S C : Type 0} → ℕ → seal.Ghosts S → (List ℕ → C → Option codec.Error)
+    → StoreConfig T C → Filing
 filing_in n sealing refusal (Prunable cfg) = filing_for n sealing refusal cfg
+
+-- the store as a kind
+abbrev pub kind_in : {T S C : Type 0} → ℕ → seal.Ghosts S → (List ℕ → C → Option codec.Error)
+    → StoreConfig T C → Kind
+kind_in n sealing refusal (Prunable cfg) = prunable_kind (filing_for n sealing refusal cfg) cfg.key_write_buffer cfg.value_write_buffer
 
 -- a value that the command puts, if any, has P
 abbrev pub PutsOnly : {K V : Type 0} → (V → Type 0) → asking.Command K V → Type 0
 PutsOnly P (ask.Put index key value) = P value
 PutsOnly P (ask.PutSync index key value) = P value
 PutsOnly P (ask.PutStart index key value) = P value
-PutsOnly P command = ⊤
+PutsOnly P (ask.Get index) = ⊤
+PutsOnly P (ask.GetKey key) = ⊤
+PutsOnly P (ask.Has index) = ⊤
+PutsOnly P (ask.HasKey key) = ⊤
+PutsOnly P ask.Sync = ⊤
+PutsOnly P ask.Start = ⊤
+PutsOnly P ask.Reopen = ⊤

@@ -6,6 +6,7 @@
 
 mod ended;
 mod error_text;
+mod laws;
 mod marks;
 pub mod plain;
 mod replies;
@@ -18,10 +19,12 @@ mod words;
 
 pub use ended::{Ended, Status};
 pub use error_text::{write_error, write_error_line};
+pub use laws::run_laws;
 pub use marks::Marks;
 pub use replies::{End, Replies, Served};
 pub use script::{Script, ScriptError, read_script, reading_is_exact};
-pub use serving::{StoreConfig, serve};
+pub use serving::{StoreConfig, serve, serve_from};
 pub use settings::Settings;
+pub use store::Store;
 pub use text::{write_bad_line, write_reply};
 pub use words::index_of;

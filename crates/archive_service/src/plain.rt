@@ -13,7 +13,8 @@ use value_codec::{ByteValue, Key, Key8};
 /// The line of a command, without its LF.
 #[tactic(auto, unfolding(crate::specs::Texts::line_of))]
 pub fn line_text(alloc: Global, command: &Command<Key8, ByteValue>) -> Result<String, AllocError>
-    ensures { IfOk result (λ line. string_bytes line ≡ line_of (asked key8_bytes (λ v. v) command.now)) }
+    ensures { IfOk result (λ line. string_bytes line
+        ≡ line_of (asked key8_bytes (λ v. v) command.now)) }
 {
     match command {
         Command::Put(index, key, value) => {
@@ -51,7 +52,8 @@ fn record_text(
     key: &Key8,
     value: &ByteValue,
 ) -> Result<String, AllocError>
-    ensures { IfOk result (λ text. string_bytes text ≡ record_text (index, key8_bytes key.now, value.now)) }
+    ensures { IfOk result (λ text. string_bytes text
+        ≡ record_text (index, key8_bytes key.now, value.now)) }
 {
     let key = hex::encode(alloc, key.as_bytes())?;
     let value = value_word(alloc, value.as_bytes())?;
@@ -74,7 +76,8 @@ pub fn whole_text(
     alloc: Global,
     commands: &[Command<Key8, ByteValue>],
 ) -> Result<String, AllocError>
-    ensures { IfOk result (λ text. string_bytes text ≡ script_text (map (asked key8_bytes (λ v. v)) commands.now)) }
+    ensures { IfOk result (λ text. string_bytes text
+        ≡ script_text (map (asked key8_bytes (λ v. v)) commands.now)) }
 {
     let mut text = String::new(alloc);
     for command in commands {
@@ -91,7 +94,8 @@ pub fn begins_with(
     text: &[u8],
     command: &Command<Key8, ByteValue>,
 ) -> Result<bool, AllocError>
-    ensures { IfOk result (λ yes. IsTrue yes ↔ BeginsWith text.now (line_of (asked key8_bytes (λ v. v) command.now))) }
+    ensures { IfOk result (λ yes. IsTrue yes ↔ BeginsWith text.now (line_of (asked key8_bytes
+        (λ v. v) command.now))) }
 {
     let mut line = line_text(alloc, command)?;
     line.push_str("\n")?;

@@ -92,7 +92,8 @@ fn first_command(
     text: &[u8],
     max_value: u32,
 ) -> Result<Option<(Command<Key8, ByteValue>, &[u8])>, AllocError>
-    ensures { IfOk result (λ found. IsFirstLine max_value text.now (option_map (λ x. (asked key8_bytes (λ v. v) x.0, x.1.now)) found)) }
+    ensures { IfOk result (λ found. IsFirstLine max_value text.now (option_map (λ x.
+        (asked key8_bytes (λ v. v) x.0, x.1.now)) found)) }
 {
     let Some((line, rest)) = cut(text, b'\n') else {
         return Ok(None);
@@ -109,7 +110,8 @@ fn command_of(
     line: &[u8],
     max_value: u32,
 ) -> Result<Option<Command<Key8, ByteValue>>, AllocError>
-    ensures { IfOk result (λ found. IsCommandOf max_value line.now (option_map (asked key8_bytes (λ v. v)) found)) }
+    ensures { IfOk result (λ found. IsCommandOf max_value line.now (option_map (asked key8_bytes
+        (λ v. v)) found)) }
 {
     match cut(line, b' ') {
         None => Ok(lone_command(line)),
@@ -122,7 +124,8 @@ fn command_of(
 
 /// The command that one word says.
 fn lone_command(word: &[u8]) -> Option<Command<Key8, ByteValue>>
-    ensures found { IfSome result (λ command. IsLone (asked key8_bytes (λ v. v) command) × (word.now ≡ line_of (asked key8_bytes (λ v. v) command))) }
+    ensures found { IfSome result (λ command. IsLone (asked key8_bytes (λ v. v) command)
+        × (word.now ≡ line_of (asked key8_bytes (λ v. v) command))) }
     ensures none { IfNone result ((command : Spelled) → IsLone command → word.now ≢ line_of command) }
 {
     if word == b"sync".as_slice() {
@@ -138,8 +141,10 @@ fn lone_command(word: &[u8]) -> Option<Command<Key8, ByteValue>>
 
 /// The command that a name and one word behind it say.
 fn short_command(name: &[u8], word: &[u8]) -> Option<Command<Key8, ByteValue>>
-    ensures found { IfSome result (λ command. IsShort (asked key8_bytes (λ v. v) command) × (name.now ++ 32 ∷ word.now ≡ line_of (asked key8_bytes (λ v. v) command))) }
-    ensures none { IfNone result ((command : Spelled) → IsShort command → name.now ++ 32 ∷ word.now ≢ line_of command) }
+    ensures found { IfSome result (λ command. IsShort (asked key8_bytes (λ v. v) command)
+        × (name.now ++ 32 ∷ word.now ≡ line_of (asked key8_bytes (λ v. v) command))) }
+    ensures none { IfNone result ((command : Spelled) → IsShort command
+        → name.now ++ 32 ∷ word.now ≢ line_of command) }
 {
     if name == b"get".as_slice() {
         Some(Command::Get(index_of(word)?))
@@ -161,9 +166,13 @@ fn put_command(
     words: &[u8],
     max_value: u32,
 ) -> Result<Option<Command<Key8, ByteValue>>, AllocError>
-    ensures found { IfOk result (λ found. IfSome found (λ command. IsLongOf max_value (asked key8_bytes (λ v. v) command) × (name.now ++ 32 ∷ words.now ≡ line_of (asked key8_bytes (λ v. v) command)))) }
+    ensures found { IfOk result (λ found. IfSome found (λ command. IsLongOf max_value
+        (asked key8_bytes (λ v. v) command) × (name.now ++ 32 ∷ words.now
+        ≡ line_of (asked key8_bytes (λ v. v) command)))) }
     // A name with a space in it would be a name and a word.
-    ensures none { AllByRecursion (λ b. b ≢ 32) name.now → IfOk result (λ found. IfNone found ((command : Spelled) → IsLongOf max_value command → name.now ++ 32 ∷ words.now ≢ line_of command)) }
+    ensures none { AllByRecursion (λ b. b ≢ 32) name.now
+        → IfOk result (λ found. IfNone found ((command : Spelled) → IsLongOf max_value command
+        → name.now ++ 32 ∷ words.now ≢ line_of command)) }
 {
     if name == b"put".as_slice() {
         let record = record_of(alloc, words, max_value)?;
@@ -185,7 +194,8 @@ fn record_of(
     words: &[u8],
     max_value: u32,
 ) -> Result<Option<(u64, Key8, ByteValue)>, AllocError>
-    ensures { IfOk result (λ found. IsReading (IsRecord max_value) record_text words.now (option_map (λ r. (r.0, key8_bytes r.1, r.2)) found)) }
+    ensures { IfOk result (λ found. IsReading (IsRecord max_value) record_text words.now (option_map
+        (λ r. (r.0, key8_bytes r.1, r.2)) found)) }
 {
     let Some((index, words)) = cut(words, b' ') else {
         return Ok(None);

@@ -1,19 +1,10 @@
 // Commands in order, each with its mark and its reply.
-ghost use Rattle.std.specs.Prelude.{◌≡◌, ◌⊎◌, ◌≤◌, ◌+◌, ◌∷◌, ◌++◌, ⊤, ℕ, List, [], length, map, IfOk, IfErr, OnOk, Some};
+ghost use Rattle.std.specs.Prelude.{◌≡◌, [], map};
 ghost use Rattle.std.specs.List.{AllByRecursion};
-ghost use Rattle.blob_device.specs.Counts.{Rose};
-ghost use Rattle.blob_device.specs.Disk.{Key, NothingPending};
-ghost use Rattle.blob_device.specs.Timeline.{Always, disk};
-ghost use Rattle.sealed_pages.specs.Reading.{Unchanged};
-ghost use Rattle.paired.specs.Kept.{Markers};
-ghost use Rattle.paired.specs.Opening.{as_read};
-ghost use Rattle.archives.specs.Commands.{Put};
-ghost use Rattle.archives.specs.Lawful.{Lawful};
 ghost use Rattle.archives.specs.Machine.{asked, replied};
-ghost use Rattle.archives.specs.Standing.{Leaves};
-ghost use Rattle.archive_service.specs.Causes.{IfFailed, IsCause, IsFault, RefusesPut};
-ghost use Rattle.archive_service.specs.Serves.{AddsReply, Answered, Begun, IsBlobAt, IsLookup, Looks, Serves, end_of};
-ghost use Rattle.archive_service.specs.Stores.{IsValidStore, PutsOnly, codec_config_of, filing_in};
+ghost use Rattle.archive_service.specs.Kinds.{MayServe};
+ghost use Rattle.archive_service.specs.Serves.{ServesBy, ServesOne, end_of};
+ghost use Rattle.archive_service.specs.Stores.{IsValidStore, PutsOnly, codec_config_of, kind_in};
 
 use crate::store::Store;
 use crate::{End, Marks, Replies, Served};
@@ -29,14 +20,10 @@ pub enum StoreConfig<T, C> {
     Prunable(prunable::Config<T, C>),
 }
 
-// The marks and the replies so far.
-#[derive(Drop)]
-struct Progress<V> {
-    marks: Marks,
-    replies: Replies<V>,
-}
-
 /// Opens the archive, and then serves commands in order. It ends at the first error, also of a lookup, and does not sync at its end.
+///
+/// From a lawful image with nothing pending, what was replied is a run of the machine, and at every moment each crash leaves what it may. From any image,
+/// no blob changes but those that the command under way may change, and an error has its cause. Over any device, a fault is the device's.
 ///
 /// The configuration has to be valid, and each value that is put one that the codec allows. `H` is the hash of archives with a hash table.
 pub fn serve<D, T, K, V, S, H>(
@@ -53,35 +40,37 @@ where
     S: Seal,
     H: Hash32,
     requires valid { IsValidStore store.now }
-    requires values { AllByRecursion (PutsOnly (λ v. V.accepted v (codec_config_of store.now))) commands.now }
+    requires values { AllByRecursion (PutsOnly (λ v. V.accepted v
+        (codec_config_of store.now))) commands.now }
+    ensures { ServesBy (kind_in K.SIZE S.Seal V.refusal store.now) D.Device
+        (map (asked K.key_bytes V.spelling) commands.now) result.marks
+        (map (replied V.spelling) result.replies) result.end dev.old dev.new }
+{
+    match store {
+        StoreConfig::Prunable(cfg) => {
+            serve_from::<prunable::Archive<T, K, V, S>, D>(alloc, dev, cfg, commands)
+        }
+    }
+}
 
-    // From a lawful image with nothing pending, what was replied is a run of the machine, and at every moment each crash leaves what it may.
-    ensures serves { D.Tells → NothingPending (disk (D.time dev.old)) → (markers : Markers) → Lawful (filing_in K.SIZE S.Seal V.refusal store.now) (as_read (disk (D.time dev.old))) markers
-        → Serves (filing_in K.SIZE S.Seal V.refusal store.now) (D.faults dev.old) (D.faults dev.new) (D.time dev.old) (D.time dev.new)
-        (map (asked K.key_bytes V.spelling) commands.now) result.marks (map (replied V.spelling) result.replies) result.end }
-
-    // From any image: no blob changes from a lookup's start to that of the next command or the call's end, and with a put that does not sync none
-    // but its section's two.
-    ensures looks { D.Tells → Looks (filing_in K.SIZE S.Seal V.refusal store.now) (D.time dev.old) (D.time dev.new) (map (asked K.key_bytes V.spelling) commands.now) result.marks }
-
-    // Over any device and any image: how many commands were begun, and that a fault is the device's.
-    ensures begun { Begun result.end (length commands.now) (length result.marks) (length result.replies) }
-    ensures fault { IfFailed result.end (λ e. IsFault e → Rose (D.faults dev.old) (D.faults dev.new)) }
-    ensures faults { D.faults dev.old ≤ D.faults dev.new }
+/// As [`serve`], from a store of any kind.
+pub fn serve_from<A: Store, D: Device>(
+    alloc: Global,
+    dev: &mut D,
+    cfg: &A::Config,
+    commands: &[Command<A::Key, A::Value>],
+) -> Served<A::Value>
+    requires valid { (A.means cfg.now).IsValid }
+    requires values { AllByRecursion (PutsOnly (A.means cfg.now).Accepts) commands.now }
+    ensures { ServesBy (A.means cfg.now).kind D.Device
+        (map (asked A.Key.key_bytes A.Value.spelling) commands.now) result.marks
+        (map (replied A.Value.spelling) result.replies) result.end dev.old dev.new }
 {
     let mut progress = Progress {
         marks: Marks::new(alloc),
         replies: Replies::new(alloc),
     };
-    let done = match store {
-        StoreConfig::Prunable(cfg) => serve_by::<prunable::Archive<T, K, V, S>, D>(
-            alloc,
-            dev,
-            cfg,
-            commands,
-            &mut progress,
-        ),
-    };
+    let done = serve_each::<A, D>(alloc, dev, cfg, commands, &mut progress);
     let Progress { marks, replies } = progress;
     let end = ended(done);
     Served {
@@ -89,6 +78,13 @@ where
         marks,
         end,
     }
+}
+
+// The marks and the replies so far.
+#[derive(Drop)]
+struct Progress<V> {
+    marks: Marks,
+    replies: Replies<V>,
 }
 
 // How the run ended, by what its loop answered.
@@ -101,25 +97,21 @@ fn ended(done: Result<(), Error>) -> End
     }
 }
 
-// Opens an archive of one kind, and serves the commands from it.
-fn serve_by<A: Store, D: Device>(
+// Opens the store, and serves the commands from it.
+fn serve_each<A: Store, D: Device>(
     alloc: Global,
     dev: &mut D,
     cfg: &A::Config,
     commands: &[Command<A::Key, A::Value>],
     progress: &mut Progress<A::Value>,
 ) -> Result<(), Error>
-    requires valid { A.IsValid cfg.now }
-    requires values { AllByRecursion (PutsOnly (A.accepts cfg.now)) commands.now }
+    requires valid { (A.means cfg.now).IsValid }
+    requires values { AllByRecursion (PutsOnly (A.means cfg.now).Accepts) commands.now }
     requires no_marks { progress.old.marks ≡ [] }
     requires no_replies { progress.old.replies ≡ [] }
-    ensures serves { D.Tells → NothingPending (disk (D.time dev.old)) → (markers : Markers) → Lawful (A.filing cfg.now) (as_read (disk (D.time dev.old))) markers
-        → Serves (A.filing cfg.now) (D.faults dev.old) (D.faults dev.new) (D.time dev.old) (D.time dev.new)
-        (map (asked A.Key.key_bytes A.Value.spelling) commands.now) progress.new.marks (map (replied A.Value.spelling) progress.new.replies) (end_of result) }
-    ensures looks { D.Tells → Looks (A.filing cfg.now) (D.time dev.old) (D.time dev.new) (map (asked A.Key.key_bytes A.Value.spelling) commands.now) progress.new.marks }
-    ensures begun { Begun (end_of result) (length commands.now) (length progress.new.marks) (length progress.new.replies) }
-    ensures fault { IfErr result (λ e. IsFault e → Rose (D.faults dev.old) (D.faults dev.new)) }
-    ensures faults { D.faults dev.old ≤ D.faults dev.new }
+    ensures { ServesBy (A.means cfg.now).kind D.Device
+        (map (asked A.Key.key_bytes A.Value.spelling) commands.now) progress.new.marks
+        (map (replied A.Value.spelling) progress.new.replies) (end_of result) dev.old dev.new }
 {
     let mut archive = A::open(alloc, dev, cfg)?;
     for command in commands {
@@ -138,26 +130,14 @@ fn serve_one<A: Store, D: Device>(
     command: &Command<A::Key, A::Value>,
     progress: &mut Progress<A::Value>,
 ) -> Result<A, Error>
-    requires valid { A.IsValid cfg.now }
-    requires usable { A.IsUsable archive cfg.now D.Tells (D.opened dev.old) (disk (D.time dev.old)) }
-    requires value { PutsOnly (A.accepts cfg.now) command.now }
-    ensures usable { IfOk result (λ r. A.IsUsable r cfg.now D.Tells (D.opened dev.new) (disk (D.time dev.new))) }
-    ensures marked { OnOk result (progress.new.marks ≡ progress.old.marks ++ (D.time dev.old).calls ∷ []) }
-    ensures replied { OnOk result (length progress.new.replies ≡ length progress.old.replies + 1) }
-    ensures answered { D.Tells → A.IsSound archive (disk (D.time dev.old)) → IfOk result (λ r. A.IsSound r (disk (D.time dev.new))
-        × AddsReply progress.old.replies progress.new.replies (λ reply. Answered (A.filing cfg.now) (D.time dev.old) (D.time dev.new) (A.state archive (disk (D.time dev.old))) (asked A.Key.key_bytes A.Value.spelling command.now) (replied A.Value.spelling reply) (A.state r (disk (D.time dev.new))))) }
-    // With the mark stored, at every moment, also where it fails, each crash leaves what stands for the state, with this command under way.
-    ensures moments { D.Tells → A.IsSound archive (disk (D.time dev.old)) → progress.new.marks ≡ progress.old.marks ++ (D.time dev.old).calls ∷ [] → Always (D.time dev.old) (D.time dev.new) (Leaves (A.filing cfg.now) (A.state archive (disk (D.time dev.old))) (Some (asked A.Key.key_bytes A.Value.spelling command.now))) }
-    ensures looks { D.Tells → IsLookup (asked A.Key.key_bytes A.Value.spelling command.now) → Unchanged (D.time dev.old) (D.time dev.new) }
-    ensures spares { D.Tells → (index : ℕ) (key value : List ℕ) → asked A.Key.key_bytes A.Value.spelling command.now ≡ Put index key value → Always (D.time dev.old) (D.time dev.new) (λ d. (q : Key) → (IsBlobAt (A.filing cfg.now) index q → ⊥) → d q ≡ (disk (D.time dev.old)) q) }
-    ensures later { D.Tells → Always (D.time dev.old) (D.time dev.new) (λ _. ⊤) }
-    // Where it fails, no mark was stored, and the device was not touched; or the mark was, and no reply.
-    ensures failed { IfErr result (λ e. ((e ≡ Error.Mem) × (dev.new ≡ dev.old) × (progress.new.marks ≡ progress.old.marks) × (progress.new.replies ≡ progress.old.replies))
-        ⊎ ((progress.new.marks ≡ progress.old.marks ++ (D.time dev.old).calls ∷ []) × (progress.new.replies ≡ progress.old.replies))) }
-    ensures cause { D.Tells → A.IsSound archive (disk (D.time dev.old)) → IfErr result (IsCause (A.filing cfg.now) (A.state archive (disk (D.time dev.old))) (Some (asked A.Key.key_bytes A.Value.spelling command.now)) (disk (D.time dev.old)) (D.faults dev.old) (D.faults dev.new)) }
-    ensures unwritten { D.Tells → A.IsSound archive (disk (D.time dev.old)) → IfErr result (λ e. RefusesPut (A.filing cfg.now) (A.state archive (disk (D.time dev.old))) (Some (asked A.Key.key_bytes A.Value.spelling command.now)) e → Unchanged (D.time dev.old) (D.time dev.new)) }
-    ensures fault { IfErr result (λ e. IsFault e → Rose (D.faults dev.old) (D.faults dev.new)) }
-    ensures faults { D.faults dev.old ≤ D.faults dev.new }
+    requires valid { (A.means cfg.now).IsValid }
+    requires usable { MayServe (A.means cfg.now) D.Device archive dev.old }
+    requires value { PutsOnly (A.means cfg.now).Accepts command.now }
+    ensures { ServesOne (A.means cfg.now) D.Device archive
+        (asked A.Key.key_bytes A.Value.spelling command.now) result dev.old dev.new
+        progress.old.marks progress.new.marks
+        (map (replied A.Value.spelling) progress.old.replies)
+        (map (replied A.Value.spelling) progress.new.replies) }
 {
     progress.marks.push(dev.calls())?;
     let (archive, reply) = archive.answer(alloc, dev, cfg, command)?;

@@ -1,6 +1,6 @@
 // The numbers with which the program runs.
 ghost use Rattle.std.specs.Prelude.{IsTrue, ◌↔◌};
-ghost use Rattle.archive_service.specs.Settings.{AreForTables, AreSettings, IsPowerOfTwo};
+ghost use Rattle.archive_service.specs.Settings.{AreForTables, AreSettings, IsPowerOfTwo, IsUsual};
 
 use archives::prunable::Limits;
 
@@ -46,6 +46,11 @@ impl Settings {
         table_resize_chunk_size: 64,
         value_target_size: 1_048_576,
     };
+
+    /// [`DEFAULT`](Settings::DEFAULT) has the numbers with which the program says that it runs, and they are valid. It does nothing.
+    pub fn default_laws()
+        ensures { IsUsual Self.DEFAULT }
+    {}
 
     /// Whether each number is in its range. It takes no memory.
     pub fn is_valid(&self) -> bool

@@ -12,7 +12,8 @@ use value_codec::ByteValue;
 
 /// Appends the line of a reply, with its LF.
 pub fn write_reply(reply: &Reply<ByteValue>, out: &mut Vec<u8>) -> Result<(), ScriptError>
-    ensures ok { OnOk result (out.new.items ≡ out.old.items ++ reply_text (replied (λ v. v) reply.now)) }
+    ensures ok { OnOk result (out.new.items ≡ out.old.items
+        ++ reply_text (replied (λ v. v) reply.now)) }
     ensures err { OnErr result (out.new.items ≡ out.old.items) }
     ensures cause { IfErr result (λ e. e ≡ Mem) }
 {
@@ -50,7 +51,8 @@ fn append_reply(reply: &Reply<ByteValue>, out: &mut Vec<u8>) -> Result<(), Alloc
 }
 
 fn append_value_line(bytes: &[u8], out: &mut Vec<u8>) -> Result<(), AllocError>
-    ensures { Appends result out.old.items (codes "value " ++ value_text bytes.now ++ codes "\n") out.new.items }
+    ensures { Appends result out.old.items (codes "value " ++ value_text bytes.now
+        ++ codes "\n") out.new.items }
 {
     out.extend_from_slice(b"value ")?;
     append_value(bytes, out)?;

@@ -12,14 +12,22 @@ use Rattle.paired.specs.Kept.{Layout}
 use Rattle.paired.specs.Opening.{AreNamed}
 use Rattle.paired.specs.Pair.{AreApart, list_of, records_of, synced_length}
 use Rattle.paired.specs.Places.{Follow}
+use Rattle.segments.specs.declared.buffer.SectionBuffer as buffer
+use Rattle.segments.specs.declared.unsealed.WriteFactory.{WriteFactory}
+use Rattle.segments.specs.Setting.{Setting}
+use Rattle.paired.proofs.GlobLemmas.{buffers}
 use Rattle.paired.specs.Records as stored
 use Rattle.paired.proofs.RecordLemmas.{all_by}
-use Rattle.archives.specs.Archives.{Archive, IsArchive, IsSoundArchive, LeavesNoForeign, filing_of, state_of}
+use Rattle.archives.specs.Archives.{Archive, Buffers, IsArchive, IsSoundArchive, LeavesNoForeign, filing_of, state_of}
 use Rattle.archives.specs.IndexRecord.{index_of}
 use Rattle.archives.specs.Machine.{section_of}
 use Rattle.archives.specs.Rows.{Row, row_in}
 use Rattle.archives.specs.Standing.{Leaves}
 use Rattle.archives.proofs.StandLemmas.{AreFiled, all_map, keeps_stand}
+
+-- the buffers of an archive, where those of its records are read so
+abbrev pub glob_buffers : {F S : Type 0} {gs : _} → buffer.Ghosts (PageBlob S gs) → (F → Setting) → (WriteFactory → Setting) → Buffers F (PageBlob S gs)
+glob_buffers g gives takes = record { pages = g; gives = gives; values = buffers; takes = takes }
 
 -- what holds of each that a map makes holds of each that it makes it of
 pub all_unmap : {X Y : Type 0} (g : X → Y) (P : Y → Type 0) (xs : List X) → AllByRecursion P (map g xs) → AllByRecursion (λ x. P (g x)) xs
@@ -62,7 +70,7 @@ module _ {F S : Type 0} {gs : _} (a : Archive F (PageBlob S gs)) (d : Disk) wher
         ap (map (stored.entry_of a.pair.layout.place (glob.section_bytes a.pair.values d s))) (map_none (row_in a.key_size) rs (sym (listed s) ∙ none))
 
   -- the lists of an archive that is sound are filed as a lawful image asks
-  pub are_filed : {g : _} {gives : _} {h : _} {takes : _} {told : Type 0} {opened : _} → IsArchive a g gives h takes told opened d → told → IsSoundArchive a d → AreFiled (filing_of a) (list_of a.pair d)
+  pub are_filed : {bs : _} {told : Type 0} {opened : _} → IsArchive a bs told opened d → told → IsSoundArchive a d → AreFiled (filing_of a) (list_of a.pair d)
   are_filed {told = told} archive t sound = record {
     in_section = λ s small. in_section (archive.listed t) s (archive.within.in_section s);
     decoded = λ s small. sound.decoded s;
@@ -118,7 +126,7 @@ no_foreign l apart P from d others none = record {
 -- a section's synced length below what is kept
 module _ {F S : Type 0} {gs : _} (a : Archive F (PageBlob S gs)) (from : Disk) where
   -- At a moment at which each crash leaves of the pair's lists a prefix that holds what was synced, each crash leaves what stands for the state.
-  pub stands_at : {g : _} {gives : _} {h : _} {takes : _} {told : Type 0} {opened : _} → IsArchive a g gives h takes told opened from → told → IsSoundArchive a from
+  pub stands_at : {bs : _} {told : Type 0} {opened : _} → IsArchive a bs told opened from → told → IsSoundArchive a from
       → (P : ℕ → Type 0) (d : Disk) → ((q : Key) → (IsOwn a.pair.layout P q → ⊥) → d q ≡ from q)
       → pair.Leaves a.pair.layout (list_of a.pair from) (synced_length a.pair) (λ _. ⊥) d
       → Leaves (filing_of a) (state_of a from) None d

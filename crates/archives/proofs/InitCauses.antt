@@ -23,7 +23,7 @@ use Rattle.archives.specs.Filing.{Filing, kept_entries}
 use Rattle.archives.specs.IndexRecord.{index_of}
 use Rattle.archives.specs.Lawful.{Lawful}
 use Rattle.archives.specs.Machine.{section_of}
-use Rattle.archives.specs.Opening.{FindsShort, HasStray, IsOver}
+use Rattle.archives.specs.Opening.{FindsShort, HasStray, IsPastLimits}
 use Rattle.archives.proofs.ArchiveStands.{all_unmap}
 use Rattle.archives.proofs.InitRecords.{all_whole}
 use Rattle.archives.proofs.InitState.{all_has}
@@ -67,7 +67,7 @@ module _ (f : Filing) (image : Image) (markers : Markers) where
         let entries : AllByRecursion Q (kept_entries f image markers s) = all_unmap (λ y. y.stored) P (kept_entries f image markers s) (subst (AllByRecursion P) (sym again) first) in
         stray (all_has Q (kept_entries f image markers s) x entries has)
 
-    pub lawful_no_over : IsOver f.most_sections f.most_records (kept_entries f image markers) → ⊥
+    pub lawful_no_over : IsPastLimits f.most_sections f.most_records (kept_entries f image markers) → ⊥
     lawful_no_over (inl (ss, sorted, all, more)) = omega (arith, more, lawful.few_sections ss sorted all)
     lawful_no_over (inr (s, small, more)) = omega (arith, more, lawful.few_records s small)
 

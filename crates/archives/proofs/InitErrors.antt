@@ -13,11 +13,11 @@ use Rattle.segments.specs.declared.journal.Error.TheVariants as section
 use Rattle.segments.specs.Refusing as below
 use Rattle.segments.specs.FixedReading.{HasNotRead}
 use Rattle.paired.specs.PairRefusing as pair
-use Rattle.archives.specs.Opening.{IsOpeningError}
+use Rattle.archives.proofs.OpenCauses.{HasLostMarkers, IsOpeningError}
 use Rattle.archives.specs.Raised.{raised, raised_metadata}
-use Rattle.archives.specs.Refusing.{HasFailed, HasLostMarkers}
+use Rattle.archives.proofs.ReadCauses.{HasFailed}
 use Rattle.archives.specs.declared.error.Error.{Error}
-use Rattle.archives.specs.declared.error.Error.TheVariants.{Journal, Metadata, RecordCorrupted, Full, Mem}
+use Rattle.archives.specs.declared.error.Error.TheVariants.{Journal, Metadata, RecordCorrupted, Full}
 
 -- ---- which error was handed on
 lower_metadata : (m : meta.Error) (x : meta.Error) → raised_metadata m ≡ Metadata x → m ≡ x
@@ -37,12 +37,6 @@ no_stray (store.Runtime y) same = absurd (cc same)
 no_stray (store.Corruption y) same = absurd (cc same)
 no_stray store.Full same = absurd (cc same)
 no_stray store.Mem same = absurd (cc same)
-
-full_metadata : (m : meta.Error) → raised_metadata m ≡ Full → m ≡ store.Full
-full_metadata (store.Runtime y) same = absurd (cc same)
-full_metadata (store.Corruption y) same = absurd (cc same)
-full_metadata store.Full same = refl
-full_metadata store.Mem same = absurd (cc same)
 
 pub journal_error : (e x : journal.Error) → raised e ≡ Journal x → e ≡ x
 journal_error (section.Runtime y) x same = cc same
@@ -236,6 +230,12 @@ module _ {T : Type 0} (r : Result T Error) where
         end_only Q (λ same. cc same) (λ same. cc same) (λ x same. cc same) (λ k same. cc same) (λ y same. cc same) (λ same. cc same) (λ same. cc same) a b why
         (let same : raised e ≡ Journal (section.ItemOutOfRange n) = cc (is, has) in journal_error e (section.ItemOutOfRange n) same)
 
+    pub end_no_room : (a b : ℕ) → EndRefuses a b → IsErrOf r (Journal (section.Runtime OffsetOverflow)) → ⊥
+    end_no_room a b why has =
+        let Q : journal.Error → Type 0 = λ y. y ≢ section.Runtime OffsetOverflow in
+        end_only Q (λ same. cc same) (λ same. cc same) (λ x same. cc same) (λ k same. cc same) (λ y same. cc same) (λ same. cc same) (λ same. cc same) a b why
+        (let same : raised e ≡ Journal (section.Runtime OffsetOverflow) = cc (is, has) in journal_error e (section.Runtime OffsetOverflow) same)
+
     pub end_full : (a b : ℕ) → EndRefuses a b → IsErrOf r Full → IsErrOf Lower section.Full
     end_full a b why has =
         let Q : journal.Error → Type 0 = λ y. raised y ≡ Full → y ≡ section.Full in
@@ -243,38 +243,9 @@ module _ {T : Type 0} (r : Result T Error) where
         ap f (end_only Q (λ same. refl) (λ same. absurd (cc same)) (λ x same. absurd (cc same)) (λ k same. absurd (cc same)) (λ y same. absurd (cc same)) (λ same. absurd (cc same)) (λ same. absurd (cc same)) a b why
         (let same : raised e ≡ Full = cc (is, has) in same))
 
-  -- an error of the archive's own, handed on
-  module _ (U : Type 0) (e : Error) (is : r ≡ Err e) where
-    abbrev pub Own : Result U Error
-    Own = Err e
-
-    pub own : (x : Error) → IsErrOf Own x → r ≡ Err x
-    own x has =
-        let f : Error → Result T Error = λ y. Err y in
-        let same : e ≡ x = cc has in
-        is ∙ ap f same
-
-    pub own_back : (x : Error) → IsErrOf r x → IsErrOf Own x
-    own_back x has =
-        let f : Error → Result U Error = λ y. Err y in
-        let same : e ≡ x = cc (is, has) in
-        ap f same
-
-    pub own_failed : (a b : ℕ) → HasFailed Own a b → HasFailed r a b
-    own_failed a b (inl memory) = inl (own Mem memory)
-    own_failed a b (inr fault) = inr (own (Journal (section.Runtime Fault)) fault.0, fault.1)
-
-    pub own_stops : (a b c : ℕ) → a ≤ b → IsOpeningError Own ⊎ HasFailed Own b c → Stops a c
-    own_stops a b c le (inr failed) = inr (gives_up_before a b c le (inl (own_failed b c failed)))
-    own_stops a b c le (inl (inl corrupt)) = inl (inl (corrupt.0, own (Metadata (store.Corruption corrupt.0)) corrupt.1))
-    own_stops a b c le (inl (inr (inl named))) = inl (inr (inl (named.0, own (Journal (section.InvalidBlobName named.0)) named.1)))
-    own_stops a b c le (inl (inr (inr (inl damage)))) = inl (inr (inr (inl (damage.0, own (Journal (section.Corruption damage.0)) damage.1))))
-    own_stops a b c le (inl (inr (inr (inr (inl page))))) = inl (inr (inr (inr (inl (page.0, own (Journal (section.Runtime (InvalidChecksum page.0))) page.1)))))
-    own_stops a b c le (inl (inr (inr (inr (inr (inl start)))))) = inl (inr (inr (inr (inr (inl (start.0, own (Journal (section.ItemOutOfRange start.0)) start.1))))))
-    own_stops a b c le (inl (inr (inr (inr (inr (inr (inl refused))))))) = inl (inr (inr (inr (inr (inr (inl (refused.0, own (Journal (section.Codec refused.0)) refused.1)))))))
-    own_stops a b c le (inl (inr (inr (inr (inr (inr (inr (inl room)))))))) = inl (inr (inr (inr (inr (inr (inr (inl (own (Journal (section.Runtime OffsetOverflow)) room))))))))
-    own_stops a b c le (inl (inr (inr (inr (inr (inr (inr (inr (inl stray))))))))) = inl (inr (inr (inr (inr (inr (inr (inr (inl (own RecordCorrupted stray)))))))))
-    own_stops a b c le (inl (inr (inr (inr (inr (inr (inr (inr (inr full))))))))) = inl (inr (inr (inr (inr (inr (inr (inr (inr (own Full full)))))))))
+-- what cannot be gives anything
+pub never : {P : Type 0} → ⊥ → P
+never is = absurd is
 
 -- the second of two, where the first is not so
 pub after_replay : {A B : Type 0} → (A → ⊥) → A ⊎ B → B

@@ -1,12 +1,13 @@
 -- What the parts of an opening of an archive leave at each moment, one after another.
-use Rattle.std.proofs.Common.{◌≡◌, ◌⊎◌, inl, inr, sym, ◌∙◌, subst, ℕ, List, [], None, Some}
+use Rattle.std.proofs.Common.{◌≡◌, ◌⊎◌, inl, inr, refl, sym, ◌∙◌, subst, ℕ, List, [], None, Some}
+use Rattle.std.proofs.Math.Seq.{take-length}
 use Rattle.std.specs.Prelude.{⊤}
 use Rattle.blob_device.specs.Disk.{Disk, Key}
 use Rattle.blob_device.specs.Opened.{OpenedList}
 use Rattle.blob_device.specs.Timeline.{Timeline, disk, Always}
-use Rattle.blob_device.proofs.Moments.{always_now, always_start, always_then, always_weaker}
+use Rattle.blob_device.proofs.Moments.{always_now, always_then, always_weaker}
 use Rattle.paired.specs.Crashes.{IsOwn}
-use Rattle.paired.specs.Kept.{Layout, IsSameLayout}
+use Rattle.paired.specs.Kept.{Layout, IsSameLayout, stored_records}
 use Rattle.paired.specs.Opening.{MayBeOpened, OnlyOpens, Recalls, RecallsAlone}
 use Rattle.paired.proofs.OpeningLaws.{recalls_on}
 use Rattle.paired.proofs.PairSynced.{layout_as}
@@ -48,6 +49,18 @@ module _ (l : Layout) where
   pub others_opened : (a b : Timeline) → Always a b (OnlyOpens l (disk a)) → Always a b (OthersStay l (disk a))
   others_opened a b opens = always_weaker a b (OnlyOpens l (disk a)) (OthersStay l (disk a)) (λ d only. only.others) opens
 
+-- a disk keeps what it keeps
+pub recalls_itself : (l : Layout) (d : Disk) → RecallsAlone l (IsOwn l (λ _. ⊤)) d d
+recalls_itself l d = record {
+  recalls = λ image crash no_chance. record {
+    old = image;
+    crash = crash;
+    no_chance = no_chance;
+    keeps = λ markers lawful. record { markers = markers; lawful = lawful; same = λ s small. refl; stored = λ s small. sym (take-length (stored_records l image s)) };
+  };
+  others = λ q other. refl;
+}
+
 -- what stood for a state with nothing under way stands for it while it is opened
 pub reopening : (f : Filing) (st : State (List ℕ)) (d : Disk) → Leaves f st None d → Leaves f st (Some Reopen) d
 reopening f st d leaves image crash no_chance =
@@ -77,10 +90,6 @@ module _ (f : Filing) (a b : Timeline) (moments : Always a b (RecallsAll f.layou
   moments_stand st leaves =
       always_weaker a b (RecallsAll f.layout (disk a)) (Leaves f st (Some Reopen)) (λ d keeps. recalls_stand f st (Some Reopen) (disk a) d (reopening f st (disk a) leaves) keeps.recalls) moments
 
--- where nothing was done
-pub standing_still : (f : Filing) (st : State (List ℕ)) (a b : Timeline) → b ≡ a → Leaves f st None (disk a) → Always a b (Leaves f st (Some Reopen))
-standing_still f st a b same leaves = subst (λ t. Always a t (Leaves f st (Some Reopen))) (sym same) (always_start a (Leaves f st (Some Reopen)) (reopening f st (disk a) leaves))
-
 -- ---- one part after another
 -- where the disk may be opened, each moment keeps what a crash before would have kept
 abbrev pub Recalling : Layout → Timeline → Timeline → Type 0
@@ -89,24 +98,15 @@ Recalling l a b = MayBeOpened l (disk a) → Always a b (RecallsAlone l (IsOwn l
 abbrev pub StaysOpen : Layout → Timeline → Timeline → Type 0
 StaysOpen l a b = MayBeOpened l (disk a) → MayBeOpened l (disk b)
 
-pub recalling_as : (l m : Layout) → l ≡ m → (a b : Timeline) → Recalling l a b → Recalling m a b
-recalling_as l m same a b recalling = subst (λ x. Recalling x a b) same recalling
-
 pub open_as : (l m : Layout) → l ≡ m → (a b : Timeline) → StaysOpen l a b → StaysOpen m a b
 open_as l m same a b stays = subst (λ x. StaysOpen x a b) same stays
 
 pub recalling_on : (l : Layout) (a b c : Timeline) → Recalling l a b → StaysOpen l a b → Recalling l b c → Recalling l a c
 recalling_on l a b c first stays second may = moments_on l a b c (first may) (second (stays may))
 
-pub others_as : (l m : Layout) → l ≡ m → (a b : Timeline) → Always a b (OthersStay l (disk a)) → Always a b (OthersStay m (disk a))
-others_as l m same a b others = subst (λ x. Always a b (OthersStay x (disk a))) same others
-
 -- no entry but those of the pair's blobs has changed
 abbrev pub EntriesStay : Layout → OpenedList → OpenedList → Type 0
 EntriesStay l o p = (q : Key) → (IsOwn l (λ _. ⊤) q → ⊥) → p q ≡ o q
-
-pub entries_as : (l m : Layout) → l ≡ m → (o p : OpenedList) → EntriesStay l o p → EntriesStay m o p
-entries_as l m same o p stays = subst (λ x. EntriesStay x o p) same stays
 
 pub entries_on : (l : Layout) (o p r : OpenedList) → EntriesStay l o p → EntriesStay l p r → EntriesStay l o r
 entries_on l o p r first second q other = second q other ∙ first q other

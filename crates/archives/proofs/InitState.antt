@@ -29,7 +29,7 @@ use Rattle.archives.specs.Archives.{Archive, filing_of, state_of}
 use Rattle.archives.specs.Filing.{Filing, filed, kept_entries}
 use Rattle.archives.specs.IndexRecord.{index_of, key_of as key_in}
 use Rattle.archives.specs.Machine.{Entry, section_of}
-use Rattle.archives.specs.Opening.{HasStray, IsOver}
+use Rattle.archives.specs.Opening.{HasStray, IsPastLimits}
 use Rattle.archives.specs.Rows.{Row, row_in}
 use Rattle.archives.specs.Standing.{IsStart}
 use Rattle.archives.proofs.ArchiveStands.{all_unmap}
@@ -160,7 +160,7 @@ module _ {F S : Type 0} {gs : _} (f : Filing) (readable : IsReadable f.layout.ma
             ap length (listed s) ∙ length-map (records_of arch.pair z s) (row_in arch.key_size) ∙ ap length (records_left s small) ∙ length-map (kept_entries f (as_read a) markers s) stored_bytes
 
         pub none_over : (sections per_section : ℕ) → ((ss : List ℕ) → IsStrictlySortedBy nat_cmp ss → AllByRecursion (λ s. arch.rows s ≢ []) ss → length ss ≤ sections) → ((s : ℕ) → length (arch.rows s) ≤ per_section)
-            → IsOver sections per_section (kept_entries f (as_read a) markers) → ⊥
+            → IsPastLimits sections per_section (kept_entries f (as_read a) markers) → ⊥
         none_over sections per_section few_sections few_records (inl (ss, sorted, all, more)) =
             omega (arith, more, few_sections ss sorted (all_by (λ s. (s < 2 ^ 64) × (kept_entries f (as_read a) markers s ≢ [])) (λ s. arch.rows s ≢ []) (λ s has none. has.1 (nil_from_length (kept_entries f (as_read a) markers s) (omega (arith, ap length none, length_kept s has.0)))) ss all))
         none_over sections per_section few_sections few_records (inr (s, small, more)) = omega (arith, more, few_records s, length_kept s small)

@@ -84,7 +84,7 @@ small_extent P n small few =
     let least : (n + (P - 1)) / P ≤ n + (P - 1) = div-le_self (n + (P - 1)) P in
     omega (arith, few_pages P ((n + (P - 1)) / P) (omega (arith, least, small, few)) small)
 
-module _ {F S : Type 0} {gs : _} {g : _} {gives : _} {h : _} {takes : _} {told : Type 0} (a : Archive F (PageBlob S gs)) (opened : OpenedList) (d : Disk) (archive : IsArchive a g gives h takes told opened d) (t : told) where
+module _ {F S : Type 0} {gs : _} {bs : _} {told : Type 0} (a : Archive F (PageBlob S gs)) (opened : OpenedList) (d : Disk) (archive : IsArchive a bs told opened d) (t : told) where
   as_long : (s : ℕ) → length (a.rows s) ≡ length ((state_of a d).lists s)
   as_long s = length_rows a d (archive.listed t) s ∙ sym (length-map (list_of a.pair d s) (filed (filing_of a)))
 

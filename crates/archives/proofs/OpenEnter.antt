@@ -53,10 +53,6 @@ pub all_push : {X : Type 0} (P : X → Type 0) (xs : List X) (x : X) → AllByRe
 all_push P [] x all has = (has, tt)
 all_push P (y ∷ ys) x all has = (all.0, all_push P ys x all.1 has)
 
-pushed_some : {X : Type 0} (xs : List X) (x : X) → xs ++ x ∷ [] ≢ []
-pushed_some [] x none = cc
-pushed_some (y ∷ ys) x none = cc
-
 module _ (items sections per_section s : ℕ) (r : Row) (old new : ℕ → List Row) (added : new s ≡ old s ++ r ∷ []) (others : (t : ℕ) → t ≢ s → new t ≡ old t)
     (some : 1 ≤ per_section) where
   lies : ((t : ℕ) → AllByRecursion (λ x. section_of items x.index ≡ t) (old t)) → section_of items r.index ≡ s → (t : ℕ) → AllByRecursion (λ x. section_of items x.index ≡ t) (new t)

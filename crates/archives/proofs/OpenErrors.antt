@@ -1,5 +1,5 @@
 -- What an error of an opening's walk says, as the archive answers it.
-use Rattle.std.specs.Prelude.{◌≡◌, ◌⊎◌, ℕ, zero, suc, ◌+◌, ◌*◌, ◌/◌, ◌^◌, ◌<◌, ◌≤◌, true, List, [], length, get_or, Option, None, Some, IsSomeAnd, Result, Ok, Err, OnErr}
+use Rattle.std.specs.Prelude.{◌≡◌, ◌⊎◌, ℕ, zero, suc, ◌+◌, ◌*◌, ◌/◌, ◌^◌, ◌<◌, ◌≤◌, true, List, [], length, get_or, Option, None, Some, IsSomeAnd, Result, Err}
 use Rattle.std.proofs.Common.{inl, inr, sym, ◌∙◌, ap, subst, arith, drop, length-drop, length-take}
 use Rattle.std.proofs.lemmas.Bool.{cases_lt}
 use Rattle.std.proofs.lemmas.Bool.Decides.{nat_tests}
@@ -44,9 +44,9 @@ use Rattle.paired.proofs.RecordLemmas.{item_ends}
 use Rattle.paired.proofs.ReplayLemmas.{record_at}
 use Rattle.archives.specs.declared.error.Error as archive
 use Rattle.archives.specs.declared.error.Error.TheVariants.{Journal, Metadata, RecordCorrupted}
-use Rattle.archives.specs.Opening.{FindsShort, IsOpeningError}
+use Rattle.archives.specs.Opening.{FindsShort}
 use Rattle.archives.specs.Raised.{raised}
-use Rattle.archives.specs.Refusing.{HasFailed}
+use Rattle.archives.proofs.ReadCauses.{HasFailed}
 use Rattle.archives.proofs.OpenLoop.{Going, Passed}
 use Rattle.archives.proofs.OpenPassed.{short_same, short_stored}
 
@@ -127,14 +127,14 @@ raised_stray section.Mem is = cc
 err_is : {A E : Type 0} {y z : E} → ◌≡◌ {A = Result A E} (Err y) (Err z) → y ≡ z
 err_is is = cc
 
--- what holds holds of an error
-pub any_error : {A E : Type 0} (r : Result A E) (P : Type 0) → P → OnErr r P
-any_error (Ok v) P is = tt
-any_error (Err z) P is = is
-
 -- which error was answered
 answered : {T : Type 0} (r : Result T archive.Error) (e z : archive.Error) → r ≡ Err e → IsErrOf r z → e ≡ z
 answered r e z back is = err_is (sym back ∙ is)
+
+-- why a walk fails
+abbrev pub IsWalkError : {T : Type 0} → Result T archive.Error → Type 0
+IsWalkError r = ((d : Damage) × IsErrOf r (Journal (section.Corruption d))) ⊎ (((k : ℕ) × IsErrOf r (Journal (section.Runtime (runtime.InvalidChecksum k))))
+    ⊎ (((n : ℕ) × IsErrOf r (Journal (section.ItemOutOfRange n))) ⊎ ((z : codec.Error) × IsErrOf r (Journal (section.Codec z)))))
 
 -- What an answer of an opening says, where an error of its walk made it.
 pub record Answer {T F S : Type 0} {gs : _} (told : Type 0) (start : Run F (PageBlob S gs)) (from to : Disk) (first many : ℕ) (r : Result T archive.Error) : Type 0 where
@@ -147,7 +147,7 @@ pub record Answer {T F S : Type 0} {gs : _} (told : Type 0) (start : Run F (Page
   pub whole_copies : (side : Side) → IsErrOf r (Metadata (store.Corruption side)) → ⊥
   pub own_names : (n : List ℕ) → IsErrOf r (Journal (section.InvalidBlobName n)) → ⊥
   pub failed : told → IsLawful start.layout (as_read from) start.store.entries → HasFailed r first many
-  pub cause : IsOpeningError r ⊎ HasFailed r first many
+  pub cause : IsWalkError r ⊎ HasFailed r first many
 
 module _ {F S : Type 0} {gs : _} (g : buffer.Ghosts (PageBlob S gs)) (gives : F → Setting) (takes : WriteFactory → Setting) (told : Type 0) (refusal : List ℕ → Unit {0} → Option codec.Error)
     {V : Type 0} (spelling : V → List ℕ) (accepted : V → Unit {0} → Type 0) (start : Run F (PageBlob S gs)) (a : Timeline) (before : OpenedList) (tracked : start.tracked ≡ true)
@@ -215,12 +215,12 @@ module _ {F S : Type 0} {gs : _} (g : buffer.Ghosts (PageBlob S gs)) (gives : F 
           | inr is ↦ inr (so (section.Runtime runtime.Fault) (err_is is.0), rose_before first few many risen is.1)
         ]
 
-    caused : IsOpeningError r ⊎ HasFailed r first many
+    caused : IsWalkError r ⊎ HasFailed r first many
     caused = elim (says.cause y gave) [
-      | inl is ↦ inl (inr (inr (inr (inr (inl (now.walk.start_position, so (section.ItemOutOfRange now.walk.start_position) is))))))
-      | inr (inl (d, is)) ↦ inl (inr (inr (inl (d, so (section.Corruption d) (err_is is)))))
-      | inr (inr (inl (k, is))) ↦ inl (inr (inr (inr (inl (k, so (section.Runtime (runtime.InvalidChecksum k)) (err_is is))))))
-      | inr (inr (inr (inl (z, is)))) ↦ inl (inr (inr (inr (inr (inr (inl (z, so (section.Codec z) (err_is is))))))))
+      | inl is ↦ inl (inr (inr (inl (now.walk.start_position, so (section.ItemOutOfRange now.walk.start_position) is))))
+      | inr (inl (d, is)) ↦ inl (inl (d, so (section.Corruption d) (err_is is)))
+      | inr (inr (inl (k, is))) ↦ inl (inr (inl (k, so (section.Runtime (runtime.InvalidChecksum k)) (err_is is))))
+      | inr (inr (inr (inl (z, is)))) ↦ inl (inr (inr (inr (z, so (section.Codec z) (err_is is)))))
       | inr (inr (inr (inr (inl is)))) ↦ inr (inl (so section.Mem (err_is is)))
       | inr (inr (inr (inr (inr is)))) ↦ inr (inr (so (section.Runtime runtime.Fault) (err_is is.0), rose_before first few many risen is.1))
     ]

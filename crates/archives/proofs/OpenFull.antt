@@ -7,7 +7,7 @@ use Rattle.std.specs.List.Sorted.{IsStrictlySortedBy}
 use Rattle.std.specs.Ordering.{nat_cmp}
 use Rattle.std.proofs.lemmas.Bool.{cases_eq, cases_lt, false≢true}
 use Rattle.paired.proofs.RecordLemmas.{all_by}
-use Rattle.archives.specs.Opening.{IsOver}
+use Rattle.archives.specs.Opening.{IsPastLimits}
 use Rattle.archives.specs.Rows.{FewerThan, HasRoom, Row}
 
 -- of the n numbers from k on those that pass the test
@@ -142,7 +142,7 @@ list_cases [] = inl refl
 list_cases (x ∷ xs) = inr (λ is. cc)
 
 pub is_over : {X : Type 0} (sections per_section s : ℕ) (rows : ℕ → List Row) (given : ℕ → List X) → ((t : ℕ) → rows t ≢ [] → given t ≢ []) → ((t : ℕ) → given t ≢ [] → t < 2 ^ 64)
-    → length (rows s) < length (given s) → (HasRoom sections per_section rows s → ⊥) → IsOver sections per_section given
+    → length (rows s) < length (given s) → (HasRoom sections per_section rows s → ⊥) → IsPastLimits sections per_section given
 is_over sections per_section s rows given wider small left none = elim (list_cases (rows s)) [
   | inl is ↦ inl (more_sections rows given (2 ^ 64) wider small sections s (λ few. none (inr (is, few))) is some)
   | inr has ↦ inr (

@@ -22,7 +22,7 @@ use Rattle.paired.proofs.PairSynced.{Here}
 use Rattle.paired.proofs.RecordLemmas.{all_by}
 use Rattle.archives.specs.IndexRecord.{index_of}
 use Rattle.archives.specs.Machine.{section_of}
-use Rattle.archives.specs.Opening.{HasEntered, HasStray, IsOver}
+use Rattle.archives.specs.Opening.{HasEntered, HasStray, IsPastLimits}
 use Rattle.archives.specs.Rows.{HasRoom, Row, row_in}
 use Rattle.archives.proofs.InitStored.{given_number}
 use Rattle.archives.proofs.OpenFull.{is_over, rows_given, some_long}
@@ -34,7 +34,7 @@ module _ (few many : ℕ → List stored.Entry) (same : (s : ℕ) → s < 2 ^ 64
   pub stray_same : (items : ℕ) → HasStray items few → HasStray items many
   stray_same items (s, x, small, has, stray) = (s, x, small, subst (λ (xs : List stored.Entry). Contains xs x) (same s small) has, stray)
 
-  pub over_same : (sections per_section : ℕ) → IsOver sections per_section few → IsOver sections per_section many
+  pub over_same : (sections per_section : ℕ) → IsPastLimits sections per_section few → IsPastLimits sections per_section many
   over_same sections per_section (inl (ss, sorted, all, more)) =
       inl (ss, sorted, all_by (λ s. (s < 2 ^ 64) × (few s ≢ [])) (λ s. (s < 2 ^ 64) × (many s ≢ [])) (λ s has. (has.0, λ none. has.1 (same s has.0 ∙ none))) ss all, more)
   over_same sections per_section (inr (s, small, more)) = inr (s, small, subst (λ (xs : List stored.Entry). per_section < length xs) (same s small) more)
@@ -100,11 +100,11 @@ module _ {F S : Type 0} {gs : _} {g : buffer.Ghosts (PageBlob S gs)} {gives : F 
 
   -- Where there was no room for a record behind those that are entered, more is kept than the limits allow.
   pub over_kept : (sections per_section s p : ℕ) (rows : ℕ → List Row) → ((q : ℕ) → rows q ≢ [] → IsDue run d q 0 → ⊥) → ((q : ℕ) → rows q ≢ [] → 0 < length (records_given run d q)) → p ≡ length (rows s)
-      → p < length (records_given run d s) → (IsDue run d s p → ⊥) → (HasRoom sections per_section rows s → ⊥) → IsOver sections per_section entries
+      → p < length (records_given run d s) → (IsDue run d s p → ⊥) → (HasRoom sections per_section rows s → ⊥) → IsPastLimits sections per_section entries
   over_kept sections per_section s p rows gone some at given passed none =
       of_first (is_over sections per_section s rows first (λ q has is. (let long = first_long q 0 (some q has) (gone q has) in omega (arith, long, ap length is))) first_small (let long = first_long s p given passed in omega (arith, long, at)) none)
     where
-      of_first : IsOver sections per_section first → IsOver sections per_section entries
+      of_first : IsPastLimits sections per_section first → IsPastLimits sections per_section entries
       of_first (inl (ss, sorted, all, more)) =
           inl (ss, sorted, all_by (λ q. (q < 2 ^ 64) × (first q ≢ [])) (λ q. (q < 2 ^ 64) × (entries q ≢ [])) (λ q has. (has.0, λ is. has.1 (sym (first_kept q has.0) ∙ ap (map (λ (x : stored.Entry). x.stored)) is))) ss all, more)
       of_first (inr (q, small, more)) = inr (q, small, omega (arith, more, ap length (first_kept q small), length-map (entries q) (λ x. x.stored)))

@@ -12,9 +12,6 @@ use Rattle.paired.specs.Opening.{as_read, IsLawful, MayBeOpened, Recalls, Recall
 use Rattle.paired.proofs.OpeningLaws.{recalls_on}
 
 module _ (l : Layout) (markers : Markers) (told : Type 0) where
-  abbrev AreOthers : (Key → Type 0) → Disk → Disk → Type 0
-  AreOthers P from d = (q : Key) → (P q → ⊥) → d q ≡ from q
-
   -- At each moment each crash leaves what a crash at the beginning would have left, and no blob changes but those of the pair.
   pub record Moves (a e : Timeline) (before after : OpenedList) : Type 0 where
     pub moments : told → MayBeOpened l (disk a) → Always a e (RecallsAlone l (IsOwn l (λ _. ⊤)) (disk a))

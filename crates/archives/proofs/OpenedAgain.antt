@@ -28,10 +28,10 @@ use Rattle.paired.specs.Kept.{Layout, content_at, is_sound_in, stored_records}
 use Rattle.paired.specs.Opening.{MayBeOpened, as_read}
 use Rattle.paired.specs.Pair.{HasNoBytes}
 use Rattle.paired.specs.Records.{is_sound}
-use Rattle.paired.proofs.GlobLemmas.{buffers}
 use Rattle.paired.proofs.PairFacts.{journal_lasts, not_there, proven_of}
 use Rattle.paired.proofs.ReconcileResting.{no_slots, none_sound, of_rest, reads_absent, reads_there}
 use Rattle.archives.specs.Archives.{Archive, IsArchive, IsSoundArchive}
+use Rattle.archives.proofs.ArchiveStands.{glob_buffers}
 
 -- ---- contents
 
@@ -100,7 +100,7 @@ module _ (l : Layout) (d : Disk) (index : (s : ℕ) → s < 2 ^ 64 → ReadsAsHa
 -- ---- an archive
 module _ {F S : Type 0} {gs : _} (a : Archive F (PageBlob S gs)) {g : buffer.Ghosts (PageBlob S gs)} {gives : F → Setting} {takes : WriteFactory → Setting} {told : Type 0} (opened : OpenedList) (d : Disk)
     (are_pages : ArePages g a.pair.layout.seal) (index : a.pair.index.sections.partition ≡ a.pair.layout.index) (values : a.pair.values.partition ≡ a.pair.layout.values) (store : a.pair.store.partition ≡ a.pair.layout.metadata)
-    (archive : IsArchive a g gives buffers takes told opened d) (t : told) (sound : IsSoundArchive a d) where
+    (archive : IsArchive a (glob_buffers g gives takes) told opened d) (t : told) (sound : IsSoundArchive a d) where
   index_held : (s : ℕ) (u : PageBlob S gs) → a.pair.index.sections.held s ≡ Some u → ReadsAsHad (d (key_of a.pair.index.sections s))
   index_held s u held =
       let leaves = journal_lasts a.pair.layout.seal a.pair.layout.record_size a.pair.index opened d archive.pair.index t s u held (proven_of archive.pair.whole s) in

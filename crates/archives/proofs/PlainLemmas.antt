@@ -2,11 +2,9 @@
 use Rattle.std.proofs.Common.{◌≡◌, refl, sym, ◌∙◌, ap, subst, ℕ, suc, Bool, true, false, not, ◌||◌, ◌==◌, if◌then◌else◌, cond, List, [], ◌∷◌, ◌++◌, length, map, filter, find, take, drop, nat_lt, ◌≤◌, Some, arith}
 use Rattle.std.specs.List.{list_any}
 use Rattle.std.specs.Option.{option_map}
-use Rattle.std.proofs.lemmas.List.{append-nil, drop_all, length-map, map-append, take_all}
-use Rattle.std.proofs.lemmas.List.Elements.{filter-append}
+use Rattle.std.proofs.lemmas.List.{append-nil, drop_all, length-map, take_all}
 use Rattle.std.proofs.lemmas.List.Filters.{length-filter_both}
 use Rattle.std.proofs.lemmas.Bool.{eqb-true, eq-eqb, false≢true}
-use Rattle.std.proofs.lemmas.Bool.Decides.{nat_tests}
 use Rattle.archives.specs.Machine.{IsReopened, State, appended, after_put, after_sync, entries_at, first_value, has_index, section_of}
 use Rattle.archives.specs.declared.plain.Item.{Item}
 use Rattle.archives.specs.Plain.{entry_of, first_at, state_with}
@@ -47,40 +45,6 @@ first_here {K} {X} key_bytes n index (r ∷ all) =
         ≡ first_value (cond b (entry_of key_bytes r ∷ entries_at n (state_with key_bytes n all) index) (entries_at n (state_with key_bytes n all) index))
     here true behind = refl
     here false behind = behind
-
--- the list of each section after one more record
-lists_push : {K X : Type 0} (key_bytes : K → List ℕ) (n : ℕ) (all : List (Item K X)) (r : Item K X) (s : ℕ)
-    → map (entry_of key_bytes) (filter (λ q. s == section_of n q.index) (all ++ r ∷ []))
-    ≡ (if s == section_of n r.index then map (entry_of key_bytes) (filter (λ q. s == section_of n q.index) all) ++ entry_of key_bytes r ∷ [] else map (entry_of key_bytes) (filter (λ q. s == section_of n q.index) all))
-lists_push {K} {X} key_bytes n all r s =
-    ap (map (entry_of key_bytes)) (filter-append (λ q. s == section_of n q.index) all (r ∷ []))
-    ∙ elim (s == section_of n r.index) as (λ t. map (entry_of key_bytes) (filter (λ q. s == section_of n q.index) all ++ cond t (r ∷ []) [])
-    ≡ (if t then map (entry_of key_bytes) (filter (λ q. s == section_of n q.index) all) ++ entry_of key_bytes r ∷ [] else map (entry_of key_bytes) (filter (λ q. s == section_of n q.index) all))) [
-      | true ↦ map-append (entry_of key_bytes) (filter (λ q. s == section_of n q.index) all) (r ∷ [])
-      | false ↦ ap (map (entry_of key_bytes)) (append-nil (filter (λ q. s == section_of n q.index) all))
-    ]
-
--- and its synced records, since the new record is not synced
-synced_push : {K X : Type 0} (n : ℕ) (all : List (Item K X)) (r : Item K X) (s : ℕ) → r.is_synced ≡ false
-    → filter (λ q. q.is_synced) (filter (λ q. s == section_of n q.index) (all ++ r ∷ []))
-    ≡ filter (λ q. q.is_synced) (filter (λ q. s == section_of n q.index) all)
-synced_push {K} {X} n all r s unsynced =
-    let is_synced : Item K X → Bool = λ q. q.is_synced in
-    let here : List (Item K X) = filter (λ q. s == section_of n q.index) all in
-    ap (filter is_synced) (filter-append (λ q. s == section_of n q.index) all (r ∷ []))
-    ∙ elim (s == section_of n r.index) as (λ t. filter is_synced (here ++ cond t (r ∷ []) []) ≡ filter is_synced here) [
-      | true ↦ filter-append is_synced here (r ∷ []) ∙ ap (λ b. filter is_synced here ++ cond b (r ∷ []) []) unsynced ∙ append-nil (filter is_synced here)
-      | false ↦ ap (filter is_synced) (append-nil here)
-    ]
-
-pub state_push : {K X : Type 0} (key_bytes : K → List ℕ) (n : ℕ) (all : List (Item K X)) (r : Item K X) → r.is_synced ≡ false
-    → state_with key_bytes n (all ++ r ∷ []) ≡ appended n r.index (key_bytes r.key) r.value (state_with key_bytes n all)
-state_push key_bytes n all r unsynced = λ i. record {
-  is_open = true;
-  lists = λ s. lists_push key_bytes n all r s i;
-  synced = λ s. length (synced_push n all r s unsynced i);
-  floor = 0;
-}
 
 -- ---- a sync
 
@@ -152,14 +116,3 @@ put_taken {X} n index key value st taken =
     both : (b : Bool) → (if b || true then st else appended n index key value st) ≡ st
     both true = refl
     both false = refl
-
--- a put of an index that is free, where nothing was pruned
-pub put_free : {X : Type 0} (n index : ℕ) (key : List ℕ) (value : X) (st : State X) → st.floor ≡ 0 → has_index n st index ≡ false
-    → appended n index key value st ≡ after_put n index key value st
-put_free n index key value st none free =
-    let above : nat_lt index st.floor ≡ false = ap (nat_lt index) none ∙ not_below_0 index in
-    sym (ap (λ b. if b || has_index n st index then st else appended n index key value st) above
-    ∙ ap (λ b. if b then st else appended n index key value st) free)
-  where
-    not_below_0 : (i : ℕ) → nat_lt i 0 ≡ false
-    not_below_0 i = grind (arith, nat_tests)

@@ -21,13 +21,19 @@ use Rattle.paired.specs.GlobSections as glob
 use Rattle.paired.specs.Pair.{Pair, IsPair, length_of, list_of, records_of, synced_length}
 use Rattle.paired.specs.Records as stored
 use Rattle.paired.proofs.PairAppending.{records-push}
-use Rattle.archives.specs.Archives.{Archive, IsArchive}
+use Rattle.paired.proofs.PairReads.{index_size}
+use Rattle.paired.proofs.RecordLemmas.{length-records}
+use Rattle.archives.specs.Archives.{Archive, Buffers, IsArchive}
 use Rattle.archives.specs.IndexRecord.{IsSpelled, index_record, index_of, key_of}
 use Rattle.archives.specs.IndexRecordLaws.{index_of-index_record, key_of-index_record, length-index_record}
 use Rattle.archives.specs.Machine.{section_of}
 use Rattle.archives.specs.Rows.{HasRoom, Row, row_in}
 use Rattle.archives.proofs.ArchiveStands.{list_records}
 use Rattle.archives.proofs.PutRows.{all_push, few_now, few_sections_now, other_or_same}
+
+-- a section has as many records as it counts
+record_counted : {F S : Type 0} {gs : _} (p : Pair F (PageBlob S gs)) (d : Disk) (s : ℕ) → length (records_of p d s) ≡ length_of p s
+record_counted p d s = length-records p.layout.record_size _ ∙ ap (λ (n : ℕ). n / p.layout.record_size) (index_size p.index.sections d s)
 
 -- a section's records are whole
 pub whole_bytes : {F S : Type 0} {gs : _} {g : buffer.Ghosts (PageBlob S gs)} {gives : F → Setting} {h : buffer.Ghosts WriteBlob} {takes : WriteFactory → Setting} {told : Type 0} (p : Pair F (PageBlob S gs)) (opened : OpenedList) (d : Disk)
@@ -69,8 +75,8 @@ module _ {F S : Type 0} {gs : _} (a : Archive F (PageBlob S gs)) (q : Pair F (Pa
     pub size : n < 2 ^ 32
     pub room : told → glob.section_size a.pair.values sec + n < 2 ^ 64
 
-  module _ {g : buffer.Ghosts (PageBlob S gs)} {gives : F → Setting} {h : buffer.Ghosts WriteBlob} {takes : WriteFactory → Setting} {told : Type 0} {opened : OpenedList}
-      (archive : IsArchive a g gives h takes told opened d) (adds : Adds told) where
+  module _ {bs : Buffers F (PageBlob S gs)} {told : Type 0} {opened : OpenedList}
+      (archive : IsArchive a bs told opened d) (adds : Adds told) where
     long_record : length new_record ≡ a.pair.layout.record_size
     long_record = length-index_record a.key_size index key (glob.section_size a.pair.values sec) n adds.sized ∙ sym adds.long
 
@@ -138,6 +144,19 @@ module _ {F S : Type 0} {gs : _} (a : Archive F (PageBlob S gs)) (q : Pair F (Pa
     other_length s other =
         ap (λ (o : Option (PageBlob S gs)). fixed.size_held o / q.layout.record_size) (adds.others s other).0.held ∙ ap (λ (k : ℕ). fixed.section_size a.pair.index.sections s / k) adds.record_size
 
+    -- the section has one record more than it had
+    length_now : told → length_of q sec ≡ length_of a.pair sec + 1
+    length_now t = sym (record_counted q e sec) ∙ ap length (records_now t) ∙ length-append (records_of a.pair d sec) (new_record ∷ []) ∙ ap (λ (k : ℕ). k + 1) (record_counted a.pair d sec)
+
+    unsynced_now : {now : OpenedList} → IsPair bs.pages bs.gives bs.values bs.takes told q now e → told → (s : ℕ) → IsTrue (is_written s) → synced_length q s < length_of q s
+    unsynced_now pair t s is = elim (other_or_same sec s) [
+      | inl same ↦ subst (λ (u : ℕ). synced_length q u < length_of q u) (sym same) (omega (arith, adds.synced sec, archive.pair.settled.lengths sec, length_now t))
+      | inr other ↦ elim (adds.written_now s is) [
+        | inl was ↦ omega (arith, adds.synced s, archive.unsynced t s was, other_length s other)
+        | inr same ↦ absurd (other same)
+      ]
+    ]
+
     all_with_rows : (r : ℕ → List Row) (ss : List ℕ) → AllByRecursion (λ s. r s ≢ []) ss → AllByRecursion (λ s. (0 ≤ s) × (r s ≢ [])) ss
     all_with_rows r [] all = tt
     all_with_rows r (s ∷ ss) all = ((omega arith, all.0), all_with_rows r ss all.1)
@@ -147,7 +166,7 @@ module _ {F S : Type 0} {gs : _} (a : Archive F (PageBlob S gs)) (q : Pair F (Pa
     all_rows r (s ∷ ss) all = (all.0.1, all_rows r ss all.1)
 
     -- it may be used
-    pub grown_archive : {now : OpenedList} → IsPair g gives h takes told q now e → HasRoom a.most_sections a.most_records a.rows sec → 1 ≤ a.most_records → IsArchive grown g gives h takes told now e
+    pub grown_archive : {now : OpenedList} → IsPair bs.pages bs.gives bs.values bs.takes told q now e → HasRoom a.most_sections a.most_records a.rows sec → 1 ≤ a.most_records → IsArchive grown bs told now e
     grown_archive pair fits some = record {
       pair = pair;
       items = archive.items;
@@ -166,4 +185,5 @@ module _ {F S : Type 0} {gs : _} (a : Archive F (PageBlob S gs)) (q : Pair F (Pa
           let was = adds.written s is in
           adds.synced s ∙ archive.unwritten s was.1 ∙ sym (other_length s was.0);
       written = written_rows;
+      unsynced = unsynced_now pair;
     }

@@ -4,17 +4,13 @@ use Rattle.std.specs.List.{AllByRecursion}
 use Rattle.blob_device.specs.Disk.{Disk, Key, MayLeave}
 use Rattle.value_codec.specs.declared.codec.Error as codec
 use Rattle.sealed_pages.specs.declared.page_blob.PageBlob.{PageBlob}
-use Rattle.sealed_pages.specs.declared.write_blob.WriteBlob.{WriteBlob}
-use Rattle.segments.specs.declared.buffer.SectionBuffer as buffer
-use Rattle.segments.specs.declared.unsealed.WriteFactory.{WriteFactory}
 use Rattle.segments.specs.Sections.{section_key}
-use Rattle.segments.specs.Setting.{Setting}
 use Rattle.segments.proofs.KeyLemmas.{keys_differ}
 use Rattle.paired.specs.GlobSections as glob
 use Rattle.paired.specs.Pair.{HasNoBytes, Pair, IsSoundOn, list_of, records_of}
 use Rattle.paired.specs.Places.{Follow}
 use Rattle.paired.proofs.RecordLemmas.{all_by}
-use Rattle.archives.specs.Archives.{Archive, IsArchive, IsSoundArchive, LeavesNoForeign, filing_of, state_of}
+use Rattle.archives.specs.Archives.{Archive, Buffers, IsArchive, IsSoundArchive, LeavesNoForeign, filing_of, state_of}
 use Rattle.archives.specs.Filing.{filed}
 use Rattle.archives.specs.Machine.{after_put, appended, section_of}
 use Rattle.archives.specs.Rows.{Row}
@@ -44,7 +40,7 @@ module _ {F S : Type 0} {gs : _} (a : Archive F (PageBlob S gs)) (q : Pair F (Pa
     pub same : (bytes : List ℕ) → refusal bytes ≡ a.refusal bytes
     pub small : sec < 2 ^ 64
 
-  module _ {g : buffer.Ghosts (PageBlob S gs)} {gives : F → Setting} {h : buffer.Ghosts WriteBlob} {takes : WriteFactory → Setting} {told : Type 0} {opened : _} (archive : IsArchive a g gives h takes told opened d) (t : told)
+  module _ {bs : Buffers F (PageBlob S gs)} {told : Type 0} {opened : _} (archive : IsArchive a bs told opened d) (t : told)
       (adds : Adds a q refusal rows Filled is_written index sec here key n d e told) (asked : IsFree a index sec here key value n d) (sound : IsSoundArchive a d) (sounds : Sounds) where
     abbrev record_now : List ℕ
     record_now = new_record a q refusal rows Filled is_written index sec here key n d e

@@ -20,11 +20,10 @@ use Rattle.paired.specs.GlobSections as glob
 use Rattle.paired.specs.Pair.{list_of, records_of, synced_length}
 use Rattle.paired.specs.Places.{Follow}
 use Rattle.paired.specs.Records as stored
-use Rattle.paired.proofs.GlobLemmas.{buffers}
 use Rattle.paired.proofs.PairAppending.{follow-push}
 use Rattle.paired.proofs.PairReads.{leaves_now}
 use Rattle.paired.proofs.RecordLemmas.{all_by}
-use Rattle.archives.specs.Archives.{Archive, IsArchive, IsSoundArchive, filing_of, state_of}
+use Rattle.archives.specs.Archives.{Archive, Buffers, IsArchive, IsSoundArchive, filing_of, state_of}
 use Rattle.archives.specs.Commands.{Command, Put}
 use Rattle.archives.specs.Filing.{Filing, filed, kept}
 use Rattle.archives.specs.IndexRecord.{index_record, index_of, key_of}
@@ -33,7 +32,7 @@ use Rattle.archives.specs.Machine.{Entry, State, after_put, appended, has_index,
 use Rattle.archives.specs.Putting.{is_taken}
 use Rattle.archives.specs.Rows.{HasRoom, Row, row_in}
 use Rattle.archives.specs.Standing.{Leaves, StandsFor, submitted}
-use Rattle.archives.proofs.ArchiveStands.{are_filed, in_section, length_rows, list_records, names_left, no_foreign, no_list, stands_at}
+use Rattle.archives.proofs.ArchiveStands.{are_filed, glob_buffers, in_section, length_rows, list_records, names_left, no_foreign, no_list, stands_at}
 use Rattle.archives.proofs.PutRows.{all_push, few_now, few_sections_now, other_or_same}
 use Rattle.archives.proofs.StandLemmas.{AreFiled, keeps_stand}
 
@@ -43,7 +42,7 @@ use Rattle.archives.proofs.StandLemmas.{AreFiled, keeps_stand}
 pub at_rest : {F S : Type 0} {gs : _} {g : buffer.Ghosts (PageBlob S gs)} {gives : F → Setting} {takes : WriteFactory → Setting} {told : Type 0} {opened : _} (a : Archive F (PageBlob S gs)) (d : Disk)
     → 1 ≤ a.pair.layout.record_size → a.pair.index.sections.partition ≡ a.pair.layout.index → a.pair.values.partition ≡ a.pair.layout.values → a.pair.store.partition ≡ a.pair.layout.metadata
     → ((s : ℕ) (v : PageBlob S gs) → a.pair.index.sections.held s ≡ Some v → v.page_size ≡ a.pair.layout.page_size)
-    → IsArchive a g gives buffers takes told opened d → told → IsSoundArchive a d → Leaves (filing_of a) (state_of a d) None d
+    → IsArchive a (glob_buffers g gives takes) told opened d → told → IsSoundArchive a d → Leaves (filing_of a) (state_of a d) None d
 at_rest {opened = opened} a d pos index values store paged archive t sound =
     stands_at a d archive t sound (λ _. ⊥) d (λ q other. refl) (leaves_now a.pair opened d pos index values store paged archive.pair t sound.pair)
 
@@ -157,7 +156,7 @@ module _ {F S : Type 0} {gs : _} (a : Archive F (PageBlob S gs)) (index sec : �
           ∙ ap (λ (b : Bool). if b then map (filed (filing_of a)) (list_of a.pair d s) ++ filed_entry ∷ [] else map (filed (filing_of a)) (list_of a.pair d s)) (sym is)
     ]
 
-    module _ {g : buffer.Ghosts (PageBlob S gs)} {gives : F → Setting} {h : _} {takes : WriteFactory → Setting} {told : Type 0} {opened : _} (archive : IsArchive a g gives h takes told opened d) (t : told) (sound : IsSoundArchive a d) where
+    module _ {bs : Buffers F (PageBlob S gs)} {told : Type 0} {opened : _} (archive : IsArchive a bs told opened d) (t : told) (sound : IsSoundArchive a d) where
       not_there : has_index a.items (state_of a d) index ≡ false
       not_there =
           let s : ℕ = section_of a.items index in
@@ -278,7 +277,7 @@ module _ {F S : Type 0} {gs : _} (a : Archive F (PageBlob S gs)) (index sec : �
       subst (λ (x : Dev). Always (time before) (time x) Under) (sym same) (always_start (time before) Under more)
 
   -- At every moment each crash leaves what stands for the state with the put under way: where the record or its value had no room nothing was done.
-  pub put_moments : {g : buffer.Ghosts (PageBlob S gs)} {gives : F → Setting} {h : _} {takes : WriteFactory → Setting} {told : Type 0} {opened : _} → IsArchive a g gives h takes told opened (disk (time before)) → told → IsSoundArchive a (disk (time before))
+  pub put_moments : {bs : Buffers F (PageBlob S gs)} {told : Type 0} {opened : _} → IsArchive a bs told opened (disk (time before)) → told → IsSoundArchive a (disk (time before))
       → (n ≤ 2 ^ 32 - 1 → IsFree a index sec here key value n (disk (time before))) → HasRoom a.most_sections a.most_records a.rows sec → 1 ≤ a.most_records → sec < 2 ^ 64
       → (2 ^ 32 - 1 < n → now ≡ before) → (n ≤ 2 ^ 32 - 1 → IsSomeAnd (a.pair.values.held sec) (λ v. 2 ^ 64 ≤ count_of v + n) → now ≡ before)
       → Keeping a.pair.layout (wanted a index sec here key value n (disk (time before))) (synced_length a.pair) (λ _. ⊥) (λ q. IsIndexOf a.pair.layout (λ s. s ≡ sec) q ⊎ IsValuesOf a.pair.layout (λ s. s ≡ sec) q) (time before) (time now)

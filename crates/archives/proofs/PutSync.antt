@@ -1,14 +1,11 @@
 -- A put, and then a sync.
-use Rattle.std.proofs.Common.{◌≡◌, ◌≢◌, ◌⊎◌, ◌↔◌, inl, inr, refl, sym, ◌∙◌, ap, subst, ℕ, ◌^◌, ◌<◌, ◌≤◌, List, [], length, take, Bool, true, false, Option, None, Some, IsTrue, Result, Ok, Err, OnErr, OnOk, arith}
+use Rattle.std.proofs.Common.{◌≡◌, ◌≢◌, ◌⊎◌, ◌↔◌, inl, inr, refl, sym, ◌∙◌, ap, subst, ℕ, ◌^◌, ◌<◌, ◌≤◌, List, [], length, take, false, Option, None, Some, IsTrue, arith}
 use Rattle.std.proofs.Math.Nat.{div-mul-le_self}
-use Rattle.std.specs.Result.{IsErrOf}
 use Rattle.blob_device.specs.Disk.{Disk, Key}
-use Rattle.blob_device.specs.Timeline.{Timeline, disk, Always}
-use Rattle.blob_device.specs.declared.runtime.RError.TheVariants as runtime
-use Rattle.blob_device.proofs.Moments.{always_now, always_start, always_then, always_weaker}
+use Rattle.blob_device.specs.Timeline.{Timeline, Always}
+use Rattle.blob_device.proofs.Moments.{always_weaker}
 use Rattle.meta_store.specs.Blobs.{blob_of}
 use Rattle.meta_store.specs.Store.{Store}
-use Rattle.meta_store.specs.declared.error.Error.TheVariants as metadata
 use Rattle.value_codec.specs.declared.codec.Error as codec
 use Rattle.value_codec.specs.declared.key.Key8.{Key8}
 use Rattle.sealed_pages.specs.declared.page_blob.PageBlob.{PageBlob}
@@ -17,16 +14,12 @@ use Rattle.paired.specs.Crashes.{IsOwn}
 use Rattle.paired.specs.Kept.{IsSameLayout, Layout, marker_of}
 use Rattle.paired.specs.Pair.{synced_length}
 use Rattle.archives.specs.Archives.{Archive, filing_of, state_of}
-use Rattle.archives.specs.Commands.{Command, Put, PutStart, PutSync, Start, Sync}
+use Rattle.archives.specs.Commands.{Command, PutSync, Sync}
 use Rattle.archives.specs.Filing.{Filing, IsSameFiling, kept}
 use Rattle.archives.specs.Machine.{Entry, State, after_put, after_sync, section_of}
 use Rattle.archives.specs.Putting.{IsMovingAfter, IsWrittenAfter, is_taken}
-use Rattle.archives.specs.Refusing.{HasFailed, HasLostMarkers, HasNoRoom, IsTooLarge}
 use Rattle.archives.specs.Standing.{IsGoing, IsPrefix, Leaves, submitted}
 use Rattle.archives.specs.Syncing.{IsMoving}
-use Rattle.archives.specs.declared.error.Error.{Error}
-use Rattle.archives.specs.declared.error.Error.TheVariants.{Full, Metadata}
-use Rattle.archives.proofs.PutErrors.{two_errors}
 
 -- ---- states
 
@@ -82,17 +75,6 @@ filing_then f g h one two = record {
 
 -- ---- moments
 
--- Of a command that puts and then syncs: a state in which a put submits what the command does.
-module _ (f : Filing) (st : State (List ℕ)) (index : ℕ) (key value : List ℕ) where
-  -- while the put goes on
-  pub under_put_sync : (old new : Timeline) → Always old new (Leaves f st (Some (Put index key value))) → Always old new (Leaves f st (Some (PutSync index key value)))
-  under_put_sync old new = always_weaker old new (Leaves f st (Some (Put index key value))) (Leaves f st (Some (PutSync index key value)))
-      (stands_as f st st (Some (Put index key value)) (Some (PutSync index key value)) (λ s. refl) (λ s. omega arith) (λ s none. none))
-
-  pub under_put_start : (old new : Timeline) → Always old new (Leaves f st (Some (Put index key value))) → Always old new (Leaves f st (Some (PutStart index key value)))
-  under_put_start old new = always_weaker old new (Leaves f st (Some (Put index key value))) (Leaves f st (Some (PutStart index key value)))
-      (stands_as f st st (Some (Put index key value)) (Some (PutStart index key value)) (λ s. refl) (λ s. omega arith) (λ s none. none))
-
 -- while the sync goes on, over a state that the put left
 module _ {F S : Type 0} {gs : _} (a b : Archive F (PageBlob S gs)) (d e : Disk) (index : ℕ) (key value : List ℕ) (filing : filing_of b ≡ filing_of a) (step : state_of b e ≡ after_put a.items index key value (state_of a d))
     (synced : (s : ℕ) → synced_length b.pair s ≡ synced_length a.pair s) where
@@ -100,11 +82,6 @@ module _ {F S : Type 0} {gs : _} (a b : Archive F (PageBlob S gs)) (d e : Disk) 
   under_sync_put old new = always_weaker old new (Leaves (filing_of b) (state_of b e) (Some Sync)) (Leaves (filing_of a) (state_of a d) (Some (PutSync index key value)))
       (λ m leaves. stands_as (filing_of a) (state_of b e) (state_of a d) (Some Sync) (Some (PutSync index key value)) (λ s. ap (λ (st : State (List ℕ)). st.lists s) step) (λ s. omega (arith, synced s)) (λ s none. none) m
       (subst (λ (f : Filing). Leaves f (state_of b e) (Some Sync) m) filing leaves))
-
-  pub under_start_put : (old new : Timeline) → Always old new (Leaves (filing_of b) (state_of b e) (Some Start)) → Always old new (Leaves (filing_of a) (state_of a d) (Some (PutStart index key value)))
-  under_start_put old new = always_weaker old new (Leaves (filing_of b) (state_of b e) (Some Start)) (Leaves (filing_of a) (state_of a d) (Some (PutStart index key value)))
-      (λ m leaves. stands_as (filing_of a) (state_of b e) (state_of a d) (Some Start) (Some (PutStart index key value)) (λ s. ap (λ (st : State (List ℕ)). st.lists s) step) (λ s. omega (arith, synced s)) (λ s none. none) m
-      (subst (λ (f : Filing). Leaves f (state_of b e) (Some Start) m) filing leaves))
 
   -- where all has settled that was written
   pub settled_put : (m : Disk) → Leaves (filing_of b) (after_sync (state_of b e)) None m → Leaves (filing_of a) (after_sync (after_put a.items index key value (state_of a d))) None m
@@ -138,42 +115,7 @@ module _ {F S : Type 0} {gs : _} (a : Archive F (PageBlob S gs)) (index : ℕ) (
     λ is. other (inr (inl (section_of a.items index, section_small a.items index small, inr (free, refl), is))),
   )
 
-  -- What a put promises of all blobs but those of the section holds of those that are left, since nothing is done where the index is taken.
-  pub left_by_put : {X : Type 0} (was now : Key → X) → (IsTrue (is_taken a index) → (q : Key) → now q ≡ was q)
-      → ((q : Key) → q ≢ section_key a.pair.layout.index (section_of a.items index) → q ≢ section_key a.pair.layout.values (section_of a.items index) → now q ≡ was q)
-      → (q : Key) → IsLeft q → now q ≡ was q
-  left_by_put was now taken others q other = go (is_taken a index) refl
-    where
-      go : (b : Bool) → is_taken a index ≡ b → now q ≡ was q
-      go true is = taken is q
-      go false is = (let apart = not_here is q other in others q apart.0 apart.1)
-
-  -- at each moment
-  pub alone_put : {Dev : Type 0} (time : Dev → Timeline) (before now : Dev) → (IsTrue (is_taken a index) → now ≡ before)
-      → Always (time before) (time now) (λ d. (q : Key) → q ≢ section_key a.pair.layout.index (section_of a.items index) → q ≢ section_key a.pair.layout.values (section_of a.items index) → d q ≡ disk (time before) q)
-      → Always (time before) (time now) (λ d. (q : Key) → IsLeft q → d q ≡ disk (time before) q)
-  alone_put {Dev = Dev} time before now taken always = go (is_taken a index) refl
-    where
-      go : (b : Bool) → is_taken a index ≡ b → Always (time before) (time now) (λ d. (q : Key) → IsLeft q → d q ≡ disk (time before) q)
-      go true is = subst (λ (x : Dev). Always (time before) (time x) (λ d. (q : Key) → IsLeft q → d q ≡ disk (time before) q)) (sym (taken is)) (always_start (time before) (λ d. (q : Key) → IsLeft q → d q ≡ disk (time before) q) (λ q other. refl))
-      go false is = always_weaker (time before) (time now) (λ d. (q : Key) → q ≢ section_key a.pair.layout.index (section_of a.items index) → q ≢ section_key a.pair.layout.values (section_of a.items index) → d q ≡ disk (time before) q)
-          (λ d. (q : Key) → IsLeft q → d q ≡ disk (time before) q) (λ d others q other. (let apart = not_here is q other in others q apart.0 apart.1)) always
-
   module _ (b : Archive F (PageBlob S gs)) (layout : IsSameLayout a.pair.layout b.pair.layout) (written : (s : ℕ) → IsTrue (b.is_written s) ↔ IsWrittenAfter a index s) where
-    -- the sync leaves them alone too
-    left_by_sync : (q : Key) → IsLeft q → IsOwn b.pair.layout (λ s. IsTrue (b.is_written s)) q → ⊥
-    left_by_sync q other own = other (own_as a.pair.layout b.pair.layout (λ s. IsTrue (b.is_written s)) (IsWrittenAfter a index) q layout (λ s is. (written s).0 is) own)
-
-    pub alone_sync : (t0 t1 t2 : Timeline) → Always t0 t1 (λ d. (q : Key) → IsLeft q → d q ≡ disk t0 q) → Always t1 t2 (λ d. (q : Key) → (IsOwn b.pair.layout (λ s. IsTrue (b.is_written s)) q → ⊥) → d q ≡ disk t1 q)
-        → Always t0 t2 (λ d. (q : Key) → IsLeft q → d q ≡ disk t0 q)
-    alone_sync t0 t1 t2 first second =
-        let P : Disk → Type 0 = λ d. (q : Key) → IsLeft q → d q ≡ disk t0 q in
-        let between = always_now t0 t1 P first in
-        always_then t0 t1 t2 P first (always_weaker t1 t2 (λ d. (q : Key) → (IsOwn b.pair.layout (λ s. IsTrue (b.is_written s)) q → ⊥) → d q ≡ disk t1 q) P (λ d others q other. others q (left_by_sync q other) ∙ between q other) second)
-
-    pub left_then : {X : Type 0} (x y z : Key → X) → ((q : Key) → IsLeft q → y q ≡ x q) → ((q : Key) → (IsOwn b.pair.layout (λ s. IsTrue (b.is_written s)) q → ⊥) → z q ≡ y q) → (q : Key) → IsLeft q → z q ≡ x q
-    left_then x y z first second q other = second q (left_by_sync q other) ∙ first q other
-
     -- a marker moves by the sync just where it moves once the put has ended
     module _ (store : b.pair.store ≡ a.pair.store) (synced : (s : ℕ) → synced_length b.pair s ≡ synced_length a.pair s) where
       same_marker : (s : ℕ) → marker_of b.pair.store.entries s ≡ marker_of a.pair.store.entries s
@@ -204,73 +146,3 @@ module _ {F S : Type 0} {gs : _} (a : Archive F (PageBlob S gs)) (index : ℕ) (
           ],
         ),
       )
-
--- ---- errors
-
--- what holds of an error holds where there is one
-pub at_err : {T E P : Type 0} (r : Result T E) (x : E) → OnErr r P → IsErrOf r x → P
-at_err (Ok v) x p is = absurd (cc is)
-at_err (Err e) x p is = p
-
-pub not_ok : {T E : Type 0} (P : Type 0) (r : Result T E) (x : E) → IsErrOf r x → OnOk r P
-not_ok P (Ok v) x is = absurd (cc is)
-not_ok P (Err e) x is = tt
-
--- an error that is passed on is the same
-pub passed_on : {T U E : Type 0} (inner : Result T E) (outer : Result U E) (e x : E) → inner ≡ Err e → outer ≡ Err e → IsErrOf outer x → IsErrOf inner x
-passed_on inner outer e x inside answer is = cc
-
--- a put does not lose markers
-pub put_keeps_markers : {T : Type 0} (r : Result T Error) (N : Type 0) (before now : ℕ) (x : _) → IsErrOf r Full ⊎ (IsTooLarge r ⊎ ((HasNoRoom r × N) ⊎ HasFailed r before now)) → IsErrOf r (Metadata x) → ⊥
-put_keeps_markers r N before now x cause is = elim cause [
-  | inl full ↦ two_errors _ _ r (λ same. cc) full is
-  | inr (inl large) ↦ two_errors _ _ r (λ same. cc) large is
-  | inr (inr (inl room)) ↦ two_errors _ _ r (λ same. cc) room.0 is
-  | inr (inr (inr (inl memory))) ↦ two_errors _ _ r (λ same. cc) memory is
-  | inr (inr (inr (inr fault))) ↦ two_errors _ _ r (λ same. cc) fault.0 is
-]
-
--- a sync that lost the markers lost them itself
-pub lost_by_sync : {T : Type 0} (r : Result T Error) (before now : ℕ) → IsErrOf r Full ⊎ (HasFailed r before now ⊎ HasLostMarkers r before now) → IsErrOf r (Metadata (metadata.Runtime runtime.Fault)) → HasLostMarkers r before now
-lost_by_sync r before now cause is = elim cause [
-  | inl full ↦ absurd (two_errors _ _ r (λ same. cc) full is)
-  | inr (inl (inl memory)) ↦ absurd (two_errors _ _ r (λ same. cc) memory is)
-  | inr (inl (inr fault)) ↦ absurd (two_errors _ _ r (λ same. cc) fault.0 is)
-  | inr (inr lost) ↦ lost
-]
-
--- a sync finds no value too large
-pub sync_not_large : {T : Type 0} (r : Result T Error) (before now : ℕ) → IsErrOf r Full ⊎ (HasFailed r before now ⊎ HasLostMarkers r before now) → IsTooLarge r → ⊥
-sync_not_large r before now cause is = elim cause [
-  | inl full ↦ two_errors _ _ r (λ same. cc) full is
-  | inr (inl (inl memory)) ↦ two_errors _ _ r (λ same. cc) memory is
-  | inr (inl (inr fault)) ↦ two_errors _ _ r (λ same. cc) fault.0 is
-  | inr (inr lost) ↦ two_errors _ _ r (λ same. cc) lost.0 is
-]
-
--- ---- causes
-
-abbrev PutCause : {T : Type 0} → Result T Error → Type 0 → ℕ → ℕ → Type 0
-PutCause r N before now = IsErrOf r Full ⊎ (IsTooLarge r ⊎ ((HasNoRoom r × N) ⊎ HasFailed r before now))
-
-abbrev BothCause : {T : Type 0} → Result T Error → Type 0 → ℕ → ℕ → Type 0
-BothCause r N before now = IsErrOf r Full ⊎ (IsTooLarge r ⊎ ((HasNoRoom r × N) ⊎ (HasFailed r before now ⊎ HasLostMarkers r before now)))
-
--- why a put failed is why the call did
-pub put_cause : {T U : Type 0} (inner : Result T Error) (outer : Result U Error) (e : Error) → inner ≡ Err e → outer ≡ Err e → (N : Type 0) (before now : ℕ) → PutCause inner N before now → BothCause outer N before now
-put_cause inner outer e inside answer N before now cause = elim cause [
-  | inl full ↦ inl (passed_on outer inner e _ answer inside full)
-  | inr (inl large) ↦ inr (inl (passed_on outer inner e _ answer inside large))
-  | inr (inr (inl room)) ↦ inr (inr (inl (passed_on outer inner e _ answer inside room.0, room.1)))
-  | inr (inr (inr (inl memory))) ↦ inr (inr (inr (inl (inl (passed_on outer inner e _ answer inside memory)))))
-  | inr (inr (inr (inr fault))) ↦ inr (inr (inr (inl (inr (passed_on outer inner e _ answer inside fault.0, fault.1)))))
-]
-
--- and so is why the sync failed
-pub sync_cause : {T : Type 0} (r : Result T Error) {N : Type 0} (first before now : ℕ) → first ≤ before → IsErrOf r Full ⊎ (HasFailed r before now ⊎ HasLostMarkers r before now) → BothCause r N first now
-sync_cause r first before now le cause = elim cause [
-  | inl full ↦ inl full
-  | inr (inl (inl memory)) ↦ inr (inr (inr (inl (inl memory))))
-  | inr (inl (inr fault)) ↦ inr (inr (inr (inl (inr (fault.0, omega (arith, le, fault.1))))))
-  | inr (inr lost) ↦ inr (inr (inr (inr (lost.0, omega (arith, le, lost.1)))))
-]

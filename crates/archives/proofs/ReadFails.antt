@@ -16,10 +16,9 @@ use Rattle.paired.specs.GlobReading as frames
 use Rattle.paired.proofs.PairFailing.{rose_before}
 use Rattle.archives.specs.Archives.{Archive}
 use Rattle.archives.specs.Raised.{raised, raised_metadata}
-use Rattle.archives.specs.Reading.{HasCause, HasReadingError}
-use Rattle.archives.specs.Refusing.{HasFailed}
 use Rattle.archives.specs.declared.error.Error.{Error}
 use Rattle.archives.specs.declared.error.Error.TheVariants.{Journal, Mem}
+use Rattle.archives.proofs.ReadCauses.{HasCause, HasFailed, HasReadingError}
 
 -- ---- an error of the journal, and the archive's
 
@@ -90,17 +89,6 @@ module _ {T : Type 0} (U : Type 0) (r : Result T Error) (e : Error) (is : r ≡ 
 
   here : (x : Error) → IsErrOf {T = U} (Err e) x → IsErrOf r x
   here x has = let f : Error → Result T Error = λ y. Err y in let same : e ≡ x = cc has in is ∙ ap f same
-
-  pub same_cause : {F S : Type 0} {gs : _} (a : Archive F (PageBlob S gs)) (d : Disk) (s p : ℕ) → HasCause a d s p {T = U} (Err e) → HasCause a d s p r
-  same_cause a d s p cause = record {
-    damaged = λ k has. cause.damaged k (there (Journal (section.Runtime (InvalidChecksum k))) has);
-    absent = λ n has. cause.absent n (there (Journal (section.SectionOutOfRange n)) has);
-    past = λ n has. cause.past n (there (Journal (section.ItemOutOfRange n)) has);
-    short = λ has. cause.short (there (Journal (section.Runtime BlobInsufficientLength)) has);
-    overflow = λ has. cause.overflow (there (Journal (section.Runtime OffsetOverflow)) has);
-    mismatch = λ x y has. cause.mismatch x y (there (Journal (section.ChecksumMismatch x y)) has);
-    refused = λ x has. cause.refused x (there (Journal (section.Codec x)) has);
-  }
 
   pub same_error : (a b : ℕ) → HasReadingError {T = U} (Err e) ⊎ HasFailed {T = U} (Err e) a b → HasReadingError r ⊎ HasFailed r a b
   same_error a b (inl (inl (n, has))) = inl (inl (n, here (Journal (section.SectionOutOfRange n)) has))

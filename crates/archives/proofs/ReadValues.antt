@@ -17,11 +17,9 @@ use Rattle.segments.specs.Unsealed.{count_of}
 use Rattle.segments.specs.declared.journal.Error as journal
 use Rattle.segments.specs.declared.journal.Error.TheVariants as section
 use Rattle.segments.specs.declared.unsealed.WriteFactory.{WriteFactory}
-use Rattle.paired.specs.Crashes.{IsBlobOf}
 use Rattle.paired.specs.Frames.{HasFrame, IsBroken, bytes_at}
 use Rattle.paired.specs.GlobReading as frames
 use Rattle.paired.specs.GlobSections as glob
-use Rattle.paired.specs.Kept.{Layout}
 use Rattle.paired.specs.Pair.{IsPair, list_of, records_of}
 use Rattle.paired.proofs.GlobLemmas.{buffers, section_counted}
 use Rattle.paired.proofs.KeptLemmas.{sound_parts}
@@ -29,7 +27,8 @@ use Rattle.paired.proofs.PairReads.{frame_held, frame_not_short, frame_spells, s
 use Rattle.archives.specs.Archives.{Archive, IsArchive, IsSoundArchive}
 use Rattle.archives.specs.IndexRecord.{IsSpelled}
 use Rattle.archives.specs.Raised.{raised}
-use Rattle.archives.specs.Reading.{HasCause, NamesPlace}
+use Rattle.archives.specs.Reading.{NamesPlace}
+use Rattle.archives.proofs.ReadCauses.{HasCause}
 use Rattle.archives.specs.Rows.{row_in}
 use Rattle.archives.specs.declared.error.Error.{Error}
 use Rattle.archives.proofs.ReadFails.{Why, lower, of_why, under}
@@ -38,8 +37,8 @@ use Rattle.archives.proofs.ReadRecords.{Names, all_at, named_value, some_value, 
 -- ---- what stays
 
 -- an archive whose blobs were only read is what it was
-pub archive_read : {F S : Type 0} {gs : _} (a : Archive F (PageBlob S gs)) {g : _} {gives : _} {h : _} {takes : _} {told : Type 0} {opened : OpenedList} {d : Disk} → IsArchive a g gives h takes told opened d
-    → (new : OpenedList) (e : Disk) → IsPair g gives h takes told a.pair new e → (told → e ≡ d) → IsArchive a g gives h takes told new e
+pub archive_read : {F S : Type 0} {gs : _} (a : Archive F (PageBlob S gs)) {bs : _} {told : Type 0} {opened : OpenedList} {d : Disk} → IsArchive a bs told opened d
+    → (new : OpenedList) (e : Disk) → IsPair bs.pages bs.gives bs.values bs.takes told a.pair new e → (told → e ≡ d) → IsArchive a bs told new e
 archive_read a archive new e pair same = record {
   pair = pair;
   items = archive.items;
@@ -51,6 +50,7 @@ archive_read a archive new e pair same = record {
   within = archive.within;
   unwritten = archive.unwritten;
   written = archive.written;
+  unsynced = archive.unsynced;
 }
 
 -- ---- what was read
@@ -94,11 +94,6 @@ at_most n one two p s apart old new others reads = (
   where
     unread : (m : ℕ) (q : Key) → new q ≡ old q → reads_of (new q) ≤ reads_of (old q) + m
     unread m q same = subst (λ (o : Option Opened). reads_of o ≤ reads_of (old q) + m) (sym same) (omega arith)
-
--- No blob is read but those of a section that P names.
-pub no_others : (l : Layout) (P : ℕ → Type 0) (p : ℕ) → p < 2 ^ 64 → P p → (old new : OpenedList) → ((q : Key) → q ≢ section_key l.index p → q ≢ section_key l.values p → new q ≡ old q)
-    → (q : Key) → (IsBlobOf l P q → ⊥) → new q ≡ old q
-no_others l P p small named old new others q not = others q (λ same. not (inl (p, small, named, same))) (λ same. not (inr (p, small, named, same)))
 
 -- ---- the value of a record
 

@@ -87,8 +87,8 @@ start_leaves f d markers st settled lawful start image crash no_chance =
 -- ---- numbers that no u64 has
 
 -- no section with such a number is held
-pub none_beyond : {F S : Type 0} {gs : _} {g : _} {gives : _} {h : _} {takes : _} {told : Type 0} (a : Archive F (PageBlob S gs)) (opened : OpenedList) (d : Disk)
-    → 1 ≤ a.pair.layout.record_size → IsArchive a g gives h takes told opened d → (s : ℕ) → 2 ^ 64 ≤ s → ((state_of a d).lists s ≡ []) × ((state_of a d).synced s ≡ 0)
+pub none_beyond : {F S : Type 0} {gs : _} {bs : _} {told : Type 0} (a : Archive F (PageBlob S gs)) (opened : OpenedList) (d : Disk)
+    → 1 ≤ a.pair.layout.record_size → IsArchive a bs told opened d → (s : ℕ) → 2 ^ 64 ≤ s → ((state_of a d).lists s ≡ []) × ((state_of a d).synced s ≡ 0)
 none_beyond a opened d pos archive s far =
     let none : a.pair.index.sections.held s ≡ None = elim (none_or_value (a.pair.index.sections.held s)) [
       | inl none ↦ none

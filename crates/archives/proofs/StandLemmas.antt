@@ -19,9 +19,6 @@ use Rattle.archives.specs.Lawful.{Lawful}
 use Rattle.archives.specs.Machine.{State, section_of}
 use Rattle.archives.specs.Standing.{StandsFor, submitted}
 
-stored_of : pair.Entry → List ℕ
-stored_of e = e.stored
-
 -- the lists are those of an archive: what a lawful image asks of what it stores and keeps
 pub record AreFiled (f : Filing) (wanted : ℕ → List pair.Entry) : Type 0 where
   pub in_section : (s : ℕ) → s < 2 ^ 64 → AllByRecursion (λ e. section_of f.items (index_of e.stored) ≡ s) (wanted s)

@@ -25,7 +25,6 @@ use Rattle.paired.specs.PairFaults.{IsSyncedAfter}
 use Rattle.paired.specs.PairSync.{IsSyncOf, SyncKeeps}
 use Rattle.paired.specs.Places.{Follow}
 use Rattle.paired.specs.Records as stored
-use Rattle.paired.proofs.GlobLemmas.{buffers}
 use Rattle.paired.proofs.KeptLemmas.{follow_least}
 use Rattle.paired.proofs.OpenParts.{keys_apart}
 use Rattle.paired.proofs.PairReads.{index_size, leaves_now}
@@ -36,7 +35,7 @@ use Rattle.archives.specs.IndexRecord.{IsSpelled}
 use Rattle.archives.specs.Machine.{Entry, State, after_sync}
 use Rattle.archives.specs.Rows.{row_in}
 use Rattle.archives.specs.Standing.{Leaves}
-use Rattle.archives.proofs.ArchiveStands.{are_filed, names_left, no_foreign, stands_at, stored_again}
+use Rattle.archives.proofs.ArchiveStands.{are_filed, glob_buffers, names_left, no_foreign, stands_at, stored_again}
 use Rattle.archives.proofs.StandLemmas.{keeps_stand}
 
 -- places that follow each other end at one place only
@@ -79,7 +78,7 @@ module _ {F S : Type 0} {gs : _} (a : Archive F (PageBlob S gs)) where
   IsNamed s = IsTrue (a.is_written s)
 
   -- a section with rows holds its values
-  pub has_values : {g : _} {gives : _} {h : _} {takes : _} {told : Type 0} (opened : OpenedList) (d : Disk) → IsArchive a g gives h takes told opened d → told → IsSoundArchive a d
+  pub has_values : {bs : _} {told : Type 0} (opened : OpenedList) (d : Disk) → IsArchive a bs told opened d → told → IsSoundArchive a d
       → (s : ℕ) → a.rows s ≢ [] → IsHeld a.pair.values s
   has_values opened d archive t sound s some = elim (none_or_value (a.pair.values.held s)) [
     | inl none ↦
@@ -95,11 +94,11 @@ module _ {F S : Type 0} {gs : _} (a : Archive F (PageBlob S gs)) where
   pub stands_now : {g : _} {gives : _} {takes : _} {told : Type 0} (opened : OpenedList) (d : Disk)
       → 1 ≤ a.pair.layout.record_size → a.pair.index.sections.partition ≡ a.pair.layout.index → a.pair.values.partition ≡ a.pair.layout.values → a.pair.store.partition ≡ a.pair.layout.metadata
       → ((s : ℕ) (v : PageBlob S gs) → a.pair.index.sections.held s ≡ Some v → v.page_size ≡ a.pair.layout.page_size)
-      → IsArchive a g gives buffers takes told opened d → told → IsSoundArchive a d → Leaves (filing_of a) (state_of a d) None d
+      → IsArchive a (glob_buffers g gives takes) told opened d → told → IsSoundArchive a d → Leaves (filing_of a) (state_of a d) None d
   stands_now opened d pos index values store paged archive t sound =
       stands_at a d archive t sound (λ _. ⊥) d (λ q not. refl) (leaves_now a.pair opened d pos index values store paged archive.pair t sound.pair)
 
-  module _ {g : _} {gives : _} {h : _} {takes : _} {told : Type 0} (opened : OpenedList) (old new : Timeline) (M N : ℕ → Type 0) (archive : IsArchive a g gives h takes told opened (disk old)) (t : told)
+  module _ {bs : _} {told : Type 0} (opened : OpenedList) (old new : Timeline) (M N : ℕ → Type 0) (archive : IsArchive a bs told opened (disk old)) (t : told)
       (sound : IsSoundArchive a (disk old)) (keeps : SyncKeeps a.pair M N old new) where
     -- at every moment
     pub sync_moments : Always old new (Leaves (filing_of a) (state_of a (disk old)) None)
@@ -130,14 +129,14 @@ module _ {F S : Type 0} {gs : _} (a : Archive F (PageBlob S gs)) where
     abbrev pub synced_archive : Archive F (PageBlob S gs)
     synced_archive = record a { pair = p; refusal = refusal; is_written = is_written }
 
-    module _ (sync : IsSyncOf a.pair IsNamed IsNamed p) {g : _} {gives : _} {h : _} {takes : _} {told : Type 0} (opened : OpenedList) (d e : Disk) (archive : IsArchive a g gives h takes told opened d) where
+    module _ (sync : IsSyncOf a.pair IsNamed IsNamed p) {bs : _} {told : Type 0} (opened : OpenedList) (d e : Disk) (archive : IsArchive a bs told opened d) where
       all_synced : (s : ℕ) → synced_length p s ≡ length_of p s
       all_synced s = elim (true_or_false (a.is_written s)) [
         | inl is ↦ sync.named s is ∙ sym (sync.lengths s)
         | inr not ↦ sync.others s (not_true (a.is_written s) not) ∙ archive.unwritten s not ∙ sym (sync.lengths s)
       ]
 
-      pub synced_over : (after : OpenedList) → ((s : ℕ) → is_written s ≡ false) → IsPair g gives h takes told p after e → (told → (s : ℕ) → list_of p e s ≡ list_of a.pair d s) → IsArchive synced_archive g gives h takes told after e
+      pub synced_over : (after : OpenedList) → ((s : ℕ) → is_written s ≡ false) → IsPair bs.pages bs.gives bs.values bs.takes told p after e → (told → (s : ℕ) → list_of p e s ≡ list_of a.pair d s) → IsArchive synced_archive bs told after e
       synced_over after none pair lists = record {
         pair = pair;
         items = archive.items;
@@ -149,6 +148,7 @@ module _ {F S : Type 0} {gs : _} (a : Archive F (PageBlob S gs)) where
         within = archive.within;
         unwritten = λ s _. all_synced s;
         written = λ s is. absurd (not_true (is_written s) (none s) is);
+        unsynced = λ t s is. absurd (not_true (is_written s) (none s) is);
       }
 
       module _ (lists : (s : ℕ) → list_of p e s ≡ list_of a.pair d s) where

@@ -33,6 +33,13 @@ pub record Archive (F B : Type 0) : Type 1 where
   pub Filled : Type 0
   pub is_written : ℕ → Bool
 
+-- How the buffers of an archive are read: those F makes for records, in pages with seals, and those of values; and with which setting each is made.
+pub record Buffers (F B : Type 0) : Type 1 where
+  pub pages : buffer.Ghosts B
+  pub gives : F → Setting
+  pub values : buffer.Ghosts WriteBlob
+  pub takes : WriteFactory → Setting
+
 -- how it files its records
 abbrev pub filing_of : {F B : Type 0} → Archive F B → Filing
 filing_of a = record {
@@ -70,10 +77,10 @@ module _ {F S : Type 0} {gs : _} (a : Archive F (PageBlob S gs)) where
       pub names : LeavesNoForeign a.pair.layout d
 
   -- The archive may be used: its pair may; the rows are those of the records, each of them spelled, and in its section, and no more than the
-  -- limits allow; nothing was pruned; what is not synced is in sections that were written; and each of these has a row.
-  pub record IsArchive (g : buffer.Ghosts (PageBlob S gs)) (gives : F → Setting) (h : buffer.Ghosts WriteBlob) (takes : WriteFactory → Setting) (told : Type 0)
-      (opened : OpenedList) (d : Disk) : Type 0 where
-    pub pair : IsPair g gives h takes told a.pair opened d
+  -- limits allow; nothing was pruned; what is not synced is in sections that were written; and each of these has
+  -- a row, and, where the disk is told, something that is not synced.
+  pub record IsArchive (buffers : Buffers F (PageBlob S gs)) (told : Type 0) (opened : OpenedList) (d : Disk) : Type 0 where
+    pub pair : IsPair buffers.pages buffers.gives buffers.values buffers.takes told a.pair opened d
     pub items : 1 ≤ a.items
     pub floor : a.floor ≡ 0
     pub pair_floor : a.pair.index.sections.floor ≡ 0
@@ -83,3 +90,4 @@ module _ {F S : Type 0} {gs : _} (a : Archive F (PageBlob S gs)) where
     pub within : AreWithin a.items a.most_sections a.most_records a.rows
     pub unwritten : (s : ℕ) → a.is_written s ≡ false → synced_length a.pair s ≡ length_of a.pair s
     pub written : (s : ℕ) → IsTrue (a.is_written s) → a.rows s ≢ []
+    pub unsynced : told → (s : ℕ) → IsTrue (a.is_written s) → synced_length a.pair s < length_of a.pair s

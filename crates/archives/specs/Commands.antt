@@ -1,5 +1,5 @@
 -- What an archive may be asked. A key is its bytes, and a value is what V is.
-use Rattle.std.specs.Prelude.{ℕ, List}
+use Rattle.std.specs.Prelude.{⊤, ℕ, List}
 
 -- An index, a key and a value stand in the order in which a line of a script has them.
 pub data Command (V : Type 0) : Type 0 where
@@ -34,3 +34,16 @@ pub data Command (V : Type 0) : Type 0 where
   Prune : ℕ → Command V
   Reopen : Command V
   Destroy : Command V
+
+-- a command that every archive has, of whatever kind
+abbrev pub IsOfEvery : {V : Type 0} → Command V → Type 0
+IsOfEvery (Put index key value) = ⊤
+IsOfEvery (PutSync index key value) = ⊤
+IsOfEvery (PutStart index key value) = ⊤
+IsOfEvery (Get index) = ⊤
+IsOfEvery (GetKey key) = ⊤
+IsOfEvery (Has index) = ⊤
+IsOfEvery (HasKey key) = ⊤
+IsOfEvery Sync = ⊤
+IsOfEvery Start = ⊤
+IsOfEvery command = ⊥

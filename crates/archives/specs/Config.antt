@@ -1,5 +1,8 @@
 -- Which configurations of a prunable archive are valid.
-use Rattle.std.specs.Prelude.{◌≢◌, ◌≤◌, string_bytes, string_len}
+use Rattle.std.specs.Prelude.{◌≡◌, ◌≢◌, ◌≤◌, Result, Ok, Err, string_bytes, string_len}
+use Rattle.paired.specs.declared.oversized.opening.Config as oversized
+use Rattle.archives.specs.declared.error.Error.{Error}
+use Rattle.archives.specs.declared.error.Error.TheVariants.{Mem}
 use Rattle.archives.specs.declared.prunable.config.Config.{Config}
 use Rattle.archives.specs.Limits.{AreLimits}
 
@@ -22,3 +25,17 @@ module _ {T C : Type 0} (cfg : Config T C) where
     pub value_buffer : 1 ≤ cfg.value_write_buffer
     pub replay_buffer : 1 ≤ cfg.replay_buffer
     pub limits : AreLimits cfg.limits
+
+  -- it is where the archive's pair is kept, but for its markers
+  pub record IsPairOf (pair : oversized.Config C) : Type 0 where
+    pub records : string_bytes pair.index_partition ≡ string_bytes cfg.key_partition
+    pub values : string_bytes pair.value_partition ≡ string_bytes cfg.value_partition
+    pub pages : pair.index_pages ≡ cfg.key_pages
+    pub write_buffers : (pair.index_write_buffer ≡ cfg.key_write_buffer) × (pair.value_write_buffer ≡ cfg.value_write_buffer)
+    pub replay_buffer : pair.replay_buffer ≡ cfg.replay_buffer
+    pub codec_config : pair.codec_config ≡ cfg.codec_config
+
+  -- that, or want of memory
+  abbrev pub Pairs : Result (oversized.Config C) Error → Type 0
+  Pairs (Ok pair) = IsPairOf pair
+  Pairs (Err e) = e ≡ Mem

@@ -1,12 +1,13 @@
 -- How an archive files its records, and what an image keeps of them.
-use Rattle.std.specs.Prelude.{◌≡◌, ℕ, List, map, Option}
-use Rattle.blob_device.specs.Disk.{Image}
+use Rattle.std.specs.Prelude.{◌≡◌, ◌⊎◌, ℕ, List, map, Option}
+use Rattle.blob_device.specs.Disk.{Image, Key}
 use Rattle.value_codec.specs.declared.codec.Error as codec
+use Rattle.segments.specs.Sections.{section_key}
 use Rattle.paired.specs.Kept.{IsSameLayout, Layout, Markers, marker_of}
 use Rattle.paired.specs.Kept as pair
 use Rattle.paired.specs.Records as stored
 use Rattle.archives.specs.IndexRecord.{index_of, key_of}
-use Rattle.archives.specs.Machine.{Entry}
+use Rattle.archives.specs.Machine.{Entry, section_of}
 
 -- How the pair of records and values is stored, how many indices a section has room for, how many bytes a key has, why the codec
 -- refuses the spelling of a value, if it does, and how many sections, and records in a section, there may be.
@@ -44,3 +45,7 @@ module _ (f : Filing) where
     -- the same, as the machine has them
     abbrev pub kept : ℕ → List (Entry (List ℕ))
     kept s = map filed (kept_entries s)
+
+-- one of the two blobs of the section of an index
+abbrev pub IsBlobAt : Filing → ℕ → Key → Type 0
+IsBlobAt f index q = (q ≡ section_key f.layout.index (section_of f.items index)) ⊎ (q ≡ section_key f.layout.values (section_of f.items index))

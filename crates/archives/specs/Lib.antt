@@ -1,5 +1,6 @@
 -- What this layer means to the layers above: which replies a list of commands may get, as a run of a machine whose state is
 -- a list of records for each section; and which images are lawful for an archive, what they keep, and which states they stand for.
+-- `Changes` has what every archive promises of its calls; `Puts`, `Syncs`, `Gets` and `Opens` what the prunable one does beside.
 pub mod Commands
 pub mod Replies
 pub mod Machine
@@ -16,6 +17,7 @@ pub mod FilingLaws
 pub mod Lawful
 pub mod Standing
 pub mod Archives
+pub mod Prunable
 pub mod Shown
 pub mod Refusing
 pub mod Putting
@@ -23,3 +25,10 @@ pub mod Syncing
 pub mod Finding
 pub mod Reading
 pub mod Opening
+pub mod Changes
+pub mod Puts
+pub mod Syncs
+pub mod Gets
+pub mod Enters
+pub mod Opens
+pub mod Outlasts

@@ -1,37 +1,25 @@
 -- What an opening of an archive finds, and how far it has come.
-use Rattle.std.specs.Prelude.{◌≡◌, ◌≢◌, ◌⊎◌, ◌↔◌, ℕ, ◌+◌, ◌*◌, ◌<◌, ◌≤◌, ◌^◌, List, [], length, map, take, Contains, Result, Ok, Err}
-use Rattle.std.specs.Result.{IsErrOf}
+use Rattle.std.specs.Prelude.{◌≡◌, ◌≢◌, ◌⊎◌, ◌↔◌, ℕ, ◌+◌, ◌*◌, ◌<◌, ◌≤◌, ◌^◌, List, [], length, map, take, Contains, Ok}
 use Rattle.std.specs.List.{AllByRecursion}
 use Rattle.std.specs.List.Sorted.{IsStrictlySortedBy}
 use Rattle.std.specs.Ordering.{nat_cmp}
 use Rattle.blob_device.specs.Disk.{Disk, Image, IsCrashOf}
-use Rattle.blob_device.specs.declared.runtime.RError.TheVariants as runtime
-use Rattle.value_codec.specs.declared.codec.Error as codec
 use Rattle.value_codec.specs.declared.key.Key8.{Key8}
 use Rattle.meta_store.specs.Opening.{PairOn}
-use Rattle.meta_store.specs.declared.error.Error.TheVariants as metadata
-use Rattle.meta_store.specs.declared.error.Side.{Side}
 use Rattle.meta_store.specs.declared.pair.Chosen.{Chosen}
 use Rattle.sealed_pages.specs.Reads.{IsShort}
-use Rattle.segments.specs.Refusing.{IsForeign}
 use Rattle.segments.specs.Sections.{section_key}
-use Rattle.segments.specs.declared.journal.Damage.{Damage}
-use Rattle.segments.specs.declared.journal.Error.TheVariants as journal
 use Rattle.sealed_pages.specs.declared.page_blob.PageBlob.{PageBlob}
 use Rattle.paired.specs.Crashes.{NoChanceSeal}
-use Rattle.paired.specs.Kept.{Layout, Markers, IsMarked, marker_of, stored_records}
-use Rattle.paired.specs.Opening.{HoldMarkers, as_read}
-use Rattle.paired.specs.OpeningRefusing.{IsLost}
+use Rattle.paired.specs.Kept.{Layout, Markers}
+use Rattle.paired.specs.Opening.{HoldMarkers}
 use Rattle.paired.specs.Records as stored
 use Rattle.paired.specs.Replaying.{Run, IsDue, records_given}
 use Rattle.archives.specs.Filing.{Filing, kept_entries}
 use Rattle.archives.specs.IndexRecord.{index_of}
 use Rattle.archives.specs.Lawful.{Lawful}
 use Rattle.archives.specs.Machine.{section_of}
-use Rattle.archives.specs.Refusing.{HasNoRoom}
 use Rattle.archives.specs.Rows.{Row, row_in}
-use Rattle.archives.specs.declared.error.Error.{Error}
-use Rattle.archives.specs.declared.error.Error.TheVariants.{Journal, Metadata, RecordCorrupted, Full}
 
 module _ {F S : Type 0} {gs : _} (key_size : ℕ) (rows : ℕ → List Row) (run : Run F (PageBlob S gs)) (d : Disk) where
   -- Of each section the first records that the replay gives are entered, and the others are still to be given.
@@ -48,45 +36,14 @@ abbrev pub HasStray : ℕ → (ℕ → List stored.Entry) → Type 0
 HasStray items kept = (s : ℕ) × (e : stored.Entry) × (s < 2 ^ 64) × Contains (kept s) e × (section_of items (index_of e.stored) ≢ s)
 
 -- more sections have records, or a section has more, than the limits allow
-abbrev pub IsOver : {X : Type 0} → ℕ → ℕ → (ℕ → List X) → Type 0
-IsOver sections per_section kept =
+abbrev pub IsPastLimits : {X : Type 0} → ℕ → ℕ → (ℕ → List X) → Type 0
+IsPastLimits sections per_section kept =
     ((ss : List ℕ) × IsStrictlySortedBy nat_cmp ss × AllByRecursion (λ s. (s < 2 ^ 64) × (kept s ≢ [])) ss × (sections < length ss))
     ⊎ ((s : ℕ) × (s < 2 ^ 64) × (per_section < length (kept s)))
 
 -- the markers hold the greatest version that there is
 abbrev pub HasNoVersion : Layout → Disk → Type 0
 HasNoVersion l d = (chosen : Chosen Key8 ℕ) × PairOn l.markers l.metadata d (Ok chosen) × (2 ^ 64 ≤ chosen.version + 1)
-
-module _ {T : Type 0} (result : Result T Error) where
-  -- the copies of the markers, a blob's name, a marked section, a page, a record, or the limits refuse
-  abbrev pub IsOpeningError : Type 0
-  IsOpeningError =
-      ((side : Side) × IsErrOf result (Metadata (metadata.Corruption side)))
-      ⊎ (((n : List ℕ) × IsErrOf result (Journal (journal.InvalidBlobName n)))
-      ⊎ (((x : Damage) × IsErrOf result (Journal (journal.Corruption x)))
-      ⊎ (((k : ℕ) × IsErrOf result (Journal (journal.Runtime (runtime.InvalidChecksum k))))
-      ⊎ (((n : ℕ) × IsErrOf result (Journal (journal.ItemOutOfRange n)))
-      ⊎ (((e : codec.Error) × IsErrOf result (Journal (journal.Codec e)))
-      ⊎ (HasNoRoom result ⊎ (IsErrOf result RecordCorrupted ⊎ IsErrOf result Full)))))))
-
-  -- Each of them has its cause, on the disk as it was, or, of a page that is read, as it is now.
-  pub record HasCause (f : Filing) (from to : Disk) : Type 0 where
-    pub corrupt : (side : Side) → IsErrOf result (Metadata (metadata.Corruption side)) → PairOn f.layout.markers f.layout.metadata from (Err side)
-    pub named : (n : List ℕ) → IsErrOf result (Journal (journal.InvalidBlobName n)) → IsForeign from f.layout.index n ⊎ IsForeign from f.layout.values n
-    -- A marker is lost, or the whole records of its section's sealed prefix are fewer than it says.
-    pub damage : (x : Damage) → IsErrOf result (Journal (journal.Corruption x)) → (markers : Markers) × HoldMarkers f.layout (as_read from) markers
-        × (IsLost f.layout (IsMarked markers) from x ⊎ ((m : ℕ) × IsMarked markers x.section m × (x.wanted ≡ m * f.layout.record_size)
-        × (x.kept ≡ length (stored_records f.layout (as_read from) x.section) * f.layout.record_size) × (x.kept < x.wanted)))
-    -- No matching slot covers the page as far as a record goes that a marker counts.
-    pub damaged : (k : ℕ) → IsErrOf result (Journal (journal.Runtime (runtime.InvalidChecksum k)))
-        → (markers : Markers) × HoldMarkers f.layout (as_read from) markers
-        × ((s m p : ℕ) × IsMarked markers s m × (p < m) × IsShort f.layout.seal f.layout.page_size (to (section_key f.layout.index s)).content (p * f.layout.record_size) f.layout.record_size k)
-    pub start : (n : ℕ) → IsErrOf result (Journal (journal.ItemOutOfRange n)) → ⊥
-    pub spelled : (e : codec.Error) → IsErrOf result (Journal (journal.Codec e)) → ⊥
-    -- The image keeps a record in another section than its index, or more than the limits allow; or a marker moves, and there is no next version.
-    pub stray : IsErrOf result RecordCorrupted → OfKept f (as_read from) (HasStray f.items)
-    pub full : IsErrOf result Full → OfKept f (as_read from) (IsOver f.most_sections f.most_records)
-        ⊎ (HasNoVersion f.layout from × ((markers : Markers) × HoldMarkers f.layout (as_read from) markers × ((s : ℕ) × (s < 2 ^ 64) × (marker_of markers s ≢ length (kept_entries f (as_read from) markers s)))))
 
 -- each image that a crash leaves without a chance seal is lawful
 abbrev pub LeavesLawful : Filing → Disk → Type 0

@@ -1,22 +1,41 @@
 -- What a put asks of an archive before it writes.
-use Rattle.std.specs.Prelude.{◌≡◌, ◌⊎◌, ℕ, ◌+◌, ◌-◌, ◌*◌, ◌^◌, ◌<◌, ◌≤◌, Bool, false, ◌==◌, IsTrue, IsSomeAnd, List, length, sum_by}
+use Rattle.std.specs.Prelude.{◌≡◌, ◌⊎◌, ℕ, ◌+◌, ◌-◌, ◌*◌, ◌^◌, ◌<◌, ◌≤◌, ◌&&◌, not, if◌then◌else◌, Bool, false, ◌==◌, IsTrue, Some, IsSomeAnd, List, [], ◌∷◌, ◌++◌, length, sum_by}
 use Rattle.std.specs.List.{list_any}
+use Rattle.std.specs.Option.{option_map_or}
 use Rattle.sealed_pages.specs.declared.page_blob.PageBlob.{PageBlob}
-use Rattle.sealed_pages.specs.Buffer.{extent, size_of}
+use Rattle.sealed_pages.specs.declared.write_blob.WriteBlob.{WriteBlob}
+use Rattle.sealed_pages.specs.Buffer.{FlushesNothing, extent, size_of}
 use Rattle.sealed_pages.specs.Shown as page_blob
 use Rattle.segments.specs.Sections.{IsHeld}
 use Rattle.segments.specs.Unsealed.{count_of}
 use Rattle.paired.specs.Frames.{frame}
+use Rattle.paired.specs.GlobSections as glob
+use Rattle.paired.specs.Kept.{Layout}
 use Rattle.paired.specs.Pair as pair
 use Rattle.archives.specs.Archives.{Archive}
 use Rattle.archives.specs.Filing.{Filing}
 use Rattle.archives.specs.Machine.{State, section_of}
-use Rattle.archives.specs.Rows.{HasRoom}
+use Rattle.archives.specs.Rows.{HasRoom, Row}
+
+-- of a section: how many bytes of its records are not flushed, and how many of its values
+abbrev pub record_tail : {F S : Type 0} {gs : _} → Archive F (PageBlob S gs) → ℕ → ℕ
+record_tail a s = option_map_or (λ u. length (page_blob.shown u).tip - (page_blob.shown u).from) (a.pair.index.sections.held s) 0
+
+abbrev pub value_tail : {F B : Type 0} → Archive F B → ℕ → ℕ
+value_tail a s = glob.pending_size a.pair.values s
 
 module _ {F S : Type 0} {gs : _} (a : Archive F (PageBlob S gs)) (index : ℕ) where
   -- a record has the index
   abbrev pub is_taken : Bool
   is_taken = list_any (λ r. r.index == index) (a.rows (section_of a.items index))
+
+  -- the rows of a section once a record with this key was put
+  abbrev pub rows_after : List ℕ → ℕ → List Row
+  rows_after key s = if not is_taken && (s == section_of a.items index) then a.rows s ++ record { index = index; key = key } ∷ [] else a.rows s
+
+  -- how many bytes the values of a section then have, where the frame has n
+  abbrev pub size_after : ℕ → ℕ → ℕ
+  size_after n s = if not is_taken && (s == section_of a.items index) then glob.section_size a.pair.values s + n else glob.section_size a.pair.values s
 
   -- the limits allow one record more in the index's section
   abbrev pub IsAllowed : Type 0
@@ -38,9 +57,23 @@ module _ {F S : Type 0} {gs : _} (a : Archive F (PageBlob S gs)) (index : ℕ) w
     pub allowed : IsAllowed
     pub large : 2 ^ 32 - 1 < n
 
+  -- Both buffers of the section are held, and neither is filled by one record more, whose frame has n bytes.
+  pub record HasBufferRoom (n : ℕ) : Type 0 where
+    pub records : PageBlob S gs
+    pub held : a.pair.index.sections.held (section_of a.items index) ≡ Some records
+    pub no_flush : FlushesNothing (page_blob.shown records) a.pair.layout.record_size
+    pub values : WriteBlob
+    pub values_held : a.pair.values.held (section_of a.items index) ≡ Some values
+    pub below : glob.pending_size a.pair.values (section_of a.items index) + n < a.pair.values.factory.capacity
+
   -- both buffers of the index's section are known: by the disk, or since the section is held
   abbrev pub IsKnown : Type 0 → Type 0
   IsKnown told = told ⊎ (IsHeld a.pair.index.sections (section_of a.items index) × IsHeld a.pair.values (section_of a.items index))
+
+  -- Why a put is refused by `Full`: as in `IsFullFor`, but that want of room is only known of buffers that are.
+  pub record IsFullOver (told : Type 0) (n : ℕ) : Type 0 where
+    pub free : is_taken ≡ false
+    pub full : (IsAllowed → ⊥) ⊎ ((n ≤ 2 ^ 32 - 1) × (IsKnown told → IsPassed n))
 
   -- the section is one of those that were written, once the put ended
   abbrev pub IsWrittenAfter : ℕ → Type 0
@@ -50,8 +83,12 @@ module _ {F S : Type 0} {gs : _} (a : Archive F (PageBlob S gs)) (index : ℕ) w
   abbrev pub IsMovingAfter : Type 0
   IsMovingAfter = (s : ℕ) × pair.IsMoving a.pair IsWrittenAfter IsWrittenAfter s
 
+-- how many bytes the frame of a value has that is spelled so
+abbrev pub frame_size : Layout → List ℕ → ℕ
+frame_size l value = length (frame l.seal value)
+
 -- In a state of the machine: the records of the index's section, with both slots of their last page, or the frames of its values, would
 -- pass 2^64 with one record more, whose frame has n bytes.
 abbrev pub WouldPass : Filing → State (List ℕ) → ℕ → ℕ → Type 0
 WouldPass f st index n = (2 ^ 64 ≤ extent f.layout.page_size ((length (st.lists (section_of f.items index)) + 1) * f.layout.record_size))
-    ⊎ (2 ^ 64 ≤ sum_by (λ r. length (frame f.layout.seal r.value)) (st.lists (section_of f.items index)) + n)
+    ⊎ (2 ^ 64 ≤ sum_by (λ r. frame_size f.layout r.value) (st.lists (section_of f.items index)) + n)

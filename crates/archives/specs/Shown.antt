@@ -2,15 +2,21 @@
 use Rattle.std.specs.Prelude.{ℕ, ◌+◌, List, Option, string_bytes}
 use Rattle.std.specs.BTreeSet as set
 use Rattle.std.specs.Ordering.{nat_cmp}
-use Rattle.value_codec.specs.declared.codec.Error as codec
+use Rattle.value_codec.specs.declared.codec.Codec as codec
+use Rattle.value_codec.specs.declared.codec.Error as codec_error
 use Rattle.value_codec.specs.declared.seal.Seal as seal
 use Rattle.sealed_pages.specs.declared.page_blob.PageBlob.{PageBlob}
+use Rattle.segments.specs.contracts.unsealed.WriteBlobSectionBuffer.TheImpl as write_blob
+use Rattle.segments.specs.declared.buffer.SectionBuffer as buffer
 use Rattle.segments.specs.declared.sealed.AppendFactory.{AppendFactory}
 use Rattle.paired.specs.PairShown as pair
+use Rattle.paired.specs.declared.oversized.replaying.Replay.{Replay}
 use Rattle.paired.specs.TrackedShown.{marker_format}
 use Rattle.archives.specs.Archives as meaning
+use Rattle.archives.specs.Archives.{Buffers}
 use Rattle.archives.specs.Filing.{Filing}
 use Rattle.archives.specs.IndexRecord.{place_of}
+use Rattle.archives.specs.Prunable.{Prunable, Setup}
 use Rattle.archives.specs.Rows.{AreFilledBut, rows_of}
 use Rattle.archives.specs.declared.prunable.Archive.{Archive}
 use Rattle.archives.specs.declared.prunable.config.Config.{Config}
@@ -31,7 +37,7 @@ shown {key = k} {codec = c} {seal = s} a = record {
 }
 
 -- with keys of n bytes, under this seal, and values that the codec refuses so
-abbrev pub filing_for : {T S C : Type 0} → ℕ → seal.Ghosts S → (List ℕ → C → Option codec.Error) → Config T C → Filing
+abbrev pub filing_for : {T S C : Type 0} → ℕ → seal.Ghosts S → (List ℕ → C → Option codec_error.Error) → Config T C → Filing
 filing_for n sealing refusal cfg = record {
   layout = record {
     index = string_bytes cfg.key_partition;
@@ -49,3 +55,40 @@ filing_for n sealing refusal cfg = record {
   most_sections = cfg.limits.sections;
   most_records = cfg.limits.per_section;
 }
+
+-- how the buffers of an archive are read, where those of its records are read so
+abbrev pub buffers_by : {S : Type 0} {sealing : _} → buffer.Ghosts (PageBlob S sealing) → Buffers (AppendFactory S) (PageBlob S sealing)
+buffers_by pages = record {
+  pages = pages;
+  gives = λ f. record { page_size = f.pages.page_size; capacity = f.write_buffer };
+  values = write_blob.ghosts;
+  takes = λ f. record { page_size = 1; capacity = f.capacity };
+}
+
+-- what contracts see of archives with such buffers
+abbrev pub means : {T K V S W C : Type 0} {translator word_eq word_hash key key_eq key_ord key_partial codec seal stored fixed stored_codec : _}
+    → buffer.Ghosts (PageBlob S seal)
+    → Prunable (Archive T K V S W C translator word_eq word_hash key key_eq key_ord key_partial codec seal stored fixed stored_codec) V (AppendFactory S) (PageBlob S seal)
+means {W = w} {translator = t} {codec = c} pages = record {
+  see = shown;
+  buffers = buffers_by pages;
+  Accepts = λ a v. c.accepted v a.pair.values.codec_config;
+  spelling = c.spelling;
+  Word = w;
+  word = λ a. t.word_of a.translator;
+}
+
+-- what an opening by this configuration is asked for, with keys of n bytes, under this seal, values of this codec, and words that are made so
+abbrev pub setup_for : {T V S C W : Type 0} → ℕ → seal.Ghosts S → codec.Ghosts V C → (T → List ℕ → W) → Config T C → Setup V
+setup_for {W = w} n sealing value word_of cfg = record {
+  filing = filing_for n sealing value.refusal cfg;
+  Allows = λ v. value.accepted v cfg.codec_config;
+  Word = w;
+  word = word_of cfg.translator;
+  write_buffer = cfg.key_write_buffer;
+  value_buffer = cfg.value_write_buffer;
+}
+
+-- what the codec of a replay's values is told
+abbrev pub replay_config_of : {I V S C : Type 0} {fixed codec seal : _} → Replay I V S C fixed codec seal → C
+replay_config_of r = r.values.codec_config

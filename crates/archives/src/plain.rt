@@ -75,7 +75,8 @@ impl<K: Key, V: Clone> Machine<K, V> {
 
     fn get(&self, index: u64) -> Result<Option<V>, Error>
         requires { (v w : V) → V.is_clone v w → w ≡ v }
-        ensures value { IfOk result (λ value. (n : ℕ) → value ≡ first_value (entries_at n (state_of K.key_bytes n self.now) index)) }
+        ensures value { IfOk result (λ value. (n : ℕ)
+            → value ≡ first_value (entries_at n (state_of K.key_bytes n self.now) index)) }
         ensures memory { IsOkUnless result Error.Mem }
     {
         copied(value_at(self.items.as_slice(), index))
@@ -83,7 +84,8 @@ impl<K: Key, V: Clone> Machine<K, V> {
 
     fn put(&mut self, index: u64, key: K, value: &V) -> Result<(), Error>
         requires { (v w : V) → V.is_clone v w → w ≡ v }
-        ensures put { OnOk result ((n : ℕ) → state_of K.key_bytes n self.new ≡ after_put n index (K.key_bytes key) value.now (state_of K.key_bytes n self.old)) }
+        ensures put { OnOk result ((n : ℕ) → state_of K.key_bytes n self.new
+            ≡ after_put n index (K.key_bytes key) value.now (state_of K.key_bytes n self.old)) }
         ensures memory { IsOkUnless result Error.Mem }
         ensures unchanged { OnErr result (self.new.items.items ≡ self.old.items.items) }
     {
@@ -102,7 +104,8 @@ impl<K: Key, V: Clone> Machine<K, V> {
 
     // All that was put counts as synced.
     fn sync(&mut self)
-        ensures { (n : ℕ) → state_of K.key_bytes n self.new ≡ after_sync (state_of K.key_bytes n self.old) }
+        ensures { (n : ℕ) → state_of K.key_bytes n self.new
+            ≡ after_sync (state_of K.key_bytes n self.old) }
     {
         for item in self.items.iter_mut() {
             item.is_synced = true;
@@ -111,7 +114,9 @@ impl<K: Key, V: Clone> Machine<K, V> {
 
     fn put_and_sync(&mut self, index: u64, key: K, value: &V) -> Result<(), Error>
         requires { (v w : V) → V.is_clone v w → w ≡ v }
-        ensures put { OnOk result ((n : ℕ) → state_of K.key_bytes n self.new ≡ after_sync (after_put n index (K.key_bytes key) value.now (state_of K.key_bytes n self.old))) }
+        ensures put { OnOk result ((n : ℕ) → state_of K.key_bytes n self.new
+            ≡ after_sync (after_put n index (K.key_bytes key) value.now
+            (state_of K.key_bytes n self.old))) }
         ensures memory { IsOkUnless result Error.Mem }
         ensures unchanged { OnErr result (self.new.items.items ≡ self.old.items.items) }
     {
@@ -124,9 +129,12 @@ impl<K: Key, V: Clone> Machine<K, V> {
     /// is free up to what was synced.
     pub fn step(&mut self, command: &Command<K, V>) -> Result<Reply<V>, Error>
         requires { (v w : V) → V.is_clone v w → w ≡ v }
-        ensures step { IfOk result (λ reply. (n : ℕ) → Step n (state_of K.key_bytes n self.old) (asked K.key_bytes (λ v. v) command.now) (replied (λ v. v) reply) (state_of K.key_bytes n self.new)) }
+        ensures step { IfOk result (λ reply. (n : ℕ) → Step n (state_of K.key_bytes n self.old)
+            (asked K.key_bytes (λ v. v) command.now) (replied (λ v. v) reply)
+            (state_of K.key_bytes n self.new)) }
         ensures memory { IsOkUnless result Error.Mem }
-        ensures unchanged { OnErr result ((n : ℕ) → state_of K.key_bytes n self.new ≡ state_of K.key_bytes n self.old) }
+        ensures unchanged { OnErr result ((n : ℕ) → state_of K.key_bytes n self.new
+            ≡ state_of K.key_bytes n self.old) }
     {
         match command {
             Command::Put(index, key, value) => {

@@ -16,8 +16,8 @@ pub fn looked<A: Opens>(
     archive: &A,
     step: &Step,
 ) -> Result<Option<String>, AllocError>
-    requires { IsOver A.IsUsable archive.now dev.old }
-    ensures { IsOver A.IsUsable archive.now dev.new }
+    requires { IsOver A.meaning.IsUsable archive.now dev.old }
+    ensures { IsOver A.meaning.IsUsable archive.now dev.new }
 {
     match (step.word(), step.number(0)) {
         ("get" | "has", Some(index)) => Ok(Some(at_index(alloc, dev, archive, step, index)?)),
@@ -38,8 +38,8 @@ fn at_index<'a, A: Opens>(
     step: &Step,
     index: u64,
 ) -> Result<String, AllocError>
-    requires { IsOver A.IsUsable archive.now dev.old }
-    ensures { IsOver A.IsUsable archive.now dev.new }
+    requires { IsOver A.meaning.IsUsable archive.now dev.old }
+    ensures { IsOver A.meaning.IsUsable archive.now dev.new }
 {
     let identifier: Identifier<'a, A::Key> = Identifier::Index(index);
     if step.word() == "get" {
@@ -57,8 +57,8 @@ fn under_key<A: Opens>(
     step: &Step,
     key: &A::Key,
 ) -> Result<String, AllocError>
-    requires { IsOver A.IsUsable archive.now dev.old }
-    ensures { IsOver A.IsUsable archive.now dev.new }
+    requires { IsOver A.meaning.IsUsable archive.now dev.old }
+    ensures { IsOver A.meaning.IsUsable archive.now dev.new }
 {
     if step.word() == "getk" {
         value_text(alloc, archive.get(dev, Identifier::Key(key)))

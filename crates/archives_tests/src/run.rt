@@ -20,10 +20,10 @@ pub trait Opens: Archive<Value = Sample> + Drop {
     /// Opens the archive.
     fn open(alloc: Global, dev: &mut Memory, settings: &Settings) -> Result<Self, Error>
         requires valid { IsValid settings.now }
-        ensures over { IfOk result (λ a. IsOver Self.IsUsable a dev.new) };
+        ensures over { IfOk result (λ a. IsOver Self.meaning.IsUsable a dev.new) };
 
     /// It takes each value.
-    ghost takes: { (a : Self) (value : Sample) → Self.accepts a value };
+    ghost takes: { (a : Self) (value : Sample) → Self.meaning.Accepts a value };
 }
 
 pub type Samples = prunable::Archive<FourCap, Key8, Sample, Sha256Seal>;
@@ -57,8 +57,8 @@ fn carried_out<A: Opens>(
     notes: &mut Notes,
     step: &Step,
 ) -> Result<(Option<A>, String), AllocError>
-    requires { IfSome archive (λ a. IsOver A.IsUsable a dev.old) }
-    ensures { IfOk result (λ r. IfSome r.0 (λ a. IsOver A.IsUsable a dev.new)) }
+    requires { IfSome archive (λ a. IsOver A.meaning.IsUsable a dev.old) }
+    ensures { IfOk result (λ r. IfSome r.0 (λ a. IsOver A.meaning.IsUsable a dev.new)) }
 {
     if let Some(said) = asked(alloc, dev, notes, step)? {
         return Ok((archive, said));
@@ -80,7 +80,7 @@ fn open<A: Opens>(
     dev: &mut Memory,
     settings: &Settings,
 ) -> Result<(Option<A>, String), AllocError>
-    ensures { IfOk result (λ r. IfSome r.0 (λ a. IsOver A.IsUsable a dev.new)) }
+    ensures { IfOk result (λ r. IfSome r.0 (λ a. IsOver A.meaning.IsUsable a dev.new)) }
 {
     if !settings.is_valid() {
         return Ok((None, String::from_str(alloc, "refused: not valid")?));
@@ -118,8 +118,8 @@ fn on_archive<A: Opens>(
     archive: A,
     step: &Step,
 ) -> Result<(Option<A>, String), AllocError>
-    requires { IsOver A.IsUsable archive dev.old }
-    ensures { IfOk result (λ r. IfSome r.0 (λ a. IsOver A.IsUsable a dev.new)) }
+    requires { IsOver A.meaning.IsUsable archive dev.old }
+    ensures { IfOk result (λ r. IfSome r.0 (λ a. IsOver A.meaning.IsUsable a dev.new)) }
 {
     if let Some(said) = looked(alloc, dev, &archive, step)? {
         return Ok((Some(archive), said));
@@ -136,8 +136,8 @@ fn on_archive<A: Opens>(
 
 // The archive that was so changed.
 fn changed<A: Opens>(dev: &mut Memory, archive: A, change: Change<A::Key>) -> Result<A, Error>
-    requires { IsOver A.IsUsable archive dev.old }
-    ensures { IfOk result (λ a. IsOver A.IsUsable a dev.new) }
+    requires { IsOver A.meaning.IsUsable archive dev.old }
+    ensures { IfOk result (λ a. IsOver A.meaning.IsUsable a dev.new) }
 {
     match change {
         Change::Put(Put { index, key, value }) => archive.put(dev, index, key, &value),

@@ -12,6 +12,7 @@ mod given;
 mod image;
 mod judge;
 mod kept;
+mod listed;
 mod looking;
 mod outcome;
 mod owed;
@@ -87,6 +88,7 @@ fn said(rt: &HostRuntime, stage: &mut Stage, step: &Step) -> Result<String, Stop
         }
         "kept" | "marker" | "lawful" => looking::judged(stage, step),
         "script" | "reads" | "begins" | "valid" => reading::read(stage, step),
+        "listed" => listed::served(stage, step),
         "text" | "bad-line" => errors::write(stage.alloc, step),
         "folder" | "file" | "there" | "read" | "clear" => folders::use_files(rt, stage, step),
         _ => Err(Stop::Said("no such command")),

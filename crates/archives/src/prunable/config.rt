@@ -1,7 +1,6 @@
 // Where a prunable archive is kept, and how.
-ghost use Rattle.std.specs.Prelude.{◌≡◌, ◌↔◌, IsTrue, IfOk, OnErr, string_bytes};
-ghost use Rattle.std.specs.Result.{IsErrOf};
-ghost use Rattle.archives.specs.Config.{HasPartitions, IsValid};
+ghost use Rattle.std.specs.Prelude.{◌↔◌, IsTrue};
+ghost use Rattle.archives.specs.Config.{HasPartitions, IsValid, Pairs};
 
 use super::Limits;
 use crate::Error;
@@ -69,13 +68,7 @@ impl<T, C> Config<T, C> {
 impl<T, C: Copy + Drop> Config<T, C> {
     // Where the archive's pair is kept, but for its markers.
     pub(crate) fn pair(&self) -> Result<oversized::Config<C>, Error>
-        ensures records { IfOk result (λ c. string_bytes c.index_partition ≡ string_bytes self.now.key_partition) }
-        ensures values { IfOk result (λ c. string_bytes c.value_partition ≡ string_bytes self.now.value_partition) }
-        ensures pages { IfOk result (λ c. c.index_pages ≡ self.now.key_pages) }
-        ensures write_buffers { IfOk result (λ c. (c.index_write_buffer ≡ self.now.key_write_buffer) × (c.value_write_buffer ≡ self.now.value_write_buffer)) }
-        ensures replay_buffer { IfOk result (λ c. c.replay_buffer ≡ self.now.replay_buffer) }
-        ensures codec_config { IfOk result (λ c. c.codec_config ≡ self.now.codec_config) }
-        ensures cause { OnErr result (IsErrOf result Error.Mem) }
+        ensures { Pairs self.now result }
     {
         Ok(oversized::Config {
             index_partition: self.key_partition.clone()?,

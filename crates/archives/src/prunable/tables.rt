@@ -38,7 +38,8 @@ impl<K: Key> Tables<K> {
     /// Whether the limits allow one record more in the section.
     pub(super) fn has_room(&self, limits: Limits, section: u64) -> bool
         requires filled { AreFilledBut (λ _. ⊥) self.now }
-        ensures { IsTrue result ↔ HasRoom limits.sections limits.per_section (rows_of K.key_bytes self.now) section }
+        ensures { IsTrue result ↔ HasRoom limits.sections limits.per_section
+            (rows_of K.key_bytes self.now) section }
     {
         match self.tables.get(&section) {
             Some(table) => (table.len() as u64) < limits.per_section,
@@ -60,11 +61,15 @@ impl<K: Key> Tables<K> {
     /// Adds a record behind those of its section. It fails only for want of memory, and then no row changed.
     pub(super) fn push(&mut self, section: u64, index: u64, key: K) -> Result<(), AllocError>
         requires filled { AreFilledBut (λ s. s ≡ section) self.old }
-        ensures added { OnOk result (rows_of K.key_bytes self.new section ≡ rows_of K.key_bytes self.old section ++ record { index = index; key = K.key_bytes key } ∷ []) }
-        ensures others { (s : ℕ) → s ≢ section → rows_of K.key_bytes self.new s ≡ rows_of K.key_bytes self.old s }
+        ensures added { OnOk result (rows_of K.key_bytes self.new section
+            ≡ rows_of K.key_bytes self.old section
+            ++ record { index = index; key = K.key_bytes key } ∷ []) }
+        ensures others { (s : ℕ) → s ≢ section → rows_of K.key_bytes self.new s
+            ≡ rows_of K.key_bytes self.old s }
         ensures filled { OnOk result (AreFilledBut (λ _. ⊥) self.new) }
         ensures room { HasSpare self.old section → IsOk result }
-        ensures unchanged { OnErr result ((s : ℕ) → rows_of K.key_bytes self.new s ≡ rows_of K.key_bytes self.old s) }
+        ensures unchanged { OnErr result ((s : ℕ) → rows_of K.key_bytes self.new s
+            ≡ rows_of K.key_bytes self.old s) }
         ensures filled_but { OnErr result (AreFilledBut (λ s. s ≡ section) self.new) }
     {
         let table = self.tables.entry(section)?.or_insert(Vec::new(self.alloc));
@@ -74,9 +79,13 @@ impl<K: Key> Tables<K> {
 
     /// The position of the first record in the section that has this index.
     pub(super) fn position_of(&self, section: u64, index: u64) -> Option<u64>
-        ensures found { IfSome result (λ p. IsSomeAnd (slice_get (rows_of K.key_bytes self.now section) p) (λ r. r.index ≡ index)) }
-        ensures first { IfSome result (λ p. (q : ℕ) → q < p → IsSomeAnd (slice_get (rows_of K.key_bytes self.now section) q) (λ r. r.index ≢ index)) }
-        ensures none { result ≡ None → (q : ℕ) → IsSomeAnd (slice_get (rows_of K.key_bytes self.now section) q) (λ r. r.index ≡ index) → ⊥ }
+        ensures found { IfSome result (λ p. IsSomeAnd (slice_get
+            (rows_of K.key_bytes self.now section) p) (λ r. r.index ≡ index)) }
+        ensures first { IfSome result (λ p. (q : ℕ) → q < p
+            → IsSomeAnd (slice_get (rows_of K.key_bytes self.now section) q)
+            (λ r. r.index ≢ index)) }
+        ensures none { result ≡ None → (q : ℕ) → IsSomeAnd (slice_get
+            (rows_of K.key_bytes self.now section) q) (λ r. r.index ≡ index) → ⊥ }
     {
         let table = self.tables.get(&section)?;
         let position = table.iter().position(|entry| entry.index == index)?;
@@ -85,10 +94,16 @@ impl<K: Key> Tables<K> {
 
     /// Section and position of the first record with this key, the least section first.
     pub(super) fn place_of(&self, key: &K) -> Option<(u64, u64)>
-        ensures found { IfSome result (λ r. IsSomeAnd (slice_get (rows_of K.key_bytes self.now r.0) r.1) (λ row. row.key ≡ K.key_bytes key.now)) }
-        ensures first { IfSome result (λ r. (q : ℕ) → q < r.1 → IsSomeAnd (slice_get (rows_of K.key_bytes self.now r.0) q) (λ row. row.key ≢ K.key_bytes key.now)) }
-        ensures least { IfSome result (λ r. (s q : ℕ) → s < r.0 → IsSomeAnd (slice_get (rows_of K.key_bytes self.now s) q) (λ row. row.key ≡ K.key_bytes key.now) → ⊥) }
-        ensures none { result ≡ None → (s q : ℕ) → IsSomeAnd (slice_get (rows_of K.key_bytes self.now s) q) (λ row. row.key ≡ K.key_bytes key.now) → ⊥ }
+        ensures found { IfSome result (λ r. IsSomeAnd
+            (slice_get (rows_of K.key_bytes self.now r.0) r.1) (λ row. row.key ≡ K.key_bytes key.now)) }
+        ensures first { IfSome result (λ r. (q : ℕ) → q < r.1
+            → IsSomeAnd (slice_get (rows_of K.key_bytes self.now r.0) q)
+            (λ row. row.key ≢ K.key_bytes key.now)) }
+        ensures least { IfSome result (λ r. (s q : ℕ) → s < r.0
+            → IsSomeAnd (slice_get (rows_of K.key_bytes self.now s) q) (λ row. row.key
+            ≡ K.key_bytes key.now) → ⊥) }
+        ensures none { result ≡ None → (s q : ℕ) → IsSomeAnd (slice_get
+            (rows_of K.key_bytes self.now s) q) (λ row. row.key ≡ K.key_bytes key.now) → ⊥ }
     {
         for (section, table) in &self.tables {
             if let Some(position) = table.iter().position(|entry| entry.key == *key) {

@@ -1,26 +1,30 @@
-use Rattle.std.proofs.Common.{inl, inr, refl, rules}
+use Rattle.std.proofs.Common.{inr, rules}
+use Rattle.std.specs.Prelude.{map}
 use Rattle.value_codec.specs.Keys.{key8_bytes}
-use Rattle.archives.specs.Machine.{asked, replied}
+use Rattle.archives.specs.Machine.{asked}
 use Rattle.archive_service.specs.Stores.{codec_config_of}
-use Rattle.archive_program.specs.Program.{IsServedBy}
-use Rattle.archive_program.proofs.ServedLemmas.{commands_answered, handed_fault, is_served_by, same_filing, values_may_be_put}
+use Rattle.archive_program.specs.Program.{ServedBy}
+use Rattle.archive_program.specs.Words.{Script}
+use Rattle.archive_program.proofs.ServedLemmas.{commands_answered, handed_fault, is_served_by, not_served, values_may_be_put}
 use Rattle.archive_program.proofs.answer.served.Goals as goal
 
 pub serve-replies-requires-clause-values : goal.serve-replies-requires-clause-values
 serve-replies-requires-clause-values g c =
     values_may_be_put c.args.settings.now.max_value (codec_config_of c.in-Ok.config) c.as_slice.result.now c.args.script.now c.as_slice.ensures c.in-Ok.ensures.values c.requires.values
 
-pub returns-in_default-clause-answers : goal.returns-in_default-clause-answers
-returns-in_default-clause-answers g c = inl (refl, record { status = search rules; marks = cc; error = search rules; nothing = search rules })
+pub returns-in_default : goal.returns-in_default
+returns-in_default g c = not_served c.args.settings.now c.args.items g.D.Device c.args.dev.now _ _ c.args.script.now
+    (record { status = search rules; marks = cc; error = search rules; nothing = search rules })
 
-pub returns-clause-answers : goal.returns-clause-answers
-returns-clause-answers g c =
-    inr (commands_answered _ _ _ _
-    (IsServedBy c.args.settings.now c.args.items g.D.Device.Tells (g.D.Device.faults c.args.dev.now) (g.D.Device.faults c.serve-replies.new.dev) (g.D.Device.time c.args.dev.now) (g.D.Device.time c.serve-replies.new.dev))
-    c.args.script.now _ c.answer_at.ensures
-    (is_served_by c.args.settings.now c.args.items _ (same_filing c.args.settings.now c.args.items c.in-Ok.config c.in-Ok.ensures) _ _ _ _ _ _
-    (asked key8_bytes (λ v. v)) (replied (λ v. v)) c.as_slice.result.now c.serve-replies.result.replies c.args.script.now _ c.as_slice.ensures
-    c.serve-replies.ensures.begun c.serve-replies.ensures.looks c.serve-replies.ensures.serves))
-
-pub returns-clause-fault : goal.returns-clause-fault
-returns-clause-fault g c = handed_fault _ _ c.serve-replies.result.end _ c.answer_at.ensures.error c.serve-replies.ensures.fault
+pub returns : goal.returns
+returns g c =
+    let settings = c.args.settings.now in
+    let run = c.serve-replies in
+    record {
+      answer = inr (commands_answered _ run.result.marks _ _ c.args.items
+          (λ marks. ServedBy settings (Script c.args.items) g.D.Device c.args.dev.now run.new.dev marks) c.args.script.now _ c.answer_at.ensures
+          (is_served_by settings c.args.items g.D.Device c.args.dev.now run.new.dev run.result.marks c.in-Ok.config c.in-Ok.ensures
+          (map (asked key8_bytes (λ v. v)) c.as_slice.result.now) c.args.script.now _ run.result.end c.as_slice.ensures run.ensures));
+      fault = handed_fault _ _ run.result.end _ c.answer_at.ensures.error run.ensures.fault;
+      faults = run.ensures.footprint.faults;
+    }

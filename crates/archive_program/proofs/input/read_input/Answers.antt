@@ -6,7 +6,7 @@ pub pieces-preserved : goal.pieces-preserved
 pieces-preserved g c = record {
   room = c.pieces.invariant.room;
   faults = omega (arith, c.pieces.invariant.faults, c.read_piece.ensures.faults);
-  bound = c.read_piece.ensures.bound;
+  bound = c.read_piece.ensures.adds.bound;
   told = λ t. taken_more _ _ _ _ _ (c.pieces.invariant.told t) _ _ c.in-Ok-true.is (c.read_piece.ensures.told t);
 }
 
@@ -38,4 +38,4 @@ returns-clause-at_most g c t = record {
 }
 
 pub returns-in-Ok-false-clause-limit : goal.returns-in-Ok-false-clause-limit
-returns-in-Ok-false-clause-limit g c = omega (arith, c.pieces-test.true, c.in-Ok-false.ensures.ended c.in-Ok-false.field-0-test)
+returns-in-Ok-false-clause-limit g c = omega (arith, c.pieces-test.true, c.in-Ok-false.ensures.adds.ended c.in-Ok-false.field-0-test)

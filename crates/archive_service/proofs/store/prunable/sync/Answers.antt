@@ -1,43 +1,17 @@
-use Rattle.std.proofs.Common.{inl, inr, refl, ℕ}
-use Rattle.std.specs.Prelude.{⊤}
-use Rattle.blob_device.specs.Timeline.{Timeline, disk}
-use Rattle.archives.specs.Archives.{filing_of, state_of}
-use Rattle.archives.specs.Commands.{Sync}
-use Rattle.archives.specs.Shown.{shown}
+use Rattle.std.proofs.Common.{◌≡◌, refl, sym, ap, subst}
+use Rattle.archives.specs.Config.{IsValid}
+use Rattle.archives.specs.Machine.{replied}
+use Rattle.archives.specs.Shown.{means, setup_for}
 use Rattle.archives.specs.declared.commands.Reply.TheVariants.{Done}
-use Rattle.archive_service.proofs.StoreLemmas.{always_as, changed_answers, ok_of, sync_cause}
+use Rattle.archive_service.specs.Kinds.{Answers}
+use Rattle.archive_service.proofs.SyncAnswers.{sync_answers}
+use Rattle.archive_service.proofs.StoreLemmas.{seen_so}
 use Rattle.archive_service.proofs.store.prunable.sync.Goals as goal
 
-pub returns-clause-over : goal.returns-clause-over
-returns-clause-over g c = ok_of (λ r. (r, Done)) c.sync.result c.done.result c.done.ensures _ c.sync.ensures.over
-
-pub returns-clause-filing : goal.returns-clause-filing
-returns-clause-filing g c = ok_of (λ r. (r, Done)) c.sync.result c.done.result c.done.ensures _ c.sync.ensures.filing
-
-pub returns-clause-accepts : goal.returns-clause-accepts
-returns-clause-accepts g c = ok_of (λ r. (r, Done)) c.sync.result c.done.result c.done.ensures _ c.sync.ensures.accepts
-
-pub returns-clause-answers : goal.returns-clause-answers
-returns-clause-answers g c =
-    let a = shown c.args.archive in
-    let old : Timeline = g.D.Device.time c.args.dev.now in
-    let new : Timeline = g.D.Device.time c.sync.new.dev in
-    let before : ℕ = g.D.Device.faults c.args.dev.now in
-    let after : ℕ = g.D.Device.faults c.sync.new.dev in
-    changed_answers c.args.archive (λ x. shown x) g.V.Codec.spelling (λ r. r) g.D.Device.Tells Sync old new before after c.sync.result c.done.result c.done.ensures (record {
-      sound = c.sync.ensures.sound;
-      step = λ t sound. c.sync.ensures.step t;
-      filing = c.sync.ensures.filing;
-      markers = λ r. refl;
-      moments = c.sync.ensures.moments;
-      rest = c.sync.ensures.rest;
-      no_lookup = λ lookup. lookup;
-      no_reopen = λ is. absurd (cc is);
-      spares = λ t index k v is. absurd (cc is);
-      later = λ t. always_as old new _ (λ _. ⊤) (λ d _. tt) (c.sync.ensures.alone t);
-      allowed = λ t sound must. absurd must;
-      cause = λ t sound. sync_cause (filing_of a) (state_of a (disk old)) Sync (disk old) before after c.sync.result tt (λ is. c.crash_laws.ensures.version t (c.sync.ensures.full is).0) c.sync.ensures.cause;
-      unwritten = λ t sound e is refused. absurd (elim refused [ inl full ↦ full.1 | inr large ↦ large.1 ]);
-      fault = c.sync.ensures.fault;
-      faults = c.sync.ensures.faults;
-    })
+-- Written without the checker, which has to say how the dictionary of the buffers is named.
+pub returns : goal.returns
+returns g c =
+    subst (λ o. Answers _ g.D.Device c.args.archive _ o _ _) (sym (seen_so (λ r. (r.0, replied g.V.Codec.spelling r.1)) (λ r. (r, Done)) c.sync.result c.done.result c.done.ensures))
+    (sync_answers (means g.PageBlob-SectionBuffer) (setup_for g.K.Key.SIZE g.S.Seal g.V.Codec g.T.Translator.word_of c.args._cfg.now) (IsValid c.args._cfg.now) g.D.Device c.args.archive c.args.dev.now
+    (record { usable = c.requires.usable; laws = c.crash_laws.ensures; markers = λ x. refl; buffers = λ s u held. (let made = c.requires.usable.usable.pair.index.over.opened_list.setting s u held in (ap (λ x. x.page_size) made, ap (λ x. x.capacity) made)) })
+    c.sync.new.dev c.sync.result c.sync.ensures)

@@ -1,14 +1,13 @@
-use Rattle.std.proofs.Common.{◌==◌, if◌then◌else◌, ◌≡◌, ◌≢◌, ◌⊎◌, inl, inr, refl, sym, ◌∙◌, ap, subst, ◌≤◌, ◌-◌, ◌^◌, ℕ, List, [], ◌∷◌, ◌++◌, length, Err, arith}
+use Rattle.std.proofs.Common.{◌==◌, if◌then◌else◌, ◌≡◌, ◌≢◌, ◌⊎◌, inl, inr, refl, sym, ◌∙◌, ap, subst, ◌≤◌, ◌-◌, ◌^◌, ℕ, List, [], ◌∷◌, ◌++◌, length, Option, Some, Err, ◌+◌, length-append, arith}
 use Rattle.std.specs.BTreeSet.{contains}
 use Rattle.std.specs.Ordering.{nat_cmp}
 use Rattle.std.proofs.lemmas.Bool.{cases_lt}
 use Rattle.blob_device.specs.Disk.{Key}
-use Rattle.blob_device.specs.Timeline.{disk}
+use Rattle.blob_device.specs.Timeline.{Always, disk}
 use Rattle.blob_device.proofs.Moments.{always_now}
 use Rattle.blob_device.proofs.Results.{err_of}
 use Rattle.segments.specs.FixedLists as fixed
 use Rattle.segments.specs.Sections.{section_key}
-use Rattle.segments.specs.declared.journal.Error.TheVariants as section
 use Rattle.paired.specs.Crashes.{IsIndexOf, IsValuesOf, Keeping}
 use Rattle.paired.specs.Frames.{frame}
 use Rattle.paired.specs.GlobSections as glob
@@ -16,21 +15,30 @@ use Rattle.paired.specs.PairShown as pair
 use Rattle.paired.specs.Pair.{list_of, synced_length}
 use Rattle.paired.proofs.FrameLemmas.{length-frame}
 use Rattle.paired.proofs.ValueEnds.{not_at}
-use Rattle.archives.specs.Archives.{IsSoundArchive, filing_of}
+use Rattle.archives.specs.Archives.{IsSoundArchive, filing_of, state_of}
+use Rattle.archives.specs.Commands.{Put}
 use Rattle.archives.specs.IndexRecord.{index_record, place_of}
 use Rattle.archives.specs.IndexRecordLaws.{place_of-index_record}
 use Rattle.archives.specs.Raised.{raised}
 use Rattle.archives.specs.Rows.{AreFilledBut, Row, rows_of}
 use Rattle.archives.specs.Shown.{shown}
+use Rattle.archives.specs.Standing.{Leaves}
 use Rattle.archives.specs.declared.prunable.index_record.IndexRecord.{IndexRecord}
-use Rattle.archives.proofs.PutErrors.{answers, full_from, large_from, two_errors}
+use Rattle.archives.specs.FilingLaws.{one_filing}
+use Rattle.archives.specs.Rows.{HasRoom}
+use Rattle.value_codec.specs.declared.codec.Error as codec_error
+use Rattle.archives.specs.declared.error.Error.TheVariants.{Mem}
+use Rattle.archives.proofs.PutAfter.{not_here, rows_put, sizes_put, tails_same, written_put}
+use Rattle.archives.proofs.PutsLemmas.{failed_here, put_added, put_as, put_no_memory, put_over_limit, put_pair_failed, touches_here}
+use Rattle.paired.proofs.GlobLemmas.{section_counted}
 use Rattle.archives.proofs.PutLemmas.{Adds, grown_archive}
 use Rattle.archives.proofs.PutRows.{grows, still_none}
 use Rattle.archives.proofs.PutSound.{Sounds, grown_sound, grown_state}
-use Rattle.archives.proofs.PutSync.{same_filing}
-use Rattle.archives.proofs.PutStands.{IsFree, at_rest, full_or_room, put_moments, put_unmoved, wanted}
+use Rattle.archives.proofs.PutSync.{same_filing, section_small}
+use Rattle.archives.proofs.PutStands.{IsFree, at_rest, full_or_room, put_moments, wanted}
 use Rattle.archives.proofs.prunable.Archive.append.Given as given
 use Rattle.archives.proofs.prunable.Archive.append.Goals as goal
+use Rattle.archives.proofs.prunable.Archive.append.Goals.{After-append}
 
 -- a value that was added has a frame whose bytes a u32 counts
 short : (g : given.Over) (c : goal.After-result-1 g) → length (frame g.S.Seal.seal_of (g.V.Codec.spelling c.args.value.now)) ≤ 2 ^ 32 - 1
@@ -80,47 +88,60 @@ adds_of g c =
       ];
     }
 
-asked_of : (g : given.Over) (c : goal.After-result-1 g) → IsSoundArchive (shown c.args.self) (disk (g.D.Device.time c.args.dev.now))
+-- what the record is, where its frame is not too large
+asked_of : (g : given.Over) (c : After-append g) → IsSoundArchive (shown c.args.self) (disk (g.D.Device.time c.args.dev.now)) → length (frame g.S.Seal.seal_of (g.V.Codec.spelling c.args.value.now)) ≤ 2 ^ 32 - 1
     → IsFree (shown c.args.self) c.args.index c.section_of-section.result c.section_of-section.ensures (g.K.Key.key_bytes c.args.key) (g.V.Codec.spelling c.args.value.now) (length (frame g.S.Seal.seal_of (g.V.Codec.spelling c.args.value.now))) (disk (g.D.Device.time c.args.dev.now))
-asked_of g c sound =
-    let a = shown c.args.self in
-    let d = disk (g.D.Device.time c.args.dev.now) in
-    let sec : ℕ = c.section_of-section.result in
-    let key : List ℕ = g.K.Key.key_bytes c.args.key in
-    let v : List ℕ = g.V.Codec.spelling c.args.value.now in
-    let n : ℕ = length (frame g.S.Seal.seal_of v) in
-    let at : ℕ = glob.section_size a.pair.values sec in
-    let le = short g c in
-    record {
-      small = c.ranges.index.fits;
-      sized = g.met.K.Key.sized c.args.key;
-      free = c.requires.free;
-      accepted = g.met.V.Codec.kept c.args.value.now c.args.self.pair.values.codec_config c.requires.value;
-      some = omega (arith, length-frame g.S.Seal.seal_of v);
-      place = place_of-index_record g.K.Key.SIZE c.args.index key at n (g.met.K.Key.sized c.args.key) (sound.counted sec) (omega (arith, le));
-    }
+asked_of g c sound le = record {
+  small = c.ranges.index.fits;
+  sized = g.met.K.Key.sized c.args.key;
+  free = c.requires.free;
+  accepted = g.met.V.Codec.kept c.args.value.now c.args.self.pair.values.codec_config c.requires.value;
+  some = omega (arith, length-frame g.S.Seal.seal_of (g.V.Codec.spelling c.args.value.now));
+  place = place_of-index_record g.K.Key.SIZE c.args.index (g.K.Key.key_bytes c.args.key) (glob.section_size (shown c.args.self).pair.values c.section_of-section.result) (length (frame g.S.Seal.seal_of (g.V.Codec.spelling c.args.value.now)))
+      (g.met.K.Key.sized c.args.key) (sound.counted c.section_of-section.result) (omega (arith, le));
+}
+
+-- at every moment each crash leaves what stands for the state with the put under way
+moments_of : (g : given.Over) (c : After-append g) → g.D.Device.Tells → IsSoundArchive (shown c.args.self) (disk (g.D.Device.time c.args.dev.now)) → Always (g.D.Device.time c.args.dev.now) (g.D.Device.time c.append.new.dev)
+    (Leaves (filing_of (shown c.args.self)) (state_of (shown c.args.self) (disk (g.D.Device.time c.args.dev.now))) (Some (Put c.args.index (g.K.Key.key_bytes c.args.key) (g.V.Codec.spelling c.args.value.now))))
+moments_of g c t sound =
+    let before = g.D.Device.time c.args.dev.now in
+    let now = g.D.Device.time c.append.new.dev in
+    let l = (shown c.args.self).pair.layout in
+    let offset : ℕ = glob.section_size (shown c.args.self).pair.values c.section_of-section.result in
+    let bytes : List ℕ = g.V.Codec.spelling c.args.value.now in
+    let size : ℕ = length (frame g.S.Seal.seal_of bytes) in
+    let Blobs : Key → Type 0 = λ q. IsIndexOf l (λ s. s ≡ c.section_of-section.result) q ⊎ IsValuesOf l (λ s. s ≡ c.section_of-section.result) q in
+    let keeping : Keeping l (wanted (shown c.args.self) c.args.index c.section_of-section.result c.section_of-section.ensures (g.K.Key.key_bytes c.args.key) bytes size (disk before)) (synced_length (shown c.args.self).pair) (λ _. ⊥) Blobs before now =
+    subst (λ (r : IndexRecord g.row.K.Denot). Keeping l (λ s. list_of (shown c.args.self).pair (disk before) s
+    ++ (if s == c.section_of-section.result then record { stored = index_record r.index (g.K.Key.key_bytes r.key) offset size; value = bytes } ∷ [] else [])) (synced_length (shown c.args.self).pair) (λ _. ⊥) Blobs before now)
+    c.new-record.ensures (c.append.ensures.moments t sound.pair) in
+    put_moments (shown c.args.self) c.args.index c.section_of-section.result c.section_of-section.ensures (g.K.Key.key_bytes c.args.key) bytes size g.D.Device.time c.args.dev.now c.append.new.dev
+    (at_rest (shown c.args.self) (disk before) (omega arith) refl refl refl (λ s v held. λ i. (c.requires.over.pair.index.over.opened_list.setting s v held i).page_size) c.requires.over t sound)
+    c.requires.over t sound (asked_of g c sound) (c.has_room.ensures.0 c.if-not-has_room.false) c.args.self.has_records c.section_of-section.type_inv
+    (λ lt. c.append.ensures.refused (inl (c.append.ensures.too_large.1 lt)))
+    (λ le full. c.append.ensures.refused (inr (inr (inl t, (c.append.ensures.full (inl t)).1 (le, omega (arith, c.requires.over.pair_floor), inr full)))))
+    keeping
 
 sounds_of : (g : given.Over) (c : goal.After-result-1 g) → g.D.Device.Tells → IsSoundArchive (shown c.args.self) (disk (g.D.Device.time c.args.dev.now))
     → Sounds (shown c.args.self) (pair.shown (place_of g.K.Key.SIZE) c.in_ok-pair.pair) (λ bytes. g.V.Codec.refusal bytes c.in_ok-pair.pair.values.codec_config) (rows_of g.K.Key.key_bytes c.push.new.self) (AreFilledBut (λ _. ⊥) c.push.new.self) (contains nat_cmp c.insert.new.self)
     c.args.index c.section_of-section.result c.section_of-section.ensures (g.K.Key.key_bytes c.args.key) (g.V.Codec.spelling c.args.value.now) (length (frame g.S.Seal.seal_of (g.V.Codec.spelling c.args.value.now))) (disk (g.D.Device.time c.args.dev.now)) (disk (g.D.Device.time c.append.new.dev))
-sounds_of g c t sound =
-    let a = shown c.args.self in
-    let d = disk (g.D.Device.time c.args.dev.now) in
-    let sec : ℕ = c.section_of-section.result in
-    let key : List ℕ = g.K.Key.key_bytes c.args.key in
-    let v : List ℕ = g.V.Codec.spelling c.args.value.now in
-    let n : ℕ = length (frame g.S.Seal.seal_of v) in
-    let at : ℕ = glob.section_size a.pair.values sec in
-    record {
-      index_here = c.in_ok-pair.ensures.layout.index;
-      values_here = c.in_ok-pair.ensures.layout.values;
-      place = refl;
-      sound = c.in_ok-pair.ensures.sound t sound.pair;
-      list = c.in_ok-pair.ensures.list t sound.pair ∙ ap (λ (r : IndexRecord g.row.K.Denot). list_of a.pair d sec ++ record { stored = index_record r.index (g.K.Key.key_bytes r.key) at n; value = v } ∷ []) c.new-record.ensures;
-      alone = always_now (g.D.Device.time c.args.dev.now) (g.D.Device.time c.append.new.dev) (λ e. (q : Key) → q ≢ section_key a.pair.layout.index sec → q ≢ section_key a.pair.layout.values sec → e q ≡ d q) (c.append.ensures.untouched t);
-      same = λ bytes. ap (g.V.Codec.refusal bytes) c.in_ok-pair.ensures.codec_config;
-      small = c.section_of-section.type_inv;
-    }
+sounds_of g c t sound = record {
+  index_here = c.in_ok-pair.ensures.layout.index;
+  values_here = c.in_ok-pair.ensures.layout.values;
+  place = refl;
+  sound = c.in_ok-pair.ensures.sound t sound.pair;
+  list = c.in_ok-pair.ensures.list t sound.pair ∙ ap (λ (r : IndexRecord g.row.K.Denot). list_of (shown c.args.self).pair (disk (g.D.Device.time c.args.dev.now)) c.section_of-section.result
+      ++ record {
+        stored = index_record r.index (g.K.Key.key_bytes r.key) (glob.section_size (shown c.args.self).pair.values c.section_of-section.result) (length (frame g.S.Seal.seal_of (g.V.Codec.spelling c.args.value.now)));
+        value = g.V.Codec.spelling c.args.value.now;
+      } ∷ []) c.new-record.ensures;
+  alone = always_now (g.D.Device.time c.args.dev.now) (g.D.Device.time c.append.new.dev)
+      (λ e. (q : Key) → q ≢ section_key (shown c.args.self).pair.layout.index c.section_of-section.result → q ≢ section_key (shown c.args.self).pair.layout.values c.section_of-section.result → e q ≡ disk (g.D.Device.time c.args.dev.now) q)
+      (c.append.ensures.untouched t);
+  same = λ bytes. ap (g.V.Codec.refusal bytes) c.in_ok-pair.ensures.codec_config;
+  small = c.section_of-section.type_inv;
+}
 
 pub has_room-requires : goal.has_room-requires
 has_room-requires g c = record { filled = c.requires.over.filled }
@@ -128,154 +149,107 @@ has_room-requires g c = record { filled = c.requires.over.filled }
 pub reserve-requires : goal.reserve-requires
 reserve-requires g c = record { filled = c.requires.over.filled }
 
-pub returns-then-not-has_room-clause-moments : goal.returns-then-not-has_room-clause-moments
-returns-then-not-has_room-clause-moments g c t sound =
-    let d = disk (g.D.Device.time c.args.dev.now) in
-    let rest = at_rest (shown c.args.self) d (omega arith) refl refl refl (λ s v held. λ i. (c.requires.over.pair.index.over.opened_list.setting s v held i).page_size) c.requires.over t sound in
-    put_unmoved (shown c.args.self) c.args.index c.section_of-section.result c.section_of-section.ensures (g.K.Key.key_bytes c.args.key) (g.V.Codec.spelling c.args.value.now) 0 g.D.Device.time c.args.dev.now c.args.dev.now rest refl
+-- ---- the exits
 
-pub returns-in_err-reserve-clause-moments : goal.returns-in_err-reserve-clause-moments
-returns-in_err-reserve-clause-moments g c t sound =
-    let d = disk (g.D.Device.time c.args.dev.now) in
-    let rest = at_rest (shown c.args.self) d (omega arith) refl refl refl (λ s v held. λ i. (c.requires.over.pair.index.over.opened_list.setting s v held i).page_size) c.requires.over t sound in
-    put_unmoved (shown c.args.self) c.args.index c.section_of-section.result c.section_of-section.ensures (g.K.Key.key_bytes c.args.key) (g.V.Codec.spelling c.args.value.now) 0 g.D.Device.time c.args.dev.now c.args.dev.now rest refl
+pub returns-then-not-has_room : goal.returns-then-not-has_room
+returns-then-not-has_room g c =
+    put_over_limit _ g.D.Device c.args.self c.args.index (g.K.Key.key_bytes c.args.key) (g.V.Codec.spelling c.args.value.now) (section_small _ c.args.index c.ranges.index.fits) c.requires.free c.args.dev.now
+    (λ t sound. at_rest (shown c.args.self) (disk (g.D.Device.time c.args.dev.now)) (omega arith) refl refl refl (λ s v held. λ i. (c.requires.over.pair.index.over.opened_list.setting s v held i).page_size) c.requires.over t sound)
+    (λ allowed.
+    let a = shown c.args.self in
+    let room = c.has_room.ensures.1 (subst (HasRoom a.most_sections a.most_records a.rows) (sym c.section_of-section.ensures) allowed) in
+    absurd (cc (room, c.if-not-has_room.true)))
 
-pub returns-in_err-insert-clause-moments : goal.returns-in_err-insert-clause-moments
-returns-in_err-insert-clause-moments g c t sound =
-    let d = disk (g.D.Device.time c.args.dev.now) in
-    let rest = at_rest (shown c.args.self) d (omega arith) refl refl refl (λ s v held. λ i. (c.requires.over.pair.index.over.opened_list.setting s v held i).page_size) c.requires.over t sound in
-    put_unmoved (shown c.args.self) c.args.index c.section_of-section.result c.section_of-section.ensures (g.K.Key.key_bytes c.args.key) (g.V.Codec.spelling c.args.value.now) 0 g.D.Device.time c.args.dev.now c.args.dev.now rest refl
+pub returns-in_err-reserve : goal.returns-in_err-reserve
+returns-in_err-reserve g c =
+    put_as _ g.D.Device c.args.self c.args.index (g.K.Key.key_bytes c.args.key) (g.V.Codec.spelling c.args.value.now) _ (Err Mem) _ _ (err_of _ Mem c.from_residual.ensures.1)
+    (put_no_memory _ g.D.Device c.args.self c.args.index (g.K.Key.key_bytes c.args.key) (g.V.Codec.spelling c.args.value.now) (section_small _ c.args.index c.ranges.index.fits) c.requires.free c.args.dev.now
+    (λ t sound. at_rest (shown c.args.self) (disk (g.D.Device.time c.args.dev.now)) (omega arith) refl refl refl (λ s v held. λ i. (c.requires.over.pair.index.over.opened_list.setting s v held i).page_size) c.requires.over t sound)
+    (subst (HasRoom (shown c.args.self).most_sections (shown c.args.self).most_records (shown c.args.self).rows) c.section_of-section.ensures (c.has_room.ensures.0 c.if-not-has_room.false)))
 
-pub returns-in_err-pair-clause-moments : goal.returns-in_err-pair-clause-moments
-returns-in_err-pair-clause-moments g c t sound =
+pub returns-in_err-insert : goal.returns-in_err-insert
+returns-in_err-insert g c =
+    put_as _ g.D.Device c.args.self c.args.index (g.K.Key.key_bytes c.args.key) (g.V.Codec.spelling c.args.value.now) _ (Err Mem) _ _ (err_of _ Mem c.from_residual-in_err-insert.ensures.1)
+    (put_no_memory _ g.D.Device c.args.self c.args.index (g.K.Key.key_bytes c.args.key) (g.V.Codec.spelling c.args.value.now) (section_small _ c.args.index c.ranges.index.fits) c.requires.free c.args.dev.now
+    (λ t sound. at_rest (shown c.args.self) (disk (g.D.Device.time c.args.dev.now)) (omega arith) refl refl refl (λ s v held. λ i. (c.requires.over.pair.index.over.opened_list.setting s v held i).page_size) c.requires.over t sound)
+    (subst (HasRoom (shown c.args.self).most_sections (shown c.args.self).most_records (shown c.args.self).rows) c.section_of-section.ensures (c.has_room.ensures.0 c.if-not-has_room.false)))
+
+pub returns-in_err-pair : goal.returns-in_err-pair
+returns-in_err-pair g c =
+    let sec = c.section_of-section.result in
+    let key = g.K.Key.key_bytes c.args.key in
+    let v = g.V.Codec.spelling c.args.value.now in
+    let e = c.in_err-pair.field-0.0 in
+    let small = section_small _ c.args.index c.ranges.index.fits in
+    let allowed = subst (HasRoom (shown c.args.self).most_sections (shown c.args.self).most_records (shown c.args.self).rows) c.section_of-section.ensures (c.has_room.ensures.0 c.if-not-has_room.false) in
+    put_as _ g.D.Device c.args.self c.args.index key v _ (Err (raised e)) _ _ (err_of _ (raised e) c.from_residual-in_err-pair.ensures.1)
+    (put_pair_failed _ g.D.Device c.args.self c.args.index key v small c.requires.free allowed c.requires.over.pair_floor e c.args.dev.now c.append.new.dev
+    (failed_here _ g.D.Device c.args.self c.args.index key v small c.requires.free sec c.section_of-section.ensures e c.args.dev.now c.append.new.dev (record {
+      cause = c.in_err-pair.ensures.cause;
+      guard = c.in_err-pair.ensures.guard;
+      too_large = c.in_err-pair.ensures.too_large;
+      full = c.in_err-pair.ensures.full;
+      refused = c.in_err-pair.ensures.refused;
+      no_room = c.in_err-pair.ensures.no_room;
+    }))
+    (moments_of g (goal.at.returns-in_err-pair g c).After-append)
+    (touches_here _ g.D.Device c.args.self c.args.index key v sec c.section_of-section.ensures c.args.dev.now c.append.new.dev (record {
+      untouched = c.append.ensures.untouched;
+      entries = c.append.ensures.entries;
+      faults = c.append.ensures.faults;
+      below = c.append.ensures.below;
+    })))
+
+pub returns-in_err-push : goal.returns-in_err-push
+returns-in_err-push g c = (let is = c.in_err-push.ensures.room c.in_ok-reserve.ensures.room in absurd (cc is))
+
+pub returns : goal.returns
+returns g c =
     let a = shown c.args.self in
     let d = disk (g.D.Device.time c.args.dev.now) in
+    let e = disk (g.D.Device.time c.append.new.dev) in
     let sec : ℕ = c.section_of-section.result in
+    let here = c.section_of-section.ensures in
     let key : List ℕ = g.K.Key.key_bytes c.args.key in
     let v : List ℕ = g.V.Codec.spelling c.args.value.now in
     let n : ℕ = length (frame g.S.Seal.seal_of v) in
-    let at : ℕ = glob.section_size a.pair.values sec in
-    let rest = at_rest a d (omega arith) refl refl refl (λ s v held. λ i. (c.requires.over.pair.index.over.opened_list.setting s v held i).page_size) c.requires.over t sound in
-    let asked : n ≤ 2 ^ 32 - 1 → IsFree a c.args.index sec c.section_of-section.ensures key v n d = λ le. record {
-      small = c.ranges.index.fits;
-      sized = g.met.K.Key.sized c.args.key;
-      free = c.requires.free;
-      accepted = g.met.V.Codec.kept c.args.value.now c.args.self.pair.values.codec_config c.requires.value;
-      some = omega (arith, length-frame g.S.Seal.seal_of v);
-      place = place_of-index_record g.K.Key.SIZE c.args.index key at n (g.met.K.Key.sized c.args.key) (sound.counted sec) (omega (arith, le));
-    } in
-    let keeping : Keeping a.pair.layout (wanted a c.args.index sec c.section_of-section.ensures key v n d) (synced_length a.pair) (λ _. ⊥) (λ q. IsIndexOf a.pair.layout (λ s. s ≡ sec) q ⊎ IsValuesOf a.pair.layout (λ s. s ≡ sec) q) (g.D.Device.time c.args.dev.now) (g.D.Device.time c.append.new.dev) =
-    subst (λ (r : IndexRecord g.row.K.Denot). Keeping a.pair.layout (λ s. list_of a.pair d s ++ (if s == sec then record { stored = index_record r.index (g.K.Key.key_bytes r.key) at n; value = v } ∷ [] else [])) (synced_length a.pair) (λ _. ⊥)
-    (λ q. IsIndexOf a.pair.layout (λ s. s ≡ sec) q ⊎ IsValuesOf a.pair.layout (λ s. s ≡ sec) q) (g.D.Device.time c.args.dev.now) (g.D.Device.time c.append.new.dev))
-    c.new-record.ensures (c.append.ensures.moments t sound.pair) in
-    put_moments a c.args.index sec c.section_of-section.ensures key v n g.D.Device.time c.args.dev.now c.append.new.dev rest c.requires.over t sound asked (c.has_room.ensures.0 c.if-not-has_room.false) c.args.self.has_records c.section_of-section.type_inv
-    (λ lt. c.append.ensures.refused (inl (c.append.ensures.too_large.1 lt)))
-    (λ le full. c.append.ensures.refused (inr (inr (inl t, (c.append.ensures.full (inl t)).1 (le, omega (arith, c.requires.over.pair_floor), inr full)))))
-    keeping
-
-pub returns-in_err-pair-clause-alone : goal.returns-in_err-pair-clause-alone
-returns-in_err-pair-clause-alone g c = rw (sym c.section_of-section.ensures) c.append.ensures.untouched
-
-pub returns-in_err-pair-clause-below : goal.returns-in_err-pair-clause-below
-returns-in_err-pair-clause-below g c = rw (sym c.section_of-section.ensures) c.append.ensures.below
-
-pub returns-in_err-pair-clause-full : goal.returns-in_err-pair-clause-full
-returns-in_err-pair-clause-full g c is =
-    let e = c.in_err-pair.field-0.0 in
-    let n : ℕ = length (frame g.S.Seal.seal_of (g.V.Codec.spelling c.args.value.now)) in
-    let answer = err_of c.from_residual-in_err-pair.result (raised e) c.from_residual-in_err-pair.ensures.1 in
-    let full = full_from e (Err e) c.from_residual-in_err-pair.result refl answer (shown c.args.self).pair.index.sections.floor (g.D.Device.faults c.args.dev.now) (g.D.Device.faults c.append.new.dev)
-    (λ pruned. absurd (omega (arith, (c.in_err-pair.ensures.guard.0 pruned).1, c.requires.over.pair_floor))) c.in_err-pair.ensures.cause is in
-    inr (
-      elim (cases_lt (2 ^ 32 - 1) n) [
-        | inl lt ↦ absurd (two_errors section.Full section.ValueTooLarge (Err e) (λ same. cc) full (c.in_err-pair.ensures.too_large.1 lt))
-        | inr le ↦ le
-      ],
-      rw (sym c.section_of-section.ensures) (λ known. ((c.in_err-pair.ensures.full known).0 full).2),
-    )
-
-pub returns-in_err-pair-clause-too_large : goal.returns-in_err-pair-clause-too_large
-returns-in_err-pair-clause-too_large g c is =
-    let e = c.in_err-pair.field-0.0 in
-    let answer = err_of c.from_residual-in_err-pair.result (raised e) c.from_residual-in_err-pair.ensures.1 in
-    let large = large_from e (Err e) c.from_residual-in_err-pair.result refl answer (shown c.args.self).pair.index.sections.floor (g.D.Device.faults c.args.dev.now) (g.D.Device.faults c.append.new.dev)
-    (λ pruned. absurd (omega (arith, (c.in_err-pair.ensures.guard.0 pruned).1, c.requires.over.pair_floor))) c.in_err-pair.ensures.cause is in
-    (rw (sym c.section_of-section.ensures) (c.has_room.ensures.0 c.if-not-has_room.false), c.in_err-pair.ensures.too_large.0 large)
-
-pub returns-in_err-pair-clause-over_limit : goal.returns-in_err-pair-clause-over_limit
-returns-in_err-pair-clause-over_limit g c none = absurd (none (rw (sym c.section_of-section.ensures) (c.has_room.ensures.0 c.if-not-has_room.false)))
-
-pub returns-in_err-pair-clause-no_room : goal.returns-in_err-pair-clause-no_room
-returns-in_err-pair-clause-no_room g c =
-    let e = c.in_err-pair.field-0.0 in
-    let answer = err_of c.from_residual-in_err-pair.result (raised e) c.from_residual-in_err-pair.ensures.1 in
-    rw (sym c.section_of-section.ensures) (λ t le passed.
-    let full = (c.in_err-pair.ensures.full (inl t)).1 (le, omega (arith, c.requires.over.pair_floor), passed) in
-    inl (answers e (Err e) c.from_residual-in_err-pair.result refl answer section.Full full))
-
-pub returns-clause-over : goal.returns-clause-over
-returns-clause-over g c =
-    grown_archive (shown c.args.self) (pair.shown (place_of g.K.Key.SIZE) c.in_ok-pair.pair) (λ bytes. g.V.Codec.refusal bytes c.in_ok-pair.pair.values.codec_config) (rows_of g.K.Key.key_bytes c.push.new.self) (AreFilledBut (λ _. ⊥) c.push.new.self) (contains nat_cmp c.insert.new.self)
-    c.args.index c.section_of-section.result c.section_of-section.ensures (g.K.Key.key_bytes c.args.key) (length (frame g.S.Seal.seal_of (g.V.Codec.spelling c.args.value.now))) (disk (g.D.Device.time c.args.dev.now)) (disk (g.D.Device.time c.append.new.dev))
-    c.requires.over (adds_of g c) c.in_ok-pair.ensures.over (c.has_room.ensures.0 c.if-not-has_room.false) c.args.self.has_records
-
-pub returns-clause-sound : goal.returns-clause-sound
-returns-clause-sound g c t sound =
-    grown_sound (shown c.args.self) (pair.shown (place_of g.K.Key.SIZE) c.in_ok-pair.pair) (λ bytes. g.V.Codec.refusal bytes c.in_ok-pair.pair.values.codec_config) (rows_of g.K.Key.key_bytes c.push.new.self) (AreFilledBut (λ _. ⊥) c.push.new.self) (contains nat_cmp c.insert.new.self)
-    c.args.index c.section_of-section.result c.section_of-section.ensures (g.K.Key.key_bytes c.args.key) (g.V.Codec.spelling c.args.value.now) (length (frame g.S.Seal.seal_of (g.V.Codec.spelling c.args.value.now))) (disk (g.D.Device.time c.args.dev.now)) (disk (g.D.Device.time c.append.new.dev))
-    c.requires.over t (adds_of g c) (asked_of g c sound) sound (sounds_of g c t sound)
-
-pub returns-clause-step : goal.returns-clause-step
-returns-clause-step g c t sound =
-    grown_state (shown c.args.self) (pair.shown (place_of g.K.Key.SIZE) c.in_ok-pair.pair) (λ bytes. g.V.Codec.refusal bytes c.in_ok-pair.pair.values.codec_config) (rows_of g.K.Key.key_bytes c.push.new.self) (AreFilledBut (λ _. ⊥) c.push.new.self) (contains nat_cmp c.insert.new.self)
-    c.args.index c.section_of-section.result c.section_of-section.ensures (g.K.Key.key_bytes c.args.key) (g.V.Codec.spelling c.args.value.now) (length (frame g.S.Seal.seal_of (g.V.Codec.spelling c.args.value.now))) (disk (g.D.Device.time c.args.dev.now)) (disk (g.D.Device.time c.append.new.dev))
-    c.requires.over t (adds_of g c) (asked_of g c sound) sound (sounds_of g c t sound)
-
-pub returns-clause-written : goal.returns-clause-written
-returns-clause-written g c s = rw (sym c.section_of-section.ensures) (grows (contains nat_cmp c.args.self.written) (contains nat_cmp c.insert.new.self) c.section_of-section.result c.in_ok-insert.ensures.updates.1 (λ q other. c.in_ok-insert.ensures.updates.2 q (not_at c.section_of-section.result q other)) s)
-
-pub returns-clause-moments : goal.returns-clause-moments
-returns-clause-moments g c t sound =
-    let a = shown c.args.self in
-    let d = disk (g.D.Device.time c.args.dev.now) in
-    let sec : ℕ = c.section_of-section.result in
-    let key : List ℕ = g.K.Key.key_bytes c.args.key in
-    let v : List ℕ = g.V.Codec.spelling c.args.value.now in
-    let n : ℕ = length (frame g.S.Seal.seal_of v) in
-    let at : ℕ = glob.section_size a.pair.values sec in
-    let rest = at_rest a d (omega arith) refl refl refl (λ s v held. λ i. (c.requires.over.pair.index.over.opened_list.setting s v held i).page_size) c.requires.over t sound in
-    let asked : n ≤ 2 ^ 32 - 1 → IsFree a c.args.index sec c.section_of-section.ensures key v n d = λ le. record {
-      small = c.ranges.index.fits;
-      sized = g.met.K.Key.sized c.args.key;
-      free = c.requires.free;
-      accepted = g.met.V.Codec.kept c.args.value.now c.args.self.pair.values.codec_config c.requires.value;
-      some = omega (arith, length-frame g.S.Seal.seal_of v);
-      place = place_of-index_record g.K.Key.SIZE c.args.index key at n (g.met.K.Key.sized c.args.key) (sound.counted sec) (omega (arith, le));
-    } in
-    let keeping : Keeping a.pair.layout (wanted a c.args.index sec c.section_of-section.ensures key v n d) (synced_length a.pair) (λ _. ⊥) (λ q. IsIndexOf a.pair.layout (λ s. s ≡ sec) q ⊎ IsValuesOf a.pair.layout (λ s. s ≡ sec) q) (g.D.Device.time c.args.dev.now) (g.D.Device.time c.append.new.dev) =
-    subst (λ (r : IndexRecord g.row.K.Denot). Keeping a.pair.layout (λ s. list_of a.pair d s ++ (if s == sec then record { stored = index_record r.index (g.K.Key.key_bytes r.key) at n; value = v } ∷ [] else [])) (synced_length a.pair) (λ _. ⊥)
-    (λ q. IsIndexOf a.pair.layout (λ s. s ≡ sec) q ⊎ IsValuesOf a.pair.layout (λ s. s ≡ sec) q) (g.D.Device.time c.args.dev.now) (g.D.Device.time c.append.new.dev))
-    c.new-record.ensures (c.append.ensures.moments t sound.pair) in
-    put_moments a c.args.index sec c.section_of-section.ensures key v n g.D.Device.time c.args.dev.now c.append.new.dev rest c.requires.over t sound asked (c.has_room.ensures.0 c.if-not-has_room.false) c.args.self.has_records c.section_of-section.type_inv
-    (λ lt. c.append.ensures.refused (inl (c.append.ensures.too_large.1 lt)))
-    (λ le full. c.append.ensures.refused (inr (inr (inl t, (c.append.ensures.full (inl t)).1 (le, omega (arith, c.requires.over.pair_floor), inr full)))))
-    keeping
-
-pub returns-clause-alone : goal.returns-clause-alone
-returns-clause-alone g c = rw (sym c.section_of-section.ensures) c.append.ensures.untouched
-
-pub returns-clause-below : goal.returns-clause-below
-returns-clause-below g c = rw (sym c.section_of-section.ensures) c.append.ensures.below
-
-pub returns-clause-over_limit : goal.returns-clause-over_limit
-returns-clause-over_limit g c none = absurd (none (rw (sym c.section_of-section.ensures) (c.has_room.ensures.0 c.if-not-has_room.false)))
-
-pub returns-clause-no_room : goal.returns-clause-no_room
-returns-clause-no_room g c =
-    rw (sym c.section_of-section.ensures) (λ t le passed. absurd (cc ((c.in_ok-pair.ensures.full (inl t)).1 (le, omega (arith, c.requires.over.pair_floor), passed))))
-
-pub returns-clause-filing : goal.returns-clause-filing
-returns-clause-filing g c =
+    let small = section_small _ c.args.index c.ranges.index.fits in
+    let allowed = subst (HasRoom a.most_sections a.most_records a.rows) here (c.has_room.ensures.0 c.if-not-has_room.false) in
     let says = c.in_ok-pair.ensures in
-    let p = pair.shown (place_of g.K.Key.SIZE) c.in_ok-pair.pair in
-    same_filing (filing_of (shown c.args.self)) p.layout (λ bytes. g.V.Codec.refusal bytes c.in_ok-pair.pair.values.codec_config) says.layout refl (λ _. refl) (λ _. refl) (λ bytes. ap (g.V.Codec.refusal bytes) says.codec_config)
+    let q = pair.shown (place_of g.K.Key.SIZE) c.in_ok-pair.pair in
+    let refusal : List ℕ → Option codec_error.Error = λ bytes. g.V.Codec.refusal bytes c.in_ok-pair.pair.values.codec_config in
+    let rows = rows_of g.K.Key.key_bytes c.push.new.self in
+    let written = contains nat_cmp c.insert.new.self in
+    let adds = adds_of g c in
+    let filing = same_filing (filing_of a) q.layout refusal says.layout refl (λ _. refl) (λ _. refl) (λ bytes. ap (g.V.Codec.refusal bytes) says.codec_config) in
+    let over = grown_archive a q refusal rows (AreFilledBut (λ _. ⊥) c.push.new.self) written c.args.index sec here key n d e
+    c.requires.over adds says.over (c.has_room.ensures.0 c.if-not-has_room.false) c.args.self.has_records in
+    let sounder : g.D.Device.Tells → IsSoundArchive a d → IsSoundArchive _ e = λ t sound. grown_sound a q refusal rows (AreFilledBut (λ _. ⊥) c.push.new.self) written c.args.index sec here key v n d e c.requires.over t adds (asked_of g (goal.at.returns g c).After-append sound (short g c)) sound (sounds_of g c t sound) in
+    put_added _ g.D.Device c.args.self c.args.index key v small c.requires.free _ c.args.dev.now c.append.new.dev allowed (moments_of g (goal.at.returns g c).After-append)
+    (touches_here _ g.D.Device c.args.self c.args.index key v sec here c.args.dev.now c.append.new.dev (record {
+      untouched = c.append.ensures.untouched;
+      entries = c.append.ensures.entries;
+      faults = c.append.ensures.faults;
+      below = c.append.ensures.below;
+    }))
+    (short g c)
+    (rw (sym here) (λ t passed. absurd (cc ((says.full (inl t)).1 (short g c, omega (arith, c.requires.over.pair_floor), passed)))))
+    over
+    (one_filing (filing_of a) _ filing refl)
+    (λ w accepts. subst (g.V.Codec.accepted w) (sym says.codec_config) accepts)
+    sounder
+    (λ t sound. grown_state a q refusal rows (AreFilledBut (λ _. ⊥) c.push.new.self) written c.args.index sec here key v n d e c.requires.over t adds (asked_of g (goal.at.returns g c).After-append sound (short g c)) sound (sounds_of g c t sound))
+    (λ t sound. at_rest _ e (omega arith) refl refl refl (λ s u held. λ i. (says.over.index.over.opened_list.setting s u held i).page_size) over t sound)
+    (record {
+      filing = filing;
+      word = refl;
+      bounds = says.bounds;
+      rows = rows_put a c.args.index sec here c.requires.free key rows adds.row adds.other_rows;
+      values = λ t. sizes_put a c.args.index sec here c.requires.free n q.values
+          (sym (section_counted _ q.values _ e says.over.values t sec) ∙ ap length (says.values t) ∙ length-append _ _ ∙ ap (λ (k : ℕ). k + n) (section_counted _ a.pair.values _ d c.requires.over.pair.values t sec))
+          (λ s other. ap glob.size_held (says.others s other).1.held);
+      other_tails = λ s other. (let same = says.others s (not_here a c.args.index sec here c.requires.free s other) in tails_same a.pair q s same.0 same.1);
+      written = λ s. written_put a c.args.index sec here c.requires.free written s (grows (contains nat_cmp c.args.self.written) written sec c.in_ok-insert.ensures.updates.1 (λ k other. c.in_ok-insert.ensures.updates.2 k (not_at sec k other)) s);
+      markers = says.markers;
+      synced = says.synced;
+    })

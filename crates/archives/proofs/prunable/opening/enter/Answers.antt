@@ -4,11 +4,19 @@ use Rattle.archives.specs.Rows.{HasRoom, rows_of}
 use Rattle.archives.proofs.OpenEnter.{within_entered}
 use Rattle.archives.proofs.prunable.opening.enter.Goals as goal
 
-pub returns-clause-within : goal.returns-clause-within
-returns-clause-within g c =
+pub returns : goal.returns
+returns g c =
     let kb = g.K.Key.key_bytes in
     let here : section_of c.args.items_per_section c.args.record.now.index ≡ c.args.section = search rules in
-    let room : HasRoom c.args.limits.sections c.args.limits.per_section (rows_of kb c.args.tables.now) c.args.section = search rules in
-    within_entered c.args.items_per_section c.args.limits.sections c.args.limits.per_section c.args.section
-    (record { index = c.args.record.now.index; key = kb c.args.record.now.key }) (rows_of kb c.args.tables.now) (rows_of kb c.push.new.self)
-    (search rules) (search rules) c.requires.some_records here room
+    let room : HasRoom c.args.limits.sections c.args.limits.per_section (rows_of kb c.args.tables.now) c.args.section = search rules in (
+      record {
+        entered = search rules;
+        others = c.push.ensures.others;
+        filled = c.in_ok-push.ensures.filled;
+        within = within_entered c.args.items_per_section c.args.limits.sections c.args.limits.per_section c.args.section
+            (record { index = c.args.record.now.index; key = kb c.args.record.now.key }) (rows_of kb c.args.tables.now) (rows_of kb c.push.new.self)
+            (search rules) (search rules) c.requires.limits.some_records here room;
+        here = here;
+      },
+      λ none. none room,
+    )

@@ -40,25 +40,19 @@ returns-in-Some-position g c =
 
 pub loop-section-preserved : goal.loop-section-preserved
 loop-section-preserved g c =
-    let kb = g.K.Key.key_bytes in
-    let eq = g.K.PartialEq.eq in
-    let by_bytes = g.met.K.Key.eq_by_bytes in
-    let key = c.args.key.now in
-    let none : AllWithin (λ e. eq e.key key ≡ false) c.in-Some.table.now.items 0 (length c.in-Some.table.now.items) = IsFirst-from_position _ _ None (λ e. eq e.key key ≡ true) (λ e. eq e.key key ≡ false) c.in_default.ensures.ran
+    let none : AllWithin (λ e. g.K.PartialEq.eq e.key c.args.key.now ≡ false) c.in-Some.table.now.items 0 (length c.in-Some.table.now.items) = IsFirst-from_position _ _ None (λ e. g.K.PartialEq.eq e.key c.args.key.now ≡ true) (λ e. g.K.PartialEq.eq e.key c.args.key.now ≡ false) c.in_default.ensures.ran
     (YieldsList-from_slice c.in-Some.table.now.items cc) (λ x q k. search (rules, tests)) (λ x q k. search (rules, tests)) in
     let next = rest_more deref_pair c.loop-section.section-iterator c.next.new.self c.next.result (c.in-Some.section, c.in-Some.table) c.in-Some.is c.next.ensures.steps in
     record {
       later = λ s q table here has. still_ahead (is_at (nat_cmp s)) c.loop-section.section-iterator c.next.new.self c.in-Some.section.now c.in-Some.table.now table next
           (c.loop-section.invariant.later s q table here has)
-          (λ same. shows_none (row_of kb) c.in-Some.table.now.items (λ e. eq e.key key ≡ false) (λ r. r.key ≡ kb key) (λ e is. other_key eq kb by_bytes e.key key is) none q (rw same has));
+          (λ same. shows_none (row_of g.K.Key.key_bytes) c.in-Some.table.now.items (λ e. g.K.PartialEq.eq e.key c.args.key.now ≡ false) (λ r. r.key ≡ g.K.Key.key_bytes c.args.key.now) (λ e is. other_key g.K.PartialEq.eq g.K.Key.key_bytes g.met.K.Key.eq_by_bytes e.key c.args.key.now is) none q (rw same has));
       ascending = rest_ascends c.loop-section.section-iterator c.next.new.self c.in-Some.section.now c.in-Some.table.now next c.loop-section.invariant.ascending;
     }
 
 pub returns-clause-none : goal.returns-clause-none
 returns-clause-none g c _ s q has =
-    let kb = g.K.Key.key_bytes in
-    let t = c.args.self.now in
-    let table = table_behind kb t s q (λ r. r.key ≡ kb c.args.key.now) has in
+    let table = table_behind g.K.Key.key_bytes c.args.self.now s q (λ r. r.key ≡ g.K.Key.key_bytes c.args.key.now) has in
     none_ahead (is_at (nat_cmp s)) c.loop-section.section-iterator table.0
     (rest_all deref_pair c.loop-section.section-iterator c.next.new.self c.next.result c.in-None.is c.next.ensures.steps)
     (c.loop-section.invariant.later s q table.0 table.1 table.2)

@@ -1,0 +1,155 @@
+-- What lookups promise, in the terms of a store that serves commands.
+use Rattle.std.proofs.Common.{◌≡◌, inl, inr, refl, sym, ap, subst, ℕ, Bool, List, Option, Some, None, Result, Ok, Err}
+use Rattle.std.specs.Prelude.{option_map}
+use Rattle.blob_device.specs.Disk.{Disk}
+use Rattle.blob_device.specs.Timeline.{disk}
+use Rattle.blob_device.specs.declared.device.Device as device
+use Rattle.blob_device.specs.declared.runtime.RError.TheVariants as runtime
+use Rattle.segments.specs.declared.journal.Error.TheVariants as journal
+use Rattle.segments.specs.declared.sealed.AppendFactory.{AppendFactory}
+use Rattle.sealed_pages.specs.declared.page_blob.PageBlob.{PageBlob}
+use Rattle.archives.specs.Archives.{IsSoundArchive, state_of}
+use Rattle.archives.specs.Changes.{Asked, Asks, Replied, outcome}
+use Rattle.archives.specs.Commands.{Get, GetKey, Has, HasKey, Reopen}
+use Rattle.archives.specs.Finding.{Wanted, get_command, has_command}
+use Rattle.archives.specs.Finding as wanted
+use Rattle.archives.specs.Machine.{State}
+use Rattle.archives.specs.Gets.{Gets, IsReadCause}
+use Rattle.archives.specs.Gets as gets
+use Rattle.archives.specs.Prunable.{Prunable, Setup, filing_by, meaning}
+use Rattle.archives.specs.Refusing.{IsFailure}
+use Rattle.archives.specs.Replies as reply
+use Rattle.archives.specs.Standing.{Leaves}
+use Rattle.archives.specs.declared.error.Error.{Error}
+use Rattle.archives.specs.declared.error.Error.TheVariants.{Journal, Mem}
+use Rattle.archive_service.specs.Causes.{Adds, IsCause, IsCauseAnywhere, IsLookup, MustRefuse, MustRefuseAnywhere, RefusesPut}
+use Rattle.archive_service.specs.Kinds.{Answers}
+use Rattle.archive_service.specs.PrunableKind.{IsQuiet, Learns}
+use Rattle.archive_service.specs.PrunableStore.{held_by, prunable_serving}
+use Rattle.archive_service.proofs.StoreLemmas.{Given, as_asked, leaves_as, no_refusal, refused_by_none, refused_by_none_now, serving_by, st, unchanged_always, unchanged_end}
+
+module _ {A V S D : Type 0} {gs : _} (p : Prunable A V (AppendFactory S) (PageBlob S gs)) (setup : Setup V) (valid : Type 0) (dev : device.Ghosts D) (a : A) (old : D) (given : Given p setup valid dev a old) where
+  abbrev state : State (List ℕ)
+  state = st p setup valid dev a old given
+
+  -- ---- what a lookup is
+
+  -- It submits nothing, is never refused, and tells nothing new.
+  pub record IsLooking (c : Asked) : Type 0 where
+    pub lookup : IsLookup c
+    pub no_reopen : c ≡ Reopen → ⊥
+    pub allowed : MustRefuse (filing_by p a) state (disk (dev.time old)) c → ⊥
+    pub allowed_anywhere : MustRefuseAnywhere (filing_by p a) (held_by p a) (disk (dev.time old)) c → ⊥
+    pub refuses : (e : Error) → RefusesPut (filing_by p a) state c e → ⊥
+    pub under_way : (d : Disk) → Leaves (filing_by p a) state None d → Leaves (filing_by p a) state (Some c) d
+    pub learns : (from to : Disk) → Learns (filing_by p a) setup.write_buffer setup.value_buffer (held_by p a) c from to (held_by p a)
+
+  get_looks : (w : Wanted) → IsLooking (get_command w)
+  get_looks (wanted.Index i) = record { lookup = tt; no_reopen = λ is. cc is; allowed = refused_by_none_now; allowed_anywhere = refused_by_none (Get i) (λ is. cc is); refuses = λ e. no_refusal; under_way = λ d. leaves_as (filing_by p a) state None (Some (Get i)) d (λ s. refl) (λ s going. going); learns = λ from to. refl }
+  get_looks (wanted.Key k) = record { lookup = tt; no_reopen = λ is. cc is; allowed = refused_by_none_now; allowed_anywhere = refused_by_none (GetKey k) (λ is. cc is); refuses = λ e. no_refusal; under_way = λ d. leaves_as (filing_by p a) state None (Some (GetKey k)) d (λ s. refl) (λ s going. going); learns = λ from to. refl }
+
+  has_looks : (w : Wanted) → IsLooking (has_command w)
+  has_looks (wanted.Index i) = record { lookup = tt; no_reopen = λ is. cc is; allowed = refused_by_none_now; allowed_anywhere = refused_by_none (Has i) (λ is. cc is); refuses = λ e. no_refusal; under_way = λ d. leaves_as (filing_by p a) state None (Some (Has i)) d (λ s. refl) (λ s going. going); learns = λ from to. refl }
+  has_looks (wanted.Key k) = record { lookup = tt; no_reopen = λ is. cc is; allowed = refused_by_none_now; allowed_anywhere = refused_by_none (HasKey k) (λ is. cc is); refuses = λ e. no_refusal; under_way = λ d. leaves_as (filing_by p a) state None (Some (HasKey k)) d (λ s. refl) (λ s going. going); learns = λ from to. refl }
+
+  -- ---- why it got no reply
+
+  failure_cause : (c : Asked) (before now : ℕ) (e : Error) → IsFailure before now e → IsCause (filing_by p a) state (Some c) (disk (dev.time old)) e
+  failure_cause c before now e (inl memory) = subst (IsCause (filing_by p a) state (Some c) (disk (dev.time old))) (sym memory) tt
+  failure_cause c before now e (inr fault) = subst (IsCause (filing_by p a) state (Some c) (disk (dev.time old))) (sym fault.0) tt
+
+  read_anywhere : (t : dev.Tells) (c : Asked) → IsLookup c → (Met : (ℕ → ℕ → Type 0) → Type 0) (to : Disk) (before now : ℕ) (e : Error)
+      → IsReadCause (p.see a) (disk (dev.time old)) dev.Tells Met before now e → IsCauseAnywhere (filing_by p a) (held_by p a) (Some c) (disk (dev.time old)) to e
+  read_anywhere t c lookup Met to before now Mem why = tt
+  read_anywhere t c lookup Met to before now (Journal (journal.Runtime runtime.Fault)) why = tt
+  read_anywhere t c lookup Met to before now (Journal (journal.Runtime (runtime.InvalidChecksum k))) why = inr lookup
+  read_anywhere t c lookup Met to before now (Journal (journal.SectionOutOfRange n)) why = lookup
+  read_anywhere t c lookup Met to before now (Journal (journal.Runtime runtime.BlobInsufficientLength)) why = lookup
+  read_anywhere t c lookup Met to before now (Journal (journal.Runtime runtime.OffsetOverflow)) why = inr lookup
+  read_anywhere t c lookup Met to before now (Journal (journal.ChecksumMismatch stored computed)) why = lookup
+  read_anywhere t c lookup Met to before now (Journal (journal.Codec e)) why = lookup
+  read_anywhere t c lookup Met to before now (Journal (journal.ItemOutOfRange n)) why = absurd (why t)
+  read_anywhere t c lookup Met to before now e why = absurd why
+
+  -- ---- the lookup
+
+  module _ {R : Type 0} (new : D) (c : Asked) (looks : IsLooking c) (reply_of : R → Replied)
+      (quiet : dev.Tells → IsQuiet (filing_by p a) setup.write_buffer setup.value_buffer (held_by p a) c → new ≡ old) where
+    look_at : (result : Result R Error) → Asks (meaning p) dev a c reply_of result old new
+        → (dev.Tells → (e : Error) → result ≡ Err e → IsCauseAnywhere (filing_by p a) (held_by p a) (Some c) (disk (dev.time old)) (disk (dev.time new)) e)
+        → Answers (serving_by p setup valid dev (filing_by p a)) dev a c (outcome (λ x. (a, reply_of x)) result) old new
+    look_at (Ok x) asks why = record {
+      moments = λ t sound. unchanged_always (dev.time old) (dev.time new) _ (asks.unchanged t) (looks.under_way _ (given.laws.leaves t sound));
+      alone = λ t. unchanged_always (dev.time old) (dev.time new) _ (asks.unchanged t) (λ q other. refl);
+      footprint = asks.footprint;
+      quiet = quiet;
+      ends = record {
+        usable = record {
+          usable = asks.over;
+          filing = given.usable.filing;
+          accepts = given.usable.accepts;
+          write_buffer = given.usable.write_buffer;
+          value_buffer = given.usable.value_buffer;
+          flushed = given.usable.flushed;
+        };
+        sound = λ t sound. subst (λ (d : Disk). IsSoundArchive (p.see a) d) (sym (unchanged_end (dev.time old) (dev.time new) (asks.unchanged t))) sound;
+        step = λ t sound. asks.ends t;
+        reopened = λ t sound is. absurd (looks.no_reopen is);
+        allowed = λ t sound. looks.allowed;
+        rest = λ t sound. subst (λ (d : Disk). Leaves (filing_by p a) (state_of (p.see a) d) None d) (sym (unchanged_end (dev.time old) (dev.time new) (asks.unchanged t))) (given.laws.leaves t sound);
+        learns = λ t. looks.learns _ _;
+        allowed_anywhere = λ t. looks.allowed_anywhere;
+      };
+    }
+    look_at (Err e) asks why = record {
+      moments = λ t sound. unchanged_always (dev.time old) (dev.time new) _ (asks.unchanged t) (looks.under_way _ (given.laws.leaves t sound));
+      alone = λ t. unchanged_always (dev.time old) (dev.time new) _ (asks.unchanged t) (λ q other. refl);
+      footprint = asks.footprint;
+      quiet = quiet;
+      ends = record {
+        cause = λ t sound. failure_cause c (dev.faults old) (dev.faults new) e (asks.ends.gives t sound);
+        unwritten = λ t sound refuses. absurd (looks.refuses e refuses);
+        anywhere = λ t. why t e refl;
+        unwritten_anywhere = λ t refuses. asks.unchanged t;
+        fault = asks.ends.fault;
+      };
+    }
+
+    pub look_answers : (result : Result R Error) → Asks (meaning p) dev a c reply_of result old new
+        → (dev.Tells → (e : Error) → result ≡ Err e → IsCauseAnywhere (filing_by p a) (held_by p a) (Some c) (disk (dev.time old)) (disk (dev.time new)) e)
+        → Answers (prunable_serving p setup valid) dev a c (outcome (λ x. (a, reply_of x)) result) old new
+    look_answers result asks why = as_asked p setup valid dev a old given c (outcome (λ x. (a, reply_of x)) result) new (look_at result asks why)
+
+  -- a value by index or key
+  get_quiet : (w : Wanted) → IsQuiet (filing_by p a) setup.write_buffer setup.value_buffer (held_by p a) (get_command w) → ⊥
+  get_quiet (wanted.Index i) still = still
+  get_quiet (wanted.Key k) still = still
+
+  get_why : (w : Wanted) (new : D) (result : Result (Option V) Error) → Gets p dev a w result old new → dev.Tells → (e : Error) → result ≡ Err e
+      → IsCauseAnywhere (filing_by p a) (held_by p a) (Some (get_command w)) (disk (dev.time old)) (disk (dev.time new)) e
+  get_why w new (Ok x) get t e is = absurd (cc is)
+  get_why w new (Err x) get t e is =
+      let same : x ≡ e = cc is in
+      subst (λ (y : Error). IsCauseAnywhere (filing_by p a) (held_by p a) (Some (get_command w)) (disk (dev.time old)) (disk (dev.time new)) y) same
+      (read_anywhere t (get_command w) (get_looks w).lookup (gets.SomeToLookAt p dev a w) (disk (dev.time new)) (dev.faults old) (dev.faults new) x get.ends)
+
+  pub get_answers : (w : Wanted) (new : D) (result : Result (Option V) Error) → Gets p dev a w result old new
+      → Answers (prunable_serving p setup valid) dev a (get_command w) (outcome (λ v. (a, reply.Value (option_map p.spelling v))) result) old new
+  get_answers w new result get = look_answers new (get_command w) (get_looks w) (λ v. reply.Value (option_map p.spelling v)) (λ t still. absurd (get_quiet w still)) result get.asks (get_why w new result get)
+
+  -- whether one is there
+  has_quiet : (w : Wanted) (new : D) (result : Result Bool Error) → gets.Has p dev a w result old new → IsQuiet (filing_by p a) setup.write_buffer setup.value_buffer (held_by p a) (has_command w) → new ≡ old
+  has_quiet (wanted.Index i) new result has still = (has.asks.by_index i refl).1
+  has_quiet (wanted.Key k) new result has still = absurd still
+
+  has_why : (w : Wanted) (new : D) (result : Result Bool Error) → gets.Has p dev a w result old new → dev.Tells → (e : Error) → result ≡ Err e
+      → IsCauseAnywhere (filing_by p a) (held_by p a) (Some (has_command w)) (disk (dev.time old)) (disk (dev.time new)) e
+  has_why w new (Ok x) has t e is = absurd (cc is)
+  has_why w new (Err x) has t e is =
+      let same : x ≡ e = cc is in
+      subst (λ (y : Error). IsCauseAnywhere (filing_by p a) (held_by p a) (Some (has_command w)) (disk (dev.time old)) (disk (dev.time new)) y) same
+      (read_anywhere t (has_command w) (has_looks w).lookup (gets.SomeToLookAt p dev a w) (disk (dev.time new)) (dev.faults old) (dev.faults new) x has.ends)
+
+  pub has_answers : (w : Wanted) (new : D) (result : Result Bool Error) → gets.Has p dev a w result old new
+      → Answers (prunable_serving p setup valid) dev a (has_command w) (outcome (λ b. (a, reply.Flag b)) result) old new
+  has_answers w new result has = look_answers new (has_command w) (has_looks w) (λ b. reply.Flag b) (λ t. has_quiet w new result has) result has.asks.asks (has_why w new result has)

@@ -1,0 +1,195 @@
+-- What a store of records is, that commands are served from: its states and steps, what its images mean, what crashes may leave of it, which blobs
+-- are its own, and why it fails.
+use Rattle.std.specs.Prelude.{◌≡◌, Option, None, Some, Result, Ok, Err}
+use Rattle.blob_device.specs.Counts.{Rose}
+use Rattle.blob_device.specs.Disk.{Disk, Image, Key, NothingPending}
+use Rattle.blob_device.specs.Footprint.{Footprint, NoBound}
+use Rattle.blob_device.specs.Opened.{OpenedList}
+use Rattle.blob_device.specs.Timeline.{Always, disk}
+use Rattle.blob_device.specs.declared.device.Device as device
+use Rattle.sealed_pages.specs.Reading.{Unchanged}
+use Rattle.paired.specs.Opening.{as_read}
+use Rattle.archives.specs.Changes.{Asked, Replied}
+use Rattle.archives.specs.Commands.{Reopen}
+use Rattle.archives.specs.Refusing.{IsFault}
+use Rattle.archives.specs.declared.error.Error.{Error}
+
+pub record Kind : Type 1 where
+  -- ---- from a lawful image on
+
+  -- the states that the store goes through
+  pub State : Type 0
+  -- a store may be opened over the image
+  pub Lawful : Image → Type 0
+  -- the state to which an opening of the image comes; there is one
+  pub IsStart : Image → State → Type 0
+  pub starts : (image : Image) → Lawful image → (st : State) × IsStart image st
+  -- the store may give this reply to the command, and go on from one state to another
+  pub Step : State → Asked → Replied → State → Type 0
+  -- each crash of the disk without a chance seal leaves a lawful image that stands for the state with this command under way
+  pub Leaves : State → Option Asked → Disk → Type 0
+  -- the command that begins in the state, over the disk, gets no reply
+  pub MustRefuse : State → Disk → Asked → Type 0
+  -- the error refuses the command in a way that writes nothing
+  pub Refuses : State → Asked → Error → Type 0
+  -- why the error, if it is not want of memory, ends what was under way, which began over the disk
+  pub IsCause : State → Option Asked → Disk → Error → Type 0
+  -- ---- from any image on
+
+  -- what the store knows of itself, also where the image is not lawful; and what is known of one that was not opened
+  pub Known : Type 0
+  pub unknown : Known
+  -- what it knows once it was opened from one disk to another
+  pub IsFound : Disk → Disk → Known → Type 0
+  -- what it knows once the command got a reply, from one disk to another
+  pub Learns : Known → Asked → Disk → Disk → Known → Type 0
+  -- why the error, if it is not want of memory, ends what was under way, from one disk to another
+  pub IsCauseAnywhere : Known → Option Asked → Disk → Disk → Error → Type 0
+  -- by what is known, the command that begins over the disk gets no reply
+  pub MustRefuseAnywhere : Known → Disk → Asked → Type 0
+  -- by what is known, the error refuses the command in a way that writes nothing
+  pub RefusesAnywhere : Known → Asked → Error → Type 0
+  -- the command makes no call of the device
+  pub IsQuiet : Known → Asked → Type 0
+  -- ---- over any device
+
+  -- the blobs of the store, and those that the command may change
+  pub IsOwn : Key → Type 0
+  pub MayChange : Asked → Key → Type 0
+
+-- What contracts see of the stores A of a kind, which are kept by one configuration.
+pub record Serving (A V : Type 0) : Type 1 where
+  pub kind : Kind
+  -- the configuration is valid, and allows the value
+  pub IsValid : Type 0
+  pub Accepts : V → Type 0
+  -- the store is one of this configuration, and may be used with a device that has opened these blobs, over this disk where the device tells its disk
+  pub IsUsable : A → Type 0 → OpenedList → Disk → Type 0
+  -- the disk has what is held in good order
+  pub IsSound : A → Disk → Type 0
+  pub state : A → Disk → kind.State
+  pub known : A → kind.Known
+
+module _ {A V D : Type 0} (s : Serving A V) (dev : device.Ghosts D) where
+  abbrev pub MayServe : A → D → Type 0
+  MayServe a d = s.IsUsable a dev.Tells (dev.opened d) (disk (dev.time d))
+
+  abbrev pub IsSoundOver : A → D → Type 0
+  IsSoundOver a d = s.IsSound a (disk (dev.time d))
+
+  abbrev pub state_over : A → D → s.kind.State
+  state_over a d = s.state a (disk (dev.time d))
+
+  -- ---- one command
+
+  -- The store a gave the reply, and is now r.
+  pub record Answered (a : A) (command : Asked) (r : A) (reply : Replied) (old new : D) : Type 0 where
+    -- it goes on as a store of the configuration
+    pub usable : MayServe r new
+    -- from a sound store on, the reply is a step of the machine
+    pub sound : dev.Tells → IsSoundOver a old → IsSoundOver r new
+    pub step : dev.Tells → IsSoundOver a old
+        → s.kind.Step (state_over a old) command reply (state_over r new)
+    -- a reopening comes to the start state of the image as it read when the command began
+    pub reopened : dev.Tells → IsSoundOver a old → command ≡ Reopen
+        → s.kind.IsStart (as_read (disk (dev.time old))) (state_over r new)
+    -- the command did not have to be refused
+    pub allowed : dev.Tells → IsSoundOver a old
+        → s.kind.MustRefuse (state_over a old) (disk (dev.time old)) command → ⊥
+    -- each crash now leaves what stands for the new state
+    pub rest : dev.Tells → IsSoundOver a old
+        → s.kind.Leaves (state_over r new) None (disk (dev.time new))
+    -- over any image: what the store then knows, and that the command did not have to be refused by what it knew
+    pub learns : dev.Tells
+        → s.kind.Learns (s.known a) command (disk (dev.time old)) (disk (dev.time new)) (s.known r)
+    pub allowed_anywhere : dev.Tells
+        → s.kind.MustRefuseAnywhere (s.known a) (disk (dev.time old)) command → ⊥
+
+  -- The store a gave no reply.
+  pub record Unanswered (a : A) (command : Asked) (e : Error) (old new : D) : Type 0 where
+    -- from a sound store on, the error has its cause
+    pub cause : dev.Tells → IsSoundOver a old
+        → s.kind.IsCause (state_over a old) (Some command) (disk (dev.time old)) e
+    -- a refusal writes nothing
+    pub unwritten : dev.Tells → IsSoundOver a old → s.kind.Refuses (state_over a old) command e
+        → Unchanged (dev.time old) (dev.time new)
+    -- over any image: the cause by what the store knew, and a refusal by that
+    pub anywhere : dev.Tells
+        → s.kind.IsCauseAnywhere (s.known a) (Some command) (disk (dev.time old)) (disk (dev.time new)) e
+    pub unwritten_anywhere : dev.Tells → s.kind.RefusesAnywhere (s.known a) command e
+        → Unchanged (dev.time old) (dev.time new)
+    -- over any device
+    pub fault : IsFault e → Rose (dev.faults old) (dev.faults new)
+
+  abbrev pub AnswerEnds : A → Asked → Result (A × Replied) Error → D → D → Type 0
+  AnswerEnds a command (Ok r) old new = Answered a command r.0 r.1 old new
+  AnswerEnds a command (Err e) old new = Unanswered a command e old new
+
+  -- One command, with its values as spelled, of the store a.
+  pub record Answers (a : A) (command : Asked) (result : Result (A × Replied) Error) (old new : D) : Type 0 where
+    -- at each moment, also where it fails, each crash leaves what stands for the state with the command under way
+    pub moments : dev.Tells → IsSoundOver a old
+        → Always (dev.time old) (dev.time new) (s.kind.Leaves (state_over a old) (Some command))
+    -- from any image on: no blob is touched but those that the command may change
+    pub alone : dev.Tells
+        → Always (dev.time old) (dev.time new) (λ d. (q : Key) → (s.kind.MayChange command q → ⊥) → d q ≡ disk (dev.time old) q)
+    -- over any device: blobs of others are left alone
+    pub footprint : Footprint dev s.kind.IsOwn NoBound old new
+    -- a command that makes no call of the device leaves it as it was
+    pub quiet : dev.Tells → s.kind.IsQuiet (s.known a) command → new ≡ old
+    -- the reply, or the error
+    pub ends : AnswerEnds a command result old new
+
+  -- ---- the opening
+
+  -- The store r was opened.
+  pub record IsOpened (r : A) (old new : D) : Type 0 where
+    -- it is a store of the configuration
+    pub usable : MayServe r new
+    -- from a lawful image on, of which nothing is pending
+    pub sound : dev.Tells → NothingPending (disk (dev.time old))
+        → s.kind.Lawful (as_read (disk (dev.time old))) → IsSoundOver r new
+    pub start : dev.Tells → NothingPending (disk (dev.time old))
+        → s.kind.Lawful (as_read (disk (dev.time old)))
+        → s.kind.IsStart (as_read (disk (dev.time old))) (state_over r new)
+    -- no more than a reopening did the opening have to be refused
+    pub allowed : dev.Tells → NothingPending (disk (dev.time old))
+        → s.kind.Lawful (as_read (disk (dev.time old)))
+        → s.kind.MustRefuse (state_over r new) (disk (dev.time old)) Reopen → ⊥
+    -- each crash now leaves what stands for the state
+    pub rest : dev.Tells → NothingPending (disk (dev.time old))
+        → s.kind.Lawful (as_read (disk (dev.time old)))
+        → s.kind.Leaves (state_over r new) None (disk (dev.time new))
+    -- over any image: what the store then knows, and that the opening did not have to be refused
+    pub found : dev.Tells → s.kind.IsFound (disk (dev.time old)) (disk (dev.time new)) (s.known r)
+    pub allowed_anywhere : dev.Tells
+        → s.kind.MustRefuseAnywhere s.kind.unknown (disk (dev.time old)) Reopen → ⊥
+
+  -- It was not. The causes are those of a start state, and over any image of what no store knows yet.
+  pub record IsNotOpened (e : Error) (old new : D) : Type 0 where
+    -- from a lawful image on, of which nothing is pending
+    pub cause : dev.Tells → NothingPending (disk (dev.time old))
+        → s.kind.Lawful (as_read (disk (dev.time old)))
+        → (st : s.kind.State) → s.kind.IsStart (as_read (disk (dev.time old))) st
+        → s.kind.IsCause st None (disk (dev.time old)) e
+    -- over any image
+    pub anywhere : dev.Tells → (known : s.kind.Known)
+        → s.kind.IsCauseAnywhere known None (disk (dev.time old)) (disk (dev.time new)) e
+    -- over any device
+    pub fault : IsFault e → Rose (dev.faults old) (dev.faults new)
+
+  abbrev pub OpeningEnds : Result A Error → D → D → Type 0
+  OpeningEnds (Ok r) old new = IsOpened r old new
+  OpeningEnds (Err e) old new = IsNotOpened e old new
+
+  -- An opening by the configuration.
+  pub record OpensStore (result : Result A Error) (old new : D) : Type 0 where
+    -- at each moment each crash leaves what stands for the start state
+    pub moments : dev.Tells → NothingPending (disk (dev.time old))
+        → s.kind.Lawful (as_read (disk (dev.time old)))
+        → (st : s.kind.State) → s.kind.IsStart (as_read (disk (dev.time old))) st
+        → Always (dev.time old) (dev.time new) (s.kind.Leaves st None)
+    -- over any device: blobs of others are left alone
+    pub footprint : Footprint dev s.kind.IsOwn NoBound old new
+    -- the store, or the error
+    pub ends : OpeningEnds result old new

@@ -1,0 +1,231 @@
+-- The prunable archive as a kind of store.
+use Rattle.std.specs.Prelude.{◌≢◌, ◌≡◌, ◌⊎◌, ⊤, ℕ, ◌+◌, ◌<◌, ◌≤◌, ◌^◌, max, if◌then◌else◌, true, false, List, [], length, map}
+use Rattle.blob_device.specs.Disk.{Disk, Key}
+use Rattle.paired.specs.Crashes.{IsOwn}
+use Rattle.paired.specs.Kept.{Markers, content_at}
+use Rattle.paired.specs.Opening.{as_read}
+use Rattle.archives.specs.Changes.{Asked}
+use Rattle.archives.specs.Commands.{Put, PutSync, PutStart, Multi, MultiSync, MultiStart, Get, GetKey, All, Has, HasKey, HasAt, Gap, Missing, Ranges, RangesFrom, First, Last, Sync, Start, Prune, Reopen, Destroy}
+use Rattle.archives.specs.Filing.{Filing, IsBlobAt}
+use Rattle.archives.specs.Lawful.{Lawful}
+use Rattle.archives.specs.Machine.{State, Step, section_of}
+use Rattle.archives.specs.Opening.{OfKept}
+use Rattle.archives.specs.Rows.{row_in}
+use Rattle.archives.specs.Standing.{IsStart, Leaves}
+use Rattle.archive_service.specs.Causes.{Held, IsCause, IsCauseAnywhere, MustRefuse, MustRefuseAnywhere, PutOf, RefusesAnywhere, RefusesPut, adds_to, bytes_with, frame_by, holding_nothing, put_of, rows_with}
+use Rattle.archive_service.specs.Kinds.{Kind}
+use Rattle.archive_service.specs.Starts.{start_of, starts}
+
+-- The buffers of a section's records, and of its values, flush from so many bytes on.
+module _ (f : Filing) (write_buffer value_buffer : ℕ) where
+  -- the blobs that a command may change: none by a lookup; by a put that does not sync the two of its section; else all of the archive
+  abbrev pub MayChange : Asked → Key → Type 0
+  MayChange (Get i) q = ⊥
+  MayChange (GetKey k) q = ⊥
+  MayChange (All i) q = ⊥
+  MayChange (Has i) q = ⊥
+  MayChange (HasKey k) q = ⊥
+  MayChange (HasAt i k) q = ⊥
+  MayChange (Gap i) q = ⊥
+  MayChange (Missing i n) q = ⊥
+  MayChange Ranges q = ⊥
+  MayChange (RangesFrom i) q = ⊥
+  MayChange First q = ⊥
+  MayChange Last q = ⊥
+  MayChange (Put i k v) q = IsBlobAt f i q
+  MayChange (Multi i k v) q = IsBlobAt f i q
+  MayChange (PutSync i k v) q = IsOwn f.layout (λ _. ⊤) q
+  MayChange (PutStart i k v) q = IsOwn f.layout (λ _. ⊤) q
+  MayChange (MultiSync i k v) q = IsOwn f.layout (λ _. ⊤) q
+  MayChange (MultiStart i k v) q = IsOwn f.layout (λ _. ⊤) q
+  MayChange Sync q = IsOwn f.layout (λ _. ⊤) q
+  MayChange Start q = IsOwn f.layout (λ _. ⊤) q
+  MayChange (Prune bound) q = IsOwn f.layout (λ _. ⊤) q
+  MayChange Reopen q = IsOwn f.layout (λ _. ⊤) q
+  MayChange Destroy q = IsOwn f.layout (λ _. ⊤) q
+
+  -- ---- what an archive holds, over any image
+
+  -- nothing is left to flush, and all is synced
+  pub record IsSettled (held : Held) : Type 0 where
+    -- all rows are synced
+    pub synced : (s : ℕ) → held.synced s ≡ length (held.rows s)
+    -- no bytes are left to flush, of records and of values
+    pub record_tail : (s : ℕ) → held.record_tail s ≡ 0
+    pub value_tail : (s : ℕ) → held.value_tail s ≡ 0
+
+  -- once it was opened
+  pub record IsFound (from to : Disk) (held : Held) : Type 0 where
+    -- it is open, and nothing was pruned
+    pub is_open : held.is_open ≡ true
+    pub floor : held.floor ≡ 0
+    -- a row for each record that the image keeps, and none behind the last section that a u64 names
+    pub rows : OfKept f (as_read from) (λ entries. (s : ℕ) → s < 2 ^ 64 → held.rows s ≡ map (λ e. row_in f.key_size e.stored) (entries s))
+    pub no_more : (s : ℕ) → 2 ^ 64 ≤ s → held.rows s ≡ []
+    -- all bytes of its value blobs
+    pub bytes : (s : ℕ) → s < 2 ^ 64
+        → held.bytes s ≡ length (content_at (as_read to) f.layout.values s)
+    -- all is synced and flushed
+    pub settled : IsSettled held
+
+  -- both buffers of the section are there, and have room for what is put
+  pub record FitsBuffers (held : Held) (put : PutOf) (s : ℕ) : Type 0 where
+    -- the section has records and values
+    pub records_there : held.rows s ≢ []
+    pub values_there : held.bytes s ≢ 0
+    -- with one more, neither buffer is full
+    pub record_room : held.record_tail s + f.layout.record_size < write_buffer
+    pub value_room : held.value_tail s + frame_by f put < value_buffer
+
+  -- it is open as before, and its floor is the same
+  pub record IsOpenAsBefore (held next : Held) : Type 0 where
+    pub is_open : next.is_open ≡ held.is_open
+    pub floor : next.floor ≡ held.floor
+
+  -- What is put was added, where it adds a record.
+  pub record HoldsPut (held : Held) (put : PutOf) (next : Held) : Type 0 where
+    -- the row goes last in its section, and the bytes are those of its frame more
+    pub rows : (s : ℕ) → next.rows s ≡ rows_with f held put s
+    pub bytes : (s : ℕ) → next.bytes s ≡ bytes_with f held put s
+    -- nothing is synced
+    pub synced : (s : ℕ) → next.synced s ≡ held.synced s
+    -- what is not flushed of other sections stays
+    pub other_tails : (s : ℕ) → adds_to f held put s ≡ false
+        → (next.record_tail s ≡ held.record_tail s) × (next.value_tail s ≡ held.value_tail s)
+    -- nothing else changes
+    pub stays : IsOpenAsBefore held next
+
+  -- a put that does not sync makes no call of the device where it adds nothing, or both buffers have room
+  abbrev pub IsBuffered : Held → PutOf → Type 0
+  IsBuffered held put = (s : ℕ) → adds_to f held put s ≡ true → FitsBuffers held put s
+
+  -- A sync changes no row and no number of bytes.
+  pub record HoldsSynced (held next : Held) : Type 0 where
+    pub rows : (s : ℕ) → next.rows s ≡ held.rows s
+    pub bytes : (s : ℕ) → next.bytes s ≡ held.bytes s
+    -- all is synced and flushed
+    pub settled : IsSettled next
+    -- nothing else changes
+    pub stays : IsOpenAsBefore held next
+
+  -- a put, and then a sync
+  pub record HoldsPutAndSynced (held : Held) (put : PutOf) (next : Held) : Type 0 where
+    -- what is held between them
+    pub between : Held
+    pub holds_put : HoldsPut held put between
+    pub synced : HoldsSynced between next
+
+  -- of a section nothing changes
+  pub record StaysAt (held next : Held) (s : ℕ) : Type 0 where
+    -- its rows, its bytes, and how many rows are synced
+    pub rows : next.rows s ≡ held.rows s
+    pub bytes : next.bytes s ≡ held.bytes s
+    pub synced : next.synced s ≡ held.synced s
+    -- what is not flushed
+    pub record_tail : next.record_tail s ≡ held.record_tail s
+    pub value_tail : next.value_tail s ≡ held.value_tail s
+
+  -- of a section nothing is left
+  pub record IsEmptyAt (held : Held) (s : ℕ) : Type 0 where
+    -- no row, no bytes, nothing synced
+    pub rows : held.rows s ≡ []
+    pub bytes : held.bytes s ≡ 0
+    pub synced : held.synced s ≡ 0
+    -- nothing to flush
+    pub record_tail : held.record_tail s ≡ 0
+    pub value_tail : held.value_tail s ≡ 0
+
+  -- An open archive was pruned: the sections below the bound, rounded down to the start of a section, are gone, and no other changes. Below the floor
+  -- they were gone before. A closed one stays.
+  pub record HoldsPruned (held : Held) (bound : ℕ) (next : Held) : Type 0 where
+    -- it is open as before
+    pub is_open : next.is_open ≡ held.is_open
+    -- the floor is no lower than before, nor than the bound
+    pub floor : next.floor ≡ (if held.is_open then max held.floor (section_of f.items bound) else held.floor)
+    -- the sections below the bound are gone
+    pub below : held.is_open ≡ true → (s : ℕ) → s < section_of f.items bound → IsEmptyAt next s
+    -- the others stay; all do where it is closed
+    pub others : (s : ℕ) → (section_of f.items bound ≤ s) ⊎ (held.is_open ≡ false)
+        → StaysAt held next s
+
+  -- it was destroyed: it is closed, and of no section anything is left
+  pub record IsDestroyed (next : Held) : Type 0 where
+    pub closed : next.is_open ≡ false
+    pub empty : (s : ℕ) → IsEmptyAt next s
+
+  -- once a command got a reply
+  abbrev pub Learns : Held → Asked → Disk → Disk → Held → Type 0
+  Learns held (Put i k v) from to next = HoldsPut held (put_of (Put i k v)) next
+  Learns held (Multi i k v) from to next = HoldsPut held (put_of (Multi i k v)) next
+  Learns held (PutSync i k v) from to next = HoldsPutAndSynced held (put_of (PutSync i k v)) next
+  Learns held (PutStart i k v) from to next = HoldsPutAndSynced held (put_of (PutStart i k v)) next
+  Learns held (MultiSync i k v) from to next = HoldsPutAndSynced held (put_of (MultiSync i k v)) next
+  Learns held (MultiStart i k v) from to next = HoldsPutAndSynced held (put_of (MultiStart i k v)) next
+  Learns held Sync from to next = HoldsSynced held next
+  Learns held Start from to next = HoldsSynced held next
+  Learns held Reopen from to next = IsFound from to next
+  Learns held (Prune bound) from to next = HoldsPruned held bound next
+  Learns held Destroy from to next = IsDestroyed next
+  Learns held (Get i) from to next = next ≡ held
+  Learns held (GetKey k) from to next = next ≡ held
+  Learns held (All i) from to next = next ≡ held
+  Learns held (Has i) from to next = next ≡ held
+  Learns held (HasKey k) from to next = next ≡ held
+  Learns held (HasAt i k) from to next = next ≡ held
+  Learns held (Gap i) from to next = next ≡ held
+  Learns held (Missing i n) from to next = next ≡ held
+  Learns held Ranges from to next = next ≡ held
+  Learns held (RangesFrom i) from to next = next ≡ held
+  Learns held First from to next = next ≡ held
+  Learns held Last from to next = next ≡ held
+
+  -- commands that make no call of the device: they are answered by what is held
+  abbrev pub IsQuiet : Held → Asked → Type 0
+  IsQuiet held (Put i k v) = IsBuffered held (put_of (Put i k v))
+  IsQuiet held (Multi i k v) = IsBuffered held (put_of (Multi i k v))
+  IsQuiet held (Has i) = ⊤
+  IsQuiet held (PutSync i k v) = ⊥
+  IsQuiet held (PutStart i k v) = ⊥
+  IsQuiet held (MultiSync i k v) = ⊥
+  IsQuiet held (MultiStart i k v) = ⊥
+  IsQuiet held (Get i) = ⊥
+  IsQuiet held (GetKey k) = ⊥
+  IsQuiet held (All i) = ⊥
+  IsQuiet held (HasKey k) = ⊥
+  IsQuiet held (HasAt i k) = ⊥
+  IsQuiet held (Gap i) = ⊤
+  IsQuiet held (Missing i n) = ⊤
+  IsQuiet held Ranges = ⊤
+  IsQuiet held (RangesFrom i) = ⊤
+  IsQuiet held First = ⊤
+  IsQuiet held Last = ⊤
+  IsQuiet held Sync = ⊥
+  IsQuiet held Start = ⊥
+  IsQuiet held (Prune bound) = ⊥
+  IsQuiet held Reopen = ⊥
+  IsQuiet held Destroy = ⊥
+
+  -- ---- the kind
+
+  abbrev pub prunable_kind : Kind
+  prunable_kind = record {
+    State = State (List ℕ);
+    Lawful = λ image. (markers : Markers) × Lawful f image markers;
+    IsStart = λ image st. (markers : Markers) × IsStart f image markers st;
+    starts = λ image lawful. (start_of f image lawful.0, (lawful.0, starts f image lawful.0 lawful.1));
+    Step = Step f.items;
+    Leaves = Leaves f;
+    MustRefuse = λ st d. MustRefuse f st d;
+    Refuses = RefusesPut f;
+    IsCause = IsCause f;
+    Known = Held;
+    unknown = holding_nothing;
+    IsFound = IsFound;
+    Learns = Learns;
+    IsCauseAnywhere = IsCauseAnywhere f;
+    MustRefuseAnywhere = MustRefuseAnywhere f;
+    RefusesAnywhere = RefusesAnywhere f;
+    IsOwn = IsOwn f.layout (λ _. ⊤);
+    MayChange = MayChange;
+    IsQuiet = IsQuiet;
+  }

@@ -1,0 +1,55 @@
+-- The prunable archive, kept by a configuration, as a store that serves commands.
+use Rattle.std.specs.Prelude.{◌≡◌, ℕ, true, false}
+use Rattle.blob_device.specs.Disk.{Disk}
+use Rattle.blob_device.specs.Opened.{OpenedList}
+use Rattle.sealed_pages.specs.declared.page_blob.PageBlob.{PageBlob}
+use Rattle.segments.specs.declared.sealed.AppendFactory.{AppendFactory}
+use Rattle.paired.specs.GlobSections as glob
+use Rattle.paired.specs.Pair.{synced_length}
+use Rattle.archives.specs.Archives.{IsArchive, IsSoundArchive, state_of}
+use Rattle.archives.specs.Filing.{IsSameFiling}
+use Rattle.archives.specs.Prunable.{Prunable, Setup, filing_by, value_buffer_of, write_buffer_of}
+use Rattle.archives.specs.Putting.{record_tail, value_tail}
+use Rattle.archive_service.specs.Causes.{Held}
+use Rattle.archive_service.specs.Kinds.{Serving}
+use Rattle.archive_service.specs.PrunableKind.{prunable_kind}
+
+module _ {A V S : Type 0} {gs : _} (p : Prunable A V (AppendFactory S) (PageBlob S gs)) where
+  -- what the archive holds
+  abbrev pub held_by : A → Held
+  held_by a = record {
+    is_open = true;
+    floor = (p.see a).floor;
+    rows = (p.see a).rows;
+    bytes = glob.section_size (p.see a).pair.values;
+    synced = synced_length (p.see a).pair;
+    record_tail = record_tail (p.see a);
+    value_tail = value_tail (p.see a);
+  }
+
+  module _ (setup : Setup V) where
+    -- The archive is one of this configuration, and may be used. Of a section that was not written since the last sync nothing is left to flush.
+    pub record IsUsableStore (a : A) (told : Type 0) (opened : OpenedList) (d : Disk) : Type 0 where
+      -- the archive may be used
+      pub usable : IsArchive (p.see a) p.buffers told opened d
+      -- it files its records as the configuration says
+      pub filing : IsSameFiling setup.filing (filing_by p a)
+      -- it takes the values that are allowed
+      pub accepts : (v : V) → setup.Allows v → p.Accepts a v
+      -- its buffers flush from so many bytes on
+      pub write_buffer : write_buffer_of (p.see a) ≡ setup.write_buffer
+      pub value_buffer : value_buffer_of (p.see a) ≡ setup.value_buffer
+      -- nothing is left to flush of what was not written
+      pub flushed : told → (s : ℕ) → (p.see a).is_written s ≡ false
+          → (record_tail (p.see a) s ≡ 0) × (value_tail (p.see a) s ≡ 0)
+
+    abbrev pub prunable_serving : Type 0 → Serving A V
+    prunable_serving valid = record {
+      kind = prunable_kind setup.filing setup.write_buffer setup.value_buffer;
+      IsValid = valid;
+      Accepts = setup.Allows;
+      IsUsable = IsUsableStore;
+      IsSound = λ a d. IsSoundArchive (p.see a) d;
+      state = λ a d. state_of (p.see a) d;
+      known = held_by;
+    }

@@ -1,0 +1,163 @@
+-- What follows of a run over a prunable archive: what a completed sync outlasts, that the run is complete, and that a run over what a crash left of it goes
+-- on from there.
+use Rattle.std.specs.Prelude.{◌≡◌, ◌⊎◌, ⊤, ℕ, ◌+◌, ◌*◌, ◌<◌, ◌≤◌, ◌^◌, List, length, take, slice_get, Option, Some}
+use Rattle.blob_device.specs.Counts.{Rose}
+use Rattle.blob_device.specs.Disk.{Disk, Image, IsCrashOf, NothingPending, settled_disk}
+use Rattle.blob_device.specs.Timeline.{Timeline, disk}
+use Rattle.paired.specs.Crashes.{NoChanceSeal}
+use Rattle.paired.specs.Kept.{Layout, Markers}
+use Rattle.paired.specs.Opening.{HoldMarkers, as_read}
+use Rattle.paired.specs.OpeningRefusing.{AreCounted}
+use Rattle.archives.specs.Changes.{Asked, Replied}
+use Rattle.archives.specs.Commands.{Put, PutSync, PutStart, Multi, MultiSync, MultiStart, Get, GetKey, All, Has, HasKey, HasAt, Gap, Missing, Ranges, RangesFrom, First, Last, Sync, Start, Prune, Reopen, Destroy}
+use Rattle.archives.specs.Filing.{Filing, kept}
+use Rattle.archives.specs.Lawful.{Lawful}
+use Rattle.archives.specs.Machine.{State, section_of}
+use Rattle.archives.specs.Opening.{HasNoVersion}
+use Rattle.archives.specs.Replies as reply
+use Rattle.archives.specs.Standing.{IsStart, StandsFor}
+use Rattle.archives.specs.declared.error.Error.{Error}
+use Rattle.archives.specs.declared.error.Error.TheVariants.{Mem}
+use Rattle.archive_service.specs.Causes.{Adds, IsOpening, IsRefusedAsFull, IsRefusedAsTooLarge, MustMoveNow}
+use Rattle.archive_service.specs.PrunableKind.{prunable_kind}
+use Rattle.archive_service.specs.Serves.{Serves, begin, disk_at, state_in, under_way}
+use Rattle.archive_service.specs.declared.replies.End.{End}
+use Rattle.archive_service.specs.declared.replies.End.TheVariants.{Failed}
+
+-- once it got its reply, all that was put before is durable
+abbrev pub IsSyncing : Asked → Type 0
+IsSyncing (Put i k v) = ⊥
+IsSyncing (PutSync i k v) = ⊤
+IsSyncing (PutStart i k v) = ⊤
+IsSyncing (Multi i k v) = ⊥
+IsSyncing (MultiSync i k v) = ⊤
+IsSyncing (MultiStart i k v) = ⊤
+IsSyncing (Get i) = ⊥
+IsSyncing (GetKey k) = ⊥
+IsSyncing (All i) = ⊥
+IsSyncing (Has i) = ⊥
+IsSyncing (HasKey k) = ⊥
+IsSyncing (HasAt i k) = ⊥
+IsSyncing (Gap i) = ⊥
+IsSyncing (Missing i n) = ⊥
+IsSyncing Ranges = ⊥
+IsSyncing (RangesFrom i) = ⊥
+IsSyncing First = ⊥
+IsSyncing Last = ⊥
+IsSyncing Sync = ⊤
+IsSyncing Start = ⊤
+IsSyncing (Prune bound) = ⊥
+IsSyncing Reopen = ⊤
+IsSyncing Destroy = ⊥
+
+-- it may take the records of a section away
+abbrev pub MayTake : ℕ → Asked → ℕ → Type 0
+MayTake items (Put i k v) s = ⊥
+MayTake items (PutSync i k v) s = ⊥
+MayTake items (PutStart i k v) s = ⊥
+MayTake items (Multi i k v) s = ⊥
+MayTake items (MultiSync i k v) s = ⊥
+MayTake items (MultiStart i k v) s = ⊥
+MayTake items (Get i) s = ⊥
+MayTake items (GetKey k) s = ⊥
+MayTake items (All i) s = ⊥
+MayTake items (Has i) s = ⊥
+MayTake items (HasKey k) s = ⊥
+MayTake items (HasAt i k) s = ⊥
+MayTake items (Gap i) s = ⊥
+MayTake items (Missing i n) s = ⊥
+MayTake items Ranges s = ⊥
+MayTake items (RangesFrom i) s = ⊥
+MayTake items First s = ⊥
+MayTake items Last s = ⊥
+MayTake items Sync s = ⊥
+MayTake items Start s = ⊥
+MayTake items (Prune bound) s = s < section_of items bound
+MayTake items Reopen s = ⊥
+MayTake items Destroy s = ⊤
+
+-- command i is one that syncs, and was carried out
+pub record HasSynced (commands : List Asked) (replies : List Replied) (i : ℕ) : Type 0 where
+  -- it is this one,
+  pub command : Asked
+  pub is : slice_get commands i ≡ Some command
+  -- which was carried out,
+  pub done : slice_get replies i ≡ Some reply.Done
+  -- and syncs
+  pub syncs : IsSyncing command
+
+-- no command behind i, of the first n, takes the section away
+abbrev pub IsSpared : ℕ → List Asked → ℕ → ℕ → ℕ → Type 0
+IsSpared items commands i n s = (j : ℕ) (command : Asked) → i < j → j < n → slice_get commands j ≡ Some command → MayTake items command s → ⊥
+
+-- Where an opening is under way at the end, a u64 counts the bytes of each blob of records as it began, and of one more page with its slots.
+abbrev pub AreCountedIfOpening : Layout → Timeline → Timeline → List Asked → List ℕ → Type 0
+AreCountedIfOpening l old new commands marks = IsOpening (under_way commands (length marks)) → AreCounted l (as_read (disk_at old new marks (length marks)))
+
+module _ (f : Filing) where
+  -- each image that a crash leaves without a chance seal holds markers, and keeps the records of a section that are in the state, first
+  abbrev pub KeepsRecords : State (List ℕ) → ℕ → Disk → Type 0
+  KeepsRecords st s d = (image : Image) → IsCrashOf d image → NoChanceSeal f.layout d image
+      → (markers : Markers) × HoldMarkers f.layout image markers × (take (length (st.lists s)) (kept f image markers s) ≡ st.lists s)
+
+  -- An image that a crash left, with this state and this command under way, without a chance seal: a device that has it may be served, from a start state
+  -- on, and stands for what was submitted by then.
+  pub record IsNext (st : State (List ℕ)) (under_way : Option Asked) (image : Image) : Type 0 where
+    -- nothing is pending,
+    pub nothing_pending : NothingPending (settled_disk image)
+    -- it is lawful by these markers,
+    pub markers : Markers
+    pub lawful : Lawful f (as_read (settled_disk image)) markers
+    -- a run over it starts from this state,
+    pub next : State (List ℕ)
+    pub start : IsStart f (as_read (settled_disk image)) markers next
+    -- and it stands for what was submitted by then
+    pub stands : StandsFor f st under_way (as_read (settled_disk image))
+
+  -- what is under way had a reason to be refused: a put by `Full` or `ValueTooLarge`, or a marker to move without a next version
+  abbrev pub HadToRefuse : State (List ℕ) → Option Asked → Disk → Type 0
+  HadToRefuse st under_way from = Adds f st under_way (λ r. IsRefusedAsFull f st r ⊎ IsRefusedAsTooLarge f st r)
+      ⊎ (MustMoveNow f st from under_way × HasNoVersion f.layout from)
+
+  -- Of a run, by the states after its replies.
+  module _ (old new : Timeline) (commands : List Asked) (marks : List ℕ) (states : ℕ → State (List ℕ)) where
+    -- After a completed sync each crash without a chance seal leaves each record that was put before it, until a prune or a destroy that covers it begins.
+    pub record IsOutlasting (replies : List Replied) : Type 0 where
+      -- while the command of a later mark is under way,
+      pub moments : (i t s : ℕ) → HasSynced commands replies i → s < 2 ^ 64 → i + 2 ≤ t
+          → t ≤ length marks → IsSpared f.items commands i t s
+          → (m : ℕ) → 2 * begin old new marks t ≤ m → m ≤ 2 * begin old new marks (t + 1)
+          → KeepsRecords (states (i + 1)) s (new.at m)
+      -- and at the end, where each command that was begun has its reply
+      pub rest : (i s : ℕ) → HasSynced commands replies i → s < 2 ^ 64
+          → length marks ≡ length replies → IsSpared f.items commands i (length marks) s
+          → KeepsRecords (states (i + 1)) s (disk new)
+
+    -- Where no count of faults rose and nothing had to be refused, it was done, or memory was short. Where an opening finds a blob of records that ends
+    -- within one page, with its slots, of 2^64 bytes, that is not said.
+    abbrev pub IsComplete : ℕ → ℕ → End → Type 0
+    IsComplete faults_old faults_new end = (Rose faults_old faults_new → ⊥)
+        → (HadToRefuse (state_in states (length marks)) (under_way commands (length marks)) (disk_at old new marks (length marks)) → ⊥)
+        → AreCountedIfOpening f.layout old new commands marks
+        → (e : Error) → end ≡ Failed e → e ≡ Mem
+
+    -- what a crash left at a moment of stretch t may be served, and goes on from there
+    abbrev pub GoesOn : Type 0
+    GoesOn = (t m : ℕ) (image : Image) → t ≤ length marks → 2 * begin old new marks t ≤ m → m ≤ 2 * begin old new marks (t + 1)
+        → IsCrashOf (new.at m) image → NoChanceSeal f.layout (new.at m) image
+        → IsNext (state_in states t) (under_way commands t) image
+
+module _ (f : Filing) (write_buffer value_buffer : ℕ) (old new : Timeline) (commands : List Asked) (marks : List ℕ) (faults_old faults_new : ℕ) (replies : List Replied)
+    (end : End) where
+  -- the run is one as promised
+  abbrev pub IsServed : Type 0
+  IsServed = Serves (prunable_kind f write_buffer value_buffer) old new commands marks faults_old faults_new replies end
+
+  -- What follows of the promise, of the states that it speaks of.
+  pub record RunLaws (served : IsServed) : Type 0 where
+    -- what was synced outlasts each crash
+    pub outlasting : IsOutlasting f old new commands marks served.states replies
+    -- without faults and refusals it was done, or memory was short
+    pub complete : IsComplete f old new commands marks served.states faults_old faults_new end
+    -- a run over what a crash left goes on from there
+    pub next : GoesOn f old new commands marks served.states

@@ -1,0 +1,30 @@
+-- The start state of a lawful image.
+use Rattle.std.specs.Prelude.{◌≡◌, ℕ, ◌^◌, true, false, nat_lt, if◌then◌else◌, List, [], length}
+use Rattle.std.proofs.Common.{refl, ap, arith}
+use Rattle.std.proofs.lemmas.Bool.Decides.{nat_tests}
+use Rattle.blob_device.specs.Disk.{Image}
+use Rattle.paired.specs.Kept.{Markers}
+use Rattle.archives.specs.Filing.{Filing, kept}
+use Rattle.archives.specs.Lawful.{Lawful}
+use Rattle.archives.specs.Machine.{State}
+use Rattle.archives.specs.Standing.{IsStart}
+
+-- what the image keeps, all of it synced
+abbrev pub start_of : Filing → Image → Markers → State (List ℕ)
+start_of f image markers = record {
+  is_open = true;
+  lists = λ s. if nat_lt s (2 ^ 64) then kept f image markers s else [];
+  synced = λ s. length (if nat_lt s (2 ^ 64) then kept f image markers s else []);
+  floor = 0;
+}
+
+pub starts : (f : Filing) (image : Image) (markers : Markers) → Lawful f image markers
+    → IsStart f image markers (start_of f image markers)
+starts f image markers lawful = record {
+  held = lawful.pair.held;
+  is_open = refl;
+  lists = λ s small. (let e : nat_lt s (2 ^ 64) ≡ true = grind (arith, nat_tests) in ap (λ b. if b then kept f image markers s else []) e);
+  no_more = λ s large. (let e : nat_lt s (2 ^ 64) ≡ false = grind (arith, nat_tests) in ap (λ b. if b then kept f image markers s else []) e);
+  synced = λ s. refl;
+  floor = refl;
+}

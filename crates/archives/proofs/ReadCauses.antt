@@ -1,0 +1,115 @@
+-- Why a value cannot be read, by the results of calls; and as the relations have it, by the error.
+use Rattle.std.proofs.Common.{◌≡◌, ◌⊎◌, inl, inr, sym, subst, ℕ, ◌+◌, ◌<◌, ◌≤◌, ◌^◌, List, Result, Err, None, Some}
+use Rattle.std.specs.Prelude.{IsSomeAnd}
+use Rattle.std.specs.Result.{IsErrOf}
+use Rattle.blob_device.specs.Counts.{Rose}
+use Rattle.blob_device.specs.Disk.{Disk}
+use Rattle.blob_device.specs.declared.runtime.RError.TheVariants as runtime
+use Rattle.value_codec.specs.declared.codec.Error as codec
+use Rattle.meta_store.specs.declared.error.Error.TheVariants as metadata
+use Rattle.sealed_pages.specs.declared.page_blob.PageBlob.{PageBlob}
+use Rattle.segments.specs.FixedReading.{IsDamaged}
+use Rattle.segments.specs.Sections.{key_of}
+use Rattle.segments.specs.declared.journal.Error.TheVariants as journal
+use Rattle.paired.specs.Frames.{HasFrame, IsBroken}
+use Rattle.paired.specs.GlobSections as glob
+use Rattle.archives.specs.Archives.{Archive}
+use Rattle.archives.specs.Gets.{IsReadCause}
+use Rattle.archives.specs.Reading.{NamesPlace}
+use Rattle.archives.specs.Refusing.{IsFailure, IsFault}
+use Rattle.archives.specs.declared.error.Error.{Error}
+use Rattle.archives.specs.declared.error.Error.TheVariants.{Full, Journal, Mem, Metadata, RecordCorrupted}
+
+-- there was no memory, or the device failed, and then its count of faults rose
+abbrev pub HasFailed : {T : Type 0} → Result T Error → ℕ → ℕ → Type 0
+HasFailed result before now = IsErrOf result Mem ⊎ (IsErrOf result (Journal (journal.Runtime runtime.Fault)) × Rose before now)
+
+-- the section or the record is not there; a page is damaged; the frame that the record names is not there, or passes the greatest u64, or
+-- its seal fails; or the codec refuses what it spells
+abbrev pub HasReadingError : {T : Type 0} → Result T Error → Type 0
+HasReadingError result =
+    ((n : ℕ) × IsErrOf result (Journal (journal.SectionOutOfRange n)))
+    ⊎ (((n : ℕ) × IsErrOf result (Journal (journal.ItemOutOfRange n)))
+    ⊎ (((k : ℕ) × IsErrOf result (Journal (journal.Runtime (runtime.InvalidChecksum k))))
+    ⊎ (IsErrOf result (Journal (journal.Runtime runtime.BlobInsufficientLength))
+    ⊎ (IsErrOf result (Journal (journal.Runtime runtime.OffsetOverflow))
+    ⊎ (((stored : ℕ) × (computed : ℕ) × IsErrOf result (Journal (journal.ChecksumMismatch stored computed)))
+    ⊎ ((e : codec.Error) × IsErrOf result (Journal (journal.Codec e))))))))
+
+module _ {F S : Type 0} {gs : _} (a : Archive F (PageBlob S gs)) (d : Disk) (s p : ℕ) where
+  -- Each error has its cause at record p of section s.
+  pub record HasCause {T : Type 0} (result : Result T Error) : Type 0 where
+    pub damaged : (k : ℕ) → IsErrOf result (Journal (journal.Runtime (runtime.InvalidChecksum k)))
+        → IsSomeAnd (a.pair.index.sections.held s) (λ u. IsDamaged a.pair.layout.record_size a.pair.layout.seal u (d (key_of a.pair.index.sections s)).content p k)
+    pub absent : (n : ℕ) → IsErrOf result (Journal (journal.SectionOutOfRange n)) → (n ≡ s) × (a.pair.values.held s ≡ None)
+    pub past : (n : ℕ) → IsErrOf result (Journal (journal.ItemOutOfRange n)) → ⊥
+    pub short : IsErrOf result (Journal (journal.Runtime runtime.BlobInsufficientLength)) → NamesPlace a d s p (λ at n. (glob.section_size a.pair.values s < at + n) ⊎ (n < 4))
+    pub overflow : IsErrOf result (Journal (journal.Runtime runtime.OffsetOverflow)) → NamesPlace a d s p (λ at n. 2 ^ 64 ≤ at + n)
+    pub mismatch : (stored computed : ℕ) → IsErrOf result (Journal (journal.ChecksumMismatch stored computed))
+        → NamesPlace a d s p (λ at n. IsBroken a.pair.layout.seal (glob.section_bytes a.pair.values d s) at n stored computed)
+    pub refused : (e : codec.Error) → IsErrOf result (Journal (journal.Codec e))
+        → NamesPlace a d s p (λ at n. (spelled : List ℕ) × HasFrame a.pair.layout.seal (glob.section_bytes a.pair.values d s) at n spelled × (a.refusal spelled ≡ Some e))
+
+-- ---- as the relations have it
+
+error_of : {T : Type 0} (e x : Error) → IsErrOf {T = T} (Err e) x → e ≡ x
+error_of e x is = cc is
+
+pub failure_of : {T : Type 0} (e : Error) (before now : ℕ) → HasFailed {T = T} (Err e) before now → IsFailure before now e
+failure_of {T} e before now (inl memory) = inl (error_of {T = T} e Mem memory)
+failure_of {T} e before now (inr fault) = inr (error_of {T = T} e (Journal (journal.Runtime runtime.Fault)) fault.0, fault.1)
+
+module _ {F S : Type 0} {gs : _} (a : Archive F (PageBlob S gs)) (d : Disk) (told : Type 0) where
+  module _ (s p before now : ℕ) where
+    module _ (T : Type 0) (e : Error) where
+      cause_as : (x : Error) → IsErrOf {T = T} (Err e) x → IsReadCause a d told (λ P. P s p) before now x → IsReadCause a d told (λ P. P s p) before now e
+      cause_as x is cause = subst (IsReadCause a d told (λ P. P s p) before now) (sym (error_of {T = T} e x is)) cause
+
+      pub read_cause : HasReadingError {T = T} (Err e) ⊎ HasFailed {T = T} (Err e) before now → (told → HasCause a d s p {T = T} (Err e)) → IsReadCause a d told (λ P. P s p) before now e
+      read_cause (inl (inl (n, is))) causes = cause_as (Journal (journal.SectionOutOfRange n)) is (λ t. (causes t).absent n is)
+      read_cause (inl (inr (inl (n, is)))) causes = cause_as (Journal (journal.ItemOutOfRange n)) is (λ t. (causes t).past n is)
+      read_cause (inl (inr (inr (inl (k, is))))) causes = cause_as (Journal (journal.Runtime (runtime.InvalidChecksum k))) is (λ t. (causes t).damaged k is)
+      read_cause (inl (inr (inr (inr (inl is))))) causes = cause_as (Journal (journal.Runtime runtime.BlobInsufficientLength)) is (λ t. (causes t).short is)
+      read_cause (inl (inr (inr (inr (inr (inl is)))))) causes = cause_as (Journal (journal.Runtime runtime.OffsetOverflow)) is (λ t. (causes t).overflow is)
+      read_cause (inl (inr (inr (inr (inr (inr (inl (x, y, is)))))))) causes = cause_as (Journal (journal.ChecksumMismatch x y)) is (λ t. (causes t).mismatch x y is)
+      read_cause (inl (inr (inr (inr (inr (inr (inr (x, is)))))))) causes = cause_as (Journal (journal.Codec x)) is (λ t. (causes t).refused x is)
+      read_cause (inr (inl memory)) causes = cause_as Mem memory tt
+      read_cause (inr (inr fault)) causes = cause_as (Journal (journal.Runtime runtime.Fault)) fault.0 fault.1
+
+  -- a fault rose the count
+  pub read_fault : (AtSome : (ℕ → ℕ → Type 0) → Type 0) (before now : ℕ) (e : Error) → IsReadCause a d told AtSome before now e → IsFault e → Rose before now
+  read_fault AtSome before now e cause (inl is) = subst (IsReadCause a d told AtSome before now) is cause
+  read_fault AtSome before now e cause (inr is) = absurd (subst (IsReadCause a d told AtSome before now) is cause)
+
+  -- a cause at one place is one at some place
+  module _ (AtSome More : (ℕ → ℕ → Type 0) → Type 0) (to : (P : ℕ → ℕ → Type 0) → AtSome P → More P) (before now : ℕ) where
+    pub cause_met : (e : Error) → IsReadCause a d told AtSome before now e → IsReadCause a d told More before now e
+    cause_met Mem cause = tt
+    cause_met Full cause = absurd cause
+    cause_met RecordCorrupted cause = absurd cause
+    cause_met (Journal (journal.Runtime runtime.Fault)) cause = cause
+    cause_met (Journal (journal.Runtime (runtime.InvalidChecksum k))) cause = λ t. to _ (cause t)
+    cause_met (Journal (journal.Runtime runtime.BlobInsufficientLength)) cause = λ t. to _ (cause t)
+    cause_met (Journal (journal.Runtime runtime.OffsetOverflow)) cause = λ t. to _ (cause t)
+    cause_met (Journal (journal.Runtime runtime.Mem)) cause = absurd cause
+    cause_met (Journal (journal.Metadata m)) cause = absurd cause
+    cause_met (Journal (journal.Codec x)) cause = λ t. to _ (cause t)
+    cause_met (Journal (journal.InvalidBlobName x)) cause = absurd cause
+    cause_met (Journal (journal.ItemOutOfRange x)) cause = cause
+    cause_met (Journal (journal.SectionOutOfRange x)) cause = λ t. to _ (cause t)
+    cause_met (Journal (journal.AlreadyPrunedToSection x)) cause = absurd cause
+    cause_met (Journal (journal.ChecksumMismatch x y)) cause = λ t. to _ (cause t)
+    cause_met (Journal journal.ValueTooLarge) cause = absurd cause
+    cause_met (Journal journal.OffsetOverflow) cause = absurd cause
+    cause_met (Journal (journal.Corruption x)) cause = absurd cause
+    cause_met (Journal journal.ReplayFailed) cause = absurd cause
+    cause_met (Journal journal.Full) cause = absurd cause
+    cause_met (Journal journal.Mem) cause = absurd cause
+    cause_met (Metadata (metadata.Runtime runtime.Fault)) cause = absurd cause
+    cause_met (Metadata (metadata.Runtime (runtime.InvalidChecksum k))) cause = absurd cause
+    cause_met (Metadata (metadata.Runtime runtime.BlobInsufficientLength)) cause = absurd cause
+    cause_met (Metadata (metadata.Runtime runtime.OffsetOverflow)) cause = absurd cause
+    cause_met (Metadata (metadata.Runtime runtime.Mem)) cause = absurd cause
+    cause_met (Metadata (metadata.Corruption x)) cause = absurd cause
+    cause_met (Metadata metadata.Full) cause = absurd cause
+    cause_met (Metadata metadata.Mem) cause = absurd cause

@@ -1,0 +1,89 @@
+-- What a put promises.
+use Rattle.std.specs.Prelude.{◌≡◌, ◌⊎◌, ◌↔◌, ⊤, ℕ, true, false, List, Result, Ok, Err, IsTrue}
+use Rattle.std.specs.Result.{IsErrOf}
+use Rattle.blob_device.specs.Counts.{Rose}
+use Rattle.blob_device.specs.Footprint.{Footprint, NoBound}
+use Rattle.blob_device.specs.declared.device.Device as device
+use Rattle.blob_device.specs.declared.runtime.RError.TheVariants as runtime
+use Rattle.segments.specs.Sections.{SameBounds}
+use Rattle.segments.specs.declared.journal.Error.TheVariants as journal
+use Rattle.sealed_pages.specs.declared.page_blob.PageBlob.{PageBlob}
+use Rattle.paired.specs.GlobSections as glob
+use Rattle.paired.specs.Pair.{synced_length}
+use Rattle.archives.specs.Archives.{Archive}
+use Rattle.archives.specs.Changes.{Changes}
+use Rattle.archives.specs.Commands.{Put}
+use Rattle.archives.specs.Filing.{IsBlobAt, IsSameFiling}
+use Rattle.archives.specs.Machine.{section_of}
+use Rattle.archives.specs.Prunable.{Prunable, filing_by, meaning}
+use Rattle.archives.specs.Putting.{HasBufferRoom, IsAllowed, IsFullFor, IsFullOver, IsKnown, IsTooLargeFor, IsWrittenAfter, frame_size, is_taken, record_tail, rows_after, size_after, value_tail}
+use Rattle.archives.specs.declared.error.Error.{Error}
+use Rattle.archives.specs.declared.error.Error.TheVariants.{Journal, Full, Mem}
+
+module _ {F S : Type 0} {gs : _} (a : Archive F (PageBlob S gs)) (index n : ℕ) where
+  -- Why a put is refused, whose frame has n bytes. The numbers are the device's counts of faults before and after.
+  abbrev pub IsPutCause : Type 0 → ℕ → ℕ → Error → Type 0
+  -- want of memory is free
+  IsPutCause told before now Mem = ⊤
+  -- the device failed
+  IsPutCause told before now (Journal (journal.Runtime runtime.Fault)) = Rose before now
+  -- the limits, or a number that would pass its type
+  IsPutCause told before now Full = IsFullOver a index told n
+  IsPutCause told before now (Journal journal.ValueTooLarge) = IsTooLargeFor a index n
+  -- a blob is longer than a buffer takes: only on a device that does not tell its disk
+  IsPutCause told before now (Journal (journal.Runtime runtime.OffsetOverflow)) = told → ⊥
+  -- no other comes
+  IsPutCause told before now e = ⊥
+
+  -- Where a put has to be refused, in this order: by `Full` at the limits, then by `ValueTooLarge`, then by `Full` where there is no room. Only
+  -- memory may be short before the last two. A refusal has not touched the device.
+  pub record Refuses {A D : Type 0} (told : Type 0) (result : Result A Error) (old new : D) : Type 0 where
+    -- at the limits
+    pub over_limit : is_taken a index ≡ false → (IsAllowed a index → ⊥) → IsErrOf result Full × (new ≡ old)
+    -- by the size of the frame
+    pub too_large : IsTooLargeFor a index n → (IsErrOf result (Journal journal.ValueTooLarge) × (new ≡ old)) ⊎ IsErrOf result Mem
+    -- by want of room
+    pub no_room : told → IsFullFor a index n → (IsErrOf result Full × (new ≡ old)) ⊎ IsErrOf result Mem
+
+module _ {A V F S D : Type 0} {gs : _} (p : Prunable A V F (PageBlob S gs)) (dev : device.Ghosts D) where
+  -- The record was added, whose frame has n bytes, or its index was taken.
+  pub record PutDone (a : A) (index : ℕ) (key : List ℕ) (n : ℕ) (r : A) : Type 0 where
+    -- records are filed as before
+    pub filing : IsSameFiling (filing_by p a) (filing_by p r)
+    -- The words by which lookups look stay, and from how many bytes on buffers flush.
+    pub word : p.word r ≡ p.word a
+    pub bounds : SameBounds (p.see a).pair.index.sections (p.see r).pair.index.sections × SameBounds (p.see a).pair.values (p.see r).pair.values
+    -- over any image: the row goes last in its section, and the bytes of the section's values are n more
+    pub rows : (s : ℕ) → (p.see r).rows s ≡ rows_after (p.see a) index key s
+    pub values : dev.Tells → (s : ℕ) → glob.section_size (p.see r).pair.values s ≡ size_after (p.see a) index n s
+    -- what is not flushed of other sections stays
+    pub other_tails : (s : ℕ) → (s ≡ section_of (p.see a).items index → is_taken (p.see a) index ≡ true)
+        → (record_tail (p.see r) s ≡ record_tail (p.see a) s) × (value_tail (p.see r) s ≡ value_tail (p.see a) s)
+    -- the section of a new record counts as written; no marker moves, and nothing is synced
+    pub written : (s : ℕ) → IsTrue ((p.see r).is_written s) ↔ IsWrittenAfter (p.see a) index s
+    pub markers : (p.see r).pair.store ≡ (p.see a).pair.store
+    pub synced : (s : ℕ) → synced_length (p.see r).pair s ≡ synced_length (p.see a).pair s
+
+  -- The put was refused, or failed.
+  pub record PutFailed (a : A) (index n : ℕ) (e : Error) (old new : D) : Type 0 where
+    -- why
+    pub cause : IsPutCause (p.see a) index n dev.Tells (dev.faults old) (dev.faults new) e
+    -- What is refused wrote nothing; by `Full` so far as the buffers of the section are known.
+    pub unwritten : (e ≡ Journal journal.ValueTooLarge) ⊎ (IsKnown (p.see a) index dev.Tells × (e ≡ Full)) → new ≡ old
+
+  abbrev pub PutEnds : A → ℕ → List ℕ → ℕ → Result A Error → D → D → Type 0
+  PutEnds a index key n (Ok r) old new = PutDone a index key n r
+  PutEnds a index key n (Err e) old new = PutFailed a index n e old new
+
+  -- A put of a record into the archive a.
+  pub record Puts (a : A) (index : ℕ) (key value : List ℕ) (result : Result A Error) (old new : D) : Type 0 where
+    -- what every archive promises
+    pub changes : Changes (meaning p) dev a (Put index key value) result old new
+    -- of all blobs only the two of the index's section are touched
+    pub footprint : Footprint dev (IsBlobAt (filing_by p a) index) NoBound old new
+    -- where the index is taken nothing is done
+    pub taken : IsTrue (is_taken (p.see a) index) → (result ≡ Ok a) × (new ≡ old)
+    -- while both buffers have room no call of the device is made
+    pub below : HasBufferRoom (p.see a) index (frame_size (filing_by p a).layout value) → new ≡ old
+    pub refuses : Refuses (p.see a) index (frame_size (filing_by p a).layout value) dev.Tells result old new
+    pub ends : PutEnds a index key (frame_size (filing_by p a).layout value) result old new

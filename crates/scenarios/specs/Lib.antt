@@ -1,0 +1,2 @@
+-- What the store of records in a list means.
+pub mod ListedKind
