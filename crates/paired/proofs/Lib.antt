@@ -78,3 +78,4 @@ pub mod NextComplete
 pub mod NextGlue
 pub mod NextAnswers
 pub mod NextClauses
+pub mod TailLemmas

@@ -24,3 +24,5 @@ pub mod ReplayShown
 pub mod OpeningRefusing
 pub mod OpeningFound
 pub mod Reconciling
+pub mod Tails
+pub mod CodecShown

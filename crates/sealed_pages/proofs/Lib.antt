@@ -38,3 +38,4 @@ pub mod UnrecoveredLemmas
 pub mod Shortening
 pub mod Clearing
 pub mod TruncateEnds
+pub mod Tails

@@ -25,3 +25,4 @@ pub mod Pieces
 pub mod Held
 pub mod Proven
 pub mod Readers
+pub mod Tails

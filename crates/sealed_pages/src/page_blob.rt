@@ -185,6 +185,7 @@ impl<S: Seal> PageBlob<S> {
     ghost use Rattle.sealed_pages.specs.Reading.{Unchanged, OnlyRead};
     ghost use Rattle.sealed_pages.specs.View.{view, StandsAt};
     ghost use Rattle.sealed_pages.specs.Buffer.{IsBacked, has_leftover};
+    ghost use Rattle.sealed_pages.specs.Tails.{LeavesTail};
     ghost use Rattle.sealed_pages.specs.Flushing.{Data, Wrote};
     ghost use Rattle.blob_device.specs.Timeline.{Always, OnlyAt};
     ghost use Rattle.sealed_pages.specs.Leftover.{Leftover, IsCleared, ClearsFirst, SettlesNothing};
@@ -477,6 +478,8 @@ impl<S: Seal> PageBlob<S> {
         ensures below { FlushesNothing (shown self) (length bytes.now) → dev.new ≡ dev.old }
         ensures faultless { FlushesNothing (shown self) (length bytes.now) → OnErr result ((result ≡ Err RError.OffsetOverflow) ⊎ (result ≡ Err RError.Mem)) }
         ensures flushed { self.from + self.capacity ≤ length self.tip.items + length bytes.now → IfOk result (λ r. r.0.from ≡ length r.0.tip.items) }
+        // What is not flushed then: all, until it reaches the capacity.
+        ensures tail { IfOk result (λ r. LeavesTail (shown self) (length bytes.now) (shown r.0)) }
         ensures at { IfOk result (λ r. r.1 ≡ size_of (shown self)) }
         ensures size { IfOk result (λ r. size_of (shown r.0) ≡ size_of (shown self) + length bytes.now) }
         ensures key { IfOk result (λ r. key_of (shown r.0) ≡ key_of (shown self)) }

@@ -95,6 +95,7 @@ pub struct WriteBlob {
 
 impl WriteBlob {
     ghost use Rattle.sealed_pages.specs.Writing.{WriteBuffer, shown, blob_key, bytes_of, size_of, run_of, is_idle, is_unsettled, Joins, StaysBelow, HoldsOnly, StandsBehind, Over, KeepsSettled};
+    ghost use Rattle.sealed_pages.specs.Tails.{LeavesRun, LeavesPending};
 
     /// Adopts an opened blob of this length. All of it counts as settled, since opening a blob settles it.
     pub fn adopt(
@@ -336,6 +337,8 @@ impl WriteBlob {
         ensures same { IfOk result (λ r. shown r ≡ record (shown self) { end = r.end; at = r.at; pending = r.pending.items; dirty = r.dirty }) }
         // The run holds nothing but what was handed in.
         ensures run { IfOk result (λ r. HoldsOnly (shown self) offset bytes.now (shown r)) }
+        // How long it is: all that was not flushed, until that reaches the capacity.
+        ensures tail { IfOk result (λ r. LeavesRun (shown self) offset (length bytes.now) (shown r)) }
         // Where nothing is pending below the blob's end, a write at the end of the bytes leaves it so.
         ensures behind { size_of (shown self) ≤ offset → StandsBehind (shown self) → IfOk result (λ r. StandsBehind (shown r)) }
         // Bytes that join the run reach the device only with all of it.
@@ -378,6 +381,7 @@ impl WriteBlob {
         ensures size { IfOk result (λ r. size_of (shown r.0) ≡ size_of (shown self) + length bytes.now) }
         ensures same { IfOk result (λ r. shown r.0 ≡ record (shown self) { end = r.0.end; at = r.0.at; pending = r.0.pending.items; dirty = r.0.dirty }) }
         ensures run { IfOk result (λ r. HoldsOnly (shown self) (size_of (shown self)) bytes.now (shown r.0)) }
+        ensures tail { IfOk result (λ r. LeavesPending (shown self) (length bytes.now) (shown r.0)) }
         ensures behind { StandsBehind (shown self) → IfOk result (λ r. StandsBehind (shown r.0)) }
         ensures joined { Joins (shown self) (size_of (shown self)) → IfOk result (λ r. (dev.new ≡ dev.old) ⊎ (r.0.pending.items ≡ [])) }
         ensures below { StaysBelow (shown self) (size_of (shown self)) (length bytes.now) → dev.new ≡ dev.old }

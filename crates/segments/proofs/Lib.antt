@@ -45,3 +45,4 @@ pub mod FixedBeginning
 pub mod FixedFloorLemmas
 pub mod TurnLemmas
 pub mod HadLemmas
+pub mod TailLemmas

@@ -27,3 +27,4 @@ pub mod FixedReplay
 pub mod FixedStepping
 pub mod FixedWalking
 pub mod FixedFloors
+pub mod Tails

@@ -12,7 +12,7 @@ use value_codec::{HexName, codec};
 /// The units are those of the refusing call: bytes, but for a marker, which counts items, and for a record in a section that
 /// is not its own, where `kept` and `wanted` name the two sections.
 #[derive(Clone, Copy, Debug, PartialEq, Eq, thiserror::Error)]
-#[error("{section} {kept} {wanted}")]
+#[error("section {section} is damaged: {wanted} had to be whole, and {kept} is")]
 pub struct Damage {
     /// The damaged section.
     pub section: u64,
@@ -29,43 +29,43 @@ pub enum Error {
     #[error("{0}")]
     Runtime(RError),
     /// The map of markers beside the sections failed.
-    #[error("{0}")]
+    #[error("the map of markers failed: {0}")]
     Metadata(meta_store::Error),
     /// An item does not decode.
     #[error("{0}")]
     Codec(codec::Error),
     /// The partition has a blob whose name is not the eight big-endian bytes of a section's number.
-    #[error("invalid-blob-name {0}")]
+    #[error("the blob {0} is no section's: the name of one has 16 digits")]
     InvalidBlobName(HexName),
     /// No item stands at this position or offset.
-    #[error("item-out-of-range {0}")]
+    #[error("there is no item at {0}")]
     ItemOutOfRange(u64),
     /// The section is not held.
-    #[error("section-out-of-range {0}")]
+    #[error("there is no section {0}")]
     SectionOutOfRange(u64),
     /// The section is below this floor, up to which sections were pruned.
-    #[error("already-pruned {0}")]
+    #[error("what was below section {0} is pruned")]
     AlreadyPrunedToSection(u64),
     /// The stored checksum of a value, and the one computed from its bytes.
-    #[error("checksum-mismatch {0} {1}")]
+    #[error("the value is damaged: its seal is {0}, and that of its bytes {1}")]
     ChecksumMismatch(u32, u32),
     /// The value has more bytes than a `u32` can count.
-    #[error("value-too-large")]
+    #[error("the value is too long")]
     ValueTooLarge,
     /// The end of the range passes the greatest `u64`.
-    #[error("offset-overflow")]
+    #[error("a place passes 2^64")]
     OffsetOverflow,
     /// Bytes that had to be whole are not.
-    #[error("corruption {0}")]
+    #[error("{0}")]
     Corruption(Damage),
     /// The replay was not drained, or gave an error.
-    #[error("replay-failed")]
+    #[error("the items were not read to their end")]
     ReplayFailed,
-    /// The section would be longer than the greatest `u64`.
-    #[error("full")]
+    /// A section would be longer than the greatest `u64`, or the map of markers has no next version.
+    #[error("a section would be too long, or the map of markers has no next version")]
     Full,
     /// There was no memory for the call.
-    #[error("memory")]
+    #[error("there was no memory")]
     Mem,
 }
 

@@ -33,6 +33,7 @@ fn full_or_raised(e: RError) -> Error
 impl<V: Codec, S: Seal> Glob<V, S> {
     ghost use Rattle.segments.specs.Managed.{shown};
     ghost use Rattle.paired.specs.GlobSections.{IsGlob, section_bytes, section_size, settled_size, pending_size, IsFlushed};
+    ghost use Rattle.paired.specs.Tails.{IsTailAfter};
 
     /// Adds a value's frame at the end of the section, which is made where it is not held. The answer has the frame's place and its
     /// size, the seal counted.
@@ -52,6 +53,9 @@ impl<V: Codec, S: Seal> Glob<V, S> {
         ensures place { IfOk result (λ r. D.Tells ⊎ IsHeld (shown self.manager) section → r.1 ≡ section_size (shown self.manager) section) }
         ensures size { IfOk result (λ r. r.2 ≡ length (frame S.seal_of (V.spelling value.now))) }
         ensures grown { IfOk result (λ r. section_size (shown r.0.manager) section ≡ r.1 + r.2) }
+        // What is not flushed then: all, until it reaches the capacity.
+        ensures tail { IfOk result
+            (λ r. IsTailAfter (shown self.manager) section r.2 (shown r.0.manager)) }
         ensures bytes { D.Tells → IfOk result (λ r. section_bytes (shown r.0.manager) (disk (D.time dev.new)) section ≡ section_bytes (shown self.manager) (disk (D.time dev.old)) section ++ frame S.seal_of (V.spelling value.now)) }
         ensures stands { D.Tells → IfOk result (λ r. HasFrame S.seal_of (section_bytes (shown r.0.manager) (disk (D.time dev.new)) section) r.1 r.2 (V.spelling value.now)) }
         ensures held { IfOk result (λ r. IsHeld (shown r.0.manager) section) }

@@ -36,6 +36,7 @@ impl<I: Record, V: Codec, S: Seal> Oversized<I, V, S> {
     ghost use Rattle.sealed_pages.specs.Shown as page_blob;
     ghost use Rattle.paired.specs.GlobSections as glob;
     ghost use Rattle.paired.specs.PairShown.{shown};
+    ghost use Rattle.paired.specs.Tails.{AreTailsAfter};
 
     /// Adds a value, then its record, at the end of the section, which is made where it is not held. The answer has the record's position,
     /// and the place and size of the value's frame.
@@ -63,6 +64,9 @@ impl<I: Record, V: Codec, S: Seal> Oversized<I, V, S> {
         // The record and the frame stand behind the section's bytes, whatever stood there.
         ensures records { D.Tells → IfOk result (λ r. section_bytes (shown I.place r.0).index.sections (disk (D.time dev.new)) section ≡ section_bytes (shown I.place self).index.sections (disk (D.time dev.old)) section ++ I.spelling (I.located entry r.2 r.3)) }
         ensures values { D.Tells → IfOk result (λ r. glob.section_bytes (shown I.place r.0).values (disk (D.time dev.new)) section ≡ glob.section_bytes (shown I.place self).values (disk (D.time dev.old)) section ++ frame S.seal_of (V.spelling value.now)) }
+        // What is not flushed then, of the records and of the values: all, until it reaches the capacity.
+        ensures tails { IfOk result
+            (λ r. AreTailsAfter (shown I.place self) section r.3 (shown I.place r.0)) }
         ensures held { IfOk result (λ r. IsHeld (shown I.place r.0).index.sections section) }
         // Nothing settles.
         ensures settled { IfOk result (λ r. (u v : _) → (shown I.place self).index.sections.held section ≡ Some u → (shown I.place r.0).index.sections.held section ≡ Some v → v.settled ≡ u.settled) }

@@ -49,6 +49,7 @@ impl<A: CodecFixed, S: Seal> Journal<A, S> {
     ghost use Rattle.segments.specs.FixedShown.{shown};
     ghost use Rattle.segments.specs.FixedLists.{IsJournal, IsRecovered, section_bytes, section_size};
     ghost use Rattle.segments.specs.FixedLasting.{IsBeginning, Settling};
+    ghost use Rattle.segments.specs.Tails.{IsTailAfter};
 
     /// Whether an append to the section would answer `Full`: whether one item more makes its blob, with both slots of its last page, pass the
     /// greatest `u64`. It takes no memory.
@@ -79,6 +80,9 @@ impl<A: CodecFixed, S: Seal> Journal<A, S> {
         ensures position { IfOk result (λ r. D.Tells ⊎ IsHeld (shown self).sections section → r.1 ≡ section_size (shown self).sections section / A.SIZE) }
         ensures size { IfOk result (λ r. D.Tells ⊎ IsHeld (shown self).sections section → section_size (shown r.0).sections section ≡ section_size (shown self).sections section + A.SIZE) }
         ensures bytes { D.Tells → IfOk result (λ r. section_bytes (shown r.0).sections (disk (D.time dev.new)) section ≡ section_bytes (shown self).sections (disk (D.time dev.old)) section ++ A.spelling item.now) }
+        // What is not flushed then: all, until it reaches the capacity.
+        ensures tail { IfOk result
+            (λ r. IsTailAfter (shown self).sections section A.SIZE (shown r.0).sections) }
         ensures held { IfOk result (λ r. IsHeld (shown r.0).sections section) }
         ensures settled { IfOk result (λ r. (u v : _) → (shown self).sections.held section ≡ Some u → (shown r.0).sections.held section ≡ Some v → v.settled ≡ u.settled) }
         ensures others { IfOk result (λ r. (q : ℕ) → q ≢ section → IsSame (shown self).sections (shown r.0).sections q) }

@@ -33,7 +33,18 @@ use Rattle.paired.proofs.FrameLemmas.{length-frame}
 use Rattle.paired.proofs.FrameLemmas.{stands as frame_stands}
 use Rattle.std.proofs.lemmas.Bool.{cases_lt}
 use Rattle.paired.proofs.CallLemmas.{some_held, held_some}
+use Rattle.sealed_pages.specs.Tails.{LeavesPending}
+use Rattle.paired.proofs.TailLemmas.{appended_tail}
 use Rattle.paired.proofs.glob.Glob.append.Goals as goal
+
+pub returns-clause-tail : goal.returns-clause-tail
+returns-clause-tail g c =
+    let w = c.in_ok-buffer.buffer in
+    let v = c.in_ok-buffer-2.buffer in
+    let got : c.append.result ≡ Ok (v, c.in_ok-buffer-2.offset) = mapped_ok _ c.append.result (v, c.in_ok-buffer-2.offset) c.in_ok-buffer-2.ensures.cases in
+    let left = ok_at c.append.result (v, c.in_ok-buffer-2.offset) (λ r. LeavesPending (writing.shown w) (length c.as_slice.result.now) (writing.shown r.0)) got c.append.ensures.tail in
+    appended_tail (shown c.args.self.manager) c.args.section w c.in_ok-buffer.ensures.same c.in_ok-buffer.ensures.idle (c.requires.over.behind c.args.section) (shown c.put.new.self) v _ _ c.in_ok-put.ensures.put.here (ap (λ (x : Setting). x.capacity) c.in_ok-buffer.ensures.setting)
+    (ap length (c.as_slice.ensures.value ∙ c.in_ok-frame.ensures.frame) ∙ length-frame g.S.Seal.seal_of (g.V.Codec.spelling c.args.value.now) ∙ sym c.in_ok-size.ensures.size) left
 
 abbrev setting_at : ℕ → Setting
 setting_at capacity = record { page_size = 1; capacity = capacity }

@@ -10,6 +10,9 @@ use Rattle.paired.specs.PairShown.{shown}
 use Rattle.paired.proofs.PairAppended.{GetsValue, GetsRecord, is_laid, value_blobs, untouched_value, untouched_record, index_bytes_on, values_bytes_on, value_order, record_order, index_on, still_keeps, value_keeps, record_keeps_as, list_now_as, other_list_now, pair_again, sound_again}
 use Rattle.paired.proofs.oversized.Oversized.append.Goals as goal
 
+pub returns-clause-tails : goal.returns-clause-tails
+returns-clause-tails g c = record { records = c.in_ok-index.ensures.tail; values = c.in_ok-values.ensures.tail }
+
 pub returns-in_err-frame_size-clause-moments : goal.returns-in_err-frame_size-clause-moments
 returns-in_err-frame_size-clause-moments g c t sound =
     let laid = is_laid c.requires.over (are_pages g.row.S g.S.Seal g.S.Seal-dict) refl refl refl refl g.met.I.CodecFixed.fixed.at_least in

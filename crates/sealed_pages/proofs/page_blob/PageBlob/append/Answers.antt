@@ -1,4 +1,4 @@
-use Rattle.std.proofs.Common.{rules, ◌≡◌, ◌++◌, ◌∙◌, ℕ, List, arith, ap, sym, subst, refl, ◌≤◌}
+use Rattle.std.proofs.Common.{rules, ◌≡◌, ◌++◌, ◌∙◌, ℕ, List, arith, ap, sym, subst, refl, ◌≤◌, length, length-append}
 use Rattle.blob_device.specs.Disk.{Key}
 use Rattle.blob_device.specs.Timeline.{disk}
 use Rattle.sealed_pages.specs.Buffer.{Buffer, key_of, size_of, bytes_of}
@@ -7,7 +7,18 @@ use Rattle.sealed_pages.specs.Entries.{IsOpenAt}
 use Rattle.sealed_pages.proofs.Holding.{holds_start, holds_more, holds_sealed, tip_stands, bytes_length}
 use Rattle.sealed_pages.proofs.Syncing.{backed_more, bytes_longer, flushed_bytes, flushed_backed}
 use Rattle.sealed_pages.proofs.UnrecoveredLemmas.{stood_keeps, more_stays}
+use Rattle.sealed_pages.proofs.Tails.{tail_kept, tail_flushed}
 use Rattle.sealed_pages.proofs.page_blob.PageBlob.append.Goals as goal
+
+pub returns-then-len-this-clause-tail : goal.returns-then-len-this-clause-tail
+returns-then-len-this-clause-tail g c =
+    let longer : c.extend_from_slice.new.self.items ≡ c.args.self.tip.items ++ c.args.bytes.now = search rules in
+    tail_kept c.args.self.capacity _ (length c.args.bytes.now) _ (omega (arith, c.args.self.fit.within, simp length-append at (ap length longer))) (omega (arith, c.if-len-this.true))
+
+pub returns-clause-tail : goal.returns-clause-tail
+returns-clause-tail g c =
+    let longer : c.extend_from_slice.new.self.items ≡ c.args.self.tip.items ++ c.args.bytes.now = search rules in
+    tail_flushed c.args.self.capacity _ (length c.args.bytes.now) _ (omega (arith, c.in_ok-this.ensures.flushed)) (omega (arith, c.args.self.fit.within, simp length-append at (ap length longer), c.if-len-this.false))
 
 pub returns-then-not-fits-clause-crashes : goal.returns-then-not-fits-clause-crashes
 returns-then-not-fits-clause-crashes g c t sealed =

@@ -1,11 +1,20 @@
-use Rattle.std.proofs.Common.{◌≡◌, ◌∙◌, ◌∷◌, [], ℕ, List, min, take, length, subst, arith}
+use Rattle.std.proofs.Common.{◌≡◌, ◌∙◌, ◌∷◌, [], ℕ, List, min, take, length, ap, subst, arith}
 use Rattle.blob_device.specs.Timeline.{disk}
 use Rattle.sealed_pages.specs.Contents.{AddsOnly}
 use Rattle.sealed_pages.specs.Sparing.{Keeping}
 use Rattle.sealed_pages.specs.Writing.{shown, blob_key, bytes_of}
 use Rattle.sealed_pages.proofs.Looking.{content_length}
-use Rattle.sealed_pages.proofs.WritingLemmas.{written_last}
+use Rattle.sealed_pages.proofs.Tails.{append_leaves}
+use Rattle.sealed_pages.proofs.WritingLemmas.{written_last, idle_parts}
 use Rattle.sealed_pages.proofs.write_blob.WriteBlob.append.Goals as goal
+
+pub returns-in-Ok-clause-tail : goal.returns-in-Ok-clause-tail
+returns-in-Ok-clause-tail g c = append_leaves (shown c.args.self) c.args.self.capacity c.size-at.result (length c.args.bytes.now) _ c.size-at.ensures c.in-Ok.ensures.tail
+
+pub returns-in-Ok-clause-nothing : goal.returns-in-Ok-clause-nothing
+returns-in-Ok-clause-nothing g c idle none =
+    let parts = idle_parts (shown c.args.self) idle in
+    c.in-Ok.ensures.nothing idle none (omega (arith, c.size-at.ensures, ap length parts.0, parts.1))
 
 pub returns-in-Ok-clause-bytes : goal.returns-in-Ok-clause-bytes
 returns-in-Ok-clause-bytes g c t =

@@ -9,7 +9,22 @@ use Rattle.sealed_pages.proofs.LastingLemmas.{keeping_of, keeping_now, kept_afte
 use Rattle.sealed_pages.proofs.SparingLemmas.{sparing_start, sparing_weaker}
 use Rattle.sealed_pages.proofs.WritingLemmas.{put_joins, put_bytes, put_below, put_spares}
 use Rattle.sealed_pages.proofs.ContentLemmas.{adds_start, adds_one, adds_put}
+use Rattle.sealed_pages.proofs.Tails.{tail_kept, tail_flushed, put_run}
 use Rattle.sealed_pages.proofs.write_blob.WriteBlob.write_at.Goals as goal
+
+pub returns-then-len-this-clause-tail : goal.returns-then-len-this-clause-tail
+returns-then-len-this-clause-tail g c =
+    let run = put_run (shown c.args.self) (shown c.in_ok-this.this) (shown c.in_ok-this-2.this) c.args.offset c.args.bytes.now c.in_ok-this.ensures.joined c.in_ok-this.ensures.run c.in_ok-this-2.ensures c.in_ok-this.ensures.kept in
+    let len : c.len.result ≡ length c.in_ok-this-2.this.pending.items = search rules in
+    let capacity : c.in_ok-this-2.this.capacity ≡ c.args.self.capacity = ap (λ (x : WriteBuffer). x.capacity) c.in_ok-this-2.ensures ∙ ap (λ (x : WriteBuffer). x.capacity) c.in_ok-this.ensures.same in
+    tail_kept c.args.self.capacity 0 _ _ (omega (arith, run)) (omega (arith, len, capacity, c.if-len-this.true))
+
+pub returns-clause-tail : goal.returns-clause-tail
+returns-clause-tail g c =
+    let run = put_run (shown c.args.self) (shown c.in_ok-this.this) (shown c.in_ok-this-2.this) c.args.offset c.args.bytes.now c.in_ok-this.ensures.joined c.in_ok-this.ensures.run c.in_ok-this-2.ensures c.in_ok-this.ensures.kept in
+    let len : c.len.result ≡ length c.in_ok-this-2.this.pending.items = search rules in
+    let capacity : c.in_ok-this-2.this.capacity ≡ c.args.self.capacity = ap (λ (x : WriteBuffer). x.capacity) c.in_ok-this-2.ensures ∙ ap (λ (x : WriteBuffer). x.capacity) c.in_ok-this.ensures.same in
+    tail_flushed c.args.self.capacity 0 _ _ (ap (λ (x : WriteBuffer). length x.pending) c.in_ok-flushed.ensures.same) (omega (arith, run, len, capacity, c.if-len-this.false))
 
 pub returns-in_err-this-clause-spares : goal.returns-in_err-this-clause-spares
 returns-in_err-this-clause-spares g c t =

@@ -30,7 +30,18 @@ use Rattle.segments.proofs.WalkLemmas.{none_or_value}
 use Rattle.segments.proofs.FixedWriteLemmas.{are_pages, size_here, bytes_here}
 use Rattle.segments.proofs.FixedCalls.{moved, held_on}
 use Rattle.segments.proofs.FixedAppendLemmas.{Takes, Appends, steady_start, appended_adopted, taken_adopted, start_sealing, held_sealing, beginning, taken_still, taken_sealed, taken_size, taken_bytes, crashes_as, was_ok, was_err, at_ok, full_is, no_room_made, full_here, same_setting, append_journal}
+use Rattle.sealed_pages.specs.Tails.{LeavesTail}
+use Rattle.segments.proofs.TailLemmas.{appended_tail}
 use Rattle.segments.proofs.fixed.Journal.append.Goals as goal
+
+pub returns-clause-tail : goal.returns-clause-tail
+returns-clause-tail g c =
+    let u = c.in_ok-buffer.buffer in
+    let v = c.in_ok-buffer-2.buffer in
+    let long : length c.as_slice.result.now ≡ g.A.CodecFixed.SIZE = ap length (c.as_slice.ensures.value ∙ c.in_ok-bytes.ensures.bytes) ∙ g.met.A.CodecFixed.fixed.sized c.args.item.now c.requires.accepted in
+    let ok = was_ok Error c.append.result (v, c.in_ok-buffer-2.offset) c.in_ok-buffer-2.ensures.cases in
+    appended_tail (shown c.args.self).sections c.args.section u c.in_ok-buffer.ensures.same c.in_ok-buffer.ensures.idle (managed.shown c.put.new.self) v _ g.A.CodecFixed.SIZE c.in_ok-put.ensures.put.here (λ i. (c.in_ok-buffer.ensures.setting i).capacity) long
+    (at_ok c.append.result (v, c.in_ok-buffer-2.offset) (λ (x : PageBlob g.row.S.Denot g.S.Seal × ℕ). LeavesTail (page_blob.shown u) (length c.as_slice.result.now) (page_blob.shown x.0)) ok c.append.ensures.tail)
 
 pub returns-in_err-bytes-clause-moments : goal.returns-in_err-bytes-clause-moments
 returns-in_err-bytes-clause-moments g c t u held sealed = start_sealing g.S.Seal.seal_of g.A.CodecFixed.SIZE g.D.Device.Tells _ (are_pages g.row.S g.S.Seal g.S.Seal-dict) _ (shown c.args.self) (g.D.Device.opened c.args.dev.now) (g.D.Device.time c.args.dev.now) c.requires.over c.args.section c.requires.recovered u held sealed (g.A.Codec.spelling c.args.item.now)
