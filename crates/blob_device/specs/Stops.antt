@@ -8,9 +8,9 @@ abbrev pub is_fault : Stop → Bool
 is_fault BadPartition = true
 is_fault InUse = true
 is_fault TooShort = true
-is_fault (Sync e) = true
+is_fault (Sync p e) = true
 is_fault Lost = true
-is_fault (System e) = true
+is_fault (System p e) = true
 is_fault NoMemory = false
 
 -- a sync failed
@@ -18,9 +18,9 @@ abbrev pub is_failed_sync : Stop → Bool
 is_failed_sync BadPartition = false
 is_failed_sync InUse = false
 is_failed_sync TooShort = false
-is_failed_sync (Sync e) = true
+is_failed_sync (Sync p e) = true
 is_failed_sync Lost = false
-is_failed_sync (System e) = false
+is_failed_sync (System p e) = false
 is_failed_sync NoMemory = false
 
 -- the call stopped since a sync failed

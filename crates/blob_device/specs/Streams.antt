@@ -1,20 +1,19 @@
 -- What one call of a source or a sink does.
-use Rattle.std.specs.Prelude.{◌≡◌, ℕ, ◌≤◌, List, [], ◌++◌, take, Result, MatchResult, Ok, Err, Option, Some, None}
+use Rattle.std.specs.Prelude.{◌≡◌, ℕ, ◌≤◌, Bool, true, false, List, [], ◌++◌, take, Result, MatchResult, Option, Some, None}
 use Rattle.std.specs.Result.{IsErrOf}
 use Rattle.blob_device.specs.declared.io_fault.IoFault.{IoFault}
 use Rattle.blob_device.specs.declared.io_fault.IoFault.TheVariants.{Fault, Mem}
-use Rattle.blob_device.specs.Counts.{Rose, next}
+use Rattle.blob_device.specs.Counts.{Rose}
 
 -- the count of faults never falls, and a fault is answered only where it rose
 pub record Faulted {T : Type 0} (result : Result T IoFault) (old new : ℕ) : Type 0 where
   pub later : old ≤ new
   pub cause : IsErrOf result Fault → Rose old new
 
--- the count of faults is one more where the call answers a fault, and as before where it does not
-abbrev pub FaultsAre : {T : Type 0} → Result T IoFault → ℕ → ℕ → Type 0
-FaultsAre (Ok x) before now = now ≡ before
-FaultsAre (Err Fault) before now = now ≡ next before
-FaultsAre (Err Mem) before now = now ≡ before
+-- a stream answers a fault, and not want of memory
+abbrev pub is_stream_fault : IoFault → Bool
+is_stream_fault Fault = true
+is_stream_fault Mem = false
 
 -- the first of the bytes that were left are in the buffer, none of them only where none was left; after an Err all are left
 abbrev pub HasRead : Result ℕ IoFault → List ℕ → List ℕ → List ℕ → Type 0

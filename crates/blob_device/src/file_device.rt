@@ -16,14 +16,15 @@
 //
 // What is synced before a call answers Ok:
 //
-//     open_blob    the root, where the partition is new to the device; the partition's folder, where its
-//                  names may not have settled; then the file
+//     open_blob    the folder above the root, once; the root, where the partition is new to the device; the
+//                  partition's folder, where its names may not have settled; then the file
 //     sync         the file, at the blob's length
 //     remove       the partition's folder, behind the removal
 //     scan         the partition's folder, where its names may not have settled; only then it is listed
 //
-// Each is `sync_all`. A folder that is made for the root is synced into the one above. Reads, writes and
-// resizes sync nothing, but for a written file that is closed to make room for another.
+// Each is `sync_all`. A folder that is made for the root, or above it, is synced into the one above before
+// another is made in it. Reads, writes and resizes sync nothing, but for a written file that is closed to make
+// room for another.
 //
 // # Crashes
 //
@@ -51,10 +52,11 @@ mod names;
 mod open_files;
 mod opened;
 mod places;
+mod root;
 mod stop;
 
 use crate::{DevError, Device, Names};
-use files::BlobFiles;
+use files::{Blob, BlobFiles};
 pub use host_files::{HostFiles, PlacedFile};
 use opened::OpenedBlobs;
 use std::alloc::{AllocError, Global};
@@ -70,17 +72,27 @@ use stop::Stop;
 /// A blob's name has 1 to 127 bytes: the system refuses other files, which is a fault too.
 ///
 /// `open_blob` and `sync` sync the file. The names in a partition's folder are synced when the device first
-/// opens a blob there or lists them. They are synced again where it makes or removes a file. A folder that is
-/// made for the root, or above it, is synced into the one above. Of the open files, at most 256, none is
-/// closed with writes that are not synced. After a sync that failed no call answers that a blob is settled
+/// opens a blob there or lists them. They are synced again where it makes or removes a file. The name of a
+/// partition's folder is synced when a blob is first opened there, and not when its names are listed.
+///
+/// The root, and folders above it, are made where they are absent. No `open_blob` answers Ok before the names
+/// of all that this device may have made are synced, also where an earlier call made them and failed. The
+/// name of a root that was there is synced once, since who made it may have ended before that. So is that of
+/// the folder in which the first one is made. Where the folder above one that was there may not be read, its
+/// name is left to who made it. Names further up are not looked at.
+///
+/// Of the open files, at most 256, none is closed with writes that are not synced, but where its blob is
+/// removed or the device ends. After a sync that failed no call answers that a blob is settled
 /// ([`has_lost`](FileDevice::has_lost)). A file's length is looked at when it is opened, before it is
 /// changed, and when it settles. The device does not tell its disk: what the system does with the files is
 /// outside the proofs.
 ///
-/// ```rust let mut dev = FileDevice::alone(&HostFiles::new(rt)?, alloc, "archive")?;    // no file is touched
-/// yet dev.open_blob("p", b"a")?;              // locks archive/LOCK, makes archive/p/61, and syncs it and
-/// its names dev.write_at("p", b"a", 0, b"abc")?;    // the file has the bytes, and a power cut may take them
-/// dev.sync("p", b"a")?;                   // abc lasts, as far as the system keeps what it has synced ```
+/// ```rust
+/// let mut dev = FileDevice::alone(&HostFiles::new(rt)?, alloc, "archive")?;    // no file is touched yet
+/// dev.open_blob("p", b"a")?;              // locks archive/LOCK, makes archive/p/61, and syncs it and its names
+/// dev.write_at("p", b"a", 0, b"abc")?;    // the file has the bytes, and a power cut may take them
+/// dev.sync("p", b"a")?;                   // abc lasts, as far as the system keeps what it has synced
+/// ```
 #[derive(Drop)]
 pub struct FileDevice<R: Files + Clone + Drop> {
     /// Where memory for the list, paths and lines comes from.
@@ -160,8 +172,8 @@ impl<R: Files + Clone + Drop> FileDevice<R> {
         self.has_lost
     }
 
-    /// What failed at the last fault, in one line: the call, the file, and the reason. None before the first fault, and where
-    /// there was no memory for the line.
+    /// What failed at the last fault, in one line: the call, the file or folder that failed in it, and the reason. None before
+    /// the first fault, and where there was no memory for the line.
     pub fn last_failure(&self) -> Option<&str> {
         match &self.last_failure {
             Some(line) => Some(line.as_str()),
@@ -213,9 +225,13 @@ impl<R: Files + Clone + Drop> FileDevice<R> {
         ensures faults { file_faults self.new ≡ file_faults self.old }
         ensures lost { file_lost self.new ≡ file_lost self.old }
     {
-        let len = self.len(partition, name);
+        let blob = Blob {
+            partition,
+            name,
+            len: self.len(partition, name),
+        };
         self.opened.begin_read(partition, name);
-        self.files.read(partition, name, len, offset, buf)
+        self.files.read(blob, offset, buf)
     }
 
     fn try_write(
@@ -234,8 +250,13 @@ impl<R: Files + Clone + Drop> FileDevice<R> {
         ensures lost { file_lost self.new ≡ file_lost self.old }
     {
         let len = self.len(partition, name);
+        let blob = Blob {
+            partition,
+            name,
+            len,
+        };
         // Before the list: where the write fails, the blob is as long as it was.
-        self.files.write(partition, name, len, offset, bytes)?;
+        self.files.write(blob, offset, bytes)?;
         let end = offset + bytes.len() as u64;
         self.opened.set_len(partition, name, len.max(end));
         Ok(())
@@ -249,9 +270,13 @@ impl<R: Files + Clone + Drop> FileDevice<R> {
         ensures faults { file_faults self.new ≡ file_faults self.old }
         ensures lost { file_lost self.new ≡ file_lost self.old }
     {
-        let old = self.len(partition, name);
+        let blob = Blob {
+            partition,
+            name,
+            len: self.len(partition, name),
+        };
         // Before the list: where the file fails, the blob keeps its length.
-        self.files.resize(partition, name, old, len)?;
+        self.files.resize(blob, len)?;
         self.opened.set_len(partition, name, len);
         Ok(())
     }
@@ -267,9 +292,13 @@ impl<R: Files + Clone + Drop> FileDevice<R> {
         if self.has_lost {
             return Err(Stop::Lost);
         }
-        let len = self.len(partition, name);
+        let blob = Blob {
+            partition,
+            name,
+            len: self.len(partition, name),
+        };
         // At the length in the list, so that what a failed write left behind it does not settle.
-        self.files.sync(partition, name, len)
+        self.files.sync(blob)
     }
 
     // Once its file is gone, the blob is not opened, also where the removal could not be settled.
@@ -311,12 +340,7 @@ impl<R: Files + Clone + Drop> FileDevice<R> {
         name: &[u8],
         stop: &Stop,
     ) -> Result<String, AllocError> {
-        if matches!(stop, Stop::InUse) {
-            // The folder itself is what another program uses.
-            let root = self.files.root();
-            return format!(in self.alloc; "cannot {call} {root:?}: {stop}");
-        }
-        let path = self.files.shown_path(partition, name)?;
+        let path = self.files.path_at(stop.place(), partition, name)?;
         format!(in self.alloc; "cannot {call} {path:?}: {stop}")
     }
 
@@ -342,7 +366,7 @@ impl<R: Files + Clone + Drop> FileDevice<R> {
             Err(stop) => {
                 self.faults = self.faults.saturating_add(1);
                 // A sync that failed may have dropped what it was to write: none is answered by an Ok again.
-                self.has_lost |= matches!(&stop, Stop::Sync(_));
+                self.has_lost |= matches!(&stop, Stop::Sync(_, _));
                 self.last_failure = self.failure(call, partition, name, &stop).ok();
                 Err(DevError::Fault)
             }

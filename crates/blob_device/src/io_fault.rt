@@ -8,10 +8,10 @@ use std::alloc::{AllocError, AllocFailed};
 #[derive(Clone, Copy, Debug, PartialEq, Eq, thiserror::Error)]
 pub enum IoFault {
     /// The stream failed. It raised its count of faults.
-    #[error("fault")]
+    #[error("the stream failed")]
     Fault,
     /// There was no memory. Only a sink answers it.
-    #[error("memory")]
+    #[error("there was no memory")]
     Mem,
 }
 

@@ -11,19 +11,19 @@ use thiserror::Error;
 #[derive(Clone, Copy, Debug, PartialEq, Eq, Error)]
 pub enum RError {
     /// The device failed, and its count of faults rose.
-    #[error("runtime fault")]
+    #[error("the device failed")]
     Fault,
     /// No seal that is stored for this page fits its bytes.
-    #[error("runtime invalid-checksum {0}")]
+    #[error("no seal of page {0} holds")]
     InvalidChecksum(u64),
     /// The bytes asked for reach past the end of what is held.
-    #[error("runtime insufficient-length")]
+    #[error("a blob ends before what was to be read")]
     BlobInsufficientLength,
     /// The end of the range passes the greatest `u64`.
-    #[error("runtime offset-overflow")]
+    #[error("a place passes 2^64")]
     OffsetOverflow,
     /// There was no memory for the call.
-    #[error("memory")]
+    #[error("there was no memory")]
     Mem,
 }
 

@@ -1,9 +1,9 @@
 // Where bytes are written to: the trait, a sink in memory, and one over a writer of std.
 ghost use Rattle.std.specs.Prelude.{◌≡◌, ◌≤◌, ◌<◌, ◌||◌, ◌==◌, min, take, ℕ, Bool, true, false, List, [], length, IfOk, OnOk, OnErr};
 ghost use Rattle.std.specs.Result.{IsErrOf, IsOkUnless};
-ghost use Rattle.blob_device.specs.Counts.{next};
+ghost use Rattle.blob_device.specs.Counts.{next, FaultsAre};
 ghost use Rattle.std.specs.Io.KnownBytes.{Appends};
-ghost use Rattle.blob_device.specs.Streams.{Faulted, FaultsAre, HasWritten};
+ghost use Rattle.blob_device.specs.Streams.{Faulted, HasWritten, is_stream_fault};
 
 use crate::failing::is_in_list;
 use crate::flushing::write_flushed;
@@ -164,7 +164,7 @@ impl<W: Write> Sink for StdSink<W> {
         ensures faults { Faulted result (write_faults self.old) (write_faults self.new) }
         ensures told { ⊥ → HasWritten result [] [] bytes.now }
         ensures takes_no_memory { ¬ IsErrOf result IoFault.Mem }
-        ensures counted { FaultsAre result (write_faults self.old) (write_faults self.new) }
+        ensures counted { FaultsAre is_stream_fault result (write_faults self.old) (write_faults self.new) }
         ensures written { IfOk result (λ n. Appends (W.contents (writer_of self.old)) (W.contents (writer_of self.new)) (take n bytes.now)) }
     {
         match write_flushed(&mut self.writer, bytes) {

@@ -1,8 +1,8 @@
 // Where bytes are read from: the trait, a source in memory, and one over a reader of std.
 ghost use Rattle.std.specs.Prelude.{◌≡◌, ◌≤◌, ◌<◌, ◌||◌, ◌==◌, min, IsSome, take, ℕ, Bool, true, false, List, [], length, IfOk, IsOk, IsErr, OnOk, OnErr, IsErrOf};
 ghost use Rattle.std.specs.Result.{IsOkUnless};
-ghost use Rattle.blob_device.specs.Counts.{next};
-ghost use Rattle.blob_device.specs.Streams.{Faulted, FaultsAre, HasRead, known};
+ghost use Rattle.blob_device.specs.Counts.{next, FaultsAre};
+ghost use Rattle.blob_device.specs.Streams.{Faulted, HasRead, is_stream_fault, known};
 
 use crate::failing::is_in_list;
 use crate::{DevError, IoFault};
@@ -172,7 +172,7 @@ impl<R: Read> Source for StdSource<R> {
         ensures faults { Faulted result (read_faults self.old) (read_faults self.new) }
         ensures takes_no_memory { ¬ IsErrOf result IoFault.Mem }
         ensures told { ((r : R) → IsSome (R.remaining r)) → HasRead result (known (R.remaining (reader_of self.old))) (known (R.remaining (reader_of self.new))) buf.new }
-        ensures counted { FaultsAre result (read_faults self.old) (read_faults self.new) }
+        ensures counted { FaultsAre is_stream_fault result (read_faults self.old) (read_faults self.new) }
     {
         match self.reader.read(buf) {
             Ok(count) => Ok(count),

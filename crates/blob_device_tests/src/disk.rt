@@ -23,11 +23,19 @@ pub fn partition(step: &Step) -> &str {
     }
 }
 
+/// The word for a refusal.
+pub fn word_of(error: DevError) -> &'static str {
+    match error {
+        DevError::Fault => "runtime fault",
+        DevError::Mem => "memory",
+    }
+}
+
 /// What a call says that answers nothing.
 pub fn told(alloc: Global, done: Result<(), DevError>) -> Result<String, AllocError> {
     match done {
         Ok(()) => String::from_str(alloc, "ok"),
-        Err(e) => format!(in alloc; "{e}"),
+        Err(e) => String::from_str(alloc, word_of(e)),
     }
 }
 
@@ -88,7 +96,7 @@ fn open<D: Device>(
                 said,
             ))
         }
-        Err(e) => Ok((None, format!(in alloc; "{e}")?)),
+        Err(e) => Ok((None, String::from_str(alloc, word_of(e))?)),
     }
 }
 
@@ -104,7 +112,7 @@ fn scanned<D: Device>(alloc: Global, dev: &mut D, step: &Step) -> Result<String,
 {
     let names = match dev.scan(alloc, partition(step)) {
         Ok(names) => names,
-        Err(e) => return Ok(format!(in alloc; "{e}")?),
+        Err(e) => return Ok(String::from_str(alloc, word_of(e))?),
     };
     let mut said = String::new(alloc);
     for i in 0..names.len() {
@@ -138,7 +146,7 @@ fn write<D: Device>(
             let len = held.len.max(end);
             Ok((Some(Held { len, ..held }), String::from_str(alloc, "ok")?))
         }
-        Err(e) => Ok((Some(held), format!(in alloc; "{e}")?)),
+        Err(e) => Ok((Some(held), String::from_str(alloc, word_of(e))?)),
     }
 }
 
@@ -165,7 +173,7 @@ fn read<D: Device>(
         bytes.as_mut_slice(),
     ) {
         Ok(()) => Ok((Some(held), hex_of(alloc, &bytes)?)),
-        Err(e) => Ok((Some(held), format!(in alloc; "{e}")?)),
+        Err(e) => Ok((Some(held), String::from_str(alloc, word_of(e))?)),
     }
 }
 
@@ -182,7 +190,7 @@ fn settle<D: Device>(
     match (step.word(), step.number(0)) {
         ("resize", Some(len)) => match dev.resize(held.partition.as_str(), &held.name, len) {
             Ok(()) => Ok((Some(Held { len, ..held }), String::from_str(alloc, "ok")?)),
-            Err(e) => Ok((None, format!(in alloc; "{e}")?)),
+            Err(e) => Ok((None, String::from_str(alloc, word_of(e))?)),
         },
         ("sync", _) => {
             let done = dev.sync(held.partition.as_str(), &held.name);

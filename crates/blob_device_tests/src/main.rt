@@ -41,8 +41,9 @@
 //! |---|---|
 //! | `reads PIECE FAILING HEX SIZE ..` | what buffers of these sizes are given |
 //! | `writes PIECE FAILING HEX ..` | how many bytes are taken of each: all that were taken |
+//! | `writes held FAILING HEX ..` | the same of a stream of std that has to be flushed: all that it shows |
 //!
-//! Read or write number FAILING fails, and `-` is none.
+//! Read, write or flush number FAILING fails, and `-` is none.
 #![tactic(auto)]
 
 mod disk;

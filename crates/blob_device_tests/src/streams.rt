@@ -1,9 +1,40 @@
 // Sources that give bytes in pieces, and sinks that take them so.
 use crate::disk::hex_of;
-use blob_device::{DevError, MemSink, MemSource, Sink, Source, StdSink, StdSource};
+use blob_device::{DevError, IoFault, MemSink, MemSource, Sink, Source, StdSink, StdSource};
 use scenario_text::Step;
 use std::alloc::Global;
-use std::io::Cursor;
+use std::io::{self, Cursor, ErrorKind, Write};
+
+/// A writer that shows what it was given only when it is flushed.
+#[derive(Drop)]
+struct Holding {
+    /// What was given and not flushed.
+    held: Vec<u8>,
+    /// What was flushed.
+    shown: Vec<u8>,
+    /// How many flushes there were.
+    flushes: u64,
+    /// The number of the flush that fails, from 0.
+    failing: Option<u64>,
+}
+
+impl Write for Holding {
+    fn write(&mut self, buf: &[u8]) -> io::Result<usize> {
+        self.held.extend_from_slice(buf)?;
+        Ok(buf.len())
+    }
+
+    fn flush(&mut self) -> io::Result<()> {
+        let number = self.flushes;
+        self.flushes = number.saturating_add(1);
+        if self.failing == Some(number) {
+            return Err(io::Error::from(ErrorKind::StorageFull));
+        }
+        self.shown.extend_from_slice(&self.held)?;
+        self.held.clear();
+        Ok(())
+    }
+}
 
 /// What a step about a source or a sink says.
 pub fn said(alloc: Global, step: &Step) -> Result<Option<String>, DevError> {
@@ -20,6 +51,7 @@ pub fn said(alloc: Global, step: &Step) -> Result<Option<String>, DevError> {
             write!(&mut said, ": {}", hex_of(alloc, &bytes)?.as_str())?;
             Ok(Some(said))
         }
+        ("writes", "held") => Ok(Some(written_and_shown(alloc, step)?)),
         ("writes", _) => Ok(Some(written_in_pieces(alloc, step)?)),
         _ => Ok(None),
     }
@@ -48,6 +80,27 @@ fn written_in_pieces(alloc: Global, step: &Step) -> Result<String, DevError> {
     Ok(said)
 }
 
+/// Writes to a writer of std that has to be flushed, and what it showed.
+fn written_and_shown(alloc: Global, step: &Step) -> Result<String, DevError> {
+    let mut writer = Holding {
+        held: Vec::new(alloc),
+        shown: Vec::new(alloc),
+        flushes: 0,
+        failing: step.number(1),
+    };
+    let mut said = writes(alloc, &mut StdSink::new(&mut writer), step)?;
+    write!(&mut said, ": {}", hex_of(alloc, &writer.shown)?.as_str())?;
+    Ok(said)
+}
+
+/// The word for a refusal of a stream.
+fn word_of(error: IoFault) -> &'static str {
+    match error {
+        IoFault::Fault => "fault",
+        IoFault::Mem => "memory",
+    }
+}
+
 /// What buffers of these sizes are given.
 fn reads<S: Source>(alloc: Global, source: &mut S, step: &Step) -> Result<String, DevError> {
     let mut said = String::new(alloc);
@@ -60,7 +113,7 @@ fn reads<S: Source>(alloc: Global, source: &mut S, step: &Step) -> Result<String
                 let given = hex_of(alloc, buf.get(..count).unwrap_or(b""))?;
                 write!(&mut said, "{space}{}", given.as_str())?;
             }
-            Err(e) => write!(&mut said, "{space}{e}")?,
+            Err(e) => write!(&mut said, "{space}{}", word_of(e))?,
         }
     }
     Ok(said)
@@ -77,7 +130,7 @@ fn writes<S: Sink>(alloc: Global, sink: &mut S, step: &Step) -> Result<String, D
         let space = if said.is_empty() { "" } else { " " };
         match sink.write(&bytes) {
             Ok(count) => write!(&mut said, "{space}{count}")?,
-            Err(e) => write!(&mut said, "{space}{e}")?,
+            Err(e) => write!(&mut said, "{space}{}", word_of(e))?,
         }
     }
     Ok(said)

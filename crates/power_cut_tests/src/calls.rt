@@ -6,9 +6,11 @@ use blob_device::{DevError, Device};
 use scenario_text::Step;
 use std::alloc::Global;
 
-/// A change of the blob that is open.
+/// What is done with the blob that is open.
 #[derive(Drop)]
 pub enum Change {
+    /// Nothing is read, but the file is asked.
+    Read,
     Write(u32, Vec<u8>),
     Resize(u32),
     Sync,
@@ -68,10 +70,10 @@ pub fn add_change(calls: &mut Vec<Call>, change: Change) -> Result<(), Stop> {
 
 // The change that a step spells.
 fn change_of(alloc: Global, step: &Step) -> Result<Change, Stop> {
-    let number = step.number(0).unwrap_or(0).min(MOST) as u32;
     match step.word() {
-        "write" => Ok(Change::Write(number, bytes_of(alloc, step, 1)?)),
-        "resize" => Ok(Change::Resize(number)),
+        "write" => Ok(Change::Write(place_in(step)?, bytes_of(alloc, step, 1)?)),
+        "read" => Ok(Change::Read),
+        "resize" => Ok(Change::Resize(place_in(step)?)),
         "sync" => Ok(Change::Sync),
         _ => Err(Stop::Said("no such command")),
     }
@@ -79,6 +81,14 @@ fn change_of(alloc: Global, step: &Step) -> Result<Change, Stop> {
 
 // No offset and no length of a step is greater.
 const MOST: u64 = 65_536;
+
+// The offset or the length that a step names.
+fn place_in(step: &Step) -> Result<u32, Stop> {
+    match step.number(0) {
+        Some(number) if number <= MOST => Ok(number as u32),
+        _ => Err(Stop::Said("a number is missing, or too great")),
+    }
+}
 
 fn visit_of(alloc: Global, step: &Step) -> Result<Visit, Stop> {
     Ok(Visit {
@@ -91,8 +101,9 @@ fn visit_of(alloc: Global, step: &Step) -> Result<Visit, Stop> {
 /// The bytes at this place behind the first word of a step.
 pub fn bytes_of(alloc: Global, step: &Step, at: usize) -> Result<Vec<u8>, Stop> {
     match step.bytes(alloc, at)? {
-        Some(bytes) => Ok(bytes),
-        None => Err(Stop::Said("bytes are missing")),
+        // No word would read as no byte.
+        Some(bytes) if !step.argument(at).is_empty() => Ok(bytes),
+        _ => Err(Stop::Said("bytes are missing")),
     }
 }
 
@@ -107,6 +118,7 @@ pub fn changed<D: Device>(
     ensures { IsSome (D.opened dev.new (partition.now, name.now)) }
 {
     match change {
+        Change::Read => dev.read_at(partition, name, 0, &mut []),
         Change::Write(offset, bytes) => {
             let offset = u64::from(*offset);
             if offset.checked_add(bytes.len() as u64).is_none() {

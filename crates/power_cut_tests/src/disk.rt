@@ -104,7 +104,7 @@ impl Disk {
         Ok(disk)
     }
 
-    /// A call begins. It answers whether it is the one that fails or stops; where the power is gone, or the call fails, it is an Err.
+    /// A call begins. Where the power is gone, or the call fails, it is an Err.
     pub fn begin(&mut self) -> io::Result<()> {
         let nth = self.calls;
         self.calls = self.calls.saturating_add(1);

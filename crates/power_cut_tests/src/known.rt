@@ -94,7 +94,7 @@ impl Known {
             Change::Write(offset, bytes) => blob.write(*offset as usize, bytes, is_done)?,
             Change::Resize(len) => blob.resize(*len as usize, is_done)?,
             Change::Sync if is_done => blob.settle(),
-            Change::Sync => {}
+            Change::Sync | Change::Read => {}
         }
         Ok(())
     }

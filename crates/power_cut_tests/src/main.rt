@@ -10,6 +10,7 @@
 //! | `closing-forgets` | no later sync writes what a file had not synced when it was closed |
 //! | `open PARTITION NAME` | a call of the device, and the blob of the next changes |
 //! | `write OFFSET HEX`, `resize LENGTH`, `sync` | a change of that blob |
+//! | `read` | a read of that blob, of no byte: its file is asked all the same |
 //! | `remove PARTITION NAME`, `scan PARTITION` | a call of the device |
 //! | `writes COUNT` | opens so many blobs, and writes a byte into each |
 //! | `> COMMAND` | a line of the program's script, and its reply |
@@ -21,6 +22,7 @@
 //!
 //! The last three begin what was gathered again and again. What each power cut leaves is judged by what the calls or the script put
 //! and synced, and by plain programs. A new device, or a new run, must find it, and what it finds must outlast the next power cut.
+//! What a run of the program replies is the first of what is wanted, and an error where it did not come to all.
 #![tactic(auto)]
 
 mod calls;
@@ -65,7 +67,9 @@ impl Driver for PowerCuts {
         let Ok(mut stage) = Stage::new(alloc) else {
             return Err(AllocError);
         };
+        let mut untried = None;
         for step in scenario.steps.iter() {
+            untried = if is_trial(step) { None } else { Some(step) };
             match said(&mut stage, step) {
                 Ok(said) => note(report, step, said.as_str())?,
                 Err(Stop::Mem) => return Err(AllocError),
@@ -76,8 +80,19 @@ impl Driver for PowerCuts {
                 }
             }
         }
-        Ok(())
+        match untried {
+            Some(step) => report.fail(step.line, "no trial stands behind this step"),
+            None => Ok(()),
+        }
     }
+}
+
+// Whether what was gathered is tried by this step.
+fn is_trial(step: &Step) -> bool {
+    matches!(
+        step.word(),
+        "each-call-fails" | "power-goes-after-each-call" | "power-goes-at-the-end"
+    )
 }
 
 // A line of a script is answered when the script is run.

@@ -68,6 +68,23 @@ impl Program<'_> {
     }
 }
 
+// Whether a run may write these replies: all that are wanted, or where a call failed the first of them, and then an error.
+fn are_lawful(written: &str, wanted: &str, has_failed: bool) -> bool {
+    let mut wanted = wanted.lines();
+    let mut is_over = false;
+    for line in written.lines() {
+        if is_over {
+            return false;
+        }
+        if has_failed && line.starts_with("error ") {
+            is_over = true;
+        } else if wanted.next() != Some(line) {
+            return false;
+        }
+    }
+    is_over || wanted.next().is_none()
+}
+
 /// A program's trial, with what it owes.
 #[derive(Drop)]
 pub struct ProgramTrial<'a> {
@@ -83,7 +100,7 @@ impl Trial for ProgramTrial<'_> {
         let files = DiskFiles::new(program.start.begun_with(plan)?)?;
         let run = program.run(&files, program.script)?;
         let calls = files.calls();
-        if !plan.is_reached(calls) && run.written.as_str() != program.wanted {
+        if !are_lawful(run.written.as_str(), program.wanted, plan.is_reached(calls)) {
             let text = run.written.as_str();
             let wrong = format!(in program.alloc; "the replies are {text:?}")?;
             return Ok(Tried { calls, wrong });

@@ -1,5 +1,5 @@
 // What the calls of a device do to one open file.
-use crate::file_device::stop::Stop;
+use crate::file_device::stop::{Place, Stop};
 use std::fs::OpenFile;
 use std::io::{self, ErrorKind, Read, Seek, SeekFrom, Write};
 
@@ -18,7 +18,10 @@ fn cut<F: OpenFile>(file: &F, len: u64) -> Result<(), Stop> {
 
 /// What a sync came to, told apart from other failures.
 pub fn synced(done: io::Result<()>) -> Result<(), Stop> {
-    done.map_err(Stop::Sync)
+    match done {
+        Ok(()) => Ok(()),
+        Err(e) => Err(Stop::Sync(Place::Blob, e)),
+    }
 }
 
 /// Refuses a file that is shorter than the blob.

@@ -8,17 +8,30 @@ use crate::file_device::folders::Folders;
 use crate::file_device::names::check_folder_name;
 use crate::file_device::open_files::{Kept, OpenFiles};
 use crate::file_device::places::Places;
-use crate::file_device::stop::Stop;
+use crate::file_device::stop::{Place, Stop};
 use std::alloc::{AllocError, Global};
 use std::fs;
 use std::io::ErrorKind;
 use std::rt::Files;
+
+/// An opened blob.
+#[derive(Clone, Copy)]
+pub struct Blob<'a> {
+    /// The partition that it is in.
+    pub partition: &'a str,
+    /// Its name.
+    pub name: &'a [u8],
+    /// Its length in bytes.
+    pub len: u64,
+}
 
 /// The files of the blobs below a root folder.
 #[derive(Drop)]
 pub struct BlobFiles<R: Files + Clone + Drop> {
     /// The runtime that has the files.
     rt: R,
+    /// Where memory for paths comes from.
+    alloc: Global,
     /// The path of each blob that was named, built once.
     places: Places,
     /// The root and the partitions' folders: the lock, and whose names have settled.
@@ -34,15 +47,11 @@ impl<R: Files + Clone + Drop> BlobFiles<R> {
         let root = if root.is_empty() { "." } else { root };
         Ok(BlobFiles {
             rt: rt.clone()?,
+            alloc,
             places: Places::new(alloc, root)?,
             folders: Folders::new(rt, alloc, root, alone)?,
             open: OpenFiles::new(rt, alloc)?,
         })
-    }
-
-    /// The root.
-    pub fn root(&self) -> &str {
-        self.folders.root()
     }
 
     /// The names of the blobs in a partition, ascending.
@@ -89,7 +98,7 @@ impl<R: Files + Clone + Drop> BlobFiles<R> {
     ) -> Result<Kept<R::File>, Stop> {
         let place = self.places.get(partition, name)?;
         match self.open.find(place) {
-            Err(Stop::System(e)) if e.kind() == ErrorKind::NotFound && !is_opened => {
+            Err(Stop::System(_, e)) if e.kind() == ErrorKind::NotFound && !is_opened => {
                 // Taken back before the file is made, since its making may fail in between.
                 self.folders.unsettle(partition);
                 self.folders.make(partition)?;
@@ -119,57 +128,43 @@ impl<R: Files + Clone + Drop> BlobFiles<R> {
         self.open.keep(place.number, kept)
     }
 
-    /// Reads a part of a blob of this length.
-    pub fn read(
-        &mut self,
-        partition: &str,
-        name: &[u8],
-        len: u64,
-        offset: u64,
-        buf: &mut [u8],
-    ) -> Result<(), Stop> {
-        let place = self.places.get(partition, name)?;
-        let mut kept = self.open.take(place, len)?;
+    /// Reads a part of a blob.
+    pub fn read(&mut self, blob: Blob<'_>, offset: u64, buf: &mut [u8]) -> Result<(), Stop> {
+        let place = self.places.get(blob.partition, blob.name)?;
+        let mut kept = self.open.take(place, blob.len)?;
         let done = read(&mut kept.file, offset, buf);
         self.open.keep(place.number, kept)?;
         done
     }
 
-    /// Writes into a blob of this length.
-    pub fn write(
-        &mut self,
-        partition: &str,
-        name: &[u8],
-        len: u64,
-        offset: u64,
-        bytes: &[u8],
-    ) -> Result<(), Stop> {
-        let place = self.places.get(partition, name)?;
-        let mut kept = self.open.take(place, len)?;
+    /// Writes into a blob.
+    pub fn write(&mut self, blob: Blob<'_>, offset: u64, bytes: &[u8]) -> Result<(), Stop> {
+        let place = self.places.get(blob.partition, blob.name)?;
+        let mut kept = self.open.take(place, blob.len)?;
         // Marked before, since a write that fails may have written.
         kept.is_written = true;
-        let done = write(&mut kept.file, len, offset, bytes);
+        let done = write(&mut kept.file, blob.len, offset, bytes);
         self.open.keep(place.number, kept)?;
         done
     }
 
-    /// Gives a blob of the length `old` the length `new`.
-    pub fn resize(&mut self, partition: &str, name: &[u8], old: u64, new: u64) -> Result<(), Stop> {
-        let place = self.places.get(partition, name)?;
-        let mut kept = self.open.take(place, old)?;
+    /// Gives a blob this length.
+    pub fn resize(&mut self, blob: Blob<'_>, len: u64) -> Result<(), Stop> {
+        let place = self.places.get(blob.partition, blob.name)?;
+        let mut kept = self.open.take(place, blob.len)?;
         // Marked before, since a cut that fails may have cut.
         kept.is_written = true;
-        let done = resize(&kept.file, old, new);
+        let done = resize(&kept.file, blob.len, len);
         self.open.keep(place.number, kept)?;
         done
     }
 
-    /// Settles a blob of this length.
-    pub fn sync(&mut self, partition: &str, name: &[u8], len: u64) -> Result<(), Stop> {
-        let place = self.places.get(partition, name)?;
-        let mut kept = self.open.take(place, len)?;
+    /// Settles a blob.
+    pub fn sync(&mut self, blob: Blob<'_>) -> Result<(), Stop> {
+        let place = self.places.get(blob.partition, blob.name)?;
+        let mut kept = self.open.take(place, blob.len)?;
         // Before it counts as not written: one that is written is synced where it is closed.
-        let settled = settle(&kept.file, Some(len));
+        let settled = settle(&kept.file, Some(blob.len));
         kept.is_written = kept.is_written && settled.is_err();
         self.open.keep(place.number, kept)?;
         settled?;
@@ -187,6 +182,7 @@ impl<R: Files + Clone + Drop> BlobFiles<R> {
         let place = self.places.get(partition, name)?;
         // Taken back before the removal, since the sync behind it may fail.
         self.folders.unsettle(partition);
+        // The file goes now, and its name with it: no call before this one has touched either.
         match fs::remove_file(&self.rt, place.path.as_str()) {
             Ok(()) => {}
             Err(e) if e.kind() == ErrorKind::NotFound => {}
@@ -203,8 +199,23 @@ impl<R: Files + Clone + Drop> BlobFiles<R> {
         self.folders.settle_removals(partition)
     }
 
-    /// The path that a blob's file has or would have, for a message.
-    pub fn shown_path(&self, partition: &str, name: &[u8]) -> Result<String, AllocError> {
-        self.places.path(partition, name)
+    /// The path of what a call of this blob stopped at, for a message.
+    pub fn path_at(
+        &self,
+        place: Place,
+        partition: &str,
+        name: &[u8],
+    ) -> Result<String, AllocError> {
+        let root = self.folders.root();
+        match place {
+            Place::Blob => self.places.path(partition, name),
+            Place::File(number) => match self.places.path_of_number(number) {
+                Some(path) => String::from_str(self.alloc, path),
+                None => String::from_str(self.alloc, root.path()),
+            },
+            Place::Partition => root.path_of(partition),
+            Place::Root => String::from_str(self.alloc, root.path()),
+            Place::Lock => root.lock_path(),
+        }
     }
 }

@@ -1,8 +1,9 @@
 // The folders of a device: the root and one for each partition.
 use crate::file_device::file::synced;
-use crate::file_device::names::{LOCK_NAME, blob_name, joined};
+use crate::file_device::names::blob_name;
 use crate::file_device::open_files::open_file;
-use crate::file_device::stop::Stop;
+use crate::file_device::root::{Root, make_folder};
+use crate::file_device::stop::{Place, Stop, at};
 use std::alloc::{AllocError, Global};
 use std::collections::BTreeSet;
 use std::fs;
@@ -28,8 +29,8 @@ pub struct Folders<R: Files + Clone + Drop> {
     rt: R,
     /// Where memory for paths and names comes from.
     alloc: Global,
-    /// The path of the root.
-    root: String,
+    /// The root, which is made and settled where it has to be.
+    root: Root,
     /// The lock of the root. Once it is held, it stays so.
     lock: Lock<R::File>,
     /// The partitions whose folder was synced into the root, so that its name outlasts a crash.
@@ -55,41 +56,6 @@ fn sync_if_there<R: Files>(rt: &R, folder: &str) -> Result<bool, Stop> {
         Err(e) if e.kind() == ErrorKind::NotFound => Ok(false),
         Err(e) => Err(Stop::from(e)),
     }
-}
-
-// The folder above this one.
-fn above(folder: &str) -> &str {
-    match folder.rsplit_once('/') {
-        Some((above, _)) if above.is_empty() => "/",
-        Some((above, _)) => above,
-        None => ".",
-    }
-}
-
-// Makes a folder, if it is absent.
-fn make_folder<R: Files>(rt: &R, folder: &str) -> Result<(), Stop> {
-    match fs::create_dir(rt, folder) {
-        // Synced now, since no later call looks at the folder above.
-        Ok(()) => sync_folder(rt, above(folder)),
-        Err(_) if fs::metadata(rt, folder).is_ok() => Ok(()),
-        Err(e) => Err(Stop::from(e)),
-    }
-}
-
-// Makes the folder that stands before a slash at `end`, if one is there.
-fn make_ancestor<R: Files>(rt: &R, path: &str, end: usize) -> Result<(), Stop> {
-    match path.split_at_checked(end) {
-        Some((folder, rest)) if rest.starts_with('/') => make_folder(rt, folder),
-        _ => Ok(()),
-    }
-}
-
-// Makes a folder and those above it, if they are absent, the highest first.
-fn make_folders<R: Files>(rt: &R, path: &str) -> Result<(), Stop> {
-    for end in 1..path.len() {
-        make_ancestor(rt, path, end)?;
-    }
-    make_folder(rt, path)
 }
 
 // The names of the blobs that have a file in the folder, in any order. A folder that is not there has none.
@@ -126,7 +92,7 @@ impl<R: Files + Clone + Drop> Folders<R> {
         Ok(Folders {
             rt: rt.clone()?,
             alloc,
-            root: String::from_str(alloc, root)?,
+            root: Root::new(alloc, root)?,
             lock: if alone { Lock::Wanted } else { Lock::Unwanted },
             rooted: BTreeSet::new(alloc),
             settled: BTreeSet::new(alloc),
@@ -134,43 +100,40 @@ impl<R: Files + Clone + Drop> Folders<R> {
     }
 
     /// The root.
-    pub fn root(&self) -> &str {
-        self.root.as_str()
+    pub fn root(&self) -> &Root {
+        &self.root
     }
 
-    /// Takes the lock, where it is wanted and not held.
+    /// Takes the lock, where it is wanted and not held. The root is made for it, and its name settled where this device made it.
     pub fn enter(&mut self) -> Result<(), Stop> {
         if !matches!(&self.lock, Lock::Wanted) {
             return Ok(());
         }
-        let path = joined(self.alloc, self.root.as_str(), LOCK_NAME)?;
+        let path = self.root.lock_path()?;
         // Before the lock: its file stands in the root.
-        make_folders(&self.rt, self.root.as_str())?;
+        at(Place::Root, self.root.make(&self.rt))?;
         match open_file(&self.rt, path.as_str(), true) {
             Ok(file) => {
                 self.lock = Lock::Held(file);
                 Ok(())
             }
-            Err(Stop::System(e)) if e.kind() == ErrorKind::WouldBlock => Err(Stop::InUse),
-            Err(stop) => Err(stop),
+            Err(Stop::System(_, e)) if e.kind() == ErrorKind::WouldBlock => Err(Stop::InUse),
+            Err(stop) => at(Place::Lock, Err(stop)),
         }
     }
 
-    fn path(&self, partition: &str) -> Result<String, AllocError> {
-        joined(self.alloc, self.root.as_str(), partition)
-    }
-
-    /// The names of the blobs in a partition, in any order. What the system lists outlasts a crash.
+    /// The names of the blobs in a partition, in any order. What the system lists outlasts a crash, as far as the name of the
+    /// partition's folder does.
     pub fn names(&mut self, alloc: Global, partition: &str) -> Result<Vec<Vec<u8>>, Stop> {
-        let folder = self.path(partition)?;
+        let folder = self.root.path_of(partition)?;
         if !self.settled.contains(partition) {
             // Synced before the names are read: a program that ended may have left a removal that only the system's memory knows.
-            if !sync_if_there(&self.rt, folder.as_str())? {
+            if !at(Place::Partition, sync_if_there(&self.rt, folder.as_str()))? {
                 return Ok(Vec::new(alloc));
             }
             self.note_settled(partition);
         }
-        names_in(&self.rt, alloc, folder.as_str())
+        at(Place::Partition, names_in(&self.rt, alloc, folder.as_str()))
     }
 
     /// Makes the folder of a partition, where it is absent and not known to be there.
@@ -178,32 +141,32 @@ impl<R: Files + Clone + Drop> Folders<R> {
         if self.rooted.contains(partition) {
             return Ok(());
         }
-        let folder = self.path(partition)?;
-        match fs::create_dir(&self.rt, folder.as_str()) {
-            Ok(()) => Ok(()),
-            Err(e) if e.kind() == ErrorKind::AlreadyExists => Ok(()),
-            Err(e) if e.kind() == ErrorKind::NotFound => {
-                make_folders(&self.rt, self.root.as_str())?;
-                fs::create_dir(&self.rt, folder.as_str())?;
-                Ok(())
+        let folder = self.root.path_of(partition)?;
+        match make_folder(&self.rt, folder.as_str()) {
+            Err(Stop::System(_, e)) if e.kind() == ErrorKind::NotFound => {
+                at(Place::Root, self.root.make(&self.rt))?;
+                // Only now, with the root there.
+                at(Place::Partition, make_folder(&self.rt, folder.as_str()))
             }
-            Err(e) => Err(Stop::from(e)),
+            made => at(Place::Partition, made),
         }
     }
 
-    /// Makes the names of a partition's files, and of its folder, outlast a crash. What is known to do so is not synced again;
+    /// Makes the names of a partition's files, of its folder, and of the root, outlast a crash. What is known to do so is not synced again;
     /// of what was there before the device was made nothing is known.
     pub fn settle(&mut self, partition: &str) -> Result<(), Stop> {
+        // The root's own name comes first: without it all that is in it would be lost with it.
+        at(Place::Root, self.root.settle(&self.rt))?;
         if !self.rooted.contains(partition) {
-            // The folder's own name comes first: without it those in it would be lost with it.
-            sync_folder(&self.rt, self.root.as_str())?;
+            // Then that of the partition's folder, before those in it.
+            at(Place::Root, sync_folder(&self.rt, self.root.path()))?;
             self.rooted
                 .insert(String::from_str(self.alloc, partition)?)?;
         }
         if !self.settled.contains(partition) {
-            let folder = self.path(partition)?;
+            let folder = self.root.path_of(partition)?;
             // Also where the file was there before: the run that made it may have failed before its sync.
-            sync_folder(&self.rt, folder.as_str())?;
+            at(Place::Partition, sync_folder(&self.rt, folder.as_str()))?;
             self.note_settled(partition);
         }
         Ok(())
@@ -217,8 +180,9 @@ impl<R: Files + Clone + Drop> Folders<R> {
     /// Makes the removals in a partition outlast a crash. It also syncs where nothing was removed, since the call that did may
     /// have failed before it came to this.
     pub fn settle_removals(&mut self, partition: &str) -> Result<(), Stop> {
-        let folder = self.path(partition)?;
-        if sync_if_there(&self.rt, folder.as_str())? {
+        let folder = self.root.path_of(partition)?;
+        // Behind the removals, which are in the folder's names.
+        if at(Place::Partition, sync_if_there(&self.rt, folder.as_str()))? {
             self.note_settled(partition);
         }
         Ok(())

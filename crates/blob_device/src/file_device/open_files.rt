@@ -1,7 +1,7 @@
 // The open files of a device, of which there is a bounded number.
 use crate::file_device::file::{check_len, synced};
-use crate::file_device::places::Place;
-use crate::file_device::stop::Stop;
+use crate::file_device::places::BlobFile;
+use crate::file_device::stop::{Place, Stop, at};
 use lru::LruCache;
 use std::alloc::{AllocError, Global};
 use std::fs::{OpenFile, OpenOptions};
@@ -55,7 +55,7 @@ impl<R: Files + Clone + Drop> OpenFiles<R> {
     }
 
     /// Takes the file of a blob of this length out of the open ones, or opens it. It comes back by [`keep`](OpenFiles::keep).
-    pub fn take(&mut self, place: &Place, len: u64) -> Result<Kept<R::File>, Stop> {
+    pub fn take(&mut self, place: &BlobFile, len: u64) -> Result<Kept<R::File>, Stop> {
         if let Some(kept) = self.kept.pop(&place.number) {
             return Ok(kept);
         }
@@ -65,7 +65,7 @@ impl<R: Files + Clone + Drop> OpenFiles<R> {
     }
 
     /// Takes the file of a blob out of the open ones, or opens it, if it is there.
-    pub fn find(&mut self, place: &Place) -> Result<Kept<R::File>, Stop> {
+    pub fn find(&mut self, place: &BlobFile) -> Result<Kept<R::File>, Stop> {
         match self.kept.pop(&place.number) {
             Some(kept) => Ok(kept),
             None => self.open(place, false),
@@ -73,7 +73,7 @@ impl<R: Files + Clone + Drop> OpenFiles<R> {
     }
 
     /// Opens the file of a blob, which is made if `makes` says so.
-    pub fn open(&mut self, place: &Place, makes: bool) -> Result<Kept<R::File>, Stop> {
+    pub fn open(&mut self, place: &BlobFile, makes: bool) -> Result<Kept<R::File>, Stop> {
         self.make_room()?;
         let file = open_file(&self.rt, place.path.as_str(), makes)?;
         Ok(Kept {
@@ -88,7 +88,7 @@ impl<R: Files + Clone + Drop> OpenFiles<R> {
             return Ok(());
         }
         match self.kept.pop_lru() {
-            Some((_, kept)) => close(kept),
+            Some((number, kept)) => at(Place::File(number), close(kept)),
             None => Ok(()),
         }
     }
@@ -96,7 +96,7 @@ impl<R: Files + Clone + Drop> OpenFiles<R> {
     /// Keeps a file open. Where there is no memory for that, it is closed, and the next call opens it again.
     pub fn keep(&mut self, number: u64, kept: Kept<R::File>) -> Result<(), Stop> {
         match self.kept.push(number, kept) {
-            Ok(Some((_, other))) => close(other),
+            Ok(Some((number, other))) => at(Place::File(number), close(other)),
             Ok(None) => Ok(()),
             Err(failed) => close(failed.value.1),
         }

@@ -8,7 +8,7 @@ use std::alloc::{AllocError, Global};
 
 /// The file of a blob: its path, and a number that no other blob of the device has.
 #[derive(Drop)]
-pub struct Place {
+pub struct BlobFile {
     /// Its number, from 1. No number is given twice.
     pub number: u64,
     /// The path of its file.
@@ -23,7 +23,7 @@ pub struct Places {
     /// The path of the root.
     root: String,
     /// The place of each blob that was named and not removed since.
-    known: Table<Place>,
+    known: Table<BlobFile>,
     /// How many numbers were given: the last one, up to the end of a u64.
     made: u64,
 }
@@ -40,7 +40,7 @@ impl Places {
     }
 
     /// The place of a blob.
-    pub fn get(&mut self, partition: &str, name: &[u8]) -> Result<&Place, AllocError> {
+    pub fn get(&mut self, partition: &str, name: &[u8]) -> Result<&BlobFile, AllocError> {
         self.note(partition, name)?;
         match self.known.get(partition.as_bytes(), name) {
             Some(place) => Ok(place),
@@ -58,7 +58,7 @@ impl Places {
         let path = self.path(partition, name)?;
         // As many blobs as a u64 counts are never opened.
         self.made = self.made.saturating_add(1);
-        let place = Place {
+        let place = BlobFile {
             number: self.made,
             path,
         };
@@ -70,6 +70,18 @@ impl Places {
     pub fn path(&self, partition: &str, name: &[u8]) -> Result<String, AllocError> {
         let folder = joined(self.alloc, self.root.as_str(), partition)?;
         file_path(self.alloc, folder.as_str(), name)
+    }
+
+    /// The path of the file with this number, where its blob is known.
+    pub fn path_of_number(&self, number: u64) -> Option<&str> {
+        for names in self.known.partitions.values() {
+            for place in names.values() {
+                if place.number == number {
+                    return Some(place.path.as_str());
+                }
+            }
+        }
+        None
     }
 
     /// Forgets the place of a blob that is gone.

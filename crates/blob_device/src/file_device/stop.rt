@@ -3,6 +3,21 @@ use std::alloc::{AllocError, AllocFailed};
 use std::io;
 use thiserror::Error;
 
+/// Which file or folder a call stopped at.
+#[derive(Clone, Copy, Debug)]
+pub enum Place {
+    /// The file of the blob that the call names.
+    Blob,
+    /// The file of another blob, by its number: it had to be closed.
+    File(u64),
+    /// The folder of the partition that the call names.
+    Partition,
+    /// The root, or a folder above it.
+    Root,
+    /// The file by which a device has the root alone.
+    Lock,
+}
+
 /// What stopped a call. All but the want of memory are faults of the device.
 #[derive(Debug, Drop, Error)]
 pub enum Stop {
@@ -16,17 +31,45 @@ pub enum Stop {
     #[error("the file is shorter than the blob")]
     TooShort,
     /// A sync failed. What it was to write may be lost.
-    #[error("the sync failed: {0}")]
-    Sync(io::Error),
+    #[error("the sync failed: {1}")]
+    Sync(Place, io::Error),
     /// An earlier sync failed.
     #[error("an earlier sync failed, and what it was to write may be lost")]
     Lost,
     /// The system failed.
-    #[error("{0}")]
-    System(io::Error),
+    #[error("{1}")]
+    System(Place, io::Error),
     /// There was no memory.
-    #[error("out of memory")]
+    #[error("there was no memory")]
     NoMemory,
+}
+
+impl Stop {
+    /// Where the call stopped.
+    pub fn place(&self) -> Place {
+        match self {
+            Stop::Sync(place, _) | Stop::System(place, _) => *place,
+            Stop::InUse => Place::Root,
+            Stop::BadPartition | Stop::TooShort | Stop::Lost | Stop::NoMemory => Place::Blob,
+        }
+    }
+
+    /// The same, where the system failed at this place and not at the blob's file.
+    fn moved(self, place: Place) -> Stop {
+        match self {
+            Stop::Sync(_, error) => Stop::Sync(place, error),
+            Stop::System(_, error) => Stop::System(place, error),
+            other => other,
+        }
+    }
+}
+
+/// What something came to that was done at this place.
+pub fn at<T>(place: Place, done: Result<T, Stop>) -> Result<T, Stop> {
+    match done {
+        Ok(value) => Ok(value),
+        Err(stop) => Err(stop.moved(place)),
+    }
 }
 
 impl From<io::Error> for Stop {
@@ -34,7 +77,7 @@ impl From<io::Error> for Stop {
         if error.kind() == io::ErrorKind::OutOfMemory {
             Stop::NoMemory
         } else {
-            Stop::System(error)
+            Stop::System(Place::Blob, error)
         }
     }
 }
