@@ -32,7 +32,7 @@ pub fn text_of(alloc: Global, answer: &Result<Said, DevError>) -> Result<String,
         Ok(Said::Log(None)) => String::from_str(alloc, "absent"),
         Ok(Said::Runs(text)) => text.clone(),
         Ok(Said::Refused) => String::from_str(alloc, "refused: no such command"),
-        Err(error) => format!(in alloc; "{error}"),
+        Err(error) => String::from_str(alloc, device_word(*error)),
     }
 }
 
@@ -46,9 +46,19 @@ pub fn digits(alloc: Global, bytes: &[u8]) -> Result<String, AllocError> {
 
 // How an append ended.
 fn ended(alloc: Global, end: Result<(), LogError>) -> Result<String, AllocError> {
-    match end {
-        Ok(()) => String::from_str(alloc, "ok"),
-        Err(error) => format!(in alloc; "{error}"),
+    let word = match end {
+        Ok(()) => "ok",
+        Err(LogError::Device(error)) => device_word(error),
+        Err(LogError::Full) => "the log is full",
+    };
+    String::from_str(alloc, word)
+}
+
+// The words by which a scenario names an error of the device.
+fn device_word(error: DevError) -> &'static str {
+    match error {
+        DevError::Fault => "runtime fault",
+        DevError::Mem => "memory",
     }
 }
 

@@ -25,9 +25,24 @@ fn carried_out(alloc: Global, dev: &mut Memory, step: &Step) -> Result<Said, Dev
     match step.word() {
         "calls" => Ok(Said::Number(dev.calls())),
         "faults" => Ok(Said::Number(dev.faults())),
-        "log" => Ok(Said::Log(left(alloc, dev, choice(step))?)),
+        "log" => logged(alloc, dev, step),
         "remove" | "crash" | "fail" | "fuse" => remake(alloc, dev, step),
-        _ => appended(alloc, dev, step, &records_of(alloc, step)?),
+        _ => match records_of(alloc, step)? {
+            Some(records) => appended(alloc, dev, step, &records),
+            None => Ok(Said::Refused),
+        },
+    }
+}
+
+// The log as it reads, or as the crash leaves it that the step names.
+fn logged(alloc: Global, dev: &Memory, step: &Step) -> Result<Said, DevError> {
+    let choice = match step.argument(0) {
+        "" => Some(CrashChoice::AsRead),
+        _ => choice(step),
+    };
+    match choice {
+        Some(choice) => Ok(Said::Log(left(alloc, dev, choice)?)),
+        None => Ok(Said::Refused),
     }
 }
 
@@ -48,24 +63,26 @@ fn appended(
     }
 }
 
-// The records that a step names.
-fn records_of(alloc: Global, step: &Step) -> Result<Vec<Vec<u8>>, AllocError> {
+// The records that a step names; none where one is not hexadecimal.
+fn records_of(alloc: Global, step: &Step) -> Result<Option<Vec<Vec<u8>>>, AllocError> {
     let mut records = Vec::new(alloc);
     for at in 0..step.rest().len() {
-        let record = step.bytes(alloc, at)?;
-        records.push(record.unwrap_or(Vec::new(alloc)))?;
+        match step.bytes(alloc, at)? {
+            Some(record) => records.push(record)?,
+            None => return Ok(None),
+        }
     }
-    Ok(records)
+    Ok(Some(records))
 }
 
 // Removes the log, begins anew over what a crash leaves, or says which calls fail.
 fn remake(alloc: Global, dev: &mut Memory, step: &Step) -> Result<Said, DevError> {
-    match (step.word(), step.number(0)) {
-        ("fail", Some(nth)) => dev.fail_at(nth)?,
-        ("fuse", Some(nth)) => dev.fuse_at(nth),
-        ("remove", _) => dev.remove("p", b"log")?,
-        ("crash", _) => {
-            let image = dev.pick_crash(alloc, choice(step))?;
+    match (step.word(), step.number(0), choice(step)) {
+        ("fail", Some(nth), _) => dev.fail_at(nth)?,
+        ("fuse", Some(nth), _) => dev.fuse_at(nth),
+        ("remove", _, _) => dev.remove("p", b"log")?,
+        ("crash", _, Some(choice)) => {
+            let image = dev.pick_crash(alloc, choice)?;
             *dev = Memory::from_image(alloc, image)?;
         }
         _ => return Ok(Said::Refused),
@@ -73,11 +90,12 @@ fn remake(alloc: Global, dev: &mut Memory, step: &Step) -> Result<Said, DevError
     Ok(Said::Done)
 }
 
-// The crash that a step names; as the device reads where it names none.
-fn choice(step: &Step) -> CrashChoice {
+// The crash that a step names, if it names one.
+fn choice(step: &Step) -> Option<CrashChoice> {
     match (step.argument(0), step.number(1)) {
-        ("settled", _) => CrashChoice::Settled,
-        ("mixed", Some(bits)) => CrashChoice::Mixed(bits),
-        _ => CrashChoice::AsRead,
+        ("settled", _) => Some(CrashChoice::Settled),
+        ("as-read", _) => Some(CrashChoice::AsRead),
+        ("mixed", Some(bits)) => Some(CrashChoice::Mixed(bits)),
+        _ => None,
     }
 }

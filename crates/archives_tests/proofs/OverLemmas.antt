@@ -1,6 +1,6 @@
 -- An archive may still be used behind each call that gives it back.
 use Rattle.std.specs.Prelude.{IfOk}
-use Rattle.std.proofs.Common.{◌≡◌, inl, refl, ℕ, List, Result, Ok, Err}
+use Rattle.std.proofs.Common.{inl, refl, ℕ, List, Result, Ok, Err}
 use Rattle.blob_device.specs.declared.device.Device as device
 use Rattle.archives.specs.Changes.{Asked, Changes, ChangesDurably, MayUse, Meaning, Settles}
 use Rattle.archives.specs.Commands.{PutSync, Sync}

@@ -2,6 +2,7 @@
 ghost use Rattle.archives_tests.specs.Over.{IsOver};
 
 use crate::changes::key_at;
+use crate::error_words::ErrorWords;
 use crate::run::Opens;
 use crate::sample::Sample;
 use archives::{Error, Identifier};
@@ -76,7 +77,7 @@ fn value_text(alloc: Global, found: Result<Option<Sample>, Error>) -> Result<Str
             let digits = hex::encode(alloc, value.bytes.as_slice())?;
             format!(in alloc; "value {}", digits.as_str())
         }
-        Err(error) => format!(in alloc; "error {error}"),
+        Err(error) => format!(in alloc; "error {}", ErrorWords(&error)),
     }
 }
 
@@ -85,6 +86,6 @@ fn flag_text(alloc: Global, holds: Result<bool, Error>) -> Result<String, AllocE
     match holds {
         Ok(true) => String::from_str(alloc, "yes"),
         Ok(false) => String::from_str(alloc, "no"),
-        Err(error) => format!(in alloc; "error {error}"),
+        Err(error) => format!(in alloc; "error {}", ErrorWords(&error)),
     }
 }

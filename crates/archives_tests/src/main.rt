@@ -26,6 +26,7 @@
 
 mod asked;
 mod changes;
+mod error_words;
 mod looks;
 mod records;
 mod run;

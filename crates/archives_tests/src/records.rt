@@ -1,10 +1,12 @@
 // Steps that only ask what a call answers: errors, words of keys, and records of the index.
 use crate::changes::key_at;
+use crate::error_words::ErrorWords;
 use archives::prunable::IndexRecord;
 use archives::{Error, FourCap, Translator};
 use blob_device::RError;
 use meta_store::Side;
 use paired::Record;
+use scenario_errors::CodecWords;
 use scenario_text::Step;
 use segments::journal::{self, Damage};
 use std::alloc::{AllocError, AllocFailed, Global};
@@ -62,10 +64,10 @@ fn errors(alloc: Global) -> Result<String, AllocError> {
     Ok(said)
 }
 
-// Adds the text of an error.
+// Adds the words for an error.
 fn add(said: &mut String, error: Error) -> Result<(), AllocError> {
     let between = if said.is_empty() { "" } else { " / " };
-    write!(said, "{between}{error}")
+    write!(said, "{between}{}", ErrorWords(&error))
 }
 
 // The word of a key.
@@ -94,7 +96,7 @@ fn spelled<K: Key>(alloc: Global, step: &Step) -> Result<String, AllocError> {
     out.push(0xff)?;
     match record.write(&mut out) {
         Ok(()) => hex::encode(alloc, out.as_slice()),
-        Err(error) => format!(in alloc; "error {error}"),
+        Err(error) => format!(in alloc; "error {}", CodecWords(error)),
     }
 }
 
@@ -103,7 +105,7 @@ fn read<K: Key>(alloc: Global, step: &Step) -> Result<String, AllocError> {
     let bytes = step.bytes(alloc, 1)?.unwrap_or(Vec::new(alloc));
     let record = match IndexRecord::<K>::decode_cfg(alloc, bytes.as_slice(), ()) {
         Ok(record) => record,
-        Err(error) => return format!(in alloc; "error {error}"),
+        Err(error) => return format!(in alloc; "error {}", CodecWords(error)),
     };
     let key = hex::encode(alloc, record.key().as_bytes())?;
     let (offset, size) = record.value_location();

@@ -6,6 +6,7 @@ ghost use Rattle.archives_tests.specs.declared.sample.Sample.{Sample};
 
 use crate::asked::{Notes, asked};
 use crate::changes::{Change, Put, change_of, choice_of};
+use crate::error_words::ErrorWords;
 use crate::looks::looked;
 use crate::sample::Sample;
 use crate::settings::Settings;
@@ -87,7 +88,7 @@ fn open<A: Opens>(
     }
     match A::open(alloc, dev, settings) {
         Ok(archive) => Ok((Some(archive), String::from_str(alloc, "ok")?)),
-        Err(error) => Ok((None, format!(in alloc; "error {error}")?)),
+        Err(error) => Ok((None, format!(in alloc; "error {}", ErrorWords(&error))?)),
     }
 }
 
@@ -130,7 +131,7 @@ fn on_archive<A: Opens>(
     };
     match changed(dev, archive, change) {
         Ok(archive) => Ok((Some(archive), String::from_str(alloc, "ok")?)),
-        Err(error) => Ok((None, format!(in alloc; "error {error}")?)),
+        Err(error) => Ok((None, format!(in alloc; "error {}", ErrorWords(&error))?)),
     }
 }
 

@@ -48,13 +48,13 @@ pub enum Error {
     #[error("{0}")]
     Runtime(RError),
     /// The copy is sealed, but it is no text of a map, or it is the right one and has the version of the left one.
-    #[error("corruption {0}")]
+    #[error("the {0} copy of the map is damaged")]
     Corruption(Side),
     /// The next version would pass the greatest `u64`. Nothing was written.
-    #[error("full")]
+    #[error("the map has no next version")]
     Full,
     /// There was no memory for the call.
-    #[error("memory")]
+    #[error("there was no memory")]
     Mem,
 }
 

@@ -1,6 +1,7 @@
 // What images hold, by the plain reading and by opening the map.
 use crate::plain::{Entries, number, reading, text_of};
 use crate::session::{Map, opened};
+use crate::words::error_text;
 use blob_device::{CrashChoice, DevError, Image, Memory};
 use std::alloc::{AllocError, Global};
 use value_codec::Key;
@@ -22,7 +23,7 @@ pub fn judged(alloc: Global, image: &Image) -> Result<String, DevError> {
     let mut dev = Memory::from_image(alloc, image.copy(alloc)?)?;
     let held = match opened(alloc, &mut dev) {
         Ok(map) => text_of(alloc, &entries(alloc, &map)?)?,
-        Err(e) => format!(in alloc; "{e}")?,
+        Err(e) => error_text(alloc, e)?,
     };
     let mut said = match plain.version {
         Some(version) => format!(in alloc; "version {version}: {}", plain.entries.as_str())?,

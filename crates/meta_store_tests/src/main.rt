@@ -26,7 +26,7 @@
 //! | `get K`, `entries` | a value, all entries |
 //! | `sync`, `start-sync`, `put-sync K V` | makes what is staged durable |
 //! | `destroy` | removes the map |
-//! | `errors` | the texts of the errors |
+//! | `errors` | the words for the errors |
 //!
 //! `each-call-fails` and `each-call-stops` run the commands behind them with call 0, 1, 2, ..
 //! failing, alone or with all calls behind it, until a run has no failure. They say what crashes
@@ -37,6 +37,7 @@ mod judge;
 mod plain;
 mod session;
 mod steps;
+mod words;
 
 use blob_device::{DevError, Image, Memory};
 use scenario_text::{Driver, Report, Scenario, Step, run_files};

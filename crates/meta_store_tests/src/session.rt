@@ -3,6 +3,7 @@ ghost use Rattle.std.specs.Prelude.{◌≡◌, Ok, IfOk, IfSome};
 ghost use Rattle.meta_store_tests.specs.Over.{IsOver};
 
 use crate::steps::{asked, image_after, plan, settle, stage};
+use crate::words::error_text;
 use blob_device::{DevError, Memory};
 use meta_store::{Config, Error, Metadata};
 use scenario_text::{Report, Step};
@@ -99,6 +100,6 @@ pub fn told(alloc: Global, done: Result<Map, Error>) -> Result<(Option<Map>, Str
 {
     match done {
         Ok(map) => Ok((Some(map), String::from_str(alloc, "ok")?)),
-        Err(e) => Ok((None, format!(in alloc; "{e}")?)),
+        Err(e) => Ok((None, error_text(alloc, e)?)),
     }
 }

@@ -7,6 +7,7 @@ ghost use Rattle.meta_store_tests.specs.Over.{IsOver, map_format};
 use crate::judge::{crashes, entries, judged};
 use crate::plain::text_of;
 use crate::session::{Map, told};
+use crate::words::error_text;
 use blob_device::{CrashChoice, DevError, Device, Image, Memory, RError};
 use meta_store::{Error, Side};
 use scenario_text::Step;
@@ -97,7 +98,7 @@ fn bytes_of(alloc: Global, image: &Image, step: &Step) -> Result<String, AllocEr
     Ok(text)
 }
 
-/// The texts of the errors, and what errors of the device become.
+/// The words for the errors, and what errors of the device become.
 fn errors(alloc: Global) -> Result<String, AllocError> {
     let mut text = String::new(alloc);
     for error in [
@@ -111,7 +112,8 @@ fn errors(alloc: Global) -> Result<String, AllocError> {
         Error::from(RError::Mem),
     ] {
         let between = if text.is_empty() { "" } else { ", " };
-        write!(&mut text, "{between}{error}")?;
+        let words = error_text(alloc, error)?;
+        write!(&mut text, "{between}{}", words.as_str())?;
     }
     Ok(text)
 }
@@ -138,7 +140,7 @@ pub fn stage(alloc: Global, map: Map, step: &Step) -> Result<(Map, String), DevE
     let said = match (step.word(), step.number(0), step.number(1)) {
         ("put", Some(at), Some(value)) => match map.put(key(at), value) {
             Ok(()) => String::from_str(alloc, "ok")?,
-            Err(e) => format!(in alloc; "{e}")?,
+            Err(e) => error_text(alloc, e)?,
         },
         ("change", Some(at), Some(value)) => return changed(alloc, map, &key(at), value),
         ("keep-below", Some(bound), _) => {

@@ -41,7 +41,7 @@ pub fn text_of(alloc: Global, answer: &Result<Said, RMapError>) -> Result<String
             format!(in alloc; "differ after -{start}..{end}")
         }
         Ok(Said::Refused(why)) => format!(in alloc; "refused: {why}"),
-        Err(error) => format!(in alloc; "{error}"),
+        Err(RMapError::Mem) => String::from_str(alloc, "memory"),
     }
 }
 

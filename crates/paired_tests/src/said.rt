@@ -1,5 +1,6 @@
 // What a command says.
 use crate::notes::Note;
+use scenario_errors::JournalWords;
 use segments::journal::Error;
 use std::alloc::{AllocError, Global};
 
@@ -58,7 +59,7 @@ pub fn text_of(alloc: Global, answer: &Result<Said, Error>) -> Result<String, Al
         Ok(Said::Text(text)) => String::from_str(alloc, text.as_str()),
         Ok(Said::Items(items)) => items_text(alloc, items.as_slice()),
         Ok(Said::Refused(why)) => format!(in alloc; "refused: {why}"),
-        Err(error) => format!(in alloc; "error {error}"),
+        Err(error) => format!(in alloc; "error {}", JournalWords(error)),
     }
 }
 
@@ -72,7 +73,7 @@ fn items_text(alloc: Global, items: &[Item]) -> Result<String, AllocError> {
         match item {
             Item::Section(section) => write!(text, "{section}")?,
             Item::Record(section, at, number) => write!(text, "{section} {at} {number}")?,
-            Item::Failure(error) => write!(text, "error {error}")?,
+            Item::Failure(error) => write!(text, "error {}", JournalWords(error))?,
         }
     }
     if text.is_empty() {

@@ -56,8 +56,23 @@ pub fn text_of(alloc: Global, answer: &Result<Said, Stop>) -> Result<String, All
             let prefix = digits(alloc, bytes)?;
             format!(in alloc; "{prefix}/{size}")
         }
-        Err(Stop::Failed(error)) => format!(in alloc; "error {error}"),
+        Err(Stop::Failed(error)) => error_text(alloc, *error),
         Err(Stop::Refused(why)) => format!(in alloc; "refused: {why}"),
+    }
+}
+
+// The words by which a scenario names an error.
+fn error_text(alloc: Global, error: RError) -> Result<String, AllocError> {
+    match error {
+        RError::Fault => String::from_str(alloc, "error runtime fault"),
+        RError::InvalidChecksum(page) => {
+            format!(in alloc; "error runtime invalid-checksum {page}")
+        }
+        RError::BlobInsufficientLength => {
+            String::from_str(alloc, "error runtime insufficient-length")
+        }
+        RError::OffsetOverflow => String::from_str(alloc, "error runtime offset-overflow"),
+        RError::Mem => String::from_str(alloc, "error memory"),
     }
 }
 

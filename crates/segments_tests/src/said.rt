@@ -1,4 +1,5 @@
 // What a command says.
+use scenario_errors::JournalWords;
 use segments::journal::Error;
 use std::alloc::{AllocError, Global};
 use value_codec::HexName;
@@ -43,7 +44,7 @@ pub fn text_of(alloc: Global, answer: &Result<Said, Error>) -> Result<String, Al
         Ok(Said::Maybe(None)) => String::from_str(alloc, "none"),
         Ok(Said::Text(text)) => String::from_str(alloc, text),
         Ok(Said::Row(row)) => row_text(alloc, row.as_slice()),
-        Err(error) => format!(in alloc; "{error}"),
+        Err(error) => format!(in alloc; "{}", JournalWords(error)),
     }
 }
 
@@ -61,8 +62,8 @@ fn row_text(alloc: Global, row: &[Part]) -> Result<String, AllocError> {
             Part::Bound(section, Some(item)) => write!(text, "{section}:{item}"),
             Part::Bound(section, None) => write!(text, "{section}:none"),
             Part::Item(section, position, item) => write!(text, "{section}:{position}:{item}"),
-            Part::Given(error) => write!(text, "[{error}]"),
-            Part::Refused(error) => write!(text, "{error}"),
+            Part::Given(error) => write!(text, "[{}]", JournalWords(error)),
+            Part::Refused(error) => write!(text, "{}", JournalWords(error)),
         };
         written?;
     }

@@ -14,6 +14,7 @@ use std::marker::Model;
 /// Any bytes; the configuration is the greatest length.
 #[derive(Debug, Drop)]
 pub struct ByteValue {
+    // as they were given: never changed
     bytes: Vec<u8>,
 }
 

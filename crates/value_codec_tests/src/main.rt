@@ -1,7 +1,7 @@
 //! The tests of `value_codec`: scenarios in the files of `data`, whose steps each call the library.
 //!
-//! Numbers are decimal. Bytes are hexadecimal, and `-` is no byte. A call that is refused says its
-//! error's text.
+//! Numbers are decimal. Bytes are hexadecimal, and `-` is no byte. A call that is refused says the
+//! words for its error.
 //!
 //! | Command | What it says |
 //! |---|---|
@@ -17,7 +17,7 @@
 //! | `size TYPE` | how many bytes each value of `u64`, `i32`, `key8` or `key32` takes |
 //! | `seal BYTES`, `seal2 BYTES BYTES`, `hash BYTES` | eight hexadecimal digits |
 //! | `name BYTES`, `name-bytes BYTES` | the text of a name, and its bytes |
-//! | `error VARIANT [TAG]` | the text of an error |
+//! | `error VARIANT [TAG]` | the words for an error |
 #![tactic(auto)]
 
 mod keys;

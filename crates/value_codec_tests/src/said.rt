@@ -53,7 +53,7 @@ pub fn text_of(alloc: Global, answer: &Result<Said, Stop>) -> Result<String, All
             let written = digits(alloc, bytes)?;
             format!(in alloc; "{written} {size} again")
         }
-        Err(Stop::Failed(error)) => format!(in alloc; "{error}"),
+        Err(Stop::Failed(error)) => error_text(alloc, *error),
         Err(Stop::Refused(why)) => format!(in alloc; "refused: {why}"),
     }
 }
@@ -64,6 +64,18 @@ pub fn compared<T: Eq>(first: &T, second: &T) -> Said {
         (true, false) => Said::Word("equal"),
         (false, true) => Said::Word("different"),
         _ => Said::Word("a contradiction"),
+    }
+}
+
+// The words by which a scenario names an error.
+fn error_text(alloc: Global, error: Error) -> Result<String, AllocError> {
+    match error {
+        Error::EndOfBuffer => String::from_str(alloc, "codec end-of-buffer"),
+        Error::ExtraBytes => String::from_str(alloc, "codec extra-bytes"),
+        Error::TooLong => String::from_str(alloc, "codec too-long"),
+        Error::InvalidVarint => String::from_str(alloc, "codec invalid-varint"),
+        Error::InvalidEnum(tag) => format!(in alloc; "codec invalid-enum {tag}"),
+        Error::Mem => String::from_str(alloc, "memory"),
     }
 }
 

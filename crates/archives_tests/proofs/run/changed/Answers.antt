@@ -1,3 +1,4 @@
+use Rattle.std.proofs.Common.{Ok}
 use Rattle.archives_tests.proofs.OverLemmas.{changed_usable, durable_usable, settled_usable}
 use Rattle.archives_tests.proofs.run.changed.Goals as goal
 
@@ -18,3 +19,9 @@ returns-in-PutSync g c = durable_usable g.A.Archive.meaning _ _ _ _ _ _ _ _ c.pu
 
 pub returns-in-Sync : goal.returns-in-Sync
 returns-in-Sync g c = settled_usable g.A.Archive.meaning _ _ _ _ _ c.sync.ensures
+
+pub returns-in_ok-archive-in-PutStart : goal.returns-in_ok-archive-in-PutStart
+returns-in_ok-archive-in-PutStart g c = durable_usable g.A.Archive.meaning _ _ _ _ _ _ _ (Ok c.in_ok-archive-in-PutStart.archive) c.in_ok-archive-in-PutStart.ensures
+
+pub returns-in_ok-archive-in-Start : goal.returns-in_ok-archive-in-Start
+returns-in_ok-archive-in-Start g c = settled_usable g.A.Archive.meaning _ _ _ _ (Ok c.in_ok-archive-in-Start.archive) c.in_ok-archive-in-Start.ensures
