@@ -9,10 +9,12 @@ use std::alloc::Global;
 /// A device that passes each call on to another one, and counts it. It tells its disk where that one does.
 #[derive(Drop)]
 pub struct Counting<D> {
+    // the device that does the work: each call reaches it once, unchanged
     inner: D,
     // how many bytes a page of an index blob has in the blob
     page_bytes: u64,
     ghost has_bytes: { 1 ≤ page_bytes },
+    // what was counted since it was taken last
     tally: Tally,
 }
 

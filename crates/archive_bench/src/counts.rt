@@ -6,12 +6,19 @@ use std::fmt;
 /// How many calls were made, and how many bytes they moved. Each number stops at the greatest `u64`.
 #[derive(Clone, Copy, Debug, PartialEq, Eq)]
 pub struct Counts {
+    /// Listings of a partition's names.
     pub scans: u64,
+    /// Openings of blobs.
     pub opens: u64,
+    /// Reads of blobs.
     pub reads: u64,
+    /// Writes of blobs.
     pub writes: u64,
+    /// Blobs cut or lengthened.
     pub resizes: u64,
+    /// Blobs settled.
     pub syncs: u64,
+    /// Blobs removed.
     pub removes: u64,
     /// The bytes that the reads asked for.
     pub bytes_read: u64,

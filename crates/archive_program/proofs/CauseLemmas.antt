@@ -34,6 +34,7 @@ refuses f st command from (Journal journal.ValueTooLarge) calm counted why = inr
 refuses f st command from (Journal (journal.Runtime runtime.Fault)) calm counted why = absurd (calm (inl refl))
 refuses f st command from (Metadata (metadata.Runtime runtime.Fault)) calm counted why = absurd (calm (inr refl))
 refuses f st command from (Journal (journal.Runtime runtime.OffsetOverflow)) calm counted why = absurd (why.1 (counted why.0))
+refuses f st command from (Journal (journal.Corruption x)) calm counted why = absurd (omega (arith, counted why.0 x.section why.1.0, why.1.1))
 refuses f st command from e calm counted why = absurd why
 
 memory_or_not : (e : Error) → (e ≡ Mem) ⊎ (e ≡ Mem → ⊥)

@@ -10,7 +10,8 @@ use Rattle.archive_service.specs.declared.serving.StoreConfig.TheVariants.{Pruna
 use Rattle.archive_service.specs.declared.settings.Settings.{Settings}
 use Rattle.archive_program.specs.Program.{program_filing}
 
--- how many pages it holds, and from how many bytes on its buffers of records and of values, and its replay, read or write
+-- how many pages it holds, and from how many bytes on its buffers of records and of values, and its replay, read or
+-- write
 abbrev pub buffers_of : {T C : Type 0} → StoreConfig T C → ℕ × ℕ × ℕ × ℕ
 buffers_of (Prunable cfg) = (cfg.key_pages.cache_pages, cfg.key_write_buffer, cfg.value_write_buffer, cfg.replay_buffer)
 
@@ -21,6 +22,8 @@ pub record IsConfigFor (settings : Settings) (items : ℕ) (store : StoreConfig 
   -- it allows values up to so many bytes
   pub values : codec_config_of store ≡ settings.max_value
   -- its buffers are of the stated sizes
-  pub buffers : buffers_of store ≡ (settings.cache_pages, settings.write_buffer, settings.write_buffer, settings.replay_buffer)
+  pub buffers :
+      buffers_of store ≡ (settings.cache_pages, settings.write_buffer, settings.write_buffer, settings.replay_buffer)
   -- it files records as the program's archive
-  pub filing : IsSameFiling (program_filing settings items) (filing_in 8 sha256.ghosts (λ bytes most. length_refusal most bytes) store)
+  pub filing : IsSameFiling (program_filing settings items)
+      (filing_in 8 sha256.ghosts (λ bytes most. length_refusal most bytes) store)

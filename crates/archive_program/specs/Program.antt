@@ -34,8 +34,8 @@ use Rattle.archive_program.specs.Input.{TakesFront}
 use Rattle.archive_program.specs.Words.{AreOfNoForm, AsksFor, Job, Script}
 use Rattle.archive_service.specs.declared.settings.Settings.{Settings}
 
--- How the program's archive files its records, where a section has room for so many indices: keys have eight bytes, a value is its bytes, and
--- the seal is the first four bytes of SHA-256.
+-- How the program's archive files its records, where a section has room for so many indices: keys have eight bytes, a
+-- value is its bytes, and the seal is the first four bytes of SHA-256.
 abbrev pub program_filing : Settings → ℕ → Filing
 program_filing settings items = record {
   layout = record {
@@ -71,7 +71,8 @@ status_of (Failed e) = 5
 abbrev pub IsRefusal : Error → Type 0
 IsRefusal e = (e ≡ Full) ⊎ (e ≡ Journal journal.ValueTooLarge)
 
--- The program's archive as a kind of store. Both of its buffers, of records and of values, flush from the write buffer on.
+-- The program's archive as a kind of store. Both of its buffers, of records and of values, flush from the write buffer
+-- on.
 abbrev pub program_kind : Settings → ℕ → Kind
 program_kind settings items = prunable_kind (program_filing settings items) settings.write_buffer settings.write_buffer
 
@@ -79,7 +80,7 @@ program_kind settings items = prunable_kind (program_filing settings items) sett
 pub record MayBeServed (settings : Settings) (items : ℕ) (t : Timeline) : Type 0 where
   -- nothing is pending
   pub nothing_pending : NothingPending (disk t)
-  -- by these markers the image is lawful
+  -- by these markers its image is lawful
   pub markers : Markers
   pub lawful : Lawful (program_filing settings items) (as_read (disk t)) markers
 
@@ -115,8 +116,10 @@ abbrev pub ReadsFor : Job → (IsUnread SourceTells : Type 0) → (left_old left
     → Type 0
 ReadsFor (Script items) IsUnread SourceTells left_old left_new input = ReadsWhole SourceTells left_old left_new input
 
--- The source has the script of these commands to give, and gives it: it tells what is left, and does not fail. The numbers are its counts of faults.
-pub record IsGivenScript (max : ℕ) (SourceTells : Type 0) (left : List ℕ) (faults_old faults_new : ℕ) (commands : List Spelled) : Type 0 where
+-- The source has the script of these commands to give, and gives it: it tells what is left, and does not fail. The
+-- numbers are its counts of faults.
+pub record IsGivenScript (max : ℕ) (SourceTells : Type 0) (left : List ℕ) (faults_old faults_new : ℕ)
+    (commands : List Spelled) : Type 0 where
   -- the source tells what is left,
   pub told : SourceTells
   -- which is the script,
@@ -129,14 +132,16 @@ pub record IsGivenScript (max : ℕ) (SourceTells : Type 0) (left : List ℕ) (f
 -- the job is given these commands to serve
 abbrev pub IsGiven : Job → ℕ → (SourceTells : Type 0) → (left : List ℕ)
     → (faults_old faults_new : ℕ) → List Spelled → Type 0
-IsGiven (Script items) max SourceTells left faults_old faults_new commands = IsGivenScript max SourceTells left faults_old faults_new commands
+IsGiven (Script items) max SourceTells left faults_old faults_new commands =
+    IsGivenScript max SourceTells left faults_old faults_new commands
 
 -- ---- how they are served
 
 -- the commands were served, with these marks and replies, up to this end: the headline, and what holds over any image
 abbrev pub ServedBy : {D : Type 0} → Settings → Job → device.Ghosts D → D → D → List ℕ
     → List Spelled → List (Reply (List ℕ)) → End → Type 0
-ServedBy settings job dev old new marks commands replies end = ServesBy (program_kind settings (items_of job)) dev commands marks replies end old new
+ServedBy settings job dev old new marks commands replies end =
+    ServesBy (program_kind settings (items_of job)) dev commands marks replies end old new
 
 -- ---- which text is owed
 
@@ -171,7 +176,8 @@ abbrev pub AnswersInput : Job → ℕ → (List Spelled → List (Reply (List �
     → Option Error → Type 0
     → List ℕ → List ℕ → Type 0
 AnswersInput job max Served error IsUnserved input text =
-    AnswersScript max Served job (λ end. error ≡ error_of end) input text ⊎ (NamesBadLine job max input text × IsUnserved)
+    AnswersScript max Served job (λ end. error ≡ error_of end) input text
+    ⊎ (NamesBadLine job max input text × IsUnserved)
 
 -- ---- what is to be written, and how the program then ends
 
@@ -186,7 +192,8 @@ pub record HasNoMemory (ended : Ended) (text : List ℕ) : Type 0 where
   pub nothing : text ≡ []
 
 -- this text and this status; or nothing, and no memory
-pub record EndsWith (wanted : List ℕ) (code : ℕ) (when : List ℕ) (failure : Option Error) (ended : Ended) (text : List ℕ) : Type 0 where
+pub record EndsWith (wanted : List ℕ) (code : ℕ) (when : List ℕ) (failure : Option Error) (ended : Ended)
+    (text : List ℕ) : Type 0 where
   -- with these marks, and this error
   pub marks : ended.marks ≡ when
   pub error : ended.error ≡ failure
@@ -194,8 +201,8 @@ pub record EndsWith (wanted : List ℕ) (code : ℕ) (when : List ℕ) (failure 
   pub written : ((ended.status ≡ code) × (text ≡ wanted)) ⊎ ((ended.status ≡ 6) × (text ≡ []))
 
 -- the commands were served, and this is their answer
-pub record AnswersCommands (job : Job) (Served : List Spelled → List (Reply (List ℕ)) → End → Type 0) (commands : List Spelled)
-    (ended : Ended) (text : List ℕ) : Type 0 where
+pub record AnswersCommands (job : Job) (Served : List Spelled → List (Reply (List ℕ)) → End → Type 0)
+    (commands : List Spelled) (ended : Ended) (text : List ℕ) : Type 0 where
   -- they got these replies, up to this end
   pub replies : List (Reply (List ℕ))
   pub end : End
@@ -206,43 +213,47 @@ pub record AnswersCommands (job : Job) (Served : List Spelled → List (Reply (L
   pub written : ((ended.status ≡ status_of end) × (text ≡ owed job replies end)) ⊎ ((ended.status ≡ 6) × (text ≡ []))
 
 -- How an input was answered: there was no memory, its first bad line is named, or its commands were served.
-pub data AnswerOf (job : Job) (max : ℕ) (Served : List Spelled → List (Reply (List ℕ)) → End → Type 0) (Untouched : Type 0)
-    (input : List ℕ) (ended : Ended) (text : List ℕ) : Type 0 where
+pub data AnswerOf (job : Job) (max : ℕ) (Served : List Spelled → List (Reply (List ℕ)) → End → Type 0)
+    (Untouched : Type 0) (input : List ℕ) (ended : Ended) (text : List ℕ) : Type 0 where
   no_memory : Untouched → HasNoMemory ended text → AnswerOf job max Served Untouched input ended text
-  bad_line : Untouched → (number : ℕ) → IsBadAt job max input number → EndsWith (bad_line_text number) 2 [] None ended text
-      → AnswerOf job max Served Untouched input ended text
+  bad_line : Untouched → (number : ℕ) → IsBadAt job max input number
+      → EndsWith (bad_line_text number) 2 [] None ended text → AnswerOf job max Served Untouched input ended text
   served : (commands : List Spelled) → Orders job max input commands → AnswersCommands job Served commands ended text
       → AnswerOf job max Served Untouched input ended text
 
 -- The answer to a whole input, with the device once as it was and once as it is.
-pub record AnswersWhole {D : Type 0} (settings : Settings) (job : Job) (dev : device.Ghosts D) (old new : D) (input : List ℕ) (ended : Ended)
-    (text : List ℕ) : Type 0 where
+pub record AnswersWhole {D : Type 0} (settings : Settings) (job : Job) (dev : device.Ghosts D) (old new : D)
+    (input : List ℕ) (ended : Ended) (text : List ℕ) : Type 0 where
   -- what is answered
-  pub answer : AnswerOf job settings.max_value (ServedBy settings job dev old new ended.marks) (new ≡ old) input ended text
+  pub answer :
+      AnswerOf job settings.max_value (ServedBy settings job dev old new ended.marks) (new ≡ old) input ended text
   -- a fault is the device's
   pub fault : IfSome ended.error (λ e. IsFault e → Rose (dev.faults old) (dev.faults new))
+  -- its count never falls
   pub faults : dev.faults old ≤ dev.faults new
 
 -- The answer to commands: they were served, or there was no memory before.
-pub record AnswersServed {D : Type 0} (settings : Settings) (job : Job) (dev : device.Ghosts D) (old new : D) (commands : List Spelled) (ended : Ended)
-    (text : List ℕ) : Type 0 where
+pub record AnswersServed {D : Type 0} (settings : Settings) (job : Job) (dev : device.Ghosts D) (old new : D)
+    (commands : List Spelled) (ended : Ended) (text : List ℕ) : Type 0 where
   -- what is answered
-  pub answer : ((new ≡ old) × HasNoMemory ended text) ⊎ AnswersCommands job (ServedBy settings job dev old new ended.marks) commands ended text
+  pub answer : ((new ≡ old) × HasNoMemory ended text)
+      ⊎ AnswersCommands job (ServedBy settings job dev old new ended.marks) commands ended text
   -- a fault is the device's
   pub fault : IfSome ended.error (λ e. IsFault e → Rose (dev.faults old) (dev.faults new))
+  -- its count never falls
   pub faults : dev.faults old ≤ dev.faults new
 
 -- ---- what was read and written
 
--- P holds of an input, of which Input says how it was read, and of a text, of which Extent says how much was written. What was written is said where the sink tells
--- it.
+-- P holds of an input, of which Input says how it was read, and of a text, of which Extent says how much was written.
+-- What was written is said where the sink tells it.
 pub record Writes (Input : List ℕ → Type 0) (SinkTells : Type 0) (P : List ℕ → List ℕ → Type 0)
     (Extent : List ℕ → List ℕ → List ℕ → Type 0) (taken_old taken_new : List ℕ) : Type 0 where
   -- the input, as it was read
   pub input : List ℕ
+  pub read : Input input
   -- the text, as it is owed
   pub text : List ℕ
-  pub read : Input input
   pub answers : P input text
   -- so much of it was written
   pub written : SinkTells → Extent text taken_old taken_new
@@ -253,16 +264,19 @@ InFull text old new = new ≡ old ++ text
 
 -- a front of the text was written
 pub record InPart (text old new : List ℕ) : Type 0 where
+  -- the text is the front, and the rest
   pub front : List ℕ
   pub rest : List ℕ
   pub text_is : text ≡ front ++ rest
+  -- so much did the sink take
   pub taken : new ≡ old ++ front
 
 -- ---- what a call of the program comes to
 
--- By its words and its settings, how it ended, and the device, the source and the sink, each once as it was and once as it is.
-module _ {D S W : Type 0} (settings : Settings) (words : List (List ℕ)) (ended : Ended) (dev : device.Ghosts D) (old new : D)
-    (input : source.Ghosts S) (input_old input_new : S) (out : sink.Ghosts W) (out_old out_new : W) where
+-- By its words and its settings, how it ended, and the device, the source and the sink, each once as it was and once
+-- as it is.
+module _ {D S W : Type 0} (settings : Settings) (words : List (List ℕ)) (ended : Ended) (dev : device.Ghosts D)
+    (old new : D) (input : source.Ghosts S) (input_old input_new : S) (out : sink.Ghosts W) (out_old out_new : W) where
   -- no command was served
   pub record IsUnserved : Type 0 where
     -- the device is as it was
@@ -277,14 +291,16 @@ module _ {D S W : Type 0} (settings : Settings) (words : List (List ℕ)) (ended
 
   -- the source was read as the job asks, this is the answer to the input, and so much of its text was written
   abbrev pub Gives : Job → (List ℕ → List ℕ → Type 0) → (List ℕ → List ℕ → List ℕ → Type 0) → Type 0
-  Gives job P Extent = Writes (ReadsFor job (input_new ≡ input_old) input.Tells (input.left input_old) (input.left input_new))
+  Gives job P Extent = Writes
+      (ReadsFor job (input_new ≡ input_old) input.Tells (input.left input_old) (input.left input_new))
       out.Tells P Extent (out.taken out_old) (out.taken out_new)
 
   -- The ends of a call that was asked for a job.
   pub record RunsJob (job : Job) : Type 0 where
     -- 0: all commands replied, and all was written.
     pub done : ended.status ≡ 0
-        → (ended.error ≡ None) × Gives job (AnswersScript settings.max_value (Served job) job (λ end. end ≡ Done)) InFull
+        → (ended.error ≡ None)
+        × Gives job (AnswersScript settings.max_value (Served job) job (λ end. end ≡ Done)) InFull
     -- 2: the input orders nothing.
     pub bad_script : ended.status ≡ 2 → Gives job (NamesBadLine job settings.max_value) InFull
     -- 3: the source failed, and had not given more than an input may have.
@@ -299,17 +315,21 @@ module _ {D S W : Type 0} (settings : Settings) (words : List (List ℕ)) (ended
         × Gives job (AnswersInput job settings.max_value (Served job) ended.error IsUnserved) InPart
     -- 5: the commands ended in an error. All of the text was written.
     pub store_error : ended.status ≡ 5
-        → IsSome ended.error × Gives job (AnswersScript settings.max_value (Served job) job (λ end. ended.error ≡ error_of end)) InFull
+        → IsSome ended.error
+        × Gives job (AnswersScript settings.max_value (Served job) job (λ end. ended.error ≡ error_of end)) InFull
     -- 6: there was no memory, and a front of the text went out, or nothing.
     pub no_memory : ended.status ≡ 6
-        → (IsUnserved × (out_new ≡ out_old)) ⊎ Gives job (AnswersInput job settings.max_value (Served job) ended.error IsUnserved) InPart
-    -- Commands that are given, over a lawful image, are served, unless a count rises, memory is short, a put is refused, or the markers would have no next
-    -- version. Where the opening under way at the end finds a blob of records that ends within one page, with its slots, of 2^64 bytes, nothing of that
-    -- is promised.
+        → (IsUnserved × (out_new ≡ out_old))
+        ⊎ Gives job (AnswersInput job settings.max_value (Served job) ended.error IsUnserved) InPart
+    -- Commands that are given, over a lawful image, are served, unless a count rises, memory is short, a put is
+    -- refused, or the markers would have no next version. Where the opening under way at the end finds a blob of
+    -- records that ends within one page, with its slots, of 2^64 bytes, nothing of that is promised.
     pub complete : dev.Tells → MayBeServed settings (items_of job) (dev.time old)
         → (commands : List Spelled)
-        → IsGiven job settings.max_value input.Tells (input.left input_old) (input.faults input_old) (input.faults input_new) commands
-        → AreCountedIfOpening (program_filing settings (items_of job)).layout (dev.time old) (dev.time new) commands ended.marks
+        → IsGiven job settings.max_value input.Tells (input.left input_old) (input.faults input_old)
+        (input.faults input_new) commands
+        → AreCountedIfOpening (program_filing settings (items_of job)).layout (dev.time old) (dev.time new) commands
+        ended.marks
         → ¬ Rose (dev.faults old) (dev.faults new) → ¬ Rose (out.faults out_old) (out.faults out_new)
         → Contains (0 ∷ 6 ∷ []) ended.status ⊎ ((ended.status ≡ 5) × IfSome ended.error IsRefusal)
 
@@ -327,7 +347,8 @@ module _ {D S W : Type 0} (settings : Settings) (words : List (List ℕ)) (ended
     -- Of no input more bytes are taken than one more than an input may have.
     pub at_most : input.Tells
         → TakesFront (input.left input_old) (input.left input_new) (λ n. n ≤ 2 ^ 24 + 1)
-    -- Where no script was served nothing was done; with words of another form nothing was read either, and without a whole input nothing was written.
+    -- Where no script was served nothing was done; with words of another form nothing was read either, and without a
+    -- whole input nothing was written.
     pub unserved : Contains (1 ∷ 2 ∷ 3 ∷ 7 ∷ []) ended.status → IsUnserved
     pub unread : ended.status ≡ 1 → input_new ≡ input_old
     pub silent : Contains (1 ∷ 3 ∷ 7 ∷ []) ended.status → out_new ≡ out_old

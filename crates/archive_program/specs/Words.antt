@@ -3,7 +3,8 @@ use Rattle.std.specs.Prelude.{◌≡◌, ◌≢◌, ◌⊎◌, ℕ, ◌^◌, ◌
 use Rattle.std.specs.Str.{bytes_eq}
 use Rattle.std.specs.Fmt.{decimal}
 
--- the words `DIR prunable ITEMS`: an archive in a folder, or in memory where DIR is `-`, with ITEMS indices to a section, a number from 1 to 1,048,576
+-- the words `DIR prunable ITEMS`: an archive in a folder, or in memory where DIR is `-`, with ITEMS indices to a
+-- section, a number from 1 to 1,048,576
 pub record AreWordsFor (words : List (List ℕ)) (items : ℕ) : Type 0 where
   -- the folder's word, which is not empty
   pub folder : List ℕ
@@ -14,7 +15,8 @@ pub record AreWordsFor (words : List (List ℕ)) (items : ℕ) : Type 0 where
   pub some : 1 ≤ items
   pub limit : items ≤ 2 ^ 20
 
--- What the program is asked for: to serve the script on its input, over an archive where a section has room for so many indices.
+-- What the program is asked for: to serve the script on its input, over an archive where a section has room for so
+-- many indices.
 pub data Job : Type 0 where
   Script : ℕ → Job
 
@@ -26,7 +28,8 @@ AsksFor words (Script items) = AreWordsFor words items
 abbrev pub AreOfNoForm : List (List ℕ) → Type 0
 AreOfNoForm words = (job : Job) → ¬ AsksFor words job
 
--- the folder that keeps the archive: the first word, but none where there is none, or where it is empty or `-`, which is memory
+-- the folder that keeps the archive: the first word, but none where there is none, or where it is empty or `-`, which
+-- is memory
 abbrev pub folder_in : List (List ℕ) → Option (List ℕ)
 folder_in [] = None
 folder_in (word ∷ words) = if bytes_eq word [] || bytes_eq word (codes "-") then None else Some word

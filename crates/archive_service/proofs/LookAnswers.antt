@@ -1,5 +1,5 @@
 -- What lookups promise, in the terms of a store that serves commands.
-use Rattle.std.proofs.Common.{◌≡◌, inl, inr, refl, sym, ap, subst, ℕ, Bool, List, Option, Some, None, Result, Ok, Err}
+use Rattle.std.proofs.Common.{◌≡◌, inl, inr, refl, sym, subst, ℕ, Bool, List, Option, Some, None, Result, Ok, Err}
 use Rattle.std.specs.Prelude.{option_map}
 use Rattle.blob_device.specs.Disk.{Disk}
 use Rattle.blob_device.specs.Timeline.{disk}
@@ -22,7 +22,7 @@ use Rattle.archives.specs.Replies as reply
 use Rattle.archives.specs.Standing.{Leaves}
 use Rattle.archives.specs.declared.error.Error.{Error}
 use Rattle.archives.specs.declared.error.Error.TheVariants.{Journal, Mem}
-use Rattle.archive_service.specs.Causes.{Adds, IsCause, IsCauseAnywhere, IsLookup, MustRefuse, MustRefuseAnywhere, RefusesPut}
+use Rattle.archive_service.specs.Causes.{IsCause, IsCauseAnywhere, IsLookup, MustRefuse, MustRefuseAnywhere, RefusesPut}
 use Rattle.archive_service.specs.Kinds.{Answers}
 use Rattle.archive_service.specs.PrunableKind.{IsQuiet, Learns}
 use Rattle.archive_service.specs.PrunableStore.{held_by, prunable_serving}

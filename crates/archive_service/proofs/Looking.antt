@@ -1,7 +1,7 @@
 -- What the commands so far may have done to the disk, and what the store knows of itself, whatever the image.
 use Rattle.std.proofs.Common.{◌≡◌, ◌≢◌, inl, inr, refl, sym, ◌∙◌, ap, subst, ℕ, zero, suc, ◌+◌, ◌*◌, ◌<◌, ◌≤◌, List, [], ◌∷◌, ◌++◌, length, slice_get, Option, None, Some, arith, length-append}
 use Rattle.std.proofs.lemmas.Bool.{cases_lt}
-use Rattle.blob_device.specs.Disk.{Disk, Key}
+use Rattle.blob_device.specs.Disk.{Disk}
 use Rattle.blob_device.specs.Footprint.{SameElsewhere}
 use Rattle.blob_device.specs.Timeline.{Timeline, disk, Always}
 use Rattle.sealed_pages.specs.Reading.{Unchanged}

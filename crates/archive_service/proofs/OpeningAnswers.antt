@@ -1,7 +1,7 @@
 -- What an opening promises, in the terms of a store that serves commands: the first one, and a reopening.
 use Rattle.std.specs.Prelude.{IfSome, IsSomeAnd, IsTrue, cond}
 use Rattle.std.specs.Option.{unwrap_or}
-use Rattle.std.proofs.Common.{◌≡◌, ◌⊎◌, inl, inr, refl, sym, ◌∙◌, ap, subst, ℕ, ◌+◌, ◌≤◌, ◌<◌, ◌^◌, List, [], ◌∷◌, length, map, Bool, Option, Some, None, Result, Ok, Err, arith}
+use Rattle.std.proofs.Common.{◌≡◌, ◌⊎◌, inl, inr, refl, sym, ◌∙◌, ap, subst, ℕ, ◌+◌, ◌≤◌, ◌^◌, List, [], ◌∷◌, length, map, Bool, Option, Some, None, Result, Ok, Err, arith}
 use Rattle.blob_device.specs.Counts.{Rose}
 use Rattle.blob_device.specs.Disk.{Blob, Disk, Key, MayLeave, NothingPending, reads}
 use Rattle.blob_device.specs.Footprint.{Footprint, NoBound}
@@ -19,16 +19,15 @@ use Rattle.segments.specs.declared.sealed.AppendFactory.{AppendFactory}
 use Rattle.sealed_pages.specs.declared.page_blob.PageBlob.{PageBlob}
 use Rattle.paired.specs.Kept.{Markers, content_at}
 use Rattle.paired.specs.Opening.{MayBeOpened, as_read}
-use Rattle.paired.specs.OpeningRefusing.{AreCounted}
 use Rattle.archives.specs.Archives.{IsSoundArchive, state_of}
-use Rattle.archives.specs.Changes.{Asked, outcome, state_over}
+use Rattle.archives.specs.Changes.{Asked, outcome}
 use Rattle.archives.specs.Commands.{Reopen}
 use Rattle.archives.specs.Filing.{Filing, kept_entries}
 use Rattle.archives.specs.FilingLaws.{one_filing}
 use Rattle.archives.specs.Lawful.{Lawful}
 use Rattle.archives.specs.Machine.{State, Step}
 use Rattle.archives.specs.Opening.{HasNoVersion, IsPastLimits, LeavesLawful, OfKept}
-use Rattle.archives.specs.Opens.{HasToMove, IsOpeningCause, MayBeKept, NotOpened, OfMarkers, Opened, Opens}
+use Rattle.archives.specs.Opens.{HasToMove, IsLawfulCause, IsOpeningCause, MayBeKept, NotOpened, OfMarkers, Opened, Opens}
 use Rattle.archives.specs.Outlasts.{MayStart}
 use Rattle.archives.specs.Prunable.{Prunable, Setup, filing_by}
 use Rattle.archives.specs.Refusing.{IsFault}
@@ -148,35 +147,18 @@ module _ {A V S D : Type 0} {gs : _} (p : Prunable A V (AppendFactory S) (PageBl
     opening_anywhere long moves (Journal (journal.Codec x)) why = absurd (why t)
     opening_anywhere long moves e why = absurd why
 
-    -- what a lawful image keeps is within the limits
-    not_over : (readable : IsReadable f.layout.markers) (markers : Markers) → Lawful f (as_read from) markers → OfKept f (as_read from) (IsPastLimits f.most_sections f.most_records) → ⊥
-    not_over readable markers lawful (others, held_by_image, over) =
-        let same : others ≡ markers = one_markers f.layout readable (as_read from) others markers held_by_image lawful.pair.held in
-        elim (subst (λ (m : Markers). IsPastLimits f.most_sections f.most_records (kept_entries f (as_read from) m)) same over) as (λ _. ⊥) [
-          | inl (ss, sorted, all, more) ↦ omega (arith, more, lawful.few_sections ss sorted all)
-          | inr (s, small, more) ↦ omega (arith, more, lawful.few_records s small)
-        ]
-
-    pub opening_cause : (readable : IsReadable f.layout.markers) (markers : Markers) → Lawful f (as_read from) markers → (st : State (List ℕ))
+    pub opening_cause : (markers : Markers) → Lawful f (as_read from) markers → (st : State (List ℕ))
         → (moves : OfMarkers f from (HasToMove f from) → MustMoveNow f st from u) → (e : Error) → NotOpened p dev setup e old new → IsCause f st u from e
-    opening_cause readable markers lawful st moves Mem failed = tt
-    opening_cause readable markers lawful st moves (Journal (journal.Runtime runtime.Fault)) failed = tt
-    opening_cause readable markers lawful st moves (Metadata (metadata.Runtime runtime.Fault)) failed = inl opening
-    opening_cause readable markers lawful st moves Full failed = inr (elim (failed.cause t) as (λ _. MustMoveNow f st from u × HasNoVersion f.layout from) [
-      | inl over ↦ absurd (not_over readable markers lawful over)
-      | inr moving ↦ (moves moving.1, moving.0)
-    ])
-    opening_cause readable markers lawful st moves (Journal (journal.Runtime runtime.OffsetOverflow)) failed = (
-      opening,
-      λ counted. elim (failed.complete t markers lawful counted) as (λ _. ⊥) [
-        | inl full ↦ (let is = full.0 in cc is)
-        | inr (inl (inl memory)) ↦ cc memory
-        | inr (inl (inr fault)) ↦ (let is = fault.0 in cc is)
-        | inr (inr lost) ↦ (let is = lost.0 in cc is)
-      ],
-    )
-    -- A lawful image has none of these. `NotOpened.complete` says so where blobs are counted; it has to say it of each error but `OffsetOverflow` of any lawful image.
-    opening_cause readable markers lawful st moves e failed = ?
+    opening_cause markers lawful st moves e failed = go e (failed.complete t markers lawful)
+      where
+        go : (x : Error) → IsLawfulCause f dev old new x → IsCause f st u from x
+        go Mem why = tt
+        go (Journal (journal.Runtime runtime.Fault)) why = tt
+        go (Metadata (metadata.Runtime runtime.Fault)) why = inl opening
+        go Full why = inr (moves why.1, why.0)
+        go (Journal (journal.Runtime runtime.OffsetOverflow)) why = (opening, why)
+        go (Journal (journal.Corruption x)) why = (opening, why)
+        go x why = absurd why
 
   -- a blob whose entry is too long is so long
   module _ (tells : TellsLengths) where
@@ -235,7 +217,7 @@ module _ {A V S D : Type 0} {gs : _} (p : Prunable A V (AppendFactory S) (PageBl
       moments = moments_so (Err e) opens;
       footprint = own_alone (Err e) opens;
       ends = record {
-        cause = λ t pending lawful st start. opening_cause t None tt tt holding_nothing readable lawful.0 lawful.1 st (λ moving. moving) e opens.ends;
+        cause = λ t pending lawful st start. opening_cause t None tt tt holding_nothing lawful.0 lawful.1 st (λ moving. moving) e opens.ends;
         anywhere = λ t held. opening_anywhere t None tt tt held (long_blob (tells t)) (λ moving. moving) e opens.ends.cause;
         fault = opening_fault e opens.ends.cause;
       };
@@ -288,7 +270,7 @@ module _ {A V S D : Type 0} {gs : _} (p : Prunable A V (AppendFactory S) (PageBl
       footprint = footprint_wider dev _ _ _ NoBound old new (λ q own. own) (λ q n none. absurd none) opens.footprint;
       quiet = λ t never. absurd never;
       ends = record {
-        cause = λ t sound. (let lawful = lawful_before t sound in opening_cause t (Some Reopen) refl tt (held_by p a) readable lawful.0 lawful.1 was (λ moving. moving) e opens.ends);
+        cause = λ t sound. (let lawful = lawful_before t sound in opening_cause t (Some Reopen) refl tt (held_by p a) lawful.0 lawful.1 was (λ moving. moving) e opens.ends);
         unwritten = λ t sound refuses. absurd (no_refusal refuses);
         anywhere = λ t. opening_anywhere t (Some Reopen) refl tt (held_by p a) (long_blob (tells t)) (λ moving. moving) e opens.ends.cause;
         unwritten_anywhere = λ t refuses. absurd (no_refusal refuses);

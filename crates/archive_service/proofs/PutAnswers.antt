@@ -1,39 +1,48 @@
 -- What a put promises, in the terms of a store that serves commands.
-use Rattle.std.proofs.Common.{◌≡◌, ◌≢◌, ◌⊎◌, inl, inr, refl, sym, ◌∙◌, ap, ℕ, ◌+◌, ◌<◌, ◌^◌, ◌&&◌, not, ◌==◌, if◌then◌else◌, Bool, true, false, List, [], ◌∷◌, ◌++◌, length, Option, Some, None, Result, Ok, Err}
+use Rattle.std.proofs.Common.{◌≡◌, ◌⊎◌, inl, inr, refl, sym, ◌∙◌, ap, subst, ℕ, ◌+◌, ◌==◌, if◌then◌else◌, Bool, true, false, List, [], ◌∷◌, ◌++◌, Some, None, Result, Ok, Err}
 use Rattle.std.specs.Prelude.{IsTrue}
 use Rattle.std.proofs.lemmas.Bool.{cases_Bool, eq-eqb, eqb-true}
-use Rattle.blob_device.specs.Counts.{Rose}
 use Rattle.blob_device.specs.Disk.{Disk}
 use Rattle.blob_device.specs.Timeline.{disk}
 use Rattle.blob_device.specs.declared.device.Device as device
 use Rattle.blob_device.specs.declared.runtime.RError.TheVariants as runtime
-use Rattle.meta_store.specs.declared.error.Error.TheVariants as metadata
 use Rattle.paired.specs.GlobSections as glob
 use Rattle.segments.specs.declared.journal.Error.TheVariants as journal
 use Rattle.segments.specs.declared.sealed.AppendFactory.{AppendFactory}
+use Rattle.sealed_pages.specs.Tails.{tail_after}
 use Rattle.sealed_pages.specs.declared.page_blob.PageBlob.{PageBlob}
 use Rattle.archives.specs.Archives.{IsArchive, IsSoundArchive}
 use Rattle.archives.specs.Changes.{outcome}
-use Rattle.archives.specs.Commands.{Put, Reopen}
+use Rattle.archives.specs.Commands.{Put}
 use Rattle.archives.specs.Machine.{section_of}
-use Rattle.archives.specs.Prunable.{Prunable, Setup, filing_by, value_buffer_of, write_buffer_of}
+use Rattle.archives.specs.Prunable.{Prunable, Setup, filing_by}
 use Rattle.archives.specs.Puts.{IsPutCause, PutDone, Puts, Refuses}
-use Rattle.archives.specs.Putting.{IsWrittenAfter, frame_size, is_taken}
+use Rattle.archives.specs.Putting.{IsWrittenAfter, frame_size, is_taken, record_tail, value_tail}
 use Rattle.archives.specs.Replies as reply
 use Rattle.archives.specs.declared.error.Error.{Error}
-use Rattle.archives.specs.declared.error.Error.TheVariants.{Full, Journal, Mem, Metadata}
+use Rattle.archives.specs.declared.error.Error.TheVariants.{Full, Journal, Mem}
 use Rattle.archives.proofs.PutSync.{filing_then}
 use Rattle.archive_service.specs.Causes.{IfFree, IsCause, IsCauseAnywhere, IsPastSizeAlone, IsRefusedAsFull, IsRefusedAsTooLarge, IsSurelyFull, PutsBy}
 use Rattle.archive_service.specs.Kinds.{Answers}
-use Rattle.archive_service.specs.PrunableKind.{HoldsPut}
+use Rattle.archive_service.specs.PrunableKind.{AreTailsWith, HoldsPut}
 use Rattle.archive_service.specs.PrunableStore.{IsUsableStore, held_by, prunable_serving}
-use Rattle.archive_service.proofs.StoreLemmas.{Added, Given, adds_full, adds_is, adds_not, adds_now, as_asked, buffered, d, f, free_put, full_adds, full_for, known, large_adds, not_large, not_large_held, nothing_done, now_adds, past, past_size, put_free, refused_by_none, serving_by, st, surely_full}
+use Rattle.archive_service.proofs.StoreLemmas.{Added, Given, adds_full, adds_is, adds_not, adds_now, adds_where, as_asked, buffered, f, free_put, full_adds, full_for, large_adds, not_large, not_large_held, nothing_done, now_adds, past, past_size, put_free, refused_by_none, serving_by, st, surely_full}
 
 module _ {A V S D : Type 0} {gs : _} (p : Prunable A V (AppendFactory S) (PageBlob S gs)) (setup : Setup V) (valid : Type 0) (dev : device.Ghosts D) (a : A) (old : D) (given : Given p setup valid dev a old)
     (i : ℕ) (k v : List ℕ) where
   -- ---- what the archive then is
 
   module _ (r : A) (done : PutDone p dev a i k (frame_size (filing_by p a).layout v) r) where
+    -- of the section put into
+    own_at : (s : ℕ) → s ≡ section_of (p.see a).items i → is_taken (p.see a) i ≡ false
+        → AreTailsWith (f p setup valid dev a old given) setup.write_buffer setup.value_buffer (held_by p a) (IfFree (record { index = i; key = k; value = v })) (held_by p r) s
+    own_at s here free =
+        let own = done.own_tails free in
+        subst (λ (q : ℕ). AreTailsWith (f p setup valid dev a old given) setup.write_buffer setup.value_buffer (held_by p a) (IfFree (record { index = i; key = k; value = v })) (held_by p r) q) (sym here) (record {
+          records = own.records ∙ ap (λ (c : ℕ). tail_after c (record_tail (p.see a) (section_of (p.see a).items i)) (filing_by p a).layout.record_size) given.usable.write_buffer;
+          values = own.values ∙ ap (λ (c : ℕ). tail_after c (value_tail (p.see a) (section_of (p.see a).items i)) (frame_size (filing_by p a).layout v)) given.usable.value_buffer;
+        })
+
     pub put_holds : (new : D) → IsArchive (p.see r) p.buffers dev.Tells (dev.opened new) (disk (dev.time new)) → dev.Tells
         → HoldsPut (f p setup valid dev a old given) setup.write_buffer setup.value_buffer (held_by p a) (IfFree (record { index = i; key = k; value = v })) (held_by p r)
     put_holds new over t = record {
@@ -42,6 +51,9 @@ module _ {A V S D : Type 0} {gs : _} (p : Prunable A V (AppendFactory S) (PageBl
           ∙ sym (ap (λ (b : Bool). if b then glob.section_size (p.see a).pair.values s + frame_size (filing_by p a).layout v else glob.section_size (p.see a).pair.values s)
           (adds_is p setup valid dev a old given t i k v s));
       synced = done.synced;
+      own_tails = λ s added.
+          let put_here = adds_where (is_taken (p.see a) i) (s == section_of (p.see a).items i) (sym (adds_is p setup valid dev a old given t i k v s) ∙ added) in
+          own_at s (eqb-true s (section_of (p.see a).items i) put_here.1) put_here.0;
       other_tails = λ s not_added. done.other_tails s (λ same. adds_not (is_taken (p.see a) i) (s == section_of (p.see a).items i)
           (sym (adds_is p setup valid dev a old given t i k v s) ∙ not_added) (eq-eqb s (section_of (p.see a).items i) same));
       stays = record { is_open = refl; floor = over.floor ∙ sym given.usable.usable.floor };

@@ -1,11 +1,11 @@
 -- What follows of a run over a prunable archive.
-use Rattle.std.proofs.Common.{◌≡◌, ◌≢◌, ◌⊎◌, inl, inr, refl, sym, ◌∙◌, ap, subst, ℕ, zero, suc, ◌+◌, ◌-◌, ◌*◌, ◌<◌, ◌≤◌, ◌^◌, ◌||◌, ◌==◌, nat_lt, if◌then◌else◌, Bool, true, false, List, [], ◌∷◌, ◌++◌, length, take, get_or, slice_get, Option, Some, None, IsSomeAnd, arith}
+use Rattle.std.proofs.Common.{◌≡◌, ◌≢◌, ◌⊎◌, inl, inr, refl, sym, ◌∙◌, ap, subst, ℕ, zero, suc, ◌+◌, ◌-◌, ◌*◌, ◌<◌, ◌≤◌, ◌^◌, ◌||◌, ◌==◌, nat_lt, if◌then◌else◌, Bool, true, false, List, [], ◌∷◌, ◌++◌, length, take, slice_get, Option, Some, None, IsSomeAnd, arith}
 use Rattle.std.specs.Prelude.{MatchBool}
 use Rattle.std.proofs.lemmas.List.{take-append-le, take-take}
 use Rattle.std.proofs.lemmas.Option.{slice_get_within}
 use Rattle.std.proofs.Math.Seq.{take-length}
 use Rattle.blob_device.specs.Counts.{Rose}
-use Rattle.blob_device.specs.Disk.{Disk, Image, IsCrashOf, IsSettled, NothingPending, begun, reads, settled_disk}
+use Rattle.blob_device.specs.Disk.{Disk, Image, IsCrashOf, IsSettled, begun, reads, settled_disk}
 use Rattle.blob_device.specs.Timeline.{Timeline, disk}
 use Rattle.blob_device.specs.declared.runtime.RError.TheVariants as runtime
 use Rattle.meta_store.specs.declared.error.Error.TheVariants as metadata
@@ -32,7 +32,6 @@ use Rattle.archive_service.specs.Serves.{Begun, IfFailed, begin, disk_at, state_
 use Rattle.archive_service.specs.Starts.{start_of, starts}
 use Rattle.archive_service.specs.declared.replies.End.{End}
 use Rattle.archive_service.specs.declared.replies.End.TheVariants.{Done, Failed}
-use Rattle.archive_service.proofs.MarkLemmas.{same_some}
 
 -- ---- what a sync leaves synced
 
@@ -153,6 +152,7 @@ module _ (f : Filing) (st : State (List ℕ)) where
   only_memory u from (Journal (journal.Runtime runtime.Fault)) calm lawful counted cause = absurd (calm (inl refl))
   only_memory u from (Metadata (metadata.Runtime runtime.Fault)) calm lawful counted cause = absurd (calm (inr refl))
   only_memory u from (Journal (journal.Runtime runtime.OffsetOverflow)) calm lawful counted cause = absurd (cause.1 (counted cause.0))
+  only_memory u from (Journal (journal.Corruption x)) calm lawful counted cause = absurd (omega (arith, counted cause.0 x.section cause.1.0, cause.1.1))
   only_memory u from e calm lawful counted cause = absurd cause
 
 memory_or_not : (e : Error) → (e ≡ Mem) ⊎ (e ≢ Mem)

@@ -1,43 +1,42 @@
 -- What an archive says of itself, in the terms of a store that serves commands.
-use Rattle.std.proofs.Common.{◌≡◌, ◌≢◌, ◌⊎◌, inl, inr, refl, sym, ◌∙◌, ap, subst, ℕ, ◌+◌, ◌-◌, ◌*◌, ◌/◌, ◌%◌, ◌^◌, ◌<◌, ◌≤◌, ◌||◌, ◌&&◌, not, ◌==◌, nat_lt, if◌then◌else◌, Bool, true, false, List, [], ◌∷◌, ◌++◌, length, map, take, Option, Some, None, IsSomeAnd, Result, Ok, Err, arith}
+use Rattle.std.proofs.Common.{◌≡◌, ◌≢◌, ◌⊎◌, inl, inr, refl, sym, ◌∙◌, ap, subst, ℕ, ◌+◌, ◌-◌, ◌*◌, ◌/◌, ◌%◌, ◌^◌, ◌<◌, ◌≤◌, ◌||◌, ◌&&◌, not, ◌==◌, nat_lt, if◌then◌else◌, Bool, true, false, List, [], ◌∷◌, length, take, Option, Some, None, IsSomeAnd, Result, Ok, Err, arith}
 use Rattle.std.specs.Prelude.{IsTrue}
-use Rattle.std.specs.Option.{option_map_or}
-use Rattle.std.proofs.lemmas.Bool.{cases_lt, cases_Bool, eq-eqb, eqb-true}
+use Rattle.std.proofs.lemmas.Bool.{cases_lt, cases_Bool, eq-eqb}
 use Rattle.std.proofs.lemmas.Bool.Decides.{nat_tests}
 use Rattle.std.proofs.lemmas.List.{length-map}
 use Rattle.std.proofs.Math.Nat.{div-add-mod}
 use Rattle.blob_device.specs.Disk.{Disk}
-use Rattle.blob_device.specs.Opened.{OpenedList}
 use Rattle.blob_device.specs.Timeline.{Timeline, disk, Always}
 use Rattle.blob_device.specs.declared.device.Device as device
-use Rattle.sealed_pages.specs.Buffer.{FlushesNothing, extent, size_of}
+use Rattle.sealed_pages.specs.Buffer.{extent, size_of}
 use Rattle.sealed_pages.specs.Reading.{Unchanged}
 use Rattle.sealed_pages.specs.Shown as page_blob
 use Rattle.sealed_pages.specs.declared.page_blob.PageBlob.{PageBlob}
 use Rattle.sealed_pages.specs.declared.write_blob.WriteBlob.{WriteBlob}
 use Rattle.segments.specs.FixedLists as fixed
+use Rattle.segments.specs.Tails.{tail_held}
 use Rattle.segments.specs.Unsealed.{count_of}
 use Rattle.segments.specs.declared.sealed.AppendFactory.{AppendFactory}
 use Rattle.paired.specs.GlobSections as glob
-use Rattle.paired.specs.Pair.{length_of, list_of, records_of, synced_length}
+use Rattle.paired.specs.Pair.{length_of, list_of, records_of}
 use Rattle.paired.specs.Records as stored
 use Rattle.paired.proofs.PairReads.{index_size}
 use Rattle.paired.proofs.RecordLemmas.{length-records}
 use Rattle.archives.specs.Archives.{IsArchive, IsSoundArchive, filing_of, state_of}
 use Rattle.archives.specs.Changes.{Asked, Replied, outcome}
 use Rattle.archives.specs.Commands.{Reopen}
-use Rattle.archives.specs.Filing.{Filing, IsSameFiling, filed, kept}
+use Rattle.archives.specs.Filing.{Filing, filed, kept}
 use Rattle.archives.specs.FilingLaws.{one_filing}
 use Rattle.archives.specs.Machine.{Entry, State, has_index, section_of}
 use Rattle.archives.specs.Outlasts.{Outlasts}
-use Rattle.archives.specs.Prunable.{Prunable, Setup, filing_by, meaning, write_buffer_of}
-use Rattle.archives.specs.Putting.{HasBufferRoom, IsAllowed, IsFullFor, IsFullOver, IsPassed, IsTooLargeFor, WouldPass, frame_size, is_taken, record_tail, value_tail}
-use Rattle.archives.specs.Rows.{HasRoom, row_in}
+use Rattle.archives.specs.Prunable.{Prunable, Setup, filing_by, write_buffer_of}
+use Rattle.archives.specs.Putting.{HasBufferRoom, IsAllowed, IsFullFor, IsFullOver, IsPassed, IsTooLargeFor, frame_size, is_taken, record_tail}
+use Rattle.archives.specs.Rows.{row_in}
 use Rattle.archives.specs.Standing.{IsGoing, IsPrefix, Leaves, submitted}
 use Rattle.archives.specs.Syncing.{IsMovingBy, IsMovingIn}
 use Rattle.archives.specs.declared.error.Error.{Error}
 use Rattle.archives.proofs.PutLemmas.{whole_bytes}
-use Rattle.archive_service.specs.Causes.{Held, IfFree, IsOverLimits, IsPastAll, IsPastSizeAlone, IsRefusedAsFull, IsRefusedAsTooLarge, IsSurelyFull, PassesNumbers, PutOf, added_by, adds_to, holds, skips}
+use Rattle.archive_service.specs.Causes.{Held, IfFree, IsPastAll, IsPastSizeAlone, IsRefusedAsFull, IsRefusedAsTooLarge, IsSurelyFull, PassesNumbers, added_by, adds_to, holds, skips}
 use Rattle.archive_service.specs.Kinds.{Answers, Serving}
 use Rattle.archive_service.specs.PrunableKind.{FitsBuffers, IsBuffered, prunable_kind}
 use Rattle.archive_service.specs.PrunableStore.{IsUsableStore, held_by, prunable_serving}
@@ -84,6 +83,19 @@ pub seen_first : {R Q P A : Type 0} (see : Q → P) (made : R → Q) (first : R 
     → ((r : R) → see (made r) ≡ again (first r)) → outcome see outer ≡ outcome again (outcome first result)
 seen_first see made first again (Ok r) outer is same = ap (outcome see) is ∙ ap (λ x. Ok x) (same r)
 seen_first see made first again (Err e) outer is same = ap (outcome see) is
+
+-- ---- answers
+
+module _ {A V D : Type 0} (s : Serving A V) (dev : device.Ghosts D) (a : A) where
+  -- the same result, written otherwise
+  pub answers_with : (command : Asked) (result other : Result (A × Replied) Error) (old new : D) → other ≡ result
+      → Answers s dev a command result old new → Answers s dev a command other old new
+  answers_with command result other old new same answers = subst (λ (o : Result (A × Replied) Error). Answers s dev a command o old new) (sym same) answers
+
+  -- the same command, written otherwise
+  pub answers_to : (command other : Asked) (result : Result (A × Replied) Error) (old new : D) → other ≡ command
+      → Answers s dev a command result old new → Answers s dev a other result old new
+  answers_to command other result old new same answers = subst (λ (x : Asked). Answers s dev a x result old new) (sym same) answers
 
 -- ---- numbers
 
@@ -366,7 +378,7 @@ module _ {A V S D : Type 0} {gs : _} (p : Prunable A V (AppendFactory S) (PageBl
           held_room None is q also = absurd (held_index fits.records_there is)
           held_room (Some u) is None also = absurd (fits.values_there (ap glob.size_held also))
           held_room (Some u) is (Some w) also =
-              let tail : record_tail (p.see a) here ≡ length (page_blob.shown u).tip - (page_blob.shown u).from = ap (λ (o : Option (PageBlob S gs)). option_map_or (λ x. length (page_blob.shown x).tip - (page_blob.shown x).from) o 0) is in
+              let tail : record_tail (p.see a) here ≡ length (page_blob.shown u).tip - (page_blob.shown u).from = ap (λ (o : Option (PageBlob S gs)). tail_held o) is in
               let capacity : u.capacity ≡ setup.write_buffer = (given.buffers here u is).1 ∙ given.usable.write_buffer in
               record {
                 records = u;

@@ -1,16 +1,15 @@
 -- What a sync promises, in the terms of a store that serves commands.
 use Rattle.std.specs.Prelude.{⊤}
-use Rattle.std.proofs.Common.{◌≡◌, ◌⊎◌, inl, inr, refl, sym, ◌∙◌, ap, ℕ, ◌+◌, ◌-◌, ◌<◌, ◌^◌, List, length, Option, Some, None, Result, Ok, Err, arith}
-use Rattle.std.specs.Option.{option_map_or}
+use Rattle.std.proofs.Common.{◌≡◌, ◌⊎◌, inl, inr, refl, sym, ◌∙◌, ap, ℕ, ◌+◌, ◌-◌, ◌<◌, ◌^◌, length, Option, Some, None, Result, Ok, Err, arith}
 use Rattle.std.proofs.lemmas.Bool.{cases_Bool}
 use Rattle.blob_device.specs.Disk.{Disk, Key}
 use Rattle.blob_device.specs.Timeline.{disk}
 use Rattle.blob_device.specs.declared.device.Device as device
 use Rattle.blob_device.specs.declared.runtime.RError.TheVariants as runtime
 use Rattle.meta_store.specs.declared.error.Error.TheVariants as metadata
+use Rattle.segments.specs.Tails.{tail_held}
 use Rattle.segments.specs.declared.journal.Error.TheVariants as journal
 use Rattle.segments.specs.declared.sealed.AppendFactory.{AppendFactory}
-use Rattle.sealed_pages.specs.Shown as page_blob
 use Rattle.sealed_pages.specs.declared.page_blob.PageBlob.{PageBlob}
 use Rattle.paired.specs.GlobSections as glob
 use Rattle.paired.specs.Crashes.{IsOwn}
@@ -60,7 +59,7 @@ module _ {A V S D : Type 0} {gs : _} (p : Prunable A V (AppendFactory S) (PageBl
     ]
       where
         index_tail : Option (PageBlob S gs) → ℕ
-        index_tail o = option_map_or (λ u. length (page_blob.shown u).tip - (page_blob.shown u).from) o 0
+        index_tail o = tail_held o
 
     pub sync_usable : ((x : V) → p.Accepts a x → p.Accepts r x) → IsUsableStore p setup r dev.Tells (dev.opened new) (disk (dev.time new))
     sync_usable accepts = record {

@@ -1,5 +1,5 @@
--- Why a run of commands over a prunable archive ends in an error: by the state of the record machine that it has come to, and over any image by the
--- rows and the bytes that it holds.
+-- Why a run of commands over a prunable archive ends in an error: by the state of the record machine that it has come
+-- to, and over any image by the rows and the bytes that it holds.
 use Rattle.std.specs.Prelude.{◌≡◌, ◌≢◌, ◌⊎◌, ℕ, ◌+◌, ◌-◌, ◌*◌, ◌^◌, ◌<◌, ◌≤◌, ◌||◌, ◌&&◌, not, nat_lt, ◌==◌, if◌then◌else◌, Bool, true, false, ⊤, List, [], ◌∷◌, ◌++◌, length, sum_by, Option, Some, None, IsSomeAnd}
 use Rattle.std.specs.List.{list_any}
 use Rattle.blob_device.specs.Disk.{Disk}
@@ -121,8 +121,8 @@ MayMoveMarkers (Some Last) = ⊥
 
 -- ---- which commands stage a change of the markers
 
--- Over the disk, where `Moves` says that a sync behind what is put has to move a marker. A prune drops the markers below its bound. A destroy stages
--- nothing, since it removes the markers whole.
+-- Over the disk, where `Moves` says that a sync behind what is put has to move a marker. A prune drops the markers
+-- below its bound. A destroy stages nothing, since it removes the markers whole.
 module _ (f : Filing) (Moves : PutOf → Type 0) (d : Disk) where
   abbrev pub Stages : Asked → Type 0
   Stages (PutSync i k v) = Moves (put_of (PutSync i k v))
@@ -132,7 +132,8 @@ module _ (f : Filing) (Moves : PutOf → Type 0) (d : Disk) where
   Stages Sync = Moves Nothing
   Stages Start = Moves Nothing
   Stages Reopen = OfMarkers f d (HasToMove f d)
-  Stages (Prune bound) = OfMarkers f d (λ markers. (s m : ℕ) × IsMarked markers s m × (s < section_of f.items bound))
+  Stages (Prune bound) =
+      OfMarkers f d (λ markers. (s m : ℕ) × IsMarked markers s m × (s < section_of f.items bound))
   Stages Destroy = ⊥
   Stages (Put i k v) = ⊥
   Stages (Multi i k v) = ⊥
@@ -172,7 +173,8 @@ module _ {X : Type 0} (f : Filing) (lists : ℕ → List X) (bytes : ℕ → ℕ
 
   -- the records of its section, with both slots of their last page, or the frames of its values, would pass 2^64
   abbrev pub PassesNumbers : Type 0
-  PassesNumbers = (2 ^ 64 ≤ extent f.layout.page_size ((length (lists (section_of f.items r.index)) + 1) * f.layout.record_size))
+  PassesNumbers =
+      (2 ^ 64 ≤ extent f.layout.page_size ((length (lists (section_of f.items r.index)) + 1) * f.layout.record_size))
       ⊎ (2 ^ 64 ≤ bytes (section_of f.items r.index) + frame_size f.layout r.value)
 
   -- Why a put of the record is refused, in this order.
@@ -188,8 +190,8 @@ module _ {X : Type 0} (f : Filing) (lists : ℕ → List X) (bytes : ℕ → ℕ
 -- ---- by the state of the machine
 
 module _ (f : Filing) (st : State (List ℕ)) where
-  -- The record that goes last in its section by the step of a put: none where the archive is closed, or its index is below the floor, nor, of a put
-  -- that keeps one record at an index, where the index is taken.
+  -- The record that goes last in its section by the step of a put: none where the archive is closed, or its index is
+  -- below the floor, nor, of a put that keeps one record at an index, where the index is taken.
   abbrev pub added_by : PutOf → Option (Entry (List ℕ))
   added_by Nothing = None
   added_by (IfFree r) = if drops st.is_open st.floor r.index || has_index f.items st r.index then None else Some r
@@ -231,16 +233,19 @@ module _ (f : Filing) (st : State (List ℕ)) where
   abbrev pub MustTouchMarkers : Disk → Option Asked → Type 0
   MustTouchMarkers d under_way = IsOpening under_way ⊎ ((under_way ≡ Some Destroy) ⊎ MustMoveNow d under_way)
 
-  -- The command is one that is refused, whatever the device does: a put, or one that has to move a marker where the markers have no next version.
+  -- The command is one that is refused, whatever the device does: a put, or one that has to move a marker where the
+  -- markers have no next version.
   abbrev pub MustRefuse : Disk → Asked → Type 0
-  MustRefuse d command = Adds (Some command) (λ r. IsRefusedAsFull r ⊎ IsRefusedAsTooLarge r) ⊎ (MustMove d command × HasNoVersion f.layout d)
+  MustRefuse d command = Adds (Some command) (λ r. IsRefusedAsFull r ⊎ IsRefusedAsTooLarge r)
+      ⊎ (MustMove d command × HasNoVersion f.layout d)
 
   -- the error refuses the put
   abbrev pub RefusesPut : Asked → Error → Type 0
-  RefusesPut command e = ((e ≡ Full) × Adds (Some command) IsRefusedAsFull) ⊎ ((e ≡ Journal journal.ValueTooLarge) × Adds (Some command) IsRefusedAsTooLarge)
+  RefusesPut command e = ((e ≡ Full) × Adds (Some command) IsRefusedAsFull)
+      ⊎ ((e ≡ Journal journal.ValueTooLarge) × Adds (Some command) IsRefusedAsTooLarge)
 
-  -- What an error says of a state that a lawful image has led to, where it ends the command that was then under way, or, with none under
-  -- way, the opening. `from` is the disk as the command began.
+  -- What an error says of a state that a lawful image has led to, where it ends the command that was then under way,
+  -- or, with none under way, the opening. `from` is the disk as the command began.
   module _ (under_way : Option Asked) (from : Disk) where
     abbrev pub IsCause : Error → Type 0
     -- want of memory is free
@@ -252,8 +257,12 @@ module _ (f : Filing) (st : State (List ℕ)) where
     IsCause (Journal journal.ValueTooLarge) = Adds under_way IsRefusedAsTooLarge
     -- a put that passes a limit or a number, or a marker to move where the markers have no next version
     IsCause Full = Adds under_way IsRefusedAsFull ⊎ (MustMoveNow from under_way × HasNoVersion f.layout from)
-    -- of an opening where an index blob ends within one page, with its slots, of 2^64 bytes
-    IsCause (Journal (journal.Runtime runtime.OffsetOverflow)) = IsOpening under_way × (AreCounted f.layout (as_read from) → ⊥)
+    -- of an opening where a blob of records ends within one page, with its slots, of 2^64 bytes
+    IsCause (Journal (journal.Runtime runtime.OffsetOverflow)) =
+        IsOpening under_way × (AreCounted f.layout (as_read from) → ⊥)
+    -- of an opening where the blob of a section's records has 2^64 bytes or more
+    IsCause (Journal (journal.Corruption x)) = IsOpening under_way
+        × ((x.section < 2 ^ 64) × (2 ^ 64 ≤ length (content_at (as_read from) f.layout.index x.section)))
     -- no other comes
     IsCause e = ⊥
 
@@ -271,11 +280,12 @@ pub record Held : Type 0 where
   pub bytes : ℕ → ℕ
   -- how many records are synced
   pub synced : ℕ → ℕ
-  -- how many bytes of its records, and of its values, are not flushed
+  -- how many bytes of its records are not flushed
   pub record_tail : ℕ → ℕ
+  -- and how many of its values
   pub value_tail : ℕ → ℕ
 
--- what is known of an archive that was not opened
+-- what is known of an archive that was not opened: only a reopening is asked of it, and for that it counts as open
 abbrev pub holding_nothing : Held
 holding_nothing = record {
   is_open = true;
@@ -331,7 +341,8 @@ module _ (f : Filing) where
 
     -- Surely so: a number is passed only in a section that has rows, since the first record of one passes none.
     abbrev pub IsSurelyFull : Entry (List ℕ) → Type 0
-    IsSurelyFull r = IsPastAll r × (IsOverLimits f held.rows held.bytes r ⊎ (held.rows (section_of f.items r.index) ≢ []))
+    IsSurelyFull r = IsPastAll r
+        × (IsOverLimits f held.rows held.bytes r ⊎ (held.rows (section_of f.items r.index) ≢ []))
 
     -- something is put and not dropped, at an index that has to be free where it must be, and the record has P
     abbrev pub PutsBy : PutOf → (Entry (List ℕ) → Type 0) → Type 0
@@ -343,7 +354,8 @@ module _ (f : Filing) where
     PutsHere None P = ⊥
     PutsHere (Some command) P = PutsBy (put_of command) P
 
-    -- Over the disk, what is under way has to move a marker. It is an opening, or it syncs where a section with all its records synced has another marker.
+    -- Over the disk, what is under way has to move a marker. It is an opening, or it syncs where a section with all
+    -- its records synced has another marker.
     abbrev pub MustMoveHeld : Disk → Option Asked → Type 0
     MustMoveHeld d = StagesNow f (λ put. IsMovingBy f d (λ s. length (rows_with put s)) held.synced) d
 
@@ -351,13 +363,14 @@ module _ (f : Filing) where
   abbrev pub HasLongBlob : Disk → Type 0
   HasLongBlob d = (s : ℕ) × (2 ^ 64 ≤ length (content_at (as_read d) f.layout.index s) + (f.layout.page_size + 12))
 
-  -- the disk has what an opening refuses: a bad copy of the markers, a foreign name, a record in another section than its index, or more than the limits
+  -- the disk has what an opening refuses: a bad copy of the markers, a foreign name, a record in another section than
+  -- its index, or more than the limits
   abbrev pub IsUnfit : Disk → Type 0
   IsUnfit d = ((side : Side) × HaveBadCopy f d side) ⊎ (((name : List ℕ) × HasForeign f d name)
       ⊎ (OfKept f (as_read d) (HasStray f.items) ⊎ OfKept f (as_read d) (IsPastLimits f.most_sections f.most_records)))
 
-  -- Over the disk, from any image on, the command is one that is refused, whatever the device does: a put, one that has to move a marker where the markers
-  -- have no next version, or a reopening of an unfit disk.
+  -- Over the disk, from any image on, the command is one that is refused, whatever the device does: a put, one that
+  -- has to move a marker where the markers have no next version, or a reopening of an unfit disk.
   abbrev pub MustRefuseAnywhere : Held → Disk → Asked → Type 0
   MustRefuseAnywhere held d command = PutsHere held (Some command) (λ r. IsSurelyFull held r ⊎ IsPastSizeAlone held r)
       ⊎ ((MustMoveHeld held d (Some command) × HasNoVersion f.layout d) ⊎ ((command ≡ Reopen) × IsUnfit d))
@@ -367,8 +380,8 @@ module _ (f : Filing) where
   RefusesAnywhere held command e = ((e ≡ Full) × PutsHere held (Some command) (IsSurelyFull held))
       ⊎ ((e ≡ Journal journal.ValueTooLarge) × PutsHere held (Some command) (IsPastSizeAlone held))
 
-  -- Why an error ends what was under way, from any image on, where the store held so much. `from` is the disk as it began, and `to` as it ended. Which
-  -- stored bytes a lookup met is not said here.
+  -- Why an error ends what was under way, from any image on, where the store held so much. `from` is the disk as it
+  -- began, and `to` as it ended. Which stored bytes a lookup met is not said here.
   module _ (held : Held) (under_way : Option Asked) (from to : Disk) where
     abbrev pub IsCauseAnywhere : Error → Type 0
     -- want of memory is free
@@ -387,10 +400,14 @@ module _ (f : Filing) where
     IsCauseAnywhere (Journal (journal.InvalidBlobName name)) = IsOpening under_way × HasForeign f from name
     IsCauseAnywhere RecordCorrupted = IsOpening under_way × OfKept f (as_read from) (HasStray f.items)
     -- a section has less than its marker says
-    IsCauseAnywhere (Journal (journal.Corruption x)) = IsOpening under_way × OfMarkers f from (λ markers. IsShortOf f from markers x)
+    IsCauseAnywhere (Journal (journal.Corruption x)) = IsOpening under_way
+        × OfMarkers f from (λ markers. IsShortOf f from markers x)
+    -- a page below a marker is damaged, or stored bytes that a lookup met
     IsCauseAnywhere (Journal (journal.Runtime (runtime.InvalidChecksum k))) =
         (IsOpening under_way × OfMarkers f from (λ markers. HasDamagedPage f to markers k)) ⊎ IsLooking under_way
-    IsCauseAnywhere (Journal (journal.Runtime runtime.OffsetOverflow)) = (IsOpening under_way × HasLongBlob to) ⊎ IsLooking under_way
+    -- a blob is longer than a buffer takes, or stored bytes that a lookup met
+    IsCauseAnywhere (Journal (journal.Runtime runtime.OffsetOverflow)) =
+        (IsOpening under_way × HasLongBlob to) ⊎ IsLooking under_way
     -- stored bytes that a lookup met
     IsCauseAnywhere (Journal (journal.Runtime runtime.BlobInsufficientLength)) = IsLooking under_way
     IsCauseAnywhere (Journal (journal.SectionOutOfRange n)) = IsLooking under_way

@@ -53,7 +53,8 @@ journal_text (journal_error.InvalidBlobName name) = codes "invalid-blob-name " +
 journal_text (journal_error.ItemOutOfRange n) = codes "item-out-of-range " ++ decimal n
 journal_text (journal_error.SectionOutOfRange n) = codes "section-out-of-range " ++ decimal n
 journal_text (journal_error.AlreadyPrunedToSection n) = codes "already-pruned " ++ decimal n
-journal_text (journal_error.ChecksumMismatch stored computed) = codes "checksum-mismatch " ++ decimal stored ++ codes " " ++ decimal computed
+journal_text (journal_error.ChecksumMismatch stored computed) =
+    codes "checksum-mismatch " ++ decimal stored ++ codes " " ++ decimal computed
 journal_text journal_error.ValueTooLarge = codes "value-too-large"
 journal_text journal_error.OffsetOverflow = codes "offset-overflow"
 journal_text (journal_error.Corruption x) = damage_text x

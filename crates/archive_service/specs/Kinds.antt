@@ -1,5 +1,5 @@
--- What a store of records is, that commands are served from: its states and steps, what its images mean, what crashes may leave of it, which blobs
--- are its own, and why it fails.
+-- What a store of records is, that commands are served from: its states and steps, what its images mean, what crashes
+-- may leave of it, which blobs are its own, and why it fails.
 use Rattle.std.specs.Prelude.{◌≡◌, Option, None, Some, Result, Ok, Err}
 use Rattle.blob_device.specs.Counts.{Rose}
 use Rattle.blob_device.specs.Disk.{Disk, Image, Key, NothingPending}
@@ -21,12 +21,14 @@ pub record Kind : Type 1 where
   pub State : Type 0
   -- a store may be opened over the image
   pub Lawful : Image → Type 0
-  -- the state to which an opening of the image comes; there is one
+  -- the state to which an opening of the image comes
   pub IsStart : Image → State → Type 0
+  -- there is one
   pub starts : (image : Image) → Lawful image → (st : State) × IsStart image st
   -- the store may give this reply to the command, and go on from one state to another
   pub Step : State → Asked → Replied → State → Type 0
-  -- each crash of the disk without a chance seal leaves a lawful image that stands for the state with this command under way
+  -- each crash of the disk without a chance seal leaves a lawful image that stands for the state with this command
+  -- under way
   pub Leaves : State → Option Asked → Disk → Type 0
   -- the command that begins in the state, over the disk, gets no reply
   pub MustRefuse : State → Disk → Asked → Type 0
@@ -36,8 +38,9 @@ pub record Kind : Type 1 where
   pub IsCause : State → Option Asked → Disk → Error → Type 0
   -- ---- from any image on
 
-  -- what the store knows of itself, also where the image is not lawful; and what is known of one that was not opened
+  -- what the store knows of itself, also where the image is not lawful
   pub Known : Type 0
+  -- what is known of one that was not opened
   pub unknown : Known
   -- what it knows once it was opened from one disk to another
   pub IsFound : Disk → Disk → Known → Type 0
@@ -53,21 +56,27 @@ pub record Kind : Type 1 where
   pub IsQuiet : Known → Asked → Type 0
   -- ---- over any device
 
-  -- the blobs of the store, and those that the command may change
+  -- the blobs of the store
   pub IsOwn : Key → Type 0
+  -- those of them that the command may change
   pub MayChange : Asked → Key → Type 0
 
 -- What contracts see of the stores A of a kind, which are kept by one configuration.
 pub record Serving (A V : Type 0) : Type 1 where
+  -- of which kind they are
   pub kind : Kind
-  -- the configuration is valid, and allows the value
+  -- the configuration is valid
   pub IsValid : Type 0
+  -- it allows the value
   pub Accepts : V → Type 0
-  -- the store is one of this configuration, and may be used with a device that has opened these blobs, over this disk where the device tells its disk
+  -- the store is one of this configuration, and may be used with a device that has opened these blobs, over this disk
+  -- where the device tells its disk
   pub IsUsable : A → Type 0 → OpenedList → Disk → Type 0
   -- the disk has what is held in good order
   pub IsSound : A → Disk → Type 0
+  -- what is held over the disk
   pub state : A → Disk → kind.State
+  -- what it knows of itself
   pub known : A → kind.Known
 
 module _ {A V D : Type 0} (s : Serving A V) (dev : device.Ghosts D) where
@@ -86,8 +95,9 @@ module _ {A V D : Type 0} (s : Serving A V) (dev : device.Ghosts D) where
   pub record Answered (a : A) (command : Asked) (r : A) (reply : Replied) (old new : D) : Type 0 where
     -- it goes on as a store of the configuration
     pub usable : MayServe r new
-    -- from a sound store on, the reply is a step of the machine
+    -- it is sound where the old one was
     pub sound : dev.Tells → IsSoundOver a old → IsSoundOver r new
+    -- from a sound store on, the reply is a step of the machine
     pub step : dev.Tells → IsSoundOver a old
         → s.kind.Step (state_over a old) command reply (state_over r new)
     -- a reopening comes to the start state of the image as it read when the command began
@@ -99,9 +109,10 @@ module _ {A V D : Type 0} (s : Serving A V) (dev : device.Ghosts D) where
     -- each crash now leaves what stands for the new state
     pub rest : dev.Tells → IsSoundOver a old
         → s.kind.Leaves (state_over r new) None (disk (dev.time new))
-    -- over any image: what the store then knows, and that the command did not have to be refused by what it knew
+    -- over any image: what the store then knows
     pub learns : dev.Tells
         → s.kind.Learns (s.known a) command (disk (dev.time old)) (disk (dev.time new)) (s.known r)
+    -- by what it knew the command did not have to be refused
     pub allowed_anywhere : dev.Tells
         → s.kind.MustRefuseAnywhere (s.known a) (disk (dev.time old)) command → ⊥
 
@@ -113,9 +124,10 @@ module _ {A V D : Type 0} (s : Serving A V) (dev : device.Ghosts D) where
     -- a refusal writes nothing
     pub unwritten : dev.Tells → IsSoundOver a old → s.kind.Refuses (state_over a old) command e
         → Unchanged (dev.time old) (dev.time new)
-    -- over any image: the cause by what the store knew, and a refusal by that
+    -- over any image: the cause by what the store knew
     pub anywhere : dev.Tells
         → s.kind.IsCauseAnywhere (s.known a) (Some command) (disk (dev.time old)) (disk (dev.time new)) e
+    -- a refusal by that writes nothing
     pub unwritten_anywhere : dev.Tells → s.kind.RefusesAnywhere (s.known a) command e
         → Unchanged (dev.time old) (dev.time new)
     -- over any device
@@ -132,7 +144,8 @@ module _ {A V D : Type 0} (s : Serving A V) (dev : device.Ghosts D) where
         → Always (dev.time old) (dev.time new) (s.kind.Leaves (state_over a old) (Some command))
     -- from any image on: no blob is touched but those that the command may change
     pub alone : dev.Tells
-        → Always (dev.time old) (dev.time new) (λ d. (q : Key) → (s.kind.MayChange command q → ⊥) → d q ≡ disk (dev.time old) q)
+        → Always (dev.time old) (dev.time new)
+        (λ d. (q : Key) → (s.kind.MayChange command q → ⊥) → d q ≡ disk (dev.time old) q)
     -- over any device: blobs of others are left alone
     pub footprint : Footprint dev s.kind.IsOwn NoBound old new
     -- a command that makes no call of the device leaves it as it was
@@ -146,9 +159,10 @@ module _ {A V D : Type 0} (s : Serving A V) (dev : device.Ghosts D) where
   pub record IsOpened (r : A) (old new : D) : Type 0 where
     -- it is a store of the configuration
     pub usable : MayServe r new
-    -- from a lawful image on, of which nothing is pending
+    -- from a lawful image on, of which nothing is pending, it is sound
     pub sound : dev.Tells → NothingPending (disk (dev.time old))
         → s.kind.Lawful (as_read (disk (dev.time old))) → IsSoundOver r new
+    -- its state is the start state of that image
     pub start : dev.Tells → NothingPending (disk (dev.time old))
         → s.kind.Lawful (as_read (disk (dev.time old)))
         → s.kind.IsStart (as_read (disk (dev.time old))) (state_over r new)
@@ -160,8 +174,9 @@ module _ {A V D : Type 0} (s : Serving A V) (dev : device.Ghosts D) where
     pub rest : dev.Tells → NothingPending (disk (dev.time old))
         → s.kind.Lawful (as_read (disk (dev.time old)))
         → s.kind.Leaves (state_over r new) None (disk (dev.time new))
-    -- over any image: what the store then knows, and that the opening did not have to be refused
+    -- over any image: what the store then knows
     pub found : dev.Tells → s.kind.IsFound (disk (dev.time old)) (disk (dev.time new)) (s.known r)
+    -- the opening did not have to be refused
     pub allowed_anywhere : dev.Tells
         → s.kind.MustRefuseAnywhere s.kind.unknown (disk (dev.time old)) Reopen → ⊥
 

@@ -1,5 +1,6 @@
--- What this layer means to the layers above: which bytes are a script, which texts replies and errors have, and what a store
--- of records is (`Kinds`), the prunable archive as one (`PrunableKind`), and what a run of a script's commands over a store promises (`Serves`).
+-- What this layer means to the layers above: which bytes are a script, which texts replies and errors have, and what
+-- a store of records is (`Kinds`), the prunable archive as one (`PrunableKind`), and what a run of a script's
+-- commands over a store promises (`Serves`).
 pub mod Causes
 pub mod Ended
 pub mod ErrorTexts

@@ -1,6 +1,7 @@
 -- The prunable archive as a kind of store.
 use Rattle.std.specs.Prelude.{◌≢◌, ◌≡◌, ◌⊎◌, ⊤, ℕ, ◌+◌, ◌<◌, ◌≤◌, ◌^◌, max, if◌then◌else◌, true, false, List, [], length, map}
 use Rattle.blob_device.specs.Disk.{Disk, Key}
+use Rattle.sealed_pages.specs.Tails.{tail_after}
 use Rattle.paired.specs.Crashes.{IsOwn}
 use Rattle.paired.specs.Kept.{Markers, content_at}
 use Rattle.paired.specs.Opening.{as_read}
@@ -18,7 +19,8 @@ use Rattle.archive_service.specs.Starts.{start_of, starts}
 
 -- The buffers of a section's records, and of its values, flush from so many bytes on.
 module _ (f : Filing) (write_buffer value_buffer : ℕ) where
-  -- the blobs that a command may change: none by a lookup; by a put that does not sync the two of its section; else all of the archive
+  -- the blobs that a command may change: none by a lookup; by a put that does not sync the two of its section; else
+  -- all of the archive
   abbrev pub MayChange : Asked → Key → Type 0
   MayChange (Get i) q = ⊥
   MayChange (GetKey k) q = ⊥
@@ -50,17 +52,21 @@ module _ (f : Filing) (write_buffer value_buffer : ℕ) where
   pub record IsSettled (held : Held) : Type 0 where
     -- all rows are synced
     pub synced : (s : ℕ) → held.synced s ≡ length (held.rows s)
-    -- no bytes are left to flush, of records and of values
+    -- no bytes of records are left to flush
     pub record_tail : (s : ℕ) → held.record_tail s ≡ 0
+    -- nor of values
     pub value_tail : (s : ℕ) → held.value_tail s ≡ 0
 
   -- once it was opened
   pub record IsFound (from to : Disk) (held : Held) : Type 0 where
-    -- it is open, and nothing was pruned
+    -- it is open
     pub is_open : held.is_open ≡ true
+    -- nothing was pruned
     pub floor : held.floor ≡ 0
-    -- a row for each record that the image keeps, and none behind the last section that a u64 names
-    pub rows : OfKept f (as_read from) (λ entries. (s : ℕ) → s < 2 ^ 64 → held.rows s ≡ map (λ e. row_in f.key_size e.stored) (entries s))
+    -- a row for each record that the image keeps
+    pub rows : OfKept f (as_read from) (λ entries. (s : ℕ) → s < 2 ^ 64
+        → held.rows s ≡ map (λ e. row_in f.key_size e.stored) (entries s))
+    -- none behind the last section that a u64 names
     pub no_more : (s : ℕ) → 2 ^ 64 ≤ s → held.rows s ≡ []
     -- all bytes of its value blobs
     pub bytes : (s : ℕ) → s < 2 ^ 64
@@ -70,25 +76,40 @@ module _ (f : Filing) (write_buffer value_buffer : ℕ) where
 
   -- both buffers of the section are there, and have room for what is put
   pub record FitsBuffers (held : Held) (put : PutOf) (s : ℕ) : Type 0 where
-    -- the section has records and values
+    -- the section has records
     pub records_there : held.rows s ≢ []
+    -- and values
     pub values_there : held.bytes s ≢ 0
-    -- with one more, neither buffer is full
+    -- with one more, the buffer of records is not full
     pub record_room : held.record_tail s + f.layout.record_size < write_buffer
+    -- nor that of values
     pub value_room : held.value_tail s + frame_by f put < value_buffer
 
   -- it is open as before, and its floor is the same
   pub record IsOpenAsBefore (held next : Held) : Type 0 where
+    -- it is open just where it was
     pub is_open : next.is_open ≡ held.is_open
+    -- below the same index all was pruned
     pub floor : next.floor ≡ held.floor
+
+  -- Of a section, behind a put into it: what was not flushed and what is new stay unflushed, until they fill their
+  -- buffer. Then nothing does.
+  pub record AreTailsWith (held : Held) (put : PutOf) (next : Held) (s : ℕ) : Type 0 where
+    -- of its records
+    pub records : next.record_tail s ≡ tail_after write_buffer (held.record_tail s) f.layout.record_size
+    -- and of its values
+    pub values : next.value_tail s ≡ tail_after value_buffer (held.value_tail s) (frame_by f put)
 
   -- What is put was added, where it adds a record.
   pub record HoldsPut (held : Held) (put : PutOf) (next : Held) : Type 0 where
-    -- the row goes last in its section, and the bytes are those of its frame more
+    -- the row goes last in its section
     pub rows : (s : ℕ) → next.rows s ≡ rows_with f held put s
+    -- the bytes of values are those of its frame more
     pub bytes : (s : ℕ) → next.bytes s ≡ bytes_with f held put s
     -- nothing is synced
     pub synced : (s : ℕ) → next.synced s ≡ held.synced s
+    -- what is then not flushed of the section put into
+    pub own_tails : (s : ℕ) → adds_to f held put s ≡ true → AreTailsWith held put next s
     -- what is not flushed of other sections stays
     pub other_tails : (s : ℕ) → adds_to f held put s ≡ false
         → (next.record_tail s ≡ held.record_tail s) × (next.value_tail s ≡ held.value_tail s)
@@ -101,7 +122,9 @@ module _ (f : Filing) (write_buffer value_buffer : ℕ) where
 
   -- A sync changes no row and no number of bytes.
   pub record HoldsSynced (held next : Held) : Type 0 where
+    -- the rows stay
     pub rows : (s : ℕ) → next.rows s ≡ held.rows s
+    -- so do the numbers of bytes
     pub bytes : (s : ℕ) → next.bytes s ≡ held.bytes s
     -- all is synced and flushed
     pub settled : IsSettled next
@@ -112,35 +135,43 @@ module _ (f : Filing) (write_buffer value_buffer : ℕ) where
   pub record HoldsPutAndSynced (held : Held) (put : PutOf) (next : Held) : Type 0 where
     -- what is held between them
     pub between : Held
+    -- what is put was added
     pub holds_put : HoldsPut held put between
+    -- and then all was synced
     pub synced : HoldsSynced between next
 
   -- of a section nothing changes
   pub record StaysAt (held next : Held) (s : ℕ) : Type 0 where
-    -- its rows, its bytes, and how many rows are synced
+    -- its rows
     pub rows : next.rows s ≡ held.rows s
+    -- its bytes
     pub bytes : next.bytes s ≡ held.bytes s
+    -- how many rows are synced
     pub synced : next.synced s ≡ held.synced s
-    -- what is not flushed
+    -- what is not flushed of its records
     pub record_tail : next.record_tail s ≡ held.record_tail s
+    -- and of its values
     pub value_tail : next.value_tail s ≡ held.value_tail s
 
   -- of a section nothing is left
   pub record IsEmptyAt (held : Held) (s : ℕ) : Type 0 where
-    -- no row, no bytes, nothing synced
+    -- no row
     pub rows : held.rows s ≡ []
+    -- no bytes
     pub bytes : held.bytes s ≡ 0
+    -- nothing synced
     pub synced : held.synced s ≡ 0
-    -- nothing to flush
+    -- no bytes of records to flush
     pub record_tail : held.record_tail s ≡ 0
+    -- nor of values
     pub value_tail : held.value_tail s ≡ 0
 
-  -- An open archive was pruned: the sections below the bound, rounded down to the start of a section, are gone, and no other changes. Below the floor
-  -- they were gone before. A closed one stays.
+  -- An open archive was pruned: the sections below the bound, rounded down to the start of a section, are gone, and
+  -- no other changes. Below the floor they were gone before. A closed one stays.
   pub record HoldsPruned (held : Held) (bound : ℕ) (next : Held) : Type 0 where
     -- it is open as before
     pub is_open : next.is_open ≡ held.is_open
-    -- the floor is no lower than before, nor than the bound
+    -- the floor is the greater of what it was and the bound, rounded down to the start of a section
     pub floor : next.floor ≡ (if held.is_open then max held.floor (section_of f.items bound) else held.floor)
     -- the sections below the bound are gone
     pub below : held.is_open ≡ true → (s : ℕ) → s < section_of f.items bound → IsEmptyAt next s
@@ -150,7 +181,9 @@ module _ (f : Filing) (write_buffer value_buffer : ℕ) where
 
   -- it was destroyed: it is closed, and of no section anything is left
   pub record IsDestroyed (next : Held) : Type 0 where
+    -- it is closed
     pub closed : next.is_open ≡ false
+    -- it has no section
     pub empty : (s : ℕ) → IsEmptyAt next s
 
   -- once a command got a reply

@@ -28,7 +28,8 @@ module _ {A V S : Type 0} {gs : _} (p : Prunable A V (AppendFactory S) (PageBlob
   }
 
   module _ (setup : Setup V) where
-    -- The archive is one of this configuration, and may be used. Of a section that was not written since the last sync nothing is left to flush.
+    -- The archive is one of this configuration, and may be used. Of a section that was not written since the last
+    -- sync nothing is left to flush.
     pub record IsUsableStore (a : A) (told : Type 0) (opened : OpenedList) (d : Disk) : Type 0 where
       -- the archive may be used
       pub usable : IsArchive (p.see a) p.buffers told opened d
@@ -36,8 +37,9 @@ module _ {A V S : Type 0} {gs : _} (p : Prunable A V (AppendFactory S) (PageBlob
       pub filing : IsSameFiling setup.filing (filing_by p a)
       -- it takes the values that are allowed
       pub accepts : (v : V) → setup.Allows v → p.Accepts a v
-      -- its buffers flush from so many bytes on
+      -- its buffers of records flush from so many bytes on
       pub write_buffer : write_buffer_of (p.see a) ≡ setup.write_buffer
+      -- and so do those of values
       pub value_buffer : value_buffer_of (p.see a) ≡ setup.value_buffer
       -- nothing is left to flush of what was not written
       pub flushed : told → (s : ℕ) → (p.see a).is_written s ≡ false

@@ -59,22 +59,32 @@ CanBeSaid max command = IsLone command ⊎ (IsShort command ⊎ IsLongOf max com
 
 -- the text is the script of these commands: their lines, one behind the other, and nothing else
 pub record Spells (max : ℕ) (text : List ℕ) (commands : List Spelled) : Type 0 where
+  -- each is one that the reader takes
   pub said : AllByRecursion (CanBeSaid max) commands
+  -- the text has their lines alone
   pub text_is : text ≡ script_text commands
 
 -- The text does not begin with the line of any command, and is not empty. So it begins with a line that is bad, or
 -- with bytes behind which no LF comes.
 pub record BeginsBadly (max : ℕ) (text : List ℕ) : Type 0 where
+  -- it is not empty
   pub some : text ≢ []
+  -- it does not begin with the line of a command
   pub bad : (command : Spelled) (rest : List ℕ) → CanBeSaid max command → text ≢ line_of command ++ 10 ∷ rest
 
 -- Line n of the text, counted from 1, is the first bad one: the lines before it are those of commands.
 pub record IsFirstBad (max : ℕ) (text : List ℕ) (n : ℕ) : Type 0 where
+  -- the commands of the lines before it
   pub before : List Spelled
+  -- the text from it on
   pub rest : List ℕ
+  -- each command is one that the reader takes
   pub said : AllByRecursion (CanBeSaid max) before
+  -- the text is their lines, and the rest
   pub text_is : text ≡ script_text before ++ rest
+  -- they are one fewer than its number
   pub number : n ≡ length before + 1
+  -- the rest begins with no line of a command
   pub bad : BeginsBadly max rest
 
 -- why a text is refused: a line that is named is the first bad one, and want of memory may come at any text
@@ -82,7 +92,8 @@ abbrev pub IsCause : ℕ → List ℕ → ScriptError → Type 0
 IsCause max text (Line n) = IsFirstBad max text n
 IsCause max text Mem = Unit {0}
 
--- What reading a text as one thing finds: the thing that the text spells, or None where it spells none that may be said.
+-- What reading a text as one thing finds: the thing that the text spells, or None where it spells none that may be
+-- said.
 abbrev pub IsReading : {A : Type 0} → (A → Type 0) → (A → List ℕ) → List ℕ → Option A → Type 0
 IsReading may_be text_of text (Some found) = may_be found × (text ≡ text_of found)
 IsReading {A} may_be text_of text None = (thing : A) → may_be thing → text ≢ text_of thing
@@ -93,7 +104,8 @@ IsCommandOf max line found = IsReading (CanBeSaid max) line_of line found
 
 -- what taking the first line of a text finds: a command, and what stands behind its line
 abbrev pub IsFirstLine : ℕ → List ℕ → Option (Spelled × List ℕ) → Type 0
-IsFirstLine max text found = IsReading {A = Spelled × List ℕ} (λ x. CanBeSaid max x.0) (λ x. line_of x.0 ++ 10 ∷ x.1) text found
+IsFirstLine max text found =
+    IsReading {A = Spelled × List ℕ} (λ x. CanBeSaid max x.0) (λ x. line_of x.0 ++ 10 ∷ x.1) text found
 
 -- ---- the laws that make an answer of the reader exact
 
@@ -103,7 +115,8 @@ OneScript = (max : ℕ) (text : List ℕ) (a b : List Spelled) → Spells max te
 
 -- a text that spells a script has no bad line
 abbrev pub GoodOrBad : Type 0
-GoodOrBad = (max : ℕ) (text : List ℕ) (commands : List Spelled) (n : ℕ) → Spells max text commands → ¬ (IsFirstBad max text n)
+GoodOrBad = (max : ℕ) (text : List ℕ) (commands : List Spelled) (n : ℕ) → Spells max text commands
+    → ¬ (IsFirstBad max text n)
 
 -- one line is the first bad one
 abbrev pub OneFirstBad : Type 0

@@ -23,8 +23,12 @@ pub starts : (f : Filing) (image : Image) (markers : Markers) → Lawful f image
 starts f image markers lawful = record {
   held = lawful.pair.held;
   is_open = refl;
-  lists = λ s small. (let e : nat_lt s (2 ^ 64) ≡ true = grind (arith, nat_tests) in ap (λ b. if b then kept f image markers s else []) e);
-  no_more = λ s large. (let e : nat_lt s (2 ^ 64) ≡ false = grind (arith, nat_tests) in ap (λ b. if b then kept f image markers s else []) e);
+  lists = λ s small.
+      let e : nat_lt s (2 ^ 64) ≡ true = grind (arith, nat_tests) in
+      ap (λ b. if b then kept f image markers s else []) e;
+  no_more = λ s large.
+      let e : nat_lt s (2 ^ 64) ≡ false = grind (arith, nat_tests) in
+      ap (λ b. if b then kept f image markers s else []) e;
   synced = λ s. refl;
   floor = refl;
 }

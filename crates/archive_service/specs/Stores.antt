@@ -28,7 +28,8 @@ filing_in n sealing refusal (Prunable cfg) = filing_for n sealing refusal cfg
 -- the store as a kind
 abbrev pub kind_in : {T S C : Type 0} → ℕ → seal.Ghosts S → (List ℕ → C → Option codec.Error)
     → StoreConfig T C → Kind
-kind_in n sealing refusal (Prunable cfg) = prunable_kind (filing_for n sealing refusal cfg) cfg.key_write_buffer cfg.value_write_buffer
+kind_in n sealing refusal (Prunable cfg) =
+    prunable_kind (filing_for n sealing refusal cfg) cfg.key_write_buffer cfg.value_write_buffer
 
 -- a value that the command puts, if any, has P
 abbrev pub PutsOnly : {K V : Type 0} → (V → Type 0) → asking.Command K V → Type 0

@@ -3,7 +3,8 @@ use Rattle.std.specs.Prelude.{◌≡◌, ◌≢◌, ℕ, ◌/◌, ◌%◌, ◌�
 use Rattle.std.specs.Int.{IsInRange}
 use Rattle.std.specs.List.{All, AllByRecursion}
 
--- what cutting a text at its first such byte finds: the text before the byte and the text behind it, or that it has none
+-- what cutting a text at its first such byte finds: the text before the byte and the text behind it, or that it has
+-- none
 abbrev pub IsCut : ℕ → List ℕ → Option (List ℕ × List ℕ) → Type 0
 IsCut byte text (Some parts) = (text ≡ parts.0 ++ byte ∷ parts.1) × AllByRecursion (λ b. b ≢ byte) parts.0
 IsCut byte text None = AllByRecursion (λ b. b ≢ byte) text
@@ -26,6 +27,9 @@ IsHexText digits = (length digits % 2 ≡ 0) × All IsLowerDigit digits
 
 -- the digits of a value that is not empty and has at most max bytes
 pub record IsValueText (max : ℕ) (digits : List ℕ) : Type 0 where
+  -- there are some
   pub some : 0 < length digits
+  -- they are digits of whole bytes
   pub hex : IsHexText digits
+  -- of no more bytes than that
   pub short : length digits / 2 ≤ max

@@ -7,6 +7,7 @@ use std::marker::Model;
 /// For each command that was begun, in order, how many calls the device had counted when it began.
 #[derive(Debug, Drop)]
 pub struct Marks {
+    // never falling: each is the device's count as its command began
     marks: Vec<u64>,
 }
 

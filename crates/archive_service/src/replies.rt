@@ -9,6 +9,7 @@ use std::marker::Model;
 /// The replies to commands, in their order.
 #[derive(Debug, Drop)]
 pub struct Replies<V> {
+    // one for each command that was answered, entered as it was
     replies: Vec<Reply<V>>,
 }
 

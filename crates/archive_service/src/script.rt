@@ -21,7 +21,7 @@ pub enum ScriptError {
     #[error("line {0} is no command")]
     Line(u64),
     /// There was no memory.
-    #[error("memory")]
+    #[error("there was no memory")]
     Mem,
 }
 
@@ -44,6 +44,7 @@ impl<T: Drop> From<AllocFailed<T>> for ScriptError {
 /// The commands of a script. A contract sees them with the bytes of their keys and values.
 #[derive(Debug, Drop)]
 pub struct Script {
+    // in the order of their lines
     commands: Vec<Command<Key8, ByteValue>>,
 }
 

@@ -83,7 +83,9 @@ pub fn serve_from<A: Store, D: Device>(
 // The marks and the replies so far.
 #[derive(Drop)]
 struct Progress<V> {
+    // one for each command that was begun
     marks: Marks,
+    // one for each command that was answered: as many as the marks, or one less
     replies: Replies<V>,
 }
 

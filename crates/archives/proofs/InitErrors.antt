@@ -104,6 +104,12 @@ module _ {T : Type 0} (r : Result T Error) where
   gives_up_before a b c le (inl (inr fault)) = inl (inr (fault.0, rose_before a b c le fault.1))
   gives_up_before a b c le (inr lost) = inr (lost.0, rose_before a b c le lost.1)
 
+  -- then it is not for want of room
+  pub no_room_given_up : (a b : ℕ) → GivesUp a b → IsErrOf r (Journal (section.Runtime OffsetOverflow)) → ⊥
+  no_room_given_up a b (inl (inl memory)) room = cc (memory, room)
+  no_room_given_up a b (inl (inr fault)) room = (let is = fault.0 in cc (is, room))
+  no_room_given_up a b (inr lost) room = (let is = lost.0 in cc (is, room))
+
   module _ (U : Type 0) (e : journal.Error) (is : r ≡ Err (raised e)) where
     abbrev pub Lower : Result U journal.Error
     Lower = Err e

@@ -48,6 +48,7 @@ pub mod OpenLoop
 pub mod OpenRows
 pub mod OpenCauses
 pub mod OpenParts
+pub mod LawfulOpens
 pub mod OpensLemmas
 pub mod DrainCauses
 pub mod OpenErrors

@@ -7,11 +7,14 @@ use Rattle.blob_device.specs.Footprint.{Footprint}
 use Rattle.blob_device.specs.Opened.{reads_of}
 use Rattle.blob_device.specs.Timeline.{disk}
 use Rattle.blob_device.specs.declared.device.Device as device
+use Rattle.blob_device.specs.declared.runtime.RError.TheVariants as runtime
 use Rattle.meta_store.specs.declared.error.Error.TheVariants as metadata
 use Rattle.meta_store.specs.declared.error.Side.{Side}
+use Rattle.meta_store.proofs.Uses.{IsReadable}
 use Rattle.sealed_pages.specs.declared.page_blob.PageBlob.{PageBlob}
 use Rattle.segments.specs.Refusing.{IsOpenedTooLong}
 use Rattle.segments.specs.Sections.{section_key}
+use Rattle.segments.specs.declared.journal.Error.TheVariants as journal
 use Rattle.segments.specs.declared.sealed.AppendFactory.{AppendFactory}
 use Rattle.paired.specs.Crashes.{IsOwn}
 use Rattle.paired.specs.Kept.{Layout, Markers, stored_records}
@@ -24,16 +27,17 @@ use Rattle.archives.specs.Archives.{Buffers}
 use Rattle.archives.specs.Enters.{Drains, kept_on}
 use Rattle.archives.specs.Filing.{kept_entries}
 use Rattle.archives.specs.Lawful.{Lawful}
-use Rattle.archives.specs.Opening.{FindsShort, HasNoVersion, HasStray, IsPastLimits}
+use Rattle.archives.specs.Opening.{FindsShort, HasStray, IsPastLimits}
 use Rattle.archives.specs.Opens.{HaveBadCopy, IsOpeningCause, IsOpeningFailure, NotOpened, Opened, OpeningLeaves, Opens, ReadsOnOpening}
 use Rattle.archives.specs.Prunable.{Prunable, Setup}
 use Rattle.archives.specs.Rows.{Row}
 use Rattle.archives.specs.declared.error.Error.{Error}
-use Rattle.archives.specs.declared.error.Error.TheVariants.{Full, Metadata}
+use Rattle.archives.specs.declared.error.Error.TheVariants.{Journal, Metadata}
 use Rattle.archives.specs.declared.prunable.limits.Limits.{Limits}
 use Rattle.archives.proofs.DrainCauses.{opening_of_drain, over_at, stray_at}
 use Rattle.archives.proofs.InitCauses.{lawful_no_over, lawful_no_stray, marked_damage, marked_short}
 use Rattle.archives.proofs.InitMoments.{moments_lawful, moments_stand}
+use Rattle.archives.proofs.LawfulOpens.{failed_on_lawful, lawful_cause}
 use Rattle.archives.proofs.OpenCauses.{HasCause, HasLostMarkers, HasNoRoom, IsOpeningError, opening_cause, opening_failure}
 use Rattle.archives.proofs.OpenKept.{over_same, stray_same}
 use Rattle.archives.proofs.OpenParts.{AreFew, Part, Replayed, drained_part, few_left, kept_same, left_behind, markers_are, stored_same}
@@ -73,29 +77,35 @@ module _ {A V S D : Type 0} {gs : _} (p : Prunable A V (AppendFactory S) (PageBl
     pub not_opened : (r : Result A Error) (e : Error) → r ≡ Err e → IsOpeningError r ⊎ GaveUp r → (dev.Tells → HasCause r setup.filing (disk (dev.time old)) (disk (dev.time new)))
         → (HasNoRoom r → (s : ℕ) × IsOpenedTooLong (λ n. 2 ^ 64 ≤ n + (setup.filing.layout.page_size + 12)) (dev.opened new) (section_key setup.filing.layout.index s))
         → (dev.Tells → (side : Side) → HaveBadCopy setup.filing (disk (dev.time old)) side → IsErrOf r (Metadata (metadata.Corruption side)) ⊎ GaveUp r)
-        → (dev.Tells → (markers : Markers) → Lawful setup.filing (as_read (disk (dev.time old))) markers → AreCounted setup.filing.layout (as_read (disk (dev.time old)))
-        → (IsErrOf r Full × HasNoVersion setup.filing.layout (disk (dev.time old))) ⊎ GaveUp r)
+        → (dev.Tells → (k : ℕ) → IsErrOf r (Journal (journal.Runtime (runtime.InvalidChecksum k))) → ⊥)
+        → (dev.Tells → (markers : Markers) → Lawful setup.filing (as_read (disk (dev.time old))) markers → AreCounted setup.filing.layout (as_read (disk (dev.time old))) → HasNoRoom r → ⊥)
+        → IsReadable setup.filing.layout.markers → 1 ≤ setup.filing.layout.page_size → 1 ≤ setup.filing.layout.record_size
         → Opens p dev setup r old new
-    not_opened r e is cause causes room copies complete = subst (λ (x : Result A Error). Opens p dev setup x old new) (sym is) (record {
+    not_opened r e is cause causes room copies page counted readable paged sized = subst (λ (x : Result A Error). Opens p dev setup x old new) (sym is) (record {
       moments = moments;
       footprint = touched;
       ends = record {
-        cause = opening_cause setup.filing dev old new A e (subst (λ (x : Result A Error). IsOpeningError x ⊎ GaveUp x) is cause)
-            (λ t. subst (λ (x : Result A Error). HasCause x setup.filing (disk (dev.time old)) (disk (dev.time new))) is (causes t))
-            (subst (λ (x : Result A Error). HasNoRoom x → (s : ℕ) × IsOpenedTooLong (λ n. 2 ^ 64 ≤ n + (setup.filing.layout.page_size + 12)) (dev.opened new) (section_key setup.filing.layout.index s)) is room);
+        cause = why;
         copies = λ t side bad. elim (subst (λ (x : Result A Error). IsErrOf x (Metadata (metadata.Corruption side)) ⊎ GaveUp x) is (copies t side bad)) [
           | inl corrupt ↦ inl (the_error (Metadata (metadata.Corruption side)) corrupt)
           | inr gave ↦ inr (opening_failure setup.filing dev old new A e gave)
         ];
-        complete = λ t markers lawful counted. elim (subst (λ (x : Result A Error). (IsErrOf x Full × HasNoVersion setup.filing.layout (disk (dev.time old))) ⊎ GaveUp x) is (complete t markers lawful counted)) [
-          | inl full ↦ inl (the_error Full full.0, full.1)
-          | inr gave ↦ inr (opening_failure setup.filing dev old new A e gave)
-        ];
+        complete = λ t markers lawful. lawful_cause setup.filing dev old new readable paged sized t markers lawful e why
+            (λ k same. page t k (given (Journal (journal.Runtime (runtime.InvalidChecksum k))) same))
+            (λ all same. counted t markers lawful all (given (Journal (journal.Runtime runtime.OffsetOverflow)) same));
       };
     })
       where
         the_error : (x : Error) → IsErrOf {T = A} (Err e) x → e ≡ x
         the_error x same = cc same
+
+        given : (x : Error) → e ≡ x → IsErrOf r x
+        given x same = (let as_result : Error → Result A Error = λ y. Err y in is ∙ ap as_result same)
+
+        why : IsOpeningCause setup.filing dev old new e
+        why = opening_cause setup.filing dev old new A e (subst (λ (x : Result A Error). IsOpeningError x ⊎ GaveUp x) is cause)
+            (λ t. subst (λ (x : Result A Error). HasCause x setup.filing (disk (dev.time old)) (disk (dev.time new))) is (causes t))
+            (subst (λ (x : Result A Error). HasNoRoom x → (s : ℕ) × IsOpenedTooLong (λ n. 2 ^ 64 ≤ n + (setup.filing.layout.page_size + 12)) (dev.opened new) (section_key setup.filing.layout.index s)) is room)
 
 -- ---- the records were not all entered
 
@@ -103,7 +113,7 @@ module _ {A V S D : Type 0} {gs : _} (p : Prunable A V (AppendFactory S) (PageBl
     (r : Replayed dev setup.filing old mid run) {buffers : Buffers (AppendFactory S) (PageBlob S gs)} {key_size : ℕ} {limits : Limits} {walked : Run (AppendFactory S) (PageBlob S gs)} {end : D}
     {T C : Type 0} {rows : T → ℕ → List Row} {AreFilled : T → Type 0} {before after : C} (x : Error)
     (drains : Drains buffers dev key_size setup.filing.items limits run walked mid end rows AreFilled before after (Err x))
-    (some : 1 ≤ setup.filing.layout.record_size) (sections : limits.sections ≡ setup.filing.most_sections) (records : limits.per_section ≡ setup.filing.most_records) where
+    (paged : 1 ≤ setup.filing.layout.page_size) (some : 1 ≤ setup.filing.layout.record_size) (sections : limits.sections ≡ setup.filing.most_sections) (records : limits.per_section ≡ setup.filing.most_records) where
   -- what the replay goes over, and what the disk kept before
   abbrev Given : ℕ → List stored.Entry
   Given = kept_on buffers dev key_size setup.filing.items limits run walked mid end (disk (dev.time mid))
@@ -159,5 +169,5 @@ module _ {A V S D : Type 0} {gs : _} (p : Prunable A V (AppendFactory S) (PageBl
   tables_refused result is = opening_refused p dev setup old end (left_behind dev setup.filing old mid run) (few_left r) (drained_part r drains) result x is (record {
     cause = why;
     copies = λ t side bad. absurd (r.copies t side bad);
-    complete = λ t markers lawful counted. inr (gives_up t markers lawful);
+    complete = λ t markers lawful. failed_on_lawful setup.filing dev old end x (gives_up t markers lawful);
   })

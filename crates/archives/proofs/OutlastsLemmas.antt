@@ -26,7 +26,7 @@ use Rattle.archives.specs.Putting.{IsMovingAfter, IsWrittenAfter, is_taken}
 use Rattle.archives.specs.Syncing.{IsMoving, IsMovingBy}
 use Rattle.archives.proofs.InitRecords.{one_chosen, one_markers}
 use Rattle.archives.proofs.PutRows.{other_or_same}
-use Rattle.archives.proofs.ReadFinding.{taken_state}
+use Rattle.archives.specs.PuttingLaws.{taken_state}
 use Rattle.archives.proofs.SyncLemmas.{list_counted}
 
 module _ (l : Layout) (u : Store Key8 ℕ) (d : Disk) (here : u.partition ≡ l.metadata) (stands : Stands l.markers u u.entries d) where

@@ -1,10 +1,9 @@
 -- What a put that added a record made of the rows, of the bytes of values, and of what is not flushed.
-use Rattle.std.proofs.Common.{◌≡◌, ◌≢◌, inl, inr, sym, ◌∙◌, ap, ℕ, ◌+◌, ◌-◌, List, [], ◌∷◌, ◌++◌, length, Bool, true, false, ◌==◌, ◌&&◌, not, if◌then◌else◌, Option, ◌↔◌, ◌⊎◌, IsTrue, arith}
-use Rattle.std.specs.Option.{option_map_or}
+use Rattle.std.proofs.Common.{◌≡◌, ◌≢◌, inl, inr, sym, ◌∙◌, ap, ℕ, ◌+◌, List, [], ◌∷◌, ◌++◌, Bool, true, false, ◌==◌, ◌&&◌, not, if◌then◌else◌, Option, ◌↔◌, ◌⊎◌, IsTrue, arith}
 use Rattle.std.proofs.lemmas.Bool.Decides.{nat_tests}
-use Rattle.sealed_pages.specs.Shown as page_blob
 use Rattle.sealed_pages.specs.declared.page_blob.PageBlob.{PageBlob}
 use Rattle.sealed_pages.specs.declared.write_blob.WriteBlob.{WriteBlob}
+use Rattle.segments.specs.Tails.{tail_held}
 use Rattle.segments.specs.Sections.{IsSame, Sections}
 use Rattle.segments.specs.declared.unsealed.WriteFactory.{WriteFactory}
 use Rattle.paired.specs.GlobSections as glob
@@ -61,7 +60,7 @@ module _ {F S : Type 0} {gs : _} (a : Archive F (PageBlob S gs)) (index sec : �
 
 -- what is not flushed of a section that is held as before
 pub tails_same : {F S : Type 0} {gs : _} (p q : Pair F (PageBlob S gs)) (s : ℕ) → IsSame p.index.sections q.index.sections s → IsSame p.values q.values s
-    → (option_map_or (λ u. length (page_blob.shown u).tip - (page_blob.shown u).from) (q.index.sections.held s) 0 ≡ option_map_or (λ u. length (page_blob.shown u).tip - (page_blob.shown u).from) (p.index.sections.held s) 0)
+    → (tail_held (q.index.sections.held s) ≡ tail_held (p.index.sections.held s))
     × (glob.pending_size q.values s ≡ glob.pending_size p.values s)
 tails_same p q s index values =
-    (ap (λ (o : Option (PageBlob _ _)). option_map_or (λ u. length (page_blob.shown u).tip - (page_blob.shown u).from) o 0) index.held, ap glob.pending_held values.held)
+    (ap (λ (o : Option (PageBlob _ _)). tail_held o) index.held, ap glob.pending_held values.held)

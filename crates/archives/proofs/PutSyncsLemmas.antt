@@ -14,6 +14,7 @@ use Rattle.meta_store.specs.Store.{Store}
 use Rattle.meta_store.specs.declared.error.Error.TheVariants as metadata
 use Rattle.value_codec.specs.declared.key.Key8.{Key8}
 use Rattle.sealed_pages.specs.declared.page_blob.PageBlob.{PageBlob}
+use Rattle.segments.specs.declared.sealed.AppendFactory.{AppendFactory}
 use Rattle.segments.specs.declared.journal.Error.TheVariants as section
 use Rattle.paired.specs.Crashes.{IsOwn}
 use Rattle.paired.specs.Kept.{marker_of}
@@ -31,7 +32,7 @@ use Rattle.archives.specs.Refusing.{IsFault}
 use Rattle.archives.specs.Replies as reply
 use Rattle.archives.specs.Standing.{Leaves, submitted}
 use Rattle.archives.specs.Syncing.{IsMoving, IsWritten}
-use Rattle.archives.specs.Syncs.{IsOfMarkers, IsPutSyncCause, IsSyncCause, PutSyncEnds, PutSyncFailed, PutSyncs, Syncs}
+use Rattle.archives.specs.Syncs.{IsPutSyncCause, IsSyncCause, PutSyncs, Syncs}
 use Rattle.archives.specs.Syncs as parts
 use Rattle.archives.specs.declared.error.Error.{Error}
 use Rattle.archives.specs.declared.error.Error.TheVariants.{Full, Journal, Mem, Metadata, RecordCorrupted}
@@ -113,7 +114,7 @@ module _ {F S : Type 0} {gs : _} (a : Archive F (PageBlob S gs)) (index n : ℕ)
 
 -- ---- the calls
 
-module _ {A V F S D : Type 0} {gs : _} (p : Prunable A V F (PageBlob S gs)) (dev : device.Ghosts D) (a : A) (index : ℕ) (key value : List ℕ) where
+module _ {A V S D : Type 0} {gs : _} (p : Prunable A V (AppendFactory S) (PageBlob S gs)) (dev : device.Ghosts D) (a : A) (index : ℕ) (key value : List ℕ) where
   abbrev size : ℕ
   size = frame_size (filing_by p a).layout value
 

@@ -14,6 +14,7 @@ use Rattle.blob_device.proofs.Moments.{always_weaker}
 use Rattle.sealed_pages.specs.Buffer.{FlushesNothing, extent, size_of}
 use Rattle.sealed_pages.specs.Shown as page_blob
 use Rattle.sealed_pages.specs.declared.page_blob.PageBlob.{PageBlob}
+use Rattle.segments.specs.declared.sealed.AppendFactory.{AppendFactory}
 use Rattle.sealed_pages.specs.declared.write_blob.WriteBlob.{WriteBlob}
 use Rattle.segments.specs.Refusing.{HasFailed, HasNoRoom, IsPruned}
 use Rattle.segments.specs.Sections.{IsHeld, section_key}
@@ -38,7 +39,7 @@ use Rattle.archives.proofs.PutErrors.{full_from, large_from, two_errors}
 use Rattle.archives.proofs.Alike.{alike_as}
 use Rattle.archives.proofs.PutStands.{put_taken, put_unmoved}
 
-module _ {A V F S D : Type 0} {gs : _} (p : Prunable A V F (PageBlob S gs)) (dev : device.Ghosts D) (a : A) (index : ℕ) (key value : List ℕ) where
+module _ {A V S D : Type 0} {gs : _} (p : Prunable A V (AppendFactory S) (PageBlob S gs)) (dev : device.Ghosts D) (a : A) (index : ℕ) (key value : List ℕ) where
   abbrev sec : ℕ
   sec = section_of (p.see a).items index
 
@@ -135,6 +136,7 @@ module _ {A V F S D : Type 0} {gs : _} (p : Prunable A V F (PageBlob S gs)) (dev
       );
       rows = λ s. ap (λ (b : Bool). if not b && (s == sec) then (p.see a).rows s ++ record { index = index; key = key } ∷ [] else (p.see a).rows s) (sym taken);
       values = λ t s. ap (λ (b : Bool). if not b && (s == sec) then glob.section_size (p.see a).pair.values s + size else glob.section_size (p.see a).pair.values s) (sym taken);
+      own_tails = λ free. absurd (cc (taken, free));
       other_tails = λ s other. (refl, refl);
       written = λ s. (
         inl,

@@ -6,15 +6,15 @@ use Rattle.std.specs.Option.{is_some}
 use Rattle.std.proofs.lemmas.Bool.{eq-eqb, false≢true, ne_eqb}
 use Rattle.blob_device.specs.Disk.{Disk}
 use Rattle.sealed_pages.specs.declared.page_blob.PageBlob.{PageBlob}
-use Rattle.paired.specs.GlobSections as glob
 use Rattle.paired.specs.Pair.{list_of, records_of}
 use Rattle.paired.specs.Records as stored
 use Rattle.archives.specs.Archives.{Archive, filing_of, state_of}
 use Rattle.archives.specs.Filing.{filed}
 use Rattle.archives.specs.Finding.{Index, IsAt, IsFirst, IsIn, IsNear, Key, Wanted, get_command, has_command}
 use Rattle.archives.specs.IndexRecord.{index_of, key_of}
-use Rattle.archives.specs.Machine.{ContainsKey, Entry, HasEntry, OpenStep, State, entries_at, first_value, has_index, section_of}
+use Rattle.archives.specs.Machine.{ContainsKey, Entry, HasEntry, OpenStep, State, entries_at, first_value, section_of}
 use Rattle.archives.specs.Putting.{is_taken}
+use Rattle.archives.specs.PuttingLaws.{taken_state}
 use Rattle.archives.specs.Replies as reply
 use Rattle.archives.specs.Rows.{Row, row_in}
 use Rattle.archives.proofs.ReadRecords.{from_map, listed, some_value, to_map, unlisted, weaker_at}
@@ -52,10 +52,6 @@ module _ {X : Type 0} (number : X → ℕ) (i : ℕ) where
   pub any_none : (xs : List X) → ((p : ℕ) → IsSomeAnd (slice_get xs p) (λ x. number x ≡ i) → ⊥) → list_any (λ x. number x == i) xs ≡ false
   any_none [] none = refl
   any_none (x ∷ xs) none = ap (λ b. b || list_any (λ y. number y == i) xs) (ne_eqb (number x) i (none 0)) ∙ any_none xs (λ p is. none (suc p) is)
-
-pub any_map : {X Y : Type 0} (f : X → Y) (test : Y → Bool) (xs : List X) → list_any test (map f xs) ≡ list_any (λ x. test (f x)) xs
-any_map f test [] = refl
-any_map f test (x ∷ xs) = ap (λ b. test (f x) || b) (any_map f test xs)
 
 -- ---- the first record with an index
 
@@ -119,14 +115,6 @@ module _ {F S : Type 0} {gs : _} (a : Archive F (PageBlob S gs)) where
     abbrev filed_as : stored.Entry → Entry (List ℕ)
     filed_as e = filed (filing_of a) e
 
-    -- the lists have an index as the rows have it
-    pub taken_state : (i : ℕ) → is_taken a i ≡ has_index a.items (state_of a d) i
-    taken_state i =
-        let s = section_of a.items i in
-        let rs = records_of a.pair d s in
-        ap (list_any (λ r. r.index == i)) (shows s) ∙ any_map (row_in a.key_size) (λ r. r.index == i) rs
-        ∙ sym (any_map filed_as (λ r. r.index == i) (list_of a.pair d s) ∙ any_map (stored.entry_of a.pair.layout.place (glob.section_bytes a.pair.values d s)) (λ e. index_of e.stored == i) rs)
-
     -- a record with the key is one of the lists
     key_found : (k : List ℕ) (s p : ℕ) (v : List ℕ) → IsAt a (Key k) s p → IsSomeAnd (slice_get (list_of a.pair d s) p) (λ e. e.value ≡ v) → HasEntry (state_of a d) k v
     key_found k s p v is value =
@@ -149,7 +137,7 @@ module _ {F S : Type 0} {gs : _} (a : Archive F (PageBlob S gs)) where
 
     pub has_reply : (wanted : Wanted) (o : Option (ℕ × ℕ)) → IfSome o (λ r. IsFirst a wanted r.0 r.1) → (o ≡ None → (s : ℕ) → IsIn a wanted s → ⊥) → (b : Bool) → b ≡ is_some o
         → OpenStep a.items (state_of a d) (has_command wanted) (reply.Flag b) (state_of a d)
-    has_reply (Index i) o found none b is = (is ∙ taken (Index i) o found none i refl ∙ taken_state i, refl)
+    has_reply (Index i) o found none b is = (is ∙ taken (Index i) o found none i refl ∙ taken_state a d shows i, refl)
     has_reply (Key k) None found none b is = (((λ yes. absurd (false≢true (sym is ∙ yes))), (λ has. absurd (key_none k (none refl) has))), refl)
     has_reply (Key k) (Some at) found none b is =
         let value = a_value (λ e. key_of a.key_size e.stored ≡ k) at.0 at.1 (to_list (λ r. r.key ≡ k) at.0 at.1 found.here) in

@@ -2,7 +2,6 @@
 use Rattle.std.proofs.Common.{◌≡◌, inl, inr, refl, sym, ◌∙◌, ap, subst, ℕ, ◌*◌, ◌/◌, ◌%◌, ◌-◌, ◌^◌, ◌<◌, ◌≤◌, [], length, Bool, true, false, cond, Option, None, Some, IsSome, IsSomeAnd, arith}
 use Rattle.std.proofs.Math.Nat.{div-add-mod}
 use Rattle.std.specs.Prelude.{unwrap_or}
-use Rattle.std.specs.Option.{option_map_or}
 use Rattle.blob_device.specs.Disk.{Blob, Disk}
 use Rattle.blob_device.specs.Opened.{OpenedList}
 use Rattle.sealed_pages.specs.Buffer.{size_of}
@@ -11,6 +10,7 @@ use Rattle.sealed_pages.specs.declared.page_blob.PageBlob.{PageBlob}
 use Rattle.sealed_pages.specs.declared.write_blob.WriteBlob.{WriteBlob}
 use Rattle.segments.specs.declared.buffer.SectionBuffer as buffer
 use Rattle.segments.specs.declared.unsealed.WriteFactory.{WriteFactory}
+use Rattle.segments.specs.Tails.{tail_held}
 use Rattle.segments.specs.FixedLists as fixed
 use Rattle.segments.specs.Sections.{IsHeld, key_of}
 use Rattle.segments.specs.Setting.{Setting}
@@ -68,9 +68,9 @@ module _ {F S : Type 0} {gs : _} (p : Pair F (PageBlob S gs)) {g : buffer.Ghosts
         ap glob.pending_held some.1 ∙ (idle_parts u.dirty (length u.pending.items) u.at u.end all.1).1.0
   ]
 
-  pub no_record_tail : told → synced_length p s ≡ length_of p s → option_map_or (λ u. length (page_blob.shown u).tip - (page_blob.shown u).from) (p.index.sections.held s) 0 ≡ 0
+  pub no_record_tail : told → synced_length p s ≡ length_of p s → tail_held (p.index.sections.held s) ≡ 0
   no_record_tail t synced = elim (none_or_value (p.index.sections.held s)) [
-    | inl none ↦ ap (λ (o : Option (PageBlob S gs)). option_map_or (λ u. length (page_blob.shown u).tip - (page_blob.shown u).from) o 0) none
+    | inl none ↦ ap (λ (o : Option (PageBlob S gs)). tail_held o) none
     | inr some ↦
         let u : PageBlob S gs = some.0 in
         let whole : size_of (page_blob.shown u) % p.layout.record_size ≡ 0 = (pair.index.disk t).whole s u some.1 (pair.whole.recovered s) in
@@ -78,5 +78,5 @@ module _ {F S : Type 0} {gs : _} (p : Pair F (PageBlob S gs)) {g : buffer.Ghosts
         let records : length_of p s ≡ size_of (page_blob.shown u) / p.layout.record_size = ap (λ (n : ℕ). n / p.layout.record_size) size in
         let settled : synced_length p s * p.layout.record_size ≤ u.settled = pair.settled.index s u some.1 in
         let all : synced_length p s * p.layout.record_size ≡ size_of (page_blob.shown u) = ap (λ (n : ℕ). n * p.layout.record_size) (synced ∙ records) ∙ whole_times (size_of (page_blob.shown u)) p.layout.record_size whole in
-        ap (λ (o : Option (PageBlob S gs)). option_map_or (λ v. length (page_blob.shown v).tip - (page_blob.shown v).from) o 0) some.1 ∙ omega (arith, settled, all, u.order, u.fit.within)
+        ap (λ (o : Option (PageBlob S gs)). tail_held o) some.1 ∙ omega (arith, settled, all, u.order, u.fit.within)
   ]

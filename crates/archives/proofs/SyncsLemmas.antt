@@ -10,6 +10,7 @@ use Rattle.blob_device.specs.declared.device.Device as device
 use Rattle.blob_device.proofs.FootprintLemmas.{footprint_none, footprint_wider}
 use Rattle.blob_device.proofs.Moments.{always_start}
 use Rattle.sealed_pages.specs.declared.page_blob.PageBlob.{PageBlob}
+use Rattle.segments.specs.declared.sealed.AppendFactory.{AppendFactory}
 use Rattle.segments.specs.Lasting.{IsUnsettled}
 use Rattle.segments.specs.Refusing.{IsPruned}
 use Rattle.segments.specs.declared.journal.Error as journal
@@ -37,7 +38,7 @@ use Rattle.archives.proofs.SyncLemmas.{sync_moments, sync_settled}
 use Rattle.archives.proofs.SyncNames.{moving_as, own_more, sync_alone}
 use Rattle.archives.proofs.SyncUnderWay.{under_start, under_sync}
 
-module _ {A V F S D : Type 0} {gs : _} (p : Prunable A V F (PageBlob S gs)) (dev : device.Ghosts D) (a : A) where
+module _ {A V S D : Type 0} {gs : _} (p : Prunable A V (AppendFactory S) (PageBlob S gs)) (dev : device.Ghosts D) (a : A) where
   -- at each moment from one device to another a crash leaves what stands for the state
   abbrev pub SyncMoments : D → D → Type 0
   SyncMoments old new = dev.Tells → IsSoundOver (meaning p) dev a old

@@ -1,5 +1,5 @@
 -- What the tables show of the records, what a search over them has still ahead, and how many sections have rows.
-use Rattle.std.proofs.Common.{◌≡◌, ◌≢◌, ◌↔◌, ◌<◌, ◌≤◌, inl, inr, ℕ, zero, suc, List, [], ◌∷◌, map, length, slice_get, get_or, Option, None, Some, IsSomeAnd, IsTrue, Bool, true, false, cond, refl, Less, sym, ◌∙◌, ap, subst, nat_eq, nat_lt, arith}
+use Rattle.std.proofs.Common.{◌≡◌, ◌≢◌, ◌↔◌, ◌<◌, ◌≤◌, inl, inr, ℕ, zero, suc, List, [], ◌∷◌, map, length, slice_get, get_or, Option, None, Some, IsSomeAnd, IsTrue, IsErrAnd, Result, Ok, Err, Bool, true, false, cond, refl, Less, sym, ◌∙◌, ap, subst, nat_eq, nat_lt, arith}
 use Rattle.std.specs.Global.{Vec}
 use Rattle.std.specs.BTreeMap.{get, is_at, keys}
 use Rattle.std.specs.Cmp.{nat_cmp_is, nat_cmp_total}
@@ -20,7 +20,14 @@ use Rattle.std.proofs.lemmas.Map.Views.{All-keys_found, Contains-from_any, tells
 use Rattle.std.proofs.lemmas.Option.{slice_get-map, slice_get_cases}
 use Rattle.archives.specs.declared.prunable.tables.Entry.{Entry}
 use Rattle.archives.specs.declared.prunable.tables.Tables.{Tables}
-use Rattle.archives.specs.Rows.{AreFilledBut, FewerThan, HasRoom, Row, row_of, rows_in, rows_of}
+use Rattle.archives.specs.Rows.{AreFilledBut, FewerThan, HasNotAdded, HasRoom, Pushes, Row, row_of, rows_in, rows_of}
+
+-- ---- what is pushed
+
+-- memory was short for it
+pub not_pushed : {K E : Type 0} (key_bytes : K → List ℕ) (section : ℕ) (row : Row) (old new : Tables K) (r : Result Unit E) (P : E → Type 0) → IsErrAnd r P → HasNotAdded key_bytes section row old new → Pushes key_bytes section row old r new
+not_pushed key_bytes section row old new (Ok done) P is none = absurd is
+not_pushed key_bytes section row old new (Err e) P is none = none
 
 -- ---- a list that shows another, element by element
 

@@ -18,9 +18,9 @@ use Rattle.archives.specs.IndexRecord.{IsSpelled}
 use Rattle.archives.specs.Machine.{State}
 use Rattle.archives.specs.Rows.{AreWithin, Row, row_in}
 
--- What an archive shows: its pair; how many indices a section has room for, how many bytes a key has, and why the codec refuses a
--- spelling; the limits; the floor, below which all was pruned; of each section a row for each record, by position;
--- that memory holds no table without rows; and which sections were written since the last sync.
+-- What an archive shows: its pair; how many indices a section has room for, how many bytes a key has, and why the
+-- codec refuses a spelling; the limits; the floor, below which all was pruned; of each section a row for each record,
+-- by position; that memory holds no table without rows; and which sections were written since the last sync.
 pub record Archive (F B : Type 0) : Type 1 where
   pub pair : Pair F B
   pub items : ℕ
@@ -33,7 +33,8 @@ pub record Archive (F B : Type 0) : Type 1 where
   pub Filled : Type 0
   pub is_written : ℕ → Bool
 
--- How the buffers of an archive are read: those F makes for records, in pages with seals, and those of values; and with which setting each is made.
+-- How the buffers of an archive are read: those F makes for records, in pages with seals, and those of values; and
+-- with which setting each is made.
 pub record Buffers (F B : Type 0) : Type 1 where
   pub pages : buffer.Ghosts B
   pub gives : F → Setting
@@ -67,19 +68,22 @@ module _ {F S : Type 0} {gs : _} (a : Archive F (PageBlob S gs)) where
       floor = a.floor;
     }
 
-    -- The pair is sound; each value is a spelling that the codec accepts; a u64 counts the bytes of each section's values; and no crash leaves
-    -- values of a section of which none are held, or a foreign name. So it is of an archive that was opened over a lawful image.
+    -- The pair is sound; each value is a spelling that the codec accepts; a u64 counts the bytes of each section's
+    -- values; and no crash leaves values of a section of which none are held, or a foreign name. So it is of an
+    -- archive that was opened over a lawful image.
     pub record IsSoundArchive : Type 0 where
       pub pair : IsSoundOn a.pair d
       pub decoded : (s : ℕ) → AllByRecursion (λ e. a.refusal e.value ≡ None) (list_of a.pair d s)
       pub counted : (s : ℕ) → glob.section_size a.pair.values s < 2 ^ 64
-      pub absent : (s : ℕ) → s < 2 ^ 64 → a.pair.values.held s ≡ None → HasNoBytes (d (section_key a.pair.layout.values s))
+      pub absent : (s : ℕ) → s < 2 ^ 64 → a.pair.values.held s ≡ None
+          → HasNoBytes (d (section_key a.pair.layout.values s))
       pub names : LeavesNoForeign a.pair.layout d
 
-  -- The archive may be used: its pair may; the rows are those of the records, each of them spelled, and in its section, and no more than the
-  -- limits allow; nothing was pruned; what is not synced is in sections that were written; and each of these has
-  -- a row, and, where the disk is told, something that is not synced.
-  pub record IsArchive (buffers : Buffers F (PageBlob S gs)) (told : Type 0) (opened : OpenedList) (d : Disk) : Type 0 where
+  -- The archive may be used: its pair may; the rows are those of the records, each of them spelled, and in its
+  -- section, and no more than the limits allow; nothing was pruned; what is not synced is in sections that were
+  -- written; and each of these has a row, and, where the disk is told, something that is not synced.
+  pub record IsArchive (buffers : Buffers F (PageBlob S gs)) (told : Type 0) (opened : OpenedList)
+      (d : Disk) : Type 0 where
     pub pair : IsPair buffers.pages buffers.gives buffers.values buffers.takes told a.pair opened d
     pub items : 1 ≤ a.items
     pub floor : a.floor ≡ 0

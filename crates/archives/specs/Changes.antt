@@ -1,5 +1,5 @@
--- What every archive promises of a call, whatever kind it is of: the call is the step of its command, at each moment a crash leaves what stands
--- for the state with that command under way, and no blob of anybody else is touched.
+-- What every archive promises of a call, whatever kind it is of: the call is the step of its command, at each moment
+-- a crash leaves what stands for the state with that command under way, and no blob of anybody else is touched.
 use Rattle.std.specs.Prelude.{◌≡◌, ◌⊎◌, ◌↔◌, ℕ, Bool, List, Option, Some, None, Result, Ok, Err, IfOk, option_map}
 use Rattle.blob_device.specs.Counts.{Rose}
 use Rattle.blob_device.specs.Disk.{Disk, Key}
@@ -30,9 +30,11 @@ outcome see (Err e) = Err e
 
 -- What contracts see of the archives A of a kind, which keep values V.
 pub record Meaning (A V : Type 0) : Type 1 where
-  -- the states of its machine, and what they are as states of the record machine, whose sections have room for so many indices
+  -- the states of its machine
   pub State : Type 0
+  -- what one is as a state of the record machine
   pub seen : State → machine.State (List ℕ)
+  -- and for how many indices a section of that has room
   pub items : A → ℕ
   -- the archive may be used with a device that has opened these blobs, over this disk where the device tells its disk
   pub IsUsable : A → Type 0 → OpenedList → Disk → Type 0
@@ -45,21 +47,28 @@ pub record Meaning (A V : Type 0) : Type 1 where
   -- of a command that every archive has, each step is one of the record machine
   pub steps : (a : A) (st next : State) (command : Asked) (reply : Replied) → IsOfEvery command
       → Step a st command reply next → machine.Step (items a) (seen st) command reply (seen next)
-  -- each crash of the disk without a chance seal leaves a lawful image that stands for the state, with this command under way
+  -- each crash of the disk without a chance seal leaves a lawful image that stands for the state, with this command
+  -- under way
   pub Leaves : A → State → Option Asked → Disk → Type 0
   -- the blob is in a partition of the archive's, under a name that a blob of it may have
   pub IsOwn : A → Key → Type 0
   -- a record has this index
   pub has : A → ℕ → Bool
+  -- so the state says it, over each disk that is told and over which the archive may be used
+  pub has_index : (a : A) (told : Type 0) (opened : OpenedList) (d : Disk) → IsUsable a told opened d → told
+      → (i : ℕ) → has a i ≡ machine.has_index (items a) (seen (state a d)) i
   -- its configuration allows the value
   pub Accepts : A → V → Type 0
 
--- One archive goes on as the other did: it takes just the same steps, leaves just the same, has just the same blobs, and allows what that one does.
+-- One archive goes on as the other did: it takes just the same steps, leaves just the same, has just the same blobs,
+-- and allows what that one does.
 pub record IsAlike {A V : Type 0} (m : Meaning A V) (a r : A) : Type 0 where
   -- it takes just the same steps
-  pub steps : (st next : m.State) (command : Asked) (reply : Replied) → m.Step a st command reply next ↔ m.Step r st command reply next
+  pub steps : (st next : m.State) (command : Asked) (reply : Replied)
+      → m.Step a st command reply next ↔ m.Step r st command reply next
   -- crashes leave just the same of it
-  pub leaves : (st : m.State) (under_way : Option Asked) (d : Disk) → m.Leaves a st under_way d ↔ m.Leaves r st under_way d
+  pub leaves : (st : m.State) (under_way : Option Asked) (d : Disk)
+      → m.Leaves a st under_way d ↔ m.Leaves r st under_way d
   -- the same blobs are its own
   pub own : (q : Key) → m.IsOwn r q ↔ m.IsOwn a q
   -- it allows each value that the other one does
@@ -82,7 +91,8 @@ module _ {A V D : Type 0} (m : Meaning A V) (dev : device.Ghosts D) where
 
   -- ---- calls that change an archive
 
-  -- The archive a has carried out the command, and is now r. The step is one of its machine, and so of the record machine (`steps`).
+  -- The archive a has carried out the command, and is now r. The step is one of its machine, and so of the record
+  -- machine (`steps`).
   pub record Changed (a : A) (command : Asked) (r : A) (old new : D) : Type 0 where
     -- the new archive may be used
     pub over : MayUse r new
@@ -103,7 +113,8 @@ module _ {A V D : Type 0} (m : Meaning A V) (dev : device.Ghosts D) where
   -- A call that carries out a command, and takes the archive.
   pub record Changes (a : A) (command : Asked) (result : Result A Error) (old new : D) : Type 0 where
     -- at each moment, also inside calls of the device and where the call fails
-    pub moments : dev.Tells → IsSoundOver a old → Always (dev.time old) (dev.time new) (m.Leaves a (state_over a old) (Some command))
+    pub moments : dev.Tells → IsSoundOver a old
+        → Always (dev.time old) (dev.time new) (m.Leaves a (state_over a old) (Some command))
     -- no blob is touched but the archive's own
     pub footprint : Footprint dev (m.IsOwn a) NoBound old new
     -- how it ended
@@ -132,11 +143,13 @@ module _ {A V D : Type 0} (m : Meaning A V) (dev : device.Ghosts D) where
     pub fault : IsFault e → Rose (dev.faults old) (dev.faults new)
 
   abbrev pub AskEnds : {R : Type 0} → A → Asked → (R → Replied) → Result R Error → D → D → Type 0
-  AskEnds a command reply_of (Ok x) old new = dev.Tells → m.Step a (state_over a old) command (reply_of x) (state_over a new)
+  AskEnds a command reply_of (Ok x) old new =
+      dev.Tells → m.Step a (state_over a old) command (reply_of x) (state_over a new)
   AskEnds a command reply_of (Err e) old new = IsUnanswered a e old new
 
   -- A call that carries out a command, and only looks: no blob's history changes, and what is held stays.
-  pub record Asks {R : Type 0} (a : A) (command : Asked) (reply_of : R → Replied) (result : Result R Error) (old new : D) : Type 0 where
+  pub record Asks {R : Type 0} (a : A) (command : Asked) (reply_of : R → Replied) (result : Result R Error)
+      (old new : D) : Type 0 where
     -- the archive may still be used
     pub over : MayUse a new
     -- no blob's history has changed
@@ -152,5 +165,7 @@ module _ {A V D : Type 0} (m : Meaning A V) (dev : device.Ghosts D) where
 
   -- Whether it is there. By index it always answers, and does not touch the device.
   pub record AsksWhether (a : A) (wanted : Wanted) (result : Result Bool Error) (old new : D) : Type 0 where
+    -- as every call that asks
     pub asks : Asks a (has_command wanted) reply.Flag result old new
+    -- by index it answers without the device
     pub by_index : (i : ℕ) → wanted ≡ Index i → (result ≡ Ok (m.has a i)) × (new ≡ old)

@@ -19,8 +19,8 @@ pub data Command (V : Type 0) : Type 0 where
   Has : ℕ → Command V
   HasKey : List ℕ → Command V
   HasAt : ℕ → List ℕ → Command V
-  -- of the indices: the end of the run here and the start of the next; so many absent ones from here on; the runs, all or
-  -- from here on; the least and the greatest
+  -- of the indices: the end of the run here and the start of the next; so many absent ones from here on; the runs,
+  -- all or from here on; the least and the greatest
   Gap : ℕ → Command V
   Missing : ℕ → ℕ → Command V
   Ranges : Command V

@@ -31,7 +31,8 @@ module _ {T C : Type 0} (cfg : Config T C) where
     pub records : string_bytes pair.index_partition ≡ string_bytes cfg.key_partition
     pub values : string_bytes pair.value_partition ≡ string_bytes cfg.value_partition
     pub pages : pair.index_pages ≡ cfg.key_pages
-    pub write_buffers : (pair.index_write_buffer ≡ cfg.key_write_buffer) × (pair.value_write_buffer ≡ cfg.value_write_buffer)
+    pub write_buffers : (pair.index_write_buffer ≡ cfg.key_write_buffer)
+        × (pair.value_write_buffer ≡ cfg.value_write_buffer)
     pub replay_buffer : pair.replay_buffer ≡ cfg.replay_buffer
     pub codec_config : pair.codec_config ≡ cfg.codec_config
 

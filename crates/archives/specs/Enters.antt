@@ -70,7 +70,8 @@ module _ {K : Type 0} (key_bytes : K → List ℕ) (items : ℕ) (limits : Limit
 module _ {F S D : Type 0} {gs : _} (buffers : Buffers F (PageBlob S gs)) (dev : device.Ghosts D) where
   -- the replay may be used with the device
   abbrev pub MayRun : Run F (PageBlob S gs) → D → Type 0
-  MayRun run d = IsRun run buffers.pages buffers.gives buffers.values buffers.takes dev.Tells (dev.opened d) (disk (dev.time d))
+  MayRun run d =
+      IsRun run buffers.pages buffers.gives buffers.values buffers.takes dev.Tells (dev.opened d) (disk (dev.time d))
 
   -- a tracked one, of which nothing was taken
   pub record MayEnter (run : Run F (PageBlob S gs)) (d : D) : Type 0 where
@@ -81,14 +82,16 @@ module _ {F S D : Type 0} {gs : _} (buffers : Buffers F (PageBlob S gs)) (dev : 
     -- it has not failed
     pub going : HasFailed run → ⊥
     -- all of its records are still to be given
-    pub due : dev.Tells → (s p : ℕ) → IsDue run (disk (dev.time d)) s p ↔ (p < length (records_given run (disk (dev.time d)) s))
+    pub due : dev.Tells → (s p : ℕ)
+        → IsDue run (disk (dev.time d)) s p ↔ (p < length (records_given run (disk (dev.time d)) s))
 
   module _ (key_size items : ℕ) (limits : Limits) (from to : Run F (PageBlob S gs)) (old new : D) where
     -- what the image keeps of each section as the disk reads
     abbrev pub kept_on : Disk → ℕ → List stored.Entry
     kept_on d s = kept from.layout (as_read d) (marker from s) s
 
-    -- Over a device that tells its disk: the rows are those of all records that the replay gives, each of them spelled; and the disk keeps what it did.
+    -- Over a device that tells its disk: the rows are those of all records that the replay gives, each of them
+    -- spelled; and the disk keeps what it did.
     pub record HasEnteredAll (rows : ℕ → List Row) : Type 0 where
       -- there is a row for each record that was given, in their order
       pub listed : (s : ℕ) → rows s ≡ map (row_in key_size) (records_given to (disk (dev.time new)) s)
@@ -99,7 +102,8 @@ module _ {F S D : Type 0} {gs : _} (buffers : Buffers F (PageBlob S gs)) (dev : 
       -- the image keeps what it did
       pub keeps : (s : ℕ) → s < 2 ^ 64 → kept_on (disk (dev.time new)) s ≡ kept_on (disk (dev.time old)) s
       -- it stays lawful
-      pub lawful : IsLawful from.layout (as_read (disk (dev.time old))) from.store.entries → IsLawful from.layout (as_read (disk (dev.time new))) from.store.entries
+      pub lawful : IsLawful from.layout (as_read (disk (dev.time old))) from.store.entries
+          → IsLawful from.layout (as_read (disk (dev.time new))) from.store.entries
       -- it may still be opened
       pub opened : MayBeOpened from.layout (disk (dev.time old)) → MayBeOpened from.layout (disk (dev.time new))
 
@@ -123,9 +127,11 @@ module _ {F S D : Type 0} {gs : _} (buffers : Buffers F (PageBlob S gs)) (dev : 
       -- fewer than these are kept
       pub less : x.kept < x.wanted
       -- they are those of the whole records of the sealed prefix
-      pub is : x.kept ≡ length (stored_records from.layout (as_read (disk (dev.time old))) x.section) * from.layout.record_size
+      pub is : x.kept
+          ≡ length (stored_records from.layout (as_read (disk (dev.time old))) x.section) * from.layout.record_size
 
-    -- Why the replay was not drained. What is refused is among what the image keeps: the walk has gone past it, so it is sealed.
+    -- Why the replay was not drained. What is refused is among what the image keeps: the walk has gone past it, so it
+    -- is sealed.
     abbrev pub IsDrainCause : Error → Type 0
     -- want of memory is free
     IsDrainCause Mem = ⊤
@@ -134,7 +140,8 @@ module _ {F S D : Type 0} {gs : _} (buffers : Buffers F (PageBlob S gs)) (dev : 
     IsDrainCause RecordCorrupted = dev.Tells → HasStray items (kept_on (disk (dev.time old)))
     IsDrainCause Full = dev.Tells → IsPastLimits limits.sections limits.per_section (kept_on (disk (dev.time old)))
     IsDrainCause (Journal (journal.Corruption x)) = dev.Tells → IsShortSection x
-    IsDrainCause (Journal (journal.Runtime (runtime.InvalidChecksum k))) = dev.Tells → FindsShort from.layout from.walk.journal.floor_of (disk (dev.time new)) k
+    IsDrainCause (Journal (journal.Runtime (runtime.InvalidChecksum k))) =
+        dev.Tells → FindsShort from.layout from.walk.journal.floor_of (disk (dev.time new)) k
     -- these do not come on a device that tells its disk
     IsDrainCause (Journal (journal.ItemOutOfRange n)) = dev.Tells → ⊥
     IsDrainCause (Journal (journal.Codec e)) = dev.Tells → ⊥
@@ -155,11 +162,13 @@ module _ {F S D : Type 0} {gs : _} (buffers : Buffers F (PageBlob S gs)) (dev : 
 
     -- a value blob is read no more often than records of its section may be left to check
     abbrev pub ReadsLeft : Key → ℕ → Type 0
-    ReadsLeft q n = dev.Tells × ((s : ℕ) × (s < 2 ^ 64) × (q ≡ section_key from.layout.values s) × LeftAtMost from (disk (dev.time old)) s n)
+    ReadsLeft q n = dev.Tells
+        × ((s : ℕ) × (s < 2 ^ 64) × (q ≡ section_key from.layout.values s) × LeftAtMost from (disk (dev.time old)) s n)
 
-    -- The replay was drained into tables, or failed. How the tables show rows, when none is without rows, and what the codec of the replay's values was
-    -- told before and after, is given.
-    pub record Drains {T C : Type 0} (rows : T → ℕ → List Row) (AreFilled : T → Type 0) (config_before config_after : C) (result : Result T Error) : Type 0 where
+    -- The replay was drained into tables, or failed. How the tables show rows, when none is without rows, and what
+    -- the codec of the replay's values was told before and after, is given.
+    pub record Drains {T C : Type 0} (rows : T → ℕ → List Row) (AreFilled : T → Type 0)
+        (config_before config_after : C) (result : Result T Error) : Type 0 where
       -- the replay may be used further
       pub over : MayRun to new
       -- it is over the same sections, markers and values
@@ -168,7 +177,8 @@ module _ {F S D : Type 0} {gs : _} (buffers : Buffers F (PageBlob S gs)) (dev : 
       pub config : config_after ≡ config_before
       -- at each moment, also where the call fails, each crash leaves what a crash before the call would have left
       pub moments : dev.Tells → MayBeOpened from.layout (disk (dev.time old))
-          → Always (dev.time old) (dev.time new) (RecallsAlone from.layout (IsOwn from.layout (λ _. ⊤)) (disk (dev.time old)))
+          → Always (dev.time old) (dev.time new)
+          (RecallsAlone from.layout (IsOwn from.layout (λ _. ⊤)) (disk (dev.time old)))
       -- no blob is touched but those of the layout
       pub footprint : Footprint dev (IsOwn from.layout (λ _. ⊤)) ReadsLeft old new
       -- how it ended

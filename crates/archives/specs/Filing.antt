@@ -9,8 +9,9 @@ use Rattle.paired.specs.Records as stored
 use Rattle.archives.specs.IndexRecord.{index_of, key_of}
 use Rattle.archives.specs.Machine.{Entry, section_of}
 
--- How the pair of records and values is stored, how many indices a section has room for, how many bytes a key has, why the codec
--- refuses the spelling of a value, if it does, and how many sections, and records in a section, there may be.
+-- How the pair of records and values is stored, how many indices a section has room for, how many bytes a key has,
+-- why the codec refuses the spelling of a value, if it does, and how many sections, and records in a section, there
+-- may be.
 pub record Filing : Type 1 where
   pub layout : Layout
   pub items : ℕ
@@ -19,8 +20,8 @@ pub record Filing : Type 1 where
   pub most_sections : ℕ
   pub most_records : ℕ
 
--- The same partitions, pages, records, items, keys, codec and limits. Two that are the same, and whose markers are stored the same way, as those of
--- archives of one type are, are equal (`FilingLaws`).
+-- The same partitions, pages, records, items, keys, codec and limits. Two that are the same, and whose markers are
+-- stored the same way, as those of archives of one type are, are equal (`FilingLaws`).
 pub record IsSameFiling (f g : Filing) : Type 0 where
   pub layout : IsSameLayout f.layout g.layout
   pub record_size : g.layout.record_size ≡ f.layout.record_size
@@ -48,4 +49,5 @@ module _ (f : Filing) where
 
 -- one of the two blobs of the section of an index
 abbrev pub IsBlobAt : Filing → ℕ → Key → Type 0
-IsBlobAt f index q = (q ≡ section_key f.layout.index (section_of f.items index)) ⊎ (q ≡ section_key f.layout.values (section_of f.items index))
+IsBlobAt f index q = (q ≡ section_key f.layout.index (section_of f.items index))
+    ⊎ (q ≡ section_key f.layout.values (section_of f.items index))

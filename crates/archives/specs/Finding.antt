@@ -17,8 +17,8 @@ abbrev pub wanted_of : {K : Type 0} → (K → List ℕ) → Identifier K → Wa
 wanted_of key_bytes (identifier.Index i) = Index i
 wanted_of key_bytes (identifier.Key k) = Key (key_bytes k.now)
 
--- The row of a record of section s that a lookup has to look at: one that has the index, or a key with the word of the wanted one. One by its
--- index is looked for in the index's section alone.
+-- The row of a record of section s that a lookup has to look at: one that has the index, or a key with the word of
+-- the wanted one. One by its index is looked for in the index's section alone.
 abbrev pub IsCandidate : {W : Type 0} → (List ℕ → W) → ℕ → Wanted → ℕ → Row → Type 0
 IsCandidate word items (Index i) s r = (s ≡ section_of items i) × (r.index ≡ i)
 IsCandidate word items (Key k) s r = word r.key ≡ word k

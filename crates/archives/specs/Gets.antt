@@ -28,7 +28,8 @@ use Rattle.archives.specs.declared.error.Error.TheVariants.{Journal, Mem}
 -- ---- why a value cannot be read
 
 module _ {F S : Type 0} {gs : _} (a : Archive F (PageBlob S gs)) (d : Disk) where
-  -- Why record p of section s, with its value, cannot be read on this disk, where `told`. AtSome says of which places there is one with a property.
+  -- Why record p of section s, with its value, cannot be read on this disk, where `told`. AtSome says of which places
+  -- there is one with a property.
   module _ (told : Type 0) (AtSome : (ℕ → ℕ → Type 0) → Type 0) (before now : ℕ) where
     abbrev pub IsReadCause : Error → Type 0
     -- want of memory is free
@@ -37,19 +38,24 @@ module _ {F S : Type 0} {gs : _} (a : Archive F (PageBlob S gs)) (d : Disk) wher
     IsReadCause (Journal (journal.Runtime runtime.Fault)) = Rose before now
     -- no matching slot covers the record's page as far as the record goes
     IsReadCause (Journal (journal.Runtime (runtime.InvalidChecksum k))) = told → AtSome (λ s p.
-        IsSomeAnd (a.pair.index.sections.held s) (λ u. IsDamaged a.pair.layout.record_size a.pair.layout.seal u (d (key_of a.pair.index.sections s)).content p k))
+        IsSomeAnd (a.pair.index.sections.held s) (λ u. IsDamaged a.pair.layout.record_size a.pair.layout.seal u
+        (d (key_of a.pair.index.sections s)).content p k))
     -- there are no values of the section
     IsReadCause (Journal (journal.SectionOutOfRange n)) = told → AtSome (λ s p. (n ≡ s) × (a.pair.values.held s ≡ None))
-    -- the place that the record names has no four bytes, or ends behind the section's values, or passes the greatest u64
+    -- the place that the record names has no four bytes, or ends behind the section's values, or passes the greatest
+    -- u64
     IsReadCause (Journal (journal.Runtime runtime.BlobInsufficientLength)) = told → AtSome (λ s p.
         NamesPlace a d s p (λ at n. (glob.section_size a.pair.values s < at + n) ⊎ (n < 4)))
-    IsReadCause (Journal (journal.Runtime runtime.OffsetOverflow)) = told → AtSome (λ s p. NamesPlace a d s p (λ at n. 2 ^ 64 ≤ at + n))
+    IsReadCause (Journal (journal.Runtime runtime.OffsetOverflow)) =
+        told → AtSome (λ s p. NamesPlace a d s p (λ at n. 2 ^ 64 ≤ at + n))
     -- the frame there ends in the seal `stored`, and the seal of its bytes is `computed`
     IsReadCause (Journal (journal.ChecksumMismatch stored computed)) = told → AtSome (λ s p.
-        NamesPlace a d s p (λ at n. IsBroken a.pair.layout.seal (glob.section_bytes a.pair.values d s) at n stored computed))
+        NamesPlace a d s p (λ at n.
+        IsBroken a.pair.layout.seal (glob.section_bytes a.pair.values d s) at n stored computed))
     -- the codec refuses what is sealed there
     IsReadCause (Journal (journal.Codec e)) = told → AtSome (λ s p. NamesPlace a d s p (λ at n.
-        (spelled : List ℕ) × HasFrame a.pair.layout.seal (glob.section_bytes a.pair.values d s) at n spelled × (a.refusal spelled ≡ Some e)))
+        (spelled : List ℕ) × HasFrame a.pair.layout.seal (glob.section_bytes a.pair.values d s) at n spelled
+        × (a.refusal spelled ≡ Some e)))
     -- a record that is looked up is there: so it is on a device that tells its disk
     IsReadCause (Journal (journal.ItemOutOfRange n)) = told → ⊥
     -- no other comes
@@ -63,7 +69,8 @@ IsSectionBlob l s q = (q ≡ section_key l.index s) ⊎ (q ≡ section_key l.val
 
 -- one record and its value, of a section
 abbrev pub ReadsRecord : Layout → ℕ → Key → ℕ → Type 0
-ReadsRecord l s q n = ((q ≡ section_key l.index s) × (n ≡ l.record_size / l.page_size + 2)) ⊎ ((q ≡ section_key l.values s) × (n ≡ 1))
+ReadsRecord l s q n =
+    ((q ≡ section_key l.index s) × (n ≡ l.record_size / l.page_size + 2)) ⊎ ((q ≡ section_key l.values s) × (n ≡ 1))
 
 -- By index that, of each section. By key nothing is said: several records may have the wanted word.
 abbrev pub ReadsWanted : Layout → Wanted → Key → ℕ → Type 0
@@ -78,7 +85,8 @@ module _ {A V F S D : Type 0} {gs : _} (p : Prunable A V F (PageBlob S gs)) (dev
   -- The value of record `at` of section s, which is on the disk.
   pub record HasRead (s at : ℕ) (v : V) (old : D) : Type 0 where
     -- the record's value, as spelled
-    pub value : dev.Tells → IsSomeAnd (slice_get (list_of (p.see a).pair (disk (dev.time old)) s) at) (λ e. e.value ≡ p.spelling v)
+    pub value : dev.Tells
+        → IsSomeAnd (slice_get (list_of (p.see a).pair (disk (dev.time old)) s) at) (λ e. e.value ≡ p.spelling v)
     -- the configuration allows it
     pub accepted : p.Accepts a v
 
@@ -100,7 +108,8 @@ module _ {A V F S D : Type 0} {gs : _} (p : Prunable A V F (PageBlob S gs)) (dev
     -- no blob's history has changed
     pub unchanged : dev.Tells → Unchanged (dev.time old) (dev.time new)
     -- only the section's two blobs are read, each so often
-    pub footprint : Footprint dev (IsSectionBlob (filing_by p a).layout s) (ReadsRecord (filing_by p a).layout s) old new
+    pub footprint : Footprint dev (IsSectionBlob (filing_by p a).layout s)
+        (ReadsRecord (filing_by p a).layout s) old new
     -- how it ended
     pub ends : ReadEnds s at result old new
 
@@ -116,7 +125,8 @@ module _ {A V F S D : Type 0} {gs : _} (p : Prunable A V F (PageBlob S gs)) (dev
 
   -- Why a lookup gave no answer: a record at which it had to look cannot be read.
   abbrev pub IsLookupCause : Wanted → D → D → Error → Type 0
-  IsLookupCause wanted old new = IsReadCause (p.see a) (disk (dev.time old)) dev.Tells (SomeToLookAt wanted) (dev.faults old) (dev.faults new)
+  IsLookupCause wanted old new =
+      IsReadCause (p.see a) (disk (dev.time old)) dev.Tells (SomeToLookAt wanted) (dev.faults old) (dev.faults new)
 
   abbrev pub GetEnds : Wanted → Result (Option V) Error → D → D → Type 0
   GetEnds wanted (Ok found) old new = IfSome found (p.Accepts a)
@@ -126,8 +136,10 @@ module _ {A V F S D : Type 0} {gs : _} (p : Prunable A V F (PageBlob S gs)) (dev
   pub record Gets (wanted : Wanted) (result : Result (Option V) Error) (old new : D) : Type 0 where
     -- what every archive promises
     pub asks : AsksValue (meaning p) dev p.spelling a wanted result old new
-    -- only blobs of sections with a record at which it has to look are read, and by index one record, and one value once
-    pub footprint : Footprint dev (IsBlobOf (filing_by p a).layout (HasToLookIn wanted)) (ReadsWanted (filing_by p a).layout wanted) old new
+    -- only blobs of sections with a record at which it has to look are read, and by index one record, and one value
+    -- once
+    pub footprint : Footprint dev (IsBlobOf (filing_by p a).layout (HasToLookIn wanted))
+        (ReadsWanted (filing_by p a).layout wanted) old new
     -- where there is no such record, the device is not touched
     pub none : (SomeToLookAt wanted (λ s at. ⊤) → ⊥) → (result ≡ Ok None) × (new ≡ old)
     -- why there is no answer, or that the value found is one that may be put

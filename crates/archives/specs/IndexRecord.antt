@@ -1,4 +1,5 @@
--- How an index record is spelled, and what any bytes say as one. Numbers have the highest byte first, and a key has n bytes.
+-- How an index record is spelled, and what any bytes say as one. Numbers have the highest byte first, and a key has n
+-- bytes.
 use Rattle.std.specs.Prelude.{◌≡◌, length, ℕ, ◌+◌, ◌<◌, ◌^◌, List, ◌++◌, take, drop}
 use Rattle.std.specs.Int.{w32, w64, to_be_bytes, from_be_bytes}
 use Rattle.archives.specs.declared.prunable.index_record.IndexRecord.{IndexRecord}

@@ -1,6 +1,7 @@
--- What this layer means to the layers above: which replies a list of commands may get, as a run of a machine whose state is
--- a list of records for each section; and which images are lawful for an archive, what they keep, and which states they stand for.
--- `Changes` has what every archive promises of its calls; `Puts`, `Syncs`, `Gets` and `Opens` what the prunable one does beside.
+-- What this layer means to the layers above: which replies a list of commands may get, as a run of a machine whose
+-- state is a list of records for each section; and which images are lawful for an archive, what they keep, and which
+-- states they stand for. `Changes` has what every archive promises of its calls; `Puts`, `Syncs`, `Gets` and `Opens`
+-- what the prunable one does beside.
 pub mod Commands
 pub mod Replies
 pub mod Machine
@@ -21,6 +22,7 @@ pub mod Prunable
 pub mod Shown
 pub mod Refusing
 pub mod Putting
+pub mod PuttingLaws
 pub mod Syncing
 pub mod Finding
 pub mod Reading

@@ -1,4 +1,5 @@
--- The machine of records: its states, its steps and its runs. It says which replies are right, and keeps nothing but lists.
+-- The machine of records: its states, its steps and its runs. It says which replies are right, and keeps nothing but
+-- lists.
 use Rattle.std.specs.Prelude.{◌≡◌, ◌↔◌, ℕ, ◌*◌, ◌/◌, ◌≤◌, Bool, true, false, ◌||◌, ◌==◌, nat_lt, nat_le, if◌then◌else◌, List, [], ◌∷◌, ◌++◌, map, filter, length, take, Contains, Option, Some, None, option_map, IsTrue, MatchBool}
 use Rattle.std.specs.List.{list_any}
 use Rattle.archives.specs.Commands.{Command, Put, PutSync, PutStart, Multi, MultiSync, MultiStart, Get, GetKey, All, Has, HasKey, HasAt, Gap, Missing, Ranges, RangesFrom, First, Last, Sync, Start, Prune, Reopen, Destroy}
@@ -16,8 +17,8 @@ pub record Entry (V : Type 0) : Type 0 where
   pub key : List ℕ
   pub value : V
 
--- Whether the archive is open; for each section, named by its first index, a list of the records whose index lies in it,
--- and a synced length; a floor, below which nothing is kept. No step files a record in another section.
+-- Whether the archive is open; for each section, named by its first index, a list of the records whose index lies in
+-- it, and a synced length; a floor, below which nothing is kept. No step files a record in another section.
 pub record State (V : Type 0) : Type 0 where
   pub is_open : Bool
   pub lists : ℕ → List (Entry V)
@@ -69,7 +70,9 @@ ContainsAt {V} items st index key = (r : Entry V) × Contains (entries_at items 
 -- the record goes last in its section
 abbrev pub appended : {V : Type 0} → ℕ → ℕ → List ℕ → V → State V → State V
 appended items index key value st = record st {
-  lists = λ s. if s == section_of items index then st.lists s ++ record { index = index; key = key; value = value } ∷ [] else st.lists s;
+  lists = λ s. if s == section_of items index
+      then st.lists s ++ record { index = index; key = key; value = value } ∷ []
+      else st.lists s;
 }
 
 -- unchanged where the index is below the floor or is taken; else the record goes last in its section
@@ -127,7 +130,8 @@ OpenStep items old (All i) (reply.Values vs) new = (vs ≡ all_values (entries_a
 OpenStep items old (Has i) (reply.Flag b) new = (b ≡ has_index items old i) × (new ≡ old)
 OpenStep items old (HasKey k) (reply.Flag b) new = (IsTrue b ↔ ContainsKey old k) × (new ≡ old)
 OpenStep items old (HasAt i k) (reply.Flag b) new = (IsTrue b ↔ ContainsAt items old i k) × (new ≡ old)
-OpenStep items old (Gap i) (reply.Gap end next) new = IsRunEnd (has_index items old) i end × IsNextRun (has_index items old) i next × (new ≡ old)
+OpenStep items old (Gap i) (reply.Gap end next) new =
+    IsRunEnd (has_index items old) i end × IsNextRun (has_index items old) i next × (new ≡ old)
 OpenStep items old (Missing i n) (reply.Items xs) new = AreMissing (has_index items old) i n xs × (new ≡ old)
 OpenStep items old Ranges (reply.Ranges runs) new = AreRuns (has_index items old) runs × (new ≡ old)
 OpenStep items old (RangesFrom i) (reply.Ranges runs) new = AreRunsFrom (has_index items old) i runs × (new ≡ old)
@@ -150,12 +154,14 @@ ClosedStep old command reply new = ⊥
 
 -- from old, the machine may give this reply to the command and go on to new
 abbrev pub Step : {V : Type 0} → ℕ → State V → Command V → Reply V → State V → Type 0
-Step items old command reply new = MatchBool old.is_open (OpenStep items old command reply new) (ClosedStep old command reply new)
+Step items old command reply new =
+    MatchBool old.is_open (OpenStep items old command reply new) (ClosedStep old command reply new)
 
 -- the machine may give these replies to these commands, one step after another, and go on from old to new
 abbrev pub Run : {V : Type 0} → ℕ → State V → List (Command V) → List (Reply V) → State V → Type 0
 Run items old [] [] new = new ≡ old
-Run {V} items old (command ∷ commands) (reply ∷ replies) new = (mid : State V) × Step items old command reply mid × Run items mid commands replies new
+Run {V} items old (command ∷ commands) (reply ∷ replies) new =
+    (mid : State V) × Step items old command reply mid × Run items mid commands replies new
 Run items old [] (reply ∷ replies) new = ⊥
 Run items old (command ∷ commands) [] new = ⊥
 

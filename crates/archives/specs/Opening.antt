@@ -33,12 +33,14 @@ OfKept f image P = (markers : Markers) × HoldMarkers f.layout image markers × 
 
 -- a record lies in another section than its index
 abbrev pub HasStray : ℕ → (ℕ → List stored.Entry) → Type 0
-HasStray items kept = (s : ℕ) × (e : stored.Entry) × (s < 2 ^ 64) × Contains (kept s) e × (section_of items (index_of e.stored) ≢ s)
+HasStray items kept =
+    (s : ℕ) × (e : stored.Entry) × (s < 2 ^ 64) × Contains (kept s) e × (section_of items (index_of e.stored) ≢ s)
 
 -- more sections have records, or a section has more, than the limits allow
 abbrev pub IsPastLimits : {X : Type 0} → ℕ → ℕ → (ℕ → List X) → Type 0
 IsPastLimits sections per_section kept =
-    ((ss : List ℕ) × IsStrictlySortedBy nat_cmp ss × AllByRecursion (λ s. (s < 2 ^ 64) × (kept s ≢ [])) ss × (sections < length ss))
+    ((ss : List ℕ) × IsStrictlySortedBy nat_cmp ss × AllByRecursion (λ s. (s < 2 ^ 64) × (kept s ≢ [])) ss
+    × (sections < length ss))
     ⊎ ((s : ℕ) × (s < 2 ^ 64) × (per_section < length (kept s)))
 
 -- the markers hold the greatest version that there is
@@ -47,11 +49,14 @@ HasNoVersion l d = (chosen : Chosen Key8 ℕ) × PairOn l.markers l.metadata d (
 
 -- each image that a crash leaves without a chance seal is lawful
 abbrev pub LeavesLawful : Filing → Disk → Type 0
-LeavesLawful f d = (image : Image) → IsCrashOf d image → NoChanceSeal f.layout d image → (markers : Markers) × Lawful f image markers
+LeavesLawful f d =
+    (image : Image) → IsCrashOf d image → NoChanceSeal f.layout d image → (markers : Markers) × Lawful f image markers
 
--- Page k has bytes of a record below the floor of its section, in bytes, and no matching slot covers it as far as the record goes.
+-- Page k has bytes of a record below the floor of its section, in bytes, and no matching slot covers it as far as the
+-- record goes.
 pub record FindsShort (l : Layout) (floor_of : ℕ → ℕ) (d : Disk) (k : ℕ) : Type 0 where
   pub section : ℕ
   pub position : ℕ
   pub below : (position + 1) * l.record_size ≤ floor_of section
-  pub page : IsShort l.seal l.page_size (d (section_key l.index section)).content (position * l.record_size) l.record_size k
+  pub page : IsShort l.seal l.page_size (d (section_key l.index section)).content
+      (position * l.record_size) l.record_size k

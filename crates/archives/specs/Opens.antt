@@ -52,7 +52,8 @@ module _ (f : Filing) where
     abbrev pub IsShortOf : Damage → Type 0
     IsShortOf x = IsLost f.layout (IsMarked markers) d x
         ⊎ ((m : ℕ) × IsMarked markers x.section m × (x.wanted ≡ m * f.layout.record_size)
-        × (x.kept ≡ length (stored_records f.layout (as_read d) x.section) * f.layout.record_size) × (x.kept < x.wanted))
+        × (x.kept ≡ length (stored_records f.layout (as_read d) x.section) * f.layout.record_size)
+        × (x.kept < x.wanted))
 
   -- page k of a section is not covered by a matching slot as far as a record goes that a marker counts
   pub record HasDamagedPage (d : Disk) (markers : Markers) (k : ℕ) : Type 0 where
@@ -67,7 +68,8 @@ module _ (f : Filing) where
     -- the marker counts the record
     pub below : position < marker
     -- no slot covers the page so far
-    pub page : IsShort f.layout.seal f.layout.page_size (d (section_key f.layout.index section)).content (position * f.layout.record_size) f.layout.record_size k
+    pub page : IsShort f.layout.seal f.layout.page_size (d (section_key f.layout.index section)).content
+        (position * f.layout.record_size) f.layout.record_size k
 
   -- the disk, as it reads, holds markers, and P holds of them
   abbrev pub OfMarkers : Disk → (Markers → Type 0) → Type 0
@@ -81,8 +83,9 @@ module _ (f : Filing) where
   abbrev pub HasForeign : Disk → List ℕ → Type 0
   HasForeign d name = IsForeign d f.layout.index name ⊎ IsForeign d f.layout.values name
 
-  -- The disk has nothing for which an opening would have to refuse: no bad copy of the markers, no foreign name, no record in another section than
-  -- its index, no more than the limits allow, and a next version where a marker has to move.
+  -- The disk has nothing for which an opening would have to refuse: no bad copy of the markers, no foreign name, no
+  -- record in another section than its index, no more than the limits allow, and a next version where a marker has to
+  -- move.
   pub record MayBeKept (d : Disk) : Type 0 where
     -- no copy of the markers refuses
     pub copies : (side : Side) → HaveBadCopy d side → ⊥
@@ -98,6 +101,13 @@ module _ (f : Filing) where
   -- ---- why an opening fails, which began with the device `old` and left it as `new`
 
   module _ {D : Type 0} (dev : device.Ghosts D) (old new : D) where
+    -- the disk as it was, and as it is
+    abbrev from : Disk
+    from = disk (dev.time old)
+
+    abbrev to : Disk
+    to = disk (dev.time new)
+
     abbrev pub IsOpeningCause : Error → Type 0
     -- want of memory is free
     IsOpeningCause Mem = ⊤
@@ -105,25 +115,43 @@ module _ (f : Filing) where
     IsOpeningCause (Journal (journal.Runtime runtime.Fault)) = Rose (dev.faults old) (dev.faults new)
     IsOpeningCause (Metadata (metadata.Runtime runtime.Fault)) = Rose (dev.faults old) (dev.faults new)
     -- the copies of the markers, or a name
-    IsOpeningCause (Metadata (metadata.Corruption side)) = dev.Tells → HaveBadCopy (disk (dev.time old)) side
-    IsOpeningCause (Journal (journal.InvalidBlobName name)) = dev.Tells → HasForeign (disk (dev.time old)) name
+    IsOpeningCause (Metadata (metadata.Corruption side)) = dev.Tells → HaveBadCopy from side
+    IsOpeningCause (Journal (journal.InvalidBlobName name)) = dev.Tells → HasForeign from name
     -- a section has less than its marker says
-    IsOpeningCause (Journal (journal.Corruption x)) = dev.Tells → OfMarkers (disk (dev.time old)) (λ markers. IsShortOf (disk (dev.time old)) markers x)
-    IsOpeningCause (Journal (journal.Runtime (runtime.InvalidChecksum k))) = dev.Tells
-        → OfMarkers (disk (dev.time old)) (λ markers. HasDamagedPage (disk (dev.time new)) markers k)
+    IsOpeningCause (Journal (journal.Corruption x)) = dev.Tells → OfMarkers from (λ markers. IsShortOf from markers x)
+    -- a page below a marker is damaged
+    IsOpeningCause (Journal (journal.Runtime (runtime.InvalidChecksum k))) =
+        dev.Tells → OfMarkers from (λ markers. HasDamagedPage to markers k)
     -- a blob of records ends within one page, with its slots, of 2^64 bytes
-    IsOpeningCause (Journal (journal.Runtime runtime.OffsetOverflow)) =
-        (s : ℕ) × IsOpenedTooLong (λ n. 2 ^ 64 ≤ n + (f.layout.page_size + 12)) (dev.opened new) (section_key f.layout.index s)
+    IsOpeningCause (Journal (journal.Runtime runtime.OffsetOverflow)) = (s : ℕ)
+        × IsOpenedTooLong (λ n. 2 ^ 64 ≤ n + (f.layout.page_size + 12)) (dev.opened new) (section_key f.layout.index s)
     -- a record that is kept stands in another section than its index
-    IsOpeningCause RecordCorrupted = dev.Tells → OfKept f (as_read (disk (dev.time old))) (HasStray f.items)
+    IsOpeningCause RecordCorrupted = dev.Tells → OfKept f (as_read from) (HasStray f.items)
     -- more is kept than the limits allow, or a marker has to move, and the markers have no next version
-    IsOpeningCause Full = dev.Tells → OfKept f (as_read (disk (dev.time old))) (IsPastLimits f.most_sections f.most_records)
-        ⊎ (HasNoVersion f.layout (disk (dev.time old)) × OfMarkers (disk (dev.time old)) (HasToMove (disk (dev.time old))))
+    IsOpeningCause Full = dev.Tells → OfKept f (as_read from) (IsPastLimits f.most_sections f.most_records)
+        ⊎ (HasNoVersion f.layout from × OfMarkers from (HasToMove from))
     -- these do not come on a device that tells its disk
     IsOpeningCause (Journal (journal.ItemOutOfRange n)) = dev.Tells → ⊥
     IsOpeningCause (Journal (journal.Codec e)) = dev.Tells → ⊥
     -- and no other comes at all
     IsOpeningCause e = ⊥
+
+    -- Why an opening over a lawful image fails, of which nothing is refused.
+    abbrev pub IsLawfulCause : Error → Type 0
+    -- want of memory is free
+    IsLawfulCause Mem = ⊤
+    -- the device failed
+    IsLawfulCause (Journal (journal.Runtime runtime.Fault)) = Rose (dev.faults old) (dev.faults new)
+    IsLawfulCause (Metadata (metadata.Runtime runtime.Fault)) = Rose (dev.faults old) (dev.faults new)
+    -- a marker has to move, and the markers have no next version
+    IsLawfulCause Full = HasNoVersion f.layout from × OfMarkers from (HasToMove from)
+    -- a u64 does not count the bytes of each blob of records, with those of one page more
+    IsLawfulCause (Journal (journal.Runtime runtime.OffsetOverflow)) = AreCounted f.layout (as_read from) → ⊥
+    -- nor those of this section's blob alone
+    IsLawfulCause (Journal (journal.Corruption x)) =
+        (x.section < 2 ^ 64) × (2 ^ 64 ≤ length (content_at (as_read from) f.layout.index x.section))
+    -- and no other comes at all
+    IsLawfulCause e = ⊥
 
     -- How often each value blob is read: no more often than its section has records at or above its marker.
     pub record ReadsOnOpening (q : Key) (n : ℕ) : Type 0 where
@@ -132,7 +160,7 @@ module _ (f : Filing) where
       -- these are the markers
       pub markers : Markers
       -- the disk holds them
-      pub held : HoldMarkers f.layout (as_read (disk (dev.time old))) markers
+      pub held : HoldMarkers f.layout (as_read from) markers
       -- of this section
       pub section : ℕ
       -- which a u64 names
@@ -140,41 +168,59 @@ module _ (f : Filing) where
       -- the blob is that of its values
       pub is : q ≡ section_key f.layout.values section
       -- the bound is the number of its records at or above the marker
-      pub bound : n ≡ length (stored_records f.layout (as_read (disk (dev.time old))) section) - marker_of markers section
+      pub bound : n ≡ length (stored_records f.layout (as_read from) section) - marker_of markers section
 
     -- What crashes leave, of a disk that may be opened, at every moment of the call, also where it fails.
     pub record OpeningLeaves : Type 0 where
       -- just what a crash before the call would have kept
-      pub keeps : Always (dev.time old) (dev.time new) (RecallsAlone f.layout (IsOwn f.layout (λ _. ⊤)) (disk (dev.time old)))
+      pub keeps : Always (dev.time old) (dev.time new) (RecallsAlone f.layout (IsOwn f.layout (λ _. ⊤)) from)
       -- so it stays lawful,
-      pub lawful : LeavesLawful f (disk (dev.time old)) → Always (dev.time old) (dev.time new) (LeavesLawful f)
+      pub lawful : LeavesLawful f from → Always (dev.time old) (dev.time new) (LeavesLawful f)
       -- and stands for each state for which it stood, with a reopening under way.
-      pub stands : (st : State (List ℕ)) → Leaves f st None (disk (dev.time old)) → Always (dev.time old) (dev.time new) (Leaves f st (Some Reopen))
+      pub stands : (st : State (List ℕ)) → Leaves f st None from
+          → Always (dev.time old) (dev.time new) (Leaves f st (Some Reopen))
 
-module _ {A V S D : Type 0} {gs : _} (p : Prunable A V (AppendFactory S) (PageBlob S gs)) (dev : device.Ghosts D) (setup : Setup V) where
-  -- Over a device that tells its disk: what is held, and what its image means.
-  pub record OpenedOver (r : A) (old new : D) : Type 0 where
-    -- the records are those that the image keeps
-    pub records : OfKept setup.filing (as_read (disk (dev.time old)))
-        (λ entries. (s : ℕ) → s < 2 ^ 64 → records_of (p.see r).pair (disk (dev.time new)) s ≡ map (λ e. e.stored) (entries s))
-    -- over any image: all bytes of a section's values are in its blob
-    pub values : (s : ℕ) → s < 2 ^ 64 → glob.section_size (p.see r).pair.values s ≡ length (content_at (as_read (disk (dev.time new))) setup.filing.layout.values s)
-    -- of a lawful image the state is its start state
-    pub start : (markers : Markers) → Lawful setup.filing (as_read (disk (dev.time old))) markers
-        → IsStart setup.filing (as_read (disk (dev.time old))) markers (state_over (meaning p) dev r new)
-    -- nothing that has to be refused was passed over
-    pub kept : MayBeKept setup.filing (disk (dev.time old))
-    -- each marker's records are there: the last one is sealed, and its value stands within the section's values
-    pub proved : (markers : Markers) → HoldMarkers setup.filing.layout (as_read (disk (dev.time old))) markers
-        → (s m : ℕ) → IsMarked markers s m → IsProved setup.filing.layout (disk (dev.time old)) s m
-    -- The archive is sound where crashes leave lawful images now: where they did before, and where what was unlawful has been cut off.
-    pub sound : MayBeOpened setup.filing.layout (disk (dev.time old)) → LeavesLawful setup.filing (disk (dev.time new)) → IsSoundOver (meaning p) dev r new
-    -- It is the reopening of each state for which the disk stood, and of which nothing is synced behind the last section that a u64 names.
-    pub step : MayBeOpened setup.filing.layout (disk (dev.time old)) → (st : State (List ℕ)) → Leaves setup.filing st None (disk (dev.time old))
-        → ((s : ℕ) → 2 ^ 64 ≤ s → st.synced s ≡ 0) → Step (p.see r).items st Reopen reply.Done (state_over (meaning p) dev r new)
-    -- each crash now leaves what stands for the state
-    pub rest : MayBeOpened setup.filing.layout (disk (dev.time old)) → (st : State (List ℕ)) → Leaves setup.filing st None (disk (dev.time old))
-        → Leaves setup.filing (state_over (meaning p) dev r new) None (disk (dev.time new))
+module _ {A V S D : Type 0} {gs : _} (p : Prunable A V (AppendFactory S) (PageBlob S gs)) (dev : device.Ghosts D)
+    (setup : Setup V) where
+  module _ (old new : D) where
+    -- the disk as it was, and as it is
+    abbrev before : Disk
+    before = disk (dev.time old)
+
+    abbrev after : Disk
+    after = disk (dev.time new)
+
+    -- what the opening was to be by, and where
+    abbrev f : Filing
+    f = setup.filing
+
+    -- Over a device that tells its disk: what is held, and what its image means.
+    pub record OpenedOver (r : A) : Type 0 where
+      -- the records are those that the image keeps
+      pub records : OfKept f (as_read before)
+          (λ entries. (s : ℕ) → s < 2 ^ 64 → records_of (p.see r).pair after s ≡ map (λ e. e.stored) (entries s))
+      -- over any image: all bytes of a section's values are in its blob
+      pub values : (s : ℕ) → s < 2 ^ 64
+          → glob.section_size (p.see r).pair.values s ≡ length (content_at (as_read after) f.layout.values s)
+      -- of a lawful image the state is its start state
+      pub start : (markers : Markers) → Lawful f (as_read before) markers
+          → IsStart f (as_read before) markers (state_over (meaning p) dev r new)
+      -- nothing that has to be refused was passed over
+      pub kept : MayBeKept f before
+      -- each marker's records are there: the last one is sealed, and its value stands within the section's values
+      pub proved : (markers : Markers) → HoldMarkers f.layout (as_read before) markers
+          → (s m : ℕ) → IsMarked markers s m → IsProved f.layout before s m
+      -- The archive is sound where crashes leave lawful images now: where they did before, and where what was unlawful
+      -- has been cut off.
+      pub sound : MayBeOpened f.layout before → LeavesLawful f after → IsSoundOver (meaning p) dev r new
+      -- It is the reopening of each state for which the disk stood, and of which nothing is synced behind the last
+      -- section that a u64 names.
+      pub step : MayBeOpened f.layout before → (st : State (List ℕ)) → Leaves f st None before
+          → ((s : ℕ) → 2 ^ 64 ≤ s → st.synced s ≡ 0)
+          → Step (p.see r).items st Reopen reply.Done (state_over (meaning p) dev r new)
+      -- each crash now leaves what stands for the state
+      pub rest : MayBeOpened f.layout before → (st : State (List ℕ)) → Leaves f st None before
+          → Leaves f (state_over (meaning p) dev r new) None after
 
   -- The archive r was opened.
   pub record Opened (r : A) (old new : D) : Type 0 where
@@ -197,7 +243,7 @@ module _ {A V S D : Type 0} {gs : _} (p : Prunable A V (AppendFactory S) (PageBl
     -- nothing is left to flush
     pub flushed : dev.Tells → (s : ℕ) → (record_tail (p.see r) s ≡ 0) × (value_tail (p.see r) s ≡ 0)
     -- what is held, on a device that tells its disk
-    pub told : dev.Tells → OpenedOver r old new
+    pub told : dev.Tells → OpenedOver old new r
 
   -- The opening refused, or failed.
   pub record NotOpened (e : Error) (old new : D) : Type 0 where
@@ -206,11 +252,10 @@ module _ {A V S D : Type 0} {gs : _} (p : Prunable A V (AppendFactory S) (PageBl
     -- bad copies of the markers are told before anything else, unless the device fails or memory is short
     pub copies : dev.Tells → (side : Side) → HaveBadCopy setup.filing (disk (dev.time old)) side
         → (e ≡ Metadata (metadata.Corruption side)) ⊎ IsOpeningFailure (dev.faults old) (dev.faults new) e
-    -- A lawful image is opened, unless the device fails, memory is short, or the markers have no next version; where a blob of records ends within a
-    -- page of 2^64, nothing of that is promised.
+    -- Over a lawful image nothing is refused: that is opened, unless the device fails, memory is short, a marker has
+    -- to move and the markers have no next version, or a blob of records is longer than a u64 counts.
     pub complete : dev.Tells → (markers : Markers) → Lawful setup.filing (as_read (disk (dev.time old))) markers
-        → AreCounted setup.filing.layout (as_read (disk (dev.time old)))
-        → ((e ≡ Full) × HasNoVersion setup.filing.layout (disk (dev.time old))) ⊎ IsOpeningFailure (dev.faults old) (dev.faults new) e
+        → IsLawfulCause setup.filing dev old new e
 
   abbrev pub OpenEnds : Result A Error → D → D → Type 0
   OpenEnds (Ok r) old new = Opened r old new
@@ -219,7 +264,8 @@ module _ {A V S D : Type 0} {gs : _} (p : Prunable A V (AppendFactory S) (PageBl
   -- An opening over what the blobs keep.
   pub record Opens (result : Result A Error) (old new : D) : Type 0 where
     -- what crashes leave at every moment, also where the call fails
-    pub moments : dev.Tells → MayBeOpened setup.filing.layout (disk (dev.time old)) → OpeningLeaves setup.filing dev old new
+    pub moments : dev.Tells → MayBeOpened setup.filing.layout (disk (dev.time old))
+        → OpeningLeaves setup.filing dev old new
     -- no blob is touched but those of the archive
     pub footprint : Footprint dev (IsOwn setup.filing.layout (λ _. ⊤)) (ReadsOnOpening setup.filing dev old new) old new
     -- how it ended

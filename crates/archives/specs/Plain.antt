@@ -9,7 +9,8 @@ module _ {K V : Type 0} (key_bytes : K → List ℕ) where
   abbrev pub entry_of : Item K V → Entry V
   entry_of r = record { index = r.index; key = key_bytes r.key; value = r.value }
 
-  -- open; each section has its records in the order in which they were put, and synced is what was there at the last sync
+  -- open; each section has its records in the order in which they were put, and synced is what was there at the last
+  -- sync
   abbrev pub state_with : ℕ → List (Item K V) → State V
   state_with items all = record {
     is_open = true;

@@ -10,10 +10,11 @@ use Rattle.archives.specs.Filing.{Filing}
 use Rattle.archives.specs.Finding.{IsNear, Wanted}
 use Rattle.archives.specs.Machine.{State, Step}
 use Rattle.archives.specs.Putting.{is_taken}
+use Rattle.archives.specs.PuttingLaws.{taken_state}
 use Rattle.archives.specs.Standing.{Leaves}
 
--- What an archive A of values V shows, how its buffers are read, which values its configuration allows, how they are spelled, and which words it
--- makes of keys.
+-- What an archive A of values V shows, how its buffers are read, which values its configuration allows, how they are
+-- spelled, and which words it makes of keys.
 pub record Prunable (A V F B : Type 0) : Type 1 where
   pub see : A → Archive F B
   pub buffers : Buffers F B
@@ -27,8 +28,8 @@ module _ {A V F S : Type 0} {gs : _} (p : Prunable A V F (PageBlob S gs)) where
   abbrev pub filing_by : A → Filing
   filing_by a = filing_of (p.see a)
 
-  -- At which records, by section and position, a lookup of what is wanted has to look: those with the index, or with a key that has the word of the
-  -- wanted one.
+  -- At which records, by section and position, a lookup of what is wanted has to look: those with the index, or with
+  -- a key that has the word of the wanted one.
   abbrev pub HasToLook : A → Wanted → ℕ → ℕ → Type 0
   HasToLook a = IsNear (p.word a) (p.see a)
 
@@ -46,6 +47,7 @@ module _ {A V F S : Type 0} {gs : _} (p : Prunable A V F (PageBlob S gs)) where
     Leaves = λ a. Leaves (filing_by a);
     IsOwn = λ a. IsOwn (p.see a).pair.layout (λ _. ⊤);
     has = λ a. is_taken (p.see a);
+    has_index = λ a told opened d usable t. taken_state (p.see a) d (usable.listed t);
     Accepts = p.Accepts;
   }
 
@@ -60,8 +62,8 @@ write_buffer_of a = a.pair.index.sections.factory.write_buffer
 abbrev pub value_buffer_of : {F B : Type 0} → Archive F B → ℕ
 value_buffer_of a = a.pair.values.factory.capacity
 
--- What an opening is asked for: how it files records, which values it allows, which words it makes of keys, and from how many bytes on the buffers of
--- records and of values flush.
+-- What an opening is asked for: how it files records, which values it allows, which words it makes of keys, and from
+-- how many bytes on the buffers of records and of values flush.
 pub record Setup (V : Type 0) : Type 1 where
   pub filing : Filing
   pub Allows : V → Type 0

@@ -7,9 +7,11 @@ use Rattle.blob_device.specs.declared.device.Device as device
 use Rattle.blob_device.specs.declared.runtime.RError.TheVariants as runtime
 use Rattle.segments.specs.Sections.{SameBounds}
 use Rattle.segments.specs.declared.journal.Error.TheVariants as journal
+use Rattle.segments.specs.declared.sealed.AppendFactory.{AppendFactory}
 use Rattle.sealed_pages.specs.declared.page_blob.PageBlob.{PageBlob}
 use Rattle.paired.specs.GlobSections as glob
 use Rattle.paired.specs.Pair.{synced_length}
+use Rattle.paired.specs.Tails.{AreTailsAfter}
 use Rattle.archives.specs.Archives.{Archive}
 use Rattle.archives.specs.Changes.{Changes}
 use Rattle.archives.specs.Commands.{Put}
@@ -35,33 +37,43 @@ module _ {F S : Type 0} {gs : _} (a : Archive F (PageBlob S gs)) (index n : ℕ)
   -- no other comes
   IsPutCause told before now e = ⊥
 
-  -- Where a put has to be refused, in this order: by `Full` at the limits, then by `ValueTooLarge`, then by `Full` where there is no room. Only
-  -- memory may be short before the last two. A refusal has not touched the device.
+  -- Where a put has to be refused, in this order: by `Full` at the limits, then by `ValueTooLarge`, then by `Full`
+  -- where there is no room. Only memory may be short before the last two. A refusal has not touched the device.
   pub record Refuses {A D : Type 0} (told : Type 0) (result : Result A Error) (old new : D) : Type 0 where
     -- at the limits
     pub over_limit : is_taken a index ≡ false → (IsAllowed a index → ⊥) → IsErrOf result Full × (new ≡ old)
     -- by the size of the frame
-    pub too_large : IsTooLargeFor a index n → (IsErrOf result (Journal journal.ValueTooLarge) × (new ≡ old)) ⊎ IsErrOf result Mem
+    pub too_large : IsTooLargeFor a index n
+        → (IsErrOf result (Journal journal.ValueTooLarge) × (new ≡ old)) ⊎ IsErrOf result Mem
     -- by want of room
     pub no_room : told → IsFullFor a index n → (IsErrOf result Full × (new ≡ old)) ⊎ IsErrOf result Mem
 
-module _ {A V F S D : Type 0} {gs : _} (p : Prunable A V F (PageBlob S gs)) (dev : device.Ghosts D) where
+module _ {A V S D : Type 0} {gs : _} (p : Prunable A V (AppendFactory S) (PageBlob S gs)) (dev : device.Ghosts D) where
   -- The record was added, whose frame has n bytes, or its index was taken.
   pub record PutDone (a : A) (index : ℕ) (key : List ℕ) (n : ℕ) (r : A) : Type 0 where
     -- records are filed as before
     pub filing : IsSameFiling (filing_by p a) (filing_by p r)
-    -- The words by which lookups look stay, and from how many bytes on buffers flush.
+    -- the words by which lookups look stay
     pub word : p.word r ≡ p.word a
-    pub bounds : SameBounds (p.see a).pair.index.sections (p.see r).pair.index.sections × SameBounds (p.see a).pair.values (p.see r).pair.values
-    -- over any image: the row goes last in its section, and the bytes of the section's values are n more
+    -- and from how many bytes on buffers flush
+    pub bounds : SameBounds (p.see a).pair.index.sections (p.see r).pair.index.sections
+        × SameBounds (p.see a).pair.values (p.see r).pair.values
+    -- over any image: the row goes last in its section
     pub rows : (s : ℕ) → (p.see r).rows s ≡ rows_after (p.see a) index key s
+    -- and the bytes of the section's values are n more
     pub values : dev.Tells → (s : ℕ) → glob.section_size (p.see r).pair.values s ≡ size_after (p.see a) index n s
+    -- Of its section, where the index was free: what was not flushed and what is new stay unflushed, of the records
+    -- and of the values, until that fills their buffer. Then nothing does.
+    pub own_tails : is_taken (p.see a) index ≡ false
+        → AreTailsAfter (p.see a).pair (section_of (p.see a).items index) n (p.see r).pair
     -- what is not flushed of other sections stays
     pub other_tails : (s : ℕ) → (s ≡ section_of (p.see a).items index → is_taken (p.see a) index ≡ true)
         → (record_tail (p.see r) s ≡ record_tail (p.see a) s) × (value_tail (p.see r) s ≡ value_tail (p.see a) s)
-    -- the section of a new record counts as written; no marker moves, and nothing is synced
+    -- the section of a new record counts as written
     pub written : (s : ℕ) → IsTrue ((p.see r).is_written s) ↔ IsWrittenAfter (p.see a) index s
+    -- no marker moves
     pub markers : (p.see r).pair.store ≡ (p.see a).pair.store
+    -- and nothing is synced
     pub synced : (s : ℕ) → synced_length (p.see r).pair s ≡ synced_length (p.see a).pair s
 
   -- The put was refused, or failed.
@@ -85,5 +97,7 @@ module _ {A V F S D : Type 0} {gs : _} (p : Prunable A V F (PageBlob S gs)) (dev
     pub taken : IsTrue (is_taken (p.see a) index) → (result ≡ Ok a) × (new ≡ old)
     -- while both buffers have room no call of the device is made
     pub below : HasBufferRoom (p.see a) index (frame_size (filing_by p a).layout value) → new ≡ old
+    -- where it has to be refused
     pub refuses : Refuses (p.see a) index (frame_size (filing_by p a).layout value) dev.Tells result old new
+    -- how it ended
     pub ends : PutEnds a index key (frame_size (filing_by p a).layout value) result old new

@@ -1,12 +1,12 @@
 -- What a put asks of an archive before it writes.
 use Rattle.std.specs.Prelude.{◌≡◌, ◌⊎◌, ℕ, ◌+◌, ◌-◌, ◌*◌, ◌^◌, ◌<◌, ◌≤◌, ◌&&◌, not, if◌then◌else◌, Bool, false, ◌==◌, IsTrue, Some, IsSomeAnd, List, [], ◌∷◌, ◌++◌, length, sum_by}
 use Rattle.std.specs.List.{list_any}
-use Rattle.std.specs.Option.{option_map_or}
 use Rattle.sealed_pages.specs.declared.page_blob.PageBlob.{PageBlob}
 use Rattle.sealed_pages.specs.declared.write_blob.WriteBlob.{WriteBlob}
 use Rattle.sealed_pages.specs.Buffer.{FlushesNothing, extent, size_of}
 use Rattle.sealed_pages.specs.Shown as page_blob
 use Rattle.segments.specs.Sections.{IsHeld}
+use Rattle.segments.specs.Tails.{tail_held}
 use Rattle.segments.specs.Unsealed.{count_of}
 use Rattle.paired.specs.Frames.{frame}
 use Rattle.paired.specs.GlobSections as glob
@@ -19,7 +19,7 @@ use Rattle.archives.specs.Rows.{HasRoom, Row}
 
 -- of a section: how many bytes of its records are not flushed, and how many of its values
 abbrev pub record_tail : {F S : Type 0} {gs : _} → Archive F (PageBlob S gs) → ℕ → ℕ
-record_tail a s = option_map_or (λ u. length (page_blob.shown u).tip - (page_blob.shown u).from) (a.pair.index.sections.held s) 0
+record_tail a s = tail_held (a.pair.index.sections.held s)
 
 abbrev pub value_tail : {F B : Type 0} → Archive F B → ℕ → ℕ
 value_tail a s = glob.pending_size a.pair.values s
@@ -31,19 +31,25 @@ module _ {F S : Type 0} {gs : _} (a : Archive F (PageBlob S gs)) (index : ℕ) w
 
   -- the rows of a section once a record with this key was put
   abbrev pub rows_after : List ℕ → ℕ → List Row
-  rows_after key s = if not is_taken && (s == section_of a.items index) then a.rows s ++ record { index = index; key = key } ∷ [] else a.rows s
+  rows_after key s = if not is_taken && (s == section_of a.items index)
+      then a.rows s ++ record { index = index; key = key } ∷ []
+      else a.rows s
 
   -- how many bytes the values of a section then have, where the frame has n
   abbrev pub size_after : ℕ → ℕ → ℕ
-  size_after n s = if not is_taken && (s == section_of a.items index) then glob.section_size a.pair.values s + n else glob.section_size a.pair.values s
+  size_after n s = if not is_taken && (s == section_of a.items index)
+      then glob.section_size a.pair.values s + n
+      else glob.section_size a.pair.values s
 
   -- the limits allow one record more in the index's section
   abbrev pub IsAllowed : Type 0
   IsAllowed = HasRoom a.most_sections a.most_records a.rows (section_of a.items index)
 
-  -- The section's records, with both slots of their last page, or its values, would pass 2^64 with one record more, whose frame has n bytes.
+  -- The section's records, with both slots of their last page, or its values, would pass 2^64 with one record more,
+  -- whose frame has n bytes.
   abbrev pub IsPassed : ℕ → Type 0
-  IsPassed n = IsSomeAnd (a.pair.index.sections.held (section_of a.items index)) (λ u. 2 ^ 64 ≤ extent u.page_size (size_of (page_blob.shown u) + a.pair.layout.record_size))
+  IsPassed n = IsSomeAnd (a.pair.index.sections.held (section_of a.items index))
+      (λ u. 2 ^ 64 ≤ extent u.page_size (size_of (page_blob.shown u) + a.pair.layout.record_size))
       ⊎ IsSomeAnd (a.pair.values.held (section_of a.items index)) (λ v. 2 ^ 64 ≤ count_of v + n)
 
   -- The index is free, and one record more, whose frame has n bytes, is not allowed, or has no room.
@@ -68,7 +74,8 @@ module _ {F S : Type 0} {gs : _} (a : Archive F (PageBlob S gs)) (index : ℕ) w
 
   -- both buffers of the index's section are known: by the disk, or since the section is held
   abbrev pub IsKnown : Type 0 → Type 0
-  IsKnown told = told ⊎ (IsHeld a.pair.index.sections (section_of a.items index) × IsHeld a.pair.values (section_of a.items index))
+  IsKnown told = told ⊎ (IsHeld a.pair.index.sections (section_of a.items index)
+      × IsHeld a.pair.values (section_of a.items index))
 
   -- Why a put is refused by `Full`: as in `IsFullFor`, but that want of room is only known of buffers that are.
   pub record IsFullOver (told : Type 0) (n : ℕ) : Type 0 where
@@ -87,8 +94,9 @@ module _ {F S : Type 0} {gs : _} (a : Archive F (PageBlob S gs)) (index : ℕ) w
 abbrev pub frame_size : Layout → List ℕ → ℕ
 frame_size l value = length (frame l.seal value)
 
--- In a state of the machine: the records of the index's section, with both slots of their last page, or the frames of its values, would
--- pass 2^64 with one record more, whose frame has n bytes.
+-- In a state of the machine: the records of the index's section, with both slots of their last page, or the frames of
+-- its values, would pass 2^64 with one record more, whose frame has n bytes.
 abbrev pub WouldPass : Filing → State (List ℕ) → ℕ → ℕ → Type 0
-WouldPass f st index n = (2 ^ 64 ≤ extent f.layout.page_size ((length (st.lists (section_of f.items index)) + 1) * f.layout.record_size))
+WouldPass f st index n =
+    (2 ^ 64 ≤ extent f.layout.page_size ((length (st.lists (section_of f.items index)) + 1) * f.layout.record_size))
     ⊎ (2 ^ 64 ≤ sum_by (λ r. frame_size f.layout r.value) (st.lists (section_of f.items index)) + n)

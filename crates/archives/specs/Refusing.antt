@@ -11,7 +11,8 @@ use Rattle.archives.specs.declared.error.Error.TheVariants.{Journal, Metadata, M
 abbrev pub IsFault : Error → Type 0
 IsFault e = (e ≡ Journal (journal.Runtime Fault)) ⊎ (e ≡ Metadata (metadata.Runtime Fault))
 
--- there was no memory, or the device failed in a call of the records or values, and then its count of faults rose from one number to another
+-- there was no memory, or the device failed in a call of the records or values, and then its count of faults rose
+-- from one number to another
 abbrev pub IsFailure : ℕ → ℕ → Error → Type 0
 IsFailure before now e = (e ≡ Mem) ⊎ ((e ≡ Journal (journal.Runtime Fault)) × Rose before now)
 

@@ -1,5 +1,5 @@
 -- What an archive holds in memory of its records: a row for each, by section and position.
-use Rattle.std.specs.Prelude.{◌≡◌, ◌≢◌, ◌⊎◌, ℕ, ◌<◌, ◌≤◌, List, [], length, map, Option, None, Some, IsSomeAnd}
+use Rattle.std.specs.Prelude.{◌≡◌, ◌≢◌, ◌⊎◌, ℕ, ◌<◌, ◌≤◌, List, [], ◌∷◌, ◌++◌, length, map, Option, None, Some, IsSomeAnd, Result, Ok, Err}
 use Rattle.std.specs.List.{AllByRecursion}
 use Rattle.std.specs.List.Sorted.{IsStrictlySortedBy}
 use Rattle.std.specs.Global.{Vec}
@@ -33,22 +33,55 @@ module _ {K : Type 0} (key_bytes : K → List ℕ) where
 
 -- no table is empty, but perhaps that of a section that P names
 abbrev pub AreFilledBut : {K : Type 0} → (ℕ → Type 0) → Tables K → Type 0
-AreFilledBut {K} P t = (s : ℕ) (table : Vec (Entry K)) → get nat_cmp t.tables s ≡ Some table → (P s → ⊥) → table.items ≢ []
+AreFilledBut {K} P t =
+    (s : ℕ) (table : Vec (Entry K)) → get nat_cmp t.tables s ≡ Some table → (P s → ⊥) → table.items ≢ []
 
 -- of these lists, by section, fewer than n have elements
 abbrev pub FewerThan : {X : Type 0} → ℕ → (ℕ → List X) → Type 0
-FewerThan n lists = (ss : List ℕ) → IsStrictlySortedBy nat_cmp ss → AllByRecursion (λ s. lists s ≢ []) ss → length ss < n
+FewerThan n lists =
+    (ss : List ℕ) → IsStrictlySortedBy nat_cmp ss → AllByRecursion (λ s. lists s ≢ []) ss → length ss < n
 
--- At most so many lists with elements, and so many elements in each, may be had; one more element fits into the list of the section.
+-- At most so many lists with elements, and so many elements in each, may be had; one more element fits into the list
+-- of the section.
 abbrev pub HasRoom : {X : Type 0} → ℕ → ℕ → (ℕ → List X) → ℕ → Type 0
-HasRoom sections per_section lists s = ((lists s ≢ []) × (length (lists s) < per_section)) ⊎ ((lists s ≡ []) × FewerThan sections lists)
+HasRoom sections per_section lists s =
+    ((lists s ≢ []) × (length (lists s) < per_section)) ⊎ ((lists s ≡ []) × FewerThan sections lists)
 
 -- the section has a table, and one record more fits into it without memory
 abbrev pub HasSpare : {K : Type 0} → Tables K → ℕ → Type 0
 HasSpare t s = IsSomeAnd (get nat_cmp t.tables s) (λ table. vec_len table < vec_capacity table)
 
+-- ---- adding a row
+
+module _ {K : Type 0} (key_bytes : K → List ℕ) (section : ℕ) (row : Row) (old : Tables K) where
+  -- the row goes last in its section
+  pub record HasAdded (new : Tables K) : Type 0 where
+    -- the row is the last one of its section
+    pub added : rows_of key_bytes new section ≡ rows_of key_bytes old section ++ row ∷ []
+    -- the other sections have the rows that they had
+    pub others : (s : ℕ) → s ≢ section → rows_of key_bytes new s ≡ rows_of key_bytes old s
+    -- no table is empty
+    pub filled : AreFilledBut (λ _. ⊥) new
+
+  -- memory was short for it
+  pub record HasNotAdded (new : Tables K) : Type 0 where
+    -- no room was made for it before
+    pub no_spare : HasSpare old section → ⊥
+    -- the rows are those that there were
+    pub same : (s : ℕ) → rows_of key_bytes new s ≡ rows_of key_bytes old s
+    -- no table is empty, but perhaps that of the section
+    pub filled : AreFilledBut (λ s. s ≡ section) new
+
+  -- The row is added to its section.
+  abbrev pub Pushes : {E : Type 0} → Result Unit E → Tables K → Type 0
+  Pushes (Ok done) new = HasAdded new
+  Pushes (Err e) new = HasNotAdded new
+
+-- ---- within limits
+
 -- each row lies in its section, and the limits are kept
 pub record AreWithin (items sections per_section : ℕ) (rows : ℕ → List Row) : Type 0 where
   pub in_section : (s : ℕ) → AllByRecursion (λ r. section_of items r.index ≡ s) (rows s)
-  pub few_sections : (ss : List ℕ) → IsStrictlySortedBy nat_cmp ss → AllByRecursion (λ s. rows s ≢ []) ss → length ss ≤ sections
+  pub few_sections : (ss : List ℕ) → IsStrictlySortedBy nat_cmp ss → AllByRecursion (λ s. rows s ≢ []) ss
+      → length ss ≤ sections
   pub few_records : (s : ℕ) → length (rows s) ≤ per_section

@@ -9,10 +9,10 @@ use Rattle.sealed_pages.specs.declared.page_blob.PageBlob.{PageBlob}
 use Rattle.segments.specs.contracts.unsealed.WriteBlobSectionBuffer.TheImpl as write_blob
 use Rattle.segments.specs.declared.buffer.SectionBuffer as buffer
 use Rattle.segments.specs.declared.sealed.AppendFactory.{AppendFactory}
+use Rattle.paired.specs.CodecShown.{pair_codec_config}
 use Rattle.paired.specs.PairShown as pair
-use Rattle.paired.specs.declared.oversized.replaying.Replay.{Replay}
 use Rattle.paired.specs.TrackedShown.{marker_format}
-use Rattle.archives.specs.Archives as meaning
+use Rattle.archives.specs.Archives as archive
 use Rattle.archives.specs.Archives.{Buffers}
 use Rattle.archives.specs.Filing.{Filing}
 use Rattle.archives.specs.IndexRecord.{place_of}
@@ -21,13 +21,16 @@ use Rattle.archives.specs.Rows.{AreFilledBut, rows_of}
 use Rattle.archives.specs.declared.prunable.Archive.{Archive}
 use Rattle.archives.specs.declared.prunable.config.Config.{Config}
 
-abbrev pub shown : {T K V S W C : Type 0} {translator word_eq word_hash key key_eq key_ord key_partial codec seal stored fixed stored_codec : _}
-    → Archive T K V S W C translator word_eq word_hash key key_eq key_ord key_partial codec seal stored fixed stored_codec → meaning.Archive (AppendFactory S) (PageBlob S seal)
+abbrev pub shown : {T K V S W C : Type 0}
+    {translator word_eq word_hash key key_eq key_ord key_partial codec seal stored fixed stored_codec : _}
+    → Archive T K V S W C translator word_eq word_hash key key_eq key_ord key_partial codec seal stored fixed
+    stored_codec
+    → archive.Archive (AppendFactory S) (PageBlob S seal)
 shown {key = k} {codec = c} {seal = s} a = record {
   pair = pair.shown (place_of k.SIZE) a.pair;
   items = a.items_per_section;
   key_size = k.SIZE;
-  refusal = λ bytes. c.refusal bytes a.pair.values.codec_config;
+  refusal = λ bytes. c.refusal bytes (pair_codec_config a.pair);
   most_sections = a.limits.sections;
   most_records = a.limits.per_section;
   floor = 0;
@@ -37,7 +40,8 @@ shown {key = k} {codec = c} {seal = s} a = record {
 }
 
 -- with keys of n bytes, under this seal, and values that the codec refuses so
-abbrev pub filing_for : {T S C : Type 0} → ℕ → seal.Ghosts S → (List ℕ → C → Option codec_error.Error) → Config T C → Filing
+abbrev pub filing_for : {T S C : Type 0} → ℕ → seal.Ghosts S → (List ℕ → C → Option codec_error.Error) → Config T C
+    → Filing
 filing_for n sealing refusal cfg = record {
   layout = record {
     index = string_bytes cfg.key_partition;
@@ -57,7 +61,8 @@ filing_for n sealing refusal cfg = record {
 }
 
 -- how the buffers of an archive are read, where those of its records are read so
-abbrev pub buffers_by : {S : Type 0} {sealing : _} → buffer.Ghosts (PageBlob S sealing) → Buffers (AppendFactory S) (PageBlob S sealing)
+abbrev pub buffers_by : {S : Type 0} {sealing : _} → buffer.Ghosts (PageBlob S sealing)
+    → Buffers (AppendFactory S) (PageBlob S sealing)
 buffers_by pages = record {
   pages = pages;
   gives = λ f. record { page_size = f.pages.page_size; capacity = f.write_buffer };
@@ -66,20 +71,24 @@ buffers_by pages = record {
 }
 
 -- what contracts see of archives with such buffers
-abbrev pub means : {T K V S W C : Type 0} {translator word_eq word_hash key key_eq key_ord key_partial codec seal stored fixed stored_codec : _}
+abbrev pub means : {T K V S W C : Type 0}
+    {translator word_eq word_hash key key_eq key_ord key_partial codec seal stored fixed stored_codec : _}
     → buffer.Ghosts (PageBlob S seal)
-    → Prunable (Archive T K V S W C translator word_eq word_hash key key_eq key_ord key_partial codec seal stored fixed stored_codec) V (AppendFactory S) (PageBlob S seal)
+    → Prunable (Archive T K V S W C translator word_eq word_hash key key_eq key_ord key_partial codec seal stored fixed
+    stored_codec) V (AppendFactory S) (PageBlob S seal)
 means {W = w} {translator = t} {codec = c} pages = record {
   see = shown;
   buffers = buffers_by pages;
-  Accepts = λ a v. c.accepted v a.pair.values.codec_config;
+  Accepts = λ a v. c.accepted v (pair_codec_config a.pair);
   spelling = c.spelling;
   Word = w;
   word = λ a. t.word_of a.translator;
 }
 
--- what an opening by this configuration is asked for, with keys of n bytes, under this seal, values of this codec, and words that are made so
-abbrev pub setup_for : {T V S C W : Type 0} → ℕ → seal.Ghosts S → codec.Ghosts V C → (T → List ℕ → W) → Config T C → Setup V
+-- what an opening by this configuration is asked for, with keys of n bytes, under this seal, values of this codec,
+-- and words that are made so
+abbrev pub setup_for : {T V S C W : Type 0} → ℕ → seal.Ghosts S → codec.Ghosts V C → (T → List ℕ → W) → Config T C
+    → Setup V
 setup_for {W = w} n sealing value word_of cfg = record {
   filing = filing_for n sealing value.refusal cfg;
   Allows = λ v. value.accepted v cfg.codec_config;
@@ -88,7 +97,3 @@ setup_for {W = w} n sealing value word_of cfg = record {
   write_buffer = cfg.key_write_buffer;
   value_buffer = cfg.value_write_buffer;
 }
-
--- what the codec of a replay's values is told
-abbrev pub replay_config_of : {I V S C : Type 0} {fixed codec seal : _} → Replay I V S C fixed codec seal → C
-replay_config_of r = r.values.codec_config

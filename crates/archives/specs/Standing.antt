@@ -9,8 +9,8 @@ use Rattle.archives.specs.Filing.{Filing, kept}
 use Rattle.archives.specs.Lawful.{Lawful}
 use Rattle.archives.specs.Machine.{Entry, State, after_put, after_multi, section_of}
 
--- The start state for an image that holds these markers: open, with what the image keeps, each section synced whole, and nothing pruned. Behind the last section
--- that a u64 names there is nothing.
+-- The start state for an image that holds these markers: open, with what the image keeps, each section synced whole,
+-- and nothing pruned. Behind the last section that a u64 names there is nothing.
 pub record IsStart (f : Filing) (image : Image) (markers : Markers) (st : State (List ℕ)) : Type 0 where
   pub held : HoldMarkers f.layout image markers
   pub is_open : IsTrue st.is_open
@@ -36,7 +36,8 @@ submitted items st under_way s = if st.is_open then (with_put items under_way st
 -- a destroy is under way, or a prune whose rounded bound is above the section and above the floor
 abbrev pub IsGoing : {V : Type 0} → ℕ → State V → Option (Command V) → ℕ → Type 0
 IsGoing items st (Some Destroy) s = IsTrue st.is_open
-IsGoing items st (Some (Prune bound)) s = IsTrue st.is_open × (s < section_of items bound) × (st.floor < section_of items bound)
+IsGoing items st (Some (Prune bound)) s =
+    IsTrue st.is_open × (s < section_of items bound) × (st.floor < section_of items bound)
 IsGoing items st under_way s = ⊥
 
 module _ (f : Filing) (st : State (List ℕ)) (under_way : Option (Command (List ℕ))) where
@@ -49,7 +50,8 @@ module _ (f : Filing) (st : State (List ℕ)) (under_way : Option (Command (List
   pub record StandsFor (image : Image) : Type 0 where
     pub markers : Markers
     pub lawful : Lawful f image markers
-    pub each : (s : ℕ) → s < 2 ^ 64 → IsPrefix image markers s ⊎ ((kept f image markers s ≡ []) × IsGoing f.items st under_way s)
+    pub each : (s : ℕ) → s < 2 ^ 64
+        → IsPrefix image markers s ⊎ ((kept f image markers s ≡ []) × IsGoing f.items st under_way s)
 
   -- So does each image that a crash of the disk leaves without a chance seal.
   abbrev pub Leaves : Disk → Type 0

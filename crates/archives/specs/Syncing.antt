@@ -25,8 +25,8 @@ module _ {F S : Type 0} {gs : _} where
   abbrev pub IsMoving : Archive F (PageBlob S gs) → Type 0
   IsMoving a = (s : ℕ) × pair.IsMoving a.pair (IsWritten a) (IsWritten a) s
 
--- By how many records each section has, and how many are synced, over a disk that holds markers: a section with nothing unsynced has another marker
--- than what is synced of it.
+-- By how many records each section has, and how many are synced, over a disk that holds markers: a section with
+-- nothing unsynced has another marker than what is synced of it.
 abbrev pub IsMovingBy : Filing → Disk → (ℕ → ℕ) → (ℕ → ℕ) → Type 0
 IsMovingBy f d lengths synced = (markers : Markers) × HoldMarkers f.layout (as_read d) markers
     × ((s : ℕ) × (s < 2 ^ 64) × (synced s ≡ lengths s) × (marker_of markers s ≢ synced s))

@@ -7,6 +7,7 @@ use Rattle.blob_device.specs.declared.device.Device as device
 use Rattle.blob_device.specs.declared.runtime.RError.TheVariants as runtime
 use Rattle.meta_store.specs.declared.error.Error.TheVariants as metadata
 use Rattle.segments.specs.declared.journal.Error.TheVariants as journal
+use Rattle.segments.specs.declared.sealed.AppendFactory.{AppendFactory}
 use Rattle.sealed_pages.specs.declared.page_blob.PageBlob.{PageBlob}
 use Rattle.paired.specs.Crashes.{IsOwn}
 use Rattle.paired.specs.GlobSections as glob
@@ -39,14 +40,17 @@ IsSyncCause a before now Full = (2 ^ 64 ≤ a.pair.store.version + 1) × IsMovin
 IsSyncCause a before now e = ⊥
 
 -- Why a put that syncs fails, whose frame has n bytes: for a reason of the put, or of the sync.
-abbrev pub IsPutSyncCause : {F S : Type 0} {gs : _} → Archive F (PageBlob S gs) → ℕ → ℕ → Type 0 → ℕ → ℕ → Error → Type 0
+abbrev pub IsPutSyncCause : {F S : Type 0} {gs : _} → Archive F (PageBlob S gs) → ℕ → ℕ → Type 0 → ℕ → ℕ → Error
+    → Type 0
 -- want of memory is free
 IsPutSyncCause a index n told before now Mem = ⊤
 -- the device failed: in a call of the markers only where one has to move
 IsPutSyncCause a index n told before now (Journal (journal.Runtime runtime.Fault)) = Rose before now
-IsPutSyncCause a index n told before now (Metadata (metadata.Runtime runtime.Fault)) = Rose before now × IsMovingAfter a index
+IsPutSyncCause a index n told before now (Metadata (metadata.Runtime runtime.Fault)) =
+    Rose before now × IsMovingAfter a index
 -- the limits, or a number that would pass its type; or a marker has to move, and the markers have no next version
-IsPutSyncCause a index n told before now Full = IsFullOver a index told n ⊎ ((2 ^ 64 ≤ a.pair.store.version + 1) × IsMovingAfter a index)
+IsPutSyncCause a index n told before now Full =
+    IsFullOver a index told n ⊎ ((2 ^ 64 ≤ a.pair.store.version + 1) × IsMovingAfter a index)
 IsPutSyncCause a index n told before now (Journal journal.ValueTooLarge) = IsTooLargeFor a index n
 -- a blob is longer than a buffer takes: only on a device that does not tell its disk
 IsPutSyncCause a index n told before now (Journal (journal.Runtime runtime.OffsetOverflow)) = told → ⊥
@@ -57,26 +61,31 @@ IsPutSyncCause a index n told before now e = ⊥
 abbrev pub IsOfMarkers : Error → Type 0
 IsOfMarkers e = (e ≡ Full) ⊎ (e ≡ Metadata (metadata.Runtime runtime.Fault))
 
-module _ {A V F S D : Type 0} {gs : _} (p : Prunable A V F (PageBlob S gs)) (dev : device.Ghosts D) where
+module _ {A V S D : Type 0} {gs : _} (p : Prunable A V (AppendFactory S) (PageBlob S gs)) (dev : device.Ghosts D) where
   -- All is synced.
   pub record Synced (a r : A) (old new : D) : Type 0 where
     -- records are filed as before
     pub filing : IsSameFiling (filing_by p a) (filing_by p r)
     -- the words by which lookups look stay
     pub word : p.word r ≡ p.word a
-    -- over any image: the rows stay, and the values have as many bytes as before; those of sections that were written are all in their blobs
+    -- over any image: the rows stay
     pub rows : (s : ℕ) → (p.see r).rows s ≡ (p.see a).rows s
+    -- the values have as many bytes as before
     pub values : (s : ℕ) → glob.section_size (p.see r).pair.values s ≡ glob.section_size (p.see a).pair.values s
+    -- and those of sections that were written are all in their blobs
     pub stored : dev.Tells → (s : ℕ) → s < 2 ^ 64 → IsWritten (p.see a) s
-        → glob.section_size (p.see r).pair.values s ≡ length (content_at (as_read (disk (dev.time new))) (filing_by p a).layout.values s)
+        → glob.section_size (p.see r).pair.values s
+        ≡ length (content_at (as_read (disk (dev.time new))) (filing_by p a).layout.values s)
     -- what is held is the same, and all of it is synced
     pub state : dev.Tells → state_over (meaning p) dev r new ≡ after_sync (state_over (meaning p) dev a old)
-    -- Records and values of the sections that were written settle; the markers of the other ones are moved to what was synced of them.
+    -- Records and values of the sections that were written settle; the markers of the other ones are moved to what
+    -- was synced of them.
     pub tracked : IsSyncOf (p.see a).pair (IsWritten (p.see a)) (IsWritten (p.see a)) (p.see r).pair
     -- no section counts as written
     pub none_written : (s : ℕ) → (p.see r).is_written s ≡ false
     -- nothing is left to flush of what was written
-    pub flushed : dev.Tells → (s : ℕ) → IsWritten (p.see a) s → (record_tail (p.see r) s ≡ 0) × (value_tail (p.see r) s ≡ 0)
+    pub flushed : dev.Tells → (s : ℕ) → IsWritten (p.see a) s
+        → (record_tail (p.see r) s ≡ 0) × (value_tail (p.see r) s ≡ 0)
     -- where a marker had to move, the markers had a next version
     pub version : IsMoving (p.see a) → (p.see a).pair.store.version + 1 < 2 ^ 64
 
@@ -96,7 +105,8 @@ module _ {A V F S D : Type 0} {gs : _} (p : Prunable A V F (PageBlob S gs)) (dev
   pub record Syncs (a : A) (result : Result A Error) (old new : D) : Type 0 where
     -- what every archive promises
     pub settles : Settles (meaning p) dev a result old new
-    -- at each moment, also where the call fails, each crash leaves what stands for the state, with no command under way that might add to it
+    -- at each moment, also where the call fails, each crash leaves what stands for the state, with no command under
+    -- way that might add to it
     pub moments : dev.Tells → IsSoundOver (meaning p) dev a old
         → Always (dev.time old) (dev.time new) (Leaves (filing_by p a) (state_over (meaning p) dev a old) None)
     -- only blobs of sections that were written are touched, and those of the markers
@@ -108,7 +118,8 @@ module _ {A V F S D : Type 0} {gs : _} (p : Prunable A V F (PageBlob S gs)) (dev
 
   -- The put, and where it ended Ok the sync of what it made.
   pub data PutThenSync (a : A) (index : ℕ) (key value : List ℕ) (result : Result A Error) (old new : D) : Type 0 where
-    refused : (e : Error) → result ≡ Err e → Puts p dev a index key value (Err e) old new → PutThenSync a index key value result old new
+    refused : (e : Error) → result ≡ Err e → Puts p dev a index key value (Err e) old new
+        → PutThenSync a index key value result old new
     put : (mid : A) (between : D) → Puts p dev a index key value (Ok mid) old between → Syncs mid result between new
         → PutThenSync a index key value result old new
 
@@ -118,24 +129,33 @@ module _ {A V F S D : Type 0} {gs : _} (p : Prunable A V F (PageBlob S gs)) (dev
     pub filing : IsSameFiling (filing_by p a) (filing_by p r)
     -- no section counts as written
     pub none_written : (s : ℕ) → (p.see r).is_written s ≡ false
-    -- the markers of sections that were not written are moved to what was synced of them, and no other marker moves
-    pub moved : (s : ℕ) → (IsWrittenAfter (p.see a) index s → ⊥) → marker_of (p.see r).pair.store.entries s ≡ synced_length (p.see a).pair s
-    pub unmoved : (s : ℕ) → IsWrittenAfter (p.see a) index s → marker_of (p.see r).pair.store.entries s ≡ marker_of (p.see a).pair.store.entries s
+    -- the markers of sections that were not written are moved to what was synced of them
+    pub moved : (s : ℕ) → (IsWrittenAfter (p.see a) index s → ⊥)
+        → marker_of (p.see r).pair.store.entries s ≡ synced_length (p.see a).pair s
+    -- and no other marker moves
+    pub unmoved : (s : ℕ) → IsWrittenAfter (p.see a) index s
+        → marker_of (p.see r).pair.store.entries s ≡ marker_of (p.see a).pair.store.entries s
     -- where a marker had to move, the markers had a next version
     pub version : IsMovingAfter (p.see a) index → (p.see a).pair.store.version + 1 < 2 ^ 64
 
   -- The put was refused, or failed, or the sync failed. Where the markers stopped the sync, the record has settled.
   pub record PutSyncFailed (a : A) (index : ℕ) (key value : List ℕ) (e : Error) (old new : D) : Type 0 where
     -- why
-    pub cause : IsPutSyncCause (p.see a) index (frame_size (filing_by p a).layout value) dev.Tells (dev.faults old) (dev.faults new) e
-    -- A value that is too large was not written; and `Full` is that of the put, with nothing written, or that of the markers.
+    pub cause : IsPutSyncCause (p.see a) index (frame_size (filing_by p a).layout value) dev.Tells
+        (dev.faults old) (dev.faults new) e
+    -- a value that is too large was not written
     pub too_large : e ≡ Journal journal.ValueTooLarge → new ≡ old
-    pub full : dev.Tells → e ≡ Full → (IsFullFor (p.see a) index (frame_size (filing_by p a).layout value) × (new ≡ old))
+    -- `Full` is that of the put, with nothing written, or that of the markers
+    pub full : dev.Tells → e ≡ Full
+        → (IsFullFor (p.see a) index (frame_size (filing_by p a).layout value) × (new ≡ old))
         ⊎ ((2 ^ 64 ≤ (p.see a).pair.store.version + 1) × IsMovingAfter (p.see a) index)
-    -- Where the markers stopped the sync, the record has settled. `Full` is that of the markers, where the put itself had room.
+    -- Where the markers stopped the sync, the record has settled. `Full` is that of the markers, where the put itself
+    -- had room.
     pub settled : dev.Tells → IsSoundOver (meaning p) dev a old → IsOfMarkers e
         → (e ≡ Full → IsFullFor (p.see a) index (frame_size (filing_by p a).layout value) → ⊥)
-        → Leaves (filing_by p a) (after_sync (after_put (p.see a).items index key value (state_over (meaning p) dev a old))) None (disk (dev.time new))
+        → Leaves (filing_by p a)
+        (after_sync (after_put (p.see a).items index key value (state_over (meaning p) dev a old)))
+        None (disk (dev.time new))
 
   abbrev pub PutSyncEnds : A → ℕ → List ℕ → List ℕ → Result A Error → D → D → Type 0
   PutSyncEnds a index key value (Ok r) old new = PutSynced a index r
@@ -143,8 +163,8 @@ module _ {A V F S D : Type 0} {gs : _} (p : Prunable A V F (PageBlob S gs)) (dev
 
   -- A put into the archive a and then a sync, also where nothing was stored. The sync may be one that is started.
   pub record PutSyncs (a : A) (index : ℕ) (key value : List ℕ) (result : Result A Error) (old new : D) : Type 0 where
+    -- the two, from which the rest follows
     pub parts : PutThenSync a index key value result old new
-    -- and what follows of both:
     -- what every archive promises
     pub changes : ChangesDurably (meaning p) dev a index key value result old new
     -- only blobs of sections that are then written are touched, and those of the markers

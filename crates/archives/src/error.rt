@@ -10,20 +10,20 @@ use std::alloc::{AllocError, AllocFailed};
 #[derive(Debug, PartialEq, Eq, Drop, thiserror::Error)]
 pub enum Error {
     /// The records or their values failed.
-    #[error("journal {0}")]
+    #[error("{0}")]
     Journal(journal::Error),
     /// The map of markers failed.
-    #[error("metadata {0}")]
+    #[error("the map of markers failed: {0}")]
     Metadata(meta_store::Error),
     /// A record is stored in a section that is not its index's.
-    #[error("record-corrupted")]
+    #[error("a record stands in another section than its index belongs to")]
     RecordCorrupted,
     /// A limit would be passed, or a number would pass its type. A put that answers it wrote nothing; one that also syncs, and a sync, may answer it once all has
     /// settled, where the markers have no next version.
-    #[error("full")]
+    #[error("a limit would be passed, or a number would not fit")]
     Full,
     /// There was no memory. It may come at any growth.
-    #[error("memory")]
+    #[error("there was no memory")]
     Mem,
 }
 

@@ -14,15 +14,20 @@ use value_codec::Key;
 /// A record as it was put.
 #[derive(Drop)]
 pub struct Item<K, V> {
+    // as the put gave it
     index: u64,
+    // as the put gave it
     key: K,
+    // as the put gave it
     value: V,
+    // false from the put on, and true from the next sync on
     is_synced: bool,
 }
 
 /// A machine of records with nothing pruned.
 #[derive(Drop)]
 pub struct Machine<K, V> {
+    // in the order of the puts, no two with one index: a put at a taken index adds none
     items: Vec<Item<K, V>>,
 }
 

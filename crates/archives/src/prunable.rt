@@ -1,4 +1,34 @@
-//! The archive whose front can be pruned.
+//! The archive whose front can be pruned: values by index and by key.
+//!
+//! # Format
+//!
+//! The indices are cut into sections, each named by its first index. A section is a list of records, in the order
+//! in which they were put. With room for 4 indices a section, and keys of eight bytes:
+//!
+//! ```text
+//! keys/0000000000000004                               values/0000000000000004     markers
+//! +---------+-----------+------------+------------+   +---------------+           +--------+
+//! | index 5 | key 8 B   | place 8 B  | size 4 B   |-->| value, seal   |           | 4 -> 2 |
+//! | index 7 | key       | place      | size       |-->| value, seal   |           +--------+
+//! +---------+-----------+------------+------------+   +---------------+
+//! ```
+//!
+//! All numbers are big-endian. The three partitions are those of `paired`, which pages, seals and marks them.
+//!
+//! # Sync
+//!
+//! A put syncs nothing, and makes no call while both buffers of its section have room. `sync` settles the sections
+//! written since the last one, records first, then values. It raises markers of those not written since, where they lag.
+//!
+//! # Crashes
+//!
+//! Of each section a crash leaves a prefix of the records that were put, with all that were synced. What stands
+//! behind it is cut by the next opening. A call that fails gives the archive up: its blobs are opened again.
+//!
+//! # Cost
+//!
+//! Index and key of each record are held in memory. A lookup by index goes over a section's records, one by key over
+//! all, and then reads at most one record and one value. `has` reads no value.
 ghost use Rattle.std.specs.Prelude.{◌≡◌, ◌≤◌};
 ghost use Rattle.archives.specs.Changes.{outcome};
 ghost use Rattle.archives.specs.Finding.{wanted_of};
@@ -43,14 +73,19 @@ where
     IndexRecord<K>: Record,
 {
     alloc: Global,
+    // as the configuration gave it: one word for equal keys, always
     translator: T,
+    // as the configuration gave it: an archive is opened with the number with which it was made
     items_per_section: u64,
     ghost has_items: { 1 ≤ items_per_section },
+    // what a put and an opening judge before they keep a record
     limits: Limits,
     ghost has_records: { 1 ≤ limits.per_section },
+    // the records and values on the device: each call hands it on as the pair's call left it
     pair: Oversized<IndexRecord<K>, V, S>,
+    // index and key of each record of the pair, by position: entered with the record
     tables: Tables<K>,
-    // the sections written since the last sync
+    // the sections written since the last sync: a put adds its own, a sync clears all
     written: BTreeSet<u64>,
 }
 

@@ -1,8 +1,7 @@
 -- What a store of records in a list promises, over devices that are plain variables: no call of the device is made.
 use Rattle.std.specs.Prelude.{⊤}
 use Rattle.std.specs.List.{AllByRecursion}
-use Rattle.std.proofs.Common.{◌≡◌, refl, sym, ap, subst, ℕ, List, [], ◌∷◌, Option, None, Some, Ok, Err}
-use Rattle.blob_device.specs.Disk.{Disk}
+use Rattle.std.proofs.Common.{◌≡◌, refl, sym, subst, ℕ, List, [], ◌∷◌, Option, None, Some, Result, Ok, Err}
 use Rattle.blob_device.specs.Footprint.{Footprint, NoBound}
 use Rattle.blob_device.specs.Timeline.{Always, disk}
 use Rattle.blob_device.specs.declared.device.Device as device
@@ -10,13 +9,14 @@ use Rattle.blob_device.proofs.FootprintLemmas.{footprint_none}
 use Rattle.value_codec.specs.Keys.{key8_bytes}
 use Rattle.value_codec.specs.declared.key.Key8.{Key8}
 use Rattle.paired.specs.Opening.{as_read}
-use Rattle.archives.specs.Changes.{Asked, Replied}
+use Rattle.archives.specs.Changes.{Asked, Replied, outcome}
 use Rattle.archives.specs.Commands.{Reopen}
 use Rattle.archives.specs.Machine.{OpenStep, State, asked, empty_state}
 use Rattle.archives.specs.Plain.{state_of}
 use Rattle.archives.specs.Replies as reply
 use Rattle.archives.specs.declared.commands.Command as asking
 use Rattle.archives.specs.declared.commands.Command.TheVariants as ask
+use Rattle.archives.specs.declared.error.Error.{Error}
 use Rattle.archives.specs.declared.error.Error.TheVariants.{Mem}
 use Rattle.archive_service.specs.Kinds.{Answers, OpensStore}
 use Rattle.archive_service.specs.Stores.{PutsOnly}
@@ -27,7 +27,16 @@ use Rattle.scenarios.specs.declared.listed.Listed.{Listed}
 
 -- any command may be asked
 puts_any : (command : asking.Command Key8 (List ℕ)) → PutsOnly (λ (v : List ℕ). ⊤) command
-puts_any command = tt
+puts_any (ask.Put index key value) = tt
+puts_any (ask.PutSync index key value) = tt
+puts_any (ask.PutStart index key value) = tt
+puts_any (ask.Get index) = tt
+puts_any (ask.GetKey key) = tt
+puts_any (ask.Has index) = tt
+puts_any (ask.HasKey key) = tt
+puts_any ask.Sync = tt
+puts_any ask.Start = tt
+puts_any ask.Reopen = tt
 
 pub all_any : (commands : List (asking.Command Key8 (List ℕ))) → AllByRecursion (PutsOnly (λ (v : List ℕ). ⊤)) commands
 all_any [] = tt
@@ -105,3 +114,7 @@ module _ {D : Type 0} (dev : device.Ghosts D) (d : D) where
         fault = no_fault (dev.faults d) (dev.faults d);
       };
     }
+
+    -- so it is of a result that says so
+    pub short_answers : {T : Type 0} (see : T → Listed × Replied) (result : Result T Error) → result ≡ Err Mem → Answers listed_serving dev a command (outcome see result) d d
+    short_answers see result is = subst (λ r. Answers listed_serving dev a command (outcome see r) d d) (sym is) listed_short

@@ -1,4 +1,5 @@
--- A store of records in a list, which leaves the device alone, as a kind: what serving asks of a store it can be asked of this one.
+-- A store of records in a list, which leaves the device alone, as a kind: what serving asks of a store it can be asked
+-- of this one.
 use Rattle.std.specs.Prelude.{◌≡◌, ⊤, List, ℕ}
 use Rattle.blob_device.specs.Disk.{Image}
 use Rattle.value_codec.specs.Keys.{key8_bytes}

@@ -15,8 +15,11 @@ use value_codec::{Key8, Sha256Seal};
 /// An image, what the plain program says that it keeps, and what is wrong with it.
 #[derive(Drop)]
 pub struct Judged {
+    // as it was picked
     image: Image,
+    // what the plain program finds in it
     kept: Vec<Kept>,
+    // why it is not lawful; nothing where it is
     wrong: &'static str,
 }
 
@@ -171,7 +174,9 @@ fn is_marked_truly(alloc: Global, page_size: u16, image: &Image, one: &Kept) -> 
 // Lookups, and the replies that they must get.
 #[derive(Drop)]
 struct Looks {
+    // a lookup a line
     script: String,
+    // a reply for each of its lines
     replies: String,
 }
 

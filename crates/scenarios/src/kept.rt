@@ -13,8 +13,11 @@ use value_codec::{Codec, Key, Key8, Sha256Seal};
 /// What an image keeps of a section: its marker, and its records as a script spells them.
 #[derive(Drop)]
 pub struct Kept {
+    /// The first index that it has room for.
     pub section: u64,
+    /// How many of its records a marker counts; none where it has no marker.
     pub marker: Option<u64>,
+    /// In their order: each as the words of a put, without its command.
     pub records: Vec<String>,
 }
 

@@ -19,6 +19,7 @@ use value_codec::{ByteValue, Key8};
 /// Records in a list. Nothing of them outlasts a reopening.
 #[derive(Drop)]
 pub struct Listed {
+    // all records, in memory alone
     machine: Machine<Key8, ByteValue>,
 }
 

@@ -37,6 +37,7 @@ fn main(rt: HostRuntime) -> ExitCode {
 /// Carries out scenarios of the program.
 #[derive(Drop)]
 struct Scenarios<'a> {
+    // what reads the files of scenarios, and writes the report
     rt: &'a HostRuntime,
 }
 

@@ -8,7 +8,9 @@ use std::alloc::Global;
 /// How a run of the program ended, and what it wrote.
 #[derive(Drop)]
 pub struct Outcome {
+    /// Status, error and marks.
     pub ended: Ended,
+    /// What came on standard output.
     pub written: String,
 }
 
@@ -38,8 +40,11 @@ impl Outcome {
 /// What the program is called with, beside a device.
 #[derive(Drop)]
 pub struct Call<'a> {
+    /// The words behind the program's name.
     pub words: &'a [String],
+    /// The numbers with which it runs.
     pub settings: &'a Settings,
+    /// What comes on standard input.
     pub input: &'a [u8],
     /// How many bytes the source gives at a time, and the sink takes.
     pub piece: usize,

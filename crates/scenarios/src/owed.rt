@@ -8,8 +8,11 @@ use std::alloc::Global;
 /// The puts that a section took, in order, and how many of them are synced.
 #[derive(Drop)]
 struct Section {
+    // the first index that it has room for
     first: u64,
+    // each with its words
     puts: Vec<String>,
+    // how many of them no crash may take
     synced: usize,
 }
 
@@ -17,7 +20,9 @@ struct Section {
 #[derive(Drop)]
 pub struct Owed {
     alloc: Global,
+    // how many indices a section has room for
     items: u64,
+    // in the order in which they came
     sections: Vec<Section>,
 }
 
@@ -110,6 +115,7 @@ impl Section {
 /// What a trial owes as it goes on: what the first image keeps, and what is kept before each opening again.
 #[derive(Drop)]
 pub struct Course {
+    // one for each opening of the script, in order
     openings: Vec<Vec<Kept>>,
     /// All records that the first image keeps or the script puts.
     pub records: Vec<String>,

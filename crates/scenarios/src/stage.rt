@@ -10,6 +10,7 @@ pub struct Stage {
     pub alloc: Global,
     /// The words behind the program's name.
     pub words: Vec<String>,
+    /// The numbers with which the next run runs.
     pub settings: Settings,
     /// The script that was gathered since the last run.
     pub input: Vec<u8>,
@@ -17,6 +18,7 @@ pub struct Stage {
     pub wanted: Vec<String>,
     /// From which call on all calls of a run fail.
     pub fuse: Option<u64>,
+    /// The device, with all that the runs before did.
     pub dev: Memory,
     /// Where runs are made, if not over the device in memory.
     pub folder: Option<String>,

@@ -14,14 +14,19 @@ pub const MOST_CALLS: u64 = 1024;
 #[derive(Drop)]
 pub struct Trial<'a> {
     pub alloc: Global,
+    /// The words behind the program's name.
     pub words: &'a [String],
+    /// The numbers with which it runs.
     pub settings: &'a Settings,
     /// How many indices a section has room for.
     pub items: u64,
+    /// Its lines.
     pub script: &'a str,
     /// The replies that its lines must get.
     pub wanted: &'a [String],
+    /// From which call on all calls fail.
     pub fuse: Option<u64>,
+    /// What the device holds as the run begins.
     pub start: &'a Image,
 }
 

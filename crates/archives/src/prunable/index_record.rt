@@ -16,9 +16,13 @@ use value_codec::{Codec, CodecFixed, Key, codec};
 /// An archive makes and reads its records itself. Who looks at the blobs of one, as by `paired::plain`, reads them by this.
 #[derive(Clone, Copy)]
 pub struct IndexRecord<K> {
+    // what the put named
     index: u64,
+    // what the put named
     key: K,
+    // where the value's frame begins in the section's values: set once the frame has its place
     offset: u64,
+    // how many bytes the frame has: set with its place
     size: u32,
 }
 

@@ -1,5 +1,6 @@
 // Opening the archive over what its blobs keep.
 ghost use Rattle.std.specs.Prelude.{◌≤◌};
+ghost use Rattle.paired.specs.CodecShown.{replay_codec_config};
 ghost use Rattle.paired.specs.ReplayShown.{run_of};
 ghost use Rattle.archives.specs.Config.{IsValid};
 ghost use Rattle.archives.specs.Enters.{Drains, EntersRow, MayEnter};
@@ -7,7 +8,7 @@ ghost use Rattle.archives.specs.IndexRecord.{place_of};
 ghost use Rattle.archives.specs.Limits.{AreLimits};
 ghost use Rattle.archives.specs.Opens.{Opens};
 ghost use Rattle.archives.specs.Rows.{AreFilledBut, rows_of};
-ghost use Rattle.archives.specs.Shown.{buffers_by, replay_config_of, means, setup_for};
+ghost use Rattle.archives.specs.Shown.{buffers_by, means, setup_for};
 
 use super::index_record::IndexRecord;
 use super::tables::Tables;
@@ -93,7 +94,7 @@ impl<T: Translator, K: Key, V: Codec, S: Seal> Archive<T, K, V, S> {
             K.SIZE cfg.now.items_per_section cfg.now.limits
             (run_of (place_of K.SIZE) replay.old) (run_of (place_of K.SIZE) replay.new)
             dev.old dev.new (rows_of K.key_bytes) (AreFilledBut (λ _. ⊥))
-            (replay_config_of replay.old) (replay_config_of replay.new) result }
+            (replay_codec_config replay.old) (replay_codec_config replay.new) result }
     {
         let mut tables = Tables::new(alloc);
         while let Some(given) = replay.next(dev) {

@@ -1,6 +1,6 @@
 // Which records the sections keep, held in memory.
-ghost use Rattle.std.specs.Prelude.{◌≡◌, ◌≢◌, ◌↔◌, ◌<◌, ◌++◌, ◌∷◌, [], ℕ, List, None, length, slice_get, IfSome, IsSomeAnd, IsTrue, IsOk, OnErr, OnOk};
-ghost use Rattle.archives.specs.Rows.{AreFilledBut, HasRoom, HasSpare, Row, rows_of};
+ghost use Rattle.std.specs.Prelude.{◌≡◌, ◌≢◌, ◌↔◌, ◌<◌, [], ℕ, None, slice_get, IfSome, IsSomeAnd, IsTrue, OnOk};
+ghost use Rattle.archives.specs.Rows.{AreFilledBut, HasRoom, HasSpare, Pushes, rows_of};
 
 use super::Limits;
 use std::alloc::{AllocError, Global};
@@ -10,7 +10,9 @@ use value_codec::Key;
 /// What is held in memory of a record.
 #[derive(Clone, Copy)]
 struct Entry<K> {
+    // that of the record in the section's blob
     index: u64,
+    // that of the record in the section's blob
     key: K,
 }
 
@@ -20,6 +22,7 @@ struct Entry<K> {
 #[derive(Drop)]
 pub(super) struct Tables<K> {
     alloc: Global,
+    // by section, entry i for the record at position i: a record is entered once it was appended, or as a replay gives it
     tables: BTreeMap<u64, Vec<Entry<K>>>,
 }
 
@@ -61,16 +64,8 @@ impl<K: Key> Tables<K> {
     /// Adds a record behind those of its section. It fails only for want of memory, and then no row changed.
     pub(super) fn push(&mut self, section: u64, index: u64, key: K) -> Result<(), AllocError>
         requires filled { AreFilledBut (λ s. s ≡ section) self.old }
-        ensures added { OnOk result (rows_of K.key_bytes self.new section
-            ≡ rows_of K.key_bytes self.old section
-            ++ record { index = index; key = K.key_bytes key } ∷ []) }
-        ensures others { (s : ℕ) → s ≢ section → rows_of K.key_bytes self.new s
-            ≡ rows_of K.key_bytes self.old s }
-        ensures filled { OnOk result (AreFilledBut (λ _. ⊥) self.new) }
-        ensures room { HasSpare self.old section → IsOk result }
-        ensures unchanged { OnErr result ((s : ℕ) → rows_of K.key_bytes self.new s
-            ≡ rows_of K.key_bytes self.old s) }
-        ensures filled_but { OnErr result (AreFilledBut (λ s. s ≡ section) self.new) }
+        ensures { Pushes K.key_bytes section
+            (record { index = index; key = K.key_bytes key }) self.old result self.new }
     {
         let table = self.tables.entry(section)?.or_insert(Vec::new(self.alloc));
         table.push(Entry { index, key })?;

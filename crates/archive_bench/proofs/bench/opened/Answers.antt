@@ -1,8 +1,6 @@
 use Rattle.std.proofs.Common.{arith}
 use Rattle.archive_bench.proofs.bench.opened.Goals as goal
 
--- Written without the checker, which has to say how what `init` made is named.
-
 pub returns-clause-usable : goal.returns-clause-usable
 returns-clause-usable g c = c.in_ok-init.ensures.ends.over
 

@@ -1,41 +1,39 @@
-use Rattle.std.proofs.Common.{◌≡◌, ap, sym, subst}
+use Rattle.std.proofs.Common.{ap, sym}
 use Rattle.archives.specs.Finding.{get_command, has_command, wanted_of}
 use Rattle.archives.specs.Machine.{asked}
-use Rattle.archive_service.specs.Kinds.{Answers}
+use Rattle.archive_service.proofs.StoreLemmas.{answers_to}
 use Rattle.archive_service.proofs.store.prunable.carry_out.Goals as goal
 
--- Written without the checker. Each arm is what its function promises, of the command that the arm is told.
-
 pub returns-in-Put : goal.returns-in-Put
-returns-in-Put g c = subst (λ x. Answers _ g.D.Device c.args.archive x _ _ _) (sym (ap (asked g.K.Key.key_bytes g.V.Codec.spelling) c.in-Put.is)) c.put.ensures
+returns-in-Put g c = answers_to _ g.D.Device c.args.archive _ _ _ _ _ (ap (asked g.K.Key.key_bytes g.V.Codec.spelling) c.in-Put.is) c.put.ensures
 
 pub returns-in-PutSync : goal.returns-in-PutSync
-returns-in-PutSync g c = subst (λ x. Answers _ g.D.Device c.args.archive x _ _ _) (sym (ap (asked g.K.Key.key_bytes g.V.Codec.spelling) c.in-PutSync.is)) c.put_sync.ensures
+returns-in-PutSync g c = answers_to _ g.D.Device c.args.archive _ _ _ _ _ (ap (asked g.K.Key.key_bytes g.V.Codec.spelling) c.in-PutSync.is) c.put_sync.ensures
 
 pub returns-in-PutStart : goal.returns-in-PutStart
-returns-in-PutStart g c = subst (λ x. Answers _ g.D.Device c.args.archive x _ _ _) (sym (ap (asked g.K.Key.key_bytes g.V.Codec.spelling) c.in-PutStart.is)) c.put_start.ensures
+returns-in-PutStart g c = answers_to _ g.D.Device c.args.archive _ _ _ _ _ (ap (asked g.K.Key.key_bytes g.V.Codec.spelling) c.in-PutStart.is) c.put_start.ensures
 
 pub returns-in-Sync : goal.returns-in-Sync
-returns-in-Sync g c = subst (λ x. Answers _ g.D.Device c.args.archive x _ _ _) (sym (ap (asked g.K.Key.key_bytes g.V.Codec.spelling) c.in-Sync.is)) c.sync.ensures
+returns-in-Sync g c = answers_to _ g.D.Device c.args.archive _ _ _ _ _ (ap (asked g.K.Key.key_bytes g.V.Codec.spelling) c.in-Sync.is) c.sync.ensures
 
 pub returns-in-Start : goal.returns-in-Start
-returns-in-Start g c = subst (λ x. Answers _ g.D.Device c.args.archive x _ _ _) (sym (ap (asked g.K.Key.key_bytes g.V.Codec.spelling) c.in-Start.is)) c.start.ensures
+returns-in-Start g c = answers_to _ g.D.Device c.args.archive _ _ _ _ _ (ap (asked g.K.Key.key_bytes g.V.Codec.spelling) c.in-Start.is) c.start.ensures
 
 pub returns-in-Reopen : goal.returns-in-Reopen
-returns-in-Reopen g c = subst (λ x. Answers _ g.D.Device c.args.archive x _ _ _) (sym (ap (asked g.K.Key.key_bytes g.V.Codec.spelling) c.in-Reopen.is)) c.reopen.ensures
+returns-in-Reopen g c = answers_to _ g.D.Device c.args.archive _ _ _ _ _ (ap (asked g.K.Key.key_bytes g.V.Codec.spelling) c.in-Reopen.is) c.reopen.ensures
 
 pub returns-in-Get : goal.returns-in-Get
 returns-in-Get g c =
-    subst (λ x. Answers _ g.D.Device c.args.archive x _ _ _) (sym (ap (asked g.K.Key.key_bytes g.V.Codec.spelling) c.in-Get.is))
-    (subst (λ x. Answers _ g.D.Device c.args.archive (get_command (wanted_of g.K.Key.key_bytes x)) _ _ _) c.by_index.ensures c.get.ensures)
+    answers_to _ g.D.Device c.args.archive _ _ _ _ _ (ap (asked g.K.Key.key_bytes g.V.Codec.spelling) c.in-Get.is)
+    (answers_to _ g.D.Device c.args.archive _ _ _ _ _ (sym (ap (λ x. get_command (wanted_of g.K.Key.key_bytes x)) c.by_index.ensures)) c.get.ensures)
 
 pub returns-in-Has : goal.returns-in-Has
 returns-in-Has g c =
-    subst (λ x. Answers _ g.D.Device c.args.archive x _ _ _) (sym (ap (asked g.K.Key.key_bytes g.V.Codec.spelling) c.in-Has.is))
-    (subst (λ x. Answers _ g.D.Device c.args.archive (has_command (wanted_of g.K.Key.key_bytes x)) _ _ _) c.by_index-in-Has.ensures c.has.ensures)
+    answers_to _ g.D.Device c.args.archive _ _ _ _ _ (ap (asked g.K.Key.key_bytes g.V.Codec.spelling) c.in-Has.is)
+    (answers_to _ g.D.Device c.args.archive _ _ _ _ _ (sym (ap (λ x. has_command (wanted_of g.K.Key.key_bytes x)) c.by_index-in-Has.ensures)) c.has.ensures)
 
 pub returns-in-GetKey : goal.returns-in-GetKey
-returns-in-GetKey g c = subst (λ x. Answers _ g.D.Device c.args.archive x _ _ _) (sym (ap (asked g.K.Key.key_bytes g.V.Codec.spelling) c.in-GetKey.is)) c.get-in-GetKey.ensures
+returns-in-GetKey g c = answers_to _ g.D.Device c.args.archive _ _ _ _ _ (ap (asked g.K.Key.key_bytes g.V.Codec.spelling) c.in-GetKey.is) c.get-in-GetKey.ensures
 
 pub returns-in-HasKey : goal.returns-in-HasKey
-returns-in-HasKey g c = subst (λ x. Answers _ g.D.Device c.args.archive x _ _ _) (sym (ap (asked g.K.Key.key_bytes g.V.Codec.spelling) c.in-HasKey.is)) c.has-in-HasKey.ensures
+returns-in-HasKey g c = answers_to _ g.D.Device c.args.archive _ _ _ _ _ (ap (asked g.K.Key.key_bytes g.V.Codec.spelling) c.in-HasKey.is) c.has-in-HasKey.ensures

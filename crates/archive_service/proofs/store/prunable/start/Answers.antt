@@ -1,20 +1,17 @@
-use Rattle.std.proofs.Common.{◌≡◌, refl, sym, ap, subst}
+use Rattle.std.proofs.Common.{refl, ap}
 use Rattle.archives.specs.Changes.{outcome}
 use Rattle.archives.specs.Config.{IsValid}
 use Rattle.archives.specs.Machine.{replied}
 use Rattle.archives.specs.Replies as reply
-use Rattle.archives.specs.Shown.{means, setup_for}
+use Rattle.archives.specs.Shown.{setup_for}
 use Rattle.archives.specs.declared.commands.Reply.TheVariants.{Done}
-use Rattle.archive_service.specs.Kinds.{Answers}
 use Rattle.archive_service.proofs.SyncAnswers.{start_answers}
-use Rattle.archive_service.proofs.StoreLemmas.{seen_first}
+use Rattle.archive_service.proofs.StoreLemmas.{answers_with, seen_first}
 use Rattle.archive_service.proofs.store.prunable.start.Goals as goal
 
--- Written without the checker, which has to say how the dictionary of the buffers is named.
 pub returns : goal.returns
 returns g c =
-    subst (λ o. Answers _ g.D.Device c.args.archive _ o _ _)
-    (sym (seen_first (λ r. (r.0, replied g.V.Codec.spelling r.1)) (λ r. (r.0, Done)) (λ r. r.0) (λ r. (r, reply.Done)) c.start_sync.result c.started.result c.started.ensures (λ r. refl)))
-    (start_answers (means g.PageBlob-SectionBuffer) (setup_for g.K.Key.SIZE g.S.Seal g.V.Codec g.T.Translator.word_of c.args._cfg.now) (IsValid c.args._cfg.now) g.D.Device c.args.archive c.args.dev.now
+    answers_with _ g.D.Device c.args.archive _ _ _ _ _ (seen_first (λ r. (r.0, replied g.V.Codec.spelling r.1)) (λ r. (r.0, Done)) (λ r. r.0) (λ r. (r, reply.Done)) c.start_sync.result c.started.result c.started.ensures (λ r. refl))
+    (start_answers _ (setup_for g.K.Key.SIZE g.S.Seal g.V.Codec g.T.Translator.word_of c.args._cfg.now) (IsValid c.args._cfg.now) g.D.Device c.args.archive c.args.dev.now
     (record { usable = c.requires.usable; laws = c.crash_laws.ensures; markers = λ x. refl; buffers = λ s u held. (let made = c.requires.usable.usable.pair.index.over.opened_list.setting s u held in (ap (λ x. x.page_size) made, ap (λ x. x.capacity) made)) })
     c.start_sync.new.dev (outcome (λ r. r.0) c.start_sync.result) c.start_sync.ensures)

@@ -8,6 +8,7 @@ use Rattle.blob_device.proofs.Moments.{always_now}
 use Rattle.blob_device.proofs.Results.{err_of}
 use Rattle.segments.specs.FixedLists as fixed
 use Rattle.segments.specs.Sections.{section_key}
+use Rattle.paired.specs.Tails.{AreTailsAfter}
 use Rattle.paired.specs.Crashes.{IsIndexOf, IsValuesOf, Keeping}
 use Rattle.paired.specs.Frames.{frame}
 use Rattle.paired.specs.GlobSections as glob
@@ -74,7 +75,7 @@ adds_of g c =
       others = c.in_ok-pair.ensures.others;
       synced = c.in_ok-pair.ensures.synced;
       row = c.in_ok-push.ensures.added ∙ ap (λ (rs : List Row). rs ++ row ∷ []) (c.reserve.ensures.same sec);
-      other_rows = λ s other. c.push.ensures.others s other ∙ c.reserve.ensures.same s;
+      other_rows = λ s other. c.in_ok-push.ensures.others s other ∙ c.reserve.ensures.same s;
       written = still_none (contains nat_cmp c.args.self.written) (contains nat_cmp c.insert.new.self) sec c.in_ok-insert.ensures.updates.1 (λ q other. c.in_ok-insert.ensures.updates.2 q (not_at c.section_of-section.result q other));
       written_now = λ s. (grows (contains nat_cmp c.args.self.written) (contains nat_cmp c.insert.new.self) sec c.in_ok-insert.ensures.updates.1 (λ q other. c.in_ok-insert.ensures.updates.2 q (not_at c.section_of-section.result q other)) s).0;
       filled = c.in_ok-push.ensures.filled;
@@ -201,7 +202,7 @@ returns-in_err-pair g c =
     })))
 
 pub returns-in_err-push : goal.returns-in_err-push
-returns-in_err-push g c = (let is = c.in_err-push.ensures.room c.in_ok-reserve.ensures.room in absurd (cc is))
+returns-in_err-push g c = absurd (c.in_err-push.ensures.no_spare c.in_ok-reserve.ensures.room)
 
 pub returns : goal.returns
 returns g c =
@@ -248,6 +249,7 @@ returns g c =
       values = λ t. sizes_put a c.args.index sec here c.requires.free n q.values
           (sym (section_counted _ q.values _ e says.over.values t sec) ∙ ap length (says.values t) ∙ length-append _ _ ∙ ap (λ (k : ℕ). k + n) (section_counted _ a.pair.values _ d c.requires.over.pair.values t sec))
           (λ s other. ap glob.size_held (says.others s other).1.held);
+      own_tails = λ free. subst (λ (s : ℕ). AreTailsAfter a.pair s n q) here (subst (λ (k : ℕ). AreTailsAfter a.pair sec k q) says.size says.tails);
       other_tails = λ s other. (let same = says.others s (not_here a c.args.index sec here c.requires.free s other) in tails_same a.pair q s same.0 same.1);
       written = λ s. written_put a c.args.index sec here c.requires.free written s (grows (contains nat_cmp c.args.self.written) written sec c.in_ok-insert.ensures.updates.1 (λ k other. c.in_ok-insert.ensures.updates.2 k (not_at sec k other)) s);
       markers = says.markers;

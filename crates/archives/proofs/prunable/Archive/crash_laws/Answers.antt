@@ -6,7 +6,7 @@ use Rattle.archives.specs.Shown.{shown}
 use Rattle.archives.proofs.MachineTerms.{allowed, has_no_version_now, passed, passes}
 use Rattle.archives.proofs.OpenedAgain.{opened_again}
 use Rattle.archives.proofs.OutlastsLemmas.{moving_after_said, moving_said, no_next_version}
-use Rattle.archives.proofs.ReadFinding.{taken_state}
+use Rattle.archives.specs.PuttingLaws.{taken_state}
 use Rattle.archives.proofs.Reopening.{none_beyond}
 use Rattle.archives.proofs.SyncLemmas.{stands_now}
 use Rattle.archives.proofs.prunable.Archive.crash_laws.Goals as goal

@@ -37,7 +37,7 @@ use Rattle.archives.specs.Raised.{raised}
 use Rattle.archives.specs.Rows.{AreFilledBut, row_in, rows_of}
 use Rattle.archives.specs.Standing.{IsStart, StandsFor}
 use Rattle.archives.specs.Shown.{filing_for, setup_for}
-use Rattle.archives.proofs.InitErrors.{end_stops, gives_up_before, gives_up_on, handed, journal_back, no_refusal, after_replay, end_full, end_no_copy, end_no_name, end_no_room, end_no_start, metadata_back, never, no_stray_back, pair_no_full, pair_no_page, pair_no_start, pair_stops}
+use Rattle.archives.proofs.InitErrors.{end_stops, gives_up_on, handed, journal_back, no_refusal, after_replay, end_full, end_no_copy, end_no_name, end_no_room, end_no_start, metadata_back, never, no_room_given_up, no_stray_back, pair_no_full, pair_no_page, pair_no_start, pair_stops}
 use Rattle.archives.proofs.PutSync.{same_filing}
 use Rattle.archives.proofs.SyncStored.{no_record_tail, no_value_tail, values_stored}
 use Rattle.archives.proofs.SyncLemmas.{none_in}
@@ -136,7 +136,7 @@ returns-in_err-pair g c =
       faults = omega arith;
     })
     c.from_residual.result Mem (subst (λ x. c.from_residual.result ≡ Err x) c.in_err-pair.ensures (err_of _ c.in_err-pair.field-0.0 c.from_residual.ensures.1))
-    (record { cause = tt; copies = λ t side bad. inr (inl (inl refl)); complete = λ t markers lawful counted. inr (inl (inl refl)) })
+    (record { cause = tt; copies = λ t side bad. inr (inl (inl refl)); complete = λ t markers lawful. tt })
 
 pub returns-in_err-replay : goal.returns-in_err-replay
 returns-in_err-replay g c =
@@ -169,13 +169,15 @@ returns-in_err-replay g c =
       | inl corrupt ↦ inl (handed r _ x is (section.Metadata (store.Corruption side)) corrupt)
       | inr gave ↦ inr (gives_up_on r _ x is fa fb gave)
     ])
-    (λ t markers lawful counted. inr (gives_up_on r _ x is fa fb (says.complete t markers (subst (λ y. IsLawful y (as_read (disk a)) markers) (sym named) lawful.pair)
-    (λ s small. all_whole (g.K.Key.SIZE + 20) _) (subst (λ y. AreCounted y (as_read (disk a))) (sym named) counted))))
+    (λ t k has. absurd (pair_no_page r _ x is fa fb says.cause k has))
+    (λ t markers lawful counted room. no_room_given_up r fa fb (gives_up_on r _ x is fa fb (says.complete t markers (subst (λ y. IsLawful y (as_read (disk a)) markers) (sym named) lawful.pair)
+    (λ s small. all_whole (g.K.Key.SIZE + 20) _) (subst (λ y. AreCounted y (as_read (disk a))) (sym named) counted))) room)
+    (markers_readable g.S.Seal) c.requires.valid.pages (omega arith)
 
 pub returns-in_err-tables : goal.returns-in_err-tables
 returns-in_err-tables g c =
     let at = goal.at.returns-in_err-tables g c in
-    tables_refused _ (setup_for g.K.Key.SIZE g.S.Seal g.V.Codec g.T.Translator.word_of c.args.cfg.now) (replayed_at g at.In_ok-replay (named_at g at.After-init_with_metadata) (made_at g at.After-init_with_metadata)) c.in_err-tables.field-0.0 c.in_err-tables.ensures (omega arith) refl refl
+    tables_refused _ (setup_for g.K.Key.SIZE g.S.Seal g.V.Codec g.T.Translator.word_of c.args.cfg.now) (replayed_at g at.In_ok-replay (named_at g at.After-init_with_metadata) (made_at g at.After-init_with_metadata)) c.in_err-tables.field-0.0 c.in_err-tables.ensures c.requires.valid.pages (omega arith) refl refl
     c.from_residual-in_err-tables.result (err_of c.from_residual-in_err-tables.result c.in_err-tables.field-0.0 c.from_residual-in_err-tables.ensures.1)
 
 pub returns-in_err-finish_tracked : goal.returns-in_err-finish_tracked
@@ -225,10 +227,9 @@ returns-in_err-finish_tracked g c =
     })
     (λ room. never (end_no_room r _ x is fe fz why room))
     (λ t side has. absurd (here.copies t side has))
-    (λ t markers lawful counted. elim (after_replay (λ replay. not_replay walked tracked read.going read.drained (says.replay_failed.0 replay)) (says.complete t (λ s small. all_whole (g.K.Key.SIZE + 20) _))) [
-      | inl full ↦ inl (handed r _ x is section.Full full, no_next here t (subst (λ u. 2 ^ 64 ≤ u.version + 1) since.store (says.full full)))
-      | inr gave ↦ inr (gives_up_before r fa fe fz le (gives_up_on r _ x is fe fz gave))
-    ])
+    (λ t k has. absurd (says.damaged t (k, journal_back r _ x is (section.Runtime (InvalidChecksum k)) has)))
+    (λ t markers lawful counted room. end_no_room r _ x is fe fz why room)
+    (markers_readable g.S.Seal) c.requires.valid.pages (omega arith)
 
 pub returns : goal.returns
 returns g c =

@@ -11,7 +11,7 @@ returns g c =
     let room : HasRoom c.args.limits.sections c.args.limits.per_section (rows_of kb c.args.tables.now) c.args.section = search rules in (
       record {
         entered = search rules;
-        others = c.push.ensures.others;
+        others = c.in_ok-push.ensures.others;
         filled = c.in_ok-push.ensures.filled;
         within = within_entered c.args.items_per_section c.args.limits.sections c.args.limits.per_section c.args.section
             (record { index = c.args.record.now.index; key = kb c.args.record.now.key }) (rows_of kb c.args.tables.now) (rows_of kb c.push.new.self)
