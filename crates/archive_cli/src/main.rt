@@ -9,6 +9,7 @@ ghost use Rattle.std.specs.Prelude.{◌≡◌, ◌⊎◌, ◌≤◌, Some, map, 
 ghost use Rattle.std.specs.Option.{option_copied};
 ghost use Rattle.archive_program.specs.Words.{IsStatusFor, IsStatusIn, IsStatusOf, folder_in};
 
+mod gaps;
 mod meaning;
 mod ran;
 mod telling;
@@ -17,6 +18,7 @@ mod texts;
 use archive_service::Status;
 use archive_words::Noting;
 use blob_device::{DevError, FileDevice, HostFiles, Memory};
+use gaps::stop_gaps;
 use ran::run_on;
 use std::io::ErrorKind;
 use std::process::ExitCode;
@@ -25,7 +27,11 @@ use telling::{report, tell};
 use texts::{HELP, VERSION};
 
 fn main(rt: HostRuntime) -> ExitCode {
-    ExitCode::from(status(&rt))
+    // Before any other file is opened, and held to the end. Where it can't be done, the run is as good as without.
+    let stoppers = stop_gaps(&rt);
+    let status = status(&rt);
+    drop(stoppers);
+    ExitCode::from(status)
 }
 
 // The status of the process.

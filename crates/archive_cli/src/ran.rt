@@ -4,7 +4,7 @@ ghost use Rattle.archive_program.specs.Words.{IsStatusFor};
 
 use archive_program::run;
 use archive_service::{Ended, ScriptError, Settings, read_script};
-use archive_words::{Keeping, ScriptLine, line_at};
+use archive_words::{Keeping, ScriptLine, ScriptLines, line_at};
 use blob_device::{Device, StdSink, StdSource};
 use std::alloc::Global;
 use std::io;
@@ -54,35 +54,61 @@ impl Ran<'_> {
         }
     }
 
-    /// Where the run was when the device had counted so many calls.
-    pub fn moment_of(&self, call: u64) -> Moment<'_> {
-        let begun = self.ended.marks.as_slice().iter();
-        self.moment(begun.filter(|mark| **mark <= call).count() as u64)
-    }
-
     /// Where the run was when it ended.
     pub fn last_moment(&self) -> Moment<'_> {
-        self.moment(self.ended.marks.as_slice().len() as u64)
+        let mut walk = self.walk();
+        walk.moment_of(u64::MAX)
     }
 
-    // Where the run was when so many commands were begun. Each line is a command.
-    fn moment(&self, begun: u64) -> Moment<'_> {
-        if begun == 0 {
-            Moment::Opening
-        } else {
-            Moment::Command(begun, self.text_of(begun))
+    /// A walk over the run, from its beginning on.
+    pub fn walk(&self) -> Walk<'_> {
+        let lines = match self.script() {
+            Some(script) => Some(ScriptLines::new(script)),
+            None => None,
+        };
+        Walk {
+            ahead: self.ended.marks.as_slice(),
+            begun: 0,
+            lines,
         }
-    }
-
-    // The text of a line, without its LF.
-    fn text_of(&self, number: u64) -> Option<&[u8]> {
-        Some(line_at(self.script()?, number)?.text)
     }
 
     fn script(&self) -> Option<&[u8]> {
         match &self.script {
             Some(bytes) => Some(bytes.as_slice()),
             None => None,
+        }
+    }
+}
+
+/// A walk over a run. It goes over the marks and the script once, however many moments are asked for.
+#[derive(Clone, Copy)]
+pub struct Walk<'a> {
+    // the marks of the commands that have not begun, ascending
+    ahead: &'a [u64],
+    // how many have
+    begun: u64,
+    // the script from the last of these on; none where it is not known
+    lines: Option<ScriptLines<'a>>,
+}
+
+impl<'a> Walk<'a> {
+    /// Where the run was when the device had counted so many calls, which are no fewer than at the last question.
+    pub fn moment_of(&mut self, call: u64) -> Moment<'a> {
+        let newly = self.ahead.iter().take_while(|mark| **mark <= call).count();
+        self.ahead = self.ahead.get(newly..).unwrap_or(&[]);
+        self.begun = self.begun.saturating_add(newly as u64);
+        let begun = self.begun;
+        if begun == 0 {
+            return Moment::Opening;
+        }
+        let Some(lines) = &mut self.lines else {
+            return Moment::Command(begun, None);
+        };
+        // Each line is a command.
+        match lines.go_to(begun) {
+            Some(line) => Moment::Command(begun, Some(line.text)),
+            None => Moment::Command(begun, None),
         }
     }
 }

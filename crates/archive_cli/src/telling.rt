@@ -82,8 +82,10 @@ fn tell_error(rt: &HostRuntime, ran: &Ran<'_>, failure: Option<&str>) {
 
 // Says what the run took off the archive's blobs.
 fn tell_losses(rt: &HostRuntime, ran: &Ran<'_>, notebook: &Notebook) {
+    // The notes are in the order of their calls.
+    let mut walk = ran.walk();
     for note in notebook.notes() {
-        let moment = ran.moment_of(note.call);
+        let moment = walk.moment_of(note.call);
         let why = reason_of(note);
         let _ = eprintln!(rt; "archive_cli: {moment} {note}: {why}");
     }

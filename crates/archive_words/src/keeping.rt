@@ -7,6 +7,7 @@ use std::alloc::Global;
 /// A source that passes each read on to another one, and keeps a copy of what came. It tells its bytes where that one does.
 #[derive(Drop)]
 pub struct Keeping<S> {
+    // the source that is read, each piece once
     inner: S,
     // none once there was no memory for a piece
     kept: Option<Vec<u8>>,

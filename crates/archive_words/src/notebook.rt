@@ -68,9 +68,13 @@ impl fmt::Display for Note {
 #[derive(Drop)]
 pub struct Notebook {
     alloc: Global,
+    // of each blob that had bytes at its last opening: its length, as openings, writes and cuts give it
     lengths: BTreeMap<Vec<u8>, u64>,
+    // the first that came, in the order of the calls
     notes: Vec<Note>,
+    // how many came behind them, and are counted alone
     further: u64,
+    // whether there was no memory for a note or a length: what was taken off may then go unsaid
     has_gaps: bool,
 }
 

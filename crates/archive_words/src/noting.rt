@@ -9,7 +9,9 @@ use std::alloc::Global;
 /// that one does.
 #[derive(Drop)]
 pub struct Noting<D> {
+    // the device that does the work: each call reaches it once, unchanged
     inner: D,
+    // what those calls took off blobs, entered behind each that ended Ok
     notebook: Notebook,
 }
 

@@ -3,9 +3,8 @@ use Rattle.archive_program.specs.Words.{IsStatusFor}
 use Rattle.archive_program.proofs.WordsLemmas.{no_memory_in, status_in}
 use Rattle.archive_cli.proofs.run_in.Goals as goal
 
--- The names of the exits are to be seen against the goals.
 pub returns-in_default : goal.returns-in_default
 returns-in_default c = no_memory_in _ _ c.args.folder.now c.requires c.report.ensures
 
 pub returns : goal.returns
-returns c = status_in _ _ (subst (IsStatusFor _) (sym c.tell.ensures) c.run_on.ensures)
+returns c = status_in _ _ (subst (IsStatusFor _) (sym c.tell.ensures) c.run_on-ran.ensures)

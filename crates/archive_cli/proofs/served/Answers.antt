@@ -1,7 +1,6 @@
 use Rattle.archive_program.proofs.WordsLemmas.{status_in}
 use Rattle.archive_cli.proofs.served.Goals as goal
 
--- The names of the exits are to be seen against the goals.
 pub returns-in-None : goal.returns-in-None
 returns-in-None c = status_in _ _ c.run_in_memory.ensures
 
