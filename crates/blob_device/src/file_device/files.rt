@@ -186,7 +186,11 @@ impl<R: Files + Clone + Drop> BlobFiles<R> {
         match fs::remove_file(&self.rt, place.path.as_str()) {
             Ok(()) => {}
             Err(e) if e.kind() == ErrorKind::NotFound => {}
-            Err(e) => return Err(Stop::from(e)),
+            Err(e) => {
+                // Closed, since the name may be gone all the same: no later call goes on with a file that has none.
+                self.open.close(place.number)?;
+                return Err(Stop::from(e));
+            }
         }
         // Closed behind the removal: a file that stays keeps its writes.
         self.open.leave(place.number);

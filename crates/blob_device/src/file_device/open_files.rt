@@ -102,6 +102,14 @@ impl<R: Files + Clone + Drop> OpenFiles<R> {
         }
     }
 
+    /// Closes the file of a blob, which may be gone or not. The next call opens what has its name by then.
+    pub fn close(&mut self, number: u64) -> Result<(), Stop> {
+        match self.kept.pop(&number) {
+            Some(kept) => close(kept),
+            None => Ok(()),
+        }
+    }
+
     /// Closes the file of a blob that is gone. Its bytes went with it.
     pub fn leave(&mut self, number: u64) {
         self.kept.pop(&number);
