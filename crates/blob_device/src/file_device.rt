@@ -87,6 +87,10 @@ use stop::Stop;
 /// changed, and when it settles. The device does not tell its disk: what the system does with the files is
 /// outside the proofs.
 ///
+/// A removal that the system answers by an error may have been carried out. The file is closed then, and the
+/// next call looks for the blob's name again. Where that is gone, each call of the blob fails until a removal
+/// answers Ok.
+///
 /// ```rust
 /// let mut dev = FileDevice::alone(&HostFiles::new(rt)?, alloc, "archive")?;    // no file is touched yet
 /// dev.open_blob("p", b"a")?;              // locks archive/LOCK, makes archive/p/61, and syncs it and its names
