@@ -56,7 +56,10 @@ fn asked(alloc: Global, set: &RMap, step: &Step) -> Result<Said, RMapError> {
         ("missing", Some(start), Some(count)) if count >= 1 => {
             Ok(Said::Numbers(set.missing_items(start, count as usize)?))
         }
-        ("error", _, _) => Err(RMapError::Mem),
+        ("error", _, _) => {
+            let error = RMapError::Mem;
+            Ok(Said::Text(format!(in alloc; "{error}")?))
+        }
         _ => Ok(Said::Refused("no such command")),
     }
 }

@@ -14,7 +14,7 @@
 //! | `first`, `last` | the least number, the greatest |
 //! | `missing N COUNT` | the first COUNT absent numbers from N on that are below one of the set |
 //! | `same CHANGE ..` | whether the set equals the one that these changes leave: `yes` or `no` |
-//! | `error` | the word for the error |
+//! | `error` | the text by which the library prints the error |
 //!
 //! `alike CHANGE ..` makes the changes to an empty range set and to a plain set, and asks both about
 //! twelve numbers near the ends of the type. Then it tries each further change of such numbers,

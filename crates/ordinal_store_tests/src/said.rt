@@ -9,6 +9,7 @@ pub enum Said {
     /// It is done.
     Done,
     Truth(bool),
+    Text(String),
     Number(Option<u64>),
     Range(Option<(u64, u64)>),
     /// Where a range ends, and where the next one begins.
@@ -29,6 +30,7 @@ pub fn text_of(alloc: Global, answer: &Result<Said, RMapError>) -> Result<String
         Ok(Said::Done) => String::from_str(alloc, "ok"),
         Ok(Said::Truth(true)) => String::from_str(alloc, "yes"),
         Ok(Said::Truth(false)) => String::from_str(alloc, "no"),
+        Ok(Said::Text(text)) => text.clone(),
         Ok(Said::Number(Some(number))) => format!(in alloc; "{number}"),
         Ok(Said::Range(Some((start, end)))) => format!(in alloc; "{start}..{end}"),
         Ok(Said::Number(None) | Said::Range(None)) => String::from_str(alloc, "none"),

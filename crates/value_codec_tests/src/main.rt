@@ -17,7 +17,7 @@
 //! | `size TYPE` | how many bytes each value of `u64`, `i32`, `key8` or `key32` takes |
 //! | `seal BYTES`, `seal2 BYTES BYTES`, `hash BYTES` | eight hexadecimal digits |
 //! | `name BYTES`, `name-bytes BYTES` | the text of a name, and its bytes |
-//! | `error VARIANT [TAG]` | the words for an error |
+//! | `error VARIANT [TAG]` | the text by which the library prints an error |
 #![tactic(auto)]
 
 mod keys;
@@ -68,7 +68,7 @@ fn carried_out(alloc: Global, step: &Step) -> Result<Said, Stop> {
         "seal" | "seal2" => seals::seal::<Sha256Seal>(alloc, step),
         "hash" => seals::hash::<Sha256Hash>(alloc, step),
         "name" | "name-bytes" | "compare-names" => names::name(alloc, step),
-        "error" => Err(names::error(step)),
+        "error" => names::error(alloc, step),
         _ => Err(Stop::Refused("no such command")),
     }
 }

@@ -19,15 +19,23 @@ pub fn name(alloc: Global, step: &Step) -> Result<Said, Stop> {
     }
 }
 
-/// The error that a step names, as if a call had been refused by it.
-pub fn error(step: &Step) -> Stop {
+/// The text by which the library prints the error that a step names.
+pub fn error(alloc: Global, step: &Step) -> Result<Said, Stop> {
+    match error_of(step) {
+        Some(error) => Ok(Said::Text(format!(in alloc; "{error}")?)),
+        None => Err(Stop::Refused("no such error")),
+    }
+}
+
+// The error that a step names.
+fn error_of(step: &Step) -> Option<Error> {
     match (step.argument(0), step.argument(1).parse::<u8>()) {
-        ("end-of-buffer", _) => Stop::Failed(Error::EndOfBuffer),
-        ("extra-bytes", _) => Stop::Failed(Error::ExtraBytes),
-        ("too-long", _) => Stop::Failed(Error::TooLong),
-        ("invalid-varint", _) => Stop::Failed(Error::InvalidVarint),
-        ("invalid-enum", Ok(tag)) => Stop::Failed(Error::InvalidEnum(tag)),
-        ("memory", _) => Stop::Failed(Error::Mem),
-        _ => Stop::Refused("no such error"),
+        ("end-of-buffer", _) => Some(Error::EndOfBuffer),
+        ("extra-bytes", _) => Some(Error::ExtraBytes),
+        ("too-long", _) => Some(Error::TooLong),
+        ("invalid-varint", _) => Some(Error::InvalidVarint),
+        ("invalid-enum", Ok(tag)) => Some(Error::InvalidEnum(tag)),
+        ("memory", _) => Some(Error::Mem),
+        _ => None,
     }
 }
