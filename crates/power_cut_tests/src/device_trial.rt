@@ -25,13 +25,17 @@ impl Trial for DeviceTrial<'_> {
         let mut known = Known::of_left(self.alloc, &blobs_below(self.start, self.root)?)?;
         let files = DiskFiles::new(self.start.begun_with(plan)?)?;
         let wrong = self.carry_out(&files, plan, &mut known)?;
-        let calls = files.calls();
+        let (calls, has_failed_to_change) = (files.calls(), files.has_failed_to_change());
         let wrong = if wrong.is_empty() {
             self.judge(&files, plan, &known)?
         } else {
             String::from_str(self.alloc, wrong)?
         };
-        Ok(Tried { calls, wrong })
+        Ok(Tried {
+            calls,
+            has_failed_to_change,
+            wrong,
+        })
     }
 }
 
@@ -44,15 +48,22 @@ impl DeviceTrial<'_> {
         known: &mut Known,
     ) -> Result<&'static str, Stop> {
         let mut dev = FileDevice::new(files, self.alloc, self.root)?;
+        if files.calls() != 0 {
+            return Ok("a device touches a file before its first call");
+        }
         for call in self.calls {
-            let (faults, wrong) = (
-                dev.faults(),
-                asked(self.alloc, &mut dev, call, plan, known)?,
-            );
+            let faults = dev.faults();
+            let wrong = asked(self.alloc, &mut dev, call, plan, known)?;
             if !wrong.is_empty() {
                 return Ok(wrong);
             }
-            if dev.faults() != faults && is_stop(plan) {
+            if dev.faults() == faults {
+                continue;
+            }
+            if !plan.is_reached(files.calls()) {
+                return Ok("a call of the device fails, and none on the files has failed");
+            }
+            if is_stop(plan) {
                 return Ok("");
             }
         }

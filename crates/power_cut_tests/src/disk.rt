@@ -75,8 +75,31 @@ pub struct Disk {
     /// How many calls there were.
     pub calls: u64,
     pub plan: Plan,
+    /// Whether the call that fails alone was one that changes names or a length.
+    pub has_failed_to_change: bool,
+    /// How many files are open. One that is opened twice counts twice.
+    open_files: u64,
     /// Whether what a file had not synced when it was closed is written by no later sync.
     pub closing_forgets: bool,
+}
+
+/// What a call answers that is carried out.
+#[derive(Clone, Copy)]
+pub enum Answer {
+    /// That it is done.
+    Done,
+    /// An error, all the same.
+    Fails,
+}
+
+impl Answer {
+    /// Gives the answer.
+    pub fn give(&self) -> io::Result<()> {
+        match self {
+            Answer::Done => Ok(()),
+            Answer::Fails => Err(io::Error::from_raw_os_error(EIO)),
+        }
+    }
 }
 
 /// An error of this kind.
@@ -93,6 +116,8 @@ impl Disk {
             changes: 0,
             calls: 0,
             plan: Plan::Whole,
+            has_failed_to_change: false,
+            open_files: 0,
             closing_forgets: false,
         };
         disk.nodes.push(Node::Folder(FolderNode {
@@ -112,6 +137,20 @@ impl Disk {
             return Err(io::Error::from_raw_os_error(EIO));
         }
         Ok(())
+    }
+
+    /// A call that changes names or a length begins. Where it is not carried out, it is an Err. What it answers when it is done comes
+    /// with it.
+    pub fn begin_change(&mut self) -> io::Result<Answer> {
+        let nth = self.calls;
+        match self.begin() {
+            Ok(()) => Ok(Answer::Done),
+            Err(_) if self.plan == Plan::DoneAndFails(nth) => Ok(Answer::Fails),
+            Err(e) => {
+                self.has_failed_to_change |= self.plan == Plan::Fails(nth);
+                Err(e)
+            }
+        }
     }
 
     /// The number of what stands at a path.
@@ -272,16 +311,22 @@ impl Disk {
         }
     }
 
-    /// A file is opened once more.
-    pub fn open(&mut self, at: usize) {
+    /// A file is opened once more, unless as many are open as may be.
+    pub fn open(&mut self, at: usize) -> io::Result<()> {
         if let Some(Node::File(file)) = self.nodes.get_mut(at) {
+            if self.open_files >= MOST_OPEN {
+                return Err(io::Error::from_raw_os_error(EMFILE));
+            }
+            self.open_files = self.open_files.saturating_add(1);
             file.handles = file.handles.saturating_add(1);
         }
+        Ok(())
     }
 
     /// A file is closed once.
     pub fn close(&mut self, at: usize) {
         if let Some(Node::File(file)) = self.nodes.get_mut(at) {
+            self.open_files = self.open_files.saturating_sub(1);
             file.handles = file.handles.saturating_sub(1);
             if self.closing_forgets && file.handles == 0 {
                 file.unsynced.clear();
@@ -307,6 +352,8 @@ impl Disk {
             changes: 0,
             calls: 0,
             plan: Plan::Whole,
+            has_failed_to_change: false,
+            open_files: 0,
             closing_forgets: self.closing_forgets,
         })
     }
@@ -314,6 +361,12 @@ impl Disk {
 
 /// The number of the error of a call that fails.
 const EIO: i32 = 5;
+
+/// The number of the error where too many files are open.
+const EMFILE: i32 = 24;
+
+/// So many files a device may have open. Folders do not count.
+const MOST_OPEN: u64 = 256;
 
 // An empty file, or a folder in this one.
 fn new_node(alloc: Global, parent: usize, is_folder: bool) -> Node {

@@ -1,7 +1,7 @@
 // The files of a disk in memory, for code that is generic over the file system.
 ghost use Rattle.std.specs.Io.{ReadsAtMost};
 
-use crate::disk::{Disk, Node, refused};
+use crate::disk::{Answer, Disk, Node, refused};
 use crate::left::{Left, blobs_below};
 use crate::plan::Plan;
 use crate::stop::Stop;
@@ -48,6 +48,14 @@ impl DiskFiles {
         match self.disk.try_borrow() {
             Ok(disk) => disk.calls,
             Err(_) => 0,
+        }
+    }
+
+    /// Whether the call that fails alone was one that changes names or a length.
+    pub fn has_failed_to_change(&self) -> bool {
+        match self.disk.try_borrow() {
+            Ok(disk) => disk.has_failed_to_change,
+            Err(_) => false,
         }
     }
 
@@ -99,9 +107,15 @@ impl Files for DiskFiles {
     fn open_file(&self, how: &OpenOptions, path: &str) -> io::Result<Opened> {
         how.check()?;
         let mut disk = taken(&self.disk)?;
-        disk.begin()?;
+        let answer = if makes(how) {
+            disk.begin_change()?
+        } else {
+            disk.begin()?;
+            Answer::Done
+        };
         let node = open_or_make(&mut disk, how, path)?;
-        disk.open(node);
+        answer.give()?;
+        disk.open(node)?;
         Ok(Opened {
             disk: self.disk.clone()?,
             node,
@@ -147,15 +161,16 @@ impl Files for DiskFiles {
 
     fn remove_file(&self, path: &str) -> io::Result<()> {
         let mut disk = taken(&self.disk)?;
-        disk.begin()?;
-        disk.remove(path)
+        let answer = disk.begin_change()?;
+        disk.remove(path)?;
+        answer.give()
     }
 
     fn create_dir(&self, path: &str) -> io::Result<()> {
         let mut disk = taken(&self.disk)?;
-        disk.begin()?;
+        let answer = disk.begin_change()?;
         disk.make(path, true)?;
-        Ok(())
+        answer.give()
     }
 
     fn remove_dir(&self, _path: &str) -> io::Result<()> {
@@ -167,10 +182,14 @@ impl Files for DiskFiles {
     }
 }
 
+// Whether a file is made that is not there.
+fn makes(how: &OpenOptions) -> bool {
+    how.asks_create() || how.asks_create_new()
+}
+
 // Opens what stands at a path, or makes a file there.
 fn open_or_make(disk: &mut Disk, how: &OpenOptions, path: &str) -> io::Result<usize> {
     let writes = how.asks_write() || how.asks_append();
-    let makes = how.asks_create() || how.asks_create_new();
     match disk.find(path) {
         Ok(_) if how.asks_create_new() => refused(ErrorKind::AlreadyExists),
         Ok(at) if writes && disk.is_folder(at) => refused(ErrorKind::IsADirectory),
@@ -180,7 +199,7 @@ fn open_or_make(disk: &mut Disk, how: &OpenOptions, path: &str) -> io::Result<us
             }
             Ok(at)
         }
-        Err(e) if e.kind() == ErrorKind::NotFound && makes => disk.make(path, false),
+        Err(e) if e.kind() == ErrorKind::NotFound && makes(how) => disk.make(path, false),
         Err(e) => Err(e),
     }
 }
@@ -292,8 +311,9 @@ impl OpenFile for Opened {
 
     fn set_len(&self, size: u64) -> io::Result<()> {
         let mut disk = taken(&self.disk)?;
-        disk.begin()?;
-        disk.resize(self.node, size)
+        let answer = disk.begin_change()?;
+        disk.resize(self.node, size)?;
+        answer.give()
     }
 
     fn sync_all(&self) -> io::Result<()> {

@@ -16,11 +16,11 @@
 //! | `> COMMAND` | a line of the program's script, and its reply |
 //! | `puts COUNT` | so many lines, each a put in a section of its own |
 //! | `items NUMBER`, `set NAME NUMBER` | how many indices a section has room for; a setting |
-//! | `each-call-fails [LEAST]` | each call on the files fails alone |
+//! | `each-call-fails [LEAST]` | each call on the files fails alone; one that changes names or a length, both not done and done |
 //! | `power-goes-after-each-call [LEAST]` | the power goes before each call on the files, or the process ends there |
 //! | `power-goes-at-the-end [LEAST]` | the power goes when all is done |
 //!
-//! The last three begin what was gathered again and again. What each power cut leaves is judged by what the calls or the script put
+//! The last three begin what was gathered again and again, and want at least LEAST calls on the files. What each power cut leaves is judged by what the calls or the script put
 //! and synced, and by plain programs. A new device, or a new run, must find it, and what it finds must outlast the next power cut.
 //! What a run of the program replies is the first of what is wanted, and an error where it did not come to all.
 #![tactic(auto)]

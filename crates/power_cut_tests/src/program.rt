@@ -99,15 +99,23 @@ impl Trial for ProgramTrial<'_> {
         let program = &self.program;
         let files = DiskFiles::new(program.start.begun_with(plan)?)?;
         let run = program.run(&files, program.script)?;
-        let calls = files.calls();
+        let (calls, has_failed_to_change) = (files.calls(), files.has_failed_to_change());
         if !are_lawful(run.written.as_str(), program.wanted, plan.is_reached(calls)) {
             let text = run.written.as_str();
             let wrong = format!(in program.alloc; "the replies are {text:?}")?;
-            return Ok(Tried { calls, wrong });
+            return Ok(Tried {
+                calls,
+                has_failed_to_change,
+                wrong,
+            });
         }
         let owed = self.course.owed(program, &run)?;
         let wrong = self.judge(&files, plan, &owed)?;
-        Ok(Tried { calls, wrong })
+        Ok(Tried {
+            calls,
+            has_failed_to_change,
+            wrong,
+        })
     }
 }
 

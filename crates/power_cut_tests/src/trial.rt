@@ -11,6 +11,8 @@ const MOST_CALLS: u64 = 4096;
 pub struct Tried {
     /// How many calls on the files it made.
     pub calls: u64,
+    /// Whether the call that fails alone was one that changes names or a length.
+    pub has_failed_to_change: bool,
     /// What is wrong with what it left; nothing where all is well.
     pub wrong: String,
 }
@@ -24,12 +26,23 @@ pub trait Trial {
 /// Which call it is that the trial is begun again for.
 #[derive(Clone, Copy)]
 pub enum Each {
-    /// Each call fails alone.
+    /// Each call fails alone. One that changes names or a length does so both not done and done.
     Fails,
     /// The power goes after each call.
     Stops,
     /// No call fails, and the power goes at the end.
     Whole,
+}
+
+impl Each {
+    // What is tried of the call of this number.
+    fn plan(&self, nth: u64) -> Plan {
+        match self {
+            Each::Fails => Plan::Fails(nth),
+            Each::Stops => Plan::Stops(nth),
+            Each::Whole => Plan::Whole,
+        }
+    }
 }
 
 /// Tries it for each call, until the trial comes to its end before that call.
@@ -40,16 +53,17 @@ pub fn each_call(
     least: u64,
 ) -> Result<String, Stop> {
     for nth in 0..MOST_CALLS {
-        let (plan, word) = match each {
-            Each::Fails => (Plan::Fails(nth), "fails"),
-            Each::Stops => (Plan::Stops(nth), "stops"),
-            Each::Whole => (Plan::Whole, "begins"),
-        };
-        let tried = trial.tried(plan)?;
-        if !tried.wrong.is_empty() {
-            return Ok(format!(in alloc; "file call {nth} {word}: {}", tried.wrong.as_str())?);
+        let mut plan = each.plan(nth);
+        let mut tried = trial.tried(plan)?;
+        if tried.wrong.is_empty() && tried.has_failed_to_change {
+            plan = Plan::DoneAndFails(nth);
+            tried = trial.tried(plan)?;
         }
-        if tried.calls > nth && plan != Plan::Whole {
+        if !tried.wrong.is_empty() {
+            let (word, wrong) = (plan.word(), tried.wrong.as_str());
+            return Ok(format!(in alloc; "file call {nth} {word}: {wrong}")?);
+        }
+        if plan.is_reached(tried.calls) {
             continue;
         }
         if tried.calls >= least {
