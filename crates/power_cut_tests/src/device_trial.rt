@@ -3,7 +3,7 @@ use crate::calls::{Call, Change, changed};
 use crate::cuts::CUTS;
 use crate::disk::Disk;
 use crate::files::DiskFiles;
-use crate::known::Known;
+use crate::known::{Known, has_name};
 use crate::left::{Left, blobs_below};
 use crate::plan::Plan;
 use crate::stop::Stop;
@@ -140,10 +140,23 @@ fn is_stop(plan: Plan) -> bool {
     matches!(plan, Plan::Stops(_))
 }
 
-// Asks a device for something, and takes into account what it answers. It answers what is wrong with that.
-fn asked<D: Device>(
+// Lists the blobs of a partition. What a listing does not show does not come back, unless a sync had failed before.
+fn listed(
     alloc: Global,
-    dev: &mut D,
+    dev: &mut FileDevice<DiskFiles>,
+    partition: &str,
+    known: &mut Known,
+) -> &'static str {
+    match dev.scan(alloc, partition) {
+        Ok(names) if !dev.has_lost() => known.listed(partition, &names),
+        _ => "",
+    }
+}
+
+// Asks a device for something, and takes into account what it answers. It answers what is wrong with that.
+fn asked(
+    alloc: Global,
+    dev: &mut FileDevice<DiskFiles>,
     call: &Call,
     plan: Plan,
     known: &mut Known,
@@ -159,10 +172,7 @@ fn asked<D: Device>(
             known.removed(partition, name, is_done)?;
             Ok("")
         }
-        Call::Scan(partition) => {
-            let _ = dev.scan(alloc, partition.as_str());
-            Ok("")
-        }
+        Call::Scan(partition) => Ok(listed(alloc, dev, partition.as_str(), known)),
     }
 }
 
@@ -206,7 +216,7 @@ fn is_seen<D: Device>(
             continue;
         }
         count = count.saturating_add(1);
-        if !(0..names.len()).any(|i| names.get(i) == Some(one.name.as_slice())) {
+        if !has_name(&names, &one.name) {
             return Ok(false);
         }
     }

@@ -1,6 +1,7 @@
 // What is known of each blob by the calls of a device and their answers: what a crash may leave of it.
 use crate::calls::Change;
 use crate::left::Left;
+use blob_device::Names;
 use std::alloc::{AllocError, Global};
 
 /// What is known of a blob.
@@ -110,6 +111,20 @@ impl Known {
         Ok(())
     }
 
+    /// A listing of a partition showed these names. It answers what is wrong with that. A blob that is not shown is gone for good.
+    pub fn listed(&mut self, partition: &str, names: &Names) -> &'static str {
+        for blob in self.blobs.iter_mut() {
+            if blob.partition.as_str() != partition || has_name(names, &blob.name) {
+                continue;
+            }
+            if blob.there && !blob.unsure {
+                return "a scan does not show a blob that is there";
+            }
+            blob.remove(true);
+        }
+        ""
+    }
+
     /// What is wrong with these blobs as what a crash leaves; nothing where all is well.
     pub fn wrong_with(&self, left: &[Left]) -> &'static str {
         for blob in self.blobs.iter() {
@@ -129,6 +144,11 @@ impl Known {
         }
         ""
     }
+}
+
+/// Whether this name is among those that a scan gave.
+pub fn has_name(names: &Names, name: &[u8]) -> bool {
+    (0..names.len()).any(|i| names.get(i) == Some(name))
 }
 
 impl Blob {
