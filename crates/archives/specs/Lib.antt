@@ -12,6 +12,7 @@ pub mod Limits
 pub mod Config
 pub mod IndexRecord
 pub mod IndexRecordLaws
+pub mod Decoding
 pub mod Rows
 pub mod Filing
 pub mod FilingLaws

@@ -1,9 +1,13 @@
--- The state that a plain list of records stands for.
-use Rattle.std.specs.Prelude.{ℕ, Bool, true, ◌==◌, List, filter, find, length, map, Option}
+-- The state that a plain list of records stands for, and what the machine on such a list promises.
+use Rattle.std.specs.Prelude.{◌≡◌, ℕ, Bool, true, ◌==◌, List, filter, find, length, map, Option, Result, Ok, Err}
 use Rattle.std.specs.Option.{option_map}
+use Rattle.archives.specs.declared.commands.Command as asking
+use Rattle.archives.specs.declared.commands.Reply as answering
+use Rattle.archives.specs.declared.error.Error.{Error}
+use Rattle.archives.specs.declared.error.Error.TheVariants.{Mem}
 use Rattle.archives.specs.declared.plain.Item.{Item}
 use Rattle.archives.specs.declared.plain.Machine.{Machine}
-use Rattle.archives.specs.Machine.{Entry, State, section_of}
+use Rattle.archives.specs.Machine.{Entry, State, Step, asked, replied, section_of}
 
 module _ {K V : Type 0} (key_bytes : K → List ℕ) where
   abbrev pub entry_of : Item K V → Entry V
@@ -29,3 +33,19 @@ first_at index all = option_map (λ r. r.value) (find (λ r. r.index == index) a
 -- the value of the first record with this key, if any
 abbrev pub first_under : {K V : Type 0} → (K → Bool) → List (Item K V) → Option V
 first_under is_it all = option_map (λ r. r.value) (find (λ r. is_it r.key) all)
+
+-- ---- what the machine promises
+
+module _ {K V : Type 0} (key_bytes : K → List ℕ) where
+  -- It gave no reply.
+  pub record IsStopped (e : Error) (old new : Machine K V) : Type 0 where
+    -- there was no memory
+    pub cause : e ≡ Mem
+    -- and its state stays, whatever room a section has
+    pub unchanged : (n : ℕ) → state_of key_bytes n new ≡ state_of key_bytes n old
+
+  -- It carried out a command. The reply is a step of the record machine, whatever room a section has.
+  abbrev pub CarriesOut : asking.Command K V → Result (answering.Reply V) Error → Machine K V → Machine K V → Type 0
+  CarriesOut command (Ok reply) old new = (n : ℕ)
+      → Step n (state_of key_bytes n old) (asked key_bytes (λ v. v) command) (replied (λ v. v) reply) (state_of key_bytes n new)
+  CarriesOut command (Err e) old new = IsStopped e old new

@@ -4,8 +4,8 @@ ghost use Rattle.std.specs.Prelude.{◌≡◌, ℕ, ◌==◌, [], IfOk, OnErr, O
 ghost use Rattle.std.specs.Option.{option_copied};
 ghost use Rattle.std.specs.Result.{IsOkUnless};
 ghost use Rattle.std.specs.List.{list_any};
-ghost use Rattle.archives.specs.Machine.{Step, after_put, after_sync, asked, empty_state, entries_at, first_value, has_index, replied};
-ghost use Rattle.archives.specs.Plain.{first_at, first_under, state_of};
+ghost use Rattle.archives.specs.Machine.{after_put, after_sync, empty_state, entries_at, first_value, has_index};
+ghost use Rattle.archives.specs.Plain.{CarriesOut, first_at, first_under, state_of};
 
 use crate::{Command, Error, Reply};
 use std::alloc::Global;
@@ -134,12 +134,7 @@ impl<K: Key, V: Clone> Machine<K, V> {
     /// is free up to what was synced.
     pub fn step(&mut self, command: &Command<K, V>) -> Result<Reply<V>, Error>
         requires { (v w : V) → V.is_clone v w → w ≡ v }
-        ensures step { IfOk result (λ reply. (n : ℕ) → Step n (state_of K.key_bytes n self.old)
-            (asked K.key_bytes (λ v. v) command.now) (replied (λ v. v) reply)
-            (state_of K.key_bytes n self.new)) }
-        ensures memory { IsOkUnless result Error.Mem }
-        ensures unchanged { OnErr result ((n : ℕ) → state_of K.key_bytes n self.new
-            ≡ state_of K.key_bytes n self.old) }
+        ensures { CarriesOut K.key_bytes command.now result self.old self.new }
     {
         match command {
             Command::Put(index, key, value) => {

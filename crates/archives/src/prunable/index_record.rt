@@ -1,9 +1,10 @@
 // The records of an archive's index.
-ghost use Rattle.std.specs.Prelude.{◌≡◌, ◌↔◌, ◌+◌, ◌<◌, ◌^◌, true, length, IsSome, IfSome};
+ghost use Rattle.std.specs.Prelude.{◌≡◌, ◌+◌, ◌<◌, ◌^◌, true, length};
 ghost use Rattle.std.specs.Int.{w32, w64, to_be_bytes};
 ghost use Rattle.std.proofs.Common.{refl};
 ghost use Rattle.value_codec.specs.Spelling.{size_refusal};
 ghost use Rattle.value_codec.specs.SpellingLaws.{size_too_few, size_too_many, size_few_only, size_many_only, size_not_memory};
+ghost use Rattle.archives.specs.Decoding.{Decodes};
 ghost use Rattle.archives.specs.IndexRecord.{IsInRange, place_of, spelling_of};
 ghost use Rattle.archives.specs.IndexRecordLaws.{index_record_at_least, index_record_at_most, index_record_kept, length-index_record, one_index_record, place_of-index_record};
 
@@ -55,9 +56,7 @@ impl<K: Key> IndexRecord<K> {
 
     // The record that these bytes spell: as many bytes as a record has always spell one.
     fn from_bytes(bytes: &[u8]) -> Option<IndexRecord<K>>
-        ensures found { IsSome result ↔ (length bytes.now ≡ K.SIZE + 20) }
-        ensures spelled { IfSome result (λ r. spelling_of K.key_bytes r ≡ bytes.now) }
-        ensures in_range { IfSome result IsInRange }
+        ensures { Decodes K.key_bytes K.SIZE bytes.now result }
     {
         if bytes.len() != K::SIZE + 20 {
             return None;

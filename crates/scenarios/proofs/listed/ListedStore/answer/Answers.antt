@@ -18,4 +18,4 @@ pub returns-in_ok-reply-in_default : goal.returns-in_ok-reply-in_default
 returns-in_ok-reply-in_default g c =
     let given = replied (λ v. v) c.in_ok-reply-in_default.reply in
     listed_answers g.D.Device c.args._dev.now c.args.self (asked key8_bytes (λ v. v) c.args.command.now) (record { machine = c.step.new.self }) given
-    (listed_step c.args.command.now given (state_of key8_bytes 1 c.args.self.machine) (state_of key8_bytes 1 c.step.new.self) c.in_default.not-Reopen (c.in_ok-reply-in_default.ensures.step 1))
+    (listed_step c.args.command.now given (state_of key8_bytes 1 c.args.self.machine) (state_of key8_bytes 1 c.step.new.self) c.in_default.not-Reopen (c.in_ok-reply-in_default.ensures 1))

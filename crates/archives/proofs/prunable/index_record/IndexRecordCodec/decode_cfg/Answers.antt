@@ -1,5 +1,4 @@
 use Rattle.std.proofs.Common.{◌∙◌, ap, sym, arith, length, Ok, inl}
-use Rattle.std.proofs.lemmas.Bool.{false≢true}
 use Rattle.archives.specs.IndexRecordLaws.{length-index_record, one_index_record}
 use Rattle.archives.proofs.prunable.index_record.IndexRecordCodec.decode_cfg.Goals as goal
 
@@ -18,4 +17,4 @@ pub returns-in-None-clause-gives : goal.returns-in-None-clause-gives
 returns-in-None-clause-gives g c = λ v fits same.
     let sized = g.met.K.Key.sized v.key in
     let long = length-index_record g.K.Key.SIZE v.index (g.K.Key.key_bytes v.key) v.offset v.size sized in
-    absurd (false≢true (c.in-None.ensures.found.1 (sym (ap length same) ∙ long)))
+    absurd (c.in-None.ensures (sym (ap length same) ∙ long))
