@@ -26,7 +26,7 @@ use value_codec::{Codec, Key, Seal};
 fn enter<K: Key>(
     tables: &mut Tables<K>,
     section: u64,
-    record: &IndexRecord<K>,
+    found: &IndexRecord<K>,
     items_per_section: u64,
     limits: Limits,
 ) -> Result<(), Error>
@@ -34,16 +34,16 @@ fn enter<K: Key>(
     requires limits { AreLimits limits }
     requires filled { AreFilledBut (λ _. ⊥) tables.old }
     ensures { EntersRow K.key_bytes items_per_section limits tables.old section
-        (record { index = «record».now.index; key = K.key_bytes «record».now.key })
+        (record { index = found.now.index; key = K.key_bytes found.now.key })
         result tables.new }
 {
-    if section_of(record.index(), items_per_section) != section {
+    if section_of(found.index(), items_per_section) != section {
         return Err(Error::RecordCorrupted);
     }
     if !tables.has_room(limits, section) {
         return Err(Error::Full);
     }
-    tables.push(section, record.index(), *record.key())?;
+    tables.push(section, found.index(), *found.key())?;
     Ok(())
 }
 
