@@ -1,5 +1,5 @@
 -- The grammar of scripts: from bytes to a list of commands, line by line.
-use Rattle.std.specs.Prelude.{◌≡◌, ◌≢◌, ◌⊎◌, ℕ, ◌+◌, ◌^◌, ◌<◌, ◌≤◌, List, [], ◌∷◌, ◌++◌, length, Option, Some, None}
+use Rattle.std.specs.Prelude.{◌≡◌, ◌≢◌, ◌⊎◌, ℕ, ◌+◌, ◌^◌, ◌<◌, ◌≤◌, List, [], ◌∷◌, ◌++◌, length, Option, Some, None, Result, Ok, Err}
 use Rattle.std.specs.Fmt.{decimal}
 use Rattle.hex.specs.Hex.{encode_lower}
 use Rattle.std.specs.List.{AllByRecursion, join_with_byte}
@@ -92,6 +92,11 @@ abbrev pub IsCause : ℕ → List ℕ → ScriptError → Type 0
 IsCause max text (Line n) = IsFirstBad max text n
 IsCause max text Mem = Unit {0}
 
+-- what reading a text as a script finds: the commands that it spells, or why it is refused
+abbrev pub ReadsScript : ℕ → List ℕ → Result (List Spelled) ScriptError → Type 0
+ReadsScript max text (Ok commands) = Spells max text commands
+ReadsScript max text (Err e) = IsCause max text e
+
 -- What reading a text as one thing finds: the thing that the text spells, or None where it spells none that may be
 -- said.
 abbrev pub IsReading : {A : Type 0} → (A → Type 0) → (A → List ℕ) → List ℕ → Option A → Type 0
@@ -121,3 +126,12 @@ GoodOrBad = (max : ℕ) (text : List ℕ) (commands : List Spelled) (n : ℕ) �
 -- one line is the first bad one
 abbrev pub OneFirstBad : Type 0
 OneFirstBad = (max : ℕ) (text : List ℕ) (m n : ℕ) → IsFirstBad max text m → IsFirstBad max text n → m ≡ n
+
+-- all three
+pub record IsExactReading : Type 0 where
+  -- a text spells at most one script
+  pub one_script : OneScript
+  -- a text that spells a script has no bad line
+  pub good_or_bad : GoodOrBad
+  -- one line is the first bad one
+  pub one_first : OneFirstBad

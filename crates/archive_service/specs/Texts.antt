@@ -6,6 +6,8 @@ use Rattle.hex.specs.Hex.{encode_lower}
 use Rattle.archives.specs.Commands.{Command, Put, PutSync, PutStart, Multi, MultiSync, MultiStart, Get, GetKey, All, Has, HasKey, HasAt, Gap, Missing, Ranges, RangesFrom, First, Last, Sync, Start, Prune, Reopen, Destroy}
 use Rattle.archives.specs.Replies as reply
 use Rattle.archives.specs.Replies.{Reply}
+use Rattle.archive_service.specs.declared.script.ScriptError.{ScriptError}
+use Rattle.archive_service.specs.declared.script.ScriptError.TheVariants.{Mem}
 
 -- a command whose value is its bytes
 abbrev pub Spelled : Type 0
@@ -97,3 +99,15 @@ bad_line_text n = codes "error line " ++ decimal n ++ codes "\n"
 abbrev pub Appends : {E : Type 0} → Result Unit E → List ℕ → List ℕ → List ℕ → Type 0
 Appends (Ok done) old text new = new ≡ old ++ text
 Appends (Err e) old text new = (more : List ℕ) × (new ≡ old ++ more)
+
+-- There was no memory for the text.
+pub record IsUnwritten (e : ScriptError) (old new : List ℕ) : Type 0 where
+  -- it says so
+  pub cause : e ≡ Mem
+  -- nothing was appended
+  pub unchanged : new ≡ old
+
+-- the text was appended whole, or nothing was
+abbrev pub WritesText : Result Unit ScriptError → List ℕ → List ℕ → List ℕ → Type 0
+WritesText (Ok done) old text new = new ≡ old ++ text
+WritesText (Err e) old text new = IsUnwritten e old new

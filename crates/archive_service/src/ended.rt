@@ -1,6 +1,5 @@
 // How a call of the program ended.
-ghost use Rattle.std.specs.Prelude.{◌≡◌, [], None};
-ghost use Rattle.archive_service.specs.Ended.{code_of};
+ghost use Rattle.archive_service.specs.Ended.{EndsUnserved};
 
 use crate::Marks;
 use archives::Error;
@@ -41,9 +40,7 @@ pub struct Ended {
 impl Ended {
     /// The end with this status of a call that served no command.
     pub fn unserved(alloc: Global, status: Status) -> Ended
-        ensures status { result.status ≡ code_of status }
-        ensures marks { result.marks ≡ [] }
-        ensures error { result.error ≡ None }
+        ensures { EndsUnserved status result }
     {
         Ended {
             status: status as u8,

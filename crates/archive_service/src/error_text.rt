@@ -1,9 +1,8 @@
 // The texts of errors, as the program writes them. Each group stands before what it holds.
-ghost use Rattle.std.specs.Prelude.{◌≡◌, ◌++◌, OnOk, OnErr, IfErr};
+ghost use Rattle.std.specs.Prelude.{◌++◌};
 ghost use Rattle.std.specs.Fmt.{decimal};
-ghost use Rattle.archive_service.specs.declared.script.ScriptError.TheVariants.{Mem};
 ghost use Rattle.archive_service.specs.ErrorTexts.{codec_text, damage_text, error_line, error_text, journal_text, metadata_text, runtime_text};
-ghost use Rattle.archive_service.specs.Texts.{Appends};
+ghost use Rattle.archive_service.specs.Texts.{Appends, WritesText};
 
 use crate::ScriptError;
 use crate::text::append_hex;
@@ -16,9 +15,7 @@ use value_codec::codec;
 
 /// Appends the text of an error.
 pub fn write_error(error: &Error, out: &mut Vec<u8>) -> Result<(), ScriptError>
-    ensures ok { OnOk result (out.new.items ≡ out.old.items ++ error_text error.now) }
-    ensures err { OnErr result (out.new.items ≡ out.old.items) }
-    ensures cause { IfErr result (λ e. e ≡ Mem) }
+    ensures { WritesText result out.old.items (error_text error.now) out.new.items }
 {
     let before = out.len();
     match append_error(error, out) {
@@ -32,9 +29,7 @@ pub fn write_error(error: &Error, out: &mut Vec<u8>) -> Result<(), ScriptError>
 
 /// Appends the line that names an error, with its LF.
 pub fn write_error_line(error: &Error, out: &mut Vec<u8>) -> Result<(), ScriptError>
-    ensures ok { OnOk result (out.new.items ≡ out.old.items ++ error_line error.now) }
-    ensures err { OnErr result (out.new.items ≡ out.old.items) }
-    ensures cause { IfErr result (λ e. e ≡ Mem) }
+    ensures { WritesText result out.old.items (error_line error.now) out.new.items }
 {
     let before = out.len();
     match append_error_line(error, out) {

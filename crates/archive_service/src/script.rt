@@ -1,10 +1,10 @@
 // From the bytes of a script to its commands.
-ghost use Rattle.std.specs.Prelude.{◌≡◌, ◌≢◌, ◌++◌, ◌∷◌, ℕ, map, IfOk, IfErr, IfSome, IfNone};
+ghost use Rattle.std.specs.Prelude.{◌≡◌, ◌≢◌, ◌++◌, ◌∷◌, ℕ, map, IfOk, IfSome, IfNone};
 ghost use Rattle.std.specs.List.{AllByRecursion};
 ghost use Rattle.std.specs.Option.{option_map};
 ghost use Rattle.archives.specs.Machine.{asked};
 ghost use Rattle.value_codec.specs.Keys.{key8_bytes};
-ghost use Rattle.archive_service.specs.Script.{GoodOrBad, IsCause, IsCommandOf, IsFirstLine, IsLone, IsLongOf, IsReading, IsRecord, IsShort, OneFirstBad, OneScript, Spells, record_text};
+ghost use Rattle.archive_service.specs.Script.{IsCommandOf, IsExactReading, IsFirstLine, IsLone, IsLongOf, IsReading, IsRecord, IsShort, ReadsScript, record_text};
 ghost use Rattle.archive_service.specs.Texts.{Spelled, line_of};
 ghost use Rattle.archive_service.specs.declared.script.ScriptError.TheVariants.{Mem};
 
@@ -70,8 +70,7 @@ impl Script {
 
 /// Reads a script of lines, each ended by LF, whose values have at most `max_value` bytes.
 pub fn read_script(alloc: Global, bytes: &[u8], max_value: u32) -> Result<Script, ScriptError>
-    ensures script { IfOk result (Spells max_value bytes.now) }
-    ensures refused { IfErr result (IsCause max_value bytes.now) }
+    ensures { ReadsScript max_value bytes.now result }
 {
     let mut commands = Vec::new(alloc);
     let mut rest = bytes;
@@ -219,7 +218,5 @@ fn record_of(
 /// What makes the answers of [`read_script`] exact. A text spells at most one script; one that spells a script has no
 /// bad line; and there is one first bad line.
 pub fn reading_is_exact()
-    ensures one_script { OneScript }
-    ensures good_or_bad { GoodOrBad }
-    ensures one_first { OneFirstBad }
+    ensures { IsExactReading }
 {}

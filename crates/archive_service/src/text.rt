@@ -1,9 +1,8 @@
 // The texts of replies.
-ghost use Rattle.std.specs.Prelude.{◌≡◌, ◌++◌, codes, OnOk, OnErr, IfErr};
+ghost use Rattle.std.specs.Prelude.{◌++◌, codes};
 ghost use Rattle.archives.specs.Machine.{replied};
 ghost use Rattle.hex.specs.Hex.{encode_lower};
-ghost use Rattle.archive_service.specs.declared.script.ScriptError.TheVariants.{Mem};
-ghost use Rattle.archive_service.specs.Texts.{Appends, bad_line_text, reply_text, value_text};
+ghost use Rattle.archive_service.specs.Texts.{Appends, WritesText, bad_line_text, reply_text, value_text};
 
 use crate::ScriptError;
 use archives::Reply;
@@ -12,10 +11,8 @@ use value_codec::ByteValue;
 
 /// Appends the line of a reply, with its LF.
 pub fn write_reply(reply: &Reply<ByteValue>, out: &mut Vec<u8>) -> Result<(), ScriptError>
-    ensures ok { OnOk result (out.new.items ≡ out.old.items
-        ++ reply_text (replied (λ v. v) reply.now)) }
-    ensures err { OnErr result (out.new.items ≡ out.old.items) }
-    ensures cause { IfErr result (λ e. e ≡ Mem) }
+    ensures { WritesText result out.old.items
+        (reply_text (replied (λ v. v) reply.now)) out.new.items }
 {
     let before = out.len();
     match append_reply(reply, out) {
@@ -29,9 +26,7 @@ pub fn write_reply(reply: &Reply<ByteValue>, out: &mut Vec<u8>) -> Result<(), Sc
 
 /// Appends the line that names a bad line of a script by its number.
 pub fn write_bad_line(number: u64, out: &mut Vec<u8>) -> Result<(), ScriptError>
-    ensures ok { OnOk result (out.new.items ≡ out.old.items ++ bad_line_text number) }
-    ensures err { OnErr result (out.new.items ≡ out.old.items) }
-    ensures cause { IfErr result (λ e. e ≡ Mem) }
+    ensures { WritesText result out.old.items (bad_line_text number) out.new.items }
 {
     let line = format!(in *out.allocator(); "error line {number}\n")?;
     out.extend_from_slice(line.as_bytes())?;

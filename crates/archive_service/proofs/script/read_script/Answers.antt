@@ -25,8 +25,8 @@ no_length : (xs : List ℕ) → length xs ≡ 0 → xs ≡ []
 no_length [] e = refl
 no_length (x ∷ xs) e = absurd (omega arith)
 
-pub returns-in-None-clause-refused : goal.returns-in-None-clause-refused
-returns-in-None-clause-refused c =
+pub returns-in-None : goal.returns-in-None
+returns-in-None c =
     let first = rw c.in-None.is at c.in_ok-command.ensures in
     let some : c.loop-rest.rest.now ≢ [] = λ none. eqb-false (length c.loop-rest.rest.now) 0 (sym c.is_empty.ensures ∙ c.loop-rest-test.true) (ap length none) in
     let commands = map (asked key8_bytes (λ v. v)) c.loop-rest.commands.items in
@@ -34,8 +34,8 @@ returns-in-None-clause-refused c =
     subst (λ n. IsFirstBad c.args.max_value c.args.bytes.now (n + 1)) (sym count)
     (first_bad_here c.args.max_value c.args.bytes.now commands c.loop-rest.rest.now c.loop-rest.invariant some first)
 
-pub returns-clause-script : goal.returns-clause-script
-returns-clause-script c =
+pub returns : goal.returns
+returns c =
     let commands = map (asked key8_bytes (λ v. v)) c.loop-rest.commands.items in
     whole_read c.args.max_value c.args.bytes.now commands c.loop-rest.rest.now c.loop-rest.invariant
     (no_length c.loop-rest.rest.now (eqb-true (length c.loop-rest.rest.now) 0 (sym c.is_empty.ensures ∙ c.loop-rest-test.false)))
