@@ -1,7 +1,7 @@
 -- The start state of a lawful image.
-use Rattle.std.specs.Prelude.{◌≡◌, ℕ, ◌^◌, true, false, nat_lt, if◌then◌else◌, List, [], length}
-use Rattle.std.proofs.Common.{refl, ap, arith}
-use Rattle.std.proofs.lemmas.Bool.Decides.{nat_tests}
+use Rattle.std.specs.Prelude.{ℕ, ◌^◌, true, nat_lt, if◌then◌else◌, List, [], length}
+use Rattle.std.proofs.Common.{refl, ap}
+use Rattle.std.proofs.lemmas.Bool.{le-ltb, lt-ltb}
 use Rattle.blob_device.specs.Disk.{Image}
 use Rattle.paired.specs.Kept.{Markers}
 use Rattle.archives.specs.Filing.{Filing, kept}
@@ -23,12 +23,8 @@ pub starts : (f : Filing) (image : Image) (markers : Markers) → Lawful f image
 starts f image markers lawful = record {
   held = lawful.pair.held;
   is_open = refl;
-  lists = λ s small.
-      let e : nat_lt s (2 ^ 64) ≡ true = grind (arith, nat_tests) in
-      ap (λ b. if b then kept f image markers s else []) e;
-  no_more = λ s large.
-      let e : nat_lt s (2 ^ 64) ≡ false = grind (arith, nat_tests) in
-      ap (λ b. if b then kept f image markers s else []) e;
+  lists = λ s small. ap (λ b. if b then kept f image markers s else []) (lt-ltb s (2 ^ 64) small);
+  no_more = λ s large. ap (λ b. if b then kept f image markers s else []) (le-ltb s (2 ^ 64) large);
   synced = λ s. refl;
   floor = refl;
 }
