@@ -174,7 +174,7 @@ module _ (k : Kind) (old b c : Timeline) (commands : List Asked) (marks : List �
     touched = touched;
     known = looking.known;
     found = λ some. found;
-    learns = λ i x lt is_x. learned i x (omega (arith, lt, length-append marks (b.calls ∷ []))) is_x;
+    learns = learned;
     quiet = quiet looking.known (λ i le. refl);
     allowed = allowed_before;
     opened = λ some. looking.opened;
@@ -222,7 +222,7 @@ module _ (k : Kind) (old now : Timeline) (commands : List Asked) (marks : List �
     touched = looking.touched;
     known = looking.known;
     found = λ some. looking.found;
-    learns = λ i x lt. looking.learns i x (omega arith);
+    learns = looking.learns;
     quiet = looking.quiet;
     allowed = looking.allowed;
     opened = λ some. looking.opened;

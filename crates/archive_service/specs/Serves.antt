@@ -121,8 +121,8 @@ module _ (k : Kind) where
       pub known : ℕ → k.Known
       -- What it knew once it was opened.
       pub found : marks ≢ [] → k.IsFound (disk old) (disk_at old new marks 1) (known 0)
-      -- What a reply adds to it.
-      pub learns : (i : ℕ) (command : Asked) → i + 1 < length marks
+      -- What a reply adds to it, also the last one.
+      pub learns : (i : ℕ) (command : Asked) → i < replied
           → slice_get commands i ≡ Some command
           → k.Learns (known i) command (disk_at old new marks (i + 1)) (disk_at old new marks (i + 2)) (known (i + 1))
       -- A command that makes no call of the device ends where it began.
