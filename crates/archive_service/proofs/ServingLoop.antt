@@ -14,7 +14,7 @@ use Rattle.archives.specs.Commands.{Reopen}
 use Rattle.archives.specs.Refusing.{IsFault}
 use Rattle.archives.specs.declared.error.Error.{Error}
 use Rattle.archives.specs.declared.error.Error.TheVariants.{Mem}
-use Rattle.archive_service.specs.Kinds.{Answers, IsSoundOver, Kind, MayServe, OpensStore, Serving, state_over}
+use Rattle.archive_service.specs.Kinds.{Answers, IsSoundOver, Kind, MayUse, OpensStore, Serving, state_over}
 use Rattle.archive_service.specs.Serves.{OverAnyImage, ServesBy, ServesOne, marked, unmarked}
 use Rattle.archive_service.specs.declared.replies.End.TheVariants.{Done, Failed}
 use Rattle.archive_service.proofs.Going.{Running, no_fault, runs_done, runs_failed, runs_unmarked, runs_unopened, running_push, running_start}
@@ -32,7 +32,7 @@ pub record GoesOn (k : Kind) (old now : Timeline) (commands : List Asked) (marks
 module _ {A V D : Type 0} (s : Serving A V) (dev : device.Ghosts D) where
   -- Each command so far has a mark and a reply, and the store is this one.
   pub record SoFar (old now : D) (commands : List Asked) (marks : List ℕ) (replies : List Replied) (a : A) : Type 0 where
-    pub usable : MayServe s dev a now
+    pub usable : MayUse s dev a now
     pub counted : length marks ≡ length replies
     pub footprint : Footprint dev s.kind.IsOwn NoBound old now
     pub looking : dev.Tells → Looking s.kind (dev.time old) (dev.time now) commands marks (s.known a)

@@ -80,8 +80,8 @@ pub record Serving (A V : Type 0) : Type 1 where
   pub known : A → kind.Known
 
 module _ {A V D : Type 0} (s : Serving A V) (dev : device.Ghosts D) where
-  abbrev pub MayServe : A → D → Type 0
-  MayServe a d = s.IsUsable a dev.Tells (dev.opened d) (disk (dev.time d))
+  abbrev pub MayUse : A → D → Type 0
+  MayUse a d = s.IsUsable a dev.Tells (dev.opened d) (disk (dev.time d))
 
   abbrev pub IsSoundOver : A → D → Type 0
   IsSoundOver a d = s.IsSound a (disk (dev.time d))
@@ -94,7 +94,7 @@ module _ {A V D : Type 0} (s : Serving A V) (dev : device.Ghosts D) where
   -- The store a gave the reply, and is now r.
   pub record Answered (a : A) (command : Asked) (r : A) (reply : Replied) (old new : D) : Type 0 where
     -- it goes on as a store of the configuration
-    pub usable : MayServe r new
+    pub usable : MayUse r new
     -- it is sound where the old one was
     pub sound : dev.Tells → IsSoundOver a old → IsSoundOver r new
     -- from a sound store on, the reply is a step of the machine
@@ -158,7 +158,7 @@ module _ {A V D : Type 0} (s : Serving A V) (dev : device.Ghosts D) where
   -- The store r was opened.
   pub record IsOpened (r : A) (old new : D) : Type 0 where
     -- it is a store of the configuration
-    pub usable : MayServe r new
+    pub usable : MayUse r new
     -- from a lawful image on, of which nothing is pending, it is sound
     pub sound : dev.Tells → NothingPending (disk (dev.time old))
         → s.kind.Lawful (as_read (disk (dev.time old))) → IsSoundOver r new

@@ -2,7 +2,7 @@
 ghost use Rattle.std.specs.Prelude.{◌≡◌, [], map};
 ghost use Rattle.std.specs.List.{AllByRecursion};
 ghost use Rattle.archives.specs.Machine.{asked, replied};
-ghost use Rattle.archive_service.specs.Kinds.{MayServe};
+ghost use Rattle.archive_service.specs.Kinds.{MayUse};
 ghost use Rattle.archive_service.specs.Serves.{ServesBy, ServesOne, end_of};
 ghost use Rattle.archive_service.specs.Stores.{IsValidStore, PutsOnly, codec_config_of, kind_in};
 
@@ -133,7 +133,7 @@ fn serve_one<A: Store, D: Device>(
     progress: &mut Progress<A::Value>,
 ) -> Result<A, Error>
     requires valid { (A.means cfg.now).IsValid }
-    requires usable { MayServe (A.means cfg.now) D.Device archive dev.old }
+    requires usable { MayUse (A.means cfg.now) D.Device archive dev.old }
     requires value { PutsOnly (A.means cfg.now).Accepts command.now }
     ensures { ServesOne (A.means cfg.now) D.Device archive
         (asked A.Key.key_bytes A.Value.spelling command.now) result dev.old dev.new

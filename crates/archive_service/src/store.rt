@@ -1,7 +1,7 @@
 // What serves commands: a store of some kind, with its configuration.
 ghost use Rattle.archives.specs.Changes.{outcome};
 ghost use Rattle.archives.specs.Machine.{asked, replied};
-ghost use Rattle.archive_service.specs.Kinds.{Answers, MayServe, OpensStore, Serving};
+ghost use Rattle.archive_service.specs.Kinds.{Answers, MayUse, OpensStore, Serving};
 ghost use Rattle.archive_service.specs.Stores.{PutsOnly};
 
 mod prunable;
@@ -42,7 +42,7 @@ pub trait Store: Sized + Drop {
         command: &Command<Self::Key, Self::Value>,
     ) -> Result<(Self, Reply<Self::Value>), Error>
         requires valid { (means cfg.now).IsValid }
-        requires usable { MayServe (means cfg.now) D.Device self dev.old }
+        requires usable { MayUse (means cfg.now) D.Device self dev.old }
         requires value { PutsOnly (means cfg.now).Accepts command.now }
         ensures { Answers (means cfg.now) D.Device self
             (asked Self.Key.key_bytes Self.Value.spelling command.now)

@@ -8,7 +8,7 @@ ghost use Rattle.archives.specs.Machine.{asked, replied};
 ghost use Rattle.archives.specs.Shown.{means, setup_for};
 ghost use Rattle.archives.specs.declared.archive.Identifier.TheVariants.{Index};
 ghost use Rattle.archives.specs.declared.commands.Reply.TheVariants.{Done, Flag, Value};
-ghost use Rattle.archive_service.specs.Kinds.{Answers, MayServe};
+ghost use Rattle.archive_service.specs.Kinds.{Answers, MayUse};
 ghost use Rattle.archive_service.specs.PrunableStore.{prunable_serving};
 ghost use Rattle.archive_service.specs.Stores.{PutsOnly};
 
@@ -56,7 +56,7 @@ fn carry_out<T: Translator, K: Key, V: Codec, S: Seal, D: Device>(
     command: &Command<K, V>,
 ) -> Result<(Archive<T, K, V, S>, Reply<V>), Error>
     requires valid { IsValid cfg.now }
-    requires usable { MayServe (⟦<Archive<T, K, V, S> as Store>⟧.means cfg.now) D.Device archive
+    requires usable { MayUse (⟦<Archive<T, K, V, S> as Store>⟧.means cfg.now) D.Device archive
         dev.old }
     requires value { PutsOnly (⟦<Archive<T, K, V, S> as Store>⟧.means cfg.now).Accepts command.now }
     ensures { Answers (⟦<Archive<T, K, V, S> as Store>⟧.means cfg.now) D.Device archive
@@ -85,7 +85,7 @@ fn put<T: Translator, K: Key, V: Codec, S: Seal, D: Device>(
     key: K,
     value: &V,
 ) -> Result<(Archive<T, K, V, S>, Reply<V>), Error>
-    requires usable { MayServe (⟦<Archive<T, K, V, S> as Store>⟧.means _cfg.now) D.Device archive
+    requires usable { MayUse (⟦<Archive<T, K, V, S> as Store>⟧.means _cfg.now) D.Device archive
         dev.old }
     requires value { (⟦<Archive<T, K, V, S> as Store>⟧.means _cfg.now).Accepts value.now }
     ensures { Answers (⟦<Archive<T, K, V, S> as Store>⟧.means _cfg.now) D.Device archive
@@ -104,7 +104,7 @@ fn put_sync<T: Translator, K: Key, V: Codec, S: Seal, D: Device>(
     key: K,
     value: &V,
 ) -> Result<(Archive<T, K, V, S>, Reply<V>), Error>
-    requires usable { MayServe (⟦<Archive<T, K, V, S> as Store>⟧.means _cfg.now) D.Device archive
+    requires usable { MayUse (⟦<Archive<T, K, V, S> as Store>⟧.means _cfg.now) D.Device archive
         dev.old }
     requires value { (⟦<Archive<T, K, V, S> as Store>⟧.means _cfg.now).Accepts value.now }
     ensures { Answers (⟦<Archive<T, K, V, S> as Store>⟧.means _cfg.now) D.Device archive
@@ -123,7 +123,7 @@ fn put_start<T: Translator, K: Key, V: Codec, S: Seal, D: Device>(
     key: K,
     value: &V,
 ) -> Result<(Archive<T, K, V, S>, Reply<V>), Error>
-    requires usable { MayServe (⟦<Archive<T, K, V, S> as Store>⟧.means _cfg.now) D.Device archive
+    requires usable { MayUse (⟦<Archive<T, K, V, S> as Store>⟧.means _cfg.now) D.Device archive
         dev.old }
     requires value { (⟦<Archive<T, K, V, S> as Store>⟧.means _cfg.now).Accepts value.now }
     ensures { Answers (⟦<Archive<T, K, V, S> as Store>⟧.means _cfg.now) D.Device archive
@@ -139,7 +139,7 @@ fn sync<T: Translator, K: Key, V: Codec, S: Seal, D: Device>(
     dev: &mut D,
     _cfg: &Config<T, V::Cfg>,
 ) -> Result<(Archive<T, K, V, S>, Reply<V>), Error>
-    requires usable { MayServe (⟦<Archive<T, K, V, S> as Store>⟧.means _cfg.now) D.Device archive
+    requires usable { MayUse (⟦<Archive<T, K, V, S> as Store>⟧.means _cfg.now) D.Device archive
         dev.old }
     ensures { Answers (⟦<Archive<T, K, V, S> as Store>⟧.means _cfg.now) D.Device archive
         Sync
@@ -154,7 +154,7 @@ fn start<T: Translator, K: Key, V: Codec, S: Seal, D: Device>(
     dev: &mut D,
     _cfg: &Config<T, V::Cfg>,
 ) -> Result<(Archive<T, K, V, S>, Reply<V>), Error>
-    requires usable { MayServe (⟦<Archive<T, K, V, S> as Store>⟧.means _cfg.now) D.Device archive
+    requires usable { MayUse (⟦<Archive<T, K, V, S> as Store>⟧.means _cfg.now) D.Device archive
         dev.old }
     ensures { Answers (⟦<Archive<T, K, V, S> as Store>⟧.means _cfg.now) D.Device archive
         Start
@@ -172,7 +172,7 @@ fn reopen<T: Translator, K: Key, V: Codec, S: Seal, D: Device>(
     cfg: &Config<T, V::Cfg>,
 ) -> Result<(Archive<T, K, V, S>, Reply<V>), Error>
     requires valid { IsValid cfg.now }
-    requires usable { MayServe (⟦<Archive<T, K, V, S> as Store>⟧.means cfg.now) D.Device archive
+    requires usable { MayUse (⟦<Archive<T, K, V, S> as Store>⟧.means cfg.now) D.Device archive
         dev.old }
     ensures { Answers (⟦<Archive<T, K, V, S> as Store>⟧.means cfg.now) D.Device archive
         Reopen
@@ -189,7 +189,7 @@ fn get<T: Translator, K: Key, V: Codec, S: Seal, D: Device>(
     _cfg: &Config<T, V::Cfg>,
     identifier: Identifier<'_, K>,
 ) -> Result<(Archive<T, K, V, S>, Reply<V>), Error>
-    requires usable { MayServe (⟦<Archive<T, K, V, S> as Store>⟧.means _cfg.now) D.Device archive
+    requires usable { MayUse (⟦<Archive<T, K, V, S> as Store>⟧.means _cfg.now) D.Device archive
         dev.old }
     ensures { Answers (⟦<Archive<T, K, V, S> as Store>⟧.means _cfg.now) D.Device archive
         (get_command (wanted_of K.key_bytes identifier.entry))
@@ -206,7 +206,7 @@ fn has<T: Translator, K: Key, V: Codec, S: Seal, D: Device>(
     _cfg: &Config<T, V::Cfg>,
     identifier: Identifier<'_, K>,
 ) -> Result<(Archive<T, K, V, S>, Reply<V>), Error>
-    requires usable { MayServe (⟦<Archive<T, K, V, S> as Store>⟧.means _cfg.now) D.Device archive
+    requires usable { MayUse (⟦<Archive<T, K, V, S> as Store>⟧.means _cfg.now) D.Device archive
         dev.old }
     ensures { Answers (⟦<Archive<T, K, V, S> as Store>⟧.means _cfg.now) D.Device archive
         (has_command (wanted_of K.key_bytes identifier.entry))
