@@ -1,7 +1,7 @@
 -- What a store of records in a list promises, over devices that are plain variables: no call of the device is made.
 use Rattle.std.specs.Prelude.{⊤}
 use Rattle.std.specs.List.{AllByRecursion}
-use Rattle.std.proofs.Common.{◌≡◌, refl, sym, subst, ℕ, List, [], ◌∷◌, Option, None, Some, Result, Ok, Err}
+use Rattle.std.proofs.Common.{◌≡◌, refl, sym, ℕ, List, [], ◌∷◌, Option, None, Some, Ok}
 use Rattle.blob_device.specs.Footprint.{Footprint, NoBound}
 use Rattle.blob_device.specs.Timeline.{Always, disk}
 use Rattle.blob_device.specs.declared.device.Device as device
@@ -9,18 +9,15 @@ use Rattle.blob_device.proofs.FootprintLemmas.{footprint_none}
 use Rattle.value_codec.specs.Keys.{key8_bytes}
 use Rattle.value_codec.specs.declared.key.Key8.{Key8}
 use Rattle.paired.specs.Opening.{as_read}
-use Rattle.archives.specs.Changes.{Asked, Replied, outcome}
+use Rattle.archives.specs.Changes.{Asked, Replied}
 use Rattle.archives.specs.Commands.{Reopen}
 use Rattle.archives.specs.Machine.{OpenStep, State, asked, empty_state}
 use Rattle.archives.specs.Plain.{state_of}
 use Rattle.archives.specs.Replies as reply
 use Rattle.archives.specs.declared.commands.Command as asking
 use Rattle.archives.specs.declared.commands.Command.TheVariants as ask
-use Rattle.archives.specs.declared.error.Error.{Error}
-use Rattle.archives.specs.declared.error.Error.TheVariants.{Mem}
 use Rattle.archive_service.specs.Kinds.{Answers, OpensStore}
 use Rattle.archive_service.specs.Stores.{PutsOnly}
-use Rattle.archive_service.proofs.Going.{no_fault}
 use Rattle.archive_service.proofs.StoreLemmas.{nothing_done, unchanged_always}
 use Rattle.scenarios.specs.ListedKind.{ListedState, ListedStep, listed_kind, listed_serving}
 use Rattle.scenarios.specs.declared.listed.Listed.{Listed}
@@ -46,7 +43,15 @@ all_any (command ∷ commands) = (puts_any command, all_any commands)
 pub listed_step : (command : asking.Command Key8 (List ℕ)) (given : Replied) (old new : State (List ℕ)) → (command ≡ ask.Reopen → ⊥)
     → OpenStep 1 old (asked key8_bytes (λ v. v) command) given new → ListedStep old (asked key8_bytes (λ v. v) command) given new
 listed_step ask.Reopen given old new never step = absurd (never refl)
-listed_step command given old new never step = step
+listed_step (ask.Put i k v) given old new never step = step
+listed_step (ask.PutSync i k v) given old new never step = step
+listed_step (ask.PutStart i k v) given old new never step = step
+listed_step (ask.Get i) given old new never step = step
+listed_step (ask.GetKey k) given old new never step = step
+listed_step (ask.Has i) given old new never step = step
+listed_step (ask.HasKey k) given old new never step = step
+listed_step ask.Sync given old new never step = step
+listed_step ask.Start given old new never step = step
 
 begins_anew : (command : Asked) (given : Replied) (old new : State (List ℕ)) → command ≡ Reopen → ListedStep old command given new → new ≡ empty_state
 begins_anew Reopen reply.Done old new is step = step
@@ -98,23 +103,3 @@ module _ {D : Type 0} (dev : device.Ghosts D) (d : D) where
         allowed_anywhere = λ t must. must;
       };
     }
-
-    -- there was no memory
-    pub listed_short : Answers listed_serving dev a command (Err Mem) d d
-    listed_short = record {
-      moments = λ t sound. always_reads was (Some command) refl;
-      alone = λ t. unchanged_always (dev.time d) (dev.time d) _ (nothing_done dev.time d d refl) (λ q other. refl);
-      footprint = untouched;
-      quiet = λ t still. refl;
-      ends = record {
-        cause = λ t sound. refl;
-        unwritten = λ t sound refuses. absurd refuses;
-        anywhere = λ t. refl;
-        unwritten_anywhere = λ t refuses. absurd refuses;
-        fault = no_fault (dev.faults d) (dev.faults d);
-      };
-    }
-
-    -- so it is of a result that says so
-    pub short_answers : {T : Type 0} (see : T → Listed × Replied) (result : Result T Error) → result ≡ Err Mem → Answers listed_serving dev a command (outcome see result) d d
-    short_answers see result is = subst (λ r. Answers listed_serving dev a command (outcome see r) d d) (sym is) listed_short
