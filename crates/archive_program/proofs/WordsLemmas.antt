@@ -1,12 +1,12 @@
 -- Three words, and the number that the last of them is.
 use Rattle.std.specs.Prelude.{◌==◌, IsSome}
-use Rattle.std.proofs.Common.{◌≡◌, ◌⊎◌, inl, inr, ℕ, nat_eq, Bool, true, false, not, ◌^◌, ◌<◌, ◌≤◌, List, [], ◌∷◌, length, map, get_or, Some, refl, sym, ap, subst, ◌∙◌, arith}
+use Rattle.std.proofs.Common.{◌≡◌, inl, inr, ℕ, nat_eq, Bool, true, false, not, ◌^◌, ◌<◌, ◌≤◌, List, [], ◌∷◌, length, map, get_or, Some, refl, sym, ap, subst, ◌∙◌, arith}
 use Rattle.std.specs.Str.{bytes_eq}
 use Rattle.std.proofs.lemmas.Slice.Eq.{bytes_eq-Decides}
 use Rattle.std.proofs.lemmas.Bool.{cases_Bool, eqb-false, eqb-true}
 use Rattle.std.specs.Fmt.{decimal}
 use Rattle.std.proofs.lemmas.Fmt.{decimal_injective}
-use Rattle.archive_program.specs.Words.{AreOfNoForm, AreWordsFor, AsksFor, IsQuestion, IsStatusFor, IsStatusIn, IsStatusOf, Job, Script, folder_in}
+use Rattle.archive_program.specs.Words.{AreOfNoForm, AreWordsFor, AsksFor, IsStatusFor, IsStatusIn, Job, Script, folder_in}
 
 pub three_words : {X : Type 0} (f : X → List ℕ) (words : List X) (a b c : X) → length words ≡ 3
     → a ≡ get_or words 0 a → b ≡ get_or words 1 b → c ≡ get_or words 2 c → map f words ≡ f a ∷ f b ∷ f c ∷ []
@@ -71,14 +71,3 @@ module _ (words : List (List ℕ)) (status : ℕ) where
     usage = λ one. absurd (omega (arith, one, six));
     form = λ none. inr (six, subst IsSome (sym named) refl);
   }
-
-  -- a question was answered
-  pub status_asked : IsQuestion words → (status ≡ 0) ⊎ (status ≡ 4) → IsStatusOf words status
-  status_asked question answered = record {
-    known = elim answered as (λ _. status ≤ 7) [ inl done ↦ omega (arith, done) | inr failed ↦ omega (arith, failed) ];
-    asked = λ asks. answered;
-    served = λ never. absurd (never question);
-  }
-
-  pub status_served : (IsQuestion words → ⊥) → IsStatusIn words status → IsStatusOf words status
-  status_served never is = record { known = is.known; asked = λ asks. absurd (never asks); served = λ no_question. is }
