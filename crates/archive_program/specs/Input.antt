@@ -1,6 +1,7 @@
 -- How much of an input was taken.
-use Rattle.std.specs.Prelude.{◌≡◌, ℕ, ◌+◌, ◌^◌, ◌≤◌, ◌<◌, Bool, true, false, List, [], ◌++◌, length, Result, Err, OnOk, IfOk}
+use Rattle.std.specs.Prelude.{◌≡◌, ℕ, ◌+◌, ◌^◌, ◌≤◌, ◌<◌, Bool, true, false, List, [], ◌++◌, length, Result, Ok, Err, OnOk, IfOk}
 use Rattle.blob_device.specs.Counts.{Rose}
+use Rattle.blob_device.specs.declared.source.Source as source
 use Rattle.archive_program.specs.declared.input.InputError.{InputError}
 use Rattle.archive_program.specs.declared.input.InputError.TheVariants.{Fault, TooLong, Mem}
 
@@ -12,8 +13,9 @@ IsInputCause old new Mem = Unit {0}
 
 -- so many bytes of what was left were taken
 pub record TakesFront (old new : List ℕ) (P : ℕ → Type 0) : Type 0 where
-  -- the bytes that were taken, in so great a number
+  -- these were taken
   pub taken : List ℕ
+  -- in so great a number
   pub number : P (length taken)
   -- they stood in front of what is left
   pub rest : old ≡ taken ++ new
@@ -29,8 +31,9 @@ pub record TakesAll (old new bytes : List ℕ) : Type 0 where
 
 -- a piece of what was left was taken, and added to the bytes where there was memory; it is empty only at the end
 pub record TakesPiece (result : Result Bool InputError) (old new bytes_old bytes_new : List ℕ) : Type 0 where
-  -- the piece, which stood in front of what is left
+  -- this is the piece
   pub piece : List ℕ
+  -- it stood in front of what is left
   pub rest : old ≡ piece ++ new
   -- with it no more than one byte passes the limit
   pub within : length bytes_old + length piece ≤ 2 ^ 24 + 1
@@ -52,3 +55,34 @@ pub record AddsBytes (result : Result Bool InputError) (before now : ℕ) : Type
   pub bound : now ≤ 2 ^ 24 + 1
   -- that it is passed is not said here
   pub in_limit : ¬ (result ≡ Err TooLong)
+
+-- ---- a whole input
+
+-- By its source, once as it was and once as it is.
+module _ {S : Type 0} (input : source.Ghosts S) (old new : S) where
+  -- It was read to its end.
+  pub record IsRead (bytes : List ℕ) : Type 0 where
+    -- these bytes are all that was left
+    pub whole : input.Tells → TakesAll (input.left old) (input.left new) bytes
+    -- they are no more than an input may have
+    pub limit : length bytes ≤ 2 ^ 24
+
+  -- It was not.
+  pub record IsNotRead (e : InputError) : Type 0 where
+    -- a fault is the source's
+    pub cause : IsInputCause (input.faults old) (input.faults new) e
+    -- before it no more was taken than an input may have
+    pub within : input.Tells → e ≡ Fault → TakesFront (input.left old) (input.left new) (λ n. n ≤ 2 ^ 24)
+    -- of an input that is too long one byte more was taken
+    pub too_long : input.Tells → e ≡ TooLong → TakesFront (input.left old) (input.left new) (λ n. n ≡ 2 ^ 24 + 1)
+
+  abbrev pub ReadEnds : Result (List ℕ) InputError → Type 0
+  ReadEnds (Ok bytes) = IsRead bytes
+  ReadEnds (Err e) = IsNotRead e
+
+  -- An input was read, or not.
+  pub record ReadsInput (result : Result (List ℕ) InputError) : Type 0 where
+    -- at most one byte more was taken than an input may have
+    pub at_most : input.Tells → TakesFront (input.left old) (input.left new) (λ n. n ≤ 2 ^ 24 + 1)
+    -- how it ended
+    pub ends : ReadEnds result

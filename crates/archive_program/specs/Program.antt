@@ -1,7 +1,7 @@
 -- What the program answers to its input, and what it leaves on its device at every moment.
-use Rattle.std.specs.Prelude.{◌≡◌, ◌≢◌, ◌⊎◌, ⊤, ℕ, ◌+◌, ◌^◌, ◌≤◌, List, [], ◌∷◌, ◌++◌, length, Contains, Option, Some, None, IsSome, IfSome, codes}
+use Rattle.std.specs.Prelude.{◌≡◌, ◌≢◌, ◌⊎◌, ⊤, ℕ, ◌+◌, ◌^◌, ◌≤◌, ◌<◌, List, [], ◌∷◌, ◌++◌, length, Contains, Option, Some, None, IsSome, IfSome, codes}
 use Rattle.blob_device.specs.Counts.{Rose}
-use Rattle.blob_device.specs.Disk.{NothingPending}
+use Rattle.blob_device.specs.Disk.{NothingPending, nothing}
 use Rattle.blob_device.specs.Timeline.{Timeline, disk}
 use Rattle.blob_device.specs.declared.device.Device as device
 use Rattle.blob_device.specs.declared.sink.Sink as sink
@@ -12,6 +12,7 @@ use Rattle.value_codec.specs.contracts.seal.Sha256SealSeal.TheImpl as sha256
 use Rattle.segments.specs.declared.journal.Error.TheVariants as journal
 use Rattle.paired.specs.Kept.{Markers}
 use Rattle.paired.specs.Opening.{as_read}
+use Rattle.paired.specs.OpeningRefusing.{AreCounted}
 use Rattle.paired.specs.TrackedShown.{marker_format}
 use Rattle.archives.specs.Filing.{Filing}
 use Rattle.archives.specs.IndexRecord.{place_of}
@@ -26,6 +27,7 @@ use Rattle.archive_service.specs.Kinds.{Kind}
 use Rattle.archive_service.specs.PrunableKind.{prunable_kind}
 use Rattle.archive_service.specs.RunLaws.{AreCountedIfOpening}
 use Rattle.archive_service.specs.Serves.{ServesBy}
+use Rattle.archive_service.specs.Settings.{AreSettings}
 use Rattle.archive_service.specs.Texts.{Spelled, bad_line_text}
 use Rattle.archive_service.specs.declared.ended.Ended.{Ended}
 use Rattle.archive_service.specs.declared.replies.End.{End}
@@ -80,9 +82,19 @@ program_kind settings items = prunable_kind (program_filing settings items) sett
 pub record MayBeServed (settings : Settings) (items : ℕ) (t : Timeline) : Type 0 where
   -- nothing is pending
   pub nothing_pending : NothingPending (disk t)
-  -- by these markers its image is lawful
+  -- these are its markers
   pub markers : Markers
+  -- by them its image is lawful
   pub lawful : Lawful (program_filing settings items) (as_read (disk t)) markers
+
+-- What holds of a device on which nothing was kept yet.
+pub record EmptyLaws : Type 0 where
+  -- it may be served, since it has nothing pending, and an empty image is lawful
+  pub lawful : (settings : Settings) (items : ℕ) → AreSettings settings → 1 ≤ items
+      → (t : Timeline) → disk t ≡ (λ q. nothing) → MayBeServed settings items t
+  -- and a u64 counts the bytes of one page more with its slots, where pages have fewer than 2^16 bytes
+  pub counted : (settings : Settings) (items : ℕ) → AreSettings settings → settings.page_size < 2 ^ 16
+      → (t : Timeline) → disk t ≡ (λ q. nothing) → AreCounted (program_filing settings items).layout (as_read (disk t))
 
 -- ---- what the program is asked for
 
@@ -152,21 +164,26 @@ owed (Script items) replies end = served_text replies end
 module _ (max : ℕ) (Served : List Spelled → List (Reply (List ℕ)) → End → Type 0) where
   -- the input orders commands, they were served up to such an end, and the text is what is then owed
   pub record AnswersScript (job : Job) (IsEnd : End → Type 0) (input text : List ℕ) : Type 0 where
-    -- these are the commands that the input orders
+    -- these are the commands
     pub commands : List Spelled
+    -- the input orders them
     pub ordered : Orders job max input commands
-    -- they were served with these replies, up to this end
+    -- they got these replies
     pub replies : List (Reply (List ℕ))
+    -- this was the end
     pub end : End
+    -- so they were served
     pub served : Served commands replies end
+    -- the end is such a one
     pub ended : IsEnd end
-    -- and this is their text
+    -- and this is the text that is then owed
     pub text_is : text ≡ owed job replies end
 
 -- the input is no script, and the text names its first bad line
 pub record NamesBadLine (job : Job) (max : ℕ) (input text : List ℕ) : Type 0 where
-  -- the line of this number is the first bad one
+  -- this is its number
   pub number : ℕ
+  -- the line of that number is the first bad one
   pub first : IsBadAt job max input number
   -- and the text names it
   pub text_is : text ≡ bad_line_text number
@@ -185,8 +202,9 @@ AnswersInput job max Served error IsUnserved input text =
 pub record HasNoMemory (ended : Ended) (text : List ℕ) : Type 0 where
   -- the status says so
   pub status : ended.status ≡ 6
-  -- no command was begun, and no error is handed out
+  -- no command was begun
   pub marks : ended.marks ≡ []
+  -- no error is handed out
   pub error : ended.error ≡ None
   -- nothing is to be written
   pub nothing : text ≡ []
@@ -194,8 +212,9 @@ pub record HasNoMemory (ended : Ended) (text : List ℕ) : Type 0 where
 -- this text and this status; or nothing, and no memory
 pub record EndsWith (wanted : List ℕ) (code : ℕ) (when : List ℕ) (failure : Option Error) (ended : Ended)
     (text : List ℕ) : Type 0 where
-  -- with these marks, and this error
+  -- these are its marks
   pub marks : ended.marks ≡ when
+  -- this is its error
   pub error : ended.error ≡ failure
   -- the text, or no memory for it
   pub written : ((ended.status ≡ code) × (text ≡ wanted)) ⊎ ((ended.status ≡ 6) × (text ≡ []))
@@ -203,11 +222,13 @@ pub record EndsWith (wanted : List ℕ) (code : ℕ) (when : List ℕ) (failure 
 -- the commands were served, and this is their answer
 pub record AnswersCommands (job : Job) (Served : List Spelled → List (Reply (List ℕ)) → End → Type 0)
     (commands : List Spelled) (ended : Ended) (text : List ℕ) : Type 0 where
-  -- they got these replies, up to this end
+  -- they got these replies
   pub replies : List (Reply (List ℕ))
+  -- this was the end
   pub end : End
+  -- so they were served
   pub served : Served commands replies end
-  -- its error is handed out
+  -- the error of the end is handed out
   pub error : ended.error ≡ error_of end
   -- and this is the text, or there was no memory for it
   pub written : ((ended.status ≡ status_of end) × (text ≡ owed job replies end)) ⊎ ((ended.status ≡ 6) × (text ≡ []))
@@ -249,11 +270,13 @@ pub record AnswersServed {D : Type 0} (settings : Settings) (job : Job) (dev : d
 -- What was written is said where the sink tells it.
 pub record Writes (Input : List ℕ → Type 0) (SinkTells : Type 0) (P : List ℕ → List ℕ → Type 0)
     (Extent : List ℕ → List ℕ → List ℕ → Type 0) (taken_old taken_new : List ℕ) : Type 0 where
-  -- the input, as it was read
+  -- this is the input
   pub input : List ℕ
+  -- so it was read
   pub read : Input input
-  -- the text, as it is owed
+  -- this is the text
   pub text : List ℕ
+  -- it is owed to the input
   pub answers : P input text
   -- so much of it was written
   pub written : SinkTells → Extent text taken_old taken_new
@@ -264,9 +287,11 @@ InFull text old new = new ≡ old ++ text
 
 -- a front of the text was written
 pub record InPart (text old new : List ℕ) : Type 0 where
-  -- the text is the front, and the rest
+  -- this is the front
   pub front : List ℕ
+  -- this is the rest
   pub rest : List ℕ
+  -- they are the text
   pub text_is : text ≡ front ++ rest
   -- so much did the sink take
   pub taken : new ≡ old ++ front
@@ -281,8 +306,9 @@ module _ {D S W : Type 0} (settings : Settings) (words : List (List ℕ)) (ended
   pub record IsUnserved : Type 0 where
     -- the device is as it was
     pub untouched : new ≡ old
-    -- no command was begun, and no error is handed out
+    -- no command was begun
     pub marks : ended.marks ≡ []
+    -- no error is handed out
     pub error : ended.error ≡ None
 
   -- the commands were served, with these marks
@@ -337,21 +363,24 @@ module _ {D S W : Type 0} (settings : Settings) (words : List (List ℕ)) (ended
   pub record Runs : Type 0 where
     -- The status is one of the table.
     pub statuses : ended.status ≤ 7
-    -- 1: exactly where the words ask for no job.
+    -- 1: where it is, the words ask for no job.
     pub usage : ended.status ≡ 1 → AreOfNoForm words
+    -- Where it is another, they ask for one.
     pub form : ended.status ≢ 1 → (job : Job) × AsksFor words job
-    -- 0, and 2 to 7
+    -- 0, and 2 to 7: as the job asks.
     pub asked : (job : Job) → AsksFor words job → RunsJob job
     -- 5, or 4 or 6 in its place: exactly where the commands ended in an error.
     pub has_error : IsSome ended.error → Contains (4 ∷ 5 ∷ 6 ∷ []) ended.status
     -- Of no input more bytes are taken than one more than an input may have.
     pub at_most : input.Tells
         → TakesFront (input.left input_old) (input.left input_new) (λ n. n ≤ 2 ^ 24 + 1)
-    -- Where no script was served nothing was done; with words of another form nothing was read either, and without a
-    -- whole input nothing was written.
+    -- Where no script was served the device is as it was.
     pub unserved : Contains (1 ∷ 2 ∷ 3 ∷ 7 ∷ []) ended.status → IsUnserved
+    -- With words of another form nothing was read either.
     pub unread : ended.status ≡ 1 → input_new ≡ input_old
+    -- Without a whole input nothing was written.
     pub silent : Contains (1 ∷ 3 ∷ 7 ∷ []) ended.status → out_new ≡ out_old
     -- A fault is the device's.
     pub fault : IfSome ended.error (λ e. IsFault e → Rose (dev.faults old) (dev.faults new))
+    -- The device's count of faults never falls.
     pub faults : dev.faults old ≤ dev.faults new

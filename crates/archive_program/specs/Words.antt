@@ -6,14 +6,21 @@ use Rattle.std.specs.Fmt.{decimal}
 -- the words `DIR prunable ITEMS`: an archive in a folder, or in memory where DIR is `-`, with ITEMS indices to a
 -- section, a number from 1 to 1,048,576
 pub record AreWordsFor (words : List (List ℕ)) (items : ℕ) : Type 0 where
-  -- the folder's word, which is not empty
+  -- this is the folder's word
   pub folder : List ℕ
+  -- it is not empty
   pub named : folder ≢ []
   -- these are the words
   pub words_are : words ≡ folder ∷ codes "prunable" ∷ decimal items ∷ []
-  -- and this is the number's range
+  -- the number is at least 1
   pub some : 1 ≤ items
+  -- and no more than 1,048,576
   pub limit : items ≤ 2 ^ 20
+
+-- what looking for such a number finds: it, or that the words ask for none
+abbrev pub FindsItems : List (List ℕ) → Option ℕ → Type 0
+FindsItems words (Some items) = AreWordsFor words items
+FindsItems words None = (items : ℕ) → ¬ AreWordsFor words items
 
 -- What the program is asked for: to serve the script on its input, over an archive where a section has room for so
 -- many indices.
@@ -38,16 +45,18 @@ folder_in (word ∷ words) = if bytes_eq word [] || bytes_eq word (codes "-") th
 pub record IsStatusFor (words : List (List ℕ)) (status : ℕ) : Type 0 where
   -- it is one of the table
   pub known : status ≤ 7
-  -- 1 only where they are of no form, and then 1
+  -- 1 only where they are of no form
   pub usage : status ≡ 1 → AreOfNoForm words
+  -- and then 1
   pub form : AreOfNoForm words → status ≡ 1
 
 -- The same of one that makes a device first: where the words name a folder there may be no memory for it.
 pub record IsStatusIn (words : List (List ℕ)) (status : ℕ) : Type 0 where
   -- it is one of the table
   pub known : status ≤ 7
-  -- 1 only where they are of no form, and then 1, or no memory
+  -- 1 only where they are of no form
   pub usage : status ≡ 1 → AreOfNoForm words
+  -- and then 1, or no memory
   pub form : AreOfNoForm words → (status ≡ 1) ⊎ ((status ≡ 6) × IsSome (folder_in words))
 
 -- the words ask what the program is

@@ -1,7 +1,7 @@
 // The input of the program, read to its end.
-ghost use Rattle.std.specs.Prelude.{◌≡◌, ◌+◌, ◌-◌, ◌^◌, ◌<◌, ◌≤◌, ℕ, true, false, List, [], ◌++◌, length, vec_len, IfOk, IfErr, OnOk};
-ghost use Rattle.blob_device.specs.Counts.{Rose};
-ghost use Rattle.archive_program.specs.Input.{AddsBytes, IsInputCause, TakesFront, TakesAll, TakesPiece};
+ghost use Rattle.std.specs.Prelude.{◌≡◌, ◌<◌, ◌≤◌, length, vec_len, IfOk, IfErr};
+ghost use Rattle.archives.specs.Changes.{outcome};
+ghost use Rattle.archive_program.specs.Input.{AddsBytes, IsInputCause, ReadsInput, TakesPiece};
 ghost use Rattle.archive_program.specs.declared.input.InputError.TheVariants.{Mem};
 
 use blob_device::{IoFault, Source};
@@ -34,16 +34,7 @@ impl From<AllocError> for InputError {
 
 /// Reads an input to its end. At most [`INPUT_LIMIT`] + 1 bytes are taken.
 pub fn read_input<S: Source>(alloc: Global, input: &mut S) -> Result<Vec<u8>, InputError>
-    ensures whole { S.Tells → IfOk result (λ bytes. TakesAll (S.left input.old)
-        (S.left input.new) bytes.items) }
-    ensures limit { IfOk result (λ bytes. length bytes.items ≤ INPUT_LIMIT) }
-    ensures cause { IfErr result (IsInputCause (S.faults input.old) (S.faults input.new)) }
-    ensures within { S.Tells → result ≡ Err InputError.Fault
-        → TakesFront (S.left input.old) (S.left input.new) (λ n. n ≤ INPUT_LIMIT) }
-    ensures too_long { S.Tells → result ≡ Err InputError.TooLong
-        → TakesFront (S.left input.old) (S.left input.new) (λ n. n ≡ INPUT_LIMIT + 1) }
-    ensures at_most { S.Tells → TakesFront (S.left input.old) (S.left input.new)
-        (λ n. n ≤ INPUT_LIMIT + 1) }
+    ensures { ReadsInput S.Source input.old input.new (outcome (λ bytes. bytes.items) result) }
 {
     let mut piece = zeros(alloc, PIECE)?;
     let mut bytes = Vec::new(alloc);

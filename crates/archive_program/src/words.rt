@@ -1,6 +1,6 @@
 // The words with which the program is called.
-ghost use Rattle.std.specs.Prelude.{ℕ, map, string_bytes, IfNone, IfSome};
-ghost use Rattle.archive_program.specs.Words.{AreWordsFor};
+ghost use Rattle.std.specs.Prelude.{map, string_bytes};
+ghost use Rattle.archive_program.specs.Words.{FindsItems};
 
 use archive_service::index_of;
 
@@ -9,9 +9,7 @@ pub const ITEMS_LIMIT: u64 = 1 << 20;
 
 /// The number of indices per section that the words `DIR prunable ITEMS` ask for.
 pub fn items_of(words: &[String]) -> Option<u64>
-    ensures asked { IfSome result (AreWordsFor (map string_bytes words.now)) }
-    ensures refused { IfNone result ((items : ℕ)
-        → ¬ AreWordsFor (map string_bytes words.now) items) }
+    ensures { FindsItems (map string_bytes words.now) result }
 {
     let [folder, kind, items] = words else {
         return None;

@@ -1,5 +1,8 @@
-use Rattle.std.proofs.Common.{◌≡◌, Ok, subst, arith}
-use Rattle.archive_program.proofs.InputLemmas.{taken_more, taken_all, taken_at_most, later_cause}
+use Rattle.std.proofs.Common.{◌≡◌, Bool, Result, Ok, Err, ap, subst, arith}
+use Rattle.blob_device.proofs.Results.{err_of}
+use Rattle.archive_program.specs.declared.input.InputError.{InputError}
+use Rattle.archive_program.specs.declared.input.InputError.TheVariants.{Mem}
+use Rattle.archive_program.proofs.InputLemmas.{not_begun, taken_more, taken_all, taken_at_most, taken_before, later_cause}
 use Rattle.archive_program.proofs.input.read_input.Goals as goal
 
 pub pieces-preserved : goal.pieces-preserved
@@ -10,32 +13,36 @@ pieces-preserved g c = record {
   told = λ t. taken_more _ _ _ _ _ (c.pieces.invariant.told t) _ _ c.in-Ok-true.is (c.read_piece.ensures.told t);
 }
 
-pub returns-in-Ok-false-clause-whole : goal.returns-in-Ok-false-clause-whole
-returns-in-Ok-false-clause-whole g c t =
-    taken_all _ _ _ _ _ (c.pieces.invariant.told t) _ (subst (λ more. c.read_piece.result ≡ Ok more) c.in-Ok-false.field-0-test c.in-Ok-false.is) (omega (arith, c.pieces-test.true)) (c.read_piece.ensures.told t)
+-- ---- the ends
 
-pub returns-in-Ok-false-clause-at_most : goal.returns-in-Ok-false-clause-at_most
-returns-in-Ok-false-clause-at_most g c t = taken_at_most _ _ _ _ _ (c.pieces.invariant.told t) _ (c.read_piece.ensures.told t)
+pub returns-in_err-piece : goal.returns-in_err-piece
+returns-in_err-piece g c = not_begun g.S.Source c.args.input.now _ _ (err_of _ Mem c.from_residual.ensures.1)
 
-pub returns-in-Err-clause-cause : goal.returns-in-Err-clause-cause
-returns-in-Err-clause-cause g c = later_cause _ _ _ _ c.pieces.invariant.faults c.in-Err.ensures.cause
-
-pub returns-in-Err-clause-at_most : goal.returns-in-Err-clause-at_most
-returns-in-Err-clause-at_most g c t = taken_at_most _ _ _ _ _ (c.pieces.invariant.told t) _ (c.read_piece.ensures.told t)
-
-pub returns-clause-too_long : goal.returns-clause-too_long
-returns-clause-too_long g c t e = record {
-  taken = c.pieces.bytes.items;
-  number = omega (arith, c.pieces.invariant.bound);
-  rest = c.pieces.invariant.told t;
+pub returns-in-Ok-false : goal.returns-in-Ok-false
+returns-in-Ok-false g c = record {
+  at_most = λ t. taken_at_most _ _ _ _ _ (c.pieces.invariant.told t) _ (c.read_piece.ensures.told t);
+  ends = record {
+    whole = λ t. taken_all _ _ _ _ _ (c.pieces.invariant.told t) _ (subst (λ more. c.read_piece.result ≡ Ok more) c.in-Ok-false.field-0-test c.in-Ok-false.is) (omega (arith, c.pieces-test.true)) (c.read_piece.ensures.told t);
+    limit = omega (arith, c.pieces-test.true, c.in-Ok-false.ensures.adds.ended c.in-Ok-false.field-0-test);
+  };
 }
 
-pub returns-clause-at_most : goal.returns-clause-at_most
-returns-clause-at_most g c t = record {
-  taken = c.pieces.bytes.items;
-  number = omega (arith, c.pieces.invariant.bound);
-  rest = c.pieces.invariant.told t;
+pub returns-in-Err : goal.returns-in-Err
+returns-in-Err g c = record {
+  at_most = λ t. taken_at_most _ _ _ _ _ (c.pieces.invariant.told t) _ (c.read_piece.ensures.told t);
+  ends = record {
+    cause = later_cause _ _ _ _ c.pieces.invariant.faults c.in-Err.ensures.cause;
+    within = λ t is. taken_before _ _ _ _ _ (c.pieces.invariant.told t) c.in-Err.e is (omega (arith, c.pieces-test.true)) (c.in-Err.ensures.told t);
+    too_long = λ t is. absurd (c.in-Err.ensures.adds.in_limit (let err : InputError → Result Bool InputError = λ x. Err x in ap err is));
+  };
 }
 
-pub returns-in-Ok-false-clause-limit : goal.returns-in-Ok-false-clause-limit
-returns-in-Ok-false-clause-limit g c = omega (arith, c.pieces-test.true, c.in-Ok-false.ensures.adds.ended c.in-Ok-false.field-0-test)
+pub returns : goal.returns
+returns g c = record {
+  at_most = λ t. record { taken = c.pieces.bytes.items; number = omega (arith, c.pieces.invariant.bound); rest = c.pieces.invariant.told t };
+  ends = record {
+    cause = tt;
+    within = λ t e. cc;
+    too_long = λ t e. record { taken = c.pieces.bytes.items; number = omega (arith, c.pieces.invariant.bound); rest = c.pieces.invariant.told t };
+  };
+}

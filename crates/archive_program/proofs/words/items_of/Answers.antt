@@ -4,8 +4,8 @@ use Rattle.archive_program.proofs.WordsLemmas.{three_words, asks_it, same_text, 
 use Rattle.archive_program.proofs.words.items_of.Goals as goal
 use Rattle.archive_program.proofs.words.items_of.Goals.{then-items-lt1-via-then-items-lt1, then-items-lt1-via-else-items-lt1+then-items-gt-ITEMS_LIMIT}
 
-pub returns-then-items-lt1-clause-refused : goal.returns-then-items-lt1-clause-refused
-returns-then-items-lt1-clause-refused c items asks =
+pub returns-then-items-lt1 : goal.returns-then-items-lt1
+returns-then-items-lt1 c items asks =
     let words = three_words string_bytes c.args.words.now c.folder-item.result c.kind-item.result c.items-item.result
     (omega (arith, c.in-len3.len_at_least, c.in-len3.len_below)) c.folder-item.is c.kind-item.is c.items-item.is in
     let one : c.in_ok-items.items ≡ items = asks_it _ _ _ _ _ _ words c.in_ok-items.ensures.0 (sym c.as_bytes.ensures.value ∙ c.in_ok-items.ensures.1) asks in
@@ -14,8 +14,8 @@ returns-then-items-lt1-clause-refused c items asks =
       | then-items-lt1-via-else-items-lt1+then-items-gt-ITEMS_LIMIT w ↦ omega (arith, w.if-items-gt-ITEMS_LIMIT.true, asks.limit, one)
     ]
 
-pub returns-clause-asked : goal.returns-clause-asked
-returns-clause-asked c =
+pub returns : goal.returns
+returns c =
     let words = three_words string_bytes c.args.words.now c.folder-item.result c.kind-item.result c.items-item.result
     (omega (arith, c.in-len3.len_at_least, c.in-len3.len_below)) c.folder-item.is c.kind-item.is c.items-item.is in
     let kind = sym c.as_str.ensures.value ∙ same_text _ (codes "prunable") c.if-ne.ensures in
