@@ -2,7 +2,7 @@
 use crate::alike;
 use crate::change::{Change, changes_of, make_all};
 use crate::said::Said;
-use ordinal_store::{RMap, RMapError};
+use ordinal_store::{BitMap, RMap, RMapError};
 use scenario_text::Step;
 use std::alloc::Global;
 
@@ -13,6 +13,7 @@ pub fn obeyed(alloc: Global, set: &mut RMap, step: &Step) -> Result<Said, RMapEr
             Some(changes) => changed(alloc, set, step.word(), &changes),
             None => Ok(Said::Refused("these are no changes")),
         },
+        "bits" => listed(alloc, step),
         _ => asked(alloc, set, step),
     }
 }
@@ -62,4 +63,23 @@ fn asked(alloc: Global, set: &RMap, step: &Step) -> Result<Said, RMapError> {
         }
         _ => Ok(Said::Refused("no such command")),
     }
+}
+
+/// A list of bits, after the changes that are told.
+fn listed(alloc: Global, step: &Step) -> Result<Said, RMapError> {
+    let words = step.rest().get(1..).unwrap_or(&[]);
+    let Some(changes) = changes_of(alloc, words)? else {
+        return Ok(Said::Refused("these are no changes"));
+    };
+    let mut bits = BitMap::zeroes(alloc, step.number(0).unwrap_or(0))?;
+    for change in changes.iter() {
+        let (at, bit) = match *change {
+            Change::Put(at) => (at, true),
+            Change::Take(at, _) => (at, false),
+        };
+        if at < bits.len() {
+            bits.set(at, bit);
+        }
+    }
+    Ok(Said::Bits(bits))
 }

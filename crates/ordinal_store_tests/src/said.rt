@@ -1,6 +1,6 @@
 // What a command says.
 use crate::change::Change;
-use ordinal_store::{Numbers, RMapError};
+use ordinal_store::{BitMap, Numbers, RMapError};
 use std::alloc::{AllocError, Global};
 
 /// The answer of a command.
@@ -16,6 +16,7 @@ pub enum Said {
     Gap(Option<u64>, Option<u64>),
     Ranges(Vec<(u64, u64)>),
     Numbers(Numbers),
+    Bits(BitMap),
     /// The range set and the plain one answer otherwise about a number.
     DifferAt(u64),
     /// They have other ranges behind a change.
@@ -37,6 +38,7 @@ pub fn text_of(alloc: Global, answer: &Result<Said, RMapError>) -> Result<String
         Ok(Said::Gap(end, next)) => gap_text(alloc, *end, *next),
         Ok(Said::Ranges(ranges)) => ranges_text(alloc, ranges),
         Ok(Said::Numbers(numbers)) => numbers_text(alloc, numbers.as_slice()),
+        Ok(Said::Bits(bits)) => bits_text(alloc, bits),
         Ok(Said::DifferAt(number)) => format!(in alloc; "differ at {number}"),
         Ok(Said::DifferAfter(Change::Put(number))) => format!(in alloc; "differ after +{number}"),
         Ok(Said::DifferAfter(Change::Take(start, end))) => {
@@ -80,5 +82,20 @@ fn numbers_text(alloc: Global, numbers: &[u64]) -> Result<String, AllocError> {
     if text.is_empty() {
         text.push_str("none")?;
     }
+    Ok(text)
+}
+
+/// The text of bits: a digit for each, and how many are set.
+fn bits_text(alloc: Global, bits: &BitMap) -> Result<String, AllocError> {
+    let mut text = String::new(alloc);
+    for i in 0..bits.len() {
+        let digit = if bits.get(i) { '1' } else { '0' };
+        text.push(digit)?;
+    }
+    if text.is_empty() {
+        text.push('-')?;
+    }
+    let count = bits.count_ones();
+    write!(&mut text, " {count}")?;
     Ok(text)
 }

@@ -1,0 +1,103 @@
+// What a store has to hold, and what of it each crash has to leave.
+use crate::asked::Asked;
+use crate::plainly::{Slots, slot_of};
+use std::alloc::{AllocError, Global};
+use std::collections::BTreeMap;
+
+/// A call that changes the store.
+#[derive(Drop)]
+pub enum Call {
+    Open(Asked),
+    /// Puts the value at the index.
+    Put(u64, u64),
+    Sync,
+    Prune(u64),
+    Destroy,
+}
+
+/// A map, and the part of it that was synced and not put since.
+#[derive(Drop)]
+pub struct Model {
+    /// The slots that the store holds.
+    pub held: Slots,
+    /// Those that every crash has to leave.
+    pub owed: Slots,
+}
+
+impl Call {
+    // Whether the call leaves alone what stands at the index.
+    fn spares(&self, items: u64, index: u64) -> bool {
+        match self {
+            Call::Open(asked) => asked.wants(items, index),
+            Call::Put(at, _) => *at != index,
+            Call::Sync => true,
+            Call::Prune(min) => min.checked_div(items) <= index.checked_div(items),
+            Call::Destroy => false,
+        }
+    }
+
+    // The slots that the call leaves alone.
+    fn spared(&self, alloc: Global, items: u64, slots: &Slots) -> Result<Slots, AllocError> {
+        let mut left = BTreeMap::new(alloc);
+        for (index, slot) in slots.iter() {
+            if self.spares(items, *index) {
+                left.insert(*index, *slot)?;
+            }
+        }
+        Ok(left)
+    }
+}
+
+impl Model {
+    /// Nothing is open over a disk that has these slots, settled.
+    pub fn over(alloc: Global, slots: Slots) -> Model {
+        Model {
+            held: BTreeMap::new(alloc),
+            owed: slots,
+        }
+    }
+
+    /// The call begins: what it names is no longer owed.
+    pub fn begin(&mut self, alloc: Global, items: u64, call: &Call) -> Result<(), AllocError> {
+        self.owed = call.spared(alloc, items, &self.owed)?;
+        Ok(())
+    }
+
+    /// The call ended well, over a disk that had these slots when it began.
+    pub fn end(
+        &mut self,
+        alloc: Global,
+        items: u64,
+        call: &Call,
+        slots: &Slots,
+    ) -> Result<(), AllocError> {
+        match call {
+            Call::Open(_) => {
+                self.held = call.spared(alloc, items, slots)?;
+                self.owed = copy_of(alloc, &self.held)?;
+            }
+            Call::Put(index, value) => {
+                self.held.insert(*index, slot_of(*value))?;
+            }
+            Call::Sync => self.owed = copy_of(alloc, &self.held)?,
+            Call::Prune(_) | Call::Destroy => {
+                self.held = call.spared(alloc, items, &self.held)?;
+            }
+        }
+        Ok(())
+    }
+
+    /// The call was refused, and the store is gone.
+    pub fn give_up(&mut self, alloc: Global) {
+        self.held = BTreeMap::new(alloc);
+    }
+}
+
+// The same slots.
+fn copy_of(alloc: Global, slots: &Slots) -> Result<Slots, AllocError> {
+    let mut copy = BTreeMap::new(alloc);
+    for (index, slot) in slots.iter() {
+        copy.insert(*index, *slot)?;
+    }
+    Ok(copy)
+}

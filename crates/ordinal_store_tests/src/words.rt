@@ -1,0 +1,74 @@
+// The words of a step over a store.
+use crate::asked::asked_in;
+use crate::model::Call;
+use blob_device::CrashChoice;
+use scenario_text::Step;
+use std::alloc::{AllocError, Global};
+
+/// What kind of command a word names.
+#[derive(Clone, Copy)]
+pub enum Family {
+    /// It looks at the device.
+    Look,
+    /// It sets when the device fails.
+    Arm,
+    /// It makes another device, or another configuration. Nothing is open behind it.
+    Remake,
+    /// It makes a call that changes the store.
+    Change,
+    /// It reads a value of the store, or asks for indices.
+    Ask,
+    /// It begins a whole run.
+    Run,
+    /// It names what a crash may leave.
+    Leaves,
+}
+
+pub fn family_of(word: &str) -> Family {
+    match word {
+        "calls" | "faults" | "shows" | "kept" => Family::Look,
+        "fail" | "fuse" => Family::Arm,
+        "store" | "blob" | "damage" | "crash" | "close" => Family::Remake,
+        "open" | "put" | "sync" | "prune" | "destroy" => Family::Change,
+        "each-call-stops" | "each-call-stops-twice" | "each-call-fails" => Family::Run,
+        "leaves" => Family::Leaves,
+        _ => Family::Ask,
+    }
+}
+
+/// The number at this place behind the first word; 0 where no number stands there.
+pub fn number(step: &Step, at: usize) -> u64 {
+    step.number(at).unwrap_or(0)
+}
+
+/// The name that a word stands for: a section's where it is a number, and else its letters.
+pub fn name_in(alloc: Global, word: &str) -> Result<Vec<u8>, AllocError> {
+    match word.parse::<u64>() {
+        Ok(section) => section.to_be_bytes().as_slice().to_vec(alloc),
+        Err(_) => word.as_bytes().to_vec(alloc),
+    }
+}
+
+/// The call that a step makes.
+pub fn call_in(alloc: Global, step: &Step) -> Result<Option<Call>, AllocError> {
+    match (step.word(), step.number(0), step.number(1)) {
+        ("open", _, _) => match asked_in(alloc, step.rest())? {
+            Some(asked) => Ok(Some(Call::Open(asked))),
+            None => Ok(None),
+        },
+        ("put", Some(index), Some(value)) => Ok(Some(Call::Put(index, value))),
+        ("sync", _, _) => Ok(Some(Call::Sync)),
+        ("prune", Some(min), _) => Ok(Some(Call::Prune(min))),
+        ("destroy", _, _) => Ok(Some(Call::Destroy)),
+        _ => Ok(None),
+    }
+}
+
+/// The crash that a step names.
+pub fn choice_in(step: &Step) -> CrashChoice {
+    match step.argument(0) {
+        "settled" => CrashChoice::Settled,
+        "as-read" => CrashChoice::AsRead,
+        _ => CrashChoice::Mixed(number(step, 1)),
+    }
+}
