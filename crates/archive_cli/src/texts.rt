@@ -21,14 +21,22 @@ A script has one command a line, and each gets one line of reply:
   putstart INDEX KEY VALUE  the same, by a sync that is started: ok
   get INDEX, getk KEY       value VALUE, or none
   has INDEX, hask KEY       yes or no
+  gap INDEX                 gap END NEXT: the end of the run of taken indices
+                            that holds INDEX, and the start of the next; or -
+  missing INDEX COUNT       items and the least COUNT indices from INDEX on
+                            that are not taken, below one that is
+  ranges, rangesfrom INDEX  ranges and each run of taken indices as FIRST-LAST;
+                            of the second those that end at INDEX or later
+  first, last               index and the least or the greatest taken index,
+                            or none
   sync, start               make all that was put durable: ok
   reopen                    give up what is not durable yet, but for what was
                             written, and open the archive again: ok
 
 INDEX is a decimal number below 2^64, KEY has 16 lower-case hexadecimal digits,
 and VALUE is lower-case hexadecimal of at most 65536 bytes, or - for the empty
-value. What was put and not synced is lost when the program ends, but for what
-was written by then.
+value. COUNT is at most 65536. What was put and not synced is lost when the
+program ends, but for what was written by then.
 
 status: 0 done, 1 usage, 2 bad script, 3 read fault, 4 write fault, 5 store
         error, 6 no memory, 7 input longer than 16777216 bytes";

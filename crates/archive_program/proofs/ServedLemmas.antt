@@ -43,9 +43,9 @@ same_filing settings items (Prunable cfg) is = one_filing (program_filing settin
 -- ---- what can be said may be put
 
 may_put : (max : ℕ) (command : asking.Command Key8 (List ℕ)) → CanBeSaid max (asked key8_bytes (λ v. v) command) → PutsOnly (λ v. length v ≤ max) command
-may_put max (ask.Put i k v) said = elim said [ inl lone ↦ absurd lone | inr longer ↦ elim longer [ inl two ↦ absurd two | inr put ↦ put.2.0 ] ]
-may_put max (ask.PutSync i k v) said = elim said [ inl lone ↦ absurd lone | inr longer ↦ elim longer [ inl two ↦ absurd two | inr put ↦ put.2.0 ] ]
-may_put max (ask.PutStart i k v) said = elim said [ inl lone ↦ absurd lone | inr longer ↦ elim longer [ inl two ↦ absurd two | inr put ↦ put.2.0 ] ]
+may_put max (ask.Put i k v) said = elim said [ inl lone ↦ absurd lone | inr longer ↦ elim longer [ inl two ↦ absurd two | inr more ↦ elim more [ inl three ↦ absurd three | inr put ↦ put.2.0 ] ] ]
+may_put max (ask.PutSync i k v) said = elim said [ inl lone ↦ absurd lone | inr longer ↦ elim longer [ inl two ↦ absurd two | inr more ↦ elim more [ inl three ↦ absurd three | inr put ↦ put.2.0 ] ] ]
+may_put max (ask.PutStart i k v) said = elim said [ inl lone ↦ absurd lone | inr longer ↦ elim longer [ inl two ↦ absurd two | inr more ↦ elim more [ inl three ↦ absurd three | inr put ↦ put.2.0 ] ] ]
 may_put max command said = tt
 
 all_may_put : (max : ℕ) (commands : List (asking.Command Key8 (List ℕ))) → AllByRecursion (CanBeSaid max) (map (asked key8_bytes (λ v. v)) commands) → AllByRecursion (PutsOnly (λ v. length v ≤ max)) commands

@@ -11,9 +11,9 @@ use Rattle.std.proofs.lemmas.Fmt.{decimal_is_IsNumeral}
 use Rattle.hex.specs.Hex.{decode_of, encode_lower}
 use Rattle.hex.specs.declared.error.FromHexError.{FromHexError}
 use Rattle.hex.proofs.HexLemmas.{decode_of-encode_lower}
-use Rattle.archives.specs.Commands.{Put, PutSync, PutStart, Get, GetKey, Has, HasKey, Sync, Start, Reopen, Destroy}
+use Rattle.archives.specs.Commands.{Put, PutSync, PutStart, Get, GetKey, Has, HasKey, Gap, Missing, Ranges, RangesFrom, First, Last, Sync, Start, Reopen, Destroy}
 use Rattle.archive_service.specs.Texts.{Spelled, line_of, value_text, words_of}
-use Rattle.archive_service.specs.Script.{CanBeSaid, IsCommandOf, IsIndex, IsKey, IsLone, IsLongOf, IsReading, IsRecord, IsShort, IsValue, Record, record_text}
+use Rattle.archive_service.specs.Script.{CanBeSaid, IsCommandOf, IsCounted, IsDouble, IsIndex, IsKey, IsLone, IsLongOf, IsReading, IsRecord, IsShort, IsValue, Record, counted_text, record_text}
 use Rattle.archive_service.proofs.WordLemmas.{Lacks, all_append, are_bytes, cut_alone, cut_never, cut_once, decimal_lacks, encode_lacks, value_lacks}
 
 -- ---- words that are joined
@@ -76,6 +76,9 @@ lone_count : (command : Spelled) → IsLone command → length (words_of command
 lone_count Sync said = refl
 lone_count Start said = refl
 lone_count Reopen said = refl
+lone_count Ranges said = refl
+lone_count First said = refl
+lone_count Last said = refl
 lone_count command said = absurd said
 
 short_count : (command : Spelled) → IsShort command → length (words_of command) ≡ 2
@@ -83,7 +86,13 @@ short_count (Get index) said = refl
 short_count (Has index) said = refl
 short_count (GetKey key) said = refl
 short_count (HasKey key) said = refl
+short_count (Gap index) said = refl
+short_count (RangesFrom index) said = refl
 short_count command said = absurd said
+
+double_count : (command : Spelled) → IsDouble command → length (words_of command) ≡ 3
+double_count (Missing index count) said = refl
+double_count command said = absurd said
 
 long_count : (max : ℕ) (command : Spelled) → IsLongOf max command → length (words_of command) ≡ 4
 long_count max (Put index key value) said = refl
@@ -96,6 +105,9 @@ module _ (c : ℕ) (low : c < 45) where
   lone_lacks Sync said = (name_lacks c (omega (arith, low)) (codes "sync") refl, tt)
   lone_lacks Start said = (name_lacks c (omega (arith, low)) (codes "start") refl, tt)
   lone_lacks Reopen said = (name_lacks c (omega (arith, low)) (codes "reopen") refl, tt)
+  lone_lacks Ranges said = (name_lacks c (omega (arith, low)) (codes "ranges") refl, tt)
+  lone_lacks First said = (name_lacks c (omega (arith, low)) (codes "first") refl, tt)
+  lone_lacks Last said = (name_lacks c (omega (arith, low)) (codes "last") refl, tt)
   lone_lacks command said = absurd said
 
   index_lacks : (name : List ℕ) → is_name name ≡ true → (index : ℕ) → IsIndex index → AllByRecursion (Lacks c) (name ∷ decimal index ∷ [])
@@ -109,7 +121,14 @@ module _ (c : ℕ) (low : c < 45) where
   short_lacks (Has index) said = index_lacks (codes "has") refl index said
   short_lacks (GetKey key) said = key_lacks (codes "getk") refl key said
   short_lacks (HasKey key) said = key_lacks (codes "hask") refl key said
+  short_lacks (Gap index) said = index_lacks (codes "gap") refl index said
+  short_lacks (RangesFrom index) said = index_lacks (codes "rangesfrom") refl index said
   short_lacks command said = absurd said
+
+  double_lacks : (command : Spelled) → IsDouble command → AllByRecursion (Lacks c) (words_of command)
+  double_lacks (Missing index count) said =
+      (name_lacks c (omega (arith, low)) (codes "missing") refl, (decimal_lacks c index (omega (arith, low)) said.0, (decimal_lacks c count (omega (arith, low)) (omega (arith, said.1)), tt)))
+  double_lacks command said = absurd said
 
   module _ (max : ℕ) where
     record_lacks : (name : List ℕ) → is_name name ≡ true → (index : ℕ) (key value : List ℕ) → IsRecord max (index, key, value)
@@ -126,12 +145,14 @@ module _ (c : ℕ) (low : c < 45) where
     words_lack : (command : Spelled) → CanBeSaid max command → AllByRecursion (Lacks c) (words_of command)
     words_lack command (inl lone) = lone_lacks command lone
     words_lack command (inr (inl short)) = short_lacks command short
-    words_lack command (inr (inr long)) = long_lacks command long
+    words_lack command (inr (inr (inl double))) = double_lacks command double
+    words_lack command (inr (inr (inr long))) = long_lacks command long
 
 words_some : (max : ℕ) (command : Spelled) → CanBeSaid max command → 0 < length (words_of command)
 words_some max command (inl lone) = omega (arith, lone_count command lone)
 words_some max command (inr (inl short)) = omega (arith, short_count command short)
-words_some max command (inr (inr long)) = omega (arith, long_count max command long)
+words_some max command (inr (inr (inl double))) = omega (arith, double_count command double)
+words_some max command (inr (inr (inr long))) = omega (arith, long_count max command long)
 
 pub line_lacks : (max c : ℕ) → c < 32 → (command : Spelled) → CanBeSaid max command → Lacks c (line_of command)
 unfolding line_of
@@ -166,6 +187,9 @@ lone_named name =
     if bytes_eq name (codes "sync") then Sync
     else if bytes_eq name (codes "start") then Start
     else if bytes_eq name (codes "reopen") then Reopen
+    else if bytes_eq name (codes "ranges") then Ranges
+    else if bytes_eq name (codes "first") then First
+    else if bytes_eq name (codes "last") then Last
     else Destroy
 
 abbrev pub short_named : List ℕ → List ℕ → Spelled
@@ -174,6 +198,13 @@ short_named name word =
     else if bytes_eq name (codes "has") then Has (number_in word)
     else if bytes_eq name (codes "getk") then GetKey (bytes_in word)
     else if bytes_eq name (codes "hask") then HasKey (bytes_in word)
+    else if bytes_eq name (codes "gap") then Gap (number_in word)
+    else if bytes_eq name (codes "rangesfrom") then RangesFrom (number_in word)
+    else Destroy
+
+abbrev double_named : List ℕ → List ℕ → List ℕ → Spelled
+double_named name first second =
+    if bytes_eq name (codes "missing") then Missing (number_in first) (number_in second)
     else Destroy
 
 abbrev long_named : List ℕ → ℕ → List ℕ → List ℕ → Spelled
@@ -186,6 +217,7 @@ long_named name index key value =
 abbrev said_by : List (List ℕ) → Spelled
 said_by (name ∷ []) = lone_named name
 said_by (name ∷ word ∷ []) = short_named name word
+said_by (name ∷ first ∷ second ∷ []) = double_named name first second
 said_by (name ∷ index ∷ key ∷ value ∷ []) = long_named name (number_in index) (bytes_in key) (bytes_in value)
 said_by words = Destroy
 
@@ -193,6 +225,9 @@ lone_again : (command : Spelled) → IsLone command → said_by (words_of comman
 lone_again Sync said = refl
 lone_again Start said = refl
 lone_again Reopen said = refl
+lone_again Ranges said = refl
+lone_again First said = refl
+lone_again Last said = refl
 lone_again command said = absurd said
 
 short_again : (command : Spelled) → IsShort command → said_by (words_of command) ≡ command
@@ -200,7 +235,13 @@ short_again (Get index) said = ap Get (number_again index said)
 short_again (Has index) said = ap Has (number_again index said)
 short_again (GetKey key) said = ap GetKey (key_again key said)
 short_again (HasKey key) said = ap HasKey (key_again key said)
+short_again (Gap index) said = ap Gap (number_again index said)
+short_again (RangesFrom index) said = ap RangesFrom (number_again index said)
 short_again command said = absurd said
+
+double_again : (command : Spelled) → IsDouble command → said_by (words_of command) ≡ command
+double_again (Missing index count) said = rw (number_again index said.0, number_again count (omega (arith, said.1))) refl
+double_again command said = absurd said
 
 record_again : (max : ℕ) (make : ℕ → List ℕ → List ℕ → Spelled) (index : ℕ) (key value : List ℕ) → IsRecord max (index, key, value)
     → make (number_in (decimal index)) (bytes_in (encode_lower key)) (bytes_in (value_text value)) ≡ make index key value
@@ -215,7 +256,8 @@ long_again max command said = absurd said
 again : (max : ℕ) (command : Spelled) → CanBeSaid max command → said_by (words_of command) ≡ command
 again max command (inl lone) = lone_again command lone
 again max command (inr (inl short)) = short_again command short
-again max command (inr (inr long)) = long_again max command long
+again max command (inr (inr (inl double))) = double_again command double
+again max command (inr (inr (inr long))) = long_again max command long
 
 -- a line says one command
 pub line_injective : (max : ℕ) (a b : Spelled) → CanBeSaid max a → CanBeSaid max b → line_of a ≡ line_of b → a ≡ b
@@ -226,12 +268,16 @@ line_injective max a b ha hb e =
 
 -- ---- one word
 
-pub lone_refused : (word : List ℕ) → word ≢ codes "sync" → word ≢ codes "start" → word ≢ codes "reopen" → (command : Spelled) → IsLone command → word ≢ line_of command
+pub lone_refused : (word : List ℕ) → word ≢ codes "sync" → word ≢ codes "start" → word ≢ codes "reopen" → word ≢ codes "ranges" → word ≢ codes "first" → word ≢ codes "last"
+    → (command : Spelled) → IsLone command → word ≢ line_of command
 unfolding line_of
-lone_refused word sync start reopen Sync said = sync
-lone_refused word sync start reopen Start said = start
-lone_refused word sync start reopen Reopen said = reopen
-lone_refused word sync start reopen command said = absurd said
+lone_refused word sync start reopen ranges first last Sync said = sync
+lone_refused word sync start reopen ranges first last Start said = start
+lone_refused word sync start reopen ranges first last Reopen said = reopen
+lone_refused word sync start reopen ranges first last Ranges said = ranges
+lone_refused word sync start reopen ranges first last First said = first
+lone_refused word sync start reopen ranges first last Last said = last
+lone_refused word sync start reopen ranges first last command said = absurd said
 
 -- no other command is said by one word
 pub lone_only : (max : ℕ) (word : List ℕ) → Lacks 32 word → (command : Spelled) → CanBeSaid max command → word ≡ line_of command → IsLone command
@@ -240,8 +286,11 @@ lone_only max word lacks command (inl lone) e = lone
 lone_only max word lacks command (inr (inl short)) e =
     let words = joined_once 32 (word ∷ []) (words_of command) (omega arith) (words_some max command (inr (inl short))) (lacks, tt) (short_lacks 32 (lit< tt) command short) e in
     absurd (omega (arith, ap length words, short_count command short))
-lone_only max word lacks command (inr (inr long)) e =
-    let words = joined_once 32 (word ∷ []) (words_of command) (omega arith) (words_some max command (inr (inr long))) (lacks, tt) (long_lacks 32 (lit< tt) max command long) e in
+lone_only max word lacks command (inr (inr (inl double))) e =
+    let words = joined_once 32 (word ∷ []) (words_of command) (omega arith) (words_some max command (inr (inr (inl double)))) (lacks, tt) (double_lacks 32 (lit< tt) command double) e in
+    absurd (omega (arith, ap length words, double_count command double))
+lone_only max word lacks command (inr (inr (inr long))) e =
+    let words = joined_once 32 (word ∷ []) (words_of command) (omega arith) (words_some max command (inr (inr (inr long)))) (lacks, tt) (long_lacks 32 (lit< tt) max command long) e in
     absurd (omega (arith, ap length words, long_count max command long))
 
 -- and none of those by more words
@@ -255,13 +304,15 @@ short_words : (name word : List ℕ) (command : Spelled) → IsShort command →
 unfolding line_of
 short_words name word command said e = two_words 32 name word (words_of command) (short_count command said) (short_lacks 32 (lit< tt) command said) e
 
-pub short_unnamed : (name word : List ℕ) → name ≢ codes "get" → name ≢ codes "has" → name ≢ codes "getk" → name ≢ codes "hask"
+pub short_unnamed : (name word : List ℕ) → name ≢ codes "get" → name ≢ codes "has" → name ≢ codes "getk" → name ≢ codes "hask" → name ≢ codes "gap" → name ≢ codes "rangesfrom"
     → (command : Spelled) → IsShort command → name ++ 32 ∷ word ≢ line_of command
-short_unnamed name word get has getk hask (Get index) said e = get (sym (ap first_of (short_words name word (Get index) said e)))
-short_unnamed name word get has getk hask (Has index) said e = has (sym (ap first_of (short_words name word (Has index) said e)))
-short_unnamed name word get has getk hask (GetKey key) said e = getk (sym (ap first_of (short_words name word (GetKey key) said e)))
-short_unnamed name word get has getk hask (HasKey key) said e = hask (sym (ap first_of (short_words name word (HasKey key) said e)))
-short_unnamed name word get has getk hask command said e = absurd said
+short_unnamed name word get has getk hask gap rangesfrom (Get index) said e = get (sym (ap first_of (short_words name word (Get index) said e)))
+short_unnamed name word get has getk hask gap rangesfrom (Has index) said e = has (sym (ap first_of (short_words name word (Has index) said e)))
+short_unnamed name word get has getk hask gap rangesfrom (GetKey key) said e = getk (sym (ap first_of (short_words name word (GetKey key) said e)))
+short_unnamed name word get has getk hask gap rangesfrom (HasKey key) said e = hask (sym (ap first_of (short_words name word (HasKey key) said e)))
+short_unnamed name word get has getk hask gap rangesfrom (Gap index) said e = gap (sym (ap first_of (short_words name word (Gap index) said e)))
+short_unnamed name word get has getk hask gap rangesfrom (RangesFrom index) said e = rangesfrom (sym (ap first_of (short_words name word (RangesFrom index) said e)))
+short_unnamed name word get has getk hask gap rangesfrom command said e = absurd said
 
 -- the command of this name is made of what its one word reads as
 pub record IsNamed {A : Type 0} (may_be : A → Type 0) (text_of : A → List ℕ) (read : List ℕ → A) (make : A → Spelled) (own : List ℕ) : Type 0 where
@@ -281,6 +332,12 @@ getk_named = record { is_short = λ key. ((λ h. h), (λ h. h)); words = λ key.
 pub hask_named : IsNamed IsKey encode_lower bytes_in HasKey (codes "hask")
 hask_named = record { is_short = λ key. ((λ h. h), (λ h. h)); words = λ key. refl; named = λ word. refl }
 
+pub gap_named : IsNamed IsIndex decimal number_in Gap (codes "gap")
+gap_named = record { is_short = λ index. ((λ h. h), (λ h. h)); words = λ index. refl; named = λ word. refl }
+
+pub rangesfrom_named : IsNamed IsIndex decimal number_in RangesFrom (codes "rangesfrom")
+rangesfrom_named = record { is_short = λ index. ((λ h. h), (λ h. h)); words = λ index. refl; named = λ word. refl }
+
 module _ {A : Type 0} (may_be : A → Type 0) (text_of : A → List ℕ) (read : List ℕ → A) (make : A → Spelled) (own : List ℕ) (by : IsNamed may_be text_of read make own)
     (name word : List ℕ) (is : name ≡ own) where
   pub short_found : (thing : A) → IsReading may_be text_of word (Some thing) → IsShort (make thing) × (name ++ 32 ∷ word ≡ line_of (make thing))
@@ -295,6 +352,44 @@ module _ {A : Type 0} (may_be : A → Type 0) (text_of : A → List ℕ) (read :
       let made : command ≡ make (read word) = sym (short_again command said) ∙ ap said_by have ∙ by.named word in
       let thing = (by.is_short (read word)).0 (subst IsShort made said) in
       none (read word) thing (ap second_of (sym have ∙ ap words_of made ∙ by.words (read word)))
+
+-- ---- three words
+
+-- The command of this name has a thing of this kind for its two words.
+pub record IsDoubleNamed {A : Type 0} (may_be : A → Type 0) (text_of : A → List ℕ) (make : A → Spelled) (own : List ℕ) : Type 0 where
+  pub is_double : (thing : A) → may_be thing → IsDouble (make thing)
+  pub line : (thing : A) → line_of (make thing) ≡ own ++ 32 ∷ text_of thing
+  pub only : (command : Spelled) → IsDouble command → first_of (words_of command) ≡ own → (thing : A) × may_be thing × (command ≡ make thing)
+
+pub missing_named : IsDoubleNamed IsCounted counted_text (λ c. Missing c.0 c.1) (codes "missing")
+unfolding line_of
+missing_named = record { is_double = λ c h. h; line = λ c. refl; only = only }
+  where
+    only : (command : Spelled) → IsDouble command → first_of (words_of command) ≡ codes "missing" → (c : ℕ × ℕ) × IsCounted c × (command ≡ Missing c.0 c.1)
+    only (Missing index count) said is = ((index, count), said, refl)
+    only command said is = absurd said
+
+-- the name of a command of three words, where a line begins with it
+double_name : (name words : List ℕ) → Lacks 32 name → (command : Spelled) → IsDouble command → name ++ 32 ∷ words ≡ line_of command → name ≡ first_of (words_of command)
+unfolding line_of
+double_name name words lacks (Missing index count) said e =
+    (cut_once 32 name (codes "missing") words (counted_text (index, count)) lacks (name_lacks 32 (lit< tt) (codes "missing") refl) e).0
+double_name name words lacks command said e = absurd said
+
+pub double_unnamed : (name words : List ℕ) → Lacks 32 name → name ≢ codes "missing" → (command : Spelled) → IsDouble command → name ++ 32 ∷ words ≢ line_of command
+double_unnamed name words lacks missing (Missing index count) said e = missing (double_name name words lacks (Missing index count) said e)
+double_unnamed name words lacks missing command said e = absurd said
+
+module _ {A : Type 0} (may_be : A → Type 0) (text_of : A → List ℕ) (make : A → Spelled) (own : List ℕ) (by : IsDoubleNamed may_be text_of make own)
+    (name words : List ℕ) (is : name ≡ own) where
+  pub double_found : (thing : A) → IsReading may_be text_of words (Some thing) → IsDouble (make thing) × (name ++ 32 ∷ words ≡ line_of (make thing))
+  double_found thing reading = (by.is_double thing reading.0, rw (is, reading.1) refl ∙ sym (by.line thing))
+
+  pub double_refused : Lacks 32 name → IsReading may_be text_of words None → (command : Spelled) → IsDouble command → name ++ 32 ∷ words ≢ line_of command
+  double_refused lacks none command said e =
+      let found = by.only command said (sym (double_name name words lacks command said e) ∙ is) in
+      let both : name ++ 32 ∷ words ≡ own ++ 32 ∷ text_of found.0 = e ∙ ap line_of found.2 ∙ by.line found.0 in
+      none found.0 found.1 (cut_once 32 name own words (text_of found.0) lacks (subst (Lacks 32) is lacks) both).1
 
 -- ---- four words
 
@@ -375,15 +470,19 @@ module _ {A : Type 0} (seen : A → Spelled) (max : ℕ) (line : List ℕ) where
     pub short_reading : (x : A) → IsShort (seen x) × (name ++ 32 ∷ words ≡ line_of (seen x)) → IsCommandOf max line (Some (seen x))
     short_reading x is = (inr (inl is.0), at ∙ is.1)
 
-    module _ (no_short : (command : Spelled) → IsShort command → name ++ 32 ∷ words ≢ line_of command) where
+    pub double_reading : (x : A) → IsDouble (seen x) × (name ++ 32 ∷ words ≡ line_of (seen x)) → IsCommandOf max line (Some (seen x))
+    double_reading x is = (inr (inr (inl is.0)), at ∙ is.1)
+
+    module _ (no_short : (command : Spelled) → IsShort command → name ++ 32 ∷ words ≢ line_of command) (no_double : (command : Spelled) → IsDouble command → name ++ 32 ∷ words ≢ line_of command) where
       refused : ((command : Spelled) → IsLongOf max command → name ++ 32 ∷ words ≢ line_of command) → (command : Spelled) → CanBeSaid max command → line ≢ line_of command
       refused no_long command (inl lone) e = lone_never name words command lone (sym at ∙ e)
       refused no_long command (inr (inl short)) e = no_short command short (sym at ∙ e)
-      refused no_long command (inr (inr long)) e = no_long command long (sym at ∙ e)
+      refused no_long command (inr (inr (inl double))) e = no_double command double (sym at ∙ e)
+      refused no_long command (inr (inr (inr long))) e = no_long command long (sym at ∙ e)
 
       long_reading : (found : Option A) → IfSome found (λ x. IsLongOf max (seen x) × (name ++ 32 ∷ words ≡ line_of (seen x)))
           → IfNone found ((command : Spelled) → IsLongOf max command → name ++ 32 ∷ words ≢ line_of command) → IsCommandOf max line (option_map seen found)
-      long_reading (Some x) is none = (inr (inr is.0), at ∙ is.1)
+      long_reading (Some x) is none = (inr (inr (inr is.0)), at ∙ is.1)
       long_reading None is none = refused none
 
       pub long_result : {E : Type 0} (r : Result (Option A) E) → IfOk r (λ found. IfSome found (λ x. IsLongOf max (seen x) × (name ++ 32 ∷ words ≡ line_of (seen x))))

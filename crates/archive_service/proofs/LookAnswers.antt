@@ -1,23 +1,27 @@
--- What lookups promise, in the terms of a store that serves commands.
-use Rattle.std.proofs.Common.{◌≡◌, inl, inr, refl, sym, subst, ℕ, Bool, List, Option, Some, None, Result, Ok, Err}
-use Rattle.std.specs.Prelude.{option_map}
+-- What lookups promise, in the terms of a store that serves commands; and so what is asked of the indices, which touches no device.
+use Rattle.std.proofs.Common.{◌≡◌, inl, inr, refl, sym, ◌∙◌, subst, ℕ, Bool, List, [], Option, Some, None, Result, Ok, Err, arith, rules}
+use Rattle.std.specs.Prelude.{⊤, option_map}
 use Rattle.blob_device.specs.Disk.{Disk}
+use Rattle.blob_device.specs.Footprint.{NoBound}
 use Rattle.blob_device.specs.Timeline.{disk}
 use Rattle.blob_device.specs.declared.device.Device as device
 use Rattle.blob_device.specs.declared.runtime.RError.TheVariants as runtime
+use Rattle.blob_device.proofs.FootprintLemmas.{footprint_none}
+use Rattle.ordinal_store.specs.Numbers.{AreMissing, Set}
+use Rattle.paired.specs.Crashes.{IsOwn}
 use Rattle.segments.specs.declared.journal.Error.TheVariants as journal
 use Rattle.segments.specs.declared.sealed.AppendFactory.{AppendFactory}
 use Rattle.sealed_pages.specs.declared.page_blob.PageBlob.{PageBlob}
 use Rattle.archives.specs.Archives.{IsSoundArchive, state_of}
-use Rattle.archives.specs.Changes.{Asked, Asks, Replied, outcome}
-use Rattle.archives.specs.Commands.{Get, GetKey, Has, HasKey, Reopen}
+use Rattle.archives.specs.Changes.{AskEnds, Asked, Asks, Replied, outcome}
+use Rattle.archives.specs.Commands.{First, Gap, Get, GetKey, Has, HasKey, Last, Missing, Ranges, RangesFrom, Reopen}
 use Rattle.archives.specs.Finding.{Wanted, get_command, has_command}
 use Rattle.archives.specs.Finding as wanted
-use Rattle.archives.specs.Machine.{State}
+use Rattle.archives.specs.Machine.{State, Step, has_index}
 use Rattle.archives.specs.Gets.{Gets, IsReadCause}
 use Rattle.archives.specs.Gets as gets
 use Rattle.archives.specs.Prunable.{Prunable, Setup, filing_by, meaning}
-use Rattle.archives.specs.Refusing.{IsFailure}
+use Rattle.archives.specs.Refusing.{IsFailure, IsFault}
 use Rattle.archives.specs.Replies as reply
 use Rattle.archives.specs.Standing.{Leaves}
 use Rattle.archives.specs.declared.error.Error.{Error}
@@ -26,7 +30,26 @@ use Rattle.archive_service.specs.Causes.{IsCause, IsCauseAnywhere, IsLookup, Mus
 use Rattle.archive_service.specs.Kinds.{Answers}
 use Rattle.archive_service.specs.PrunableKind.{IsQuiet, Learns}
 use Rattle.archive_service.specs.PrunableStore.{held_by, prunable_serving}
-use Rattle.archive_service.proofs.StoreLemmas.{Given, as_asked, leaves_as, no_refusal, refused_by_none, refused_by_none_now, serving_by, st, unchanged_always, unchanged_end}
+use Rattle.archive_service.proofs.StoreLemmas.{Given, as_asked, leaves_as, no_refusal, nothing_done, refused_by_none, refused_by_none_now, serving_by, st, unchanged_always, unchanged_end}
+
+-- none of a set's absent numbers are so many, where none are asked for
+pub none_missing : (set : Set) (from most : ℕ) → most ≡ 0 → AreMissing set from most []
+none_missing set from most none = record {
+  ascending = search rules;
+  at_most = omega arith;
+  each = λ x has. absurd (omega (arith, has.1));
+  first = λ x missing. inr (sym none, λ y has. absurd (omega (arith, has.1)));
+}
+
+-- a command that asks for indices
+abbrev pub AsksIndices : Asked → Type 0
+AsksIndices (Gap i) = ⊤
+AsksIndices (Missing i n) = ⊤
+AsksIndices Ranges = ⊤
+AsksIndices (RangesFrom i) = ⊤
+AsksIndices First = ⊤
+AsksIndices Last = ⊤
+AsksIndices command = ⊥
 
 module _ {A V S D : Type 0} {gs : _} (p : Prunable A V (AppendFactory S) (PageBlob S gs)) (setup : Setup V) (valid : Type 0) (dev : device.Ghosts D) (a : A) (old : D) (given : Given p setup valid dev a old) where
   abbrev state : State (List ℕ)
@@ -153,3 +176,46 @@ module _ {A V S D : Type 0} {gs : _} (p : Prunable A V (AppendFactory S) (PageBl
   pub has_answers : (w : Wanted) (new : D) (result : Result Bool Error) → gets.Has p dev a w result old new
       → Answers (prunable_serving p setup valid) dev a (has_command w) (outcome (λ b. (a, reply.Flag b)) result) old new
   has_answers w new result has = look_answers new (has_command w) (has_looks w) (λ b. reply.Flag b) (λ t. has_quiet w new result has) result has.asks.asks (has_why w new result has)
+
+  -- ---- what is asked of the indices
+
+  indices_look : (c : Asked) → AsksIndices c → IsLooking c
+  indices_look (Gap i) asks = record { lookup = tt; no_reopen = λ is. cc is; allowed = refused_by_none_now; allowed_anywhere = refused_by_none (Gap i) (λ is. cc is); refuses = λ e. no_refusal; under_way = λ d. leaves_as (filing_by p a) state None (Some (Gap i)) d (λ s. refl) (λ s going. going); learns = λ from to. refl }
+  indices_look (Missing i n) asks = record { lookup = tt; no_reopen = λ is. cc is; allowed = refused_by_none_now; allowed_anywhere = refused_by_none (Missing i n) (λ is. cc is); refuses = λ e. no_refusal; under_way = λ d. leaves_as (filing_by p a) state None (Some (Missing i n)) d (λ s. refl) (λ s going. going); learns = λ from to. refl }
+  indices_look Ranges asks = record { lookup = tt; no_reopen = λ is. cc is; allowed = refused_by_none_now; allowed_anywhere = refused_by_none Ranges (λ is. cc is); refuses = λ e. no_refusal; under_way = λ d. leaves_as (filing_by p a) state None (Some Ranges) d (λ s. refl) (λ s going. going); learns = λ from to. refl }
+  indices_look (RangesFrom i) asks = record { lookup = tt; no_reopen = λ is. cc is; allowed = refused_by_none_now; allowed_anywhere = refused_by_none (RangesFrom i) (λ is. cc is); refuses = λ e. no_refusal; under_way = λ d. leaves_as (filing_by p a) state None (Some (RangesFrom i)) d (λ s. refl) (λ s going. going); learns = λ from to. refl }
+  indices_look First asks = record { lookup = tt; no_reopen = λ is. cc is; allowed = refused_by_none_now; allowed_anywhere = refused_by_none First (λ is. cc is); refuses = λ e. no_refusal; under_way = λ d. leaves_as (filing_by p a) state None (Some First) d (λ s. refl) (λ s going. going); learns = λ from to. refl }
+  indices_look Last asks = record { lookup = tt; no_reopen = λ is. cc is; allowed = refused_by_none_now; allowed_anywhere = refused_by_none Last (λ is. cc is); refuses = λ e. no_refusal; under_way = λ d. leaves_as (filing_by p a) state None (Some Last) d (λ s. refl) (λ s going. going); learns = λ from to. refl }
+  indices_look command asks = absurd asks
+
+  -- the set of the archive is that of its state
+  set_is : dev.Tells → (p.see a).indices ≡ has_index (p.see a).items state
+  set_is t = λ k i. (given.usable.usable.indices i ∙ (given.laws.state t).taken i) k
+
+  module _ (c : Asked) (asks : AsksIndices c) where
+    asks_nothing : {R : Type 0} (reply_of : R → Replied) (result : Result R Error) → AskEnds (meaning p) dev a c reply_of result old old → Asks (meaning p) dev a c reply_of result old old
+    asks_nothing reply_of result ends = record {
+      over = given.usable.usable;
+      unchanged = λ t. nothing_done dev.time old old refl;
+      footprint = footprint_none dev (IsOwn (filing_by p a).layout (λ _. ⊤)) NoBound old old refl;
+      ends = ends;
+    }
+
+    -- it is told by the set alone, and the device stays as it was
+    pub indices_told : {R : Type 0} (reply_of : R → Replied) (P : Set → R → Type 0)
+        → ((x : R) → P (has_index (p.see a).items state) x → Step (p.see a).items state c (reply_of x) state)
+        → (x : R) → P (p.see a).indices x → Answers (prunable_serving p setup valid) dev a c (Ok (a, reply_of x)) old old
+    indices_told {R} reply_of P step x holds =
+        look_answers old c (indices_look c asks) reply_of (λ t still. refl) (Ok x)
+        (asks_nothing reply_of (Ok x) (λ t. step x (subst (λ (set : Set). P set x) (set_is t) holds))) (λ t e is. absurd (cc is))
+
+    -- or memory was wanting
+    pub indices_untold : {R : Type 0} (see : R → A × Replied) (result : Result R Error) → result ≡ Err Mem → Answers (prunable_serving p setup valid) dev a c (outcome see result) old old
+    indices_untold see result is = subst (λ r. Answers (prunable_serving p setup valid) dev a c (outcome see r) old old) (sym is)
+        (look_answers old c (indices_look c asks) (λ (done : Unit {0}). reply.Done) (λ t still. refl) (Err Mem)
+        (asks_nothing (λ (done : Unit {0}). reply.Done) (Err Mem) (record { gives = λ t sound. inl refl; fault = λ failed. absurd (no_fault failed) }))
+        (λ t other is. (let mem : other ≡ Mem = cc is in subst (λ (y : Error). IsCauseAnywhere (filing_by p a) (held_by p a) (Some c) (disk (dev.time old)) (disk (dev.time old)) y) (sym mem) tt)))
+      where
+        no_fault : IsFault Mem → ⊥
+        no_fault (inl records) = cc records
+        no_fault (inr markers) = cc markers

@@ -1,10 +1,10 @@
--- The words of a record are read one by one.
+-- The words of a record are read one by one, and so are an index and a number of indices.
 use Rattle.std.proofs.Common.{◌≡◌, ◌≢◌, ℕ, List, ◌∷◌, ◌++◌, Option, Some, None, refl, sym, ◌∙◌, lit<}
 use Rattle.std.specs.Option.{option_map}
 use Rattle.std.specs.Fmt.{decimal}
 use Rattle.hex.specs.Hex.{encode_lower}
 use Rattle.archive_service.specs.Texts.{value_text}
-use Rattle.archive_service.specs.Script.{IsIndex, IsKey, IsReading, IsRecord, IsValue, Record, record_text}
+use Rattle.archive_service.specs.Script.{IsCount, IsCounted, IsIndex, IsKey, IsReading, IsRecord, IsValue, Record, counted_text, record_text}
 use Rattle.archive_service.proofs.WordLemmas.{Lacks, cut_never, cut_once, decimal_lacks, encode_lacks}
 
 -- these words say no record
@@ -43,3 +43,22 @@ module _ (max : ℕ) (words word rest : List ℕ) (at : (words ≡ word ++ 32 �
         → IsReading (IsValue max) value_text last value → IsReading (IsRecord max) record_text words (option_map (λ v. (index, key, v)) value)
     record_reading index key None i k none = value_refused none
     record_reading index key (Some value) i k v = ((i.0, k.0, v.0), at.0 ∙ rw (i.1, next.0, k.1, v.1) refl)
+
+-- ---- an index and a number of indices
+
+pub one_word_uncounted : (words : List ℕ) → Lacks 32 words → IsReading IsCounted counted_text words None
+one_word_uncounted words lacks (index, count) h e = cut_never 32 words (decimal index) (decimal count) lacks e
+
+module _ (words first second : List ℕ) (at : (words ≡ first ++ 32 ∷ second) × Lacks 32 first) where
+  both_words : (index count : ℕ) → IsIndex index → words ≡ counted_text (index, count) → (first ≡ decimal index) × (second ≡ decimal count)
+  both_words index count h e = cut_once 32 first (decimal index) second (decimal count) at.1 (decimal_lacks 32 index (lit< tt) h) (sym at.0 ∙ e)
+
+  pub index_uncounted : IsReading IsIndex decimal first None → IsReading IsCounted counted_text words None
+  index_uncounted none (index, count) h e = none index h.0 (both_words index count h.0 e).0
+
+  pub count_uncounted : IsReading IsCount decimal second None → IsReading IsCounted counted_text words None
+  count_uncounted none (index, count) h e = none count h.1 (both_words index count h.0 e).1
+
+  pub counted_reading : (index count : ℕ) → IsReading IsIndex decimal first (Some index) → IsReading IsCount decimal second (Some count)
+      → IsReading IsCounted counted_text words (Some (index, count))
+  counted_reading index count i n = ((i.0, n.0), at.0 ∙ rw (i.1, n.1) refl)

@@ -1,7 +1,9 @@
 -- Texts that are appended one behind another.
-use Rattle.std.proofs.Common.{◌≡◌, ℕ, List, [], ◌++◌, Result, Ok, Err, is_ok, if◌then◌else◌, sym, ap, subst, ◌∙◌}
-use Rattle.std.proofs.lemmas.List.{append-nil, append_assoc}
-use Rattle.archive_service.specs.Texts.{Appends}
+use Rattle.std.proofs.Common.{◌≡◌, ℕ, List, [], ◌∷◌, ◌++◌, Result, Ok, Err, codes, is_ok, if◌then◌else◌, sym, ap, subst, ◌∙◌}
+use Rattle.std.specs.Fmt.{decimal}
+use Rattle.std.specs.Prelude.{IsErr}
+use Rattle.std.proofs.lemmas.List.{append-nil, append_assoc, flat_map_more}
+use Rattle.archive_service.specs.Texts.{Appends, run_text, words_text}
 
 -- what a call of a vector appends
 pub appends : {E : Type 0} (r : Result Unit E) (old new text : List ℕ) → new ≡ (if is_ok r then old ++ text else old) → Appends r old text new
@@ -15,3 +17,31 @@ appends_same r old new text same e h = subst (λ t. Appends r old t new) e h
 pub appends_more : {E : Type 0} (r : Result Unit E) (old mid new first second : List ℕ) → mid ≡ old ++ first → Appends r mid second new → Appends r old (first ++ second) new
 appends_more (Ok done) old mid new first second e h = h ∙ ap (λ l. l ++ second) e ∙ append_assoc old first second
 appends_more (Err error) old mid new first second e h = (first ++ h.0, h.1 ∙ ap (λ l. l ++ h.0) e ∙ append_assoc old first h.0)
+
+-- two texts, one behind the other
+pub more_is : (old mid new first second : List ℕ) → mid ≡ old ++ first → new ≡ mid ++ second → new ≡ old ++ (first ++ second)
+more_is old mid new first second one two = two ∙ ap (λ l. l ++ second) one ∙ append_assoc old first second
+
+-- a failure, with more behind what was appended
+pub fails : {E : Type 0} (r : Result Unit E) (old mid new first text : List ℕ) → IsErr r → mid ≡ old ++ first → ((more : List ℕ) × (new ≡ mid ++ more)) → Appends r old text new
+fails (Ok done) old mid new first text failed is more = absurd (cc failed)
+fails (Err e) old mid new first text failed is more = (first ++ more.0, more.1 ∙ ap (λ l. l ++ more.0) is ∙ append_assoc old first more.0)
+
+-- ---- words, each behind a space
+
+module _ {A : Type 0} (text_of : A → List ℕ) where
+  -- one word more
+  pub word_more : (front out new : List ℕ) (things : List A) (thing : A) → out ≡ front ++ words_text text_of things → new ≡ out ++ 32 ∷ text_of thing
+      → new ≡ front ++ words_text text_of (things ++ thing ∷ [])
+  word_more front out new things thing so_far more =
+      more ∙ ap (λ l. l ++ 32 ∷ text_of thing) so_far ∙ flat_map_more (λ x. 32 ∷ text_of x) front things thing
+
+  -- all words, behind a name
+  pub words_behind : (old name front out : List ℕ) (things : List A) → front ≡ old ++ name → out ≡ front ++ words_text text_of things → out ≡ old ++ (name ++ words_text text_of things)
+  words_behind old name front out things begun so_far = so_far ∙ ap (λ l. l ++ words_text text_of things) begun ∙ append_assoc old name (words_text text_of things)
+
+-- a run is written by its two numbers
+pub run_more : (out mid new : List ℕ) (run : ℕ × ℕ) → mid ≡ out ++ (codes " " ++ decimal run.0) → new ≡ mid ++ (codes "-" ++ decimal run.1) → new ≡ out ++ 32 ∷ run_text run
+run_more out mid new run first last =
+    last ∙ ap (λ l. l ++ (codes "-" ++ decimal run.1)) first ∙ append_assoc out (codes " " ++ decimal run.0) (codes "-" ++ decimal run.1)
+    ∙ ap (λ l. out ++ 32 ∷ l) (sym (append_assoc (decimal run.0) (codes "-") (decimal run.1)))

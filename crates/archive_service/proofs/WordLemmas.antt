@@ -1,5 +1,5 @@
 -- What the words of scripts are made of, and how they are read.
-use Rattle.std.proofs.Common.{◌≡◌, ◌≢◌, ℕ, zero, suc, Bool, true, false, ◌&&◌, ◌||◌, cond, ◌+◌, ◌*◌, ◌/◌, ◌%◌, ◌<◌, inl, inr, List, [], ◌∷◌, ◌++◌, length, take, drop, get_or, slice_index, Option, Some, None, Result, Ok, Err, codes, IsSome, not, unwrap_or, refl, sym, ap, ◌∙◌, subst, lit<, rules, arith}
+use Rattle.std.proofs.Common.{◌≡◌, ◌≢◌, ℕ, zero, suc, Bool, true, false, ◌&&◌, ◌||◌, cond, ◌+◌, ◌*◌, ◌/◌, ◌%◌, ◌<◌, ◌≤◌, ◌^◌, inl, inr, List, [], ◌∷◌, ◌++◌, length, take, drop, get_or, slice_index, Option, Some, None, Result, Ok, Err, codes, IsSome, not, unwrap_or, refl, sym, ap, ◌∙◌, subst, lit<, rules, arith}
 use Rattle.std.specs.Prelude.{nat_le, nat_lt, nat_eq, IfNone, IfSome, IsOk, MatchResult, ◌↔◌}
 use Rattle.std.specs.List.{AllByRecursion, position, position_from}
 use Rattle.std.specs.Option.{option_map}
@@ -22,7 +22,7 @@ use Rattle.hex.specs.declared.error.FromHexError.{FromHexError}
 use Rattle.hex.proofs.HexLemmas.{decode_of-encode_lower, decode_sized-encode_lower, decode_sized-ok, decode_sized-twice, length-encode_with}
 use Rattle.value_codec.specs.declared.key.Key8.{Key8}
 use Rattle.archive_service.specs.Texts.{value_text}
-use Rattle.archive_service.specs.Script.{AreBytes, IsIndex, IsKey, IsReading, IsValue}
+use Rattle.archive_service.specs.Script.{AreBytes, IsCount, IsIndex, IsKey, IsReading, IsValue}
 use Rattle.archive_service.specs.Words.{IsDecimal, IsHexText, IsLowerDigit, IsValueText}
 
 -- a word that was compared
@@ -235,6 +235,22 @@ index_reading {E} word (Err e) h parses = λ n small is.
     let refused = parse_plain own {E = E} 64 word (Err e) parses (no_plus word h) in
     let number : digits_value 10 word ≡ n = ap (digits_value 10) is ∙ digits_value-decimal own n small in
     refused (recursion_from_All (IsInRange 48 57) word h.1, h.0.0, rw number small)
+
+-- a number has one text
+decimal_injective : (m n : ℕ) → IsIndex m → IsIndex n → decimal m ≡ decimal n → m ≡ n
+decimal_injective m n hm hn e = sym (digits_value-decimal own m hm) ∙ ap (digits_value 10) e ∙ digits_value-decimal own n hn
+
+-- a number within the limit is an index
+pub no_count : (word : List ℕ) → IsReading IsIndex decimal word None → IsReading IsCount decimal word None
+no_count word none count small = none count (omega (arith, small))
+
+pub count_beyond : (word : List ℕ) (index : ℕ) → IsReading IsIndex decimal word (Some index) → 2 ^ 16 < index → IsReading IsCount decimal word None
+count_beyond word index reading high count small e =
+    let same : index ≡ count = decimal_injective index count reading.0 (omega (arith, small)) (sym reading.1 ∙ e) in
+    omega (arith, high, small, same)
+
+pub count_reading : (word : List ℕ) (index : ℕ) → IsReading IsIndex decimal word (Some index) → index ≤ 2 ^ 16 → IsReading IsCount decimal word (Some index)
+count_reading word index reading small = (small, reading.1)
 
 -- ---- hexadecimal, as it is read
 

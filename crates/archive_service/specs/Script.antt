@@ -3,7 +3,7 @@ use Rattle.std.specs.Prelude.{◌≡◌, ◌≢◌, ◌⊎◌, ℕ, ◌+◌, ◌
 use Rattle.std.specs.Fmt.{decimal}
 use Rattle.hex.specs.Hex.{encode_lower}
 use Rattle.std.specs.List.{AllByRecursion, join_with_byte}
-use Rattle.archives.specs.Commands.{Put, PutSync, PutStart, Get, GetKey, Has, HasKey, Sync, Start, Reopen}
+use Rattle.archives.specs.Commands.{Put, PutSync, PutStart, Get, GetKey, Has, HasKey, Gap, Missing, Ranges, RangesFrom, First, Last, Sync, Start, Reopen}
 use Rattle.archive_service.specs.declared.script.ScriptError.{ScriptError}
 use Rattle.archive_service.specs.declared.script.ScriptError.TheVariants.{Line, Mem}
 use Rattle.archive_service.specs.Texts.{Spelled, line_of, script_text, value_text}
@@ -11,9 +11,13 @@ use Rattle.archive_service.specs.Texts.{Spelled, line_of, script_text, value_tex
 abbrev pub AreBytes : List ℕ → Type 0
 AreBytes bytes = AllByRecursion (λ byte. byte < 256) bytes
 
--- what a line may say: an index of 64 bits, a key of eight bytes, a value of at most max bytes
+-- what a line may say: an index of 64 bits, a number of indices that are asked for at once, a key of eight bytes, a
+-- value of at most max bytes
 abbrev pub IsIndex : ℕ → Type 0
 IsIndex index = index < 2 ^ 64
+
+abbrev pub IsCount : ℕ → Type 0
+IsCount count = count ≤ 2 ^ 16
 
 abbrev pub IsKey : List ℕ → Type 0
 IsKey key = (length key ≡ 8) × AreBytes key
@@ -36,6 +40,9 @@ abbrev pub IsLone : Spelled → Type 0
 IsLone Sync = Unit {0}
 IsLone Start = Unit {0}
 IsLone Reopen = Unit {0}
+IsLone Ranges = Unit {0}
+IsLone First = Unit {0}
+IsLone Last = Unit {0}
 IsLone command = ⊥
 
 -- a command of two words
@@ -44,7 +51,21 @@ IsShort (Get index) = IsIndex index
 IsShort (Has index) = IsIndex index
 IsShort (GetKey key) = IsKey key
 IsShort (HasKey key) = IsKey key
+IsShort (Gap index) = IsIndex index
+IsShort (RangesFrom index) = IsIndex index
 IsShort command = ⊥
+
+-- an index and a number of indices, and their words with one space (32) between
+abbrev pub IsCounted : ℕ × ℕ → Type 0
+IsCounted (index, count) = IsIndex index × IsCount count
+
+abbrev pub counted_text : ℕ × ℕ → List ℕ
+counted_text (index, count) = join_with_byte 32 (decimal index ∷ decimal count ∷ [])
+
+-- a command of three words
+abbrev pub IsDouble : Spelled → Type 0
+IsDouble (Missing index count) = IsCounted (index, count)
+IsDouble command = ⊥
 
 -- a put, with a value of at most max bytes
 abbrev pub IsLongOf : ℕ → Spelled → Type 0
@@ -55,7 +76,7 @@ IsLongOf max command = ⊥
 
 -- the commands that the reader takes so far
 abbrev pub CanBeSaid : ℕ → Spelled → Type 0
-CanBeSaid max command = IsLone command ⊎ (IsShort command ⊎ IsLongOf max command)
+CanBeSaid max command = IsLone command ⊎ (IsShort command ⊎ (IsDouble command ⊎ IsLongOf max command))
 
 -- the text is the script of these commands: their lines, one behind the other, and nothing else
 pub record Spells (max : ℕ) (text : List ℕ) (commands : List Spelled) : Type 0 where

@@ -138,7 +138,7 @@ fn append_damage(damage: &Damage, out: &mut Vec<u8>) -> Result<(), AllocError>
 }
 
 // Appends a text, and a number behind it.
-fn append_with(text: &[u8], number: u64, out: &mut Vec<u8>) -> Result<(), AllocError>
+pub(crate) fn append_with(text: &[u8], number: u64, out: &mut Vec<u8>) -> Result<(), AllocError>
     ensures { Appends result out.old.items (text.now ++ decimal number) out.new.items }
 {
     out.extend_from_slice(text)?;

@@ -39,6 +39,12 @@ pub fn line_text(alloc: Global, command: &Command<Key8, ByteValue>) -> Result<St
             let key = hex::encode(alloc, key.as_bytes())?;
             format!(in alloc; "hask {key}")
         }
+        Command::Gap(index) => format!(in alloc; "gap {index}"),
+        Command::Missing(index, count) => format!(in alloc; "missing {index} {count}"),
+        Command::Ranges => String::from_str(alloc, "ranges"),
+        Command::RangesFrom(index) => format!(in alloc; "rangesfrom {index}"),
+        Command::First => String::from_str(alloc, "first"),
+        Command::Last => String::from_str(alloc, "last"),
         Command::Sync => String::from_str(alloc, "sync"),
         Command::Start => String::from_str(alloc, "start"),
         Command::Reopen => String::from_str(alloc, "reopen"),

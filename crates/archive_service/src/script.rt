@@ -4,11 +4,11 @@ ghost use Rattle.std.specs.List.{AllByRecursion};
 ghost use Rattle.std.specs.Option.{option_map};
 ghost use Rattle.archives.specs.Machine.{asked};
 ghost use Rattle.value_codec.specs.Keys.{key8_bytes};
-ghost use Rattle.archive_service.specs.Script.{IsCommandOf, IsExactReading, IsFirstLine, IsLone, IsLongOf, IsReading, IsRecord, IsShort, ReadsScript, record_text};
+ghost use Rattle.archive_service.specs.Script.{IsCommandOf, IsCounted, IsDouble, IsExactReading, IsFirstLine, IsLone, IsLongOf, IsReading, IsRecord, IsShort, ReadsScript, counted_text, record_text};
 ghost use Rattle.archive_service.specs.Texts.{Spelled, line_of};
 ghost use Rattle.archive_service.specs.declared.script.ScriptError.TheVariants.{Mem};
 
-use crate::words::{cut, index_of, key_of, value_of};
+use crate::words::{count_of, cut, index_of, key_of, value_of};
 use archives::Command;
 use std::alloc::{AllocError, AllocFailed, Global};
 use std::marker::Model;
@@ -113,13 +113,16 @@ fn command_of(
     ensures { IfOk result (λ found. IsCommandOf max_value line.now (option_map (asked key8_bytes
         (λ v. v)) found)) }
 {
-    match cut(line, b' ') {
-        None => Ok(lone_command(line)),
-        Some((name, words)) => match short_command(name, words) {
-            Some(command) => Ok(Some(command)),
-            None => put_command(alloc, name, words, max_value),
-        },
+    let Some((name, words)) = cut(line, b' ') else {
+        return Ok(lone_command(line));
+    };
+    if let Some(command) = short_command(name, words) {
+        return Ok(Some(command));
     }
+    if let Some(command) = double_command(name, words) {
+        return Ok(Some(command));
+    }
+    put_command(alloc, name, words, max_value)
 }
 
 /// The command that one word says.
@@ -134,6 +137,12 @@ fn lone_command(word: &[u8]) -> Option<Command<Key8, ByteValue>>
         Some(Command::Start)
     } else if word == b"reopen".as_slice() {
         Some(Command::Reopen)
+    } else if word == b"ranges".as_slice() {
+        Some(Command::Ranges)
+    } else if word == b"first".as_slice() {
+        Some(Command::First)
+    } else if word == b"last".as_slice() {
+        Some(Command::Last)
     } else {
         None
     }
@@ -154,9 +163,38 @@ fn short_command(name: &[u8], word: &[u8]) -> Option<Command<Key8, ByteValue>>
         Some(Command::GetKey(key_of(word)?))
     } else if name == b"hask".as_slice() {
         Some(Command::HasKey(key_of(word)?))
+    } else if name == b"gap".as_slice() {
+        Some(Command::Gap(index_of(word)?))
+    } else if name == b"rangesfrom".as_slice() {
+        Some(Command::RangesFrom(index_of(word)?))
     } else {
         None
     }
+}
+
+/// The command that a name and two words behind it say.
+fn double_command(name: &[u8], words: &[u8]) -> Option<Command<Key8, ByteValue>>
+    ensures found { IfSome result (λ command. IsDouble (asked key8_bytes (λ v. v) command)
+        × (name.now ++ 32 ∷ words.now ≡ line_of (asked key8_bytes (λ v. v) command))) }
+    // A name with a space in it would be a name and a word.
+    ensures none { AllByRecursion (λ b. b ≢ 32) name.now
+        → IfNone result ((command : Spelled) → IsDouble command
+        → name.now ++ 32 ∷ words.now ≢ line_of command) }
+{
+    if name == b"missing".as_slice() {
+        let (index, count) = counted_of(words)?;
+        Some(Command::Missing(index, count))
+    } else {
+        None
+    }
+}
+
+/// The index and the number of indices that two words say.
+fn counted_of(words: &[u8]) -> Option<(u64, u32)>
+    ensures { IsReading IsCounted counted_text words.now result }
+{
+    let (index, count) = cut(words, b' ')?;
+    Some((index_of(index)?, count_of(count)?))
 }
 
 /// The put that a name and the words behind it say.

@@ -1,10 +1,12 @@
 // The texts of replies.
 ghost use Rattle.std.specs.Prelude.{◌++◌, codes};
+ghost use Rattle.std.specs.Fmt.{decimal};
 ghost use Rattle.archives.specs.Machine.{replied};
 ghost use Rattle.hex.specs.Hex.{encode_lower};
-ghost use Rattle.archive_service.specs.Texts.{Appends, WritesText, bad_line_text, reply_text, value_text};
+ghost use Rattle.archive_service.specs.Texts.{Appends, WritesText, bad_line_text, number_text, reply_text, run_text, value_text, words_text};
 
 use crate::ScriptError;
+use crate::error_text::append_with;
 use archives::Reply;
 use std::alloc::AllocError;
 use value_codec::ByteValue;
@@ -42,7 +44,63 @@ fn append_reply(reply: &Reply<ByteValue>, out: &mut Vec<u8>) -> Result<(), Alloc
         Reply::Value(Some(value)) => append_value_line(value.as_bytes(), out),
         Reply::Flag(true) => out.extend_from_slice(b"yes\n"),
         Reply::Flag(false) => out.extend_from_slice(b"no\n"),
+        Reply::Gap(end, next) => append_gap(*end, *next, out),
+        Reply::Items(numbers) => append_items(numbers.as_slice(), out),
+        Reply::Ranges(runs) => append_ranges(runs.as_slice(), out),
+        Reply::Index(None) => out.extend_from_slice(b"none\n"),
+        Reply::Index(Some(index)) => append_index(*index, out),
     }
+}
+
+fn append_gap(end: Option<u64>, next: Option<u64>, out: &mut Vec<u8>) -> Result<(), AllocError>
+    ensures { Appends result out.old.items (codes "gap " ++ number_text end ++ codes " "
+        ++ number_text next ++ codes "\n") out.new.items }
+{
+    out.extend_from_slice(b"gap ")?;
+    append_number(end, out)?;
+    out.extend_from_slice(b" ")?;
+    append_number(next, out)?;
+    out.extend_from_slice(b"\n")
+}
+
+fn append_number(number: Option<u64>, out: &mut Vec<u8>) -> Result<(), AllocError>
+    ensures { Appends result out.old.items (number_text number) out.new.items }
+{
+    match number {
+        Some(number) => append_with(b"", number, out),
+        None => out.extend_from_slice(b"-"),
+    }
+}
+
+fn append_items(numbers: &[u64], out: &mut Vec<u8>) -> Result<(), AllocError>
+    ensures { Appends result out.old.items (codes "items" ++ words_text decimal numbers.now
+        ++ codes "\n") out.new.items }
+{
+    out.extend_from_slice(b"items")?;
+    for number in numbers {
+        append_with(b" ", *number, out)?;
+    }
+    out.extend_from_slice(b"\n")
+}
+
+fn append_ranges(runs: &[(u64, u64)], out: &mut Vec<u8>) -> Result<(), AllocError>
+    ensures { Appends result out.old.items (codes "ranges" ++ words_text run_text runs.now
+        ++ codes "\n") out.new.items }
+{
+    out.extend_from_slice(b"ranges")?;
+    for (first, last) in runs {
+        append_with(b" ", *first, out)?;
+        append_with(b"-", *last, out)?;
+    }
+    out.extend_from_slice(b"\n")
+}
+
+fn append_index(index: u64, out: &mut Vec<u8>) -> Result<(), AllocError>
+    ensures { Appends result out.old.items (codes "index " ++ decimal index
+        ++ codes "\n") out.new.items }
+{
+    append_with(b"index ", index, out)?;
+    out.extend_from_slice(b"\n")
 }
 
 fn append_value_line(bytes: &[u8], out: &mut Vec<u8>) -> Result<(), AllocError>

@@ -5,7 +5,7 @@ ghost use Rattle.std.specs.Option.{option_map};
 ghost use Rattle.std.specs.Fmt.{decimal};
 ghost use Rattle.hex.specs.Hex.{encode_lower};
 ghost use Rattle.value_codec.specs.Keys.{key8_bytes};
-ghost use Rattle.archive_service.specs.Script.{IsIndex, IsKey, IsReading, IsValue};
+ghost use Rattle.archive_service.specs.Script.{IsCount, IsIndex, IsKey, IsReading, IsValue};
 ghost use Rattle.archive_service.specs.Texts.{value_text};
 ghost use Rattle.archive_service.specs.Words.{IsCut, IsDecimal, IsHexText, IsShortest, IsValueText};
 
@@ -55,6 +55,20 @@ pub fn index_of(word: &[u8]) -> Option<u64>
         Ok(digits) => digits.parse::<u64>().ok(),
         Err(_) => None,
     }
+}
+
+/// The most indices that one command asks for.
+const COUNT_LIMIT: u64 = 1 << 16;
+
+/// A number of indices: a decimal number up to [`COUNT_LIMIT`], in its shortest spelling.
+pub(crate) fn count_of(word: &[u8]) -> Option<u32>
+    ensures { IsReading IsCount decimal word.now result }
+{
+    let count = index_of(word)?;
+    if count > COUNT_LIMIT {
+        return None;
+    }
+    Some(count as u32)
 }
 
 fn is_hex_text(word: &[u8]) -> bool

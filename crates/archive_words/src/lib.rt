@@ -21,6 +21,6 @@ pub use keeping::Keeping;
 pub use notebook::{Loss, MOST_NOTES, Note, Notebook};
 pub use noting::Noting;
 pub use number::{NumberComplaint, complaint_of_number};
-pub use script_line::{Arguments, LineComplaint, complaint_of_line};
+pub use script_line::{Arguments, LineComplaint, MOST_COUNTED, complaint_of_line};
 pub use script_text::{ScriptLine, ScriptLines, line_at};
 pub use shown::Shown;

@@ -1,10 +1,13 @@
 // Why a line of a script is no command.
 
 use crate::hexadecimal::{DigitsComplaint, complaint_of_key, complaint_of_value};
-use crate::number::{NumberComplaint, complaint_of_number};
+use crate::number::{NumberComplaint, complaint_of_number, number_of};
 use crate::script_text::{ScriptLine, cut};
 use crate::shown::Shown;
 use std::fmt;
+
+/// The most indices that `missing` may ask for.
+pub const MOST_COUNTED: u64 = 1 << 16;
 
 /// The words that stand behind the name of a command.
 #[derive(Clone, Copy, Debug, PartialEq, Eq)]
@@ -15,6 +18,8 @@ pub enum Arguments {
     Index,
     /// KEY.
     Key,
+    /// INDEX COUNT.
+    Counted,
     /// INDEX KEY VALUE.
     Record,
 }
@@ -23,9 +28,12 @@ impl Arguments {
     // What stands behind the command of this name, if there is one.
     fn of(name: &[u8]) -> Option<Arguments> {
         match name {
-            b"sync" | b"start" | b"reopen" => Some(Arguments::Nothing),
-            b"get" | b"has" => Some(Arguments::Index),
+            b"sync" | b"start" | b"reopen" | b"ranges" | b"first" | b"last" => {
+                Some(Arguments::Nothing)
+            }
+            b"get" | b"has" | b"gap" | b"rangesfrom" => Some(Arguments::Index),
             b"getk" | b"hask" => Some(Arguments::Key),
+            b"missing" => Some(Arguments::Counted),
             b"put" | b"putsync" | b"putstart" => Some(Arguments::Record),
             _ => None,
         }
@@ -36,6 +44,7 @@ impl Arguments {
         match self {
             Arguments::Nothing => 0,
             Arguments::Index | Arguments::Key => 1,
+            Arguments::Counted => 2,
             Arguments::Record => 3,
         }
     }
@@ -47,6 +56,7 @@ impl fmt::Display for Arguments {
             Arguments::Nothing => "no word",
             Arguments::Index => "one word, INDEX",
             Arguments::Key => "one word, KEY",
+            Arguments::Counted => "two words, INDEX COUNT",
             Arguments::Record => "three words, INDEX KEY VALUE",
         })
     }
@@ -66,9 +76,13 @@ pub enum LineComplaint<'a> {
     /// The first word names no command.
     Unknown(&'a [u8]),
     /// The command of this name has other words behind it, and here are so many.
-    Count(&'a [u8], Arguments, usize),
+    Words(&'a [u8], Arguments, usize),
     /// This word is no index.
     Index(&'a [u8], NumberComplaint),
+    /// This word is no count, for it is no number.
+    Count(&'a [u8], NumberComplaint),
+    /// This word is a number above the greatest count.
+    CountTooGreat(&'a [u8]),
     /// This word is no key.
     Key(&'a [u8], DigitsComplaint),
     /// This word is no value.
@@ -122,12 +136,13 @@ fn complaint_of_words(text: &[u8], max_value: u32) -> Option<LineComplaint<'_>> 
     };
     let count = text.iter().filter(|b| **b == b' ').count();
     if count != wanted.count() {
-        return Some(LineComplaint::Count(name, wanted, count));
+        return Some(LineComplaint::Words(name, wanted, count));
     }
     match wanted {
         Arguments::Nothing => None,
         Arguments::Index => complaint_of_index_word(words?),
         Arguments::Key => complaint_of_key_word(words?),
+        Arguments::Counted => complaint_of_counted(words?),
         Arguments::Record => complaint_of_record(words?, max_value),
     }
 }
@@ -135,6 +150,16 @@ fn complaint_of_words(text: &[u8], max_value: u32) -> Option<LineComplaint<'_>> 
 fn complaint_of_index_word(word: &[u8]) -> Option<LineComplaint<'_>> {
     let complaint = complaint_of_number(word)?;
     Some(LineComplaint::Index(word, complaint))
+}
+
+fn complaint_of_count_word(word: &[u8]) -> Option<LineComplaint<'_>> {
+    if let Some(complaint) = complaint_of_number(word) {
+        return Some(LineComplaint::Count(word, complaint));
+    }
+    match number_of(word) {
+        Some(0..=MOST_COUNTED) => None,
+        _ => Some(LineComplaint::CountTooGreat(word)),
+    }
 }
 
 fn complaint_of_key_word(word: &[u8]) -> Option<LineComplaint<'_>> {
@@ -145,6 +170,12 @@ fn complaint_of_key_word(word: &[u8]) -> Option<LineComplaint<'_>> {
 fn complaint_of_value_word(word: &[u8], max_value: u32) -> Option<LineComplaint<'_>> {
     let complaint = complaint_of_value(word, max_value)?;
     Some(LineComplaint::Value(word, complaint))
+}
+
+// What is wrong with an index and a count.
+fn complaint_of_counted(words: &[u8]) -> Option<LineComplaint<'_>> {
+    let (index, count) = cut(words, b' ')?;
+    complaint_of_index_word(index).or(complaint_of_count_word(count))
 }
 
 // What is wrong with the three words of a record.
@@ -176,10 +207,16 @@ impl fmt::Display for LineComplaint<'_> {
                 "\"{}\" is no command (archive_cli --help names them)",
                 Shown(name)
             ),
-            LineComplaint::Count(name, wanted, count) => {
+            LineComplaint::Words(name, wanted, count) => {
                 write!(f, "{} takes {wanted}, and here are {count}", Shown(name))
             }
             LineComplaint::Index(word, why) => write!(f, "\"{}\" is no index: {why}", Shown(word)),
+            LineComplaint::Count(word, why) => write!(f, "\"{}\" is no count: {why}", Shown(word)),
+            LineComplaint::CountTooGreat(word) => write!(
+                f,
+                "\"{}\" is no count: the greatest one is 65536",
+                Shown(word)
+            ),
             LineComplaint::Key(word, why) => write!(f, "\"{}\" is no key: {why}", Shown(word)),
             LineComplaint::Value(word, why) => write!(f, "\"{}\" is no value: {why}", Shown(word)),
         }

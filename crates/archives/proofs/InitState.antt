@@ -36,8 +36,8 @@ use Rattle.archives.proofs.ArchiveStands.{all_unmap}
 use Rattle.archives.proofs.InitRecords.{one_markers}
 
 -- an archive over this pair that files so, and of which nothing was pruned
-abbrev pub archive_over : {F B : Type 0} → Pair F B → Filing → (List ℕ → Option codec.Error) → (ℕ → List Row) → Type 0 → (ℕ → Bool) → Archive F B
-archive_over p f refusal rows filled written = record {
+abbrev pub archive_over : {F B : Type 0} → Pair F B → Filing → (List ℕ → Option codec.Error) → (ℕ → List Row) → Type 0 → (ℕ → Bool) → (ℕ → Bool) → Archive F B
+archive_over p f refusal rows filled indices written = record {
   pair = p;
   items = f.items;
   key_size = f.key_size;
@@ -47,6 +47,7 @@ archive_over p f refusal rows filled written = record {
   floor = 0;
   rows = rows;
   Filled = filled;
+  indices = indices;
   is_written = written;
 }
 

@@ -2,9 +2,11 @@ pub mod MachineLaws
 pub mod MoreRows
 pub mod PlainLemmas
 pub mod PlainSteps
+pub mod PlainIndices
 pub mod Refused
 pub mod Rows
 pub mod Sets
+pub mod IndexSets
 pub mod TableLemmas
 pub mod StandLemmas
 pub mod RecallLemmas

@@ -1,7 +1,6 @@
 -- What the state of the machine says of the markers: whether a sync has to move one, and whether they have a next version.
 use Rattle.std.proofs.Common.{◌≡◌, ◌≢◌, ◌⊎◌, ◌↔◌, inl, inr, refl, sym, ◌∙◌, ap, subst, ℕ, ◌+◌, ◌^◌, ◌<◌, ◌≤◌, List, [], ◌∷◌, ◌++◌, length, Bool, true, false, if◌then◌else◌, ◌==◌, ◌||◌, nat_lt, IsTrue, Ok, arith, length-append}
-use Rattle.std.proofs.lemmas.Bool.{le-ltb}
-use Rattle.std.proofs.lemmas.Bool.Decides.{nat_tests}
+use Rattle.std.proofs.lemmas.Bool.{eq-eqb, le-ltb, ne_eqb}
 use Rattle.std.proofs.lemmas.List.{length-map}
 use Rattle.blob_device.specs.Disk.{Blob, Disk, reads}
 use Rattle.blob_device.specs.Opened.{OpenedList}
@@ -130,13 +129,13 @@ module _ {F S : Type 0} {gs : _} (a : Archive F (PageBlob S gs)) {bs : Buffers F
     -- the section of the record has one more, and the others as many as before
     appended_here : (s : ℕ) → s ≡ section_of a.items index → length ((choice false).lists s) ≡ length_of a.pair s + 1
     appended_here s same =
-        let is : (s == section_of a.items index) ≡ true = grind (arith, nat_tests, same) in
+        let is : (s == section_of a.items index) ≡ true = eq-eqb s (section_of a.items index) same in
         let old = (state_of a d).lists s in
         ap (λ (b : Bool). length (if b then old ++ record { index = index; key = key; value = value } ∷ [] else old)) is ∙ length-append old (record { index = index; key = key; value = value } ∷ []) ∙ ap (λ (n : ℕ). n + 1) (counted s)
 
     appended_other : (s : ℕ) → s ≢ section_of a.items index → length ((choice false).lists s) ≡ length_of a.pair s
     appended_other s other =
-        let is : (s == section_of a.items index) ≡ false = grind (arith, nat_tests, other) in
+        let is : (s == section_of a.items index) ≡ false = ne_eqb s (section_of a.items index) other in
         let old = (state_of a d).lists s in
         ap (λ (b : Bool). length (if b then old ++ record { index = index; key = key; value = value } ∷ [] else old)) is ∙ counted s
 

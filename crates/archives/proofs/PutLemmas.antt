@@ -23,11 +23,13 @@ use Rattle.paired.specs.Records as stored
 use Rattle.paired.proofs.PairAppending.{records-push}
 use Rattle.paired.proofs.PairReads.{index_size}
 use Rattle.paired.proofs.RecordLemmas.{length-records}
+use Rattle.ordinal_store.specs.Numbers.{AddsNumber}
 use Rattle.archives.specs.Archives.{Archive, Buffers, IsArchive}
 use Rattle.archives.specs.IndexRecord.{IsSpelled, index_record, index_of, key_of}
 use Rattle.archives.specs.IndexRecordLaws.{index_of-index_record, key_of-index_record, length-index_record}
 use Rattle.archives.specs.Machine.{section_of}
 use Rattle.archives.specs.Rows.{HasRoom, Row, row_in}
+use Rattle.archives.proofs.IndexSets.{row_added}
 use Rattle.archives.proofs.ArchiveStands.{list_records}
 use Rattle.archives.proofs.PutRows.{all_push, few_now, few_sections_now, other_or_same}
 
@@ -43,11 +45,11 @@ whole_bytes p opened d pair t s = elim (none_or_value (p.index.sections.held s))
   | inr some ↦ rw some.1 (ap (λ (n : ℕ). n % p.layout.record_size) (counted (page_blob.shown some.0) (d (sections.key_of p.index.sections s)).content) ∙ (pair.index.disk t).whole s some.0 some.1 (pair.whole.recovered s))
 ]
 
-module _ {F S : Type 0} {gs : _} (a : Archive F (PageBlob S gs)) (q : Pair F (PageBlob S gs)) (refusal : List ℕ → Option codec.Error) (rows : ℕ → List Row) (Filled : Type 0) (is_written : ℕ → Bool)
+module _ {F S : Type 0} {gs : _} (a : Archive F (PageBlob S gs)) (q : Pair F (PageBlob S gs)) (refusal : List ℕ → Option codec.Error) (rows : ℕ → List Row) (Filled : Type 0) (indices is_written : ℕ → Bool)
     (index sec : ℕ) (here : sec ≡ section_of a.items index) (key : List ℕ) (n : ℕ) (d e : Disk) where
   -- the archive with them
   abbrev pub grown : Archive F (PageBlob S gs)
-  grown = record a { pair = q; refusal = refusal; rows = rows; Filled = Filled; is_written = is_written }
+  grown = record a { pair = q; refusal = refusal; rows = rows; Filled = Filled; indices = indices; is_written = is_written }
 
   -- the record, which names the place behind the section's values
   abbrev pub new_record : List ℕ
@@ -66,6 +68,7 @@ module _ {F S : Type 0} {gs : _} (a : Archive F (PageBlob S gs)) (q : Pair F (Pa
     pub synced : (s : ℕ) → synced_length q s ≡ synced_length a.pair s
     pub row : rows sec ≡ a.rows sec ++ new_row ∷ []
     pub other_rows : (s : ℕ) → s ≢ sec → rows s ≡ a.rows s
+    pub added : AddsNumber a.indices indices index
     pub written : (s : ℕ) → is_written s ≡ false → (s ≢ sec) × (a.is_written s ≡ false)
     pub written_now : (s : ℕ) → IsTrue (is_written s) → IsTrue (a.is_written s) ⊎ (s ≡ sec)
     pub filled : Filled
@@ -175,6 +178,7 @@ module _ {F S : Type 0} {gs : _} (a : Archive F (PageBlob S gs)) (q : Pair F (Pa
       listed = listed_now;
       spelled = spelled_now;
       filled = adds.filled;
+      indices = row_added a.items a.rows rows sec index key here adds.row adds.other_rows a.indices indices archive.indices adds.added;
       within = record {
         in_section = in_section_now;
         few_sections = λ ss up all. few_sections_now a.most_sections a.most_records a.rows rows sec new_row adds.row adds.other_rows some (λ s. 0 ≤ s) fits

@@ -24,10 +24,10 @@ pub follow_last : (place : List ℕ → ℕ × ℕ) (at : ℕ) (rs : List (List 
 follow_last place at [] r end follow = omega (arith, follow.0, follow.2)
 follow_last place at (x ∷ xs) r end follow = follow_last place (at + (place x).1) xs r end follow.2
 
-module _ {F S : Type 0} {gs : _} (a : Archive F (PageBlob S gs)) (q : Pair F (PageBlob S gs)) (refusal : List ℕ → Option codec.Error) (rows : ℕ → List Row) (Filled : Type 0) (is_written : ℕ → Bool)
+module _ {F S : Type 0} {gs : _} (a : Archive F (PageBlob S gs)) (q : Pair F (PageBlob S gs)) (refusal : List ℕ → Option codec.Error) (rows : ℕ → List Row) (Filled : Type 0) (indices is_written : ℕ → Bool)
     (index sec : ℕ) (here : sec ≡ section_of a.items index) (key value : List ℕ) (n : ℕ) (d e : Disk) where
   abbrev new : Archive F (PageBlob S gs)
-  new = grown a q refusal rows Filled is_written index sec here key n d e
+  new = grown a q refusal rows Filled indices is_written index sec here key n d e
 
   -- What an append of a sound pair did.
   pub record Sounds : Type 0 where
@@ -41,9 +41,9 @@ module _ {F S : Type 0} {gs : _} (a : Archive F (PageBlob S gs)) (q : Pair F (Pa
     pub small : sec < 2 ^ 64
 
   module _ {bs : Buffers F (PageBlob S gs)} {told : Type 0} {opened : _} (archive : IsArchive a bs told opened d) (t : told)
-      (adds : Adds a q refusal rows Filled is_written index sec here key n d e told) (asked : IsFree a index sec here key value n d) (sound : IsSoundArchive a d) (sounds : Sounds) where
+      (adds : Adds a q refusal rows Filled indices is_written index sec here key n d e told) (asked : IsFree a index sec here key value n d) (sound : IsSoundArchive a d) (sounds : Sounds) where
     abbrev record_now : List ℕ
-    record_now = new_record a q refusal rows Filled is_written index sec here key n d e
+    record_now = new_record a q refusal rows Filled indices is_written index sec here key n d e
 
     -- the values have grown by the frame
     size_now : glob.section_size q.values sec ≡ glob.section_size a.pair.values sec + n
@@ -51,7 +51,7 @@ module _ {F S : Type 0} {gs : _} (a : Archive F (PageBlob S gs)) (q : Pair F (Pa
         let place = a.pair.layout.place in
         let follow : Follow place 0 (records_of q e sec) (glob.section_size q.values sec) = subst (λ (pl : List ℕ → ℕ × ℕ). Follow pl 0 (records_of q e sec) (glob.section_size q.values sec)) sounds.place (sounds.sound.places sec) in
         let all : Follow place 0 (records_of a.pair d sec ++ record_now ∷ []) (glob.section_size q.values sec) =
-        subst (λ (rs : List (List ℕ)). Follow place 0 rs (glob.section_size q.values sec)) (records_now a q refusal rows Filled is_written index sec here key n d e archive adds t) follow in
+        subst (λ (rs : List (List ℕ)). Follow place 0 rs (glob.section_size q.values sec)) (records_now a q refusal rows Filled indices is_written index sec here key n d e archive adds t) follow in
         follow_last place 0 (records_of a.pair d sec) record_now (glob.section_size q.values sec) all ∙ ap (λ (x : ℕ × ℕ). x.0 + x.1) asked.place
 
     list_now : (s : ℕ) → list_of q e s ≡ wanted a index sec here key value n d s

@@ -96,12 +96,6 @@ module _ {F S : Type 0} {gs : _} (a : Archive F (PageBlob S gs)) where
   taken wanted None found none i is = sym (none_index i (λ s has. none refl s (subst (λ (w : Wanted). IsIn a w s) (sym is) has)))
   taken wanted (Some at) found none i is = sym (found_index i at.0 at.1 (subst (λ (w : Wanted). IsAt a w at.0 at.1) is found.here))
 
-  -- the same of a position in the index's section
-  pub has_position : (i s : ℕ) → s ≡ section_of a.items i → (o : Option ℕ) → IfSome o (λ p. IsSomeAnd (slice_get (a.rows s) p) (λ r. r.index ≡ i)) → (o ≡ None → (q : ℕ) → IsSomeAnd (slice_get (a.rows s) q) (λ r. r.index ≡ i) → ⊥)
-      → (b : Bool) → b ≡ is_some o → b ≡ is_taken a i
-  has_position i s here None found none b is = is ∙ sym (subst (λ (t : ℕ). list_any (λ r. r.index == i) (a.rows t) ≡ false) here (any_none (λ r. r.index) i (a.rows s) (none refl)))
-  has_position i s here (Some p) found none b is = is ∙ sym (subst (λ (t : ℕ). list_any (λ r. r.index == i) (a.rows t) ≡ true) here (any_found (λ r. r.index) i (a.rows s) p found))
-
   module _ (d : Disk) (shows : (s : ℕ) → a.rows s ≡ map (row_in a.key_size) (records_of a.pair d s)) where
     -- a row is that of an entry
     to_list : (P : Row → Type 0) (s p : ℕ) → IsSomeAnd (slice_get (a.rows s) p) P → IsSomeAnd (slice_get (list_of a.pair d s) p) (λ e. P (row_in a.key_size e.stored))

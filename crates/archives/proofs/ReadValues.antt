@@ -47,6 +47,7 @@ archive_read a archive new e pair same = record {
   listed = λ t s. archive.listed t s ∙ ap (λ (x : Disk). map (row_in a.key_size) (records_of a.pair x s)) (sym (same t));
   spelled = λ t s. subst (λ (x : Disk). AllByRecursion (IsSpelled a.key_size) (records_of a.pair x s)) (sym (same t)) (archive.spelled t s);
   filled = archive.filled;
+  indices = archive.indices;
   within = archive.within;
   unwritten = archive.unwritten;
   written = archive.written;

@@ -145,6 +145,7 @@ module _ {F S : Type 0} {gs : _} (a : Archive F (PageBlob S gs)) where
         listed = λ t s. archive.listed t s ∙ ap (map (row_in a.key_size)) (sym (records_same a.pair p d e s (lists t s)));
         spelled = λ t s. subst (AllByRecursion (IsSpelled a.key_size)) (sym (records_same a.pair p d e s (lists t s))) (archive.spelled t s);
         filled = archive.filled;
+        indices = archive.indices;
         within = archive.within;
         unwritten = λ s _. all_synced s;
         written = λ s is. absurd (not_true (is_written s) (none s) is);

@@ -16,11 +16,12 @@ use Rattle.paired.specs.Pair.{HasNoBytes, Pair, IsPair, IsSoundOn, length_of, li
 use Rattle.archives.specs.Filing.{Filing, filed}
 use Rattle.archives.specs.IndexRecord.{IsSpelled}
 use Rattle.archives.specs.Machine.{State}
-use Rattle.archives.specs.Rows.{AreWithin, Row, row_in}
+use Rattle.archives.specs.Rows.{AreWithin, Row, has_row, row_in}
 
 -- What an archive shows: its pair; how many indices a section has room for, how many bytes a key has, and why the
 -- codec refuses a spelling; the limits; the floor, below which all was pruned; of each section a row for each record,
--- by position; that memory holds no table without rows; and which sections were written since the last sync.
+-- by position; that memory holds no table without rows; the set of the indices of all records; and which sections were
+-- written since the last sync.
 pub record Archive (F B : Type 0) : Type 1 where
   pub pair : Pair F B
   pub items : ℕ
@@ -31,6 +32,7 @@ pub record Archive (F B : Type 0) : Type 1 where
   pub floor : ℕ
   pub rows : ℕ → List Row
   pub Filled : Type 0
+  pub indices : ℕ → Bool
   pub is_written : ℕ → Bool
 
 -- How the buffers of an archive are read: those F makes for records, in pages with seals, and those of values; and
@@ -80,8 +82,9 @@ module _ {F S : Type 0} {gs : _} (a : Archive F (PageBlob S gs)) where
       pub names : LeavesNoForeign a.pair.layout d
 
   -- The archive may be used: its pair may; the rows are those of the records, each of them spelled, and in its
-  -- section, and no more than the limits allow; nothing was pruned; what is not synced is in sections that were
-  -- written; and each of these has a row, and, where the disk is told, something that is not synced.
+  -- section, and no more than the limits allow; the set of indices is theirs; nothing was pruned; what is not synced
+  -- is in sections that were written; and each of these has a row, and, where the disk is told, something that is not
+  -- synced.
   pub record IsArchive (buffers : Buffers F (PageBlob S gs)) (told : Type 0) (opened : OpenedList)
       (d : Disk) : Type 0 where
     pub pair : IsPair buffers.pages buffers.gives buffers.values buffers.takes told a.pair opened d
@@ -91,6 +94,7 @@ module _ {F S : Type 0} {gs : _} (a : Archive F (PageBlob S gs)) where
     pub listed : told → (s : ℕ) → a.rows s ≡ map (row_in a.key_size) (records_of a.pair d s)
     pub spelled : told → (s : ℕ) → AllByRecursion (IsSpelled a.key_size) (records_of a.pair d s)
     pub filled : a.Filled
+    pub indices : (i : ℕ) → a.indices i ≡ has_row a.items a.rows i
     pub within : AreWithin a.items a.most_sections a.most_records a.rows
     pub unwritten : (s : ℕ) → a.is_written s ≡ false → synced_length a.pair s ≡ length_of a.pair s
     pub written : (s : ℕ) → IsTrue (a.is_written s) → a.rows s ≢ []

@@ -52,7 +52,7 @@ pub record Meaning (A V : Type 0) : Type 1 where
   pub Leaves : A → State → Option Asked → Disk → Type 0
   -- the blob is in a partition of the archive's, under a name that a blob of it may have
   pub IsOwn : A → Key → Type 0
-  -- a record has this index
+  -- a record has this index: so it is in what is held, over a disk that is told
   pub has : A → ℕ → Bool
   -- so the state says it, over each disk that is told and over which the archive may be used
   pub has_index : (a : A) (told : Type 0) (opened : OpenedList) (d : Disk) → IsUsable a told opened d → told

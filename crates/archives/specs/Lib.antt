@@ -1,7 +1,7 @@
 -- What this layer means to the layers above: which replies a list of commands may get, as a run of a machine whose
 -- state is a list of records for each section; and which images are lawful for an archive, what they keep, and which
--- states they stand for. `Changes` has what every archive promises of its calls; `Puts`, `Syncs`, `Gets` and `Opens`
--- what the prunable one does beside.
+-- states they stand for. `Changes` has what every archive promises of its calls, and `Indices` what it tells of its
+-- indices; `Puts`, `Syncs`, `Gets` and `Opens` what the prunable one does beside.
 pub mod Commands
 pub mod Replies
 pub mod Machine
@@ -19,6 +19,7 @@ pub mod FilingLaws
 pub mod Lawful
 pub mod Standing
 pub mod Archives
+pub mod Indices
 pub mod Prunable
 pub mod Shown
 pub mod Refusing

@@ -1,13 +1,17 @@
 -- The state that a plain list of records stands for, and what the machine on such a list promises.
 use Rattle.std.specs.Prelude.{◌≡◌, ℕ, Bool, true, ◌==◌, List, filter, find, length, map, Option, Result, Ok, Err}
 use Rattle.std.specs.Option.{option_map}
+use Rattle.ordinal_store.specs.Numbers.{IsSameSet}
+use Rattle.ordinal_store.specs.Plain.{listed}
+use Rattle.ordinal_store.specs.declared.plain.PlainSet.{PlainSet}
+use Rattle.archives.specs.Commands.{Command}
 use Rattle.archives.specs.declared.commands.Command as asking
 use Rattle.archives.specs.declared.commands.Reply as answering
 use Rattle.archives.specs.declared.error.Error.{Error}
 use Rattle.archives.specs.declared.error.Error.TheVariants.{Mem}
 use Rattle.archives.specs.declared.plain.Item.{Item}
 use Rattle.archives.specs.declared.plain.Machine.{Machine}
-use Rattle.archives.specs.Machine.{Entry, State, Step, asked, replied, section_of}
+use Rattle.archives.specs.Machine.{Entry, State, Step, asked, has_index, replied, section_of}
 
 module _ {K V : Type 0} (key_bytes : K → List ℕ) where
   abbrev pub entry_of : Item K V → Entry V
@@ -43,6 +47,20 @@ module _ {K V : Type 0} (key_bytes : K → List ℕ) where
     pub cause : e ≡ Mem
     -- and its state stays, whatever room a section has
     pub unchanged : (n : ℕ) → state_of key_bytes n new ≡ state_of key_bytes n old
+
+  -- the indices of all records are those of the state, whatever room a section has
+  abbrev pub HasIndices : Machine K V → Result PlainSet Error → Type 0
+  HasIndices machine (Ok set) =
+      (n : ℕ) → IsSameSet (listed set.numbers.items) (has_index n (state_of key_bytes n machine))
+  -- there was no memory
+  HasIndices machine (Err e) = e ≡ Mem
+
+  -- The reply to a command that only asks. It is a step of the record machine, whatever room a section has.
+  abbrev pub Tells : Machine K V → Command V → Result (answering.Reply V) Error → Type 0
+  Tells machine command (Ok reply) = (n : ℕ)
+      → Step n (state_of key_bytes n machine) command (replied (λ v. v) reply) (state_of key_bytes n machine)
+  -- there was no memory
+  Tells machine command (Err e) = e ≡ Mem
 
   -- It carried out a command. The reply is a step of the record machine, whatever room a section has.
   abbrev pub CarriesOut : asking.Command K V → Result (answering.Reply V) Error → Machine K V → Machine K V → Type 0

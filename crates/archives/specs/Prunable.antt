@@ -1,4 +1,5 @@
 -- What contracts see of prunable archives, and what one means as an archive.
+use Rattle.std.proofs.Common.{◌∙◌}
 use Rattle.std.specs.Prelude.{⊤, ℕ, List}
 use Rattle.blob_device.specs.declared.device.Device as device
 use Rattle.sealed_pages.specs.declared.page_blob.PageBlob.{PageBlob}
@@ -9,7 +10,6 @@ use Rattle.archives.specs.Changes.{MayUse, Meaning}
 use Rattle.archives.specs.Filing.{Filing}
 use Rattle.archives.specs.Finding.{IsNear, Wanted}
 use Rattle.archives.specs.Machine.{State, Step}
-use Rattle.archives.specs.Putting.{is_taken}
 use Rattle.archives.specs.PuttingLaws.{taken_state}
 use Rattle.archives.specs.Standing.{Leaves}
 
@@ -46,8 +46,8 @@ module _ {A V F S : Type 0} {gs : _} (p : Prunable A V F (PageBlob S gs)) where
     steps = λ a st next command reply every step. step;
     Leaves = λ a. Leaves (filing_by a);
     IsOwn = λ a. IsOwn (p.see a).pair.layout (λ _. ⊤);
-    has = λ a. is_taken (p.see a);
-    has_index = λ a told opened d usable t. taken_state (p.see a) d (usable.listed t);
+    has = λ a. (p.see a).indices;
+    has_index = λ a told opened d usable t i. usable.indices i ∙ taken_state (p.see a) d (usable.listed t) i;
     Accepts = p.Accepts;
   }
 

@@ -1,6 +1,5 @@
 -- What a put asks of an archive before it writes.
 use Rattle.std.specs.Prelude.{◌≡◌, ◌⊎◌, ℕ, ◌+◌, ◌-◌, ◌*◌, ◌^◌, ◌<◌, ◌≤◌, ◌&&◌, not, if◌then◌else◌, Bool, false, ◌==◌, IsTrue, Some, IsSomeAnd, List, [], ◌∷◌, ◌++◌, length, sum_by}
-use Rattle.std.specs.List.{list_any}
 use Rattle.sealed_pages.specs.declared.page_blob.PageBlob.{PageBlob}
 use Rattle.sealed_pages.specs.declared.write_blob.WriteBlob.{WriteBlob}
 use Rattle.sealed_pages.specs.Buffer.{FlushesNothing, extent, size_of}
@@ -15,7 +14,7 @@ use Rattle.paired.specs.Pair as pair
 use Rattle.archives.specs.Archives.{Archive}
 use Rattle.archives.specs.Filing.{Filing}
 use Rattle.archives.specs.Machine.{State, section_of}
-use Rattle.archives.specs.Rows.{HasRoom, Row}
+use Rattle.archives.specs.Rows.{HasRoom, Row, has_row}
 
 -- of a section: how many bytes of its records are not flushed, and how many of its values
 abbrev pub record_tail : {F S : Type 0} {gs : _} → Archive F (PageBlob S gs) → ℕ → ℕ
@@ -27,7 +26,7 @@ value_tail a s = glob.pending_size a.pair.values s
 module _ {F S : Type 0} {gs : _} (a : Archive F (PageBlob S gs)) (index : ℕ) where
   -- a record has the index
   abbrev pub is_taken : Bool
-  is_taken = list_any (λ r. r.index == index) (a.rows (section_of a.items index))
+  is_taken = has_row a.items a.rows index
 
   -- the rows of a section once a record with this key was put
   abbrev pub rows_after : List ℕ → ℕ → List Row

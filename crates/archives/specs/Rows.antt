@@ -1,11 +1,12 @@
 -- What an archive holds in memory of its records: a row for each, by section and position.
-use Rattle.std.specs.Prelude.{◌≡◌, ◌≢◌, ◌⊎◌, ℕ, ◌<◌, ◌≤◌, List, [], ◌∷◌, ◌++◌, length, map, Option, None, Some, IsSomeAnd, Result, Ok, Err}
-use Rattle.std.specs.List.{AllByRecursion}
+use Rattle.std.specs.Prelude.{◌≡◌, ◌≢◌, ◌⊎◌, ◌↔◌, ℕ, ◌<◌, ◌≤◌, ◌==◌, Bool, List, [], ◌∷◌, ◌++◌, length, map, Contains, Option, None, Some, IsSomeAnd, IsTrue, Result, Ok, Err}
+use Rattle.std.specs.List.{AllByRecursion, list_any}
 use Rattle.std.specs.List.Sorted.{IsStrictlySortedBy}
 use Rattle.std.specs.Global.{Vec}
 use Rattle.std.specs.Ordering.{nat_cmp}
 use Rattle.std.specs.BTreeMap.{get}
 use Rattle.std.specs.Vec.{vec_len, vec_capacity}
+use Rattle.ordinal_store.specs.Numbers.{Set}
 use Rattle.archives.specs.IndexRecord.{index_of, key_of}
 use Rattle.archives.specs.Machine.{section_of}
 use Rattle.archives.specs.declared.prunable.tables.Entry.{Entry}
@@ -19,6 +20,15 @@ pub record Row : Type 0 where
 abbrev pub row_in : ℕ → List ℕ → Row
 row_in n r = record { index = index_of r; key = key_of n r }
 
+-- a row has the index, which is in the index's section
+abbrev pub has_row : ℕ → (ℕ → List Row) → ℕ → Bool
+has_row items rows index = list_any (λ r. r.index == index) (rows (section_of items index))
+
+-- the numbers of the set are the indices of the rows, of whichever section
+abbrev pub AreIndicesOf : (ℕ → List Row) → Set → Type 0
+AreIndicesOf rows set =
+    (i : ℕ) → IsTrue (set i) ↔ ((s : ℕ) × (r : Row) × Contains (rows s) r × (r.index ≡ i))
+
 module _ {K : Type 0} (key_bytes : K → List ℕ) where
   abbrev pub row_of : Entry K → Row
   row_of e = record { index = e.index; key = key_bytes e.key }
@@ -30,6 +40,11 @@ module _ {K : Type 0} (key_bytes : K → List ℕ) where
   -- the rows of a section, by position
   abbrev pub rows_of : Tables K → ℕ → List Row
   rows_of t s = rows_in (get nat_cmp t.tables s)
+
+-- the new set has the indices of these entries beside those of the old one
+abbrev pub AddsIndices : {K : Type 0} → Set → List (Entry K) → Set → Type 0
+AddsIndices {K} old entries new = (i : ℕ)
+    → IsTrue (new i) ↔ (((e : Entry K) × Contains entries e × (e.index ≡ i)) ⊎ IsTrue (old i))
 
 -- no table is empty, but perhaps that of a section that P names
 abbrev pub AreFilledBut : {K : Type 0} → (ℕ → Type 0) → Tables K → Type 0

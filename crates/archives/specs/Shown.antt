@@ -12,6 +12,7 @@ use Rattle.segments.specs.declared.sealed.AppendFactory.{AppendFactory}
 use Rattle.paired.specs.CodecShown.{pair_codec_config}
 use Rattle.paired.specs.PairShown as pair
 use Rattle.paired.specs.TrackedShown.{marker_format}
+use Rattle.ordinal_store.specs.Ranges.{set_of}
 use Rattle.archives.specs.Archives as archive
 use Rattle.archives.specs.Archives.{Buffers}
 use Rattle.archives.specs.Filing.{Filing}
@@ -36,6 +37,7 @@ shown {key = k} {codec = c} {seal = s} a = record {
   floor = 0;
   rows = rows_of k.key_bytes a.tables;
   Filled = AreFilledBut (λ _. ⊥) a.tables;
+  indices = set_of a.indices;
   is_written = set.contains nat_cmp a.written;
 }
 

@@ -1,11 +1,14 @@
 // What every archive is.
-ghost use Rattle.std.specs.Prelude.{◌≡◌};
+ghost use Rattle.std.specs.Prelude.{◌≡◌, ◌≤◌};
 ghost use Rattle.archives.specs.Changes.{AsksValue, AsksWhether, Changes, ChangesDurably, MayUse, Meaning, Settles, outcome};
 ghost use Rattle.archives.specs.Commands.{Put};
 ghost use Rattle.archives.specs.Finding.{wanted_of};
+ghost use Rattle.archives.specs.Indices.{GivesMissing, IsGap};
+ghost use Rattle.ordinal_store.specs.Numbers.{AreRuns, AreRunsFrom, IsGreatest, IsLeast};
 
 use crate::Error;
 use blob_device::{Device, Handle};
+use ordinal_store::{Numbers, RangeIter};
 use value_codec::{Codec, Key};
 
 /// What names a record of an archive: its index, or its key.
@@ -96,6 +99,33 @@ pub trait Archive: Sized {
     /// Whether a value has this index. It takes no memory.
     fn has_index(&self, index: u64) -> bool
         ensures { result ≡ meaning.has self.now index };
+
+    /// The end of the run of indices that holds this one, and the start of the first run that begins above it,
+    /// each if there is one. It takes no memory.
+    fn next_gap(&self, index: u64) -> (Option<u64>, Option<u64>)
+        ensures { IsGap (meaning.has self.now) index result };
+
+    /// The first `max` indices from `start` on that no value has and that have an index above them, or all of
+    /// these. It takes memory for its answer alone. At least one has to be asked for.
+    fn missing_items(&self, start: u64, max: usize) -> Result<Numbers, Error>
+        requires { 1 ≤ max }
+        ensures { GivesMissing (meaning.has self.now) start max result };
+
+    /// The runs of indices, ascending. They are walked one at a time, and take no memory.
+    fn ranges(&self) -> RangeIter<'_>
+        ensures { AreRuns (meaning.has self.now) result };
+
+    /// The runs of indices that end at `from` or later, ascending. It takes no memory.
+    fn ranges_from(&self, from: u64) -> RangeIter<'_>
+        ensures { AreRunsFrom (meaning.has self.now) from result };
+
+    /// The least index. It takes no memory.
+    fn first_index(&self) -> Option<u64>
+        ensures { IsLeast (meaning.has self.now) result };
+
+    /// The greatest index. It takes no memory.
+    fn last_index(&self) -> Option<u64>
+        ensures { IsGreatest (meaning.has self.now) result };
 
     /// Makes all that was put durable.
     fn sync<D: Device>(self, dev: &mut D) -> Result<Self, Error>

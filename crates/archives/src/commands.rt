@@ -1,5 +1,8 @@
 // What an archive is asked, and what it replies.
 
+use crate::Pairs;
+use ordinal_store::Numbers;
+
 /// A command to an archive. An index is any `u64`.
 #[derive(Debug, Drop)]
 pub enum Command<K, V> {
@@ -17,6 +20,18 @@ pub enum Command<K, V> {
     Has(u64),
     /// Whether a record has this key.
     HasKey(K),
+    /// Of the indices that are taken: the end of the run with this one, and the start of the next run.
+    Gap(u64),
+    /// So many indices from this one on that are not taken, and have one above them that is.
+    Missing(u64, u32),
+    /// The runs of indices that are taken.
+    Ranges,
+    /// Those that end at this index or later.
+    RangesFrom(u64),
+    /// The least index that is taken.
+    First,
+    /// The greatest.
+    Last,
     /// Settle all that was put.
     Sync,
     /// The same, by a sync that is started.
@@ -34,4 +49,12 @@ pub enum Reply<V> {
     Value(Option<V>),
     /// The answer to a test.
     Flag(bool),
+    /// The end of a run of indices, and the start of the next one, each if there is one.
+    Gap(Option<u64>, Option<u64>),
+    /// Indices, ascending.
+    Items(Numbers),
+    /// Runs of indices, ascending.
+    Ranges(Pairs),
+    /// The index that was asked for, or none.
+    Index(Option<u64>),
 }

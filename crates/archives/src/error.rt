@@ -43,6 +43,16 @@ impl<T: Drop> From<AllocFailed<T>> for Error {
     }
 }
 
+impl From<ordinal_store::RMapError> for Error {
+    ghost from_gives = { λ _ e. e ≡ Mem };
+
+    fn from(e: ordinal_store::RMapError) -> Error {
+        match e {
+            ordinal_store::RMapError::Mem => Error::Mem,
+        }
+    }
+}
+
 impl From<meta_store::Error> for Error {
     ghost from_gives = { λ e r. r ≡ raised_metadata e };
 

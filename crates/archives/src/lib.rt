@@ -8,6 +8,7 @@
 mod archive;
 mod commands;
 mod error;
+mod lists;
 pub mod plain;
 pub mod prunable;
 mod translator;
@@ -15,4 +16,5 @@ mod translator;
 pub use archive::{Archive, Identifier};
 pub use commands::{Command, Reply};
 pub use error::Error;
+pub use lists::Pairs;
 pub use translator::{FourCap, Translator};

@@ -1,13 +1,15 @@
 //! The machine of records on one plain list, in the order in which the records were put. It is slow, since each command
 //! scans the list, and made to be read beside the definitions: the archive on the device is compared with it.
-ghost use Rattle.std.specs.Prelude.{◌≡◌, ℕ, ◌==◌, [], IfOk, OnErr, OnOk};
+ghost use Rattle.std.specs.Prelude.{◌≡◌, ℕ, ◌==◌, IfOk, OnErr, OnOk};
 ghost use Rattle.std.specs.Option.{option_copied};
 ghost use Rattle.std.specs.Result.{IsOkUnless};
 ghost use Rattle.std.specs.List.{list_any};
 ghost use Rattle.archives.specs.Machine.{after_put, after_sync, empty_state, entries_at, first_value, has_index};
-ghost use Rattle.archives.specs.Plain.{CarriesOut, first_at, first_under, state_of};
+ghost use Rattle.archives.specs.Commands.{First, Gap, Last, Missing, RangesFrom};
+ghost use Rattle.archives.specs.Plain.{CarriesOut, HasIndices, Tells, first_at, first_under, state_of};
 
-use crate::{Command, Error, Reply};
+use crate::{Command, Error, Pairs, Reply};
+use ordinal_store::plain::PlainSet;
 use std::alloc::Global;
 use value_codec::Key;
 
@@ -27,6 +29,7 @@ pub struct Item<K, V> {
 /// A machine of records with nothing pruned.
 #[derive(Drop)]
 pub struct Machine<K, V> {
+    alloc: Global,
     // in the order of the puts, no two with one index: a put at a taken index adds none
     items: Vec<Item<K, V>>,
 }
@@ -68,6 +71,7 @@ impl<K: Key, V: Clone> Machine<K, V> {
         ensures { (n : ℕ) → state_of K.key_bytes n result ≡ empty_state }
     {
         Machine {
+            alloc,
             items: Vec::new(alloc),
         }
     }
@@ -105,6 +109,55 @@ impl<K: Key, V: Clone> Machine<K, V> {
             is_synced: false,
         })?;
         Ok(())
+    }
+
+    // The indices of all records.
+    fn indices(&self) -> Result<PlainSet, Error>
+        ensures { HasIndices K.key_bytes self.now result }
+    {
+        let mut set = PlainSet::new(self.alloc);
+        for item in &self.items {
+            set.insert(item.index)?;
+        }
+        Ok(set)
+    }
+
+    // The end of the run of indices that holds this one, and the start of the next run.
+    fn next_gap(&self, index: u64) -> Result<Reply<V>, Error>
+        ensures { Tells K.key_bytes self.now (Gap index) result }
+    {
+        let (end, next) = self.indices()?.next_gap(index);
+        Ok(Reply::Gap(end, next))
+    }
+
+    // So many indices from this one on that are not taken, and have one above them that is.
+    fn missing_items(&self, index: u64, count: u32) -> Result<Reply<V>, Error>
+        ensures { Tells K.key_bytes self.now (Missing index count) result }
+    {
+        let missing = self.indices()?.missing(index, count as usize)?;
+        Ok(Reply::Items(missing))
+    }
+
+    // The runs of indices that end here or later.
+    fn ranges_from(&self, index: u64) -> Result<Reply<V>, Error>
+        ensures { Tells K.key_bytes self.now (RangesFrom index) result }
+    {
+        let runs = self.indices()?.runs_from(index)?;
+        Ok(Reply::Ranges(Pairs::from_vec(runs)))
+    }
+
+    // The least index.
+    fn first_index(&self) -> Result<Reply<V>, Error>
+        ensures { Tells K.key_bytes self.now First result }
+    {
+        Ok(Reply::Index(self.indices()?.first()))
+    }
+
+    // The greatest index.
+    fn last_index(&self) -> Result<Reply<V>, Error>
+        ensures { Tells K.key_bytes self.now Last result }
+    {
+        Ok(Reply::Index(self.indices()?.last()))
     }
 
     // All that was put counts as synced.
@@ -154,6 +207,13 @@ impl<K: Key, V: Clone> Machine<K, V> {
                 let value = value_under(self.items.as_slice(), key);
                 Ok(Reply::Flag(value.is_some()))
             }
+            Command::Gap(index) => self.next_gap(*index),
+            Command::Missing(index, count) => self.missing_items(*index, *count),
+            // From 0 on these are all.
+            Command::Ranges => self.ranges_from(0),
+            Command::RangesFrom(index) => self.ranges_from(*index),
+            Command::First => self.first_index(),
+            Command::Last => self.last_index(),
             Command::Sync | Command::Start | Command::Reopen => {
                 self.sync();
                 Ok(Reply::Done)

@@ -27,16 +27,18 @@
 //!
 //! # Cost
 //!
-//! Index and key of each record are held in memory. A lookup by index goes over a section's records, one by key over
-//! all, and then reads at most one record and one value. `has` reads no value.
+//! Index and key of each record are held in memory, and the indices also as a set of runs. A lookup by index goes
+//! over a section's records, one by key over all, and then reads at most one record and one value. `has` reads
+//! none. Whether an index is taken, and what asks for gaps and runs, is answered by the runs alone.
 ghost use Rattle.std.specs.Prelude.{◌≡◌, ◌≤◌};
+ghost use Rattle.ordinal_store.specs.Numbers.{AreRuns, AreRunsFrom, IsGreatest, IsLeast};
 ghost use Rattle.archives.specs.Changes.{outcome};
 ghost use Rattle.archives.specs.Finding.{wanted_of};
 ghost use Rattle.archives.specs.Gets.{Gets, Has};
+ghost use Rattle.archives.specs.Indices.{GivesMissing, IsGap};
 ghost use Rattle.archives.specs.Machine.{section_of};
 ghost use Rattle.archives.specs.Prunable.{IsOver, meaning};
 ghost use Rattle.archives.specs.Puts.{Puts};
-ghost use Rattle.archives.specs.Putting.{is_taken};
 ghost use Rattle.archives.specs.Syncs.{PutSyncs, Syncs};
 
 mod config;
@@ -54,6 +56,7 @@ use blob_device::{Device, Handle};
 pub use config::Config;
 pub use index_record::IndexRecord;
 pub use limits::Limits;
+use ordinal_store::{Numbers, RMap, RangeIter};
 use paired::{Oversized, Record};
 use sealed_pages::PageBlob;
 use segments::SectionBuffer;
@@ -65,8 +68,8 @@ use value_codec::{Codec, Key, Seal};
 /// Values by index and by key. The indices are cut into sections, each of them named by its first index, and a section is a list of records
 /// in the order in which they were put.
 ///
-/// Of each record the archive holds index and key in memory. Lookups go over these, and read no blob but those of a section in which a record has the
-/// index, or a key with the key's word.
+/// Of each record the archive holds index and key in memory, and the indices also as a set of runs. Lookups go over
+/// these, and read no blob but those of a section in which a record has the index, or a key with the key's word.
 #[derive(Drop)]
 pub struct Archive<T: Translator, K: Key, V: Codec, S: Seal>
 where
@@ -85,6 +88,8 @@ where
     pair: Oversized<IndexRecord<K>, V, S>,
     // index and key of each record of the pair, by position: entered with the record
     tables: Tables<K>,
+    // the indices of all records: a row of the tables has each, and no other
+    indices: RMap,
     // the sections written since the last sync: a put adds its own, a sync clears all
     written: BTreeSet<u64>,
 }
@@ -172,14 +177,53 @@ impl<T: Translator, K: Key, V: Codec, S: Seal> crate::Archive for Archive<T, K, 
             (wanted_of K.key_bytes identifier.entry) result dev.old dev.new }
     {
         let _untouched = dev;
+        if let Identifier::Index(index) = identifier {
+            return Ok(self.has_index(index));
+        }
         Ok(self.place_of(identifier).is_some())
     }
 
     fn has_index(&self, index: u64) -> bool
-        ensures { result ≡ is_taken (shown self.now) index }
+        ensures { result ≡ (shown self.now).indices index }
     {
-        let section = section_of(index, self.items_per_section);
-        self.tables.position_of(section, index).is_some()
+        self.indices.get(index).is_some()
+    }
+
+    fn next_gap(&self, index: u64) -> (Option<u64>, Option<u64>)
+        ensures { IsGap (shown self.now).indices index result }
+    {
+        self.indices.next_gap(index)
+    }
+
+    fn missing_items(&self, start: u64, max: usize) -> Result<Numbers, Error>
+        requires { 1 ≤ max }
+        ensures { GivesMissing (shown self.now).indices start max result }
+    {
+        Ok(self.indices.missing_items(start, max)?)
+    }
+
+    fn ranges(&self) -> RangeIter<'_>
+        ensures { AreRuns (shown self.now).indices result }
+    {
+        self.indices.iter()
+    }
+
+    fn ranges_from(&self, from: u64) -> RangeIter<'_>
+        ensures { AreRunsFrom (shown self.now).indices from result }
+    {
+        self.indices.iter_from(from)
+    }
+
+    fn first_index(&self) -> Option<u64>
+        ensures { IsLeast (shown self.now).indices result }
+    {
+        self.indices.first_index()
+    }
+
+    fn last_index(&self) -> Option<u64>
+        ensures { IsGreatest (shown self.now).indices result }
+    {
+        self.indices.last_index()
     }
 
     /// Makes durable what was written since the last sync. What was synced before is marked, so that the next opening does not read its

@@ -12,6 +12,8 @@ ghost use Rattle.archive_service.specs.Kinds.{Answers, MayUse};
 ghost use Rattle.archive_service.specs.PrunableStore.{prunable_serving};
 ghost use Rattle.archive_service.specs.Stores.{PutsOnly};
 
+mod indices;
+
 use super::Store;
 use archives::prunable::{Archive, Config};
 use archives::{Archive as _, Command, Error, Identifier, Reply, Translator};
@@ -74,6 +76,14 @@ fn carry_out<T: Translator, K: Key, V: Codec, S: Seal, D: Device>(
         Command::GetKey(key) => get(archive, dev, cfg, Identifier::Key(key)),
         Command::Has(index) => has(archive, dev, cfg, by_index(command, *index)),
         Command::HasKey(key) => has(archive, dev, cfg, Identifier::Key(key)),
+        Command::Gap(index) => indices::gap(archive, dev, cfg, *index),
+        Command::Missing(index, count) => {
+            indices::missing(archive, alloc, dev, cfg, *index, *count)
+        }
+        Command::Ranges => indices::ranges(archive, alloc, dev, cfg),
+        Command::RangesFrom(index) => indices::ranges_from(archive, alloc, dev, cfg, *index),
+        Command::First => indices::first(archive, dev, cfg),
+        Command::Last => indices::last(archive, dev, cfg),
     }
 }
 

@@ -69,6 +69,7 @@ impl<T: Translator, K: Key, V: Codec, S: Seal> Archive<T, K, V, S> {
             cfg.metadata_partition.as_str(),
         )?;
         let tables = Self::entered(alloc, dev, &mut replay, cfg)?;
+        let indices = tables.indices()?;
         Ok(Archive {
             alloc,
             translator: cfg.translator,
@@ -76,6 +77,7 @@ impl<T: Translator, K: Key, V: Codec, S: Seal> Archive<T, K, V, S> {
             limits: cfg.limits,
             pair: replay.finish_tracked(dev)?,
             tables,
+            indices,
             written: BTreeSet::new(alloc),
         })
     }

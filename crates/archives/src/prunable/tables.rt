@@ -1,8 +1,10 @@
 // Which records the sections keep, held in memory.
-ghost use Rattle.std.specs.Prelude.{◌≡◌, ◌≢◌, ◌↔◌, ◌<◌, [], ℕ, None, slice_get, IfSome, IsSomeAnd, IsTrue, OnOk};
-ghost use Rattle.archives.specs.Rows.{AreFilledBut, HasRoom, HasSpare, Pushes, rows_of};
+ghost use Rattle.std.specs.Prelude.{◌≡◌, ◌≢◌, ◌↔◌, ◌<◌, [], ℕ, None, slice_get, IfOk, IfSome, IsSomeAnd, IsTrue, OnOk};
+ghost use Rattle.ordinal_store.specs.Ranges.{set_of};
+ghost use Rattle.archives.specs.Rows.{AddsIndices, AreFilledBut, AreIndicesOf, HasRoom, HasSpare, Pushes, rows_of};
 
 use super::Limits;
+use ordinal_store::{RMap, RMapError};
 use std::alloc::{AllocError, Global};
 use std::collections::BTreeMap;
 use value_codec::Key;
@@ -72,6 +74,18 @@ impl<K: Key> Tables<K> {
         Ok(())
     }
 
+    /// The indices of all records, as a set.
+    pub(super) fn indices(&self) -> Result<RMap, RMapError>
+        ensures { IfOk result (λ indices. AreIndicesOf (rows_of K.key_bytes self.now)
+            (set_of indices)) }
+    {
+        let mut indices = RMap::new(self.alloc);
+        for (_, table) in &self.tables {
+            add_indices(&mut indices, table)?;
+        }
+        Ok(indices)
+    }
+
     /// The position of the first record in the section that has this index.
     pub(super) fn position_of(&self, section: u64, index: u64) -> Option<u64>
         ensures found { IfSome result (λ p. IsSomeAnd (slice_get
@@ -107,4 +121,14 @@ impl<K: Key> Tables<K> {
         }
         None
     }
+}
+
+// Puts the indices of these entries into the set.
+fn add_indices<K>(indices: &mut RMap, entries: &[Entry<K>]) -> Result<(), RMapError>
+    ensures { OnOk result (AddsIndices (set_of indices.old) entries.now (set_of indices.new)) }
+{
+    for entry in entries {
+        indices.insert(entry.index)?;
+    }
+    Ok(())
 }

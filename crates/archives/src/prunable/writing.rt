@@ -37,6 +37,7 @@ impl<T: Translator, K: Key, V: Codec, S: Seal> Archive<T, K, V, S> {
         let mut this = self;
         this.tables.reserve(section)?;
         this.written.insert(section)?;
+        this.indices.insert(index)?;
         let record = IndexRecord::new(index, key);
         let (pair, _, _, _) = this.pair.append(dev, section, record, value)?;
         this.pair = pair;

@@ -37,3 +37,21 @@ returns-in-GetKey g c = answers_to _ g.D.Device c.args.archive _ _ _ _ _ (ap (as
 
 pub returns-in-HasKey : goal.returns-in-HasKey
 returns-in-HasKey g c = answers_to _ g.D.Device c.args.archive _ _ _ _ _ (ap (asked g.K.Key.key_bytes g.V.Codec.spelling) c.in-HasKey.is) c.has-in-HasKey.ensures
+
+pub returns-in-Gap : goal.returns-in-Gap
+returns-in-Gap g c = answers_to _ g.D.Device c.args.archive _ _ _ _ _ (ap (asked g.K.Key.key_bytes g.V.Codec.spelling) c.in-Gap.is) c.gap.ensures
+
+pub returns-in-Missing : goal.returns-in-Missing
+returns-in-Missing g c = answers_to _ g.D.Device c.args.archive _ _ _ _ _ (ap (asked g.K.Key.key_bytes g.V.Codec.spelling) c.in-Missing.is) c.missing.ensures
+
+pub returns-in-Ranges : goal.returns-in-Ranges
+returns-in-Ranges g c = answers_to _ g.D.Device c.args.archive _ _ _ _ _ (ap (asked g.K.Key.key_bytes g.V.Codec.spelling) c.in-Ranges.is) c.ranges-in-Ranges.ensures
+
+pub returns-in-RangesFrom : goal.returns-in-RangesFrom
+returns-in-RangesFrom g c = answers_to _ g.D.Device c.args.archive _ _ _ _ _ (ap (asked g.K.Key.key_bytes g.V.Codec.spelling) c.in-RangesFrom.is) c.ranges_from.ensures
+
+pub returns-in-First : goal.returns-in-First
+returns-in-First g c = answers_to _ g.D.Device c.args.archive _ _ _ _ _ (ap (asked g.K.Key.key_bytes g.V.Codec.spelling) c.in-First.is) c.first.ensures
+
+pub returns-in-Last : goal.returns-in-Last
+returns-in-Last g c = answers_to _ g.D.Device c.args.archive _ _ _ _ _ (ap (asked g.K.Key.key_bytes g.V.Codec.spelling) c.in-Last.is) c.last.ensures

@@ -16,6 +16,7 @@ use Rattle.paired.specs.PairShown as pair
 use Rattle.paired.specs.Pair.{list_of, synced_length}
 use Rattle.paired.proofs.FrameLemmas.{length-frame}
 use Rattle.paired.proofs.ValueEnds.{not_at}
+use Rattle.ordinal_store.specs.Ranges.{set_of}
 use Rattle.archives.specs.Archives.{IsSoundArchive, filing_of, state_of}
 use Rattle.archives.specs.Commands.{Put}
 use Rattle.archives.specs.IndexRecord.{index_record, place_of}
@@ -49,7 +50,7 @@ short g c = elim (cases_lt (2 ^ 32 - 1) (length (frame g.S.Seal.seal_of (g.V.Cod
 ]
 
 -- what the calls did, where all of them ended well
-adds_of : (g : given.Over) (c : goal.After-result-1 g) → Adds (shown c.args.self) (pair.shown (place_of g.K.Key.SIZE) c.in_ok-pair.pair) (λ bytes. g.V.Codec.refusal bytes c.in_ok-pair.pair.values.codec_config) (rows_of g.K.Key.key_bytes c.push.new.self) (AreFilledBut (λ _. ⊥) c.push.new.self) (contains nat_cmp c.insert.new.self)
+adds_of : (g : given.Over) (c : goal.After-result-1 g) → Adds (shown c.args.self) (pair.shown (place_of g.K.Key.SIZE) c.in_ok-pair.pair) (λ bytes. g.V.Codec.refusal bytes c.in_ok-pair.pair.values.codec_config) (rows_of g.K.Key.key_bytes c.push.new.self) (AreFilledBut (λ _. ⊥) c.push.new.self) (set_of c.insert-2.new.self) (contains nat_cmp c.insert.new.self)
     c.args.index c.section_of-section.result c.section_of-section.ensures (g.K.Key.key_bytes c.args.key) (length (frame g.S.Seal.seal_of (g.V.Codec.spelling c.args.value.now))) (disk (g.D.Device.time c.args.dev.now)) (disk (g.D.Device.time c.append.new.dev)) g.D.Device.Tells
 adds_of g c =
     let a = shown c.args.self in
@@ -76,6 +77,7 @@ adds_of g c =
       synced = c.in_ok-pair.ensures.synced;
       row = c.in_ok-push.ensures.added ∙ ap (λ (rs : List Row). rs ++ row ∷ []) (c.reserve.ensures.same sec);
       other_rows = λ s other. c.in_ok-push.ensures.others s other ∙ c.reserve.ensures.same s;
+      added = c.in_ok-insert-2.ensures.ok;
       written = still_none (contains nat_cmp c.args.self.written) (contains nat_cmp c.insert.new.self) sec c.in_ok-insert.ensures.updates.1 (λ q other. c.in_ok-insert.ensures.updates.2 q (not_at c.section_of-section.result q other));
       written_now = λ s. (grows (contains nat_cmp c.args.self.written) (contains nat_cmp c.insert.new.self) sec c.in_ok-insert.ensures.updates.1 (λ q other. c.in_ok-insert.ensures.updates.2 q (not_at c.section_of-section.result q other)) s).0;
       filled = c.in_ok-push.ensures.filled;
@@ -125,7 +127,7 @@ moments_of g c t sound =
     keeping
 
 sounds_of : (g : given.Over) (c : goal.After-result-1 g) → g.D.Device.Tells → IsSoundArchive (shown c.args.self) (disk (g.D.Device.time c.args.dev.now))
-    → Sounds (shown c.args.self) (pair.shown (place_of g.K.Key.SIZE) c.in_ok-pair.pair) (λ bytes. g.V.Codec.refusal bytes c.in_ok-pair.pair.values.codec_config) (rows_of g.K.Key.key_bytes c.push.new.self) (AreFilledBut (λ _. ⊥) c.push.new.self) (contains nat_cmp c.insert.new.self)
+    → Sounds (shown c.args.self) (pair.shown (place_of g.K.Key.SIZE) c.in_ok-pair.pair) (λ bytes. g.V.Codec.refusal bytes c.in_ok-pair.pair.values.codec_config) (rows_of g.K.Key.key_bytes c.push.new.self) (AreFilledBut (λ _. ⊥) c.push.new.self) (set_of c.insert-2.new.self) (contains nat_cmp c.insert.new.self)
     c.args.index c.section_of-section.result c.section_of-section.ensures (g.K.Key.key_bytes c.args.key) (g.V.Codec.spelling c.args.value.now) (length (frame g.S.Seal.seal_of (g.V.Codec.spelling c.args.value.now))) (disk (g.D.Device.time c.args.dev.now)) (disk (g.D.Device.time c.append.new.dev))
 sounds_of g c t sound = record {
   index_here = c.in_ok-pair.ensures.layout.index;
@@ -171,6 +173,13 @@ returns-in_err-reserve g c =
 pub returns-in_err-insert : goal.returns-in_err-insert
 returns-in_err-insert g c =
     put_as _ g.D.Device c.args.self c.args.index (g.K.Key.key_bytes c.args.key) (g.V.Codec.spelling c.args.value.now) _ (Err Mem) _ _ (err_of _ Mem c.from_residual-in_err-insert.ensures.1)
+    (put_no_memory _ g.D.Device c.args.self c.args.index (g.K.Key.key_bytes c.args.key) (g.V.Codec.spelling c.args.value.now) (section_small _ c.args.index c.ranges.index.fits) c.requires.free c.args.dev.now
+    (λ t sound. at_rest (shown c.args.self) (disk (g.D.Device.time c.args.dev.now)) (omega arith) refl refl refl (λ s v held. λ i. (c.requires.over.pair.index.over.opened_list.setting s v held i).page_size) c.requires.over t sound)
+    (subst (HasRoom (shown c.args.self).most_sections (shown c.args.self).most_records (shown c.args.self).rows) c.section_of-section.ensures (c.has_room.ensures.0 c.if-not-has_room.false)))
+
+pub returns-in_err-insert-2 : goal.returns-in_err-insert-2
+returns-in_err-insert-2 g c =
+    put_as _ g.D.Device c.args.self c.args.index (g.K.Key.key_bytes c.args.key) (g.V.Codec.spelling c.args.value.now) _ (Err Mem) _ _ (err_of _ Mem c.from_residual-in_err-insert-2.ensures.1)
     (put_no_memory _ g.D.Device c.args.self c.args.index (g.K.Key.key_bytes c.args.key) (g.V.Codec.spelling c.args.value.now) (section_small _ c.args.index c.ranges.index.fits) c.requires.free c.args.dev.now
     (λ t sound. at_rest (shown c.args.self) (disk (g.D.Device.time c.args.dev.now)) (omega arith) refl refl refl (λ s v held. λ i. (c.requires.over.pair.index.over.opened_list.setting s v held i).page_size) c.requires.over t sound)
     (subst (HasRoom (shown c.args.self).most_sections (shown c.args.self).most_records (shown c.args.self).rows) c.section_of-section.ensures (c.has_room.ensures.0 c.if-not-has_room.false)))
@@ -223,9 +232,9 @@ returns g c =
     let written = contains nat_cmp c.insert.new.self in
     let adds = adds_of g c in
     let filing = same_filing (filing_of a) q.layout refusal says.layout refl (λ _. refl) (λ _. refl) (λ bytes. ap (g.V.Codec.refusal bytes) says.codec_config) in
-    let over = grown_archive a q refusal rows (AreFilledBut (λ _. ⊥) c.push.new.self) written c.args.index sec here key n d e
+    let over = grown_archive a q refusal rows (AreFilledBut (λ _. ⊥) c.push.new.self) (set_of c.insert-2.new.self) written c.args.index sec here key n d e
     c.requires.over adds says.over (c.has_room.ensures.0 c.if-not-has_room.false) c.args.self.has_records in
-    let sounder : g.D.Device.Tells → IsSoundArchive a d → IsSoundArchive _ e = λ t sound. grown_sound a q refusal rows (AreFilledBut (λ _. ⊥) c.push.new.self) written c.args.index sec here key v n d e c.requires.over t adds (asked_of g (goal.at.returns g c).After-append sound (short g c)) sound (sounds_of g c t sound) in
+    let sounder : g.D.Device.Tells → IsSoundArchive a d → IsSoundArchive _ e = λ t sound. grown_sound a q refusal rows (AreFilledBut (λ _. ⊥) c.push.new.self) (set_of c.insert-2.new.self) written c.args.index sec here key v n d e c.requires.over t adds (asked_of g (goal.at.returns g c).After-append sound (short g c)) sound (sounds_of g c t sound) in
     put_added _ g.D.Device c.args.self c.args.index key v small c.requires.free _ c.args.dev.now c.append.new.dev allowed (moments_of g (goal.at.returns g c).After-append)
     (touches_here _ g.D.Device c.args.self c.args.index key v sec here c.args.dev.now c.append.new.dev (record {
       untouched = c.append.ensures.untouched;
@@ -239,7 +248,7 @@ returns g c =
     (one_filing (filing_of a) _ filing refl)
     (λ w accepts. subst (g.V.Codec.accepted w) (sym says.codec_config) accepts)
     sounder
-    (λ t sound. grown_state a q refusal rows (AreFilledBut (λ _. ⊥) c.push.new.self) written c.args.index sec here key v n d e c.requires.over t adds (asked_of g (goal.at.returns g c).After-append sound (short g c)) sound (sounds_of g c t sound))
+    (λ t sound. grown_state a q refusal rows (AreFilledBut (λ _. ⊥) c.push.new.self) (set_of c.insert-2.new.self) written c.args.index sec here key v n d e c.requires.over t adds (asked_of g (goal.at.returns g c).After-append sound (short g c)) sound (sounds_of g c t sound))
     (λ t sound. at_rest _ e (omega arith) refl refl refl (λ s u held. λ i. (says.over.index.over.opened_list.setting s u held i).page_size) over t sound)
     (record {
       filing = filing;

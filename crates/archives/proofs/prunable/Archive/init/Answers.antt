@@ -27,6 +27,7 @@ use Rattle.paired.proofs.PairSynced.{here_of}
 use Rattle.paired.proofs.ReconcileEntries.{drained_from, markers_readable, run_here}
 use Rattle.paired.specs.OpeningRefusing.{AreCounted, IsLost}
 use Rattle.paired.specs.ReplayShown.{layout_for, run_of}
+use Rattle.ordinal_store.specs.Ranges.{set_of}
 use Rattle.archives.specs.Archives.{Archive, filing_of, state_of}
 use Rattle.archives.specs.FilingLaws.{one_filing}
 use Rattle.archives.specs.IndexRecord.{IsSpelled, place_of}
@@ -42,6 +43,7 @@ use Rattle.archives.proofs.PutSync.{same_filing}
 use Rattle.archives.proofs.SyncStored.{no_record_tail, no_value_tail, values_stored}
 use Rattle.archives.proofs.SyncLemmas.{none_in}
 use Rattle.archives.proofs.InitCauses.{none_refused}
+use Rattle.archives.proofs.IndexSets.{rows_set}
 use Rattle.archives.proofs.InitEnds.{drained_given, moved_small, not_replay}
 use Rattle.archives.proofs.ArchiveStands.{no_foreign}
 use Rattle.archives.proofs.InitSound.{all_lawful, no_foreign_before, rests}
@@ -180,6 +182,17 @@ returns-in_err-tables g c =
     tables_refused _ (setup_for g.K.Key.SIZE g.S.Seal g.V.Codec g.T.Translator.word_of c.args.cfg.now) (replayed_at g at.In_ok-replay (named_at g at.After-init_with_metadata) (made_at g at.After-init_with_metadata)) c.in_err-tables.field-0.0 c.in_err-tables.ensures c.requires.valid.pages (omega arith) refl refl
     c.from_residual-in_err-tables.result (err_of c.from_residual-in_err-tables.result c.in_err-tables.field-0.0 c.from_residual-in_err-tables.ensures.1)
 
+-- The replay was drained, and there was no memory for the set of indices. Nothing is wrong with the image, and no byte was changed.
+pub returns-in_err-indices : goal.returns-in_err-indices
+returns-in_err-indices g c =
+    let at = goal.at.returns-in_err-indices g c in
+    let walked = run_of (place_of g.K.Key.SIZE) c.entered.new.replay in
+    let here = replayed_at g at.In_ok-replay (named_at g at.After-init_with_metadata) (made_at g at.After-init_with_metadata) in
+    let since = entered here (same_layout (run_of (place_of g.K.Key.SIZE) c.in_ok-replay.replay).layout walked.layout c.entered.ensures.same.layout) c.in_ok-tables.ensures in
+    opening_refused _ g.D.Device (setup_for g.K.Key.SIZE g.S.Seal g.V.Codec g.T.Translator.word_of c.args.cfg.now) c.args.dev.now c.entered.new.dev _ (few_left here) since.part
+    c.from_residual-in_err-indices.result Mem (err_of c.from_residual-in_err-indices.result Mem c.from_residual-in_err-indices.ensures.1)
+    (record { cause = tt; copies = λ t side bad. absurd (here.copies t side bad); complete = λ t markers lawful. tt })
+
 pub returns-in_err-finish_tracked : goal.returns-in_err-finish_tracked
 returns-in_err-finish_tracked g c =
     let d = disk (g.D.Device.time c.entered.new.dev) in
@@ -255,7 +268,7 @@ returns g c =
     let config : c.in_ok-finish_tracked.field-0.values.codec_config ≡ c.args.cfg.now.codec_config =
     says.codec_config ∙ c.entered.ensures.config ∙ c.in_ok-replay.ensures.codec_config ∙ c.in_ok-pair.ensures.codec_config in
     let arch : Archive (AppendFactory g.row.S.Denot) (PageBlob g.row.S.Denot g.S.Seal) =
-    archive_over p f refusal (rows_of g.K.Key.key_bytes c.in_ok-tables.tables) (AreFilledBut (λ _. ⊥) c.in_ok-tables.tables) (set.contains nat_cmp c.new.result) in
+    archive_over p f refusal (rows_of g.K.Key.key_bytes c.in_ok-tables.tables) (AreFilledBut (λ _. ⊥) c.in_ok-tables.tables) (set_of c.in_ok-indices.indices) (set.contains nat_cmp c.new.result) in
     let alike : IsSameLayout f.layout p.layout = record { index = ap (λ y. y.index) own; values = ap (λ y. y.values) own; metadata = ap (λ y. y.metadata) own; page_size = ap (λ y. y.page_size) own } in
     let filing = same_filing f p.layout refusal alike refl (λ _. refl) (λ _. refl) (λ bytes. ap (g.V.Codec.refusal bytes) config) in
     let none_is : (s : ℕ) → arch.is_written s ≡ false = none_in c.new.result c.new.ensures.empty in
@@ -281,6 +294,7 @@ returns g c =
         listed = listed;
         spelled = λ t s. subst (AllByRecursion (IsSpelled g.K.Key.SIZE)) (sym ((says.kept t).records s)) ((read.told t).spelled s);
         filled = read.filled;
+        indices = rows_set arch.items arch.rows arch.indices read.within.in_section c.in_ok-indices.ensures;
         within = read.within;
         unwritten = λ s none. says.counts.synced s;
         written = λ s is. absurd (not_true (arch.is_written s) (none_is s) is);

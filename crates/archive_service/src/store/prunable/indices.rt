@@ -1,0 +1,125 @@
+// Commands that ask for indices. They are answered by what is held, and the device is not touched.
+ghost use Rattle.archives.specs.Changes.{outcome};
+ghost use Rattle.archives.specs.Commands.{First, Gap, Last, Missing, Ranges, RangesFrom};
+ghost use Rattle.archives.specs.Machine.{replied};
+ghost use Rattle.archive_service.specs.Kinds.{Answers, MayUse};
+
+use super::super::Store;
+use archives::prunable::{Archive, Config};
+use archives::{Archive as _, Error, Pairs, Reply, Translator};
+use blob_device::Device;
+use ordinal_store::Numbers;
+use std::alloc::Global;
+use value_codec::{Codec, Key, Seal};
+
+// Where the run with the index ends, and where the next one begins.
+pub(super) fn gap<T: Translator, K: Key, V: Codec, S: Seal, D: Device>(
+    archive: Archive<T, K, V, S>,
+    dev: &mut D,
+    _cfg: &Config<T, V::Cfg>,
+    index: u64,
+) -> Result<(Archive<T, K, V, S>, Reply<V>), Error>
+    requires usable { MayUse (⟦<Archive<T, K, V, S> as Store>⟧.means _cfg.now) D.Device archive
+        dev.old }
+    ensures { Answers (⟦<Archive<T, K, V, S> as Store>⟧.means _cfg.now) D.Device archive
+        (Gap index)
+        (outcome (λ r. (r.0, replied V.spelling r.1)) result) dev.old dev.new }
+{
+    archive.crash_laws(dev);
+    let (end, next) = archive.next_gap(index);
+    Ok((archive, Reply::Gap(end, next)))
+}
+
+// So many absent indices. No call is asked for none of them.
+pub(super) fn missing<T: Translator, K: Key, V: Codec, S: Seal, D: Device>(
+    archive: Archive<T, K, V, S>,
+    alloc: Global,
+    dev: &mut D,
+    _cfg: &Config<T, V::Cfg>,
+    index: u64,
+    count: u32,
+) -> Result<(Archive<T, K, V, S>, Reply<V>), Error>
+    requires usable { MayUse (⟦<Archive<T, K, V, S> as Store>⟧.means _cfg.now) D.Device archive
+        dev.old }
+    ensures { Answers (⟦<Archive<T, K, V, S> as Store>⟧.means _cfg.now) D.Device archive
+        (Missing index count)
+        (outcome (λ r. (r.0, replied V.spelling r.1)) result) dev.old dev.new }
+{
+    archive.crash_laws(dev);
+    if count == 0 {
+        return Ok((archive, Reply::Items(Numbers::new(alloc))));
+    }
+    let missing = archive.missing_items(index, count as usize)?;
+    Ok((archive, Reply::Items(missing)))
+}
+
+// All runs of indices.
+pub(super) fn ranges<T: Translator, K: Key, V: Codec, S: Seal, D: Device>(
+    archive: Archive<T, K, V, S>,
+    alloc: Global,
+    dev: &mut D,
+    _cfg: &Config<T, V::Cfg>,
+) -> Result<(Archive<T, K, V, S>, Reply<V>), Error>
+    requires usable { MayUse (⟦<Archive<T, K, V, S> as Store>⟧.means _cfg.now) D.Device archive
+        dev.old }
+    ensures { Answers (⟦<Archive<T, K, V, S> as Store>⟧.means _cfg.now) D.Device archive
+        Ranges
+        (outcome (λ r. (r.0, replied V.spelling r.1)) result) dev.old dev.new }
+{
+    archive.crash_laws(dev);
+    let runs = Pairs::from_ranges(alloc, archive.ranges())?;
+    Ok((archive, Reply::Ranges(runs)))
+}
+
+// The runs of indices from here on.
+pub(super) fn ranges_from<T: Translator, K: Key, V: Codec, S: Seal, D: Device>(
+    archive: Archive<T, K, V, S>,
+    alloc: Global,
+    dev: &mut D,
+    _cfg: &Config<T, V::Cfg>,
+    index: u64,
+) -> Result<(Archive<T, K, V, S>, Reply<V>), Error>
+    requires usable { MayUse (⟦<Archive<T, K, V, S> as Store>⟧.means _cfg.now) D.Device archive
+        dev.old }
+    ensures { Answers (⟦<Archive<T, K, V, S> as Store>⟧.means _cfg.now) D.Device archive
+        (RangesFrom index)
+        (outcome (λ r. (r.0, replied V.spelling r.1)) result) dev.old dev.new }
+{
+    archive.crash_laws(dev);
+    let runs = Pairs::from_ranges(alloc, archive.ranges_from(index))?;
+    Ok((archive, Reply::Ranges(runs)))
+}
+
+// The least index.
+pub(super) fn first<T: Translator, K: Key, V: Codec, S: Seal, D: Device>(
+    archive: Archive<T, K, V, S>,
+    dev: &mut D,
+    _cfg: &Config<T, V::Cfg>,
+) -> Result<(Archive<T, K, V, S>, Reply<V>), Error>
+    requires usable { MayUse (⟦<Archive<T, K, V, S> as Store>⟧.means _cfg.now) D.Device archive
+        dev.old }
+    ensures { Answers (⟦<Archive<T, K, V, S> as Store>⟧.means _cfg.now) D.Device archive
+        First
+        (outcome (λ r. (r.0, replied V.spelling r.1)) result) dev.old dev.new }
+{
+    archive.crash_laws(dev);
+    let index = archive.first_index();
+    Ok((archive, Reply::Index(index)))
+}
+
+// The greatest index.
+pub(super) fn last<T: Translator, K: Key, V: Codec, S: Seal, D: Device>(
+    archive: Archive<T, K, V, S>,
+    dev: &mut D,
+    _cfg: &Config<T, V::Cfg>,
+) -> Result<(Archive<T, K, V, S>, Reply<V>), Error>
+    requires usable { MayUse (⟦<Archive<T, K, V, S> as Store>⟧.means _cfg.now) D.Device archive
+        dev.old }
+    ensures { Answers (⟦<Archive<T, K, V, S> as Store>⟧.means _cfg.now) D.Device archive
+        Last
+        (outcome (λ r. (r.0, replied V.spelling r.1)) result) dev.old dev.new }
+{
+    archive.crash_laws(dev);
+    let index = archive.last_index();
+    Ok((archive, Reply::Index(index)))
+}
