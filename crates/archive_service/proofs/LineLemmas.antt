@@ -14,7 +14,7 @@ use Rattle.hex.proofs.HexLemmas.{decode_of-encode_lower}
 use Rattle.archives.specs.Commands.{Put, PutSync, PutStart, Get, GetKey, Has, HasKey, Gap, Missing, Ranges, RangesFrom, First, Last, Sync, Start, Reopen, Destroy}
 use Rattle.archive_service.specs.Texts.{Spelled, line_of, value_text, words_of}
 use Rattle.archive_service.specs.Script.{CanBeSaid, IsCommandOf, IsCounted, IsDouble, IsIndex, IsKey, IsLone, IsLongOf, IsReading, IsRecord, IsShort, IsValue, Record, counted_text, record_text}
-use Rattle.archive_service.proofs.WordLemmas.{Lacks, all_append, are_bytes, cut_alone, cut_never, cut_once, decimal_lacks, encode_lacks, value_lacks}
+use Rattle.archive_service.proofs.WordLemmas.{Lacks, all_append, are_bytes, cut_alone, cut_never, cut_once, decimal_lacks, encode_lacks, same_word, value_lacks}
 
 -- ---- words that are joined
 
@@ -338,17 +338,18 @@ gap_named = record { is_short = λ index. ((λ h. h), (λ h. h)); words = λ ind
 pub rangesfrom_named : IsNamed IsIndex decimal number_in RangesFrom (codes "rangesfrom")
 rangesfrom_named = record { is_short = λ index. ((λ h. h), (λ h. h)); words = λ index. refl; named = λ word. refl }
 
-module _ {A : Type 0} (may_be : A → Type 0) (text_of : A → List ℕ) (read : List ℕ → A) (make : A → Spelled) (own : List ℕ) (by : IsNamed may_be text_of read make own)
-    (name word : List ℕ) (is : name ≡ own) where
+-- The name was compared with that of the command, and is the same.
+module _ {A : Type 0} {may_be : A → Type 0} {text_of : A → List ℕ} {read : List ℕ → A} {make : A → Spelled} {own : List ℕ} (by : IsNamed may_be text_of read make own)
+    (name word : List ℕ) {tested : List ℕ} (is : tested ≡ own) (same : true ≡ bytes_eq name tested) where
   pub short_found : (thing : A) → IsReading may_be text_of word (Some thing) → IsShort (make thing) × (name ++ 32 ∷ word ≡ line_of (make thing))
   unfolding line_of
   short_found thing reading =
-      let text : name ++ 32 ∷ word ≡ own ++ 32 ∷ text_of thing = rw (is, reading.1) refl in
+      let text : name ++ 32 ∷ word ≡ own ++ 32 ∷ text_of thing = rw (same_word is same, reading.1) refl in
       ((by.is_short thing).1 reading.0, text ∙ sym (ap (join_with_byte 32) (by.words thing)))
 
   pub short_refused : IsReading may_be text_of word None → (command : Spelled) → IsShort command → name ++ 32 ∷ word ≢ line_of command
   short_refused none command said e =
-      let have = short_words name word command said e ∙ ap (λ n. n ∷ word ∷ []) is in
+      let have = short_words name word command said e ∙ ap (λ n. n ∷ word ∷ []) (same_word is same) in
       let made : command ≡ make (read word) = sym (short_again command said) ∙ ap said_by have ∙ by.named word in
       let thing = (by.is_short (read word)).0 (subst IsShort made said) in
       none (read word) thing (ap second_of (sym have ∙ ap words_of made ∙ by.words (read word)))
@@ -380,16 +381,18 @@ pub double_unnamed : (name words : List ℕ) → Lacks 32 name → name ≢ code
 double_unnamed name words lacks missing (Missing index count) said e = missing (double_name name words lacks (Missing index count) said e)
 double_unnamed name words lacks missing command said e = absurd said
 
-module _ {A : Type 0} (may_be : A → Type 0) (text_of : A → List ℕ) (make : A → Spelled) (own : List ℕ) (by : IsDoubleNamed may_be text_of make own)
-    (name words : List ℕ) (is : name ≡ own) where
+-- The name was compared with that of the command, and is the same.
+module _ {A : Type 0} {may_be : A → Type 0} {text_of : A → List ℕ} {make : A → Spelled} {own : List ℕ} (by : IsDoubleNamed may_be text_of make own)
+    (name words : List ℕ) {tested : List ℕ} (is : tested ≡ own) (same : true ≡ bytes_eq name tested) where
   pub double_found : (thing : A) → IsReading may_be text_of words (Some thing) → IsDouble (make thing) × (name ++ 32 ∷ words ≡ line_of (make thing))
-  double_found thing reading = (by.is_double thing reading.0, rw (is, reading.1) refl ∙ sym (by.line thing))
+  double_found thing reading = (by.is_double thing reading.0, rw (same_word is same, reading.1) refl ∙ sym (by.line thing))
 
   pub double_refused : Lacks 32 name → IsReading may_be text_of words None → (command : Spelled) → IsDouble command → name ++ 32 ∷ words ≢ line_of command
   double_refused lacks none command said e =
-      let found = by.only command said (sym (double_name name words lacks command said e) ∙ is) in
+      let name_is = same_word is same in
+      let found = by.only command said (sym (double_name name words lacks command said e) ∙ name_is) in
       let both : name ++ 32 ∷ words ≡ own ++ 32 ∷ text_of found.0 = e ∙ ap line_of found.2 ∙ by.line found.0 in
-      none found.0 found.1 (cut_once 32 name own words (text_of found.0) lacks (subst (Lacks 32) is lacks) both).1
+      none found.0 found.1 (cut_once 32 name own words (text_of found.0) lacks (subst (Lacks 32) name_is lacks) both).1
 
 -- ---- four words
 
@@ -439,22 +442,31 @@ pub putstart_named : (max : ℕ) → IsLongNamed max PutStart (codes "putstart")
 putstart_named max = record { is_long = λ index key value h. h; words = λ index key value. refl }
 
 -- what is made of a record is seen as the command of that name
-module _ {K C : Type 0} (key_bytes : K → List ℕ) (seen : C → Spelled) (max : ℕ) (make : ℕ → List ℕ → List ℕ → Spelled) (own : List ℕ) (by : IsLongNamed max make own)
+module _ {K C : Type 0} (key_bytes : K → List ℕ) (seen : C → Spelled) {max : ℕ} {make : ℕ → List ℕ → List ℕ → Spelled} {own : List ℕ} (by : IsLongNamed max make own)
     (made : ℕ → K → List ℕ → C) (sees : (index : ℕ) (key : K) (value : List ℕ) → seen (made index key value) ≡ make index (key_bytes key) value)
     (name words : List ℕ) where
-  pub long_found : name ≡ own → (r : Option (ℕ × K × List ℕ)) → IsReading (IsRecord max) record_text words (option_map (λ r. (r.0, key_bytes r.1, r.2)) r)
+  if_record : name ≡ own → (r : Option (ℕ × K × List ℕ)) → IsReading (IsRecord max) record_text words (option_map (λ r. (r.0, key_bytes r.1, r.2)) r)
       → IfSome (option_map (λ r. made r.0 r.1 r.2) r) (λ x. IsLongOf max (seen x) × (name ++ 32 ∷ words ≡ line_of (seen x)))
   unfolding line_of
-  long_found is None none = tt
-  long_found is (Some r) reading =
+  if_record is None none = tt
+  if_record is (Some r) reading =
       let same = sees r.0 r.1 r.2 in
       let text : name ++ 32 ∷ words ≡ own ++ 32 ∷ record_text (r.0, key_bytes r.1, r.2) = rw (is, reading.1) refl in
       (subst (IsLongOf max) (sym same) (by.is_long r.0 (key_bytes r.1) r.2 reading.0), text ∙ sym (ap (join_with_byte 32) (by.words r.0 (key_bytes r.1) r.2)) ∙ ap line_of (sym same))
 
-  pub long_missed : Lacks 32 name → (r : Option (ℕ × K × List ℕ)) → IsReading (IsRecord max) record_text words (option_map (λ r. (r.0, key_bytes r.1, r.2)) r)
+  if_no_record : Lacks 32 name → (r : Option (ℕ × K × List ℕ)) → IsReading (IsRecord max) record_text words (option_map (λ r. (r.0, key_bytes r.1, r.2)) r)
       → IfNone (option_map (λ r. made r.0 r.1 r.2) r) ((command : Spelled) → IsLongOf max command → name ++ 32 ∷ words ≢ line_of command)
-  long_missed lacks None none = long_refused max name words lacks none
-  long_missed lacks (Some r) reading = tt
+  if_no_record lacks None none = long_refused max name words lacks none
+  if_no_record lacks (Some r) reading = tt
+
+  -- The name was compared with that of the command, and is the same; what is found is made of the record, if there is one.
+  pub long_told : {tested : List ℕ} → tested ≡ own → true ≡ bytes_eq name tested
+      → (found : Option C) (r : Option (ℕ × K × List ℕ)) → found ≡ option_map (λ r. made r.0 r.1 r.2) r
+      → IsReading (IsRecord max) record_text words (option_map (λ r. (r.0, key_bytes r.1, r.2)) r)
+      → IfSome found (λ x. IsLongOf max (seen x) × (name ++ 32 ∷ words ≡ line_of (seen x)))
+      × (Lacks 32 name → IfNone found ((command : Spelled) → IsLongOf max command → name ++ 32 ∷ words ≢ line_of command))
+  long_told is same found r of_record reading =
+      rw of_record (if_record (same_word is same) r reading, λ lacks. if_no_record lacks r reading)
 
 -- ---- any line
 

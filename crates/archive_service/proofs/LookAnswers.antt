@@ -27,7 +27,7 @@ use Rattle.archives.specs.Standing.{Leaves}
 use Rattle.archives.specs.declared.error.Error.{Error}
 use Rattle.archives.specs.declared.error.Error.TheVariants.{Journal, Mem}
 use Rattle.archive_service.specs.Causes.{IsCause, IsCauseAnywhere, IsLookup, MustRefuse, MustRefuseAnywhere, RefusesPut}
-use Rattle.archive_service.specs.Kinds.{Answers}
+use Rattle.archive_service.specs.Kinds.{AnswerEnds, Answers}
 use Rattle.archive_service.specs.PrunableKind.{IsQuiet, Learns}
 use Rattle.archive_service.specs.PrunableStore.{held_by, prunable_serving}
 use Rattle.archive_service.proofs.StoreLemmas.{Given, as_asked, leaves_as, no_refusal, nothing_done, refused_by_none, refused_by_none_now, serving_by, st, unchanged_always, unchanged_end}
@@ -98,44 +98,43 @@ module _ {A V S D : Type 0} {gs : _} (p : Prunable A V (AppendFactory S) (PageBl
 
   module _ {R : Type 0} (new : D) (c : Asked) (looks : IsLooking c) (reply_of : R → Replied)
       (quiet : dev.Tells → IsQuiet (filing_by p a) setup.write_buffer setup.value_buffer (held_by p a) c → new ≡ old) where
+    look_ends : (result : Result R Error) → Asks (meaning p) dev a c reply_of result old new
+        → (dev.Tells → (e : Error) → result ≡ Err e → IsCauseAnywhere (filing_by p a) (held_by p a) (Some c) (disk (dev.time old)) (disk (dev.time new)) e)
+        → AnswerEnds (serving_by p setup valid dev (filing_by p a)) dev a c (outcome (λ x. (a, reply_of x)) result) old new
+    look_ends (Ok x) asks why = record {
+      usable = record {
+        usable = asks.over;
+        filing = given.usable.filing;
+        accepts = given.usable.accepts;
+        write_buffer = given.usable.write_buffer;
+        value_buffer = given.usable.value_buffer;
+        flushed = given.usable.flushed;
+      };
+      sound = λ t sound. subst (λ (d : Disk). IsSoundArchive (p.see a) d) (sym (unchanged_end (dev.time old) (dev.time new) (asks.unchanged t))) sound;
+      step = λ t sound. asks.ends t;
+      reopened = λ t sound is. absurd (looks.no_reopen is);
+      allowed = λ t sound. looks.allowed;
+      rest = λ t sound. subst (λ (d : Disk). Leaves (filing_by p a) (state_of (p.see a) d) None d) (sym (unchanged_end (dev.time old) (dev.time new) (asks.unchanged t))) (given.laws.leaves t sound);
+      learns = λ t. looks.learns _ _;
+      allowed_anywhere = λ t. looks.allowed_anywhere;
+    }
+    look_ends (Err e) asks why = record {
+      cause = λ t sound. failure_cause c (dev.faults old) (dev.faults new) e (asks.ends.gives t sound);
+      unwritten = λ t sound refuses. absurd (looks.refuses e refuses);
+      anywhere = λ t. why t e refl;
+      unwritten_anywhere = λ t refuses. asks.unchanged t;
+      fault = asks.ends.fault;
+    }
+
     look_at : (result : Result R Error) → Asks (meaning p) dev a c reply_of result old new
         → (dev.Tells → (e : Error) → result ≡ Err e → IsCauseAnywhere (filing_by p a) (held_by p a) (Some c) (disk (dev.time old)) (disk (dev.time new)) e)
         → Answers (serving_by p setup valid dev (filing_by p a)) dev a c (outcome (λ x. (a, reply_of x)) result) old new
-    look_at (Ok x) asks why = record {
+    look_at result asks why = record {
       moments = λ t sound. unchanged_always (dev.time old) (dev.time new) _ (asks.unchanged t) (looks.under_way _ (given.laws.leaves t sound));
       alone = λ t. unchanged_always (dev.time old) (dev.time new) _ (asks.unchanged t) (λ q other. refl);
       footprint = asks.footprint;
       quiet = quiet;
-      ends = record {
-        usable = record {
-          usable = asks.over;
-          filing = given.usable.filing;
-          accepts = given.usable.accepts;
-          write_buffer = given.usable.write_buffer;
-          value_buffer = given.usable.value_buffer;
-          flushed = given.usable.flushed;
-        };
-        sound = λ t sound. subst (λ (d : Disk). IsSoundArchive (p.see a) d) (sym (unchanged_end (dev.time old) (dev.time new) (asks.unchanged t))) sound;
-        step = λ t sound. asks.ends t;
-        reopened = λ t sound is. absurd (looks.no_reopen is);
-        allowed = λ t sound. looks.allowed;
-        rest = λ t sound. subst (λ (d : Disk). Leaves (filing_by p a) (state_of (p.see a) d) None d) (sym (unchanged_end (dev.time old) (dev.time new) (asks.unchanged t))) (given.laws.leaves t sound);
-        learns = λ t. looks.learns _ _;
-        allowed_anywhere = λ t. looks.allowed_anywhere;
-      };
-    }
-    look_at (Err e) asks why = record {
-      moments = λ t sound. unchanged_always (dev.time old) (dev.time new) _ (asks.unchanged t) (looks.under_way _ (given.laws.leaves t sound));
-      alone = λ t. unchanged_always (dev.time old) (dev.time new) _ (asks.unchanged t) (λ q other. refl);
-      footprint = asks.footprint;
-      quiet = quiet;
-      ends = record {
-        cause = λ t sound. failure_cause c (dev.faults old) (dev.faults new) e (asks.ends.gives t sound);
-        unwritten = λ t sound refuses. absurd (looks.refuses e refuses);
-        anywhere = λ t. why t e refl;
-        unwritten_anywhere = λ t refuses. asks.unchanged t;
-        fault = asks.ends.fault;
-      };
+      ends = look_ends result asks why;
     }
 
     pub look_answers : (result : Result R Error) → Asks (meaning p) dev a c reply_of result old new

@@ -39,7 +39,7 @@ use Rattle.archives.specs.declared.error.Error.TheVariants.{Full, Journal, Mem, 
 use Rattle.archives.proofs.InitRecords.{one_markers}
 use Rattle.archives.proofs.Reopening.{none_beyond}
 use Rattle.archive_service.specs.Causes.{HasLongBlob, Held, IsCause, IsCauseAnywhere, IsOpening, IsUnfit, MayMoveMarkers, MustMoveHeld, MustMoveNow, MustRefuseAnywhere, holding_nothing}
-use Rattle.archive_service.specs.Kinds.{Answers, OpensStore}
+use Rattle.archive_service.specs.Kinds.{AnswerEnds, Answers, OpensStore}
 use Rattle.archive_service.specs.PrunableKind.{IsFound}
 use Rattle.archive_service.specs.PrunableStore.{IsUsableStore, held_by, prunable_serving}
 use Rattle.archive_service.specs.Starts.{start_of, starts}
@@ -242,38 +242,35 @@ module _ {A V S D : Type 0} {gs : _} (p : Prunable A V (AppendFactory S) (PageBl
     lawful_before : dev.Tells → IsSoundArchive (p.see a) from → (markers : Markers) × Lawful f (as_read from) markers
     lawful_before t sound = all_lawful f was from (leaves_before t sound) (as_read from) (law t) (ready_for t sound).no_chance
 
-    pub reopen_answers : (result : Result A Error) → Opens p dev setup result old new → Answers (prunable_serving p setup valid) dev a Reopen (outcome (λ r. (r, reply.Done)) result) old new
-    reopen_answers (Ok r) opens = record {
-      moments = λ t sound. (opens.moments t (ready_for t sound)).stands was (leaves_before t sound);
-      alone = opens.footprint.alone;
-      footprint = footprint_wider dev _ _ _ NoBound old new (λ q own. own) (λ q n none. absurd none) opens.footprint;
-      quiet = λ t never. absurd never;
-      ends = record {
-        usable = opened_usable r opens.ends;
-        sound = λ t sound.
-            let told = opens.ends.told t in
-            told.sound (ready_for t sound) (all_lawful f _ to (told.rest (ready_for t sound) was (leaves_before t sound)));
-        step = λ t sound.
-            let told = opens.ends.told t in
-            subst (λ (n : ℕ). Step n was Reopen reply.Done (state_of (p.see r) to)) opens.ends.filing.items
-            (told.step (ready_for t sound) was (leaves_before t sound) given.laws.none_synced);
-        reopened = λ t sound is. (let lawful = lawful_before t sound in (lawful.0, (opens.ends.told t).start lawful.0 lawful.1));
-        allowed = λ t sound must. elim must as (λ _. ⊥) [ inl adds ↦ adds | inr moves ↦ (opens.ends.told t).kept.version moves.1 moves.0 ];
-        rest = λ t sound. (opens.ends.told t).rest (ready_for t sound) was (leaves_before t sound);
-        learns = opened_found r opens.ends sized;
-        allowed_anywhere = λ t. kept_allowed (held_by p a) (opens.ends.told t).kept;
-      };
+    reopen_ends : (result : Result A Error) → Opens p dev setup result old new → AnswerEnds (prunable_serving p setup valid) dev a Reopen (outcome (λ r. (r, reply.Done)) result) old new
+    reopen_ends (Ok r) opens = record {
+      usable = opened_usable r opens.ends;
+      sound = λ t sound.
+          let told = opens.ends.told t in
+          told.sound (ready_for t sound) (all_lawful f _ to (told.rest (ready_for t sound) was (leaves_before t sound)));
+      step = λ t sound.
+          let told = opens.ends.told t in
+          subst (λ (n : ℕ). Step n was Reopen reply.Done (state_of (p.see r) to)) opens.ends.filing.items
+          (told.step (ready_for t sound) was (leaves_before t sound) given.laws.none_synced);
+      reopened = λ t sound is. (let lawful = lawful_before t sound in (lawful.0, (opens.ends.told t).start lawful.0 lawful.1));
+      allowed = λ t sound must. elim must as (λ _. ⊥) [ inl adds ↦ adds | inr moves ↦ (opens.ends.told t).kept.version moves.1 moves.0 ];
+      rest = λ t sound. (opens.ends.told t).rest (ready_for t sound) was (leaves_before t sound);
+      learns = opened_found r opens.ends sized;
+      allowed_anywhere = λ t. kept_allowed (held_by p a) (opens.ends.told t).kept;
     }
-    reopen_answers (Err e) opens = record {
+    reopen_ends (Err e) opens = record {
+      cause = λ t sound. (let lawful = lawful_before t sound in opening_cause t (Some Reopen) refl tt (held_by p a) lawful.0 lawful.1 was (λ moving. moving) e opens.ends);
+      unwritten = λ t sound refuses. absurd (no_refusal refuses);
+      anywhere = λ t. opening_anywhere t (Some Reopen) refl tt (held_by p a) (long_blob (tells t)) (λ moving. moving) e opens.ends.cause;
+      unwritten_anywhere = λ t refuses. absurd (no_refusal refuses);
+      fault = opening_fault e opens.ends.cause;
+    }
+
+    pub reopen_answers : (result : Result A Error) → Opens p dev setup result old new → Answers (prunable_serving p setup valid) dev a Reopen (outcome (λ r. (r, reply.Done)) result) old new
+    reopen_answers result opens = record {
       moments = λ t sound. (opens.moments t (ready_for t sound)).stands was (leaves_before t sound);
       alone = opens.footprint.alone;
       footprint = footprint_wider dev _ _ _ NoBound old new (λ q own. own) (λ q n none. absurd none) opens.footprint;
       quiet = λ t never. absurd never;
-      ends = record {
-        cause = λ t sound. (let lawful = lawful_before t sound in opening_cause t (Some Reopen) refl tt (held_by p a) lawful.0 lawful.1 was (λ moving. moving) e opens.ends);
-        unwritten = λ t sound refuses. absurd (no_refusal refuses);
-        anywhere = λ t. opening_anywhere t (Some Reopen) refl tt (held_by p a) (long_blob (tells t)) (λ moving. moving) e opens.ends.cause;
-        unwritten_anywhere = λ t refuses. absurd (no_refusal refuses);
-        fault = opening_fault e opens.ends.cause;
-      };
+      ends = reopen_ends result opens;
     }

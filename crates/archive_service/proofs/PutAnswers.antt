@@ -23,7 +23,7 @@ use Rattle.archives.specs.declared.error.Error.{Error}
 use Rattle.archives.specs.declared.error.Error.TheVariants.{Full, Journal, Mem}
 use Rattle.archives.proofs.PutSync.{filing_then}
 use Rattle.archive_service.specs.Causes.{IfFree, IsCause, IsCauseAnywhere, IsPastSizeAlone, IsRefusedAsFull, IsRefusedAsTooLarge, IsSurelyFull, PutsBy}
-use Rattle.archive_service.specs.Kinds.{Answers}
+use Rattle.archive_service.specs.Kinds.{AnswerEnds, Answers}
 use Rattle.archive_service.specs.PrunableKind.{AreTailsWith, HoldsPut}
 use Rattle.archive_service.specs.PrunableStore.{IsUsableStore, held_by, prunable_serving}
 use Rattle.archive_service.proofs.StoreLemmas.{Added, Given, adds_full, adds_is, adds_not, adds_now, adds_where, as_asked, buffered, f, free_put, full_adds, full_for, large_adds, not_large, not_large_held, nothing_done, now_adds, past, past_size, put_free, refused_by_none, serving_by, st, surely_full}
@@ -142,42 +142,39 @@ module _ {A V S D : Type 0} {gs : _} (p : Prunable A V (AppendFactory S) (PageBl
   -- ---- the put
 
   module _ (new : D) where
-    put_at : (result : Result A Error) → Puts p dev a i k v result old new → Answers (serving_by p setup valid dev (filing_by p a)) dev a (Put i k v) (outcome (λ r. (r, reply.Done)) result) old new
-    put_at (Ok r) puts = record {
-      moments = puts.changes.moments;
-      alone = puts.footprint.alone;
-      footprint = puts.changes.footprint;
-      quiet = λ t. buffered p setup valid dev a old given t i k v new (λ taken. (puts.taken taken).1) puts.below;
-      ends = record {
-        usable = put_usable r puts.ends new puts.changes.ends.over puts.changes.ends.alike.accepts;
-        sound = puts.changes.ends.sound;
-        step = puts.changes.ends.step;
-        reopened = λ t sound is. absurd (cc is);
-        allowed = λ t sound must. elim must as (λ _. ⊥) [
-          | inl adds ↦
-              refused_never t sound r puts.refuses adds
-          | inr moves ↦ moves.0
-        ];
-        rest = λ t sound. (puts.changes.ends.alike.leaves _ None _).1 (puts.changes.ends.rest t sound);
-        learns = λ t. put_holds r puts.ends new puts.changes.ends.over t;
-        allowed_anywhere = λ t must. elim must as (λ _. ⊥) [
-          | inl adds ↦ held_never t r puts.refuses adds
-          | inr other ↦ refused_by_none (Put i k v) (λ is. cc is) (inr other)
-        ];
-      };
+    put_ends : (result : Result A Error) → Puts p dev a i k v result old new → AnswerEnds (serving_by p setup valid dev (filing_by p a)) dev a (Put i k v) (outcome (λ r. (r, reply.Done)) result) old new
+    put_ends (Ok r) puts = record {
+      usable = put_usable r puts.ends new puts.changes.ends.over puts.changes.ends.alike.accepts;
+      sound = puts.changes.ends.sound;
+      step = puts.changes.ends.step;
+      reopened = λ t sound is. absurd (cc is);
+      allowed = λ t sound must. elim must as (λ _. ⊥) [
+        | inl adds ↦
+            refused_never t sound r puts.refuses adds
+        | inr moves ↦ moves.0
+      ];
+      rest = λ t sound. (puts.changes.ends.alike.leaves _ None _).1 (puts.changes.ends.rest t sound);
+      learns = λ t. put_holds r puts.ends new puts.changes.ends.over t;
+      allowed_anywhere = λ t must. elim must as (λ _. ⊥) [
+        | inl adds ↦ held_never t r puts.refuses adds
+        | inr other ↦ refused_by_none (Put i k v) (λ is. cc is) (inr other)
+      ];
     }
-    put_at (Err e) puts = record {
+    put_ends (Err e) puts = record {
+      cause = λ t sound. put_cause t sound (dev.faults old) (dev.faults new) e puts.ends.cause;
+      unwritten = λ t sound refuses. nothing_done dev.time old new (puts.ends.unwritten (elim refuses [ inl full ↦ inr (inl t, full.0) | inr large ↦ inl large.0 ]));
+      anywhere = λ t. put_anywhere t (disk (dev.time new)) (dev.faults old) (dev.faults new) e puts.ends.cause;
+      unwritten_anywhere = λ t refuses. nothing_done dev.time old new (puts.ends.unwritten (elim refuses [ inl full ↦ inr (inl t, full.0) | inr large ↦ inl large.0 ]));
+      fault = puts.changes.ends;
+    }
+
+    put_at : (result : Result A Error) → Puts p dev a i k v result old new → Answers (serving_by p setup valid dev (filing_by p a)) dev a (Put i k v) (outcome (λ r. (r, reply.Done)) result) old new
+    put_at result puts = record {
       moments = puts.changes.moments;
       alone = puts.footprint.alone;
       footprint = puts.changes.footprint;
       quiet = λ t. buffered p setup valid dev a old given t i k v new (λ taken. (puts.taken taken).1) puts.below;
-      ends = record {
-        cause = λ t sound. put_cause t sound (dev.faults old) (dev.faults new) e puts.ends.cause;
-        unwritten = λ t sound refuses. nothing_done dev.time old new (puts.ends.unwritten (elim refuses [ inl full ↦ inr (inl t, full.0) | inr large ↦ inl large.0 ]));
-        anywhere = λ t. put_anywhere t (disk (dev.time new)) (dev.faults old) (dev.faults new) e puts.ends.cause;
-        unwritten_anywhere = λ t refuses. nothing_done dev.time old new (puts.ends.unwritten (elim refuses [ inl full ↦ inr (inl t, full.0) | inr large ↦ inl large.0 ]));
-        fault = puts.changes.ends;
-      };
+      ends = put_ends result puts;
     }
 
     pub put_answers : (result : Result A Error) → Puts p dev a i k v result old new → Answers (prunable_serving p setup valid) dev a (Put i k v) (outcome (λ r. (r, reply.Done)) result) old new

@@ -25,7 +25,7 @@ use Rattle.archives.specs.Syncs.{IsPutSyncCause, PutSynced, PutSyncs, PutThenSyn
 use Rattle.archives.specs.declared.error.Error.{Error}
 use Rattle.archives.specs.declared.error.Error.TheVariants.{Full, Journal, Mem, Metadata}
 use Rattle.archive_service.specs.Causes.{Adds, Held, IfFree, IsCause, IsCauseAnywhere, IsPastAll, IsPastSizeAlone, IsRefusedAsFull, IsRefusedAsTooLarge, IsSurelyFull, MayMoveMarkers, MustMove, MustMoveHeld, MustRefuse, MustRefuseAnywhere, PutsBy, PutsHere, RefusesAnywhere, RefusesPut, added_by, rows_with}
-use Rattle.archive_service.specs.Kinds.{Answers}
+use Rattle.archive_service.specs.Kinds.{AnswerEnds, Answers}
 use Rattle.archive_service.specs.PrunableKind.{HoldsPutAndSynced, IsQuiet, Learns, MayChange}
 use Rattle.archive_service.specs.PrunableStore.{IsUsableStore, held_by, prunable_serving}
 use Rattle.archive_service.proofs.PutAnswers.{held_never, put_holds, put_usable, refused_never}
@@ -215,36 +215,35 @@ module _ {A V S D : Type 0} {gs : _} (p : Prunable A V (AppendFactory S) (PageBl
         held_unwritten (inr too) = large too.0
 
     module _ (new : D) where
+      either_ends : (result : Result A Error) → PutSyncs p dev a i k v result old new → AnswerEnds (serving_by p setup valid dev (filing_by p a)) dev a c (outcome (λ x. (x, reply.Done)) result) old new
+      either_ends (Ok x) syncs = (let changes = syncs.changes c acts.is in record {
+        usable = parts_usable x new syncs.parts;
+        sound = changes.ends.sound;
+        step = changes.ends.step;
+        reopened = λ t sound is. absurd (acts.no_reopen is);
+        allowed = λ t sound. never_sound t sound x syncs.refuses syncs.ends;
+        rest = λ t sound. (changes.ends.alike.leaves _ None _).1 (changes.ends.rest t sound);
+        learns = λ t. acts.learns (disk (dev.time new)) (held_by p x) (parts_hold x new t syncs.parts);
+        allowed_anywhere = λ t. never_held t x syncs.refuses syncs.ends;
+      })
+      either_ends (Err e) syncs = record {
+        cause = λ t sound. cause_of t sound (dev.faults old) (dev.faults new) e syncs.ends.cause;
+        unwritten = λ t sound refuses. nothing_done dev.time old new (sound_unwritten t new e syncs.refuses syncs.ends.too_large sound refuses);
+        anywhere = λ t. anywhere_of t (disk (dev.time new)) (dev.faults old) (dev.faults new) e syncs.ends.cause;
+        unwritten_anywhere = λ t refuses. nothing_done dev.time old new (held_unwritten t new e syncs.refuses syncs.ends.too_large refuses);
+        fault = (syncs.changes c acts.is).ends;
+      }
+
       either_at : (result : Result A Error) → PutSyncs p dev a i k v result old new → Answers (serving_by p setup valid dev (filing_by p a)) dev a c (outcome (λ x. (x, reply.Done)) result) old new
-      either_at (Ok x) syncs = (let changes = syncs.changes c acts.is in record {
-        moments = changes.moments;
-        alone = λ t. always_as (dev.time old) (dev.time new) _ _ (λ x same q other. same q (λ own. other (acts.changes q own))) (changes.footprint.alone t);
-        footprint = changes.footprint;
-        quiet = λ t still. absurd (acts.loud still);
-        ends = record {
-          usable = parts_usable x new syncs.parts;
-          sound = changes.ends.sound;
-          step = changes.ends.step;
-          reopened = λ t sound is. absurd (acts.no_reopen is);
-          allowed = λ t sound. never_sound t sound x syncs.refuses syncs.ends;
-          rest = λ t sound. (changes.ends.alike.leaves _ None _).1 (changes.ends.rest t sound);
-          learns = λ t. acts.learns (disk (dev.time new)) (held_by p x) (parts_hold x new t syncs.parts);
-          allowed_anywhere = λ t. never_held t x syncs.refuses syncs.ends;
-        };
-      })
-      either_at (Err e) syncs = (let changes = syncs.changes c acts.is in record {
-        moments = changes.moments;
-        alone = λ t. always_as (dev.time old) (dev.time new) _ _ (λ x same q other. same q (λ own. other (acts.changes q own))) (changes.footprint.alone t);
-        footprint = changes.footprint;
-        quiet = λ t still. absurd (acts.loud still);
-        ends = record {
-          cause = λ t sound. cause_of t sound (dev.faults old) (dev.faults new) e syncs.ends.cause;
-          unwritten = λ t sound refuses. nothing_done dev.time old new (sound_unwritten t new e syncs.refuses syncs.ends.too_large sound refuses);
-          anywhere = λ t. anywhere_of t (disk (dev.time new)) (dev.faults old) (dev.faults new) e syncs.ends.cause;
-          unwritten_anywhere = λ t refuses. nothing_done dev.time old new (held_unwritten t new e syncs.refuses syncs.ends.too_large refuses);
-          fault = changes.ends;
-        };
-      })
+      either_at result syncs =
+          let changes = syncs.changes c acts.is in
+          record {
+            moments = changes.moments;
+            alone = λ t. always_as (dev.time old) (dev.time new) _ _ (λ x same q other. same q (λ own. other (acts.changes q own))) (changes.footprint.alone t);
+            footprint = changes.footprint;
+            quiet = λ t still. absurd (acts.loud still);
+            ends = either_ends result syncs;
+          }
 
       either_answers : (result : Result A Error) → PutSyncs p dev a i k v result old new → Answers (prunable_serving p setup valid) dev a c (outcome (λ x. (x, reply.Done)) result) old new
       either_answers result syncs = as_asked p setup valid dev a old given c (outcome (λ x. (x, reply.Done)) result) new (either_at result syncs)

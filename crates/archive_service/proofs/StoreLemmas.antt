@@ -16,6 +16,7 @@ use Rattle.sealed_pages.specs.declared.write_blob.WriteBlob.{WriteBlob}
 use Rattle.segments.specs.FixedLists as fixed
 use Rattle.segments.specs.Tails.{tail_held}
 use Rattle.segments.specs.Unsealed.{count_of}
+use Rattle.segments.specs.declared.buffer.SectionBuffer as buffer
 use Rattle.segments.specs.declared.sealed.AppendFactory.{AppendFactory}
 use Rattle.paired.specs.GlobSections as glob
 use Rattle.paired.specs.Pair.{length_of, list_of, records_of}
@@ -25,6 +26,7 @@ use Rattle.paired.proofs.RecordLemmas.{length-records}
 use Rattle.archives.specs.Archives.{IsArchive, IsSoundArchive, filing_of, state_of}
 use Rattle.archives.specs.Changes.{Asked, Replied, outcome}
 use Rattle.archives.specs.Commands.{Reopen}
+use Rattle.archives.specs.Config.{IsValid}
 use Rattle.archives.specs.Filing.{Filing, filed, kept}
 use Rattle.archives.specs.FilingLaws.{one_filing}
 use Rattle.archives.specs.Machine.{Entry, State, has_index, section_of}
@@ -32,9 +34,12 @@ use Rattle.archives.specs.Outlasts.{Outlasts}
 use Rattle.archives.specs.Prunable.{Prunable, Setup, filing_by, write_buffer_of}
 use Rattle.archives.specs.Putting.{HasBufferRoom, IsAllowed, IsFullFor, IsFullOver, IsPassed, IsTooLargeFor, frame_size, is_taken, record_tail}
 use Rattle.archives.specs.Rows.{row_in}
+use Rattle.archives.specs.Shown.{means, setup_for}
 use Rattle.archives.specs.Standing.{IsGoing, IsPrefix, Leaves, submitted}
 use Rattle.archives.specs.Syncing.{IsMovingBy, IsMovingIn}
 use Rattle.archives.specs.declared.error.Error.{Error}
+use Rattle.archives.specs.declared.prunable.Archive.{Archive}
+use Rattle.archives.specs.declared.prunable.config.Config.{Config}
 use Rattle.archives.proofs.PutLemmas.{whole_bytes}
 use Rattle.archive_service.specs.Causes.{Held, IfFree, IsPastAll, IsPastSizeAlone, IsRefusedAsFull, IsRefusedAsTooLarge, IsSurelyFull, PassesNumbers, added_by, adds_to, holds, skips}
 use Rattle.archive_service.specs.Kinds.{Answers, Serving}
@@ -395,3 +400,19 @@ module _ {A V S D : Type 0} {gs : _} (p : Prunable A V (AppendFactory S) (PageBl
         | inl there ↦ taken there
         | inr free ↦ below (room (fits here (adds_is here ∙ ap (λ (b : Bool). not b && (here == here)) free ∙ eq-eqb here here refl)))
       ]
+
+-- ---- the archive of a configuration
+
+-- What a call may use it for, and its laws of crashes, tell what is known of it: its markers and buffers are as its configuration says.
+pub given_by : {T K V S W C D : Type 0} {translator word_eq word_hash key key_eq key_ord key_partial codec seal stored fixed stored_codec : _} (pages : buffer.Ghosts (PageBlob S seal))
+    (sets : (u : PageBlob S seal) → pages.setting u ≡ record { page_size = u.page_size; capacity = u.capacity }) (dev : device.Ghosts D) (cfg : Config T C)
+    (a : Archive T K V S W C translator word_eq word_hash key key_eq key_ord key_partial codec seal stored fixed stored_codec) (old : D)
+    → IsUsableStore (means pages) (setup_for key.SIZE seal codec translator.word_of cfg) a dev.Tells (dev.opened old) (disk (dev.time old))
+    → Outlasts (means pages) dev a old
+    → Given (means pages) (setup_for key.SIZE seal codec translator.word_of cfg) (IsValid cfg) dev a old
+given_by pages sets dev cfg a old usable laws = record {
+  usable = usable;
+  laws = laws;
+  markers = λ x. refl;
+  buffers = λ s u held. (let made = sym (sets u) ∙ usable.usable.pair.index.over.opened_list.setting s u held in (ap (λ x. x.page_size) made, ap (λ x. x.capacity) made));
+}

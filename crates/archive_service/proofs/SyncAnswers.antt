@@ -1,6 +1,6 @@
 -- What a sync promises, in the terms of a store that serves commands.
 use Rattle.std.specs.Prelude.{⊤}
-use Rattle.std.proofs.Common.{◌≡◌, ◌⊎◌, inl, inr, refl, sym, ◌∙◌, ap, ℕ, ◌+◌, ◌-◌, ◌<◌, ◌^◌, length, Option, Some, None, Result, Ok, Err, arith}
+use Rattle.std.proofs.Common.{◌≡◌, ◌⊎◌, inl, inr, refl, sym, ◌∙◌, ap, ℕ, ◌+◌, ◌<◌, ◌^◌, length, Option, Some, None, Result, Ok, Err, arith}
 use Rattle.std.proofs.lemmas.Bool.{cases_Bool}
 use Rattle.blob_device.specs.Disk.{Disk, Key}
 use Rattle.blob_device.specs.Timeline.{disk}
@@ -28,7 +28,7 @@ use Rattle.archives.specs.declared.error.Error.{Error}
 use Rattle.archives.specs.declared.error.Error.TheVariants.{Full, Journal, Mem, Metadata}
 use Rattle.archives.proofs.PutSync.{filing_then}
 use Rattle.archive_service.specs.Causes.{Held, IsCause, IsCauseAnywhere, MayMoveMarkers, MustMove, MustMoveHeld, MustRefuse, MustRefuseAnywhere, RefusesAnywhere, RefusesPut}
-use Rattle.archive_service.specs.Kinds.{Answers}
+use Rattle.archive_service.specs.Kinds.{AnswerEnds, Answers}
 use Rattle.archive_service.specs.PrunableKind.{HoldsSynced, IsQuiet, Learns, MayChange}
 use Rattle.archive_service.specs.PrunableStore.{IsUsableStore, held_by, prunable_serving}
 use Rattle.archive_service.proofs.StoreLemmas.{Given, always_as, as_asked, held_moving, moving_held, no_refusal, rows_long_of, serving_by, st}
@@ -148,36 +148,35 @@ module _ {A V S D : Type 0} {gs : _} (p : Prunable A V (AppendFactory S) (PageBl
   by_start = record { changes = λ q it. it; is = inr refl; no_reopen = λ is. cc is; moves = λ it. it; moves_held = λ it. it; may = tt; loud = λ never. never; must = moving_only; must_held = moving_held_only Start (λ is. cc is); refuses = λ e. no_refusal; refuses_held = λ e. no_refusal; learns = λ to next it. it }
 
   module _ (c : Asked) (acts : OnlySyncs c) (new : D) where
+    either_ends : (result : Result A Error) → Syncs p dev a result old new → AnswerEnds (serving_by p setup valid dev (filing_by p a)) dev a c (outcome (λ r. (r, reply.Done)) result) old new
+    either_ends (Ok r) syncs = (let changes = syncs.settles.changes c acts.is in record {
+      usable = sync_usable p setup valid dev a old given.usable r new syncs.ends changes.ends.over changes.ends.alike.accepts;
+      sound = changes.ends.sound;
+      step = changes.ends.step;
+      reopened = λ t sound is. absurd (acts.no_reopen is);
+      allowed = λ t sound must. sync_lawful t r new syncs.ends (acts.must must);
+      rest = λ t sound. (changes.ends.alike.leaves _ None _).1 (changes.ends.rest t sound);
+      learns = λ t. acts.learns (disk (dev.time new)) (held_by p r) (sync_holds p setup valid dev a old given.usable r new syncs.ends changes.ends.over (filing_by p a) t);
+      allowed_anywhere = λ t must. sync_held t r new syncs.ends (acts.must_held must);
+    })
+    either_ends (Err e) syncs = record {
+      cause = λ t sound. sync_cause t c acts.moves acts.moves_held acts.may (dev.faults old) (dev.faults new) e syncs.ends.cause;
+      unwritten = λ t sound refuses. absurd (acts.refuses e refuses);
+      anywhere = λ t. sync_anywhere t c acts.moves acts.moves_held acts.may (disk (dev.time new)) (dev.faults old) (dev.faults new) e syncs.ends.cause;
+      unwritten_anywhere = λ t refuses. absurd (acts.refuses_held e refuses);
+      fault = (syncs.settles.changes c acts.is).ends;
+    }
+
     either_at : (result : Result A Error) → Syncs p dev a result old new → Answers (serving_by p setup valid dev (filing_by p a)) dev a c (outcome (λ r. (r, reply.Done)) result) old new
-    either_at (Ok r) syncs = (let changes = syncs.settles.changes c acts.is in record {
-      moments = changes.moments;
-      alone = λ t. always_as (dev.time old) (dev.time new) _ _ (λ x same q other. same q (λ own. other (acts.changes q own))) (changes.footprint.alone t);
-      footprint = changes.footprint;
-      quiet = λ t still. absurd (acts.loud still);
-      ends = record {
-        usable = sync_usable p setup valid dev a old given.usable r new syncs.ends changes.ends.over changes.ends.alike.accepts;
-        sound = changes.ends.sound;
-        step = changes.ends.step;
-        reopened = λ t sound is. absurd (acts.no_reopen is);
-        allowed = λ t sound must. sync_lawful t r new syncs.ends (acts.must must);
-        rest = λ t sound. (changes.ends.alike.leaves _ None _).1 (changes.ends.rest t sound);
-        learns = λ t. acts.learns (disk (dev.time new)) (held_by p r) (sync_holds p setup valid dev a old given.usable r new syncs.ends changes.ends.over (filing_by p a) t);
-        allowed_anywhere = λ t must. sync_held t r new syncs.ends (acts.must_held must);
-      };
-    })
-    either_at (Err e) syncs = (let changes = syncs.settles.changes c acts.is in record {
-      moments = changes.moments;
-      alone = λ t. always_as (dev.time old) (dev.time new) _ _ (λ x same q other. same q (λ own. other (acts.changes q own))) (changes.footprint.alone t);
-      footprint = changes.footprint;
-      quiet = λ t still. absurd (acts.loud still);
-      ends = record {
-        cause = λ t sound. sync_cause t c acts.moves acts.moves_held acts.may (dev.faults old) (dev.faults new) e syncs.ends.cause;
-        unwritten = λ t sound refuses. absurd (acts.refuses e refuses);
-        anywhere = λ t. sync_anywhere t c acts.moves acts.moves_held acts.may (disk (dev.time new)) (dev.faults old) (dev.faults new) e syncs.ends.cause;
-        unwritten_anywhere = λ t refuses. absurd (acts.refuses_held e refuses);
-        fault = changes.ends;
-      };
-    })
+    either_at result syncs =
+        let changes = syncs.settles.changes c acts.is in
+        record {
+          moments = changes.moments;
+          alone = λ t. always_as (dev.time old) (dev.time new) _ _ (λ x same q other. same q (λ own. other (acts.changes q own))) (changes.footprint.alone t);
+          footprint = changes.footprint;
+          quiet = λ t still. absurd (acts.loud still);
+          ends = either_ends result syncs;
+        }
 
     either_answers : (result : Result A Error) → Syncs p dev a result old new → Answers (prunable_serving p setup valid) dev a c (outcome (λ r. (r, reply.Done)) result) old new
     either_answers result syncs = as_asked p setup valid dev a old given c (outcome (λ r. (r, reply.Done)) result) new (either_at result syncs)

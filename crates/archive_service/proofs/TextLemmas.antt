@@ -18,6 +18,11 @@ pub appends_more : {E : Type 0} (r : Result Unit E) (old mid new first second : 
 appends_more (Ok done) old mid new first second e h = h ∙ ap (λ l. l ++ second) e ∙ append_assoc old first second
 appends_more (Err error) old mid new first second e h = (first ++ h.0, h.1 ∙ ap (λ l. l ++ h.0) e ∙ append_assoc old first h.0)
 
+-- the last text, behind one that was appended
+pub appends_last : {E : Type 0} (r : Result Unit E) (old mid new first second : List ℕ) → mid ≡ old ++ first → new ≡ (if is_ok r then mid ++ second else mid)
+    → Appends r old (first ++ second) new
+appends_last r old mid new first second e last = appends_more r old mid new first second e (appends r mid new second last)
+
 -- two texts, one behind the other
 pub more_is : (old mid new first second : List ℕ) → mid ≡ old ++ first → new ≡ mid ++ second → new ≡ old ++ (first ++ second)
 more_is old mid new first second one two = two ∙ ap (λ l. l ++ second) one ∙ append_assoc old first second
@@ -39,6 +44,21 @@ module _ {A : Type 0} (text_of : A → List ℕ) where
   -- all words, behind a name
   pub words_behind : (old name front out : List ℕ) (things : List A) → front ≡ old ++ name → out ≡ front ++ words_text text_of things → out ≡ old ++ (name ++ words_text text_of things)
   words_behind old name front out things begun so_far = so_far ∙ ap (λ l. l ++ words_text text_of things) begun ∙ append_assoc old name (words_text text_of things)
+
+  -- no memory for one word more of a list
+  pub list_fails : {E : Type 0} (r : Result Unit E) (old name : List ℕ) {front out : List ℕ} (new text : List ℕ) (before : List A) → front ≡ old ++ name
+      → out ≡ front ++ words_text text_of before → IsErr r → ((more : List ℕ) × (new ≡ out ++ more)) → Appends r old text new
+  list_fails r old name {front} {out} new text before begun so_far failed more =
+      fails r old out new (name ++ words_text text_of before) text failed (words_behind old name front out before begun so_far) more
+
+  -- the end of the line, behind all words of a list
+  pub list_ends : {E : Type 0} (r : Result Unit E) (old name line_end : List ℕ) {front out : List ℕ} (new : List ℕ) (before things : List A) → front ≡ old ++ name
+      → out ≡ front ++ words_text text_of before → before ≡ things → new ≡ (if is_ok r then out ++ line_end else out)
+      → Appends r old (name ++ words_text text_of things ++ line_end) new
+  list_ends r old name line_end {front} {out} new before things begun so_far all last =
+      appends_more r old out new (name ++ words_text text_of things) line_end
+      (words_behind old name front out before begun so_far ∙ ap (λ l. old ++ (name ++ words_text text_of l)) all)
+      (appends r out new line_end last)
 
 -- a run is written by its two numbers
 pub run_more : (out mid new : List ℕ) (run : ℕ × ℕ) → mid ≡ out ++ (codes " " ++ decimal run.0) → new ≡ mid ++ (codes "-" ++ decimal run.1) → new ≡ out ++ 32 ∷ run_text run

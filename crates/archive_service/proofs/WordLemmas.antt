@@ -26,11 +26,11 @@ use Rattle.archive_service.specs.Script.{AreBytes, IsCount, IsIndex, IsKey, IsRe
 use Rattle.archive_service.specs.Words.{IsDecimal, IsHexText, IsLowerDigit, IsValueText}
 
 -- a word that was compared
-pub same_word : (name word tested : List ℕ) → tested ≡ word → true ≡ bytes_eq name tested → name ≡ word
-same_word name word tested is e = (bytes_eq-Decides name tested).0 (sym e) ∙ is
+pub same_word : {name word tested : List ℕ} → tested ≡ word → true ≡ bytes_eq name tested → name ≡ word
+same_word {name} {word} {tested} is e = (bytes_eq-Decides name tested).0 (sym e) ∙ is
 
-pub other_word : (name word tested : List ℕ) → tested ≡ word → false ≡ bytes_eq name tested → name ≢ word
-other_word name word tested is e same =
+pub other_word : {name word tested : List ℕ} → tested ≡ word → false ≡ bytes_eq name tested → name ≢ word
+other_word {name} {word} {tested} is e same =
     let yes = (bytes_eq-Decides name tested).1 (same ∙ sym is) in
     cc
 

@@ -4,7 +4,7 @@ use Rattle.meta_store.specs.declared.error.Error.TheVariants.{Corruption}
 use Rattle.meta_store.specs.declared.error.Side.TheVariants.{Left, Right}
 use Rattle.archive_service.specs.ErrorTexts.{metadata_text}
 use Rattle.archive_service.specs.Texts.{Appends}
-use Rattle.archive_service.proofs.TextLemmas.{appends, appends_more}
+use Rattle.archive_service.proofs.TextLemmas.{appends_last}
 use Rattle.archive_service.proofs.error_text.append_metadata.Goals as goal
 
 pub returns-in-Corruption-Left : goal.returns-in-Corruption-Left
@@ -13,8 +13,7 @@ returns-in-Corruption-Left c =
     let held : c.in-Corruption-Left.field-0 ≡ Left = rw c.in-Corruption-Left.is at c.in-Corruption-Left.field-0-is in
     let is = c.in-Corruption-Left.is ∙ ap Corruption held in
     subst (λ e. Appends last.result c.args.out.now.items (metadata_text e) last.new.self.items) (sym is)
-    (appends_more last.result c.args.out.now.items c.extend_from_slice.new.self.items last.new.self.items (codes "metadata ") (codes "corruption left") c.in_ok-extend_from_slice.ensures.items
-    (appends last.result c.extend_from_slice.new.self.items last.new.self.items (codes "corruption left") last.ensures.items))
+    (appends_last last.result c.args.out.now.items c.extend_from_slice.new.self.items last.new.self.items (codes "metadata ") (codes "corruption left") c.in_ok-extend_from_slice.ensures.items last.ensures.items)
 
 pub returns-in-Corruption-Right : goal.returns-in-Corruption-Right
 returns-in-Corruption-Right c =
@@ -22,13 +21,10 @@ returns-in-Corruption-Right c =
     let held : c.in-Corruption-Right.field-0 ≡ Right = rw c.in-Corruption-Right.is at c.in-Corruption-Right.field-0-is in
     let is = c.in-Corruption-Right.is ∙ ap Corruption held in
     subst (λ e. Appends last.result c.args.out.now.items (metadata_text e) last.new.self.items) (sym is)
-    (appends_more last.result c.args.out.now.items c.extend_from_slice.new.self.items last.new.self.items (codes "metadata ") (codes "corruption right") c.in_ok-extend_from_slice.ensures.items
-    (appends last.result c.extend_from_slice.new.self.items last.new.self.items (codes "corruption right") last.ensures.items))
+    (appends_last last.result c.args.out.now.items c.extend_from_slice.new.self.items last.new.self.items (codes "metadata ") (codes "corruption right") c.in_ok-extend_from_slice.ensures.items last.ensures.items)
 
 pub returns-in-Full : goal.returns-in-Full
 returns-in-Full c =
     let last = c.extend_from_slice-in-Full in
-    let is = c.in-Full.is in
-    subst (λ e. Appends last.result c.args.out.now.items (metadata_text e) last.new.self.items) (sym is)
-    (appends_more last.result c.args.out.now.items c.extend_from_slice.new.self.items last.new.self.items (codes "metadata ") (codes "full") c.in_ok-extend_from_slice.ensures.items
-    (appends last.result c.extend_from_slice.new.self.items last.new.self.items (codes "full") last.ensures.items))
+    subst (λ e. Appends last.result c.args.out.now.items (metadata_text e) last.new.self.items) (sym c.in-Full.is)
+    (appends_last last.result c.args.out.now.items c.extend_from_slice.new.self.items last.new.self.items (codes "metadata ") (codes "full") c.in_ok-extend_from_slice.ensures.items last.ensures.items)

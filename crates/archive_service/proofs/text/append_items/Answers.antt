@@ -3,7 +3,7 @@ use Rattle.std.proofs.Common.{◌++◌, codes, get_or, take, sym, ap, ◌∙◌}
 use Rattle.std.specs.Fmt.{decimal}
 use Rattle.std.proofs.lemmas.List.{take_all, take_more}
 use Rattle.archive_service.specs.Texts.{words_text}
-use Rattle.archive_service.proofs.TextLemmas.{appends, appends_more, fails, word_more, words_behind}
+use Rattle.archive_service.proofs.TextLemmas.{list_ends, list_fails, word_more}
 use Rattle.archive_service.proofs.text.append_items.Goals as goal
 
 -- one number more
@@ -18,18 +18,11 @@ loop-number-preserved c =
 -- no memory for a number
 pub returns-in_err-append_with : goal.returns-in_err-append_with
 returns-in_err-append_with c =
-    let before = take c.loop-number.number-index c.args.numbers.now in
-    fails c.from_residual-in_err-append_with.result c.args.out.now.items c.loop-number.out.items c.append_with.new.out.items (codes "items" ++ words_text decimal before) _
-    c.from_residual-in_err-append_with.ensures.0
-    (words_behind decimal c.args.out.now.items (codes "items") c.extend_from_slice.new.self.items c.loop-number.out.items before c.in_ok-extend_from_slice.ensures.items c.loop-number.invariant)
-    c.in_err-append_with.ensures
+    list_fails decimal c.from_residual-in_err-append_with.result c.args.out.now.items (codes "items") c.append_with.new.out.items _ (take c.loop-number.number-index c.args.numbers.now)
+    c.in_ok-extend_from_slice.ensures.items c.loop-number.invariant c.from_residual-in_err-append_with.ensures.0 c.in_err-append_with.ensures
 
 pub returns : goal.returns
 returns c =
     let last = c.extend_from_slice-2 in
-    let old = c.args.out.now.items in
-    let before = take c.loop-number.number-index c.args.numbers.now in
-    appends_more last.result old c.loop-number.out.items last.new.self.items (codes "items" ++ words_text decimal c.args.numbers.now) (codes "\n")
-    (words_behind decimal old (codes "items") c.extend_from_slice.new.self.items c.loop-number.out.items before c.in_ok-extend_from_slice.ensures.items c.loop-number.invariant
-    ∙ ap (λ l. old ++ (codes "items" ++ words_text decimal l)) (take_all c.loop-number.number-index c.args.numbers.now c.loop-number-test.false))
-    (appends last.result c.loop-number.out.items last.new.self.items (codes "\n") last.ensures.items)
+    list_ends decimal last.result c.args.out.now.items (codes "items") (codes "\n") last.new.self.items (take c.loop-number.number-index c.args.numbers.now) c.args.numbers.now
+    c.in_ok-extend_from_slice.ensures.items c.loop-number.invariant (take_all c.loop-number.number-index c.args.numbers.now c.loop-number-test.false) last.ensures.items

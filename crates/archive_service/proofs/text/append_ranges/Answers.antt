@@ -3,7 +3,7 @@ use Rattle.std.proofs.Common.{◌++◌, codes, get_or, take, sym, ap, ◌∙◌}
 use Rattle.std.specs.Fmt.{decimal}
 use Rattle.std.proofs.lemmas.List.{take_all, take_more}
 use Rattle.archive_service.specs.Texts.{run_text, words_text}
-use Rattle.archive_service.proofs.TextLemmas.{appends, appends_more, fails, more_is, run_more, word_more, words_behind}
+use Rattle.archive_service.proofs.TextLemmas.{fails, list_ends, list_fails, more_is, run_more, word_more, words_behind}
 use Rattle.archive_service.proofs.text.append_ranges.Goals as goal
 
 -- one run more
@@ -19,11 +19,8 @@ loop-first-preserved c =
 -- no memory for the first number of a run
 pub returns-in_err-append_with : goal.returns-in_err-append_with
 returns-in_err-append_with c =
-    let before = take c.loop-first.first-index c.args.runs.now in
-    fails c.from_residual-in_err-append_with.result c.args.out.now.items c.loop-first.out.items c.append_with.new.out.items (codes "ranges" ++ words_text run_text before) _
-    c.from_residual-in_err-append_with.ensures.0
-    (words_behind run_text c.args.out.now.items (codes "ranges") c.extend_from_slice.new.self.items c.loop-first.out.items before c.in_ok-extend_from_slice.ensures.items c.loop-first.invariant)
-    c.in_err-append_with.ensures
+    list_fails run_text c.from_residual-in_err-append_with.result c.args.out.now.items (codes "ranges") c.append_with.new.out.items _ (take c.loop-first.first-index c.args.runs.now)
+    c.in_ok-extend_from_slice.ensures.items c.loop-first.invariant c.from_residual-in_err-append_with.ensures.0 c.in_err-append_with.ensures
 
 -- or for its last one
 pub returns-in_err-append_with-2 : goal.returns-in_err-append_with-2
@@ -40,9 +37,5 @@ returns-in_err-append_with-2 c =
 pub returns : goal.returns
 returns c =
     let last = c.extend_from_slice-2 in
-    let old = c.args.out.now.items in
-    let before = take c.loop-first.first-index c.args.runs.now in
-    appends_more last.result old c.loop-first.out.items last.new.self.items (codes "ranges" ++ words_text run_text c.args.runs.now) (codes "\n")
-    (words_behind run_text old (codes "ranges") c.extend_from_slice.new.self.items c.loop-first.out.items before c.in_ok-extend_from_slice.ensures.items c.loop-first.invariant
-    ∙ ap (λ l. old ++ (codes "ranges" ++ words_text run_text l)) (take_all c.loop-first.first-index c.args.runs.now c.loop-first-test.false))
-    (appends last.result c.loop-first.out.items last.new.self.items (codes "\n") last.ensures.items)
+    list_ends run_text last.result c.args.out.now.items (codes "ranges") (codes "\n") last.new.self.items (take c.loop-first.first-index c.args.runs.now) c.args.runs.now
+    c.in_ok-extend_from_slice.ensures.items c.loop-first.invariant (take_all c.loop-first.first-index c.args.runs.now c.loop-first-test.false) last.ensures.items

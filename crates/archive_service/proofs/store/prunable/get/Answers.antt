@@ -1,16 +1,13 @@
-use Rattle.std.proofs.Common.{refl, ap}
-use Rattle.archives.specs.Config.{IsValid}
+use Rattle.std.proofs.Common.{refl}
 use Rattle.archives.specs.Finding.{wanted_of}
 use Rattle.archives.specs.Machine.{replied}
-use Rattle.archives.specs.Shown.{setup_for}
 use Rattle.archives.specs.declared.commands.Reply.TheVariants.{Value}
 use Rattle.archive_service.proofs.LookAnswers.{get_answers}
-use Rattle.archive_service.proofs.StoreLemmas.{answers_with, seen_so}
+use Rattle.archive_service.proofs.StoreLemmas.{answers_with, given_by, seen_so}
 use Rattle.archive_service.proofs.store.prunable.get.Goals as goal
 
 pub returns : goal.returns
 returns g c =
     answers_with _ g.D.Device c.args.archive _ _ _ _ _ (seen_so (λ r. (r.0, replied g.V.Codec.spelling r.1)) (λ r. (c.args.archive, Value r)) c.get-answer.result c.found.result c.found.ensures)
-    (get_answers _ (setup_for g.K.Key.SIZE g.S.Seal g.V.Codec g.T.Translator.word_of c.args._cfg.now) (IsValid c.args._cfg.now) g.D.Device c.args.archive c.args.dev.now
-    (record { usable = c.requires.usable; laws = c.crash_laws.ensures; markers = λ x. refl; buffers = λ s u held. (let made = c.requires.usable.usable.pair.index.over.opened_list.setting s u held in (ap (λ x. x.page_size) made, ap (λ x. x.capacity) made)) })
+    (get_answers _ _ _ g.D.Device _ _ (given_by _ (λ u. refl) g.D.Device c.args._cfg.now c.args.archive c.args.dev.now c.requires.usable c.crash_laws.ensures)
     (wanted_of g.K.Key.key_bytes c.args.identifier) c.get-answer.new.dev c.get-answer.result c.get-answer.ensures)

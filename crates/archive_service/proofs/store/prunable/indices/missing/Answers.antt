@@ -1,31 +1,27 @@
-use Rattle.std.proofs.Common.{refl, ap, subst, sym, ◌≡◌, Err}
-use Rattle.archives.specs.Config.{IsValid}
+use Rattle.std.proofs.Common.{refl, subst, sym, ◌≡◌, Err}
 use Rattle.archives.specs.Commands.{Missing}
 use Rattle.archives.specs.Replies as reply
-use Rattle.archives.specs.Shown.{setup_for}
 use Rattle.ordinal_store.specs.Numbers.{AreMissing}
 use Rattle.blob_device.proofs.Results.{err_of}
 use Rattle.archive_service.proofs.LookAnswers.{indices_told, indices_untold, none_missing}
+use Rattle.archive_service.proofs.StoreLemmas.{given_by}
 use Rattle.archive_service.proofs.store.prunable.indices.missing.Goals as goal
 
 -- none were asked for
 pub returns-then-count-eq0 : goal.returns-then-count-eq0
 returns-then-count-eq0 g c =
-    indices_told _ (setup_for g.K.Key.SIZE g.S.Seal g.V.Codec g.T.Translator.word_of c.args._cfg.now) (IsValid c.args._cfg.now) g.D.Device c.args.archive c.args.dev.now
-    (record { usable = c.requires.usable; laws = c.crash_laws.ensures; markers = λ x. refl; buffers = λ s u held. (let made = c.requires.usable.usable.pair.index.over.opened_list.setting s u held in (ap (λ x. x.page_size) made, ap (λ x. x.capacity) made)) })
+    indices_told _ _ _ g.D.Device _ _ (given_by _ (λ u. refl) g.D.Device c.args._cfg.now c.args.archive c.args.dev.now c.requires.usable c.crash_laws.ensures)
     (Missing c.args.index c.args.count) tt reply.Items (λ set numbers. AreMissing set c.args.index c.args.count numbers) (λ numbers are. (are, refl)) c.new.result
     (subst (AreMissing _ c.args.index c.args.count) (sym c.new.ensures) (none_missing _ c.args.index c.args.count c.if-count-eq0.true))
 
 -- there was no memory for the list
 pub returns-in_err-missing : goal.returns-in_err-missing
 returns-in_err-missing g c =
-    indices_untold _ (setup_for g.K.Key.SIZE g.S.Seal g.V.Codec g.T.Translator.word_of c.args._cfg.now) (IsValid c.args._cfg.now) g.D.Device c.args.archive c.args.dev.now
-    (record { usable = c.requires.usable; laws = c.crash_laws.ensures; markers = λ x. refl; buffers = λ s u held. (let made = c.requires.usable.usable.pair.index.over.opened_list.setting s u held in (ap (λ x. x.page_size) made, ap (λ x. x.capacity) made)) })
+    indices_untold _ _ _ g.D.Device _ _ (given_by _ (λ u. refl) g.D.Device c.args._cfg.now c.args.archive c.args.dev.now c.requires.usable c.crash_laws.ensures)
     (Missing c.args.index c.args.count) tt _ c.from_residual.result
     (subst (λ e. c.from_residual.result ≡ Err e) c.in_err-missing.ensures (err_of c.from_residual.result c.in_err-missing.field-0.0 c.from_residual.ensures.1))
 
 pub returns : goal.returns
 returns g c =
-    indices_told _ (setup_for g.K.Key.SIZE g.S.Seal g.V.Codec g.T.Translator.word_of c.args._cfg.now) (IsValid c.args._cfg.now) g.D.Device c.args.archive c.args.dev.now
-    (record { usable = c.requires.usable; laws = c.crash_laws.ensures; markers = λ x. refl; buffers = λ s u held. (let made = c.requires.usable.usable.pair.index.over.opened_list.setting s u held in (ap (λ x. x.page_size) made, ap (λ x. x.capacity) made)) })
+    indices_told _ _ _ g.D.Device _ _ (given_by _ (λ u. refl) g.D.Device c.args._cfg.now c.args.archive c.args.dev.now c.requires.usable c.crash_laws.ensures)
     (Missing c.args.index c.args.count) tt reply.Items (λ set numbers. AreMissing set c.args.index c.args.count numbers) (λ numbers are. (are, refl)) c.in_ok-missing.missing c.in_ok-missing.ensures
