@@ -8,6 +8,7 @@ use std::marker::Model;
 /// A list of runs of indices, each from its first to its last.
 #[derive(Debug, Drop)]
 pub struct Pairs {
+    // the pairs, in the order of the answer
     items: Vec<(u64, u64)>,
 }
 

@@ -29,6 +29,7 @@ pub struct Item<K, V> {
 /// A machine of records with nothing pruned.
 #[derive(Drop)]
 pub struct Machine<K, V> {
+    // for the records, and for the sets of indices that are made of them
     alloc: Global,
     // in the order of the puts, no two with one index: a put at a taken index adds none
     items: Vec<Item<K, V>>,

@@ -11,6 +11,7 @@ use std::alloc::Global;
 /// A set of numbers, kept as a list.
 #[derive(Drop)]
 pub struct PlainSet {
+    // for the numbers, and for answers that are lists
     alloc: Global,
     /// The numbers of the set, in any order.
     pub numbers: Vec<u64>,

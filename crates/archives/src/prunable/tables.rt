@@ -23,6 +23,7 @@ struct Entry<K> {
 /// No table is empty, but while a record is being added for which room was made.
 #[derive(Drop)]
 pub(super) struct Tables<K> {
+    // for the rows
     alloc: Global,
     // by section, entry i for the record at position i: a record is entered once it was appended, or as a replay gives it
     tables: BTreeMap<u64, Vec<Entry<K>>>,
