@@ -3,7 +3,7 @@ use Rattle.std.proofs.Common.{◌≡◌, ◌⊎◌, inl, inr, Result, Ok, Err, �
 use Rattle.std.proofs.lemmas.List.{append_assoc, take_at, drop_at, drop-drop}
 use Rattle.std.specs.Int.{w32, to_be_bytes}
 use Rattle.meta_store.specs.Copies.{entry_bytes}
-use Rattle.meta_store.proofs.Texts.{take_two, length-four, same_number_4}
+use Rattle.meta_store.proofs.Bytes.{take_two, length-four, same_number_4}
 
 module _ {K V : Type 0} (key_bytes : K → List ℕ) (spelling : V → List ℕ) where
   pub length-entry : (e : K × V) → length (entry_bytes key_bytes spelling e) ≡ length (key_bytes e.0) + 4 + length (spelling e.1)
@@ -54,6 +54,12 @@ module _ {K V : Type 0} (key_bytes : K → List ℕ) (spelling : V → List ℕ)
 
     pub part_value : take (length (spelling v)) (drop (n + 4) bytes) ≡ spelling v
     part_value = ap (take (length (spelling v))) behind_size ∙ take_at (spelling v) rest (length (spelling v)) refl
+
+    -- the value's spelling, behind a size that is its length
+    pub part_spelled : (size : ℕ) → size ≡ length (spelling v) → spelling v ≡ take (n + 4 + size - (n + 4)) (drop (n + 4) bytes)
+    part_spelled size same =
+        let count : length (spelling v) ≡ n + 4 + size - (n + 4) = omega (arith, same) in
+        sym part_value ∙ ap (λ (m : ℕ). take m (drop (n + 4) bytes)) count
 
     -- the size that was read
     pub part_same_size : (size : ℕ) → size < 2 ^ 32 → length (spelling v) < 2 ^ 32 → to_be_bytes w32 size ≡ take 4 (drop n bytes) → size ≡ length (spelling v)

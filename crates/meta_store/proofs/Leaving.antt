@@ -3,6 +3,7 @@ use Rattle.std.proofs.Common.{◌≡◌, ◌⊎◌, inl, inr, ℕ, ◌<◌, ◌�
 use Rattle.std.proofs.lemmas.List.{ext_get_or}
 use Rattle.blob_device.specs.Disk.{Blob, Disk, MayHold, MayLeave, past, settled_at, nothing}
 use Rattle.blob_device.specs.Change.{Remove, during}
+use Rattle.meta_store.specs.declared.copy.Contents.{Contents}
 use Rattle.meta_store.specs.declared.copy.CopyText.{CopyText}
 use Rattle.meta_store.specs.declared.copy.CopyText.TheVariants.{Absent, Refused, Whole}
 use Rattle.meta_store.specs.declared.error.Side.{Side}
@@ -39,16 +40,16 @@ module _ {K V : Type 0} (f : Format K V) where
   }
 
   -- what is chosen of each two texts holds the one map or the other
-  abbrev pub ChooseEither : Side → List (K × V) → List (K × V) → (T U : CopyText K V → Type 0) → Type 0
-  ChooseEither side one other T U = (a b : CopyText K V) → T a → U b → (chosen : Chosen K V) × (chosen_on side a b ≡ Ok chosen) × ((chosen.entries ≡ one) ⊎ (chosen.entries ≡ other))
+  abbrev pub ChooseEither : Side → Contents K V → Contents K V → (T U : CopyText K V → Type 0) → Type 0
+  ChooseEither side one other T U = (a b : CopyText K V) → T a → U b → (chosen : Chosen K V) × (chosen_on side a b ≡ Ok chosen) × ((chosen.contents ≡ one) ⊎ (chosen.contents ≡ other))
 
-  hold_one : (side : Side) (mine theirs : List ℕ) (one other : List (K × V)) (a b : CopyText K V) (chosen : Chosen K V) → ReadsAs f mine a → ReadsAs f theirs b → chosen_on side a b ≡ Ok chosen
-      → (chosen.entries ≡ one) ⊎ (chosen.entries ≡ other) → holds_on f side mine theirs one ⊎ holds_on f side mine theirs other
+  hold_one : (side : Side) (mine theirs : List ℕ) (one other : Contents K V) (a b : CopyText K V) (chosen : Chosen K V) → ReadsAs f mine a → ReadsAs f theirs b → chosen_on side a b ≡ Ok chosen
+      → (chosen.contents ≡ one) ⊎ (chosen.contents ≡ other) → holds_on f side mine theirs one ⊎ holds_on f side mine theirs other
   hold_one side mine theirs one other a b chosen is_a is_b is (inl same) = inl (hold_on f side mine theirs a b chosen one is_a is_b is same)
   hold_one side mine theirs one other a b chosen is_a is_b is (inr same) = inr (hold_on f side mine theirs a b chosen other is_a is_b is same)
 
   -- the text of a side and that of the other one make the map
-  pub keeps_of : (p : List ℕ) (side : Side) (one other : List (K × V)) (T U : CopyText K V → Type 0) (d : Disk) → LeavesText T (d (blob_of p side)) → LeavesText U (d (blob_of p (other_side side)))
+  pub keeps_of : (p : List ℕ) (side : Side) (one other : Contents K V) (T U : CopyText K V → Type 0) (d : Disk) → LeavesText T (d (blob_of p side)) → LeavesText U (d (blob_of p (other_side side)))
       → ChooseEither side one other T U → Keeps f p one other d
   keeps_of p Left one other T U d mine theirs choose = record {
     crash = λ l r may_l may_r none_l none_r.

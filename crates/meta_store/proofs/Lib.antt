@@ -1,8 +1,13 @@
 pub mod Ascending
+pub mod Bytes
 pub mod Choices
+pub mod DestroysLemmas
 pub mod DeviceCalls
 pub mod EntryLists
 pub mod EntryTexts
+pub mod Failing
+pub mod Forms
+pub mod InitsLemmas
 pub mod Inserting
 pub mod Leaving
 pub mod OpenedSides
@@ -14,7 +19,9 @@ pub mod RemovingLemmas
 pub mod Reopening
 pub mod Sealing
 pub mod Sides
+pub mod StagingLemmas
 pub mod StandingLemmas
 pub mod SyncingLemmas
+pub mod SyncsLemmas
 pub mod Texts
 pub mod Uses

@@ -1,15 +1,14 @@
 -- What is read of the two blobs while a map is opened, and what the map is then.
 use Rattle.std.proofs.Common.{◌≡◌, ◌⊎◌, inl, inr, ℕ, ◌==◌, nat_lt, if◌then◌else◌, Bool, true, false, List, [], length, Result, Ok, Err, refl, sym, ◌∙◌, ap, subst}
-use Rattle.std.specs.Result.{IfOk, OnOk, OnErr, MatchResult}
+use Rattle.std.specs.List.{AllByRecursion}
 use Rattle.std.specs.Map.{keys_of}
 use Rattle.std.specs.List.Sorted.{IsStrictlySortedBy}
 use Rattle.blob_device.specs.Disk.{Blob, Disk, settled_at}
 use Rattle.blob_device.specs.Timeline.{Timeline, disk, Always}
 use Rattle.blob_device.proofs.Moments.{always_now, always_then, always_weaker}
+use Rattle.meta_store.specs.declared.copy.Contents.{Contents}
 use Rattle.meta_store.specs.declared.copy.CopyText.{CopyText}
 use Rattle.meta_store.specs.declared.copy.CopyText.TheVariants.{Absent, Refused, Whole}
-use Rattle.meta_store.specs.declared.error.Error.{Error}
-use Rattle.meta_store.specs.declared.error.Error.TheVariants.{Mem}
 use Rattle.meta_store.specs.declared.error.Side.{Side}
 use Rattle.meta_store.specs.declared.error.Side.TheVariants.{Left, Right}
 use Rattle.meta_store.specs.declared.pair.Chosen.{Chosen}
@@ -17,9 +16,8 @@ use Rattle.meta_store.specs.Format.{Format}
 use Rattle.meta_store.specs.Copies.{ReadsAs, IsMap}
 use Rattle.meta_store.specs.Pairs.{chosen_of, newer_of}
 use Rattle.meta_store.specs.Blobs.{blob_of, read_bytes}
-use Rattle.meta_store.specs.Calls.{GaveUp}
 use Rattle.meta_store.specs.Opening.{PairOn}
-use Rattle.meta_store.specs.Store.{Store, Stands, chosen_by}
+use Rattle.meta_store.specs.Store.{Store, Stands, MayBeSynced, chosen_by, contents_of}
 
 -- calls that change nothing go on as it was
 pub then_unchanged : (a b c : Timeline) (P : Disk → Type 0) → Always a b P → Always b c (λ d. d ≡ disk b) → Always a c P
@@ -31,56 +29,41 @@ unchanged_then a b c first second = then_unchanged a b c (λ d. d ≡ disk a) fi
 pub unchanged_now : (a b : Timeline) → Always a b (λ d. d ≡ disk a) → disk b ≡ disk a
 unchanged_now a b same = always_now a b (λ d. d ≡ disk a) same
 
--- what both of two clauses say of an Ok
-pub both_ok : {A E : Type 0} (r : Result A E) (P Q R : A → Type 0) → IfOk r P → IfOk r Q → ((x : A) → P x → Q x → R x) → IfOk r R
-both_ok (Ok x) P Q R p q both = both x p q
-both_ok (Err e) P Q R p q both = tt
-
-pub ok_weaker : {A E : Type 0} (r : Result A E) (P Q : A → Type 0) → IfOk r P → ((x : A) → P x → Q x) → IfOk r Q
-ok_weaker (Ok x) P Q p weaker = weaker x p
-ok_weaker (Err e) P Q p weaker = tt
-
-entries_of : {K V : Type 0} {x y : Chosen K V} → ◌≡◌ {A = Result (Chosen K V) Side} (Ok x) (Ok y) → x.entries ≡ y.entries
-entries_of {K = K} {V = V} {x = x} {y = y} is = let e : x ≡ y = cc is in ap (λ (c : Chosen K V). c.entries) e
-
-pub on_any : {A E P : Type 0} (r : Result A E) → P → OnOk r P
-on_any (Ok x) here = here
-on_any (Err e) here = tt
+entries_of : {K V : Type 0} {x y : Chosen K V} → ◌≡◌ {A = Result (Chosen K V) Side} (Ok x) (Ok y) → x.contents.entries ≡ y.contents.entries
+entries_of {K = K} {V = V} {x = x} {y = y} is = let e : x ≡ y = cc is in ap (λ (c : Chosen K V). c.contents.entries) e
 
 pub one_chosen : {K V : Type 0} {x y : Chosen K V} → ◌≡◌ {A = Result (Chosen K V) Side} (Ok x) (Ok y) → x ≡ y
 one_chosen is = cc is
 
--- the map has what was chosen, or there was no memory
-pub chosen_or_memory : {K V M : Type 0} (r : Result M Error) (shows : M → Chosen K V) (x y : Chosen K V) (before now : ℕ) → x ≡ y → IfOk r (λ m. shows m ≡ x) → OnErr r (r ≡ Err Mem) → MatchResult r (λ m. shows m ≡ y) (λ e. GaveUp r before now)
-chosen_or_memory (Ok m) shows x y before now same of_m memory = of_m ∙ same
-chosen_or_memory (Err e) shows x y before now same of_m memory = inl memory
-
 module _ {K V : Type 0} (f : Format K V) where
-  newer_has : (P : List (K × V) → Type 0) (v w : ℕ) (xs ys : List (K × V)) (chosen : Chosen K V) → P xs → P ys → newer_of v xs w ys ≡ Ok chosen → P chosen.entries
+  newer_has : (P : List (K × V) → Type 0) (v w : ℕ) (xs ys : Contents K V) (chosen : Chosen K V) → P xs.entries → P ys.entries → newer_of v xs w ys ≡ Ok chosen → P chosen.contents.entries
   newer_has P v w xs ys chosen of_xs of_ys is = by_tests (v == w) (nat_lt v w) is
     where
-      by_tests : (e l : Bool) → ◌≡◌ {A = Result (Chosen K V) Side} (if e then Err Right else if l then Ok (record { version = w; older = Left; entries = ys }) else Ok (record { version = v; older = Right; entries = xs })) (Ok chosen) → P chosen.entries
+      by_tests : (e l : Bool) → ◌≡◌ {A = Result (Chosen K V) Side} (if e then Err Right else if l then Ok (record { version = w; older = Left; contents = ys }) else Ok (record { version = v; older = Right; contents = xs })) (Ok chosen) → P chosen.contents.entries
       by_tests true l is = absurd (cc is)
       by_tests false true is = subst P (entries_of is) of_ys
       by_tests false false is = subst P (entries_of is) of_xs
 
   -- what is chosen of two texts is a map
-  pub chosen_has : (P : List (K × V) → Type 0) (left right : List ℕ) (a b : CopyText K V) (chosen : Chosen K V) → P [] → ((es : List (K × V)) → IsMap f es → P es) → ReadsAs f left a → ReadsAs f right b → chosen_of a b ≡ Ok chosen → P chosen.entries
+  pub chosen_has : (P : List (K × V) → Type 0) (left right : List ℕ) (a b : CopyText K V) (chosen : Chosen K V) → P [] → ((es : List (K × V)) → IsMap f es → P es) → ReadsAs f left a → ReadsAs f right b → chosen_of a b ≡ Ok chosen → P chosen.contents.entries
   chosen_has P left right (Refused v) b chosen none each is_a is_b is = absurd (cc is)
   chosen_has P left right Absent (Refused w) chosen none each is_a is_b is = absurd (cc is)
   chosen_has P left right (Whole v fl xs) (Refused w) chosen none each is_a is_b is = absurd (cc is)
   chosen_has P left right Absent Absent chosen none each is_a is_b is = subst P (entries_of is) none
   chosen_has P left right (Whole v fl xs) Absent chosen none each is_a is_b is = subst P (entries_of is) (each xs is_a.map)
   chosen_has P left right Absent (Whole w fl ys) chosen none each is_a is_b is = subst P (entries_of is) (each ys is_b.map)
-  chosen_has P left right (Whole v fl xs) (Whole w gl ys) chosen none each is_a is_b is = newer_has P v w xs ys chosen (each xs is_a.map) (each ys is_b.map) is
+  chosen_has P left right (Whole v fl xs) (Whole w gl ys) chosen none each is_a is_b is = newer_has P v w (record { floor = fl; entries = xs }) (record { floor = gl; entries = ys }) chosen (each xs is_a.map) (each ys is_b.map) is
 
-  pub chosen_ascends : (left right : List ℕ) (a b : CopyText K V) (chosen : Chosen K V) → ReadsAs f left a → ReadsAs f right b → chosen_of a b ≡ Ok chosen → IsStrictlySortedBy f.compare (keys_of chosen.entries)
+  pub chosen_ascends : (left right : List ℕ) (a b : CopyText K V) (chosen : Chosen K V) → ReadsAs f left a → ReadsAs f right b → chosen_of a b ≡ Ok chosen → IsStrictlySortedBy f.compare (keys_of chosen.contents.entries)
   unfolding IsStrictlySortedBy
   chosen_ascends left right a b chosen is_a is_b is = chosen_has (λ es. IsStrictlySortedBy f.compare (keys_of es)) left right a b chosen tt (λ es map. map.ascending) is_a is_b is
 
+  pub chosen_storable : (left right : List ℕ) (a b : CopyText K V) (chosen : Chosen K V) → ReadsAs f left a → ReadsAs f right b → chosen_of a b ≡ Ok chosen → MayBeSynced f chosen.contents.entries
+  chosen_storable left right a b chosen is_a is_b is = chosen_has (MayBeSynced f) left right a b chosen tt (λ es map. map.storable) is_a is_b is
+
   -- the map that was opened stands
   pub opened_stands : (u : Store K V) (p : List ℕ) (from d : Disk) → u.partition ≡ p → d (blob_of p Left) ≡ settled_at (read_bytes (from (blob_of p Left))) → d (blob_of p Right) ≡ settled_at (read_bytes (from (blob_of p Right)))
-      → PairOn f p from (Ok (chosen_by u u.entries)) → Stands f u u.entries d
+      → PairOn f p from (Ok (chosen_by u (contents_of u))) → Stands f u (contents_of u) d
   opened_stands u p from d same left right pair = record {
     left = subst (λ (q : List ℕ). d (blob_of q Left) ≡ settled_at (d (blob_of q Left)).content) (sym same) (left ∙ ap settled_at (sym (ap (λ (b : Blob). b.content) left)));
     right = subst (λ (q : List ℕ). d (blob_of q Right) ≡ settled_at (d (blob_of q Right)).content) (sym same) (right ∙ ap settled_at (sym (ap (λ (b : Blob). b.content) right)));

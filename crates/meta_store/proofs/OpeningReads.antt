@@ -9,12 +9,8 @@ use Rattle.blob_device.proofs.OpenedLemmas.{entered_open, entered_fits, entered_
 use Rattle.meta_store.specs.declared.error.Side.{Side}
 use Rattle.meta_store.specs.declared.error.Side.TheVariants.{Left, Right}
 use Rattle.meta_store.specs.Blobs.{blob_of}
-use Rattle.meta_store.specs.Calls.{IsOpened, OthersOpened, NoReads, ReadAtMostOnce}
+use Rattle.meta_store.specs.Calls.{IsOpened, MayRead, OthersOpened, NoReads, ReadAtMostOnce}
 use Rattle.meta_store.proofs.Sides.{left_apart}
-
--- a read began, or none did
-abbrev pub MayRead : Key → OpenedList → OpenedList → Type 0
-MayRead k old new = (new ≡ old) ⊎ (new ≡ updated old k one_more_read)
 
 module _ (p : List ℕ) (n m : ℕ) (a b : OpenedList) (both : b ≡ entered (entered a (blob_of p Left) n) (blob_of p Right) m) where
   left_entry : b (blob_of p Left) ≡ entered a (blob_of p Left) n (blob_of p Left)
@@ -32,13 +28,14 @@ module _ (p : List ℕ) (n m : ℕ) (a b : OpenedList) (both : b ≡ entered (en
     right = entered_open b (entered a (blob_of p Left) n) (blob_of p Right) m both;
   }
 
-  -- the right one still is after a read of the left one
-  pub then_right_fits : (c : OpenedList) → c ≡ updated b (blob_of p Left) one_more_read → IsSomeAnd (c (blob_of p Right)) (λ o. m ≤ o.len)
-  then_right_fits c read = subst (λ (o : Option Opened). IsSomeAnd o (λ e. m ≤ e.len)) (sym (updated_other c b (blob_of p Left) (blob_of p Right) one_more_read read (λ e. left_apart p (sym e)))) right_fits
-
 read_other : (k q : Key) (a b : OpenedList) → MayRead k a b → q ≢ k → b q ≡ a q
 read_other k q a b (inl same) other = ap (λ (o : OpenedList). o q) same
 read_other k q a b (inr is) other = updated_other b a k q one_more_read is other
+
+-- the right one still fits after a read of the left one
+pub then_right_fits : (p : List ℕ) (n m : ℕ) (a b c : OpenedList) → b ≡ entered (entered a (blob_of p Left) n) (blob_of p Right) m → MayRead (blob_of p Left) b c → IsSomeAnd (c (blob_of p Right)) (λ o. m ≤ o.len)
+then_right_fits p n m a b c both read =
+    subst (λ (o : Option Opened). IsSomeAnd o (λ e. m ≤ e.len)) (sym (read_other (blob_of p Left) (blob_of p Right) b c read (λ e. left_apart p (sym e)))) (right_fits p n m a b both)
 
 read_open : (k q : Key) (a b : OpenedList) → MayRead k a b → q ≢ k → IsSome (a k) → IsSome (b k)
 read_open k q a b (inl same) other was = subst (λ (o : OpenedList). IsSome (o k)) (sym same) was

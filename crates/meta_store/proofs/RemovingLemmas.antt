@@ -5,12 +5,14 @@ use Rattle.blob_device.specs.Disk.{Key, Blob, Disk, nothing}
 use Rattle.blob_device.specs.Change.{Remove, FailedTo}
 use Rattle.blob_device.specs.Timeline.{Timeline, disk, Passes, Always, OnlyAt}
 use Rattle.blob_device.proofs.Moments.{always_now, always_then, always_weaker, only_start, only_on, ok_blob, err_has}
+use Rattle.meta_store.specs.declared.copy.Contents.{Contents}
 use Rattle.meta_store.specs.declared.copy.CopyText.{CopyText}
 use Rattle.meta_store.specs.declared.copy.CopyText.TheVariants.{Absent}
 use Rattle.meta_store.specs.declared.error.Side.{Side}
 use Rattle.meta_store.specs.Format.{Format}
 use Rattle.meta_store.specs.Blobs.{blob_of, other_side}
 use Rattle.meta_store.specs.Crashes.{KeepsAlone, Keeps}
+use Rattle.meta_store.specs.Pairs.{empty_map}
 use Rattle.meta_store.specs.Removing.{Removes, as_before, begun, unseen, gone, Removing}
 use Rattle.meta_store.proofs.Choices.{chosen_on, newer_text, older_absent, both_absent}
 use Rattle.meta_store.proofs.Leaving.{LeavesText, settled_leaves, keeps_of, ChooseEither, goes_of, goes_leaves, OrAbsent, nothing_leaves}
@@ -72,27 +74,27 @@ module _ (p : List ℕ) (side : Side) {T : Type 0} (k : Key) (a b : Timeline) (k
     older_gone = (always_now b c (OnlyAt (blob_of p (other_side side)) (disk b) (Removes (disk b (blob_of p (other_side side))))) second_removed).others (blob_of p side) (apart p side) ∙ between_gone
 
 -- what they leave of the map meanwhile
-module _ {K V : Type 0} (f : Format K V) (p : List ℕ) (side : Side) (version : ℕ) (synced : List (K × V)) (from : Disk) (s : StandsOn f p side version synced from) where
-  only_newer : chosen_on side Absent s.theirs_text ≡ Ok (record { version = version; older = side; entries = synced })
+module _ {K V : Type 0} (f : Format K V) (p : List ℕ) (side : Side) (version : ℕ) (synced : Contents K V) (from : Disk) (s : StandsOn f p side version synced from) where
+  only_newer : chosen_on side Absent s.theirs_text ≡ Ok (record { version = version; older = side; contents = synced })
   only_newer = older_absent side s.theirs_text version synced (newer_text side s.mine_text s.theirs_text version synced s.is)
 
-  first_either : ChooseEither f side synced [] (OrAbsent s.mine_text) (λ x. x ≡ s.theirs_text)
+  first_either : ChooseEither f side synced empty_map (OrAbsent s.mine_text) (λ x. x ≡ s.theirs_text)
   first_either a b (inl is_a) is_b = (_, ap (λ (x : CopyText K V). chosen_on side x b) is_a ∙ ap (λ (x : CopyText K V). chosen_on side s.mine_text x) is_b ∙ s.is, inl refl)
   first_either a b (inr is_a) is_b = (_, ap (λ (x : CopyText K V). chosen_on side x b) is_a ∙ ap (λ (x : CopyText K V). chosen_on side Absent x) is_b ∙ only_newer, inl refl)
 
-  then_either : ChooseEither f side synced [] (λ x. x ≡ Absent) (OrAbsent s.theirs_text)
+  then_either : ChooseEither f side synced empty_map (λ x. x ≡ Absent) (OrAbsent s.theirs_text)
   then_either a b is_a (inl is_b) = (_, ap (λ (x : CopyText K V). chosen_on side x b) is_a ∙ ap (λ (x : CopyText K V). chosen_on side Absent x) is_b ∙ only_newer, inl refl)
   then_either a b is_a (inr is_b) = let none = both_absent {K = K} {V = V} side in (none.0, ap (λ (x : CopyText K V). chosen_on side x b) is_a ∙ ap (λ (x : CopyText K V). chosen_on side Absent x) is_b ∙ none.1, inr none.2)
 
-  pub removing_keeps : (d : Disk) → Removing p side from d → KeepsAlone f p synced [] from d
+  pub removing_keeps : (d : Disk) → Removing p side from d → KeepsAlone f p synced empty_map from d
   removing_keeps d removing = record { keeps = by_order removing.order; others = removing.others }
     where
-      by_order : (d (blob_of p (other_side side)) ≡ from (blob_of p (other_side side))) ⊎ (d (blob_of p side) ≡ nothing) → Keeps f p synced [] d
-      by_order (inl same) = keeps_of f p side synced [] (OrAbsent s.mine_text) (λ x. x ≡ s.theirs_text) d
+      by_order : (d (blob_of p (other_side side)) ≡ from (blob_of p (other_side side))) ⊎ (d (blob_of p side) ≡ nothing) → Keeps f p synced empty_map d
+      by_order (inl same) = keeps_of f p side synced empty_map (OrAbsent s.mine_text) (λ x. x ≡ s.theirs_text) d
           (goes_leaves f s.mine s.mine_text (d (blob_of p side)) s.mine_reads (goes_of s.mine (from (blob_of p side)) (d (blob_of p side)) s.mine_settled removing.older_blob))
           (subst (LeavesText f (λ x. x ≡ s.theirs_text)) (sym (same ∙ s.theirs_settled)) (settled_leaves f s.theirs s.theirs_text (λ x. x ≡ s.theirs_text) s.theirs_reads refl))
           first_either
-      by_order (inr none) = keeps_of f p side synced [] (λ x. x ≡ Absent) (OrAbsent s.theirs_text) d
+      by_order (inr none) = keeps_of f p side synced empty_map (λ x. x ≡ Absent) (OrAbsent s.theirs_text) d
           (subst (LeavesText f (λ x. x ≡ Absent)) (sym none) (nothing_leaves f))
           (goes_leaves f s.theirs s.theirs_text (d (blob_of p (other_side side))) s.theirs_reads (goes_of s.theirs (from (blob_of p (other_side side))) (d (blob_of p (other_side side))) s.theirs_settled removing.newer_blob))
           then_either

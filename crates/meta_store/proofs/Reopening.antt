@@ -3,8 +3,10 @@ use Rattle.std.proofs.Common.{◌≡◌, ◌⊎◌, inl, inr, ℕ, ◌<◌, ◌�
 use Rattle.std.specs.List.{AllByRecursion}
 use Rattle.blob_device.specs.Disk.{Blob, Disk, HoldsBytes, PastAgrees, Agrees, AreBytes, AbsentIsNothing, MayHold, MayLeave, reads, past, least, greatest, shortest, longest, settled_at, nothing}
 use Rattle.blob_device.specs.Change.{Make, during}
+use Rattle.meta_store.specs.declared.copy.Contents.{Contents}
 use Rattle.meta_store.specs.declared.copy.CopyText.{CopyText}
 use Rattle.meta_store.specs.declared.copy.CopyText.TheVariants.{Absent, Refused, Whole}
+use Rattle.meta_store.specs.declared.copy.Form.{Form}
 use Rattle.meta_store.specs.declared.error.Side.TheVariants.{Left, Right}
 use Rattle.meta_store.specs.Format.{Format}
 use Rattle.meta_store.specs.Copies.{IsSealedAs, IsAbsentBy, ReadsAs, copy_length}
@@ -78,11 +80,11 @@ module _ {K V : Type 0} (f : Format K V) where
       alike : (t : CopyText K V) → ReadsAs f [] t → ReadsAs f c t
       alike Absent is = lacks
       alike (Refused v) is = absurd (empty_absent f.seal v is.form is.body is.sealed)
-      alike (Whole v floor entries) is = absurd (empty_absent f.seal v 1 _ is.sealed)
+      alike (Whole v floor entries) is = absurd (empty_absent f.seal v _ _ is.sealed)
 
   -- bytes with the copy of a content that the blob had read as that content
-  module _ (b : Blob) (lawful : IsPromised b) (c : List ℕ) (v form : ℕ) (body : List ℕ) (s : IsSealedAs f.seal c v form body) (maybe : b.unsure ≡ true) where
-    from_past : (p : List ℕ) → MayHold b p → SamePlace (copy_length body) p c → NoChanceSeal f.seal (past b) p → LikeBefore b c
+  module _ (b : Blob) (lawful : IsPromised b) (c : List ℕ) (v : ℕ) (form : Form) (body : List ℕ) (s : IsSealedAs f.seal c v form body) (maybe : b.unsure ≡ true) where
+    from_past : (p : List ℕ) → MayHold b p → SamePlace (copy_length form body) p c → NoChanceSeal f.seal (past b) p → LikeBefore b c
     from_past p held same none = record {
       left = Some p;
       may = (ap (λ (u : Bool). b.there || u) maybe ∙ either b.there, held);
@@ -94,7 +96,7 @@ module _ {K V : Type 0} (f : Format K V) where
         either true = refl
         either false = refl
 
-    find : (ps : List (List ℕ)) → AllByRecursion (MayHold b) ps → ((p : List ℕ) → SomeByRecursion (λ q. q ≡ p) ps → NoChanceSeal f.seal (past b) p) → SomeByRecursion (λ p. SamePlace (copy_length body) p c) (ps ++ [] ∷ []) → LikeBefore b c
+    find : (ps : List (List ℕ)) → AllByRecursion (MayHold b) ps → ((p : List ℕ) → SomeByRecursion (λ q. q ≡ p) ps → NoChanceSeal f.seal (past b) p) → SomeByRecursion (λ p. SamePlace (copy_length form body) p c) (ps ++ [] ∷ []) → LikeBefore b c
     find [] held none (inl same) = absurd (empty_absent f.seal v form body (same_place f.seal [] c v form body same s))
     find [] held none (inr nothing) = absurd nothing
     find (p ∷ ps) held none (inl same) = from_past p held.0 same (none p (inl refl))
@@ -103,7 +105,7 @@ module _ {K V : Type 0} (f : Format K V) where
   -- a content that the blob had has no chance seal
   own_seal : (ps : List (List ℕ)) (p : List ℕ) → SomeByRecursion (λ q. q ≡ p) ps → NoChanceSeal f.seal ps p
   own_seal [] p none v form body s = absurd none
-  own_seal (q ∷ ps) p (inl is) v form body s = inl (ap (take (copy_length body)) is)
+  own_seal (q ∷ ps) p (inl is) v form body s = inl (ap (take (copy_length form body)) is)
   own_seal (q ∷ ps) p (inr later) v form body s = inr (own_seal ps p later v form body s)
 
   module _ (fits : (l : List ℕ) → f.seal l < 2 ^ 32) where
@@ -114,12 +116,12 @@ module _ {K V : Type 0} (f : Format K V) where
     making there' b lawful there (Some c) may none = elim (sealed_or_absent f.seal fits c may.1.bytes) [
       | inl s ↦ elim (true_or_false b.unsure) [
         | inl maybe ↦ find b lawful c s.version s.form s.body s.is maybe (past b) (past_held b lawful) (λ p is. own_seal (past b) p is) (none s.version s.form s.body s.is)
-        | inr sure ↦ absurd (no_past s.version s.form s.body s.is (subst (λ (x : Blob). SomeByRecursion (λ p. SamePlace (copy_length s.body) p c) (past x ++ [] ∷ [])) (lawful.absent there sure) (none s.version s.form s.body s.is)))
+        | inr sure ↦ absurd (no_past s.version s.form s.body s.is (subst (λ (x : Blob). SomeByRecursion (λ p. SamePlace (copy_length s.form s.body) p c) (past x ++ [] ∷ [])) (lawful.absent there sure) (none s.version s.form s.body s.is)))
       ]
       | inr lacks ↦ lacks_copy b c there lacks
     ]
       where
-        no_past : (v form : ℕ) (body : List ℕ) → IsSealedAs f.seal c v form body → SomeByRecursion (λ p. SamePlace (copy_length body) p c) ([] ∷ [] ∷ []) → ⊥
+        no_past : (v : ℕ) (form : Form) (body : List ℕ) → IsSealedAs f.seal c v form body → SomeByRecursion (λ p. SamePlace (copy_length form body) p c) ([] ∷ [] ∷ []) → ⊥
         no_past v form body s (inl same) = empty_absent f.seal v form body (same_place f.seal [] c v form body same s)
         no_past v form body s (inr (inl same)) = empty_absent f.seal v form body (same_place f.seal [] c v form body same s)
         no_past v form body s (inr (inr none)) = none
@@ -153,9 +155,9 @@ module _ {K V : Type 0} (f : Format K V) where
         go (made is) l may none = makes b.there refl d is l may none
         go (settled is) l may none = as_read l (subst (λ (y : Blob). MayLeave y l) is may)
 
-    holds_alike : (left right left' right' : List ℕ) (entries : List (K × V)) → ((t : CopyText K V) → ReadsAs f left t → ReadsAs f left' t) → ((t : CopyText K V) → ReadsAs f right t → ReadsAs f right' t)
-        → HoldMap f left right entries → HoldMap f left' right' entries
-    holds_alike left right left' right' entries l r h = record {
+    holds_alike : (left right left' right' : List ℕ) (contents : Contents K V) → ((t : CopyText K V) → ReadsAs f left t → ReadsAs f left' t) → ((t : CopyText K V) → ReadsAs f right t → ReadsAs f right' t)
+        → HoldMap f left right contents → HoldMap f left' right' contents
+    holds_alike left right left' right' contents l r h = record {
       chosen = h.chosen;
       reads = record {
         left_text = h.reads.left_text;
@@ -168,7 +170,7 @@ module _ {K V : Type 0} (f : Format K V) where
     }
 
     -- while both blobs are opened a crash leaves what it left before
-    pub opening_keeps : (p : List ℕ) (one other : List (K × V)) (from : Disk) → IsPromised (from (blob_of p Left)) → IsPromised (from (blob_of p Right)) → Keeps f p one other from
+    pub opening_keeps : (p : List ℕ) (one other : Contents K V) (from : Disk) → IsPromised (from (blob_of p Left)) → IsPromised (from (blob_of p Right)) → Keeps f p one other from
         → ReadsNoChance f.seal (from (blob_of p Left)) → ReadsNoChance f.seal (from (blob_of p Right)) → (d : Disk) → Opening p from d → KeepsAlone f p one other from d
     opening_keeps p one other from lawful_l lawful_r keeps chance_l chance_r d opening = record {
       keeps = record {

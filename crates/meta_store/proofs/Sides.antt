@@ -1,6 +1,7 @@
 -- The two blobs of a map by the side that is written next.
 use Rattle.std.proofs.Common.{◌≡◌, ◌≢◌, ◌⊎◌, inl, inr, ℕ, List, Result, Ok, Err, refl, sym, ◌∙◌, ap, subst}
 use Rattle.blob_device.specs.Disk.{Key, Disk, settled_at}
+use Rattle.meta_store.specs.declared.copy.Contents.{Contents}
 use Rattle.meta_store.specs.declared.copy.CopyText.{CopyText}
 use Rattle.meta_store.specs.declared.error.Side.{Side}
 use Rattle.meta_store.specs.declared.error.Side.TheVariants.{Left, Right}
@@ -34,7 +35,7 @@ both_sides p Right Left P mine theirs = theirs
 both_sides p Right Right P mine theirs = mine
 
 -- both blobs have settled, and they hold this
-pub record StandsOn {K V : Type 0} (f : Format K V) (p : List ℕ) (side : Side) (version : ℕ) (entries : List (K × V)) (d : Disk) : Type 0 where
+pub record StandsOn {K V : Type 0} (f : Format K V) (p : List ℕ) (side : Side) (version : ℕ) (contents : Contents K V) (d : Disk) : Type 0 where
   pub mine : List ℕ
   pub theirs : List ℕ
   pub mine_text : CopyText K V
@@ -43,12 +44,12 @@ pub record StandsOn {K V : Type 0} (f : Format K V) (p : List ℕ) (side : Side)
   pub theirs_settled : d (blob_of p (other_side side)) ≡ settled_at theirs
   pub mine_reads : ReadsAs f mine mine_text
   pub theirs_reads : ReadsAs f theirs theirs_text
-  pub is : Is (chosen_on side mine_text theirs_text) version side entries
+  pub is : Is (chosen_on side mine_text theirs_text) version side contents
 
-pub stands_on : {K V : Type 0} (f : Format K V) (u : Store K V) (synced : List (K × V)) (d : Disk) → Stands f u synced d → StandsOn f u.partition u.older u.version synced d
+pub stands_on : {K V : Type 0} (f : Format K V) (u : Store K V) (synced : Contents K V) (d : Disk) → Stands f u synced d → StandsOn f u.partition u.older u.version synced d
 stands_on {K = K} {V = V} f u synced d stands = on u.older stands.pair.is
   where
-    on : (side : Side) → chosen_on Left stands.pair.left_text stands.pair.right_text ≡ Ok (record { version = u.version; older = side; entries = synced }) → StandsOn f u.partition side u.version synced d
+    on : (side : Side) → chosen_on Left stands.pair.left_text stands.pair.right_text ≡ Ok (record { version = u.version; older = side; contents = synced }) → StandsOn f u.partition side u.version synced d
     on Left is = record {
       mine = (d (blob_of u.partition Left)).content;
       theirs = (d (blob_of u.partition Right)).content;

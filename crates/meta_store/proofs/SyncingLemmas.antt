@@ -9,17 +9,19 @@ use Rattle.blob_device.specs.Timeline.{Timeline, disk, Passes, Always, OnlyAt}
 use Rattle.blob_device.specs.Guards.{Sealed}
 use Rattle.blob_device.proofs.GuardsLemmas.{guards_settled, sealed_start, sealed_on}
 use Rattle.blob_device.proofs.Moments.{always_now, always_start, always_weaker, only_start, only_on, ok_blob}
+use Rattle.meta_store.specs.declared.copy.Contents.{Contents}
 use Rattle.meta_store.specs.declared.copy.CopyText.{CopyText}
-use Rattle.meta_store.specs.declared.copy.CopyText.TheVariants.{Absent, Whole}
+use Rattle.meta_store.specs.declared.copy.CopyText.TheVariants.{Absent}
 use Rattle.meta_store.specs.declared.error.Side.{Side}
 use Rattle.meta_store.specs.declared.error.Side.TheVariants.{Left, Right}
 use Rattle.meta_store.specs.declared.pair.Chosen.{Chosen}
 use Rattle.meta_store.specs.Format.{Format}
-use Rattle.meta_store.specs.Copies.{ReadsAs, IsMap, IsWholeAs, copy_bytes, body_bytes, copy_length}
+use Rattle.meta_store.specs.Copies.{ReadsAs, IsMap, IsWholeAs, copy_bytes, copy_of, body_bytes, copy_length, form_of}
 use Rattle.meta_store.specs.Blobs.{blob_of, bytes_of, other_side, OnlyOne}
 use Rattle.meta_store.specs.Crashes.{NoChanceSeal, Keeps, KeepsAlone}
-use Rattle.meta_store.specs.Store.{Store, Stands}
-use Rattle.meta_store.proofs.Choices.{chosen_on, Is, Newer, newer_text, older_absent, older_next}
+use Rattle.meta_store.specs.Store.{Store, Stands, contents_of}
+use Rattle.meta_store.proofs.Choices.{chosen_on, Is, Newer, newer_text, older_absent, older_next, whole_of}
+use Rattle.meta_store.proofs.Forms.{form_fits}
 use Rattle.meta_store.proofs.Leaving.{LeavesText, settled_leaves, keeps_of, ChooseEither}
 use Rattle.meta_store.proofs.Sealing.{reads_as_past}
 use Rattle.meta_store.proofs.Sides.{sides_apart, neither, StandsOn, stands_on}
@@ -27,7 +29,7 @@ use Rattle.meta_store.proofs.Texts.{length-copy}
 
 module _ {K V : Type 0} (f : Format K V) where
   -- a map that stands outlives every crash
-  pub stands_keeps : (u : Store K V) (synced other : List (K × V)) (d : Disk) → Stands f u synced d → Keeps f u.partition synced other d
+  pub stands_keeps : (u : Store K V) (synced other : Contents K V) (d : Disk) → Stands f u synced d → Keeps f u.partition synced other d
   stands_keeps u synced other d stands =
       let s = stands_on f u synced d stands in
       keeps_of f u.partition u.older synced other (λ x. x ≡ s.mine_text) (λ x. x ≡ s.theirs_text) d
@@ -35,11 +37,11 @@ module _ {K V : Type 0} (f : Format K V) where
       (subst (LeavesText f (λ x. x ≡ s.theirs_text)) (sym s.theirs_settled) (settled_leaves f s.theirs s.theirs_text (λ x. x ≡ s.theirs_text) s.theirs_reads refl))
       (λ a b is_a is_b. (_, ap (λ (x : CopyText K V). chosen_on u.older x b) is_a ∙ ap (λ (x : CopyText K V). chosen_on u.older s.mine_text x) is_b ∙ s.is, inl refl))
 
-  pub stands_alone : (u : Store K V) (synced other : List (K × V)) (t : Timeline) → Stands f u synced (disk t) → Always t t (KeepsAlone f u.partition synced other (disk t))
+  pub stands_alone : (u : Store K V) (synced other : Contents K V) (t : Timeline) → Stands f u synced (disk t) → Always t t (KeepsAlone f u.partition synced other (disk t))
   stands_alone u synced other t stands = always_start t (KeepsAlone f u.partition synced other (disk t)) (record { keeps = stands_keeps u synced other (disk t) stands; others = λ q left right. refl })
 
   -- the other way round: how the two sides stand is how the map does
-  pub stands_by : (u : Store K V) (synced : List (K × V)) (d : Disk) (side : Side) → StandsOn f u.partition side u.version synced d → u.older ≡ side → (u.staged ≡ false → u.entries ≡ synced) → Stands f u synced d
+  pub stands_by : (u : Store K V) (synced : Contents K V) (d : Disk) (side : Side) → StandsOn f u.partition side u.version synced d → u.older ≡ side → (u.staged ≡ false → contents_of u ≡ synced) → Stands f u synced d
   stands_by u synced d Left s older fresh = record {
     left = s.mine_settled ∙ ap settled_at (sym (ap (λ (b : Blob). b.content) s.mine_settled));
     right = s.theirs_settled ∙ ap settled_at (sym (ap (λ (b : Blob). b.content) s.theirs_settled));
@@ -48,7 +50,7 @@ module _ {K V : Type 0} (f : Format K V) where
       right_text = s.theirs_text;
       left_reads = subst (λ (c : List ℕ). ReadsAs f c s.mine_text) (sym (ap (λ (b : Blob). b.content) s.mine_settled)) s.mine_reads;
       right_reads = subst (λ (c : List ℕ). ReadsAs f c s.theirs_text) (sym (ap (λ (b : Blob). b.content) s.theirs_settled)) s.theirs_reads;
-      is = s.is ∙ ap (λ (x : Side). Ok (record { version = u.version; older = x; entries = synced })) (sym older);
+      is = s.is ∙ ap (λ (x : Side). Ok (record { version = u.version; older = x; contents = synced })) (sym older);
     };
     fresh = fresh;
   }
@@ -60,59 +62,57 @@ module _ {K V : Type 0} (f : Format K V) where
       right_text = s.mine_text;
       left_reads = subst (λ (c : List ℕ). ReadsAs f c s.theirs_text) (sym (ap (λ (b : Blob). b.content) s.theirs_settled)) s.theirs_reads;
       right_reads = subst (λ (c : List ℕ). ReadsAs f c s.mine_text) (sym (ap (λ (b : Blob). b.content) s.mine_settled)) s.mine_reads;
-      is = s.is ∙ ap (λ (x : Side). Ok (record { version = u.version; older = x; entries = synced })) (sym older);
+      is = s.is ∙ ap (λ (x : Side). Ok (record { version = u.version; older = x; contents = synced })) (sym older);
     };
     fresh = fresh;
   }
 
-  -- the copy of the next version
-  abbrev pub next_copy : ℕ → List (K × V) → List ℕ
-  next_copy version entries = copy_bytes f.seal version 1 (body_bytes f.key_bytes f.spelling entries)
-
   -- written over any content it is read
-  pub written_reads : (old : List ℕ) (version : ℕ) (entries : List (K × V)) → version < 2 ^ 64 → length (next_copy version entries) < 2 ^ 64 → IsMap f entries → ReadsAs f (written old 0 (next_copy version entries)) (Whole version 0 entries)
-  written_reads old version entries fits short map = record {
+  pub written_reads : (old : List ℕ) (version : ℕ) (held : Contents K V) → version < 2 ^ 64 → held.floor < 2 ^ 64 → length (copy_of f version held) < 2 ^ 64 → IsMap f held.entries
+      → ReadsAs f (written old 0 (copy_of f version held)) (whole_of version held)
+  written_reads old version held fits floor_fits short map = record {
     sealed = record {
       version_fits = fits;
-      length_fits = omega (arith, short, length-copy f.seal version 1 (body_bytes f.key_bytes f.spelling entries));
-      begins = ap (λ (n : ℕ). take (copy_length (body_bytes f.key_bytes f.spelling entries)) (replicate n 0 ++ next_copy version entries ++ drop (0 + length (next_copy version entries)) old)) gap
-          ∙ take_at (next_copy version entries) (drop (0 + length (next_copy version entries)) old) (copy_length (body_bytes f.key_bytes f.spelling entries)) (length-copy f.seal version 1 (body_bytes f.key_bytes f.spelling entries));
+      is_form = form_fits held.floor floor_fits;
+      length_fits = omega (arith, short, length-copy f.seal version (form_of held.floor) (body_bytes f.key_bytes f.spelling held.entries));
+      begins = ap (λ (n : ℕ). take (copy_length (form_of held.floor) (body_bytes f.key_bytes f.spelling held.entries)) (replicate n 0 ++ copy_of f version held ++ drop (0 + length (copy_of f version held)) old)) gap
+          ∙ take_at (copy_of f version held) (drop (0 + length (copy_of f version held)) old) (copy_length (form_of held.floor) (body_bytes f.key_bytes f.spelling held.entries))
+          (length-copy f.seal version (form_of held.floor) (body_bytes f.key_bytes f.spelling held.entries));
     };
     map = map;
-    no_floor = refl;
   }
     where
       gap : 0 - length old ≡ 0
       gap = omega arith
 
   -- what a blob may read as while the next copy is written over its text
-  abbrev pub Next : CopyText K V → ℕ → List (K × V) → CopyText K V → Type 0
-  Next text version entries x = (x ≡ text) ⊎ ((x ≡ Whole version 0 entries) ⊎ (x ≡ Absent))
+  abbrev pub Next : CopyText K V → ℕ → Contents K V → CopyText K V → Type 0
+  Next text version held x = (x ≡ text) ⊎ ((x ≡ whole_of version held) ⊎ (x ≡ Absent))
 
   -- a content that reads so
-  abbrev pub ReadsNext : CopyText K V → ℕ → List (K × V) → List ℕ → Type 0
-  ReadsNext text version entries c = (t : CopyText K V) × ReadsAs f c t × Next text version entries t
+  abbrev pub ReadsNext : CopyText K V → ℕ → Contents K V → List ℕ → Type 0
+  ReadsNext text version held c = (t : CopyText K V) × ReadsAs f c t × Next text version held t
 
   -- all contents of the blob since it settled read so, and no crash loses it
-  abbrev pub IsWriting : CopyText K V → ℕ → List (K × V) → Blob → Type 0
-  IsWriting text version entries = Sealed (λ i. ⊥) (λ i. 0) (ReadsNext text version entries)
+  abbrev pub IsWriting : CopyText K V → ℕ → Contents K V → Blob → Type 0
+  IsWriting text version held = Sealed (λ i. ⊥) (λ i. 0) (ReadsNext text version held)
 
-  writing_leaves : ((l : List ℕ) → f.seal l < 2 ^ 32) → (text : CopyText K V) (version : ℕ) (entries : List (K × V)) (b : Blob) → IsWriting text version entries b → LeavesText f (Next text version entries) b
-  writing_leaves fits text version entries b s = record { crash = left }
+  writing_leaves : ((l : List ℕ) → f.seal l < 2 ^ 32) → (text : CopyText K V) (version : ℕ) (held : Contents K V) (b : Blob) → IsWriting text version held b → LeavesText f (Next text version held) b
+  writing_leaves fits text version held b s = record { crash = left }
     where
-      left : (l : Option (List ℕ)) → MayLeave b l → NoChanceSeal f.seal (past b) (bytes_of l) → (t : CopyText K V) × ReadsAs f (bytes_of l) t × Next text version entries t
+      left : (l : Option (List ℕ)) → MayLeave b l → NoChanceSeal f.seal (past b) (bytes_of l) → (t : CopyText K V) × ReadsAs f (bytes_of l) t × Next text version held t
       left None may none = let unsure : b.unsure ≡ true = sym (ap (λ (t : Bool). not t || b.unsure) s.guards.there) ∙ may in absurd (cc (unsure, s.guards.sure))
-      left (Some c) may none = reads_as_past f fits (Next text version entries) (past b) c may.1.bytes none s.all (inr (inr refl))
+      left (Some c) may none = reads_as_past f fits (Next text version held) (past b) c may.1.bytes none s.all (inr (inr refl))
 
-  module _ (p : List ℕ) (side : Side) (version : ℕ) (synced entries : List (K × V)) (a : Timeline) (s : StandsOn f p side version synced (disk a)) (fits : (l : List ℕ) → f.seal l < 2 ^ 32)
-      (room : version + 1 < 2 ^ 64) (short : length (next_copy (version + 1) entries) < 2 ^ 64) (map : IsMap f entries) where
+  module _ (p : List ℕ) (side : Side) (version : ℕ) (synced held : Contents K V) (a : Timeline) (s : StandsOn f p side version synced (disk a)) (fits : (l : List ℕ) → f.seal l < 2 ^ 32)
+      (room : version + 1 < 2 ^ 64) (floor_fits : held.floor < 2 ^ 64) (short : length (copy_of f (version + 1) held) < 2 ^ 64) (map : IsMap f held.entries) where
     abbrev Writes : Blob → Type 0
-    Writes = IsWriting s.mine_text (version + 1) entries
+    Writes = IsWriting s.mine_text (version + 1) held
 
-    next_keeps : (d : Disk) → OnlyAt (blob_of p side) (disk a) Writes d → KeepsAlone f p synced entries (disk a) d
+    next_keeps : (d : Disk) → OnlyAt (blob_of p side) (disk a) Writes d → KeepsAlone f p synced held (disk a) d
     next_keeps d only = record {
-      keeps = keeps_of f p side synced entries (Next s.mine_text (version + 1) entries) (λ x. x ≡ s.theirs_text) d
-          (writing_leaves fits s.mine_text (version + 1) entries (d (blob_of p side)) only.here)
+      keeps = keeps_of f p side synced held (Next s.mine_text (version + 1) held) (λ x. x ≡ s.theirs_text) d
+          (writing_leaves fits s.mine_text (version + 1) held (d (blob_of p side)) only.here)
           (subst (LeavesText f (λ x. x ≡ s.theirs_text)) (sym (only.others (blob_of p (other_side side)) (sides_apart p side) ∙ s.theirs_settled)) (settled_leaves f s.theirs s.theirs_text (λ x. x ≡ s.theirs_text) s.theirs_reads refl))
           either;
       others = λ q left right. only.others q (neither p q side left right);
@@ -121,58 +121,58 @@ module _ {K V : Type 0} (f : Format K V) where
         newer : Newer side version synced s.theirs_text
         newer = newer_text side s.mine_text s.theirs_text version synced s.is
 
-        either : ChooseEither f side synced entries (Next s.mine_text (version + 1) entries) (λ x. x ≡ s.theirs_text)
+        either : ChooseEither f side synced held (Next s.mine_text (version + 1) held) (λ x. x ≡ s.theirs_text)
         either x y (inl is) is' = (_, ap (λ (t : CopyText K V). chosen_on side t y) is ∙ ap (λ (t : CopyText K V). chosen_on side s.mine_text t) is' ∙ s.is, inl refl)
         either x y (inr (inl is)) is' = (
           _,
-          ap (λ (t : CopyText K V). chosen_on side t y) is ∙ ap (λ (t : CopyText K V). chosen_on side (Whole (version + 1) 0 entries) t) is'
-              ∙ older_next side s.theirs_text version 0 synced entries newer,
+          ap (λ (t : CopyText K V). chosen_on side t y) is ∙ ap (λ (t : CopyText K V). chosen_on side (whole_of (version + 1) held) t) is'
+              ∙ older_next side s.theirs_text version synced held newer,
           inr refl,
         )
         either x y (inr (inr is)) is' = (_, ap (λ (t : CopyText K V). chosen_on side t y) is ∙ ap (λ (t : CopyText K V). chosen_on side Absent t) is' ∙ older_absent side s.theirs_text version synced newer, inl refl)
 
     -- the write, however it ends
-    module _ {T : Type 0} (r : Result T DevError) (b : Timeline) (write : Passes (blob_of p side) (Write 0 (next_copy (version + 1) entries)) r a b) where
+    module _ {T : Type 0} (r : Result T DevError) (b : Timeline) (write : Passes (blob_of p side) (Write 0 (copy_of f (version + 1) held)) r a b) where
       writes : Always a b (OnlyAt (blob_of p side) (disk a) Writes)
-      writes = sealed_on (sealed_start a (blob_of p side) (λ i. ⊥) (λ i. 0) (ReadsNext s.mine_text (version + 1) entries)
+      writes = sealed_on (sealed_start a (blob_of p side) (λ i. ⊥) (λ i. 0) (ReadsNext s.mine_text (version + 1) held)
           (subst Writes (sym s.mine_settled) (record { guards = guards_settled (λ i. ⊥) (λ i. 0) s.mine (λ i none. absurd none) (λ i none. absurd none); all = ((s.mine_text, s.mine_reads, inl refl), tt) })))
-          write (λ i none. absurd none) (Whole (version + 1) 0 entries, written_reads (disk a (blob_of p side)).content (version + 1) entries room short map, inr (inl refl))
+          write (λ i none. absurd none) (whole_of (version + 1) held, written_reads (disk a (blob_of p side)).content (version + 1) held room floor_fits short map, inr (inl refl))
 
-      pub write_crashes : Always a b (KeepsAlone f p synced entries (disk a))
-      write_crashes = always_weaker a b (OnlyAt (blob_of p side) (disk a) Writes) (KeepsAlone f p synced entries (disk a)) next_keeps writes
+      pub write_crashes : Always a b (KeepsAlone f p synced held (disk a))
+      write_crashes = always_weaker a b (OnlyAt (blob_of p side) (disk a) Writes) (KeepsAlone f p synced held (disk a)) next_keeps writes
 
     -- the write and the sync
-    module _ {T U : Type 0} (v : T) (r : Result U DevError) (b c : Timeline) (write : Passes (blob_of p side) (Write 0 (next_copy (version + 1) entries)) (Ok v) a b) (settle : Passes (blob_of p side) Settle r b c) where
-      content : (disk b (blob_of p side)).content ≡ written (disk a (blob_of p side)).content 0 (next_copy (version + 1) entries)
-      content = ap (λ (x : Blob). x.content) (ok_blob (blob_of p side) (Write 0 (next_copy (version + 1) entries)) v a b write)
+    module _ {T U : Type 0} (v : T) (r : Result U DevError) (b c : Timeline) (write : Passes (blob_of p side) (Write 0 (copy_of f (version + 1) held)) (Ok v) a b) (settle : Passes (blob_of p side) Settle r b c) where
+      content : (disk b (blob_of p side)).content ≡ written (disk a (blob_of p side)).content 0 (copy_of f (version + 1) held)
+      content = ap (λ (x : Blob). x.content) (ok_blob (blob_of p side) (Write 0 (copy_of f (version + 1) held)) v a b write)
 
       both_writes : Always a c (OnlyAt (blob_of p side) (disk a) Writes)
       both_writes = sealed_on (writes (Ok v) b write) settle tt
-          (subst (ReadsNext s.mine_text (version + 1) entries) (sym content) (Whole (version + 1) 0 entries, written_reads (disk a (blob_of p side)).content (version + 1) entries room short map, inr (inl refl)))
+          (subst (ReadsNext s.mine_text (version + 1) held) (sym content) (whole_of (version + 1) held, written_reads (disk a (blob_of p side)).content (version + 1) held room floor_fits short map, inr (inl refl)))
 
-      pub both_crashes : Always a c (KeepsAlone f p synced entries (disk a))
-      both_crashes = always_weaker a c (OnlyAt (blob_of p side) (disk a) Writes) (KeepsAlone f p synced entries (disk a)) next_keeps both_writes
+      pub both_crashes : Always a c (KeepsAlone f p synced held (disk a))
+      both_crashes = always_weaker a c (OnlyAt (blob_of p side) (disk a) Writes) (KeepsAlone f p synced held (disk a)) next_keeps both_writes
 
     -- after both
-    module _ {T U : Type 0} (v : T) (w : U) (b c : Timeline) (write : Passes (blob_of p side) (Write 0 (next_copy (version + 1) entries)) (Ok v) a b) (settle : Passes (blob_of p side) Settle (Ok w) b c) where
-      pub then_stands : StandsOn f p (other_side side) (version + 1) entries (disk c)
+    module _ {T U : Type 0} (v : T) (w : U) (b c : Timeline) (write : Passes (blob_of p side) (Write 0 (copy_of f (version + 1) held)) (Ok v) a b) (settle : Passes (blob_of p side) Settle (Ok w) b c) where
+      pub then_stands : StandsOn f p (other_side side) (version + 1) held (disk c)
       then_stands = record {
         mine = s.theirs;
-        theirs = written (disk a (blob_of p side)).content 0 (next_copy (version + 1) entries);
+        theirs = written (disk a (blob_of p side)).content 0 (copy_of f (version + 1) held);
         mine_text = s.theirs_text;
-        theirs_text = Whole (version + 1) 0 entries;
+        theirs_text = whole_of (version + 1) held;
         mine_settled = (always_now a c (OnlyAt (blob_of p side) (disk a) Writes) (both_writes v (Ok w) b c write settle)).others (blob_of p (other_side side)) (sides_apart p side) ∙ s.theirs_settled;
         theirs_settled = ap (λ (x : Side). disk c (blob_of p x)) (twice side) ∙ ok_blob (blob_of p side) Settle w b c settle ∙ ap settled_at (content v (Ok w) b c write settle);
         mine_reads = s.theirs_reads;
-        theirs_reads = written_reads (disk a (blob_of p side)).content (version + 1) entries room short map;
-        is = turned side ∙ older_next side s.theirs_text version 0 synced entries (newer_text side s.mine_text s.theirs_text version synced s.is);
+        theirs_reads = written_reads (disk a (blob_of p side)).content (version + 1) held room floor_fits short map;
+        is = turned side ∙ older_next side s.theirs_text version synced held (newer_text side s.mine_text s.theirs_text version synced s.is);
       }
         where
           twice : (x : Side) → other_side (other_side x) ≡ x
           twice Left = refl
           twice Right = refl
 
-          turned : (x : Side) → chosen_on (other_side x) s.theirs_text (Whole (version + 1) 0 entries) ≡ chosen_on x (Whole (version + 1) 0 entries) s.theirs_text
+          turned : (x : Side) → chosen_on (other_side x) s.theirs_text (whole_of (version + 1) held) ≡ chosen_on x (whole_of (version + 1) held) s.theirs_text
           turned Left = refl
           turned Right = refl
 

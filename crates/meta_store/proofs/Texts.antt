@@ -1,48 +1,29 @@
 -- What stands where in a sealed copy, and that bytes begin with one copy at most.
-use Rattle.std.proofs.Common.{◌≡◌, ℕ, ◌+◌, ◌-◌, ◌<◌, ◌≤◌, ◌^◌, List, [], ◌∷◌, ◌++◌, length, get_or, take, drop, min, refl, sym, ◌∙◌, ap, subst, arith, length-append, length-take, length-drop}
-use Rattle.std.proofs.lemmas.List.{append_assoc, append_cancel_left, take_at, drop_at, take-take, take-append-drop, drop-take, get_or-take, take-append-le, drop-drop, drop_more, length-take-le}
-use Rattle.std.proofs.lemmas.Nat.{from_be_bytes-to_be_bytes_4, from_be_bytes-to_be_bytes_8}
-use Rattle.std.specs.Int.{w32, w64, to_be_bytes, from_be_bytes}
-use Rattle.meta_store.specs.Copies.{head_bytes, copy_bytes, copy_length, IsSealedAs, IsAbsentBy}
+use Rattle.std.proofs.Common.{◌≡◌, ℕ, ◌+◌, ◌-◌, ◌<◌, ◌≤◌, ◌^◌, List, [], ◌∷◌, ◌++◌, length, take, drop, refl, sym, ◌∙◌, ap, subst, arith, length-append, length-take, length-drop}
+use Rattle.std.proofs.lemmas.List.{append_assoc, take_at, drop_at, take-append-drop, drop-drop}
+use Rattle.std.specs.Int.{w32, w64, to_be_bytes}
+use Rattle.meta_store.specs.declared.copy.Form.{Form}
+use Rattle.meta_store.specs.Copies.{head_bytes, copy_bytes, copy_length, form_bytes, form_length, IsSealedAs, IsAbsentBy, NamesForm}
+use Rattle.meta_store.proofs.Bytes.{same_number_4, same_number_8, length-eight, length-four, take_two}
+use Rattle.meta_store.proofs.Forms.{length-form, one_form}
 
--- two lists that begin with fronts of one length
-pub append_parts : {A : Type 0} (a b x y : List A) → length a ≡ length b → a ++ x ≡ b ++ y → (a ≡ b) × (x ≡ y)
-append_parts a b x y same is =
-    let front = sym (take_at a x (length b) same) ∙ ap (take (length b)) is ∙ take_at b y (length b) refl in
-    (front, append_cancel_left a x y (is ∙ ap (λ l. l ++ y) (sym front)))
+-- where the body begins in a copy of this form
+abbrev pub start_of : Form → ℕ
+start_of form = 8 + form_length form + 8
 
--- a number is told by its bytes
-pub same_number_8 : (m n : ℕ) → m < 2 ^ 64 → n < 2 ^ 64 → to_be_bytes w64 m ≡ to_be_bytes w64 n → m ≡ n
-same_number_8 m n fits fits' same = sym (from_be_bytes-to_be_bytes_8 m fits) ∙ ap (from_be_bytes w64) same ∙ from_be_bytes-to_be_bytes_8 n fits'
-
-pub same_number_4 : (m n : ℕ) → m < 2 ^ 32 → n < 2 ^ 32 → to_be_bytes w32 m ≡ to_be_bytes w32 n → m ≡ n
-same_number_4 m n fits fits' same = sym (from_be_bytes-to_be_bytes_4 m fits) ∙ ap (from_be_bytes w32) same ∙ from_be_bytes-to_be_bytes_4 n fits'
-
-pub length-eight : (n : ℕ) → length (to_be_bytes w64 n) ≡ 8
-length-eight n = refl
-
-pub length-four : (n : ℕ) → length (to_be_bytes w32 n) ≡ 4
-length-four n = refl
-
--- the first m + n
-pub take_two : {A : Type 0} (m n : ℕ) (xs : List A) → take (m + n) xs ≡ take m xs ++ take n (drop m xs)
-take_two m n xs =
-    sym (take-append-drop m (take (m + n) xs))
-    ∙ ap (λ l. l ++ drop m (take (m + n) xs)) (take-take m (m + n) xs (omega arith))
-    ∙ ap (λ l. take m xs ++ l) (drop-take m n xs)
-
-pub length-head : (version form : ℕ) (body : List ℕ) → length (head_bytes version form body) ≡ 17 + length body
+pub length-head : (version : ℕ) (form : Form) (body : List ℕ) → length (head_bytes version form body) ≡ start_of form + length body
 unfolding head_bytes
 length-head version form body = omega (
   arith,
-  length-append (to_be_bytes w64 version ++ form ∷ [] ++ to_be_bytes w64 (length body)) body,
-  length-append (to_be_bytes w64 version ++ form ∷ []) (to_be_bytes w64 (length body)),
-  length-append (to_be_bytes w64 version) (form ∷ []),
+  length-append (to_be_bytes w64 version ++ form_bytes form ++ to_be_bytes w64 (length body)) body,
+  length-append (to_be_bytes w64 version ++ form_bytes form) (to_be_bytes w64 (length body)),
+  length-append (to_be_bytes w64 version) (form_bytes form),
+  length-form form,
   length-eight version,
   length-eight (length body),
 )
 
-pub length-copy : (seal : List ℕ → ℕ) (version form : ℕ) (body : List ℕ) → length (copy_bytes seal version form body) ≡ copy_length body
+pub length-copy : (seal : List ℕ → ℕ) (version : ℕ) (form : Form) (body : List ℕ) → length (copy_bytes seal version form body) ≡ copy_length form body
 unfolding copy_bytes
 length-copy seal version form body = omega (
   arith,
@@ -51,154 +32,168 @@ length-copy seal version form body = omega (
   length-four (seal (head_bytes version form body)),
 )
 
--- the parts of a head, from its front on
-head_split : (version form : ℕ) (body : List ℕ) → head_bytes version form body ≡ to_be_bytes w64 version ++ (form ∷ to_be_bytes w64 (length body) ++ body)
+-- a head and what follows, part by part
+head_parts : (version : ℕ) (form : Form) (body rest : List ℕ)
+    → head_bytes version form body ++ rest ≡ to_be_bytes w64 version ++ (form_bytes form ++ (to_be_bytes w64 (length body) ++ (body ++ rest)))
 unfolding head_bytes
-head_split version form body =
-    append_assoc (to_be_bytes w64 version ++ form ∷ []) (to_be_bytes w64 (length body)) body
-    ∙ append_assoc (to_be_bytes w64 version) (form ∷ []) (to_be_bytes w64 (length body) ++ body)
+head_parts version form body rest =
+    append_assoc (to_be_bytes w64 version ++ form_bytes form ++ to_be_bytes w64 (length body)) body rest
+    ∙ append_assoc (to_be_bytes w64 version ++ form_bytes form) (to_be_bytes w64 (length body)) (body ++ rest)
+    ∙ append_assoc (to_be_bytes w64 version) (form_bytes form) (to_be_bytes w64 (length body) ++ (body ++ rest))
 
--- heads that begin alike
-pub one_head : (v w form form' : ℕ) (body body' x y : List ℕ) → v < 2 ^ 64 → w < 2 ^ 64 → length body < 2 ^ 64 → length body' < 2 ^ 64
-    → head_bytes v form body ++ x ≡ head_bytes w form' body' ++ y → (v ≡ w) × (form ≡ form') × (length body ≡ length body')
-one_head v w form form' body body' x y fits fits' short short' is =
-    let whole : to_be_bytes w64 v ++ (form ∷ (to_be_bytes w64 (length body) ++ body) ++ x) ≡ to_be_bytes w64 w ++ (form' ∷ (to_be_bytes w64 (length body') ++ body') ++ y) =
-    sym (append_assoc (to_be_bytes w64 v) (form ∷ to_be_bytes w64 (length body) ++ body) x) ∙ ap (λ l. l ++ x) (sym (head_split v form body)) ∙ is
-    ∙ ap (λ l. l ++ y) (head_split w form' body') ∙ append_assoc (to_be_bytes w64 w) (form' ∷ to_be_bytes w64 (length body') ++ body') y in
-    let first = append_parts (to_be_bytes w64 v) (to_be_bytes w64 w) (form ∷ (to_be_bytes w64 (length body) ++ body) ++ x) (form' ∷ (to_be_bytes w64 (length body') ++ body') ++ y) refl whole in
-    let second = append_parts (form ∷ []) (form' ∷ []) ((to_be_bytes w64 (length body) ++ body) ++ x) ((to_be_bytes w64 (length body') ++ body') ++ y) refl first.1 in
-    let third = append_parts (to_be_bytes w64 (length body)) (to_be_bytes w64 (length body')) (body ++ x) (body' ++ y) refl
-    (sym (append_assoc (to_be_bytes w64 (length body)) body x) ∙ second.1 ∙ append_assoc (to_be_bytes w64 (length body')) body' y) in
-    (same_number_8 v w fits fits' first.0, cc (second.0), same_number_8 (length body) (length body') short short' third.0)
+module _ (seal : List ℕ → ℕ) (bytes : List ℕ) (version : ℕ) (form : Form) (body : List ℕ) (s : IsSealedAs seal bytes version form body) where
+  pub sealed_room : copy_length form body ≤ length bytes
+  sealed_room = omega (arith, length-take (copy_length form body) bytes, ap length s.begins, length-copy seal version form body)
 
-module _ (seal : List ℕ → ℕ) (bytes : List ℕ) (version form : ℕ) (body : List ℕ) (s : IsSealedAs seal bytes version form body) where
-  pub sealed_room : copy_length body ≤ length bytes
-  sealed_room = omega (arith, length-take (copy_length body) bytes, ap length s.begins, length-copy seal version form body)
+  after : List ℕ
+  after = to_be_bytes w32 (seal (head_bytes version form body)) ++ drop (copy_length form body) bytes
 
   -- the bytes are a copy and a rest
-  pub sealed_split : bytes ≡ head_bytes version form body ++ (to_be_bytes w32 (seal (head_bytes version form body)) ++ drop (copy_length body) bytes)
-  unfolding copy_bytes
-  sealed_split = sym (take-append-drop (copy_length body) bytes) ∙ ap (λ l. l ++ drop (copy_length body) bytes) s.begins
-      ∙ append_assoc (head_bytes version form body) (to_be_bytes w32 (seal (head_bytes version form body))) (drop (copy_length body) bytes)
+  split : bytes ≡ head_bytes version form body ++ after
+  unfolding copy_bytes after
+  split = sym (take-append-drop (copy_length form body) bytes) ∙ ap (λ l. l ++ drop (copy_length form body) bytes) s.begins
+      ∙ append_assoc (head_bytes version form body) (to_be_bytes w32 (seal (head_bytes version form body))) (drop (copy_length form body) bytes)
+
+  parts : bytes ≡ to_be_bytes w64 version ++ (form_bytes form ++ (to_be_bytes w64 (length body) ++ (body ++ after)))
+  parts = split ∙ head_parts version form body after
+
+  -- ---- what stands at its places
+
+  pub sealed_version : to_be_bytes w64 version ≡ take 8 bytes
+  sealed_version = sym (ap (take 8) parts ∙ take_at (to_be_bytes w64 version) (form_bytes form ++ (to_be_bytes w64 (length body) ++ (body ++ after))) 8 refl)
+
+  after_version : drop 8 bytes ≡ form_bytes form ++ (to_be_bytes w64 (length body) ++ (body ++ after))
+  after_version = ap (drop 8) parts ∙ drop_at (to_be_bytes w64 version) (form_bytes form ++ (to_be_bytes w64 (length body) ++ (body ++ after))) 8 refl
+
+  after_form : drop (8 + form_length form) bytes ≡ to_be_bytes w64 (length body) ++ (body ++ after)
+  after_form = sym (drop-drop (form_length form) 8 bytes) ∙ ap (drop (form_length form)) after_version
+      ∙ drop_at (form_bytes form) (to_be_bytes w64 (length body) ++ (body ++ after)) (form_length form) (length-form form)
+
+  pub sealed_names : NamesForm bytes form
+  sealed_names = record {
+    is_form = s.is_form;
+    named = sym (ap (take (form_length form)) after_version ∙ take_at (form_bytes form) (to_be_bytes w64 (length body) ++ (body ++ after)) (form_length form) (length-form form));
+    room = omega (arith, sealed_room);
+  }
+
+  -- the length that it names
+  pub sealed_length : to_be_bytes w64 (length body) ≡ take 8 (drop (8 + form_length form) bytes)
+  sealed_length = sym (ap (take 8) after_form ∙ take_at (to_be_bytes w64 (length body)) (body ++ after) 8 refl)
+
+  -- the body
+  pub sealed_body : body ≡ take (length body) (drop (start_of form) bytes)
+  sealed_body = sym (ap (take (length body))
+      (sym (drop-drop 8 (8 + form_length form) bytes) ∙ ap (drop 8) after_form ∙ drop_at (to_be_bytes w64 (length body)) (body ++ after) 8 refl)
+      ∙ take_at body after (length body) refl)
+
+  -- what the seal is over
+  pub sealed_head : take (start_of form + length body) bytes ≡ head_bytes version form body
+  sealed_head = ap (take (start_of form + length body)) split ∙ take_at (head_bytes version form body) after (start_of form + length body) (length-head version form body)
+
+  -- the seal
+  pub sealed_seal : to_be_bytes w32 (seal (take (start_of form + length body) bytes)) ≡ take 4 (drop (start_of form + length body) bytes)
+  unfolding after
+  sealed_seal =
+      ap (λ l. to_be_bytes w32 (seal l)) sealed_head
+      ∙ sym (ap (λ l. take 4 (drop (start_of form + length body) l)) split
+      ∙ ap (take 4) (drop_at (head_bytes version form body) (to_be_bytes w32 (seal (head_bytes version form body)) ++ drop (copy_length form body) bytes) (start_of form + length body) (length-head version form body))
+      ∙ take_at (to_be_bytes w32 (seal (head_bytes version form body))) (drop (copy_length form body) bytes) 4 refl)
 
 -- the copy that bytes begin with
-pub record SameCopy (v w form form' : ℕ) (body body' : List ℕ) : Type 0 where
+pub record SameCopy (v w : ℕ) (form form' : Form) (body body' : List ℕ) : Type 0 where
   pub version : v ≡ w
   pub is_form : form ≡ form'
   pub is_body : body ≡ body'
 
-pub one_copy : (seal : List ℕ → ℕ) (bytes : List ℕ) (v w form form' : ℕ) (body body' : List ℕ)
-    → IsSealedAs seal bytes v form body → IsSealedAs seal bytes w form' body' → SameCopy v w form form' body body'
-one_copy seal bytes v w form form' body body' s t =
-    let split = sym (sealed_split seal bytes v form body s) ∙ sealed_split seal bytes w form' body' t in
-    let same = one_head v w form form' body body' _ _ s.version_fits t.version_fits s.length_fits t.length_fits split in
-    let heads = append_parts (head_bytes v form body) (head_bytes w form' body') _ _ (omega (arith, length-head v form body, length-head w form' body', same.2)) split in
-    let bodies = append_parts (to_be_bytes w64 v ++ (form ∷ to_be_bytes w64 (length body))) (to_be_bytes w64 w ++ (form' ∷ to_be_bytes w64 (length body'))) body body' refl
-    (split_last v form body ∙ heads.0 ∙ sym (split_last w form' body')) in
-    record { version = same.0; is_form = same.1; is_body = bodies.1 }
-  where
-    split_last : (u g : ℕ) (b : List ℕ) → (to_be_bytes w64 u ++ (g ∷ to_be_bytes w64 (length b))) ++ b ≡ head_bytes u g b
-    split_last u g b = append_assoc (to_be_bytes w64 u) (g ∷ to_be_bytes w64 (length b)) b ∙ sym (head_split u g b)
+module _ (seal : List ℕ → ℕ) (bytes : List ℕ) where
+  -- a copy is of the form that the bytes name
+  of_form : (v : ℕ) (form named : Form) (body : List ℕ) → NamesForm bytes named → IsSealedAs seal bytes v form body → IsSealedAs seal bytes v named body
+  of_form v form named body names s = subst (λ (g : Form). IsSealedAs seal bytes v g body) (one_form bytes form named (sealed_names seal bytes v form body s) names) s
 
--- ---- what stands at the places of a sealed copy
+  -- the length that stands there is that of its body
+  same_length : (v len : ℕ) (form : Form) (body : List ℕ) → len < 2 ^ 64 → to_be_bytes w64 len ≡ take 8 (drop (8 + form_length form) bytes) → IsSealedAs seal bytes v form body → len ≡ length body
+  same_length v len form body fits is s = same_number_8 len (length body) fits s.length_fits (is ∙ sym (sealed_length seal bytes v form body s))
 
-module _ (seal : List ℕ → ℕ) (bytes : List ℕ) (version form : ℕ) (body : List ℕ) (s : IsSealedAs seal bytes version form body) where
-  head : List ℕ
-  head = head_bytes version form body
+  pub one_copy : (v w : ℕ) (form form' : Form) (body body' : List ℕ) → IsSealedAs seal bytes v form body → IsSealedAs seal bytes w form' body' → SameCopy v w form form' body body'
+  one_copy v w form form' body body' s t =
+      let names = sealed_names seal bytes v form body s in
+      let u = of_form w form' form body' names t in
+      let long : length body ≡ length body' = same_length w (length body) form body' s.length_fits (sealed_length seal bytes v form body s) u in
+      record {
+        version = same_number_8 v w s.version_fits t.version_fits (sealed_version seal bytes v form body s ∙ sym (sealed_version seal bytes w form body' u));
+        is_form = one_form bytes form form' names (sealed_names seal bytes w form' body' t);
+        is_body = sealed_body seal bytes v form body s ∙ ap (λ (n : ℕ). take n (drop (start_of form) bytes)) long ∙ sym (sealed_body seal bytes w form body' u);
+      }
 
-  -- the length that it names
-  pub sealed_length : to_be_bytes w64 (length body) ≡ take 8 (drop 9 bytes)
-  sealed_length =
-      let rest = to_be_bytes w32 (seal (head_bytes version form body)) ++ drop (copy_length body) bytes in
-      let split : bytes ≡ (to_be_bytes w64 version ++ form ∷ []) ++ (to_be_bytes w64 (length body) ++ (body ++ rest)) =
-      sealed_split seal bytes version form body s
-      ∙ ap (λ l. l ++ rest) (head_split version form body)
-      ∙ append_assoc (to_be_bytes w64 version) (form ∷ to_be_bytes w64 (length body) ++ body) rest
-      ∙ ap (λ l. to_be_bytes w64 version ++ (form ∷ l)) (append_assoc (to_be_bytes w64 (length body)) body rest)
-      ∙ sym (append_assoc (to_be_bytes w64 version) (form ∷ []) (to_be_bytes w64 (length body) ++ (body ++ rest))) in
-      sym (ap (λ l. take 8 (drop 9 l)) split
-      ∙ ap (take 8) (drop_at (to_be_bytes w64 version ++ form ∷ []) (to_be_bytes w64 (length body) ++ (body ++ rest)) 9 refl)
-      ∙ take_at (to_be_bytes w64 (length body)) (body ++ rest) 8 refl)
+  -- ---- when there is no copy
 
-  -- what the seal is over
-  pub sealed_head : take (17 + length body) bytes ≡ head_bytes version form body
-  sealed_head = ap (take (17 + length body)) (sealed_split seal bytes version form body s)
-      ∙ take_at (head_bytes version form body) _ (17 + length body) (length-head version form body)
+  pub absent_formless : ((form : Form) → NamesForm bytes form → ⊥) → IsAbsentBy seal bytes
+  absent_formless none v form body s = none form (sealed_names seal bytes v form body s)
 
-  -- the seal
-  pub sealed_seal : to_be_bytes w32 (seal (take (17 + length body) bytes)) ≡ take 4 (drop (17 + length body) bytes)
-  sealed_seal =
-      let rest = drop (copy_length body) bytes in
-      ap (λ l. to_be_bytes w32 (seal l)) sealed_head
-      ∙ sym (ap (λ l. take 4 (drop (17 + length body) l)) (sealed_split seal bytes version form body s)
-      ∙ ap (take 4) (drop_at (head_bytes version form body) (to_be_bytes w32 (seal (head_bytes version form body)) ++ rest) (17 + length body) (length-head version form body))
-      ∙ take_at (to_be_bytes w32 (seal (head_bytes version form body))) rest 4 refl)
+  -- the bytes name this form and, before the body's place, this length
+  module _ (form : Form) (names : NamesForm bytes form) (start len : ℕ) (begins : start ≡ start_of form) (fits : len < 2 ^ 64) (is : to_be_bytes w64 len ≡ take 8 (drop (start - 8) bytes)) where
+    at_length : to_be_bytes w64 len ≡ take 8 (drop (8 + form_length form) bytes)
+    at_length = let e : start - 8 ≡ 8 + form_length form = omega (arith, begins) in is ∙ ap (λ (n : ℕ). take 8 (drop n bytes)) e
 
--- ---- when there is no copy
+    pub absent_cut : length bytes < start + 4 + len → IsAbsentBy seal bytes
+    absent_cut short v form' body s =
+        let t = of_form v form' form body names s in
+        omega (arith, begins, same_length v len form body fits at_length t, short, sealed_room seal bytes v form body t)
 
-pub absent_short : (seal : List ℕ → ℕ) (bytes : List ℕ) → length bytes < 21 → IsAbsentBy seal bytes
-absent_short seal bytes short version form body s = omega (arith, short, sealed_room seal bytes version form body s)
+    pub absent_unsealed : (stored : ℕ) → stored < 2 ^ 32 → ((l : List ℕ) → seal l < 2 ^ 32) → to_be_bytes w32 stored ≡ take 4 (drop (start + len) bytes)
+        → (seal (take (start + len) bytes) ≡ stored → ⊥) → IsAbsentBy seal bytes
+    absent_unsealed stored short sealed at differs v form' body s =
+        let t = of_form v form' form body names s in
+        let same : start_of form + length body ≡ start + len = omega (arith, begins, same_length v len form body fits at_length t) in
+        let holds : to_be_bytes w32 (seal (take (start + len) bytes)) ≡ take 4 (drop (start + len) bytes) =
+        subst (λ (n : ℕ). to_be_bytes w32 (seal (take n bytes)) ≡ take 4 (drop n bytes)) same (sealed_seal seal bytes v form body t) in
+        differs (same_number_4 (seal (take (start + len) bytes)) stored (sealed (take (start + len) bytes)) short (holds ∙ sym at))
 
-pub absent_cut : (seal : List ℕ → ℕ) (bytes : List ℕ) (len : ℕ) → len < 2 ^ 64 → to_be_bytes w64 len ≡ take 8 (drop 9 bytes) → length bytes < 21 + len → IsAbsentBy seal bytes
-absent_cut seal bytes len fits is short version form body s =
-    let same : len ≡ length body = same_number_8 len (length body) fits s.length_fits (is ∙ sym (sealed_length seal bytes version form body s)) in
-    omega (arith, same, short, sealed_room seal bytes version form body s)
+    -- ---- the copy that is found
 
-pub absent_unsealed : (seal : List ℕ → ℕ) (bytes : List ℕ) (len stored : ℕ) → len < 2 ^ 64 → stored < 2 ^ 32 → ((l : List ℕ) → seal l < 2 ^ 32) → to_be_bytes w64 len ≡ take 8 (drop 9 bytes)
-    → to_be_bytes w32 stored ≡ take 4 (drop (17 + len) bytes) → (seal (take (17 + len) bytes) ≡ stored → ⊥) → IsAbsentBy seal bytes
-absent_unsealed seal bytes len stored fits short sealed is at differs version form body s =
-    let same : length body ≡ len = sym (same_number_8 len (length body) fits s.length_fits (is ∙ sym (sealed_length seal bytes version form body s))) in
-    let holds : to_be_bytes w32 (seal (take (17 + len) bytes)) ≡ take 4 (drop (17 + len) bytes) =
-    subst (λ (n : ℕ). to_be_bytes w32 (seal (take (17 + n) bytes)) ≡ take 4 (drop (17 + n) bytes)) same (sealed_seal seal bytes version form body s) in
-    differs (same_number_4 (seal (take (17 + len) bytes)) stored (sealed (take (17 + len) bytes)) short (holds ∙ sym at))
+    module _ (version : ℕ) (first : to_be_bytes w64 version ≡ take 8 (drop 0 bytes)) (room : start + 4 + len ≤ length bytes) where
+      body_of : List ℕ
+      body_of = take len (drop (start_of form) bytes)
 
--- ---- the copy that is found
+      length-body : length body_of ≡ len
+      unfolding body_of
+      length-body = omega (arith, begins, length-take len (drop (start_of form) bytes), length-drop (start_of form) bytes, room)
 
-module _ (bytes : List ℕ) (version len : ℕ) (first : to_be_bytes w64 version ≡ take 8 bytes) (second : to_be_bytes w64 len ≡ take 8 (drop 9 bytes)) (room : 21 + len ≤ length bytes) where
-  body_of : List ℕ
-  body_of = take len (drop 17 bytes)
+      found_head : take (start_of form + len) bytes ≡ head_bytes version form body_of
+      unfolding body_of head_bytes
+      found_head =
+          let front : take (8 + form_length form) bytes ≡ to_be_bytes w64 version ++ form_bytes form =
+          take_two 8 (form_length form) bytes ∙ ap (λ l. l ++ take (form_length form) (drop 8 bytes)) (sym first) ∙ ap (λ l. to_be_bytes w64 version ++ l) (sym names.named) in
+          let more : take (start_of form) bytes ≡ to_be_bytes w64 version ++ form_bytes form ++ to_be_bytes w64 (length body_of) =
+          take_two (8 + form_length form) 8 bytes ∙ ap (λ l. l ++ take 8 (drop (8 + form_length form) bytes)) front
+          ∙ ap (λ l. to_be_bytes w64 version ++ form_bytes form ++ l) (sym at_length ∙ ap (λ (n : ℕ). to_be_bytes w64 n) (sym length-body)) in
+          take_two (start_of form) len bytes ∙ ap (λ l. l ++ take len (drop (start_of form) bytes)) more
 
-  length-body : length body_of ≡ len
-  unfolding body_of
-  length-body = omega (arith, length-take len (drop 17 bytes), length-drop 17 bytes, room)
-
-  found_head : take (17 + len) bytes ≡ head_bytes version (get_or bytes 8 0) body_of
-  unfolding body_of
-  found_head =
-      let form = get_or bytes 8 0 in
-      let one : take 1 (drop 8 bytes) ≡ form ∷ [] = ap (take 1) (drop_more bytes 8 0 (omega (arith, room))) in
-      let front : take 9 bytes ≡ to_be_bytes w64 version ++ form ∷ [] = take_two 8 1 bytes ∙ ap (λ l. l ++ take 1 (drop 8 bytes)) (sym first) ∙ ap (λ l. to_be_bytes w64 version ++ l) one in
-      let more : take 17 bytes ≡ to_be_bytes w64 version ++ form ∷ [] ++ to_be_bytes w64 (length body_of) =
-      take_two 9 8 bytes ∙ ap (λ l. l ++ take 8 (drop 9 bytes)) front
-      ∙ ap (λ l. to_be_bytes w64 version ++ form ∷ [] ++ l) (sym second ∙ ap (λ (n : ℕ). to_be_bytes w64 n) (sym length-body)) in
-      take_two 17 len bytes ∙ ap (λ l. l ++ take len (drop 17 bytes)) more
-      ∙ append_assoc (to_be_bytes w64 version ++ form ∷ []) (to_be_bytes w64 (length body_of)) body_of
-      ∙ append_assoc (to_be_bytes w64 version) (form ∷ []) (to_be_bytes w64 (length body_of) ++ body_of)
-      ∙ sym (head_split version form body_of)
-
-pub sealed_found : (seal : List ℕ → ℕ) (bytes : List ℕ) (version len stored : ℕ) → version < 2 ^ 64 → len < 2 ^ 64 → 21 + len ≤ length bytes
-    → to_be_bytes w64 version ≡ take 8 bytes → to_be_bytes w64 len ≡ take 8 (drop 9 bytes)
-    → to_be_bytes w32 stored ≡ take 4 (drop (17 + len) bytes) → seal (take (17 + len) bytes) ≡ stored
-    → IsSealedAs seal bytes version (get_or bytes 8 0) (take (17 + len - 17) (drop 17 bytes))
-unfolding body_of copy_bytes
-sealed_found seal bytes version len stored fits short room first second at holds =
-    let n : 17 + len - 17 ≡ len = omega arith in
-    subst (λ (m : ℕ). IsSealedAs seal bytes version (get_or bytes 8 0) (take m (drop 17 bytes))) (sym n) (record {
-      version_fits = fits;
-      length_fits = omega (arith, length-body bytes version len first second room, short);
-      begins =
-          let size : 21 + length (take len (drop 17 bytes)) ≡ 17 + len + 4 = omega (arith, length-body bytes version len first second room) in
-          ap (λ (m : ℕ). take m bytes) size ∙ take_two (17 + len) 4 bytes
-          ∙ ap (λ l. take (17 + len) bytes ++ l) (sym at ∙ ap (λ (x : ℕ). to_be_bytes w32 x) (sym holds))
-          ∙ ap (λ l. l ++ to_be_bytes w32 (seal l)) (found_head bytes version len first second room);
-    })
+      pub sealed_found : (stored : ℕ) → version < 2 ^ 64 → to_be_bytes w32 stored ≡ take 4 (drop (start + len) bytes) → seal (take (start + len) bytes) ≡ stored
+          → IsSealedAs seal bytes version form (take (start + len - start) (drop start bytes))
+      unfolding body_of copy_bytes
+      sealed_found stored short at holds =
+          let e : start + len ≡ start_of form + len = omega (arith, begins) in
+          let n : start + len - start ≡ len = omega arith in
+          let same : take (start + len - start) (drop start bytes) ≡ body_of = ap (λ (m : ℕ). take m (drop start bytes)) n ∙ ap (λ (m : ℕ). take len (drop m bytes)) begins in
+          let at' : to_be_bytes w32 stored ≡ take 4 (drop (start_of form + len) bytes) = at ∙ ap (λ (m : ℕ). take 4 (drop m bytes)) e in
+          let holds' : seal (take (start_of form + len) bytes) ≡ stored = ap (λ (m : ℕ). seal (take m bytes)) (sym e) ∙ holds in
+          let size : copy_length form body_of ≡ start_of form + len + 4 = omega (arith, length-body) in
+          subst (IsSealedAs seal bytes version form) (sym same) (record {
+            version_fits = short;
+            is_form = names.is_form;
+            length_fits = omega (arith, length-body, fits);
+            begins = ap (λ (m : ℕ). take m bytes) size ∙ take_two (start_of form + len) 4 bytes
+                ∙ ap (λ l. take (start_of form + len) bytes ++ l) (sym at' ∙ ap (λ (x : ℕ). to_be_bytes w32 x) (sym holds'))
+                ∙ ap (λ l. l ++ to_be_bytes w32 (seal l)) found_head;
+          })
 
 -- a copy that was written part by part
-pub copy_written : (seal : List ℕ → ℕ) (version len sealed : ℕ) (body c0 c1 c2 c3 c4 c5 : List ℕ) → c0 ≡ [] → c1 ≡ c0 ++ to_be_bytes w64 version → c2 ≡ c1 ++ 1 ∷ [] → c3 ≡ c2 ++ to_be_bytes w64 len
-    → c4 ≡ c3 ++ body → c5 ≡ c4 ++ to_be_bytes w32 sealed → len ≡ length body → sealed ≡ seal c4 → c5 ≡ copy_bytes seal version 1 body
-unfolding copy_bytes
-copy_written seal version len sealed body c0 c1 c2 c3 c4 c5 e0 e1 e2 e3 e4 e5 long is =
-    let head : c4 ≡ head_bytes version 1 body =
-    e4 ∙ ap (λ l. l ++ body) (e3 ∙ ap (λ l. l ++ to_be_bytes w64 len) (e2 ∙ ap (λ l. l ++ 1 ∷ []) (e1 ∙ ap (λ l. l ++ to_be_bytes w64 version) e0)) ∙ ap (λ (n : ℕ). to_be_bytes w64 version ++ 1 ∷ [] ++ to_be_bytes w64 n) long)
-    ∙ append_assoc (to_be_bytes w64 version ++ 1 ∷ []) (to_be_bytes w64 (length body)) body ∙ append_assoc (to_be_bytes w64 version) (1 ∷ []) (to_be_bytes w64 (length body) ++ body) ∙ sym (head_split version 1 body) in
+pub copy_written : (seal : List ℕ → ℕ) (version len sealed : ℕ) (form : Form) (body c0 c1 c2 c3 c4 c5 : List ℕ) → c0 ≡ [] → c1 ≡ c0 ++ to_be_bytes w64 version → c2 ≡ c1 ++ form_bytes form → c3 ≡ c2 ++ to_be_bytes w64 len
+    → c4 ≡ c3 ++ body → c5 ≡ c4 ++ to_be_bytes w32 sealed → len ≡ length body → sealed ≡ seal c4 → c5 ≡ copy_bytes seal version form body
+unfolding copy_bytes head_bytes
+copy_written seal version len sealed form body c0 c1 c2 c3 c4 c5 e0 e1 e2 e3 e4 e5 long is =
+    let head : c4 ≡ head_bytes version form body =
+    e4 ∙ ap (λ l. l ++ body) (e3 ∙ ap (λ l. l ++ to_be_bytes w64 len) (e2 ∙ ap (λ l. l ++ form_bytes form) (e1 ∙ ap (λ l. l ++ to_be_bytes w64 version) e0))
+    ∙ ap (λ (n : ℕ). to_be_bytes w64 version ++ form_bytes form ++ to_be_bytes w64 n) long) in
     e5 ∙ ap (λ (n : ℕ). c4 ++ to_be_bytes w32 n) is ∙ ap (λ l. l ++ to_be_bytes w32 (seal l)) head

@@ -7,22 +7,25 @@ use Rattle.std.specs.Map.{set_value}
 use Rattle.std.specs.BTreeMap.{is_at}
 use Rattle.std.specs.declared.cmp.Ordering.{Ordering}
 use Rattle.blob_device.specs.Disk.{Blob, Disk, MayLeave, past, settled_at, begun}
+use Rattle.meta_store.specs.declared.copy.Contents.{Contents}
 use Rattle.meta_store.specs.declared.copy.CopyText.{CopyText}
 use Rattle.meta_store.specs.declared.copy.CopyText.TheVariants.{Absent, Refused, Whole}
+use Rattle.meta_store.specs.declared.copy.Form.{Form}
 use Rattle.meta_store.specs.declared.error.Side.{Side}
 use Rattle.meta_store.specs.declared.error.Side.TheVariants.{Left, Right}
 use Rattle.meta_store.specs.declared.metadata.Metadata.{Metadata}
 use Rattle.meta_store.specs.declared.pair.Chosen.{Chosen}
 use Rattle.meta_store.specs.Format.{Format}
-use Rattle.meta_store.specs.Copies.{ReadsAs, IsText, IsStorable, entry_bytes, entries_bytes, body_bytes}
+use Rattle.meta_store.specs.Copies.{ReadsAs, IsText, IsStorable, entry_bytes, entries_bytes, body_bytes, form_of}
 use Rattle.meta_store.specs.Pairs.{ReadsPair, HoldMap, chosen_of}
 use Rattle.meta_store.specs.Blobs.{blob_of, bytes_of}
 use Rattle.meta_store.specs.Crashes.{Keeps, NoChanceSeal, ReadsNoChance}
 use Rattle.meta_store.specs.Lends.{WroteValue}
 use Rattle.meta_store.specs.Store.{Store, Stands, MayBeSynced, shown}
 use Rattle.meta_store.proofs.Leaving.{settled_content}
-use Rattle.meta_store.proofs.Readings.{whole_only, refused_only, absent_only}
-use Rattle.meta_store.proofs.Texts.{append_parts, same_number_4, same_number_8, length-four}
+use Rattle.meta_store.proofs.Bytes.{append_parts, same_number_4, same_number_8, length-four}
+use Rattle.meta_store.proofs.Forms.{one_floor}
+use Rattle.meta_store.proofs.Readings.{reads_absent, reads_refused, reads_whole}
 
 -- Keys have one length, and keys and accepted values are known by their bytes. The laws of `Key` and `Codec` give it.
 pub record IsReadable {K V : Type 0} (f : Format K V) : Type 0 where
@@ -58,30 +61,34 @@ module _ {K V : Type 0} (f : Format K V) where
         let rest = one_list ds es (omega (arith, same)) of_ds.1 of_es.1 split.1 in
         λ i. split.0 i ∷ rest i
 
-    pub one_text : (form : ℕ) (body : List ℕ) (ds es : List (K × V)) → IsText f form body ds → IsText f form body es → ds ≡ es
+    pub one_text : (form : Form) (body : List ℕ) (x y : Contents K V) → IsText f form body x → IsText f form body y → x ≡ y
     unfolding body_bytes
-    one_text form body ds es of_ds of_es =
-        let split = append_parts (to_be_bytes w64 (length ds)) (to_be_bytes w64 (length es)) _ _ refl (sym of_ds.spelled ∙ of_es.spelled) in
-        one_list ds es (same_number_8 (length ds) (length es) of_ds.map.count of_es.map.count split.0) of_ds.map.storable of_es.map.storable split.1
+    one_text form body x y of_x of_y =
+        let split = append_parts (to_be_bytes w64 (length x.entries)) (to_be_bytes w64 (length y.entries)) _ _ refl (sym of_x.spelled ∙ of_y.spelled) in
+        let entries = one_list x.entries y.entries (same_number_8 (length x.entries) (length y.entries) of_x.map.count of_y.map.count split.0) of_x.map.storable of_y.map.storable split.1 in
+        let floor = one_floor x.floor y.floor (sym of_x.formed ∙ of_y.formed) in
+        λ i. record { floor = floor i; entries = entries i }
 
     pub one_reading : (bytes : List ℕ) (s t : CopyText K V) → ReadsAs f bytes s → ReadsAs f bytes t → s ≡ t
-    one_reading bytes Absent t of_s of_t = absent_only f bytes of_s t of_t
-    one_reading bytes (Refused v) t of_s of_t = refused_only f bytes v of_s.form of_s.body of_s.sealed of_s.no_text t of_t
+    one_reading bytes Absent t of_s of_t = (reads_absent f bytes of_s).only t of_t
+    one_reading bytes (Refused v) t of_s of_t = (reads_refused f bytes v of_s.form of_s.body of_s.sealed of_s.no_text).only t of_t
     one_reading bytes (Whole v floor es) t of_s of_t =
-        let text : IsText f 1 (body_bytes f.key_bytes f.spelling es) es = record { is_first_form = refl; spelled = refl; map = of_s.map } in
-        ap (λ (n : ℕ). Whole v n es) of_s.no_floor ∙ whole_only f bytes v 1 (body_bytes f.key_bytes f.spelling es) of_s.sealed es text (λ others is. ap Some (one_text 1 (body_bytes f.key_bytes f.spelling es) es others text is)) t of_t
+        let held : Contents K V = record { floor = floor; entries = es } in
+        let body = body_bytes f.key_bytes f.spelling es in
+        let text : IsText f (form_of floor) body held = record { formed = refl; spelled = refl; map = of_s.map } in
+        (reads_whole f bytes v (form_of floor) body of_s.sealed held text (λ others is. one_text (form_of floor) body held others text is)).only t of_t
 
-    -- and two contents hold one map
-    pub one_map : (left right : List ℕ) (ds es : List (K × V)) → HoldMap f left right ds → HoldMap f left right es → ds ≡ es
-    one_map left right ds es of_ds of_es =
-        let l = one_reading left of_ds.reads.left_text of_es.reads.left_text of_ds.reads.left_reads of_es.reads.left_reads in
-        let r = one_reading right of_ds.reads.right_text of_es.reads.right_text of_ds.reads.right_reads of_es.reads.right_reads in
-        let same = sym of_ds.reads.is ∙ ap (λ (t : CopyText K V). chosen_of t of_ds.reads.right_text) l ∙ ap (λ (t : CopyText K V). chosen_of of_es.reads.left_text t) r ∙ of_es.reads.is in
-        let one : of_ds.chosen ≡ of_es.chosen = cc same in
-        sym of_ds.map ∙ ap (λ (c : Chosen K V). c.entries) one ∙ of_es.map
+    -- and two blobs hold one map
+    pub one_map : (left right : List ℕ) (x y : Contents K V) → HoldMap f left right x → HoldMap f left right y → x ≡ y
+    one_map left right x y of_x of_y =
+        let l = one_reading left of_x.reads.left_text of_y.reads.left_text of_x.reads.left_reads of_y.reads.left_reads in
+        let r = one_reading right of_x.reads.right_text of_y.reads.right_text of_x.reads.right_reads of_y.reads.right_reads in
+        let same = sym of_x.reads.is ∙ ap (λ (t : CopyText K V). chosen_of t of_x.reads.right_text) l ∙ ap (λ (t : CopyText K V). chosen_of of_y.reads.left_text t) r ∙ of_y.reads.is in
+        let one : of_x.chosen ≡ of_y.chosen = cc same in
+        sym of_x.map ∙ ap (λ (c : Chosen K V). c.contents) one ∙ of_y.map
 
   -- a map stands as long as its two blobs do
-  pub stands_same : (u : Store K V) (synced : List (K × V)) (d e : Disk) → e (blob_of u.partition Left) ≡ d (blob_of u.partition Left) → e (blob_of u.partition Right) ≡ d (blob_of u.partition Right) → Stands f u synced d → Stands f u synced e
+  pub stands_same : (u : Store K V) (synced : Contents K V) (d e : Disk) → e (blob_of u.partition Left) ≡ d (blob_of u.partition Left) → e (blob_of u.partition Right) ≡ d (blob_of u.partition Right) → Stands f u synced d → Stands f u synced e
   stands_same u synced d e left right stands = record {
     left = subst (λ (b : Blob). b ≡ settled_at b.content) (sym left) stands.left;
     right = subst (λ (b : Blob). b ≡ settled_at b.content) (sym right) stands.right;
@@ -96,7 +103,7 @@ module _ {K V : Type 0} (f : Format K V) where
   }
 
   -- so does what each crash leaves of it
-  pub keeps_same : (p : List ℕ) (one other : List (K × V)) (d e : Disk) → e (blob_of p Left) ≡ d (blob_of p Left) → e (blob_of p Right) ≡ d (blob_of p Right) → Keeps f p one other d → Keeps f p one other e
+  pub keeps_same : (p : List ℕ) (one other : Contents K V) (d e : Disk) → e (blob_of p Left) ≡ d (blob_of p Left) → e (blob_of p Right) ≡ d (blob_of p Right) → Keeps f p one other d → Keeps f p one other e
   keeps_same p one other d e left right keeps = record {
     crash = λ l r may_l may_r none_l none_r.
         keeps.crash l r (subst (λ (b : Blob). MayLeave b l) left may_l) (subst (λ (b : Blob). MayLeave b r) right may_r)
@@ -112,7 +119,7 @@ module _ {K V : Type 0} (f : Format K V) where
   begun_no_chance (Some c) v form body s = inl refl
 
   -- so do both blobs of a map that stands
-  pub stands_no_chance : (u : Store K V) (synced : List (K × V)) (d : Disk) → Stands f u synced d → ReadsNoChance f.seal (d (blob_of u.partition Left)) × ReadsNoChance f.seal (d (blob_of u.partition Right))
+  pub stands_no_chance : (u : Store K V) (synced : Contents K V) (d : Disk) → Stands f u synced d → ReadsNoChance f.seal (d (blob_of u.partition Left)) × ReadsNoChance f.seal (d (blob_of u.partition Right))
   stands_no_chance u synced d stands =
       (subst (ReadsNoChance f.seal) (sym stands.left) (begun_no_chance (Some (d (blob_of u.partition Left)).content)), subst (ReadsNoChance f.seal) (sym stands.right) (begun_no_chance (Some (d (blob_of u.partition Right)).content)))
 
@@ -123,7 +130,7 @@ module _ {K V : Type 0} (f : Format K V) where
   begun_left (Some c) (Some c') may = settled_content c c' may.1
 
   -- each crash of such an image leaves the map that it holds
-  pub begun_keeps : (p : List ℕ) (one other : List (K × V)) (left right : Option (List ℕ)) (d : Disk) → d (blob_of p Left) ≡ begun left → d (blob_of p Right) ≡ begun right → HoldMap f (bytes_of left) (bytes_of right) one → Keeps f p one other d
+  pub begun_keeps : (p : List ℕ) (one other : Contents K V) (left right : Option (List ℕ)) (d : Disk) → d (blob_of p Left) ≡ begun left → d (blob_of p Right) ≡ begun right → HoldMap f (bytes_of left) (bytes_of right) one → Keeps f p one other d
   begun_keeps p one other left right d is_l is_r holds = record {
     crash = λ l r may_l may_r none_l none_r.
         inl (subst (λ (c : List ℕ). HoldMap f c (bytes_of r) one) (sym (begun_left left l (subst (λ (b : Blob). MayLeave b l) is_l may_l)))

@@ -2,13 +2,24 @@
 use Rattle.std.specs.Prelude.{◌≡◌, ◌⊎◌, ℕ, ◌<◌, Bool, true, cond, List, [], ◌∷◌, Option, Some, length}
 use Rattle.std.specs.declared.cmp.Ordering.{Ordering}
 use Rattle.std.specs.BTreeMap.{is_at}
-use Rattle.std.specs.Map.{lookup}
+use Rattle.std.specs.List.Sorted.{IsStrictlySortedBy}
+use Rattle.std.specs.Map.{keys_of, lookup}
 use Rattle.std.specs.Borrow.{Bor}
 use Rattle.std.specs.Fn.{Shared}
+use Rattle.meta_store.specs.declared.keys.KeyIter.{KeyIter}
 
 -- the value at a key
 abbrev pub value_at : {K V : Type 0} → (K → K → Ordering) → List (K × V) → K → Option V
 value_at compare entries key = lookup (is_at (compare key)) entries
+
+-- the keys of a map, in ascending order
+pub record AreKeys {K V : Type 0} (compare : K → K → Ordering) (entries : List (K × V)) (ks : List K) : Type 0 where
+  pub keys : ks ≡ keys_of entries
+  pub ascending : IsStrictlySortedBy compare ks
+
+-- those that are left
+abbrev pub keys_left : {K V : Type 0} → KeyIter K V → List K
+keys_left i = i.inner
 
 -- the new entries have this value at one key, and at each other key what the old ones have
 abbrev pub PutsValue : {K V : Type 0} → (K → K → Ordering) → List (K × V) → List (K × V) → K → V → Type 0

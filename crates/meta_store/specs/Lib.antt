@@ -1,6 +1,7 @@
--- What this layer means to the layers above: a map of keys to values, kept in the two blobs `left` and `right` (`Copies`, `Pairs`).
--- At every moment of a call, a chance seal aside, a crash leaves the map as it was last synced or as it is being synced (`Crashes`);
--- no other blob is touched. Between calls the blobs have settled (`Store`).
+-- What this layer means to the layers above: a map of keys to values and a floor, kept in the two blobs `left` and `right`
+-- (`Copies`, `Pairs`). At every moment of a call, a chance seal aside, a crash leaves map and floor as they were last synced or as
+-- they are being synced (`Crashes`); no other blob is touched. Between calls the blobs have settled (`Store`). What each call
+-- promises is one relation: `Reads` in `Copies`, `Opening`, `Staging`, `Syncs`, `Removing`.
 pub mod Blobs
 pub mod Calls
 pub mod Copies
@@ -12,4 +13,6 @@ pub mod Lends
 pub mod Opening
 pub mod Pairs
 pub mod Removing
+pub mod Staging
 pub mod Store
+pub mod Syncs

@@ -1,4 +1,4 @@
-// How the bytes of a blob read as a copy of the map.
+// How the bytes of a blob read as a copy.
 ghost use Rattle.std.specs.Prelude.{◌≡◌};
 
 use std::marker::Model;
@@ -40,6 +40,15 @@ impl<K, V> CopyEntries<K, V> {
     }
 }
 
+/// What a copy holds.
+#[derive(Drop)]
+pub struct Contents<K, V> {
+    /// The floor; 0 where the copy names none.
+    pub floor: u64,
+    /// The map.
+    pub entries: CopyEntries<K, V>,
+}
+
 /// How bytes read as a copy.
 #[derive(Drop)]
 pub enum CopyText<K, V> {
@@ -54,9 +63,18 @@ pub enum CopyText<K, V> {
     Whole {
         /// The greater of two versions is the newer one.
         version: u64,
-        /// 0 in a copy of this form.
+        /// The floor; 0 in a copy of form 1, which names none.
         floor: u64,
         /// The map.
         entries: CopyEntries<K, V>,
     },
+}
+
+/// What a copy has behind its version, up to the length of its body.
+#[derive(Clone, Copy)]
+pub enum Form {
+    /// A number other than 2, and no floor. A text has the number 1.
+    Plain(u8),
+    /// The number 2, and a floor. A text has one above 0.
+    Floored(u64),
 }

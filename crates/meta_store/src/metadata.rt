@@ -6,21 +6,23 @@
 //
 // The map stands in two blobs of a partition, `left` and `right`. Each begins with a copy, or has none:
 //
-//     0          8      9                  17
-//     +----------+------+------------------+--------------+-------------------+
-//     | version  | form | length of body   | body         | seal of all       |
-//     | 8 bytes  | 1    | 8 bytes          |              | before it, 4      |
-//     +----------+------+------------------+--------------+-------------------+
+//     +---------+------+-----------------+------+---------------+
+//     | version | form | length of body  | body | seal of all   |
+//     | 8 bytes |      | 8               |      | before it, 4  |
+//     +---------+------+-----------------+------+---------------+
 //
+//     form 1: | 1, one byte |              the floor is 0
+//     form 2: | 2, one byte | floor, 8 |   the floor is above 0
 //     body:   | number of entries, 8 | entry | entry | ..
 //     entry:  | key | length of the spelling, 4 | spelling of the value |
 //
-// Numbers are big-endian, keys ascend strictly, and bytes behind the seal are ignored. Of two copies the one
-// with the greater version is the map. With no copy the map is empty.
+// Numbers are big-endian, keys ascend strictly, and bytes after the seal are ignored. A copy whose form begins with
+// any other number is as long as one of form 1, and no text. Of two copies the one with the greater version gives map
+// and floor. With no copy the map is empty and the floor 0.
 //
 // # Sync
 //
-// A sync writes the whole map as the next version over the older or absent copy, and settles that blob. The
+// A sync writes map and floor as the next version over the older or absent copy, and settles that blob. The
 // newer copy is not touched. With nothing staged no call is made.
 //
 //                 left         right
@@ -30,24 +32,18 @@
 //
 // # Crashes
 //
-// At every moment a crash leaves the map that was synced last, or the one of the sync under way, a chance
-// seal aside. Where the copy that is written is torn, its seal fails, and the other one is the map. `destroy`
+// At every moment a crash leaves map and floor as they were synced last, or as the sync under way writes them, a
+// chance seal aside. Where the copy that is written is torn, its seal fails, and the other one counts. `destroy`
 // removes the older copy first, so an older map never comes back.
 //
 // # Cost
 //
 // An opening makes four calls: two openings and two reads. A sync with a change makes two, a write and a
 // sync, and `destroy` two. All other calls make none.
-ghost use Rattle.std.specs.Prelude.{◌≡◌, ◌≢◌, ◌≤◌, ◌<◌, ◌+◌, ◌^◌, ◌⊎◌, ◌↔◌, ◌||◌, cond, nat_lt, length, List, Ok, Err, OnOk, OnErr, IfOk, IfSome, IsOk, OnSome, IfNone, Bool, true, false, ℕ, IsTrue};
+ghost use Rattle.std.specs.Prelude.{◌≡◌, ◌≤◌, ◌↔◌, string_len, IsTrue};
 ghost use Rattle.std.specs.Option.{option_copied, option_copied_mut};
-ghost use Rattle.std.specs.Map.{keys_of};
-ghost use Rattle.std.specs.List.Sorted.{IsStrictlySortedBy};
-ghost use Rattle.std.specs.BTreeMap.{insert_entry};
-ghost use Rattle.blob_device.specs.Timeline.{disk};
-ghost use Rattle.blob_device.specs.Disk.{Disk};
-ghost use Rattle.blob_device.specs.Counts.{Rose, next};
-ghost use Rattle.meta_store.specs.Format.{Format, format_of};
-ghost use Rattle.meta_store.specs.Entries.{value_at, PutsValue, Retained, AnswersAt};
+ghost use Rattle.meta_store.specs.Format.{format_of};
+ghost use Rattle.meta_store.specs.Entries.{AnswersAt, AreKeys, keys_left, value_at};
 
 mod opening;
 mod reading;
@@ -70,7 +66,16 @@ pub struct Config<C> {
     pub codec_config: C,
 }
 
-/// A map that is kept in two copies on a device.
+impl<C> Config<C> {
+    /// Whether the partition has a name.
+    pub fn is_valid(&self) -> bool
+        ensures { IsTrue result ↔ (1 ≤ string_len self.now.partition) }
+    {
+        !self.partition.is_empty()
+    }
+}
+
+/// A map and a floor that are kept in two copies on a device.
 ///
 /// Changes are staged in memory, and a sync writes them as the next version over the older copy. A call that
 /// takes the map and is refused gives it up; it is then opened again.
@@ -84,6 +89,8 @@ pub struct Metadata<K: Key, V: Codec, S: Seal> {
     codec_config: V::Cfg,
     /// The map with its staged changes, ascending by key. With none staged it is as synced (`Stands.fresh`).
     entries: BTreeMap<K, V>,
+    /// The floor with its staged changes, which never falls. With none staged it is as synced (`Stands.fresh`).
+    floor: u64,
     /// The greater version of the two copies; 0 where there is none (`Stands.pair`).
     version: u64,
     /// The side of the older or absent copy, which the next sync writes over (`Stands.pair`).
@@ -95,9 +102,9 @@ pub struct Metadata<K: Key, V: Codec, S: Seal> {
 }
 
 impl<K: Key, V: Codec, S: Seal> Metadata<K, V, S> {
-    ghost use Rattle.meta_store.specs.Store.{shown, staging, Stands, MayBeSynced};
-    ghost use Rattle.meta_store.specs.Copies.{IsStorable};
     ghost use Rattle.meta_store.specs.Lends.{lends_value};
+    ghost use Rattle.meta_store.specs.Staging.{Puts, Retains, SetsFloor};
+    ghost use Rattle.meta_store.specs.Store.{seen, shown};
     ghost use Rattle.std.specs.Borrow.{sem};
 
     /// The value of a key. It takes no memory.
@@ -109,23 +116,22 @@ impl<K: Key, V: Codec, S: Seal> Metadata<K, V, S> {
 
     /// The keys, in ascending order. It takes no memory.
     pub fn keys(&self) -> KeyIter<'_, K, V>
-        ensures keys { result.inner ≡ keys_of (shown self.now).entries }
-        ensures ascending { IsStrictlySortedBy K.cmp result.inner }
+        ensures { AreKeys K.cmp (shown self.now).entries (keys_left result) }
     {
         KeyIter::over(self.entries.keys())
     }
 
+    /// The floor, with what is staged. It takes no memory.
+    pub fn floor(&self) -> u64
+        ensures { result ≡ (shown self.now).floor }
+    {
+        self.floor
+    }
+
     /// Gives a key this value, which is a change also where the key has it. After an Err the map is as before.
     pub fn put(&mut self, key: K, value: V) -> Result<(), Error>
-        ensures ok { OnOk result (shown self.new ≡ staging (shown self.old) (insert_entry K.cmp (shown self.old).entries key value)) }
-        ensures value { OnOk result (PutsValue K.cmp (shown self.old).entries (shown self.new).entries key value) }
-        ensures storable { MayBeSynced (format_of K.cmp K.key_bytes V.Codec S.Seal self.old.codec_config) (shown self.old).entries → IsStorable (format_of K.cmp K.key_bytes V.Codec S.Seal self.old.codec_config) value
-            → OnOk result (MayBeSynced (format_of K.cmp K.key_bytes V.Codec S.Seal self.old.codec_config) (shown self.new).entries) }
-        ensures err { OnErr result (shown self.new ≡ shown self.old) }
-        // It stands on its device as before.
-        ensures stands { (synced : List _) (d : Disk) → Stands (format_of K.cmp K.key_bytes V.Codec S.Seal self.old.codec_config) (shown self.old) synced d → Stands (format_of K.cmp K.key_bytes V.Codec S.Seal self.old.codec_config) (shown self.new) synced d }
-        ensures config { self.new.codec_config ≡ self.old.codec_config }
-        ensures memory { OnErr result (result ≡ Err Error.Mem) }
+        ensures { Puts (format_of K.cmp K.key_bytes V.Codec S.Seal) (seen self.old) (seen self.new)
+            key value result }
     {
         self.entries.insert(key, value)?;
         self.staged = true;
@@ -134,7 +140,8 @@ impl<K: Key, V: Codec, S: Seal> Metadata<K, V, S> {
 
     /// The value of a key, to be changed in place. Where the key is there, that is a change. It takes no memory.
     pub fn get_mut(&mut self, key: &K) -> Option<&mut V>
-        ensures* writes_back { sem 𝓛 (lends_value K.row V.row S.row V.Cfg.row K.Key self.entry key.now result) }
+        ensures* writes_back { sem 𝓛 (lends_value K.row V.row S.row V.Cfg.row K.Key
+            self.entry key.now result) }
         ensures value { option_copied_mut result ≡ value_at K.cmp (shown self.old).entries key.now }
     {
         if self.entries.contains_key(key) {
@@ -146,13 +153,8 @@ impl<K: Key, V: Codec, S: Seal> Metadata<K, V, S> {
     /// Keeps the entries for which the test answers true. Where it drops one, that is a change. It takes no memory.
     pub fn retain<F: Fn(&K, &V) -> bool + Drop>(&mut self, keep: F)
         requires { F.IsAlwaysCallable keep }
-        ensures kept { Retained (AnswersAt F.Fn keep) (shown self.old).entries (shown self.new).entries }
-        ensures same { shown self.new ≡ record (shown self.old) { entries = (shown self.new).entries; staged = (shown self.new).staged } }
-        ensures staged { (shown self.new).staged ≡ ((shown self.old).staged || nat_lt (length (shown self.new).entries) (length (shown self.old).entries)) }
-        ensures stands { (synced : List _) (d : Disk) → Stands (format_of K.cmp K.key_bytes V.Codec S.Seal self.old.codec_config) (shown self.old) synced d → Stands (format_of K.cmp K.key_bytes V.Codec S.Seal self.old.codec_config) (shown self.new) synced d }
-        ensures unchanged { length (shown self.new).entries ≡ length (shown self.old).entries → (shown self.new).entries ≡ (shown self.old).entries }
-        ensures storable { MayBeSynced (format_of K.cmp K.key_bytes V.Codec S.Seal self.old.codec_config) (shown self.old).entries → MayBeSynced (format_of K.cmp K.key_bytes V.Codec S.Seal self.old.codec_config) (shown self.new).entries }
-        ensures config { self.new.codec_config ≡ self.old.codec_config }
+        ensures { Retains (format_of K.cmp K.key_bytes V.Codec S.Seal) (seen self.old) (seen self.new)
+            (AnswersAt F.Fn keep) }
     {
         let before = self.entries.len();
         let test = |key: &K, value: &mut V| -> bool
@@ -164,5 +166,15 @@ impl<K: Key, V: Codec, S: Seal> Metadata<K, V, S> {
         if self.entries.len() < before {
             self.staged = true;
         }
+    }
+
+    /// Sets the floor, which is a change also where it stays the same. It takes no memory.
+    pub fn set_floor(&mut self, floor: u64)
+        requires { (shown self.old).floor ≤ floor }
+        ensures { SetsFloor (format_of K.cmp K.key_bytes V.Codec S.Seal) (seen self.old) (seen self.new)
+            floor }
+    {
+        self.floor = floor;
+        self.staged = true;
     }
 }

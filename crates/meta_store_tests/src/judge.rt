@@ -17,19 +17,31 @@ pub fn entries(alloc: Global, map: &Map) -> Result<Entries, AllocError> {
     Ok(entries)
 }
 
+/// A floor and entries, in plain text.
+fn text_with(alloc: Global, floor: u64, entries: &str) -> Result<String, AllocError> {
+    match floor {
+        0 => format!(in alloc; ": {entries}"),
+        _ => format!(in alloc; ", floor {floor}: {entries}"),
+    }
+}
+
 /// What the image holds. Where the map opens as anything else, that is told too.
 pub fn judged(alloc: Global, image: &Image) -> Result<String, DevError> {
     let plain = reading(alloc, image)?;
     let mut dev = Memory::from_image(alloc, image.copy(alloc)?)?;
     let held = match opened(alloc, &mut dev) {
-        Ok(map) => text_of(alloc, &entries(alloc, &map)?)?,
-        Err(e) => error_text(alloc, e)?,
+        Ok(map) => {
+            let entries = text_of(alloc, &entries(alloc, &map)?)?;
+            text_with(alloc, map.floor(), entries.as_str())?
+        }
+        Err(e) => text_with(alloc, 0, error_text(alloc, e)?.as_str())?,
     };
+    let wanted = text_with(alloc, plain.floor, plain.entries.as_str())?;
     let mut said = match plain.version {
-        Some(version) => format!(in alloc; "version {version}: {}", plain.entries.as_str())?,
+        Some(version) => format!(in alloc; "version {version}{}", wanted.as_str())?,
         None => plain.entries.clone()?,
     };
-    if held.as_str() != plain.entries.as_str() {
+    if held.as_str() != wanted.as_str() {
         write!(&mut said, ", but it opens as {}", held.as_str())?;
     }
     Ok(said)

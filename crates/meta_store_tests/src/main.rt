@@ -23,7 +23,8 @@
 //! | `open`, `close` | opens the map, gives it up |
 //! | `put K V`, `change K V` | stages a value; changes one in place |
 //! | `keep-below V` | drops the entries whose values are V or more |
-//! | `get K`, `entries` | a value, all entries |
+//! | `get K`, `entries`, `floor` | a value, all entries, the floor |
+//! | `set-floor N` | stages a floor |
 //! | `sync`, `start-sync`, `put-sync K V` | makes what is staged durable |
 //! | `destroy` | removes the map |
 //! | `errors` | the words for the errors |

@@ -11,7 +11,15 @@ pub type Entries = Vec<(u64, u64)>;
 enum Text {
     Absent,
     Refused,
-    Whole(u64, Entries),
+    Whole(Copy),
+}
+
+/// A copy of a map.
+#[derive(Drop)]
+struct Copy {
+    version: u64,
+    floor: u64,
+    entries: Entries,
 }
 
 /// What an image holds.
@@ -19,6 +27,8 @@ enum Text {
 pub struct Held {
     /// The version of the newer copy; none where there is no copy, or one is refused.
     pub version: Option<u64>,
+    /// Its floor, or 0.
+    pub floor: u64,
     /// The entries, or why there are none to be had.
     pub entries: String,
 }
@@ -45,12 +55,12 @@ pub fn text_of(alloc: Global, entries: &[(u64, u64)]) -> Result<String, AllocErr
     Ok(text)
 }
 
-/// The entries that a body of this form spells: a count, and entries whose keys ascend.
-fn entries_in(alloc: Global, form: u64, body: &[u8]) -> Result<Option<Entries>, AllocError> {
+/// The entries that a body spells: a count, and entries whose keys ascend.
+fn entries_in(alloc: Global, body: &[u8]) -> Result<Option<Entries>, AllocError> {
     let spelled = body.get(8..).unwrap_or(b"");
     let count = spelled.len() as u64 / 20;
     let whole = body.len() >= 8 && spelled.len() % 20 == 0 && count == number(body.get(0..8));
-    if form != 1 || !whole {
+    if !whole {
         return Ok(None);
     }
     let mut entries: Entries = Vec::new(alloc);
@@ -70,19 +80,31 @@ fn entries_in(alloc: Global, form: u64, body: &[u8]) -> Result<Option<Entries>, 
 
 /// How these bytes read: a version, a form, the body's length, the body, and a seal over it all.
 fn text_in(alloc: Global, bytes: &[u8]) -> Result<Text, AllocError> {
-    let end = number(bytes.get(9..17)).saturating_add(17);
+    let form = number(bytes.get(8..9));
+    let start = if form == 2 { 25_usize } else { 17_usize };
+    let end = number(bytes.get(start.saturating_sub(8)..start)).saturating_add(start as u64);
     let behind = end.saturating_add(4);
-    if bytes.len() < 21 || behind > bytes.len() as u64 {
+    if bytes.len() < start || behind > bytes.len() as u64 {
         return Ok(Text::Absent);
     }
     let head = bytes.get(..end as usize).unwrap_or(b"");
     if u64::from(Sha256Seal::seal(head)) != number(bytes.get(end as usize..behind as usize)) {
         return Ok(Text::Absent);
     }
-    let body = head.get(17..).unwrap_or(b"");
-    match entries_in(alloc, number(head.get(8..9)), body)? {
-        Some(entries) => Ok(Text::Whole(number(head.get(0..8)), entries)),
-        None => Ok(Text::Refused),
+    let version = number(head.get(0..8));
+    let floor = if form == 2 {
+        number(head.get(9..17))
+    } else {
+        0
+    };
+    let known = form == 1 || floor > 0;
+    match entries_in(alloc, head.get(start..).unwrap_or(b""))? {
+        Some(entries) if known => Ok(Text::Whole(Copy {
+            version,
+            floor,
+            entries,
+        })),
+        _ => Ok(Text::Refused),
     }
 }
 
@@ -90,26 +112,27 @@ fn text_in(alloc: Global, bytes: &[u8]) -> Result<Text, AllocError> {
 pub fn reading(alloc: Global, image: &Image) -> Result<Held, AllocError> {
     let left = text_in(alloc, image.blob("p", b"left").unwrap_or(b""))?;
     let right = text_in(alloc, image.blob("p", b"right").unwrap_or(b""))?;
-    let (version, entries) = match (left, right) {
+    let newer = match (left, right) {
         (Text::Refused, _) => return refused(alloc, "corruption left"),
         (_, Text::Refused) => return refused(alloc, "corruption right"),
         (Text::Absent, Text::Absent) => return refused(alloc, "no entry"),
-        (Text::Whole(version, entries), Text::Absent) => (version, entries),
-        (Text::Absent, Text::Whole(version, entries)) => (version, entries),
-        (Text::Whole(left, entries), Text::Whole(right, others)) => {
-            if left == right {
+        (Text::Whole(copy), Text::Absent) => copy,
+        (Text::Absent, Text::Whole(copy)) => copy,
+        (Text::Whole(left), Text::Whole(right)) => {
+            if left.version == right.version {
                 return refused(alloc, "corruption right");
             }
-            if left < right {
-                (right, others)
+            if left.version < right.version {
+                right
             } else {
-                (left, entries)
+                left
             }
         }
     };
     Ok(Held {
-        version: Some(version),
-        entries: text_of(alloc, &entries)?,
+        version: Some(newer.version),
+        floor: newer.floor,
+        entries: text_of(alloc, &newer.entries)?,
     })
 }
 
@@ -117,6 +140,7 @@ pub fn reading(alloc: Global, image: &Image) -> Result<Held, AllocError> {
 fn refused(alloc: Global, why: &str) -> Result<Held, AllocError> {
     Ok(Held {
         version: None,
+        floor: 0,
         entries: String::from_str(alloc, why)?,
     })
 }

@@ -21,7 +21,8 @@ pub fn opened(alloc: Global, dev: &mut Memory) -> Result<Map, Error>
         partition: String::from_str(alloc, "p")?,
         codec_config: (),
     };
-    Metadata::init(alloc, dev, &config)
+    let map = Metadata::init(alloc, dev, &config)?;
+    Ok(map)
 }
 
 /// Carries out the steps over this device. With `ends_at_fault` a run ends where the device fails.

@@ -136,25 +136,73 @@ pub fn stage(alloc: Global, map: Map, step: &Step) -> Result<(Map, String), DevE
     ensures storable { IfOk result (λ r. MayBeSynced map_format (shown r.0).entries) }
     ensures partition { IfOk result (λ r. (shown r.0).partition ≡ (shown map).partition) }
 {
-    let mut map = map;
-    let said = match (step.word(), step.number(0), step.number(1)) {
-        ("put", Some(at), Some(value)) => match map.put(key(at), value) {
-            Ok(()) => String::from_str(alloc, "ok")?,
-            Err(e) => error_text(alloc, e)?,
-        },
-        ("change", Some(at), Some(value)) => return changed(alloc, map, &key(at), value),
-        ("keep-below", Some(bound), _) => {
-            map.retain(|_, value| *value < bound);
-            String::from_str(alloc, "ok")?
+    match (step.word(), step.number(0), step.number(1)) {
+        ("put", Some(at), Some(value)) => put(alloc, map, at, value),
+        ("change", Some(at), Some(value)) => changed(alloc, map, &key(at), value),
+        ("keep-below", Some(bound), _) => kept(alloc, map, bound),
+        ("set-floor", Some(floor), _) => floored(alloc, map, floor),
+        _ => {
+            let said = read(alloc, &map, step)?;
+            Ok((map, said))
         }
-        ("get", Some(at), _) => match map.get(&key(at)) {
+    }
+}
+
+/// Carries out a step that reads the map.
+fn read(alloc: Global, map: &Map, step: &Step) -> Result<String, DevError> {
+    let said = match (step.word(), step.number(0)) {
+        ("get", Some(at)) => match map.get(&key(at)) {
             Some(value) => format!(in alloc; "{value}")?,
             None => String::from_str(alloc, "none")?,
         },
-        ("entries", _, _) => text_of(alloc, &entries(alloc, &map)?)?,
+        ("floor", _) => format!(in alloc; "{}", map.floor())?,
+        ("entries", _) => text_of(alloc, &entries(alloc, map)?)?,
         _ => String::from_str(alloc, "refused: no such command")?,
     };
+    Ok(said)
+}
+
+/// The map with this value put.
+fn put(alloc: Global, map: Map, at: u64, value: u64) -> Result<(Map, String), DevError>
+    requires { MayBeSynced map_format (shown map).entries }
+    ensures storable { IfOk result (λ r. MayBeSynced map_format (shown r.0).entries) }
+    ensures partition { IfOk result (λ r. (shown r.0).partition ≡ (shown map).partition) }
+{
+    let mut map = map;
+    let done = map.put(key(at), value);
+    let said = match done {
+        Ok(()) => String::from_str(alloc, "ok")?,
+        Err(e) => error_text(alloc, e)?,
+    };
     Ok((map, said))
+}
+
+/// The map without the entries whose values are at or above the bound.
+fn kept(alloc: Global, map: Map, bound: u64) -> Result<(Map, String), DevError>
+    requires { MayBeSynced map_format (shown map).entries }
+    ensures storable { IfOk result (λ r. MayBeSynced map_format (shown r.0).entries) }
+    ensures partition { IfOk result (λ r. (shown r.0).partition ≡ (shown map).partition) }
+{
+    let mut map = map;
+    map.retain(|_, value| *value < bound);
+    Ok((map, String::from_str(alloc, "ok")?))
+}
+
+/// The map with this floor, where that does not fall.
+fn floored(alloc: Global, map: Map, floor: u64) -> Result<(Map, String), DevError>
+    requires { MayBeSynced map_format (shown map).entries }
+    ensures storable { IfOk result (λ r. MayBeSynced map_format (shown r.0).entries) }
+    ensures partition { IfOk result (λ r. (shown r.0).partition ≡ (shown map).partition) }
+{
+    if floor < map.floor() {
+        return Ok((
+            map,
+            String::from_str(alloc, "refused: a floor does not fall")?,
+        ));
+    }
+    let mut map = map;
+    map.set_floor(floor);
+    Ok((map, String::from_str(alloc, "ok")?))
 }
 
 /// The map with this value in place at the key, where it has the key.
@@ -183,6 +231,25 @@ fn put_at_once(dev: &mut Memory, map: Map, at: u64, value: u64) -> Result<Map, E
     Ok(map)
 }
 
+/// Makes what is staged durable.
+fn sync(dev: &mut Memory, map: Map) -> Result<Map, Error>
+    requires { IsOver map dev.old }
+    ensures { IfOk result (λ m. IsOver m dev.new) }
+{
+    let map = map.sync(dev)?;
+    Ok(map)
+}
+
+/// As that, with the handle waited for.
+fn start(dev: &mut Memory, map: Map) -> Result<Map, Error>
+    requires { IsOver map dev.old }
+    ensures { IfOk result (λ m. IsOver m dev.new) }
+{
+    let (map, handle) = map.start_sync(dev)?;
+    handle.wait();
+    Ok(map)
+}
+
 /// Carries out a step that ends with the map on the device, or gives it up.
 pub fn settle(
     alloc: Global,
@@ -194,15 +261,9 @@ pub fn settle(
     ensures { IfOk result (λ r. IfSome r.0 (λ m. IsOver m dev.new)) }
 {
     match (step.word(), step.number(0), step.number(1)) {
-        ("sync", _, _) => told(alloc, map.sync(dev)),
+        ("sync", _, _) => told(alloc, sync(dev, map)),
         ("put-sync", Some(at), Some(value)) => told(alloc, put_at_once(dev, map, at, value)),
-        ("start-sync", _, _) => match map.start_sync(dev) {
-            Ok((map, handle)) => {
-                handle.wait();
-                told(alloc, Ok(map))
-            }
-            Err(e) => told(alloc, Err(e)),
-        },
+        ("start-sync", _, _) => told(alloc, start(dev, map)),
         ("destroy", _, _) => match map.destroy(dev) {
             Ok(()) => Ok((None, String::from_str(alloc, "ok")?)),
             Err(e) => told(alloc, Err(e)),

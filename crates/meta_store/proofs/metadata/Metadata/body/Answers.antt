@@ -19,12 +19,10 @@ entries-init g c =
 
 pub write_entry-requires : goal.write_entry-requires
 write_entry-requires g c =
-    let f = format_of g.K.Ord.cmp g.K.Key.key_bytes g.V.Codec g.S.Seal c.args.self.now.codec_config in
-    (subst (AllByRecursion (λ e. IsStorable f e.1)) c.in-Some.ensures.steps c.entries.invariant.storable).0.fits
+    (subst (AllByRecursion (λ e. IsStorable _ e.1)) c.in-Some.ensures.steps c.entries.invariant.storable).0.fits
 
 pub entries-preserved : goal.entries-preserved
 entries-preserved g c =
-    let f = format_of g.K.Ord.cmp g.K.Key.key_bytes g.V.Codec g.S.Seal c.args.self.now.codec_config in
     let k = c.in-Some.key.now in
     let v = c.in-Some.value.now in
     record {
@@ -32,7 +30,7 @@ entries-preserved g c =
           ∙ append_assoc c.entries.body.items (entry_bytes g.K.Key.key_bytes g.V.Codec.spelling (k, v)) (entries_bytes g.K.Key.key_bytes g.V.Codec.spelling c.next.new.self)
           ∙ ap (λ (l : List (g.row.K.Denot × g.row.V.Denot)). c.entries.body.items ++ entries_bytes g.K.Key.key_bytes g.V.Codec.spelling l) (sym c.in-Some.ensures.steps)
           ∙ c.entries.invariant.written;
-      storable = (subst (AllByRecursion (λ e. IsStorable f e.1)) c.in-Some.ensures.steps c.entries.invariant.storable).1;
+      storable = (subst (AllByRecursion (λ e. IsStorable _ e.1)) c.in-Some.ensures.steps c.entries.invariant.storable).1;
     }
 
 pub returns-clause-body : goal.returns-clause-body

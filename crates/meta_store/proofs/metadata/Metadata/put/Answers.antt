@@ -1,11 +1,15 @@
-use Rattle.std.proofs.Common.{sym, subst}
-use Rattle.std.specs.List.{AllByRecursion}
+use Rattle.std.proofs.Common.{ap}
+use Rattle.blob_device.proofs.Results.{err_of}
 use Rattle.meta_store.specs.Format.{format_of}
-use Rattle.meta_store.specs.Copies.{IsStorable}
-use Rattle.meta_store.proofs.Inserting.{all_inserted}
+use Rattle.meta_store.specs.Store.{seen, shown}
+use Rattle.meta_store.proofs.StagingLemmas.{has_put, put_failed}
 use Rattle.meta_store.proofs.metadata.Metadata.put.Goals as goal
 
-pub returns-clause-storable : goal.returns-clause-storable
-returns-clause-storable g c all new =
-    let f = format_of g.K.Ord.cmp g.K.Key.key_bytes g.V.Codec g.S.Seal c.args.self.now.codec_config in
-    subst (AllByRecursion (λ e. IsStorable f e.1)) (sym c.in_ok-insert.ensures.entries) (all_inserted g.K.Ord.cmp (IsStorable f) c.args.self.now.entries.entries c.args.key c.args.value all new)
+pub returns-in_err-insert : goal.returns-in_err-insert
+returns-in_err-insert g c =
+    put_failed (format_of g.K.Ord.cmp g.K.Key.key_bytes g.V.Codec g.S.Seal) (seen c.args.self.now) _ c.args.key c.args.value _ (err_of _ _ c.from_residual.ensures.1)
+    (ap (λ es. record (seen c.args.self.now) { store = record (shown c.args.self.now) { entries = es } }) c.in_err-insert.ensures.err)
+
+pub returns : goal.returns
+returns g c =
+    has_put (format_of g.K.Ord.cmp g.K.Key.key_bytes g.V.Codec g.S.Seal) (seen c.args.self.now) c.args.key c.args.value c.insert.new.self.entries c.in_ok-insert.ensures.entries c.in_ok-insert.ensures.updates.0

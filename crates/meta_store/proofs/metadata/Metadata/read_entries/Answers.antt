@@ -44,8 +44,7 @@ read_next f count bytes items entries at found only all on more =
 
 pub returns-in_default-clause-only : goal.returns-in_default-clause-only
 returns-in_default-clause-only g c entries all =
-    let f = format_of g.K.Ord.cmp g.K.Key.key_bytes g.V.Codec g.S.Seal c.args.cfg in
-    let next = read_next f c.args.count c.args.bytes.now c.entries.items.items entries c.entries.at c.in_ok-entry.field-0 c.in_ok-entry.ensures.only all (c.entries.invariant.goes_on entries all)
+    let next = read_next _ c.args.count c.args.bytes.now c.entries.items.items entries c.entries.at c.in_ok-entry.field-0 c.in_ok-entry.ensures.only all (c.entries.invariant.goes_on entries all)
     (omega (arith, c.entries.invariant.number, c.entries-test.true)) in
     absurd (cc (c.in_default.is, next.1))
 
@@ -54,8 +53,7 @@ is_next-requires g c = subst (λ (items : List (g.row.K.Denot × g.row.V.Denot))
 
 pub returns-then-not-is_next-clause-only : goal.returns-then-not-is_next-clause-only
 returns-then-not-is_next-clause-only g c entries all =
-    let f = format_of g.K.Ord.cmp g.K.Key.key_bytes g.V.Codec g.S.Seal c.args.cfg in
-    let next = read_next f c.args.count c.args.bytes.now c.entries.items.items entries c.entries.at c.in_ok-entry.field-0 c.in_ok-entry.ensures.only all (c.entries.invariant.goes_on entries all)
+    let next = read_next _ c.args.count c.args.bytes.now c.entries.items.items entries c.entries.at c.in_ok-entry.field-0 c.in_ok-entry.ensures.only all (c.entries.invariant.goes_on entries all)
     (omega (arith, c.entries.invariant.number, c.entries-test.true)) in
     let same : c.in-Some.entry ≡ record { key = next.0.entry.0; value = next.0.entry.1; len = length (entry_bytes g.K.Key.key_bytes g.V.Codec.spelling next.0.entry) } = cc (c.in-Some.is, next.1) in
     let sorted : IsStrictlySortedBy g.K.Ord.cmp (keys_of c.deref.result.now ++ c.in-Some.entry.key ∷ []) =
@@ -94,15 +92,13 @@ entries-preserved g c =
 
 pub returns-then-at-bytes-clause-only : goal.returns-then-at-bytes-clause-only
 returns-then-at-bytes-clause-only g c entries all =
-    let f = format_of g.K.Ord.cmp g.K.Key.key_bytes g.V.Codec g.S.Seal c.args.cfg in
     let full : length c.entries.items.items ≡ c.args.count = omega (arith, c.entries.invariant.number, c.entries-test.false, c.entries.auto.counter-end) in
-    absurd (none_behind f c.args.count c.args.bytes.now c.entries.items.items entries c.entries.at all full (c.entries.invariant.goes_on entries all) c.if-at-bytes.true)
+    absurd (none_behind _ c.args.count c.args.bytes.now c.entries.items.items entries c.entries.at all full (c.entries.invariant.goes_on entries all) c.if-at-bytes.true)
 
 pub returns-clause-read : goal.returns-clause-read
 returns-clause-read g c =
-    let f = format_of g.K.Ord.cmp g.K.Key.key_bytes g.V.Codec g.S.Seal c.args.cfg in
     let end : c.args.count ≡ c.entries.counter = omega (arith, c.entries-test.false, c.entries.auto.counter-end) in
-    subst (IsEntries f c.args.count c.args.bytes.now) (sym c.from_vec.ensures) (record {
+    subst (IsEntries _ c.args.count c.args.bytes.now) (sym c.from_vec.ensures) (record {
       number = c.entries.invariant.number ∙ sym end;
       spelled = sym (take_all c.entries.at c.args.bytes.now c.if-at-bytes.false) ∙ c.entries.invariant.front;
       ascending = c.entries.invariant.ascending;
@@ -111,6 +107,5 @@ returns-clause-read g c =
 
 pub returns-clause-only : goal.returns-clause-only
 returns-clause-only g c entries all =
-    let f = format_of g.K.Ord.cmp g.K.Key.key_bytes g.V.Codec g.S.Seal c.args.cfg in
     let full : length c.entries.items.items ≡ c.args.count = omega (arith, c.entries.invariant.number, c.entries-test.false, c.entries.auto.counter-end) in
-    ap (λ (l : List (g.row.K.Denot × g.row.V.Denot)). Some l) (c.from_vec.ensures ∙ all_read f c.args.count c.args.bytes.now c.entries.items.items entries c.entries.at all full (c.entries.invariant.goes_on entries all))
+    ap (λ (l : List (g.row.K.Denot × g.row.V.Denot)). Some l) (c.from_vec.ensures ∙ all_read _ c.args.count c.args.bytes.now c.entries.items.items entries c.entries.at all full (c.entries.invariant.goes_on entries all))

@@ -1,7 +1,7 @@
 use Rattle.std.proofs.Common.{◌≡◌, ◌∙◌, ℕ, ◌+◌, ◌-◌, List, Some, length, take, drop, sym, ap, arith}
 use Rattle.meta_store.specs.Copies.{entry_bytes}
 use Rattle.value_codec.specs.declared.codec.Error.TheVariants.{Mem}
-use Rattle.meta_store.proofs.EntryTexts.{length-entry, entry_found, part_room, part_key, part_value, part_same_size, not_refused, decoded_same}
+use Rattle.meta_store.proofs.EntryTexts.{length-entry, entry_found, part_room, part_key, part_spelled, part_same_size, not_refused, decoded_same}
 use Rattle.meta_store.proofs.metadata.Metadata.read_entry.Goals as goal
 
 pub returns-then-bytes-head-clause-only : goal.returns-then-bytes-head-clause-only
@@ -25,17 +25,13 @@ returns-in-Ok-clause-read g c =
 
 pub returns-in-Ok-clause-only : goal.returns-in-Ok-clause-only
 returns-in-Ok-clause-only g c key value rest storable is =
-    let bytes = c.args.bytes.now in
-    let e : c.SIZE.result ≡ c.SIZE-head.result = c.SIZE.ensures ∙ sym c.SIZE-head.ensures in
     let n = c.SIZE-head.result in
     let sized = g.met.K.Key.sized key ∙ sym c.SIZE-head.ensures in
-    let size = part_same_size g.K.Key.key_bytes g.V.Codec.spelling bytes rest key value c.SIZE.result (g.met.K.Key.sized key ∙ sym c.SIZE.ensures) is c.u32_at-size.result c.u32_at-size.type_inv storable.fits c.u32_at-size.ensures in
+    let size = part_same_size g.K.Key.key_bytes g.V.Codec.spelling c.args.bytes.now rest key value c.SIZE.result (g.met.K.Key.sized key ∙ sym c.SIZE.ensures) is c.u32_at-size.result c.u32_at-size.type_inv storable.fits c.u32_at-size.ensures in
     let same_key : c.in-Some.key ≡ key = g.met.K.Key.one_key c.in-Some.key key
-    (c.in-Some.ensures.same ∙ part_key g.K.Key.key_bytes g.V.Codec.spelling bytes rest key value c.SIZE-2.result (g.met.K.Key.sized key ∙ sym c.SIZE-2.ensures) is) in
-    let spelled : g.V.Codec.spelling value ≡ take (n + 4 + c.u32_at-size.result - (n + 4)) (drop (n + 4) bytes) =
-    sym (part_value g.K.Key.key_bytes g.V.Codec.spelling bytes rest key value n sized is)
-    ∙ (let m : length (g.V.Codec.spelling value) ≡ n + 4 + c.u32_at-size.result - (n + 4) = omega (arith, size) in ap (λ (x : ℕ). take x (drop (n + 4) bytes)) m) in
-    let same_value : c.in-Ok.value ≡ value = decoded_same c.decode_cfg.result value c.in-Ok.value Mem c.in-Ok.is (c.decode_cfg.ensures.gives value storable.accepted spelled) in
+    (c.in-Some.ensures.same ∙ part_key g.K.Key.key_bytes g.V.Codec.spelling c.args.bytes.now rest key value c.SIZE-2.result (g.met.K.Key.sized key ∙ sym c.SIZE-2.ensures) is) in
+    let same_value : c.in-Ok.value ≡ value = decoded_same c.decode_cfg.result value c.in-Ok.value Mem c.in-Ok.is
+    (c.decode_cfg.ensures.gives value storable.accepted (part_spelled g.K.Key.key_bytes g.V.Codec.spelling c.args.bytes.now rest key value n sized is c.u32_at-size.result size)) in
     let same_len : n + 4 + c.u32_at-size.result ≡ length (entry_bytes g.K.Key.key_bytes g.V.Codec.spelling (key, value)) =
     omega (arith, size, sized, length-entry g.K.Key.key_bytes g.V.Codec.spelling (key, value)) in
     λ i. Some (record { key = same_key i; value = same_value i; len = same_len i })
@@ -46,13 +42,8 @@ returns-in_default-e g c = record {
   within = tt;
   storable = tt;
   only = λ key value rest storable is.
-      let bytes = c.args.bytes.now in
-      let n = c.SIZE-head.result in
-      let sized = g.met.K.Key.sized key ∙ sym c.SIZE-head.ensures in
-      let size = part_same_size g.K.Key.key_bytes g.V.Codec.spelling bytes rest key value c.SIZE.result (g.met.K.Key.sized key ∙ sym c.SIZE.ensures) is c.u32_at-size.result c.u32_at-size.type_inv storable.fits c.u32_at-size.ensures in
-      let spelled : g.V.Codec.spelling value ≡ take (n + 4 + c.u32_at-size.result - (n + 4)) (drop (n + 4) bytes) =
-      sym (part_value g.K.Key.key_bytes g.V.Codec.spelling bytes rest key value n sized is)
-      ∙ (let m : length (g.V.Codec.spelling value) ≡ n + 4 + c.u32_at-size.result - (n + 4) = omega (arith, size) in ap (λ (x : ℕ). take x (drop (n + 4) bytes)) m) in
-      absurd (not_refused c.decode_cfg.result value c.in-Err.e Mem c.in-Err.is c.in_default-e.not-Mem (c.decode_cfg.ensures.gives value storable.accepted spelled));
+      let size = part_same_size g.K.Key.key_bytes g.V.Codec.spelling c.args.bytes.now rest key value c.SIZE.result (g.met.K.Key.sized key ∙ sym c.SIZE.ensures) is c.u32_at-size.result c.u32_at-size.type_inv storable.fits c.u32_at-size.ensures in
+      absurd (not_refused c.decode_cfg.result value c.in-Err.e Mem c.in-Err.is c.in_default-e.not-Mem
+      (c.decode_cfg.ensures.gives value storable.accepted (part_spelled g.K.Key.key_bytes g.V.Codec.spelling c.args.bytes.now rest key value c.SIZE-head.result (g.met.K.Key.sized key ∙ sym c.SIZE-head.ensures) is c.u32_at-size.result size)));
   memory = tt;
 }
