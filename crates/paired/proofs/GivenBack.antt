@@ -11,7 +11,7 @@ use Rattle.segments.specs.Sections.{Sections, IsOver}
 use Rattle.segments.specs.Setting.{Setting}
 use Rattle.value_codec.specs.declared.key.Key8.{Key8}
 use Rattle.meta_store.specs.Calls.{IsOpened}
-use Rattle.meta_store.specs.Store.{Store, Stands, MayBeSynced}
+use Rattle.meta_store.specs.Store.{Store, Stands, MayBeSynced, contents_of}
 use Rattle.paired.specs.GlobSections.{IsGlob}
 use Rattle.paired.specs.Pair.{Pair, IsPair}
 use Rattle.paired.specs.Replaying.{Run, IsRun, GivesBack}
@@ -42,6 +42,6 @@ given_back {F} {S} {gs} {g} {gives} {h} {takes} {told} run p opened d seal size 
   storable = subst (λ (u : Store Key8 ℕ). MayBeSynced p.layout.markers u.entries) (sym back.store) (subst (λ f. MayBeSynced f run.store.entries) (sym markers) over.storable);
   synced = ap (λ (u : Store Key8 ℕ). u.staged) back.store ∙ over.synced;
   disk = λ t. record {
-    markers = subst (λ (u : Store Key8 ℕ). Stands p.layout.markers u u.entries d) (sym back.store) (subst (λ f. Stands f run.store run.store.entries d) (sym markers) (over.markers t));
+    markers = subst (λ (u : Store Key8 ℕ). Stands p.layout.markers u (contents_of u) d) (sym back.store) (subst (λ f. Stands f run.store (contents_of run.store) d) (sym markers) (over.markers t));
   };
 }

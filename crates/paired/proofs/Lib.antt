@@ -1,3 +1,6 @@
+pub mod TrackingSynced
+pub mod TrackingOpened
+pub mod MarkerCopies
 pub mod FailLemmas
 pub mod FrameLemmas
 pub mod GlobLemmas

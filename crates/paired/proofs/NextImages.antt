@@ -30,7 +30,7 @@ use Rattle.meta_store.specs.Blobs.{blob_of, bytes_of}
 use Rattle.meta_store.specs.Crashes as metadata
 use Rattle.meta_store.specs.declared.error.Side.{Side}
 use Rattle.meta_store.specs.declared.error.Side.TheVariants.{Left, Right}
-use Rattle.meta_store.specs.Pairs.{HoldMap}
+use Rattle.paired.specs.MarkerCopies.{HoldsMarkers}
 use Rattle.meta_store.proofs.Leaving.{settled_content}
 use Rattle.paired.specs.Crashes.{IsIndexOf, WasThere}
 use Rattle.paired.specs.Kept.{Layout, Markers, content_at, stored_records, is_sound_in, kept}
@@ -128,8 +128,8 @@ module _ (l : Layout) (pos : 1 ≤ l.record_size) (apart : AreApart l) (from d :
   pub lawful_on : (markers : Markers) → IsLawful l (as_read from) markers → IsLawful l (as_read d) markers
   lawful_on markers lawful = record {
     names = record { index = λ name is. lawful.names.index name (there_back (l.index, name) is); values = λ name is. lawful.names.values name (there_back (l.values, name) is) };
-    held = subst (λ (b : Blob). HoldMap l.markers (bytes_of (reads b)) (bytes_of (as_read d (blob_of l.metadata Right))) markers) (sym (copy_blob Left))
-        (subst (λ (b : Blob). HoldMap l.markers (bytes_of (as_read from (blob_of l.metadata Left))) (bytes_of (reads b)) markers) (sym (copy_blob Right)) lawful.held);
+    held = subst (λ (b : Blob). HoldsMarkers l.markers (bytes_of (reads b)) (bytes_of (as_read d (blob_of l.metadata Right))) markers) (sym (copy_blob Left))
+        (subst (λ (b : Blob). HoldsMarkers l.markers (bytes_of (as_read from (blob_of l.metadata Left))) (bytes_of (reads b)) markers) (sym (copy_blob Right)) lawful.held);
     true_markers = λ s m is. (let was = lawful.true_markers s m is in record {
       index_blob = there_on s is.0 was.index_blob;
       enough = subst (λ (rs : List (List ℕ)). m ≤ length rs) (sym (stored_same s is.0)) was.enough;

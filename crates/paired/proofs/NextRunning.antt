@@ -35,6 +35,7 @@ use Rattle.paired.proofs.PairRemoving.{opened_stays}
 use Rattle.paired.proofs.PairSections.{other_partition}
 use Rattle.paired.proofs.PairSynced.{Here, store_stays}
 use Rattle.paired.proofs.RecordLemmas.{records-front, records-enough, length-records}
+use Rattle.meta_store.specs.Store.{contents_of}
 
 -- the run with another walk, other ends, and another end of its errors
 abbrev pub moved : {F B : Type 0} → Run F B → Walk F B → (ℕ → Option ℕ) → Option ℕ → Bool → Run F B
@@ -229,7 +230,7 @@ module _ {F S : Type 0} {gs : _} (g : buffer.Ghosts (PageBlob S gs)) (gives : F 
         metadata_opened = opened_stays run.store.partition before opened copies was.metadata_opened;
         storable = was.storable;
         synced = was.synced;
-        markers = λ t. store_stays run.layout.markers run.store run.store.entries (disk a) (disk c) (copies_same t) (was.markers t);
+        markers = λ t. store_stays run.layout.markers run.store (contents_of run.store) (disk a) (disk c) (copies_same t) (was.markers t);
         opening = opening_after;
         live = live_after;
       }

@@ -15,7 +15,7 @@ use Rattle.segments.specs.Sections.{section_key}
 use Rattle.meta_store.specs.declared.error.Side.{Side}
 use Rattle.meta_store.specs.declared.error.Side.TheVariants.{Left, Right}
 use Rattle.meta_store.specs.Blobs.{blob_of, bytes_of}
-use Rattle.meta_store.specs.Pairs.{HoldMap}
+use Rattle.paired.specs.MarkerCopies.{HoldsMarkers}
 use Rattle.paired.specs.Crashes.{Keeps}
 use Rattle.paired.specs.Kept.{Layout, Markers, IsMarked, marker_of, content_at, stored_records, is_sound_in, kept, IsTrueMarker}
 use Rattle.paired.specs.Opening.{AreNamed, IsInPlace, IsLawful, Relation, IsOrder, Same, Front, UpTo, KeepsBy}
@@ -340,8 +340,8 @@ module _ (l : Layout) (Rel : Relation) (order : IsOrder Rel) (old image : Image)
     markers = markers;
     lawful = record {
       names = names;
-      held = subst (λ (o : Option (List ℕ)). HoldMap l.markers (bytes_of o) (bytes_of (image (blob_of l.metadata Right))) markers) (sym (copies Left))
-          (subst (λ (o : Option (List ℕ)). HoldMap l.markers (bytes_of (old (blob_of l.metadata Left))) (bytes_of o) markers) (sym (copies Right)) lawful.held);
+      held = subst (λ (o : Option (List ℕ)). HoldsMarkers l.markers (bytes_of o) (bytes_of (image (blob_of l.metadata Right))) markers) (sym (copies Left))
+          (subst (λ (o : Option (List ℕ)). HoldsMarkers l.markers (bytes_of (old (blob_of l.metadata Left))) (bytes_of o) markers) (sym (copies Right)) lawful.held);
       true_markers = λ s m is. (each s is.0).marked m is (lawful.true_markers s m is);
       places = λ s small. places_first s (each s small).stored (lawful.places s small);
     };

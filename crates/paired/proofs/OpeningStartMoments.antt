@@ -22,6 +22,7 @@ use Rattle.paired.specs.Opening.{as_read, IsLawful, MayBeOpened, OnlyOpens, Reca
 use Rattle.paired.specs.Pair.{AreApart}
 use Rattle.paired.proofs.OpeningStart.{opening_recalls, opening_stays}
 use Rattle.meta_store.proofs.Reopening.{IsPromised}
+use Rattle.meta_store.specs.declared.copy.Contents.{Contents}
 
 module _ (l : Layout) (apart : AreApart l) where
   -- no blob of a section is a copy
@@ -160,7 +161,7 @@ lawful_named l from markers lawful n (inl is) = is.size (lawful.names.index n (t
 lawful_named l from markers lawful n (inr is) = is.size (lawful.names.values n (there_reads (from (l.values, n)) is.there))
 
 -- ---- what stands over the copies
-pub stands_over : {K V : Type 0} (f : Format K V) (u : Store K V) (synced : List (K × V)) (d e : Disk) → ((side : Side) → e (blob_of u.partition side) ≡ d (blob_of u.partition side)) → Stands f u synced d → Stands f u synced e
+pub stands_over : {K V : Type 0} (f : Format K V) (u : Store K V) (synced : Contents K V) (d e : Disk) → ((side : Side) → e (blob_of u.partition side) ≡ d (blob_of u.partition side)) → Stands f u synced d → Stands f u synced e
 stands_over f u synced d e same was = record {
   left = subst (λ (b : Blob). b ≡ settled_at b.content) (sym (same Left)) was.left;
   right = subst (λ (b : Blob). b ≡ settled_at b.content) (sym (same Right)) was.right;

@@ -51,6 +51,7 @@ use Rattle.paired.proofs.PairBlobs.{values_of, opening_bare}
 use Rattle.paired.proofs.PairCalls.{append_values, append_held, append_made}
 use Rattle.paired.proofs.PairFacts.{proven_of, Parts, facts_of, settled_held, not_there, unheld, values_within, good_of, whole_of, few_of, tight_of, no_records_left, holding_of, glob_outlasts}
 use Rattle.paired.proofs.PairMoments.{Stays, keeping_of}
+use Rattle.meta_store.specs.Store.{contents_of}
 
 -- A pair's parts are where its layout says, and its index is made of page blobs under its seal.
 pub record IsLaid {F S : Type 0} {gs : _} (g : buffer.Ghosts (PageBlob S gs)) (gives : F → Setting) (p : Pair F (PageBlob S gs)) : Type 0 where
@@ -572,7 +573,7 @@ module _ {F S : Type 0} {gs : _} {g : buffer.Ghosts (PageBlob S gs)} {gives : F 
         storable = pair.storable;
         synced = pair.synced;
         disk = λ t. record {
-          markers = stands_same p.layout.markers p.store p.store.entries (disk a) (disk c) (copy_blob t Left) (copy_blob t Right) (pair.disk t).markers;
+          markers = stands_same p.layout.markers p.store (contents_of p.store) (disk a) (disk c) (copy_blob t Left) (copy_blob t Right) (pair.disk t).markers;
         };
       }
 

@@ -7,7 +7,7 @@ use Rattle.blob_device.specs.Timeline.{Timeline, disk, Always, OnlyAt}
 use Rattle.blob_device.proofs.Moments.{always_now}
 use Rattle.segments.specs.Lasting.{IsGoing}
 use Rattle.segments.specs.Sections.{section_key}
-use Rattle.meta_store.specs.Crashes as metadata
+use Rattle.paired.specs.MarkerCopies as marker_copies
 use Rattle.paired.specs.Records.{Entry, records}
 use Rattle.paired.specs.Kept.{Layout, Markers, IsMarked}
 use Rattle.paired.specs.Crashes.{IsIndexOf, IsValuesOf, IsCopy, Keeping}
@@ -166,19 +166,19 @@ module _ (l : Layout) (pos : 1 ≤ l.record_size) (values_apart : l.index ≢ l.
 
   -- A sync of markers, at which more may be known to be synced of the lists that are there.
   pub sync_markers : (later : ℕ → Facts) (one first second : Markers) (a b : Timeline) → ((s : ℕ) → AreGood l (later s)) → ((s : ℕ) → list_in l (later s) ≡ list_in l (facts s)) → ((s : ℕ) → (facts s).synced ≤ (later s).synced)
-      → Holding l later Gone one one (disk a) → AreMarked l later (disk a) first → AreMarked l later (disk a) second → ((q : Key) → IsCopy l q → MayTouch q) → metadata.Mapping l.markers l.metadata first second a b → KeepsLists a b
+      → Holding l later Gone one one (disk a) → AreMarked l later (disk a) first → AreMarked l later (disk a) second → ((q : Key) → IsCopy l q → MayTouch q) → marker_copies.Mapping l.markers l.metadata first second a b → KeepsLists a b
   sync_markers later one first second a b later_good same more holding first_marked second_marked touches maps =
       keeping_of l pos later Gone Gone first second MayTouch (λ s. list_in l (facts s)) (λ s. (facts s).synced) a b later_good
       (λ s. ap (take (length (list_in l (later s)))) (sym (same s)) ∙ take-length (list_in l (later s))) more (λ s gone. gone)
-      (copies_phase l values_apart metadata_apart both_apart later Gone one one MayTouch a b holding (metadata.KeepsAlone l.markers l.metadata first second (disk a)) maps first second first_marked second_marked touches (λ d r. r))
+      (copies_phase l values_apart metadata_apart both_apart later Gone one one MayTouch a b holding (marker_copies.KeepsAlone l.markers l.metadata first second (disk a)) maps first second first_marked second_marked touches (λ d r. r))
 
   -- A removal of sections that P names, and of the values of those that W names: first the markers go, then the index blobs, then the value blobs.
   module _ (old new : Markers) (P W : ℕ → Type 0) (decides : (s : ℕ) → P s ⊎ (P s → ⊥)) (decides_values : (s : ℕ) → W s ⊎ (W s → ⊥))
       (copies_touch : (q : Key) → IsCopy l q → MayTouch q) (index_touches : (q : Key) → IsIndexOf l P q → MayTouch q) (values_touches : (q : Key) → IsValuesOf l W q → MayTouch q)
       (gone : (s : ℕ) → P s → Gone s × ((m : ℕ) → IsMarked new s m → ⊥))
-      (a b : Timeline) (holding : Holding l facts Gone old old (disk a)) (still : AreMarked l facts (disk a) new) (maps : metadata.Mapping l.markers l.metadata old new a b) (settled : metadata.Keeps l.markers l.metadata new new (disk b)) where
+      (a b : Timeline) (holding : Holding l facts Gone old old (disk a)) (still : AreMarked l facts (disk a) new) (maps : marker_copies.Mapping l.markers l.metadata old new a b) (settled : marker_copies.Keeps l.markers l.metadata new new (disk b)) where
     unmarking : Always a b (Stays l facts Gone old new MayTouch (disk a))
-    unmarking = copies_phase l values_apart metadata_apart both_apart facts Gone old old MayTouch a b holding (metadata.KeepsAlone l.markers l.metadata old new (disk a)) maps old new holding.one_marked still copies_touch (λ d r. r)
+    unmarking = copies_phase l values_apart metadata_apart both_apart facts Gone old old MayTouch a b holding (marker_copies.KeepsAlone l.markers l.metadata old new (disk a)) maps old new holding.one_marked still copies_touch (λ d r. r)
 
     pub remove_markers : KeepsLists a b
     remove_markers = lists_of old new a b unmarking

@@ -26,8 +26,8 @@ use Rattle.meta_store.specs.declared.copy.CopyText.TheVariants.{Absent}
 use Rattle.meta_store.specs.declared.error.Side.{Side}
 use Rattle.meta_store.specs.declared.error.Side.TheVariants.{Left, Right}
 use Rattle.meta_store.specs.Blobs.{blob_of}
-use Rattle.meta_store.specs.Store.{Store, Stands}
-use Rattle.meta_store.specs.Crashes as metadata
+use Rattle.meta_store.specs.Store.{Store, Stands, contents_of}
+use Rattle.paired.specs.MarkerCopies as marker_copies
 use Rattle.meta_store.proofs.Choices.{chosen_on, both_absent}
 use Rattle.meta_store.proofs.Leaving.{LeavesText, ChooseEither, nothing_leaves, keeps_of}
 use Rattle.meta_store.proofs.SyncingLemmas.{stands_keeps}
@@ -44,6 +44,8 @@ use Rattle.paired.proofs.KeptLemmas.{follow_least}
 use Rattle.paired.proofs.RecordLemmas.{length-records}
 use Rattle.paired.proofs.PairBlobs.{values_of, lasting_none}
 use Rattle.paired.proofs.PairHolding.{no_bytes}
+use Rattle.meta_store.specs.Pairs.{empty_map}
+use Rattle.paired.proofs.MarkerCopies.{copies_keep}
 
 -- a section that is neither held nor known has no blob that is there
 pub not_there : {F B : Type 0} {g : buffer.Ghosts B} {gives : F → Setting} {told : Type 0} (m : Sections F B) (opened : OpenedList) (d : Disk) → IsOver g gives told m opened d → told
@@ -76,16 +78,17 @@ glob_outlasts {takes = takes} m opened d over t s v held =
     outlasts_of v (d (key_of m s)) (d (key_of m s)) v.settled stands (serves_of takes m opened d over s v held) t (omega arith) (passes v (d (key_of m s)) stands)
 
 -- the copies of a map that stands hold its entries
-pub store_keeps : (l : Layout) (u : Store Key8 ℕ) (d : Disk) → u.partition ≡ l.metadata → Stands l.markers u u.entries d → metadata.Keeps l.markers l.metadata u.entries u.entries d
-store_keeps l u d here stands = subst (λ (p : List ℕ). metadata.Keeps l.markers p u.entries u.entries d) here (stands_keeps l.markers u u.entries u.entries d stands)
+pub store_keeps : (l : Layout) (u : Store Key8 ℕ) (d : Disk) → u.partition ≡ l.metadata → Stands l.markers u (contents_of u) d → marker_copies.Keeps l.markers l.metadata u.entries u.entries d
+store_keeps l u d here stands = subst (λ (p : List ℕ). marker_copies.Keeps l.markers p u.entries u.entries d) here
+    (copies_keep l.markers u.partition (contents_of u) (contents_of u) d (stands_keeps l.markers u (contents_of u) (contents_of u) d stands))
 
 -- copies that are gone hold no markers
-pub copies_gone : (l : Layout) (d : Disk) → ((side : Side) → d (blob_of l.metadata side) ≡ nothing) → metadata.Keeps l.markers l.metadata [] [] d
+pub copies_gone : (l : Layout) (d : Disk) → ((side : Side) → d (blob_of l.metadata side) ≡ nothing) → marker_copies.Keeps l.markers l.metadata [] [] d
 copies_gone l d gone =
-    keeps_of l.markers l.metadata Left [] [] (λ x. x ≡ Absent) (λ x. x ≡ Absent) d
-    (subst (LeavesText l.markers (λ x. x ≡ Absent)) (sym (gone Left)) (nothing_leaves l.markers)) (subst (LeavesText l.markers (λ x. x ≡ Absent)) (sym (gone Right)) (nothing_leaves l.markers)) choose
+    copies_keep l.markers l.metadata empty_map empty_map d (keeps_of l.markers l.metadata Left empty_map empty_map (λ x. x ≡ Absent) (λ x. x ≡ Absent) d
+    (subst (LeavesText l.markers (λ x. x ≡ Absent)) (sym (gone Left)) (nothing_leaves l.markers)) (subst (LeavesText l.markers (λ x. x ≡ Absent)) (sym (gone Right)) (nothing_leaves l.markers)) choose)
   where
-    choose : ChooseEither l.markers Left [] [] (λ x. x ≡ Absent) (λ x. x ≡ Absent)
+    choose : ChooseEither l.markers Left empty_map empty_map (λ x. x ≡ Absent) (λ x. x ≡ Absent)
     choose a b is_a is_b =
         let none = both_absent {K = Key8} {V = ℕ} Left in
         (none.0, ap (λ (x : CopyText Key8 ℕ). chosen_on Left x b) is_a ∙ ap (λ (x : CopyText Key8 ℕ). chosen_on Left Absent x) is_b ∙ none.1, inl none.2)
@@ -141,7 +144,7 @@ module _ {F G S : Type 0} {gs : _} (l : Layout) (j : Lists F (PageBlob S gs)) (m
   pub record Parts (g : buffer.Ghosts (PageBlob S gs)) (gives : F → Setting) (takes : G → Setting) (told : Type 0) (u : Store Key8 ℕ) (opened : OpenedList) : Type 0 where
     pub journal : IsJournal g gives l.seal l.record_size told j opened d
     pub values : IsGlob buffers takes told m opened d
-    pub store : Stands l.markers u u.entries d
+    pub store : Stands l.markers u (contents_of u) d
     pub proven : (s : ℕ) → IsProven j s
     pub index_here : j.sections.partition ≡ l.index
     pub values_here : m.partition ≡ l.values

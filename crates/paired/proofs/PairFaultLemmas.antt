@@ -21,7 +21,7 @@ use Rattle.segments.proofs.WalkLemmas.{none_or_value, value_of}
 use Rattle.meta_store.specs.declared.error.Error as meta
 use Rattle.meta_store.specs.declared.error.Side.{Side}
 use Rattle.meta_store.specs.Blobs.{blob_of}
-use Rattle.meta_store.specs.Store.{Store, Stands}
+use Rattle.meta_store.specs.Store.{Store, Stands, contents_of}
 use Rattle.value_codec.specs.declared.key.Key8.{Key8}
 use Rattle.meta_store.specs.declared.error.Error.TheVariants as store
 use Rattle.paired.specs.Crashes.{IsBlobOf, IsCopy}
@@ -32,6 +32,7 @@ use Rattle.paired.proofs.GlobLemmas.{buffers}
 use Rattle.paired.proofs.PairRemoved.{stands_stays}
 use Rattle.paired.proofs.PairSections.{other_partition, IndexSynced, ValuesSynced}
 use Rattle.paired.proofs.PairSynced.{Here}
+use Rattle.meta_store.specs.declared.copy.Contents.{Contents}
 
 abbrev answer : (T : Type 0) → Error → Result T Error
 answer T e = Err e
@@ -128,13 +129,13 @@ module _ {F S : Type 0} {gs : _} (p : Pair F (PageBlob S gs)) (IsNamed : ℕ →
       ]
 
 -- markers that were dropped, while no copy of them changes
-pub dropped_still : {F B : Type 0} (p : Pair F B) (least : ℕ) (u : Store Key8 ℕ) (entries : Markers) (d e : Disk) → u.partition ≡ p.layout.metadata → u.entries ≡ entries
-    → ((side : Side) → e (blob_of p.layout.metadata side) ≡ d (blob_of p.layout.metadata side)) → Stands p.layout.markers u entries d
-    → ((s m : ℕ) → IsMarked entries s m → (least ≤ s) × IsMarked p.store.entries s m) → ((s : ℕ) → least ≤ s → marker_of entries s ≡ marker_of p.store.entries s) → AreDropped p least e
-dropped_still p least u entries d e here same copies stands marked kept = record {
+pub dropped_still : {F B : Type 0} (p : Pair F B) (least : ℕ) (u : Store Key8 ℕ) (held : Contents Key8 ℕ) (d e : Disk) → u.partition ≡ p.layout.metadata → contents_of u ≡ held
+    → ((side : Side) → e (blob_of p.layout.metadata side) ≡ d (blob_of p.layout.metadata side)) → Stands p.layout.markers u held d
+    → ((s m : ℕ) → IsMarked held.entries s m → (least ≤ s) × IsMarked p.store.entries s m) → ((s : ℕ) → least ≤ s → marker_of held.entries s ≡ marker_of p.store.entries s) → AreDropped p least e
+dropped_still p least u held d e here same copies stands marked kept = record {
   store = u;
   here = here;
-  stands = stands_stays p.layout.markers u u.entries d e (λ side. subst (λ (x : List ℕ). e (blob_of x side) ≡ d (blob_of x side)) (sym here) (copies side)) (subst (λ (m : Markers). Stands p.layout.markers u m d) (sym same) stands);
-  marked = λ s m is. marked s m (subst (λ (x : Markers). IsMarked x s m) same is);
-  kept = λ s from. ap (λ (x : Markers). marker_of x s) same ∙ kept s from;
+  stands = stands_stays p.layout.markers u (contents_of u) d e (λ side. subst (λ (x : List ℕ). e (blob_of x side) ≡ d (blob_of x side)) (sym here) (copies side)) (subst (λ (m : Contents Key8 ℕ). Stands p.layout.markers u m d) (sym same) stands);
+  marked = λ s m is. marked s m (subst (λ (x : Contents Key8 ℕ). IsMarked x.entries s m) same is);
+  kept = λ s from. ap (λ (x : Contents Key8 ℕ). marker_of x.entries s) same ∙ kept s from;
 }

@@ -15,7 +15,8 @@ use Rattle.meta_store.specs.declared.error.Side.{Side}
 use Rattle.meta_store.specs.declared.error.Side.TheVariants.{Left, Right}
 use Rattle.meta_store.specs.Blobs.{blob_of, bytes_of}
 use Rattle.meta_store.specs.Crashes as metadata
-use Rattle.meta_store.specs.Pairs.{HoldMap}
+use Rattle.paired.specs.MarkerCopies as marker_copies
+use Rattle.paired.specs.MarkerCopies.{HoldsMarkers}
 use Rattle.segments.specs.Fronts.{IsFront}
 use Rattle.paired.specs.Records.{Entry, records, is_sound, front, entry_of}
 use Rattle.paired.specs.Kept.{Layout, Markers, IsMarked, marker_of, content_at, stored_records, kept, IsTrueMarker}
@@ -185,7 +186,7 @@ module _ (l : Layout) (pos : 1 ≤ l.record_size) where
           ];
         }
 
-    keeps_with : (markers : Markers) → HoldMap l.markers (bytes_of (image (blob_of l.metadata Left))) (bytes_of (image (blob_of l.metadata Right))) markers → AreMarked l facts d markers
+    keeps_with : (markers : Markers) → HoldsMarkers l.markers (bytes_of (image (blob_of l.metadata Left))) (bytes_of (image (blob_of l.metadata Right))) markers → AreMarked l facts d markers
         → Keeps l (λ s. list_in l (facts s)) (λ s. (facts s).synced) Gone image
     keeps_with markers held marked = record {
       markers = markers;
@@ -327,7 +328,7 @@ module _ (l : Layout) where
         lasts s m lt is old (inl same) = subst (IsLasting l (facts s)) (sym same.index) old
         lasts s m lt is old (inr now) = now.lasts m is
 
-        copies : metadata.Keeps l.markers l.metadata one other d
+        copies : marker_copies.Keeps l.markers l.metadata one other d
         copies = record {
           crash = λ left right may_left may_right no_left no_right. holding.copies.crash left right
               (subst (λ (b : Blob). MayLeave b left) (same Left) may_left) (subst (λ (b : Blob). MayLeave b right) (same Right) may_right)
@@ -337,7 +338,7 @@ module _ (l : Layout) where
 
   -- The sections' blobs are as they were, and the copies hold the one list of true markers or the other.
   pub holding_marked : (facts : ℕ → Facts) (Gone : ℕ → Type 0) (one other first second : Markers) (from d : Disk) → ((s : ℕ) → s < 2 ^ 64 → SameBlobs from d s)
-      → metadata.Keeps l.markers l.metadata first second d → AreMarked l facts from first → AreMarked l facts from second → Holding l facts Gone one other from → Holding l facts Gone first second d
+      → marker_copies.Keeps l.markers l.metadata first second d → AreMarked l facts from first → AreMarked l facts from second → Holding l facts Gone one other from → Holding l facts Gone first second d
   holding_marked facts Gone one other first second from d same copies first_marked second_marked holding = record {
     sections = λ s lt. subst (λ (x : Blob). SectionStands l (Gone s) (facts s) x (d (section_key l.values s))) (sym (same s lt).index)
         (subst (SectionStands l (Gone s) (facts s) (from (section_key l.index s))) (sym (same s lt).values) (holding.sections s lt));

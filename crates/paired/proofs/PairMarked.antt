@@ -17,8 +17,8 @@ use Rattle.segments.proofs.WalkLemmas.{none_or_value}
 use Rattle.value_codec.specs.declared.key.Key8.{Key8}
 use Rattle.meta_store.specs.Blobs.{other_side}
 use Rattle.meta_store.specs.Calls.{IsOpened}
-use Rattle.meta_store.specs.Crashes as metadata
-use Rattle.meta_store.specs.Store.{Store, Stands, MayBeSynced, synced_store}
+use Rattle.paired.specs.MarkerCopies as marker_copies
+use Rattle.meta_store.specs.Store.{Store, Stands, MayBeSynced, synced_store, contents_of}
 use Rattle.paired.specs.Crashes.{IsCopy, Keeping, LeavesAlone}
 use Rattle.paired.specs.GlobSections as glob
 use Rattle.paired.specs.Holding.{Facts, AreGood, AreMarked, Holding}
@@ -189,7 +189,7 @@ module _ {F S : Type 0} {gs : _} (g : buffer.Ghosts (PageBlob S gs)) (gives : F 
       absent = λ s small none. ap longest (blobs x (section_key p.layout.index s) (λ is. pair.apart.metadata (ap (λ (k : Key). k.0) is.1))) ∙ sound.absent s small none;
     }
 
-    pub marked_again : u.staged ≡ false → MayBeSynced p.layout.markers u.entries → IsOpened u.partition o' → ((q : Key) → (IsCopy p.layout q → ⊥) → o' q ≡ o q) → (told → Stands p.layout.markers u u.entries d')
+    pub marked_again : u.staged ≡ false → MayBeSynced p.layout.markers u.entries → IsOpened u.partition o' → ((q : Key) → (IsCopy p.layout q → ⊥) → o' q ≡ o q) → (told → Stands p.layout.markers u (contents_of u) d')
         → IsPair g gives buffers takes told marked_pair o' d'
     marked_again unstaged storable opened entries stands = record {
       index = journal_stays p.layout.seal p.layout.record_size p.index o o' d d'
@@ -253,7 +253,7 @@ module _ {F S : Type 0} {gs : _} (g : buffer.Ghosts (PageBlob S gs)) (gives : F 
       | inr some ↦ (index_lasts p.layout p.index p.values (synced_length p) (disk a) p.store o here.some parts x s some.0 some.1, (marked s m is).1)
     ]
 
-    pub markers_keep : metadata.Mapping p.layout.markers p.layout.metadata p.store.entries markers a b → Keeping p.layout (list_of p (disk a)) (synced_length p) (λ _. ⊥) (IsCopy p.layout) a b
+    pub markers_keep : marker_copies.Mapping p.layout.markers p.layout.metadata p.store.entries markers a b → Keeping p.layout (list_of p (disk a)) (synced_length p) (λ _. ⊥) (IsCopy p.layout) a b
     markers_keep maps = sync_markers p.layout here.some pair.apart.values pair.apart.metadata pair.apart.both facts good (λ _. ⊥) (IsCopy p.layout) facts p.store.entries p.store.entries markers a b
         good (λ s. refl) (λ s. omega arith) holding still_marked true_markers (λ q is. is) maps
 

@@ -10,7 +10,7 @@ use Rattle.segments.proofs.KeyLemmas.{key_injective}
 use Rattle.meta_store.specs.declared.error.Side.{Side}
 use Rattle.meta_store.specs.declared.error.Side.TheVariants.{Left, Right}
 use Rattle.meta_store.specs.Blobs.{blob_of}
-use Rattle.meta_store.specs.Crashes as metadata
+use Rattle.paired.specs.MarkerCopies as marker_copies
 use Rattle.paired.specs.Records.{Entry}
 use Rattle.paired.specs.Kept.{Layout, Markers, IsMarked}
 use Rattle.paired.specs.Crashes.{IsIndexOf, IsValuesOf, IsCopy, LeavesAlone, Keeping}
@@ -164,7 +164,7 @@ module _ (l : Layout) (values_apart : l.index ≢ l.values) (metadata_apart : l.
 
   -- No blob changed but the copies, and they hold the one list of true markers or the other.
   pub among_copies : (facts : ℕ → Facts) (Gone : ℕ → Type 0) (one other first second : Markers) (from d : Disk) → ((q : Key) → (IsCopy l q → ⊥) → d q ≡ from q)
-      → metadata.Keeps l.markers l.metadata first second d → AreMarked l facts from first → AreMarked l facts from second → Holding l facts Gone one other from → Holding l facts Gone first second d
+      → marker_copies.Keeps l.markers l.metadata first second d → AreMarked l facts from first → AreMarked l facts from second → Holding l facts Gone one other from → Holding l facts Gone first second d
   among_copies facts Gone one other first second from d others copies first_marked second_marked holding =
       holding_marked l facts Gone one other first second from d (λ s lt. record { index = others (section_key l.index s) (index_no_copy s); values = others (section_key l.values s) (values_no_copy s) })
       copies first_marked second_marked holding
@@ -242,7 +242,7 @@ module _ (l : Layout) (values_apart : l.index ≢ l.values) (metadata_apart : l.
 
   -- it syncs the markers, to others that are true as well
   pub copies_phase : (first second : Markers) → AreMarked l facts (disk a) first → AreMarked l facts (disk a) second → ((q : Key) → IsCopy l q → MayTouch q)
-      → ((d : Disk) → R d → metadata.KeepsAlone l.markers l.metadata first second (disk a) d) → Always a b (Stays l facts Gone first second MayTouch (disk a))
+      → ((d : Disk) → R d → marker_copies.KeepsAlone l.markers l.metadata first second (disk a) d) → Always a b (Stays l facts Gone first second MayTouch (disk a))
   copies_phase first second first_marked second_marked touches keeps = always_weaker a b R (Stays l facts Gone first second MayTouch (disk a)) (λ d r. record {
     holding = among_copies l values_apart metadata_apart both_apart facts Gone one other first second (disk a) d (others d r) (keeps d r).keeps first_marked second_marked holding;
     others = λ q not. others d r q (λ is. not (touches q is));

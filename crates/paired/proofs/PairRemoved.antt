@@ -35,6 +35,7 @@ use Rattle.paired.specs.Pair.{Pair, synced_length, HasNoBytes, length_of, record
 use Rattle.paired.specs.Places.{Follow, end_of}
 use Rattle.paired.specs.Records.{records, entries_of, is_sound}
 use Rattle.paired.proofs.RecordLemmas.{length-records}
+use Rattle.meta_store.specs.declared.copy.Contents.{Contents}
 
 -- ---- markers below a bound
 -- a section has a marker, or none
@@ -81,7 +82,7 @@ module _ (old new : Store Key8 ℕ) (least : ℕ) (still : ((s m : ℕ) → s < 
 
 -- ---- what stands while other blobs change
 -- a map stands where its copies stay
-pub stands_stays : {K V : Type 0} (f : Format K V) (u : Store K V) (synced : List (K × V)) (d e : Disk) → ((side : Side) → e (blob_of u.partition side) ≡ d (blob_of u.partition side)) → Stands f u synced d → Stands f u synced e
+pub stands_stays : {K V : Type 0} (f : Format K V) (u : Store K V) (synced : Contents K V) (d e : Disk) → ((side : Side) → e (blob_of u.partition side) ≡ d (blob_of u.partition side)) → Stands f u synced d → Stands f u synced e
 stands_stays f u synced d e same stands = record {
   left = subst (λ (b : Blob). b ≡ settled_at b.content) (sym (same Left)) stands.left;
   right = subst (λ (b : Blob). b ≡ settled_at b.content) (sym (same Right)) stands.right;

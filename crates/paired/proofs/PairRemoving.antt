@@ -22,18 +22,20 @@ use Rattle.meta_store.specs.declared.error.Side.{Side}
 use Rattle.meta_store.specs.declared.error.Side.TheVariants.{Left, Right}
 use Rattle.meta_store.specs.Blobs.{blob_of, other_side, OnlyOne}
 use Rattle.meta_store.specs.Calls.{IsOpened, OthersOpened}
-use Rattle.meta_store.specs.Crashes as metadata
+use Rattle.paired.specs.MarkerCopies as marker_copies
 use Rattle.meta_store.specs.Removing as copies
 use Rattle.meta_store.specs.Store.{Store, Stands, synced_store}
 use Rattle.meta_store.proofs.Sides.{sides_apart}
 use Rattle.meta_store.proofs.SyncingLemmas.{stands_keeps}
 use Rattle.paired.specs.Kept.{Layout, Markers, IsMarked}
-use Rattle.paired.specs.Crashes.{IsIndexOf, IsValuesOf, IsCopy, IsOwn, InOrder, Keeping}
+use Rattle.paired.specs.Crashes.{InOrder, IsCopy, IsIndexOf, IsOneOf, IsOwn, IsValuesOf, Keeping}
 use Rattle.paired.specs.Holding.{Facts, list_in, AreGood, AreMarked, Holding}
 use Rattle.paired.specs.Pair.{Pair, AreApart, IsPair, IsSoundOn, synced_length}
 use Rattle.paired.proofs.GlobLemmas.{buffers}
 use Rattle.paired.proofs.PairCalls.{sync_markers, remove_records, remove_values}
 use Rattle.paired.proofs.PairFacts.{proven_of, Parts, facts_of, good_of, holding_of}
+use Rattle.meta_store.specs.declared.copy.Contents.{Contents}
+use Rattle.paired.proofs.MarkerCopies.{copies_keep}
 
 -- no blob that Q names changed, at no moment
 abbrev pub Untouched : (Key → Type 0) → Timeline → Timeline → Type 0
@@ -206,13 +208,15 @@ module _ {F G B C : Type 0} {l : Layout} {j : Sections F B} {m : Sections G C} {
     copies_go going = copies_hold (AreRemoved l.metadata (disk a))
         (λ d x same is side. subst (copies.Removes (disk a (blob_of l.metadata side))) (sym (same (blob_of l.metadata side) (side, refl))) (is side)) going
 
-    -- no blob changes but those of the sections, and the copies
-    pub own_alone : Untouched (λ q. IsOwn l P q → ⊥) a e
-    own_alone = untouched_then (λ q. IsOwn l P q → ⊥) a removes.unmarked e
-        (untouched_fewer (λ q. IsCopy l q → ⊥) (λ q. IsOwn l P q → ⊥) a removes.unmarked (λ q not copy. not (inr (inr copy))) removes.copies)
-        (untouched_then (λ q. IsOwn l P q → ⊥) removes.unmarked removes.emptied e
-        (untouched_fewer (λ q. IsIndexOf l P q → ⊥) (λ q. IsOwn l P q → ⊥) removes.unmarked removes.emptied (λ q not is. not (inl is)) (index_only removes.unmarked removes.emptied removes.records))
-        (untouched_fewer (λ q. IsValuesOf l P q → ⊥) (λ q. IsOwn l P q → ⊥) removes.emptied e (λ q not is. not (inr (inl is))) (values_only removes.emptied e removes.values)))
+    -- none but those of the records and of the values that go, and the copies
+    pub one_alone : (D L : ℕ → Type 0) → ((s : ℕ) → IsDoomed s → D s) → ((s : ℕ) → IsLost s → L s) → Untouched (λ q. IsOneOf l D L q → ⊥) a e
+    one_alone D L doomed lost = untouched_then (λ q. IsOneOf l D L q → ⊥) a removes.unmarked e
+        (untouched_fewer (λ q. IsCopy l q → ⊥) (λ q. IsOneOf l D L q → ⊥) a removes.unmarked (λ q not copy. not (inr (inr copy))) removes.copies)
+        (untouched_then (λ q. IsOneOf l D L q → ⊥) removes.unmarked removes.emptied e
+        (always_weaker removes.unmarked removes.emptied (Removing j IsDoomed (λ s t. s < t) (disk removes.unmarked)) (λ d. (q : Key) → (IsOneOf l D L q → ⊥) → d q ≡ disk removes.unmarked q)
+        (λ d removing q not. removing.others q (λ is. not (inl (is.0, ways.doomed_small is.0 is.1, doomed is.0 is.1, is.2 ∙ ap (λ (x : List ℕ). section_key x is.0) ways.index_here)))) removes.records)
+        (always_weaker removes.emptied e (Removing m IsLost (λ s t. s < t) (disk removes.emptied)) (λ d. (q : Key) → (IsOneOf l D L q → ⊥) → d q ≡ disk removes.emptied q)
+        (λ d removing q not. removing.others q (λ is. not (inr (inl (is.0, ways.lost_small is.0 is.1, lost is.0 is.1, is.2 ∙ ap (λ (x : List ℕ). section_key x is.0) ways.values_here))))) removes.values))
 
     -- no section's blob changes while the markers go
     pub sections_wait : (q : Key) → (IsIndexOf l P q ⊎ IsValuesOf l P q) → disk removes.unmarked q ≡ disk a q
@@ -326,8 +330,8 @@ pub untouched_same : (Q : Key → Type 0) (a b : Timeline) → b ≡ a → Untou
 untouched_same Q a b same = subst (Untouched Q a) (sym same) (untouched_start Q a)
 
 -- markers that stand, where the layout says
-pub settled_keeps : (l : Layout) (u : Store Key8 ℕ) (markers : Markers) (d : Disk) → u.partition ≡ l.metadata → Stands l.markers u markers d → metadata.Keeps l.markers l.metadata markers markers d
-settled_keeps l u markers d here stands = subst (λ (x : List ℕ). metadata.Keeps l.markers x markers markers d) here (stands_keeps l.markers u markers markers d stands)
+pub settled_keeps : (l : Layout) (u : Store Key8 ℕ) (held : Contents Key8 ℕ) (d : Disk) → u.partition ≡ l.metadata → Stands l.markers u held d → marker_copies.Keeps l.markers l.metadata held.entries held.entries d
+settled_keeps l u held d here stands = subst (λ (x : List ℕ). marker_copies.Keeps l.markers x held.entries held.entries d) here (copies_keep l.markers u.partition held held d (stands_keeps l.markers u held held d stands))
 
 -- a sync leaves a map where it is
 pub synced_partition : (u : Store Key8 ℕ) → (synced_store u).partition ≡ u.partition
@@ -383,7 +387,7 @@ parts_of p opened d pair t sound index_here values_here store_here paged = recor
 module _ {F G S : Type 0} {gs : _} {l : Layout} {j : Lists F (PageBlob S gs)} {m : Sections G WriteBlob} {synced : ℕ → ℕ} {u : Store Key8 ℕ} {opened : OpenedList} {P IsDoomed IsLost : ℕ → Type 0}
     {g : buffer.Ghosts (PageBlob S gs)} {gives : F → Setting} {takes : G → Setting} {told : Type 0} (ways : Ways l j.sections m P IsDoomed IsLost) (pos : 1 ≤ l.record_size) (a : Timeline) (parts : Parts l j m synced (disk a) g gives takes told u opened) (t : told)
     (decides : (s : ℕ) → P s ⊎ (P s → ⊥)) (new : Markers) (fewer : (s n : ℕ) → IsMarked new s n → IsMarked u.entries s n) (gone : (s n : ℕ) → P s → IsMarked new s n → ⊥)
-    (b : Timeline) (maps : metadata.Mapping l.markers l.metadata u.entries new a b) where
+    (b : Timeline) (maps : marker_copies.Mapping l.markers l.metadata u.entries new a b) where
   -- what is known of the sections
   abbrev known : ℕ → Facts
   known = facts_of l j m synced (disk a)
@@ -401,7 +405,7 @@ module _ {F G S : Type 0} {gs : _} {l : Layout} {j : Lists F (PageBlob S gs)} {m
   pub keeps_markers : Keeping l (λ s. list_in l (facts_of l j m synced (disk a) s)) synced P (IsOwn l P) a b
   keeps_markers = sync_markers l pos ways.apart.values ways.apart.metadata ways.apart.both known good P (IsOwn l P) known u.entries u.entries new a b good (λ s. refl) (λ s. omega arith) holding holding.one_marked still (λ q is. inr (inr is)) maps
 
-  module _ (settled : metadata.Keeps l.markers l.metadata new new (disk b)) (doomed_held : (s : ℕ) → IsDoomed s → IsHeld j.sections s) (doomed_of : (s : ℕ) → P s → IsHeld j.sections s → IsDoomed s)
+  module _ (settled : marker_copies.Keeps l.markers l.metadata new new (disk b)) (doomed_held : (s : ℕ) → IsDoomed s → IsHeld j.sections s) (doomed_of : (s : ℕ) → P s → IsHeld j.sections s → IsDoomed s)
       (c : Timeline) (records : Always b c (Removing j.sections IsDoomed (λ s t. s < t) (disk b))) where
     not_doomed : (s : ℕ) → j.sections.held s ≡ None → IsDoomed s → ⊥
     not_doomed s none doomed = cc (subst IsSome none (doomed_held s doomed))
@@ -426,7 +430,7 @@ module _ {F G S : Type 0} {gs : _} {l : Layout} {j : Lists F (PageBlob S gs)} {m
       bare s lt is = elim (none_or_value (j.sections.held s)) [
         | inl none ↦ ap longest (removed_same j.sections IsDoomed (λ s t. s < t) l.index parts.index_here P ways.doomed_small ways.doomed_named (disk b) (disk c)
             (always_now b c (Removing j.sections IsDoomed (λ s t. s < t) (disk b)) records) s lt (not_doomed s none)
-            ∙ (always_now a b (metadata.KeepsAlone l.markers l.metadata u.entries new (disk a)) maps).others (section_key l.index s) (λ is. ways.apart.metadata (ap (λ (k : Key). k.0) is)) (λ is. ways.apart.metadata (ap (λ (k : Key). k.0) is)))
+            ∙ (always_now a b (marker_copies.KeepsAlone l.markers l.metadata u.entries new (disk a)) maps).others (section_key l.index s) (λ is. ways.apart.metadata (ap (λ (k : Key). k.0) is)) (λ is. ways.apart.metadata (ap (λ (k : Key). k.0) is)))
             ∙ parts.absent s lt none
         | inr some ↦ ap longest (emptied s is (subst IsSome (sym some.1) refl))
       ]
@@ -484,6 +488,12 @@ module _ {F S : Type 0} {gs : _} {g : buffer.Ghosts (PageBlob S gs)} {gives : F 
     | inr unopened ↦ absurd (cc (subst IsSome (pair.whole.values_known s) unopened))
   ]
 
+  value_held : (s : ℕ) → IsKnown p.values s → IsHeld p.values s
+  value_held s known = elim known [
+    | inl held ↦ held
+    | inr unopened ↦ absurd (cc (subst IsSome (pair.whole.values_known s) unopened))
+  ]
+
   -- of held sections alone: those below a bound, and all
   pub prune_held : (least : ℕ) → Ways p.layout p.index.sections p.values (λ s. (s < least) × IsHeld p.index.sections s) (IsDoomed p least) (IsLost p least)
   prune_held least = record {
@@ -506,6 +516,16 @@ module _ {F S : Type 0} {gs : _} {g : buffer.Ghosts (PageBlob S gs)} {gives : F 
     lost_small = λ s is. pair.values.over.opened_list.number s is;
     lost_named = known_valued;
   }
+
+  -- so of values only those that are held change
+  pub prune_one : (least : ℕ) (a e : Timeline) → Removes p.layout p.index.sections p.values (IsDoomed p least) (IsLost p least) a e
+      → Untouched (λ q. IsOneOf p.layout (λ s. (s < least) × IsHeld p.index.sections s) (λ s. (s < least) × IsHeld p.values s) q → ⊥) a e
+  prune_one least a e removes =
+      one_alone (prune_held least) a e removes (λ s. (s < least) × IsHeld p.index.sections s) (λ s. (s < least) × IsHeld p.values s) (λ s is. (is.1, known_held s is.0)) (λ s is. (is.1, value_held s is.0))
+
+  pub destroy_one : (a e : Timeline) → Removes p.layout p.index.sections p.values (IsKnown p.index.sections) (IsKnown p.values) a e
+      → Untouched (λ q. IsOneOf p.layout (IsHeld p.index.sections) (IsHeld p.values) q → ⊥) a e
+  destroy_one a e removes = one_alone destroy_held a e removes (IsHeld p.index.sections) (IsHeld p.values) known_held value_held
 
 pub below_or_not : (least s : ℕ) → (s < least) ⊎ (s < least → ⊥)
 below_or_not least s = elim (cases_lt s least) [

@@ -28,7 +28,7 @@ use Rattle.meta_store.specs.declared.error.Side.TheVariants.{Left, Right}
 use Rattle.meta_store.specs.Blobs.{blob_of}
 use Rattle.meta_store.specs.Format.{Format}
 use Rattle.meta_store.specs.Pairs.{ReadsPair}
-use Rattle.meta_store.specs.Store.{Store, Stands, chosen_by}
+use Rattle.meta_store.specs.Store.{Store, Stands, chosen_by, contents_of}
 use Rattle.paired.specs.GlobSections.{IsGlob}
 use Rattle.paired.specs.GlobSections as glob
 use Rattle.paired.specs.Places.{Follow, end_of}
@@ -43,6 +43,7 @@ use Rattle.paired.proofs.KeptLemmas.{follow_least}
 use Rattle.paired.proofs.TrackingLemmas.{Noted}
 use Rattle.paired.proofs.PairStays.{journal_stays}
 use Rattle.paired.proofs.PairSections.{other_partition, glob_kept, IndexSynced, ValuesSynced, index_blob, index_held, index_none, index_size, index_bytes, index_settled, values_held_same, values_size, values_settled}
+use Rattle.meta_store.specs.declared.copy.Contents.{Contents}
 
 -- ---- markers and places
 abbrev found_for : Markers → ℕ → Option ℕ
@@ -69,7 +70,7 @@ no_length : (size : ℕ) → 1 ≤ size → 0 / size ≡ 0
 no_length size pos = omega (arith, div_below 0 size 1 (omega (arith, pos)) (omega (arith, pos)))
 
 -- a map stands where its blobs are as they were
-pub store_stays : {K V : Type 0} (f : Format K V) (u : Store K V) (synced : List (K × V)) (d e : Disk) → ((side : Side) → e (blob_of u.partition side) ≡ d (blob_of u.partition side)) → Stands f u synced d → Stands f u synced e
+pub store_stays : {K V : Type 0} (f : Format K V) (u : Store K V) (synced : Contents K V) (d e : Disk) → ((side : Side) → e (blob_of u.partition side) ≡ d (blob_of u.partition side)) → Stands f u synced d → Stands f u synced e
 store_stays f u synced d e same stands = record {
   left = subst (λ (b : Blob). b ≡ settled_at b.content) (sym (same Left)) stands.left;
   right = subst (λ (b : Blob). b ≡ settled_at b.content) (sym (same Right)) stands.right;
@@ -285,7 +286,7 @@ module _ {F S : Type 0} {gs : _} (g : buffer.Ghosts (PageBlob S gs)) (gives : F 
       metadata_opened = record { left = subst IsSome (sym (copy_entry Left)) pair.metadata_opened.left; right = subst IsSome (sym (copy_entry Right)) pair.metadata_opened.right };
       storable = pair.storable;
       synced = pair.synced;
-      disk = λ x. record { markers = store_stays p.layout.markers p.store p.store.entries d0 d2 (copy_blob x) (pair.disk x).markers };
+      disk = λ x. record { markers = store_stays p.layout.markers p.store (contents_of p.store) d0 d2 (copy_blob x) (pair.disk x).markers };
     }
 
     pub settled_as : (index_at values_at metadata_at : List ℕ) (size : ℕ) (u : Store Key8 ℕ) → index_at ≡ p.layout.index → values_at ≡ p.layout.values → metadata_at ≡ p.layout.metadata → size ≡ p.layout.page_size → u ≡ p.store

@@ -29,7 +29,7 @@ use Rattle.paired.specs.GlobLasting.{Cutting}
 use Rattle.paired.specs.GlobSections.{IsGlob, IsAllSettled}
 use Rattle.paired.specs.GlobSections as glob
 use Rattle.value_codec.specs.declared.key.Key8.{Key8}
-use Rattle.meta_store.specs.Store.{Store}
+use Rattle.meta_store.specs.Store.{Store, contents_of}
 use Rattle.paired.specs.Kept.{Layout}
 use Rattle.paired.specs.Opening.{MayBeOpened, Relation}
 use Rattle.paired.specs.Pair.{HasNoBytes}
@@ -56,7 +56,7 @@ module _ {F S : Type 0} {gs : _} {g : buffer.Ghosts (PageBlob S gs)} {gives : F 
   -- the markers are synced still
   marks_stay : (b c : Disk) → (told → (side : Side) → c (blob_of l.metadata side) ≡ b (blob_of l.metadata side)) → MarksRest told l u b → MarksRest told l u c
   marks_stay b c same was = record {
-    stands = λ t. stands_same l.markers u u.entries b c
+    stands = λ t. stands_same l.markers u (contents_of u) b c
         (subst (λ (q : Key). c q ≡ b q) (sym (copy_at Left)) (same t Left)) (subst (λ (q : Key). c q ≡ b q) (sym (copy_at Right)) (same t Right)) (was.stands t);
     here = was.here;
   }

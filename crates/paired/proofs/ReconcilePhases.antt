@@ -31,9 +31,9 @@ use Rattle.meta_store.specs.declared.error.Side.{Side}
 use Rattle.meta_store.specs.declared.error.Side.TheVariants.{Left, Right}
 use Rattle.meta_store.specs.Blobs.{blob_of}
 use Rattle.meta_store.specs.Blobs as metadata
-use Rattle.meta_store.specs.Pairs.{HoldMap}
-use Rattle.meta_store.specs.Store.{Store, chosen_by}
-use Rattle.meta_store.proofs.Uses.{IsReadable, one_map}
+use Rattle.paired.specs.MarkerCopies.{HoldsMarkers}
+use Rattle.meta_store.specs.Store.{Store, chosen_by, contents_of}
+use Rattle.meta_store.proofs.Uses.{IsReadable}
 use Rattle.paired.specs.Crashes.{IsIndexOf, IsValuesOf}
 use Rattle.paired.specs.GlobLasting.{Cutting, Outlasts, settled_to}
 use Rattle.paired.specs.GlobSections as glob
@@ -47,6 +47,7 @@ use Rattle.paired.proofs.OpeningPhases.{IsPhase, IsCut, IsTrimmed, IsBare, HasMa
 use Rattle.paired.proofs.RecordLemmas.{length-records, item_ends}
 use Rattle.paired.proofs.ReconcileResting.{Resting, index_number, values_number, index_key, values_key, paged, all_of, value_idle, index_settles, index_rest, index_absent, stored_at, none_stored, values_rest, values_absent, frames_at, copy_rest, rests_no_chance, rest_left, rest_there, left_bare, reads_there, reads_absent}
 use Rattle.paired.proofs.Ends.{Bare, Ends}
+use Rattle.paired.proofs.MarkerCopies.{one_marker_list}
 
 -- ---- small facts
 pub some_or_none : {T : Type 0} (o : Option T) → (is_some o ≡ true) ⊎ (o ≡ None)
@@ -124,21 +125,21 @@ module _ {F S : Type 0} {gs : _} {g : buffer.Ghosts (PageBlob S gs)} {gives : F 
 
   -- the copies hold the entries alone
   module _ (readable : IsReadable l.markers) where
-    pub copies_hold : HoldMap l.markers (metadata.bytes_of (reads (d (blob_of l.metadata Left)))) (metadata.bytes_of (reads (d (blob_of l.metadata Right)))) u.entries
+    pub copies_hold : HoldsMarkers l.markers (metadata.bytes_of (reads (d (blob_of l.metadata Left)))) (metadata.bytes_of (reads (d (blob_of l.metadata Right)))) u.entries
     copies_hold =
         let left : reads (d (blob_of l.metadata Left)) ≡ Some (d (blob_of l.metadata Left)).content = reads_there (d (blob_of l.metadata Left)) (rest_there (d (blob_of l.metadata Left)) (copy_rest rests.marks t Left)) in
         let right : reads (d (blob_of l.metadata Right)) ≡ Some (d (blob_of l.metadata Right)).content = reads_there (d (blob_of l.metadata Right)) (rest_there (d (blob_of l.metadata Right)) (copy_rest rests.marks t Right)) in
-        subst (λ (x : Option (List ℕ)). HoldMap l.markers (metadata.bytes_of x) (metadata.bytes_of (reads (d (blob_of l.metadata Right)))) u.entries) (sym left)
-        (subst (λ (x : Option (List ℕ)). HoldMap l.markers (d (blob_of l.metadata Left)).content (metadata.bytes_of x) u.entries) (sym right)
-        (subst (λ (p : List ℕ). HoldMap l.markers (d (blob_of p Left)).content (d (blob_of p Right)).content u.entries) rests.marks.here
-        (record { chosen = chosen_by u u.entries; reads = (rests.marks.stands t).pair; map = refl })))
+        subst (λ (x : Option (List ℕ)). HoldsMarkers l.markers (metadata.bytes_of x) (metadata.bytes_of (reads (d (blob_of l.metadata Right)))) u.entries) (sym left)
+        (subst (λ (x : Option (List ℕ)). HoldsMarkers l.markers (d (blob_of l.metadata Left)).content (metadata.bytes_of x) u.entries) (sym right)
+        (subst (λ (p : List ℕ). HoldsMarkers l.markers (d (blob_of p Left)).content (d (blob_of p Right)).content u.entries) rests.marks.here
+        (record { chosen = chosen_by u (contents_of u); reads = (rests.marks.stands t).pair; map = refl })))
 
     -- so an image that has them as they read is lawful with these alone
     pub markers_one : (old : Image) → ((side : Side) → old (blob_of l.metadata side) ≡ reads (d (blob_of l.metadata side))) → (markers : Markers) → IsLawful l old markers → markers ≡ u.entries
     markers_one old same markers lawful =
-        one_map l.markers readable (metadata.bytes_of (old (blob_of l.metadata Left))) (metadata.bytes_of (old (blob_of l.metadata Right))) markers u.entries lawful.held
-        (subst (λ (x : Option (List ℕ)). HoldMap l.markers (metadata.bytes_of x) (metadata.bytes_of (old (blob_of l.metadata Right))) u.entries) (sym (same Left))
-        (subst (λ (x : Option (List ℕ)). HoldMap l.markers (metadata.bytes_of (reads (d (blob_of l.metadata Left)))) (metadata.bytes_of x) u.entries) (sym (same Right)) copies_hold))
+        one_marker_list l.markers readable (metadata.bytes_of (old (blob_of l.metadata Left))) (metadata.bytes_of (old (blob_of l.metadata Right))) markers u.entries lawful.held
+        (subst (λ (x : Option (List ℕ)). HoldsMarkers l.markers (metadata.bytes_of x) (metadata.bytes_of (old (blob_of l.metadata Right))) u.entries) (sym (same Left))
+        (subst (λ (x : Option (List ℕ)). HoldsMarkers l.markers (metadata.bytes_of (reads (d (blob_of l.metadata Left)))) (metadata.bytes_of x) u.entries) (sym (same Right)) copies_hold))
 
     -- where the copies stay, each lawful image has the same markers
     pub has_markers : (apart : AreApart l) (x : Disk) (IsChanged : ℕ → Bool) (phase : IsPhase l apart d x IsChanged false) → HasMarkers l apart d x IsChanged false phase (λ s. marker_of u.entries s)

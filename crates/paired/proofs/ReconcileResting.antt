@@ -33,7 +33,7 @@ use Rattle.meta_store.specs.declared.error.Side.{Side}
 use Rattle.meta_store.specs.declared.error.Side.TheVariants.{Left, Right}
 use Rattle.meta_store.specs.Blobs.{blob_of}
 use Rattle.meta_store.specs.Crashes as metadata
-use Rattle.meta_store.specs.Store.{Store, Stands}
+use Rattle.meta_store.specs.Store.{Store, Stands, contents_of}
 use Rattle.paired.specs.Crashes.{NoChanceSeal, WasThere}
 use Rattle.paired.specs.GlobSections.{IsGlob, IsAllSettled}
 use Rattle.paired.specs.GlobSections as glob
@@ -111,7 +111,7 @@ pub record Rests {F S : Type 0} {gs : _} (g : buffer.Ghosts (PageBlob S gs)) (gi
 
 -- The markers are synced.
 pub record MarksRest (told : Type 0) (l : Layout) (u : Store Key8 ℕ) (d : Disk) : Type 0 where
-  pub stands : told → Stands l.markers u u.entries d
+  pub stands : told → Stands l.markers u (contents_of u) d
   pub here : u.partition ≡ l.metadata
 
 -- Both, where no replay is owed and every section is known: each is proven.

@@ -1,5 +1,5 @@
 -- Markers by their sections, and what puts, staging and dropping leave of them.
-use Rattle.std.specs.Prelude.{◌≡◌, ◌≢◌, ◌↔◌, ℕ, ◌^◌, ◌<◌, ◌≤◌, ◌==◌, ◌+◌, ◌||◌, nat_le, nat_lt, if◌then◌else◌, cond, Bool, true, false, List, [], ◌∷◌, ◌++◌, length, Option, None, Some, IsSome, is_some, unwrap_or, Result, Ok, Err, OnOk}
+use Rattle.std.specs.Prelude.{◌≡◌, ◌≢◌, ◌↔◌, ℕ, ◌^◌, ◌<◌, ◌≤◌, ◌==◌, ◌+◌, ◌||◌, nat_le, nat_lt, if◌then◌else◌, cond, Bool, true, false, List, [], ◌∷◌, ◌++◌, length, Option, None, Some, IsSome, is_some, unwrap_or, Result, Ok, Err, OnOk, OnErr}
 use Rattle.std.specs.Int.{w64, to_be_bytes, from_be_bytes}
 use Rattle.std.specs.declared.cmp.Ordering.{Ordering}
 use Rattle.std.specs.declared.cmp.Ordering.TheVariants.{Less, Equal, Greater}
@@ -26,7 +26,12 @@ use Rattle.value_codec.specs.declared.key.Key8.{Key8}
 use Rattle.value_codec.specs.Keys.{key8_bytes}
 use Rattle.meta_store.specs.Entries.{value_at, PutsValue, Retained, AnswersAt}
 use Rattle.meta_store.specs.Blobs.{other_side}
-use Rattle.meta_store.specs.Store.{Store, synced_store}
+use Rattle.meta_store.specs.declared.error.Error.{Error}
+use Rattle.meta_store.specs.declared.error.Error.TheVariants.{Mem}
+use Rattle.meta_store.specs.Copies.{IsStorable}
+use Rattle.meta_store.specs.Format.{Format}
+use Rattle.meta_store.specs.Staging.{Puts, StandsAsBefore}
+use Rattle.meta_store.specs.Store.{MayBeSynced, Seen, Stands, Store, staging, synced_store, contents_of}
 use Rattle.meta_store.proofs.Inserting.{retained_fewer}
 use Rattle.paired.specs.Kept.{Markers, IsMarked, marker_of}
 use Rattle.paired.specs.Tracked.{Tracked, synced_of, Trails, IsFrom}
@@ -378,6 +383,13 @@ synced_entries u = by u.staged
     by true = refl
     by false = refl
 
+pub synced_contents : (u : Store Key8 ℕ) → contents_of (synced_store u) ≡ contents_of u
+synced_contents u = by u.staged
+  where
+    by : (b : Bool) → contents_of (cond b (record u { version = u.version + 1; older = other_side u.older; staged = false }) u) ≡ contents_of u
+    by true = refl
+    by false = refl
+
 -- ---- markers by their keys, one by one
 seen : (f : Key8 → Bool) (es : Markers) → is_some (lookup f es) ≡ list_any f (keys_of es)
 seen f [] = refl
@@ -448,3 +460,25 @@ gathered_all es rest got none was s m = (
       (λ any. absurd (cc (sym (ap (list_any (is_key_of s)) none) ∙ any)))
       (was.all s m has),
 )
+
+-- ---- what a put of a map says, part by part
+module _ {K V C : Type 0} (f : C → Format K V) (m n : Seen K V C) (key : K) (value : V) where
+  pub put_value : (r : Result (Unit {0}) Error) → Puts f m n key value r → OnOk r (PutsValue (f m.config).compare m.store.entries n.store.entries key value)
+  put_value (Ok x) puts = puts.puts
+  put_value (Err e) puts = tt
+
+  pub put_staged : (r : Result (Unit {0}) Error) → Puts f m n key value r → OnOk r (n.store ≡ staging m.store n.store.entries)
+  put_staged (Ok x) puts = puts.same ∙ ap (staging m.store) (sym (ap (λ (u : Store K V). u.entries) puts.same))
+  put_staged (Err e) puts = tt
+
+  pub put_storable : (r : Result (Unit {0}) Error) → Puts f m n key value r → IsStorable (f m.config) value → OnOk r (MayBeSynced (f m.config) m.store.entries → MayBeSynced (f m.config) n.store.entries)
+  put_storable (Ok x) puts new = λ all. puts.storable all new
+  put_storable (Err e) puts new = tt
+
+  pub put_stands : (r : Result (Unit {0}) Error) → Puts f m n key value r → StandsAsBefore f m n
+  put_stands (Ok x) puts = puts.stands
+  put_stands (Err e) puts = λ synced d stands. subst (λ (x : Seen K V C). Stands (f m.config) x.store synced d) (sym puts.1) stands
+
+  pub put_cause : (r : Result (Unit {0}) Error) → Puts f m n key value r → OnErr r (r ≡ Err Mem)
+  put_cause (Ok x) puts = tt
+  put_cause (Err e) puts = let g : Error → Result (Unit {0}) Error = λ y. Err y in ap g puts.0

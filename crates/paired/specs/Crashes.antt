@@ -9,10 +9,10 @@ use Rattle.meta_store.specs.declared.error.Side.{Side}
 use Rattle.meta_store.specs.declared.error.Side.TheVariants.{Left, Right}
 use Rattle.meta_store.specs.Blobs.{blob_of, bytes_of}
 use Rattle.meta_store.specs.Crashes as metadata
-use Rattle.meta_store.specs.Pairs.{HoldMap}
 use Rattle.paired.specs.Frames.{bytes_at}
 use Rattle.paired.specs.Records.{Entry}
 use Rattle.paired.specs.Kept.{Layout, Markers, IsMarked, marker_of, content_at, stored_records, is_sound_in, kept, IsTrueMarker}
+use Rattle.paired.specs.MarkerCopies.{HoldsMarkers}
 
 -- a blob of the records, or of the values, of a section that P names
 abbrev pub IsIndexOf : Layout → (ℕ → Type 0) → Key → Type 0
@@ -32,6 +32,10 @@ IsCopy l q = (side : Side) × (q ≡ blob_of l.metadata side)
 -- a blob of such a section, or of the markers
 abbrev pub IsOwn : Layout → (ℕ → Type 0) → Key → Type 0
 IsOwn l P q = IsIndexOf l P q ⊎ (IsValuesOf l P q ⊎ IsCopy l q)
+
+-- a blob of records of a section that P names, of values of one that Q names, or of the markers
+abbrev pub IsOneOf : Layout → (P Q : ℕ → Type 0) → Key → Type 0
+IsOneOf l P Q q = IsIndexOf l P q ⊎ (IsValuesOf l Q q ⊎ IsCopy l q)
 
 -- one of the contents has these bytes at the place, as this one has
 abbrev pub WasThere : List (List ℕ) → List ℕ → ℕ × ℕ → Type 0
@@ -54,7 +58,7 @@ module _ (l : Layout) (wanted : ℕ → List Entry) (synced : ℕ → ℕ) (IsGo
   -- nothing of one that is going; and the records that stand behind those kept are the next ones of the list.
   pub record Keeps (image : Image) : Type 0 where
     pub markers : Markers
-    pub held : HoldMap l.markers (bytes_of (image (blob_of l.metadata Left))) (bytes_of (image (blob_of l.metadata Right))) markers
+    pub held : HoldsMarkers l.markers (bytes_of (image (blob_of l.metadata Left))) (bytes_of (image (blob_of l.metadata Right))) markers
     pub true_markers : (s m : ℕ) → IsMarked markers s m → IsTrueMarker l image s m
     pub lists : (s : ℕ) → s < 2 ^ 64 → IsPrefix (wanted s) (synced s) (kept l image (marker_of markers s) s) ⊎ ((kept l image (marker_of markers s) s ≡ []) × IsGoing s)
     pub stored : (s : ℕ) → s < 2 ^ 64 → stored_records l image s ≡ take (length (stored_records l image s)) (map (λ e. e.stored) (wanted s))

@@ -5,7 +5,7 @@ use Rattle.blob_device.specs.Disk.{Blob, Disk, past, longest, MayLeave}
 use Rattle.sealed_pages.specs.ChanceSeal as pages
 use Rattle.sealed_pages.specs.SealedPrefix.{sealed_prefix, Prefix}
 use Rattle.segments.specs.Sections.{section_key}
-use Rattle.meta_store.specs.Crashes as metadata
+use Rattle.paired.specs.MarkerCopies as marker_copies
 use Rattle.segments.specs.Fronts.{IsFront}
 use Rattle.paired.specs.Places.{Follow, end_of}
 use Rattle.paired.specs.Records.{Entry, records, entries_of, is_sound}
@@ -67,6 +67,6 @@ module _ (l : Layout) where
   -- The blobs of each section stand, and the copies hold the one list of markers or the other, both of them true.
   pub record Holding (facts : ℕ → Facts) (Gone : ℕ → Type 0) (one other : Markers) (d : Disk) : Type 0 where
     pub sections : (s : ℕ) → s < 2 ^ 64 → SectionStands (Gone s) (facts s) (d (section_key l.index s)) (d (section_key l.values s))
-    pub copies : metadata.Keeps l.markers l.metadata one other d
+    pub copies : marker_copies.Keeps l.markers l.metadata one other d
     pub one_marked : AreMarked facts d one
     pub other_marked : AreMarked facts d other

@@ -8,6 +8,7 @@ pub mod GlobLasting
 pub mod GlobReading
 pub mod Records
 pub mod Kept
+pub mod MarkerCopies
 pub mod Crashes
 pub mod Pair
 pub mod PairShown

@@ -9,9 +9,9 @@ use Rattle.meta_store.specs.declared.error.Side.{Side}
 use Rattle.meta_store.specs.declared.error.Side.TheVariants.{Left, Right}
 use Rattle.meta_store.specs.Blobs.{blob_of, bytes_of}
 use Rattle.meta_store.specs.Opening.{Opens}
-use Rattle.meta_store.specs.Pairs.{HoldMap}
 use Rattle.paired.specs.Crashes.{IsOwn, NoChanceSeal, WasThere}
 use Rattle.paired.specs.Kept.{Layout, Markers, IsMarked, marker_of, content_at, stored_records, is_sound_in, kept, IsTrueMarker}
+use Rattle.paired.specs.MarkerCopies.{HoldsMarkers}
 use Rattle.paired.specs.Pair.{HasNoBytes}
 use Rattle.paired.specs.Places.{Follow}
 use Rattle.paired.specs.Records.{Entry}
@@ -49,7 +49,7 @@ UpTo section least = IsUpTo section least
 module _ (l : Layout) where
   -- the copies of an image hold this map of markers
   abbrev pub HoldMarkers : Image → Markers → Type 0
-  HoldMarkers image markers = HoldMap l.markers (bytes_of (image (blob_of l.metadata Left))) (bytes_of (image (blob_of l.metadata Right))) markers
+  HoldMarkers image markers = HoldsMarkers l.markers (bytes_of (image (blob_of l.metadata Left))) (bytes_of (image (blob_of l.metadata Right))) markers
 
   -- The value places of a section follow each other from 0 on, up to an end that a u64 counts.
   pub record IsInPlace (image : Image) (s : ℕ) : Type 0 where

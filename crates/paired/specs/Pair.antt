@@ -11,7 +11,7 @@ use Rattle.segments.specs.Setting.{Setting}
 use Rattle.segments.specs.Sections.{Sections, section_key, IsHeld}
 use Rattle.segments.specs.FixedLists.{Lists, IsJournal}
 use Rattle.segments.specs.FixedLists as fixed
-use Rattle.meta_store.specs.Store.{Store, Stands, MayBeSynced}
+use Rattle.meta_store.specs.Store.{Store, Stands, MayBeSynced, contents_of}
 use Rattle.meta_store.specs.Calls.{IsOpened}
 use Rattle.value_codec.specs.declared.key.Key8.{Key8}
 use Rattle.paired.specs.GlobSections.{IsGlob}
@@ -53,7 +53,7 @@ module _ {F S : Type 0} {gs : _} (p : Pair F (PageBlob S gs)) where
 
     -- The markers are synced.
     pub record IsPairOn : Type 0 where
-      pub markers : Stands p.layout.markers p.store p.store.entries d
+      pub markers : Stands p.layout.markers p.store (contents_of p.store) d
 
     -- Of each section, the values stand one behind the other up to the section's end, each sound, and what was synced has settled. No crash
     -- brings bytes back into an index blob of a section that is not held.

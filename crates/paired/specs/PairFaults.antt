@@ -9,7 +9,7 @@ use Rattle.sealed_pages.specs.declared.page_blob.PageBlob.{PageBlob}
 use Rattle.segments.specs.Sections.{section_key, IsHeld}
 use Rattle.segments.specs.declared.journal.Error.{Error}
 use Rattle.segments.specs.declared.journal.Error.TheVariants.{Runtime, Full}
-use Rattle.meta_store.specs.Store.{Store, Stands}
+use Rattle.meta_store.specs.Store.{Store, Stands, contents_of}
 use Rattle.value_codec.specs.declared.key.Key8.{Key8}
 use Rattle.paired.specs.Kept.{IsMarked, marker_of}
 use Rattle.paired.specs.Crashes.{IsCopy, Leaves}
@@ -43,6 +43,6 @@ module _ {F S : Type 0} {gs : _} (p : Pair F (PageBlob S gs)) (IsNamed : ℕ →
 pub record AreDropped {F B : Type 0} (p : Pair F B) (least : ℕ) (d : Disk) : Type 0 where
   pub store : Store Key8 ℕ
   pub here : store.partition ≡ p.layout.metadata
-  pub stands : Stands p.layout.markers store store.entries d
+  pub stands : Stands p.layout.markers store (contents_of store) d
   pub marked : (s m : ℕ) → IsMarked store.entries s m → (least ≤ s) × IsMarked p.store.entries s m
   pub kept : (s : ℕ) → least ≤ s → marker_of store.entries s ≡ marker_of p.store.entries s

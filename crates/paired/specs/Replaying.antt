@@ -12,7 +12,7 @@ use Rattle.segments.specs.Sections.{Sections, key_of, IsHeld}
 use Rattle.segments.specs.FixedItems.{IsItem}
 use Rattle.segments.specs.FixedLists.{AreSealed, IsProven, OwesHeld, OwesSettled, UnopenedLater, section_size}
 use Rattle.segments.specs.FixedReplay.{Walk, HasWalk, IsWalk, WalksOver, SameWalk, IsAhead, IsIn, IsLeft, StandsBefore, StaysStill, kept_bytes}
-use Rattle.meta_store.specs.Store.{Store, Stands, MayBeSynced}
+use Rattle.meta_store.specs.Store.{Store, Stands, MayBeSynced, contents_of}
 use Rattle.meta_store.specs.Calls.{IsOpened}
 use Rattle.value_codec.specs.declared.key.Key8.{Key8}
 use Rattle.paired.specs.GlobSections.{IsGlob}
@@ -154,7 +154,7 @@ module _ {F S : Type 0} {gs : _} (run : Run F (PageBlob S gs)) where
     pub metadata_opened : IsOpened run.store.partition opened
     pub storable : MayBeSynced run.layout.markers run.store.entries
     pub synced : run.store.staged ≡ false
-    pub markers : told → Stands run.layout.markers run.store run.store.entries d
+    pub markers : told → Stands run.layout.markers run.store (contents_of run.store) d
     pub opening : run.tracked ≡ true → IsOpeningRun g told d
     pub live : run.tracked ≡ false → IsLiveRun
 

@@ -273,7 +273,7 @@ impl<I: Record, V: Codec, S: Seal> Oversized<I, V, S> {
     }
 
     /// Opens the pair by its markers, which are kept in the partition `metadata_partition`, and goes over its records. It changes no byte: all
-    /// that the markers vouch for is proved before anything is repaired.
+    /// that the markers vouch for is proved before anything is repaired. The partition has a name, as the configuration of a map asks.
     ///
     /// The replay is to be drained, and to be finished by [`finish_tracked`](Replay::finish_tracked). It gives of each section the records
     /// below its marker, whose values are not read, and those behind them up to the first whose value fails.
@@ -289,6 +289,7 @@ impl<I: Record, V: Codec, S: Seal> Oversized<I, V, S> {
     ) -> Result<Replay<I, V, S>, Error>
         requires valid { 1 ≤ cfg.now.index_pages.page_size }
         requires apart { AreApart (layout_for I.place I.SIZE S.Seal cfg.now metadata_partition.now) }
+        requires named { 1 ≤ length metadata_partition.now }
         ensures over { IfOk result (λ r. IsRun (run_of I.place r) ⟦<PageBlob<S> as SectionBuffer>⟧ ⟦<AppendFactory<S> as BufferFactory>⟧.gives ⟦<WriteBlob as SectionBuffer>⟧ ⟦<WriteFactory as BufferFactory>⟧.gives D.Tells (D.opened dev.new) (disk (D.time dev.new))) }
         ensures tracked { IfOk result (λ r. (run_of I.place r).tracked ≡ true) }
         ensures going { IfOk result (λ r. run.HasFailed (run_of I.place r) → ⊥) }

@@ -10,7 +10,7 @@ ghost use Rattle.meta_store.specs.Removing.{Removes};
 ghost use Rattle.segments.specs.Sections.{key_of, IsHeld, IsSame, SamePlace};
 ghost use Rattle.segments.specs.Lasting.{Going};
 ghost use Rattle.segments.specs.Refusing.{HasFailed};
-ghost use Rattle.paired.specs.Crashes.{IsCopy, IsIndexOf, IsOwn, IsValuesOf, InOrder, Keeping};
+ghost use Rattle.paired.specs.Crashes.{IsCopy, IsIndexOf, IsOneOf, IsOwn, IsValuesOf, InOrder, Keeping};
 ghost use Rattle.paired.specs.Kept.{IsSameLayout, IsMarked, marker_of};
 ghost use Rattle.paired.specs.Pair.{IsPair, IsSoundOn, list_of, synced_length};
 ghost use Rattle.paired.specs.PairFaults.{AreDropped};
@@ -50,8 +50,13 @@ impl<I: Record, V: Codec, S: Seal> Oversized<I, V, S> {
         // one below the bound; the markers are true; no blob changes but those of sections below the bound, and of the markers.
         ensures moments { D.Tells → IsSoundOn (shown I.place self) (disk (D.time dev.old)) → Keeping (shown I.place self).layout (list_of (shown I.place self) (disk (D.time dev.old))) (synced_length (shown I.place self)) (λ s. s < min) (IsOwn (shown I.place self).layout (λ s. s < min)) (D.time dev.old) (D.time dev.new) }
         ensures alone { D.Tells → (((s : ℕ) × (s < min) × ((m : ℕ) × IsMarked (shown I.place self).store.entries s m)) → ⊥) → Always (D.time dev.old) (D.time dev.new) (λ d. (q : Key) → IsCopy (shown I.place self).layout q → d q ≡ disk (D.time dev.old) q) }
-        // Also of a pair that is not sound no other blob changes, and the markers are written over their older copy.
-        ensures untouched { D.Tells → Always (D.time dev.old) (D.time dev.new) (λ d. (q : Key) → (IsOwn (shown I.place self).layout (λ s. (s < min) × IsHeld (shown I.place self).index.sections s) q → ⊥) → d q ≡ disk (D.time dev.old) q) }
+        // Also of a pair that is not sound no other blob changes: of records and of values only those that
+        // are held below the bound. The markers are written over their older copy.
+        ensures untouched { D.Tells → Always (D.time dev.old) (D.time dev.new) (λ d. (q : Key)
+            → (IsOneOf (shown I.place self).layout
+            (λ s. (s < min) × IsHeld (shown I.place self).index.sections s)
+            (λ s. (s < min) × IsHeld (shown I.place self).values s) q → ⊥)
+            → d q ≡ disk (D.time dev.old) q) }
         ensures newer_stays { D.Tells → Always (D.time dev.old) (D.time dev.new) (λ d. d (blob_of (shown I.place self).layout.metadata (other_side (shown I.place self).store.older)) ≡ disk (D.time dev.old) (blob_of (shown I.place self).layout.metadata (other_side (shown I.place self).store.older))) }
         // Markers first, then records, the oldest section first, then values.
         ensures markers_first { D.Tells → InOrder (IsCopy (shown I.place self).layout) (IsIndexOf (shown I.place self).layout (λ s. s < min)) (D.time dev.old) (D.time dev.new) }
@@ -93,8 +98,11 @@ impl<I: Record, V: Codec, S: Seal> Oversized<I, V, S> {
         // At every moment, also where the call fails, each crash leaves of each section a prefix of its list that holds what was synced, or nothing; the
         // markers are true; no blob changes but the pair's own.
         ensures moments { D.Tells → IsSoundOn (shown I.place self) (disk (D.time dev.old)) → Keeping (shown I.place self).layout (list_of (shown I.place self) (disk (D.time dev.old))) (synced_length (shown I.place self)) (λ _. ⊤) (IsOwn (shown I.place self).layout (λ _. ⊤)) (D.time dev.old) (D.time dev.new) }
-        // Also of a pair that is not sound no other blob changes.
-        ensures untouched { D.Tells → Always (D.time dev.old) (D.time dev.new) (λ d. (q : Key) → (IsOwn (shown I.place self).layout (IsHeld (shown I.place self).index.sections) q → ⊥) → d q ≡ disk (D.time dev.old) q) }
+        // Also of a pair that is not sound no other blob changes: of records and of values only those that
+        // are held.
+        ensures untouched { D.Tells → Always (D.time dev.old) (D.time dev.new) (λ d. (q : Key)
+            → (IsOneOf (shown I.place self).layout (IsHeld (shown I.place self).index.sections)
+            (IsHeld (shown I.place self).values) q → ⊥) → d q ≡ disk (D.time dev.old) q) }
         // Markers first, then records, then values.
         ensures markers_first { D.Tells → InOrder (IsCopy (shown I.place self).layout) (IsIndexOf (shown I.place self).layout (λ _. ⊤)) (D.time dev.old) (D.time dev.new) }
         ensures order { D.Tells → InOrder (IsIndexOf (shown I.place self).layout (λ _. ⊤)) (IsValuesOf (shown I.place self).layout (λ _. ⊤)) (D.time dev.old) (D.time dev.new) }

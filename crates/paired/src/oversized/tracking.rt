@@ -11,16 +11,17 @@ ghost use Rattle.blob_device.specs.Counts.{next};
 ghost use Rattle.value_codec.specs.Keys.{key8_bytes};
 ghost use Rattle.meta_store.specs.declared.error.Error.TheVariants.{Mem};
 ghost use Rattle.meta_store.specs.declared.error.Side.{Side};
+ghost use Rattle.meta_store.specs.declared.copy.Contents.{Contents};
 ghost use Rattle.meta_store.specs.declared.pair.Chosen.{Chosen};
 ghost use Rattle.meta_store.specs.declared.error.Side.TheVariants.{Left, Right};
 ghost use Rattle.meta_store.specs.Opening.{PairOn, Opening};
-ghost use Rattle.meta_store.specs.Store.{Stands, MayBeSynced, chosen_by, synced_store};
+ghost use Rattle.meta_store.specs.Store.{Stands, MayBeSynced, chosen_by, contents_of, synced_store};
 ghost use Rattle.meta_store.specs.Store as store;
 ghost use Rattle.meta_store.specs.Calls.{IsOpened, OthersOpened, NoReads, CalledAtMost, GaveUp};
-ghost use Rattle.meta_store.specs.Crashes.{Keeps, Mapping, ReadsNoChance};
 ghost use Rattle.meta_store.specs.Removing.{Removing};
 ghost use Rattle.meta_store.specs.Blobs.{OnlyOne, blob_of};
 ghost use Rattle.paired.specs.Kept.{IsMarked, marker_of};
+ghost use Rattle.paired.specs.MarkerCopies.{Mapping};
 ghost use Rattle.paired.specs.Tracked.{synced_of, Trails, IsFrom};
 ghost use Rattle.paired.specs.TrackedShown.{marker_format};
 
@@ -81,7 +82,7 @@ fn put_marker<S: Seal>(
     ensures marked { OnOk result ((s m : ℕ) → IsMarked (store.shown metadata.new).entries s m → IsMarked (store.shown metadata.old).entries s m ⊎ ((s ≡ section) × (m ≡ len))) }
     ensures staged { OnOk result (store.shown metadata.new ≡ store.staging (store.shown metadata.old) (store.shown metadata.new).entries) }
     ensures storable { OnOk result (MayBeSynced (marker_format S.Seal) (store.shown metadata.old).entries → MayBeSynced (marker_format S.Seal) (store.shown metadata.new).entries) }
-    ensures stands { (synced : List _) (d : Disk) → Stands (marker_format S.Seal) (store.shown metadata.old) synced d → Stands (marker_format S.Seal) (store.shown metadata.new) synced d }
+    ensures stands { (synced : Contents _ _) (d : Disk) → Stands (marker_format S.Seal) (store.shown metadata.old) synced d → Stands (marker_format S.Seal) (store.shown metadata.new) synced d }
     ensures cause { OnErr result (IsErrOf result Mem) }
 {
     metadata.put(marker_key(section), len)
@@ -101,7 +102,7 @@ fn put_inactive<S: Seal>(
     ensures staged { OnOk result (store.shown metadata.new ≡ record (store.shown metadata.old) { entries = (store.shown metadata.new).entries; staged = (store.shown metadata.new).staged }) }
     ensures fresh { OnOk result ((store.shown metadata.new).staged ≡ false → store.shown metadata.new ≡ store.shown metadata.old) }
     ensures storable { OnOk result (MayBeSynced (marker_format S.Seal) (store.shown metadata.old).entries → MayBeSynced (marker_format S.Seal) (store.shown metadata.new).entries) }
-    ensures stands { (synced : List _) (d : Disk) → Stands (marker_format S.Seal) (store.shown metadata.old) synced d → Stands (marker_format S.Seal) (store.shown metadata.new) synced d }
+    ensures stands { (synced : Contents _ _) (d : Disk) → Stands (marker_format S.Seal) (store.shown metadata.old) synced d → Stands (marker_format S.Seal) (store.shown metadata.new) synced d }
     ensures cause { OnErr result (IsErrOf result Mem) }
 {
     if active.contains(&section) {
@@ -123,7 +124,7 @@ fn put_markers<S: Seal>(
     ensures staged { OnOk result (store.shown metadata.new ≡ record (store.shown metadata.old) { entries = (store.shown metadata.new).entries; staged = (store.shown metadata.new).staged }) }
     ensures fresh { OnOk result ((store.shown metadata.new).staged ≡ false → store.shown metadata.new ≡ store.shown metadata.old) }
     ensures storable { OnOk result (MayBeSynced (marker_format S.Seal) (store.shown metadata.old).entries → MayBeSynced (marker_format S.Seal) (store.shown metadata.new).entries) }
-    ensures stands { (synced : List _) (d : Disk) → Stands (marker_format S.Seal) (store.shown metadata.old) synced d → Stands (marker_format S.Seal) (store.shown metadata.new) synced d }
+    ensures stands { (synced : Contents _ _) (d : Disk) → Stands (marker_format S.Seal) (store.shown metadata.old) synced d → Stands (marker_format S.Seal) (store.shown metadata.new) synced d }
     ensures cause { OnErr result (IsErrOf result Mem) }
 {
     for (section, len) in lens.iter() {
@@ -141,18 +142,15 @@ impl<S: Seal> Tracking<S> {
         dev: &mut D,
         partition: &str,
     ) -> Result<Self, Error>
-        ensures reads { D.Tells → IfOk result (λ t. PairOn (marker_format S.Seal) partition.now (disk (D.time dev.old)) (Ok (chosen_by (shown t).store (shown t).store.entries))) }
+        requires { 1 ≤ length partition.now }
+        ensures reads { D.Tells → IfOk result (λ t. PairOn (marker_format S.Seal) partition.now (disk (D.time dev.old)) (Ok (chosen_by (shown t).store (contents_of (shown t).store)))) }
         ensures corrupt { D.Tells → (side : Side) → IsErrOf result (Error.Corruption side) → PairOn (marker_format S.Seal) partition.now (disk (D.time dev.old)) (Err side) }
         ensures map { D.Tells → (chosen : Chosen _ _) → PairOn (marker_format S.Seal) partition.now (disk (D.time dev.old)) (Ok chosen)
-            → MatchResult result (λ t. chosen_by (shown t).store (shown t).store.entries ≡ chosen) (λ _. GaveUp result (D.faults dev.old) (D.faults dev.new)) }
+            → MatchResult result (λ t. chosen_by (shown t).store (contents_of (shown t).store) ≡ chosen) (λ _. GaveUp result (D.faults dev.old) (D.faults dev.new)) }
         ensures refused { D.Tells → (side : Side) → PairOn (marker_format S.Seal) partition.now (disk (D.time dev.old)) (Err side)
             → (result ≡ Err (Error.Corruption side)) ⊎ GaveUp result (D.faults dev.old) (D.faults dev.new) }
-        // What a crash leaves at each moment is what it left before, if what the two blobs read as has no chance seal.
-        ensures crashes { D.Tells → (one other : List _) → Keeps (marker_format S.Seal) partition.now one other (disk (D.time dev.old))
-            → ReadsNoChance S.seal_of (disk (D.time dev.old) (blob_of partition.now Left)) → ReadsNoChance S.seal_of (disk (D.time dev.old) (blob_of partition.now Right))
-            → Mapping (marker_format S.Seal) partition.now one other (D.time dev.old) (D.time dev.new) }
         ensures moments { D.Tells → Always (D.time dev.old) (D.time dev.new) (Opening partition.now (disk (D.time dev.old))) }
-        ensures stands { D.Tells → IfOk result (λ t. Stands (marker_format S.Seal) (shown t).store (shown t).store.entries (disk (D.time dev.new))) }
+        ensures stands { D.Tells → IfOk result (λ t. Stands (marker_format S.Seal) (shown t).store (contents_of (shown t).store) (disk (D.time dev.new))) }
         ensures storable { IfOk result (λ t. MayBeSynced (marker_format S.Seal) (shown t).store.entries) }
         ensures partition { IfOk result (λ t. (shown t).store.partition ≡ partition.now) }
         ensures staged { IfOk result (λ t. (shown t).store.staged ≡ false) }
@@ -230,7 +228,7 @@ impl<S: Seal> Tracking<S> {
         ensures fresh { OnOk result ((shown self.new).store.staged ≡ false → (shown self.new).store ≡ (shown self.old).store) }
         ensures storable { MayBeSynced (marker_format S.Seal) (shown self.old).store.entries → OnOk result (MayBeSynced (marker_format S.Seal) (shown self.new).store.entries) }
         // It stands on its device as before.
-        ensures stands { (synced : List _) (d : Disk) → Stands (marker_format S.Seal) (shown self.old).store synced d → Stands (marker_format S.Seal) (shown self.new).store synced d }
+        ensures stands { (synced : Contents _ _) (d : Disk) → Stands (marker_format S.Seal) (shown self.old).store synced d → Stands (marker_format S.Seal) (shown self.new).store synced d }
         ensures cause { OnErr result (IsErrOf result Mem) }
     {
         put_markers(&mut self.metadata, &self.trailing, active)?;
@@ -242,13 +240,14 @@ impl<S: Seal> Tracking<S> {
     pub(super) fn sync<D: Device>(self, dev: &mut D) -> Result<Self, Error>
         requires storable { MayBeSynced (marker_format S.Seal) (shown self).store.entries }
         requires opened { IsOpened (shown self).store.partition (D.opened dev.old) }
-        ensures crashes { D.Tells → (synced : List _) → Stands (marker_format S.Seal) (shown self).store synced (disk (D.time dev.old))
-            → Mapping (marker_format S.Seal) (shown self).store.partition synced (shown self).store.entries (D.time dev.old) (D.time dev.new) }
+        ensures crashes { D.Tells → (synced : Contents _ _) → Stands (marker_format S.Seal) (shown self).store synced (disk (D.time dev.old))
+            → Mapping (marker_format S.Seal) (shown self).store.partition synced.entries (shown self).store.entries (D.time dev.old) (D.time dev.new) }
         ensures alone { D.Tells → Always (D.time dev.old) (D.time dev.new) (OnlyOne (shown self).store.partition (shown self).store.older (disk (D.time dev.old))) }
-        ensures stands { D.Tells → (synced : List _) → Stands (marker_format S.Seal) (shown self).store synced (disk (D.time dev.old))
-            → IfOk result (λ t. Stands (marker_format S.Seal) (shown t).store (shown self).store.entries (disk (D.time dev.new))) }
+        ensures stands { D.Tells → (synced : Contents _ _) → Stands (marker_format S.Seal) (shown self).store synced (disk (D.time dev.old))
+            → IfOk result (λ t. Stands (marker_format S.Seal) (shown t).store (contents_of (shown self).store) (disk (D.time dev.new))) }
         ensures same { IfOk result (λ t. (shown t).store ≡ synced_store (shown self).store) }
         ensures markers { IfOk result (λ t. (shown t).store.entries ≡ (shown self).store.entries) }
+        ensures contents { IfOk result (λ t. contents_of (shown t).store ≡ contents_of (shown self).store) }
         ensures trailing { IfOk result (λ t. (shown t).trailing ≡ (shown self).trailing) }
         ensures idle { (shown self).store.staged ≡ false → (dev.new ≡ dev.old) × IsOk result }
         ensures calls { (shown self).store.staged ≡ true → OnOk result ((D.time dev.new).calls ≡ next (next (D.time dev.old).calls)) }
@@ -280,7 +279,7 @@ impl<S: Seal> Tracking<S> {
         ensures dropped { (shown self.new).store.staged ≡ false → (shown self.new).store ≡ (shown self.old).store }
         ensures storable { MayBeSynced (marker_format S.Seal) (shown self.old).store.entries → MayBeSynced (marker_format S.Seal) (shown self.new).store.entries }
         // It stands on its device as before.
-        ensures stands { (synced : List _) (d : Disk) → Stands (marker_format S.Seal) (shown self.old).store synced d → Stands (marker_format S.Seal) (shown self.new).store synced d }
+        ensures stands { (synced : Contents _ _) (d : Disk) → Stands (marker_format S.Seal) (shown self.old).store synced d → Stands (marker_format S.Seal) (shown self.new).store synced d }
     {
         let keep = |key: &Key8, _len: &u64| -> bool
             ensures { IsFrom min key.now result }
@@ -292,8 +291,8 @@ impl<S: Seal> Tracking<S> {
     /// Removes the markers from the device.
     pub(super) fn destroy<D: Device>(self, dev: &mut D) -> Result<(), Error>
         // At each moment, also where the call fails, a crash leaves the markers as they were last synced, or none.
-        ensures crashes { D.Tells → (synced : List _) → Stands (marker_format S.Seal) (shown self).store synced (disk (D.time dev.old))
-            → Mapping (marker_format S.Seal) (shown self).store.partition synced [] (D.time dev.old) (D.time dev.new) }
+        ensures crashes { D.Tells → (synced : Contents _ _) → Stands (marker_format S.Seal) (shown self).store synced (disk (D.time dev.old))
+            → Mapping (marker_format S.Seal) (shown self).store.partition synced.entries [] (D.time dev.old) (D.time dev.new) }
         ensures moments { D.Tells → Always (D.time dev.old) (D.time dev.new) (Removing (shown self).store.partition (shown self).store.older (disk (D.time dev.old))) }
         ensures gone { D.Tells → (side : Side) → OnOk result (disk (D.time dev.new) (blob_of (shown self).store.partition side) ≡ nothing) }
         ensures closed { (side : Side) → OnOk result (D.opened dev.new (blob_of (shown self).store.partition side) ≡ None) }

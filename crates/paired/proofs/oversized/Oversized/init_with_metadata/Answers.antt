@@ -28,7 +28,7 @@ use Rattle.meta_store.specs.declared.pair.Chosen.{Chosen}
 use Rattle.meta_store.specs.Blobs.{blob_of}
 use Rattle.meta_store.specs.Calls.{IsOpened}
 use Rattle.meta_store.specs.Opening.{Opening}
-use Rattle.meta_store.specs.Store.{Stands, MayBeSynced, chosen_by}
+use Rattle.meta_store.specs.Store.{Stands, MayBeSynced, chosen_by, contents_of}
 use Rattle.paired.specs.GlobSections.{section_size}
 use Rattle.paired.specs.Kept.{Layout, Markers, IsMarked}
 use Rattle.paired.specs.Opening.{as_read, HoldMarkers, IsLawful, OnlyOpens}
@@ -323,7 +323,7 @@ returns-in_err-index-clause-refusals g c t =
     let is = err_of r x c.from_residual-in_err-index.ensures.1 in
     let why : PartsRefuse r fa fe = parts_refuse r x is fa fb fe c.init.ensures.faults c.in_err-index.ensures.cause in
     let store = (tracking.shown c.in_ok-tracking.tracking).store in
-    let held : HoldMarkers l (as_read (disk a)) store.entries = record { chosen = chosen_by store store.entries; reads = c.in_ok-tracking.ensures.reads t; map = refl } in
+    let held : HoldMarkers l (as_read (disk a)) store.entries = record { chosen = chosen_by store (contents_of store); reads = c.in_ok-tracking.ensures.reads t; map = refl } in
     record {
       corrupt = λ side has. absurd (parts_corrupt r fa fe why side has);
       named = λ n has. named_before l c.requires.apart (disk a) (disk b) opening n (c.in_err-index.ensures.named t n (error_back r x is (journal_error.InvalidBlobName n) has));
@@ -359,8 +359,8 @@ returns-in_err-index-clause-complete g c t markers lawful spelled counted =
     let why : PartsRefuse r fa fe = parts_refuse r x is fa fb fe c.init.ensures.faults c.in_err-index.ensures.cause in
     parts_give_up r fa fe why
     (λ n has. lawful_named l (disk a) markers lawful n (named_before l c.requires.apart (disk a) (disk b) opening n (c.in_err-index.ensures.named t n (error_back r x is (journal_error.InvalidBlobName n) has))))
-    (λ d has. no_loss l c.requires.valid g.met.I.CodecFixed.fixed.at_least (disk a) markers lawful counted d (lost_as l [] (λ s n. get nat_cmp c.in_ok-floors.floors s ≡ Some n) (IsMarked markers) (λ s n is_n. subst (λ (es : Markers). IsMarked es s n) (ap (λ (k : Chosen Key8 ℕ). k.entries) (c.in_ok-tracking.ensures.map t lawful.held.chosen lawful.held.reads) ∙ lawful.held.map) ((c.in_ok-floors.ensures.each s n).0 is_n)) (disk b) (disk a) (λ s. index_stays l c.requires.apart (disk a) (disk b) opening (to_be_bytes w64 s)) (λ s. values_stay l c.requires.apart (disk a) (disk b) opening (to_be_bytes w64 s)) d (c.in_err-index.ensures.damage t d (error_back r x is (journal_error.Corruption d) has))))
-    (λ y has. no_unreadable l c.requires.valid g.met.I.CodecFixed.fixed.at_least (disk a) markers lawful g.I.Codec.refusal spelled y (unreadable_as l [] (λ s n. get nat_cmp c.in_ok-floors.floors s ≡ Some n) (IsMarked markers) (λ s n is_n. subst (λ (es : Markers). IsMarked es s n) (ap (λ (k : Chosen Key8 ℕ). k.entries) (c.in_ok-tracking.ensures.map t lawful.held.chosen lawful.held.reads) ∙ lawful.held.map) ((c.in_ok-floors.ensures.each s n).0 is_n)) (disk b) (disk a) (λ s. index_stays l c.requires.apart (disk a) (disk b) opening (to_be_bytes w64 s)) (λ s. values_stay l c.requires.apart (disk a) (disk b) opening (to_be_bytes w64 s)) g.I.Codec.refusal y (c.in_err-index.ensures.refused t y (error_back r x is (journal_error.Codec y) has))))
+    (λ d has. no_loss l c.requires.valid g.met.I.CodecFixed.fixed.at_least (disk a) markers lawful counted d (lost_as l [] (λ s n. get nat_cmp c.in_ok-floors.floors s ≡ Some n) (IsMarked markers) (λ s n is_n. subst (λ (es : Markers). IsMarked es s n) (ap (λ (k : Chosen Key8 ℕ). k.contents.entries) (c.in_ok-tracking.ensures.map t lawful.held.chosen lawful.held.reads) ∙ lawful.held.map) ((c.in_ok-floors.ensures.each s n).0 is_n)) (disk b) (disk a) (λ s. index_stays l c.requires.apart (disk a) (disk b) opening (to_be_bytes w64 s)) (λ s. values_stay l c.requires.apart (disk a) (disk b) opening (to_be_bytes w64 s)) d (c.in_err-index.ensures.damage t d (error_back r x is (journal_error.Corruption d) has))))
+    (λ y has. no_unreadable l c.requires.valid g.met.I.CodecFixed.fixed.at_least (disk a) markers lawful g.I.Codec.refusal spelled y (unreadable_as l [] (λ s n. get nat_cmp c.in_ok-floors.floors s ≡ Some n) (IsMarked markers) (λ s n is_n. subst (λ (es : Markers). IsMarked es s n) (ap (λ (k : Chosen Key8 ℕ). k.contents.entries) (c.in_ok-tracking.ensures.map t lawful.held.chosen lawful.held.reads) ∙ lawful.held.map) ((c.in_ok-floors.ensures.each s n).0 is_n)) (disk b) (disk a) (λ s. index_stays l c.requires.apart (disk a) (disk b) opening (to_be_bytes w64 s)) (λ s. values_stay l c.requires.apart (disk a) (disk b) opening (to_be_bytes w64 s)) g.I.Codec.refusal y (c.in_err-index.ensures.refused t y (error_back r x is (journal_error.Codec y) has))))
     (λ room. (let long = c.in_err-index.ensures.overflow (error_back r x is (journal_error.Runtime OffsetOverflow) room) in
     no_overflow l c.requires.apart (disk a) (disk e) (always_now a e (OnlyOpens l (disk a)) opens) counted (g.D.Device.opened c.open_parts.new.dev) (g.met.D.Device.opened_stands t c.open_parts.new.dev) long.0 long.1))
 
@@ -438,8 +438,8 @@ returns-clause-over g c =
           (λ s small. (λ is_k. index_apart l c.requires.apart (to_be_bytes w64 s) side (sym is_k), λ is_k. values_apart l c.requires.apart (to_be_bytes w64 s) side (sym is_k)))) c.in_ok-tracking.ensures.opened));
       storable = subst (λ y. MayBeSynced l.markers (tracking.shown y).store.entries) (sym trk) c.in_ok-tracking.ensures.storable;
       synced = ap (λ y. (tracking.shown y).store.staged) trk ∙ c.in_ok-tracking.ensures.staged;
-      markers = λ t. subst (λ y. Stands l.markers (tracking.shown y).store (tracking.shown y).store.entries (disk f)) (sym trk)
-          (stands_over l.markers (tracking.shown c.in_ok-tracking.tracking).store (tracking.shown c.in_ok-tracking.tracking).store.entries (disk b) (disk f)
+      markers = λ t. subst (λ y. Stands l.markers (tracking.shown y).store (contents_of (tracking.shown y).store) (disk f)) (sym trk)
+          (stands_over l.markers (tracking.shown c.in_ok-tracking.tracking).store (contents_of (tracking.shown c.in_ok-tracking.tracking).store) (disk b) (disk f)
           (λ side. subst (λ (p : List ℕ). disk f (blob_of p side) ≡ disk b (blob_of p side)) (sym c.in_ok-tracking.ensures.partition)
           (ap (λ dev. disk (g.D.Device.time dev) (blob_of l.metadata side)) same_dev ∙ copies_stay l c.requires.apart (disk b) (disk e) (always_now b e _ (c.open_parts.ensures.moments t)) side))
           (c.in_ok-tracking.ensures.stands t));
@@ -552,8 +552,8 @@ returns-clause-found g c t =
     let alike = read_alike l c.requires.apart (disk a) (disk f) only in
     let entries : R.store.entries ≡ (tracking.shown c.in_ok-tracking.tracking).store.entries = ap (λ y. (tracking.shown y).store.entries) trk in
     found_of _ g.D.Device.Tells floors (disk a) (disk f) R parts own each g.met.I.CodecFixed.fixed.at_least (subst (λ (n : ℕ). 1 ≤ n) (sym (ap (λ (y : Layout). y.page_size) layout)) c.requires.valid) t l layout (disk f)
-    (record { chosen = chosen_by (tracking.shown c.in_ok-tracking.tracking).store (tracking.shown c.in_ok-tracking.tracking).store.entries; reads = c.in_ok-tracking.ensures.reads t; map = sym entries }) alike (at_ok r x _ is c.tracked.ensures.goes_on)
-    (λ markers lawful. subst (IsLawful l (as_read (disk f))) (sym lawful.held.map ∙ sym (ap (λ (k : Chosen Key8 ℕ). k.entries) (c.in_ok-tracking.ensures.map t lawful.held.chosen lawful.held.reads)) ∙ sym entries) (lawful_alike l (as_read (disk a)) (as_read (disk f)) alike markers lawful)))
+    (record { chosen = chosen_by (tracking.shown c.in_ok-tracking.tracking).store (contents_of (tracking.shown c.in_ok-tracking.tracking).store); reads = c.in_ok-tracking.ensures.reads t; map = sym entries }) alike (at_ok r x _ is c.tracked.ensures.goes_on)
+    (λ markers lawful. subst (IsLawful l (as_read (disk f))) (sym lawful.held.map ∙ sym (ap (λ (k : Chosen Key8 ℕ). k.contents.entries) (c.in_ok-tracking.ensures.map t lawful.held.chosen lawful.held.reads)) ∙ sym entries) (lawful_alike l (as_read (disk a)) (as_read (disk f)) alike markers lawful)))
 
 pub open_parts-requires-clause-floors : goal.open_parts-requires-clause-floors
 open_parts-requires-clause-floors g c s has =

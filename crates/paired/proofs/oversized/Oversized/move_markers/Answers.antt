@@ -11,11 +11,12 @@ use Rattle.segments.proofs.FixedWriteLemmas.{are_pages}
 use Rattle.segments.proofs.WalkLemmas.{contains_or_not}
 use Rattle.meta_store.specs.Blobs.{blob_of, other_side, OnlyOne}
 use Rattle.meta_store.specs.Calls.{IsOpened}
-use Rattle.meta_store.specs.Crashes as metadata
+use Rattle.paired.specs.MarkerCopies as marker_copies
 use Rattle.meta_store.specs.declared.error.Side.TheVariants.{Left, Right}
-use Rattle.meta_store.specs.Store.{Stands, MayBeSynced}
+use Rattle.meta_store.specs.Store.{Stands, MayBeSynced, contents_of}
 use Rattle.meta_store.proofs.Sides.{sides_apart}
 use Rattle.meta_store.proofs.SyncingLemmas.{stands_alone}
+use Rattle.paired.proofs.MarkerCopies.{copies_map}
 use Rattle.paired.specs.Crashes.{IsCopy}
 use Rattle.paired.specs.PairShown.{shown}
 use Rattle.paired.specs.TrackedShown as tracked
@@ -58,7 +59,8 @@ returns-in_err-stage-clause-moments g c t sound =
     let told = g.D.Device.Tells in
     let a = g.D.Device.time c.args.dev.now in
     markers_keep _ _ told p _ a a here c.requires.over t (parts_of _ _ told p pages _ (disk a) here c.requires.over t sound) p.store.entries c.requires.over.markers.marked
-    (stands_alone p.layout.markers p.store p.store.entries p.store.entries a (c.requires.over.disk t).markers)
+    (copies_map p.layout.markers p.store.partition (contents_of p.store) (contents_of p.store) a a
+    (stands_alone p.layout.markers p.store (contents_of p.store) (contents_of p.store) a (c.requires.over.disk t).markers))
 
 pub returns-in_err-stage-clause-alone : goal.returns-in_err-stage-clause-alone
 returns-in_err-stage-clause-alone g c t =
@@ -85,7 +87,7 @@ returns-in_err-this-clause-moments g c t sound =
     let placed : x.store.partition ≡ p.layout.metadata = ap (λ u. u.partition) c.in_ok-stage.ensures.staged in
     let b = g.D.Device.time c.sync.new.dev in
     markers_keep _ _ told p _ a b here c.requires.over t (parts_of _ _ told p pages _ (disk a) here c.requires.over t sound) x.store.entries (moved_marked _ _ told p active decides _ (disk a) here c.requires.over x.store.entries x.trailing moved)
-    (subst (λ k. metadata.Mapping p.layout.markers k p.store.entries x.store.entries a b) placed (c.sync.ensures.crashes t p.store.entries (c.in_ok-stage.ensures.stands p.store.entries (disk a) (c.requires.over.disk t).markers)))
+    (subst (λ k. marker_copies.Mapping p.layout.markers k p.store.entries x.store.entries a b) placed (c.sync.ensures.crashes t (contents_of p.store) (c.in_ok-stage.ensures.stands (contents_of p.store) (disk a) (c.requires.over.disk t).markers)))
 
 pub returns-in_err-this-clause-alone : goal.returns-in_err-this-clause-alone
 returns-in_err-this-clause-alone g c t =
@@ -133,7 +135,7 @@ returns-clause-moments g c t sound =
     let placed : x.store.partition ≡ p.layout.metadata = ap (λ u. u.partition) c.in_ok-stage.ensures.staged in
     let b = g.D.Device.time c.sync.new.dev in
     markers_keep _ _ told p _ a b here c.requires.over t (parts_of _ _ told p pages _ (disk a) here c.requires.over t sound) x.store.entries (moved_marked _ _ told p active decides _ (disk a) here c.requires.over x.store.entries x.trailing moved)
-    (subst (λ k. metadata.Mapping p.layout.markers k p.store.entries x.store.entries a b) placed (c.sync.ensures.crashes t p.store.entries (c.in_ok-stage.ensures.stands p.store.entries (disk a) (c.requires.over.disk t).markers)))
+    (subst (λ k. marker_copies.Mapping p.layout.markers k p.store.entries x.store.entries a b) placed (c.sync.ensures.crashes t (contents_of p.store) (c.in_ok-stage.ensures.stands (contents_of p.store) (disk a) (c.requires.over.disk t).markers)))
 
 pub returns-clause-alone : goal.returns-clause-alone
 returns-clause-alone g c t =
@@ -238,7 +240,7 @@ returns-clause-over g c =
     (marked_again _ _ told p active decides _ (disk a) here c.requires.over y.store y.trailing moved_y (g.D.Device.opened c.sync.new.dev) (disk b) blobs
     (ap (λ u. u.staged) says.same ∙ synced_unstaged x.store) (subst (MayBeSynced p.layout.markers) (sym says.markers) (c.in_ok-stage.ensures.storable c.requires.over.storable))
     (subst (λ k. IsOpened k (g.D.Device.opened c.sync.new.dev)) (placed ∙ sym placed_y) c.sync.ensures.opened) entries
-    (λ t. subst (λ m. Stands p.layout.markers y.store m (disk b)) (sym says.markers) (says.stands t p.store.entries (c.in_ok-stage.ensures.stands p.store.entries (disk a) (c.requires.over.disk t).markers))))
+    (λ t. subst (λ m. Stands p.layout.markers y.store m (disk b)) (sym says.contents) (says.stands t (contents_of p.store) (c.in_ok-stage.ensures.stands (contents_of p.store) (disk a) (c.requires.over.disk t).markers))))
 
 pub returns-clause-sound : goal.returns-clause-sound
 returns-clause-sound g c t sound =

@@ -13,8 +13,8 @@ use Rattle.segments.specs.Setting.{Setting}
 use Rattle.value_codec.specs.declared.key.Key8.{Key8}
 use Rattle.meta_store.specs.Blobs.{blob_of, other_side}
 use Rattle.meta_store.specs.Calls.{IsOpened, OthersOpened}
-use Rattle.meta_store.specs.Crashes.{Mapping}
-use Rattle.meta_store.specs.Store.{Store, Stands, MayBeSynced}
+use Rattle.paired.specs.MarkerCopies.{Mapping}
+use Rattle.meta_store.specs.Store.{Store, Stands, MayBeSynced, contents_of}
 use Rattle.paired.specs.Crashes.{IsCopy}
 use Rattle.paired.specs.GlobSections as glob
 use Rattle.paired.specs.Kept.{Markers, IsMarked, marker_of}
@@ -28,9 +28,10 @@ use Rattle.paired.proofs.PairStays.{journal_stays}
 use Rattle.paired.proofs.PairFailing.{no_error}
 use Rattle.paired.proofs.PairPassing.{no_value, failed_cause, failed_full, failed_lost}
 use Rattle.paired.proofs.PairRemoved.{marked_below, none_staged, staged_marked, marked_staged, stands_stays, index_bytes, either_flag, either_floor, IsRemoved, removed_synced, removed_floors, removed_pair, removed_list, removed_sound, at_layout, pair_at, same_layout}
-use Rattle.paired.proofs.PairRemoving.{values_ascending, own_alone, copy_stays, newer_stays, sections_wait, prune_held, IsDoomed, IsLost, markers_gone, records_gone, values_gone, only_copies, none_leave, untouched_same, settled_keeps, synced_partition, synced_fresh, opened_stays, gone_absent, parts_of, prune_ways, known_held, known_valued, below_or_not, markers_first, records_first, ascending, copies_alone, index_first, index_last, values_first, copies_last, index_undoomed, own_entries, index_opened, index_still_opened, values_opened, copies_opened, keeps_markers, keeps_records, keeps_values}
+use Rattle.paired.proofs.PairRemoving.{values_ascending, prune_one, copy_stays, newer_stays, sections_wait, IsDoomed, IsLost, markers_gone, records_gone, values_gone, only_copies, none_leave, untouched_same, settled_keeps, synced_partition, synced_fresh, opened_stays, gone_absent, parts_of, prune_ways, known_held, known_valued, below_or_not, markers_first, records_first, ascending, copies_alone, index_first, index_last, values_first, copies_last, index_undoomed, own_entries, index_opened, index_still_opened, values_opened, copies_opened, keeps_markers, keeps_records, keeps_values}
 use Rattle.paired.proofs.oversized.Oversized.prune.Goals.{then-records, else-records}
 use Rattle.paired.proofs.oversized.Oversized.prune.Goals as goal
+use Rattle.meta_store.specs.declared.copy.Contents.{Contents}
 
 pub drop_below-requires : goal.drop_below-requires
 drop_below-requires g c =
@@ -81,17 +82,16 @@ returns-in_err-this g c =
       codec_config = no_value _ _ c.from_residual.ensures.0;
       moments = λ t sound.
           let parts = parts_of p (g.D.Device.opened c.args.dev.now) (disk (g.D.Device.time c.args.dev.now)) c.requires.over t sound refl refl refl (λ s v held. ap (λ (x : Setting). x.page_size) (c.requires.over.index.over.opened_list.setting s v held)) in
-          let stands = c.drop_below.ensures.stands p.store.entries (disk (g.D.Device.time c.args.dev.now)) (c.requires.over.disk t).markers in
-          let maps = subst (λ (x : List ℕ). Mapping p.layout.markers x p.store.entries new.entries (g.D.Device.time c.args.dev.now) (g.D.Device.time c.sync.new.dev)) here (c.sync.ensures.crashes t p.store.entries stands) in
+          let stands = c.drop_below.ensures.stands (contents_of p.store) (disk (g.D.Device.time c.args.dev.now)) (c.requires.over.disk t).markers in
+          let maps = subst (λ (x : List ℕ). Mapping p.layout.markers x p.store.entries new.entries (g.D.Device.time c.args.dev.now) (g.D.Device.time c.sync.new.dev)) here (c.sync.ensures.crashes t (contents_of p.store) stands) in
           keeps_markers ways g.met.I.CodecFixed.fixed.at_least (g.D.Device.time c.args.dev.now) parts t (below_or_not c.args.min) new.entries (λ s n is. (c.drop_below.ensures.marked s n is).1) (λ s n lt is. omega (arith, lt, (c.drop_below.ensures.marked s n is).0)) (g.D.Device.time c.sync.new.dev) maps;
       alone = λ t none.
           let removes = markers_gone p.layout p.index.sections p.values (IsDoomed p c.args.min) (IsLost p c.args.min) (only_copies p.layout new (g.D.Device.time c.args.dev.now) (g.D.Device.time c.sync.new.dev) here (c.sync.ensures.alone t)) in
           let idle = c.sync.ensures.idle (none_staged p.store new c.args.min c.drop_below.ensures.still c.drop_below.ensures.marked c.drop_below.ensures.dropped c.requires.over.synced (λ s m lt is. none (s, lt, (m, is)))) in
           copies_alone ways (g.D.Device.time c.args.dev.now) (g.D.Device.time c.sync.new.dev) removes (untouched_same (IsCopy p.layout) (g.D.Device.time c.args.dev.now) (g.D.Device.time c.sync.new.dev) (ap g.D.Device.time idle.0));
       untouched = λ t.
-          let ways = prune_held p (g.D.Device.opened c.args.dev.now) (disk (g.D.Device.time c.args.dev.now)) c.requires.over refl refl c.args.min in
           let removes = markers_gone p.layout p.index.sections p.values (IsDoomed p c.args.min) (IsLost p c.args.min) (only_copies p.layout new (g.D.Device.time c.args.dev.now) (g.D.Device.time c.sync.new.dev) here (c.sync.ensures.alone t)) in
-          own_alone ways (g.D.Device.time c.args.dev.now) (g.D.Device.time c.sync.new.dev) removes;
+          prune_one p (g.D.Device.opened c.args.dev.now) (disk (g.D.Device.time c.args.dev.now)) c.requires.over refl refl c.args.min (g.D.Device.time c.args.dev.now) (g.D.Device.time c.sync.new.dev) removes;
       newer_stays = λ t.
           let removes = markers_gone p.layout p.index.sections p.values (IsDoomed p c.args.min) (IsLost p c.args.min) (only_copies p.layout new (g.D.Device.time c.args.dev.now) (g.D.Device.time c.sync.new.dev) here (c.sync.ensures.alone t)) in
           copy_stays ways (g.D.Device.time c.args.dev.now) (g.D.Device.time c.sync.new.dev) removes (other_side p.store.older) (newer_stays p.layout new p.store.older (g.D.Device.time c.args.dev.now) (g.D.Device.time c.sync.new.dev) here (ap (λ (u : Store Key8 ℕ). u.older) c.drop_below.ensures.staged) (c.sync.ensures.alone t));
@@ -158,18 +158,17 @@ returns-in_err-index g c =
       codec_config = no_value _ _ c.from_residual-in_err-index.ensures.0;
       moments = λ t sound.
           let parts = parts_of p (g.D.Device.opened c.args.dev.now) (disk (g.D.Device.time c.args.dev.now)) c.requires.over t sound refl refl refl (λ s v held. ap (λ (x : Setting). x.page_size) (c.requires.over.index.over.opened_list.setting s v held)) in
-          let stands = c.drop_below.ensures.stands p.store.entries (disk (g.D.Device.time c.args.dev.now)) (c.requires.over.disk t).markers in
-          let maps = subst (λ (x : List ℕ). Mapping p.layout.markers x p.store.entries new.entries (g.D.Device.time c.args.dev.now) (g.D.Device.time c.sync.new.dev)) here (c.sync.ensures.crashes t p.store.entries stands) in
-          let settled = settled_keeps p.layout (tracked.shown c.in_ok-this.field-0).store new.entries (disk (g.D.Device.time c.sync.new.dev)) (ap (λ (u : Store Key8 ℕ). u.partition) c.in_ok-this.ensures.same ∙ synced_partition new ∙ here) (c.in_ok-this.ensures.stands t p.store.entries stands) in
+          let stands = c.drop_below.ensures.stands (contents_of p.store) (disk (g.D.Device.time c.args.dev.now)) (c.requires.over.disk t).markers in
+          let maps = subst (λ (x : List ℕ). Mapping p.layout.markers x p.store.entries new.entries (g.D.Device.time c.args.dev.now) (g.D.Device.time c.sync.new.dev)) here (c.sync.ensures.crashes t (contents_of p.store) stands) in
+          let settled = settled_keeps p.layout (tracked.shown c.in_ok-this.field-0).store (contents_of new) (disk (g.D.Device.time c.sync.new.dev)) (ap (λ (u : Store Key8 ℕ). u.partition) c.in_ok-this.ensures.same ∙ synced_partition new ∙ here) (c.in_ok-this.ensures.stands t (contents_of p.store) stands) in
           keeps_records ways g.met.I.CodecFixed.fixed.at_least (g.D.Device.time c.args.dev.now) parts t (below_or_not c.args.min) new.entries (λ s n is. (c.drop_below.ensures.marked s n is).1) (λ s n lt is. omega (arith, lt, (c.drop_below.ensures.marked s n is).0)) (g.D.Device.time c.sync.new.dev) maps settled (λ s is. known_held p (g.D.Device.opened c.args.dev.now) (disk (g.D.Device.time c.args.dev.now)) c.requires.over refl refl s is.0) (λ s lt held. (inl held, lt)) (g.D.Device.time c.prune.new.dev) (c.prune.ensures.moments t);
       alone = λ t none.
           let removes = records_gone p.layout p.values (IsLost p c.args.min) (only_copies p.layout new (g.D.Device.time c.args.dev.now) (g.D.Device.time c.sync.new.dev) here (c.sync.ensures.alone t)) (c.prune.ensures.moments t) in
           let idle = c.sync.ensures.idle (none_staged p.store new c.args.min c.drop_below.ensures.still c.drop_below.ensures.marked c.drop_below.ensures.dropped c.requires.over.synced (λ s m lt is. none (s, lt, (m, is)))) in
           copies_alone ways (g.D.Device.time c.args.dev.now) (g.D.Device.time c.prune.new.dev) removes (untouched_same (IsCopy p.layout) (g.D.Device.time c.args.dev.now) (g.D.Device.time c.sync.new.dev) (ap g.D.Device.time idle.0));
       untouched = λ t.
-          let ways = prune_held p (g.D.Device.opened c.args.dev.now) (disk (g.D.Device.time c.args.dev.now)) c.requires.over refl refl c.args.min in
           let removes = records_gone p.layout p.values (IsLost p c.args.min) (only_copies p.layout new (g.D.Device.time c.args.dev.now) (g.D.Device.time c.sync.new.dev) here (c.sync.ensures.alone t)) (c.prune.ensures.moments t) in
-          own_alone ways (g.D.Device.time c.args.dev.now) (g.D.Device.time c.prune.new.dev) removes;
+          prune_one p (g.D.Device.opened c.args.dev.now) (disk (g.D.Device.time c.args.dev.now)) c.requires.over refl refl c.args.min (g.D.Device.time c.args.dev.now) (g.D.Device.time c.prune.new.dev) removes;
       newer_stays = λ t.
           let removes = records_gone p.layout p.values (IsLost p c.args.min) (only_copies p.layout new (g.D.Device.time c.args.dev.now) (g.D.Device.time c.sync.new.dev) here (c.sync.ensures.alone t)) (c.prune.ensures.moments t) in
           copy_stays ways (g.D.Device.time c.args.dev.now) (g.D.Device.time c.prune.new.dev) removes (other_side p.store.older) (newer_stays p.layout new p.store.older (g.D.Device.time c.args.dev.now) (g.D.Device.time c.sync.new.dev) here (ap (λ (u : Store Key8 ℕ). u.older) c.drop_below.ensures.staged) (c.sync.ensures.alone t));
@@ -198,8 +197,8 @@ returns-in_err-index g c =
       lost_first = λ t lost. absurd (failed_lost c.from_residual-in_err-index.result c.in_err-index.field-0.0 (g.D.Device.faults c.args.dev.now) (g.D.Device.faults c.sync.new.dev) (g.D.Device.faults c.prune.new.dev) failed c.in_err-index.ensures.cause lost);
       fault = λ t is.
           let removes = records_gone p.layout p.values (IsLost p c.args.min) (only_copies p.layout new (g.D.Device.time c.args.dev.now) (g.D.Device.time c.sync.new.dev) here (c.sync.ensures.alone t)) (c.prune.ensures.moments t) in
-          dropped_still p c.args.min u new.entries (disk (g.D.Device.time c.sync.new.dev)) (disk (g.D.Device.time c.prune.new.dev)) u_here c.in_ok-this.ensures.markers (copies_last ways (g.D.Device.time c.args.dev.now) (g.D.Device.time c.prune.new.dev) removes)
-          (c.in_ok-this.ensures.stands t p.store.entries (c.drop_below.ensures.stands p.store.entries (disk (g.D.Device.time c.args.dev.now)) (c.requires.over.disk t).markers)) c.drop_below.ensures.marked (λ s from. (c.drop_below.ensures.above s from).1);
+          dropped_still p c.args.min u (contents_of new) (disk (g.D.Device.time c.sync.new.dev)) (disk (g.D.Device.time c.prune.new.dev)) u_here c.in_ok-this.ensures.contents (copies_last ways (g.D.Device.time c.args.dev.now) (g.D.Device.time c.prune.new.dev) removes)
+          (c.in_ok-this.ensures.stands t (contents_of p.store) (c.drop_below.ensures.stands (contents_of p.store) (disk (g.D.Device.time c.args.dev.now)) (c.requires.over.disk t).markers)) c.drop_below.ensures.marked (λ s from. (c.drop_below.ensures.above s from).1);
       faults = omega (arith, c.sync.ensures.faults, c.prune.ensures.faults);
       cause = failed_cause c.from_residual-in_err-index.result c.in_err-index.field-0.0 (g.D.Device.faults c.args.dev.now) (g.D.Device.faults c.sync.new.dev) (g.D.Device.faults c.prune.new.dev) failed c.in_err-index.ensures.cause (omega (arith, c.sync.ensures.faults));
     }
@@ -231,18 +230,17 @@ returns-in_err-values g c =
       codec_config = no_value _ _ c.from_residual-in_err-values.ensures.0;
       moments = λ t sound.
           let parts = parts_of p (g.D.Device.opened c.args.dev.now) (disk (g.D.Device.time c.args.dev.now)) c.requires.over t sound refl refl refl (λ s v held. ap (λ (x : Setting). x.page_size) (c.requires.over.index.over.opened_list.setting s v held)) in
-          let stands = c.drop_below.ensures.stands p.store.entries (disk (g.D.Device.time c.args.dev.now)) (c.requires.over.disk t).markers in
-          let maps = subst (λ (x : List ℕ). Mapping p.layout.markers x p.store.entries new.entries (g.D.Device.time c.args.dev.now) (g.D.Device.time c.sync.new.dev)) here (c.sync.ensures.crashes t p.store.entries stands) in
-          let settled = settled_keeps p.layout (tracked.shown c.in_ok-this.field-0).store new.entries (disk (g.D.Device.time c.sync.new.dev)) (ap (λ (u : Store Key8 ℕ). u.partition) c.in_ok-this.ensures.same ∙ synced_partition new ∙ here) (c.in_ok-this.ensures.stands t p.store.entries stands) in
+          let stands = c.drop_below.ensures.stands (contents_of p.store) (disk (g.D.Device.time c.args.dev.now)) (c.requires.over.disk t).markers in
+          let maps = subst (λ (x : List ℕ). Mapping p.layout.markers x p.store.entries new.entries (g.D.Device.time c.args.dev.now) (g.D.Device.time c.sync.new.dev)) here (c.sync.ensures.crashes t (contents_of p.store) stands) in
+          let settled = settled_keeps p.layout (tracked.shown c.in_ok-this.field-0).store (contents_of new) (disk (g.D.Device.time c.sync.new.dev)) (ap (λ (u : Store Key8 ℕ). u.partition) c.in_ok-this.ensures.same ∙ synced_partition new ∙ here) (c.in_ok-this.ensures.stands t (contents_of p.store) stands) in
           keeps_values ways g.met.I.CodecFixed.fixed.at_least (g.D.Device.time c.args.dev.now) parts t (below_or_not c.args.min) new.entries (λ s n is. (c.drop_below.ensures.marked s n is).1) (λ s n lt is. omega (arith, lt, (c.drop_below.ensures.marked s n is).0)) (g.D.Device.time c.sync.new.dev) maps settled (λ s is. known_held p (g.D.Device.opened c.args.dev.now) (disk (g.D.Device.time c.args.dev.now)) c.requires.over refl refl s is.0) (λ s lt held. (inl held, lt)) (g.D.Device.time c.prune.new.dev) (c.prune.ensures.moments t) (g.D.Device.time c.prune-2.new.dev) (c.prune-2.ensures.moments t) (λ s lt held. c.in_ok-index.ensures.gone t s (inl held) lt);
       alone = λ t none.
           let removes = values_gone p.layout (only_copies p.layout new (g.D.Device.time c.args.dev.now) (g.D.Device.time c.sync.new.dev) here (c.sync.ensures.alone t)) (c.prune.ensures.moments t) (c.prune-2.ensures.moments t) in
           let idle = c.sync.ensures.idle (none_staged p.store new c.args.min c.drop_below.ensures.still c.drop_below.ensures.marked c.drop_below.ensures.dropped c.requires.over.synced (λ s m lt is. none (s, lt, (m, is)))) in
           copies_alone ways (g.D.Device.time c.args.dev.now) (g.D.Device.time c.prune-2.new.dev) removes (untouched_same (IsCopy p.layout) (g.D.Device.time c.args.dev.now) (g.D.Device.time c.sync.new.dev) (ap g.D.Device.time idle.0));
       untouched = λ t.
-          let ways = prune_held p (g.D.Device.opened c.args.dev.now) (disk (g.D.Device.time c.args.dev.now)) c.requires.over refl refl c.args.min in
           let removes = values_gone p.layout (only_copies p.layout new (g.D.Device.time c.args.dev.now) (g.D.Device.time c.sync.new.dev) here (c.sync.ensures.alone t)) (c.prune.ensures.moments t) (c.prune-2.ensures.moments t) in
-          own_alone ways (g.D.Device.time c.args.dev.now) (g.D.Device.time c.prune-2.new.dev) removes;
+          prune_one p (g.D.Device.opened c.args.dev.now) (disk (g.D.Device.time c.args.dev.now)) c.requires.over refl refl c.args.min (g.D.Device.time c.args.dev.now) (g.D.Device.time c.prune-2.new.dev) removes;
       newer_stays = λ t.
           let removes = values_gone p.layout (only_copies p.layout new (g.D.Device.time c.args.dev.now) (g.D.Device.time c.sync.new.dev) here (c.sync.ensures.alone t)) (c.prune.ensures.moments t) (c.prune-2.ensures.moments t) in
           copy_stays ways (g.D.Device.time c.args.dev.now) (g.D.Device.time c.prune-2.new.dev) removes (other_side p.store.older) (newer_stays p.layout new p.store.older (g.D.Device.time c.args.dev.now) (g.D.Device.time c.sync.new.dev) here (ap (λ (u : Store Key8 ℕ). u.older) c.drop_below.ensures.staged) (c.sync.ensures.alone t));
@@ -271,8 +269,8 @@ returns-in_err-values g c =
       lost_first = λ t lost. absurd (failed_lost c.from_residual-in_err-values.result c.in_err-values.field-0.0 (g.D.Device.faults c.args.dev.now) (g.D.Device.faults c.prune.new.dev) (g.D.Device.faults c.prune-2.new.dev) failed c.in_err-values.ensures.cause lost);
       fault = λ t is.
           let removes = values_gone p.layout (only_copies p.layout new (g.D.Device.time c.args.dev.now) (g.D.Device.time c.sync.new.dev) here (c.sync.ensures.alone t)) (c.prune.ensures.moments t) (c.prune-2.ensures.moments t) in
-          dropped_still p c.args.min u new.entries (disk (g.D.Device.time c.sync.new.dev)) (disk (g.D.Device.time c.prune-2.new.dev)) u_here c.in_ok-this.ensures.markers (copies_last ways (g.D.Device.time c.args.dev.now) (g.D.Device.time c.prune-2.new.dev) removes)
-          (c.in_ok-this.ensures.stands t p.store.entries (c.drop_below.ensures.stands p.store.entries (disk (g.D.Device.time c.args.dev.now)) (c.requires.over.disk t).markers)) c.drop_below.ensures.marked (λ s from. (c.drop_below.ensures.above s from).1);
+          dropped_still p c.args.min u (contents_of new) (disk (g.D.Device.time c.sync.new.dev)) (disk (g.D.Device.time c.prune-2.new.dev)) u_here c.in_ok-this.ensures.contents (copies_last ways (g.D.Device.time c.args.dev.now) (g.D.Device.time c.prune-2.new.dev) removes)
+          (c.in_ok-this.ensures.stands t (contents_of p.store) (c.drop_below.ensures.stands (contents_of p.store) (disk (g.D.Device.time c.args.dev.now)) (c.requires.over.disk t).markers)) c.drop_below.ensures.marked (λ s from. (c.drop_below.ensures.above s from).1);
       faults = omega (arith, c.sync.ensures.faults, c.prune.ensures.faults, c.prune-2.ensures.faults);
       cause = failed_cause c.from_residual-in_err-values.result c.in_err-values.field-0.0 (g.D.Device.faults c.args.dev.now) (g.D.Device.faults c.prune.new.dev) (g.D.Device.faults c.prune-2.new.dev) failed c.in_err-values.ensures.cause (omega (arith, c.sync.ensures.faults, c.prune.ensures.faults));
     }
@@ -306,8 +304,8 @@ returns g c =
     let removes = λ (t : g.D.Device.Tells). values_gone p.layout (only_copies p.layout new (g.D.Device.time c.args.dev.now) (g.D.Device.time c.sync.new.dev) here (c.sync.ensures.alone t)) (c.prune.ensures.moments t) (c.prune-2.ensures.moments t) in
     let q : Pair _ _ = record { layout = record p.layout { index = i.sections.partition; values = v.partition; metadata = u.partition; page_size = i.sections.factory.pages.page_size }; index = i; values = v; store = u; trailing = trailing } in
     let journal = journal_stays p.layout.seal p.layout.record_size i (g.D.Device.opened c.prune.new.dev) (g.D.Device.opened c.prune-2.new.dev) (disk (g.D.Device.time c.prune.new.dev)) (disk (g.D.Device.time c.prune-2.new.dev)) (λ s lt. subst (λ (x : List ℕ). (g.D.Device.opened c.prune-2.new.dev) (section_key x s) ≡ (g.D.Device.opened c.prune.new.dev) (section_key x s)) (sym c.in_ok-index.ensures.place.partition) (index_still_opened ways (g.D.Device.opened c.args.dev.now) (g.D.Device.opened c.sync.new.dev) (g.D.Device.opened c.prune.new.dev) (g.D.Device.opened c.prune-2.new.dev) (subst (λ (x : List ℕ). OthersOpened x (g.D.Device.opened c.args.dev.now) (g.D.Device.opened c.sync.new.dev)) here c.sync.ensures.entries) c.prune.ensures.entries c.prune-2.ensures.entries s)) (λ t s lt. subst (λ (x : List ℕ). disk (g.D.Device.time c.prune-2.new.dev) (section_key x s) ≡ disk (g.D.Device.time c.prune.new.dev) (section_key x s)) (sym c.in_ok-index.ensures.place.partition) (index_last ways (g.D.Device.time c.args.dev.now) (g.D.Device.time c.prune-2.new.dev) (removes t) s)) c.in_ok-index.ensures.over in
-    let stands = λ (t : g.D.Device.Tells). stands_stays p.layout.markers u u.entries (disk (g.D.Device.time c.sync.new.dev)) (disk (g.D.Device.time c.prune-2.new.dev)) (λ side. subst (λ (x : List ℕ). disk (g.D.Device.time c.prune-2.new.dev) (blob_of x side) ≡ disk (g.D.Device.time c.sync.new.dev) (blob_of x side)) (sym u_here) (copies_last ways (g.D.Device.time c.args.dev.now) (g.D.Device.time c.prune-2.new.dev) (removes t) side))
-    (subst (λ (m : Markers). Stands p.layout.markers u m (disk (g.D.Device.time c.sync.new.dev))) (sym entries) (c.in_ok-this.ensures.stands t p.store.entries (c.drop_below.ensures.stands p.store.entries (disk (g.D.Device.time c.args.dev.now)) (c.requires.over.disk t).markers))) in
+    let stands = λ (t : g.D.Device.Tells). stands_stays p.layout.markers u (contents_of u) (disk (g.D.Device.time c.sync.new.dev)) (disk (g.D.Device.time c.prune-2.new.dev)) (λ side. subst (λ (x : List ℕ). disk (g.D.Device.time c.prune-2.new.dev) (blob_of x side) ≡ disk (g.D.Device.time c.sync.new.dev) (blob_of x side)) (sym u_here) (copies_last ways (g.D.Device.time c.args.dev.now) (g.D.Device.time c.prune-2.new.dev) (removes t) side))
+    (subst (λ (m : Contents Key8 ℕ). Stands p.layout.markers u m (disk (g.D.Device.time c.sync.new.dev))) (sym c.in_ok-this.ensures.contents) (c.in_ok-this.ensures.stands t (contents_of p.store) (c.drop_below.ensures.stands (contents_of p.store) (disk (g.D.Device.time c.args.dev.now)) (c.requires.over.disk t).markers))) in
     let floors = removed_floors p i v u trailing c.args.min removed c.in_ok-index.records c.in_ok-values.frames c.requires.over.whole (λ s held. c.requires.over.index.over.opened_list.from_floor s (inl held))
     (record { flag = c.in_ok-index.ensures.flag; floor = c.in_ok-index.ensures.floor; same_floor = c.in_ok-index.ensures.same_floor })
     (record { flag = c.in_ok-values.ensures.flag; floor = c.in_ok-values.ensures.floor; same_floor = c.in_ok-values.ensures.same_floor }) in
@@ -353,18 +351,17 @@ returns g c =
       codec_config = c.in_ok-values.ensures.codec_config;
       moments = λ t sound.
           let parts = parts_of p (g.D.Device.opened c.args.dev.now) (disk (g.D.Device.time c.args.dev.now)) c.requires.over t sound refl refl refl (λ s v held. ap (λ (x : Setting). x.page_size) (c.requires.over.index.over.opened_list.setting s v held)) in
-          let stands = c.drop_below.ensures.stands p.store.entries (disk (g.D.Device.time c.args.dev.now)) (c.requires.over.disk t).markers in
-          let maps = subst (λ (x : List ℕ). Mapping p.layout.markers x p.store.entries new.entries (g.D.Device.time c.args.dev.now) (g.D.Device.time c.sync.new.dev)) here (c.sync.ensures.crashes t p.store.entries stands) in
-          let settled = settled_keeps p.layout (tracked.shown c.in_ok-this.field-0).store new.entries (disk (g.D.Device.time c.sync.new.dev)) (ap (λ (u : Store Key8 ℕ). u.partition) c.in_ok-this.ensures.same ∙ synced_partition new ∙ here) (c.in_ok-this.ensures.stands t p.store.entries stands) in
+          let stands = c.drop_below.ensures.stands (contents_of p.store) (disk (g.D.Device.time c.args.dev.now)) (c.requires.over.disk t).markers in
+          let maps = subst (λ (x : List ℕ). Mapping p.layout.markers x p.store.entries new.entries (g.D.Device.time c.args.dev.now) (g.D.Device.time c.sync.new.dev)) here (c.sync.ensures.crashes t (contents_of p.store) stands) in
+          let settled = settled_keeps p.layout (tracked.shown c.in_ok-this.field-0).store (contents_of new) (disk (g.D.Device.time c.sync.new.dev)) (ap (λ (u : Store Key8 ℕ). u.partition) c.in_ok-this.ensures.same ∙ synced_partition new ∙ here) (c.in_ok-this.ensures.stands t (contents_of p.store) stands) in
           keeps_values ways g.met.I.CodecFixed.fixed.at_least (g.D.Device.time c.args.dev.now) parts t (below_or_not c.args.min) new.entries (λ s n is. (c.drop_below.ensures.marked s n is).1) (λ s n lt is. omega (arith, lt, (c.drop_below.ensures.marked s n is).0)) (g.D.Device.time c.sync.new.dev) maps settled (λ s is. known_held p (g.D.Device.opened c.args.dev.now) (disk (g.D.Device.time c.args.dev.now)) c.requires.over refl refl s is.0) (λ s lt held. (inl held, lt)) (g.D.Device.time c.prune.new.dev) (c.prune.ensures.moments t) (g.D.Device.time c.prune-2.new.dev) (c.prune-2.ensures.moments t) (λ s lt held. c.in_ok-index.ensures.gone t s (inl held) lt);
       alone = λ t none.
           let removes = values_gone p.layout (only_copies p.layout new (g.D.Device.time c.args.dev.now) (g.D.Device.time c.sync.new.dev) here (c.sync.ensures.alone t)) (c.prune.ensures.moments t) (c.prune-2.ensures.moments t) in
           let idle = c.sync.ensures.idle (none_staged p.store new c.args.min c.drop_below.ensures.still c.drop_below.ensures.marked c.drop_below.ensures.dropped c.requires.over.synced (λ s m lt is. none (s, lt, (m, is)))) in
           copies_alone ways (g.D.Device.time c.args.dev.now) (g.D.Device.time c.prune-2.new.dev) removes (untouched_same (IsCopy p.layout) (g.D.Device.time c.args.dev.now) (g.D.Device.time c.sync.new.dev) (ap g.D.Device.time idle.0));
       untouched = λ t.
-          let ways = prune_held p (g.D.Device.opened c.args.dev.now) (disk (g.D.Device.time c.args.dev.now)) c.requires.over refl refl c.args.min in
           let removes = values_gone p.layout (only_copies p.layout new (g.D.Device.time c.args.dev.now) (g.D.Device.time c.sync.new.dev) here (c.sync.ensures.alone t)) (c.prune.ensures.moments t) (c.prune-2.ensures.moments t) in
-          own_alone ways (g.D.Device.time c.args.dev.now) (g.D.Device.time c.prune-2.new.dev) removes;
+          prune_one p (g.D.Device.opened c.args.dev.now) (disk (g.D.Device.time c.args.dev.now)) c.requires.over refl refl c.args.min (g.D.Device.time c.args.dev.now) (g.D.Device.time c.prune-2.new.dev) removes;
       newer_stays = λ t.
           let removes = values_gone p.layout (only_copies p.layout new (g.D.Device.time c.args.dev.now) (g.D.Device.time c.sync.new.dev) here (c.sync.ensures.alone t)) (c.prune.ensures.moments t) (c.prune-2.ensures.moments t) in
           copy_stays ways (g.D.Device.time c.args.dev.now) (g.D.Device.time c.prune-2.new.dev) removes (other_side p.store.older) (newer_stays p.layout new p.store.older (g.D.Device.time c.args.dev.now) (g.D.Device.time c.sync.new.dev) here (ap (λ (u : Store Key8 ℕ). u.older) c.drop_below.ensures.staged) (c.sync.ensures.alone t));

@@ -5,7 +5,7 @@ use Rattle.std.specs.Ordering.{nat_cmp}
 use Rattle.blob_device.specs.Timeline.{disk}
 use Rattle.segments.specs.Managed as managed
 use Rattle.meta_store.specs.Calls.{IsOpened}
-use Rattle.meta_store.specs.Store.{Stands}
+use Rattle.meta_store.specs.Store.{Stands, contents_of}
 use Rattle.sealed_pages.specs.declared.page_blob.PageBlob.{PageBlob}
 use Rattle.segments.specs.declared.sealed.AppendFactory.{AppendFactory}
 use Rattle.segments.specs.FixedLists.{Lists}
@@ -28,7 +28,7 @@ returns-clause-over g c =
       metadata_opened = subst (λ x. IsOpened p.store.partition (g.D.Device.opened x)) dev was.metadata_opened;
       storable = was.storable;
       synced = was.synced;
-      markers = λ t. subst (λ x. Stands p.layout.markers p.store p.store.entries (disk (g.D.Device.time x))) dev ((was.disk t).markers);
+      markers = λ t. subst (λ x. Stands p.layout.markers p.store (contents_of p.store) (disk (g.D.Device.time x))) dev ((was.disk t).markers);
       opening = λ is. absurd (cc is);
       live = λ is. record {
         whole = λ known. subst AreWhole (sym same) was.whole;

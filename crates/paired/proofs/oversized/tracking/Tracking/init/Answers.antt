@@ -1,61 +1,54 @@
 use Rattle.std.proofs.Common.{◌≡◌, List, ℕ, Ok, Err, sym, subst}
 use Rattle.std.specs.Prelude.{string_bytes}
-use Rattle.blob_device.specs.Timeline.{disk}
+use Rattle.blob_device.specs.Timeline.{Always, disk}
 use Rattle.blob_device.proofs.Results.{err_of}
-use Rattle.meta_store.specs.declared.error.Error.TheVariants.{Corruption}
-use Rattle.meta_store.specs.declared.error.Side.TheVariants.{Left, Right}
-use Rattle.meta_store.specs.Blobs.{blob_of}
-use Rattle.meta_store.specs.Crashes.{Keeps, Mapping, ReadsNoChance}
-use Rattle.meta_store.specs.Opening.{PairOn}
+use Rattle.meta_store.specs.Calls.{IsOpened, OthersOpened}
+use Rattle.meta_store.specs.Opening.{NotOpened, Opened, Opening, PairOn}
+use Rattle.meta_store.specs.Store.{chosen_by, contents_of, seen}
 use Rattle.paired.specs.TrackedShown.{marker_format}
-use Rattle.paired.proofs.OpeningStartCauses.{gave_up_as, match_err, no_refusal, refused_as}
+use Rattle.paired.proofs.TrackingOpened.{cause_of, corrupt_of, map_of, refused_of}
 use Rattle.paired.proofs.oversized.tracking.Tracking.init.Goals as goal
+
+pub returns-in_err-metadata-clause-corrupt : goal.returns-in_err-metadata-clause-corrupt
+returns-in_err-metadata-clause-corrupt g c =
+    corrupt_of g.D.Device (λ _. marker_format g.S.Seal) tt c.args.partition.now c.args.dev.now c.init.new.dev _ c.in_err-metadata.field-0.0 (err_of _ _ c.from_residual-in_err-metadata.ensures.1)
+    (subst (λ (k : List ℕ). NotOpened g.D.Device (λ _. marker_format g.S.Seal) tt k c.args.dev.now c.init.new.dev c.in_err-metadata.field-0.0) c.in_ok-from_str.ensures.ok c.in_err-metadata.ensures.ends)
 
 pub returns-in_err-metadata-clause-map : goal.returns-in_err-metadata-clause-map
 returns-in_err-metadata-clause-map g c t chosen pair =
-    let p : List ℕ = string_bytes c.in_ok-from_str.field-0 in
-    let same : p ≡ c.args.partition.now = c.in_ok-from_str.ensures.ok in
-    let d = disk (g.D.Device.time c.args.dev.now) in
-    let f = marker_format g.S.Seal in
-    let r = c.from_residual-in_err-metadata.result in
-    let e = c.in_err-metadata.field-0.0 in
-    let is = err_of r e c.from_residual-in_err-metadata.ensures.1 in
-    match_err r e _ _ is (gave_up_as r e _ _ is (c.in_err-metadata.ensures.map t chosen (subst (λ (k : List ℕ). PairOn f k d (Ok chosen)) (sym same) pair)))
+    map_of g.D.Device (λ _. marker_format g.S.Seal) tt c.args.partition.now c.args.dev.now c.init.new.dev _ c.in_err-metadata.field-0.0 (err_of _ _ c.from_residual-in_err-metadata.ensures.1)
+    (subst (λ (k : List ℕ). NotOpened g.D.Device (λ _. marker_format g.S.Seal) tt k c.args.dev.now c.init.new.dev c.in_err-metadata.field-0.0) c.in_ok-from_str.ensures.ok c.in_err-metadata.ensures.ends) _ t chosen pair
 
 pub returns-in_err-metadata-clause-refused : goal.returns-in_err-metadata-clause-refused
-returns-in_err-metadata-clause-refused g c t side pair =
-    let p : List ℕ = string_bytes c.in_ok-from_str.field-0 in
-    let same : p ≡ c.args.partition.now = c.in_ok-from_str.ensures.ok in
-    let d = disk (g.D.Device.time c.args.dev.now) in
-    let f = marker_format g.S.Seal in
-    let r = c.from_residual-in_err-metadata.result in
-    let e = c.in_err-metadata.field-0.0 in
-    let is = err_of r e c.from_residual-in_err-metadata.ensures.1 in
-    refused_as r e (Corruption side) _ _ is (c.in_err-metadata.ensures.refused t side (subst (λ (k : List ℕ). PairOn f k d (Err side)) (sym same) pair))
+returns-in_err-metadata-clause-refused g c =
+    refused_of g.D.Device (λ _. marker_format g.S.Seal) tt c.args.partition.now c.args.dev.now c.init.new.dev _ c.in_err-metadata.field-0.0 (err_of _ _ c.from_residual-in_err-metadata.ensures.1)
+    (subst (λ (k : List ℕ). NotOpened g.D.Device (λ _. marker_format g.S.Seal) tt k c.args.dev.now c.init.new.dev c.in_err-metadata.field-0.0) c.in_ok-from_str.ensures.ok c.in_err-metadata.ensures.ends)
+
+pub returns-in_err-metadata-clause-cause : goal.returns-in_err-metadata-clause-cause
+returns-in_err-metadata-clause-cause g c =
+    cause_of g.D.Device (λ _. marker_format g.S.Seal) tt c.args.partition.now c.args.dev.now c.init.new.dev _ c.in_err-metadata.field-0.0 (err_of _ _ c.from_residual-in_err-metadata.ensures.1)
+    (subst (λ (k : List ℕ). NotOpened g.D.Device (λ _. marker_format g.S.Seal) tt k c.args.dev.now c.init.new.dev c.in_err-metadata.field-0.0) c.in_ok-from_str.ensures.ok c.in_err-metadata.ensures.ends)
+
+pub returns-in_err-metadata-clause-moments : goal.returns-in_err-metadata-clause-moments
+returns-in_err-metadata-clause-moments g c t =
+    subst (λ (k : List ℕ). Always (g.D.Device.time c.args.dev.now) (g.D.Device.time c.init.new.dev) (Opening k (disk (g.D.Device.time c.args.dev.now)))) c.in_ok-from_str.ensures.ok (c.init.ensures.looks.moments t)
+
+pub returns-clause-reads : goal.returns-clause-reads
+returns-clause-reads g c t =
+    let opened = (seen c.in_ok-metadata.metadata).store in
+    subst (λ (k : List ℕ). PairOn (marker_format g.S.Seal) k (disk (g.D.Device.time c.args.dev.now)) (Ok (chosen_by opened (contents_of opened)))) c.in_ok-from_str.ensures.ok (c.in_ok-metadata.ensures.ends.told t).reads
 
 pub returns-clause-map : goal.returns-clause-map
 returns-clause-map g c t chosen pair =
-    let p : List ℕ = string_bytes c.in_ok-from_str.field-0 in
-    let same : p ≡ c.args.partition.now = c.in_ok-from_str.ensures.ok in
-    let d = disk (g.D.Device.time c.args.dev.now) in
-    let f = marker_format g.S.Seal in
-    c.in_ok-metadata.ensures.map t chosen (subst (λ (k : List ℕ). PairOn f k d (Ok chosen)) (sym same) pair)
+    (c.in_ok-metadata.ensures.ends.told t).only chosen (subst (λ (k : List ℕ). PairOn (marker_format g.S.Seal) k (disk (g.D.Device.time c.args.dev.now)) (Ok chosen)) (sym c.in_ok-from_str.ensures.ok) pair)
 
 pub returns-clause-refused : goal.returns-clause-refused
 returns-clause-refused g c t side pair =
-    let p : List ℕ = string_bytes c.in_ok-from_str.field-0 in
-    let same : p ≡ c.args.partition.now = c.in_ok-from_str.ensures.ok in
-    let d = disk (g.D.Device.time c.args.dev.now) in
-    let f = marker_format g.S.Seal in
-    absurd (no_refusal _ _ _ _ (c.in_ok-metadata.ensures.refused t side (subst (λ (k : List ℕ). PairOn f k d (Err side)) (sym same) pair)))
+    absurd ((c.in_ok-metadata.ensures.ends.told t).sound side (subst (λ (k : List ℕ). PairOn (marker_format g.S.Seal) k (disk (g.D.Device.time c.args.dev.now)) (Err side)) (sym c.in_ok-from_str.ensures.ok) pair))
 
-pub returns-clause-crashes : goal.returns-clause-crashes
-returns-clause-crashes g c t one other keeps left right =
-    let p : List ℕ = string_bytes c.in_ok-from_str.field-0 in
-    let same : p ≡ c.args.partition.now = c.in_ok-from_str.ensures.ok in
-    let d = disk (g.D.Device.time c.args.dev.now) in
-    let f = marker_format g.S.Seal in
-    subst (λ (k : List ℕ). Mapping f k one other (g.D.Device.time c.args.dev.now) (g.D.Device.time c.init.new.dev)) same
-    (c.init.ensures.crashes t one other (subst (λ (k : List ℕ). Keeps f k one other d) (sym same) keeps)
-    (subst (λ (k : List ℕ). ReadsNoChance g.S.Seal.seal_of (d (blob_of k Left))) (sym same) left)
-    (subst (λ (k : List ℕ). ReadsNoChance g.S.Seal.seal_of (d (blob_of k Right))) (sym same) right))
+pub returns-clause-moments : goal.returns-clause-moments
+returns-clause-moments g c t =
+    subst (λ (k : List ℕ). Always (g.D.Device.time c.args.dev.now) (g.D.Device.time c.init.new.dev) (Opening k (disk (g.D.Device.time c.args.dev.now)))) c.in_ok-from_str.ensures.ok (c.init.ensures.looks.moments t)
+
+pub returns-clause-stands : goal.returns-clause-stands
+returns-clause-stands g c t = (c.in_ok-metadata.ensures.ends.told t).stands
