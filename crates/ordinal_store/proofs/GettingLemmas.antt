@@ -1,13 +1,14 @@
 -- What a lookup of a held index answers, case by case.
-use Rattle.std.proofs.Common.{◌≡◌, ◌⊎◌, inl, inr, ℕ, ◌≤◌, List, [], Bool, true, cond, Option, Some, None, Result, Ok, Err, refl, sym, ◌∙◌, ap, subst}
+use Rattle.std.proofs.Common.{◌≡◌, ◌⊎◌, inl, inr, ℕ, ◌≤◌, List, [], Bool, true, false, cond, Option, Some, None, Result, Ok, Err, refl, sym, ◌∙◌, ap, subst, arith}
 use Rattle.std.specs.Prelude.{option_map, unwrap_or}
 use Rattle.blob_device.specs.Counts.{Rose}
-use Rattle.blob_device.proofs.Moments.{always_now}
+use Rattle.blob_device.proofs.Moments.{always_now, always_start}
 use Rattle.blob_device.specs.Disk.{Disk, Key}
 use Rattle.blob_device.specs.declared.runtime.RError.TheVariants as runtime
 use Rattle.sealed_pages.specs.declared.write_blob.WriteBlob.{WriteBlob}
 use Rattle.sealed_pages.specs.Entries.{ReadsAtMost}
 use Rattle.sealed_pages.specs.Reading.{Unchanged}
+use Rattle.sealed_pages.proofs.EntryLemmas.{reads_start}
 use Rattle.sealed_pages.specs.Writing.{blob_key, bytes_of, shown}
 use Rattle.ordinal_store.specs.Calls.{Getting}
 use Rattle.ordinal_store.specs.Slots.{HasValue, IsSealed, part_at, place_of, position_of, section_of, slot_at, slot_size}
@@ -26,6 +27,19 @@ slot_read o d i u slot is_held at key read =
     ∙ ap (λ (b : Option WriteBlob). Some (of_slot (bytes b))) at
     ∙ ap (λ (k : Key). Some (of_slot (bytes_of (shown u) (d k).content))) (sym key)
     ∙ ap (λ (x : List ℕ). Some x) (sym read)
+
+-- an index that is not held has no value, and nothing is done for that answer
+pub got_none : {V : Type 0} (told : Type 0) (o : Store) (spelling : V → List ℕ) (i : ℕ) (v : Sight) → has o i ≡ false → IsUsable o told v.opened (now v) → Getting told o spelling i (Ok None) v v
+got_none told o spelling i v out usable = record {
+  absent = (λ same. out, λ other. refl);
+  found = λ t w same. absurd (cc same);
+  invalid = λ t other. absurd (cc other);
+  usable = usable;
+  unchanged = λ t. always_start v.time (λ d. d ≡ now v) refl;
+  reads = reads_start 1 (key_of o (section_of o.layout i)) v.opened;
+  faults = omega arith;
+  cause = tt;
+}
 
 module _ {V : Type 0} (told : Type 0) (o : Store) (spelling : V → List ℕ) (i : ℕ) (old new : Sight) (is_held : has o i ≡ true) (usable : IsUsable o told old.opened (now old)) (unchanged : told → Unchanged old.time new.time)
     (reads : ReadsAtMost 1 (key_of o (section_of o.layout i)) old.opened new.opened) (faults : old.faults ≤ new.faults) where

@@ -24,6 +24,7 @@ pub mod MendLemmas
 pub mod MendingLemmas
 pub mod Missing
 pub mod Moves
+pub mod OneAnswer
 pub mod OpenLemmas
 pub mod PlaceLemmas
 pub mod PlainList

@@ -21,6 +21,20 @@ use Rattle.ordinal_store.proofs.SettledLemmas.{stays_synced}
 use Rattle.ordinal_store.proofs.StepLemmas.{Replaces, slots_here, slots_there, usable_after}
 use Rattle.ordinal_store.proofs.TrailLemmas.{Trail}
 
+-- a buffer that is put in the place of another adds no section
+pub domain_kept : (a b : ℕ → Option WriteBlob) (s : ℕ) (u : WriteBlob) → a s ≡ Some u → ((t : ℕ) → t ≢ s → b t ≡ a t) → (t : ℕ) → IsSome (b t) → IsSome (a t)
+domain_kept a b s u hand beside t is = elim (cases_eq t s) [
+  | inl here ↦ subst (λ (x : Option WriteBlob). IsSome x) (sym (ap a here ∙ hand)) refl
+  | inr other ↦ subst (λ (x : Option WriteBlob). IsSome x) (beside t other) is
+]
+
+-- a mark that is taken away adds none
+pub marks_kept : (a b : ℕ → Bool) (s : ℕ) → b s ≡ false → ((t : ℕ) → t ≢ s → b t ≡ a t) → (t : ℕ) → b t ≡ true → a t ≡ true
+marks_kept a b s gone beside t is = elim (cases_eq t s) [
+  | inl here ↦ absurd (cc (sym is ∙ ap b here ∙ gone))
+  | inr other ↦ sym (beside t other) ∙ is
+]
+
 module _ (told : Type 0) (o : Store) (s : ℕ) (u : WriteBlob) (hand : o.buffers s ≡ Some u) (old new : Sight) (usable : IsUsable o told old.opened (now old))
     (spares : told → Sparing (Outside (run_of (shown u) ∷ [])) u.settled (blob_key (shown u)) old.time new.time)
     (adds : told → AddsOnly (bytes_of (shown u) (now old (blob_key (shown u))).content ∷ []) (blob_key (shown u)) old.time new.time)

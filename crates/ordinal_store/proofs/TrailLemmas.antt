@@ -7,12 +7,12 @@ use Rattle.blob_device.proofs.Results.{err_of}
 use Rattle.blob_device.specs.Disk.{Key}
 use Rattle.blob_device.specs.Timeline.{Always}
 use Rattle.blob_device.specs.declared.runtime.RError.TheVariants as runtime
-use Rattle.ordinal_store.specs.Calls.{HasFailed, Putting, StartsNoRead}
+use Rattle.ordinal_store.specs.Calls.{HasFailed, IsBlobOf, Putting, StartsNoRead}
 use Rattle.ordinal_store.specs.Durable.{Stays}
 use Rattle.ordinal_store.specs.Numbers.{AddsNumber}
 use Rattle.ordinal_store.specs.Ranges.{set_of}
 use Rattle.ordinal_store.specs.Slots.{Layout, blob_of, section_of}
-use Rattle.ordinal_store.specs.Steps.{SameSlots, Stepping}
+use Rattle.ordinal_store.specs.Steps.{SameSlots, Settling, Stepping}
 use Rattle.ordinal_store.specs.Stores.{IsQuiet, IsUsable, Sight, Store, key_of, now}
 use Rattle.ordinal_store.specs.declared.ordinal.Error.{Error}
 use Rattle.ordinal_store.specs.declared.ordinal.Error.TheVariants.{Mem, Runtime}
@@ -58,6 +58,13 @@ module _ {T : Type 0} (show : T → Store) (told : Type 0) (o : Store) where
 
   pub step_refused : (M : Key → Type 0) (old new : Sight) (result : Result T Error) (e : Error) → IsErrAnd result (λ x. x ≡ e) → Trail told o.layout (IsQuiet o) M old new → HasFailed {T = T} (Err e) old new → Stepping show told o M result old new
   step_refused M old new result e is trail why = subst (λ (r : Result T Error). Stepping show told o M r old new) (sym (err_of result e is)) (step_failed M old new e trail why)
+
+  settling_failed : (size : T → ℕ) (before s : ℕ) (old new : Sight) (e : Error) → Trail told o.layout (IsQuiet o) (IsBlobOf o (λ t. t ≡ s)) old new → HasFailed {T = T} (Err e) old new → Settling show size told o before s (Err e) old new
+  settling_failed size before s old new e trail why = record { stepping = step_failed (IsBlobOf o (λ t. t ≡ s)) old new e trail why; domain = tt; written = tt; fewer = λ was. tt }
+
+  pub settling_refused : (size : T → ℕ) (before s : ℕ) (old new : Sight) (result : Result T Error) (e : Error) → IsErrAnd result (λ x. x ≡ e) → Trail told o.layout (IsQuiet o) (IsBlobOf o (λ t. t ≡ s)) old new → HasFailed {T = T} (Err e) old new
+      → Settling show size told o before s result old new
+  settling_refused size before s old new result e is trail why = subst (λ (r : Result T Error). Settling show size told o before s r old new) (sym (err_of result e is)) (settling_failed size before s old new e trail why)
 
   put_failed : (i : ℕ) (slot : List ℕ) (old new : Sight) (e : Error) → Trail told o.layout (λ j. (j ≢ i) × IsQuiet o j) (λ q. q ≡ key_of o (section_of o.layout i)) old new → HasFailed {T = T} (Err e) old new → Putting show told o i slot (Err e) old new
   put_failed i slot old new e trail why = record {

@@ -2,6 +2,8 @@
 -- as the list of its ranges, which are the maximal runs of that set in ascending order, and every
 -- answer is a fact about the set.
 pub mod Numbers
+pub mod Indices
+pub mod SetLaws
 pub mod Ranges
 pub mod Filed
 pub mod Plain

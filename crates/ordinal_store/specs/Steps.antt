@@ -1,8 +1,8 @@
 -- The steps that puts and syncs are made of, each on the buffer of one section.
-use Rattle.std.specs.Prelude.{◌≡◌, ℕ, ◌≤◌, List, length, Option, Some, None, Result, IfOk, OnErr, IsTrue}
+use Rattle.std.specs.Prelude.{◌≡◌, ℕ, ◌≤◌, ◌<◌, List, length, Option, Some, None, Result, IfOk, OnErr, IsTrue, IsSome}
 use Rattle.blob_device.specs.Disk.{Key}
 use Rattle.blob_device.specs.Timeline.{Always}
-use Rattle.ordinal_store.specs.Calls.{HasFailed, SamePlace, StartsNoRead}
+use Rattle.ordinal_store.specs.Calls.{HasFailed, IsBlobOf, SamePlace, StartsNoRead}
 use Rattle.sealed_pages.specs.Entries.{ReadsAtMost}
 use Rattle.sealed_pages.specs.Reading.{Unchanged}
 use Rattle.sealed_pages.specs.Writing.{WriteBuffer, blob_key, bytes_of}
@@ -41,3 +41,14 @@ pub record Stepping {T : Type 0} (show : T → Store) (told : Type 0) (o : Store
   pub unread : StartsNoRead old.opened new.opened
   pub faults : old.faults ≤ new.faults
   pub cause : OnErr result (HasFailed result old new)
+
+-- The buffer of one section is settled. `size` tells how many sections are noted as written.
+pub record Settling {T : Type 0} (show : T → Store) (size : T → ℕ) (told : Type 0) (o : Store) (before s : ℕ) (result : Result T Error) (old new : Sight) : Type 0 where
+  -- it is a step on the section's blob
+  pub stepping : Stepping show told o (IsBlobOf o (λ t. t ≡ s)) result old new
+  -- no section has a buffer that had none
+  pub domain : IfOk result (λ r. (t : ℕ) → IsSome ((show r).buffers t) → IsSome (o.buffers t))
+  -- none is noted as written that was not
+  pub written : IfOk result (λ r. (t : ℕ) → IsTrue ((show r).written t) → IsTrue (o.written t))
+  -- and where this one was, there are fewer
+  pub fewer : IsTrue (o.written s) → IfOk result (λ r. size r < before)

@@ -1,10 +1,12 @@
-// Laws of the store of slots, as the crates above cite them.
+// Laws of the store of slots and of sets of numbers, as the crates above cite them.
 ghost use Rattle.std.specs.Prelude.{◌≡◌, ℕ, List, Option, Some, None, Result, IfOk, OnErr, if◌then◌else◌};
 ghost use Rattle.blob_device.specs.Disk.{Disk, Image, IsCrashOf, Key};
 ghost use Rattle.blob_device.specs.Opened.{OpenedList};
 ghost use Rattle.ordinal_store.specs.Calls.{HasFailed, MayOpen, Opening, as_read, marking_of};
 ghost use Rattle.ordinal_store.specs.Durable.{IsDurable};
 ghost use Rattle.ordinal_store.specs.Marking.{AreWhole, Marking, is_wanted};
+ghost use Rattle.ordinal_store.specs.Numbers.{IsSameSet, Set};
+ghost use Rattle.ordinal_store.specs.SetLaws.{HaveOneAnswer};
 ghost use Rattle.ordinal_store.specs.Shown.{shown};
 ghost use Rattle.ordinal_store.specs.Slots.{HoldsSlot, Layout, position_of, section_of};
 ghost use Rattle.ordinal_store.specs.Stores.{IsUsable, Sight, Store, now, slots_of};
@@ -50,4 +52,9 @@ pub fn frame_law<D: Device>()
         → ((q : Key) → q.0 ≡ o.layout.partition → b q ≡ a q)
         → (D.Tells → (q : Key) → q.0 ≡ o.layout.partition → e q ≡ d q)
         → IsUsable o D.Tells a d → IsUsable o D.Tells b e }
+{}
+
+/// What a set is asked has one answer, and sets with the same members have the same. It does nothing.
+pub fn one_answer()
+    ensures { (s t : Set) → IsSameSet s t → HaveOneAnswer s t }
 {}

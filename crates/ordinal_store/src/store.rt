@@ -26,17 +26,17 @@
 //
 // A put makes at most three calls of the device, and a get one. A sync makes at most two for each section that was written.
 // A prune makes one for each section that it removes. In memory are one buffer a section, and the runs of held indices.
-ghost use Rattle.std.specs.Prelude.{◌≡◌, ◌≤◌, ◌<◌, ◌+◌, ◌*◌, ◌/◌, ◌^◌, ℕ, true, length, Ok, Err, IfOk, OnOk, OnErr, IsTrue, IsSome};
-ghost use Rattle.std.specs.BTreeSet.{contains as set_contains};
+ghost use Rattle.std.specs.Prelude.{◌≡◌, ◌≤◌, ◌<◌, ◌+◌, ◌*◌, ◌/◌, ◌^◌, length, Ok, Err, IfOk, OnOk, OnErr, IsSome};
 ghost use Rattle.std.specs.BTreeSet.{btree_set_len as set_size};
 ghost use Rattle.std.specs.Ordering.{nat_cmp};
 ghost use Rattle.std.specs.Result.{IsErr};
-ghost use Rattle.ordinal_store.specs.Numbers.{AreMissing, AreRuns, AreRunsFrom, IsGreatest, IsLeast, IsNextRun, IsRunEnd};
+ghost use Rattle.ordinal_store.specs.Indices.{GivesMissing, IsGap};
+ghost use Rattle.ordinal_store.specs.Numbers.{AreRuns, AreRunsFrom, IsGreatest, IsLeast};
 ghost use Rattle.ordinal_store.specs.Ranges.{set_of};
 ghost use Rattle.blob_device.specs.Timeline.{disk};
-ghost use Rattle.ordinal_store.specs.Calls.{Getting, IsBlobOf, Putting, Syncing};
+ghost use Rattle.ordinal_store.specs.Calls.{Getting, Putting, Syncing};
 ghost use Rattle.ordinal_store.specs.Slots.{place_of, slot_of};
-ghost use Rattle.ordinal_store.specs.Steps.{IsWrittenOne, Stepping};
+ghost use Rattle.ordinal_store.specs.Steps.{IsWrittenOne, Settling, Stepping};
 ghost use Rattle.ordinal_store.specs.Stores.{IsUsable, has, key_of, sight};
 
 mod adopting;
@@ -193,16 +193,9 @@ impl<A: CodecFixed, S: Seal> Ordinal<A, S> {
     fn sync_one<D: Device>(self, dev: &mut D, section: u64) -> Result<Self, Error>
         requires usable { IsUsable (shown A.SIZE S.seal_of A.refusal self) D.Tells
             (D.opened dev.old) (disk (D.time dev.old)) }
-        ensures stepping { Stepping (shown A.SIZE S.seal_of A.refusal) D.Tells
-            (shown A.SIZE S.seal_of A.refusal self) (IsBlobOf (shown A.SIZE S.seal_of A.refusal self)
-            (λ s. s ≡ section)) result (sight D.Device dev.old) (sight D.Device dev.new) }
-        ensures domain { IfOk result (λ r. (s : ℕ) → IsSome ((shown A.SIZE S.seal_of A.refusal r).buffers s)
-            → IsSome ((shown A.SIZE S.seal_of A.refusal self).buffers s)) }
-        ensures written { IfOk result (λ r. (s : ℕ) → IsTrue
-            ((shown A.SIZE S.seal_of A.refusal r).written s)
-            → IsTrue ((shown A.SIZE S.seal_of A.refusal self).written s)) }
-        ensures fewer { set_contains nat_cmp self.written section ≡ true
-            → IfOk result (λ r. set_size r.written < set_size self.written) }
+        ensures { Settling (shown A.SIZE S.seal_of A.refusal) (λ r. set_size r.written) D.Tells
+            (shown A.SIZE S.seal_of A.refusal self) (set_size self.written) section result
+            (sight D.Device dev.old) (sight D.Device dev.new) }
     {
         let mut this = self;
         this.written.remove(&section);
@@ -252,9 +245,7 @@ impl<A: CodecFixed, S: Seal> Ordinal<A, S> {
 
     /// The end of the run of held indices around the index, and the start of the first run above it.
     pub fn next_gap(&self, index: u64) -> (Option<u64>, Option<u64>)
-        ensures end { IsRunEnd (set_of (shown A.SIZE S.seal_of A.refusal self.now).ranges) index result.0 }
-        ensures next { IsNextRun (set_of (shown A.SIZE S.seal_of A.refusal self.now).ranges) index
-            result.1 }
+        ensures { IsGap (set_of (shown A.SIZE S.seal_of A.refusal self.now).ranges) index result }
     {
         self.held.next_gap(index)
     }
@@ -262,9 +253,8 @@ impl<A: CodecFixed, S: Seal> Ordinal<A, S> {
     /// The first `max` indices from `start` on that are not held and have a held one above them, or all of these.
     pub fn missing_items(&self, start: u64, max: usize) -> Result<Numbers, Error>
         requires { 1 ≤ max }
-        ensures missing { IfOk result (AreMissing (set_of
-            (shown A.SIZE S.seal_of A.refusal self.now).ranges) start max) }
-        ensures cause { OnErr result (result ≡ Err Error.Mem) }
+        ensures { GivesMissing Error.Mem (set_of (shown A.SIZE S.seal_of A.refusal self.now).ranges)
+            start max result }
     {
         match self.held.missing_items(start, max) {
             Ok(numbers) => Ok(numbers),

@@ -2,9 +2,8 @@
 ghost use Rattle.std.specs.Prelude.{◌≤◌};
 
 use crate::change::{Change, make};
-use crate::said::Said;
 use ordinal_store::plain::PlainSet;
-use ordinal_store::{RMap, RMapError};
+use ordinal_store::{RMap, RMapError, RangeIter};
 use std::alloc::Global;
 
 /// The numbers of the further changes: the first five and the last three.
@@ -33,14 +32,19 @@ struct Both {
     plain: PlainSet,
 }
 
-impl Both {
-    fn new(alloc: Global) -> Both {
-        Both {
-            ranges: RMap::new(alloc),
-            plain: PlainSet::new(alloc),
+/// Whether the ranges are these runs.
+fn are_same(ranges: RangeIter<'_>, runs: &[(u64, u64)]) -> bool {
+    let mut count = 0_usize;
+    for range in ranges {
+        match runs.get(count) {
+            Some(run) if *run == range => count = count.saturating_add(1),
+            _ => return false,
         }
     }
+    count == runs.len()
+}
 
+impl Both {
     /// Makes a change to both.
     fn make(&mut self, change: Change) -> Result<(), RMapError> {
         make(&mut self.ranges, change)?;
@@ -61,13 +65,13 @@ impl Both {
     /// Whether both have the same ranges.
     fn has_same_ranges(&self) -> Result<bool, RMapError> {
         let runs = self.plain.runs_from(0)?;
-        Ok(self.ranges.iter().eq(runs.iter().copied()))
+        Ok(are_same(self.ranges.iter(), runs.as_slice()))
     }
 
     /// Whether both have the same ranges that end at `number` or later.
     fn has_same_ranges_from(&self, number: u64) -> Result<bool, RMapError> {
         let runs = self.plain.runs_from(number)?;
-        Ok(self.ranges.iter_from(number).eq(runs.iter().copied()))
+        Ok(are_same(self.ranges.iter_from(number), runs.as_slice()))
     }
 
     /// Whether both have the same first `max` missing numbers from `number` on.
@@ -78,66 +82,95 @@ impl Both {
         Ok(missing.as_slice() == self.plain.missing(number, max)?.as_slice())
     }
 
-    /// Whether both have the same ends, and the same run and gap at `number`.
-    fn has_same_gap(&self, number: u64) -> bool {
+    /// Whether both have the same ends.
+    fn has_same_ends(&self) -> bool {
         self.ranges.first_index() == self.plain.first()
             && self.ranges.last_index() == self.plain.last()
-            && self.ranges.get(number) == self.plain.get(number)
+    }
+
+    /// Whether both have the same run and the same gap at `number`.
+    fn has_same_gap(&self, number: u64) -> bool {
+        self.ranges.get(number) == self.plain.get(number)
             && self.ranges.next_gap(number) == self.plain.next_gap(number)
     }
 
     /// Whether both answer alike about `number`.
     fn is_alike_at(&self, number: u64) -> Result<bool, RMapError> {
         Ok(
-            self.has_same_gap(number)
+            self.has_same_ends()
+                && self.has_same_gap(number)
                 && self.misses_same(number, 1)?
                 && self.misses_same(number, 3)?
                 && self.has_same_ranges_from(number)?,
         )
     }
-
-    /// The first probe about which they do not answer alike.
-    fn difference(&self) -> Result<Option<u64>, RMapError> {
-        for number in PROBES {
-            if !self.is_alike_at(number)? {
-                return Ok(Some(number));
-            }
-        }
-        Ok(None)
-    }
 }
 
-/// The first probe about which both do not answer alike behind these changes.
-fn difference_after(alloc: Global, changes: &[Change]) -> Result<Option<u64>, RMapError> {
-    let mut both = Both::new(alloc);
+/// Both sets behind these changes.
+fn both_after(alloc: Global, changes: &[Change]) -> Result<Both, RMapError> {
+    let mut both = Both {
+        ranges: RMap::new(alloc),
+        plain: PlainSet::new(alloc),
+    };
     both.make_all(changes)?;
-    both.difference()
+    Ok(both)
+}
+
+/// Tells each number that is asked about of which both do not answer alike.
+fn tell_numbers(both: &Both, text: &mut String) -> Result<(), RMapError> {
+    for number in PROBES {
+        if !both.is_alike_at(number)? {
+            write!(text, "differ at {number} ")?;
+        }
+    }
+    Ok(())
 }
 
 /// Whether both have the same ranges behind these changes and the next one.
 fn leave_same(alloc: Global, changes: &[Change], next: Change) -> Result<bool, RMapError> {
-    let mut both = Both::new(alloc);
-    both.make_all(changes)?;
+    let mut both = both_after(alloc, changes)?;
     both.make(next)?;
     both.has_same_ranges()
 }
 
-/// Where the sets differ behind these changes, or behind a further one.
-pub fn judged(alloc: Global, changes: &[Change]) -> Result<Said, RMapError> {
-    if let Some(number) = difference_after(alloc, changes)? {
-        return Ok(Said::DifferAt(number));
+/// Tells the next change where both do not have the same ranges behind it.
+fn tell_change(
+    alloc: Global,
+    changes: &[Change],
+    next: Change,
+    text: &mut String,
+) -> Result<(), RMapError> {
+    if leave_same(alloc, changes, next)? {
+        return Ok(());
     }
+    let (start, end) = match next {
+        Change::Put(number) => (number, number),
+        Change::Take(start, end) => (start, end),
+    };
+    Ok(write!(text, "differ after a change of {start}..{end} ")?)
+}
+
+/// Tells where both differ behind these changes.
+fn tell_both(alloc: Global, changes: &[Change], text: &mut String) -> Result<(), RMapError> {
+    let both = both_after(alloc, changes)?;
+    tell_numbers(&both, text)
+}
+
+/// Tells where the sets differ behind these changes, or behind a further one; `ok` where nowhere.
+pub fn tell_difference(
+    alloc: Global,
+    changes: &[Change],
+    text: &mut String,
+) -> Result<(), RMapError> {
+    tell_both(alloc, changes, text)?;
     for start in NUMBERS {
-        let put = Change::Put(start);
-        if !leave_same(alloc, changes, put)? {
-            return Ok(Said::DifferAfter(put));
-        }
+        tell_change(alloc, changes, Change::Put(start), text)?;
         for end in NUMBERS {
-            let take = Change::Take(start, end);
-            if !leave_same(alloc, changes, take)? {
-                return Ok(Said::DifferAfter(take));
-            }
+            tell_change(alloc, changes, Change::Take(start, end), text)?;
         }
     }
-    Ok(Said::Done)
+    if text.is_empty() {
+        text.push_str("ok")?;
+    }
+    Ok(())
 }

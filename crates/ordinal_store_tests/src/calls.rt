@@ -1,78 +1,85 @@
-// The commands over a range set.
-use crate::alike;
+// The commands over a range set. Each adds what it says to a text.
+use crate::alike::tell_difference;
 use crate::change::{Change, changes_of, make_all};
-use crate::said::Said;
+use crate::said::{add_bits, add_gap, add_number, add_numbers, add_range, add_ranges, or_none};
+use crate::words::number;
 use ordinal_store::{BitMap, RMap, RMapError};
 use scenario_text::Step;
-use std::alloc::Global;
+use std::alloc::{AllocError, Global};
 
-/// Carries out a step. The answer is what it says.
-pub fn obeyed(alloc: Global, set: &mut RMap, step: &Step) -> Result<Said, RMapError> {
-    match step.word() {
-        "change" | "same" | "alike" => match changes_of(alloc, step.rest())? {
-            Some(changes) => changed(alloc, set, step.word(), &changes),
-            None => Ok(Said::Refused("these are no changes")),
-        },
-        "bits" => listed(alloc, step),
-        _ => asked(alloc, set, step),
-    }
-}
-
-/// Carries out a command that is given changes.
-fn changed(
+/// Carries out a step.
+pub fn obey(
     alloc: Global,
     set: &mut RMap,
-    word: &str,
+    step: &Step,
+    text: &mut String,
+) -> Result<(), RMapError> {
+    match step.word() {
+        "change" | "same" | "alike" => change(alloc, set, step, text),
+        "bits" => tell_bits(alloc, step, text),
+        _ => Ok(ask(set, step, text)?),
+    }
+}
+
+// Carries out a step that is given changes.
+fn change(alloc: Global, set: &mut RMap, step: &Step, text: &mut String) -> Result<(), RMapError> {
+    let changes = changes_of(alloc, step.rest())?;
+    match step.word() {
+        "alike" => tell_difference(alloc, changes.as_slice(), text),
+        "same" => tell_same(alloc, set, changes.as_slice(), text),
+        _ => make_told(set, changes.as_slice(), text),
+    }
+}
+
+// Makes the changes, and tells that.
+fn make_told(set: &mut RMap, changes: &[Change], text: &mut String) -> Result<(), RMapError> {
+    make_all(set, changes)?;
+    Ok(text.push_str("ok")?)
+}
+
+// Tells whether the set is the one that changes make.
+fn tell_same(
+    alloc: Global,
+    set: &RMap,
     changes: &[Change],
-) -> Result<Said, RMapError> {
-    match word {
-        "change" => {
-            make_all(set, changes)?;
-            Ok(Said::Done)
-        }
-        "same" => {
-            let mut other = RMap::new(alloc);
-            make_all(&mut other, changes)?;
-            Ok(Said::Truth(*set == other))
-        }
-        _ => alike::judged(alloc, changes),
-    }
+    text: &mut String,
+) -> Result<(), RMapError> {
+    let mut other = RMap::new(alloc);
+    make_all(&mut other, changes)?;
+    let said = if *set == other { "yes" } else { "no" };
+    Ok(text.push_str(said)?)
 }
 
-/// Asks the set.
-fn asked(alloc: Global, set: &RMap, step: &Step) -> Result<Said, RMapError> {
-    match (step.word(), step.number(0), step.number(1)) {
-        ("ranges", None, _) => Ok(Said::Ranges(set.iter().collect::<Vec<(u64, u64)>>(alloc)?)),
-        ("ranges", Some(from), _) => {
-            let ranges = set.iter_from(from).collect::<Vec<(u64, u64)>>(alloc)?;
-            Ok(Said::Ranges(ranges))
+// Asks the set.
+fn ask(set: &RMap, step: &Step, text: &mut String) -> Result<(), AllocError> {
+    let at = number(step, 0);
+    match step.word() {
+        "ranges" if step.rest().is_empty() => add_ranges(text, set.iter()),
+        "ranges" => add_ranges(text, set.iter_from(at)),
+        "get" => {
+            if let Some(range) = set.get(at) {
+                add_range(text, range)?;
+            }
+            or_none(text)
         }
-        ("get", Some(number), _) => Ok(Said::Range(set.get(number))),
-        ("next-gap", Some(number), _) => {
-            let (end, next) = set.next_gap(number);
-            Ok(Said::Gap(end, next))
-        }
-        ("first", _, _) => Ok(Said::Number(set.first_index())),
-        ("last", _, _) => Ok(Said::Number(set.last_index())),
-        ("missing", Some(start), Some(count)) if count >= 1 => {
-            Ok(Said::Numbers(set.missing_items(start, count as usize)?))
-        }
-        ("error", _, _) => {
+        "next-gap" => add_gap(text, set.next_gap(at)),
+        "first" => add_number(text, set.first_index()),
+        "last" => add_number(text, set.last_index()),
+        "missing" => match set.missing_items(at, (number(step, 1) as usize).max(1)) {
+            Ok(numbers) => add_numbers(text, numbers.as_slice()),
+            Err(RMapError::Mem) => Err(AllocError),
+        },
+        "error" => {
             let error = RMapError::Mem;
-            Ok(Said::Text(format!(in alloc; "{error}")?))
+            write!(text, "{error}")
         }
-        _ => Ok(Said::Refused("no such command")),
+        _ => text.push_str("refused: no such command"),
     }
 }
 
-/// A list of bits, after the changes that are told.
-fn listed(alloc: Global, step: &Step) -> Result<Said, RMapError> {
-    let words = step.rest().get(1..).unwrap_or(&[]);
-    let Some(changes) = changes_of(alloc, words)? else {
-        return Ok(Said::Refused("these are no changes"));
-    };
-    let mut bits = BitMap::zeroes(alloc, step.number(0).unwrap_or(0))?;
-    for change in changes.iter() {
+// Sets and clears bits.
+fn set_all(bits: &mut BitMap, changes: &[Change]) {
+    for change in changes {
         let (at, bit) = match *change {
             Change::Put(at) => (at, true),
             Change::Take(at, _) => (at, false),
@@ -81,5 +88,13 @@ fn listed(alloc: Global, step: &Step) -> Result<Said, RMapError> {
             bits.set(at, bit);
         }
     }
-    Ok(Said::Bits(bits))
+}
+
+// Tells the bits of a list after changes.
+fn tell_bits(alloc: Global, step: &Step, text: &mut String) -> Result<(), RMapError> {
+    let words = step.rest().get(1..).unwrap_or(&[]);
+    let changes = changes_of(alloc, words)?;
+    let mut bits = BitMap::zeroes(alloc, number(step, 0))?;
+    set_all(&mut bits, changes.as_slice());
+    Ok(add_bits(text, &bits)?)
 }

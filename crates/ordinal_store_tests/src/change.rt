@@ -10,26 +10,30 @@ pub enum Change {
     Take(u64, u64),
 }
 
+/// The number that a word spells; 0 where it spells none.
+fn number_in(word: &str) -> u64 {
+    word.parse::<u64>().unwrap_or(0)
+}
+
 /// The change that a word spells: `+N` or `-N..M`.
 fn change_of(word: &str) -> Option<Change> {
     if let Some(number) = word.strip_prefix('+') {
-        return Some(Change::Put(number.parse::<u64>().ok()?));
+        return Some(Change::Put(number_in(number)));
     }
     let (start, end) = word.strip_prefix('-')?.split_once("..")?;
-    let start = start.parse::<u64>().ok()?;
-    Some(Change::Take(start, end.parse::<u64>().ok()?))
+    Some(Change::Take(number_in(start), number_in(end)))
 }
 
-/// The changes that the words spell, if each spells one.
-pub fn changes_of(alloc: Global, words: &[String]) -> Result<Option<Vec<Change>>, AllocError> {
+/// The changes that the words spell, up to one that spells none.
+pub fn changes_of(alloc: Global, words: &[String]) -> Result<Vec<Change>, AllocError> {
     let mut changes = Vec::new(alloc);
     for word in words {
-        let Some(change) = change_of(word.as_str()) else {
-            return Ok(None);
-        };
-        changes.push(change)?;
+        match change_of(word.as_str()) {
+            Some(change) => changes.push(change)?,
+            None => return Ok(changes),
+        }
     }
-    Ok(Some(changes))
+    Ok(changes)
 }
 
 /// Makes a change.

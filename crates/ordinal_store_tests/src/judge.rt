@@ -1,9 +1,9 @@
 // What crashes leave, judged by the plain program and by opening the store again and again.
 ghost use Rattle.std.specs.Prelude.{◌≤◌, ◌^◌};
 
-use crate::asked::{Asked, asked_for};
+use crate::asked::{Marks, marks_of};
 use crate::disk::Bench;
-use crate::plainly::{slots_in, text_of};
+use crate::plainly::{Slots, slots_in, tell_image};
 use crate::stores::{has_slots, opened};
 use crate::words::{Family, family_of};
 use blob_device::{CrashChoice, DevError, Image, Memory};
@@ -21,19 +21,82 @@ pub fn judge(
     done: &[Step],
     report: &mut Report,
 ) -> Result<(), DevError> {
+    if let Some(step) = last_leaves(done) {
+        judge_texts(bench, dev, step, report)?;
+    }
+    if bench.config.is_valid() {
+        judge_openings(bench, dev, mode, report)?;
+    }
+    Ok(())
+}
+
+// The last step that names what a crash may leave.
+fn last_leaves(steps: &[Step]) -> Option<&Step> {
     let mut leaves = None;
-    for step in done {
+    for step in steps {
         if let Family::Leaves = family_of(step.word()) {
             leaves = Some(step);
         }
     }
-    let asked = asked_for(bench.alloc, &bench.model.owed, bench.config.items_per_blob)?;
+    leaves
+}
+
+// Notes a failure where the step does not name what a crash leaves.
+fn judge_texts(
+    bench: &Bench,
+    dev: &Memory,
+    step: &Step,
+    report: &mut Report,
+) -> Result<(), DevError> {
     for choice in CrashChoice::SAMPLES {
-        let image = dev.pick_crash(bench.alloc, choice)?;
-        if let Some(step) = leaves {
-            judge_text(bench, &image, step, report)?;
+        let text = text_after(bench, dev, choice)?;
+        if !names(step, text.as_str()) {
+            tell_left(bench, step, text.as_str(), report)?;
         }
-        if bench.config.is_valid() && !is_well(bench, image, mode, &asked)? {
+    }
+    Ok(())
+}
+
+// Notes that a crash leaves this.
+fn tell_left(bench: &Bench, step: &Step, text: &str, report: &mut Report) -> Result<(), DevError> {
+    let why = format!(in bench.alloc; "a crash leaves {text}")?;
+    Ok(report.fail(step.line, why.as_str())?)
+}
+
+// What a crash leaves.
+fn text_after(bench: &Bench, dev: &Memory, choice: CrashChoice) -> Result<String, DevError> {
+    let image = dev.pick_crash(bench.alloc, choice)?;
+    let mut text = String::new(bench.alloc);
+    tell_image(bench.alloc, &image, bench.config.items_per_blob, &mut text)?;
+    Ok(text)
+}
+
+// Whether the step names this text.
+fn names(step: &Step, text: &str) -> bool {
+    for word in step.rest() {
+        if word.as_str() == text {
+            return true;
+        }
+    }
+    false
+}
+
+// Notes a failure where an opening of what a crash leaves does not find what is owed.
+fn judge_openings(
+    bench: &Bench,
+    dev: &Memory,
+    mode: &Step,
+    report: &mut Report,
+) -> Result<(), DevError>
+    requires { (1 ≤ bench.now.config.items_per_blob)
+        × (bench.now.config.items_per_blob ≤ 2 ^ 40) }
+{
+    let Ok(marks) = marks_of(bench.alloc, &bench.model.owed, bench.config.items_per_blob) else {
+        return Err(DevError::Mem);
+    };
+    let marks = Some(marks);
+    for choice in CrashChoice::SAMPLES {
+        if !is_well(bench, dev.pick_crash(bench.alloc, choice)?, mode, &marks)? {
             report.fail(mode.line, "what was synced is lost")?;
         }
     }
@@ -41,31 +104,19 @@ pub fn judge(
 }
 
 // Whether the image has what is owed, in a run that is stopped twice also behind each opening that is stopped.
-fn is_well(bench: &Bench, image: Image, mode: &Step, asked: &Asked) -> Result<bool, DevError>
-    requires { (1 ≤ bench.now.config.items_per_blob) × (bench.now.config.items_per_blob ≤ 2 ^ 40) }
+fn is_well(
+    bench: &Bench,
+    image: Image,
+    mode: &Step,
+    marks: &Option<Marks>,
+) -> Result<bool, DevError>
+    requires { (1 ≤ bench.now.config.items_per_blob)
+        × (bench.now.config.items_per_blob ≤ 2 ^ 40) }
 {
     match mode.word() {
-        "each-call-stops-twice" => outlasts(bench, &image, asked),
-        _ => is_kept(bench, image, asked),
+        "each-call-stops-twice" => outlasts(bench, &image, marks),
+        _ => is_kept(bench, image, marks),
     }
-}
-
-// Notes a failure where the step does not name what stands in the image.
-fn judge_text(
-    bench: &Bench,
-    image: &Image,
-    step: &Step,
-    report: &mut Report,
-) -> Result<(), DevError> {
-    let text = text_of(bench.alloc, image, bench.config.items_per_blob)?;
-    for word in step.rest() {
-        if word.as_str() == text.as_str() {
-            return Ok(());
-        }
-    }
-    let text = text.as_str();
-    let why = format!(in bench.alloc; "a crash leaves {text}")?;
-    Ok(report.fail(step.line, why.as_str())?)
 }
 
 /// How an opening ended.
@@ -80,11 +131,12 @@ enum Fate {
 }
 
 // Whether what is owed outlasts an opening of the image that is stopped at each of its calls.
-fn outlasts(bench: &Bench, image: &Image, asked: &Asked) -> Result<bool, DevError>
-    requires { (1 ≤ bench.now.config.items_per_blob) × (bench.now.config.items_per_blob ≤ 2 ^ 40) }
+fn outlasts(bench: &Bench, image: &Image, marks: &Option<Marks>) -> Result<bool, DevError>
+    requires { (1 ≤ bench.now.config.items_per_blob)
+        × (bench.now.config.items_per_blob ≤ 2 ^ 40) }
 {
     for nth in 0..MOST {
-        match stopped_at(bench, image.copy(bench.alloc)?, asked, nth)? {
+        match stopped_at(bench, image.copy(bench.alloc)?, marks, nth)? {
             Fate::Lost => return Ok(false),
             Fate::Stopped => {}
             Fate::Done => return Ok(true),
@@ -94,34 +146,65 @@ fn outlasts(bench: &Bench, image: &Image, asked: &Asked) -> Result<bool, DevErro
 }
 
 // Opens the image, which is stopped at this call, and judges each crash then.
-fn stopped_at(bench: &Bench, image: Image, asked: &Asked, nth: u64) -> Result<Fate, DevError>
-    requires { (1 ≤ bench.now.config.items_per_blob) × (bench.now.config.items_per_blob ≤ 2 ^ 40) }
+fn stopped_at(
+    bench: &Bench,
+    image: Image,
+    marks: &Option<Marks>,
+    nth: u64,
+) -> Result<Fate, DevError>
+    requires { (1 ≤ bench.now.config.items_per_blob)
+        × (bench.now.config.items_per_blob ≤ 2 ^ 40) }
 {
     let mut dev = Memory::from_image(bench.alloc, image)?;
     dev.fuse_at(nth);
-    let is_done = opened(bench.alloc, &mut dev, &bench.config, asked).is_ok();
-    for choice in CrashChoice::SAMPLES {
-        if !is_kept(bench, dev.pick_crash(bench.alloc, choice)?, asked)? {
-            return Ok(Fate::Lost);
-        }
+    let is_done = opened(bench.alloc, &mut dev, &bench.config, marks).is_ok();
+    if !are_kept(bench, &dev, marks)? {
+        return Ok(Fate::Lost);
     }
     Ok(if is_done { Fate::Done } else { Fate::Stopped })
 }
 
-// Whether what is owed stands in the image, by the plain program, and an opening holds just that.
-fn is_kept(bench: &Bench, image: Image, asked: &Asked) -> Result<bool, DevError>
-    requires { (1 ≤ bench.now.config.items_per_blob) × (bench.now.config.items_per_blob ≤ 2 ^ 40) }
+// Whether each crash leaves what is owed.
+fn are_kept(bench: &Bench, dev: &Memory, marks: &Option<Marks>) -> Result<bool, DevError>
+    requires { (1 ≤ bench.now.config.items_per_blob)
+        × (bench.now.config.items_per_blob ≤ 2 ^ 40) }
 {
-    let slots = slots_in(bench.alloc, &image, bench.config.items_per_blob)?;
-    for (index, slot) in bench.model.owed.iter() {
-        match slots.get(index) {
-            Some(left) if *left == *slot => {}
-            _ => return Ok(false),
+    for choice in CrashChoice::SAMPLES {
+        if !is_kept(bench, dev.pick_crash(bench.alloc, choice)?, marks)? {
+            return Ok(false);
         }
     }
+    Ok(true)
+}
+
+// Whether what is owed stands in the image, by the plain program, and an opening holds just that.
+fn is_kept(bench: &Bench, image: Image, marks: &Option<Marks>) -> Result<bool, DevError>
+    requires { (1 ≤ bench.now.config.items_per_blob)
+        × (bench.now.config.items_per_blob ≤ 2 ^ 40) }
+{
+    if !stands(bench, &image)? {
+        return Ok(false);
+    }
     let mut dev = Memory::from_image(bench.alloc, image)?;
-    match opened(bench.alloc, &mut dev, &bench.config, asked) {
+    match opened(bench.alloc, &mut dev, &bench.config, marks) {
         Ok(store) => Ok(has_slots(&store, &mut dev, &bench.model.owed)),
         Err(_) => Ok(false),
     }
+}
+
+// Whether what is owed stands in the image.
+fn stands(bench: &Bench, image: &Image) -> Result<bool, DevError> {
+    let slots = slots_in(bench.alloc, image, bench.config.items_per_blob)?;
+    Ok(has_all(&slots, &bench.model.owed))
+}
+
+// Whether the slots are among these.
+fn has_all(slots: &Slots, owed: &Slots) -> bool {
+    for (index, slot) in owed.iter() {
+        match slots.get(index) {
+            Some(left) if *left == *slot => {}
+            _ => return false,
+        }
+    }
+    true
 }

@@ -70,10 +70,9 @@ mod stores;
 mod words;
 
 use blob_device::Memory;
-use calls::obeyed;
+use calls::obey;
 use disk::Bench;
-use ordinal_store::RMap;
-use said::text_of;
+use ordinal_store::{RMap, RMapError};
 use scenario_text::{Driver, Report, Scenario, Step, run_files};
 use std::alloc::{AllocError, Global};
 use std::process::ExitCode;
@@ -123,8 +122,11 @@ fn play(
     report: &mut Report,
 ) -> Result<(), AllocError> {
     for step in steps {
-        let said = text_of(alloc, &obeyed(alloc, set, step))?;
-        report.compare(step, said.as_str())?;
+        let mut text = String::new(alloc);
+        match obey(alloc, set, step, &mut text) {
+            Ok(()) => report.compare(step, text.as_str())?,
+            Err(RMapError::Mem) => return Err(AllocError),
+        }
     }
     Ok(())
 }

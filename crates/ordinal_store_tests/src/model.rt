@@ -1,5 +1,5 @@
 // What a store has to hold, and what of it each crash has to leave.
-use crate::asked::Asked;
+use crate::asked::{Marks, wants};
 use crate::plainly::{Slots, slot_of};
 use std::alloc::{AllocError, Global};
 use std::collections::BTreeMap;
@@ -7,7 +7,8 @@ use std::collections::BTreeMap;
 /// A call that changes the store.
 #[derive(Drop)]
 pub enum Call {
-    Open(Asked),
+    /// Opens the store by these marks, or without any.
+    Open(Option<Marks>),
     /// Puts the value at the index.
     Put(u64, u64),
     Sync,
@@ -28,7 +29,7 @@ impl Call {
     // Whether the call leaves alone what stands at the index.
     fn spares(&self, items: u64, index: u64) -> bool {
         match self {
-            Call::Open(asked) => asked.wants(items, index),
+            Call::Open(marks) => wants(marks, items, index),
             Call::Put(at, _) => *at != index,
             Call::Sync => true,
             Call::Prune(min) => min.checked_div(items) <= index.checked_div(items),
@@ -72,17 +73,14 @@ impl Model {
         slots: &Slots,
     ) -> Result<(), AllocError> {
         match call {
-            Call::Open(_) => {
-                self.held = call.spared(alloc, items, slots)?;
-                self.owed = copy_of(alloc, &self.held)?;
-            }
             Call::Put(index, value) => {
                 self.held.insert(*index, slot_of(*value))?;
             }
-            Call::Sync => self.owed = copy_of(alloc, &self.held)?,
-            Call::Prune(_) | Call::Destroy => {
-                self.held = call.spared(alloc, items, &self.held)?;
-            }
+            Call::Open(_) => self.held = call.spared(alloc, items, slots)?,
+            _ => self.held = call.spared(alloc, items, &self.held)?,
+        }
+        if let Call::Open(_) | Call::Sync = call {
+            self.owed = Call::Sync.spared(alloc, items, &self.held)?;
         }
         Ok(())
     }
@@ -91,13 +89,4 @@ impl Model {
     pub fn give_up(&mut self, alloc: Global) {
         self.held = BTreeMap::new(alloc);
     }
-}
-
-// The same slots.
-fn copy_of(alloc: Global, slots: &Slots) -> Result<Slots, AllocError> {
-    let mut copy = BTreeMap::new(alloc);
-    for (index, slot) in slots.iter() {
-        copy.insert(*index, *slot)?;
-    }
-    Ok(copy)
 }

@@ -1,6 +1,9 @@
 // What an image holds, read plainly: values of eight bytes, so each slot has twelve.
-use crate::asked::{Asked, Mark};
+use crate::asked::Marks;
+use crate::disk::add_hex;
 use blob_device::{DevError, Device, Image, Memory, Names};
+use ordinal_store::BitMap;
+use ordinal_store::plain_section::is_wanted;
 use std::alloc::{AllocError, Global};
 use std::collections::BTreeMap;
 use value_codec::{Seal, Sha256Seal};
@@ -25,10 +28,8 @@ pub fn slot_of(value: u64) -> Slot {
 
 /// The value in a slot, if there is one.
 pub fn value_in(slot: &Slot) -> Option<u64> {
-    let mut value = 0_u64;
-    for byte in slot.iter().take(8) {
-        value = value.wrapping_mul(256).wrapping_add(u64::from(*byte));
-    }
+    let bytes = slot.as_slice().first_chunk::<8>()?;
+    let value = u64::from_be_bytes(*bytes);
     if slot_of(value) == *slot {
         Some(value)
     } else {
@@ -39,14 +40,11 @@ pub fn value_in(slot: &Slot) -> Option<u64> {
 // The slot at a position, if it stands whole in the blob.
 fn slot_at(blob: &[u8], position: u64) -> Option<Slot> {
     let at = position.checked_mul(12)?;
-    let end = at.checked_add(12)?;
-    let bytes = blob.get(at as usize..end as usize)?;
-    <Slot>::try_from(bytes).ok()
-}
-
-// The value at a position, if the blob has one.
-fn value_at(blob: &[u8], position: u64) -> Option<u64> {
-    value_in(&slot_at(blob, position)?)
+    let bytes = blob.get(at as usize..)?;
+    match bytes.first_chunk::<12>() {
+        Some(slot) => Some(*slot),
+        None => None,
+    }
 }
 
 // The number that a name spells, if it is a section's.
@@ -57,28 +55,34 @@ fn section_in(name: &[u8]) -> Option<u64> {
     }
 }
 
-/// The names in the partition.
-pub fn names_in(alloc: Global, image: &Image) -> Result<Names, DevError> {
+// The index at a position of a section, if it is a number of eight bytes.
+fn index_at(items: u64, section: u64, position: u64) -> Option<u64> {
+    section.checked_mul(items)?.checked_add(position)
+}
+
+// The names in the partition.
+fn names_in(alloc: Global, image: &Image) -> Result<Names, DevError> {
     let mut dev = Memory::from_image(alloc, image.copy(alloc)?)?;
     dev.scan(alloc, PARTITION)
 }
 
 /// The slots that stand whole in the image, at so many a section.
 pub fn slots_in(alloc: Global, image: &Image, items: u64) -> Result<Slots, DevError> {
-    let names = names_in(alloc, image)?;
     let mut slots = BTreeMap::new(alloc);
+    let names = names_in(alloc, image)?;
     for i in 0..names.len() {
         let name = names.get(i).unwrap_or(b"");
-        if let Some(section) = section_in(name) {
-            let blob = image.blob(PARTITION, name).unwrap_or(b"");
-            add_slots(blob, section, items, &mut slots)?;
-        }
+        let blob = image.blob(PARTITION, name).unwrap_or(b"");
+        add_slots(&mut slots, name, blob, items)?;
     }
     Ok(slots)
 }
 
-// Adds the whole slots of a section.
-fn add_slots(blob: &[u8], section: u64, items: u64, slots: &mut Slots) -> Result<(), AllocError> {
+// Adds the whole slots of a blob, if it is a section's.
+fn add_slots(slots: &mut Slots, name: &[u8], blob: &[u8], items: u64) -> Result<(), AllocError> {
+    let Some(section) = section_in(name) else {
+        return Ok(());
+    };
     for position in 0..items {
         match (index_at(items, section, position), slot_at(blob, position)) {
             (Some(index), Some(slot)) => slots.insert(index, slot)?,
@@ -88,133 +92,161 @@ fn add_slots(blob: &[u8], section: u64, items: u64, slots: &mut Slots) -> Result
     Ok(())
 }
 
-/// How such an opening of the image has to be refused, if it has to be.
-pub fn refusal(
+/// Tells how an opening of the image that keeps these has to be refused, if it has to be.
+pub fn tell_refusal(
     alloc: Global,
     image: &Image,
     items: u64,
-    asked: &Asked,
-) -> Result<Option<String>, DevError> {
-    let Asked::Map(sections) = asked else {
-        return Ok(None);
-    };
-    if let Some(text) = foreign_name(alloc, &names_in(alloc, image)?)? {
-        return Ok(Some(text));
-    }
-    for (section, mark) in sections.iter() {
-        if is_past(alloc, items, *section, mark)? {
-            return Ok(Some(String::from_str(alloc, "error full")?));
-        }
-    }
-    for (section, mark) in sections.iter() {
-        let name = section.to_be_bytes();
-        let blob = image.blob(PARTITION, name.as_slice());
-        if let Some(text) = fault(alloc, blob, items, *section, mark)? {
-            return Ok(Some(text));
-        }
-    }
-    Ok(None)
+    marks: &Marks,
+    text: &mut String,
+) -> Result<(), DevError> {
+    let names = names_in(alloc, image)?;
+    tell_foreign(&names, text)?;
+    tell_past(items, marks, text)?;
+    Ok(tell_faults(image, items, marks, text)?)
 }
 
-// The refusal of the first name that is no section's.
-fn foreign_name(alloc: Global, names: &Names) -> Result<Option<String>, AllocError> {
+// Tells the refusal of the first section that is not as it has to be.
+fn tell_faults(
+    image: &Image,
+    items: u64,
+    marks: &Marks,
+    text: &mut String,
+) -> Result<(), AllocError> {
+    for (section, bits) in marks.iter() {
+        if text.is_empty() {
+            let name = section.to_be_bytes();
+            let blob = image.blob(PARTITION, name.as_slice());
+            tell_fault(text, blob, items, *section, bits)?;
+        }
+    }
+    Ok(())
+}
+
+// Tells the first name that is no section's.
+fn tell_foreign(names: &Names, text: &mut String) -> Result<(), AllocError> {
     for i in 0..names.len() {
         let name = names.get(i).unwrap_or(b"");
-        if name.len() != 8 {
-            let digits = hex::encode(alloc, name)?;
-            return Ok(Some(format!(in alloc; "error invalid-blob-name {digits}")?));
+        if name.len() != 8 && text.is_empty() {
+            text.push_str("error invalid-blob-name ")?;
+            add_hex(text, name)?;
         }
     }
-    Ok(None)
+    Ok(())
 }
 
-// The index at a position of a section, if it is a number of eight bytes.
-fn index_at(items: u64, section: u64, position: u64) -> Option<u64> {
-    section.checked_mul(items)?.checked_add(position)
-}
-
-// Whether a wanted index is none.
-fn is_past(alloc: Global, items: u64, section: u64, mark: &Mark) -> Result<bool, AllocError> {
-    for position in mark.wanted(alloc, items)?.iter() {
-        if index_at(items, section, *position).is_none() {
-            return Ok(true);
+// Tells whether a wanted index is no number of eight bytes.
+fn tell_past(items: u64, marks: &Marks, text: &mut String) -> Result<(), AllocError> {
+    for (section, bits) in marks.iter() {
+        if text.is_empty() && has_past(items, *section, bits) {
+            text.push_str("error full")?;
         }
     }
-    Ok(false)
+    Ok(())
 }
 
-// The refusal of a section, of which all wanted indices are numbers.
-fn fault(
-    alloc: Global,
+// How many positions may be wanted at most.
+fn end_of(items: u64, bits: &Option<BitMap>) -> u64 {
+    match bits {
+        None => items,
+        Some(bits) => bits.len(),
+    }
+}
+
+// Whether a wanted index of the section is no number of eight bytes.
+fn has_past(items: u64, section: u64, bits: &Option<BitMap>) -> bool {
+    for position in 0..end_of(items, bits) {
+        if is_wanted(items, bits, position) && index_at(items, section, position).is_none() {
+            return true;
+        }
+    }
+    false
+}
+
+// The first wanted position whose slot is not as it has to be.
+fn first_fault(blob: &[u8], items: u64, bits: &Option<BitMap>) -> Option<u64> {
+    for position in 0..end_of(items, bits) {
+        if is_wanted(items, bits, position) && !is_sound(blob, items, bits, position) {
+            return Some(position);
+        }
+    }
+    None
+}
+
+// Whether a slot is as it has to be where it is wanted.
+fn is_sound(blob: &[u8], items: u64, bits: &Option<BitMap>, position: u64) -> bool {
+    match (slot_at(blob, position), bits) {
+        (None, _) => false,
+        (Some(slot), None) => value_in(&slot).is_some(),
+        (Some(_), Some(_)) => position < items,
+    }
+}
+
+// Tells the refusal of a section, of which all wanted indices are numbers.
+fn tell_fault(
+    text: &mut String,
     blob: Option<&[u8]>,
     items: u64,
     section: u64,
-    mark: &Mark,
-) -> Result<Option<String>, AllocError> {
-    let wanted = mark.wanted(alloc, items)?;
-    if wanted.is_empty() {
-        return Ok(None);
-    }
+    bits: &Option<BitMap>,
+) -> Result<(), AllocError> {
     let first = section.saturating_mul(items);
-    let Some(blob) = blob else {
-        return Ok(Some(format!(in alloc; "error missing-record {first}")?));
-    };
-    if is_too_long(blob, items, mark) {
+    let bytes = blob.unwrap_or(b"");
+    if bits.is_none() && slot_at(bytes, items).is_some() {
         let behind = first.saturating_add(items);
-        return Ok(Some(format!(in alloc; "error invalid-record {behind}")?));
+        return write!(text, "error invalid-record {behind}");
     }
-    for position in wanted.iter() {
-        if !is_sound(blob, items, mark, *position) {
-            let index = first.saturating_add(*position);
-            return Ok(Some(format!(in alloc; "error missing-record {index}")?));
-        }
-    }
-    Ok(None)
-}
-
-// Whether a whole slot stands behind a section that is wanted whole.
-fn is_too_long(blob: &[u8], items: u64, mark: &Mark) -> bool {
-    match mark {
-        Mark::Whole => slot_at(blob, items).is_some(),
-        Mark::Bits(_) => false,
-    }
-}
-
-// Whether a wanted slot is as it has to be.
-fn is_sound(blob: &[u8], items: u64, mark: &Mark, position: u64) -> bool {
-    match (slot_at(blob, position), mark) {
-        (None, _) => false,
-        (Some(slot), Mark::Whole) => value_in(&slot).is_some(),
-        (Some(_), Mark::Bits(_)) => position < items,
-    }
-}
-
-/// The sections of an image, each with the values in its slots: `SECTION:INDEX=VALUE,..;..`.
-pub fn text_of(alloc: Global, image: &Image, items: u64) -> Result<String, DevError> {
-    let names = names_in(alloc, image)?;
-    let mut text = String::new(alloc);
-    for i in 0..names.len() {
-        let between = if text.is_empty() { "" } else { ";" };
-        text.push_str(between)?;
-        add_section(image, names.get(i).unwrap_or(b""), items, &mut text)?;
-    }
-    if text.is_empty() {
-        text.push('-')?;
-    }
-    Ok(text)
-}
-
-// Adds the text of a blob.
-fn add_section(image: &Image, name: &[u8], items: u64, text: &mut String) -> Result<(), DevError> {
-    let Some(section) = section_in(name) else {
-        text.push_str("other")?;
+    let Some(position) = first_fault(bytes, items, bits) else {
         return Ok(());
     };
+    let index = match blob {
+        None => first,
+        Some(_) => first.saturating_add(position),
+    };
+    write!(text, "error missing-record {index}")
+}
+
+/// Adds the sections of an image, each with the values in its slots: `SECTION:INDEX=VALUE,..;..`.
+pub fn tell_image(
+    alloc: Global,
+    image: &Image,
+    items: u64,
+    text: &mut String,
+) -> Result<(), DevError> {
+    let names = names_in(alloc, image)?;
+    Ok(tell_blobs(image, items, &names, text)?)
+}
+
+// Adds the values in the blobs of these names.
+fn tell_blobs(
+    image: &Image,
+    items: u64,
+    names: &Names,
+    text: &mut String,
+) -> Result<(), AllocError> {
+    for i in 0..names.len() {
+        let name = names.get(i).unwrap_or(b"");
+        let blob = image.blob(PARTITION, name).unwrap_or(b"");
+        text.push_str(if i == 0 { "" } else { ";" })?;
+        tell_blob(text, name, blob, items)?;
+    }
+    if text.is_empty() {
+        return text.push('-');
+    }
+    Ok(())
+}
+
+// Adds the values in a blob, if it is a section's.
+fn tell_blob(text: &mut String, name: &[u8], blob: &[u8], items: u64) -> Result<(), AllocError> {
+    let Some(section) = section_in(name) else {
+        return text.push_str("other");
+    };
     write!(text, "{section}:")?;
-    let blob = image.blob(PARTITION, name).unwrap_or(b"");
     let mut between = "";
     for position in 0..blob.len() as u64 / 12 {
-        if let Some(value) = value_at(blob, position) {
+        if let Some(slot) = slot_at(blob, position)
+            && let Some(value) = value_in(&slot)
+        {
             let index = section.saturating_mul(items).saturating_add(position);
             write!(text, "{between}{index}={value}")?;
             between = ",";

@@ -4,18 +4,13 @@ ghost use Rattle.ordinal_store_tests.specs.Over.{MayBeOver};
 
 use crate::disk::{Bench, arm, look, remake};
 use crate::judge::judge;
-use crate::steps::{ask, change, words};
-use crate::stores::Store;
+use crate::steps::{ask, change, put};
+use crate::stores::{FAULT, Store};
 use crate::words::{Family, family_of};
 use blob_device::{DevError, Image, Memory};
 use scenario_text::{Report, Step};
-use std::mem;
-
 /// How often a run is made at most.
 const MOST: u64 = 200;
-
-/// What a step says where the device fails.
-const FAULT: &str = "error runtime fault";
 
 /// Carries out the steps of a scenario, the whole run at its end included.
 pub fn carry_out(
@@ -81,42 +76,40 @@ fn take_step(
     requires { MayBeOver store.old dev.old }
     ensures { MayBeOver store.new dev.new }
 {
-    let (next, answer) = obey(bench, mem::replace(store, None), dev, step);
-    put(store, next);
-    let said = answer?;
-    if said.as_str() == FAULT && step.wanted.as_str() != FAULT {
+    let mut text = String::new(bench.alloc);
+    obey(bench, store, dev, step, &mut text)?;
+    if text.as_str() == FAULT && step.wanted.as_str() != FAULT {
         return Ok(false);
     }
-    report.compare(step, said.as_str())?;
+    report.compare(step, text.as_str())?;
     Ok(true)
 }
 
-fn put(store: &mut Option<Store>, next: Option<Store>)
-    ensures { store.new ≡ next }
-{
-    *store = next;
-}
-
-// Carries out a step. The answer is the store, where it is open then, and what the step says.
+// Carries out a step, and says what it answers.
 fn obey(
     bench: &mut Bench,
-    store: Option<Store>,
+    store: &mut Option<Store>,
     dev: &mut Memory,
     step: &Step,
-) -> (Option<Store>, Result<String, DevError>)
-    requires { MayBeOver store dev.old }
-    ensures { MayBeOver result.0 dev.new }
+    text: &mut String,
+) -> Result<(), DevError>
+    requires { MayBeOver store.old dev.old }
+    ensures { MayBeOver store.new dev.new }
 {
-    match (family_of(step.word()), store) {
-        (Family::Look, store) => (store, look(bench, dev, step)),
-        (Family::Arm, store) => (store, arm(bench.alloc, dev, step)),
-        (Family::Remake, _) => (None, remake(bench, dev, step)),
-        (Family::Change, store) => change(bench, store, dev, step),
-        (_, None) => (None, words(bench.alloc, "refused: not open")),
-        (_, Some(store)) => {
-            let answer = ask(bench, &store, dev, step);
-            (Some(store), answer)
+    match family_of(step.word()) {
+        Family::Look => look(bench, dev, step, text),
+        Family::Arm => arm(dev, step, text),
+        Family::Remake => {
+            put(store, None);
+            Ok(text.push_str(remake(bench, dev, step)?)?)
         }
+        Family::Change if store.is_some() || step.word() == "open" => {
+            change(bench, store, dev, step, text)
+        }
+        _ => match &*store {
+            None => Ok(text.push_str("refused: not open")?),
+            Some(store) => ask(bench, store, dev, step, text),
+        },
     }
 }
 
@@ -138,6 +131,15 @@ fn run_whole(
     Ok(report.fail(mode.line, "the run is stopped again and again")?)
 }
 
+// Lets a call of the device fail, in some runs alone, and else with all behind it.
+fn stop_at(dev: &mut Memory, mode: &Step, nth: u64) -> Result<(), DevError> {
+    if mode.word() == "each-call-fails" {
+        return dev.fail_at(nth);
+    }
+    dev.fuse_at(nth);
+    Ok(())
+}
+
 // Makes the run, and judges what each crash then leaves. The answer is whether it was stopped.
 fn run_once(
     bench: &mut Bench,
@@ -149,11 +151,7 @@ fn run_once(
     let (mode, nth) = stop;
     let mut dev = Memory::from_image(bench.alloc, image)?;
     bench.restart(&dev)?;
-    if mode.word() == "each-call-fails" {
-        dev.fail_at(nth)?;
-    } else {
-        dev.fuse_at(nth);
-    }
+    stop_at(&mut dev, mode, nth)?;
     let at = play(bench, &mut dev, run, report)?;
     judge(bench, &dev, mode, run.get(..at).unwrap_or(&[]), report)?;
     Ok(at < run.len())

@@ -1,101 +1,63 @@
-// What a command says.
-use crate::change::Change;
-use ordinal_store::{BitMap, Numbers, RMapError};
-use std::alloc::{AllocError, Global};
+// The texts of answers. Each is added to what is said so far.
+use ordinal_store::{BitMap, RangeIter};
+use std::alloc::AllocError;
 
-/// The answer of a command.
-#[derive(Drop)]
-pub enum Said {
-    /// It is done.
-    Done,
-    Truth(bool),
-    Text(String),
-    Number(Option<u64>),
-    Range(Option<(u64, u64)>),
-    /// Where a range ends, and where the next one begins.
-    Gap(Option<u64>, Option<u64>),
-    Ranges(Vec<(u64, u64)>),
-    Numbers(Numbers),
-    Bits(BitMap),
-    /// The range set and the plain one answer otherwise about a number.
-    DifferAt(u64),
-    /// They have other ranges behind a change.
-    DifferAfter(Change),
-    /// The scenario asks for what nobody may ask.
-    Refused(&'static str),
-}
-
-/// The text of an answer.
-pub fn text_of(alloc: Global, answer: &Result<Said, RMapError>) -> Result<String, AllocError> {
-    match answer {
-        Ok(Said::Done) => String::from_str(alloc, "ok"),
-        Ok(Said::Truth(true)) => String::from_str(alloc, "yes"),
-        Ok(Said::Truth(false)) => String::from_str(alloc, "no"),
-        Ok(Said::Text(text)) => text.clone(),
-        Ok(Said::Number(Some(number))) => format!(in alloc; "{number}"),
-        Ok(Said::Range(Some((start, end)))) => format!(in alloc; "{start}..{end}"),
-        Ok(Said::Number(None) | Said::Range(None)) => String::from_str(alloc, "none"),
-        Ok(Said::Gap(end, next)) => gap_text(alloc, *end, *next),
-        Ok(Said::Ranges(ranges)) => ranges_text(alloc, ranges),
-        Ok(Said::Numbers(numbers)) => numbers_text(alloc, numbers.as_slice()),
-        Ok(Said::Bits(bits)) => bits_text(alloc, bits),
-        Ok(Said::DifferAt(number)) => format!(in alloc; "differ at {number}"),
-        Ok(Said::DifferAfter(Change::Put(number))) => format!(in alloc; "differ after +{number}"),
-        Ok(Said::DifferAfter(Change::Take(start, end))) => {
-            format!(in alloc; "differ after -{start}..{end}")
-        }
-        Ok(Said::Refused(why)) => format!(in alloc; "refused: {why}"),
-        Err(RMapError::Mem) => String::from_str(alloc, "memory"),
+/// Adds a number, behind a space where something stands before it; `none` where there is none.
+pub fn add_number(text: &mut String, number: Option<u64>) -> Result<(), AllocError> {
+    if !text.is_empty() {
+        text.push(' ')?;
+    }
+    match number {
+        Some(number) => write!(text, "{number}"),
+        None => text.push_str("none"),
     }
 }
 
-/// The text of a gap: two numbers, of which each may be none.
-fn gap_text(alloc: Global, end: Option<u64>, next: Option<u64>) -> Result<String, AllocError> {
-    match (end, next) {
-        (Some(end), Some(next)) => format!(in alloc; "{end} {next}"),
-        (Some(end), None) => format!(in alloc; "{end} none"),
-        (None, Some(next)) => format!(in alloc; "none {next}"),
-        (None, None) => String::from_str(alloc, "none none"),
-    }
+/// Adds the end of a range and the start of the next one.
+pub fn add_gap(text: &mut String, gap: (Option<u64>, Option<u64>)) -> Result<(), AllocError> {
+    add_number(text, gap.0)?;
+    add_number(text, gap.1)
 }
 
-/// The text of ranges.
-fn ranges_text(alloc: Global, ranges: &[(u64, u64)]) -> Result<String, AllocError> {
-    let mut text = String::new(alloc);
-    for (start, end) in ranges {
-        let space = if text.is_empty() { "" } else { " " };
-        write!(&mut text, "{space}{start}..{end}")?;
-    }
-    if text.is_empty() {
-        text.push_str("none")?;
-    }
-    Ok(text)
-}
-
-/// The text of numbers.
-fn numbers_text(alloc: Global, numbers: &[u64]) -> Result<String, AllocError> {
-    let mut text = String::new(alloc);
+/// Adds numbers, or `none` where there are none.
+pub fn add_numbers(text: &mut String, numbers: &[u64]) -> Result<(), AllocError> {
     for number in numbers {
-        let space = if text.is_empty() { "" } else { " " };
-        write!(&mut text, "{space}{number}")?;
+        add_number(text, Some(*number))?;
     }
-    if text.is_empty() {
-        text.push_str("none")?;
-    }
-    Ok(text)
+    or_none(text)
 }
 
-/// The text of bits: a digit for each, and how many are set.
-fn bits_text(alloc: Global, bits: &BitMap) -> Result<String, AllocError> {
-    let mut text = String::new(alloc);
+/// Adds ranges, or `none` where there are none.
+pub fn add_ranges(text: &mut String, ranges: RangeIter<'_>) -> Result<(), AllocError> {
+    for range in ranges {
+        add_range(text, range)?;
+    }
+    or_none(text)
+}
+
+/// Adds a range, behind a space where something stands before it.
+pub fn add_range(text: &mut String, range: (u64, u64)) -> Result<(), AllocError> {
+    add_number(text, Some(range.0))?;
+    text.push_str("..")?;
+    let end = range.1;
+    write!(text, "{end}")
+}
+
+/// Says `none` where nothing is said.
+pub fn or_none(text: &mut String) -> Result<(), AllocError> {
+    if text.is_empty() {
+        return text.push_str("none");
+    }
+    Ok(())
+}
+
+/// Adds a digit for each bit, and how many are set.
+pub fn add_bits(text: &mut String, bits: &BitMap) -> Result<(), AllocError> {
     for i in 0..bits.len() {
-        let digit = if bits.get(i) { '1' } else { '0' };
-        text.push(digit)?;
+        text.push(if bits.get(i) { '1' } else { '0' })?;
     }
     if text.is_empty() {
         text.push('-')?;
     }
-    let count = bits.count_ones();
-    write!(&mut text, " {count}")?;
-    Ok(text)
+    add_number(text, Some(bits.count_ones()))
 }

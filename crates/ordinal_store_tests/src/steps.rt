@@ -1,177 +1,205 @@
 // The steps over a store, each beside what the plain program says.
+ghost use Rattle.std.specs.Prelude.{◌≡◌, ◌≤◌, ◌^◌, IfOk};
 ghost use Rattle.ordinal_store_tests.specs.Over.{IsOver, MayBeOver};
 
 use crate::disk::Bench;
-use crate::model::Call;
-use crate::plainly::{Slots, refusal, slots_in, value_in};
-use crate::said::text_of;
-use crate::stores::{Store, asked_of, called, error_text, holds_just};
+use crate::model::{Call, Model};
+use crate::plainly::{Slots, slots_in, tell_refusal, value_in};
+use crate::said::add_number;
+use crate::stores::{self, FAULT, Store, changed, holds_just, opened, tell_error};
 use crate::words::{call_in, number};
 use blob_device::{DevError, Image, Memory};
-use ordinal_store::ordinal::Error;
+use ordinal_store::ordinal::{Config, Error};
 use scenario_text::Step;
 use std::alloc::{AllocError, Global};
+use std::mem;
 
 /// A call, and the image on which it begins.
 #[derive(Drop)]
 struct Begun {
+    /// The call.
     call: Call,
+    /// The image.
     image: Image,
+    /// The slots in the image.
     slots: Slots,
 }
 
-/// These words.
-pub fn words(alloc: Global, text: &str) -> Result<String, DevError> {
-    Ok(String::from_str(alloc, text)?)
-}
-
-/// Makes the call of a step, in the library and in the plain program. The answer is the store,
-/// where it is open then, and what the step says.
+/// Makes the call of a step, in the library and in the plain program. It says what the library answers, and where the
+/// plain program answers something else, that too.
 pub fn change(
     bench: &mut Bench,
-    store: Option<Store>,
+    store: &mut Option<Store>,
     dev: &mut Memory,
     step: &Step,
-) -> (Option<Store>, Result<String, DevError>)
-    requires { MayBeOver store dev.old }
-    ensures { MayBeOver result.0 dev.new }
-{
-    match begun_by(bench, &store, dev, step) {
-        Ok(Some(begun)) => make(bench, store, dev, &begun),
-        Ok(None) => (
-            store,
-            words(bench.alloc, "refused: no such call, or not open"),
-        ),
-        Err(error) => (store, Err(error)),
-    }
-}
-
-// Reads the call and the image, and begins the call in the plain program. There is none where the
-// words make no call, where the configuration is not valid, or where nothing is open to be changed.
-fn begun_by(
-    bench: &mut Bench,
-    store: &Option<Store>,
-    dev: &Memory,
-    step: &Step,
-) -> Result<Option<Begun>, DevError> {
-    let alloc = bench.alloc;
-    let items = bench.config.items_per_blob;
-    let Some(call) = call_in(alloc, step)? else {
-        return Ok(None);
-    };
-    if store.is_none() && step.word() != "open" {
-        return Ok(None);
-    }
-    bench.model.begin(alloc, items, &call)?;
-    let image = dev.image(alloc)?;
-    let slots = slots_in(alloc, &image, items)?;
-    Ok(Some(Begun { call, image, slots }))
-}
-
-// Makes the call.
-fn make(
-    bench: &mut Bench,
-    store: Option<Store>,
-    dev: &mut Memory,
-    begun: &Begun,
-) -> (Option<Store>, Result<String, DevError>)
-    requires { MayBeOver store dev.old }
-    ensures { MayBeOver result.0 dev.new }
+    text: &mut String,
+) -> Result<(), DevError>
+    requires { MayBeOver store.old dev.old }
+    ensures { MayBeOver store.new dev.new }
 {
     if !bench.config.is_valid() {
-        return (store, words(bench.alloc, "refused: not valid"));
+        return Ok(text.push_str("refused: not valid")?);
     }
-    match called(bench.alloc, dev, &bench.config, store, &begun.call) {
-        Ok(store) => {
-            let said = done(bench, &store, begun);
-            (store, said)
-        }
-        Err(error) => (None, refused(bench, &error, begun)),
-    }
+    let begun = begun_by(bench.alloc, &bench.config, &mut bench.model, dev, step)?;
+    let next = told(bench, mem::replace(store, None), dev, &begun.call, text)?;
+    put(store, next);
+    judge_call(bench, store, &begun, text)
 }
 
-// What a call says that ended well. Where the plain program does not agree, it says that too.
-fn done(bench: &mut Bench, store: &Option<Store>, begun: &Begun) -> Result<String, DevError> {
-    let alloc = bench.alloc;
-    let items = bench.config.items_per_blob;
-    bench.model.end(alloc, items, &begun.call, &begun.slots)?;
-    let is_same = match store {
-        Some(store) => holds_just(store, &bench.model.held),
-        None => true,
+/// Gives the place this store.
+pub fn put(place: &mut Option<Store>, store: Option<Store>)
+    ensures { place.new ≡ store }
+{
+    *place = store;
+}
+
+// Reads the call and the image, and begins the call in the plain program.
+fn begun_by(
+    alloc: Global,
+    config: &Config,
+    model: &mut Model,
+    dev: &Memory,
+    step: &Step,
+) -> Result<Begun, DevError> {
+    let Ok(call) = call_in(alloc, step) else {
+        return Err(DevError::Mem);
     };
-    if !is_same {
-        return words(alloc, "ok, but it holds other indices");
-    }
-    let plain = answer_of(bench, begun)?;
-    both(alloc, "ok", plain.as_str())
+    model.begin(alloc, config.items_per_blob, &call)?;
+    let image = dev.image(alloc)?;
+    let slots = slots_in(alloc, &image, config.items_per_blob)?;
+    Ok(Begun { call, image, slots })
 }
 
-// What a call says that was refused. Where the plain program does not agree, it says that too, but
-// of a device that failed.
-fn refused(bench: &mut Bench, error: &Error, begun: &Begun) -> Result<String, DevError> {
-    let alloc = bench.alloc;
-    bench.model.give_up(alloc);
-    let said = error_text(alloc, error)?;
-    if let Error::Runtime(_) = error {
-        return Ok(said);
-    }
-    let plain = answer_of(bench, begun)?;
-    both(alloc, said.as_str(), plain.as_str())
-}
-
-// What the plain program answers.
-fn answer_of(bench: &Bench, begun: &Begun) -> Result<String, DevError> {
-    let items = bench.config.items_per_blob;
-    if let Call::Open(asked) = &begun.call {
-        if let Some(text) = refusal(bench.alloc, &begun.image, items, asked)? {
-            return Ok(text);
+// Makes the call, and tells why it is refused. The answer is the store, where it is open then.
+fn told(
+    bench: &Bench,
+    store: Option<Store>,
+    dev: &mut Memory,
+    call: &Call,
+    text: &mut String,
+) -> Result<Option<Store>, DevError>
+    requires valid { (1 ≤ bench.now.config.items_per_blob)
+        × (bench.now.config.items_per_blob ≤ 2 ^ 40) }
+    requires over { MayBeOver store dev.old }
+    ensures { IfOk result (λ r. MayBeOver r dev.new) }
+{
+    match called(bench, store, dev, call) {
+        Ok(store) => Ok(store),
+        Err(error) => {
+            tell_error(text, &error)?;
+            Ok(None)
         }
     }
-    words(bench.alloc, "ok")
 }
 
-// What was said, and what is said plainly, where that is something else.
-fn both(alloc: Global, said: &str, plain: &str) -> Result<String, DevError> {
-    if said == plain {
-        return words(alloc, said);
+// Makes the call. The answer is the store, where it is open then.
+fn called(
+    bench: &Bench,
+    store: Option<Store>,
+    dev: &mut Memory,
+    call: &Call,
+) -> Result<Option<Store>, Error>
+    requires valid { (1 ≤ bench.now.config.items_per_blob)
+        × (bench.now.config.items_per_blob ≤ 2 ^ 40) }
+    requires over { MayBeOver store dev.old }
+    ensures { IfOk result (λ r. MayBeOver r dev.new) }
+{
+    match (call, store) {
+        (Call::Open(marks), _) => Ok(Some(opened(bench.alloc, dev, &bench.config, marks)?)),
+        (_, Some(store)) => changed(dev, store, call),
+        (_, None) => Ok(None),
     }
-    Ok(format!(in alloc; "{said}, but plainly {plain}")?)
+}
+
+// Ends the call in the plain program, and says what it answers, where that is something else.
+fn judge_call(
+    bench: &mut Bench,
+    store: &Option<Store>,
+    begun: &Begun,
+    text: &mut String,
+) -> Result<(), DevError> {
+    let alloc = bench.alloc;
+    let items = bench.config.items_per_blob;
+    if text.is_empty() {
+        text.push_str("ok")?;
+        bench.model.end(alloc, items, &begun.call, &begun.slots)?;
+        judge_held(bench, store, text)?;
+    } else {
+        bench.model.give_up(alloc);
+    }
+    if text.as_str() == FAULT {
+        return Ok(());
+    }
+    let mut plain = String::new(alloc);
+    if let Call::Open(Some(marks)) = &begun.call {
+        tell_refusal(alloc, &begun.image, items, marks, &mut plain)?;
+    }
+    if plain.is_empty() {
+        plain.push_str("ok")?;
+    }
+    Ok(add_other(text, plain.as_str())?)
+}
+
+// Says where the store holds other indices than the plain program.
+fn judge_held(bench: &Bench, store: &Option<Store>, text: &mut String) -> Result<(), AllocError> {
+    match store {
+        Some(store) if !holds_just(store, &bench.model.held) => {
+            text.push_str(", but it holds other indices")
+        }
+        _ => Ok(()),
+    }
+}
+
+// Adds what is said plainly, where that is something else.
+fn add_other(text: &mut String, plain: &str) -> Result<(), AllocError> {
+    if text.as_str() == plain {
+        return Ok(());
+    }
+    write!(text, ", but plainly {plain}")
 }
 
 /// Reads a value, or asks for indices.
-pub fn ask(bench: &Bench, store: &Store, dev: &mut Memory, step: &Step) -> Result<String, DevError>
+pub fn ask(
+    bench: &Bench,
+    store: &Store,
+    dev: &mut Memory,
+    step: &Step,
+    text: &mut String,
+) -> Result<(), DevError>
     requires { IsOver store.now dev.old }
     ensures { IsOver store.now dev.new }
 {
     if step.word() != "get" {
-        return Ok(text_of(bench.alloc, &asked_of(bench.alloc, store, step))?);
+        return Ok(stores::ask(store, step, text)?);
     }
     let index = number(step, 0);
-    let found = store.get(dev, index);
-    let said = value_text(bench.alloc, &found)?;
-    if let Err(Error::Runtime(_)) = found {
-        return Ok(said);
+    read(store, dev, index, text)?;
+    if text.as_str() == FAULT {
+        return Ok(());
     }
-    let plain = plain_value(bench.alloc, &bench.model.held, index)?;
-    both(bench.alloc, said.as_str(), plain.as_str())
+    let mut plain = String::new(bench.alloc);
+    tell_value(&mut plain, &bench.model.held, index)?;
+    Ok(add_other(text, plain.as_str())?)
 }
 
-// The text of what a read answered.
-fn value_text(alloc: Global, found: &Result<Option<u64>, Error>) -> Result<String, AllocError> {
-    match found {
-        Ok(Some(value)) => format!(in alloc; "{value}"),
-        Ok(None) => String::from_str(alloc, "none"),
-        Err(error) => error_text(alloc, error),
+// Reads a value, and tells it.
+fn read(store: &Store, dev: &mut Memory, index: u64, text: &mut String) -> Result<(), AllocError>
+    requires { IsOver store.now dev.old }
+    ensures { IsOver store.now dev.new }
+{
+    match store.get(dev, index) {
+        Ok(value) => add_number(text, value),
+        Err(error) => tell_error(text, &error),
     }
 }
 
-// What a read of these slots has to say.
-fn plain_value(alloc: Global, slots: &Slots, index: u64) -> Result<String, AllocError> {
+// Tells what a read of these slots has to say.
+fn tell_value(text: &mut String, slots: &Slots, index: u64) -> Result<(), AllocError> {
     let Some(slot) = slots.get(&index) else {
-        return String::from_str(alloc, "none");
+        return text.push_str("none");
     };
-    match value_in(slot) {
-        Some(value) => format!(in alloc; "{value}"),
-        None => format!(in alloc; "error invalid-record {index}"),
-    }
+    let Some(value) = value_in(slot) else {
+        return write!(text, "error invalid-record {index}");
+    };
+    write!(text, "{value}")
 }

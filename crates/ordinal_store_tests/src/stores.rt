@@ -2,12 +2,12 @@
 ghost use Rattle.std.specs.Prelude.{◌≤◌, ◌^◌, IfOk};
 ghost use Rattle.ordinal_store_tests.specs.Over.{IsOver, MayBeOver};
 
-use crate::asked::{Asked, map_for};
+use crate::asked::Marks;
 use crate::model::Call;
 use crate::plainly::{Slots, value_in};
-use crate::said::Said;
+use crate::said::{add_gap, add_number, add_numbers, add_ranges};
+use crate::words::number;
 use blob_device::Memory;
-use ordinal_store::RMapError;
 use ordinal_store::ordinal::{Config, Error, Ordinal};
 use scenario_text::Step;
 use std::alloc::{AllocError, Global};
@@ -21,18 +21,12 @@ pub fn opened(
     alloc: Global,
     dev: &mut Memory,
     config: &Config,
-    asked: &Asked,
+    marks: &Option<Marks>,
 ) -> Result<Store, Error>
     requires { (1 ≤ config.now.items_per_blob) × (config.now.items_per_blob ≤ 2 ^ 40) }
     ensures { IfOk result (λ o. IsOver o dev.new) }
 {
-    match asked {
-        Asked::Nothing => Ordinal::init(alloc, dev, config, None),
-        Asked::Map(sections) => {
-            let map = map_for(alloc, sections)?;
-            Ordinal::init(alloc, dev, config, Some(&map))
-        }
-    }
+    Ordinal::init(alloc, dev, config, marks.as_ref())
 }
 
 // Puts the value at the index.
@@ -43,28 +37,20 @@ fn put_at(dev: &mut Memory, store: Store, index: u64, value: u64) -> Result<Stor
     store.put(dev, index, &value)
 }
 
-/// Makes a call. The answer is the store, where it is open then.
-pub fn called(
-    alloc: Global,
-    dev: &mut Memory,
-    config: &Config,
-    store: Option<Store>,
-    call: &Call,
-) -> Result<Option<Store>, Error>
-    requires valid { (1 ≤ config.now.items_per_blob) × (config.now.items_per_blob ≤ 2 ^ 40) }
-    requires over { MayBeOver store dev.old }
+/// Makes a call on an open store. The answer is the store, where it is open then.
+pub fn changed(dev: &mut Memory, store: Store, call: &Call) -> Result<Option<Store>, Error>
+    requires { IsOver store dev.old }
     ensures { IfOk result (λ r. MayBeOver r dev.new) }
 {
-    match (call, store) {
-        (Call::Open(asked), _) => Ok(Some(opened(alloc, dev, config, asked)?)),
-        (Call::Put(index, value), Some(store)) => Ok(Some(put_at(dev, store, *index, *value)?)),
-        (Call::Sync, Some(store)) => Ok(Some(store.sync(dev)?)),
-        (Call::Prune(min), Some(store)) => Ok(Some(store.prune(dev, *min)?)),
-        (Call::Destroy, Some(store)) => {
+    match call {
+        Call::Open(_) => Ok(Some(store)),
+        Call::Put(index, value) => Ok(Some(put_at(dev, store, *index, *value)?)),
+        Call::Sync => Ok(Some(store.sync(dev)?)),
+        Call::Prune(min) => Ok(Some(store.prune(dev, *min)?)),
+        Call::Destroy => {
             store.destroy(dev)?;
             Ok(None)
         }
-        (_, None) => Ok(None),
     }
 }
 
@@ -74,13 +60,18 @@ pub fn holds_just(store: &Store, slots: &Slots) -> bool {
     for (index, _) in slots.iter() {
         is_each &= store.has(*index);
     }
+    is_each && count_of(store) == slots.len() as u64
+}
+
+// How many indices the store holds.
+fn count_of(store: &Store) -> u64 {
     let mut count = 0_u64;
     for (start, end) in store.ranges() {
         count = count
             .saturating_add(end.saturating_sub(start))
             .saturating_add(1);
     }
-    is_each && count == slots.len() as u64
+    count
 }
 
 /// Whether the store holds just these slots, and answers the value of each.
@@ -99,38 +90,34 @@ pub fn has_slots(store: &Store, dev: &mut Memory, slots: &Slots) -> bool
 }
 
 /// Asks for indices, with no call of the device.
-pub fn asked_of(alloc: Global, store: &Store, step: &Step) -> Result<Said, RMapError> {
-    match (step.word(), step.number(0), step.number(1)) {
-        ("has", Some(index), _) => Ok(Said::Truth(store.has(index))),
-        ("ranges", None, _) => Ok(Said::Ranges(store.ranges().collect::<Vec<(u64, u64)>>(alloc)?)),
-        ("ranges", Some(from), _) => {
-            let ranges = store.ranges_from(from).collect::<Vec<(u64, u64)>>(alloc)?;
-            Ok(Said::Ranges(ranges))
-        }
-        ("next-gap", Some(index), _) => {
-            let (end, next) = store.next_gap(index);
-            Ok(Said::Gap(end, next))
-        }
-        ("first", _, _) => Ok(Said::Number(store.first_index())),
-        ("last", _, _) => Ok(Said::Number(store.last_index())),
-        ("missing", Some(start), Some(count)) if count >= 1 => {
-            match store.missing_items(start, count as usize) {
-                Ok(numbers) => Ok(Said::Numbers(numbers)),
-                Err(_) => Err(RMapError::Mem),
-            }
-        }
-        _ => Ok(Said::Refused("no such command")),
+pub fn ask(store: &Store, step: &Step, text: &mut String) -> Result<(), AllocError> {
+    let at = number(step, 0);
+    match step.word() {
+        "has" => text.push_str(if store.has(at) { "yes" } else { "no" }),
+        "ranges" if step.rest().is_empty() => add_ranges(text, store.ranges()),
+        "ranges" => add_ranges(text, store.ranges_from(at)),
+        "next-gap" => add_gap(text, store.next_gap(at)),
+        "first" => add_number(text, store.first_index()),
+        "last" => add_number(text, store.last_index()),
+        "missing" => match store.missing_items(at, (number(step, 1) as usize).max(1)) {
+            Ok(numbers) => add_numbers(text, numbers.as_slice()),
+            Err(_) => Err(AllocError),
+        },
+        _ => text.push_str("refused: no such command"),
     }
 }
 
-/// The words for an error.
-pub fn error_text(alloc: Global, error: &Error) -> Result<String, AllocError> {
+/// What is said where the device failed.
+pub const FAULT: &str = "error runtime fault";
+
+/// Tells an error.
+pub fn tell_error(text: &mut String, error: &Error) -> Result<(), AllocError> {
     match error {
-        Error::Runtime(_) => String::from_str(alloc, "error runtime fault"),
-        Error::InvalidBlobName(name) => format!(in alloc; "error invalid-blob-name {name}"),
-        Error::InvalidRecord(index) => format!(in alloc; "error invalid-record {index}"),
-        Error::MissingRecord(index) => format!(in alloc; "error missing-record {index}"),
-        Error::Full => String::from_str(alloc, "error full"),
-        Error::Mem => String::from_str(alloc, "error memory"),
+        Error::Runtime(_) => text.push_str(FAULT),
+        Error::InvalidBlobName(name) => write!(text, "error invalid-blob-name {name}"),
+        Error::InvalidRecord(index) => write!(text, "error invalid-record {index}"),
+        Error::MissingRecord(index) => write!(text, "error missing-record {index}"),
+        Error::Full => text.push_str("error full"),
+        Error::Mem => text.push_str("error memory"),
     }
 }

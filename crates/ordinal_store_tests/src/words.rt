@@ -1,7 +1,8 @@
 // The words of a step over a store.
-use crate::asked::asked_in;
+use crate::asked::marks_in;
 use crate::model::Call;
 use blob_device::CrashChoice;
+use ordinal_store::RMapError;
 use scenario_text::Step;
 use std::alloc::{AllocError, Global};
 
@@ -24,6 +25,7 @@ pub enum Family {
     Leaves,
 }
 
+/// What kind of command a word names.
 pub fn family_of(word: &str) -> Family {
     match word {
         "calls" | "faults" | "shows" | "kept" => Family::Look,
@@ -50,18 +52,21 @@ pub fn name_in(alloc: Global, word: &str) -> Result<Vec<u8>, AllocError> {
 }
 
 /// The call that a step makes.
-pub fn call_in(alloc: Global, step: &Step) -> Result<Option<Call>, AllocError> {
-    match (step.word(), step.number(0), step.number(1)) {
-        ("open", _, _) => match asked_in(alloc, step.rest())? {
-            Some(asked) => Ok(Some(Call::Open(asked))),
-            None => Ok(None),
-        },
-        ("put", Some(index), Some(value)) => Ok(Some(Call::Put(index, value))),
-        ("sync", _, _) => Ok(Some(Call::Sync)),
-        ("prune", Some(min), _) => Ok(Some(Call::Prune(min))),
-        ("destroy", _, _) => Ok(Some(Call::Destroy)),
-        _ => Ok(None),
+pub fn call_in(alloc: Global, step: &Step) -> Result<Call, RMapError> {
+    let at = number(step, 0);
+    match step.word() {
+        "open" if step.argument(0) == "none" => Ok(Call::Open(None)),
+        "open" => Ok(Call::Open(Some(marks_in(alloc, entries(step))?))),
+        "put" => Ok(Call::Put(at, number(step, 1))),
+        "sync" => Ok(Call::Sync),
+        "prune" => Ok(Call::Prune(at)),
+        _ => Ok(Call::Destroy),
     }
+}
+
+// The words behind the first two.
+fn entries(step: &Step) -> &[String] {
+    step.rest().get(1..).unwrap_or(&[])
 }
 
 /// The crash that a step names.

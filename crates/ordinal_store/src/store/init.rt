@@ -128,7 +128,7 @@ impl<A: CodecFixed, S: Seal> Ordinal<A, S> {
             (sight D.Device dev.new) }
     {
         let buffer = self.reopened(dev, section, marks)?;
-        self.check_section(dev, &buffer, section, marks, piece_size)?;
+        self.check_section(dev, &buffer, (section, marks), piece_size)?;
         self.holding(section, buffer, marks)
     }
 
@@ -136,18 +136,19 @@ impl<A: CodecFixed, S: Seal> Ordinal<A, S> {
     fn restored_if_kept<D: Device>(
         self,
         dev: &mut D,
-        section: u64,
-        marks: &Option<BitMap>,
+        wanted: (u64, &Option<BitMap>),
         there: &BTreeSet<u64>,
         piece_size: usize,
     ) -> Result<Self, Error>
         requires items { 1 ≤ self.items }
-        requires fits { (p : ℕ) → is_wanted self.items (Some marks.now) p ≡ true
-            → section * self.items + p < 2 ^ 64 }
+        requires fits { (p : ℕ) → is_wanted self.items (Some wanted.1.now) p ≡ true
+            → wanted.0 * self.items + p < 2 ^ 64 }
         ensures { RestoringIf (shown A.SIZE S.seal_of A.refusal) D.Tells
-            (shown A.SIZE S.seal_of A.refusal self) section marks.now (set_contains nat_cmp there.now section)
-            result (sight D.Device dev.old) (sight D.Device dev.new) }
+            (shown A.SIZE S.seal_of A.refusal self) wanted.entry.0 wanted.entry.1.now
+            (set_contains nat_cmp there.now wanted.entry.0) result (sight D.Device dev.old)
+            (sight D.Device dev.new) }
     {
+        let (section, marks) = wanted;
         if !is_kept(marks) {
             return Ok(self);
         }
@@ -180,8 +181,7 @@ impl<A: CodecFixed, S: Seal> Ordinal<A, S> {
         let mut this = self;
         for (section, marks) in map.iter() {
             // One section is whole before the next is opened, so the first that is not ends the call.
-            let section = *section;
-            this = this.restored_if_kept(dev, section, marks, there, piece_size)?;
+            this = this.restored_if_kept(dev, (*section, marks), there, piece_size)?;
         }
         Ok(this)
     }

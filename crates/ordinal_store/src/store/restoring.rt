@@ -72,20 +72,20 @@ impl<A: CodecFixed, S: Seal> Ordinal<A, S> {
         &self,
         dev: &mut D,
         buffer: &WriteBlob,
-        section: u64,
-        marks: &Option<BitMap>,
+        wanted: (u64, &Option<BitMap>),
         piece_size: usize,
     ) -> Result<(), Error>
         requires items { 1 ≤ self.now.items }
-        requires fits { (p : ℕ) → is_wanted self.now.items (Some marks.now) p ≡ true
-            → section * self.now.items + p < 2 ^ 64 }
-        requires kept { HasWanted self.now.items marks.now }
+        requires fits { (p : ℕ) → is_wanted self.now.items (Some wanted.1.now) p ≡ true
+            → wanted.0 * self.now.items + p < 2 ^ 64 }
+        requires kept { HasWanted self.now.items wanted.1.now }
         requires ready { IsReady D.Tells (blob_key (buffer_shown buffer.now)) buffer.now.capacity
             (sight D.Device dev.old) buffer.now }
-        ensures { Checking D.Tells (shown A.SIZE S.seal_of A.refusal self.now).layout section marks.now
-            (blob_key (buffer_shown buffer.now)) buffer.now result (sight D.Device dev.old)
-            (sight D.Device dev.new) }
+        ensures { Checking D.Tells (shown A.SIZE S.seal_of A.refusal self.now).layout wanted.entry.0
+            wanted.entry.1.now (blob_key (buffer_shown buffer.now)) buffer.now result
+            (sight D.Device dev.old) (sight D.Device dev.new) }
     {
+        let (section, marks) = wanted;
         match marks {
             None => self.check_full(dev, buffer, section, piece_size),
             Some(bits) => {

@@ -20,5 +20,5 @@ stays : (store : Option (Ordinal ℕ Sha256Seal)) (old new : Memory) → memory_
 stays None old new opened time over = over
 stays (Some o) old new opened time over = subst (λ (x : OpenedList). at o x (memory_time new)) (sym opened) (subst (at o (memory_opened old)) (sym time) over)
 
-pub returns-in-Arm-default : goal.returns-in-Arm-default
-returns-in-Arm-default c = stays c.args.store c.args.dev.now c.arm.new.dev c.arm.ensures.opened c.arm.ensures.time c.requires
+pub returns-in-Arm : goal.returns-in-Arm
+returns-in-Arm c = stays c.args.store.now c.args.dev.now c.arm.new.dev c.arm.ensures.opened c.arm.ensures.time c.requires

@@ -1,14 +1,15 @@
 use Rattle.std.proofs.Common.{inl, inr, ℕ, ◌+◌, List, Option, sym, ◌∙◌, ap, subst}
-use Rattle.std.specs.Prelude.{MatchOption}
+use Rattle.std.specs.Prelude.{◌≤◌, IsSomeAnd, MatchOption}
 use Rattle.blob_device.proofs.Results.{err_of}
 use Rattle.blob_device.specs.Disk.{Key}
 use Rattle.blob_device.specs.Timeline.{disk}
 use Rattle.sealed_pages.specs.Entries.{ReadsAtMost}
 use Rattle.sealed_pages.specs.Writing as writing
-use Rattle.ordinal_store.specs.Slots.{HasValue, IsSealed, part_at, place_of, section_of}
+use Rattle.sealed_pages.specs.declared.write_blob.WriteBlob.{WriteBlob}
+use Rattle.ordinal_store.specs.Slots.{HasValue, IsSealed, part_at, place_of, section_of, slot_size}
 use Rattle.ordinal_store.specs.Stores.{Store, sight}
 use Rattle.ordinal_store.specs.Shown.{shown}
-use Rattle.ordinal_store.proofs.GettingLemmas.{got_failed, got_value, got_invalid, slot_read}
+use Rattle.ordinal_store.proofs.GettingLemmas.{got_failed, got_none, got_value, got_invalid, slot_read}
 use Rattle.ordinal_store.proofs.store.Ordinal.get.Goals as goal
 use Rattle.ordinal_store.proofs.store.Ordinal.get.Given.{Over}
 use Rattle.ordinal_store.specs.declared.store.Ordinal.{Ordinal}
@@ -16,6 +17,15 @@ use Rattle.ordinal_store.specs.declared.store.Ordinal.{Ordinal}
 -- what a store shows
 abbrev show : (g : Over) → Ordinal g.row.A.Denot g.row.S.Denot → Store
 show g = shown g.A.CodecFixed.SIZE g.S.Seal.seal_of g.A.Codec.refusal
+
+pub returns-then-not-has : goal.returns-then-not-has
+returns-then-not-has g c = got_none g.D.Device.Tells (show g c.args.self.now) g.A.Codec.spelling c.args.index (sight g.D.Device c.args.dev.now) (sym c.if-not-has.ensures) c.requires.usable
+
+-- a held index has its slot in a buffer
+pub returns-in_default : goal.returns-in_default
+returns-in_default g c =
+    let o = show g c.args.self.now in
+    absurd (subst (λ (b : Option WriteBlob). IsSomeAnd b (λ u. place_of o.layout c.args.index + slot_size o.layout ≤ writing.size_of (writing.shown u))) (sym c.in_default.ensures.value) (c.requires.usable.room c.args.index (sym c.if-not-has.ensures)))
 
 pub returns-in_err-slot : goal.returns-in_err-slot
 returns-in_err-slot g c =
