@@ -5,7 +5,7 @@ use Rattle.std.proofs.lemmas.List.{length-map}
 use Rattle.std.proofs.lemmas.Bool.Decides.{nat_tests}
 use Rattle.blob_device.specs.Disk.{Disk, Image, IsCrashOf, Key, MayLeave}
 use Rattle.sealed_pages.specs.declared.page_blob.PageBlob.{PageBlob}
-use Rattle.paired.specs.Crashes.{IsOwn, Keeps, NoChanceSeal}
+use Rattle.paired.specs.Crashes.{IsOneOf, IsOwn}
 use Rattle.paired.specs.Crashes as pair
 use Rattle.paired.specs.GlobSections as glob
 use Rattle.paired.specs.Kept.{Layout}
@@ -15,15 +15,20 @@ use Rattle.paired.specs.Places.{Follow}
 use Rattle.segments.specs.declared.buffer.SectionBuffer as buffer
 use Rattle.segments.specs.declared.unsealed.WriteFactory.{WriteFactory}
 use Rattle.segments.specs.Setting.{Setting}
+use Rattle.segments.specs.Sections.{section_key}
+use Rattle.segments.proofs.KeyLemmas.{key_injective}
 use Rattle.paired.proofs.GlobLemmas.{buffers}
+use Rattle.paired.proofs.OpenParts.{keys_apart}
 use Rattle.paired.specs.Records as stored
 use Rattle.paired.proofs.RecordLemmas.{all_by}
 use Rattle.archives.specs.Archives.{Archive, Buffers, IsArchive, IsSoundArchive, LeavesNoForeign, filing_of, state_of}
+use Rattle.archives.specs.Commands.{Command}
+use Rattle.archives.specs.Filing.{filed}
 use Rattle.archives.specs.IndexRecord.{index_of}
 use Rattle.archives.specs.Machine.{section_of}
 use Rattle.archives.specs.Rows.{Row, row_in}
-use Rattle.archives.specs.Standing.{Leaves}
-use Rattle.archives.proofs.StandLemmas.{AreFiled, all_map, keeps_stand}
+use Rattle.archives.specs.Standing.{IsGoing, Leaves, submitted}
+use Rattle.archives.proofs.StandLemmas.{AreFiled, all_map, keeps_going, keeps_stand}
 
 -- the buffers of an archive, where those of its records are read so
 abbrev pub glob_buffers : {F S : Type 0} {gs : _} → buffer.Ghosts (PageBlob S gs) → (F → Setting) → (WriteFactory → Setting) → Buffers F (PageBlob S gs)
@@ -111,6 +116,21 @@ foreign_not_own l apart P name other = (
   ],
 )
 
+-- a blob of records is none of those of sections that P names, nor a blob of values one of those of sections that Q names, where its own is none
+pub index_apart : (l : Layout) → AreApart l → (P Q : ℕ → Type 0) (s : ℕ) → s < 2 ^ 64 → (P s → ⊥) → IsOneOf l P Q (section_key l.index s) → ⊥
+index_apart l apart P Q s small other one = elim one [
+  | inl blob ↦ other (subst P (sym (key_injective l.index s blob.0 small blob.1 blob.3)) blob.2)
+  | inr (inl blob) ↦ apart.values (ap (λ (q : Key). q.0) blob.3)
+  | inr (inr copy) ↦ apart.metadata (ap (λ (q : Key). q.0) copy.1)
+]
+
+pub values_apart : (l : Layout) → AreApart l → (P Q : ℕ → Type 0) (s : ℕ) → s < 2 ^ 64 → (Q s → ⊥) → IsOneOf l P Q (section_key l.values s) → ⊥
+values_apart l apart P Q s small other one = elim one [
+  | inl blob ↦ keys_apart l.index l.values apart.values s blob.0 blob.3
+  | inr (inl blob) ↦ other (subst Q (sym (key_injective l.values s blob.0 small blob.1 blob.3)) blob.2)
+  | inr (inr copy) ↦ apart.both (ap (λ (q : Key). q.0) copy.1)
+]
+
 -- where no blob but the pair's changes, no foreign name comes
 pub no_foreign : (l : Layout) → AreApart l → (P : ℕ → Type 0) (from d : Disk) → ((q : Key) → (IsOwn l P q → ⊥) → d q ≡ from q) → LeavesNoForeign l from → LeavesNoForeign l d
 no_foreign l apart P from d others none = record {
@@ -134,3 +154,15 @@ module _ {F S : Type 0} {gs : _} (a : Archive F (PageBlob S gs)) (from : Disk) w
       let none = no_foreign a.pair.layout archive.pair.apart P from d others sound.names in
       keeps_stand (filing_of a) (list_of a.pair from) (synced_length a.pair) image (are_filed a from archive t sound) (names_left a.pair.layout d none image crash) (leaves image crash no_chance)
       (state_of a from) None (λ s small. refl) (λ s small. omega arith)
+
+  -- Where it may leave nothing of a section that goes, it leaves what stands for the state with a command under way that takes what goes.
+  pub going_at : {bs : _} {told : Type 0} {opened : _} → IsArchive a bs told opened from → told → IsSoundArchive a from → (Goes : ℕ → Type 0) (under_way : Option (Command (List ℕ)))
+      → ((s : ℕ) → s < 2 ^ 64 → submitted a.items (state_of a from) under_way s ≡ map (filed (filing_of a)) (list_of a.pair from s))
+      → ((s : ℕ) → s < 2 ^ 64 → Goes s → IsGoing a.items (state_of a from) under_way s)
+      → (P : ℕ → Type 0) (d : Disk) → ((q : Key) → (IsOwn a.pair.layout P q → ⊥) → d q ≡ from q)
+      → pair.Leaves a.pair.layout (list_of a.pair from) (synced_length a.pair) Goes d
+      → Leaves (filing_of a) (state_of a from) under_way d
+  going_at archive t sound Goes under_way submits goes P d others leaves image crash no_chance =
+      let none = no_foreign a.pair.layout archive.pair.apart P from d others sound.names in
+      keeps_going (filing_of a) (list_of a.pair from) (synced_length a.pair) Goes image (are_filed a from archive t sound) (names_left a.pair.layout d none image crash) (leaves image crash no_chance)
+      (state_of a from) under_way submits (λ s small. omega arith) goes

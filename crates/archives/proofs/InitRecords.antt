@@ -19,8 +19,8 @@ use Rattle.meta_store.specs.Copies.{ReadsAs}
 use Rattle.meta_store.specs.Format.{Format}
 use Rattle.meta_store.specs.Opening.{PairOn}
 use Rattle.meta_store.specs.Pairs.{ReadsPair, chosen_of}
-use Rattle.meta_store.specs.Store.{Stands, Store, chosen_by}
-use Rattle.meta_store.proofs.Uses.{IsReadable, one_map, one_reading}
+use Rattle.meta_store.specs.Store.{Stands, Store, chosen_by, contents_of}
+use Rattle.meta_store.proofs.Uses.{IsReadable, one_reading}
 use Rattle.paired.specs.Kept.{Layout, Markers}
 use Rattle.paired.specs.Opening.{as_read, HoldMarkers, OnlyOpens}
 use Rattle.paired.specs.OpeningRefusing.{IsUnreadable, last_of}
@@ -29,6 +29,7 @@ use Rattle.paired.specs.Records.{each_below, records}
 use Rattle.paired.proofs.OpeningStart.{read_alike}
 use Rattle.paired.proofs.RecordLemmas.{item_ends}
 use Rattle.archives.specs.Opening.{HasNoVersion}
+use Rattle.paired.proofs.MarkerCopies.{one_marker_list}
 
 -- ---- sizes
 pub whole_fits : (n : ℕ) (bytes : List ℕ) → length bytes ≡ n → size_refusal n bytes ≡ None
@@ -67,11 +68,11 @@ module _ {K V : Type 0} (f : Format K V) (readable : IsReadable f) where
 module _ (l : Layout) (readable : IsReadable l.markers) where
   -- an image holds one map of markers
   pub one_markers : (image : Image) (m n : Markers) → HoldMarkers l image m → HoldMarkers l image n → m ≡ n
-  one_markers image m n of_m of_n = one_map l.markers readable (bytes_of (image (blob_of l.metadata Left))) (bytes_of (image (blob_of l.metadata Right))) m n of_m of_n
+  one_markers image m n of_m of_n = one_marker_list l.markers readable (bytes_of (image (blob_of l.metadata Left))) (bytes_of (image (blob_of l.metadata Right))) m n of_m of_n
 
-  module _ (apart : AreApart l) (from d : Disk) (opens : OnlyOpens l from d) (u : Store Key8 ℕ) (here : u.partition ≡ l.metadata) (stands : Stands l.markers u u.entries d) where
-    stood : ReadsPair l.markers (bytes_of (as_read d (blob_of l.metadata Left))) (bytes_of (as_read d (blob_of l.metadata Right))) (Ok (chosen_by u u.entries))
-    stood = subst (λ p. ReadsPair l.markers (bytes_of (as_read d (blob_of p Left))) (bytes_of (as_read d (blob_of p Right))) (Ok (chosen_by u u.entries))) here (record {
+  module _ (apart : AreApart l) (from d : Disk) (opens : OnlyOpens l from d) (u : Store Key8 ℕ) (here : u.partition ≡ l.metadata) (stands : Stands l.markers u (contents_of u) d) where
+    stood : ReadsPair l.markers (bytes_of (as_read d (blob_of l.metadata Left))) (bytes_of (as_read d (blob_of l.metadata Right))) (Ok (chosen_by u (contents_of u)))
+    stood = subst (λ p. ReadsPair l.markers (bytes_of (as_read d (blob_of p Left))) (bytes_of (as_read d (blob_of p Right))) (Ok (chosen_by u (contents_of u)))) here (record {
       left_text = stands.pair.left_text;
       right_text = stands.pair.right_text;
       left_reads = subst (λ (c : List ℕ). ReadsAs l.markers c stands.pair.left_text) (sym (ap (λ (b : Blob). bytes_of (reads b)) stands.left)) stands.pair.left_reads;
@@ -80,10 +81,10 @@ module _ (l : Layout) (readable : IsReadable l.markers) where
     })
 
     -- what the copies held before they were opened is what the store has
-    pub chosen_before : (chosen : Chosen Key8 ℕ) → PairOn l.markers l.metadata from (Ok chosen) → chosen ≡ chosen_by u u.entries
+    pub chosen_before : (chosen : Chosen Key8 ℕ) → PairOn l.markers l.metadata from (Ok chosen) → chosen ≡ chosen_by u (contents_of u)
     chosen_before chosen pair =
         let alike = read_alike l apart from d opens in
-        one_chosen l.markers readable (bytes_of (as_read d (blob_of l.metadata Left))) (bytes_of (as_read d (blob_of l.metadata Right))) chosen (chosen_by u u.entries)
+        one_chosen l.markers readable (bytes_of (as_read d (blob_of l.metadata Left))) (bytes_of (as_read d (blob_of l.metadata Right))) chosen (chosen_by u (contents_of u))
         (record {
           left_text = pair.left_text;
           right_text = pair.right_text;

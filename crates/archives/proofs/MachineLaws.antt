@@ -288,7 +288,7 @@ has_index_is {X} items st filed index = (there, back)
 -- ---- the floor
 
 -- a section start at or below an index is at or below the start of the index's section
-start_below : (items floor index : ℕ) → section_of items floor ≡ floor → floor ≤ index → floor ≤ section_of items index
+pub start_below : (items floor index : ℕ) → section_of items floor ≡ floor → floor ≤ index → floor ≤ section_of items index
 start_below zero floor index start le = omega (arith, start)
 start_below (suc n) floor index start le =
     let q : floor / suc n ≤ index / suc n = le-div (floor / suc n) index (suc n) (omega arith) (omega (arith, start)) in
@@ -297,7 +297,7 @@ start_below (suc n) floor index start le =
     more : (a b m : ℕ) → a ≤ b → a * m ≤ b * m
     more a b m h = grind arith
 
-section_once : (items index : ℕ) → section_of items (section_of items index) ≡ section_of items index
+pub section_once : (items index : ℕ) → section_of items (section_of items index) ≡ section_of items index
 section_once zero index = omega arith
 section_once (suc n) index =
     let q : (index / suc n * suc n + 0) / suc n ≡ index / suc n = div-mul-add (index / suc n) (suc n) 0 (omega arith) in

@@ -18,7 +18,7 @@ use Rattle.segments.proofs.WalkLemmas.{has_value, none_or_value}
 use Rattle.meta_store.specs.Blobs.{blob_of, read_bytes}
 use Rattle.meta_store.specs.Copies.{ReadsAs}
 use Rattle.meta_store.specs.Pairs.{ReadsPair}
-use Rattle.meta_store.specs.Store.{Stands, Store, chosen_by}
+use Rattle.meta_store.specs.Store.{Stands, Store, chosen_by, contents_of}
 use Rattle.meta_store.specs.declared.error.Side.TheVariants.{Left, Right}
 use Rattle.paired.specs.Frames.{bytes_at, frame}
 use Rattle.paired.specs.GlobSections as glob
@@ -150,13 +150,13 @@ module _ {F S : Type 0} {gs : _} {bs : _} {told : Type 0} (a : Archive F (PageBl
 -- ---- versions
 
 -- a store that stands has the version that its copies read as
-pub has_no_version_now : (l : Layout) (u : Store Key8 ℕ) (d : Disk) → u.partition ≡ l.metadata → Stands l.markers u u.entries d → 2 ^ 64 ≤ u.version + 1 → HasNoVersion l d
+pub has_no_version_now : (l : Layout) (u : Store Key8 ℕ) (d : Disk) → u.partition ≡ l.metadata → Stands l.markers u (contents_of u) d → 2 ^ 64 ≤ u.version + 1 → HasNoVersion l d
 has_no_version_now l u d here stands over =
-    let read : ReadsPair l.markers (read_bytes (d (blob_of u.partition Left))) (read_bytes (d (blob_of u.partition Right))) (Ok (chosen_by u u.entries)) = record {
+    let read : ReadsPair l.markers (read_bytes (d (blob_of u.partition Left))) (read_bytes (d (blob_of u.partition Right))) (Ok (chosen_by u (contents_of u))) = record {
       left_text = stands.pair.left_text;
       right_text = stands.pair.right_text;
       left_reads = subst (λ (c : List ℕ). ReadsAs l.markers c stands.pair.left_text) (sym (ap read_bytes stands.left)) stands.pair.left_reads;
       right_reads = subst (λ (c : List ℕ). ReadsAs l.markers c stands.pair.right_text) (sym (ap read_bytes stands.right)) stands.pair.right_reads;
       is = stands.pair.is;
     } in
-    (chosen_by u u.entries, subst (λ (p : List ℕ). ReadsPair l.markers (read_bytes (d (blob_of p Left))) (read_bytes (d (blob_of p Right))) (Ok (chosen_by u u.entries))) here read, over)
+    (chosen_by u (contents_of u), subst (λ (p : List ℕ). ReadsPair l.markers (read_bytes (d (blob_of p Left))) (read_bytes (d (blob_of p Right))) (Ok (chosen_by u (contents_of u)))) here read, over)

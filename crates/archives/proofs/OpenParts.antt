@@ -3,7 +3,7 @@ use Rattle.std.proofs.Common.{◌≡◌, ◌≢◌, refl, ◌∙◌, ap, subst, 
 use Rattle.blob_device.specs.Opened.{reads_of}
 use Rattle.blob_device.specs.Timeline.{Always, disk}
 use Rattle.blob_device.specs.declared.device.Device as device
-use Rattle.meta_store.specs.Store.{Stands}
+use Rattle.meta_store.specs.Store.{Stands, contents_of}
 use Rattle.meta_store.specs.declared.error.Side.{Side}
 use Rattle.meta_store.proofs.Uses.{IsReadable}
 use Rattle.sealed_pages.specs.declared.page_blob.PageBlob.{PageBlob}
@@ -69,7 +69,7 @@ module _ {F S D : Type 0} {gs : _} (dev : device.Ghosts D) (f : Filing) (old mid
     pub apart : AreApart f.layout
     pub readable : IsReadable f.layout.markers
     pub found : dev.Tells → HasFound f.layout (disk (dev.time old)) (disk (dev.time mid)) run
-    pub stands : dev.Tells → Stands f.layout.markers run.store run.store.entries (disk (dev.time mid))
+    pub stands : dev.Tells → Stands f.layout.markers run.store (contents_of run.store) (disk (dev.time mid))
     pub floors : (s : ℕ) → run.walk.journal.floor_of s ≡ marker_of run.store.entries s * f.layout.record_size
     pub left : dev.Tells → (s : ℕ) → LeftAtMost run (disk (dev.time mid)) s (length (stored_records run.layout (as_read (disk (dev.time mid))) s) - marker run s)
     pub copies : dev.Tells → (side : Side) → HaveBadCopy f (disk (dev.time old)) side → ⊥

@@ -1,6 +1,6 @@
 -- What the state of the machine says of the markers: whether a sync has to move one, and whether they have a next version.
-use Rattle.std.proofs.Common.{◌≡◌, ◌≢◌, ◌⊎◌, ◌↔◌, inl, inr, refl, sym, ◌∙◌, ap, subst, ℕ, ◌+◌, ◌^◌, ◌<◌, ◌≤◌, List, [], ◌∷◌, ◌++◌, length, Bool, true, false, if◌then◌else◌, ◌==◌, ◌||◌, nat_lt, IsTrue, Ok, arith, length-append}
-use Rattle.std.proofs.lemmas.Bool.{eq-eqb, le-ltb, ne_eqb}
+use Rattle.std.proofs.Common.{◌≡◌, ◌≢◌, ◌⊎◌, ◌↔◌, inl, inr, refl, sym, ◌∙◌, ap, subst, ℕ, ◌+◌, ◌^◌, ◌<◌, ◌≤◌, List, [], ◌∷◌, ◌++◌, length, Bool, true, false, if◌then◌else◌, ◌==◌, IsTrue, Ok, arith, length-append}
+use Rattle.std.proofs.lemmas.Bool.{eq-eqb, ne_eqb}
 use Rattle.std.proofs.lemmas.List.{length-map}
 use Rattle.blob_device.specs.Disk.{Blob, Disk, reads}
 use Rattle.blob_device.specs.Opened.{OpenedList}
@@ -8,7 +8,7 @@ use Rattle.value_codec.specs.declared.key.Key8.{Key8}
 use Rattle.meta_store.specs.Blobs.{blob_of, bytes_of, read_bytes}
 use Rattle.meta_store.specs.Copies.{ReadsAs}
 use Rattle.meta_store.specs.Pairs.{ReadsPair}
-use Rattle.meta_store.specs.Store.{Stands, Store, chosen_by}
+use Rattle.meta_store.specs.Store.{Stands, Store, chosen_by, contents_of}
 use Rattle.meta_store.specs.declared.error.Side.TheVariants.{Left, Right}
 use Rattle.meta_store.specs.declared.pair.Chosen.{Chosen}
 use Rattle.meta_store.proofs.Uses.{IsReadable}
@@ -19,19 +19,19 @@ use Rattle.paired.specs.Pair.{length_of, list_of, synced_length}
 use Rattle.paired.specs.Pair as pair
 use Rattle.archives.specs.Archives.{Archive, Buffers, IsArchive, filing_of, state_of}
 use Rattle.archives.specs.Filing.{filed}
-use Rattle.archives.specs.Machine.{State, after_put, appended, has_index, section_of}
+use Rattle.archives.specs.Machine.{State, appended, section_of}
 use Rattle.archives.specs.Opening.{HasNoVersion}
-use Rattle.archives.specs.Putting.{IsMovingAfter, IsWrittenAfter, is_taken}
+use Rattle.archives.specs.Putting.{IsMovingAfter, IsWrittenAfter, Times, after_putting, is_skipped}
 use Rattle.archives.specs.Syncing.{IsMoving, IsMovingBy}
 use Rattle.archives.proofs.InitRecords.{one_chosen, one_markers}
+use Rattle.archives.proofs.PutStands.{put_by}
 use Rattle.archives.proofs.PutRows.{other_or_same}
-use Rattle.archives.specs.PuttingLaws.{taken_state}
 use Rattle.archives.proofs.SyncLemmas.{list_counted}
 
-module _ (l : Layout) (u : Store Key8 ℕ) (d : Disk) (here : u.partition ≡ l.metadata) (stands : Stands l.markers u u.entries d) where
+module _ (l : Layout) (u : Store Key8 ℕ) (d : Disk) (here : u.partition ≡ l.metadata) (stands : Stands l.markers u (contents_of u) d) where
   reads_so : (bytes : Blob → List ℕ) → ((d (blob_of u.partition Left)).content ≡ bytes (d (blob_of u.partition Left))) → ((d (blob_of u.partition Right)).content ≡ bytes (d (blob_of u.partition Right)))
-      → ReadsPair l.markers (bytes (d (blob_of l.metadata Left))) (bytes (d (blob_of l.metadata Right))) (Ok (chosen_by u u.entries))
-  reads_so bytes left right = subst (λ (p : List ℕ). ReadsPair l.markers (bytes (d (blob_of p Left))) (bytes (d (blob_of p Right))) (Ok (chosen_by u u.entries))) here (record {
+      → ReadsPair l.markers (bytes (d (blob_of l.metadata Left))) (bytes (d (blob_of l.metadata Right))) (Ok (chosen_by u (contents_of u)))
+  reads_so bytes left right = subst (λ (p : List ℕ). ReadsPair l.markers (bytes (d (blob_of p Left))) (bytes (d (blob_of p Right))) (Ok (chosen_by u (contents_of u)))) here (record {
     left_text = stands.pair.left_text;
     right_text = stands.pair.right_text;
     left_reads = subst (λ (c : List ℕ). ReadsAs l.markers c stands.pair.left_text) left stands.pair.left_reads;
@@ -42,7 +42,7 @@ module _ (l : Layout) (u : Store Key8 ℕ) (d : Disk) (here : u.partition ≡ l.
   -- the disk holds the markers of the store
   pub markers_held : HoldMarkers l (as_read d) u.entries
   markers_held = record {
-    chosen = chosen_by u u.entries;
+    chosen = chosen_by u (contents_of u);
     reads = reads_so (λ b. bytes_of (reads b)) (sym (ap (λ (b : Blob). bytes_of (reads b)) stands.left)) (sym (ap (λ (b : Blob). bytes_of (reads b)) stands.right));
     map = refl;
   }
@@ -51,7 +51,7 @@ module _ (l : Layout) (u : Store Key8 ℕ) (d : Disk) (here : u.partition ≡ l.
     -- where those on the disk have no next version, the store's have none
     pub no_next_version : HasNoVersion l d → 2 ^ 64 ≤ u.version + 1
     no_next_version (chosen, pair, over) =
-        let same = one_chosen l.markers readable (read_bytes (d (blob_of l.metadata Left))) (read_bytes (d (blob_of l.metadata Right))) chosen (chosen_by u u.entries) pair
+        let same = one_chosen l.markers readable (read_bytes (d (blob_of l.metadata Left))) (read_bytes (d (blob_of l.metadata Right))) chosen (chosen_by u (contents_of u)) pair
         (reads_so read_bytes (sym (ap read_bytes stands.left)) (sym (ap read_bytes stands.right))) in
         omega (arith, over, ap (λ (c : Chosen Key8 ℕ). c.version) same)
 
@@ -108,16 +108,16 @@ module _ {F S : Type 0} {gs : _} (a : Archive F (PageBlob S gs)) {bs : Buffers F
 
   -- ---- once a put ended
 
-  module _ (index : ℕ) (key value : List ℕ) where
-    abbrev after : State (List ℕ)
-    after = after_put a.items index key value (state_of a d)
+  module _ (times : Times) (index : ℕ) (key value : List ℕ) where
+    abbrev skip : Bool
+    skip = is_skipped a index times
 
-    -- the put appends where the index is free
-    after_is : after ≡ (if is_taken a index then state_of a d else appended a.items index key value (state_of a d))
-    after_is =
-        let low : nat_lt index a.floor ≡ false = le-ltb index a.floor (omega (arith, archive.floor)) in
-        ap (λ (b : Bool). if b || has_index a.items (state_of a d) index then state_of a d else appended a.items index key value (state_of a d)) low
-        ∙ ap (λ (b : Bool). if b then state_of a d else appended a.items index key value (state_of a d)) (sym (taken_state a d (archive.listed t) index))
+    abbrev after : State (List ℕ)
+    after = after_putting times a.items index key value (state_of a d)
+
+    -- the put appends where it is not skipped
+    after_is : after ≡ (if skip then state_of a d else appended a.items index key value (state_of a d))
+    after_is = put_by a d index key value (archive.listed t) skip times refl
 
     synced_after : (b : Bool) → (if b then state_of a d else appended a.items index key value (state_of a d)).synced ≡ synced_length a.pair
     synced_after true = refl
@@ -139,10 +139,10 @@ module _ {F S : Type 0} {gs : _} (a : Archive F (PageBlob S gs)) {bs : Buffers F
         let old = (state_of a d).lists s in
         ap (λ (b : Bool). length (if b then old ++ record { index = index; key = key; value = value } ∷ [] else old)) is ∙ counted s
 
-    grown : (s : ℕ) (b : Bool) → is_taken a index ≡ b → IsWrittenAfter a index s → synced_length a.pair s < length ((choice (is_taken a index)).lists s)
+    grown : (s : ℕ) (b : Bool) → skip ≡ b → IsWrittenAfter a index skip s → synced_length a.pair s < length ((choice skip).lists s)
     grown s b is written = subst (λ (c : Bool). synced_length a.pair s < length ((choice c).lists s)) (sym is) (go b is written)
       where
-        go : (c : Bool) → is_taken a index ≡ c → IsWrittenAfter a index s → synced_length a.pair s < length ((choice c).lists s)
+        go : (c : Bool) → skip ≡ c → IsWrittenAfter a index skip s → synced_length a.pair s < length ((choice c).lists s)
         go true taken (inl was) = omega (arith, archive.unsynced t s was, counted s)
         go true taken (inr new) = (let free = new.0 in absurd (cc (taken, free)))
         go false free written = elim (other_or_same (section_of a.items index) s) [
@@ -153,10 +153,10 @@ module _ {F S : Type 0} {gs : _} (a : Archive F (PageBlob S gs)) {bs : Buffers F
           ]
         ]
 
-    stayed : (s : ℕ) (b : Bool) → is_taken a index ≡ b → (IsWrittenAfter a index s → ⊥) → synced_length a.pair s ≡ length ((choice (is_taken a index)).lists s)
+    stayed : (s : ℕ) (b : Bool) → skip ≡ b → (IsWrittenAfter a index skip s → ⊥) → synced_length a.pair s ≡ length ((choice skip).lists s)
     stayed s b is not = subst (λ (c : Bool). synced_length a.pair s ≡ length ((choice c).lists s)) (sym is) (go b is)
       where
-        go : (c : Bool) → is_taken a index ≡ c → synced_length a.pair s ≡ length ((choice c).lists s)
+        go : (c : Bool) → skip ≡ c → synced_length a.pair s ≡ length ((choice c).lists s)
         go true taken = still_synced s (λ was. not (inl was)) ∙ sym (counted s)
         go false free = elim (other_or_same (section_of a.items index) s) [
           | inl same ↦ absurd (not (inr (free, same)))
@@ -164,14 +164,14 @@ module _ {F S : Type 0} {gs : _} (a : Archive F (PageBlob S gs)) {bs : Buffers F
         ]
 
     -- how many records a section then has
-    long_after : (s : ℕ) → IsWrittenAfter a index s → synced_length a.pair s < length (after.lists s)
-    long_after s written = omega (arith, grown s (is_taken a index) refl written, ap (λ (st : State (List ℕ)). length (st.lists s)) after_is)
+    long_after : (s : ℕ) → IsWrittenAfter a index skip s → synced_length a.pair s < length (after.lists s)
+    long_after s written = omega (arith, grown s skip refl written, ap (λ (st : State (List ℕ)). length (st.lists s)) after_is)
 
-    same_after : (s : ℕ) → (IsWrittenAfter a index s → ⊥) → synced_length a.pair s ≡ length (after.lists s)
-    same_after s not = stayed s (is_taken a index) refl not ∙ sym (ap (λ (st : State (List ℕ)). length (st.lists s)) after_is)
+    same_after : (s : ℕ) → (IsWrittenAfter a index skip s → ⊥) → synced_length a.pair s ≡ length (after.lists s)
+    same_after s not = stayed s skip refl not ∙ sym (ap (λ (st : State (List ℕ)). length (st.lists s)) after_is)
 
-    pub moving_after_said : IsMovingAfter a index ↔ IsMovingBy (filing_of a) d (λ s. length (after.lists s)) after.synced
+    pub moving_after_said : IsMovingAfter a index skip ↔ IsMovingBy (filing_of a) d (λ s. length (after.lists s)) after.synced
     moving_after_said =
-        let synced : after.synced ≡ synced_length a.pair = ap (λ (st : State (List ℕ)). st.synced) after_is ∙ synced_after (is_taken a index) in
-        subst (λ (n : ℕ → ℕ). IsMovingAfter a index ↔ IsMovingBy (filing_of a) d (λ s. length (after.lists s)) n) (sym synced)
-        (moves_so (IsWrittenAfter a index) (λ s. length (after.lists s)) same_after long_after, said_so (IsWrittenAfter a index) (λ s. length (after.lists s)) same_after long_after)
+        let synced : after.synced ≡ synced_length a.pair = ap (λ (st : State (List ℕ)). st.synced) after_is ∙ synced_after skip in
+        subst (λ (n : ℕ → ℕ). IsMovingAfter a index skip ↔ IsMovingBy (filing_of a) d (λ s. length (after.lists s)) n) (sym synced)
+        (moves_so (IsWrittenAfter a index skip) (λ s. length (after.lists s)) same_after long_after, said_so (IsWrittenAfter a index skip) (λ s. length (after.lists s)) same_after long_after)

@@ -10,39 +10,39 @@ use Rattle.paired.specs.GlobSections as glob
 use Rattle.paired.specs.Pair.{Pair}
 use Rattle.archives.specs.Archives.{Archive}
 use Rattle.archives.specs.Machine.{section_of}
-use Rattle.archives.specs.Putting.{IsWrittenAfter, is_taken, rows_after, size_after}
+use Rattle.archives.specs.Putting.{IsWrittenAfter, rows_after, size_after}
 use Rattle.archives.specs.Rows.{Row}
 use Rattle.archives.proofs.PutRows.{other_or_same}
 
-module _ {F S : Type 0} {gs : _} (a : Archive F (PageBlob S gs)) (index sec : ℕ) (here : sec ≡ section_of a.items index) (free : is_taken a index ≡ false) where
+module _ {F S : Type 0} {gs : _} (a : Archive F (PageBlob S gs)) (index sec : ℕ) (here : sec ≡ section_of a.items index) (skip : Bool) (free : skip ≡ false) where
   -- whether a section is that of the record
-  is_here : (s : ℕ) → s ≡ sec → (not (is_taken a index) && (s == section_of a.items index)) ≡ true
+  is_here : (s : ℕ) → s ≡ sec → (not skip && (s == section_of a.items index)) ≡ true
   is_here s same =
       let at : (s == section_of a.items index) ≡ true = grind (arith, nat_tests, same, here) in
       ap (λ (b : Bool). not b && (s == section_of a.items index)) free ∙ at
 
-  is_other : (s : ℕ) → s ≢ sec → (not (is_taken a index) && (s == section_of a.items index)) ≡ false
+  is_other : (s : ℕ) → s ≢ sec → (not skip && (s == section_of a.items index)) ≡ false
   is_other s other =
       let at : (s == section_of a.items index) ≡ false = grind (arith, nat_tests, other, here) in
       ap (λ (b : Bool). not b && (s == section_of a.items index)) free ∙ at
 
   -- what one section has anew, and the others as before
   by_section : {X : Type 0} (old new grown : ℕ → X) → new sec ≡ grown sec → ((s : ℕ) → s ≢ sec → new s ≡ old s) → (s : ℕ)
-      → new s ≡ (if not (is_taken a index) && (s == section_of a.items index) then grown s else old s)
+      → new s ≡ (if not skip && (s == section_of a.items index) then grown s else old s)
   by_section {X} old new grown added others s = elim (other_or_same sec s) [
     | inl same ↦ ap new same ∙ added ∙ ap grown (sym same) ∙ ap (λ (b : Bool). if b then grown s else old s) (sym (is_here s same))
     | inr other ↦ others s other ∙ ap (λ (b : Bool). if b then grown s else old s) (sym (is_other s other))
   ]
 
-  pub rows_put : (key : List ℕ) (rows : ℕ → List Row) → rows sec ≡ a.rows sec ++ record { index = index; key = key } ∷ [] → ((s : ℕ) → s ≢ sec → rows s ≡ a.rows s) → (s : ℕ) → rows s ≡ rows_after a index key s
+  pub rows_put : (key : List ℕ) (rows : ℕ → List Row) → rows sec ≡ a.rows sec ++ record { index = index; key = key } ∷ [] → ((s : ℕ) → s ≢ sec → rows s ≡ a.rows s) → (s : ℕ) → rows s ≡ rows_after a index skip key s
   rows_put key rows = by_section a.rows rows (λ s. a.rows s ++ record { index = index; key = key } ∷ [])
 
   pub sizes_put : (n : ℕ) (values : Sections WriteFactory WriteBlob) → glob.section_size values sec ≡ glob.section_size a.pair.values sec + n
-      → ((s : ℕ) → s ≢ sec → glob.section_size values s ≡ glob.section_size a.pair.values s) → (s : ℕ) → glob.section_size values s ≡ size_after a index n s
+      → ((s : ℕ) → s ≢ sec → glob.section_size values s ≡ glob.section_size a.pair.values s) → (s : ℕ) → glob.section_size values s ≡ size_after a index skip n s
   sizes_put n values = by_section (glob.section_size a.pair.values) (glob.section_size values) (λ s. glob.section_size a.pair.values s + n)
 
   -- the section counts as written, and those that did
-  pub written_put : (is_written : ℕ → Bool) (s : ℕ) → IsTrue (is_written s) ↔ (IsTrue (a.is_written s) ⊎ (s ≡ sec)) → IsTrue (is_written s) ↔ IsWrittenAfter a index s
+  pub written_put : (is_written : ℕ → Bool) (s : ℕ) → IsTrue (is_written s) ↔ (IsTrue (a.is_written s) ⊎ (s ≡ sec)) → IsTrue (is_written s) ↔ IsWrittenAfter a index skip s
   written_put is_written s says = (
     λ is. elim (says.0 is) [
       | inl was ↦ inl was
@@ -54,8 +54,8 @@ module _ {F S : Type 0} {gs : _} (a : Archive F (PageBlob S gs)) (index sec : �
     ]),
   )
 
-  -- a section that is not the record's, where the index is free
-  pub not_here : (s : ℕ) → (s ≡ section_of a.items index → is_taken a index ≡ true) → s ≢ sec
+  -- a section that is not the record's, where the put is not skipped
+  pub not_here : (s : ℕ) → (s ≡ section_of a.items index → skip ≡ true) → s ≢ sec
   not_here s other same = (let taken = other (same ∙ here) in absurd (cc (taken, free)))
 
 -- what is not flushed of a section that is held as before

@@ -69,6 +69,7 @@ module _ {F S : Type 0} {gs : _} (a : Archive F (PageBlob S gs)) (q : Pair F (Pa
     pub row : rows sec ≡ a.rows sec ++ new_row ∷ []
     pub other_rows : (s : ℕ) → s ≢ sec → rows s ≡ a.rows s
     pub added : AddsNumber a.indices indices index
+    pub above : a.floor ≤ sec
     pub written : (s : ℕ) → is_written s ≡ false → (s ≢ sec) × (a.is_written s ≡ false)
     pub written_now : (s : ℕ) → IsTrue (is_written s) → IsTrue (a.is_written s) ⊎ (s ≡ sec)
     pub filled : Filled
@@ -174,7 +175,12 @@ module _ {F S : Type 0} {gs : _} (a : Archive F (PageBlob S gs)) (q : Pair F (Pa
       pair = pair;
       items = archive.items;
       floor = archive.floor;
-      pair_floor = adds.floor ∙ archive.pair_floor;
+      pair_floor = omega (arith, adds.floor, archive.pair_floor);
+      below = λ s low.
+          (let bare = archive.below s low in
+          let other : s ≢ sec = λ same. absurd (omega (arith, low, same, adds.above)) in
+          let same = adds.others s other in
+          record { rows = adds.other_rows s other ∙ bare.rows; records = same.0.held ∙ bare.records; values = same.1.held ∙ bare.values });
       listed = listed_now;
       spelled = spelled_now;
       filled = adds.filled;

@@ -12,7 +12,8 @@ use Rattle.paired.specs.Places.{Follow}
 use Rattle.paired.proofs.RecordLemmas.{all_by}
 use Rattle.archives.specs.Archives.{Archive, Buffers, IsArchive, IsSoundArchive, LeavesNoForeign, filing_of, state_of}
 use Rattle.archives.specs.Filing.{filed}
-use Rattle.archives.specs.Machine.{after_put, appended, section_of}
+use Rattle.archives.specs.Machine.{appended, section_of}
+use Rattle.archives.specs.Putting.{Times, after_putting}
 use Rattle.archives.specs.Rows.{Row}
 use Rattle.archives.proofs.ArchiveStands.{no_foreign}
 use Rattle.archives.proofs.PutLemmas.{Adds, grown, new_record, records_now}
@@ -41,7 +42,7 @@ module _ {F S : Type 0} {gs : _} (a : Archive F (PageBlob S gs)) (q : Pair F (Pa
     pub small : sec < 2 ^ 64
 
   module _ {bs : Buffers F (PageBlob S gs)} {told : Type 0} {opened : _} (archive : IsArchive a bs told opened d) (t : told)
-      (adds : Adds a q refusal rows Filled indices is_written index sec here key n d e told) (asked : IsFree a index sec here key value n d) (sound : IsSoundArchive a d) (sounds : Sounds) where
+      (adds : Adds a q refusal rows Filled indices is_written index sec here key n d e told) (times : Times) (asked : IsFree a index sec here key value n d times) (sound : IsSoundArchive a d) (sounds : Sounds) where
     abbrev record_now : List ℕ
     record_now = new_record a q refusal rows Filled indices is_written index sec here key n d e
 
@@ -112,12 +113,12 @@ module _ {F S : Type 0} {gs : _} (a : Archive F (PageBlob S gs)) (q : Pair F (Pa
     }
 
     -- its state has the record at the end of its section
-    pub grown_state : state_of new e ≡ after_put a.items index key value (state_of a d)
+    pub grown_state : state_of new e ≡ after_putting times a.items index key value (state_of a d)
     grown_state =
         let is : state_of new e ≡ appended a.items index key value (state_of a d) = λ i. record {
           is_open = true;
-          lists = λ s. (ap (map (filed (filing_of a))) (list_now s) ∙ lists_appended a index sec here key value n d asked s) i;
+          lists = λ s. (ap (map (filed (filing_of a))) (list_now s) ∙ lists_appended a index sec here key value n d times asked s) i;
           synced = λ s. adds.synced s i;
           floor = a.floor;
         } in
-        is ∙ sym (put_is a index sec here key value n d asked archive t sound)
+        is ∙ sym (put_is a index sec here key value n d times asked archive t sound)

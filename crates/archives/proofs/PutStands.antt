@@ -1,9 +1,9 @@
 -- What a crash leaves of an archive while a put is under way.
 use Rattle.std.proofs.Common.{◌≡◌, ◌≢◌, ◌⊎◌, inl, inr, refl, sym, ◌∙◌, ap, subst, ℕ, ◌+◌, ◌-◌, ◌^◌, ◌<◌, ◌≤◌, List, [], ◌∷◌, ◌++◌, length, map, take, Bool, true, false, ◌==◌, ◌||◌, if◌then◌else◌, nat_lt, Option, None, Some, IsSomeAnd, arith}
-use Rattle.std.specs.List.{AllByRecursion, list_any}
+use Rattle.std.specs.List.{AllByRecursion}
 use Rattle.std.specs.List.Sorted.{IsStrictlySortedBy}
 use Rattle.std.specs.Ordering.{nat_cmp}
-use Rattle.std.proofs.lemmas.Bool.{cases_lt, le-ltb, or_right}
+use Rattle.std.proofs.lemmas.Bool.{cases_lt}
 use Rattle.std.proofs.lemmas.Bool.Decides.{nat_tests}
 use Rattle.std.proofs.lemmas.List.{append-nil, length-take, map-append, take-append-le}
 use Rattle.blob_device.specs.Disk.{Disk, Image}
@@ -24,16 +24,18 @@ use Rattle.paired.proofs.PairAppending.{follow-push}
 use Rattle.paired.proofs.PairReads.{leaves_now}
 use Rattle.paired.proofs.RecordLemmas.{all_by}
 use Rattle.archives.specs.Archives.{Archive, Buffers, IsArchive, IsSoundArchive, filing_of, state_of}
-use Rattle.archives.specs.Commands.{Command, Put}
+use Rattle.archives.specs.Commands.{Command}
 use Rattle.archives.specs.Filing.{Filing, filed, kept}
 use Rattle.archives.specs.IndexRecord.{index_record, index_of, key_of}
 use Rattle.archives.specs.IndexRecordLaws.{index_of-index_record, key_of-index_record}
-use Rattle.archives.specs.Machine.{Entry, State, after_put, appended, has_index, section_of}
-use Rattle.archives.specs.Putting.{is_taken}
-use Rattle.archives.specs.Rows.{HasRoom, Row, row_in}
+use Rattle.archives.specs.Machine.{Entry, State, appended, has_index, section_of}
+use Rattle.archives.specs.Putting.{Often, Once, Times, after_putting, is_skipped, put_command}
+use Rattle.archives.specs.PuttingLaws.{taken_state}
+use Rattle.archives.specs.Rows.{HasRoom, row_in}
 use Rattle.archives.specs.Standing.{Leaves, StandsFor, submitted}
 use Rattle.archives.proofs.ArchiveStands.{are_filed, glob_buffers, in_section, length_rows, list_records, names_left, no_foreign, no_list, stands_at}
 use Rattle.archives.proofs.PutRows.{all_push, few_now, few_sections_now, other_or_same}
+use Rattle.archives.proofs.PuttingLemmas.{submits_by}
 use Rattle.archives.proofs.StandLemmas.{AreFiled, keeps_stand}
 
 -- ---- at rest
@@ -71,9 +73,9 @@ module _ (f : Filing) (st : State (List ℕ)) (command : Command (List ℕ)) (ad
   leaves_more d leaves image crash no_chance = stands_more image (leaves image crash no_chance)
 
 -- what a put adds to a list
-pub put_adds : (items index : ℕ) (key value : List ℕ) (st : State (List ℕ)) (s : ℕ)
-    → (more : List (Entry (List ℕ))) × ((after_put items index key value st).lists s ≡ st.lists s ++ more)
-put_adds items index key value st s = go (nat_lt index st.floor || has_index items st index)
+pub put_adds : (times : Times) (items index : ℕ) (key value : List ℕ) (st : State (List ℕ)) (s : ℕ)
+    → (more : List (Entry (List ℕ))) × ((after_putting times items index key value st).lists s ≡ st.lists s ++ more)
+put_adds times items index key value st s = by times
   where
     last : (c : Bool) → (more : List (Entry (List ℕ))) × ((if c then st.lists s ++ record { index = index; key = key; value = value } ∷ [] else st.lists s) ≡ st.lists s ++ more)
     last true = (record { index = index; key = key; value = value } ∷ [], refl)
@@ -83,22 +85,25 @@ put_adds items index key value st s = go (nat_lt index st.floor || has_index ite
     go true = ([], sym (append-nil (st.lists s)))
     go false = last (s == section_of items index)
 
+    by : (t : Times) → (more : List (Entry (List ℕ))) × ((after_putting t items index key value st).lists s ≡ st.lists s ++ more)
+    by Once = go (nat_lt index st.floor || has_index items st index)
+    by Often = go (nat_lt index st.floor)
+
 -- ---- a put that appends
 
--- whether a row, or a filed record, has the index
-any_same : (f : Filing) (k index : ℕ) (place : List ℕ → ℕ × ℕ) (values : List ℕ) (rs : List (List ℕ))
-    → list_any (λ r. r.index == index) (map (filed f) (map (stored.entry_of place values) rs)) ≡ list_any (λ r. r.index == index) (map (row_in k) rs)
-any_same f k index place values [] = refl
-any_same f k index place values (r ∷ rs) = ap (λ (b : Bool). (index_of r == index) || b) (any_same f k index place values rs)
+-- a put that is skipped changes nothing, and one that is not appends
+module _ {F S : Type 0} {gs : _} (a : Archive F (PageBlob S gs)) (d : Disk) (index : ℕ) (key value : List ℕ) (listed : (s : ℕ) → a.rows s ≡ map (row_in a.key_size) (records_of a.pair d s)) where
+  pub put_by : (b : Bool) (times : Times) → is_skipped a index times ≡ b
+      → after_putting times a.items index key value (state_of a d) ≡ (if b then state_of a d else appended a.items index key value (state_of a d))
+  put_by b Once is =
+      ap (λ (x : Bool). if x then state_of a d else appended a.items index key value (state_of a d)) (ap (λ (x : Bool). nat_lt index a.floor || x) (sym (taken_state a d listed index)) ∙ is)
+  put_by b Often is = ap (λ (x : Bool). if x then state_of a d else appended a.items index key value (state_of a d)) is
 
--- a put under an index that is taken changes nothing
-pub put_taken : {F S : Type 0} {gs : _} (a : Archive F (PageBlob S gs)) (d : Disk) (index : ℕ) (key value : List ℕ) → ((s : ℕ) → a.rows s ≡ map (row_in a.key_size) (records_of a.pair d s)) → is_taken a index ≡ true
-    → after_put a.items index key value (state_of a d) ≡ state_of a d
-put_taken a d index key value listed taken =
-    let s : ℕ = section_of a.items index in
-    let there : has_index a.items (state_of a d) index ≡ true =
-    any_same (filing_of a) a.key_size index a.pair.layout.place (glob.section_bytes a.pair.values d s) (records_of a.pair d s) ∙ ap (list_any (λ (r : Row). r.index == index)) (sym (listed s)) ∙ taken in
-    ap (λ (b : Bool). if b then state_of a d else appended a.items index key value (state_of a d)) (or_right (nat_lt index a.floor) (has_index a.items (state_of a d) index) there)
+  pub put_skipped : (times : Times) → is_skipped a index times ≡ true → after_putting times a.items index key value (state_of a d) ≡ state_of a d
+  put_skipped times is = put_by true times is
+
+  pub put_appends : (times : Times) → is_skipped a index times ≡ false → after_putting times a.items index key value (state_of a d) ≡ appended a.items index key value (state_of a d)
+  put_appends times is = put_by false times is
 
 module _ {F S : Type 0} {gs : _} (a : Archive F (PageBlob S gs)) (index sec : ℕ) (here : sec ≡ section_of a.items index) (key value : List ℕ) (n : ℕ) (d : Disk) where
   -- the record, which names the place behind the section's values, with its value
@@ -122,16 +127,16 @@ module _ {F S : Type 0} {gs : _} (a : Archive F (PageBlob S gs)) (index sec : �
   abbrev pub filed_entry : Entry (List ℕ)
   filed_entry = record { index = index; key = key; value = value }
 
-  -- What is asked of the record: its index is free.
-  pub record IsFree : Type 0 where
+  -- What is asked of the record: its put is not skipped.
+  pub record IsFree (times : Times) : Type 0 where
     pub small : index < 2 ^ 64
     pub sized : length key ≡ a.key_size
-    pub free : is_taken a index ≡ false
+    pub free : is_skipped a index times ≡ false
     pub accepted : a.refusal value ≡ None
     pub some : 4 ≤ n
     pub place : a.pair.layout.place (index_record index key (glob.section_size a.pair.values sec) n) ≡ (glob.section_size a.pair.values sec, n)
 
-  module _ (asked : IsFree) where
+  module _ (times : Times) (asked : IsFree times) where
     filed_new : filed (filing_of a) new_entry ≡ filed_entry
     filed_new =
         let i : index_of new_entry.stored ≡ index = index_of-index_record index key (glob.section_size a.pair.values sec) n asked.small in
@@ -157,20 +162,11 @@ module _ {F S : Type 0} {gs : _} (a : Archive F (PageBlob S gs)) (index sec : �
     ]
 
     module _ {bs : Buffers F (PageBlob S gs)} {told : Type 0} {opened : _} (archive : IsArchive a bs told opened d) (t : told) (sound : IsSoundArchive a d) where
-      not_there : has_index a.items (state_of a d) index ≡ false
-      not_there =
-          let s : ℕ = section_of a.items index in
-          any_same (filing_of a) a.key_size index a.pair.layout.place (glob.section_bytes a.pair.values d s) (records_of a.pair d s)
-          ∙ ap (list_any (λ (r : Row). r.index == index)) (sym (archive.listed t s)) ∙ asked.free
-
       -- the put appends
-      pub put_is : after_put a.items index key value (state_of a d) ≡ appended a.items index key value (state_of a d)
-      put_is =
-          let low : nat_lt index a.floor ≡ false = le-ltb index a.floor (omega (arith, archive.floor)) in
-          ap (λ (b : Bool). if b || has_index a.items (state_of a d) index then state_of a d else appended a.items index key value (state_of a d)) low
-          ∙ ap (λ (b : Bool). if b then state_of a d else appended a.items index key value (state_of a d)) not_there
+      pub put_is : after_putting times a.items index key value (state_of a d) ≡ appended a.items index key value (state_of a d)
+      put_is = put_appends a d index key value (archive.listed t) times asked.free
 
-      pub lists_put : (s : ℕ) → map (filed (filing_of a)) (wanted s) ≡ (after_put a.items index key value (state_of a d)).lists s
+      pub lists_put : (s : ℕ) → map (filed (filing_of a)) (wanted s) ≡ (after_putting times a.items index key value (state_of a d)).lists s
       lists_put s = lists_appended s ∙ ap (λ (st : State (List ℕ)). st.lists s) (sym put_is)
 
       abbrev ends : ℕ → ℕ
@@ -250,12 +246,12 @@ module _ {F S : Type 0} {gs : _} (a : Archive F (PageBlob S gs)) (index sec : �
       -- At a moment at which each crash leaves of the pair's lists a prefix, the record included, it leaves what stands for the state with the put under way.
       pub stands_put : AreFiled (filing_of a) wanted → sec < 2 ^ 64 → (m : Disk)
           → LeavesAlone a.pair.layout wanted (synced_length a.pair) (λ _. ⊥) (λ q. IsIndexOf a.pair.layout (λ s. s ≡ sec) q ⊎ IsValuesOf a.pair.layout (λ s. s ≡ sec) q) d m
-          → Leaves (filing_of a) (state_of a d) (Some (Put index key value)) m
+          → Leaves (filing_of a) (state_of a d) (Some (put_command times index key value)) m
       stands_put files small m left image crash no_chance =
           let none = no_foreign a.pair.layout archive.pair.apart (λ s. s ≡ sec) d m
           (λ q other. left.others q (λ own. other (elim own [ inl i ↦ inl i | inr v ↦ inr (inl v) ]))) sound.names in
           keeps_stand (filing_of a) wanted (synced_length a.pair) image files (names_left a.pair.layout m none image crash) (left.leaves image crash no_chance)
-          (state_of a d) (Some (Put index key value)) (λ s below. sym (lists_put s)) (λ s below. omega arith)
+          (state_of a d) (Some (put_command times index key value)) (λ s below. submits_by times a.items index key value (state_of a d) s ∙ sym (lists_put s)) (λ s below. omega arith)
 
 -- a section's values have room for n bytes more, or pass 2^64 with them
 pub full_or_room : (held : Option WriteBlob) (n : ℕ) → n < 2 ^ 64 → IsSomeAnd held (λ v. 2 ^ 64 ≤ count_of v + n) ⊎ (glob.size_held held + n < 2 ^ 64)
@@ -265,20 +261,23 @@ full_or_room (Some v) n small = elim (cases_lt (count_of v + n) (2 ^ 64)) [
   | inr le ↦ inl le
 ]
 
-module _ {F S : Type 0} {gs : _} (a : Archive F (PageBlob S gs)) (index sec : ℕ) (here : sec ≡ section_of a.items index) (key value : List ℕ) (n : ℕ) {Dev : Type 0} (time : Dev → Timeline) (before now : Dev)
+module _ {F S : Type 0} {gs : _} (a : Archive F (PageBlob S gs)) (index sec : ℕ) (here : sec ≡ section_of a.items index) (key value : List ℕ) (n : ℕ) (times : Times) {Dev : Type 0} (time : Dev → Timeline) (before now : Dev)
     (rest : Leaves (filing_of a) (state_of a (disk (time before))) None (disk (time before))) where
   abbrev Under : Disk → Type 0
-  Under = Leaves (filing_of a) (state_of a (disk (time before))) (Some (Put index key value))
+  Under = Leaves (filing_of a) (state_of a (disk (time before))) (Some (put_command times index key value))
 
   -- where nothing was done
   pub put_unmoved : now ≡ before → Always (time before) (time now) Under
   put_unmoved same =
-      let more = leaves_more (filing_of a) (state_of a (disk (time before))) (Put index key value) (λ s. put_adds a.items index key value (state_of a (disk (time before))) s) (disk (time before)) rest in
+      let st = state_of a (disk (time before)) in
+      let adds : (s : ℕ) → (more : List (Entry (List ℕ))) × (submitted a.items st (Some (put_command times index key value)) s ≡ submitted a.items st None s ++ more) =
+      λ s. (let more = put_adds times a.items index key value st s in (more.0, submits_by times a.items index key value st s ∙ more.1)) in
+      let more = leaves_more (filing_of a) st (put_command times index key value) adds (disk (time before)) rest in
       subst (λ (x : Dev). Always (time before) (time x) Under) (sym same) (always_start (time before) Under more)
 
   -- At every moment each crash leaves what stands for the state with the put under way: where the record or its value had no room nothing was done.
   pub put_moments : {bs : Buffers F (PageBlob S gs)} {told : Type 0} {opened : _} → IsArchive a bs told opened (disk (time before)) → told → IsSoundArchive a (disk (time before))
-      → (n ≤ 2 ^ 32 - 1 → IsFree a index sec here key value n (disk (time before))) → HasRoom a.most_sections a.most_records a.rows sec → 1 ≤ a.most_records → sec < 2 ^ 64
+      → (n ≤ 2 ^ 32 - 1 → IsFree a index sec here key value n (disk (time before)) times) → HasRoom a.most_sections a.most_records a.rows sec → 1 ≤ a.most_records → sec < 2 ^ 64
       → (2 ^ 32 - 1 < n → now ≡ before) → (n ≤ 2 ^ 32 - 1 → IsSomeAnd (a.pair.values.held sec) (λ v. 2 ^ 64 ≤ count_of v + n) → now ≡ before)
       → Keeping a.pair.layout (wanted a index sec here key value n (disk (time before))) (synced_length a.pair) (λ _. ⊥) (λ q. IsIndexOf a.pair.layout (λ s. s ≡ sec) q ⊎ IsValuesOf a.pair.layout (λ s. s ≡ sec) q) (time before) (time now)
       → Always (time before) (time now) Under
@@ -289,8 +288,8 @@ module _ {F S : Type 0} {gs : _} (a : Archive F (PageBlob S gs)) (index sec : �
       | inr fits ↦
           let free = asked le in
           let d : Disk = disk (time before) in
-          let files = wanted_filed a index sec here key value n d free archive t sound room one fits in
+          let files = wanted_filed a index sec here key value n d times free archive t sound room one fits in
           always_weaker (time before) (time now) (LeavesAlone a.pair.layout (wanted a index sec here key value n d) (synced_length a.pair) (λ _. ⊥) (λ q. IsIndexOf a.pair.layout (λ s. s ≡ sec) q ⊎ IsValuesOf a.pair.layout (λ s. s ≡ sec) q) d) Under
-          (stands_put a index sec here key value n d free archive t sound files small) keeping
+          (stands_put a index sec here key value n d times free archive t sound files small) keeping
     ]
   ]

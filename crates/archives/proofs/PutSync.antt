@@ -1,9 +1,7 @@
 -- A put, and then a sync.
-use Rattle.std.proofs.Common.{◌≡◌, ◌≢◌, ◌⊎◌, ◌↔◌, inl, inr, refl, sym, ◌∙◌, ap, subst, ℕ, ◌^◌, ◌<◌, ◌≤◌, List, [], length, take, false, Option, None, Some, IsTrue, arith}
+use Rattle.std.proofs.Common.{◌≡◌, ◌≢◌, ◌⊎◌, ◌↔◌, inl, inr, refl, sym, ◌∙◌, ap, subst, ℕ, ◌^◌, ◌<◌, ◌≤◌, List, [], length, take, Bool, false, Option, None, IsTrue, arith}
 use Rattle.std.proofs.Math.Nat.{div-mul-le_self}
 use Rattle.blob_device.specs.Disk.{Disk, Key}
-use Rattle.blob_device.specs.Timeline.{Timeline, Always}
-use Rattle.blob_device.proofs.Moments.{always_weaker}
 use Rattle.meta_store.specs.Blobs.{blob_of}
 use Rattle.meta_store.specs.Store.{Store}
 use Rattle.value_codec.specs.declared.codec.Error as codec
@@ -14,10 +12,10 @@ use Rattle.paired.specs.Crashes.{IsOwn}
 use Rattle.paired.specs.Kept.{IsSameLayout, Layout, marker_of}
 use Rattle.paired.specs.Pair.{synced_length}
 use Rattle.archives.specs.Archives.{Archive, filing_of, state_of}
-use Rattle.archives.specs.Commands.{Command, PutSync, Sync}
+use Rattle.archives.specs.Commands.{Command}
 use Rattle.archives.specs.Filing.{Filing, IsSameFiling, kept}
-use Rattle.archives.specs.Machine.{Entry, State, after_put, after_sync, section_of}
-use Rattle.archives.specs.Putting.{IsMovingAfter, IsWrittenAfter, is_taken}
+use Rattle.archives.specs.Machine.{Entry, State, after_sync, section_of}
+use Rattle.archives.specs.Putting.{IsMovingAfter, IsWrittenAfter, Times, after_putting}
 use Rattle.archives.specs.Standing.{IsGoing, IsPrefix, Leaves, submitted}
 use Rattle.archives.specs.Syncing.{IsMoving}
 
@@ -75,18 +73,12 @@ filing_then f g h one two = record {
 
 -- ---- moments
 
--- while the sync goes on, over a state that the put left
-module _ {F S : Type 0} {gs : _} (a b : Archive F (PageBlob S gs)) (d e : Disk) (index : ℕ) (key value : List ℕ) (filing : filing_of b ≡ filing_of a) (step : state_of b e ≡ after_put a.items index key value (state_of a d))
-    (synced : (s : ℕ) → synced_length b.pair s ≡ synced_length a.pair s) where
-  pub under_sync_put : (old new : Timeline) → Always old new (Leaves (filing_of b) (state_of b e) (Some Sync)) → Always old new (Leaves (filing_of a) (state_of a d) (Some (PutSync index key value)))
-  under_sync_put old new = always_weaker old new (Leaves (filing_of b) (state_of b e) (Some Sync)) (Leaves (filing_of a) (state_of a d) (Some (PutSync index key value)))
-      (λ m leaves. stands_as (filing_of a) (state_of b e) (state_of a d) (Some Sync) (Some (PutSync index key value)) (λ s. ap (λ (st : State (List ℕ)). st.lists s) step) (λ s. omega (arith, synced s)) (λ s none. none) m
-      (subst (λ (f : Filing). Leaves f (state_of b e) (Some Sync) m) filing leaves))
-
-  -- where all has settled that was written
-  pub settled_put : (m : Disk) → Leaves (filing_of b) (after_sync (state_of b e)) None m → Leaves (filing_of a) (after_sync (after_put a.items index key value (state_of a d))) None m
+-- where all has settled that was written, over a state that the put left
+module _ {F S : Type 0} {gs : _} (a b : Archive F (PageBlob S gs)) (d e : Disk) (times : Times) (index : ℕ) (key value : List ℕ) (filing : filing_of b ≡ filing_of a)
+    (step : state_of b e ≡ after_putting times a.items index key value (state_of a d)) where
+  pub settled_put : (m : Disk) → Leaves (filing_of b) (after_sync (state_of b e)) None m → Leaves (filing_of a) (after_sync (after_putting times a.items index key value (state_of a d))) None m
   settled_put m leaves =
-      subst (λ (f : Filing). Leaves f (after_sync (after_put a.items index key value (state_of a d))) None m) filing
+      subst (λ (f : Filing). Leaves f (after_sync (after_putting times a.items index key value (state_of a d))) None m) filing
       (subst (λ (st : State (List ℕ)). Leaves (filing_of b) (after_sync st) None m) step leaves)
 
 -- ---- blobs
@@ -103,25 +95,25 @@ own_as l m P Q q same to own = elim own [
 pub section_small : (items index : ℕ) → index < 2 ^ 64 → section_of items index < 2 ^ 64
 section_small items index small = omega (arith, div-mul-le_self index items, small)
 
-module _ {F S : Type 0} {gs : _} (a : Archive F (PageBlob S gs)) (index : ℕ) (small : index < 2 ^ 64) where
+module _ {F S : Type 0} {gs : _} (a : Archive F (PageBlob S gs)) (index : ℕ) (skip : Bool) (small : index < 2 ^ 64) where
   -- the blobs that the call leaves alone
   abbrev pub IsLeft : Key → Type 0
-  IsLeft q = IsOwn a.pair.layout (IsWrittenAfter a index) q → ⊥
+  IsLeft q = IsOwn a.pair.layout (IsWrittenAfter a index skip) q → ⊥
 
-  -- where the index is free they are not those of its section
-  not_here : is_taken a index ≡ false → (q : Key) → IsLeft q → (q ≢ section_key a.pair.layout.index (section_of a.items index)) × (q ≢ section_key a.pair.layout.values (section_of a.items index))
+  -- where the put is not skipped they are not those of its section
+  not_here : skip ≡ false → (q : Key) → IsLeft q → (q ≢ section_key a.pair.layout.index (section_of a.items index)) × (q ≢ section_key a.pair.layout.values (section_of a.items index))
   not_here free q other = (
     λ is. other (inl (section_of a.items index, section_small a.items index small, inr (free, refl), is)),
     λ is. other (inr (inl (section_of a.items index, section_small a.items index small, inr (free, refl), is))),
   )
 
-  module _ (b : Archive F (PageBlob S gs)) (layout : IsSameLayout a.pair.layout b.pair.layout) (written : (s : ℕ) → IsTrue (b.is_written s) ↔ IsWrittenAfter a index s) where
+  module _ (b : Archive F (PageBlob S gs)) (layout : IsSameLayout a.pair.layout b.pair.layout) (written : (s : ℕ) → IsTrue (b.is_written s) ↔ IsWrittenAfter a index skip s) where
     -- a marker moves by the sync just where it moves once the put has ended
     module _ (store : b.pair.store ≡ a.pair.store) (synced : (s : ℕ) → synced_length b.pair s ≡ synced_length a.pair s) where
       same_marker : (s : ℕ) → marker_of b.pair.store.entries s ≡ marker_of a.pair.store.entries s
       same_marker s = ap (λ (u : Store Key8 ℕ). marker_of u.entries s) store
 
-      pub moving_after : IsMoving b → IsMovingAfter a index
+      pub moving_after : IsMoving b → IsMovingAfter a index skip
       moving_after (s, (below, rests, how)) = (
         s,
         (
@@ -134,7 +126,7 @@ module _ {F S : Type 0} {gs : _} (a : Archive F (PageBlob S gs)) (index : ℕ) (
         ),
       )
 
-      pub moving_now : IsMovingAfter a index → IsMoving b
+      pub moving_now : IsMovingAfter a index skip → IsMoving b
       moving_now (s, (below, rests, how)) = (
         s,
         (

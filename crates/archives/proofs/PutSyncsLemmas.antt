@@ -21,12 +21,12 @@ use Rattle.paired.specs.Kept.{marker_of}
 use Rattle.paired.proofs.PairFailing.{rose_before}
 use Rattle.archives.specs.Archives.{Archive}
 use Rattle.archives.specs.Changes.{Asked, Changes, IsSoundOver, state_over}
-use Rattle.archives.specs.Commands.{Put, PutStart, PutSync, Sync}
+use Rattle.archives.specs.Commands.{Sync}
 use Rattle.archives.specs.Filing.{Filing, IsBlobAt, IsSameFiling}
 use Rattle.archives.specs.FilingLaws.{one_filing}
-use Rattle.archives.specs.Machine.{State, after_put, after_sync, section_of}
+use Rattle.archives.specs.Machine.{State, after_sync, section_of}
 use Rattle.archives.specs.Prunable.{Prunable, filing_by, meaning}
-use Rattle.archives.specs.Putting.{IsFullFor, IsFullOver, IsMovingAfter, IsWrittenAfter, frame_size, is_taken}
+use Rattle.archives.specs.Putting.{IsFullFor, IsFullOver, IsMovingAfter, IsWrittenAfter, Times, after_putting, frame_size, is_skipped, put_command, put_start_command, put_sync_command}
 use Rattle.archives.specs.Puts.{IsPutCause, Puts, Refuses}
 use Rattle.archives.specs.Refusing.{IsFault}
 use Rattle.archives.specs.Replies as reply
@@ -37,13 +37,14 @@ use Rattle.archives.specs.Syncs as parts
 use Rattle.archives.specs.declared.error.Error.{Error}
 use Rattle.archives.specs.declared.error.Error.TheVariants.{Full, Journal, Mem, Metadata, RecordCorrupted}
 use Rattle.archives.proofs.Alike.{alike_as}
+use Rattle.archives.proofs.PuttingLemmas.{by_step, none_goes, start_step_by, start_submits, submits_by, sync_step_by, sync_submits}
 use Rattle.archives.proofs.PutSync.{filing_then, moving_after, moving_now, own_as, section_small, settled_put, stands_as}
 
 -- ---- causes
 
-module _ {F S : Type 0} {gs : _} (a : Archive F (PageBlob S gs)) (index n : ℕ) (told : Type 0) where
+module _ {F S : Type 0} {gs : _} (a : Archive F (PageBlob S gs)) (index : ℕ) (skip : Bool) (n : ℕ) (told : Type 0) where
   -- why the put failed is why the call did
-  put_both : (before now : ℕ) (e : Error) → IsPutCause a index n told before now e → IsPutSyncCause a index n told before now e
+  put_both : (before now : ℕ) (e : Error) → IsPutCause a index skip n told before now e → IsPutSyncCause a index skip n told before now e
   put_both before now Mem cause = tt
   put_both before now Full cause = inl cause
   put_both before now RecordCorrupted cause = absurd cause
@@ -76,8 +77,8 @@ module _ {F S : Type 0} {gs : _} (a : Archive F (PageBlob S gs)) (index n : ℕ)
 
   -- and so is why the sync failed of the archive b, which the put left
   module _ (b : Archive F (PageBlob S gs)) (before between now : ℕ) (later : before ≤ between) (version : 2 ^ 64 ≤ b.pair.store.version + 1 → 2 ^ 64 ≤ a.pair.store.version + 1)
-      (moving : IsMoving b → IsMovingAfter a index) where
-    sync_both : (e : Error) → IsSyncCause b between now e → IsPutSyncCause a index n told before now e
+      (moving : IsMoving b → IsMovingAfter a index skip) where
+    sync_both : (e : Error) → IsSyncCause b between now e → IsPutSyncCause a index skip n told before now e
     sync_both Mem cause = tt
     sync_both Full cause = inr (version cause.0, moving cause.1)
     sync_both RecordCorrupted cause = absurd cause
@@ -108,22 +109,32 @@ module _ {F S : Type 0} {gs : _} (a : Archive F (PageBlob S gs)) (index n : ℕ)
     sync_both (Metadata metadata.Full) cause = absurd cause
     sync_both (Metadata metadata.Mem) cause = absurd cause
 
-  both_fault : (before now : ℕ) (e : Error) → IsPutSyncCause a index n told before now e → IsFault e → Rose before now
-  both_fault before now e cause (inl is) = subst (IsPutSyncCause a index n told before now) is cause
-  both_fault before now e cause (inr is) = (subst (IsPutSyncCause a index n told before now) is cause).0
+  both_fault : (before now : ℕ) (e : Error) → IsPutSyncCause a index skip n told before now e → IsFault e → Rose before now
+  both_fault before now e cause (inl is) = subst (IsPutSyncCause a index skip n told before now) is cause
+  both_fault before now e cause (inr is) = (subst (IsPutSyncCause a index skip n told before now) is cause).0
 
 -- ---- the calls
 
-module _ {A V S D : Type 0} {gs : _} (p : Prunable A V (AppendFactory S) (PageBlob S gs)) (dev : device.Ghosts D) (a : A) (index : ℕ) (key value : List ℕ) where
+module _ {A V S D : Type 0} {gs : _} (p : Prunable A V (AppendFactory S) (PageBlob S gs)) (dev : device.Ghosts D) (times : Times) (a : A) (index : ℕ) (key value : List ℕ) where
   abbrev size : ℕ
   size = frame_size (filing_by p a).layout value
 
+  abbrev skip : Bool
+  skip = is_skipped (p.see a) index times
+
+  -- the commands of such a put, with a sync and with one that is started
+  abbrev put_synced : Asked
+  put_synced = put_sync_command times index key value
+
+  abbrev put_started : Asked
+  put_started = put_start_command times index key value
+
   -- the same of another result that is equal
-  pub put_sync_as : (r x : Result A Error) (old new : D) → r ≡ x → PutSyncs p dev a index key value x old new → PutSyncs p dev a index key value r old new
-  put_sync_as r x old new is both = subst (λ (y : Result A Error). PutSyncs p dev a index key value y old new) (sym is) both
+  pub put_sync_as : (r x : Result A Error) (old new : D) → r ≡ x → PutSyncs p dev times a index key value x old new → PutSyncs p dev times a index key value r old new
+  put_sync_as r x old new is both = subst (λ (y : Result A Error). PutSyncs p dev times a index key value y old new) (sym is) both
 
   -- where the put failed
-  full_for : (told : Type 0) → told → IsFullOver (p.see a) index told size → IsFullFor (p.see a) index size
+  full_for : (told : Type 0) → told → IsFullOver (p.see a) index skip told size → IsFullFor (p.see a) index skip size
   full_for told t over = record {
     free = over.free;
     full = elim over.full [
@@ -133,37 +144,37 @@ module _ {A V S D : Type 0} {gs : _} (p : Prunable A V (AppendFactory S) (PageBl
   }
 
   -- while the put goes on
-  under_put : (command : Asked) → (command ≡ PutSync index key value) ⊎ (command ≡ PutStart index key value) → (f : Filing) (st : State (List ℕ)) (d : Disk)
-      → Leaves f st (Some (Put index key value)) d → Leaves f st (Some command) d
+  under_put : (command : Asked) → (command ≡ put_synced) ⊎ (command ≡ put_started) → (f : Filing) (st : State (List ℕ)) (d : Disk)
+      → Leaves f st (Some (put_command times index key value)) d → Leaves f st (Some command) d
   under_put command (inl is) f st d leaves = subst (λ (c : Asked). Leaves f st (Some c) d) (sym is)
-      (stands_as f st st (Some (Put index key value)) (Some (PutSync index key value)) (λ s. refl) (λ s. omega arith) (λ s none. none) d leaves)
+      (stands_as f st st (Some (put_command times index key value)) (Some put_synced) (sync_submits times f.items index key value st) (λ s. omega arith) (none_goes times f.items index key value st) d leaves)
   under_put command (inr is) f st d leaves = subst (λ (c : Asked). Leaves f st (Some c) d) (sym is)
-      (stands_as f st st (Some (Put index key value)) (Some (PutStart index key value)) (λ s. refl) (λ s. omega arith) (λ s none. none) d leaves)
+      (stands_as f st st (Some (put_command times index key value)) (Some put_started) (start_submits times f.items index key value st) (λ s. omega arith) (none_goes times f.items index key value st) d leaves)
 
   -- while the sync does, from a state that the put left
-  under_sync_put : (command : Asked) → (command ≡ PutSync index key value) ⊎ (command ≡ PutStart index key value) → (f : Filing) (st mid : State (List ℕ)) (d : Disk)
-      → ((c : Asked) → (c ≡ PutSync index key value) ⊎ (c ≡ PutStart index key value) → (s : ℕ) → submitted f.items mid None s ≡ submitted f.items st (Some c) s) → ((s : ℕ) → st.synced s ≤ mid.synced s)
+  under_sync_put : (command : Asked) → (command ≡ put_synced) ⊎ (command ≡ put_started) → (f : Filing) (st mid : State (List ℕ)) (d : Disk)
+      → ((c : Asked) → (c ≡ put_synced) ⊎ (c ≡ put_started) → (s : ℕ) → submitted f.items mid None s ≡ submitted f.items st (Some c) s) → ((s : ℕ) → st.synced s ≤ mid.synced s)
       → Leaves f mid None d → Leaves f st (Some command) d
   under_sync_put command is f st mid d same fewer leaves = stands_as f mid st None (Some command) (same command is) fewer (λ s none. none) d leaves
 
   module _ (small : index < 2 ^ 64) where
-    own_after : (q : Key) → is_taken (p.see a) index ≡ false → IsBlobAt (filing_by p a) index q → IsOwn (filing_by p a).layout (IsWrittenAfter (p.see a) index) q
+    own_after : (q : Key) → skip ≡ false → IsBlobAt (filing_by p a) index q → IsOwn (filing_by p a).layout (IsWrittenAfter (p.see a) index skip) q
     own_after q free (inl is) = inl (section_of (p.see a).items index, section_small (p.see a).items index small, inr (free, refl), is)
     own_after q free (inr is) = inr (inl (section_of (p.see a).items index, section_small (p.see a).items index small, inr (free, refl), is))
 
     -- what the put touches is among the blobs of the sections that are then written
-    put_touches : (result : Result A Error) (old new : D) → Puts p dev a index key value result old new → Footprint dev (IsOwn (filing_by p a).layout (IsWrittenAfter (p.see a) index)) NoBound old new
-    put_touches result old new put = go (is_taken (p.see a) index) refl
+    put_touches : (result : Result A Error) (old new : D) → Puts p dev times a index key value result old new → Footprint dev (IsOwn (filing_by p a).layout (IsWrittenAfter (p.see a) index skip)) NoBound old new
+    put_touches result old new put = go skip refl
       where
-        go : (b : Bool) → is_taken (p.see a) index ≡ b → Footprint dev (IsOwn (filing_by p a).layout (IsWrittenAfter (p.see a) index)) NoBound old new
-        go true is = footprint_none dev (IsOwn (filing_by p a).layout (IsWrittenAfter (p.see a) index)) NoBound old new (put.taken is).1
-        go false is = footprint_wider dev (IsBlobAt (filing_by p a) index) (IsOwn (filing_by p a).layout (IsWrittenAfter (p.see a) index)) NoBound NoBound old new (λ q. own_after q is) (λ q n none. absurd none) put.footprint
+        go : (b : Bool) → skip ≡ b → Footprint dev (IsOwn (filing_by p a).layout (IsWrittenAfter (p.see a) index skip)) NoBound old new
+        go true is = footprint_none dev (IsOwn (filing_by p a).layout (IsWrittenAfter (p.see a) index skip)) NoBound old new (put.skipped is).1
+        go false is = footprint_wider dev (IsBlobAt (filing_by p a) index) (IsOwn (filing_by p a).layout (IsWrittenAfter (p.see a) index skip)) NoBound NoBound old new (λ q. own_after q is) (λ q n none. absurd none) put.footprint
 
-    pub put_sync_refused : (e : Error) (old new : D) → Puts p dev a index key value (Err e) old new → PutSyncs p dev a index key value (Err e) old new
+    pub put_sync_refused : (e : Error) (old new : D) → Puts p dev times a index key value (Err e) old new → PutSyncs p dev times a index key value (Err e) old new
     put_sync_refused e old new put = record {
       parts = parts.refused e refl put;
       changes = λ command is. record {
-        moments = λ t sound. always_weaker (dev.time old) (dev.time new) (Leaves (filing_by p a) (state_over (meaning p) dev a old) (Some (Put index key value)))
+        moments = λ t sound. always_weaker (dev.time old) (dev.time new) (Leaves (filing_by p a) (state_over (meaning p) dev a old) (Some (put_command times index key value)))
             (Leaves (filing_by p a) (state_over (meaning p) dev a old) (Some command)) (under_put command is (filing_by p a) (state_over (meaning p) dev a old)) (put.changes.moments t sound);
         footprint = put.changes.footprint;
         ends = put.changes.ends;
@@ -171,15 +182,15 @@ module _ {A V S D : Type 0} {gs : _} (p : Prunable A V (AppendFactory S) (PageBl
       footprint = put_touches (Err e) old new put;
       refuses = put.refuses;
       ends = record {
-        cause = put_both (p.see a) index size dev.Tells (dev.faults old) (dev.faults new) e put.ends.cause;
+        cause = put_both (p.see a) index skip size dev.Tells (dev.faults old) (dev.faults new) e put.ends.cause;
         too_large = λ is. put.ends.unwritten (inl is);
         full = λ t is. inl (
-          full_for dev.Tells t (subst (IsPutCause (p.see a) index size dev.Tells (dev.faults old) (dev.faults new)) is put.ends.cause),
+          full_for dev.Tells t (subst (IsPutCause (p.see a) index skip size dev.Tells (dev.faults old) (dev.faults new)) is put.ends.cause),
           put.ends.unwritten (inr (inl t, is)),
         );
         settled = λ t sound markers other. elim markers [
-          | inl is ↦ absurd (other is (full_for dev.Tells t (subst (IsPutCause (p.see a) index size dev.Tells (dev.faults old) (dev.faults new)) is put.ends.cause)))
-          | inr is ↦ absurd (subst (IsPutCause (p.see a) index size dev.Tells (dev.faults old) (dev.faults new)) is put.ends.cause)
+          | inl is ↦ absurd (other is (full_for dev.Tells t (subst (IsPutCause (p.see a) index skip size dev.Tells (dev.faults old) (dev.faults new)) is put.ends.cause)))
+          | inr is ↦ absurd (subst (IsPutCause (p.see a) index skip size dev.Tells (dev.faults old) (dev.faults new)) is put.ends.cause)
         ];
       };
     }
@@ -187,23 +198,26 @@ module _ {A V S D : Type 0} {gs : _} (p : Prunable A V (AppendFactory S) (PageBl
     -- ---- where the put ended well
 
     module _ (markers : (x y : A) → (filing_by p x).layout.markers ≡ (filing_by p y).layout.markers) (mid : A) (old between new : D)
-        (put : Puts p dev a index key value (Ok mid) old between) where
+        (put : Puts p dev times a index key value (Ok mid) old between) where
       same : filing_by p mid ≡ filing_by p a
       same = one_filing (filing_by p a) (filing_by p mid) put.ends.filing (markers mid a)
+
+      put_state : dev.Tells → IsSoundOver (meaning p) dev a old → state_over (meaning p) dev mid between ≡ after_putting times (p.see a).items index key value (state_over (meaning p) dev a old)
+      put_state t sound = by_step times (p.see a).items index key value (state_over (meaning p) dev a old) (state_over (meaning p) dev mid between) (put.changes.ends.step t sound)
 
       version_was : 2 ^ 64 ≤ (p.see mid).pair.store.version + 1 → 2 ^ 64 ≤ (p.see a).pair.store.version + 1
       version_was large = subst (λ (u : Store Key8 ℕ). 2 ^ 64 ≤ u.version + 1) put.ends.markers large
 
-      moves : IsMoving (p.see mid) → IsMovingAfter (p.see a) index
-      moves = moving_after (p.see a) index small (p.see mid) put.ends.filing.layout put.ends.written put.ends.markers put.ends.synced
+      moves : IsMoving (p.see mid) → IsMovingAfter (p.see a) index skip
+      moves = moving_after (p.see a) index skip small (p.see mid) put.ends.filing.layout put.ends.written put.ends.markers put.ends.synced
 
-      sync_touches : Footprint dev (IsOwn (filing_by p mid).layout (IsWritten (p.see mid))) NoBound between new → Footprint dev (IsOwn (filing_by p a).layout (IsWrittenAfter (p.see a) index)) NoBound old new
+      sync_touches : Footprint dev (IsOwn (filing_by p mid).layout (IsWritten (p.see mid))) NoBound between new → Footprint dev (IsOwn (filing_by p a).layout (IsWrittenAfter (p.see a) index skip)) NoBound old new
       sync_touches touched =
-          let Own : Key → Type 0 = IsOwn (filing_by p a).layout (IsWrittenAfter (p.see a) index) in
+          let Own : Key → Type 0 = IsOwn (filing_by p a).layout (IsWrittenAfter (p.see a) index skip) in
           footprint_wider dev Own Own (AtMostBoth NoBound NoBound) NoBound old new (λ q is. is) (λ q n none. absurd none)
           (footprint_then dev Own NoBound NoBound old between new (put_touches (Ok mid) old between put)
           (footprint_wider dev (IsOwn (filing_by p mid).layout (IsWritten (p.see mid))) Own NoBound NoBound between new
-          (λ q. own_as (filing_by p a).layout (filing_by p mid).layout (IsWritten (p.see mid)) (IsWrittenAfter (p.see a) index) q put.ends.filing.layout (λ s is. (put.ends.written s).0 is))
+          (λ q. own_as (filing_by p a).layout (filing_by p mid).layout (IsWritten (p.see mid)) (IsWrittenAfter (p.see a) index skip) q put.ends.filing.layout (λ s is. (put.ends.written s).0 is))
           (λ q n none. absurd none) touched))
 
       all_touches : Footprint dev (IsOwn (filing_by p mid).layout (λ _. ⊤)) NoBound between new → Footprint dev (IsOwn (filing_by p a).layout (λ _. ⊤)) NoBound old new
@@ -214,18 +228,24 @@ module _ {A V S D : Type 0} {gs : _} (p : Prunable A V (AppendFactory S) (PageBl
           (footprint_wider dev (IsOwn (filing_by p mid).layout (λ _. ⊤)) Own NoBound NoBound between new (λ q. (put.changes.ends.alike.own q).0) (λ q n none. absurd none) touched))
 
       -- the sync goes on over what the put submitted
-      submits : dev.Tells → IsSoundOver (meaning p) dev a old → (c : Asked) → (c ≡ PutSync index key value) ⊎ (c ≡ PutStart index key value) → (s : ℕ)
+      submits : dev.Tells → IsSoundOver (meaning p) dev a old → (c : Asked) → (c ≡ put_synced) ⊎ (c ≡ put_started) → (s : ℕ)
           → submitted (p.see a).items (state_over (meaning p) dev mid between) None s ≡ submitted (p.see a).items (state_over (meaning p) dev a old) (Some c) s
-      submits t sound c (inl is) s = ap (λ (st : State (List ℕ)). st.lists s) (put.changes.ends.step t sound) ∙ ap (λ (x : Asked). submitted (p.see a).items (state_over (meaning p) dev a old) (Some x) s) (sym is)
-      submits t sound c (inr is) s = ap (λ (st : State (List ℕ)). st.lists s) (put.changes.ends.step t sound) ∙ ap (λ (x : Asked). submitted (p.see a).items (state_over (meaning p) dev a old) (Some x) s) (sym is)
+      submits t sound c is s =
+          let st = state_over (meaning p) dev a old in
+          let put_submits : submitted (p.see a).items (state_over (meaning p) dev mid between) None s ≡ submitted (p.see a).items st (Some (put_command times index key value)) s =
+          ap (λ (x : State (List ℕ)). x.lists s) (put_state t sound) ∙ sym (submits_by times (p.see a).items index key value st s) in
+          elim is as (λ _. submitted (p.see a).items (state_over (meaning p) dev mid between) None s ≡ submitted (p.see a).items st (Some c) s) [
+            | inl same ↦ put_submits ∙ sync_submits times (p.see a).items index key value st s ∙ ap (λ (x : Asked). submitted (p.see a).items st (Some x) s) (sym same)
+            | inr same ↦ put_submits ∙ start_submits times (p.see a).items index key value st s ∙ ap (λ (x : Asked). submitted (p.see a).items st (Some x) s) (sym same)
+          ]
 
-      moments_of : (command : Asked) → (command ≡ PutSync index key value) ⊎ (command ≡ PutStart index key value) → dev.Tells → IsSoundOver (meaning p) dev a old
+      moments_of : (command : Asked) → (command ≡ put_synced) ⊎ (command ≡ put_started) → dev.Tells → IsSoundOver (meaning p) dev a old
           → Always (dev.time between) (dev.time new) (Leaves (filing_by p mid) (state_over (meaning p) dev mid between) None)
           → Always (dev.time old) (dev.time new) (Leaves (filing_by p a) (state_over (meaning p) dev a old) (Some command))
       moments_of command is t sound later =
           let Left : Disk → Type 0 = Leaves (filing_by p a) (state_over (meaning p) dev a old) (Some command) in
           always_then (dev.time old) (dev.time between) (dev.time new) Left
-          (always_weaker (dev.time old) (dev.time between) (Leaves (filing_by p a) (state_over (meaning p) dev a old) (Some (Put index key value))) Left
+          (always_weaker (dev.time old) (dev.time between) (Leaves (filing_by p a) (state_over (meaning p) dev a old) (Some (put_command times index key value))) Left
           (under_put command is (filing_by p a) (state_over (meaning p) dev a old)) (put.changes.moments t sound))
           (always_weaker (dev.time between) (dev.time new) (Leaves (filing_by p mid) (state_over (meaning p) dev mid between) None) Left
           (λ d leaves. under_sync_put command is (filing_by p a) (state_over (meaning p) dev a old) (state_over (meaning p) dev mid between) d (submits t sound)
@@ -234,7 +254,7 @@ module _ {A V S D : Type 0} {gs : _} (p : Prunable A V (AppendFactory S) (PageBl
       never : {P : Type 0} (e : Error) → IsErrOf {T = A} (Ok mid) e → P
       never e is = absurd (cc is)
 
-      refuses_of : (result : Result A Error) → Refuses (p.see a) index size dev.Tells result old new
+      refuses_of : (result : Result A Error) → Refuses (p.see a) index skip size dev.Tells result old new
       refuses_of result = record {
         over_limit = λ free none. never Full (put.refuses.over_limit free none).0;
         too_large = λ large. elim (put.refuses.too_large large) [
@@ -247,13 +267,13 @@ module _ {A V S D : Type 0} {gs : _} (p : Prunable A V (AppendFactory S) (PageBl
         ];
       }
 
-      failed : (e : Error) → Syncs p dev mid (Err e) between new → PutSyncs p dev a index key value (Err e) old new
+      failed : (e : Error) → Syncs p dev mid (Err e) between new → PutSyncs p dev times a index key value (Err e) old new
       failed e sync = record {
         parts = parts.put mid between put sync;
         changes = λ command is. record {
           moments = λ t sound. moments_of command is t sound (sync.moments t (put.changes.ends.sound t sound));
           footprint = all_touches (sync.settles.changes Sync (inl refl)).footprint;
-          ends = both_fault (p.see a) index size dev.Tells (dev.faults old) (dev.faults new) e cause;
+          ends = both_fault (p.see a) index skip size dev.Tells (dev.faults old) (dev.faults new) e cause;
         };
         footprint = sync_touches sync.footprint;
         refuses = refuses_of (Err e);
@@ -261,15 +281,15 @@ module _ {A V S D : Type 0} {gs : _} (p : Prunable A V (AppendFactory S) (PageBl
           cause = cause;
           too_large = λ is. absurd (subst (IsSyncCause (p.see mid) (dev.faults between) (dev.faults new)) is sync.ends.cause);
           full = λ t is. (let why = subst (IsSyncCause (p.see mid) (dev.faults between) (dev.faults new)) is sync.ends.cause in inr (version_was why.0, moves why.1));
-          settled = λ t sound markers other. settled_put (p.see a) (p.see mid) (disk (dev.time old)) (disk (dev.time between)) index key value same (put.changes.ends.step t sound) put.ends.synced (disk (dev.time new))
+          settled = λ t sound markers other. settled_put (p.see a) (p.see mid) (disk (dev.time old)) (disk (dev.time between)) times index key value same (put_state t sound) (disk (dev.time new))
               (sync.ends.settled t (put.changes.ends.sound t sound) markers);
         };
       }
         where
-          cause : IsPutSyncCause (p.see a) index size dev.Tells (dev.faults old) (dev.faults new) e
-          cause = sync_both (p.see a) index size dev.Tells (p.see mid) (dev.faults old) (dev.faults between) (dev.faults new) put.footprint.faults version_was moves e sync.ends.cause
+          cause : IsPutSyncCause (p.see a) index skip size dev.Tells (dev.faults old) (dev.faults new) e
+          cause = sync_both (p.see a) index skip size dev.Tells (p.see mid) (dev.faults old) (dev.faults between) (dev.faults new) put.footprint.faults version_was moves e sync.ends.cause
 
-      done : (r : A) → Syncs p dev mid (Ok r) between new → PutSyncs p dev a index key value (Ok r) old new
+      done : (r : A) → Syncs p dev mid (Ok r) between new → PutSyncs p dev times a index key value (Ok r) old new
       done r sync = record {
         parts = parts.put mid between put sync;
         changes = λ command is. record {
@@ -291,7 +311,7 @@ module _ {A V S D : Type 0} {gs : _} (p : Prunable A V (AppendFactory S) (PageBl
           moved = λ s not. sync.ends.tracked.markers s (λ is. not ((put.ends.written s).0 is)) ∙ sync.ends.tracked.others s (λ is. not ((put.ends.written s).0 is)) ∙ put.ends.synced s;
           unmoved = λ s is. sync.ends.tracked.active s ((put.ends.written s).1 is) ∙ ap (λ (u : Store Key8 ℕ). marker_of u.entries s) put.ends.markers;
           version = λ moving.
-              (let low = sync.ends.version (moving_now (p.see a) index small (p.see mid) put.ends.filing.layout put.ends.written put.ends.markers put.ends.synced moving) in
+              (let low = sync.ends.version (moving_now (p.see a) index skip small (p.see mid) put.ends.filing.layout put.ends.written put.ends.markers put.ends.synced moving) in
               subst (λ (u : Store Key8 ℕ). u.version + 1 < 2 ^ 64) put.ends.markers low);
         };
       }
@@ -302,15 +322,17 @@ module _ {A V S D : Type 0} {gs : _} (p : Prunable A V (AppendFactory S) (PageBl
           filing : IsSameFiling (filing_by p a) (filing_by p r)
           filing = filing_then (filing_by p a) (filing_by p mid) (filing_by p r) put.ends.filing sync.ends.filing
 
-          step_of : (command : Asked) → (command ≡ PutSync index key value) ⊎ (command ≡ PutStart index key value) → dev.Tells → IsSoundOver (meaning p) dev a old
+          step_of : (command : Asked) → (command ≡ put_synced) ⊎ (command ≡ put_started) → dev.Tells → IsSoundOver (meaning p) dev a old
               → (meaning p).Step a (state_over (meaning p) dev a old) command reply.Done (state_over (meaning p) dev r new)
           step_of command is t sound =
-              let all : state_over (meaning p) dev r new ≡ after_sync (after_put (p.see a).items index key value (state_over (meaning p) dev a old)) = sync.ends.state t ∙ ap after_sync (put.changes.ends.step t sound) in
+              let st = state_over (meaning p) dev a old in
+              let next = state_over (meaning p) dev r new in
+              let all : next ≡ after_sync (after_putting times (p.see a).items index key value st) = sync.ends.state t ∙ ap after_sync (put_state t sound) in
               elim is [
-                | inl same ↦ subst (λ (c : Asked). (meaning p).Step a (state_over (meaning p) dev a old) c reply.Done (state_over (meaning p) dev r new)) (sym same) all
-                | inr same ↦ subst (λ (c : Asked). (meaning p).Step a (state_over (meaning p) dev a old) c reply.Done (state_over (meaning p) dev r new)) (sym same) all
+                | inl same ↦ subst (λ (c : Asked). (meaning p).Step a st c reply.Done next) (sym same) (sync_step_by times (p.see a).items index key value st next all)
+                | inr same ↦ subst (λ (c : Asked). (meaning p).Step a st c reply.Done next) (sym same) (start_step_by times (p.see a).items index key value st next all)
               ]
 
-      pub put_then_sync : (result : Result A Error) → Syncs p dev mid result between new → PutSyncs p dev a index key value result old new
+      pub put_then_sync : (result : Result A Error) → Syncs p dev mid result between new → PutSyncs p dev times a index key value result old new
       put_then_sync (Ok r) sync = done r sync
       put_then_sync (Err e) sync = failed e sync

@@ -24,11 +24,10 @@ use Rattle.segments.specs.declared.journal.Error.TheVariants as section
 use Rattle.paired.specs.Crashes.{IsOwn}
 use Rattle.paired.specs.GlobSections as glob
 use Rattle.archives.specs.Changes.{IsSoundOver, MayUse, state_over}
-use Rattle.archives.specs.Commands.{Put}
 use Rattle.archives.specs.Filing.{IsBlobAt}
-use Rattle.archives.specs.Machine.{after_put, section_of}
+use Rattle.archives.specs.Machine.{section_of}
 use Rattle.archives.specs.Prunable.{Prunable, filing_by, meaning}
-use Rattle.archives.specs.Putting.{HasBufferRoom, IsAllowed, frame_size, is_taken}
+use Rattle.archives.specs.Putting.{HasBufferRoom, IsAllowed, Times, after_putting, frame_size, is_skipped, put_command}
 use Rattle.archives.specs.Puts.{IsPutCause, PutDone, PutFailed, Puts, Refuses}
 use Rattle.archives.specs.Raised.{raised}
 use Rattle.archives.specs.Refusing.{IsFault}
@@ -37,19 +36,23 @@ use Rattle.archives.specs.declared.error.Error.{Error}
 use Rattle.archives.specs.declared.error.Error.TheVariants.{Full, Journal, Mem}
 use Rattle.archives.proofs.PutErrors.{full_from, large_from, two_errors}
 use Rattle.archives.proofs.Alike.{alike_as}
-use Rattle.archives.proofs.PutStands.{put_taken, put_unmoved}
+use Rattle.archives.proofs.PutStands.{put_skipped, put_unmoved}
+use Rattle.archives.proofs.PuttingLemmas.{step_by}
 
-module _ {A V S D : Type 0} {gs : _} (p : Prunable A V (AppendFactory S) (PageBlob S gs)) (dev : device.Ghosts D) (a : A) (index : ℕ) (key value : List ℕ) where
+module _ {A V S D : Type 0} {gs : _} (p : Prunable A V (AppendFactory S) (PageBlob S gs)) (dev : device.Ghosts D) (times : Times) (a : A) (index : ℕ) (key value : List ℕ) where
   abbrev sec : ℕ
   sec = section_of (p.see a).items index
 
   abbrev size : ℕ
   size = frame_size (filing_by p a).layout value
 
+  abbrev skip : Bool
+  skip = is_skipped (p.see a) index times
+
   -- at each moment from one device to another a crash leaves what stands for the state with the put under way
   abbrev pub PutMoments : D → D → Type 0
   PutMoments old new = dev.Tells → IsSoundOver (meaning p) dev a old
-      → Always (dev.time old) (dev.time new) (Leaves (filing_by p a) (state_over (meaning p) dev a old) (Some (Put index key value)))
+      → Always (dev.time old) (dev.time new) (Leaves (filing_by p a) (state_over (meaning p) dev a old) (Some (put_command times index key value)))
 
   own_blob : sec < 2 ^ 64 → (q : Key) → IsBlobAt (filing_by p a) index q → IsOwn (filing_by p a).layout (λ _. ⊤) q
   own_blob small q (inl is) = inl (sec, small, tt, is)
@@ -59,9 +62,9 @@ module _ {A V S D : Type 0} {gs : _} (p : Prunable A V (AppendFactory S) (PageBl
   all_own : sec < 2 ^ 64 → (old new : D) → Footprint dev (IsBlobAt (filing_by p a) index) NoBound old new → Footprint dev (IsOwn (filing_by p a).layout (λ _. ⊤)) NoBound old new
   all_own small old new touched = footprint_wider dev (IsBlobAt (filing_by p a) index) (IsOwn (filing_by p a).layout (λ _. ⊤)) NoBound NoBound old new (own_blob small) (λ q n none. absurd none) touched
 
-  pub put_fault : (told : Type 0) (before now : ℕ) (e : Error) → IsPutCause (p.see a) index size told before now e → IsFault e → Rose before now
-  put_fault told before now e cause (inl is) = subst (IsPutCause (p.see a) index size told before now) is cause
-  put_fault told before now e cause (inr is) = absurd (subst (IsPutCause (p.see a) index size told before now) is cause)
+  pub put_fault : (told : Type 0) (before now : ℕ) (e : Error) → IsPutCause (p.see a) index skip size told before now e → IsFault e → Rose before now
+  put_fault told before now e cause (inl is) = subst (IsPutCause (p.see a) index skip size told before now) is cause
+  put_fault told before now e cause (inr is) = absurd (subst (IsPutCause (p.see a) index skip size told before now) is cause)
 
   -- What the pair's append touches, of a section s.
   pub record PairTouches (s : ℕ) (old new : D) : Type 0 where
@@ -76,8 +79,8 @@ module _ {A V S D : Type 0} {gs : _} (p : Prunable A V (AppendFactory S) (PageBl
   touches_here s is old new touches = subst (λ (x : ℕ). PairTouches x old new) is touches
 
   -- the same of another result that is equal
-  pub put_as : (r x : Result A Error) (old new : D) → r ≡ x → Puts p dev a index key value x old new → Puts p dev a index key value r old new
-  put_as r x old new is puts = subst (λ (y : Result A Error). Puts p dev a index key value y old new) (sym is) puts
+  pub put_as : (r x : Result A Error) (old new : D) → r ≡ x → Puts p dev times a index key value x old new → Puts p dev times a index key value r old new
+  put_as r x old new is puts = subst (λ (y : Result A Error). Puts p dev times a index key value y old new) (sym is) puts
 
   touched_by : (old new : D) → PairTouches sec old new → Footprint dev (IsBlobAt (filing_by p a) index) NoBound old new
   touched_by old new touches = record {
@@ -93,24 +96,25 @@ module _ {A V S D : Type 0} {gs : _} (p : Prunable A V (AppendFactory S) (PageBl
   below_by : (old new : D) → PairTouches sec old new → HasBufferRoom (p.see a) index size → new ≡ old
   below_by old new touches room = touches.below room.records room.values room.held room.values_held room.no_flush room.below
 
-  -- ---- where the index is taken
+  -- ---- where the put is skipped
 
-  pub put_nothing : sec < 2 ^ 64 → is_taken (p.see a) index ≡ true → (d : D) → MayUse (meaning p) dev a d
-      → (dev.Tells → IsSoundOver (meaning p) dev a d → Leaves (filing_by p a) (state_over (meaning p) dev a d) None (disk (dev.time d))) → Puts p dev a index key value (Ok a) d d
+  pub put_nothing : sec < 2 ^ 64 → skip ≡ true → (d : D) → MayUse (meaning p) dev a d
+      → (dev.Tells → IsSoundOver (meaning p) dev a d → Leaves (filing_by p a) (state_over (meaning p) dev a d) None (disk (dev.time d))) → Puts p dev times a index key value (Ok a) d d
   put_nothing small taken d over rest = record {
     changes = record {
-      moments = λ t sound. put_unmoved (p.see a) index sec refl key value 0 dev.time d d (rest t sound) refl;
+      moments = λ t sound. put_unmoved (p.see a) index sec refl key value 0 times dev.time d d (rest t sound) refl;
       footprint = footprint_none dev (IsOwn (filing_by p a).layout (λ _. ⊤)) NoBound d d refl;
       ends = record {
         over = over;
         alike = alike_as p a a refl (λ v accepts. accepts);
         sound = λ t sound. sound;
-        step = λ t sound. sym (put_taken (p.see a) (disk (dev.time d)) index key value (over.listed t) taken);
+        step = λ t sound. step_by times (p.see a).items index key value (state_over (meaning p) dev a d) (state_over (meaning p) dev a d)
+            (sym (put_skipped (p.see a) (disk (dev.time d)) index key value (over.listed t) times taken));
         rest = rest;
       };
     };
     footprint = footprint_none dev (IsBlobAt (filing_by p a) index) NoBound d d refl;
-    taken = λ is. (refl, refl);
+    skipped = λ is. (refl, refl);
     below = λ room. refl;
     refuses = record {
       over_limit = λ free none. absurd (cc (taken, free));
@@ -130,6 +134,7 @@ module _ {A V S D : Type 0} {gs : _} (p : Prunable A V (AppendFactory S) (PageBl
         most_records = refl;
       };
       word = refl;
+      floor = refl;
       bounds = (
         record { place = record { partition = refl; factory = refl }; floor = refl; ceiling = refl },
         record { place = record { partition = refl; factory = refl }; floor = refl; ceiling = refl },
@@ -152,13 +157,13 @@ module _ {A V S D : Type 0} {gs : _} (p : Prunable A V (AppendFactory S) (PageBl
 
   -- ---- where it is free
 
-  module _ (small : sec < 2 ^ 64) (free : is_taken (p.see a) index ≡ false) where
+  module _ (small : sec < 2 ^ 64) (free : skip ≡ false) where
     failed : (e : Error) (old new : D) → PutMoments old new → Footprint dev (IsBlobAt (filing_by p a) index) NoBound old new → (HasBufferRoom (p.see a) index size → new ≡ old)
-        → Refuses (p.see a) index size {A = A} dev.Tells (Err e) old new → PutFailed p dev a index size e old new → Puts p dev a index key value (Err e) old new
+        → Refuses (p.see a) index skip size {A = A} dev.Tells (Err e) old new → PutFailed p dev times a index size e old new → Puts p dev times a index key value (Err e) old new
     failed e old new moments touched below refuses why = record {
       changes = record { moments = moments; footprint = all_own small old new touched; ends = put_fault dev.Tells (dev.faults old) (dev.faults new) e why.cause };
       footprint = touched;
-      taken = λ is. absurd (cc (is, free));
+      skipped = λ is. absurd (cc (is, free));
       below = below;
       refuses = refuses;
       ends = why;
@@ -168,10 +173,10 @@ module _ {A V S D : Type 0} {gs : _} (p : Prunable A V (AppendFactory S) (PageBl
 
     module _ (d : D) (rest : dev.Tells → IsSoundOver (meaning p) dev a d → Leaves (filing_by p a) (state_over (meaning p) dev a d) None (disk (dev.time d))) where
       still : PutMoments d d
-      still t sound = put_unmoved (p.see a) index sec refl key value 0 dev.time d d (rest t sound) refl
+      still t sound = put_unmoved (p.see a) index sec refl key value 0 times dev.time d d (rest t sound) refl
 
       -- the limits are reached
-      pub put_over_limit : (IsAllowed (p.see a) index → ⊥) → Puts p dev a index key value (Err Full) d d
+      pub put_over_limit : (IsAllowed (p.see a) index → ⊥) → Puts p dev times a index key value (Err Full) d d
       put_over_limit none = failed Full d d still (footprint_none dev (IsBlobAt (filing_by p a) index) NoBound d d refl) (λ room. refl)
           (record {
             over_limit = λ _ _. (refl, refl);
@@ -181,7 +186,7 @@ module _ {A V S D : Type 0} {gs : _} (p : Prunable A V (AppendFactory S) (PageBl
           (record { cause = record { free = free; full = inl none }; unwritten = λ _. refl })
 
       -- memory was short
-      pub put_no_memory : IsAllowed (p.see a) index → Puts p dev a index key value (Err Mem) d d
+      pub put_no_memory : IsAllowed (p.see a) index → Puts p dev times a index key value (Err Mem) d d
       put_no_memory allowed = failed Mem d d still (footprint_none dev (IsBlobAt (filing_by p a) index) NoBound d d refl) (λ room. refl)
           (record {
             over_limit = λ _ none. absurd (none allowed);
@@ -209,7 +214,7 @@ module _ {A V S D : Type 0} {gs : _} (p : Prunable A V (AppendFactory S) (PageBl
     pub failed_here : {T : Type 0} (s : ℕ) → s ≡ sec → (e : journal.Error) (old new : D) → PairFailed T s e old new → PairFailed T sec e old new
     failed_here {T} s is e old new says = subst (λ (x : ℕ). PairFailed T x e old new) is says
 
-    module _ (allowed : IsAllowed (p.see a) index) (floor : (p.see a).pair.index.sections.floor ≡ 0) {T : Type 0} (e : journal.Error) (old new : D) (says : PairFailed T sec e old new) where
+    module _ (allowed : IsAllowed (p.see a) index) (floor : (p.see a).pair.index.sections.floor ≤ sec) {T : Type 0} (e : journal.Error) (old new : D) (says : PairFailed T sec e old new) where
       same_error : (x : journal.Error) → IsErrOf {T = T} (Err e) x → e ≡ x
       same_error x is = cc is
 
@@ -219,9 +224,9 @@ module _ {A V S D : Type 0} {gs : _} (p : Prunable A V (AppendFactory S) (PageBl
       not_pruned : IsPruned {T = T} (Err e) (p.see a).pair.index.sections.floor → ⊥
       not_pruned pruned = omega (arith, (says.guard.0 pruned).1, floor)
 
-      cause_as : (x : journal.Error) → IsErrOf {T = T} (Err e) x → IsPutCause (p.see a) index size dev.Tells (dev.faults old) (dev.faults new) (raised x)
-          → IsPutCause (p.see a) index size dev.Tells (dev.faults old) (dev.faults new) (raised e)
-      cause_as x is cause = subst (λ (y : journal.Error). IsPutCause (p.see a) index size dev.Tells (dev.faults old) (dev.faults new) (raised y)) (sym (same_error x is)) cause
+      cause_as : (x : journal.Error) → IsErrOf {T = T} (Err e) x → IsPutCause (p.see a) index skip size dev.Tells (dev.faults old) (dev.faults new) (raised x)
+          → IsPutCause (p.see a) index skip size dev.Tells (dev.faults old) (dev.faults new) (raised e)
+      cause_as x is cause = subst (λ (y : journal.Error). IsPutCause (p.see a) index skip size dev.Tells (dev.faults old) (dev.faults new) (raised y)) (sym (same_error x is)) cause
 
       fits : IsErrOf {T = T} (Err e) section.Full → size ≤ 2 ^ 32 - 1
       fits full = elim (cases_lt (2 ^ 32 - 1) size) [
@@ -229,7 +234,7 @@ module _ {A V S D : Type 0} {gs : _} (p : Prunable A V (AppendFactory S) (PageBl
         | inr le ↦ le
       ]
 
-      put_cause : IsPutCause (p.see a) index size dev.Tells (dev.faults old) (dev.faults new) (raised e)
+      put_cause : IsPutCause (p.see a) index skip size dev.Tells (dev.faults old) (dev.faults new) (raised e)
       put_cause = elim says.cause [
         | inl large ↦ cause_as section.ValueTooLarge large (record { free = free; allowed = allowed; large = says.too_large.0 large })
         | inr (inl pruned) ↦ absurd (not_pruned pruned)
@@ -239,7 +244,7 @@ module _ {A V S D : Type 0} {gs : _} (p : Prunable A V (AppendFactory S) (PageBl
         | inr (inr (inr (inr (inr fault)))) ↦ cause_as (section.Runtime runtime.Fault) fault.0 fault.1
       ]
 
-      pub put_pair_failed : PutMoments old new → PairTouches sec old new → Puts p dev a index key value (Err (raised e)) old new
+      pub put_pair_failed : PutMoments old new → PairTouches sec old new → Puts p dev times a index key value (Err (raised e)) old new
       put_pair_failed moments touches = failed (raised e) old new moments (touched_by old new touches) (below_by old new touches)
           (record {
             over_limit = λ _ none. absurd (none allowed);
@@ -267,9 +272,9 @@ module _ {A V S D : Type 0} {gs : _} (p : Prunable A V (AppendFactory S) (PageBl
         → (dev.Tells → IsSomeAnd ((p.see a).pair.index.sections.held sec) (λ u. 2 ^ 64 ≤ extent u.page_size (size_of (page_blob.shown u) + (filing_by p a).layout.record_size))
         ⊎ IsSomeAnd ((p.see a).pair.values.held sec) (λ v. 2 ^ 64 ≤ count_of v + size) → ⊥)
         → MayUse (meaning p) dev r new → filing_by p r ≡ filing_by p a → ((v : V) → p.Accepts a v → p.Accepts r v) → (dev.Tells → IsSoundOver (meaning p) dev a old → IsSoundOver (meaning p) dev r new)
-        → (dev.Tells → IsSoundOver (meaning p) dev a old → state_over (meaning p) dev r new ≡ after_put (p.see a).items index key value (state_over (meaning p) dev a old))
+        → (dev.Tells → IsSoundOver (meaning p) dev a old → state_over (meaning p) dev r new ≡ after_putting times (p.see a).items index key value (state_over (meaning p) dev a old))
         → (dev.Tells → IsSoundOver (meaning p) dev r new → Leaves (filing_by p r) (state_over (meaning p) dev r new) None (disk (dev.time new)))
-        → PutDone p dev a index key size r → Puts p dev a index key value (Ok r) old new
+        → PutDone p dev times a index key size r → Puts p dev times a index key value (Ok r) old new
     put_added r old new allowed moments touches few room over same accepts sound_now step rest done = record {
       changes = record {
         moments = moments;
@@ -278,12 +283,12 @@ module _ {A V S D : Type 0} {gs : _} (p : Prunable A V (AppendFactory S) (PageBl
           over = over;
           alike = alike_as p a r same accepts;
           sound = sound_now;
-          step = step;
+          step = λ t sound. step_by times (p.see a).items index key value (state_over (meaning p) dev a old) (state_over (meaning p) dev r new) (step t sound);
           rest = λ t sound. rest t (sound_now t sound);
         };
       };
       footprint = touched_by old new touches;
-      taken = λ is. absurd (cc (is, free));
+      skipped = λ is. absurd (cc (is, free));
       below = below_by old new touches;
       refuses = record {
         over_limit = λ _ none. absurd (none allowed);

@@ -13,6 +13,7 @@ use Rattle.segments.specs.Sections.{key_of}
 use Rattle.segments.specs.declared.journal.Error.TheVariants as journal
 use Rattle.paired.specs.Frames.{HasFrame, IsBroken}
 use Rattle.paired.specs.GlobSections as glob
+use Rattle.paired.proofs.PairFailing.{rose_before}
 use Rattle.archives.specs.Archives.{Archive}
 use Rattle.archives.specs.Gets.{IsReadCause}
 use Rattle.archives.specs.Reading.{NamesPlace}
@@ -81,35 +82,38 @@ module _ {F S : Type 0} {gs : _} (a : Archive F (PageBlob S gs)) (d : Disk) (tol
   read_fault AtSome before now e cause (inl is) = subst (IsReadCause a d told AtSome before now) is cause
   read_fault AtSome before now e cause (inr is) = absurd (subst (IsReadCause a d told AtSome before now) is cause)
 
-  -- a cause at one place is one at some place
-  module _ (AtSome More : (ℕ → ℕ → Type 0) → Type 0) (to : (P : ℕ → ℕ → Type 0) → AtSome P → More P) (before now : ℕ) where
-    pub cause_met : (e : Error) → IsReadCause a d told AtSome before now e → IsReadCause a d told More before now e
-    cause_met Mem cause = tt
-    cause_met Full cause = absurd cause
-    cause_met RecordCorrupted cause = absurd cause
-    cause_met (Journal (journal.Runtime runtime.Fault)) cause = cause
-    cause_met (Journal (journal.Runtime (runtime.InvalidChecksum k))) cause = λ t. to _ (cause t)
-    cause_met (Journal (journal.Runtime runtime.BlobInsufficientLength)) cause = λ t. to _ (cause t)
-    cause_met (Journal (journal.Runtime runtime.OffsetOverflow)) cause = λ t. to _ (cause t)
-    cause_met (Journal (journal.Runtime runtime.Mem)) cause = absurd cause
-    cause_met (Journal (journal.Metadata m)) cause = absurd cause
-    cause_met (Journal (journal.Codec x)) cause = λ t. to _ (cause t)
-    cause_met (Journal (journal.InvalidBlobName x)) cause = absurd cause
-    cause_met (Journal (journal.ItemOutOfRange x)) cause = cause
-    cause_met (Journal (journal.SectionOutOfRange x)) cause = λ t. to _ (cause t)
-    cause_met (Journal (journal.AlreadyPrunedToSection x)) cause = absurd cause
-    cause_met (Journal (journal.ChecksumMismatch x y)) cause = λ t. to _ (cause t)
-    cause_met (Journal journal.ValueTooLarge) cause = absurd cause
-    cause_met (Journal journal.OffsetOverflow) cause = absurd cause
-    cause_met (Journal (journal.Corruption x)) cause = absurd cause
-    cause_met (Journal journal.ReplayFailed) cause = absurd cause
-    cause_met (Journal journal.Full) cause = absurd cause
-    cause_met (Journal journal.Mem) cause = absurd cause
-    cause_met (Metadata (metadata.Runtime runtime.Fault)) cause = absurd cause
-    cause_met (Metadata (metadata.Runtime (runtime.InvalidChecksum k))) cause = absurd cause
-    cause_met (Metadata (metadata.Runtime runtime.BlobInsufficientLength)) cause = absurd cause
-    cause_met (Metadata (metadata.Runtime runtime.OffsetOverflow)) cause = absurd cause
-    cause_met (Metadata (metadata.Runtime runtime.Mem)) cause = absurd cause
-    cause_met (Metadata (metadata.Corruption x)) cause = absurd cause
-    cause_met (Metadata metadata.Full) cause = absurd cause
-    cause_met (Metadata metadata.Mem) cause = absurd cause
+  -- A cause at one place is one at some place. It stays one where faults were counted before, and on a disk that is the same where it is told.
+  module _ (AtSome More : (ℕ → ℕ → Type 0) → Type 0) (to : (P : ℕ → ℕ → Type 0) → AtSome P → More P) (start before now : ℕ) (since : start ≤ before) (x : Disk) (same : told → x ≡ d) where
+    on_disk : (e : Error) → told → IsReadCause a x told AtSome before now e → IsReadCause a d told AtSome before now e
+    on_disk e t cause = subst (λ (y : Disk). IsReadCause a y told AtSome before now e) (same t) cause
+
+    pub cause_since : (e : Error) → IsReadCause a x told AtSome before now e → IsReadCause a d told More start now e
+    cause_since Mem cause = tt
+    cause_since Full cause = absurd cause
+    cause_since RecordCorrupted cause = absurd cause
+    cause_since (Journal (journal.Runtime runtime.Fault)) cause = rose_before start before now since cause
+    cause_since (Journal (journal.Runtime (runtime.InvalidChecksum k))) cause = λ t. to _ (on_disk (Journal (journal.Runtime (runtime.InvalidChecksum k))) t cause t)
+    cause_since (Journal (journal.Runtime runtime.BlobInsufficientLength)) cause = λ t. to _ (on_disk (Journal (journal.Runtime runtime.BlobInsufficientLength)) t cause t)
+    cause_since (Journal (journal.Runtime runtime.OffsetOverflow)) cause = λ t. to _ (on_disk (Journal (journal.Runtime runtime.OffsetOverflow)) t cause t)
+    cause_since (Journal (journal.Runtime runtime.Mem)) cause = absurd cause
+    cause_since (Journal (journal.Metadata m)) cause = absurd cause
+    cause_since (Journal (journal.Codec c)) cause = λ t. to _ (on_disk (Journal (journal.Codec c)) t cause t)
+    cause_since (Journal (journal.InvalidBlobName n)) cause = absurd cause
+    cause_since (Journal (journal.ItemOutOfRange n)) cause = cause
+    cause_since (Journal (journal.SectionOutOfRange n)) cause = λ t. to _ (on_disk (Journal (journal.SectionOutOfRange n)) t cause t)
+    cause_since (Journal (journal.AlreadyPrunedToSection n)) cause = absurd cause
+    cause_since (Journal (journal.ChecksumMismatch i j)) cause = λ t. to _ (on_disk (Journal (journal.ChecksumMismatch i j)) t cause t)
+    cause_since (Journal journal.ValueTooLarge) cause = absurd cause
+    cause_since (Journal journal.OffsetOverflow) cause = absurd cause
+    cause_since (Journal (journal.Corruption n)) cause = absurd cause
+    cause_since (Journal journal.ReplayFailed) cause = absurd cause
+    cause_since (Journal journal.Full) cause = absurd cause
+    cause_since (Journal journal.Mem) cause = absurd cause
+    cause_since (Metadata (metadata.Runtime runtime.Fault)) cause = absurd cause
+    cause_since (Metadata (metadata.Runtime (runtime.InvalidChecksum k))) cause = absurd cause
+    cause_since (Metadata (metadata.Runtime runtime.BlobInsufficientLength)) cause = absurd cause
+    cause_since (Metadata (metadata.Runtime runtime.OffsetOverflow)) cause = absurd cause
+    cause_since (Metadata (metadata.Runtime runtime.Mem)) cause = absurd cause
+    cause_since (Metadata (metadata.Corruption n)) cause = absurd cause
+    cause_since (Metadata metadata.Full) cause = absurd cause
+    cause_since (Metadata metadata.Mem) cause = absurd cause

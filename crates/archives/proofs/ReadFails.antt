@@ -140,7 +140,7 @@ module _ {T : Type 0} (U : Type 0) (r : Result T Error) (e : journal.Error) (is 
 
   -- ---- the record
 
-  pub record_error : (floor s p a b : ℕ) → floor ≡ 0 → (segments.IsPruned below floor ↔ (s < floor))
+  pub record_error : (floor s p a b : ℕ) → floor ≤ s → (segments.IsPruned below floor ↔ (s < floor))
       → segments.IsPruned below floor ⊎ (fixed.IsAbsent below s ⊎ (IsPast below p ⊎ HasNotRead below a b)) → HasReadingError r ⊎ HasFailed r a b
   record_error floor s p a b none guard (inl pruned) = absurd (omega (arith, guard.0 pruned, none))
   record_error floor s p a b none guard (inr (inl absent)) = inl (inl (s, raise (section.SectionOutOfRange s) (Journal (section.SectionOutOfRange s)) refl absent))
@@ -151,7 +151,7 @@ module _ {T : Type 0} (U : Type 0) (r : Result T Error) (e : journal.Error) (is 
 
   -- ---- the value
 
-  pub value_error : (floor s a b : ℕ) → floor ≡ 0 → (segments.IsPruned below floor ↔ (s < floor)) → Why U e floor s a b → HasReadingError r ⊎ HasFailed r a b
+  pub value_error : (floor s a b : ℕ) → floor ≤ s → (segments.IsPruned below floor ↔ (s < floor)) → Why U e floor s a b → HasReadingError r ⊎ HasFailed r a b
   value_error floor s a b none guard (inl pruned) = absurd (omega (arith, guard.0 pruned, none))
   value_error floor s a b none guard (inr (inl absent)) = inl (inl (s, raise (section.SectionOutOfRange s) (Journal (section.SectionOutOfRange s)) refl absent))
   value_error floor s a b none guard (inr (inr (inl over))) = inl (inr (inr (inr (inr (inl (raise (section.Runtime OffsetOverflow) (Journal (section.Runtime OffsetOverflow)) refl over))))))

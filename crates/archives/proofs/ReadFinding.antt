@@ -21,12 +21,12 @@ use Rattle.archives.proofs.ReadRecords.{from_map, listed, some_value, to_map, un
 
 -- ---- elements of a list
 
-both_at : {X : Type 0} (P Q : X → Type 0) (o : Option X) → IsSomeAnd o P → IsSomeAnd o Q → IsSomeAnd o (λ x. P x × Q x)
+pub both_at : {X : Type 0} (P Q : X → Type 0) (o : Option X) → IsSomeAnd o P → IsSomeAnd o Q → IsSomeAnd o (λ x. P x × Q x)
 both_at P Q None is too = is
 both_at P Q (Some x) is too = (is, too)
 
 -- an element at a place is one of the list
-contains_at : {X : Type 0} (xs : List X) (p : ℕ) (x : X) → slice_get xs p ≡ Some x → Contains xs x
+pub contains_at : {X : Type 0} (xs : List X) (p : ℕ) (x : X) → slice_get xs p ≡ Some x → Contains xs x
 contains_at [] p x is = absurd (cc is)
 contains_at (y ∷ ys) zero x is = (0, omega arith, cc is)
 contains_at (y ∷ ys) (suc p) x is = let m = contains_at ys p x is in (suc m.0, omega (arith, m.1), m.2)
@@ -98,11 +98,11 @@ module _ {F S : Type 0} {gs : _} (a : Archive F (PageBlob S gs)) where
 
   module _ (d : Disk) (shows : (s : ℕ) → a.rows s ≡ map (row_in a.key_size) (records_of a.pair d s)) where
     -- a row is that of an entry
-    to_list : (P : Row → Type 0) (s p : ℕ) → IsSomeAnd (slice_get (a.rows s) p) P → IsSomeAnd (slice_get (list_of a.pair d s) p) (λ e. P (row_in a.key_size e.stored))
+    pub to_list : (P : Row → Type 0) (s p : ℕ) → IsSomeAnd (slice_get (a.rows s) p) P → IsSomeAnd (slice_get (list_of a.pair d s) p) (λ e. P (row_in a.key_size e.stored))
     to_list P s p is = listed a.pair d s p (λ e. P (row_in a.key_size e.stored)) (λ r has. has)
         (from_map (row_in a.key_size) P (records_of a.pair d s) p (subst (λ (rows : List Row). IsSomeAnd (slice_get rows p) P) (shows s) is))
 
-    from_list : (P : Row → Type 0) (s p : ℕ) → IsSomeAnd (slice_get (list_of a.pair d s) p) (λ e. P (row_in a.key_size e.stored)) → IsSomeAnd (slice_get (a.rows s) p) P
+    pub from_list : (P : Row → Type 0) (s p : ℕ) → IsSomeAnd (slice_get (list_of a.pair d s) p) (λ e. P (row_in a.key_size e.stored)) → IsSomeAnd (slice_get (a.rows s) p) P
     from_list P s p is = subst (λ (rows : List Row). IsSomeAnd (slice_get rows p) P) (sym (shows s))
         (to_map (row_in a.key_size) P (records_of a.pair d s) p (unlisted a.pair d s p (λ e. P (row_in a.key_size e.stored)) (λ r has. has) is))
 

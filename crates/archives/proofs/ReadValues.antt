@@ -3,7 +3,6 @@ use Rattle.std.proofs.Common.{◌≡◌, ◌≢◌, ◌⊎◌, inl, inr, sym, �
 use Rattle.std.specs.List.{AllByRecursion}
 use Rattle.std.specs.Result.{IsErrOf}
 use Rattle.blob_device.specs.Disk.{Disk, Key}
-use Rattle.blob_device.proofs.Puts.{same_or_other}
 use Rattle.blob_device.specs.Opened.{Opened, OpenedList, reads_of}
 use Rattle.blob_device.specs.declared.runtime.RError.TheVariants.{BlobInsufficientLength, Fault, InvalidChecksum, OffsetOverflow}
 use Rattle.value_codec.specs.declared.codec.Error as codec
@@ -44,6 +43,7 @@ archive_read a archive new e pair same = record {
   items = archive.items;
   floor = archive.floor;
   pair_floor = archive.pair_floor;
+  below = λ s low. (let bare = archive.below s low in record { rows = bare.rows; records = bare.records; values = bare.values });
   listed = λ t s. archive.listed t s ∙ ap (λ (x : Disk). map (row_in a.key_size) (records_of a.pair x s)) (sym (same t));
   spelled = λ t s. subst (λ (x : Disk). AllByRecursion (IsSpelled a.key_size) (records_of a.pair x s)) (sym (same t)) (archive.spelled t s);
   filled = archive.filled;
@@ -61,47 +61,22 @@ pub other_blob : (one two : List ℕ) (s : ℕ) → one ≢ two → section_key 
 other_blob one two s apart same = apart (ap (λ (q : Key). q.0) same)
 
 -- the first blob was read, and then the second one
-module _ (n : ℕ) (one two : Key) (apart : one ≢ two) (old mid new : OpenedList) (first : ReadsAtMost n one old mid) (second : ReadsAtMost 1 two mid new) where
+module _ (n : ℕ) (one two : Key) (apart : one ≢ two) (old mid new : OpenedList) (others : (q : Key) → (q ≡ one → ⊥) → mid q ≡ old q) (reads : reads_of (mid one) ≤ reads_of (old one) + n) (second : ReadsAtMost 1 two mid new) where
   pub both_read : (reads_of (new one) ≤ reads_of (old one) + n) × (reads_of (new two) ≤ reads_of (old two) + 1)
   both_read = (
-    subst (λ (o : Option Opened). reads_of o ≤ reads_of (old one) + n) (sym (second.others one apart)) first.reads,
-    subst (λ (o : Option Opened). reads_of (new two) ≤ reads_of o + 1) (first.others two (λ is. apart (sym is))) second.reads,
+    subst (λ (o : Option Opened). reads_of o ≤ reads_of (old one) + n) (sym (second.others one apart)) reads,
+    subst (λ (o : Option Opened). reads_of (new two) ≤ reads_of o + 1) (others two (λ is. apart (sym is))) second.reads,
   )
 
   pub others_same : (q : Key) → q ≢ one → q ≢ two → new q ≡ old q
-  others_same q not_one not_two = second.others q not_two ∙ first.others q not_one
-
--- only the first one was
-pub first_read : (n : ℕ) (one two : Key) → one ≢ two → (old new : OpenedList) → ReadsAtMost n one old new → (reads_of (new one) ≤ reads_of (old one) + n) × (reads_of (new two) ≤ reads_of (old two) + 1)
-first_read n one two apart old new first = (
-  first.reads,
-  subst (λ (o : Option Opened). reads_of o ≤ reads_of (old two) + 1) (sym (first.others two (λ is. apart (sym is)))) (omega arith),
-)
-
--- Where each section that is looked at allows the reads of one record and of one value, so does each other one.
-pub at_most : (n : ℕ) (one two : List ℕ) (p s : ℕ) → one ≢ two → (old new : OpenedList) → ((q : Key) → q ≢ section_key one p → q ≢ section_key two p → new q ≡ old q)
-    → (reads_of (new (section_key one p)) ≤ reads_of (old (section_key one p)) + n) × (reads_of (new (section_key two p)) ≤ reads_of (old (section_key two p)) + 1)
-    → (reads_of (new (section_key one s)) ≤ reads_of (old (section_key one s)) + n) × (reads_of (new (section_key two s)) ≤ reads_of (old (section_key two s)) + 1)
-at_most n one two p s apart old new others reads = (
-  elim (same_or_other (section_key one s) (section_key one p)) [
-    | inl here ↦ subst (λ (q : Key). reads_of (new q) ≤ reads_of (old q) + n) (sym here) reads.0
-    | inr other ↦ unread n (section_key one s) (others (section_key one s) other (λ same. apart (ap (λ (q : Key). q.0) same)))
-  ],
-  elim (same_or_other (section_key two s) (section_key two p)) [
-    | inl here ↦ subst (λ (q : Key). reads_of (new q) ≤ reads_of (old q) + 1) (sym here) reads.1
-    | inr other ↦ unread 1 (section_key two s) (others (section_key two s) (λ same. apart (ap (λ (q : Key). q.0) (sym same))) other)
-  ],
-)
-  where
-    unread : (m : ℕ) (q : Key) → new q ≡ old q → reads_of (new q) ≤ reads_of (old q) + m
-    unread m q same = subst (λ (o : Option Opened). reads_of o ≤ reads_of (old q) + m) (sym same) (omega arith)
+  others_same q not_one not_two = second.others q not_two ∙ others q not_one
 
 -- ---- the value of a record
 
 module _ {F S : Type 0} {gs : _} (a : Archive F (PageBlob S gs)) (e : Disk) (s at n : ℕ) where
   -- What the pair says of a place where it failed to read a value. A floor is one of the pair's sections.
   pub record Says (U : Type 0) (x : journal.Error) (floor b c : ℕ) : Type 0 where
-    pub none : floor ≡ 0
+    pub none : floor ≤ s
     pub guard : segments.IsPruned {T = U} (Err x) floor ↔ (s < floor)
     pub absent : frames.IsAbsent {T = U} (Err x) s ↔ ((floor ≤ s) × (a.pair.values.held s ≡ None))
     pub overflow : frames.IsOverflow {T = U} (Err x) ↔ ((floor ≤ s) × IsHeld a.pair.values s × (2 ^ 64 ≤ at + n))

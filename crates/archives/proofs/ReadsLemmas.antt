@@ -17,11 +17,11 @@ use Rattle.paired.specs.Pair.{list_of}
 use Rattle.archives.specs.Changes.{IsSoundOver, MayUse, state_over}
 use Rattle.archives.specs.Finding.{Index, Wanted, get_command, has_command}
 use Rattle.archives.specs.Finding as wanted_by
-use Rattle.archives.specs.Gets.{Gets, Has, HasToLookIn, IsReadCause, IsSectionBlob, SomeToLookAt, Reads, ReadsRecord, ReadsWanted}
+use Rattle.archives.specs.Gets.{Gets, Has, HasNotRead, HasToLookIn, IsReadCause, IsSectionBlob, SomeToLookAt, Reads, ReadsRecord, ReadsWanted}
 use Rattle.archives.specs.Prunable.{HasToLook, Prunable, filing_by, meaning}
 use Rattle.archives.specs.Replies as reply
 use Rattle.archives.specs.declared.error.Error.{Error}
-use Rattle.archives.proofs.ReadCauses.{HasCause, HasFailed, HasReadingError, cause_met, failure_of, read_cause, read_fault}
+use Rattle.archives.proofs.ReadCauses.{HasCause, HasFailed, HasReadingError, cause_since, failure_of, read_cause, read_fault}
 
 module _ {A V F S D : Type 0} {gs : _} (p : Prunable A V F (PageBlob S gs)) (dev : device.Ghosts D) (a : A) where
   -- ---- one record
@@ -35,6 +35,21 @@ module _ {A V F S D : Type 0} {gs : _} (p : Prunable A V F (PageBlob S gs)) (dev
       pub reads : (reads_of (dev.opened new (section_key (filing_by p a).layout.index s)) ≤ reads_of (dev.opened old (section_key (filing_by p a).layout.index s)) + ((filing_by p a).layout.record_size / (filing_by p a).layout.page_size + 2))
           × (reads_of (dev.opened new (section_key (filing_by p a).layout.values s)) ≤ reads_of (dev.opened old (section_key (filing_by p a).layout.values s)) + 1)
       pub faults : dev.faults old ≤ dev.faults new
+
+    -- Why the record or its value is not read, by the result of the call.
+    pub not_read : {T : Type 0} (r : Result T Error) (e : Error) → r ≡ Err e → HasReadingError r ⊎ HasFailed r (dev.faults old) (dev.faults new) → (dev.Tells → HasCause (p.see a) (disk (dev.time old)) s at r)
+        → (dev.Tells → IsSoundOver (meaning p) dev a old → HasFailed r (dev.faults old) (dev.faults new)) → HasNotRead p dev a s at e old new
+    not_read {T} r e is cause causes gives = record {
+      cause = here;
+      unanswered = record {
+        gives = λ t sound. failure_of {T = T} e (dev.faults old) (dev.faults new) (subst (λ (x : Result T Error). HasFailed x (dev.faults old) (dev.faults new)) is (gives t sound));
+        fault = read_fault (p.see a) (disk (dev.time old)) dev.Tells (λ P. P s at) (dev.faults old) (dev.faults new) e here;
+      };
+    }
+      where
+        here : IsReadCause (p.see a) (disk (dev.time old)) dev.Tells (λ P. P s at) (dev.faults old) (dev.faults new) e
+        here = read_cause (p.see a) (disk (dev.time old)) dev.Tells s at (dev.faults old) (dev.faults new) T e (subst (λ (x : Result T Error). HasReadingError x ⊎ HasFailed x (dev.faults old) (dev.faults new)) is cause)
+            (λ t. subst (HasCause (p.see a) (disk (dev.time old)) s at) is (causes t))
 
     module _ (does : Reading) where
       reads_by : (q : Key) (n : ℕ) → ReadsRecord (filing_by p a).layout s q n → reads_of (dev.opened new q) ≤ reads_of (dev.opened old q) + n
@@ -54,24 +69,8 @@ module _ {A V F S D : Type 0} {gs : _} (p : Prunable A V F (PageBlob S gs)) (dev
         faults = does.faults;
       }
 
-      pub read_failed : (r : Result V Error) (e : Error) → r ≡ Err e → HasReadingError r ⊎ HasFailed r (dev.faults old) (dev.faults new) → (dev.Tells → HasCause (p.see a) (disk (dev.time old)) s at r)
-          → (dev.Tells → IsSoundOver (meaning p) dev a old → HasFailed r (dev.faults old) (dev.faults new)) → Reads p dev a s at r old new
-      read_failed r e is cause causes gives = subst (λ (x : Result V Error). Reads p dev a s at x old new) (sym is) (record {
-        over = does.over;
-        unchanged = does.unchanged;
-        footprint = touched_by;
-        ends = record {
-          cause = here;
-          unanswered = record {
-            gives = λ t sound. failure_of {T = V} e (dev.faults old) (dev.faults new) (subst (λ (x : Result V Error). HasFailed x (dev.faults old) (dev.faults new)) is (gives t sound));
-            fault = read_fault (p.see a) (disk (dev.time old)) dev.Tells (λ P. P s at) (dev.faults old) (dev.faults new) e here;
-          };
-        };
-      })
-        where
-          here : IsReadCause (p.see a) (disk (dev.time old)) dev.Tells (λ P. P s at) (dev.faults old) (dev.faults new) e
-          here = read_cause (p.see a) (disk (dev.time old)) dev.Tells s at (dev.faults old) (dev.faults new) V e (subst (λ (x : Result V Error). HasReadingError x ⊎ HasFailed x (dev.faults old) (dev.faults new)) is cause)
-              (λ t. subst (HasCause (p.see a) (disk (dev.time old)) s at) is (causes t))
+      pub read_failed : (e : Error) → HasNotRead p dev a s at e old new → Reads p dev a s at (Err e) old new
+      read_failed e why = record { over = does.over; unchanged = does.unchanged; footprint = touched_by; ends = why }
 
       pub read_done : (v : V) → (dev.Tells → IsSomeAnd (slice_get (list_of (p.see a).pair (disk (dev.time old)) s) at) (λ e. e.value ≡ p.spelling v)) → p.Accepts a v → Reads p dev a s at (Ok v) old new
       read_done v value accepted = record { over = does.over; unchanged = does.unchanged; footprint = touched_by; ends = record { value = value; accepted = accepted } }
@@ -125,7 +124,8 @@ module _ {A V F S D : Type 0} {gs : _} (p : Prunable A V F (PageBlob S gs)) (dev
       asks = record { over = reads.over; unchanged = reads.unchanged; footprint = own_touches reads.footprint; ends = reads.ends.unanswered };
       footprint = wanted_touches reads.footprint;
       none = λ far. absurd (far (s, at, looks, tt));
-      ends = cause_met (p.see a) (disk (dev.time old)) dev.Tells (λ P. P s at) (SomeToLookAt p dev a wanted) (λ P has. (s, at, looks, has)) (dev.faults old) (dev.faults new) e reads.ends.cause;
+      ends = cause_since (p.see a) (disk (dev.time old)) dev.Tells (λ P. P s at) (SomeToLookAt p dev a wanted) (λ P has. (s, at, looks, has)) (dev.faults old) (dev.faults old) (dev.faults new) (omega arith) (disk (dev.time old)) (λ t. refl) e
+          reads.ends.cause;
     })
 
     pub get_done : (v : V) → Reads p dev a s at (Ok v) old new

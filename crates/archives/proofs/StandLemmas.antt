@@ -1,5 +1,5 @@
 -- What an image of a pair stands for, where the pair's lists are filed as an archive files them.
-use Rattle.std.proofs.Common.{◌≡◌, ◌≢◌, inl, inr, refl, sym, ◌∙◌, ap, subst, ℕ, zero, suc, ◌<◌, ◌≤◌, ◌^◌, List, [], ◌∷◌, length, take, map, Option, None, arith}
+use Rattle.std.proofs.Common.{◌≡◌, ◌≢◌, ◌⊎◌, inl, inr, refl, sym, ◌∙◌, ap, subst, ℕ, zero, suc, ◌<◌, ◌≤◌, ◌^◌, List, [], ◌∷◌, length, take, map, Option, None, arith}
 use Rattle.std.specs.List.{AllByRecursion}
 use Rattle.std.specs.List.Sorted.{IsStrictlySortedBy}
 use Rattle.std.specs.Ordering.{nat_cmp}
@@ -13,11 +13,11 @@ use Rattle.paired.specs.Records as pair
 use Rattle.paired.proofs.OpeningEnds.{follow_first}
 use Rattle.paired.proofs.RecordLemmas.{all_take, all_by}
 use Rattle.archives.specs.Commands.{Command}
-use Rattle.archives.specs.Filing.{Filing, filed, kept_entries}
+use Rattle.archives.specs.Filing.{Filing, filed, kept, kept_entries}
 use Rattle.archives.specs.IndexRecord.{index_of}
 use Rattle.archives.specs.Lawful.{Lawful}
 use Rattle.archives.specs.Machine.{State, section_of}
-use Rattle.archives.specs.Standing.{StandsFor, submitted}
+use Rattle.archives.specs.Standing.{IsGoing, IsPrefix, StandsFor, submitted}
 
 -- the lists are those of an archive: what a lawful image asks of what it stores and keeps
 pub record AreFiled (f : Filing) (wanted : ℕ → List pair.Entry) : Type 0 where
@@ -39,8 +39,9 @@ nothing_taken zero xs none = refl
 nothing_taken (suc n) [] none = refl
 nothing_taken (suc n) (x ∷ xs) none = absurd (cc none)
 
-module _ (f : Filing) (wanted : ℕ → List pair.Entry) (synced : ℕ → ℕ) (image : Image) (filing : AreFiled f wanted) (names : AreNamed f.layout image)
-    (keeps : Keeps f.layout wanted synced (λ _. ⊥) image) where
+-- Where some sections are going, the pair may keep nothing of these.
+module _ (f : Filing) (wanted : ℕ → List pair.Entry) (synced : ℕ → ℕ) (Goes : ℕ → Type 0) (image : Image) (filing : AreFiled f wanted) (names : AreNamed f.layout image)
+    (keeps : Keeps f.layout wanted synced Goes image) where
   abbrev own_markers : Markers
   own_markers = keeps.markers
 
@@ -48,10 +49,7 @@ module _ (f : Filing) (wanted : ℕ → List pair.Entry) (synced : ℕ → ℕ) 
   kept_here s = kept_entries f image own_markers s
 
   is_first : (s : ℕ) → s < 2 ^ 64 → kept_here s ≡ take (length (kept_here s)) (wanted s)
-  is_first s small = elim (keeps.lists s small) as (λ _. kept_here s ≡ take (length (kept_here s)) (wanted s)) [ inl prefix ↦ prefix.same | inr gone ↦ absurd gone.1 ]
-
-  is_enough : (s : ℕ) → s < 2 ^ 64 → synced s ≤ length (kept_here s)
-  is_enough s small = elim (keeps.lists s small) as (λ _. synced s ≤ length (kept_here s)) [ inl prefix ↦ prefix.synced | inr gone ↦ absurd gone.1 ]
+  is_first s small = elim (keeps.lists s small) as (λ _. kept_here s ≡ take (length (kept_here s)) (wanted s)) [ inl prefix ↦ prefix.same | inr gone ↦ gone.0 ∙ sym (ap (λ (ks : List pair.Entry). take (length ks) (wanted s)) gone.0) ]
 
   no_longer : (s : ℕ) → s < 2 ^ 64 → length (kept_here s) ≤ length (wanted s)
   no_longer s small = omega (arith, ap length (is_first s small) ∙ length-take (length (kept_here s)) (wanted s))
@@ -83,18 +81,32 @@ module _ (f : Filing) (wanted : ℕ → List pair.Entry) (synced : ℕ → ℕ) 
     few_records = λ s small. omega (arith, no_longer s small, filing.few_records s small);
   }
 
-  -- So the image stands for a state whose submitted lists are these, and in which no more is synced.
+  -- So the image stands for a state whose submitted lists are these, in which no more is synced, and whose
+  -- command under way takes what goes.
+  pub keeps_going : (st : State (List ℕ)) (under_way : Option (Command (List ℕ)))
+      → ((s : ℕ) → s < 2 ^ 64 → submitted f.items st under_way s ≡ map (filed f) (wanted s))
+      → ((s : ℕ) → s < 2 ^ 64 → st.synced s ≤ synced s)
+      → ((s : ℕ) → s < 2 ^ 64 → Goes s → IsGoing f.items st under_way s)
+      → StandsFor f st under_way image
+  keeps_going st under_way same fewer goes = record {
+    markers = own_markers;
+    lawful = lawful;
+    each = λ s small. elim (keeps.lists s small) as (λ _. IsPrefix f st under_way image own_markers s ⊎ ((kept f image own_markers s ≡ []) × IsGoing f.items st under_way s)) [
+      | inl prefix ↦ inl (record {
+        same =
+            let n : length (map (filed f) (kept_here s)) ≡ length (kept_here s) = length-map (kept_here s) (filed f) in
+            ap (map (filed f)) (is_first s small) ∙ sym (take-map (filed f) (length (kept_here s)) (wanted s)) ∙ ap (take (length (kept_here s))) (sym (same s small)) ∙ ap (λ (m : ℕ). take m (submitted f.items st under_way s)) (sym n);
+        synced = let enough = prefix.synced in omega (arith, fewer s small, enough, length-map (kept_here s) (filed f));
+      })
+      | inr gone ↦ inr (ap (map (filed f)) gone.0, goes s small gone.1)
+    ];
+  }
+
+module _ (f : Filing) (wanted : ℕ → List pair.Entry) (synced : ℕ → ℕ) (image : Image) (filing : AreFiled f wanted) (names : AreNamed f.layout image)
+    (keeps : Keeps f.layout wanted synced (λ _. ⊥) image) where
+  -- so it does where none goes
   pub keeps_stand : (st : State (List ℕ)) (under_way : Option (Command (List ℕ)))
       → ((s : ℕ) → s < 2 ^ 64 → submitted f.items st under_way s ≡ map (filed f) (wanted s))
       → ((s : ℕ) → s < 2 ^ 64 → st.synced s ≤ synced s)
       → StandsFor f st under_way image
-  keeps_stand st under_way same fewer = record {
-    markers = own_markers;
-    lawful = lawful;
-    each = λ s small. inl (record {
-      same =
-          let n : length (map (filed f) (kept_here s)) ≡ length (kept_here s) = length-map (kept_here s) (filed f) in
-          ap (map (filed f)) (is_first s small) ∙ sym (take-map (filed f) (length (kept_here s)) (wanted s)) ∙ ap (take (length (kept_here s))) (sym (same s small)) ∙ ap (λ (m : ℕ). take m (submitted f.items st under_way s)) (sym n);
-      synced = omega (arith, fewer s small, is_enough s small, length-map (kept_here s) (filed f));
-    });
-  }
+  keeps_stand st under_way same fewer = keeps_going f wanted synced (λ _. ⊥) image filing names keeps st under_way same fewer (λ s small goes. absurd goes)

@@ -13,7 +13,6 @@ use Rattle.blob_device.proofs.Moments.{always_now, always_weaker}
 use Rattle.sealed_pages.specs.declared.page_blob.PageBlob.{PageBlob}
 use Rattle.sealed_pages.specs.declared.write_blob.WriteBlob.{WriteBlob}
 use Rattle.segments.specs.Sections.{section_key, IsHeld}
-use Rattle.segments.proofs.KeyLemmas.{key_injective}
 use Rattle.segments.proofs.WalkLemmas.{none_or_value}
 use Rattle.value_codec.specs.declared.codec.Error as codec
 use Rattle.paired.specs.Crashes.{IsOwn, LeavesAlone}
@@ -26,7 +25,6 @@ use Rattle.paired.specs.PairSync.{IsSyncOf, SyncKeeps}
 use Rattle.paired.specs.Places.{Follow}
 use Rattle.paired.specs.Records as stored
 use Rattle.paired.proofs.KeptLemmas.{follow_least}
-use Rattle.paired.proofs.OpenParts.{keys_apart}
 use Rattle.paired.proofs.PairReads.{index_size, leaves_now}
 use Rattle.paired.proofs.RecordLemmas.{all_by, length-records}
 use Rattle.archives.specs.Archives.{Archive, IsArchive, IsSoundArchive, LeavesNoForeign, filing_of, state_of}
@@ -35,7 +33,8 @@ use Rattle.archives.specs.IndexRecord.{IsSpelled}
 use Rattle.archives.specs.Machine.{Entry, State, after_sync}
 use Rattle.archives.specs.Rows.{row_in}
 use Rattle.archives.specs.Standing.{Leaves}
-use Rattle.archives.proofs.ArchiveStands.{are_filed, glob_buffers, names_left, no_foreign, stands_at, stored_again}
+use Rattle.archives.proofs.ArchiveStands.{are_filed, glob_buffers, names_left, no_foreign, stands_at, stored_again, values_apart}
+use Rattle.archives.proofs.PuttingLemmas.{none_still}
 use Rattle.archives.proofs.StandLemmas.{keeps_stand}
 
 -- places that follow each other end at one place only
@@ -48,14 +47,14 @@ follow_none : (place : List ℕ → ℕ × ℕ) (rs : List (List ℕ)) → Follo
 follow_none place [] follow = refl
 follow_none place (r ∷ rs) follow = absurd (omega (arith, follow.1, follow_least place (0 + (place r).1) rs 0 follow.2))
 
-true_or_false : (b : Bool) → IsTrue b ⊎ (b ≡ false)
+pub true_or_false : (b : Bool) → IsTrue b ⊎ (b ≡ false)
 true_or_false true = inl refl
 true_or_false false = inr refl
 
 not_true : (b : Bool) → b ≡ false → IsTrue b → ⊥
 not_true b is has = absurd (cc (is, has))
 
-not_false : (b : Bool) → (IsTrue b → ⊥) → b ≡ false
+pub not_false : (b : Bool) → (IsTrue b → ⊥) → b ≡ false
 not_false true not = absurd (not refl)
 not_false false not = refl
 
@@ -141,7 +140,14 @@ module _ {F S : Type 0} {gs : _} (a : Archive F (PageBlob S gs)) where
         pair = pair;
         items = archive.items;
         floor = archive.floor;
-        pair_floor = sync.bounds.0.floor ∙ archive.pair_floor;
+        pair_floor = omega (arith, sync.bounds.0.floor, archive.pair_floor);
+        below = λ s low.
+            (let bare = archive.below s low in
+            record {
+              rows = bare.rows;
+              records = none_still (a.pair.index.sections.held s) (p.index.sections.held s) (sync.held s).0 bare.records;
+              values = none_still (a.pair.values.held s) (p.values.held s) (sync.values_held s).0 bare.values;
+            });
         listed = λ t s. archive.listed t s ∙ ap (map (row_in a.key_size)) (sym (records_same a.pair p d e s (lists t s)));
         spelled = λ t s. subst (AllByRecursion (IsSpelled a.key_size)) (sym (records_same a.pair p d e s (lists t s))) (archive.spelled t s);
         filled = archive.filled;
@@ -178,11 +184,8 @@ module _ {F S : Type 0} {gs : _} (a : Archive F (PageBlob S gs)) where
           module _ (others : (q : Key) → (IsOwn a.pair.layout (λ s. IsNamed s × IsHeld a.pair.index.sections s) q → ⊥) → e q ≡ d q) (written : (s : ℕ) → IsNamed s → IsHeld a.pair.values s) where
             -- a section's values that are not held are none of the blobs that change
             not_touched : (s : ℕ) → s < 2 ^ 64 → a.pair.values.held s ≡ None → IsOwn a.pair.layout (λ s. IsNamed s × IsHeld a.pair.index.sections s) (section_key a.pair.layout.values s) → ⊥
-            not_touched s small none own = elim own [
-              | inl blob ↦ keys_apart a.pair.layout.index a.pair.layout.values archive.pair.apart.values s blob.0 blob.3
-              | inr (inl blob) ↦ (let same : s ≡ blob.0 = key_injective a.pair.layout.values s blob.0 small blob.1 blob.3 in absurd (cc (none, subst (IsHeld a.pair.values) (sym same) (written blob.0 blob.2.0))))
-              | inr (inr copy) ↦ archive.pair.apart.both (ap (λ (q : Key). q.0) copy.1)
-            ]
+            not_touched s small none =
+                values_apart a.pair.layout archive.pair.apart (λ s. IsNamed s × IsHeld a.pair.index.sections s) (λ s. IsNamed s × IsHeld a.pair.index.sections s) s small (λ is. (let held = written s is.0 in cc (none, held)))
 
             pub synced_sound : ((bytes : List ℕ) → refusal bytes ≡ a.refusal bytes) → IsSoundArchive synced_archive e
             synced_sound refuses = record {

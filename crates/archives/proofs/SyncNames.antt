@@ -5,18 +5,21 @@ use Rattle.blob_device.specs.Timeline.{Timeline, disk, Always}
 use Rattle.blob_device.proofs.Moments.{always_now, always_weaker}
 use Rattle.sealed_pages.specs.declared.page_blob.PageBlob.{PageBlob}
 use Rattle.segments.specs.Sections.{IsHeld}
-use Rattle.paired.specs.Crashes.{IsOwn}
+use Rattle.paired.specs.Crashes.{IsOneOf, IsOwn}
 use Rattle.paired.specs.Kept.{Layout}
 use Rattle.paired.specs.Pair.{Pair, IsMoving}
 use Rattle.paired.specs.PairSync.{IsSyncOf, SyncKeeps}
 
--- a blob of one section among some is one of one among more
-pub own_more : (l : Layout) (P Q : ℕ → Type 0) → ((s : ℕ) → P s → Q s) → (q : Key) → IsOwn l P q → IsOwn l Q q
-own_more l P Q more q own = elim own [
-  | inl blob ↦ inl (blob.0, blob.1, more blob.0 blob.2, blob.3)
-  | inr (inl blob) ↦ inr (inl (blob.0, blob.1, more blob.0 blob.2, blob.3))
+-- a blob of one section among some, of records or of values, is one of one among more
+pub one_more : (l : Layout) (P Q R : ℕ → Type 0) → ((s : ℕ) → P s → R s) → ((s : ℕ) → Q s → R s) → (q : Key) → IsOneOf l P Q q → IsOwn l R q
+one_more l P Q R first second q one = elim one [
+  | inl blob ↦ inl (blob.0, blob.1, first blob.0 blob.2, blob.3)
+  | inr (inl blob) ↦ inr (inl (blob.0, blob.1, second blob.0 blob.2, blob.3))
   | inr (inr copy) ↦ inr (inr copy)
 ]
+
+pub own_more : (l : Layout) (P Q : ℕ → Type 0) → ((s : ℕ) → P s → Q s) → (q : Key) → IsOwn l P q → IsOwn l Q q
+own_more l P Q more = one_more l P P Q more more
 
 module _ {F S : Type 0} {gs : _} (p : Pair F (PageBlob S gs)) (P A Q : ℕ → Type 0) (named : (s : ℕ) → P s ↔ Q s) (active : (s : ℕ) → A s ↔ Q s) where
   -- some marker moves

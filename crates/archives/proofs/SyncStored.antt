@@ -1,5 +1,5 @@
 -- Where a sync has settled a section: all bytes of its values are in the blob, and nothing of it is left to flush.
-use Rattle.std.proofs.Common.{◌≡◌, inl, inr, refl, sym, ◌∙◌, ap, subst, ℕ, ◌*◌, ◌/◌, ◌%◌, ◌-◌, ◌^◌, ◌<◌, ◌≤◌, [], length, Bool, true, false, cond, Option, None, Some, IsSome, IsSomeAnd, arith}
+use Rattle.std.proofs.Common.{◌≡◌, inl, inr, refl, sym, ◌∙◌, ap, subst, ℕ, ◌*◌, ◌/◌, ◌%◌, ◌^◌, ◌<◌, ◌≤◌, [], length, Bool, true, false, cond, Option, None, Some, IsSome, IsSomeAnd, arith}
 use Rattle.std.proofs.Math.Nat.{div-add-mod}
 use Rattle.std.specs.Prelude.{unwrap_or}
 use Rattle.blob_device.specs.Disk.{Blob, Disk}

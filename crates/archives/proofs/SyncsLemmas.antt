@@ -149,7 +149,10 @@ module _ {A V S D : Type 0} {gs : _} (p : Prunable A V (AppendFactory S) (PageBl
           → (dev.Tells → FaultsInOrder (p.see a).pair first (error_in U e) (dev.faults old) (dev.faults new) (dev.time old) (dev.time new))
           → Syncs p dev a (Err (raised e)) old new
       sync_pair_failed U e why guard full lost fault =
-          let unpruned : IsPruned (error_in U e) (p.see a).pair.index.sections.floor → ⊥ = λ pruned. (let low = (guard.0 pruned).2 in omega (arith, low, over.pair_floor)) in
+          let unpruned : IsPruned (error_in U e) (p.see a).pair.index.sections.floor → ⊥ = λ pruned.
+          (let found = guard.0 pruned in
+          let low = found.2 in
+          over.written found.0 ((named found.0).0 found.1) (over.below found.0 (omega (arith, low, over.pair_floor))).rows) in
           sync_failed old new moments_by touched_by idle_by (raised e) (record {
             cause = stopped_cause (p.see a) U e (p.see a).pair.index.sections.floor (dev.faults old) (dev.faults new) why unpruned
                 (λ is. ((full is).0, moving_as (p.see a).pair first second (IsWritten (p.see a)) named active (full is).1)) (λ is. moving_as (p.see a).pair first second (IsWritten (p.see a)) named active (lost is));

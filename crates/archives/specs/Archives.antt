@@ -15,7 +15,7 @@ use Rattle.segments.specs.Sections.{section_key}
 use Rattle.paired.specs.Pair.{HasNoBytes, Pair, IsPair, IsSoundOn, length_of, list_of, records_of, synced_length}
 use Rattle.archives.specs.Filing.{Filing, filed}
 use Rattle.archives.specs.IndexRecord.{IsSpelled}
-use Rattle.archives.specs.Machine.{State}
+use Rattle.archives.specs.Machine.{State, section_of}
 use Rattle.archives.specs.Rows.{AreWithin, Row, has_row, row_in}
 
 -- What an archive shows: its pair; how many indices a section has room for, how many bytes a key has, and why the
@@ -54,6 +54,12 @@ filing_of a = record {
   most_records = a.most_records;
 }
 
+-- nothing is held of a section: no row, and no buffer of its records or of its values
+pub record IsBare {F B : Type 0} (a : Archive F B) (s : ℕ) : Type 0 where
+  pub rows : a.rows s ≡ []
+  pub records : a.pair.index.sections.held s ≡ None
+  pub values : a.pair.values.held s ≡ None
+
 -- no crash leaves a blob in the partitions of records and values whose name is no section's
 pub record LeavesNoForeign (l : Layout) (d : Disk) : Type 0 where
   pub index : (name c : List ℕ) → MayLeave (d (l.index, name)) (Some c) → length name ≡ 8
@@ -81,16 +87,17 @@ module _ {F S : Type 0} {gs : _} (a : Archive F (PageBlob S gs)) where
           → HasNoBytes (d (section_key a.pair.layout.values s))
       pub names : LeavesNoForeign a.pair.layout d
 
-  -- The archive may be used: its pair may; the rows are those of the records, each of them spelled, and in its
-  -- section, and no more than the limits allow; the set of indices is theirs; nothing was pruned; what is not synced
-  -- is in sections that were written; and each of these has a row, and, where the disk is told, something that is not
-  -- synced.
+  -- The archive may be used: its pair may; the rows are those of the records, each of them spelled, and in
+  -- its section, and no more than the limits allow; the set of indices is theirs; the floor is the start of a
+  -- section, and nothing is held of one below it; what is not synced is in sections that were written; and
+  -- each of these has a row, and, where the disk is told, something that is not synced.
   pub record IsArchive (buffers : Buffers F (PageBlob S gs)) (told : Type 0) (opened : OpenedList)
       (d : Disk) : Type 0 where
     pub pair : IsPair buffers.pages buffers.gives buffers.values buffers.takes told a.pair opened d
     pub items : 1 ≤ a.items
-    pub floor : a.floor ≡ 0
-    pub pair_floor : a.pair.index.sections.floor ≡ 0
+    pub floor : section_of a.items a.floor ≡ a.floor
+    pub pair_floor : a.pair.index.sections.floor ≤ a.floor
+    pub below : (s : ℕ) → s < a.floor → IsBare a s
     pub listed : told → (s : ℕ) → a.rows s ≡ map (row_in a.key_size) (records_of a.pair d s)
     pub spelled : told → (s : ℕ) → AllByRecursion (IsSpelled a.key_size) (records_of a.pair d s)
     pub filled : a.Filled

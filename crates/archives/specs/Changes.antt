@@ -1,6 +1,6 @@
 -- What every archive promises of a call, whatever kind it is of: the call is the step of its command, at each moment
 -- a crash leaves what stands for the state with that command under way, and no blob of anybody else is touched.
-use Rattle.std.specs.Prelude.{◌≡◌, ◌⊎◌, ◌↔◌, ℕ, Bool, List, Option, Some, None, Result, Ok, Err, IfOk, option_map}
+use Rattle.std.specs.Prelude.{◌≡◌, ◌⊎◌, ◌↔◌, ℕ, Bool, List, map, Option, Some, None, Result, Ok, Err, IfOk, IsTrue, option_map}
 use Rattle.blob_device.specs.Counts.{Rose}
 use Rattle.blob_device.specs.Disk.{Disk, Key}
 use Rattle.blob_device.specs.Footprint.{Footprint, NoBound}
@@ -8,7 +8,7 @@ use Rattle.blob_device.specs.Opened.{OpenedList}
 use Rattle.blob_device.specs.Timeline.{Always, disk}
 use Rattle.blob_device.specs.declared.device.Device as device
 use Rattle.sealed_pages.specs.Reading.{Unchanged}
-use Rattle.archives.specs.Commands.{Command, IsOfEvery, PutStart, PutSync, Start, Sync}
+use Rattle.archives.specs.Commands.{All, Command, Destroy, HasAt, IsOfEvery, IsOfSeveral, Start, Sync}
 use Rattle.archives.specs.Finding.{Index, Wanted, get_command, has_command}
 use Rattle.archives.specs.Machine as machine
 use Rattle.archives.specs.Refusing.{IsFailure, IsFault}
@@ -22,6 +22,10 @@ Asked = Command (List ℕ)
 
 abbrev pub Replied : Type 0
 Replied = Reply (List ℕ)
+
+-- no blob that has P is there
+abbrev pub NoneThere : (Key → Type 0) → Disk → Type 0
+NoneThere P d = (q : Key) → P q → IsTrue (d q).there → ⊥
 
 -- a result whose value is seen so
 abbrev pub outcome : {T U E : Type 0} → (T → U) → Result T E → Result U E
@@ -59,6 +63,14 @@ pub record Meaning (A V : Type 0) : Type 1 where
       → (i : ℕ) → has a i ≡ machine.has_index (items a) (seen (state a d)) i
   -- its configuration allows the value
   pub Accepts : A → V → Type 0
+
+-- Of an archive that may have several records at an index: each step of a command on these is one of the
+-- record machine.
+abbrev pub HasSeveral : {A V : Type 0} → Meaning A V → Type 0
+HasSeveral {A} m = (a : A) (st next : m.State) (command : Asked) (reply : Replied)
+    → IsOfSeveral command
+    → m.Step a st command reply next
+    → machine.Step (m.items a) (m.seen st) command reply (m.seen next)
 
 -- One archive goes on as the other did: it takes just the same steps, leaves just the same, has just the same blobs,
 -- and allows what that one does.
@@ -120,10 +132,11 @@ module _ {A V D : Type 0} (m : Meaning A V) (dev : device.Ghosts D) where
     -- how it ended
     pub ends : ChangeEnds a command result old new
 
-  -- A put that makes all durable, by a sync or by one that is started: both are the same.
-  abbrev pub ChangesDurably : A → ℕ → List ℕ → List ℕ → Result A Error → D → D → Type 0
-  ChangesDurably a index key value result old new = (command : Asked)
-      → (command ≡ PutSync index key value) ⊎ (command ≡ PutStart index key value) → Changes a command result old new
+  -- A put that makes all durable, by a sync or by one that is started: both commands are the same.
+  abbrev pub ChangesDurably : A → (synced started : Asked) → Result A Error → D → D → Type 0
+  ChangesDurably a synced started result old new = (command : Asked)
+      → (command ≡ synced) ⊎ (command ≡ started)
+      → Changes a command result old new
 
   -- A sync, or one that is started. It is a step also of an archive that is not sound.
   pub record Settles (a : A) (result : Result A Error) (old new : D) : Type 0 where
@@ -132,6 +145,36 @@ module _ {A V D : Type 0} (m : Meaning A V) (dev : device.Ghosts D) where
     -- the call was a step, also where the archive is not sound
     pub step : dev.Tells → (command : Asked) → (command ≡ Sync) ⊎ (command ≡ Start)
         → IfOk result (λ r. m.Step a (state_over a old) command reply.Done (state_over r new))
+
+  -- ---- the call that removes an archive
+
+  -- The archive is gone, and the state of its machine is one that it comes to by the step.
+  pub record Destroyed (a : A) (old new : D) : Type 0 where
+    -- the state
+    pub next : dev.Tells → IsSoundOver a old → m.State
+    -- the call was a step to it
+    pub step : (t : dev.Tells) (sound : IsSoundOver a old)
+        → m.Step a (state_over a old) Destroy reply.Done (next t sound)
+    -- no blob of the archive is there
+    pub gone : dev.Tells → NoneThere (m.IsOwn a) (disk (dev.time new))
+    -- each crash now leaves what stands for it
+    pub rest : (t : dev.Tells) (sound : IsSoundOver a old)
+        → m.Leaves a (next t sound) None (disk (dev.time new))
+
+  abbrev pub DestroyEnds : A → Result Unit Error → D → D → Type 0
+  DestroyEnds a (Ok done) old new = Destroyed a old new
+  DestroyEnds a (Err e) old new = IsFault e → Rose (dev.faults old) (dev.faults new)
+
+  -- A call that removes the archive a.
+  pub record Destroys (a : A) (result : Result Unit Error) (old new : D) : Type 0 where
+    -- at each moment, also where it fails, each crash leaves what stands for the state with the removal under
+    -- way
+    pub moments : dev.Tells → IsSoundOver a old
+        → Always (dev.time old) (dev.time new) (m.Leaves a (state_over a old) (Some Destroy))
+    -- no blob is touched but the archive's own
+    pub footprint : Footprint dev (m.IsOwn a) NoBound old new
+    -- how it ended
+    pub ends : DestroyEnds a result old new
 
   -- ---- calls that ask
 
@@ -162,6 +205,14 @@ module _ {A V D : Type 0} (m : Meaning A V) (dev : device.Ghosts D) where
   -- the value of what is wanted, where values are spelled so
   abbrev pub AsksValue : (V → List ℕ) → A → Wanted → Result (Option V) Error → D → D → Type 0
   AsksValue spelling a wanted = Asks a (get_command wanted) (λ v. reply.Value (option_map spelling v))
+
+  -- all values at an index
+  abbrev pub AsksAll : (V → List ℕ) → A → ℕ → Result (Option (List V)) Error → D → D → Type 0
+  AsksAll spelling a index = Asks a (All index) (λ vs. reply.Values (option_map (map spelling) vs))
+
+  -- whether a record has both this index and this key
+  abbrev pub AsksAt : A → ℕ → List ℕ → Result Bool Error → D → D → Type 0
+  AsksAt a index key = Asks a (HasAt index key) reply.Flag
 
   -- Whether it is there. By index it always answers, and does not touch the device.
   pub record AsksWhether (a : A) (wanted : Wanted) (result : Result Bool Error) (old new : D) : Type 0 where

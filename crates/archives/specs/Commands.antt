@@ -59,4 +59,30 @@ IsOfEvery (All index) = ⊥
 IsOfEvery (HasAt index key) = ⊥
 IsOfEvery (Prune bound) = ⊥
 IsOfEvery Reopen = ⊥
-IsOfEvery Destroy = ⊥
+IsOfEvery Destroy = ⊤
+
+-- a command that an archive has which may keep several records at an index
+abbrev pub IsOfSeveral : {V : Type 0} → Command V → Type 0
+IsOfSeveral (Multi index key value) = ⊤
+IsOfSeveral (MultiSync index key value) = ⊤
+IsOfSeveral (MultiStart index key value) = ⊤
+IsOfSeveral (All index) = ⊤
+IsOfSeveral (HasAt index key) = ⊤
+IsOfSeveral (Put index key value) = ⊥
+IsOfSeveral (PutSync index key value) = ⊥
+IsOfSeveral (PutStart index key value) = ⊥
+IsOfSeveral (Get index) = ⊥
+IsOfSeveral (GetKey key) = ⊥
+IsOfSeveral (Has index) = ⊥
+IsOfSeveral (HasKey key) = ⊥
+IsOfSeveral (Gap index) = ⊥
+IsOfSeveral (Missing index count) = ⊥
+IsOfSeveral Ranges = ⊥
+IsOfSeveral (RangesFrom index) = ⊥
+IsOfSeveral First = ⊥
+IsOfSeveral Last = ⊥
+IsOfSeveral Sync = ⊥
+IsOfSeveral Start = ⊥
+IsOfSeveral (Prune bound) = ⊥
+IsOfSeveral Reopen = ⊥
+IsOfSeveral Destroy = ⊥

@@ -33,6 +33,10 @@ pub record IsSameFiling (f g : Filing) : Type 0 where
   pub most_sections : g.most_sections ≡ f.most_sections
   pub most_records : g.most_records ≡ f.most_records
 
+-- the floor that markers hold, below which an image keeps nothing: none is stored
+abbrev pub floor_of : Markers → ℕ
+floor_of markers = 0
+
 module _ (f : Filing) where
   -- a record as the machine has it: the index and the key that its bytes say, and the spelling of its value
   abbrev pub filed : stored.Entry → Entry (List ℕ)

@@ -1,17 +1,11 @@
--- What an archive tells of its indices: each answer is a fact of the set that they are.
-use Rattle.std.specs.Prelude.{◌≡◌, ℕ, List, Option, Result, Ok, Err}
-use Rattle.ordinal_store.specs.Numbers.{Set, AreMissing, IsNextRun, IsRunEnd}
+-- What an archive tells of its indices: each answer is a fact of the set that they are, as the store of values by index tells it.
+use Rattle.std.specs.Prelude.{ℕ, List, Result}
+use Rattle.ordinal_store.specs.Indices as indices
+use Rattle.ordinal_store.specs.Numbers.{Set}
 use Rattle.archives.specs.declared.error.Error.{Error}
 use Rattle.archives.specs.declared.error.Error.TheVariants.{Mem}
-
--- Where the run of indices ends, and where the next one begins.
-pub record IsGap (set : Set) (index : ℕ) (gap : Option ℕ × Option ℕ) : Type 0 where
-  -- the end of the run that holds the index, if it is in the set
-  pub end : IsRunEnd set index gap.0
-  -- the start of the first run that begins above it, if there is one
-  pub next : IsNextRun set index gap.1
+pub use Rattle.ordinal_store.specs.Indices.{IsGap}
 
 -- The first so many absent indices from one on, of which each has an index above it; or want of memory.
 abbrev pub GivesMissing : Set → ℕ → ℕ → Result (List ℕ) Error → Type 0
-GivesMissing set start most (Ok numbers) = AreMissing set start most numbers
-GivesMissing set start most (Err e) = e ≡ Mem
+GivesMissing set start most result = indices.GivesMissing Mem set start most result

@@ -1,7 +1,8 @@
--- What this layer means to the layers above: which replies a list of commands may get, as a run of a machine whose
--- state is a list of records for each section; and which images are lawful for an archive, what they keep, and which
--- states they stand for. `Changes` has what every archive promises of its calls, and `Indices` what it tells of its
--- indices; `Puts`, `Syncs`, `Gets` and `Opens` what the prunable one does beside.
+-- What this layer means to the layers above: which replies a list of commands may get, as a run of a machine
+-- whose state is a list of records for each section; and which images are lawful for an archive, what they
+-- keep, and which states they stand for. `Changes` has what every archive promises of its calls, and
+-- `Indices` what it tells of its indices; `Puts`, `Syncs`, `Prunes`, `Gets`, `Entries`, `Opens` and
+-- `Destroys` what the prunable one does beside.
 pub mod Commands
 pub mod Replies
 pub mod Machine
@@ -32,7 +33,10 @@ pub mod Opening
 pub mod Changes
 pub mod Puts
 pub mod Syncs
+pub mod Prunes
+pub mod Destroys
 pub mod Gets
+pub mod Entries
 pub mod Enters
 pub mod Opens
 pub mod Outlasts

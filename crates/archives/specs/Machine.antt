@@ -53,6 +53,11 @@ abbrev pub all_values : {V : Type 0} → List (Entry V) → Option (List V)
 all_values [] = None
 all_values (r ∷ rs) = Some (map (λ q. q.value) (r ∷ rs))
 
+-- keys and values of all records in list order, if there are any
+abbrev pub all_entries : {V : Type 0} → List (Entry V) → Option (List (List ℕ × V))
+all_entries [] = None
+all_entries (r ∷ rs) = Some (map (λ q. (q.key, q.value)) (r ∷ rs))
+
 -- some record has this whole key, and this value
 abbrev pub HasEntry : {V : Type 0} → State V → List ℕ → V → Type 0
 HasEntry {V} st key value = (s : ℕ) × (r : Entry V) × Contains (st.lists s) r × (r.key ≡ key) × (r.value ≡ value)
@@ -105,13 +110,18 @@ after_prune items bound st =
 abbrev pub after_destroy : {V : Type 0} → State V → State V
 after_destroy st = record { is_open = false; lists = λ s. []; synced = λ s. 0; floor = st.floor }
 
--- each section is cut to some length from its synced to its whole length, and is synced whole; the floor is 0; open
+-- what is left of a floor once the archive is opened again: none, since it is not stored
+abbrev pub stored_floor : ℕ → ℕ
+stored_floor floor = 0
+
+-- each section is cut to some length from its synced to its whole length, and is synced whole; of the floor
+-- is left what is stored; open
 pub record IsReopened {V : Type 0} (old new : State V) : Type 0 where
   pub opened : new.is_open ≡ true
   pub cut : (s : ℕ) → new.lists s ≡ take (length (new.lists s)) (old.lists s)
   pub at_least : (s : ℕ) → old.synced s ≤ length (new.lists s)
   pub synced : (s : ℕ) → new.synced s ≡ length (new.lists s)
-  pub floor : new.floor ≡ 0
+  pub floor : new.floor ≡ stored_floor old.floor
 
 -- ---- steps and runs
 
@@ -172,10 +182,17 @@ abbrev pub asked : {K V W : Type 0} → (K → List ℕ) → (V → W) → askin
 asked key_bytes spelled (ask.Put index key value) = Put index (key_bytes key) (spelled value)
 asked key_bytes spelled (ask.PutSync index key value) = PutSync index (key_bytes key) (spelled value)
 asked key_bytes spelled (ask.PutStart index key value) = PutStart index (key_bytes key) (spelled value)
+asked key_bytes spelled (ask.Multi index key value) = Multi index (key_bytes key) (spelled value)
+asked key_bytes spelled (ask.MultiSync index key value) =
+    MultiSync index (key_bytes key) (spelled value)
+asked key_bytes spelled (ask.MultiStart index key value) =
+    MultiStart index (key_bytes key) (spelled value)
 asked key_bytes spelled (ask.Get index) = Get index
 asked key_bytes spelled (ask.GetKey key) = GetKey (key_bytes key)
 asked key_bytes spelled (ask.Has index) = Has index
 asked key_bytes spelled (ask.HasKey key) = HasKey (key_bytes key)
+asked key_bytes spelled (ask.HasAt index key) = HasAt index (key_bytes key)
+asked key_bytes spelled (ask.All index) = All index
 asked key_bytes spelled (ask.Gap index) = Gap index
 asked key_bytes spelled (ask.Missing index count) = Missing index count
 asked key_bytes spelled ask.Ranges = Ranges
@@ -184,14 +201,18 @@ asked key_bytes spelled ask.First = First
 asked key_bytes spelled ask.Last = Last
 asked key_bytes spelled ask.Sync = Sync
 asked key_bytes spelled ask.Start = Start
+asked key_bytes spelled (ask.Prune bound) = Prune bound
 asked key_bytes spelled ask.Reopen = Reopen
+asked key_bytes spelled ask.Destroy = Destroy
 
 -- a reply whose value is seen as spelled
 abbrev pub replied : {V W : Type 0} → (V → W) → answering.Reply V → Reply W
 replied spelled answer.Done = reply.Done
 replied spelled (answer.Value value) = reply.Value (option_map spelled value)
+replied spelled (answer.Values values) = reply.Values (option_map (map spelled) values)
 replied spelled (answer.Flag holds) = reply.Flag holds
 replied spelled (answer.Gap end next) = reply.Gap end next
 replied spelled (answer.Items numbers) = reply.Items numbers
 replied spelled (answer.Ranges runs) = reply.Ranges runs
 replied spelled (answer.Index index) = reply.Index index
+replied spelled answer.Closed = reply.Closed

@@ -24,7 +24,7 @@ use Rattle.paired.specs.OpeningRefusing.{AreCounted, IsLost, IsProved}
 use Rattle.paired.specs.Pair.{length_of, records_of}
 use Rattle.archives.specs.Changes.{IsSoundOver, MayUse, state_over}
 use Rattle.archives.specs.Commands.{Reopen}
-use Rattle.archives.specs.Filing.{Filing, IsSameFiling, kept_entries}
+use Rattle.archives.specs.Filing.{Filing, IsSameFiling, floor_of, kept_entries}
 use Rattle.archives.specs.Lawful.{Lawful}
 use Rattle.archives.specs.Machine.{State, Step}
 use Rattle.archives.specs.Opening.{HasNoVersion, HasStray, IsPastLimits, LeavesLawful, OfKept}
@@ -202,6 +202,8 @@ module _ {A V S D : Type 0} {gs : _} (p : Prunable A V (AppendFactory S) (PageBl
       -- over any image: all bytes of a section's values are in its blob
       pub values : (s : ℕ) → s < 2 ^ 64
           → glob.section_size (p.see r).pair.values s ≡ length (content_at (as_read after) f.layout.values s)
+      -- the floor is that of the markers
+      pub floor : OfMarkers f before (λ markers. (p.see r).floor ≡ floor_of markers)
       -- of a lawful image the state is its start state
       pub start : (markers : Markers) → Lawful f (as_read before) markers
           → IsStart f (as_read before) markers (state_over (meaning p) dev r new)

@@ -10,10 +10,10 @@ use Rattle.paired.specs.Opening.{MayBeOpened, as_read}
 use Rattle.archives.specs.Changes.{IsSoundOver, state_over}
 use Rattle.archives.specs.Filing.{Filing}
 use Rattle.archives.specs.Lawful.{Lawful}
-use Rattle.archives.specs.Machine.{State, after_put, has_index, section_of}
+use Rattle.archives.specs.Machine.{State, has_index, section_of}
 use Rattle.archives.specs.Opening.{HasNoVersion}
 use Rattle.archives.specs.Prunable.{Prunable, filing_by, meaning}
-use Rattle.archives.specs.Putting.{IsAllowed, IsMovingAfter, IsPassed, WouldPass, is_taken}
+use Rattle.archives.specs.Putting.{IsAllowed, IsMovingAfter, IsPassed, Times, WouldPass, after_putting, is_skipped, is_taken}
 use Rattle.archives.specs.Rows.{HasRoom}
 use Rattle.archives.specs.Standing.{IsStart, Leaves}
 use Rattle.archives.specs.Syncing.{IsMoving, IsMovingIn}
@@ -35,9 +35,10 @@ module _ {A V F S D : Type 0} {gs : _} (p : Prunable A V F (PageBlob S gs)) (dev
     pub moving : IsMoving (p.see a)
         ↔ IsMovingIn (filing_by p a) (disk (dev.time now)) (state_over (meaning p) dev a now)
     -- and a put that syncs where the state after the put does
-    pub moving_after : (i : ℕ) (key value : List ℕ) → IsMovingAfter (p.see a) i
+    pub moving_after : (times : Times) (i : ℕ) (key value : List ℕ)
+        → IsMovingAfter (p.see a) i (is_skipped (p.see a) i times)
         ↔ IsMovingIn (filing_by p a) (disk (dev.time now))
-        (after_put (p.see a).items i key value (state_over (meaning p) dev a now))
+        (after_putting times (p.see a).items i key value (state_over (meaning p) dev a now))
     -- where the markers have no next version, those on the disk have none
     pub version : (2 ^ 64 ≤ (p.see a).pair.store.version + 1)
         ↔ HasNoVersion (filing_by p a).layout (disk (dev.time now))

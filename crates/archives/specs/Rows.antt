@@ -1,5 +1,5 @@
 -- What an archive holds in memory of its records: a row for each, by section and position.
-use Rattle.std.specs.Prelude.{◌≡◌, ◌≢◌, ◌⊎◌, ◌↔◌, ℕ, ◌<◌, ◌≤◌, ◌==◌, Bool, List, [], ◌∷◌, ◌++◌, length, map, Contains, Option, None, Some, IsSomeAnd, IsTrue, Result, Ok, Err}
+use Rattle.std.specs.Prelude.{◌≡◌, ◌≢◌, ◌⊎◌, ◌↔◌, ℕ, ◌<◌, ◌≤◌, ◌==◌, Bool, List, [], ◌∷◌, ◌++◌, length, map, filter, slice_get, Contains, Option, None, Some, IsSomeAnd, IsTrue, Result, Ok, Err}
 use Rattle.std.specs.List.{AllByRecursion, list_any}
 use Rattle.std.specs.List.Sorted.{IsStrictlySortedBy}
 use Rattle.std.specs.Global.{Vec}
@@ -23,6 +23,21 @@ row_in n r = record { index = index_of r; key = key_of n r }
 -- a row has the index, which is in the index's section
 abbrev pub has_row : ℕ → (ℕ → List Row) → ℕ → Bool
 has_row items rows index = list_any (λ r. r.index == index) (rows (section_of items index))
+
+-- How many rows have the index, and where they stand: the positions ascend, and are just those of these rows.
+abbrev pub count_with : List Row → ℕ → ℕ
+count_with rows index = length (filter (λ r. r.index == index) rows)
+
+pub record ArePositions (rows : List Row) (index : ℕ) (positions : List ℕ) : Type 0 where
+  -- in order, and each once
+  pub ascending : IsStrictlySortedBy nat_cmp positions
+  -- a row stands at each, with the index, and no other row has it
+  pub exact : (p : ℕ) → Contains positions p ↔ IsSomeAnd (slice_get rows p) (λ r. r.index ≡ index)
+
+-- the positions of the rows that have the index are found, or memory was short for that of one
+abbrev pub FindsPositions : {E : Type 0} → List Row → ℕ → Result (List ℕ) E → Type 0
+FindsPositions rows index (Ok positions) = ArePositions rows index positions
+FindsPositions rows index (Err e) = (p : ℕ) × IsSomeAnd (slice_get rows p) (λ r. r.index ≡ index)
 
 -- the numbers of the set are the indices of the rows, of whichever section
 abbrev pub AreIndicesOf : (ℕ → List Row) → Set → Type 0

@@ -34,7 +34,7 @@ shown {key = k} {codec = c} {seal = s} a = record {
   refusal = λ bytes. c.refusal bytes (pair_codec_config a.pair);
   most_sections = a.limits.sections;
   most_records = a.limits.per_section;
-  floor = 0;
+  floor = a.floor;
   rows = rows_of k.key_bytes a.tables;
   Filled = AreFilledBut (λ _. ⊥) a.tables;
   indices = set_of a.indices;

@@ -5,19 +5,19 @@ use Rattle.paired.specs.Crashes.{NoChanceSeal}
 use Rattle.paired.specs.Kept.{Markers}
 use Rattle.paired.specs.Opening.{HoldMarkers}
 use Rattle.archives.specs.Commands.{Command, Put, PutSync, PutStart, Multi, MultiSync, MultiStart, Prune, Destroy}
-use Rattle.archives.specs.Filing.{Filing, kept}
+use Rattle.archives.specs.Filing.{Filing, floor_of, kept}
 use Rattle.archives.specs.Lawful.{Lawful}
 use Rattle.archives.specs.Machine.{Entry, State, after_put, after_multi, section_of}
 
 -- The start state for an image that holds these markers: open, with what the image keeps, each section synced whole,
--- and nothing pruned. Behind the last section that a u64 names there is nothing.
+-- and the floor that is stored. Behind the last section that a u64 names there is nothing.
 pub record IsStart (f : Filing) (image : Image) (markers : Markers) (st : State (List ℕ)) : Type 0 where
   pub held : HoldMarkers f.layout image markers
   pub is_open : IsTrue st.is_open
   pub lists : (s : ℕ) → s < 2 ^ 64 → st.lists s ≡ kept f image markers s
   pub no_more : (s : ℕ) → 2 ^ 64 ≤ s → st.lists s ≡ []
   pub synced : (s : ℕ) → st.synced s ≡ length (st.lists s)
-  pub floor : st.floor ≡ 0
+  pub floor : st.floor ≡ floor_of markers
 
 -- the state with the record of the put under way, where its step appends it
 abbrev pub with_put : {V : Type 0} → ℕ → Option (Command V) → State V → State V

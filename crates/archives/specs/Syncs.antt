@@ -1,5 +1,5 @@
 -- What a sync promises, and a put that syncs.
-use Rattle.std.specs.Prelude.{◌≡◌, ◌⊎◌, ⊤, ℕ, ◌+◌, ◌<◌, ◌≤◌, ◌^◌, false, List, length, None, Result, Ok, Err}
+use Rattle.std.specs.Prelude.{◌≡◌, ◌⊎◌, ⊤, ℕ, ◌+◌, ◌<◌, ◌≤◌, ◌^◌, Bool, false, List, length, None, Result, Ok, Err}
 use Rattle.blob_device.specs.Counts.{Rose}
 use Rattle.blob_device.specs.Footprint.{Footprint, NoBound}
 use Rattle.blob_device.specs.Timeline.{Always, disk}
@@ -18,10 +18,10 @@ use Rattle.paired.specs.PairSync.{IsSyncOf}
 use Rattle.archives.specs.Archives.{Archive}
 use Rattle.archives.specs.Changes.{ChangesDurably, IsSoundOver, Settles, state_over}
 use Rattle.archives.specs.Filing.{IsSameFiling}
-use Rattle.archives.specs.Machine.{after_put, after_sync}
+use Rattle.archives.specs.Machine.{after_sync}
 use Rattle.archives.specs.Prunable.{Prunable, filing_by, meaning}
-use Rattle.archives.specs.Putting.{IsFullFor, IsFullOver, IsMovingAfter, IsTooLargeFor, IsWrittenAfter, frame_size, record_tail, value_tail}
-use Rattle.archives.specs.Puts.{Puts, Refuses}
+use Rattle.archives.specs.Putting.{IsFullFor, IsFullOver, IsMovingAfter, IsTooLargeFor, IsWrittenAfter, Times, after_putting, frame_size, put_start_command, put_sync_command, record_tail, value_tail}
+use Rattle.archives.specs.Puts.{Puts, Refuses, skips}
 use Rattle.archives.specs.Standing.{Leaves}
 use Rattle.archives.specs.Syncing.{IsIdle, IsMoving, IsWritten}
 use Rattle.archives.specs.declared.error.Error.{Error}
@@ -39,23 +39,29 @@ IsSyncCause a before now Full = (2 ^ 64 ≤ a.pair.store.version + 1) × IsMovin
 -- no other comes
 IsSyncCause a before now e = ⊥
 
--- Why a put that syncs fails, whose frame has n bytes: for a reason of the put, or of the sync.
-abbrev pub IsPutSyncCause : {F S : Type 0} {gs : _} → Archive F (PageBlob S gs) → ℕ → ℕ → Type 0 → ℕ → ℕ → Error
-    → Type 0
+-- Why a put that syncs fails, whose frame has n bytes, and which stores nothing where it is skipped: for a
+-- reason of the put, or of the sync.
+abbrev pub IsPutSyncCause : {F S : Type 0} {gs : _} → Archive F (PageBlob S gs) → ℕ → Bool → ℕ
+    → Type 0 → ℕ → ℕ
+    → Error → Type 0
 -- want of memory is free
-IsPutSyncCause a index n told before now Mem = ⊤
+IsPutSyncCause a index skip n told before now Mem = ⊤
 -- the device failed: in a call of the markers only where one has to move
-IsPutSyncCause a index n told before now (Journal (journal.Runtime runtime.Fault)) = Rose before now
-IsPutSyncCause a index n told before now (Metadata (metadata.Runtime runtime.Fault)) =
-    Rose before now × IsMovingAfter a index
+IsPutSyncCause a index skip n told before now (Journal (journal.Runtime runtime.Fault)) =
+    Rose before now
+IsPutSyncCause a index skip n told before now (Metadata (metadata.Runtime runtime.Fault)) =
+    Rose before now × IsMovingAfter a index skip
 -- the limits, or a number that would pass its type; or a marker has to move, and the markers have no next version
-IsPutSyncCause a index n told before now Full =
-    IsFullOver a index told n ⊎ ((2 ^ 64 ≤ a.pair.store.version + 1) × IsMovingAfter a index)
-IsPutSyncCause a index n told before now (Journal journal.ValueTooLarge) = IsTooLargeFor a index n
+IsPutSyncCause a index skip n told before now Full =
+    IsFullOver a index skip told n
+    ⊎ ((2 ^ 64 ≤ a.pair.store.version + 1) × IsMovingAfter a index skip)
+IsPutSyncCause a index skip n told before now (Journal journal.ValueTooLarge) =
+    IsTooLargeFor a index skip n
 -- a blob is longer than a buffer takes: only on a device that does not tell its disk
-IsPutSyncCause a index n told before now (Journal (journal.Runtime runtime.OffsetOverflow)) = told → ⊥
+IsPutSyncCause a index skip n told before now (Journal (journal.Runtime runtime.OffsetOverflow)) =
+    told → ⊥
 -- no other comes
-IsPutSyncCause a index n told before now e = ⊥
+IsPutSyncCause a index skip n told before now e = ⊥
 
 -- an error with which the markers stop a sync
 abbrev pub IsOfMarkers : Error → Type 0
@@ -68,6 +74,8 @@ module _ {A V S D : Type 0} {gs : _} (p : Prunable A V (AppendFactory S) (PageBl
     pub filing : IsSameFiling (filing_by p a) (filing_by p r)
     -- the words by which lookups look stay
     pub word : p.word r ≡ p.word a
+    -- the floor stays
+    pub floor : (p.see r).floor ≡ (p.see a).floor
     -- over any image: the rows stay
     pub rows : (s : ℕ) → (p.see r).rows s ≡ (p.see a).rows s
     -- the values have as many bytes as before
@@ -116,11 +124,15 @@ module _ {A V S D : Type 0} {gs : _} (p : Prunable A V (AppendFactory S) (PageBl
     -- how it ended
     pub ends : SyncEnds a result old new
 
+-- A put of one record to an index, or of one of several, and then a sync.
+module _ {A V S D : Type 0} {gs : _} (p : Prunable A V (AppendFactory S) (PageBlob S gs))
+    (dev : device.Ghosts D) (times : Times) where
   -- The put, and where it ended Ok the sync of what it made.
   pub data PutThenSync (a : A) (index : ℕ) (key value : List ℕ) (result : Result A Error) (old new : D) : Type 0 where
-    refused : (e : Error) → result ≡ Err e → Puts p dev a index key value (Err e) old new
+    refused : (e : Error) → result ≡ Err e → Puts p dev times a index key value (Err e) old new
         → PutThenSync a index key value result old new
-    put : (mid : A) (between : D) → Puts p dev a index key value (Ok mid) old between → Syncs mid result between new
+    put : (mid : A) (between : D) → Puts p dev times a index key value (Ok mid) old between
+        → Syncs p dev mid result between new
         → PutThenSync a index key value result old new
 
   -- The put was carried out, and all is synced.
@@ -130,31 +142,40 @@ module _ {A V S D : Type 0} {gs : _} (p : Prunable A V (AppendFactory S) (PageBl
     -- no section counts as written
     pub none_written : (s : ℕ) → (p.see r).is_written s ≡ false
     -- the markers of sections that were not written are moved to what was synced of them
-    pub moved : (s : ℕ) → (IsWrittenAfter (p.see a) index s → ⊥)
+    pub moved : (s : ℕ) → (IsWrittenAfter (p.see a) index (skips p times a index) s → ⊥)
         → marker_of (p.see r).pair.store.entries s ≡ synced_length (p.see a).pair s
     -- and no other marker moves
-    pub unmoved : (s : ℕ) → IsWrittenAfter (p.see a) index s
+    pub unmoved : (s : ℕ) → IsWrittenAfter (p.see a) index (skips p times a index) s
         → marker_of (p.see r).pair.store.entries s ≡ marker_of (p.see a).pair.store.entries s
     -- where a marker had to move, the markers had a next version
-    pub version : IsMovingAfter (p.see a) index → (p.see a).pair.store.version + 1 < 2 ^ 64
+    pub version : IsMovingAfter (p.see a) index (skips p times a index)
+        → (p.see a).pair.store.version + 1 < 2 ^ 64
+
+  -- the put has to be refused by `Full`
+  abbrev pub IsFullOf : A → ℕ → List ℕ → Type 0
+  IsFullOf a index value =
+      IsFullFor (p.see a) index (skips p times a index) (frame_size (filing_by p a).layout value)
 
   -- The put was refused, or failed, or the sync failed. Where the markers stopped the sync, the record has settled.
   pub record PutSyncFailed (a : A) (index : ℕ) (key value : List ℕ) (e : Error) (old new : D) : Type 0 where
     -- why
-    pub cause : IsPutSyncCause (p.see a) index (frame_size (filing_by p a).layout value) dev.Tells
-        (dev.faults old) (dev.faults new) e
+    pub cause : IsPutSyncCause (p.see a) index (skips p times a index)
+        (frame_size (filing_by p a).layout value)
+        dev.Tells (dev.faults old) (dev.faults new) e
     -- a value that is too large was not written
     pub too_large : e ≡ Journal journal.ValueTooLarge → new ≡ old
     -- `Full` is that of the put, with nothing written, or that of the markers
     pub full : dev.Tells → e ≡ Full
-        → (IsFullFor (p.see a) index (frame_size (filing_by p a).layout value) × (new ≡ old))
-        ⊎ ((2 ^ 64 ≤ (p.see a).pair.store.version + 1) × IsMovingAfter (p.see a) index)
+        → (IsFullOf a index value × (new ≡ old))
+        ⊎ ((2 ^ 64 ≤ (p.see a).pair.store.version + 1)
+        × IsMovingAfter (p.see a) index (skips p times a index))
     -- Where the markers stopped the sync, the record has settled. `Full` is that of the markers, where the put itself
     -- had room.
     pub settled : dev.Tells → IsSoundOver (meaning p) dev a old → IsOfMarkers e
-        → (e ≡ Full → IsFullFor (p.see a) index (frame_size (filing_by p a).layout value) → ⊥)
+        → (e ≡ Full → IsFullOf a index value → ⊥)
         → Leaves (filing_by p a)
-        (after_sync (after_put (p.see a).items index key value (state_over (meaning p) dev a old)))
+        (after_sync
+        (after_putting times (p.see a).items index key value (state_over (meaning p) dev a old)))
         None (disk (dev.time new))
 
   abbrev pub PutSyncEnds : A → ℕ → List ℕ → List ℕ → Result A Error → D → D → Type 0
@@ -166,10 +187,15 @@ module _ {A V S D : Type 0} {gs : _} (p : Prunable A V (AppendFactory S) (PageBl
     -- the two, from which the rest follows
     pub parts : PutThenSync a index key value result old new
     -- what every archive promises
-    pub changes : ChangesDurably (meaning p) dev a index key value result old new
+    pub changes : ChangesDurably (meaning p) dev a (put_sync_command times index key value)
+        (put_start_command times index key value) result old new
     -- only blobs of sections that are then written are touched, and those of the markers
-    pub footprint : Footprint dev (IsOwn (filing_by p a).layout (IsWrittenAfter (p.see a) index)) NoBound old new
+    pub footprint : Footprint dev
+        (IsOwn (filing_by p a).layout
+        (IsWrittenAfter (p.see a) index (skips p times a index))) NoBound old new
     -- where the put has to be refused
-    pub refuses : Refuses (p.see a) index (frame_size (filing_by p a).layout value) dev.Tells result old new
+    pub refuses : Refuses (p.see a) index (skips p times a index)
+        (frame_size (filing_by p a).layout value) dev.Tells
+        result old new
     -- how it ended
     pub ends : PutSyncEnds a index key value result old new

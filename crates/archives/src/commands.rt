@@ -1,6 +1,6 @@
 // What an archive is asked, and what it replies.
 
-use crate::Pairs;
+use crate::{Pairs, Values};
 use ordinal_store::Numbers;
 
 /// A command to an archive. An index is any `u64`.
@@ -12,6 +12,12 @@ pub enum Command<K, V> {
     PutSync(u64, K, V),
     /// The same, by a sync that is started.
     PutStart(u64, K, V),
+    /// Keep this value under this index and key, also where the index is taken.
+    Multi(u64, K, V),
+    /// The same, and then settle all that was put.
+    MultiSync(u64, K, V),
+    /// The same, by a sync that is started.
+    MultiStart(u64, K, V),
     /// The value at an index.
     Get(u64),
     /// A value under a key.
@@ -20,6 +26,10 @@ pub enum Command<K, V> {
     Has(u64),
     /// Whether a record has this key.
     HasKey(K),
+    /// Whether one record has both this index and this key.
+    HasAt(u64, K),
+    /// All values at an index.
+    All(u64),
     /// Of the indices that are taken: the end of the run with this one, and the start of the next run.
     Gap(u64),
     /// So many indices from this one on that are not taken, and have one above them that is.
@@ -36,8 +46,12 @@ pub enum Command<K, V> {
     Sync,
     /// The same, by a sync that is started.
     Start,
+    /// Remove the sections below that of this index. Nothing is put there until the archive is opened again.
+    Prune(u64),
     /// Give the archive up as it is, and open it again.
     Reopen,
+    /// Remove all. The archive is then closed.
+    Destroy,
 }
 
 /// What an archive replies to a command.
@@ -47,6 +61,8 @@ pub enum Reply<V> {
     Done,
     /// The value that was asked for, or none.
     Value(Option<V>),
+    /// All values that were asked for, or none.
+    Values(Option<Values<V>>),
     /// The answer to a test.
     Flag(bool),
     /// The end of a run of indices, and the start of the next one, each if there is one.
@@ -57,4 +73,6 @@ pub enum Reply<V> {
     Ranges(Pairs),
     /// The index that was asked for, or none.
     Index(Option<u64>),
+    /// The archive was destroyed, and not opened since.
+    Closed,
 }

@@ -2,7 +2,7 @@
 //! records that says which replies are right.
 //!
 //! `specs/Machine.antt` has the machine, with all commands of an archive: a state, and a step for each command and reply.
-//! `plain` runs the commands that are built, on one list.
+//! `plain` runs them, on one list.
 #![tactic(auto)]
 
 mod archive;
@@ -13,8 +13,8 @@ pub mod plain;
 pub mod prunable;
 mod translator;
 
-pub use archive::{Archive, Identifier};
+pub use archive::{Archive, Identifier, MultiArchive};
 pub use commands::{Command, Reply};
 pub use error::Error;
-pub use lists::Pairs;
+pub use lists::{Entries, Pairs, Values};
 pub use translator::{FourCap, Translator};

@@ -1,5 +1,5 @@
 // The list types of replies. A range of indices is a run: the longest that there is, with both its ends.
-ghost use Rattle.std.specs.Prelude.{◌≡◌, IfOk};
+ghost use Rattle.std.specs.Prelude.{◌≡◌, IfOk, map};
 
 use ordinal_store::RangeIter;
 use std::alloc::{AllocError, Global};
@@ -40,5 +40,75 @@ impl Pairs {
         ensures { result.now ≡ self.now }
     {
         self.items.as_slice()
+    }
+}
+
+/// A list of values.
+#[derive(Debug, Drop)]
+pub struct Values<V> {
+    // in the order in which they were put
+    items: Vec<V>,
+}
+
+impl<V> Model for Values<V> {
+    ghost use Rattle.std.specs.Prelude.{List};
+
+    ghost Value = { List V };
+
+    ghost view = { λ v. v.items.items };
+}
+
+impl<V> Values<V> {
+    /// The list that a `Vec` holds.
+    pub(crate) fn from_vec(items: Vec<V>) -> Values<V>
+        ensures { result ≡ items.items }
+    {
+        Values { items }
+    }
+
+    /// The values, in the list's order.
+    pub fn as_slice(&self) -> &[V]
+        ensures { result.now ≡ self.now }
+    {
+        self.items.as_slice()
+    }
+}
+
+/// A list of keys, each with a value.
+#[derive(Debug, Drop)]
+pub struct Entries<K, V> {
+    // in the order in which they were put
+    items: Vec<(K, V)>,
+}
+
+impl<K, V> Model for Entries<K, V> {
+    ghost use Rattle.std.specs.Prelude.{List};
+
+    ghost Value = { List (K × V) };
+
+    ghost view = { λ e. e.items.items };
+}
+
+impl<K: Drop, V: Drop> Entries<K, V> {
+    /// The list that a `Vec` holds.
+    pub(crate) fn from_vec(items: Vec<(K, V)>) -> Entries<K, V>
+        ensures { result ≡ items.items }
+    {
+        Entries { items }
+    }
+
+    /// The keys and their values, in the list's order.
+    pub fn as_slice(&self) -> &[(K, V)]
+        ensures { result.now ≡ self.now }
+    {
+        self.items.as_slice()
+    }
+
+    /// The values alone, in a list of their own, which takes memory.
+    pub(crate) fn into_values(self, alloc: Global) -> Result<Values<V>, AllocError>
+        ensures { IfOk result (λ values. values ≡ map (λ e. e.1) self) }
+    {
+        let values = self.items.into_iter().map(|(_, value)| value);
+        Ok(Values::from_vec(values.collect(alloc)?))
     }
 }

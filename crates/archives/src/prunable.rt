@@ -22,8 +22,8 @@
 //!
 //! # Crashes
 //!
-//! Of each section a crash leaves a prefix of the records that were put, with all that were synced. What stands
-//! behind it is cut by the next opening. A call that fails gives the archive up: its blobs are opened again.
+//! Of each section a crash leaves a prefix of the records that were put, with all that were synced; or nothing of
+//! one that a prune or a destroy takes. What stands behind it is cut by the next opening. A call that fails gives the archive up: its blobs are opened again.
 //!
 //! # Cost
 //!
@@ -33,19 +33,23 @@
 ghost use Rattle.std.specs.Prelude.{◌≡◌, ◌≤◌};
 ghost use Rattle.ordinal_store.specs.Numbers.{AreRuns, AreRunsFrom, IsGreatest, IsLeast};
 ghost use Rattle.archives.specs.Changes.{outcome};
+ghost use Rattle.archives.specs.Destroys.{Removes};
 ghost use Rattle.archives.specs.Finding.{wanted_of};
 ghost use Rattle.archives.specs.Gets.{Gets, Has};
 ghost use Rattle.archives.specs.Indices.{GivesMissing, IsGap};
 ghost use Rattle.archives.specs.Machine.{section_of};
 ghost use Rattle.archives.specs.Prunable.{IsOver, meaning};
 ghost use Rattle.archives.specs.Puts.{Puts};
+ghost use Rattle.archives.specs.Putting.{Once};
 ghost use Rattle.archives.specs.Syncs.{PutSyncs, Syncs};
 
 mod config;
 mod index_record;
 mod laws;
 mod limits;
+mod multi;
 mod opening;
+mod pruning;
 mod reading;
 mod syncing;
 mod tables;
@@ -86,6 +90,9 @@ where
     ghost has_records: { 1 ≤ limits.per_section },
     // the records and values on the device: each call hands it on as the pair's call left it
     pair: Oversized<IndexRecord<K>, V, S>,
+    // the start of a section, moved by `prune` alone: nothing is held of one below it, and nothing is put
+    // there
+    floor: u64,
     // index and key of each record of the pair, by position: entered with the record
     tables: Tables<K>,
     // the indices of all records: a row of the tables has each, and no other
@@ -111,18 +118,20 @@ impl<T: Translator, K: Key, V: Codec, S: Seal> crate::Archive for Archive<T, K, 
 
     ghost meaning = { meaning (means ⟦<PageBlob<S> as SectionBuffer>⟧) };
 
-    /// Keeps the value at the end of its index's section. Where the index is taken nothing is stored.
+    /// Keeps the value at the end of its index's section. Where the index is below the floor, or is taken,
+    /// nothing is stored.
     ///
-    /// It refuses in this order, and then wrote nothing: by `Full` where one section more would keep a record than the limits allow, or the
-    /// section one record more; by `ValueTooLarge` a value whose frame has more bytes than a `u32` counts; by `Full` where the section's
-    /// records or values would pass the greatest `u64`.
+    /// It refuses in this order, and then wrote nothing: by `Full` where one section more would keep a record
+    /// than the limits allow, or the section one record more; by `ValueTooLarge` a value whose frame has more
+    /// bytes than a `u32` counts; by `Full` where the section's records or values would pass the greatest
+    /// `u64`.
     fn put<D: Device>(self, dev: &mut D, index: u64, key: K, value: &V) -> Result<Self, Error>
         requires over { IsOver (means ⟦<PageBlob<S> as SectionBuffer>⟧) D.Device self dev.old }
         requires value { (means ⟦<PageBlob<S> as SectionBuffer>⟧).Accepts self value.now }
-        ensures { Puts (means ⟦<PageBlob<S> as SectionBuffer>⟧) D.Device self index
+        ensures { Puts (means ⟦<PageBlob<S> as SectionBuffer>⟧) D.Device Once self index
             (K.key_bytes key) (V.spelling value.now) result dev.old dev.new }
     {
-        if self.has_index(index) {
+        if index < self.floor || self.has_index(index) {
             return Ok(self);
         }
         self.append(dev, index, key, value)
@@ -132,7 +141,7 @@ impl<T: Translator, K: Key, V: Codec, S: Seal> crate::Archive for Archive<T, K, 
     fn put_sync<D: Device>(self, dev: &mut D, index: u64, key: K, value: &V) -> Result<Self, Error>
         requires over { IsOver (means ⟦<PageBlob<S> as SectionBuffer>⟧) D.Device self dev.old }
         requires value { (means ⟦<PageBlob<S> as SectionBuffer>⟧).Accepts self value.now }
-        ensures { PutSyncs (means ⟦<PageBlob<S> as SectionBuffer>⟧) D.Device self index
+        ensures { PutSyncs (means ⟦<PageBlob<S> as SectionBuffer>⟧) D.Device Once self index
             (K.key_bytes key) (V.spelling value.now) result dev.old dev.new }
     {
         let this = self.put(dev, index, key, value)?;
@@ -149,7 +158,7 @@ impl<T: Translator, K: Key, V: Codec, S: Seal> crate::Archive for Archive<T, K, 
     ) -> Result<(Self, Handle), Error>
         requires over { IsOver (means ⟦<PageBlob<S> as SectionBuffer>⟧) D.Device self dev.old }
         requires value { (means ⟦<PageBlob<S> as SectionBuffer>⟧).Accepts self value.now }
-        ensures { PutSyncs (means ⟦<PageBlob<S> as SectionBuffer>⟧) D.Device self index
+        ensures { PutSyncs (means ⟦<PageBlob<S> as SectionBuffer>⟧) D.Device Once self index
             (K.key_bytes key) (V.spelling value.now) (outcome (λ r. r.0) result) dev.old dev.new }
     {
         let this = self.put_sync(dev, index, key, value)?;
@@ -237,6 +246,7 @@ impl<T: Translator, K: Key, V: Codec, S: Seal> crate::Archive for Archive<T, K, 
     {
         let mut this = self;
         let sections = this.written_sections()?;
+        // What was written settles first, then the markers of the other sections move.
         this.pair = this.pair.sync_tracked(dev, &sections, &sections)?;
         this.written.clear();
         Ok(this)
@@ -250,5 +260,16 @@ impl<T: Translator, K: Key, V: Codec, S: Seal> crate::Archive for Archive<T, K, 
     {
         let this = self.sync(dev)?;
         Ok((this, Handle::finished()))
+    }
+
+    /// Removes the markers, then all records, then all values. On Ok none of these blobs is left.
+    fn destroy<D: Device>(self, dev: &mut D) -> Result<(), Error>
+        requires over { IsOver (means ⟦<PageBlob<S> as SectionBuffer>⟧) D.Device self dev.old }
+        ensures { Removes (means ⟦<PageBlob<S> as SectionBuffer>⟧) D.Device self
+            result dev.old dev.new }
+    {
+        // The blobs go last, with the value itself: what it holds in memory names them up to here.
+        self.pair.destroy(dev)?;
+        Ok(())
     }
 }

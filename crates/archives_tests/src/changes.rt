@@ -19,8 +19,10 @@ pub enum Change<K> {
     Put(Put<K>),
     PutSync(Put<K>),
     PutStart(Put<K>),
+    Multi(Put<K>),
     Sync,
     Start,
+    Prune(u64),
 }
 
 /// The key that stands at this place behind a step's first word.
@@ -45,11 +47,15 @@ fn put_of<K: Key>(alloc: Global, step: &Step) -> Result<Option<Put<K>>, AllocErr
 
 /// The call that a step asks for.
 pub fn change_of<K: Key>(alloc: Global, step: &Step) -> Result<Option<Change<K>>, AllocError> {
+    if let ("prune", Some(index)) = (step.word(), step.number(0)) {
+        return Ok(Some(Change::Prune(index)));
+    }
     let put = put_of(alloc, step)?;
     Ok(match (step.word(), put) {
         ("put", Some(put)) => Some(Change::Put(put)),
         ("putsync", Some(put)) => Some(Change::PutSync(put)),
         ("putstart", Some(put)) => Some(Change::PutStart(put)),
+        ("multi", Some(put)) => Some(Change::Multi(put)),
         ("sync", _) => Some(Change::Sync),
         ("start", _) => Some(Change::Start),
         _ => None,

@@ -5,10 +5,11 @@ use crate::changes::key_at;
 use crate::error_words::ErrorWords;
 use crate::run::Opens;
 use crate::sample::Sample;
-use archives::{Error, Identifier};
+use archives::{Entries, Error, Identifier};
 use blob_device::Memory;
 use scenario_text::Step;
 use std::alloc::{AllocError, Global};
+use value_codec::Key;
 
 /// What the archive replies to a lookup; none where the step is none.
 pub fn looked<A: Opens>(
@@ -23,6 +24,8 @@ pub fn looked<A: Opens>(
     match (step.word(), step.number(0)) {
         ("get" | "has", Some(index)) => Ok(Some(at_index(alloc, dev, archive, step, index)?)),
         ("has_index", Some(index)) => { Ok(Some(flag_text(alloc, Ok(archive.has_index(index)))?)) }
+        ("entries", Some(index)) => Ok(Some(entries_text(alloc, archive.entries(dev, index))?)),
+        ("floor", _) => Ok(Some(format!(in alloc; "{}", archive.lowest())?)),
         ("getk" | "hask", _) => match key_at(alloc, step, 0)? {
             Some(key) => Ok(Some(under_key(alloc, dev, archive, step, &key)?)),
             None => Ok(None),
@@ -72,10 +75,38 @@ fn under_key<A: Opens>(
 fn value_text(alloc: Global, found: Result<Option<Sample>, Error>) -> Result<String, AllocError> {
     match found {
         Ok(None) => String::from_str(alloc, "none"),
-        Ok(Some(value)) if value.bytes.is_empty() => String::from_str(alloc, "value -"),
         Ok(Some(value)) => {
-            let digits = hex::encode(alloc, value.bytes.as_slice())?;
-            format!(in alloc; "value {}", digits.as_str())
+            let bytes = bytes_text(alloc, value.bytes.as_slice())?;
+            format!(in alloc; "value {}", bytes.as_str())
+        }
+        Err(error) => format!(in alloc; "error {}", ErrorWords(&error)),
+    }
+}
+
+// Bytes in hexadecimal, or a dash where there is none.
+fn bytes_text(alloc: Global, bytes: &[u8]) -> Result<String, AllocError> {
+    if bytes.is_empty() {
+        return String::from_str(alloc, "-");
+    }
+    hex::encode(alloc, bytes)
+}
+
+// The reply that is a list of keys with values.
+fn entries_text<K: Key>(
+    alloc: Global,
+    found: Result<Option<Entries<K, Sample>>, Error>,
+) -> Result<String, AllocError> {
+    match found {
+        Ok(None) => String::from_str(alloc, "none"),
+        Ok(Some(entries)) => {
+            let mut said = String::new(alloc);
+            for (key, value) in entries.as_slice() {
+                let between = if said.is_empty() { "" } else { " / " };
+                let key = hex::encode(alloc, key.as_bytes())?;
+                let bytes = bytes_text(alloc, value.bytes.as_slice())?;
+                write!(&mut said, "{between}{} {}", key.as_str(), bytes.as_str())?;
+            }
+            Ok(said)
         }
         Err(error) => format!(in alloc; "error {}", ErrorWords(&error)),
     }

@@ -9,10 +9,12 @@
 //! | `set NAME TEXT` | changes a field of the configuration: a number, or a partition's name, of which `-` is the empty one |
 //! | `valid` | whether the configuration is valid: `yes`, `no` |
 //! | `open` | opens the archive; one that is open is given up |
-//! | `put INDEX KEY VALUE [ZEROS]` | puts VALUE behind so many zeros, which are never written; so `putsync`, `putstart` |
+//! | `put INDEX KEY VALUE [ZEROS]` | puts VALUE behind so many zeros, which are never written; so `putsync`, `putstart`, `multi` |
 //! | `sync`, `start` | settles all that was put |
+//! | `prune INDEX`, `floor` | removes the sections below that of INDEX; below which index nothing is put |
 //! | `get INDEX`, `getk KEY` | `value VALUE` or `none` |
 //! | `has INDEX`, `hask KEY`, `has_index INDEX` | `yes`, `no` |
+//! | `entries INDEX` | `KEY VALUE / ..` of all records at INDEX, or `none` |
 //! | `mark`, `calls` | how many device calls were made since the mark |
 //! | `few_calls N`, `more_calls` | whether they are at most N; how many more they are now than they were there |
 //! | `crash CHOICE` | the device begins anew over this crash image: `settled`, `as-read`, `mixed BITS` |

@@ -10,18 +10,35 @@ use crate::error_words::ErrorWords;
 use crate::looks::looked;
 use crate::sample::Sample;
 use crate::settings::Settings;
-use archives::{Archive, Error, FourCap, prunable};
+use archives::{Archive, Entries, Error, FourCap, MultiArchive, prunable};
 use blob_device::{CrashChoice, DevError, Memory};
 use scenario_text::{Report, Step};
 use std::alloc::{AllocError, Global};
 use value_codec::{Key8, Sha256Seal};
 
 /// An archive of values of scenarios, which a configuration opens.
-pub trait Opens: Archive<Value = Sample> + Drop {
+pub trait Opens: Archive<Value = Sample> + MultiArchive + Drop {
     /// Opens the archive.
     fn open(alloc: Global, dev: &mut Memory, settings: &Settings) -> Result<Self, Error>
         requires valid { IsValid settings.now }
         ensures over { IfOk result (λ a. IsOver Self.meaning.IsUsable a dev.new) };
+
+    /// Removes the sections below that of an index.
+    fn pruned(self, dev: &mut Memory, index: u64) -> Result<Self, Error>
+        requires over { IsOver Self.meaning.IsUsable self dev.old }
+        ensures over { IfOk result (λ a. IsOver Self.meaning.IsUsable a dev.new) };
+
+    /// Below it nothing is put.
+    fn lowest(&self) -> u64;
+
+    /// Key and value of each record at an index.
+    fn entries(
+        &self,
+        dev: &mut Memory,
+        index: u64,
+    ) -> Result<Option<Entries<Self::Key, Sample>>, Error>
+        requires over { IsOver Self.meaning.IsUsable self.now dev.old }
+        ensures over { IsOver Self.meaning.IsUsable self.now dev.new };
 
     /// It takes each value.
     ghost takes: { (a : Self) (value : Sample) → Self.meaning.Accepts a value };
@@ -34,6 +51,22 @@ impl Opens for Samples {
 
     fn open(alloc: Global, dev: &mut Memory, settings: &Settings) -> Result<Samples, Error> {
         Samples::init(alloc, dev, settings)
+    }
+
+    fn pruned(self, dev: &mut Memory, index: u64) -> Result<Samples, Error> {
+        self.prune(dev, index)
+    }
+
+    fn lowest(&self) -> u64 {
+        self.floor()
+    }
+
+    fn entries(
+        &self,
+        dev: &mut Memory,
+        index: u64,
+    ) -> Result<Option<Entries<Key8, Sample>>, Error> {
+        self.get_entries(dev, index)
     }
 }
 
@@ -148,11 +181,13 @@ fn changed<A: Opens>(dev: &mut Memory, archive: A, change: Change<A::Key>) -> Re
             handle.wait();
             Ok(archive)
         }
+        Change::Multi(Put { index, key, value }) => archive.put_multi(dev, index, key, &value),
         Change::Sync => archive.sync(dev),
         Change::Start => {
             let (archive, handle) = archive.start_sync(dev)?;
             handle.wait();
             Ok(archive)
         }
+        Change::Prune(index) => archive.pruned(dev, index),
     }
 }

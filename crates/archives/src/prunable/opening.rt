@@ -76,6 +76,8 @@ impl<T: Translator, K: Key, V: Codec, S: Seal> Archive<T, K, V, S> {
             items_per_section: cfg.items_per_section,
             limits: cfg.limits,
             pair: replay.finish_tracked(dev)?,
+            // None is stored.
+            floor: 0,
             tables,
             indices,
             written: BTreeSet::new(alloc),

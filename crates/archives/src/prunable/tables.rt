@@ -1,7 +1,10 @@
 // Which records the sections keep, held in memory.
-ghost use Rattle.std.specs.Prelude.{◌≡◌, ◌≢◌, ◌↔◌, ◌<◌, [], ℕ, None, slice_get, IfOk, IfSome, IsSomeAnd, IsTrue, OnOk};
+ghost use Rattle.std.specs.Prelude.{◌≡◌, ◌≢◌, ◌↔◌, ◌<◌, ◌≤◌, [], ℕ, None, map, slice_get, IfOk, IfSome, IsSome, IsSomeAnd, IsTrue, OnOk};
+ghost use Rattle.std.specs.BTreeMap.{get};
+ghost use Rattle.std.specs.Ordering.{nat_cmp};
 ghost use Rattle.ordinal_store.specs.Ranges.{set_of};
-ghost use Rattle.archives.specs.Rows.{AddsIndices, AreFilledBut, AreIndicesOf, HasRoom, HasSpare, Pushes, rows_of};
+ghost use Rattle.archives.specs.Changes.{outcome};
+ghost use Rattle.archives.specs.Rows.{AddsIndices, AreFilledBut, AreIndicesOf, FindsPositions, HasRoom, HasSpare, Pushes, row_of, rows_of};
 
 use super::Limits;
 use ordinal_store::{RMap, RMapError};
@@ -75,6 +78,30 @@ impl<K: Key> Tables<K> {
         Ok(())
     }
 
+    /// Forgets the records of the sections below a bound.
+    pub(super) fn remove_below(&mut self, bound: u64)
+        requires filled { AreFilledBut (λ _. ⊥) self.old }
+        ensures below { (s : ℕ) → s < bound → rows_of K.key_bytes self.new s ≡ [] }
+        ensures others { (s : ℕ) → bound ≤ s
+            → rows_of K.key_bytes self.new s ≡ rows_of K.key_bytes self.old s }
+        ensures filled { AreFilledBut (λ _. ⊥) self.new }
+    {
+        // Those below come first.
+        while let Some(first) = self.first_below(bound) {
+            self.tables.remove(&first);
+        }
+    }
+
+    // The first section that has a table, where it is below the bound.
+    fn first_below(&self, bound: u64) -> Option<u64>
+        ensures some { IfSome result (λ s. (s < bound)
+            × IsSome (get nat_cmp self.now.tables s)) }
+        ensures none { result ≡ None → (s : ℕ) → s < bound → get nat_cmp self.now.tables s ≡ None }
+    {
+        let (first, _) = self.tables.first_key_value()?;
+        if *first < bound { Some(*first) } else { None }
+    }
+
     /// The indices of all records, as a set.
     pub(super) fn indices(&self) -> Result<RMap, RMapError>
         ensures { IfOk result (λ indices. AreIndicesOf (rows_of K.key_bytes self.now)
@@ -102,6 +129,19 @@ impl<K: Key> Tables<K> {
         Some(position as u64)
     }
 
+    /// The positions of the records in the section that have this index, ascending. It takes memory only
+    /// where there is one.
+    pub(super) fn positions_at(&self, section: u64, index: u64) -> Result<Vec<u64>, AllocError>
+        ensures { FindsPositions (rows_of K.key_bytes self.now section) index
+            (outcome (λ positions. positions.items) result) }
+    {
+        let mut positions = Vec::new(self.alloc);
+        if let Some(table) = self.tables.get(&section) {
+            add_positions(&mut positions, table, index)?;
+        }
+        Ok(positions)
+    }
+
     /// Section and position of the first record with this key, the least section first.
     pub(super) fn place_of(&self, key: &K) -> Option<(u64, u64)>
         ensures found { IfSome result (λ r. IsSomeAnd
@@ -122,6 +162,24 @@ impl<K: Key> Tables<K> {
         }
         None
     }
+}
+
+// Adds the position of each of these entries that has the index.
+fn add_positions<K: Key>(
+    positions: &mut Vec<u64>,
+    entries: &[Entry<K>],
+    index: u64,
+) -> Result<(), AllocError>
+    requires { positions.old.items ≡ [] }
+    ensures { FindsPositions (map (row_of K.key_bytes) entries.now) index
+        (outcome (λ _. positions.new.items) result) }
+{
+    for (position, entry) in entries.iter().enumerate() {
+        if entry.index == index {
+            positions.push(position as u64)?;
+        }
+    }
+    Ok(())
 }
 
 // Puts the indices of these entries into the set.

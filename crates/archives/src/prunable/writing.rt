@@ -1,8 +1,8 @@
 // Adding records with their values.
-ghost use Rattle.std.specs.Prelude.{◌≡◌, false};
+ghost use Rattle.std.specs.Prelude.{◌≡◌, ◌≤◌, false};
 ghost use Rattle.archives.specs.Prunable.{IsOver};
 ghost use Rattle.archives.specs.Puts.{Puts};
-ghost use Rattle.archives.specs.Putting.{is_taken};
+ghost use Rattle.archives.specs.Putting.{Times, is_skipped};
 ghost use Rattle.archives.specs.Shown.{means, shown};
 
 use super::index_record::IndexRecord;
@@ -14,9 +14,11 @@ use segments::SectionBuffer;
 use value_codec::{Codec, Key, Seal};
 
 impl<T: Translator, K: Key, V: Codec, S: Seal> Archive<T, K, V, S> {
-    // Adds a record at the end of its index's section, with its value. The index is free, so this is the put.
+    // Adds a record at the end of its index's section, with its value. Such a put is not skipped, so this is
+    // the put, of one record to an index or of one of several.
     //
-    // What the archive holds in memory grows first, so that a record that was written is never lost for want of memory.
+    // What the archive holds in memory grows first, so that a record that was written is never lost for want
+    // of memory.
     pub(super) fn append<D: Device>(
         self,
         dev: &mut D,
@@ -26,8 +28,9 @@ impl<T: Translator, K: Key, V: Codec, S: Seal> Archive<T, K, V, S> {
     ) -> Result<Self, Error>
         requires over { IsOver (means ⟦<PageBlob<S> as SectionBuffer>⟧) D.Device self dev.old }
         requires value { (means ⟦<PageBlob<S> as SectionBuffer>⟧).Accepts self value.now }
-        requires free { is_taken (shown self) index ≡ false }
-        ensures { Puts (means ⟦<PageBlob<S> as SectionBuffer>⟧) D.Device self index
+        requires floor { (shown self).floor ≤ index }
+        ensures { (times : Times) → is_skipped (shown self) index times ≡ false
+            → Puts (means ⟦<PageBlob<S> as SectionBuffer>⟧) D.Device times self index
             (K.key_bytes key) (V.spelling value.now) result dev.old dev.new }
     {
         let section = section_of(index, self.items_per_section);
@@ -39,6 +42,7 @@ impl<T: Translator, K: Key, V: Codec, S: Seal> Archive<T, K, V, S> {
         this.written.insert(section)?;
         this.indices.insert(index)?;
         let record = IndexRecord::new(index, key);
+        // The record goes last: what is held in memory has room for it by now.
         let (pair, _, _, _) = this.pair.append(dev, section, record, value)?;
         this.pair = pair;
         this.tables.push(section, index, key)?;

@@ -15,13 +15,19 @@ pub returns-in-Put : goal.returns-in-Put
 returns-in-Put g c = changed_usable g.A.Archive.meaning _ _ _ _ _ _ c.put.ensures
 
 pub returns-in-PutSync : goal.returns-in-PutSync
-returns-in-PutSync g c = durable_usable g.A.Archive.meaning _ _ _ _ _ _ _ _ c.put_sync.ensures
+returns-in-PutSync g c = durable_usable g.A.Archive.meaning _ _ _ _ _ _ _ c.put_sync.ensures
+
+pub put_multi-requires-clause-value : goal.put_multi-requires-clause-value
+put_multi-requires-clause-value g c = g.met.A.Opens.takes _ _
+
+pub returns-in-Multi : goal.returns-in-Multi
+returns-in-Multi g c = changed_usable g.A.Archive.meaning _ _ _ _ _ _ c.put_multi.ensures
 
 pub returns-in-Sync : goal.returns-in-Sync
 returns-in-Sync g c = settled_usable g.A.Archive.meaning _ _ _ _ _ c.sync.ensures
 
 pub returns-in_ok-archive-in-PutStart : goal.returns-in_ok-archive-in-PutStart
-returns-in_ok-archive-in-PutStart g c = durable_usable g.A.Archive.meaning _ _ _ _ _ _ _ (Ok c.in_ok-archive-in-PutStart.archive) c.in_ok-archive-in-PutStart.ensures
+returns-in_ok-archive-in-PutStart g c = durable_usable g.A.Archive.meaning _ _ _ _ _ _ (Ok c.in_ok-archive-in-PutStart.archive) c.in_ok-archive-in-PutStart.ensures
 
 pub returns-in_ok-archive-in-Start : goal.returns-in_ok-archive-in-Start
 returns-in_ok-archive-in-Start g c = settled_usable g.A.Archive.meaning _ _ _ _ (Ok c.in_ok-archive-in-Start.archive) c.in_ok-archive-in-Start.ensures

@@ -1,4 +1,4 @@
-use Rattle.std.proofs.Common.{◌≡◌, Result, Err, refl, sym, subst}
+use Rattle.std.proofs.Common.{◌≡◌, Err, refl, subst}
 use Rattle.blob_device.proofs.Results.{err_of}
 use Rattle.ordinal_store.specs.Numbers.{Set, AreMissing}
 use Rattle.ordinal_store.specs.Plain.{listed}
@@ -17,6 +17,6 @@ returns-in_err-missing g c =
     told_none g.K.Key.key_bytes c.args.self.now (Missing c.args.index c.args.count) c.from_residual-in_err-missing.result (err_of c.from_residual-in_err-missing.result Mem c.from_residual-in_err-missing.ensures.1)
 
 pub returns : goal.returns
-returns g c = λ n.
+returns g c =
     let told = told_of g.K.Key.key_bytes c.args.self.now (listed c.in_ok-indices.field-0.numbers.items) c.in_ok-indices.ensures in
-    (told (λ (s : Set). AreMissing s c.args.index c.args.count c.in_ok-missing.missing) c.in_ok-missing.ensures n, refl)
+    (told (λ (s : Set). AreMissing s c.args.index c.args.count c.in_ok-missing.missing) c.in_ok-missing.ensures, refl)

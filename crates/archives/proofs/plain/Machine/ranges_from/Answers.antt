@@ -1,4 +1,4 @@
-use Rattle.std.proofs.Common.{◌≡◌, Result, Err, refl, sym, subst}
+use Rattle.std.proofs.Common.{◌≡◌, Err, refl, sym, subst}
 use Rattle.blob_device.proofs.Results.{err_of}
 use Rattle.ordinal_store.specs.Numbers.{Set, AreRunsFrom}
 use Rattle.ordinal_store.specs.Plain.{listed}
@@ -17,6 +17,6 @@ returns-in_err-runs g c =
     told_none g.K.Key.key_bytes c.args.self.now (RangesFrom c.args.index) c.from_residual-in_err-runs.result (err_of c.from_residual-in_err-runs.result Mem c.from_residual-in_err-runs.ensures.1)
 
 pub returns : goal.returns
-returns g c = λ n.
+returns g c =
     let told = told_of g.K.Key.key_bytes c.args.self.now (listed c.in_ok-indices.field-0.numbers.items) c.in_ok-indices.ensures in
-    (told (λ (s : Set). AreRunsFrom s c.args.index c.from_vec.result) (subst (AreRunsFrom (listed c.in_ok-indices.field-0.numbers.items) c.args.index) (sym c.from_vec.ensures) c.in_ok-runs.ensures) n, refl)
+    (told (λ (s : Set). AreRunsFrom s c.args.index c.from_vec.result) (subst (AreRunsFrom (listed c.in_ok-indices.field-0.numbers.items) c.args.index) (sym c.from_vec.ensures) c.in_ok-runs.ensures), refl)

@@ -1,4 +1,4 @@
-use Rattle.std.proofs.Common.{◌≡◌, ◌∙◌, ap, ℕ, ◌<◌, ◌≤◌, length, map, slice_index_or, arith}
+use Rattle.std.proofs.Common.{◌≡◌, ◌∙◌, ap, refl, ℕ, ◌<◌, ◌≤◌, length, map, slice_index_or, arith}
 use Rattle.std.proofs.lemmas.List.{get_or_default, with_items_is}
 use Rattle.std.proofs.lemmas.List.Edits.{map_over_more}
 use Rattle.archives.specs.Plain.{state_with}
@@ -16,7 +16,8 @@ loop-item-preserved g c =
     map_over_more as_synced first items at item within c.loop-item.invariant (get_or_default items at c.item-item.result item here)
 
 pub returns : goal.returns
-returns g c = λ n.
+returns g c =
+    let m = c.args.self.now in
     let v = c.args.self.now.items in
     let first = c.deref_mut-item-items.result.now in
     let items = c.loop-item.item-items in
@@ -24,4 +25,8 @@ returns g c = λ n.
     let passed : length first ≤ at = omega arith in
     let long : length items ≡ v.len = omega (arith, c.loop-item.auto.item-items, c.deref_mut-item-items.ensures.len) in
     let all : items ≡ map as_synced v.items = all_passed first items at passed c.loop-item.invariant ∙ ap (map as_synced) c.deref_mut-item-items.ensures.value in
-    ap (state_with g.K.Key.key_bytes n) (with_items_is v items long ∙ all) ∙ state_synced g.K.Key.key_bytes n v.items
+    record {
+      done = refl;
+      state = ap (state_with g.K.Key.key_bytes m.items_per_section m.floor m.is_open) (with_items_is v items long ∙ all) ∙ state_synced g.K.Key.key_bytes m.items_per_section m.floor m.is_open v.items;
+      same = refl;
+    }

@@ -1,4 +1,4 @@
-use Rattle.std.proofs.Common.{◌==◌, if◌then◌else◌, ◌≡◌, ◌≢◌, ◌⊎◌, inl, inr, refl, sym, ◌∙◌, ap, subst, ◌≤◌, ◌-◌, ◌^◌, ℕ, List, [], ◌∷◌, ◌++◌, length, Option, Some, Err, ◌+◌, length-append, arith}
+use Rattle.std.proofs.Common.{◌==◌, if◌then◌else◌, ◌≡◌, ◌≢◌, ◌⊎◌, inl, inr, refl, sym, ◌∙◌, ap, subst, ◌≤◌, ◌-◌, ◌^◌, ℕ, List, [], ◌∷◌, ◌++◌, length, Option, Some, Err, false, ◌+◌, length-append, arith}
 use Rattle.std.specs.BTreeSet.{contains}
 use Rattle.std.specs.Ordering.{nat_cmp}
 use Rattle.std.proofs.lemmas.Bool.{cases_lt}
@@ -18,9 +18,10 @@ use Rattle.paired.proofs.FrameLemmas.{length-frame}
 use Rattle.paired.proofs.ValueEnds.{not_at}
 use Rattle.ordinal_store.specs.Ranges.{set_of}
 use Rattle.archives.specs.Archives.{IsSoundArchive, filing_of, state_of}
-use Rattle.archives.specs.Commands.{Put}
 use Rattle.archives.specs.IndexRecord.{index_record, place_of}
 use Rattle.archives.specs.IndexRecordLaws.{place_of-index_record}
+use Rattle.archives.specs.Machine.{section_of}
+use Rattle.archives.specs.Putting.{Times, is_skipped, put_command}
 use Rattle.archives.specs.Raised.{raised}
 use Rattle.archives.specs.Rows.{AreFilledBut, Row, rows_of}
 use Rattle.archives.specs.Shown.{shown}
@@ -37,6 +38,7 @@ use Rattle.archives.proofs.PutLemmas.{Adds, grown_archive}
 use Rattle.archives.proofs.PutRows.{grows, still_none}
 use Rattle.archives.proofs.PutSound.{Sounds, grown_sound, grown_state}
 use Rattle.archives.proofs.PutSync.{same_filing, section_small}
+use Rattle.archives.proofs.PuttingLemmas.{pair_above, section_from}
 use Rattle.archives.proofs.PutStands.{IsFree, at_rest, full_or_room, put_moments, wanted}
 use Rattle.archives.proofs.prunable.Archive.append.Given as given
 use Rattle.archives.proofs.prunable.Archive.append.Goals as goal
@@ -48,6 +50,14 @@ short g c = elim (cases_lt (2 ^ 32 - 1) (length (frame g.S.Seal.seal_of (g.V.Cod
   | inl lt ↦ absurd (cc (c.in_ok-pair.ensures.too_large.1 lt))
   | inr le ↦ le
 ]
+
+-- the section is not below the floor
+section_above : (g : given.Over) (c : goal.After-result-1 g) → (shown c.args.self).floor ≤ c.section_of-section.result
+section_above g c =
+    let a = shown c.args.self in
+    let over = c.requires.over in
+    let low : a.floor ≤ section_of a.items c.args.index = section_from a.items a.floor c.args.index over.items over.floor c.requires.floor in
+    omega (arith, low, c.section_of-section.ensures)
 
 -- what the calls did, where all of them ended well
 adds_of : (g : given.Over) (c : goal.After-result-1 g) → Adds (shown c.args.self) (pair.shown (place_of g.K.Key.SIZE) c.in_ok-pair.pair) (λ bytes. g.V.Codec.refusal bytes c.in_ok-pair.pair.values.codec_config) (rows_of g.K.Key.key_bytes c.push.new.self) (AreFilledBut (λ _. ⊥) c.push.new.self) (set_of c.insert-2.new.self) (contains nat_cmp c.insert.new.self)
@@ -78,6 +88,7 @@ adds_of g c =
       row = c.in_ok-push.ensures.added ∙ ap (λ (rs : List Row). rs ++ row ∷ []) (c.reserve.ensures.same sec);
       other_rows = λ s other. c.in_ok-push.ensures.others s other ∙ c.reserve.ensures.same s;
       added = c.in_ok-insert-2.ensures.ok;
+      above = section_above g c;
       written = still_none (contains nat_cmp c.args.self.written) (contains nat_cmp c.insert.new.self) sec c.in_ok-insert.ensures.updates.1 (λ q other. c.in_ok-insert.ensures.updates.2 q (not_at c.section_of-section.result q other));
       written_now = λ s. (grows (contains nat_cmp c.args.self.written) (contains nat_cmp c.insert.new.self) sec c.in_ok-insert.ensures.updates.1 (λ q other. c.in_ok-insert.ensures.updates.2 q (not_at c.section_of-section.result q other)) s).0;
       filled = c.in_ok-push.ensures.filled;
@@ -86,18 +97,18 @@ adds_of g c =
       long = refl;
       size = omega (arith, le);
       room = λ t. elim (full_or_room (a.pair.values.held sec) n (omega (arith, le))) [
-        | inl full ↦ absurd (cc ((c.in_ok-pair.ensures.full (inl t)).1 (le, omega (arith, c.requires.over.pair_floor), inr full)))
+        | inl full ↦ absurd (cc ((c.in_ok-pair.ensures.full (inl t)).1 (le, pair_above (shown c.args.self) c.requires.over c.args.index c.section_of-section.result c.section_of-section.ensures c.requires.floor, inr full)))
         | inr fits ↦ fits
       ];
     }
 
 -- what the record is, where its frame is not too large
-asked_of : (g : given.Over) (c : After-append g) → IsSoundArchive (shown c.args.self) (disk (g.D.Device.time c.args.dev.now)) → length (frame g.S.Seal.seal_of (g.V.Codec.spelling c.args.value.now)) ≤ 2 ^ 32 - 1
-    → IsFree (shown c.args.self) c.args.index c.section_of-section.result c.section_of-section.ensures (g.K.Key.key_bytes c.args.key) (g.V.Codec.spelling c.args.value.now) (length (frame g.S.Seal.seal_of (g.V.Codec.spelling c.args.value.now))) (disk (g.D.Device.time c.args.dev.now))
-asked_of g c sound le = record {
+asked_of : (g : given.Over) (c : After-append g) (times : Times) → is_skipped (shown c.args.self) c.args.index times ≡ false → IsSoundArchive (shown c.args.self) (disk (g.D.Device.time c.args.dev.now)) → length (frame g.S.Seal.seal_of (g.V.Codec.spelling c.args.value.now)) ≤ 2 ^ 32 - 1
+    → IsFree (shown c.args.self) c.args.index c.section_of-section.result c.section_of-section.ensures (g.K.Key.key_bytes c.args.key) (g.V.Codec.spelling c.args.value.now) (length (frame g.S.Seal.seal_of (g.V.Codec.spelling c.args.value.now))) (disk (g.D.Device.time c.args.dev.now)) times
+asked_of g c times free sound le = record {
   small = c.ranges.index.fits;
   sized = g.met.K.Key.sized c.args.key;
-  free = c.requires.free;
+  free = free;
   accepted = g.met.V.Codec.kept c.args.value.now c.args.self.pair.values.codec_config c.requires.value;
   some = omega (arith, length-frame g.S.Seal.seal_of (g.V.Codec.spelling c.args.value.now));
   place = place_of-index_record g.K.Key.SIZE c.args.index (g.K.Key.key_bytes c.args.key) (glob.section_size (shown c.args.self).pair.values c.section_of-section.result) (length (frame g.S.Seal.seal_of (g.V.Codec.spelling c.args.value.now)))
@@ -105,9 +116,9 @@ asked_of g c sound le = record {
 }
 
 -- at every moment each crash leaves what stands for the state with the put under way
-moments_of : (g : given.Over) (c : After-append g) → g.D.Device.Tells → IsSoundArchive (shown c.args.self) (disk (g.D.Device.time c.args.dev.now)) → Always (g.D.Device.time c.args.dev.now) (g.D.Device.time c.append.new.dev)
-    (Leaves (filing_of (shown c.args.self)) (state_of (shown c.args.self) (disk (g.D.Device.time c.args.dev.now))) (Some (Put c.args.index (g.K.Key.key_bytes c.args.key) (g.V.Codec.spelling c.args.value.now))))
-moments_of g c t sound =
+moments_of : (g : given.Over) (c : After-append g) (times : Times) → is_skipped (shown c.args.self) c.args.index times ≡ false → g.D.Device.Tells → IsSoundArchive (shown c.args.self) (disk (g.D.Device.time c.args.dev.now)) → Always (g.D.Device.time c.args.dev.now) (g.D.Device.time c.append.new.dev)
+    (Leaves (filing_of (shown c.args.self)) (state_of (shown c.args.self) (disk (g.D.Device.time c.args.dev.now))) (Some (put_command times c.args.index (g.K.Key.key_bytes c.args.key) (g.V.Codec.spelling c.args.value.now))))
+moments_of g c times free t sound =
     let before = g.D.Device.time c.args.dev.now in
     let now = g.D.Device.time c.append.new.dev in
     let l = (shown c.args.self).pair.layout in
@@ -119,11 +130,11 @@ moments_of g c t sound =
     subst (λ (r : IndexRecord g.row.K.Denot). Keeping l (λ s. list_of (shown c.args.self).pair (disk before) s
     ++ (if s == c.section_of-section.result then record { stored = index_record r.index (g.K.Key.key_bytes r.key) offset size; value = bytes } ∷ [] else [])) (synced_length (shown c.args.self).pair) (λ _. ⊥) Blobs before now)
     c.new-record.ensures (c.append.ensures.moments t sound.pair) in
-    put_moments (shown c.args.self) c.args.index c.section_of-section.result c.section_of-section.ensures (g.K.Key.key_bytes c.args.key) bytes size g.D.Device.time c.args.dev.now c.append.new.dev
+    put_moments (shown c.args.self) c.args.index c.section_of-section.result c.section_of-section.ensures (g.K.Key.key_bytes c.args.key) bytes size times g.D.Device.time c.args.dev.now c.append.new.dev
     (at_rest (shown c.args.self) (disk before) (omega arith) refl refl refl (λ s v held. λ i. (c.requires.over.pair.index.over.opened_list.setting s v held i).page_size) c.requires.over t sound)
-    c.requires.over t sound (asked_of g c sound) (c.has_room.ensures.0 c.if-not-has_room.false) c.args.self.has_records c.section_of-section.type_inv
+    c.requires.over t sound (asked_of g c times free sound) (c.has_room.ensures.0 c.if-not-has_room.false) c.args.self.has_records c.section_of-section.type_inv
     (λ lt. c.append.ensures.refused (inl (c.append.ensures.too_large.1 lt)))
-    (λ le full. c.append.ensures.refused (inr (inr (inl t, (c.append.ensures.full (inl t)).1 (le, omega (arith, c.requires.over.pair_floor), inr full)))))
+    (λ le full. c.append.ensures.refused (inr (inr (inl t, (c.append.ensures.full (inl t)).1 (le, pair_above (shown c.args.self) c.requires.over c.args.index c.section_of-section.result c.section_of-section.ensures c.requires.floor, inr full)))))
     keeping
 
 sounds_of : (g : given.Over) (c : goal.After-result-1 g) → g.D.Device.Tells → IsSoundArchive (shown c.args.self) (disk (g.D.Device.time c.args.dev.now))
@@ -155,8 +166,8 @@ reserve-requires g c = record { filled = c.requires.over.filled }
 -- ---- the exits
 
 pub returns-then-not-has_room : goal.returns-then-not-has_room
-returns-then-not-has_room g c =
-    put_over_limit _ g.D.Device c.args.self c.args.index (g.K.Key.key_bytes c.args.key) (g.V.Codec.spelling c.args.value.now) (section_small _ c.args.index c.ranges.index.fits) c.requires.free c.args.dev.now
+returns-then-not-has_room g c times free =
+    put_over_limit _ g.D.Device times c.args.self c.args.index (g.K.Key.key_bytes c.args.key) (g.V.Codec.spelling c.args.value.now) (section_small _ c.args.index c.ranges.index.fits) free c.args.dev.now
     (λ t sound. at_rest (shown c.args.self) (disk (g.D.Device.time c.args.dev.now)) (omega arith) refl refl refl (λ s v held. λ i. (c.requires.over.pair.index.over.opened_list.setting s v held i).page_size) c.requires.over t sound)
     (λ allowed.
     let a = shown c.args.self in
@@ -164,37 +175,37 @@ returns-then-not-has_room g c =
     absurd (cc (room, c.if-not-has_room.true)))
 
 pub returns-in_err-reserve : goal.returns-in_err-reserve
-returns-in_err-reserve g c =
-    put_as _ g.D.Device c.args.self c.args.index (g.K.Key.key_bytes c.args.key) (g.V.Codec.spelling c.args.value.now) _ (Err Mem) _ _ (err_of _ Mem c.from_residual.ensures.1)
-    (put_no_memory _ g.D.Device c.args.self c.args.index (g.K.Key.key_bytes c.args.key) (g.V.Codec.spelling c.args.value.now) (section_small _ c.args.index c.ranges.index.fits) c.requires.free c.args.dev.now
+returns-in_err-reserve g c times free =
+    put_as _ g.D.Device times c.args.self c.args.index (g.K.Key.key_bytes c.args.key) (g.V.Codec.spelling c.args.value.now) _ (Err Mem) _ _ (err_of _ Mem c.from_residual.ensures.1)
+    (put_no_memory _ g.D.Device times c.args.self c.args.index (g.K.Key.key_bytes c.args.key) (g.V.Codec.spelling c.args.value.now) (section_small _ c.args.index c.ranges.index.fits) free c.args.dev.now
     (λ t sound. at_rest (shown c.args.self) (disk (g.D.Device.time c.args.dev.now)) (omega arith) refl refl refl (λ s v held. λ i. (c.requires.over.pair.index.over.opened_list.setting s v held i).page_size) c.requires.over t sound)
     (subst (HasRoom (shown c.args.self).most_sections (shown c.args.self).most_records (shown c.args.self).rows) c.section_of-section.ensures (c.has_room.ensures.0 c.if-not-has_room.false)))
 
 pub returns-in_err-insert : goal.returns-in_err-insert
-returns-in_err-insert g c =
-    put_as _ g.D.Device c.args.self c.args.index (g.K.Key.key_bytes c.args.key) (g.V.Codec.spelling c.args.value.now) _ (Err Mem) _ _ (err_of _ Mem c.from_residual-in_err-insert.ensures.1)
-    (put_no_memory _ g.D.Device c.args.self c.args.index (g.K.Key.key_bytes c.args.key) (g.V.Codec.spelling c.args.value.now) (section_small _ c.args.index c.ranges.index.fits) c.requires.free c.args.dev.now
+returns-in_err-insert g c times free =
+    put_as _ g.D.Device times c.args.self c.args.index (g.K.Key.key_bytes c.args.key) (g.V.Codec.spelling c.args.value.now) _ (Err Mem) _ _ (err_of _ Mem c.from_residual-in_err-insert.ensures.1)
+    (put_no_memory _ g.D.Device times c.args.self c.args.index (g.K.Key.key_bytes c.args.key) (g.V.Codec.spelling c.args.value.now) (section_small _ c.args.index c.ranges.index.fits) free c.args.dev.now
     (λ t sound. at_rest (shown c.args.self) (disk (g.D.Device.time c.args.dev.now)) (omega arith) refl refl refl (λ s v held. λ i. (c.requires.over.pair.index.over.opened_list.setting s v held i).page_size) c.requires.over t sound)
     (subst (HasRoom (shown c.args.self).most_sections (shown c.args.self).most_records (shown c.args.self).rows) c.section_of-section.ensures (c.has_room.ensures.0 c.if-not-has_room.false)))
 
 pub returns-in_err-insert-2 : goal.returns-in_err-insert-2
-returns-in_err-insert-2 g c =
-    put_as _ g.D.Device c.args.self c.args.index (g.K.Key.key_bytes c.args.key) (g.V.Codec.spelling c.args.value.now) _ (Err Mem) _ _ (err_of _ Mem c.from_residual-in_err-insert-2.ensures.1)
-    (put_no_memory _ g.D.Device c.args.self c.args.index (g.K.Key.key_bytes c.args.key) (g.V.Codec.spelling c.args.value.now) (section_small _ c.args.index c.ranges.index.fits) c.requires.free c.args.dev.now
+returns-in_err-insert-2 g c times free =
+    put_as _ g.D.Device times c.args.self c.args.index (g.K.Key.key_bytes c.args.key) (g.V.Codec.spelling c.args.value.now) _ (Err Mem) _ _ (err_of _ Mem c.from_residual-in_err-insert-2.ensures.1)
+    (put_no_memory _ g.D.Device times c.args.self c.args.index (g.K.Key.key_bytes c.args.key) (g.V.Codec.spelling c.args.value.now) (section_small _ c.args.index c.ranges.index.fits) free c.args.dev.now
     (λ t sound. at_rest (shown c.args.self) (disk (g.D.Device.time c.args.dev.now)) (omega arith) refl refl refl (λ s v held. λ i. (c.requires.over.pair.index.over.opened_list.setting s v held i).page_size) c.requires.over t sound)
     (subst (HasRoom (shown c.args.self).most_sections (shown c.args.self).most_records (shown c.args.self).rows) c.section_of-section.ensures (c.has_room.ensures.0 c.if-not-has_room.false)))
 
 pub returns-in_err-pair : goal.returns-in_err-pair
-returns-in_err-pair g c =
+returns-in_err-pair g c times free =
     let sec = c.section_of-section.result in
     let key = g.K.Key.key_bytes c.args.key in
     let v = g.V.Codec.spelling c.args.value.now in
     let e = c.in_err-pair.field-0.0 in
     let small = section_small _ c.args.index c.ranges.index.fits in
     let allowed = subst (HasRoom (shown c.args.self).most_sections (shown c.args.self).most_records (shown c.args.self).rows) c.section_of-section.ensures (c.has_room.ensures.0 c.if-not-has_room.false) in
-    put_as _ g.D.Device c.args.self c.args.index key v _ (Err (raised e)) _ _ (err_of _ (raised e) c.from_residual-in_err-pair.ensures.1)
-    (put_pair_failed _ g.D.Device c.args.self c.args.index key v small c.requires.free allowed c.requires.over.pair_floor e c.args.dev.now c.append.new.dev
-    (failed_here _ g.D.Device c.args.self c.args.index key v small c.requires.free sec c.section_of-section.ensures e c.args.dev.now c.append.new.dev (record {
+    put_as _ g.D.Device times c.args.self c.args.index key v _ (Err (raised e)) _ _ (err_of _ (raised e) c.from_residual-in_err-pair.ensures.1)
+    (put_pair_failed _ g.D.Device times c.args.self c.args.index key v small free allowed (pair_above (shown c.args.self) c.requires.over c.args.index _ refl c.requires.floor) e c.args.dev.now c.append.new.dev
+    (failed_here _ g.D.Device times c.args.self c.args.index key v small free sec c.section_of-section.ensures e c.args.dev.now c.append.new.dev (record {
       cause = c.in_err-pair.ensures.cause;
       guard = c.in_err-pair.ensures.guard;
       too_large = c.in_err-pair.ensures.too_large;
@@ -202,8 +213,8 @@ returns-in_err-pair g c =
       refused = c.in_err-pair.ensures.refused;
       no_room = c.in_err-pair.ensures.no_room;
     }))
-    (moments_of g (goal.at.returns-in_err-pair g c).After-append)
-    (touches_here _ g.D.Device c.args.self c.args.index key v sec c.section_of-section.ensures c.args.dev.now c.append.new.dev (record {
+    (moments_of g (goal.at.returns-in_err-pair g c).After-append times free)
+    (touches_here _ g.D.Device times c.args.self c.args.index key v sec c.section_of-section.ensures c.args.dev.now c.append.new.dev (record {
       untouched = c.append.ensures.untouched;
       entries = c.append.ensures.entries;
       faults = c.append.ensures.faults;
@@ -214,7 +225,7 @@ pub returns-in_err-push : goal.returns-in_err-push
 returns-in_err-push g c = absurd (c.in_err-push.ensures.no_spare c.in_ok-reserve.ensures.room)
 
 pub returns : goal.returns
-returns g c =
+returns g c times free =
     let a = shown c.args.self in
     let d = disk (g.D.Device.time c.args.dev.now) in
     let e = disk (g.D.Device.time c.append.new.dev) in
@@ -234,33 +245,34 @@ returns g c =
     let filing = same_filing (filing_of a) q.layout refusal says.layout refl (λ _. refl) (λ _. refl) (λ bytes. ap (g.V.Codec.refusal bytes) says.codec_config) in
     let over = grown_archive a q refusal rows (AreFilledBut (λ _. ⊥) c.push.new.self) (set_of c.insert-2.new.self) written c.args.index sec here key n d e
     c.requires.over adds says.over (c.has_room.ensures.0 c.if-not-has_room.false) c.args.self.has_records in
-    let sounder : g.D.Device.Tells → IsSoundArchive a d → IsSoundArchive _ e = λ t sound. grown_sound a q refusal rows (AreFilledBut (λ _. ⊥) c.push.new.self) (set_of c.insert-2.new.self) written c.args.index sec here key v n d e c.requires.over t adds (asked_of g (goal.at.returns g c).After-append sound (short g c)) sound (sounds_of g c t sound) in
-    put_added _ g.D.Device c.args.self c.args.index key v small c.requires.free _ c.args.dev.now c.append.new.dev allowed (moments_of g (goal.at.returns g c).After-append)
-    (touches_here _ g.D.Device c.args.self c.args.index key v sec here c.args.dev.now c.append.new.dev (record {
+    let sounder : g.D.Device.Tells → IsSoundArchive a d → IsSoundArchive _ e = λ t sound. grown_sound a q refusal rows (AreFilledBut (λ _. ⊥) c.push.new.self) (set_of c.insert-2.new.self) written c.args.index sec here key v n d e c.requires.over t adds times (asked_of g (goal.at.returns g c).After-append times free sound (short g c)) sound (sounds_of g c t sound) in
+    put_added _ g.D.Device times c.args.self c.args.index key v small free _ c.args.dev.now c.append.new.dev allowed (moments_of g (goal.at.returns g c).After-append times free)
+    (touches_here _ g.D.Device times c.args.self c.args.index key v sec here c.args.dev.now c.append.new.dev (record {
       untouched = c.append.ensures.untouched;
       entries = c.append.ensures.entries;
       faults = c.append.ensures.faults;
       below = c.append.ensures.below;
     }))
     (short g c)
-    (rw (sym here) (λ t passed. absurd (cc ((says.full (inl t)).1 (short g c, omega (arith, c.requires.over.pair_floor), passed)))))
+    (rw (sym here) (λ t passed. absurd (cc ((says.full (inl t)).1 (short g c, pair_above (shown c.args.self) c.requires.over c.args.index c.section_of-section.result c.section_of-section.ensures c.requires.floor, passed)))))
     over
     (one_filing (filing_of a) _ filing refl)
     (λ w accepts. subst (g.V.Codec.accepted w) (sym says.codec_config) accepts)
     sounder
-    (λ t sound. grown_state a q refusal rows (AreFilledBut (λ _. ⊥) c.push.new.self) (set_of c.insert-2.new.self) written c.args.index sec here key v n d e c.requires.over t adds (asked_of g (goal.at.returns g c).After-append sound (short g c)) sound (sounds_of g c t sound))
+    (λ t sound. grown_state a q refusal rows (AreFilledBut (λ _. ⊥) c.push.new.self) (set_of c.insert-2.new.self) written c.args.index sec here key v n d e c.requires.over t adds times (asked_of g (goal.at.returns g c).After-append times free sound (short g c)) sound (sounds_of g c t sound))
     (λ t sound. at_rest _ e (omega arith) refl refl refl (λ s u held. λ i. (says.over.index.over.opened_list.setting s u held i).page_size) over t sound)
     (record {
       filing = filing;
       word = refl;
+      floor = refl;
       bounds = says.bounds;
-      rows = rows_put a c.args.index sec here c.requires.free key rows adds.row adds.other_rows;
-      values = λ t. sizes_put a c.args.index sec here c.requires.free n q.values
+      rows = rows_put a c.args.index sec here (is_skipped a c.args.index times) free key rows adds.row adds.other_rows;
+      values = λ t. sizes_put a c.args.index sec here (is_skipped a c.args.index times) free n q.values
           (sym (section_counted _ q.values _ e says.over.values t sec) ∙ ap length (says.values t) ∙ length-append _ _ ∙ ap (λ (k : ℕ). k + n) (section_counted _ a.pair.values _ d c.requires.over.pair.values t sec))
           (λ s other. ap glob.size_held (says.others s other).1.held);
-      own_tails = λ free. subst (λ (s : ℕ). AreTailsAfter a.pair s n q) here (subst (λ (k : ℕ). AreTailsAfter a.pair sec k q) says.size says.tails);
-      other_tails = λ s other. (let same = says.others s (not_here a c.args.index sec here c.requires.free s other) in tails_same a.pair q s same.0 same.1);
-      written = λ s. written_put a c.args.index sec here c.requires.free written s (grows (contains nat_cmp c.args.self.written) written sec c.in_ok-insert.ensures.updates.1 (λ k other. c.in_ok-insert.ensures.updates.2 k (not_at sec k other)) s);
+      own_tails = λ added. subst (λ (s : ℕ). AreTailsAfter a.pair s n q) here (subst (λ (k : ℕ). AreTailsAfter a.pair sec k q) says.size says.tails);
+      other_tails = λ s other. (let same = says.others s (not_here a c.args.index sec here (is_skipped a c.args.index times) free s other) in tails_same a.pair q s same.0 same.1);
+      written = λ s. written_put a c.args.index sec here (is_skipped a c.args.index times) free written s (grows (contains nat_cmp c.args.self.written) written sec c.in_ok-insert.ensures.updates.1 (λ k other. c.in_ok-insert.ensures.updates.2 k (not_at sec k other)) s);
       markers = says.markers;
       synced = says.synced;
     })

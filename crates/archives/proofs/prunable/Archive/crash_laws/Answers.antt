@@ -31,7 +31,7 @@ returns g c =
           passes a opened d over t sound (λ s v held. λ j. (over.pair.index.over.opened_list.setting s v held j).page_size) i n c.args.self.now.pair.index.manager.factory.small (omega (arith, key)) few,
         );
         moving = moving_said a opened d over t refl (markers_readable g.S.Seal);
-        moving_after = λ i key value. moving_after_said a opened d over t refl (markers_readable g.S.Seal) i key value;
+        moving_after = λ times i key value. moving_after_said a opened d over t refl (markers_readable g.S.Seal) times i key value;
         version = (
           has_no_version_now a.pair.layout a.pair.store d refl (over.pair.disk t).markers,
           no_next_version a.pair.layout a.pair.store d refl (over.pair.disk t).markers (markers_readable g.S.Seal),

@@ -1,4 +1,5 @@
 use Rattle.std.proofs.Common.{◌≡◌, ◌⊎◌, inl, inr, refl, sym, ◌∙◌, ap, subst, ℕ, ◌+◌, ◌≤◌, ◌<◌, ◌^◌, Bool, true, false, IsTrue, List, length, map, None, Err, arith}
+use Rattle.std.proofs.Math.Nat.{div-mul-le_self}
 use Rattle.std.specs.Prelude.{⊤}
 use Rattle.std.specs.List.{AllByRecursion}
 use Rattle.blob_device.specs.Timeline.{disk, Always}
@@ -289,8 +290,9 @@ returns g c =
       over = record {
         pair = says.over;
         items = c.requires.valid.items;
-        floor = refl;
-        pair_floor = says.counts.floors.0;
+        floor = omega (arith, div-mul-le_self 0 f.items);
+        pair_floor = omega (arith, says.counts.floors.0);
+        below = λ s low. absurd (omega (arith, low));
         listed = listed;
         spelled = λ t s. subst (AllByRecursion (IsSpelled g.K.Key.SIZE)) (sym ((says.kept t).records s)) ((read.told t).spelled s);
         filled = read.filled;
@@ -313,6 +315,7 @@ returns g c =
       told = λ t. record {
         records = (run.store.entries, (here.found t).markers, records_left f here.readable run walked a b e since.still since.store (here.found t) (since.stays t) run.store.entries (here.found t).markers z arch (says.kept t));
         values = λ s small. values_stored p opened z says.over s t small (says.settled s) ∙ ap (λ y. length (content_at (as_read z) y.values s)) own;
+        floor = (run.store.entries, (here.found t).markers, refl);
         start = start t;
         kept = record {
           copies = here.copies t;

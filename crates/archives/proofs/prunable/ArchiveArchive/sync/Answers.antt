@@ -73,6 +73,7 @@ returns g c =
     (record {
       filing = filing;
       word = refl;
+      floor = refl;
       rows = λ s. refl;
       values = sync.sizes;
       stored = λ t s small is. values_stored p after (disk new) says.over s t small (λ held. sync.settled s is ((sync.values_held s).0 held)) ∙ ap (λ (l : List ℕ). length (content_at (as_read (disk new)) l s)) sync.layout.values;

@@ -1,0 +1,15 @@
+use Rattle.std.proofs.Common.{refl}
+use Rattle.blob_device.proofs.Results.{err_of}
+use Rattle.archives.specs.Putting.{Often}
+use Rattle.archives.proofs.PutSyncsLemmas.{put_sync_as, put_sync_refused, put_then_sync}
+use Rattle.archives.proofs.prunable.multi.ArchiveMultiArchive.put_multi_sync.Goals as goal
+
+pub returns-in_err-this : goal.returns-in_err-this
+returns-in_err-this g c =
+    put_sync_as _ g.D.Device Often c.args.self c.args.index (g.K.Key.key_bytes c.args.key) (g.V.Codec.spelling c.args.value.now) _ _ _ _ (err_of _ c.in_err-this.field-0.0 c.from_residual.ensures.1)
+    (put_sync_refused _ g.D.Device Often c.args.self c.args.index (g.K.Key.key_bytes c.args.key) (g.V.Codec.spelling c.args.value.now) c.ranges.index.fits c.in_err-this.field-0.0 c.args.dev.now c.put_multi.new.dev c.in_err-this.ensures)
+
+pub returns : goal.returns
+returns g c =
+    put_then_sync _ g.D.Device Often c.args.self c.args.index (g.K.Key.key_bytes c.args.key) (g.V.Codec.spelling c.args.value.now) c.ranges.index.fits (λ x y. refl) c.in_ok-this.this c.args.dev.now c.put_multi.new.dev c.sync.new.dev
+    c.in_ok-this.ensures c.sync.result c.sync.ensures
