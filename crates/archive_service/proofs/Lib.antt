@@ -3,8 +3,11 @@ pub mod LineLemmas
 pub mod LookAnswers
 pub mod Looking
 pub mod LoopSteps
+pub mod MadeLemmas
 pub mod MarkLemmas
+pub mod OpenableLemmas
 pub mod OpeningAnswers
+pub mod PruneAnswers
 pub mod PutAnswers
 pub mod PutSyncAnswers
 pub mod RecordLemmas

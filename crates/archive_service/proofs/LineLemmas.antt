@@ -11,9 +11,12 @@ use Rattle.std.proofs.lemmas.Fmt.{decimal_is_IsNumeral}
 use Rattle.hex.specs.Hex.{decode_of, encode_lower}
 use Rattle.hex.specs.declared.error.FromHexError.{FromHexError}
 use Rattle.hex.proofs.HexLemmas.{decode_of-encode_lower}
-use Rattle.archives.specs.Commands.{Put, PutSync, PutStart, Get, GetKey, Has, HasKey, Gap, Missing, Ranges, RangesFrom, First, Last, Sync, Start, Reopen, Destroy}
+use Rattle.archives.specs.Commands.{Put, PutSync, PutStart, Multi, MultiSync, MultiStart, Get, GetKey, All, Has, HasKey, HasAt, Gap, Missing, Ranges, RangesFrom, First, Last, Sync, Start, Prune, Reopen, Destroy}
+use Rattle.archive_service.specs.PuttingNames.{command_of, name_of}
 use Rattle.archive_service.specs.Texts.{Spelled, line_of, value_text, words_of}
-use Rattle.archive_service.specs.Script.{CanBeSaid, IsCommandOf, IsCounted, IsDouble, IsIndex, IsKey, IsLone, IsLongOf, IsReading, IsRecord, IsShort, IsValue, Record, counted_text, record_text}
+use Rattle.archive_service.specs.declared.script.Putting.{Putting}
+use Rattle.archive_service.specs.declared.script.Putting.TheVariants as way
+use Rattle.archive_service.specs.Script.{AllAreSaid, CanBeSaid, IsCommandOf, IsCounted, IsDouble, IsIndex, IsKey, IsKeyed, IsLone, IsLongOf, IsReading, IsRecord, IsShort, IsValue, Record, counted_text, keyed_text, record_text}
 use Rattle.archive_service.proofs.WordLemmas.{Lacks, all_append, are_bytes, cut_alone, cut_never, cut_once, decimal_lacks, encode_lacks, same_word, value_lacks}
 
 -- ---- words that are joined
@@ -79,6 +82,7 @@ lone_count Reopen said = refl
 lone_count Ranges said = refl
 lone_count First said = refl
 lone_count Last said = refl
+lone_count Destroy said = refl
 lone_count command said = absurd said
 
 short_count : (command : Spelled) → IsShort command → length (words_of command) ≡ 2
@@ -86,18 +90,24 @@ short_count (Get index) said = refl
 short_count (Has index) said = refl
 short_count (GetKey key) said = refl
 short_count (HasKey key) said = refl
+short_count (All index) said = refl
+short_count (Prune index) said = refl
 short_count (Gap index) said = refl
 short_count (RangesFrom index) said = refl
 short_count command said = absurd said
 
 double_count : (command : Spelled) → IsDouble command → length (words_of command) ≡ 3
 double_count (Missing index count) said = refl
+double_count (HasAt index key) said = refl
 double_count command said = absurd said
 
 long_count : (max : ℕ) (command : Spelled) → IsLongOf max command → length (words_of command) ≡ 4
 long_count max (Put index key value) said = refl
 long_count max (PutSync index key value) said = refl
 long_count max (PutStart index key value) said = refl
+long_count max (Multi index key value) said = refl
+long_count max (MultiSync index key value) said = refl
+long_count max (MultiStart index key value) said = refl
 long_count max command said = absurd said
 
 module _ (c : ℕ) (low : c < 45) where
@@ -108,6 +118,7 @@ module _ (c : ℕ) (low : c < 45) where
   lone_lacks Ranges said = (name_lacks c (omega (arith, low)) (codes "ranges") refl, tt)
   lone_lacks First said = (name_lacks c (omega (arith, low)) (codes "first") refl, tt)
   lone_lacks Last said = (name_lacks c (omega (arith, low)) (codes "last") refl, tt)
+  lone_lacks Destroy said = (name_lacks c (omega (arith, low)) (codes "destroy") refl, tt)
   lone_lacks command said = absurd said
 
   index_lacks : (name : List ℕ) → is_name name ≡ true → (index : ℕ) → IsIndex index → AllByRecursion (Lacks c) (name ∷ decimal index ∷ [])
@@ -121,6 +132,8 @@ module _ (c : ℕ) (low : c < 45) where
   short_lacks (Has index) said = index_lacks (codes "has") refl index said
   short_lacks (GetKey key) said = key_lacks (codes "getk") refl key said
   short_lacks (HasKey key) said = key_lacks (codes "hask") refl key said
+  short_lacks (All index) said = index_lacks (codes "all") refl index said
+  short_lacks (Prune index) said = index_lacks (codes "prune") refl index said
   short_lacks (Gap index) said = index_lacks (codes "gap") refl index said
   short_lacks (RangesFrom index) said = index_lacks (codes "rangesfrom") refl index said
   short_lacks command said = absurd said
@@ -128,6 +141,8 @@ module _ (c : ℕ) (low : c < 45) where
   double_lacks : (command : Spelled) → IsDouble command → AllByRecursion (Lacks c) (words_of command)
   double_lacks (Missing index count) said =
       (name_lacks c (omega (arith, low)) (codes "missing") refl, (decimal_lacks c index (omega (arith, low)) said.0, (decimal_lacks c count (omega (arith, low)) (omega (arith, said.1)), tt)))
+  double_lacks (HasAt index key) said =
+      (name_lacks c (omega (arith, low)) (codes "hasat") refl, (decimal_lacks c index (omega (arith, low)) said.0, (encode_lacks c key (omega (arith, low)) said.1.1, tt)))
   double_lacks command said = absurd said
 
   module _ (max : ℕ) where
@@ -140,6 +155,9 @@ module _ (c : ℕ) (low : c < 45) where
     long_lacks (Put index key value) said = record_lacks (codes "put") refl index key value said
     long_lacks (PutSync index key value) said = record_lacks (codes "putsync") refl index key value said
     long_lacks (PutStart index key value) said = record_lacks (codes "putstart") refl index key value said
+    long_lacks (Multi index key value) said = record_lacks (codes "multi") refl index key value said
+    long_lacks (MultiSync index key value) said = record_lacks (codes "multisync") refl index key value said
+    long_lacks (MultiStart index key value) said = record_lacks (codes "multistart") refl index key value said
     long_lacks command said = absurd said
 
     words_lack : (command : Spelled) → CanBeSaid max command → AllByRecursion (Lacks c) (words_of command)
@@ -181,7 +199,7 @@ value_again : (max : ℕ) (value : List ℕ) → IsValue max value → bytes_in 
 value_again max [] h = refl
 value_again max (byte ∷ bytes) h = ap decoded (decode_of-encode_lower (byte ∷ bytes) (are_bytes (byte ∷ bytes) h.1))
 
--- the command of a name and what stands behind it; the last one is said by no line
+-- the command of a name and what stands behind it; where no name is one of a command it is the last one
 abbrev lone_named : List ℕ → Spelled
 lone_named name =
     if bytes_eq name (codes "sync") then Sync
@@ -198,6 +216,8 @@ short_named name word =
     else if bytes_eq name (codes "has") then Has (number_in word)
     else if bytes_eq name (codes "getk") then GetKey (bytes_in word)
     else if bytes_eq name (codes "hask") then HasKey (bytes_in word)
+    else if bytes_eq name (codes "prune") then Prune (number_in word)
+    else if bytes_eq name (codes "all") then All (number_in word)
     else if bytes_eq name (codes "gap") then Gap (number_in word)
     else if bytes_eq name (codes "rangesfrom") then RangesFrom (number_in word)
     else Destroy
@@ -205,6 +225,7 @@ short_named name word =
 abbrev double_named : List ℕ → List ℕ → List ℕ → Spelled
 double_named name first second =
     if bytes_eq name (codes "missing") then Missing (number_in first) (number_in second)
+    else if bytes_eq name (codes "hasat") then HasAt (number_in first) (bytes_in second)
     else Destroy
 
 abbrev long_named : List ℕ → ℕ → List ℕ → List ℕ → Spelled
@@ -212,6 +233,9 @@ long_named name index key value =
     if bytes_eq name (codes "put") then Put index key value
     else if bytes_eq name (codes "putsync") then PutSync index key value
     else if bytes_eq name (codes "putstart") then PutStart index key value
+    else if bytes_eq name (codes "multi") then Multi index key value
+    else if bytes_eq name (codes "multisync") then MultiSync index key value
+    else if bytes_eq name (codes "multistart") then MultiStart index key value
     else Destroy
 
 abbrev said_by : List (List ℕ) → Spelled
@@ -228,6 +252,7 @@ lone_again Reopen said = refl
 lone_again Ranges said = refl
 lone_again First said = refl
 lone_again Last said = refl
+lone_again Destroy said = refl
 lone_again command said = absurd said
 
 short_again : (command : Spelled) → IsShort command → said_by (words_of command) ≡ command
@@ -235,12 +260,15 @@ short_again (Get index) said = ap Get (number_again index said)
 short_again (Has index) said = ap Has (number_again index said)
 short_again (GetKey key) said = ap GetKey (key_again key said)
 short_again (HasKey key) said = ap HasKey (key_again key said)
+short_again (All index) said = ap All (number_again index said)
+short_again (Prune index) said = ap Prune (number_again index said)
 short_again (Gap index) said = ap Gap (number_again index said)
 short_again (RangesFrom index) said = ap RangesFrom (number_again index said)
 short_again command said = absurd said
 
 double_again : (command : Spelled) → IsDouble command → said_by (words_of command) ≡ command
 double_again (Missing index count) said = rw (number_again index said.0, number_again count (omega (arith, said.1))) refl
+double_again (HasAt index key) said = rw (number_again index said.0, key_again key said.1) refl
 double_again command said = absurd said
 
 record_again : (max : ℕ) (make : ℕ → List ℕ → List ℕ → Spelled) (index : ℕ) (key value : List ℕ) → IsRecord max (index, key, value)
@@ -251,6 +279,9 @@ long_again : (max : ℕ) (command : Spelled) → IsLongOf max command → said_b
 long_again max (Put index key value) said = record_again max Put index key value said
 long_again max (PutSync index key value) said = record_again max PutSync index key value said
 long_again max (PutStart index key value) said = record_again max PutStart index key value said
+long_again max (Multi index key value) said = record_again max Multi index key value said
+long_again max (MultiSync index key value) said = record_again max MultiSync index key value said
+long_again max (MultiStart index key value) said = record_again max MultiStart index key value said
 long_again max command said = absurd said
 
 again : (max : ℕ) (command : Spelled) → CanBeSaid max command → said_by (words_of command) ≡ command
@@ -268,16 +299,17 @@ line_injective max a b ha hb e =
 
 -- ---- one word
 
-pub lone_refused : (word : List ℕ) → word ≢ codes "sync" → word ≢ codes "start" → word ≢ codes "reopen" → word ≢ codes "ranges" → word ≢ codes "first" → word ≢ codes "last"
+pub lone_refused : (word : List ℕ) → word ≢ codes "sync" → word ≢ codes "start" → word ≢ codes "reopen" → word ≢ codes "ranges" → word ≢ codes "first" → word ≢ codes "last" → word ≢ codes "destroy"
     → (command : Spelled) → IsLone command → word ≢ line_of command
 unfolding line_of
-lone_refused word sync start reopen ranges first last Sync said = sync
-lone_refused word sync start reopen ranges first last Start said = start
-lone_refused word sync start reopen ranges first last Reopen said = reopen
-lone_refused word sync start reopen ranges first last Ranges said = ranges
-lone_refused word sync start reopen ranges first last First said = first
-lone_refused word sync start reopen ranges first last Last said = last
-lone_refused word sync start reopen ranges first last command said = absurd said
+lone_refused word sync start reopen ranges first last destroy Sync said = sync
+lone_refused word sync start reopen ranges first last destroy Start said = start
+lone_refused word sync start reopen ranges first last destroy Reopen said = reopen
+lone_refused word sync start reopen ranges first last destroy Ranges said = ranges
+lone_refused word sync start reopen ranges first last destroy First said = first
+lone_refused word sync start reopen ranges first last destroy Last said = last
+lone_refused word sync start reopen ranges first last destroy Destroy said = destroy
+lone_refused word sync start reopen ranges first last destroy command said = absurd said
 
 -- no other command is said by one word
 pub lone_only : (max : ℕ) (word : List ℕ) → Lacks 32 word → (command : Spelled) → CanBeSaid max command → word ≡ line_of command → IsLone command
@@ -304,15 +336,18 @@ short_words : (name word : List ℕ) (command : Spelled) → IsShort command →
 unfolding line_of
 short_words name word command said e = two_words 32 name word (words_of command) (short_count command said) (short_lacks 32 (lit< tt) command said) e
 
-pub short_unnamed : (name word : List ℕ) → name ≢ codes "get" → name ≢ codes "has" → name ≢ codes "getk" → name ≢ codes "hask" → name ≢ codes "gap" → name ≢ codes "rangesfrom"
+pub short_unnamed : (name word : List ℕ) → name ≢ codes "get" → name ≢ codes "has" → name ≢ codes "getk" → name ≢ codes "hask" → name ≢ codes "gap" → name ≢ codes "rangesfrom" → name ≢ codes "prune"
+    → name ≢ codes "all"
     → (command : Spelled) → IsShort command → name ++ 32 ∷ word ≢ line_of command
-short_unnamed name word get has getk hask gap rangesfrom (Get index) said e = get (sym (ap first_of (short_words name word (Get index) said e)))
-short_unnamed name word get has getk hask gap rangesfrom (Has index) said e = has (sym (ap first_of (short_words name word (Has index) said e)))
-short_unnamed name word get has getk hask gap rangesfrom (GetKey key) said e = getk (sym (ap first_of (short_words name word (GetKey key) said e)))
-short_unnamed name word get has getk hask gap rangesfrom (HasKey key) said e = hask (sym (ap first_of (short_words name word (HasKey key) said e)))
-short_unnamed name word get has getk hask gap rangesfrom (Gap index) said e = gap (sym (ap first_of (short_words name word (Gap index) said e)))
-short_unnamed name word get has getk hask gap rangesfrom (RangesFrom index) said e = rangesfrom (sym (ap first_of (short_words name word (RangesFrom index) said e)))
-short_unnamed name word get has getk hask gap rangesfrom command said e = absurd said
+short_unnamed name word get has getk hask gap rangesfrom prune all (Get index) said e = get (sym (ap first_of (short_words name word (Get index) said e)))
+short_unnamed name word get has getk hask gap rangesfrom prune all (Has index) said e = has (sym (ap first_of (short_words name word (Has index) said e)))
+short_unnamed name word get has getk hask gap rangesfrom prune all (GetKey key) said e = getk (sym (ap first_of (short_words name word (GetKey key) said e)))
+short_unnamed name word get has getk hask gap rangesfrom prune all (HasKey key) said e = hask (sym (ap first_of (short_words name word (HasKey key) said e)))
+short_unnamed name word get has getk hask gap rangesfrom prune all (All index) said e = all (sym (ap first_of (short_words name word (All index) said e)))
+short_unnamed name word get has getk hask gap rangesfrom prune all (Gap index) said e = gap (sym (ap first_of (short_words name word (Gap index) said e)))
+short_unnamed name word get has getk hask gap rangesfrom prune all (RangesFrom index) said e = rangesfrom (sym (ap first_of (short_words name word (RangesFrom index) said e)))
+short_unnamed name word get has getk hask gap rangesfrom prune all (Prune index) said e = prune (sym (ap first_of (short_words name word (Prune index) said e)))
+short_unnamed name word get has getk hask gap rangesfrom prune all command said e = absurd said
 
 -- the command of this name is made of what its one word reads as
 pub record IsNamed {A : Type 0} (may_be : A → Type 0) (text_of : A → List ℕ) (read : List ℕ → A) (make : A → Spelled) (own : List ℕ) : Type 0 where
@@ -331,6 +366,12 @@ getk_named = record { is_short = λ key. ((λ h. h), (λ h. h)); words = λ key.
 
 pub hask_named : IsNamed IsKey encode_lower bytes_in HasKey (codes "hask")
 hask_named = record { is_short = λ key. ((λ h. h), (λ h. h)); words = λ key. refl; named = λ word. refl }
+
+pub all_named : IsNamed IsIndex decimal number_in All (codes "all")
+all_named = record { is_short = λ index. ((λ h. h), (λ h. h)); words = λ index. refl; named = λ word. refl }
+
+pub prune_named : IsNamed IsIndex decimal number_in Prune (codes "prune")
+prune_named = record { is_short = λ index. ((λ h. h), (λ h. h)); words = λ index. refl; named = λ word. refl }
 
 pub gap_named : IsNamed IsIndex decimal number_in Gap (codes "gap")
 gap_named = record { is_short = λ index. ((λ h. h), (λ h. h)); words = λ index. refl; named = λ word. refl }
@@ -368,6 +409,16 @@ missing_named = record { is_double = λ c h. h; line = λ c. refl; only = only }
   where
     only : (command : Spelled) → IsDouble command → first_of (words_of command) ≡ codes "missing" → (c : ℕ × ℕ) × IsCounted c × (command ≡ Missing c.0 c.1)
     only (Missing index count) said is = ((index, count), said, refl)
+    only (HasAt index key) said is = absurd (cc is)
+    only command said is = absurd said
+
+pub hasat_named : IsDoubleNamed IsKeyed keyed_text (λ c. HasAt c.0 c.1) (codes "hasat")
+unfolding line_of
+hasat_named = record { is_double = λ c h. h; line = λ c. refl; only = only }
+  where
+    only : (command : Spelled) → IsDouble command → first_of (words_of command) ≡ codes "hasat" → (c : ℕ × List ℕ) × IsKeyed c × (command ≡ HasAt c.0 c.1)
+    only (HasAt index key) said is = ((index, key), said, refl)
+    only (Missing index count) said is = absurd (cc is)
     only command said is = absurd said
 
 -- the name of a command of three words, where a line begins with it
@@ -375,11 +426,15 @@ double_name : (name words : List ℕ) → Lacks 32 name → (command : Spelled) 
 unfolding line_of
 double_name name words lacks (Missing index count) said e =
     (cut_once 32 name (codes "missing") words (counted_text (index, count)) lacks (name_lacks 32 (lit< tt) (codes "missing") refl) e).0
+double_name name words lacks (HasAt index key) said e =
+    (cut_once 32 name (codes "hasat") words (keyed_text (index, key)) lacks (name_lacks 32 (lit< tt) (codes "hasat") refl) e).0
 double_name name words lacks command said e = absurd said
 
-pub double_unnamed : (name words : List ℕ) → Lacks 32 name → name ≢ codes "missing" → (command : Spelled) → IsDouble command → name ++ 32 ∷ words ≢ line_of command
-double_unnamed name words lacks missing (Missing index count) said e = missing (double_name name words lacks (Missing index count) said e)
-double_unnamed name words lacks missing command said e = absurd said
+pub double_unnamed : (name words : List ℕ) → Lacks 32 name → name ≢ codes "missing" → name ≢ codes "hasat"
+    → (command : Spelled) → IsDouble command → name ++ 32 ∷ words ≢ line_of command
+double_unnamed name words lacks missing hasat (Missing index count) said e = missing (double_name name words lacks (Missing index count) said e)
+double_unnamed name words lacks missing hasat (HasAt index key) said e = hasat (double_name name words lacks (HasAt index key) said e)
+double_unnamed name words lacks missing hasat command said e = absurd said
 
 -- The name was compared with that of the command, and is the same.
 module _ {A : Type 0} {may_be : A → Type 0} {text_of : A → List ℕ} {make : A → Spelled} {own : List ℕ} (by : IsDoubleNamed may_be text_of make own)
@@ -412,14 +467,21 @@ unfolding line_of
 long_parts max name words lacks (Put index key value) said e = long_cut max name words lacks (codes "put") refl (index, key, value) said e
 long_parts max name words lacks (PutSync index key value) said e = long_cut max name words lacks (codes "putsync") refl (index, key, value) said e
 long_parts max name words lacks (PutStart index key value) said e = long_cut max name words lacks (codes "putstart") refl (index, key, value) said e
+long_parts max name words lacks (Multi index key value) said e = long_cut max name words lacks (codes "multi") refl (index, key, value) said e
+long_parts max name words lacks (MultiSync index key value) said e = long_cut max name words lacks (codes "multisync") refl (index, key, value) said e
+long_parts max name words lacks (MultiStart index key value) said e = long_cut max name words lacks (codes "multistart") refl (index, key, value) said e
 long_parts max name words lacks command said e = absurd said
 
-pub long_unnamed : (max : ℕ) (name words : List ℕ) → Lacks 32 name → name ≢ codes "put" → name ≢ codes "putsync" → name ≢ codes "putstart"
+-- a name that is none of the ways to put is that of no put
+pub long_unnamed : (max : ℕ) (name words : List ℕ) → Lacks 32 name → ((putting : Putting) → name ≢ name_of putting)
     → (command : Spelled) → IsLongOf max command → name ++ 32 ∷ words ≢ line_of command
-long_unnamed max name words lacks put putsync putstart (Put index key value) said e = put (long_parts max name words lacks (Put index key value) said e).3
-long_unnamed max name words lacks put putsync putstart (PutSync index key value) said e = putsync (long_parts max name words lacks (PutSync index key value) said e).3
-long_unnamed max name words lacks put putsync putstart (PutStart index key value) said e = putstart (long_parts max name words lacks (PutStart index key value) said e).3
-long_unnamed max name words lacks put putsync putstart command said e = absurd said
+long_unnamed max name words lacks none (Put index key value) said e = none way.Put (long_parts max name words lacks (Put index key value) said e).3
+long_unnamed max name words lacks none (PutSync index key value) said e = none way.PutSync (long_parts max name words lacks (PutSync index key value) said e).3
+long_unnamed max name words lacks none (PutStart index key value) said e = none way.PutStart (long_parts max name words lacks (PutStart index key value) said e).3
+long_unnamed max name words lacks none (Multi index key value) said e = none way.Multi (long_parts max name words lacks (Multi index key value) said e).3
+long_unnamed max name words lacks none (MultiSync index key value) said e = none way.MultiSync (long_parts max name words lacks (MultiSync index key value) said e).3
+long_unnamed max name words lacks none (MultiStart index key value) said e = none way.MultiStart (long_parts max name words lacks (MultiStart index key value) said e).3
+long_unnamed max name words lacks none command said e = absurd said
 
 pub long_refused : (max : ℕ) (name words : List ℕ) → Lacks 32 name → IsReading (IsRecord max) record_text words None
     → (command : Spelled) → IsLongOf max command → name ++ 32 ∷ words ≢ line_of command
@@ -427,46 +489,56 @@ long_refused max name words lacks none command said e =
     let parts = long_parts max name words lacks command said e in
     none parts.0 parts.1 parts.2
 
--- the put of this name has a record for its words
-pub record IsLongNamed (max : ℕ) (make : ℕ → List ℕ → List ℕ → Spelled) (own : List ℕ) : Type 0 where
-  pub is_long : (index : ℕ) (key value : List ℕ) → IsRecord max (index, key, value) → IsLongOf max (make index key value)
-  pub words : (index : ℕ) (key value : List ℕ) → words_of (make index key value) ≡ own ∷ decimal index ∷ encode_lower key ∷ value_text value ∷ []
+-- a put of this way has a record for its words
+is_long : (max : ℕ) (putting : Putting) (r : Record) → IsRecord max r → IsLongOf max (command_of putting r.0 r.1 r.2)
+is_long max way.Put (index, key, value) h = h
+is_long max way.PutSync (index, key, value) h = h
+is_long max way.PutStart (index, key, value) h = h
+is_long max way.Multi (index, key, value) h = h
+is_long max way.MultiSync (index, key, value) h = h
+is_long max way.MultiStart (index, key, value) h = h
 
-pub put_named : (max : ℕ) → IsLongNamed max Put (codes "put")
-put_named max = record { is_long = λ index key value h. h; words = λ index key value. refl }
+line_is : (putting : Putting) (r : Record) → line_of (command_of putting r.0 r.1 r.2) ≡ name_of putting ++ 32 ∷ record_text r
+unfolding line_of
+line_is way.Put (index, key, value) = refl
+line_is way.PutSync (index, key, value) = refl
+line_is way.PutStart (index, key, value) = refl
+line_is way.Multi (index, key, value) = refl
+line_is way.MultiSync (index, key, value) = refl
+line_is way.MultiStart (index, key, value) = refl
 
-pub putsync_named : (max : ℕ) → IsLongNamed max PutSync (codes "putsync")
-putsync_named max = record { is_long = λ index key value h. h; words = λ index key value. refl }
+-- what is made of a record, seen as a command, is what the line says
+pub long_found : (max : ℕ) (putting : Putting) (name words : List ℕ) → name ≡ name_of putting → (r : Record) → IsRecord max r → words ≡ record_text r → (seen : Spelled) → seen ≡ command_of putting r.0 r.1 r.2
+    → IsLongOf max seen × (name ++ 32 ∷ words ≡ line_of seen)
+long_found max putting name words is r may text seen same =
+    (subst (IsLongOf max) (sym same) (is_long max putting r may), rw (is, text) refl ∙ sym (line_is putting r) ∙ ap line_of (sym same))
 
-pub putstart_named : (max : ℕ) → IsLongNamed max PutStart (codes "putstart")
-putstart_named max = record { is_long = λ index key value h. h; words = λ index key value. refl }
+-- ---- each command can be said
 
--- what is made of a record is seen as the command of that name
-module _ {K C : Type 0} (key_bytes : K → List ℕ) (seen : C → Spelled) {max : ℕ} {make : ℕ → List ℕ → List ℕ → Spelled} {own : List ℕ} (by : IsLongNamed max make own)
-    (made : ℕ → K → List ℕ → C) (sees : (index : ℕ) (key : K) (value : List ℕ) → seen (made index key value) ≡ make index (key_bytes key) value)
-    (name words : List ℕ) where
-  if_record : name ≡ own → (r : Option (ℕ × K × List ℕ)) → IsReading (IsRecord max) record_text words (option_map (λ r. (r.0, key_bytes r.1, r.2)) r)
-      → IfSome (option_map (λ r. made r.0 r.1 r.2) r) (λ x. IsLongOf max (seen x) × (name ++ 32 ∷ words ≡ line_of (seen x)))
-  unfolding line_of
-  if_record is None none = tt
-  if_record is (Some r) reading =
-      let same = sees r.0 r.1 r.2 in
-      let text : name ++ 32 ∷ words ≡ own ++ 32 ∷ record_text (r.0, key_bytes r.1, r.2) = rw (is, reading.1) refl in
-      (subst (IsLongOf max) (sym same) (by.is_long r.0 (key_bytes r.1) r.2 reading.0), text ∙ sym (ap (join_with_byte 32) (by.words r.0 (key_bytes r.1) r.2)) ∙ ap line_of (sym same))
-
-  if_no_record : Lacks 32 name → (r : Option (ℕ × K × List ℕ)) → IsReading (IsRecord max) record_text words (option_map (λ r. (r.0, key_bytes r.1, r.2)) r)
-      → IfNone (option_map (λ r. made r.0 r.1 r.2) r) ((command : Spelled) → IsLongOf max command → name ++ 32 ∷ words ≢ line_of command)
-  if_no_record lacks None none = long_refused max name words lacks none
-  if_no_record lacks (Some r) reading = tt
-
-  -- The name was compared with that of the command, and is the same; what is found is made of the record, if there is one.
-  pub long_told : {tested : List ℕ} → tested ≡ own → true ≡ bytes_eq name tested
-      → (found : Option C) (r : Option (ℕ × K × List ℕ)) → found ≡ option_map (λ r. made r.0 r.1 r.2) r
-      → IsReading (IsRecord max) record_text words (option_map (λ r. (r.0, key_bytes r.1, r.2)) r)
-      → IfSome found (λ x. IsLongOf max (seen x) × (name ++ 32 ∷ words ≡ line_of (seen x)))
-      × (Lacks 32 name → IfNone found ((command : Spelled) → IsLongOf max command → name ++ 32 ∷ words ≢ line_of command))
-  long_told is same found r of_record reading =
-      rw of_record (if_record (same_word is same) r reading, λ lacks. if_no_record lacks r reading)
+pub all_are_said : AllAreSaid
+all_are_said max (Put index key value) h = inr (inr (inr h))
+all_are_said max (PutSync index key value) h = inr (inr (inr h))
+all_are_said max (PutStart index key value) h = inr (inr (inr h))
+all_are_said max (Multi index key value) h = inr (inr (inr h))
+all_are_said max (MultiSync index key value) h = inr (inr (inr h))
+all_are_said max (MultiStart index key value) h = inr (inr (inr h))
+all_are_said max (Get index) h = inr (inl h)
+all_are_said max (GetKey key) h = inr (inl h)
+all_are_said max (All index) h = inr (inl h)
+all_are_said max (Has index) h = inr (inl h)
+all_are_said max (HasKey key) h = inr (inl h)
+all_are_said max (HasAt index key) h = inr (inr (inl h))
+all_are_said max (Gap index) h = inr (inl h)
+all_are_said max (Missing index count) h = inr (inr (inl h))
+all_are_said max Ranges h = inl tt
+all_are_said max (RangesFrom index) h = inr (inl h)
+all_are_said max First h = inl tt
+all_are_said max Last h = inl tt
+all_are_said max Sync h = inl tt
+all_are_said max Start h = inl tt
+all_are_said max (Prune index) h = inr (inl h)
+all_are_said max Reopen h = inl tt
+all_are_said max Destroy h = inl tt
 
 -- ---- any line
 

@@ -5,7 +5,7 @@ use Rattle.blob_device.specs.Disk.{Disk}
 use Rattle.blob_device.specs.Footprint.{SameElsewhere}
 use Rattle.blob_device.specs.Timeline.{Timeline, disk, Always}
 use Rattle.sealed_pages.specs.Reading.{Unchanged}
-use Rattle.archives.specs.Changes.{Asked}
+use Rattle.archives.specs.Changes.{Asked, NoneThere}
 use Rattle.archives.specs.Commands.{Reopen}
 use Rattle.archives.specs.declared.error.Error.{Error}
 use Rattle.archives.specs.declared.error.Error.TheVariants.{Mem}
@@ -28,6 +28,7 @@ pub record Looking (k : Kind) (old now : Timeline) (commands : List Asked) (mark
   pub quiet : (i : ℕ) (command : Asked) → i < length marks → slice_get commands i ≡ Some command → k.IsQuiet (known i) command
       → begin old now marks (i + 2) ≡ begin old now marks (i + 1)
   pub allowed : (i : ℕ) (command : Asked) → i < length marks → slice_get commands i ≡ Some command → k.MustRefuseAnywhere (known i) (disk_at old now marks (i + 1)) command → ⊥
+  pub cleared : (i : ℕ) (command : Asked) → i < length marks → slice_get commands i ≡ Some command → NoneThere (k.Clears (known i) command) (disk_at old now marks (i + 2))
   pub opened : k.MustRefuseAnywhere k.unknown (disk old) Reopen → ⊥
 
 -- no command was begun
@@ -42,6 +43,7 @@ looking_start k old now commands here later found opened = record {
   learns = λ i command lt. absurd (omega arith);
   quiet = λ i command lt. absurd (omega arith);
   allowed = λ i command lt. absurd (omega arith);
+  cleared = λ i command lt. absurd (omega arith);
   opened = opened;
 }
   where
@@ -129,9 +131,13 @@ module _ (k : Kind) (old b c : Timeline) (commands : List Asked) (marks : List �
   allowed_before i x lt is_x =
       subst (λ (d : Disk). k.MustRefuseAnywhere (looking.known i) d x → ⊥) (sym (disk_same (i + 1) (omega arith))) (looking.allowed i x lt is_x)
 
+  cleared_before : (i : ℕ) (x : Asked) → i < length marks → slice_get commands i ≡ Some x → NoneThere (k.Clears (looking.known i) x) (disk_at old c marked (i + 2))
+  cleared_before i x lt is_x = subst (λ (d : Disk). NoneThere (k.Clears (looking.known i) x) d) (sym (disk_same (i + 2) (omega arith))) (looking.cleared i x lt is_x)
+
   -- it got a reply
-  pub looking_push : (next : k.Known) → k.Learns here command (disk b) (disk c) next → (k.MustRefuseAnywhere here (disk b) command → ⊥) → Looking k old c commands marked next
-  looking_push next learns may = record {
+  pub looking_push : (next : k.Known) → k.Learns here command (disk b) (disk c) next → (k.MustRefuseAnywhere here (disk b) command → ⊥) → NoneThere (k.Clears here command) (disk c)
+      → Looking k old c commands marked next
+  looking_push next learns may clears = record {
     known = known;
     now_known = extended_new looking.known (length marks) next (length marked) (omega (arith, length-append marks (b.calls ∷ [])));
     ascend = ascends (old.calls ∷ marks) b.calls c.calls alone.later looking.ascend;
@@ -152,6 +158,10 @@ module _ (k : Kind) (old b c : Timeline) (commands : List Asked) (marks : List �
         (λ i x lt is_x. subst (λ (n : k.Known). k.MustRefuseAnywhere n (disk_at old c marked (i + 1)) x → ⊥) (sym (agrees i (omega arith))) (allowed_before i x lt is_x))
         (subst (λ (n : k.Known). k.MustRefuseAnywhere n (disk_at old c marked (length marks + 1)) command → ⊥) (sym (agrees (length marks) (omega arith) ∙ looking.now_known))
         (subst (λ (d : Disk). k.MustRefuseAnywhere here d command → ⊥) (sym disk_here) may));
+    cleared = every ClearedAt
+        (λ i x lt is_x. subst (λ (n : k.Known). NoneThere (k.Clears n x) (disk_at old c marked (i + 2))) (sym (agrees i (omega arith))) (cleared_before i x lt is_x))
+        (subst (λ (n : k.Known). NoneThere (k.Clears n command) (disk_at old c marked (length marks + 2))) (sym (agrees (length marks) (omega arith) ∙ looking.now_known))
+        (subst (λ (d : Disk). NoneThere (k.Clears here command) d) (sym disk_end) clears));
     opened = looking.opened;
   }
     where
@@ -167,6 +177,9 @@ module _ (k : Kind) (old b c : Timeline) (commands : List Asked) (marks : List �
       AllowedAt : ℕ → Asked → Type 0
       AllowedAt i x = k.MustRefuseAnywhere (known i) (disk_at old c marked (i + 1)) x → ⊥
 
+      ClearedAt : ℕ → Asked → Type 0
+      ClearedAt i x = NoneThere (k.Clears (known i) x) (disk_at old c marked (i + 2))
+
   -- it got none
   pub anywhere_failed : (e : Error) → (e ≢ Mem → k.IsCauseAnywhere here (Some command) (disk b) (disk c) e)
       → (e ≢ Mem → k.RefusesAnywhere here command e → Unchanged b c) → OverAnyImage k old c commands marked (length marks) (Failed e)
@@ -177,6 +190,7 @@ module _ (k : Kind) (old b c : Timeline) (commands : List Asked) (marks : List �
     learns = learned;
     quiet = quiet looking.known (λ i le. refl);
     allowed = allowed_before;
+    cleared = cleared_before;
     opened = λ some. looking.opened;
     cause = λ x same other. subst (λ (y : Error). k.IsCauseAnywhere (state_in looking.known (length marked)) (under_way commands (length marked)) (disk_at old c marked (length marked)) (disk c) y) (named x same)
         (subst (λ (n : k.Known). k.IsCauseAnywhere n (under_way commands (length marked)) (disk_at old c marked (length marked)) (disk c) e) (sym known_now)
@@ -225,6 +239,7 @@ module _ (k : Kind) (old now : Timeline) (commands : List Asked) (marks : List �
     learns = looking.learns;
     quiet = looking.quiet;
     allowed = looking.allowed;
+    cleared = looking.cleared;
     opened = λ some. looking.opened;
     cause = λ e same other. absurd (other (memory e same));
     unwritten = λ e command same other. absurd (other (memory e same));
@@ -252,6 +267,7 @@ anywhere_unopened k old now commands e kept cause = record {
   learns = λ i command lt. absurd (omega arith);
   quiet = λ i command lt. absurd (omega arith);
   allowed = λ i command lt. absurd (omega arith);
+  cleared = λ i command lt. absurd (omega arith);
   opened = λ some. absurd (elim some as (λ _. ⊥) [ inl begun ↦ begun refl | inr done ↦ cc done ]);
   cause = λ x same other. subst (λ (y : Error). k.IsCauseAnywhere k.unknown None (now.at (2 * old.calls)) (disk now) y) (named x same)
       (subst (λ (d : Disk). k.IsCauseAnywhere k.unknown None d (disk now) e) (sym (kept (2 * old.calls) (omega arith))) cause);

@@ -19,17 +19,16 @@ use Rattle.segments.specs.declared.sealed.AppendFactory.{AppendFactory}
 use Rattle.sealed_pages.specs.declared.page_blob.PageBlob.{PageBlob}
 use Rattle.paired.specs.Kept.{Markers, content_at}
 use Rattle.paired.specs.Opening.{MayBeOpened, as_read}
-use Rattle.archives.specs.Archives.{IsSoundArchive, state_of}
+use Rattle.archives.specs.Archives.{state_of}
 use Rattle.archives.specs.Changes.{Asked, outcome}
 use Rattle.archives.specs.Commands.{Reopen}
 use Rattle.archives.specs.Filing.{Filing, kept_entries}
-use Rattle.archives.specs.FilingLaws.{one_filing}
 use Rattle.archives.specs.Lawful.{Lawful}
 use Rattle.archives.specs.Machine.{State, Step}
 use Rattle.archives.specs.Opening.{HasNoVersion, IsPastLimits, LeavesLawful, OfKept}
 use Rattle.archives.specs.Opens.{HasToMove, IsLawfulCause, IsOpeningCause, MayBeKept, NotOpened, OfMarkers, Opened, Opens}
 use Rattle.archives.specs.Outlasts.{MayStart}
-use Rattle.archives.specs.Prunable.{Prunable, Setup, filing_by}
+use Rattle.archives.specs.Prunable.{Prunable, Setup}
 use Rattle.archives.specs.Refusing.{IsFault}
 use Rattle.archives.specs.Replies as reply
 use Rattle.archives.specs.Rows.{row_in}
@@ -38,12 +37,14 @@ use Rattle.archives.specs.declared.error.Error.{Error}
 use Rattle.archives.specs.declared.error.Error.TheVariants.{Full, Journal, Mem, Metadata, RecordCorrupted}
 use Rattle.archives.proofs.InitRecords.{one_markers}
 use Rattle.archives.proofs.Reopening.{none_beyond}
-use Rattle.archive_service.specs.Causes.{HasLongBlob, Held, IsCause, IsCauseAnywhere, IsOpening, IsUnfit, MayMoveMarkers, MustMoveHeld, MustMoveNow, MustRefuseAnywhere, holding_nothing}
-use Rattle.archive_service.specs.Kinds.{AnswerEnds, Answers, OpensStore}
-use Rattle.archive_service.specs.PrunableKind.{IsFound}
-use Rattle.archive_service.specs.PrunableStore.{IsUsableStore, held_by, prunable_serving}
+use Rattle.archive_service.specs.Causes.{HasLongBlob, Held, IsCause, IsCauseAnywhere, IsOpening, IsUnfit, MustMoveHeld, MustMoveNow, MustRefuseAnywhere, holding_nothing}
+use Rattle.archive_service.specs.Kinds.{AnswerEnds, Answers, OpeningEnds, OpensStore}
+use Rattle.archive_service.specs.PrunableKind.{IsFound, IsQuiet}
+use Rattle.archive_service.specs.PrunableStore.{IsSoundOpenable, IsUsableStore, held_by, openable_held, openable_serving, openable_state}
 use Rattle.archive_service.specs.Starts.{start_of, starts}
-use Rattle.archive_service.proofs.StoreLemmas.{Given, always_as, leaves_as, lists_long_of, no_refusal, none_long, rows_long_of}
+use Rattle.archive_service.specs.declared.store.openable.Openable.{Openable}
+use Rattle.archive_service.specs.declared.store.openable.Openable.TheVariants.{Closed, Open}
+use Rattle.archive_service.proofs.StoreLemmas.{Given, always_as, leaves_as, lists_long_of, no_refusal, none_long, own, rows_long_of}
 
 -- an opening before the first command is under way as none is
 none_for_reopen : (f : Filing) (st : State (List ℕ)) (d : Disk) → Leaves f st (Some Reopen) d → Leaves f st None d
@@ -86,7 +87,7 @@ module _ {A V S D : Type 0} {gs : _} (p : Prunable A V (AppendFactory S) (PageBl
         let some_bytes = subst (λ (n : ℕ). 1 ≤ n) (sym opened.filing.record_size) sized in
         record {
           is_open = refl;
-          floor = opened.over.floor;
+          floor = told.floor;
           rows = (
             told.records.0,
             told.records.1,
@@ -127,12 +128,12 @@ module _ {A V S D : Type 0} {gs : _} (p : Prunable A V (AppendFactory S) (PageBl
   abbrev pub TellsLengths : Type 0
   TellsLengths = (q : Key) → IfSome (dev.opened new q) (λ o. (IsTrue (to q).there) × (length (to q).content ≡ o.len))
 
-  module _ (t : dev.Tells) (u : Option Asked) (opening : IsOpening u) (may : MayMoveMarkers u) (held : Held) where
+  module _ (t : dev.Tells) (u : Option Asked) (opening : IsOpening u) (held : Held) where
     pub opening_anywhere : (long : (s : ℕ) → IsOpenedTooLong (λ n. 2 ^ 64 ≤ n + (f.layout.page_size + 12)) (dev.opened new) (section_key f.layout.index s) → HasLongBlob f to)
         → (moves : OfMarkers f from (HasToMove f from) → MustMoveHeld f held from u) → (e : Error) → IsOpeningCause f dev old new e → IsCauseAnywhere f held u from to e
     opening_anywhere long moves Mem why = tt
     opening_anywhere long moves (Journal (journal.Runtime runtime.Fault)) why = tt
-    opening_anywhere long moves (Metadata (metadata.Runtime runtime.Fault)) why = may
+    opening_anywhere long moves (Metadata (metadata.Runtime runtime.Fault)) why = inl opening
     opening_anywhere long moves (Metadata (metadata.Corruption side)) why = (opening, why t)
     opening_anywhere long moves (Journal (journal.InvalidBlobName name)) why = (opening, why t)
     opening_anywhere long moves (Journal (journal.Corruption x)) why = (opening, why t)
@@ -173,6 +174,10 @@ module _ {A V S D : Type 0} {gs : _} (p : Prunable A V (AppendFactory S) (PageBl
         go None known over = absurd over
         go (Some x) known over = long_content (to (section_key f.layout.index s)) x.len (f.layout.page_size + 12) known.0 known.1 over
 
+  -- blobs of others are left alone
+  own_alone : (result : Result A Error) → Opens p dev setup result old new → Footprint dev (openable_serving p setup valid).kind.IsOwn NoBound old new
+  own_alone result opens = footprint_wider dev _ _ _ NoBound old new (λ q own. own) (λ q n none. absurd none) opens.footprint
+
   -- ---- the first opening
 
   module _ (readable : IsReadable f.layout.markers) (sized : 1 ≤ f.layout.record_size) (may : dev.Tells → MayStart f from) (tells : dev.Tells → TellsLengths) where
@@ -190,87 +195,99 @@ module _ {A V S D : Type 0} {gs : _} (p : Prunable A V (AppendFactory S) (PageBl
         always_as (dev.time old) (dev.time new) (Leaves f st (Some Reopen)) (Leaves f st None) (none_for_reopen f st)
         ((opens.moments t ((may t).opened pending)).stands st (leaves_now t pending lawful st (start_by lawful st start)))
 
-    own_alone : (result : Result A Error) → Opens p dev setup result old new → Footprint dev (prunable_serving p setup valid).kind.IsOwn NoBound old new
-    own_alone result opens = footprint_wider dev _ _ _ NoBound old new (λ q own. own) (λ q n none. absurd none) opens.footprint
-
-    pub open_answers : (result : Result A Error) → Opens p dev setup result old new → OpensStore (prunable_serving p setup valid) dev result old new
-    open_answers (Ok r) opens = record {
-      moments = moments_so (Ok r) opens;
-      footprint = own_alone (Ok r) opens;
-      ends = record {
-        usable = opened_usable r opens.ends;
-        sound = λ t pending lawful.
-            let st = start_of f (as_read from) lawful.0 in
-            let told = opens.ends.told t in
-            let ready = (may t).opened pending in
-            told.sound ready (all_lawful f _ to (told.rest ready st (leaves_now t pending lawful st (starts f (as_read from) lawful.0 lawful.1))));
-        start = λ t pending lawful. (lawful.0, (opens.ends.told t).start lawful.0 lawful.1);
-        allowed = λ t pending lawful must. elim must as (λ _. ⊥) [ inl adds ↦ adds | inr moves ↦ (opens.ends.told t).kept.version moves.1 moves.0 ];
-        rest = λ t pending lawful.
-            let st = start_of f (as_read from) lawful.0 in
-            (opens.ends.told t).rest ((may t).opened pending) st (leaves_now t pending lawful st (starts f (as_read from) lawful.0 lawful.1));
-        found = opened_found r opens.ends sized;
-        allowed_anywhere = λ t. kept_allowed holding_nothing (opens.ends.told t).kept;
-      };
+    open_ends : (result : Result A Error) → Opens p dev setup result old new → OpeningEnds (openable_serving p setup valid) dev (outcome Open result) old new
+    open_ends (Ok r) opens = record {
+      usable = opened_usable r opens.ends;
+      sound = λ t pending lawful.
+          let st = start_of f (as_read from) lawful.0 in
+          let told = opens.ends.told t in
+          let ready = (may t).opened pending in
+          told.sound ready (all_lawful f _ to (told.rest ready st (leaves_now t pending lawful st (starts f (as_read from) lawful.0 lawful.1))));
+      start = λ t pending lawful. (lawful.0, (opens.ends.told t).start lawful.0 lawful.1);
+      allowed = λ t pending lawful must. elim must as (λ _. ⊥) [ inl adds ↦ adds | inr moves ↦ (opens.ends.told t).kept.version moves.1 moves.0 ];
+      rest = λ t pending lawful.
+          let st = start_of f (as_read from) lawful.0 in
+          (opens.ends.told t).rest ((may t).opened pending) st (leaves_now t pending lawful st (starts f (as_read from) lawful.0 lawful.1));
+      found = opened_found r opens.ends sized;
+      allowed_anywhere = λ t. kept_allowed holding_nothing (opens.ends.told t).kept;
     }
-    open_answers (Err e) opens = record {
-      moments = moments_so (Err e) opens;
-      footprint = own_alone (Err e) opens;
-      ends = record {
-        cause = λ t pending lawful st start. opening_cause t None tt tt holding_nothing lawful.0 lawful.1 st (λ moving. moving) e opens.ends;
-        anywhere = λ t held. opening_anywhere t None tt tt held (long_blob (tells t)) (λ moving. moving) e opens.ends.cause;
-        fault = opening_fault e opens.ends.cause;
-      };
+    open_ends (Err e) opens = record {
+      cause = λ t pending lawful st start. opening_cause t None tt holding_nothing lawful.0 lawful.1 st (λ moving. moving) e opens.ends;
+      anywhere = λ t held. opening_anywhere t None tt held (long_blob (tells t)) (λ moving. moving) e opens.ends.cause;
+      fault = opening_fault e opens.ends.cause;
+    }
+
+    pub open_answers : (result : Result A Error) → Opens p dev setup result old new → OpensStore (openable_serving p setup valid) dev (outcome Open result) old new
+    open_answers result opens = record {
+      moments = moments_so result opens;
+      footprint = own_alone result opens;
+      ends = open_ends result opens;
     }
 
   -- ---- a reopening
 
-  module _ (a : A) (given : Given p setup valid dev a old) (readable : IsReadable f.layout.markers) (sized : 1 ≤ f.layout.record_size) (tells : dev.Tells → TellsLengths)
-      (law : dev.Tells → (q : Key) → MayLeave (from q) (reads (from q))) where
+  -- Of an archive that is open or closed, over a disk that may be opened where it is sound, and of whose state each crash leaves what it may.
+  module _ (x : Openable A) (ready : dev.Tells → IsSoundOpenable p setup x from → MayBeOpened f.layout from)
+      (stands : dev.Tells → IsSoundOpenable p setup x from → Leaves f (openable_state p setup x from) None from)
+      (none_synced : (s : ℕ) → 2 ^ 64 ≤ s → (openable_state p setup x from).synced s ≡ 0)
+      (sized : 1 ≤ f.layout.record_size) (tells : dev.Tells → TellsLengths) (law : dev.Tells → (q : Key) → MayLeave (from q) (reads (from q))) where
     abbrev was : State (List ℕ)
-    was = state_of (p.see a) from
+    was = openable_state p setup x from
 
-    own : filing_by p a ≡ f
-    own = one_filing f (filing_by p a) given.usable.filing (given.markers a)
+    abbrev known : Held
+    known = openable_held p setup x
 
-    ready_for : dev.Tells → IsSoundArchive (p.see a) from → MayBeOpened f.layout from
-    ready_for t sound = subst (λ (h : Filing). MayBeOpened h.layout from) own (given.laws.opened t sound)
+    lawful_before : dev.Tells → IsSoundOpenable p setup x from → (markers : Markers) × Lawful f (as_read from) markers
+    lawful_before t sound = all_lawful f was from (stands t sound) (as_read from) (law t) (ready t sound).no_chance
 
-    leaves_before : dev.Tells → IsSoundArchive (p.see a) from → Leaves f was None from
-    leaves_before t sound = subst (λ (h : Filing). Leaves h was None from) own (given.laws.leaves t sound)
-
-    lawful_before : dev.Tells → IsSoundArchive (p.see a) from → (markers : Markers) × Lawful f (as_read from) markers
-    lawful_before t sound = all_lawful f was from (leaves_before t sound) (as_read from) (law t) (ready_for t sound).no_chance
-
-    reopen_ends : (result : Result A Error) → Opens p dev setup result old new → AnswerEnds (prunable_serving p setup valid) dev a Reopen (outcome (λ r. (r, reply.Done)) result) old new
+    reopen_ends : (result : Result A Error) → Opens p dev setup result old new → AnswerEnds (openable_serving p setup valid) dev x Reopen (outcome (λ r. (Open r, reply.Done)) result) old new
     reopen_ends (Ok r) opens = record {
       usable = opened_usable r opens.ends;
       sound = λ t sound.
           let told = opens.ends.told t in
-          told.sound (ready_for t sound) (all_lawful f _ to (told.rest (ready_for t sound) was (leaves_before t sound)));
+          told.sound (ready t sound) (all_lawful f _ to (told.rest (ready t sound) was (stands t sound)));
       step = λ t sound.
           let told = opens.ends.told t in
           subst (λ (n : ℕ). Step n was Reopen reply.Done (state_of (p.see r) to)) opens.ends.filing.items
-          (told.step (ready_for t sound) was (leaves_before t sound) given.laws.none_synced);
+          (told.step (ready t sound) was (stands t sound) none_synced);
       reopened = λ t sound is. (let lawful = lawful_before t sound in (lawful.0, (opens.ends.told t).start lawful.0 lawful.1));
       allowed = λ t sound must. elim must as (λ _. ⊥) [ inl adds ↦ adds | inr moves ↦ (opens.ends.told t).kept.version moves.1 moves.0 ];
-      rest = λ t sound. (opens.ends.told t).rest (ready_for t sound) was (leaves_before t sound);
+      rest = λ t sound. (opens.ends.told t).rest (ready t sound) was (stands t sound);
       learns = opened_found r opens.ends sized;
-      allowed_anywhere = λ t. kept_allowed (held_by p a) (opens.ends.told t).kept;
+      cleared = λ t q both. absurd both.1;
+      allowed_anywhere = λ t. kept_allowed known (opens.ends.told t).kept;
     }
     reopen_ends (Err e) opens = record {
-      cause = λ t sound. (let lawful = lawful_before t sound in opening_cause t (Some Reopen) refl tt (held_by p a) lawful.0 lawful.1 was (λ moving. moving) e opens.ends);
+      cause = λ t sound. (let lawful = lawful_before t sound in opening_cause t (Some Reopen) refl known lawful.0 lawful.1 was (λ moving. moving) e opens.ends);
       unwritten = λ t sound refuses. absurd (no_refusal refuses);
-      anywhere = λ t. opening_anywhere t (Some Reopen) refl tt (held_by p a) (long_blob (tells t)) (λ moving. moving) e opens.ends.cause;
+      anywhere = λ t. opening_anywhere t (Some Reopen) refl known (long_blob (tells t)) (λ moving. moving) e opens.ends.cause;
       unwritten_anywhere = λ t refuses. absurd (no_refusal refuses);
       fault = opening_fault e opens.ends.cause;
     }
 
-    pub reopen_answers : (result : Result A Error) → Opens p dev setup result old new → Answers (prunable_serving p setup valid) dev a Reopen (outcome (λ r. (r, reply.Done)) result) old new
-    reopen_answers result opens = record {
-      moments = λ t sound. (opens.moments t (ready_for t sound)).stands was (leaves_before t sound);
+    never_quiet : IsQuiet f setup.write_buffer setup.value_buffer known Reopen → ⊥
+    never_quiet (inl closed) = closed.1 refl
+    never_quiet (inr still) = still
+
+    reopen_by : (result : Result A Error) → Opens p dev setup result old new → Answers (openable_serving p setup valid) dev x Reopen (outcome (λ r. (Open r, reply.Done)) result) old new
+    reopen_by result opens = record {
+      moments = λ t sound. (opens.moments t (ready t sound)).stands was (stands t sound);
       alone = opens.footprint.alone;
-      footprint = footprint_wider dev _ _ _ NoBound old new (λ q own. own) (λ q n none. absurd none) opens.footprint;
-      quiet = λ t never. absurd never;
+      footprint = own_alone result opens;
+      quiet = λ t still. absurd (never_quiet still);
       ends = reopen_ends result opens;
     }
+
+  module _ (sized : 1 ≤ f.layout.record_size) (tells : dev.Tells → TellsLengths) (law : dev.Tells → (q : Key) → MayLeave (from q) (reads (from q)))
+      (result : Result A Error) (opens : Opens p dev setup result old new) where
+    -- an open one is given up as it is
+    pub reopen_answers : (a : A) → Given p setup valid dev a old → Answers (openable_serving p setup valid) dev (Open a) Reopen (outcome (λ r. (Open r, reply.Done)) result) old new
+    reopen_answers a given =
+        let same = own p setup valid dev a old given in
+        reopen_by (Open a) (λ t sound. subst (λ (h : Filing). MayBeOpened h.layout from) same (given.laws.opened t sound))
+        (λ t sound. subst (λ (h : Filing). Leaves h (state_of (p.see a) from) None from) same (given.laws.leaves t sound))
+        given.laws.none_synced sized tells law result opens
+
+    -- a closed one keeps nothing
+    pub closed_reopens : (floor : ℕ) → Answers (openable_serving p setup valid) dev (Closed floor) Reopen (outcome (λ r. (Open r, reply.Done)) result) old new
+    closed_reopens floor = reopen_by (Closed floor) (λ t sound. sound.opened) (λ t sound. sound.leaves) (λ s far. refl) sized tells law result opens

@@ -1,10 +1,10 @@
--- The words of a record are read one by one, and so are an index and a number of indices.
+-- The words of a record are read one by one, and so are an index and a number of indices, or an index and a key.
 use Rattle.std.proofs.Common.{◌≡◌, ◌≢◌, ℕ, List, ◌∷◌, ◌++◌, Option, Some, None, refl, sym, ◌∙◌, lit<}
 use Rattle.std.specs.Option.{option_map}
 use Rattle.std.specs.Fmt.{decimal}
 use Rattle.hex.specs.Hex.{encode_lower}
 use Rattle.archive_service.specs.Texts.{value_text}
-use Rattle.archive_service.specs.Script.{IsCount, IsCounted, IsIndex, IsKey, IsReading, IsRecord, IsValue, Record, counted_text, record_text}
+use Rattle.archive_service.specs.Script.{IsCount, IsCounted, IsIndex, IsKey, IsKeyed, IsReading, IsRecord, IsValue, Record, counted_text, keyed_text, record_text}
 use Rattle.archive_service.proofs.WordLemmas.{Lacks, cut_never, cut_once, decimal_lacks, encode_lacks}
 
 -- these words say no record
@@ -62,3 +62,22 @@ module _ (words first second : List ℕ) (at : (words ≡ first ++ 32 ∷ second
   pub counted_reading : (index count : ℕ) → IsReading IsIndex decimal first (Some index) → IsReading IsCount decimal second (Some count)
       → IsReading IsCounted counted_text words (Some (index, count))
   counted_reading index count i n = ((i.0, n.0), at.0 ∙ rw (i.1, n.1) refl)
+
+-- ---- an index and a key
+
+pub one_word_unkeyed : (words : List ℕ) → Lacks 32 words → IsReading IsKeyed keyed_text words None
+one_word_unkeyed words lacks (index, key) h e = cut_never 32 words (decimal index) (encode_lower key) lacks e
+
+module _ (words first second : List ℕ) (at : (words ≡ first ++ 32 ∷ second) × Lacks 32 first) where
+  words_of_both : (index : ℕ) (key : List ℕ) → IsIndex index → words ≡ keyed_text (index, key) → (first ≡ decimal index) × (second ≡ encode_lower key)
+  words_of_both index key h e = cut_once 32 first (decimal index) second (encode_lower key) at.1 (decimal_lacks 32 index (lit< tt) h) (sym at.0 ∙ e)
+
+  pub index_unkeyed : IsReading IsIndex decimal first None → IsReading IsKeyed keyed_text words None
+  index_unkeyed none (index, key) h e = none index h.0 (words_of_both index key h.0 e).0
+
+  pub key_unkeyed : IsReading IsKey encode_lower second None → IsReading IsKeyed keyed_text words None
+  key_unkeyed none (index, key) h e = none key h.1 (words_of_both index key h.0 e).1
+
+  pub keyed_reading : (index : ℕ) (key : List ℕ) → IsReading IsIndex decimal first (Some index) → IsReading IsKey encode_lower second (Some key)
+      → IsReading IsKeyed keyed_text words (Some (index, key))
+  keyed_reading index key i k = ((i.0, k.0), at.0 ∙ rw (i.1, k.1) refl)

@@ -125,7 +125,7 @@ module _ {A V D : Type 0} (s : Serving A V) (dev : device.Ghosts D) where
       counted = omega (arith, length-append marks ((dev.time b).calls ∷ []), length-append replies (reply ∷ []), so_far.counted);
       footprint = footprint_on old b c so_far.footprint answers.footprint;
       looking = λ t. looking_push s.kind (dev.time old) (dev.time b) (dev.time c) commands marks (s.known a) (so_far.looking t) command is_marked (answers.alone t)
-          (calm (Ok (r, reply)) answers t) (s.known r) (answers.ends.learns t) (answers.ends.allowed_anywhere t);
+          (calm (Ok (r, reply)) answers t) (s.known r) (answers.ends.learns t) (answers.ends.allowed_anywhere t) (answers.ends.cleared t);
       goes = λ t pending lawful.
           let goes = so_far.goes t pending lawful in
           let next = state_over s dev r c in

@@ -2,12 +2,12 @@
 use Rattle.std.proofs.Common.{◌≡◌, ◌≢◌, ◌⊎◌, inl, inr, refl, sym, ◌∙◌, ap, subst, ℕ, ◌+◌, ◌-◌, ◌*◌, ◌/◌, ◌%◌, ◌^◌, ◌<◌, ◌≤◌, ◌||◌, ◌&&◌, not, ◌==◌, nat_lt, if◌then◌else◌, Bool, true, false, List, [], ◌∷◌, length, take, Option, Some, None, IsSomeAnd, Result, Ok, Err, arith}
 use Rattle.std.specs.Prelude.{IsTrue}
 use Rattle.std.proofs.lemmas.Bool.{cases_lt, cases_Bool, eq-eqb}
-use Rattle.std.proofs.lemmas.Bool.Decides.{nat_tests}
 use Rattle.std.proofs.lemmas.List.{length-map}
 use Rattle.std.proofs.Math.Nat.{div-add-mod}
-use Rattle.blob_device.specs.Disk.{Disk}
+use Rattle.blob_device.specs.Disk.{Disk, Key}
 use Rattle.blob_device.specs.Timeline.{Timeline, disk, Always}
 use Rattle.blob_device.specs.declared.device.Device as device
+use Rattle.meta_store.proofs.Uses.{IsReadable}
 use Rattle.sealed_pages.specs.Buffer.{extent, size_of}
 use Rattle.sealed_pages.specs.Reading.{Unchanged}
 use Rattle.sealed_pages.specs.Shown as page_blob
@@ -22,6 +22,7 @@ use Rattle.paired.specs.GlobSections as glob
 use Rattle.paired.specs.Pair.{length_of, list_of, records_of}
 use Rattle.paired.specs.Records as stored
 use Rattle.paired.proofs.PairReads.{index_size}
+use Rattle.paired.proofs.ReconcileEntries.{markers_readable}
 use Rattle.paired.proofs.RecordLemmas.{length-records}
 use Rattle.archives.specs.Archives.{IsArchive, IsSoundArchive, filing_of, state_of}
 use Rattle.archives.specs.Changes.{Asked, Replied, outcome}
@@ -29,10 +30,10 @@ use Rattle.archives.specs.Commands.{Reopen}
 use Rattle.archives.specs.Config.{IsValid}
 use Rattle.archives.specs.Filing.{Filing, filed, kept}
 use Rattle.archives.specs.FilingLaws.{one_filing}
-use Rattle.archives.specs.Machine.{Entry, State, has_index, section_of}
+use Rattle.archives.specs.Machine.{Entry, State, section_of}
 use Rattle.archives.specs.Outlasts.{Outlasts}
 use Rattle.archives.specs.Prunable.{Prunable, Setup, filing_by, write_buffer_of}
-use Rattle.archives.specs.Putting.{HasBufferRoom, IsAllowed, IsFullFor, IsFullOver, IsPassed, IsTooLargeFor, frame_size, is_taken, record_tail}
+use Rattle.archives.specs.Putting.{HasBufferRoom, IsAllowed, IsFullFor, IsFullOver, IsPassed, IsTooLargeFor, Often, Once, Times, frame_size, is_skipped, record_tail, rows_after, size_after}
 use Rattle.archives.specs.Rows.{row_in}
 use Rattle.archives.specs.Shown.{means, setup_for}
 use Rattle.archives.specs.Standing.{IsGoing, IsPrefix, Leaves, submitted}
@@ -41,10 +42,12 @@ use Rattle.archives.specs.declared.error.Error.{Error}
 use Rattle.archives.specs.declared.prunable.Archive.{Archive}
 use Rattle.archives.specs.declared.prunable.config.Config.{Config}
 use Rattle.archives.proofs.PutLemmas.{whole_bytes}
-use Rattle.archive_service.specs.Causes.{Held, IfFree, IsPastAll, IsPastSizeAlone, IsRefusedAsFull, IsRefusedAsTooLarge, IsSurelyFull, PassesNumbers, added_by, adds_to, holds, skips}
-use Rattle.archive_service.specs.Kinds.{Answers, Serving}
-use Rattle.archive_service.specs.PrunableKind.{FitsBuffers, IsBuffered, prunable_kind}
-use Rattle.archive_service.specs.PrunableStore.{IsUsableStore, held_by, prunable_serving}
+use Rattle.archive_service.specs.Causes.{Adds, Held, IfFree, InAnyCase, IsPastAll, IsPastSizeAlone, IsRefusedAsFull, IsRefusedAsTooLarge, IsSurelyFull, PassesNumbers, PutOf, PutsBy, PutsHere, added_by, adds_to, bytes_with, frame_by, put_of, rows_with}
+use Rattle.archive_service.specs.Kinds.{Answers, OpensStore, Serving}
+use Rattle.archive_service.specs.PrunableKind.{Clears, ClearsOpen, FitsBuffers, IsBuffered, prunable_kind}
+use Rattle.archive_service.specs.PrunableStore.{IsSoundOpenable, IsUsableOpenable, IsUsableStore, held_by, openable_held, openable_serving, openable_state}
+use Rattle.archive_service.specs.declared.store.openable.Openable.{Openable}
+use Rattle.archive_service.specs.declared.store.openable.Openable.TheVariants.{Open}
 
 -- ---- moments
 
@@ -89,7 +92,31 @@ pub seen_first : {R Q P A : Type 0} (see : Q → P) (made : R → Q) (first : R 
 seen_first see made first again (Ok r) outer is same = ap (outcome see) is ∙ ap (λ x. Ok x) (same r)
 seen_first see made first again (Err e) outer is same = ap (outcome see) is
 
+-- ---- puts
+
+-- what is put, where an index may have one record, or several
+abbrev pub putting : Times → Entry (List ℕ) → PutOf
+putting Once r = IfFree r
+putting Often r = InAnyCase r
+
+-- ---- quiet commands
+
+-- of an open archive a command is quiet only where it is so of open ones
+pub quiet_open : {Q R : Type 0} → ((true ≡ false) × Q) ⊎ R → R
+quiet_open (inl closed) = (let shut = closed.0 in cc shut)
+quiet_open (inr still) = still
+
 -- ---- answers
+
+module _ {A V D : Type 0} (s : Serving A V) (dev : device.Ghosts D) where
+  -- of the same store, written otherwise
+  pub answers_of : (a other : A) (command : Asked) (result : Result (A × Replied) Error) (old new : D) → other ≡ a
+      → Answers s dev a command result old new → Answers s dev other command result old new
+  answers_of a other command result old new same answers = subst (λ (x : A). Answers s dev x command result old new) (sym same) answers
+
+  -- the same of an opening
+  pub opens_with : (result other : Result A Error) (old new : D) → other ≡ result → OpensStore s dev result old new → OpensStore s dev other old new
+  opens_with result other old new same opens = subst (λ (o : Result A Error). OpensStore s dev o old new) (sym same) opens
 
 module _ {A V D : Type 0} (s : Serving A V) (dev : device.Ghosts D) (a : A) where
   -- the same result, written otherwise
@@ -108,9 +135,6 @@ module _ {A V D : Type 0} (s : Serving A V) (dev : device.Ghosts D) (a : A) wher
 one_more : (size n count : ℕ) → count ≡ n / size → n % size ≡ 0 → (count + 1) * size ≡ n + size
 one_more size n count is whole = omega (arith, div-add-mod n size, whole, ap (λ (k : ℕ). size * k) is)
 
-pub not_below : (i : ℕ) → nat_lt i 0 ≡ false
-not_below i = grind (arith, nat_tests)
-
 at_most : (n m : ℕ) → (m < n → ⊥) → n ≤ m
 at_most n m not_more = elim (cases_lt m n) as (λ _. n ≤ m) [ inl more ↦ absurd (not_more more) | inr le ↦ le ]
 
@@ -120,9 +144,6 @@ zero_div m = omega (arith, div-add-mod 0 m)
 pub none_long : {X : Type 0} (xs : List X) → length xs ≡ 0 → xs ≡ []
 none_long [] is = refl
 none_long (x ∷ xs) is = absurd (omega (arith, is))
-
-added_free : (i floor : ℕ) (r : Entry (List ℕ)) (taken : Bool) → floor ≡ 0 → ◌≡◌ {A = Option (Entry (List ℕ))} (if nat_lt i floor || taken then None else Some r) (if taken then None else Some r)
-added_free i floor r taken none = ap (λ (m : ℕ). if nat_lt i m || taken then None else Some r) none ∙ ap (λ (b : Bool). if b || taken then None else Some r) (not_below i)
 
 free_adds : (skipped : Bool) (r : Entry (List ℕ)) (P : Entry (List ℕ) → Type 0) → skipped ≡ false → P r → IsSomeAnd (if skipped then None else Some r) P
 free_adds skipped r P free has = subst (λ (b : Bool). IsSomeAnd (if b then None else Some r) P) (sym free) has
@@ -157,16 +178,16 @@ adds_not false here is at = absurd (cc (is, at))
 -- ---- an archive that may be used
 
 module _ {A V S D : Type 0} {gs : _} (p : Prunable A V (AppendFactory S) (PageBlob S gs)) (setup : Setup V) (valid : Type 0) (dev : device.Ghosts D) where
-  -- the store of archives that file their records so
-  abbrev pub serving_by : Filing → Serving A V
+  -- the store of archives that file their records so, open or closed
+  abbrev pub serving_by : Filing → Serving (Openable A) V
   serving_by f = record {
     kind = prunable_kind f setup.write_buffer setup.value_buffer;
     IsValid = valid;
     Accepts = setup.Allows;
-    IsUsable = IsUsableStore p setup;
-    IsSound = λ a d. IsSoundArchive (p.see a) d;
-    state = λ a d. state_of (p.see a) d;
-    known = held_by p;
+    IsUsable = IsUsableOpenable p setup;
+    IsSound = IsSoundOpenable p setup;
+    state = openable_state p setup;
+    known = openable_held p setup;
   }
 
   -- there is a row for each record
@@ -186,11 +207,13 @@ module _ {A V S D : Type 0} {gs : _} (p : Prunable A V (AppendFactory S) (PageBl
       ∙ length-records (p.see x).pair.layout.record_size (fixed.section_bytes (p.see x).pair.index.sections (disk (dev.time now)) s)
       ∙ ap (λ (n : ℕ). n / (p.see x).pair.layout.record_size) (index_size (p.see x).pair.index.sections (disk (dev.time now)) s)
 
-  -- What is known of the archive before a call: it may be used, and what its state says; how its markers are stored; and how its buffers are made.
+  -- What is known of the archive before a call: it may be used, and what its state says; how its markers are stored, and where; and how its buffers are made.
   pub record Given (a : A) (old : D) : Type 1 where
     pub usable : IsUsableStore p setup a dev.Tells (dev.opened old) (disk (dev.time old))
     pub laws : Outlasts p dev a old
     pub markers : (x : A) → (filing_by p x).layout.markers ≡ setup.filing.layout.markers
+    pub readable : IsReadable (filing_by p a).layout.markers
+    pub partition : (p.see a).pair.store.partition ≡ (filing_by p a).layout.metadata
     pub buffers : (s : ℕ) (u : PageBlob S gs) → (p.see a).pair.index.sections.held s ≡ Some u
         → (u.page_size ≡ (p.see a).pair.layout.page_size) × (u.capacity ≡ write_buffer_of (p.see a))
 
@@ -207,13 +230,13 @@ module _ {A V S D : Type 0} {gs : _} (p : Prunable A V (AppendFactory S) (PageBl
     abbrev pub known : Held
     known = held_by p a
 
-    own : f ≡ setup.filing
+    pub own : f ≡ setup.filing
     own = one_filing setup.filing f given.usable.filing (given.markers a)
 
     -- what holds in the terms of the archive holds in those of the configuration
-    pub as_asked : (command : Asked) (result : Result (A × Replied) Error) (new : D) → Answers (serving_by f) dev a command result old new
-        → Answers (prunable_serving p setup valid) dev a command result old new
-    as_asked command result new answers = subst (λ (g : Filing). Answers (serving_by g) dev a command result old new) own answers
+    pub as_asked : (command : Asked) (result : Result (Openable A × Replied) Error) (new : D) → Answers (serving_by f) dev (Open a) command result old new
+        → Answers (openable_serving p setup valid) dev (Open a) command result old new
+    as_asked command result new answers = subst (λ (g : Filing). Answers (serving_by g) dev (Open a) command result old new) own answers
 
     -- ---- how many rows
 
@@ -234,71 +257,139 @@ module _ {A V S D : Type 0} {gs : _} (p : Prunable A V (AppendFactory S) (PageBl
     pub held_moving : dev.Tells → IsMovingBy f d (λ s. length (known.rows s)) known.synced → IsMovingIn f d st
     held_moving t moving = moving_by_rows t (λ s. length (known.rows s)) (λ s. length (st.lists s)) known.synced (λ s. lists_long s ∙ sym (rows_long t s)) moving
 
-    -- ---- a record that is put
+    -- ---- a record that is put, once to its index or often
 
-    module _ (t : dev.Tells) (i : ℕ) (k v : List ℕ) where
+    module _ (times : Times) (i : ℕ) (k v : List ℕ) where
       abbrev pub r : Entry (List ℕ)
       r = record { index = i; key = k; value = v }
 
       abbrev pub n : ℕ
       n = frame_size f.layout v
 
+      -- it is dropped
+      abbrev pub skip : Bool
+      skip = is_skipped (p.see a) i times
+
+      -- it is added, and has P: by the state, and by what is held
       abbrev pub Added : (Entry (List ℕ) → Type 0) → Type 0
-      Added P = IsSomeAnd (added_by f st (IfFree r)) P
+      Added P = IsSomeAnd (added_by f st (putting times r)) P
 
-      free_is : added_by f st (IfFree r) ≡ (if has_index f.items st i then None else Some r)
-      free_is = added_free i (p.see a).floor r (has_index f.items st i) given.usable.usable.floor
+      abbrev pub HeldAdded : (Entry (List ℕ) → Type 0) → Type 0
+      HeldAdded P = PutsBy f known (putting times r) P
 
-      taken_is : is_taken (p.see a) i ≡ has_index f.items st i
-      taken_is = (given.laws.state t).taken i
+      -- A command that puts it.
+      pub record PutsIt (c : Asked) : Type 1 where
+        pub no_reopen : c ≡ Reopen → ⊥
+        pub adds : (P : Entry (List ℕ) → Type 0) → Added P → Adds f st (Some c) P
+        pub added : (P : Entry (List ℕ) → Type 0) → Adds f st (Some c) P → Added P
+        pub holds : (P : Entry (List ℕ) → Type 0) → HeldAdded P → PutsHere f known (Some c) P
+        pub held : (P : Entry (List ℕ) → Type 0) → PutsHere f known (Some c) P → HeldAdded P
+        pub clears : (q : Key) → Clears f setup.write_buffer setup.value_buffer known c q → ⊥
 
-      low_is : nat_lt i (p.see a).floor ≡ false
-      low_is = ap (nat_lt i) given.usable.usable.floor ∙ not_below i
-
-      -- what is put is dropped, by what is held, just where its index is taken
-      pub put_free : is_taken (p.see a) i ≡ false → (skips f known i || holds f known i) ≡ false
-      put_free free = ap (λ (b : Bool). b || is_taken (p.see a) i) low_is ∙ free
-
-      pub free_put : (skips f known i || holds f known i) ≡ false → is_taken (p.see a) i ≡ false
-      free_put free = sym (ap (λ (b : Bool). b || is_taken (p.see a) i) low_is) ∙ free
-
-      pub adds_is : (s : ℕ) → adds_to f known (IfFree r) s ≡ (not (is_taken (p.see a) i) && (s == section_of f.items i))
-      adds_is s = ap (λ (b : Bool). not (b || is_taken (p.see a) i) && (s == section_of f.items i)) low_is
-
-      pub adds_now : (P : Entry (List ℕ) → Type 0) → is_taken (p.see a) i ≡ false → P r → Added P
-      adds_now P free has = subst (λ (o : Option (Entry (List ℕ))). IsSomeAnd o P) (sym free_is) (free_adds (has_index f.items st i) r P (sym taken_is ∙ free) has)
-
-      pub now_adds : (P : Entry (List ℕ) → Type 0) → Added P → (is_taken (p.see a) i ≡ false) × P r
-      now_adds P adds = (let found = adds_free (has_index f.items st i) r P (subst (λ (o : Option (Entry (List ℕ))). IsSomeAnd o P) free_is adds) in (taken_is ∙ found.0, found.1))
-
-      pub full_for : IsFullOver (p.see a) i dev.Tells n → IsFullFor (p.see a) i n
-      full_for over = record {
-        free = over.free;
-        full = elim over.full as (λ _. (IsAllowed (p.see a) i → ⊥) ⊎ ((n ≤ 2 ^ 32 - 1) × IsPassed (p.see a) i n)) [ inl limits ↦ inl limits | inr passed ↦ inr (passed.0, passed.1 (inl t)) ];
+      -- it is one by what it puts
+      pub puts_it : (c : Asked) → put_of c ≡ putting times r → (c ≡ Reopen → ⊥) → ((q : Key) → ClearsOpen f setup.write_buffer setup.value_buffer c q → ⊥) → PutsIt c
+      puts_it c same never clears = record {
+        no_reopen = never;
+        adds = λ P adds. subst (λ (x : PutOf). IsSomeAnd (added_by f st x) P) (sym same) adds;
+        added = λ P adds. subst (λ (x : PutOf). IsSomeAnd (added_by f st x) P) same adds;
+        holds = λ P holds. subst (λ (x : PutOf). PutsBy f known x P) (sym same) holds;
+        held = λ P holds. subst (λ (x : PutOf). PutsBy f known x P) same holds;
+        clears = λ q both. clears q both.1;
       }
 
-      pub full_adds : IsSoundArchive (p.see a) d → IsFullFor (p.see a) i n → Added (IsRefusedAsFull f st)
-      full_adds sound full = adds_now (IsRefusedAsFull f st) full.free (elim full.full as (λ _. IsRefusedAsFull f st r) [
+      -- what is held of a section, with what is put
+      frame_of : (m : Times) → frame_by f (putting m r) ≡ n
+      frame_of Once = refl
+      frame_of Often = refl
+
+      adds_of : (m : Times) (s : ℕ) → adds_to f known (putting m r) s ≡ (not (is_skipped (p.see a) i m) && (s == section_of f.items i))
+      adds_of Once s = refl
+      adds_of Often s = refl
+
+      rows_of : (m : Times) (s : ℕ) → rows_with f known (putting m r) s ≡ rows_after (p.see a) i (is_skipped (p.see a) i m) k s
+      rows_of Once s = refl
+      rows_of Often s = refl
+
+      bytes_of : (m : Times) (s : ℕ) → bytes_with f known (putting m r) s ≡ size_after (p.see a) i (is_skipped (p.see a) i m) n s
+      bytes_of Once s = refl
+      bytes_of Often s = refl
+
+      pub frame_is : frame_by f (putting times r) ≡ n
+      frame_is = frame_of times
+
+      pub adds_is : (s : ℕ) → adds_to f known (putting times r) s ≡ (not skip && (s == section_of f.items i))
+      adds_is = adds_of times
+
+      pub rows_are : (s : ℕ) → rows_with f known (putting times r) s ≡ rows_after (p.see a) i skip k s
+      rows_are = rows_of times
+
+      pub bytes_are : (s : ℕ) → bytes_with f known (putting times r) s ≡ size_after (p.see a) i skip n s
+      bytes_are = bytes_of times
+
+      -- by what is held it is dropped just where the archive skips it
+      holds_of : (m : Times) (P : Entry (List ℕ) → Type 0) → is_skipped (p.see a) i m ≡ false → P r → PutsBy f known (putting m r) P
+      holds_of Once P free has = (free, has)
+      holds_of Often P free has = (free, has)
+
+      held_of : (m : Times) (P : Entry (List ℕ) → Type 0) → PutsBy f known (putting m r) P → (is_skipped (p.see a) i m ≡ false) × P r
+      held_of Once P holds = holds
+      held_of Often P holds = holds
+
+      pub holds_now : (P : Entry (List ℕ) → Type 0) → skip ≡ false → P r → HeldAdded P
+      holds_now = holds_of times
+
+      pub now_holds : (P : Entry (List ℕ) → Type 0) → HeldAdded P → (skip ≡ false) × P r
+      now_holds = held_of times
+
+    module _ (times : Times) (i : ℕ) (k v : List ℕ) (t : dev.Tells) where
+      abbrev entry : Entry (List ℕ)
+      entry = r times i k v
+
+      abbrev framed : ℕ
+      framed = n times i k v
+
+      abbrev dropped : Bool
+      dropped = skip times i k v
+
+      -- and so it is by the state
+      added_of : (m : Times) → added_by f st (putting m entry) ≡ (if is_skipped (p.see a) i m then None else Some entry)
+      added_of Once = ap (λ (b : Bool). if nat_lt i (p.see a).floor || b then None else Some entry) (sym ((given.laws.state t).taken i))
+      added_of Often = refl
+
+      pub adds_now : (P : Entry (List ℕ) → Type 0) → dropped ≡ false → P entry → Added times i k v P
+      adds_now P free has = subst (λ (o : Option (Entry (List ℕ))). IsSomeAnd o P) (sym (added_of times)) (free_adds dropped entry P free has)
+
+      pub now_adds : (P : Entry (List ℕ) → Type 0) → Added times i k v P → (dropped ≡ false) × P entry
+      now_adds P adds = adds_free dropped entry P (subst (λ (o : Option (Entry (List ℕ))). IsSomeAnd o P) (added_of times) adds)
+
+      pub full_for : IsFullOver (p.see a) i dropped dev.Tells framed → IsFullFor (p.see a) i dropped framed
+      full_for over = record {
+        free = over.free;
+        full = elim over.full as (λ _. (IsAllowed (p.see a) i → ⊥) ⊎ ((framed ≤ 2 ^ 32 - 1) × IsPassed (p.see a) i framed)) [ inl limits ↦ inl limits | inr passed ↦ inr (passed.0, passed.1 (inl t)) ];
+      }
+
+      pub full_adds : IsSoundArchive (p.see a) d → IsFullFor (p.see a) i dropped framed → Added times i k v (IsRefusedAsFull f st)
+      full_adds sound full = adds_now (IsRefusedAsFull f st) full.free (elim full.full as (λ _. IsRefusedAsFull f st entry) [
         | inl over ↦ inl (λ room. over (((given.laws.state t).allowed i).1 room))
-        | inr passed ↦ inr ((λ large. absurd (omega (arith, large, passed.0))), ((given.laws.state t).passed sound i n (omega (arith, passed.0))).0 passed.1)
+        | inr passed ↦ inr ((λ large. absurd (omega (arith, large, passed.0))), ((given.laws.state t).passed sound i framed (omega (arith, passed.0))).0 passed.1)
       ])
 
-      pub adds_full : IsSoundArchive (p.see a) d → Added (IsRefusedAsFull f st) → IsFullFor (p.see a) i n
+      pub adds_full : IsSoundArchive (p.see a) d → Added times i k v (IsRefusedAsFull f st) → IsFullFor (p.see a) i dropped framed
       adds_full sound adds =
           let found = now_adds (IsRefusedAsFull f st) adds in
           record {
             free = found.0;
-            full = elim found.1 as (λ _. (IsAllowed (p.see a) i → ⊥) ⊎ ((n ≤ 2 ^ 32 - 1) × IsPassed (p.see a) i n)) [
+            full = elim found.1 as (λ _. (IsAllowed (p.see a) i → ⊥) ⊎ ((framed ≤ 2 ^ 32 - 1) × IsPassed (p.see a) i framed)) [
               | inl over ↦ inl (λ room. over (((given.laws.state t).allowed i).0 room))
-              | inr none ↦ (let few : n ≤ 2 ^ 32 - 1 = at_most n (2 ^ 32 - 1) none.0 in inr (few, ((given.laws.state t).passed sound i n (omega (arith, few))).1 none.1))
+              | inr none ↦ (let few : framed ≤ 2 ^ 32 - 1 = at_most framed (2 ^ 32 - 1) none.0 in inr (few, ((given.laws.state t).passed sound i framed (omega (arith, few))).1 none.1))
             ];
           }
 
-      pub large_adds : IsTooLargeFor (p.see a) i n → Added (IsRefusedAsTooLarge f st)
+      pub large_adds : IsTooLargeFor (p.see a) i dropped framed → Added times i k v (IsRefusedAsTooLarge f st)
       large_adds large = adds_now (IsRefusedAsTooLarge f st) large.free (record { allowed = λ over. over (((given.laws.state t).allowed i).0 large.allowed); large = large.large })
 
       -- what contradicts that it is too large contradicts that the state says so
-      pub not_large : (IsTooLargeFor (p.see a) i n → ⊥) → Added (IsRefusedAsTooLarge f st) → ⊥
+      pub not_large : (IsTooLargeFor (p.see a) i dropped framed → ⊥) → Added times i k v (IsRefusedAsTooLarge f st) → ⊥
       not_large never adds =
           let found = now_adds (IsRefusedAsTooLarge f st) adds in
           found.1.allowed (λ room. never (record { free = found.0; allowed = ((given.laws.state t).allowed i).1 room; large = found.1.large }))
@@ -319,26 +410,26 @@ module _ {A V S D : Type 0} {gs : _} (p : Prunable A V (AppendFactory S) (PageBl
           ∙ sym (ap (λ (m : ℕ). m / f.layout.record_size) (index_size (p.see a).pair.index.sections d here)) in
           omega (arith, one_more f.layout.record_size (length bytes) (length (known.rows here)) count whole, size)
 
-      numbers : IsPassed (p.see a) i n → PassesNumbers f known.rows known.bytes r
+      numbers : IsPassed (p.see a) i framed → PassesNumbers f known.rows known.bytes entry
       numbers (inl index) = go ((p.see a).pair.index.sections.held here) refl index
         where
-          go : (o : Option (PageBlob S gs)) → (p.see a).pair.index.sections.held here ≡ o → IsSomeAnd o (λ u. 2 ^ 64 ≤ extent u.page_size (size_of (page_blob.shown u) + (p.see a).pair.layout.record_size)) → PassesNumbers f known.rows known.bytes r
+          go : (o : Option (PageBlob S gs)) → (p.see a).pair.index.sections.held here ≡ o → IsSomeAnd o (λ u. 2 ^ 64 ≤ extent u.page_size (size_of (page_blob.shown u) + (p.see a).pair.layout.record_size)) → PassesNumbers f known.rows known.bytes entry
           go None is over = absurd over
           go (Some u) is over = inl (subst (λ (m : ℕ). 2 ^ 64 ≤ extent f.layout.page_size m) (index_long u is)
               (subst (λ (P : ℕ). 2 ^ 64 ≤ extent P (size_of (page_blob.shown u) + f.layout.record_size)) (given.buffers here u is).0 over))
       numbers (inr values) = go ((p.see a).pair.values.held here) refl values
         where
-          go : (o : Option WriteBlob) → (p.see a).pair.values.held here ≡ o → IsSomeAnd o (λ u. 2 ^ 64 ≤ count_of u + n) → PassesNumbers f known.rows known.bytes r
+          go : (o : Option WriteBlob) → (p.see a).pair.values.held here ≡ o → IsSomeAnd o (λ u. 2 ^ 64 ≤ count_of u + framed) → PassesNumbers f known.rows known.bytes entry
           go None is over = absurd over
           go (Some u) is over = (let size : glob.section_size (p.see a).pair.values here ≡ count_of u = ap glob.size_held is in inr (omega (arith, over, size)))
 
-      pub past : IsFullFor (p.see a) i n → IsPastAll f known r
-      past full = elim full.full as (λ _. IsPastAll f known r) [
+      pub past : IsFullFor (p.see a) i dropped framed → IsPastAll f known entry
+      past full = elim full.full as (λ _. IsPastAll f known entry) [
         | inl over ↦ inl over
         | inr passed ↦ inr ((λ large. omega (arith, large, passed.0)), numbers passed.1)
       ]
 
-      pub past_size : IsTooLargeFor (p.see a) i n → IsPastSizeAlone f known r
+      pub past_size : IsTooLargeFor (p.see a) i dropped framed → IsPastSizeAlone f known entry
       past_size large = record { allowed = λ over. over large.allowed; large = large.large }
 
       -- a section with rows is held
@@ -346,7 +437,7 @@ module _ {A V S D : Type 0} {gs : _} (p : Prunable A V (AppendFactory S) (PageBl
       held_index some none = some (none_long (known.rows here)
           (rows_long t here ∙ ap (λ (o : Option (PageBlob S gs)). fixed.size_held o / f.layout.record_size) none ∙ zero_div f.layout.record_size))
 
-      passed_by : known.rows here ≢ [] → n ≤ 2 ^ 32 - 1 → PassesNumbers f known.rows known.bytes r → IsPassed (p.see a) i n
+      passed_by : known.rows here ≢ [] → framed ≤ 2 ^ 32 - 1 → PassesNumbers f known.rows known.bytes entry → IsPassed (p.see a) i framed
       passed_by some few (inl index) = inl (go ((p.see a).pair.index.sections.held here) refl)
         where
           go : (o : Option (PageBlob S gs)) → (p.see a).pair.index.sections.held here ≡ o → IsSomeAnd o (λ u. 2 ^ 64 ≤ extent u.page_size (size_of (page_blob.shown u) + (p.see a).pair.layout.record_size))
@@ -355,31 +446,31 @@ module _ {A V S D : Type 0} {gs : _} (p : Prunable A V (AppendFactory S) (PageBl
               (subst (λ (m : ℕ). 2 ^ 64 ≤ extent f.layout.page_size m) (sym (index_long u is)) index)
       passed_by some few (inr values) = inr (go ((p.see a).pair.values.held here) refl)
         where
-          go : (o : Option WriteBlob) → (p.see a).pair.values.held here ≡ o → IsSomeAnd o (λ u. 2 ^ 64 ≤ count_of u + n)
+          go : (o : Option WriteBlob) → (p.see a).pair.values.held here ≡ o → IsSomeAnd o (λ u. 2 ^ 64 ≤ count_of u + framed)
           go None is = (let none : glob.section_size (p.see a).pair.values here ≡ 0 = ap glob.size_held is in absurd (omega (arith, values, none, few)))
           go (Some u) is = (let size : glob.section_size (p.see a).pair.values here ≡ count_of u = ap glob.size_held is in omega (arith, values, size))
 
       -- what is held is surely full for the record, and so the archive is
-      pub surely_full : is_taken (p.see a) i ≡ false → IsSurelyFull f known r → IsFullFor (p.see a) i n
+      pub surely_full : dropped ≡ false → IsSurelyFull f known entry → IsFullFor (p.see a) i dropped framed
       surely_full free sure = record {
         free = free;
-        full = elim sure.0 as (λ _. (IsAllowed (p.see a) i → ⊥) ⊎ ((n ≤ 2 ^ 32 - 1) × IsPassed (p.see a) i n)) [
+        full = elim sure.0 as (λ _. (IsAllowed (p.see a) i → ⊥) ⊎ ((framed ≤ 2 ^ 32 - 1) × IsPassed (p.see a) i framed)) [
           | inl over ↦ inl over
-          | inr none ↦ elim sure.1 as (λ _. (IsAllowed (p.see a) i → ⊥) ⊎ ((n ≤ 2 ^ 32 - 1) × IsPassed (p.see a) i n)) [
+          | inr none ↦ elim sure.1 as (λ _. (IsAllowed (p.see a) i → ⊥) ⊎ ((framed ≤ 2 ^ 32 - 1) × IsPassed (p.see a) i framed)) [
             | inl over ↦ inl over
-            | inr some ↦ (let few : n ≤ 2 ^ 32 - 1 = at_most n (2 ^ 32 - 1) none.0 in inr (few, passed_by some few none.1))
+            | inr some ↦ (let few : framed ≤ 2 ^ 32 - 1 = at_most framed (2 ^ 32 - 1) none.0 in inr (few, passed_by some few none.1))
           ]
         ];
       }
 
-      pub not_large_held : (IsTooLargeFor (p.see a) i n → ⊥) → is_taken (p.see a) i ≡ false → IsPastSizeAlone f known r → ⊥
+      pub not_large_held : (IsTooLargeFor (p.see a) i dropped framed → ⊥) → dropped ≡ false → IsPastSizeAlone f known entry → ⊥
       not_large_held never free alone = alone.allowed (λ room. never (record { free = free; allowed = room; large = alone.large }))
 
       -- both buffers have room, by what is known
-      pub room : FitsBuffers f setup.write_buffer setup.value_buffer known (IfFree r) here → HasBufferRoom (p.see a) i n
+      pub room : FitsBuffers f setup.write_buffer setup.value_buffer known (putting times entry) here → HasBufferRoom (p.see a) i framed
       room fits = held_room ((p.see a).pair.index.sections.held here) refl ((p.see a).pair.values.held here) refl
         where
-          held_room : (o : Option (PageBlob S gs)) → (p.see a).pair.index.sections.held here ≡ o → (q : Option WriteBlob) → (p.see a).pair.values.held here ≡ q → HasBufferRoom (p.see a) i n
+          held_room : (o : Option (PageBlob S gs)) → (p.see a).pair.index.sections.held here ≡ o → (q : Option WriteBlob) → (p.see a).pair.values.held here ≡ q → HasBufferRoom (p.see a) i framed
           held_room None is q also = absurd (held_index fits.records_there is)
           held_room (Some u) is None also = absurd (fits.values_there (ap glob.size_held also))
           held_room (Some u) is (Some w) also =
@@ -391,14 +482,14 @@ module _ {A V S D : Type 0} {gs : _} (p : Prunable A V (AppendFactory S) (PageBl
                 no_flush = inl (omega (arith, fits.record_room, tail, capacity));
                 values = w;
                 values_held = also;
-                below = omega (arith, fits.value_room, given.usable.value_buffer);
+                below = omega (arith, fits.value_room, given.usable.value_buffer, frame_is times i k v);
               }
 
-      pub buffered : (new : D) → (IsTrue (is_taken (p.see a) i) → new ≡ old) → (HasBufferRoom (p.see a) i n → new ≡ old)
-          → IsBuffered f setup.write_buffer setup.value_buffer known (IfFree r) → new ≡ old
-      buffered new taken below fits = elim (cases_Bool (is_taken (p.see a) i)) as (λ _. new ≡ old) [
-        | inl there ↦ taken there
-        | inr free ↦ below (room (fits here (adds_is here ∙ ap (λ (b : Bool). not b && (here == here)) free ∙ eq-eqb here here refl)))
+      pub buffered : (new : D) → (IsTrue dropped → new ≡ old) → (HasBufferRoom (p.see a) i framed → new ≡ old)
+          → IsBuffered f setup.write_buffer setup.value_buffer known (putting times entry) → new ≡ old
+      buffered new skipped below fits = elim (cases_Bool dropped) as (λ _. new ≡ old) [
+        | inl there ↦ skipped there
+        | inr free ↦ below (room (fits here (adds_is times i k v here ∙ ap (λ (b : Bool). not b && (here == here)) free ∙ eq-eqb here here refl)))
       ]
 
 -- ---- the archive of a configuration
@@ -410,9 +501,11 @@ pub given_by : {T K V S W C D : Type 0} {translator word_eq word_hash key key_eq
     → IsUsableStore (means pages) (setup_for key.SIZE seal codec translator.word_of cfg) a dev.Tells (dev.opened old) (disk (dev.time old))
     → Outlasts (means pages) dev a old
     → Given (means pages) (setup_for key.SIZE seal codec translator.word_of cfg) (IsValid cfg) dev a old
-given_by pages sets dev cfg a old usable laws = record {
+given_by {seal = seal} pages sets dev cfg a old usable laws = record {
   usable = usable;
   laws = laws;
   markers = λ x. refl;
+  readable = markers_readable seal;
+  partition = refl;
   buffers = λ s u held. (let made = sym (sets u) ∙ usable.usable.pair.index.over.opened_list.setting s u held in (ap (λ x. x.page_size) made, ap (λ x. x.capacity) made));
 }

@@ -27,20 +27,21 @@ use Rattle.archives.specs.Syncs.{IsSyncCause, Synced, Syncs}
 use Rattle.archives.specs.declared.error.Error.{Error}
 use Rattle.archives.specs.declared.error.Error.TheVariants.{Full, Journal, Mem, Metadata}
 use Rattle.archives.proofs.PutSync.{filing_then}
-use Rattle.archive_service.specs.Causes.{Held, IsCause, IsCauseAnywhere, MayMoveMarkers, MustMove, MustMoveHeld, MustRefuse, MustRefuseAnywhere, RefusesAnywhere, RefusesPut}
+use Rattle.archive_service.specs.Causes.{Held, IsCause, IsCauseAnywhere, MustMove, MustMoveHeld, MustRefuse, MustRefuseAnywhere, RefusesAnywhere, RefusesPut}
 use Rattle.archive_service.specs.Kinds.{AnswerEnds, Answers}
-use Rattle.archive_service.specs.PrunableKind.{HoldsSynced, IsQuiet, Learns, MayChange}
-use Rattle.archive_service.specs.PrunableStore.{IsUsableStore, held_by, prunable_serving}
-use Rattle.archive_service.proofs.StoreLemmas.{Given, always_as, as_asked, held_moving, moving_held, no_refusal, rows_long_of, serving_by, st}
+use Rattle.archive_service.specs.PrunableKind.{Clears, HoldsSynced, IsQuiet, Learns, MayChange}
+use Rattle.archive_service.specs.PrunableStore.{IsUsableStore, held_by, openable_serving}
+use Rattle.archive_service.specs.declared.store.openable.Openable.TheVariants.{Open}
+use Rattle.archive_service.proofs.StoreLemmas.{Given, always_as, as_asked, held_moving, moving_held, no_refusal, quiet_open, rows_long_of, serving_by, st}
 
--- where nothing is put, only a marker that has to move can refuse, and no put is refused
-moving_only : {X : Type 0} → ⊥ ⊎ X → X
+-- where nothing is put, only a marker that has to move can refuse, of an open archive, and no put is refused
+moving_only : {X Y Z : Type 0} → ⊥ ⊎ ((X × Y) × Z) → Y × Z
 moving_only (inl puts) = absurd puts
-moving_only (inr moves) = moves
+moving_only (inr moves) = (moves.0.1, moves.1)
 
-moving_held_only : {X Y : Type 0} (c : Asked) → (c ≡ Reopen → ⊥) → ⊥ ⊎ (X ⊎ ((c ≡ Reopen) × Y)) → X
+moving_held_only : {X Y Z W : Type 0} (c : Asked) → (c ≡ Reopen → ⊥) → ⊥ ⊎ (((X × Y) × Z) ⊎ ((c ≡ Reopen) × W)) → Y × Z
 moving_held_only c never (inl puts) = absurd puts
-moving_held_only c never (inr (inl moves)) = moves
+moving_held_only c never (inr (inl moves)) = (moves.0.1, moves.1)
 moving_held_only c never (inr (inr over)) = absurd (never over.0)
 
 module _ {A V S D : Type 0} {gs : _} (p : Prunable A V (AppendFactory S) (PageBlob S gs)) (setup : Setup V) (valid : Type 0) (dev : device.Ghosts D) (a : A) (old : D)
@@ -80,15 +81,14 @@ module _ {A V S D : Type 0} {gs : _} (p : Prunable A V (AppendFactory S) (PageBl
         record_tail = λ s. (tails t s).0;
         value_tail = λ s. (tails t s).1;
       };
-      stays = record { is_open = refl; floor = over.floor ∙ sym usable.usable.floor };
+      stays = record { is_open = refl; floor = done.floor };
     }
 
 module _ {A V S D : Type 0} {gs : _} (p : Prunable A V (AppendFactory S) (PageBlob S gs)) (setup : Setup V) (valid : Type 0) (dev : device.Ghosts D) (a : A) (old : D) (given : Given p setup valid dev a old) where
   -- ---- why it failed
 
   module _ (t : dev.Tells) (c : Asked) (moves : IsMovingIn (filing_by p a) (disk (dev.time old)) (st p setup valid dev a old given) → MustMove (filing_by p a) (st p setup valid dev a old given) (disk (dev.time old)) c)
-      (moves_held : IsMovingBy (filing_by p a) (disk (dev.time old)) (λ s. length ((p.see a).rows s)) (synced_length (p.see a).pair) → MustMoveHeld (filing_by p a) (held_by p a) (disk (dev.time old)) (Some c))
-      (may : MayMoveMarkers (Some c)) where
+      (moves_held : IsMovingBy (filing_by p a) (disk (dev.time old)) (λ s. length ((p.see a).rows s)) (synced_length (p.see a).pair) → MustMoveHeld (filing_by p a) (held_by p a) (disk (dev.time old)) (Some c)) where
     is_moving : IsMoving (p.see a) → IsMovingIn (filing_by p a) (disk (dev.time old)) (st p setup valid dev a old given)
     is_moving = (given.laws.state t).moving.0
 
@@ -103,7 +103,7 @@ module _ {A V S D : Type 0} {gs : _} (p : Prunable A V (AppendFactory S) (PageBl
     sync_anywhere to before now Mem why = tt
     sync_anywhere to before now Full why = inr (inr (moves_held (moving_held p setup valid dev a old given t (is_moving why.1)), (given.laws.state t).version.0 why.0))
     sync_anywhere to before now (Journal (journal.Runtime runtime.Fault)) why = tt
-    sync_anywhere to before now (Metadata (metadata.Runtime runtime.Fault)) why = may
+    sync_anywhere to before now (Metadata (metadata.Runtime runtime.Fault)) why = inr (inr (moves_held (moving_held p setup valid dev a old given t (is_moving why.1))))
     sync_anywhere to before now e why = absurd why
 
   -- where a marker had to move, the markers had a next version
@@ -131,7 +131,7 @@ module _ {A V S D : Type 0} {gs : _} (p : Prunable A V (AppendFactory S) (PageBl
     pub no_reopen : c ≡ Reopen → ⊥
     pub moves : IsMovingIn (filing_by p a) (disk (dev.time old)) (st p setup valid dev a old given) → MustMove (filing_by p a) (st p setup valid dev a old given) (disk (dev.time old)) c
     pub moves_held : MovesHeld → MustMoveHeld (filing_by p a) (held_by p a) (disk (dev.time old)) (Some c)
-    pub may : MayMoveMarkers (Some c)
+    pub clears : (q : Key) → Clears (filing_by p a) setup.write_buffer setup.value_buffer (held_by p a) c q → ⊥
     pub loud : IsQuiet (filing_by p a) setup.write_buffer setup.value_buffer (held_by p a) c → ⊥
     pub must : MustRefuse (filing_by p a) (st p setup valid dev a old given) (disk (dev.time old)) c
         → IsMovingIn (filing_by p a) (disk (dev.time old)) (st p setup valid dev a old given) × NoVersion
@@ -142,13 +142,13 @@ module _ {A V S D : Type 0} {gs : _} (p : Prunable A V (AppendFactory S) (PageBl
         → Learns (filing_by p a) setup.write_buffer setup.value_buffer (held_by p a) c (disk (dev.time old)) to next
 
   by_sync : OnlySyncs Sync
-  by_sync = record { changes = λ q it. it; is = inl refl; no_reopen = λ is. cc is; moves = λ it. it; moves_held = λ it. it; may = tt; loud = λ never. never; must = moving_only; must_held = moving_held_only Sync (λ is. cc is); refuses = λ e. no_refusal; refuses_held = λ e. no_refusal; learns = λ to next it. it }
+  by_sync = record { changes = λ q it. it; is = inl refl; no_reopen = λ is. cc is; moves = λ it. (refl, it); moves_held = λ it. (refl, it); clears = λ q both. both.1; loud = quiet_open; must = moving_only; must_held = moving_held_only Sync (λ is. cc is); refuses = λ e. no_refusal; refuses_held = λ e. no_refusal; learns = λ to next it. it }
 
   by_start : OnlySyncs Start
-  by_start = record { changes = λ q it. it; is = inr refl; no_reopen = λ is. cc is; moves = λ it. it; moves_held = λ it. it; may = tt; loud = λ never. never; must = moving_only; must_held = moving_held_only Start (λ is. cc is); refuses = λ e. no_refusal; refuses_held = λ e. no_refusal; learns = λ to next it. it }
+  by_start = record { changes = λ q it. it; is = inr refl; no_reopen = λ is. cc is; moves = λ it. (refl, it); moves_held = λ it. (refl, it); clears = λ q both. both.1; loud = quiet_open; must = moving_only; must_held = moving_held_only Start (λ is. cc is); refuses = λ e. no_refusal; refuses_held = λ e. no_refusal; learns = λ to next it. it }
 
   module _ (c : Asked) (acts : OnlySyncs c) (new : D) where
-    either_ends : (result : Result A Error) → Syncs p dev a result old new → AnswerEnds (serving_by p setup valid dev (filing_by p a)) dev a c (outcome (λ r. (r, reply.Done)) result) old new
+    either_ends : (result : Result A Error) → Syncs p dev a result old new → AnswerEnds (serving_by p setup valid dev (filing_by p a)) dev (Open a) c (outcome (λ r. (Open r, reply.Done)) result) old new
     either_ends (Ok r) syncs = (let changes = syncs.settles.changes c acts.is in record {
       usable = sync_usable p setup valid dev a old given.usable r new syncs.ends changes.ends.over changes.ends.alike.accepts;
       sound = changes.ends.sound;
@@ -157,17 +157,18 @@ module _ {A V S D : Type 0} {gs : _} (p : Prunable A V (AppendFactory S) (PageBl
       allowed = λ t sound must. sync_lawful t r new syncs.ends (acts.must must);
       rest = λ t sound. (changes.ends.alike.leaves _ None _).1 (changes.ends.rest t sound);
       learns = λ t. acts.learns (disk (dev.time new)) (held_by p r) (sync_holds p setup valid dev a old given.usable r new syncs.ends changes.ends.over (filing_by p a) t);
+      cleared = λ t q both. absurd (acts.clears q both);
       allowed_anywhere = λ t must. sync_held t r new syncs.ends (acts.must_held must);
     })
     either_ends (Err e) syncs = record {
-      cause = λ t sound. sync_cause t c acts.moves acts.moves_held acts.may (dev.faults old) (dev.faults new) e syncs.ends.cause;
+      cause = λ t sound. sync_cause t c acts.moves acts.moves_held (dev.faults old) (dev.faults new) e syncs.ends.cause;
       unwritten = λ t sound refuses. absurd (acts.refuses e refuses);
-      anywhere = λ t. sync_anywhere t c acts.moves acts.moves_held acts.may (disk (dev.time new)) (dev.faults old) (dev.faults new) e syncs.ends.cause;
+      anywhere = λ t. sync_anywhere t c acts.moves acts.moves_held (disk (dev.time new)) (dev.faults old) (dev.faults new) e syncs.ends.cause;
       unwritten_anywhere = λ t refuses. absurd (acts.refuses_held e refuses);
       fault = (syncs.settles.changes c acts.is).ends;
     }
 
-    either_at : (result : Result A Error) → Syncs p dev a result old new → Answers (serving_by p setup valid dev (filing_by p a)) dev a c (outcome (λ r. (r, reply.Done)) result) old new
+    either_at : (result : Result A Error) → Syncs p dev a result old new → Answers (serving_by p setup valid dev (filing_by p a)) dev (Open a) c (outcome (λ r. (Open r, reply.Done)) result) old new
     either_at result syncs =
         let changes = syncs.settles.changes c acts.is in
         record {
@@ -178,11 +179,11 @@ module _ {A V S D : Type 0} {gs : _} (p : Prunable A V (AppendFactory S) (PageBl
           ends = either_ends result syncs;
         }
 
-    either_answers : (result : Result A Error) → Syncs p dev a result old new → Answers (prunable_serving p setup valid) dev a c (outcome (λ r. (r, reply.Done)) result) old new
-    either_answers result syncs = as_asked p setup valid dev a old given c (outcome (λ r. (r, reply.Done)) result) new (either_at result syncs)
+    either_answers : (result : Result A Error) → Syncs p dev a result old new → Answers (openable_serving p setup valid) dev (Open a) c (outcome (λ r. (Open r, reply.Done)) result) old new
+    either_answers result syncs = as_asked p setup valid dev a old given c (outcome (λ r. (Open r, reply.Done)) result) new (either_at result syncs)
 
-  pub sync_answers : (new : D) (result : Result A Error) → Syncs p dev a result old new → Answers (prunable_serving p setup valid) dev a Sync (outcome (λ r. (r, reply.Done)) result) old new
+  pub sync_answers : (new : D) (result : Result A Error) → Syncs p dev a result old new → Answers (openable_serving p setup valid) dev (Open a) Sync (outcome (λ r. (Open r, reply.Done)) result) old new
   sync_answers = either_answers Sync by_sync
 
-  pub start_answers : (new : D) (result : Result A Error) → Syncs p dev a result old new → Answers (prunable_serving p setup valid) dev a Start (outcome (λ r. (r, reply.Done)) result) old new
+  pub start_answers : (new : D) (result : Result A Error) → Syncs p dev a result old new → Answers (openable_serving p setup valid) dev (Open a) Start (outcome (λ r. (Open r, reply.Done)) result) old new
   start_answers = either_answers Start by_start

@@ -80,7 +80,7 @@ pub all_implies : (P Q : ℕ → Type 0) → ((b : ℕ) → P b → Q b) → (xs
 all_implies P Q f [] h = tt
 all_implies P Q f (x ∷ xs) h = (f x h.0, all_implies P Q f xs h.1)
 
-pub all_append : (P : ℕ → Type 0) (xs ys : List ℕ) → AllByRecursion P xs → AllByRecursion P ys → AllByRecursion P (xs ++ ys)
+pub all_append : {X : Type 0} (P : X → Type 0) (xs ys : List X) → AllByRecursion P xs → AllByRecursion P ys → AllByRecursion P (xs ++ ys)
 all_append P [] ys hx hy = hy
 all_append P (x ∷ xs) ys hx hy = (hx.0, all_append P xs ys hx.1 hy)
 

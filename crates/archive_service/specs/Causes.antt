@@ -1,6 +1,6 @@
 -- Why a run of commands over a prunable archive ends in an error: by the state of the record machine that it has come
 -- to, and over any image by the rows and the bytes that it holds.
-use Rattle.std.specs.Prelude.{◌≡◌, ◌≢◌, ◌⊎◌, ℕ, ◌+◌, ◌-◌, ◌*◌, ◌^◌, ◌<◌, ◌≤◌, ◌||◌, ◌&&◌, not, nat_lt, ◌==◌, if◌then◌else◌, Bool, true, false, ⊤, List, [], ◌∷◌, ◌++◌, length, sum_by, Option, Some, None, IsSomeAnd}
+use Rattle.std.specs.Prelude.{◌≡◌, ◌≢◌, ◌⊎◌, ℕ, ◌+◌, ◌-◌, ◌*◌, ◌^◌, ◌<◌, ◌≤◌, ◌||◌, ◌&&◌, not, nat_lt, ◌==◌, if◌then◌else◌, Bool, true, false, ⊤, List, [], ◌∷◌, ◌++◌, length, sum_by, Option, Some, None, IsSomeAnd, IsTrue}
 use Rattle.std.specs.List.{list_any}
 use Rattle.blob_device.specs.Disk.{Disk}
 use Rattle.blob_device.specs.declared.runtime.RError.TheVariants as runtime
@@ -51,6 +51,32 @@ IsLookup (Prune bound) = ⊥
 IsLookup Reopen = ⊥
 IsLookup Destroy = ⊥
 
+-- A lookup that reads stored bytes. The others go by what is held in memory.
+abbrev pub ReadsBytes : Asked → Type 0
+ReadsBytes (Get i) = ⊤
+ReadsBytes (GetKey k) = ⊤
+ReadsBytes (All i) = ⊤
+ReadsBytes (HasKey k) = ⊤
+ReadsBytes (HasAt i k) = ⊤
+ReadsBytes (Has i) = ⊥
+ReadsBytes (Gap i) = ⊥
+ReadsBytes (Missing i n) = ⊥
+ReadsBytes Ranges = ⊥
+ReadsBytes (RangesFrom i) = ⊥
+ReadsBytes First = ⊥
+ReadsBytes Last = ⊥
+ReadsBytes (Put i k v) = ⊥
+ReadsBytes (PutSync i k v) = ⊥
+ReadsBytes (PutStart i k v) = ⊥
+ReadsBytes (Multi i k v) = ⊥
+ReadsBytes (MultiSync i k v) = ⊥
+ReadsBytes (MultiStart i k v) = ⊥
+ReadsBytes Sync = ⊥
+ReadsBytes Start = ⊥
+ReadsBytes (Prune bound) = ⊥
+ReadsBytes Reopen = ⊥
+ReadsBytes Destroy = ⊥
+
 -- What a command puts: nothing, a record where its index is free, or a record in any case.
 pub data PutOf : Type 0 where
   Nothing : PutOf
@@ -87,43 +113,12 @@ abbrev pub IsOpening : Option Asked → Type 0
 IsOpening None = ⊤
 IsOpening (Some command) = command ≡ Reopen
 
--- a lookup is under way
-abbrev pub IsLooking : Option Asked → Type 0
-IsLooking None = ⊥
-IsLooking (Some command) = IsLookup command
-
--- an opening moves markers, and so does a command that syncs or drops sections
-abbrev pub MayMoveMarkers : Option Asked → Type 0
-MayMoveMarkers None = ⊤
-MayMoveMarkers (Some (PutSync i k v)) = ⊤
-MayMoveMarkers (Some (PutStart i k v)) = ⊤
-MayMoveMarkers (Some (MultiSync i k v)) = ⊤
-MayMoveMarkers (Some (MultiStart i k v)) = ⊤
-MayMoveMarkers (Some Sync) = ⊤
-MayMoveMarkers (Some Start) = ⊤
-MayMoveMarkers (Some (Prune bound)) = ⊤
-MayMoveMarkers (Some Reopen) = ⊤
-MayMoveMarkers (Some Destroy) = ⊤
-MayMoveMarkers (Some (Put i k v)) = ⊥
-MayMoveMarkers (Some (Multi i k v)) = ⊥
-MayMoveMarkers (Some (Get i)) = ⊥
-MayMoveMarkers (Some (GetKey k)) = ⊥
-MayMoveMarkers (Some (All i)) = ⊥
-MayMoveMarkers (Some (Has i)) = ⊥
-MayMoveMarkers (Some (HasKey k)) = ⊥
-MayMoveMarkers (Some (HasAt i k)) = ⊥
-MayMoveMarkers (Some (Gap i)) = ⊥
-MayMoveMarkers (Some (Missing i n)) = ⊥
-MayMoveMarkers (Some Ranges) = ⊥
-MayMoveMarkers (Some (RangesFrom i)) = ⊥
-MayMoveMarkers (Some First) = ⊥
-MayMoveMarkers (Some Last) = ⊥
-
 -- ---- which commands stage a change of the markers
 
--- Over the disk, where `Moves` says that a sync behind what is put has to move a marker. A prune drops the markers
--- below its bound. A destroy stages nothing, since it removes the markers whole.
-module _ (f : Filing) (Moves : PutOf → Type 0) (d : Disk) where
+-- Over the disk, where `Moves` says that a sync behind what is put has to move a marker, and `Raises` that a
+-- prune up to a bound moves the floor: it then drops the markers below. A destroy stages nothing, since it
+-- removes the markers whole.
+module _ (f : Filing) (Moves : PutOf → Type 0) (Raises : ℕ → Type 0) (d : Disk) where
   abbrev pub Stages : Asked → Type 0
   Stages (PutSync i k v) = Moves (put_of (PutSync i k v))
   Stages (PutStart i k v) = Moves (put_of (PutStart i k v))
@@ -132,8 +127,8 @@ module _ (f : Filing) (Moves : PutOf → Type 0) (d : Disk) where
   Stages Sync = Moves Nothing
   Stages Start = Moves Nothing
   Stages Reopen = OfMarkers f d (HasToMove f d)
-  Stages (Prune bound) =
-      OfMarkers f d (λ markers. (s m : ℕ) × IsMarked markers s m × (s < section_of f.items bound))
+  Stages (Prune bound) = Raises bound
+      × OfMarkers f d (λ markers. (s m : ℕ) × IsMarked markers s m × (s < section_of f.items bound))
   Stages Destroy = ⊥
   Stages (Put i k v) = ⊥
   Stages (Multi i k v) = ⊥
@@ -156,6 +151,10 @@ module _ (f : Filing) (Moves : PutOf → Type 0) (d : Disk) where
   StagesNow (Some command) = Stages command
 
 -- ---- what a put finds
+
+-- the archive is open, and the bound, rounded down to the start of a section, is above the floor
+abbrev pub IsRaisedTo : ℕ → Bool → ℕ → ℕ → Type 0
+IsRaisedTo items is_open floor bound = IsTrue is_open × (floor < section_of items bound)
 
 -- nothing is put: the archive is closed, or the index is below the floor
 abbrev pub drops : Bool → ℕ → ℕ → Bool
@@ -222,16 +221,21 @@ module _ (f : Filing) (st : State (List ℕ)) where
   with_put_of (IfFree r) = if st.is_open then after_put f.items r.index r.key r.value st else st
   with_put_of (InAnyCase r) = if st.is_open then after_multi f.items r.index r.key r.value st else st
 
-  -- Over the disk, the command has to move a marker, or what is under way has: the put has settled, if it is one.
+  -- Over the disk, the command has to move a marker, or what is under way has: the put has settled, if it is
+  -- one. A closed archive moves none but by being opened.
+  abbrev pub Moves : Disk → PutOf → Type 0
+  Moves d put = IsTrue st.is_open × IsMovingIn f d (with_put_of put)
+
   abbrev pub MustMove : Disk → Asked → Type 0
-  MustMove d = Stages f (λ put. IsMovingIn f d (with_put_of put)) d
+  MustMove d = Stages f (Moves d) (IsRaisedTo f.items st.is_open st.floor) d
 
   abbrev pub MustMoveNow : Disk → Option Asked → Type 0
-  MustMoveNow d = StagesNow f (λ put. IsMovingIn f d (with_put_of put)) d
+  MustMoveNow d = StagesNow f (Moves d) (IsRaisedTo f.items st.is_open st.floor) d
 
   -- What is under way has to call the markers: an opening reads them, a destroy removes them, and others move one.
   abbrev pub MustTouchMarkers : Disk → Option Asked → Type 0
-  MustTouchMarkers d under_way = IsOpening under_way ⊎ ((under_way ≡ Some Destroy) ⊎ MustMoveNow d under_way)
+  MustTouchMarkers d under_way = IsOpening under_way
+      ⊎ ((IsTrue st.is_open × (under_way ≡ Some Destroy)) ⊎ MustMoveNow d under_way)
 
   -- The command is one that is refused, whatever the device does: a put, or one that has to move a marker where the
   -- markers have no next version.
@@ -297,6 +301,11 @@ holding_nothing = record {
   value_tail = λ s. 0;
 }
 
+-- of an open archive a lookup that reads stored bytes is under way
+abbrev pub IsLooking : Held → Option Asked → Type 0
+IsLooking held None = ⊥
+IsLooking held (Some command) = IsTrue held.is_open × ReadsBytes command
+
 -- the row of what is put, if anything is
 abbrev pub row_by : PutOf → List Row
 row_by Nothing = []
@@ -357,7 +366,14 @@ module _ (f : Filing) where
     -- Over the disk, what is under way has to move a marker. It is an opening, or it syncs where a section with all
     -- its records synced has another marker.
     abbrev pub MustMoveHeld : Disk → Option Asked → Type 0
-    MustMoveHeld d = StagesNow f (λ put. IsMovingBy f d (λ s. length (rows_with put s)) held.synced) d
+    MustMoveHeld d = StagesNow f
+        (λ put. IsTrue held.is_open × IsMovingBy f d (λ s. length (rows_with put s)) held.synced)
+        (IsRaisedTo f.items held.is_open held.floor) d
+
+    -- What is under way has to call the markers: an opening reads them, a destroy removes them, and others move one.
+    abbrev pub MustTouchHeld : Disk → Option Asked → Type 0
+    MustTouchHeld d under_way = IsOpening under_way
+        ⊎ ((IsTrue held.is_open × (under_way ≡ Some Destroy)) ⊎ MustMoveHeld d under_way)
 
   -- a blob of records ends within one page, with its slots, of 2^64 bytes
   abbrev pub HasLongBlob : Disk → Type 0
@@ -386,9 +402,9 @@ module _ (f : Filing) where
     abbrev pub IsCauseAnywhere : Error → Type 0
     -- want of memory is free
     IsCauseAnywhere Mem = ⊤
-    -- the device failed, and counted it
+    -- the device failed, and counted it; in a call of the markers only where one has to be made
     IsCauseAnywhere (Journal (journal.Runtime runtime.Fault)) = ⊤
-    IsCauseAnywhere (Metadata (metadata.Runtime runtime.Fault)) = MayMoveMarkers under_way
+    IsCauseAnywhere (Metadata (metadata.Runtime runtime.Fault)) = MustTouchHeld held from under_way
     -- a put, of a record at a free index: the limits first, then its size, then the numbers
     IsCauseAnywhere (Journal journal.ValueTooLarge) = PutsHere held under_way (IsPastSizeAlone held)
     -- or an opening that keeps more than the limits, or a marker to move where the markers have no next version
@@ -404,14 +420,14 @@ module _ (f : Filing) where
         × OfMarkers f from (λ markers. IsShortOf f from markers x)
     -- a page below a marker is damaged, or stored bytes that a lookup met
     IsCauseAnywhere (Journal (journal.Runtime (runtime.InvalidChecksum k))) =
-        (IsOpening under_way × OfMarkers f from (λ markers. HasDamagedPage f to markers k)) ⊎ IsLooking under_way
+        (IsOpening under_way × OfMarkers f from (λ markers. HasDamagedPage f to markers k)) ⊎ IsLooking held under_way
     -- a blob is longer than a buffer takes, or stored bytes that a lookup met
     IsCauseAnywhere (Journal (journal.Runtime runtime.OffsetOverflow)) =
-        (IsOpening under_way × HasLongBlob to) ⊎ IsLooking under_way
+        (IsOpening under_way × HasLongBlob to) ⊎ IsLooking held under_way
     -- stored bytes that a lookup met
-    IsCauseAnywhere (Journal (journal.Runtime runtime.BlobInsufficientLength)) = IsLooking under_way
-    IsCauseAnywhere (Journal (journal.SectionOutOfRange n)) = IsLooking under_way
-    IsCauseAnywhere (Journal (journal.ChecksumMismatch stored computed)) = IsLooking under_way
-    IsCauseAnywhere (Journal (journal.Codec e)) = IsLooking under_way
+    IsCauseAnywhere (Journal (journal.Runtime runtime.BlobInsufficientLength)) = IsLooking held under_way
+    IsCauseAnywhere (Journal (journal.SectionOutOfRange n)) = IsLooking held under_way
+    IsCauseAnywhere (Journal (journal.ChecksumMismatch stored computed)) = IsLooking held under_way
+    IsCauseAnywhere (Journal (journal.Codec e)) = IsLooking held under_way
     -- no other comes
     IsCauseAnywhere e = ⊥

@@ -9,7 +9,7 @@ use Rattle.blob_device.specs.Timeline.{Always, disk}
 use Rattle.blob_device.specs.declared.device.Device as device
 use Rattle.sealed_pages.specs.Reading.{Unchanged}
 use Rattle.paired.specs.Opening.{as_read}
-use Rattle.archives.specs.Changes.{Asked, Replied}
+use Rattle.archives.specs.Changes.{Asked, NoneThere, Replied}
 use Rattle.archives.specs.Commands.{Reopen}
 use Rattle.archives.specs.Refusing.{IsFault}
 use Rattle.archives.specs.declared.error.Error.{Error}
@@ -46,6 +46,8 @@ pub record Kind : Type 1 where
   pub IsFound : Disk → Disk → Known → Type 0
   -- what it knows once the command got a reply, from one disk to another
   pub Learns : Known → Asked → Disk → Disk → Known → Type 0
+  -- by what is known, no such blob is there once the command got a reply
+  pub Clears : Known → Asked → Key → Type 0
   -- why the error, if it is not want of memory, ends what was under way, from one disk to another
   pub IsCauseAnywhere : Known → Option Asked → Disk → Disk → Error → Type 0
   -- by what is known, the command that begins over the disk gets no reply
@@ -112,6 +114,8 @@ module _ {A V D : Type 0} (s : Serving A V) (dev : device.Ghosts D) where
     -- over any image: what the store then knows
     pub learns : dev.Tells
         → s.kind.Learns (s.known a) command (disk (dev.time old)) (disk (dev.time new)) (s.known r)
+    -- no blob that the command clears away is there
+    pub cleared : dev.Tells → NoneThere (s.kind.Clears (s.known a) command) (disk (dev.time new))
     -- by what it knew the command did not have to be refused
     pub allowed_anywhere : dev.Tells
         → s.kind.MustRefuseAnywhere (s.known a) (disk (dev.time old)) command → ⊥

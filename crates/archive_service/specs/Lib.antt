@@ -5,8 +5,10 @@ pub mod Causes
 pub mod Ended
 pub mod ErrorTexts
 pub mod Kinds
+pub mod Made
 pub mod PrunableKind
 pub mod PrunableStore
+pub mod PuttingNames
 pub mod RunLaws
 pub mod Script
 pub mod Serves

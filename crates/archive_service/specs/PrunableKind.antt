@@ -2,15 +2,16 @@
 use Rattle.std.specs.Prelude.{◌≢◌, ◌≡◌, ◌⊎◌, ⊤, ℕ, ◌+◌, ◌<◌, ◌≤◌, ◌^◌, max, if◌then◌else◌, true, false, List, [], length, map}
 use Rattle.blob_device.specs.Disk.{Disk, Key}
 use Rattle.sealed_pages.specs.Tails.{tail_after}
-use Rattle.paired.specs.Crashes.{IsOwn}
+use Rattle.paired.specs.Crashes.{IsBlobOf, IsOwn}
 use Rattle.paired.specs.Kept.{Markers, content_at}
 use Rattle.paired.specs.Opening.{as_read}
 use Rattle.archives.specs.Changes.{Asked}
 use Rattle.archives.specs.Commands.{Put, PutSync, PutStart, Multi, MultiSync, MultiStart, Get, GetKey, All, Has, HasKey, HasAt, Gap, Missing, Ranges, RangesFrom, First, Last, Sync, Start, Prune, Reopen, Destroy}
-use Rattle.archives.specs.Filing.{Filing, IsBlobAt}
+use Rattle.archives.specs.Filing.{Filing, IsBlobAt, floor_of}
 use Rattle.archives.specs.Lawful.{Lawful}
 use Rattle.archives.specs.Machine.{State, Step, section_of}
 use Rattle.archives.specs.Opening.{OfKept}
+use Rattle.archives.specs.Opens.{OfMarkers}
 use Rattle.archives.specs.Rows.{row_in}
 use Rattle.archives.specs.Standing.{IsStart, Leaves}
 use Rattle.archive_service.specs.Causes.{Held, IsCause, IsCauseAnywhere, MustRefuse, MustRefuseAnywhere, PutOf, RefusesAnywhere, RefusesPut, adds_to, bytes_with, frame_by, holding_nothing, put_of, rows_with}
@@ -19,8 +20,8 @@ use Rattle.archive_service.specs.Starts.{start_of, starts}
 
 -- The buffers of a section's records, and of its values, flush from so many bytes on.
 module _ (f : Filing) (write_buffer value_buffer : ℕ) where
-  -- the blobs that a command may change: none by a lookup; by a put that does not sync the two of its section; else
-  -- all of the archive
+  -- the blobs that a command may change: none by a lookup; by a put that does not sync the two of its
+  -- section; by a prune those of the sections below its bound and of the markers; else all of the archive
   abbrev pub MayChange : Asked → Key → Type 0
   MayChange (Get i) q = ⊥
   MayChange (GetKey k) q = ⊥
@@ -42,9 +43,36 @@ module _ (f : Filing) (write_buffer value_buffer : ℕ) where
   MayChange (MultiStart i k v) q = IsOwn f.layout (λ _. ⊤) q
   MayChange Sync q = IsOwn f.layout (λ _. ⊤) q
   MayChange Start q = IsOwn f.layout (λ _. ⊤) q
-  MayChange (Prune bound) q = IsOwn f.layout (λ _. ⊤) q
+  MayChange (Prune bound) q = IsOwn f.layout (λ s. s < section_of f.items bound) q
   MayChange Reopen q = IsOwn f.layout (λ _. ⊤) q
   MayChange Destroy q = IsOwn f.layout (λ _. ⊤) q
+
+  -- the blobs that are not there once the command got a reply: of an open archive, by a prune both of each
+  -- section below its bound, and by a destroy all
+  abbrev pub ClearsOpen : Asked → Key → Type 0
+  ClearsOpen (Prune bound) q = IsBlobOf f.layout (λ s. s < section_of f.items bound) q
+  ClearsOpen Destroy q = IsOwn f.layout (λ _. ⊤) q
+  ClearsOpen (Get i) q = ⊥
+  ClearsOpen (GetKey k) q = ⊥
+  ClearsOpen (All i) q = ⊥
+  ClearsOpen (Has i) q = ⊥
+  ClearsOpen (HasKey k) q = ⊥
+  ClearsOpen (HasAt i k) q = ⊥
+  ClearsOpen (Gap i) q = ⊥
+  ClearsOpen (Missing i n) q = ⊥
+  ClearsOpen Ranges q = ⊥
+  ClearsOpen (RangesFrom i) q = ⊥
+  ClearsOpen First q = ⊥
+  ClearsOpen Last q = ⊥
+  ClearsOpen (Put i k v) q = ⊥
+  ClearsOpen (Multi i k v) q = ⊥
+  ClearsOpen (PutSync i k v) q = ⊥
+  ClearsOpen (PutStart i k v) q = ⊥
+  ClearsOpen (MultiSync i k v) q = ⊥
+  ClearsOpen (MultiStart i k v) q = ⊥
+  ClearsOpen Sync q = ⊥
+  ClearsOpen Start q = ⊥
+  ClearsOpen Reopen q = ⊥
 
   -- ---- what an archive holds, over any image
 
@@ -61,8 +89,8 @@ module _ (f : Filing) (write_buffer value_buffer : ℕ) where
   pub record IsFound (from to : Disk) (held : Held) : Type 0 where
     -- it is open
     pub is_open : held.is_open ≡ true
-    -- nothing was pruned
-    pub floor : held.floor ≡ 0
+    -- its floor is that of the markers
+    pub floor : OfMarkers f from (λ markers. held.floor ≡ floor_of markers)
     -- a row for each record that the image keeps
     pub rows : OfKept f (as_read from) (λ entries. (s : ℕ) → s < 2 ^ 64
         → held.rows s ≡ map (λ e. row_in f.key_size e.stored) (entries s))
@@ -212,31 +240,41 @@ module _ (f : Filing) (write_buffer value_buffer : ℕ) where
   Learns held First from to next = next ≡ held
   Learns held Last from to next = next ≡ held
 
-  -- commands that make no call of the device: they are answered by what is held
+  -- a closed one clears nothing away
+  abbrev pub Clears : Held → Asked → Key → Type 0
+  Clears held command q = (held.is_open ≡ true) × ClearsOpen command q
+
+  -- commands to an open archive that make no call of the device: they are answered by what is held, or find
+  -- nothing to do
+  abbrev pub IsQuietOpen : Held → Asked → Type 0
+  IsQuietOpen held (Put i k v) = IsBuffered held (put_of (Put i k v))
+  IsQuietOpen held (Multi i k v) = IsBuffered held (put_of (Multi i k v))
+  IsQuietOpen held (Has i) = ⊤
+  IsQuietOpen held (PutSync i k v) = ⊥
+  IsQuietOpen held (PutStart i k v) = ⊥
+  IsQuietOpen held (MultiSync i k v) = ⊥
+  IsQuietOpen held (MultiStart i k v) = ⊥
+  IsQuietOpen held (Get i) = ⊥
+  IsQuietOpen held (GetKey k) = ⊥
+  IsQuietOpen held (All i) = ⊥
+  IsQuietOpen held (HasKey k) = ⊥
+  IsQuietOpen held (HasAt i k) = ⊥
+  IsQuietOpen held (Gap i) = ⊤
+  IsQuietOpen held (Missing i n) = ⊤
+  IsQuietOpen held Ranges = ⊤
+  IsQuietOpen held (RangesFrom i) = ⊤
+  IsQuietOpen held First = ⊤
+  IsQuietOpen held Last = ⊤
+  IsQuietOpen held Sync = ⊥
+  IsQuietOpen held Start = ⊥
+  IsQuietOpen held (Prune bound) = section_of f.items bound ≤ held.floor
+  IsQuietOpen held Reopen = ⊥
+  IsQuietOpen held Destroy = ⊥
+
+  -- so do all commands to a closed one, but the one that opens it
   abbrev pub IsQuiet : Held → Asked → Type 0
-  IsQuiet held (Put i k v) = IsBuffered held (put_of (Put i k v))
-  IsQuiet held (Multi i k v) = IsBuffered held (put_of (Multi i k v))
-  IsQuiet held (Has i) = ⊤
-  IsQuiet held (PutSync i k v) = ⊥
-  IsQuiet held (PutStart i k v) = ⊥
-  IsQuiet held (MultiSync i k v) = ⊥
-  IsQuiet held (MultiStart i k v) = ⊥
-  IsQuiet held (Get i) = ⊥
-  IsQuiet held (GetKey k) = ⊥
-  IsQuiet held (All i) = ⊥
-  IsQuiet held (HasKey k) = ⊥
-  IsQuiet held (HasAt i k) = ⊥
-  IsQuiet held (Gap i) = ⊤
-  IsQuiet held (Missing i n) = ⊤
-  IsQuiet held Ranges = ⊤
-  IsQuiet held (RangesFrom i) = ⊤
-  IsQuiet held First = ⊤
-  IsQuiet held Last = ⊤
-  IsQuiet held Sync = ⊥
-  IsQuiet held Start = ⊥
-  IsQuiet held (Prune bound) = ⊥
-  IsQuiet held Reopen = ⊥
-  IsQuiet held Destroy = ⊥
+  IsQuiet held command =
+      ((held.is_open ≡ false) × (command ≡ Reopen → ⊥)) ⊎ IsQuietOpen held command
 
   -- ---- the kind
 
@@ -255,6 +293,7 @@ module _ (f : Filing) (write_buffer value_buffer : ℕ) where
     unknown = holding_nothing;
     IsFound = IsFound;
     Learns = Learns;
+    Clears = Clears;
     IsCauseAnywhere = IsCauseAnywhere f;
     MustRefuseAnywhere = MustRefuseAnywhere f;
     RefusesAnywhere = RefusesAnywhere f;

@@ -1,18 +1,23 @@
--- The prunable archive, kept by a configuration, as a store that serves commands.
-use Rattle.std.specs.Prelude.{◌≡◌, ℕ, true, false}
+-- The prunable archive, kept by a configuration, as a store that serves commands: open, or destroyed and closed.
+use Rattle.std.specs.Prelude.{◌≡◌, ⊤, ℕ, true, false, List, [], None}
 use Rattle.blob_device.specs.Disk.{Disk}
 use Rattle.blob_device.specs.Opened.{OpenedList}
 use Rattle.sealed_pages.specs.declared.page_blob.PageBlob.{PageBlob}
 use Rattle.segments.specs.declared.sealed.AppendFactory.{AppendFactory}
 use Rattle.paired.specs.GlobSections as glob
+use Rattle.paired.specs.Opening.{MayBeOpened}
 use Rattle.paired.specs.Pair.{synced_length}
 use Rattle.archives.specs.Archives.{IsArchive, IsSoundArchive, state_of}
 use Rattle.archives.specs.Filing.{IsSameFiling}
+use Rattle.archives.specs.Machine.{State}
 use Rattle.archives.specs.Prunable.{Prunable, Setup, filing_by, value_buffer_of, write_buffer_of}
 use Rattle.archives.specs.Putting.{record_tail, value_tail}
+use Rattle.archives.specs.Standing.{Leaves}
 use Rattle.archive_service.specs.Causes.{Held}
 use Rattle.archive_service.specs.Kinds.{Serving}
 use Rattle.archive_service.specs.PrunableKind.{prunable_kind}
+use Rattle.archive_service.specs.declared.store.openable.Openable.{Openable}
+use Rattle.archive_service.specs.declared.store.openable.Openable.TheVariants.{Closed, Open}
 
 module _ {A V S : Type 0} {gs : _} (p : Prunable A V (AppendFactory S) (PageBlob S gs)) where
   -- what the archive holds
@@ -45,13 +50,54 @@ module _ {A V S : Type 0} {gs : _} (p : Prunable A V (AppendFactory S) (PageBlob
       pub flushed : told → (s : ℕ) → (p.see a).is_written s ≡ false
           → (record_tail (p.see a) s ≡ 0) × (value_tail (p.see a) s ≡ 0)
 
-    abbrev pub prunable_serving : Type 0 → Serving A V
-    prunable_serving valid = record {
+    -- ---- open or closed
+
+    -- The state of a closed archive, which was destroyed with this floor, and what it knows of itself: it
+    -- keeps nothing.
+    abbrev pub closed_state : ℕ → State (List ℕ)
+    closed_state floor = record { is_open = false; lists = λ s. []; synced = λ s. 0; floor = floor }
+
+    abbrev pub closed_held : ℕ → Held
+    closed_held floor = record {
+      is_open = false;
+      floor = floor;
+      rows = λ s. [];
+      bytes = λ s. 0;
+      synced = λ s. 0;
+      record_tail = λ s. 0;
+      value_tail = λ s. 0;
+    }
+
+    -- It is sound where its disk may be opened again, and each crash leaves what stands for that state.
+    pub record IsSoundClosed (floor : ℕ) (d : Disk) : Type 0 where
+      -- the disk may be opened
+      pub opened : MayBeOpened setup.filing.layout d
+      -- and each crash leaves nothing
+      pub leaves : Leaves setup.filing (closed_state floor) None d
+
+    abbrev pub IsUsableOpenable : Openable A → Type 0 → OpenedList → Disk → Type 0
+    IsUsableOpenable (Open a) told opened d = IsUsableStore a told opened d
+    IsUsableOpenable (Closed floor) told opened d = ⊤
+
+    abbrev pub IsSoundOpenable : Openable A → Disk → Type 0
+    IsSoundOpenable (Open a) d = IsSoundArchive (p.see a) d
+    IsSoundOpenable (Closed floor) d = IsSoundClosed floor d
+
+    abbrev pub openable_state : Openable A → Disk → State (List ℕ)
+    openable_state (Open a) d = state_of (p.see a) d
+    openable_state (Closed floor) d = closed_state floor
+
+    abbrev pub openable_held : Openable A → Held
+    openable_held (Open a) = held_by a
+    openable_held (Closed floor) = closed_held floor
+
+    abbrev pub openable_serving : Type 0 → Serving (Openable A) V
+    openable_serving valid = record {
       kind = prunable_kind setup.filing setup.write_buffer setup.value_buffer;
       IsValid = valid;
       Accepts = setup.Allows;
-      IsUsable = IsUsableStore;
-      IsSound = λ a d. IsSoundArchive (p.see a) d;
-      state = λ a d. state_of (p.see a) d;
-      known = held_by;
+      IsUsable = IsUsableOpenable;
+      IsSound = IsSoundOpenable;
+      state = openable_state;
+      known = openable_held;
     }

@@ -3,7 +3,7 @@ use Rattle.std.specs.Prelude.{◌≡◌, ◌≢◌, ◌⊎◌, ℕ, ◌+◌, ◌
 use Rattle.std.specs.Fmt.{decimal}
 use Rattle.hex.specs.Hex.{encode_lower}
 use Rattle.std.specs.List.{AllByRecursion, join_with_byte}
-use Rattle.archives.specs.Commands.{Put, PutSync, PutStart, Get, GetKey, Has, HasKey, Gap, Missing, Ranges, RangesFrom, First, Last, Sync, Start, Reopen}
+use Rattle.archives.specs.Commands.{Put, PutSync, PutStart, Multi, MultiSync, MultiStart, Get, GetKey, All, Has, HasKey, HasAt, Gap, Missing, Ranges, RangesFrom, First, Last, Sync, Start, Prune, Reopen, Destroy}
 use Rattle.archive_service.specs.declared.script.ScriptError.{ScriptError}
 use Rattle.archive_service.specs.declared.script.ScriptError.TheVariants.{Line, Mem}
 use Rattle.archive_service.specs.Texts.{Spelled, line_of, script_text, value_text}
@@ -43,6 +43,7 @@ IsLone Reopen = Unit {0}
 IsLone Ranges = Unit {0}
 IsLone First = Unit {0}
 IsLone Last = Unit {0}
+IsLone Destroy = Unit {0}
 IsLone command = ⊥
 
 -- a command of two words
@@ -51,8 +52,10 @@ IsShort (Get index) = IsIndex index
 IsShort (Has index) = IsIndex index
 IsShort (GetKey key) = IsKey key
 IsShort (HasKey key) = IsKey key
+IsShort (All index) = IsIndex index
 IsShort (Gap index) = IsIndex index
 IsShort (RangesFrom index) = IsIndex index
+IsShort (Prune index) = IsIndex index
 IsShort command = ⊥
 
 -- an index and a number of indices, and their words with one space (32) between
@@ -62,9 +65,17 @@ IsCounted (index, count) = IsIndex index × IsCount count
 abbrev pub counted_text : ℕ × ℕ → List ℕ
 counted_text (index, count) = join_with_byte 32 (decimal index ∷ decimal count ∷ [])
 
+-- an index and a key, and their words with one space (32) between
+abbrev pub IsKeyed : ℕ × List ℕ → Type 0
+IsKeyed (index, key) = IsIndex index × IsKey key
+
+abbrev pub keyed_text : ℕ × List ℕ → List ℕ
+keyed_text (index, key) = join_with_byte 32 (decimal index ∷ encode_lower key ∷ [])
+
 -- a command of three words
 abbrev pub IsDouble : Spelled → Type 0
 IsDouble (Missing index count) = IsCounted (index, count)
+IsDouble (HasAt index key) = IsKeyed (index, key)
 IsDouble command = ⊥
 
 -- a put, with a value of at most max bytes
@@ -72,9 +83,13 @@ abbrev pub IsLongOf : ℕ → Spelled → Type 0
 IsLongOf max (Put index key value) = IsRecord max (index, key, value)
 IsLongOf max (PutSync index key value) = IsRecord max (index, key, value)
 IsLongOf max (PutStart index key value) = IsRecord max (index, key, value)
+IsLongOf max (Multi index key value) = IsRecord max (index, key, value)
+IsLongOf max (MultiSync index key value) = IsRecord max (index, key, value)
+IsLongOf max (MultiStart index key value) = IsRecord max (index, key, value)
 IsLongOf max command = ⊥
 
--- the commands that the reader takes so far
+-- the commands that the reader takes: each one, where its numbers, its key and its value are of their types
+-- (`AllAreSaid`)
 abbrev pub CanBeSaid : ℕ → Spelled → Type 0
 CanBeSaid max command = IsLone command ⊎ (IsShort command ⊎ (IsDouble command ⊎ IsLongOf max command))
 
@@ -135,6 +150,36 @@ IsFirstLine max text found =
 
 -- ---- the laws that make an answer of the reader exact
 
+-- what a command says is of its types
+abbrev pub IsOfTypes : ℕ → Spelled → Type 0
+IsOfTypes max (Put index key value) = IsRecord max (index, key, value)
+IsOfTypes max (PutSync index key value) = IsRecord max (index, key, value)
+IsOfTypes max (PutStart index key value) = IsRecord max (index, key, value)
+IsOfTypes max (Multi index key value) = IsRecord max (index, key, value)
+IsOfTypes max (MultiSync index key value) = IsRecord max (index, key, value)
+IsOfTypes max (MultiStart index key value) = IsRecord max (index, key, value)
+IsOfTypes max (Get index) = IsIndex index
+IsOfTypes max (GetKey key) = IsKey key
+IsOfTypes max (All index) = IsIndex index
+IsOfTypes max (Has index) = IsIndex index
+IsOfTypes max (HasKey key) = IsKey key
+IsOfTypes max (HasAt index key) = IsKeyed (index, key)
+IsOfTypes max (Gap index) = IsIndex index
+IsOfTypes max (Missing index count) = IsCounted (index, count)
+IsOfTypes max Ranges = Unit {0}
+IsOfTypes max (RangesFrom index) = IsIndex index
+IsOfTypes max First = Unit {0}
+IsOfTypes max Last = Unit {0}
+IsOfTypes max Sync = Unit {0}
+IsOfTypes max Start = Unit {0}
+IsOfTypes max (Prune index) = IsIndex index
+IsOfTypes max Reopen = Unit {0}
+IsOfTypes max Destroy = Unit {0}
+
+-- each command can be said
+abbrev pub AllAreSaid : Type 0
+AllAreSaid = (max : ℕ) (command : Spelled) → IsOfTypes max command → CanBeSaid max command
+
 -- a text spells at most one script
 abbrev pub OneScript : Type 0
 OneScript = (max : ℕ) (text : List ℕ) (a b : List Spelled) → Spells max text a → Spells max text b → a ≡ b
@@ -148,7 +193,7 @@ GoodOrBad = (max : ℕ) (text : List ℕ) (commands : List Spelled) (n : ℕ) �
 abbrev pub OneFirstBad : Type 0
 OneFirstBad = (max : ℕ) (text : List ℕ) (m n : ℕ) → IsFirstBad max text m → IsFirstBad max text n → m ≡ n
 
--- all three
+-- all four
 pub record IsExactReading : Type 0 where
   -- a text spells at most one script
   pub one_script : OneScript
@@ -156,3 +201,5 @@ pub record IsExactReading : Type 0 where
   pub good_or_bad : GoodOrBad
   -- one line is the first bad one
   pub one_first : OneFirstBad
+  -- each command can be said
+  pub all : AllAreSaid

@@ -8,7 +8,7 @@ use Rattle.blob_device.specs.Footprint.{Footprint, NoBound}
 use Rattle.blob_device.specs.Timeline.{Timeline, disk, Stretches}
 use Rattle.blob_device.specs.declared.device.Device as device
 use Rattle.paired.specs.Opening.{as_read}
-use Rattle.archives.specs.Changes.{Asked, Replied}
+use Rattle.archives.specs.Changes.{Asked, NoneThere, Replied}
 use Rattle.archives.specs.Commands.{Reopen}
 use Rattle.archives.specs.Refusing.{IsFault}
 use Rattle.archives.specs.declared.error.Error.{Error}
@@ -125,6 +125,10 @@ module _ (k : Kind) where
       pub learns : (i : ℕ) (command : Asked) → i < replied
           → slice_get commands i ≡ Some command
           → k.Learns (known i) command (disk_at old new marks (i + 1)) (disk_at old new marks (i + 2)) (known (i + 1))
+      -- Where a command got its reply, no blob that it clears away is there: by a prune those of the sections
+      -- below its bound, and by a destroy all of the archive.
+      pub cleared : (i : ℕ) (command : Asked) → i < replied → slice_get commands i ≡ Some command
+          → NoneThere (k.Clears (known i) command) (disk_at old new marks (i + 2))
       -- A command that makes no call of the device ends where it began.
       pub quiet : (i : ℕ) (command : Asked) → i < length marks → slice_get commands i ≡ Some command
           → k.IsQuiet (known i) command

@@ -4,7 +4,7 @@ use Rattle.std.proofs.Common.{refl, ap}
 use Rattle.std.proofs.lemmas.Bool.{le-ltb, lt-ltb}
 use Rattle.blob_device.specs.Disk.{Image}
 use Rattle.paired.specs.Kept.{Markers}
-use Rattle.archives.specs.Filing.{Filing, kept}
+use Rattle.archives.specs.Filing.{Filing, floor_of, kept}
 use Rattle.archives.specs.Lawful.{Lawful}
 use Rattle.archives.specs.Machine.{State}
 use Rattle.archives.specs.Standing.{IsStart}
@@ -15,7 +15,7 @@ start_of f image markers = record {
   is_open = true;
   lists = λ s. if nat_lt s (2 ^ 64) then kept f image markers s else [];
   synced = λ s. length (if nat_lt s (2 ^ 64) then kept f image markers s else []);
-  floor = 0;
+  floor = floor_of markers;
 }
 
 pub starts : (f : Filing) (image : Image) (markers : Markers) → Lawful f image markers

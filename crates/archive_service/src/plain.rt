@@ -1,6 +1,7 @@
 //! The texts of commands, written out plainly, and whether a text begins with one. It is slow, and made to be read
 //! beside the definitions: the reader of scripts is compared with it.
-ghost use Rattle.std.specs.Prelude.{◌≡◌, ◌↔◌, IfOk, IsTrue, map, string_bytes};
+ghost use Rattle.std.specs.Prelude.{◌≡◌, ◌↔◌, ◌++◌, ◌∷◌, IfOk, IsTrue, map, string_bytes};
+ghost use Rattle.hex.specs.Hex.{encode_lower};
 ghost use Rattle.archives.specs.Machine.{asked};
 ghost use Rattle.value_codec.specs.Keys.{key8_bytes};
 ghost use Rattle.archive_service.specs.Script.{record_text};
@@ -17,28 +18,33 @@ pub fn line_text(alloc: Global, command: &Command<Key8, ByteValue>) -> Result<St
         ≡ line_of (asked key8_bytes (λ v. v) command.now)) }
 {
     match command {
-        Command::Put(index, key, value) => {
-            let record = record_text(alloc, *index, key, value)?;
-            format!(in alloc; "put {record}")
-        }
-        Command::PutSync(index, key, value) => {
-            let record = record_text(alloc, *index, key, value)?;
-            format!(in alloc; "putsync {record}")
-        }
-        Command::PutStart(index, key, value) => {
-            let record = record_text(alloc, *index, key, value)?;
-            format!(in alloc; "putstart {record}")
-        }
+        Command::Put(index, key, value) => record_line(alloc, "put", *index, key, value),
+        Command::PutSync(index, key, value) => record_line(alloc, "putsync", *index, key, value),
+        Command::PutStart(index, key, value) => record_line(alloc, "putstart", *index, key, value),
+        Command::Multi(index, key, value) => record_line(alloc, "multi", *index, key, value),
+        Command::MultiSync(index, key, value) => record_line(
+            alloc,
+            "multisync",
+            *index,
+            key,
+            value,
+        ),
+        Command::MultiStart(index, key, value) => record_line(
+            alloc,
+            "multistart",
+            *index,
+            key,
+            value,
+        ),
         Command::Get(index) => format!(in alloc; "get {index}"),
-        Command::GetKey(key) => {
-            let key = hex::encode(alloc, key.as_bytes())?;
-            format!(in alloc; "getk {key}")
-        }
+        Command::GetKey(key) => key_line(alloc, "getk", key),
         Command::Has(index) => format!(in alloc; "has {index}"),
-        Command::HasKey(key) => {
-            let key = hex::encode(alloc, key.as_bytes())?;
-            format!(in alloc; "hask {key}")
+        Command::HasKey(key) => key_line(alloc, "hask", key),
+        Command::HasAt(index, key) => {
+            let name = format!(in alloc; "hasat {index}")?;
+            key_line(alloc, name.as_str(), key)
         }
+        Command::All(index) => format!(in alloc; "all {index}"),
         Command::Gap(index) => format!(in alloc; "gap {index}"),
         Command::Missing(index, count) => format!(in alloc; "missing {index} {count}"),
         Command::Ranges => String::from_str(alloc, "ranges"),
@@ -47,8 +53,34 @@ pub fn line_text(alloc: Global, command: &Command<Key8, ByteValue>) -> Result<St
         Command::Last => String::from_str(alloc, "last"),
         Command::Sync => String::from_str(alloc, "sync"),
         Command::Start => String::from_str(alloc, "start"),
+        Command::Prune(index) => format!(in alloc; "prune {index}"),
         Command::Reopen => String::from_str(alloc, "reopen"),
+        Command::Destroy => String::from_str(alloc, "destroy"),
     }
+}
+
+// The line of a command of this name that puts a record.
+fn record_line(
+    alloc: Global,
+    name: &str,
+    index: u64,
+    key: &Key8,
+    value: &ByteValue,
+) -> Result<String, AllocError>
+    ensures { IfOk result (λ line. string_bytes line
+        ≡ name.now ++ 32 ∷ record_text (index, key8_bytes key.now, value.now)) }
+{
+    let record = record_text(alloc, index, key, value)?;
+    format!(in alloc; "{name} {record}")
+}
+
+// The line that ends in a key behind these words.
+fn key_line(alloc: Global, words: &str, key: &Key8) -> Result<String, AllocError>
+    ensures { IfOk result (λ line. string_bytes line
+        ≡ words.now ++ 32 ∷ encode_lower (key8_bytes key.now)) }
+{
+    let key = hex::encode(alloc, key.as_bytes())?;
+    format!(in alloc; "{words} {key}")
 }
 
 /// The words of a record.

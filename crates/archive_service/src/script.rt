@@ -4,7 +4,8 @@ ghost use Rattle.std.specs.List.{AllByRecursion};
 ghost use Rattle.std.specs.Option.{option_map};
 ghost use Rattle.archives.specs.Machine.{asked};
 ghost use Rattle.value_codec.specs.Keys.{key8_bytes};
-ghost use Rattle.archive_service.specs.Script.{IsCommandOf, IsCounted, IsDouble, IsExactReading, IsFirstLine, IsLone, IsLongOf, IsReading, IsRecord, IsShort, ReadsScript, counted_text, record_text};
+ghost use Rattle.archive_service.specs.PuttingNames.{command_of, name_of};
+ghost use Rattle.archive_service.specs.Script.{IsCommandOf, IsCounted, IsDouble, IsExactReading, IsFirstLine, IsKeyed, IsLone, IsLongOf, IsReading, IsRecord, IsShort, ReadsScript, counted_text, keyed_text, record_text};
 ghost use Rattle.archive_service.specs.Texts.{Spelled, line_of};
 ghost use Rattle.archive_service.specs.declared.script.ScriptError.TheVariants.{Mem};
 
@@ -60,6 +61,13 @@ impl Model for Script {
 }
 
 impl Script {
+    /// The script of these commands.
+    pub(crate) fn from_vec(commands: Vec<Command<Key8, ByteValue>>) -> Script
+        ensures { result ≡ map (asked key8_bytes (λ v. v)) commands.items }
+    {
+        Script { commands }
+    }
+
     /// The commands, in the order of their lines.
     pub fn as_slice(&self) -> &[Command<Key8, ByteValue>]
         ensures { map (asked key8_bytes (λ v. v)) result.now ≡ self.now }
@@ -143,6 +151,8 @@ fn lone_command(word: &[u8]) -> Option<Command<Key8, ByteValue>>
         Some(Command::First)
     } else if word == b"last".as_slice() {
         Some(Command::Last)
+    } else if word == b"destroy".as_slice() {
+        Some(Command::Destroy)
     } else {
         None
     }
@@ -167,6 +177,10 @@ fn short_command(name: &[u8], word: &[u8]) -> Option<Command<Key8, ByteValue>>
         Some(Command::Gap(index_of(word)?))
     } else if name == b"rangesfrom".as_slice() {
         Some(Command::RangesFrom(index_of(word)?))
+    } else if name == b"prune".as_slice() {
+        Some(Command::Prune(index_of(word)?))
+    } else if name == b"all".as_slice() {
+        Some(Command::All(index_of(word)?))
     } else {
         None
     }
@@ -184,6 +198,9 @@ fn double_command(name: &[u8], words: &[u8]) -> Option<Command<Key8, ByteValue>>
     if name == b"missing".as_slice() {
         let (index, count) = counted_of(words)?;
         Some(Command::Missing(index, count))
+    } else if name == b"hasat".as_slice() {
+        let (index, key) = keyed_of(words)?;
+        Some(Command::HasAt(index, key))
     } else {
         None
     }
@@ -195,6 +212,15 @@ fn counted_of(words: &[u8]) -> Option<(u64, u32)>
 {
     let (index, count) = cut(words, b' ')?;
     Some((index_of(index)?, count_of(count)?))
+}
+
+/// The index and the key that two words say.
+fn keyed_of(words: &[u8]) -> Option<(u64, Key8)>
+    ensures { IsReading IsKeyed keyed_text words.now
+        (option_map (λ r. (r.0, key8_bytes r.1)) result) }
+{
+    let (index, key) = cut(words, b' ')?;
+    Some((index_of(index)?, key_of(key)?))
 }
 
 /// The put that a name and the words behind it say.
@@ -212,17 +238,61 @@ fn put_command(
         → IfOk result (λ found. IfNone found ((command : Spelled) → IsLongOf max_value command
         → name.now ++ 32 ∷ words.now ≢ line_of command)) }
 {
-    if name == b"put".as_slice() {
-        let record = record_of(alloc, words, max_value)?;
-        Ok(record.map(|(index, key, value)| Command::Put(index, key, value)))
-    } else if name == b"putsync".as_slice() {
-        let record = record_of(alloc, words, max_value)?;
-        Ok(record.map(|(index, key, value)| Command::PutSync(index, key, value)))
-    } else if name == b"putstart".as_slice() {
-        let record = record_of(alloc, words, max_value)?;
-        Ok(record.map(|(index, key, value)| Command::PutStart(index, key, value)))
-    } else {
-        Ok(None)
+    let Some(make) = Putting::named(name) else {
+        return Ok(None);
+    };
+    match record_of(alloc, words, max_value)? {
+        Some((index, key, value)) => Ok(Some(make.command(index, key, value))),
+        None => Ok(None),
+    }
+}
+
+/// The ways to put a record.
+#[derive(Clone, Copy, Debug, PartialEq, Eq)]
+enum Putting {
+    Put,
+    PutSync,
+    PutStart,
+    Multi,
+    MultiSync,
+    MultiStart,
+}
+
+impl Putting {
+    /// The way of this name.
+    fn named(name: &[u8]) -> Option<Putting>
+        ensures found { IfSome result (λ putting. name.now ≡ name_of putting) }
+        ensures none { IfNone result ((putting : _) → name.now ≢ name_of putting) }
+    {
+        if name == b"put".as_slice() {
+            Some(Putting::Put)
+        } else if name == b"putsync".as_slice() {
+            Some(Putting::PutSync)
+        } else if name == b"putstart".as_slice() {
+            Some(Putting::PutStart)
+        } else if name == b"multi".as_slice() {
+            Some(Putting::Multi)
+        } else if name == b"multisync".as_slice() {
+            Some(Putting::MultiSync)
+        } else if name == b"multistart".as_slice() {
+            Some(Putting::MultiStart)
+        } else {
+            None
+        }
+    }
+
+    /// The command that puts this record so.
+    fn command(self, index: u64, key: Key8, value: ByteValue) -> Command<Key8, ByteValue>
+        ensures { asked key8_bytes (λ v. v) result ≡ command_of self index (key8_bytes key) value }
+    {
+        match self {
+            Putting::Put => Command::Put(index, key, value),
+            Putting::PutSync => Command::PutSync(index, key, value),
+            Putting::PutStart => Command::PutStart(index, key, value),
+            Putting::Multi => Command::Multi(index, key, value),
+            Putting::MultiSync => Command::MultiSync(index, key, value),
+            Putting::MultiStart => Command::MultiStart(index, key, value),
+        }
     }
 }
 
@@ -254,7 +324,7 @@ fn record_of(
 }
 
 /// What makes the answers of [`read_script`] exact. A text spells at most one script; one that spells a script has no
-/// bad line; and there is one first bad line.
+/// bad line; there is one first bad line; and each command can be said.
 pub fn reading_is_exact()
     ensures { IsExactReading }
 {}

@@ -6,7 +6,7 @@ ghost use Rattle.archive_service.specs.Kinds.{MayUse};
 ghost use Rattle.archive_service.specs.Serves.{ServesBy, ServesOne, end_of};
 ghost use Rattle.archive_service.specs.Stores.{IsValidStore, PutsOnly, codec_config_of, kind_in};
 
-use crate::store::Store;
+use crate::store::{Openable, Store};
 use crate::{End, Marks, Replies, Served};
 use archives::{Command, Error, Translator, prunable};
 use blob_device::Device;
@@ -48,7 +48,7 @@ where
 {
     match store {
         StoreConfig::Prunable(cfg) => {
-            serve_from::<prunable::Archive<T, K, V, S>, D>(alloc, dev, cfg, commands)
+            serve_from::<Openable<prunable::Archive<T, K, V, S>>, D>(alloc, dev, cfg, commands)
         }
     }
 }

@@ -4,10 +4,12 @@ ghost use Rattle.archives.specs.Machine.{asked, replied};
 ghost use Rattle.archive_service.specs.Kinds.{Answers, MayUse, OpensStore, Serving};
 ghost use Rattle.archive_service.specs.Stores.{PutsOnly};
 
+mod openable;
 mod prunable;
 
 use archives::{Command, Error, Reply};
 use blob_device::Device;
+pub use openable::Openable;
 use std::alloc::Global;
 use value_codec::{Codec, Key};
 

@@ -42,6 +42,8 @@ fn append_reply(reply: &Reply<ByteValue>, out: &mut Vec<u8>) -> Result<(), Alloc
         Reply::Done => out.extend_from_slice(b"ok\n"),
         Reply::Value(None) => out.extend_from_slice(b"none\n"),
         Reply::Value(Some(value)) => append_value_line(value.as_bytes(), out),
+        Reply::Values(None) => out.extend_from_slice(b"none\n"),
+        Reply::Values(Some(values)) => append_values(values.as_slice(), out),
         Reply::Flag(true) => out.extend_from_slice(b"yes\n"),
         Reply::Flag(false) => out.extend_from_slice(b"no\n"),
         Reply::Gap(end, next) => append_gap(*end, *next, out),
@@ -49,7 +51,20 @@ fn append_reply(reply: &Reply<ByteValue>, out: &mut Vec<u8>) -> Result<(), Alloc
         Reply::Ranges(runs) => append_ranges(runs.as_slice(), out),
         Reply::Index(None) => out.extend_from_slice(b"none\n"),
         Reply::Index(Some(index)) => append_index(*index, out),
+        Reply::Closed => out.extend_from_slice(b"closed\n"),
     }
+}
+
+fn append_values(values: &[ByteValue], out: &mut Vec<u8>) -> Result<(), AllocError>
+    ensures { Appends result out.old.items (codes "values" ++ words_text value_text values.now
+        ++ codes "\n") out.new.items }
+{
+    out.extend_from_slice(b"values")?;
+    for value in values {
+        out.extend_from_slice(b" ")?;
+        append_value(value.as_bytes(), out)?;
+    }
+    out.extend_from_slice(b"\n")
 }
 
 fn append_gap(end: Option<u64>, next: Option<u64>, out: &mut Vec<u8>) -> Result<(), AllocError>

@@ -118,7 +118,8 @@ pub(crate) fn value_of(
     }
 }
 
-fn copied(alloc: Global, bytes: &[u8]) -> Result<ByteValue, AllocError>
+// A value of these bytes.
+pub(crate) fn copied(alloc: Global, bytes: &[u8]) -> Result<ByteValue, AllocError>
     ensures { IfOk result (λ value. value ≡ bytes.now) }
 {
     ByteValue::new(alloc, bytes).map_err(|_| AllocError)

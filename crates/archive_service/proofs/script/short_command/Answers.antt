@@ -1,6 +1,6 @@
 -- Each name has its reading of the word.
 use Rattle.value_codec.specs.Keys.{key8_bytes}
-use Rattle.archive_service.proofs.LineLemmas.{gap_named, get_named, getk_named, has_named, hask_named, rangesfrom_named, short_found, short_refused, short_unnamed}
+use Rattle.archive_service.proofs.LineLemmas.{all_named, gap_named, get_named, getk_named, has_named, hask_named, prune_named, rangesfrom_named, short_found, short_refused, short_unnamed}
 use Rattle.archive_service.proofs.WordLemmas.{if_none, other_word}
 use Rattle.archive_service.proofs.script.short_command.Goals as goal
 
@@ -40,8 +40,20 @@ returns-in_err-index_of-4-clause-none c = if_none _ _ (short_refused rangesfrom_
 pub returns-in_ok-index_of-4-clause-found : goal.returns-in_ok-index_of-4-clause-found
 returns-in_ok-index_of-4-clause-found c = short_found rangesfrom_named c.args.name.now c.args.word.now c.as_slice-else-eq-5.ensures c.if-eq-6.ensures c.in_ok-index_of-4.field-0 c.in_ok-index_of-4.ensures
 
-pub returns-else-eq-6-clause-none : goal.returns-else-eq-6-clause-none
-returns-else-eq-6-clause-none c =
+pub returns-in_err-index_of-5-clause-none : goal.returns-in_err-index_of-5-clause-none
+returns-in_err-index_of-5-clause-none c = if_none _ _ (short_refused prune_named c.args.name.now c.args.word.now c.as_slice-else-eq-6.ensures c.if-eq-7.ensures c.in_err-index_of-5.ensures)
+
+pub returns-in_ok-index_of-5-clause-found : goal.returns-in_ok-index_of-5-clause-found
+returns-in_ok-index_of-5-clause-found c = short_found prune_named c.args.name.now c.args.word.now c.as_slice-else-eq-6.ensures c.if-eq-7.ensures c.in_ok-index_of-5.field-0 c.in_ok-index_of-5.ensures
+
+pub returns-in_err-index_of-6-clause-none : goal.returns-in_err-index_of-6-clause-none
+returns-in_err-index_of-6-clause-none c = if_none _ _ (short_refused all_named c.args.name.now c.args.word.now c.as_slice-else-eq-7.ensures c.if-eq-8.ensures c.in_err-index_of-6.ensures)
+
+pub returns-in_ok-index_of-6-clause-found : goal.returns-in_ok-index_of-6-clause-found
+returns-in_ok-index_of-6-clause-found c = short_found all_named c.args.name.now c.args.word.now c.as_slice-else-eq-7.ensures c.if-eq-8.ensures c.in_ok-index_of-6.field-0 c.in_ok-index_of-6.ensures
+
+pub returns-else-eq-8-clause-none : goal.returns-else-eq-8-clause-none
+returns-else-eq-8-clause-none c =
     short_unnamed c.args.name.now c.args.word.now
     (other_word c.as_slice.ensures c.if-eq.ensures)
     (other_word c.as_slice-else-eq.ensures c.if-eq-2.ensures)
@@ -49,3 +61,5 @@ returns-else-eq-6-clause-none c =
     (other_word c.as_slice-else-eq-3.ensures c.if-eq-4.ensures)
     (other_word c.as_slice-else-eq-4.ensures c.if-eq-5.ensures)
     (other_word c.as_slice-else-eq-5.ensures c.if-eq-6.ensures)
+    (other_word c.as_slice-else-eq-6.ensures c.if-eq-7.ensures)
+    (other_word c.as_slice-else-eq-7.ensures c.if-eq-8.ensures)

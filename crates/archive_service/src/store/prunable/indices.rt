@@ -3,8 +3,9 @@ ghost use Rattle.archives.specs.Changes.{outcome};
 ghost use Rattle.archives.specs.Commands.{First, Gap, Last, Missing, Ranges, RangesFrom};
 ghost use Rattle.archives.specs.Machine.{replied};
 ghost use Rattle.archive_service.specs.Kinds.{Answers, MayUse};
+ghost use Rattle.archive_service.specs.declared.store.openable.Openable.TheVariants.{Open};
 
-use super::super::Store;
+use super::super::{Openable, Store};
 use archives::prunable::{Archive, Config};
 use archives::{Archive as _, Error, Pairs, Reply, Translator};
 use blob_device::Device;
@@ -18,16 +19,16 @@ pub(super) fn gap<T: Translator, K: Key, V: Codec, S: Seal, D: Device>(
     dev: &mut D,
     _cfg: &Config<T, V::Cfg>,
     index: u64,
-) -> Result<(Archive<T, K, V, S>, Reply<V>), Error>
-    requires usable { MayUse (⟦<Archive<T, K, V, S> as Store>⟧.means _cfg.now) D.Device archive
-        dev.old }
-    ensures { Answers (⟦<Archive<T, K, V, S> as Store>⟧.means _cfg.now) D.Device archive
-        (Gap index)
+) -> Result<(Openable<Archive<T, K, V, S>>, Reply<V>), Error>
+    requires usable { MayUse (⟦<Openable<Archive<T, K, V, S>> as Store>⟧.means _cfg.now)
+        D.Device (Open archive) dev.old }
+    ensures { Answers (⟦<Openable<Archive<T, K, V, S>> as Store>⟧.means _cfg.now)
+        D.Device (Open archive) (Gap index)
         (outcome (λ r. (r.0, replied V.spelling r.1)) result) dev.old dev.new }
 {
     archive.crash_laws(dev);
     let (end, next) = archive.next_gap(index);
-    Ok((archive, Reply::Gap(end, next)))
+    Ok((Openable::Open(archive), Reply::Gap(end, next)))
 }
 
 // So many absent indices. No call is asked for none of them.
@@ -36,21 +37,21 @@ pub(super) fn missing<T: Translator, K: Key, V: Codec, S: Seal, D: Device>(
     alloc: Global,
     dev: &mut D,
     _cfg: &Config<T, V::Cfg>,
-    index: u64,
-    count: u32,
-) -> Result<(Archive<T, K, V, S>, Reply<V>), Error>
-    requires usable { MayUse (⟦<Archive<T, K, V, S> as Store>⟧.means _cfg.now) D.Device archive
-        dev.old }
-    ensures { Answers (⟦<Archive<T, K, V, S> as Store>⟧.means _cfg.now) D.Device archive
-        (Missing index count)
+    wanted: (u64, u32),
+) -> Result<(Openable<Archive<T, K, V, S>>, Reply<V>), Error>
+    requires usable { MayUse (⟦<Openable<Archive<T, K, V, S>> as Store>⟧.means _cfg.now)
+        D.Device (Open archive) dev.old }
+    ensures { Answers (⟦<Openable<Archive<T, K, V, S>> as Store>⟧.means _cfg.now)
+        D.Device (Open archive) (Missing wanted.0 wanted.1)
         (outcome (λ r. (r.0, replied V.spelling r.1)) result) dev.old dev.new }
 {
     archive.crash_laws(dev);
+    let (index, count) = wanted;
     if count == 0 {
-        return Ok((archive, Reply::Items(Numbers::new(alloc))));
+        return Ok((Openable::Open(archive), Reply::Items(Numbers::new(alloc))));
     }
     let missing = archive.missing_items(index, count as usize)?;
-    Ok((archive, Reply::Items(missing)))
+    Ok((Openable::Open(archive), Reply::Items(missing)))
 }
 
 // All runs of indices.
@@ -59,16 +60,16 @@ pub(super) fn ranges<T: Translator, K: Key, V: Codec, S: Seal, D: Device>(
     alloc: Global,
     dev: &mut D,
     _cfg: &Config<T, V::Cfg>,
-) -> Result<(Archive<T, K, V, S>, Reply<V>), Error>
-    requires usable { MayUse (⟦<Archive<T, K, V, S> as Store>⟧.means _cfg.now) D.Device archive
-        dev.old }
-    ensures { Answers (⟦<Archive<T, K, V, S> as Store>⟧.means _cfg.now) D.Device archive
-        Ranges
+) -> Result<(Openable<Archive<T, K, V, S>>, Reply<V>), Error>
+    requires usable { MayUse (⟦<Openable<Archive<T, K, V, S>> as Store>⟧.means _cfg.now)
+        D.Device (Open archive) dev.old }
+    ensures { Answers (⟦<Openable<Archive<T, K, V, S>> as Store>⟧.means _cfg.now)
+        D.Device (Open archive) Ranges
         (outcome (λ r. (r.0, replied V.spelling r.1)) result) dev.old dev.new }
 {
     archive.crash_laws(dev);
     let runs = Pairs::from_ranges(alloc, archive.ranges())?;
-    Ok((archive, Reply::Ranges(runs)))
+    Ok((Openable::Open(archive), Reply::Ranges(runs)))
 }
 
 // The runs of indices from here on.
@@ -78,16 +79,16 @@ pub(super) fn ranges_from<T: Translator, K: Key, V: Codec, S: Seal, D: Device>(
     dev: &mut D,
     _cfg: &Config<T, V::Cfg>,
     index: u64,
-) -> Result<(Archive<T, K, V, S>, Reply<V>), Error>
-    requires usable { MayUse (⟦<Archive<T, K, V, S> as Store>⟧.means _cfg.now) D.Device archive
-        dev.old }
-    ensures { Answers (⟦<Archive<T, K, V, S> as Store>⟧.means _cfg.now) D.Device archive
-        (RangesFrom index)
+) -> Result<(Openable<Archive<T, K, V, S>>, Reply<V>), Error>
+    requires usable { MayUse (⟦<Openable<Archive<T, K, V, S>> as Store>⟧.means _cfg.now)
+        D.Device (Open archive) dev.old }
+    ensures { Answers (⟦<Openable<Archive<T, K, V, S>> as Store>⟧.means _cfg.now)
+        D.Device (Open archive) (RangesFrom index)
         (outcome (λ r. (r.0, replied V.spelling r.1)) result) dev.old dev.new }
 {
     archive.crash_laws(dev);
     let runs = Pairs::from_ranges(alloc, archive.ranges_from(index))?;
-    Ok((archive, Reply::Ranges(runs)))
+    Ok((Openable::Open(archive), Reply::Ranges(runs)))
 }
 
 // The least index.
@@ -95,16 +96,16 @@ pub(super) fn first<T: Translator, K: Key, V: Codec, S: Seal, D: Device>(
     archive: Archive<T, K, V, S>,
     dev: &mut D,
     _cfg: &Config<T, V::Cfg>,
-) -> Result<(Archive<T, K, V, S>, Reply<V>), Error>
-    requires usable { MayUse (⟦<Archive<T, K, V, S> as Store>⟧.means _cfg.now) D.Device archive
-        dev.old }
-    ensures { Answers (⟦<Archive<T, K, V, S> as Store>⟧.means _cfg.now) D.Device archive
-        First
+) -> Result<(Openable<Archive<T, K, V, S>>, Reply<V>), Error>
+    requires usable { MayUse (⟦<Openable<Archive<T, K, V, S>> as Store>⟧.means _cfg.now)
+        D.Device (Open archive) dev.old }
+    ensures { Answers (⟦<Openable<Archive<T, K, V, S>> as Store>⟧.means _cfg.now)
+        D.Device (Open archive) First
         (outcome (λ r. (r.0, replied V.spelling r.1)) result) dev.old dev.new }
 {
     archive.crash_laws(dev);
     let index = archive.first_index();
-    Ok((archive, Reply::Index(index)))
+    Ok((Openable::Open(archive), Reply::Index(index)))
 }
 
 // The greatest index.
@@ -112,14 +113,14 @@ pub(super) fn last<T: Translator, K: Key, V: Codec, S: Seal, D: Device>(
     archive: Archive<T, K, V, S>,
     dev: &mut D,
     _cfg: &Config<T, V::Cfg>,
-) -> Result<(Archive<T, K, V, S>, Reply<V>), Error>
-    requires usable { MayUse (⟦<Archive<T, K, V, S> as Store>⟧.means _cfg.now) D.Device archive
-        dev.old }
-    ensures { Answers (⟦<Archive<T, K, V, S> as Store>⟧.means _cfg.now) D.Device archive
-        Last
+) -> Result<(Openable<Archive<T, K, V, S>>, Reply<V>), Error>
+    requires usable { MayUse (⟦<Openable<Archive<T, K, V, S>> as Store>⟧.means _cfg.now)
+        D.Device (Open archive) dev.old }
+    ensures { Answers (⟦<Openable<Archive<T, K, V, S>> as Store>⟧.means _cfg.now)
+        D.Device (Open archive) Last
         (outcome (λ r. (r.0, replied V.spelling r.1)) result) dev.old dev.new }
 {
     archive.crash_laws(dev);
     let index = archive.last_index();
-    Ok((archive, Reply::Index(index)))
+    Ok((Openable::Open(archive), Reply::Index(index)))
 }

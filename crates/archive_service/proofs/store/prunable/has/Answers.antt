@@ -2,12 +2,13 @@ use Rattle.std.proofs.Common.{refl}
 use Rattle.archives.specs.Finding.{wanted_of}
 use Rattle.archives.specs.Machine.{replied}
 use Rattle.archives.specs.declared.commands.Reply.TheVariants.{Flag}
+use Rattle.archive_service.specs.declared.store.openable.Openable.TheVariants.{Open}
 use Rattle.archive_service.proofs.LookAnswers.{has_answers}
 use Rattle.archive_service.proofs.StoreLemmas.{answers_with, given_by, seen_so}
 use Rattle.archive_service.proofs.store.prunable.has.Goals as goal
 
 pub returns : goal.returns
 returns g c =
-    answers_with _ g.D.Device c.args.archive _ _ _ _ _ (seen_so (λ r. (r.0, replied g.V.Codec.spelling r.1)) (λ r. (c.args.archive, Flag r)) c.has-answer.result c.told.result c.told.ensures)
+    answers_with _ g.D.Device (Open c.args.archive) _ _ _ _ _ (seen_so (λ r. (r.0, replied g.V.Codec.spelling r.1)) (λ r. (Open c.args.archive, Flag r)) c.has-answer.result c.told.result c.told.ensures)
     (has_answers _ _ _ g.D.Device _ _ (given_by _ (λ u. refl) g.D.Device c.args._cfg.now c.args.archive c.args.dev.now c.requires.usable c.crash_laws.ensures)
     (wanted_of g.K.Key.key_bytes c.args.identifier) c.has-answer.new.dev c.has-answer.result c.has-answer.ensures)

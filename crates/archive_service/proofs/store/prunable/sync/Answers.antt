@@ -1,12 +1,13 @@
 use Rattle.std.proofs.Common.{refl}
 use Rattle.archives.specs.Machine.{replied}
 use Rattle.archives.specs.declared.commands.Reply.TheVariants.{Done}
+use Rattle.archive_service.specs.declared.store.openable.Openable.TheVariants.{Open}
 use Rattle.archive_service.proofs.SyncAnswers.{sync_answers}
 use Rattle.archive_service.proofs.StoreLemmas.{answers_with, given_by, seen_so}
 use Rattle.archive_service.proofs.store.prunable.sync.Goals as goal
 
 pub returns : goal.returns
 returns g c =
-    answers_with _ g.D.Device c.args.archive _ _ _ _ _ (seen_so (λ r. (r.0, replied g.V.Codec.spelling r.1)) (λ r. (r, Done)) c.sync.result c.done.result c.done.ensures)
+    answers_with _ g.D.Device (Open c.args.archive) _ _ _ _ _ (seen_so (λ r. (r.0, replied g.V.Codec.spelling r.1)) (λ r. (Open r, Done)) c.sync.result c.done.result c.done.ensures)
     (sync_answers _ _ _ g.D.Device _ _ (given_by _ (λ u. refl) g.D.Device c.args._cfg.now c.args.archive c.args.dev.now c.requires.usable c.crash_laws.ensures)
     c.sync.new.dev c.sync.result c.sync.ensures)

@@ -1,0 +1,10 @@
+use Rattle.std.proofs.Common.{◌≡◌, ◌++◌, map}
+use Rattle.std.specs.List.{flat_map, range_with_len}
+use Rattle.archives.specs.Machine.{asked}
+use Rattle.value_codec.specs.Keys.{key8_bytes}
+use Rattle.archive_service.specs.Made.{made_tests}
+use Rattle.archive_service.proofs.made.add_tests.Given as goal
+
+-- those of the numbers so far were added
+abbrev pub invariant-loop-i : goal.invariant-loop-i
+invariant-loop-i l = map (asked key8_bytes (λ v. v)) l.commands.items ≡ map (asked key8_bytes (λ v. v)) l.initial.commands.items ++ flat_map made_tests (range_with_len 0 l.i)

@@ -1,0 +1,13 @@
+use Rattle.std.proofs.Common.{refl}
+use Rattle.archives.specs.Machine.{replied}
+use Rattle.archives.specs.declared.commands.Reply.TheVariants.{Flag}
+use Rattle.archive_service.specs.declared.store.openable.Openable.TheVariants.{Open}
+use Rattle.archive_service.proofs.LookAnswers.{has_at_answers}
+use Rattle.archive_service.proofs.StoreLemmas.{answers_with, given_by, seen_so}
+use Rattle.archive_service.proofs.store.prunable.multi.has_at.Goals as goal
+
+pub returns : goal.returns
+returns g c =
+    answers_with _ g.D.Device (Open c.args.archive) _ _ _ _ _ (seen_so (λ r. (r.0, replied g.V.Codec.spelling r.1)) (λ r. (Open c.args.archive, Flag r)) c.has_at-answer.result c.told.result c.told.ensures)
+    (has_at_answers _ _ _ g.D.Device _ _ (given_by _ (λ u. refl) g.D.Device c.args._cfg.now c.args.archive c.args.dev.now c.requires.usable c.crash_laws.ensures)
+    c.args.index (g.K.Key.key_bytes c.args.key.now) c.has_at-answer.new.dev c.has_at-answer.result c.has_at-answer.ensures)

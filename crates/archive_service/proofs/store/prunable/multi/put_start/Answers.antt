@@ -1,0 +1,16 @@
+use Rattle.std.proofs.Common.{refl}
+use Rattle.archives.specs.Changes.{outcome}
+use Rattle.archives.specs.Machine.{replied}
+use Rattle.archives.specs.Putting.{Often}
+use Rattle.archives.specs.Replies as reply
+use Rattle.archives.specs.declared.commands.Reply.TheVariants.{Done}
+use Rattle.archive_service.specs.declared.store.openable.Openable.TheVariants.{Open}
+use Rattle.archive_service.proofs.PutSyncAnswers.{put_start_answers}
+use Rattle.archive_service.proofs.StoreLemmas.{answers_with, given_by, seen_first}
+use Rattle.archive_service.proofs.store.prunable.multi.put_start.Goals as goal
+
+pub returns : goal.returns
+returns g c =
+    answers_with _ g.D.Device (Open c.args.archive) _ _ _ _ _ (seen_first (λ r. (r.0, replied g.V.Codec.spelling r.1)) (λ r. (Open r.0, Done)) (λ r. r.0) (λ r. (Open r, reply.Done)) c.put_multi_start_sync.result c.started.result c.started.ensures (λ r. refl))
+    (put_start_answers _ _ _ g.D.Device _ _ (given_by _ (λ u. refl) g.D.Device c.args._cfg.now c.args.archive c.args.dev.now c.requires.usable c.crash_laws.ensures)
+    Often c.args.put.0 (g.K.Key.key_bytes c.args.put.1) (g.V.Codec.spelling c.args.put.2.now) c.put_multi_start_sync.new.dev (outcome (λ r. r.0) c.put_multi_start_sync.result) c.put_multi_start_sync.ensures)
