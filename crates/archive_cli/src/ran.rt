@@ -9,6 +9,9 @@ use blob_device::{Device, StdSink, StdSource};
 use std::alloc::Global;
 use std::io;
 
+// How many words the program has where its script is on the input.
+const SCRIPT_WORDS: usize = 3;
+
 /// A run that has ended.
 #[derive(Drop)]
 pub struct Ran<'a> {
@@ -28,6 +31,8 @@ pub enum Moment<'a> {
     Opening,
     /// At the command on this line, whose text is known if the script is.
     Command(u64, Option<&'a [u8]>),
+    /// At the command of this number, counted from 1, of a script that the program made.
+    Made(u64),
 }
 
 /// Runs the program on this device, between standard input and output.
@@ -41,6 +46,17 @@ pub fn run_on<'a, D: Device>(rt: &HostRuntime, words: &'a [String], device: &mut
         words,
         ended,
         script: input.into_kept(),
+    }
+}
+
+impl Moment<'_> {
+    /// Whether the command asks for removals: it is a `prune` or a `destroy`.
+    pub fn asks_for_removals(self) -> bool {
+        match self {
+            Moment::Command(_, Some(text)) => text.starts_with(b"prune ")
+                || text == b"destroy".as_slice(),
+            _ => false,
+        }
     }
 }
 
@@ -69,6 +85,8 @@ impl Ran<'_> {
         Walk {
             ahead: self.ended.marks.as_slice(),
             begun: 0,
+            // With `make N` behind the three words the script is not on the input.
+            is_made: self.words.len() > SCRIPT_WORDS,
             lines,
         }
     }
@@ -88,6 +106,8 @@ pub struct Walk<'a> {
     ahead: &'a [u64],
     // how many have
     begun: u64,
+    // whether the program made the script, by its words
+    is_made: bool,
     // the script from the last of these on; none where it is not known
     lines: Option<ScriptLines<'a>>,
 }
@@ -101,6 +121,9 @@ impl<'a> Walk<'a> {
         let begun = self.begun;
         if begun == 0 {
             return Moment::Opening;
+        }
+        if self.is_made {
+            return Moment::Made(begun);
         }
         let Some(lines) = &mut self.lines else {
             return Moment::Command(begun, None);

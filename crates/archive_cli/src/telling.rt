@@ -80,18 +80,24 @@ fn tell_error(rt: &HostRuntime, ran: &Ran<'_>, failure: Option<&str>) {
     }
 }
 
-// Says what the run took off the archive's blobs.
+// Says what the run took off the archive's blobs, but for what its commands asked for.
 fn tell_losses(rt: &HostRuntime, ran: &Ran<'_>, notebook: &Notebook) {
     // The notes are in the order of their calls.
     let mut walk = ran.walk();
     for note in notebook.notes() {
         let moment = walk.moment_of(note.call);
-        let why = reason_of(note);
-        let _ = eprintln!(rt; "archive_cli: {moment} {note}: {why}");
+        if !moment.asks_for_removals() {
+            let why = reason_of(note);
+            let _ = eprintln!(rt; "archive_cli: {moment} {note}: {why}");
+        }
     }
-    let further = notebook.further();
-    if further > 0 {
-        let _ = eprintln!(rt; "archive_cli: {further} cuts and removals more were made");
+    let cuts = notebook.further_cuts();
+    if cuts > 0 {
+        let _ = eprintln!(rt; "archive_cli: {cuts} cuts more were made");
+    }
+    let removals = notebook.further_removals();
+    if removals > 0 {
+        let _ = eprintln!(rt; "archive_cli: {removals} removals more were made, or were asked for");
     }
     if notebook.has_gaps() {
         let _ = eprintln!(rt; "archive_cli: there was no memory to note each cut and removal");
@@ -113,6 +119,7 @@ impl fmt::Display for Moment<'_> {
         match self {
             Moment::Opening => f.write_str("the opening"),
             Moment::Command(number, None) => write!(f, "line {number}"),
+            Moment::Made(number) => write!(f, "command {number} of the made script"),
             Moment::Command(number, Some(text)) => write!(f, "line {number} ({})", Shown(text)),
         }
     }

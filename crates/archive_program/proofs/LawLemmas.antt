@@ -21,6 +21,7 @@ use Rattle.archives.specs.Lawful.{Lawful}
 use Rattle.archives.specs.Machine.{section_of}
 use Rattle.archive_service.specs.declared.settings.Settings.{Settings}
 use Rattle.archive_program.specs.Program.{MayBeServed, program_filing}
+use Rattle.meta_store.specs.Pairs.{empty_map}
 
 module _ (seal : List ℕ → ℕ) (P : ℕ) where
   no_page : (k : ℕ) → page_length seal P [] k ≡ 0
@@ -57,7 +58,7 @@ module _ (settings : Settings) (items : ℕ) where
     pair = record {
       names = record { index = λ name some. absurd (cc some); values = λ name some. absurd (cc some) };
       held = record {
-        chosen = record { version = 0; older = Left; entries = [] };
+        chosen = record { version = 0; older = Left; contents = empty_map };
         reads = record {
           left_text = Absent;
           right_text = Absent;

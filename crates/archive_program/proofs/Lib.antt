@@ -1,3 +1,4 @@
+pub mod AnsweringLemmas
 pub mod CauseLemmas
 pub mod FoundLemmas
 pub mod InputLemmas

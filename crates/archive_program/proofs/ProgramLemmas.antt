@@ -1,6 +1,6 @@
 -- What a call of the program comes to, by what its parts came to: each lemma is named as the field of `Runs`, or of `RunsJob`, that it proves.
 use Rattle.std.specs.Prelude.{◌≢◌, Option, None, IsSome, IfSome}
-use Rattle.std.proofs.Common.{◌≡◌, ◌⊎◌, inl, inr, ℕ, zero, suc, ◌+◌, ◌*◌, ◌^◌, ◌≤◌, List, [], ◌∷◌, ◌++◌, length, Contains, Result, Ok, refl, sym, ap, subst, ◌∙◌, lit<, append-nil, append_assoc, length-append, arith}
+use Rattle.std.proofs.Common.{◌≡◌, ◌⊎◌, inl, inr, ℕ, zero, suc, ◌+◌, ◌*◌, ◌^◌, ◌≤◌, List, [], ◌∷◌, ◌++◌, length, Contains, Result, Ok, Err, refl, sym, ap, subst, ◌∙◌, lit<, append-nil, append_assoc, length-append, arith}
 use Rattle.std.specs.List.{AllByRecursion}
 use Rattle.blob_device.specs.Counts.{Rose}
 use Rattle.blob_device.specs.declared.device.Device as device
@@ -10,18 +10,22 @@ use Rattle.blob_device.specs.declared.source.Source as source
 use Rattle.archives.specs.Replies.{Reply}
 use Rattle.archives.specs.declared.error.Error.{Error}
 use Rattle.archives.specs.Refusing.{IsFault}
+use Rattle.archive_service.specs.Ended.{EndsUnserved, code_of}
 use Rattle.archive_service.specs.RunLaws.{AreCountedIfOpening}
 use Rattle.archive_service.specs.Script.{Spells}
 use Rattle.archive_service.specs.Texts.{Spelled}
 use Rattle.archive_service.specs.declared.ended.Ended.{Ended}
+use Rattle.archive_service.specs.declared.ended.Status.{Status}
+use Rattle.archive_service.specs.declared.ended.Status.TheVariants.{NoMemory, ReadFault, TooLong}
 use Rattle.archive_service.specs.declared.replies.End.{End}
 use Rattle.archive_service.specs.declared.replies.End.TheVariants.{Done}
 use Rattle.archive_service.specs.declared.settings.Settings.{Settings}
 use Rattle.archive_service.proofs.ScriptLemmas.{good_or_bad, one_script}
-use Rattle.archive_program.specs.Input.{TakesAll, TakesFront}
+use Rattle.archive_program.specs.Answering.{AnswersTo, IsUnread}
+use Rattle.archive_program.specs.Input.{TakesFront}
 use Rattle.archive_program.specs.Output.{WritesFront}
-use Rattle.archive_program.specs.Program.{AnswersInput, AnswersScript, AnswersWhole, Gives, InFull, InPart, IsBadAt, IsGiven, IsGivenScript, IsRefusal, IsUnserved, MayBeServed, NamesBadLine, Orders, Reads, ReadsFor, ReadsWhole, Runs, RunsJob, ServedBy, error_of, items_of, program_filing}
-use Rattle.archive_program.specs.Words.{AreOfNoForm, AsksFor, Job, Script}
+use Rattle.archive_program.specs.Program.{AnswersInput, AnswersScript, AnswersWhole, Gives, InFull, InPart, IsBadAt, IsGiven, IsGivenScript, IsRefusal, IsUnserved, MayBeServed, NamesBadLine, Orders, Reads, ReadsFor, Runs, RunsJob, ServedBy, error_of, items_of, program_filing}
+use Rattle.archive_program.specs.Words.{AreOfNoForm, AsksFor, Job, Make, Script}
 use Rattle.archive_program.proofs.CauseLemmas.{refusal_only}
 use Rattle.archive_program.proofs.FoundLemmas.{Found, bad, failed, found_of, none, short, whole}
 use Rattle.archive_program.proofs.WordsLemmas.{one_job}
@@ -54,24 +58,31 @@ longer_front wanted text rest old new is part = record {
 
 -- ---- what a job is, by its kind
 
-reads_whole : (job : Job) (IsUnread SourceTells : Type 0) (left_old left_new input : List ℕ) → Reads job → ReadsWhole SourceTells left_old left_new input
-    → ReadsFor job IsUnread SourceTells left_old left_new input
-reads_whole (Script items) IsUnread SourceTells left_old left_new input reads is_whole = is_whole
+-- a job that needs no input leaves the source as it was
+left_alone : (job : Job) (IsLeft SourceTells : Type 0) (left_old left_new input : List ℕ) → ReadsFor job IsLeft SourceTells left_old left_new input → (Reads job → ⊥) → IsLeft
+left_alone (Script items) IsLeft SourceTells left_old left_new input read unasked = absurd (unasked tt)
+left_alone (Make items count) IsLeft SourceTells left_old left_new input read unasked = read.0
 
-module _ (max : ℕ) (SourceTells : Type 0) (left : List ℕ) (faults_old faults_new : ℕ) (commands : List Spelled) where
-  -- a job that reads is given a script
-  given_script : (job : Job) → Reads job → IsGiven job max SourceTells left faults_old faults_new commands → IsGivenScript max SourceTells left faults_old faults_new commands
-  given_script (Script items) reads given = given
+-- a job that reads is given a script
+given_script : (max : ℕ) (SourceTells : Type 0) (left : List ℕ) (faults_old faults_new : ℕ) (commands : List Spelled) (job : Job) → Reads job
+    → IsGiven job max SourceTells left faults_old faults_new commands → IsGivenScript max SourceTells left faults_old faults_new commands
+given_script max SourceTells left faults_old faults_new commands (Script items) reads given = given
+given_script max SourceTells left faults_old faults_new commands (Make items count) reads given = absurd reads
 
+-- the job is given these commands, and this is the input
+module _ (max : ℕ) (IsLeft SourceTells : Type 0) (left left_new : List ℕ) (faults_old faults_new : ℕ) (commands : List Spelled) (input : List ℕ) where
   -- what is given has no bad line
-  given_never_bad : (job : Job) (input : List ℕ) (number : ℕ) → IsGiven job max SourceTells left faults_old faults_new commands → left ≡ input → IsBadAt job max input number → ⊥
-  given_never_bad (Script items) input number given same is_bad =
-      good_or_bad max input commands number (subst (λ (t : List ℕ). Spells max t commands) same given.spelled) is_bad
+  given_never_bad : (job : Job) (number : ℕ) → IsGiven job max SourceTells left faults_old faults_new commands → ReadsFor job IsLeft SourceTells left left_new input → IsBadAt job max input number → ⊥
+  given_never_bad (Script items) number given read is_bad =
+      good_or_bad max input commands number (subst (λ (t : List ℕ). Spells max t commands) (read.read given.told).0 given.spelled) is_bad
+  given_never_bad (Make items count) number given read is_bad = is_bad
 
   -- and orders no other commands
-  one_order : (job : Job) (input : List ℕ) (others : List Spelled) → IsGiven job max SourceTells left faults_old faults_new commands → left ≡ input → Orders job max input others → commands ≡ others
-  one_order (Script items) input others given same ordered =
-      one_script max input commands others (subst (λ (t : List ℕ). Spells max t commands) same given.spelled) ordered
+  one_order : (job : Job) (others : List Spelled) → IsGiven job max SourceTells left faults_old faults_new commands → ReadsFor job IsLeft SourceTells left left_new input → Orders job max input others
+      → commands ≡ others
+  one_order (Script items) others given read ordered =
+      one_script max input commands others (subst (λ (t : List ℕ). Spells max t commands) (read.read given.told).0 given.spelled) ordered
+  one_order (Make items count) others given read ordered = given ∙ sym ordered
 
 module _ {D S W : Type 0} (settings : Settings) (words : List (List ℕ)) (ended : Ended) (dev : device.Ghosts D) (old new : D)
     (input : source.Ghosts S) (input_old input_new : S) (out : sink.Ghosts W) (out_old out_new : W) where
@@ -125,6 +136,7 @@ module _ {D S W : Type 0} (settings : Settings) (words : List (List ℕ)) (ended
           → (s ≡ 7 → input.Tells → TakesUpTo (λ n. n ≡ 2 ^ 24 + 1))
           → (input.Tells → length (input.left input_old) ≤ 2 ^ 24 → (Rose (input.faults input_old) (input.faults input_new) → ⊥) → s ≡ 6) → RanJob job
       unread_job s status unlike read_fault too_long memory = record {
+        unread = λ unasked. absurd (unasked reads);
         done = λ is. absurd (unlike.0 (sym is ∙ status));
         bad_script = λ is. absurd (unlike.1.1.0 (sym is ∙ status));
         read_fault = λ is. (reads, read_fault (sym status ∙ is));
@@ -167,12 +179,26 @@ module _ {D S W : Type 0} (settings : Settings) (words : List (List ℕ)) (ended
           (unread_job 6 status (λ e. omega (arith, e), (λ e. omega (arith, e), (λ e. omega (arith, e), (λ e. omega (arith, e), (λ e. omega (arith, e), tt)))))
           (λ is. absurd (omega (arith, is))) (λ is. absurd (omega (arith, is))) (λ told fits calm. refl))
 
-  -- ---- where the input was read
+      -- by the status with which it was not read
+      pub runs_not_read : (status : Status) → IsUnread settings job dev old new input input_old input_new status → ended.status ≡ code_of status → Ran
+      runs_not_read ReadFault why is = runs_read_fault is why.0 why.1
+      runs_not_read TooLong why is = runs_too_long is why
+      runs_not_read NoMemory why is = runs_no_memory is
+      runs_not_read status why is = absurd why
 
-  -- The input was read as `bytes`, which is `taken` as it was handed on, and has this answer. Its text was handed on as `shown`.
-  module _ (job : Job) (form : AsksFor words job) (reads : Reads job) (bytes taken text shown : List ℕ) (before : Ended) (marks_stay : before.marks ≡ ended.marks)
-      (error_stays : before.error ≡ ended.error) (answers : AnswersWhole settings job dev old new taken before text) (same_input : taken ≡ bytes) (same_text : shown ≡ text)
-      (took : input.Tells → TakesAll (input.left input_old) (input.left input_new) bytes) (limit : length bytes ≤ 2 ^ 24) (at_most : input.Tells → TakesUpTo (λ n. n ≤ 2 ^ 24 + 1)) where
+  -- the input was not read, and nothing was done
+  pub runs_unanswered : (job : Job) → AsksFor words job → (status : Status) → AnswersTo settings job dev old new input input_old input_new (Err status) → EndsUnserved status ended → out_new ≡ out_old
+      → Ran
+  runs_unanswered job form status (reads, why, untouched, at_most) ends unwritten =
+      runs_not_read (record { untouched = untouched; marks = ends.marks; error = ends.error }) unwritten (subst (λ (d : D). dev.faults old ≤ dev.faults d) (sym untouched) (omega arith))
+      job form reads at_most status why ends.status
+
+  -- ---- where the job was answered
+
+  -- The input was read as `taken`, and has this answer. Its text was handed on as `shown`.
+  module _ (job : Job) (form : AsksFor words job) (taken text shown : List ℕ) (before : Ended) (marks_stay : before.marks ≡ ended.marks)
+      (error_stays : before.error ≡ ended.error) (answers : AnswersWhole settings job dev old new taken before text) (same_text : shown ≡ text)
+      (read : ReadsFor job (input_new ≡ input_old) input.Tells (input.left input_old) (input.left input_new) taken) (at_most : input.Tells → TakesUpTo (λ n. n ≤ 2 ^ 24 + 1)) where
     abbrev pub FoundNow : Type 0
     FoundNow = Found job settings.max_value (By job) Unserved ended.error taken text before.status
 
@@ -184,18 +210,12 @@ module _ {D S W : Type 0} (settings : Settings) (words : List (List ℕ)) (ended
     is_fault : IfSome ended.error (λ e. IsFault e → Rose (dev.faults old) (dev.faults new))
     is_fault = subst (λ (o : Option Error). IfSome o (λ e. IsFault e → Rose (dev.faults old) (dev.faults new))) error_stays answers.fault
 
-    read : input.Tells → input.left input_old ≡ taken
-    read s = (took s).all ∙ sym same_input
-
     gives : (P : List ℕ → List ℕ → Type 0) (Extent : List ℕ → List ℕ → List ℕ → Type 0) (wanted : List ℕ) → P taken wanted
         → (out.Tells → Extent wanted (out.taken out_old) (out.taken out_new)) → GivesFor job P Extent
     gives P Extent wanted is written = record {
       input = taken;
       text = wanted;
-      read = reads_whole job (input_new ≡ input_old) input.Tells (input.left input_old) (input.left input_new) taken reads (record {
-        read = λ s. (read s, (took s).rest);
-        limit = omega (arith, limit, ap length same_input);
-      });
+      read = read;
       answers = is;
       written = written;
     }
@@ -305,17 +325,16 @@ module _ {D S W : Type 0} (settings : Settings) (words : List (List ℕ)) (ended
           (given : IsGiven job settings.max_value input.Tells (input.left input_old) (input.faults input_old) (input.faults input_new) commands)
           (counted : AreCountedIfOpening (program_filing settings (items_of job)).layout (dev.time old) (dev.time new) commands ended.marks)
           (calm : Rose (dev.faults old) (dev.faults new) → ⊥) where
-        told : input.left input_old ≡ taken
-        told = read (given_script settings.max_value input.Tells (input.left input_old) (input.faults input_old) (input.faults input_new) commands job reads given).told
-
         complete : FoundNow → Contains (0 ∷ 6 ∷ []) ended.status ⊎ ((ended.status ≡ 5) × IfSome ended.error IsRefusal)
         complete (none s u e) = inl (1, lit< tt, sym (same ∙ s))
         complete (bad s u names) =
-            absurd (given_never_bad settings.max_value input.Tells (input.left input_old) (input.faults input_old) (input.faults input_new) commands job taken names.number given told names.first)
+            absurd (given_never_bad settings.max_value (input_new ≡ input_old) input.Tells (input.left input_old) (input.left input_new) (input.faults input_old) (input.faults input_new) commands taken
+            job names.number given read names.first)
         complete (whole s e script) = inl (0, lit< tt, sym (same ∙ s))
         complete (failed s some script) =
-            let these : commands ≡ script.commands = one_order settings.max_value input.Tells (input.left input_old) (input.faults input_old) (input.faults input_new) commands
-            job taken script.commands given told script.ordered in
+            let these : commands ≡ script.commands =
+            one_order settings.max_value (input_new ≡ input_old) input.Tells (input.left input_old) (input.left input_new) (input.faults input_old) (input.faults input_new) commands taken
+            job script.commands given read script.ordered in
             inr (
               same ∙ s,
               refusal_only (program_filing settings (items_of job)) settings.write_buffer settings.write_buffer (dev.faults old) (dev.faults new) (dev.time old) (dev.time new)
@@ -327,6 +346,7 @@ module _ {D S W : Type 0} (settings : Settings) (words : List (List ℕ)) (ended
 
       written_job : RanJob job
       written_job = record {
+        unread = left_alone job (input_new ≡ input_old) input.Tells (input.left input_old) (input.left input_new) taken read;
         done = done answer;
         bad_script = bad_script answer;
         read_fault = λ is. absurd (never_3 is);
@@ -368,6 +388,7 @@ module _ {D S W : Type 0} (settings : Settings) (words : List (List ℕ)) (ended
       cut_job : (s : ℕ) → ended.status ≡ s → AllByRecursion (λ x. x ≢ s) (0 ∷ 1 ∷ 2 ∷ 3 ∷ 5 ∷ 7 ∷ [])
           → (s ≡ 4 → Rose (out.faults out_old) (out.faults out_new)) → ((Rose (out.faults out_old) (out.faults out_new) → ⊥) → s ≡ 6) → RanJob job
       cut_job s is unlike rose calm_six = record {
+        unread = left_alone job (input_new ≡ input_old) input.Tells (input.left input_old) (input.left input_new) taken read;
         done = λ e. absurd (unlike.0 (sym e ∙ is));
         bad_script = λ e. absurd (unlike.1.1.0 (sym e ∙ is));
         read_fault = λ e. absurd (unlike.1.1.1.0 (sym e ∙ is));

@@ -1,6 +1,6 @@
 -- From what serving promises to what the program says of it.
 use Rattle.std.specs.Prelude.{Option, Some, None, IfSome}
-use Rattle.std.proofs.Common.{◌≡◌, inl, inr, ℕ, ◌≤◌, List, [], ◌∷◌, ◌++◌, length, map, refl, sym, ap, subst, arith}
+use Rattle.std.proofs.Common.{◌≡◌, ◌⊎◌, inl, inr, ℕ, ◌≤◌, List, [], ◌∷◌, ◌++◌, length, map, refl, sym, ap, subst, arith}
 use Rattle.std.specs.List.{AllByRecursion}
 use Rattle.blob_device.specs.Counts.{Rose}
 use Rattle.blob_device.specs.declared.device.Device as device
@@ -21,7 +21,7 @@ use Rattle.archives.specs.declared.translator.FourCap.{FourCap}
 use Rattle.archives.specs.Refusing.{IsFault}
 use Rattle.archive_service.specs.ErrorTexts.{error_line, served_text}
 use Rattle.archive_service.specs.PrunableKind.{prunable_kind}
-use Rattle.archive_service.specs.Script.{CanBeSaid, IsFirstBad, Spells}
+use Rattle.archive_service.specs.Script.{CanBeSaid}
 use Rattle.archive_service.specs.Serves.{IfFailed, ServesBy}
 use Rattle.archive_service.specs.Stores.{PutsOnly, filing_in, kind_in}
 use Rattle.archive_service.specs.Texts.{Spelled, bad_line_text, replies_text}
@@ -32,8 +32,8 @@ use Rattle.archive_service.specs.declared.serving.StoreConfig.{StoreConfig}
 use Rattle.archive_service.specs.declared.serving.StoreConfig.TheVariants.{Prunable}
 use Rattle.archive_service.specs.declared.settings.Settings.{Settings}
 use Rattle.archive_program.specs.Config.{IsConfigFor}
-use Rattle.archive_program.specs.Program.{AnswerOf, AnswersCommands, AnswersServed, AnswersWhole, EndsWith, HasNoMemory, ServedBy, bad_line, error_of, no_memory, program_filing, served, status_of}
-use Rattle.archive_program.specs.Words.{Script}
+use Rattle.archive_program.specs.Program.{AnswerOf, AnswersServed, AnswersWhole, EndsWith, HasNoMemory, IsBadAt, Orders, ServedBy, bad_line, error_of, no_memory, owed, program_filing, served, status_of}
+use Rattle.archive_program.specs.Words.{Job, Script}
 
 -- the configuration's archive is the program's
 pub same_filing : (settings : Settings) (items : ℕ) (store : StoreConfig FourCap ℕ) → IsConfigFor settings items store
@@ -46,6 +46,9 @@ may_put : (max : ℕ) (command : asking.Command Key8 (List ℕ)) → CanBeSaid m
 may_put max (ask.Put i k v) said = elim said [ inl lone ↦ absurd lone | inr longer ↦ elim longer [ inl two ↦ absurd two | inr more ↦ elim more [ inl three ↦ absurd three | inr put ↦ put.2.0 ] ] ]
 may_put max (ask.PutSync i k v) said = elim said [ inl lone ↦ absurd lone | inr longer ↦ elim longer [ inl two ↦ absurd two | inr more ↦ elim more [ inl three ↦ absurd three | inr put ↦ put.2.0 ] ] ]
 may_put max (ask.PutStart i k v) said = elim said [ inl lone ↦ absurd lone | inr longer ↦ elim longer [ inl two ↦ absurd two | inr more ↦ elim more [ inl three ↦ absurd three | inr put ↦ put.2.0 ] ] ]
+may_put max (ask.Multi i k v) said = elim said [ inl lone ↦ absurd lone | inr longer ↦ elim longer [ inl two ↦ absurd two | inr more ↦ elim more [ inl three ↦ absurd three | inr put ↦ put.2.0 ] ] ]
+may_put max (ask.MultiSync i k v) said = elim said [ inl lone ↦ absurd lone | inr longer ↦ elim longer [ inl two ↦ absurd two | inr more ↦ elim more [ inl three ↦ absurd three | inr put ↦ put.2.0 ] ] ]
+may_put max (ask.MultiStart i k v) said = elim said [ inl lone ↦ absurd lone | inr longer ↦ elim longer [ inl two ↦ absurd two | inr more ↦ elim more [ inl three ↦ absurd three | inr put ↦ put.2.0 ] ] ]
 may_put max command said = tt
 
 all_may_put : (max : ℕ) (commands : List (asking.Command Key8 (List ℕ))) → AllByRecursion (CanBeSaid max) (map (asked key8_bytes (λ v. v)) commands) → AllByRecursion (PutsOnly (λ v. length v ≤ max)) commands
@@ -77,6 +80,7 @@ module _ {D : Type 0} (settings : Settings) (items : ℕ) (dev : device.Ghosts D
 -- ---- the answer, by the end
 
 module _ (replies : List (Reply (List ℕ))) (marks : List ℕ) (ended : Ended) (text : List ℕ) where
+  -- of a script
   abbrev pub EndsAt : End → Type 0
   EndsAt end = EndsWith (served_text replies end) (status_of end) marks (error_of end) ended text
 
@@ -91,16 +95,6 @@ module _ (replies : List (Reply (List ℕ))) (marks : List ℕ) (ended : Ended) 
   ends_for_memory Mem is status same error nil = record { marks = same; error = error; written = inr (status, nil) }
   ends_for_memory e is status same error nil = absurd (cc is)
 
-  pub commands_answered : (items : ℕ) (Served : List ℕ → List Spelled → List (Reply (List ℕ)) → End → Type 0) (commands : List Spelled) (end : End) → EndsAt end → Served marks commands replies end
-      → AnswersCommands (Script items) (Served ended.marks) commands ended text
-  commands_answered items Served commands end ends so = record {
-    replies = replies;
-    end = end;
-    served = subst (λ (m : List ℕ). Served m commands replies end) (sym ends.marks) so;
-    error = ends.error;
-    written = ends.written;
-  }
-
 -- what holds of the error of a run holds of the one that is handed out
 handed : (faults_old faults_new : ℕ) (end : End) → IfFailed end (λ e. IsFault e → Rose faults_old faults_new) → IfSome (error_of end) (λ e. IsFault e → Rose faults_old faults_new)
 handed faults_old faults_new Done fault = tt
@@ -112,30 +106,48 @@ handed_fault faults_old faults_new end error is fault = subst (λ (o : Option Er
 
 -- ---- the answers
 
-module _ {D : Type 0} (settings : Settings) (items : ℕ) (dev : device.Ghosts D) (old : D) (ended : Ended) (text : List ℕ) where
+module _ {D : Type 0} (settings : Settings) (job : Job) (dev : device.Ghosts D) (old new : D) (ended : Ended) (text : List ℕ) where
   -- no error is handed out
-  calm : ended.error ≡ None → IfSome ended.error (λ e. IsFault e → Rose (dev.faults old) (dev.faults old))
-  calm none = subst (λ (o : Option Error). IfSome o (λ e. IsFault e → Rose (dev.faults old) (dev.faults old))) (sym none) tt
+  calm : ended.error ≡ None → IfSome ended.error (λ e. IsFault e → Rose (dev.faults old) (dev.faults new))
+  calm none = subst (λ (o : Option Error). IfSome o (λ e. IsFault e → Rose (dev.faults old) (dev.faults new))) (sym none) tt
+
+  still : new ≡ old → dev.faults old ≤ dev.faults new
+  still same = subst (λ (d : D). dev.faults old ≤ dev.faults d) (sym same) (omega arith)
 
   -- there was no memory before a command was served
-  pub not_served : (commands : List Spelled) → HasNoMemory ended text → AnswersServed settings (Script items) dev old old commands ended text
-  not_served commands none = record { answer = inl (refl, none); fault = calm none.error; faults = omega arith }
+  pub not_served : new ≡ old → (commands : List Spelled) → HasNoMemory ended text → AnswersServed settings job dev old new commands ended text
+  not_served same commands none = record { answer = inl (same, none); fault = calm none.error; faults = still same }
 
-  pub not_answered : (input : List ℕ) → HasNoMemory ended text → AnswersWhole settings (Script items) dev old old input ended text
-  not_answered input none = record { answer = no_memory refl none; fault = calm none.error; faults = omega arith }
+  pub not_answered : new ≡ old → (input : List ℕ) → HasNoMemory ended text → AnswersWhole settings job dev old new input ended text
+  not_answered same input none = record { answer = no_memory same none; fault = calm none.error; faults = still same }
 
   -- the first bad line is named
-  pub line_named : (input : List ℕ) (number : ℕ) → IsFirstBad settings.max_value input number → EndsWith (bad_line_text number) 2 [] None ended text
-      → AnswersWhole settings (Script items) dev old old input ended text
-  line_named input number first ends = record { answer = bad_line refl number first ends; fault = calm ends.error; faults = omega arith }
+  pub line_named : new ≡ old → (input : List ℕ) (number : ℕ) → IsBadAt job settings.max_value input number → EndsWith (bad_line_text number) 2 [] None ended text
+      → AnswersWhole settings job dev old new input ended text
+  line_named same input number first ends = record { answer = bad_line same number first ends; fault = calm ends.error; faults = still same }
 
-  -- the input is a script, and this is the answer to it
-  pub script_answered : (new : D) (input : List ℕ) (commands : List Spelled) → Spells settings.max_value input commands
-      → AnswersServed settings (Script items) dev old new commands ended text → AnswersWhole settings (Script items) dev old new input ended text
-  script_answered new input commands spelled answers = record {
-    answer = elim answers.answer as (λ _. AnswerOf (Script items) settings.max_value (ServedBy settings (Script items) dev old new ended.marks) (new ≡ old) input ended text) [
+  -- the commands were served, up to this end, and the replies were handed on
+  pub run_answered : (commands : List Spelled) (marks : List ℕ) (replies shown : List (Reply (List ℕ))) (end : End) → shown ≡ replies → ServedBy settings job dev old new marks commands replies end
+      → EndsWith (owed job shown end) (status_of end) marks (error_of end) ended text → AnswersServed settings job dev old new commands ended text
+  run_answered commands marks replies shown end same so ends = record {
+    answer = inr (record {
+      replies = replies;
+      end = end;
+      served = subst (λ (m : List ℕ). ServedBy settings job dev old new m commands replies end) (sym ends.marks) so;
+      error = ends.error;
+      written = subst (λ rs. ((ended.status ≡ status_of end) × (text ≡ owed job rs end)) ⊎ ((ended.status ≡ 6) × (text ≡ []))) same ends.written;
+    });
+    fault = handed_fault (dev.faults old) (dev.faults new) end ended.error ends.error so.fault;
+    faults = so.footprint.faults;
+  }
+
+  -- the input orders these commands, and this is the answer to them
+  pub commands_answered : (input : List ℕ) (commands : List Spelled) → Orders job settings.max_value input commands
+      → AnswersServed settings job dev old new commands ended text → AnswersWhole settings job dev old new input ended text
+  commands_answered input commands ordered answers = record {
+    answer = elim answers.answer as (λ _. AnswerOf job settings.max_value (ServedBy settings job dev old new ended.marks) (new ≡ old) input ended text) [
       | inl short ↦ no_memory short.0 short.1
-      | inr so ↦ served commands spelled so
+      | inr so ↦ served commands ordered so
     ];
     fault = answers.fault;
     faults = answers.faults;

@@ -1,3 +1,4 @@
+pub mod Answering
 pub mod Config
 pub mod Input
 pub mod Output

@@ -24,6 +24,7 @@ use Rattle.archives.specs.Refusing.{IsFault}
 use Rattle.archive_service.specs.ErrorTexts.{served_text}
 use Rattle.archive_service.specs.Script.{Spells, IsFirstBad}
 use Rattle.archive_service.specs.Kinds.{Kind}
+use Rattle.archive_service.specs.Made.{made, made_text}
 use Rattle.archive_service.specs.PrunableKind.{prunable_kind}
 use Rattle.archive_service.specs.RunLaws.{AreCountedIfOpening}
 use Rattle.archive_service.specs.Serves.{ServesBy}
@@ -33,7 +34,7 @@ use Rattle.archive_service.specs.declared.ended.Ended.{Ended}
 use Rattle.archive_service.specs.declared.replies.End.{End}
 use Rattle.archive_service.specs.declared.replies.End.TheVariants.{Done, Failed}
 use Rattle.archive_program.specs.Input.{TakesFront}
-use Rattle.archive_program.specs.Words.{AreOfNoForm, AsksFor, Job, Script}
+use Rattle.archive_program.specs.Words.{AreOfNoForm, AsksFor, Job, Make, Script}
 use Rattle.archive_service.specs.declared.settings.Settings.{Settings}
 
 -- How the program's archive files its records, where a section has room for so many indices: keys have eight bytes, a
@@ -101,20 +102,25 @@ pub record EmptyLaws : Type 0 where
 -- how many indices a section has room for
 abbrev pub items_of : Job → ℕ
 items_of (Script items) = items
+items_of (Make items count) = items
 
 -- ---- where the commands come from
 
--- the commands that it serves, of this input, where a value may have so many bytes
+-- the commands that it serves, of this input, where a value may have so many bytes; a generated script needs
+-- no input
 abbrev pub Orders : Job → ℕ → List ℕ → List Spelled → Type 0
 Orders (Script items) max input commands = Spells max input commands
+Orders (Make items count) max input commands = commands ≡ made count
 
 -- the input orders nothing, since the line of this number is bad
 abbrev pub IsBadAt : Job → ℕ → List ℕ → ℕ → Type 0
 IsBadAt (Script items) max input number = IsFirstBad max input number
+IsBadAt (Make items count) max input number = ⊥
 
 -- the job reads the source
 abbrev pub Reads : Job → Type 0
 Reads (Script items) = ⊤
+Reads (Make items count) = ⊥
 
 -- A script is read to its end, and is no longer than an input may be. What was read is said where the source tells it.
 pub record ReadsWhole (SourceTells : Type 0) (left_old left_new input : List ℕ) : Type 0 where
@@ -127,6 +133,7 @@ pub record ReadsWhole (SourceTells : Type 0) (left_old left_new input : List ℕ
 abbrev pub ReadsFor : Job → (IsUnread SourceTells : Type 0) → (left_old left_new : List ℕ) → List ℕ
     → Type 0
 ReadsFor (Script items) IsUnread SourceTells left_old left_new input = ReadsWhole SourceTells left_old left_new input
+ReadsFor (Make items count) IsUnread SourceTells left_old left_new input = IsUnread × (input ≡ [])
 
 -- The source has the script of these commands to give, and gives it: it tells what is left, and does not fail. The
 -- numbers are its counts of faults.
@@ -146,6 +153,8 @@ abbrev pub IsGiven : Job → ℕ → (SourceTells : Type 0) → (left : List ℕ
     → (faults_old faults_new : ℕ) → List Spelled → Type 0
 IsGiven (Script items) max SourceTells left faults_old faults_new commands =
     IsGivenScript max SourceTells left faults_old faults_new commands
+IsGiven (Make items count) max SourceTells left faults_old faults_new commands =
+    commands ≡ made count
 
 -- ---- how they are served
 
@@ -155,11 +164,20 @@ abbrev pub ServedBy : {D : Type 0} → Settings → Job → device.Ghosts D → 
 ServedBy settings job dev old new marks commands replies end =
     ServesBy (program_kind settings (items_of job)) dev commands marks replies end old new
 
+-- A script was served, with marks, replies and an end; or there was no memory before, and nothing was done.
+abbrev pub ServesScript : {D : Type 0} → Settings → ℕ → device.Ghosts D → D → D → List Spelled
+    → Option (List ℕ × List (Reply (List ℕ)) × End) → Type 0
+ServesScript settings items dev old new commands (Some (marks, replies, end)) =
+    ServedBy settings (Script items) dev old new marks commands replies end
+ServesScript settings items dev old new commands None = new ≡ old
+
 -- ---- which text is owed
 
--- the text of what was served: of a script the replies, and the error that ended it
+-- the text of what was served: of a script the replies, and the error that ended it; of a generated one its
+-- summary, or the error alone
 abbrev pub owed : Job → List (Reply (List ℕ)) → End → List ℕ
 owed (Script items) replies end = served_text replies end
+owed (Make items count) replies end = made_text count replies end
 
 module _ (max : ℕ) (Served : List Spelled → List (Reply (List ℕ)) → End → Type 0) where
   -- the input orders commands, they were served up to such an end, and the text is what is then owed
@@ -231,7 +249,8 @@ pub record AnswersCommands (job : Job) (Served : List Spelled → List (Reply (L
   -- the error of the end is handed out
   pub error : ended.error ≡ error_of end
   -- and this is the text, or there was no memory for it
-  pub written : ((ended.status ≡ status_of end) × (text ≡ owed job replies end)) ⊎ ((ended.status ≡ 6) × (text ≡ []))
+  pub written : ((ended.status ≡ status_of end) × (text ≡ owed job replies end))
+      ⊎ ((ended.status ≡ 6) × (text ≡ []))
 
 -- How an input was answered: there was no memory, its first bad line is named, or its commands were served.
 pub data AnswerOf (job : Job) (max : ℕ) (Served : List Spelled → List (Reply (List ℕ)) → End → Type 0)
@@ -323,6 +342,8 @@ module _ {D S W : Type 0} (settings : Settings) (words : List (List ℕ)) (ended
 
   -- The ends of a call that was asked for a job.
   pub record RunsJob (job : Job) : Type 0 where
+    -- However it ends: a job that needs no input leaves the source as it was.
+    pub unread : (Reads job → ⊥) → input_new ≡ input_old
     -- 0: all commands replied, and all was written.
     pub done : ended.status ≡ 0
         → (ended.error ≡ None)

@@ -2,38 +2,73 @@
 use Rattle.std.specs.Prelude.{◌≡◌, ◌≢◌, ◌⊎◌, ℕ, ◌^◌, ◌≤◌, ◌||◌, if◌then◌else◌, List, [], ◌∷◌, Option, Some, None, IsSome, codes}
 use Rattle.std.specs.Str.{bytes_eq}
 use Rattle.std.specs.Fmt.{decimal}
+use Rattle.archive_program.specs.declared.words.Job as declared
+use Rattle.archive_program.specs.declared.words.Job.TheVariants as job
 
--- the words `DIR prunable ITEMS`: an archive in a folder, or in memory where DIR is `-`, with ITEMS indices to a
--- section, a number from 1 to 1,048,576
-pub record AreWordsFor (words : List (List ℕ)) (items : ℕ) : Type 0 where
+-- a word is the decimal spelling of a number from 1 up to a limit
+pub record IsNumberTo (limit : ℕ) (word : List ℕ) (n : ℕ) : Type 0 where
+  -- the word spells it
+  pub word_is : word ≡ decimal n
+  -- it is at least 1
+  pub some : 1 ≤ n
+  -- and no more than the limit
+  pub most : n ≤ limit
+
+-- The words DIR, `prunable` and ITEMS: an archive in a folder, or in memory where DIR is `-`, with ITEMS
+-- indices to a section, a number from 1 to 1,048,576.
+pub record AreItems (folder kind word : List ℕ) (items : ℕ) : Type 0 where
+  -- the folder's word is not empty
+  pub named : folder ≢ []
+  -- this is the kind
+  pub kind_is : kind ≡ codes "prunable"
+  -- the last word is the number
+  pub number : IsNumberTo (2 ^ 20) word items
+
+-- the words are these three, and others after them
+pub record AreWordsFor (words : List (List ℕ)) (items : ℕ) (others : List (List ℕ)) : Type 0 where
   -- this is the folder's word
   pub folder : List ℕ
-  -- it is not empty
-  pub named : folder ≢ []
+  -- this is the word of the kind
+  pub kind : List ℕ
+  -- this is the word of the number
+  pub word : List ℕ
+  -- they are such three
+  pub are_items : AreItems folder kind word items
   -- these are the words
-  pub words_are : words ≡ folder ∷ codes "prunable" ∷ decimal items ∷ []
-  -- the number is at least 1
-  pub some : 1 ≤ items
-  -- and no more than 1,048,576
-  pub limit : items ≤ 2 ^ 20
+  pub words_are : words ≡ folder ∷ kind ∷ word ∷ others
 
--- what looking for such a number finds: it, or that the words ask for none
-abbrev pub FindsItems : List (List ℕ) → Option ℕ → Type 0
-FindsItems words (Some items) = AreWordsFor words items
-FindsItems words None = (items : ℕ) → ¬ AreWordsFor words items
+-- the words `make N`, with a number from 1 to 100,000, stand after the three
+pub record AreWordsToMake (words : List (List ℕ)) (items count : ℕ) : Type 0 where
+  -- this is the word of the number
+  pub word : List ℕ
+  -- it spells such a number
+  pub number : IsNumberTo 100000 word count
+  -- these are the words
+  pub words_for : AreWordsFor words items (codes "make" ∷ word ∷ [])
 
--- What the program is asked for: to serve the script on its input, over an archive where a section has room for so
--- many indices.
+-- What the program is asked for, over an archive where a section has room for so many indices: to serve the
+-- script on its input, or one that it generates, of so many records.
 pub data Job : Type 0 where
   Script : ℕ → Job
+  Make : ℕ → ℕ → Job
+
+abbrev pub job_seen : declared.Job → Job
+job_seen (job.Script items) = Script items
+job_seen (job.Make items count) = Make items count
 
 -- these words ask for it
 abbrev pub AsksFor : List (List ℕ) → Job → Type 0
-AsksFor words (Script items) = AreWordsFor words items
+AsksFor words (Script items) = AreWordsFor words items []
+AsksFor words (Make items count) = AreWordsToMake words items count
 
--- they ask for no job; so do words for another kind, or for a generated input, which are not served yet
+-- they ask for no job; so do words for another kind, which is not served yet
 abbrev pub AreOfNoForm : List (List ℕ) → Type 0
 AreOfNoForm words = (job : Job) → ¬ AsksFor words job
+
+-- what looking for a job finds: it, or that the words ask for none
+abbrev pub FindsJob : List (List ℕ) → Option declared.Job → Type 0
+FindsJob words (Some found) = AsksFor words (job_seen found)
+FindsJob words None = AreOfNoForm words
 
 -- the folder that keeps the archive: the first word, but none where there is none, or where it is empty or `-`, which
 -- is memory

@@ -1,21 +1,23 @@
 // The answer to a whole input: what is to be written, and how the program then ends.
 ghost use Rattle.std.specs.Prelude.{◌≡◌, ◌≤◌, ◌++◌, [], None, Some, OnOk, map};
 ghost use Rattle.std.specs.List.{AllByRecursion};
+ghost use Rattle.std.specs.Option.{option_map};
 ghost use Rattle.std.specs.Result.{IsOkUnless};
 ghost use Rattle.archives.specs.Machine.{replied};
 ghost use Rattle.archive_service.specs.ErrorTexts.{error_line, served_text};
+ghost use Rattle.archive_service.specs.Made.{made_text, summary_text};
 ghost use Rattle.archive_service.specs.Script.{CanBeSaid};
 ghost use Rattle.archive_service.specs.Settings.{AreSettings};
 ghost use Rattle.archive_service.specs.Texts.{bad_line_text, replies_text};
-ghost use Rattle.archive_program.specs.Program.{AnswersServed, AnswersWhole, EndsWith, error_of, status_of};
+ghost use Rattle.archive_program.specs.Program.{AnswersServed, AnswersWhole, EndsWith, ServesScript, error_of, status_of};
 ghost use Rattle.archive_program.specs.Words as job;
 
 use crate::config::config_of;
 use archive_service::{
-    End, Ended, Marks, Replies, Script, ScriptError, Served, Settings, Status, read_script, serve,
-    write_bad_line, write_error_line, write_reply,
+    End, Ended, Marks, Replies, Script, ScriptError, Served, Settings, Status, make, read_script,
+    serve, write_bad_line, write_error_line, write_reply, write_summary,
 };
-use archives::{Error, FourCap};
+use archives::{Error, FourCap, Reply};
 use blob_device::Device;
 use std::alloc::Global;
 use value_codec::{ByteValue, Key8, Sha256Hash, Sha256Seal};
@@ -48,7 +50,7 @@ impl Answer {
     }
 }
 
-/// The answer to a whole input.
+/// The answer to a whole input, which is a script or not.
 pub fn answer_of<D: Device>(
     alloc: Global,
     dev: &mut D,
@@ -82,6 +84,34 @@ fn bad_line(alloc: Global, number: u64) -> Answer
     }
 }
 
+/// The answer to no input: a script of so many records is generated.
+pub fn answer_made<D: Device>(
+    alloc: Global,
+    dev: &mut D,
+    count: u32,
+    items: u64,
+    settings: &Settings,
+) -> Answer
+    requires settings { AreSettings settings.now }
+    requires items { 1 ≤ items }
+    ensures { AnswersWhole settings.now (job.Make items count) D.Device dev.old dev.new []
+        result.ended result.text.items }
+{
+    let Ok(script) = make(alloc, count) else {
+        return Answer::no_memory(alloc, Marks::new(alloc), None);
+    };
+    match run_of(alloc, dev, &script, items, settings) {
+        Some(
+            Served {
+                replies,
+                marks,
+                end,
+            },
+        ) => summed_at(alloc, count, &replies, marks, end),
+        None => Answer::no_memory(alloc, Marks::new(alloc), None),
+    }
+}
+
 // The answer to a script.
 fn served<D: Device>(
     alloc: Global,
@@ -96,24 +126,82 @@ fn served<D: Device>(
     ensures { AnswersServed settings.now (job.Script items) D.Device dev.old dev.new script.now
         result.ended result.text.items }
 {
+    match run_of(alloc, dev, script, items, settings) {
+        Some(
+            Served {
+                replies,
+                marks,
+                end,
+            },
+        ) => answer_at(alloc, replies.as_slice(), marks, end),
+        None => Answer::no_memory(alloc, Marks::new(alloc), None),
+    }
+}
+
+// What a script gets, or None where there is no memory for the names of the archive's partitions.
+fn run_of<D: Device>(
+    alloc: Global,
+    dev: &mut D,
+    script: &Script,
+    items: u64,
+    settings: &Settings,
+) -> Option<Served<ByteValue>>
+    requires settings { AreSettings settings.now }
+    requires items { 1 ≤ items }
+    requires values { AllByRecursion (CanBeSaid settings.now.max_value) script.now }
+    ensures { ServesScript settings.now items D.Device dev.old dev.new script.now (option_map
+        (λ s. (s.marks, map (replied (λ v. v)) s.replies, s.end)) result) }
+{
     let Ok(config) = config_of(alloc, items, settings) else {
-        return Answer::no_memory(alloc, Marks::new(alloc), None);
+        return None;
     };
-    let Served {
-        replies,
-        marks,
-        end,
-    } = serve::<D, FourCap, Key8, ByteValue, Sha256Seal, Sha256Hash>(
+    Some(serve::<D, FourCap, Key8, ByteValue, Sha256Seal, Sha256Hash>(
         alloc,
         dev,
         &config,
         script.as_slice(),
-    );
-    answer_at(alloc, &replies, marks, end)
+    ))
+}
+
+// The answer of a run over a generated script that came to this end.
+fn summed_at(
+    alloc: Global,
+    count: u32,
+    replies: &Replies<ByteValue>,
+    marks: Marks,
+    end: End,
+) -> Answer
+    ensures { EndsWith (made_text count (map (replied (λ v. v)) replies.now) end)
+        (status_of end) marks (error_of end) result.ended result.text.items }
+{
+    match end {
+        End::Done => summed(alloc, count, replies, marks),
+        End::Failed(Error::Mem) => Answer::no_memory(alloc, marks, None),
+        End::Failed(error) => failed(alloc, &[], marks, error),
+    }
+}
+
+// The answer of a run over a generated script that is done.
+fn summed(alloc: Global, count: u32, replies: &Replies<ByteValue>, marks: Marks) -> Answer
+    ensures { EndsWith (summary_text count (map (replied (λ v. v)) replies.now))
+        0 marks None result.ended result.text.items }
+{
+    let mut text = Vec::new(alloc);
+    match write_summary(count, replies, &mut text) {
+        Ok(()) => Answer {
+            ended: Ended {
+                status: Status::Done as u8,
+                marks,
+                error: None,
+            },
+            text,
+        },
+        Err(_) => Answer::no_memory(alloc, marks, None),
+    }
 }
 
 // The answer of a run that came to this end.
-fn answer_at(alloc: Global, replies: &Replies<ByteValue>, marks: Marks, end: End) -> Answer
+fn answer_at(alloc: Global, replies: &[Reply<ByteValue>], marks: Marks, end: End) -> Answer
     ensures { EndsWith (served_text (map (replied (λ v. v)) replies.now) end)
         (status_of end) marks (error_of end) result.ended result.text.items }
 {
@@ -124,7 +212,7 @@ fn answer_at(alloc: Global, replies: &Replies<ByteValue>, marks: Marks, end: End
 }
 
 // The answer of a run that ended in an error.
-fn stopped(alloc: Global, replies: &Replies<ByteValue>, marks: Marks, error: Error) -> Answer
+fn stopped(alloc: Global, replies: &[Reply<ByteValue>], marks: Marks, error: Error) -> Answer
     ensures { EndsWith (served_text (map (replied (λ v. v)) replies.now) (End.Failed error))
         (status_of (End.Failed error)) marks (error_of (End.Failed error)) result.ended result.text.items }
 {
@@ -135,7 +223,7 @@ fn stopped(alloc: Global, replies: &Replies<ByteValue>, marks: Marks, error: Err
 }
 
 // The answer of a run that is done.
-fn answered(alloc: Global, replies: &Replies<ByteValue>, marks: Marks) -> Answer
+fn answered(alloc: Global, replies: &[Reply<ByteValue>], marks: Marks) -> Answer
     ensures { EndsWith (replies_text (map (replied (λ v. v)) replies.now))
         0 marks None result.ended result.text.items }
 {
@@ -153,8 +241,8 @@ fn answered(alloc: Global, replies: &Replies<ByteValue>, marks: Marks) -> Answer
     }
 }
 
-// The answer of a run that ended in an error other than want of memory.
-fn failed(alloc: Global, replies: &Replies<ByteValue>, marks: Marks, error: Error) -> Answer
+// The answer of a run that ended in an error other than want of memory: these replies, and the error.
+fn failed(alloc: Global, replies: &[Reply<ByteValue>], marks: Marks, error: Error) -> Answer
     ensures { EndsWith (replies_text (map (replied (λ v. v)) replies.now) ++ error_line error)
         5 marks (Some error) result.ended result.text.items }
 {
@@ -177,12 +265,12 @@ fn failed(alloc: Global, replies: &Replies<ByteValue>, marks: Marks, error: Erro
 }
 
 // Appends the lines of all replies.
-fn append_replies(replies: &Replies<ByteValue>, text: &mut Vec<u8>) -> Result<(), ScriptError>
+fn append_replies(replies: &[Reply<ByteValue>], text: &mut Vec<u8>) -> Result<(), ScriptError>
     ensures text { OnOk result (text.new.items
         ≡ text.old.items ++ replies_text (map (replied (λ v. v)) replies.now)) }
     ensures memory { IsOkUnless result ScriptError.Mem }
 {
-    for reply in replies.as_slice() {
+    for reply in replies {
         write_reply(reply, text)?;
     }
     Ok(())

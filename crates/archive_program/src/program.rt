@@ -1,17 +1,21 @@
 // The program: words, then the input to its end, then the script, then the commands, then the replies.
 ghost use Rattle.std.specs.Prelude.{map, string_bytes};
 ghost use Rattle.archive_service.specs.Settings.{AreSettings, usual};
+ghost use Rattle.archives.specs.Changes.{outcome};
+ghost use Rattle.archive_program.specs.Answering.{AnswersTo, MayBeDone};
 ghost use Rattle.archive_program.specs.Program.{Runs};
+ghost use Rattle.archive_program.specs.Words.{job_seen};
 
-use crate::answer::{Answer, answer_of};
+use crate::answer::{Answer, answer_made, answer_of};
 use crate::input::{InputError, read_input};
 use crate::output::write_output;
-use crate::words::items_of;
+use crate::words::{Job, job_of};
 use archive_service::{Ended, Settings, Status};
 use blob_device::{Device, IoFault, Sink, Source};
 use std::alloc::Global;
 
-/// Carries out the script of commands that the input is, and writes the replies. It is [`run_with`] with [`Settings::DEFAULT`].
+/// Carries out what the words ask for, and writes what is owed. It is [`run_with`] with
+/// [`Settings::DEFAULT`].
 pub fn run<D: Device, S: Source, W: Sink>(
     alloc: Global,
     words: &[String],
@@ -25,10 +29,12 @@ pub fn run<D: Device, S: Source, W: Sink>(
     run_with(alloc, words, dev, input, out, &Settings::DEFAULT)
 }
 
-/// Carries out the script of commands that the input is, over an archive on the device, and writes the replies.
+/// Carries out a script over an archive on the device: the input is the script, and the replies are written;
+/// or it is generated, and a line that sums up its replies is written.
 ///
-/// The words are those behind the program's name. The order is: the words, the input to its end, the script, the opening of the archive and
-/// the commands, the replies. The settings have to be valid.
+/// The words are those behind the program's name. The order is: the words, the input to its end, the script,
+/// the opening of the archive and the commands, the text. Of a generated script no input is read. The
+/// settings have to be valid.
 pub fn run_with<D: Device, S: Source, W: Sink>(
     alloc: Global,
     words: &[String],
@@ -41,16 +47,13 @@ pub fn run_with<D: Device, S: Source, W: Sink>(
     ensures { Runs settings.now (map string_bytes words.now) result D.Device dev.old dev.new
         S.Source input.old input.new W.Sink out.old out.new }
 {
-    let Some(items) = items_of(words) else {
+    let Some(job) = job_of(words) else {
         return Ended::unserved(alloc, Status::Usage);
     };
-    let bytes = match read_input(alloc, input) {
-        Ok(bytes) => bytes,
-        Err(InputError::Fault) => return Ended::unserved(alloc, Status::ReadFault),
-        Err(InputError::TooLong) => return Ended::unserved(alloc, Status::TooLong),
-        Err(InputError::Mem) => return Ended::unserved(alloc, Status::NoMemory),
+    let Answer { ended, text } = match answer_to(alloc, dev, input, job, settings) {
+        Ok(answer) => answer,
+        Err(status) => return Ended::unserved(alloc, status),
     };
-    let Answer { ended, text } = answer_of(alloc, dev, bytes.as_slice(), items, settings);
     match write_output(out, text.as_slice()) {
         Ok(()) => ended,
         Err(IoFault::Fault) => Ended {
@@ -61,5 +64,29 @@ pub fn run_with<D: Device, S: Source, W: Sink>(
             status: Status::NoMemory as u8,
             ..ended
         },
+    }
+}
+
+// The answer to a job, or how the program ends where its input was not read.
+fn answer_to<D: Device, S: Source>(
+    alloc: Global,
+    dev: &mut D,
+    input: &mut S,
+    job: Job,
+    settings: &Settings,
+) -> Result<Answer, Status>
+    requires settings { AreSettings settings.now }
+    requires job { MayBeDone (job_seen job) }
+    ensures { AnswersTo settings.now (job_seen job) D.Device dev.old dev.new
+        S.Source input.old input.new (outcome (λ a. (a.ended, a.text.items)) result) }
+{
+    match job {
+        Job::Script(items) => match read_input(alloc, input) {
+            Ok(bytes) => Ok(answer_of(alloc, dev, bytes.as_slice(), items, settings)),
+            Err(InputError::Fault) => Err(Status::ReadFault),
+            Err(InputError::TooLong) => Err(Status::TooLong),
+            Err(InputError::Mem) => Err(Status::NoMemory),
+        },
+        Job::Make(items, count) => Ok(answer_made(alloc, dev, count, items, settings)),
     }
 }

@@ -6,7 +6,11 @@ use std::fmt;
 /// The most indices that a section may have room for.
 pub const MOST_ITEMS: u64 = 1 << 20;
 
-/// Why the words are not `DIR prunable ITEMS`. It is the first word that is wrong.
+/// The most records that are made.
+pub const MOST_MADE: u64 = 100_000;
+
+/// Why the words are neither `DIR prunable ITEMS` nor these with `make N` behind them. It is the first word
+/// that is wrong.
 #[derive(Clone, Copy, Debug)]
 pub enum WordsComplaint<'a> {
     /// There are no words.
@@ -25,7 +29,15 @@ pub enum WordsComplaint<'a> {
     NoNumber(&'a str, NumberComplaint),
     /// The third word is a number out of range.
     OutOfRange(&'a str),
-    /// A fourth word stands there.
+    /// The fourth word is not `make`.
+    NotMake(&'a str),
+    /// The fifth word is missing.
+    NoCount,
+    /// The fifth word is no number.
+    NoCountNumber(&'a str, NumberComplaint),
+    /// The fifth word is a number out of range.
+    CountOutOfRange(&'a str),
+    /// A sixth word stands there.
     Further(&'a str),
 }
 
@@ -42,9 +54,21 @@ pub fn complaint_of_words(words: &[String]) -> Option<WordsComplaint<'_>> {
             Some(WordsComplaint::UnknownKind(kind.as_str()))
         }
         [_, _] => Some(WordsComplaint::NoItems),
-        [_, _, items] => complaint_of_items(items.as_str()),
-        [_, _, items, further, ..] => {
-            complaint_of_items(items.as_str()).or(Some(WordsComplaint::Further(further.as_str())))
+        [_, _, items, others @ ..] => {
+            complaint_of_items(items.as_str()).or(complaint_of_others(others))
+        }
+    }
+}
+
+// What is wrong with the words behind ITEMS.
+fn complaint_of_others(words: &[String]) -> Option<WordsComplaint<'_>> {
+    match words {
+        [] => None,
+        [make, ..] if make.as_str() != "make" => Some(WordsComplaint::NotMake(make.as_str())),
+        [_] => Some(WordsComplaint::NoCount),
+        [_, count] => complaint_of_count(count.as_str()),
+        [_, count, further, ..] => {
+            complaint_of_count(count.as_str()).or(Some(WordsComplaint::Further(further.as_str())))
         }
     }
 }
@@ -61,6 +85,16 @@ fn complaint_of_items(word: &str) -> Option<WordsComplaint<'_>> {
     match number_of(word.as_bytes()) {
         Some(1..=MOST_ITEMS) => None,
         _ => Some(WordsComplaint::OutOfRange(word)),
+    }
+}
+
+fn complaint_of_count(word: &str) -> Option<WordsComplaint<'_>> {
+    if let Some(complaint) = complaint_of_number(word.as_bytes()) {
+        return Some(WordsComplaint::NoCountNumber(word, complaint));
+    }
+    match number_of(word.as_bytes()) {
+        Some(1..=MOST_MADE) => None,
+        _ => Some(WordsComplaint::CountOutOfRange(word)),
     }
 }
 
@@ -84,6 +118,17 @@ impl fmt::Display for WordsComplaint<'_> {
             WordsComplaint::NoNumber(word, why) => write!(f, "{word:?} is no ITEMS: {why}"),
             WordsComplaint::OutOfRange(word) => {
                 write!(f, "{word:?} is no ITEMS: it is from 1 to 1048576")
+            }
+            WordsComplaint::NotMake(word) => write!(
+                f,
+                "{word:?} is one word too many: behind ITEMS may stand make N"
+            ),
+            WordsComplaint::NoCount => {
+                f.write_str("N is missing behind make: a number from 1 to 100000")
+            }
+            WordsComplaint::NoCountNumber(word, why) => write!(f, "{word:?} is no N: {why}"),
+            WordsComplaint::CountOutOfRange(word) => {
+                write!(f, "{word:?} is no N: it is from 1 to 100000")
             }
             WordsComplaint::Further(word) => write!(f, "{word:?} is one word too many"),
         }

@@ -15,7 +15,7 @@ mod script_line;
 mod script_text;
 mod shown;
 
-pub use command_line::{MOST_ITEMS, WordsComplaint, complaint_of_words};
+pub use command_line::{MOST_ITEMS, MOST_MADE, WordsComplaint, complaint_of_words};
 pub use hexadecimal::{DigitsComplaint, complaint_of_key, complaint_of_value};
 pub use keeping::Keeping;
 pub use notebook::{Loss, MOST_NOTES, Note, Notebook};

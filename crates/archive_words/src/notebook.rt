@@ -4,8 +4,9 @@ use std::alloc::{AllocError, Global};
 use std::collections::BTreeMap;
 use std::fmt;
 
-/// How many notes are kept. Of further ones only their number is.
-pub const MOST_NOTES: usize = 1000;
+/// How many notes of cuts are kept, and how many of removals. Of further ones only their number is. A prune
+/// removes many blobs, and so no cut goes unsaid for them.
+pub const MOST_NOTES: u64 = 1000;
 
 // How many bytes a page's slot has. A write of so many zeros voids a slot, which cuts the page. It is never a part of a page's
 // data: that is written in records and pages, whose lengths the program has as multiples of four.
@@ -70,10 +71,11 @@ pub struct Notebook {
     alloc: Global,
     // of each blob that had bytes at its last opening: its length, as openings, writes and cuts give it
     lengths: BTreeMap<Vec<u8>, u64>,
-    // the first that came, in the order of the calls
+    // the first cuts and the first removals that came, in the order of the calls
     notes: Vec<Note>,
-    // how many came behind them, and are counted alone
-    further: u64,
+    // how many cuts came, and how many removals
+    cuts: u64,
+    removals: u64,
     // whether there was no memory for a note or a length: what was taken off may then go unsaid
     has_gaps: bool,
 }
@@ -85,19 +87,25 @@ impl Notebook {
             alloc,
             lengths: BTreeMap::new(alloc),
             notes: Vec::new(alloc),
-            further: 0,
+            cuts: 0,
+            removals: 0,
             has_gaps: false,
         }
     }
 
-    /// The notes, at most [`MOST_NOTES`].
+    /// The notes, at most [`MOST_NOTES`] of cuts, and as many of removals.
     pub fn notes(&self) -> &[Note] {
         self.notes.as_slice()
     }
 
-    /// How many more there were.
-    pub fn further(&self) -> u64 {
-        self.further
+    /// How many cuts more there were.
+    pub fn further_cuts(&self) -> u64 {
+        self.cuts.saturating_sub(MOST_NOTES)
+    }
+
+    /// How many removals more there were.
+    pub fn further_removals(&self) -> u64 {
+        self.removals.saturating_sub(MOST_NOTES)
     }
 
     /// Whether there was no memory to note all.
@@ -205,10 +213,13 @@ impl Notebook {
     }
 
     fn push(&mut self, note: Note) -> Result<(), AllocError> {
-        if self.notes.len() < MOST_NOTES {
+        let count = match note.loss {
+            Loss::Cut { .. } | Loss::Erased { .. } => &mut self.cuts,
+            Loss::Removed { .. } => &mut self.removals,
+        };
+        *count = count.saturating_add(1);
+        if *count <= MOST_NOTES {
             self.notes.push(note)?;
-        } else {
-            self.further = self.further.saturating_add(1);
         }
         Ok(())
     }

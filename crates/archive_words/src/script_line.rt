@@ -20,6 +20,8 @@ pub enum Arguments {
     Key,
     /// INDEX COUNT.
     Counted,
+    /// INDEX KEY.
+    Keyed,
     /// INDEX KEY VALUE.
     Record,
 }
@@ -28,13 +30,16 @@ impl Arguments {
     // What stands behind the command of this name, if there is one.
     fn of(name: &[u8]) -> Option<Arguments> {
         match name {
-            b"sync" | b"start" | b"reopen" | b"ranges" | b"first" | b"last" => {
+            b"sync" | b"start" | b"reopen" | b"destroy" | b"ranges" | b"first" | b"last" => {
                 Some(Arguments::Nothing)
             }
-            b"get" | b"has" | b"gap" | b"rangesfrom" => Some(Arguments::Index),
+            b"get" | b"has" | b"all" | b"gap" | b"rangesfrom" | b"prune" => Some(Arguments::Index),
             b"getk" | b"hask" => Some(Arguments::Key),
             b"missing" => Some(Arguments::Counted),
-            b"put" | b"putsync" | b"putstart" => Some(Arguments::Record),
+            b"hasat" => Some(Arguments::Keyed),
+            b"put" | b"putsync" | b"putstart" | b"multi" | b"multisync" | b"multistart" => {
+                Some(Arguments::Record)
+            }
             _ => None,
         }
     }
@@ -44,7 +49,7 @@ impl Arguments {
         match self {
             Arguments::Nothing => 0,
             Arguments::Index | Arguments::Key => 1,
-            Arguments::Counted => 2,
+            Arguments::Counted | Arguments::Keyed => 2,
             Arguments::Record => 3,
         }
     }
@@ -57,6 +62,7 @@ impl fmt::Display for Arguments {
             Arguments::Index => "one word, INDEX",
             Arguments::Key => "one word, KEY",
             Arguments::Counted => "two words, INDEX COUNT",
+            Arguments::Keyed => "two words, INDEX KEY",
             Arguments::Record => "three words, INDEX KEY VALUE",
         })
     }
@@ -143,6 +149,7 @@ fn complaint_of_words(text: &[u8], max_value: u32) -> Option<LineComplaint<'_>> 
         Arguments::Index => complaint_of_index_word(words?),
         Arguments::Key => complaint_of_key_word(words?),
         Arguments::Counted => complaint_of_counted(words?),
+        Arguments::Keyed => complaint_of_keyed(words?),
         Arguments::Record => complaint_of_record(words?, max_value),
     }
 }
@@ -176,6 +183,12 @@ fn complaint_of_value_word(word: &[u8], max_value: u32) -> Option<LineComplaint<
 fn complaint_of_counted(words: &[u8]) -> Option<LineComplaint<'_>> {
     let (index, count) = cut(words, b' ')?;
     complaint_of_index_word(index).or(complaint_of_count_word(count))
+}
+
+// What is wrong with an index and a key.
+fn complaint_of_keyed(words: &[u8]) -> Option<LineComplaint<'_>> {
+    let (index, key) = cut(words, b' ')?;
+    complaint_of_index_word(index).or(complaint_of_key_word(key))
 }
 
 // What is wrong with the three words of a record.
