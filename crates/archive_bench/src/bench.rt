@@ -1,13 +1,14 @@
 // What is measured: an archive is filled, and opened again.
-ghost use Rattle.std.specs.Prelude.{◌≤◌, ℕ, length, IfOk};
+ghost use Rattle.std.specs.Prelude.{◌≤◌, length, IfOk};
 ghost use Rattle.archives.specs.Changes.{MayUse};
 ghost use Rattle.archives.specs.Config.{IsValid};
 ghost use Rattle.value_codec.specs.declared.byte_value.ByteValue.{ByteValue};
 
-use crate::config::{config_of, index_pages};
-use crate::counting::Counting;
+use crate::config::{ITEMS, RECORD_BYTES, config_of, index_pages};
+use crate::counting::{Counting, Phased};
 use crate::error::BenchError;
 use crate::report::{PutCosts, Report};
+use crate::words::Plan;
 use archive_service::Settings;
 use archives::{Archive, Error, FourCap, prunable};
 use blob_device::Device;
@@ -23,30 +24,51 @@ const VALUE_BYTES: usize = 100;
 // After how many puts a sync is made.
 const SYNC_EVERY: u64 = 100;
 
-/// Fills an archive on the device with so many records, and opens it twice again.
+/// Fills an archive on the device as planned, and opens it twice again.
 pub fn measure<D: Device>(
     alloc: Global,
     dev: &mut Counting<D>,
-    puts: u64,
+    plan: &Plan<'_>,
 ) -> Result<Report, BenchError> {
     let settings = Settings::DEFAULT;
     let config = config_of(alloc, &settings)?;
     dev.take();
-    let costs = filled(alloc, dev, &config, puts)?;
+    let costs = filled(alloc, dev, &config, plan)?;
     let filling = dev.take();
+    dev.turn();
+    let pruning = dev.take();
+    if dev.sizes().has_gaps() {
+        return Err(BenchError::Memory(AllocError));
+    }
+    let blob_bytes = dev.sizes().sum();
+    let most_bytes = dev.sizes().greatest();
     opened(alloc, dev, &config)?;
     let opening = dev.take();
     let archive = opened(alloc, dev, &config)?;
     let opening_again = dev.take();
-    let records = records_below(&archive, puts);
+    let records = records_below(&archive, plan.puts);
+    let held_bytes = match plan.sections {
+        Some(sections) => Some(bytes_of(sections.saturating_mul(ITEMS))),
+        None => None,
+    };
     Ok(Report {
         costs,
         filling,
+        pruning,
+        blob_bytes,
+        most_bytes,
         opening,
         opening_again,
         records,
+        held_bytes,
+        record_bytes: bytes_of(records),
         index_pages: index_pages(&settings, records),
     })
+}
+
+// How many bytes so many records have, in the index and as values.
+fn bytes_of(records: u64) -> u64 {
+    records.saturating_mul(RECORD_BYTES + VALUE_BYTES as u64)
 }
 
 // Opens the archive.
@@ -65,11 +87,11 @@ fn opened<D: Device>(
 }
 
 // Opens the archive, which has to be empty, and fills it with so many records.
-fn filled<D: Device>(
+fn filled<D: Phased>(
     alloc: Global,
     dev: &mut D,
     config: &prunable::Config<FourCap, u32>,
-    puts: u64,
+    plan: &Plan<'_>,
 ) -> Result<PutCosts, BenchError>
     requires valid { IsValid config.now }
     requires values { VALUE_BYTES ≤ config.now.codec_config }
@@ -79,25 +101,42 @@ fn filled<D: Device>(
         return Err(BenchError::NotEmpty);
     }
     let mut costs = PutCosts::NONE;
-    fill(archive, alloc, dev, puts, &mut costs)?;
+    fill(archive, alloc, dev, plan, &mut costs)?;
     Ok(costs)
 }
 
-// Puts so many records, with a sync after every hundred of them. What is left over is not synced.
-fn fill<A, D: Device>(
+/// An archive whose front can be removed.
+trait Prunable: Archive<Key = Key8, Value = ByteValue> + Drop {
+    /// Removes the sections below that of an index.
+    fn pruned<D: Device>(self, dev: &mut D, index: u64) -> Result<Self, Error>
+        requires usable { MayUse Self.meaning D.Device self dev.old }
+        ensures usable { IfOk result (λ r. MayUse Self.meaning D.Device r dev.new) }
+        ensures accepts { IfOk result (λ r. (v : ByteValue) → Self.meaning.Accepts self v
+            → Self.meaning.Accepts r v) };
+}
+
+impl Prunable for Measured {
+    fn pruned<D: Device>(self, dev: &mut D, index: u64) -> Result<Measured, Error> {
+        self.prune(dev, index)
+    }
+}
+
+// Puts as many records as planned, with a sync after every hundred of them. What is left over is not synced.
+fn fill<A, D: Phased>(
     archive: A,
     alloc: Global,
     dev: &mut D,
-    puts: u64,
+    plan: &Plan<'_>,
     costs: &mut PutCosts,
 ) -> Result<(), BenchError>
 where
-    A: Archive<Key = Key8, Value = ByteValue> + Drop,
+    A: Prunable,
     requires usable { MayUse A.meaning D.Device archive dev.old }
     requires accepts { (v : ByteValue) → length v ≤ VALUE_BYTES → A.meaning.Accepts archive v }
 {
     let mut archive = archive;
-    for index in 0..puts {
+    for index in 0..plan.puts {
+        archive = front_pruned(archive, dev, index, plan.sections)?;
         archive = put_one(archive, alloc, dev, index, costs)?;
         if index % SYNC_EVERY == SYNC_EVERY - 1 {
             archive = synced(archive, dev)?;
@@ -127,6 +166,35 @@ where
     let archive = archive.put(dev, index, key_of(index), &value)?;
     costs.enter(dev.calls().saturating_sub(before));
     Ok(archive)
+}
+
+// Where an index is the first of its section, prunes the archive, so that with this section no more than so
+// many are held. The calls of that are counted apart.
+fn front_pruned<A, D: Phased>(
+    archive: A,
+    dev: &mut D,
+    index: u64,
+    sections: Option<u64>,
+) -> Result<A, Error>
+where
+    A: Prunable,
+    requires usable { MayUse A.meaning D.Device archive dev.old }
+    requires accepts { (v : ByteValue) → length v ≤ VALUE_BYTES → A.meaning.Accepts archive v }
+    ensures usable { IfOk result (λ r. MayUse A.meaning D.Device r dev.new) }
+    ensures accepts { IfOk result (λ r. (v : ByteValue) → length v ≤ VALUE_BYTES
+        → A.meaning.Accepts r v) }
+{
+    let Some(sections) = sections else {
+        return Ok(archive);
+    };
+    if index % ITEMS != 0 {
+        return Ok(archive);
+    }
+    let held = sections.saturating_sub(1).saturating_mul(ITEMS);
+    dev.turn();
+    let pruned = archive.pruned(dev, index.saturating_sub(held))?;
+    dev.turn();
+    Ok(pruned)
 }
 
 // Makes all that was put durable.

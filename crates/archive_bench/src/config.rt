@@ -30,8 +30,9 @@ pub fn page_bytes(settings: &Settings) -> u64
     u64::from(settings.page_size) + SLOT_BYTES
 }
 
-// How many bytes an index record has: the index, the key of eight bytes, and the place and the size of the value.
-const RECORD_BYTES: u64 = 28;
+/// How many bytes an index record has: the index, the key of eight bytes, and the place and the size of the
+/// value.
+pub const RECORD_BYTES: u64 = 28;
 
 // How many pages the index blob of a section has with so many records.
 fn section_pages(settings: &Settings, records: u64) -> u64
@@ -42,7 +43,8 @@ fn section_pages(settings: &Settings, records: u64) -> u64
         .div_ceil(u64::from(settings.page_size))
 }
 
-/// How many pages all index blobs have where the first so many indices have a record, and no others.
+/// How many pages all index blobs have where so many indices one behind another have a record, from the first
+/// of a section on, and no others.
 pub fn index_pages(settings: &Settings, records: u64) -> u64
     requires { 1 ≤ settings.now.page_size }
 {

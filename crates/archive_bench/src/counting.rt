@@ -1,10 +1,19 @@
-// A device that counts the calls of another one.
+// A device that counts the calls of another one, of two phases apart.
 ghost use Rattle.std.specs.Prelude.{◌≡◌, ◌≤◌};
 
 use crate::config::KEY_PARTITION;
 use crate::counts::Tally;
+use crate::sizes::Sizes;
 use blob_device::{DevError, Device, Names};
 use std::alloc::Global;
+
+/// A device that counts its calls in two counts, of which one is gone on with.
+pub trait Phased: Device {
+    /// Goes on with the other count. Both begin at nothing, and the device stays as it is.
+    fn turn(&mut self)
+        ensures time { Self.time self.new ≡ Self.time self.old }
+        ensures opened { Self.opened self.new ≡ Self.opened self.old };
+}
 
 /// A device that passes each call on to another one, and counts it. It tells its disk where that one does.
 #[derive(Drop)]
@@ -16,11 +25,15 @@ pub struct Counting<D> {
     ghost has_bytes: { 1 ≤ page_bytes },
     // what was counted since it was taken last
     tally: Tally,
+    // what was counted before the last turn
+    aside: Tally,
+    // how long the blobs are: entered before each call that changes a length, and as an opening says it
+    sizes: Sizes,
 }
 
 impl<D> Counting<D> {
     /// Counts the calls of this device from now on. A page of an index blob has so many bytes in the blob.
-    pub fn new(inner: D, page_bytes: u64) -> Counting<D>
+    pub fn new(alloc: Global, inner: D, page_bytes: u64) -> Counting<D>
         requires { 1 ≤ page_bytes }
         ensures { result.inner ≡ inner }
     {
@@ -28,7 +41,14 @@ impl<D> Counting<D> {
             inner,
             page_bytes,
             tally: Tally::NONE,
+            aside: Tally::NONE,
+            sizes: Sizes::new(alloc),
         }
+    }
+
+    /// How long the blobs are that were opened.
+    pub fn sizes(&self) -> &Sizes {
+        &self.sizes
     }
 
     /// The device whose calls are counted.
@@ -56,6 +76,14 @@ impl<D> Counting<D> {
             let pages = behind.saturating_sub(offset / self.page_bytes);
             self.tally.index_pages = self.tally.index_pages.saturating_add(pages);
         }
+    }
+}
+
+impl<D: Device> Phased for Counting<D> {
+    fn turn(&mut self) {
+        let tally = self.tally;
+        self.tally = self.aside;
+        self.aside = tally;
     }
 }
 
@@ -95,7 +123,9 @@ impl<D: Device> Device for Counting<D> {
 
     fn open_blob(&mut self, partition: &str, name: &[u8]) -> Result<u64, DevError> {
         count(&mut self.tally.at(partition).opens);
-        self.inner.open_blob(partition, name)
+        let opened = self.inner.open_blob(partition, name);
+        self.sizes.enter_opened(partition, name, &opened);
+        opened
     }
 
     fn read_at(
@@ -122,11 +152,14 @@ impl<D: Device> Device for Counting<D> {
         let counts = self.tally.at(partition);
         count(&mut counts.writes);
         count_bytes(&mut counts.bytes_written, bytes.len());
+        let end = offset.saturating_add(bytes.len() as u64);
+        self.sizes.reach(partition, name, end);
         self.inner.write_at(partition, name, offset, bytes)
     }
 
     fn resize(&mut self, partition: &str, name: &[u8], len: u64) -> Result<(), DevError> {
         count(&mut self.tally.at(partition).resizes);
+        self.sizes.set(partition, name, len);
         self.inner.resize(partition, name, len)
     }
 
@@ -137,6 +170,7 @@ impl<D: Device> Device for Counting<D> {
 
     fn remove(&mut self, partition: &str, name: &[u8]) -> Result<(), DevError> {
         count(&mut self.tally.at(partition).removes);
+        self.sizes.forget(partition, name);
         self.inner.remove(partition, name)
     }
 

@@ -9,6 +9,7 @@ mod counting;
 mod counts;
 mod error;
 mod report;
+mod sizes;
 mod words;
 
 use archive_service::Settings;
@@ -21,19 +22,22 @@ use report::Report;
 use std::alloc::AllocError;
 use std::process::ExitCode;
 use std::{env, io};
-use words::plan_of;
+use words::{Plan, USUAL, plan_of};
 
 const HELP: &str = "\
 Fills an archive, opens it again, and prints how many calls of the device that made.
 
-usage: archive_bench [DIR PUTS]
+usage: archive_bench [DIR PUTS [SECTIONS]]
        archive_bench --help
 
-  DIR   an empty folder to keep the archive in, made when it is needed; with -
-        the archive is kept in memory
-  PUTS  how many records of 100 bytes are put, with a sync every 100
+  DIR       an empty folder to keep the archive in, made when it is needed; with
+            - the archive is kept in memory
+  PUTS      how many records of 100 bytes are put, with a sync every 100
+  SECTIONS  how many sections are held at most: as a new one begins, the oldest
+            one is pruned; without it all are held
 
-With no words 1000 records are put in memory. A section has room for 1024.
+With no words 1000 records are put in memory, and then 24600 of which twenty
+sections are held. A section has room for 1024.
 
 status: 0 done, 1 usage, 2 the archive is not empty, 4 input or output fault,
         5 the archive failed, 6 no memory";
@@ -58,10 +62,20 @@ fn run(rt: &HostRuntime) -> Result<(), BenchError> {
         println!(rt; "{HELP}")?;
         return Ok(());
     }
-    let plan = plan_of(words.as_slice())?;
+    if words.is_empty() {
+        for plan in USUAL {
+            carry_out(rt, &plan)?;
+        }
+        return Ok(());
+    }
+    carry_out(rt, &plan_of(words.as_slice())?)
+}
+
+// Measures what is asked for, and prints it.
+fn carry_out(rt: &HostRuntime, plan: &Plan<'_>) -> Result<(), BenchError> {
     let report = match plan.folder {
-        None => measure_in_memory(rt, plan.puts)?,
-        Some(folder) => measure_in(rt, folder, plan.puts)?,
+        None => measure_in_memory(rt, plan)?,
+        Some(folder) => measure_in(rt, folder, plan)?,
     };
     println!(rt; "{report}")?;
     Ok(())
@@ -77,19 +91,19 @@ fn arguments(rt: &HostRuntime) -> io::Result<Vec<String>> {
 }
 
 // Measures over memory.
-fn measure_in_memory(rt: &HostRuntime, puts: u64) -> Result<Report, BenchError> {
+fn measure_in_memory(rt: &HostRuntime, plan: &Plan<'_>) -> Result<Report, BenchError> {
     let memory = Memory::new(rt.alloc());
-    let mut device = Counting::new(memory, page_bytes(&Settings::DEFAULT));
-    measure(rt.alloc(), &mut device, puts)
+    let mut device = Counting::new(rt.alloc(), memory, page_bytes(&Settings::DEFAULT));
+    measure(rt.alloc(), &mut device, plan)
 }
 
 // Measures over this folder. What failed in it is said on standard error.
-fn measure_in(rt: &HostRuntime, folder: &str, puts: u64) -> Result<Report, BenchError> {
+fn measure_in(rt: &HostRuntime, folder: &str, plan: &Plan<'_>) -> Result<Report, BenchError> {
     let Ok(files) = FileDevice::new(rt, rt.alloc(), folder) else {
         return Err(BenchError::Memory(AllocError));
     };
-    let mut device = Counting::new(files, page_bytes(&Settings::DEFAULT));
-    let report = measure(rt.alloc(), &mut device, puts);
+    let mut device = Counting::new(rt.alloc(), files, page_bytes(&Settings::DEFAULT));
+    let report = measure(rt.alloc(), &mut device, plan);
     if let Some(failure) = device.inner().last_failure() {
         eprintln!(rt; "archive_bench: {failure}")?;
     }

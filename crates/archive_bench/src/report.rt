@@ -47,12 +47,22 @@ pub struct Report {
     pub costs: PutCosts,
     /// The calls of the first opening, of all puts and of all syncs.
     pub filling: Tally,
+    /// The calls of all prunes.
+    pub pruning: Tally,
+    /// How many bytes the blobs had once all was put.
+    pub blob_bytes: u64,
+    /// The most bytes that they had at once up to then.
+    pub most_bytes: u64,
+    /// How many bytes the records have of as many whole sections as are held. None where all sections are.
+    pub held_bytes: Option<u64>,
     /// The calls of the opening after the last sync.
     pub opening: Tally,
     /// The calls of one opening more, right behind that one.
     pub opening_again: Tally,
     /// How many records the archive had at the end.
     pub records: u64,
+    /// How many bytes these have, in the index and as values.
+    pub record_bytes: u64,
     /// How many pages the index blobs have.
     pub index_pages: u64,
 }
@@ -61,9 +71,22 @@ impl fmt::Display for Report {
     fn fmt<W: fmt::Write>(&self, f: &mut fmt::Formatter<W>) -> fmt::Result {
         writeln!(f, "{}", self.costs)?;
         write_phase("filling", &self.filling, f)?;
+        if self.pruning.calls() > 0 {
+            write_phase("pruning", &self.pruning, f)?;
+        }
         write_phase("opening", &self.opening, f)?;
         write_phase("opening again", &self.opening_again, f)?;
         writeln!(f, "records {}", self.records)?;
+        writeln!(
+            f,
+            "bytes of records {} and of blobs {}, at most {}",
+            self.record_bytes, self.blob_bytes, self.most_bytes
+        )?;
+        if let Some(held) = self.held_bytes {
+            let is_within = self.most_bytes <= held.saturating_mul(2);
+            let said = if is_within { "yes" } else { "no" };
+            writeln!(f, "within twice the {held} bytes of records held: {said}")?;
+        }
         write!(f, "index pages {}", self.index_pages)
     }
 }

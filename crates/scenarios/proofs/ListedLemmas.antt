@@ -11,7 +11,7 @@ use Rattle.value_codec.specs.declared.key.Key8.{Key8}
 use Rattle.paired.specs.Opening.{as_read}
 use Rattle.archives.specs.Changes.{Asked, Replied}
 use Rattle.archives.specs.Commands.{Reopen}
-use Rattle.archives.specs.Machine.{OpenStep, State, asked, empty_state}
+use Rattle.archives.specs.Machine.{State, Step, asked, empty_state}
 use Rattle.archives.specs.Plain.{state_of}
 use Rattle.archives.specs.Replies as reply
 use Rattle.archives.specs.declared.commands.Command as asking
@@ -27,10 +27,15 @@ puts_any : (command : asking.Command Key8 (List ℕ)) → PutsOnly (λ (v : List
 puts_any (ask.Put index key value) = tt
 puts_any (ask.PutSync index key value) = tt
 puts_any (ask.PutStart index key value) = tt
+puts_any (ask.Multi index key value) = tt
+puts_any (ask.MultiSync index key value) = tt
+puts_any (ask.MultiStart index key value) = tt
 puts_any (ask.Get index) = tt
 puts_any (ask.GetKey key) = tt
 puts_any (ask.Has index) = tt
 puts_any (ask.HasKey key) = tt
+puts_any (ask.HasAt index key) = tt
+puts_any (ask.All index) = tt
 puts_any (ask.Gap index) = tt
 puts_any (ask.Missing index count) = tt
 puts_any ask.Ranges = tt
@@ -39,7 +44,9 @@ puts_any ask.First = tt
 puts_any ask.Last = tt
 puts_any ask.Sync = tt
 puts_any ask.Start = tt
+puts_any (ask.Prune bound) = tt
 puts_any ask.Reopen = tt
+puts_any ask.Destroy = tt
 
 pub all_any : (commands : List (asking.Command Key8 (List ℕ))) → AllByRecursion (PutsOnly (λ (v : List ℕ). ⊤)) commands
 all_any [] = tt
@@ -47,15 +54,20 @@ all_any (command ∷ commands) = (puts_any command, all_any commands)
 
 -- but for a reopening, the step is one of the record machine
 pub listed_step : (command : asking.Command Key8 (List ℕ)) (given : Replied) (old new : State (List ℕ)) → (command ≡ ask.Reopen → ⊥)
-    → OpenStep 1 old (asked key8_bytes (λ v. v) command) given new → ListedStep old (asked key8_bytes (λ v. v) command) given new
+    → Step 1 old (asked key8_bytes (λ v. v) command) given new → ListedStep old (asked key8_bytes (λ v. v) command) given new
 listed_step ask.Reopen given old new never step = absurd (never refl)
 listed_step (ask.Put i k v) given old new never step = step
 listed_step (ask.PutSync i k v) given old new never step = step
 listed_step (ask.PutStart i k v) given old new never step = step
+listed_step (ask.Multi i k v) given old new never step = step
+listed_step (ask.MultiSync i k v) given old new never step = step
+listed_step (ask.MultiStart i k v) given old new never step = step
 listed_step (ask.Get i) given old new never step = step
 listed_step (ask.GetKey k) given old new never step = step
 listed_step (ask.Has i) given old new never step = step
 listed_step (ask.HasKey k) given old new never step = step
+listed_step (ask.HasAt i k) given old new never step = step
+listed_step (ask.All i) given old new never step = step
 listed_step (ask.Gap i) given old new never step = step
 listed_step (ask.Missing i n) given old new never step = step
 listed_step ask.Ranges given old new never step = step
@@ -64,6 +76,8 @@ listed_step ask.First given old new never step = step
 listed_step ask.Last given old new never step = step
 listed_step ask.Sync given old new never step = step
 listed_step ask.Start given old new never step = step
+listed_step (ask.Prune bound) given old new never step = step
+listed_step ask.Destroy given old new never step = step
 
 begins_anew : (command : Asked) (given : Replied) (old new : State (List ℕ)) → command ≡ Reopen → ListedStep old command given new → new ≡ empty_state
 begins_anew Reopen reply.Done old new is step = step
@@ -78,7 +92,7 @@ module _ {D : Type 0} (dev : device.Ghosts D) (d : D) where
   untouched : Footprint dev listed_kind.IsOwn NoBound d d
   untouched = footprint_none dev listed_kind.IsOwn NoBound d d refl
 
-  pub listed_opens : (a : Listed) → state_of key8_bytes 1 a.machine ≡ empty_state → OpensStore listed_serving dev (Ok a) d d
+  pub listed_opens : (a : Listed) → state_of key8_bytes a.machine ≡ empty_state → OpensStore listed_serving dev (Ok a) d d
   listed_opens a empty = record {
     moments = λ t pending lawful st start. always_reads st None (sym start.0);
     footprint = untouched;
@@ -97,7 +111,7 @@ module _ {D : Type 0} (dev : device.Ghosts D) (d : D) where
     abbrev was : ListedState
     was = listed_serving.state a (disk (dev.time d))
 
-    pub listed_answers : (r : Listed) (given : Replied) → ListedStep (state_of key8_bytes 1 a.machine) command given (state_of key8_bytes 1 r.machine)
+    pub listed_answers : (r : Listed) (given : Replied) → ListedStep (state_of key8_bytes a.machine) command given (state_of key8_bytes r.machine)
         → Answers listed_serving dev a command (Ok (r, given)) d d
     listed_answers r given step = record {
       moments = λ t sound. always_reads was (Some command) refl;
@@ -108,10 +122,11 @@ module _ {D : Type 0} (dev : device.Ghosts D) (d : D) where
         usable = tt;
         sound = λ t sound. tt;
         step = λ t sound. (refl, step);
-        reopened = λ t sound is. (refl, begins_anew command given (state_of key8_bytes 1 a.machine) (state_of key8_bytes 1 r.machine) is step);
+        reopened = λ t sound is. (refl, begins_anew command given (state_of key8_bytes a.machine) (state_of key8_bytes r.machine) is step);
         allowed = λ t sound must. must;
         rest = λ t sound. refl;
         learns = λ t. refl;
+        cleared = λ t q none. absurd none;
         allowed_anywhere = λ t must. must;
       };
     }

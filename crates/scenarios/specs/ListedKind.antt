@@ -7,7 +7,7 @@ use Rattle.value_codec.specs.declared.byte_value.ByteValue.{ByteValue}
 use Rattle.paired.specs.Opening.{as_read}
 use Rattle.archives.specs.Changes.{Asked, Replied}
 use Rattle.archives.specs.Commands.{Put, PutSync, PutStart, Multi, MultiSync, MultiStart, Get, GetKey, All, Has, HasKey, HasAt, Gap, Missing, Ranges, RangesFrom, First, Last, Sync, Start, Prune, Reopen, Destroy}
-use Rattle.archives.specs.Machine.{OpenStep, State, empty_state}
+use Rattle.archives.specs.Machine.{State, Step, empty_state}
 use Rattle.archives.specs.Plain.{state_of}
 use Rattle.archives.specs.Replies as reply
 use Rattle.archives.specs.declared.error.Error.TheVariants.{Mem}
@@ -23,28 +23,28 @@ pub record ListedState : Type 0 where
 abbrev pub ListedStep : State (List ℕ) → Asked → Replied → State (List ℕ) → Type 0
 ListedStep old Reopen reply.Done new = new ≡ empty_state
 ListedStep old Reopen reply new = ⊥
-ListedStep old (Put i k v) reply new = OpenStep 1 old (Put i k v) reply new
-ListedStep old (PutSync i k v) reply new = OpenStep 1 old (PutSync i k v) reply new
-ListedStep old (PutStart i k v) reply new = OpenStep 1 old (PutStart i k v) reply new
-ListedStep old (Multi i k v) reply new = OpenStep 1 old (Multi i k v) reply new
-ListedStep old (MultiSync i k v) reply new = OpenStep 1 old (MultiSync i k v) reply new
-ListedStep old (MultiStart i k v) reply new = OpenStep 1 old (MultiStart i k v) reply new
-ListedStep old (Get i) reply new = OpenStep 1 old (Get i) reply new
-ListedStep old (GetKey k) reply new = OpenStep 1 old (GetKey k) reply new
-ListedStep old (All i) reply new = OpenStep 1 old (All i) reply new
-ListedStep old (Has i) reply new = OpenStep 1 old (Has i) reply new
-ListedStep old (HasKey k) reply new = OpenStep 1 old (HasKey k) reply new
-ListedStep old (HasAt i k) reply new = OpenStep 1 old (HasAt i k) reply new
-ListedStep old (Gap i) reply new = OpenStep 1 old (Gap i) reply new
-ListedStep old (Missing i n) reply new = OpenStep 1 old (Missing i n) reply new
-ListedStep old Ranges reply new = OpenStep 1 old Ranges reply new
-ListedStep old (RangesFrom i) reply new = OpenStep 1 old (RangesFrom i) reply new
-ListedStep old First reply new = OpenStep 1 old First reply new
-ListedStep old Last reply new = OpenStep 1 old Last reply new
-ListedStep old Sync reply new = OpenStep 1 old Sync reply new
-ListedStep old Start reply new = OpenStep 1 old Start reply new
-ListedStep old (Prune bound) reply new = OpenStep 1 old (Prune bound) reply new
-ListedStep old Destroy reply new = OpenStep 1 old Destroy reply new
+ListedStep old (Put i k v) reply new = Step 1 old (Put i k v) reply new
+ListedStep old (PutSync i k v) reply new = Step 1 old (PutSync i k v) reply new
+ListedStep old (PutStart i k v) reply new = Step 1 old (PutStart i k v) reply new
+ListedStep old (Multi i k v) reply new = Step 1 old (Multi i k v) reply new
+ListedStep old (MultiSync i k v) reply new = Step 1 old (MultiSync i k v) reply new
+ListedStep old (MultiStart i k v) reply new = Step 1 old (MultiStart i k v) reply new
+ListedStep old (Get i) reply new = Step 1 old (Get i) reply new
+ListedStep old (GetKey k) reply new = Step 1 old (GetKey k) reply new
+ListedStep old (All i) reply new = Step 1 old (All i) reply new
+ListedStep old (Has i) reply new = Step 1 old (Has i) reply new
+ListedStep old (HasKey k) reply new = Step 1 old (HasKey k) reply new
+ListedStep old (HasAt i k) reply new = Step 1 old (HasAt i k) reply new
+ListedStep old (Gap i) reply new = Step 1 old (Gap i) reply new
+ListedStep old (Missing i n) reply new = Step 1 old (Missing i n) reply new
+ListedStep old Ranges reply new = Step 1 old Ranges reply new
+ListedStep old (RangesFrom i) reply new = Step 1 old (RangesFrom i) reply new
+ListedStep old First reply new = Step 1 old First reply new
+ListedStep old Last reply new = Step 1 old Last reply new
+ListedStep old Sync reply new = Step 1 old Sync reply new
+ListedStep old Start reply new = Step 1 old Start reply new
+ListedStep old (Prune bound) reply new = Step 1 old (Prune bound) reply new
+ListedStep old Destroy reply new = Step 1 old Destroy reply new
 
 abbrev pub listed_kind : Kind
 listed_kind = record {
@@ -62,6 +62,7 @@ listed_kind = record {
   unknown = tt;
   IsFound = λ from to known. to ≡ from;
   Learns = λ known command from to next. to ≡ from;
+  Clears = λ known command q. ⊥;
   IsCauseAnywhere = λ known under_way from to e. e ≡ Mem;
   MustRefuseAnywhere = λ known d command. ⊥;
   RefusesAnywhere = λ known command e. ⊥;
@@ -78,6 +79,6 @@ listed_serving = record {
   Accepts = λ v. ⊤;
   IsUsable = λ a told opened d. ⊤;
   IsSound = λ a d. ⊤;
-  state = λ a d. record { image = as_read d; records = state_of key8_bytes 1 a.machine };
+  state = λ a d. record { image = as_read d; records = state_of key8_bytes a.machine };
   known = λ a. tt;
 }

@@ -208,14 +208,21 @@ fn looks_of(trial: &Trial<'_>, course: &Course, kept: &[Kept]) -> Result<Looks, 
 impl Looks {
     // Asks for an index, of whose section these records are kept.
     fn ask_index(&mut self, index: u64, records: &[String]) -> Result<(), AllocError> {
-        writeln!(self.script, "has {index}\nget {index}")?;
+        writeln!(self.script, "has {index}\nget {index}\nall {index}")?;
+        let mut all = String::new(*self.script.allocator());
         for record in records {
             if index_in(record.as_str()) == Some(index) {
                 let value = word_in(record.as_str(), 2);
-                return writeln!(self.replies, "yes\nvalue {value}");
+                if all.is_empty() {
+                    write!(self.replies, "yes\nvalue {value}\nvalues")?;
+                }
+                write!(all, " {value}")?;
             }
         }
-        self.replies.push_str("no\nnone\n")
+        if all.is_empty() {
+            return self.replies.push_str("no\nnone\nnone\n");
+        }
+        writeln!(self.replies, "{}", all.as_str())
     }
 
     // Asks for a key, unless two records have it.

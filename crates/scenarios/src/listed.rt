@@ -1,67 +1,40 @@
 // A store of records in a list, which leaves the device alone: another kind of store than an archive, served by the same loop.
-ghost use Rattle.std.specs.Prelude.{◌≡◌, ℕ};
+ghost use Rattle.std.specs.Prelude.{◌≡◌};
 ghost use Rattle.value_codec.specs.Keys.{key8_bytes};
 ghost use Rattle.archives.specs.Machine.{empty_state};
 ghost use Rattle.archives.specs.Plain.{state_of};
-ghost use Rattle.scenarios.specs.ListedKind.{listed_serving};
+
+mod serving;
 
 use crate::given::append_text;
 use crate::stage::Stage;
 use crate::stop::Stop;
-use archive_service::{End, Replies, Served, Store, read_script, serve_from, write_reply};
+use archive_service::{End, Replies, Served, read_script, serve_from, write_reply};
 use archives::plain::Machine;
-use archives::{Command, Error, Reply};
 use blob_device::{Device, Memory};
 use scenario_text::Step;
 use std::alloc::Global;
 use value_codec::{ByteValue, Key8};
+
+// How many indices a section of it has room for.
+const ITEMS: u64 = 1;
 
 /// Records in a list. Nothing of them outlasts a reopening.
 #[derive(Drop)]
 pub struct Listed {
     // all records, in memory alone
     machine: Machine<Key8, ByteValue>,
+    // as `empty` makes it; no step changes it
+    ghost has_one: { machine.items_per_section ≡ 1 },
 }
 
 impl Listed {
     // No records.
     fn empty(alloc: Global) -> Listed
-        ensures { (n : ℕ) → state_of key8_bytes n result.machine ≡ empty_state }
+        ensures { state_of key8_bytes result.machine ≡ empty_state }
     {
         Listed {
-            machine: Machine::new(alloc),
-        }
-    }
-}
-
-impl Store for Listed {
-    type Config = ();
-
-    type Key = Key8;
-
-    type Value = ByteValue;
-
-    ghost means = { λ cfg. listed_serving };
-
-    fn open<D: Device>(alloc: Global, _dev: &mut D, _cfg: &()) -> Result<Listed, Error> {
-        Ok(Listed::empty(alloc))
-    }
-
-    fn answer<D: Device>(
-        self,
-        alloc: Global,
-        _dev: &mut D,
-        _cfg: &(),
-        command: &Command<Key8, ByteValue>,
-    ) -> Result<(Listed, Reply<ByteValue>), Error> {
-        match command {
-            Command::Reopen => Ok((Listed::empty(alloc), Reply::Done)),
-            command => {
-                let Listed { machine } = self;
-                let mut machine = machine;
-                let reply = machine.step(command)?;
-                Ok((Listed { machine }, reply))
-            }
+            machine: Machine::new(alloc, ITEMS),
         }
     }
 }
