@@ -23,7 +23,8 @@
 //! # Crashes
 //!
 //! Of each section a crash leaves a prefix of the records that were put, with all that were synced; or nothing of
-//! one that a prune or a destroy takes. What stands behind it is cut by the next opening. A call that fails gives the archive up: its blobs are opened again.
+//! one that a prune or a destroy takes. What stands behind it is cut by the next opening. A call that fails gives
+//! the archive up: its blobs are opened again.
 //!
 //! # Cost
 //!

@@ -47,6 +47,17 @@ fn mark_in(alloc: Global, digits: &str) -> Result<Option<BitMap>, RMapError> {
     Ok(Some(bits_in(alloc, digits)?))
 }
 
+/// Whether a word spells what is kept of a section: `SECTION:full`, or `SECTION:` and a digit for each bit.
+pub fn is_mark(word: &str) -> bool {
+    match word.split_once(":") {
+        Some((section, digits)) => {
+            section.parse::<u64>().is_ok()
+                && (digits == "full" || digits.as_bytes().iter().all(|d| *d == b'0' || *d == b'1'))
+        }
+        None => false,
+    }
+}
+
 /// The marks that words spell, each `SECTION:full`, or `SECTION:` and a digit for each bit.
 pub fn marks_in(alloc: Global, words: &[String]) -> Result<Marks, RMapError> {
     let mut marks = BTreeMap::new(alloc);

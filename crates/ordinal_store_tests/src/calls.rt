@@ -2,7 +2,7 @@
 use crate::alike::tell_difference;
 use crate::change::{Change, changes_of, make_all};
 use crate::said::{add_bits, add_gap, add_number, add_numbers, add_range, add_ranges, or_none};
-use crate::words::number;
+use crate::words::{MISSPELT, is_spelt, number};
 use ordinal_store::{BitMap, RMap, RMapError};
 use scenario_text::Step;
 use std::alloc::{AllocError, Global};
@@ -14,6 +14,9 @@ pub fn obey(
     step: &Step,
     text: &mut String,
 ) -> Result<(), RMapError> {
+    if !is_spelt(step) {
+        return Ok(text.push_str(MISSPELT)?);
+    }
     match step.word() {
         "change" | "same" | "alike" => change(alloc, set, step, text),
         "bits" => tell_bits(alloc, step, text),

@@ -10,18 +10,18 @@ pub enum Change {
     Take(u64, u64),
 }
 
-/// The number that a word spells; 0 where it spells none.
-fn number_in(word: &str) -> u64 {
-    word.parse::<u64>().unwrap_or(0)
-}
-
 /// The change that a word spells: `+N` or `-N..M`.
 fn change_of(word: &str) -> Option<Change> {
     if let Some(number) = word.strip_prefix('+') {
-        return Some(Change::Put(number_in(number)));
+        return Some(Change::Put(number.parse::<u64>().ok()?));
     }
     let (start, end) = word.strip_prefix('-')?.split_once("..")?;
-    Some(Change::Take(number_in(start), number_in(end)))
+    Some(Change::Take(start.parse::<u64>().ok()?, end.parse::<u64>().ok()?))
+}
+
+/// Whether a word spells a change.
+pub fn is_change(word: &str) -> bool {
+    change_of(word).is_some()
 }
 
 /// The changes that the words spell, up to one that spells none.

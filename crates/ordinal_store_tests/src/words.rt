@@ -1,5 +1,6 @@
 // The words of a step over a store.
-use crate::asked::marks_in;
+use crate::asked::{is_mark, marks_in};
+use crate::change::is_change;
 use crate::model::Call;
 use blob_device::CrashChoice;
 use ordinal_store::RMapError;
@@ -38,7 +39,31 @@ pub fn family_of(word: &str) -> Family {
     }
 }
 
-/// The number at this place behind the first word; 0 where no number stands there.
+/// What is said of a step with other words than its command takes.
+pub const MISSPELT: &str = "refused: not the words of this command";
+
+/// Whether a step has the words that its command takes.
+pub fn is_spelt(step: &Step) -> bool {
+    match step.word() {
+        "put" | "missing" => has_numbers(step, 2),
+        "get" | "has" | "next-gap" | "prune" | "fail" | "fuse" => has_numbers(step, 1),
+        "store" => has_numbers(step, 3),
+        "damage" => step.number(1).is_some(),
+        "crash" => step.argument(0) != "mixed" || step.number(1).is_some(),
+        "ranges" => step.rest().is_empty() || has_numbers(step, 1),
+        "change" | "same" | "alike" => step.rest().iter().all(|word| is_change(word.as_str())),
+        "bits" => has_numbers(step, 1) && entries(step).iter().all(|word| is_change(word.as_str())),
+        "open" => entries(step).iter().all(|word| is_mark(word.as_str())),
+        _ => true,
+    }
+}
+
+// Whether so many numbers stand behind the first word.
+fn has_numbers(step: &Step, count: usize) -> bool {
+    (0..count).all(|at| step.number(at).is_some())
+}
+
+/// The number at this place behind the first word. One that has to stand there does ([`is_spelt`]).
 pub fn number(step: &Step, at: usize) -> u64 {
     step.number(at).unwrap_or(0)
 }
