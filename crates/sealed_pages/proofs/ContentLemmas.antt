@@ -12,7 +12,7 @@ use Rattle.blob_device.proofs.Bytes.{length-written}
 use Rattle.blob_device.proofs.GuardsLemmas.{all_push}
 use Rattle.blob_device.proofs.Moments.{always_start, always_now, always_then, always_weaker}
 use Rattle.sealed_pages.specs.Contents.{AllSince, KeepsAll, AddsOnly}
-use Rattle.sealed_pages.specs.Writing.{WriteBuffer, blob_key, bytes_of, size_of, is_idle}
+use Rattle.sealed_pages.specs.unsealed.Writing.{WriteBuffer, blob_key, bytes_of, size_of, is_idle}
 use Rattle.sealed_pages.proofs.SparingLemmas.{any_call}
 use Rattle.sealed_pages.proofs.WriteLemmas.{written_cut}
 use Rattle.sealed_pages.proofs.WritingLemmas.{idle_bytes, short_run}

@@ -11,7 +11,7 @@ use Rattle.blob_device.proofs.GuardsLemmas.{guards_settled}
 use Rattle.blob_device.proofs.Moments.{always_weaker, always_now}
 use Rattle.blob_device.proofs.Places.{written_out}
 use Rattle.sealed_pages.specs.Sparing.{Lasts, Spares, Sparing, Keeping}
-use Rattle.sealed_pages.specs.Writing.{WriteBuffer, bytes_of, run_of, Joins, HoldsOnly, Over, KeepsSettled}
+use Rattle.sealed_pages.specs.unsealed.Writing.{WriteBuffer, bytes_of, run_of, Joins, HoldsOnly, Over, KeepsSettled}
 
 -- each place below a bound is below another, so the bound is
 below_all : (n m : ℕ) → ((i : ℕ) → i < n → i < m) → n ≤ m

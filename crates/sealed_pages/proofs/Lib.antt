@@ -16,9 +16,7 @@ pub mod Looking
 pub mod Starting
 pub mod Reaching
 pub mod Cuts
-pub mod CutCalls
-pub mod CutEntries
-pub mod CutSteps
+pub mod cutting
 pub mod Truncating
 pub mod SparingLemmas
 pub mod WriteLemmas

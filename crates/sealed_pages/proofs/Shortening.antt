@@ -12,7 +12,7 @@ use Rattle.sealed_pages.specs.SealedPrefix.{pages_in, adopted_size}
 use Rattle.sealed_pages.specs.Slots.{named_length, slot_length, page_length, best_slot, slot_bytes}
 use Rattle.sealed_pages.specs.View.{View, view, bytes_at, page_at, slot_at}
 use Rattle.sealed_pages.proofs.Adopt.{best_length}
-use Rattle.sealed_pages.proofs.CutSteps.{other_not}
+use Rattle.sealed_pages.proofs.cutting.Steps.{other_not}
 use Rattle.sealed_pages.proofs.Cuts.{zeros_none}
 use Rattle.sealed_pages.proofs.Looking.{page_length_is}
 use Rattle.sealed_pages.proofs.Reaching.{size_at_most}

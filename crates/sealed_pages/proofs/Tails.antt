@@ -4,7 +4,7 @@ use Rattle.std.proofs.lemmas.Bool.{cases_lt, cond_below, cond_above, cond-true, 
 use Rattle.blob_device.specs.Change.{written}
 use Rattle.blob_device.proofs.Bytes.{length-written}
 use Rattle.sealed_pages.specs.Tails.{tail_after, run_with, run_at_end}
-use Rattle.sealed_pages.specs.Writing.{WriteBuffer, size_of, Joins, StandsBehind}
+use Rattle.sealed_pages.specs.unsealed.Writing.{WriteBuffer, size_of, Joins, StandsBehind}
 
 -- below the capacity nothing is flushed
 pub tail_kept : (capacity tail added n : ℕ) → n ≡ tail + added → n < capacity → n ≡ tail_after capacity tail added

@@ -18,7 +18,7 @@ use Rattle.sealed_pages.specs.SealedPrefix.{sealed_prefix, adopted_size}
 use Rattle.sealed_pages.specs.Slots.{page_length}
 use Rattle.sealed_pages.specs.Unrecovered.{blob_of, prefix_of, SparesFront, KeepsPrefix, IsUnrecovered, IsRecovery, IsSafeCut}
 use Rattle.sealed_pages.specs.View.{page_at, view}
-use Rattle.sealed_pages.proofs.CutCalls.{sealing_less, sealing_then}
+use Rattle.sealed_pages.proofs.cutting.Calls.{sealing_less, sealing_then}
 use Rattle.sealed_pages.proofs.Fronts.{front_look, front_then, front_now}
 use Rattle.sealed_pages.proofs.Holding.{holds_data, holds_sealed, holds_bytes, bytes_length}
 use Rattle.sealed_pages.proofs.Looking.{unchanged_now}

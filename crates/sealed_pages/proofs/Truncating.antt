@@ -27,12 +27,12 @@ use Rattle.sealed_pages.specs.View.{View, view, page_at, slot_at, StandsAt}
 use Rattle.sealed_pages.proofs.Adopt.{best_covers, best_length, sealed_covers}
 use Rattle.sealed_pages.proofs.Adopting.{end_page}
 use Rattle.sealed_pages.proofs.Cuts.{take_front, below_start, best_is, cut_prefix, cut_at_most, cut_quiet, zeros_below, zeros_quiet, zeros_covers, zeros_prefix, with_own}
-use Rattle.sealed_pages.proofs.CutCalls.{sealing_less, sealing_then}
+use Rattle.sealed_pages.proofs.cutting.Calls.{sealing_less, sealing_then}
 use Rattle.sealed_pages.proofs.Looking.{unchanged_now}
 use Rattle.sealed_pages.proofs.HadLemmas.{had_rest}
 use Rattle.sealed_pages.proofs.PageCalls.{alone_then}
 use Rattle.sealed_pages.proofs.Repairing.{page_order}
-use Rattle.sealed_pages.proofs.CutSteps.{other_not, last2, own2, prefix2, inside2}
+use Rattle.sealed_pages.proofs.cutting.Steps.{other_not, last2, own2, prefix2, inside2}
 use Rattle.sealed_pages.proofs.Holding.{holds_leaves, bool_or, bytes_is, data_less}
 use Rattle.sealed_pages.proofs.Keeping.{data_cut}
 use Rattle.sealed_pages.proofs.Reaching.{prefix_sound, prefix_is, size_at_most, adopted_size_is, rest_leaves}

@@ -23,8 +23,8 @@ use Rattle.sealed_pages.specs.Unrecovered.{HasFront, FrontOf, SparesFront, HasPr
 use Rattle.sealed_pages.specs.View.{view, bytes_at, page_at, slot_at}
 use Rattle.sealed_pages.proofs.Adopt.{best_length, length-data_from, get_or-data_from}
 use Rattle.sealed_pages.proofs.Adopting.{pages_none, pages_some}
-use Rattle.sealed_pages.proofs.CutCalls.{sealing_then}
-use Rattle.sealed_pages.proofs.CutSteps.{settled_rest}
+use Rattle.sealed_pages.proofs.cutting.Calls.{sealing_then}
+use Rattle.sealed_pages.proofs.cutting.Steps.{settled_rest}
 use Rattle.sealed_pages.proofs.Cuts.{below_start}
 use Rattle.sealed_pages.proofs.HadLemmas.{had_settled, had_rest}
 use Rattle.sealed_pages.proofs.Syncing.{backed_more}

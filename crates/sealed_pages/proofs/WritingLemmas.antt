@@ -15,7 +15,7 @@ use Rattle.sealed_pages.specs.Contents.{IsHad}
 use Rattle.sealed_pages.specs.Entries.{IsOpenAt, NoReads, ReadsAtMost}
 use Rattle.sealed_pages.specs.Sparing.{Lasts, Spares, Sparing, LooseOnly}
 use Rattle.sealed_pages.proofs.SparingLemmas.{sparing_then, sparing_weaker, loose_spared, loose_then}
-use Rattle.sealed_pages.specs.Writing.{WriteBuffer, blob_key, bytes_of, size_of, run_of, is_idle, is_unsettled, Joins, StaysBelow, Over}
+use Rattle.sealed_pages.specs.unsealed.Writing.{WriteBuffer, blob_key, bytes_of, size_of, run_of, is_idle, is_unsettled, Joins, StaysBelow, Over}
 use Rattle.sealed_pages.proofs.HadLemmas.{had_rest}
 use Rattle.sealed_pages.proofs.EntryLemmas.{open_some, open_updated, no_reads_part, no_reads_updated, no_reads_resize, open_written, open_resized}
 use Rattle.sealed_pages.proofs.WriteLemmas.{written_nothing, written_again, written_twice, written_cut}

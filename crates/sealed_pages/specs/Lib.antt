@@ -16,7 +16,7 @@ pub mod Cutting
 pub mod Unrecovered
 pub mod Sparing
 pub mod Contents
-pub mod Writing
+pub mod unsealed
 pub mod Filled
 pub mod Reads
 pub mod Leftover

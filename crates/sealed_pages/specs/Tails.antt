@@ -1,7 +1,7 @@
 -- What stays unflushed in a buffer behind an append.
 use Rattle.std.specs.Prelude.{◌≡◌, ℕ, ◌+◌, ◌-◌, ◌&&◌, cond, max, leb, ltb, length}
 use Rattle.sealed_pages.specs.Buffer.{Buffer}
-use Rattle.sealed_pages.specs.Writing.{WriteBuffer}
+use Rattle.sealed_pages.specs.unsealed.Writing.{WriteBuffer}
 
 -- How many bytes stay unflushed where more are added behind a tail of such: all, until they reach the capacity, then none.
 unfoldable pub tail_after : ℕ → ℕ → ℕ → ℕ

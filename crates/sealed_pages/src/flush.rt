@@ -13,7 +13,8 @@ use crate::page::write_page;
 use blob_device::{DevError, Device};
 use value_codec::Seal;
 
-/// The slot that a flush writes on a page: the one that is not settled, and slot A where none is.
+/// The slot that a flush writes on a page: the one that is not settled, and slot A where none is. As everywhere here,
+/// `false` is slot A and `true` slot B; the head of `page_blob.rt` draws both.
 pub fn next_slot_of(page_size: u16, page: u64, settled: u64, newest: bool) -> bool
     requires { page_at page_size page + (page_size + 12) < 2 ^ 64 }
     ensures { result ≡ next_slot page_size settled newest page }

@@ -94,7 +94,7 @@ pub struct WriteBlob {
 }
 
 impl WriteBlob {
-    ghost use Rattle.sealed_pages.specs.Writing.{WriteBuffer, shown, blob_key, bytes_of, size_of, run_of, is_idle, is_unsettled, Joins, StaysBelow, HoldsOnly, StandsBehind, Over, KeepsSettled};
+    ghost use Rattle.sealed_pages.specs.unsealed.Writing.{WriteBuffer, shown, blob_key, bytes_of, size_of, run_of, is_idle, is_unsettled, Joins, StaysBelow, HoldsOnly, StandsBehind, Over, KeepsSettled};
     ghost use Rattle.sealed_pages.specs.Tails.{LeavesRun, LeavesPending};
 
     /// Adopts an opened blob of this length. All of it counts as settled, since opening a blob settles it.
@@ -397,6 +397,7 @@ impl WriteBlob {
         ensures cause { OnErr result ((result ≡ Err RError.OffsetOverflow) ⊎ ((result ≡ Err RError.Mem) ⊎ ((result ≡ Err RError.Fault) × Rose (D.faults dev.old) (D.faults dev.new)))) }
     {
         let at = self.size();
+        // At the end, so it joins the run or begins one: no byte that was written before is touched.
         match self.write_at(dev, at, bytes) {
             Ok(this) => Ok((this, at)),
             Err(e) => Err(e),

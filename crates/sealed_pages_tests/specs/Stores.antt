@@ -5,7 +5,7 @@ use Rattle.sealed_pages.specs.Buffer.{key_of}
 use Rattle.sealed_pages.specs.Entries.{IsOpenAt}
 use Rattle.sealed_pages.specs.Readers.{reading}
 use Rattle.sealed_pages.specs.Shown.{shown}
-use Rattle.sealed_pages.specs.Writing as writing
+use Rattle.sealed_pages.specs.unsealed.Writing as writing
 use Rattle.sealed_pages_tests.specs.declared.store.Store.{Store}
 use Rattle.sealed_pages_tests.specs.declared.store.Store.TheVariants.{Closed, Pages, Reading, Unsealed}
 

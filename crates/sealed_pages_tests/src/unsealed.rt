@@ -2,7 +2,7 @@
 ghost use Rattle.std.specs.Prelude.{IfOk};
 ghost use Rattle.blob_device.specs.MemoryMeaning.{memory_opened};
 ghost use Rattle.sealed_pages.specs.Entries.{IsOpenAt};
-ghost use Rattle.sealed_pages.specs.Writing.{shown, blob_key};
+ghost use Rattle.sealed_pages.specs.unsealed.Writing.{shown, blob_key};
 ghost use Rattle.sealed_pages_tests.specs.Stores.{IsOpen};
 
 use crate::said::{Said, Stop};

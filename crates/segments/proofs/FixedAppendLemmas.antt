@@ -21,7 +21,7 @@ use Rattle.sealed_pages.specs.Unrecovered.{HasPrefix, KeepsPrefix, IsAdopted, Is
 use Rattle.sealed_pages.specs.Shown.{shown}
 use Rattle.sealed_pages.specs.View.{view, page_at}
 use Rattle.sealed_pages.proofs.Adopt.{length-data_from}
-use Rattle.sealed_pages.proofs.CutCalls.{sealing_whole}
+use Rattle.sealed_pages.proofs.cutting.Calls.{sealing_whole}
 use Rattle.sealed_pages.proofs.Holding.{holds_start}
 use Rattle.sealed_pages.proofs.PageCalls.{only_weaker}
 use Rattle.sealed_pages.proofs.Shortening.{size_before}
@@ -34,13 +34,13 @@ use Rattle.segments.specs.FixedLasting.{IsBeginning}
 use Rattle.segments.specs.FixedLists.{Lists, section_bytes, section_size, IsJournal, IsRecovered, IsProven}
 use Rattle.segments.specs.Lasting.{IsOpening}
 use Rattle.segments.specs.Leaving.{AllMoments}
-use Rattle.segments.specs.Lending.{IsPut}
+use Rattle.segments.specs.managing.Lending.{IsPut}
 use Rattle.segments.specs.Sealed.{IsTooLong, adopted_bytes}
 use Rattle.segments.specs.SealedLaws.{counted}
 use Rattle.segments.specs.Sections.{Sections, key_of, IsHeld, IsKnown, IsSame, SameBounds, IsOver}
 use Rattle.segments.specs.Setting.{Setting}
-use Rattle.segments.proofs.KeyLemmas.{keys_differ}
-use Rattle.segments.proofs.OverLemmas.{same_key, over_put}
+use Rattle.segments.proofs.sections.KeyLemmas.{keys_differ}
+use Rattle.segments.proofs.sections.OverLemmas.{same_key, over_put}
 use Rattle.segments.proofs.WalkLemmas.{has_value, none_or_value, some_same}
 use Rattle.segments.proofs.FixedWriteLemmas.{ArePages, IsFine, proven_back, fine_of, journal_of, fine_same}
 use Rattle.segments.proofs.FixedCutLemmas.{no_rest, empty_sealed}

@@ -13,7 +13,7 @@ use Rattle.sealed_pages.specs.ChanceSeal.{Leaves, Sealing}
 use Rattle.sealed_pages.specs.Cutting.{IsAtRest, Settles}
 use Rattle.sealed_pages.specs.SealedPrefix.{sealed_prefix}
 use Rattle.sealed_pages.specs.Unrecovered.{IsAdopted, IsUnrecovered, IsRecovery, KeepsPrefix}
-use Rattle.sealed_pages.proofs.CutCalls.{sealing_less}
+use Rattle.sealed_pages.proofs.cutting.Calls.{sealing_less}
 use Rattle.sealed_pages.proofs.Holding.{bytes_length}
 use Rattle.sealed_pages.proofs.Reaching.{rest_leaves}
 use Rattle.sealed_pages.proofs.Truncating.{all_flushed}

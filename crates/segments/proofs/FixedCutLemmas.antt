@@ -22,8 +22,8 @@ use Rattle.segments.specs.FixedLists.{Lists, section_bytes, IsJournal, IsProven}
 use Rattle.segments.specs.Leaving.{Leaves, AllMoments}
 use Rattle.segments.specs.Sections.{key_of, IsSame, SameBounds, IsOver, IsCut}
 use Rattle.segments.specs.Setting.{Setting}
-use Rattle.segments.proofs.KeyLemmas.{keys_differ}
-use Rattle.segments.proofs.OverLemmas.{same_key}
+use Rattle.segments.proofs.sections.KeyLemmas.{keys_differ}
+use Rattle.segments.proofs.sections.OverLemmas.{same_key}
 use Rattle.segments.proofs.WalkLemmas.{value_of, has_value, some_same, none_or_value}
 use Rattle.segments.proofs.FixedWriteLemmas.{ArePages, IsFine, fine_of, journal_of, fine_same, fine_none, leaves_sealed, leaves_front, proven_back, proven_or_not}
 

@@ -11,7 +11,7 @@ use Rattle.sealed_pages.specs.Shown.{shown}
 use Rattle.sealed_pages.specs.Buffer.{size_of, IsSealed}
 use Rattle.sealed_pages.specs.ChanceSeal.{NoChanceSeal, Leaves, Sealing}
 use Rattle.sealed_pages.specs.SealedPrefix.{Prefix, sealed_prefix}
-use Rattle.sealed_pages.proofs.CutCalls.{prefix_whole}
+use Rattle.sealed_pages.proofs.cutting.Calls.{prefix_whole}
 use Rattle.value_codec.specs.declared.codec.Error as codec
 use Rattle.segments.specs.declared.buffer.SectionBuffer as buffer
 use Rattle.segments.specs.declared.journal.Damage.{Damage}

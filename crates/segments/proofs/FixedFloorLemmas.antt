@@ -49,11 +49,11 @@ use Rattle.segments.specs.Sealed.{adopted_bytes}
 use Rattle.segments.specs.SealedLaws.{all_settled}
 use Rattle.segments.specs.Sections.{Sections, section_key, key_of, IsHeld, StandsOver, IsOver}
 use Rattle.segments.specs.Setting.{Setting}
-use Rattle.segments.proofs.CutLemmas.{same_number}
+use Rattle.segments.proofs.sections.CutLemmas.{same_number}
 use Rattle.segments.proofs.FixedKept.{short_length}
 use Rattle.segments.proofs.FixedWriteLemmas.{ArePages}
 use Rattle.segments.proofs.InitLemmas.{settling_was, settling_there, settling_content}
-use Rattle.segments.proofs.KeyLemmas.{keys_differ}
+use Rattle.segments.proofs.sections.KeyLemmas.{keys_differ}
 use Rattle.segments.proofs.WalkLemmas.{some_same, value_of, has_value, none_or_value}
 
 -- a read that ends below the greatest u64

@@ -39,7 +39,7 @@ use Rattle.segments.specs.FixedReading.{HasNotRead, IsBelowFloor}
 use Rattle.segments.specs.FixedLists.{section_size}
 use Rattle.segments.specs.FixedReplay.{Place, Walk, IsAhead, IsIn, IsReadWhole, IsLeft, SameWalk, IsWalk, WalksOver, StandsBefore, KeepsItems, IsFromCovered, Gives, Refuses, Stops, Replaying, LeavesNoMore, EndsBelow, FindsDamage, StandsIn, ReadsIn, kept_of, kept_bytes, first_of}
 use Rattle.segments.specs.FixedStepping.{standing, after_item, bytes_ahead, way_of, reads_left, ReadsOnce, GoesOn, Carries, EndsAt, Steps}
-use Rattle.segments.proofs.KeyLemmas.{keys_differ}
+use Rattle.segments.proofs.sections.KeyLemmas.{keys_differ}
 use Rattle.segments.proofs.FixedCounts.{count_here, count_apart, count_same}
 use Rattle.segments.proofs.FixedKept.{covered_on, covered_length, item_kept, prefix_data, flushed_data}
 use Rattle.segments.proofs.FixedEnding.{ahead_from}

@@ -21,7 +21,7 @@ use Rattle.segments.specs.FixedReading.{HasNotRead, IsBelowFloor}
 use Rattle.segments.specs.FixedLists.{size_held, section_size}
 use Rattle.segments.specs.FixedReplay.{Place, Walk, IsAhead, IsIn, IsLeft, SameItems, IsSameOrCut, KeepsSections, KeepsFloors, KeepsItems, HasSameBytes, KeepsBytes, IsWalk, Refuses, IsCutting, Replaying, LeavesNoMore, EndsBelow, FindsDamage, kept_bytes}
 use Rattle.segments.specs.FixedStepping.{word, sections_ahead, bytes_ahead, way_of, reads_left, ReadsOnce, GoesOn, Steps}
-use Rattle.segments.proofs.KeyLemmas.{keys_differ}
+use Rattle.segments.proofs.sections.KeyLemmas.{keys_differ}
 use Rattle.segments.proofs.FixedCounts.{count_other, count_over}
 use Rattle.segments.proofs.FixedKept.{short_item}
 use Rattle.segments.proofs.FixedOwed.{same_items, same_or_cut}

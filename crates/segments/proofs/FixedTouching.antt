@@ -12,7 +12,7 @@ use Rattle.segments.specs.Setting.{Setting}
 use Rattle.segments.specs.Sections.{Sections, key_of, IsHeld, IsSame, SameBounds, IsOver}
 use Rattle.segments.specs.FixedStepping.{Touches}
 use Rattle.segments.proofs.FixedWalks.{is_some, same_some}
-use Rattle.segments.proofs.OverLemmas.{over_changed, same_key}
+use Rattle.segments.proofs.sections.OverLemmas.{over_changed, same_key}
 
 module _ {F B : Type 0} (g : buffer.Ghosts B) (gives : F → Setting) {told : Type 0} (m n : Sections F B) (s : ℕ) (u : B) (held : m.held s ≡ Some u) (before after : OpenedList) (a b : Timeline)
     (over : IsOver g gives told m before (disk a)) (bounds : SameBounds m n) (others : (q : ℕ) → q ≢ s → IsSame m n q)

@@ -20,7 +20,7 @@ use Rattle.segments.specs.Sections.{key_of, IsHeld, IsOver}
 use Rattle.segments.specs.FixedLists.{IsProven}
 use Rattle.segments.specs.FixedReplay.{Place, Walk, IsAhead, IsIn, IsReadWhole, SameWalk, StandsIn, ReadsIn, IsGoneOver, HasWalk, WalksOver, IsWalk, StaysStill, Replaying}
 use Rattle.segments.specs.FixedStepping.{failing}
-use Rattle.segments.proofs.KeyLemmas.{key_injective}
+use Rattle.segments.proofs.sections.KeyLemmas.{key_injective}
 use Rattle.segments.proofs.FixedWalks.{OnlyOne, IsBehind, IsReached, MayCut, MayFlush, MayFront, is_some, same_some, none_in, blob_other, held_on, reads_back}
 use Rattle.segments.proofs.FixedWriteLemmas.{proven_back}
 

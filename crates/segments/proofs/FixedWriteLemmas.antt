@@ -23,8 +23,8 @@ use Rattle.segments.specs.Leaving.{Leaves}
 use Rattle.segments.specs.Sealed.{is_unsettled, adopted_bytes, Stands, MayKeep}
 use Rattle.segments.specs.Sections.{Sections, key_of, IsHeld, IsSame, SameBounds, IsOver, IsSynced}
 use Rattle.segments.specs.Setting.{Setting}
-use Rattle.segments.proofs.KeyLemmas.{key_injective}
-use Rattle.segments.proofs.OverLemmas.{same_key}
+use Rattle.segments.proofs.sections.KeyLemmas.{key_injective}
+use Rattle.segments.proofs.sections.OverLemmas.{same_key}
 use Rattle.segments.proofs.WalkLemmas.{value_of, has_value, some_same, none_or_value}
 
 -- The buffers are page blobs under this seal.

@@ -14,7 +14,7 @@ use Rattle.segments.specs.FixedLists.{Lists, IsJournal}
 use Rattle.segments.specs.Sealed as sealed
 use Rattle.segments.specs.Sections.{Sections, key_of, IsOver}
 use Rattle.segments.specs.Setting.{Setting}
-use Rattle.segments.specs.Unsealed as unsealed
+use Rattle.segments.specs.unsealed.Buffer as unsealed
 use Rattle.segments.proofs.FixedWriteLemmas.{ArePages}
 
 -- under a buffer whose pages carry seals

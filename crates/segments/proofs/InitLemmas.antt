@@ -24,9 +24,9 @@ use Rattle.segments.specs.Entries.{OnlyOwnEntry, StartsNoRead}
 use Rattle.segments.specs.Lasting.{IsOpening, IsSettling}
 use Rattle.segments.specs.Refusing.{HasFailed, HasNoRoom, IsForeign, IsOpenedTooLong}
 use Rattle.segments.specs.Sections.{Sections, section_key, key_of, IsHeld, IsKnown, IsSame, SameBounds, IsOver}
-use Rattle.segments.proofs.KeyLemmas.{keys_differ}
+use Rattle.segments.proofs.sections.KeyLemmas.{keys_differ}
 use Rattle.segments.proofs.NumberLemmas.{listed_or_not, has_name, name_size, names_number}
-use Rattle.segments.proofs.OverLemmas.{same_key}
+use Rattle.segments.proofs.sections.OverLemmas.{same_key}
 
 -- a blob that is there is as before, or settled as it read, while it is opened
 opened_there : (from b : Blob) → IsTrue from.there → IsOpening from b → (b ≡ from) ⊎ (b ≡ settled_at from.content)

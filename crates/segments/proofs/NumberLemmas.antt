@@ -9,7 +9,7 @@ use Rattle.std.proofs.lemmas.List.Elements.{Contains-get_or, Contains-append_rig
 use Rattle.std.proofs.lemmas.Map.Made.{Contains-tail}
 use Rattle.std.proofs.lemmas.Grind.{get_or_default_zero}
 use Rattle.blob_device.specs.Disk.{Key}
-use Rattle.segments.proofs.KeyLemmas.{key_injective}
+use Rattle.segments.proofs.sections.KeyLemmas.{key_injective}
 
 pub length-number_name : (n : ℕ) → length (to_be_bytes w64 n) ≡ 8
 length-number_name n = search rules

@@ -14,7 +14,7 @@ use Rattle.std.proofs.lemmas.List.{map-append}
 use Rattle.std.proofs.lemmas.Map.Iter.{rest_so_far, rest_more}
 use Rattle.std.proofs.lemmas.Map.Keys.{sorted_head, sorted_tail}
 use Rattle.std.proofs.lemmas.Map.Views.{Contains-keys_from_lookup}
-use Rattle.segments.proofs.CutLemmas.{numbers_of, numbers_shown, same_number}
+use Rattle.segments.proofs.sections.CutLemmas.{numbers_of, numbers_shown, same_number}
 use Rattle.segments.proofs.WalkLemmas.{first_or_later, later_in, first_in}
 
 less_all : (s q : ℕ) (l : List ℕ) → AllByRecursion (λ (y : ℕ). nat_cmp s y ≡ Less) l → Contains l q → nat_cmp s q ≡ Less

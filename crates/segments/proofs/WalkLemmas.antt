@@ -15,8 +15,8 @@ use Rattle.segments.specs.Leaving.{Leaves, AllMoments}
 use Rattle.segments.specs.Refusing.{IsPruned}
 use Rattle.segments.specs.Setting.{Setting}
 use Rattle.segments.specs.Sections.{Sections, key_of, IsSame, SameBounds, IsKeyOf, IsOver}
-use Rattle.segments.proofs.KeyLemmas.{key_injective}
-use Rattle.segments.proofs.OverLemmas.{same_key}
+use Rattle.segments.proofs.sections.KeyLemmas.{key_injective}
+use Rattle.segments.proofs.sections.OverLemmas.{same_key}
 
 -- the value that there is
 pub record Value {T : Type 0} (o : Option T) (P : T → Type 0) : Type 0 where

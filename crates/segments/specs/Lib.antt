@@ -10,13 +10,11 @@ pub mod Entries
 pub mod Sections
 pub mod Lasting
 pub mod Refusing
-pub mod Managed
-pub mod Lending
+pub mod managing
 pub mod Doomed
 pub mod Sealed
 pub mod SealedLaws
-pub mod Unsealed
-pub mod UnsealedLaws
+pub mod unsealed
 pub mod FixedItems
 pub mod FixedReading
 pub mod FixedFull

@@ -51,7 +51,7 @@ pub struct Held<B> {
 }
 
 impl<B: Drop> Held<B> {
-    ghost use Rattle.segments.specs.Lending.{lends_held};
+    ghost use Rattle.segments.specs.managing.Lending.{lends_held};
 
     /// No section.
     pub fn new(alloc: Global) -> Held<B>

@@ -116,7 +116,7 @@ pub struct Manager<F: BufferFactory> {
 }
 
 impl<F: BufferFactory> Manager<F> {
-    ghost use Rattle.segments.specs.Managed.{shown};
+    ghost use Rattle.segments.specs.managing.Managed.{shown};
 
     /// Refuses a section that was pruned. It takes no memory.
     pub fn prune_guard(&self, section: u64) -> Result<(), Error>

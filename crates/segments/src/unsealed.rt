@@ -1,7 +1,7 @@
 // Sections in buffers without seals.
 ghost use Rattle.std.specs.Prelude.{⊤};
-ghost use Rattle.segments.specs.Unsealed.{setting_of, key_of, extent_of, content_of, count_of, settled_of, is_unsettled, Stands, IsWhole, MayKeep};
-ghost use Rattle.segments.specs.UnsealedLaws.{passes, looser, counted, settled_within, all_settled, rested, found_again};
+ghost use Rattle.segments.specs.unsealed.Buffer.{setting_of, key_of, extent_of, content_of, count_of, settled_of, is_unsettled, Stands, IsWhole, MayKeep};
+ghost use Rattle.segments.specs.unsealed.Laws.{passes, looser, counted, settled_within, all_settled, rested, found_again};
 
 use crate::{BufferFactory, SectionBuffer};
 use blob_device::{Device, Handle, RError};

@@ -4,7 +4,7 @@ use Rattle.blob_device.specs.Timeline.{disk}
 use Rattle.blob_device.specs.declared.memory.Memory.{Memory}
 use Rattle.segments.specs.FixedLists.{IsJournal}
 use Rattle.segments.specs.FixedShown as journal
-use Rattle.segments.specs.Managed as managed
+use Rattle.segments.specs.managing.Managed as managed
 use Rattle.segments.specs.Sections.{IsOver}
 use Rattle.segments.specs.contracts.sealed.PageBlobSectionBuffer.TheImpl as page_blob
 use Rattle.segments.specs.contracts.unsealed.WriteBlobSectionBuffer.TheImpl as write_blob

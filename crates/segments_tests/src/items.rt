@@ -15,6 +15,7 @@ use value_codec::{Codec, CodecFixed, codec};
 /// A number below 100, in eight bytes.
 #[derive(Drop)]
 pub struct Low {
+    /// Below 100: its codec refuses others.
     pub number: u64,
 }
 

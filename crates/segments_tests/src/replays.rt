@@ -34,8 +34,11 @@ type Walk = Replay<Low, Sha256Seal>;
 /// What a replay gave, how many errors that were, and whether it came to its end.
 #[derive(Drop)]
 struct Given {
+    // What it answered, in order.
     row: Vec<Part>,
+    // How many of these were errors.
     errors: u64,
+    // Whether it answered that there is no more.
     has_ended: bool,
 }
 

@@ -12,7 +12,7 @@ use super::WriteBlob;
 use blob_device::{DevError, Device, RError};
 
 impl WriteBlob {
-    ghost use Rattle.sealed_pages.specs.Writing.{shown, blob_key, bytes_of, size_of, run_of, is_idle, is_unsettled, Over, KeepsSettled};
+    ghost use Rattle.sealed_pages.specs.unsealed.Writing.{shown, blob_key, bytes_of, size_of, run_of, is_idle, is_unsettled, Over, KeepsSettled};
 
     // Takes away what the run has from this length on.
     fn cut_run(self, len: u64) -> WriteBlob

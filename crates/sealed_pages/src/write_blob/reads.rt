@@ -13,7 +13,7 @@ use super::run::overlay;
 use blob_device::{DevError, Device, RError};
 
 impl WriteBlob {
-    ghost use Rattle.sealed_pages.specs.Writing.{shown, blob_key, bytes_of, size_of, AllPending};
+    ghost use Rattle.sealed_pages.specs.unsealed.Writing.{shown, blob_key, bytes_of, size_of, AllPending};
 
     // Whether a range is in the run as a whole.
     fn holds(&self, offset: u64, n: usize) -> bool

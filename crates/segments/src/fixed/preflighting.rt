@@ -22,7 +22,7 @@ ghost use Rattle.sealed_pages.specs.View.{view};
 ghost use Rattle.segments.specs.Sections.{section_key, IsHeld, IsOver};
 ghost use Rattle.segments.specs.Lasting.{IsSettling};
 ghost use Rattle.segments.specs.Entries.{OnlyOwnEntry};
-ghost use Rattle.segments.specs.Managed as managed;
+ghost use Rattle.segments.specs.managing.Managed as managed;
 ghost use Rattle.segments.specs.FixedLists.{floor_in, section_size};
 ghost use Rattle.segments.specs.Refusing.{HasFailed, HasNoRoom, IsForeign, IsOpenedTooLong};
 

@@ -18,7 +18,7 @@ use blob_device::Device;
 use std::collections::BTreeMap;
 
 impl<F: BufferFactory> Manager<F> {
-    ghost use Rattle.segments.specs.Managed.{shown};
+    ghost use Rattle.segments.specs.managing.Managed.{shown};
 
     // Whether the section is held, and longer than this.
     fn is_longer(&self, section: u64, size: u64) -> bool

@@ -56,8 +56,8 @@ fn section_numbers(alloc: Global, names: &Names) -> Result<Vec<u64>, Error>
 }
 
 impl<F: BufferFactory> Manager<F> {
-    ghost use Rattle.segments.specs.Managed.{shown};
-    ghost use Rattle.segments.specs.Lending.{IsPut, IsRefused, lends_made};
+    ghost use Rattle.segments.specs.managing.Managed.{shown};
+    ghost use Rattle.segments.specs.managing.Lending.{IsPut, IsRefused, lends_made};
 
     // A manager that knows these sections and has opened none.
     fn found(

@@ -23,7 +23,7 @@ pub(super) enum Doomed {
 }
 
 impl<F: BufferFactory> Manager<F> {
-    ghost use Rattle.segments.specs.Managed.{shown, known_count};
+    ghost use Rattle.segments.specs.managing.Managed.{shown, known_count};
     ghost use Rattle.segments.specs.Doomed.{IsDoomed, GoesBefore};
 
     // The least section that is known.

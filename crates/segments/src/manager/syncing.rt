@@ -16,7 +16,7 @@ use crate::{BufferFactory, SectionBuffer};
 use blob_device::{Device, Handle};
 
 impl<F: BufferFactory> Manager<F> {
-    ghost use Rattle.segments.specs.Managed.{shown};
+    ghost use Rattle.segments.specs.managing.Managed.{shown};
 
     // Refuses the first section that was pruned.
     fn check_all(&self, sections: &[u64]) -> Result<(), Error>

@@ -1,5 +1,5 @@
 use Rattle.std.proofs.Common.{◌≤◌, not, ap, length, arith}
-use Rattle.sealed_pages.proofs.CutCalls.{short_one, short_two, settled_after, not_other}
+use Rattle.sealed_pages.proofs.cutting.Calls.{short_one, short_two, settled_after, not_other}
 use Rattle.sealed_pages.proofs.EntryLemmas.{open_some, open_same, open_written, no_reads_part, no_reads_updated, no_reads_same, no_reads_then, no_reads_open}
 use Rattle.sealed_pages.proofs.PageCalls.{passes_as, alone_start, alone_on}
 use Rattle.sealed_pages.proofs.Steps.{slot_high, slot_low}

@@ -2,7 +2,7 @@ use Rattle.std.proofs.Common.{◌+◌, ◌*◌, ◌≤◌, ap, length, arith}
 use Rattle.blob_device.specs.Disk.{Blob}
 use Rattle.blob_device.specs.Timeline.{disk}
 use Rattle.sealed_pages.specs.SealedPrefix.{sealed_prefix}
-use Rattle.sealed_pages.proofs.CutSteps.{settled_rest, last1, own1, covered1, page_is1, prefix1, inside1, last2, own2, prefix2, inside2, first_any, later_any, both_any}
+use Rattle.sealed_pages.proofs.cutting.Steps.{settled_rest, last1, own1, covered1, page_is1, prefix1, inside1, last2, own2, prefix2, inside2, first_any, later_any, both_any}
 use Rattle.sealed_pages.proofs.PageCalls.{alone_then}
 use Rattle.sealed_pages.proofs.SlotLemmas.{page_next}
 use Rattle.sealed_pages.proofs.Fronts.{front_page, front_then}

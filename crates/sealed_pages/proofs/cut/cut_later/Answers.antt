@@ -1,6 +1,6 @@
 use Rattle.std.proofs.Common.{arith}
 use Rattle.blob_device.specs.Timeline.{disk}
-use Rattle.sealed_pages.proofs.CutCalls.{rest_sealing}
+use Rattle.sealed_pages.proofs.cutting.Calls.{rest_sealing}
 use Rattle.sealed_pages.proofs.Looking.{content_length}
 use Rattle.sealed_pages.proofs.cut.cut_later.Goals as goal
 

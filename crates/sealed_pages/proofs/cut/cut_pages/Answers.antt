@@ -1,7 +1,7 @@
 use Rattle.std.proofs.Common.{subst, ℕ, arith}
 use Rattle.sealed_pages.specs.Entries.{IsOpenAt}
-use Rattle.sealed_pages.proofs.CutCalls.{cut_one, cut_two, settled_after}
-use Rattle.sealed_pages.proofs.CutEntries.{resized_open}
+use Rattle.sealed_pages.proofs.cutting.Calls.{cut_one, cut_two, settled_after}
+use Rattle.sealed_pages.proofs.cutting.Entries.{resized_open}
 use Rattle.sealed_pages.proofs.EntryLemmas.{no_reads_resize, no_reads_updated, no_reads_same, no_reads_then, no_reads_open, open_same}
 use Rattle.sealed_pages.proofs.Keeping.{resize_as}
 use Rattle.sealed_pages.proofs.PageCalls.{alone_start, alone_on}

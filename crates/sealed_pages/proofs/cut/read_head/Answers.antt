@@ -3,7 +3,7 @@ use Rattle.blob_device.specs.Timeline.{disk}
 use Rattle.sealed_pages.specs.Slots.{slot_length}
 use Rattle.sealed_pages.specs.View.{page_at}
 use Rattle.sealed_pages.proofs.Cuts.{take_front, covered_inside}
-use Rattle.sealed_pages.proofs.CutEntries.{few_once, read_open}
+use Rattle.sealed_pages.proofs.cutting.Entries.{few_once, read_open}
 use Rattle.sealed_pages.proofs.EntryLemmas.{open_some}
 use Rattle.sealed_pages.proofs.Looking.{unchanged_on, content_length, page_length_is, part_slot, take_short, slot_short}
 use Rattle.sealed_pages.proofs.Steps.{slot_low}

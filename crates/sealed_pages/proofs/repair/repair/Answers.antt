@@ -3,7 +3,7 @@ use Rattle.blob_device.specs.Disk.{Key, Blob}
 use Rattle.blob_device.specs.Timeline.{disk}
 use Rattle.blob_device.specs.Change.{Settle, written, resized}
 use Rattle.blob_device.proofs.Moments.{ok_blob}
-use Rattle.sealed_pages.proofs.CutSteps.{settled_rest}
+use Rattle.sealed_pages.proofs.cutting.Steps.{settled_rest}
 use Rattle.sealed_pages.proofs.PageCalls.{no_ok, only_then, alone_on, alone_then}
 use Rattle.sealed_pages.proofs.SlotLemmas.{index_page}
 use Rattle.sealed_pages.proofs.Adopting.{adopted_kept, torn_inside, torn_other, head_is, all_clean, pages_reach, pages_some, last_page, pages_place}

@@ -4,13 +4,13 @@ use Rattle.blob_device.specs.Disk.{Key}
 use Rattle.blob_device.specs.Timeline.{disk}
 use Rattle.blob_device.proofs.Moments.{always_now}
 use Rattle.sealed_pages.specs.Entries.{IsOpenAt}
-use Rattle.sealed_pages.specs.Writing.{WriteBuffer, blob_key, Over}
-use Rattle.sealed_pages.specs.Writing as writing
+use Rattle.sealed_pages.specs.unsealed.Writing.{WriteBuffer, blob_key, Over}
+use Rattle.sealed_pages.specs.unsealed.Writing as writing
 use Rattle.sealed_pages.proofs.Looking.{content_length}
 use Rattle.segments.specs.Entries.{OnlyOwnEntry}
-use Rattle.segments.specs.Managed.{shown}
+use Rattle.segments.specs.managing.Managed.{shown}
 use Rattle.segments.specs.Sections.{key_of}
-use Rattle.segments.proofs.OverLemmas.{same_key, over_put}
+use Rattle.segments.proofs.sections.OverLemmas.{same_key, over_put}
 use Rattle.segments_tests.proofs.managers.extended.Goals as goal
 
 pub returns-clause-over : goal.returns-clause-over

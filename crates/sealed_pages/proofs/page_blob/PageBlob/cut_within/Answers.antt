@@ -10,7 +10,7 @@ use Rattle.sealed_pages.specs.SealedPrefix.{sealed_prefix, adopted_size}
 use Rattle.sealed_pages.specs.Shown.{shown}
 use Rattle.sealed_pages.specs.Slots.{page_length, best_slot}
 use Rattle.sealed_pages.specs.View.{page_at, view}
-use Rattle.sealed_pages.proofs.CutEntries.{few_then}
+use Rattle.sealed_pages.proofs.cutting.Entries.{few_then}
 use Rattle.sealed_pages.proofs.Holding.{fit_room}
 use Rattle.sealed_pages.proofs.Looking.{unchanged_now}
 use Rattle.sealed_pages.proofs.SlotLemmas.{index_page, times_next}

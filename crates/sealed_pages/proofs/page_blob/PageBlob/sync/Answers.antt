@@ -13,7 +13,7 @@ use Rattle.sealed_pages.proofs.Syncing.{holds_settle, holds_synced, needs, flush
 use Rattle.sealed_pages.proofs.PageCalls.{only_then, alone_on, alone_start}
 use Rattle.blob_device.specs.Change.{Settle}
 use Rattle.blob_device.proofs.Moments.{ok_blob}
-use Rattle.sealed_pages.proofs.CutSteps.{settled_rest}
+use Rattle.sealed_pages.proofs.cutting.Steps.{settled_rest}
 use Rattle.sealed_pages.proofs.Truncating.{all_flushed, settles_of, leaves_of, no_need, no_value, raised_cause, rose_since}
 use Rattle.sealed_pages.proofs.UnrecoveredLemmas.{stood_keeps, keeps_then, settled_keeps, settled_stays}
 use Rattle.sealed_pages.specs.Unrecovered.{KeepsPrefix}

@@ -13,8 +13,8 @@ use Rattle.sealed_pages.specs.Held.{AreHeldOf}
 use Rattle.sealed_pages.specs.Shown.{shown}
 use Rattle.sealed_pages.specs.Slots.{page_length}
 use Rattle.sealed_pages.specs.Reading.{Unchanged}
-use Rattle.sealed_pages.proofs.CutCalls.{sealing_less}
-use Rattle.sealed_pages.proofs.CutEntries.{few_none, few_then, then_few}
+use Rattle.sealed_pages.proofs.cutting.Calls.{sealing_less}
+use Rattle.sealed_pages.proofs.cutting.Entries.{few_none, few_then, then_few}
 use Rattle.sealed_pages.proofs.Holding.{holds_start, bytes_length}
 use Rattle.sealed_pages.proofs.PageCalls.{alone_start}
 use Rattle.sealed_pages.proofs.Truncating.{no_value, as_of, cut_place, both_ok, page_named, not_named, rose_since}

@@ -2,7 +2,7 @@ use Rattle.std.proofs.Common.{◌≡◌, ◌∙◌, ◌∷◌, [], ℕ, List, mi
 use Rattle.blob_device.specs.Timeline.{disk}
 use Rattle.sealed_pages.specs.Contents.{AddsOnly}
 use Rattle.sealed_pages.specs.Sparing.{Keeping}
-use Rattle.sealed_pages.specs.Writing.{shown, blob_key, bytes_of}
+use Rattle.sealed_pages.specs.unsealed.Writing.{shown, blob_key, bytes_of}
 use Rattle.sealed_pages.proofs.Looking.{content_length}
 use Rattle.sealed_pages.proofs.Tails.{append_leaves}
 use Rattle.sealed_pages.proofs.WritingLemmas.{written_last, idle_parts}

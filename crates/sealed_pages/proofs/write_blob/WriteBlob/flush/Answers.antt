@@ -1,7 +1,7 @@
 use Rattle.std.proofs.Common.{◌∷◌, [], ℕ, List, get_or, ap, arith}
 use Rattle.blob_device.specs.Disk.{Outside}
 use Rattle.blob_device.specs.Timeline.{disk}
-use Rattle.sealed_pages.specs.Writing.{WriteBuffer, shown, blob_key, run_of}
+use Rattle.sealed_pages.specs.unsealed.Writing.{WriteBuffer, shown, blob_key, run_of}
 use Rattle.sealed_pages.proofs.LastingLemmas.{keeping_of, keeping_now, kept_after, outside_none}
 use Rattle.sealed_pages.proofs.write_blob.WriteBlob.flush.Goals as goal
 

@@ -1,7 +1,7 @@
 use Rattle.std.proofs.Common.{◌+◌, ◌∙◌, length, ℕ, List, [], ◌∷◌, ap, sym, refl, max}
 use Rattle.blob_device.specs.Disk.{Key, Outside}
 use Rattle.blob_device.specs.Timeline.{disk}
-use Rattle.sealed_pages.specs.Writing.{shown, blob_key, bytes_of, run_of}
+use Rattle.sealed_pages.specs.unsealed.Writing.{shown, blob_key, bytes_of, run_of}
 use Rattle.sealed_pages.proofs.SparingLemmas.{sparing_write, sparing_now}
 use Rattle.sealed_pages.proofs.WritingLemmas.{passes_write, written_content, flushed_bytes, over_after, part_at, grown_at, grown_open}
 use Rattle.sealed_pages.proofs.ContentLemmas.{adds_start, adds_write}

@@ -4,7 +4,7 @@ use Rattle.blob_device.specs.Change.{written}
 use Rattle.blob_device.specs.Timeline.{disk}
 use Rattle.blob_device.proofs.Bytes.{length-written}
 use Rattle.sealed_pages.specs.Entries.{IsOpenAt}
-use Rattle.sealed_pages.specs.Writing.{WriteBuffer, shown, blob_key, bytes_of}
+use Rattle.sealed_pages.specs.unsealed.Writing.{WriteBuffer, shown, blob_key, bytes_of}
 use Rattle.sealed_pages.proofs.Looking.{content_length}
 use Rattle.sealed_pages.proofs.WriteLemmas.{written_nothing}
 use Rattle.sealed_pages.proofs.WritingLemmas.{idle_bytes}

@@ -3,7 +3,7 @@ use Rattle.blob_device.specs.Change.{written}
 use Rattle.blob_device.specs.Timeline.{disk}
 use Rattle.blob_device.proofs.Bytes.{length-written}
 use Rattle.sealed_pages.specs.Filled.{HasBytes}
-use Rattle.sealed_pages.specs.Writing.{shown, blob_key, bytes_of}
+use Rattle.sealed_pages.specs.unsealed.Writing.{shown, blob_key, bytes_of}
 use Rattle.sealed_pages.proofs.Looking.{content_length}
 use Rattle.sealed_pages.proofs.WriteLemmas.{filled_is}
 use Rattle.sealed_pages.proofs.write_blob.WriteBlob.read_at.Goals as goal

@@ -3,7 +3,7 @@ use borrow.Rule.Slice.PartMut.{put_mid}
 use Rattle.blob_device.specs.Disk.{Key}
 use Rattle.blob_device.specs.Timeline.{disk}
 use Rattle.sealed_pages.specs.Filled.{HasBytes}
-use Rattle.sealed_pages.specs.Writing.{shown, blob_key}
+use Rattle.sealed_pages.specs.unsealed.Writing.{shown, blob_key}
 use Rattle.sealed_pages.proofs.Looking.{content_length, unchanged_on}
 use Rattle.sealed_pages.proofs.RunLemmas.{filled, on_ok}
 use Rattle.sealed_pages.proofs.WritingLemmas.{read_once}

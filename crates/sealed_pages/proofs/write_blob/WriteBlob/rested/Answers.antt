@@ -1,6 +1,6 @@
 use Rattle.std.proofs.Common.{ℕ}
 use Rattle.blob_device.specs.Change.{Settle}
-use Rattle.sealed_pages.specs.Writing.{shown, blob_key}
+use Rattle.sealed_pages.specs.unsealed.Writing.{shown, blob_key}
 use Rattle.blob_device.proofs.Moments.{ok_blob}
 use Rattle.sealed_pages.proofs.SparingLemmas.{sparing_settle, passes_at}
 use Rattle.sealed_pages.proofs.ContentLemmas.{adds_settle}

@@ -4,7 +4,7 @@ use Rattle.blob_device.specs.Change.{Resize}
 use Rattle.blob_device.specs.Timeline.{disk}
 use Rattle.blob_device.proofs.Moments.{ok_blob}
 use Rattle.sealed_pages.specs.Contents.{AddsOnly}
-use Rattle.sealed_pages.specs.Writing.{shown, blob_key}
+use Rattle.sealed_pages.specs.unsealed.Writing.{shown, blob_key}
 use Rattle.sealed_pages.proofs.Looking.{content_length}
 use Rattle.sealed_pages.proofs.SparingLemmas.{loose_start, loose_resize, sparing_resize, passes_at}
 use Rattle.sealed_pages.proofs.WriteLemmas.{resized_within}

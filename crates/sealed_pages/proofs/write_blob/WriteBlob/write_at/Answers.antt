@@ -2,7 +2,7 @@ use Rattle.std.proofs.Common.{rules, ◌≡◌, ◌⊎◌, true, ◌∷◌, [], 
 use Rattle.blob_device.specs.Disk.{Key, Outside}
 use Rattle.blob_device.specs.Change.{written}
 use Rattle.blob_device.specs.Timeline.{disk}
-use Rattle.sealed_pages.specs.Writing.{WriteBuffer, shown, blob_key, bytes_of, run_of, is_idle, Joins}
+use Rattle.sealed_pages.specs.unsealed.Writing.{WriteBuffer, shown, blob_key, bytes_of, run_of, is_idle, Joins}
 use Rattle.blob_device.specs.Keeps.{Keeps}
 use Rattle.blob_device.proofs.Places.{written_out}
 use Rattle.sealed_pages.proofs.LastingLemmas.{keeping_of, keeping_now, kept_after, apart_after, put_holds}

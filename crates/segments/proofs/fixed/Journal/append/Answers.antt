@@ -24,7 +24,7 @@ use Rattle.segments.specs.FixedLasting.{IsBeginning}
 use Rattle.segments.specs.FixedLists.{section_bytes, section_size}
 use Rattle.segments.specs.FixedShown.{shown}
 use Rattle.segments.specs.Lasting.{IsOpening}
-use Rattle.segments.specs.Managed as managed
+use Rattle.segments.specs.managing.Managed as managed
 use Rattle.segments.specs.Sections.{section_key, key_of}
 use Rattle.segments.proofs.WalkLemmas.{none_or_value}
 use Rattle.segments.proofs.FixedWriteLemmas.{are_pages, size_here, bytes_here}

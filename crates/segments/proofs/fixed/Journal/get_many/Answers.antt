@@ -10,7 +10,7 @@ use Rattle.segments.specs.declared.journal.Error.TheVariants.{ItemOutOfRange}
 use Rattle.segments.specs.FixedItems.{item_at}
 use Rattle.segments.specs.FixedReading.{HasItem, IsDamaged, IsItemCovered}
 use Rattle.segments.specs.FixedShown as lists
-use Rattle.segments.specs.Managed.{shown}
+use Rattle.segments.specs.managing.Managed.{shown}
 use Rattle.segments.specs.Sections.{key_of}
 use Rattle.segments.proofs.FixedErrors.{of_error}
 use Rattle.segments.proofs.FixedSections.{some_here, from_here, bytes_own, own_here, holds_own, journal_read, reads_as, sound_page}

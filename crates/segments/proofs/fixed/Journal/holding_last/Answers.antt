@@ -6,7 +6,7 @@ use Rattle.sealed_pages.specs.Held.{AreHeldOf}
 use Rattle.sealed_pages.specs.Reading.{Unchanged}
 use Rattle.sealed_pages.specs.Shown.{shown}
 use Rattle.sealed_pages.proofs.Looking.{unchanged_now}
-use Rattle.segments.specs.Managed as manager
+use Rattle.segments.specs.managing.Managed as manager
 use Rattle.segments.specs.Sealed.{Stands, StandsHolding}
 use Rattle.segments.specs.Sections as sections
 use Rattle.sealed_pages.specs.declared.page_blob.PageBlob.{PageBlob}

@@ -13,7 +13,7 @@ use Rattle.segments.specs.declared.manager.Manager.{Manager}
 use Rattle.segments.specs.declared.sealed.AppendFactory.{AppendFactory}
 use Rattle.segments.specs.declared.unopened.Unopened.TheVariants.{Section}
 use Rattle.segments.specs.FixedLists.{floor_in, section_size}
-use Rattle.segments.specs.Managed.{shown}
+use Rattle.segments.specs.managing.Managed.{shown}
 use Rattle.segments.specs.Refusing.{IsOpenedTooLong}
 use Rattle.segments.specs.Sections.{section_key, IsHeld}
 use Rattle.segments.proofs.FixedWriteLemmas.{are_pages}

@@ -20,7 +20,7 @@ use Rattle.segments.specs.Entries.{OnlyOwnEntry}
 use Rattle.segments.specs.FixedFloors.{Floors, shown, journal_of}
 use Rattle.segments.specs.FixedLists.{Lists}
 use Rattle.segments.specs.Sections.{Sections, section_key, IsHeld}
-use Rattle.segments.proofs.CutLemmas.{numbers_of, numbers_push, numbers_shown, same_number}
+use Rattle.segments.proofs.sections.CutLemmas.{numbers_of, numbers_push, numbers_shown, same_number}
 use Rattle.segments.proofs.TurnLemmas.{had_turn}
 use Rattle.segments.proofs.WalkLemmas.{none_or_value}
 use Rattle.segments.proofs.FixedErrors.{of_error}

@@ -4,7 +4,7 @@ use Rattle.std.specs.Ordering.{nat_cmp}
 use Rattle.segments.specs.contracts.sealed.PageBlobSectionBuffer.TheImpl.{ghosts}
 use Rattle.segments.specs.declared.sealed.AppendFactory.{AppendFactory}
 use Rattle.segments.specs.FixedFloors.{shown, journal_of}
-use Rattle.segments.proofs.CutLemmas.{numbers_of}
+use Rattle.segments.proofs.sections.CutLemmas.{numbers_of}
 use Rattle.segments.proofs.FixedFloorLemmas.{Checked, Settled, AreOpened}
 use Rattle.segments.proofs.fixed.Journal.preflight_floors.Given as goal
 

@@ -1,5 +1,5 @@
 use Rattle.std.proofs.Common.{sym, ◌∙◌}
-use Rattle.segments.proofs.HeldLemmas.{held_iff}
+use Rattle.segments.proofs.sections.HeldLemmas.{held_iff}
 use Rattle.segments.proofs.held.Held.contains.Goals as goal
 
 pub returns : goal.returns

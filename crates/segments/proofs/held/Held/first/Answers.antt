@@ -1,7 +1,7 @@
 use Rattle.std.specs.Prelude.{◌≤◌}
 use Rattle.std.specs.Ordering.{is_gt, nat_cmp}
 use Rattle.std.proofs.lemmas.Map.Keys.{le_from_not_gt}
-use Rattle.segments.proofs.HeldLemmas.{end_none, end_held, end_bounds}
+use Rattle.segments.proofs.sections.HeldLemmas.{end_none, end_held, end_bounds}
 use Rattle.segments.proofs.held.Held.first.Goals as goal
 
 pub returns-clause-none : goal.returns-clause-none

@@ -5,7 +5,7 @@ use Rattle.std.specs.List.Sorted.{IsStrictlySortedBy}
 use Rattle.std.specs.Ordering.{nat_cmp}
 use Rattle.std.specs.declared.ops.Bound.TheVariants.{Included, Unbounded}
 use Rattle.std.proofs.lemmas.List.Kept.{IsStrictlySortedBy-filter}
-use Rattle.segments.proofs.HeldLemmas.{from_each}
+use Rattle.segments.proofs.sections.HeldLemmas.{from_each}
 use Rattle.segments.proofs.held.Held.from.Goals as goal
 
 pub returns-clause-ascending : goal.returns-clause-ascending

@@ -1,5 +1,5 @@
 use Rattle.std.proofs.Common.{sym, ◌∙◌}
-use Rattle.segments.proofs.HeldLemmas.{both_put, taken_again}
+use Rattle.segments.proofs.sections.HeldLemmas.{both_put, taken_again}
 use Rattle.segments.proofs.held.Held.insert.Goals as goal
 
 pub invariant_of-self-then-not-was_there : goal.invariant_of-self-then-not-was_there

@@ -1,4 +1,4 @@
-use Rattle.segments.proofs.HeldLemmas.{none_held, no_number}
+use Rattle.segments.proofs.sections.HeldLemmas.{none_held, no_number}
 use Rattle.segments.proofs.held.Held.is_empty.Goals as goal
 
 pub returns : goal.returns

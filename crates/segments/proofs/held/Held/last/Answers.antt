@@ -1,7 +1,7 @@
 use Rattle.std.specs.Prelude.{◌≤◌}
 use Rattle.std.specs.Ordering.{is_lt, nat_cmp}
 use Rattle.std.proofs.lemmas.Map.Keys.{ge_from_not_lt}
-use Rattle.segments.proofs.HeldLemmas.{end_none, end_held, end_bounds}
+use Rattle.segments.proofs.sections.HeldLemmas.{end_none, end_held, end_bounds}
 use Rattle.segments.proofs.held.Held.last.Goals as goal
 
 pub returns-clause-none : goal.returns-clause-none

@@ -3,7 +3,7 @@ use Rattle.std.specs.BTreeMap.{is_at}
 use Rattle.std.specs.Map.{keys_of}
 use Rattle.std.specs.Ordering.{nat_cmp}
 use Rattle.std.specs.Set.{remove_key}
-use Rattle.segments.proofs.HeldLemmas.{keys-remove_entry}
+use Rattle.segments.proofs.sections.HeldLemmas.{keys-remove_entry}
 use Rattle.segments.proofs.held.Held.remove.Goals as goal
 
 pub invariant_of-self : goal.invariant_of-self

@@ -1,6 +1,6 @@
 use Rattle.std.proofs.Common.{ℕ, ◌≤◌, take}
 use Rattle.std.specs.List.{Contains}
-use Rattle.segments.specs.Managed.{shown}
+use Rattle.segments.specs.managing.Managed.{shown}
 use Rattle.segments.proofs.manager.Manager.check_all.Given as goal
 
 abbrev pub invariant-loop-section : goal.invariant-loop-section

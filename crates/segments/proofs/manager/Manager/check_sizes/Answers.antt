@@ -5,7 +5,7 @@ use Rattle.std.specs.Ordering.{nat_cmp}
 use Rattle.std.proofs.lemmas.Cmp.{nat_cmp_total, eq_by_cmp_equiv}
 use Rattle.std.proofs.lemmas.Map.Views.{Contains-keys_from_lookup, IsSome-lookup_from_Contains}
 use Rattle.blob_device.proofs.Results.{err_of}
-use Rattle.segments.proofs.CutLemmas.{not_below, same_number}
+use Rattle.segments.proofs.sections.CutLemmas.{not_below, same_number}
 use Rattle.segments.proofs.WalkLemmas.{first_or_later, first_in, later_in}
 use Rattle.segments.proofs.manager.Manager.check_sizes.Goals as goal
 

@@ -4,10 +4,10 @@ use Rattle.blob_device.specs.Disk.{Key}
 use Rattle.blob_device.specs.Timeline.{disk}
 use Rattle.segments.specs.declared.manager.removing.Doomed.TheVariants.{Through}
 use Rattle.segments.specs.Doomed.{IsDoomed}
-use Rattle.segments.specs.Managed.{shown}
+use Rattle.segments.specs.managing.Managed.{shown}
 use Rattle.segments.specs.Sections.{IsKnown}
-use Rattle.segments.proofs.OverLemmas.{same_key}
-use Rattle.segments.proofs.RemoveLemmas.{moments_as, entries_as, gone_unknown, none_known, over_bounds}
+use Rattle.segments.proofs.sections.OverLemmas.{same_key}
+use Rattle.segments.proofs.sections.RemoveLemmas.{moments_as, entries_as, gone_unknown, none_known, over_bounds}
 use Rattle.segments.proofs.manager.Manager.clear.Goals as goal
 
 pub returns-in_err-this-clause-moments : goal.returns-in_err-this-clause-moments

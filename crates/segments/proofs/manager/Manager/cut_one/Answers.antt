@@ -8,10 +8,10 @@ use Rattle.blob_device.proofs.Results.{err_of}
 use Rattle.segments.specs.declared.journal.Error.TheVariants.{Runtime}
 use Rattle.segments.specs.Raised.{raised}
 use Rattle.segments.specs.Leaving.{Leaves}
-use Rattle.segments.specs.Managed.{shown}
+use Rattle.segments.specs.managing.Managed.{shown}
 use Rattle.segments.specs.Sections.{key_of, IsCut}
-use Rattle.segments.proofs.SyncLemmas.{BufferLaws, key_is, open_before, stands_before, moments_of, over_replaced, same_moments}
-use Rattle.segments.proofs.CutLemmas.{cut_same, cut_new, leaves_few, not_below, raised_cause, raised_page}
+use Rattle.segments.proofs.sections.SyncLemmas.{BufferLaws, key_is, open_before, stands_before, moments_of, over_replaced, same_moments}
+use Rattle.segments.proofs.sections.CutLemmas.{cut_same, cut_new, leaves_few, not_below, raised_cause, raised_page}
 use Rattle.segments.proofs.WalkLemmas.{some_same, has_value}
 use Rattle.segments.proofs.manager.Manager.cut_one.Goals as goal
 

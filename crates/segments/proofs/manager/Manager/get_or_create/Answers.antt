@@ -4,9 +4,9 @@ use Rattle.std.proofs.Common.{refl, sym, ◌∙◌, ap, subst}
 use Rattle.blob_device.specs.Disk.{Key}
 use Rattle.blob_device.specs.Timeline.{disk}
 use Rattle.sealed_pages.specs.Entries.{IsOpenAt}
-use Rattle.segments.specs.Managed.{shown}
-use Rattle.segments.proofs.OverLemmas.{same_key}
-use Rattle.segments.proofs.OpenLemmas.{on_some}
+use Rattle.segments.specs.managing.Managed.{shown}
+use Rattle.segments.proofs.sections.OverLemmas.{same_key}
+use Rattle.segments.proofs.sections.OpenLemmas.{on_some}
 use Rattle.segments.proofs.manager.Manager.get_or_create.Goals as goal
 
 pub returns : goal.returns

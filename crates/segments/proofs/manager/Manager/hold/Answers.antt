@@ -1,7 +1,7 @@
 use Rattle.std.proofs.Common.{◌∙◌}
 use Rattle.blob_device.specs.Timeline.{disk}
-use Rattle.segments.specs.Managed.{shown}
-use Rattle.segments.proofs.OpenLemmas.{not_held, not_pruned, all_same, same_over, unopened_over}
+use Rattle.segments.specs.managing.Managed.{shown}
+use Rattle.segments.proofs.sections.OpenLemmas.{not_held, not_pruned, all_same, same_over, unopened_over}
 use Rattle.segments.proofs.manager.Manager.hold.Goals as goal
 
 pub returns-in_err-expect-clause-over : goal.returns-in_err-expect-clause-over

@@ -1,4 +1,4 @@
-use Rattle.segments.specs.Managed.{shown}
+use Rattle.segments.specs.managing.Managed.{shown}
 use Rattle.segments.proofs.InitLemmas.{none_unopened}
 use Rattle.segments.proofs.manager.Manager.init.Goals as goal
 

@@ -9,7 +9,7 @@ use Rattle.blob_device.specs.Timeline.{disk, Always, Each}
 use Rattle.sealed_pages.proofs.Looking.{unchanged_on, unchanged_now}
 use Rattle.segments.specs.declared.unopened.Unopened.TheVariants.{Section, Leftover}
 use Rattle.segments.specs.Lasting.{IsSettling}
-use Rattle.segments.specs.Managed.{shown}
+use Rattle.segments.specs.managing.Managed.{shown}
 use Rattle.segments.specs.Sections.{section_key, key_of, IsHeld}
 use Rattle.segments.proofs.InitLemmas.{Opened, settling_unchanged, settling_after, found_as, found_over, opened_as, listed_there, there_listed, none_foreign, held_exactly, unopened_exactly, unopened_above, none_leftover, bytes_as}
 use Rattle.segments.proofs.manager.Manager.init_bounded.Goals as goal

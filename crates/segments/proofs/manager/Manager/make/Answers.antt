@@ -1,6 +1,6 @@
 use Rattle.std.proofs.Common.{◌∙◌, rules}
-use Rattle.segments.specs.Managed.{shown}
-use Rattle.segments.proofs.OpenLemmas.{all_same, same_over, unopened_over}
+use Rattle.segments.specs.managing.Managed.{shown}
+use Rattle.segments.proofs.sections.OpenLemmas.{all_same, same_over, unopened_over}
 use Rattle.segments.proofs.manager.Manager.make.Goals as goal
 
 pub returns-in_err-expect-clause-over : goal.returns-in_err-expect-clause-over

@@ -1,6 +1,6 @@
 use Rattle.std.proofs.Common.{ℕ, ◌++◌, ◌↔◌}
 use Rattle.std.specs.List.{Contains}
-use Rattle.segments.specs.Managed.{shown}
+use Rattle.segments.specs.managing.Managed.{shown}
 use Rattle.segments.specs.Sections.{IsHeld}
 use Rattle.segments.proofs.manager.Manager.numbers.Given as goal
 

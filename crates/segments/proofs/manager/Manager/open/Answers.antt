@@ -1,7 +1,7 @@
 use Rattle.std.specs.Prelude.{◌≡◌}
 use Rattle.std.proofs.Common.{◌∙◌}
 use Rattle.blob_device.specs.Disk.{Blob}
-use Rattle.segments.proofs.OpenLemmas.{opening_moments, opened_moments, opened_made, opened_has, entered_at, entered_entries, entered_reads}
+use Rattle.segments.proofs.sections.OpenLemmas.{opening_moments, opened_moments, opened_made, opened_has, entered_at, entered_entries, entered_reads}
 use Rattle.segments.proofs.manager.Manager.open.Goals as goal
 
 pub returns-in_err-size-clause-moments : goal.returns-in_err-size-clause-moments

@@ -3,7 +3,7 @@ use Rattle.std.proofs.lemmas.List.Elements.{Contains-get_or}
 use Rattle.std.proofs.lemmas.Result.{err_from_is_err_and}
 use Rattle.blob_device.specs.declared.runtime.RError.TheVariants.{OffsetOverflow}
 use Rattle.segments.specs.declared.journal.Error.TheVariants.{Runtime}
-use Rattle.segments.specs.Managed.{shown}
+use Rattle.segments.specs.managing.Managed.{shown}
 use Rattle.segments.specs.Sections.{IsHeld}
 use Rattle.segments.proofs.NumberLemmas.{of_listed}
 use Rattle.segments.proofs.InitLemmas.{touches_by, touched_none, opened_none, touched_more, opened_more, too_long_at, failed_since}

@@ -1,5 +1,5 @@
 use Rattle.std.proofs.Common.{◌≤◌}
-use Rattle.segments.specs.Managed.{shown}
+use Rattle.segments.specs.managing.Managed.{shown}
 use Rattle.segments.proofs.InitLemmas.{OpenedFirst, Touched}
 use Rattle.segments.proofs.manager.Manager.open_each.Given as goal
 

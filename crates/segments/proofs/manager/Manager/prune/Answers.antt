@@ -7,9 +7,9 @@ use Rattle.segments.specs.declared.manager.Manager.{Manager}
 use Rattle.segments.specs.declared.manager.removing.Doomed.TheVariants.{Through}
 use Rattle.segments.specs.Doomed.{IsDoomed}
 use Rattle.segments.specs.Lasting.{Removing}
-use Rattle.segments.specs.Managed.{shown}
+use Rattle.segments.specs.managing.Managed.{shown}
 use Rattle.segments.specs.Sections.{IsKnown, IsGone, IsSame, IsOver}
-use Rattle.segments.proofs.RemoveLemmas.{removing_start, moments_as, entries_as, doomed_below, below_doomed, gone_unknown, none_known, pruned_flag, over_bounds}
+use Rattle.segments.proofs.sections.RemoveLemmas.{removing_start, moments_as, entries_as, doomed_below, below_doomed, gone_unknown, none_known, pruned_flag, over_bounds}
 use Rattle.segments.proofs.manager.Manager.prune.Goals as goal
 use Rattle.segments.proofs.manager.Manager.prune.Goals.{then-removed, else-removed}
 

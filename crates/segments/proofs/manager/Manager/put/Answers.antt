@@ -1,6 +1,6 @@
 use Rattle.std.proofs.Common.{refl, rules}
-use Rattle.segments.specs.Managed.{shown}
-use Rattle.segments.proofs.OpenLemmas.{put_stands}
+use Rattle.segments.specs.managing.Managed.{shown}
+use Rattle.segments.proofs.sections.OpenLemmas.{put_stands}
 use Rattle.segments.proofs.manager.Manager.put.Goals as goal
 
 pub returns-clause-stands : goal.returns-clause-stands

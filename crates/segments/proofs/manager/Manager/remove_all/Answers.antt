@@ -3,8 +3,8 @@ use Rattle.blob_device.specs.Timeline.{disk}
 use Rattle.blob_device.proofs.Moments.{always_start, always_now}
 use Rattle.segments.specs.Doomed.{IsDoomed, GoesBefore}
 use Rattle.segments.specs.Lasting.{Removing}
-use Rattle.segments.specs.Managed.{shown}
-use Rattle.segments.proofs.RemoveLemmas.{no_some, doomed_known, none_gone, no_progress, removing_start, removing_on, next_same, one_more_entry, one_gone, flag_on, all_gone, all_flagged}
+use Rattle.segments.specs.managing.Managed.{shown}
+use Rattle.segments.proofs.sections.RemoveLemmas.{no_some, doomed_known, none_gone, no_progress, removing_start, removing_on, next_same, one_more_entry, one_gone, flag_on, all_gone, all_flagged}
 use Rattle.segments.proofs.manager.Manager.remove_all.Goals as goal
 use Rattle.segments.proofs.manager.Manager.remove_all.Goals.{then-removed, else-removed}
 

@@ -2,9 +2,9 @@ use Rattle.std.specs.Prelude.{◌≡◌, ◌↔◌, ◌≤◌, ℕ, IsTrue}
 use Rattle.blob_device.specs.Timeline.{disk, Always}
 use Rattle.segments.specs.Doomed.{IsDoomed, GoesBefore}
 use Rattle.segments.specs.Lasting.{Removing, EntriesLeave}
-use Rattle.segments.specs.Managed.{shown, known_count}
+use Rattle.segments.specs.managing.Managed.{shown, known_count}
 use Rattle.segments.specs.Sections.{IsKeyOf, IsOver}
-use Rattle.segments.proofs.RemoveLemmas.{Progress, SomeGone}
+use Rattle.segments.proofs.sections.RemoveLemmas.{Progress, SomeGone}
 use Rattle.segments.proofs.manager.Manager.remove_all.Given as goal
 
 abbrev pub invariant-loop-section : goal.invariant-loop-section

@@ -1,9 +1,9 @@
 use Rattle.std.proofs.Common.{refl, ◌∙◌, arith}
 use Rattle.std.proofs.lemmas.Grind.{common_steps}
 use Rattle.blob_device.specs.Timeline.{disk}
-use Rattle.segments.specs.Managed.{shown}
+use Rattle.segments.specs.managing.Managed.{shown}
 use Rattle.segments.specs.Sections.{key_of}
-use Rattle.segments.proofs.RemoveLemmas.{going_moments, gone_blob, other_blobs, entry_left, entry_may_leave, over_gone}
+use Rattle.segments.proofs.sections.RemoveLemmas.{going_moments, gone_blob, other_blobs, entry_left, entry_may_leave, over_gone}
 use Rattle.segments.proofs.manager.Manager.remove_known.Goals as goal
 
 pub returns-in_err-remove-clause-moments : goal.returns-in_err-remove-clause-moments

@@ -1,6 +1,6 @@
 use Rattle.std.specs.List.{Contains}
-use Rattle.segments.specs.Managed.{shown}
-use Rattle.segments.proofs.SyncLemmas.{BufferLaws, sync_tried_start, syncing_of}
+use Rattle.segments.specs.managing.Managed.{shown}
+use Rattle.segments.proofs.sections.SyncLemmas.{BufferLaws, sync_tried_start, syncing_of}
 use Rattle.segments.proofs.manager.Manager.sync.Goals as goal
 
 pub returns-in_err-check_all-clause-moments : goal.returns-in_err-check_all-clause-moments

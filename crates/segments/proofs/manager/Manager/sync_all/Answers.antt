@@ -3,9 +3,9 @@ use Rattle.std.specs.Prelude.{⊤}
 use Rattle.std.specs.List.{Contains}
 use Rattle.blob_device.specs.Timeline.{disk}
 use Rattle.sealed_pages.proofs.Truncating.{map_ok}
-use Rattle.segments.specs.Managed.{shown}
+use Rattle.segments.specs.managing.Managed.{shown}
 use Rattle.segments.specs.Sections.{key_of, IsSynced}
-use Rattle.segments.proofs.SyncLemmas.{BufferLaws, sync_tried_start, syncing_of, syncing_all}
+use Rattle.segments.proofs.sections.SyncLemmas.{BufferLaws, sync_tried_start, syncing_of, syncing_all}
 use Rattle.segments.proofs.manager.Manager.sync_all.Goals as goal
 
 pub returns-in_err-numbers-clause-moments : goal.returns-in_err-numbers-clause-moments

@@ -2,8 +2,8 @@ use Rattle.std.proofs.Common.{ℕ, List, take, get_or, subst, arith}
 use Rattle.std.specs.List.{Contains}
 use Rattle.std.proofs.lemmas.List.{take_all}
 use Rattle.std.proofs.lemmas.Bool.{both_ways}
-use Rattle.segments.specs.Managed.{shown}
-use Rattle.segments.proofs.SyncLemmas.{BufferLaws, SyncWalked, SyncTried, SyncTries, sync_tried_start, sync_walked_start, sync_tried_more, sync_walked_more, syncing_of}
+use Rattle.segments.specs.managing.Managed.{shown}
+use Rattle.segments.proofs.sections.SyncLemmas.{BufferLaws, SyncWalked, SyncTried, SyncTries, sync_tried_start, sync_walked_start, sync_tried_more, sync_walked_more, syncing_of}
 use Rattle.segments.proofs.manager.Manager.sync_each.Goals as goal
 
 pub loop-section-init : goal.loop-section-init

@@ -1,7 +1,7 @@
 use Rattle.std.proofs.Common.{take}
 use Rattle.std.specs.List.{Contains}
-use Rattle.segments.specs.Managed.{shown}
-use Rattle.segments.proofs.SyncLemmas.{SyncWalked, SyncTried}
+use Rattle.segments.specs.managing.Managed.{shown}
+use Rattle.segments.proofs.sections.SyncLemmas.{SyncWalked, SyncTried}
 use Rattle.segments.proofs.manager.Manager.sync_each.Given as goal
 
 abbrev pub invariant-loop-section : goal.invariant-loop-section

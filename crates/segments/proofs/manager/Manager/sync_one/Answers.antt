@@ -5,9 +5,9 @@ use Rattle.std.specs.Ordering.{nat_cmp}
 use Rattle.blob_device.specs.Disk.{Key}
 use Rattle.blob_device.specs.Timeline.{disk}
 use Rattle.segments.specs.Leaving.{Leaves}
-use Rattle.segments.specs.Managed.{shown}
+use Rattle.segments.specs.managing.Managed.{shown}
 use Rattle.segments.specs.Sections.{key_of, IsSynced}
-use Rattle.segments.proofs.SyncLemmas.{BufferLaws, key_is, open_before, stands_before, moments_of, over_replaced, same_moments, synced_same, synced_new}
+use Rattle.segments.proofs.sections.SyncLemmas.{BufferLaws, key_is, open_before, stands_before, moments_of, over_replaced, same_moments, synced_same, synced_new}
 use Rattle.segments.proofs.WalkLemmas.{some_same, has_value}
 use Rattle.segments.proofs.manager.Manager.sync_one.Goals as goal
 

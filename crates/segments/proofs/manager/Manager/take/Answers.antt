@@ -6,9 +6,9 @@ use Rattle.std.specs.Ordering.{nat_cmp}
 use Rattle.blob_device.specs.Timeline.{disk}
 use Rattle.blob_device.proofs.Moments.{only_start}
 use Rattle.segments.specs.Lasting.{IsOpening}
-use Rattle.segments.specs.Managed.{shown}
+use Rattle.segments.specs.managing.Managed.{shown}
 use Rattle.segments.specs.Sections.{key_of}
-use Rattle.segments.proofs.OpenLemmas.{same_over, unopened_over}
+use Rattle.segments.proofs.sections.OpenLemmas.{same_over, unopened_over}
 use Rattle.segments.proofs.manager.Manager.take.Goals as goal
 
 pub returns-in_err-insert-clause-over : goal.returns-in_err-insert-clause-over

@@ -6,13 +6,13 @@ use Rattle.blob_device.proofs.Moments.{always_start, always_now, always_weaker}
 use Rattle.blob_device.proofs.Results.{ok_with}
 use Rattle.segments.specs.declared.manager.removing.Doomed.TheVariants.{After}
 use Rattle.segments.specs.Lasting.{Removing, Truncating}
-use Rattle.segments.specs.Managed.{shown}
+use Rattle.segments.specs.managing.Managed.{shown}
 use Rattle.segments.specs.Sections.{section_key, key_of, IsKnown}
-use Rattle.segments.proofs.CutLemmas.{leaves_few, cut_moves}
-use Rattle.segments.proofs.KeyLemmas.{keys_differ}
-use Rattle.segments.proofs.RemoveLemmas.{removing_start, none_known, over_bounds, same_then, gone_then}
-use Rattle.segments.proofs.SyncLemmas.{BufferLaws}
-use Rattle.segments.proofs.TruncateLemmas.{ok_so, some_so, leave_unread, unread_then, target_stays, removing_truncating, truncating_moments, not_pruned, earlier_cause}
+use Rattle.segments.proofs.sections.CutLemmas.{leaves_few, cut_moves}
+use Rattle.segments.proofs.sections.KeyLemmas.{keys_differ}
+use Rattle.segments.proofs.sections.RemoveLemmas.{removing_start, none_known, over_bounds, same_then, gone_then}
+use Rattle.segments.proofs.sections.SyncLemmas.{BufferLaws}
+use Rattle.segments.proofs.sections.TruncateLemmas.{ok_so, some_so, leave_unread, unread_then, target_stays, removing_truncating, truncating_moments, not_pruned, earlier_cause}
 use Rattle.segments.proofs.manager.Manager.truncate_pending.Goals as goal
 
 pub returns-in_err-prune_guard-clause-moments : goal.returns-in_err-prune_guard-clause-moments

@@ -1,7 +1,7 @@
 use Rattle.std.proofs.Common.{min, arith}
-use Rattle.segments.specs.Managed.{shown}
-use Rattle.segments.proofs.SyncLemmas.{BufferLaws, same_moments}
-use Rattle.segments.proofs.CutLemmas.{leaves_few}
+use Rattle.segments.specs.managing.Managed.{shown}
+use Rattle.segments.proofs.sections.SyncLemmas.{BufferLaws, same_moments}
+use Rattle.segments.proofs.sections.CutLemmas.{leaves_few}
 use Rattle.segments.proofs.manager.Manager.truncate_pending_section.Goals as goal
 
 pub returns-in_err-prune_guard-clause-moments : goal.returns-in_err-prune_guard-clause-moments

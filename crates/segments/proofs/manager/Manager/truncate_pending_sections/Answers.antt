@@ -10,12 +10,12 @@ use Rattle.std.proofs.lemmas.Map.Views.{Contains-keys_from_lookup, IsSome-lookup
 use Rattle.std.specs.Map.{keys_of}
 use Rattle.blob_device.specs.Timeline.{disk}
 use Rattle.blob_device.proofs.Results.{err_of}
-use Rattle.segments.specs.Managed.{shown}
+use Rattle.segments.specs.managing.Managed.{shown}
 use Rattle.segments.specs.Lasting.{IsLonger}
 use Rattle.segments.specs.Sections.{key_of, IsCut}
-use Rattle.segments.proofs.SyncLemmas.{BufferLaws}
+use Rattle.segments.proofs.sections.SyncLemmas.{BufferLaws}
 use Rattle.segments.proofs.WalkLemmas.{has_value}
-use Rattle.segments.proofs.CutLemmas.{CutWalked, CutTried, CutCall, cut_tried_start, cut_walked_start, can_still, cut_tried_more, cut_walked_more, cutting_of, longer_none, numbers_of, numbers_push, numbers_shown, same_number, some_has, some_none, same_cause}
+use Rattle.segments.proofs.sections.CutLemmas.{CutWalked, CutTried, CutCall, cut_tried_start, cut_walked_start, can_still, cut_tried_more, cut_walked_more, cutting_of, longer_none, numbers_of, numbers_push, numbers_shown, same_number, some_has, some_none, same_cause}
 use Rattle.segments.proofs.manager.Manager.truncate_pending_sections.Goals as goal
 
 pub loop-section-init : goal.loop-section-init

@@ -1,8 +1,8 @@
 use Rattle.std.specs.BTreeMap.{get}
 use Rattle.std.specs.List.{Contains}
 use Rattle.std.specs.Ordering.{nat_cmp}
-use Rattle.segments.specs.Managed.{shown}
-use Rattle.segments.proofs.CutLemmas.{CutWalked, CutTried, numbers_of}
+use Rattle.segments.specs.managing.Managed.{shown}
+use Rattle.segments.proofs.sections.CutLemmas.{CutWalked, CutTried, numbers_of}
 use Rattle.segments.proofs.manager.Manager.truncate_pending_sections.Given as goal
 
 abbrev pub invariant-loop-section : goal.invariant-loop-section

@@ -1,5 +1,5 @@
 use Rattle.blob_device.specs.Timeline.{disk}
-use Rattle.segments.proofs.SealedCalls.{adopts_bytes}
+use Rattle.segments.proofs.buffers.SealedCalls.{adopts_bytes}
 use Rattle.segments.proofs.sealed.AppendFactoryBufferFactory.create.Goals as goal
 
 pub returns-clause-bytes : goal.returns-clause-bytes

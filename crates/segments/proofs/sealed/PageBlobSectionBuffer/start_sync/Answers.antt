@@ -2,7 +2,7 @@ use Rattle.blob_device.specs.Timeline.{disk}
 use Rattle.sealed_pages.specs.Buffer.{key_of}
 use Rattle.sealed_pages.specs.Shown.{shown}
 use Rattle.sealed_pages.proofs.UnrecoveredLemmas.{adopted_backed}
-use Rattle.segments.proofs.SealedCalls.{uncut_moments, stays}
+use Rattle.segments.proofs.buffers.SealedCalls.{uncut_moments, stays}
 use Rattle.segments.proofs.sealed.PageBlobSectionBuffer.start_sync.Goals as goal
 
 pub returns-in_err-this-clause-moments : goal.returns-in_err-this-clause-moments

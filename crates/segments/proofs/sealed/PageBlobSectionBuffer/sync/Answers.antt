@@ -2,7 +2,7 @@ use Rattle.blob_device.specs.Timeline.{disk}
 use Rattle.sealed_pages.specs.Buffer.{key_of}
 use Rattle.sealed_pages.specs.Shown.{shown}
 use Rattle.sealed_pages.proofs.UnrecoveredLemmas.{adopted_backed}
-use Rattle.segments.proofs.SealedCalls.{stands_holding, uncut_moments, uncut_stands}
+use Rattle.segments.proofs.buffers.SealedCalls.{stands_holding, uncut_moments, uncut_stands}
 use Rattle.segments.proofs.sealed.PageBlobSectionBuffer.sync.Goals as goal
 
 pub returns-clause-moments : goal.returns-clause-moments

@@ -5,7 +5,7 @@ use Rattle.sealed_pages.specs.Buffer.{key_of, size_of}
 use Rattle.sealed_pages.specs.Shown.{shown}
 use Rattle.sealed_pages.proofs.UnrecoveredLemmas.{adopted_backed}
 use Rattle.segments.specs.Sealed.{Stands}
-use Rattle.segments.proofs.SealedCalls.{stands_holding, cut_moments, cut_stands, same_stands, cut_sealed, sound_page}
+use Rattle.segments.proofs.buffers.SealedCalls.{stands_holding, cut_moments, cut_stands, same_stands, cut_sealed, sound_page}
 use Rattle.segments.proofs.sealed.PageBlobSectionBuffer.truncate.Goals as goal
 
 pub returns-clause-moments : goal.returns-clause-moments

@@ -1,5 +1,5 @@
-use Rattle.segments.proofs.EntryLemmas.{starts_none}
-use Rattle.segments.proofs.UnsealedCalls.{sync_moments}
+use Rattle.segments.proofs.sections.EntryLemmas.{starts_none}
+use Rattle.segments.proofs.buffers.UnsealedCalls.{sync_moments}
 use Rattle.segments.proofs.unsealed.WriteBlobSectionBuffer.sync.Goals as goal
 
 pub returns-clause-moments : goal.returns-clause-moments

@@ -3,9 +3,9 @@ use Rattle.std.proofs.lemmas.Bool.{cases_lt}
 use Rattle.blob_device.specs.Disk.{Blob}
 use Rattle.blob_device.specs.Timeline.{Timeline, disk}
 use Rattle.blob_device.proofs.Results.{if_ok_with}
-use Rattle.segments.specs.Unsealed.{key_of, count_of, IsWhole}
-use Rattle.segments.proofs.EntryLemmas.{starts_none}
-use Rattle.segments.proofs.UnsealedCalls.{cut_moments, whole_at_rest, whole_again, stands_after, undamaged}
+use Rattle.segments.specs.unsealed.Buffer.{key_of, count_of, IsWhole}
+use Rattle.segments.proofs.sections.EntryLemmas.{starts_none}
+use Rattle.segments.proofs.buffers.UnsealedCalls.{cut_moments, whole_at_rest, whole_again, stands_after, undamaged}
 use Rattle.segments.proofs.unsealed.WriteBlobSectionBuffer.truncate.Goals as goal
 
 pub returns-clause-moments : goal.returns-clause-moments

@@ -14,7 +14,7 @@ use Rattle.sealed_pages.proofs.Looking.{unchanged_now}
 use Rattle.segments.specs.declared.journal.Error.TheVariants.{Codec, Corruption}
 use Rattle.segments.specs.Entries.{OnlyOwnEntry}
 use Rattle.segments.specs.FixedFloors.{IsAdoptedOver, IsBoundary, IsUnsealed}
-use Rattle.segments.specs.Managed.{shown}
+use Rattle.segments.specs.managing.Managed.{shown}
 use Rattle.segments.specs.Sections.{section_key}
 use Rattle.segments.specs.Setting.{Setting}
 use Rattle.segments.proofs.FixedErrors.{of_error}

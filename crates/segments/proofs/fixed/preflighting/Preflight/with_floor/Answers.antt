@@ -2,7 +2,7 @@ use Rattle.std.proofs.Common.{◌≡◌, ◌≢◌, ◌%◌, ◌<◌, ◌≤◌,
 use Rattle.std.proofs.lemmas.Bool.{false_from_ne_true}
 use Rattle.std.specs.BTreeMap.{get, is_at}
 use Rattle.std.specs.Ordering.{nat_cmp}
-use Rattle.segments.proofs.CutLemmas.{same_number}
+use Rattle.segments.proofs.sections.CutLemmas.{same_number}
 use Rattle.segments.proofs.FixedFloorLemmas.{floors_have}
 use Rattle.segments.proofs.fixed.preflighting.Preflight.with_floor.Goals as goal
 

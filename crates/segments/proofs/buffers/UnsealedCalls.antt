@@ -13,13 +13,13 @@ use Rattle.sealed_pages.specs.declared.write_blob.WriteBlob.{WriteBlob}
 use Rattle.sealed_pages.specs.Contents.{AllSince, KeepsAll, AddsOnly}
 use Rattle.sealed_pages.specs.Entries.{IsOpenAt}
 use Rattle.sealed_pages.specs.Sparing.{Lasts, SameByte, Spares, Sparing}
-use Rattle.sealed_pages.specs.Writing.{WriteBuffer, shown, blob_key, run_of, StandsBehind, Over}
+use Rattle.sealed_pages.specs.unsealed.Writing.{WriteBuffer, shown, blob_key, run_of, StandsBehind, Over}
 use Rattle.sealed_pages.proofs.ContentLemmas.{adds_keep}
 use Rattle.sealed_pages.proofs.Looking.{content_length}
 use Rattle.segments.specs.Fronts.{IsFront}
 use Rattle.segments.specs.Leaving.{Leaves, AllMoments}
-use Rattle.segments.specs.Unsealed.{Stands, IsWhole, KeepsBytes, IsOldOrFront, MayKeep, content_of, is_unsettled}
-use Rattle.segments.specs.UnsealedLaws.{all_weaker, all_old, idle_parts}
+use Rattle.segments.specs.unsealed.Buffer.{Stands, IsWhole, KeepsBytes, IsOldOrFront, MayKeep, content_of, is_unsettled}
+use Rattle.segments.specs.unsealed.Laws.{all_weaker, all_old, idle_parts}
 
 module _ (u : WriteBlob) (R : ℕ → Type 0) (n m : ℕ) (le : m ≤ n) (small : m ≤ u.settled) (covers : (i : ℕ) → i < m → Outside (run_of (shown u) ∷ []) i → R i) where
   -- what each crash leaves keeps the bytes that settled

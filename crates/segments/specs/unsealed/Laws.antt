@@ -11,7 +11,7 @@ use Rattle.sealed_pages.proofs.WriteLemmas.{written_nothing}
 use Rattle.sealed_pages.specs.declared.write_blob.WriteBlob.{WriteBlob}
 use Rattle.sealed_pages.specs.Cutting.{IsAtRest}
 use Rattle.segments.specs.Leaving.{Leaves}
-use Rattle.segments.specs.Unsealed.{Stands, IsWhole, IsOldOrFront, MayKeep, content_of, count_of, settled_of, is_unsettled}
+use Rattle.segments.specs.unsealed.Buffer.{Stands, IsWhole, IsOldOrFront, MayKeep, content_of, count_of, settled_of, is_unsettled}
 
 -- what is known of each has a weaker form
 pub all_weaker : (P Q : List ℕ → Type 0) (cs : List (List ℕ)) → ((c : List ℕ) → P c → Q c) → AllByRecursion P cs → AllByRecursion Q cs

@@ -18,7 +18,7 @@ use Rattle.segments.specs.Leaving.{Leaves, AllMoments}
 use Rattle.segments.specs.Setting.{Setting}
 use Rattle.segments.specs.Sections.{Sections, key_of, IsHeld, IsSame, SameBounds, IsOver, IsSynced}
 use Rattle.segments.specs.Lasting.{Syncing}
-use Rattle.segments.proofs.OverLemmas.{same_key, HasOpenedAt, StandsAt, over_changed}
+use Rattle.segments.proofs.sections.OverLemmas.{same_key, HasOpenedAt, StandsAt, over_changed}
 use Rattle.segments.proofs.WalkLemmas.{some_same, contains_or_not, Rules, Tries, Makes, Tried, Walked, Walking, tried_start, walked_start, tried_more, walked_more}
 
 -- what is known of each buffer

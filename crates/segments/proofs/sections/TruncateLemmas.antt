@@ -13,7 +13,7 @@ use Rattle.segments.specs.Leaving.{Leaves, AllMoments}
 use Rattle.segments.specs.Refusing.{HasFailed, IsPruned, HasDamage}
 use Rattle.segments.specs.Entries.{StartsNoRead}
 use Rattle.segments.specs.Sections.{Sections, section_key, key_of, IsKnown}
-use Rattle.segments.proofs.KeyLemmas.{key_injective, keys_differ}
+use Rattle.segments.proofs.sections.KeyLemmas.{key_injective, keys_differ}
 
 -- what holds of an answer, or of a value, by what held of it
 pub ok_so : {T E : Type 0} {P R : T → Type 0} (r : Result T E) → IfOk r P → ((v : T) → P v → R v) → IfOk r R

@@ -29,8 +29,8 @@ use Rattle.segments.specs.Leaving.{Leaves, AllMoments}
 use Rattle.segments.specs.Setting.{Setting}
 use Rattle.segments.specs.Sections.{Sections, key_of, IsSame, SameBounds, IsKeyOf, IsOver, IsCut}
 use Rattle.segments.specs.Lasting.{Cutting, IsLonger}
-use Rattle.segments.proofs.SyncLemmas.{BufferLaws}
-use Rattle.segments.proofs.OverLemmas.{same_key}
+use Rattle.segments.proofs.sections.SyncLemmas.{BufferLaws}
+use Rattle.segments.proofs.sections.OverLemmas.{same_key}
 use Rattle.segments.proofs.WalkLemmas.{some_same, has_value, contains_or_not, Rules, Tries, Tried, Walked, Walking, tried_start, walked_start, untouched, tried_more, walked_more}
 
 -- a damaged page that a section's call answers is one that the buffer's call answered

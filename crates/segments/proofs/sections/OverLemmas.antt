@@ -7,10 +7,10 @@ use Rattle.blob_device.specs.Opened.{Opened, OpenedList}
 use Rattle.sealed_pages.specs.Entries.{IsOpenAt}
 use Rattle.segments.specs.declared.buffer.SectionBuffer as buffer
 use Rattle.segments.specs.Entries.{OnlyOwnEntry}
-use Rattle.segments.specs.Lending.{IsPut}
+use Rattle.segments.specs.managing.Lending.{IsPut}
 use Rattle.segments.specs.Setting.{Setting}
 use Rattle.segments.specs.Sections.{Sections, section_key, key_of, IsHeld, IsKnown, IsSame, SameBounds, HasOpened, StandsOver, IsOver}
-use Rattle.segments.proofs.KeyLemmas.{keys_differ}
+use Rattle.segments.proofs.sections.KeyLemmas.{keys_differ}
 
 module _ {F B : Type 0} where
   -- where the sections stay in their partition, their blobs are the same

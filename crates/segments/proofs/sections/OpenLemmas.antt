@@ -21,7 +21,7 @@ use Rattle.segments.specs.Leaving.{AllMoments}
 use Rattle.segments.specs.Refusing.{IsPruned}
 use Rattle.segments.specs.Sections.{Sections, key_of, IsKnown, IsSame, SameBounds, StandsOver, IsOver}
 use Rattle.segments.specs.Setting.{Setting}
-use Rattle.segments.proofs.OverLemmas.{same_key, known_same, over_changed}
+use Rattle.segments.proofs.sections.OverLemmas.{same_key, known_same, over_changed}
 
 -- The blob at k is made, by a call that names it p.
 module _ (k p : Key) (is : p ≡ k) (a b : Timeline) where

@@ -4,8 +4,8 @@ use Rattle.std.specs.List.{AllByRecursion, Contains}
 use Rattle.blob_device.specs.Disk.{Key, Blob, Outside, past}
 use Rattle.sealed_pages.specs.declared.write_blob.WriteBlob.{WriteBlob}
 use Rattle.sealed_pages.specs.Sparing.{SameByte}
-use Rattle.sealed_pages.specs.Writing.{shown, blob_key, bytes_of, size_of, run_of, StandsBehind, Over}
-use Rattle.sealed_pages.specs.Writing as writing
+use Rattle.sealed_pages.specs.unsealed.Writing.{shown, blob_key, bytes_of, size_of, run_of, StandsBehind, Over}
+use Rattle.sealed_pages.specs.unsealed.Writing as writing
 use Rattle.segments.specs.Setting.{Setting}
 use Rattle.segments.specs.Fronts.{IsFront}
 

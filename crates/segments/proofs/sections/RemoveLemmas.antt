@@ -18,8 +18,8 @@ use Rattle.segments.specs.Lasting.{IsGoing, Removing, EntriesLeave}
 use Rattle.segments.specs.Leaving.{AllMoments}
 use Rattle.segments.specs.Sections.{Sections, key_of, IsHeld, IsKnown, IsSection, IsGone, IsSame, SameBounds, IsKeyOf, IsOver}
 use Rattle.segments.specs.Setting.{Setting}
-use Rattle.segments.proofs.KeyLemmas.{keys_differ}
-use Rattle.segments.proofs.OverLemmas.{same_key, same_known, known_same, over_changed}
+use Rattle.segments.proofs.sections.KeyLemmas.{keys_differ}
+use Rattle.segments.proofs.sections.OverLemmas.{same_key, same_known, known_same, over_changed}
 use Rattle.segments.proofs.WalkLemmas.{same_bounds}
 
 -- nothing stays nothing while it is removed

@@ -9,7 +9,7 @@ use Rattle.segments.specs.declared.manager.Manager.{Manager}
 use Rattle.segments.specs.contracts.manager.Manager as manager
 use Rattle.segments.specs.declared.journal.Error.{Error}
 use Rattle.segments.specs.Sections.{Sections, IsSection, IsSame, SameBounds}
-use Rattle.segments.specs.Managed.{shown}
+use Rattle.segments.specs.managing.Managed.{shown}
 
 -- the buffer w is put into the section, which is no longer unopened; no other section changes
 pub record IsPut {F B : Type 0} (section : ℕ) (w : B) (m n : Sections F B) : Type 0 where

@@ -16,7 +16,7 @@ use Rattle.sealed_pages.specs.Held.{AreHeldOf}
 use Rattle.sealed_pages.specs.SealedPrefix.{sealed_prefix, adopted_size}
 use Rattle.sealed_pages.specs.Shown.{shown}
 use Rattle.sealed_pages.specs.Unrecovered.{KeepsPrefix, IsUnrecovered, IsRecovery, IsAdopted, IsSafeCut}
-use Rattle.sealed_pages.proofs.CutCalls.{sealing_less}
+use Rattle.sealed_pages.proofs.cutting.Calls.{sealing_less}
 use Rattle.sealed_pages.proofs.PageCalls.{only_weaker}
 use Rattle.sealed_pages.proofs.Truncating.{map_ok}
 use Rattle.sealed_pages.proofs.UnrecoveredLemmas.{keeps_sealing}

@@ -1,0 +1,3 @@
+pub mod NothingSealed
+pub mod UnsealedCalls
+pub mod SealedCalls

@@ -1,0 +1,9 @@
+pub mod EntryLemmas
+pub mod HeldLemmas
+pub mod KeyLemmas
+pub mod OverLemmas
+pub mod OpenLemmas
+pub mod RemoveLemmas
+pub mod TruncateLemmas
+pub mod SyncLemmas
+pub mod CutLemmas
