@@ -16,7 +16,7 @@ use Rattle.blob_device.proofs.Puts.{put_same, put_other, same_or_other}
 use Rattle.blob_device.proofs.Results.{err_of}
 use Rattle.sealed_pages.specs.declared.write_blob.WriteBlob.{WriteBlob}
 use Rattle.sealed_pages.specs.Entries.{IsOpenAt}
-use Rattle.sealed_pages.specs.Writing.{Over, blob_key, is_unsettled, shown, size_of}
+use Rattle.sealed_pages.specs.unsealed.Writing.{Over, blob_key, is_unsettled, shown, size_of}
 use Rattle.sealed_pages.proofs.EntryLemmas.{open_entered}
 use Rattle.ordinal_store.specs.Adopting.{Adopting, IsMaking}
 use Rattle.ordinal_store.specs.Calls.{StartsNoRead}

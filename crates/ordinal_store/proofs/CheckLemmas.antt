@@ -6,7 +6,7 @@ use Rattle.std.proofs.lemmas.Bool.{cases_lt, lt-ltb, ltb-true}
 use Rattle.blob_device.proofs.Moments.{always_start}
 use Rattle.blob_device.proofs.Results.{err_of}
 use Rattle.sealed_pages.specs.declared.write_blob.WriteBlob.{WriteBlob}
-use Rattle.sealed_pages.specs.Writing.{blob_key, shown, size_of}
+use Rattle.sealed_pages.specs.unsealed.Writing.{blob_key, shown, size_of}
 use Rattle.sealed_pages.proofs.EntryLemmas.{only_read_start}
 use Rattle.ordinal_store.specs.Adopting.{IsReady}
 use Rattle.ordinal_store.specs.Mending.{is_marked}

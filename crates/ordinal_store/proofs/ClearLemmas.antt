@@ -16,7 +16,7 @@ use Rattle.sealed_pages.specs.declared.write_blob.WriteBlob.{WriteBlob}
 use Rattle.sealed_pages.specs.Contents.{AddsOnly, AllSince}
 use Rattle.sealed_pages.specs.Entries.{IsOpenAt, NoReads}
 use Rattle.sealed_pages.specs.Sparing.{Sparing}
-use Rattle.sealed_pages.specs.Writing.{HoldsOnly, Over, WriteBuffer, blob_key, bytes_of, run_of, shown, size_of}
+use Rattle.sealed_pages.specs.unsealed.Writing.{HoldsOnly, Over, WriteBuffer, blob_key, bytes_of, run_of, shown, size_of}
 use Rattle.sealed_pages.proofs.ContentLemmas.{adds_keep}
 use Rattle.sealed_pages.proofs.SparingLemmas.{sparing_start, sparing_weaker}
 use Rattle.ordinal_store.specs.Mending.{Clearing, IsClearable, IsCleared, IsInMarked, StaysShort, is_marked}

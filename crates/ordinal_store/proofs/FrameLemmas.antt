@@ -4,7 +4,7 @@ use Rattle.std.proofs.Common.{inl, inr, refl, sym, subst}
 use Rattle.blob_device.proofs.Puts.{same_or_other}
 use Rattle.blob_device.specs.Disk.{Blob, Disk, Key}
 use Rattle.blob_device.specs.Opened.{OpenedList}
-use Rattle.sealed_pages.specs.Writing.{Over, shown}
+use Rattle.sealed_pages.specs.unsealed.Writing.{Over, shown}
 use Rattle.sealed_pages.specs.Entries.{IsOpenAt, ReadsAtMost}
 use Rattle.ordinal_store.specs.Stores.{IsUsable, StandsOver, Store, key_of}
 

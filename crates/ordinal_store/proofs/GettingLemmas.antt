@@ -9,7 +9,7 @@ use Rattle.sealed_pages.specs.declared.write_blob.WriteBlob.{WriteBlob}
 use Rattle.sealed_pages.specs.Entries.{ReadsAtMost}
 use Rattle.sealed_pages.specs.Reading.{Unchanged}
 use Rattle.sealed_pages.proofs.EntryLemmas.{reads_start}
-use Rattle.sealed_pages.specs.Writing.{blob_key, bytes_of, shown}
+use Rattle.sealed_pages.specs.unsealed.Writing.{blob_key, bytes_of, shown}
 use Rattle.ordinal_store.specs.Calls.{Getting}
 use Rattle.ordinal_store.specs.Slots.{HasValue, IsSealed, part_at, place_of, position_of, section_of, slot_at, slot_size}
 use Rattle.ordinal_store.specs.Stores.{IsUsable, Sight, Store, has, key_of, now, slots_of}

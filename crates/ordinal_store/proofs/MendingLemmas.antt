@@ -14,7 +14,7 @@ use Rattle.std.specs.Result.{IsErrOf}
 use Rattle.blob_device.specs.declared.runtime.RError.{RError}
 use Rattle.blob_device.specs.declared.runtime.RError.TheVariants.{OffsetOverflow}
 use Rattle.sealed_pages.specs.declared.write_blob.WriteBlob.{WriteBlob}
-use Rattle.sealed_pages.specs.Writing.{HoldsOnly, WriteBuffer, blob_key, run_of}
+use Rattle.sealed_pages.specs.unsealed.Writing.{HoldsOnly, WriteBuffer, blob_key, run_of}
 use Rattle.ordinal_store.specs.Mending.{IsInMarked, is_marked}
 
 -- the slots before another one end where it begins, or below

@@ -14,7 +14,7 @@ use Rattle.sealed_pages.specs.declared.write_blob.WriteBlob.{WriteBlob}
 use Rattle.sealed_pages.specs.Contents.{AddsOnly}
 use Rattle.sealed_pages.specs.Entries.{IsOpenAt, NoReads}
 use Rattle.sealed_pages.specs.Sparing.{Spares, Sparing}
-use Rattle.sealed_pages.specs.Writing.{HoldsOnly, Over, WriteBuffer, blob_key, bytes_of, run_of, shown, size_of}
+use Rattle.sealed_pages.specs.unsealed.Writing.{HoldsOnly, Over, WriteBuffer, blob_key, bytes_of, run_of, shown, size_of}
 use Rattle.ordinal_store.specs.Calls.{Putting, SamePlace, StartsNoRead}
 use Rattle.ordinal_store.specs.Numbers.{AddsNumber}
 use Rattle.ordinal_store.specs.Ranges.{AreRanges, set_of}

@@ -9,7 +9,7 @@ use Rattle.blob_device.proofs.Results.{err_of}
 use Rattle.blob_device.specs.Disk.{Blob, Disk, longest}
 use Rattle.blob_device.specs.Timeline.{Always}
 use Rattle.sealed_pages.specs.View.{Within}
-use Rattle.sealed_pages.specs.Writing.{bytes_of, shown}
+use Rattle.sealed_pages.specs.unsealed.Writing.{bytes_of, shown}
 use Rattle.sealed_pages.specs.declared.write_blob.WriteBlob.{WriteBlob}
 use Rattle.ordinal_store.specs.Calls.{Destroying, IsBlobOf, Pruning}
 use Rattle.ordinal_store.specs.Durable.{Going, IsGoing, StandsFor, Stays}

@@ -14,7 +14,7 @@ use Rattle.blob_device.proofs.Puts.{same_or_other}
 use Rattle.sealed_pages.specs.Contents.{AddsOnly}
 use Rattle.sealed_pages.specs.Sparing.{Spares, Sparing}
 use Rattle.sealed_pages.specs.View.{Within}
-use Rattle.sealed_pages.specs.Writing.{Over, bytes_of, run_of, shown, size_of}
+use Rattle.sealed_pages.specs.unsealed.Writing.{Over, bytes_of, run_of, shown, size_of}
 use Rattle.sealed_pages.specs.declared.write_blob.WriteBlob.{WriteBlob}
 use Rattle.sealed_pages.proofs.ContentLemmas.{adds_keep}
 use Rattle.ordinal_store.specs.Durable.{IsDurable, Stays}

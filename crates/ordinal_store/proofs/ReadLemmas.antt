@@ -5,7 +5,7 @@ use Rattle.std.proofs.Common.{sym, subst}
 use Rattle.blob_device.proofs.Results.{err_of}
 use Rattle.sealed_pages.specs.Entries.{ReadsAtMost}
 use Rattle.sealed_pages.specs.Reading.{Unchanged}
-use Rattle.sealed_pages.specs.Writing.{WriteBuffer, blob_key, bytes_of}
+use Rattle.sealed_pages.specs.unsealed.Writing.{WriteBuffer, blob_key, bytes_of}
 use Rattle.ordinal_store.specs.Calls.{HasFailed}
 use Rattle.ordinal_store.specs.Slots.{part_at}
 use Rattle.ordinal_store.specs.Steps.{PartRead}

@@ -18,7 +18,7 @@ use Rattle.blob_device.proofs.OpenedLemmas.{left_other}
 use Rattle.blob_device.proofs.Puts.{put_same, same_or_other}
 use Rattle.blob_device.proofs.Results.{err_of}
 use Rattle.sealed_pages.specs.declared.write_blob.WriteBlob.{WriteBlob}
-use Rattle.sealed_pages.specs.Writing.{Over, shown, size_of}
+use Rattle.sealed_pages.specs.unsealed.Writing.{Over, shown, size_of}
 use Rattle.ordinal_store.specs.declared.ordinal.Error.{Error}
 use Rattle.ordinal_store.specs.declared.ordinal.Error.TheVariants.{Mem}
 use Rattle.ordinal_store.specs.Durable.{IsGoing}

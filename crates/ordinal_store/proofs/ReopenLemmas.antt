@@ -11,7 +11,7 @@ use Rattle.blob_device.proofs.Results.{err_of}
 use Rattle.sealed_pages.specs.declared.write_blob.WriteBlob.{WriteBlob}
 use Rattle.sealed_pages.specs.Sparing.{Spares}
 use Rattle.sealed_pages.specs.View.{Within}
-use Rattle.sealed_pages.specs.Writing.{shown, size_of}
+use Rattle.sealed_pages.specs.unsealed.Writing.{shown, size_of}
 use Rattle.ordinal_store.specs.Adopting.{Adopting, IsMaking, IsReady}
 use Rattle.ordinal_store.specs.Durable.{StandsFor}
 use Rattle.ordinal_store.specs.Mending.{IsInLeft, IsMade, Mending, is_left, whole}

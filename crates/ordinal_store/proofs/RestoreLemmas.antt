@@ -19,7 +19,7 @@ use Rattle.blob_device.proofs.Moments.{always_now, always_start, always_weaker}
 use Rattle.blob_device.proofs.Results.{err_of}
 use Rattle.blob_device.specs.Disk.{Blob, Disk, Key, longest}
 use Rattle.blob_device.specs.Timeline.{Always, OnlyAt}
-use Rattle.sealed_pages.specs.Writing.{Over, shown, size_of}
+use Rattle.sealed_pages.specs.unsealed.Writing.{Over, shown, size_of}
 use Rattle.ordinal_store.specs.Adopting.{IsReady}
 use Rattle.ordinal_store.specs.Calls.{as_read}
 use Rattle.ordinal_store.specs.Durable.{StandsFor, Stays}

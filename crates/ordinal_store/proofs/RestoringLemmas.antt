@@ -9,7 +9,7 @@ use Rattle.blob_device.proofs.Results.{err_of}
 use Rattle.blob_device.specs.Disk.{Disk, Key}
 use Rattle.blob_device.specs.Timeline.{OnlyAt}
 use Rattle.sealed_pages.specs.declared.write_blob.WriteBlob.{WriteBlob}
-use Rattle.sealed_pages.specs.Writing.{Over, shown, size_of}
+use Rattle.sealed_pages.specs.unsealed.Writing.{Over, shown, size_of}
 use Rattle.ordinal_store.specs.Marking.{IsFault, IsFaulty, IsTooLong, IsWhole, is_wanted}
 use Rattle.ordinal_store.specs.Mending.{IsMade}
 use Rattle.ordinal_store.specs.Reopening.{Checking, IsHolding, Reopening, Restores, Restoring, Touching}

@@ -9,7 +9,7 @@ use Rattle.blob_device.specs.Timeline.{OnlyAt}
 use Rattle.blob_device.proofs.Moments.{always_now, always_weaker}
 use Rattle.blob_device.proofs.Puts.{same_or_other}
 use Rattle.sealed_pages.specs.declared.write_blob.WriteBlob.{WriteBlob}
-use Rattle.sealed_pages.specs.Writing.{bytes_of, shown, size_of}
+use Rattle.sealed_pages.specs.unsealed.Writing.{bytes_of, shown, size_of}
 use Rattle.ordinal_store.specs.Adopting.{Adopting, IsMaking, IsReady}
 use Rattle.ordinal_store.specs.Durable.{StandsFor, Stays}
 use Rattle.ordinal_store.specs.Slots.{blob_of, place_of, position_of, section_of, slot_at, slot_size}

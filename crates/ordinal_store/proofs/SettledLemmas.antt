@@ -13,7 +13,7 @@ use Rattle.blob_device.proofs.Puts.{same_or_other}
 use Rattle.sealed_pages.specs.Contents.{AddsOnly}
 use Rattle.sealed_pages.specs.Sparing.{Spares, Sparing}
 use Rattle.sealed_pages.specs.View.{Within}
-use Rattle.sealed_pages.specs.Writing.{Over, bytes_of, is_unsettled, run_of, shown, size_of}
+use Rattle.sealed_pages.specs.unsealed.Writing.{Over, bytes_of, is_unsettled, run_of, shown, size_of}
 use Rattle.sealed_pages.specs.declared.write_blob.WriteBlob.{WriteBlob}
 use Rattle.sealed_pages.proofs.LastingLemmas.{outside_none}
 use Rattle.sealed_pages.proofs.WritingLemmas.{idle_parts, settled_parts}

@@ -11,7 +11,7 @@ use Rattle.blob_device.specs.Disk.{Disk, Key}
 use Rattle.blob_device.specs.Timeline.{Timeline}
 use Rattle.sealed_pages.specs.declared.write_blob.WriteBlob.{WriteBlob}
 use Rattle.sealed_pages.specs.Reading.{OnlyRead, Unchanged}
-use Rattle.sealed_pages.specs.Writing.{Over, blob_key, bytes_of, shown, size_of}
+use Rattle.sealed_pages.specs.unsealed.Writing.{Over, blob_key, bytes_of, shown, size_of}
 use Rattle.sealed_pages.proofs.EntryLemmas.{only_read_start, only_read_then}
 use Rattle.ordinal_store.specs.Adopting.{IsReady}
 use Rattle.ordinal_store.specs.Calls.{HasFailed}

@@ -4,7 +4,7 @@ use Rattle.blob_device.specs.Disk.{Disk, Key, Outside}
 use Rattle.blob_device.specs.Timeline.{OnlyAt}
 use Rattle.sealed_pages.specs.Sparing.{Spares}
 use Rattle.sealed_pages.specs.View.{Within}
-use Rattle.sealed_pages.specs.Writing.{Over, run_of, shown}
+use Rattle.sealed_pages.specs.unsealed.Writing.{Over, run_of, shown}
 use Rattle.sealed_pages.specs.declared.write_blob.WriteBlob.{WriteBlob}
 use Rattle.ordinal_store.specs.Durable.{IsDurable, StandsFor}
 use Rattle.ordinal_store.specs.Slots.{blob_of, place_of, position_of, section_of, slot_size}

@@ -12,7 +12,7 @@ use Rattle.blob_device.specs.Timeline.{Always, Timeline, disk}
 use Rattle.blob_device.proofs.Moments.{always_then, always_weaker}
 use Rattle.sealed_pages.specs.declared.write_blob.WriteBlob.{WriteBlob}
 use Rattle.sealed_pages.specs.Entries.{IsOpenAt}
-use Rattle.sealed_pages.specs.Writing.{Over, blob_key, bytes_of, is_unsettled, shown, size_of}
+use Rattle.sealed_pages.specs.unsealed.Writing.{Over, blob_key, bytes_of, is_unsettled, shown, size_of}
 use Rattle.ordinal_store.specs.Durable.{Stays}
 use Rattle.ordinal_store.specs.Ranges.{AreRanges, set_of}
 use Rattle.ordinal_store.specs.Slots.{Layout, place_of, position_of, section_key, section_of, slot_at, slot_size}

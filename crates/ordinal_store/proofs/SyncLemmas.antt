@@ -9,7 +9,7 @@ use Rattle.sealed_pages.specs.declared.write_blob.WriteBlob.{WriteBlob}
 use Rattle.sealed_pages.specs.Contents.{AddsOnly}
 use Rattle.sealed_pages.specs.Entries.{IsOpenAt, NoReads}
 use Rattle.sealed_pages.specs.Sparing.{Spares, Sparing}
-use Rattle.sealed_pages.specs.Writing.{Over, WriteBuffer, blob_key, bytes_of, is_unsettled, run_of, shown, size_of}
+use Rattle.sealed_pages.specs.unsealed.Writing.{Over, WriteBuffer, blob_key, bytes_of, is_unsettled, run_of, shown, size_of}
 use Rattle.sealed_pages.proofs.LastingLemmas.{outside_none}
 use Rattle.ordinal_store.specs.Calls.{IsBlobOf}
 use Rattle.ordinal_store.specs.Durable.{Stays}

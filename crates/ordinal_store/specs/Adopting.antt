@@ -6,7 +6,7 @@ use Rattle.blob_device.specs.Opened.{OpenedList}
 use Rattle.blob_device.specs.Timeline.{Always, OnlyAt}
 use Rattle.sealed_pages.specs.declared.write_blob.WriteBlob.{WriteBlob}
 use Rattle.sealed_pages.specs.Entries.{IsOpenAt}
-use Rattle.sealed_pages.specs.Writing.{Over, blob_key, is_unsettled, shown, size_of}
+use Rattle.sealed_pages.specs.unsealed.Writing.{Over, blob_key, is_unsettled, shown, size_of}
 use Rattle.ordinal_store.specs.Calls.{HasFailed, StartsNoRead}
 use Rattle.ordinal_store.specs.Stores.{Sight, now}
 use Rattle.ordinal_store.specs.declared.ordinal.Error.{Error}

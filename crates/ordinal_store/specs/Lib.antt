@@ -5,7 +5,7 @@ pub mod Numbers
 pub mod Indices
 pub mod SetLaws
 pub mod Ranges
-pub mod Filed
+pub mod tree
 pub mod Plain
 pub mod Bits
 pub mod Slots

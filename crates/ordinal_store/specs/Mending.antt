@@ -9,7 +9,7 @@ use Rattle.sealed_pages.specs.declared.write_blob.WriteBlob.{WriteBlob}
 use Rattle.sealed_pages.specs.Entries.{IsOpenAt}
 use Rattle.sealed_pages.specs.Sparing.{Sparing}
 use Rattle.sealed_pages.specs.View.{Within}
-use Rattle.sealed_pages.specs.Writing.{Over, WriteBuffer, blob_key, bytes_of, run_of, shown, size_of}
+use Rattle.sealed_pages.specs.unsealed.Writing.{Over, WriteBuffer, blob_key, bytes_of, run_of, shown, size_of}
 use Rattle.ordinal_store.specs.declared.ordinal.Error.{Error}
 use Rattle.ordinal_store.specs.Adopting.{IsReady}
 use Rattle.ordinal_store.specs.Calls.{HasFailed}

@@ -6,7 +6,7 @@ use Rattle.blob_device.specs.Disk.{AreNamesIn, Blob, Key, longest}
 use Rattle.blob_device.specs.Timeline.{Always, OnlyAt}
 use Rattle.sealed_pages.specs.declared.write_blob.WriteBlob.{WriteBlob}
 use Rattle.sealed_pages.specs.Reading.{OnlyRead, Unchanged}
-use Rattle.sealed_pages.specs.Writing.{shown, size_of}
+use Rattle.sealed_pages.specs.unsealed.Writing.{shown, size_of}
 use Rattle.ordinal_store.specs.Adopting.{IsReady}
 use Rattle.ordinal_store.specs.Calls.{HasFailed, HasRecordError, SamePlace}
 use Rattle.ordinal_store.specs.Durable.{StandsFor}

@@ -5,7 +5,7 @@ use Rattle.blob_device.specs.Timeline.{Always}
 use Rattle.ordinal_store.specs.Calls.{HasFailed, IsBlobOf, SamePlace, StartsNoRead}
 use Rattle.sealed_pages.specs.Entries.{ReadsAtMost}
 use Rattle.sealed_pages.specs.Reading.{Unchanged}
-use Rattle.sealed_pages.specs.Writing.{WriteBuffer, blob_key, bytes_of}
+use Rattle.sealed_pages.specs.unsealed.Writing.{WriteBuffer, blob_key, bytes_of}
 use Rattle.ordinal_store.specs.Durable.{Stays}
 use Rattle.ordinal_store.specs.Slots.{part_at}
 use Rattle.ordinal_store.specs.Stores.{IsQuiet, IsUsable, Sight, Store, now, slots_of}

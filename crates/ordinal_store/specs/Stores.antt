@@ -7,7 +7,7 @@ use Rattle.blob_device.specs.declared.device.Device as device
 use Rattle.sealed_pages.specs.declared.write_blob.WriteBlob.{WriteBlob}
 use Rattle.sealed_pages.specs.Entries.{IsOpenAt}
 use Rattle.sealed_pages.specs.View.{Within}
-use Rattle.sealed_pages.specs.Writing.{Over, blob_key, bytes_of, is_unsettled, run_of, shown, size_of}
+use Rattle.sealed_pages.specs.unsealed.Writing.{Over, blob_key, bytes_of, is_unsettled, run_of, shown, size_of}
 use Rattle.ordinal_store.specs.Durable.{IsDurable}
 use Rattle.ordinal_store.specs.Ranges.{AreRanges, set_of}
 use Rattle.ordinal_store.specs.Slots.{Layout, blob_of, place_of, position_of, section_of, slot_at, slot_size}

@@ -2,7 +2,7 @@
 ghost use Rattle.std.specs.Prelude.{◌≡◌, ◌↔◌, ◌+◌, ◌*◌, ◌^◌, ◌≤◌, ◌<◌, ℕ, List, Some, None, true, min, length, drop, IfOk, OnErr, MatchResult, IsTrue};
 ghost use Rattle.std.specs.BTreeMap.{get};
 ghost use Rattle.std.specs.Ordering.{nat_cmp};
-ghost use Rattle.sealed_pages.specs.Writing.{blob_key, shown, size_of};
+ghost use Rattle.sealed_pages.specs.unsealed.Writing.{blob_key, shown, size_of};
 ghost use Rattle.ordinal_store.specs.Adopting.{IsReady};
 ghost use Rattle.ordinal_store.specs.Marking.{IsPast, is_wanted};
 ghost use Rattle.ordinal_store.specs.Reopening.{AreSound, HasPast, HasWanted, IsFirstMarked, Sounding};

@@ -1,6 +1,6 @@
 // The steps that mend a section when it is opened, each of a few calls on one blob.
 ghost use Rattle.std.specs.Prelude.{◌≡◌, ◌+◌, ◌*◌, ◌/◌, ◌≤◌, ◌<◌, ◌^◌, length, replicate};
-ghost use Rattle.sealed_pages.specs.Writing.{blob_key, shown, size_of};
+ghost use Rattle.sealed_pages.specs.unsealed.Writing.{blob_key, shown, size_of};
 ghost use Rattle.ordinal_store.specs.Adopting.{IsReady};
 ghost use Rattle.ordinal_store.specs.Mending.{Clearing, IsClearable, IsCleared, IsCut, IsInLeft, IsInMarked, IsMade, Mending, is_marked, whole};
 ghost use Rattle.ordinal_store.specs.Stores.{sight};

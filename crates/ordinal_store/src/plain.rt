@@ -2,6 +2,7 @@
 //!
 //! It looks at all its numbers at each call, and keeps nothing but them. The range set is compared with it.
 ghost use Rattle.std.specs.Prelude.{◌≡◌, ℕ, ◌+◌, ◌≤◌, ◌↔◌, List, [], ◌∷◌, ◌++◌, IsTrue, IsNone, IfSome, IfOk, OnOk, All, Contains};
+ghost use Rattle.ordinal_store.specs.Indices.{IsGap};
 ghost use Rattle.ordinal_store.specs.Numbers.{AddsNumber, AreMissing, AreRunsFrom, IsGreatest, IsLeast, IsNextRun, IsRun, IsRunAround, IsRunEnd, TakesAway};
 ghost use Rattle.ordinal_store.specs.Plain.{listed, IsNextAmong, IsWalked};
 
@@ -114,16 +115,19 @@ impl PlainSet {
         }
     }
 
+    /// The end of the run that holds `number`.
+    fn end_around(&self, number: u64) -> Option<u64>
+        ensures { IsRunEnd (listed self.now.numbers.items) number result }
+    {
+        let (_, end) = self.get(number)?;
+        Some(end)
+    }
+
     /// The end of the run that holds `number`, and the start of the first run that begins above it.
     pub fn next_gap(&self, number: u64) -> (Option<u64>, Option<u64>)
-        ensures end { IsRunEnd (listed self.now.numbers.items) number result.0 }
-        ensures next { IsNextRun (listed self.now.numbers.items) number result.1 }
+        ensures { IsGap (listed self.now.numbers.items) number result }
     {
-        let end = match self.get(number) {
-            Some((_, end)) => Some(end),
-            None => None,
-        };
-        (end, self.next_start(number))
+        (self.end_around(number), self.next_start(number))
     }
 
     /// The start of the first run that begins above `number`.

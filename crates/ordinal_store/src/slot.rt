@@ -1,7 +1,7 @@
 //! Slots: a value's spelling, with the seal of that behind it.
 ghost use Rattle.std.specs.Prelude.{◌≡◌, ◌≤◌, ◌<◌, ◌+◌, ◌^◌, ℕ, List, Option, Some, None, Err, length, IfOk, OnOk, OnErr, MatchOption};
 ghost use Rattle.sealed_pages.specs.Entries.{IsOpenAt};
-ghost use Rattle.sealed_pages.specs.Writing.{blob_key, shown, size_of};
+ghost use Rattle.sealed_pages.specs.unsealed.Writing.{blob_key, shown, size_of};
 ghost use Rattle.ordinal_store.specs.Slots.{HasValue, IsSealed, slot_of, stored_by};
 ghost use Rattle.ordinal_store.specs.Steps.{PartRead};
 ghost use Rattle.ordinal_store.specs.Stores.{sight};

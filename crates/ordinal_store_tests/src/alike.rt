@@ -28,7 +28,9 @@ const PROBES: [u64; 12] = [
 /// A range set, and a plain set that is given the same changes.
 #[derive(Drop)]
 struct Both {
+    // The set that is tried.
     ranges: RMap,
+    // The set that is right: each change goes to both.
     plain: PlainSet,
 }
 

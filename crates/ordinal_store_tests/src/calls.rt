@@ -1,5 +1,6 @@
 // The commands over a range set. Each adds what it says to a text.
 use crate::alike::tell_difference;
+use crate::asked::unset;
 use crate::change::{Change, changes_of, make_all};
 use crate::said::{add_bits, add_gap, add_number, add_numbers, add_range, add_ranges, or_none};
 use crate::words::{MISSPELT, is_spelt, number};
@@ -13,31 +14,39 @@ pub fn obey(
     set: &mut RMap,
     step: &Step,
     text: &mut String,
-) -> Result<(), RMapError> {
+) -> Result<(), AllocError> {
     if !is_spelt(step) {
-        return Ok(text.push_str(MISSPELT)?);
+        return text.push_str(MISSPELT);
     }
     match step.word() {
         "change" | "same" | "alike" => change(alloc, set, step, text),
         "bits" => tell_bits(alloc, step, text),
-        _ => Ok(ask(set, step, text)?),
+        _ => ask(set, step, text),
     }
 }
 
 // Carries out a step that is given changes.
-fn change(alloc: Global, set: &mut RMap, step: &Step, text: &mut String) -> Result<(), RMapError> {
+fn change(alloc: Global, set: &mut RMap, step: &Step, text: &mut String) -> Result<(), AllocError> {
     let changes = changes_of(alloc, step.rest())?;
     match step.word() {
-        "alike" => tell_difference(alloc, changes.as_slice(), text),
+        "alike" => tell_alike(alloc, changes.as_slice(), text),
         "same" => tell_same(alloc, set, changes.as_slice(), text),
         _ => make_told(set, changes.as_slice(), text),
     }
 }
 
+// Tells where the set and the plain one differ.
+fn tell_alike(alloc: Global, changes: &[Change], text: &mut String) -> Result<(), AllocError> {
+    match tell_difference(alloc, changes, text) {
+        Ok(()) => Ok(()),
+        Err(RMapError::Mem) => Err(AllocError),
+    }
+}
+
 // Makes the changes, and tells that.
-fn make_told(set: &mut RMap, changes: &[Change], text: &mut String) -> Result<(), RMapError> {
+fn make_told(set: &mut RMap, changes: &[Change], text: &mut String) -> Result<(), AllocError> {
     make_all(set, changes)?;
-    Ok(text.push_str("ok")?)
+    text.push_str("ok")
 }
 
 // Tells whether the set is the one that changes make.
@@ -46,11 +55,11 @@ fn tell_same(
     set: &RMap,
     changes: &[Change],
     text: &mut String,
-) -> Result<(), RMapError> {
+) -> Result<(), AllocError> {
     let mut other = RMap::new(alloc);
     make_all(&mut other, changes)?;
     let said = if *set == other { "yes" } else { "no" };
-    Ok(text.push_str(said)?)
+    text.push_str(said)
 }
 
 // Asks the set.
@@ -94,10 +103,10 @@ fn set_all(bits: &mut BitMap, changes: &[Change]) {
 }
 
 // Tells the bits of a list after changes.
-fn tell_bits(alloc: Global, step: &Step, text: &mut String) -> Result<(), RMapError> {
+fn tell_bits(alloc: Global, step: &Step, text: &mut String) -> Result<(), AllocError> {
     let words = step.rest().get(1..).unwrap_or(&[]);
     let changes = changes_of(alloc, words)?;
-    let mut bits = BitMap::zeroes(alloc, number(step, 0))?;
+    let mut bits = unset(alloc, number(step, 0))?;
     set_all(&mut bits, changes.as_slice());
-    Ok(add_bits(text, &bits)?)
+    add_bits(text, &bits)
 }

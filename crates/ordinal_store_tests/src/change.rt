@@ -36,16 +36,24 @@ pub fn changes_of(alloc: Global, words: &[String]) -> Result<Vec<Change>, AllocE
     Ok(changes)
 }
 
-/// Makes a change.
-pub fn make(set: &mut RMap, change: Change) -> Result<(), RMapError> {
+// Makes a change, unless there is no memory for it.
+fn made(set: &mut RMap, change: Change) -> Result<(), RMapError> {
     match change {
         Change::Put(number) => set.insert(number),
         Change::Take(start, end) => set.remove(start, end),
     }
 }
 
+/// Makes a change.
+pub fn make(set: &mut RMap, change: Change) -> Result<(), AllocError> {
+    match made(set, change) {
+        Ok(()) => Ok(()),
+        Err(RMapError::Mem) => Err(AllocError),
+    }
+}
+
 /// Makes changes, one after another.
-pub fn make_all(set: &mut RMap, changes: &[Change]) -> Result<(), RMapError> {
+pub fn make_all(set: &mut RMap, changes: &[Change]) -> Result<(), AllocError> {
     for change in changes {
         make(set, *change)?;
     }

@@ -2,11 +2,12 @@
 ghost use Rattle.std.specs.Prelude.{◌≡◌};
 ghost use Rattle.blob_device.specs.MemoryMeaning.{memory_opened, memory_time};
 
+use crate::images::{crash_of, device_over, image_of, set_blob};
 use crate::model::Model;
-use crate::plainly::{PARTITION, slots_in, tell_image};
-use crate::said::add_number;
+use crate::plainly::{PARTITION, Slots, slots_in, tell_image};
+use crate::said::{add_hex, add_number};
 use crate::words::{choice_in, name_in, number};
-use blob_device::{DevError, Device, Image, Memory};
+use blob_device::{Device, Image, Memory};
 use ordinal_store::ordinal::Config;
 use scenario_text::Step;
 use std::alloc::{AllocError, Global};
@@ -43,13 +44,18 @@ impl Bench {
     }
 
     /// Begins anew over what the device has, with nothing open.
-    pub fn restart(&mut self, dev: &Memory) -> Result<(), DevError> {
-        let image = dev.image(self.alloc)?;
-        let slots = slots_in(self.alloc, &image, self.config.items_per_blob)?;
+    pub fn restart(&mut self, dev: &Memory) -> Result<(), AllocError> {
+        let slots = slots_on(self.alloc, dev, self.config.items_per_blob)?;
         self.base = dev.calls();
         self.model = Model::over(self.alloc, slots);
         Ok(())
     }
+}
+
+// The slots that the device shows.
+fn slots_on(alloc: Global, dev: &Memory, items: u64) -> Result<Slots, AllocError> {
+    let image = image_of(alloc, dev)?;
+    slots_in(alloc, &image, items)
 }
 
 /// Looks at the device.
@@ -58,23 +64,48 @@ pub fn look(
     dev: &Memory,
     step: &Step,
     text: &mut String,
-) -> Result<(), DevError> {
+) -> Result<(), AllocError> {
     match step.word() {
-        "calls" => {
-            let calls = dev.calls().saturating_sub(bench.base);
-            bench.base = dev.calls();
-            Ok(add_number(text, Some(calls))?)
-        }
-        "faults" => Ok(add_number(text, Some(dev.faults()))?),
-        word => {
-            let image = dev.image(bench.alloc)?;
-            if word == "kept" {
-                return tell_image(bench.alloc, &image, bench.config.items_per_blob, text);
-            }
-            let name = name_in(bench.alloc, step.argument(0))?;
-            Ok(tell_bytes(text, image.blob(PARTITION, name.as_slice()))?)
-        }
+        "calls" => tell_calls(bench, dev, text),
+        "faults" => add_number(text, Some(dev.faults())),
+        "kept" => tell_kept(bench, dev, text),
+        _ => tell_shown(bench, dev, step, text),
     }
+}
+
+// Adds how many calls there were since this was last asked.
+fn tell_calls(bench: &mut Bench, dev: &Memory, text: &mut String) -> Result<(), AllocError> {
+    let calls = dev.calls().saturating_sub(bench.base);
+    bench.base = dev.calls();
+    add_number(text, Some(calls))
+}
+
+// Adds the sections that there are.
+fn tell_kept(bench: &Bench, dev: &Memory, text: &mut String) -> Result<(), AllocError> {
+    let image = image_of(bench.alloc, dev)?;
+    tell_image(bench.alloc, &image, bench.config.items_per_blob, text)
+}
+
+// Adds the bytes of the blob that a step names.
+fn tell_shown(
+    bench: &Bench,
+    dev: &Memory,
+    step: &Step,
+    text: &mut String,
+) -> Result<(), AllocError> {
+    let name = name_in(bench.alloc, step.argument(0))?;
+    tell_named(bench, dev, name.as_slice(), text)
+}
+
+// Adds the bytes of the blob of this name.
+fn tell_named(
+    bench: &Bench,
+    dev: &Memory,
+    name: &[u8],
+    text: &mut String,
+) -> Result<(), AllocError> {
+    let image = image_of(bench.alloc, dev)?;
+    tell_bytes(text, image.blob(PARTITION, name))
 }
 
 // Adds the bytes of a blob.
@@ -86,44 +117,52 @@ fn tell_bytes(text: &mut String, blob: Option<&[u8]>) -> Result<(), AllocError> 
     }
 }
 
-/// Adds two digits for each byte.
-pub fn add_hex(text: &mut String, bytes: &[u8]) -> Result<(), AllocError> {
-    for byte in bytes {
-        write!(text, "{byte:02x}")?;
-    }
-    Ok(())
-}
-
 /// Sets when the device fails: its call of this number from now on, alone or with all behind it.
-pub fn arm(dev: &mut Memory, step: &Step, text: &mut String) -> Result<(), DevError>
+pub fn arm(dev: &mut Memory, step: &Step, text: &mut String) -> Result<(), AllocError>
     ensures opened { memory_opened dev.new ≡ memory_opened dev.old }
     ensures time { memory_time dev.new ≡ memory_time dev.old }
 {
     text.push_str("ok")?;
     let nth = dev.calls().saturating_add(number(step, 0));
-    match step.word() {
-        "fail" => dev.fail_at(nth),
-        _ => {
-            dev.fuse_at(nth);
-            Ok(())
-        }
+    fail_from(dev, step.word() == "fail", nth)
+}
+
+/// Lets a call of the device fail, alone or with all behind it.
+pub fn fail_from(dev: &mut Memory, is_alone: bool, nth: u64) -> Result<(), AllocError>
+    ensures opened { memory_opened dev.new ≡ memory_opened dev.old }
+    ensures time { memory_time dev.new ≡ memory_time dev.old }
+{
+    if !is_alone {
+        dev.fuse_at(nth);
+        return Ok(());
+    }
+    match dev.fail_at(nth) {
+        Ok(()) => Ok(()),
+        Err(_) => Err(AllocError),
     }
 }
 
-/// Makes another device, or another configuration. The answer is what is said.
-pub fn remake(bench: &mut Bench, dev: &mut Memory, step: &Step) -> Result<&'static str, DevError> {
-    let alloc = bench.alloc;
-    match step.word() {
-        "close" => {
-            bench.model.give_up(alloc);
-            return Ok("ok");
-        }
-        "store" => bench.config = config_in(alloc, step)?,
-        _ => *dev = Memory::from_image(alloc, image_for(alloc, dev, step)?)?,
-    }
+/// Makes another device, or another configuration, and tells whether that is a valid one.
+pub fn remake(
+    bench: &mut Bench,
+    dev: &mut Memory,
+    step: &Step,
+    text: &mut String,
+) -> Result<(), AllocError> {
+    renew(bench, dev, step)?;
     bench.restart(dev)?;
     let is_valid = bench.config.is_valid();
-    Ok(if is_valid { "ok" } else { "not valid" })
+    text.push_str(if is_valid { "ok" } else { "not valid" })
+}
+
+// Makes another device, or another configuration.
+fn renew(bench: &mut Bench, dev: &mut Memory, step: &Step) -> Result<(), AllocError> {
+    if step.word() == "store" {
+        bench.config = config_in(bench.alloc, step)?;
+        return Ok(());
+    }
+    *dev = device_for(bench.alloc, dev, step)?;
+    Ok(())
 }
 
 // The configuration that a step tells.
@@ -140,16 +179,27 @@ fn config_in(alloc: Global, step: &Step) -> Result<Config, AllocError> {
     })
 }
 
+// Another device.
+fn device_for(alloc: Global, dev: &Memory, step: &Step) -> Result<Memory, AllocError> {
+    let image = image_for(alloc, dev, step)?;
+    device_over(alloc, image)
+}
+
 // The image of which another device is made.
-fn image_for(alloc: Global, dev: &Memory, step: &Step) -> Result<Image, DevError> {
+fn image_for(alloc: Global, dev: &Memory, step: &Step) -> Result<Image, AllocError> {
     if step.word() == "crash" {
-        return dev.pick_crash(alloc, choice_in(step));
+        return crash_of(alloc, dev, choice_in(step));
     }
-    let mut image = dev.image(alloc)?;
+    let mut image = image_of(alloc, dev)?;
+    change_blob(alloc, &mut image, step)?;
+    Ok(image)
+}
+
+// Gives the blob that a step names other bytes.
+fn change_blob(alloc: Global, image: &mut Image, step: &Step) -> Result<(), AllocError> {
     let name = name_in(alloc, step.argument(0))?;
     let bytes = bytes_for(alloc, image.blob(PARTITION, name.as_slice()), step)?;
-    image.set_blob(PARTITION, name.as_slice(), bytes.as_slice())?;
-    Ok(image)
+    set_blob(image, PARTITION, name.as_slice(), bytes.as_slice())
 }
 
 // Turns all bits of a byte.

@@ -3,11 +3,13 @@ ghost use Rattle.std.specs.Prelude.{◌≤◌, ◌^◌};
 
 use crate::asked::{Marks, marks_of};
 use crate::disk::Bench;
+use crate::images::{copy_of, crash_of, device_over};
 use crate::plainly::{Slots, slots_in, tell_image};
 use crate::stores::{has_slots, opened};
 use crate::words::{Family, family_of};
-use blob_device::{CrashChoice, DevError, Image, Memory};
+use blob_device::{CrashChoice, Image, Memory};
 use scenario_text::{Report, Step};
+use std::alloc::AllocError;
 
 /// How many calls an opening has at most.
 const MOST: u64 = 100;
@@ -20,7 +22,7 @@ pub fn judge(
     mode: &Step,
     done: &[Step],
     report: &mut Report,
-) -> Result<(), DevError> {
+) -> Result<(), AllocError> {
     if let Some(step) = last_leaves(done) {
         judge_texts(bench, dev, step, report)?;
     }
@@ -47,27 +49,48 @@ fn judge_texts(
     dev: &Memory,
     step: &Step,
     report: &mut Report,
-) -> Result<(), DevError> {
+) -> Result<(), AllocError> {
     for choice in CrashChoice::SAMPLES {
         let text = text_after(bench, dev, choice)?;
-        if !names(step, text.as_str()) {
-            tell_left(bench, step, text.as_str(), report)?;
-        }
+        judge_text(bench, step, text.as_str(), report)?;
     }
     Ok(())
 }
 
+// Notes a failure where the step does not name this text.
+fn judge_text(
+    bench: &Bench,
+    step: &Step,
+    text: &str,
+    report: &mut Report,
+) -> Result<(), AllocError> {
+    if names(step, text) {
+        return Ok(());
+    }
+    tell_left(bench, step, text, report)
+}
+
 // Notes that a crash leaves this.
-fn tell_left(bench: &Bench, step: &Step, text: &str, report: &mut Report) -> Result<(), DevError> {
+fn tell_left(
+    bench: &Bench,
+    step: &Step,
+    text: &str,
+    report: &mut Report,
+) -> Result<(), AllocError> {
     let why = format!(in bench.alloc; "a crash leaves {text}")?;
-    Ok(report.fail(step.line, why.as_str())?)
+    report.fail(step.line, why.as_str())
 }
 
 // What a crash leaves.
-fn text_after(bench: &Bench, dev: &Memory, choice: CrashChoice) -> Result<String, DevError> {
-    let image = dev.pick_crash(bench.alloc, choice)?;
+fn text_after(bench: &Bench, dev: &Memory, choice: CrashChoice) -> Result<String, AllocError> {
+    let image = crash_of(bench.alloc, dev, choice)?;
+    text_of(bench, &image)
+}
+
+// What an image holds.
+fn text_of(bench: &Bench, image: &Image) -> Result<String, AllocError> {
     let mut text = String::new(bench.alloc);
-    tell_image(bench.alloc, &image, bench.config.items_per_blob, &mut text)?;
+    tell_image(bench.alloc, image, bench.config.items_per_blob, &mut text)?;
     Ok(text)
 }
 
@@ -87,36 +110,37 @@ fn judge_openings(
     dev: &Memory,
     mode: &Step,
     report: &mut Report,
-) -> Result<(), DevError>
+) -> Result<(), AllocError>
     requires { (1 ≤ bench.now.config.items_per_blob)
         × (bench.now.config.items_per_blob ≤ 2 ^ 40) }
 {
-    let Ok(marks) = marks_of(bench.alloc, &bench.model.owed, bench.config.items_per_blob) else {
-        return Err(DevError::Mem);
-    };
+    let marks = marks_of(bench.alloc, &bench.model.owed, bench.config.items_per_blob)?;
     let marks = Some(marks);
-    for choice in CrashChoice::SAMPLES {
-        if !is_well(bench, dev.pick_crash(bench.alloc, choice)?, mode, &marks)? {
-            report.fail(mode.line, "what was synced is lost")?;
-        }
+    if are_well(bench, dev, mode, &marks)? {
+        return Ok(());
     }
-    Ok(())
+    report.fail(mode.line, "what was synced is lost")
 }
 
-// Whether the image has what is owed, in a run that is stopped twice also behind each opening that is stopped.
-fn is_well(
+// Whether each crash leaves what is owed, and in a run that is stopped twice each opening that is stopped too.
+fn are_well(
     bench: &Bench,
-    image: Image,
+    dev: &Memory,
     mode: &Step,
     marks: &Option<Marks>,
-) -> Result<bool, DevError>
+) -> Result<bool, AllocError>
     requires { (1 ≤ bench.now.config.items_per_blob)
         × (bench.now.config.items_per_blob ≤ 2 ^ 40) }
 {
-    match mode.word() {
-        "each-call-stops-twice" => outlasts(bench, &image, marks),
-        _ => is_kept(bench, image, marks),
+    if mode.word() != "each-call-stops-twice" {
+        return are_kept(bench, dev, marks);
     }
+    for choice in CrashChoice::SAMPLES {
+        if !outlasts(bench, crash_of(bench.alloc, dev, choice)?, marks)? {
+            return Ok(false);
+        }
+    }
+    Ok(true)
 }
 
 /// How an opening ended.
@@ -131,12 +155,12 @@ enum Fate {
 }
 
 // Whether what is owed outlasts an opening of the image that is stopped at each of its calls.
-fn outlasts(bench: &Bench, image: &Image, marks: &Option<Marks>) -> Result<bool, DevError>
+fn outlasts(bench: &Bench, image: Image, marks: &Option<Marks>) -> Result<bool, AllocError>
     requires { (1 ≤ bench.now.config.items_per_blob)
         × (bench.now.config.items_per_blob ≤ 2 ^ 40) }
 {
     for nth in 0..MOST {
-        match stopped_at(bench, image.copy(bench.alloc)?, marks, nth)? {
+        match stopped_at(bench, &image, marks, nth)? {
             Fate::Lost => return Ok(false),
             Fate::Stopped => {}
             Fate::Done => return Ok(true),
@@ -148,29 +172,38 @@ fn outlasts(bench: &Bench, image: &Image, marks: &Option<Marks>) -> Result<bool,
 // Opens the image, which is stopped at this call, and judges each crash then.
 fn stopped_at(
     bench: &Bench,
-    image: Image,
+    image: &Image,
     marks: &Option<Marks>,
     nth: u64,
-) -> Result<Fate, DevError>
+) -> Result<Fate, AllocError>
     requires { (1 ≤ bench.now.config.items_per_blob)
         × (bench.now.config.items_per_blob ≤ 2 ^ 40) }
 {
-    let mut dev = Memory::from_image(bench.alloc, image)?;
+    let image = copy_of(bench.alloc, image)?;
+    let mut dev = device_over(bench.alloc, image)?;
     dev.fuse_at(nth);
-    let is_done = opened(bench.alloc, &mut dev, &bench.config, marks).is_ok();
+    let is_done = is_opened(bench, &mut dev, marks);
     if !are_kept(bench, &dev, marks)? {
         return Ok(Fate::Lost);
     }
     Ok(if is_done { Fate::Done } else { Fate::Stopped })
 }
 
+// Whether an opening ends well.
+fn is_opened(bench: &Bench, dev: &mut Memory, marks: &Option<Marks>) -> bool
+    requires { (1 ≤ bench.now.config.items_per_blob)
+        × (bench.now.config.items_per_blob ≤ 2 ^ 40) }
+{
+    opened(bench.alloc, dev, &bench.config, marks).is_ok()
+}
+
 // Whether each crash leaves what is owed.
-fn are_kept(bench: &Bench, dev: &Memory, marks: &Option<Marks>) -> Result<bool, DevError>
+fn are_kept(bench: &Bench, dev: &Memory, marks: &Option<Marks>) -> Result<bool, AllocError>
     requires { (1 ≤ bench.now.config.items_per_blob)
         × (bench.now.config.items_per_blob ≤ 2 ^ 40) }
 {
     for choice in CrashChoice::SAMPLES {
-        if !is_kept(bench, dev.pick_crash(bench.alloc, choice)?, marks)? {
+        if !is_kept(bench, crash_of(bench.alloc, dev, choice)?, marks)? {
             return Ok(false);
         }
     }
@@ -178,22 +211,30 @@ fn are_kept(bench: &Bench, dev: &Memory, marks: &Option<Marks>) -> Result<bool, 
 }
 
 // Whether what is owed stands in the image, by the plain program, and an opening holds just that.
-fn is_kept(bench: &Bench, image: Image, marks: &Option<Marks>) -> Result<bool, DevError>
+fn is_kept(bench: &Bench, image: Image, marks: &Option<Marks>) -> Result<bool, AllocError>
     requires { (1 ≤ bench.now.config.items_per_blob)
         × (bench.now.config.items_per_blob ≤ 2 ^ 40) }
 {
     if !stands(bench, &image)? {
         return Ok(false);
     }
-    let mut dev = Memory::from_image(bench.alloc, image)?;
-    match opened(bench.alloc, &mut dev, &bench.config, marks) {
-        Ok(store) => Ok(has_slots(&store, &mut dev, &bench.model.owed)),
-        Err(_) => Ok(false),
+    let mut dev = device_over(bench.alloc, image)?;
+    Ok(is_held(bench, &mut dev, marks))
+}
+
+// Whether an opening holds just what is owed.
+fn is_held(bench: &Bench, dev: &mut Memory, marks: &Option<Marks>) -> bool
+    requires { (1 ≤ bench.now.config.items_per_blob)
+        × (bench.now.config.items_per_blob ≤ 2 ^ 40) }
+{
+    match opened(bench.alloc, dev, &bench.config, marks) {
+        Ok(store) => has_slots(&store, dev, &bench.model.owed),
+        Err(_) => false,
     }
 }
 
 // Whether what is owed stands in the image.
-fn stands(bench: &Bench, image: &Image) -> Result<bool, DevError> {
+fn stands(bench: &Bench, image: &Image) -> Result<bool, AllocError> {
     let slots = slots_in(bench.alloc, image, bench.config.items_per_blob)?;
     Ok(has_all(&slots, &bench.model.owed))
 }

@@ -60,6 +60,7 @@ mod asked;
 mod calls;
 mod change;
 mod disk;
+mod images;
 mod judge;
 mod model;
 mod plainly;
@@ -72,7 +73,7 @@ mod words;
 use blob_device::Memory;
 use calls::obey;
 use disk::Bench;
-use ordinal_store::{RMap, RMapError};
+use ordinal_store::RMap;
 use scenario_text::{Driver, Report, Scenario, Step, run_files};
 use std::alloc::{AllocError, Global};
 use std::process::ExitCode;
@@ -108,10 +109,7 @@ fn is_of_store(steps: &[Step]) -> bool {
 fn play_store(alloc: Global, steps: &[Step], report: &mut Report) -> Result<(), AllocError> {
     let mut bench = Bench::new(alloc)?;
     let mut dev = Memory::new(alloc);
-    match runs::carry_out(&mut bench, &mut dev, steps, report) {
-        Ok(()) => Ok(()),
-        Err(_) => Err(AllocError),
-    }
+    runs::carry_out(&mut bench, &mut dev, steps, report)
 }
 
 /// Carries out the steps over this set.
@@ -122,13 +120,21 @@ fn play(
     report: &mut Report,
 ) -> Result<(), AllocError> {
     for step in steps {
-        let mut text = String::new(alloc);
-        match obey(alloc, set, step, &mut text) {
-            Ok(()) => report.compare(step, text.as_str())?,
-            Err(RMapError::Mem) => return Err(AllocError),
-        }
+        take_step(alloc, set, step, report)?;
     }
     Ok(())
+}
+
+/// Carries out a step over this set.
+fn take_step(
+    alloc: Global,
+    set: &mut RMap,
+    step: &Step,
+    report: &mut Report,
+) -> Result<(), AllocError> {
+    let mut text = String::new(alloc);
+    obey(alloc, set, step, &mut text)?;
+    report.compare(step, text.as_str())
 }
 
 fn main(rt: HostRuntime) -> ExitCode {

@@ -40,12 +40,18 @@ impl Call {
     // The slots that the call leaves alone.
     fn spared(&self, alloc: Global, items: u64, slots: &Slots) -> Result<Slots, AllocError> {
         let mut left = BTreeMap::new(alloc);
+        self.add_spared(items, slots, &mut left)?;
+        Ok(left)
+    }
+
+    // Adds them.
+    fn add_spared(&self, items: u64, slots: &Slots, left: &mut Slots) -> Result<(), AllocError> {
         for (index, slot) in slots.iter() {
             if self.spares(items, *index) {
                 left.insert(*index, *slot)?;
             }
         }
-        Ok(left)
+        Ok(())
     }
 }
 
@@ -72,16 +78,23 @@ impl Model {
         call: &Call,
         slots: &Slots,
     ) -> Result<(), AllocError> {
+        if let Call::Put(index, value) = call {
+            self.held.insert(*index, slot_of(*value))?;
+            return Ok(());
+        }
+        self.held = match call {
+            Call::Open(_) => call.spared(alloc, items, slots)?,
+            _ => call.spared(alloc, items, &self.held)?,
+        };
         match call {
-            Call::Put(index, value) => {
-                self.held.insert(*index, slot_of(*value))?;
-            }
-            Call::Open(_) => self.held = call.spared(alloc, items, slots)?,
-            _ => self.held = call.spared(alloc, items, &self.held)?,
+            Call::Open(_) | Call::Sync => self.settle(alloc, items),
+            _ => Ok(()),
         }
-        if let Call::Open(_) | Call::Sync = call {
-            self.owed = Call::Sync.spared(alloc, items, &self.held)?;
-        }
+    }
+
+    // From here on every crash has to leave what is held.
+    fn settle(&mut self, alloc: Global, items: u64) -> Result<(), AllocError> {
+        self.owed = Call::Sync.spared(alloc, items, &self.held)?;
         Ok(())
     }
 

@@ -1,7 +1,8 @@
 // What an image holds, read plainly: values of eight bytes, so each slot has twelve.
 use crate::asked::Marks;
-use crate::disk::add_hex;
-use blob_device::{DevError, Device, Image, Memory, Names};
+use crate::images::{copy_of, device_over};
+use crate::said::{add_hex, tell_at};
+use blob_device::{Device, Image, Memory, Names};
 use ordinal_store::BitMap;
 use ordinal_store::plain_section::is_wanted;
 use std::alloc::{AllocError, Global};
@@ -11,26 +12,22 @@ use value_codec::{Seal, Sha256Seal};
 /// The partition of the sections.
 pub const PARTITION: &str = "o";
 
-/// The bytes of a slot.
-pub type Slot = [u8; 12];
+/// The twelve bytes of a slot, as two numbers: the value, and the seal of its bytes.
+pub type Slot = (u64, u32);
 
 /// Slots by index.
 pub type Slots = BTreeMap<u64, Slot>;
 
-/// The slot of a value: its eight bytes, and the seal of these.
+/// The slot of a value.
 pub fn slot_of(value: u64) -> Slot {
-    let v = value.to_be_bytes();
-    let s = Sha256Seal::seal(v.as_slice()).to_be_bytes();
-    [
-        v[0], v[1], v[2], v[3], v[4], v[5], v[6], v[7], s[0], s[1], s[2], s[3],
-    ]
+    let bytes = value.to_be_bytes();
+    (value, Sha256Seal::seal(bytes.as_slice()))
 }
 
-/// The value in a slot, if there is one.
-pub fn value_in(slot: &Slot) -> Option<u64> {
-    let bytes = slot.as_slice().first_chunk::<8>()?;
-    let value = u64::from_be_bytes(*bytes);
-    if slot_of(value) == *slot {
+/// The value in a slot, if its seal is that of its bytes.
+pub fn value_in(slot: Slot) -> Option<u64> {
+    let (value, seal) = slot;
+    if slot_of(value).1 == seal {
         Some(value)
     } else {
         None
@@ -41,10 +38,9 @@ pub fn value_in(slot: &Slot) -> Option<u64> {
 fn slot_at(blob: &[u8], position: u64) -> Option<Slot> {
     let at = position.checked_mul(12)?;
     let bytes = blob.get(at as usize..)?;
-    match bytes.first_chunk::<12>() {
-        Some(slot) => Some(*slot),
-        None => None,
-    }
+    let value = u64::from_be_bytes(*bytes.first_chunk::<8>()?);
+    let seal = u32::from_be_bytes(*bytes.get(8..)?.first_chunk::<4>()?);
+    Some((value, seal))
 }
 
 // The number that a name spells, if it is a section's.
@@ -61,19 +57,42 @@ fn index_at(items: u64, section: u64, position: u64) -> Option<u64> {
 }
 
 // The names in the partition.
-fn names_in(alloc: Global, image: &Image) -> Result<Names, DevError> {
-    let mut dev = Memory::from_image(alloc, image.copy(alloc)?)?;
-    dev.scan(alloc, PARTITION)
+fn names_in(alloc: Global, image: &Image) -> Result<Names, AllocError> {
+    let image = copy_of(alloc, image)?;
+    let mut dev = device_over(alloc, image)?;
+    names_on(alloc, &mut dev)
+}
+
+// The names in the partition, by a call of the device.
+fn names_on(alloc: Global, dev: &mut Memory) -> Result<Names, AllocError> {
+    match dev.scan(alloc, PARTITION) {
+        Ok(names) => Ok(names),
+        Err(_) => Err(AllocError),
+    }
+}
+
+// The bytes of a blob. One that is not there has none.
+fn bytes_in<'a>(image: &'a Image, name: &[u8]) -> &'a [u8] {
+    image.blob(PARTITION, name).unwrap_or(b"")
 }
 
 /// The slots that stand whole in the image, at so many a section.
-pub fn slots_in(alloc: Global, image: &Image, items: u64) -> Result<Slots, DevError> {
-    let mut slots = BTreeMap::new(alloc);
+pub fn slots_in(alloc: Global, image: &Image, items: u64) -> Result<Slots, AllocError> {
     let names = names_in(alloc, image)?;
+    slots_under(alloc, image, items, &names)
+}
+
+// The slots that stand whole in the blobs of these names.
+fn slots_under(
+    alloc: Global,
+    image: &Image,
+    items: u64,
+    names: &Names,
+) -> Result<Slots, AllocError> {
+    let mut slots = BTreeMap::new(alloc);
     for i in 0..names.len() {
         let name = names.get(i).unwrap_or(b"");
-        let blob = image.blob(PARTITION, name).unwrap_or(b"");
-        add_slots(&mut slots, name, blob, items)?;
+        add_slots(&mut slots, name, bytes_in(image, name), items)?;
     }
     Ok(slots)
 }
@@ -99,11 +118,10 @@ pub fn tell_refusal(
     items: u64,
     marks: &Marks,
     text: &mut String,
-) -> Result<(), DevError> {
-    let names = names_in(alloc, image)?;
-    tell_foreign(&names, text)?;
+) -> Result<(), AllocError> {
+    tell_names(alloc, image, text)?;
     tell_past(items, marks, text)?;
-    Ok(tell_faults(image, items, marks, text)?)
+    tell_faults(image, items, marks, text)
 }
 
 // Tells the refusal of the first section that is not as it has to be.
@@ -115,21 +133,38 @@ fn tell_faults(
 ) -> Result<(), AllocError> {
     for (section, bits) in marks.iter() {
         if text.is_empty() {
-            let name = section.to_be_bytes();
-            let blob = image.blob(PARTITION, name.as_slice());
-            tell_fault(text, blob, items, *section, bits)?;
+            tell_section(image, items, *section, bits, text)?;
         }
     }
     Ok(())
 }
 
+// Tells the refusal of a section that is not as it has to be.
+fn tell_section(
+    image: &Image,
+    items: u64,
+    section: u64,
+    bits: &Option<BitMap>,
+    text: &mut String,
+) -> Result<(), AllocError> {
+    let name = section.to_be_bytes();
+    let blob = image.blob(PARTITION, name.as_slice());
+    tell_fault(text, blob, items, section, bits)
+}
+
 // Tells the first name that is no section's.
+fn tell_names(alloc: Global, image: &Image, text: &mut String) -> Result<(), AllocError> {
+    let names = names_in(alloc, image)?;
+    tell_foreign(&names, text)
+}
+
+// Tells the first of these names that is no section's.
 fn tell_foreign(names: &Names, text: &mut String) -> Result<(), AllocError> {
     for i in 0..names.len() {
         let name = names.get(i).unwrap_or(b"");
-        if name.len() != 8 && text.is_empty() {
+        if name.len() != 8 {
             text.push_str("error invalid-blob-name ")?;
-            add_hex(text, name)?;
+            return add_hex(text, name);
         }
     }
     Ok(())
@@ -177,7 +212,7 @@ fn first_fault(blob: &[u8], items: u64, bits: &Option<BitMap>) -> Option<u64> {
 fn is_sound(blob: &[u8], items: u64, bits: &Option<BitMap>, position: u64) -> bool {
     match (slot_at(blob, position), bits) {
         (None, _) => false,
-        (Some(slot), None) => value_in(&slot).is_some(),
+        (Some(slot), None) => value_in(slot).is_some(),
         (Some(_), Some(_)) => position < items,
     }
 }
@@ -193,17 +228,17 @@ fn tell_fault(
     let first = section.saturating_mul(items);
     let bytes = blob.unwrap_or(b"");
     if bits.is_none() && slot_at(bytes, items).is_some() {
-        let behind = first.saturating_add(items);
-        return write!(text, "error invalid-record {behind}");
+        return tell_at(text, "invalid-record", first.saturating_add(items));
     }
-    let Some(position) = first_fault(bytes, items, bits) else {
-        return Ok(());
-    };
-    let index = match blob {
-        None => first,
-        Some(_) => first.saturating_add(position),
-    };
-    write!(text, "error missing-record {index}")
+    match (first_fault(bytes, items, bits), blob) {
+        (None, _) => Ok(()),
+        (Some(_), None) => tell_at(text, "missing-record", first),
+        (Some(position), Some(_)) => tell_at(
+            text,
+            "missing-record",
+            first.saturating_add(position),
+        ),
+    }
 }
 
 /// Adds the sections of an image, each with the values in its slots: `SECTION:INDEX=VALUE,..;..`.
@@ -212,9 +247,9 @@ pub fn tell_image(
     image: &Image,
     items: u64,
     text: &mut String,
-) -> Result<(), DevError> {
+) -> Result<(), AllocError> {
     let names = names_in(alloc, image)?;
-    Ok(tell_blobs(image, items, &names, text)?)
+    tell_blobs(image, items, &names, text)
 }
 
 // Adds the values in the blobs of these names.
@@ -226,9 +261,7 @@ fn tell_blobs(
 ) -> Result<(), AllocError> {
     for i in 0..names.len() {
         let name = names.get(i).unwrap_or(b"");
-        let blob = image.blob(PARTITION, name).unwrap_or(b"");
-        text.push_str(if i == 0 { "" } else { ";" })?;
-        tell_blob(text, name, blob, items)?;
+        tell_blob(text, name, bytes_in(image, name), items)?;
     }
     if text.is_empty() {
         return text.push('-');
@@ -238,19 +271,36 @@ fn tell_blobs(
 
 // Adds the values in a blob, if it is a section's.
 fn tell_blob(text: &mut String, name: &[u8], blob: &[u8], items: u64) -> Result<(), AllocError> {
-    let Some(section) = section_in(name) else {
-        return text.push_str("other");
-    };
+    if !text.is_empty() {
+        text.push(';')?;
+    }
+    match section_in(name) {
+        None => text.push_str("other"),
+        Some(section) => tell_values(text, section, blob, items),
+    }
+}
+
+// Adds a section, and the values in its slots.
+fn tell_values(text: &mut String, section: u64, blob: &[u8], items: u64) -> Result<(), AllocError> {
     write!(text, "{section}:")?;
-    let mut between = "";
+    let first = section.saturating_mul(items);
     for position in 0..blob.len() as u64 / 12 {
-        if let Some(slot) = slot_at(blob, position)
-            && let Some(value) = value_in(&slot)
-        {
-            let index = section.saturating_mul(items).saturating_add(position);
-            write!(text, "{between}{index}={value}")?;
-            between = ",";
+        if let Some(value) = value_at(blob, position) {
+            tell_value(text, first.saturating_add(position), value)?;
         }
     }
     Ok(())
+}
+
+// The value in the slot at a position, if there is one.
+fn value_at(blob: &[u8], position: u64) -> Option<u64> {
+    value_in(slot_at(blob, position)?)
+}
+
+// Adds a value behind those that stand before it.
+fn tell_value(text: &mut String, index: u64, value: u64) -> Result<(), AllocError> {
+    if !text.as_str().ends_with(':') {
+        text.push(',')?;
+    }
+    write!(text, "{index}={value}")
 }

@@ -2,13 +2,16 @@
 ghost use Rattle.std.specs.Prelude.{◌≡◌};
 ghost use Rattle.ordinal_store_tests.specs.Over.{MayBeOver};
 
-use crate::disk::{Bench, arm, look, remake};
+use crate::disk::{Bench, arm, fail_from, look, remake};
+use crate::images::{device_over, image_of};
 use crate::judge::judge;
 use crate::steps::{ask, change, put};
 use crate::stores::{FAULT, Store};
 use crate::words::{Family, MISSPELT, family_of, is_spelt};
-use blob_device::{DevError, Image, Memory};
+use blob_device::Memory;
 use scenario_text::{Report, Step};
+use std::alloc::AllocError;
+
 /// How often a run is made at most.
 const MOST: u64 = 200;
 
@@ -18,14 +21,14 @@ pub fn carry_out(
     dev: &mut Memory,
     steps: &[Step],
     report: &mut Report,
-) -> Result<(), DevError> {
+) -> Result<(), AllocError> {
     let at = play(bench, dev, steps, report)?;
     let Some((step, run)) = steps.get(at..).unwrap_or(&[]).split_first() else {
         return Ok(());
     };
     match family_of(step.word()) {
         Family::Run => run_whole(bench, dev, step, run, report),
-        _ => Ok(report.compare(step, FAULT)?),
+        _ => report.compare(step, FAULT),
     }
 }
 
@@ -36,7 +39,7 @@ fn play(
     dev: &mut Memory,
     steps: &[Step],
     report: &mut Report,
-) -> Result<usize, DevError> {
+) -> Result<usize, AllocError> {
     let mut store = None;
     play_on(bench, &mut store, dev, steps, report)
 }
@@ -48,7 +51,7 @@ fn play_on(
     dev: &mut Memory,
     steps: &[Step],
     report: &mut Report,
-) -> Result<usize, DevError>
+) -> Result<usize, AllocError>
     requires { MayBeOver store.old dev.old }
 {
     'steps: for (at, step) in steps.iter().enumerate() {
@@ -72,20 +75,22 @@ fn take_step(
     dev: &mut Memory,
     step: &Step,
     report: &mut Report,
-) -> Result<bool, DevError>
+) -> Result<bool, AllocError>
     requires { MayBeOver store.old dev.old }
     ensures { MayBeOver store.new dev.new }
 {
     let mut text = String::new(bench.alloc);
-    if is_spelt(step) {
-        obey(bench, store, dev, step, &mut text)?;
-    } else {
-        text.push_str(MISSPELT)?;
-    }
-    if text.as_str() == FAULT && step.wanted.as_str() != FAULT {
+    obey(bench, store, dev, step, &mut text)?;
+    compare(step, text.as_str(), report)
+}
+
+// Compares what is said with what is wanted, unless the device stopped the step and is not to. The answer is
+// whether it was compared.
+fn compare(step: &Step, said: &str, report: &mut Report) -> Result<bool, AllocError> {
+    if said == FAULT && step.wanted.as_str() != FAULT {
         return Ok(false);
     }
-    report.compare(step, text.as_str())?;
+    report.compare(step, said)?;
     Ok(true)
 }
 
@@ -96,24 +101,73 @@ fn obey(
     dev: &mut Memory,
     step: &Step,
     text: &mut String,
-) -> Result<(), DevError>
+) -> Result<(), AllocError>
     requires { MayBeOver store.old dev.old }
     ensures { MayBeOver store.new dev.new }
 {
+    if !is_spelt(step) {
+        return text.push_str(MISSPELT);
+    }
     match family_of(step.word()) {
         Family::Look => look(bench, dev, step, text),
         Family::Arm => arm(dev, step, text),
         Family::Remake => {
             put(store, None);
-            Ok(text.push_str(remake(bench, dev, step)?)?)
+            begin_anew(bench, dev, step, text)
         }
-        Family::Change if store.is_some() || step.word() == "open" => {
-            change(bench, store, dev, step, text)
-        }
-        _ => match &*store {
-            None => Ok(text.push_str("refused: not open")?),
-            Some(store) => ask(bench, store, dev, step, text),
-        },
+        Family::Change => change_open(bench, store, dev, step, text),
+        _ => ask_open(bench, store, dev, step, text),
+    }
+}
+
+// What is said of a call that wants an open store.
+const CLOSED: &str = "refused: not open";
+
+// Makes another device, or another configuration, or gives the store up.
+fn begin_anew(
+    bench: &mut Bench,
+    dev: &mut Memory,
+    step: &Step,
+    text: &mut String,
+) -> Result<(), AllocError> {
+    if step.word() == "close" {
+        bench.model.give_up(bench.alloc);
+        return text.push_str("ok");
+    }
+    remake(bench, dev, step, text)
+}
+
+// Makes a call that changes the store, which has to be open, or is opened by it.
+fn change_open(
+    bench: &mut Bench,
+    store: &mut Option<Store>,
+    dev: &mut Memory,
+    step: &Step,
+    text: &mut String,
+) -> Result<(), AllocError>
+    requires { MayBeOver store.old dev.old }
+    ensures { MayBeOver store.new dev.new }
+{
+    if store.is_none() && step.word() != "open" {
+        return text.push_str(CLOSED);
+    }
+    change(bench, store, dev, step, text)
+}
+
+// Asks the store, which has to be open.
+fn ask_open(
+    bench: &Bench,
+    store: &Option<Store>,
+    dev: &mut Memory,
+    step: &Step,
+    text: &mut String,
+) -> Result<(), AllocError>
+    requires { MayBeOver store.now dev.old }
+    ensures { MayBeOver store.now dev.new }
+{
+    match store {
+        None => text.push_str(CLOSED),
+        Some(store) => ask(bench, store, dev, step, text),
     }
 }
 
@@ -124,39 +178,51 @@ fn run_whole(
     mode: &Step,
     run: &[Step],
     report: &mut Report,
-) -> Result<(), DevError> {
+) -> Result<(), AllocError> {
     for nth in 0..MOST {
-        let image = start.image(bench.alloc)?;
-        if !run_once(bench, image, (mode, nth), run, report)? || !report.is_well() {
-            let count = format!(in bench.alloc; "{nth}")?;
-            return Ok(report.compare(mode, count.as_str())?);
+        if !run_once(bench, start, (mode, nth), run, report)? || !report.is_well() {
+            return tell_count(bench, mode, nth, report);
         }
     }
-    Ok(report.fail(mode.line, "the run is stopped again and again")?)
+    report.fail(mode.line, "the run is stopped again and again")
 }
 
-// Lets a call of the device fail, in some runs alone, and else with all behind it.
-fn stop_at(dev: &mut Memory, mode: &Step, nth: u64) -> Result<(), DevError> {
-    if mode.word() == "each-call-fails" {
-        return dev.fail_at(nth);
-    }
-    dev.fuse_at(nth);
-    Ok(())
+// Tells how many runs were stopped.
+fn tell_count(
+    bench: &Bench,
+    mode: &Step,
+    count: u64,
+    report: &mut Report,
+) -> Result<(), AllocError> {
+    let text = format!(in bench.alloc; "{count}")?;
+    report.compare(mode, text.as_str())
 }
 
 // Makes the run, and judges what each crash then leaves. The answer is whether it was stopped.
 fn run_once(
     bench: &mut Bench,
-    image: Image,
+    start: &Memory,
     stop: (&Step, u64),
     run: &[Step],
     report: &mut Report,
-) -> Result<bool, DevError> {
+) -> Result<bool, AllocError> {
+    let image = image_of(bench.alloc, start)?;
+    let mut dev = device_over(bench.alloc, image)?;
+    run_on(bench, &mut dev, stop, run, report)
+}
+
+// The same, on this device.
+fn run_on(
+    bench: &mut Bench,
+    dev: &mut Memory,
+    stop: (&Step, u64),
+    run: &[Step],
+    report: &mut Report,
+) -> Result<bool, AllocError> {
     let (mode, nth) = stop;
-    let mut dev = Memory::from_image(bench.alloc, image)?;
-    bench.restart(&dev)?;
-    stop_at(&mut dev, mode, nth)?;
-    let at = play(bench, &mut dev, run, report)?;
-    judge(bench, &dev, mode, run.get(..at).unwrap_or(&[]), report)?;
+    bench.restart(dev)?;
+    fail_from(dev, mode.word() == "each-call-fails", nth)?;
+    let at = play(bench, dev, run, report)?;
+    judge(bench, dev, mode, run.get(..at).unwrap_or(&[]), report)?;
     Ok(at < run.len())
 }

@@ -2,6 +2,19 @@
 use ordinal_store::{BitMap, RangeIter};
 use std::alloc::AllocError;
 
+/// Says that a record is not as it has to be.
+pub fn tell_at(text: &mut String, error: &str, index: u64) -> Result<(), AllocError> {
+    write!(text, "error {error} {index}")
+}
+
+/// Adds two digits for each byte.
+pub fn add_hex(text: &mut String, bytes: &[u8]) -> Result<(), AllocError> {
+    for byte in bytes {
+        write!(text, "{byte:02x}")?;
+    }
+    Ok(())
+}
+
 /// Adds a number, behind a space where something stands before it; `none` where there is none.
 pub fn add_number(text: &mut String, number: Option<u64>) -> Result<(), AllocError> {
     if !text.is_empty() {

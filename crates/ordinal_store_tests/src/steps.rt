@@ -3,13 +3,13 @@ ghost use Rattle.std.specs.Prelude.{◌≡◌, ◌≤◌, ◌^◌, IfOk};
 ghost use Rattle.ordinal_store_tests.specs.Over.{IsOver, MayBeOver};
 
 use crate::disk::Bench;
-use crate::model::{Call, Model};
+use crate::images::image_of;
+use crate::model::Call;
 use crate::plainly::{Slots, slots_in, tell_refusal, value_in};
-use crate::said::add_number;
-use crate::stores::{self, FAULT, Store, changed, holds_just, opened, tell_error};
+use crate::said::{add_number, tell_at};
+use crate::stores::{self, FAULT, Store, called, holds_just, tell_error};
 use crate::words::{call_in, number};
-use blob_device::{DevError, Image, Memory};
-use ordinal_store::ordinal::{Config, Error};
+use blob_device::{Image, Memory};
 use scenario_text::Step;
 use std::alloc::{AllocError, Global};
 use std::mem;
@@ -21,8 +21,6 @@ struct Begun {
     call: Call,
     /// The image.
     image: Image,
-    /// The slots in the image.
-    slots: Slots,
 }
 
 /// Makes the call of a step, in the library and in the plain program. It says what the library answers, and where the
@@ -33,16 +31,15 @@ pub fn change(
     dev: &mut Memory,
     step: &Step,
     text: &mut String,
-) -> Result<(), DevError>
+) -> Result<(), AllocError>
     requires { MayBeOver store.old dev.old }
     ensures { MayBeOver store.new dev.new }
 {
     if !bench.config.is_valid() {
-        return Ok(text.push_str("refused: not valid")?);
+        return text.push_str("refused: not valid");
     }
-    let begun = begun_by(bench.alloc, &bench.config, &mut bench.model, dev, step)?;
-    let next = told(bench, mem::replace(store, None), dev, &begun.call, text)?;
-    put(store, next);
+    let begun = begun_by(bench, dev, step)?;
+    make(bench, store, dev, &begun.call, text)?;
     judge_call(bench, store, &begun, text)
 }
 
@@ -54,60 +51,37 @@ pub fn put(place: &mut Option<Store>, store: Option<Store>)
 }
 
 // Reads the call and the image, and begins the call in the plain program.
-fn begun_by(
-    alloc: Global,
-    config: &Config,
-    model: &mut Model,
-    dev: &Memory,
-    step: &Step,
-) -> Result<Begun, DevError> {
-    let Ok(call) = call_in(alloc, step) else {
-        return Err(DevError::Mem);
-    };
-    model.begin(alloc, config.items_per_blob, &call)?;
-    let image = dev.image(alloc)?;
-    let slots = slots_in(alloc, &image, config.items_per_blob)?;
-    Ok(Begun { call, image, slots })
+fn begun_by(bench: &mut Bench, dev: &Memory, step: &Step) -> Result<Begun, AllocError>
+    ensures { bench.new.config ≡ bench.old.config }
+{
+    let call = call_in(bench.alloc, step)?;
+    bench
+        .model
+        .begin(bench.alloc, bench.config.items_per_blob, &call)?;
+    let image = image_of(bench.alloc, dev)?;
+    Ok(Begun { call, image })
 }
 
-// Makes the call, and tells why it is refused. The answer is the store, where it is open then.
-fn told(
+// Makes the call, and tells why it is refused. A store whose call is refused is gone.
+fn make(
     bench: &Bench,
-    store: Option<Store>,
+    store: &mut Option<Store>,
     dev: &mut Memory,
     call: &Call,
     text: &mut String,
-) -> Result<Option<Store>, DevError>
+) -> Result<(), AllocError>
     requires valid { (1 ≤ bench.now.config.items_per_blob)
         × (bench.now.config.items_per_blob ≤ 2 ^ 40) }
-    requires over { MayBeOver store dev.old }
-    ensures { IfOk result (λ r. MayBeOver r dev.new) }
+    requires over { MayBeOver store.old dev.old }
+    ensures { MayBeOver store.new dev.new }
 {
-    match called(bench, store, dev, call) {
-        Ok(store) => Ok(store),
-        Err(error) => {
-            tell_error(text, &error)?;
-            Ok(None)
+    let before = mem::replace(store, None);
+    match called(bench.alloc, dev, &bench.config, before, call) {
+        Ok(after) => {
+            put(store, after);
+            Ok(())
         }
-    }
-}
-
-// Makes the call. The answer is the store, where it is open then.
-fn called(
-    bench: &Bench,
-    store: Option<Store>,
-    dev: &mut Memory,
-    call: &Call,
-) -> Result<Option<Store>, Error>
-    requires valid { (1 ≤ bench.now.config.items_per_blob)
-        × (bench.now.config.items_per_blob ≤ 2 ^ 40) }
-    requires over { MayBeOver store dev.old }
-    ensures { IfOk result (λ r. MayBeOver r dev.new) }
-{
-    match (call, store) {
-        (Call::Open(marks), _) => Ok(Some(opened(bench.alloc, dev, &bench.config, marks)?)),
-        (_, Some(store)) => changed(dev, store, call),
-        (_, None) => Ok(None),
+        Err(error) => tell_error(text, &error),
     }
 }
 
@@ -117,27 +91,49 @@ fn judge_call(
     store: &Option<Store>,
     begun: &Begun,
     text: &mut String,
-) -> Result<(), DevError> {
-    let alloc = bench.alloc;
-    let items = bench.config.items_per_blob;
-    if text.is_empty() {
-        text.push_str("ok")?;
-        bench.model.end(alloc, items, &begun.call, &begun.slots)?;
-        judge_held(bench, store, text)?;
-    } else {
-        bench.model.give_up(alloc);
-    }
+) -> Result<(), AllocError> {
+    end(bench, store, begun, text)?;
     if text.as_str() == FAULT {
         return Ok(());
     }
-    let mut plain = String::new(alloc);
+    let mut plain = String::new(bench.alloc);
+    tell_plainly(bench, begun, &mut plain)?;
+    add_other(text, plain.as_str())
+}
+
+// Ends the call in the plain program, and says where the store then holds other indices.
+fn end(
+    bench: &mut Bench,
+    store: &Option<Store>,
+    begun: &Begun,
+    text: &mut String,
+) -> Result<(), AllocError> {
+    if !text.is_empty() {
+        bench.model.give_up(bench.alloc);
+        return Ok(());
+    }
+    text.push_str("ok")?;
+    end_well(bench, begun)?;
+    judge_held(bench, store, text)
+}
+
+// The call ended well.
+fn end_well(bench: &mut Bench, begun: &Begun) -> Result<(), AllocError> {
+    let items = bench.config.items_per_blob;
+    let slots = slots_in(bench.alloc, &begun.image, items)?;
+    bench.model.end(bench.alloc, items, &begun.call, &slots)
+}
+
+// Says how the call has to end.
+fn tell_plainly(bench: &Bench, begun: &Begun, plain: &mut String) -> Result<(), AllocError> {
     if let Call::Open(Some(marks)) = &begun.call {
-        tell_refusal(alloc, &begun.image, items, marks, &mut plain)?;
+        let items = bench.config.items_per_blob;
+        tell_refusal(bench.alloc, &begun.image, items, marks, plain)?;
     }
     if plain.is_empty() {
-        plain.push_str("ok")?;
+        return plain.push_str("ok");
     }
-    Ok(add_other(text, plain.as_str())?)
+    Ok(())
 }
 
 // Says where the store holds other indices than the plain program.
@@ -165,21 +161,26 @@ pub fn ask(
     dev: &mut Memory,
     step: &Step,
     text: &mut String,
-) -> Result<(), DevError>
+) -> Result<(), AllocError>
     requires { IsOver store.now dev.old }
     ensures { IsOver store.now dev.new }
 {
     if step.word() != "get" {
-        return Ok(stores::ask(store, step, text)?);
+        return stores::ask(store, step, text);
     }
     let index = number(step, 0);
     read(store, dev, index, text)?;
+    judge_value(bench, index, text)
+}
+
+// Says what the read has to answer, where that is something else.
+fn judge_value(bench: &Bench, index: u64, text: &mut String) -> Result<(), AllocError> {
     if text.as_str() == FAULT {
         return Ok(());
     }
     let mut plain = String::new(bench.alloc);
     tell_value(&mut plain, &bench.model.held, index)?;
-    Ok(add_other(text, plain.as_str())?)
+    add_other(text, plain.as_str())
 }
 
 // Reads a value, and tells it.
@@ -198,8 +199,8 @@ fn tell_value(text: &mut String, slots: &Slots, index: u64) -> Result<(), AllocE
     let Some(slot) = slots.get(&index) else {
         return text.push_str("none");
     };
-    let Some(value) = value_in(slot) else {
-        return write!(text, "error invalid-record {index}");
-    };
-    write!(text, "{value}")
+    match value_in(*slot) {
+        None => tell_at(text, "invalid-record", index),
+        value => add_number(text, value),
+    }
 }

@@ -3,7 +3,6 @@ use crate::asked::{is_mark, marks_in};
 use crate::change::is_change;
 use crate::model::Call;
 use blob_device::CrashChoice;
-use ordinal_store::RMapError;
 use scenario_text::Step;
 use std::alloc::{AllocError, Global};
 
@@ -32,6 +31,13 @@ pub fn family_of(word: &str) -> Family {
         "calls" | "faults" | "shows" | "kept" => Family::Look,
         "fail" | "fuse" => Family::Arm,
         "store" | "blob" | "damage" | "crash" | "close" => Family::Remake,
+        _ => family_of_call(word),
+    }
+}
+
+// The same of a word that is for no device alone.
+fn family_of_call(word: &str) -> Family {
+    match word {
         "open" | "put" | "sync" | "prune" | "destroy" => Family::Change,
         "each-call-stops" | "each-call-stops-twice" | "each-call-fails" => Family::Run,
         "leaves" => Family::Leaves,
@@ -44,23 +50,70 @@ pub const MISSPELT: &str = "refused: not the words of this command";
 
 /// Whether a step has the words that its command takes.
 pub fn is_spelt(step: &Step) -> bool {
-    match step.word() {
-        "put" | "missing" => has_numbers(step, 2),
-        "get" | "has" | "next-gap" | "prune" | "fail" | "fuse" => has_numbers(step, 1),
-        "store" => has_numbers(step, 3),
-        "damage" => step.number(1).is_some(),
-        "crash" => step.argument(0) != "mixed" || step.number(1).is_some(),
-        "ranges" => step.rest().is_empty() || has_numbers(step, 1),
-        "change" | "same" | "alike" => step.rest().iter().all(|word| is_change(word.as_str())),
-        "bits" => has_numbers(step, 1) && entries(step).iter().all(|word| is_change(word.as_str())),
-        "open" => entries(step).iter().all(|word| is_mark(word.as_str())),
-        _ => true,
+    has_numbers(step, numbers_behind(step.word())) && has_others(step)
+}
+
+// How many numbers stand behind this first word at least.
+fn numbers_behind(word: &str) -> usize {
+    if has_one_number(word) {
+        return 1;
     }
+    match word {
+        "store" => 3,
+        "put" | "missing" => 2,
+        _ => 0,
+    }
+}
+
+// Whether one number stands behind this first word.
+fn has_one_number(word: &str) -> bool {
+    matches!(
+        word,
+        "get" | "has" | "next-gap" | "prune" | "fail" | "fuse" | "bits"
+    )
 }
 
 // Whether so many numbers stand behind the first word.
 fn has_numbers(step: &Step, count: usize) -> bool {
-    (0..count).all(|at| step.number(at).is_some())
+    for at in 0..count {
+        if step.number(at).is_none() {
+            return false;
+        }
+    }
+    true
+}
+
+// Whether the words that are no such numbers are as the command takes them.
+fn has_others(step: &Step) -> bool {
+    match step.word() {
+        "damage" => step.number(1).is_some(),
+        "crash" => step.argument(0) != "mixed" || step.number(1).is_some(),
+        "ranges" => step.rest().is_empty() || step.number(0).is_some(),
+        "change" | "same" | "alike" => are_changes(step.rest()),
+        "bits" => are_changes(entries(step)),
+        "open" => are_marks(entries(step)),
+        _ => true,
+    }
+}
+
+// Whether each word spells a change.
+fn are_changes(words: &[String]) -> bool {
+    for word in words {
+        if !is_change(word.as_str()) {
+            return false;
+        }
+    }
+    true
+}
+
+// Whether each word spells what is kept of a section.
+fn are_marks(words: &[String]) -> bool {
+    for word in words {
+        if !is_mark(word.as_str()) {
+            return false;
+        }
+    }
+    true
 }
 
 /// The number at this place behind the first word. One that has to stand there does ([`is_spelt`]).
@@ -77,7 +130,7 @@ pub fn name_in(alloc: Global, word: &str) -> Result<Vec<u8>, AllocError> {
 }
 
 /// The call that a step makes.
-pub fn call_in(alloc: Global, step: &Step) -> Result<Call, RMapError> {
+pub fn call_in(alloc: Global, step: &Step) -> Result<Call, AllocError> {
     let at = number(step, 0);
     match step.word() {
         "open" if step.argument(0) == "none" => Ok(Call::Open(None)),

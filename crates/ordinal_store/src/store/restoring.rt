@@ -1,6 +1,6 @@
 // The parts of opening one section: it is opened and mended, and then checked.
 ghost use Rattle.std.specs.Prelude.{◌≡◌, ◌+◌, ◌*◌, ◌^◌, ◌≤◌, ◌<◌, ℕ, Some, None, true};
-ghost use Rattle.sealed_pages.specs.Writing.{blob_key, shown as buffer_shown};
+ghost use Rattle.sealed_pages.specs.unsealed.Writing.{blob_key, shown as buffer_shown};
 ghost use Rattle.ordinal_store.specs.Adopting.{IsReady};
 ghost use Rattle.ordinal_store.specs.Marking.{is_wanted};
 ghost use Rattle.ordinal_store.specs.Reopening.{Checking, HasWanted, Reopening};

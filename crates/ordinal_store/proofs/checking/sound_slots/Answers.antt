@@ -1,5 +1,5 @@
 use Rattle.std.proofs.Common.{◌+◌, [], arith}
-use Rattle.sealed_pages.specs.Writing.{blob_key, shown, size_of}
+use Rattle.sealed_pages.specs.unsealed.Writing.{blob_key, shown, size_of}
 use Rattle.ordinal_store.specs.Slots.{stored_by}
 use Rattle.ordinal_store.specs.Stores.{sight}
 use Rattle.ordinal_store.proofs.SoundLemmas.{piece_room, ready_on, sounded_end, sounded_failed, sounded_on, sounded_start, sounded_stop}

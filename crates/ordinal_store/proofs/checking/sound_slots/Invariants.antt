@@ -1,5 +1,5 @@
 use Rattle.std.proofs.Common.{◌-◌, ◌≤◌, ℕ, List}
-use Rattle.sealed_pages.specs.Writing.{blob_key, shown}
+use Rattle.sealed_pages.specs.unsealed.Writing.{blob_key, shown}
 use Rattle.ordinal_store.specs.Slots.{stored_by}
 use Rattle.ordinal_store.specs.Stores.{sight}
 use Rattle.ordinal_store.proofs.SoundLemmas.{Sounded}

@@ -1,4 +1,4 @@
-use Rattle.ordinal_store.proofs.OneAnswer.{have_one_answer}
+use Rattle.ordinal_store.proofs.ranges.OneAnswer.{have_one_answer}
 use Rattle.ordinal_store.proofs.laws.one_answer.Goals as goal
 
 pub returns : goal.returns

@@ -1,6 +1,6 @@
 use Rattle.std.proofs.Common.{◌+◌, ◌*◌, ◌/◌, ◌<◌, ◌≤◌, ℕ, length, refl, subst, arith}
 use Rattle.blob_device.proofs.Results.{err_of}
-use Rattle.sealed_pages.specs.Writing.{shown, size_of}
+use Rattle.sealed_pages.specs.unsealed.Writing.{shown, size_of}
 use Rattle.ordinal_store.specs.Stores.{sight}
 use Rattle.ordinal_store.proofs.ClearLemmas.{clear_all, clear_failed, clear_start, clear_then, room_below}
 use Rattle.ordinal_store.proofs.mending.clear_unmarked.Goals as goal

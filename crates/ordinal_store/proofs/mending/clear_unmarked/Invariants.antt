@@ -1,6 +1,6 @@
 use Rattle.std.proofs.Common.{length}
 use Rattle.std.specs.Prelude.{Ok}
-use Rattle.sealed_pages.specs.Writing.{shown}
+use Rattle.sealed_pages.specs.unsealed.Writing.{shown}
 use Rattle.ordinal_store.specs.Mending.{Clearing}
 use Rattle.ordinal_store.specs.Stores.{sight}
 use Rattle.ordinal_store.proofs.mending.clear_unmarked.Given as goal

@@ -1,6 +1,6 @@
 use Rattle.std.proofs.Common.{◌≡◌, ◌/◌, length, replicate, inl, inr, sym, ap, ◌∙◌, subst, arith}
 use Rattle.std.specs.Prelude.{Ok, Err}
-use Rattle.sealed_pages.specs.Writing.{shown, size_of}
+use Rattle.sealed_pages.specs.unsealed.Writing.{shown, size_of}
 use Rattle.ordinal_store.specs.Mending.{Clearing, IsClearable}
 use Rattle.ordinal_store.specs.Stores.{sight}
 use Rattle.ordinal_store.proofs.MendLemmas.{clear_done, clearable_of, no_zeros, uncleared, unsettled}

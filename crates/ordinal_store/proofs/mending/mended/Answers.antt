@@ -1,6 +1,6 @@
 use Rattle.std.proofs.Common.{List, Option, Bool, sym, subst}
 use Rattle.std.specs.Prelude.{Ok}
-use Rattle.sealed_pages.specs.Writing.{blob_key, shown, size_of}
+use Rattle.sealed_pages.specs.unsealed.Writing.{blob_key, shown, size_of}
 use Rattle.ordinal_store.specs.Mending.{IsInLeft, IsMade, Mending, whole}
 use Rattle.ordinal_store.specs.Stores.{sight}
 use Rattle.ordinal_store.proofs.MendLemmas.{mend_both, mend_cut, mend_cut_failed, ready_own}

@@ -1,7 +1,7 @@
 use Rattle.std.proofs.Common.{◌≡◌, ℕ, List, ◌++◌, length, take, drop, inl, inr, refl, ap, sym, ◌∙◌, arith}
 use Rattle.std.proofs.Math.Seq.{take-append_seam}
 use Rattle.blob_device.specs.Timeline.{disk}
-use Rattle.sealed_pages.specs.Writing.{blob_key, bytes_of, shown}
+use Rattle.sealed_pages.specs.unsealed.Writing.{blob_key, bytes_of, shown}
 use Rattle.blob_device.proofs.Moments.{always_start}
 use Rattle.sealed_pages.proofs.EntryLemmas.{reads_start}
 use Rattle.ordinal_store.proofs.MendLemmas.{failed_of}

@@ -1,7 +1,7 @@
 use Rattle.std.proofs.Common.{◌≡◌, ◌<◌, ◌∙◌, ◌/◌, length, get_or, set, ap, arith}
 use Rattle.std.proofs.lemmas.List.{get_or_read}
 use Rattle.std.specs.Int.{bit_at}
-use Rattle.ordinal_store.proofs.BitLemmas.{length-bits_of, bits_of-set, packed-set}
+use Rattle.ordinal_store.proofs.ranges.BitLemmas.{length-bits_of, bits_of-set, packed-set}
 use Rattle.ordinal_store.proofs.bit_map.BitMap.set.Goals as goal
 
 pub index-byte-requires : goal.index-byte-requires

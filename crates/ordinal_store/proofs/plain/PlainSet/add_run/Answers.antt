@@ -1,4 +1,4 @@
-use Rattle.ordinal_store.proofs.Walked.{IsWalked-pushed, IsWalked-short, IsWalked-within, IsWalked-absent}
+use Rattle.ordinal_store.proofs.ranges.Walked.{IsWalked-pushed, IsWalked-short, IsWalked-within, IsWalked-absent}
 use Rattle.ordinal_store.proofs.plain.PlainSet.add_run.Goals as goal
 
 pub returns-in_ok-push-in-Some : goal.returns-in_ok-push-in-Some

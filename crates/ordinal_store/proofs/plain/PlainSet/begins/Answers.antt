@@ -1,5 +1,5 @@
 use Rattle.std.proofs.lemmas.Bool.{eqb-true, eq-eqb}
-use Rattle.ordinal_store.proofs.PlainList.{begins_from_around, around_from_begins}
+use Rattle.ordinal_store.proofs.ranges.PlainList.{begins_from_around, around_from_begins}
 use Rattle.ordinal_store.proofs.plain.PlainSet.begins.Goals as goal
 
 pub returns-in-Some : goal.returns-in-Some

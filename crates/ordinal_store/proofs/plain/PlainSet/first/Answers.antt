@@ -1,4 +1,4 @@
-use Rattle.ordinal_store.proofs.PlainList.{IsLeast-from_list}
+use Rattle.ordinal_store.proofs.ranges.PlainList.{IsLeast-from_list}
 use Rattle.ordinal_store.proofs.plain.PlainSet.first.Goals as goal
 
 pub returns : goal.returns

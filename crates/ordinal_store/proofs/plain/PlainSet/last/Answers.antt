@@ -1,4 +1,4 @@
-use Rattle.ordinal_store.proofs.PlainList.{IsGreatest-from_list}
+use Rattle.ordinal_store.proofs.ranges.PlainList.{IsGreatest-from_list}
 use Rattle.ordinal_store.proofs.plain.PlainSet.last.Goals as goal
 
 pub returns : goal.returns

@@ -2,7 +2,7 @@ use Rattle.std.proofs.Common.{◌+◌, ℕ, List, Vec, Global, sym, ◌∙◌, s
 use Rattle.std.proofs.lemmas.Bool.{false≢true}
 use Rattle.ordinal_store.specs.Numbers.{AreMissing}
 use Rattle.ordinal_store.specs.Plain.{listed}
-use Rattle.ordinal_store.proofs.PlainList.{IsMissingTo, IsMissingTo-member, IsMissingTo-absent, AreMissing-from_to}
+use Rattle.ordinal_store.proofs.ranges.PlainList.{IsMissingTo, IsMissingTo-member, IsMissingTo-absent, AreMissing-from_to}
 use Rattle.ordinal_store.proofs.plain.PlainSet.missing.Goals as goal
 use Rattle.ordinal_store.proofs.plain.PlainSet.missing.Goals.{then-not-has+in_ok-push, else-not-has}
 

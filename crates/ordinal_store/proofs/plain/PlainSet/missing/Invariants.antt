@@ -1,5 +1,5 @@
 use Rattle.ordinal_store.specs.Plain.{listed}
-use Rattle.ordinal_store.proofs.PlainList.{IsMissingTo}
+use Rattle.ordinal_store.proofs.ranges.PlainList.{IsMissingTo}
 use Rattle.ordinal_store.proofs.plain.PlainSet.missing.Given as goal
 
 abbrev pub invariant-loop-number : goal.invariant-loop-number

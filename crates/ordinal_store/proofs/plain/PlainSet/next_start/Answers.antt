@@ -1,7 +1,7 @@
 use Rattle.std.proofs.Common.{ℕ, List, ◌∙◌, subst}
 use Rattle.std.proofs.lemmas.List.{take_more, take_all}
 use Rattle.ordinal_store.specs.Plain.{listed, IsNextAmong}
-use Rattle.ordinal_store.proofs.PlainList.{IsNextRun-from_among}
+use Rattle.ordinal_store.proofs.ranges.PlainList.{IsNextRun-from_among}
 use Rattle.ordinal_store.proofs.plain.PlainSet.next_start.Goals as goal
 
 pub loop-start-preserved : goal.loop-start-preserved

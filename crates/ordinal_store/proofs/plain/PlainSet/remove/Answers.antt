@@ -1,6 +1,6 @@
 use Rattle.std.proofs.Common.{ℕ, List, nat_lt, ◌||◌, filter, ap, ◌∙◌}
 use Rattle.std.proofs.lemmas.List.{take_all}
-use Rattle.ordinal_store.proofs.PlainList.{TakesAway-filter}
+use Rattle.ordinal_store.proofs.ranges.PlainList.{TakesAway-filter}
 use Rattle.ordinal_store.proofs.plain.PlainSet.remove.Goals as goal
 
 pub returns : goal.returns

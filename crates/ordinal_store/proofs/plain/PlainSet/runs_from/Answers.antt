@@ -1,6 +1,6 @@
 use Rattle.std.proofs.Common.{ℕ, List, sym, subst}
 use Rattle.ordinal_store.specs.Plain.{listed, IsWalked}
-use Rattle.ordinal_store.proofs.Walked.{IsWalked-none, IsWalked-to, AreRunsFrom-walked}
+use Rattle.ordinal_store.proofs.ranges.Walked.{IsWalked-none, IsWalked-to, AreRunsFrom-walked}
 use Rattle.ordinal_store.proofs.plain.PlainSet.runs_from.Goals as goal
 
 pub loop-start-init : goal.loop-start-init

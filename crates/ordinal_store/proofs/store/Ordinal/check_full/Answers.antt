@@ -1,7 +1,7 @@
 use Rattle.std.proofs.Common.{◌+◌, ◌*◌, ◌/◌, ◌≤◌, ℕ, sym, ap, ◌∙◌, subst, arith}
 use Rattle.std.specs.Prelude.{string_bytes, None, Err}
 use Rattle.std.proofs.Math.Nat.{div-mul-le_self}
-use Rattle.sealed_pages.specs.Writing.{blob_key, shown, size_of}
+use Rattle.sealed_pages.specs.unsealed.Writing.{blob_key, shown, size_of}
 use Rattle.ordinal_store.specs.Reopening.{Checking}
 use Rattle.ordinal_store.specs.Slots.{stored_by}
 use Rattle.ordinal_store.specs.Stores.{sight}

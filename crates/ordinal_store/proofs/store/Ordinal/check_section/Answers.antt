@@ -1,7 +1,7 @@
 use Rattle.std.proofs.Common.{◌≡◌, ◌+◌, ◌-◌, ◌*◌, ◌/◌, ◌<◌, ◌^◌, ℕ, List, sym, ap, ◌∙◌, subst, arith}
 use Rattle.std.specs.Prelude.{string_bytes, Bool, true, Option, Some}
 use Rattle.std.proofs.lemmas.Bool.{lt-ltb}
-use Rattle.sealed_pages.specs.Writing.{blob_key, shown, size_of}
+use Rattle.sealed_pages.specs.unsealed.Writing.{blob_key, shown, size_of}
 use Rattle.ordinal_store.specs.Marking.{is_wanted}
 use Rattle.ordinal_store.specs.Reopening.{Checking}
 use Rattle.ordinal_store.specs.Slots.{stored_by}

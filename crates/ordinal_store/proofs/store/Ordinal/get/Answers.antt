@@ -4,7 +4,7 @@ use Rattle.blob_device.proofs.Results.{err_of}
 use Rattle.blob_device.specs.Disk.{Key}
 use Rattle.blob_device.specs.Timeline.{disk}
 use Rattle.sealed_pages.specs.Entries.{ReadsAtMost}
-use Rattle.sealed_pages.specs.Writing as writing
+use Rattle.sealed_pages.specs.unsealed.Writing as writing
 use Rattle.sealed_pages.specs.declared.write_blob.WriteBlob.{WriteBlob}
 use Rattle.ordinal_store.specs.Slots.{HasValue, IsSealed, part_at, place_of, section_of, slot_size}
 use Rattle.ordinal_store.specs.Stores.{Store, sight}

@@ -1,6 +1,6 @@
 use Rattle.std.proofs.Common.{◌+◌, ℕ, List, subst, arith}
 use Rattle.std.specs.Prelude.{Ok, Err}
-use Rattle.sealed_pages.specs.Writing as writing
+use Rattle.sealed_pages.specs.unsealed.Writing as writing
 use Rattle.ordinal_store.specs.Adopting.{Adopting}
 use Rattle.ordinal_store.specs.Mending.{IsInLeft, IsMade, Mending, whole}
 use Rattle.ordinal_store.specs.Shown.{shown}

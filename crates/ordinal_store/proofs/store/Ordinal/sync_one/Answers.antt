@@ -1,6 +1,5 @@
 use Rattle.std.proofs.Common.{◌≡◌, ℕ, List, inl, inr, None, refl, subst, sym, ap, ◌∙◌, arith}
-use Rattle.std.proofs.lemmas.Grind.{common_steps}
-use Rattle.std.specs.Prelude.{◌≢◌, ◌+◌, Bool, true, Option, IsSome, if◌then◌else◌}
+use Rattle.std.specs.Prelude.{◌≢◌, ◌+◌, Bool, Option, IsSome, if◌then◌else◌}
 use Rattle.std.specs.BTreeMap as tree
 use Rattle.std.specs.BTreeSet as set
 use Rattle.std.specs.Ordering.{nat_cmp}
@@ -11,6 +10,7 @@ use Rattle.ordinal_store.specs.Calls.{IsBlobOf}
 use Rattle.ordinal_store.specs.Stores.{IsQuiet, sight}
 use Rattle.ordinal_store.specs.Shown.{shown}
 use Rattle.ordinal_store.specs.declared.ordinal.Error.TheVariants.{Mem}
+use Rattle.ordinal_store.proofs.ranges.Compared.{other_stays}
 use Rattle.ordinal_store.proofs.MendLemmas.{failed_of}
 use Rattle.ordinal_store.proofs.SyncLemmas.{domain_kept, marks_kept, passed_same, sync_trail, synced_same}
 use Rattle.ordinal_store.proofs.TrailLemmas.{failed_as, settling_refused, step_done, trail_start}
@@ -29,7 +29,7 @@ returns-in_default g c =
     let v = sight g.D.Device c.args.dev.now in
     let none : tree.get nat_cmp c.args.self.buffers c.args.section ≡ None = sym c.remove-2.ensures.value ∙ c.in_default.is in
     let same : (t : ℕ) → tree.get nat_cmp c.remove-2.new.self t ≡ tree.get nat_cmp c.args.self.buffers t = λ t. ap (λ (es : List (ℕ × WriteBlob)). lookup (tree.is_at (nat_cmp t)) es) c.in_default.ensures.unchanged in
-    let beside : (t : ℕ) → t ≢ c.args.section → set.contains nat_cmp c.remove.new.self t ≡ set.contains nat_cmp c.args.self.written t = λ t other. grind (arith, common_steps, c.remove.ensures.updates.2 t) in
+    let beside : (t : ℕ) → t ≢ c.args.section → set.contains nat_cmp c.remove.new.self t ≡ set.contains nat_cmp c.args.self.written t = λ t other. other_stays c.args.section t (set.contains nat_cmp c.args.self.written) (set.contains nat_cmp c.remove.new.self) c.remove.ensures.updates.2 other in
     record {
       stepping = step_done (show g) g.D.Device.Tells o (IsBlobOf o (λ t. t ≡ c.args.section)) v v _ _ refl (trail_start g.D.Device.Tells o.layout (IsQuiet o) (IsBlobOf o (λ t. t ≡ c.args.section)) v)
           (passed_same g.D.Device.Tells o c.args.section none v c.requires.usable (tree.get nat_cmp c.remove-2.new.self) same (set.contains nat_cmp c.remove.new.self) beside);
@@ -60,8 +60,10 @@ returns g c =
     let old = sight g.D.Device c.args.dev.now in
     let new = sight g.D.Device c.sync.new.dev in
     let hand = sym c.in-Some.ensures.value in
-    let there : (t : ℕ) → t ≢ c.args.section → tree.get nat_cmp c.insert.new.self t ≡ tree.get nat_cmp c.args.self.buffers t = λ t other. grind (arith, common_steps, c.in_ok-insert.ensures.updates.2 t) in
-    let beside : (t : ℕ) → t ≢ c.args.section → set.contains nat_cmp c.remove.new.self t ≡ set.contains nat_cmp c.args.self.written t = λ t other. grind (arith, common_steps, c.remove.ensures.updates.2 t) in
+    let there : (t : ℕ) → t ≢ c.args.section → tree.get nat_cmp c.insert.new.self t ≡ tree.get nat_cmp c.args.self.buffers t = λ t other.
+    other_stays c.args.section t (tree.get nat_cmp c.remove-2.new.self) (tree.get nat_cmp c.insert.new.self) c.in_ok-insert.ensures.updates.2 other
+    ∙ other_stays c.args.section t (tree.get nat_cmp c.args.self.buffers) (tree.get nat_cmp c.remove-2.new.self) c.remove-2.ensures.updates.2 other in
+    let beside : (t : ℕ) → t ≢ c.args.section → set.contains nat_cmp c.remove.new.self t ≡ set.contains nat_cmp c.args.self.written t = λ t other. other_stays c.args.section t (set.contains nat_cmp c.args.self.written) (set.contains nat_cmp c.remove.new.self) c.remove.ensures.updates.2 other in
     record {
       stepping = step_done (show g) g.D.Device.Tells o (IsBlobOf o (λ t. t ≡ c.args.section)) old new _ _ refl (sync_trail g.D.Device.Tells o c.args.section c.in-Some.buffer hand old new c.requires.usable c.sync.ensures.spares c.sync.ensures.since c.sync.ensures.entries c.sync.ensures.faults)
           (synced_same g.D.Device.Tells o c.args.section c.in-Some.buffer hand old new c.requires.usable c.sync.ensures.spares c.sync.ensures.since c.sync.ensures.entries c.sync.ensures.faults

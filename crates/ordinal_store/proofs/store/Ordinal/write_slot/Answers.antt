@@ -1,4 +1,4 @@
-use Rattle.std.proofs.Common.{inl, inr, refl, subst, sym, arith}
+use Rattle.std.proofs.Common.{inl, inr, refl, subst, sym, ◌∙◌, arith}
 use Rattle.std.proofs.lemmas.Grind.{common_steps}
 use Rattle.std.specs.BTreeMap as tree
 use Rattle.std.specs.BTreeSet as set
@@ -7,12 +7,13 @@ use Rattle.std.specs.Prelude.{OnOk}
 use Rattle.ordinal_store.specs.Numbers.{AddsNumber}
 use Rattle.ordinal_store.specs.Ranges.{set_of}
 use Rattle.sealed_pages.specs.Entries.{IsOpenAt}
-use Rattle.sealed_pages.specs.Writing as writing
+use Rattle.sealed_pages.specs.unsealed.Writing as writing
 use Rattle.ordinal_store.specs.Raised.{passed_on}
 use Rattle.ordinal_store.specs.Slots.{section_of}
 use Rattle.ordinal_store.specs.Stores.{now, sight}
 use Rattle.ordinal_store.specs.Shown.{shown}
 use Rattle.ordinal_store.specs.declared.ordinal.Error.TheVariants.{Mem}
+use Rattle.ordinal_store.proofs.ranges.Compared.{other_stays}
 use Rattle.ordinal_store.proofs.MendLemmas.{failed_of}
 use Rattle.ordinal_store.proofs.PlaceLemmas.{opened_long, place_fits, put_done, put_trail}
 use Rattle.ordinal_store.proofs.TrailLemmas.{failed_as, put_refused}
@@ -62,6 +63,7 @@ returns-in_err-noted g c =
 
 pub returns : goal.returns
 returns g c =
+    let s = section_of (show g c.args.self).layout c.args.index in
     put_done g.D.Device.Tells (show g c.args.self) c.args.index c.ranges.index.fits c.args.slot.now c.requires.size c.in-Some.buffer (sym c.in-Some.ensures.value) (sight g.D.Device c.args.dev.now) (sight g.D.Device c.write_at.new.dev) c.requires.usable c.place_of-at.result c.place_of-at.ensures
     c.write_at.ensures.spares c.write_at.ensures.since c.write_at.ensures.entries c.write_at.ensures.faults
     c.in_ok-buffer.buffer c.in_ok-buffer.ensures.same c.in_ok-buffer.ensures.size c.in_ok-buffer.ensures.run c.in_ok-buffer.ensures.open
@@ -69,6 +71,7 @@ returns g c =
     c.in_ok-buffer.ensures.bytes
     (λ t. opened_long (sight g.D.Device c.args.dev.now).opened (writing.blob_key (writing.shown c.in-Some.buffer)) c.in-Some.buffer.end (now (sight g.D.Device c.args.dev.now) (writing.blob_key (writing.shown c.in-Some.buffer))) (subst (λ k. IsOpenAt (sight g.D.Device c.args.dev.now).opened k c.in-Some.buffer.end) (sym (c.requires.usable.key (section_of (show g c.args.self).layout c.args.index) c.in-Some.buffer (sym c.in-Some.ensures.value))) (c.requires.usable.is_open (section_of (show g c.args.self).layout c.args.index) c.in-Some.buffer (sym c.in-Some.ensures.value))) (g.met.D.Device.opened_stands t c.args.dev.now (writing.blob_key (writing.shown c.in-Some.buffer))))
     c.insert-3.new.self c.insert-3.ensures.ranges (subst (λ (r : _). OnOk r (AddsNumber (set_of c.args.self.held) (set_of c.insert-3.new.self) c.args.index)) c.in_ok-noted.ensures.ok c.insert-3.ensures.ok)
-    (tree.get nat_cmp c.insert.new.self) c.in_ok-insert.ensures.updates.1 (λ t other. grind (arith, common_steps, c.in_ok-insert.ensures.updates.2 t))
-    (set.contains nat_cmp c.insert-2.new.self) c.in_ok-insert-2.ensures.updates.1 (λ t other. grind (arith, common_steps, c.in_ok-insert-2.ensures.updates.2 t))
+    (tree.get nat_cmp c.insert.new.self) c.in_ok-insert.ensures.updates.1 (λ t other. other_stays s t (tree.get nat_cmp c.remove.new.self) (tree.get nat_cmp c.insert.new.self) c.in_ok-insert.ensures.updates.2 other
+    ∙ other_stays s t (tree.get nat_cmp c.args.self.buffers) (tree.get nat_cmp c.remove.new.self) c.remove.ensures.updates.2 other)
+    (set.contains nat_cmp c.insert-2.new.self) c.in_ok-insert-2.ensures.updates.1 (λ t other. other_stays s t (set.contains nat_cmp c.args.self.written) (set.contains nat_cmp c.insert-2.new.self) c.in_ok-insert-2.ensures.updates.2 other)
     (show g) _ refl

@@ -1,0 +1,16 @@
+pub mod BitLemmas
+pub mod Compared
+pub mod Cuts
+pub mod Ends
+pub mod Gaps
+pub mod Grows
+pub mod Listed
+pub mod Members
+pub mod Missing
+pub mod Moves
+pub mod OneAnswer
+pub mod PlainList
+pub mod SameRanges
+pub mod Splits
+pub mod Spread
+pub mod Walked
