@@ -1,0 +1,14 @@
+mod CandidateLemmas
+mod DropLemmas
+mod FirstLemmas
+mod FreshLemmas
+mod HandleLemmas
+mod IndexLemmas
+mod LentLemmas
+mod PlainLemmas
+mod PositionLemmas
+mod PushLemmas
+mod ReserveLemmas
+mod RoomLemmas
+mod SlotLemmas
+mod WordLemmas

@@ -1,0 +1,2 @@
+-- What the driver keeps of its tables, from step to step.
+pub mod Told
