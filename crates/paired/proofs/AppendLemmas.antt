@@ -22,19 +22,19 @@ use Rattle.blob_device.proofs.Moments.{always_start, always_then, always_weaker,
 use Rattle.sealed_pages.specs.declared.write_blob.WriteBlob.{WriteBlob}
 use Rattle.sealed_pages.specs.Contents.{KeepsAll, AddsOnly}
 use Rattle.sealed_pages.specs.Sparing.{Sparing}
-use Rattle.sealed_pages.specs.Writing.{shown, blob_key, run_of, Joins, HoldsOnly, StaysBelow, is_idle}
+use Rattle.sealed_pages.specs.unsealed.Writing.{shown, blob_key, run_of, Joins, HoldsOnly, StaysBelow, is_idle}
 use Rattle.sealed_pages.proofs.ContentLemmas.{adds_keep, keeps_now}
 use Rattle.segments.specs.Fronts.{IsFront}
 use Rattle.segments.specs.Leaving.{AllMoments}
 use Rattle.segments.specs.Lasting.{IsOpening}
 use Rattle.segments.specs.Setting.{Setting}
 use Rattle.segments.specs.Sections.{Sections, key_of}
-use Rattle.segments.specs.Unsealed.{Stands, IsWhole, KeepsBytes, content_of, count_of, is_unsettled}
-use Rattle.segments.specs.UnsealedLaws.{passes, idle_parts}
-use Rattle.segments.proofs.UnsealedCalls.{crash_keeps, front_itself}
+use Rattle.segments.specs.unsealed.Buffer.{Stands, IsWhole, KeepsBytes, content_of, count_of, is_unsettled}
+use Rattle.segments.specs.unsealed.Laws.{passes, idle_parts}
+use Rattle.segments.proofs.buffers.UnsealedCalls.{crash_keeps, front_itself}
 use Rattle.segments.proofs.WalkLemmas.{none_or_value}
-use Rattle.paired.specs.GlobLasting.{Outlasts, IsBeginning, settled_bytes}
-use Rattle.paired.specs.GlobSections.{section_bytes, section_size, settled_size, size_held, settled_held, HadFronts, TakesMore, IsGlob}
+use Rattle.paired.specs.glob.Lasting.{Outlasts, IsBeginning, settled_bytes}
+use Rattle.paired.specs.glob.Sections.{section_bytes, section_size, settled_size, size_held, settled_held, HadFronts, TakesMore, IsGlob}
 use Rattle.paired.proofs.GlobLemmas.{buffers, kept_front, front_longer, fronts_longer, Serves, idle_serves, serves_of, outlasts_of, held_bytes, no_bytes}
 
 outside_none : (at n i : ℕ) → n ≡ 0 → (i < at) ⊎ (at + n ≤ i)

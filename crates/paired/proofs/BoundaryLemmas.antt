@@ -12,7 +12,7 @@ use Rattle.segments.specs.FixedFloors.{IsBoundary}
 use Rattle.segments.specs.Sections.{Sections, section_key, IsHeld}
 use Rattle.segments.specs.Setting.{Setting}
 use Rattle.segments.proofs.WalkLemmas.{none_or_value}
-use Rattle.paired.specs.GlobSections.{size_held, section_bytes, section_size, IsGlob}
+use Rattle.paired.specs.glob.Sections.{size_held, section_bytes, section_size, IsGlob}
 use Rattle.paired.specs.Kept.{Layout, content_at}
 use Rattle.paired.specs.Opening.{as_read}
 use Rattle.paired.specs.OpeningRefusing.{EndsWithin, IsLost, IsOutside}

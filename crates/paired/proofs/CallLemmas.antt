@@ -10,9 +10,9 @@ use Rattle.sealed_pages.specs.declared.write_blob.WriteBlob.{WriteBlob}
 use Rattle.segments.specs.Setting.{Setting}
 use Rattle.segments.specs.Sections.{Sections, section_key, key_of, IsHeld, IsKnown, IsGone, IsSame, SameBounds, IsOver, IsSynced, IsCut}
 use Rattle.segments.specs.Lasting.{Syncing, Cutting, Truncating, Removing, IsLonger, IsUnsettled}
-use Rattle.segments.proofs.RemoveLemmas.{gone_unknown}
+use Rattle.segments.proofs.sections.RemoveLemmas.{gone_unknown}
 use Rattle.segments.proofs.WalkLemmas.{none_or_value, value_of, some_same}
-use Rattle.paired.specs.GlobSections.{section_bytes, HasSettled, IsAllSettled, IsGlob}
+use Rattle.paired.specs.glob.Sections.{section_bytes, HasSettled, IsAllSettled, IsGlob}
 use Rattle.paired.proofs.GlobLemmas.{buffers, Serves, serves_of, glob_one, no_bytes, other_key, same_bytes}
 use Rattle.paired.proofs.StepLemmas.{of_some, Steps, step_synced, step_cut, step_same, glob_steps, synced_bytes, synced_settled, synced_all, cut_bytes, cut_settled, cut_all}
 

@@ -1,5 +1,5 @@
 -- Ends that a bound gives: one section is cut to so many records, of which what was kept is kept.
-use Rattle.std.proofs.Common.{◌≡◌, ℕ, ◌^◌, ◌<◌, ◌≤◌, ◌==◌, if◌then◌else◌, Bool, true, false, List, [], length, map, take, Option, None, Some, refl, sym, ap, arith}
+use Rattle.std.proofs.Common.{◌≡◌, ℕ, ◌^◌, ◌<◌, ◌≤◌, ◌==◌, if◌then◌else◌, Bool, true, false, List, length, map, take, Option, None, Some, refl, ap, arith}
 use Rattle.std.proofs.lemmas.Bool.{eqb-true}
 use Rattle.blob_device.specs.Disk.{Disk}
 use Rattle.blob_device.specs.Opened.{OpenedList}
@@ -19,8 +19,8 @@ use Rattle.paired.specs.Opening.{as_read, Relation, IsOrder, Front, UpTo}
 use Rattle.paired.specs.Pair.{AreApart}
 use Rattle.paired.specs.Records.{records, front, entry_of}
 use Rattle.paired.proofs.Ends.{Ends}
-use Rattle.paired.proofs.OpeningEnds.{front_order, up_to_order, cut_front, cut_up_to}
-use Rattle.paired.proofs.ReconcileResting.{Resting}
+use Rattle.paired.proofs.opening.Ends.{front_order, up_to_order, cut_front, cut_up_to}
+use Rattle.paired.proofs.reconcile.Resting.{Resting}
 
 -- n at that section alone
 abbrev pub only_at : ℕ → ℕ → ℕ → Option ℕ

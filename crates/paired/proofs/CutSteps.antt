@@ -1,5 +1,5 @@
 -- Each step that cuts sections: records are cut, then values, then values without records are removed.
-use Rattle.std.proofs.Common.{◌≡◌, ◌↔◌, ℕ, ◌^◌, ◌<◌, Option, None, IsSome, IsSomeAnd, List, refl, sym, ◌∙◌, ap, subst}
+use Rattle.std.proofs.Common.{◌≡◌, ℕ, ◌^◌, ◌<◌, Option, IsSome, IsSomeAnd, List, sym, ◌∙◌}
 use Rattle.blob_device.specs.Disk.{Key, Disk, MayLeave, reads}
 use Rattle.blob_device.specs.Opened.{OpenedList}
 use Rattle.blob_device.specs.Timeline.{Timeline, disk, Always, Each}
@@ -9,23 +9,22 @@ use Rattle.sealed_pages.specs.declared.write_blob.WriteBlob.{WriteBlob}
 use Rattle.segments.specs.declared.buffer.SectionBuffer as buffer
 use Rattle.segments.specs.declared.unsealed.WriteFactory.{WriteFactory}
 use Rattle.segments.specs.FixedLists.{Lists}
-use Rattle.segments.specs.FixedLists as fixed
 use Rattle.segments.specs.Sections.{Sections, IsHeld, IsKeyOf}
 use Rattle.segments.specs.Setting.{Setting}
 use Rattle.value_codec.specs.declared.key.Key8.{Key8}
 use Rattle.meta_store.specs.Store.{Store}
 use Rattle.meta_store.proofs.Uses.{IsReadable}
 use Rattle.paired.specs.Crashes.{IsIndexOf}
-use Rattle.paired.specs.GlobLasting.{Cutting}
-use Rattle.paired.specs.GlobSections as glob
+use Rattle.paired.specs.glob.Lasting.{Cutting}
+use Rattle.paired.specs.glob.Sections as glob
 use Rattle.paired.specs.Kept.{Layout, marker_of, content_at, stored_records, is_sound_in}
 use Rattle.paired.specs.Opening.{as_read, MayBeOpened, Relation, IsOrder, RecallsBy}
 use Rattle.paired.specs.Pair.{AreApart}
 use Rattle.paired.specs.Reconciling.{CutTo, EndOf, Shortening}
 use Rattle.paired.specs.Records.{is_sound, front}
 use Rattle.paired.proofs.Ends.{Ends, Between, none_of_not}
-use Rattle.paired.proofs.ReconcileResting.{values_number, values_key, stored_at, values_at}
-use Rattle.paired.proofs.ReconcilePhases.{index_cut_only, shortening_recalls, cutting_recalls, removing_recalls}
+use Rattle.paired.proofs.reconcile.Resting.{values_number, values_key, stored_at, values_at}
+use Rattle.paired.proofs.reconcile.Phases.{index_cut_only, shortening_recalls, cutting_recalls, removing_recalls}
 use Rattle.paired.proofs.Steps.{Step}
 
 -- ---- records are cut

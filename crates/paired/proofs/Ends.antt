@@ -1,5 +1,5 @@
 -- Sections that are cut: to how many records each, what is known of that, and what stands between the cut of records and that of their values.
-use Rattle.std.proofs.Common.{◌≡◌, ◌↔◌, ◌⊎◌, ℕ, ◌*◌, ◌^◌, ◌<◌, ◌≤◌, min, false, List, [], length, map, take, Option, None, Some, IsSome, IsSomeAnd, refl, subst, arith}
+use Rattle.std.proofs.Common.{◌≡◌, ◌↔◌, ◌⊎◌, ℕ, ◌*◌, ◌^◌, ◌<◌, ◌≤◌, min, false, List, length, map, take, Option, None, Some, IsSome, IsSomeAnd, refl, subst, arith}
 use Rattle.std.specs.Option.{option_map}
 use Rattle.blob_device.specs.Disk.{Key, Disk, MayLeave, reads, nothing}
 use Rattle.blob_device.specs.Opened.{OpenedList}
@@ -13,12 +13,12 @@ use Rattle.segments.specs.FixedLists as fixed
 use Rattle.segments.specs.Lasting.{EntriesLeave}
 use Rattle.segments.specs.Sections.{Sections, section_key, key_of, IsHeld, IsKeyOf, IsSame, SameBounds}
 use Rattle.segments.specs.Setting.{Setting}
-use Rattle.segments.specs.Unsealed.{count_of}
+use Rattle.segments.specs.unsealed.Buffer.{count_of}
 use Rattle.value_codec.specs.declared.key.Key8.{Key8}
 use Rattle.meta_store.specs.Store.{Store}
-use Rattle.paired.specs.GlobLasting.{Cutting}
-use Rattle.paired.specs.GlobSections.{IsGlob, IsAllSettled}
-use Rattle.paired.specs.GlobSections as glob
+use Rattle.paired.specs.glob.Lasting.{Cutting}
+use Rattle.paired.specs.glob.Sections.{IsGlob, IsAllSettled}
+use Rattle.paired.specs.glob.Sections as glob
 use Rattle.paired.specs.Kept.{Layout, marker_of, content_at, stored_records, is_sound_in, kept}
 use Rattle.paired.specs.Opening.{as_read, Relation, IsOrder}
 use Rattle.paired.specs.Pair.{AreApart, HasNoBytes}
@@ -26,7 +26,7 @@ use Rattle.paired.specs.Places.{last_end}
 use Rattle.paired.specs.Reconciling.{CutTo, EndOf, Shortening}
 use Rattle.paired.specs.Records.{records, front, entry_of}
 use Rattle.paired.proofs.GlobLemmas.{buffers}
-use Rattle.paired.proofs.ReconcileResting.{Resting}
+use Rattle.paired.proofs.reconcile.Resting.{Resting}
 
 pub none_of_not : {T : Type 0} (o : Option T) → (IsSome o → ⊥) → o ≡ None
 none_of_not None not = refl

@@ -12,7 +12,7 @@ use Rattle.segments.specs.Setting.{Setting}
 use Rattle.value_codec.specs.declared.key.Key8.{Key8}
 use Rattle.meta_store.specs.Calls.{IsOpened}
 use Rattle.meta_store.specs.Store.{Store, Stands, MayBeSynced, contents_of}
-use Rattle.paired.specs.GlobSections.{IsGlob}
+use Rattle.paired.specs.glob.Sections.{IsGlob}
 use Rattle.paired.specs.Pair.{Pair, IsPair}
 use Rattle.paired.specs.Replaying.{Run, IsRun, GivesBack}
 

@@ -19,7 +19,7 @@ use Rattle.segments.specs.Setting.{Setting}
 use Rattle.segments.proofs.WalkLemmas.{none_or_value, value_of}
 use Rattle.paired.specs.Kept.{Layout}
 use Rattle.paired.specs.OpeningRefusing.{IsLost, IsUnreadable}
-use Rattle.paired.proofs.OpeningStartCauses.{PartsRefuse}
+use Rattle.paired.proofs.opening.StartCauses.{PartsRefuse}
 
 -- no section of the one partition has the blob of one of the other
 pub keys_apart : (i v : List ℕ) → i ≢ v → (s t : ℕ) → section_key v s ≢ section_key i t

@@ -9,12 +9,12 @@ use Rattle.segments.specs.declared.journal.Error.{Error}
 use Rattle.segments.specs.declared.journal.Error.TheVariants.{ChecksumMismatch}
 use Rattle.segments.specs.Setting.{Setting}
 use Rattle.segments.specs.Sections.{Sections, key_of}
-use Rattle.segments.specs.Unsealed as unsealed
-use Rattle.segments.specs.Unsealed.{content_of, count_of}
+use Rattle.segments.specs.unsealed.Buffer as unsealed
+use Rattle.segments.specs.unsealed.Buffer.{content_of, count_of}
 use Rattle.segments.proofs.WalkLemmas.{none_or_value}
 use Rattle.paired.specs.Frames.{bytes_at, with_number, frame, HasFrame, IsSealed, IsBroken, Differ}
-use Rattle.paired.specs.GlobReading.{IsInside, IsMismatch}
-use Rattle.paired.specs.GlobSections.{section_bytes, size_held, IsGlob}
+use Rattle.paired.specs.glob.Reading.{IsInside, IsMismatch}
+use Rattle.paired.specs.glob.Sections.{section_bytes, size_held, IsGlob}
 use Rattle.paired.proofs.CallLemmas.{some_held}
 use Rattle.paired.proofs.FrameLemmas as frames
 use Rattle.paired.proofs.GlobLemmas.{buffers, held_bytes, no_bytes, section_counted}

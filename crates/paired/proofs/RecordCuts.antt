@@ -32,10 +32,10 @@ use Rattle.segments.specs.Sealed.{MayKeep}
 use Rattle.segments.specs.SealedLaws.{passes, looser, counted, all_settled, rested, found_again, sealed_keeps}
 use Rattle.segments.specs.Sections.{Sections, key_of, IsHeld, IsSame, SameBounds, IsKeyOf, IsCut}
 use Rattle.segments.specs.Setting.{Setting}
-use Rattle.segments.proofs.CutLemmas.{CutWalked, CutTried, CutCall, CutMade, cut_same, cut_moves, cut_at, cut_tried_start, cut_walked_start, cut_tried_more, cut_walked_more, cutting_of}
+use Rattle.segments.proofs.sections.CutLemmas.{CutWalked, CutTried, CutCall, CutMade, cut_same, cut_moves, cut_at, cut_tried_start, cut_walked_start, cut_tried_more, cut_walked_more, cutting_of}
 use Rattle.segments.proofs.FixedWriteLemmas.{ArePages, are_pages, leaves_sealed, size_here, bytes_here}
-use Rattle.segments.proofs.OverLemmas.{same_key}
-use Rattle.segments.proofs.SyncLemmas.{BufferLaws}
+use Rattle.segments.proofs.sections.OverLemmas.{same_key}
+use Rattle.segments.proofs.sections.SyncLemmas.{BufferLaws}
 use Rattle.segments.proofs.WalkLemmas.{some_same, value_of, none_or_value}
 use Rattle.paired.specs.Reconciling.{CutTo, Shortening}
 

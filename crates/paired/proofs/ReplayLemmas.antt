@@ -8,22 +8,18 @@ use Rattle.std.proofs.lemmas.Nat.{le-div}
 use Rattle.std.proofs.Math.Nat.{div-mul-le_self, div-le_self}
 use Rattle.std.proofs.Math.Numerals.{add-one}
 use Rattle.blob_device.specs.Disk.{Disk}
-use Rattle.blob_device.specs.Opened.{OpenedList}
 use Rattle.sealed_pages.specs.declared.page_blob.PageBlob.{PageBlob}
-use Rattle.sealed_pages.specs.SealedPrefix.{sealed_prefix}
-use Rattle.segments.specs.declared.buffer.SectionBuffer as buffer
 use Rattle.segments.specs.FixedItems.{item_count, item_at}
-use Rattle.segments.specs.FixedReplay.{Walk, SameWalk, KeepsItems, KeepsBytes, KeepsFloors, KeepsSections, Gives, Stops, IsWalk, IsLeft, StandsBefore, kept_of, kept_bytes}
-use Rattle.segments.specs.Sections.{section_key, key_of, IsHeld}
-use Rattle.segments.specs.Setting.{Setting}
+use Rattle.segments.specs.FixedReplay.{Walk, Gives, Stops, IsLeft, StandsBefore, kept_of, kept_bytes}
+use Rattle.segments.specs.Sections.{key_of, IsHeld}
 use Rattle.segments.proofs.WalkLemmas.{none_or_value, some_same}
 use Rattle.meta_store.specs.Store.{Store}
 use Rattle.value_codec.specs.declared.key.Key8.{Key8}
-use Rattle.paired.specs.GlobSections as glob
+use Rattle.paired.specs.glob.Sections as glob
 use Rattle.paired.specs.Kept.{marker_of}
 use Rattle.paired.specs.Records.{each_below, records, front, is_sound}
 use Rattle.paired.specs.Replaying.{Run, marker, HasFailed, is_sound_over, records_over, records_given, IsDue, IsUnbroken, IsGood, IsEnd, IsChecked, GivesRecord, LosesRecords, Sorts}
-use Rattle.paired.proofs.OpeningEnds.{front_stops}
+use Rattle.paired.proofs.opening.Ends.{front_stops}
 use Rattle.paired.proofs.RecordLemmas.{records-take, length-records}
 
 below : (m n : ℕ) → m < n → nat_lt m n ≡ true

@@ -30,12 +30,12 @@ use Rattle.paired.specs.Opening.{MayBeOpened, RecallsAlone}
 use Rattle.paired.specs.Records.{records, is_sound, front, entry_of}
 use Rattle.paired.specs.Replaying.{Run, pair_of, IsRun, IsOpeningRun}
 use Rattle.paired.proofs.GlobLemmas.{buffers}
-use Rattle.paired.proofs.OpeningEnds.{KeptHere}
-use Rattle.paired.proofs.OpeningLaws.{left_as_read}
-use Rattle.paired.proofs.OpeningPhases.{IsPhase, IsBack, sections_of}
+use Rattle.paired.proofs.opening.Ends.{KeptHere}
+use Rattle.paired.proofs.opening.Laws.{left_as_read}
+use Rattle.paired.proofs.opening.Phases.{IsPhase, IsBack, sections_of}
 use Rattle.paired.specs.Pair.{AreApart}
-use Rattle.paired.proofs.PairSynced.{Here}
-use Rattle.paired.proofs.ReconcileResting.{Rests, index_number, index_key, paged, index_rest, values_rest, values_absent}
+use Rattle.paired.proofs.pair.Synced.{Here}
+use Rattle.paired.proofs.reconcile.Resting.{Rests, index_number, index_key, paged, index_rest, values_rest, values_absent}
 use Rattle.paired.proofs.ReplayLemmas.{records_of_items}
 
 -- ---- a blob at rest
@@ -78,7 +78,7 @@ kept_as l old image markers s there records_same values =
     let sound_same : is_sound_in l image s ≡ is_sound_in l old s = (λ i r. is_sound l.seal (values i) (l.place r)) in
     record {
       stored = records_same ∙ sym (take_all (length (stored_records l image s)) (stored_records l old s) (omega (arith, ap length records_same)));
-      kept = (λ i. map (entry_of l.place (values i)) (front (sound_same i) (marker_of markers s) 0 (records_same i)));
+      kept = (λ i. map (entry_of l.place (values i)) (front (sound_same i) (marker_of markers.entries s) 0 (records_same i)));
       marked = λ m is was. record {
         index_blob = there was.index_blob;
         enough = omega (arith, ap length records_same, was.enough);

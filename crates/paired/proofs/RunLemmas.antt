@@ -10,7 +10,7 @@ use Rattle.segments.specs.FixedLists.{Lists}
 use Rattle.segments.specs.Sections.{Sections}
 use Rattle.segments.specs.Setting.{Setting}
 use Rattle.segments.specs.declared.buffer.SectionBuffer as buffer
-use Rattle.paired.specs.GlobSections.{IsGlob}
+use Rattle.paired.specs.glob.Sections.{IsGlob}
 use Rattle.paired.specs.Pair.{Pair}
 
 module _ {S : Type 0} {gs : _} (p : Pair (AppendFactory S) (PageBlob S gs)) where

@@ -1,9 +1,9 @@
 -- Sorting the records that a replay gives, and the pair that a replay gives back.
-use Rattle.std.specs.Prelude.{◌≡◌, ◌≢◌, ◌↔◌, ◌⊎◌, ℕ, ◌*◌, ◌/◌, ◌^◌, ◌<◌, ◌≤◌, Bool, true, false, List, take, IsTrue, Option, None, Some, IsSome, is_some, unwrap_or, nat_eq, Result, Ok, Err, IfOk}
+use Rattle.std.specs.Prelude.{◌≡◌, ◌≢◌, ◌↔◌, ◌⊎◌, ℕ, ◌*◌, ◌/◌, ◌<◌, ◌≤◌, Bool, true, false, List, take, IsTrue, Option, None, Some, is_some, unwrap_or, nat_eq, Result, Ok, Err, IfOk}
 use Rattle.std.proofs.Common.{inl, inr, refl, sym, ◌∙◌, ap, subst, arith}
 use Rattle.std.specs.List.{AllByRecursion}
 use Rattle.std.specs.Option.{option_eq}
-use Rattle.std.proofs.lemmas.Bool.{cases_lt, cases_eq, cases_Bool, eq-eqb}
+use Rattle.std.proofs.lemmas.Bool.{cases_lt, cases_Bool, eq-eqb}
 use Rattle.blob_device.specs.Disk.{Disk}
 use Rattle.sealed_pages.specs.declared.page_blob.PageBlob.{PageBlob}
 use Rattle.sealed_pages.specs.declared.write_blob.WriteBlob.{WriteBlob}
@@ -14,7 +14,7 @@ use Rattle.segments.specs.Sections.{Sections, section_key, IsHeld}
 use Rattle.segments.proofs.WalkLemmas.{some_same}
 use Rattle.meta_store.specs.Store.{Store}
 use Rattle.value_codec.specs.declared.key.Key8.{Key8}
-use Rattle.paired.specs.GlobSections as glob
+use Rattle.paired.specs.glob.Sections as glob
 use Rattle.paired.specs.Kept.{IsMarked, marker_of}
 use Rattle.paired.specs.Pair.{Pair, AreMarkers, AreWhole, HasSettled, IsSoundOn, HasNoBytes, records_of, synced_length}
 use Rattle.paired.specs.Places.{Follow, end_of}

@@ -7,11 +7,11 @@ use Rattle.std.proofs.lemmas.Nat.{from_be_bytes-to_be_bytes_4}
 use Rattle.segments.specs.declared.journal.Error.{Error}
 use Rattle.segments.specs.declared.journal.Error.TheVariants.{ChecksumMismatch}
 use Rattle.paired.specs.Frames.{bytes_at, frame, IsSealed}
-use Rattle.paired.specs.GlobReading.{IsMismatch}
+use Rattle.paired.specs.glob.Reading.{IsMismatch}
 use Rattle.paired.specs.Records.{is_sound}
 use Rattle.paired.proofs.FrameLemmas as frames
 use Rattle.paired.proofs.KeptLemmas.{sound_from}
-use Rattle.paired.proofs.PairReads.{frame_spells, sound_unbroken}
+use Rattle.paired.proofs.pair.Reads.{frame_spells, sound_unbroken}
 use Rattle.paired.proofs.ReadLemmas.{Ends, frame_at, broken_at}
 
 module _ (seal : List ℕ → ℕ) (fits : (spelled : List ℕ) → seal spelled < 2 ^ 32) where

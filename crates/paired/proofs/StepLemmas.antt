@@ -15,11 +15,11 @@ use Rattle.segments.specs.Leaving.{Leaves, AllMoments}
 use Rattle.segments.specs.Setting.{Setting}
 use Rattle.segments.specs.Sections.{Sections, key_of, section_key, IsHeld, IsOver, IsSynced, IsCut}
 use Rattle.segments.specs.Lasting.{Syncing, Cutting, Truncating, IsLonger, IsUnsettled}
-use Rattle.segments.specs.Unsealed.{Stands, IsWhole, MayKeep, content_of, count_of, is_unsettled}
-use Rattle.segments.specs.UnsealedLaws.{all_settled, rested, found_again}
+use Rattle.segments.specs.unsealed.Buffer.{Stands, IsWhole, MayKeep, content_of, count_of, is_unsettled}
+use Rattle.segments.specs.unsealed.Laws.{all_settled, rested, found_again}
 use Rattle.segments.proofs.WalkLemmas.{has_value, none_or_value}
-use Rattle.paired.specs.GlobLasting as lasting
-use Rattle.paired.specs.GlobSections.{section_bytes, HadFronts, HasSettled, IsAllSettled, IsGlob}
+use Rattle.paired.specs.glob.Lasting as lasting
+use Rattle.paired.specs.glob.Sections.{section_bytes, HadFronts, HasSettled, IsAllSettled, IsGlob}
 use Rattle.paired.proofs.GlobLemmas.{buffers, idle_takes, idle_behind, idle_whole, rested_fronts, Serves, idle_serves, outlasts_of, held_bytes, has_settled, glob_of, serves_of}
 
 pub of_some : {T : Type 0} (o : Option T) (P : T → Type 0) (v : T) → o ≡ Some v → IsSomeAnd o P → P v

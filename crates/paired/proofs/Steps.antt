@@ -1,5 +1,5 @@
 -- Steps of a call, one behind another: which blobs each touches, in which order, and that each crash keeps so much of what it kept.
-use Rattle.std.proofs.Common.{◌≡◌, ◌⊎◌, inl, inr, ℕ, zero, suc, ◌<◌, ◌≤◌, List, refl, sym, ◌∙◌, arith}
+use Rattle.std.proofs.Common.{◌≡◌, ◌⊎◌, inl, inr, ℕ, ◌<◌, ◌≤◌, List, refl, ◌∙◌, arith}
 use Rattle.std.proofs.lemmas.Bool.{cases_lt}
 use Rattle.blob_device.specs.Disk.{Key, Disk}
 use Rattle.blob_device.specs.Timeline.{Timeline, disk, Always}
@@ -8,8 +8,8 @@ use Rattle.paired.specs.Crashes.{InOrder}
 use Rattle.paired.specs.Kept.{Layout}
 use Rattle.paired.specs.Opening.{Relation, IsOrder, RecallsBy}
 use Rattle.paired.specs.Records.{Entry}
-use Rattle.paired.proofs.OpeningLaws.{recalls_itself, recalls_on_by, recalls_weaker}
-use Rattle.paired.proofs.PairSettling.{in_order, in_order_then}
+use Rattle.paired.proofs.opening.Laws.{recalls_itself, recalls_on_by, recalls_weaker}
+use Rattle.paired.proofs.pair.Settling.{in_order, in_order_then}
 
 -- no blob that P names changes
 abbrev pub Stay : (Key → Type 0) → Timeline → Timeline → Type 0

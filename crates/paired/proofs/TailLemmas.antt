@@ -1,16 +1,16 @@
 -- What stays unflushed of a glob's section behind an append.
-use Rattle.std.proofs.Common.{◌≡◌, ◌∙◌, inl, inr, ℕ, false, not, length, Option, None, Some, sym, ap}
+use Rattle.std.proofs.Common.{◌≡◌, ◌∙◌, inl, inr, ℕ, false, not, length, None, Some, sym, ap}
 use Rattle.std.proofs.lemmas.Bool.{or_parts, not-false}
 use Rattle.sealed_pages.specs.declared.write_blob.WriteBlob.{WriteBlob}
 use Rattle.sealed_pages.specs.Tails.{tail_after, run_at_end, LeavesPending}
-use Rattle.sealed_pages.specs.Writing.{shown, is_idle, StandsBehind}
+use Rattle.sealed_pages.specs.unsealed.Writing.{shown, is_idle, StandsBehind}
 use Rattle.sealed_pages.proofs.Tails.{end_behind}
 use Rattle.sealed_pages.proofs.WritingLemmas.{idle_parts}
 use Rattle.segments.specs.declared.unsealed.WriteFactory.{WriteFactory}
 use Rattle.segments.specs.Sections.{Sections}
-use Rattle.segments.specs.Unsealed.{is_unsettled}
+use Rattle.segments.specs.unsealed.Buffer.{is_unsettled}
 use Rattle.segments.proofs.WalkLemmas.{none_or_value}
-use Rattle.paired.specs.GlobSections.{pending_held, pending_size}
+use Rattle.paired.specs.glob.Sections.{pending_held, pending_size}
 use Rattle.paired.specs.Tails.{IsTailAfter}
 
 -- a buffer of which all has settled has an empty run

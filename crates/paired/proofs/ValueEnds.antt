@@ -30,23 +30,23 @@ use Rattle.segments.specs.Leaving.{Leaves}
 use Rattle.segments.specs.Refusing.{HasFailed, IsPruned}
 use Rattle.segments.specs.Sections.{Sections, key_of, IsHeld, IsKeyOf, IsOver, IsCut}
 use Rattle.segments.specs.Setting.{Setting}
-use Rattle.segments.specs.Unsealed.{Stands, MayKeep, count_of, is_unsettled}
-use Rattle.segments.specs.UnsealedLaws.{passes, looser}
-use Rattle.segments.proofs.CutLemmas.{same_number}
+use Rattle.segments.specs.unsealed.Buffer.{Stands, MayKeep, count_of, is_unsettled}
+use Rattle.segments.specs.unsealed.Laws.{passes, looser}
+use Rattle.segments.proofs.sections.CutLemmas.{same_number}
 use Rattle.segments.proofs.FixedErrors.{read_failed}
 use Rattle.segments.proofs.FixedSteps.{not_below}
 use Rattle.segments.proofs.WalkLemmas.{some_same, has_value, value_of, none_or_value}
-use Rattle.paired.specs.GlobLasting.{Cutting}
-use Rattle.paired.specs.GlobSections.{IsGlob}
-use Rattle.paired.specs.GlobSections as glob
+use Rattle.paired.specs.glob.Lasting.{Cutting}
+use Rattle.paired.specs.glob.Sections.{IsGlob}
+use Rattle.paired.specs.glob.Sections as glob
 use Rattle.paired.specs.OpeningRefusing.{IsOutside, IsLastOutside, IsSomeRefused}
 use Rattle.paired.specs.Places.{last_end}
 use Rattle.paired.specs.Reconciling.{EndOf}
 use Rattle.paired.specs.Records.{each_below, records}
 use Rattle.paired.proofs.GlobLemmas.{buffers}
-use Rattle.paired.proofs.PairReads.{index_size}
-use Rattle.paired.proofs.PairSections.{glob_kept}
-use Rattle.paired.proofs.PairStays.{journal_stays}
+use Rattle.paired.proofs.pair.Reads.{index_size}
+use Rattle.paired.proofs.pair.Sections.{glob_kept}
+use Rattle.paired.proofs.pair.Stays.{journal_stays}
 use Rattle.paired.proofs.RecordLemmas.{length-records}
 use Rattle.paired.proofs.StepLemmas.{crash_keeps}
 

@@ -13,10 +13,10 @@ use Rattle.segments.specs.Lasting.{IsGoing, EntriesLeave}
 use Rattle.segments.specs.Leaving.{AllMoments}
 use Rattle.segments.specs.Sections.{Sections, key_of, IsHeld, IsSame, SameBounds, IsKeyOf}
 use Rattle.segments.specs.Setting.{Setting}
-use Rattle.segments.proofs.KeyLemmas.{keys_differ}
-use Rattle.segments.proofs.OverLemmas.{same_key}
+use Rattle.segments.proofs.sections.KeyLemmas.{keys_differ}
+use Rattle.segments.proofs.sections.OverLemmas.{same_key}
 use Rattle.segments.proofs.WalkLemmas.{none_or_value, contains_or_not, first_or_later, later_in, first_in, same_bounds}
-use Rattle.paired.specs.GlobSections.{IsGlob, section_bytes}
+use Rattle.paired.specs.glob.Sections.{IsGlob, section_bytes}
 use Rattle.paired.proofs.GlobLemmas.{buffers}
 
 -- no blob changes but those of named sections that are held

@@ -9,10 +9,10 @@ use Rattle.meta_store.specs.declared.error.Side.{Side}
 use Rattle.meta_store.specs.declared.error.Side.TheVariants.{Left, Right}
 use Rattle.meta_store.specs.Blobs.{blob_of, bytes_of}
 use Rattle.meta_store.specs.Crashes as metadata
+use Rattle.meta_store.specs.Pairs.{HoldMap}
 use Rattle.paired.specs.Frames.{bytes_at}
 use Rattle.paired.specs.Records.{Entry}
-use Rattle.paired.specs.Kept.{Layout, Markers, IsMarked, marker_of, content_at, stored_records, is_sound_in, kept, IsTrueMarker}
-use Rattle.paired.specs.MarkerCopies.{HoldsMarkers}
+use Rattle.paired.specs.Kept.{Layout, Markers, HasNoFloor, IsMarked, content_at, stored_records, is_sound_in, kept_by, IsTrueMarker}
 
 -- a blob of the records, or of the values, of a section that P names
 abbrev pub IsIndexOf : Layout → (ℕ → Type 0) → Key → Type 0
@@ -54,13 +54,15 @@ pub record IsPrefix (list : List Entry) (least : ℕ) (found : List Entry) : Typ
   pub synced : least ≤ length found
 
 module _ (l : Layout) (wanted : ℕ → List Entry) (synced : ℕ → ℕ) (IsGoing : ℕ → Type 0) where
-  -- The image holds a map of markers, and all of them are true. It keeps of each section a prefix of its list with what was synced, or
+  -- The image holds markers with no floor, and all of them are true. It keeps of each section a prefix of its list with what was synced, or
   -- nothing of one that is going; and the records that stand behind those kept are the next ones of the list.
   pub record Keeps (image : Image) : Type 0 where
     pub markers : Markers
-    pub held : HoldsMarkers l.markers (bytes_of (image (blob_of l.metadata Left))) (bytes_of (image (blob_of l.metadata Right))) markers
-    pub true_markers : (s m : ℕ) → IsMarked markers s m → IsTrueMarker l image s m
-    pub lists : (s : ℕ) → s < 2 ^ 64 → IsPrefix (wanted s) (synced s) (kept l image (marker_of markers s) s) ⊎ ((kept l image (marker_of markers s) s ≡ []) × IsGoing s)
+    pub held : HoldMap l.markers (bytes_of (image (blob_of l.metadata Left))) (bytes_of (image (blob_of l.metadata Right))) markers
+    pub floor : HasNoFloor markers
+    pub true_markers : (s m : ℕ) → IsMarked markers.entries s m → IsTrueMarker l image s m
+    pub lists : (s : ℕ) → s < 2 ^ 64 → IsPrefix (wanted s) (synced s) (kept_by l image markers s)
+        ⊎ ((kept_by l image markers s ≡ []) × IsGoing s)
     pub stored : (s : ℕ) → s < 2 ^ 64 → stored_records l image s ≡ take (length (stored_records l image s)) (map (λ e. e.stored) (wanted s))
 
   -- so does each image that a crash leaves without a chance seal

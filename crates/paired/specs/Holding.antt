@@ -2,14 +2,14 @@
 use Rattle.std.specs.Prelude.{◌≡◌, ◌⊎◌, ℕ, ◌*◌, ◌^◌, ◌<◌, ◌≤◌, List, [], length, take, IsTrue, Option, Some, unwrap_or}
 use Rattle.std.specs.List.{AllByRecursion}
 use Rattle.blob_device.specs.Disk.{Blob, Disk, past, longest, MayLeave}
+use Rattle.meta_store.specs.Crashes as metadata
 use Rattle.sealed_pages.specs.ChanceSeal as pages
 use Rattle.sealed_pages.specs.SealedPrefix.{sealed_prefix, Prefix}
 use Rattle.segments.specs.Sections.{section_key}
-use Rattle.paired.specs.MarkerCopies as marker_copies
 use Rattle.segments.specs.Fronts.{IsFront}
 use Rattle.paired.specs.Places.{Follow, end_of}
 use Rattle.paired.specs.Records.{Entry, records, entries_of, is_sound}
-use Rattle.paired.specs.Kept.{Layout, Markers, IsMarked}
+use Rattle.paired.specs.Kept.{Layout, Markers, HasNoFloor, IsMarked}
 
 -- of one section: the bytes of its records and those of its values, how many of each have settled, and how many records were synced
 pub record Facts : Type 0 where
@@ -60,13 +60,15 @@ module _ (l : Layout) where
     pub index : IndexStands Gone f index_blob
     pub values : ValuesStand f value_blob ⊎ LeavesNoRecords index_blob
 
-  -- the section of each marker is held, will stay, and has that many records synced
-  abbrev pub AreMarked : (ℕ → Facts) → Disk → Markers → Type 0
-  AreMarked facts d markers = (s m : ℕ) → IsMarked markers s m → IsLasting (facts s) (d (section_key l.index s)) × (m ≤ (facts s).synced)
+  -- The section of each marker is held, will stay, and has that many records synced. The floor is 0.
+  pub record AreTrue (facts : ℕ → Facts) (d : Disk) (markers : Markers) : Type 0 where
+    pub sections : (s m : ℕ) → IsMarked markers.entries s m
+        → IsLasting (facts s) (d (section_key l.index s)) × (m ≤ (facts s).synced)
+    pub floor : HasNoFloor markers
 
-  -- The blobs of each section stand, and the copies hold the one list of markers or the other, both of them true.
+  -- The blobs of each section stand, and the copies hold the one value of markers or the other, both of them true.
   pub record Holding (facts : ℕ → Facts) (Gone : ℕ → Type 0) (one other : Markers) (d : Disk) : Type 0 where
     pub sections : (s : ℕ) → s < 2 ^ 64 → SectionStands (Gone s) (facts s) (d (section_key l.index s)) (d (section_key l.values s))
-    pub copies : marker_copies.Keeps l.markers l.metadata one other d
-    pub one_marked : AreMarked facts d one
-    pub other_marked : AreMarked facts d other
+    pub copies : metadata.Keeps l.markers l.metadata one other d
+    pub one_marked : AreTrue facts d one
+    pub other_marked : AreTrue facts d other

@@ -6,15 +6,24 @@ use Rattle.std.specs.List.{AllByRecursion}
 use Rattle.std.specs.Str.{bytes_eq}
 use Rattle.blob_device.specs.Disk.{Image}
 use Rattle.value_codec.specs.declared.key.Key8.{Key8}
+use Rattle.meta_store.specs.declared.copy.Contents.{Contents}
 use Rattle.meta_store.specs.Format.{Format}
 use Rattle.value_codec.specs.Keys.{key8_bytes}
 use Rattle.sealed_pages.specs.SealedPrefix.{sealed_prefix}
 use Rattle.segments.specs.Sections.{section_key}
 use Rattle.paired.specs.Records.{Entry, records, is_sound, front, entry_of}
 
--- markers, ascending by the bytes of the section's number
+-- which sections have which markers, ascending by the bytes of the section's number
+abbrev pub MarkerMap : Type 0
+MarkerMap = List (Key8 × ℕ)
+
+-- what the copies of a pair's markers hold: that map, and a floor
 abbrev pub Markers : Type 0
-Markers = List (Key8 × ℕ)
+Markers = Contents Key8 ℕ
+
+-- A pair stores no floor yet: its markers have the floor 0.
+abbrev pub HasNoFloor : Markers → Type 0
+HasNoFloor markers = markers.floor ≡ 0
 
 -- the three partitions, the size of a page and of a record, the seal, where a record's bytes say that its frame stands, and how markers are stored
 pub record Layout : Type 1 where
@@ -28,11 +37,11 @@ pub record Layout : Type 1 where
   pub markers : Format Key8 ℕ
 
 -- the section has this marker
-abbrev pub IsMarked : Markers → ℕ → ℕ → Type 0
+abbrev pub IsMarked : MarkerMap → ℕ → ℕ → Type 0
 IsMarked markers s m = (s < 2 ^ 64) × (lookup (λ k. bytes_eq (key8_bytes k) (to_be_bytes w64 s)) markers ≡ Some m)
 
 -- the section's marker, 0 where there is none
-abbrev pub marker_of : Markers → ℕ → ℕ
+abbrev pub marker_of : MarkerMap → ℕ → ℕ
 marker_of markers s = if nat_lt s (2 ^ 64) then unwrap_or (lookup (λ k. bytes_eq (key8_bytes k) (to_be_bytes w64 s)) markers) 0 else 0
 
 -- the partitions and the page size are the same
@@ -58,6 +67,10 @@ module _ (l : Layout) (image : Image) where
   -- what the image keeps of a section, whose marker is this
   abbrev pub kept : ℕ → ℕ → List Entry
   kept marker s = map (entry_of l.place (content_at image l.values s)) (front (is_sound_in s) marker 0 (stored_records s))
+
+  -- what it keeps of a section by these markers
+  abbrev pub kept_by : Markers → ℕ → List Entry
+  kept_by markers s = kept (marker_of markers.entries s) s
 
   -- the marker is true: the section has an index blob and so many records, all of them sound
   pub record IsTrueMarker (s marker : ℕ) : Type 0 where

@@ -1,14 +1,11 @@
 -- What this layer means to the layers above: a glob is a map from sections, by number, to lists of bytes, in which frames stand by place
--- (`Frames`, `GlobSections`). A frame is a value's spelling with its seal behind it. What a crash at any moment of a call leaves of the
+-- (`Frames`, `glob/Sections`). A frame is a value's spelling with its seal behind it. What a crash at any moment of a call leaves of the
 -- sections' blobs is said in the bytes that had settled, and in the contents since, which are all fronts of a section's bytes
--- (`GlobLasting`).
+-- (`glob/Lasting`).
 pub mod Frames
-pub mod GlobSections
-pub mod GlobLasting
-pub mod GlobReading
+pub mod glob
 pub mod Records
 pub mod Kept
-pub mod MarkerCopies
 pub mod Crashes
 pub mod Pair
 pub mod PairShown
@@ -18,7 +15,7 @@ pub mod PairSync
 pub mod Places
 pub mod Holding
 pub mod Tracked
-pub mod TrackedShown
+pub mod sighted
 pub mod Opening
 pub mod Replaying
 pub mod ReplayShown

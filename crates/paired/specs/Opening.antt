@@ -9,9 +9,9 @@ use Rattle.meta_store.specs.declared.error.Side.{Side}
 use Rattle.meta_store.specs.declared.error.Side.TheVariants.{Left, Right}
 use Rattle.meta_store.specs.Blobs.{blob_of, bytes_of}
 use Rattle.meta_store.specs.Opening.{Opens}
+use Rattle.meta_store.specs.Pairs.{HoldMap}
 use Rattle.paired.specs.Crashes.{IsOwn, NoChanceSeal, WasThere}
-use Rattle.paired.specs.Kept.{Layout, Markers, IsMarked, marker_of, content_at, stored_records, is_sound_in, kept, IsTrueMarker}
-use Rattle.paired.specs.MarkerCopies.{HoldsMarkers}
+use Rattle.paired.specs.Kept.{Layout, Markers, HasNoFloor, IsMarked, content_at, stored_records, is_sound_in, kept_by, IsTrueMarker}
 use Rattle.paired.specs.Pair.{HasNoBytes}
 use Rattle.paired.specs.Places.{Follow}
 use Rattle.paired.specs.Records.{Entry}
@@ -47,9 +47,9 @@ abbrev pub UpTo : ℕ → ℕ → Relation
 UpTo section least = IsUpTo section least
 
 module _ (l : Layout) where
-  -- the copies of an image hold this map of markers
+  -- the copies of an image hold these markers and this floor
   abbrev pub HoldMarkers : Image → Markers → Type 0
-  HoldMarkers image markers = HoldsMarkers l.markers (bytes_of (image (blob_of l.metadata Left))) (bytes_of (image (blob_of l.metadata Right))) markers
+  HoldMarkers image markers = HoldMap l.markers (bytes_of (image (blob_of l.metadata Left))) (bytes_of (image (blob_of l.metadata Right))) markers
 
   -- The value places of a section follow each other from 0 on, up to an end that a u64 counts.
   pub record IsInPlace (image : Image) (s : ℕ) : Type 0 where
@@ -62,12 +62,13 @@ module _ (l : Layout) where
     pub index : (name : List ℕ) → IsSome (image (l.index, name)) → length name ≡ 8
     pub values : (name : List ℕ) → IsSome (image (l.values, name)) → length name ≡ 8
 
-  -- An image is lawful with these markers: its names are in order, its copies hold the markers, each marker is true, and each section's value
-  -- places are in order.
+  -- An image is lawful with these markers: its names are in order, its copies hold the markers and no floor, each marker is true, and each
+  -- section's value places are in order.
   pub record IsLawful (image : Image) (markers : Markers) : Type 0 where
     pub names : AreNamed image
     pub held : HoldMarkers image markers
-    pub true_markers : (s m : ℕ) → IsMarked markers s m → IsTrueMarker l image s m
+    pub floor : HasNoFloor markers
+    pub true_markers : (s m : ℕ) → IsMarked markers.entries s m → IsTrueMarker l image s m
     pub places : (s : ℕ) → s < 2 ^ 64 → IsInPlace image s
 
   module _ (Rel : Relation) where
@@ -76,7 +77,7 @@ module _ (l : Layout) where
     pub record KeepsBy (old : Image) (old_markers : Markers) (new : Image) : Type 0 where
       pub markers : Markers
       pub lawful : IsLawful new markers
-      pub same : (s : ℕ) → s < 2 ^ 64 → Rel s (kept l new (marker_of markers s) s) (kept l old (marker_of old_markers s) s)
+      pub same : (s : ℕ) → s < 2 ^ 64 → Rel s (kept_by l new markers s) (kept_by l old old_markers s)
       pub stored : (s : ℕ) → s < 2 ^ 64 → stored_records l new s ≡ take (length (stored_records l new s)) (stored_records l old s)
 
     -- A crash of the disk `from` leaves the image `old` without a chance seal, and `new` keeps so much of what that keeps, if it is lawful.

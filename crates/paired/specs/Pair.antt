@@ -14,11 +14,11 @@ use Rattle.segments.specs.FixedLists as fixed
 use Rattle.meta_store.specs.Store.{Store, Stands, MayBeSynced, contents_of}
 use Rattle.meta_store.specs.Calls.{IsOpened}
 use Rattle.value_codec.specs.declared.key.Key8.{Key8}
-use Rattle.paired.specs.GlobSections.{IsGlob}
-use Rattle.paired.specs.GlobSections as glob
+use Rattle.paired.specs.glob.Sections.{IsGlob}
+use Rattle.paired.specs.glob.Sections as glob
 use Rattle.paired.specs.Places.{Follow, end_of}
 use Rattle.paired.specs.Records.{Entry, records, entries_of, is_sound}
-use Rattle.paired.specs.Kept.{Layout, IsMarked, marker_of}
+use Rattle.paired.specs.Kept.{Layout, HasNoFloor, IsMarked, marker_of}
 
 -- What a tracked pair shows: how it is stored, its index, its values, its markers, and the length at the last completed sync or opening
 -- of each section whose marker is another number.
@@ -62,6 +62,11 @@ module _ {F S : Type 0} {gs : _} (p : Pair F (PageBlob S gs)) where
       pub sound : (s : ℕ) → AllByRecursion (λ r. IsTrue (is_sound p.layout.seal (glob.section_bytes p.values d s) (p.layout.place r))) (records_of s)
       pub values_settled : (s : ℕ) → end_of p.layout.place 0 (take (synced_length p s) (records_of s)) ≤ glob.settled_size p.values s
       pub absent : (s : ℕ) → s < 2 ^ 64 → p.index.sections.held s ≡ None → HasNoBytes (d (section_key p.layout.index s))
+
+    -- That, and its markers have no floor: so what crashes leave of it is told.
+    pub record IsSafeOn : Type 0 where
+      pub sound : IsSoundOn
+      pub floor : HasNoFloor (contents_of p.store)
 
   -- What was synced of the records has settled.
   pub record HasSettled : Type 0 where

@@ -13,7 +13,7 @@ use Rattle.meta_store.specs.Store.{Store, Stands, contents_of}
 use Rattle.value_codec.specs.declared.key.Key8.{Key8}
 use Rattle.paired.specs.Kept.{IsMarked, marker_of}
 use Rattle.paired.specs.Crashes.{IsCopy, Leaves}
-use Rattle.paired.specs.Pair.{Pair, IsSoundOn, list_of, length_of, synced_length}
+use Rattle.paired.specs.Pair.{Pair, IsSafeOn, list_of, length_of, synced_length}
 use Rattle.paired.specs.PairRefusing.{HasLostMarkers}
 
 -- A call came to the markers and ended there: their version had no next one, or the device failed in a call of theirs.
@@ -37,12 +37,13 @@ module _ {F S : Type 0} {gs : _} (p : Pair F (PageBlob S gs)) (IsNamed : ℕ →
   pub record FaultsInOrder {T : Type 0} (result : Result T Error) (before now : ℕ) (old new : Timeline) : Type 0 where
     pub sections : IsErrOf result (Runtime Fault) → Always old new (λ d. (q : Key) → IsCopy p.layout q → d q ≡ disk old q)
     pub at_rest : StopsAtMarkers result before now → AreAtRest (disk new)
-    pub leaves : StopsAtMarkers result before now → IsSoundOn p (disk old) → (synced : ℕ → ℕ) → IsSyncedAfter synced → Leaves p.layout (list_of p (disk old)) synced (λ _. ⊥) (disk new)
+    pub leaves : StopsAtMarkers result before now → IsSafeOn p (disk old) → (synced : ℕ → ℕ) → IsSyncedAfter synced → Leaves p.layout (list_of p (disk old)) synced (λ _. ⊥) (disk new)
 
--- The markers below the bound were dropped, durably: the copies have settled, and hold the others, as they were, and no more.
+-- The markers below the bound were dropped, durably: the copies have settled, and hold the others and the floor, as they were, and no more.
 pub record AreDropped {F B : Type 0} (p : Pair F B) (least : ℕ) (d : Disk) : Type 0 where
   pub store : Store Key8 ℕ
   pub here : store.partition ≡ p.layout.metadata
   pub stands : Stands p.layout.markers store (contents_of store) d
   pub marked : (s m : ℕ) → IsMarked store.entries s m → (least ≤ s) × IsMarked p.store.entries s m
   pub kept : (s : ℕ) → least ≤ s → marker_of store.entries s ≡ marker_of p.store.entries s
+  pub floor : store.floor ≡ p.store.floor

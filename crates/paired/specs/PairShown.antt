@@ -5,11 +5,11 @@ use Rattle.std.specs.BTreeMap as tree
 use Rattle.sealed_pages.specs.declared.page_blob.PageBlob.{PageBlob}
 use Rattle.segments.specs.declared.sealed.AppendFactory.{AppendFactory}
 use Rattle.segments.specs.FixedShown as fixed
-use Rattle.segments.specs.Managed as manager
+use Rattle.segments.specs.managing.Managed as manager
 use Rattle.meta_store.specs.Store as store
 use Rattle.paired.specs.declared.oversized.Oversized.{Oversized}
 use Rattle.paired.specs.Pair.{Pair}
-use Rattle.paired.specs.TrackedShown.{marker_format}
+use Rattle.paired.specs.sighted.Shown.{marker_format}
 
 abbrev pub shown : {I V S C : Type 0} {fixed codec seal : _} → (List ℕ → ℕ × ℕ) → Oversized I V S C fixed codec seal → Pair (AppendFactory S) (PageBlob S seal)
 shown {fixed = f} {seal = s} place o = record {

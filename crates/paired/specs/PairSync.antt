@@ -5,10 +5,10 @@ use Rattle.blob_device.specs.Timeline.{Timeline, disk, Always}
 use Rattle.sealed_pages.specs.declared.page_blob.PageBlob.{PageBlob}
 use Rattle.segments.specs.Sections.{IsHeld, IsSame, SameBounds}
 use Rattle.meta_store.specs.Blobs.{blob_of, other_side}
-use Rattle.paired.specs.GlobSections as glob
+use Rattle.paired.specs.glob.Sections as glob
 use Rattle.paired.specs.Kept.{IsMarked, IsSameLayout, marker_of}
 use Rattle.paired.specs.Crashes.{IsCopy, IsIndexOf, IsOwn, IsValuesOf, InOrder, Keeping}
-use Rattle.paired.specs.Pair.{Pair, IsSoundOn, IsMoving, list_of, length_of, synced_length}
+use Rattle.paired.specs.Pair.{Pair, IsSafeOn, IsMoving, list_of, length_of, synced_length}
 
 module _ {F S : Type 0} {gs : _} (p : Pair F (PageBlob S gs)) (IsNamed IsActive : ℕ → Type 0) where
   -- The pair r is what a sync of the named sections made of p, which moved the markers of the sections that are not active.
@@ -23,19 +23,20 @@ module _ {F S : Type 0} {gs : _} (p : Pair F (PageBlob S gs)) (IsNamed IsActive 
     pub same : (s : ℕ) → (IsNamed s → ⊥) → IsSame p.index.sections r.index.sections s × IsSame p.values r.values s
     pub others : (s : ℕ) → (IsNamed s → ⊥) → synced_length r s ≡ synced_length p s
     -- The marker of each section that is not active is then what was synced of it; no other moves. Each marker was there, or was moved to
-    -- another number.
+    -- another number. The floor of the markers stays.
     pub markers : (s : ℕ) → (IsActive s → ⊥) → marker_of r.store.entries s ≡ synced_length r s
     pub active : (s : ℕ) → IsActive s → marker_of r.store.entries s ≡ marker_of p.store.entries s
     pub marked : (s m : ℕ) → IsMarked r.store.entries s m → IsMarked p.store.entries s m ⊎ ((IsActive s → ⊥) × (m ≡ synced_length r s) × (m ≢ marker_of p.store.entries s))
     pub still : (((s : ℕ) × IsMoving p IsNamed IsActive s) → ⊥) → r.store ≡ p.store
+    pub marker_floor : r.store.floor ≡ p.store.floor
     pub bounds : SameBounds p.index.sections r.index.sections × SameBounds p.values r.values
     pub layout : IsSameLayout p.layout r.layout
 
   -- What such a sync leaves at each moment, also where it fails.
   pub record SyncKeeps (old new : Timeline) : Type 0 where
-    -- Each crash leaves of each section of a sound pair a prefix of its list that holds what was synced; the markers are true; no blob changes but
+    -- Each crash leaves of each section of a safe pair a prefix of its list that holds what was synced; the markers are true; no blob changes but
     -- those of the named sections, and of the markers where one moves.
-    pub moments : IsSoundOn p (disk old) → Keeping p.layout (list_of p (disk old)) (synced_length p) (λ _. ⊥) (IsOwn p.layout IsNamed) old new
+    pub moments : IsSafeOn p (disk old) → Keeping p.layout (list_of p (disk old)) (synced_length p) (λ _. ⊥) (IsOwn p.layout IsNamed) old new
     pub alone : (((s : ℕ) × IsMoving p IsNamed IsActive s) → ⊥) → Always old new (λ d. (q : Key) → IsCopy p.layout q → d q ≡ disk old q)
     -- Also of a pair that is not sound: the markers are written over their older copy, and no other blob changes.
     pub untouched : Always old new (λ d. (q : Key) → (IsOwn p.layout (λ s. IsNamed s × IsHeld p.index.sections s) q → ⊥) → d q ≡ disk old q)

@@ -1,5 +1,5 @@
 -- What the end of an opening cuts, and what each moment of a cut leaves.
-use Rattle.std.specs.Prelude.{◌≡◌, ℕ, ◌*◌, ◌<◌, min, List, Option, None, Some, IsSomeAnd}
+use Rattle.std.specs.Prelude.{◌≡◌, ℕ, ◌*◌, ◌<◌, min, List, Option, Some, IsSomeAnd}
 use Rattle.std.specs.Option.{option_map}
 use Rattle.blob_device.specs.Disk.{Key, Blob, Disk}
 use Rattle.sealed_pages.specs.Buffer.{bytes_of, size_of}

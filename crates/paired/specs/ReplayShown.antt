@@ -6,13 +6,13 @@ use Rattle.value_codec.specs.declared.seal.Seal as seal
 use Rattle.sealed_pages.specs.declared.page_blob.PageBlob.{PageBlob}
 use Rattle.segments.specs.declared.sealed.AppendFactory.{AppendFactory}
 use Rattle.segments.specs.FixedWalking.{walk_of}
-use Rattle.segments.specs.Managed as manager
+use Rattle.segments.specs.managing.Managed as manager
 use Rattle.meta_store.specs.Store as store
 use Rattle.paired.specs.declared.oversized.opening.Config.{Config}
 use Rattle.paired.specs.declared.oversized.replaying.Replay.{Replay}
 use Rattle.paired.specs.Kept.{Layout}
 use Rattle.paired.specs.Replaying.{Run}
-use Rattle.paired.specs.TrackedShown.{marker_format}
+use Rattle.paired.specs.sighted.Shown.{marker_format}
 
 -- records of this size, which name places so, under this seal
 abbrev pub layout_for : {S C : Type 0} → (List ℕ → ℕ × ℕ) → ℕ → seal.Ghosts S → Config C → List ℕ → Layout

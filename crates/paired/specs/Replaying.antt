@@ -15,8 +15,8 @@ use Rattle.segments.specs.FixedReplay.{Walk, HasWalk, IsWalk, WalksOver, SameWal
 use Rattle.meta_store.specs.Store.{Store, Stands, MayBeSynced, contents_of}
 use Rattle.meta_store.specs.Calls.{IsOpened}
 use Rattle.value_codec.specs.declared.key.Key8.{Key8}
-use Rattle.paired.specs.GlobSections.{IsGlob}
-use Rattle.paired.specs.GlobSections as glob
+use Rattle.paired.specs.glob.Sections.{IsGlob}
+use Rattle.paired.specs.glob.Sections as glob
 use Rattle.paired.specs.Kept.{Layout, IsMarked, IsSameLayout, marker_of}
 use Rattle.paired.specs.Pair.{Pair, AreApart, AreMarkers, AreWhole, HasSettled}
 use Rattle.paired.specs.Places.{last_end}

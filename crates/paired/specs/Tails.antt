@@ -7,7 +7,7 @@ use Rattle.segments.specs.declared.sealed.AppendFactory.{AppendFactory}
 use Rattle.segments.specs.declared.unsealed.WriteFactory.{WriteFactory}
 use Rattle.segments.specs.Sections.{Sections}
 use Rattle.segments.specs.Tails as fixed
-use Rattle.paired.specs.GlobSections.{pending_size}
+use Rattle.paired.specs.glob.Sections.{pending_size}
 use Rattle.paired.specs.Pair.{Pair}
 
 -- In n the section's values have a tail as an append of so many bytes leaves it, whether m held the section or not.

@@ -105,8 +105,8 @@ pub struct Glob<V: Codec, S: Seal> {
 }
 
 impl<V: Codec, S: Seal> Glob<V, S> {
-    ghost use Rattle.segments.specs.Managed.{shown};
-    ghost use Rattle.paired.specs.GlobSections.{section_size};
+    ghost use Rattle.segments.specs.managing.Managed.{shown};
+    ghost use Rattle.paired.specs.glob.Sections.{section_size};
 
     /// The greatest section that takes an append: the bound of the opening, until it is lifted, and `u64::MAX` from there on.
     pub fn ceiling(&self) -> u64

@@ -63,7 +63,7 @@ ghost use Rattle.segments.specs.Sections.{IsHeld};
 ghost use Rattle.blob_device.specs.Timeline.{disk};
 ghost use Rattle.segments.specs.Refusing.{IsPruned};
 ghost use Rattle.paired.specs.Crashes.{Leaves};
-ghost use Rattle.paired.specs.Pair.{IsPair, IsSoundOn, list_of, synced_length};
+ghost use Rattle.paired.specs.Pair.{IsPair, IsSafeOn, list_of, synced_length};
 
 mod opening;
 mod reading;
@@ -113,7 +113,7 @@ impl<I: Record, V: Codec, S: Seal> Oversized<I, V, S> {
     /// What a crash now leaves: of each section a prefix of its list that holds what was synced, and markers that are true. It does nothing.
     pub fn crash_laws<D: Device>(&self, _dev: &D)
         requires { IsPair ⟦<PageBlob<S> as SectionBuffer>⟧ ⟦<AppendFactory<S> as BufferFactory>⟧.gives ⟦<WriteBlob as SectionBuffer>⟧ ⟦<WriteFactory as BufferFactory>⟧.gives D.Tells (shown I.place self.now) (D.opened _dev.now) (disk (D.time _dev.now)) }
-        ensures { D.Tells → IsSoundOn (shown I.place self.now) (disk (D.time _dev.now)) → Leaves (shown I.place self.now).layout (list_of (shown I.place self.now) (disk (D.time _dev.now))) (synced_length (shown I.place self.now)) (λ _. ⊥) (disk (D.time _dev.now)) }
+        ensures { D.Tells → IsSafeOn (shown I.place self.now) (disk (D.time _dev.now)) → Leaves (shown I.place self.now).layout (list_of (shown I.place self.now) (disk (D.time _dev.now))) (synced_length (shown I.place self.now)) (λ _. ⊥) (disk (D.time _dev.now)) }
     {}
 
     /// How many bytes the records of the section have, those not flushed too; 0 where it is not held. It takes no memory.

@@ -12,7 +12,9 @@ use value_codec::{Codec, codec};
 /// Any bytes but five, which spell no value; or so many zeros, in place of the bytes.
 #[derive(Drop)]
 pub struct Content {
+    // The bytes, which count where there are no zeros.
     bytes: Vec<u8>,
+    // How many zeros; 0 where it is the bytes.
     zeros: u64,
 }
 

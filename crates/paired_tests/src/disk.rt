@@ -10,11 +10,13 @@ use std::alloc::Global;
 /// What is remembered from step to step.
 #[derive(Drop)]
 pub struct Bench {
+    /// For images and texts.
     pub alloc: Global,
     /// The image that a step remembered.
     pub image: Image,
-    /// How many calls the device had when they were last asked for, and how many were noted.
+    /// How many calls the device had when they were last asked for.
     pub base: u64,
+    /// How many calls were noted by `note-calls`.
     pub noted: u64,
     /// What crashes left in a whole run.
     pub left: Vec<Image>,

@@ -13,9 +13,13 @@ use value_codec::{Codec, CodecFixed, codec};
 /// A record with a number of its own.
 #[derive(Clone, Copy)]
 pub struct Note {
+    /// Which record it is.
     pub number: u64,
+    /// The number with each of its bits turned.
     pub tag: u64,
+    /// Where the frame of its value begins.
     pub offset: u64,
+    /// How many bytes the frame has.
     pub size: u32,
 }
 

@@ -93,17 +93,24 @@ pub fn name_of(alloc: Global, word: &str) -> Result<Vec<u8>, AllocError> {
 /// What a change is told.
 #[derive(Drop)]
 pub struct Order {
+    /// The section of a record.
     pub section: u64,
+    /// The number of a record.
     pub number: u64,
+    /// Its value.
     pub value: Content,
+    /// The sections of a sync, a prune or a cut.
     pub named: Named,
 }
 
 /// The sections that a change names, those that stay active, and the sizes that sections get.
 #[derive(Drop)]
 pub struct Named {
+    /// Those that are named.
     pub sections: Vec<u64>,
+    /// Those that stay active.
     pub active: Vec<u64>,
+    /// The size that a section gets, by its number.
     pub sizes: BTreeMap<u64, u64>,
 }
 

@@ -3,7 +3,7 @@ ghost use Rattle.std.specs.Prelude.{◌≡◌, ◌≢◌, ◌↔◌, ◌+◌, �
 ghost use Rattle.std.specs.Int.{w32, to_be_bytes, from_be_bytes};
 ghost use Rattle.std.specs.Result.{IsErrOf};
 ghost use Rattle.paired.specs.Frames.{frame, with_number};
-ghost use Rattle.paired.specs.GlobReading.{IsMismatch};
+ghost use Rattle.paired.specs.glob.Reading.{IsMismatch};
 
 use segments::journal::Error;
 use std::alloc::Global;

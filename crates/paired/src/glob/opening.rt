@@ -18,8 +18,8 @@ use std::alloc::Global;
 use value_codec::{Codec, Seal};
 
 impl<V: Codec, S: Seal> Glob<V, S> {
-    ghost use Rattle.segments.specs.Managed.{shown};
-    ghost use Rattle.paired.specs.GlobSections.{IsGlob, section_bytes, HasSettled, IsAllSettled};
+    ghost use Rattle.segments.specs.managing.Managed.{shown};
+    ghost use Rattle.paired.specs.glob.Sections.{IsGlob, section_bytes, HasSettled, IsAllSettled};
 
     /// Opens the sections of the partition.
     ///

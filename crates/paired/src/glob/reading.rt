@@ -5,14 +5,14 @@ ghost use Rattle.blob_device.specs.Timeline.{disk};
 ghost use Rattle.value_codec.specs.declared.codec.Error.TheVariants as codec;
 ghost use Rattle.sealed_pages.specs.Entries.{IsOpenAt, ReadsAtMost};
 ghost use Rattle.sealed_pages.specs.Reading.{Unchanged};
-ghost use Rattle.sealed_pages.specs.Writing as writing;
+ghost use Rattle.sealed_pages.specs.unsealed.Writing as writing;
 ghost use Rattle.segments.specs.Sections.{key_of, IsHeld};
-ghost use Rattle.segments.specs.Unsealed as unsealed;
-ghost use Rattle.segments.specs.Unsealed.{content_of, count_of};
-ghost use Rattle.segments.specs.Managed.{shown};
+ghost use Rattle.segments.specs.unsealed.Buffer as unsealed;
+ghost use Rattle.segments.specs.unsealed.Buffer.{content_of, count_of};
+ghost use Rattle.segments.specs.managing.Managed.{shown};
 ghost use Rattle.segments.specs.Refusing.{HasFailed, IsPruned};
 ghost use Rattle.paired.specs.Frames.{bytes_at, HasFrame, IsBroken, Differ};
-ghost use Rattle.paired.specs.GlobReading.{IsInside, IsAbsent, IsOverflow, IsShort, IsMismatch, IsRefused};
+ghost use Rattle.paired.specs.glob.Reading.{IsInside, IsAbsent, IsOverflow, IsShort, IsMismatch, IsRefused};
 
 use super::Glob;
 use super::framing::{SEAL_SIZE, spelled};
@@ -81,7 +81,7 @@ fn buffer_of(manager: &Manager<WriteFactory>, section: u64) -> Result<&WriteBlob
 }
 
 impl<V: Codec, S: Seal> Glob<V, S> {
-    ghost use Rattle.paired.specs.GlobSections.{IsGlob, section_bytes, IsPendingRange};
+    ghost use Rattle.paired.specs.glob.Sections.{IsGlob, section_bytes, IsPendingRange};
 
     /// The value of the frame of this size at a place of the section.
     ///

@@ -15,8 +15,8 @@ use segments::{BufferFactory, SectionBuffer, WriteFactory};
 use value_codec::{Codec, Seal};
 
 impl<V: Codec, S: Seal> Glob<V, S> {
-    ghost use Rattle.segments.specs.Managed.{shown};
-    ghost use Rattle.paired.specs.GlobSections.{IsGlob, section_bytes};
+    ghost use Rattle.segments.specs.managing.Managed.{shown};
+    ghost use Rattle.paired.specs.glob.Sections.{IsGlob, section_bytes};
 
     /// Removes the sections below `min`, the oldest first, and says whether there was one; only then `min` is the floor.
     pub fn prune<D: Device>(self, dev: &mut D, min: u64) -> Result<(Self, bool), Error>

@@ -6,7 +6,7 @@ ghost use Rattle.blob_device.specs.Timeline.{disk, Always, Each};
 ghost use Rattle.segments.specs.Entries.{StartsNoRead};
 ghost use Rattle.segments.specs.Sections.{key_of, IsHeld, IsKeyOf, SameBounds, IsSynced};
 ghost use Rattle.segments.specs.Refusing.{HasFailed, IsPruned};
-ghost use Rattle.paired.specs.GlobLasting.{Settling};
+ghost use Rattle.paired.specs.glob.Lasting.{Settling};
 
 use super::Glob;
 use blob_device::{Device, Handle};
@@ -16,8 +16,8 @@ use segments::{BufferFactory, SectionBuffer, WriteFactory};
 use value_codec::{Codec, Seal};
 
 impl<V: Codec, S: Seal> Glob<V, S> {
-    ghost use Rattle.segments.specs.Managed.{shown};
-    ghost use Rattle.paired.specs.GlobSections.{IsGlob, section_bytes, HasSettled, IsAllSettled, IsUnsettled};
+    ghost use Rattle.segments.specs.managing.Managed.{shown};
+    ghost use Rattle.paired.specs.glob.Sections.{IsGlob, section_bytes, HasSettled, IsAllSettled, IsUnsettled};
 
     /// Settles these sections. One that is not held is passed over. All are checked before one is synced.
     pub fn sync<D: Device>(self, dev: &mut D, sections: &[u64]) -> Result<Self, Error>

@@ -5,11 +5,11 @@ ghost use Rattle.blob_device.specs.Timeline.{disk};
 ghost use Rattle.segments.specs.Leaving.{AllMoments};
 ghost use Rattle.segments.specs.Entries.{OnlyOwnEntry, StartsNoRead};
 ghost use Rattle.segments.specs.Sections.{key_of, IsHeld, IsSame, SameBounds};
-ghost use Rattle.segments.specs.Unsealed.{content_of, count_of};
+ghost use Rattle.segments.specs.unsealed.Buffer.{content_of, count_of};
 ghost use Rattle.segments.specs.Raised.{raised};
 ghost use Rattle.segments.specs.Refusing.{HasFailed, IsPruned};
 ghost use Rattle.paired.specs.Frames.{frame, HasFrame};
-ghost use Rattle.paired.specs.GlobLasting.{Outlasts, IsBeginning, settled_bytes};
+ghost use Rattle.paired.specs.glob.Lasting.{Outlasts, IsBeginning, settled_bytes};
 
 use super::Glob;
 use super::framing::{frame_size, framed};
@@ -31,8 +31,8 @@ fn full_or_raised(e: RError) -> Error
 }
 
 impl<V: Codec, S: Seal> Glob<V, S> {
-    ghost use Rattle.segments.specs.Managed.{shown};
-    ghost use Rattle.paired.specs.GlobSections.{IsGlob, section_bytes, section_size, settled_size, pending_size, IsFlushed};
+    ghost use Rattle.segments.specs.managing.Managed.{shown};
+    ghost use Rattle.paired.specs.glob.Sections.{IsGlob, section_bytes, section_size, settled_size, pending_size, IsFlushed};
     ghost use Rattle.paired.specs.Tails.{IsTailAfter};
 
     /// Adds a value's frame at the end of the section, which is made where it is not held. The answer has the frame's place and its

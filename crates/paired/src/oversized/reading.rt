@@ -11,10 +11,10 @@ ghost use Rattle.segments.specs.FixedItems.{item_at, IsItem};
 ghost use Rattle.segments.specs.FixedLists.{section_bytes};
 ghost use Rattle.segments.specs.FixedReading.{HasItem, is_item_held, IsDamaged, IsItemCovered, IsAbsent, IsPast, HasNotRead};
 ghost use Rattle.segments.specs.Sections.{key_of, IsHeld};
-ghost use Rattle.segments.specs.Unsealed.{count_of};
+ghost use Rattle.segments.specs.unsealed.Buffer.{count_of};
 ghost use Rattle.segments.specs.Refusing.{HasFailed, IsPruned};
 ghost use Rattle.paired.specs.Frames.{HasFrame, IsBroken, Differ};
-ghost use Rattle.paired.specs.GlobReading as frames;
+ghost use Rattle.paired.specs.glob.Reading as frames;
 ghost use Rattle.paired.specs.Pair.{IsPair, IsSoundOn, list_of, length_of};
 
 use super::Oversized;
@@ -27,7 +27,7 @@ use value_codec::{Codec, Seal};
 
 impl<I: Record, V: Codec, S: Seal> Oversized<I, V, S> {
     ghost use Rattle.sealed_pages.specs.Shown as page_blob;
-    ghost use Rattle.paired.specs.GlobSections as glob;
+    ghost use Rattle.paired.specs.glob.Sections as glob;
     ghost use Rattle.paired.specs.PairShown.{shown};
 
     /// The record at a position of the section.

@@ -12,7 +12,7 @@ ghost use Rattle.segments.specs.Lasting.{Going};
 ghost use Rattle.segments.specs.Refusing.{HasFailed};
 ghost use Rattle.paired.specs.Crashes.{IsCopy, IsIndexOf, IsOneOf, IsOwn, IsValuesOf, InOrder, Keeping};
 ghost use Rattle.paired.specs.Kept.{IsSameLayout, IsMarked, marker_of};
-ghost use Rattle.paired.specs.Pair.{IsPair, IsSoundOn, list_of, synced_length};
+ghost use Rattle.paired.specs.Pair.{IsPair, IsSafeOn, IsSoundOn, list_of, synced_length};
 ghost use Rattle.paired.specs.PairFaults.{AreDropped};
 ghost use Rattle.paired.specs.PairRefusing.{HasLostMarkers};
 
@@ -39,6 +39,9 @@ impl<I: Record, V: Codec, S: Seal> Oversized<I, V, S> {
         ensures synced { IfOk result (λ r. (s : ℕ) → min ≤ s → synced_length (shown I.place r.0) s ≡ synced_length (shown I.place self) s) }
         ensures markers { IfOk result (λ r. (s : ℕ) → min ≤ s → marker_of (shown I.place r.0).store.entries s ≡ marker_of (shown I.place self).store.entries s) }
         ensures unmarked { IfOk result (λ r. (s : ℕ) → s < min → marker_of (shown I.place r.0).store.entries s ≡ 0) }
+        // The floor of the markers is no bound of sections yet: it stays.
+        ensures marker_floor { IfOk result (λ r.
+            (shown I.place r.0).store.floor ≡ (shown I.place self).store.floor) }
         ensures marked { IfOk result (λ r. (s m : ℕ) → IsMarked (shown I.place r.0).store.entries s m → (min ≤ s) × IsMarked (shown I.place self).store.entries s m) }
         ensures flag { IfOk result (λ r. IsTrue r.1 ↔ ((s : ℕ) × IsHeld (shown I.place self).index.sections s × (s < min))) }
         ensures floor { IfOk result (λ r. IsTrue r.1 → (shown I.place r.0).index.sections.floor ≡ min) }
@@ -48,7 +51,7 @@ impl<I: Record, V: Codec, S: Seal> Oversized<I, V, S> {
         ensures codec_config { IfOk result (λ r. r.0.values.codec_config ≡ self.values.codec_config) }
         // At every moment, also where the call fails, each crash leaves of each section a prefix of its list that holds what was synced, or nothing of
         // one below the bound; the markers are true; no blob changes but those of sections below the bound, and of the markers.
-        ensures moments { D.Tells → IsSoundOn (shown I.place self) (disk (D.time dev.old)) → Keeping (shown I.place self).layout (list_of (shown I.place self) (disk (D.time dev.old))) (synced_length (shown I.place self)) (λ s. s < min) (IsOwn (shown I.place self).layout (λ s. s < min)) (D.time dev.old) (D.time dev.new) }
+        ensures moments { D.Tells → IsSafeOn (shown I.place self) (disk (D.time dev.old)) → Keeping (shown I.place self).layout (list_of (shown I.place self) (disk (D.time dev.old))) (synced_length (shown I.place self)) (λ s. s < min) (IsOwn (shown I.place self).layout (λ s. s < min)) (D.time dev.old) (D.time dev.new) }
         ensures alone { D.Tells → (((s : ℕ) × (s < min) × ((m : ℕ) × IsMarked (shown I.place self).store.entries s m)) → ⊥) → Always (D.time dev.old) (D.time dev.new) (λ d. (q : Key) → IsCopy (shown I.place self).layout q → d q ≡ disk (D.time dev.old) q) }
         // Also of a pair that is not sound no other blob changes: of records and of values only those that
         // are held below the bound. The markers are written over their older copy.
@@ -97,7 +100,7 @@ impl<I: Record, V: Codec, S: Seal> Oversized<I, V, S> {
         requires over { IsPair ⟦<PageBlob<S> as SectionBuffer>⟧ ⟦<AppendFactory<S> as BufferFactory>⟧.gives ⟦<WriteBlob as SectionBuffer>⟧ ⟦<WriteFactory as BufferFactory>⟧.gives D.Tells (shown I.place self) (D.opened dev.old) (disk (D.time dev.old)) }
         // At every moment, also where the call fails, each crash leaves of each section a prefix of its list that holds what was synced, or nothing; the
         // markers are true; no blob changes but the pair's own.
-        ensures moments { D.Tells → IsSoundOn (shown I.place self) (disk (D.time dev.old)) → Keeping (shown I.place self).layout (list_of (shown I.place self) (disk (D.time dev.old))) (synced_length (shown I.place self)) (λ _. ⊤) (IsOwn (shown I.place self).layout (λ _. ⊤)) (D.time dev.old) (D.time dev.new) }
+        ensures moments { D.Tells → IsSafeOn (shown I.place self) (disk (D.time dev.old)) → Keeping (shown I.place self).layout (list_of (shown I.place self) (disk (D.time dev.old))) (synced_length (shown I.place self)) (λ _. ⊤) (IsOwn (shown I.place self).layout (λ _. ⊤)) (D.time dev.old) (D.time dev.new) }
         // Also of a pair that is not sound no other blob changes: of records and of values only those that
         // are held.
         ensures untouched { D.Tells → Always (D.time dev.old) (D.time dev.new) (λ d. (q : Key)

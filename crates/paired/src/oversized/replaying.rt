@@ -17,22 +17,23 @@ ghost use Rattle.segments.specs.FixedReplay.{Begins, IsDrained, IsWalk, Replayin
 ghost use Rattle.segments.specs.FixedShown as journal;
 ghost use Rattle.segments.specs.FixedStepping.{way_of};
 ghost use Rattle.segments.specs.FixedWalking.{walk_of};
-ghost use Rattle.segments.specs.Managed as managed;
+ghost use Rattle.segments.specs.managing.Managed as managed;
 ghost use Rattle.segments.specs.Refusing.{HasDamage, HasFailed};
 ghost use Rattle.segments.specs.Sections.{section_key, key_of, IsHeld};
+ghost use Rattle.meta_store.specs.Store.{contents_of};
 ghost use Rattle.paired.specs.Crashes.{IsIndexOf, IsValuesOf, IsOwn, Keeping};
-ghost use Rattle.paired.specs.GlobSections.{IsGlob};
-ghost use Rattle.paired.specs.GlobSections as glob;
+ghost use Rattle.paired.specs.glob.Sections.{IsGlob};
+ghost use Rattle.paired.specs.glob.Sections as glob;
 ghost use Rattle.paired.specs.Kept.{IsSameLayout, kept};
 ghost use Rattle.paired.specs.Opening.{as_read, IsLawful, MayBeOpened, RecallsAlone};
 ghost use Rattle.paired.specs.OpeningRefusing.{AreSpellings};
-ghost use Rattle.paired.specs.Pair.{IsPair, IsSoundOn, list_of, synced_length};
+ghost use Rattle.paired.specs.Pair.{IsPair, IsSafeOn, IsSoundOn, list_of, synced_length};
 ghost use Rattle.paired.specs.PairShown.{shown};
 ghost use Rattle.paired.specs.Records.{is_sound};
 ghost use Rattle.paired.specs.ReplayShown.{run_of};
 ghost use Rattle.paired.specs.Replaying.{GivesBack, IsCutting, IsRun, IsDue, GivesRecord, LosesRecords, IsUnspelled, LeftAtMost, SameRun, pair_of, records_given};
 ghost use Rattle.paired.specs.Replaying as run;
-ghost use Rattle.paired.specs.TrackedShown as tracked;
+ghost use Rattle.paired.specs.sighted.Shown as tracked;
 
 use super::Oversized;
 use super::tracking::Tracking;
@@ -186,7 +187,7 @@ impl<I: Record, V: Codec, S: Seal> Replay<I, V, S> {
         ensures kept { D.Tells → (run_of I.place self.old).tracked ≡ true → (run_of I.place self.new).walk.ended ≡ false → (s : ℕ) → s < 2 ^ 64
             → kept (run_of I.place self.old).layout (as_read (disk (D.time dev.new))) (run.marker (run_of I.place self.old) s) s ≡ kept (run_of I.place self.old).layout (as_read (disk (D.time dev.old))) (run.marker (run_of I.place self.old) s) s }
         ensures given { D.Tells → (run_of I.place self.old).tracked ≡ true → (run_of I.place self.new).walk.ended ≡ false → run.HasLostNone (run_of I.place self.new) → (s : ℕ) → records_given (run_of I.place self.new) (disk (D.time dev.new)) s ≡ records_given (run_of I.place self.old) (disk (D.time dev.old)) s }
-        ensures lawful { D.Tells → (run_of I.place self.old).tracked ≡ true → (run_of I.place self.new).walk.ended ≡ false → IsLawful (run_of I.place self.old).layout (as_read (disk (D.time dev.old))) (run_of I.place self.old).store.entries → IsLawful (run_of I.place self.old).layout (as_read (disk (D.time dev.new))) (run_of I.place self.old).store.entries }
+        ensures lawful { D.Tells → (run_of I.place self.old).tracked ≡ true → (run_of I.place self.new).walk.ended ≡ false → IsLawful (run_of I.place self.old).layout (as_read (disk (D.time dev.old))) (contents_of (run_of I.place self.old).store) → IsLawful (run_of I.place self.old).layout (as_read (disk (D.time dev.new))) (contents_of (run_of I.place self.old).store) }
         ensures spelled { D.Tells → (run_of I.place self.old).tracked ≡ true → (run_of I.place self.new).walk.ended ≡ false → AreSpellings (run_of I.place self.old).layout I.refusal (as_read (disk (D.time dev.old))) → AreSpellings (run_of I.place self.old).layout I.refusal (as_read (disk (D.time dev.new))) }
         // At every moment, also where the call gives an error, each crash leaves what a crash before the call would have left.
         ensures moments { D.Tells → (run_of I.place self.old).tracked ≡ true → MayBeOpened (run_of I.place self.old).layout (disk (D.time dev.old)) → Always (D.time dev.old) (D.time dev.new) (RecallsAlone (run_of I.place self.old).layout (IsIndexOf (run_of I.place self.old).layout (λ _. ⊤)) (disk (D.time dev.old))) }
@@ -194,7 +195,7 @@ impl<I: Record, V: Codec, S: Seal> Replay<I, V, S> {
         // That over an open pair changes nothing of its lists. An error may take the buffer of a section; its blob is as it was left.
         ensures lists { D.Tells → (run_of I.place self.old).tracked ≡ false → (s : ℕ) → (run_of I.place self.new).walk.journal.sections.unopened s ≡ None → list_of (pair_of (run_of I.place self.new)) (disk (D.time dev.new)) s ≡ list_of (pair_of (run_of I.place self.old)) (disk (D.time dev.old)) s }
         ensures sound { D.Tells → (run_of I.place self.old).tracked ≡ false → run.HasLostNone (run_of I.place self.new) → IsSoundOn (pair_of (run_of I.place self.old)) (disk (D.time dev.old)) → IsSoundOn (pair_of (run_of I.place self.new)) (disk (D.time dev.new)) }
-        ensures keeps { D.Tells → (run_of I.place self.old).tracked ≡ false → run.HasLostNone (run_of I.place self.old) → IsSoundOn (pair_of (run_of I.place self.old)) (disk (D.time dev.old))
+        ensures keeps { D.Tells → (run_of I.place self.old).tracked ≡ false → run.HasLostNone (run_of I.place self.old) → IsSafeOn (pair_of (run_of I.place self.old)) (disk (D.time dev.old))
             → Keeping (run_of I.place self.old).layout (list_of (pair_of (run_of I.place self.old)) (disk (D.time dev.old))) (synced_length (pair_of (run_of I.place self.old))) (λ _. ⊥) (IsIndexOf (run_of I.place self.old).layout (λ _. ⊤)) (D.time dev.old) (D.time dev.new) }
         // Whatever the disk, each crash leaves of a section what had settled of its bytes, or, where it owes a replay, its whole records. No blob changes
         // but those of records, and none of a section in which nothing is to be cut or flushed.
@@ -213,7 +214,7 @@ impl<I: Record, V: Codec, S: Seal> Replay<I, V, S> {
         ensures damage { D.Tells → (x : _) → result ≡ Some (Err (Error.Corruption x)) → EndsBelow S.seal_of I.SIZE (run_of I.place self.old).walk (disk (D.time dev.old)) x }
         ensures damaged { D.Tells → (k : ℕ) → result ≡ Some (Err (Error.Runtime (InvalidChecksum k))) → FindsDamage S.seal_of I.SIZE (run_of I.place self.old).walk (run_of I.place self.new).walk (disk (D.time dev.new)) k }
         ensures refused { D.Tells → (e : _) → result ≡ Some (Err (Error.Codec e)) → IsUnspelled I.refusal (run_of I.place self.old) (disk (D.time dev.old)) e }
-        ensures complete { D.Tells → (run_of I.place self.old).tracked ≡ true → IsLawful (run_of I.place self.old).layout (as_read (disk (D.time dev.old))) (run_of I.place self.old).store.entries → AreSpellings (run_of I.place self.old).layout I.refusal (as_read (disk (D.time dev.old))) → (e : _) → result ≡ Some (Err e) → HasFailed {T = I} (Err e) (D.faults dev.old) (D.faults dev.new) }
+        ensures complete { D.Tells → (run_of I.place self.old).tracked ≡ true → IsLawful (run_of I.place self.old).layout (as_read (disk (D.time dev.old))) (contents_of (run_of I.place self.old).store) → AreSpellings (run_of I.place self.old).layout I.refusal (as_read (disk (D.time dev.old))) → (e : _) → result ≡ Some (Err e) → HasFailed {T = I} (Err e) (D.faults dev.old) (D.faults dev.new) }
         ensures faults { D.faults dev.old ≤ D.faults dev.new }
         ensures cause { (e : _) → result ≡ Some (Err e) → (e ≡ Error.ItemOutOfRange (run_of I.place self.old).walk.start_position) ⊎ (IsBelowFloor {T = I} (Err e) ⊎ HasNotRead {T = I} (Err e) (D.faults dev.old) (D.faults dev.new)) }
     {

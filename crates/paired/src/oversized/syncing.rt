@@ -10,14 +10,14 @@ ghost use Rattle.segments.specs.Sections.{IsHeld, IsSame, SameBounds};
 ghost use Rattle.segments.specs.Refusing.{HasFailed, IsPruned};
 ghost use Rattle.meta_store.specs.Blobs.{blob_of, other_side};
 ghost use Rattle.paired.specs.Crashes.{IsBlobOf, IsCopy, IsIndexOf, IsOwn, IsValuesOf, InOrder, Keeping};
-ghost use Rattle.paired.specs.GlobSections as glob;
+ghost use Rattle.paired.specs.glob.Sections as glob;
 ghost use Rattle.paired.specs.Kept.{IsMarked, IsSameLayout, marker_of};
-ghost use Rattle.paired.specs.Pair.{IsPair, IsSoundOn, IsMoving, list_of, length_of, synced_length};
+ghost use Rattle.paired.specs.Pair.{IsPair, IsSafeOn, IsSoundOn, IsMoving, list_of, length_of, synced_length};
 ghost use Rattle.paired.specs.PairFaults.{AreAtRest, FaultsInOrder};
 ghost use Rattle.paired.specs.PairRefusing.{HasLostMarkers};
 ghost use Rattle.paired.specs.PairSync.{IsSyncOf, SyncKeeps};
 ghost use Rattle.paired.specs.Tracked.{Trails, synced_of};
-ghost use Rattle.paired.specs.TrackedShown as tracked;
+ghost use Rattle.paired.specs.sighted.Shown as tracked;
 ghost use Rattle.segments.specs.FixedLists.{section_size};
 ghost use Rattle.segments.specs.FixedShown as fixed;
 
@@ -151,7 +151,7 @@ impl<I: Record, V: Codec, S: Seal> Oversized<I, V, S> {
         ensures bounds { IfOk result (λ r. SameBounds (shown I.place self).index.sections (shown I.place r).index.sections × SameBounds (shown I.place self).values (shown I.place r).values) }
         ensures layout { IfOk result (λ r. IsSameLayout (shown I.place self).layout (shown I.place r).layout) }
         ensures codec_config { IfOk result (λ r. r.values.codec_config ≡ self.values.codec_config) }
-        ensures moments { D.Tells → IsSoundOn (shown I.place self) (disk (D.time dev.old)) → Keeping (shown I.place self).layout (list_of (shown I.place self) (disk (D.time dev.old))) (synced_length (shown I.place self)) (λ _. ⊥) (λ q. IsIndexOf (shown I.place self).layout (λ _. ⊤) q ⊎ IsValuesOf (shown I.place self).layout (λ _. ⊤) q) (D.time dev.old) (D.time dev.new) }
+        ensures moments { D.Tells → IsSafeOn (shown I.place self) (disk (D.time dev.old)) → Keeping (shown I.place self).layout (list_of (shown I.place self) (disk (D.time dev.old))) (synced_length (shown I.place self)) (λ _. ⊥) (λ q. IsIndexOf (shown I.place self).layout (λ _. ⊤) q ⊎ IsValuesOf (shown I.place self).layout (λ _. ⊤) q) (D.time dev.old) (D.time dev.new) }
         // Also of a pair that is not sound, no other blob changes.
         ensures untouched { D.Tells → Always (D.time dev.old) (D.time dev.new) (λ d. (q : Key) → (IsBlobOf (shown I.place self).layout (λ s. IsHeld (shown I.place self).index.sections s) q → ⊥) → d q ≡ disk (D.time dev.old) q) }
         ensures order { D.Tells → InOrder (IsIndexOf (shown I.place self).layout (λ _. ⊤)) (IsValuesOf (shown I.place self).layout (λ _. ⊤)) (D.time dev.old) (D.time dev.new) }
@@ -185,7 +185,7 @@ impl<I: Record, V: Codec, S: Seal> Oversized<I, V, S> {
         ensures bounds { IfOk result (λ r. SameBounds (shown I.place self).index.sections (shown I.place r).index.sections × SameBounds (shown I.place self).values (shown I.place r).values) }
         ensures layout { IfOk result (λ r. IsSameLayout (shown I.place self).layout (shown I.place r).layout) }
         ensures codec_config { IfOk result (λ r. r.values.codec_config ≡ self.values.codec_config) }
-        ensures moments { D.Tells → IsSoundOn (shown I.place self) (disk (D.time dev.old)) → Keeping (shown I.place self).layout (list_of (shown I.place self) (disk (D.time dev.old))) (synced_length (shown I.place self)) (λ _. ⊥) (IsBlobOf (shown I.place self).layout (Contains sections.now)) (D.time dev.old) (D.time dev.new) }
+        ensures moments { D.Tells → IsSafeOn (shown I.place self) (disk (D.time dev.old)) → Keeping (shown I.place self).layout (list_of (shown I.place self) (disk (D.time dev.old))) (synced_length (shown I.place self)) (λ _. ⊥) (IsBlobOf (shown I.place self).layout (Contains sections.now)) (D.time dev.old) (D.time dev.new) }
         ensures alone { D.Tells → Always (D.time dev.old) (D.time dev.new) (λ d. (q : Key) → (IsBlobOf (shown I.place self).layout (Contains sections.now) q → ⊥) → d q ≡ disk (D.time dev.old) q) }
         ensures untouched { D.Tells → Always (D.time dev.old) (D.time dev.new) (λ d. (q : Key) → (IsBlobOf (shown I.place self).layout (λ s. Contains sections.now s × IsHeld (shown I.place self).index.sections s) q → ⊥) → d q ≡ disk (D.time dev.old) q) }
         ensures order { D.Tells → InOrder (IsIndexOf (shown I.place self).layout (Contains sections.now)) (IsValuesOf (shown I.place self).layout (Contains sections.now)) (D.time dev.old) (D.time dev.new) }
@@ -221,9 +221,11 @@ impl<I: Record, V: Codec, S: Seal> Oversized<I, V, S> {
         ensures active { IfOk result (λ r. (s : ℕ) → Contains active.now s → marker_of (shown I.place r).store.entries s ≡ marker_of (shown I.place self).store.entries s) }
         ensures marked { IfOk result (λ r. (s m : ℕ) → IsMarked (shown I.place r).store.entries s m → IsMarked (shown I.place self).store.entries s m ⊎ ((Contains active.now s → ⊥) × (m ≡ synced_length (shown I.place r) s) × (m ≢ marker_of (shown I.place self).store.entries s))) }
         ensures still { (((s : ℕ) × IsMoving (shown I.place self) (λ _. ⊥) (Contains active.now) s) → ⊥) → (dev.new ≡ dev.old) × IfOk result (λ r. (shown I.place r).store ≡ (shown I.place self).store) }
+        ensures marker_floor { IfOk result (λ r.
+            (shown I.place r).store.floor ≡ (shown I.place self).store.floor) }
         ensures layout { IfOk result (λ r. IsSameLayout (shown I.place self).layout (shown I.place r).layout) }
         ensures codec_config { IfOk result (λ r. r.values.codec_config ≡ self.values.codec_config) }
-        ensures moments { D.Tells → IsSoundOn (shown I.place self) (disk (D.time dev.old)) → Keeping (shown I.place self).layout (list_of (shown I.place self) (disk (D.time dev.old))) (synced_length (shown I.place self)) (λ _. ⊥) (IsCopy (shown I.place self).layout) (D.time dev.old) (D.time dev.new) }
+        ensures moments { D.Tells → IsSafeOn (shown I.place self) (disk (D.time dev.old)) → Keeping (shown I.place self).layout (list_of (shown I.place self) (disk (D.time dev.old))) (synced_length (shown I.place self)) (λ _. ⊥) (IsCopy (shown I.place self).layout) (D.time dev.old) (D.time dev.new) }
         ensures alone { D.Tells → Always (D.time dev.old) (D.time dev.new) (λ d. (q : Key) → (IsCopy (shown I.place self).layout q → ⊥) → d q ≡ disk (D.time dev.old) q) }
         ensures newer_stays { D.Tells → Always (D.time dev.old) (D.time dev.new) (λ d. d (blob_of (shown I.place self).layout.metadata (other_side (shown I.place self).store.older)) ≡ disk (D.time dev.old) (blob_of (shown I.place self).layout.metadata (other_side (shown I.place self).store.older))) }
         ensures entries { (q : Key) → (IsCopy (shown I.place self).layout q → ⊥) → D.opened dev.new q ≡ D.opened dev.old q }

@@ -1,5 +1,5 @@
 // The markers of a pair, and which sections they trail.
-ghost use Rattle.std.specs.Prelude.{◌≡◌, ◌≢◌, ◌≤◌, ◌<◌, ◌+◌, ◌⊎◌, ◌^◌, ◌↔◌, ℕ, true, false, List, [], None, Some, Ok, Err, length, unwrap_or, IfOk, OnOk, OnErr, IsOk, MatchResult};
+ghost use Rattle.std.specs.Prelude.{◌≡◌, ◌≢◌, ◌≤◌, ◌<◌, ◌+◌, ◌⊎◌, ◌^◌, ◌↔◌, ℕ, true, false, List, None, Some, Ok, Err, length, unwrap_or, IfOk, OnOk, OnErr, IsOk, MatchResult};
 ghost use Rattle.std.specs.Int.{w64, to_be_bytes};
 ghost use Rattle.std.specs.List.{Contains};
 ghost use Rattle.std.specs.Result.{IsErrOf};
@@ -17,13 +17,14 @@ ghost use Rattle.meta_store.specs.declared.error.Side.TheVariants.{Left, Right};
 ghost use Rattle.meta_store.specs.Opening.{PairOn, Opening};
 ghost use Rattle.meta_store.specs.Store.{Stands, MayBeSynced, chosen_by, contents_of, synced_store};
 ghost use Rattle.meta_store.specs.Store as store;
+ghost use Rattle.meta_store.specs.Crashes.{Mapping};
+ghost use Rattle.meta_store.specs.Pairs.{empty_map};
 ghost use Rattle.meta_store.specs.Calls.{IsOpened, OthersOpened, NoReads, CalledAtMost, GaveUp};
 ghost use Rattle.meta_store.specs.Removing.{Removing};
 ghost use Rattle.meta_store.specs.Blobs.{OnlyOne, blob_of};
 ghost use Rattle.paired.specs.Kept.{IsMarked, marker_of};
-ghost use Rattle.paired.specs.MarkerCopies.{Mapping};
 ghost use Rattle.paired.specs.Tracked.{synced_of, Trails, IsFrom};
-ghost use Rattle.paired.specs.TrackedShown.{marker_format};
+ghost use Rattle.paired.specs.sighted.Shown.{marker_format};
 
 use blob_device::Device;
 use meta_store::{Config, Error, Metadata};
@@ -134,7 +135,7 @@ fn put_markers<S: Seal>(
 }
 
 impl<S: Seal> Tracking<S> {
-    ghost use Rattle.paired.specs.TrackedShown.{shown};
+    ghost use Rattle.paired.specs.sighted.Shown.{shown};
 
     /// The markers that are kept in this partition. No section trails.
     pub(super) fn init<D: Device>(
@@ -241,7 +242,7 @@ impl<S: Seal> Tracking<S> {
         requires storable { MayBeSynced (marker_format S.Seal) (shown self).store.entries }
         requires opened { IsOpened (shown self).store.partition (D.opened dev.old) }
         ensures crashes { D.Tells → (synced : Contents _ _) → Stands (marker_format S.Seal) (shown self).store synced (disk (D.time dev.old))
-            → Mapping (marker_format S.Seal) (shown self).store.partition synced.entries (shown self).store.entries (D.time dev.old) (D.time dev.new) }
+            → Mapping (marker_format S.Seal) (shown self).store.partition synced (contents_of (shown self).store) (D.time dev.old) (D.time dev.new) }
         ensures alone { D.Tells → Always (D.time dev.old) (D.time dev.new) (OnlyOne (shown self).store.partition (shown self).store.older (disk (D.time dev.old))) }
         ensures stands { D.Tells → (synced : Contents _ _) → Stands (marker_format S.Seal) (shown self).store synced (disk (D.time dev.old))
             → IfOk result (λ t. Stands (marker_format S.Seal) (shown t).store (contents_of (shown self).store) (disk (D.time dev.new))) }
@@ -290,9 +291,9 @@ impl<S: Seal> Tracking<S> {
 
     /// Removes the markers from the device.
     pub(super) fn destroy<D: Device>(self, dev: &mut D) -> Result<(), Error>
-        // At each moment, also where the call fails, a crash leaves the markers as they were last synced, or none.
+        // At each moment, also where the call fails, a crash leaves the markers as they were last synced, or none and the floor 0.
         ensures crashes { D.Tells → (synced : Contents _ _) → Stands (marker_format S.Seal) (shown self).store synced (disk (D.time dev.old))
-            → Mapping (marker_format S.Seal) (shown self).store.partition synced.entries [] (D.time dev.old) (D.time dev.new) }
+            → Mapping (marker_format S.Seal) (shown self).store.partition synced empty_map (D.time dev.old) (D.time dev.new) }
         ensures moments { D.Tells → Always (D.time dev.old) (D.time dev.new) (Removing (shown self).store.partition (shown self).store.older (disk (D.time dev.old))) }
         ensures gone { D.Tells → (side : Side) → OnOk result (disk (D.time dev.new) (blob_of (shown self).store.partition side) ≡ nothing) }
         ensures closed { (side : Side) → OnOk result (D.opened dev.new (blob_of (shown self).store.partition side) ≡ None) }

@@ -6,12 +6,12 @@ ghost use Rattle.blob_device.specs.Timeline.{disk, Always};
 ghost use Rattle.sealed_pages.specs.Buffer.{extent, size_of, FlushesNothing};
 ghost use Rattle.segments.specs.FixedLists.{section_bytes};
 ghost use Rattle.segments.specs.Sections.{key_of, IsHeld, IsSame, SameBounds};
-ghost use Rattle.segments.specs.Unsealed.{count_of};
+ghost use Rattle.segments.specs.unsealed.Buffer.{count_of};
 ghost use Rattle.segments.specs.Refusing.{HasFailed, HasNoRoom, IsPruned};
 ghost use Rattle.paired.specs.Frames.{frame};
 ghost use Rattle.paired.specs.Crashes.{IsIndexOf, IsValuesOf, InOrder, Keeping};
 ghost use Rattle.paired.specs.Kept.{IsSameLayout};
-ghost use Rattle.paired.specs.Pair.{IsPair, IsSoundOn, list_of, length_of, synced_length};
+ghost use Rattle.paired.specs.Pair.{IsPair, IsSafeOn, IsSoundOn, list_of, length_of, synced_length};
 
 use super::Oversized;
 use crate::Record;
@@ -34,7 +34,7 @@ fn naming<I: Record>(entry: I, offset: u64, size: u32) -> I
 
 impl<I: Record, V: Codec, S: Seal> Oversized<I, V, S> {
     ghost use Rattle.sealed_pages.specs.Shown as page_blob;
-    ghost use Rattle.paired.specs.GlobSections as glob;
+    ghost use Rattle.paired.specs.glob.Sections as glob;
     ghost use Rattle.paired.specs.PairShown.{shown};
     ghost use Rattle.paired.specs.Tails.{AreTailsAfter};
 
@@ -79,7 +79,7 @@ impl<I: Record, V: Codec, S: Seal> Oversized<I, V, S> {
         ensures codec_config { IfOk result (λ r. r.0.values.codec_config ≡ self.values.codec_config) }
         // At every moment, also where the call fails, each crash leaves of each section a prefix of its list, this record's included, that holds what was
         // synced; the markers are true; no blob but the section's two changes.
-        ensures moments { D.Tells → IsSoundOn (shown I.place self) (disk (D.time dev.old)) → Keeping (shown I.place self).layout (λ s. list_of (shown I.place self) (disk (D.time dev.old)) s ++ (if eqb s section then record { stored = I.spelling (I.located entry (glob.section_size (shown I.place self).values section) (length (frame S.seal_of (V.spelling value.now)))); value = V.spelling value.now } ∷ [] else [])) (synced_length (shown I.place self)) (λ _. ⊥) (λ q. IsIndexOf (shown I.place self).layout (λ s. s ≡ section) q ⊎ IsValuesOf (shown I.place self).layout (λ s. s ≡ section) q) (D.time dev.old) (D.time dev.new) }
+        ensures moments { D.Tells → IsSafeOn (shown I.place self) (disk (D.time dev.old)) → Keeping (shown I.place self).layout (λ s. list_of (shown I.place self) (disk (D.time dev.old)) s ++ (if eqb s section then record { stored = I.spelling (I.located entry (glob.section_size (shown I.place self).values section) (length (frame S.seal_of (V.spelling value.now)))); value = V.spelling value.now } ∷ [] else [])) (synced_length (shown I.place self)) (λ _. ⊥) (λ q. IsIndexOf (shown I.place self).layout (λ s. s ≡ section) q ⊎ IsValuesOf (shown I.place self).layout (λ s. s ≡ section) q) (D.time dev.old) (D.time dev.new) }
         ensures order { D.Tells → InOrder (IsValuesOf (shown I.place self).layout (λ s. s ≡ section)) (IsIndexOf (shown I.place self).layout (λ s. s ≡ section)) (D.time dev.old) (D.time dev.new) }
         // Also of a pair that is not sound no blob but the section's two changes.
         ensures untouched { D.Tells → Always (D.time dev.old) (D.time dev.new) (λ d. (q : Key) → q ≢ key_of (shown I.place self).index.sections section → q ≢ key_of (shown I.place self).values section → d q ≡ disk (D.time dev.old) q) }

@@ -1,6 +1,6 @@
 use Rattle.paired.specs.Opening.{Front, Same, UpTo}
-use Rattle.paired.proofs.OpeningEnds.{by_same, front_order, up_to_order}
-use Rattle.paired.proofs.OpeningLaws.{nothing_pending, recalls_all, recalls_all_by, recalls_on, recalls_on_by, recalls_weaker}
+use Rattle.paired.proofs.opening.Ends.{by_same, front_order, up_to_order}
+use Rattle.paired.proofs.opening.Laws.{nothing_pending, recalls_all, recalls_all_by, recalls_on, recalls_on_by, recalls_weaker}
 use Rattle.paired.proofs.laws.opening_laws.Goals as goal
 
 pub returns-clause-pending : goal.returns-clause-pending

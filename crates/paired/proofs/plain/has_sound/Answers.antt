@@ -1,4 +1,4 @@
-use Rattle.std.proofs.Common.{◌≡◌, ℕ, List, length, map, ap, arith}
+use Rattle.std.proofs.Common.{◌≡◌, List, length, ap, arith}
 use Rattle.std.proofs.lemmas.Bool.{leb-true, le-leb}
 use Rattle.std.proofs.lemmas.List.{length-map}
 use Rattle.sealed_pages.specs.SealedPrefix.{sealed_prefix}

@@ -2,7 +2,7 @@ use Rattle.std.proofs.Common.{ℕ, inl}
 use Rattle.std.specs.Prelude.{⊤}
 use Rattle.blob_device.specs.Timeline.{disk}
 use Rattle.blob_device.proofs.Moments.{always_now}
-use Rattle.segments.specs.Managed.{shown}
+use Rattle.segments.specs.managing.Managed.{shown}
 use Rattle.paired.proofs.CallLemmas.{sync_glob, sync_bytes, sync_settled, sync_all}
 use Rattle.paired.proofs.StepLemmas.{settling_moments, same_unopened, none_unsettled}
 use Rattle.paired.proofs.glob.Glob.sync_all.Goals as goal

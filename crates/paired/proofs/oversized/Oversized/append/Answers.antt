@@ -1,13 +1,13 @@
 use Rattle.std.proofs.Common.{◌≡◌, ◌++◌, ℕ, List, inl, IsSome, length, refl, sym, ◌∙◌, ap, subst}
 use Rattle.blob_device.specs.Timeline.{disk}
 use Rattle.segments.specs.FixedLists.{section_bytes}
-use Rattle.segments.specs.Managed as managed
+use Rattle.segments.specs.managing.Managed as managed
 use Rattle.segments.specs.FixedShown as fixed
 use Rattle.segments.proofs.FixedWriteLemmas.{are_pages}
 use Rattle.paired.specs.Frames.{frame}
-use Rattle.paired.specs.GlobSections as glob
+use Rattle.paired.specs.glob.Sections as glob
 use Rattle.paired.specs.PairShown.{shown}
-use Rattle.paired.proofs.PairAppended.{GetsValue, GetsRecord, is_laid, value_blobs, untouched_value, untouched_record, index_bytes_on, values_bytes_on, value_order, record_order, index_on, still_keeps, value_keeps, record_keeps_as, list_now_as, other_list_now, pair_again, sound_again}
+use Rattle.paired.proofs.pair.Appended.{GetsValue, GetsRecord, is_laid, value_blobs, untouched_value, untouched_record, index_bytes_on, values_bytes_on, value_order, record_order, index_on, still_keeps, value_keeps, record_keeps_as, list_now_as, other_list_now, pair_again, sound_again}
 use Rattle.paired.proofs.oversized.Oversized.append.Goals as goal
 
 pub returns-clause-tails : goal.returns-clause-tails
@@ -16,22 +16,22 @@ returns-clause-tails g c = record { records = c.in_ok-index.ensures.tail; values
 pub returns-in_err-frame_size-clause-moments : goal.returns-in_err-frame_size-clause-moments
 returns-in_err-frame_size-clause-moments g c t sound =
     let laid = is_laid c.requires.over (are_pages g.row.S g.S.Seal g.S.Seal-dict) refl refl refl refl g.met.I.CodecFixed.fixed.at_least in
-    still_keeps (shown g.I.Record.place c.args.self) (g.D.Device.opened c.args.dev.now) (g.D.Device.time c.args.dev.now) c.requires.over laid t sound _ _
+    still_keeps (shown g.I.Record.place c.args.self) (g.D.Device.opened c.args.dev.now) (g.D.Device.time c.args.dev.now) c.requires.over laid t sound.sound sound.floor _ _
 
 pub returns-in_err-is_full-clause-moments : goal.returns-in_err-is_full-clause-moments
 returns-in_err-is_full-clause-moments g c t sound =
     let laid = is_laid c.requires.over (are_pages g.row.S g.S.Seal g.S.Seal-dict) refl refl refl refl g.met.I.CodecFixed.fixed.at_least in
-    still_keeps (shown g.I.Record.place c.args.self) (g.D.Device.opened c.args.dev.now) (g.D.Device.time c.args.dev.now) c.requires.over laid t sound _ _
+    still_keeps (shown g.I.Record.place c.args.self) (g.D.Device.opened c.args.dev.now) (g.D.Device.time c.args.dev.now) c.requires.over laid t sound.sound sound.floor _ _
 
 pub returns-then-branch-clause-moments : goal.returns-then-branch-clause-moments
 returns-then-branch-clause-moments g c t sound =
     let laid = is_laid c.requires.over (are_pages g.row.S g.S.Seal g.S.Seal-dict) refl refl refl refl g.met.I.CodecFixed.fixed.at_least in
-    still_keeps (shown g.I.Record.place c.args.self) (g.D.Device.opened c.args.dev.now) (g.D.Device.time c.args.dev.now) c.requires.over laid t sound _ _
+    still_keeps (shown g.I.Record.place c.args.self) (g.D.Device.opened c.args.dev.now) (g.D.Device.time c.args.dev.now) c.requires.over laid t sound.sound sound.floor _ _
 
 pub returns-in_err-values-clause-moments : goal.returns-in_err-values-clause-moments
 returns-in_err-values-clause-moments g c t sound =
     let laid = is_laid c.requires.over (are_pages g.row.S g.S.Seal g.S.Seal-dict) refl refl refl refl g.met.I.CodecFixed.fixed.at_least in
-    value_keeps (shown g.I.Record.place c.args.self) (g.D.Device.opened c.args.dev.now) (g.D.Device.time c.args.dev.now) c.requires.over laid t sound c.args.section c.ranges.section.fits (g.V.Codec.spelling c.args.value.now) (g.D.Device.time c.append.new.dev) (record { moments = c.append.ensures.moments t; made = c.append.ensures.made t }) _
+    value_keeps (shown g.I.Record.place c.args.self) (g.D.Device.opened c.args.dev.now) (g.D.Device.time c.args.dev.now) c.requires.over laid t sound.sound c.args.section c.ranges.section.fits (g.V.Codec.spelling c.args.value.now) (g.D.Device.time c.append.new.dev) (record { moments = c.append.ensures.moments t; made = c.append.ensures.made t }) sound.floor _
 
 pub returns-in_err-values-clause-order : goal.returns-in_err-values-clause-order
 returns-in_err-values-clause-order g c t =
@@ -63,7 +63,7 @@ returns-in_err-index-clause-moments g c t sound =
     let names : g.I.Record.place (g.I.Codec.spelling c.naming-entry.result) ≡ (glob.section_size (shown g.I.Record.place c.args.self).values c.args.section, length (frame g.S.Seal.seal_of (g.V.Codec.spelling c.args.value.now))) = c.naming-entry.ensures.place ∙ (λ i. (at i, size i)) in
     let same : g.I.Codec.spelling c.naming-entry.result ≡ g.I.Codec.spelling (g.I.Record.located c.args.entry (glob.section_size (shown g.I.Record.place c.args.self).values c.args.section) (length (frame g.S.Seal.seal_of (g.V.Codec.spelling c.args.value.now)))) =
     ap g.I.Codec.spelling c.naming-entry.ensures.located ∙ (λ i. g.I.Codec.spelling (g.I.Record.located c.args.entry (at i) (size i))) in
-    record_keeps_as (shown g.I.Record.place c.args.self) (g.D.Device.opened c.args.dev.now) (g.D.Device.time c.args.dev.now) c.requires.over laid t sound c.args.section c.ranges.section.fits (g.V.Codec.spelling c.args.value.now) (g.D.Device.time c.append.new.dev) (record { moments = c.append.ensures.moments t; made = c.append.ensures.made t }) (g.I.Codec.spelling c.naming-entry.result) (g.met.S.Seal.fits (g.V.Codec.spelling c.args.value.now)) long names (managed.shown c.in_ok-values.values.manager) (g.D.Device.opened c.args.dev.now) (g.D.Device.opened c.append.new.dev) value (g.D.Device.time c.append-2.new.dev) (record { alone = c.append-2.ensures.alone t; moments = c.append-2.ensures.moments t; made = c.append-2.ensures.made t }) _ same
+    record_keeps_as (shown g.I.Record.place c.args.self) (g.D.Device.opened c.args.dev.now) (g.D.Device.time c.args.dev.now) c.requires.over laid t sound.sound c.args.section c.ranges.section.fits (g.V.Codec.spelling c.args.value.now) (g.D.Device.time c.append.new.dev) (record { moments = c.append.ensures.moments t; made = c.append.ensures.made t }) (g.I.Codec.spelling c.naming-entry.result) (g.met.S.Seal.fits (g.V.Codec.spelling c.args.value.now)) long names (managed.shown c.in_ok-values.values.manager) (g.D.Device.opened c.args.dev.now) (g.D.Device.opened c.append.new.dev) value (g.D.Device.time c.append-2.new.dev) (record { alone = c.append-2.ensures.alone t; moments = c.append-2.ensures.moments t; made = c.append-2.ensures.made t }) sound.floor _ same
 
 pub returns-in_err-index-clause-order : goal.returns-in_err-index-clause-order
 returns-in_err-index-clause-order g c t =
@@ -224,7 +224,7 @@ returns-clause-moments g c t sound =
     let names : g.I.Record.place (g.I.Codec.spelling c.naming-entry.result) ≡ (glob.section_size (shown g.I.Record.place c.args.self).values c.args.section, length (frame g.S.Seal.seal_of (g.V.Codec.spelling c.args.value.now))) = c.naming-entry.ensures.place ∙ (λ i. (at i, size i)) in
     let same : g.I.Codec.spelling c.naming-entry.result ≡ g.I.Codec.spelling (g.I.Record.located c.args.entry (glob.section_size (shown g.I.Record.place c.args.self).values c.args.section) (length (frame g.S.Seal.seal_of (g.V.Codec.spelling c.args.value.now)))) =
     ap g.I.Codec.spelling c.naming-entry.ensures.located ∙ (λ i. g.I.Codec.spelling (g.I.Record.located c.args.entry (at i) (size i))) in
-    record_keeps_as (shown g.I.Record.place c.args.self) (g.D.Device.opened c.args.dev.now) (g.D.Device.time c.args.dev.now) c.requires.over laid t sound c.args.section c.ranges.section.fits (g.V.Codec.spelling c.args.value.now) (g.D.Device.time c.append.new.dev) (record { moments = c.append.ensures.moments t; made = c.append.ensures.made t }) (g.I.Codec.spelling c.naming-entry.result) (g.met.S.Seal.fits (g.V.Codec.spelling c.args.value.now)) long names (managed.shown c.in_ok-values.values.manager) (g.D.Device.opened c.args.dev.now) (g.D.Device.opened c.append.new.dev) value (g.D.Device.time c.append-2.new.dev) (record { alone = c.append-2.ensures.alone t; moments = c.append-2.ensures.moments t; made = c.append-2.ensures.made t }) _ same
+    record_keeps_as (shown g.I.Record.place c.args.self) (g.D.Device.opened c.args.dev.now) (g.D.Device.time c.args.dev.now) c.requires.over laid t sound.sound c.args.section c.ranges.section.fits (g.V.Codec.spelling c.args.value.now) (g.D.Device.time c.append.new.dev) (record { moments = c.append.ensures.moments t; made = c.append.ensures.made t }) (g.I.Codec.spelling c.naming-entry.result) (g.met.S.Seal.fits (g.V.Codec.spelling c.args.value.now)) long names (managed.shown c.in_ok-values.values.manager) (g.D.Device.opened c.args.dev.now) (g.D.Device.opened c.append.new.dev) value (g.D.Device.time c.append-2.new.dev) (record { alone = c.append-2.ensures.alone t; moments = c.append-2.ensures.moments t; made = c.append-2.ensures.made t }) sound.floor _ same
 
 pub returns-clause-order : goal.returns-clause-order
 returns-clause-order g c t =

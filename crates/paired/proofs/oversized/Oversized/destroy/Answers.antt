@@ -1,24 +1,25 @@
-use Rattle.std.proofs.Common.{◌≡◌, inl, [], Option, IsTrue, IsSomeAnd, refl, sym, ◌∙◌, ap, subst}
+use Rattle.std.proofs.Common.{◌≡◌, inl, Option, IsTrue, IsSomeAnd, refl, sym, ◌∙◌, ap, subst}
 use Rattle.blob_device.proofs.Results.{on_ok}
 use Rattle.blob_device.specs.Disk.{Key, Blob, nothing}
 use Rattle.blob_device.specs.Opened.{Opened}
 use Rattle.blob_device.specs.Timeline.{disk}
+use Rattle.meta_store.specs.Pairs.{empty_map}
 use Rattle.meta_store.specs.Store.{contents_of}
 use Rattle.segments.specs.Sections.{IsHeld, IsKnown}
 use Rattle.segments.specs.Setting.{Setting}
 use Rattle.paired.specs.PairShown.{shown}
 use Rattle.paired.proofs.GlobLemmas.{glob_stays}
-use Rattle.paired.proofs.PairFacts.{copies_gone}
-use Rattle.paired.proofs.PairStays.{journal_stays}
-use Rattle.paired.proofs.PairRemoving.{ascending, values_ascending, destroy_one, copies_go, copies_removed, copies_last, sections_wait, markers_gone, records_gone, values_gone, only_copies_go, none_leave, parts_of, destroy_ways, known_held, markers_first, records_first, index_first, index_last, values_first, own_entries, index_opened, values_opened, keeps_markers, keeps_records, keeps_values}
+use Rattle.paired.proofs.pair.Facts.{copies_gone}
+use Rattle.paired.proofs.pair.Stays.{journal_stays}
+use Rattle.paired.proofs.pair.Removing.{ascending, values_ascending, destroy_one, copies_go, copies_removed, copies_last, sections_wait, markers_gone, records_gone, values_gone, only_copies_go, none_leave, parts_of, destroy_ways, known_held, markers_first, records_first, index_first, index_last, values_first, own_entries, index_opened, values_opened, keeps_markers, keeps_records, keeps_values}
 use Rattle.paired.proofs.oversized.Oversized.destroy.Goals as goal
 
 pub returns-in_err-destroy-clause-moments : goal.returns-in_err-destroy-clause-moments
 returns-in_err-destroy-clause-moments g c t sound =
     let p = shown g.I.Record.place c.args.self in
     let ways = destroy_ways p (g.D.Device.opened c.args.dev.now) (disk (g.D.Device.time c.args.dev.now)) c.requires.over refl refl in
-    let parts = parts_of p (g.D.Device.opened c.args.dev.now) (disk (g.D.Device.time c.args.dev.now)) c.requires.over t sound refl refl refl (λ s v held. ap (λ (x : Setting). x.page_size) (c.requires.over.index.over.opened_list.setting s v held)) in
-    keeps_markers ways g.met.I.CodecFixed.fixed.at_least (g.D.Device.time c.args.dev.now) parts t (λ s. inl tt) [] (λ s n is. absurd (cc is.1)) (λ s n named is. cc is.1) (g.D.Device.time c.destroy.new.dev) (c.destroy.ensures.crashes t (contents_of p.store) (c.requires.over.disk t).markers)
+    let parts = parts_of p (g.D.Device.opened c.args.dev.now) (disk (g.D.Device.time c.args.dev.now)) c.requires.over t sound.sound refl refl refl (λ s v held. ap (λ (x : Setting). x.page_size) (c.requires.over.index.over.opened_list.setting s v held)) in
+    keeps_markers ways g.met.I.CodecFixed.fixed.at_least (g.D.Device.time c.args.dev.now) parts t sound.floor (λ s. inl tt) empty_map refl (λ s n is. absurd (cc is.1)) (λ s n named is. cc is.1) (g.D.Device.time c.destroy.new.dev) (c.destroy.ensures.crashes t (contents_of p.store) (c.requires.over.disk t).markers)
 
 pub returns-in_err-destroy-clause-markers_first : goal.returns-in_err-destroy-clause-markers_first
 returns-in_err-destroy-clause-markers_first g c t =
@@ -44,8 +45,8 @@ pub returns-in_err-destroy-2-clause-moments : goal.returns-in_err-destroy-2-clau
 returns-in_err-destroy-2-clause-moments g c t sound =
     let p = shown g.I.Record.place c.args.self in
     let ways = destroy_ways p (g.D.Device.opened c.args.dev.now) (disk (g.D.Device.time c.args.dev.now)) c.requires.over refl refl in
-    let parts = parts_of p (g.D.Device.opened c.args.dev.now) (disk (g.D.Device.time c.args.dev.now)) c.requires.over t sound refl refl refl (λ s v held. ap (λ (x : Setting). x.page_size) (c.requires.over.index.over.opened_list.setting s v held)) in
-    keeps_records ways g.met.I.CodecFixed.fixed.at_least (g.D.Device.time c.args.dev.now) parts t (λ s. inl tt) [] (λ s n is. absurd (cc is.1)) (λ s n named is. cc is.1) (g.D.Device.time c.destroy.new.dev) (c.destroy.ensures.crashes t (contents_of p.store) (c.requires.over.disk t).markers) (copies_gone p.layout (disk (g.D.Device.time c.destroy.new.dev)) (λ side. c.in_ok-destroy.ensures.gone t side)) (λ s is. known_held p (g.D.Device.opened c.args.dev.now) (disk (g.D.Device.time c.args.dev.now)) c.requires.over refl refl s is) (λ s named held. inl held) (g.D.Device.time c.destroy-2.new.dev) (c.destroy-2.ensures.moments t)
+    let parts = parts_of p (g.D.Device.opened c.args.dev.now) (disk (g.D.Device.time c.args.dev.now)) c.requires.over t sound.sound refl refl refl (λ s v held. ap (λ (x : Setting). x.page_size) (c.requires.over.index.over.opened_list.setting s v held)) in
+    keeps_records ways g.met.I.CodecFixed.fixed.at_least (g.D.Device.time c.args.dev.now) parts t sound.floor (λ s. inl tt) empty_map refl (λ s n is. absurd (cc is.1)) (λ s n named is. cc is.1) (g.D.Device.time c.destroy.new.dev) (c.destroy.ensures.crashes t (contents_of p.store) (c.requires.over.disk t).markers) (copies_gone p.layout (disk (g.D.Device.time c.destroy.new.dev)) (λ side. c.in_ok-destroy.ensures.gone t side)) (λ s is. known_held p (g.D.Device.opened c.args.dev.now) (disk (g.D.Device.time c.args.dev.now)) c.requires.over refl refl s is) (λ s named held. inl held) (g.D.Device.time c.destroy-2.new.dev) (c.destroy-2.ensures.moments t)
 
 pub returns-in_err-destroy-2-clause-markers_first : goal.returns-in_err-destroy-2-clause-markers_first
 returns-in_err-destroy-2-clause-markers_first g c t =
@@ -71,8 +72,8 @@ pub returns-clause-moments : goal.returns-clause-moments
 returns-clause-moments g c t sound =
     let p = shown g.I.Record.place c.args.self in
     let ways = destroy_ways p (g.D.Device.opened c.args.dev.now) (disk (g.D.Device.time c.args.dev.now)) c.requires.over refl refl in
-    let parts = parts_of p (g.D.Device.opened c.args.dev.now) (disk (g.D.Device.time c.args.dev.now)) c.requires.over t sound refl refl refl (λ s v held. ap (λ (x : Setting). x.page_size) (c.requires.over.index.over.opened_list.setting s v held)) in
-    keeps_values ways g.met.I.CodecFixed.fixed.at_least (g.D.Device.time c.args.dev.now) parts t (λ s. inl tt) [] (λ s n is. absurd (cc is.1)) (λ s n named is. cc is.1) (g.D.Device.time c.destroy.new.dev) (c.destroy.ensures.crashes t (contents_of p.store) (c.requires.over.disk t).markers) (copies_gone p.layout (disk (g.D.Device.time c.destroy.new.dev)) (λ side. c.in_ok-destroy.ensures.gone t side)) (λ s is. known_held p (g.D.Device.opened c.args.dev.now) (disk (g.D.Device.time c.args.dev.now)) c.requires.over refl refl s is) (λ s named held. inl held) (g.D.Device.time c.destroy-2.new.dev) (c.destroy-2.ensures.moments t) (g.D.Device.time c.destroy-3.new.dev) (c.destroy-3.ensures.moments t) (λ s named held. c.in_ok-destroy-2.ensures.gone_all t s (inl held))
+    let parts = parts_of p (g.D.Device.opened c.args.dev.now) (disk (g.D.Device.time c.args.dev.now)) c.requires.over t sound.sound refl refl refl (λ s v held. ap (λ (x : Setting). x.page_size) (c.requires.over.index.over.opened_list.setting s v held)) in
+    keeps_values ways g.met.I.CodecFixed.fixed.at_least (g.D.Device.time c.args.dev.now) parts t sound.floor (λ s. inl tt) empty_map refl (λ s n is. absurd (cc is.1)) (λ s n named is. cc is.1) (g.D.Device.time c.destroy.new.dev) (c.destroy.ensures.crashes t (contents_of p.store) (c.requires.over.disk t).markers) (copies_gone p.layout (disk (g.D.Device.time c.destroy.new.dev)) (λ side. c.in_ok-destroy.ensures.gone t side)) (λ s is. known_held p (g.D.Device.opened c.args.dev.now) (disk (g.D.Device.time c.args.dev.now)) c.requires.over refl refl s is) (λ s named held. inl held) (g.D.Device.time c.destroy-2.new.dev) (c.destroy-2.ensures.moments t) (g.D.Device.time c.destroy-3.new.dev) (c.destroy-3.ensures.moments t) (λ s named held. c.in_ok-destroy-2.ensures.gone_all t s (inl held))
 
 pub returns-clause-markers_first : goal.returns-clause-markers_first
 returns-clause-markers_first g c t =

@@ -6,8 +6,8 @@ use Rattle.segments.specs.FixedLists as fixed
 use Rattle.segments.specs.FixedReading.{is_item_held}
 use Rattle.segments.specs.Sections.{key_of}
 use Rattle.paired.specs.PairShown.{shown}
-use Rattle.paired.proofs.PairReads.{listed_answer, in_list, held_by, from_floor, not_held, no_item, answered_inside, past_held, undamaged, gives_record, may_read, pair_read}
-use Rattle.paired.proofs.PairFacts.{proven_of}
+use Rattle.paired.proofs.pair.Reads.{listed_answer, in_list, held_by, from_floor, not_held, no_item, answered_inside, past_held, undamaged, gives_record, may_read, pair_read}
+use Rattle.paired.proofs.pair.Facts.{proven_of}
 use Rattle.paired.proofs.oversized.Oversized.get.Goals as goal
 
 pub returns-clause-inside : goal.returns-clause-inside

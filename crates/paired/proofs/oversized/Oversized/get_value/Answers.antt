@@ -1,9 +1,9 @@
 use Rattle.std.proofs.Common.{arith}
 use Rattle.blob_device.specs.Timeline.{disk}
 use Rattle.sealed_pages.proofs.Looking.{unchanged_now}
-use Rattle.paired.specs.GlobSections as glob
+use Rattle.paired.specs.glob.Sections as glob
 use Rattle.paired.specs.PairShown.{shown}
-use Rattle.paired.proofs.PairReads.{held_by, from_floor, sound_entry, frame_held, frame_not_beyond, frame_not_short, gives_value, pair_read}
+use Rattle.paired.proofs.pair.Reads.{held_by, from_floor, sound_entry, frame_held, frame_not_beyond, frame_not_short, gives_value, pair_read}
 use Rattle.paired.proofs.oversized.Oversized.get_value.Goals as goal
 
 pub returns-clause-over : goal.returns-clause-over

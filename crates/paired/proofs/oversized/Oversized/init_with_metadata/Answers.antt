@@ -18,7 +18,7 @@ use Rattle.segments.specs.declared.sealed.AppendFactory.{AppendFactory}
 use Rattle.segments.specs.FixedLists.{Lists}
 use Rattle.segments.specs.FixedReplay.{Begins}
 use Rattle.segments.specs.FixedShown as journal
-use Rattle.segments.specs.Managed as managed
+use Rattle.segments.specs.managing.Managed as managed
 use Rattle.segments.specs.Raised.{raised_metadata}
 use Rattle.segments.specs.Sealed.{adopted_bytes}
 use Rattle.segments.specs.Sections.{Sections, section_key, IsHeld}
@@ -29,23 +29,23 @@ use Rattle.meta_store.specs.Blobs.{blob_of}
 use Rattle.meta_store.specs.Calls.{IsOpened}
 use Rattle.meta_store.specs.Opening.{Opening}
 use Rattle.meta_store.specs.Store.{Stands, MayBeSynced, chosen_by, contents_of}
-use Rattle.paired.specs.GlobSections.{section_size}
+use Rattle.paired.specs.glob.Sections.{section_size}
 use Rattle.paired.specs.Kept.{Layout, Markers, IsMarked}
 use Rattle.paired.specs.Opening.{as_read, HoldMarkers, IsLawful, OnlyOpens}
 use Rattle.paired.specs.Pair.{AreApart}
 use Rattle.paired.specs.ReplayShown.{layout_for, run_of}
-use Rattle.paired.specs.TrackedShown as tracking
+use Rattle.paired.specs.sighted.Shown as tracking
 use Rattle.paired.proofs.BoundaryLemmas.{opened_size}
 use Rattle.paired.proofs.CallLemmas.{held_some}
 use Rattle.paired.proofs.OpenParts.{named_key}
-use Rattle.paired.proofs.OpeningStart.{lawful_alike, read_alike, stored_alike}
-use Rattle.paired.proofs.OpeningStartCauses.{PartsRefuse, StopsEarly, corrupt_back, corrupt_on, early_cause, early_has_cause, early_room, error_back, markers_gave_up, markers_refuse, memory_raised, never, never_cause, no_corruption, no_refusal, parts_cause, parts_corrupt, parts_give_up, parts_refuse}
+use Rattle.paired.proofs.opening.Start.{lawful_alike, read_alike, stored_alike}
+use Rattle.paired.proofs.opening.StartCauses.{PartsRefuse, StopsEarly, corrupt_back, corrupt_on, early_cause, early_has_cause, early_room, error_back, markers_gave_up, markers_refuse, memory_raised, never, never_cause, no_corruption, no_refusal, parts_cause, parts_corrupt, parts_give_up, parts_refuse}
 use Rattle.meta_store.proofs.Reopening.{IsPromised}
-use Rattle.paired.proofs.OpeningStartFound.{PartsOpened, at_ok, by_ok, found_of, glob_as, opening_run, parts_as}
-use Rattle.paired.proofs.OpeningStartMoments.{always_recalls, both_open, copies_stay, copy_entries, first_opens, index_apart, index_stays, lawful_named, named_after, named_before, opened_over, opens_content, own_entries, stands_over, stays_open, value_entry, values_apart, values_stay}
-use Rattle.paired.proofs.OpeningStartRefusals.{no_loss, no_overflow, no_unreadable}
-use Rattle.paired.proofs.OpeningStartRun.{ends_as, lost_as, unreadable_as}
-use Rattle.paired.proofs.PairSynced.{layout_as}
+use Rattle.paired.proofs.opening.StartFound.{PartsOpened, at_ok, by_ok, found_of, glob_as, opening_run, parts_as}
+use Rattle.paired.proofs.opening.StartMoments.{always_recalls, both_open, copies_stay, copy_entries, first_opens, index_apart, index_stays, lawful_named, named_after, named_before, opened_over, opens_content, own_entries, stands_over, stays_open, value_entry, values_apart, values_stay}
+use Rattle.paired.proofs.opening.StartRefusals.{no_loss, no_overflow, no_unreadable}
+use Rattle.paired.proofs.opening.StartRun.{ends_as, lost_as, unreadable_as}
+use Rattle.paired.proofs.pair.Synced.{layout_as}
 use Rattle.paired.proofs.oversized.Oversized.init_with_metadata.Goals as goal
 
 pub returns-in_err-tracking-clause-settles : goal.returns-in_err-tracking-clause-settles
@@ -323,12 +323,12 @@ returns-in_err-index-clause-refusals g c t =
     let is = err_of r x c.from_residual-in_err-index.ensures.1 in
     let why : PartsRefuse r fa fe = parts_refuse r x is fa fb fe c.init.ensures.faults c.in_err-index.ensures.cause in
     let store = (tracking.shown c.in_ok-tracking.tracking).store in
-    let held : HoldMarkers l (as_read (disk a)) store.entries = record { chosen = chosen_by store (contents_of store); reads = c.in_ok-tracking.ensures.reads t; map = refl } in
+    let held : HoldMarkers l (as_read (disk a)) (contents_of store) = record { chosen = chosen_by store (contents_of store); reads = c.in_ok-tracking.ensures.reads t; map = refl } in
     record {
       corrupt = λ side has. absurd (parts_corrupt r fa fe why side has);
       named = λ n has. named_before l c.requires.apart (disk a) (disk b) opening n (c.in_err-index.ensures.named t n (error_back r x is (journal_error.InvalidBlobName n) has));
-      damage = λ d has. (store.entries, held, lost_as l [] (λ s n. get nat_cmp c.in_ok-floors.floors s ≡ Some n) (IsMarked store.entries) (λ s n is_n. (c.in_ok-floors.ensures.each s n).0 is_n) (disk b) (disk a) (λ s. index_stays l c.requires.apart (disk a) (disk b) opening (to_be_bytes w64 s)) (λ s. values_stay l c.requires.apart (disk a) (disk b) opening (to_be_bytes w64 s)) d (c.in_err-index.ensures.damage t d (error_back r x is (journal_error.Corruption d) has)));
-      refused = λ y has. (store.entries, held, unreadable_as l [] (λ s n. get nat_cmp c.in_ok-floors.floors s ≡ Some n) (IsMarked store.entries) (λ s n is_n. (c.in_ok-floors.ensures.each s n).0 is_n) (disk b) (disk a) (λ s. index_stays l c.requires.apart (disk a) (disk b) opening (to_be_bytes w64 s)) (λ s. values_stay l c.requires.apart (disk a) (disk b) opening (to_be_bytes w64 s)) g.I.Codec.refusal y (c.in_err-index.ensures.refused t y (error_back r x is (journal_error.Codec y) has)));
+      damage = λ d has. (contents_of store, held, lost_as l [] (λ s n. get nat_cmp c.in_ok-floors.floors s ≡ Some n) (IsMarked store.entries) (λ s n is_n. (c.in_ok-floors.ensures.each s n).0 is_n) (disk b) (disk a) (λ s. index_stays l c.requires.apart (disk a) (disk b) opening (to_be_bytes w64 s)) (λ s. values_stay l c.requires.apart (disk a) (disk b) opening (to_be_bytes w64 s)) d (c.in_err-index.ensures.damage t d (error_back r x is (journal_error.Corruption d) has)));
+      refused = λ y has. (contents_of store, held, unreadable_as l [] (λ s n. get nat_cmp c.in_ok-floors.floors s ≡ Some n) (IsMarked store.entries) (λ s n is_n. (c.in_ok-floors.ensures.each s n).0 is_n) (disk b) (disk a) (λ s. index_stays l c.requires.apart (disk a) (disk b) opening (to_be_bytes w64 s)) (λ s. values_stay l c.requires.apart (disk a) (disk b) opening (to_be_bytes w64 s)) g.I.Codec.refusal y (c.in_err-index.ensures.refused t y (error_back r x is (journal_error.Codec y) has)));
     }
 
 pub returns-in_err-index-clause-corrupt_copies : goal.returns-in_err-index-clause-corrupt_copies
@@ -359,8 +359,8 @@ returns-in_err-index-clause-complete g c t markers lawful spelled counted =
     let why : PartsRefuse r fa fe = parts_refuse r x is fa fb fe c.init.ensures.faults c.in_err-index.ensures.cause in
     parts_give_up r fa fe why
     (λ n has. lawful_named l (disk a) markers lawful n (named_before l c.requires.apart (disk a) (disk b) opening n (c.in_err-index.ensures.named t n (error_back r x is (journal_error.InvalidBlobName n) has))))
-    (λ d has. no_loss l c.requires.valid g.met.I.CodecFixed.fixed.at_least (disk a) markers lawful counted d (lost_as l [] (λ s n. get nat_cmp c.in_ok-floors.floors s ≡ Some n) (IsMarked markers) (λ s n is_n. subst (λ (es : Markers). IsMarked es s n) (ap (λ (k : Chosen Key8 ℕ). k.contents.entries) (c.in_ok-tracking.ensures.map t lawful.held.chosen lawful.held.reads) ∙ lawful.held.map) ((c.in_ok-floors.ensures.each s n).0 is_n)) (disk b) (disk a) (λ s. index_stays l c.requires.apart (disk a) (disk b) opening (to_be_bytes w64 s)) (λ s. values_stay l c.requires.apart (disk a) (disk b) opening (to_be_bytes w64 s)) d (c.in_err-index.ensures.damage t d (error_back r x is (journal_error.Corruption d) has))))
-    (λ y has. no_unreadable l c.requires.valid g.met.I.CodecFixed.fixed.at_least (disk a) markers lawful g.I.Codec.refusal spelled y (unreadable_as l [] (λ s n. get nat_cmp c.in_ok-floors.floors s ≡ Some n) (IsMarked markers) (λ s n is_n. subst (λ (es : Markers). IsMarked es s n) (ap (λ (k : Chosen Key8 ℕ). k.contents.entries) (c.in_ok-tracking.ensures.map t lawful.held.chosen lawful.held.reads) ∙ lawful.held.map) ((c.in_ok-floors.ensures.each s n).0 is_n)) (disk b) (disk a) (λ s. index_stays l c.requires.apart (disk a) (disk b) opening (to_be_bytes w64 s)) (λ s. values_stay l c.requires.apart (disk a) (disk b) opening (to_be_bytes w64 s)) g.I.Codec.refusal y (c.in_err-index.ensures.refused t y (error_back r x is (journal_error.Codec y) has))))
+    (λ d has. no_loss l c.requires.valid g.met.I.CodecFixed.fixed.at_least (disk a) markers lawful counted d (lost_as l [] (λ s n. get nat_cmp c.in_ok-floors.floors s ≡ Some n) (IsMarked markers.entries) (λ s n is_n. subst (λ (m : Markers). IsMarked m.entries s n) (ap (λ (k : Chosen Key8 ℕ). k.contents) (c.in_ok-tracking.ensures.map t lawful.held.chosen lawful.held.reads) ∙ lawful.held.map) ((c.in_ok-floors.ensures.each s n).0 is_n)) (disk b) (disk a) (λ s. index_stays l c.requires.apart (disk a) (disk b) opening (to_be_bytes w64 s)) (λ s. values_stay l c.requires.apart (disk a) (disk b) opening (to_be_bytes w64 s)) d (c.in_err-index.ensures.damage t d (error_back r x is (journal_error.Corruption d) has))))
+    (λ y has. no_unreadable l c.requires.valid g.met.I.CodecFixed.fixed.at_least (disk a) markers lawful g.I.Codec.refusal spelled y (unreadable_as l [] (λ s n. get nat_cmp c.in_ok-floors.floors s ≡ Some n) (IsMarked markers.entries) (λ s n is_n. subst (λ (m : Markers). IsMarked m.entries s n) (ap (λ (k : Chosen Key8 ℕ). k.contents) (c.in_ok-tracking.ensures.map t lawful.held.chosen lawful.held.reads) ∙ lawful.held.map) ((c.in_ok-floors.ensures.each s n).0 is_n)) (disk b) (disk a) (λ s. index_stays l c.requires.apart (disk a) (disk b) opening (to_be_bytes w64 s)) (λ s. values_stay l c.requires.apart (disk a) (disk b) opening (to_be_bytes w64 s)) g.I.Codec.refusal y (c.in_err-index.ensures.refused t y (error_back r x is (journal_error.Codec y) has))))
     (λ room. (let long = c.in_err-index.ensures.overflow (error_back r x is (journal_error.Runtime OffsetOverflow) room) in
     no_overflow l c.requires.apart (disk a) (disk e) (always_now a e (OnlyOpens l (disk a)) opens) counted (g.D.Device.opened c.open_parts.new.dev) (g.met.D.Device.opened_stands t c.open_parts.new.dev) long.0 long.1))
 
@@ -550,10 +550,10 @@ returns-clause-found g c t =
     let opens : Always a f (OnlyOpens l (disk a)) = subst (λ dev. Always a (g.D.Device.time dev) (OnlyOpens l (disk a))) (sym c.tracked.ensures.unchanged) (both_open l c.requires.apart a b e (c.init.ensures.moments t) (c.open_parts.ensures.moments t)) in
     let only = always_now a f (OnlyOpens l (disk a)) opens in
     let alike = read_alike l c.requires.apart (disk a) (disk f) only in
-    let entries : R.store.entries ≡ (tracking.shown c.in_ok-tracking.tracking).store.entries = ap (λ y. (tracking.shown y).store.entries) trk in
+    let entries : contents_of R.store ≡ contents_of (tracking.shown c.in_ok-tracking.tracking).store = ap (λ y. contents_of (tracking.shown y).store) trk in
     found_of _ g.D.Device.Tells floors (disk a) (disk f) R parts own each g.met.I.CodecFixed.fixed.at_least (subst (λ (n : ℕ). 1 ≤ n) (sym (ap (λ (y : Layout). y.page_size) layout)) c.requires.valid) t l layout (disk f)
     (record { chosen = chosen_by (tracking.shown c.in_ok-tracking.tracking).store (contents_of (tracking.shown c.in_ok-tracking.tracking).store); reads = c.in_ok-tracking.ensures.reads t; map = sym entries }) alike (at_ok r x _ is c.tracked.ensures.goes_on)
-    (λ markers lawful. subst (IsLawful l (as_read (disk f))) (sym lawful.held.map ∙ sym (ap (λ (k : Chosen Key8 ℕ). k.contents.entries) (c.in_ok-tracking.ensures.map t lawful.held.chosen lawful.held.reads)) ∙ sym entries) (lawful_alike l (as_read (disk a)) (as_read (disk f)) alike markers lawful)))
+    (λ markers lawful. subst (IsLawful l (as_read (disk f))) (sym lawful.held.map ∙ sym (ap (λ (k : Chosen Key8 ℕ). k.contents) (c.in_ok-tracking.ensures.map t lawful.held.chosen lawful.held.reads)) ∙ sym entries) (lawful_alike l (as_read (disk a)) (as_read (disk f)) alike markers lawful)))
 
 pub open_parts-requires-clause-floors : goal.open_parts-requires-clause-floors
 open_parts-requires-clause-floors g c s has =

@@ -6,7 +6,7 @@ use Rattle.sealed_pages.proofs.Looking.{unchanged_now}
 use Rattle.segments.specs.FixedReading.{is_item_held}
 use Rattle.segments.specs.Sections.{key_of}
 use Rattle.paired.specs.PairShown.{shown}
-use Rattle.paired.proofs.PairReads.{listed_last, damaged_last, no_item, may_read, pair_read}
+use Rattle.paired.proofs.pair.Reads.{listed_last, damaged_last, no_item, may_read, pair_read}
 use Rattle.paired.proofs.oversized.Oversized.last.Goals as goal
 
 pub returns-clause-record : goal.returns-clause-record

@@ -6,25 +6,23 @@ use Rattle.blob_device.specs.Timeline.{disk}
 use Rattle.blob_device.proofs.Results.{err_of}
 use Rattle.segments.specs.Raised.{raised_metadata}
 use Rattle.blob_device.proofs.Moments.{always_now, always_start, always_weaker}
-use Rattle.segments.specs.FixedShown as fixed
 use Rattle.segments.proofs.FixedWriteLemmas.{are_pages}
 use Rattle.segments.proofs.WalkLemmas.{contains_or_not}
 use Rattle.meta_store.specs.Blobs.{blob_of, other_side, OnlyOne}
 use Rattle.meta_store.specs.Calls.{IsOpened}
-use Rattle.paired.specs.MarkerCopies as marker_copies
+use Rattle.meta_store.specs.Crashes as metadata
 use Rattle.meta_store.specs.declared.error.Side.TheVariants.{Left, Right}
 use Rattle.meta_store.specs.Store.{Stands, MayBeSynced, contents_of}
 use Rattle.meta_store.proofs.Sides.{sides_apart}
 use Rattle.meta_store.proofs.SyncingLemmas.{stands_alone}
-use Rattle.paired.proofs.MarkerCopies.{copies_map}
 use Rattle.paired.specs.Crashes.{IsCopy}
 use Rattle.paired.specs.PairShown.{shown}
-use Rattle.paired.specs.TrackedShown as tracked
-use Rattle.paired.proofs.PairMarked.{Moved, moved_on, moved_marked, marked_synced, moving_differs, none_trails, some_or_none, synced_unstaged, synced_same, synced_place, marked_again, marked_as, marked_sound_as, marked_lists, markers_keep}
-use Rattle.paired.proofs.PairSettling.{parts_of}
-use Rattle.paired.proofs.PairFaultLemmas.{markers_apart}
-use Rattle.paired.proofs.PairFailing.{full_markers, false_true, no_error, not_both}
-use Rattle.paired.proofs.PairSynced.{here_of}
+use Rattle.paired.specs.sighted.Shown as tracked
+use Rattle.paired.proofs.pair.Marked.{Moved, moved_on, moved_marked, marked_synced, moving_differs, none_trails, some_or_none, synced_unstaged, synced_same, synced_place, marked_again, marked_as, marked_sound_as, marked_lists, markers_keep}
+use Rattle.paired.proofs.pair.Settling.{parts_of}
+use Rattle.paired.proofs.pair.FaultLemmas.{markers_apart}
+use Rattle.paired.proofs.pair.Failing.{full_markers, false_true, no_error, not_both}
+use Rattle.paired.proofs.pair.Synced.{here_of}
 use Rattle.paired.proofs.oversized.Oversized.move_markers.Goals as goal
 
 pub stage-requires : goal.stage-requires
@@ -58,9 +56,8 @@ returns-in_err-stage-clause-moments g c t sound =
     let decides = contains_or_not c.args.active.now in
     let told = g.D.Device.Tells in
     let a = g.D.Device.time c.args.dev.now in
-    markers_keep _ _ told p _ a a here c.requires.over t (parts_of _ _ told p pages _ (disk a) here c.requires.over t sound) p.store.entries c.requires.over.markers.marked
-    (copies_map p.layout.markers p.store.partition (contents_of p.store) (contents_of p.store) a a
-    (stands_alone p.layout.markers p.store (contents_of p.store) (contents_of p.store) a (c.requires.over.disk t).markers))
+    markers_keep _ _ told p _ a a here c.requires.over t (parts_of _ _ told p pages _ (disk a) here c.requires.over t sound.sound) sound.floor (contents_of p.store) c.requires.over.markers.marked refl
+    (stands_alone p.layout.markers p.store (contents_of p.store) (contents_of p.store) a (c.requires.over.disk t).markers)
 
 pub returns-in_err-stage-clause-alone : goal.returns-in_err-stage-clause-alone
 returns-in_err-stage-clause-alone g c t =
@@ -86,8 +83,8 @@ returns-in_err-this-clause-moments g c t sound =
     let moved : Moved p active x.store.entries x.trailing = record { trails = c.in_ok-stage.ensures.trails; synced = c.in_ok-stage.ensures.synced; moved = c.in_ok-stage.ensures.moved; active = c.in_ok-stage.ensures.active; marked = c.in_ok-stage.ensures.marked } in
     let placed : x.store.partition ≡ p.layout.metadata = ap (λ u. u.partition) c.in_ok-stage.ensures.staged in
     let b = g.D.Device.time c.sync.new.dev in
-    markers_keep _ _ told p _ a b here c.requires.over t (parts_of _ _ told p pages _ (disk a) here c.requires.over t sound) x.store.entries (moved_marked _ _ told p active decides _ (disk a) here c.requires.over x.store.entries x.trailing moved)
-    (subst (λ k. marker_copies.Mapping p.layout.markers k p.store.entries x.store.entries a b) placed (c.sync.ensures.crashes t (contents_of p.store) (c.in_ok-stage.ensures.stands (contents_of p.store) (disk a) (c.requires.over.disk t).markers)))
+    markers_keep _ _ told p _ a b here c.requires.over t (parts_of _ _ told p pages _ (disk a) here c.requires.over t sound.sound) sound.floor (contents_of x.store) (moved_marked _ _ told p active decides _ (disk a) here c.requires.over x.store.entries x.trailing moved) (ap (λ u. u.floor) c.in_ok-stage.ensures.staged)
+    (subst (λ k. metadata.Mapping p.layout.markers k (contents_of p.store) (contents_of x.store) a b) placed (c.sync.ensures.crashes t (contents_of p.store) (c.in_ok-stage.ensures.stands (contents_of p.store) (disk a) (c.requires.over.disk t).markers)))
 
 pub returns-in_err-this-clause-alone : goal.returns-in_err-this-clause-alone
 returns-in_err-this-clause-alone g c t =
@@ -134,8 +131,8 @@ returns-clause-moments g c t sound =
     let moved : Moved p active x.store.entries x.trailing = record { trails = c.in_ok-stage.ensures.trails; synced = c.in_ok-stage.ensures.synced; moved = c.in_ok-stage.ensures.moved; active = c.in_ok-stage.ensures.active; marked = c.in_ok-stage.ensures.marked } in
     let placed : x.store.partition ≡ p.layout.metadata = ap (λ u. u.partition) c.in_ok-stage.ensures.staged in
     let b = g.D.Device.time c.sync.new.dev in
-    markers_keep _ _ told p _ a b here c.requires.over t (parts_of _ _ told p pages _ (disk a) here c.requires.over t sound) x.store.entries (moved_marked _ _ told p active decides _ (disk a) here c.requires.over x.store.entries x.trailing moved)
-    (subst (λ k. marker_copies.Mapping p.layout.markers k p.store.entries x.store.entries a b) placed (c.sync.ensures.crashes t (contents_of p.store) (c.in_ok-stage.ensures.stands (contents_of p.store) (disk a) (c.requires.over.disk t).markers)))
+    markers_keep _ _ told p _ a b here c.requires.over t (parts_of _ _ told p pages _ (disk a) here c.requires.over t sound.sound) sound.floor (contents_of x.store) (moved_marked _ _ told p active decides _ (disk a) here c.requires.over x.store.entries x.trailing moved) (ap (λ u. u.floor) c.in_ok-stage.ensures.staged)
+    (subst (λ k. metadata.Mapping p.layout.markers k (contents_of p.store) (contents_of x.store) a b) placed (c.sync.ensures.crashes t (contents_of p.store) (c.in_ok-stage.ensures.stands (contents_of p.store) (disk a) (c.requires.over.disk t).markers)))
 
 pub returns-clause-alone : goal.returns-clause-alone
 returns-clause-alone g c t =
@@ -459,3 +456,7 @@ returns-in_err-this-clause-fault g c has =
     let r = c.from_residual-in_err-this.result in
     let e = c.in_err-this.field-0.0 in
     markers_apart r e (err_of r (raised_metadata e) c.from_residual-in_err-this.ensures.1) has
+
+pub returns-clause-marker_floor : goal.returns-clause-marker_floor
+returns-clause-marker_floor g c =
+    ap (λ u. u.floor) c.in_ok-this.ensures.contents ∙ ap (λ u. u.floor) c.in_ok-stage.ensures.staged

@@ -19,18 +19,18 @@ use Rattle.segments.specs.FixedFloors as floors
 use Rattle.segments.specs.FixedLists as fixed
 use Rattle.segments.specs.FixedLists.{Lists, IsJournal}
 use Rattle.segments.specs.Lasting.{IsSettling}
-use Rattle.segments.specs.Managed as managed
+use Rattle.segments.specs.managing.Managed as managed
 use Rattle.segments.specs.Refusing.{IsForeign, IsOpenedTooLong}
 use Rattle.segments.specs.Sealed.{adopted_bytes, is_unsettled}
 use Rattle.segments.specs.Sections.{section_key, key_of, IsHeld}
-use Rattle.paired.specs.GlobSections.{section_bytes, section_size}
+use Rattle.paired.specs.glob.Sections.{section_bytes, section_size}
 use Rattle.paired.specs.ReplayShown.{layout_for}
 use Rattle.paired.proofs.BoundaryLemmas.{boundary_as, cut_off, ends_within, opened_size}
-use Rattle.paired.proofs.OpeningLemmas.{both_first, both_second, both_still, settling_of, settling_others, values_first}
-use Rattle.paired.proofs.OpeningStartCauses.{error_back, parts_refuse}
+use Rattle.paired.proofs.opening.Lemmas.{both_first, both_second, both_still, settling_of, settling_others, values_first}
+use Rattle.paired.proofs.opening.StartCauses.{error_back, parts_refuse}
 use Rattle.paired.proofs.OpenParts.{floor_given, foreign_as, held_before, keys_apart, named_key, named_no_codec, named_no_damage, named_no_room, named_refuse, only_damage, refused_lost, unknown, unreadable_found}
-use Rattle.paired.proofs.PairSections.{glob_kept}
-use Rattle.paired.proofs.PairStays.{journal_stays}
+use Rattle.paired.proofs.pair.Sections.{glob_kept}
+use Rattle.paired.proofs.pair.Stays.{journal_stays}
 use Rattle.paired.proofs.oversized.Oversized.open_parts.Goals as goal
 
 pub returns-clause-index : goal.returns-clause-index

@@ -6,29 +6,29 @@ use Rattle.blob_device.specs.Opened.{Opened}
 use Rattle.blob_device.specs.Timeline.{disk}
 use Rattle.segments.specs.declared.sealed.AppendFactory.{AppendFactory}
 use Rattle.segments.specs.FixedShown as fixed
-use Rattle.segments.specs.Managed as manager
+use Rattle.segments.specs.managing.Managed as manager
 use Rattle.segments.specs.Raised.{raised_metadata}
 use Rattle.segments.specs.Sections.{IsHeld, section_key}
 use Rattle.segments.specs.Setting.{Setting}
 use Rattle.value_codec.specs.declared.key.Key8.{Key8}
 use Rattle.meta_store.specs.Blobs.{blob_of, other_side}
 use Rattle.meta_store.specs.Calls.{IsOpened, OthersOpened}
-use Rattle.paired.specs.MarkerCopies.{Mapping}
+use Rattle.meta_store.specs.Crashes.{Mapping}
 use Rattle.meta_store.specs.Store.{Store, Stands, MayBeSynced, contents_of}
 use Rattle.paired.specs.Crashes.{IsCopy}
-use Rattle.paired.specs.GlobSections as glob
-use Rattle.paired.specs.Kept.{Markers, IsMarked, marker_of}
+use Rattle.paired.specs.glob.Sections as glob
+use Rattle.paired.specs.Kept.{MarkerMap, IsMarked, marker_of}
 use Rattle.paired.specs.Pair.{Pair, IsSoundOn, list_of}
 use Rattle.paired.specs.PairShown.{shown}
-use Rattle.paired.specs.TrackedShown as tracked
+use Rattle.paired.specs.sighted.Shown as tracked
 use Rattle.paired.proofs.GlobLemmas.{glob_stays}
-use Rattle.paired.proofs.PairFaultLemmas.{markers_apart, dropped_still}
-use Rattle.paired.proofs.PairFullMarkers.{full_markers}
-use Rattle.paired.proofs.PairStays.{journal_stays}
-use Rattle.paired.proofs.PairFailing.{no_error}
-use Rattle.paired.proofs.PairPassing.{no_value, failed_cause, failed_full, failed_lost}
-use Rattle.paired.proofs.PairRemoved.{marked_below, none_staged, staged_marked, marked_staged, stands_stays, index_bytes, either_flag, either_floor, IsRemoved, removed_synced, removed_floors, removed_pair, removed_list, removed_sound, at_layout, pair_at, same_layout}
-use Rattle.paired.proofs.PairRemoving.{values_ascending, prune_one, copy_stays, newer_stays, sections_wait, IsDoomed, IsLost, markers_gone, records_gone, values_gone, only_copies, none_leave, untouched_same, settled_keeps, synced_partition, synced_fresh, opened_stays, gone_absent, parts_of, prune_ways, known_held, known_valued, below_or_not, markers_first, records_first, ascending, copies_alone, index_first, index_last, values_first, copies_last, index_undoomed, own_entries, index_opened, index_still_opened, values_opened, copies_opened, keeps_markers, keeps_records, keeps_values}
+use Rattle.paired.proofs.pair.FaultLemmas.{markers_apart, dropped_still}
+use Rattle.paired.proofs.pair.FullMarkers.{full_markers}
+use Rattle.paired.proofs.pair.Stays.{journal_stays}
+use Rattle.paired.proofs.pair.Failing.{no_error}
+use Rattle.paired.proofs.pair.Passing.{no_value, failed_cause, failed_full, failed_lost}
+use Rattle.paired.proofs.pair.Removed.{marked_below, none_staged, staged_marked, marked_staged, stands_stays, index_bytes, either_flag, either_floor, IsRemoved, removed_synced, removed_floors, removed_pair, removed_list, removed_sound, at_layout, pair_at, same_layout}
+use Rattle.paired.proofs.pair.Removing.{values_ascending, prune_one, copy_stays, newer_stays, sections_wait, IsDoomed, IsLost, markers_gone, records_gone, values_gone, only_copies, none_leave, untouched_same, settled_keeps, synced_partition, synced_fresh, opened_stays, gone_absent, parts_of, prune_ways, known_held, known_valued, below_or_not, markers_first, records_first, ascending, copies_alone, index_first, index_last, values_first, copies_last, index_undoomed, own_entries, index_opened, index_still_opened, values_opened, copies_opened, keeps_markers, keeps_records, keeps_values}
 use Rattle.paired.proofs.oversized.Oversized.prune.Goals.{then-records, else-records}
 use Rattle.paired.proofs.oversized.Oversized.prune.Goals as goal
 use Rattle.meta_store.specs.declared.copy.Contents.{Contents}
@@ -73,6 +73,7 @@ returns-in_err-this g c =
       synced = no_value _ _ c.from_residual.ensures.0;
       markers = no_value _ _ c.from_residual.ensures.0;
       unmarked = no_value _ _ c.from_residual.ensures.0;
+      marker_floor = no_value _ _ c.from_residual.ensures.0;
       marked = no_value _ _ c.from_residual.ensures.0;
       flag = no_value _ _ c.from_residual.ensures.0;
       floor = no_value _ _ c.from_residual.ensures.0;
@@ -81,10 +82,10 @@ returns-in_err-this g c =
       layout = no_value _ _ c.from_residual.ensures.0;
       codec_config = no_value _ _ c.from_residual.ensures.0;
       moments = λ t sound.
-          let parts = parts_of p (g.D.Device.opened c.args.dev.now) (disk (g.D.Device.time c.args.dev.now)) c.requires.over t sound refl refl refl (λ s v held. ap (λ (x : Setting). x.page_size) (c.requires.over.index.over.opened_list.setting s v held)) in
+          let parts = parts_of p (g.D.Device.opened c.args.dev.now) (disk (g.D.Device.time c.args.dev.now)) c.requires.over t sound.sound refl refl refl (λ s v held. ap (λ (x : Setting). x.page_size) (c.requires.over.index.over.opened_list.setting s v held)) in
           let stands = c.drop_below.ensures.stands (contents_of p.store) (disk (g.D.Device.time c.args.dev.now)) (c.requires.over.disk t).markers in
-          let maps = subst (λ (x : List ℕ). Mapping p.layout.markers x p.store.entries new.entries (g.D.Device.time c.args.dev.now) (g.D.Device.time c.sync.new.dev)) here (c.sync.ensures.crashes t (contents_of p.store) stands) in
-          keeps_markers ways g.met.I.CodecFixed.fixed.at_least (g.D.Device.time c.args.dev.now) parts t (below_or_not c.args.min) new.entries (λ s n is. (c.drop_below.ensures.marked s n is).1) (λ s n lt is. omega (arith, lt, (c.drop_below.ensures.marked s n is).0)) (g.D.Device.time c.sync.new.dev) maps;
+          let maps = subst (λ (x : List ℕ). Mapping p.layout.markers x (contents_of p.store) (contents_of new) (g.D.Device.time c.args.dev.now) (g.D.Device.time c.sync.new.dev)) here (c.sync.ensures.crashes t (contents_of p.store) stands) in
+          keeps_markers ways g.met.I.CodecFixed.fixed.at_least (g.D.Device.time c.args.dev.now) parts t sound.floor (below_or_not c.args.min) (contents_of new) (ap (λ (w : Store Key8 ℕ). w.floor) c.drop_below.ensures.staged ∙ sound.floor) (λ s n is. (c.drop_below.ensures.marked s n is).1) (λ s n lt is. omega (arith, lt, (c.drop_below.ensures.marked s n is).0)) (g.D.Device.time c.sync.new.dev) maps;
       alone = λ t none.
           let removes = markers_gone p.layout p.index.sections p.values (IsDoomed p c.args.min) (IsLost p c.args.min) (only_copies p.layout new (g.D.Device.time c.args.dev.now) (g.D.Device.time c.sync.new.dev) here (c.sync.ensures.alone t)) in
           let idle = c.sync.ensures.idle (none_staged p.store new c.args.min c.drop_below.ensures.still c.drop_below.ensures.marked c.drop_below.ensures.dropped c.requires.over.synced (λ s m lt is. none (s, lt, (m, is)))) in
@@ -149,6 +150,7 @@ returns-in_err-index g c =
       synced = no_value _ _ c.from_residual-in_err-index.ensures.0;
       markers = no_value _ _ c.from_residual-in_err-index.ensures.0;
       unmarked = no_value _ _ c.from_residual-in_err-index.ensures.0;
+      marker_floor = no_value _ _ c.from_residual-in_err-index.ensures.0;
       marked = no_value _ _ c.from_residual-in_err-index.ensures.0;
       flag = no_value _ _ c.from_residual-in_err-index.ensures.0;
       floor = no_value _ _ c.from_residual-in_err-index.ensures.0;
@@ -157,11 +159,11 @@ returns-in_err-index g c =
       layout = no_value _ _ c.from_residual-in_err-index.ensures.0;
       codec_config = no_value _ _ c.from_residual-in_err-index.ensures.0;
       moments = λ t sound.
-          let parts = parts_of p (g.D.Device.opened c.args.dev.now) (disk (g.D.Device.time c.args.dev.now)) c.requires.over t sound refl refl refl (λ s v held. ap (λ (x : Setting). x.page_size) (c.requires.over.index.over.opened_list.setting s v held)) in
+          let parts = parts_of p (g.D.Device.opened c.args.dev.now) (disk (g.D.Device.time c.args.dev.now)) c.requires.over t sound.sound refl refl refl (λ s v held. ap (λ (x : Setting). x.page_size) (c.requires.over.index.over.opened_list.setting s v held)) in
           let stands = c.drop_below.ensures.stands (contents_of p.store) (disk (g.D.Device.time c.args.dev.now)) (c.requires.over.disk t).markers in
-          let maps = subst (λ (x : List ℕ). Mapping p.layout.markers x p.store.entries new.entries (g.D.Device.time c.args.dev.now) (g.D.Device.time c.sync.new.dev)) here (c.sync.ensures.crashes t (contents_of p.store) stands) in
+          let maps = subst (λ (x : List ℕ). Mapping p.layout.markers x (contents_of p.store) (contents_of new) (g.D.Device.time c.args.dev.now) (g.D.Device.time c.sync.new.dev)) here (c.sync.ensures.crashes t (contents_of p.store) stands) in
           let settled = settled_keeps p.layout (tracked.shown c.in_ok-this.field-0).store (contents_of new) (disk (g.D.Device.time c.sync.new.dev)) (ap (λ (u : Store Key8 ℕ). u.partition) c.in_ok-this.ensures.same ∙ synced_partition new ∙ here) (c.in_ok-this.ensures.stands t (contents_of p.store) stands) in
-          keeps_records ways g.met.I.CodecFixed.fixed.at_least (g.D.Device.time c.args.dev.now) parts t (below_or_not c.args.min) new.entries (λ s n is. (c.drop_below.ensures.marked s n is).1) (λ s n lt is. omega (arith, lt, (c.drop_below.ensures.marked s n is).0)) (g.D.Device.time c.sync.new.dev) maps settled (λ s is. known_held p (g.D.Device.opened c.args.dev.now) (disk (g.D.Device.time c.args.dev.now)) c.requires.over refl refl s is.0) (λ s lt held. (inl held, lt)) (g.D.Device.time c.prune.new.dev) (c.prune.ensures.moments t);
+          keeps_records ways g.met.I.CodecFixed.fixed.at_least (g.D.Device.time c.args.dev.now) parts t sound.floor (below_or_not c.args.min) (contents_of new) (ap (λ (w : Store Key8 ℕ). w.floor) c.drop_below.ensures.staged ∙ sound.floor) (λ s n is. (c.drop_below.ensures.marked s n is).1) (λ s n lt is. omega (arith, lt, (c.drop_below.ensures.marked s n is).0)) (g.D.Device.time c.sync.new.dev) maps settled (λ s is. known_held p (g.D.Device.opened c.args.dev.now) (disk (g.D.Device.time c.args.dev.now)) c.requires.over refl refl s is.0) (λ s lt held. (inl held, lt)) (g.D.Device.time c.prune.new.dev) (c.prune.ensures.moments t);
       alone = λ t none.
           let removes = records_gone p.layout p.values (IsLost p c.args.min) (only_copies p.layout new (g.D.Device.time c.args.dev.now) (g.D.Device.time c.sync.new.dev) here (c.sync.ensures.alone t)) (c.prune.ensures.moments t) in
           let idle = c.sync.ensures.idle (none_staged p.store new c.args.min c.drop_below.ensures.still c.drop_below.ensures.marked c.drop_below.ensures.dropped c.requires.over.synced (λ s m lt is. none (s, lt, (m, is)))) in
@@ -198,7 +200,7 @@ returns-in_err-index g c =
       fault = λ t is.
           let removes = records_gone p.layout p.values (IsLost p c.args.min) (only_copies p.layout new (g.D.Device.time c.args.dev.now) (g.D.Device.time c.sync.new.dev) here (c.sync.ensures.alone t)) (c.prune.ensures.moments t) in
           dropped_still p c.args.min u (contents_of new) (disk (g.D.Device.time c.sync.new.dev)) (disk (g.D.Device.time c.prune.new.dev)) u_here c.in_ok-this.ensures.contents (copies_last ways (g.D.Device.time c.args.dev.now) (g.D.Device.time c.prune.new.dev) removes)
-          (c.in_ok-this.ensures.stands t (contents_of p.store) (c.drop_below.ensures.stands (contents_of p.store) (disk (g.D.Device.time c.args.dev.now)) (c.requires.over.disk t).markers)) c.drop_below.ensures.marked (λ s from. (c.drop_below.ensures.above s from).1);
+          (c.in_ok-this.ensures.stands t (contents_of p.store) (c.drop_below.ensures.stands (contents_of p.store) (disk (g.D.Device.time c.args.dev.now)) (c.requires.over.disk t).markers)) c.drop_below.ensures.marked (λ s from. (c.drop_below.ensures.above s from).1) (ap (λ (w : Store Key8 ℕ). w.floor) c.drop_below.ensures.staged);
       faults = omega (arith, c.sync.ensures.faults, c.prune.ensures.faults);
       cause = failed_cause c.from_residual-in_err-index.result c.in_err-index.field-0.0 (g.D.Device.faults c.args.dev.now) (g.D.Device.faults c.sync.new.dev) (g.D.Device.faults c.prune.new.dev) failed c.in_err-index.ensures.cause (omega (arith, c.sync.ensures.faults));
     }
@@ -221,6 +223,7 @@ returns-in_err-values g c =
       synced = no_value _ _ c.from_residual-in_err-values.ensures.0;
       markers = no_value _ _ c.from_residual-in_err-values.ensures.0;
       unmarked = no_value _ _ c.from_residual-in_err-values.ensures.0;
+      marker_floor = no_value _ _ c.from_residual-in_err-values.ensures.0;
       marked = no_value _ _ c.from_residual-in_err-values.ensures.0;
       flag = no_value _ _ c.from_residual-in_err-values.ensures.0;
       floor = no_value _ _ c.from_residual-in_err-values.ensures.0;
@@ -229,11 +232,11 @@ returns-in_err-values g c =
       layout = no_value _ _ c.from_residual-in_err-values.ensures.0;
       codec_config = no_value _ _ c.from_residual-in_err-values.ensures.0;
       moments = λ t sound.
-          let parts = parts_of p (g.D.Device.opened c.args.dev.now) (disk (g.D.Device.time c.args.dev.now)) c.requires.over t sound refl refl refl (λ s v held. ap (λ (x : Setting). x.page_size) (c.requires.over.index.over.opened_list.setting s v held)) in
+          let parts = parts_of p (g.D.Device.opened c.args.dev.now) (disk (g.D.Device.time c.args.dev.now)) c.requires.over t sound.sound refl refl refl (λ s v held. ap (λ (x : Setting). x.page_size) (c.requires.over.index.over.opened_list.setting s v held)) in
           let stands = c.drop_below.ensures.stands (contents_of p.store) (disk (g.D.Device.time c.args.dev.now)) (c.requires.over.disk t).markers in
-          let maps = subst (λ (x : List ℕ). Mapping p.layout.markers x p.store.entries new.entries (g.D.Device.time c.args.dev.now) (g.D.Device.time c.sync.new.dev)) here (c.sync.ensures.crashes t (contents_of p.store) stands) in
+          let maps = subst (λ (x : List ℕ). Mapping p.layout.markers x (contents_of p.store) (contents_of new) (g.D.Device.time c.args.dev.now) (g.D.Device.time c.sync.new.dev)) here (c.sync.ensures.crashes t (contents_of p.store) stands) in
           let settled = settled_keeps p.layout (tracked.shown c.in_ok-this.field-0).store (contents_of new) (disk (g.D.Device.time c.sync.new.dev)) (ap (λ (u : Store Key8 ℕ). u.partition) c.in_ok-this.ensures.same ∙ synced_partition new ∙ here) (c.in_ok-this.ensures.stands t (contents_of p.store) stands) in
-          keeps_values ways g.met.I.CodecFixed.fixed.at_least (g.D.Device.time c.args.dev.now) parts t (below_or_not c.args.min) new.entries (λ s n is. (c.drop_below.ensures.marked s n is).1) (λ s n lt is. omega (arith, lt, (c.drop_below.ensures.marked s n is).0)) (g.D.Device.time c.sync.new.dev) maps settled (λ s is. known_held p (g.D.Device.opened c.args.dev.now) (disk (g.D.Device.time c.args.dev.now)) c.requires.over refl refl s is.0) (λ s lt held. (inl held, lt)) (g.D.Device.time c.prune.new.dev) (c.prune.ensures.moments t) (g.D.Device.time c.prune-2.new.dev) (c.prune-2.ensures.moments t) (λ s lt held. c.in_ok-index.ensures.gone t s (inl held) lt);
+          keeps_values ways g.met.I.CodecFixed.fixed.at_least (g.D.Device.time c.args.dev.now) parts t sound.floor (below_or_not c.args.min) (contents_of new) (ap (λ (w : Store Key8 ℕ). w.floor) c.drop_below.ensures.staged ∙ sound.floor) (λ s n is. (c.drop_below.ensures.marked s n is).1) (λ s n lt is. omega (arith, lt, (c.drop_below.ensures.marked s n is).0)) (g.D.Device.time c.sync.new.dev) maps settled (λ s is. known_held p (g.D.Device.opened c.args.dev.now) (disk (g.D.Device.time c.args.dev.now)) c.requires.over refl refl s is.0) (λ s lt held. (inl held, lt)) (g.D.Device.time c.prune.new.dev) (c.prune.ensures.moments t) (g.D.Device.time c.prune-2.new.dev) (c.prune-2.ensures.moments t) (λ s lt held. c.in_ok-index.ensures.gone t s (inl held) lt);
       alone = λ t none.
           let removes = values_gone p.layout (only_copies p.layout new (g.D.Device.time c.args.dev.now) (g.D.Device.time c.sync.new.dev) here (c.sync.ensures.alone t)) (c.prune.ensures.moments t) (c.prune-2.ensures.moments t) in
           let idle = c.sync.ensures.idle (none_staged p.store new c.args.min c.drop_below.ensures.still c.drop_below.ensures.marked c.drop_below.ensures.dropped c.requires.over.synced (λ s m lt is. none (s, lt, (m, is)))) in
@@ -270,7 +273,7 @@ returns-in_err-values g c =
       fault = λ t is.
           let removes = values_gone p.layout (only_copies p.layout new (g.D.Device.time c.args.dev.now) (g.D.Device.time c.sync.new.dev) here (c.sync.ensures.alone t)) (c.prune.ensures.moments t) (c.prune-2.ensures.moments t) in
           dropped_still p c.args.min u (contents_of new) (disk (g.D.Device.time c.sync.new.dev)) (disk (g.D.Device.time c.prune-2.new.dev)) u_here c.in_ok-this.ensures.contents (copies_last ways (g.D.Device.time c.args.dev.now) (g.D.Device.time c.prune-2.new.dev) removes)
-          (c.in_ok-this.ensures.stands t (contents_of p.store) (c.drop_below.ensures.stands (contents_of p.store) (disk (g.D.Device.time c.args.dev.now)) (c.requires.over.disk t).markers)) c.drop_below.ensures.marked (λ s from. (c.drop_below.ensures.above s from).1);
+          (c.in_ok-this.ensures.stands t (contents_of p.store) (c.drop_below.ensures.stands (contents_of p.store) (disk (g.D.Device.time c.args.dev.now)) (c.requires.over.disk t).markers)) c.drop_below.ensures.marked (λ s from. (c.drop_below.ensures.above s from).1) (ap (λ (w : Store Key8 ℕ). w.floor) c.drop_below.ensures.staged);
       faults = omega (arith, c.sync.ensures.faults, c.prune.ensures.faults, c.prune-2.ensures.faults);
       cause = failed_cause c.from_residual-in_err-values.result c.in_err-values.field-0.0 (g.D.Device.faults c.args.dev.now) (g.D.Device.faults c.prune.new.dev) (g.D.Device.faults c.prune-2.new.dev) failed c.in_err-values.ensures.cause (omega (arith, c.sync.ensures.faults, c.prune.ensures.faults));
     }
@@ -295,9 +298,9 @@ returns g c =
       owes = c.in_ok-index.ensures.unrecovered;
       lifted = c.in_ok-index.ensures.lifted;
       floors = c.in_ok-index.ensures.floors;
-      below = λ s lt. (ap (λ (f : ℕ → Option ℕ). f s) c.in_ok-this.ensures.trailing ∙ (c.drop_below.ensures.below s lt).0, ap (λ (m : Markers). marker_of m s) entries ∙ (c.drop_below.ensures.below s lt).1);
-      above = λ s from. (ap (λ (f : ℕ → Option ℕ). f s) c.in_ok-this.ensures.trailing ∙ (c.drop_below.ensures.above s from).0, ap (λ (m : Markers). marker_of m s) entries ∙ (c.drop_below.ensures.above s from).1);
-      marked = λ s n is. c.drop_below.ensures.marked s n (subst (λ (m : Markers). IsMarked m s n) entries is);
+      below = λ s lt. (ap (λ (f : ℕ → Option ℕ). f s) c.in_ok-this.ensures.trailing ∙ (c.drop_below.ensures.below s lt).0, ap (λ (m : MarkerMap). marker_of m s) entries ∙ (c.drop_below.ensures.below s lt).1);
+      above = λ s from. (ap (λ (f : ℕ → Option ℕ). f s) c.in_ok-this.ensures.trailing ∙ (c.drop_below.ensures.above s from).0, ap (λ (m : MarkerMap). marker_of m s) entries ∙ (c.drop_below.ensures.above s from).1);
+      marked = λ s n is. c.drop_below.ensures.marked s n (subst (λ (m : MarkerMap). IsMarked m s n) entries is);
     } in
     let u_here : u.partition ≡ p.layout.metadata = ap (λ (w : Store Key8 ℕ). w.partition) c.in_ok-this.ensures.same ∙ synced_partition new ∙ here in
     let layout = same_layout p.layout i.sections.partition v.partition u.partition i.sections.factory.pages.page_size c.in_ok-index.ensures.place.partition c.in_ok-values.ensures.place.partition u_here (ap (λ (f : AppendFactory _). f.pages.page_size) c.in_ok-index.ensures.place.factory) in
@@ -337,7 +340,8 @@ returns g c =
       synced = removed_synced p i v u trailing c.args.min removed;
       markers = λ s from. (removed.above s from).1;
       unmarked = λ s lt. (removed.below s lt).1;
-      marked = λ s m is. c.drop_below.ensures.marked s m (subst (λ (x : Markers). IsMarked x s m) c.in_ok-this.ensures.markers is);
+      marker_floor = ap (λ (w : Contents Key8 ℕ). w.floor) c.in_ok-this.ensures.contents ∙ ap (λ (w : Store Key8 ℕ). w.floor) c.drop_below.ensures.staged;
+      marked = λ s m is. c.drop_below.ensures.marked s m (subst (λ (x : MarkerMap). IsMarked x s m) c.in_ok-this.ensures.markers is);
       flag = subst (λ (b : Bool). IsTrue b ↔ ((s : ℕ) × IsHeld p.index.sections s × (s < c.args.min))) (sym is) (either_flag p.index.sections i.sections p.values v c.args.min c.in_ok-index.records c.in_ok-values.frames c.requires.over.whole.index_known c.requires.over.whole.values_known c.requires.over.whole.values_held
           (record { flag = c.in_ok-index.ensures.flag; floor = c.in_ok-index.ensures.floor; same_floor = c.in_ok-index.ensures.same_floor })
           (record { flag = c.in_ok-values.ensures.flag; floor = c.in_ok-values.ensures.floor; same_floor = c.in_ok-values.ensures.same_floor }));
@@ -350,11 +354,11 @@ returns g c =
       layout = search rules;
       codec_config = c.in_ok-values.ensures.codec_config;
       moments = λ t sound.
-          let parts = parts_of p (g.D.Device.opened c.args.dev.now) (disk (g.D.Device.time c.args.dev.now)) c.requires.over t sound refl refl refl (λ s v held. ap (λ (x : Setting). x.page_size) (c.requires.over.index.over.opened_list.setting s v held)) in
+          let parts = parts_of p (g.D.Device.opened c.args.dev.now) (disk (g.D.Device.time c.args.dev.now)) c.requires.over t sound.sound refl refl refl (λ s v held. ap (λ (x : Setting). x.page_size) (c.requires.over.index.over.opened_list.setting s v held)) in
           let stands = c.drop_below.ensures.stands (contents_of p.store) (disk (g.D.Device.time c.args.dev.now)) (c.requires.over.disk t).markers in
-          let maps = subst (λ (x : List ℕ). Mapping p.layout.markers x p.store.entries new.entries (g.D.Device.time c.args.dev.now) (g.D.Device.time c.sync.new.dev)) here (c.sync.ensures.crashes t (contents_of p.store) stands) in
+          let maps = subst (λ (x : List ℕ). Mapping p.layout.markers x (contents_of p.store) (contents_of new) (g.D.Device.time c.args.dev.now) (g.D.Device.time c.sync.new.dev)) here (c.sync.ensures.crashes t (contents_of p.store) stands) in
           let settled = settled_keeps p.layout (tracked.shown c.in_ok-this.field-0).store (contents_of new) (disk (g.D.Device.time c.sync.new.dev)) (ap (λ (u : Store Key8 ℕ). u.partition) c.in_ok-this.ensures.same ∙ synced_partition new ∙ here) (c.in_ok-this.ensures.stands t (contents_of p.store) stands) in
-          keeps_values ways g.met.I.CodecFixed.fixed.at_least (g.D.Device.time c.args.dev.now) parts t (below_or_not c.args.min) new.entries (λ s n is. (c.drop_below.ensures.marked s n is).1) (λ s n lt is. omega (arith, lt, (c.drop_below.ensures.marked s n is).0)) (g.D.Device.time c.sync.new.dev) maps settled (λ s is. known_held p (g.D.Device.opened c.args.dev.now) (disk (g.D.Device.time c.args.dev.now)) c.requires.over refl refl s is.0) (λ s lt held. (inl held, lt)) (g.D.Device.time c.prune.new.dev) (c.prune.ensures.moments t) (g.D.Device.time c.prune-2.new.dev) (c.prune-2.ensures.moments t) (λ s lt held. c.in_ok-index.ensures.gone t s (inl held) lt);
+          keeps_values ways g.met.I.CodecFixed.fixed.at_least (g.D.Device.time c.args.dev.now) parts t sound.floor (below_or_not c.args.min) (contents_of new) (ap (λ (w : Store Key8 ℕ). w.floor) c.drop_below.ensures.staged ∙ sound.floor) (λ s n is. (c.drop_below.ensures.marked s n is).1) (λ s n lt is. omega (arith, lt, (c.drop_below.ensures.marked s n is).0)) (g.D.Device.time c.sync.new.dev) maps settled (λ s is. known_held p (g.D.Device.opened c.args.dev.now) (disk (g.D.Device.time c.args.dev.now)) c.requires.over refl refl s is.0) (λ s lt held. (inl held, lt)) (g.D.Device.time c.prune.new.dev) (c.prune.ensures.moments t) (g.D.Device.time c.prune-2.new.dev) (c.prune-2.ensures.moments t) (λ s lt held. c.in_ok-index.ensures.gone t s (inl held) lt);
       alone = λ t none.
           let removes = values_gone p.layout (only_copies p.layout new (g.D.Device.time c.args.dev.now) (g.D.Device.time c.sync.new.dev) here (c.sync.ensures.alone t)) (c.prune.ensures.moments t) (c.prune-2.ensures.moments t) in
           let idle = c.sync.ensures.idle (none_staged p.store new c.args.min c.drop_below.ensures.still c.drop_below.ensures.marked c.drop_below.ensures.dropped c.requires.over.synced (λ s m lt is. none (s, lt, (m, is)))) in

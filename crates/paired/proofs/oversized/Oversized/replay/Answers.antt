@@ -3,7 +3,7 @@ use Rattle.std.specs.BTreeMap.{is_at}
 use Rattle.std.specs.Map.{lookup}
 use Rattle.std.specs.Ordering.{nat_cmp}
 use Rattle.blob_device.specs.Timeline.{disk}
-use Rattle.segments.specs.Managed as managed
+use Rattle.segments.specs.managing.Managed as managed
 use Rattle.meta_store.specs.Calls.{IsOpened}
 use Rattle.meta_store.specs.Store.{Stands, contents_of}
 use Rattle.sealed_pages.specs.declared.page_blob.PageBlob.{PageBlob}

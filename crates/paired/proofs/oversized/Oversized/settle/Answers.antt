@@ -5,20 +5,20 @@ use Rattle.blob_device.proofs.Results.{err_of, err_with}
 use Rattle.blob_device.specs.Timeline.{disk}
 use Rattle.segments.specs.FixedLists.{section_size}
 use Rattle.segments.specs.FixedShown as fixed
-use Rattle.segments.specs.Managed as manager
+use Rattle.segments.specs.managing.Managed as manager
 use Rattle.segments.proofs.FixedWriteLemmas.{are_pages}
 use Rattle.segments.proofs.WalkLemmas.{contains_or_not}
 use Rattle.paired.specs.Kept.{marker_of}
 use Rattle.paired.specs.PairShown.{shown}
-use Rattle.paired.specs.TrackedShown as tracked
-use Rattle.paired.proofs.PairFaultLemmas.{rests_after}
-use Rattle.paired.proofs.PairFailing.{no_error, pruned_ok, values_refused, values_failed}
-use Rattle.paired.proofs.PairSettling.{index_entry, values_entry, index_synced_of, values_synced_of, parts_of, settle_index_alone, settle_index_untouched, settle_index_order, settle_index_keeps, settle_alone, settle_untouched, settle_order, settle_keeps}
-use Rattle.paired.proofs.PairSynced.{here_of, values_ready, settled_as, settled_sound_as, lists_same, lengths_same, held_same, values_held_as, values_same_size, named_synced, others_synced}
-use Rattle.paired.proofs.TrackingLemmas.{Noted}
+use Rattle.paired.specs.sighted.Shown as tracked
+use Rattle.paired.proofs.pair.FaultLemmas.{rests_after}
+use Rattle.paired.proofs.pair.Failing.{no_error, pruned_ok, values_refused, values_failed}
+use Rattle.paired.proofs.pair.Settling.{index_entry, values_entry, index_synced_of, values_synced_of, parts_of, settle_index_alone, settle_index_untouched, settle_index_order, settle_index_keeps, settle_alone, settle_untouched, settle_order, settle_keeps}
+use Rattle.paired.proofs.pair.Synced.{here_of, values_ready, settled_as, settled_sound_as, lists_same, lengths_same, held_same, values_held_as, values_same_size, named_synced, others_synced}
+use Rattle.paired.proofs.tracking.Lemmas.{Noted}
 use Rattle.segments.proofs.FixedPassing.{pruned_on}
-use Rattle.paired.proofs.PairPassing.{no_value}
-use Rattle.paired.proofs.PairPruned.{pruned_as}
+use Rattle.paired.proofs.pair.Passing.{no_value}
+use Rattle.paired.proofs.pair.Pruned.{pruned_as}
 use Rattle.paired.proofs.oversized.Oversized.settle.Goals as goal
 
 pub sync-requires-2 : goal.sync-requires-2
@@ -67,7 +67,7 @@ returns-in_err-this g c =
       bounds = no_value _ _ c.from_residual.ensures.0;
       layout = no_value _ _ c.from_residual.ensures.0;
       codec_config = no_value _ _ c.from_residual.ensures.0;
-      moments = λ x sound. settle_index_keeps _ _ told p _ named a b here c.requires.over (c.sync.ensures.moments x) pages decides x (parts_of _ _ told p pages _ (disk a) here c.requires.over x sound);
+      moments = λ x sound. settle_index_keeps _ _ told p _ named a b here c.requires.over (c.sync.ensures.moments x) pages decides x (parts_of _ _ told p pages _ (disk a) here c.requires.over x sound.sound) sound.floor;
       alone = λ x. settle_index_alone _ _ told p _ named a b here c.requires.over (c.sync.ensures.moments x);
       untouched = λ x. settle_index_untouched _ _ told p _ named a b here c.requires.over (c.sync.ensures.moments x);
       order = λ x. settle_index_order _ _ told p _ named a b here c.requires.over (c.sync.ensures.moments x);
@@ -109,7 +109,7 @@ returns-in_err-this-2 g c =
       bounds = no_value _ _ c.from_residual-in_err-this-2.ensures.0;
       layout = no_value _ _ c.from_residual-in_err-this-2.ensures.0;
       codec_config = no_value _ _ c.from_residual-in_err-this-2.ensures.0;
-      moments = λ x sound. settle_keeps _ _ told p _ named a b here c.requires.over (c.sync.ensures.moments x) pages decides x (parts_of _ _ told p pages _ (disk a) here c.requires.over x sound) e (c.sync-2.ensures.moments x);
+      moments = λ x sound. settle_keeps _ _ told p _ named a b here c.requires.over (c.sync.ensures.moments x) pages decides x (parts_of _ _ told p pages _ (disk a) here c.requires.over x sound.sound) sound.floor e (c.sync-2.ensures.moments x);
       alone = λ x. settle_alone _ _ told p _ named a b here c.requires.over (c.sync.ensures.moments x) e (c.sync-2.ensures.moments x);
       untouched = λ x. settle_untouched _ _ told p _ named a b here c.requires.over (c.sync.ensures.moments x) e (c.sync-2.ensures.moments x);
       order = λ x. settle_order _ _ told p _ named a b here c.requires.over (c.sync.ensures.moments x) e (c.sync-2.ensures.moments x);
@@ -157,7 +157,7 @@ returns-in_err-note_synced g c =
       bounds = no_value _ _ c.from_residual-in_err-note_synced.ensures.0;
       layout = no_value _ _ c.from_residual-in_err-note_synced.ensures.0;
       codec_config = no_value _ _ c.from_residual-in_err-note_synced.ensures.0;
-      moments = λ x sound. settle_keeps _ _ told p _ named a b here c.requires.over (c.sync.ensures.moments x) pages decides x (parts_of _ _ told p pages _ (disk a) here c.requires.over x sound) e (c.sync-2.ensures.moments x);
+      moments = λ x sound. settle_keeps _ _ told p _ named a b here c.requires.over (c.sync.ensures.moments x) pages decides x (parts_of _ _ told p pages _ (disk a) here c.requires.over x sound.sound) sound.floor e (c.sync-2.ensures.moments x);
       alone = λ x. settle_alone _ _ told p _ named a b here c.requires.over (c.sync.ensures.moments x) e (c.sync-2.ensures.moments x);
       untouched = λ x. settle_untouched _ _ told p _ named a b here c.requires.over (c.sync.ensures.moments x) e (c.sync-2.ensures.moments x);
       order = λ x. settle_order _ _ told p _ named a b here c.requires.over (c.sync.ensures.moments x) e (c.sync-2.ensures.moments x);
@@ -244,7 +244,7 @@ returns g c =
       bounds = (c.in_ok-this.ensures.bounds, c.in_ok-this-2.ensures.bounds);
       layout = record { index = says.bounds.place.partition; values = puts.bounds.place.partition; metadata = ap (λ u. u.partition) c.note_synced.ensures.store; page_size = ap (λ f. f.pages.page_size) says.bounds.place.factory };
       codec_config = c.in_ok-this-2.ensures.codec_config;
-      moments = λ x sound. settle_keeps _ _ told p _ named a b here c.requires.over (c.sync.ensures.moments x) pages decides x (parts_of _ _ told p pages _ (disk a) here c.requires.over x sound) e (c.sync-2.ensures.moments x);
+      moments = λ x sound. settle_keeps _ _ told p _ named a b here c.requires.over (c.sync.ensures.moments x) pages decides x (parts_of _ _ told p pages _ (disk a) here c.requires.over x sound.sound) sound.floor e (c.sync-2.ensures.moments x);
       alone = λ x. settle_alone _ _ told p _ named a b here c.requires.over (c.sync.ensures.moments x) e (c.sync-2.ensures.moments x);
       untouched = λ x. settle_untouched _ _ told p _ named a b here c.requires.over (c.sync.ensures.moments x) e (c.sync-2.ensures.moments x);
       order = λ x. settle_order _ _ told p _ named a b here c.requires.over (c.sync.ensures.moments x) e (c.sync-2.ensures.moments x);

@@ -1,5 +1,5 @@
-use Rattle.std.proofs.Common.{◌≡◌, ◌⊎◌, inl, inr, ℕ, List, Option, None, Some, IsSome, take, refl, sym, ◌∙◌, ap, subst, arith}
-use Rattle.std.specs.Prelude.{◌<◌, ◌↔◌, ⊤}
+use Rattle.std.proofs.Common.{◌≡◌, ◌⊎◌, inl, inr, ℕ, List, Option, None, Some, IsSome, refl, sym, ◌∙◌, subst, arith}
+use Rattle.std.specs.Prelude.{◌↔◌, ⊤}
 use Rattle.std.specs.List.{Contains}
 use Rattle.std.proofs.Math.Seq.{take-length}
 use Rattle.blob_device.specs.Disk.{Key}
@@ -11,11 +11,11 @@ use Rattle.segments.proofs.WalkLemmas.{contains_or_not}
 use Rattle.paired.specs.Crashes.{IsBlobOf, IsCopy, IsIndexOf, IsValuesOf}
 use Rattle.paired.specs.Pair.{list_of, synced_length}
 use Rattle.paired.specs.PairShown.{shown}
-use Rattle.paired.proofs.PairFaultLemmas.{before_them, before_markers}
-use Rattle.paired.proofs.PairFailing.{only_failed}
-use Rattle.paired.proofs.PairMarked.{if_ok, if_both, lists_keep}
-use Rattle.paired.proofs.PairSettling.{all_in_order, any_blob, blob_within, copy_no_blob, keeping_wider, parts_of}
-use Rattle.paired.proofs.PairSynced.{here_of, unheld_synced}
+use Rattle.paired.proofs.pair.FaultLemmas.{before_them, before_markers}
+use Rattle.paired.proofs.pair.Failing.{only_failed}
+use Rattle.paired.proofs.pair.Marked.{if_ok, if_both, lists_keep}
+use Rattle.paired.proofs.pair.Settling.{all_in_order, any_blob, blob_within, copy_no_blob, keeping_wider, parts_of}
+use Rattle.paired.proofs.pair.Synced.{here_of, unheld_synced}
 use Rattle.paired.proofs.oversized.Oversized.sync_all.Goals as goal
 
 not_held : {T : Type 0} (o : Option T) → (IsSome o → ⊥) → o ≡ None
@@ -27,7 +27,7 @@ returns-in_err-sections-clause-moments g c t sound =
     let p = shown g.I.Record.place c.args.self in
     let here_p = here_of g.I.Record.place c.args.self g.met.I.CodecFixed.fixed.at_least in
     lists_keep _ _ g.D.Device.Tells p _ (g.D.Device.time c.args.dev.now) here_p c.requires.over t
-    (parts_of _ _ g.D.Device.Tells p (are_pages g.row.S g.S.Seal g.S.Seal-dict) _ (disk (g.D.Device.time c.args.dev.now)) here_p c.requires.over t sound) (λ q. IsIndexOf p.layout (λ _. ⊤) q ⊎ IsValuesOf p.layout (λ _. ⊤) q)
+    (parts_of _ _ g.D.Device.Tells p (are_pages g.row.S g.S.Seal g.S.Seal-dict) _ (disk (g.D.Device.time c.args.dev.now)) here_p c.requires.over t sound.sound) sound.floor (λ q. IsIndexOf p.layout (λ _. ⊤) q ⊎ IsValuesOf p.layout (λ _. ⊤) q)
 
 pub returns-clause-synced : goal.returns-clause-synced
 returns-clause-synced g c =

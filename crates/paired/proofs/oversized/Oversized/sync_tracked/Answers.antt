@@ -11,17 +11,17 @@ use Rattle.segments.proofs.WalkLemmas.{contains_or_not}
 use Rattle.meta_store.specs.Blobs.{blob_of, other_side}
 use Rattle.paired.specs.Crashes.{IsBlobOf, IsCopy, IsIndexOf, IsOwn, IsValuesOf, Keeping, LeavesAlone}
 use Rattle.paired.specs.Kept.{Layout}
-use Rattle.paired.specs.Pair.{IsSoundOn, IsMoving, list_of, synced_length}
+use Rattle.paired.specs.Pair.{IsSafeOn, IsMoving, list_of, synced_length}
 use Rattle.paired.specs.PairShown.{shown}
-use Rattle.paired.proofs.PairMarked.{moving_after, moving_before, if_ok}
-use Rattle.paired.proofs.PairFaultLemmas.{before_them_as, before_markers, rests_still}
-use Rattle.paired.proofs.PairFailing.{pruned_ok, not_pruned, lost_since, markers_failed}
-use Rattle.paired.proofs.PairSettling.{copy_no_blob, own_blob, in_order, in_order_then, keeping_wider}
-use Rattle.paired.proofs.PairMoments.{keeping_then}
-use Rattle.paired.proofs.PairPruned.{pruned_as}
-use Rattle.paired.proofs.PairSynced.{layout_as}
-use Rattle.paired.proofs.PairSyncing.{sync_of}
-use Rattle.paired.proofs.PairPassing.{no_value, settled_cause, settled_full, settled_lost}
+use Rattle.paired.proofs.pair.Marked.{moving_after, moving_before, if_ok}
+use Rattle.paired.proofs.pair.FaultLemmas.{before_them_as, before_markers, rests_still}
+use Rattle.paired.proofs.pair.Failing.{pruned_ok, not_pruned, lost_since, markers_failed}
+use Rattle.paired.proofs.pair.Settling.{copy_no_blob, own_blob, in_order, in_order_then, keeping_wider}
+use Rattle.paired.proofs.pair.Moments.{keeping_then}
+use Rattle.paired.proofs.pair.Pruned.{pruned_as}
+use Rattle.paired.proofs.pair.Synced.{layout_as}
+use Rattle.paired.proofs.pair.Syncing.{sync_of}
+use Rattle.paired.proofs.pair.Passing.{no_value, settled_cause, settled_full, settled_lost}
 use Rattle.paired.proofs.oversized.Oversized.sync_tracked.Goals as goal
 
 pub returns-in_err-this : goal.returns-in_err-this
@@ -46,7 +46,7 @@ returns-in_err-this g c =
           let first : Always a b (λ d. (k : Key) → (IsOwn p.layout (λ s. named s × IsHeld p.index.sections s) k → ⊥) → d k ≡ disk a k) = always_weaker a b (λ d. (k : Key) → (IsBlobOf p.layout (λ s. named s × IsHeld p.index.sections s) k → ⊥) → d k ≡ disk a k)
           (λ d. (k : Key) → (IsOwn p.layout (λ s. named s × IsHeld p.index.sections s) k → ⊥) → d k ≡ disk a k) (λ d only k not. only k (λ is. not (own_blob p.layout (λ s. named s × IsHeld p.index.sections s) k is))) (c.settle.ensures.untouched t) in
           let newer_first : Always a b (λ d. d newer ≡ disk a newer) = always_weaker a b (λ d. (k : Key) → IsCopy p.layout k → d k ≡ disk a k) (λ d. d newer ≡ disk a newer) (λ d same. same newer (other_side p.store.older, refl)) copies in
-          let settles : IsSoundOn p (disk a) → Keeping p.layout (list_of p (disk a)) (synced_length p) (λ _. ⊥) (IsOwn p.layout named) a b = λ sound. keeping_wider p.layout (list_of p (disk a)) (list_of p (disk a)) (synced_length p) (synced_length p) (λ _. ⊥) (IsBlobOf p.layout named) (IsOwn p.layout named) a b
+          let settles : IsSafeOn p (disk a) → Keeping p.layout (list_of p (disk a)) (synced_length p) (λ _. ⊥) (IsOwn p.layout named) a b = λ sound. keeping_wider p.layout (list_of p (disk a)) (list_of p (disk a)) (synced_length p) (synced_length p) (λ _. ⊥) (IsBlobOf p.layout named) (IsOwn p.layout named) a b
           (λ s. take-length (list_of p (disk a) s)) (λ s. omega arith) (own_blob p.layout named) (c.settle.ensures.moments t sound) in
           record {
             moments = settles;
@@ -113,7 +113,7 @@ returns g c =
             store = says.store;
             bounds = says.bounds;
             layout = says.layout;
-          }) c.move_markers.result moves.index moves.values moves.synced moves.markers moves.active moves.marked (λ none. (moves.still (λ w. none (moving w))).1) moves.layout;
+          }) c.move_markers.result moves.index moves.values moves.synced moves.markers moves.active moves.marked (λ none. (moves.still (λ w. none (moving w))).1) moves.marker_floor moves.layout;
       codec_config = if_ok r _ _ (λ v same. same ∙ says.codec_config) moves.codec_config;
       moments = λ t.
           let copies : Always a b (λ d. (k : Key) → IsCopy p.layout k → d k ≡ disk a k) = always_weaker a b (λ d. (k : Key) → (IsBlobOf p.layout named k → ⊥) → d k ≡ disk a k) (λ d. (k : Key) → IsCopy p.layout k → d k ≡ disk a k)
@@ -121,7 +121,7 @@ returns g c =
           let first : Always a b (λ d. (k : Key) → (IsOwn p.layout (λ s. named s × IsHeld p.index.sections s) k → ⊥) → d k ≡ disk a k) = always_weaker a b (λ d. (k : Key) → (IsBlobOf p.layout (λ s. named s × IsHeld p.index.sections s) k → ⊥) → d k ≡ disk a k)
           (λ d. (k : Key) → (IsOwn p.layout (λ s. named s × IsHeld p.index.sections s) k → ⊥) → d k ≡ disk a k) (λ d only k not. only k (λ is. not (own_blob p.layout (λ s. named s × IsHeld p.index.sections s) k is))) (c.settle.ensures.untouched t) in
           let newer_first : Always a b (λ d. d newer ≡ disk a newer) = always_weaker a b (λ d. (k : Key) → IsCopy p.layout k → d k ≡ disk a k) (λ d. d newer ≡ disk a newer) (λ d same. same newer (other_side p.store.older, refl)) copies in
-          let settles : IsSoundOn p (disk a) → Keeping p.layout (list_of p (disk a)) (synced_length p) (λ _. ⊥) (IsOwn p.layout named) a b = λ sound. keeping_wider p.layout (list_of p (disk a)) (list_of p (disk a)) (synced_length p) (synced_length p) (λ _. ⊥) (IsBlobOf p.layout named) (IsOwn p.layout named) a b
+          let settles : IsSafeOn p (disk a) → Keeping p.layout (list_of p (disk a)) (synced_length p) (λ _. ⊥) (IsOwn p.layout named) a b = λ sound. keeping_wider p.layout (list_of p (disk a)) (list_of p (disk a)) (synced_length p) (synced_length p) (λ _. ⊥) (IsBlobOf p.layout named) (IsOwn p.layout named) a b
           (λ s. take-length (list_of p (disk a) s)) (λ s. omega arith) (own_blob p.layout named) (c.settle.ensures.moments t sound) in
           let blobs : Always b e (λ d. (k : Key) → IsBlobOf p.layout named k → d k ≡ disk b k) = always_weaker b e (λ d. (k : Key) → (IsCopy q.layout k → ⊥) → d k ≡ disk b k) (λ d. (k : Key) → IsBlobOf p.layout named k → d k ≡ disk b k)
           (λ d only k is. only k (λ copy. copy_no_blob p.layout named c.requires.over.apart k (subst (λ l. IsCopy l k) layouts copy) is)) (moves.alone t) in
@@ -129,7 +129,7 @@ returns g c =
             moments = λ sound. keeping_then p.layout (list_of p (disk a)) (synced_length p) (λ _. ⊥) (IsOwn p.layout named) a b e (settles sound)
                 (keeping_wider p.layout (list_of q (disk b)) (list_of p (disk a)) (synced_length q) (synced_length p) (λ _. ⊥) (IsCopy p.layout) (IsOwn p.layout named) b e
                 (λ s. ap (take (length (list_of q (disk b) s))) (sym (says.lists t s)) ∙ take-length (list_of q (disk b) s)) more (λ k is. inr (inr is))
-                (subst (λ (l : Layout). Keeping l (list_of q (disk b)) (synced_length q) (λ _. ⊥) (IsCopy l) b e) layouts (moves.moments t (says.sound t sound))));
+                (subst (λ (l : Layout). Keeping l (list_of q (disk b)) (synced_length q) (λ _. ⊥) (IsCopy l) b e) layouts (moves.moments t (record { sound = says.sound t sound.sound; floor = ap (λ u. u.floor) says.store ∙ sound.floor }))));
             alone = λ none. subst (λ dev. Always a (g.D.Device.time dev) (λ d. (k : Key) → IsCopy p.layout k → d k ≡ disk a k)) (sym (moves.still (λ w. none (moving w))).0) copies;
             untouched = always_then a b e (λ d. (k : Key) → (IsOwn p.layout (λ s. named s × IsHeld p.index.sections s) k → ⊥) → d k ≡ disk a k) first (always_weaker b e (λ d. (k : Key) → (IsCopy q.layout k → ⊥) → d k ≡ disk b k) (λ d. (k : Key) → (IsOwn p.layout (λ s. named s × IsHeld p.index.sections s) k → ⊥) → d k ≡ disk a k)
                 (λ d only k not. only k (λ copy. not (inr (inr (subst (λ l. IsCopy l k) layouts copy)))) ∙ always_now a b (λ d. (k : Key) → (IsOwn p.layout (λ s. named s × IsHeld p.index.sections s) k → ⊥) → d k ≡ disk a k) first k not) (moves.alone t));
@@ -164,7 +164,7 @@ returns g c =
                 (always_now b e (LeavesAlone p.layout (list_of p (disk a)) synced (λ _. ⊥) (IsOwn p.layout named) (disk b))
                 (keeping_wider p.layout (list_of q (disk b)) (list_of p (disk a)) (synced_length q) synced (λ _. ⊥) (IsCopy p.layout) (IsOwn p.layout named) b e
                 (λ s. ap (take (length (list_of q (disk b) s))) (sym (says.lists t s)) ∙ take-length (list_of q (disk b) s)) more (λ k is. inr (inr is))
-                (subst (λ (l : Layout). Keeping l (list_of q (disk b)) (synced_length q) (λ _. ⊥) (IsCopy l) b e) layouts (moves.moments t (says.sound t sound))))).leaves;
+                (subst (λ (l : Layout). Keeping l (list_of q (disk b)) (synced_length q) (λ _. ⊥) (IsCopy l) b e) layouts (moves.moments t (record { sound = says.sound t sound.sound; floor = ap (λ u. u.floor) says.store ∙ sound.floor }))))).leaves;
           };
       faults = omega (arith, c.settle.ensures.faults, c.move_markers.ensures.faults);
       cause = markers_failed r p.index.sections.floor _ _ _ c.settle.ensures.faults moves.cause;

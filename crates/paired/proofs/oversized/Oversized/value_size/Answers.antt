@@ -11,13 +11,13 @@ use Rattle.segments.specs.FixedReading.{is_item_held, IsAbsent}
 use Rattle.std.specs.Result.{IsErrOf}
 use Rattle.segments.specs.Sections.{key_of}
 use Rattle.segments.proofs.FixedErrors.{of_error}
-use Rattle.paired.specs.GlobSections as glob
+use Rattle.paired.specs.glob.Sections as glob
 use Rattle.paired.specs.Pair.{list_of, length_of}
 use Rattle.paired.specs.PairShown.{shown}
-use Rattle.paired.proofs.PairReads.{no_length, last_place, place_of, sound_end, sound_empty, has_last, sum_answered, sum_refused, damaged_last, no_item, may_read, pair_read}
-use Rattle.paired.proofs.PairFailing.{no_error}
-use Rattle.paired.proofs.PairPassing.{no_value, pruned_cause, pruned_else, last_cause, last_overflow, sum_error, sum_cause, reads_still, not_empty}
-use Rattle.paired.proofs.PairPruned.{pruned_as}
+use Rattle.paired.proofs.pair.Reads.{no_length, last_place, place_of, sound_end, sound_empty, has_last, sum_answered, sum_refused, damaged_last, no_item, may_read, pair_read}
+use Rattle.paired.proofs.pair.Failing.{no_error}
+use Rattle.paired.proofs.pair.Passing.{no_value, pruned_cause, pruned_else, last_cause, last_overflow, sum_error, sum_cause, reads_still, not_empty}
+use Rattle.paired.proofs.pair.Pruned.{pruned_as}
 use Rattle.paired.proofs.oversized.Oversized.value_size.Goals as goal
 
 pub returns-in_err-size : goal.returns-in_err-size

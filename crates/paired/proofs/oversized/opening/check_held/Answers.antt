@@ -10,7 +10,7 @@ use Rattle.segments.specs.FixedShown.{shown}
 use Rattle.segments.specs.Sections.{IsHeld}
 use Rattle.segments.proofs.WalkLemmas.{none_or_value}
 use Rattle.paired.proofs.OpenParts.{same_damage}
-use Rattle.paired.proofs.OpeningLemmas.{AreHeld, are_held_all, are_held_more, are_held_none}
+use Rattle.paired.proofs.opening.Lemmas.{AreHeld, are_held_all, are_held_more, are_held_none}
 use Rattle.paired.proofs.oversized.opening.check_held.Goals as goal
 
 pub loop-section-init : goal.loop-section-init

@@ -1,6 +1,6 @@
 use Rattle.segments.specs.FixedShown.{shown}
 use Rattle.segments.specs.Sections.{IsHeld}
-use Rattle.paired.proofs.OpeningLemmas.{AreHeld}
+use Rattle.paired.proofs.opening.Lemmas.{AreHeld}
 use Rattle.paired.proofs.oversized.opening.check_held.Given as goal
 
 abbrev pub invariant-loop-section : goal.invariant-loop-section

@@ -2,10 +2,10 @@ use Rattle.std.proofs.Common.{◌≡◌, ◌+◌, ◌≤◌, ℕ, ap, subst, ari
 use Rattle.std.specs.Option.{option_copied}
 use Rattle.blob_device.proofs.Results.{err_of}
 use Rattle.segments.specs.declared.journal.Error.TheVariants.{Corruption}
-use Rattle.segments.specs.Managed as managed
-use Rattle.paired.specs.GlobSections.{section_size}
+use Rattle.segments.specs.managing.Managed as managed
+use Rattle.paired.specs.glob.Sections.{section_size}
 use Rattle.paired.specs.OpeningRefusing.{IsOutside}
-use Rattle.paired.proofs.OpeningStartCauses.{error_back}
+use Rattle.paired.proofs.opening.StartCauses.{error_back}
 use Rattle.paired.proofs.oversized.opening.check_value.Goals as goal
 
 pub returns-clause-within : goal.returns-clause-within

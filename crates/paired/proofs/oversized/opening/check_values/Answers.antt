@@ -4,11 +4,11 @@ use Rattle.std.proofs.lemmas.Map.Iter.{rest_more, rest_all}
 use Rattle.blob_device.proofs.Results.{err_of}
 use Rattle.segments.specs.declared.journal.Error.TheVariants.{Corruption}
 use Rattle.segments.specs.FixedFloors as floors
-use Rattle.segments.specs.Managed as managed
-use Rattle.paired.specs.GlobSections.{section_size}
+use Rattle.segments.specs.managing.Managed as managed
+use Rattle.paired.specs.glob.Sections.{section_size}
 use Rattle.paired.specs.OpeningRefusing.{IsOutside}
-use Rattle.paired.proofs.OpeningStartCauses.{error_back}
-use Rattle.paired.proofs.OpeningLemmas.{checking_all, checking_first, checking_more, checking_none}
+use Rattle.paired.proofs.opening.StartCauses.{error_back}
+use Rattle.paired.proofs.opening.Lemmas.{checking_all, checking_first, checking_more, checking_none}
 use Rattle.paired.proofs.oversized.opening.check_values.Goals as goal
 
 pub loop-section-init : goal.loop-section-init

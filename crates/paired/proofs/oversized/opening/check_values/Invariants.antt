@@ -1,8 +1,8 @@
 use Rattle.std.proofs.Common.{◌+◌, ◌≤◌}
 use Rattle.segments.specs.FixedFloors as floors
-use Rattle.segments.specs.Managed as managed
-use Rattle.paired.specs.GlobSections.{section_size}
-use Rattle.paired.proofs.OpeningLemmas.{Checking}
+use Rattle.segments.specs.managing.Managed as managed
+use Rattle.paired.specs.glob.Sections.{section_size}
+use Rattle.paired.proofs.opening.Lemmas.{Checking}
 use Rattle.paired.proofs.oversized.opening.check_values.Given as goal
 
 abbrev pub invariant-loop-section : goal.invariant-loop-section

@@ -5,7 +5,7 @@ use Rattle.std.proofs.lemmas.Bool.{cases_eq}
 use Rattle.std.proofs.lemmas.Grind.{common_steps}
 use Rattle.segments.specs.FixedShown.{shown}
 use Rattle.segments.specs.Sections.{IsHeld}
-use Rattle.paired.proofs.OpeningLemmas.{GoneOver, gone_over_more, gone_over_all}
+use Rattle.paired.proofs.opening.Lemmas.{GoneOver, gone_over_more, gone_over_all}
 use Rattle.paired.proofs.oversized.opening.held_sections.Goals as goal
 
 pub loop-section-preserved : goal.loop-section-preserved

@@ -3,7 +3,7 @@ use Rattle.std.specs.BTreeSet.{contains}
 use Rattle.std.specs.Ordering.{nat_cmp}
 use Rattle.segments.specs.FixedShown.{shown}
 use Rattle.segments.specs.Sections.{IsHeld}
-use Rattle.paired.proofs.OpeningLemmas.{GoneOver}
+use Rattle.paired.proofs.opening.Lemmas.{GoneOver}
 use Rattle.paired.proofs.oversized.opening.held_sections.Given as goal
 
 abbrev pub invariant-loop-section : goal.invariant-loop-section

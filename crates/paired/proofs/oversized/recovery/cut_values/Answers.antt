@@ -6,10 +6,10 @@ use Rattle.blob_device.specs.Disk.{Key}
 use Rattle.blob_device.specs.Opened.{Opened, reads_of}
 use Rattle.blob_device.specs.Timeline.{disk, Each}
 use Rattle.segments.specs.FixedShown as journal
-use Rattle.segments.specs.Managed.{shown}
+use Rattle.segments.specs.managing.Managed.{shown}
 use Rattle.segments.specs.Sections.{IsHeld, IsKeyOf, key_of}
-use Rattle.paired.specs.GlobLasting.{Cutting}
-use Rattle.paired.specs.GlobSections as glob
+use Rattle.paired.specs.glob.Lasting.{Cutting}
+use Rattle.paired.specs.glob.Sections as glob
 use Rattle.paired.specs.Reconciling.{EndOf}
 use Rattle.paired.proofs.ValueEnds.{OnlyLooked, glob_looked, looked_cutting, cut_moments, cut_idle, cut_others, cut_held, cut_settled, journal_cut, cut_bytes, cut_entries, cause_either, cause_after, no_other, pruned_none, same_error}
 use Rattle.paired.proofs.oversized.recovery.cut_values.Goals as goal

@@ -4,8 +4,8 @@ use Rattle.std.proofs.lemmas.List.{take_all, take_more}
 use Rattle.std.proofs.lemmas.List.Elements.{Contains-get_or}
 use Rattle.segments.specs.FixedLists.{section_size}
 use Rattle.segments.specs.FixedShown as fixed
-use Rattle.paired.specs.TrackedShown.{shown}
-use Rattle.paired.proofs.TrackingLemmas.{Noted, noted_none, noted_more}
+use Rattle.paired.specs.sighted.Shown.{shown}
+use Rattle.paired.proofs.tracking.Lemmas.{Noted, noted_none, noted_more}
 use Rattle.paired.proofs.oversized.syncing.note_synced.Goals as goal
 
 pub loop-section-init : goal.loop-section-init

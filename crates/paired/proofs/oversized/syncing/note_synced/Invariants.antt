@@ -2,8 +2,8 @@ use Rattle.std.proofs.Common.{◌/◌, take}
 use Rattle.std.specs.List.{Contains}
 use Rattle.segments.specs.FixedLists.{section_size}
 use Rattle.segments.specs.FixedShown as fixed
-use Rattle.paired.specs.TrackedShown.{shown}
-use Rattle.paired.proofs.TrackingLemmas.{Noted}
+use Rattle.paired.specs.sighted.Shown.{shown}
+use Rattle.paired.proofs.tracking.Lemmas.{Noted}
 use Rattle.paired.proofs.oversized.syncing.note_synced.Given as goal
 
 abbrev pub invariant-loop-section : goal.invariant-loop-section

@@ -1,7 +1,7 @@
-use Rattle.std.proofs.Common.{ap, rules}
+use Rattle.std.proofs.Common.{rules}
 use Rattle.meta_store.specs.Store.{seen}
-use Rattle.paired.specs.TrackedShown.{marker_format}
-use Rattle.paired.proofs.TrackingLemmas.{put_cause, put_here, put_marked, put_others, put_stands, put_staged, put_storable, put_value, on_ok}
+use Rattle.paired.specs.sighted.Shown.{marker_format}
+use Rattle.paired.proofs.tracking.Lemmas.{put_cause, put_here, put_marked, put_others, put_stands, put_staged, put_storable, put_value, on_ok}
 use Rattle.paired.proofs.oversized.tracking.put_marker.Goals as goal
 
 pub returns-clause-here : goal.returns-clause-here

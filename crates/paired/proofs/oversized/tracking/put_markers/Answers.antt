@@ -3,7 +3,7 @@ use Rattle.std.specs.Map.Iter.{deref_pair}
 use Rattle.std.proofs.lemmas.Map.Iter.{rest_more}
 use Rattle.value_codec.specs.declared.key.Key8.{Key8}
 use Rattle.meta_store.specs.Store.{Store, shown}
-use Rattle.paired.proofs.TrackingLemmas.{Staging, staging_starts, staging_goes_on}
+use Rattle.paired.proofs.tracking.Lemmas.{Staging, staging_starts, staging_goes_on}
 use Rattle.paired.proofs.oversized.tracking.put_markers.Goals as goal
 
 pub loop-section-preserved : goal.loop-section-preserved

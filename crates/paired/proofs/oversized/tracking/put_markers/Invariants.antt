@@ -1,8 +1,8 @@
-use Rattle.std.proofs.Common.{◌≡◌, false, List}
+use Rattle.std.proofs.Common.{◌≡◌, false}
 use Rattle.blob_device.specs.Disk.{Disk}
 use Rattle.meta_store.specs.Store.{shown, Stands, MayBeSynced}
-use Rattle.paired.specs.TrackedShown.{marker_format}
-use Rattle.paired.proofs.TrackingLemmas.{Staging}
+use Rattle.paired.specs.sighted.Shown.{marker_format}
+use Rattle.paired.proofs.tracking.Lemmas.{Staging}
 use Rattle.paired.proofs.oversized.tracking.put_markers.Given as goal
 use Rattle.meta_store.specs.declared.copy.Contents.{Contents}
 

@@ -1,8 +1,8 @@
 use Rattle.std.proofs.Common.{◌≡◌, true, false, inl, refl, ap}
 use Rattle.segments.specs.FixedLists as lists
 use Rattle.segments.specs.FixedShown as fixed
-use Rattle.segments.specs.Managed as managed
-use Rattle.paired.specs.GlobSections as glob
+use Rattle.segments.specs.managing.Managed as managed
+use Rattle.paired.specs.glob.Sections as glob
 use Rattle.paired.specs.Records.{entries_of}
 use Rattle.paired.specs.ReplayShown.{run_of}
 use Rattle.paired.specs.Replaying.{IsLiveRun, HasLostNone}

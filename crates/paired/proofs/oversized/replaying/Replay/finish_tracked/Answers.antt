@@ -9,7 +9,7 @@ use Rattle.blob_device.proofs.Results.{err_of}
 use Rattle.sealed_pages.specs.Reading.{Unchanged}
 use Rattle.segments.specs.FixedReplay.{IsDrained}
 use Rattle.segments.specs.FixedShown as fixed
-use Rattle.segments.specs.Managed as manager
+use Rattle.segments.specs.managing.Managed as manager
 use Rattle.segments.specs.declared.journal.Error.TheVariants.{Codec, Corruption, ReplayFailed}
 use Rattle.segments.specs.Sections.{section_key, IsHeld}
 use Rattle.segments.proofs.FixedWriteLemmas.{are_pages}
@@ -19,19 +19,19 @@ use Rattle.paired.specs.OpeningRefusing.{IsSomeRefused}
 use Rattle.paired.specs.PairShown.{shown}
 use Rattle.paired.specs.ReplayShown.{run_of}
 use Rattle.paired.specs.Replaying.{pair_of}
-use Rattle.paired.specs.TrackedShown as tracked
-use Rattle.paired.proofs.PairFailing.{no_error, not_both}
-use Rattle.paired.proofs.ReconcileStart.{opening, back_journal, back_proven, ends_of}
-use Rattle.paired.proofs.PairMarked.{if_ok}
-use Rattle.paired.proofs.PairSynced.{made, page_setting}
+use Rattle.paired.specs.sighted.Shown as tracked
+use Rattle.paired.proofs.pair.Failing.{no_error, not_both}
+use Rattle.paired.proofs.reconcile.Start.{opening, back_journal, back_proven, ends_of}
+use Rattle.paired.proofs.pair.Marked.{if_ok}
+use Rattle.paired.proofs.pair.Synced.{made, page_setting}
 use Rattle.paired.specs.Pair.{IsMoving}
-use Rattle.paired.proofs.ReconcileLeft.{Stage, Left, left_of, left_before, no_stage}
-use Rattle.paired.proofs.ReconcileStages.{records_stage, values_stage, removing_stage}
-use Rattle.paired.proofs.ReconcileJoints.{cut_joint, cut_values_same, trim_joint, removed_joint}
-use Rattle.paired.proofs.ReconcilePair.{pair_with, reconciled_of}
-use Rattle.paired.proofs.ReconcileResult.{pair_is, moves_given, given_moves, stage_as, newer_as, kept_result, counts_result, settled_result, index_result}
-use Rattle.paired.proofs.ReconcileErrors.{if_err, no_ok, handed_back, handed_on, on_error, failed_on, memory_on, damaged_on, read_on, replay_or_not, failed_replay, failed_full, failed_codec, failed_corrupt, failed_damage, failed_cause, failed_complete, damaged_replay, damaged_full, damaged_codec, damaged_corrupt, damaged_cause, damaged_complete, read_replay, read_full, read_cause, read_complete, marks_complete, marks_cause, marked_no_replay, marked_no_codec, marked_no_corrupt, marked_no_damage, last_within, none_refused}
-use Rattle.paired.proofs.ReconcileEntries.{run_here, markers_readable, drained_of, drained_from, as_back, as_cut, as_trim, as_removed, cut_entry, trim_entry, removed_entry, cut_reads, trim_reads, leaves_reads, doomed_of, notes_of, noted_same}
+use Rattle.paired.proofs.reconcile.Left.{Stage, Left, left_of, left_before, no_stage}
+use Rattle.paired.proofs.reconcile.Stages.{records_stage, values_stage, removing_stage}
+use Rattle.paired.proofs.reconcile.Joints.{cut_joint, cut_values_same, trim_joint, removed_joint}
+use Rattle.paired.proofs.reconcile.Pair.{pair_with, reconciled_of}
+use Rattle.paired.proofs.reconcile.Result.{pair_is, moves_given, given_moves, stage_as, newer_as, kept_result, counts_result, settled_result, index_result}
+use Rattle.paired.proofs.reconcile.Errors.{if_err, no_ok, handed_back, handed_on, on_error, failed_on, memory_on, damaged_on, read_on, replay_or_not, failed_replay, failed_full, failed_codec, failed_corrupt, failed_damage, failed_cause, failed_complete, damaged_replay, damaged_full, damaged_codec, damaged_corrupt, damaged_cause, damaged_complete, read_replay, read_full, read_cause, read_complete, marks_complete, marks_cause, marked_no_replay, marked_no_codec, marked_no_corrupt, marked_no_damage, last_within, none_refused}
+use Rattle.paired.proofs.reconcile.Entries.{run_here, markers_readable, drained_of, drained_from, as_back, as_cut, as_trim, as_removed, cut_entry, trim_entry, removed_entry, cut_reads, trim_reads, leaves_reads, doomed_of, notes_of, noted_same}
 use Rattle.paired.proofs.oversized.replaying.Replay.finish_tracked.Goals as goal
 use Rattle.paired.proofs.oversized.replaying.Replay.finish_tracked.Goals.{then-not-self-via-then-not-self, then-not-self-via-else-not-self+then-self}
 
@@ -748,7 +748,7 @@ returns g c =
     record {
       over = says.over;
       kept = λ t. kept_result a e k n o3 f did after.trailing notes q same active none t j0 back readable h r (λ v. shown g.I.Record.place v) (λ v. refl) (always_now f h (λ x. (y : _) → (IsCopy q.layout y → ⊥) → x y ≡ disk f y) (says.alone t)) says.index says.values (says.lists t) (says.sound t);
-      counts = counts_result a e k n o3 f did after.trailing notes q same active none r (λ v. shown g.I.Record.place v) (λ v. refl) says.index says.values says.layout says.synced says.markers says.marked (λ never. (says.still never).1);
+      counts = counts_result a e k n o3 f did after.trailing notes q same active none r (λ v. shown g.I.Record.place v) (λ v. refl) says.index says.values says.layout says.synced says.markers says.marked (λ never. (says.still never).1) says.marker_floor;
       settled = settled_result a e k n o3 f did after.trailing notes q same active none r (λ v. shown g.I.Record.place v) says.values;
       index_settled = index_result a e k n o3 f did after.trailing notes q same active none r (λ v. shown g.I.Record.place v) says.index;
       codec_config = if_ok r _ _ (λ v same_config. same_config ∙ gone.codec_config ∙ trims.codec_config) says.codec_config;

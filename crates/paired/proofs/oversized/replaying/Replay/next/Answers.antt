@@ -10,14 +10,14 @@ use Rattle.segments.specs.Sections.{key_of}
 use Rattle.segments.proofs.FixedWriteLemmas.{are_pages}
 use Rattle.paired.specs.Replaying.{Run}
 use Rattle.paired.specs.ReplayShown.{run_of}
-use Rattle.paired.proofs.NextAnswers.{Clauses}
-use Rattle.paired.proofs.NextClauses.{no_clauses, some_clauses, err_clauses}
-use Rattle.paired.proofs.NextGlue.{here_run, run_moved, run_then, loop_then, values_unfloored, parts_start, glob_as, config_as, ends_as, section_as, sorts_as, open_there}
-use Rattle.paired.proofs.NextGoing.{running_start, running_on, all_went, next_glob}
-use Rattle.paired.proofs.NextRunning.{moved}
-use Rattle.paired.proofs.NextSays.{Says, gave_going, ended_on}
-use Rattle.paired.proofs.NextTurn.{Sorted}
-use Rattle.paired.proofs.PairSynced.{page_setting}
+use Rattle.paired.proofs.next.Answers.{Clauses}
+use Rattle.paired.proofs.next.Clauses.{no_clauses, some_clauses, err_clauses}
+use Rattle.paired.proofs.next.Glue.{here_run, run_moved, run_then, loop_then, values_unfloored, parts_start, glob_as, config_as, ends_as, section_as, sorts_as, open_there}
+use Rattle.paired.proofs.next.Going.{running_start, running_on, all_went, next_glob}
+use Rattle.paired.proofs.next.Running.{moved}
+use Rattle.paired.proofs.next.Says.{Says, gave_going, ended_on}
+use Rattle.paired.proofs.next.Turn.{Sorted}
+use Rattle.paired.proofs.pair.Synced.{page_setting}
 use Rattle.paired.proofs.oversized.replaying.Replay.next.Given as given
 use Rattle.paired.proofs.oversized.replaying.Replay.next.Goals as goal
 

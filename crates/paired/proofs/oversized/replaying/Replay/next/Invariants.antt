@@ -5,9 +5,9 @@ use Rattle.segments.specs.contracts.sealed.PageBlobSectionBuffer.TheImpl as page
 use Rattle.segments.specs.FixedStepping.{way_of}
 use Rattle.segments.specs.FixedWalking.{walk_of}
 use Rattle.paired.specs.ReplayShown.{run_of}
-use Rattle.paired.proofs.NextGlue.{SameParts}
-use Rattle.paired.proofs.NextGoing.{Running}
-use Rattle.paired.proofs.PairSynced.{page_setting}
+use Rattle.paired.proofs.next.Glue.{SameParts}
+use Rattle.paired.proofs.next.Going.{Running}
+use Rattle.paired.proofs.pair.Synced.{page_setting}
 use Rattle.paired.proofs.oversized.replaying.Replay.next.Given as goal
 
 abbrev pub invariant-records : goal.invariant-records

@@ -5,8 +5,8 @@ use Rattle.std.specs.BTreeMap.{get}
 use Rattle.std.specs.Ordering.{nat_cmp}
 use Rattle.std.proofs.lemmas.Map.Made.{filter_same_pairs}
 use Rattle.meta_store.specs.Store as store
-use Rattle.paired.specs.TrackedShown.{shown}
-use Rattle.paired.proofs.TrackingLemmas.{marker_stays, marker_leaves, marked_left, all_left, store_same, store_left, trailing_stays, trailing_leaves, dropped_trails}
+use Rattle.paired.specs.sighted.Shown.{shown}
+use Rattle.paired.proofs.tracking.Lemmas.{marker_stays, marker_leaves, marked_left, all_left, store_same, store_left, trailing_stays, trailing_leaves, dropped_trails}
 use Rattle.paired.proofs.oversized.tracking.Tracking.drop_below.Goals as goal
 
 pub returns-clause-trails : goal.returns-clause-trails

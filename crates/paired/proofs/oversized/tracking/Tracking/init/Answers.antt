@@ -1,12 +1,10 @@
-use Rattle.std.proofs.Common.{◌≡◌, List, ℕ, Ok, Err, sym, subst}
-use Rattle.std.specs.Prelude.{string_bytes}
+use Rattle.std.proofs.Common.{List, ℕ, Ok, Err, sym, subst}
 use Rattle.blob_device.specs.Timeline.{Always, disk}
 use Rattle.blob_device.proofs.Results.{err_of}
-use Rattle.meta_store.specs.Calls.{IsOpened, OthersOpened}
-use Rattle.meta_store.specs.Opening.{NotOpened, Opened, Opening, PairOn}
+use Rattle.meta_store.specs.Opening.{NotOpened, Opening, PairOn}
 use Rattle.meta_store.specs.Store.{chosen_by, contents_of, seen}
-use Rattle.paired.specs.TrackedShown.{marker_format}
-use Rattle.paired.proofs.TrackingOpened.{cause_of, corrupt_of, map_of, refused_of}
+use Rattle.paired.specs.sighted.Shown.{marker_format}
+use Rattle.paired.proofs.tracking.Opened.{cause_of, corrupt_of, map_of, refused_of}
 use Rattle.paired.proofs.oversized.tracking.Tracking.init.Goals as goal
 
 pub returns-in_err-metadata-clause-corrupt : goal.returns-in_err-metadata-clause-corrupt

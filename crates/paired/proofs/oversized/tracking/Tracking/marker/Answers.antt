@@ -1,6 +1,6 @@
 use Rattle.std.proofs.Common.{◌∙◌, sym, ap}
 use Rattle.std.specs.Prelude.{unwrap_or}
-use Rattle.paired.proofs.TrackingLemmas.{marker_at}
+use Rattle.paired.proofs.tracking.Lemmas.{marker_at}
 use Rattle.paired.proofs.oversized.tracking.Tracking.marker.Goals as goal
 
 pub returns : goal.returns

@@ -5,8 +5,8 @@ use Rattle.std.specs.Map.{lookup}
 use Rattle.std.specs.Ordering.{nat_cmp}
 use Rattle.std.proofs.lemmas.Map.Iter.{rest_more, rest_all}
 use Rattle.value_codec.specs.declared.key.Key8.{Key8}
-use Rattle.paired.specs.TrackedShown.{shown}
-use Rattle.paired.proofs.TrackingLemmas.{Gathered, gathered_none, gathered_more, gathered_all}
+use Rattle.paired.specs.sighted.Shown.{shown}
+use Rattle.paired.proofs.tracking.Lemmas.{Gathered, gathered_none, gathered_more, gathered_all}
 use Rattle.paired.proofs.oversized.tracking.Tracking.markers.Goals as goal
 
 pub loop-key-init : goal.loop-key-init

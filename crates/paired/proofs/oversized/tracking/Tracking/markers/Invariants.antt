@@ -1,7 +1,7 @@
 use Rattle.std.specs.BTreeMap.{get}
 use Rattle.std.specs.Ordering.{nat_cmp}
-use Rattle.paired.specs.TrackedShown.{shown}
-use Rattle.paired.proofs.TrackingLemmas.{Gathered}
+use Rattle.paired.specs.sighted.Shown.{shown}
+use Rattle.paired.proofs.tracking.Lemmas.{Gathered}
 use Rattle.paired.proofs.oversized.tracking.Tracking.markers.Given as goal
 
 abbrev pub invariant-loop-key : goal.invariant-loop-key

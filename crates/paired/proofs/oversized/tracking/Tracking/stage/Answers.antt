@@ -5,8 +5,8 @@ use Rattle.std.specs.BTreeMap.{get}
 use Rattle.std.specs.Ordering.{nat_cmp}
 use Rattle.std.proofs.lemmas.Map.Made.{filter_same_pairs}
 use Rattle.meta_store.specs.Store as store
-use Rattle.paired.specs.TrackedShown.{shown}
-use Rattle.paired.proofs.TrackingLemmas.{stays, leaves, staged_trails, staged_synced}
+use Rattle.paired.specs.sighted.Shown.{shown}
+use Rattle.paired.proofs.tracking.Lemmas.{stays, leaves, staged_trails, staged_synced}
 use Rattle.paired.proofs.oversized.tracking.Tracking.stage.Goals as goal
 
 pub returns-clause-trails : goal.returns-clause-trails

@@ -2,19 +2,18 @@ use Rattle.std.proofs.Common.{ℕ, ◌∙◌, ap}
 use Rattle.value_codec.specs.declared.key.Key8.{Key8}
 use Rattle.blob_device.proofs.Results.{err_of}
 use Rattle.meta_store.specs.Store.{Store, contents_of, seen, shown}
-use Rattle.paired.specs.TrackedShown.{marker_format}
-use Rattle.paired.proofs.MarkerCopies.{copies_map}
-use Rattle.paired.proofs.TrackingLemmas.{synced_contents, synced_entries}
-use Rattle.paired.proofs.TrackingSynced.{failed_cause, failed_full, failed_untouched, synced_full}
+use Rattle.paired.specs.sighted.Shown.{marker_format}
+use Rattle.paired.proofs.tracking.Lemmas.{synced_contents, synced_entries}
+use Rattle.paired.proofs.tracking.Synced.{failed_cause, failed_full, failed_untouched, synced_full}
 use Rattle.paired.proofs.oversized.tracking.Tracking.sync.Goals as goal
 
 pub returns-in_err-metadata-clause-crashes : goal.returns-in_err-metadata-clause-crashes
 returns-in_err-metadata-clause-crashes g c t synced stands =
-    copies_map (marker_format g.S.Seal) (shown c.args.self.metadata).partition synced (contents_of (shown c.args.self.metadata)) (g.D.Device.time c.args.dev.now) (g.D.Device.time c.sync.new.dev) ((c.sync.ensures.moments t).crashes synced stands)
+    (c.sync.ensures.moments t).crashes synced stands
 
 pub returns-clause-crashes : goal.returns-clause-crashes
 returns-clause-crashes g c t synced stands =
-    copies_map (marker_format g.S.Seal) (shown c.args.self.metadata).partition synced (contents_of (shown c.args.self.metadata)) (g.D.Device.time c.args.dev.now) (g.D.Device.time c.sync.new.dev) ((c.sync.ensures.moments t).crashes synced stands)
+    (c.sync.ensures.moments t).crashes synced stands
 
 pub returns-clause-markers : goal.returns-clause-markers
 returns-clause-markers g c = ap (λ (u : Store Key8 ℕ). u.entries) c.in_ok-metadata.ensures.ends.same ∙ synced_entries (shown c.args.self.metadata)

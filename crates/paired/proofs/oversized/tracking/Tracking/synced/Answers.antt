@@ -4,7 +4,7 @@ use Rattle.std.specs.BTreeMap.{get}
 use Rattle.std.specs.Ordering.{nat_cmp}
 use Rattle.std.proofs.lemmas.Bool.{cases_eq}
 use Rattle.paired.specs.Kept.{marker_of}
-use Rattle.paired.proofs.TrackingLemmas.{marker_at, apart}
+use Rattle.paired.proofs.tracking.Lemmas.{marker_at, apart}
 use Rattle.paired.proofs.oversized.tracking.Tracking.synced.Goals as goal
 
 pub returns-then-unwrap_or-len-clause-here : goal.returns-then-unwrap_or-len-clause-here

@@ -1,0 +1,11 @@
+pub mod Went
+pub mod Says
+pub mod Running
+pub mod Images
+pub mod Lists
+pub mod Turn
+pub mod Going
+pub mod Complete
+pub mod Glue
+pub mod Answers
+pub mod Clauses

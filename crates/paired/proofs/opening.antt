@@ -1,0 +1,10 @@
+pub mod Lemmas
+pub mod Laws
+pub mod Ends
+pub mod Phases
+pub mod Start
+pub mod StartRefusals
+pub mod StartRun
+pub mod StartMoments
+pub mod StartCauses
+pub mod StartFound

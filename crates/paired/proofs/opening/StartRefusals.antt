@@ -1,0 +1,182 @@
+-- Why an opening refuses, against a lawful image: the last record below a marker, and no marker of a lawful image is refused.
+use Rattle.std.specs.Prelude.{◌≡◌, ◌⊎◌, ℕ, zero, suc, ◌+◌, ◌-◌, ◌*◌, ◌/◌, ◌%◌, ◌^◌, ◌<◌, ◌≤◌, cond, Bool, true, false, List, [], ◌∷◌, length, take, get_or, IsTrue, IsSome, IfSome, Option, None, Some, unwrap_or}
+use Rattle.std.proofs.Common.{inl, inr, refl, sym, ◌∙◌, ap, subst, arith, length-take-le}
+use Rattle.std.specs.Int.{w64, to_be_bytes}
+use Rattle.std.specs.List.{AllByRecursion}
+use Rattle.std.proofs.lemmas.List.{take_all, get_or-take}
+use Rattle.std.proofs.lemmas.Nat.{le-div, mul-le}
+use Rattle.std.proofs.Math.Nat.{div-mul-le_self}
+use Rattle.blob_device.specs.Disk.{Key, Blob, Disk, reads}
+use Rattle.blob_device.specs.Opened.{Opened, OpenedList}
+use Rattle.sealed_pages.specs.SealedPrefix.{sealed_prefix, adopted_size, data_from, pages_in}
+use Rattle.sealed_pages.specs.Slots.{best_slot}
+use Rattle.sealed_pages.specs.View.{view}
+use Rattle.sealed_pages.proofs.Adopt.{best_length, length-data_from}
+use Rattle.sealed_pages.proofs.Reaching.{prefix_size, size_at_most}
+use Rattle.sealed_pages.proofs.SlotLemmas.{slot_length-le, slot_stands, times_next, times_page}
+use Rattle.value_codec.specs.declared.codec.Error as codec
+use Rattle.segments.specs.declared.journal.Damage.{Damage}
+use Rattle.segments.specs.FixedFloors.{IsRefused}
+use Rattle.segments.specs.FixedItems.{item_count, item_at}
+use Rattle.segments.specs.Refusing.{IsOpenedTooLong}
+use Rattle.segments.specs.Sections.{section_key}
+use Rattle.segments.proofs.FixedKept.{item_kept, prefix_data}
+use Rattle.segments.proofs.WalkLemmas.{value_of}
+use Rattle.paired.specs.Kept.{Layout, Markers, IsMarked, content_at, stored_records, is_sound_in}
+use Rattle.paired.specs.Opening.{as_read, IsLawful, OnlyOpens}
+use Rattle.paired.specs.OpeningRefusing.{AreCounted, AreSpellings, IsCutOff, IsLost, IsOutside, IsUnreadable, last_of}
+use Rattle.paired.specs.Pair.{AreApart}
+use Rattle.paired.specs.Places.{end_of}
+use Rattle.paired.specs.Records.{each_below, records}
+use Rattle.paired.proofs.BoundaryLemmas.{content_there}
+use Rattle.paired.proofs.KeptLemmas.{EndsBy, follow_ends, sound_parts}
+use Rattle.paired.proofs.opening.Start.{index_reads}
+use Rattle.paired.proofs.RecordLemmas.{length-records}
+
+-- ---- the last record
+each_at : {X : Type 0} (x : X) (n : ℕ) (f : ℕ → X) (i : ℕ) → i < n → get_or (each_below n f) i x ≡ f i
+each_at x zero f i lt = absurd (omega (arith, lt))
+each_at x (suc n) f zero lt = refl
+each_at x (suc n) f (suc i) lt = each_at x n (λ j. f (j + 1)) i (omega (arith, lt)) ∙ (let e : i + 1 ≡ suc i = omega arith in ap f e)
+
+pub all_at : {X : Type 0} (P : X → Type 0) (x : X) (xs : List X) → AllByRecursion P xs → (i : ℕ) → i < length xs → P (get_or xs i x)
+all_at P x [] all i lt = absurd (omega (arith, lt))
+all_at P x (y ∷ xs) all zero lt = all.0
+all_at P x (y ∷ xs) all (suc i) lt = all_at P x xs all.1 i (omega (arith, lt))
+
+-- so many records end by the length of the bytes
+pub records_end : (size n : ℕ) (bytes : List ℕ) → n ≤ length (records size bytes) → n * size ≤ length bytes
+records_end size n bytes le =
+    let few : n ≤ length bytes / size = omega (arith, le, length-records size bytes) in
+    omega (arith, mul-le n size (length bytes / size) size few (omega arith), div-mul-le_self (length bytes) size)
+
+-- the last of n records, of bytes that stand in a blob from its start on, is what stands at its place
+pub last_is_record : (seal : List ℕ → ℕ) (P : ℕ) (content bytes : List ℕ) (size n : ℕ) → 1 ≤ P → 1 ≤ size → bytes ≡ data_from P (view content) 0 (length bytes) → 0 < n → n * size ≤ length bytes
+    → get_or (records size bytes) (n - 1) [] ≡ data_from P (view content) ((n - 1) * size) size
+last_is_record seal P content bytes size n pos some stands more fits =
+    let at : ℕ = (n - 1) * size in
+    let item : List ℕ = data_from P (view content) at size in
+    let long : length item ≡ size = length-data_from P (view content) size at in
+    let next : n ≡ (n - 1) + 1 = omega (arith, more) in
+    let ends : at + size ≡ n * size = sym (times_next (n - 1) size) ∙ sym (ap (λ (k : ℕ). k * size) next) in
+    let here : n - 1 < length bytes / size = omega (arith, more, le-div n (length bytes) size (omega (arith, some)) fits) in
+    each_at [] (item_count size bytes) (item_at size bytes) (n - 1) here
+    ∙ sym (item_kept seal P content pos bytes stands size (n - 1) at item (ap (data_from P (view content) at) (sym long)) refl (omega (arith, long)) (omega (arith, long, ends, fits)))
+    ∙ take_all size item (omega (arith, long))
+
+-- ---- lengths
+pub adopted_within : (seal : List ℕ → ℕ) (P : ℕ) (c : List ℕ) → adopted_size seal P c ≤ length c
+adopted_within seal P c = size_at_most seal P (length c) c (pages_in P c) (λ k some.
+    let is = best_length seal P c k in
+    let b : Bool = best_slot seal P c k in
+    omega (arith, is, slot_length-le seal P c k b, slot_stands seal P c k b (omega (arith, is, some)), times_page P k))
+
+pub sealed_within : (seal : List ℕ → ℕ) (P : ℕ) (c : List ℕ) → length (sealed_prefix seal P c) ≤ length c
+sealed_within seal P c = omega (arith, prefix_size seal P c, adopted_within seal P c)
+
+-- a blob that reads as something is there
+reads_there : (b : Blob) → IsSome (reads b) → b.there ≡ true
+reads_there b has = go b.there refl
+  where
+    go : (t : Bool) → b.there ≡ t → b.there ≡ true
+    go true is = is
+    go false is = absurd (cc (subst (λ (x : Bool). IsSome (cond x (Some b.content) None)) is has))
+
+-- ---- a lawful image
+module _ (l : Layout) (paged : 1 ≤ l.page_size) (sized : 1 ≤ l.record_size) (d : Disk) (markers : Markers) (lawful : IsLawful l (as_read d) markers) where
+  -- a marked section's blob is there, with so many records, all sealed
+  record HasMarked (s m : ℕ) : Type 0 where
+    pub there : (d (section_key l.index s)).there ≡ true
+    pub content : content_at (as_read d) l.index s ≡ (d (section_key l.index s)).content
+    pub fits : m * l.record_size ≤ length (sealed_prefix l.seal l.page_size (d (section_key l.index s)).content)
+    pub last : 0 < m → get_or (stored_records l (as_read d) s) (m - 1) [] ≡ last_of l d s m
+    pub few : m ≤ length (stored_records l (as_read d) s)
+
+  has_marked : (s m : ℕ) → IsMarked markers.entries s m → HasMarked s m
+  has_marked s m marked =
+      let key = section_key l.index s in
+      let is = lawful.true_markers s m marked in
+      let there : (d key).there ≡ true = reads_there (d key) is.index_blob in
+      let content : content_at (as_read d) l.index s ≡ (d key).content = content_there d l.index s there in
+      let sealed : List ℕ = sealed_prefix l.seal l.page_size (content_at (as_read d) l.index s) in
+      let long : m * l.record_size ≤ length sealed = records_end l.record_size m sealed is.enough in
+      record {
+        there = there;
+        content = content;
+        fits = subst (λ (c : List ℕ). m * l.record_size ≤ length (sealed_prefix l.seal l.page_size c)) content long;
+        last = λ some. last_is_record l.seal l.page_size (content_at (as_read d) l.index s) sealed l.record_size m paged sized (prefix_data l.seal l.page_size (content_at (as_read d) l.index s) paged) some long
+            ∙ ap (λ (c : List ℕ). data_from l.page_size (view c) ((m - 1) * l.record_size) l.record_size) content;
+        few = is.enough;
+      }
+
+  -- the value of the last record below a marker stands within the values, and a u64 counts its end
+  inside : (s m : ℕ) → IsMarked markers.entries s m → 0 < m → ((l.place (last_of l d s m)).0 + (l.place (last_of l d s m)).1 ≤ length (content_at (as_read d) l.values s)) × ((l.place (last_of l d s m)).0 + (l.place (last_of l d s m)).1 < 2 ^ 64)
+  inside s m marked some =
+      let has = has_marked s m marked in
+      let is = lawful.true_markers s m marked in
+      let rs : List (List ℕ) = stored_records l (as_read d) s in
+      let in_place = lawful.places s marked.0 in
+      let first : get_or (take m rs) (m - 1) [] ≡ last_of l d s m = get_or-take m rs (m - 1) [] (omega (arith, some)) ∙ has.last some in
+      let long : m - 1 < length (take m rs) = omega (arith, some, length-take-le m rs has.few) in
+      let sound : IsTrue (is_sound_in l (as_read d) s (last_of l d s m)) = subst (λ (r : List ℕ). IsTrue (is_sound_in l (as_read d) s r)) first (all_at (λ r. IsTrue (is_sound_in l (as_read d) s r)) [] (take m rs) is.sound (m - 1) long) in
+      let parts = sound_parts l.seal (content_at (as_read d) l.values s) (l.place (last_of l d s m)).0 (l.place (last_of l d s m)).1 sound in
+      let ends : AllByRecursion (EndsBy l.place in_place.end) (take m rs) = follow_ends l.place m 0 rs in_place.end (end_of l.place 0 (take m rs)) in_place.end in_place.follow (omega arith) (omega arith) in
+      let end : EndsBy l.place in_place.end (last_of l d s m) = subst (EndsBy l.place in_place.end) first (all_at (EndsBy l.place in_place.end) [] (take m rs) ends (m - 1) long) in
+      (parts.1, omega (arith, end, in_place.fits))
+
+  pub no_loss : AreCounted l (as_read d) → (x : Damage) → IsLost l (IsMarked markers.entries) d x → ⊥
+  no_loss counted x lost = go lost.why
+    where
+      has : HasMarked x.section lost.items
+      has = has_marked x.section lost.items lost.marked
+
+      refused : IsRefused l.seal l.page_size l.record_size (d (section_key l.index x.section)) lost.items x → ⊥
+      refused (inl many) = omega (arith, many.many, has.fits, sealed_within l.seal l.page_size (d (section_key l.index x.section)).content, ap length has.content, counted x.section lost.marked.0)
+      refused (inr (inl missing)) = cc (missing.absent, has.there)
+      refused (inr (inr unsealed)) = omega (arith, unsealed.less, unsealed.kept, unsealed.wanted, has.fits)
+
+      outside : (at n len : ℕ) → (at + n ≤ len) → (at + n < 2 ^ 64) → IsOutside (at, n) len x → ⊥
+      outside at n len fits small (inl large) = omega (arith, large.0, small)
+      outside at n len fits small (inr past) = omega (arith, past.1, fits)
+
+      go : IsRefused l.seal l.page_size l.record_size (d (section_key l.index x.section)) lost.items x ⊎ IsCutOff l d x.section lost.items x → ⊥
+      go (inl is) = refused is
+      go (inr cut) =
+          let both = inside x.section lost.items lost.marked cut.some in
+          outside (l.place (last_of l d x.section lost.items)).0 (l.place (last_of l d x.section lost.items)).1 (length (content_at (as_read d) l.values x.section)) both.0 both.1 cut.outside
+
+  pub no_unreadable : (refusal : List ℕ → Unit {0} → Option codec.Error) → AreSpellings l refusal (as_read d) → (e : codec.Error) → IsUnreadable l (IsMarked markers.entries) refusal d e → ⊥
+  no_unreadable refusal spelled e is =
+      let has = has_marked is.section is.items is.marked in
+      let rs : List (List ℕ) = stored_records l (as_read d) is.section in
+      let long : is.items - 1 < length rs = omega (arith, is.some, has.few) in
+      let none : refusal (last_of l d is.section is.items) tt ≡ None = subst (λ (r : List ℕ). refusal r tt ≡ None) (has.last is.some) (all_at (λ r. refusal r tt ≡ None) [] rs (spelled is.section is.marked.0) (is.items - 1) long) in
+      cc (none, is.refused)
+
+-- ---- a blob that leaves no room
+-- the name of a section has the number below 2^64
+same_name : (s : ℕ) → to_be_bytes w64 (s % 2 ^ 64) ≡ to_be_bytes w64 s
+same_name s =
+    let r : ℕ = s % 2 ^ 64 in
+    let e0 : r % 256 ≡ s % 256 = omega arith in
+    let e1 : r / 256 ^ 1 % 256 ≡ s / 256 ^ 1 % 256 = omega arith in
+    let e2 : r / 256 ^ 2 % 256 ≡ s / 256 ^ 2 % 256 = omega arith in
+    let e3 : r / 256 ^ 3 % 256 ≡ s / 256 ^ 3 % 256 = omega arith in
+    let e4 : r / 256 ^ 4 % 256 ≡ s / 256 ^ 4 % 256 = omega arith in
+    let e5 : r / 256 ^ 5 % 256 ≡ s / 256 ^ 5 % 256 = omega arith in
+    let e6 : r / 256 ^ 6 % 256 ≡ s / 256 ^ 6 % 256 = omega arith in
+    let e7 : r / 256 ^ 7 % 256 ≡ s / 256 ^ 7 % 256 = omega arith in
+    λ i. e7 i ∷ e6 i ∷ e5 i ∷ e4 i ∷ e3 i ∷ e2 i ∷ e1 i ∷ e0 i ∷ []
+
+pub no_overflow : (l : Layout) → AreApart l → (from d : Disk) → OnlyOpens l from d → AreCounted l (as_read from) → (opened : OpenedList)
+    → ((k : Key) → IfSome (opened k) (λ o. IsTrue (d k).there × (length (d k).content ≡ o.len))) → (s : ℕ) → IsOpenedTooLong (λ n. 2 ^ 64 ≤ n + (l.page_size + 12)) opened (section_key l.index s) → ⊥
+no_overflow l apart from d opens counted opened stands s long =
+    let name : List ℕ = to_be_bytes w64 s in
+    let key = section_key l.index s in
+    let w = value_of (opened key) (λ o. 2 ^ 64 ≤ o.len + (l.page_size + 12)) long in
+    let stand = subst (λ (o : Option Opened). IfSome o (λ x. IsTrue (d key).there × (length (d key).content ≡ x.len))) w.is (stands key) in
+    let size : length (unwrap_or (reads (from (l.index, name))) []) ≡ w.value.len =
+    ap (λ (o : Option (List ℕ)). length (unwrap_or o [])) (sym (index_reads l apart from d opens name)) ∙ ap (λ (t : Bool). length (unwrap_or (cond t (Some (d key).content) None) [])) stand.0 ∙ stand.1 in
+    let few : length (unwrap_or (reads (from (l.index, name))) []) + (l.page_size + 12) < 2 ^ 64 =
+    subst (λ (n : List ℕ). length (unwrap_or (reads (from (l.index, n))) []) + (l.page_size + 12) < 2 ^ 64) (same_name s) (counted (s % 2 ^ 64) (omega arith)) in
+    omega (arith, size, few, w.has)

@@ -1,0 +1,12 @@
+pub mod Resting
+pub mod Start
+pub mod Phases
+pub mod Left
+pub mod Stages
+pub mod Joints
+pub mod Pair
+pub mod Kept
+pub mod Marks
+pub mod Errors
+pub mod Entries
+pub mod Result

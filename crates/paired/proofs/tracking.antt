@@ -1,0 +1,3 @@
+pub mod Synced
+pub mod Opened
+pub mod Lemmas

@@ -1,0 +1,3 @@
+pub mod Sections
+pub mod Lasting
+pub mod Reading
