@@ -7,7 +7,7 @@ use Rattle.blob_device.specs.Disk.{Disk, Image, IsCrashOf, Key, MayLeave}
 use Rattle.sealed_pages.specs.declared.page_blob.PageBlob.{PageBlob}
 use Rattle.paired.specs.Crashes.{IsOneOf, IsOwn}
 use Rattle.paired.specs.Crashes as pair
-use Rattle.paired.specs.GlobSections as glob
+use Rattle.paired.specs.glob.Sections as glob
 use Rattle.paired.specs.Kept.{Layout}
 use Rattle.paired.specs.Opening.{AreNamed}
 use Rattle.paired.specs.Pair.{AreApart, list_of, records_of, synced_length}
@@ -16,7 +16,7 @@ use Rattle.segments.specs.declared.buffer.SectionBuffer as buffer
 use Rattle.segments.specs.declared.unsealed.WriteFactory.{WriteFactory}
 use Rattle.segments.specs.Setting.{Setting}
 use Rattle.segments.specs.Sections.{section_key}
-use Rattle.segments.proofs.KeyLemmas.{key_injective}
+use Rattle.segments.proofs.sections.KeyLemmas.{key_injective}
 use Rattle.paired.proofs.GlobLemmas.{buffers}
 use Rattle.paired.proofs.OpenParts.{keys_apart}
 use Rattle.paired.specs.Records as stored
@@ -81,7 +81,7 @@ module _ {F S : Type 0} {gs : _} (a : Archive F (PageBlob S gs)) (d : Disk) wher
     decoded = λ s small. sound.decoded s;
     end = λ s. glob.section_size a.pair.values s;
     fits = λ s small. sound.counted s;
-    follow = λ s small. subst (λ rs. Follow a.pair.layout.place 0 rs (glob.section_size a.pair.values s)) (sym (list_records s)) (sound.pair.places s);
+    follow = λ s small. subst (λ rs. Follow a.pair.layout.place 0 rs (glob.section_size a.pair.values s)) (sym (list_records s)) (sound.pair.sound.places s);
     few_sections = λ ss sorted all. archive.within.few_sections ss sorted (all_by (λ s. (s < 2 ^ 64) × (list_of a.pair d s ≢ [])) (λ s. a.rows s ≢ []) (λ s has none. has.1 (no_list (archive.listed t) s none)) ss all);
     few_records = λ s small. omega (arith, length_rows (archive.listed t) s, archive.within.few_records s);
   }

@@ -20,12 +20,12 @@ use Rattle.sealed_pages.proofs.SlotLemmas.{slot_stands}
 use Rattle.segments.specs.Refusing.{HasFailed}
 use Rattle.segments.specs.Sections.{IsHeld, section_key}
 use Rattle.segments.specs.declared.journal.Error as journal
-use Rattle.segments.proofs.NothingSealed.{nothing_sealed}
+use Rattle.segments.proofs.buffers.NothingSealed.{nothing_sealed}
 use Rattle.segments.proofs.WalkLemmas.{none_or_value}
-use Rattle.paired.specs.Crashes.{IsBlobOf, IsCopy, IsIndexOf, IsOneOf, IsOwn, IsValuesOf, Keeping, LeavesAlone, NoChanceSeal, WasThere}
+use Rattle.paired.specs.Crashes.{IsBlobOf, IsCopy, IsIndexOf, IsOneOf, IsOwn, IsValuesOf, Keeping, LeavesAlone, WasThere}
 use Rattle.paired.specs.Kept.{Layout, Markers, content_at, is_sound_in, marker_of, stored_records}
 use Rattle.paired.specs.Opening.{MayBeOpened, as_read}
-use Rattle.paired.specs.Pair.{HasNoBytes, IsSoundOn, list_of, synced_length}
+use Rattle.paired.specs.Pair.{HasNoBytes, list_of, synced_length, IsSafeOn}
 use Rattle.paired.specs.PairRefusing.{HasLostMarkers}
 use Rattle.paired.specs.Records as stored
 use Rattle.archives.specs.Archives.{Archive, IsArchive, IsSoundArchive, filing_of, state_of}
@@ -41,8 +41,8 @@ use Rattle.archives.specs.Standing.{Leaves}
 use Rattle.archives.specs.declared.error.Error.{Error}
 use Rattle.archives.proofs.ArchiveStands.{going_at, index_apart, values_apart}
 use Rattle.archives.proofs.PruneLemmas.{no_records}
-use Rattle.archives.proofs.SyncErrors.{error_in, raised_by}
-use Rattle.archives.proofs.SyncNames.{one_more}
+use Rattle.archives.proofs.sync.Errors.{error_in, raised_by}
+use Rattle.archives.proofs.sync.Names.{one_more}
 
 -- ---- a disk on which no section has a byte
 
@@ -108,7 +108,7 @@ closed_rest f some_bytes st d empty leaves image crash no_chance =
     }
   where
     none_kept : (markers : Markers) (s : ℕ) → s < 2 ^ 64 → kept f image markers s ≡ []
-    none_kept markers s small = ap (λ (rs : List (List ℕ)). map (filed f) (map (stored.entry_of f.layout.place (content_at image f.layout.values s)) (stored.front (is_sound_in f.layout image s) (marker_of markers s) 0 rs)))
+    none_kept markers s small = ap (λ (rs : List (List ℕ)). map (filed f) (map (stored.entry_of f.layout.place (content_at image f.layout.values s)) (stored.front (is_sound_in f.layout image s) (marker_of markers.entries s) 0 rs)))
         (none_left_stored f.layout some_bytes d image s (empty s small) crash)
 
 -- ---- of an archive
@@ -130,7 +130,7 @@ module _ {F S : Type 0} {gs : _} (a : Archive F (PageBlob S gs)) {bs : _} {told 
     pub none_left : (s : ℕ) → s < 2 ^ 64 → HasNoBytes (disk new (section_key a.pair.layout.index s)) × HasNoBytes (disk new (section_key a.pair.layout.values s))
     none_left s small = (
       elim (none_or_value (a.pair.index.sections.held s)) [
-        | inl none ↦ subst HasNoBytes (sym (removed.untouched (section_key a.pair.layout.index s) (index_apart a.pair.layout archive.pair.apart (IsHeld a.pair.index.sections) (IsHeld a.pair.values) s small (λ held. cc (none, held))))) (sound.pair.absent s small none)
+        | inl none ↦ subst HasNoBytes (sym (removed.untouched (section_key a.pair.layout.index s) (index_apart a.pair.layout archive.pair.apart (IsHeld a.pair.index.sections) (IsHeld a.pair.values) s small (λ held. cc (none, held))))) (sound.pair.sound.absent s small none)
         | inr some ↦ ap longest ((removed.gone s).0 (subst IsSome (sym some.1) refl))
       ],
       elim (none_or_value (a.pair.values.held s)) [
@@ -162,7 +162,7 @@ module _ {A V F S D : Type 0} {gs : _} (p : Prunable A V F (PageBlob S gs)) (dev
 
   -- so does the pair's, and what that says is enough
   pub destroy_goes : MayUse (meaning p) dev a old
-      → (dev.Tells → IsSoundOn (p.see a).pair (disk (dev.time old)) → Keeping (p.see a).pair.layout (list_of (p.see a).pair (disk (dev.time old))) (synced_length (p.see a).pair) (λ _. ⊤) (IsOwn (p.see a).pair.layout (λ _. ⊤)) (dev.time old) (dev.time new))
+      → (dev.Tells → IsSafeOn (p.see a).pair (disk (dev.time old)) → Keeping (p.see a).pair.layout (list_of (p.see a).pair (disk (dev.time old))) (synced_length (p.see a).pair) (λ _. ⊤) (IsOwn (p.see a).pair.layout (λ _. ⊤)) (dev.time old) (dev.time new))
       → (dev.Tells → Always (dev.time old) (dev.time new) (λ d. (q : Key) → (IsOneOf (p.see a).pair.layout (IsHeld (p.see a).pair.index.sections) (IsHeld (p.see a).pair.values) q → ⊥) → d q ≡ disk (dev.time old) q))
       → ((q : Key) → (IsOwn (p.see a).pair.layout (λ _. ⊤) q → ⊥) → dev.opened new q ≡ dev.opened old q)
       → dev.faults old ≤ dev.faults new → RemovalGoes

@@ -1,5 +1,5 @@
 -- What entering the records of a replay promises, by the ways in which it ends.
-use Rattle.std.proofs.Common.{◌≡◌, ◌≢◌, ◌⊎◌, inl, inr, refl, sym, subst, ℕ, ◌<◌, ◌≤◌, ◌+◌, ◌^◌, List, Result, Ok, Err}
+use Rattle.std.proofs.Common.{◌≡◌, ◌≢◌, ◌⊎◌, inl, inr, refl, sym, subst, ℕ, ◌<◌, ◌≤◌, ◌+◌, ◌^◌, Bool, List, Result, Ok, Err}
 use Rattle.std.specs.Prelude.{⊤}
 use Rattle.std.specs.Result.{IsErrOf}
 use Rattle.blob_device.specs.Disk.{Key}
@@ -23,13 +23,13 @@ use Rattle.archives.specs.Rows.{HasRoom, Row, rows_of}
 use Rattle.archives.specs.declared.error.Error.{Error}
 use Rattle.archives.specs.declared.error.Error.TheVariants.{Full, Journal, Mem, Metadata, RecordCorrupted}
 use Rattle.archives.specs.declared.prunable.limits.Limits.{Limits}
-use Rattle.archives.specs.declared.prunable.tables.Tables.{Tables}
-use Rattle.archives.proofs.OpenErrors.{Answer}
-use Rattle.archives.proofs.ReadCauses.{failure_of}
+use Rattle.record_tables.specs.declared.tables.Tables.{Tables}
+use Rattle.archives.proofs.opening.Errors.{Answer}
+use Rattle.archives.proofs.read.Causes.{failure_of}
 
 -- why one record was not entered
-module _ {K : Type 0} (key_bytes : K → List ℕ) (items : ℕ) (limits : Limits) (old : Tables K) (here : ℕ) (row : Row) where
-  pub entry_is : (e : Error) → IsEntryCause key_bytes items limits old here row e
+module _ {K W : Type 0} (key_bytes : K → List ℕ) (eq : W → W → Bool) (word_of : List ℕ → W) (items : ℕ) (limits : Limits) (old : Tables W K) (here : ℕ) (row : Row) where
+  pub entry_is : (e : Error) → IsEntryCause key_bytes eq word_of items limits old here row e
       → (e ≡ Mem) ⊎ (((e ≡ RecordCorrupted) × (section_of items row.index ≢ here)) ⊎ ((e ≡ Full) × (HasRoom limits.sections limits.per_section (rows_of key_bytes old) here → ⊥)))
   entry_is Mem cause = inl refl
   entry_is Full cause = inr (inr (refl, cause.1))
@@ -75,7 +75,7 @@ module _ {F S D : Type 0} {gs : _} (buffers : Buffers F (PageBlob S gs)) (dev : 
         → reads_of (dev.opened new (section_key from.layout.values s)) ≤ reads_of (dev.opened old (section_key from.layout.values s)) + n
     pub faults : dev.faults old ≤ dev.faults new
 
-  module _ {C : Type 0} (before after : C) (walks : Walks C before after) {T : Type 0} (rows : T → ℕ → List Row) (AreFilled : T → Type 0) where
+  module _ {C : Type 0} (before after : C) (walks : Walks C before after) {T : Type 0} (rows : T → ℕ → List Row) (AreTied : T → Type 0) where
     touched : Footprint dev (IsOwn from.layout (λ _. ⊤)) (ReadsLeft buffers dev key_size items limits from to old new) old new
     touched = record {
       alone = walks.untouched;
@@ -84,11 +84,11 @@ module _ {F S D : Type 0} {gs : _} (buffers : Buffers F (PageBlob S gs)) (dev : 
       faults = walks.faults;
     }
 
-    pub drained : (t : T) → HasDrained buffers dev key_size items limits from to old new (rows t) (AreFilled t) → Drains buffers dev key_size items limits from to old new rows AreFilled before after (Ok t)
+    pub drained : (t : T) → HasDrained buffers dev key_size items limits from to old new (rows t) (AreTied t) → Drains buffers dev key_size items limits from to old new rows AreTied before after (Ok t)
     drained t done = record { over = walks.over; same = walks.same; config = walks.config; moments = walks.moments; footprint = touched; ends = done }
 
-    failed : (r : Result T Error) (e : Error) → r ≡ Err e → HasNotDrained buffers dev key_size items limits from to old new e → Drains buffers dev key_size items limits from to old new rows AreFilled before after r
-    failed r e is why = subst (λ (x : Result T Error). Drains buffers dev key_size items limits from to old new rows AreFilled before after x) (sym is)
+    failed : (r : Result T Error) (e : Error) → r ≡ Err e → HasNotDrained buffers dev key_size items limits from to old new e → Drains buffers dev key_size items limits from to old new rows AreTied before after r
+    failed r e is why = subst (λ (x : Result T Error). Drains buffers dev key_size items limits from to old new rows AreTied before after x) (sym is)
         (record { over = walks.over; same = walks.same; config = walks.config; moments = walks.moments; footprint = touched; ends = why })
 
     error_of : (e x : Error) → IsErrOf {T = T} (Err e) x → e ≡ x
@@ -99,7 +99,7 @@ module _ {F S D : Type 0} {gs : _} (buffers : Buffers F (PageBlob S gs)) (dev : 
 
     -- the walk failed
     pub not_walked : (r : Result T Error) (e : Error) → r ≡ Err e → Answer dev.Tells from (disk (dev.time old)) (disk (dev.time new)) (dev.faults old) (dev.faults new) r
-        → Drains buffers dev key_size items limits from to old new rows AreFilled before after r
+        → Drains buffers dev key_size items limits from to old new rows AreTied before after r
     not_walked r e is said = failed r e is (record { cause = cause; complete = λ t lawful. inr (inr (failure_of {T = T} e (dev.faults old) (dev.faults new) (answer.failed t lawful))) })
       where
         answer : Answer {T = T} dev.Tells from (disk (dev.time old)) (disk (dev.time new)) (dev.faults old) (dev.faults new) (Err e)
@@ -119,7 +119,7 @@ module _ {F S D : Type 0} {gs : _} (buffers : Buffers F (PageBlob S gs)) (dev : 
     pub not_entered : (r : Result T Error) (e : Error) → r ≡ Err e → (Stray Over : Type 0) → (e ≡ Mem) ⊎ (((e ≡ RecordCorrupted) × Stray) ⊎ ((e ≡ Full) × Over))
         → (dev.Tells → Stray → HasStray items (kept_on buffers dev key_size items limits from to old new (disk (dev.time old))))
         → (dev.Tells → Over → IsPastLimits limits.sections limits.per_section (kept_on buffers dev key_size items limits from to old new (disk (dev.time old))))
-        → Drains buffers dev key_size items limits from to old new rows AreFilled before after r
+        → Drains buffers dev key_size items limits from to old new rows AreTied before after r
     not_entered r e is Stray Over why stray over = failed r e is (elim why [
       | inl memory ↦ record { cause = cause_as e Mem memory tt; complete = λ t lawful. inr (inr (inl memory)) }
       | inr (inl (bad, apart)) ↦ record { cause = cause_as e RecordCorrupted bad (λ t. stray t apart); complete = λ t lawful. inl bad }

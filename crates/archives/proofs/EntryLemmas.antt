@@ -19,7 +19,8 @@ use Rattle.archives.specs.IndexRecordLaws.{key_of-index_record}
 use Rattle.archives.specs.Prunable.{Prunable, filing_by}
 use Rattle.archives.specs.declared.error.Error.{Error}
 use Rattle.archives.specs.declared.prunable.index_record.IndexRecord.{IndexRecord}
-use Rattle.archives.proofs.ReadRecords.{weaker_at}
+use Rattle.archives.proofs.read.Causes.{cause_of_record}
+use Rattle.archives.proofs.read.Records.{weaker_at}
 
 -- one blob was read, and no other
 pub only_read : {D : Type 0} (dev : device.Ghosts D) (k : Key) (n : ℕ) (old new : D) → (dev.Tells → Unchanged (dev.time old) (dev.time new)) → ReadsAtMost n k (dev.opened old) (dev.opened new) → dev.faults old ≤ dev.faults new
@@ -50,7 +51,15 @@ module _ {A V F S D K : Type 0} {gs : _} (p : Prunable A V F (PageBlob S gs)) (d
 
   -- and so is a reading of the record
   pub as_unread : (filing_by p a).layout.index ≢ (filing_by p a).layout.values → (e : Error) → ReadsRecordAt p dev key_bytes a s at (Err e) old new → (r : Result (K × V) Error) → r ≡ Err e → ReadsEntry p dev key_bytes a s at r old new
-  as_unread apart e unread = as_entry_failed e (record { over = unread.over; unchanged = unread.unchanged; footprint = record_alone apart unread.footprint; ends = unread.ends })
+  as_unread apart e unread = as_entry_failed e (record {
+    over = unread.over;
+    unchanged = unread.unchanged;
+    footprint = record_alone apart unread.footprint;
+    ends = record {
+      cause = cause_of_record (p.see a) (disk (dev.time old)) dev.Tells (λ P. P s at) (dev.faults old) (dev.faults new) e unread.ends.cause;
+      unanswered = unread.ends.unanswered;
+    };
+  })
 
   -- the record that was read has the key
   pub key_there : ((k : K) → length (key_bytes k) ≡ (p.see a).key_size) → (r : IndexRecord K) → HasRecord p dev key_bytes a s at r old → (k : K) → k ≡ r.key → HasKeyThere p dev key_bytes a s at k old

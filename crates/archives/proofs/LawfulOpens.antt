@@ -31,15 +31,15 @@ use Rattle.paired.specs.OpeningRefusing.{AreCounted, IsCutOff, IsLost, IsOutside
 use Rattle.paired.specs.Places.{end_of}
 use Rattle.paired.proofs.BoundaryLemmas.{content_there}
 use Rattle.paired.proofs.KeptLemmas.{EndsBy, follow_ends, sound_parts}
-use Rattle.paired.proofs.OpeningStartRefusals.{all_at, last_is_record, records_end, sealed_within}
+use Rattle.paired.proofs.opening.StartRefusals.{all_at, last_is_record, records_end, sealed_within}
 use Rattle.archives.specs.Filing.{Filing, kept_entries}
 use Rattle.archives.specs.Lawful.{Lawful}
 use Rattle.archives.specs.Opening.{HasNoVersion, HasStray, IsPastLimits}
 use Rattle.archives.specs.Opens.{HasForeign, HasToMove, HaveBadCopy, IsLawfulCause, IsOpeningCause, IsOpeningFailure, IsShortOf, OfMarkers}
 use Rattle.archives.specs.declared.error.Error.{Error}
 use Rattle.archives.specs.declared.error.Error.TheVariants.{Journal, Metadata, RecordCorrupted, Full, Mem}
-use Rattle.archives.proofs.InitCauses.{lawful_no_over, lawful_no_stray}
-use Rattle.archives.proofs.InitRecords.{one_markers}
+use Rattle.archives.proofs.init.Causes.{lawful_no_over, lawful_no_stray}
+use Rattle.archives.proofs.init.Records.{one_markers}
 
 -- ---- the copies of the markers
 
@@ -68,7 +68,7 @@ reads_there b has = go b.there refl
 -- ---- markers
 
 module _ (l : Layout) (paged : 1 ≤ l.page_size) (sized : 1 ≤ l.record_size) (d : Disk) (markers : Markers) (lawful : IsLawful l (as_read d) markers) where
-  module _ (s m : ℕ) (marked : IsMarked markers s m) where
+  module _ (s m : ℕ) (marked : IsMarked markers.entries s m) where
     there_marked : (d (section_key l.index s)).there ≡ true
     there_marked = reads_there (d (section_key l.index s)) (lawful.true_markers s m marked).index_blob
 
@@ -99,7 +99,7 @@ module _ (l : Layout) (paged : 1 ≤ l.page_size) (sized : 1 ≤ l.record_size) 
         (parts.1, omega (arith, end, in_place.fits))
 
   -- a marker of a lawful image is lost only where its records alone have 2^64 bytes
-  lost_long : (x : Damage) → IsLost l (IsMarked markers) d x → (x.section < 2 ^ 64) × (2 ^ 64 ≤ length (content_at (as_read d) l.index x.section))
+  lost_long : (x : Damage) → IsLost l (IsMarked markers.entries) d x → (x.section < 2 ^ 64) × (2 ^ 64 ≤ length (content_at (as_read d) l.index x.section))
   lost_long x lost = (lost.marked.0, go lost.why)
     where
       content : content_at (as_read d) l.index x.section ≡ (d (section_key l.index x.section)).content

@@ -13,7 +13,7 @@ use Rattle.sealed_pages.specs.View.{page_at}
 use Rattle.sealed_pages.specs.declared.page_blob.PageBlob.{PageBlob}
 use Rattle.sealed_pages.specs.declared.write_blob.WriteBlob.{WriteBlob}
 use Rattle.segments.specs.FixedLists as fixed
-use Rattle.segments.specs.Unsealed.{count_of}
+use Rattle.segments.specs.unsealed.Buffer.{count_of}
 use Rattle.segments.proofs.WalkLemmas.{has_value, none_or_value}
 use Rattle.meta_store.specs.Blobs.{blob_of, read_bytes}
 use Rattle.meta_store.specs.Copies.{ReadsAs}
@@ -21,7 +21,7 @@ use Rattle.meta_store.specs.Pairs.{ReadsPair}
 use Rattle.meta_store.specs.Store.{Stands, Store, chosen_by, contents_of}
 use Rattle.meta_store.specs.declared.error.Side.TheVariants.{Left, Right}
 use Rattle.paired.specs.Frames.{bytes_at, frame}
-use Rattle.paired.specs.GlobSections as glob
+use Rattle.paired.specs.glob.Sections as glob
 use Rattle.paired.specs.Kept.{Layout}
 use Rattle.paired.specs.Pair.{list_of, records_of}
 use Rattle.paired.specs.Places.{Follow}
@@ -29,7 +29,7 @@ use Rattle.paired.specs.Records as stored
 use Rattle.paired.specs.Records.{is_sound}
 use Rattle.paired.proofs.FrameLemmas.{length-bytes_at, length-frame}
 use Rattle.paired.proofs.KeptLemmas.{sound_parts}
-use Rattle.paired.proofs.PairReads.{index_size}
+use Rattle.paired.proofs.pair.Reads.{index_size}
 use Rattle.paired.proofs.RecordLemmas.{all_by, length-records}
 use Rattle.archives.specs.Archives.{Archive, IsArchive, IsSoundArchive, filing_of, state_of}
 use Rattle.archives.specs.Filing.{Filing, filed}
@@ -38,7 +38,7 @@ use Rattle.archives.specs.Opening.{HasNoVersion}
 use Rattle.archives.specs.Putting.{IsAllowed, IsPassed, WouldPass}
 use Rattle.archives.specs.Rows.{HasRoom}
 use Rattle.archives.proofs.ArchiveStands.{length_rows}
-use Rattle.archives.proofs.PutLemmas.{whole_bytes}
+use Rattle.archives.proofs.put.Lemmas.{whole_bytes}
 
 -- ---- room
 
@@ -106,7 +106,7 @@ module _ {F S : Type 0} {gs : _} {bs : _} {told : Type 0} (a : Archive F (PageBl
         omega (arith, one_more size (length bytes) (length ((state_of a d).lists s)) count (whole_bytes a.pair opened d archive.pair t s), index_size a.pair.index.sections d s)
 
     values_long : (s : ℕ) → sum_by (λ r. length (frame a.pair.layout.seal r.value)) ((state_of a d).lists s) ≡ glob.section_size a.pair.values s
-    values_long s = frames_follow (filing_of a) (glob.section_bytes a.pair.values d s) (records_of a.pair d s) 0 (glob.section_size a.pair.values s) (sound.pair.places s) (sound.pair.sound s)
+    values_long s = frames_follow (filing_of a) (glob.section_bytes a.pair.values d s) (records_of a.pair d s) 0 (glob.section_size a.pair.values s) (sound.pair.sound.places s) (sound.pair.sound.sound s)
 
     -- What would pass 2^64 in the buffers would pass it by the lists.
     pub passed : (i n : ℕ) → IsPassed a i n → WouldPass (filing_of a) (state_of a d) i n

@@ -14,7 +14,7 @@ use Rattle.segments.specs.declared.unsealed.WriteFactory.{WriteFactory}
 use Rattle.segments.specs.SealedLaws.{no_chance}
 use Rattle.segments.specs.Sections.{key_of, section_key}
 use Rattle.segments.specs.Setting.{Setting}
-use Rattle.segments.specs.Unsealed.{Stands}
+use Rattle.segments.specs.unsealed.Buffer.{Stands}
 use Rattle.segments.proofs.FixedWriteLemmas.{ArePages}
 use Rattle.segments.proofs.HadLemmas.{journal_had, sections_had}
 use Rattle.segments.proofs.WalkLemmas.{none_or_value}
@@ -28,8 +28,8 @@ use Rattle.paired.specs.Kept.{Layout, content_at, is_sound_in, stored_records}
 use Rattle.paired.specs.Opening.{MayBeOpened, as_read}
 use Rattle.paired.specs.Pair.{HasNoBytes}
 use Rattle.paired.specs.Records.{is_sound}
-use Rattle.paired.proofs.PairFacts.{journal_lasts, not_there, proven_of}
-use Rattle.paired.proofs.ReconcileResting.{no_slots, none_sound, of_rest, reads_absent, reads_there}
+use Rattle.paired.proofs.pair.Facts.{journal_lasts, not_there, proven_of}
+use Rattle.paired.proofs.reconcile.Resting.{no_slots, none_sound, of_rest, reads_absent, reads_there}
 use Rattle.archives.specs.Archives.{Archive, IsArchive, IsSoundArchive}
 use Rattle.archives.proofs.ArchiveStands.{glob_buffers}
 
@@ -108,7 +108,7 @@ module _ {F S : Type 0} {gs : _} (a : Archive F (PageBlob S gs)) {g : buffer.Gho
 
   index_read : (s : ℕ) → s < 2 ^ 64 → ReadsAsHad (d (section_key a.pair.layout.index s))
   index_read s small = elim (none_or_value (a.pair.index.sections.held s)) [
-    | inl none ↦ inr (subst (λ (p : List ℕ). (d (section_key p s)).there ≡ false) index (not_there a.pair.index.sections opened d archive.pair.index.over t s small none (archive.pair.whole.index_known s)), sound.pair.absent s small none)
+    | inl none ↦ inr (subst (λ (p : List ℕ). (d (section_key p s)).there ≡ false) index (not_there a.pair.index.sections opened d archive.pair.index.over t s small none (archive.pair.whole.index_known s)), sound.pair.sound.absent s small none)
     | inr some ↦ subst (λ (p : List ℕ). ReadsAsHad (d (section_key p s))) index (index_held s some.0 some.1)
   ]
 

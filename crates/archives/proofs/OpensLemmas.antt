@@ -16,13 +16,14 @@ use Rattle.segments.specs.Refusing.{IsOpenedTooLong}
 use Rattle.segments.specs.Sections.{section_key}
 use Rattle.segments.specs.declared.journal.Error.TheVariants as journal
 use Rattle.segments.specs.declared.sealed.AppendFactory.{AppendFactory}
+use Rattle.meta_store.specs.Store.{contents_of}
 use Rattle.paired.specs.Crashes.{IsOwn}
 use Rattle.paired.specs.Kept.{Layout, Markers, stored_records}
 use Rattle.paired.specs.Opening.{IsLawful, MayBeOpened, as_read}
 use Rattle.paired.specs.OpeningRefusing.{AreCounted}
 use Rattle.paired.specs.Records as stored
 use Rattle.paired.specs.Replaying.{Run}
-use Rattle.paired.proofs.PairFailing.{rose_before}
+use Rattle.paired.proofs.pair.Failing.{rose_before}
 use Rattle.archives.specs.Archives.{Buffers}
 use Rattle.archives.specs.Enters.{Drains, kept_on}
 use Rattle.archives.specs.Filing.{kept_entries}
@@ -35,13 +36,13 @@ use Rattle.archives.specs.declared.error.Error.{Error}
 use Rattle.archives.specs.declared.error.Error.TheVariants.{Journal, Metadata}
 use Rattle.archives.specs.declared.prunable.limits.Limits.{Limits}
 use Rattle.archives.proofs.DrainCauses.{opening_of_drain, over_at, stray_at}
-use Rattle.archives.proofs.InitCauses.{lawful_no_over, lawful_no_stray, marked_damage, marked_short}
-use Rattle.archives.proofs.InitMoments.{moments_lawful, moments_stand}
+use Rattle.archives.proofs.init.Causes.{lawful_no_over, lawful_no_stray, marked_damage, marked_short}
+use Rattle.archives.proofs.init.Moments.{moments_lawful, moments_stand}
 use Rattle.archives.proofs.LawfulOpens.{failed_on_lawful, lawful_cause}
-use Rattle.archives.proofs.OpenCauses.{HasCause, HasLostMarkers, HasNoRoom, IsOpeningError, opening_cause, opening_failure}
-use Rattle.archives.proofs.OpenKept.{over_same, stray_same}
-use Rattle.archives.proofs.OpenParts.{AreFew, Part, Replayed, drained_part, few_left, kept_same, left_behind, markers_are, stored_same}
-use Rattle.archives.proofs.ReadCauses.{HasFailed}
+use Rattle.archives.proofs.opening.Causes.{HasCause, HasLostMarkers, HasNoRoom, IsOpeningError, opening_cause, opening_failure}
+use Rattle.archives.proofs.opening.Kept.{over_same, stray_same}
+use Rattle.archives.proofs.opening.Parts.{AreFew, Part, Replayed, drained_part, few_left, kept_same, left_behind, markers_are, stored_same}
+use Rattle.archives.proofs.read.Causes.{HasFailed}
 
 module _ {A V S D : Type 0} {gs : _} (p : Prunable A V (AppendFactory S) (PageBlob S gs)) (dev : device.Ghosts D) (setup : Setup V) (old new : D) where
   module _ (most : ℕ → ℕ) (few : AreFew dev setup.filing old most) (part : Part dev setup.filing.layout most old new) where
@@ -111,15 +112,15 @@ module _ {A V S D : Type 0} {gs : _} (p : Prunable A V (AppendFactory S) (PageBl
 
 module _ {A V S D : Type 0} {gs : _} (p : Prunable A V (AppendFactory S) (PageBlob S gs)) {dev : device.Ghosts D} (setup : Setup V) {old mid : D} {run : Run (AppendFactory S) (PageBlob S gs)}
     (r : Replayed dev setup.filing old mid run) {buffers : Buffers (AppendFactory S) (PageBlob S gs)} {key_size : ℕ} {limits : Limits} {walked : Run (AppendFactory S) (PageBlob S gs)} {end : D}
-    {T C : Type 0} {rows : T → ℕ → List Row} {AreFilled : T → Type 0} {before after : C} (x : Error)
-    (drains : Drains buffers dev key_size setup.filing.items limits run walked mid end rows AreFilled before after (Err x))
+    {T C : Type 0} {rows : T → ℕ → List Row} {AreTied : T → Type 0} {before after : C} (x : Error)
+    (drains : Drains buffers dev key_size setup.filing.items limits run walked mid end rows AreTied before after (Err x))
     (paged : 1 ≤ setup.filing.layout.page_size) (some : 1 ≤ setup.filing.layout.record_size) (sections : limits.sections ≡ setup.filing.most_sections) (records : limits.per_section ≡ setup.filing.most_records) where
   -- what the replay goes over, and what the disk kept before
   abbrev Given : ℕ → List stored.Entry
   Given = kept_on buffers dev key_size setup.filing.items limits run walked mid end (disk (dev.time mid))
 
   abbrev Kept : ℕ → List stored.Entry
-  Kept = kept_entries setup.filing (as_read (disk (dev.time old))) run.store.entries
+  Kept = kept_entries setup.filing (as_read (disk (dev.time old))) (contents_of run.store)
 
   strays : dev.Tells → HasStray setup.filing.items Given → HasStray setup.filing.items Kept
   strays t = stray_same Given Kept (kept_same r t) setup.filing.items
@@ -136,10 +137,10 @@ module _ {A V S D : Type 0} {gs : _} (p : Prunable A V (AppendFactory S) (PageBl
   why : IsOpeningCause setup.filing dev old end x
   why = opening_of_drain buffers dev key_size setup.filing.items limits run walked mid end old setup.filing
       (rose_before (dev.faults old) (dev.faults mid) (dev.faults end) r.part.faults)
-      (λ t has. (run.store.entries, (r.found t).markers, strays t has))
-      (λ t has. (run.store.entries, (r.found t).markers, overs t has))
+      (λ t has. (contents_of run.store, (r.found t).markers, strays t has))
+      (λ t has. (contents_of run.store, (r.found t).markers, overs t has))
       (λ t y has. (
-        run.store.entries,
+        contents_of run.store,
         (r.found t).markers,
         inr (marked_damage run.store.entries setup.filing.layout.record_size run.walk.journal.floor_of r.floors y
             (length (stored_records setup.filing.layout (as_read (disk (dev.time old))) y.section) * setup.filing.layout.record_size) (has.wanted, has.less, has.is ∙ bytes t y.section)),
@@ -147,19 +148,19 @@ module _ {A V S D : Type 0} {gs : _} (p : Prunable A V (AppendFactory S) (PageBl
       (λ t k has.
       let w = marked_short run.store.entries setup.filing.layout.record_size run.walk.journal.floor_of r.floors setup.filing.layout refl some (disk (dev.time end)) k
       (subst (λ (y : Layout). FindsShort y run.walk.journal.floor_of (disk (dev.time end)) k) r.here has) in
-      (run.store.entries, (r.found t).markers, record { section = w.0; marker = w.1; position = w.2; marked = w.3; below = w.4; page = w.5 }))
+      (contents_of run.store, (r.found t).markers, record { section = w.0; marker = w.1; position = w.2; marked = w.3; below = w.4; page = w.5 }))
       x drains.ends.cause
 
   -- a lawful image has nothing that is refused
   gives_up : dev.Tells → (markers : Markers) → Lawful setup.filing (as_read (disk (dev.time old))) markers → IsOpeningFailure (dev.faults old) (dev.faults end) x
   gives_up t markers lawful =
-      let own : Lawful setup.filing (as_read (disk (dev.time old))) run.store.entries = subst (Lawful setup.filing (as_read (disk (dev.time old)))) (markers_are r t markers lawful.pair.held) lawful in
-      let now : IsLawful run.layout (as_read (disk (dev.time mid))) run.store.entries =
-      subst (λ (y : Layout). IsLawful y (as_read (disk (dev.time mid))) run.store.entries) (sym r.here) ((r.found t).lawful markers lawful.pair) in
+      let own : Lawful setup.filing (as_read (disk (dev.time old))) (contents_of run.store) = subst (Lawful setup.filing (as_read (disk (dev.time old)))) (markers_are r t markers lawful.pair.held) lawful in
+      let now : IsLawful run.layout (as_read (disk (dev.time mid))) (contents_of run.store) =
+      subst (λ (y : Layout). IsLawful y (as_read (disk (dev.time mid))) (contents_of run.store)) (sym r.here) ((r.found t).lawful markers lawful.pair) in
       elim (drains.ends.complete t now) as (λ _. IsOpeningFailure (dev.faults old) (dev.faults end) x) [
-        | inl stray ↦ absurd (lawful_no_stray setup.filing (as_read (disk (dev.time old))) run.store.entries own
+        | inl stray ↦ absurd (lawful_no_stray setup.filing (as_read (disk (dev.time old))) (contents_of run.store) own
             (strays t (stray_at buffers dev key_size setup.filing.items limits run walked mid end x drains.ends.cause stray t)))
-        | inr (inl full) ↦ absurd (lawful_no_over setup.filing (as_read (disk (dev.time old))) run.store.entries own
+        | inr (inl full) ↦ absurd (lawful_no_over setup.filing (as_read (disk (dev.time old))) (contents_of run.store) own
             (overs t (over_at buffers dev key_size setup.filing.items limits run walked mid end x drains.ends.cause full t)))
         | inr (inr (inl memory)) ↦ inl (inl memory)
         | inr (inr (inr fault)) ↦ inl (inr (fault.0, rose_before (dev.faults old) (dev.faults mid) (dev.faults end) r.part.faults fault.1))

@@ -23,10 +23,10 @@ use Rattle.archives.specs.Machine.{State, appended, section_of}
 use Rattle.archives.specs.Opening.{HasNoVersion}
 use Rattle.archives.specs.Putting.{IsMovingAfter, IsWrittenAfter, Times, after_putting, is_skipped}
 use Rattle.archives.specs.Syncing.{IsMoving, IsMovingBy}
-use Rattle.archives.proofs.InitRecords.{one_chosen, one_markers}
-use Rattle.archives.proofs.PutStands.{put_by}
-use Rattle.archives.proofs.PutRows.{other_or_same}
-use Rattle.archives.proofs.SyncLemmas.{list_counted}
+use Rattle.archives.proofs.init.Records.{one_chosen, one_markers}
+use Rattle.archives.proofs.put.Stands.{put_by}
+use Rattle.archives.proofs.put.Rows.{other_or_same}
+use Rattle.archives.proofs.sync.Lemmas.{list_counted}
 
 module _ (l : Layout) (u : Store Key8 ℕ) (d : Disk) (here : u.partition ≡ l.metadata) (stands : Stands l.markers u (contents_of u) d) where
   reads_so : (bytes : Blob → List ℕ) → ((d (blob_of u.partition Left)).content ≡ bytes (d (blob_of u.partition Left))) → ((d (blob_of u.partition Right)).content ≡ bytes (d (blob_of u.partition Right)))
@@ -40,7 +40,7 @@ module _ (l : Layout) (u : Store Key8 ℕ) (d : Disk) (here : u.partition ≡ l.
   })
 
   -- the disk holds the markers of the store
-  pub markers_held : HoldMarkers l (as_read d) u.entries
+  pub markers_held : HoldMarkers l (as_read d) (contents_of u)
   markers_held = record {
     chosen = chosen_by u (contents_of u);
     reads = reads_so (λ b. bytes_of (reads b)) (sym (ap (λ (b : Blob). bytes_of (reads b)) stands.left)) (sym (ap (λ (b : Blob). bytes_of (reads b)) stands.right));
@@ -55,8 +55,8 @@ module _ (l : Layout) (u : Store Key8 ℕ) (d : Disk) (here : u.partition ≡ l.
         (reads_so read_bytes (sym (ap read_bytes stands.left)) (sym (ap read_bytes stands.right))) in
         omega (arith, over, ap (λ (c : Chosen Key8 ℕ). c.version) same)
 
-    pub markers_are : (markers : Markers) → HoldMarkers l (as_read d) markers → markers ≡ u.entries
-    markers_are markers held = one_markers l readable (as_read d) markers u.entries held markers_held
+    pub markers_are : (markers : Markers) → HoldMarkers l (as_read d) markers → markers ≡ contents_of u
+    markers_are markers held = one_markers l readable (as_read d) markers (contents_of u) held markers_held
 
 true_or_not : (b : Bool) → IsTrue b ⊎ (b ≡ false)
 true_or_not true = inl refl
@@ -68,14 +68,14 @@ module _ {F S : Type 0} {gs : _} (a : Archive F (PageBlob S gs)) {bs : Buffers F
   counted : (s : ℕ) → length ((state_of a d).lists s) ≡ length_of a.pair s
   counted s = length-map (list_of a.pair d s) (filed (filing_of a)) ∙ list_counted a.pair d s
 
-  held : HoldMarkers a.pair.layout (as_read d) a.pair.store.entries
+  held : HoldMarkers a.pair.layout (as_read d) (contents_of a.pair.store)
   held = markers_held a.pair.layout a.pair.store d here (archive.pair.disk t).markers
 
   -- By which sections count as written, and how many records each has.
   module _ (IsCounted : ℕ → Type 0) (lengths : ℕ → ℕ) (rests : (s : ℕ) → (IsCounted s → ⊥) → synced_length a.pair s ≡ lengths s) (grows : (s : ℕ) → IsCounted s → synced_length a.pair s < lengths s) where
     moves_so : ((s : ℕ) × pair.IsMoving a.pair IsCounted IsCounted s) → IsMovingBy (filing_of a) d lengths (synced_length a.pair)
     moves_so (s, (below, not, how)) = (
-      a.pair.store.entries,
+      contents_of a.pair.store,
       held,
       (
         s,
@@ -90,9 +90,9 @@ module _ {F S : Type 0} {gs : _} (a : Archive F (PageBlob S gs)) {bs : Buffers F
 
     said_so : IsMovingBy (filing_of a) d lengths (synced_length a.pair) → (s : ℕ) × pair.IsMoving a.pair IsCounted IsCounted s
     said_so (markers, holds, (s, below, all, other)) =
-        let same : markers ≡ a.pair.store.entries = markers_are a.pair.layout a.pair.store d here (archive.pair.disk t).markers readable markers holds in
+        let same : markers ≡ contents_of a.pair.store = markers_are a.pair.layout a.pair.store d here (archive.pair.disk t).markers readable markers holds in
         let not : IsCounted s → ⊥ = λ is. omega (arith, grows s is, all) in
-        (s, (below, not, inr (not, λ is. other (ap (λ (m : Markers). marker_of m s) same ∙ sym is))))
+        (s, (below, not, inr (not, λ is. other (ap (λ (m : Markers). marker_of m.entries s) same ∙ sym is))))
 
   still_synced : (s : ℕ) → (IsTrue (a.is_written s) → ⊥) → synced_length a.pair s ≡ length_of a.pair s
   still_synced s not = elim (true_or_not (a.is_written s)) [

@@ -13,9 +13,9 @@ use Rattle.segments.specs.FixedLists as fixed
 use Rattle.segments.specs.Sections.{IsHeld, IsSame, section_key}
 use Rattle.segments.proofs.WalkLemmas.{none_or_value}
 use Rattle.paired.specs.Crashes.{IsOneOf}
-use Rattle.paired.specs.GlobSections as glob
+use Rattle.paired.specs.glob.Sections as glob
 use Rattle.paired.specs.Kept.{Layout, marker_of}
-use Rattle.paired.specs.Pair.{AreMarkers, HasNoBytes, IsPair, IsSoundOn, Pair, length_of, list_of, records_of, synced_length}
+use Rattle.paired.specs.Pair.{AreMarkers, HasNoBytes, IsPair, Pair, length_of, list_of, records_of, synced_length, IsSafeOn}
 use Rattle.paired.specs.Records as stored
 use Rattle.paired.proofs.RecordLemmas.{all_by, length-records}
 use Rattle.ordinal_store.specs.Numbers.{Set, TakesAway}
@@ -27,8 +27,8 @@ use Rattle.archives.specs.Rows.{Row, has_row, row_in}
 use Rattle.archives.proofs.ArchiveStands.{no_foreign, values_apart}
 use Rattle.archives.proofs.IndexSets.{same_test}
 use Rattle.archives.proofs.PuttingLemmas.{section_from}
-use Rattle.archives.proofs.SyncLemmas.{records_same}
-use Rattle.archives.proofs.SyncNames.{one_more}
+use Rattle.archives.proofs.sync.Lemmas.{records_same}
+use Rattle.archives.proofs.sync.Names.{one_more}
 
 -- the set without the numbers below a section's start is that of the rows without the sections below
 module _ (items : ℕ) (rows new : ℕ → List Row) (bound : ℕ) (some_items : 1 ≤ items) (some : 1 ≤ bound) (start : section_of items bound ≡ bound)
@@ -109,7 +109,7 @@ module _ {F S : Type 0} {gs : _} (a : Archive F (PageBlob S gs)) (b : ℕ) where
 
   -- the archive after the prune, with this pair, and this in memory
   abbrev pub pruned_archive : Pair F (PageBlob S gs) → (List ℕ → Option codec.Error) → (ℕ → List Row) → Type 0 → Set → (ℕ → Bool) → Archive F (PageBlob S gs)
-  pruned_archive p refusal rows Filled indices is_written = record a { pair = p; refusal = refusal; floor = b; rows = rows; Filled = Filled; indices = indices; is_written = is_written }
+  pruned_archive p refusal rows Tied indices is_written = record a { pair = p; refusal = refusal; floor = b; rows = rows; Tied = Tied; indices = indices; is_written = is_written }
 
   module _ (rows : ℕ → List Row) (indices : Set) (is_written : ℕ → Bool) (memory : AreLeft rows indices is_written) where
     few_rows : (s : ℕ) → rows s ≢ [] → a.rows s ≢ []
@@ -145,14 +145,14 @@ module _ {F S : Type 0} {gs : _} (a : Archive F (PageBlob S gs)) (b : ℕ) where
       | inr some ↦ absurd (cc (subst IsSome (left.removed s low).0 (markers.trails s some.0 some.1).0))
     ]
 
-    module _ (refusal : List ℕ → Option codec.Error) (rows : ℕ → List Row) (Filled : Type 0) (indices : Set) (is_written : ℕ → Bool) where
+    module _ (refusal : List ℕ → Option codec.Error) (rows : ℕ → List Row) (Tied : Type 0) (indices : Set) (is_written : ℕ → Bool) where
       -- its state is that of the machine
-      pub pruned_step : told → AreMarkers p → state_of (pruned_archive p refusal rows Filled indices is_written) e ≡ emptied_below b (state_of a d)
+      pub pruned_step : told → AreMarkers p → state_of (pruned_archive p refusal rows Tied indices is_written) e ≡ emptied_below b (state_of a d)
       pruned_step t markers = pruned_state a p b d e no_section_list (left.lists t) (none_synced markers) left.synced
 
       module _ {bs : Buffers F (PageBlob S gs)} (before after : OpenedList) (archive : IsArchive a bs told before d) (start : section_of a.items b ≡ b) (some : 1 ≤ b) (memory : AreLeft rows indices is_written) where
-        pub pruned_over : Filled → IsPair bs.pages bs.gives bs.values bs.takes told p after e → IsArchive (pruned_archive p refusal rows Filled indices is_written) bs told after e
-        pruned_over filled pair = record {
+        pub pruned_over : Tied → IsPair bs.pages bs.gives bs.values bs.takes told p after e → IsArchive (pruned_archive p refusal rows Tied indices is_written) bs told after e
+        pruned_over tied pair = record {
           pair = pair;
           items = archive.items;
           floor = start;
@@ -164,7 +164,7 @@ module _ {F S : Type 0} {gs : _} (a : Archive F (PageBlob S gs)) (b : ℕ) where
           spelled = λ t. below_or_from b {P = λ s. AllByRecursion (IsSpelled a.key_size) (records_of p e s)}
               (λ s low. subst (AllByRecursion (IsSpelled a.key_size)) (sym (no_section_records s low)) tt)
               (λ s from. subst (AllByRecursion (IsSpelled a.key_size)) (sym (records_same a.pair p d e s (left.lists t s from))) (archive.spelled t s));
-          filled = filled;
+          tied = tied;
           indices = rows_dropped a.items a.rows rows b archive.items some start memory.gone memory.kept a.indices indices archive.indices memory.taken;
           within = record {
             in_section = below_or_from b {P = λ s. AllByRecursion (λ r. section_of a.items r.index ≡ s) (rows s)}
@@ -190,7 +190,7 @@ module _ {F S : Type 0} {gs : _} (a : Archive F (PageBlob S gs)) (b : ℕ) where
         }
 
         -- it is sound where the pair is, and no blob changed but those that the prune may touch
-        module _ (t : told) (sound : IsSoundArchive a d) (pair_sound : IsSoundOn p e) (refuses : (bytes : List ℕ) → refusal bytes ≡ a.refusal bytes)
+        module _ (t : told) (sound : IsSoundArchive a d) (pair_sound : IsSafeOn p e) (refuses : (bytes : List ℕ) → refusal bytes ≡ a.refusal bytes)
             (others : (q : Key) → (IsOneOf a.pair.layout (λ s. (s < b) × IsHeld a.pair.index.sections s) (λ s. (s < b) × IsHeld a.pair.values s) q → ⊥) → e q ≡ d q)
             (gone : (s : ℕ) → s < b → IsHeld a.pair.values s → e (section_key a.pair.layout.values s) ≡ nothing) where
           -- values that are not held are none of the blobs that change
@@ -207,7 +207,7 @@ module _ {F S : Type 0} {gs : _} (a : Archive F (PageBlob S gs)) (b : ℕ) where
             ]
           ]
 
-          pub pruned_sound : IsSoundArchive (pruned_archive p refusal rows Filled indices is_written) e
+          pub pruned_sound : IsSoundArchive (pruned_archive p refusal rows Tied indices is_written) e
           pruned_sound = record {
             pair = pair_sound;
             decoded = below_or_from b {P = λ s. AllByRecursion (λ x. refusal x.value ≡ None) (list_of p e s)}

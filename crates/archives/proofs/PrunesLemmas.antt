@@ -18,9 +18,9 @@ use Rattle.segments.specs.Tails.{tail_held}
 use Rattle.segments.specs.declared.journal.Error as journal
 use Rattle.segments.specs.declared.journal.Error.TheVariants as section
 use Rattle.paired.specs.Crashes.{IsBlobOf, IsIndexOf, IsOneOf, IsOwn, IsValuesOf, Keeping, LeavesAlone}
-use Rattle.paired.specs.GlobSections as glob
+use Rattle.paired.specs.glob.Sections as glob
 use Rattle.paired.specs.Kept.{IsMarked, Layout, marker_of}
-use Rattle.paired.specs.Pair.{IsSoundOn, list_of, synced_length}
+use Rattle.paired.specs.Pair.{list_of, synced_length, IsSafeOn}
 use Rattle.paired.specs.PairRefusing.{HasLostMarkers}
 use Rattle.archives.specs.Archives.{Archive, IsArchive, IsBare, IsSoundArchive, filing_of, state_of}
 use Rattle.archives.specs.Changes.{IsSoundOver, MayUse, NoneThere, state_over}
@@ -32,14 +32,14 @@ use Rattle.archives.specs.Raised.{raised}
 use Rattle.archives.specs.Refusing.{IsFault}
 use Rattle.archives.specs.Standing.{Leaves}
 use Rattle.archives.specs.declared.error.Error.{Error}
-use Rattle.archives.specs.declared.error.Error.TheVariants.{Full, Mem}
+use Rattle.archives.specs.declared.error.Error.TheVariants.{Mem}
 use Rattle.archives.proofs.Alike.{alike_as}
 use Rattle.archives.proofs.ArchiveStands.{going_at}
 use Rattle.archives.proofs.PruneLemmas.{IsLeft}
-use Rattle.archives.proofs.SyncErrors.{error_in, raised_or_full}
-use Rattle.archives.proofs.SyncLemmas.{not_false}
-use Rattle.archives.proofs.SyncNames.{one_more, own_more}
-use Rattle.archives.proofs.SyncUnderWay.{stands_under}
+use Rattle.archives.proofs.sync.Errors.{error_in, raised_or_full}
+use Rattle.archives.proofs.sync.Lemmas.{not_false}
+use Rattle.archives.proofs.sync.Names.{one_more, own_more}
+use Rattle.archives.proofs.sync.UnderWay.{stands_under}
 
 -- a blob of one section among some is one of one among more
 pub blob_more : (l : Layout) (P Q : ℕ → Type 0) → ((s : ℕ) → P s → Q s) → (q : Key) → IsBlobOf l P q → IsIndexOf l Q q ⊎ IsValuesOf l Q q
@@ -207,7 +207,7 @@ module _ {A V F S D : Type 0} {gs : _} (p : Prunable A V F (PageBlob S gs)) (dev
         most_sections = refl;
         most_records = refl;
       };
-      word = refl;
+      alike = refl;
       places = (record { partition = refl; factory = refl }, record { partition = refl; factory = refl });
       floor = omega (arith, low);
       below = bare;
@@ -233,7 +233,7 @@ module _ {A V F S D : Type 0} {gs : _} (p : Prunable A V F (PageBlob S gs)) (dev
 
   module _ (b : ℕ) (is : b ≡ section_of (p.see a).items min) (raises : (p.see a).floor < b) (old new : D) where
     pub prune_goes : MayUse (meaning p) dev a old
-        → (dev.Tells → IsSoundOn (p.see a).pair (disk (dev.time old)) → Keeping (p.see a).pair.layout (list_of (p.see a).pair (disk (dev.time old))) (synced_length (p.see a).pair) (λ s. s < b) (IsOwn (p.see a).pair.layout (λ s. s < b)) (dev.time old) (dev.time new))
+        → (dev.Tells → IsSafeOn (p.see a).pair (disk (dev.time old)) → Keeping (p.see a).pair.layout (list_of (p.see a).pair (disk (dev.time old))) (synced_length (p.see a).pair) (λ s. s < b) (IsOwn (p.see a).pair.layout (λ s. s < b)) (dev.time old) (dev.time new))
         → (dev.Tells → Always (dev.time old) (dev.time new) (λ d. (q : Key) → (IsOneOf (p.see a).pair.layout (λ s. (s < b) × IsHeld (p.see a).pair.index.sections s) (λ s. (s < b) × IsHeld (p.see a).pair.values s) q → ⊥) → d q ≡ disk (dev.time old) q))
         → (((s : ℕ) → IsHeld (p.see a).pair.index.sections s → b ≤ s) → new ≡ old)
         → ((q : Key) → (IsOwn (p.see a).pair.layout (λ s. s < b) q → ⊥) → dev.opened new q ≡ dev.opened old q)

@@ -18,11 +18,11 @@ use Rattle.segments.specs.declared.sealed.AppendFactory.{AppendFactory}
 use Rattle.sealed_pages.specs.declared.write_blob.WriteBlob.{WriteBlob}
 use Rattle.segments.specs.Refusing.{HasFailed, HasNoRoom, IsPruned}
 use Rattle.segments.specs.Sections.{IsHeld, section_key}
-use Rattle.segments.specs.Unsealed.{count_of}
+use Rattle.segments.specs.unsealed.Buffer.{count_of}
 use Rattle.segments.specs.declared.journal.Error as journal
 use Rattle.segments.specs.declared.journal.Error.TheVariants as section
 use Rattle.paired.specs.Crashes.{IsOwn}
-use Rattle.paired.specs.GlobSections as glob
+use Rattle.paired.specs.glob.Sections as glob
 use Rattle.archives.specs.Changes.{IsSoundOver, MayUse, state_over}
 use Rattle.archives.specs.Filing.{IsBlobAt}
 use Rattle.archives.specs.Machine.{section_of}
@@ -34,9 +34,9 @@ use Rattle.archives.specs.Refusing.{IsFault}
 use Rattle.archives.specs.Standing.{Leaves}
 use Rattle.archives.specs.declared.error.Error.{Error}
 use Rattle.archives.specs.declared.error.Error.TheVariants.{Full, Journal, Mem}
-use Rattle.archives.proofs.PutErrors.{full_from, large_from, two_errors}
+use Rattle.archives.proofs.put.Errors.{full_from, large_from, two_errors}
 use Rattle.archives.proofs.Alike.{alike_as}
-use Rattle.archives.proofs.PutStands.{put_skipped, put_unmoved}
+use Rattle.archives.proofs.put.Stands.{put_skipped, put_unmoved}
 use Rattle.archives.proofs.PuttingLemmas.{step_by}
 
 module _ {A V S D : Type 0} {gs : _} (p : Prunable A V (AppendFactory S) (PageBlob S gs)) (dev : device.Ghosts D) (times : Times) (a : A) (index : ℕ) (key value : List ℕ) where
@@ -133,7 +133,7 @@ module _ {A V S D : Type 0} {gs : _} (p : Prunable A V (AppendFactory S) (PageBl
         most_sections = refl;
         most_records = refl;
       };
-      word = refl;
+      alike = refl;
       floor = refl;
       bounds = (
         record { place = record { partition = refl; factory = refl }; floor = refl; ceiling = refl },

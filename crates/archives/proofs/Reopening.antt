@@ -10,7 +10,7 @@ use Rattle.segments.proofs.FixedWalks.{is_some}
 use Rattle.segments.proofs.WalkLemmas.{none_or_value}
 use Rattle.paired.specs.Kept.{Markers}
 use Rattle.paired.specs.Opening.{as_read}
-use Rattle.paired.proofs.OpeningLaws.{crash_as_read}
+use Rattle.paired.proofs.opening.Laws.{crash_as_read}
 use Rattle.archives.specs.Archives.{Archive, IsArchive, filing_of, state_of}
 use Rattle.archives.specs.Commands.{Reopen}
 use Rattle.archives.specs.Filing.{Filing, filed, kept}
@@ -18,7 +18,7 @@ use Rattle.archives.specs.Lawful.{Lawful}
 use Rattle.archives.specs.Machine.{Entry, IsReopened, State, Step}
 use Rattle.archives.specs.Replies as reply
 use Rattle.archives.specs.Standing.{IsPrefix, IsStart, Leaves, StandsFor, submitted}
-use Rattle.archives.proofs.InitState.{length_left, unheld_list}
+use Rattle.archives.proofs.init.State.{length_left, unheld_list}
 
 -- with no command under way the lists are submitted as they are
 no_choice : {X : Type 0} (b : Bool) (x : X) → (if b then x else x) ≡ x
@@ -56,7 +56,7 @@ module _ (f : Filing) (image : Image) (st : State (List ℕ)) where
         | inr far ↦ omega (arith, none s far)
       ];
       synced = start.synced;
-      floor = start.floor;
+      floor = start.floor ∙ stands.lawful.pair.floor;
     }
 
     pub reopens : (items : ℕ) → ((s : ℕ) → 2 ^ 64 ≤ s → st.synced s ≡ 0) → Step items st Reopen reply.Done new

@@ -20,28 +20,29 @@ use Rattle.sealed_pages.proofs.Looking.{unchanged_now, unchanged_then}
 use Rattle.segments.specs.Sections.{section_key}
 use Rattle.paired.specs.Crashes.{IsBlobOf, IsIndexOf, IsOwn}
 use Rattle.paired.specs.Pair.{list_of}
-use Rattle.paired.proofs.PairFailing.{rose_before}
-use Rattle.archives.specs.Archives.{IsSoundArchive, state_of}
+use Rattle.record_tables.specs.Rows.{ArePositions}
+use Rattle.archives.specs.Archives.{state_of}
 use Rattle.archives.specs.Changes.{AskEnds, IsUnanswered, outcome, state_over}
 use Rattle.archives.specs.Commands.{All}
 use Rattle.archives.specs.Commands as command
-use Rattle.archives.specs.Entries.{AllEnd, AtEnds, EntriesEnd, GetsAll, GetsEntries, HasAt, LooksAt, ReadsEntry, ReadsRecordAlone, ReadsRecordAt, ReadsRecords, ReadsRecordsAlone, count_at}
+use Rattle.archives.specs.Entries.{AllEnd, EntriesEnd, GetsAll, GetsEntries, HasAt, LooksAt, ReadsEntry, ReadsRecordAlone, ReadsRecordAt, ReadsRecords, ReadsRecordsAlone, count_at}
 use Rattle.archives.specs.Finding.{Index}
-use Rattle.archives.specs.Gets.{HasNotRead, HasToLookIn, IsLookupCause, IsSectionBlob, Reads, ReadsRecord, SomeToLookAt}
+use Rattle.archives.specs.Gets.{HasEnds, HasNoRecord, HasNotRead, HasToLookIn, IsLookupCause, IsSectionBlob, Reads, ReadsRecord, SomeToLookAt}
 use Rattle.archives.specs.Machine.{ContainsAt, entries_at, section_of}
 use Rattle.archives.specs.Prunable.{HasToLook, IsOver, Prunable, filing_by, meaning}
-use Rattle.archives.specs.Refusing.{IsFailure, IsFault}
+use Rattle.archives.specs.Refusing.{IsFault}
 use Rattle.archives.specs.Replies as reply
-use Rattle.archives.specs.Rows.{ArePositions, count_with}
+use Rattle.archives.specs.Rows.{count_with}
 use Rattle.archives.specs.declared.error.Error.{Error}
 use Rattle.archives.specs.declared.error.Error.TheVariants.{Mem}
 use Rattle.archives.specs.declared.prunable.index_record.IndexRecord.{IndexRecord}
 use Rattle.archives.proofs.EntryLemmas.{key_there}
-use Rattle.archives.proofs.PositionEntries.{HasKeyAt, HasOtherKeyAt, IsEntry, at_both, entries_of_positions, no_entries, none_both, some_entries, values_allowed, values_spelled}
-use Rattle.archives.proofs.PositionLemmas.{AreEach, count_positions, each_push, row_at, standing, standing_rows}
-use Rattle.archives.proofs.ReadCauses.{cause_since}
-use Rattle.archives.proofs.ReadFinding.{both_at}
-use Rattle.archives.proofs.ReadRecords.{weaker_at}
+use Rattle.archives.proofs.positions.PositionEntries.{HasKeyAt, HasOtherKeyAt, IsEntry, at_both, entries_of_positions, no_entries, none_both, some_entries, values_allowed, values_spelled}
+use Rattle.archives.proofs.positions.PositionLemmas.{AreEach, count_positions, each_push, row_at, standing, standing_rows}
+use Rattle.archives.proofs.read.Finding.{both_at}
+use Rattle.archives.proofs.read.Records.{weaker_at}
+use Rattle.archives.proofs.ReadsLemmas.{lookup_cause, no_record}
+use Rattle.archives.proofs.ValueLemmas.{no_record_since, unread_since}
 
 one_more : (n c : ℕ) → (n + 1) * c ≡ n * c + c
 one_more n c = let on : n + 1 ≡ suc n = omega arith in ap (λ m. m * c) on ∙ suc-mul n c
@@ -52,10 +53,6 @@ one_more n c = let on : n + 1 ≡ suc n = omega arith in ap (λ m. m * c) on ∙
 not_fault : IsFault Mem → ⊥
 not_fault (inl is) = cc is
 not_fault (inr is) = cc is
-
-failure_since : (e : Error) (start before now : ℕ) → start ≤ before → IsFailure before now e → IsFailure start now e
-failure_since e start before now since (inl memory) = inl memory
-failure_since e start before now since (inr fault) = inr (fault.0, rose_before start before now since fault.1)
 
 module _ {A V F S D : Type 0} {gs : _} (p : Prunable A V F (PageBlob S gs)) (dev : device.Ghosts D) (a : A) where
   pub short_of_memory : (old new : D) → IsUnanswered (meaning p) dev a Mem old new
@@ -93,16 +90,14 @@ module _ {A V F S D : Type 0} {gs : _} (p : Prunable A V F (PageBlob S gs)) (dev
       -- ---- a record could not be read
 
       module _ (MayTouch : Key → Type 0) (AtMost : Key → ℕ → Type 0) (old mid new : D) (walked : Walked MayTouch AtMost old mid) (e : Error) (why : HasNotRead p dev a s at e mid new) where
-        pub unread_cause : IsLookupCause p dev a (Index i) old new e
-        unread_cause = cause_since (p.see a) (disk (dev.time old)) dev.Tells (λ P. P s at) (SomeToLookAt p dev a (Index i)) (λ P has. (s, at, has_to_look at row, has)) (dev.faults old) (dev.faults mid) (dev.faults new) walked.footprint.faults
-            (disk (dev.time mid)) (λ t. unchanged_now _ _ (walked.unchanged t)) e why.cause
+        unread : HasNotRead p dev a s at e old new
+        unread = unread_since p dev a s at old mid new walked.unchanged walked.footprint.faults e why
 
-        pub unread_unanswered : IsUnanswered (meaning p) dev a e old new
-        unread_unanswered = record {
-          gives = λ t sound. failure_since e (dev.faults old) (dev.faults mid) (dev.faults new) walked.footprint.faults
-              (why.unanswered.gives t (subst (IsSoundArchive (p.see a)) (sym (unchanged_now _ _ (walked.unchanged t))) sound));
-          fault = λ is. rose_before (dev.faults old) (dev.faults mid) (dev.faults new) walked.footprint.faults (why.unanswered.fault is);
-        }
+        unread_cause : IsLookupCause p dev a (Index i) old new e
+        unread_cause = lookup_cause p dev a (Index i) s at (has_to_look at row) old new e unread
+
+        unread_unanswered : IsUnanswered (meaning p) dev a e old new
+        unread_unanswered = unread.unanswered
 
       -- ---- one record more
 
@@ -180,7 +175,7 @@ module _ {A V F S D : Type 0} {gs : _} (p : Prunable A V F (PageBlob S gs)) (dev
 
       -- and without
       module _ (key : List ℕ) (old new : D) (walked : KeysWalked i s n old new) where
-        at_ended : (r : Result Bool Error) → ((SomeToLookAt p dev a (Index i) (λ s at. ⊤) → ⊥) → (r ≡ Ok false) × (new ≡ old)) → AskEnds (meaning p) dev a (command.HasAt i key) reply.Flag r old new → AtEnds p dev a i r old new → HasAt p dev a i key r old new
+        at_ended : (r : Result Bool Error) → ((SomeToLookAt p dev a (Index i) (λ s at. ⊤) → ⊥) → (r ≡ Ok false) × (new ≡ old)) → AskEnds (meaning p) dev a (command.HasAt i key) reply.Flag r old new → HasEnds p dev a r old new → HasAt p dev a i key r old new
         at_ended r none answer ends = record {
           asks = record {
             over = walked.over;
@@ -201,8 +196,8 @@ module _ {A V F S D : Type 0} {gs : _} (p : Prunable A V F (PageBlob S gs)) (dev
         at_told flag none tells = at_ended (Ok flag) none (λ t. (tells t, ap (state_of (p.see a)) (unchanged_now _ _ (walked.unchanged t)))) tt
 
         -- there is no answer, of one record at least
-        pub at_untold : (at : ℕ) → IsSomeAnd (slice_get ((p.see a).rows s) at) (λ r. r.index ≡ i) → (e : Error) (r : Result Bool Error) → r ≡ Err e → IsLookupCause p dev a (Index i) old new e → IsUnanswered (meaning p) dev a e old new → HasAt p dev a i key r old new
-        at_untold at row e r is cause unanswered = subst (λ (x : Result Bool Error). HasAt p dev a i key x old new) (sym is) (at_ended (Err e) (λ far. absurd (far (s, at, has_to_look at row, tt))) unanswered cause)
+        pub at_untold : (at : ℕ) → IsSomeAnd (slice_get ((p.see a).rows s) at) (λ r. r.index ≡ i) → (e : Error) (r : Result Bool Error) → r ≡ Err e → HasNoRecord p dev a e old new → HasAt p dev a i key r old new
+        at_untold at row e r is why = subst (λ (x : Result Bool Error). HasAt p dev a i key x old new) (sym is) (at_ended (Err e) (λ far. absurd (far (s, at, has_to_look at row, tt))) why.unanswered why.cause)
 
   -- ---- key and value of one record after another
 
@@ -357,7 +352,7 @@ module _ {A V F S D : Type 0} {gs : _} (p : Prunable A V F (PageBlob S gs)) (dev
     -- memory was short for the positions, of which there is one
     pub places_short : IsOver p dev a old → (at : ℕ) → IsSomeAnd (slice_get ((p.see a).rows s) at) (λ r. r.index ≡ i) → (r : Result Bool Error) → r ≡ Err Mem → HasAt p dev a i key r old old
     places_short over at row r is =
-        at_untold i s here small (standing (λ x. x.index) i 0 ((p.see a).rows s)) (standing_rows ((p.see a).rows s) i) 0 (omega arith) key old old (not_walked _ _ old over) at row Mem r is tt (short_of_memory old old)
+        at_untold i s here small (standing (λ x. x.index) i 0 ((p.see a).rows s)) (standing_rows ((p.see a).rows s) i) 0 (omega arith) key old old (not_walked _ _ old over) at row Mem r is (no_record p dev a Mem old old tt)
 
     -- no record has both
     pub at_none : IsOver p dev a old → (ps : List ℕ) → ArePositions ((p.see a).rows s) i ps → (items : List ℕ) → items ≡ ps → (n : ℕ) → n ≤ length items → length items ≤ n → (new : D) → HasReadKeys i s key n (take n items) old new → HasAt p dev a i key (Ok false) old new
@@ -406,4 +401,4 @@ module _ {A V F S D : Type 0} {gs : _} (p : Prunable A V F (PageBlob S gs)) (dev
       -- the record could not be read
       pub at_unread : (e : Error) → ReadsRecordAt p dev key_bytes a s (get_or items n 0) (Err e) mid new → (r : Result Bool Error) → r ≡ Err e → HasAt p dev a i key r old new
       at_unread e reads r is = at_untold i s here small ps are (n + 1) fits_next key old new (key_walked (Err e) reads) (get_or items n 0) row_next e r is
-          (unread_cause i s here small (get_or items n 0) row_next _ _ old mid new so_far.walked e reads.ends) (unread_unanswered i s here small (get_or items n 0) row_next _ _ old mid new so_far.walked e reads.ends)
+          (no_record_since p dev a old mid new so_far.walked.footprint.faults e reads.ends)

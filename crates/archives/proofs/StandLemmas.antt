@@ -10,7 +10,7 @@ use Rattle.paired.specs.Kept.{Markers, stored_records}
 use Rattle.paired.specs.Opening.{AreNamed, IsInPlace}
 use Rattle.paired.specs.Places.{Follow, end_of}
 use Rattle.paired.specs.Records as pair
-use Rattle.paired.proofs.OpeningEnds.{follow_first}
+use Rattle.paired.proofs.opening.Ends.{follow_first}
 use Rattle.paired.proofs.RecordLemmas.{all_take, all_by}
 use Rattle.archives.specs.Commands.{Command}
 use Rattle.archives.specs.Filing.{Filing, filed, kept, kept_entries}
@@ -69,7 +69,7 @@ module _ (f : Filing) (wanted : ℕ → List pair.Entry) (synced : ℕ → ℕ) 
 
   lawful : Lawful f image own_markers
   lawful = record {
-    pair = record { names = names; held = keeps.held; true_markers = keeps.true_markers; places = in_place };
+    pair = record { names = names; held = keeps.held; floor = keeps.floor; true_markers = keeps.true_markers; places = in_place };
     in_section = λ s small.
         (let P : List ℕ → Type 0 = λ r. section_of f.items (index_of r) ≡ s in
         subst (AllByRecursion P) (sym (stored_first s small)) (all_take P (length (stored_records f.layout image s)) (map (λ e. e.stored) (wanted s)) (all_map (λ e. e.stored) P (wanted s) (filing.in_section s small))));

@@ -16,7 +16,7 @@ use Rattle.segments.specs.Refusing.{IsPruned}
 use Rattle.segments.specs.declared.journal.Error as journal
 use Rattle.segments.specs.declared.journal.Error.TheVariants as section
 use Rattle.paired.specs.Crashes.{IsOwn}
-use Rattle.paired.specs.GlobSections as glob
+use Rattle.paired.specs.glob.Sections as glob
 use Rattle.paired.specs.Pair as pair
 use Rattle.paired.specs.PairFaults.{FaultsInOrder}
 use Rattle.paired.specs.PairRefusing as faults
@@ -33,10 +33,10 @@ use Rattle.archives.specs.Syncs.{IsSyncCause, SyncFailed, Synced, Syncs}
 use Rattle.archives.specs.declared.error.Error.{Error}
 use Rattle.archives.specs.declared.error.Error.TheVariants.{Mem}
 use Rattle.archives.proofs.Alike.{alike_as}
-use Rattle.archives.proofs.SyncErrors.{WhyStopped, error_in, stopped_at, stopped_cause}
-use Rattle.archives.proofs.SyncLemmas.{sync_moments, sync_settled}
-use Rattle.archives.proofs.SyncNames.{moving_as, own_more, sync_alone}
-use Rattle.archives.proofs.SyncUnderWay.{under_start, under_sync}
+use Rattle.archives.proofs.sync.Errors.{WhyStopped, error_in, stopped_at, stopped_cause}
+use Rattle.archives.proofs.sync.Lemmas.{sync_moments, sync_settled}
+use Rattle.archives.proofs.sync.Names.{moving_as, own_more, sync_alone}
+use Rattle.archives.proofs.sync.UnderWay.{under_start, under_sync}
 
 module _ {A V S D : Type 0} {gs : _} (p : Prunable A V (AppendFactory S) (PageBlob S gs)) (dev : device.Ghosts D) (a : A) where
   -- at each moment from one device to another a crash leaves what stands for the state

@@ -1,56 +1,19 @@
--- What the tables show of the records, what a search over them has still ahead, and how many sections have rows.
-use Rattle.std.proofs.Common.{◌≡◌, ◌≢◌, ◌↔◌, ◌<◌, ◌≤◌, inl, inr, ℕ, zero, suc, List, [], ◌∷◌, map, length, slice_get, get_or, Option, None, Some, IsSomeAnd, IsTrue, IsErrAnd, Result, Ok, Err, Bool, true, false, cond, refl, Less, sym, ◌∙◌, ap, subst, nat_eq, nat_lt, arith}
-use Rattle.std.specs.Global.{Vec}
-use Rattle.std.specs.BTreeMap.{get, is_at, keys}
-use Rattle.std.specs.Cmp.{nat_cmp_is, nat_cmp_total}
-use Rattle.std.specs.Cmp.Lexicographic.{pointwise, same_text, other_text}
-use Rattle.std.specs.List.{All, AllByRecursion, AllWithin, Contains, HoldsAt}
-use Rattle.std.specs.List.Sorted.{IsStrictlySortedBy}
-use Rattle.std.specs.Map.{lookup, keys_of}
-use Rattle.std.specs.Option.{IsSome, option_map}
-use Rattle.std.specs.Ordering.{nat_cmp}
-use Rattle.std.proofs.lemmas.Bool.{lt-ltb, ltb-true}
-use Rattle.std.proofs.lemmas.Cmp.{eq_by_cmp_equiv}
-use Rattle.std.proofs.lemmas.Map.{lookup-none}
-use Rattle.std.proofs.lemmas.Map.Entries.{length-keys_of, none_below_head}
-use Rattle.std.proofs.lemmas.Map.Keys.{IsDistinct-from_sorted, sorted_tail}
-use Rattle.std.proofs.lemmas.Map.Lookups.{exact_unsigned}
-use Rattle.std.proofs.lemmas.Map.Steps.{length-le_from_keys}
-use Rattle.std.proofs.lemmas.Map.Views.{All-keys_found, Contains-from_any, tells_apart}
-use Rattle.std.proofs.lemmas.Option.{slice_get-map, slice_get_cases}
-use Rattle.archives.specs.declared.prunable.tables.Entry.{Entry}
-use Rattle.archives.specs.declared.prunable.tables.Tables.{Tables}
-use Rattle.archives.specs.Rows.{AreFilledBut, FewerThan, HasNotAdded, HasRoom, Pushes, Row, row_of, rows_in, rows_of}
-
--- ---- what is pushed
-
--- memory was short for it
-pub not_pushed : {K E : Type 0} (key_bytes : K → List ℕ) (section : ℕ) (row : Row) (old new : Tables K) (r : Result Unit E) (P : E → Type 0) → IsErrAnd r P → HasNotAdded key_bytes section row old new → Pushes key_bytes section row old r new
-not_pushed key_bytes section row old new (Ok done) P is none = absurd is
-not_pushed key_bytes section row old new (Err e) P is none = none
-
--- ---- a list that shows another, element by element
-
-module _ {A B : Type 0} (f : A → B) (xs : List A) where
-  -- where P holds of an element, Q holds of what shows it
-  pub shows_at : (P : A → Type 0) (Q : B → Type 0) → ((a : A) → P a → Q (f a)) → (i : ℕ) → i < length xs → HoldsAt P xs i → IsSomeAnd (slice_get (map f xs) i) Q
-  shows_at P Q to i lt holds = subst (λ (o : Option B). IsSomeAnd o Q) (sym (slice_get-map f xs i)) (elim (slice_get_cases xs i).1 [
-    | inl e ↦ subst (λ (o : Option A). IsSomeAnd (option_map f o) Q) (sym e.2) (to e.0 (subst P e.3 (holds e.0)))
-    | inr e ↦ absurd (omega arith)
-  ])
-
-  -- where P holds of each element before a place, Q holds of what shows them
-  pub shows_before : (P : A → Type 0) (Q : B → Type 0) → ((a : A) → P a → Q (f a)) → (n : ℕ) → n ≤ length xs → AllWithin P xs 0 n → (i : ℕ) → i < n → IsSomeAnd (slice_get (map f xs) i) Q
-  shows_before P Q to n within all i lt = shows_at P Q to i (omega arith) (λ d. all i d (omega arith) lt)
-
-  -- where P keeps each element from Q, nothing that is shown has Q
-  pub shows_none : (P : A → Type 0) (Q : B → Type 0) → ((a : A) → P a → Q (f a) → ⊥) → AllWithin P xs 0 (length xs) → (i : ℕ) → IsSomeAnd (slice_get (map f xs) i) Q → ⊥
-  shows_none P Q apart all i is =
-      let at = subst (λ (o : Option B). IsSomeAnd o Q) (slice_get-map f xs i) is in
-      elim (slice_get_cases xs i).1 [
-        | inl e ↦ apart e.0 (subst P e.3 (all i e.0 (omega arith) e.1)) (subst (λ (o : Option A). IsSomeAnd (option_map f o) Q) e.2 at)
-        | inr e ↦ subst (λ (o : Option A). IsSomeAnd (option_map f o) Q) e.1 at
-      ]
+-- What the tables say of rows whose keys are seen as their bytes.
+use Rattle.std.proofs.Common.{◌≡◌, ◌≢◌, ◌↔◌, inl, inr, refl, sym, ◌∙◌, ap, subst, ℕ, zero, suc, ◌≤◌, Bool, true, false, List, [], ◌∷◌, ◌++◌, map, slice_get, Contains, None, Some, IsSomeAnd, nat_eq, arith}
+use Rattle.std.specs.Cmp.Lexicographic.{pointwise, other_text, same_text}
+use Rattle.std.specs.List.{AllByRecursion}
+use Rattle.std.proofs.lemmas.List.{length-map, map-append}
+use Rattle.ordinal_store.specs.Numbers.{Set}
+use Rattle.record_tables.specs.Rows as held
+use Rattle.record_tables.specs.Rows.{HasRoom}
+use Rattle.record_tables.specs.Tables as tables
+use Rattle.record_tables.specs.declared.tables.Tables.{Tables}
+use Rattle.archives.specs.Archives.{Archive}
+use Rattle.archives.specs.Finding.{Index, IsIn}
+use Rattle.archives.specs.Machine.{section_of}
+use Rattle.archives.specs.Rows.{AreTables, Row, row_of, rows_of}
+use Rattle.archives.proofs.read.Finding.{IsFirst}
+use Rattle.archives.proofs.read.Records.{clash, from_map, some_value, to_map, weaker_at}
 
 -- ---- keys, told apart by their bytes
 
@@ -61,96 +24,128 @@ module _ {K : Type 0} (eq : K → K → Bool) (key_bytes : K → List ℕ) (by_b
   pub other_key : eq x y ≡ false → key_bytes x ≢ key_bytes y
   other_key is = other_text (key_bytes x) (key_bytes y) (sym is ∙ by_bytes x y)
 
--- ---- what a search over the tables has still ahead
+-- ---- room
 
--- The next entry is another than the one that is looked for: that one comes later.
-pub still_ahead : {K X : Type 0} (test : K → Bool) (ahead rest : List (K × X)) (k : K) (v w : X) → ahead ≡ (k, v) ∷ rest → lookup test ahead ≡ Some w → v ≢ w → lookup test rest ≡ Some w
-still_ahead {K} {X} test ahead rest k v w is found other = by (test k) (subst (λ (es : List (K × X)). lookup test es ≡ Some w) is found)
-  where
-    by : (b : Bool) → cond b (Some v) (lookup test rest) ≡ Some w → lookup test rest ≡ Some w
-    by true first = absurd (other cc)
-    by false later = later
+module _ {X Y : Type 0} (f : X → Y) where
+  none_shown : (xs : List X) → map f xs ≡ [] → xs ≡ []
+  none_shown [] is = refl
+  none_shown (x ∷ xs) is = cc
 
--- The sections that come ascend: none below the next comes any more.
-pub none_below : {X : Type 0} (ahead rest : List (ℕ × X)) (k : ℕ) (v w : X) (s : ℕ) → ahead ≡ (k, v) ∷ rest → IsStrictlySortedBy nat_cmp (keys_of ahead) → s < k → lookup (is_at (nat_cmp s)) ahead ≡ Some w → ⊥
-none_below {X} ahead rest k v w s is up lt found =
-    let sorted = subst (λ (es : List (ℕ × X)). IsStrictlySortedBy nat_cmp (keys_of es)) is up in
-    let none = lookup-none (is_at (nat_cmp s)) ((k, v) ∷ rest) (none_below_head nat_cmp_total s (k, v) rest sorted (sym (nat_cmp_is s k Less lt))) in
-    let at = subst (λ (es : List (ℕ × X)). lookup (is_at (nat_cmp s)) es ≡ Some w) is found in
-    cc
+  shown_none : (xs : List X) → xs ≡ [] → map f xs ≡ []
+  shown_none xs is = ap (map f) is
 
--- the sections that come after the next ascend too
-pub rest_ascends : {X : Type 0} (ahead rest : List (ℕ × X)) (k : ℕ) (v : X) → ahead ≡ (k, v) ∷ rest → IsStrictlySortedBy nat_cmp (keys_of ahead) → IsStrictlySortedBy nat_cmp (keys_of rest)
-rest_ascends {X} ahead rest k v is up = sorted_tail nat_cmp k (keys_of rest) (subst (λ (es : List (ℕ × X)). IsStrictlySortedBy nat_cmp (keys_of es)) is up)
+  module _ (lists : ℕ → List X) where
+    some_shown : (ss : List ℕ) → AllByRecursion (λ s. lists s ≢ []) ss → AllByRecursion (λ s. map f (lists s) ≢ []) ss
+    some_shown [] all = tt
+    some_shown (s ∷ ss) all = (λ none. all.0 (none_shown (lists s) none), some_shown ss all.1)
 
--- where no entry comes any more, none is found
-pub none_ahead : {K X : Type 0} (test : K → Bool) (ahead : List (K × X)) (w : X) → ahead ≡ [] → lookup test ahead ≡ Some w → ⊥
-none_ahead test [] w is found = cc
-none_ahead test (e ∷ es) w is found = cc
+    shown_some : (ss : List ℕ) → AllByRecursion (λ s. map f (lists s) ≢ []) ss → AllByRecursion (λ s. lists s ≢ []) ss
+    shown_some [] all = tt
+    shown_some (s ∷ ss) all = (λ none. all.0 (shown_none (lists s) none), shown_some ss all.1)
 
--- ---- how many sections have rows
+    -- there is room in lists where there is in those that they show
+    pub room_shown : (a b s : ℕ) → HasRoom a b lists s ↔ HasRoom a b (λ t. map f (lists t)) s
+    room_shown a b s = (
+      λ room. elim room as (λ _. HasRoom a b (λ t. map f (lists t)) s) [
+        | inl old ↦ inl (λ none. old.0 (none_shown (lists s) none), omega (arith, old.1, length-map (lists s) f))
+        | inr new ↦ inr (shown_none (lists s) new.0, λ ss up all. new.1 ss up (shown_some ss all))
+      ],
+      λ room. elim room as (λ _. HasRoom a b lists s) [
+        | inl old ↦ inl (λ none. old.0 (shown_none (lists s) none), omega (arith, old.1, length-map (lists s) f))
+        | inr new ↦ inr (none_shown (lists s) new.0, λ ss up all. new.1 ss up (some_shown ss all))
+      ],
+    )
 
--- what holds of the elements of a list holds of each
-each_of : {X : Type 0} (P : X → Type 0) (xs : List X) (x : X) → AllByRecursion P xs → Contains xs x → P x
-each_of P [] x all has = absurd (omega (arith, has.1))
-each_of P (y ∷ ys) x all (zero, lt, is) = subst P is all.0
-each_of P (y ∷ ys) x all (suc k, lt, is) = each_of P ys x all.1 (k, omega (arith, lt), is)
-
--- and what holds at each place holds of the elements
-by_recursion : {X : Type 0} (P : X → Type 0) (xs : List X) → All P xs → AllByRecursion P xs
-by_recursion P [] all = tt
-by_recursion P (x ∷ xs) all = (all 0 x (omega arith), by_recursion P xs (λ k d lt. all (suc k) d (omega (arith, lt))))
+-- within wider limits there is room too
+pub room_wider : {X : Type 0} (a b c d : ℕ) (lists : ℕ → List X) (s : ℕ) → a ≤ c → b ≤ d → HasRoom a b lists s → HasRoom c d lists s
+room_wider a b c d lists s more longer room = elim room as (λ _. HasRoom c d lists s) [
+  | inl old ↦ inl (old.0, omega (arith, old.1, longer))
+  | inr new ↦ inr (new.0, λ ss up all. omega (arith, new.1 ss up all, more))
+]
 
 module _ {K : Type 0} (key_bytes : K → List ℕ) where
-  -- a section without a table has no rows
-  pub rows_none : (t : Tables K) (s : ℕ) → get nat_cmp t.tables s ≡ None → rows_of key_bytes t s ≡ []
-  rows_none t s is = ap (rows_in key_bytes) is
+  -- ---- by index
 
-  -- the rows of a section are those that its table shows
-  pub rows_some : (t : Tables K) (s : ℕ) (table : Vec (Entry K)) → get nat_cmp t.tables s ≡ Some table → rows_of key_bytes t s ≡ map (row_of key_bytes) table.items
-  rows_some t s table is = ap (rows_in key_bytes) is
+  -- the positions of rows are those of the rows that they show
+  pub positions_shown : (rows : List (held.Row K)) (i : ℕ) (ps : List ℕ) → held.ArePositions rows i ps → held.ArePositions (map (row_of key_bytes) rows) i ps
+  positions_shown rows i ps are = record {
+    ascending = are.ascending;
+    exact = λ p. (
+      λ has. to_map (row_of key_bytes) (λ r. r.index ≡ i) rows p ((are.exact p).0 has),
+      λ at. (are.exact p).1 (from_map (row_of key_bytes) (λ r. r.index ≡ i) rows p at),
+    );
+  }
 
-  -- a row of a section is in its table
-  pub table_behind : (t : Tables K) (s q : ℕ) (P : Row → Type 0) → IsSomeAnd (slice_get (rows_of key_bytes t s) q) P
-      → (table : Vec (Entry K)) × (get nat_cmp t.tables s ≡ Some table) × IsSomeAnd (slice_get (map (row_of key_bytes) table.items) q) P
-  table_behind t s q P has = behind (get nat_cmp t.tables s) has
-    where
-      behind : (o : Option (Vec (Entry K))) → IsSomeAnd (slice_get (rows_in key_bytes o) q) P → (table : Vec (Entry K)) × (o ≡ Some table) × IsSomeAnd (slice_get (map (row_of key_bytes) table.items) q) P
-      behind None is = absurd is
-      behind (Some table) is = (table, refl, is)
+  -- memory was short for one of them
+  pub short_shown : (rows : List (held.Row K)) (i : ℕ) → ((p : ℕ) × IsSomeAnd (slice_get rows p) (λ r. r.index ≡ i)) → (p : ℕ) × IsSomeAnd (slice_get (map (row_of key_bytes) rows) p) (λ r. r.index ≡ i)
+  short_shown rows i found = (found.0, to_map (row_of key_bytes) (λ r. r.index ≡ i) rows found.0 found.1)
 
-  -- a table without rows is empty, and only a section with a table has rows
-  shown_none : (xs : List (Entry K)) → map (row_of key_bytes) xs ≡ [] → xs ≡ []
-  shown_none [] is = refl
-  shown_none (x ∷ xs) is = cc
+  -- where the rows of section s are these, the first of an index is the archive's
+  module _ {F B : Type 0} (a : Archive F B) (s i : ℕ) (here : s ≡ section_of a.items i) (rows : List (held.Row K)) (shows : a.rows s ≡ map (row_of key_bytes) rows) where
+    pub first_of : (p : ℕ) → held.FindsFirst rows i (Some p) → IsFirst a (Index i) s p
+    first_of p found = record {
+      here = subst (λ (xs : List Row). IsSomeAnd (slice_get xs p) (λ r. (s ≡ section_of a.items i) × (r.index ≡ i))) (sym shows)
+          (to_map (row_of key_bytes) (λ r. (s ≡ section_of a.items i) × (r.index ≡ i)) rows p (weaker_at (slice_get rows p) (λ r is. (here, is)) found.0));
+      first = λ q lt is. clash (slice_get rows q) (found.1 q lt)
+          (from_map (row_of key_bytes) (λ r. r.index ≡ i) rows q (subst (λ (xs : List Row). IsSomeAnd (slice_get xs q) (λ r. r.index ≡ i)) shows (weaker_at (slice_get (a.rows s) q) (λ r both. both.1) is)))
+          (λ r other same. other same);
+    }
 
-  has_table : (o : Option (Vec (Entry K))) → rows_in key_bytes o ≢ [] → IsSome o
-  has_table None some = absurd (some refl)
-  has_table (Some table) some = refl
+    -- and where there is none, the archive has none
+    pub none_of : held.FindsFirst rows i None → (n : ℕ) → IsIn a (Index i) n → ⊥
+    none_of none n (p, is) =
+        let found = some_value (slice_get (a.rows n) p) is in
+        let there : IsSomeAnd (slice_get (a.rows s) p) (λ r. r.index ≡ i) = subst (λ (m : ℕ). IsSomeAnd (slice_get (a.rows m) p) (λ r. r.index ≡ i)) (found.2.0 ∙ sym here) (weaker_at (slice_get (a.rows n) p) (λ r both. both.1) is) in
+        none p (from_map (row_of key_bytes) (λ r. r.index ≡ i) rows p (subst (λ (xs : List Row). IsSomeAnd (slice_get xs p) (λ r. r.index ≡ i)) shows there))
 
-  has_rows : (o : Option (Vec (Entry K))) → ((table : Vec (Entry K)) → o ≡ Some table → table.items ≢ []) → IsSome o → rows_in key_bytes o ≢ []
-  has_rows None filled is = cc
-  has_rows (Some table) filled is = λ none. filled table refl (shown_none table.items none)
+  -- the set of the indices of rows is that of the rows that they show
+  row_back : (rows : List (held.Row K)) (r : Row) → Contains (map (row_of key_bytes) rows) r → (q : held.Row K) × Contains rows q × (q.index ≡ r.index)
+  row_back [] r has = absurd (omega (arith, has.1))
+  row_back (x ∷ xs) r (zero, lt, is) = (x, (0, omega arith, refl), ap (λ (q : Row). q.index) is)
+  row_back (x ∷ xs) r (suc k, lt, is) = (let found = row_back xs r (k, omega (arith, lt), is) in (found.0, (suc found.1.0, omega (arith, found.1.1), found.1.2), found.2))
 
-  -- There is room for a section's first row exactly while the tables are fewer than the limit.
-  pub few_tables : (t : Tables K) (n : ℕ) → IsStrictlySortedBy nat_cmp (keys t.tables) → AreFilledBut (λ _. ⊥) t → length t.tables.entries < n ↔ FewerThan n (rows_of key_bytes t)
-  few_tables t n sorted filled = (λ lt ss up rows. omega (arith, lt, at_most ss up rows), λ few. omega (arith, few (keys t.tables) sorted own, length-keys_of t.tables.entries))
-    where
-      at_most : (ss : List ℕ) → IsStrictlySortedBy nat_cmp ss → AllByRecursion (λ s. rows_of key_bytes t s ≢ []) ss → length ss ≤ length t.tables.entries
-      at_most ss up rows = length-le_from_keys (eq_by_cmp_equiv nat_cmp_total) ss t.tables.entries (IsDistinct-from_sorted nat_cmp ss up)
-          (λ q is. has_table (get nat_cmp t.tables q) (each_of (λ s. rows_of key_bytes t s ≢ []) ss q rows (Contains-from_any (tells_apart exact_unsigned) q ss is)))
+  row_there : (rows : List (held.Row K)) (q : held.Row K) → Contains rows q → Contains (map (row_of key_bytes) rows) (row_of key_bytes q)
+  row_there [] q has = absurd (omega (arith, has.1))
+  row_there (x ∷ xs) q (zero, lt, is) = (0, omega arith, ap (row_of key_bytes) is)
+  row_there (x ∷ xs) q (suc k, lt, is) = (let found = row_there xs q (k, omega (arith, lt), is) in (suc found.0, omega (arith, found.1), found.2))
 
-      own : AllByRecursion (λ s. rows_of key_bytes t s ≢ []) (keys t.tables)
-      own = by_recursion (λ s. rows_of key_bytes t s ≢ []) (keys t.tables)
-          (λ k d lt. has_rows (get nat_cmp t.tables (get_or (keys t.tables) k d)) (λ table is. filled (get_or (keys t.tables) k d) table is (λ none. none)) (All-keys_found nat_cmp_total t.tables sorted k d lt))
-
-  -- The same, as the test says it, where the section has no table.
-  pub room_for_first : (t : Tables K) (s len most per_section n : ℕ) → IsStrictlySortedBy nat_cmp (keys t.tables) → AreFilledBut (λ _. ⊥) t → get nat_cmp t.tables s ≡ None
-      → len ≡ length t.tables.entries → most ≡ n → IsTrue (nat_lt len most) ↔ HasRoom n per_section (rows_of key_bytes t) s
-  room_for_first t s len most per_section n sorted filled none all limit = (
-    λ lt. inr (rows_none t s none, (few_tables t n sorted filled).0 (omega (arith, ltb-true len most lt, all, limit))),
-    λ room. elim room [
-      | inl has ↦ absurd (has.0 (rows_none t s none))
-      | inr has ↦ lt-ltb len most (omega (arith, (few_tables t n sorted filled).1 has.1, all, limit))
-    ],
+  pub indices_shown : (rows : ℕ → List (held.Row K)) (set : Set) → held.AreIndicesOf rows set → held.AreIndicesOf (λ s. map (row_of key_bytes) (rows s)) set
+  indices_shown rows set are i = (
+    λ is. (let found = (are i).0 is in (found.0, row_of key_bytes found.1, row_there (rows found.0) found.1 found.2, found.3)),
+    λ found. (let back = row_back (rows found.0) found.1 found.2 in (are i).1 (found.0, back.0, back.1, back.2 ∙ found.3)),
   )
+
+  -- sections that show no row have none
+  pub bare_shown : (rows : ℕ → List (held.Row K)) → ((s : ℕ) → rows s ≡ []) → (s : ℕ) → map (row_of key_bytes) (rows s) ≡ []
+  bare_shown rows none s = ap (map (row_of key_bytes)) (none s)
+
+-- The limits allow a row where they allow the record that it shows.
+pub row_allowed : {K W : Type 0} (key_bytes : K → List ℕ) (t : Tables W K) (most per items index s : ℕ) → s ≡ section_of items index
+    → HasRoom most per (tables.rows_of t) s → HasRoom most per (rows_of key_bytes t) (section_of items index)
+row_allowed key_bytes t most per items index s here room = subst (HasRoom most per (rows_of key_bytes t)) here ((room_shown (row_of key_bytes) (tables.rows_of t) most per s).0 room)
+
+-- ---- the tables change
+
+-- A record was added, for which room was made before.
+module _ {K W : Type 0} (key_bytes : K → List ℕ) (eq : W → W → Bool) (word_of : List ℕ → W) (section index : ℕ) (word : W) (key : K)
+    (old mid new : Tables W K) (same : (s : ℕ) → tables.rows_of mid s ≡ tables.rows_of old s)
+    (pushed : tables.Pushes eq section index word key mid new) where
+  -- its row goes last in its section
+  pub row_pushed : (row : Row) → row_of key_bytes (record { index = index; key = key }) ≡ row
+      → rows_of key_bytes new section ≡ rows_of key_bytes old section ++ row ∷ []
+  row_pushed row is =
+      ap (map (row_of key_bytes)) (pushed.added ∙ ap (λ (rows : List (held.Row K)). rows ++ record { index = index; key = key } ∷ []) (same section))
+      ∙ map-append (row_of key_bytes) (tables.rows_of old section) (record { index = index; key = key } ∷ [])
+      ∙ ap (λ (r : Row). rows_of key_bytes old section ++ r ∷ []) is
+
+  -- other sections have the rows that they had
+  pub rows_kept : (s : ℕ) → s ≢ section → rows_of key_bytes new s ≡ rows_of key_bytes old s
+  rows_kept s other = ap (map (row_of key_bytes)) (pushed.others s other ∙ same s)
+
+  -- the tables answer for all, where the word is the key's
+  pub tied_still : tables.HasReserved eq section index word old mid → word_of (key_bytes key) ≡ word
+      → AreTables key_bytes eq word_of old → AreTables key_bytes eq word_of new
+  tied_still reserved its tied = record {
+    order = pushed.order;
+    words = pushed.words (λ k. word_of (key_bytes k)) its (reserved.words (λ k. word_of (key_bytes k)) tied.words);
+  }

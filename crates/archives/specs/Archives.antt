@@ -9,10 +9,10 @@ use Rattle.sealed_pages.specs.declared.write_blob.WriteBlob.{WriteBlob}
 use Rattle.segments.specs.declared.buffer.SectionBuffer as buffer
 use Rattle.segments.specs.declared.unsealed.WriteFactory.{WriteFactory}
 use Rattle.segments.specs.Setting.{Setting}
-use Rattle.paired.specs.GlobSections as glob
+use Rattle.paired.specs.glob.Sections as glob
 use Rattle.paired.specs.Kept.{Layout}
 use Rattle.segments.specs.Sections.{section_key}
-use Rattle.paired.specs.Pair.{HasNoBytes, Pair, IsPair, IsSoundOn, length_of, list_of, records_of, synced_length}
+use Rattle.paired.specs.Pair.{HasNoBytes, Pair, IsPair, IsSafeOn, length_of, list_of, records_of, synced_length}
 use Rattle.archives.specs.Filing.{Filing, filed}
 use Rattle.archives.specs.IndexRecord.{IsSpelled}
 use Rattle.archives.specs.Machine.{State, section_of}
@@ -20,8 +20,8 @@ use Rattle.archives.specs.Rows.{AreWithin, Row, has_row, row_in}
 
 -- What an archive shows: its pair; how many indices a section has room for, how many bytes a key has, and why the
 -- codec refuses a spelling; the limits; the floor, below which all was pruned; of each section a row for each record,
--- by position; that memory holds no table without rows; the set of the indices of all records; and which sections were
--- written since the last sync.
+-- by position; that the tables in memory answer for these rows; the set of the indices of all records; and which
+-- sections were written since the last sync.
 pub record Archive (F B : Type 0) : Type 1 where
   pub pair : Pair F B
   pub items : ℕ
@@ -31,7 +31,7 @@ pub record Archive (F B : Type 0) : Type 1 where
   pub most_records : ℕ
   pub floor : ℕ
   pub rows : ℕ → List Row
-  pub Filled : Type 0
+  pub Tied : Type 0
   pub indices : ℕ → Bool
   pub is_written : ℕ → Bool
 
@@ -76,11 +76,11 @@ module _ {F S : Type 0} {gs : _} (a : Archive F (PageBlob S gs)) where
       floor = a.floor;
     }
 
-    -- The pair is sound; each value is a spelling that the codec accepts; a u64 counts the bytes of each section's
+    -- The pair is sound, and its markers have no floor; each value is a spelling that the codec accepts; a u64 counts the bytes of each section's
     -- values; and no crash leaves values of a section of which none are held, or a foreign name. So it is of an
     -- archive that was opened over a lawful image.
     pub record IsSoundArchive : Type 0 where
-      pub pair : IsSoundOn a.pair d
+      pub pair : IsSafeOn a.pair d
       pub decoded : (s : ℕ) → AllByRecursion (λ e. a.refusal e.value ≡ None) (list_of a.pair d s)
       pub counted : (s : ℕ) → glob.section_size a.pair.values s < 2 ^ 64
       pub absent : (s : ℕ) → s < 2 ^ 64 → a.pair.values.held s ≡ None
@@ -88,9 +88,10 @@ module _ {F S : Type 0} {gs : _} (a : Archive F (PageBlob S gs)) where
       pub names : LeavesNoForeign a.pair.layout d
 
   -- The archive may be used: its pair may; the rows are those of the records, each of them spelled, and in
-  -- its section, and no more than the limits allow; the set of indices is theirs; the floor is the start of a
-  -- section, and nothing is held of one below it; what is not synced is in sections that were written; and
-  -- each of these has a row, and, where the disk is told, something that is not synced.
+  -- its section, and no more than the limits allow; the tables in memory are tied to the rows; the set of indices
+  -- is theirs; the floor is the start of a section, and nothing is held of one below it; what is not synced is in
+  -- sections that were written; and each of these has a row, and, where the disk is told, something that is not
+  -- synced.
   pub record IsArchive (buffers : Buffers F (PageBlob S gs)) (told : Type 0) (opened : OpenedList)
       (d : Disk) : Type 0 where
     pub pair : IsPair buffers.pages buffers.gives buffers.values buffers.takes told a.pair opened d
@@ -100,7 +101,7 @@ module _ {F S : Type 0} {gs : _} (a : Archive F (PageBlob S gs)) where
     pub below : (s : ℕ) → s < a.floor → IsBare a s
     pub listed : told → (s : ℕ) → a.rows s ≡ map (row_in a.key_size) (records_of a.pair d s)
     pub spelled : told → (s : ℕ) → AllByRecursion (IsSpelled a.key_size) (records_of a.pair d s)
-    pub filled : a.Filled
+    pub tied : a.Tied
     pub indices : (i : ℕ) → a.indices i ≡ has_row a.items a.rows i
     pub within : AreWithin a.items a.most_sections a.most_records a.rows
     pub unwritten : (s : ℕ) → a.is_written s ≡ false → synced_length a.pair s ≡ length_of a.pair s

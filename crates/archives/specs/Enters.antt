@@ -1,5 +1,5 @@
 -- What entering the records of a replay promises: one of them, and all.
-use Rattle.std.specs.Prelude.{◌≡◌, ◌≢◌, ◌⊎◌, ◌↔◌, ⊤, ℕ, ◌*◌, ◌<◌, ◌^◌, true, List, [], ◌∷◌, ◌++◌, length, map, Result, Ok, Err}
+use Rattle.std.specs.Prelude.{◌≡◌, ◌≢◌, ◌⊎◌, ◌↔◌, ⊤, ℕ, ◌*◌, ◌<◌, ◌^◌, true, List, [], ◌∷◌, ◌++◌, Bool, length, map, Result, Ok, Err}
 use Rattle.std.specs.List.{AllByRecursion}
 use Rattle.blob_device.specs.Counts.{Rose}
 use Rattle.blob_device.specs.Disk.{Disk, Key}
@@ -12,6 +12,7 @@ use Rattle.segments.specs.Sections.{section_key}
 use Rattle.segments.specs.declared.journal.Damage.{Damage}
 use Rattle.segments.specs.declared.journal.Error.TheVariants as journal
 use Rattle.sealed_pages.specs.declared.page_blob.PageBlob.{PageBlob}
+use Rattle.meta_store.specs.Store.{contents_of}
 use Rattle.paired.specs.Crashes.{IsOwn}
 use Rattle.paired.specs.Kept.{kept, stored_records}
 use Rattle.paired.specs.Opening.{IsLawful, MayBeOpened, RecallsAlone, as_read}
@@ -22,28 +23,29 @@ use Rattle.archives.specs.IndexRecord.{IsSpelled}
 use Rattle.archives.specs.Machine.{section_of}
 use Rattle.archives.specs.Opening.{FindsShort, HasStray, IsPastLimits}
 use Rattle.archives.specs.Refusing.{IsFailure}
-use Rattle.archives.specs.Rows.{AreFilledBut, AreWithin, HasRoom, Row, row_in, rows_of}
+use Rattle.archives.specs.Rows.{AreTables, AreWithin, HasRoom, Row, row_in, rows_of}
 use Rattle.archives.specs.declared.error.Error.{Error}
 use Rattle.archives.specs.declared.error.Error.TheVariants.{Journal, RecordCorrupted, Full, Mem}
 use Rattle.archives.specs.declared.prunable.limits.Limits.{Limits}
-use Rattle.archives.specs.declared.prunable.tables.Tables.{Tables}
+use Rattle.record_tables.specs.declared.tables.Tables.{Tables}
 
 -- ---- one record
 
-module _ {K : Type 0} (key_bytes : K → List ℕ) (items : ℕ) (limits : Limits) where
+module _ {K W : Type 0} (key_bytes : K → List ℕ) (eq : W → W → Bool) (word_of : List ℕ → W) (items : ℕ)
+    (limits : Limits) where
   -- the rows of the tables are in their sections, and within the limits
-  abbrev pub IsWithin : Tables K → Type 0
+  abbrev pub IsWithin : Tables W K → Type 0
   IsWithin t = AreWithin items limits.sections limits.per_section (rows_of key_bytes t)
 
-  module _ (old : Tables K) (section : ℕ) (row : Row) where
+  module _ (old : Tables W K) (section : ℕ) (row : Row) where
     -- the row goes last in its section, and no other section changes
-    pub record HasEnteredRow (new : Tables K) : Type 0 where
+    pub record HasEnteredRow (new : Tables W K) : Type 0 where
       -- the row is the last one of its section
       pub entered : rows_of key_bytes new section ≡ rows_of key_bytes old section ++ row ∷ []
       -- the other sections have the rows that they had
       pub others : (s : ℕ) → s ≢ section → rows_of key_bytes new s ≡ rows_of key_bytes old s
-      -- no section has a table without rows
-      pub filled : AreFilledBut (λ _. ⊥) new
+      -- the tables answer for it
+      pub tied : AreTables key_bytes eq word_of new
       -- the limits are kept where they were
       pub within : IsWithin old → IsWithin new
       -- the section is that of the index
@@ -61,7 +63,7 @@ module _ {K : Type 0} (key_bytes : K → List ℕ) (items : ℕ) (limits : Limit
     IsEntryCause e = ⊥
 
     -- The record was entered, or refused. It is entered only where there was room.
-    abbrev pub EntersRow : Result Unit Error → Tables K → Type 0
+    abbrev pub EntersRow : Result Unit Error → Tables W K → Type 0
     EntersRow (Ok done) new = HasEnteredRow new × ((HasRoomHere → ⊥) → ⊥)
     EntersRow (Err e) new = IsEntryCause e
 
@@ -102,21 +104,21 @@ module _ {F S D : Type 0} {gs : _} (buffers : Buffers F (PageBlob S gs)) (dev : 
       -- the image keeps what it did
       pub keeps : (s : ℕ) → s < 2 ^ 64 → kept_on (disk (dev.time new)) s ≡ kept_on (disk (dev.time old)) s
       -- it stays lawful
-      pub lawful : IsLawful from.layout (as_read (disk (dev.time old))) from.store.entries
-          → IsLawful from.layout (as_read (disk (dev.time new))) from.store.entries
+      pub lawful : IsLawful from.layout (as_read (disk (dev.time old))) (contents_of from.store)
+          → IsLawful from.layout (as_read (disk (dev.time new))) (contents_of from.store)
       -- it may still be opened
       pub opened : MayBeOpened from.layout (disk (dev.time old)) → MayBeOpened from.layout (disk (dev.time new))
 
     -- The replay was drained.
-    pub record HasDrained (rows : ℕ → List Row) (AreFilled : Type 0) : Type 0 where
+    pub record HasDrained (rows : ℕ → List Row) (AreTied : Type 0) : Type 0 where
       -- the replay has not failed
       pub going : HasFailed to → ⊥
       -- it has nothing left to give
       pub drained : IsDrained to.walk
       -- the rows are in their sections, and within the limits
       pub within : AreWithin items limits.sections limits.per_section rows
-      -- no section has a table without rows
-      pub filled : AreFilled
+      -- the tables answer for them
+      pub tied : AreTied
       -- what was entered, on a device that tells its disk
       pub told : dev.Tells → HasEnteredAll rows
 
@@ -153,21 +155,21 @@ module _ {F S D : Type 0} {gs : _} (buffers : Buffers F (PageBlob S gs)) (dev : 
       -- why
       pub cause : IsDrainCause e
       -- a lawful image is refused only by its records
-      pub complete : dev.Tells → IsLawful from.layout (as_read (disk (dev.time old))) from.store.entries
+      pub complete : dev.Tells → IsLawful from.layout (as_read (disk (dev.time old))) (contents_of from.store)
           → (e ≡ RecordCorrupted) ⊎ ((e ≡ Full) ⊎ IsFailure (dev.faults old) (dev.faults new) e)
 
     abbrev pub DrainEnds : {T : Type 0} → (T → ℕ → List Row) → (T → Type 0) → Result T Error → Type 0
-    DrainEnds rows AreFilled (Ok t) = HasDrained (rows t) (AreFilled t)
-    DrainEnds rows AreFilled (Err e) = HasNotDrained e
+    DrainEnds rows AreTied (Ok t) = HasDrained (rows t) (AreTied t)
+    DrainEnds rows AreTied (Err e) = HasNotDrained e
 
     -- a value blob is read no more often than records of its section may be left to check
     abbrev pub ReadsLeft : Key → ℕ → Type 0
     ReadsLeft q n = dev.Tells
         × ((s : ℕ) × (s < 2 ^ 64) × (q ≡ section_key from.layout.values s) × LeftAtMost from (disk (dev.time old)) s n)
 
-    -- The replay was drained into tables, or failed. How the tables show rows, when none is without rows, and what
+    -- The replay was drained into tables, or failed. How the tables show rows, when they answer for them, and what
     -- the codec of the replay's values was told before and after, is given.
-    pub record Drains {T C : Type 0} (rows : T → ℕ → List Row) (AreFilled : T → Type 0)
+    pub record Drains {T C : Type 0} (rows : T → ℕ → List Row) (AreTied : T → Type 0)
         (config_before config_after : C) (result : Result T Error) : Type 0 where
       -- the replay may be used further
       pub over : MayRun to new
@@ -182,4 +184,4 @@ module _ {F S D : Type 0} {gs : _} (buffers : Buffers F (PageBlob S gs)) (dev : 
       -- no blob is touched but those of the layout
       pub footprint : Footprint dev (IsOwn from.layout (λ _. ⊤)) ReadsLeft old new
       -- how it ended
-      pub ends : DrainEnds rows AreFilled result
+      pub ends : DrainEnds rows AreTied result

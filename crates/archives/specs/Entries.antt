@@ -1,8 +1,8 @@
 -- What lookups of all records at an index promise.
-use Rattle.std.specs.Prelude.{◌≡◌, ◌⊎◌, ⊤, ℕ, ◌+◌, ◌*◌, ◌/◌, Bool, false, List, map, Option, None, Result, Ok, Err, IfOk, IfSome, IsSomeAnd, option_map, slice_get}
+use Rattle.std.specs.Prelude.{◌≡◌, ◌⊎◌, ⊤, ℕ, ◌+◌, ◌*◌, ◌/◌, Bool, List, map, Option, None, Some, Result, Ok, Err, IfOk, IfSome, IsSomeAnd, option_map, slice_get, false}
 use Rattle.std.specs.List.{AllByRecursion}
 use Rattle.blob_device.specs.Disk.{Key}
-use Rattle.blob_device.specs.Footprint.{Footprint}
+use Rattle.blob_device.specs.Footprint.{Footprint, NoBound}
 use Rattle.blob_device.specs.Timeline.{disk}
 use Rattle.blob_device.specs.declared.device.Device as device
 use Rattle.segments.specs.Sections.{section_key}
@@ -12,11 +12,12 @@ use Rattle.paired.specs.Crashes.{IsBlobOf, IsIndexOf}
 use Rattle.paired.specs.Kept.{Layout}
 use Rattle.paired.specs.Pair.{list_of}
 use Rattle.archives.specs.Changes.{AsksAll, AsksAt, IsUnanswered, outcome, state_over}
-use Rattle.archives.specs.Finding.{Index}
-use Rattle.archives.specs.Gets.{HasNotRead, HasToLookIn, IsLookupCause, Reads, SomeToLookAt}
+use Rattle.archives.specs.Finding.{Index, IsIn}
+use Rattle.archives.specs.Finding as wanted_by
+use Rattle.archives.specs.Gets.{HasEnds, HasNoRecord, HasToLookIn, IsLookupCause, ReadEnds, Reads, ReadsValueAlone, SomeToLookAt}
 use Rattle.archives.specs.IndexRecord.{IsInRange, key_of, spelling_of}
 use Rattle.archives.specs.Machine.{all_entries, entries_at, section_of}
-use Rattle.archives.specs.Prunable.{IsOver, Prunable, filing_by, meaning}
+use Rattle.archives.specs.Prunable.{HasToLook, IsOver, Prunable, filing_by, meaning}
 use Rattle.archives.specs.Rows.{count_with}
 use Rattle.archives.specs.declared.error.Error.{Error}
 use Rattle.archives.specs.declared.prunable.index_record.IndexRecord.{IndexRecord}
@@ -71,7 +72,7 @@ module _ {A V F S D : Type 0} {gs : _} (p : Prunable A V F (PageBlob S gs))
 
     abbrev pub RecordEnds : A → ℕ → ℕ → Result (IndexRecord K) Error → D → D → Type 0
     RecordEnds a s at (Ok r) old new = HasRecord a s at r old
-    RecordEnds a s at (Err e) old new = HasNotRead p dev a s at e old new
+    RecordEnds a s at (Err e) old new = HasNoRecord p dev a e old new
 
     -- A reading of record `at` of section s, without its value.
     pub record ReadsRecordAt (a : A) (s at : ℕ) (result : Result (IndexRecord K) Error)
@@ -86,6 +87,19 @@ module _ {A V F S D : Type 0} {gs : _} (p : Prunable A V F (PageBlob S gs))
       -- how it ended
       pub ends : RecordEnds a s at result old new
 
+    -- A reading of the value of a record r of section s that was read before.
+    pub record ReadsValueOf (a : A) (s : ℕ) (r : IndexRecord K) (result : Result V Error)
+        (old new : D) : Type 0 where
+      -- the archive may still be used
+      pub over : IsOver p dev a new
+      -- no blob's history has changed
+      pub unchanged : dev.Tells → Unchanged (dev.time old) (dev.time new)
+      -- only the blob of the section's values is read, once
+      pub footprint : Footprint dev (λ q. q ≡ section_key (filing_by p a).layout.values s)
+          (ReadsValueAlone (filing_by p a).layout s) old new
+      -- how it ended, where the record still stands on the disk
+      pub ends : (at : ℕ) → HasRecord a s at r old → ReadEnds p dev a s at result old new
+
     -- A reading of key and value of record `at` of section s.
     pub record ReadsEntry (a : A) (s at : ℕ) (result : Result (K × V) Error)
         (old new : D) : Type 0 where
@@ -93,6 +107,45 @@ module _ {A V F S D : Type 0} {gs : _} (p : Prunable A V F (PageBlob S gs))
       pub reads : Reads p dev a s at (outcome (λ e. e.1) result) old new
       -- and the key is the record's
       pub key : IfOk result (λ e. HasKeyThere a s at e.0 old)
+
+    -- ---- a record with a key
+
+    -- The record r of section s has the key.
+    pub record HasFound (a : A) (key : List ℕ) (s : ℕ) (r : IndexRecord K) (old : D) : Type 0 where
+      -- its position
+      pub at : ℕ
+      -- a lookup has to look there: its key has the word
+      pub near : HasToLook p a (wanted_by.Key key) s at
+      -- it is the one on the disk
+      pub stands : HasRecord a s at r old
+      -- and it has the whole key
+      pub same : key_bytes r.key ≡ key
+
+    -- no record has it
+    abbrev pub HasNotFound : A → List ℕ → D → Type 0
+    HasNotFound a key old = dev.Tells → (s : ℕ) → IsIn (p.see a) (wanted_by.Key key) s → ⊥
+
+    abbrev pub FindEnds : A → List ℕ → Result (Option (ℕ × IndexRecord K)) Error → D → D → Type 0
+    FindEnds a key (Ok (Some found)) old new = HasFound a key found.0 found.1 old
+    FindEnds a key (Ok None) old new = HasNotFound a key old
+    FindEnds a key (Err e) old new = HasNoRecord p dev a e old new
+
+    -- A search for a record with the key, without its value.
+    pub record FindsKey (a : A) (key : List ℕ) (result : Result (Option (ℕ × IndexRecord K)) Error)
+        (old new : D) : Type 0 where
+      -- the archive may still be used
+      pub over : IsOver p dev a new
+      -- no blob's history has changed
+      pub unchanged : dev.Tells → Unchanged (dev.time old) (dev.time new)
+      -- only blobs of records are read, of sections with a record whose key has the word
+      pub footprint : Footprint dev
+          (IsIndexOf (filing_by p a).layout (HasToLookIn p dev a (wanted_by.Key key))) NoBound
+          old new
+      -- where there is no such record, the device is not touched
+      pub none : (SomeToLookAt p dev a (wanted_by.Key key) (λ s at. ⊤) → ⊥)
+          → (result ≡ Ok None) × (new ≡ old)
+      -- how it ended
+      pub ends : FindEnds a key result old new
 
     -- ---- keys and values of all records at an index
 
@@ -145,10 +198,6 @@ module _ {A V F S D : Type 0} {gs : _} (p : Prunable A V F (PageBlob S gs))
 
   -- ---- index and key
 
-  abbrev pub AtEnds : A → ℕ → Result Bool Error → D → D → Type 0
-  AtEnds a index (Ok flag) old new = ⊤
-  AtEnds a index (Err e) old new = IsLookupCause p dev a (Index index) old new e
-
   -- Whether one record has both this index and this key. No value is read.
   pub record HasAt (a : A) (index : ℕ) (key : List ℕ) (result : Result Bool Error)
       (old new : D) : Type 0 where
@@ -163,4 +212,4 @@ module _ {A V F S D : Type 0} {gs : _} (p : Prunable A V F (PageBlob S gs))
     pub none : (SomeToLookAt p dev a (Index index) (λ s at. ⊤) → ⊥)
         → (result ≡ Ok false) × (new ≡ old)
     -- why there is no answer
-    pub ends : AtEnds a index result old new
+    pub ends : HasEnds p dev a result old new

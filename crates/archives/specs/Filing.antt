@@ -3,7 +3,7 @@ use Rattle.std.specs.Prelude.{◌≡◌, ◌⊎◌, ℕ, List, map, Option}
 use Rattle.blob_device.specs.Disk.{Image, Key}
 use Rattle.value_codec.specs.declared.codec.Error as codec
 use Rattle.segments.specs.Sections.{section_key}
-use Rattle.paired.specs.Kept.{IsSameLayout, Layout, Markers, marker_of}
+use Rattle.paired.specs.Kept.{IsSameLayout, Layout, Markers}
 use Rattle.paired.specs.Kept as pair
 use Rattle.paired.specs.Records as stored
 use Rattle.archives.specs.IndexRecord.{index_of, key_of}
@@ -33,9 +33,9 @@ pub record IsSameFiling (f g : Filing) : Type 0 where
   pub most_sections : g.most_sections ≡ f.most_sections
   pub most_records : g.most_records ≡ f.most_records
 
--- the floor that markers hold, below which an image keeps nothing: none is stored
+-- the floor that stands with the markers; what an image keeps does not go by it yet, and in a lawful one it is 0
 abbrev pub floor_of : Markers → ℕ
-floor_of markers = 0
+floor_of markers = markers.floor
 
 module _ (f : Filing) where
   -- a record as the machine has it: the index and the key that its bytes say, and the spelling of its value
@@ -45,7 +45,7 @@ module _ (f : Filing) where
   module _ (image : Image) (markers : Markers) where
     -- the records that the image keeps of a section, with their values
     abbrev pub kept_entries : ℕ → List stored.Entry
-    kept_entries s = pair.kept f.layout image (marker_of markers s) s
+    kept_entries s = pair.kept_by f.layout image markers s
 
     -- the same, as the machine has them
     abbrev pub kept : ℕ → List (Entry (List ℕ))

@@ -1,5 +1,5 @@
 -- Which record a lookup finds.
-use Rattle.std.specs.Prelude.{◌≡◌, ℕ, ◌<◌, List, slice_get, IsSomeAnd}
+use Rattle.std.specs.Prelude.{◌≡◌, ℕ, List, slice_get, IsSomeAnd}
 use Rattle.archives.specs.Archives.{Archive}
 use Rattle.archives.specs.Commands.{Command}
 use Rattle.archives.specs.Commands as command
@@ -17,15 +17,15 @@ abbrev pub wanted_of : {K : Type 0} → (K → List ℕ) → Identifier K → Wa
 wanted_of key_bytes (identifier.Index i) = Index i
 wanted_of key_bytes (identifier.Key k) = Key (key_bytes k.now)
 
--- The row of a record of section s that a lookup has to look at: one that has the index, or a key with the word of
--- the wanted one. One by its index is looked for in the index's section alone.
-abbrev pub IsCandidate : {W : Type 0} → (List ℕ → W) → ℕ → Wanted → ℕ → Row → Type 0
-IsCandidate word items (Index i) s r = (s ≡ section_of items i) × (r.index ≡ i)
-IsCandidate word items (Key k) s r = word r.key ≡ word k
+-- The row of a record of section s that a lookup has to look at: one that has the index, or a key that is alike the
+-- wanted one. One by its index is looked for in the index's section alone.
+abbrev pub IsCandidate : (List ℕ → List ℕ → Type 0) → ℕ → Wanted → ℕ → Row → Type 0
+IsCandidate AreAlike items (Index i) s r = (s ≡ section_of items i) × (r.index ≡ i)
+IsCandidate AreAlike items (Key k) s r = AreAlike k r.key
 
--- the row of one that is wanted: the same, by whole keys in place of words
+-- the row of one that is wanted: the same, by whole keys
 abbrev pub IsWanted : ℕ → Wanted → ℕ → Row → Type 0
-IsWanted = IsCandidate (λ key. key)
+IsWanted = IsCandidate (λ k key. key ≡ k)
 
 -- the commands that ask for its value, and whether it is there
 abbrev pub get_command : Wanted → Command (List ℕ)
@@ -45,11 +45,6 @@ module _ {F B : Type 0} (a : Archive F B) (wanted : Wanted) where
   abbrev pub IsIn : ℕ → Type 0
   IsIn s = (p : ℕ) × IsAt s p
 
-  -- it is the first one of its section that is
-  pub record IsFirst (s p : ℕ) : Type 0 where
-    pub here : IsAt s p
-    pub first : (q : ℕ) → q < p → IsAt s q → ⊥
-
 -- record p of section s is one of these
-abbrev pub IsNear : {W F B : Type 0} → (List ℕ → W) → Archive F B → Wanted → ℕ → ℕ → Type 0
-IsNear word a wanted s p = IsSomeAnd (slice_get (a.rows s) p) (IsCandidate word a.items wanted s)
+abbrev pub IsNear : {F B : Type 0} → (List ℕ → List ℕ → Type 0) → Archive F B → Wanted → ℕ → ℕ → Type 0
+IsNear AreAlike a wanted s p = IsSomeAnd (slice_get (a.rows s) p) (IsCandidate AreAlike a.items wanted s)

@@ -1,5 +1,5 @@
 -- What lookups promise.
-use Rattle.std.specs.Prelude.{◌≡◌, ◌⊎◌, ⊤, ℕ, ◌+◌, ◌/◌, ◌^◌, ◌<◌, ◌≤◌, Bool, List, Option, Some, None, Result, Ok, Err, IfSome, IsSomeAnd, slice_get}
+use Rattle.std.specs.Prelude.{◌≡◌, ◌⊎◌, ⊤, ℕ, ◌+◌, ◌/◌, ◌^◌, ◌<◌, ◌≤◌, Bool, false, List, Option, Some, None, Result, Ok, Err, IfSome, IsSomeAnd, slice_get}
 use Rattle.blob_device.specs.Counts.{Rose}
 use Rattle.blob_device.specs.Disk.{Disk, Key}
 use Rattle.blob_device.specs.Footprint.{Footprint, NoBound}
@@ -11,14 +11,14 @@ use Rattle.segments.specs.Sections.{key_of, section_key}
 use Rattle.segments.specs.declared.journal.Error.TheVariants as journal
 use Rattle.sealed_pages.specs.Reading.{Unchanged}
 use Rattle.sealed_pages.specs.declared.page_blob.PageBlob.{PageBlob}
-use Rattle.paired.specs.Crashes.{IsBlobOf, IsIndexOf}
+use Rattle.paired.specs.Crashes.{IsIndexOf}
 use Rattle.paired.specs.Frames.{HasFrame, IsBroken}
-use Rattle.paired.specs.GlobSections as glob
+use Rattle.paired.specs.glob.Sections as glob
 use Rattle.paired.specs.Kept.{Layout}
 use Rattle.paired.specs.Pair.{list_of}
 use Rattle.archives.specs.Archives.{Archive}
 use Rattle.archives.specs.Changes.{AsksValue, AsksWhether, IsUnanswered}
-use Rattle.archives.specs.Finding.{Wanted}
+use Rattle.archives.specs.Finding.{IsIn, Wanted}
 use Rattle.archives.specs.Finding as wanted_by
 use Rattle.archives.specs.Prunable.{HasToLook, IsOver, Prunable, filing_by, meaning}
 use Rattle.archives.specs.Reading.{NamesPlace}
@@ -61,6 +61,21 @@ module _ {F S : Type 0} {gs : _} (a : Archive F (PageBlob S gs)) (d : Disk) wher
     -- no other comes
     IsReadCause e = ⊥
 
+-- Why a record cannot be read without its value, where `told`. It is there, whole, so on a device that tells its disk
+-- only memory or the device is the cause.
+abbrev pub IsRecordCause : (told : Type 0) → (before now : ℕ) → Error → Type 0
+-- want of memory is free
+IsRecordCause told before now Mem = ⊤
+-- the device failed
+IsRecordCause told before now (Journal (journal.Runtime runtime.Fault)) = Rose before now
+-- its page is damaged, it is not there, or its bytes are no record: not on such a device
+IsRecordCause told before now (Journal (journal.Runtime (runtime.InvalidChecksum k))) = told → ⊥
+IsRecordCause told before now (Journal (journal.SectionOutOfRange n)) = told → ⊥
+IsRecordCause told before now (Journal (journal.ItemOutOfRange n)) = told → ⊥
+IsRecordCause told before now (Journal (journal.Codec e)) = told → ⊥
+-- no other comes: no value is read
+IsRecordCause told before now e = ⊥
+
 -- one of the two blobs of a section
 abbrev pub IsSectionBlob : Layout → ℕ → Key → Type 0
 IsSectionBlob l s q = (q ≡ section_key l.index s) ⊎ (q ≡ section_key l.values s)
@@ -72,10 +87,19 @@ abbrev pub ReadsRecord : Layout → ℕ → Key → ℕ → Type 0
 ReadsRecord l s q n =
     ((q ≡ section_key l.index s) × (n ≡ l.record_size / l.page_size + 2)) ⊎ ((q ≡ section_key l.values s) × (n ≡ 1))
 
--- By index that, of each section. By key nothing is said: several records may have the wanted word.
+-- one value of a section, without its record
+abbrev pub ReadsValueAlone : Layout → ℕ → Key → ℕ → Type 0
+ReadsValueAlone l s q n = (q ≡ section_key l.values s) × (n ≡ 1)
+
+-- the blobs of records of sections that P names, and that of the values of one section
+abbrev pub IsIndexOrValues : Layout → (ℕ → Type 0) → Option ℕ → Key → Type 0
+IsIndexOrValues l P section q = IsIndexOf l P q ⊎ IsSomeAnd section (λ s. q ≡ section_key l.values s)
+
+-- By index that, of each section. By key one value of each, and of records nothing is said: several may have the wanted
+-- word.
 abbrev pub ReadsWanted : Layout → Wanted → Key → ℕ → Type 0
 ReadsWanted l (wanted_by.Index i) q n = (s : ℕ) × (s < 2 ^ 64) × ReadsRecord l s q n
-ReadsWanted l (wanted_by.Key k) q n = ⊥
+ReadsWanted l (wanted_by.Key k) q n = (s : ℕ) × (s < 2 ^ 64) × ReadsValueAlone l s q n
 
 -- ---- the calls
 
@@ -94,6 +118,13 @@ module _ {A V F S D : Type 0} {gs : _} (p : Prunable A V F (PageBlob S gs)) (dev
   pub record HasNotRead (s at : ℕ) (e : Error) (old new : D) : Type 0 where
     -- why
     pub cause : IsReadCause (p.see a) (disk (dev.time old)) dev.Tells (λ P. P s at) (dev.faults old) (dev.faults new) e
+    -- over a sound archive only memory or the device is the cause
+    pub unanswered : IsUnanswered (meaning p) dev a e old new
+
+  -- The record itself cannot be read.
+  pub record HasNoRecord (e : Error) (old new : D) : Type 0 where
+    -- why
+    pub cause : IsRecordCause dev.Tells (dev.faults old) (dev.faults new) e
     -- over a sound archive only memory or the device is the cause
     pub unanswered : IsUnanswered (meaning p) dev a e old new
 
@@ -136,18 +167,22 @@ module _ {A V F S D : Type 0} {gs : _} (p : Prunable A V F (PageBlob S gs)) (dev
   pub record Gets (wanted : Wanted) (result : Result (Option V) Error) (old new : D) : Type 0 where
     -- what every archive promises
     pub asks : AsksValue (meaning p) dev p.spelling a wanted result old new
-    -- only blobs of sections with a record at which it has to look are read, and by index one record, and one value
-    -- once
-    pub footprint : Footprint dev (IsBlobOf (filing_by p a).layout (HasToLookIn wanted))
+    -- the section of which a value is read, where one is
+    pub section : Option ℕ
+    -- one of its records is wanted, where the device tells; and there it has to look
+    pub there : IfSome section (λ s. HasToLookIn wanted s × (dev.Tells → IsIn (p.see a) wanted s))
+    -- Only blobs of records are read, of sections with a record at which it has to look; and of that section the values,
+    -- once. By index one record is read.
+    pub footprint : Footprint dev (IsIndexOrValues (filing_by p a).layout (HasToLookIn wanted) section)
         (ReadsWanted (filing_by p a).layout wanted) old new
     -- where there is no such record, the device is not touched
     pub none : (SomeToLookAt wanted (λ s at. ⊤) → ⊥) → (result ≡ Ok None) × (new ≡ old)
     -- why there is no answer, or that the value found is one that may be put
     pub ends : GetEnds wanted result old new
 
-  abbrev pub HasEnds : Wanted → Result Bool Error → D → D → Type 0
-  HasEnds wanted (Ok flag) old new = ⊤
-  HasEnds wanted (Err e) old new = IsLookupCause wanted old new e
+  abbrev pub HasEnds : Result Bool Error → D → D → Type 0
+  HasEnds (Ok flag) old new = ⊤
+  HasEnds (Err e) old new = IsRecordCause dev.Tells (dev.faults old) (dev.faults new) e
 
   -- Whether it is there. No value is read, and no blob but those of sections with a record at which it has to look.
   pub record Has (wanted : Wanted) (result : Result Bool Error) (old new : D) : Type 0 where
@@ -155,5 +190,7 @@ module _ {A V F S D : Type 0} {gs : _} (p : Prunable A V F (PageBlob S gs)) (dev
     pub asks : AsksWhether (meaning p) dev a wanted result old new
     -- only blobs of records are read, of sections with a record at which it has to look
     pub footprint : Footprint dev (IsIndexOf (filing_by p a).layout (HasToLookIn wanted)) NoBound old new
+    -- where there is no such record, the device is not touched
+    pub none : (SomeToLookAt wanted (λ s at. ⊤) → ⊥) → (result ≡ Ok false) × (new ≡ old)
     -- why there is no answer
-    pub ends : HasEnds wanted result old new
+    pub ends : HasEnds result old new

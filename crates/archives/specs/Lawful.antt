@@ -11,10 +11,10 @@ use Rattle.archives.specs.IndexRecord.{index_of}
 use Rattle.archives.specs.Machine.{section_of}
 
 -- An image is lawful with these markers. As a pair it is: names of sections have eight bytes; both copies of the
--- markers are in order and hold these; each marker's section has so many records, all of them sound; and the value
--- places of a section begin at 0 and follow each other. Each record, kept or not, lies in its section; each kept
--- value is a spelling that the codec accepts; and no more sections keep a record, and no section keeps more records,
--- than the limits allow.
+-- markers are in order and hold these, with the floor 0; each marker's section has so many records, all of them
+-- sound; and the value places of a section begin at 0 and follow each other. Each record, kept or not, lies in its
+-- section; each kept value is a spelling that the codec accepts; and no more sections keep a record, and no section
+-- keeps more records, than the limits allow.
 pub record Lawful (f : Filing) (image : Image) (markers : Markers) : Type 0 where
   pub pair : IsLawful f.layout image markers
   pub in_section : (s : ℕ) → s < 2 ^ 64

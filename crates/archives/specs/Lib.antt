@@ -6,7 +6,7 @@
 pub mod Commands
 pub mod Replies
 pub mod Machine
-pub mod Plain
+pub mod plain
 pub mod Words
 pub mod Raised
 pub mod Limits
@@ -24,6 +24,7 @@ pub mod Indices
 pub mod Prunable
 pub mod Shown
 pub mod Refusing
+pub mod Growing
 pub mod Putting
 pub mod PuttingLaws
 pub mod Syncing

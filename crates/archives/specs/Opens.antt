@@ -17,7 +17,7 @@ use Rattle.segments.specs.declared.sealed.AppendFactory.{AppendFactory}
 use Rattle.sealed_pages.specs.Reads.{IsShort}
 use Rattle.sealed_pages.specs.declared.page_blob.PageBlob.{PageBlob}
 use Rattle.paired.specs.Crashes.{IsOwn}
-use Rattle.paired.specs.GlobSections as glob
+use Rattle.paired.specs.glob.Sections as glob
 use Rattle.paired.specs.Kept.{content_at, IsMarked, Markers, marker_of, stored_records}
 use Rattle.paired.specs.Opening.{HoldMarkers, MayBeOpened, RecallsAlone, as_read}
 use Rattle.paired.specs.OpeningRefusing.{AreCounted, IsLost, IsProved}
@@ -26,7 +26,7 @@ use Rattle.archives.specs.Changes.{IsSoundOver, MayUse, state_over}
 use Rattle.archives.specs.Commands.{Reopen}
 use Rattle.archives.specs.Filing.{Filing, IsSameFiling, floor_of, kept_entries}
 use Rattle.archives.specs.Lawful.{Lawful}
-use Rattle.archives.specs.Machine.{State, Step}
+use Rattle.archives.specs.Machine.{State, Step, stored_floor}
 use Rattle.archives.specs.Opening.{HasNoVersion, HasStray, IsPastLimits, LeavesLawful, OfKept}
 use Rattle.archives.specs.Prunable.{Prunable, Setup, filing_by, meaning, value_buffer_of, write_buffer_of}
 use Rattle.archives.specs.Putting.{record_tail, value_tail}
@@ -46,12 +46,12 @@ module _ (f : Filing) where
   module _ (d : Disk) (markers : Markers) where
     -- a section's marker is not the number of records that are kept of it: an opening has to move it
     abbrev pub HasToMove : Type 0
-    HasToMove = (s : ℕ) × (s < 2 ^ 64) × (marker_of markers s ≢ length (kept_entries f (as_read d) markers s))
+    HasToMove = (s : ℕ) × (s < 2 ^ 64) × (marker_of markers.entries s ≢ length (kept_entries f (as_read d) markers s))
 
     -- a marker is lost, or the whole records of its section's sealed prefix are fewer than it says
     abbrev pub IsShortOf : Damage → Type 0
-    IsShortOf x = IsLost f.layout (IsMarked markers) d x
-        ⊎ ((m : ℕ) × IsMarked markers x.section m × (x.wanted ≡ m * f.layout.record_size)
+    IsShortOf x = IsLost f.layout (IsMarked markers.entries) d x
+        ⊎ ((m : ℕ) × IsMarked markers.entries x.section m × (x.wanted ≡ m * f.layout.record_size)
         × (x.kept ≡ length (stored_records f.layout (as_read d) x.section) * f.layout.record_size)
         × (x.kept < x.wanted))
 
@@ -64,7 +64,7 @@ module _ (f : Filing) where
     -- it has bytes of this record
     pub position : ℕ
     -- the markers say so
-    pub marked : IsMarked markers section marker
+    pub marked : IsMarked markers.entries section marker
     -- the marker counts the record
     pub below : position < marker
     -- no slot covers the page so far
@@ -168,7 +168,7 @@ module _ (f : Filing) where
       -- the blob is that of its values
       pub is : q ≡ section_key f.layout.values section
       -- the bound is the number of its records at or above the marker
-      pub bound : n ≡ length (stored_records f.layout (as_read from) section) - marker_of markers section
+      pub bound : n ≡ length (stored_records f.layout (as_read from) section) - marker_of markers.entries section
 
     -- What crashes leave, of a disk that may be opened, at every moment of the call, also where it fails.
     pub record OpeningLeaves : Type 0 where
@@ -202,8 +202,8 @@ module _ {A V S D : Type 0} {gs : _} (p : Prunable A V (AppendFactory S) (PageBl
       -- over any image: all bytes of a section's values are in its blob
       pub values : (s : ℕ) → s < 2 ^ 64
           → glob.section_size (p.see r).pair.values s ≡ length (content_at (as_read after) f.layout.values s)
-      -- the floor is that of the markers
-      pub floor : OfMarkers f before (λ markers. (p.see r).floor ≡ floor_of markers)
+      -- the floor is what is left of the one that stands with the markers: 0, whatever the copies name
+      pub floor : OfMarkers f before (λ markers. (p.see r).floor ≡ stored_floor (floor_of markers))
       -- of a lawful image the state is its start state
       pub start : (markers : Markers) → Lawful f (as_read before) markers
           → IsStart f (as_read before) markers (state_over (meaning p) dev r new)
@@ -211,7 +211,7 @@ module _ {A V S D : Type 0} {gs : _} (p : Prunable A V (AppendFactory S) (PageBl
       pub kept : MayBeKept f before
       -- each marker's records are there: the last one is sealed, and its value stands within the section's values
       pub proved : (markers : Markers) → HoldMarkers f.layout (as_read before) markers
-          → (s m : ℕ) → IsMarked markers s m → IsProved f.layout before s m
+          → (s m : ℕ) → IsMarked markers.entries s m → IsProved f.layout before s m
       -- The archive is sound where crashes leave lawful images now: where they did before, and where what was unlawful
       -- has been cut off.
       pub sound : MayBeOpened f.layout before → LeavesLawful f after → IsSoundOver (meaning p) dev r new
@@ -237,7 +237,7 @@ module _ {A V S D : Type 0} {gs : _} (p : Prunable A V (AppendFactory S) (PageBl
     -- it allows just the values that it was asked to allow
     pub accepts : (v : V) → p.Accepts r v ↔ setup.Allows v
     -- it makes words of keys as it was asked: two keys have one word just where they were to have one
-    pub words : (k l : List ℕ) → (p.word r k ≡ p.word r l) ↔ (setup.word k ≡ setup.word l)
+    pub alike : p.alike r ≡ setup.alike
     -- no section counts as written: all that is kept is synced
     pub none_written : (s : ℕ) → (p.see r).is_written s ≡ false
     -- each marker counts the records of its section

@@ -1,6 +1,6 @@
 -- What contracts see of prunable archives, and what one means as an archive.
 use Rattle.std.proofs.Common.{◌∙◌}
-use Rattle.std.specs.Prelude.{⊤, ℕ, List}
+use Rattle.std.specs.Prelude.{⊤, ℕ, Bool, IsTrue, List}
 use Rattle.blob_device.specs.declared.device.Device as device
 use Rattle.sealed_pages.specs.declared.page_blob.PageBlob.{PageBlob}
 use Rattle.segments.specs.declared.sealed.AppendFactory.{AppendFactory}
@@ -14,14 +14,13 @@ use Rattle.archives.specs.PuttingLaws.{taken_state}
 use Rattle.archives.specs.Standing.{Leaves}
 
 -- What an archive A of values V shows, how its buffers are read, which values its configuration allows, how they are
--- spelled, and which words it makes of keys.
+-- spelled, and which keys have words that are told to be equal.
 pub record Prunable (A V F B : Type 0) : Type 1 where
   pub see : A → Archive F B
   pub buffers : Buffers F B
   pub Accepts : A → V → Type 0
   pub spelling : V → List ℕ
-  pub Word : Type 0
-  pub word : A → List ℕ → Word
+  pub alike : A → List ℕ → List ℕ → Bool
 
 module _ {A V F S : Type 0} {gs : _} (p : Prunable A V F (PageBlob S gs)) where
   -- how an archive files its records
@@ -29,9 +28,9 @@ module _ {A V F S : Type 0} {gs : _} (p : Prunable A V F (PageBlob S gs)) where
   filing_by a = filing_of (p.see a)
 
   -- At which records, by section and position, a lookup of what is wanted has to look: those with the index, or with
-  -- a key that has the word of the wanted one.
+  -- a key whose word is told to be that of the wanted one.
   abbrev pub HasToLook : A → Wanted → ℕ → ℕ → Type 0
-  HasToLook a = IsNear (p.word a) (p.see a)
+  HasToLook a = IsNear (λ k key. IsTrue (p.alike a k key)) (p.see a)
 
   -- As an archive: its states are those of the record machine with lists by sections.
   abbrev pub meaning : Meaning A V
@@ -62,12 +61,11 @@ write_buffer_of a = a.pair.index.sections.factory.write_buffer
 abbrev pub value_buffer_of : {F B : Type 0} → Archive F B → ℕ
 value_buffer_of a = a.pair.values.factory.capacity
 
--- What an opening is asked for: how it files records, which values it allows, which words it makes of keys, and from
+-- What an opening is asked for: how it files records, which values it allows, which keys have equal words, and from
 -- how many bytes on the buffers of records and of values flush.
 pub record Setup (V : Type 0) : Type 1 where
   pub filing : Filing
   pub Allows : V → Type 0
-  pub Word : Type 0
-  pub word : List ℕ → Word
+  pub alike : List ℕ → List ℕ → Bool
   pub write_buffer : ℕ
   pub value_buffer : ℕ

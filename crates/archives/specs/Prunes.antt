@@ -11,7 +11,7 @@ use Rattle.segments.specs.Sections.{IsHeld, SamePlace}
 use Rattle.segments.specs.declared.journal.Error.TheVariants as journal
 use Rattle.sealed_pages.specs.declared.page_blob.PageBlob.{PageBlob}
 use Rattle.paired.specs.Crashes.{IsBlobOf, IsOwn}
-use Rattle.paired.specs.GlobSections as glob
+use Rattle.paired.specs.glob.Sections as glob
 use Rattle.paired.specs.Kept.{IsMarked, marker_of}
 use Rattle.paired.specs.Pair.{synced_length}
 use Rattle.archives.specs.Archives.{Archive, IsBare}
@@ -72,7 +72,7 @@ module _ {A V F S D : Type 0} {gs : _} (p : Prunable A V F (PageBlob S gs))
     -- records are filed as before
     pub filing : IsSameFiling (filing_by p a) (filing_by p r)
     -- the words by which lookups look stay
-    pub word : p.word r ≡ p.word a
+    pub alike : p.alike r ≡ p.alike a
     -- and from how many bytes on buffers flush
     pub places : SamePlace (p.see a).pair.index.sections (p.see r).pair.index.sections
         × SamePlace (p.see a).pair.values (p.see r).pair.values

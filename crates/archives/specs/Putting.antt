@@ -6,9 +6,9 @@ use Rattle.sealed_pages.specs.Buffer.{FlushesNothing, extent, size_of}
 use Rattle.sealed_pages.specs.Shown as page_blob
 use Rattle.segments.specs.Sections.{IsHeld}
 use Rattle.segments.specs.Tails.{tail_held}
-use Rattle.segments.specs.Unsealed.{count_of}
+use Rattle.segments.specs.unsealed.Buffer.{count_of}
 use Rattle.paired.specs.Frames.{frame}
-use Rattle.paired.specs.GlobSections as glob
+use Rattle.paired.specs.glob.Sections as glob
 use Rattle.paired.specs.Kept.{Layout}
 use Rattle.paired.specs.Pair as pair
 use Rattle.archives.specs.Archives.{Archive}

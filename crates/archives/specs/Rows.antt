@@ -1,20 +1,18 @@
--- What an archive holds in memory of its records: a row for each, by section and position.
-use Rattle.std.specs.Prelude.{◌≡◌, ◌≢◌, ◌⊎◌, ◌↔◌, ℕ, ◌<◌, ◌≤◌, ◌==◌, Bool, List, [], ◌∷◌, ◌++◌, length, map, filter, slice_get, Contains, Option, None, Some, IsSomeAnd, IsTrue, Result, Ok, Err}
+-- What an archive's tables in memory show of its records: a row for each, by section and position.
+use Rattle.std.specs.Prelude.{◌≡◌, ◌≢◌, ℕ, ◌≤◌, ◌==◌, Bool, List, [], length, map, filter}
 use Rattle.std.specs.List.{AllByRecursion, list_any}
 use Rattle.std.specs.List.Sorted.{IsStrictlySortedBy}
-use Rattle.std.specs.Global.{Vec}
 use Rattle.std.specs.Ordering.{nat_cmp}
-use Rattle.std.specs.BTreeMap.{get}
-use Rattle.std.specs.Vec.{vec_len, vec_capacity}
-use Rattle.ordinal_store.specs.Numbers.{Set}
+use Rattle.record_tables.specs.Rows as held
+pub use Rattle.record_tables.specs.Rows.{FewerThan, HasRoom}
+use Rattle.record_tables.specs.Tables as tables
+use Rattle.record_tables.specs.declared.tables.Tables.{Tables}
 use Rattle.archives.specs.IndexRecord.{index_of, key_of}
 use Rattle.archives.specs.Machine.{section_of}
-use Rattle.archives.specs.declared.prunable.tables.Entry.{Entry}
-use Rattle.archives.specs.declared.prunable.tables.Tables.{Tables}
 
-pub record Row : Type 0 where
-  pub index : ℕ
-  pub key : List ℕ
+-- as the tables show a record, with the bytes of its key
+abbrev pub Row : Type 0
+Row = held.Row (List ℕ)
 
 -- the row of a record, by its bytes, in which the key has n
 abbrev pub row_in : ℕ → List ℕ → Row
@@ -24,88 +22,28 @@ row_in n r = record { index = index_of r; key = key_of n r }
 abbrev pub has_row : ℕ → (ℕ → List Row) → ℕ → Bool
 has_row items rows index = list_any (λ r. r.index == index) (rows (section_of items index))
 
--- How many rows have the index, and where they stand: the positions ascend, and are just those of these rows.
+-- how many rows have the index
 abbrev pub count_with : List Row → ℕ → ℕ
 count_with rows index = length (filter (λ r. r.index == index) rows)
 
-pub record ArePositions (rows : List Row) (index : ℕ) (positions : List ℕ) : Type 0 where
-  -- in order, and each once
-  pub ascending : IsStrictlySortedBy nat_cmp positions
-  -- a row stands at each, with the index, and no other row has it
-  pub exact : (p : ℕ) → Contains positions p ↔ IsSomeAnd (slice_get rows p) (λ r. r.index ≡ index)
-
--- the positions of the rows that have the index are found, or memory was short for that of one
-abbrev pub FindsPositions : {E : Type 0} → List Row → ℕ → Result (List ℕ) E → Type 0
-FindsPositions rows index (Ok positions) = ArePositions rows index positions
-FindsPositions rows index (Err e) = (p : ℕ) × IsSomeAnd (slice_get rows p) (λ r. r.index ≡ index)
-
--- the numbers of the set are the indices of the rows, of whichever section
-abbrev pub AreIndicesOf : (ℕ → List Row) → Set → Type 0
-AreIndicesOf rows set =
-    (i : ℕ) → IsTrue (set i) ↔ ((s : ℕ) × (r : Row) × Contains (rows s) r × (r.index ≡ i))
+-- ---- the tables
 
 module _ {K : Type 0} (key_bytes : K → List ℕ) where
-  abbrev pub row_of : Entry K → Row
-  row_of e = record { index = e.index; key = key_bytes e.key }
+  -- the row of a record, whose key is seen as its bytes
+  abbrev pub row_of : held.Row K → Row
+  row_of r = record { index = r.index; key = key_bytes r.key }
 
-  abbrev pub rows_in : Option (Vec (Entry K)) → List Row
-  rows_in None = []
-  rows_in (Some table) = map row_of table.items
+  module _ {W : Type 0} where
+    -- the rows of a section, by position
+    abbrev pub rows_of : Tables W K → ℕ → List Row
+    rows_of t s = map row_of (tables.rows_of t s)
 
-  -- the rows of a section, by position
-  abbrev pub rows_of : Tables K → ℕ → List Row
-  rows_of t s = rows_in (get nat_cmp t.tables s)
-
--- the new set has the indices of these entries beside those of the old one
-abbrev pub AddsIndices : {K : Type 0} → Set → List (Entry K) → Set → Type 0
-AddsIndices {K} old entries new = (i : ℕ)
-    → IsTrue (new i) ↔ (((e : Entry K) × Contains entries e × (e.index ≡ i)) ⊎ IsTrue (old i))
-
--- no table is empty, but perhaps that of a section that P names
-abbrev pub AreFilledBut : {K : Type 0} → (ℕ → Type 0) → Tables K → Type 0
-AreFilledBut {K} P t =
-    (s : ℕ) (table : Vec (Entry K)) → get nat_cmp t.tables s ≡ Some table → (P s → ⊥) → table.items ≢ []
-
--- of these lists, by section, fewer than n have elements
-abbrev pub FewerThan : {X : Type 0} → ℕ → (ℕ → List X) → Type 0
-FewerThan n lists =
-    (ss : List ℕ) → IsStrictlySortedBy nat_cmp ss → AllByRecursion (λ s. lists s ≢ []) ss → length ss < n
-
--- At most so many lists with elements, and so many elements in each, may be had; one more element fits into the list
--- of the section.
-abbrev pub HasRoom : {X : Type 0} → ℕ → ℕ → (ℕ → List X) → ℕ → Type 0
-HasRoom sections per_section lists s =
-    ((lists s ≢ []) × (length (lists s) < per_section)) ⊎ ((lists s ≡ []) × FewerThan sections lists)
-
--- the section has a table, and one record more fits into it without memory
-abbrev pub HasSpare : {K : Type 0} → Tables K → ℕ → Type 0
-HasSpare t s = IsSomeAnd (get nat_cmp t.tables s) (λ table. vec_len table < vec_capacity table)
-
--- ---- adding a row
-
-module _ {K : Type 0} (key_bytes : K → List ℕ) (section : ℕ) (row : Row) (old : Tables K) where
-  -- the row goes last in its section
-  pub record HasAdded (new : Tables K) : Type 0 where
-    -- the row is the last one of its section
-    pub added : rows_of key_bytes new section ≡ rows_of key_bytes old section ++ row ∷ []
-    -- the other sections have the rows that they had
-    pub others : (s : ℕ) → s ≢ section → rows_of key_bytes new s ≡ rows_of key_bytes old s
-    -- no table is empty
-    pub filled : AreFilledBut (λ _. ⊥) new
-
-  -- memory was short for it
-  pub record HasNotAdded (new : Tables K) : Type 0 where
-    -- no room was made for it before
-    pub no_spare : HasSpare old section → ⊥
-    -- the rows are those that there were
-    pub same : (s : ℕ) → rows_of key_bytes new s ≡ rows_of key_bytes old s
-    -- no table is empty, but perhaps that of the section
-    pub filled : AreFilledBut (λ s. s ≡ section) new
-
-  -- The row is added to its section.
-  abbrev pub Pushes : {E : Type 0} → Result Unit E → Tables K → Type 0
-  Pushes (Ok done) new = HasAdded new
-  Pushes (Err e) new = HasNotAdded new
+    -- The tables answer lookups, where keys have these words.
+    pub record AreTables (eq : W → W → Bool) (word_of : List ℕ → W) (t : Tables W K) : Type 0 where
+      -- by index
+      pub order : tables.AreInOrder (λ _. ⊥) t
+      -- and by key
+      pub words : tables.HaveWords eq (λ key. word_of (key_bytes key)) t
 
 -- ---- within limits
 

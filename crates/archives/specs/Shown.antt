@@ -1,5 +1,5 @@
 -- What an archive shows of itself, and how one that is opened files its records.
-use Rattle.std.specs.Prelude.{ℕ, ◌+◌, List, Option, string_bytes}
+use Rattle.std.specs.Prelude.{ℕ, ◌+◌, Bool, List, Option, string_bytes}
 use Rattle.std.specs.BTreeSet as set
 use Rattle.std.specs.Ordering.{nat_cmp}
 use Rattle.value_codec.specs.declared.codec.Codec as codec
@@ -11,14 +11,14 @@ use Rattle.segments.specs.declared.buffer.SectionBuffer as buffer
 use Rattle.segments.specs.declared.sealed.AppendFactory.{AppendFactory}
 use Rattle.paired.specs.CodecShown.{pair_codec_config}
 use Rattle.paired.specs.PairShown as pair
-use Rattle.paired.specs.TrackedShown.{marker_format}
+use Rattle.paired.specs.sighted.Shown.{marker_format}
 use Rattle.ordinal_store.specs.Ranges.{set_of}
 use Rattle.archives.specs.Archives as archive
 use Rattle.archives.specs.Archives.{Buffers}
 use Rattle.archives.specs.Filing.{Filing}
 use Rattle.archives.specs.IndexRecord.{place_of}
 use Rattle.archives.specs.Prunable.{Prunable, Setup}
-use Rattle.archives.specs.Rows.{AreFilledBut, rows_of}
+use Rattle.archives.specs.Rows.{AreTables, rows_of}
 use Rattle.archives.specs.declared.prunable.Archive.{Archive}
 use Rattle.archives.specs.declared.prunable.config.Config.{Config}
 
@@ -27,7 +27,7 @@ abbrev pub shown : {T K V S W C : Type 0}
     → Archive T K V S W C translator word_eq word_hash key key_eq key_ord key_partial codec seal stored fixed
     stored_codec
     → archive.Archive (AppendFactory S) (PageBlob S seal)
-shown {key = k} {codec = c} {seal = s} a = record {
+shown {translator = t} {word_eq = w} {key = k} {codec = c} {seal = s} a = record {
   pair = pair.shown (place_of k.SIZE) a.pair;
   items = a.items_per_section;
   key_size = k.SIZE;
@@ -36,7 +36,7 @@ shown {key = k} {codec = c} {seal = s} a = record {
   most_records = a.limits.per_section;
   floor = a.floor;
   rows = rows_of k.key_bytes a.tables;
-  Filled = AreFilledBut (λ _. ⊥) a.tables;
+  Tied = AreTables k.key_bytes w.eq (t.word_of a.translator) a.tables;
   indices = set_of a.indices;
   is_written = set.contains nat_cmp a.written;
 }
@@ -78,24 +78,22 @@ abbrev pub means : {T K V S W C : Type 0}
     → buffer.Ghosts (PageBlob S seal)
     → Prunable (Archive T K V S W C translator word_eq word_hash key key_eq key_ord key_partial codec seal stored fixed
     stored_codec) V (AppendFactory S) (PageBlob S seal)
-means {W = w} {translator = t} {codec = c} pages = record {
+means {translator = t} {word_eq = w} {codec = c} pages = record {
   see = shown;
   buffers = buffers_by pages;
   Accepts = λ a v. c.accepted v (pair_codec_config a.pair);
   spelling = c.spelling;
-  Word = w;
-  word = λ a. t.word_of a.translator;
+  alike = λ a k l. w.eq (t.word_of a.translator k) (t.word_of a.translator l);
 }
 
 -- what an opening by this configuration is asked for, with keys of n bytes, under this seal, values of this codec,
--- and words that are made so
-abbrev pub setup_for : {T V S C W : Type 0} → ℕ → seal.Ghosts S → codec.Ghosts V C → (T → List ℕ → W) → Config T C
-    → Setup V
-setup_for {W = w} n sealing value word_of cfg = record {
+-- and words that are made and compared so
+abbrev pub setup_for : {T V S C W : Type 0} → ℕ → seal.Ghosts S → codec.Ghosts V C → (T → List ℕ → W)
+    → (W → W → Bool) → Config T C → Setup V
+setup_for n sealing value word_of eq cfg = record {
   filing = filing_for n sealing value.refusal cfg;
   Allows = λ v. value.accepted v cfg.codec_config;
-  Word = w;
-  word = word_of cfg.translator;
+  alike = λ k l. eq (word_of cfg.translator k) (word_of cfg.translator l);
   write_buffer = cfg.key_write_buffer;
   value_buffer = cfg.value_write_buffer;
 }

@@ -4,7 +4,7 @@ use Rattle.blob_device.specs.Disk.{Disk}
 use Rattle.sealed_pages.specs.declared.page_blob.PageBlob.{PageBlob}
 use Rattle.segments.specs.declared.buffer.SectionBuffer as buffer
 use Rattle.segments.specs.Lasting.{IsUnsettled}
-use Rattle.paired.specs.GlobSections as glob
+use Rattle.paired.specs.glob.Sections as glob
 use Rattle.paired.specs.Kept.{Markers, marker_of}
 use Rattle.paired.specs.Opening.{HoldMarkers, as_read}
 use Rattle.paired.specs.Pair as pair
@@ -29,7 +29,7 @@ module _ {F S : Type 0} {gs : _} where
 -- nothing unsynced has another marker than what is synced of it.
 abbrev pub IsMovingBy : Filing → Disk → (ℕ → ℕ) → (ℕ → ℕ) → Type 0
 IsMovingBy f d lengths synced = (markers : Markers) × HoldMarkers f.layout (as_read d) markers
-    × ((s : ℕ) × (s < 2 ^ 64) × (synced s ≡ lengths s) × (marker_of markers s ≢ synced s))
+    × ((s : ℕ) × (s < 2 ^ 64) × (synced s ≡ lengths s) × (marker_of markers.entries s ≢ synced s))
 
 -- the same in a state of the machine
 abbrev pub IsMovingIn : Filing → Disk → State (List ℕ) → Type 0

@@ -10,7 +10,7 @@ use Rattle.segments.specs.declared.journal.Error.TheVariants as journal
 use Rattle.segments.specs.declared.sealed.AppendFactory.{AppendFactory}
 use Rattle.sealed_pages.specs.declared.page_blob.PageBlob.{PageBlob}
 use Rattle.paired.specs.Crashes.{IsOwn}
-use Rattle.paired.specs.GlobSections as glob
+use Rattle.paired.specs.glob.Sections as glob
 use Rattle.paired.specs.Kept.{content_at, marker_of}
 use Rattle.paired.specs.Opening.{as_read}
 use Rattle.paired.specs.Pair.{synced_length}
@@ -73,7 +73,7 @@ module _ {A V S D : Type 0} {gs : _} (p : Prunable A V (AppendFactory S) (PageBl
     -- records are filed as before
     pub filing : IsSameFiling (filing_by p a) (filing_by p r)
     -- the words by which lookups look stay
-    pub word : p.word r ≡ p.word a
+    pub alike : p.alike r ≡ p.alike a
     -- the floor stays
     pub floor : (p.see r).floor ≡ (p.see a).floor
     -- over any image: the rows stay

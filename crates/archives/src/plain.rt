@@ -27,6 +27,7 @@ pub struct Machine<K, V> {
     alloc: Global,
     // how many indices a section has room for, as `new` was told: no call changes it
     items_per_section: u64,
+    // so that each index has its section
     ghost has_items: { 1 ≤ items_per_section },
     // in the order of the puts: none has an index below the floor, and a closed machine has none
     items: Vec<Item<K, V>>,

@@ -28,10 +28,21 @@
 //!
 //! # Cost
 //!
-//! Index and key of each record are held in memory, and the indices also as a set of runs. A lookup by index goes
-//! over a section's records, one by key over all, and then reads at most one record and one value. `has` reads
-//! none. Whether an index is taken, and what asks for gaps and runs, is answered by the runs alone.
-ghost use Rattle.std.specs.Prelude.{◌≡◌, ◌≤◌};
+//! Of each record the word of its key and its handle are held in memory, and of each section a vector with the first
+//! position of each offset, as far as a record has one; the indices also as a set of runs. No key is held. A lookup
+//! by index reads at most one record and one value. One by key reads the records whose keys have the word, up to the
+//! first with the whole key, and then one value. `has` reads no value. Whether an index is taken, and what asks for
+//! gaps and runs, is answered by the runs alone.
+//!
+//! # Example
+//!
+//! ```rust
+//! let archive = Archive::<FourCap, Key8, ByteValue, Sha256Seal>::init(alloc, &mut dev, &cfg)?;
+//! let archive = archive.put(&mut dev, 5, key, &value)?;    // in memory, below the buffers' capacity
+//! let archive = archive.sync(&mut dev)?;                   // from here on each crash leaves it
+//! archive.get(&mut dev, Identifier::Index(5))?             // Some(value)
+//! ```
+ghost use Rattle.std.specs.Prelude.{◌≡◌, ◌≤◌, ◌^◌};
 ghost use Rattle.ordinal_store.specs.Numbers.{AreRuns, AreRunsFrom, IsGreatest, IsLeast};
 ghost use Rattle.archives.specs.Changes.{outcome};
 ghost use Rattle.archives.specs.Destroys.{Removes};
@@ -45,6 +56,7 @@ ghost use Rattle.archives.specs.Putting.{Once};
 ghost use Rattle.archives.specs.Syncs.{PutSyncs, Syncs};
 
 mod config;
+mod growing;
 mod index_record;
 mod laws;
 mod limits;
@@ -53,7 +65,6 @@ mod opening;
 mod pruning;
 mod reading;
 mod syncing;
-mod tables;
 mod writing;
 
 use crate::{Error, Identifier, Translator};
@@ -63,18 +74,19 @@ pub use index_record::IndexRecord;
 pub use limits::Limits;
 use ordinal_store::{Numbers, RMap, RangeIter};
 use paired::{Oversized, Record};
+use record_tables::Tables;
 use sealed_pages::PageBlob;
 use segments::SectionBuffer;
 use std::alloc::Global;
 use std::collections::BTreeSet;
-use tables::Tables;
 use value_codec::{Codec, Key, Seal};
 
 /// Values by index and by key. The indices are cut into sections, each of them named by its first index, and a section is a list of records
 /// in the order in which they were put.
 ///
-/// Of each record the archive holds index and key in memory, and the indices also as a set of runs. Lookups go over
-/// these, and read no blob but those of a section in which a record has the index, or a key with the key's word.
+/// Of each record the archive holds in memory the word of its key and where it stands, and the indices also as a set
+/// of runs. A lookup reads no blob but those of a section in which a record has the index, or a key with the key's
+/// word.
 #[derive(Drop)]
 pub struct Archive<T: Translator, K: Key, V: Codec, S: Seal>
 where
@@ -89,13 +101,15 @@ where
     // what a put and an opening judge before they keep a record
     limits: Limits,
     ghost has_records: { 1 ≤ limits.per_section },
+    ghost few_sections: { limits.sections ≤ 2 ^ 24 },
+    ghost few_records: { limits.per_section ≤ 2 ^ 40 },
     // the records and values on the device: each call hands it on as the pair's call left it
     pair: Oversized<IndexRecord<K>, V, S>,
     // the start of a section, moved by `prune` alone: nothing is held of one below it, and nothing is put
     // there
     floor: u64,
-    // index and key of each record of the pair, by position: entered with the record
-    tables: Tables<K>,
+    // where the records of the pair stand, by index and by the words of keys: entered with the record
+    tables: Tables<T::Word, K>,
     // the indices of all records: a row of the tables has each, and no other
     indices: RMap,
     // the sections written since the last sync: a put adds its own, a sync clears all
@@ -146,6 +160,7 @@ impl<T: Translator, K: Key, V: Codec, S: Seal> crate::Archive for Archive<T, K, 
             (K.key_bytes key) (V.spelling value.now) result dev.old dev.new }
     {
         let this = self.put(dev, index, key, value)?;
+        // Behind the put, so that the new record is synced too. An index that was taken does not spare it.
         this.sync(dev)
     }
 
@@ -174,9 +189,9 @@ impl<T: Translator, K: Key, V: Codec, S: Seal> crate::Archive for Archive<T, K, 
         ensures { Gets (means ⟦<PageBlob<S> as SectionBuffer>⟧) D.Device self.now
             (wanted_of K.key_bytes identifier.entry) result dev.old dev.new }
     {
-        match self.place_of(identifier) {
-            Some((section, position)) => Ok(Some(self.value_at(dev, section, position)?)),
-            None => Ok(None),
+        match identifier {
+            Identifier::Index(index) => self.get_at(dev, index),
+            Identifier::Key(key) => self.get_by(dev, key),
         }
     }
 
@@ -186,11 +201,10 @@ impl<T: Translator, K: Key, V: Codec, S: Seal> crate::Archive for Archive<T, K, 
         ensures { Has (means ⟦<PageBlob<S> as SectionBuffer>⟧) D.Device self.now
             (wanted_of K.key_bytes identifier.entry) result dev.old dev.new }
     {
-        let _untouched = dev;
-        if let Identifier::Index(index) = identifier {
-            return Ok(self.has_index(index));
+        match identifier {
+            Identifier::Index(index) => Ok(self.has_index(index)),
+            Identifier::Key(key) => Ok(self.find(dev, key)?.is_some()),
         }
-        Ok(self.place_of(identifier).is_some())
     }
 
     fn has_index(&self, index: u64) -> bool
@@ -259,6 +273,7 @@ impl<T: Translator, K: Key, V: Codec, S: Seal> crate::Archive for Archive<T, K, 
         ensures { Syncs (means ⟦<PageBlob<S> as SectionBuffer>⟧) D.Device self
             (outcome (λ r. r.0) result) dev.old dev.new }
     {
+        // Done at once: no device has a sync that is only started.
         let this = self.sync(dev)?;
         Ok((this, Handle::finished()))
     }

@@ -8,6 +8,7 @@ use std::alloc::{AllocError, Global};
 /// What is noted between steps.
 #[derive(Drop)]
 pub struct Notes {
+    /// The configuration with which the next archive is opened.
     pub settings: Settings,
     /// How many device calls had been made at the last mark.
     pub calls: u64,

@@ -8,8 +8,11 @@ use value_codec::Key;
 /// A record to be put.
 #[derive(Drop)]
 pub struct Put<K> {
+    /// The index,
     pub index: u64,
+    /// the key,
     pub key: K,
+    /// and the value of the record.
     pub value: Sample,
 }
 

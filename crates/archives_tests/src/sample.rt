@@ -10,7 +10,9 @@ use value_codec::{Codec, codec};
 /// Zeros that are never written, and bytes behind them. So a value may be longer than memory.
 #[derive(Drop)]
 pub struct Sample {
+    /// How many zeros stand in front.
     pub zeros: u64,
+    /// What stands behind them.
     pub bytes: Vec<u8>,
 }
 

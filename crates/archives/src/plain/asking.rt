@@ -5,7 +5,7 @@ ghost use Rattle.std.specs.Result.{IsOkUnless};
 ghost use Rattle.std.specs.List.{list_any};
 ghost use Rattle.archives.specs.Commands.{All, First, Gap, Last, Missing, RangesFrom};
 ghost use Rattle.archives.specs.Machine.{ContainsAt, first_value, has_index};
-ghost use Rattle.archives.specs.Plain.{HasIndices, Tells, first_at, first_under, items_at, state_of};
+ghost use Rattle.archives.specs.plain.Machine.{HasIndices, Tells, first_at, first_under, items_at, state_of};
 
 use super::{Item, Machine};
 use crate::{Error, Pairs, Reply, Values};

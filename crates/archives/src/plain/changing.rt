@@ -1,7 +1,7 @@
 // Commands that change the list, and the step, which carries out any command.
 ghost use Rattle.std.specs.Prelude.{◌≡◌, ◌≤◌, false};
 ghost use Rattle.archives.specs.Machine.{after_destroy, after_multi, after_prune, after_put, after_sync};
-ghost use Rattle.archives.specs.Plain.{CarriesOut, HasCarriedOut, HasReopened, IsNew, Turned, Turns};
+ghost use Rattle.archives.specs.plain.Machine.{CarriesOut, HasCarriedOut, HasReopened, IsNew, Turned, Turns};
 
 use super::{Item, Machine};
 use crate::{Command, Error, Reply};

@@ -45,6 +45,7 @@ impl<T: Translator, K: Key, V: Codec, S: Seal> crate::MultiArchive for Archive<T
             (K.key_bytes key) (V.spelling value.now) result dev.old dev.new }
     {
         let this = self.put_multi(dev, index, key, value)?;
+        // Behind the put, so that the new record is synced too.
         this.sync(dev)
     }
 

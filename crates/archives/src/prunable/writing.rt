@@ -5,6 +5,7 @@ ghost use Rattle.archives.specs.Puts.{Puts};
 ghost use Rattle.archives.specs.Putting.{Times, is_skipped};
 ghost use Rattle.archives.specs.Shown.{means, shown};
 
+use super::growing::Held;
 use super::index_record::IndexRecord;
 use super::{Archive, section_of};
 use crate::{Error, Translator};
@@ -34,18 +35,29 @@ impl<T: Translator, K: Key, V: Codec, S: Seal> Archive<T, K, V, S> {
             (K.key_bytes key) (V.spelling value.now) result dev.old dev.new }
     {
         let section = section_of(index, self.items_per_section);
-        if !self.tables.has_room(self.limits, section) {
+        let limits = self.limits;
+        if !self
+            .tables
+            .has_room(limits.sections, limits.per_section, section)
+        {
             return Err(Error::Full);
         }
+        let word = self.translator.transform(key.as_bytes());
         let mut this = self;
-        this.tables.reserve(section)?;
-        this.written.insert(section)?;
-        this.indices.insert(index)?;
+        let held = Held {
+            tables: this.tables,
+            indices: this.indices,
+            written: this.written,
+        };
+        let held = held.grown(section, index, word)?;
+        this.tables = held.tables;
+        this.indices = held.indices;
+        this.written = held.written;
         let record = IndexRecord::new(index, key);
-        // The record goes last: what is held in memory has room for it by now.
+        // The record goes last: what is held in memory has room for it by now, and adding it cannot fail.
         let (pair, _, _, _) = this.pair.append(dev, section, record, value)?;
         this.pair = pair;
-        this.tables.push(section, index, key)?;
+        this.tables.push(section, index, word, &key);
         Ok(this)
     }
 }

@@ -1,7 +1,7 @@
 use Rattle.std.proofs.Common.{◌≡◌, [], ◌∷◌, ◌++◌, ◌+◌, ◌∙◌, ap, sym, refl, take, true, false, length, arith}
 use Rattle.std.proofs.lemmas.Bool.{eq-eqb, eqb-false, eqb-true, ne_eqb}
 use Rattle.std.proofs.lemmas.List.{append-nil, take_all}
-use Rattle.archives.proofs.PlainEntries.{tells_all, tells_none, values_at, values_pass}
+use Rattle.archives.proofs.machine.Entries.{tells_all, tells_none, values_at, values_pass}
 use Rattle.archives.proofs.plain.Machine.all.Goals as goal
 use Rattle.archives.proofs.plain.Machine.all.Goals.{then-item-index+in_ok-clone+in_ok-push, else-item-index}
 

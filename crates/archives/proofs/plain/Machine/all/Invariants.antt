@@ -1,5 +1,5 @@
 use Rattle.std.proofs.Common.{◌≡◌, take}
-use Rattle.archives.proofs.PlainEntries.{values_at}
+use Rattle.archives.proofs.machine.Entries.{values_at}
 use Rattle.archives.proofs.plain.Machine.all.Given as goal
 
 -- the values of the records so far that have the index

@@ -1,5 +1,5 @@
 use Rattle.std.proofs.Common.{ap, refl, false}
-use Rattle.archives.specs.Plain.{state_with}
+use Rattle.archives.specs.plain.Machine.{state_with}
 use Rattle.archives.proofs.plain.Machine.destroy.Goals as goal
 
 pub returns : goal.returns

@@ -1,7 +1,7 @@
 use Rattle.std.proofs.Common.{◌∙◌, ap}
 use Rattle.std.proofs.lemmas.Result.{IfOk-weaker}
-use Rattle.archives.specs.Plain.{first_at}
-use Rattle.archives.proofs.PlainLemmas.{first_here}
+use Rattle.archives.specs.plain.Machine.{first_at}
+use Rattle.archives.proofs.machine.Lemmas.{first_here}
 use Rattle.archives.proofs.plain.Machine.get.Goals as goal
 
 pub returns-clause-value : goal.returns-clause-value

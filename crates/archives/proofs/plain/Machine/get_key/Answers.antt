@@ -1,6 +1,6 @@
 use Rattle.std.proofs.Common.{◌∙◌, ap}
 use Rattle.std.proofs.lemmas.Result.{IfOk-weaker}
-use Rattle.archives.specs.Plain.{first_under}
+use Rattle.archives.specs.plain.Machine.{first_under}
 use Rattle.archives.proofs.plain.Machine.get_key.Goals as goal
 
 pub returns-clause-value : goal.returns-clause-value

@@ -1,6 +1,6 @@
 use Rattle.std.proofs.Common.{◌∙◌, ap, ◌==◌}
 use Rattle.std.specs.List.{list_any}
-use Rattle.archives.proofs.PlainLemmas.{any_here}
+use Rattle.archives.proofs.machine.Lemmas.{any_here}
 use Rattle.archives.proofs.plain.Machine.has.Goals as goal
 
 pub returns : goal.returns

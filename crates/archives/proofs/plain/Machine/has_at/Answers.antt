@@ -1,6 +1,6 @@
 use Rattle.std.proofs.Common.{◌∙◌, ◌==◌, ◌&&◌, ap}
 use Rattle.std.specs.List.{list_any}
-use Rattle.archives.proofs.PlainEntries.{has_at_key}
+use Rattle.archives.proofs.machine.Entries.{has_at_key}
 use Rattle.archives.proofs.plain.Machine.has_at.Goals as goal
 
 pub returns : goal.returns

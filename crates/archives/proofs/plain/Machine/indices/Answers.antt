@@ -4,7 +4,7 @@ use Rattle.blob_device.proofs.Results.{err_of}
 use Rattle.ordinal_store.specs.Plain.{listed}
 use Rattle.archives.specs.declared.error.Error.TheVariants.{Mem}
 use Rattle.archives.specs.declared.plain.Item.{Item}
-use Rattle.archives.proofs.PlainIndices.{AreOf, has_none, of_more, of_none, of_state}
+use Rattle.archives.proofs.machine.Indices.{AreOf, has_none, of_more, of_none, of_state}
 use Rattle.archives.proofs.plain.Machine.indices.Goals as goal
 
 pub loop-item-init : goal.loop-item-init

@@ -1,6 +1,6 @@
 use Rattle.std.proofs.Common.{take}
 use Rattle.ordinal_store.specs.Plain.{listed}
-use Rattle.archives.proofs.PlainIndices.{AreOf}
+use Rattle.archives.proofs.machine.Indices.{AreOf}
 use Rattle.archives.proofs.plain.Machine.indices.Given as goal
 
 -- the numbers of the set are the indices of the records so far

@@ -4,7 +4,7 @@ use Rattle.ordinal_store.specs.Numbers.{Set, AreMissing}
 use Rattle.ordinal_store.specs.Plain.{listed}
 use Rattle.archives.specs.Commands.{Missing}
 use Rattle.archives.specs.declared.error.Error.TheVariants.{Mem}
-use Rattle.archives.proofs.PlainIndices.{told_none, told_of}
+use Rattle.archives.proofs.machine.Indices.{told_none, told_of}
 use Rattle.archives.proofs.plain.Machine.missing_items.Goals as goal
 
 pub returns-in_err-indices : goal.returns-in_err-indices

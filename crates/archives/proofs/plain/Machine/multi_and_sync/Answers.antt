@@ -1,6 +1,6 @@
 use Rattle.blob_device.proofs.Results.{err_of}
 use Rattle.archives.specs.Machine.{after_multi, after_sync}
-use Rattle.archives.proofs.PlainChanges.{turned_not, turned_twice}
+use Rattle.archives.proofs.machine.Changes.{turned_not, turned_twice}
 use Rattle.archives.proofs.plain.Machine.multi_and_sync.Goals as goal
 
 pub returns-in_err-multi : goal.returns-in_err-multi

@@ -3,7 +3,7 @@ use Rattle.blob_device.proofs.Results.{err_of}
 use Rattle.ordinal_store.specs.Numbers.{Set, IsNextRun, IsRunEnd}
 use Rattle.ordinal_store.specs.Plain.{listed}
 use Rattle.archives.specs.Commands.{Gap}
-use Rattle.archives.proofs.PlainIndices.{told_none, told_of}
+use Rattle.archives.proofs.machine.Indices.{told_none, told_of}
 use Rattle.archives.proofs.plain.Machine.next_gap.Goals as goal
 
 pub returns-in_err-indices : goal.returns-in_err-indices

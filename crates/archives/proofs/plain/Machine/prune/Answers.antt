@@ -3,8 +3,8 @@ use Rattle.std.proofs.lemmas.Bool.{le-leb, lt-leb}
 use Rattle.std.proofs.lemmas.Fn.{filter_same}
 use Rattle.std.proofs.lemmas.Nat.{div-add-mod'}
 use Rattle.archives.specs.Machine.{section_of}
-use Rattle.archives.specs.Plain.{state_of, state_with}
-use Rattle.archives.proofs.PlainChanges.{prune_idle, prune_more}
+use Rattle.archives.specs.plain.Machine.{state_of, state_with}
+use Rattle.archives.proofs.machine.Changes.{prune_idle, prune_more}
 use Rattle.archives.proofs.plain.Machine.prune.Goals as goal
 
 pub returns-then-start-self : goal.returns-then-start-self

@@ -1,8 +1,8 @@
 use Rattle.std.proofs.Common.{refl, sym, ◌∙◌}
 use Rattle.archives.specs.Machine.{after_multi, after_put}
-use Rattle.archives.specs.Plain.{state_of}
-use Rattle.archives.proofs.PlainChanges.{turned_as}
-use Rattle.archives.proofs.PlainLemmas.{put_free, put_taken}
+use Rattle.archives.specs.plain.Machine.{state_of}
+use Rattle.archives.proofs.machine.Changes.{turned_as}
+use Rattle.archives.proofs.machine.Lemmas.{put_free, put_taken}
 use Rattle.archives.proofs.plain.Machine.put.Goals as goal
 
 pub returns-then-has : goal.returns-then-has

@@ -1,6 +1,6 @@
 use Rattle.std.proofs.Common.{refl}
-use Rattle.archives.specs.Plain.{state_of}
-use Rattle.archives.proofs.PlainLemmas.{reopened_whole}
+use Rattle.archives.specs.plain.Machine.{state_of}
+use Rattle.archives.proofs.machine.Lemmas.{reopened_whole}
 use Rattle.archives.proofs.plain.Machine.reopen.Goals as goal
 
 pub returns : goal.returns

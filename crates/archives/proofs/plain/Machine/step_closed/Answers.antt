@@ -1,4 +1,4 @@
-use Rattle.archives.proofs.PlainIndices.{closed_carries, reopened_carries}
+use Rattle.archives.proofs.machine.Indices.{closed_carries, reopened_carries}
 use Rattle.archives.proofs.plain.Machine.step_closed.Goals as goal
 
 pub returns-in-Reopen : goal.returns-in-Reopen

@@ -1,8 +1,8 @@
 use Rattle.std.proofs.Common.{◌≡◌, ◌∙◌, ap, refl, ℕ, ◌<◌, ◌≤◌, length, map, slice_index_or, arith}
 use Rattle.std.proofs.lemmas.List.{get_or_default, with_items_is}
 use Rattle.std.proofs.lemmas.List.Edits.{map_over_more}
-use Rattle.archives.specs.Plain.{state_with}
-use Rattle.archives.proofs.PlainLemmas.{all_passed, as_synced, state_synced}
+use Rattle.archives.specs.plain.Machine.{state_with}
+use Rattle.archives.proofs.machine.Lemmas.{all_passed, as_synced, state_synced}
 use Rattle.archives.proofs.plain.Machine.sync.Goals as goal
 
 pub loop-item-preserved : goal.loop-item-preserved

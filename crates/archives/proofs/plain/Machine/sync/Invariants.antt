@@ -1,5 +1,5 @@
 use Rattle.std.proofs.Common.{◌≡◌, ◌++◌, map, take, drop}
-use Rattle.archives.proofs.PlainLemmas.{as_synced}
+use Rattle.archives.proofs.machine.Lemmas.{as_synced}
 use Rattle.archives.proofs.plain.Machine.sync.Given as goal
 
 -- the records up to here are synced

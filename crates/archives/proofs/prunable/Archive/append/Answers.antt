@@ -1,4 +1,5 @@
 use Rattle.std.proofs.Common.{◌==◌, if◌then◌else◌, ◌≡◌, ◌≢◌, ◌⊎◌, inl, inr, refl, sym, ◌∙◌, ap, subst, ◌≤◌, ◌-◌, ◌^◌, ℕ, List, [], ◌∷◌, ◌++◌, length, Option, Some, Err, false, ◌+◌, length-append, arith}
+use Rattle.std.specs.Prelude.{IsErrAnd}
 use Rattle.std.specs.BTreeSet.{contains}
 use Rattle.std.specs.Ordering.{nat_cmp}
 use Rattle.std.proofs.lemmas.Bool.{cases_lt}
@@ -11,11 +12,10 @@ use Rattle.segments.specs.Sections.{section_key}
 use Rattle.paired.specs.Tails.{AreTailsAfter}
 use Rattle.paired.specs.Crashes.{IsIndexOf, IsValuesOf, Keeping}
 use Rattle.paired.specs.Frames.{frame}
-use Rattle.paired.specs.GlobSections as glob
+use Rattle.paired.specs.glob.Sections as glob
 use Rattle.paired.specs.PairShown as pair
 use Rattle.paired.specs.Pair.{list_of, synced_length}
 use Rattle.paired.proofs.FrameLemmas.{length-frame}
-use Rattle.paired.proofs.ValueEnds.{not_at}
 use Rattle.ordinal_store.specs.Ranges.{set_of}
 use Rattle.archives.specs.Archives.{IsSoundArchive, filing_of, state_of}
 use Rattle.archives.specs.IndexRecord.{index_record, place_of}
@@ -23,23 +23,26 @@ use Rattle.archives.specs.IndexRecordLaws.{place_of-index_record}
 use Rattle.archives.specs.Machine.{section_of}
 use Rattle.archives.specs.Putting.{Times, is_skipped, put_command}
 use Rattle.archives.specs.Raised.{raised}
-use Rattle.archives.specs.Rows.{AreFilledBut, Row, rows_of}
+use Rattle.archives.specs.Rows.{AreTables, Row, row_of, rows_of}
 use Rattle.archives.specs.Shown.{shown}
 use Rattle.archives.specs.Standing.{Leaves}
 use Rattle.archives.specs.declared.prunable.index_record.IndexRecord.{IndexRecord}
 use Rattle.archives.specs.FilingLaws.{one_filing}
 use Rattle.archives.specs.Rows.{HasRoom}
 use Rattle.value_codec.specs.declared.codec.Error as codec_error
+use Rattle.archives.specs.declared.error.Error.{Error}
 use Rattle.archives.specs.declared.error.Error.TheVariants.{Mem}
-use Rattle.archives.proofs.PutAfter.{not_here, rows_put, sizes_put, tails_same, written_put}
+use Rattle.archives.proofs.put.After.{not_here, rows_put, sizes_put, tails_same, written_put}
 use Rattle.archives.proofs.PutsLemmas.{failed_here, put_added, put_as, put_no_memory, put_over_limit, put_pair_failed, touches_here}
 use Rattle.paired.proofs.GlobLemmas.{section_counted}
-use Rattle.archives.proofs.PutLemmas.{Adds, grown_archive}
-use Rattle.archives.proofs.PutRows.{grows, still_none}
-use Rattle.archives.proofs.PutSound.{Sounds, grown_sound, grown_state}
-use Rattle.archives.proofs.PutSync.{same_filing, section_small}
+use Rattle.archives.proofs.put.Lemmas.{Adds, grown_archive}
+use Rattle.record_tables.specs.Tables as tables
+use Rattle.archives.proofs.TableLemmas.{room_shown, room_wider, row_allowed, row_pushed, rows_kept, tied_still}
+use Rattle.archives.proofs.put.Rows.{grows, section_low, still_none}
+use Rattle.archives.proofs.put.Sound.{Sounds, grown_sound, grown_state}
+use Rattle.archives.proofs.put.Sync.{same_filing, section_small}
 use Rattle.archives.proofs.PuttingLemmas.{pair_above, section_from}
-use Rattle.archives.proofs.PutStands.{IsFree, at_rest, full_or_room, put_moments, wanted}
+use Rattle.archives.proofs.put.Stands.{IsFree, at_rest, full_or_room, put_moments, wanted}
 use Rattle.archives.proofs.prunable.Archive.append.Given as given
 use Rattle.archives.proofs.prunable.Archive.append.Goals as goal
 use Rattle.archives.proofs.prunable.Archive.append.Goals.{After-append}
@@ -60,7 +63,7 @@ section_above g c =
     omega (arith, low, c.section_of-section.ensures)
 
 -- what the calls did, where all of them ended well
-adds_of : (g : given.Over) (c : goal.After-result-1 g) → Adds (shown c.args.self) (pair.shown (place_of g.K.Key.SIZE) c.in_ok-pair.pair) (λ bytes. g.V.Codec.refusal bytes c.in_ok-pair.pair.values.codec_config) (rows_of g.K.Key.key_bytes c.push.new.self) (AreFilledBut (λ _. ⊥) c.push.new.self) (set_of c.insert-2.new.self) (contains nat_cmp c.insert.new.self)
+adds_of : (g : given.Over) (c : goal.After-result-1 g) → Adds (shown c.args.self) (pair.shown (place_of g.K.Key.SIZE) c.in_ok-pair.pair) (λ bytes. g.V.Codec.refusal bytes c.in_ok-pair.pair.values.codec_config) (rows_of g.K.Key.key_bytes c.push.new.self) (AreTables g.K.Key.key_bytes g.T.Word.PartialEq.eq (g.T.Translator.word_of c.args.self.translator) c.push.new.self) (set_of c.in_ok-held.held.indices) (contains nat_cmp c.in_ok-held.held.written)
     c.args.index c.section_of-section.result c.section_of-section.ensures (g.K.Key.key_bytes c.args.key) (length (frame g.S.Seal.seal_of (g.V.Codec.spelling c.args.value.now))) (disk (g.D.Device.time c.args.dev.now)) (disk (g.D.Device.time c.append.new.dev)) g.D.Device.Tells
 adds_of g c =
     let a = shown c.args.self in
@@ -73,6 +76,9 @@ adds_of g c =
     let bytes : List ℕ = fixed.section_bytes a.pair.index.sections d sec in
     let row : Row = record { index = c.args.index; key = key } in
     let le = short g c in
+    let kb = g.K.Key.key_bytes in
+    let eq = g.T.Word.PartialEq.eq in
+    let words = g.T.Translator.word_of c.args.self.translator in
     record {
       record_size = refl;
       floor = c.in_ok-pair.ensures.bounds.0.floor;
@@ -85,13 +91,14 @@ adds_of g c =
       other_lists = c.in_ok-pair.ensures.other_lists;
       others = c.in_ok-pair.ensures.others;
       synced = c.in_ok-pair.ensures.synced;
-      row = c.in_ok-push.ensures.added ∙ ap (λ (rs : List Row). rs ++ row ∷ []) (c.reserve.ensures.same sec);
-      other_rows = λ s other. c.in_ok-push.ensures.others s other ∙ c.reserve.ensures.same s;
-      added = c.in_ok-insert-2.ensures.ok;
+      row = row_pushed kb eq words sec c.args.index c.transform-word.result c.args.key c.args.self.tables c.in_ok-held.held.tables c.push.new.self c.in_ok-held.ensures.same c.push.ensures row refl;
+      other_rows = rows_kept kb eq words sec c.args.index c.transform-word.result c.args.key c.args.self.tables c.in_ok-held.held.tables c.push.new.self c.in_ok-held.ensures.same c.push.ensures;
+      added = c.in_ok-held.ensures.indices;
       above = section_above g c;
-      written = still_none (contains nat_cmp c.args.self.written) (contains nat_cmp c.insert.new.self) sec c.in_ok-insert.ensures.updates.1 (λ q other. c.in_ok-insert.ensures.updates.2 q (not_at c.section_of-section.result q other));
-      written_now = λ s. (grows (contains nat_cmp c.args.self.written) (contains nat_cmp c.insert.new.self) sec c.in_ok-insert.ensures.updates.1 (λ q other. c.in_ok-insert.ensures.updates.2 q (not_at c.section_of-section.result q other)) s).0;
-      filled = c.in_ok-push.ensures.filled;
+      written = still_none (contains nat_cmp c.args.self.written) (contains nat_cmp c.in_ok-held.held.written) sec c.in_ok-held.ensures.written c.in_ok-held.ensures.others;
+      written_now = λ s. (grows (contains nat_cmp c.args.self.written) (contains nat_cmp c.in_ok-held.held.written) sec c.in_ok-held.ensures.written c.in_ok-held.ensures.others s).0;
+      tied = tied_still kb eq words sec c.args.index c.transform-word.result c.args.key c.args.self.tables c.in_ok-held.held.tables c.push.new.self c.in_ok-held.ensures.same c.push.ensures c.in_ok-held.ensures.reserved
+          (ap words (sym c.as_bytes.ensures) ∙ sym c.transform-word.ensures) c.requires.over.tied;
       small = c.ranges.index.fits;
       sized = g.met.K.Key.sized c.args.key;
       long = refl;
@@ -132,20 +139,20 @@ moments_of g c times free t sound =
     c.new-record.ensures (c.append.ensures.moments t sound.pair) in
     put_moments (shown c.args.self) c.args.index c.section_of-section.result c.section_of-section.ensures (g.K.Key.key_bytes c.args.key) bytes size times g.D.Device.time c.args.dev.now c.append.new.dev
     (at_rest (shown c.args.self) (disk before) (omega arith) refl refl refl (λ s v held. λ i. (c.requires.over.pair.index.over.opened_list.setting s v held i).page_size) c.requires.over t sound)
-    c.requires.over t sound (asked_of g c times free sound) (c.has_room.ensures.0 c.if-not-has_room.false) c.args.self.has_records c.section_of-section.type_inv
+    c.requires.over t sound (asked_of g c times free sound) ((room_shown (row_of g.K.Key.key_bytes) (tables.rows_of c.args.self.tables) c.args.self.limits.sections c.args.self.limits.per_section c.section_of-section.result).0 (c.has_room.ensures.0 c.if-not-has_room.false)) c.args.self.has_records c.section_of-section.type_inv
     (λ lt. c.append.ensures.refused (inl (c.append.ensures.too_large.1 lt)))
     (λ le full. c.append.ensures.refused (inr (inr (inl t, (c.append.ensures.full (inl t)).1 (le, pair_above (shown c.args.self) c.requires.over c.args.index c.section_of-section.result c.section_of-section.ensures c.requires.floor, inr full)))))
     keeping
 
 sounds_of : (g : given.Over) (c : goal.After-result-1 g) → g.D.Device.Tells → IsSoundArchive (shown c.args.self) (disk (g.D.Device.time c.args.dev.now))
-    → Sounds (shown c.args.self) (pair.shown (place_of g.K.Key.SIZE) c.in_ok-pair.pair) (λ bytes. g.V.Codec.refusal bytes c.in_ok-pair.pair.values.codec_config) (rows_of g.K.Key.key_bytes c.push.new.self) (AreFilledBut (λ _. ⊥) c.push.new.self) (set_of c.insert-2.new.self) (contains nat_cmp c.insert.new.self)
+    → Sounds (shown c.args.self) (pair.shown (place_of g.K.Key.SIZE) c.in_ok-pair.pair) (λ bytes. g.V.Codec.refusal bytes c.in_ok-pair.pair.values.codec_config) (rows_of g.K.Key.key_bytes c.push.new.self) (AreTables g.K.Key.key_bytes g.T.Word.PartialEq.eq (g.T.Translator.word_of c.args.self.translator) c.push.new.self) (set_of c.in_ok-held.held.indices) (contains nat_cmp c.in_ok-held.held.written)
     c.args.index c.section_of-section.result c.section_of-section.ensures (g.K.Key.key_bytes c.args.key) (g.V.Codec.spelling c.args.value.now) (length (frame g.S.Seal.seal_of (g.V.Codec.spelling c.args.value.now))) (disk (g.D.Device.time c.args.dev.now)) (disk (g.D.Device.time c.append.new.dev))
 sounds_of g c t sound = record {
   index_here = c.in_ok-pair.ensures.layout.index;
   values_here = c.in_ok-pair.ensures.layout.values;
   place = refl;
-  sound = c.in_ok-pair.ensures.sound t sound.pair;
-  list = c.in_ok-pair.ensures.list t sound.pair ∙ ap (λ (r : IndexRecord g.row.K.Denot). list_of (shown c.args.self).pair (disk (g.D.Device.time c.args.dev.now)) c.section_of-section.result
+  sound = record { sound = c.in_ok-pair.ensures.sound t sound.pair.sound; floor = ap (λ u. u.floor) c.in_ok-pair.ensures.markers ∙ sound.pair.floor };
+  list = c.in_ok-pair.ensures.list t sound.pair.sound ∙ ap (λ (r : IndexRecord g.row.K.Denot). list_of (shown c.args.self).pair (disk (g.D.Device.time c.args.dev.now)) c.section_of-section.result
       ++ record {
         stored = index_record r.index (g.K.Key.key_bytes r.key) (glob.section_size (shown c.args.self).pair.values c.section_of-section.result) (length (frame g.S.Seal.seal_of (g.V.Codec.spelling c.args.value.now)));
         value = g.V.Codec.spelling c.args.value.now;
@@ -158,10 +165,21 @@ sounds_of g c t sound = record {
 }
 
 pub has_room-requires : goal.has_room-requires
-has_room-requires g c = record { filled = c.requires.over.filled }
+has_room-requires g c = c.requires.over.tied.order
 
-pub reserve-requires : goal.reserve-requires
-reserve-requires g c = record { filled = c.requires.over.filled }
+pub grown-requires : goal.grown-requires
+grown-requires g c = record {
+  order = c.requires.over.tied.order;
+  room = room_wider c.args.self.limits.sections c.args.self.limits.per_section (2 ^ 24) (2 ^ 40) (tables.rows_of c.args.self.tables) c.section_of-section.result c.args.self.few_sections c.args.self.few_records (c.has_room.ensures.0 c.if-not-has_room.false);
+  index = section_low c.args.self.items_per_section c.args.index c.section_of-section.result c.section_of-section.ensures;
+}
+
+pub push-requires : goal.push-requires
+push-requires g c = record {
+  order = c.in_ok-held.ensures.reserved.order;
+  spare = c.in_ok-held.ensures.reserved.spare;
+  index = section_low c.args.self.items_per_section c.args.index c.section_of-section.result c.section_of-section.ensures;
+}
 
 -- ---- the exits
 
@@ -171,29 +189,15 @@ returns-then-not-has_room g c times free =
     (λ t sound. at_rest (shown c.args.self) (disk (g.D.Device.time c.args.dev.now)) (omega arith) refl refl refl (λ s v held. λ i. (c.requires.over.pair.index.over.opened_list.setting s v held i).page_size) c.requires.over t sound)
     (λ allowed.
     let a = shown c.args.self in
-    let room = c.has_room.ensures.1 (subst (HasRoom a.most_sections a.most_records a.rows) (sym c.section_of-section.ensures) allowed) in
+    let room = c.has_room.ensures.1 ((room_shown (row_of g.K.Key.key_bytes) (tables.rows_of c.args.self.tables) a.most_sections a.most_records c.section_of-section.result).1 (subst (HasRoom a.most_sections a.most_records a.rows) (sym c.section_of-section.ensures) allowed)) in
     absurd (cc (room, c.if-not-has_room.true)))
 
-pub returns-in_err-reserve : goal.returns-in_err-reserve
-returns-in_err-reserve g c times free =
-    put_as _ g.D.Device times c.args.self c.args.index (g.K.Key.key_bytes c.args.key) (g.V.Codec.spelling c.args.value.now) _ (Err Mem) _ _ (err_of _ Mem c.from_residual.ensures.1)
+pub returns-in_err-held : goal.returns-in_err-held
+returns-in_err-held g c times free =
+    put_as _ g.D.Device times c.args.self c.args.index (g.K.Key.key_bytes c.args.key) (g.V.Codec.spelling c.args.value.now) _ (Err Mem) _ _ (err_of _ Mem (subst (λ (x : Error). IsErrAnd c.from_residual.result (λ y. y ≡ x)) c.in_err-held.ensures c.from_residual.ensures.1))
     (put_no_memory _ g.D.Device times c.args.self c.args.index (g.K.Key.key_bytes c.args.key) (g.V.Codec.spelling c.args.value.now) (section_small _ c.args.index c.ranges.index.fits) free c.args.dev.now
     (λ t sound. at_rest (shown c.args.self) (disk (g.D.Device.time c.args.dev.now)) (omega arith) refl refl refl (λ s v held. λ i. (c.requires.over.pair.index.over.opened_list.setting s v held i).page_size) c.requires.over t sound)
-    (subst (HasRoom (shown c.args.self).most_sections (shown c.args.self).most_records (shown c.args.self).rows) c.section_of-section.ensures (c.has_room.ensures.0 c.if-not-has_room.false)))
-
-pub returns-in_err-insert : goal.returns-in_err-insert
-returns-in_err-insert g c times free =
-    put_as _ g.D.Device times c.args.self c.args.index (g.K.Key.key_bytes c.args.key) (g.V.Codec.spelling c.args.value.now) _ (Err Mem) _ _ (err_of _ Mem c.from_residual-in_err-insert.ensures.1)
-    (put_no_memory _ g.D.Device times c.args.self c.args.index (g.K.Key.key_bytes c.args.key) (g.V.Codec.spelling c.args.value.now) (section_small _ c.args.index c.ranges.index.fits) free c.args.dev.now
-    (λ t sound. at_rest (shown c.args.self) (disk (g.D.Device.time c.args.dev.now)) (omega arith) refl refl refl (λ s v held. λ i. (c.requires.over.pair.index.over.opened_list.setting s v held i).page_size) c.requires.over t sound)
-    (subst (HasRoom (shown c.args.self).most_sections (shown c.args.self).most_records (shown c.args.self).rows) c.section_of-section.ensures (c.has_room.ensures.0 c.if-not-has_room.false)))
-
-pub returns-in_err-insert-2 : goal.returns-in_err-insert-2
-returns-in_err-insert-2 g c times free =
-    put_as _ g.D.Device times c.args.self c.args.index (g.K.Key.key_bytes c.args.key) (g.V.Codec.spelling c.args.value.now) _ (Err Mem) _ _ (err_of _ Mem c.from_residual-in_err-insert-2.ensures.1)
-    (put_no_memory _ g.D.Device times c.args.self c.args.index (g.K.Key.key_bytes c.args.key) (g.V.Codec.spelling c.args.value.now) (section_small _ c.args.index c.ranges.index.fits) free c.args.dev.now
-    (λ t sound. at_rest (shown c.args.self) (disk (g.D.Device.time c.args.dev.now)) (omega arith) refl refl refl (λ s v held. λ i. (c.requires.over.pair.index.over.opened_list.setting s v held i).page_size) c.requires.over t sound)
-    (subst (HasRoom (shown c.args.self).most_sections (shown c.args.self).most_records (shown c.args.self).rows) c.section_of-section.ensures (c.has_room.ensures.0 c.if-not-has_room.false)))
+    (row_allowed g.K.Key.key_bytes c.args.self.tables c.args.self.limits.sections c.args.self.limits.per_section c.args.self.items_per_section c.args.index c.section_of-section.result c.section_of-section.ensures (c.has_room.ensures.0 c.if-not-has_room.false)))
 
 pub returns-in_err-pair : goal.returns-in_err-pair
 returns-in_err-pair g c times free =
@@ -202,7 +206,7 @@ returns-in_err-pair g c times free =
     let v = g.V.Codec.spelling c.args.value.now in
     let e = c.in_err-pair.field-0.0 in
     let small = section_small _ c.args.index c.ranges.index.fits in
-    let allowed = subst (HasRoom (shown c.args.self).most_sections (shown c.args.self).most_records (shown c.args.self).rows) c.section_of-section.ensures (c.has_room.ensures.0 c.if-not-has_room.false) in
+    let allowed = row_allowed g.K.Key.key_bytes c.args.self.tables c.args.self.limits.sections c.args.self.limits.per_section c.args.self.items_per_section c.args.index c.section_of-section.result c.section_of-section.ensures (c.has_room.ensures.0 c.if-not-has_room.false) in
     put_as _ g.D.Device times c.args.self c.args.index key v _ (Err (raised e)) _ _ (err_of _ (raised e) c.from_residual-in_err-pair.ensures.1)
     (put_pair_failed _ g.D.Device times c.args.self c.args.index key v small free allowed (pair_above (shown c.args.self) c.requires.over c.args.index _ refl c.requires.floor) e c.args.dev.now c.append.new.dev
     (failed_here _ g.D.Device times c.args.self c.args.index key v small free sec c.section_of-section.ensures e c.args.dev.now c.append.new.dev (record {
@@ -221,9 +225,6 @@ returns-in_err-pair g c times free =
       below = c.append.ensures.below;
     })))
 
-pub returns-in_err-push : goal.returns-in_err-push
-returns-in_err-push g c = absurd (c.in_err-push.ensures.no_spare c.in_ok-reserve.ensures.room)
-
 pub returns : goal.returns
 returns g c times free =
     let a = shown c.args.self in
@@ -235,17 +236,17 @@ returns g c times free =
     let v : List ℕ = g.V.Codec.spelling c.args.value.now in
     let n : ℕ = length (frame g.S.Seal.seal_of v) in
     let small = section_small _ c.args.index c.ranges.index.fits in
-    let allowed = subst (HasRoom a.most_sections a.most_records a.rows) here (c.has_room.ensures.0 c.if-not-has_room.false) in
+    let allowed = row_allowed g.K.Key.key_bytes c.args.self.tables c.args.self.limits.sections c.args.self.limits.per_section c.args.self.items_per_section c.args.index c.section_of-section.result c.section_of-section.ensures (c.has_room.ensures.0 c.if-not-has_room.false) in
     let says = c.in_ok-pair.ensures in
     let q = pair.shown (place_of g.K.Key.SIZE) c.in_ok-pair.pair in
     let refusal : List ℕ → Option codec_error.Error = λ bytes. g.V.Codec.refusal bytes c.in_ok-pair.pair.values.codec_config in
     let rows = rows_of g.K.Key.key_bytes c.push.new.self in
-    let written = contains nat_cmp c.insert.new.self in
+    let written = contains nat_cmp c.in_ok-held.held.written in
     let adds = adds_of g c in
     let filing = same_filing (filing_of a) q.layout refusal says.layout refl (λ _. refl) (λ _. refl) (λ bytes. ap (g.V.Codec.refusal bytes) says.codec_config) in
-    let over = grown_archive a q refusal rows (AreFilledBut (λ _. ⊥) c.push.new.self) (set_of c.insert-2.new.self) written c.args.index sec here key n d e
-    c.requires.over adds says.over (c.has_room.ensures.0 c.if-not-has_room.false) c.args.self.has_records in
-    let sounder : g.D.Device.Tells → IsSoundArchive a d → IsSoundArchive _ e = λ t sound. grown_sound a q refusal rows (AreFilledBut (λ _. ⊥) c.push.new.self) (set_of c.insert-2.new.self) written c.args.index sec here key v n d e c.requires.over t adds times (asked_of g (goal.at.returns g c).After-append times free sound (short g c)) sound (sounds_of g c t sound) in
+    let over = grown_archive a q refusal rows (AreTables g.K.Key.key_bytes g.T.Word.PartialEq.eq (g.T.Translator.word_of c.args.self.translator) c.push.new.self) (set_of c.in_ok-held.held.indices) written c.args.index sec here key n d e
+    c.requires.over adds says.over ((room_shown (row_of g.K.Key.key_bytes) (tables.rows_of c.args.self.tables) c.args.self.limits.sections c.args.self.limits.per_section c.section_of-section.result).0 (c.has_room.ensures.0 c.if-not-has_room.false)) c.args.self.has_records in
+    let sounder : g.D.Device.Tells → IsSoundArchive a d → IsSoundArchive _ e = λ t sound. grown_sound a q refusal rows (AreTables g.K.Key.key_bytes g.T.Word.PartialEq.eq (g.T.Translator.word_of c.args.self.translator) c.push.new.self) (set_of c.in_ok-held.held.indices) written c.args.index sec here key v n d e c.requires.over t adds times (asked_of g (goal.at.returns g c).After-append times free sound (short g c)) sound (sounds_of g c t sound) in
     put_added _ g.D.Device times c.args.self c.args.index key v small free _ c.args.dev.now c.append.new.dev allowed (moments_of g (goal.at.returns g c).After-append times free)
     (touches_here _ g.D.Device times c.args.self c.args.index key v sec here c.args.dev.now c.append.new.dev (record {
       untouched = c.append.ensures.untouched;
@@ -259,11 +260,11 @@ returns g c times free =
     (one_filing (filing_of a) _ filing refl)
     (λ w accepts. subst (g.V.Codec.accepted w) (sym says.codec_config) accepts)
     sounder
-    (λ t sound. grown_state a q refusal rows (AreFilledBut (λ _. ⊥) c.push.new.self) (set_of c.insert-2.new.self) written c.args.index sec here key v n d e c.requires.over t adds times (asked_of g (goal.at.returns g c).After-append times free sound (short g c)) sound (sounds_of g c t sound))
+    (λ t sound. grown_state a q refusal rows (AreTables g.K.Key.key_bytes g.T.Word.PartialEq.eq (g.T.Translator.word_of c.args.self.translator) c.push.new.self) (set_of c.in_ok-held.held.indices) written c.args.index sec here key v n d e c.requires.over t adds times (asked_of g (goal.at.returns g c).After-append times free sound (short g c)) sound (sounds_of g c t sound))
     (λ t sound. at_rest _ e (omega arith) refl refl refl (λ s u held. λ i. (says.over.index.over.opened_list.setting s u held i).page_size) over t sound)
     (record {
       filing = filing;
-      word = refl;
+      alike = refl;
       floor = refl;
       bounds = says.bounds;
       rows = rows_put a c.args.index sec here (is_skipped a c.args.index times) free key rows adds.row adds.other_rows;
@@ -272,7 +273,7 @@ returns g c times free =
           (λ s other. ap glob.size_held (says.others s other).1.held);
       own_tails = λ added. subst (λ (s : ℕ). AreTailsAfter a.pair s n q) here (subst (λ (k : ℕ). AreTailsAfter a.pair sec k q) says.size says.tails);
       other_tails = λ s other. (let same = says.others s (not_here a c.args.index sec here (is_skipped a c.args.index times) free s other) in tails_same a.pair q s same.0 same.1);
-      written = λ s. written_put a c.args.index sec here (is_skipped a c.args.index times) free written s (grows (contains nat_cmp c.args.self.written) written sec c.in_ok-insert.ensures.updates.1 (λ k other. c.in_ok-insert.ensures.updates.2 k (not_at sec k other)) s);
+      written = λ s. written_put a c.args.index sec here (is_skipped a c.args.index times) free written s (grows (contains nat_cmp c.args.self.written) written sec c.in_ok-held.ensures.written c.in_ok-held.ensures.others s);
       markers = says.markers;
       synced = says.synced;
     })

@@ -1,14 +1,14 @@
 use Rattle.std.proofs.Common.{refl, arith, ◌≤◌}
 use Rattle.blob_device.specs.Timeline.{disk}
 use Rattle.segments.proofs.FixedWriteLemmas.{are_pages}
-use Rattle.paired.proofs.ReconcileEntries.{markers_readable}
+use Rattle.paired.proofs.reconcile.Entries.{markers_readable}
 use Rattle.archives.specs.Shown.{shown}
 use Rattle.archives.proofs.MachineTerms.{allowed, has_no_version_now, passed, passes}
 use Rattle.archives.proofs.OpenedAgain.{opened_again}
 use Rattle.archives.proofs.OutlastsLemmas.{moving_after_said, moving_said, no_next_version}
 use Rattle.archives.specs.PuttingLaws.{taken_state}
 use Rattle.archives.proofs.Reopening.{none_beyond}
-use Rattle.archives.proofs.SyncLemmas.{stands_now}
+use Rattle.archives.proofs.sync.Lemmas.{stands_now}
 use Rattle.archives.proofs.prunable.Archive.crash_laws.Goals as goal
 
 pub returns : goal.returns

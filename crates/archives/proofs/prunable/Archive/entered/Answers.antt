@@ -1,4 +1,4 @@
-use Rattle.std.proofs.Common.{rules, ◌≡◌, ◌+◌, ◌<◌, ◌^◌, refl, sym, ◌∙◌, ap, subst, ℕ, List, [], Some, Ok, Err, arith, get_or, length, map, take}
+use Rattle.std.proofs.Common.{◌≡◌, ◌+◌, ◌<◌, ◌^◌, refl, sym, ◌∙◌, ap, subst, ℕ, List, [], Some, Ok, Err, arith, get_or, length, map, take}
 use Rattle.std.specs.List.{AllByRecursion}
 use Rattle.paired.specs.Kept.{kept}
 use Rattle.paired.specs.Opening.{as_read}
@@ -11,17 +11,19 @@ use Rattle.value_codec.specs.Spelling.{size_refusal}
 use Rattle.segments.specs.contracts.sealed.PageBlobSectionBuffer.TheImpl as page_blob
 use Rattle.segments.proofs.FixedWriteLemmas.{are_pages}
 use Rattle.paired.specs.ReplayShown.{run_of}
-use Rattle.paired.proofs.NextAnswers.{Clauses}
-use Rattle.paired.proofs.NextGlue.{here_run}
-use Rattle.paired.proofs.PairSynced.{page_setting}
+use Rattle.paired.proofs.next.Answers.{Clauses}
+use Rattle.paired.proofs.next.Glue.{here_run}
+use Rattle.paired.proofs.pair.Synced.{page_setting}
 use Rattle.archives.specs.IndexRecord.{IsInRange, IsSpelled, place_of, spelling_of}
 use Rattle.archives.specs.IndexRecordLaws.{index_record_at_least}
 use Rattle.archives.specs.Raised.{raised}
 use Rattle.archives.specs.declared.prunable.index_record.IndexRecord.{IndexRecord}
-use Rattle.archives.proofs.OpenErrors.{answer, whole_kept}
-use Rattle.archives.proofs.OpenKept.{given_rows, kept_start, over_kept, stray_kept, undue, undue_rows}
-use Rattle.archives.proofs.OpenLoop.{Going, Passed, drained_on, going_on, going_start, passed_on, passed_start, reads_end, run_layout}
-use Rattle.archives.proofs.OpenRows.{all_of, all_rows, entered_on, entered_start, is_spelled, next_row, one_more, row_spelled, stray_given, within_start}
+use Rattle.archives.proofs.opening.Errors.{answer, whole_kept}
+use Rattle.archives.proofs.opening.Kept.{given_rows, kept_start, over_kept, stray_kept, undue, undue_rows}
+use Rattle.archives.proofs.opening.Loop.{Going, Passed, drained_on, going_on, going_start, passed_on, passed_start, reads_end, run_layout}
+use Rattle.archives.proofs.opening.Rows.{all_of, all_rows, entered_on, entered_start, is_spelled, next_row, one_more, row_spelled, stray_given, within_start}
+use Rattle.archives.proofs.TableLemmas.{bare_shown}
+use Rattle.record_tables.specs.Tables as tables
 use Rattle.archives.proofs.prunable.Archive.entered.Given as given
 use Rattle.archives.proofs.prunable.Archive.entered.Goals as goal
 use Rattle.archives.proofs.prunable.Archive.entered.Goals.{After-next, In_ok-section}
@@ -84,30 +86,25 @@ gave g c = let at = c.in_ok-section.was in let is = c.in-Some.is in cc (is, at)
 gives_record : (g : given.Over) (c : In_ok-section g) → g.D.Device.Tells → GivesRecord (spelling_of g.K.Key.key_bytes) (λ r _. IsInRange r) (run_of (place_of g.K.Key.SIZE) c.loop-given.replay) (run_of (place_of g.K.Key.SIZE) c.next.new.self) (disk (g.D.Device.time c.loop-given.dev)) (disk (g.D.Device.time c.next.new.dev)) c.in_ok-section.section c.in_ok-section.field-0-1 c.in_ok-section.record
 gives_record g c t = c.next.ensures.item t c.in_ok-section.section c.in_ok-section.field-0-1 c.in_ok-section.record (gave g c)
 
--- where it failed
-error_gave : (g : given.Over) (c : goal.After-drop-tables g) → c.next.result ≡ Some (Err c.in_err-section.field-0.0)
-error_gave g c = let at = c.in_err-section.was in let is = c.in-Some.is in cc (is, at)
-
-error_back : (g : given.Over) (c : goal.After-drop-tables g) → c.from_residual.result ≡ Err (raised c.in_err-section.field-0.0)
-error_back g c = search rules
-
 pub loop-given-init : goal.loop-given-init
-loop-given-init g c = record {
-  passed = passed_start (page_blob.ghosts g.row.S g.S.Seal g.S.Seal-dict) page_setting (λ f. record { page_size = 1; capacity = f.capacity }) g.D.Device.Tells (run_of (place_of g.K.Key.SIZE) c.args.replay.now) (g.D.Device.time c.args.dev.now) (g.D.Device.opened c.args.dev.now) c.requires.may.over;
-  going = going_start g.D.Device.Tells (run_of (place_of g.K.Key.SIZE) c.args.replay.now) (g.D.Device.time c.args.dev.now) c.requires.may.going;
-  entered = λ t. entered_start g.K.Key.SIZE (rows_of g.K.Key.key_bytes c.new-tables.result) (run_of (place_of g.K.Key.SIZE) c.args.replay.now) (disk (g.D.Device.time c.args.dev.now)) c.new-tables.ensures.none (c.requires.may.due t);
-  spelled = λ t s. subst (λ (rs : List Row). AllByRecursion (IsSpelled g.K.Key.SIZE) (take (length rs) (records_given (run_of (place_of g.K.Key.SIZE) c.args.replay.now) (disk (g.D.Device.time c.args.dev.now)) s))) (sym (c.new-tables.ensures.none s)) tt;
-  within = within_start c.args.cfg.now.items_per_section c.args.cfg.now.limits.sections c.args.cfg.now.limits.per_section (rows_of g.K.Key.key_bytes c.new-tables.result) c.new-tables.ensures.none;
-  filled = c.new-tables.ensures.filled;
-  codec_config = refl;
-  faults = omega arith;
-}
+loop-given-init g c =
+    let none = bare_shown g.K.Key.key_bytes (tables.rows_of c.new-tables.result) c.new-tables.ensures.none in
+    record {
+      passed = passed_start (page_blob.ghosts g.row.S g.S.Seal g.S.Seal-dict) page_setting (λ f. record { page_size = 1; capacity = f.capacity }) g.D.Device.Tells (run_of (place_of g.K.Key.SIZE) c.args.replay.now) (g.D.Device.time c.args.dev.now) (g.D.Device.opened c.args.dev.now) c.requires.may.over;
+      going = going_start g.D.Device.Tells (run_of (place_of g.K.Key.SIZE) c.args.replay.now) (g.D.Device.time c.args.dev.now) c.requires.may.going;
+      entered = λ t. entered_start g.K.Key.SIZE (rows_of g.K.Key.key_bytes c.new-tables.result) (run_of (place_of g.K.Key.SIZE) c.args.replay.now) (disk (g.D.Device.time c.args.dev.now)) none (c.requires.may.due t);
+      spelled = λ t s. subst (λ (rs : List Row). AllByRecursion (IsSpelled g.K.Key.SIZE) (take (length rs) (records_given (run_of (place_of g.K.Key.SIZE) c.args.replay.now) (disk (g.D.Device.time c.args.dev.now)) s))) (sym (none s)) tt;
+      within = within_start c.args.cfg.now.items_per_section c.args.cfg.now.limits.sections c.args.cfg.now.limits.per_section (rows_of g.K.Key.key_bytes c.new-tables.result) none;
+      tied = record { order = c.new-tables.ensures.order; words = c.new-tables.ensures.words (λ k. g.T.Translator.word_of c.args.cfg.now.translator (g.K.Key.key_bytes k)) };
+      codec_config = refl;
+      faults = omega arith;
+    }
 
 pub next-requires : goal.next-requires
 next-requires g c = c.loop-given.invariant.passed.over
 
-pub enter-requires-clause-filled : goal.enter-requires-clause-filled
-enter-requires-clause-filled g c = c.loop-given.invariant.filled
+pub enter-requires-clause-tied : goal.enter-requires-clause-tied
+enter-requires-clause-tied g c = c.loop-given.invariant.tied
 
 pub loop-given-preserved : goal.loop-given-preserved
 loop-given-preserved g c =
@@ -124,7 +121,7 @@ loop-given-preserved g c =
           c.in_ok-enter.ensures.0.entered c.in_ok-enter.ensures.0.others (next_row g.K.Key.SIZE (rows_of g.K.Key.key_bytes c.loop-given.tables) (run_of (place_of g.K.Key.SIZE) c.loop-given.replay) (disk (g.D.Device.time c.loop-given.dev)) (c.loop-given.invariant.entered t) c.in_ok-section.section c.in_ok-section.field-0-1 (gives_record g taken t).due (gives_record g taken t).first)
           (gives_record g taken t).due.given (is_spelled g.K.Key.key_bytes g.K.Key.SIZE g.met.K.Key.sized c.in_ok-section.record (get_or (records_given (run_of (place_of g.K.Key.SIZE) c.loop-given.replay) (disk (g.D.Device.time c.loop-given.dev)) c.in_ok-section.section) c.in_ok-section.field-0-1 []) (gives_record g taken t).item.spelled (gives_record g taken t).item.allowed) (c.loop-given.invariant.spelled t);
       within = c.in_ok-enter.ensures.0.within c.loop-given.invariant.within;
-      filled = c.in_ok-enter.ensures.0.filled;
+      tied = c.in_ok-enter.ensures.0.tied;
       codec_config = c.next.ensures.codec_config ∙ c.loop-given.invariant.codec_config;
       faults = omega (arith, c.loop-given.invariant.faults, c.next.ensures.faults);
     }
@@ -132,6 +129,8 @@ loop-given-preserved g c =
 pub returns-in_err-section : goal.returns-in_err-section
 returns-in_err-section g c =
     let n = (goal.at.returns-in_err-section g c).After-next in
+    let gave : c.next.result ≡ Some (Err c.in_err-section.field-0.0) = (let at = c.in_err-section.was in let is = c.in-Some.is in cc (is, at)) in
+    let back : c.from_residual.result ≡ Err (raised c.in_err-section.field-0.0) = err_of c.from_residual.result (raised c.in_err-section.field-0.0) c.from_residual.ensures.1 in
     not_walked _ g.D.Device g.K.Key.SIZE c.args.cfg.now.items_per_section c.args.cfg.now.limits (run_of (place_of g.K.Key.SIZE) c.args.replay.now) (run_of (place_of g.K.Key.SIZE) c.next.new.self) c.args.dev.now c.next.new.dev _ _ (record {
       over = (passed g n).over;
       same = (passed g n).same;
@@ -141,9 +140,9 @@ returns-in_err-section g c =
       entries = (passed g n).moves.entries;
       reads = reads_end (page_blob.ghosts g.row.S g.S.Seal g.S.Seal-dict) page_setting (λ f. record { page_size = 1; capacity = f.capacity }) g.D.Device.Tells (run_of (place_of g.K.Key.SIZE) c.args.replay.now) (g.D.Device.time c.args.dev.now) (g.D.Device.opened c.args.dev.now) (run_of (place_of g.K.Key.SIZE) c.next.new.self) (g.D.Device.time c.next.new.dev) (g.D.Device.opened c.next.new.dev) (passed g n);
       faults = omega (arith, c.loop-given.invariant.faults, c.next.ensures.faults);
-    }) _ _ _ (raised c.in_err-section.field-0.0) (error_back g c) (answer (page_blob.ghosts g.row.S g.S.Seal g.S.Seal-dict) page_setting (λ f. record { page_size = 1; capacity = f.capacity }) g.D.Device.Tells (λ bytes _. size_refusal (g.K.Key.SIZE + 20) bytes) (spelling_of g.K.Key.key_bytes) (λ r _. IsInRange r) (run_of (place_of g.K.Key.SIZE) c.args.replay.now) (g.D.Device.time c.args.dev.now) (g.D.Device.opened c.args.dev.now) c.requires.may.tracked (run_of (place_of g.K.Key.SIZE) c.loop-given.replay) (g.D.Device.time c.loop-given.dev) (g.D.Device.opened c.loop-given.dev) c.loop-given.invariant.passed c.loop-given.invariant.going (run_of (place_of g.K.Key.SIZE) c.next.new.self) (g.D.Device.time c.next.new.dev) (g.D.Device.opened c.next.new.dev) (g.D.Device.faults c.args.dev.now) (g.D.Device.faults c.loop-given.dev) (g.D.Device.faults c.next.new.dev) c.loop-given.invariant.faults
-    c.next.result c.in_err-section.field-0.0 (error_gave g c) (says g n) (laid g n) (run_layout (place_of g.K.Key.SIZE) c.loop-given.replay c.next.new.self c.next.ensures.same) (λ r long. whole_kept (g.K.Key.SIZE + 20) r long)
-    (are_pages g.row.S g.S.Seal g.S.Seal-dict) (here_run (place_of g.K.Key.SIZE) c.loop-given.replay (index_record_at_least g.K.Key.SIZE)) (here_run (place_of g.K.Key.SIZE) c.next.new.self (index_record_at_least g.K.Key.SIZE)) c.from_residual.result (error_back g c))
+    }) _ _ _ (raised c.in_err-section.field-0.0) back (answer (page_blob.ghosts g.row.S g.S.Seal g.S.Seal-dict) page_setting (λ f. record { page_size = 1; capacity = f.capacity }) g.D.Device.Tells (λ bytes _. size_refusal (g.K.Key.SIZE + 20) bytes) (spelling_of g.K.Key.key_bytes) (λ r _. IsInRange r) (run_of (place_of g.K.Key.SIZE) c.args.replay.now) (g.D.Device.time c.args.dev.now) (g.D.Device.opened c.args.dev.now) c.requires.may.tracked (run_of (place_of g.K.Key.SIZE) c.loop-given.replay) (g.D.Device.time c.loop-given.dev) (g.D.Device.opened c.loop-given.dev) c.loop-given.invariant.passed c.loop-given.invariant.going (run_of (place_of g.K.Key.SIZE) c.next.new.self) (g.D.Device.time c.next.new.dev) (g.D.Device.opened c.next.new.dev) (g.D.Device.faults c.args.dev.now) (g.D.Device.faults c.loop-given.dev) (g.D.Device.faults c.next.new.dev) c.loop-given.invariant.faults
+    c.next.result c.in_err-section.field-0.0 gave (says g n) (laid g n) (run_layout (place_of g.K.Key.SIZE) c.loop-given.replay c.next.new.self c.next.ensures.same) (λ r long. whole_kept (g.K.Key.SIZE + 20) r long)
+    (are_pages g.row.S g.S.Seal g.S.Seal-dict) (here_run (place_of g.K.Key.SIZE) c.loop-given.replay (index_record_at_least g.K.Key.SIZE)) (here_run (place_of g.K.Key.SIZE) c.next.new.self (index_record_at_least g.K.Key.SIZE)) c.from_residual.result back)
 
 pub returns-in_err-enter : goal.returns-in_err-enter
 returns-in_err-enter g c =
@@ -162,7 +161,7 @@ returns-in_err-enter g c =
       reads = reads_end (page_blob.ghosts g.row.S g.S.Seal g.S.Seal-dict) page_setting (λ f. record { page_size = 1; capacity = f.capacity }) g.D.Device.Tells (run_of (place_of g.K.Key.SIZE) c.args.replay.now) (g.D.Device.time c.args.dev.now) (g.D.Device.opened c.args.dev.now) (run_of (place_of g.K.Key.SIZE) c.next.new.self) (g.D.Device.time c.next.new.dev) (g.D.Device.opened c.next.new.dev) (passed g n);
       faults = omega (arith, c.loop-given.invariant.faults, c.next.ensures.faults);
     }) _ _ _ c.in_err-enter.field-0.0 (err_of _ c.in_err-enter.field-0.0 c.from_residual-in_err-enter.ensures.1) _ _
-    (entry_is g.K.Key.key_bytes c.args.cfg.now.items_per_section c.args.cfg.now.limits c.loop-given.tables c.in_ok-section.section (record { index = c.in_ok-section.record.index; key = g.K.Key.key_bytes c.in_ok-section.record.key }) c.in_err-enter.field-0.0 c.in_err-enter.ensures)
+    (entry_is g.K.Key.key_bytes g.T.Word.PartialEq.eq (g.T.Translator.word_of c.args.cfg.now.translator) c.args.cfg.now.items_per_section c.args.cfg.now.limits c.loop-given.tables c.in_ok-section.section (record { index = c.in_ok-section.record.index; key = g.K.Key.key_bytes c.in_ok-section.record.key }) c.in_err-enter.field-0.0 c.in_err-enter.ensures)
     (λ t apart_row.
     let gives = gives_record g taken t in
     let at = stray_given g.K.Key.key_bytes c.args.cfg.now.items_per_section c.in_ok-section.section c.in_ok-section.field-0-1 c.in_ok-section.record (records_given (run_of (place_of g.K.Key.SIZE) c.loop-given.replay) (disk (g.D.Device.time c.loop-given.dev)) c.in_ok-section.section) (records_given run (disk (g.D.Device.time c.next.new.dev)) c.in_ok-section.section)
@@ -205,7 +204,7 @@ returns g c =
       drained = drained_on (page_blob.ghosts g.row.S g.S.Seal g.S.Seal-dict) page_setting (λ f. record { page_size = 1; capacity = f.capacity }) g.D.Device.Tells (λ bytes _. size_refusal (g.K.Key.SIZE + 20) bytes) (spelling_of g.K.Key.key_bytes) (λ r _. IsInRange r) (run_of (place_of g.K.Key.SIZE) c.args.replay.now) (g.D.Device.time c.args.dev.now) (g.D.Device.opened c.args.dev.now) c.requires.may.tracked (run_of (place_of g.K.Key.SIZE) c.loop-given.replay) (g.D.Device.time c.loop-given.dev) (g.D.Device.opened c.loop-given.dev) c.loop-given.invariant.passed c.loop-given.invariant.going (run_of (place_of g.K.Key.SIZE) c.next.new.self) (g.D.Device.time c.next.new.dev) (g.D.Device.opened c.next.new.dev) (g.D.Device.faults c.loop-given.dev) (g.D.Device.faults c.next.new.dev) c.next.result (says g n) (laid g n)
           (c.next.ensures.whole c.in_default.is c.loop-given.invariant.going.going) c.in_default.is;
       within = c.loop-given.invariant.within;
-      filled = c.loop-given.invariant.filled;
+      tied = c.loop-given.invariant.tied;
       told = λ t. record {
         listed = (λ s. all_rows g.K.Key.SIZE (rows_of g.K.Key.key_bytes c.loop-given.tables) (run_of (place_of g.K.Key.SIZE) c.loop-given.replay) (disk (g.D.Device.time c.loop-given.dev)) (c.loop-given.invariant.entered t) (c.next.ensures.none t c.in_default.is) s ∙ ap (map (row_in g.K.Key.SIZE)) (sym (same_given g n went t s)));
         spelled = (λ s. subst (AllByRecursion (IsSpelled g.K.Key.SIZE)) (sym (same_given g n went t s)) (all_of g.K.Key.SIZE (rows_of g.K.Key.key_bytes c.loop-given.tables) (run_of (place_of g.K.Key.SIZE) c.loop-given.replay) (disk (g.D.Device.time c.loop-given.dev)) (c.loop-given.invariant.entered t) (IsSpelled g.K.Key.SIZE) (c.next.ensures.none t c.in_default.is) (c.loop-given.invariant.spelled t) s));

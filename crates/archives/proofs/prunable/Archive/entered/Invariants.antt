@@ -6,11 +6,11 @@ use Rattle.segments.specs.FixedStepping.{way_of}
 use Rattle.segments.specs.FixedWalking.{walk_of}
 use Rattle.paired.specs.Replaying.{records_given}
 use Rattle.paired.specs.ReplayShown.{run_of}
-use Rattle.paired.proofs.PairSynced.{page_setting}
+use Rattle.paired.proofs.pair.Synced.{page_setting}
 use Rattle.archives.specs.IndexRecord.{IsSpelled, place_of}
 use Rattle.archives.specs.Opening.{HasEntered}
-use Rattle.archives.specs.Rows.{AreFilledBut, AreWithin, rows_of}
-use Rattle.archives.proofs.OpenLoop.{Going, Passed}
+use Rattle.archives.specs.Rows.{AreTables, AreWithin, rows_of}
+use Rattle.archives.proofs.opening.Loop.{Going, Passed}
 use Rattle.archives.proofs.prunable.Archive.entered.Given as goal
 
 -- What the walk leaves so far, without an error; and of each section the first records that it gives are entered.
@@ -23,7 +23,7 @@ invariant-loop-given g l = record {
   spelled : g.D.Device.Tells → (s : ℕ) → AllByRecursion (IsSpelled g.K.Key.SIZE)
       (take (length (rows_of g.K.Key.key_bytes l.tables s)) (records_given (run_of (place_of g.K.Key.SIZE) l.replay) (disk (g.D.Device.time l.dev)) s));
   within : AreWithin l.cfg.items_per_section l.cfg.limits.sections l.cfg.limits.per_section (rows_of g.K.Key.key_bytes l.tables);
-  filled : AreFilledBut (λ _. ⊥) l.tables;
+  tied : AreTables g.K.Key.key_bytes g.T.Word.PartialEq.eq (g.T.Translator.word_of l.cfg.translator) l.tables;
   codec_config : l.replay.values.codec_config ≡ l.initial.replay.values.codec_config;
   faults : g.D.Device.faults l.initial.dev ≤ g.D.Device.faults l.dev;
 }

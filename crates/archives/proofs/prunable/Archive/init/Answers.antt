@@ -14,6 +14,7 @@ use Rattle.std.specs.BTreeSet as set
 use Rattle.std.specs.Ordering.{nat_cmp}
 use Rattle.blob_device.specs.Disk.{Key, MayLeave, reads}
 use Rattle.blob_device.proofs.Moments.{always_now, always_start}
+use Rattle.meta_store.specs.Store.{contents_of}
 use Rattle.paired.specs.Crashes.{IsOwn}
 use Rattle.sealed_pages.specs.declared.page_blob.PageBlob.{PageBlob}
 use Rattle.segments.specs.declared.sealed.AppendFactory.{AppendFactory}
@@ -23,9 +24,9 @@ use Rattle.paired.specs.Opening.{HoldMarkers, IsLawful, MayBeOpened, OnlyOpens, 
 use Rattle.paired.specs.OpeningFound.{HasFound}
 use Rattle.paired.specs.Pair.{AreApart, IsSoundOn, records_of}
 use Rattle.paired.specs.PairShown as pair
-use Rattle.paired.proofs.PairReads.{leaves_now}
-use Rattle.paired.proofs.PairSynced.{here_of}
-use Rattle.paired.proofs.ReconcileEntries.{drained_from, markers_readable, run_here}
+use Rattle.paired.proofs.pair.Reads.{leaves_now}
+use Rattle.paired.proofs.pair.Synced.{here_of}
+use Rattle.paired.proofs.reconcile.Entries.{drained_from, markers_readable, run_here}
 use Rattle.paired.specs.OpeningRefusing.{AreCounted, IsLost}
 use Rattle.paired.specs.ReplayShown.{layout_for, run_of}
 use Rattle.ordinal_store.specs.Ranges.{set_of}
@@ -36,26 +37,28 @@ use Rattle.archives.specs.Lawful.{Lawful}
 use Rattle.archives.specs.Opening.{LeavesLawful}
 use Rattle.archives.specs.declared.error.Error.TheVariants.{Mem}
 use Rattle.archives.specs.Raised.{raised}
-use Rattle.archives.specs.Rows.{AreFilledBut, row_in, rows_of}
+use Rattle.archives.specs.Rows.{AreTables, row_in, rows_of}
 use Rattle.archives.specs.Standing.{IsStart, StandsFor}
 use Rattle.archives.specs.Shown.{filing_for, setup_for}
-use Rattle.archives.proofs.InitErrors.{end_stops, gives_up_on, handed, journal_back, no_refusal, after_replay, end_full, end_no_copy, end_no_name, end_no_room, end_no_start, metadata_back, never, no_room_given_up, no_stray_back, pair_no_full, pair_no_page, pair_no_start, pair_stops}
-use Rattle.archives.proofs.PutSync.{same_filing}
-use Rattle.archives.proofs.SyncStored.{no_record_tail, no_value_tail, values_stored}
-use Rattle.archives.proofs.SyncLemmas.{none_in}
-use Rattle.archives.proofs.InitCauses.{none_refused}
+use Rattle.archives.proofs.init.Errors.{end_stops, gives_up_on, handed, journal_back, no_refusal, after_replay, end_full, end_no_copy, end_no_name, end_no_room, end_no_start, metadata_back, never, no_room_given_up, no_stray_back, pair_no_full, pair_no_page, pair_no_start, pair_stops}
+use Rattle.archives.proofs.put.Sync.{same_filing}
+use Rattle.archives.proofs.sync.Stored.{no_record_tail, no_value_tail, values_stored}
+use Rattle.archives.proofs.sync.Lemmas.{none_in}
+use Rattle.archives.proofs.init.Causes.{none_refused}
+use Rattle.record_tables.specs.Tables as tables
+use Rattle.archives.proofs.TableLemmas.{indices_shown}
 use Rattle.archives.proofs.IndexSets.{rows_set}
-use Rattle.archives.proofs.InitEnds.{drained_given, moved_small, not_replay}
+use Rattle.archives.proofs.init.Ends.{drained_given, moved_small, not_replay}
 use Rattle.archives.proofs.ArchiveStands.{no_foreign}
-use Rattle.archives.proofs.InitSound.{all_lawful, no_foreign_before, rests}
-use Rattle.archives.proofs.InitLeft.{pair_rests, sound_left}
+use Rattle.archives.proofs.init.Sound.{all_lawful, no_foreign_before, rests}
+use Rattle.archives.proofs.init.Left.{pair_rests, sound_left}
 use Rattle.archives.proofs.Reopening.{reopens}
-use Rattle.archives.proofs.InitStored.{left_at_most}
-use Rattle.archives.proofs.InitLayouts.{layout_same}
-use Rattle.archives.proofs.InitRecords.{all_whole, none_unreadable}
-use Rattle.archives.proofs.InitState.{archive_over, given_count, in_place, lists_left, marker_is, none_over, none_stray, records_left, starts}
-use Rattle.archives.proofs.InitMoments.{OthersStay, recalls_itself, open_as, others_opened, same_layout}
-use Rattle.archives.proofs.OpenParts.{Part, Replayed, ended_part, entered, few_left, markers_are, no_next, none_before, part_as, to_move}
+use Rattle.archives.proofs.init.Stored.{left_at_most}
+use Rattle.archives.proofs.init.Layouts.{layout_same}
+use Rattle.archives.proofs.init.Records.{all_whole, none_unreadable}
+use Rattle.archives.proofs.init.State.{archive_over, given_count, in_place, lawful_now, lists_left, marker_is, none_over, none_stray, records_left, starts}
+use Rattle.archives.proofs.init.Moments.{OthersStay, recalls_itself, open_as, others_opened, same_layout}
+use Rattle.archives.proofs.opening.Parts.{Part, Replayed, ended_part, entered, few_left, markers_are, no_next, none_before, part_as, to_move}
 use Rattle.archives.proofs.OpensLemmas.{not_opened, opening_done, opening_refused, tables_refused}
 use Rattle.archives.proofs.prunable.Archive.init.Given as given
 use Rattle.archives.proofs.prunable.Archive.init.Goals as goal
@@ -159,10 +162,10 @@ returns-in_err-replay g c =
       corrupt = λ side has. subst (λ y. PairOn y.markers y.metadata (disk a) (Err side)) named ((says.refusals t).corrupt side (metadata_back r _ x is (store.Corruption side) has));
       named = λ n has. subst (λ y. IsForeign (disk a) y.index n ⊎ IsForeign (disk a) y.values n) named ((says.refusals t).named n (journal_back r _ x is (section.InvalidBlobName n) has));
       damage = λ y has. (let w = (says.refusals t).damage y (journal_back r _ x is (section.Corruption y) has) in
-          (w.0, subst (λ z. HoldMarkers z (as_read (disk a)) w.0) named w.1, inl (subst (λ z. IsLost z (IsMarked w.0) (disk a) y) named w.2)));
+          (w.0, subst (λ z. HoldMarkers z (as_read (disk a)) w.0) named w.1, inl (subst (λ z. IsLost z (IsMarked w.0.entries) (disk a) y) named w.2)));
       damaged = λ k has. absurd (pair_no_page r _ x is fa fb says.cause k has);
       start = λ n has. pair_no_start r _ x is fa fb says.cause n has;
-      spelled = λ y has. (let w = (says.refusals t).refused y (journal_back r _ x is (section.Codec y) has) in none_unreadable (layout_for (place_of g.K.Key.SIZE) (g.K.Key.SIZE + 20) g.S.Seal c.in_ok-pair.field-0 c.as_str.result.now) (disk a) (IsMarked w.0) y w.2);
+      spelled = λ y has. (let w = (says.refusals t).refused y (journal_back r _ x is (section.Codec y) has) in none_unreadable (layout_for (place_of g.K.Key.SIZE) (g.K.Key.SIZE + 20) g.S.Seal c.in_ok-pair.field-0 c.as_str.result.now) (disk a) (IsMarked w.0.entries) y w.2);
       stray = λ has. no_stray_back r ⊤ x is has;
       full = λ has. absurd (pair_no_full r _ x is fa fb says.cause has);
     })
@@ -180,7 +183,7 @@ returns-in_err-replay g c =
 pub returns-in_err-tables : goal.returns-in_err-tables
 returns-in_err-tables g c =
     let at = goal.at.returns-in_err-tables g c in
-    tables_refused _ (setup_for g.K.Key.SIZE g.S.Seal g.V.Codec g.T.Translator.word_of c.args.cfg.now) (replayed_at g at.In_ok-replay (named_at g at.After-init_with_metadata) (made_at g at.After-init_with_metadata)) c.in_err-tables.field-0.0 c.in_err-tables.ensures c.requires.valid.pages (omega arith) refl refl
+    tables_refused _ (setup_for g.K.Key.SIZE g.S.Seal g.V.Codec g.T.Translator.word_of g.T.Word.PartialEq.eq c.args.cfg.now) (replayed_at g at.In_ok-replay (named_at g at.After-init_with_metadata) (made_at g at.After-init_with_metadata)) c.in_err-tables.field-0.0 c.in_err-tables.ensures c.requires.valid.pages (omega arith) refl refl
     c.from_residual-in_err-tables.result (err_of c.from_residual-in_err-tables.result c.in_err-tables.field-0.0 c.from_residual-in_err-tables.ensures.1)
 
 -- The replay was drained, and there was no memory for the set of indices. Nothing is wrong with the image, and no byte was changed.
@@ -190,7 +193,7 @@ returns-in_err-indices g c =
     let walked = run_of (place_of g.K.Key.SIZE) c.entered.new.replay in
     let here = replayed_at g at.In_ok-replay (named_at g at.After-init_with_metadata) (made_at g at.After-init_with_metadata) in
     let since = entered here (same_layout (run_of (place_of g.K.Key.SIZE) c.in_ok-replay.replay).layout walked.layout c.entered.ensures.same.layout) c.in_ok-tables.ensures in
-    opening_refused _ g.D.Device (setup_for g.K.Key.SIZE g.S.Seal g.V.Codec g.T.Translator.word_of c.args.cfg.now) c.args.dev.now c.entered.new.dev _ (few_left here) since.part
+    opening_refused _ g.D.Device (setup_for g.K.Key.SIZE g.S.Seal g.V.Codec g.T.Translator.word_of g.T.Word.PartialEq.eq c.args.cfg.now) c.args.dev.now c.entered.new.dev _ (few_left here) since.part
     c.from_residual-in_err-indices.result Mem (err_of c.from_residual-in_err-indices.result Mem c.from_residual-in_err-indices.ensures.1)
     (record { cause = tt; copies = λ t side bad. absurd (here.copies t side bad); complete = λ t markers lawful. tt })
 
@@ -214,7 +217,7 @@ returns-in_err-finish_tracked g c =
     let is : r ≡ Err (raised x) = err_of r (raised x) c.from_residual-in_err-finish_tracked.ensures.1 in
     let why = after_replay (λ replay. not_replay walked tracked read.going read.drained (says.replay_failed.0 replay)) says.cause in
     let le : fa ≤ fe = since.part.faults in
-    not_opened _ g.D.Device (setup_for g.K.Key.SIZE g.S.Seal g.V.Codec g.T.Translator.word_of c.args.cfg.now) c.args.dev.now c.finish_tracked.new.dev _ (few_left here) (ended_part here since (record {
+    not_opened _ g.D.Device (setup_for g.K.Key.SIZE g.S.Seal g.V.Codec g.T.Translator.word_of g.T.Word.PartialEq.eq c.args.cfg.now) c.args.dev.now c.finish_tracked.new.dev _ (few_left here) (ended_part here since (record {
       recalls = ended.moments;
       alone = ended.untouched;
       entries = ended.entries;
@@ -252,7 +255,7 @@ returns g c =
     let e = disk (g.D.Device.time c.entered.new.dev) in
     let z = disk (g.D.Device.time c.finish_tracked.new.dev) in
     let f = filing_for g.K.Key.SIZE g.S.Seal g.V.Codec.refusal c.args.cfg.now in
-    let setup = setup_for g.K.Key.SIZE g.S.Seal g.V.Codec g.T.Translator.word_of c.args.cfg.now in
+    let setup = setup_for g.K.Key.SIZE g.S.Seal g.V.Codec g.T.Translator.word_of g.T.Word.PartialEq.eq c.args.cfg.now in
     let run = run_of (place_of g.K.Key.SIZE) c.in_ok-replay.replay in
     let walked = run_of (place_of g.K.Key.SIZE) c.entered.new.replay in
     let at = goal.at.returns g c in
@@ -269,7 +272,7 @@ returns g c =
     let config : c.in_ok-finish_tracked.field-0.values.codec_config ≡ c.args.cfg.now.codec_config =
     says.codec_config ∙ c.entered.ensures.config ∙ c.in_ok-replay.ensures.codec_config ∙ c.in_ok-pair.ensures.codec_config in
     let arch : Archive (AppendFactory g.row.S.Denot) (PageBlob g.row.S.Denot g.S.Seal) =
-    archive_over p f refusal (rows_of g.K.Key.key_bytes c.in_ok-tables.tables) (AreFilledBut (λ _. ⊥) c.in_ok-tables.tables) (set_of c.in_ok-indices.indices) (set.contains nat_cmp c.new.result) in
+    archive_over p f refusal (rows_of g.K.Key.key_bytes c.in_ok-tables.tables) (AreTables g.K.Key.key_bytes g.T.Word.PartialEq.eq (g.T.Translator.word_of c.args.cfg.now.translator) c.in_ok-tables.tables) (set_of c.in_ok-indices.indices) (set.contains nat_cmp c.new.result) in
     let alike : IsSameLayout f.layout p.layout = record { index = ap (λ y. y.index) own; values = ap (λ y. y.values) own; metadata = ap (λ y. y.metadata) own; page_size = ap (λ y. y.page_size) own } in
     let filing = same_filing f p.layout refusal alike refl (λ _. refl) (λ _. refl) (λ bytes. ap (g.V.Codec.refusal bytes) config) in
     let none_is : (s : ℕ) → arch.is_written s ≡ false = none_in c.new.result c.new.ensures.empty in
@@ -295,8 +298,8 @@ returns g c =
         below = λ s low. absurd (omega (arith, low));
         listed = listed;
         spelled = λ t s. subst (AllByRecursion (IsSpelled g.K.Key.SIZE)) (sym ((says.kept t).records s)) ((read.told t).spelled s);
-        filled = read.filled;
-        indices = rows_set arch.items arch.rows arch.indices read.within.in_section c.in_ok-indices.ensures;
+        tied = read.tied;
+        indices = rows_set arch.items arch.rows arch.indices read.within.in_section (indices_shown g.K.Key.key_bytes (tables.rows_of c.in_ok-tables.tables) (set_of c.in_ok-indices.indices) c.in_ok-indices.ensures);
         within = read.within;
         unwritten = λ s none. says.counts.synced s;
         written = λ s is. absurd (not_true (arch.is_written s) (none_is s) is);
@@ -308,14 +311,14 @@ returns g c =
       value_buffer = ap (λ y. y.capacity) (says.counts.places.1.factory ∙ ap (λ v. v.factory) c.entered.ensures.same.values)
           ∙ c.in_ok-replay.ensures.write_buffers.1 ∙ c.in_ok-pair.ensures.write_buffers.1;
       accepts = λ v. (subst (λ x. g.V.Codec.accepted v x) config, subst (λ x. g.V.Codec.accepted v x) (sym config));
-      words = λ k l. (λ same. same, λ same. same);
+      alike = refl;
       none_written = none_is;
       counts = says.counts.markers;
       flushed = λ t s. (no_record_tail p opened z says.over s t (says.counts.synced s), no_value_tail p opened z says.over s (says.settled s));
       told = λ t. record {
-        records = (run.store.entries, (here.found t).markers, records_left f here.readable run walked a b e since.still since.store (here.found t) (since.stays t) run.store.entries (here.found t).markers z arch (says.kept t));
+        records = (contents_of run.store, (here.found t).markers, records_left f here.readable run walked a b e since.still since.store (here.found t) (since.stays t) (contents_of run.store) (here.found t).markers z arch (says.kept t));
         values = λ s small. values_stored p opened z says.over s t small (says.settled s) ∙ ap (λ y. length (content_at (as_read z) y.values s)) own;
-        floor = (run.store.entries, (here.found t).markers, refl);
+        floor = (contents_of run.store, (here.found t).markers, refl);
         start = start t;
         kept = record {
           copies = here.copies t;
@@ -330,7 +333,7 @@ returns g c =
                     ∙ given_count f here.readable run walked a b e since.still since.store (here.found t) (since.stays t) markers held z arch (says.kept t) s small),
               );
         };
-        proved = λ markers held s m is. (here.found t).proved s m (subst (λ (es : Markers). IsMarked es s m) (markers_are here t markers held) is);
+        proved = λ markers held s m is. (here.found t).proved s m (subst (λ (ms : Markers). IsMarked ms.entries s m) (markers_are here t markers held) is);
         sound = λ may leaves.
             let same : filing_of arch ≡ f = one_filing f (filing_of arch) filing refl in
             sound_left arch opened z
@@ -350,6 +353,9 @@ returns g c =
             sound refl (λ s. refl)
             (no_foreign f.layout here.apart (λ _. ⊤) a z (always_now (g.D.Device.time c.args.dev.now) (g.D.Device.time c.finish_tracked.new.dev) (OthersStay f.layout a) (part.alone t))
             (no_foreign_before f a law may.no_chance (all_lawful f st a leaves) here.apart))
-            (leaves_now arch.pair opened z (omega arith) refl refl refl (λ s v held. λ i. (says.over.index.over.opened_list.setting s v held i).page_size) says.over t sound);
+            (leaves_now arch.pair opened z (omega arith) refl refl refl (λ s v held. λ i. (says.over.index.over.opened_list.setting s v held i).page_size) says.over t (record { sound = sound; floor = says.counts.marker_floor ∙ (lawful_now f here.readable run walked a b e since.still since.store (here.found t) (since.stays t) was.markers was.lawful.pair.held z arch (says.kept t) was.lawful.pair (since.lawful_on t)).floor }));
       };
     })
+
+pub indices-requires : goal.indices-requires
+indices-requires g c = c.in_ok-tables.ensures.ends.tied.order

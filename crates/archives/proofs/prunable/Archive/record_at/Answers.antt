@@ -1,20 +1,19 @@
-use Rattle.std.proofs.Common.{inl, inr, ap, refl, Result, Err}
+use Rattle.std.proofs.Common.{inl, inr, ap, Err}
 use Rattle.blob_device.specs.Timeline.{disk}
 use Rattle.blob_device.proofs.Results.{err_of}
 use Rattle.sealed_pages.proofs.Looking.{unchanged_now}
 use Rattle.segments.specs.Refusing as segments
 use Rattle.segments.specs.Sections.{section_key}
-use Rattle.paired.proofs.PairReads.{may_read}
+use Rattle.paired.proofs.pair.Reads.{may_read}
 use Rattle.archives.specs.Raised.{raised}
 use Rattle.archives.specs.Shown.{shown}
-use Rattle.archives.specs.declared.error.Error.{Error}
 use Rattle.archives.specs.declared.prunable.index_record.IndexRecord.{IndexRecord}
 use Rattle.archives.proofs.EntryLemmas.{only_read, unread_as}
 use Rattle.archives.proofs.PuttingLemmas.{row_above}
-use Rattle.archives.proofs.ReadFails.{failed, failed_cause, not_given, record_error}
-use Rattle.archives.proofs.ReadsLemmas.{not_read}
-use Rattle.archives.proofs.ReadRecords.{key_behind, record_at}
-use Rattle.archives.proofs.ReadValues.{archive_read}
+use Rattle.archives.proofs.read.Fails.{not_given, record_cause}
+use Rattle.archives.proofs.ReadsLemmas.{no_record}
+use Rattle.archives.proofs.read.Records.{key_behind, record_at}
+use Rattle.archives.proofs.read.Values.{archive_read}
 use Rattle.archives.proofs.prunable.Archive.record_at.Given as given
 use Rattle.archives.proofs.prunable.Archive.record_at.Goals as goal
 
@@ -30,19 +29,15 @@ record_failed g c t =
 pub returns-in_err-get : goal.returns-in_err-get
 returns-in_err-get g c =
     let a = shown c.args.self.now in
-    let d = disk (g.D.Device.time c.args.dev.now) in
     let e = c.in_err-get.field-0.0 in
-    let r : Result (IndexRecord g.row.K.Denot) Error = Err (raised e) in
     let low = row_above a c.requires.over c.args.section c.args.position c.requires.kept in
     unread_as _ g.D.Device g.K.Key.key_bytes c.args.self.now c.args.section c.args.position c.args.dev.now c.get.new.dev c.from_residual.result (raised e) (err_of _ (raised e) c.from_residual.ensures.1) (record {
       over = archive_read a c.requires.over _ _ c.in_err-get.ensures.over (λ t. unchanged_now _ _ (c.in_err-get.ensures.unchanged t));
       unchanged = c.in_err-get.ensures.unchanged;
       footprint = only_read g.D.Device (section_key a.pair.layout.index c.args.section) _ c.args.dev.now c.get.new.dev c.in_err-get.ensures.unchanged
           (may_read a.pair.index.sections c.args.section _ _ _ _ c.in_err-get.ensures.reads (λ none. ap g.D.Device.opened (c.in_err-get.ensures.idle (inr (inl none))))) c.in_err-get.ensures.faults;
-      ends = not_read _ g.D.Device c.args.self.now c.args.section c.args.position c.args.dev.now c.get.new.dev r (raised e) refl
-          (record_error (IndexRecord g.row.K.Denot) r e refl a.pair.index.sections.floor c.args.section c.args.position _ _ low c.in_err-get.ensures.guard c.in_err-get.ensures.cause)
-          (λ t. failed_cause _ r e refl a d c.args.section c.args.position _ _ (record_failed g c t))
-          (λ t sound. failed _ r e refl _ _ (record_failed g c t));
+      ends = no_record _ g.D.Device c.args.self.now (raised e) c.args.dev.now c.get.new.dev
+          (record_cause (IndexRecord g.row.K.Denot) g.D.Device.Tells e _ _ (record_failed g c) a.pair.index.sections.floor c.args.section c.args.position low c.in_err-get.ensures.guard c.in_err-get.ensures.cause);
     })
 
 pub returns : goal.returns

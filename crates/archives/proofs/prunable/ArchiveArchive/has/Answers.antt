@@ -1,32 +1,22 @@
--- By index the set tells; by key the tables do.
-use Rattle.std.proofs.Common.{◌≡◌, ap, refl, subst, sym, ◌∙◌}
-use Rattle.blob_device.specs.Timeline.{disk}
-use Rattle.archives.specs.Archives.{state_of}
-use Rattle.archives.specs.Finding.{Index, Wanted, has_command, wanted_of}
-use Rattle.archives.specs.Machine.{OpenStep}
-use Rattle.archives.specs.PuttingLaws.{taken_state}
-use Rattle.archives.specs.Replies as reply
-use Rattle.archives.specs.Shown.{shown}
-use Rattle.archives.proofs.ReadFinding.{has_reply, taken}
-use Rattle.archives.proofs.ReadsLemmas.{has_answered}
+-- By index the set tells; by key a search does.
+use Rattle.std.proofs.Common.{ap}
+use Rattle.blob_device.proofs.Results.{err_of}
+use Rattle.archives.specs.Finding.{wanted_of}
+use Rattle.archives.proofs.KeyLemmas.{has_by_key, has_unread}
+use Rattle.archives.proofs.ReadsLemmas.{has_as, has_by_index}
 use Rattle.archives.proofs.prunable.ArchiveArchive.has.Goals as goal
 
 pub returns-in-Index : goal.returns-in-Index
-returns-in-Index g c =
-    let a = shown c.args.self.now in
-    let d = disk (g.D.Device.time c.args.dev.now) in
-    let wanted = wanted_of g.K.Key.key_bytes c.args.identifier in
-    let index = c.in-Index.index in
-    let is : wanted ≡ Index index = ap (wanted_of g.K.Key.key_bytes) c.in-Index.is in
-    has_answered _ g.D.Device c.args.self.now wanted c.args.dev.now c.requires.over c.has_index.result
-    (λ t. subst (λ (w : Wanted). OpenStep a.items (state_of a d) (has_command w) (reply.Flag c.has_index.result) (state_of a d)) (sym is)
-    (c.has_index.ensures ∙ c.requires.over.indices index ∙ taken_state a d (c.requires.over.listed t) index, refl))
-    (λ i same. c.has_index.ensures ∙ ap a.indices (cc (sym is ∙ same)))
+returns-in-Index g c = has_as _ g.D.Device c.args.self.now _ _ (ap (wanted_of g.K.Key.key_bytes) c.in-Index.is) c.args.dev.now c.args.dev.now _
+    (has_by_index _ g.D.Device c.args.self.now c.args.dev.now c.requires.over c.in-Index.index c.has_index.result c.has_index.ensures)
 
-pub returns : goal.returns
-returns g c =
-    let a = shown c.args.self.now in
-    let wanted = wanted_of g.K.Key.key_bytes c.args.identifier in
-    has_answered _ g.D.Device c.args.self.now wanted c.args.dev.now c.requires.over c.is_some.result
-    (λ t. has_reply a (disk (g.D.Device.time c.args.dev.now)) (c.requires.over.listed t) wanted c.place_of.result c.place_of.ensures.found c.place_of.ensures.none c.is_some.result c.is_some.ensures)
-    (λ i is. c.is_some.ensures ∙ taken a wanted c.place_of.result c.place_of.ensures.found c.place_of.ensures.none i is ∙ sym (c.requires.over.indices i))
+pub returns-in_err-find-in-Key : goal.returns-in_err-find-in-Key
+returns-in_err-find-in-Key g c =
+    let e = c.in_err-find-in-Key.field-0.0 in
+    has_as _ g.D.Device c.args.self.now _ _ (ap (wanted_of g.K.Key.key_bytes) c.in-Key.is) c.args.dev.now c.find.new.dev c.from_residual.result
+    (has_unread _ g.D.Device g.K.Key.key_bytes c.args.self.now (g.K.Key.key_bytes c.in-Key.key.now) c.args.dev.now c.requires.over e c.find.new.dev c.in_err-find-in-Key.ensures c.from_residual.result (err_of _ e c.from_residual.ensures.1))
+
+pub returns-in_ok-find-in-Key : goal.returns-in_ok-find-in-Key
+returns-in_ok-find-in-Key g c =
+    has_as _ g.D.Device c.args.self.now _ _ (ap (wanted_of g.K.Key.key_bytes) c.in-Key.is) c.args.dev.now c.find.new.dev _
+    (has_by_key _ g.D.Device g.K.Key.key_bytes c.args.self.now (g.K.Key.key_bytes c.in-Key.key.now) c.args.dev.now c.requires.over g.met.K.Key.sized c.in_ok-find-in-Key.field-0 c.find.new.dev c.in_ok-find-in-Key.ensures c.is_some.result c.is_some.ensures)

@@ -2,8 +2,8 @@ use Rattle.std.proofs.Common.{◌≡◌, refl, sym, ◌∙◌, arith, true}
 use Rattle.blob_device.specs.Timeline.{disk}
 use Rattle.archives.specs.Putting.{Once, is_skipped}
 use Rattle.archives.specs.Shown.{shown}
-use Rattle.archives.proofs.PutSync.{section_small}
-use Rattle.archives.proofs.PutStands.{at_rest}
+use Rattle.archives.proofs.put.Sync.{section_small}
+use Rattle.archives.proofs.put.Stands.{at_rest}
 use Rattle.archives.proofs.PutsLemmas.{put_nothing}
 use Rattle.archives.proofs.PuttingLemmas.{skips_low, skips_not, skips_taken}
 use Rattle.archives.proofs.prunable.ArchiveArchive.put.Goals as goal

@@ -1,5 +1,5 @@
 use Rattle.blob_device.proofs.Results.{err_of}
-use Rattle.archives.proofs.SyncErrors.{outcome_err}
+use Rattle.archives.proofs.sync.Errors.{outcome_err}
 use Rattle.archives.proofs.SyncsLemmas.{sync_as}
 use Rattle.archives.proofs.prunable.ArchiveArchive.start_sync.Goals as goal
 

@@ -8,18 +8,18 @@ use Rattle.value_codec.specs.declared.codec.Error as codec_error
 use Rattle.paired.specs.PairShown as pair
 use Rattle.paired.specs.Kept.{content_at}
 use Rattle.paired.specs.Opening.{as_read}
-use Rattle.paired.proofs.PairSynced.{layout_as}
+use Rattle.paired.proofs.pair.Synced.{layout_as}
 use Rattle.archives.specs.Archives.{filing_of}
 use Rattle.archives.specs.FilingLaws.{one_filing}
 use Rattle.archives.specs.IndexRecord.{place_of}
 use Rattle.archives.specs.Raised.{raised}
 use Rattle.archives.specs.Shown.{shown}
 use Rattle.archives.specs.declared.error.Error.TheVariants.{Mem}
-use Rattle.archives.proofs.PutSync.{same_filing}
-use Rattle.archives.proofs.SyncErrors.{known_error}
-use Rattle.archives.proofs.SyncLemmas.{has_values, none_in, stands_now, synced_over, synced_sound, synced_state}
-use Rattle.archives.proofs.SyncNames.{moving_of, sync_as, sync_others}
-use Rattle.archives.proofs.SyncStored.{no_record_tail, no_value_tail, values_stored}
+use Rattle.archives.proofs.put.Sync.{same_filing}
+use Rattle.archives.proofs.sync.Errors.{known_error}
+use Rattle.archives.proofs.sync.Lemmas.{has_values, none_in, stands_now, synced_over, synced_sound, synced_state}
+use Rattle.archives.proofs.sync.Names.{moving_of, sync_as, sync_others}
+use Rattle.archives.proofs.sync.Stored.{no_record_tail, no_value_tail, values_stored}
 use Rattle.archives.proofs.SyncsLemmas.{sync_no_memory, sync_pair_done, sync_pair_failed}
 use Rattle.archives.proofs.SyncsLemmas as syncs
 use Rattle.archives.proofs.prunable.ArchiveArchive.sync.Goals as goal
@@ -67,12 +67,12 @@ returns g c =
     sync_pair_done _ g.D.Device c.args.self first second named active c.args.dev.now c.sync_tracked.new.dev c.requires.over
     (record { keeps = c.sync_tracked.ensures.moments; idle = c.sync_tracked.ensures.idle; entries = c.sync_tracked.ensures.entries; faults = c.sync_tracked.ensures.faults })
     _ over (one_filing (filing_of a) _ filing refl) (λ w accepts. subst (g.V.Codec.accepted w) (sym says.codec_config) accepts)
-    (λ t sound. synced_sound a p refusal is_written sync before (disk old) (disk new) c.requires.over (says.lists t) layout t sound (says.sound t sound.pair)
+    (λ t sound. synced_sound a p refusal is_written sync before (disk old) (disk new) c.requires.over (says.lists t) layout t sound (record { sound = says.sound t sound.pair.sound; floor = sync.marker_floor ∙ sound.pair.floor })
     (sync_others a.pair first second written named active old new (c.sync_tracked.ensures.moments t)) (λ s has. has_values a before (disk old) c.requires.over t sound s (c.requires.over.written s has)) (λ bytes. ap (g.V.Codec.refusal bytes) says.codec_config))
     (λ t sound. stands_now _ after (disk new) (omega arith) refl refl refl (λ s v held. λ i. (over.pair.index.over.opened_list.setting s v held i).page_size) over t sound)
     (record {
       filing = filing;
-      word = refl;
+      alike = refl;
       floor = refl;
       rows = λ s. refl;
       values = sync.sizes;

@@ -3,8 +3,8 @@ use Rattle.std.proofs.lemmas.Bool.{le-ltb, lt-ltb}
 use Rattle.blob_device.specs.Timeline.{disk}
 use Rattle.archives.specs.Putting.{Often}
 use Rattle.archives.specs.Shown.{shown}
-use Rattle.archives.proofs.PutSync.{section_small}
-use Rattle.archives.proofs.PutStands.{at_rest}
+use Rattle.archives.proofs.put.Sync.{section_small}
+use Rattle.archives.proofs.put.Stands.{at_rest}
 use Rattle.archives.proofs.PutsLemmas.{put_nothing}
 use Rattle.archives.proofs.prunable.multi.ArchiveMultiArchive.put_multi.Goals as goal
 

@@ -1,7 +1,7 @@
 use Rattle.blob_device.proofs.Results.{err_of}
-use Rattle.archives.proofs.SyncErrors.{outcome_err}
+use Rattle.archives.proofs.sync.Errors.{outcome_err}
 use Rattle.archives.specs.Putting.{Often}
-use Rattle.archives.proofs.PutSyncsLemmas.{put_sync_as}
+use Rattle.archives.proofs.put.SyncsLemmas.{put_sync_as}
 use Rattle.archives.proofs.prunable.multi.ArchiveMultiArchive.put_multi_start_sync.Goals as goal
 
 pub returns-in_err-this : goal.returns-in_err-this

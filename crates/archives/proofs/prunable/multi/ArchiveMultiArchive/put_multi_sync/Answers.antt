@@ -1,7 +1,7 @@
 use Rattle.std.proofs.Common.{refl}
 use Rattle.blob_device.proofs.Results.{err_of}
 use Rattle.archives.specs.Putting.{Often}
-use Rattle.archives.proofs.PutSyncsLemmas.{put_sync_as, put_sync_refused, put_then_sync}
+use Rattle.archives.proofs.put.SyncsLemmas.{put_sync_as, put_sync_refused, put_then_sync}
 use Rattle.archives.proofs.prunable.multi.ArchiveMultiArchive.put_multi_sync.Goals as goal
 
 pub returns-in_err-this : goal.returns-in_err-this

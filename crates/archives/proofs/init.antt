@@ -1,0 +1,10 @@
+pub mod Causes
+pub mod Ends
+pub mod Errors
+pub mod Layouts
+pub mod Left
+pub mod Moments
+pub mod Records
+pub mod Sound
+pub mod State
+pub mod Stored

@@ -1,0 +1,5 @@
+pub mod Changes
+pub mod Entries
+pub mod Indices
+pub mod Lemmas
+pub mod Steps

@@ -1,0 +1,10 @@
+pub mod Causes
+pub mod Enter
+pub mod Errors
+pub mod Full
+pub mod Kept
+pub mod Loop
+pub mod Parts
+pub mod Passed
+pub mod Rows
+pub mod Walk

@@ -1,0 +1,2 @@
+pub mod PositionEntries
+pub mod PositionLemmas

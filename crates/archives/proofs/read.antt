@@ -1,0 +1,5 @@
+pub mod Causes
+pub mod Fails
+pub mod Finding
+pub mod Records
+pub mod Values
