@@ -7,7 +7,7 @@
 
 ghost use Rattle.std.specs.Prelude.{◌≡◌, ◌⊎◌, ◌≤◌, Some, map, string_bytes};
 ghost use Rattle.std.specs.Option.{option_copied};
-ghost use Rattle.archive_program.specs.Words.{IsStatusFor, IsStatusIn, IsStatusOf, folder_in};
+ghost use Rattle.archive_program.specs.WordsSeen.{IsStatusFor, IsStatusIn, IsStatusOf, folder_in};
 
 mod gaps;
 mod meaning;

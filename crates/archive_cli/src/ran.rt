@@ -1,6 +1,6 @@
 // A run of the program, and what can be said of it afterwards.
 ghost use Rattle.std.specs.Prelude.{◌≤◌, map, string_bytes};
-ghost use Rattle.archive_program.specs.Words.{IsStatusFor};
+ghost use Rattle.archive_program.specs.WordsSeen.{IsStatusFor};
 
 use archive_program::run;
 use archive_service::{Ended, ScriptError, Settings, read_script};
@@ -21,6 +21,7 @@ pub struct Ran<'a> {
     pub ended: Ended,
     // what was read of the script; none where there was no memory to keep it
     script: Option<Vec<u8>>,
+    // as every call of the program ends: so `main` has a text for it
     ghost status: { ended.status ≤ 7 },
 }
 

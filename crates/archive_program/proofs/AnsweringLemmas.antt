@@ -8,8 +8,9 @@ use Rattle.archive_service.specs.declared.ended.Status.TheVariants as status
 use Rattle.archive_service.specs.declared.settings.Settings.{Settings}
 use Rattle.archive_program.specs.Answering.{AnswersTo}
 use Rattle.archive_program.specs.Input.{ReadsInput}
-use Rattle.archive_program.specs.Program.{AnswersWhole}
-use Rattle.archive_program.specs.Words.{Make, Script, job_seen}
+use Rattle.archive_program.specs.Answered.{AnswersWhole}
+use Rattle.archive_program.specs.Words.{Make, Script}
+use Rattle.archive_program.specs.WordsSeen.{job_seen}
 use Rattle.archive_program.specs.declared.input.InputError.{InputError}
 use Rattle.archive_program.specs.declared.input.InputError.TheVariants.{Fault, TooLong, Mem}
 use Rattle.archive_program.specs.declared.words.Job.{Job}

@@ -18,7 +18,7 @@ use Rattle.archives.specs.declared.error.Error.{Error}
 use Rattle.archives.specs.declared.error.Error.TheVariants.{Journal, Metadata, Full, Mem}
 use Rattle.archive_service.specs.Causes.{IsCause, IsOpening}
 use Rattle.archive_service.specs.PrunableKind.{prunable_kind}
-use Rattle.archive_service.specs.RunLaws.{AreCountedIfOpening}
+use Rattle.archive_service.specs.OpeningCounted.{AreCountedIfOpening}
 use Rattle.archive_service.specs.Serves.{Serves, disk_at, state_in, under_way}
 use Rattle.archive_service.specs.Texts.{Spelled}
 use Rattle.archive_service.specs.declared.replies.End.{End}

@@ -8,7 +8,8 @@ use Rattle.archive_service.specs.Texts.{Spelled, bad_line_text}
 use Rattle.archive_service.specs.declared.ended.Ended.{Ended}
 use Rattle.archive_service.specs.declared.replies.End.{End}
 use Rattle.archive_service.specs.declared.replies.End.TheVariants.{Done, Failed}
-use Rattle.archive_program.specs.Program.{AnswerOf, AnswersInput, AnswersScript, NamesBadLine, Orders, bad_line, error_of, no_memory, owed, served, status_of}
+use Rattle.archive_program.specs.Program.{AnswersInput, AnswersScript, NamesBadLine, Orders, error_of, owed}
+use Rattle.archive_program.specs.Answered.{AnswerOf, bad_line, no_memory, served, status_of}
 use Rattle.archive_program.specs.Words.{Job}
 
 -- The text is all of what is to be written, but for a status 6: then it is a front of that, or nothing is known of it.

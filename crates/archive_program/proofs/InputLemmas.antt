@@ -4,7 +4,8 @@ use Rattle.blob_device.specs.declared.source.Source as source
 use Rattle.archives.specs.Changes.{outcome}
 use Rattle.archive_program.specs.declared.input.InputError.{InputError}
 use Rattle.archive_program.specs.declared.input.InputError.TheVariants.{Fault, TooLong, Mem}
-use Rattle.archive_program.specs.Input.{IsInputCause, ReadsInput, TakesFront, TakesAll, TakesPiece}
+use Rattle.archive_program.specs.Input.{IsInputCause, ReadsInput, TakesAll, TakesPiece}
+use Rattle.archive_program.specs.Taking.{TakesFront}
 
 module _ (start old new so_far bytes : List ℕ) (kept : start ≡ so_far ++ old) where
   -- the bytes so far, with the piece, are the front of the input

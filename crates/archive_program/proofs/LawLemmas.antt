@@ -45,15 +45,15 @@ module _ (settings : Settings) (items : ℕ) where
   no_records : (s : ℕ) → stored_records (program_filing settings items).layout (as_read (λ q. nothing)) s ≡ []
   no_records s = ap (records 28) (no_prefix (program_filing settings items).layout.seal settings.page_size)
 
-  no_entries : (s : ℕ) → kept_entries (program_filing settings items) (as_read (λ q. nothing)) [] s ≡ []
+  no_entries : (s : ℕ) → kept_entries (program_filing settings items) (as_read (λ q. nothing)) empty_map s ≡ []
   no_entries s = ap (λ (rs : List (List ℕ)). map (entry_of (program_filing settings items).layout.place [])
       (front (is_sound_in (program_filing settings items).layout (as_read (λ q. nothing)) s) (marker_of [] s) 0 rs)) (no_records s)
 
-  no_sections : (most : ℕ) (ss : List ℕ) → AllByRecursion (λ s. (s < 2 ^ 64) × (kept_entries (program_filing settings items) (as_read (λ q. nothing)) [] s ≡ [] → ⊥)) ss → length ss ≤ most
+  no_sections : (most : ℕ) (ss : List ℕ) → AllByRecursion (λ s. (s < 2 ^ 64) × (kept_entries (program_filing settings items) (as_read (λ q. nothing)) empty_map s ≡ [] → ⊥)) ss → length ss ≤ most
   no_sections most [] all = omega arith
   no_sections most (s ∷ ss) all = absurd (all.0.1 (no_entries s))
 
-  nothing_lawful : Lawful (program_filing settings items) (as_read (λ q. nothing)) []
+  nothing_lawful : Lawful (program_filing settings items) (as_read (λ q. nothing)) empty_map
   nothing_lawful = record {
     pair = record {
       names = record { index = λ name some. absurd (cc some); values = λ name some. absurd (cc some) };
@@ -68,6 +68,7 @@ module _ (settings : Settings) (items : ℕ) where
         };
         map = refl;
       };
+      floor = refl;
       true_markers = λ s m marked. absurd (cc marked.1);
       places = λ s small. record {
         end = 0;
@@ -84,8 +85,8 @@ module _ (settings : Settings) (items : ℕ) where
   pub nothing_may_be_served : (t : Timeline) → disk t ≡ (λ q. nothing) → MayBeServed settings items t
   nothing_may_be_served t none = record {
     nothing_pending = subst NothingPending (sym none) (λ q. record { sure = refl; since = refl; loose = refl; content = refl });
-    markers = [];
-    lawful = subst (λ (d : Disk). Lawful (program_filing settings items) (as_read d) []) (sym none) nothing_lawful;
+    markers = empty_map;
+    lawful = subst (λ (d : Disk). Lawful (program_filing settings items) (as_read d) empty_map) (sym none) nothing_lawful;
   }
 
   pub nothing_counted : settings.page_size < 2 ^ 16 → (t : Timeline) → disk t ≡ (λ q. nothing) → AreCounted (program_filing settings items).layout (as_read (disk t))

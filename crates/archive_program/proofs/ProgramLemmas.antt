@@ -11,7 +11,7 @@ use Rattle.archives.specs.Replies.{Reply}
 use Rattle.archives.specs.declared.error.Error.{Error}
 use Rattle.archives.specs.Refusing.{IsFault}
 use Rattle.archive_service.specs.Ended.{EndsUnserved, code_of}
-use Rattle.archive_service.specs.RunLaws.{AreCountedIfOpening}
+use Rattle.archive_service.specs.OpeningCounted.{AreCountedIfOpening}
 use Rattle.archive_service.specs.Script.{Spells}
 use Rattle.archive_service.specs.Texts.{Spelled}
 use Rattle.archive_service.specs.declared.ended.Ended.{Ended}
@@ -22,9 +22,10 @@ use Rattle.archive_service.specs.declared.replies.End.TheVariants.{Done}
 use Rattle.archive_service.specs.declared.settings.Settings.{Settings}
 use Rattle.archive_service.proofs.ScriptLemmas.{good_or_bad, one_script}
 use Rattle.archive_program.specs.Answering.{AnswersTo, IsUnread}
-use Rattle.archive_program.specs.Input.{TakesFront}
+use Rattle.archive_program.specs.Taking.{TakesFront}
 use Rattle.archive_program.specs.Output.{WritesFront}
-use Rattle.archive_program.specs.Program.{AnswersInput, AnswersScript, AnswersWhole, Gives, InFull, InPart, IsBadAt, IsGiven, IsGivenScript, IsRefusal, IsUnserved, MayBeServed, NamesBadLine, Orders, Reads, ReadsFor, Runs, RunsJob, ServedBy, error_of, items_of, program_filing}
+use Rattle.archive_program.specs.Program.{AnswersInput, AnswersScript, Gives, InFull, InPart, IsBadAt, IsGiven, IsRefusal, IsUnserved, MayBeServed, NamesBadLine, Orders, Reads, ReadsFor, Runs, RunsJob, ServedBy, error_of, items_of, program_filing}
+use Rattle.archive_program.specs.Answered.{AnswersWhole}
 use Rattle.archive_program.specs.Words.{AreOfNoForm, AsksFor, Job, Make, Script}
 use Rattle.archive_program.proofs.CauseLemmas.{refusal_only}
 use Rattle.archive_program.proofs.FoundLemmas.{Found, bad, failed, found_of, none, short, whole}
@@ -63,26 +64,20 @@ left_alone : (job : Job) (IsLeft SourceTells : Type 0) (left_old left_new input 
 left_alone (Script items) IsLeft SourceTells left_old left_new input read unasked = absurd (unasked tt)
 left_alone (Make items count) IsLeft SourceTells left_old left_new input read unasked = read.0
 
--- a job that reads is given a script
-given_script : (max : ℕ) (SourceTells : Type 0) (left : List ℕ) (faults_old faults_new : ℕ) (commands : List Spelled) (job : Job) → Reads job
-    → IsGiven job max SourceTells left faults_old faults_new commands → IsGivenScript max SourceTells left faults_old faults_new commands
-given_script max SourceTells left faults_old faults_new commands (Script items) reads given = given
-given_script max SourceTells left faults_old faults_new commands (Make items count) reads given = absurd reads
-
 -- the job is given these commands, and this is the input
 module _ (max : ℕ) (IsLeft SourceTells : Type 0) (left left_new : List ℕ) (faults_old faults_new : ℕ) (commands : List Spelled) (input : List ℕ) where
   -- what is given has no bad line
   given_never_bad : (job : Job) (number : ℕ) → IsGiven job max SourceTells left faults_old faults_new commands → ReadsFor job IsLeft SourceTells left left_new input → IsBadAt job max input number → ⊥
   given_never_bad (Script items) number given read is_bad =
-      good_or_bad max input commands number (subst (λ (t : List ℕ). Spells max t commands) (read.read given.told).0 given.spelled) is_bad
+      good_or_bad max input commands number (subst (λ (t : List ℕ). Spells max t commands) (read.read (given.given tt).0).0 given.ordered) is_bad
   given_never_bad (Make items count) number given read is_bad = is_bad
 
   -- and orders no other commands
   one_order : (job : Job) (others : List Spelled) → IsGiven job max SourceTells left faults_old faults_new commands → ReadsFor job IsLeft SourceTells left left_new input → Orders job max input others
       → commands ≡ others
   one_order (Script items) others given read ordered =
-      one_script max input commands others (subst (λ (t : List ℕ). Spells max t commands) (read.read given.told).0 given.spelled) ordered
-  one_order (Make items count) others given read ordered = given ∙ sym ordered
+      one_script max input commands others (subst (λ (t : List ℕ). Spells max t commands) (read.read (given.given tt).0).0 given.ordered) ordered
+  one_order (Make items count) others given read ordered = given.ordered ∙ sym ordered
 
 module _ {D S W : Type 0} (settings : Settings) (words : List (List ℕ)) (ended : Ended) (dev : device.Ghosts D) (old new : D)
     (input : source.Ghosts S) (input_old input_new : S) (out : sink.Ghosts W) (out_old out_new : W) where
@@ -145,8 +140,8 @@ module _ {D S W : Type 0} (settings : Settings) (words : List (List ℕ)) (ended
         store_error = λ is. absurd (unlike.1.1.1.1.0 (sym is ∙ status));
         no_memory = λ is. inl (served, unwritten);
         complete = λ t may commands given counted calm calm_out.
-            let script = given_script settings.max_value input.Tells (input.left input_old) (input.faults input_old) (input.faults input_new) commands job reads given in
-            inl (1, lit< tt, sym (status ∙ memory script.told script.limit script.calm));
+            let (told, limit, calm) = given.given reads in
+            inl (1, lit< tt, sym (status ∙ memory told limit calm));
       }
 
       runs_unread : (s : ℕ) → ended.status ≡ s → s ≤ 7 → s ≢ 1 → RanJob job → Ran

@@ -32,7 +32,8 @@ use Rattle.archive_service.specs.declared.serving.StoreConfig.{StoreConfig}
 use Rattle.archive_service.specs.declared.serving.StoreConfig.TheVariants.{Prunable}
 use Rattle.archive_service.specs.declared.settings.Settings.{Settings}
 use Rattle.archive_program.specs.Config.{IsConfigFor}
-use Rattle.archive_program.specs.Program.{AnswerOf, AnswersServed, AnswersWhole, EndsWith, HasNoMemory, IsBadAt, Orders, ServedBy, bad_line, error_of, no_memory, owed, program_filing, served, status_of}
+use Rattle.archive_program.specs.Program.{IsBadAt, Orders, ServedBy, error_of, owed, program_filing}
+use Rattle.archive_program.specs.Answered.{AnswerOf, AnswersServed, AnswersWhole, EndsWith, HasNoMemory, bad_line, no_memory, served, status_of}
 use Rattle.archive_program.specs.Words.{Job, Script}
 
 -- the configuration's archive is the program's
@@ -43,12 +44,12 @@ same_filing settings items (Prunable cfg) is = one_filing (program_filing settin
 -- ---- what can be said may be put
 
 may_put : (max : ℕ) (command : asking.Command Key8 (List ℕ)) → CanBeSaid max (asked key8_bytes (λ v. v) command) → PutsOnly (λ v. length v ≤ max) command
-may_put max (ask.Put i k v) said = elim said [ inl lone ↦ absurd lone | inr longer ↦ elim longer [ inl two ↦ absurd two | inr more ↦ elim more [ inl three ↦ absurd three | inr put ↦ put.2.0 ] ] ]
-may_put max (ask.PutSync i k v) said = elim said [ inl lone ↦ absurd lone | inr longer ↦ elim longer [ inl two ↦ absurd two | inr more ↦ elim more [ inl three ↦ absurd three | inr put ↦ put.2.0 ] ] ]
-may_put max (ask.PutStart i k v) said = elim said [ inl lone ↦ absurd lone | inr longer ↦ elim longer [ inl two ↦ absurd two | inr more ↦ elim more [ inl three ↦ absurd three | inr put ↦ put.2.0 ] ] ]
-may_put max (ask.Multi i k v) said = elim said [ inl lone ↦ absurd lone | inr longer ↦ elim longer [ inl two ↦ absurd two | inr more ↦ elim more [ inl three ↦ absurd three | inr put ↦ put.2.0 ] ] ]
-may_put max (ask.MultiSync i k v) said = elim said [ inl lone ↦ absurd lone | inr longer ↦ elim longer [ inl two ↦ absurd two | inr more ↦ elim more [ inl three ↦ absurd three | inr put ↦ put.2.0 ] ] ]
-may_put max (ask.MultiStart i k v) said = elim said [ inl lone ↦ absurd lone | inr longer ↦ elim longer [ inl two ↦ absurd two | inr more ↦ elim more [ inl three ↦ absurd three | inr put ↦ put.2.0 ] ] ]
+may_put max (ask.Put i k v) said = said.2.0
+may_put max (ask.PutSync i k v) said = said.2.0
+may_put max (ask.PutStart i k v) said = said.2.0
+may_put max (ask.Multi i k v) said = said.2.0
+may_put max (ask.MultiSync i k v) said = said.2.0
+may_put max (ask.MultiStart i k v) said = said.2.0
 may_put max command said = tt
 
 all_may_put : (max : ℕ) (commands : List (asking.Command Key8 (List ℕ))) → AllByRecursion (CanBeSaid max) (map (asked key8_bytes (λ v. v)) commands) → AllByRecursion (PutsOnly (λ v. length v ≤ max)) commands

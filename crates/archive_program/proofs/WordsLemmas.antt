@@ -7,9 +7,11 @@ use Rattle.std.proofs.lemmas.Bool.{cases_Bool, eqb-false, eqb-true}
 use Rattle.std.proofs.lemmas.List.{length-map, nil_from_length}
 use Rattle.std.specs.Fmt.{decimal}
 use Rattle.std.proofs.lemmas.Fmt.{decimal_injective}
-use Rattle.archive_service.specs.Script.{IsIndex, IsReading}
+use Rattle.archive_service.specs.Script.{IsIndex}
+use Rattle.archive_service.specs.Reading.{IsReading}
 use Rattle.archive_program.specs.Answering.{MayBeDone}
-use Rattle.archive_program.specs.Words.{AreItems, AreOfNoForm, AreWordsFor, AsksFor, IsNumberTo, IsStatusFor, IsStatusIn, Job, Make, Script, folder_in}
+use Rattle.archive_program.specs.Words.{AreItems, AreOfNoForm, AreWordsFor, AsksFor, IsNumberTo, Job, Make, Script}
+use Rattle.archive_program.specs.WordsSeen.{IsStatusFor, IsStatusIn, folder_in}
 
 -- ---- one word
 

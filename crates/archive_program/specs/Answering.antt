@@ -7,8 +7,9 @@ use Rattle.archive_service.specs.declared.ended.Ended.{Ended}
 use Rattle.archive_service.specs.declared.ended.Status.{Status}
 use Rattle.archive_service.specs.declared.ended.Status.TheVariants.{NoMemory, ReadFault, TooLong}
 use Rattle.archive_service.specs.declared.settings.Settings.{Settings}
-use Rattle.archive_program.specs.Input.{TakesFront}
-use Rattle.archive_program.specs.Program.{AnswersWhole, Reads, ReadsFor}
+use Rattle.archive_program.specs.Taking.{TakesFront}
+use Rattle.archive_program.specs.Program.{Reads, ReadsFor}
+use Rattle.archive_program.specs.Answered.{AnswersWhole}
 use Rattle.archive_program.specs.Words.{Job, Make, Script}
 
 -- a section has room for some index, as words ask for it

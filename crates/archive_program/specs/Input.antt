@@ -4,21 +4,13 @@ use Rattle.blob_device.specs.Counts.{Rose}
 use Rattle.blob_device.specs.declared.source.Source as source
 use Rattle.archive_program.specs.declared.input.InputError.{InputError}
 use Rattle.archive_program.specs.declared.input.InputError.TheVariants.{Fault, TooLong, Mem}
+use Rattle.archive_program.specs.Taking.{TakesFront}
 
 -- a fault is answered only where the source's count of faults rose
 abbrev pub IsInputCause : ℕ → ℕ → InputError → Type 0
 IsInputCause old new Fault = Rose old new
 IsInputCause old new TooLong = Unit {0}
 IsInputCause old new Mem = Unit {0}
-
--- so many bytes of what was left were taken
-pub record TakesFront (old new : List ℕ) (P : ℕ → Type 0) : Type 0 where
-  -- these were taken
-  pub taken : List ℕ
-  -- in so great a number
-  pub number : P (length taken)
-  -- they stood in front of what is left
-  pub rest : old ≡ taken ++ new
 
 -- the input was read to its end, and is no longer than an input may be
 pub record TakesAll (old new bytes : List ℕ) : Type 0 where

@@ -1,6 +1,10 @@
+pub mod Answered
 pub mod Answering
 pub mod Config
+pub mod EmptyLaws
 pub mod Input
 pub mod Output
 pub mod Program
+pub mod Taking
 pub mod Words
+pub mod WordsSeen

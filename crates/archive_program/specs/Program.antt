@@ -1,7 +1,7 @@
 -- What the program answers to its input, and what it leaves on its device at every moment.
-use Rattle.std.specs.Prelude.{◌≡◌, ◌≢◌, ◌⊎◌, ⊤, ℕ, ◌+◌, ◌^◌, ◌≤◌, ◌<◌, List, [], ◌∷◌, ◌++◌, length, Contains, Option, Some, None, IsSome, IfSome, codes}
+use Rattle.std.specs.Prelude.{◌≡◌, ◌≢◌, ◌⊎◌, ⊤, ℕ, ◌+◌, ◌^◌, ◌≤◌, List, [], ◌∷◌, ◌++◌, length, Contains, Option, Some, None, IsSome, IfSome, codes}
 use Rattle.blob_device.specs.Counts.{Rose}
-use Rattle.blob_device.specs.Disk.{NothingPending, nothing}
+use Rattle.blob_device.specs.Disk.{NothingPending}
 use Rattle.blob_device.specs.Timeline.{Timeline, disk}
 use Rattle.blob_device.specs.declared.device.Device as device
 use Rattle.blob_device.specs.declared.sink.Sink as sink
@@ -12,8 +12,7 @@ use Rattle.value_codec.specs.contracts.seal.Sha256SealSeal.TheImpl as sha256
 use Rattle.segments.specs.declared.journal.Error.TheVariants as journal
 use Rattle.paired.specs.Kept.{Markers}
 use Rattle.paired.specs.Opening.{as_read}
-use Rattle.paired.specs.OpeningRefusing.{AreCounted}
-use Rattle.paired.specs.TrackedShown.{marker_format}
+use Rattle.paired.specs.sighted.Shown.{marker_format}
 use Rattle.archives.specs.Filing.{Filing}
 use Rattle.archives.specs.IndexRecord.{place_of}
 use Rattle.archives.specs.Lawful.{Lawful}
@@ -26,14 +25,13 @@ use Rattle.archive_service.specs.Script.{Spells, IsFirstBad}
 use Rattle.archive_service.specs.Kinds.{Kind}
 use Rattle.archive_service.specs.Made.{made, made_text}
 use Rattle.archive_service.specs.PrunableKind.{prunable_kind}
-use Rattle.archive_service.specs.RunLaws.{AreCountedIfOpening}
+use Rattle.archive_service.specs.OpeningCounted.{AreCountedIfOpening}
 use Rattle.archive_service.specs.Serves.{ServesBy}
-use Rattle.archive_service.specs.Settings.{AreSettings}
 use Rattle.archive_service.specs.Texts.{Spelled, bad_line_text}
 use Rattle.archive_service.specs.declared.ended.Ended.{Ended}
 use Rattle.archive_service.specs.declared.replies.End.{End}
 use Rattle.archive_service.specs.declared.replies.End.TheVariants.{Done, Failed}
-use Rattle.archive_program.specs.Input.{TakesFront}
+use Rattle.archive_program.specs.Taking.{TakesFront}
 use Rattle.archive_program.specs.Words.{AreOfNoForm, AsksFor, Job, Make, Script}
 use Rattle.archive_service.specs.declared.settings.Settings.{Settings}
 
@@ -64,12 +62,6 @@ error_of Done = None
 error_of (Failed Mem) = None
 error_of (Failed e) = Some e
 
--- the status that belongs to it, where all of the text is written
-abbrev pub status_of : End → ℕ
-status_of Done = 0
-status_of (Failed Mem) = 6
-status_of (Failed e) = 5
-
 -- the archive refused a put, or had no next version for its markers
 abbrev pub IsRefusal : Error → Type 0
 IsRefusal e = (e ≡ Full) ⊎ (e ≡ Journal journal.ValueTooLarge)
@@ -87,15 +79,6 @@ pub record MayBeServed (settings : Settings) (items : ℕ) (t : Timeline) : Type
   pub markers : Markers
   -- by them its image is lawful
   pub lawful : Lawful (program_filing settings items) (as_read (disk t)) markers
-
--- What holds of a device on which nothing was kept yet.
-pub record EmptyLaws : Type 0 where
-  -- it may be served, since it has nothing pending, and an empty image is lawful
-  pub lawful : (settings : Settings) (items : ℕ) → AreSettings settings → 1 ≤ items
-      → (t : Timeline) → disk t ≡ (λ q. nothing) → MayBeServed settings items t
-  -- and a u64 counts the bytes of one page more with its slots, where pages have fewer than 2^16 bytes
-  pub counted : (settings : Settings) (items : ℕ) → AreSettings settings → settings.page_size < 2 ^ 16
-      → (t : Timeline) → disk t ≡ (λ q. nothing) → AreCounted (program_filing settings items).layout (as_read (disk t))
 
 -- ---- what the program is asked for
 
@@ -135,26 +118,15 @@ abbrev pub ReadsFor : Job → (IsUnread SourceTells : Type 0) → (left_old left
 ReadsFor (Script items) IsUnread SourceTells left_old left_new input = ReadsWhole SourceTells left_old left_new input
 ReadsFor (Make items count) IsUnread SourceTells left_old left_new input = IsUnread × (input ≡ [])
 
--- The source has the script of these commands to give, and gives it: it tells what is left, and does not fail. The
--- numbers are its counts of faults.
-pub record IsGivenScript (max : ℕ) (SourceTells : Type 0) (left : List ℕ) (faults_old faults_new : ℕ)
+-- The job is given these commands to serve: what is left of the source orders them. Of a job that reads, the source
+-- gives it all: it tells what is left, has no more than an input may be, and does not fail. The numbers are its counts
+-- of faults.
+pub record IsGiven (job : Job) (max : ℕ) (SourceTells : Type 0) (left : List ℕ) (faults_old faults_new : ℕ)
     (commands : List Spelled) : Type 0 where
-  -- the source tells what is left,
-  pub told : SourceTells
-  -- which is the script,
-  pub spelled : Spells max left commands
-  -- no longer than an input may be,
-  pub limit : length left ≤ 2 ^ 24
-  -- and it does not fail
-  pub calm : ¬ Rose faults_old faults_new
-
--- the job is given these commands to serve
-abbrev pub IsGiven : Job → ℕ → (SourceTells : Type 0) → (left : List ℕ)
-    → (faults_old faults_new : ℕ) → List Spelled → Type 0
-IsGiven (Script items) max SourceTells left faults_old faults_new commands =
-    IsGivenScript max SourceTells left faults_old faults_new commands
-IsGiven (Make items count) max SourceTells left faults_old faults_new commands =
-    commands ≡ made count
+  -- they are ordered
+  pub ordered : Orders job max left commands
+  -- and read, where the job reads
+  pub given : Reads job → SourceTells × (length left ≤ 2 ^ 24) × ¬ Rose faults_old faults_new
 
 -- ---- how they are served
 
@@ -163,13 +135,6 @@ abbrev pub ServedBy : {D : Type 0} → Settings → Job → device.Ghosts D → 
     → List Spelled → List (Reply (List ℕ)) → End → Type 0
 ServedBy settings job dev old new marks commands replies end =
     ServesBy (program_kind settings (items_of job)) dev commands marks replies end old new
-
--- A script was served, with marks, replies and an end; or there was no memory before, and nothing was done.
-abbrev pub ServesScript : {D : Type 0} → Settings → ℕ → device.Ghosts D → D → D → List Spelled
-    → Option (List ℕ × List (Reply (List ℕ)) × End) → Type 0
-ServesScript settings items dev old new commands (Some (marks, replies, end)) =
-    ServedBy settings (Script items) dev old new marks commands replies end
-ServesScript settings items dev old new commands None = new ≡ old
 
 -- ---- which text is owed
 
@@ -213,75 +178,6 @@ abbrev pub AnswersInput : Job → ℕ → (List Spelled → List (Reply (List �
 AnswersInput job max Served error IsUnserved input text =
     AnswersScript max Served job (λ end. error ≡ error_of end) input text
     ⊎ (NamesBadLine job max input text × IsUnserved)
-
--- ---- what is to be written, and how the program then ends
-
--- there was no memory before a command was served
-pub record HasNoMemory (ended : Ended) (text : List ℕ) : Type 0 where
-  -- the status says so
-  pub status : ended.status ≡ 6
-  -- no command was begun
-  pub marks : ended.marks ≡ []
-  -- no error is handed out
-  pub error : ended.error ≡ None
-  -- nothing is to be written
-  pub nothing : text ≡ []
-
--- this text and this status; or nothing, and no memory
-pub record EndsWith (wanted : List ℕ) (code : ℕ) (when : List ℕ) (failure : Option Error) (ended : Ended)
-    (text : List ℕ) : Type 0 where
-  -- these are its marks
-  pub marks : ended.marks ≡ when
-  -- this is its error
-  pub error : ended.error ≡ failure
-  -- the text, or no memory for it
-  pub written : ((ended.status ≡ code) × (text ≡ wanted)) ⊎ ((ended.status ≡ 6) × (text ≡ []))
-
--- the commands were served, and this is their answer
-pub record AnswersCommands (job : Job) (Served : List Spelled → List (Reply (List ℕ)) → End → Type 0)
-    (commands : List Spelled) (ended : Ended) (text : List ℕ) : Type 0 where
-  -- they got these replies
-  pub replies : List (Reply (List ℕ))
-  -- this was the end
-  pub end : End
-  -- so they were served
-  pub served : Served commands replies end
-  -- the error of the end is handed out
-  pub error : ended.error ≡ error_of end
-  -- and this is the text, or there was no memory for it
-  pub written : ((ended.status ≡ status_of end) × (text ≡ owed job replies end))
-      ⊎ ((ended.status ≡ 6) × (text ≡ []))
-
--- How an input was answered: there was no memory, its first bad line is named, or its commands were served.
-pub data AnswerOf (job : Job) (max : ℕ) (Served : List Spelled → List (Reply (List ℕ)) → End → Type 0)
-    (Untouched : Type 0) (input : List ℕ) (ended : Ended) (text : List ℕ) : Type 0 where
-  no_memory : Untouched → HasNoMemory ended text → AnswerOf job max Served Untouched input ended text
-  bad_line : Untouched → (number : ℕ) → IsBadAt job max input number
-      → EndsWith (bad_line_text number) 2 [] None ended text → AnswerOf job max Served Untouched input ended text
-  served : (commands : List Spelled) → Orders job max input commands → AnswersCommands job Served commands ended text
-      → AnswerOf job max Served Untouched input ended text
-
--- The answer to a whole input, with the device once as it was and once as it is.
-pub record AnswersWhole {D : Type 0} (settings : Settings) (job : Job) (dev : device.Ghosts D) (old new : D)
-    (input : List ℕ) (ended : Ended) (text : List ℕ) : Type 0 where
-  -- what is answered
-  pub answer :
-      AnswerOf job settings.max_value (ServedBy settings job dev old new ended.marks) (new ≡ old) input ended text
-  -- a fault is the device's
-  pub fault : IfSome ended.error (λ e. IsFault e → Rose (dev.faults old) (dev.faults new))
-  -- its count never falls
-  pub faults : dev.faults old ≤ dev.faults new
-
--- The answer to commands: they were served, or there was no memory before.
-pub record AnswersServed {D : Type 0} (settings : Settings) (job : Job) (dev : device.Ghosts D) (old new : D)
-    (commands : List Spelled) (ended : Ended) (text : List ℕ) : Type 0 where
-  -- what is answered
-  pub answer : ((new ≡ old) × HasNoMemory ended text)
-      ⊎ AnswersCommands job (ServedBy settings job dev old new ended.marks) commands ended text
-  -- a fault is the device's
-  pub fault : IfSome ended.error (λ e. IsFault e → Rose (dev.faults old) (dev.faults new))
-  -- its count never falls
-  pub faults : dev.faults old ≤ dev.faults new
 
 -- ---- what was read and written
 

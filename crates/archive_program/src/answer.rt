@@ -9,7 +9,8 @@ ghost use Rattle.archive_service.specs.Made.{made_text, summary_text};
 ghost use Rattle.archive_service.specs.Script.{CanBeSaid};
 ghost use Rattle.archive_service.specs.Settings.{AreSettings};
 ghost use Rattle.archive_service.specs.Texts.{bad_line_text, replies_text};
-ghost use Rattle.archive_program.specs.Program.{AnswersServed, AnswersWhole, EndsWith, ServesScript, error_of, status_of};
+ghost use Rattle.archive_program.specs.Program.{error_of};
+ghost use Rattle.archive_program.specs.Answered.{AnswersServed, AnswersWhole, EndsWith, ServesScript, status_of};
 ghost use Rattle.archive_program.specs.Words as job;
 
 use crate::config::config_of;

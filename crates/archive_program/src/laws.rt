@@ -5,7 +5,8 @@ ghost use Rattle.archives.specs.Changes.{Asked, Replied};
 ghost use Rattle.archive_service.specs.RunLaws.{IsServed, RunLaws};
 ghost use Rattle.archive_service.specs.declared.replies.End.{End};
 ghost use Rattle.archive_service.specs.declared.settings.Settings.{Settings};
-ghost use Rattle.archive_program.specs.Program.{EmptyLaws, program_filing};
+ghost use Rattle.archive_program.specs.Program.{program_filing};
+ghost use Rattle.archive_program.specs.EmptyLaws.{EmptyLaws};
 
 /// What follows of a call of the program, of the states that its promise speaks of: what was synced outlasts every crash, a run without faults and refusals is done, or
 /// memory was short, and a run over what a crash left goes on from what was submitted by then. It does nothing.

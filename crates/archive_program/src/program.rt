@@ -4,7 +4,7 @@ ghost use Rattle.archive_service.specs.Settings.{AreSettings, usual};
 ghost use Rattle.archives.specs.Changes.{outcome};
 ghost use Rattle.archive_program.specs.Answering.{AnswersTo, MayBeDone};
 ghost use Rattle.archive_program.specs.Program.{Runs};
-ghost use Rattle.archive_program.specs.Words.{job_seen};
+ghost use Rattle.archive_program.specs.WordsSeen.{job_seen};
 
 use crate::answer::{Answer, answer_made, answer_of};
 use crate::input::{InputError, read_input};

@@ -1,6 +1,7 @@
 // The words with which the program is called.
 ghost use Rattle.std.specs.Prelude.{ℕ, map, string_bytes, IfNone, IfSome};
-ghost use Rattle.archive_program.specs.Words.{AreItems, FindsJob, IsNumberTo};
+ghost use Rattle.archive_program.specs.Words.{AreItems, IsNumberTo};
+ghost use Rattle.archive_program.specs.WordsSeen.{FindsJob};
 
 use archive_service::index_of;
 

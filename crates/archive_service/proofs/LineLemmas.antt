@@ -1,5 +1,5 @@
 -- A line says one command at most: its words can be read back.
-use Rattle.std.proofs.Common.{◌≡◌, ◌≢◌, ℕ, Bool, true, ◌&&◌, ◌<◌, ◌↔◌, inl, inr, List, [], ◌∷◌, ◌++◌, length, Option, Some, None, Result, Ok, Err, codes, refl, sym, ap, ◌∙◌, subst, lit<, arith}
+use Rattle.std.proofs.Common.{◌≡◌, ◌≢◌, ◌⊎◌, ℕ, Bool, true, ◌&&◌, ◌<◌, ◌↔◌, inl, inr, List, [], ◌∷◌, ◌++◌, length, Option, Some, None, Result, Ok, Err, codes, refl, sym, ap, ◌∙◌, subst, lit<, arith}
 use Rattle.std.specs.Prelude.{if◌then◌else◌, nat_lt, IfOk, IfSome, IfNone}
 use Rattle.std.specs.List.{AllByRecursion, join_with_byte}
 use Rattle.std.specs.Option.{option_map}
@@ -16,7 +16,8 @@ use Rattle.archive_service.specs.PuttingNames.{command_of, name_of}
 use Rattle.archive_service.specs.Texts.{Spelled, line_of, value_text, words_of}
 use Rattle.archive_service.specs.declared.script.Putting.{Putting}
 use Rattle.archive_service.specs.declared.script.Putting.TheVariants as way
-use Rattle.archive_service.specs.Script.{AllAreSaid, CanBeSaid, IsCommandOf, IsCounted, IsDouble, IsIndex, IsKey, IsKeyed, IsLone, IsLongOf, IsReading, IsRecord, IsShort, IsValue, Record, counted_text, keyed_text, record_text}
+use Rattle.archive_service.specs.Script.{CanBeSaid, IsIndex, IsKey, IsValue}
+use Rattle.archive_service.specs.Reading.{IsCounted, IsKeyed, IsRecord, Record, IsCommandOf, IsDouble, IsLone, IsLongOf, IsReading, IsShort, counted_text, keyed_text, record_text}
 use Rattle.archive_service.proofs.WordLemmas.{Lacks, all_append, are_bytes, cut_alone, cut_never, cut_once, decimal_lacks, encode_lacks, same_word, value_lacks}
 
 -- ---- words that are joined
@@ -74,6 +75,71 @@ name_lacks c low (letter ∷ letters) h =
     let parts = and_parts (nat_lt 96 letter) (is_name letters) h in
     let high : 96 < letter = ltb-true 96 letter parts.0 in
     (omega (arith, high), name_lacks c low letters parts.1)
+
+-- ---- by how many words a line has
+
+abbrev IsShaped : ℕ → Spelled → Type 0
+IsShaped max command = IsLone command ⊎ (IsShort command ⊎ (IsDouble command ⊎ IsLongOf max command))
+
+shaped : (max : ℕ) (command : Spelled) → CanBeSaid max command → IsShaped max command
+shaped max (Put index key value) h = inr (inr (inr h))
+shaped max (PutSync index key value) h = inr (inr (inr h))
+shaped max (PutStart index key value) h = inr (inr (inr h))
+shaped max (Multi index key value) h = inr (inr (inr h))
+shaped max (MultiSync index key value) h = inr (inr (inr h))
+shaped max (MultiStart index key value) h = inr (inr (inr h))
+shaped max (Get index) h = inr (inl h)
+shaped max (GetKey key) h = inr (inl h)
+shaped max (All index) h = inr (inl h)
+shaped max (Has index) h = inr (inl h)
+shaped max (HasKey key) h = inr (inl h)
+shaped max (HasAt index key) h = inr (inr (inl h))
+shaped max (Gap index) h = inr (inl h)
+shaped max (Missing index count) h = inr (inr (inl h))
+shaped max Ranges h = inl tt
+shaped max (RangesFrom index) h = inr (inl h)
+shaped max First h = inl tt
+shaped max Last h = inl tt
+shaped max Sync h = inl tt
+shaped max Start h = inl tt
+shaped max (Prune index) h = inr (inl h)
+shaped max Reopen h = inl tt
+shaped max Destroy h = inl tt
+
+lone_said : (max : ℕ) (command : Spelled) → IsLone command → CanBeSaid max command
+lone_said max Sync said = said
+lone_said max Start said = said
+lone_said max Reopen said = said
+lone_said max Ranges said = said
+lone_said max First said = said
+lone_said max Last said = said
+lone_said max Destroy said = said
+lone_said max command said = absurd said
+
+short_said : (max : ℕ) (command : Spelled) → IsShort command → CanBeSaid max command
+short_said max (Get index) said = said
+short_said max (Has index) said = said
+short_said max (GetKey key) said = said
+short_said max (HasKey key) said = said
+short_said max (All index) said = said
+short_said max (Prune index) said = said
+short_said max (Gap index) said = said
+short_said max (RangesFrom index) said = said
+short_said max command said = absurd said
+
+double_said : (max : ℕ) (command : Spelled) → IsDouble command → CanBeSaid max command
+double_said max (Missing index count) said = said
+double_said max (HasAt index key) said = said
+double_said max command said = absurd said
+
+long_said : (max : ℕ) (command : Spelled) → IsLongOf max command → CanBeSaid max command
+long_said max (Put index key value) said = said
+long_said max (PutSync index key value) said = said
+long_said max (PutStart index key value) said = said
+long_said max (Multi index key value) said = said
+long_said max (MultiSync index key value) said = said
+long_said max (MultiStart index key value) said = said
+long_said max command said = absurd said
 
 lone_count : (command : Spelled) → IsLone command → length (words_of command) ≡ 1
 lone_count Sync said = refl
@@ -160,17 +226,23 @@ module _ (c : ℕ) (low : c < 45) where
     long_lacks (MultiStart index key value) said = record_lacks (codes "multistart") refl index key value said
     long_lacks command said = absurd said
 
+    shape_lacks : (command : Spelled) → IsShaped max command → AllByRecursion (Lacks c) (words_of command)
+    shape_lacks command (inl lone) = lone_lacks command lone
+    shape_lacks command (inr (inl short)) = short_lacks command short
+    shape_lacks command (inr (inr (inl double))) = double_lacks command double
+    shape_lacks command (inr (inr (inr long))) = long_lacks command long
+
     words_lack : (command : Spelled) → CanBeSaid max command → AllByRecursion (Lacks c) (words_of command)
-    words_lack command (inl lone) = lone_lacks command lone
-    words_lack command (inr (inl short)) = short_lacks command short
-    words_lack command (inr (inr (inl double))) = double_lacks command double
-    words_lack command (inr (inr (inr long))) = long_lacks command long
+    words_lack command said = shape_lacks command (shaped max command said)
+
+shape_some : (max : ℕ) (command : Spelled) → IsShaped max command → 0 < length (words_of command)
+shape_some max command (inl lone) = omega (arith, lone_count command lone)
+shape_some max command (inr (inl short)) = omega (arith, short_count command short)
+shape_some max command (inr (inr (inl double))) = omega (arith, double_count command double)
+shape_some max command (inr (inr (inr long))) = omega (arith, long_count max command long)
 
 words_some : (max : ℕ) (command : Spelled) → CanBeSaid max command → 0 < length (words_of command)
-words_some max command (inl lone) = omega (arith, lone_count command lone)
-words_some max command (inr (inl short)) = omega (arith, short_count command short)
-words_some max command (inr (inr (inl double))) = omega (arith, double_count command double)
-words_some max command (inr (inr (inr long))) = omega (arith, long_count max command long)
+words_some max command said = shape_some max command (shaped max command said)
 
 pub line_lacks : (max c : ℕ) → c < 32 → (command : Spelled) → CanBeSaid max command → Lacks c (line_of command)
 unfolding line_of
@@ -284,11 +356,14 @@ long_again max (MultiSync index key value) said = record_again max MultiSync ind
 long_again max (MultiStart index key value) said = record_again max MultiStart index key value said
 long_again max command said = absurd said
 
+shape_again : (max : ℕ) (command : Spelled) → IsShaped max command → said_by (words_of command) ≡ command
+shape_again max command (inl lone) = lone_again command lone
+shape_again max command (inr (inl short)) = short_again command short
+shape_again max command (inr (inr (inl double))) = double_again command double
+shape_again max command (inr (inr (inr long))) = long_again max command long
+
 again : (max : ℕ) (command : Spelled) → CanBeSaid max command → said_by (words_of command) ≡ command
-again max command (inl lone) = lone_again command lone
-again max command (inr (inl short)) = short_again command short
-again max command (inr (inr (inl double))) = double_again command double
-again max command (inr (inr (inr long))) = long_again max command long
+again max command said = shape_again max command (shaped max command said)
 
 -- a line says one command
 pub line_injective : (max : ℕ) (a b : Spelled) → CanBeSaid max a → CanBeSaid max b → line_of a ≡ line_of b → a ≡ b
@@ -312,18 +387,21 @@ lone_refused word sync start reopen ranges first last destroy Destroy said = des
 lone_refused word sync start reopen ranges first last destroy command said = absurd said
 
 -- no other command is said by one word
-pub lone_only : (max : ℕ) (word : List ℕ) → Lacks 32 word → (command : Spelled) → CanBeSaid max command → word ≡ line_of command → IsLone command
+shape_only : (max : ℕ) (word : List ℕ) → Lacks 32 word → (command : Spelled) → IsShaped max command → word ≡ line_of command → IsLone command
 unfolding line_of
-lone_only max word lacks command (inl lone) e = lone
-lone_only max word lacks command (inr (inl short)) e =
-    let words = joined_once 32 (word ∷ []) (words_of command) (omega arith) (words_some max command (inr (inl short))) (lacks, tt) (short_lacks 32 (lit< tt) command short) e in
+shape_only max word lacks command (inl lone) e = lone
+shape_only max word lacks command (inr (inl short)) e =
+    let words = joined_once 32 (word ∷ []) (words_of command) (omega arith) (shape_some max command (inr (inl short))) (lacks, tt) (short_lacks 32 (lit< tt) command short) e in
     absurd (omega (arith, ap length words, short_count command short))
-lone_only max word lacks command (inr (inr (inl double))) e =
-    let words = joined_once 32 (word ∷ []) (words_of command) (omega arith) (words_some max command (inr (inr (inl double)))) (lacks, tt) (double_lacks 32 (lit< tt) command double) e in
+shape_only max word lacks command (inr (inr (inl double))) e =
+    let words = joined_once 32 (word ∷ []) (words_of command) (omega arith) (shape_some max command (inr (inr (inl double)))) (lacks, tt) (double_lacks 32 (lit< tt) command double) e in
     absurd (omega (arith, ap length words, double_count command double))
-lone_only max word lacks command (inr (inr (inr long))) e =
-    let words = joined_once 32 (word ∷ []) (words_of command) (omega arith) (words_some max command (inr (inr (inr long)))) (lacks, tt) (long_lacks 32 (lit< tt) max command long) e in
+shape_only max word lacks command (inr (inr (inr long))) e =
+    let words = joined_once 32 (word ∷ []) (words_of command) (omega arith) (shape_some max command (inr (inr (inr long)))) (lacks, tt) (long_lacks 32 (lit< tt) max command long) e in
     absurd (omega (arith, ap length words, long_count max command long))
+
+pub lone_only : (max : ℕ) (word : List ℕ) → Lacks 32 word → (command : Spelled) → CanBeSaid max command → word ≡ line_of command → IsLone command
+lone_only max word lacks command said e = shape_only max word lacks command (shaped max command said) e
 
 -- and none of those by more words
 pub lone_never : (name words : List ℕ) (command : Spelled) → IsLone command → name ++ 32 ∷ words ≢ line_of command
@@ -513,60 +591,36 @@ pub long_found : (max : ℕ) (putting : Putting) (name words : List ℕ) → nam
 long_found max putting name words is r may text seen same =
     (subst (IsLongOf max) (sym same) (is_long max putting r may), rw (is, text) refl ∙ sym (line_is putting r) ∙ ap line_of (sym same))
 
--- ---- each command can be said
-
-pub all_are_said : AllAreSaid
-all_are_said max (Put index key value) h = inr (inr (inr h))
-all_are_said max (PutSync index key value) h = inr (inr (inr h))
-all_are_said max (PutStart index key value) h = inr (inr (inr h))
-all_are_said max (Multi index key value) h = inr (inr (inr h))
-all_are_said max (MultiSync index key value) h = inr (inr (inr h))
-all_are_said max (MultiStart index key value) h = inr (inr (inr h))
-all_are_said max (Get index) h = inr (inl h)
-all_are_said max (GetKey key) h = inr (inl h)
-all_are_said max (All index) h = inr (inl h)
-all_are_said max (Has index) h = inr (inl h)
-all_are_said max (HasKey key) h = inr (inl h)
-all_are_said max (HasAt index key) h = inr (inr (inl h))
-all_are_said max (Gap index) h = inr (inl h)
-all_are_said max (Missing index count) h = inr (inr (inl h))
-all_are_said max Ranges h = inl tt
-all_are_said max (RangesFrom index) h = inr (inl h)
-all_are_said max First h = inl tt
-all_are_said max Last h = inl tt
-all_are_said max Sync h = inl tt
-all_are_said max Start h = inl tt
-all_are_said max (Prune index) h = inr (inl h)
-all_are_said max Reopen h = inl tt
-all_are_said max Destroy h = inl tt
-
 -- ---- any line
 
 -- what is found is seen as a command
 module _ {A : Type 0} (seen : A → Spelled) (max : ℕ) (line : List ℕ) where
   pub lone_reading : Lacks 32 line → (found : Option A) → IfSome found (λ x. IsLone (seen x) × (line ≡ line_of (seen x)))
       → IfNone found ((command : Spelled) → IsLone command → line ≢ line_of command) → IsCommandOf max line (option_map seen found)
-  lone_reading lacks (Some x) is none = (inl is.0, is.1)
+  lone_reading lacks (Some x) is none = (lone_said max (seen x) is.0, is.1)
   lone_reading lacks None is none = λ command said e. none command (lone_only max line lacks command said e) e
 
   -- a name, and words behind it
   module _ (name words : List ℕ) (at : line ≡ name ++ 32 ∷ words) where
     pub short_reading : (x : A) → IsShort (seen x) × (name ++ 32 ∷ words ≡ line_of (seen x)) → IsCommandOf max line (Some (seen x))
-    short_reading x is = (inr (inl is.0), at ∙ is.1)
+    short_reading x is = (short_said max (seen x) is.0, at ∙ is.1)
 
     pub double_reading : (x : A) → IsDouble (seen x) × (name ++ 32 ∷ words ≡ line_of (seen x)) → IsCommandOf max line (Some (seen x))
-    double_reading x is = (inr (inr (inl is.0)), at ∙ is.1)
+    double_reading x is = (double_said max (seen x) is.0, at ∙ is.1)
 
     module _ (no_short : (command : Spelled) → IsShort command → name ++ 32 ∷ words ≢ line_of command) (no_double : (command : Spelled) → IsDouble command → name ++ 32 ∷ words ≢ line_of command) where
+      shape_refused : ((command : Spelled) → IsLongOf max command → name ++ 32 ∷ words ≢ line_of command) → (command : Spelled) → IsShaped max command → line ≢ line_of command
+      shape_refused no_long command (inl lone) e = lone_never name words command lone (sym at ∙ e)
+      shape_refused no_long command (inr (inl short)) e = no_short command short (sym at ∙ e)
+      shape_refused no_long command (inr (inr (inl double))) e = no_double command double (sym at ∙ e)
+      shape_refused no_long command (inr (inr (inr long))) e = no_long command long (sym at ∙ e)
+
       refused : ((command : Spelled) → IsLongOf max command → name ++ 32 ∷ words ≢ line_of command) → (command : Spelled) → CanBeSaid max command → line ≢ line_of command
-      refused no_long command (inl lone) e = lone_never name words command lone (sym at ∙ e)
-      refused no_long command (inr (inl short)) e = no_short command short (sym at ∙ e)
-      refused no_long command (inr (inr (inl double))) e = no_double command double (sym at ∙ e)
-      refused no_long command (inr (inr (inr long))) e = no_long command long (sym at ∙ e)
+      refused no_long command said = shape_refused no_long command (shaped max command said)
 
       long_reading : (found : Option A) → IfSome found (λ x. IsLongOf max (seen x) × (name ++ 32 ∷ words ≡ line_of (seen x)))
           → IfNone found ((command : Spelled) → IsLongOf max command → name ++ 32 ∷ words ≢ line_of command) → IsCommandOf max line (option_map seen found)
-      long_reading (Some x) is none = (inr (inr (inr is.0)), at ∙ is.1)
+      long_reading (Some x) is none = (long_said max (seen x) is.0, at ∙ is.1)
       long_reading None is none = refused none
 
       pub long_result : {E : Type 0} (r : Result (Option A) E) → IfOk r (λ found. IfSome found (λ x. IsLongOf max (seen x) × (name ++ 32 ∷ words ≡ line_of (seen x))))

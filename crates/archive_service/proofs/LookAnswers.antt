@@ -15,20 +15,21 @@ use Rattle.sealed_pages.specs.declared.page_blob.PageBlob.{PageBlob}
 use Rattle.archives.specs.Archives.{IsSoundArchive, state_of}
 use Rattle.archives.specs.Changes.{AskEnds, Asked, Asks, Replied, outcome}
 use Rattle.archives.specs.Commands.{All, First, Gap, Get, GetKey, Has as HasIndex, HasAt, HasKey, Last, Missing, Ranges, RangesFrom, Reopen}
-use Rattle.archives.specs.Entries.{AllEnd, AtEnds, GetsAll}
+use Rattle.archives.specs.Entries.{AllEnd, GetsAll}
 use Rattle.archives.specs.Entries as entries
 use Rattle.archives.specs.Finding.{Wanted, get_command, has_command}
 use Rattle.archives.specs.Finding as wanted
 use Rattle.archives.specs.Machine.{Entry, State, Step, has_index}
-use Rattle.archives.specs.Gets.{GetEnds, Gets, Has, HasEnds, IsLookupCause, IsReadCause, SomeToLookAt}
+use Rattle.archives.specs.Gets.{GetEnds, Gets, Has, HasEnds, IsLookupCause, IsReadCause, IsRecordCause, SomeToLookAt}
 use Rattle.archives.specs.Prunable.{Prunable, Setup, filing_by, meaning}
 use Rattle.archives.specs.Refusing.{IsFailure, IsFault}
 use Rattle.archives.specs.Replies as reply
 use Rattle.archives.specs.Standing.{Leaves, submitted}
 use Rattle.archives.specs.declared.error.Error.{Error}
 use Rattle.archives.specs.declared.error.Error.TheVariants.{Journal, Mem}
-use Rattle.archive_service.specs.Causes.{Adds, IsCause, IsCauseAnywhere, IsLookup, MustMove, MustMoveHeld, MustRefuse, MustRefuseAnywhere, Nothing, PutOf, PutsBy, PutsHere, ReadsBytes, RefusesPut, added_by, put_of}
-use Rattle.archive_service.specs.Kinds.{AnswerEnds, Answers}
+use Rattle.archive_service.specs.Causes.{Adds, IsCause, IsCauseAnywhere, MustMove, MustMoveHeld, MustRefuse, MustRefuseAnywhere, PutsBy, PutsHere, ReadsBytes, RefusesPut, added_by}
+use Rattle.archive_service.specs.Families.{AsksHeld, AsksStored, Family, PutOf, family_of, put_of}
+use Rattle.archive_service.specs.StoreCalls.{AnswerEnds, Answers}
 use Rattle.archive_service.specs.PrunableKind.{Clears, ClearsOpen, IsQuiet, Learns}
 use Rattle.archive_service.specs.PrunableStore.{held_by, openable_serving}
 use Rattle.archive_service.specs.declared.store.openable.Openable.{Openable}
@@ -43,6 +44,12 @@ none_missing set from most none = record {
   each = λ x has. absurd (omega (arith, has.1));
   first = λ x missing. inr (sym none, λ y has. absurd (omega (arith, has.1)));
 }
+
+-- a command that asks, and changes nothing
+abbrev IsLookup : Family → Type 0
+IsLookup AsksHeld = ⊤
+IsLookup AsksStored = ⊤
+IsLookup family = ⊥
 
 -- a command that asks for indices
 abbrev pub AsksIndices : Asked → Type 0
@@ -62,20 +69,20 @@ module _ {A V S D : Type 0} {gs : _} (p : Prunable A V (AppendFactory S) (PageBl
 
   -- It submits nothing, is never refused, and tells nothing new.
   pub record IsLooking (c : Asked) : Type 0 where
-    pub lookup : IsLookup c
+    pub lookup : IsLookup (family_of c)
     pub no_reopen : c ≡ Reopen → ⊥
     pub allowed : MustRefuse (filing_by p a) state (disk (dev.time old)) c → ⊥
     pub clears : (q : Key) → Clears (filing_by p a) setup.write_buffer setup.value_buffer (held_by p a) c q → ⊥
     pub allowed_anywhere : MustRefuseAnywhere (filing_by p a) (held_by p a) (disk (dev.time old)) c → ⊥
     pub refuses : (e : Error) → RefusesPut (filing_by p a) state c e → ⊥
     pub under_way : (d : Disk) → Leaves (filing_by p a) state None d → Leaves (filing_by p a) state (Some c) d
-    pub learns : (from to : Disk) → Learns (filing_by p a) setup.write_buffer setup.value_buffer (held_by p a) c from to (held_by p a)
+    pub learns : (from to : Disk) → Learns (filing_by p a) setup.write_buffer setup.value_buffer (held_by p a) (family_of c) from to (held_by p a)
 
   -- Each command that puts nothing, moves no marker, and takes nothing away is one.
-  looks_by : (c : Asked) → IsLookup c → put_of c ≡ Nothing → (MustMove (filing_by p a) state (disk (dev.time old)) c → ⊥) → (MustMoveHeld (filing_by p a) (held_by p a) (disk (dev.time old)) (Some c) → ⊥)
+  looks_by : (c : Asked) → IsLookup (family_of c) → put_of c ≡ None → (MustMove (filing_by p a) state (disk (dev.time old)) c → ⊥) → (MustMoveHeld (filing_by p a) (held_by p a) (disk (dev.time old)) (Some c) → ⊥)
       → ((s : ℕ) → submitted (filing_by p a).items state None s ≡ submitted (filing_by p a).items state (Some c) s)
-      → ((from to : Disk) → Learns (filing_by p a) setup.write_buffer setup.value_buffer (held_by p a) c from to (held_by p a))
-      → ((q : Key) → ClearsOpen (filing_by p a) setup.write_buffer setup.value_buffer c q → ⊥) → IsLooking c
+      → ((from to : Disk) → Learns (filing_by p a) setup.write_buffer setup.value_buffer (held_by p a) (family_of c) from to (held_by p a))
+      → ((q : Key) → ClearsOpen (filing_by p a) setup.write_buffer setup.value_buffer (family_of c) q → ⊥) → IsLooking c
   looks_by c lookup puts moves moves_held same learns clears = record {
     lookup = lookup;
     no_reopen = no_reopen;
@@ -91,13 +98,13 @@ module _ {A V S D : Type 0} {gs : _} (p : Prunable A V (AppendFactory S) (PageBl
   }
     where
       no_reopen : c ≡ Reopen → ⊥
-      no_reopen is = subst IsLookup is lookup
+      no_reopen is = subst (λ (x : Asked). IsLookup (family_of x)) is lookup
 
       none_added : (P : Entry (List ℕ) → Type 0) → Adds (filing_by p a) state (Some c) P → ⊥
-      none_added P adds = subst (λ (x : PutOf). IsSomeAnd (added_by (filing_by p a) state x) P) puts adds
+      none_added P adds = subst (λ (x : Option PutOf). IsSomeAnd x (λ put. IsSomeAnd (added_by (filing_by p a) state put) P)) puts adds
 
       none_held : (P : Entry (List ℕ) → Type 0) → PutsHere (filing_by p a) (held_by p a) (Some c) P → ⊥
-      none_held P holds = subst (λ (x : PutOf). PutsBy (filing_by p a) (held_by p a) x P) puts holds
+      none_held P holds = subst (λ (x : Option PutOf). IsSomeAnd x (λ put. PutsBy (filing_by p a) (held_by p a) put P)) puts holds
 
   get_looks : (w : Wanted) → IsLooking (get_command w)
   get_looks (wanted.Index i) = looks_by (Get i) tt refl (λ none. none) (λ none. none) (λ s. refl) (λ from to. refl) (λ q none. none)
@@ -113,7 +120,7 @@ module _ {A V S D : Type 0} {gs : _} (p : Prunable A V (AppendFactory S) (PageBl
   failure_cause c before now e (inl memory) = subst (IsCause (filing_by p a) state (Some c) (disk (dev.time old))) (sym memory) tt
   failure_cause c before now e (inr fault) = subst (IsCause (filing_by p a) state (Some c) (disk (dev.time old))) (sym fault.0) tt
 
-  read_anywhere : (t : dev.Tells) (c : Asked) → ReadsBytes c → (Met : (ℕ → ℕ → Type 0) → Type 0) (to : Disk) (before now : ℕ) (e : Error)
+  read_anywhere : (t : dev.Tells) (c : Asked) → ReadsBytes (family_of c) → (Met : (ℕ → ℕ → Type 0) → Type 0) (to : Disk) (before now : ℕ) (e : Error)
       → IsReadCause (p.see a) (disk (dev.time old)) dev.Tells Met before now e → IsCauseAnywhere (filing_by p a) (held_by p a) (Some c) (disk (dev.time old)) to e
   read_anywhere t c reads Met to before now Mem why = tt
   read_anywhere t c reads Met to before now (Journal (journal.Runtime runtime.Fault)) why = tt
@@ -125,6 +132,16 @@ module _ {A V S D : Type 0} {gs : _} (p : Prunable A V (AppendFactory S) (PageBl
   read_anywhere t c reads Met to before now (Journal (journal.Codec e)) why = (refl, reads)
   read_anywhere t c reads Met to before now (Journal (journal.ItemOutOfRange n)) why = absurd (why t)
   read_anywhere t c reads Met to before now e why = absurd why
+
+  -- and where no value is read, only memory or the device is the cause
+  record_anywhere : (t : dev.Tells) (c : Asked) (to : Disk) (before now : ℕ) (e : Error) → IsRecordCause dev.Tells before now e → IsCauseAnywhere (filing_by p a) (held_by p a) (Some c) (disk (dev.time old)) to e
+  record_anywhere t c to before now Mem why = tt
+  record_anywhere t c to before now (Journal (journal.Runtime runtime.Fault)) why = tt
+  record_anywhere t c to before now (Journal (journal.Runtime (runtime.InvalidChecksum k))) why = absurd (why t)
+  record_anywhere t c to before now (Journal (journal.SectionOutOfRange n)) why = absurd (why t)
+  record_anywhere t c to before now (Journal (journal.ItemOutOfRange n)) why = absurd (why t)
+  record_anywhere t c to before now (Journal (journal.Codec e)) why = absurd (why t)
+  record_anywhere t c to before now e why = absurd why
 
   -- ---- the lookup
 
@@ -176,7 +193,7 @@ module _ {A V S D : Type 0} {gs : _} (p : Prunable A V (AppendFactory S) (PageBl
     look_answers result asks why = as_asked p setup valid dev a old given c (outcome (λ x. (Open a, reply_of x)) result) new (look_at result asks why)
 
   -- an error has its cause by what is held, as it has it by what the archive met
-  met : (c : Asked) → ReadsBytes c → (w : Wanted) (new : D) → dev.Tells → (e : Error) → IsLookupCause p dev a w old new e
+  met : (c : Asked) → ReadsBytes (family_of c) → (w : Wanted) (new : D) → dev.Tells → (e : Error) → IsLookupCause p dev a w old new e
       → IsCauseAnywhere (filing_by p a) (held_by p a) (Some c) (disk (dev.time old)) (disk (dev.time new)) e
   met c reads w new t e why = read_anywhere t c reads (SomeToLookAt p dev a w) (disk (dev.time new)) (dev.faults old) (dev.faults new) e why
 
@@ -185,7 +202,7 @@ module _ {A V S D : Type 0} {gs : _} (p : Prunable A V (AppendFactory S) (PageBl
   get_quiet (wanted.Index i) still = quiet_open still
   get_quiet (wanted.Key k) still = quiet_open still
 
-  get_reads : (w : Wanted) → ReadsBytes (get_command w)
+  get_reads : (w : Wanted) → ReadsBytes (family_of (get_command w))
   get_reads (wanted.Index i) = tt
   get_reads (wanted.Key k) = tt
 
@@ -203,7 +220,7 @@ module _ {A V S D : Type 0} {gs : _} (p : Prunable A V (AppendFactory S) (PageBl
   has_met : (w : Wanted) (new : D) (result : Result Bool Error) → Has p dev a w result old new → dev.Tells → (e : Error) → result ≡ Err e
       → IsCauseAnywhere (filing_by p a) (held_by p a) (Some (has_command w)) (disk (dev.time old)) (disk (dev.time new)) e
   has_met (wanted.Index i) new result has t e is = absurd (cc (is, (has.asks.by_index i refl).0))
-  has_met (wanted.Key k) new result has t e is = met (HasKey k) tt (wanted.Key k) new t e (subst (λ r. HasEnds p dev a (wanted.Key k) r old new) is has.ends)
+  has_met (wanted.Key k) new result has t e is = record_anywhere t (HasKey k) (disk (dev.time new)) (dev.faults old) (dev.faults new) e (subst (λ r. HasEnds p dev a r old new) is has.ends)
 
   pub has_answers : (w : Wanted) (new : D) (result : Result Bool Error) → Has p dev a w result old new
       → Answers (openable_serving p setup valid) dev (Open a) (has_command w) (outcome (λ b. (Open a, reply.Flag b)) result) old new
@@ -225,7 +242,7 @@ module _ {A V S D : Type 0} {gs : _} (p : Prunable A V (AppendFactory S) (PageBl
   pub has_at_answers : (i : ℕ) (k : List ℕ) (new : D) (result : Result Bool Error) → entries.HasAt p dev a i k result old new
       → Answers (openable_serving p setup valid) dev (Open a) (HasAt i k) (outcome (λ b. (Open a, reply.Flag b)) result) old new
   has_at_answers i k new result has = look_answers new (HasAt i k) (at_looks i k) (λ b. reply.Flag b) (λ t still. absurd (quiet_open still)) result has.asks
-      (λ t e is. met (HasAt i k) tt (wanted.Index i) new t e (subst (λ r. AtEnds p dev a i r old new) is has.ends))
+      (λ t e is. record_anywhere t (HasAt i k) (disk (dev.time new)) (dev.faults old) (dev.faults new) e (subst (λ r. HasEnds p dev a r old new) is has.ends))
 
   -- ---- what is asked of the indices
 

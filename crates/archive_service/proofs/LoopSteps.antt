@@ -6,8 +6,9 @@ use Rattle.blob_device.specs.declared.device.Device as device
 use Rattle.archives.specs.Changes.{Asked, Replied}
 use Rattle.archives.specs.declared.error.Error.{Error}
 use Rattle.archives.specs.declared.error.Error.TheVariants.{Mem}
-use Rattle.archive_service.specs.Kinds.{Answers, OpensStore, Serving}
-use Rattle.archive_service.specs.Serves.{ServesBy, ServesOne, end_of, marked, unmarked}
+use Rattle.archive_service.specs.StoreCalls.{Answers, OpensStore, Serving}
+use Rattle.archive_service.specs.Serves.{ServesBy}
+use Rattle.archive_service.specs.ServesOne.{ServesOne, end_of, marked, unmarked}
 use Rattle.archive_service.specs.declared.replies.End.TheVariants.{Failed}
 use Rattle.archive_service.proofs.ServingLoop.{SoFar, all_done, goes_wrong, so_far_start, unopened}
 

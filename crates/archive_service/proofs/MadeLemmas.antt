@@ -1,5 +1,5 @@
 -- The script that is generated, list behind list, and how its replies are counted, one by one.
-use Rattle.std.proofs.Common.{◌≡◌, ◌≢◌, ℕ, zero, suc, Bool, true, false, ◌+◌, ◌*◌, ◌%◌, ◌<◌, ◌≤◌, ◌^◌, inl, inr, List, [], ◌∷◌, ◌++◌, length, map, replicate, Option, Some, codes, eq-eqb, ne_eqb, refl, sym, ap, ◌∙◌, subst, append-nil, append_assoc, length-append, rules, arith}
+use Rattle.std.proofs.Common.{◌≡◌, ◌≢◌, ℕ, zero, suc, Bool, true, false, ◌+◌, ◌*◌, ◌%◌, ◌<◌, ◌≤◌, ◌^◌, List, [], ◌∷◌, ◌++◌, length, map, replicate, Option, Some, codes, eq-eqb, ne_eqb, refl, sym, ap, ◌∙◌, subst, append-nil, append_assoc, length-append, rules, arith}
 use Rattle.std.specs.Prelude.{if◌then◌else◌, ◌==◌}
 use Rattle.std.specs.Fmt.{decimal}
 use Rattle.std.specs.Int.{byte_at, bytes_high_first}
@@ -13,7 +13,8 @@ use Rattle.archives.specs.Replies as reply
 use Rattle.archives.specs.Replies.{Reply}
 use Rattle.archives.specs.declared.commands.Reply as answering
 use Rattle.archives.specs.declared.commands.Reply.TheVariants as answer
-use Rattle.archive_service.specs.Made.{AddsReply, AreCounted, AreUpTo, first_of, index_of_reply, last_of, made, made_key, made_puts, made_tests, made_value, range_count, summary_text, value_bytes, value_count, yes_count}
+use Rattle.archive_service.specs.Made.{first_of, last_of, made, made_key, made_puts, made_tests, made_value, summary_text}
+use Rattle.archive_service.specs.MadeCounts.{AddsReply, AreCounted, AreUpTo, index_of_reply, range_count, value_bytes, value_count, yes_count}
 use Rattle.archive_service.specs.Script.{AreBytes, CanBeSaid, IsIndex, IsKey, IsValue}
 use Rattle.archive_service.specs.Texts.{Spelled, number_text}
 use Rattle.archive_service.specs.declared.made.Counts.{Counts}
@@ -135,12 +136,12 @@ pub made_said : (max n : ℕ) → 16 ≤ max → n ≤ 2 ^ 32 → AllByRecursion
 made_said max n room few =
     let said = CanBeSaid max in
     let puts : AllByRecursion said (flat_map made_puts (range_with_len 0 n)) = all_made said made_puts 0 n (λ i lt.
-    (inr (inr (inr (omega (arith, lt, few), key_is i, value_is max i room))), if_there said ((i + 1) % 100 == 0) (Sync ∷ []) (inl tt, tt))) in
+    ((omega (arith, lt, few), key_is i, value_is max i room), if_there said ((i + 1) % 100 == 0) (Sync ∷ []) (tt, tt))) in
     let gets : AllByRecursion said (map (λ i. Get (2 * i)) (range_with_len 0 n)) =
-    subst (AllByRecursion said) (flat_map_single (λ (i : ℕ). Get (2 * i)) (range_with_len 0 n)) (all_made said (λ i. Get (2 * i) ∷ []) 0 n (λ i lt. (inr (inl (omega (arith, lt, few))), tt))) in
+    subst (AllByRecursion said) (flat_map_single (λ (i : ℕ). Get (2 * i)) (range_with_len 0 n)) (all_made said (λ i. Get (2 * i) ∷ []) 0 n (λ i lt. (omega (arith, lt, few), tt))) in
     let tests : AllByRecursion said (flat_map made_tests (range_with_len 0 n)) =
-    all_made said made_tests 0 n (λ i lt. if_there said (i % 1000 == 0) (HasKey (made_key i) ∷ []) (inr (inl (key_is i)), tt)) in
-    all_append said _ _ (all_append said _ _ (all_append said _ _ (all_append said _ _ puts (inl tt, (inl tt, tt))) gets) tests) (inl tt, (inl tt, (inl tt, tt)))
+    all_made said made_tests 0 n (λ i lt. if_there said (i % 1000 == 0) (HasKey (made_key i) ∷ []) (key_is i, tt)) in
+    all_append said _ _ (all_append said _ _ (all_append said _ _ (all_append said _ _ puts (tt, (tt, tt))) gets) tests) (tt, (tt, (tt, tt)))
 
 -- ---- its replies
 

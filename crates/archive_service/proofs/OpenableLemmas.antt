@@ -1,6 +1,6 @@
 -- What the removal of an archive promises, and what a removed one answers, in the terms of a store that serves commands.
 use Rattle.std.specs.Prelude.{⊤, IsTrue}
-use Rattle.std.proofs.Common.{◌≡◌, ◌⊎◌, inl, inr, refl, sym, ◌∙◌, ap, subst, ℕ, ◌<◌, length, true, false, List, [], None, Some, IsSomeAnd, Result, Ok, Err}
+use Rattle.std.proofs.Common.{◌≡◌, ◌⊎◌, inl, inr, refl, sym, ◌∙◌, ap, subst, ℕ, ◌<◌, length, true, false, List, [], Option, None, Some, IsSomeAnd, Result, Ok, Err}
 use Rattle.blob_device.specs.Disk.{Disk}
 use Rattle.blob_device.specs.Footprint.{NoBound}
 use Rattle.blob_device.specs.Timeline.{disk}
@@ -25,8 +25,9 @@ use Rattle.archives.specs.Syncing.{IsMovingBy, IsMovingIn}
 use Rattle.archives.specs.declared.commands.Command as asking
 use Rattle.archives.specs.declared.error.Error.{Error}
 use Rattle.archives.specs.declared.error.Error.TheVariants.{Journal, Mem, Metadata}
-use Rattle.archive_service.specs.Causes.{Held, IfFree, InAnyCase, IsCause, IsCauseAnywhere, MustMove, MustMoveHeld, Nothing, PutOf, PutsBy, Stages, added_by, adds_to, bytes_with, put_of, rows_with, with_put_of}
-use Rattle.archive_service.specs.Kinds.{AnswerEnds, Answers}
+use Rattle.archive_service.specs.Causes.{Held, IsCause, IsCauseAnywhere, MustMove, MustMoveHeld, PutsBy, Stages, added_by, adds_to, bytes_with, rows_then, rows_with, with_put_of}
+use Rattle.archive_service.specs.Families.{IfFree, InAnyCase, PutOf, family_of, put_of}
+use Rattle.archive_service.specs.StoreCalls.{AnswerEnds, Answers}
 use Rattle.archive_service.specs.PrunableKind.{HoldsPut, HoldsPutAndSynced, HoldsSynced, Learns}
 use Rattle.archive_service.specs.PrunableStore.{closed_held, closed_state, held_by, openable_serving}
 use Rattle.archive_service.specs.declared.store.openable.Openable.{Openable}
@@ -136,17 +137,17 @@ module _ {A V S D : Type 0} {gs : _} (p : Prunable A V (AppendFactory S) (PageBl
   closed_step c never = refl
 
   -- nothing is added to it, and it moves no marker
-  adds_none : (put : PutOf) (P : Entry (List ℕ) → Type 0) → IsSomeAnd (added_by setup.filing stays put) P → ⊥
-  adds_none Nothing P adds = adds
-  adds_none (IfFree r) P adds = adds
-  adds_none (InAnyCase r) P adds = adds
+  adds_none : (put : Option PutOf) (P : Entry (List ℕ) → Type 0) → IsSomeAnd put (λ x. IsSomeAnd (added_by setup.filing stays x) P) → ⊥
+  adds_none None P adds = adds
+  adds_none (Some (IfFree r)) P adds = adds
+  adds_none (Some (InAnyCase r)) P adds = adds
 
-  holds_none : (put : PutOf) (P : Entry (List ℕ) → Type 0) → PutsBy setup.filing keeps put P → ⊥
-  holds_none Nothing P puts = puts
-  holds_none (IfFree r) P puts = (let free = puts.0 in cc free)
-  holds_none (InAnyCase r) P puts = (let free = puts.0 in cc free)
+  holds_none : (put : Option PutOf) (P : Entry (List ℕ) → Type 0) → IsSomeAnd put (λ x. PutsBy setup.filing keeps x P) → ⊥
+  holds_none None P puts = puts
+  holds_none (Some (IfFree r)) P puts = (let free = puts.0 in cc free)
+  holds_none (Some (InAnyCase r)) P puts = (let free = puts.0 in cc free)
 
-  moves_none : (Moves : PutOf → Type 0) (Raises : ℕ → Type 0) (c : Asked) → (c ≡ Reopen → ⊥) → Stages setup.filing (λ put. IsTrue false × Moves put) (λ bound. IsTrue false × Raises bound) at c → ⊥
+  moves_none : (Moves : Option PutOf → Type 0) (Raises : ℕ → Type 0) (c : Asked) → (c ≡ Reopen → ⊥) → Stages setup.filing (λ put. IsTrue false × Moves put) (λ bound. IsTrue false × Raises bound) at (family_of c) → ⊥
   moves_none Moves Raises Reopen never stages = never refl
   moves_none Moves Raises (PutSync i k v) never stages = (let is = stages.0 in cc is)
   moves_none Moves Raises (PutStart i k v) never stages = (let is = stages.0 in cc is)
@@ -161,7 +162,7 @@ module _ {A V S D : Type 0} {gs : _} (p : Prunable A V (AppendFactory S) (PageBl
   state_moves = moves_none (λ put. IsMovingIn setup.filing at (with_put_of setup.filing stays put)) (λ bound. floor < section_of setup.filing.items bound)
 
   held_moves : (c : Asked) → (c ≡ Reopen → ⊥) → MustMoveHeld setup.filing keeps at (Some c) → ⊥
-  held_moves = moves_none (λ put. IsMovingBy setup.filing at (λ s. length (rows_with setup.filing keeps put s)) keeps.synced) (λ bound. floor < section_of setup.filing.items bound)
+  held_moves = moves_none (λ put. IsMovingBy setup.filing at (λ s. rows_then setup.filing keeps put s) keeps.synced) (λ bound. floor < section_of setup.filing.items bound)
 
   -- what it knows of itself stays
   same_put : (put : PutOf) → HoldsPut setup.filing setup.write_buffer setup.value_buffer keeps put keeps
@@ -175,17 +176,14 @@ module _ {A V S D : Type 0} {gs : _} (p : Prunable A V (AppendFactory S) (PageBl
   }
     where
       kept_rows : (x : PutOf) (s : ℕ) → [] ≡ rows_with setup.filing keeps x s
-      kept_rows Nothing s = refl
       kept_rows (IfFree r) s = refl
       kept_rows (InAnyCase r) s = refl
 
       kept_bytes : (x : PutOf) (s : ℕ) → 0 ≡ bytes_with setup.filing keeps x s
-      kept_bytes Nothing s = refl
       kept_bytes (IfFree r) s = refl
       kept_bytes (InAnyCase r) s = refl
 
       never_adds : (x : PutOf) (s : ℕ) → adds_to setup.filing keeps x s ≡ true → ⊥
-      never_adds Nothing s is = cc is
       never_adds (IfFree r) s is = cc is
       never_adds (InAnyCase r) s is = cc is
 
@@ -200,14 +198,14 @@ module _ {A V S D : Type 0} {gs : _} (p : Prunable A V (AppendFactory S) (PageBl
   same_both : (put : PutOf) → HoldsPutAndSynced setup.filing setup.write_buffer setup.value_buffer keeps put keeps
   same_both put = record { between = keeps; holds_put = same_put put; synced = same_synced }
 
-  same_known : (c : Asked) → (c ≡ Reopen → ⊥) → (from to : Disk) → Learns setup.filing setup.write_buffer setup.value_buffer keeps c from to keeps
+  same_known : (c : Asked) → (c ≡ Reopen → ⊥) → (from to : Disk) → Learns setup.filing setup.write_buffer setup.value_buffer keeps (family_of c) from to keeps
   same_known Reopen never _ _ = absurd (never refl)
-  same_known (Put i k v) never _ _ = same_put (put_of (Put i k v))
-  same_known (Multi i k v) never _ _ = same_put (put_of (Multi i k v))
-  same_known (PutSync i k v) never _ _ = same_both (put_of (PutSync i k v))
-  same_known (PutStart i k v) never _ _ = same_both (put_of (PutStart i k v))
-  same_known (MultiSync i k v) never _ _ = same_both (put_of (MultiSync i k v))
-  same_known (MultiStart i k v) never _ _ = same_both (put_of (MultiStart i k v))
+  same_known (Put i k v) never _ _ = same_put _
+  same_known (Multi i k v) never _ _ = same_put _
+  same_known (PutSync i k v) never _ _ = same_both _
+  same_known (PutStart i k v) never _ _ = same_both _
+  same_known (MultiSync i k v) never _ _ = same_both _
+  same_known (MultiStart i k v) never _ _ = same_both _
   same_known Sync never _ _ = same_synced
   same_known Start never _ _ = same_synced
   same_known (Prune bound) never _ _ = record {

@@ -35,10 +35,10 @@ use Rattle.archives.specs.Rows.{row_in}
 use Rattle.archives.specs.Standing.{IsStart, Leaves}
 use Rattle.archives.specs.declared.error.Error.{Error}
 use Rattle.archives.specs.declared.error.Error.TheVariants.{Full, Journal, Mem, Metadata, RecordCorrupted}
-use Rattle.archives.proofs.InitRecords.{one_markers}
+use Rattle.archives.proofs.init.Records.{one_markers}
 use Rattle.archives.proofs.Reopening.{none_beyond}
 use Rattle.archive_service.specs.Causes.{HasLongBlob, Held, IsCause, IsCauseAnywhere, IsOpening, IsUnfit, MustMoveHeld, MustMoveNow, MustRefuseAnywhere, holding_nothing}
-use Rattle.archive_service.specs.Kinds.{AnswerEnds, Answers, OpeningEnds, OpensStore}
+use Rattle.archive_service.specs.StoreCalls.{AnswerEnds, Answers, OpeningEnds, OpensStore}
 use Rattle.archive_service.specs.PrunableKind.{IsFound, IsQuiet}
 use Rattle.archive_service.specs.PrunableStore.{IsSoundOpenable, IsUsableStore, held_by, openable_held, openable_serving, openable_state}
 use Rattle.archive_service.specs.Starts.{start_of, starts}

@@ -5,12 +5,13 @@ use Rattle.blob_device.specs.Disk.{Disk}
 use Rattle.blob_device.specs.Timeline.{disk}
 use Rattle.blob_device.specs.declared.device.Device as device
 use Rattle.blob_device.specs.declared.runtime.RError.TheVariants as runtime
+use Rattle.meta_store.specs.Store.{contents_of}
 use Rattle.meta_store.specs.declared.error.Error.TheVariants as metadata
 use Rattle.segments.specs.Tails.{tail_held}
 use Rattle.segments.specs.declared.journal.Error.TheVariants as journal
 use Rattle.segments.specs.declared.sealed.AppendFactory.{AppendFactory}
 use Rattle.sealed_pages.specs.declared.page_blob.PageBlob.{PageBlob}
-use Rattle.paired.specs.GlobSections as glob
+use Rattle.paired.specs.glob.Sections as glob
 use Rattle.paired.specs.Kept.{IsMarked, Markers}
 use Rattle.archives.specs.Archives.{IsArchive}
 use Rattle.archives.specs.Changes.{outcome}
@@ -26,9 +27,9 @@ use Rattle.archives.specs.Replies as reply
 use Rattle.archives.specs.declared.error.Error.{Error}
 use Rattle.archives.specs.declared.error.Error.TheVariants.{Full, Journal, Mem, Metadata}
 use Rattle.archives.proofs.OutlastsLemmas.{markers_are, markers_held}
-use Rattle.archives.proofs.PutSync.{filing_then}
+use Rattle.archives.proofs.put.Sync.{filing_then}
 use Rattle.archive_service.specs.Causes.{IsCause, IsCauseAnywhere, IsRaisedTo}
-use Rattle.archive_service.specs.Kinds.{AnswerEnds, Answers}
+use Rattle.archive_service.specs.StoreCalls.{AnswerEnds, Answers}
 use Rattle.archive_service.specs.PrunableKind.{HoldsPruned}
 use Rattle.archive_service.specs.PrunableStore.{IsUsableStore, held_by, openable_serving}
 use Rattle.archive_service.specs.declared.store.openable.Openable.TheVariants.{Open}
@@ -106,13 +107,13 @@ module _ {A V S D : Type 0} {gs : _} (p : Prunable A V (AppendFactory S) (PageBl
   module _ (t : dev.Tells) where
     -- Over the disk, as in the archive, a section below the bound has a marker.
     abbrev HasLow : Type 0
-    HasLow = OfMarkers filing from (λ markers. (s m : ℕ) × IsMarked markers s m × (s < start))
+    HasLow = OfMarkers filing from (λ markers. (s m : ℕ) × IsMarked markers.entries s m × (s < start))
 
     drops_there : IsDropping (p.see a) bound → IsRaisedTo (p.see a).items true (p.see a).floor bound × HasLow
     drops_there dropping = (
       (refl, dropping.0),
       (
-        (p.see a).pair.store.entries,
+        contents_of (p.see a).pair.store,
         markers_held filing.layout (p.see a).pair.store from given.partition (given.usable.usable.pair.disk t).markers,
         (let (s, m, below, marked) = dropping.1 in (s, m, marked, below)),
       ),
@@ -120,8 +121,8 @@ module _ {A V S D : Type 0} {gs : _} (p : Prunable A V (AppendFactory S) (PageBl
 
     there_drops : IsRaisedTo (p.see a).items true (p.see a).floor bound × HasLow → IsDropping (p.see a) bound
     there_drops (raised, (markers, held, (s, m, marked, below))) =
-        let same : markers ≡ (p.see a).pair.store.entries = markers_are filing.layout (p.see a).pair.store from given.partition (given.usable.usable.pair.disk t).markers given.readable markers held in
-        (raised.1, (s, m, below, subst (λ (x : Markers). IsMarked x s m) same marked))
+        let same : markers ≡ contents_of (p.see a).pair.store = markers_are filing.layout (p.see a).pair.store from given.partition (given.usable.usable.pair.disk t).markers given.readable markers held in
+        (raised.1, (s, m, below, subst (λ (x : Markers). IsMarked x.entries s m) same marked))
 
     -- ---- why it failed
 

@@ -21,9 +21,10 @@ use Rattle.archives.specs.Putting.{IsWrittenAfter, Often, Once, Times, frame_siz
 use Rattle.archives.specs.Replies as reply
 use Rattle.archives.specs.declared.error.Error.{Error}
 use Rattle.archives.specs.declared.error.Error.TheVariants.{Full, Journal, Mem}
-use Rattle.archives.proofs.PutSync.{filing_then}
-use Rattle.archive_service.specs.Causes.{Held, IsCause, IsCauseAnywhere, IsPastAll, IsPastSizeAlone, IsRefusedAsFull, IsRefusedAsTooLarge, IsSurelyFull, MustMove, MustMoveHeld, PutOf}
-use Rattle.archive_service.specs.Kinds.{AnswerEnds, Answers}
+use Rattle.archives.proofs.put.Sync.{filing_then}
+use Rattle.archive_service.specs.Causes.{Held, IsCause, IsCauseAnywhere, IsPastAll, IsPastSizeAlone, IsRefusedAsFull, IsRefusedAsTooLarge, IsSurelyFull, MustMove, MustMoveHeld}
+use Rattle.archive_service.specs.Families.{PutOf, family_of}
+use Rattle.archive_service.specs.StoreCalls.{AnswerEnds, Answers}
 use Rattle.archive_service.specs.PrunableKind.{AreTailsWith, HoldsPut, IsBuffered, IsQuiet, Learns, MayChange}
 use Rattle.archive_service.specs.PrunableStore.{IsUsableStore, held_by, openable_serving}
 use Rattle.archive_service.specs.declared.store.openable.Openable.TheVariants.{Open}
@@ -170,11 +171,11 @@ module _ {A V S D : Type 0} {gs : _} (p : Prunable A V (AppendFactory S) (PageBl
   -- A command that puts the record, and does nothing else.
   record PutsAlone (c : Asked) : Type 1 where
     pub it : PutsIt p setup valid dev a old given times i k v c
-    pub changes : (q : Key) → IsBlobAt filing i q → MayChange filing setup.write_buffer setup.value_buffer c q
+    pub changes : (q : Key) → IsBlobAt filing i q → MayChange filing setup.write_buffer setup.value_buffer (family_of c) q
     pub still : IsQuiet filing setup.write_buffer setup.value_buffer (held_by p a) c → IsBuffered filing setup.write_buffer setup.value_buffer (held_by p a) put
     pub moves : MustMove filing was from c → ⊥
     pub moves_held : MustMoveHeld filing (held_by p a) from (Some c) → ⊥
-    pub learns : (to : Disk) (next : Held) → HoldsPut filing setup.write_buffer setup.value_buffer (held_by p a) put next → Learns filing setup.write_buffer setup.value_buffer (held_by p a) c from to next
+    pub learns : (to : Disk) (next : Held) → HoldsPut filing setup.write_buffer setup.value_buffer (held_by p a) put next → Learns filing setup.write_buffer setup.value_buffer (held_by p a) (family_of c) from to next
 
   module _ (acts : PutsAlone (put_command times i k v)) (new : D) where
     put_ends : (result : Result A Error) → Puts p dev times a i k v result old new → AnswerEnds (serving_by p setup valid dev filing) dev (Open a) (put_command times i k v) (outcome (λ r. (Open r, reply.Done)) result) old new

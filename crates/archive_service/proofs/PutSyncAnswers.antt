@@ -25,8 +25,9 @@ use Rattle.archives.specs.Syncing.{IsMovingBy, IsMovingIn}
 use Rattle.archives.specs.Syncs.{IsPutSyncCause, PutSynced, PutSyncs, PutThenSync, put, refused}
 use Rattle.archives.specs.declared.error.Error.{Error}
 use Rattle.archives.specs.declared.error.Error.TheVariants.{Full, Journal, Mem, Metadata}
-use Rattle.archive_service.specs.Causes.{Held, IsCause, IsCauseAnywhere, IsPastAll, IsPastSizeAlone, IsRefusedAsFull, IsRefusedAsTooLarge, IsSurelyFull, MustMove, MustMoveHeld, MustRefuse, MustRefuseAnywhere, PutOf, RefusesAnywhere, RefusesPut, put_of, rows_with}
-use Rattle.archive_service.specs.Kinds.{AnswerEnds, Answers}
+use Rattle.archive_service.specs.Causes.{Held, IsCause, IsCauseAnywhere, IsPastAll, IsPastSizeAlone, IsRefusedAsFull, IsRefusedAsTooLarge, IsSurelyFull, MustMove, MustMoveHeld, MustRefuse, MustRefuseAnywhere, RefusesAnywhere, RefusesPut, rows_with}
+use Rattle.archive_service.specs.Families.{PutOf, family_of, put_of}
+use Rattle.archive_service.specs.StoreCalls.{AnswerEnds, Answers}
 use Rattle.archive_service.specs.PrunableKind.{ClearsOpen, HoldsPutAndSynced, IsQuiet, Learns, MayChange}
 use Rattle.archive_service.specs.PrunableStore.{IsUsableStore, held_by, openable_serving}
 use Rattle.archive_service.specs.declared.store.openable.Openable.TheVariants.{Open}
@@ -144,23 +145,23 @@ module _ {A V S D : Type 0} {gs : _} (p : Prunable A V (AppendFactory S) (PageBl
   record PutsAndSyncs (c : Asked) : Type 1 where
     pub it : PutsIt p setup valid dev a old given times i k v c
     pub is : (c ≡ put_sync_command times i k v) ⊎ (c ≡ put_start_command times i k v)
-    pub changes : (q : Key) → IsOwn filing.layout (λ _. ⊤) q → MayChange filing setup.write_buffer setup.value_buffer c q
+    pub changes : (q : Key) → IsOwn filing.layout (λ _. ⊤) q → MayChange filing setup.write_buffer setup.value_buffer (family_of c) q
     pub moves : Moves → MustMove filing was from c
     pub moved : MustMove filing was from c → Moves
     pub moves_held : MovesHeld → MustMoveHeld filing (held_by p a) from (Some c)
     pub moved_held : MustMoveHeld filing (held_by p a) from (Some c) → MovesHeld
     pub loud : IsQuiet filing setup.write_buffer setup.value_buffer (held_by p a) c → ⊥
     pub learns : (to : Disk) (next : Held) → HoldsPutAndSynced filing setup.write_buffer setup.value_buffer (held_by p a) putted next
-        → Learns filing setup.write_buffer setup.value_buffer (held_by p a) c from to next
+        → Learns filing setup.write_buffer setup.value_buffer (held_by p a) (family_of c) from to next
 
   -- So it is where the command puts the record, and what it changes, moves, tells and learns is what these two do.
-  acting : (c : Asked) → put_of c ≡ putted → (c ≡ Reopen → ⊥) → ((q : Key) → ClearsOpen filing setup.write_buffer setup.value_buffer c q → ⊥)
+  acting : (c : Asked) → put_of c ≡ Some putted → (c ≡ Reopen → ⊥) → ((q : Key) → ClearsOpen filing setup.write_buffer setup.value_buffer (family_of c) q → ⊥)
       → (c ≡ put_sync_command times i k v) ⊎ (c ≡ put_start_command times i k v)
-      → ((q : Key) → IsOwn filing.layout (λ _. ⊤) q → MayChange filing setup.write_buffer setup.value_buffer c q)
+      → ((q : Key) → IsOwn filing.layout (λ _. ⊤) q → MayChange filing setup.write_buffer setup.value_buffer (family_of c) q)
       → (Moves ↔ MustMove filing was from c) → (MovesHeld ↔ MustMoveHeld filing (held_by p a) from (Some c))
       → (IsQuiet filing setup.write_buffer setup.value_buffer (held_by p a) c → ⊥)
       → ((to : Disk) (next : Held) → HoldsPutAndSynced filing setup.write_buffer setup.value_buffer (held_by p a) putted next
-      → Learns filing setup.write_buffer setup.value_buffer (held_by p a) c from to next)
+      → Learns filing setup.write_buffer setup.value_buffer (held_by p a) (family_of c) from to next)
       → PutsAndSyncs c
   acting c same never clears is changes moves held loud learns = record {
     it = puts_it p setup valid dev a old given times i k v c same never clears;

@@ -4,7 +4,8 @@ use Rattle.std.specs.Option.{option_map}
 use Rattle.std.specs.Fmt.{decimal}
 use Rattle.hex.specs.Hex.{encode_lower}
 use Rattle.archive_service.specs.Texts.{value_text}
-use Rattle.archive_service.specs.Script.{IsCount, IsCounted, IsIndex, IsKey, IsKeyed, IsReading, IsRecord, IsValue, Record, counted_text, keyed_text, record_text}
+use Rattle.archive_service.specs.Script.{IsCount, IsIndex, IsKey, IsValue}
+use Rattle.archive_service.specs.Reading.{IsCounted, IsKeyed, IsRecord, Record, IsReading, counted_text, keyed_text, record_text}
 use Rattle.archive_service.proofs.WordLemmas.{Lacks, cut_never, cut_once, decimal_lacks, encode_lacks}
 
 -- these words say no record

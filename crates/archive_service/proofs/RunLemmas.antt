@@ -26,7 +26,8 @@ use Rattle.archives.specs.Standing.{IsGoing, Leaves, StandsFor, submitted, with_
 use Rattle.archives.specs.declared.error.Error.{Error}
 use Rattle.archives.specs.declared.error.Error.TheVariants.{Full, Journal, Mem, Metadata}
 use Rattle.archives.proofs.MachineLaws.{IsEmptying, IsInOrder, step_keeps_order, step_keeps_synced}
-use Rattle.archive_service.specs.Causes.{Adds, IsCause, IsOpening, IsRefusedAsFull, IsRefusedAsTooLarge, MustMoveNow}
+use Rattle.archive_service.specs.Causes.{Adds, IsCause, IsOpening, IsRefusedAsFull, IsRefusedAsTooLarge, MustMoveNow, added_by}
+use Rattle.archive_service.specs.Families.{family_of, put_of}
 use Rattle.archive_service.specs.RunLaws.{HadToRefuse, HasSynced, IsNext, IsServed, IsSpared, IsSyncing, KeepsRecords, MayTake, RunLaws}
 use Rattle.archive_service.specs.Serves.{Begun, IfFailed, begin, disk_at, state_in, under_way}
 use Rattle.archive_service.specs.Starts.{start_of, starts}
@@ -35,7 +36,7 @@ use Rattle.archive_service.specs.declared.replies.End.TheVariants.{Done, Failed}
 
 -- ---- what a sync leaves synced
 
-synced_open : (items : ℕ) (old : State (List ℕ)) (command : Asked) (new : State (List ℕ)) → IsSyncing command → OpenStep items old command reply.Done new → (s : ℕ) → new.synced s ≡ length (new.lists s)
+synced_open : (items : ℕ) (old : State (List ℕ)) (command : Asked) (new : State (List ℕ)) → IsSyncing (family_of command) → OpenStep items old command reply.Done new → (s : ℕ) → new.synced s ≡ length (new.lists s)
 synced_open items old (PutSync i k v) new syncs step s = subst (λ (st : State (List ℕ)). st.synced s ≡ length (st.lists s)) (sym step) refl
 synced_open items old (PutStart i k v) new syncs step s = subst (λ (st : State (List ℕ)). st.synced s ≡ length (st.lists s)) (sym step) refl
 synced_open items old (MultiSync i k v) new syncs step s = subst (λ (st : State (List ℕ)). st.synced s ≡ length (st.lists s)) (sym step) refl
@@ -45,7 +46,7 @@ synced_open items old Start new syncs step s = subst (λ (st : State (List ℕ))
 synced_open items old Reopen new syncs step s = step.synced s
 synced_open items old command new syncs step s = absurd syncs
 
-synced_closed : (old : State (List ℕ)) (command : Asked) (new : State (List ℕ)) → IsSyncing command → ClosedStep old command reply.Done new → (s : ℕ) → new.synced s ≡ length (new.lists s)
+synced_closed : (old : State (List ℕ)) (command : Asked) (new : State (List ℕ)) → IsSyncing (family_of command) → ClosedStep old command reply.Done new → (s : ℕ) → new.synced s ≡ length (new.lists s)
 synced_closed old Reopen new syncs step s = step.synced s
 synced_closed old (PutSync i k v) new syncs step s = absurd step
 synced_closed old (PutStart i k v) new syncs step s = absurd step
@@ -55,7 +56,7 @@ synced_closed old Sync new syncs step s = absurd step
 synced_closed old Start new syncs step s = absurd step
 synced_closed old command new syncs step s = absurd syncs
 
-all_synced : (items : ℕ) (old : State (List ℕ)) (command : Asked) (new : State (List ℕ)) → IsSyncing command → Step items old command reply.Done new → (s : ℕ) → new.synced s ≡ length (new.lists s)
+all_synced : (items : ℕ) (old : State (List ℕ)) (command : Asked) (new : State (List ℕ)) → IsSyncing (family_of command) → Step items old command reply.Done new → (s : ℕ) → new.synced s ≡ length (new.lists s)
 all_synced items old command new syncs step s = go old.is_open step
   where
     go : (b : Bool) → MatchBool b (OpenStep items old command reply.Done new) (ClosedStep old command reply.Done new) → new.synced s ≡ length (new.lists s)
@@ -64,12 +65,12 @@ all_synced items old command new syncs step s = go old.is_open step
 
 -- ---- what takes a section away
 
-emptying_takes : (items : ℕ) (st : State (List ℕ)) (command : Asked) (s : ℕ) → IsEmptying items st command s → MayTake items command s
+emptying_takes : (items : ℕ) (st : State (List ℕ)) (command : Asked) (s : ℕ) → IsEmptying items st command s → MayTake items (family_of command) s
 emptying_takes items st (Prune bound) s emptying = emptying.1
 emptying_takes items st Destroy s emptying = tt
 emptying_takes items st command s emptying = absurd emptying
 
-going_takes : (items : ℕ) (st : State (List ℕ)) (command : Asked) (s : ℕ) → IsGoing items st (Some command) s → MayTake items command s
+going_takes : (items : ℕ) (st : State (List ℕ)) (command : Asked) (s : ℕ) → IsGoing items st (Some command) s → MayTake items (family_of command) s
 going_takes items st (Prune bound) s going = going.1
 going_takes items st Destroy s going = tt
 going_takes items st command s going = absurd going
@@ -136,7 +137,8 @@ some_weaker P Q weaker (Some x) has = weaker x has
 module _ (f : Filing) (st : State (List ℕ)) where
   adds_weaker : (P Q : Entry (List ℕ) → Type 0) → ((r : Entry (List ℕ)) → P r → Q r) → (u : Option Asked) → Adds f st u P → Adds f st u Q
   adds_weaker P Q weaker None adds = absurd adds
-  adds_weaker P Q weaker (Some command) adds = some_weaker P Q weaker _ adds
+  adds_weaker P Q weaker (Some command) adds =
+      some_weaker (λ put. IsSomeAnd (added_by f st put) P) (λ put. IsSomeAnd (added_by f st put) Q) (λ put. some_weaker P Q weaker (added_by f st put)) (put_of command) adds
 
   abbrev IsRefused : Entry (List ℕ) → Type 0
   IsRefused r = IsRefusedAsFull f st r ⊎ IsRefusedAsTooLarge f st r

@@ -4,7 +4,9 @@ use Rattle.std.specs.List.{AllByRecursion}
 use Rattle.std.specs.Option.{option_map}
 use Rattle.std.proofs.lemmas.List.{append-nil, append_assoc, length-append}
 use Rattle.archive_service.specs.Texts.{Spelled, line_of, script_text}
-use Rattle.archive_service.specs.Script.{BeginsBadly, CanBeSaid, GoodOrBad, IsCommandOf, IsFirstBad, IsFirstLine, OneFirstBad, OneScript, Spells}
+use Rattle.archive_service.specs.Script.{BeginsBadly, CanBeSaid, IsFirstBad, Spells}
+use Rattle.archive_service.specs.ReadingLaws.{GoodOrBad, OneFirstBad, OneScript}
+use Rattle.archive_service.specs.Reading.{IsCommandOf, IsFirstLine}
 use Rattle.archive_service.proofs.LineLemmas.{line_injective, line_lacks}
 use Rattle.archive_service.proofs.WordLemmas.{Lacks, cut_never, cut_once}
 

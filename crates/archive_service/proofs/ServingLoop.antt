@@ -14,8 +14,10 @@ use Rattle.archives.specs.Commands.{Reopen}
 use Rattle.archives.specs.Refusing.{IsFault}
 use Rattle.archives.specs.declared.error.Error.{Error}
 use Rattle.archives.specs.declared.error.Error.TheVariants.{Mem}
-use Rattle.archive_service.specs.Kinds.{Answers, IsSoundOver, Kind, MayUse, OpensStore, Serving, state_over}
-use Rattle.archive_service.specs.Serves.{OverAnyImage, ServesBy, ServesOne, marked, unmarked}
+use Rattle.archive_service.specs.Kinds.{Kind}
+use Rattle.archive_service.specs.StoreCalls.{Answers, IsSoundOver, MayUse, OpensStore, Serving, state_over}
+use Rattle.archive_service.specs.Serves.{OverAnyImage, ServesBy}
+use Rattle.archive_service.specs.ServesOne.{ServesOne, marked, unmarked}
 use Rattle.archive_service.specs.declared.replies.End.TheVariants.{Done, Failed}
 use Rattle.archive_service.proofs.Going.{Running, no_fault, runs_done, runs_failed, runs_unmarked, runs_unopened, running_push, running_start}
 use Rattle.archive_service.proofs.Looking.{Looking, looking_push, looking_start, anywhere_done, anywhere_failed, anywhere_unmarked, anywhere_unopened}
@@ -73,7 +75,7 @@ module _ {A V D : Type 0} (s : Serving A V) (dev : device.Ghosts D) where
     footprint = opens.footprint;
     anywhere = λ t. anywhere_unopened s.kind (dev.time old) (dev.time now) commands e (opens.footprint.alone t).kept (opens.ends.anywhere t s.kind.unknown);
     serves = λ t pending lawful.
-        let found = s.kind.starts (as_read (disk (dev.time old))) lawful in
+        let found = s.starts (as_read (disk (dev.time old))) lawful in
         runs_unopened s.kind (dev.time old) (dev.time now) commands found.0 (dev.faults old) (dev.faults now) e found.1
         (opens.moments t pending lawful found.0 found.1) (opens.ends.cause t pending lawful found.0 found.1) opens.ends.fault;
   }

@@ -15,14 +15,14 @@ use Rattle.sealed_pages.specs.declared.page_blob.PageBlob.{PageBlob}
 use Rattle.sealed_pages.specs.declared.write_blob.WriteBlob.{WriteBlob}
 use Rattle.segments.specs.FixedLists as fixed
 use Rattle.segments.specs.Tails.{tail_held}
-use Rattle.segments.specs.Unsealed.{count_of}
+use Rattle.segments.specs.unsealed.Buffer.{count_of}
 use Rattle.segments.specs.declared.buffer.SectionBuffer as buffer
 use Rattle.segments.specs.declared.sealed.AppendFactory.{AppendFactory}
-use Rattle.paired.specs.GlobSections as glob
+use Rattle.paired.specs.glob.Sections as glob
 use Rattle.paired.specs.Pair.{length_of, list_of, records_of}
 use Rattle.paired.specs.Records as stored
-use Rattle.paired.proofs.PairReads.{index_size}
-use Rattle.paired.proofs.ReconcileEntries.{markers_readable}
+use Rattle.paired.proofs.pair.Reads.{index_size}
+use Rattle.paired.proofs.reconcile.Entries.{markers_readable}
 use Rattle.paired.proofs.RecordLemmas.{length-records}
 use Rattle.archives.specs.Archives.{IsArchive, IsSoundArchive, filing_of, state_of}
 use Rattle.archives.specs.Changes.{Asked, Replied, outcome}
@@ -41,10 +41,12 @@ use Rattle.archives.specs.Syncing.{IsMovingBy, IsMovingIn}
 use Rattle.archives.specs.declared.error.Error.{Error}
 use Rattle.archives.specs.declared.prunable.Archive.{Archive}
 use Rattle.archives.specs.declared.prunable.config.Config.{Config}
-use Rattle.archives.proofs.PutLemmas.{whole_bytes}
-use Rattle.archive_service.specs.Causes.{Adds, Held, IfFree, InAnyCase, IsPastAll, IsPastSizeAlone, IsRefusedAsFull, IsRefusedAsTooLarge, IsSurelyFull, PassesNumbers, PutOf, PutsBy, PutsHere, added_by, adds_to, bytes_with, frame_by, put_of, rows_with}
-use Rattle.archive_service.specs.Kinds.{Answers, OpensStore, Serving}
+use Rattle.archives.proofs.put.Lemmas.{whole_bytes}
+use Rattle.archive_service.specs.Causes.{Adds, Held, IsPastAll, IsPastSizeAlone, IsRefusedAsFull, IsRefusedAsTooLarge, IsSurelyFull, PassesNumbers, PutsBy, PutsHere, added_by, adds_to, bytes_with, frame_by, rows_with}
+use Rattle.archive_service.specs.Families.{IfFree, InAnyCase, PutOf, family_of, put_of}
+use Rattle.archive_service.specs.StoreCalls.{Answers, OpensStore, Serving}
 use Rattle.archive_service.specs.PrunableKind.{Clears, ClearsOpen, FitsBuffers, IsBuffered, prunable_kind}
+use Rattle.archive_service.specs.Starts.{start_with}
 use Rattle.archive_service.specs.PrunableStore.{IsSoundOpenable, IsUsableOpenable, IsUsableStore, held_by, openable_held, openable_serving, openable_state}
 use Rattle.archive_service.specs.declared.store.openable.Openable.{Openable}
 use Rattle.archive_service.specs.declared.store.openable.Openable.TheVariants.{Open}
@@ -182,6 +184,7 @@ module _ {A V S D : Type 0} {gs : _} (p : Prunable A V (AppendFactory S) (PageBl
   abbrev pub serving_by : Filing → Serving (Openable A) V
   serving_by f = record {
     kind = prunable_kind f setup.write_buffer setup.value_buffer;
+    starts = start_with f;
     IsValid = valid;
     Accepts = setup.Allows;
     IsUsable = IsUsableOpenable p setup;
@@ -287,13 +290,13 @@ module _ {A V S D : Type 0} {gs : _} (p : Prunable A V (AppendFactory S) (PageBl
         pub clears : (q : Key) → Clears f setup.write_buffer setup.value_buffer known c q → ⊥
 
       -- it is one by what it puts
-      pub puts_it : (c : Asked) → put_of c ≡ putting times r → (c ≡ Reopen → ⊥) → ((q : Key) → ClearsOpen f setup.write_buffer setup.value_buffer c q → ⊥) → PutsIt c
+      pub puts_it : (c : Asked) → put_of c ≡ Some (putting times r) → (c ≡ Reopen → ⊥) → ((q : Key) → ClearsOpen f setup.write_buffer setup.value_buffer (family_of c) q → ⊥) → PutsIt c
       puts_it c same never clears = record {
         no_reopen = never;
-        adds = λ P adds. subst (λ (x : PutOf). IsSomeAnd (added_by f st x) P) (sym same) adds;
-        added = λ P adds. subst (λ (x : PutOf). IsSomeAnd (added_by f st x) P) same adds;
-        holds = λ P holds. subst (λ (x : PutOf). PutsBy f known x P) (sym same) holds;
-        held = λ P holds. subst (λ (x : PutOf). PutsBy f known x P) same holds;
+        adds = λ P adds. subst (λ (x : Option PutOf). IsSomeAnd x (λ put. IsSomeAnd (added_by f st put) P)) (sym same) adds;
+        added = λ P adds. subst (λ (x : Option PutOf). IsSomeAnd x (λ put. IsSomeAnd (added_by f st put) P)) same adds;
+        holds = λ P holds. subst (λ (x : Option PutOf). IsSomeAnd x (λ put. PutsBy f known put P)) (sym same) holds;
+        held = λ P holds. subst (λ (x : Option PutOf). IsSomeAnd x (λ put. PutsBy f known put P)) same holds;
         clears = λ q both. clears q both.1;
       }
 
@@ -498,9 +501,9 @@ module _ {A V S D : Type 0} {gs : _} (p : Prunable A V (AppendFactory S) (PageBl
 pub given_by : {T K V S W C D : Type 0} {translator word_eq word_hash key key_eq key_ord key_partial codec seal stored fixed stored_codec : _} (pages : buffer.Ghosts (PageBlob S seal))
     (sets : (u : PageBlob S seal) → pages.setting u ≡ record { page_size = u.page_size; capacity = u.capacity }) (dev : device.Ghosts D) (cfg : Config T C)
     (a : Archive T K V S W C translator word_eq word_hash key key_eq key_ord key_partial codec seal stored fixed stored_codec) (old : D)
-    → IsUsableStore (means pages) (setup_for key.SIZE seal codec translator.word_of cfg) a dev.Tells (dev.opened old) (disk (dev.time old))
+    → IsUsableStore (means pages) (setup_for key.SIZE seal codec translator.word_of word_eq.eq cfg) a dev.Tells (dev.opened old) (disk (dev.time old))
     → Outlasts (means pages) dev a old
-    → Given (means pages) (setup_for key.SIZE seal codec translator.word_of cfg) (IsValid cfg) dev a old
+    → Given (means pages) (setup_for key.SIZE seal codec translator.word_of word_eq.eq cfg) (IsValid cfg) dev a old
 given_by {seal = seal} pages sets dev cfg a old usable laws = record {
   usable = usable;
   laws = laws;

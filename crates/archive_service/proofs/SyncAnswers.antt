@@ -11,7 +11,7 @@ use Rattle.segments.specs.Tails.{tail_held}
 use Rattle.segments.specs.declared.journal.Error.TheVariants as journal
 use Rattle.segments.specs.declared.sealed.AppendFactory.{AppendFactory}
 use Rattle.sealed_pages.specs.declared.page_blob.PageBlob.{PageBlob}
-use Rattle.paired.specs.GlobSections as glob
+use Rattle.paired.specs.glob.Sections as glob
 use Rattle.paired.specs.Crashes.{IsOwn}
 use Rattle.paired.specs.Pair.{synced_length}
 use Rattle.archives.specs.Archives.{IsArchive}
@@ -26,9 +26,10 @@ use Rattle.archives.specs.Syncing.{IsMoving, IsMovingBy, IsMovingIn}
 use Rattle.archives.specs.Syncs.{IsSyncCause, Synced, Syncs}
 use Rattle.archives.specs.declared.error.Error.{Error}
 use Rattle.archives.specs.declared.error.Error.TheVariants.{Full, Journal, Mem, Metadata}
-use Rattle.archives.proofs.PutSync.{filing_then}
+use Rattle.archives.proofs.put.Sync.{filing_then}
 use Rattle.archive_service.specs.Causes.{Held, IsCause, IsCauseAnywhere, MustMove, MustMoveHeld, MustRefuse, MustRefuseAnywhere, RefusesAnywhere, RefusesPut}
-use Rattle.archive_service.specs.Kinds.{AnswerEnds, Answers}
+use Rattle.archive_service.specs.Families.{family_of}
+use Rattle.archive_service.specs.StoreCalls.{AnswerEnds, Answers}
 use Rattle.archive_service.specs.PrunableKind.{Clears, HoldsSynced, IsQuiet, Learns, MayChange}
 use Rattle.archive_service.specs.PrunableStore.{IsUsableStore, held_by, openable_serving}
 use Rattle.archive_service.specs.declared.store.openable.Openable.TheVariants.{Open}
@@ -126,7 +127,7 @@ module _ {A V S D : Type 0} {gs : _} (p : Prunable A V (AppendFactory S) (PageBl
 
   -- A command that syncs: it puts nothing, and has to move what a sync has to.
   record OnlySyncs (c : Asked) : Type 0 where
-    pub changes : (q : Key) → IsOwn (filing_by p a).layout (λ _. ⊤) q → MayChange (filing_by p a) setup.write_buffer setup.value_buffer c q
+    pub changes : (q : Key) → IsOwn (filing_by p a).layout (λ _. ⊤) q → MayChange (filing_by p a) setup.write_buffer setup.value_buffer (family_of c) q
     pub is : (c ≡ Sync) ⊎ (c ≡ Start)
     pub no_reopen : c ≡ Reopen → ⊥
     pub moves : IsMovingIn (filing_by p a) (disk (dev.time old)) (st p setup valid dev a old given) → MustMove (filing_by p a) (st p setup valid dev a old given) (disk (dev.time old)) c
@@ -139,7 +140,7 @@ module _ {A V S D : Type 0} {gs : _} (p : Prunable A V (AppendFactory S) (PageBl
     pub refuses : (e : Error) → RefusesPut (filing_by p a) (st p setup valid dev a old given) c e → ⊥
     pub refuses_held : (e : Error) → RefusesAnywhere (filing_by p a) (held_by p a) c e → ⊥
     pub learns : (to : Disk) (next : Held) → HoldsSynced (filing_by p a) setup.write_buffer setup.value_buffer (held_by p a) next
-        → Learns (filing_by p a) setup.write_buffer setup.value_buffer (held_by p a) c (disk (dev.time old)) to next
+        → Learns (filing_by p a) setup.write_buffer setup.value_buffer (held_by p a) (family_of c) (disk (dev.time old)) to next
 
   by_sync : OnlySyncs Sync
   by_sync = record { changes = λ q it. it; is = inl refl; no_reopen = λ is. cc is; moves = λ it. (refl, it); moves_held = λ it. (refl, it); clears = λ q both. both.1; loud = quiet_open; must = moving_only; must_held = moving_held_only Sync (λ is. cc is); refuses = λ e. no_refusal; refuses_held = λ e. no_refusal; learns = λ to next it. it }

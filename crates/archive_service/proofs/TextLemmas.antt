@@ -3,7 +3,8 @@ use Rattle.std.proofs.Common.{◌≡◌, ℕ, List, [], ◌∷◌, ◌++◌, Res
 use Rattle.std.specs.Fmt.{decimal}
 use Rattle.std.specs.Prelude.{IsErr}
 use Rattle.std.proofs.lemmas.List.{append-nil, append_assoc, flat_map_more}
-use Rattle.archive_service.specs.Texts.{Appends, run_text, words_text}
+use Rattle.archive_service.specs.Texts.{run_text, words_text}
+use Rattle.archive_service.specs.Writing.{Appends}
 
 -- what a call of a vector appends
 pub appends : {E : Type 0} (r : Result Unit E) (old new text : List ℕ) → new ≡ (if is_ok r then old ++ text else old) → Appends r old text new

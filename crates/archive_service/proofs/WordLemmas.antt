@@ -22,7 +22,8 @@ use Rattle.hex.specs.declared.error.FromHexError.{FromHexError}
 use Rattle.hex.proofs.HexLemmas.{decode_of-encode_lower, decode_sized-encode_lower, decode_sized-ok, decode_sized-twice, length-encode_with}
 use Rattle.value_codec.specs.declared.key.Key8.{Key8}
 use Rattle.archive_service.specs.Texts.{value_text}
-use Rattle.archive_service.specs.Script.{AreBytes, IsCount, IsIndex, IsKey, IsReading, IsValue}
+use Rattle.archive_service.specs.Script.{AreBytes, IsCount, IsIndex, IsKey, IsValue}
+use Rattle.archive_service.specs.Reading.{IsReading}
 use Rattle.archive_service.specs.Words.{IsDecimal, IsHexText, IsLowerDigit, IsValueText}
 
 -- a word that was compared

@@ -12,7 +12,7 @@ use Rattle.paired.specs.Kept.{IsMarked, content_at}
 use Rattle.paired.specs.Opening.{as_read}
 use Rattle.paired.specs.OpeningRefusing.{AreCounted}
 use Rattle.archives.specs.Changes.{Asked}
-use Rattle.archives.specs.Commands.{Put, PutSync, PutStart, Multi, MultiSync, MultiStart, Get, GetKey, All, Has, HasKey, HasAt, Gap, Missing, Ranges, RangesFrom, First, Last, Sync, Start, Prune, Reopen, Destroy}
+use Rattle.archives.specs.Commands.{Destroy, Reopen}
 use Rattle.archives.specs.Filing.{Filing}
 use Rattle.archives.specs.Machine.{Entry, State, after_multi, after_put, has_index, section_of}
 use Rattle.archives.specs.Opening.{HasNoVersion, HasStray, IsPastLimits, OfKept}
@@ -22,91 +22,9 @@ use Rattle.archives.specs.Rows.{HasRoom, Row}
 use Rattle.archives.specs.Syncing.{IsMovingBy, IsMovingIn}
 use Rattle.archives.specs.declared.error.Error.{Error}
 use Rattle.archives.specs.declared.error.Error.TheVariants.{Journal, Metadata, RecordCorrupted, Full, Mem}
+use Rattle.archive_service.specs.Families.{AsksHeld, AsksStored, Family, DestroysAll, IfFree, InAnyCase, OpensAnew, PrunesBelow, PutOf, PutsDurably, PutsRecord, SyncsAll, family_of, put_of}
 
--- ---- what a command is, by name
-
--- a command that asks, and changes nothing
-abbrev pub IsLookup : Asked → Type 0
-IsLookup (Get i) = ⊤
-IsLookup (GetKey k) = ⊤
-IsLookup (All i) = ⊤
-IsLookup (Has i) = ⊤
-IsLookup (HasKey k) = ⊤
-IsLookup (HasAt i k) = ⊤
-IsLookup (Gap i) = ⊤
-IsLookup (Missing i n) = ⊤
-IsLookup Ranges = ⊤
-IsLookup (RangesFrom i) = ⊤
-IsLookup First = ⊤
-IsLookup Last = ⊤
-IsLookup (Put i k v) = ⊥
-IsLookup (PutSync i k v) = ⊥
-IsLookup (PutStart i k v) = ⊥
-IsLookup (Multi i k v) = ⊥
-IsLookup (MultiSync i k v) = ⊥
-IsLookup (MultiStart i k v) = ⊥
-IsLookup Sync = ⊥
-IsLookup Start = ⊥
-IsLookup (Prune bound) = ⊥
-IsLookup Reopen = ⊥
-IsLookup Destroy = ⊥
-
--- A lookup that reads stored bytes. The others go by what is held in memory.
-abbrev pub ReadsBytes : Asked → Type 0
-ReadsBytes (Get i) = ⊤
-ReadsBytes (GetKey k) = ⊤
-ReadsBytes (All i) = ⊤
-ReadsBytes (HasKey k) = ⊤
-ReadsBytes (HasAt i k) = ⊤
-ReadsBytes (Has i) = ⊥
-ReadsBytes (Gap i) = ⊥
-ReadsBytes (Missing i n) = ⊥
-ReadsBytes Ranges = ⊥
-ReadsBytes (RangesFrom i) = ⊥
-ReadsBytes First = ⊥
-ReadsBytes Last = ⊥
-ReadsBytes (Put i k v) = ⊥
-ReadsBytes (PutSync i k v) = ⊥
-ReadsBytes (PutStart i k v) = ⊥
-ReadsBytes (Multi i k v) = ⊥
-ReadsBytes (MultiSync i k v) = ⊥
-ReadsBytes (MultiStart i k v) = ⊥
-ReadsBytes Sync = ⊥
-ReadsBytes Start = ⊥
-ReadsBytes (Prune bound) = ⊥
-ReadsBytes Reopen = ⊥
-ReadsBytes Destroy = ⊥
-
--- What a command puts: nothing, a record where its index is free, or a record in any case.
-pub data PutOf : Type 0 where
-  Nothing : PutOf
-  IfFree : Entry (List ℕ) → PutOf
-  InAnyCase : Entry (List ℕ) → PutOf
-
-abbrev pub put_of : Asked → PutOf
-put_of (Put i k v) = IfFree (record { index = i; key = k; value = v })
-put_of (PutSync i k v) = IfFree (record { index = i; key = k; value = v })
-put_of (PutStart i k v) = IfFree (record { index = i; key = k; value = v })
-put_of (Multi i k v) = InAnyCase (record { index = i; key = k; value = v })
-put_of (MultiSync i k v) = InAnyCase (record { index = i; key = k; value = v })
-put_of (MultiStart i k v) = InAnyCase (record { index = i; key = k; value = v })
-put_of (Get i) = Nothing
-put_of (GetKey k) = Nothing
-put_of (All i) = Nothing
-put_of (Has i) = Nothing
-put_of (HasKey k) = Nothing
-put_of (HasAt i k) = Nothing
-put_of (Gap i) = Nothing
-put_of (Missing i n) = Nothing
-put_of Ranges = Nothing
-put_of (RangesFrom i) = Nothing
-put_of First = Nothing
-put_of Last = Nothing
-put_of Sync = Nothing
-put_of Start = Nothing
-put_of (Prune bound) = Nothing
-put_of Reopen = Nothing
-put_of Destroy = Nothing
+-- ---- what is under way
 
 -- with none under way an archive is opened, as it is by a reopening
 abbrev pub IsOpening : Option Asked → Type 0
@@ -118,37 +36,22 @@ IsOpening (Some command) = command ≡ Reopen
 -- Over the disk, where `Moves` says that a sync behind what is put has to move a marker, and `Raises` that a
 -- prune up to a bound moves the floor: it then drops the markers below. A destroy stages nothing, since it
 -- removes the markers whole.
-module _ (f : Filing) (Moves : PutOf → Type 0) (Raises : ℕ → Type 0) (d : Disk) where
-  abbrev pub Stages : Asked → Type 0
-  Stages (PutSync i k v) = Moves (put_of (PutSync i k v))
-  Stages (PutStart i k v) = Moves (put_of (PutStart i k v))
-  Stages (MultiSync i k v) = Moves (put_of (MultiSync i k v))
-  Stages (MultiStart i k v) = Moves (put_of (MultiStart i k v))
-  Stages Sync = Moves Nothing
-  Stages Start = Moves Nothing
-  Stages Reopen = OfMarkers f d (HasToMove f d)
-  Stages (Prune bound) = Raises bound
-      × OfMarkers f d (λ markers. (s m : ℕ) × IsMarked markers s m × (s < section_of f.items bound))
-  Stages Destroy = ⊥
-  Stages (Put i k v) = ⊥
-  Stages (Multi i k v) = ⊥
-  Stages (Get i) = ⊥
-  Stages (GetKey k) = ⊥
-  Stages (All i) = ⊥
-  Stages (Has i) = ⊥
-  Stages (HasKey k) = ⊥
-  Stages (HasAt i k) = ⊥
-  Stages (Gap i) = ⊥
-  Stages (Missing i n) = ⊥
-  Stages Ranges = ⊥
-  Stages (RangesFrom i) = ⊥
-  Stages First = ⊥
-  Stages Last = ⊥
+module _ (f : Filing) (Moves : Option PutOf → Type 0) (Raises : ℕ → Type 0) (d : Disk) where
+  abbrev pub Stages : Family → Type 0
+  Stages (PutsDurably put) = Moves (Some put)
+  Stages SyncsAll = Moves None
+  Stages (PrunesBelow bound) = Raises bound
+      × OfMarkers f d (λ markers. (s m : ℕ) × IsMarked markers.entries s m × (s < section_of f.items bound))
+  Stages OpensAnew = OfMarkers f d (HasToMove f d)
+  Stages DestroysAll = ⊥
+  Stages (PutsRecord put) = ⊥
+  Stages AsksHeld = ⊥
+  Stages AsksStored = ⊥
 
   -- so does what is under way; an opening as a reopening does
   abbrev pub StagesNow : Option Asked → Type 0
-  StagesNow None = Stages Reopen
-  StagesNow (Some command) = Stages command
+  StagesNow None = Stages OpensAnew
+  StagesNow (Some command) = Stages (family_of command)
 
 -- ---- what a put finds
 
@@ -192,17 +95,13 @@ module _ (f : Filing) (st : State (List ℕ)) where
   -- The record that goes last in its section by the step of a put: none where the archive is closed, or its index is
   -- below the floor, nor, of a put that keeps one record at an index, where the index is taken.
   abbrev pub added_by : PutOf → Option (Entry (List ℕ))
-  added_by Nothing = None
   added_by (IfFree r) = if drops st.is_open st.floor r.index || has_index f.items st r.index then None else Some r
   added_by (InAnyCase r) = if drops st.is_open st.floor r.index then None else Some r
-
-  abbrev pub added : Asked → Option (Entry (List ℕ))
-  added command = added_by (put_of command)
 
   -- the record that the command under way adds, if it adds one, has P
   abbrev pub Adds : Option Asked → (Entry (List ℕ) → Type 0) → Type 0
   Adds None P = ⊥
-  Adds (Some command) P = IsSomeAnd (added command) P
+  Adds (Some command) P = IsSomeAnd (put_of command) (λ put. IsSomeAnd (added_by put) P)
 
   -- how many bytes the frames of a section's values have
   abbrev pub framed : ℕ → ℕ
@@ -216,21 +115,21 @@ module _ (f : Filing) (st : State (List ℕ)) where
   IsRefusedAsTooLarge r = IsLargeAlone f st.lists framed r
 
   -- the state with what is put; a closed one stays
-  abbrev pub with_put_of : PutOf → State (List ℕ)
-  with_put_of Nothing = st
-  with_put_of (IfFree r) = if st.is_open then after_put f.items r.index r.key r.value st else st
-  with_put_of (InAnyCase r) = if st.is_open then after_multi f.items r.index r.key r.value st else st
+  abbrev pub with_put_of : Option PutOf → State (List ℕ)
+  with_put_of None = st
+  with_put_of (Some (IfFree r)) = if st.is_open then after_put f.items r.index r.key r.value st else st
+  with_put_of (Some (InAnyCase r)) = if st.is_open then after_multi f.items r.index r.key r.value st else st
 
   -- Over the disk, the command has to move a marker, or what is under way has: the put has settled, if it is
   -- one. A closed archive moves none but by being opened.
-  abbrev pub Moves : Disk → PutOf → Type 0
+  abbrev pub Moves : Disk → Option PutOf → Type 0
   Moves d put = IsTrue st.is_open × IsMovingIn f d (with_put_of put)
-
-  abbrev pub MustMove : Disk → Asked → Type 0
-  MustMove d = Stages f (Moves d) (IsRaisedTo f.items st.is_open st.floor) d
 
   abbrev pub MustMoveNow : Disk → Option Asked → Type 0
   MustMoveNow d = StagesNow f (Moves d) (IsRaisedTo f.items st.is_open st.floor) d
+
+  abbrev pub MustMove : Disk → Asked → Type 0
+  MustMove d command = MustMoveNow d (Some command)
 
   -- What is under way has to call the markers: an opening reads them, a destroy removes them, and others move one.
   abbrev pub MustTouchMarkers : Disk → Option Asked → Type 0
@@ -301,21 +200,30 @@ holding_nothing = record {
   value_tail = λ s. 0;
 }
 
+-- A lookup that reads stored bytes. The others go by what is held in memory.
+abbrev pub ReadsBytes : Family → Type 0
+ReadsBytes AsksStored = ⊤
+ReadsBytes AsksHeld = ⊥
+ReadsBytes (PutsRecord put) = ⊥
+ReadsBytes (PutsDurably put) = ⊥
+ReadsBytes SyncsAll = ⊥
+ReadsBytes (PrunesBelow bound) = ⊥
+ReadsBytes OpensAnew = ⊥
+ReadsBytes DestroysAll = ⊥
+
 -- of an open archive a lookup that reads stored bytes is under way
 abbrev pub IsLooking : Held → Option Asked → Type 0
 IsLooking held None = ⊥
-IsLooking held (Some command) = IsTrue held.is_open × ReadsBytes command
+IsLooking held (Some command) = IsTrue held.is_open × ReadsBytes (family_of command)
 
--- the row of what is put, if anything is
+-- the row of what is put
 abbrev pub row_by : PutOf → List Row
-row_by Nothing = []
 row_by (IfFree r) = record { index = r.index; key = r.key } ∷ []
 row_by (InAnyCase r) = record { index = r.index; key = r.key } ∷ []
 
 module _ (f : Filing) where
   -- how many bytes its frame has
   abbrev pub frame_by : PutOf → ℕ
-  frame_by Nothing = 0
   frame_by (IfFree r) = frame_size f.layout r.value
   frame_by (InAnyCase r) = frame_size f.layout r.value
 
@@ -330,7 +238,6 @@ module _ (f : Filing) where
 
     -- a record is added to the section: that of the index, unless it is dropped, where the index is free or need not be
     abbrev pub adds_to : PutOf → ℕ → Bool
-    adds_to Nothing s = false
     adds_to (IfFree r) s = not (skips r.index || holds r.index) && (s == section_of f.items r.index)
     adds_to (InAnyCase r) s = not (skips r.index) && (s == section_of f.items r.index)
 
@@ -355,19 +262,23 @@ module _ (f : Filing) where
 
     -- something is put and not dropped, at an index that has to be free where it must be, and the record has P
     abbrev pub PutsBy : PutOf → (Entry (List ℕ) → Type 0) → Type 0
-    PutsBy Nothing P = ⊥
     PutsBy (IfFree r) P = ((skips r.index || holds r.index) ≡ false) × P r
     PutsBy (InAnyCase r) P = (skips r.index ≡ false) × P r
 
     abbrev pub PutsHere : Option Asked → (Entry (List ℕ) → Type 0) → Type 0
     PutsHere None P = ⊥
-    PutsHere (Some command) P = PutsBy (put_of command) P
+    PutsHere (Some command) P = IsSomeAnd (put_of command) (λ put. PutsBy put P)
+
+    -- how many rows the section then has, if anything is put
+    abbrev pub rows_then : Option PutOf → ℕ → ℕ
+    rows_then None s = length (held.rows s)
+    rows_then (Some put) s = length (rows_with put s)
 
     -- Over the disk, what is under way has to move a marker. It is an opening, or it syncs where a section with all
     -- its records synced has another marker.
     abbrev pub MustMoveHeld : Disk → Option Asked → Type 0
     MustMoveHeld d = StagesNow f
-        (λ put. IsTrue held.is_open × IsMovingBy f d (λ s. length (rows_with put s)) held.synced)
+        (λ put. IsTrue held.is_open × IsMovingBy f d (λ s. rows_then put s) held.synced)
         (IsRaisedTo f.items held.is_open held.floor) d
 
     -- What is under way has to call the markers: an opening reads them, a destroy removes them, and others move one.

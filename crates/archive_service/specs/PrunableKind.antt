@@ -6,73 +6,48 @@ use Rattle.paired.specs.Crashes.{IsBlobOf, IsOwn}
 use Rattle.paired.specs.Kept.{Markers, content_at}
 use Rattle.paired.specs.Opening.{as_read}
 use Rattle.archives.specs.Changes.{Asked}
-use Rattle.archives.specs.Commands.{Put, PutSync, PutStart, Multi, MultiSync, MultiStart, Get, GetKey, All, Has, HasKey, HasAt, Gap, Missing, Ranges, RangesFrom, First, Last, Sync, Start, Prune, Reopen, Destroy}
+use Rattle.archives.specs.Commands.{Reopen}
 use Rattle.archives.specs.Filing.{Filing, IsBlobAt, floor_of}
 use Rattle.archives.specs.Lawful.{Lawful}
-use Rattle.archives.specs.Machine.{State, Step, section_of}
+use Rattle.archives.specs.Machine.{State, Step, section_of, stored_floor}
 use Rattle.archives.specs.Opening.{OfKept}
 use Rattle.archives.specs.Opens.{OfMarkers}
 use Rattle.archives.specs.Rows.{row_in}
 use Rattle.archives.specs.Standing.{IsStart, Leaves}
-use Rattle.archive_service.specs.Causes.{Held, IsCause, IsCauseAnywhere, MustRefuse, MustRefuseAnywhere, PutOf, RefusesAnywhere, RefusesPut, adds_to, bytes_with, frame_by, holding_nothing, put_of, rows_with}
+use Rattle.archive_service.specs.Causes.{Held, IsCause, IsCauseAnywhere, MustRefuse, MustRefuseAnywhere, RefusesAnywhere, RefusesPut, adds_to, bytes_with, frame_by, holding_nothing, rows_with}
+use Rattle.archive_service.specs.Families.{AsksHeld, AsksStored, Family, DestroysAll, IfFree, InAnyCase, OpensAnew, PrunesBelow, PutOf, PutsDurably, PutsRecord, SyncsAll, family_of}
 use Rattle.archive_service.specs.Kinds.{Kind}
-use Rattle.archive_service.specs.Starts.{start_of, starts}
 
 -- The buffers of a section's records, and of its values, flush from so many bytes on.
 module _ (f : Filing) (write_buffer value_buffer : ℕ) where
+  -- both blobs of the section into which is put
+  abbrev pub IsBlobFor : PutOf → Key → Type 0
+  IsBlobFor (IfFree r) q = IsBlobAt f r.index q
+  IsBlobFor (InAnyCase r) q = IsBlobAt f r.index q
+
   -- the blobs that a command may change: none by a lookup; by a put that does not sync the two of its
   -- section; by a prune those of the sections below its bound and of the markers; else all of the archive
-  abbrev pub MayChange : Asked → Key → Type 0
-  MayChange (Get i) q = ⊥
-  MayChange (GetKey k) q = ⊥
-  MayChange (All i) q = ⊥
-  MayChange (Has i) q = ⊥
-  MayChange (HasKey k) q = ⊥
-  MayChange (HasAt i k) q = ⊥
-  MayChange (Gap i) q = ⊥
-  MayChange (Missing i n) q = ⊥
-  MayChange Ranges q = ⊥
-  MayChange (RangesFrom i) q = ⊥
-  MayChange First q = ⊥
-  MayChange Last q = ⊥
-  MayChange (Put i k v) q = IsBlobAt f i q
-  MayChange (Multi i k v) q = IsBlobAt f i q
-  MayChange (PutSync i k v) q = IsOwn f.layout (λ _. ⊤) q
-  MayChange (PutStart i k v) q = IsOwn f.layout (λ _. ⊤) q
-  MayChange (MultiSync i k v) q = IsOwn f.layout (λ _. ⊤) q
-  MayChange (MultiStart i k v) q = IsOwn f.layout (λ _. ⊤) q
-  MayChange Sync q = IsOwn f.layout (λ _. ⊤) q
-  MayChange Start q = IsOwn f.layout (λ _. ⊤) q
-  MayChange (Prune bound) q = IsOwn f.layout (λ s. s < section_of f.items bound) q
-  MayChange Reopen q = IsOwn f.layout (λ _. ⊤) q
-  MayChange Destroy q = IsOwn f.layout (λ _. ⊤) q
+  abbrev pub MayChange : Family → Key → Type 0
+  MayChange AsksHeld q = ⊥
+  MayChange AsksStored q = ⊥
+  MayChange (PutsRecord put) q = IsBlobFor put q
+  MayChange (PutsDurably put) q = IsOwn f.layout (λ _. ⊤) q
+  MayChange SyncsAll q = IsOwn f.layout (λ _. ⊤) q
+  MayChange (PrunesBelow bound) q = IsOwn f.layout (λ s. s < section_of f.items bound) q
+  MayChange OpensAnew q = IsOwn f.layout (λ _. ⊤) q
+  MayChange DestroysAll q = IsOwn f.layout (λ _. ⊤) q
 
   -- the blobs that are not there once the command got a reply: of an open archive, by a prune both of each
   -- section below its bound, and by a destroy all
-  abbrev pub ClearsOpen : Asked → Key → Type 0
-  ClearsOpen (Prune bound) q = IsBlobOf f.layout (λ s. s < section_of f.items bound) q
-  ClearsOpen Destroy q = IsOwn f.layout (λ _. ⊤) q
-  ClearsOpen (Get i) q = ⊥
-  ClearsOpen (GetKey k) q = ⊥
-  ClearsOpen (All i) q = ⊥
-  ClearsOpen (Has i) q = ⊥
-  ClearsOpen (HasKey k) q = ⊥
-  ClearsOpen (HasAt i k) q = ⊥
-  ClearsOpen (Gap i) q = ⊥
-  ClearsOpen (Missing i n) q = ⊥
-  ClearsOpen Ranges q = ⊥
-  ClearsOpen (RangesFrom i) q = ⊥
-  ClearsOpen First q = ⊥
-  ClearsOpen Last q = ⊥
-  ClearsOpen (Put i k v) q = ⊥
-  ClearsOpen (Multi i k v) q = ⊥
-  ClearsOpen (PutSync i k v) q = ⊥
-  ClearsOpen (PutStart i k v) q = ⊥
-  ClearsOpen (MultiSync i k v) q = ⊥
-  ClearsOpen (MultiStart i k v) q = ⊥
-  ClearsOpen Sync q = ⊥
-  ClearsOpen Start q = ⊥
-  ClearsOpen Reopen q = ⊥
+  abbrev pub ClearsOpen : Family → Key → Type 0
+  ClearsOpen (PrunesBelow bound) q = IsBlobOf f.layout (λ s. s < section_of f.items bound) q
+  ClearsOpen DestroysAll q = IsOwn f.layout (λ _. ⊤) q
+  ClearsOpen AsksHeld q = ⊥
+  ClearsOpen AsksStored q = ⊥
+  ClearsOpen (PutsRecord put) q = ⊥
+  ClearsOpen (PutsDurably put) q = ⊥
+  ClearsOpen SyncsAll q = ⊥
+  ClearsOpen OpensAnew q = ⊥
 
   -- ---- what an archive holds, over any image
 
@@ -89,8 +64,8 @@ module _ (f : Filing) (write_buffer value_buffer : ℕ) where
   pub record IsFound (from to : Disk) (held : Held) : Type 0 where
     -- it is open
     pub is_open : held.is_open ≡ true
-    -- its floor is that of the markers
-    pub floor : OfMarkers f from (λ markers. held.floor ≡ floor_of markers)
+    -- its floor is what is left of the one that stands with the markers: 0, whatever the copies name
+    pub floor : OfMarkers f from (λ markers. held.floor ≡ stored_floor (floor_of markers))
     -- a row for each record that the image keeps
     pub rows : OfKept f (as_read from) (λ entries. (s : ℕ) → s < 2 ^ 64
         → held.rows s ≡ map (λ e. row_in f.key_size e.stored) (entries s))
@@ -215,66 +190,36 @@ module _ (f : Filing) (write_buffer value_buffer : ℕ) where
     pub empty : (s : ℕ) → IsEmptyAt next s
 
   -- once a command got a reply
-  abbrev pub Learns : Held → Asked → Disk → Disk → Held → Type 0
-  Learns held (Put i k v) from to next = HoldsPut held (put_of (Put i k v)) next
-  Learns held (Multi i k v) from to next = HoldsPut held (put_of (Multi i k v)) next
-  Learns held (PutSync i k v) from to next = HoldsPutAndSynced held (put_of (PutSync i k v)) next
-  Learns held (PutStart i k v) from to next = HoldsPutAndSynced held (put_of (PutStart i k v)) next
-  Learns held (MultiSync i k v) from to next = HoldsPutAndSynced held (put_of (MultiSync i k v)) next
-  Learns held (MultiStart i k v) from to next = HoldsPutAndSynced held (put_of (MultiStart i k v)) next
-  Learns held Sync from to next = HoldsSynced held next
-  Learns held Start from to next = HoldsSynced held next
-  Learns held Reopen from to next = IsFound from to next
-  Learns held (Prune bound) from to next = HoldsPruned held bound next
-  Learns held Destroy from to next = IsDestroyed next
-  Learns held (Get i) from to next = next ≡ held
-  Learns held (GetKey k) from to next = next ≡ held
-  Learns held (All i) from to next = next ≡ held
-  Learns held (Has i) from to next = next ≡ held
-  Learns held (HasKey k) from to next = next ≡ held
-  Learns held (HasAt i k) from to next = next ≡ held
-  Learns held (Gap i) from to next = next ≡ held
-  Learns held (Missing i n) from to next = next ≡ held
-  Learns held Ranges from to next = next ≡ held
-  Learns held (RangesFrom i) from to next = next ≡ held
-  Learns held First from to next = next ≡ held
-  Learns held Last from to next = next ≡ held
+  abbrev pub Learns : Held → Family → Disk → Disk → Held → Type 0
+  Learns held (PutsRecord put) from to next = HoldsPut held put next
+  Learns held (PutsDurably put) from to next = HoldsPutAndSynced held put next
+  Learns held SyncsAll from to next = HoldsSynced held next
+  Learns held (PrunesBelow bound) from to next = HoldsPruned held bound next
+  Learns held OpensAnew from to next = IsFound from to next
+  Learns held DestroysAll from to next = IsDestroyed next
+  Learns held AsksHeld from to next = next ≡ held
+  Learns held AsksStored from to next = next ≡ held
 
   -- a closed one clears nothing away
   abbrev pub Clears : Held → Asked → Key → Type 0
-  Clears held command q = (held.is_open ≡ true) × ClearsOpen command q
+  Clears held command q = (held.is_open ≡ true) × ClearsOpen (family_of command) q
 
   -- commands to an open archive that make no call of the device: they are answered by what is held, or find
   -- nothing to do
-  abbrev pub IsQuietOpen : Held → Asked → Type 0
-  IsQuietOpen held (Put i k v) = IsBuffered held (put_of (Put i k v))
-  IsQuietOpen held (Multi i k v) = IsBuffered held (put_of (Multi i k v))
-  IsQuietOpen held (Has i) = ⊤
-  IsQuietOpen held (PutSync i k v) = ⊥
-  IsQuietOpen held (PutStart i k v) = ⊥
-  IsQuietOpen held (MultiSync i k v) = ⊥
-  IsQuietOpen held (MultiStart i k v) = ⊥
-  IsQuietOpen held (Get i) = ⊥
-  IsQuietOpen held (GetKey k) = ⊥
-  IsQuietOpen held (All i) = ⊥
-  IsQuietOpen held (HasKey k) = ⊥
-  IsQuietOpen held (HasAt i k) = ⊥
-  IsQuietOpen held (Gap i) = ⊤
-  IsQuietOpen held (Missing i n) = ⊤
-  IsQuietOpen held Ranges = ⊤
-  IsQuietOpen held (RangesFrom i) = ⊤
-  IsQuietOpen held First = ⊤
-  IsQuietOpen held Last = ⊤
-  IsQuietOpen held Sync = ⊥
-  IsQuietOpen held Start = ⊥
-  IsQuietOpen held (Prune bound) = section_of f.items bound ≤ held.floor
-  IsQuietOpen held Reopen = ⊥
-  IsQuietOpen held Destroy = ⊥
+  abbrev pub IsQuietOpen : Held → Family → Type 0
+  IsQuietOpen held AsksHeld = ⊤
+  IsQuietOpen held (PutsRecord put) = IsBuffered held put
+  IsQuietOpen held (PrunesBelow bound) = section_of f.items bound ≤ held.floor
+  IsQuietOpen held AsksStored = ⊥
+  IsQuietOpen held (PutsDurably put) = ⊥
+  IsQuietOpen held SyncsAll = ⊥
+  IsQuietOpen held OpensAnew = ⊥
+  IsQuietOpen held DestroysAll = ⊥
 
   -- so do all commands to a closed one, but the one that opens it
   abbrev pub IsQuiet : Held → Asked → Type 0
   IsQuiet held command =
-      ((held.is_open ≡ false) × (command ≡ Reopen → ⊥)) ⊎ IsQuietOpen held command
+      ((held.is_open ≡ false) × (command ≡ Reopen → ⊥)) ⊎ IsQuietOpen held (family_of command)
 
   -- ---- the kind
 
@@ -283,7 +228,6 @@ module _ (f : Filing) (write_buffer value_buffer : ℕ) where
     State = State (List ℕ);
     Lawful = λ image. (markers : Markers) × Lawful f image markers;
     IsStart = λ image st. (markers : Markers) × IsStart f image markers st;
-    starts = λ image lawful. (start_of f image lawful.0, (lawful.0, starts f image lawful.0 lawful.1));
     Step = Step f.items;
     Leaves = Leaves f;
     MustRefuse = λ st d. MustRefuse f st d;
@@ -292,12 +236,12 @@ module _ (f : Filing) (write_buffer value_buffer : ℕ) where
     Known = Held;
     unknown = holding_nothing;
     IsFound = IsFound;
-    Learns = Learns;
+    Learns = λ held command. Learns held (family_of command);
     Clears = Clears;
     IsCauseAnywhere = IsCauseAnywhere f;
     MustRefuseAnywhere = MustRefuseAnywhere f;
     RefusesAnywhere = RefusesAnywhere f;
     IsOwn = IsOwn f.layout (λ _. ⊤);
-    MayChange = MayChange;
+    MayChange = λ command. MayChange (family_of command);
     IsQuiet = IsQuiet;
   }

@@ -4,7 +4,7 @@ use Rattle.blob_device.specs.Disk.{Disk}
 use Rattle.blob_device.specs.Opened.{OpenedList}
 use Rattle.sealed_pages.specs.declared.page_blob.PageBlob.{PageBlob}
 use Rattle.segments.specs.declared.sealed.AppendFactory.{AppendFactory}
-use Rattle.paired.specs.GlobSections as glob
+use Rattle.paired.specs.glob.Sections as glob
 use Rattle.paired.specs.Opening.{MayBeOpened}
 use Rattle.paired.specs.Pair.{synced_length}
 use Rattle.archives.specs.Archives.{IsArchive, IsSoundArchive, state_of}
@@ -14,8 +14,9 @@ use Rattle.archives.specs.Prunable.{Prunable, Setup, filing_by, value_buffer_of,
 use Rattle.archives.specs.Putting.{record_tail, value_tail}
 use Rattle.archives.specs.Standing.{Leaves}
 use Rattle.archive_service.specs.Causes.{Held}
-use Rattle.archive_service.specs.Kinds.{Serving}
+use Rattle.archive_service.specs.StoreCalls.{Serving}
 use Rattle.archive_service.specs.PrunableKind.{prunable_kind}
+use Rattle.archive_service.specs.Starts.{start_with}
 use Rattle.archive_service.specs.declared.store.openable.Openable.{Openable}
 use Rattle.archive_service.specs.declared.store.openable.Openable.TheVariants.{Closed, Open}
 
@@ -94,6 +95,7 @@ module _ {A V S : Type 0} {gs : _} (p : Prunable A V (AppendFactory S) (PageBlob
     abbrev pub openable_serving : Type 0 → Serving (Openable A) V
     openable_serving valid = record {
       kind = prunable_kind setup.filing setup.write_buffer setup.value_buffer;
+      starts = start_with setup.filing;
       IsValid = valid;
       Accepts = setup.Allows;
       IsUsable = IsUsableOpenable;

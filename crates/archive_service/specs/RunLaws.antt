@@ -5,11 +5,9 @@ use Rattle.blob_device.specs.Counts.{Rose}
 use Rattle.blob_device.specs.Disk.{Disk, Image, IsCrashOf, NothingPending, settled_disk}
 use Rattle.blob_device.specs.Timeline.{Timeline, disk}
 use Rattle.paired.specs.Crashes.{NoChanceSeal}
-use Rattle.paired.specs.Kept.{Layout, Markers}
+use Rattle.paired.specs.Kept.{Markers}
 use Rattle.paired.specs.Opening.{HoldMarkers, as_read}
-use Rattle.paired.specs.OpeningRefusing.{AreCounted}
 use Rattle.archives.specs.Changes.{Asked, Replied}
-use Rattle.archives.specs.Commands.{Put, PutSync, PutStart, Multi, MultiSync, MultiStart, Get, GetKey, All, Has, HasKey, HasAt, Gap, Missing, Ranges, RangesFrom, First, Last, Sync, Start, Prune, Reopen, Destroy}
 use Rattle.archives.specs.Filing.{Filing, kept}
 use Rattle.archives.specs.Lawful.{Lawful}
 use Rattle.archives.specs.Machine.{State, section_of}
@@ -18,63 +16,35 @@ use Rattle.archives.specs.Replies as reply
 use Rattle.archives.specs.Standing.{IsStart, StandsFor}
 use Rattle.archives.specs.declared.error.Error.{Error}
 use Rattle.archives.specs.declared.error.Error.TheVariants.{Mem}
-use Rattle.archive_service.specs.Causes.{Adds, IsOpening, IsRefusedAsFull, IsRefusedAsTooLarge, MustMoveNow}
+use Rattle.archive_service.specs.Causes.{Adds, IsRefusedAsFull, IsRefusedAsTooLarge, MustMoveNow}
+use Rattle.archive_service.specs.Families.{AsksHeld, AsksStored, Family, DestroysAll, OpensAnew, PrunesBelow, PutsDurably, PutsRecord, SyncsAll, family_of}
 use Rattle.archive_service.specs.PrunableKind.{prunable_kind}
 use Rattle.archive_service.specs.Serves.{Serves, begin, disk_at, state_in, under_way}
 use Rattle.archive_service.specs.declared.replies.End.{End}
 use Rattle.archive_service.specs.declared.replies.End.TheVariants.{Failed}
+use Rattle.archive_service.specs.OpeningCounted.{AreCountedIfOpening}
 
 -- once it got its reply, all that the state then has is durable
-abbrev pub IsSyncing : Asked → Type 0
-IsSyncing (Put i k v) = ⊥
-IsSyncing (PutSync i k v) = ⊤
-IsSyncing (PutStart i k v) = ⊤
-IsSyncing (Multi i k v) = ⊥
-IsSyncing (MultiSync i k v) = ⊤
-IsSyncing (MultiStart i k v) = ⊤
-IsSyncing (Get i) = ⊥
-IsSyncing (GetKey k) = ⊥
-IsSyncing (All i) = ⊥
-IsSyncing (Has i) = ⊥
-IsSyncing (HasKey k) = ⊥
-IsSyncing (HasAt i k) = ⊥
-IsSyncing (Gap i) = ⊥
-IsSyncing (Missing i n) = ⊥
-IsSyncing Ranges = ⊥
-IsSyncing (RangesFrom i) = ⊥
-IsSyncing First = ⊥
-IsSyncing Last = ⊥
-IsSyncing Sync = ⊤
-IsSyncing Start = ⊤
-IsSyncing (Prune bound) = ⊥
-IsSyncing Reopen = ⊤
-IsSyncing Destroy = ⊥
+abbrev pub IsSyncing : Family → Type 0
+IsSyncing (PutsDurably put) = ⊤
+IsSyncing SyncsAll = ⊤
+IsSyncing OpensAnew = ⊤
+IsSyncing AsksHeld = ⊥
+IsSyncing AsksStored = ⊥
+IsSyncing (PutsRecord put) = ⊥
+IsSyncing (PrunesBelow bound) = ⊥
+IsSyncing DestroysAll = ⊥
 
 -- it may take the records of a section away
-abbrev pub MayTake : ℕ → Asked → ℕ → Type 0
-MayTake items (Put i k v) s = ⊥
-MayTake items (PutSync i k v) s = ⊥
-MayTake items (PutStart i k v) s = ⊥
-MayTake items (Multi i k v) s = ⊥
-MayTake items (MultiSync i k v) s = ⊥
-MayTake items (MultiStart i k v) s = ⊥
-MayTake items (Get i) s = ⊥
-MayTake items (GetKey k) s = ⊥
-MayTake items (All i) s = ⊥
-MayTake items (Has i) s = ⊥
-MayTake items (HasKey k) s = ⊥
-MayTake items (HasAt i k) s = ⊥
-MayTake items (Gap i) s = ⊥
-MayTake items (Missing i n) s = ⊥
-MayTake items Ranges s = ⊥
-MayTake items (RangesFrom i) s = ⊥
-MayTake items First s = ⊥
-MayTake items Last s = ⊥
-MayTake items Sync s = ⊥
-MayTake items Start s = ⊥
-MayTake items (Prune bound) s = s < section_of items bound
-MayTake items Reopen s = ⊥
-MayTake items Destroy s = ⊤
+abbrev pub MayTake : ℕ → Family → ℕ → Type 0
+MayTake items (PrunesBelow bound) s = s < section_of items bound
+MayTake items DestroysAll s = ⊤
+MayTake items AsksHeld s = ⊥
+MayTake items AsksStored s = ⊥
+MayTake items (PutsRecord put) s = ⊥
+MayTake items (PutsDurably put) s = ⊥
+MayTake items SyncsAll s = ⊥
+MayTake items OpensAnew s = ⊥
 
 -- command i is one that syncs, and was carried out
 pub record HasSynced (commands : List Asked) (replies : List Replied) (i : ℕ) : Type 0 where
@@ -85,18 +55,12 @@ pub record HasSynced (commands : List Asked) (replies : List Replied) (i : ℕ) 
   -- it was carried out
   pub done : slice_get replies i ≡ Some reply.Done
   -- it syncs
-  pub syncs : IsSyncing command
+  pub syncs : IsSyncing (family_of command)
 
 -- no command behind i, of the first n, takes the section away
 abbrev pub IsSpared : ℕ → List Asked → ℕ → ℕ → ℕ → Type 0
 IsSpared items commands i n s = (j : ℕ) (command : Asked) → i < j → j < n → slice_get commands j ≡ Some command
-    → MayTake items command s → ⊥
-
--- Where an opening is under way at the end, a u64 counts the bytes of each blob of records as it began, and of one
--- more page with its slots.
-abbrev pub AreCountedIfOpening : Layout → Timeline → Timeline → List Asked → List ℕ → Type 0
-AreCountedIfOpening l old new commands marks = IsOpening (under_way commands (length marks))
-    → AreCounted l (as_read (disk_at old new marks (length marks)))
+    → MayTake items (family_of command) s → ⊥
 
 module _ (f : Filing) where
   -- each image that a crash leaves without a chance seal holds markers, and keeps the records of a section that are

@@ -1,7 +1,7 @@
 -- What a run of commands over a store promises: its replies are a run of the kind's machine, and at every moment,
 -- whatever becomes of it, each crash leaves a lawful image that stands for what was submitted, with all that was
 -- synced.
-use Rattle.std.specs.Prelude.{◌≡◌, ◌≢◌, ◌⊎◌, ⊤, ℕ, zero, suc, ◌+◌, ◌*◌, ◌≤◌, ◌<◌, List, [], ◌∷◌, ◌++◌, length, get_or, slice_get, Option, Some, None, Result, Ok, Err}
+use Rattle.std.specs.Prelude.{◌≡◌, ◌≢◌, ◌⊎◌, ⊤, ℕ, zero, suc, ◌+◌, ◌*◌, ◌≤◌, ◌<◌, List, [], ◌∷◌, length, get_or, slice_get, Option, Some, None}
 use Rattle.blob_device.specs.Counts.{Rose}
 use Rattle.blob_device.specs.Disk.{Disk, Key, NothingPending}
 use Rattle.blob_device.specs.Footprint.{Footprint, NoBound}
@@ -13,7 +13,7 @@ use Rattle.archives.specs.Commands.{Reopen}
 use Rattle.archives.specs.Refusing.{IsFault}
 use Rattle.archives.specs.declared.error.Error.{Error}
 use Rattle.archives.specs.declared.error.Error.TheVariants.{Mem}
-use Rattle.archive_service.specs.Kinds.{Answers, Kind, Serving}
+use Rattle.archive_service.specs.Kinds.{Kind}
 use Rattle.archive_service.specs.declared.replies.End.{End}
 use Rattle.archive_service.specs.declared.replies.End.TheVariants.{Done, Failed}
 
@@ -44,11 +44,6 @@ Begun (Failed e) commands marks replies =
 abbrev pub IfFailed : End → (Error → Type 0) → Type 0
 IfFailed Done P = ⊤
 IfFailed (Failed e) P = P e
-
--- how a run ended, by what its function answered
-abbrev pub end_of : Result Unit Error → End
-end_of (Ok done) = Done
-end_of (Err e) = Failed e
 
 -- the disk at which stretch i begins
 abbrev pub disk_at : Timeline → Timeline → List ℕ → ℕ → Disk
@@ -168,23 +163,3 @@ module _ (k : Kind) where
     pub serves : dev.Tells → NothingPending (disk (dev.time old))
         → k.Lawful (as_read (disk (dev.time old)))
         → Serves (dev.time old) (dev.time new) commands marks (dev.faults old) (dev.faults new) replies end
-
--- ---- one command of a run
-
--- The answer's reply goes last among those so far, unless there is no memory for it.
-abbrev pub KeepsReply : {A : Type 0} → Result (A × Replied) Error → Result A Error → List Replied
-    → List Replied → Type 0
-KeepsReply (Ok r) result old new = ((result ≡ Ok r.0) × (new ≡ old ++ r.1 ∷ [])) ⊎ ((result ≡ Err Mem) × (new ≡ old))
-KeepsReply (Err e) result old new = (result ≡ Err e) × (new ≡ old)
-
--- A command of the run was served to the store a: there was no memory for its mark, and nothing was done; or its mark
--- goes last among those so far, it was answered, and its reply was kept.
-pub data ServesOne {A V D : Type 0} (s : Serving A V) (dev : device.Ghosts D) (a : A) (command : Asked)
-    (result : Result A Error) (old new : D)
-    (marks_old marks_new : List ℕ) (replies_old replies_new : List Replied) : Type 0 where
-  unmarked : result ≡ Err Mem → new ≡ old → marks_new ≡ marks_old → replies_new ≡ replies_old
-      → ServesOne s dev a command result old new marks_old marks_new replies_old replies_new
-  marked : marks_new ≡ marks_old ++ (dev.time old).calls ∷ [] → (answer : Result (A × Replied) Error)
-      → Answers s dev a command answer old new
-      → KeepsReply answer result replies_old replies_new
-      → ServesOne s dev a command result old new marks_old marks_new replies_old replies_new

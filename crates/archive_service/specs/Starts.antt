@@ -28,3 +28,8 @@ starts f image markers lawful = record {
   synced = λ s. refl;
   floor = refl;
 }
+
+-- as a store of the kind has to have one
+abbrev pub start_with : (f : Filing) (image : Image) → (markers : Markers) × Lawful f image markers
+    → (st : State (List ℕ)) × ((markers : Markers) × IsStart f image markers st)
+start_with f image lawful = (start_of f image lawful.0, (lawful.0, starts f image lawful.0 lawful.1))

@@ -1,13 +1,11 @@
 -- The texts of values, commands and replies. Each command and each reply has one text.
-use Rattle.std.specs.Prelude.{◌≡◌, ℕ, true, false, List, [], ◌∷◌, ◌++◌, Option, Some, None, Result, Ok, Err, codes}
+use Rattle.std.specs.Prelude.{ℕ, true, false, List, [], ◌∷◌, ◌++◌, Option, Some, None, codes}
 use Rattle.std.specs.List.{flat_map, join_with_byte}
 use Rattle.std.specs.Fmt.{decimal}
 use Rattle.hex.specs.Hex.{encode_lower}
 use Rattle.archives.specs.Commands.{Command, Put, PutSync, PutStart, Multi, MultiSync, MultiStart, Get, GetKey, All, Has, HasKey, HasAt, Gap, Missing, Ranges, RangesFrom, First, Last, Sync, Start, Prune, Reopen, Destroy}
 use Rattle.archives.specs.Replies as reply
 use Rattle.archives.specs.Replies.{Reply}
-use Rattle.archive_service.specs.declared.script.ScriptError.{ScriptError}
-use Rattle.archive_service.specs.declared.script.ScriptError.TheVariants.{Mem}
 
 -- a command whose value is its bytes
 abbrev pub Spelled : Type 0
@@ -53,10 +51,6 @@ abbrev pub script_text : List Spelled → List ℕ
 script_text [] = []
 script_text (command ∷ commands) = line_of command ++ 10 ∷ script_text commands
 
--- the text begins with the line, and an LF behind it
-abbrev pub BeginsWith : List ℕ → List ℕ → Type 0
-BeginsWith text line = (rest : List ℕ) × (text ≡ line ++ 10 ∷ rest)
-
 -- a number, or a dash where there is none
 abbrev pub number_text : Option ℕ → List ℕ
 number_text None = codes "-"
@@ -94,20 +88,3 @@ replies_text replies = flat_map reply_text replies
 -- the line that names a bad line of a script by its number
 abbrev pub bad_line_text : ℕ → List ℕ
 bad_line_text n = codes "error line " ++ decimal n ++ codes "\n"
-
--- the text was appended; where memory was wanting, what stood there still stands in front
-abbrev pub Appends : {E : Type 0} → Result Unit E → List ℕ → List ℕ → List ℕ → Type 0
-Appends (Ok done) old text new = new ≡ old ++ text
-Appends (Err e) old text new = (more : List ℕ) × (new ≡ old ++ more)
-
--- There was no memory for the text.
-pub record IsUnwritten (e : ScriptError) (old new : List ℕ) : Type 0 where
-  -- it says so
-  pub cause : e ≡ Mem
-  -- nothing was appended
-  pub unchanged : new ≡ old
-
--- the text was appended whole, or nothing was
-abbrev pub WritesText : Result Unit ScriptError → List ℕ → List ℕ → List ℕ → Type 0
-WritesText (Ok done) old text new = new ≡ old ++ text
-WritesText (Err e) old text new = IsUnwritten e old new

@@ -2,7 +2,7 @@
 ghost use Rattle.std.specs.Prelude.{◌++◌};
 ghost use Rattle.std.specs.Fmt.{decimal};
 ghost use Rattle.archive_service.specs.ErrorTexts.{codec_text, damage_text, error_line, error_text, journal_text, metadata_text, runtime_text};
-ghost use Rattle.archive_service.specs.Texts.{Appends, WritesText};
+ghost use Rattle.archive_service.specs.Writing.{Appends, WritesText};
 
 use crate::ScriptError;
 use crate::text::append_hex;

@@ -6,8 +6,10 @@ ghost use Rattle.archives.specs.Changes.{Replied};
 ghost use Rattle.archives.specs.Commands.{Get};
 ghost use Rattle.archives.specs.Machine.{asked, replied};
 ghost use Rattle.value_codec.specs.Keys.{key8_bytes};
-ghost use Rattle.archive_service.specs.Made.{AddsReply, AreCounted, AreUpTo, Makes, made_key, made_puts, made_tests, made_value, summary_text};
-ghost use Rattle.archive_service.specs.Texts.{WritesText, number_text};
+ghost use Rattle.archive_service.specs.Made.{made_key, made_puts, made_tests, made_value, summary_text};
+ghost use Rattle.archive_service.specs.MadeCounts.{AddsReply, AreCounted, AreUpTo, Makes};
+ghost use Rattle.archive_service.specs.Texts.{number_text};
+ghost use Rattle.archive_service.specs.Writing.{WritesText};
 
 use crate::words::copied;
 use crate::{Replies, Script, ScriptError};

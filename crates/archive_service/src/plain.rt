@@ -4,8 +4,9 @@ ghost use Rattle.std.specs.Prelude.{◌≡◌, ◌↔◌, ◌++◌, ◌∷◌, I
 ghost use Rattle.hex.specs.Hex.{encode_lower};
 ghost use Rattle.archives.specs.Machine.{asked};
 ghost use Rattle.value_codec.specs.Keys.{key8_bytes};
-ghost use Rattle.archive_service.specs.Script.{record_text};
-ghost use Rattle.archive_service.specs.Texts.{BeginsWith, line_of, script_text, value_text};
+ghost use Rattle.archive_service.specs.Reading.{record_text};
+ghost use Rattle.archive_service.specs.Texts.{line_of, script_text, value_text};
+ghost use Rattle.archive_service.specs.Writing.{BeginsWith};
 
 use archives::Command;
 use std::alloc::{AllocError, Global};

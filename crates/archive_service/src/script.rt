@@ -5,7 +5,8 @@ ghost use Rattle.std.specs.Option.{option_map};
 ghost use Rattle.archives.specs.Machine.{asked};
 ghost use Rattle.value_codec.specs.Keys.{key8_bytes};
 ghost use Rattle.archive_service.specs.PuttingNames.{command_of, name_of};
-ghost use Rattle.archive_service.specs.Script.{IsCommandOf, IsCounted, IsDouble, IsExactReading, IsFirstLine, IsKeyed, IsLone, IsLongOf, IsReading, IsRecord, IsShort, ReadsScript, counted_text, keyed_text, record_text};
+ghost use Rattle.archive_service.specs.Reading.{IsCounted, IsKeyed, IsRecord, IsCommandOf, IsDouble, IsFirstLine, IsLone, IsLongOf, IsReading, IsShort, ReadsScript, counted_text, keyed_text, record_text};
+ghost use Rattle.archive_service.specs.ReadingLaws.{IsExactReading};
 ghost use Rattle.archive_service.specs.Texts.{Spelled, line_of};
 ghost use Rattle.archive_service.specs.declared.script.ScriptError.TheVariants.{Mem};
 

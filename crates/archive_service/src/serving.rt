@@ -2,8 +2,9 @@
 ghost use Rattle.std.specs.Prelude.{◌≡◌, [], map};
 ghost use Rattle.std.specs.List.{AllByRecursion};
 ghost use Rattle.archives.specs.Machine.{asked, replied};
-ghost use Rattle.archive_service.specs.Kinds.{MayUse};
-ghost use Rattle.archive_service.specs.Serves.{ServesBy, ServesOne, end_of};
+ghost use Rattle.archive_service.specs.StoreCalls.{MayUse};
+ghost use Rattle.archive_service.specs.Serves.{ServesBy};
+ghost use Rattle.archive_service.specs.ServesOne.{ServesOne, end_of};
 ghost use Rattle.archive_service.specs.Stores.{IsValidStore, PutsOnly, codec_config_of, kind_in};
 
 use crate::store::{Openable, Store};

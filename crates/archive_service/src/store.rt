@@ -1,7 +1,7 @@
 // What serves commands: a store of some kind, with its configuration.
 ghost use Rattle.archives.specs.Changes.{outcome};
 ghost use Rattle.archives.specs.Machine.{asked, replied};
-ghost use Rattle.archive_service.specs.Kinds.{Answers, MayUse, OpensStore, Serving};
+ghost use Rattle.archive_service.specs.StoreCalls.{Answers, MayUse, OpensStore, Serving};
 ghost use Rattle.archive_service.specs.Stores.{PutsOnly};
 
 mod openable;

@@ -3,7 +3,8 @@ ghost use Rattle.std.specs.Prelude.{◌++◌, codes};
 ghost use Rattle.std.specs.Fmt.{decimal};
 ghost use Rattle.archives.specs.Machine.{replied};
 ghost use Rattle.hex.specs.Hex.{encode_lower};
-ghost use Rattle.archive_service.specs.Texts.{Appends, WritesText, bad_line_text, number_text, reply_text, run_text, value_text, words_text};
+ghost use Rattle.archive_service.specs.Texts.{bad_line_text, number_text, reply_text, run_text, value_text, words_text};
+ghost use Rattle.archive_service.specs.Writing.{Appends, WritesText};
 
 use crate::ScriptError;
 use crate::error_text::append_with;

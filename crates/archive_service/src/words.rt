@@ -5,7 +5,8 @@ ghost use Rattle.std.specs.Option.{option_map};
 ghost use Rattle.std.specs.Fmt.{decimal};
 ghost use Rattle.hex.specs.Hex.{encode_lower};
 ghost use Rattle.value_codec.specs.Keys.{key8_bytes};
-ghost use Rattle.archive_service.specs.Script.{IsCount, IsIndex, IsKey, IsReading, IsValue};
+ghost use Rattle.archive_service.specs.Script.{IsCount, IsIndex, IsKey, IsValue};
+ghost use Rattle.archive_service.specs.Reading.{IsReading};
 ghost use Rattle.archive_service.specs.Texts.{value_text};
 ghost use Rattle.archive_service.specs.Words.{IsCut, IsDecimal, IsHexText, IsShortest, IsValueText};
 

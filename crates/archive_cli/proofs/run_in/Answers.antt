@@ -1,5 +1,5 @@
 use Rattle.std.proofs.Common.{subst, sym}
-use Rattle.archive_program.specs.Words.{IsStatusFor}
+use Rattle.archive_program.specs.WordsSeen.{IsStatusFor}
 use Rattle.archive_program.proofs.WordsLemmas.{no_memory_in, status_in}
 use Rattle.archive_cli.proofs.run_in.Goals as goal
 

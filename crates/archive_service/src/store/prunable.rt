@@ -8,7 +8,7 @@ ghost use Rattle.archives.specs.Machine.{asked, replied};
 ghost use Rattle.archives.specs.Shown.{means, setup_for};
 ghost use Rattle.archives.specs.declared.archive.Identifier.TheVariants.{Index};
 ghost use Rattle.archives.specs.declared.commands.Reply.TheVariants.{Done, Flag, Value};
-ghost use Rattle.archive_service.specs.Kinds.{Answers, MayUse};
+ghost use Rattle.archive_service.specs.StoreCalls.{Answers, MayUse};
 ghost use Rattle.archive_service.specs.PrunableStore.{openable_serving};
 ghost use Rattle.archive_service.specs.Stores.{PutsOnly};
 ghost use Rattle.archive_service.specs.declared.store.openable.Openable.TheVariants.{Closed, Open};
@@ -36,7 +36,7 @@ impl<T: Translator, K: Key, V: Codec, S: Seal> Store for Openable<Archive<T, K, 
     type Value = V;
 
     ghost means = { λ cfg. openable_serving (means ⟦<PageBlob<S> as SectionBuffer>⟧)
-        (setup_for K.SIZE S.Seal V.Codec T.word_of cfg) (IsValid cfg) };
+        (setup_for K.SIZE S.Seal V.Codec T.word_of T.Word.eq cfg) (IsValid cfg) };
 
     fn open<D: Device>(alloc: Global, dev: &mut D, cfg: &Self::Config) -> Result<Self, Error> {
         Archive::<T, K, V, S>::start_laws(cfg, dev);

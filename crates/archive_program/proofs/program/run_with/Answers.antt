@@ -1,5 +1,5 @@
 use Rattle.std.proofs.Common.{refl, arith}
-use Rattle.archive_program.specs.Words.{job_seen}
+use Rattle.archive_program.specs.WordsSeen.{job_seen}
 use Rattle.archive_program.proofs.ProgramLemmas.{in_full, in_part, runs_short_of_memory, runs_unanswered, runs_usage, runs_write_fault, runs_written}
 use Rattle.archive_program.proofs.WordsLemmas.{may_be_done}
 use Rattle.archive_program.proofs.program.run_with.Goals as goal

@@ -1,6 +1,7 @@
 -- Three words, or five, or neither.
 use Rattle.std.proofs.Common.{◌≡◌, [], ◌∷◌, codes, map, string_bytes, ap, sym, subst, ◌∙◌, arith}
-use Rattle.archive_program.specs.Words.{FindsJob, IsNumberTo}
+use Rattle.archive_program.specs.Words.{IsNumberTo}
+use Rattle.archive_program.specs.WordsSeen.{FindsJob}
 use Rattle.archive_program.proofs.WordsLemmas.{five_words, no_job, no_words, other_text, same_text, three_words}
 use Rattle.archive_program.proofs.words.job_of.Goals as goal
 use Rattle.archive_program.proofs.words.job_of.Goals.{After-items_of, After-items_of-in-len5}

@@ -1,7 +1,8 @@
 -- The word is an index, and in the limits, or not.
 use Rattle.std.proofs.Common.{None, Some, subst, sym, ◌∙◌, arith}
 use Rattle.std.specs.Fmt.{decimal}
-use Rattle.archive_service.specs.Script.{IsIndex, IsReading}
+use Rattle.archive_service.specs.Script.{IsIndex}
+use Rattle.archive_service.specs.Reading.{IsReading}
 use Rattle.archive_service.proofs.WordLemmas.{if_none}
 use Rattle.archive_program.proofs.WordsLemmas.{no_number, number_out}
 use Rattle.archive_program.proofs.words.number_to.Goals as goal

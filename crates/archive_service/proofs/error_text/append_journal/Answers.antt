@@ -3,7 +3,7 @@ use Rattle.std.proofs.Common.{◌≡◌, codes, decimal, ◌++◌, subst, sym}
 use Rattle.std.proofs.lemmas.List.{append_assoc}
 use Rattle.hex.specs.Hex.{encode_lower}
 use Rattle.archive_service.specs.ErrorTexts.{journal_text}
-use Rattle.archive_service.specs.Texts.{Appends}
+use Rattle.archive_service.specs.Writing.{Appends}
 use Rattle.archive_service.proofs.TextLemmas.{appends, appends_more, appends_same}
 use Rattle.archive_service.proofs.error_text.append_journal.Goals as goal
 

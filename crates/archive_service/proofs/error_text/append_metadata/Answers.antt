@@ -3,7 +3,7 @@ use Rattle.std.proofs.Common.{◌≡◌, codes, subst, sym, ap, ◌∙◌}
 use Rattle.meta_store.specs.declared.error.Error.TheVariants.{Corruption}
 use Rattle.meta_store.specs.declared.error.Side.TheVariants.{Left, Right}
 use Rattle.archive_service.specs.ErrorTexts.{metadata_text}
-use Rattle.archive_service.specs.Texts.{Appends}
+use Rattle.archive_service.specs.Writing.{Appends}
 use Rattle.archive_service.proofs.TextLemmas.{appends_last}
 use Rattle.archive_service.proofs.error_text.append_metadata.Goals as goal
 

@@ -1,5 +1,5 @@
 use Rattle.std.proofs.Common.{◌≡◌, decimal, subst, ◌∙◌}
-use Rattle.archive_service.specs.Texts.{Appends}
+use Rattle.archive_service.specs.Writing.{Appends}
 use Rattle.archive_service.proofs.TextLemmas.{appends, appends_more}
 use Rattle.archive_service.proofs.error_text.append_with.Goals as goal
 

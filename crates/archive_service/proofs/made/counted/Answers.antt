@@ -2,7 +2,7 @@
 use Rattle.std.proofs.Common.{◌≡◌, ◌+◌, ◌*◌, ◌^◌, ◌<◌, ◌∷◌, [], ◌++◌, map, take, sym, ap, ◌∙◌, subst, rules, arith}
 use Rattle.std.proofs.lemmas.List.{map_more, take_all}
 use Rattle.archives.specs.Machine.{replied}
-use Rattle.archive_service.specs.Made.{AreCounted, AreUpTo}
+use Rattle.archive_service.specs.MadeCounts.{AreCounted, AreUpTo}
 use Rattle.archive_service.proofs.MadeLemmas.{none_up_to, up_to}
 use Rattle.archive_service.proofs.made.counted.Goals as goal
 

@@ -1,6 +1,6 @@
 use Rattle.std.proofs.Common.{◌*◌, ◌^◌, map, take}
 use Rattle.archives.specs.Machine.{replied}
-use Rattle.archive_service.specs.Made.{AreCounted, AreUpTo}
+use Rattle.archive_service.specs.MadeCounts.{AreCounted, AreUpTo}
 use Rattle.archive_service.proofs.made.counted.Given as goal
 
 -- the replies so far are counted, and each adds no more than a number of 64 bits

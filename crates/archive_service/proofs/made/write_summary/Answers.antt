@@ -1,6 +1,6 @@
 use Rattle.std.proofs.Common.{◌++◌, map, ap, ◌∙◌, subst}
 use Rattle.archives.specs.Machine.{replied}
-use Rattle.archive_service.specs.Made.{AreCounted}
+use Rattle.archive_service.specs.MadeCounts.{AreCounted}
 use Rattle.archive_service.proofs.made.write_summary.Goals as goal
 
 pub returns : goal.returns

@@ -1,6 +1,6 @@
 -- Two words, an index and a number, or none of both.
 use Rattle.std.proofs.Common.{subst, sym}
-use Rattle.archive_service.specs.Script.{IsCounted, IsReading, counted_text}
+use Rattle.archive_service.specs.Reading.{IsCounted, IsReading, counted_text}
 use Rattle.archive_service.proofs.RecordLemmas.{count_uncounted, counted_reading, index_uncounted, one_word_uncounted}
 use Rattle.archive_service.proofs.script.counted_of.Goals as goal
 

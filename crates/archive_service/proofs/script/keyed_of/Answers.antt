@@ -3,7 +3,7 @@ use Rattle.std.proofs.Common.{Option, List, subst, sym, ℕ}
 use Rattle.std.specs.Option.{option_map}
 use Rattle.value_codec.specs.Keys.{key8_bytes}
 use Rattle.value_codec.specs.declared.key.Key8.{Key8}
-use Rattle.archive_service.specs.Script.{IsKeyed, IsReading, keyed_text}
+use Rattle.archive_service.specs.Reading.{IsKeyed, IsReading, keyed_text}
 use Rattle.archive_service.proofs.RecordLemmas.{index_unkeyed, key_unkeyed, keyed_reading, one_word_unkeyed}
 use Rattle.archive_service.proofs.script.keyed_of.Goals as goal
 

@@ -1,7 +1,8 @@
 -- A number within the limit is the index that the word spells; so where that is too great no other number is spelled.
 use Rattle.std.proofs.Common.{subst, sym}
 use Rattle.std.specs.Fmt.{decimal}
-use Rattle.archive_service.specs.Script.{IsCount, IsReading}
+use Rattle.archive_service.specs.Script.{IsCount}
+use Rattle.archive_service.specs.Reading.{IsReading}
 use Rattle.archive_service.proofs.WordLemmas.{count_beyond, count_reading, no_count}
 use Rattle.archive_service.proofs.words.count_of.Goals as goal
 

@@ -3,7 +3,8 @@ use Rattle.std.proofs.Common.{subst, sym}
 use Rattle.std.specs.Fmt.{decimal}
 use Rattle.std.specs.Str.Parse.{ParsesUnsigned}
 use Rattle.std.proofs.lemmas.Str.{IsUtf8-from_ascii}
-use Rattle.archive_service.specs.Script.{IsIndex, IsReading}
+use Rattle.archive_service.specs.Script.{IsIndex}
+use Rattle.archive_service.specs.Reading.{IsReading}
 use Rattle.archive_service.specs.Words.{IsDecimal}
 use Rattle.archive_service.proofs.WordLemmas.{decimal_ascii, decimal_is_decimal, index_reading}
 use Rattle.archive_service.proofs.words.index_of.Goals as goal

@@ -2,7 +2,7 @@
 ghost use Rattle.archives.specs.Changes.{outcome};
 ghost use Rattle.archives.specs.Commands.{First, Gap, Last, Missing, Ranges, RangesFrom};
 ghost use Rattle.archives.specs.Machine.{replied};
-ghost use Rattle.archive_service.specs.Kinds.{Answers, MayUse};
+ghost use Rattle.archive_service.specs.StoreCalls.{Answers, MayUse};
 ghost use Rattle.archive_service.specs.declared.store.openable.Openable.TheVariants.{Open};
 
 use super::super::{Openable, Store};

@@ -4,7 +4,7 @@ ghost use Rattle.archives.specs.Changes.{outcome};
 ghost use Rattle.archives.specs.Commands.{All, HasAt, Multi, MultiStart, MultiSync};
 ghost use Rattle.archives.specs.Machine.{replied};
 ghost use Rattle.archives.specs.declared.commands.Reply.TheVariants.{Values as AllValues};
-ghost use Rattle.archive_service.specs.Kinds.{Answers, MayUse};
+ghost use Rattle.archive_service.specs.StoreCalls.{Answers, MayUse};
 ghost use Rattle.archive_service.specs.declared.store.openable.Openable.TheVariants.{Open};
 
 use super::super::{Openable, Store};
