@@ -19,8 +19,11 @@ pub enum Change {
 /// A blob, which is opened and changed.
 #[derive(Drop)]
 pub struct Visit {
+    /// Its partition,
     pub partition: String,
+    /// and its name there.
     pub name: Vec<u8>,
+    /// What is done to it once it is open, in order.
     pub changes: Vec<Change>,
 }
 

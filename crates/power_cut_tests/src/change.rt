@@ -5,24 +5,33 @@ use std::alloc::AllocError;
 /// A change of a file: bytes that were written from an offset on, or the length that it was given.
 #[derive(Drop)]
 pub struct FileChange {
+    /// How many changes the disk had before: a mixed power cut goes by it.
     pub number: u64,
+    /// Where the bytes begin.
     pub offset: usize,
+    /// What was written; empty where only the length was changed.
     pub bytes: Vec<u8>,
+    /// The length that was given; none for a write.
     pub len: Option<usize>,
 }
 
 /// A name in a folder, and the number of what it names.
 #[derive(Drop)]
 pub struct Named {
+    /// The name, without a folder.
     pub name: String,
+    /// What it names, by its number on the disk.
     pub node: usize,
 }
 
 /// A change of a folder: a name that now names this number, or nothing.
 #[derive(Drop)]
 pub struct NameChange {
+    /// How many changes the disk had before: a mixed power cut goes by it.
     pub number: u64,
+    /// The name, without a folder.
     pub name: String,
+    /// What it names from now on; none where it is removed.
     pub node: Option<usize>,
 }
 

@@ -14,9 +14,13 @@ use std::alloc::Global;
 /// Calls of a device over a folder of a disk.
 #[derive(Drop)]
 pub struct DeviceTrial<'a> {
+    /// For all that its runs hold.
     pub alloc: Global,
+    /// The disk over which each run begins.
     pub start: &'a Disk,
+    /// The folder of the device.
     pub root: &'a str,
+    /// What is asked of the device, in order.
     pub calls: &'a [Call],
 }
 

@@ -12,18 +12,26 @@ pub const TOP: usize = 0;
 /// A file: its bytes as they read, as they were synced last, and the changes since.
 #[derive(Drop)]
 pub struct FileNode {
+    /// As a read finds them: each change is done to them at once.
     pub bytes: Vec<u8>,
+    // What outlasts every power cut: the changes that were synced are done to them.
     synced: Vec<u8>,
+    // In order, those since the last sync.
     unsynced: Vec<FileChange>,
+    // How often it is open. What closing forgets goes when it is open no more.
     handles: u64,
 }
 
 /// A folder: its names as they read, as they were synced last, and the changes since.
 #[derive(Drop)]
 pub struct FolderNode {
+    // The number of the folder that `..` names; the working folder's own is itself.
     parent: usize,
+    /// As a look-up finds them: each change is done to them at once.
     pub names: Vec<Named>,
+    // The names that outlast every power cut.
     synced: Vec<Named>,
+    // In order, those since the last sync.
     unsynced: Vec<NameChange>,
 }
 
@@ -68,12 +76,15 @@ pub enum Node {
 /// A disk. Its calls end, or fail as its plan says.
 #[derive(Drop)]
 pub struct Disk {
+    /// For all that it keeps.
     pub alloc: Global,
+    // By their numbers. None is ever taken out, also where no name stands for it any more.
     nodes: Vec<Node>,
     /// How many changes there were; each has the number of those before it.
     changes: u64,
     /// How many calls there were.
     pub calls: u64,
+    /// Which calls fail, and where the power goes.
     pub plan: Plan,
     /// Whether the call that fails alone was one that changes names or a length.
     pub has_failed_to_change: bool,

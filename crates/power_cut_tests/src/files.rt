@@ -17,20 +17,26 @@ use std::rt::Files;
 /// A way to the files of a disk.
 #[derive(Clone, Drop)]
 pub struct DiskFiles {
+    // Shared with each file that is opened on it.
     disk: Rc<RefCell<Disk>>,
 }
 
 /// An open file or folder.
 pub struct Opened {
+    // The disk on which it is open.
     disk: Rc<RefCell<Disk>>,
+    // The number of the file or folder.
     node: usize,
+    // Where the next read or write begins, in bytes.
     at: u64,
 }
 
 /// The names in a folder that are not read so far, each ended by a NUL.
 #[derive(Drop)]
 pub struct NamesLeft {
+    // The disk: a read of a name is a call of it.
     disk: Rc<RefCell<Disk>>,
+    // The next one that is read stands last.
     names: Vec<String>,
 }
 

@@ -17,8 +17,11 @@ use value_codec::{Key8, Sha256Seal};
 /// An image, what the plain program says that it keeps, and what is wrong with it.
 #[derive(Drop)]
 pub struct Judged {
+    // The image that was judged.
     image: Image,
+    // What the plain program finds in it.
     kept: Vec<Kept>,
+    // What is wrong with it whatever is owed; empty where nothing is.
     wrong: &'static str,
 }
 
@@ -171,7 +174,9 @@ fn is_marked_truly(alloc: Global, page_size: u16, image: &Image, one: &Kept) -> 
 // Lookups, and the replies that they must get.
 #[derive(Drop)]
 struct Looks {
+    // The lines, each with its LF.
     script: String,
+    // The replies that they must get, each with its LF.
     replies: String,
 }
 

@@ -7,14 +7,19 @@ use std::alloc::{AllocError, Global};
 /// What is known of a blob.
 #[derive(Drop)]
 struct Blob {
+    // Its partition,
     partition: String,
+    // and its name there: no two entries have both alike.
     name: Vec<u8>,
+    // Whether it was there by the last answer that told.
     there: bool,
     /// Whether a making or a removal failed since it was there, or not, for good.
     unsure: bool,
     /// The bytes as they read, where they are known.
     content: Vec<Option<u8>>,
+    // The least length that a crash may leave, in bytes.
     shortest: usize,
+    // The greatest one.
     longest: usize,
     /// The first place and the place behind the last one of each write since it settled.
     loose: Vec<(usize, usize)>,
@@ -23,7 +28,9 @@ struct Blob {
 /// What is known of all blobs.
 #[derive(Drop)]
 pub struct Known {
+    // For what is noted of blobs.
     alloc: Global,
+    // One for each blob that was named so far.
     blobs: Vec<Blob>,
 }
 

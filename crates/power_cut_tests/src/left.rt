@@ -7,8 +7,11 @@ use std::alloc::Global;
 /// A blob that stands in a file.
 #[derive(Drop)]
 pub struct Left {
+    /// Its partition, the name of a folder.
     pub partition: String,
+    /// Its name: the file's name has it in hexadecimal.
     pub name: Vec<u8>,
+    /// What the file has.
     pub bytes: Vec<u8>,
 }
 

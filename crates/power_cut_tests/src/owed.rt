@@ -10,16 +10,22 @@ use std::alloc::Global;
 /// The puts that a section took, in order, and how many of them are synced.
 #[derive(Drop)]
 struct Section {
+    // Its first index, by which it is named.
     first: u64,
+    // The records as a script spells them; no two have one index.
     puts: Vec<String>,
+    // How many of them, from the first on, have to be kept.
     synced: usize,
 }
 
 /// What is owed of each section.
 #[derive(Drop)]
 pub struct Owed {
+    // For the texts of records.
     alloc: Global,
+    // How many indices a section has room for.
     items: u64,
+    // One for each section that something was put into.
     sections: Vec<Section>,
 }
 
@@ -112,6 +118,7 @@ impl Section {
 /// What a trial owes as it goes on: what the first image keeps, and what is kept before each opening again.
 #[derive(Drop)]
 pub struct Course {
+    // What the first image keeps, and behind it what is kept before each `reopen` of the script, in order.
     openings: Vec<Vec<Kept>>,
     /// All records that the first image keeps or the script puts.
     pub records: Vec<String>,

@@ -16,20 +16,28 @@ use std::cell::RefCell;
 /// How a run of the program ended, and what it wrote.
 #[derive(Drop)]
 pub struct Outcome {
+    /// How it ended.
     pub ended: Ended,
+    /// What went to its standard output.
     pub written: String,
 }
 
 /// A script for the program over a folder of a disk.
 #[derive(Drop)]
 pub struct Program<'a> {
+    /// For all that its runs hold.
     pub alloc: Global,
+    /// The disk over which each run begins.
     pub start: &'a Disk,
+    /// The folder of the archive.
     pub root: &'a str,
+    /// The words behind the program's name.
     pub words: &'a [String],
+    /// The numbers with which it runs.
     pub settings: &'a Settings,
     /// How many indices a section has room for.
     pub items: u64,
+    /// Its lines.
     pub script: &'a str,
     /// The replies that its lines must get.
     pub wanted: &'a str,
@@ -88,7 +96,9 @@ fn are_lawful(written: &str, wanted: &str, has_failed: bool) -> bool {
 /// A program's trial, with what it owes.
 #[derive(Drop)]
 pub struct ProgramTrial<'a> {
+    /// What is tried.
     pub program: Program<'a>,
+    /// What it owes as it goes on.
     pub course: Course,
     /// What was judged so far.
     pub latest: RefCell<Vec<Judged>>,

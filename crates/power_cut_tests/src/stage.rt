@@ -16,6 +16,7 @@ use std::fmt::Write;
 /// What a scenario has come to.
 #[derive(Drop)]
 pub struct Stage {
+    /// For all that a scenario holds.
     pub alloc: Global,
     /// The disk over which trials begin.
     pub disk: Disk,
@@ -23,9 +24,11 @@ pub struct Stage {
     pub root: String,
     /// The words behind the program's name.
     pub words: Vec<String>,
+    /// The numbers with which the next trial runs.
     pub settings: Settings,
-    /// The script that was gathered, and what it must write.
+    /// The script that was gathered since the last trial.
     pub script: String,
+    /// The replies that its lines must get.
     pub wanted: String,
     /// The calls of a device that were gathered.
     pub calls: Vec<Call>,

@@ -12,11 +12,11 @@ use Rattle.paired.specs.Opening.{as_read}
 use Rattle.archives.specs.Changes.{Asked, Replied}
 use Rattle.archives.specs.Commands.{Reopen}
 use Rattle.archives.specs.Machine.{State, Step, asked, empty_state}
-use Rattle.archives.specs.Plain.{state_of}
+use Rattle.archives.specs.plain.Machine.{state_of}
 use Rattle.archives.specs.Replies as reply
 use Rattle.archives.specs.declared.commands.Command as asking
 use Rattle.archives.specs.declared.commands.Command.TheVariants as ask
-use Rattle.archive_service.specs.Kinds.{Answers, OpensStore}
+use Rattle.archive_service.specs.StoreCalls.{Answers, OpensStore}
 use Rattle.archive_service.specs.Stores.{PutsOnly}
 use Rattle.archive_service.proofs.StoreLemmas.{nothing_done, unchanged_always}
 use Rattle.scenarios.specs.ListedKind.{ListedState, ListedStep, listed_kind, listed_serving}

@@ -8,10 +8,11 @@ use Rattle.paired.specs.Opening.{as_read}
 use Rattle.archives.specs.Changes.{Asked, Replied}
 use Rattle.archives.specs.Commands.{Put, PutSync, PutStart, Multi, MultiSync, MultiStart, Get, GetKey, All, Has, HasKey, HasAt, Gap, Missing, Ranges, RangesFrom, First, Last, Sync, Start, Prune, Reopen, Destroy}
 use Rattle.archives.specs.Machine.{State, Step, empty_state}
-use Rattle.archives.specs.Plain.{state_of}
+use Rattle.archives.specs.plain.Machine.{state_of}
 use Rattle.archives.specs.Replies as reply
 use Rattle.archives.specs.declared.error.Error.TheVariants.{Mem}
-use Rattle.archive_service.specs.Kinds.{Kind, Serving}
+use Rattle.archive_service.specs.Kinds.{Kind}
+use Rattle.archive_service.specs.StoreCalls.{Serving}
 use Rattle.scenarios.specs.declared.listed.Listed.{Listed}
 
 -- the image over which it was opened, and the records
@@ -51,7 +52,6 @@ listed_kind = record {
   State = ListedState;
   Lawful = λ image. ⊤;
   IsStart = λ image st. (st.image ≡ image) × (st.records ≡ empty_state);
-  starts = λ image lawful. (record { image = image; records = empty_state }, (λ i. image, λ i. empty_state));
   Step = λ old command reply new. (new.image ≡ old.image) × ListedStep old.records command reply new.records;
   -- the disk reads as it did at the opening
   Leaves = λ st under_way d. as_read d ≡ st.image;
@@ -75,6 +75,7 @@ listed_kind = record {
 abbrev pub listed_serving : Serving Listed ByteValue
 listed_serving = record {
   kind = listed_kind;
+  starts = λ image lawful. (record { image = image; records = empty_state }, (λ i. image, λ i. empty_state));
   IsValid = ⊤;
   Accepts = λ v. ⊤;
   IsUsable = λ a told opened d. ⊤;

@@ -43,7 +43,7 @@ pub fn kept_in(alloc: Global, page_size: u16, image: &Image) -> Result<Vec<Kept>
     Ok(all)
 }
 
-// The markers that the image holds.
+// The markers that the image holds. Their floor must be 0, as none is stored yet.
 fn markers_in(alloc: Global, image: &Image) -> Result<Markers, Stop> {
     let mut dev = device(alloc, image)?;
     let cfg = meta_store::Config {
@@ -51,7 +51,12 @@ fn markers_in(alloc: Global, image: &Image) -> Result<Markers, Stop> {
         codec_config: (),
     };
     match Metadata::init(alloc, &mut dev, &cfg) {
-        Ok(markers) => Ok(markers),
+        Ok(markers) => {
+            if markers.floor() != 0 {
+                return Err(Stop::Said("a copy of the markers names a floor"));
+            }
+            Ok(markers)
+        }
         Err(error) => Err(Stop::from(Error::from(error))),
     }
 }

@@ -2,7 +2,7 @@
 ghost use Rattle.std.specs.Prelude.{◌≡◌};
 ghost use Rattle.value_codec.specs.Keys.{key8_bytes};
 ghost use Rattle.archives.specs.Machine.{empty_state};
-ghost use Rattle.archives.specs.Plain.{state_of};
+ghost use Rattle.archives.specs.plain.Machine.{state_of};
 
 mod serving;
 

@@ -30,6 +30,7 @@ enum Going {
 /// What is owed of each section.
 #[derive(Drop)]
 pub struct Owed {
+    // for the lists of what is owed
     alloc: Global,
     // how many indices a section has room for
     items: u64,

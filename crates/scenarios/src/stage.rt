@@ -7,6 +7,7 @@ use std::alloc::{AllocError, Global};
 /// What a scenario has come to.
 #[derive(Drop)]
 pub struct Stage {
+    /// For all that a scenario holds.
     pub alloc: Global,
     /// The words behind the program's name.
     pub words: Vec<String>,

@@ -13,6 +13,7 @@ pub const MOST_CALLS: u64 = 1024;
 /// A script, and the image over which it is tried.
 #[derive(Drop)]
 pub struct Trial<'a> {
+    /// For the devices and texts of its runs.
     pub alloc: Global,
     /// The words behind the program's name.
     pub words: &'a [String],

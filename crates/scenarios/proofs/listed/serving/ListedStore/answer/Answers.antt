@@ -2,7 +2,7 @@ use Rattle.std.proofs.Common.{ap, subst, ℕ}
 use Rattle.value_codec.specs.Keys.{key8_bytes}
 use Rattle.archives.specs.Commands.{Reopen}
 use Rattle.archives.specs.Machine.{Step, asked, replied}
-use Rattle.archives.specs.Plain.{state_of}
+use Rattle.archives.specs.plain.Machine.{state_of}
 use Rattle.archives.specs.Replies as reply
 use Rattle.archive_service.proofs.StoreLemmas.{answers_to}
 use Rattle.scenarios.specs.ListedKind.{listed_serving}
