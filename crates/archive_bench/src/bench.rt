@@ -6,13 +6,17 @@ ghost use Rattle.value_codec.specs.declared.byte_value.ByteValue.{ByteValue};
 
 use crate::config::{ITEMS, RECORD_BYTES, config_of, index_pages};
 use crate::counting::{Counting, Phased};
+use crate::counts::Tally;
 use crate::error::BenchError;
+use crate::looking::{Look, Looked, look_up, order_of};
 use crate::report::{PutCosts, Report};
+use crate::times::Watch;
 use crate::words::Plan;
 use archive_service::Settings;
 use archives::{Archive, Error, FourCap, prunable};
 use blob_device::Device;
 use std::alloc::{AllocError, Global};
+use std::time::CpuClock;
 use value_codec::{ByteValue, Key, Key8, Sha256Seal};
 
 // The archive that is measured.
@@ -24,51 +28,94 @@ const VALUE_BYTES: usize = 100;
 // After how many puts a sync is made.
 const SYNC_EVERY: u64 = 100;
 
-/// Fills an archive on the device as planned, and opens it twice again.
-pub fn measure<D: Device>(
+// An odd number near 2^64 divided by the golden ratio: its multiples lie far from each other.
+const SPREAD: u64 = 0x9E37_79B9_7F4A_7C15;
+
+/// Fills an archive on the device as planned, and opens it twice again. Where the plan asks for it, the records
+/// are looked up then.
+pub fn measure<D: Device, C: CpuClock>(
     alloc: Global,
     dev: &mut Counting<D>,
     plan: &Plan<'_>,
+    watch: &mut Watch<'_, C>,
 ) -> Result<Report, BenchError> {
     let settings = Settings::DEFAULT;
-    let config = config_of(alloc, &settings)?;
+    let items = plan.items.unwrap_or(ITEMS).max(1);
+    let config = config_of(alloc, &settings, items)?;
     dev.take();
     let costs = filled(alloc, dev, &config, plan)?;
+    watch.enter("filling")?;
     let filling = dev.take();
     dev.turn();
     let pruning = dev.take();
-    if dev.sizes().has_gaps() {
-        return Err(BenchError::Memory(AllocError));
-    }
-    let blob_bytes = dev.sizes().sum();
-    let most_bytes = dev.sizes().greatest();
+    let (blob_bytes, most_bytes) = blob_bytes(dev)?;
     opened(alloc, dev, &config)?;
     let opening = dev.take();
     let archive = opened(alloc, dev, &config)?;
-    let opening_again = dev.take();
+    let (opening_again, looked) = looked_up(&archive, alloc, dev, plan, watch)?;
     let records = records_below(&archive, plan.puts);
-    let held_bytes = match plan.sections {
-        Some(sections) => Some(bytes_of(sections.saturating_mul(ITEMS))),
-        None => None,
-    };
     Ok(Report {
         costs,
         filling,
         pruning,
         blob_bytes,
         most_bytes,
+        held_bytes: held_bytes(plan),
         opening,
         opening_again,
         records,
-        held_bytes,
         record_bytes: bytes_of(records),
-        index_pages: index_pages(&settings, records),
+        index_pages: index_pages(&settings, items, records),
+        looked,
     })
+}
+
+// How many bytes the blobs have, and the most that they had at once. It is an error where that is not known.
+fn blob_bytes<D: Device>(dev: &Counting<D>) -> Result<(u64, u64), AllocError> {
+    if dev.sizes().has_gaps() {
+        return Err(AllocError);
+    }
+    Ok((dev.sizes().sum(), dev.sizes().greatest()))
+}
+
+// How many bytes the records have of as many whole sections as are held. None where all sections are.
+fn held_bytes(plan: &Plan<'_>) -> Option<u64> {
+    Some(bytes_of(plan.sections?.saturating_mul(ITEMS)))
 }
 
 // How many bytes so many records have, in the index and as values.
 fn bytes_of(records: u64) -> u64 {
     records.saturating_mul(RECORD_BYTES + VALUE_BYTES as u64)
+}
+
+// Ends the phase of openings, and makes all phases of lookups where the plan asks for them. The calls of the last
+// opening come first.
+fn looked_up<A, D: Phased, C: CpuClock>(
+    archive: &A,
+    alloc: Global,
+    dev: &mut D,
+    plan: &Plan<'_>,
+    watch: &mut Watch<'_, C>,
+) -> Result<(Tally, Vec<Looked>), BenchError>
+where
+    A: Archive<Key = Key8, Value = ByteValue>,
+    requires usable { MayUse A.meaning D.Device archive.now dev.old }
+{
+    let opening = dev.take();
+    watch.enter("opening twice")?;
+    let mut looked = Vec::new(alloc);
+    if plan.items.is_none() {
+        return Ok((opening, looked));
+    }
+    let order = order_of(alloc, plan.puts)?;
+    watch.enter("order")?;
+    for look in Look::ALL {
+        let found = look_up(archive, dev, order.as_slice(), look)?;
+        watch.enter(look.name())?;
+        let tally = dev.take();
+        looked.push(Looked { look, found, tally })?;
+    }
+    Ok((opening, looked))
 }
 
 // Opens the archive.
@@ -210,9 +257,9 @@ where
     archive.sync(dev)
 }
 
-// The key of an index: its eight bytes.
-fn key_of(index: u64) -> Key8 {
-    match Key8::from_bytes(&index.to_be_bytes()) {
+/// The key of an index: eight bytes, of which the first four differ from those of its neighbours, as words do.
+pub fn key_of(index: u64) -> Key8 {
+    match Key8::from_bytes(&index.wrapping_mul(SPREAD).to_be_bytes()) {
         Some(key) => key,
         None => unreachable!(),
     }

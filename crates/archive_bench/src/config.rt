@@ -17,7 +17,7 @@ pub const KEY_PARTITION: &str = "keys";
 /// The partition of the values.
 pub const VALUE_PARTITION: &str = "values";
 
-/// How many indices a section has room for.
+/// How many indices a section has room for, where no words say it.
 pub const ITEMS: u64 = 1024;
 
 // How many bytes a page has behind its data: two slots of six.
@@ -45,19 +45,22 @@ fn section_pages(settings: &Settings, records: u64) -> u64
 
 /// How many pages all index blobs have where so many indices one behind another have a record, from the first
 /// of a section on, and no others.
-pub fn index_pages(settings: &Settings, records: u64) -> u64
-    requires { 1 ≤ settings.now.page_size }
+pub fn index_pages(settings: &Settings, items: u64, records: u64) -> u64
+    requires page { 1 ≤ settings.now.page_size }
+    requires items { 1 ≤ items }
 {
-    let full = (records / ITEMS).saturating_mul(section_pages(settings, ITEMS));
-    full.saturating_add(section_pages(settings, records % ITEMS))
+    let full = (records / items).saturating_mul(section_pages(settings, items));
+    full.saturating_add(section_pages(settings, records % items))
 }
 
 /// Where the archive is kept, and how, by the settings of the program.
 pub fn config_of(
     alloc: Global,
     settings: &Settings,
+    items: u64,
 ) -> Result<prunable::Config<FourCap, u32>, AllocError>
-    requires { AreSettings settings.now }
+    requires settings { AreSettings settings.now }
+    requires items { 1 ≤ items }
     ensures valid { IfOk result (λ c. IsValid c) }
     ensures values { IfOk result (λ c. c.codec_config ≡ settings.now.max_value) }
 {
@@ -71,7 +74,7 @@ pub fn config_of(
         },
         value_partition: String::from_str(alloc, VALUE_PARTITION)?,
         codec_config: settings.max_value,
-        items_per_section: ITEMS,
+        items_per_section: items,
         key_write_buffer: settings.write_buffer,
         value_write_buffer: settings.write_buffer,
         replay_buffer: settings.replay_buffer,

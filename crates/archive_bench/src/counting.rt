@@ -13,6 +13,11 @@ pub trait Phased: Device {
     fn turn(&mut self)
         ensures time { Self.time self.new ≡ Self.time self.old }
         ensures opened { Self.opened self.new ≡ Self.opened self.old };
+
+    /// What was counted so far. The count begins anew, and the device stays as it is.
+    fn take(&mut self) -> Tally
+        ensures time { Self.time self.new ≡ Self.time self.old }
+        ensures opened { Self.opened self.new ≡ Self.opened self.old };
 }
 
 /// A device that passes each call on to another one, and counts it. It tells its disk where that one does.
@@ -22,6 +27,7 @@ pub struct Counting<D> {
     inner: D,
     // how many bytes a page of an index blob has in the blob
     page_bytes: u64,
+    // so that each byte has its page
     ghost has_bytes: { 1 ≤ page_bytes },
     // what was counted since it was taken last
     tally: Tally,
@@ -58,15 +64,6 @@ impl<D> Counting<D> {
         &self.inner
     }
 
-    /// What was counted so far. The count begins anew.
-    pub fn take(&mut self) -> Tally
-        ensures { self.new.inner ≡ self.old.inner }
-    {
-        let tally = self.tally;
-        self.tally = Tally::NONE;
-        tally
-    }
-
     // Counts the pages of an index blob into which a read of so many bytes reaches.
     fn count_pages(&mut self, partition: &str, offset: u64, len: u64)
         ensures { self.new.inner ≡ self.old.inner }
@@ -84,6 +81,12 @@ impl<D: Device> Phased for Counting<D> {
         let tally = self.tally;
         self.tally = self.aside;
         self.aside = tally;
+    }
+
+    fn take(&mut self) -> Tally {
+        let tally = self.tally;
+        self.tally = Tally::NONE;
+        tally
     }
 }
 
@@ -154,23 +157,27 @@ impl<D: Device> Device for Counting<D> {
         count_bytes(&mut counts.bytes_written, bytes.len());
         let end = offset.saturating_add(bytes.len() as u64);
         self.sizes.reach(partition, name, end);
+        // Counted by now, so that a call which fails is counted too.
         self.inner.write_at(partition, name, offset, bytes)
     }
 
     fn resize(&mut self, partition: &str, name: &[u8], len: u64) -> Result<(), DevError> {
         count(&mut self.tally.at(partition).resizes);
         self.sizes.set(partition, name, len);
+        // Counted by now, also where it fails.
         self.inner.resize(partition, name, len)
     }
 
     fn sync(&mut self, partition: &str, name: &[u8]) -> Result<(), DevError> {
         count(&mut self.tally.at(partition).syncs);
+        // Counted by now, also where it fails.
         self.inner.sync(partition, name)
     }
 
     fn remove(&mut self, partition: &str, name: &[u8]) -> Result<(), DevError> {
         count(&mut self.tally.at(partition).removes);
         self.sizes.forget(partition, name);
+        // Counted by now, also where it fails.
         self.inner.remove(partition, name)
     }
 

@@ -9,7 +9,7 @@ use thiserror::Error;
 #[derive(Debug, Drop, Error)]
 pub enum BenchError {
     /// The words are not of the form that is wanted.
-    #[error("usage: archive_bench [DIR PUTS [SECTIONS]] (archive_bench --help says more)")]
+    #[error("usage: archive_bench [DIR PUTS [SECTIONS | look ITEMS]] (archive_bench --help says more)")]
     Usage,
     /// The archive has a record before the first put.
     #[error("the archive is not empty")]

@@ -1,6 +1,7 @@
 //! `archive_bench` fills an archive, opens it again, and prints how many calls of the device that made.
 //!
-//! What it prints depends on its words alone, and is the same over a folder and in memory. Time is measured outside, by `bench.sh`.
+//! What it prints on standard output depends on its words alone, and is the same over a folder and in memory. The processor time of each
+//! phase goes to standard error.
 #![tactic(auto)]
 
 mod bench;
@@ -8,8 +9,10 @@ mod config;
 mod counting;
 mod counts;
 mod error;
+mod looking;
 mod report;
 mod sizes;
+mod times;
 mod words;
 
 use archive_service::Settings;
@@ -22,12 +25,13 @@ use report::Report;
 use std::alloc::AllocError;
 use std::process::ExitCode;
 use std::{env, io};
+use times::Watch;
 use words::{Plan, USUAL, plan_of};
 
 const HELP: &str = "\
 Fills an archive, opens it again, and prints how many calls of the device that made.
 
-usage: archive_bench [DIR PUTS [SECTIONS]]
+usage: archive_bench [DIR PUTS [SECTIONS | look ITEMS]]
        archive_bench --help
 
   DIR       an empty folder to keep the archive in, made when it is needed; with
@@ -35,9 +39,14 @@ usage: archive_bench [DIR PUTS [SECTIONS]]
   PUTS      how many records of 100 bytes are put, with a sync every 100
   SECTIONS  how many sections are held at most: as a new one begins, the oldest
             one is pruned; without it all are held
+  ITEMS     for how many indices a section has room; then each record is looked
+            up by index and by key, and so are as many that were not put
 
-With no words 1000 records are put in memory, and then 24600 of which twenty
-sections are held. A section has room for 1024.
+Counts go to standard output, and the processor time of each phase to standard
+error. With no words 1000 records are put in memory, and then 24600 of which
+twenty sections are held. Then 10000 are put and looked up, in one section and
+in sections of 1024, and so are 100000. Without ITEMS a section has room for
+1024.
 
 status: 0 done, 1 usage, 2 the archive is not empty, 4 input or output fault,
         5 the archive failed, 6 no memory";
@@ -73,11 +82,13 @@ fn run(rt: &HostRuntime) -> Result<(), BenchError> {
 
 // Measures what is asked for, and prints it.
 fn carry_out(rt: &HostRuntime, plan: &Plan<'_>) -> Result<(), BenchError> {
+    let mut watch = Watch::new(rt.alloc(), rt)?;
     let report = match plan.folder {
-        None => measure_in_memory(rt, plan)?,
-        Some(folder) => measure_in(rt, folder, plan)?,
+        None => measure_in_memory(rt, plan, &mut watch)?,
+        Some(folder) => measure_in(rt, folder, plan, &mut watch)?,
     };
     println!(rt; "{report}")?;
+    eprintln!(rt; "{watch}")?;
     Ok(())
 }
 
@@ -91,19 +102,28 @@ fn arguments(rt: &HostRuntime) -> io::Result<Vec<String>> {
 }
 
 // Measures over memory.
-fn measure_in_memory(rt: &HostRuntime, plan: &Plan<'_>) -> Result<Report, BenchError> {
+fn measure_in_memory(
+    rt: &HostRuntime,
+    plan: &Plan<'_>,
+    watch: &mut Watch<'_, HostRuntime>,
+) -> Result<Report, BenchError> {
     let memory = Memory::new(rt.alloc());
     let mut device = Counting::new(rt.alloc(), memory, page_bytes(&Settings::DEFAULT));
-    measure(rt.alloc(), &mut device, plan)
+    measure(rt.alloc(), &mut device, plan, watch)
 }
 
 // Measures over this folder. What failed in it is said on standard error.
-fn measure_in(rt: &HostRuntime, folder: &str, plan: &Plan<'_>) -> Result<Report, BenchError> {
+fn measure_in(
+    rt: &HostRuntime,
+    folder: &str,
+    plan: &Plan<'_>,
+    watch: &mut Watch<'_, HostRuntime>,
+) -> Result<Report, BenchError> {
     let Ok(files) = FileDevice::new(rt, rt.alloc(), folder) else {
         return Err(BenchError::Memory(AllocError));
     };
     let mut device = Counting::new(rt.alloc(), files, page_bytes(&Settings::DEFAULT));
-    let report = measure(rt.alloc(), &mut device, plan);
+    let report = measure(rt.alloc(), &mut device, plan, watch);
     if let Some(failure) = device.inner().last_failure() {
         eprintln!(rt; "archive_bench: {failure}")?;
     }

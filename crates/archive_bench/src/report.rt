@@ -1,6 +1,7 @@
 // What was measured, as it is printed.
 
 use crate::counts::Tally;
+use crate::looking::Looked;
 use std::fmt;
 
 /// What single puts cost.
@@ -41,7 +42,7 @@ impl fmt::Display for PutCosts {
 }
 
 /// What was measured.
-#[derive(Clone, Copy, Debug, PartialEq, Eq)]
+#[derive(Drop)]
 pub struct Report {
     /// What single puts cost.
     pub costs: PutCosts,
@@ -65,6 +66,8 @@ pub struct Report {
     pub record_bytes: u64,
     /// How many pages the index blobs have.
     pub index_pages: u64,
+    /// What each phase of lookups made, if there were any.
+    pub looked: Vec<Looked>,
 }
 
 impl fmt::Display for Report {
@@ -87,7 +90,11 @@ impl fmt::Display for Report {
             let said = if is_within { "yes" } else { "no" };
             writeln!(f, "within twice the {held} bytes of records held: {said}")?;
         }
-        write!(f, "index pages {}", self.index_pages)
+        write!(f, "index pages {}", self.index_pages)?;
+        for looked in &self.looked {
+            write!(f, "\n{looked}")?;
+        }
+        Ok(())
     }
 }
 

@@ -7,6 +7,7 @@ use std::collections::BTreeMap;
 /// The lengths of blobs, as the calls of a device make them.
 #[derive(Drop)]
 pub struct Sizes {
+    // for the keys of lengths
     alloc: Global,
     // of each blob that was opened, and not removed since: its length, by partition and name
     lengths: BTreeMap<Vec<u8>, u64>,

@@ -1,8 +1,8 @@
 use Rattle.std.proofs.Common.{refl, arith}
 use Rattle.archive_bench.proofs.bench.measure.Goals as goal
 
-pub config_of-requires : goal.config_of-requires
-config_of-requires g c = record {
+pub config_of-requires-clause-settings : goal.config_of-requires-clause-settings
+config_of-requires-clause-settings g c = record {
   pages = omega arith;
   write_buffer = omega arith;
   replay_buffer = omega arith;
