@@ -23,9 +23,11 @@ pub enum Mode {
 /// A run that opens a new log and appends records to it.
 #[derive(Clone, Copy)]
 struct Run<'a> {
+    // How the calls fail from there on.
     mode: Mode,
     /// The number of the first call that fails.
     nth: u64,
+    // What is appended, in order.
     records: &'a [Vec<u8>],
 }
 

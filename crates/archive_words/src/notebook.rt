@@ -68,13 +68,15 @@ impl fmt::Display for Note {
 /// The lengths are those of the blobs that had bytes when they were opened last: a blob that was empty has nothing to lose that was there before.
 #[derive(Drop)]
 pub struct Notebook {
+    // for notes, and for the paths of blobs
     alloc: Global,
     // of each blob that had bytes at its last opening: its length, as openings, writes and cuts give it
     lengths: BTreeMap<Vec<u8>, u64>,
     // the first cuts and the first removals that came, in the order of the calls
     notes: Vec<Note>,
-    // how many cuts came, and how many removals
+    // how many cuts came
     cuts: u64,
+    // how many removals came
     removals: u64,
     // whether there was no memory for a note or a length: what was taken off may then go unsaid
     has_gaps: bool,

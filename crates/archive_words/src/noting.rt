@@ -86,6 +86,7 @@ impl<D: Device> Device for Noting<D> {
         bytes: &[u8],
     ) -> Result<(), DevError> {
         let call = self.inner.calls();
+        // Noted only where it returned Ok: after an error the run ends, and nothing is said of its bytes.
         self.inner.write_at(partition, name, offset, bytes)?;
         self.notebook
             .enter_write(call, partition, name, (offset, bytes));
@@ -94,17 +95,20 @@ impl<D: Device> Device for Noting<D> {
 
     fn resize(&mut self, partition: &str, name: &[u8], len: u64) -> Result<(), DevError> {
         let call = self.inner.calls();
+        // Noted only where it returned Ok, since only then something was cut for good.
         self.inner.resize(partition, name, len)?;
         self.notebook.enter_resize(call, partition, name, len);
         Ok(())
     }
 
     fn sync(&mut self, partition: &str, name: &[u8]) -> Result<(), DevError> {
+        // It takes nothing off, so there is nothing to note.
         self.inner.sync(partition, name)
     }
 
     fn remove(&mut self, partition: &str, name: &[u8]) -> Result<(), DevError> {
         let call = self.inner.calls();
+        // Noted only where it returned Ok, since only then the blob is gone for good.
         self.inner.remove(partition, name)?;
         self.notebook.enter_remove(call, partition, name);
         Ok(())

@@ -10,8 +10,11 @@ use std::alloc::{AllocError, Global};
 /// A blob that is open, and a length that it has at least.
 #[derive(Drop)]
 pub struct Held {
+    /// Its partition,
     pub partition: String,
+    /// and its name there.
     pub name: Vec<u8>,
+    /// No change of the scenario has made it shorter.
     pub len: u64,
 }
 

@@ -59,6 +59,7 @@ use std::process::ExitCode;
 /// Runs scenarios of devices.
 #[derive(Drop)]
 struct Devices<'a> {
+    // For folders: a device over files needs the system's.
     rt: &'a HostRuntime,
 }
 

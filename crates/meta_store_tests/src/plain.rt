@@ -17,8 +17,11 @@ enum Text {
 /// A copy of a map.
 #[derive(Drop)]
 struct Copy {
+    // The number by which the newer copy is known.
     version: u64,
+    // What it names, or 0 where its form names none.
     floor: u64,
+    // As they stand in it.
     entries: Entries,
 }
 

@@ -7,6 +7,7 @@ use std::alloc::{AllocError, Global};
 /// What went wrong first in a scenario, if anything did.
 #[derive(Debug, Drop)]
 pub struct Report {
+    // for the text of a failure
     alloc: Global,
     /// The line, and what is wrong there.
     pub failure: Option<String>,

@@ -63,6 +63,7 @@ pub fn write<F: OpenFile + Write + Seek>(
     cut(file, len)?;
     // A write of no bytes makes its gap too.
     if len < offset {
+        // The gap before the bytes: what is read of it is zeros from now on.
         file.set_len(offset)?;
     }
     file.seek(SeekFrom::Start(offset))?;
@@ -75,6 +76,7 @@ pub fn write<F: OpenFile + Write + Seek>(
 pub fn resize<F: OpenFile>(file: &F, old: u64, new: u64) -> Result<(), Stop> {
     // New bytes are zeros, so what an earlier write left is cut first.
     cut(file, old)?;
+    // Only now: longer by zeros, or shorter.
     file.set_len(new)?;
     Ok(())
 }

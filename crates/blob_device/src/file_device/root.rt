@@ -35,6 +35,7 @@ fn settle_name<R: Files>(rt: &R, alloc: Global, folder: &str, own: bool) -> Resu
     // By the folder's own way up, which is right however its path is spelled.
     let above = joined(alloc, folder, "..")?;
     match fs::open(rt, above.as_str()) {
+        // The name stands in the folder above, so that one is synced.
         Ok(above) => synced(above.sync_all()),
         Err(e) if e.kind() == ErrorKind::PermissionDenied && !own => Ok(()),
         Err(e) => Err(Stop::from(e)),
