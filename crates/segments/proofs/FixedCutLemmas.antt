@@ -36,7 +36,7 @@ empty_sealed seal u b begun none adopted = adopted_sealed seal u b adopted (λ k
 
 module _ {S : Type 0} {gs : _} (seal : List ℕ → ℕ) (g : buffer.Ghosts (PageBlob S gs)) (pages : ArePages g seal) (u : PageBlob S gs) where
   -- of a buffer of which all has settled: its bytes are its sealed prefix, or it has more
-  settled_front : (from b : Blob) (least n : ℕ) → u.settled ≡ size_of (shown u) → least ≡ min u.settled n → IsAdopted seal (shown u) from → Leaves (g.NoChanceSeal u) (g.MayKeep u from least) b
+  pub settled_front : (from b : Blob) (least n : ℕ) → u.settled ≡ size_of (shown u) → least ≡ min u.settled n → IsAdopted seal (shown u) from → Leaves (g.NoChanceSeal u) (g.MayKeep u from least) b
       → chance.Leaves seal u.page_size (sealed_prefix seal u.page_size from.content) (min n (length (sealed_prefix seal u.page_size from.content))) b
   settled_front from b least n settled is (inl sealed) leaves =
       let settles = settles_of seal (shown u) u.page_size (bytes_of (shown u) from.content) from refl u.fit.begun (all_flushed (shown u) u.fit.within u.order settled) settled sealed in

@@ -1,5 +1,5 @@
 -- What a call of a fixed journal that fails passes on of the call below it.
-use Rattle.std.proofs.Common.{◌≡◌, ◌⊎◌, ◌∙◌, ◌≤◌, inl, inr, ℕ, List, Bool, false, Option, Some, None, Result, Ok, Err, refl, ap, sym, subst, OnErr, IfOk}
+use Rattle.std.proofs.Common.{◌≡◌, ◌⊎◌, ◌↔◌, ◌∙◌, ◌≤◌, inl, inr, ℕ, List, Bool, false, Option, Some, None, Result, Ok, Err, refl, ap, sym, subst, OnErr, IfOk}
 use Rattle.std.specs.Result.{IsErr, IsErrOf}
 use Rattle.blob_device.proofs.Results.{err_with}
 use Rattle.sealed_pages.specs.Buffer.{Buffer}
@@ -11,7 +11,7 @@ use Rattle.segments.specs.declared.journal.Damage.{Damage}
 use Rattle.value_codec.specs.declared.codec.Error as codec
 use Rattle.segments.proofs.FixedReading.{failed_since}
 use Rattle.segments.specs.FixedLists.{shown_held}
-use Rattle.segments.specs.Refusing.{IsPruned, HasFailed, HasNoRoom}
+use Rattle.segments.specs.Refusing.{IsPruned, HasDamage, HasFailed, HasNoRoom}
 
 -- nothing is said of the value of a call that failed
 pub no_value : {T E : Type 0} (P : T → Type 0) (r : Result T E) → IsErr r → IfOk r P
@@ -31,6 +31,35 @@ pub pruned_on : {T U : Type 0} (r : Result T Error) (e : Error) (floor n m : ℕ
 pruned_on {U = U} r e floor n m is cause = err_with r (elim cause [
   | inl pruned ↦ inl (cc (is, pruned))
   | inr failed ↦ inr (failed_on {U = U} r e n m is failed)
+])
+
+-- a call that ended well has no error
+pub no_error : {T : Type 0} (v : T) (e : Error) → IsErrOf (Ok v) e → ⊥
+no_error v e is = cc is
+
+-- the same error of an answer of another type
+pub same_error : {T U : Type 0} (r : Result T Error) (e x : Error) → r ≡ Err e → IsErrOf {T = U} (Err e) x → IsErrOf r x
+same_error r e x is of = cc (is, of)
+
+pub error_back : {T U : Type 0} (r : Result T Error) (e x : Error) → r ≡ Err e → IsErrOf r x → IsErrOf {T = U} (Err e) x
+error_back r e x is of = cc (is, of)
+
+-- the same bound is refused
+pub guard_on : {T U : Type 0} (r : Result T Error) (e : Error) (floor : ℕ) (X : Type 0) → r ≡ Err e
+    → IsPruned {T = U} (Err e) floor ↔ X → IsPruned r floor ↔ X
+guard_on r e floor X is guard = (λ pruned. guard.0 (error_back r e _ is pruned), λ x. same_error r e _ is (guard.1 x))
+
+pub guard_ok : {T U : Type 0} (v : T) (w : U) (floor : ℕ) (X : Type 0) → IsPruned (Ok w) floor ↔ X → IsPruned (Ok v) floor ↔ X
+guard_ok v w floor X guard = (λ pruned. absurd (no_error v _ pruned), λ x. absurd (no_error w _ (guard.1 x)))
+
+-- a section below the floor, a damaged page, or such a failure
+pub cut_on : {T U : Type 0} (r : Result T Error) (e : Error) (floor n m : ℕ) → r ≡ Err e
+    → IsPruned {T = U} (Err e) floor ⊎ (HasDamage {T = U} (Err e) ⊎ HasFailed {T = U} (Err e) n m)
+    → OnErr r (IsPruned r floor ⊎ (HasDamage r ⊎ HasFailed r n m))
+cut_on {U = U} r e floor n m is cause = err_with r (elim cause [
+  | inl pruned ↦ inl (same_error r e _ is pruned)
+  | inr (inl damage) ↦ inr (inl (damage.0, same_error r e _ is damage.1))
+  | inr (inr failed) ↦ inr (inr (failed_on {U = U} r e n m is failed))
 ])
 
 -- the same of another spelling of the result of an opening

@@ -48,7 +48,7 @@ module _ {F S : Type 0} {gs : _} (m : Sections F (PageBlob S gs)) (s : ℕ) (u :
 
 module _ {F S : Type 0} {gs : _} (g : buffer.Ghosts (PageBlob S gs)) (gives : F → Setting) where
   -- reads leave each blob opened, as long as it was
-  opened_read : (m : Sections F (PageBlob S gs)) (k : Key) (a b : OpenedList) → OnlyRead k a b → HasOpened g gives m a → HasOpened g gives m b
+  pub opened_read : (m : Sections F (PageBlob S gs)) (k : Key) (a b : OpenedList) → OnlyRead k a b → HasOpened g gives m a → HasOpened g gives m b
   opened_read m k a b only has = record {
     key = has.key;
     setting = has.setting;

@@ -14,6 +14,7 @@ use Rattle.sealed_pages.specs.View.{view}
 use Rattle.segments.specs.declared.journal.Damage.{Damage}
 use Rattle.segments.specs.declared.sealed.AppendFactory.{AppendFactory}
 use Rattle.segments.specs.declared.fixed.preflighting.Preflight.{Preflight}
+use Rattle.segments.specs.declared.fixed.preflighting.Target.{Target}
 use Rattle.segments.specs.FixedItems.{IsItem}
 use Rattle.segments.specs.FixedLists.{Lists, floor_in}
 use Rattle.segments.specs.FixedShown as journal
@@ -21,7 +22,7 @@ use Rattle.segments.specs.Sealed.{adopted_bytes}
 use Rattle.segments.specs.Sections.{Sections, key_of}
 
 -- Where the journal is and how it is kept, and up to which section it was opened; how many bytes of each section a marker vouches for;
--- and, of each section with a marker, the last item that it vouches for, if any.
+-- of each section with a marker, the last item that it vouches for, if any; and where a checkpoint cuts.
 pub record Floors (A : Type 0) : Type 0 where
   pub partition : List ℕ
   pub pages : Pages
@@ -29,6 +30,7 @@ pub record Floors (A : Type 0) : Type 0 where
   pub ceiling : ℕ
   pub floor_of : ℕ → ℕ
   pub boundary_of : ℕ → Option (Option A)
+  pub target : Option Target
 
 abbrev pub shown : {A S : Type 0} {fixed codec seal : _} → Preflight A S fixed codec seal → Floors A
 shown p = record {
@@ -38,6 +40,7 @@ shown p = record {
   ceiling = p.journal.manager.ceiling;
   floor_of = floor_in p.journal.floors;
   boundary_of = tree.get nat_cmp p.boundaries;
+  target = p.target;
 }
 
 -- the journal that was opened

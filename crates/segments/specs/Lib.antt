@@ -26,3 +26,8 @@ pub mod FixedStepping
 pub mod FixedWalking
 pub mod FixedFloors
 pub mod Tails
+pub mod Answers
+pub mod FixedBounds
+pub mod FixedDraining
+pub mod FixedCheckpoint
+pub mod FixedCursor

@@ -52,13 +52,17 @@ ghost use Rattle.segments.specs.Sections.{IsHeld};
 ghost use Rattle.segments.specs.FixedItems.{HoldsFirstItems};
 ghost use Rattle.segments.specs.Refusing.{IsPruned};
 
+mod capping;
+mod cursor;
 mod cutting;
+mod draining;
 mod floors;
 mod opening;
 mod preflighting;
 mod reading;
 mod removing;
 mod replaying;
+mod restoring;
 mod writing;
 
 use crate::journal::Error;

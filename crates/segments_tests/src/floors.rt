@@ -37,8 +37,8 @@ pub fn open(alloc: Global, dev: &mut Memory, step: &Step) -> Result<(Store, Said
     Ok((Store::Items(journal), Said::Row(row)))
 }
 
-// The sections with a marker, each with the last item below it.
-fn bounds_of(alloc: Global, found: &Preflight<Low, Sha256Seal>) -> Vec<Part> {
+/// The sections with a boundary, each with the last item below it.
+pub fn bounds_of(alloc: Global, found: &Preflight<Low, Sha256Seal>) -> Vec<Part> {
     let mut row = Vec::new(alloc);
     for (section, item) in found.boundaries() {
         let last = match item {

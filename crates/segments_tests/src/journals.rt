@@ -2,6 +2,7 @@
 ghost use Rattle.std.specs.Prelude.{◌≤◌, IfOk};
 ghost use Rattle.segments_tests.specs.Stores.{IsOpen};
 
+use crate::floors::bounds_of;
 use crate::items::Low;
 use crate::reading::{ask, read};
 use crate::replays::replay;
@@ -59,6 +60,32 @@ pub fn open(alloc: Global, dev: &mut Memory, step: &Step) -> Result<(Store, Said
     }
 }
 
+/// Opens a journal up to a byte of a section, or at a checkpoint. Of a checkpoint it says the last
+/// item below each boundary.
+pub fn open_cut(alloc: Global, dev: &mut Memory, step: &Step) -> Result<(Store, Said), Error>
+    ensures { IfOk result (λ r. IsOpen dev.new r.0) }
+{
+    let (page, buffer, held) = (number(step, 1), number(step, 2), number(step, 3));
+    let cfg = config(alloc, step.argument(0), page, buffer, held)?;
+    let (section, end) = (number(step, 4), number(step, 5));
+    match step.word() {
+        "open-at-most" => {
+            let journal = Journal::init_at_most(alloc, dev, &cfg, section, end)?;
+            Ok((Store::Items(journal), Said::Done))
+        }
+        "open-cut" => {
+            let journal = Journal::open_at_most(alloc, dev, &cfg, section, end)?;
+            Ok((Store::Items(journal), Said::Done))
+        }
+        _ => {
+            let found = Journal::preflight_restore(alloc, dev, &cfg, section, end)?;
+            let row = bounds_of(alloc, &found);
+            let journal = found.finish(dev)?;
+            Ok((Store::Items(journal), Said::Row(row)))
+        }
+    }
+}
+
 /// Carries out a command over a journal.
 pub fn obey(
     alloc: Global,
@@ -76,6 +103,11 @@ pub fn obey(
             or_closed(change(journal, dev, step, told), dev)
         }
         "cut" => or_closed(cut(journal, dev, number(step, 0), number(step, 1)), dev),
+        "cut-tail" => or_closed(cut_tail(journal, dev, step), dev),
+        "sealed" => {
+            let answer = sealed(&journal, dev, step);
+            (Store::Items(journal), answer)
+        }
         "replay" => or_closed(replay(alloc, journal, dev, step), dev),
         "get" | "last" | "get-many" => {
             let answer = read(alloc, &journal, dev, step);
@@ -159,4 +191,30 @@ fn cut(journal: Lows, dev: &mut Memory, section: u64, size: u64) -> Result<(Stor
     }
     let journal = journal.truncate_pending_section(dev, section, size)?;
     Ok((Store::Items(journal), Said::Done))
+}
+
+// Removes the later sections, and cuts this one to the whole items of its sealed prefix up to a
+// byte. Of a section behind the newest one nothing is done.
+fn cut_tail(journal: Lows, dev: &mut Memory, step: &Step) -> Result<(Store, Said), Error>
+    requires { IsOpen dev.old (Store.Items journal) }
+    ensures { IfOk result (λ r. IsOpen dev.new r.0) }
+{
+    let section = number(step, 0);
+    if journal.newest_section().unwrap_or(0) < section {
+        return Ok((Store::Items(journal), Said::Text("behind the newest")));
+    }
+    let end = journal.recoverable_prefix_len_at_most(dev, section, number(step, 1), 64)?;
+    let journal = journal.truncate_pending_tail(dev, section, end)?;
+    Ok((Store::Items(journal), Said::Done))
+}
+
+// How many bytes of whole items of a section are sealed, up to a byte.
+fn sealed(journal: &Lows, dev: &mut Memory, step: &Step) -> Result<Said, Error>
+    requires { IsOpen dev.old (Store.Items journal.now) }
+    ensures { IsOpen dev.new (Store.Items journal.now) }
+{
+    let (section, end) = (number(step, 0), number(step, 1));
+    let piece = step.number(2).unwrap_or(64) as usize;
+    let kept = journal.recoverable_prefix_len_at_most(dev, section, end, piece)?;
+    Ok(Said::Number(kept))
 }

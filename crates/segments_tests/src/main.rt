@@ -13,9 +13,13 @@
 //! A journal of numbers below 100, eight bytes each: `open PARTITION PAGE BUFFER HELD CEILING`,
 //! where HELD is how many pages are held, and CEILING the last section that is opened. The same
 //! words and `SECTION:COUNT ..` behind `open-floors` check markers too. `open-elsewhere` has the
-//! words of `damage` and markers, and gives the journal where the device is a damaged one. Then
+//! words of `damage` and markers, and gives the journal where the device is a damaged one.
+//! `open-at-most PARTITION PAGE BUFFER HELD SECTION END` opens one up to a byte of a section and
+//! goes over it, and `open-cut` does not go over it; `open-restore` has the same words, of a
+//! checkpoint, and says the last item below each boundary. Then
 //! `append SECTION N ..`, `sync SECTION ..`, `start-sync SECTION ..`, `sync-all`, `prune SECTION`,
-//! `clear`, `destroy`, `cut SECTION SIZE`, `replay SECTION POSITION PIECE MOST`, `get SECTION
+//! `clear`, `destroy`, `cut SECTION SIZE`, `cut-tail SECTION END` (to what is sealed up to
+//! there), `sealed SECTION END PIECE`, `replay SECTION POSITION PIECE MOST`, `get SECTION
 //! POSITION`, `get-many SECTION POSITION ..`, `last SECTION` and `held SECTION POSITION`. It says
 //! its `len`, `size`, `full`, `floor`, `recovered`, `pruned` and `guard` of a section, and its
 //! `oldest`, `newest` and all `sections`.

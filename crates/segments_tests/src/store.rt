@@ -37,7 +37,14 @@ pub fn obey(
         "blob" | "drop" | "damage" | "crash" | "fail" | "fuse" => {
             (Store::Closed, remake(alloc, dev, step))
         }
-        "open" | "open-floors" | "open-elsewhere" | "manage" | "buffer" => open(alloc, dev, step),
+        "open"
+        | "open-at-most"
+        | "open-cut"
+        | "open-restore"
+        | "open-floors"
+        | "open-elsewhere"
+        | "manage"
+        | "buffer" => open(alloc, dev, step),
         _ => match store {
             Store::Items(journal) => journals::obey(alloc, journal, dev, step, told),
             Store::Sections(sections) => managers::obey(alloc, sections, dev, step, told),
@@ -52,6 +59,9 @@ fn open(alloc: Global, dev: &mut Memory, step: &Step) -> (Store, Result<Said, Er
 {
     match step.word() {
         "open" => or_closed(journals::open(alloc, dev, step), dev),
+        "open-at-most" | "open-cut" | "open-restore" => {
+            or_closed(journals::open_cut(alloc, dev, step), dev)
+        }
         "open-floors" => or_closed(floors::open(alloc, dev, step), dev),
         "manage" => or_closed(managers::open(alloc, dev, step), dev),
         "open-elsewhere" => (Store::Closed, floors::elsewhere(alloc, dev, step)),

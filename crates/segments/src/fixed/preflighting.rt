@@ -69,13 +69,24 @@ impl<'a, A> Iterator for BoundaryIter<'a, A> {
     }
 }
 
+/// Where a checkpoint ends: later sections are removed, and the section is cut to so many bytes.
+#[derive(Clone, Copy)]
+pub(super) struct Target {
+    /// The section of the checkpoint.
+    pub(super) section: u64,
+    /// How many of its bytes are kept.
+    pub(super) size: u64,
+}
+
 /// A journal that is opened, of which the items that markers vouch for were checked, and nothing was written.
 #[derive(Drop)]
 pub struct Preflight<A: CodecFixed, S: Seal> {
     /// The opened journal, with the floors of the markers that were checked.
-    journal: Journal<A, S>,
+    pub(super) journal: Journal<A, S>,
     /// By section with a checked marker its last item, none where the marker is 0 (`KeepsBoundary`).
     boundaries: BTreeMap<u64, Option<A>>,
+    /// Where a checkpoint cuts; none where markers were checked.
+    pub(super) target: Option<Target>,
     // A floor is of whole items.
     ghost whole: { (s : ℕ) → floor_in journal.floors s % A.SIZE ≡ 0 },
     // A section with a floor was opened.
@@ -161,6 +172,7 @@ impl<A: CodecFixed, S: Seal> Journal<A, S> {
         ensures fits { OnOk result ((s n : ℕ) → tree.get nat_cmp floors.now s ≡ Some n → n * A.SIZE < 2 ^ 64) }
         ensures partition { IfOk result (λ r. (shown r).partition ≡ string_bytes cfg.now.partition) }
         ensures pages { IfOk result (λ r. (shown r).pages ≡ cfg.now.pages) }
+        ensures target { IfOk result (λ r. (shown r).target ≡ None) }
         ensures write_buffer { IfOk result (λ r. (shown r).write_buffer ≡ cfg.now.write_buffer) }
         ensures ceiling { IfOk result (λ r. (shown r).ceiling ≡ ceiling) }
         // The journal that it opened.
@@ -304,18 +316,22 @@ impl<A: CodecFixed, S: Seal> Journal<A, S> {
 }
 
 impl<A: CodecFixed, S: Seal> Preflight<A, S> {
+    ghost use Rattle.segments.specs.Answers.{seen};
+    ghost use Rattle.segments.specs.FixedCheckpoint.{Finishes, IsReady};
     ghost use Rattle.segments.specs.FixedFloors.{shown, journal_of, IsBoundary, IsRefused, IsUnsealed, IsAdoptedOver, AreAdopted};
     ghost use Rattle.segments.specs.FixedShown as journal;
 
     // No section has a marker yet.
-    fn unchecked(alloc: Global, opened: Journal<A, S>) -> Self
+    pub(super) fn unchecked(alloc: Global, opened: Journal<A, S>) -> Self
         requires { (s : ℕ) → (journal.shown opened).floor_of s ≡ 0 }
         ensures journal { journal_of result ≡ journal.shown opened }
         ensures boundaries { (s : ℕ) → (shown result).boundary_of s ≡ None }
+        ensures target { (shown result).target ≡ None }
     {
         Preflight {
             journal: opened,
             boundaries: BTreeMap::new(alloc),
+            target: None,
         }
     }
 
@@ -337,7 +353,12 @@ impl<A: CodecFixed, S: Seal> Preflight<A, S> {
     }
 
     // Checks the marker of a section of which none was checked.
-    fn checked<D: Device>(self, dev: &mut D, section: u64, items: u64) -> Result<Self, Error>
+    pub(super) fn checked<D: Device>(
+        self,
+        dev: &mut D,
+        section: u64,
+        items: u64,
+    ) -> Result<Self, Error>
         requires bounded { section ≤ (shown self).ceiling }
         requires floor { (journal_of self).sections.floor ≡ 0 }
         requires over { IsOver ⟦<PageBlob<S> as SectionBuffer>⟧ ⟦<AppendFactory<S> as BufferFactory>⟧.gives D.Tells (journal_of self).sections (D.opened dev.old) (disk (D.time dev.old)) }
@@ -345,6 +366,7 @@ impl<A: CodecFixed, S: Seal> Preflight<A, S> {
         requires held { D.Tells → (s : ℕ) → s < 2 ^ 64 → IsHeld (journal_of self).sections s ↔ (IsTrue (disk (D.time dev.old) (section_key (shown self).partition s)).there × (s ≤ (shown self).ceiling)) }
         ensures over { IsOver ⟦<PageBlob<S> as SectionBuffer>⟧ ⟦<AppendFactory<S> as BufferFactory>⟧.gives D.Tells (journal_of self).sections (D.opened dev.new) (disk (D.time dev.new)) }
         ensures sections { IfOk result (λ r. (journal_of r).sections ≡ (journal_of self).sections) }
+        ensures target { IfOk result (λ r. (shown r).target ≡ (shown self).target) }
         ensures floor { IfOk result (λ r. (shown r).floor_of section ≡ items * A.SIZE) }
         ensures fits { OnOk result (items * A.SIZE < 2 ^ 64) }
         ensures there { D.Tells → OnOk result (IsTrue (disk (D.time dev.old) (section_key (shown self).partition section)).there) }
@@ -379,7 +401,7 @@ impl<A: CodecFixed, S: Seal> Preflight<A, S> {
     }
 
     // Takes the floor of a section in, and its last item below it.
-    fn with_floor(self, section: u64, floor: u64, item: Option<A>) -> Result<Self, Error>
+    pub(super) fn with_floor(self, section: u64, floor: u64, item: Option<A>) -> Result<Self, Error>
         requires whole { floor % A.SIZE ≡ 0 }
         requires bounded { section ≤ (shown self).ceiling }
         ensures floor { IfOk result (λ r. (shown r).floor_of section ≡ floor) }
@@ -387,6 +409,7 @@ impl<A: CodecFixed, S: Seal> Preflight<A, S> {
         ensures floors { IfOk result (λ r. (q : ℕ) → q ≢ section → (shown r).floor_of q ≡ (shown self).floor_of q) }
         ensures boundaries { IfOk result (λ r. (q : ℕ) → q ≢ section → (shown r).boundary_of q ≡ (shown self).boundary_of q) }
         ensures sections { IfOk result (λ r. (journal_of r).sections ≡ (journal_of self).sections) }
+        ensures target { IfOk result (λ r. (shown r).target ≡ (shown self).target) }
         ensures cause { OnErr result (IsErrOf result Error.Mem) }
     {
         let mut this = self;
@@ -491,7 +514,7 @@ impl<A: CodecFixed, S: Seal> Preflight<A, S> {
     }
 
     // The sections with more bytes than their floor owe a replay. It refuses the first one with fewer.
-    fn owing_longer(self) -> Result<Self, Error>
+    pub(super) fn owing_longer(self) -> Result<Self, Error>
         requires floor { (journal_of self).sections.floor ≡ 0 }
         ensures same { IfOk result (λ r. shown r ≡ shown self) }
         ensures sections { IfOk result (λ r. (journal_of r).sections ≡ (journal_of self).sections) }
@@ -518,12 +541,20 @@ impl<A: CodecFixed, S: Seal> Preflight<A, S> {
         }
     }
 
-    /// Gives the journal, which was opened when the markers were checked. It makes no call of the device.
-    pub fn finish<D: Device>(self, _dev: &mut D) -> Result<Journal<A, S>, Error>
-        ensures journal { IfOk result (λ r. journal.shown r ≡ journal_of self) }
-        ensures unchanged { _dev.new ≡ _dev.old }
-        ensures cause { OnErr result ⊥ }
+    /// Gives the journal, which was opened for the check. Where markers were checked it makes no call of the device. Where a checkpoint was,
+    /// it removes the later sections, the newest first, and then cuts the checkpoint's, durably; no section owes a replay then.
+    pub fn finish<D: Device>(self, dev: &mut D) -> Result<Journal<A, S>, Error>
+        requires { (t : _) → (shown self).target ≡ Some t → IsReady ⟦<PageBlob<S> as SectionBuffer>⟧ ⟦<AppendFactory<S> as BufferFactory>⟧.gives S.seal_of A.SIZE D.Tells (journal_of self) t (D.opened dev.old) (disk (D.time dev.old)) }
+        ensures { Finishes ⟦<PageBlob<S> as SectionBuffer>⟧ ⟦<AppendFactory<S> as BufferFactory>⟧.gives S.seal_of A.SIZE D.Device (journal_of self) (seen journal.shown result) dev.old dev.new (shown self).target }
     {
-        Ok(self.journal)
+        let Preflight {
+            journal,
+            target,
+            ..
+        } = self;
+        match target {
+            None => Ok(journal),
+            Some(target) => journal.restored(dev, target),
+        }
     }
 }

@@ -1,5 +1,7 @@
 // Settling sections.
 ghost use Rattle.std.specs.Prelude.{◌≡◌, ◌≢◌, ◌↔◌, ◌≤◌, ◌<◌, ◌⊎◌, ⊤, ℕ, Option, Some, None, Bool, true, false, List, IfOk, OnOk, OnErr, IsSomeAnd, IsTrue};
+ghost use Rattle.std.specs.List.Sorted.{IsStrictlySortedBy};
+ghost use Rattle.std.specs.Ordering.{nat_cmp};
 ghost use Rattle.std.specs.Result.{IsErrOf};
 ghost use Rattle.std.specs.List.{Contains};
 ghost use Rattle.blob_device.specs.Disk.{Key, Blob};
@@ -95,8 +97,9 @@ impl<F: BufferFactory> Manager<F> {
         Ok(this)
     }
 
-    // The numbers of the held sections.
-    fn numbers(&self) -> Result<Vec<u64>, Error>
+    // The numbers of the held sections, ascending.
+    pub(crate) fn numbers(&self) -> Result<Vec<u64>, Error>
+        ensures ascending { IfOk result (λ r. IsStrictlySortedBy nat_cmp r.items) }
         ensures each { IfOk result (λ r. (s : ℕ) → Contains r.items s ↔ IsHeld (shown self.now) s) }
         ensures cause { OnErr result (IsErrOf result Error.Mem) }
     {

@@ -56,6 +56,7 @@ loop-section-init g c =
             floor = o.floor;
             place = o.partition;
           });
+      target = c.unchecked-unchecked.ensures.target;
       faults = o.faults;
     }
 
@@ -151,6 +152,7 @@ loop-section-preserved g c =
       settled = settled_read told place c.args.ceiling from now (g.D.Device.time c.checked.new.dev) (g.D.Device.opened c.args.dev.now) (g.D.Device.opened c.loop-section.dev) (g.D.Device.opened c.checked.new.dev) s (c.requires.ceiling s (subst IsSome (sym is) refl)) c.checked.ensures.unchanged
           (subst (λ (p : List ℕ). OnlyOwnEntry (section_key p c.in-Some.section.now) (g.D.Device.opened c.loop-section.dev) (g.D.Device.opened c.checked.new.dev)) done.place c.checked.ensures.entries) settled;
       opened = opened_read (ghosts g.row.S g.S.Seal g.S.Seal-dict) (λ (f : AppendFactory g.row.S.Denot). record { page_size = f.pages.page_size; capacity = f.write_buffer }) told place c.args.ceiling from (journal_of c.loop-section.found).sections (journal_of c.in_ok-found.found).sections now (g.D.Device.time c.checked.new.dev) (g.D.Device.opened c.loop-section.dev) (g.D.Device.opened c.checked.new.dev) c.in_ok-found.ensures.sections c.checked.ensures.unchanged c.checked.ensures.over opened;
+      target = c.in_ok-found.ensures.target ∙ c.loop-section.invariant.target;
       faults = omega (arith, c.loop-section.invariant.faults, c.checked.ensures.faults);
     }
 
@@ -169,6 +171,7 @@ returns-in_err-journal g c =
       fits = no_value _ _ c.from_residual.ensures.0;
       partition = no_value _ _ c.from_residual.ensures.0;
       pages = no_value _ _ c.from_residual.ensures.0;
+      target = no_value _ _ c.from_residual.ensures.0;
       write_buffer = no_value _ _ c.from_residual.ensures.0;
       ceiling = no_value _ _ c.from_residual.ensures.0;
       over = no_value _ _ c.from_residual.ensures.0;
@@ -227,6 +230,7 @@ returns-in_err-found g c =
       fits = no_value _ _ c.from_residual-in_err-found.ensures.0;
       partition = no_value _ _ c.from_residual-in_err-found.ensures.0;
       pages = no_value _ _ c.from_residual-in_err-found.ensures.0;
+      target = no_value _ _ c.from_residual-in_err-found.ensures.0;
       write_buffer = no_value _ _ c.from_residual-in_err-found.ensures.0;
       ceiling = no_value _ _ c.from_residual-in_err-found.ensures.0;
       over = no_value _ _ c.from_residual-in_err-found.ensures.0;
@@ -303,6 +307,7 @@ returns-in_err-owing g c =
       fits = no_value _ _ c.from_residual-in_err-owing.ensures.0;
       partition = no_value _ _ c.from_residual-in_err-owing.ensures.0;
       pages = no_value _ _ c.from_residual-in_err-owing.ensures.0;
+      target = no_value _ _ c.from_residual-in_err-owing.ensures.0;
       write_buffer = no_value _ _ c.from_residual-in_err-owing.ensures.0;
       ceiling = no_value _ _ c.from_residual-in_err-owing.ensures.0;
       over = no_value _ _ c.from_residual-in_err-owing.ensures.0;
@@ -358,6 +363,7 @@ returns g c =
       fits = λ s n is. (done.marked s n (taken s (subst IsSome (sym is) refl)) is).fits;
       partition = done.place;
       pages = done.paging;
+      target = ap (λ (f : Floors g.row.A.Denot). f.target) c.in_ok-owing.ensures.same ∙ c.loop-section.invariant.target;
       write_buffer = done.buffering;
       ceiling = done.bound;
       over = opened_journal g.S.Seal.seal_of g.A.CodecFixed.SIZE g.D.Device.Tells _ (are_pages g.row.S g.S.Seal g.S.Seal-dict) _ m (g.D.Device.opened c.loop-section.dev) (disk (g.D.Device.time c.loop-section.dev)) opened.over

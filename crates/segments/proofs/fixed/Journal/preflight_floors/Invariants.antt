@@ -1,4 +1,4 @@
-use Rattle.std.specs.Prelude.{◌≤◌, string_bytes}
+use Rattle.std.specs.Prelude.{◌≡◌, ◌≤◌, None, string_bytes}
 use Rattle.std.specs.BTreeMap.{get}
 use Rattle.std.specs.Ordering.{nat_cmp}
 use Rattle.segments.specs.contracts.sealed.PageBlobSectionBuffer.TheImpl.{ghosts}
@@ -15,5 +15,6 @@ invariant-loop-section g l = record {
   settled : Settled g.D.Device.Tells (string_bytes l.cfg.partition) l.ceiling (g.D.Device.time l.fn.dev) (g.D.Device.time l.dev) (g.D.Device.opened l.fn.dev) (g.D.Device.opened l.dev);
   opened : AreOpened (ghosts g.row.S g.S.Seal g.S.Seal-dict) (λ (f : AppendFactory g.row.S.Denot). record { page_size = f.pages.page_size; capacity = f.write_buffer }) g.D.Device.Tells (string_bytes l.cfg.partition) l.ceiling (g.D.Device.time l.fn.dev)
       (journal_of l.found).sections (g.D.Device.time l.dev) (g.D.Device.opened l.dev);
+  target : (shown l.found).target ≡ None;
   faults : g.D.Device.faults l.fn.dev ≤ g.D.Device.faults l.dev;
 }

@@ -1,0 +1,93 @@
+use Rattle.std.specs.Prelude.{string_bytes}
+use Rattle.std.proofs.Common.{◌%◌, ℕ, List, ◌∙◌, ap, arith}
+use Rattle.blob_device.proofs.Results.{err_of}
+use Rattle.sealed_pages.specs.declared.pages.Pages.{Pages}
+use Rattle.segments.specs.Answers.{seen}
+use Rattle.segments.specs.FixedShown.{shown}
+use Rattle.segments.specs.Sections.{section_key}
+use Rattle.segments.specs.contracts.sealed.PageBlobSectionBuffer.TheImpl.{ghosts}
+use Rattle.segments.specs.declared.fixed.Journal.{Journal}
+use Rattle.segments.proofs.FixedBoundLemmas.{whole_whole}
+use Rattle.segments.proofs.FixedBoundsEnds.{cut_unnamed, cut_room, end_cut, end_cause, unopened_bounds, unopened_cause, opened_bounds, opened_cause, if_ok_on, journal_there, cut_sealed, none_ends, still_moments, moments_tail, opened_tail, entries_tail}
+use Rattle.segments.proofs.FixedWriteLemmas.{are_pages}
+use Rattle.segments.proofs.fixed.Journal.open_at_most.Goals as goal
+
+pub end_within-requires-clause-whole : goal.end_within-requires-clause-whole
+end_within-requires-clause-whole g c = ap (λ (n : ℕ). n % g.A.CodecFixed.SIZE) c.whole_bytes-end.ensures ∙ whole_whole g.A.CodecFixed.SIZE c.args.end g.met.A.CodecFixed.fixed.at_least
+
+pub truncate_pending_tail-requires-clause-over : goal.truncate_pending_tail-requires-clause-over
+truncate_pending_tail-requires-clause-over g c =
+    let o = c.in_ok-journal.ensures in
+    journal_there g.S.Seal.seal_of c.args.cfg.now.pages.page_size g.A.CodecFixed.SIZE g.met.A.CodecFixed.fixed.at_least (ghosts g.row.S g.S.Seal g.S.Seal-dict) (are_pages g.row.S g.S.Seal g.S.Seal-dict) (λ f. record { page_size = f.pages.page_size; capacity = f.write_buffer }) g.D.Device
+    (shown c.in_ok-journal.journal) c.args.section c.args.end c.in_ok-end.end c.whole_bytes-end.result c.ranges.section.fits (string_bytes c.args.cfg.now.partition) o.partition c.args.dev.now c.init_bounded.new.dev c.end_within.new.dev
+    o.over (record { held = o.held; unopened = o.unopened; bytes = o.bytes; moments = o.moments }) o.no_leftover (ap (λ (x : Pages). x.page_size) o.pages) o.unrecovered c.whole_bytes-end.ensures c.in_ok-end.ensures
+
+pub truncate_pending_tail-requires-clause-sealed : goal.truncate_pending_tail-requires-clause-sealed
+truncate_pending_tail-requires-clause-sealed g c t u held lt unproven =
+    let o = c.in_ok-journal.ensures in
+    cut_sealed g.S.Seal.seal_of c.args.cfg.now.pages.page_size g.A.CodecFixed.SIZE g.met.A.CodecFixed.fixed.at_least (ghosts g.row.S g.S.Seal g.S.Seal-dict) (are_pages g.row.S g.S.Seal g.S.Seal-dict) (λ f. record { page_size = f.pages.page_size; capacity = f.write_buffer }) g.D.Device
+    (shown c.in_ok-journal.journal) c.args.section c.args.end c.in_ok-end.end c.whole_bytes-end.result c.ranges.section.fits (string_bytes c.args.cfg.now.partition) o.partition c.args.dev.now c.init_bounded.new.dev c.end_within.new.dev
+    o.over (record { held = o.held; unopened = o.unopened; bytes = o.bytes; moments = o.moments }) o.no_leftover (ap (λ (x : Pages). x.page_size) o.pages) o.unrecovered c.whole_bytes-end.ensures c.in_ok-end.ensures t u held lt
+
+pub returns-in_err-journal-clause-bounds : goal.returns-in_err-journal-clause-bounds
+returns-in_err-journal-clause-bounds g c =
+    let e = c.in_err-journal.field-0.0 in
+    let f = c.in_err-journal.ensures in
+    unopened_bounds g.D.Device g.S.Seal.seal_of c.args.cfg.now.pages.page_size g.A.CodecFixed.SIZE (string_bytes c.args.cfg.now.partition) c.args.section c.args.end (seen shown c.from_residual.result) c.args.dev.now c.init_bounded.new.dev {U = (Journal g.row.A.Denot g.row.S.Denot g.A.CodecFixed g.A.Codec g.S.Seal)} e _ c.ranges.section.fits
+    (ap (seen shown) (err_of c.from_residual.result e c.from_residual.ensures.1)) f.moments (λ t name bad. (f.foreign t name bad).1) f.foreign_disk f.foreign_entries f.name_entries f.named f.entries f.overflow f.faults f.cause
+
+pub returns-in_err-journal-clause-cause : goal.returns-in_err-journal-clause-cause
+returns-in_err-journal-clause-cause g c =
+    let e = c.in_err-journal.field-0.0 in
+    unopened_cause g.D.Device g.S.Seal.seal_of c.args.cfg.now.pages.page_size g.A.CodecFixed.SIZE (string_bytes c.args.cfg.now.partition) c.args.section c.args.end (seen shown c.from_residual.result) c.args.dev.now c.init_bounded.new.dev {U = (Journal g.row.A.Denot g.row.S.Denot g.A.CodecFixed g.A.Codec g.S.Seal)} e
+    (ap (seen shown) (err_of c.from_residual.result e c.from_residual.ensures.1)) c.in_err-journal.ensures.cause
+
+pub returns-in_err-end-clause-bounds : goal.returns-in_err-end-clause-bounds
+returns-in_err-end-clause-bounds g c =
+    let o = c.in_ok-journal.ensures in
+    let f = c.in_err-end.ensures in
+    let is = ap (seen shown) (err_of c.from_residual-in_err-end.result c.in_err-end.field-0.0 c.from_residual-in_err-end.ensures.1) in
+    let failed = end_cut {U = ℕ} (seen shown c.from_residual-in_err-end.result) c.in_err-end.field-0.0 (shown c.in_ok-journal.journal).sections.floor (g.D.Device.faults c.init_bounded.new.dev) (g.D.Device.faults c.end_within.new.dev) is f.cause in
+    opened_bounds g.D.Device g.S.Seal.seal_of c.args.cfg.now.pages.page_size g.A.CodecFixed.SIZE (string_bytes c.args.cfg.now.partition) c.args.section c.args.end (seen shown c.from_residual-in_err-end.result) c.args.dev.now c.end_within.new.dev _
+    (still_moments g.D.Device g.S.Seal.seal_of c.args.cfg.now.pages.page_size g.A.CodecFixed.SIZE (string_bytes c.args.cfg.now.partition) c.args.section c.args.end (seen shown c.from_residual-in_err-end.result) c.args.dev.now c.end_within.new.dev c.init_bounded.new.dev c.ranges.section.fits o.moments f.unchanged)
+    (none_ends _ (seen shown c.from_residual-in_err-end.result) c.in_err-end.field-0.0 is)
+    (λ t name bad. (o.foreign t name bad).0)
+    (λ n at. cut_unnamed (seen shown c.from_residual-in_err-end.result) (shown c.in_ok-journal.journal).sections.floor (g.D.Device.faults c.init_bounded.new.dev) (g.D.Device.faults c.end_within.new.dev) n failed at)
+    (λ room. cut_room (seen shown c.from_residual-in_err-end.result) (shown c.in_ok-journal.journal).sections.floor (g.D.Device.faults c.init_bounded.new.dev) (g.D.Device.faults c.end_within.new.dev) failed room)
+    (λ q never. f.entries.others q (λ at. never c.args.section (at ∙ ap (λ (x : List ℕ). section_key x c.args.section) o.partition)) ∙ o.entries q (λ s le. never s))
+    (omega (arith, o.faults, f.faults))
+
+pub returns-in_err-end-clause-cause : goal.returns-in_err-end-clause-cause
+returns-in_err-end-clause-cause g c =
+    let o = c.in_ok-journal.ensures in
+    let e = c.in_err-end.field-0.0 in
+    end_cause g.D.Device g.S.Seal.seal_of c.args.cfg.now.pages.page_size g.A.CodecFixed.SIZE (string_bytes c.args.cfg.now.partition) c.args.section c.args.end (seen shown c.from_residual-in_err-end.result) c.args.dev.now c.end_within.new.dev {U = ℕ} e
+    (ap (seen shown) (err_of c.from_residual-in_err-end.result e c.from_residual-in_err-end.ensures.1)) (shown c.in_ok-journal.journal).sections.floor (g.D.Device.faults c.init_bounded.new.dev) o.faults
+    (λ pruned. omega (arith, c.in_err-end.ensures.guard.0 pruned, o.floor)) c.in_err-end.ensures.cause
+
+pub returns-clause-bounds : goal.returns-clause-bounds
+returns-clause-bounds g c =
+    let o = c.in_ok-journal.ensures in
+    let f = c.truncate_pending_tail.ensures in
+    opened_bounds g.D.Device g.S.Seal.seal_of c.args.cfg.now.pages.page_size g.A.CodecFixed.SIZE (string_bytes c.args.cfg.now.partition) c.args.section c.args.end (seen shown c.truncate_pending_tail.result) c.args.dev.now c.truncate_pending_tail.new.dev _
+    (moments_tail g.S.Seal.seal_of c.args.cfg.now.pages.page_size g.A.CodecFixed.SIZE g.met.A.CodecFixed.fixed.at_least (ghosts g.row.S g.S.Seal g.S.Seal-dict) (are_pages g.row.S g.S.Seal g.S.Seal-dict) (λ f. record { page_size = f.pages.page_size; capacity = f.write_buffer }) g.D.Device
+    (shown c.in_ok-journal.journal) c.args.section c.args.end c.in_ok-end.end c.whole_bytes-end.result c.ranges.section.fits (string_bytes c.args.cfg.now.partition) o.partition c.args.dev.now c.init_bounded.new.dev c.end_within.new.dev
+    o.over (record { held = o.held; unopened = o.unopened; bytes = o.bytes; moments = o.moments }) o.no_leftover (ap (λ (x : Pages). x.page_size) o.pages) o.unrecovered c.whole_bytes-end.ensures c.in_ok-end.ensures c.truncate_pending_tail.new.dev f.moments)
+    (if_ok_on (seen shown c.truncate_pending_tail.result) (λ k cut. opened_tail g.S.Seal.seal_of c.args.cfg.now.pages.page_size g.A.CodecFixed.SIZE g.met.A.CodecFixed.fixed.at_least (ghosts g.row.S g.S.Seal g.S.Seal-dict) (are_pages g.row.S g.S.Seal g.S.Seal-dict) (λ f. record { page_size = f.pages.page_size; capacity = f.write_buffer }) g.D.Device
+    (shown c.in_ok-journal.journal) c.args.section c.args.end c.in_ok-end.end c.whole_bytes-end.result c.ranges.section.fits (string_bytes c.args.cfg.now.partition) o.partition c.args.dev.now c.init_bounded.new.dev c.end_within.new.dev
+    o.over (record { held = o.held; unopened = o.unopened; bytes = o.bytes; moments = o.moments }) o.no_leftover (ap (λ (x : Pages). x.page_size) o.pages) o.unrecovered c.whole_bytes-end.ensures c.in_ok-end.ensures
+    c.truncate_pending_tail.new.dev k cut f.moments c.args.cfg.now.pages c.args.cfg.now.write_buffer o.later o.floors o.idle o.pages o.write_buffer o.floor) f.ends)
+    (λ t name bad. (o.foreign t name bad).0)
+    (λ n at. cut_unnamed (seen shown c.truncate_pending_tail.result) (shown c.in_ok-journal.journal).sections.floor (g.D.Device.faults c.end_within.new.dev) (g.D.Device.faults c.truncate_pending_tail.new.dev) n f.cause at)
+    (λ room. cut_room (seen shown c.truncate_pending_tail.result) (shown c.in_ok-journal.journal).sections.floor (g.D.Device.faults c.end_within.new.dev) (g.D.Device.faults c.truncate_pending_tail.new.dev) f.cause room)
+    (entries_tail g.S.Seal.seal_of c.args.cfg.now.pages.page_size g.A.CodecFixed.SIZE g.met.A.CodecFixed.fixed.at_least (ghosts g.row.S g.S.Seal g.S.Seal-dict) (are_pages g.row.S g.S.Seal g.S.Seal-dict) (λ f. record { page_size = f.pages.page_size; capacity = f.write_buffer }) g.D.Device
+    (shown c.in_ok-journal.journal) c.args.section c.args.end c.in_ok-end.end c.whole_bytes-end.result c.ranges.section.fits (string_bytes c.args.cfg.now.partition) o.partition c.args.dev.now c.init_bounded.new.dev c.end_within.new.dev
+    o.over (record { held = o.held; unopened = o.unopened; bytes = o.bytes; moments = o.moments }) o.no_leftover (ap (λ (x : Pages). x.page_size) o.pages) o.unrecovered c.whole_bytes-end.ensures c.in_ok-end.ensures c.truncate_pending_tail.new.dev f.entries o.entries)
+    (omega (arith, o.faults, c.end_within.ensures.faults, f.faults))
+
+pub returns-clause-cause : goal.returns-clause-cause
+returns-clause-cause g c =
+    let o = c.in_ok-journal.ensures in
+    let f = c.truncate_pending_tail.ensures in
+    opened_cause g.D.Device g.S.Seal.seal_of c.args.cfg.now.pages.page_size g.A.CodecFixed.SIZE (string_bytes c.args.cfg.now.partition) c.args.section c.args.end (seen shown c.truncate_pending_tail.result) c.args.dev.now c.truncate_pending_tail.new.dev (shown c.in_ok-journal.journal).sections.floor (g.D.Device.faults c.end_within.new.dev)
+    (omega (arith, o.faults, c.end_within.ensures.faults)) (λ pruned. omega (arith, f.guard.0 pruned, o.floor)) f.damage f.cause

@@ -1,0 +1,119 @@
+-- What going over all that is left of a replay promises.
+use Rattle.std.specs.Prelude.{◌≡◌, ◌⊎◌, ◌↔◌, ℕ, ◌+◌, ◌*◌, ◌<◌, ◌≤◌, false, List, length, take, true, Option, Some, Result, IfOk, OnErr}
+use Rattle.std.specs.Result.{IsErrOf}
+use Rattle.blob_device.specs.Disk.{Key, Disk}
+use Rattle.blob_device.specs.Opened.{OpenedList, reads_of}
+use Rattle.blob_device.specs.Timeline.{disk, Always, Each}
+use Rattle.blob_device.specs.declared.device.Device as device
+use Rattle.blob_device.specs.declared.runtime.RError.TheVariants.{InvalidChecksum}
+use Rattle.sealed_pages.specs.Shown.{shown}
+use Rattle.sealed_pages.specs.declared.page_blob.PageBlob.{PageBlob}
+use Rattle.value_codec.specs.declared.codec.Error as codec
+use Rattle.segments.specs.FixedBounds.{whole_of}
+use Rattle.segments.specs.FixedItems.{item_at, IsItem}
+use Rattle.segments.specs.FixedLists.{Lists, section_bytes, IsJournal}
+use Rattle.segments.specs.FixedReading.{IsBelowFloor, HasNotRead}
+use Rattle.segments.specs.FixedReplay.{Walk, IsLeft, StandsBefore, Replaying, EndsBelow, kept_bytes}
+use Rattle.segments.specs.FixedStepping.{reads_left}
+use Rattle.segments.specs.Sealed.{is_unsettled}
+use Rattle.segments.specs.Sections.{key_of, IsHeld, SameBounds}
+use Rattle.segments.specs.Setting.{Setting}
+use Rattle.segments.specs.declared.buffer.SectionBuffer as buffer
+use Rattle.segments.specs.declared.journal.Damage.{Damage}
+use Rattle.segments.specs.declared.journal.Error.{Error}
+use Rattle.segments.specs.declared.journal.Error.TheVariants.{Codec, Corruption, ItemOutOfRange, ReplayFailed, Runtime}
+
+-- the replay gives the section from its first item on
+abbrev pub IsFromStart : {F B : Type 0} → Walk F B → ℕ → Type 0
+IsFromStart w s = (w.start_section < s) ⊎ ((w.start_section ≡ s) × (w.start_position ≡ 0))
+
+-- it does not, or gives none of it
+abbrev pub IsBeforeStart : {F B : Type 0} → Walk F B → ℕ → Type 0
+IsBeforeStart w s = (s < w.start_section) ⊎ ((w.start_section ≡ s) × (0 < w.start_position))
+
+module _ {F S V : Type 0} {gs : _} (g : buffer.Ghosts (PageBlob S gs)) (gives : F → Setting)
+    (seal : List ℕ → ℕ) (size : ℕ)
+    (spelling : V → List ℕ) (accepted : V → Unit {0} → Type 0)
+    (refusal : List ℕ → Unit {0} → Option codec.Error) (w : Walk F (PageBlob S gs)) where
+  -- the item that is left of a section at this position is one
+  abbrev pub IsGood : Disk → ℕ → ℕ → Type 0
+  IsGood d s p = (v : V) × IsItem spelling accepted (item_at size (kept_bytes seal size w d s) p) v
+
+  -- The journal k is what going over all that was left of the replay w gave back.
+  pub record IsGoneThrough (told : Type 0) (k : Lists F (PageBlob S gs)) (opened : OpenedList)
+      (from d : Disk) : Type 0 where
+    -- it may be used
+    pub over : IsJournal g gives seal size told k opened d
+    -- partition, factory, floor and ceiling stay
+    pub bounds : SameBounds w.journal.sections k.sections
+    -- the same sections are held
+    pub held : (s : ℕ) → IsHeld k.sections s ↔ IsHeld w.journal.sections s
+    -- and unopened
+    pub unopened : (s : ℕ) → k.sections.unopened s ≡ w.journal.sections.unopened s
+    -- each section has its whole items, where the replay began it at its start
+    pub bytes : told → (s : ℕ) → IsFromStart w s → section_bytes k.sections d s
+        ≡ take (whole_of size (length (kept_bytes seal size w from s)))
+        (kept_bytes seal size w from s)
+    -- where all of a section's bytes had settled, they have
+    pub idle : (s : ℕ) (u v : PageBlob S gs) → w.journal.sections.held s ≡ Some u
+        → k.sections.held s ≡ Some v
+        → is_unsettled (shown u) ≡ false → is_unsettled (shown v) ≡ false
+    -- all that were left are items
+    pub items : told → (s p : ℕ) → IsLeft seal size w from s p → IsGood from s p
+    -- from its start on no section owes a replay
+    pub recovered : (s : ℕ) → IsFromStart w s → k.unrecovered s ≡ false
+    -- and none has a floor
+    pub lifted : (s : ℕ) → IsFromStart w s → k.floor_of s ≡ 0
+    -- the others do as before
+    pub unrecovered : (s : ℕ) → IsBeforeStart w s → k.unrecovered s ≡ w.journal.unrecovered s
+    -- and have theirs
+    pub floors : (s : ℕ) → IsBeforeStart w s → k.floor_of s ≡ w.journal.floor_of s
+
+  -- The first item that is left and is none: its bytes are refused with e.
+  pub record IsFirstRefused (d : Disk) (e : codec.Error) (s p : ℕ) : Type 0 where
+    -- it is left
+    pub left : IsLeft seal size w d s p
+    -- all that go before it are items
+    pub before : (t q : ℕ) → IsLeft seal size w d t q → StandsBefore t q s p → IsGood d t q
+    -- the codec refuses its bytes
+    pub refused : refusal (item_at size (kept_bytes seal size w d s) p) tt ≡ Some e
+
+  module _ {D : Type 0} (dev : device.Ghosts D) where
+    -- All that was left of the replay was gone over.
+    pub record Drains (result : Result (Lists F (PageBlob S gs)) Error) (old new : D) : Type 0 where
+      -- at each moment, also where it fails
+      pub moments : dev.Tells
+          → Always (dev.time old) (dev.time new)
+          (Each (Replaying seal size w (disk (dev.time old))))
+      -- this is the journal then
+      pub ends : IfOk result (λ k.
+          IsGoneThrough dev.Tells k (dev.opened new) (disk (dev.time old)) (disk (dev.time new)))
+      -- the codec's error is that of the first item that is none
+      pub refused : dev.Tells → (e : codec.Error) → IsErrOf result (Codec e)
+          → (s p : ℕ) × IsFirstRefused (disk (dev.time old)) e s p
+      -- a section is refused only where its whole items end below its floor
+      pub damage : dev.Tells → (x : Damage) → IsErrOf result (Corruption x)
+          → EndsBelow seal size w (disk (dev.time old)) x
+      -- the start is refused only where its section keeps fewer items
+      pub start : dev.Tells → (p : ℕ) → IsErrOf result (ItemOutOfRange p) → (p ≡ w.start_position)
+          × (length (kept_bytes seal size w (disk (dev.time old)) w.start_section) < p * size)
+      -- a page is found damaged only where a section that owes no replay has a floor
+      pub damaged : dev.Tells → (k : ℕ) → IsErrOf result (Runtime (InvalidChecksum k)) → (s : ℕ)
+          × IsHeld w.journal.sections s × (w.journal.unrecovered s ≡ false)
+          × (0 < w.journal.floor_of s)
+      -- each page is read once, and one once more where its section is cut within it
+      pub once : (s : ℕ) → IsHeld w.journal.sections s → IfOk result (λ k.
+          reads_of (dev.opened new (key_of w.journal.sections s))
+          ≤ reads_of (dev.opened old (key_of w.journal.sections s)) + reads_left w s)
+      -- the list of opened blobs changes for held sections alone
+      pub entries : (q : Key) → ((s : ℕ) → IsHeld w.journal.sections s → q
+          ≡ key_of w.journal.sections s → ⊥)
+          → dev.opened new q ≡ dev.opened old q
+      -- faults are counted on
+      pub faults : dev.faults old ≤ dev.faults new
+      -- it is given only where no error was given before
+      pub clean : IfOk result (λ k. w.failed ≡ false)
+      -- nothing else is answered but a fault or want of memory, or that an error was given before
+      pub cause : OnErr result ((IsErrOf result ReplayFailed × (w.failed ≡ true))
+          ⊎ (IsErrOf result (ItemOutOfRange w.start_position)
+          ⊎ (IsBelowFloor result ⊎ HasNotRead result (dev.faults old) (dev.faults new))))
