@@ -30,4 +30,3 @@ pub mod Answers
 pub mod FixedBounds
 pub mod FixedDraining
 pub mod FixedCheckpoint
-pub mod FixedCursor

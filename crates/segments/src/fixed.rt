@@ -53,7 +53,6 @@ ghost use Rattle.segments.specs.FixedItems.{HoldsFirstItems};
 ghost use Rattle.segments.specs.Refusing.{IsPruned};
 
 mod capping;
-mod cursor;
 mod cutting;
 mod draining;
 mod floors;

@@ -28,34 +28,34 @@ use value_codec::{CodecFixed, Seal};
 
 /// Where a replay stands within a section. The reader is at the item of this position.
 #[derive(Drop)]
-pub(super) struct Reading<S: Seal> {
+struct Reading<S: Seal> {
     /// The section, which is held (`HasWalk.place`).
-    pub(super) section: u64,
+    section: u64,
     /// The position of the next item, which the reader stands at (`StandsIn.at`).
-    pub(super) position: u64,
+    position: u64,
     /// Over the section's blob, of which all bytes are flushed (`StandsIn.flushed`).
-    pub(super) reader: PageReplay<S>,
+    reader: PageReplay<S>,
 }
 
 /// A walk over the items of a journal, which gives the journal back.
 #[derive(Drop)]
 pub struct Replay<A: CodecFixed, S: Seal> {
     /// The journal that is gone over, and that `finish` gives back (`IsWalk`).
-    pub(super) journal: Journal<A, S>,
+    journal: Journal<A, S>,
     /// About how many bytes one read takes.
-    pub(super) buffer: usize,
+    buffer: usize,
     /// The section of the first item that is given.
-    pub(super) start_section: u64,
+    start_section: u64,
     /// Its position, within that section (`HasWalk.start_within`).
-    pub(super) start_position: u64,
+    start_position: u64,
     /// The replay has come to the sections below; to all where there is none (`IsAhead`).
-    pub(super) next_section: Option<u64>,
+    next_section: Option<u64>,
     /// Where it stands in a section; none between two (`HasWalk.come_to`).
-    pub(super) reading: Option<Reading<S>>,
+    reading: Option<Reading<S>>,
     /// Whether an error was given. Then `finish` refuses.
-    pub(super) has_failed: bool,
+    has_failed: bool,
     /// Whether it gives no more, since an error came while a section was cut (`HasWalk.ends`).
-    pub(super) has_ended: bool,
+    has_ended: bool,
 }
 
 /// The number behind this one, if it is one.
@@ -176,14 +176,14 @@ impl<A: CodecFixed, S: Seal> Replay<A, S> {
     }
 
     // Whether nothing more is given.
-    pub(super) fn is_over(&self) -> bool
+    fn is_over(&self) -> bool
         ensures { IsTrue result ↔ (IsDrained (walk_of self.now) ⊎ ((walk_of self.now).ended ≡ true)) }
     {
         self.has_ended || self.is_drained()
     }
 
     // Whether a replay of the section is owed.
-    pub(super) fn owes(&self, section: u64) -> bool
+    fn owes(&self, section: u64) -> bool
         ensures { result ≡ (walk_of self.now).journal.unrecovered section }
     {
         self.journal.unrecovered.contains(&section)
@@ -287,10 +287,7 @@ impl<A: CodecFixed, S: Seal> Replay<A, S> {
     }
 
     // Goes into the next section.
-    pub(super) fn next_one<D: Device>(
-        &mut self,
-        dev: &mut D,
-    ) -> Result<Option<(u64, u64, A)>, Error>
+    fn next_one<D: Device>(&mut self, dev: &mut D) -> Result<Option<(u64, u64, A)>, Error>
         requires over { IsWalk ⟦<PageBlob<S> as SectionBuffer>⟧ ⟦<AppendFactory<S> as BufferFactory>⟧.gives S.seal_of A.SIZE D.Tells (walk_of self.old) (D.opened dev.old) (disk (D.time dev.old)) }
         requires going { (walk_of self.old).ended ≡ false }
         requires between { (walk_of self.old).place ≡ None }
@@ -393,7 +390,7 @@ impl<A: CodecFixed, S: Seal> Replay<A, S> {
     }
 
     // Whether bytes are at hand behind the last whole item of a section of which a replay is owed.
-    pub(super) fn is_torn(&self, reading: &Reading<S>) -> bool
+    fn is_torn(&self, reading: &Reading<S>) -> bool
         ensures { IsTrue result ↔ ((0 < length (place_of reading.now).reader.bytes) × IsTrue ((walk_of self.now).journal.unrecovered reading.now.section)) }
     {
         reading.reader.remaining() > 0 && self.owes(reading.section)
@@ -441,7 +438,7 @@ impl<A: CodecFixed, S: Seal> Replay<A, S> {
     }
 
     // Comes to a page that no matching slot covers as far as the next item goes.
-    pub(super) fn end_at_page<D: Device>(
+    fn end_at_page<D: Device>(
         &mut self,
         dev: &mut D,
         reading: Reading<S>,
@@ -461,7 +458,7 @@ impl<A: CodecFixed, S: Seal> Replay<A, S> {
     }
 
     // Comes to the end of a section, behind its last whole item, and cuts off there what is left.
-    pub(super) fn end_section<D: Device>(
+    fn end_section<D: Device>(
         &mut self,
         dev: &mut D,
         reading: Reading<S>,
@@ -534,12 +531,7 @@ impl<A: CodecFixed, S: Seal> Replay<A, S> {
     }
 
     // Cuts a section to so many items of its sealed prefix. An error ends the replay, since the section's buffer is gone.
-    pub(super) fn cut<D: Device>(
-        &mut self,
-        dev: &mut D,
-        section: u64,
-        count: u64,
-    ) -> Result<(), Error>
+    fn cut<D: Device>(&mut self, dev: &mut D, section: u64, count: u64) -> Result<(), Error>
         requires over { IsOver ⟦<PageBlob<S> as SectionBuffer>⟧ ⟦<AppendFactory<S> as BufferFactory>⟧.gives D.Tells (walk_of self.old).journal.sections (D.opened dev.old) (disk (D.time dev.old)) }
         requires held { IsHeld (walk_of self.old).journal.sections section }
         requires settled { (u : _) → (walk_of self.old).journal.sections.held section ≡ Some u → u.settled ≡ size_of (page_blob.shown u) }

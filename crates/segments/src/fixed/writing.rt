@@ -1,8 +1,7 @@
 // Adding items to a fixed journal, and settling them.
-ghost use Rattle.std.specs.Prelude.{◌≡◌, ◌≢◌, ◌↔◌, ◌⊎◌, ◌≤◌, ◌<◌, ◌+◌, ◌/◌, ◌%◌, ◌^◌, ◌++◌, length, ⊤, ℕ, List, Some, None, false, IfOk, OnOk, OnErr, IsSomeAnd, IsTrue};
+ghost use Rattle.std.specs.Prelude.{◌≡◌, ◌≢◌, ◌↔◌, ◌⊎◌, ◌≤◌, ◌<◌, ◌+◌, ◌/◌, ◌^◌, ◌++◌, ⊤, ℕ, List, Some, None, false, IfOk, OnOk, OnErr, IsSomeAnd, IsTrue};
 ghost use Rattle.std.specs.Result.{IsErrOf};
 ghost use Rattle.std.specs.List.{Contains};
-ghost use Rattle.std.specs.Option.{option_copied};
 ghost use Rattle.blob_device.specs.Disk.{Key};
 ghost use Rattle.blob_device.specs.Timeline.{disk, Always, Each};
 ghost use Rattle.sealed_pages.specs.Buffer.{extent, size_of, FlushesNothing, IsSealed};
@@ -15,8 +14,6 @@ ghost use Rattle.segments.specs.Entries.{OnlyOwnEntry};
 ghost use Rattle.segments.specs.Sections.{key_of, IsHeld, IsKeyOf, IsSame, SameBounds, IsSynced};
 ghost use Rattle.segments.specs.Lasting.{IsUnsettled};
 ghost use Rattle.segments.specs.Refusing.{HasFailed, HasNoRoom, IsPruned};
-ghost use Rattle.segments.specs.Answers.{seen};
-ghost use Rattle.segments.specs.FixedCursor.{Appends};
 ghost use Rattle.segments.specs.FixedFull.{full_or_raised_of};
 
 use super::Journal;
@@ -127,37 +124,6 @@ impl<A: CodecFixed, S: Seal> Journal<A, S> {
             .map_err(full_or_raised)?;
         this.manager.put(section, buffer)?;
         Ok((this, offset / A::SIZE as u64))
-    }
-
-    /// Adds bytes at the end of the section, a whole number of items, by one append of its buffer. The answer has the position of the first.
-    ///
-    /// `Full` says that the section's blob would pass the greatest `u64`.
-    pub fn append_bytes<D: Device>(
-        self,
-        dev: &mut D,
-        section: u64,
-        bytes: &[u8],
-    ) -> Result<(Self, u64), Error>
-        requires over { IsJournal ⟦<PageBlob<S> as SectionBuffer>⟧ ⟦<AppendFactory<S> as BufferFactory>⟧.gives S.seal_of A.SIZE D.Tells (shown self) (D.opened dev.old) (disk (D.time dev.old)) }
-        requires recovered { IsRecovered (shown self) section }
-        requires whole { length bytes.now % A.SIZE ≡ 0 }
-        ensures { Appends ⟦<PageBlob<S> as SectionBuffer>⟧ ⟦<AppendFactory<S> as BufferFactory>⟧.gives S.seal_of A.SIZE D.Tells (shown self) section bytes.now D.Device (seen (λ r. (shown r.0, r.1)) result) dev.old dev.new }
-    {
-        let mut this = self;
-        // A section below the floor is refused by this, before one is made.
-        let buffer = this.manager.take(dev, section)?;
-        let (buffer, offset) = buffer.append(dev, bytes).map_err(full_or_raised)?;
-        this.manager.put(section, buffer)?;
-        Ok((this, offset / A::SIZE as u64))
-    }
-
-    /// The section's buffer, if the section is held, for reads of any range. It takes no memory.
-    pub fn buffer(&self, section: u64) -> Result<Option<&PageBlob<S>>, Error>
-        ensures held { IfOk result (λ r. option_copied r ≡ (shown self.now).sections.held section) }
-        ensures guard { IsPruned result (shown self.now).sections.floor ↔ (section < (shown self.now).sections.floor) }
-        ensures cause { OnErr result (IsPruned result (shown self.now).sections.floor) }
-    {
-        self.manager.get(section)
     }
 
     /// Settles these sections. One that is not held is passed over. All are checked before one is synced.
