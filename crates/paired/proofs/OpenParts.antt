@@ -4,10 +4,15 @@ use Rattle.std.proofs.Common.{inl, inr, refl, sym, ◌∙◌, ap, subst, arith}
 use Rattle.std.specs.Result.{IsErrOf}
 use Rattle.blob_device.specs.Disk.{Key, Blob, Disk}
 use Rattle.blob_device.specs.Opened.{OpenedList}
+use Rattle.blob_device.specs.declared.device.Device as device
 use Rattle.sealed_pages.specs.Reads.{IsCovered}
 use Rattle.sealed_pages.specs.SealedPrefix.{data_from}
 use Rattle.sealed_pages.specs.View.{view}
+use Rattle.sealed_pages.specs.declared.page_blob.PageBlob.{PageBlob}
 use Rattle.value_codec.specs.declared.codec.Error as codec
+use Rattle.segments.specs.declared.fixed.preflighting.Target.{Target}
+use Rattle.segments.specs.FixedCheckpoint.{Finishes, Gives}
+use Rattle.segments.specs.FixedLists.{Lists}
 use Rattle.segments.specs.declared.buffer.SectionBuffer as buffer
 use Rattle.segments.specs.declared.journal.Damage.{Damage}
 use Rattle.segments.specs.declared.journal.Error.{Error}
@@ -50,6 +55,12 @@ named_key p q s same = ap (λ (x : List ℕ). section_key x s) same
 pub floor_given : (o : Option ℕ) (floor size : ℕ) → ((n : ℕ) → o ≡ Some n → floor ≡ n * size) → (o ≡ None → floor ≡ 0) → floor ≡ unwrap_or o 0 * size
 floor_given None floor size some none = none refl ∙ (let e : 0 ≡ 0 * size = omega arith in e)
 floor_given (Some n) floor size some none = some n refl
+
+-- where markers were checked, a journal is finished as it was opened
+pub given : {F S D : Type 0} {gs : _} (g : buffer.Ghosts (PageBlob S gs)) (gives : F → Setting) (seal : List ℕ → ℕ) (size : ℕ) (dev : device.Ghosts D)
+    (j : Lists F (PageBlob S gs)) (result : Result (Lists F (PageBlob S gs)) Error) (old new : D) (target : Option Target) → target ≡ None
+    → Finishes g gives seal size dev j result old new target → Gives g gives seal size dev j result old new
+given g gives seal size dev j result old new target none finishes = subst (Finishes g gives seal size dev j result old new) none finishes
 
 -- ---- refusals of the records
 -- a marker that is refused, and a last record that is none, by the partition and the page size by other names
