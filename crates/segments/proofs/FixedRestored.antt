@@ -90,6 +90,8 @@ module _ {F S D : Type 0} {gs : _} (g : buffer.Ghosts (PageBlob S gs)) (gives : 
       recovered = free g gives seal size dev.Tells pages j t (dev.opened old) (dev.opened new) (disk (dev.time old)) (disk (dev.time new)) ready i cuts.ends has removed others;
       size_is = size_left g gives seal size dev.Tells pages j t (dev.opened old) (dev.opened new) (disk (dev.time old)) (disk (dev.time new)) ready i cuts.ends has removed others;
     };
+    idle = cuts.idle;
+    entries = cuts.entries;
     faults = cuts.faults;
     damage = λ l bad. absurd (no_error (record { sections = i.sections; unrecovered = has; floor_of = i.floor_of }) _ bad.1);
     cause = tt;
@@ -102,6 +104,8 @@ module _ {F S D : Type 0} {gs : _} (g : buffer.Ghosts (PageBlob S gs)) (gives : 
   restores_err see r e is cuts = subst (λ (x : Result (Lists F (PageBlob S gs)) Error). Restores g gives seal size dev j x old new t) (sym (ap (seen see) is)) (record {
     moments = cuts.moments;
     ends = tt;
+    idle = cuts.idle;
+    entries = cuts.entries;
     faults = cuts.faults;
     damage = cuts.damage;
     cause = elim cuts.cause [

@@ -22,7 +22,7 @@ use Rattle.segments.specs.FixedLists.{Lists, section_bytes, section_size, IsJour
 use Rattle.segments.specs.Lasting.{IsSettling}
 use Rattle.segments.specs.Refusing.{HasDamage, HasFailed, HasNoRoom, IsOpenedTooLong}
 use Rattle.segments.specs.Sealed.{adopted_bytes, is_unsettled}
-use Rattle.segments.specs.Sections.{Sections, section_key, key_of, IsHeld, IsOver}
+use Rattle.segments.specs.Sections.{Sections, section_key, key_of, IsHeld, IsKeyOf, IsKnown, IsOver}
 use Rattle.segments.specs.Setting.{Setting}
 use Rattle.segments.specs.declared.buffer.SectionBuffer as buffer
 use Rattle.segments.specs.declared.fixed.preflighting.Target.{Target}
@@ -277,6 +277,15 @@ module _ {F S : Type 0} {gs : _} (g : buffer.Ghosts (PageBlob S gs)) (gives : F 
       pub moments : dev.Tells → Always (dev.time old) (dev.time new) (CuttingTail seal j t.section t.size (disk (dev.time old)))
       -- this is the journal then
       pub ends : IfOk result (IsRestored t)
+      -- where there is nothing to remove or to cut, no call of the device is made
+      pub idle : ((s : ℕ) → IsKnown j.sections s → s ≤ t.section)
+          → (IsSomeAnd (j.sections.held t.section) (λ u. t.size < size_of (shown u)) → ⊥)
+          → new ≡ old
+      -- entries of removed blobs leave the list, and only the section's own changes
+      pub entries : (q : Key) → q ≢ key_of j.sections t.section
+          → (dev.opened new q ≡ dev.opened old q)
+          ⊎ (IsKeyOf j.sections (λ s. IsKnown j.sections s × (t.section < s)) q
+          × (dev.opened new q ≡ None))
       -- faults are counted on
       pub faults : dev.faults old ≤ dev.faults new
       -- no page is damaged, where the disk is told
