@@ -224,19 +224,6 @@ module _ {S : Type 0} {gs : _} (seal : List ℕ → ℕ) (P size : ℕ) (pos : 1
       later_here : (s : ℕ) → last < s → s < 2 ^ 64 → disk b (key_of j.sections s) ≡ disk a (key_of j.sections s)
       later_here = later_same seal P size j.sections.partition last end small (disk a) (disk b) settled_now
 
-      -- once the later ones were removed, none is there
-      none_later : ((s : ℕ) → IsKnown j.sections s → last < s → d (key_of j.sections s) ≡ nothing) → (s : ℕ) → last < s → s < 2 ^ 64 → IsTrue (d (key_of j.sections s)).there → ⊥
-      none_later gone s lt number there = go (disk a (key_of j.sections s)).there refl
-        where
-          go : (x : Bool) → (disk a (key_of j.sections s)).there ≡ x → ⊥
-          go true is_there = (let none = gone s (there_known s number is_there) lt in cc (ap (λ (x : Blob). x.there) none, there))
-          go false not =
-              let other : IsKeyOf j.sections (λ x. IsKnown j.sections x × (last ≤ x)) (key_of j.sections s) → ⊥ = λ k.
-              (let e = key_injective j.sections.partition s k.0 number (journal.over.opened_list.number k.0 k.1.0) k.2 in
-              let had = (known_there s (subst (λ (x : ℕ). IsKnown j.sections x) (sym e) k.1.0)).1 in cc (had, not)) in
-              let same = ap (λ (x : Blob). x.there) (is.others (key_of j.sections s) other ∙ later_here s lt number) in
-              cc (same, there, not)
-
       pub tail_bounding : Bounding seal P size j.sections.partition last end (disk a) d
       tail_bounding = record {
         later = λ s lt there. subst (λ (x : Blob). IsGoing x (d (key_of j.sections s))) (later_here s lt there.0) (is.later.each s (there_known s there.0 there.1, lt));
@@ -256,7 +243,7 @@ module _ {S : Type 0} {gs : _} (seal : List ℕ → ℕ) (P size : ℕ) (pos : 1
           | inr other ↦ elim (read_at s (is.others (key_of j.sections s) (apart s (omega (arith, le, other))))) [ inl same ↦ inl same | inr settled ↦ inr (inl settled) ]
           | inl at ↦ elim is.last [
             | inl same ↦ elim (read_at s (subst (λ (x : ℕ). d (key_of j.sections x) ≡ disk b (key_of j.sections x)) (sym at) same)) [ inl e ↦ inl e | inr settled ↦ inr (inl settled) ]
-            | inr cut ↦ inr (inr (λ q lt has. none_later cut.1 q lt has.0 has.1))
+            | inr cut ↦ inr (inr (λ q lt has. cut.1 q (there_known q has.0 has.1) lt))
           ]
         ];
         others = λ q never. is.others q (λ k. never k.0 (known_there k.0 k.1.0) k.2)
@@ -315,10 +302,6 @@ module _ {S : Type 0} {gs : _} (seal : List ℕ → ℕ) (P size : ℕ) (pos : 1
       ]
     ]
 
-    none_known : (s : ℕ) → last < s → IsKnown k.sections s → ⊥
-    none_known s lt (inl held) = not_held (k.sections.held s) (cut.later s lt).held held
-    none_known s lt (inr un) = not_held (k.sections.unopened s) (cut.later s lt).unopened un
-
     opened_whole : IsOpenedWhole seal P size j.sections.partition last end g gives told pages write_buffer k entries (disk a) (disk c)
     opened_whole = record {
       over = cut.over;
@@ -327,7 +310,7 @@ module _ {S : Type 0} {gs : _} (seal : List ℕ → ℕ) (P size : ℕ) (pos : 1
         | inr le ↦ (λ h. (found.held t s number).0 ((held_same s le).0 h), λ x. (held_same s le).1 ((found.held t s number).1 x))
       ];
       known = known_k;
-      gone = λ t s lt there. none_known s lt ((cut.over.over.disk t).whose s there.0 (subst (λ (q : Key). IsTrue (disk c q).there) (sym (key_k s)) there.1));
+      gone = λ t s lt there. cut.gone t s (there_known t s there.0 there.1) lt;
       floors = λ s. elim (cases_lt last s) [ inl lt ↦ cut.lifted s lt | inr le ↦ cut.floors s le ∙ floors s ];
       idle = idle_k;
       partition_is = cut.place.partition;

@@ -196,12 +196,16 @@ module _ {S : Type 0} {gs : _} (seal : List ℕ → ℕ) (P size : ℕ) (pos : 1
 
     -- ---- while it is gone over
 
+    -- no blob of a later section changes
+    later_still : (d : Disk) → Each (Replaying seal size (begun j) mid) d → (s : ℕ) → last < s → s < 2 ^ 64 → d (key_of j.sections s) ≡ mid (key_of j.sections s)
+    later_still d each s lt number = (each (key_of j.sections s)).others (λ k.
+        let there = there_of k.0 k.1.0 in
+        let e = key_injective j.sections.partition s k.0 number there.0.0 k.2 in
+        omega (arith, e, there.1, lt))
+
     module _ (d : Disk) (each : Each (Replaying seal size (begun j) mid) d) (before : Bounding seal P size j.sections.partition last end from mid) where
       later_same : (s : ℕ) → last < s → s < 2 ^ 64 → d (key_of j.sections s) ≡ mid (key_of j.sections s)
-      later_same s lt number = (each (key_of j.sections s)).others (λ k.
-          let there = there_of k.0 k.1.0 in
-          let e = key_injective j.sections.partition s k.0 number there.0.0 k.2 in
-          omega (arith, e, there.1, lt))
+      later_same = later_still d each
 
       -- what a cut to the whole items of its sealed prefix leaves
       cut_keeps : (s : ℕ) (u : PageBlob S gs) → j.sections.held s ≡ Some u → (b : Blob)
@@ -243,7 +247,7 @@ module _ {S : Type 0} {gs : _} (seal : List ℕ → ℕ) (P size : ℕ) (pos : 1
           | inr none ↦ inr (later_same q (omega (arith, lt, less)) also.0 ∙ none)
         ];
         kept = kept_drained;
-        first = λ s le there. inr (inr (λ q lt has. cut.whole.gone t q lt (has.0, subst (λ (x : Blob). IsTrue x.there) (later_same q lt has.0) has.1)));
+        first = λ s le there. inr (inr (λ q lt has. later_same q lt has.0 ∙ cut.whole.gone t q lt has));
         others = λ q never. (each q).others (λ k. never k.0 (there_of k.0 k.1.0).0 k.2) ∙ before.others q never;
       }
 
@@ -285,23 +289,15 @@ module _ {S : Type 0} {gs : _} (seal : List ℕ → ℕ) (P size : ℕ) (pos : 1
           refused = subst (λ (l : List ℕ). refusal l tt ≡ Some e) (item_kept t s p held within) has.refused;
         }
 
-    module _ (k : Lists (AppendFactory S) (PageBlob S gs)) (entries : OpenedList) (to : Disk) (gone : IsGoneThrough g gives seal size spelling accepted refusal (begun j) told k entries mid to) where
-      key_k : (s : ℕ) → key_of k.sections s ≡ key_of j.sections s
-      key_k s = ap (λ (p : List ℕ). section_key p s) gone.bounds.place.partition
-
-      none_there : (t : told) (s : ℕ) → last < s → (s < 2 ^ 64) × IsTrue (to (key_of j.sections s)).there → ⊥
-      none_there t s lt there = elim ((gone.over.over.disk t).whose s there.0 (subst (λ (q : Key). IsTrue (to q).there) (sym (key_k s)) there.1)) [
-        | inl held ↦ omega (arith, lt, (there_of t s ((gone.held s).0 held)).1)
-        | inr un ↦ (let none = gone.unopened s ∙ cut.whole.known s in absurd (cc (subst IsSome none un)))
-      ]
-
+    module _ (k : Lists (AppendFactory S) (PageBlob S gs)) (entries : OpenedList) (to : Disk) (gone : IsGoneThrough g gives seal size spelling accepted refusal (begun j) told k entries mid to)
+        (now : told → Each (Replaying seal size (begun j) mid) to) where
       pub opened_at_most : IsOpenedAtMost seal P size j.sections.partition last end g gives told pages write_buffer spelling accepted k entries from to
       opened_at_most = record {
         whole = record {
           over = gone.over;
           held = λ t s number. (λ h. (cut.whole.held t s number).0 ((gone.held s).0 h), λ x. (gone.held s).1 ((cut.whole.held t s number).1 x));
           known = λ s. gone.unopened s ∙ cut.whole.known s;
-          gone = none_there;
+          gone = λ t s lt there. later_still t to (now t) s lt there.0 ∙ cut.whole.gone t s lt there;
           floors = λ s. gone.lifted s (from_start s);
           idle = λ s v held. (let u = some_of (j.sections.held s) ((gone.held s).0 (is_some (k.sections.held s) v held)) in gone.idle s u.0 v u.1 held (cut.whole.idle s u.0 u.1));
           partition_is = gone.bounds.place.partition;

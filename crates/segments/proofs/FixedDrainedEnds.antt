@@ -121,7 +121,8 @@ module _ {S V D : Type 0} {gs : _} (seal : List ℕ → ℕ) (P size : ℕ) (pos
 
   drained_ends : IfOk r (λ k. IsOpenedAtMost seal P size p last end g gives dev.Tells pages write_buffer spelling accepted k (dev.opened new) (disk (dev.time old)) (disk (dev.time new)))
   drained_ends = if_ok_on r (λ k gone. subst (λ (x : List ℕ). IsOpenedAtMost seal P size x last end g gives dev.Tells pages write_buffer spelling accepted k (dev.opened new) (disk (dev.time old)) (disk (dev.time new))) same
-      (opened_at_most seal P size pos g laws gives dev.Tells last end small pages write_buffer j (dev.opened mid) (disk (dev.time old)) (disk (dev.time mid)) own_cut paged spelling accepted refusal k (dev.opened new) (disk (dev.time new)) gone))
+      (opened_at_most seal P size pos g laws gives dev.Tells last end small pages write_buffer j (dev.opened mid) (disk (dev.time old)) (disk (dev.time mid)) own_cut paged spelling accepted refusal k (dev.opened new) (disk (dev.time new)) gone
+      (λ t. always_now (dev.time mid) (dev.time new) (Each (Replaying seal size (begun j) (disk (dev.time mid)))) (own_drains.moments t))))
       own_drains.ends
 
   unnamed : (q : Result (Lists (AppendFactory S) (PageBlob S gs)) Error) → r ≡ q → (n : List ℕ) → IsErrOf r (InvalidBlobName n) → ⊥

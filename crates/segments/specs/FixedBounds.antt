@@ -235,11 +235,12 @@ module _ (seal : List ℕ → ℕ) (P size : ℕ) (partition : List ℕ) (last e
         → (d (section_key partition s) ≡ from (section_key partition s))
         ⊎ Leaves seal P (sealed_prefix seal P (from (section_key partition s)).content)
         (bounded_size s (from (section_key partition s)).content) (d (section_key partition s))
-    -- until those behind the last one are gone, it is as before, or settled as it read
+    -- until the removals of those behind the last one are durable, it is as before, or settled as
+    -- it read
     pub first : (s : ℕ) → s ≤ last → IsThere from s
         → (d (section_key partition s) ≡ from (section_key partition s))
         ⊎ ((d (section_key partition s) ≡ settled_at (from (section_key partition s)).content)
-        ⊎ ((t : ℕ) → last < t → IsThere d t → ⊥))
+        ⊎ ((t : ℕ) → last < t → IsThere from t → d (section_key partition t) ≡ nothing))
     -- no other blob changes
     pub others : (q : Key) → ((s : ℕ) → IsThere from s → q ≢ section_key partition s) → d q ≡ from q
 
@@ -256,8 +257,8 @@ module _ (seal : List ℕ → ℕ) (P size : ℕ) (partition : List ℕ) (last e
           → IsHeld k.sections s ↔ (IsTrue (from (section_key partition s)).there × (s ≤ last))
       -- and knows of no other
       pub known : (s : ℕ) → k.sections.unopened s ≡ None
-      -- the blobs of those behind it are gone
-      pub gone : told → (s : ℕ) → last < s → IsThere d s → ⊥
+      -- the blobs of those behind it are gone, also after a crash
+      pub gone : told → (s : ℕ) → last < s → IsThere from s → d (section_key partition s) ≡ nothing
       -- no marker stands in for a replay
       pub floors : (s : ℕ) → k.floor_of s ≡ 0
       -- all bytes have settled
