@@ -134,6 +134,11 @@ module _ {A S : Type 0} {gs : _} (seal : List ℕ → ℕ) (size at bytes : ℕ)
           ap (λ (n : ℕ). length (sealed_prefix seal n (disk now (key_of m t.section)).content)) paged ∙ ap (λ (k : Key). length (sealed_prefix seal pages.page_size (disk now k).content)) key in
           omega (arith, passed.sealed refl long, front, is.1);
       owes = λ s owes. owes_own s owes ∙ sym is.0;
+      there = λ some. elim (none_or_value (m.held t.section)) [
+        | inl none ↦ absurd (omega (arith, some, ap size_held none, reached t.section, ap f.floor_of is.0, end, is.1))
+        | inr u ↦ subst IsSome (sym u.1) refl
+      ];
+      idle = λ s u held. sym (are.unsettled u) ∙ opened.idle s u held;
     }
 
     -- the journal that was opened for it

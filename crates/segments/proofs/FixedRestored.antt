@@ -14,7 +14,8 @@ use Rattle.segments.specs.FixedBounds.{IsTailCut, CutsTail}
 use Rattle.segments.specs.FixedCheckpoint.{IsReady, IsRestored, Restores, Finishes}
 use Rattle.segments.specs.FixedLists.{Lists, section_size, size_held, IsJournal}
 use Rattle.segments.specs.Refusing.{HasDamage, HasFailed, IsPruned}
-use Rattle.segments.specs.Sections.{key_of, IsHeld, IsCut}
+use Rattle.segments.specs.Sealed.{is_unsettled}
+use Rattle.segments.specs.Sections.{key_of, IsCut}
 use Rattle.segments.specs.Setting.{Setting}
 use Rattle.segments.specs.declared.buffer.SectionBuffer as buffer
 use Rattle.segments.specs.declared.fixed.preflighting.Target.{Target}
@@ -36,6 +37,28 @@ module _ {F S : Type 0} {gs : _} (g : buffer.Ghosts (PageBlob S gs)) (gives : F 
         let same : v.value ≡ u = some_same v.value u (sym v.is ∙ sym (ap i.sections.held is) ∙ held) in
         let count : size_of (shown v.value) ≡ min (size_of (shown w.0)) t.size = sym (pages.count v.value) ∙ v.has.size ∙ ap (λ (n : ℕ). min n t.size) (pages.count w.0) in
         ap (λ (x : PageBlob S gs). size_of (shown x)) (sym same) ∙ omega (arith, count, ready.reached w.0 w.1)
+  ]
+
+  -- nothing is left to settle
+  idle_own : (u : PageBlob S gs) → i.sections.held t.section ≡ Some u → is_unsettled (shown u) ≡ false
+  idle_own u held = elim (none_or_value (j.sections.held t.section)) [
+    | inl none ↦ (let gone = cut.absent none in absurd (cc (gone, held)))
+    | inr w ↦
+        let v = value_of (i.sections.held t.section) (λ v. IsCut g told t.size w.0 v (from (key_of j.sections t.section)) (d (key_of j.sections t.section))) (cut.cut w.0 w.1) in
+        let same : v.value ≡ u = some_same v.value u (sym v.is ∙ held) in
+        subst (λ (x : PageBlob S gs). is_unsettled (shown x) ≡ false) same (elim (cases_lt t.size (g.byte_count w.0)) [
+          | inl lt ↦ sym (pages.unsettled v.value) ∙ v.has.done lt
+          | inr le ↦ subst (λ (x : PageBlob S gs). is_unsettled (shown x) ≡ false) (sym (v.has.same le)) (ready.idle t.section w.0 w.1)
+        ])
+  ]
+
+  idle_cut : (s : ℕ) (u : PageBlob S gs) → i.sections.held s ≡ Some u → is_unsettled (shown u) ≡ false
+  idle_cut s u held = elim (cases_lt t.section s) [
+    | inl later ↦ (let gone = (cut.later s later).held in absurd (cc (gone, held)))
+    | inr le ↦ elim (cases_eq s t.section) [
+      | inr other ↦ ready.idle s u (sym (cut.earlier s (omega (arith, le, other))).held ∙ held)
+      | inl at ↦ idle_own u (subst (λ (x : ℕ). i.sections.held x ≡ Some u) at held)
+    ]
   ]
 
   -- no other section owed a replay
@@ -70,10 +93,18 @@ module _ {F S : Type 0} {gs : _} (g : buffer.Ghosts (PageBlob S gs)) (gives : F 
       later = λ l is. (cut.over.unopened l).later s is;
     })
 
-    size_left : IsHeld i.sections t.section → section_size i.sections t.section ≡ t.size
-    size_left held = elim (none_or_value (i.sections.held t.section)) [
-      | inl none ↦ absurd (cc (subst IsSome none held))
+    size_left : section_size i.sections t.section ≡ t.size
+    size_left = elim (none_or_value (i.sections.held t.section)) [
       | inr u ↦ ap size_held u.1 ∙ size_cut t.section refl u.0 u.1
+      | inl none ↦ elim (cases_lt 0 t.size) [
+        | inr le ↦ (let zero : 0 ≡ t.size = omega (arith, le) in ap size_held none ∙ zero)
+        | inl some ↦ elim (none_or_value (j.sections.held t.section)) [
+          | inl gone ↦ absurd (cc (subst IsSome gone (ready.there some)))
+          | inr w ↦
+              let v = value_of (i.sections.held t.section) (λ v. IsCut g told t.size w.0 v (from (key_of j.sections t.section)) (d (key_of j.sections t.section))) (cut.cut w.0 w.1) in
+              let is = v.is in absurd (cc (none, is))
+        ]
+      ]
     ]
 
 module _ {F S D : Type 0} {gs : _} (g : buffer.Ghosts (PageBlob S gs)) (gives : F → Setting) (seal : List ℕ → ℕ) (size : ℕ) (dev : device.Ghosts D) (pages : ArePages g seal)
@@ -88,6 +119,7 @@ module _ {F S D : Type 0} {gs : _} (g : buffer.Ghosts (PageBlob S gs)) (gives : 
       over = restored_journal g gives seal size dev.Tells pages j t (dev.opened old) (dev.opened new) (disk (dev.time old)) (disk (dev.time new)) ready i cuts.ends has removed others;
       cut = (i, cuts.ends, refl, λ s. refl);
       recovered = free g gives seal size dev.Tells pages j t (dev.opened old) (dev.opened new) (disk (dev.time old)) (disk (dev.time new)) ready i cuts.ends has removed others;
+      idle = idle_cut g gives seal size dev.Tells pages j t (dev.opened old) (dev.opened new) (disk (dev.time old)) (disk (dev.time new)) ready i cuts.ends;
       size_is = size_left g gives seal size dev.Tells pages j t (dev.opened old) (dev.opened new) (disk (dev.time old)) (disk (dev.time new)) ready i cuts.ends has removed others;
     };
     idle = cuts.idle;

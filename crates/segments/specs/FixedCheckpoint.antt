@@ -125,6 +125,11 @@ module _ {F S : Type 0} {gs : _} (g : buffer.Ghosts (PageBlob S gs)) (gives : F 
         → t.size ≤ length (sealed_prefix seal u.page_size (d (key_of j.sections t.section)).content)
     -- no other section owes a replay
     pub owes : (s : ℕ) → IsTrue (j.unrecovered s) → s ≡ t.section
+    -- above 0 bytes the section is held
+    pub there : 0 < t.size → IsHeld j.sections t.section
+    -- all bytes have settled
+    pub idle : (s : ℕ) (u : PageBlob S gs) → j.sections.held s ≡ Some u
+        → is_unsettled (shown u) ≡ false
 
 module _ {A : Type 0} (seal : List ℕ → ℕ) (P size : ℕ) (partition : List ℕ) (at bytes : ℕ) (spelling : A → List ℕ)
     (accepted : A → Unit {0} → Type 0) where
@@ -268,8 +273,11 @@ module _ {F S : Type 0} {gs : _} (g : buffer.Ghosts (PageBlob S gs)) (gives : F 
           × (k.sections ≡ i.sections) × ((s : ℕ) → k.floor_of s ≡ i.floor_of s)
       -- no section owes a replay
       pub recovered : (s : ℕ) → k.unrecovered s ≡ false
-      -- of the checkpoint's section there is what it says, or nothing
-      pub size_is : IsHeld k.sections t.section → section_size k.sections t.section ≡ t.size
+      -- all bytes have settled
+      pub idle : (s : ℕ) (u : PageBlob S gs) → k.sections.held s ≡ Some u
+          → is_unsettled (shown u) ≡ false
+      -- of the checkpoint's section there is what it says
+      pub size_is : section_size k.sections t.section ≡ t.size
 
     -- Where a checkpoint was, all behind it is removed.
     pub record Restores (t : Target) : Type 0 where
