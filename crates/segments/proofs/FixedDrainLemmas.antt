@@ -1,5 +1,5 @@
 -- Going over all that is left of a replay of a fixed journal: what a run over items keeps, and what it gives back at its end.
-use Rattle.std.specs.Prelude.{◌≡◌, ◌⊎◌, ◌↔◌, ℕ, ◌+◌, ◌*◌, ◌/◌, ◌%◌, ◌<◌, ◌≤◌, Bool, true, false, List, [], length, take, drop, IsTrue, Option, None, Some, Result, Ok, Err, IfOk, OnErr}
+use Rattle.std.specs.Prelude.{◌≡◌, ◌⊎◌, ◌↔◌, ℕ, ◌+◌, ◌*◌, ◌/◌, ◌%◌, ◌<◌, ◌≤◌, Bool, true, false, List, [], length, take, drop, IsTrue, Option, None, Some, IsSomeAnd, Result, Ok, Err, IfOk, OnErr}
 use Rattle.std.specs.Result.{IsErrOf}
 use Rattle.std.proofs.Common.{inl, inr, refl, sym, ◌∙◌, ap, subst, arith}
 use Rattle.std.proofs.lemmas.Bool.{cases_order}
@@ -13,6 +13,7 @@ use Rattle.blob_device.specs.declared.runtime.RError.TheVariants.{InvalidChecksu
 use Rattle.blob_device.proofs.Moments.{always_start, always_then, always_weaker}
 use Rattle.sealed_pages.specs.Buffer.{size_of, bytes_of}
 use Rattle.sealed_pages.specs.SealedPrefix.{sealed_prefix}
+use Rattle.sealed_pages.specs.Reads.{IsShort}
 use Rattle.sealed_pages.specs.Shown.{shown}
 use Rattle.sealed_pages.specs.declared.page_blob.PageBlob.{PageBlob}
 use Rattle.sealed_pages.proofs.Holding.{bytes_length}
@@ -21,7 +22,7 @@ use Rattle.sealed_pages.proofs.Truncating.{all_flushed, settles_of}
 use Rattle.value_codec.specs.declared.codec.Error as codec
 use Rattle.segments.specs.Answers.{seen}
 use Rattle.segments.specs.FixedBounds.{whole_of}
-use Rattle.segments.specs.FixedDraining.{IsFromStart, IsBeforeStart, IsGoneThrough, IsFirstRefused, Drains}
+use Rattle.segments.specs.FixedDraining.{IsBadPage, IsFromStart, IsBeforeStart, IsGoneThrough, IsFirstRefused, Drains}
 use Rattle.segments.specs.FixedItems.{item_at, IsItem}
 use Rattle.segments.specs.FixedLists.{Lists, bytes_held, section_bytes, OwesHeld, OwesSettled, AreSealed, UnopenedLater}
 use Rattle.segments.specs.FixedReading.{HasNotRead, IsBelowFloor}
@@ -39,7 +40,7 @@ use Rattle.segments.proofs.FixedOwed.{same_items, items_then, same_or_cut, cut_t
 use Rattle.segments.proofs.FixedRunning.{idle_after}
 use Rattle.segments.proofs.FixedWalks.{is_some, same_some, some_of, same_bytes, none_in}
 use Rattle.segments.proofs.FixedWalksOn.{replaying_start}
-use Rattle.segments.proofs.WalkLemmas.{value_of}
+use Rattle.segments.proofs.WalkLemmas.{value_of, has_value}
 
 -- ---- lists of items
 
@@ -325,9 +326,10 @@ module _ {F S V D : Type 0} {gs : _} (seal : List ℕ → ℕ) (size : ℕ) (g :
   -- The next call answers an error.
   module _ {T U : Type 0} (see : T → Lists F (PageBlob S gs)) (r : Result T Error) (e : Error) (is : r ≡ Err e) (new : D) (next : Walk F (PageBlob S gs)) (on : now.ended ≡ false)
       (over : IsWalk g gives seal size dev.Tells next (dev.opened new) (disk (dev.time new))) (same : SameWalk now next) (stays : KeepsSections now next)
+      (floors : KeepsFloors now next) (bytes : KeepsBytes dev.Tells now next (disk (dev.time mid)) (disk (dev.time new)))
       (moments : dev.Tells → Always (dev.time mid) (dev.time new) (Each (Replaying seal size now (disk (dev.time mid)))))
       (refused : dev.Tells → (x : codec.Error) → e ≡ Codec x → Refuses seal size refusal now next (disk (dev.time mid)) (disk (dev.time new)) x)
-      (damage : dev.Tells → (x : Damage) → e ≡ Corruption x → EndsBelow seal size now (disk (dev.time mid)) x)
+      (damage : dev.Tells → (x : Damage) → e ≡ Corruption x → EndsBelow seal size now (disk (dev.time mid)) x × (IsAhead now x.section ⊎ IsIn now x.section))
       (start : dev.Tells → (p : ℕ) → e ≡ ItemOutOfRange p → (p ≡ now.start_position) × (length (kept_bytes seal size now (disk (dev.time mid)) now.start_section) < p * size))
       (damaged : dev.Tells → (k : ℕ) → e ≡ Runtime (InvalidChecksum k) → FindsDamage seal size now next (disk (dev.time new)) k)
       (entries : (q : Key) → (IsKeyOf now.journal.sections (λ s. IsHeld now.journal.sections s × (IsAhead now s ⊎ IsIn now s)) q → ⊥) → dev.opened new q ≡ dev.opened mid q)
@@ -347,14 +349,18 @@ module _ {F S V D : Type 0} {gs : _} (seal : List ℕ → ℕ) (size : ℕ) (g :
           },
         )
 
-    ends_below : dev.Tells → (x : Damage) → e ≡ Corruption x → EndsBelow seal size w (disk (dev.time old)) x
-    ends_below t x at = (let has = damage t x at in record {
-      owes = sym (run.same.unrecovered x.section) ∙ has.owes;
-      held = (run.held x.section).0 has.held;
-      kept = has.kept ∙ ap (λ (m : ℕ). m * size) (same_kept t on x.section).count;
-      wanted = has.wanted ∙ run.same.floors x.section;
-      less = has.less;
-    })
+    ends_below : dev.Tells → (x : Damage) → e ≡ Corruption x → EndsBelow seal size w (disk (dev.time old)) x × (IsAhead w x.section ⊎ IsIn w x.section)
+    ends_below t x at =
+        let has = (damage t x at).0 in (
+          record {
+            owes = sym (run.same.unrecovered x.section) ∙ has.owes;
+            held = (run.held x.section).0 has.held;
+            kept = has.kept ∙ ap (λ (m : ℕ). m * size) (same_kept t on x.section).count;
+            wanted = has.wanted ∙ run.same.floors x.section;
+            less = has.less;
+          },
+          run.onward x.section (damage t x at).1,
+        )
 
     past_start : dev.Tells → (p : ℕ) → e ≡ ItemOutOfRange p → (p ≡ w.start_position) × (length (kept_bytes seal size w (disk (dev.time old)) w.start_section) < p * size)
     past_start t p at =
@@ -364,16 +370,33 @@ module _ {F S V D : Type 0} {gs : _} (seal : List ℕ → ℕ) (size : ℕ) (g :
               (subst (λ (k : ℕ). length (kept_bytes seal size now (disk (dev.time mid)) k) < p * size) run.same.section has.1),
         )
 
-    floor_damaged : dev.Tells → (k : ℕ) → e ≡ Runtime (InvalidChecksum k) → (s : ℕ) × IsHeld w.journal.sections s × (w.journal.unrecovered s ≡ false) × (0 < w.journal.floor_of s)
-    floor_damaged t k at =
+    bad_page : dev.Tells → (k : ℕ) → e ≡ Runtime (InvalidChecksum k) → (s p : ℕ) × IsBadPage seal size w (disk (dev.time new)) k s p
+    bad_page t k at =
         let has = damaged t k at in
-        let u = value_of (next.journal.sections.held has.section) (λ v. (has.position + 1) * size ≤ size_of (shown v)) has.within in
-        let held = is_some (next.journal.sections.held has.section) u.value u.is in
-        let was = (stays has.section (over.over.opened_list.apart has.section held)).1.0 held in (
-          has.section,
-          (run.held has.section).0 was,
-          sym (run.same.unrecovered has.section) ∙ sym (same.unrecovered has.section) ∙ has.free,
-          omega (arith, has.floor, same.floors has.section, run.same.floors has.section),
+        let s = has.section in
+        let v = value_of (next.journal.sections.held s) (λ v. (has.position + 1) * size ≤ size_of (shown v)) has.within in
+        let held = is_some (next.journal.sections.held s) v.value v.is in
+        let x = some_of (now.journal.sections.held s) ((stays s (over.over.opened_list.apart s held)).1.0 held) in
+        let u = some_of (w.journal.sections.held s) ((run.held s).0 (is_some (now.journal.sections.held s) x.0 x.1)) in
+        let owes_none : now.journal.unrecovered s ≡ false = sym (same.unrecovered s) ∙ has.free in
+        let free : w.journal.unrecovered s ≡ false = sym (run.same.unrecovered s) ∙ owes_none in
+        let count : size_of (shown v.value) ≡ size_of (shown u.0) = (bytes s x.0 v.value x.1 v.is owes_none).size ∙ (run.bytes s u.0 x.0 u.1 x.1 free).size in
+        let paged : v.value.page_size ≡ u.0.page_size = (floors s x.0 v.value x.1 v.is).page_size ∙ (run.floors s u.0 x.0 u.1 x.1).page_size in
+        let key : key_of next.journal.sections s ≡ key_of w.journal.sections s = ap (λ (p : List ℕ). section_key p s) same.bounds.place.partition ∙ key_now s in
+        let page : IsShort seal v.value.page_size (disk (dev.time new) (key_of next.journal.sections s)).content (has.position * size) size k =
+        subst (λ (o : Option (PageBlob S gs)). IsSomeAnd o (λ y. IsShort seal y.page_size (disk (dev.time new) (key_of next.journal.sections s)).content (has.position * size) size k)) v.is has.page in
+        let own : IsShort seal u.0.page_size (disk (dev.time new) (key_of w.journal.sections s)).content (has.position * size) size k =
+        subst (λ (n : ℕ). IsShort seal n (disk (dev.time new) (key_of w.journal.sections s)).content (has.position * size) size k) paged
+        (subst (λ (q : Key). IsShort seal v.value.page_size (disk (dev.time new) q).content (has.position * size) size k) key page) in (
+          s,
+          has.position,
+          record {
+            near = run.onward s has.near;
+            free = free;
+            floor = omega (arith, has.floor, same.floors s, run.same.floors s);
+            within = has_value (w.journal.sections.held s) (λ y. (has.position + 1) * size ≤ size_of (shown y)) u.0 u.1 (omega (arith, v.has, count));
+            page = has_value (w.journal.sections.held s) (λ y. IsShort seal y.page_size (disk (dev.time new) (key_of w.journal.sections s)).content (has.position * size) size k) u.0 u.1 own;
+          },
         )
 
     caused : (IsErrOf {T = Lists F (PageBlob S gs)} (Err e) ReplayFailed × (w.failed ≡ true)) ⊎ (IsErrOf {T = Lists F (PageBlob S gs)} (Err e) (ItemOutOfRange w.start_position)
@@ -392,9 +415,9 @@ module _ {F S V D : Type 0} {gs : _} (seal : List ℕ → ℕ) (size : ℕ) (g :
       refused = λ t x at. first_refused t x (cc at);
       damage = λ t x at. ends_below t x (cc at);
       start = λ t p at. past_start t p (cc at);
-      damaged = λ t k at. floor_damaged t k (cc at);
+      damaged = λ t k at. bad_page t k (cc at);
       once = λ s held. tt;
-      entries = λ q never. entries q (λ k. never k.0 ((run.held k.0).0 k.1.0) (k.2 ∙ key_now k.0)) ∙ run.entries q (λ k. never k.0 k.1.0 k.2);
+      entries = λ q never. entries q (λ k. never (k.0, ((run.held k.0).0 k.1.0, run.onward k.0 k.1.1), k.2 ∙ key_now k.0)) ∙ run.entries q never;
       faults = omega (arith, run.faults, faults);
       clean = tt;
       cause = caused;
@@ -457,9 +480,6 @@ module _ {F S V D : Type 0} {gs : _} (seal : List ℕ → ℕ) (size : ℕ) (g :
       before_now : (s : ℕ) → IsBeforeStart w s → (s < now.start_section) ⊎ ((0 < now.start_position) × (now.start_section ≡ s))
       before_now s before = elim before [ inl lt ↦ inl (omega (arith, lt, run.same.section)) | inr (at, some) ↦ inr (omega (arith, some, run.same.position), run.same.section ∙ at) ]
 
-      start_at : (s : ℕ) → IsFromStart w s → w.start_section ≤ s
-      start_at s from = elim from [ inl lt ↦ omega (arith, lt) | inr (at, zero) ↦ omega (arith, at) ]
-
       gone_through : IsGoneThrough g gives seal size spelling accepted refusal w dev.Tells k (dev.opened mid) (disk (dev.time old)) (disk (dev.time mid))
       gone_through = record {
         over = record {
@@ -472,9 +492,10 @@ module _ {F S V D : Type 0} {gs : _} (seal : List ℕ → ℕ) (size : ℕ) (g :
         bounds = subst (λ (m : Sections F (PageBlob S gs)). SameBounds w.journal.sections m) (sym sections) run.same.bounds;
         held = λ s. subst (λ (m : Sections F (PageBlob S gs)). IsHeld m s ↔ IsHeld w.journal.sections s) (sym sections) (run.held s);
         unopened = λ s. ap (λ (m : Sections F (PageBlob S gs)). m.unopened s) sections ∙ run.known s;
-        bytes = λ t s from. (let now_is = whole_now fine drained t s (start_at s from) in
+        bytes = λ t s from. (let now_is = whole_now fine drained t s from in
             ap (λ (m : Sections F (PageBlob S gs)). section_bytes m (disk (dev.time mid)) s) sections ∙ now_is.0
             ∙ whole_items size (kept_bytes seal size w (disk (dev.time old)) s) (kept_bytes seal size now (disk (dev.time mid)) s) pos (same_kept t going s) now_is.1);
+        same = λ s u v was is free. run.bytes s u v was (ap (λ (m : Sections F (PageBlob S gs)). m.held s) (sym sections) ∙ is) free;
         idle = λ s u v was is. idle_after size dev.Tells w now (disk (dev.time old)) (disk (dev.time mid)) run.over.walk run.same run.bytes s u v was (ap (λ (m : Sections F (PageBlob S gs)). m.held s) (sym sections) ∙ is);
         items = λ t s p l. elim (run.good t going s p l) [ inl good ↦ good | inr here ↦ absurd (none t s p here) ];
         recovered = λ s from. recovered s (from_now s from);
@@ -502,7 +523,7 @@ module _ {F S V D : Type 0} {gs : _} (seal : List ℕ → ℕ) (size : ℕ) (g :
           start = λ t p at. absurd (cc at);
           damaged = λ t n at. absurd (cc at);
           once = λ s held. omega (arith, run.once s held);
-          entries = λ q never. run.entries q (λ x. never x.0 x.1.0 x.2);
+          entries = run.entries;
           faults = run.faults;
           clean = sym run.failed ∙ fine;
           cause = tt;
@@ -520,7 +541,7 @@ module _ {F S V D : Type 0} {gs : _} (seal : List ℕ → ℕ) (size : ℕ) (g :
           start = λ t p at. absurd (cc (at, cause));
           damaged = λ t n at. absurd (cc (at, cause));
           once = λ s held. tt;
-          entries = λ q never. run.entries q (λ x. never x.0 x.1.0 x.2);
+          entries = run.entries;
           faults = run.faults;
           clean = tt;
           cause = inl (cc cause, bad);

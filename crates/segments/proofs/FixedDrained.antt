@@ -277,15 +277,17 @@ module _ {S : Type 0} {gs : _} (seal : List ℕ → ℕ) (P size : ℕ) (pos : 1
 
     -- a refused item is one that is kept
     pub refused_kept : told → (e : codec.Error) (s p : ℕ) → IsFirstRefused g gives seal size spelling accepted refusal (begun j) mid e s p
-        → IsRefusedItem seal P size j.sections.partition last end refusal from e s p
+        → IsRefusedItem seal P size j.sections.partition last end spelling accepted refusal from e s p
     refused_kept t e s p has =
         let held : IsHeld j.sections s = elim has.left.ahead [ inl here ↦ here.0 | inr there ↦ absurd there ] in
         let there = there_of t s held in
         let within = within_of t s p held has.left.whole in
         record {
-          there = there.0;
-          under = there.1;
-          within = within;
+          kept = record { there = there.0; under = there.1; within = within };
+          before = λ y q kept earlier.
+              let here : IsHeld j.sections y = (cut.whole.held t y kept.there.0).1 (kept.there.1, kept.under) in
+              let good = has.before y q (left_of t y q here kept.within) earlier in
+              (good.0, subst (λ (l : List ℕ). IsItem spelling accepted l good.0) (item_kept t y q here kept.within) good.1);
           refused = subst (λ (l : List ℕ). refusal l tt ≡ Some e) (item_kept t s p held within) has.refused;
         }
 
@@ -307,7 +309,7 @@ module _ {S : Type 0} {gs : _} (seal : List ℕ → ℕ) (P size : ℕ) (pos : 1
           ceiling = gone.bounds.ceiling ∙ cut.whole.ceiling;
         };
         bytes = λ t s held. (let keeps = kept_whole t s ((gone.held s).0 held) in
-            gone.bytes t s (from_start s) ∙ ap (λ (m : ℕ). take m (kept_bytes seal size (begun j) mid s)) keeps.count ∙ keeps.same);
+            gone.bytes t s (omega arith) ∙ ap (λ (m : ℕ). take m (kept_bytes seal size (begun j) mid s)) keeps.count ∙ keeps.same);
         items = λ t s p held within. (let here = (gone.held s).0 held in let good = gone.items t s p (left_of t s p here within) in
             (good.0, subst (λ (l : List ℕ). IsItem spelling accepted l good.0) (item_kept t s p here within) good.1));
         recovered = λ s. gone.recovered s (from_start s);

@@ -69,8 +69,9 @@ module _ {T D : Type 0} (dev : device.Ghosts D) (seal : List ℕ → ℕ) (P siz
   })
 
   -- for a cause that it has
-  pub failed_cause : (refusal : List ℕ → Unit {0} → Option codec.Error) (r : Result T Error) (e : Error) → r ≡ Err e → IsBoundCause seal P size p last end {T = T} dev (Err e) old new → IsDrainCause seal P size p last end dev r old new refusal
-  failed_cause refusal r e is cause = subst (λ (x : Result T Error). IsDrainCause seal P size p last end dev x old new refusal) (sym is) (record { refused = λ t x at. absurd (uncoded x at); cause = inl cause })
+  pub failed_cause : {V : Type 0} (spelling : V → List ℕ) (accepted : V → Unit {0} → Type 0) (refusal : List ℕ → Unit {0} → Option codec.Error) (r : Result T Error) (e : Error) → r ≡ Err e
+      → IsBoundCause seal P size p last end {T = T} dev (Err e) old new → IsDrainCause seal P size p last end dev r old new spelling accepted refusal
+  failed_cause spelling accepted refusal r e is cause = subst (λ (x : Result T Error). IsDrainCause seal P size p last end dev x old new spelling accepted refusal) (sym is) (record { refused = λ t x at. absurd (uncoded x at); cause = inl cause })
     where
       uncoded : (x : codec.Error) → IsErrOf {T = T} (Err e) (Codec x) → ⊥
       uncoded x at = elim cause [
@@ -143,21 +144,21 @@ module _ {S V D : Type 0} {gs : _} (seal : List ℕ → ℕ) (P size : ℕ) (pos
   drained_bounds never entries faults = opened_bounds dev seal P size p last end r old new
       (λ k. IsOpenedAtMost seal P size p last end g gives dev.Tells pages write_buffer spelling accepted k (dev.opened new) (disk (dev.time old)) (disk (dev.time new)))
       drained_moments drained_ends never (unnamed r refl) (roomy r refl)
-      (λ q none. own_drains.entries q (λ s held is. none s (is ∙ ap (λ (x : List ℕ). section_key x s) same)) ∙ entries q none) (omega (arith, faults, own_drains.faults))
+      (λ q none. own_drains.entries q (λ k. none k.0 (k.2 ∙ ap (λ (x : List ℕ). section_key x k.0) same)) ∙ entries q none) (omega (arith, faults, own_drains.faults))
 
-  pub drained_cause : dev.faults old ≤ dev.faults mid → IsDrainCause seal P size p last end dev r old new refusal
+  pub drained_cause : dev.faults old ≤ dev.faults mid → IsDrainCause seal P size p last end dev r old new spelling accepted refusal
   drained_cause faults = record {
     refused = λ t e is. (let has = own_drains.refused t e is in (
       has.0,
       has.1,
-      subst (λ (x : List ℕ). IsRefusedItem seal P size x last end refusal (disk (dev.time old)) e has.0 has.1) same
+      subst (λ (x : List ℕ). IsRefusedItem seal P size x last end spelling accepted refusal (disk (dev.time old)) e has.0 has.1) same
           (refused_kept seal P size pos g laws gives dev.Tells last end small pages write_buffer j (dev.opened mid) (disk (dev.time old)) (disk (dev.time mid)) own_cut paged spelling accepted refusal t e has.0 has.1 has.2),
     ));
     cause = on_err r (λ is. elim is [
       | inl failed ↦ (let bad = failed.1 in absurd (cc bad))
       | inr (inl past) ↦ inr (inr (inl past, λ t. (let has = (own_drains.start t 0 past).1 in omega (arith, has))))
-      | inr (inr (inl below)) ↦ inr (inr (inr below, λ t. (let has = own_drains.damage t below.0 below.1 in omega (arith, has.less, has.wanted, cut.whole.floors below.0.section))))
-      | inr (inr (inr (inl page))) ↦ inl (inr (inr (inr (page, λ t. (let has = own_drains.damaged t page.0 page.1 in omega (arith, has.3, cut.whole.floors has.0))))))
+      | inr (inr (inl below)) ↦ inr (inr (inr below, λ t. (let has = (own_drains.damage t below.0 below.1).0 in omega (arith, has.less, has.wanted, cut.whole.floors below.0.section))))
+      | inr (inr (inr (inl page))) ↦ inl (inr (inr (inr (page, λ t. (let has = own_drains.damaged t page.0 page.1 in omega (arith, has.2.floor, cut.whole.floors has.0))))))
       | inr (inr (inr (inr (inl code)))) ↦ inr (inl code)
       | inr (inr (inr (inr (inr failed)))) ↦ inl (inr (inr (inl (failed_since r (dev.faults old) (dev.faults mid) (dev.faults new) faults failed))))
     ]) own_drains.cause;

@@ -20,6 +20,7 @@ use Rattle.segments.specs.Answers.{RefusesNames}
 use Rattle.segments.specs.FixedItems.{item_at, IsItem}
 use Rattle.segments.specs.FixedLists.{Lists, section_bytes, section_size, IsJournal}
 use Rattle.segments.specs.FixedReading.{IsBelowFloor}
+use Rattle.segments.specs.FixedReplay.{StandsBefore}
 use Rattle.segments.specs.Lasting.{IsGoing, Going}
 use Rattle.segments.specs.Refusing.{HasDamage, HasFailed, HasNoRoom, IsOpenedTooLong, IsPruned}
 use Rattle.segments.specs.Sealed.{adopted_bytes, is_unsettled}
@@ -329,15 +330,25 @@ module _ (seal : List ℕ → ℕ) (P size : ℕ) (partition : List ℕ) (last e
       -- no replay is owed
       pub recovered : (s : ℕ) → k.unrecovered s ≡ false
 
-  -- Item p of a section is kept and is none: its bytes are refused with e.
-  pub record IsRefusedItem (refusal : List ℕ → Unit {0} → Option codec.Error) (from : Disk)
-      (e : codec.Error) (s p : ℕ) : Type 0 where
+  -- Item p of a section is kept.
+  pub record IsKeptItem (from : Disk) (s p : ℕ) : Type 0 where
     -- the section has a blob
     pub there : IsThere from s
     -- it is not removed
     pub under : s ≤ last
-    -- the item is kept
+    -- the item ends within what is kept
     pub within : (p + 1) * size ≤ bounded_size s (from (section_key partition s)).content
+
+  -- Item p of a section is the first kept one that is none: its bytes are refused with e.
+  pub record IsRefusedItem {V : Type 0} (spelling : V → List ℕ)
+      (accepted : V → Unit {0} → Type 0) (refusal : List ℕ → Unit {0} → Option codec.Error)
+      (from : Disk) (e : codec.Error) (s p : ℕ) : Type 0 where
+    -- it is kept
+    pub kept : IsKeptItem from s p
+    -- all kept ones that go before it are items
+    pub before : (t q : ℕ) → IsKeptItem from t q → StandsBefore t q s p
+        → (v : V) × IsItem spelling accepted
+        (item_at size (sealed_prefix seal P (from (section_key partition t)).content) q) v
     -- the codec refuses its bytes
     pub refused : refusal (item_at size (sealed_prefix seal P
         (from (section_key partition s)).content) p) tt ≡ Some e
@@ -370,10 +381,13 @@ module _ (seal : List ℕ → ℕ) (P size : ℕ) (partition : List ℕ) (last e
         ⊎ (HasDamage result × (dev.Tells → ⊥))))
 
     -- One that goes over all items may also find one that is none.
-    pub record IsDrainCause (refusal : List ℕ → Unit {0} → Option codec.Error) : Type 0 where
-      -- the codec's error is that of an item that is kept
+    pub record IsDrainCause {V : Type 0} (spelling : V → List ℕ)
+        (accepted : V → Unit {0} → Type 0)
+        (refusal : List ℕ → Unit {0} → Option codec.Error) : Type 0 where
+      -- the codec's error is that of the first kept item that is none
       pub refused : dev.Tells → (e : codec.Error) → IsErrOf result (Codec e)
-          → (s p : ℕ) × IsRefusedItem refusal (disk (dev.time old)) e s p
+          → (s p : ℕ)
+          × IsRefusedItem spelling accepted refusal (disk (dev.time old)) e s p
       -- nothing else comes, but where no disk is told that a section is shorter than it was
       pub cause : OnErr result (IsBoundCause ⊎ (((e : codec.Error) × IsErrOf result (Codec e))
           ⊎ ((IsErrOf result (ItemOutOfRange 0) ⊎ IsBelowFloor result) × (dev.Tells → ⊥))))

@@ -1,11 +1,13 @@
 -- What going over all that is left of a replay promises.
-use Rattle.std.specs.Prelude.{◌≡◌, ◌⊎◌, ◌↔◌, ℕ, ◌+◌, ◌*◌, ◌<◌, ◌≤◌, false, List, length, take, true, Option, Some, Result, IfOk, OnErr}
+use Rattle.std.specs.Prelude.{◌≡◌, ◌⊎◌, ◌↔◌, ℕ, ◌+◌, ◌*◌, ◌<◌, ◌≤◌, false, List, length, take, true, Option, Some, IsSomeAnd, Result, IfOk, OnErr}
 use Rattle.std.specs.Result.{IsErrOf}
 use Rattle.blob_device.specs.Disk.{Key, Disk}
 use Rattle.blob_device.specs.Opened.{OpenedList, reads_of}
 use Rattle.blob_device.specs.Timeline.{disk, Always, Each}
 use Rattle.blob_device.specs.declared.device.Device as device
 use Rattle.blob_device.specs.declared.runtime.RError.TheVariants.{InvalidChecksum}
+use Rattle.sealed_pages.specs.Buffer.{size_of}
+use Rattle.sealed_pages.specs.Reads.{IsShort}
 use Rattle.sealed_pages.specs.Shown.{shown}
 use Rattle.sealed_pages.specs.declared.page_blob.PageBlob.{PageBlob}
 use Rattle.value_codec.specs.declared.codec.Error as codec
@@ -13,10 +15,10 @@ use Rattle.segments.specs.FixedBounds.{whole_of}
 use Rattle.segments.specs.FixedItems.{item_at, IsItem}
 use Rattle.segments.specs.FixedLists.{Lists, section_bytes, IsJournal}
 use Rattle.segments.specs.FixedReading.{IsBelowFloor, HasNotRead}
-use Rattle.segments.specs.FixedReplay.{Walk, IsLeft, StandsBefore, Replaying, EndsBelow, kept_bytes}
+use Rattle.segments.specs.FixedReplay.{Walk, IsAhead, IsIn, IsLeft, StandsBefore, HasSameBytes, Replaying, EndsBelow, kept_bytes}
 use Rattle.segments.specs.FixedStepping.{reads_left}
 use Rattle.segments.specs.Sealed.{is_unsettled}
-use Rattle.segments.specs.Sections.{key_of, IsHeld, SameBounds}
+use Rattle.segments.specs.Sections.{key_of, IsHeld, IsKeyOf, SameBounds}
 use Rattle.segments.specs.Setting.{Setting}
 use Rattle.segments.specs.declared.buffer.SectionBuffer as buffer
 use Rattle.segments.specs.declared.journal.Damage.{Damage}
@@ -30,6 +32,19 @@ IsFromStart w s = (w.start_section < s) ⊎ ((w.start_section ≡ s) × (w.start
 -- it does not, or gives none of it
 abbrev pub IsBeforeStart : {F B : Type 0} → Walk F B → ℕ → Type 0
 IsBeforeStart w s = (s < w.start_section) ⊎ ((w.start_section ≡ s) × (0 < w.start_position))
+
+-- Page k has bytes of item p of section s, which owes no replay and has a floor. The replay has not
+-- gone over the section.
+pub record IsBadPage {F S : Type 0} {gs : _} (seal : List ℕ → ℕ) (size : ℕ)
+    (w : Walk F (PageBlob S gs)) (d : Disk) (k s p : ℕ) : Type 0 where
+  pub near : IsAhead w s ⊎ IsIn w s
+  pub free : w.journal.unrecovered s ≡ false
+  pub floor : 0 < w.journal.floor_of s
+  -- the item ends within the section
+  pub within : IsSomeAnd (w.journal.sections.held s) (λ u. (p + 1) * size ≤ size_of (shown u))
+  -- no matching slot covers the page as far as the item goes
+  pub page : IsSomeAnd (w.journal.sections.held s) (λ u.
+      IsShort seal u.page_size (d (key_of w.journal.sections s)).content (p * size) size k)
 
 module _ {F S V : Type 0} {gs : _} (g : buffer.Ghosts (PageBlob S gs)) (gives : F → Setting)
     (seal : List ℕ → ℕ) (size : ℕ)
@@ -50,10 +65,15 @@ module _ {F S V : Type 0} {gs : _} (g : buffer.Ghosts (PageBlob S gs)) (gives : 
     pub held : (s : ℕ) → IsHeld k.sections s ↔ IsHeld w.journal.sections s
     -- and unopened
     pub unopened : (s : ℕ) → k.sections.unopened s ≡ w.journal.sections.unopened s
-    -- each section has its whole items, where the replay began it at its start
-    pub bytes : told → (s : ℕ) → IsFromStart w s → section_bytes k.sections d s
+    -- from the start's on each section has its whole items
+    pub bytes : told → (s : ℕ) → w.start_section ≤ s → section_bytes k.sections d s
         ≡ take (whole_of size (length (kept_bytes seal size w from s)))
         (kept_bytes seal size w from s)
+    -- a section that owes no replay has the bytes that it had, also before the start
+    pub same : (s : ℕ) (u v : PageBlob S gs) → w.journal.sections.held s ≡ Some u
+        → k.sections.held s ≡ Some v → w.journal.unrecovered s ≡ false
+        → HasSameBytes told u (from (key_of w.journal.sections s))
+        v (d (key_of w.journal.sections s))
     -- where all of a section's bytes had settled, they have
     pub idle : (s : ℕ) (u v : PageBlob S gs) → w.journal.sections.held s ≡ Some u
         → k.sections.held s ≡ Some v
@@ -91,23 +111,23 @@ module _ {F S V : Type 0} {gs : _} (g : buffer.Ghosts (PageBlob S gs)) (gives : 
       -- the codec's error is that of the first item that is none
       pub refused : dev.Tells → (e : codec.Error) → IsErrOf result (Codec e)
           → (s p : ℕ) × IsFirstRefused (disk (dev.time old)) e s p
-      -- a section is refused only where its whole items end below its floor
+      -- a section is refused only where it is still to be gone over, and its whole items end below
+      -- its floor
       pub damage : dev.Tells → (x : Damage) → IsErrOf result (Corruption x)
-          → EndsBelow seal size w (disk (dev.time old)) x
+          → EndsBelow seal size w (disk (dev.time old)) x × (IsAhead w x.section ⊎ IsIn w x.section)
       -- the start is refused only where its section keeps fewer items
       pub start : dev.Tells → (p : ℕ) → IsErrOf result (ItemOutOfRange p) → (p ≡ w.start_position)
           × (length (kept_bytes seal size w (disk (dev.time old)) w.start_section) < p * size)
-      -- a page is found damaged only where a section that owes no replay has a floor
-      pub damaged : dev.Tells → (k : ℕ) → IsErrOf result (Runtime (InvalidChecksum k)) → (s : ℕ)
-          × IsHeld w.journal.sections s × (w.journal.unrecovered s ≡ false)
-          × (0 < w.journal.floor_of s)
+      -- a page that is found damaged is none of a section that owes a replay, or is sealed
+      pub damaged : dev.Tells → (k : ℕ) → IsErrOf result (Runtime (InvalidChecksum k))
+          → (s p : ℕ) × IsBadPage seal size w (disk (dev.time new)) k s p
       -- each page is read once, and one once more where its section is cut within it
       pub once : (s : ℕ) → IsHeld w.journal.sections s → IfOk result (λ k.
           reads_of (dev.opened new (key_of w.journal.sections s))
           ≤ reads_of (dev.opened old (key_of w.journal.sections s)) + reads_left w s)
-      -- the list of opened blobs changes for held sections alone
-      pub entries : (q : Key) → ((s : ℕ) → IsHeld w.journal.sections s → q
-          ≡ key_of w.journal.sections s → ⊥)
+      -- the list of opened blobs changes alone for held sections that are still to be gone over
+      pub entries : (q : Key) → (IsKeyOf w.journal.sections
+          (λ s. IsHeld w.journal.sections s × (IsAhead w s ⊎ IsIn w s)) q → ⊥)
           → dev.opened new q ≡ dev.opened old q
       -- faults are counted on
       pub faults : dev.faults old ≤ dev.faults new

@@ -152,7 +152,7 @@ impl<A: CodecFixed, S: Seal> Journal<A, S> {
         requires valid { 1 ≤ cfg.now.pages.page_size }
         ensures bounds { Bounds S.seal_of cfg.now.pages.page_size A.SIZE (string_bytes cfg.now.partition) section end D.Device (seen shown result) dev.old dev.new
             (λ k. IsOpenedAtMost S.seal_of cfg.now.pages.page_size A.SIZE (string_bytes cfg.now.partition) section end ⟦<PageBlob<S> as SectionBuffer>⟧ ⟦<AppendFactory<S> as BufferFactory>⟧.gives D.Tells cfg.now.pages cfg.now.write_buffer A.spelling A.accepted k (D.opened dev.new) (disk (D.time dev.old)) (disk (D.time dev.new))) }
-        ensures cause { IsDrainCause S.seal_of cfg.now.pages.page_size A.SIZE (string_bytes cfg.now.partition) section end D.Device (seen shown result) dev.old dev.new A.refusal }
+        ensures cause { IsDrainCause S.seal_of cfg.now.pages.page_size A.SIZE (string_bytes cfg.now.partition) section end D.Device (seen shown result) dev.old dev.new A.spelling A.accepted A.refusal }
     {
         let journal = Journal::open_at_most(alloc, dev, cfg, section, end)?;
         // Behind the cut: what stands above the bound is not judged.

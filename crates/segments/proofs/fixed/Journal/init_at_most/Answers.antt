@@ -20,7 +20,7 @@ returns-in_err-journal-clause-bounds g c =
 
 pub returns-in_err-journal-clause-cause : goal.returns-in_err-journal-clause-cause
 returns-in_err-journal-clause-cause g c =
-    failed_cause g.D.Device g.S.Seal.seal_of c.args.cfg.now.pages.page_size g.A.CodecFixed.SIZE (string_bytes c.args.cfg.now.partition) c.args.section c.args.end c.args.dev.now c.open_at_most.new.dev g.A.Codec.refusal (seen shown c.from_residual.result) c.in_err-journal.field-0.0
+    failed_cause g.D.Device g.S.Seal.seal_of c.args.cfg.now.pages.page_size g.A.CodecFixed.SIZE (string_bytes c.args.cfg.now.partition) c.args.section c.args.end c.args.dev.now c.open_at_most.new.dev g.A.Codec.spelling g.A.Codec.accepted g.A.Codec.refusal (seen shown c.from_residual.result) c.in_err-journal.field-0.0
     (ap (seen shown) (err_of c.from_residual.result c.in_err-journal.field-0.0 c.from_residual.ensures.1)) c.in_err-journal.ensures.cause
 
 pub returns-in_err-replay-clause-bounds : goal.returns-in_err-replay-clause-bounds

@@ -34,9 +34,9 @@ returns-in_err-next g c =
     drains_err g.S.Seal.seal_of g.A.CodecFixed.SIZE (impl.ghosts g.row.S g.S.Seal g.S.Seal-dict) (λ f. record { page_size = f.pages.page_size; capacity = f.write_buffer }) g.A.Codec.spelling g.A.Codec.accepted g.A.Codec.refusal g.D.Device (walk_of c.args.self) (walk_of c.items.this) c.args.dev.now c.items.dev
     g.met.A.CodecFixed.fixed.at_least c.items.invariant {U = g.row.A.Denot} shown c.from_residual.result e (err_of c.from_residual.result e c.from_residual.ensures.1) c.next.new.dev (walk_of c.next.new.self)
     (not_true (walk_of c.items.this).ended (λ ended. (let none = (f.ended ended).0 in cc (none, is))))
-    f.over f.same f.stays f.moments
+    f.over f.same f.stays f.floors f.bytes f.moments
     (λ t x at. f.refused t x (is ∙ ap (λ y. Some (Err y)) at))
-    (λ t x at. (f.damage t x (is ∙ ap (λ y. Some (Err y)) at)).0)
+    (λ t x at. f.damage t x (is ∙ ap (λ y. Some (Err y)) at))
     (λ t p at. f.start t p (is ∙ ap (λ y. Some (Err y)) at))
     (λ t k at. f.damaged t k (is ∙ ap (λ y. Some (Err y)) at))
     f.entries f.faults (f.cause e is)
