@@ -23,6 +23,7 @@ pub mod FixedCutLemmas
 pub mod FixedAdopted
 pub mod FixedAppendLemmas
 pub mod FixedOpenLemmas
+pub mod FixedOpens
 pub mod FixedErrors
 pub mod FixedPassing
 pub mod FixedReadLemmas

@@ -27,6 +27,7 @@ pub mod FixedWalking
 pub mod FixedFloors
 pub mod Tails
 pub mod Answers
+pub mod FixedOpens
 pub mod FixedBounds
 pub mod FixedDraining
 pub mod FixedCheckpoint

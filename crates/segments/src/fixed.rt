@@ -138,7 +138,8 @@ impl<A: CodecFixed, S: Seal> Journal<A, S> {
     }
 
     /// How many bytes of the section a marker vouches for; 0 where there is none. A finished replay from the section's start, or from
-    /// an earlier section, sets it to 0, and a cut to no more than is left.
+    /// an earlier section, sets it to 0. [`truncate_pending_section`](Journal::truncate_pending_section) lowers it to no more than is
+    /// left; [`truncate_pending_tail`](Journal::truncate_pending_tail) keeps it.
     pub fn floor_of(&self, section: u64) -> u64
         ensures { result ≡ (shown self.now).floor_of section }
     {

@@ -1,5 +1,5 @@
 // Reading items of a fixed journal by their position.
-ghost use Rattle.std.specs.Prelude.{◌≡◌, ◌↔◌, ◌⊎◌, ◌≤◌, ◌<◌, ◌+◌, ◌*◌, ◌/◌, ◌-◌, ◌^◌, ℕ, List, Some, None, Err, true, false, length, map, count_by, IfOk, OnOk, OnErr, IsSomeAnd, MatchOption, IsTrue};
+ghost use Rattle.std.specs.Prelude.{◌≡◌, ◌↔◌, ◌⊎◌, ◌≤◌, ◌<◌, ◌+◌, ◌*◌, ◌/◌, ◌-◌, ◌^◌, ℕ, List, Some, None, Err, true, false, length, map, count_by, IfOk, OnOk, OnErr, IsSome, IsSomeAnd, MatchOption, IsTrue};
 ghost use Rattle.std.specs.Result.{IsErrOf};
 ghost use Rattle.std.specs.List.{Contains};
 ghost use Rattle.std.specs.List.Sorted.{IsStrictlySortedBy};
@@ -209,6 +209,8 @@ impl<A: CodecFixed, S: Seal> Journal<A, S> {
 
     /// What [`get`](Journal::get) would give, where the item's bytes are all held in memory and decode; else none.
     pub fn try_get_sync(&self, section: u64, position: u64) -> Result<Option<A>, Error>
+        // Nothing is given of a section below the floor.
+        ensures unpruned { IfOk result (λ r. IsSome r → (shown self.now).sections.floor ≤ section) }
         ensures item { IfOk result (λ r. (v : A) → r ≡ Some v → IsSomeAnd ((shown self.now).sections.held section) (λ u. HasItem A.SIZE u position × (is_item_held A.SIZE u position ≡ true)
             × ((content : List ℕ) → IsItem A.spelling A.accepted (item_at A.SIZE (bytes_of (page_blob.shown u) content) position) v))) }
         ensures none { IfOk result (λ r. r ≡ None → (u : _) → (shown self.now).sections.held section ≡ Some u → (shown self.now).sections.floor ≤ section → HasItem A.SIZE u position → is_item_held A.SIZE u position ≡ true

@@ -48,8 +48,8 @@ impl<A: CodecFixed, S: Seal> Journal<A, S> {
     ///
     /// It refuses a size that ends within an item, before any call of the device, and then a blob with a name that is no section's, before
     /// anything is opened. Then the sections are checked, ascending, and the first that is refused is answered: by `Corruption`, which names
-    /// it, where an earlier one ends within an item, where a boundary above 0 has no blob, or where less is sealed than ends there; by
-    /// `Codec`, which says why, where the last item there is none.
+    /// it, where an earlier one ends within an item, where a boundary above 0 has no blob, where the last item below it is not sealed, or,
+    /// of a section that is to be cut, where less than `size` is sealed; by `Codec`, which says why, where that item is none.
     ///
     /// [`Preflight::finish`] then removes the later sections and cuts this one.
     pub fn preflight_restore<D: Device>(

@@ -6,7 +6,9 @@ use Rattle.segments.specs.Answers.{seen}
 use Rattle.segments.specs.FixedShown.{shown}
 use Rattle.segments.specs.Sections.{section_key}
 use Rattle.segments.specs.contracts.sealed.PageBlobSectionBuffer.TheImpl.{ghosts}
-use Rattle.segments.specs.declared.fixed.Journal.{Journal}
+use Rattle.segments.specs.FixedLists.{Lists}
+use Rattle.segments.specs.declared.sealed.AppendFactory.{AppendFactory}
+use Rattle.sealed_pages.specs.declared.page_blob.PageBlob.{PageBlob}
 use Rattle.segments.proofs.FixedBoundLemmas.{whole_whole}
 use Rattle.segments.proofs.FixedBoundsEnds.{cut_unnamed, cut_room, end_cut, end_cause, unopened_bounds, unopened_cause, opened_bounds, opened_cause, if_ok_on, journal_there, cut_sealed, none_ends, still_moments, moments_tail, opened_tail, entries_tail}
 use Rattle.segments.proofs.FixedWriteLemmas.{are_pages}
@@ -33,13 +35,13 @@ pub returns-in_err-journal-clause-bounds : goal.returns-in_err-journal-clause-bo
 returns-in_err-journal-clause-bounds g c =
     let e = c.in_err-journal.field-0.0 in
     let f = c.in_err-journal.ensures in
-    unopened_bounds g.D.Device g.S.Seal.seal_of c.args.cfg.now.pages.page_size g.A.CodecFixed.SIZE (string_bytes c.args.cfg.now.partition) c.args.section c.args.end (seen shown c.from_residual.result) c.args.dev.now c.init_bounded.new.dev {U = (Journal g.row.A.Denot g.row.S.Denot g.A.CodecFixed g.A.Codec g.S.Seal)} e _ c.ranges.section.fits
+    unopened_bounds g.D.Device g.S.Seal.seal_of c.args.cfg.now.pages.page_size g.A.CodecFixed.SIZE (string_bytes c.args.cfg.now.partition) c.args.section c.args.end (seen shown c.from_residual.result) c.args.dev.now c.init_bounded.new.dev {U = Lists (AppendFactory g.row.S.Denot) (PageBlob g.row.S.Denot g.S.Seal)} e _ c.ranges.section.fits
     (ap (seen shown) (err_of c.from_residual.result e c.from_residual.ensures.1)) f.moments (λ t name bad. (f.foreign t name bad).1) f.foreign_disk f.foreign_entries f.name_entries f.named f.entries f.overflow f.faults f.cause
 
 pub returns-in_err-journal-clause-cause : goal.returns-in_err-journal-clause-cause
 returns-in_err-journal-clause-cause g c =
     let e = c.in_err-journal.field-0.0 in
-    unopened_cause g.D.Device g.S.Seal.seal_of c.args.cfg.now.pages.page_size g.A.CodecFixed.SIZE (string_bytes c.args.cfg.now.partition) c.args.section c.args.end (seen shown c.from_residual.result) c.args.dev.now c.init_bounded.new.dev {U = (Journal g.row.A.Denot g.row.S.Denot g.A.CodecFixed g.A.Codec g.S.Seal)} e
+    unopened_cause g.D.Device g.S.Seal.seal_of c.args.cfg.now.pages.page_size g.A.CodecFixed.SIZE (string_bytes c.args.cfg.now.partition) c.args.section c.args.end (seen shown c.from_residual.result) c.args.dev.now c.init_bounded.new.dev {U = Lists (AppendFactory g.row.S.Denot) (PageBlob g.row.S.Denot g.S.Seal)} e
     (ap (seen shown) (err_of c.from_residual.result e c.from_residual.ensures.1)) c.in_err-journal.ensures.cause
 
 pub returns-in_err-end-clause-bounds : goal.returns-in_err-end-clause-bounds
