@@ -1,15 +1,20 @@
 -- Reading items of a fixed journal: where they stand, which of them are held in memory, and how many pages they touch.
-use Rattle.std.proofs.Common.{◌≡◌, ◌↔◌, inl, inr, ℕ, ◌+◌, ◌-◌, ◌*◌, ◌/◌, ◌<◌, ◌≤◌, leb, Bool, true, false, List, length, get_or, take, drop, refl, sym, ◌∙◌, ap, subst, arith}
+use Rattle.std.proofs.Common.{◌≡◌, ◌↔◌, inl, inr, ℕ, zero, suc, ◌+◌, ◌-◌, ◌*◌, ◌/◌, ◌<◌, ◌≤◌, leb, cond, count_by, Bool, true, false, List, length, get_or, take, drop, refl, sym, ◌∙◌, ap, subst, arith}
 use Rattle.std.specs.List.{Contains}
 use Rattle.std.specs.List.Sorted.{IsStrictlySortedBy}
 use Rattle.std.specs.Ordering.{nat_cmp}
 use Rattle.std.proofs.lemmas.Bool.{cases_eq, cases_lt, leb-true, le-leb}
 use Rattle.std.proofs.lemmas.Bool.Decides.{nat_tests}
 use Rattle.std.proofs.lemmas.List.{get_or_default}
+use Rattle.std.proofs.lemmas.List.Sums.{count_by_more_yes, count_by_more_no, sum_by-take-le, sum_by_more, sum_by_more_le}
 use Rattle.std.proofs.lemmas.Map.Keys.{below_from_sorted}
 use Rattle.std.proofs.lemmas.Nat.{div_below}
 use Rattle.std.proofs.Math.Nat.{mul-le-mul_right, div-mul-le_self}
+use Rattle.blob_device.specs.Disk.{Key}
+use Rattle.blob_device.specs.Opened.{OpenedList}
+use Rattle.sealed_pages.specs.Entries.{ReadsAtMost}
 use Rattle.sealed_pages.specs.Reads.{IsHeld, IsCovered, IsShort, touched, below}
+use Rattle.sealed_pages.proofs.EntryLemmas.{reads_then}
 use Rattle.sealed_pages.proofs.Holding.{bool_or, div_place, times_sum}
 use Rattle.sealed_pages.proofs.SlotLemmas.{times_next}
 use Rattle.segments.specs.FixedItems.{item_at}
@@ -68,3 +73,41 @@ stands_before xs i x q sorted inside at has less =
         | inr same ↦ (let e : has.0 ≡ i = omega (arith, after, same) in absurd (omega (arith, ap (λ (k : ℕ). get_or xs k 0) e, here, at, less)))
       ]
     ]
+
+-- ---- items that are read one after another: those at the positions that pass a test, of at most n reads each
+-- one that does not pass is not read
+pub reads_one : (k : Key) (n : ℕ) (reads : Bool) (a b : OpenedList) → (reads ≡ false → b ≡ a) → ReadsAtMost n k a b → ReadsAtMost (cond reads 1 0 * n) k a b
+reads_one k n true a b idle has = record { others = has.others; length = has.length; reads = omega (arith, has.reads) }
+reads_one k n false a b idle has = subst (λ (o : OpenedList). ReadsAtMost (0 * n) k a o) (sym (idle refl)) (record { others = λ q other. refl; length = λ x is. is; reads = omega arith })
+
+module _ (test : ℕ → Bool) (xs : List ℕ) (i : ℕ) (lt : i < length xs) where
+  -- none of the first ones passes, and not the next
+  pub none_next : count_by test (take (i + 1) xs) ≡ 0 → (count_by test (take i xs) ≡ 0) × (test (get_or xs i 0) ≡ false)
+  none_next none = elim (bool_or (test (get_or xs i 0))) [
+    | inl passes ↦ absurd (omega (arith, none, count_by_more_yes test xs i 0 lt passes))
+    | inr fails ↦ (omega (arith, none, count_by_more_no test xs i 0 lt fails), fails)
+  ]
+
+  -- nor of those up to it where none at all does
+  pub none_here : count_by test xs ≡ 0 → (count_by test (take i xs) ≡ 0) × (test (get_or xs i 0) ≡ false)
+  none_here none = none_next (omega (arith, none, sum_by-take-le (λ p. cond (test p) 1 0) xs (i + 1)))
+
+  module _ (k : Key) (n : ℕ) (a b c : OpenedList) (first : ReadsAtMost (count_by test (take i xs) * n) k a b) (one : ReadsAtMost (cond (test (get_or xs i 0)) 1 0 * n) k b c) where
+    -- the reads of the next one too
+    pub reads_next : ReadsAtMost (count_by test (take (i + 1) xs) * n) k a c
+    reads_next =
+        let more : count_by test (take (i + 1) xs) ≡ count_by test (take i xs) + cond (test (get_or xs i 0)) 1 0 = sum_by_more (λ p. cond (test p) 1 0) xs i 0 lt in
+        let sum = times_sum (count_by test (take i xs)) (cond (test (get_or xs i 0)) 1 0) n in
+        reads_then k _ _ _ a b c (omega (arith, ap (λ (m : ℕ). m * n) more, sum)) first one
+
+    -- which are no more than those of all
+    pub reads_here : ReadsAtMost (count_by test xs * n) k a c
+    reads_here =
+        let le : count_by test (take i xs) + cond (test (get_or xs i 0)) 1 0 ≤ count_by test xs = sum_by_more_le (λ p. cond (test p) 1 0) xs i 0 lt in
+        let sum = times_sum (count_by test (take i xs)) (cond (test (get_or xs i 0)) 1 0) n in
+        reads_then k _ _ _ a b c (omega (arith, mul-le-mul_right n le, sum)) first one
+
+-- a number that is not above 0 is 0
+pub none_over : (n : ℕ) → (0 < n → ⊥) → n ≡ 0
+none_over zero none = refl
+none_over (suc n) none = absurd (none (omega arith))

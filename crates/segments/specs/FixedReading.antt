@@ -1,5 +1,5 @@
 -- What reading an item of a fixed journal answers.
-use Rattle.std.specs.Prelude.{◌⊎◌, ℕ, ◌*◌, ◌/◌, ◌<◌, leb, Bool, List, Result}
+use Rattle.std.specs.Prelude.{◌⊎◌, ℕ, ◌*◌, ◌/◌, ◌<◌, leb, not, Bool, List, Result, count_by}
 use Rattle.std.specs.Result.{IsErrOf}
 use Rattle.blob_device.specs.declared.runtime.RError.TheVariants.{InvalidChecksum}
 use Rattle.value_codec.specs.declared.codec.Error as codec
@@ -20,6 +20,10 @@ module _ {S : Type 0} {gs : _} (size : ℕ) where
   -- all bytes of the item at p are held in memory
   abbrev pub is_item_held : PageBlob S gs → ℕ → Bool
   is_item_held u p = leb (u.first * u.page_size) (p * size)
+
+  -- of so many of these positions the item is not held whole
+  abbrev pub unheld : PageBlob S gs → List ℕ → ℕ
+  unheld u positions = count_by (λ p. not (is_item_held u p)) positions
 
   -- how many bytes of the item at p stand below the tip
   abbrev pub item_below : PageBlob S gs → ℕ → ℕ

@@ -13,7 +13,7 @@ ghost use Rattle.sealed_pages.specs.Reading.{Unchanged};
 ghost use Rattle.segments.specs.Sections.{key_of, IsHeld};
 ghost use Rattle.segments.specs.Refusing.{HasFailed, IsPruned};
 ghost use Rattle.segments.specs.FixedItems.{item_at, IsItem};
-ghost use Rattle.segments.specs.FixedReading.{HasItem, is_item_held, IsDamaged, IsItemCovered, IsAbsent, IsPast, HasNotRead};
+ghost use Rattle.segments.specs.FixedReading.{HasItem, is_item_held, unheld, IsDamaged, IsItemCovered, IsAbsent, IsPast, HasNotRead};
 
 use super::Journal;
 use crate::journal::Error;
@@ -280,7 +280,9 @@ impl<A: CodecFixed, S: Seal> Journal<A, S> {
         ensures refused { D.Tells → AreHeldOf (disk (D.time dev.old) (pages.key_of (page_blob.shown buffer.now))).content buffer.now.held → (e : _) → IsErrOf result (Error.Codec e)
             → ((p : ℕ) × Contains positions.now p × (A.refusal (item_at A.SIZE (bytes_of (page_blob.shown buffer.now) (disk (D.time dev.old) (pages.key_of (page_blob.shown buffer.now))).content) p) tt ≡ Some e) × IsItemCovered A.SIZE S.seal_of buffer.now (disk (D.time dev.old) (pages.key_of (page_blob.shown buffer.now))).content p) }
         ensures unchanged { D.Tells → Unchanged (D.time dev.old) (D.time dev.new) }
-        ensures reads { ReadsAtMost (length positions.now * (A.SIZE / buffer.now.page_size + 2)) (pages.key_of (page_blob.shown buffer.now)) (D.opened dev.old) (D.opened dev.new) }
+        ensures idle { unheld A.SIZE buffer.now positions.now ≡ 0 → dev.new ≡ dev.old }
+        ensures reads { ReadsAtMost (unheld A.SIZE buffer.now positions.now * (A.SIZE / buffer.now.page_size + 2))
+            (pages.key_of (page_blob.shown buffer.now)) (D.opened dev.old) (D.opened dev.new) }
         ensures faults { D.faults dev.old ≤ D.faults dev.new }
         ensures cause { OnErr result (HasNotRead result (D.faults dev.old) (D.faults dev.new)) }
     {
@@ -329,7 +331,13 @@ impl<A: CodecFixed, S: Seal> Journal<A, S> {
             × IsSomeAnd ((shown self.now).sections.held section) (λ u. IsItemCovered A.SIZE S.seal_of u (disk (D.time dev.old) (key_of (shown self.now).sections section)).content p)) }
         ensures over { IsJournal ⟦<PageBlob<S> as SectionBuffer>⟧ ⟦<AppendFactory<S> as BufferFactory>⟧.gives S.seal_of A.SIZE D.Tells (shown self.now) (D.opened dev.new) (disk (D.time dev.new)) }
         ensures unchanged { D.Tells → Unchanged (D.time dev.old) (D.time dev.new) }
-        ensures reads { IsHeld (shown self.now).sections section → ReadsAtMost (length positions.now * (A.SIZE / (shown self.now).sections.factory.pages.page_size + 2)) (key_of (shown self.now).sections section) (D.opened dev.old) (D.opened dev.new) }
+        // Where it refuses without a read, or where all items are held in memory, no call of the device is made.
+        ensures idle { (IsSomeAnd ((shown self.now).sections.held section)
+            (λ u. ((p : ℕ) → Contains positions.now p → HasItem A.SIZE u p) × (0 < unheld A.SIZE u positions.now)) → ⊥) → dev.new ≡ dev.old }
+        // Only items that are not held whole are read: of each at most two pages more than it fills, all of the section's blob.
+        ensures reads { (u : _) → (shown self.now).sections.held section ≡ Some u
+            → ReadsAtMost (unheld A.SIZE u positions.now * (A.SIZE / (shown self.now).sections.factory.pages.page_size + 2))
+            (key_of (shown self.now).sections section) (D.opened dev.old) (D.opened dev.new) }
         ensures faults { D.faults dev.old ≤ D.faults dev.new }
         ensures cause { OnErr result (IsPruned result (shown self.now).sections.floor ⊎ (IsAbsent result section ⊎ (((p : ℕ) × IsPast result p) ⊎ HasNotRead result (D.faults dev.old) (D.faults dev.new)))) }
     {

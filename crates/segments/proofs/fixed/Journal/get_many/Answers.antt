@@ -1,19 +1,22 @@
-use Rattle.std.proofs.Common.{◌≡◌, ◌∙◌, ◌+◌, ◌*◌, ◌/◌, ℕ, List, Err, IfOk, length, map, sym, ap, subst, arith}
+use Rattle.std.proofs.Common.{◌≡◌, ◌∙◌, ◌+◌, ◌*◌, ◌/◌, ◌<◌, ℕ, List, Err, IfOk, map, sym, ap, subst, arith}
 use Rattle.std.specs.List.{Contains}
 use Rattle.blob_device.specs.Timeline.{disk}
 use Rattle.blob_device.proofs.Results.{on_ok}
 use Rattle.sealed_pages.specs.Buffer as pages
 use Rattle.sealed_pages.specs.Shown as page_blob
+use Rattle.sealed_pages.specs.declared.page_blob.PageBlob.{PageBlob}
 use Rattle.sealed_pages.proofs.EntryLemmas.{only_read_of}
 use Rattle.sealed_pages.proofs.Looking.{unchanged_now}
 use Rattle.segments.specs.declared.journal.Error.TheVariants.{ItemOutOfRange}
 use Rattle.segments.specs.FixedItems.{item_at}
-use Rattle.segments.specs.FixedReading.{HasItem, IsDamaged, IsItemCovered}
+use Rattle.segments.specs.FixedReading.{HasItem, unheld, IsDamaged, IsItemCovered}
 use Rattle.segments.specs.FixedShown as lists
 use Rattle.segments.specs.managing.Managed.{shown}
 use Rattle.segments.specs.Sections.{key_of}
 use Rattle.segments.proofs.FixedErrors.{of_error}
+use Rattle.segments.proofs.FixedReadLemmas.{none_over}
 use Rattle.segments.proofs.FixedSections.{some_here, from_here, bytes_own, own_here, holds_own, journal_read, reads_as, sound_page}
+use Rattle.segments.proofs.WalkLemmas.{some_same}
 use Rattle.segments.proofs.fixed.Journal.get_many.Goals as goal
 
 pub returns-in_err-check_positions-clause-first : goal.returns-in_err-check_positions-clause-first
@@ -90,11 +93,20 @@ pub returns-clause-over : goal.returns-clause-over
 returns-clause-over g c = journal_read _ _ _ _ _ _ _ _ _ _ _ (only_read_of _ _ _ _ c.read_each.ensures.reads) (λ t. unchanged_now (g.D.Device.time c.args.dev.now) (g.D.Device.time c.read_each.new.dev) (c.read_each.ensures.unchanged t)) c.requires.over
 
 pub returns-clause-reads : goal.returns-clause-reads
-returns-clause-reads g c is =
+returns-clause-reads g c v is =
     let m = shown c.args.self.now.manager in
     let u = c.in_ok-buffer.buffer.now in
     let held = c.in_ok-buffer.ensures.held in
     let same : u.page_size ≡ m.factory.pages.page_size = λ i. (c.requires.over.over.opened_list.setting c.args.section u held i).page_size in
-    let n = length c.args.positions.now in
-    reads_as (n * (g.A.CodecFixed.SIZE / u.page_size + 2)) (n * (g.A.CodecFixed.SIZE / m.factory.pages.page_size + 2)) (pages.key_of (page_blob.shown u)) (key_of m c.args.section) _ _
-    (ap (λ (P : ℕ). length c.args.positions.now * (g.A.CodecFixed.SIZE / P + 2)) same) (c.requires.over.over.opened_list.key c.args.section u held) c.read_each.ensures.reads
+    let it : u ≡ v = some_same u v (sym held ∙ is) in
+    reads_as (unheld g.A.CodecFixed.SIZE u c.args.positions.now * (g.A.CodecFixed.SIZE / u.page_size + 2)) (unheld g.A.CodecFixed.SIZE v c.args.positions.now * (g.A.CodecFixed.SIZE / m.factory.pages.page_size + 2))
+    (pages.key_of (page_blob.shown u)) (key_of m c.args.section) _ _
+    (ap (λ (P : ℕ). unheld g.A.CodecFixed.SIZE u c.args.positions.now * (g.A.CodecFixed.SIZE / P + 2)) same ∙ ap (λ (w : PageBlob _ _). unheld g.A.CodecFixed.SIZE w c.args.positions.now * (g.A.CodecFixed.SIZE / m.factory.pages.page_size + 2)) it)
+    (c.requires.over.over.opened_list.key c.args.section u held) c.read_each.ensures.reads
+
+pub returns-clause-idle : goal.returns-clause-idle
+returns-clause-idle g c not_read =
+    let m = shown c.args.self.now.manager in
+    let u = c.in_ok-buffer.buffer.now in
+    c.read_each.ensures.idle (none_over (unheld g.A.CodecFixed.SIZE u c.args.positions.now) (λ some. not_read (some_here m c.args.section u c.in_ok-buffer.ensures.held
+    (λ v. ((p : ℕ) → Contains c.args.positions.now p → HasItem g.A.CodecFixed.SIZE v p) × (0 < unheld g.A.CodecFixed.SIZE v c.args.positions.now)) (c.in_ok-check_positions.ensures.ok, some))))

@@ -1,5 +1,6 @@
-use Rattle.std.proofs.Common.{◌≡◌, ◌∙◌, ◌<◌, ◌+◌, ◌*◌, ◌/◌, ◌∷◌, ◌++◌, [], inl, inr, ℕ, List, Err, length, get_or, map, sym, ap, subst, below_more, arith}
+use Rattle.std.proofs.Common.{◌≡◌, ◌∙◌, ◌<◌, ◌+◌, ◌/◌, ◌∷◌, ◌++◌, [], inl, inr, ℕ, List, not, Err, length, get_or, map, sym, ap, subst, below_more, arith}
 use Rattle.std.specs.List.{Contains}
+use Rattle.std.proofs.lemmas.Bool.{not-false}
 use Rattle.std.proofs.lemmas.List.{map-append, map_more, get_or_default}
 use Rattle.std.proofs.lemmas.List.Elements.{Contains-get_or, Contains-push_cases}
 use Rattle.std.proofs.lemmas.List.Sums.{count_by_more_yes, count_by_more_no}
@@ -9,14 +10,13 @@ use Rattle.blob_device.specs.declared.runtime.RError.TheVariants.{InvalidChecksu
 use Rattle.sealed_pages.specs.Buffer.{key_of, bytes_of}
 use Rattle.sealed_pages.specs.Held.{AreHeldOf}
 use Rattle.sealed_pages.specs.Shown.{shown}
-use Rattle.sealed_pages.proofs.EntryLemmas.{reads_then}
 use Rattle.sealed_pages.proofs.Holding.{bool_or}
 use Rattle.sealed_pages.proofs.Looking.{unchanged_now, unchanged_then}
-use Rattle.sealed_pages.proofs.SlotLemmas.{times_more, times_next}
 use Rattle.segments.specs.declared.journal.Error.TheVariants.{Runtime, Codec}
 use Rattle.segments.specs.FixedItems.{item_at}
 use Rattle.segments.specs.FixedReading.{is_item_held, IsDamaged, IsItemCovered}
 use Rattle.segments.proofs.FixedErrors.{of_error, read_failed}
+use Rattle.segments.proofs.FixedReadLemmas.{none_next, none_here, reads_one, reads_next, reads_here}
 use Rattle.segments.proofs.fixed.Journal.read_each.Goals as goal
 
 pub read_into-requires-clause-inside : goal.read_into-requires-clause-inside
@@ -51,8 +51,19 @@ returns-in_err-item-clause-unchanged g c t = unchanged_then _ _ _ (c.loop-i.inva
 
 pub returns-in_err-item-clause-reads : goal.returns-in_err-item-clause-reads
 returns-in_err-item-clause-reads g c =
-    let X = g.A.CodecFixed.SIZE / c.args.buffer.now.page_size + 2 in
-    reads_then _ (c.loop-i.i * X) X (length c.args.positions.now * X) _ _ _ (times_more c.loop-i.i (length c.args.positions.now) X c.loop-i-test.true) c.loop-i.invariant.reads c.in_err-item.ensures.reads
+    let u = c.args.buffer.now in
+    let X = g.A.CodecFixed.SIZE / u.page_size + 2 in
+    let unheld = λ (p : ℕ). not (is_item_held g.A.CodecFixed.SIZE u p) in
+    let one = reads_one (key_of (shown u)) X (unheld (get_or c.args.positions.now c.loop-i.i 0)) (g.D.Device.opened c.loop-i.dev) (g.D.Device.opened c.read_into.new.dev)
+    (λ held. ap g.D.Device.opened (c.in_err-item.ensures.idle (not-false _ held))) c.in_err-item.ensures.reads in
+    reads_here unheld c.args.positions.now c.loop-i.i c.loop-i-test.true (key_of (shown u)) X (g.D.Device.opened c.args.dev.now) (g.D.Device.opened c.loop-i.dev) (g.D.Device.opened c.read_into.new.dev) c.loop-i.invariant.reads one
+
+pub returns-in_err-item-clause-idle : goal.returns-in_err-item-clause-idle
+returns-in_err-item-clause-idle g c none =
+    let u = c.args.buffer.now in
+    let unheld = λ (p : ℕ). not (is_item_held g.A.CodecFixed.SIZE u p) in
+    let here = none_here unheld c.args.positions.now c.loop-i.i c.loop-i-test.true none in
+    c.in_err-item.ensures.idle (not-false _ here.1) ∙ c.loop-i.invariant.idle here.0
 
 pub returns-in_err-item-clause-cause : goal.returns-in_err-item-clause-cause
 returns-in_err-item-clause-cause g c = read_failed c.from_residual.result c.in_err-item.field-0.0 (g.D.Device.faults c.args.dev.now) (g.D.Device.faults c.loop-i.dev) (g.D.Device.faults c.read_into.new.dev)
@@ -63,8 +74,19 @@ returns-in_err-push-clause-unchanged g c t = unchanged_then _ _ _ (c.loop-i.inva
 
 pub returns-in_err-push-clause-reads : goal.returns-in_err-push-clause-reads
 returns-in_err-push-clause-reads g c =
-    let X = g.A.CodecFixed.SIZE / c.args.buffer.now.page_size + 2 in
-    reads_then _ (c.loop-i.i * X) X (length c.args.positions.now * X) _ _ _ (times_more c.loop-i.i (length c.args.positions.now) X c.loop-i-test.true) c.loop-i.invariant.reads c.in_ok-item.ensures.reads
+    let u = c.args.buffer.now in
+    let X = g.A.CodecFixed.SIZE / u.page_size + 2 in
+    let unheld = λ (p : ℕ). not (is_item_held g.A.CodecFixed.SIZE u p) in
+    let one = reads_one (key_of (shown u)) X (unheld (get_or c.args.positions.now c.loop-i.i 0)) (g.D.Device.opened c.loop-i.dev) (g.D.Device.opened c.read_into.new.dev)
+    (λ held. ap g.D.Device.opened (c.in_ok-item.ensures.idle (not-false _ held))) c.in_ok-item.ensures.reads in
+    reads_here unheld c.args.positions.now c.loop-i.i c.loop-i-test.true (key_of (shown u)) X (g.D.Device.opened c.args.dev.now) (g.D.Device.opened c.loop-i.dev) (g.D.Device.opened c.read_into.new.dev) c.loop-i.invariant.reads one
+
+pub returns-in_err-push-clause-idle : goal.returns-in_err-push-clause-idle
+returns-in_err-push-clause-idle g c none =
+    let u = c.args.buffer.now in
+    let unheld = λ (p : ℕ). not (is_item_held g.A.CodecFixed.SIZE u p) in
+    let here = none_here unheld c.args.positions.now c.loop-i.i c.loop-i-test.true none in
+    c.in_ok-item.ensures.idle (not-false _ here.1) ∙ c.loop-i.invariant.idle here.0
 
 pub loop-i-preserved : goal.loop-i-preserved
 loop-i-preserved g c =
@@ -74,6 +96,7 @@ loop-i-preserved g c =
     let p = get_or c.args.positions.now c.loop-i.i 0 in
     let d0 = disk (g.D.Device.time c.args.dev.now) in
     let lt : c.loop-i.i < length c.args.positions.now = c.loop-i-test.true in
+    let unheld = λ (q : ℕ). not (is_item_held g.A.CodecFixed.SIZE u q) in
     let X = g.A.CodecFixed.SIZE / c.args.buffer.now.page_size + 2 in
     let same = λ (t : g.D.Device.Tells). unchanged_now (g.D.Device.time c.args.dev.now) (g.D.Device.time c.loop-i.dev) (c.loop-i.invariant.unchanged t) in
     let here = λ (t : g.D.Device.Tells) (holds : AreHeldOf (d0 (key_of (shown u))).content u.held). subst (λ (d : Disk). AreHeldOf (d (key_of (shown u))).content u.held) (sym (same t)) holds in
@@ -95,7 +118,9 @@ loop-i-preserved g c =
           (subst (λ (d : Disk). IsItemCovered g.A.CodecFixed.SIZE g.S.Seal.seal_of u (d (key_of (shown u))).content p) (same t) (c.in_ok-item.ensures.checked t (here t holds)));
       is_open = c.in_ok-item.ensures.reads.length u.end c.loop-i.invariant.is_open;
       unchanged = λ t. unchanged_then _ _ _ (c.loop-i.invariant.unchanged t) (c.in_ok-item.ensures.unchanged t);
-      reads = reads_then _ (i * X) X ((i + 1) * X) _ _ _ (omega (arith, times_next i X)) c.loop-i.invariant.reads c.in_ok-item.ensures.reads;
+      idle = λ none. (let here = none_next unheld xs i lt none in c.in_ok-item.ensures.idle (not-false _ here.1) ∙ c.loop-i.invariant.idle here.0);
+      reads = reads_next unheld xs i lt (key_of (shown u)) X (g.D.Device.opened c.args.dev.now) (g.D.Device.opened c.loop-i.dev) (g.D.Device.opened c.read_into.new.dev) c.loop-i.invariant.reads
+          (reads_one (key_of (shown u)) X (unheld p) (g.D.Device.opened c.loop-i.dev) (g.D.Device.opened c.read_into.new.dev) (λ held. ap g.D.Device.opened (c.in_ok-item.ensures.idle (not-false _ held))) c.in_ok-item.ensures.reads);
       faults = omega (arith, c.loop-i.invariant.faults, c.in_ok-item.ensures.faults);
     }
 

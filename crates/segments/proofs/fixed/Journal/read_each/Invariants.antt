@@ -7,7 +7,7 @@ use Rattle.sealed_pages.specs.Held.{AreHeldOf}
 use Rattle.sealed_pages.specs.Reading.{Unchanged}
 use Rattle.sealed_pages.specs.Shown.{shown}
 use Rattle.segments.specs.FixedItems.{item_at}
-use Rattle.segments.specs.FixedReading.{is_item_held, IsItemCovered}
+use Rattle.segments.specs.FixedReading.{is_item_held, unheld, IsItemCovered}
 use Rattle.segments.proofs.fixed.Journal.read_each.Given as goal
 
 abbrev pub invariant-loop-i : goal.invariant-loop-i
@@ -18,6 +18,7 @@ invariant-loop-i g l = record {
   checked : g.D.Device.Tells → AreHeldOf (disk (g.D.Device.time l.initial.dev) (key_of (shown l.buffer))).content l.buffer.held → (k : ℕ) → k < l.i → IsItemCovered g.A.CodecFixed.SIZE g.S.Seal.seal_of l.buffer (disk (g.D.Device.time l.initial.dev) (key_of (shown l.buffer))).content (get_or l.positions k 0);
   is_open : IsOpenAt (g.D.Device.opened l.dev) (key_of (shown l.buffer)) l.buffer.end;
   unchanged : g.D.Device.Tells → Unchanged (g.D.Device.time l.initial.dev) (g.D.Device.time l.dev);
-  reads : ReadsAtMost (l.i * (g.A.CodecFixed.SIZE / l.buffer.page_size + 2)) (key_of (shown l.buffer)) (g.D.Device.opened l.initial.dev) (g.D.Device.opened l.dev);
+  idle : unheld g.A.CodecFixed.SIZE l.buffer (take l.i l.positions) ≡ 0 → l.dev ≡ l.initial.dev;
+  reads : ReadsAtMost (unheld g.A.CodecFixed.SIZE l.buffer (take l.i l.positions) * (g.A.CodecFixed.SIZE / l.buffer.page_size + 2)) (key_of (shown l.buffer)) (g.D.Device.opened l.initial.dev) (g.D.Device.opened l.dev);
   faults : g.D.Device.faults l.initial.dev ≤ g.D.Device.faults l.dev;
 }
