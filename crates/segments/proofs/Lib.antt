@@ -40,6 +40,7 @@ pub mod TailLemmas
 pub mod FixedTailLemmas
 pub mod FixedBoundLemmas
 pub mod FixedDrainLemmas
+pub mod FixedGiven
 pub mod FixedBounding
 pub mod FixedBoundsEnds
 pub mod FixedDrained

@@ -30,4 +30,5 @@ pub mod Answers
 pub mod FixedOpens
 pub mod FixedBounds
 pub mod FixedDraining
+pub mod FixedGiving
 pub mod FixedCheckpoint

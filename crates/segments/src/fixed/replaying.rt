@@ -151,6 +151,7 @@ impl<A: CodecFixed, S: Seal> Replay<A, S> {
     ghost use Rattle.segments.specs.FixedShown.{shown};
     ghost use Rattle.segments.specs.FixedLists.{OwesHeld, OwesSettled, AreSealed, UnopenedLater};
     ghost use Rattle.segments.specs.FixedReplay.{IsWalk, HasWalk, WalksOver, SameWalk, KeepsSections, KeepsFloors, KeepsBytes, KeepsItems, IsLeft, IsDrained, IsAhead, IsIn, first_of, Gives, Refuses, Stops, IsCutting, Replaying, LeavesNoMore, EndsBelow, FindsDamage, kept_bytes};
+    ghost use Rattle.segments.specs.FixedGiving.{given, HasRun, AreAllLeft, ReadsAllOnce};
     ghost use Rattle.segments.specs.FixedStepping.{way_of, standing, after_item, ReadsOnce, OnlySections, Touches, IsFlushed, IsCutBack, BeginsOver, EndsAt, Steps};
     ghost use Rattle.segments.specs.FixedWalking.{walk_of, walk_at, place_of};
     ghost use Rattle.sealed_pages.specs.Readers.{reading};
@@ -578,6 +579,10 @@ impl<A: CodecFixed, S: Seal> Replay<A, S> {
         // So it is of their floors.
         ensures lifted { IfOk result (λ r. (s : ℕ) → ((walk_of self).start_section < s) ⊎ (((walk_of self).start_position ≡ 0) × ((walk_of self).start_section ≡ s)) → (shown r).floor_of s ≡ 0) }
         ensures floors { IfOk result (λ r. (s : ℕ) → (s < (walk_of self).start_section) ⊎ ((0 < (walk_of self).start_position) × ((walk_of self).start_section ≡ s)) → (shown r).floor_of s ≡ (walk_of self).journal.floor_of s) }
+        // What was given by calls without an error, from any moment on, is all that was to be given then, ascending; each page was read once.
+        ensures given { (from : _) (calls : _) (opened : _) (d : _)
+            → HasRun S.seal_of A.SIZE A.spelling A.accepted from calls (record { walk = walk_of self; opened = opened; disk = d })
+            → OnOk result (AreAllLeft S.seal_of A.SIZE A.spelling A.accepted from (given calls) × ReadsAllOnce from opened) }
         ensures replay_failed { (result ≡ Err Error.ReplayFailed) ↔ (((walk_of self).failed ≡ true) ⊎ (IsDrained (walk_of self) → ⊥)) }
         ensures cause { OnErr result (result ≡ Err Error.ReplayFailed) }
     {

@@ -1,6 +1,7 @@
 -- The sections that were gone over are sealed.
 use Rattle.segments.specs.FixedShown.{shown}
 use Rattle.segments.specs.FixedWalking.{walk_of}
+use Rattle.segments.proofs.FixedGiven.{all_given}
 use Rattle.segments.proofs.FixedBeginning.{finished_sealed, finished_start, owed_before, finished_held, finished_settled, finished_unopened}
 use Rattle.segments.proofs.fixed.replaying.Replay.finish.Goals as goal
 
@@ -20,3 +21,7 @@ returns-clause-unopened g c d over = finished_unopened (walk_of c.args.self) (sh
 
 pub returns-clause-start : goal.returns-clause-start
 returns-clause-start g c walk = finished_start g.A.CodecFixed.SIZE (walk_of c.args.self) (shown c.recovered_from.result) walk c.if-self.false (c.is_drained.ensures.0 c.if-not-is_drained.false) c.recovered_from.ensures.sections
+
+pub returns-clause-given : goal.returns-clause-given
+returns-clause-given g c from calls opened d run = all_given g.S.Seal.seal_of g.A.CodecFixed.SIZE g.A.Codec.spelling g.A.Codec.accepted from calls
+    (record { walk = walk_of c.args.self; opened = opened; disk = d }) run (c.is_drained.ensures.0 c.if-not-is_drained.false)
