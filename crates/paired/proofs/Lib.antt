@@ -23,6 +23,7 @@ pub mod Steps
 pub mod Ends
 pub mod CutSteps
 pub mod CappedEnds
+pub mod UnmarkedSteps
 pub mod RecordCuts
 pub mod ValueEnds
 pub mod ValuesRemoved

@@ -1,5 +1,5 @@
 -- What a crash leaves of a pair.
-use Rattle.std.specs.Prelude.{◌≡◌, ◌⊎◌, ℕ, ◌^◌, ◌<◌, ◌≤◌, List, [], length, map, take, IsTrue}
+use Rattle.std.specs.Prelude.{◌≡◌, ◌⊎◌, ℕ, ◌^◌, ◌<◌, ◌≤◌, false, List, [], length, map, take, IsTrue}
 use Rattle.std.specs.List.{AllByRecursion}
 use Rattle.blob_device.specs.Disk.{Key, Disk, Image, IsCrashOf, past}
 use Rattle.blob_device.specs.Timeline.{Timeline, disk, Always}
@@ -9,7 +9,7 @@ use Rattle.meta_store.specs.declared.error.Side.{Side}
 use Rattle.meta_store.specs.declared.error.Side.TheVariants.{Left, Right}
 use Rattle.meta_store.specs.Blobs.{blob_of, bytes_of}
 use Rattle.meta_store.specs.Crashes as metadata
-use Rattle.meta_store.specs.Pairs.{HoldMap}
+use Rattle.meta_store.specs.Pairs.{HoldMap, empty_map}
 use Rattle.paired.specs.Frames.{bytes_at}
 use Rattle.paired.specs.Records.{Entry}
 use Rattle.paired.specs.Kept.{Layout, Markers, HasNoFloor, IsMarked, content_at, stored_records, is_sound_in, kept_by, IsTrueMarker}
@@ -46,19 +46,24 @@ WasThere contents c (at, n) = metadata.SomeByRecursion (λ p. bytes_at p at n �
 pub record NoChanceSeal (l : Layout) (d : Disk) (image : Image) : Type 0 where
   pub slots : (s : ℕ) → s < 2 ^ 64 → pages.NoChanceSeal l.seal l.page_size (past (d (section_key l.index s))) (content_at image l.index s)
   pub frames : (s : ℕ) → s < 2 ^ 64 → AllByRecursion (λ r. IsTrue (is_sound_in l image s r) → WasThere (past (d (section_key l.values s))) (content_at image l.values s) (l.place r)) (stored_records l image s)
-  pub copies : (side : Side) → metadata.NoChanceSeal l.markers.seal (past (d (blob_of l.metadata side))) (bytes_of (image (blob_of l.metadata side)))
+  pub copies : IsTrue l.marked → (side : Side) → metadata.NoChanceSeal l.markers.seal (past (d (blob_of l.metadata side))) (bytes_of (image (blob_of l.metadata side)))
 
 -- what is kept of a section is a prefix of its list that holds what was synced
 pub record IsPrefix (list : List Entry) (least : ℕ) (found : List Entry) : Type 0 where
   pub same : found ≡ take (length found) list
   pub synced : least ≤ length found
 
+-- the copies of an image hold these markers and this floor; of a pair without markers there are none, and no floor
+pub record HoldMarkers (l : Layout) (image : Image) (markers : Markers) : Type 0 where
+  pub copies : IsTrue l.marked → HoldMap l.markers (bytes_of (image (blob_of l.metadata Left))) (bytes_of (image (blob_of l.metadata Right))) markers
+  pub none : l.marked ≡ false → markers ≡ empty_map
+
 module _ (l : Layout) (wanted : ℕ → List Entry) (synced : ℕ → ℕ) (IsGoing : ℕ → Type 0) where
   -- The image holds markers with no floor, and all of them are true. It keeps of each section a prefix of its list with what was synced, or
   -- nothing of one that is going; and the records that stand behind those kept are the next ones of the list.
   pub record Keeps (image : Image) : Type 0 where
     pub markers : Markers
-    pub held : HoldMap l.markers (bytes_of (image (blob_of l.metadata Left))) (bytes_of (image (blob_of l.metadata Right))) markers
+    pub held : HoldMarkers l image markers
     pub floor : HasNoFloor markers
     pub true_markers : (s m : ℕ) → IsMarked markers.entries s m → IsTrueMarker l image s m
     pub lists : (s : ℕ) → s < 2 ^ 64 → IsPrefix (wanted s) (synced s) (kept_by l image markers s)

@@ -69,6 +69,7 @@ module _ (l : Layout) where
   -- The blobs of each section stand, and the copies hold the one value of markers or the other, both of them true.
   pub record Holding (facts : ℕ → Facts) (Gone : ℕ → Type 0) (one other : Markers) (d : Disk) : Type 0 where
     pub sections : (s : ℕ) → s < 2 ^ 64 → SectionStands (Gone s) (facts s) (d (section_key l.index s)) (d (section_key l.values s))
+    pub marked : IsTrue l.marked
     pub copies : metadata.Keeps l.markers l.metadata one other d
     pub one_marked : AreTrue facts d one
     pub other_marked : AreTrue facts d other

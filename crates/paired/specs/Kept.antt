@@ -25,10 +25,12 @@ Markers = Contents Key8 ℕ
 abbrev pub HasNoFloor : Markers → Type 0
 HasNoFloor markers = markers.floor ≡ 0
 
--- the three partitions, the size of a page and of a record, the seal, where a record's bytes say that its frame stands, and how markers are stored
+-- the partitions of records and values, the size of a page and of a record, the seal, and where a record's bytes say that its frame stands; whether the
+-- pair has markers, and then their partition, and how they are stored
 pub record Layout : Type 1 where
   pub index : List ℕ
   pub values : List ℕ
+  pub marked : Bool
   pub metadata : List ℕ
   pub page_size : ℕ
   pub record_size : ℕ
@@ -44,10 +46,11 @@ IsMarked markers s m = (s < 2 ^ 64) × (lookup (λ k. bytes_eq (key8_bytes k) (t
 abbrev pub marker_of : MarkerMap → ℕ → ℕ
 marker_of markers s = if nat_lt s (2 ^ 64) then unwrap_or (lookup (λ k. bytes_eq (key8_bytes k) (to_be_bytes w64 s)) markers) 0 else 0
 
--- the partitions and the page size are the same
+-- the partitions and the page size are the same, and whether there are markers
 pub record IsSameLayout (l m : Layout) : Type 0 where
   pub index : m.index ≡ l.index
   pub values : m.values ≡ l.values
+  pub marked : m.marked ≡ l.marked
   pub metadata : m.metadata ≡ l.metadata
   pub page_size : m.page_size ≡ l.page_size
 

@@ -6,11 +6,9 @@ use Rattle.sealed_pages.specs.ChanceSeal as pages
 use Rattle.segments.specs.Sections.{section_key}
 use Rattle.segments.specs.Lasting.{IsSettling}
 use Rattle.meta_store.specs.declared.error.Side.{Side}
-use Rattle.meta_store.specs.declared.error.Side.TheVariants.{Left, Right}
-use Rattle.meta_store.specs.Blobs.{blob_of, bytes_of}
+use Rattle.meta_store.specs.Blobs.{blob_of}
 use Rattle.meta_store.specs.Opening.{Opens}
-use Rattle.meta_store.specs.Pairs.{HoldMap}
-use Rattle.paired.specs.Crashes.{IsOwn, NoChanceSeal, WasThere}
+use Rattle.paired.specs.Crashes.{HoldMarkers, IsOwn, NoChanceSeal, WasThere}
 use Rattle.paired.specs.Kept.{Layout, Markers, HasNoFloor, IsMarked, content_at, stored_records, is_sound_in, kept_by, IsTrueMarker}
 use Rattle.paired.specs.Pair.{HasNoBytes}
 use Rattle.paired.specs.Places.{Follow}
@@ -37,6 +35,10 @@ Same s found list = found ≡ list
 abbrev pub Front : Relation
 Front s found list = found ≡ take (length found) list
 
+-- whatever it is: of the records that are stored alone is then something said
+abbrev pub Any : Relation
+Any s found list = ⊤
+
 -- just that of a section before this one, the first entries of another, and of this one at least so many
 pub record IsUpTo (section least s : ℕ) (found list : List Entry) : Type 0 where
   pub front : found ≡ take (length found) list
@@ -47,10 +49,6 @@ abbrev pub UpTo : ℕ → ℕ → Relation
 UpTo section least = IsUpTo section least
 
 module _ (l : Layout) where
-  -- the copies of an image hold these markers and this floor
-  abbrev pub HoldMarkers : Image → Markers → Type 0
-  HoldMarkers image markers = HoldMap l.markers (bytes_of (image (blob_of l.metadata Left))) (bytes_of (image (blob_of l.metadata Right))) markers
-
   -- The value places of a section follow each other from 0 on, up to an end that a u64 counts.
   pub record IsInPlace (image : Image) (s : ℕ) : Type 0 where
     pub end : ℕ
@@ -66,7 +64,7 @@ module _ (l : Layout) where
   -- section's value places are in order.
   pub record IsLawful (image : Image) (markers : Markers) : Type 0 where
     pub names : AreNamed image
-    pub held : HoldMarkers image markers
+    pub held : HoldMarkers l image markers
     pub floor : HasNoFloor markers
     pub true_markers : (s m : ℕ) → IsMarked markers.entries s m → IsTrueMarker l image s m
     pub places : (s : ℕ) → s < 2 ^ 64 → IsInPlace image s

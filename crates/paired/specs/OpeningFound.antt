@@ -15,7 +15,8 @@ use Rattle.segments.specs.Refusing.{IsForeign}
 use Rattle.segments.specs.Sections.{section_key, IsHeld, SamePlace}
 use Rattle.paired.specs.glob.Sections as glob
 use Rattle.paired.specs.Kept.{Layout, Markers, IsMarked, IsSameLayout, kept_by, marker_of}
-use Rattle.paired.specs.Opening.{as_read, HoldMarkers, IsLawful, MayBeOpened}
+use Rattle.paired.specs.Crashes.{HoldMarkers}
+use Rattle.paired.specs.Opening.{as_read, IsLawful, MayBeOpened}
 use Rattle.paired.specs.OpeningRefusing.{IsLost, IsProved, IsUnreadable}
 use Rattle.paired.specs.Pair.{HasNoBytes, Pair, IsSoundOn, length_of, list_of, records_of, synced_length}
 use Rattle.paired.specs.Places.{Follow, last_end}

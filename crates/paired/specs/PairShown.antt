@@ -1,5 +1,5 @@
 -- What a pair shows of itself.
-use Rattle.std.specs.Prelude.{ℕ, List, string_bytes}
+use Rattle.std.specs.Prelude.{ℕ, true, List, string_bytes}
 use Rattle.std.specs.Ordering.{nat_cmp}
 use Rattle.std.specs.BTreeMap as tree
 use Rattle.sealed_pages.specs.declared.page_blob.PageBlob.{PageBlob}
@@ -16,6 +16,7 @@ shown {fixed = f} {seal = s} place o = record {
   layout = record {
     index = string_bytes o.index.manager.partition;
     values = string_bytes o.values.manager.partition;
+    marked = true;
     metadata = string_bytes o.tracking.metadata.partition;
     page_size = o.index.manager.factory.pages.page_size;
     record_size = f.SIZE;

@@ -1,5 +1,5 @@
 -- What a replay of a pair shows of itself, and how a pair that is opened is stored.
-use Rattle.std.specs.Prelude.{ℕ, List, string_bytes}
+use Rattle.std.specs.Prelude.{ℕ, true, List, string_bytes}
 use Rattle.std.specs.Ordering.{nat_cmp}
 use Rattle.std.specs.BTreeMap as tree
 use Rattle.value_codec.specs.declared.seal.Seal as seal
@@ -19,6 +19,7 @@ abbrev pub layout_for : {S C : Type 0} → (List ℕ → ℕ × ℕ) → ℕ →
 layout_for place size sealing cfg metadata = record {
   index = string_bytes cfg.index_partition;
   values = string_bytes cfg.value_partition;
+  marked = true;
   metadata = metadata;
   page_size = cfg.index_pages.page_size;
   record_size = size;
@@ -32,6 +33,7 @@ run_of {fixed = f} {seal = s} place r = record {
   layout = record {
     index = string_bytes r.index.journal.manager.partition;
     values = string_bytes r.values.manager.partition;
+    marked = true;
     metadata = string_bytes r.tracking.metadata.partition;
     page_size = r.index.journal.manager.factory.pages.page_size;
     record_size = f.SIZE;

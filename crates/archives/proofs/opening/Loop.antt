@@ -55,7 +55,7 @@ same_then old mid new first second = record {
 
 pub same_start : {F B : Type 0} (run : Run F B) → SameRun run run
 same_start run = record {
-  layout = record { index = refl; values = refl; metadata = refl; page_size = refl };
+  layout = record { index = refl; values = refl; marked = refl; metadata = refl; page_size = refl };
   walk = record { bounds = record { place = record { partition = refl; factory = refl }; floor = refl; ceiling = refl }; unrecovered = λ s. refl; floors = λ s. refl; section = refl; position = refl };
   values = refl;
   store = refl;
@@ -176,6 +176,7 @@ pub run_layout : {I V S C : Type 0} {fixed codec seal : _} (place : List ℕ →
 run_layout {fixed = fixed} {seal = seal} place r q same = λ i. record {
   index = same.layout.index i;
   values = same.layout.values i;
+  marked = true;
   metadata = same.layout.metadata i;
   page_size = same.layout.page_size i;
   record_size = fixed.SIZE;

@@ -28,7 +28,7 @@ use Rattle.paired.proofs.pair.Synced.{Here, page_setting}
 
 pub same_moved : {F B : Type 0} (run : Run F B) (w : Walk F B) (ends : ℕ → Option ℕ) (ended : Option ℕ) (failed : Bool) → SameWalk run.walk w → (HasFailed run → HasFailed (moved run w ends ended failed)) → SameRun run (moved run w ends ended failed)
 same_moved run w ends ended failed same later = record {
-  layout = record { index = refl; values = refl; metadata = refl; page_size = refl };
+  layout = record { index = refl; values = refl; marked = refl; metadata = refl; page_size = refl };
   walk = same;
   values = refl;
   store = refl;
@@ -64,7 +64,7 @@ module _ {I V S C : Type 0} {fixed codec seal : _} {r q : Replay I V S C fixed c
 
 module _ {I V S C : Type 0} {fixed codec seal : _} (place : List ℕ → ℕ × ℕ) where
   pub here_run : (r : Replay I V S C fixed codec seal) → 1 ≤ fixed.SIZE → Here page_setting (pair_of (run_of place r))
-  here_run r pos = record { index = refl; values = refl; store = refl; page_size = refl; some = pos }
+  here_run r pos = record { index = refl; values = refl; store = refl; page_size = refl; some = pos; marked = refl }
 
   -- what `next` does not change
   pub record SameParts (r q : Replay I V S C fixed codec seal) : Type 0 where
@@ -82,6 +82,7 @@ module _ {I V S C : Type 0} {fixed codec seal : _} (place : List ℕ → ℕ × 
     layout = record {
       index = sym same.bounds.place.partition i;
       values = string_bytes (sym parts.values i).manager.partition;
+      marked = true;
       metadata = string_bytes (sym parts.tracking i).metadata.partition;
       page_size = sym (ap (λ (f : AppendFactory S). f.pages.page_size) same.bounds.place.factory) i;
       record_size = fixed.SIZE;

@@ -96,6 +96,7 @@ module _ {F S V : Type 0} {gs : _} (g : buffer.Ghosts (PageBlob S gs)) (gives : 
       store = here.store;
       page_size = ap (λ (f : F). (gives f).page_size) running.went.same.bounds.place.factory ∙ here.page_size;
       some = here.some;
+      marked = here.marked;
     }
 
     -- how many records a section has

@@ -128,8 +128,11 @@ module _ (l : Layout) (pos : 1 ≤ l.record_size) (apart : AreApart l) (from d :
   pub lawful_on : (markers : Markers) → IsLawful l (as_read from) markers → IsLawful l (as_read d) markers
   lawful_on markers lawful = record {
     names = record { index = λ name is. lawful.names.index name (there_back (l.index, name) is); values = λ name is. lawful.names.values name (there_back (l.values, name) is) };
-    held = subst (λ (b : Blob). HoldMap l.markers (bytes_of (reads b)) (bytes_of (as_read d (blob_of l.metadata Right))) markers) (sym (copy_blob Left))
-        (subst (λ (b : Blob). HoldMap l.markers (bytes_of (as_read from (blob_of l.metadata Left))) (bytes_of (reads b)) markers) (sym (copy_blob Right)) lawful.held);
+    held = record {
+      copies = λ is. subst (λ (b : Blob). HoldMap l.markers (bytes_of (reads b)) (bytes_of (as_read d (blob_of l.metadata Right))) markers) (sym (copy_blob Left))
+          (subst (λ (b : Blob). HoldMap l.markers (bytes_of (as_read from (blob_of l.metadata Left))) (bytes_of (reads b)) markers) (sym (copy_blob Right)) (lawful.held.copies is));
+      none = lawful.held.none;
+    };
     floor = lawful.floor;
     true_markers = λ s m is. (let was = lawful.true_markers s m is in record {
       index_blob = there_on s is.0 was.index_blob;
@@ -212,7 +215,7 @@ module _ (l : Layout) (pos : 1 ≤ l.record_size) (apart : AreApart l) (from d :
         slots = slots_on;
         frames = λ s small. subst (λ (b : Blob). FramesOf b (stored_records l (as_read d) s)) (sym (values_blob s))
             (subst (FramesOf (from (section_key l.values s))) (sym (stored_same s small)) (is_open.no_chance.frames s small));
-        copies = λ side. subst (λ (b : Blob). metadata.NoChanceSeal l.markers.seal (past b) (bytes_of (reads b))) (sym (copy_blob side)) (is_open.no_chance.copies side);
+        copies = λ is side. subst (λ (b : Blob). metadata.NoChanceSeal l.markers.seal (past b) (bytes_of (reads b))) (sym (copy_blob side)) (is_open.no_chance.copies is side);
       };
       named = λ image crash s small slots. subst (λ (b : Blob). FramesOf b (stored_records l image s)) (sym (values_blob s)) (named_on image crash s small slots);
       absent = absent_on;

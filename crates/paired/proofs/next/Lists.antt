@@ -116,6 +116,7 @@ module _ {F S : Type 0} {gs : _} (g : buffer.Ghosts (PageBlob S gs)) (gives : F 
       index_here = here.index;
       values_here = here.values;
       store_here = here.store;
+      is_marked = here.marked;
       paged = paged g gives told run pages_are before a c here was w went t;
       absent = sound.absent;
       marked = (live.markers known).marked;

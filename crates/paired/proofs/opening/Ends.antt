@@ -16,9 +16,9 @@ use Rattle.meta_store.specs.declared.error.Side.{Side}
 use Rattle.meta_store.specs.declared.error.Side.TheVariants.{Left, Right}
 use Rattle.meta_store.specs.Blobs.{blob_of, bytes_of}
 use Rattle.meta_store.specs.Pairs.{HoldMap}
-use Rattle.paired.specs.Crashes.{Keeps}
-use Rattle.paired.specs.Kept.{Layout, Markers, MarkerMap, IsMarked, marker_of, content_at, stored_records, is_sound_in, kept, IsTrueMarker}
-use Rattle.paired.specs.Opening.{AreNamed, IsInPlace, IsLawful, Relation, IsOrder, Same, Front, UpTo, KeepsBy}
+use Rattle.paired.specs.Crashes.{HoldMarkers, Keeps}
+use Rattle.paired.specs.Kept.{Layout, Markers, MarkerMap, HasNoFloor, IsMarked, marker_of, content_at, stored_records, is_sound_in, kept, IsTrueMarker}
+use Rattle.paired.specs.Opening.{AreNamed, IsInPlace, IsLawful, Relation, IsOrder, Same, Front, Any, UpTo, KeepsBy}
 use Rattle.paired.specs.Places.{Follow, end_of, last_end}
 use Rattle.paired.specs.Records.{Entry, is_sound, front, entry_of}
 use Rattle.paired.proofs.KeptLemmas.{EndsBy, follow_least, follow_ends, entry_same, settled_bytes, sound_parts, sound_settled, stored_entries}
@@ -159,6 +159,9 @@ front_order = record {
   onward = λ s last found list more first. front_onward last found list more first;
 }
 
+pub any_order : IsOrder Any
+any_order = record { itself = λ s list. tt; onward = λ s last found list more first. tt }
+
 pub up_to_order : (section least : ℕ) → IsOrder (UpTo section least)
 up_to_order section least = record {
   itself = λ s list. record { front = sym (take_all (length list) list (omega arith)); before = λ lt. refl; here = λ is. omega arith };
@@ -216,6 +219,86 @@ pub record KeptBy (l : Layout) (Rel : Relation) (old image : Image) (markers : M
 -- it keeps just that
 abbrev pub KeptHere : Layout → Image → Image → Markers → ℕ → Type 0
 KeptHere l = KeptBy l Same
+
+-- of a section without a marker the first records are stored still
+pub stored_alone : (l : Layout) (old image : Image) (markers : Markers) (s : ℕ) → ((m : ℕ) → IsMarked markers.entries s m → ⊥) → stored_records l image s ≡ take (length (stored_records l image s)) (stored_records l old s)
+    → KeptBy l Any old image markers s
+stored_alone l old image markers s unmarked first = record { stored = first; kept = tt; marked = λ m is was. absurd (unmarked m is) }
+
+-- ---- markers are lowered
+-- below a marker all are sound: so a lower one keeps the same
+pub front_lower : (sound : List ℕ → Bool) (low high left position : ℕ) (rs : List (List ℕ)) → low ≤ high → left ≡ high - position → AllByRecursion (λ r. IsTrue (sound r)) (take left rs)
+    → front sound low position rs ≡ front sound high position rs
+front_lower sound low high left position [] le is all = refl
+front_lower sound low high zero position (r ∷ rs) le is all =
+    let rest : front sound low (position + 1) rs ≡ front sound high (position + 1) rs = front_lower sound low high zero (position + 1) rs le (omega (arith, is)) tt in
+    let both : nat_lt position low ≡ nat_lt position high = le-ltb position low (omega (arith, le, is)) ∙ sym (le-ltb position high (omega (arith, is))) in
+    (λ i. if both i || sound r then r ∷ rest i else [])
+front_lower sound low high (suc left) position (r ∷ rs) le is all =
+    step (front_lower sound low high left (position + 1) rs le (omega (arith, is)) all.1)
+  where
+    step : front sound low (position + 1) rs ≡ front sound high (position + 1) rs → front sound low position (r ∷ rs) ≡ front sound high position (r ∷ rs)
+    step rest =
+        ap (λ (b : Bool). if b then r ∷ front sound low (position + 1) rs else []) (or_right (nat_lt position low) (sound r) all.0)
+        ∙ ap (λ (xs : List (List ℕ)). r ∷ xs) rest
+        ∙ sym (ap (λ (b : Bool). if b then r ∷ front sound high (position + 1) rs else []) (or_right (nat_lt position high) (sound r) all.0))
+
+-- of a lawful image the records below a marker are sound
+pub sound_below : (l : Layout) (old : Image) (markers : Markers) → IsLawful l old markers → (s : ℕ)
+    → AllByRecursion (λ r. IsTrue (is_sound_in l old s r)) (take (marker_of markers.entries s) (stored_records l old s))
+sound_below l old markers lawful s = elim (marked_or_zero markers.entries s) [
+  | inl is ↦ subst (λ (m : ℕ). AllByRecursion (λ r. IsTrue (is_sound_in l old s r)) (take m (stored_records l old s))) (sym (marked_is markers.entries s is.0 is.1)) (lawful.true_markers s is.0 is.1).sound
+  | inr none ↦ subst (λ (m : ℕ). AllByRecursion (λ r. IsTrue (is_sound_in l old s r)) (take m (stored_records l old s))) (sym none) tt
+]
+
+module _ (l : Layout) (old image : Image) (markers low : Markers) where
+  -- each marker is one that was there, or a lower number
+  abbrev pub AreLowered : Type 0
+  AreLowered = (s m : ℕ) → IsMarked low.entries s m → (n : ℕ) × IsMarked markers.entries s n × (m ≤ n)
+
+  -- Where the sections have the bytes that they had, and the copies hold lower markers, it keeps just what the old one keeps.
+  module _ (lawful : IsLawful l old markers) (names : AreNamed l image) (held : HoldMarkers l image low) (floor : HasNoFloor low) (lowered : AreLowered)
+      (index : (s : ℕ) → s < 2 ^ 64 → image (section_key l.index s) ≡ old (section_key l.index s)) (values : (s : ℕ) → s < 2 ^ 64 → content_at image l.values s ≡ content_at old l.values s) where
+    records_as : (s : ℕ) → s < 2 ^ 64 → stored_records l image s ≡ stored_records l old s
+    records_as s small = ap (λ (o : Option (List ℕ)). stored_records l (λ _. o) s) (index s small)
+
+    sound_as : (s : ℕ) → s < 2 ^ 64 → is_sound_in l image s ≡ is_sound_in l old s
+    sound_as s small = λ i r. is_sound l.seal (values s small i) (l.place r)
+
+    lower : (s : ℕ) → marker_of low.entries s ≤ marker_of markers.entries s
+    lower s = elim (marked_or_zero low.entries s) [
+      | inl is ↦ (let was = lowered s is.0 is.1 in omega (arith, marked_is low.entries s is.0 is.1, marked_is markers.entries s was.0 was.1, was.2))
+      | inr zero_here ↦ omega (arith, zero_here)
+    ]
+
+    pub lowered_keeps : KeepsBy l Same old markers image
+    lowered_keeps = record {
+      markers = low;
+      lawful = record {
+        names = names;
+        held = held;
+        floor = floor;
+        true_markers = λ s m is.
+            let was = lowered s m is in
+            let old_true = lawful.true_markers s was.0 was.1 in
+            record {
+              index_blob = subst IsSome (sym (index s is.0)) old_true.index_blob;
+              enough = omega (arith, was.2, old_true.enough, ap length (records_as s is.0));
+              sound = subst (λ (f : List ℕ → Bool). AllByRecursion (λ r. IsTrue (f r)) (take m (stored_records l image s))) (sym (sound_as s is.0))
+                  (subst (λ (rs : List (List ℕ)). AllByRecursion (λ r. IsTrue (is_sound_in l old s r)) (take m rs)) (sym (records_as s is.0))
+                  (subst (AllByRecursion (λ r. IsTrue (is_sound_in l old s r))) (take-take m was.0 (stored_records l old s) was.2) (all_take (λ r. IsTrue (is_sound_in l old s r)) m (take was.0 (stored_records l old s)) old_true.sound)));
+            };
+        places = λ s small. record {
+          end = (lawful.places s small).end;
+          fits = (lawful.places s small).fits;
+          follow = subst (λ (rs : List (List ℕ)). Follow l.place 0 rs (lawful.places s small).end) (sym (records_as s small)) (lawful.places s small).follow;
+        };
+      };
+      same = λ s small.
+          (λ i. map (entry_of l.place (values s small i)) (front (sound_as s small i) (marker_of low.entries s) 0 (records_as s small i)))
+          ∙ ap (map (entry_of l.place (content_at old l.values s))) (front_lower (is_sound_in l old s) (marker_of low.entries s) (marker_of markers.entries s) (marker_of markers.entries s) 0 (stored_records l old s) (lower s) (omega arith) (sound_below l old markers lawful s));
+      stored = λ s small. records_as s small ∙ sym (take_all (length (stored_records l image s)) (stored_records l old s) (omega (arith, ap length (records_as s small))));
+    }
 
 module _ (l : Layout) (Rel : Relation) (order : IsOrder Rel) (old image : Image) where
   -- all its bytes are as they were
@@ -340,8 +423,11 @@ module _ (l : Layout) (Rel : Relation) (order : IsOrder Rel) (old image : Image)
     markers = markers;
     lawful = record {
       names = names;
-      held = subst (λ (o : Option (List ℕ)). HoldMap l.markers (bytes_of o) (bytes_of (image (blob_of l.metadata Right))) markers) (sym (copies Left))
-          (subst (λ (o : Option (List ℕ)). HoldMap l.markers (bytes_of (old (blob_of l.metadata Left))) (bytes_of o) markers) (sym (copies Right)) lawful.held);
+      held = record {
+        copies = λ is. subst (λ (o : Option (List ℕ)). HoldMap l.markers (bytes_of o) (bytes_of (image (blob_of l.metadata Right))) markers) (sym (copies Left))
+            (subst (λ (o : Option (List ℕ)). HoldMap l.markers (bytes_of (old (blob_of l.metadata Left))) (bytes_of o) markers) (sym (copies Right)) (lawful.held.copies is));
+        none = lawful.held.none;
+      };
       floor = lawful.floor;
       true_markers = λ s m is. (each s is.0).marked m is (lawful.true_markers s m is);
       places = λ s small. places_first s (each s small).stored (lawful.places s small);

@@ -94,7 +94,7 @@ module _ (l : Layout) where
       slots = λ s small. at_own (λ contents c. pages.NoChanceSeal l.seal l.page_size contents c) (section_key l.index s) (index_own s small) (λ c. no_chance l.seal l.page_size (c ∷ []) c (Contains-push [] c));
       frames = λ s small. each_of (λ r. IsTrue (is_sound_in l image s r) → WasThere (past (d (section_key l.values s))) (content_at image l.values s) (l.place r))
           (λ r sound. at_own (λ contents c. WasThere contents c (l.place r)) (section_key l.values s) (values_own s small) (λ c. was_there c (l.place r))) (stored_records l image s);
-      copies = λ side. at_own (λ contents c. metadata.NoChanceSeal l.markers.seal contents c) (blob_of l.metadata side) (copy_own side) (λ c version form body sealed. inl refl);
+      copies = λ is side. at_own (λ contents c. metadata.NoChanceSeal l.markers.seal contents c) (blob_of l.metadata side) (copy_own side) (λ c version form body sealed. inl refl);
     }
 
   pub nothing_pending : (d : Disk) → NothingPending d → ((k : Key) → AbsentIsNothing (d k)) → MayBeOpened l d

@@ -15,13 +15,14 @@ use Rattle.meta_store.specs.declared.error.Side.{Side}
 use Rattle.meta_store.specs.declared.error.Side.TheVariants.{Left, Right}
 use Rattle.meta_store.specs.Blobs.{blob_of, bytes_of}
 use Rattle.meta_store.specs.Crashes as metadata
-use Rattle.paired.specs.Crashes.{IsIndexOf, IsValuesOf, IsCopy, Keeps, NoChanceSeal, WasThere}
-use Rattle.paired.specs.Kept.{Layout, Markers, IsMarked, marker_of, content_at, stored_records, is_sound_in, kept}
-use Rattle.paired.specs.Opening.{AreNamed, as_read, IsLawful, Relation, IsOrder, Same, KeepsBy, RecallsBy, Recalls}
+use Rattle.meta_store.specs.Pairs.{empty_map}
+use Rattle.paired.specs.Crashes.{HoldMarkers, IsIndexOf, IsValuesOf, IsCopy, Keeps, NoChanceSeal, WasThere}
+use Rattle.paired.specs.Kept.{Layout, Markers, HasNoFloor, IsMarked, marker_of, content_at, stored_records, is_sound_in, kept}
+use Rattle.paired.specs.Opening.{AreNamed, as_read, IsLawful, Relation, IsOrder, Same, Any, KeepsBy, RecallsBy, Recalls}
 use Rattle.paired.specs.Pair.{AreApart}
 use Rattle.paired.specs.Places.{Follow, last_end}
 use Rattle.paired.specs.Records.{Entry, records, is_sound, front, entry_of}
-use Rattle.paired.proofs.opening.Ends.{IsGoodAt, KeptBy, KeptHere, same_order, as_before, without_records, index_removed, records_cut, values_cut, sections_kept, markers_moved, marked_is, marked_or_zero, follow_last_end, front_is_sound, front_cut}
+use Rattle.paired.proofs.opening.Ends.{IsGoodAt, KeptBy, KeptHere, same_order, any_order, stored_alone, AreLowered, lowered_keeps, as_before, without_records, index_removed, records_cut, values_cut, sections_kept, markers_moved, sound_below, follow_last_end, front_is_sound, front_cut}
 use Rattle.paired.proofs.RecordLemmas.{records-front, records-enough}
 
 -- a key is that of a section of the partition that P names, or of none
@@ -64,6 +65,16 @@ choose_in (inr not) x y has = absurd (not has)
 choose_out : {P X : Type 0} (o : P ⊎ (P → ⊥)) (x y : X) → (P → ⊥) → choose o x y ≡ y
 choose_out (inl is) x y none = absurd (none is)
 choose_out (inr not) x y none = refl
+
+-- these are the first ones of those
+abbrev pub IsFirst : List (List ℕ) → List (List ℕ) → Type 0
+IsFirst found rs = found ≡ take (length found) rs
+
+none_marked : (markers : Markers) → markers ≡ empty_map → (s m : ℕ) → IsMarked markers.entries s m → ⊥
+none_marked markers none s m is = none_there (subst (λ (ms : Markers). IsMarked ms.entries s m) none is)
+  where
+    none_there : IsMarked [] s m → ⊥
+    none_there there = cc (there.1)
 
 -- Some sections, and maybe the copies of the markers, change from the one disk to the other.
 module _ (l : Layout) (apart : AreApart l) (from d : Disk) (IsChanged : ℕ → Bool) (copies : Bool) where
@@ -176,14 +187,14 @@ module _ (l : Layout) (apart : AreApart l) (from d : Disk) (IsChanged : ℕ → 
             (bytes_as (section_key l.values s) (image (section_key l.values s)) (back.other (section_key l.values s) no_values)) (fresh.frames s small)))
       ]
 
-      copies_back : (side : Side) → metadata.NoChanceSeal l.markers.seal (past (from (blob_of l.metadata side))) (bytes_of (old (blob_of l.metadata side)))
-      copies_back side = elim (cases_Bool copies) [
+      copies_back : IsTrue l.marked → (side : Side) → metadata.NoChanceSeal l.markers.seal (past (from (blob_of l.metadata side))) (bytes_of (old (blob_of l.metadata side)))
+      copies_back is side = elim (cases_Bool copies) [
         | inl changed ↦ subst (metadata.NoChanceSeal l.markers.seal (past (from (blob_of l.metadata side))))
-            (bytes_as (blob_of l.metadata side) (reads (from (blob_of l.metadata side))) (back.own (blob_of l.metadata side) (inr (inr (changed, (side, refl)))))) (phase.no_chance.copies side)
+            (bytes_as (blob_of l.metadata side) (reads (from (blob_of l.metadata side))) (back.own (blob_of l.metadata side) (inr (inr (changed, (side, refl)))))) (phase.no_chance.copies is side)
         | inr not ↦
             let none = not_copy side not in
             subst (λ (b : Blob). metadata.NoChanceSeal l.markers.seal (past b) (bytes_of (old (blob_of l.metadata side)))) (phase.others (blob_of l.metadata side) none)
-            (subst (metadata.NoChanceSeal l.markers.seal (past (d (blob_of l.metadata side)))) (bytes_as (blob_of l.metadata side) (image (blob_of l.metadata side)) (back.other (blob_of l.metadata side) none)) (fresh.copies side))
+            (subst (metadata.NoChanceSeal l.markers.seal (past (d (blob_of l.metadata side)))) (bytes_as (blob_of l.metadata side) (image (blob_of l.metadata side)) (back.other (blob_of l.metadata side) none)) (fresh.copies is side))
       ]
 
       no_chance_back : NoChanceSeal l from old
@@ -226,6 +237,17 @@ module _ (l : Layout) (apart : AreApart l) (from d : Disk) (IsChanged : ℕ → 
           | inr not ↦ as_before l Rel order old image markers s (sym (back.other (section_key l.index s) (not_index s small not)))
               (ap (λ (o : Option (List ℕ)). unwrap_or o []) (sym (back.other (section_key l.values s) (not_values s small not))))
         ]) lawful)
+
+    -- Of a pair without markers: each crash leaves of a section that changed the first records that it reads as. So is every step of an opening
+    -- that needs nothing of the values.
+    pub stored_by : l.marked ≡ false → copies ≡ false
+        → ((s : ℕ) → s < 2 ^ 64 → IsTrue (IsChanged s) → (left : Option (List ℕ)) → MayLeave (d (section_key l.index s)) left → pages.NoChanceSeal l.seal l.page_size (past (d (section_key l.index s))) (unwrap_or left [])
+        → IsFirst (records l.record_size (sealed_prefix l.seal l.page_size (unwrap_or left []))) (stored_records l (as_read from) s)) → RecallsBy l Any from d
+    stored_by not_marked still each = sections_by Any any_order still (λ image old crash fresh back markers lawful s small changed.
+        let was : old (section_key l.index s) ≡ reads (from (section_key l.index s)) = back.own (section_key l.index s) (touched_index s small changed) in
+        stored_alone l old image markers s (λ m is. none_marked markers (lawful.held.none not_marked) s m is)
+        (each s small changed (image (section_key l.index s)) (crash (section_key l.index s)) (fresh.slots s small)
+        ∙ ap (λ (o : Option (List ℕ)). take (length (stored_records l image s)) (records l.record_size (sealed_prefix l.seal l.page_size (unwrap_or o [])))) (sym was)))
 
     pub sections_of : copies ≡ false
         → ((image old : Image) → IsCrashOf d image → NoChanceSeal l d image → IsBack image old → (markers : Markers) → IsLawful l old markers → (s : ℕ) → s < 2 ^ 64 → IsTrue (IsChanged s) → KeptHere l old image markers s) → Recalls l from d
@@ -362,12 +384,8 @@ module _ (l : Layout) (apart : AreApart l) (from d : Disk) (IsChanged : ℕ → 
         whole_old : front (is_sound_in l old s) (marker_of markers.entries s) 0 (stored_records l old s) ≡ stored_records l old s
         whole_old = (λ i. front (read_sound image old back s small changed i) (marker_of markers.entries s) 0 (read_records image old back s small changed i)) ∙ trim.whole ∙ sym (read_records image old back s small changed)
 
-        below_marker : ((m : ℕ) × IsMarked markers.entries s m) ⊎ (marker_of markers.entries s ≡ 0) → AllByRecursion (λ r. IsTrue (is_sound_in l old s r)) (take (marker_of markers.entries s) (stored_records l old s))
-        below_marker (inl is) = subst (λ (m : ℕ). AllByRecursion (λ r. IsTrue (is_sound_in l old s r)) (take m (stored_records l old s))) (sym (marked_is markers.entries s is.0 is.1)) (lawful.true_markers s is.0 is.1).sound
-        below_marker (inr none) = subst (λ (m : ℕ). AllByRecursion (λ r. IsTrue (is_sound_in l old s r)) (take m (stored_records l old s))) (sym none) tt
-
         all_sound : AllByRecursion (λ r. IsTrue (is_sound_in l old s r)) (stored_records l old s)
-        all_sound = front_is_sound (is_sound_in l old s) (marker_of markers.entries s) (marker_of markers.entries s) 0 (stored_records l old s) (omega arith) (below_marker (marked_or_zero markers.entries s)) whole_old
+        all_sound = front_is_sound (is_sound_in l old s) (marker_of markers.entries s) (marker_of markers.entries s) 0 (stored_records l old s) (omega arith) (sound_below l old markers lawful s) whole_old
 
         no_end : stored_records l old s ≡ [] → 0 ≡ places_end
         no_end none = subst (λ (rs : List (List ℕ)). Follow l.place 0 rs places_end) none (lawful.places s small).follow
@@ -407,3 +425,12 @@ module _ (l : Layout) (apart : AreApart l) (from d : Disk) (IsChanged : ℕ → 
         → ((image old : Image) (markers : Markers) → IsCrashOf d image → NoChanceSeal l d image → IsBack image old → IsLawful l old markers → (s : ℕ) → s < 2 ^ 64 → wanted s ≡ kept l old (marker_of markers.entries s) s)
         → ((image old : Image) (markers : Markers) → IsCrashOf d image → NoChanceSeal l d image → IsBack image old → IsLawful l old markers → Keeps l wanted (λ s. length (wanted s)) (λ _. ⊥) image) → Recalls l from d
     markers_phase = markers_by Same same_order
+
+    -- Markers are lowered: each crash leaves the copies with lower markers than a lawful old image has, if it has any.
+    pub lowering_phase : ((s : ℕ) → IsChanged s ≡ false)
+        → ((image old : Image) (markers : Markers) → IsCrashOf d image → NoChanceSeal l d image → IsBack image old → IsLawful l old markers → (low : Markers) × HoldMarkers l image low × HasNoFloor low × AreLowered l old image markers low) → Recalls l from d
+    lowering_phase still lowers = recalls_of Same (λ image old crash fresh back markers lawful.
+        let found = lowers image old markers crash fresh back lawful in
+        lowered_keeps l old image markers found.0 lawful (named_still image old back lawful.names) found.1 found.2 found.3
+        (λ s small. sym (back.other (section_key l.index s) (not_index s small (still s))))
+        (λ s small. ap (λ (o : Option (List ℕ)). unwrap_or o []) (sym (back.other (section_key l.values s) (not_values s small (still s))))))

@@ -24,9 +24,9 @@ use Rattle.meta_store.specs.Opening.{Opens, as_before, begun, made, settled}
 use Rattle.meta_store.proofs.Sealing.{empty_absent}
 use Rattle.meta_store.proofs.Sides.{left_apart}
 use Rattle.value_codec.specs.declared.key.Key8.{Key8}
-use Rattle.paired.specs.Crashes.{IsOwn, WasThere}
+use Rattle.paired.specs.Crashes.{HoldMarkers, IsOwn, WasThere}
 use Rattle.paired.specs.Kept.{Layout, Markers, marker_of, content_at, stored_records, is_sound_in, kept, IsTrueMarker}
-use Rattle.paired.specs.Opening.{as_read, HoldMarkers, IsInPlace, IsLawful, KeepsAs, MayBeOpened, NoChanceSlots, OnlyOpens, Recalls}
+use Rattle.paired.specs.Opening.{as_read, IsInPlace, IsLawful, KeepsAs, MayBeOpened, NoChanceSlots, OnlyOpens, Recalls}
 use Rattle.paired.specs.Pair.{AreApart, HasNoBytes}
 use Rattle.paired.specs.Places.{Follow}
 use Rattle.paired.specs.Records.{records, is_sound, front, entry_of}
@@ -54,16 +54,19 @@ module _ (l : Layout) (a b : Image) (same : AlikeImage l a b) where
   kept_alike m s = λ i. map (entry_of l.place (values_alike s i)) (front (sound_alike s i) m 0 (stored_alike s i))
 
   pub held_alike : (markers : Markers) → HoldMarkers l a markers → HoldMarkers l b markers
-  held_alike markers h = record {
-    chosen = h.chosen;
-    reads = record {
-      left_text = h.reads.left_text;
-      right_text = h.reads.right_text;
-      left_reads = same.copies Left h.reads.left_text h.reads.left_reads;
-      right_reads = same.copies Right h.reads.right_text h.reads.right_reads;
-      is = h.reads.is;
-    };
-    map = h.map;
+  held_alike markers held = record {
+    copies = λ is. (let h = held.copies is in record {
+      chosen = h.chosen;
+      reads = record {
+        left_text = h.reads.left_text;
+        right_text = h.reads.right_text;
+        left_reads = same.copies Left h.reads.left_text h.reads.left_reads;
+        right_reads = same.copies Right h.reads.right_text h.reads.right_reads;
+        is = h.reads.is;
+      };
+      map = h.map;
+    });
+    none = held.none;
   }
 
   true_alike : (s m : ℕ) → IsTrueMarker l a s m → IsTrueMarker l b s m
@@ -283,12 +286,12 @@ module _ (l : Layout) (apart : AreApart l) (from d : Disk) (opens : OnlyOpens l 
                 subst (λ (o : Option (List ℕ)). Frames l (old (section_key l.index s)) o (from key)) (sym (is.values name ∙ left)) (may.named old is.crash s small (slots_earlier slots))
           ]
 
-    pub opening_recalls : ((x : List ℕ) → l.markers.seal x < 2 ^ 32) → Recalls l from d
-    opening_recalls fits image crash fresh =
+    pub opening_recalls : IsTrue l.marked → ((x : List ℕ) → l.markers.seal x < 2 ^ 32) → Recalls l from d
+    opening_recalls is_marked fits image crash fresh =
         let lk = blob_of l.metadata Left in
         let rk = blob_of l.metadata Right in
-        let x = by_opens l.markers fits (from lk) (d lk) (promised lk) (may.no_chance.copies Left) (opens.copies Left) (image lk) (crash lk) (fresh.copies Left) in
-        let y = by_opens l.markers fits (from rk) (d rk) (promised rk) (may.no_chance.copies Right) (opens.copies Right) (image rk) (crash rk) (fresh.copies Right) in
+        let x = by_opens l.markers fits (from lk) (d lk) (promised lk) (may.no_chance.copies is_marked Left) (opens.copies Left) (image lk) (crash lk) (fresh.copies is_marked Left) in
+        let y = by_opens l.markers fits (from rk) (d rk) (promised rk) (may.no_chance.copies is_marked Right) (opens.copies Right) (image rk) (crash rk) (fresh.copies is_marked Right) in
         let old = earlier image x.left y.left in
         let is = earlier_is image x.left y.left crash x.may y.may in
         record {
@@ -297,7 +300,7 @@ module _ (l : Layout) (apart : AreApart l) (from d : Disk) (opens : OnlyOpens l 
           no_chance = record {
             slots = λ s small. slots_earlier image old crash is s small (fresh.slots s small);
             frames = λ s small. frames_earlier image old crash is s small (fresh.slots s small) (fresh.frames s small);
-            copies = fresh_copies x.left y.left x.none y.none image;
+            copies = λ _. fresh_copies x.left y.left x.none y.none image;
           };
           keeps = keeps_alike l old image (record {
             index = λ name. sym (is.index name);
@@ -316,6 +319,35 @@ module _ (l : Layout) (apart : AreApart l) (from d : Disk) (opens : OnlyOpens l 
             → ReadsAs l.markers (bytes_of (earlier image left right (blob_of l.metadata side))) t → ReadsAs l.markers (bytes_of (image (blob_of l.metadata side))) t
         alike_copies left right image of_left of_right Left t is = of_left t (subst (λ (o : Option (List ℕ)). ReadsAs l.markers (bytes_of o) t) (earlier_left image left right) is)
         alike_copies left right image of_left of_right Right t is = of_right t (subst (λ (o : Option (List ℕ)). ReadsAs l.markers (bytes_of o) t) (earlier_right image left right) is)
+
+    -- of a pair without markers, where the names of copies stay as they are
+    pub unmarked_recalls : l.marked ≡ false → ((side : Side) → d (blob_of l.metadata side) ≡ from (blob_of l.metadata side)) → Recalls l from d
+    unmarked_recalls not_marked stay image crash fresh =
+        let left = image (blob_of l.metadata Left) in
+        let right = image (blob_of l.metadata Right) in
+        let old = earlier image left right in
+        let is = earlier_is image left right crash (left_as Left) (left_as Right) in
+        record {
+          old = old;
+          crash = is.crash;
+          no_chance = record {
+            slots = λ s small. slots_earlier image old crash is s small (fresh.slots s small);
+            frames = λ s small. frames_earlier image old crash is s small (fresh.slots s small) (fresh.frames s small);
+            copies = λ marked. absurd (cc (marked, not_marked));
+          };
+          keeps = keeps_alike l old image (record {
+            index = λ name. sym (is.index name);
+            values = λ name. sym (is.values name);
+            copies = same_copies;
+          });
+        }
+      where
+        left_as : (side : Side) → MayLeave (from (blob_of l.metadata side)) (image (blob_of l.metadata side))
+        left_as side = subst (λ (b : Blob). MayLeave b (image (blob_of l.metadata side))) (stay side) (crash (blob_of l.metadata side))
+
+        same_copies : (side : Side) (t : CopyText Key8 ℕ) → ReadsAs l.markers (bytes_of (earlier image (image (blob_of l.metadata Left)) (image (blob_of l.metadata Right)) (blob_of l.metadata side))) t → ReadsAs l.markers (bytes_of (image (blob_of l.metadata side))) t
+        same_copies Left t is = subst (λ (o : Option (List ℕ)). ReadsAs l.markers (bytes_of o) t) (earlier_left image (image (blob_of l.metadata Left)) (image (blob_of l.metadata Right))) is
+        same_copies Right t is = subst (λ (o : Option (List ℕ)). ReadsAs l.markers (bytes_of o) t) (earlier_right image (image (blob_of l.metadata Left)) (image (blob_of l.metadata Right))) is
 
     -- ---- the disk may be opened again
     each_of : {X : Type 0} (P : X → Type 0) → ((x : X) → P x) → (xs : List X) → AllByRecursion P xs
@@ -339,7 +371,7 @@ module _ (l : Layout) (apart : AreApart l) (from d : Disk) (opens : OnlyOpens l 
               (subst (λ (b : Blob). Frames l (reads (from (section_key l.index s))) (reads b) b) (sym same) (may.no_chance.frames s small))
           | inr found ↦ all_there s (reads (d (section_key l.index s))) (from (section_key l.values s)).content found.4
         ];
-        copies = λ side. opens_fresh l.markers.seal (from (blob_of l.metadata side)) (d (blob_of l.metadata side)) (opens.copies side) (may.no_chance.copies side);
+        copies = λ is side. opens_fresh l.markers.seal (from (blob_of l.metadata side)) (d (blob_of l.metadata side)) (opens.copies side) (may.no_chance.copies is side);
       };
       named = λ image crash s small slots. elim (opens.values s) [
         | inl same ↦

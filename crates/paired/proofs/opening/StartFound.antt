@@ -25,7 +25,8 @@ use Rattle.meta_store.specs.Store.{contents_of}
 use Rattle.paired.specs.glob.Sections.{IsGlob}
 use Rattle.paired.specs.glob.Sections as glob
 use Rattle.paired.specs.Kept.{Layout, IsMarked, content_at}
-use Rattle.paired.specs.Opening.{as_read, HoldMarkers, IsLawful}
+use Rattle.paired.specs.Crashes.{HoldMarkers}
+use Rattle.paired.specs.Opening.{as_read, IsLawful}
 use Rattle.paired.specs.OpeningFound.{HasFound}
 use Rattle.paired.specs.OpeningRefusing.{EndsWithin, IsProved}
 use Rattle.paired.specs.Replaying.{Run, IsOpeningRun, marker}

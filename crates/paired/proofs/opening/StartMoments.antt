@@ -122,9 +122,9 @@ module _ (l : Layout) (apart : AreApart l) where
       (λ d each. parts_opened (disk a) (disk b) (always_now a b (Opening l.metadata (disk a)) first) d each) second)
 
   module _ (a e : Timeline) (promised : (k : Key) → IsPromised (disk a k)) (fits : (x : List ℕ) → l.markers.seal x < 2 ^ 32) (opens : Always a e (OnlyOpens l (disk a))) (may : MayBeOpened l (disk a)) where
-    pub always_recalls : Always a e (RecallsAlone l (IsOwn l (λ _. ⊤)) (disk a))
-    always_recalls = always_weaker a e (OnlyOpens l (disk a)) (RecallsAlone l (IsOwn l (λ _. ⊤)) (disk a)) (λ d only. record {
-      recalls = opening_recalls l apart (disk a) d only promised may fits;
+    pub always_recalls : IsTrue l.marked → Always a e (RecallsAlone l (IsOwn l (λ _. ⊤)) (disk a))
+    always_recalls is_marked = always_weaker a e (OnlyOpens l (disk a)) (RecallsAlone l (IsOwn l (λ _. ⊤)) (disk a)) (λ d only. record {
+      recalls = opening_recalls l apart (disk a) d only promised may is_marked fits;
       others = only.others;
     }) opens
 

@@ -60,12 +60,13 @@ pub record IsLaid {F S : Type 0} {gs : _} (g : buffer.Ghosts (PageBlob S gs)) (g
   pub values : p.values.partition ≡ p.layout.values
   pub store : p.store.partition ≡ p.layout.metadata
   pub paged : (gives p.index.sections.factory).page_size ≡ p.layout.page_size
+  pub marked : IsTrue p.layout.marked
   pub pos : 1 ≤ p.layout.record_size
 
 pub is_laid : {F S : Type 0} {gs : _} {g : buffer.Ghosts (PageBlob S gs)} {gives : F → Setting} {takes : WriteFactory → Setting} {told : Type 0} {p : Pair F (PageBlob S gs)} {opened : OpenedList} {d : Disk}
     → IsPair g gives buffers takes told p opened d → ArePages g p.layout.seal → p.index.sections.partition ≡ p.layout.index → p.values.partition ≡ p.layout.values → p.store.partition ≡ p.layout.metadata
-    → (gives p.index.sections.factory).page_size ≡ p.layout.page_size → 1 ≤ p.layout.record_size → IsLaid g gives p
-is_laid pair pages index values store paged pos = record { pages = pages; index = index; values = values; store = store; paged = paged; pos = pos }
+    → (gives p.index.sections.factory).page_size ≡ p.layout.page_size → IsTrue p.layout.marked → 1 ≤ p.layout.record_size → IsLaid g gives p
+is_laid pair pages index values store paged marked pos = record { pages = pages; index = index; values = values; store = store; paged = paged; marked = marked; pos = pos }
 
 module _ {F S : Type 0} {gs : _} (p : Pair F (PageBlob S gs)) (s : ℕ) where
   -- What a value that is added to the section leaves of its blobs at each moment.
@@ -239,6 +240,7 @@ module _ {F S : Type 0} {gs : _} {g : buffer.Ghosts (PageBlob S gs)} {gives : F 
       index_here = laid.index;
       values_here = laid.values;
       store_here = laid.store;
+      is_marked = laid.marked;
       paged = λ s u held. sym (laid.pages.page_size u) ∙ ap (λ (x : Setting). x.page_size) (pair.index.over.opened_list.setting s u held) ∙ laid.paged;
       absent = sound.absent;
       marked = pair.markers.marked;

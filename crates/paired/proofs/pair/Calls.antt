@@ -185,7 +185,7 @@ module _ (l : Layout) (pos : 1 ≤ l.record_size) (values_apart : l.index ≢ l.
 
     unmarked : Holding l facts Gone new new (disk b)
     unmarked = let now = (always_now a b (Stays l facts Gone old new MayTouch (disk a)) unmarking).holding in
-        record { sections = now.sections; copies = settled; one_marked = now.other_marked; other_marked = now.other_marked }
+        record { sections = now.sections; marked = now.marked; copies = settled; one_marked = now.other_marked; other_marked = now.other_marked }
 
     module _ (c : Timeline) (R : Disk → Type 0) (index : Always b c R) (index_others : (d : Disk) → R d → (q : Key) → (IsIndexOf l P q → ⊥) → d q ≡ disk b q)
         (going : (d : Disk) → R d → (s : ℕ) → s < 2 ^ 64 → P s → IsGoing (disk b (section_key l.index s)) (d (section_key l.index s))) where

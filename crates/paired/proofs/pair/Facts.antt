@@ -148,6 +148,7 @@ module _ {F G S : Type 0} {gs : _} (l : Layout) (j : Lists F (PageBlob S gs)) (m
     pub index_here : j.sections.partition ≡ l.index
     pub values_here : m.partition ≡ l.values
     pub store_here : u.partition ≡ l.metadata
+    pub is_marked : IsTrue l.marked
     pub paged : (s : ℕ) (v : PageBlob S gs) → j.sections.held s ≡ Some v → v.page_size ≡ l.page_size
     pub absent : (s : ℕ) → s < 2 ^ 64 → j.sections.held s ≡ None → longest (d (section_key l.index s)) ≡ 0
     pub marked : (s n : ℕ) → IsMarked u.entries s n → IsHeld j.sections s × (n ≤ synced s)
@@ -259,6 +260,7 @@ module _ {F G S : Type 0} {gs : _} (l : Layout) (j : Lists F (PageBlob S gs)) (m
       pub holding_of : HasNoFloor (contents_of u) → (Gone : ℕ → Type 0) → Holding l facts_of Gone (contents_of u) (contents_of u) d
       holding_of no_floor Gone = record {
         sections = λ s lt. record { index = index_stands (Gone s) s lt; values = values_stand s lt };
+        marked = parts.is_marked;
         copies = store_keeps l u d parts.store_here parts.store;
         one_marked = are_true no_floor;
         other_marked = are_true no_floor;

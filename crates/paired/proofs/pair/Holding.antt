@@ -189,7 +189,7 @@ module _ (l : Layout) (pos : 1 ≤ l.record_size) where
         → Keeps l (λ s. list_in l (facts s)) (λ s. (facts s).synced) Gone image
     keeps_with markers held marked = record {
       markers = markers;
-      held = held;
+      held = record { copies = λ is. held; none = λ not. absurd (cc (holding.marked, not)) };
       floor = marked.floor;
       true_markers = λ s m is. marker_true s is.0 m (marked.sections s m is).1 (marked.sections s m is).0;
       lists = λ s lt. list_kept s lt (marker_of markers.entries s) (marker_least markers.entries s (facts s).synced lt (λ m is. (marked.sections s m is).1));
@@ -202,7 +202,7 @@ module _ (l : Layout) (pos : 1 ≤ l.record_size) where
   leaves_of facts Gone one other d good holding image crash seals =
       let left : Option (List ℕ) = image (blob_of l.metadata Left) in
       let right : Option (List ℕ) = image (blob_of l.metadata Right) in
-      elim (holding.copies.crash left right (crash (blob_of l.metadata Left)) (crash (blob_of l.metadata Right)) (seals.copies Left) (seals.copies Right)) [
+      elim (holding.copies.crash left right (crash (blob_of l.metadata Left)) (crash (blob_of l.metadata Right)) (seals.copies holding.marked Left) (seals.copies holding.marked Right)) [
         | inl held ↦ keeps_with facts Gone one other d good holding image crash seals one held holding.one_marked
         | inr held ↦ keeps_with facts Gone one other d good holding image crash seals other held holding.other_marked
       ]
@@ -295,6 +295,7 @@ module _ (l : Layout) where
       → Holding l facts Gone one other d → Holding l more May one other d
   holding_more facts more Gone May one other d may is holding = record {
     sections = λ s lt. section_more l (facts s) (more s) (Gone s) (May s) (d (section_key l.index s)) (d (section_key l.values s)) (may s) (is s) (holding.sections s lt);
+    marked = holding.marked;
     copies = holding.copies;
     one_marked = marked_more facts more d one is holding.one_marked;
     other_marked = marked_more facts more d other is holding.other_marked;
@@ -316,6 +317,7 @@ module _ (l : Layout) where
         → Holding l facts Gone one other from → Holding l facts Gone one other d
     holding_on each same holding = record {
       sections = λ s lt. stands s lt (each s lt);
+      marked = holding.marked;
       copies = copies;
       one_marked = record {
         sections = λ s m is. (let old = holding.one_marked.sections s m is in (lasts s m is.0 (inl is) old.0 (each s is.0), old.1));
@@ -358,6 +360,7 @@ module _ (l : Layout) where
   holding_marked facts Gone one other first second from d same copies first_marked second_marked holding = record {
     sections = λ s lt. subst (λ (x : Blob). SectionStands l (Gone s) (facts s) x (d (section_key l.values s))) (sym (same s lt).index)
         (subst (SectionStands l (Gone s) (facts s) (from (section_key l.index s))) (sym (same s lt).values) (holding.sections s lt));
+    marked = holding.marked;
     copies = copies;
     one_marked = marked_on facts first from d same first_marked;
     other_marked = marked_on facts second from d same second_marked;

@@ -410,10 +410,10 @@ gives_value {V} {C} seal spelling accepted refusal kept one c (Err e) v bytes at
 
 -- What a crash now leaves of a pair that is sound.
 pub leaves_now : {F S : Type 0} {gs : _} {g : buffer.Ghosts (PageBlob S gs)} {gives : F → Setting} {takes : WriteFactory → Setting} {told : Type 0} (p : Pair F (PageBlob S gs)) (opened : OpenedList) (d : Disk)
-    → 1 ≤ p.layout.record_size → p.index.sections.partition ≡ p.layout.index → p.values.partition ≡ p.layout.values → p.store.partition ≡ p.layout.metadata
+    → 1 ≤ p.layout.record_size → p.index.sections.partition ≡ p.layout.index → p.values.partition ≡ p.layout.values → p.store.partition ≡ p.layout.metadata → IsTrue p.layout.marked
     → ((s : ℕ) (v : PageBlob S gs) → p.index.sections.held s ≡ Some v → v.page_size ≡ p.layout.page_size)
     → IsPair g gives buffers takes told p opened d → told → IsSafeOn p d → Leaves p.layout (list_of p d) (synced_length p) (λ _. ⊥) d
-leaves_now {g = g} {gives = gives} {takes = takes} {told = told} p opened d pos index_here values_here store_here paged pair t safe =
+leaves_now {g = g} {gives = gives} {takes = takes} {told = told} p opened d pos index_here values_here store_here is_marked paged pair t safe =
     let sound = safe.sound in
     let parts : Parts p.layout p.index p.values (synced_length p) d g gives takes told p.store opened = record {
       journal = pair.index;
@@ -423,6 +423,7 @@ leaves_now {g = g} {gives = gives} {takes = takes} {told = told} p opened d pos 
       index_here = index_here;
       values_here = values_here;
       store_here = store_here;
+      is_marked = is_marked;
       paged = paged;
       absent = sound.absent;
       marked = pair.markers.marked;

@@ -360,9 +360,9 @@ gone_absent n opened d over t s small gone there = gone_unknown n s gone ((over.
 -- ---- what is kept of the lists
 -- the three parts of a sound pair, whose partitions are those of its layout
 pub parts_of : {F S : Type 0} {gs : _} {g : buffer.Ghosts (PageBlob S gs)} {gives : F → Setting} {takes : WriteFactory → Setting} {told : Type 0} (p : Pair F (PageBlob S gs)) (opened : OpenedList) (d : Disk)
-    → IsPair g gives buffers takes told p opened d → told → IsSoundOn p d → p.index.sections.partition ≡ p.layout.index → p.values.partition ≡ p.layout.values → p.store.partition ≡ p.layout.metadata
+    → IsPair g gives buffers takes told p opened d → told → IsSoundOn p d → p.index.sections.partition ≡ p.layout.index → p.values.partition ≡ p.layout.values → p.store.partition ≡ p.layout.metadata → IsTrue p.layout.marked
     → ((s : ℕ) (v : PageBlob S gs) → p.index.sections.held s ≡ Some v → v.page_size ≡ p.layout.page_size) → Parts p.layout p.index p.values (synced_length p) d g gives takes told p.store opened
-parts_of p opened d pair t sound index_here values_here store_here paged = record {
+parts_of p opened d pair t sound index_here values_here store_here is_marked paged = record {
   journal = pair.index;
   values = pair.values;
   store = (pair.disk t).markers;
@@ -370,6 +370,7 @@ parts_of p opened d pair t sound index_here values_here store_here paged = recor
   index_here = index_here;
   values_here = values_here;
   store_here = store_here;
+  is_marked = is_marked;
   paged = paged;
   absent = sound.absent;
   marked = pair.markers.marked;

@@ -307,6 +307,7 @@ parts_of g gives told p pages o d here pair x sound = record {
   index_here = here.index;
   values_here = here.values;
   store_here = here.store;
+  is_marked = here.marked;
   paged = λ s u held. sym (pages.page_size u) ∙ ap (λ (y : Setting). y.page_size) (pair.index.over.opened_list.setting s u held) ∙ here.page_size;
   absent = sound.absent;
   marked = pair.markers.marked;

@@ -90,13 +90,14 @@ pub record Here {F B : Type 0} (gives : F → Setting) (p : Pair F B) : Type 0 w
   pub store : p.store.partition ≡ p.layout.metadata
   pub page_size : (gives p.index.sections.factory).page_size ≡ p.layout.page_size
   pub some : 1 ≤ p.layout.record_size
+  pub marked : IsTrue p.layout.marked
 
 -- how an index is kept
 abbrev pub page_setting : {S : Type 0} → AppendFactory S → Setting
 page_setting f = record { page_size = f.pages.page_size; capacity = f.write_buffer }
 
 pub here_of : {I V S C : Type 0} {fixed codec seal : _} (place : List ℕ → ℕ × ℕ) (o : Oversized I V S C fixed codec seal) → 1 ≤ fixed.SIZE → Here page_setting (shown place o)
-here_of place o pos = record { index = refl; values = refl; store = refl; page_size = refl; some = pos }
+here_of place o pos = record { index = refl; values = refl; store = refl; page_size = refl; some = pos; marked = refl }
 
 abbrev pub made : {F B : Type 0} → Pair F B → Lists F B → Sections WriteFactory WriteBlob → (ℕ → Option ℕ) → List ℕ → List ℕ → List ℕ → ℕ → Store Key8 ℕ → Pair F B
 made p j n t x y z k w = record { layout = record p.layout { index = x; values = y; metadata = z; page_size = k }; index = j; values = n; store = w; trailing = t }

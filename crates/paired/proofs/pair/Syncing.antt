@@ -48,5 +48,5 @@ module _ {I V S C : Type 0} {fixed_size codec seal : _} (place : List ℕ → �
     still = λ none. still none ∙ says.store;
     marker_floor = floor ∙ ap (λ u. u.floor) says.store;
     bounds = (subst (λ j. SameBounds (shown place o).index.sections j.sections) (sym index) says.bounds.0, subst (λ n. SameBounds (shown place o).values n) (sym values) says.bounds.1);
-    layout = record { index = layout.index ∙ says.layout.index; values = layout.values ∙ says.layout.values; metadata = layout.metadata ∙ says.layout.metadata; page_size = layout.page_size ∙ says.layout.page_size };
+    layout = record { index = layout.index ∙ says.layout.index; values = layout.values ∙ says.layout.values; marked = layout.marked ∙ says.layout.marked; metadata = layout.metadata ∙ says.layout.metadata; page_size = layout.page_size ∙ says.layout.page_size };
   }

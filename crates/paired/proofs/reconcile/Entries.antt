@@ -40,7 +40,7 @@ use Rattle.paired.proofs.reconcile.Pair.{Notes, pair_with}
 
 -- ---- the replay at its end
 pub run_here : {I V S C : Type 0} {fixed codec seal : _} (place : List ℕ → ℕ × ℕ) (r : Replay I V S C fixed codec seal) → 1 ≤ fixed.SIZE → Here page_setting (pair_of (run_of place r))
-run_here place r pos = record { index = refl; values = refl; store = refl; page_size = refl; some = pos }
+run_here place r pos = record { index = refl; values = refl; store = refl; page_size = refl; some = pos; marked = refl }
 
 -- markers are read in one way
 pub markers_readable : {S : Type 0} (sealing : seal.Ghosts S) → IsReadable (marker_format sealing)

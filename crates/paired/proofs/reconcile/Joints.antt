@@ -1,5 +1,5 @@
 -- Between the stages of the end of an opening: all has settled, and the journal has the records that were given.
-use Rattle.std.proofs.Common.{◌≡◌, ◌↔◌, ◌⊎◌, inl, inr, ℕ, ◌+◌, ◌*◌, ◌^◌, ◌<◌, ◌≤◌, false, List, length, take, Option, None, IsSome, IsSomeAnd, refl, sym, ◌∙◌, ap, subst, arith}
+use Rattle.std.proofs.Common.{◌≡◌, ◌↔◌, ◌⊎◌, inl, inr, ℕ, ◌+◌, ◌*◌, ◌^◌, ◌<◌, ◌≤◌, false, List, length, take, Option, None, IsSome, IsSomeAnd, IsTrue, refl, sym, ◌∙◌, ap, subst, arith}
 use Rattle.std.specs.Prelude.{is_some, ◌≢◌}
 use Rattle.blob_device.specs.Disk.{Key, Blob, Disk, MayLeave, reads, nothing}
 use Rattle.blob_device.specs.Opened.{OpenedList}
@@ -47,15 +47,16 @@ module _ {F S : Type 0} {gs : _} {g : buffer.Ghosts (PageBlob S gs)} {gives : F 
   copy_other side partition s (inl is) same = e.apart.metadata (sym (ap (λ (k : Key). k.0) same ∙ is))
   copy_other side partition s (inr is) same = e.apart.both (sym (ap (λ (k : Key). k.0) same ∙ is))
 
-  copy_at : (side : Side) → blob_of u.partition side ≡ blob_of l.metadata side
-  copy_at side = ap (λ (p : List ℕ). blob_of p side) e.rests.marks.here
+  copy_at : IsTrue l.marked → (side : Side) → blob_of u.partition side ≡ blob_of l.metadata side
+  copy_at is side = ap (λ (p : List ℕ). blob_of p side) (e.rests.marks.here is)
 
   -- the markers are synced still
   marks_stay : (b c : Disk) → (told → (side : Side) → c (blob_of l.metadata side) ≡ b (blob_of l.metadata side)) → MarksRest told l u b → MarksRest told l u c
   marks_stay b c same was = record {
-    stands = λ t. stands_same l.markers u (contents_of u) b c
-        (subst (λ (q : Key). c q ≡ b q) (sym (copy_at Left)) (same t Left)) (subst (λ (q : Key). c q ≡ b q) (sym (copy_at Right)) (same t Right)) (was.stands t);
+    stands = λ t is. stands_same l.markers u (contents_of u) b c
+        (subst (λ (q : Key). c q ≡ b q) (sym (copy_at is Left)) (same t Left)) (subst (λ (q : Key). c q ≡ b q) (sym (copy_at is Right)) (same t Right)) (was.stands t is);
     here = was.here;
+    none = was.none;
   }
 
   -- ---- after the cut of records
@@ -84,10 +85,10 @@ module _ {F S : Type 0} {gs : _} {g : buffer.Ghosts (PageBlob S gs)} {gives : F 
     pub cut_bounds : SameBounds i0 k.sections
     cut_bounds = subst (λ (m : Sections F (PageBlob S gs)). SameBounds m k.sections) e.begins did.bounds
 
-    pub cut_opened : IsOpened u.partition o → IsOpened u.partition o1
-    cut_opened was = record {
-      left = subst IsSome (sym (entry_uncut (blob_of u.partition Left) (λ is. e.apart.metadata (sym is ∙ e.rests.marks.here)))) was.left;
-      right = subst IsSome (sym (entry_uncut (blob_of u.partition Right) (λ is. e.apart.metadata (sym is ∙ e.rests.marks.here)))) was.right;
+    pub cut_opened : IsTrue l.marked → IsOpened u.partition o → IsOpened u.partition o1
+    cut_opened marked was = record {
+      left = subst IsSome (sym (entry_uncut (blob_of u.partition Left) (λ is. e.apart.metadata (sym is ∙ e.rests.marks.here marked)))) was.left;
+      right = subst IsSome (sym (entry_uncut (blob_of u.partition Right) (λ is. e.apart.metadata (sym is ∙ e.rests.marks.here marked)))) was.right;
     }
 
     pub cut_rests : Resting g gives takes told l k m0 u o1 (disk b)
@@ -183,15 +184,15 @@ module _ {F S : Type 0} {gs : _} {g : buffer.Ghosts (PageBlob S gs)} {gives : F 
     trim_bytes t s = ap (λ (q : Key). fixed.bytes_held (j.sections.held s) (disk c q).content) (index_key joint.rests.parts s)
         ∙ ap (λ (x : Blob). fixed.bytes_held (j.sections.held s) x.content) (index_untrimmed t s) ∙ sym (ap (λ (q : Key). fixed.bytes_held (j.sections.held s) (disk b q).content) (index_key joint.rests.parts s))
 
-    pub trim_opened : IsOpened u.partition o1 → IsOpened u.partition o2
-    trim_opened was = record {
+    pub trim_opened : IsTrue l.marked → IsOpened u.partition o1 → IsOpened u.partition o2
+    trim_opened marked was = record {
       left = subst IsSome (sym (did.entries (blob_of u.partition Left) (other Left))) was.left;
       right = subst IsSome (sym (did.entries (blob_of u.partition Right) (other Right))) was.right;
     }
       where
         other : (side : Side) → IsKeyOf j.sections (IsHeld j.sections) (blob_of u.partition side) ⊎ IsKeyOf m0 (IsHeld j.sections) (blob_of u.partition side) → ⊥
-        other side (inl w) = copy_other side l.index w.0 (inl refl) (sym (copy_at side) ∙ w.2 ∙ index_key joint.rests.parts w.0)
-        other side (inr w) = copy_other side l.values w.0 (inr refl) (sym (copy_at side) ∙ w.2 ∙ values_key joint.rests.parts w.0)
+        other side (inl w) = copy_other side l.index w.0 (inl refl) (sym (copy_at marked side) ∙ w.2 ∙ index_key joint.rests.parts w.0)
+        other side (inr w) = copy_other side l.values w.0 (inr refl) (sym (copy_at marked side) ∙ w.2 ∙ values_key joint.rests.parts w.0)
 
     pub trim_rests : Resting g gives takes told l j n u o2 (disk c)
     trim_rests = record {
@@ -255,10 +256,10 @@ module _ {F S : Type 0} {gs : _} {g : buffer.Ghosts (PageBlob S gs)} {gives : F 
     removed_bytes t s = ap (λ (q : Key). fixed.bytes_held (j.sections.held s) (disk f q).content) (index_key joint.rests.parts s)
         ∙ ap (λ (x : Blob). fixed.bytes_held (j.sections.held s) x.content) (index_kept t s) ∙ sym (ap (λ (q : Key). fixed.bytes_held (j.sections.held s) (disk c q).content) (index_key joint.rests.parts s))
 
-    pub removed_opened : IsOpened u.partition o2 → IsOpened u.partition o3
-    removed_opened was = record {
-      left = subst IsSome (sym (entry_kept (blob_of u.partition Left) (λ w. copy_other Left l.values w.0 (inr refl) (sym (copy_at Left) ∙ w.2 ∙ values_key joint.rests.parts w.0)))) was.left;
-      right = subst IsSome (sym (entry_kept (blob_of u.partition Right) (λ w. copy_other Right l.values w.0 (inr refl) (sym (copy_at Right) ∙ w.2 ∙ values_key joint.rests.parts w.0)))) was.right;
+    pub removed_opened : IsTrue l.marked → IsOpened u.partition o2 → IsOpened u.partition o3
+    removed_opened marked was = record {
+      left = subst IsSome (sym (entry_kept (blob_of u.partition Left) (λ w. copy_other Left l.values w.0 (inr refl) (sym (copy_at marked Left) ∙ w.2 ∙ values_key joint.rests.parts w.0)))) was.left;
+      right = subst IsSome (sym (entry_kept (blob_of u.partition Right) (λ w. copy_other Right l.values w.0 (inr refl) (sym (copy_at marked Right) ∙ w.2 ∙ values_key joint.rests.parts w.0)))) was.right;
     }
 
     -- only sections with records still have values

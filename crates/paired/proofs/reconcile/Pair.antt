@@ -80,7 +80,7 @@ module _ {F S : Type 0} {gs : _} {g : buffer.Ghosts (PageBlob S gs)} {gives : F 
     values_bounds = same_bounds run.values m n trims.bounds removes.bounds;
     values_held = λ s. (let both = removed_held a (ends_of e j back) c k m o2 joint_c Doomed decides doomed n o3 f removes joint_f.readable s in
         (λ has. ((trims.held s).0 (both.0 has).0, (both.0 has).1), λ has. both.1 ((trims.held s).1 has.0, has.1)));
-    opened = removed_opened a (ends_of e j back) c k m o2 joint_c Doomed decides doomed n o3 f removes joint_f.readable (trim_opened a (ends_of e j back) b k o1 joint m o2 c trims joint_c.readable (cut_opened a (ends_of e j back) k o1 b did joint.readable e.over.metadata_opened));
+    opened = removed_opened a (ends_of e j back) c k m o2 joint_c Doomed decides doomed n o3 f removes joint_f.readable e.here.marked (trim_opened a (ends_of e j back) b k o1 joint m o2 c trims joint_c.readable e.here.marked (cut_opened a (ends_of e j back) k o1 b did joint.readable e.here.marked e.over.metadata_opened));
     values = λ t s has.
         let held : IsHeld k.sections s = (joint.held s).1 has in
         removes.bytes t s (λ is. ((doomed s).0 is).1 held) ∙ trims.cut t s held
@@ -146,7 +146,7 @@ module _ {F S : Type 0} {gs : _} {g : buffer.Ghosts (PageBlob S gs)} {gives : F 
       metadata_opened = did.opened;
       storable = e.over.storable;
       synced = e.over.synced;
-      disk = λ t. record { markers = did.joint.rests.marks.stands t };
+      disk = λ t. record { markers = did.joint.rests.marks.stands t e.here.marked };
     }
       where
         trail_held : (s k : ℕ) → trailing s ≡ Some k → IsHeld j.sections s

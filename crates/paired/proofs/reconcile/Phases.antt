@@ -2,7 +2,7 @@
 use Rattle.std.proofs.Common.{◌≡◌, ◌⊎◌, inl, inr, ℕ, zero, suc, ◌+◌, ◌*◌, ◌/◌, ◌^◌, ◌<◌, ◌≤◌, min, not, Bool, true, false, List, [], length, take, IsTrue, Option, None, Some, IsSome, IsSomeAnd, unwrap_or, refl, sym, ◌∙◌, ap, subst, arith}
 use Rattle.std.specs.Prelude.{is_some}
 use Rattle.std.specs.Option.{option_map}
-use Rattle.std.proofs.lemmas.Bool.{cases_lt}
+use Rattle.std.proofs.lemmas.Bool.{cases_Bool, cases_lt}
 use Rattle.std.proofs.lemmas.List.{take_all}
 use Rattle.blob_device.specs.Disk.{Key, Blob, Disk, Image, MayLeave, reads}
 use Rattle.blob_device.specs.Opened.{OpenedList}
@@ -124,28 +124,30 @@ module _ {F S : Type 0} {gs : _} {g : buffer.Ghosts (PageBlob S gs)} {gives : F 
 
   -- the copies hold the entries alone
   module _ (readable : IsReadable l.markers) where
-    pub copies_hold : HoldMap l.markers (metadata.bytes_of (reads (d (blob_of l.metadata Left)))) (metadata.bytes_of (reads (d (blob_of l.metadata Right)))) (contents_of u)
-    copies_hold =
-        let left : reads (d (blob_of l.metadata Left)) ≡ Some (d (blob_of l.metadata Left)).content = reads_there (d (blob_of l.metadata Left)) (rest_there (d (blob_of l.metadata Left)) (copy_rest rests.marks t Left)) in
-        let right : reads (d (blob_of l.metadata Right)) ≡ Some (d (blob_of l.metadata Right)).content = reads_there (d (blob_of l.metadata Right)) (rest_there (d (blob_of l.metadata Right)) (copy_rest rests.marks t Right)) in
+    pub copies_hold : IsTrue l.marked → HoldMap l.markers (metadata.bytes_of (reads (d (blob_of l.metadata Left)))) (metadata.bytes_of (reads (d (blob_of l.metadata Right)))) (contents_of u)
+    copies_hold is =
+        let left : reads (d (blob_of l.metadata Left)) ≡ Some (d (blob_of l.metadata Left)).content = reads_there (d (blob_of l.metadata Left)) (rest_there (d (blob_of l.metadata Left)) (copy_rest rests.marks t is Left)) in
+        let right : reads (d (blob_of l.metadata Right)) ≡ Some (d (blob_of l.metadata Right)).content = reads_there (d (blob_of l.metadata Right)) (rest_there (d (blob_of l.metadata Right)) (copy_rest rests.marks t is Right)) in
         subst (λ (x : Option (List ℕ)). HoldMap l.markers (metadata.bytes_of x) (metadata.bytes_of (reads (d (blob_of l.metadata Right)))) (contents_of u)) (sym left)
         (subst (λ (x : Option (List ℕ)). HoldMap l.markers (d (blob_of l.metadata Left)).content (metadata.bytes_of x) (contents_of u)) (sym right)
-        (subst (λ (p : List ℕ). HoldMap l.markers (d (blob_of p Left)).content (d (blob_of p Right)).content (contents_of u)) rests.marks.here
-        (record { chosen = chosen_by u (contents_of u); reads = (rests.marks.stands t).pair; map = refl })))
+        (subst (λ (p : List ℕ). HoldMap l.markers (d (blob_of p Left)).content (d (blob_of p Right)).content (contents_of u)) (rests.marks.here is)
+        (record { chosen = chosen_by u (contents_of u); reads = (rests.marks.stands t is).pair; map = refl })))
 
     -- so an image that has them as they read is lawful with these alone
-    pub markers_one : (old : Image) → ((side : Side) → old (blob_of l.metadata side) ≡ reads (d (blob_of l.metadata side))) → (markers : Markers) → IsLawful l old markers → markers ≡ contents_of u
-    markers_one old same markers lawful =
-        one_map l.markers readable (metadata.bytes_of (old (blob_of l.metadata Left))) (metadata.bytes_of (old (blob_of l.metadata Right))) markers (contents_of u) lawful.held
-        (subst (λ (x : Option (List ℕ)). HoldMap l.markers (metadata.bytes_of x) (metadata.bytes_of (old (blob_of l.metadata Right))) (contents_of u)) (sym (same Left))
-        (subst (λ (x : Option (List ℕ)). HoldMap l.markers (metadata.bytes_of (reads (d (blob_of l.metadata Left)))) (metadata.bytes_of x) (contents_of u)) (sym (same Right)) copies_hold))
+    pub markers_one : (old : Image) → (IsTrue l.marked → (side : Side) → old (blob_of l.metadata side) ≡ reads (d (blob_of l.metadata side))) → (markers : Markers) → IsLawful l old markers → markers ≡ contents_of u
+    markers_one old same markers lawful = elim (cases_Bool l.marked) [
+      | inr not ↦ lawful.held.none not ∙ sym (rests.marks.none not)
+      | inl is ↦ one_map l.markers readable (metadata.bytes_of (old (blob_of l.metadata Left))) (metadata.bytes_of (old (blob_of l.metadata Right))) markers (contents_of u) (lawful.held.copies is)
+          (subst (λ (x : Option (List ℕ)). HoldMap l.markers (metadata.bytes_of x) (metadata.bytes_of (old (blob_of l.metadata Right))) (contents_of u)) (sym (same is Left))
+          (subst (λ (x : Option (List ℕ)). HoldMap l.markers (metadata.bytes_of (reads (d (blob_of l.metadata Left)))) (metadata.bytes_of x) (contents_of u)) (sym (same is Right)) (copies_hold is)))
+    ]
 
     -- where the copies stay, each lawful image has the same markers
     pub has_markers : (apart : AreApart l) (x : Disk) (IsChanged : ℕ → Bool) (phase : IsPhase l apart d x IsChanged false) → HasMarkers l apart d x IsChanged false phase (λ s. marker_of u.entries s)
     has_markers apart x IsChanged phase image old markers crash back lawful s small =
-        ap (λ (ms : Markers). marker_of ms.entries s) (markers_one old (λ side.
+        ap (λ (ms : Markers). marker_of ms.entries s) (markers_one old (λ is side.
         back.other (blob_of l.metadata side) (not_copy l apart d x IsChanged false side refl)
-        ∙ rest_left (d (blob_of l.metadata side)) (copy_rest rests.marks t side) (image (blob_of l.metadata side))
+        ∙ rest_left (d (blob_of l.metadata side)) (copy_rest rests.marks t is side) (image (blob_of l.metadata side))
         (subst (λ (b : Blob). MayLeave b (image (blob_of l.metadata side))) (phase.others (blob_of l.metadata side) (not_copy l apart d x IsChanged false side refl)) (crash (blob_of l.metadata side)))) markers lawful)
 
   -- ---- values are cut

@@ -33,6 +33,7 @@ use Rattle.meta_store.specs.declared.error.Side.{Side}
 use Rattle.meta_store.specs.declared.error.Side.TheVariants.{Left, Right}
 use Rattle.meta_store.specs.Blobs.{blob_of}
 use Rattle.meta_store.specs.Crashes as metadata
+use Rattle.meta_store.specs.Pairs.{empty_map}
 use Rattle.meta_store.specs.Store.{Store, Stands, contents_of}
 use Rattle.paired.specs.Crashes.{NoChanceSeal, WasThere}
 use Rattle.paired.specs.glob.Sections.{IsGlob, IsAllSettled}
@@ -109,10 +110,11 @@ pub record Rests {F S : Type 0} {gs : _} (g : buffer.Ghosts (PageBlob S gs)) (gi
   pub values_known : (s : ℕ) → m.unopened s ≡ None
   pub values_here : m.partition ≡ l.values
 
--- The markers are synced.
+-- The markers are synced, where the pair has them.
 pub record MarksRest (told : Type 0) (l : Layout) (u : Store Key8 ℕ) (d : Disk) : Type 0 where
-  pub stands : told → Stands l.markers u (contents_of u) d
-  pub here : u.partition ≡ l.metadata
+  pub stands : told → IsTrue l.marked → Stands l.markers u (contents_of u) d
+  pub here : IsTrue l.marked → u.partition ≡ l.metadata
+  pub none : l.marked ≡ false → contents_of u ≡ empty_map
 
 -- Both, where no replay is owed and every section is known: each is proven.
 pub record Resting {F S : Type 0} {gs : _} (g : buffer.Ghosts (PageBlob S gs)) (gives : F → Setting) (takes : WriteFactory → Setting) (told : Type 0) (l : Layout)
@@ -198,20 +200,20 @@ module _ {F S : Type 0} {gs : _} {g : buffer.Ghosts (PageBlob S gs)} {gives : F 
     pub frames_at : (s : ℕ) → s < 2 ^ 64 → (rs : List (List ℕ)) → AllByRecursion (λ r. IsTrue (is_sound_in l (as_read d) s r) → WasThere (past (d (section_key l.values s))) (content_at (as_read d) l.values s) (l.place r)) rs
     frames_at s small rs = each_of (λ r. IsTrue (is_sound_in l (as_read d) s r) → WasThere (past (d (section_key l.values s))) (content_at (as_read d) l.values s) (l.place r)) (frame_at s small) rs
 
-    pub parts_no_chance : ((s : ℕ) → i.unopened s ≡ None) → ((side : Side) → IsAtRest (d (blob_of l.metadata side))) → NoChanceSeal l d (as_read d)
+    pub parts_no_chance : ((s : ℕ) → i.unopened s ≡ None) → (IsTrue l.marked → (side : Side) → IsAtRest (d (blob_of l.metadata side))) → NoChanceSeal l d (as_read d)
     parts_no_chance known copies = record {
       slots = slots_at known;
       frames = λ s small. frames_at s small (stored_records l (as_read d) s);
-      copies = λ side. of_rest (metadata.NoChanceSeal l.markers.seal) (d (blob_of l.metadata side)) (copies side) (λ c version form body sealed. inl refl);
+      copies = λ is side. of_rest (metadata.NoChanceSeal l.markers.seal) (d (blob_of l.metadata side)) (copies is side) (λ c version form body sealed. inl refl);
     }
 
 -- ---- markers
-pub copy_rest : {told : Type 0} {l : Layout} {u : Store Key8 ℕ} {d : Disk} (marks : MarksRest told l u d) (t : told) (side : Side) → IsAtRest (d (blob_of l.metadata side))
-copy_rest {u = u} {d = d} marks t side = subst (λ (x : List ℕ). IsAtRest (d (blob_of x side))) marks.here (go side)
+pub copy_rest : {told : Type 0} {l : Layout} {u : Store Key8 ℕ} {d : Disk} (marks : MarksRest told l u d) (t : told) (is : IsTrue l.marked) (side : Side) → IsAtRest (d (blob_of l.metadata side))
+copy_rest {u = u} {d = d} marks t is side = subst (λ (x : List ℕ). IsAtRest (d (blob_of x side))) (marks.here is) (go side)
   where
     go : (x : Side) → IsAtRest (d (blob_of u.partition x))
-    go Left = (marks.stands t).left
-    go Right = (marks.stands t).right
+    go Left = (marks.stands t is).left
+    go Right = (marks.stands t is).right
 
 -- ---- sections that are proven
 module _ {F S : Type 0} {gs : _} {g : buffer.Ghosts (PageBlob S gs)} {gives : F → Setting} {takes : WriteFactory → Setting} {told : Type 0} {l : Layout}

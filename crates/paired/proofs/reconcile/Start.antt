@@ -152,7 +152,7 @@ module _ {F S : Type 0} {gs : _} {g : buffer.Ghosts (PageBlob S gs)} {gives : F 
       journal = back_journal;
       proven = back_proven;
       index_known = λ s. ap (λ (m : Sections F (PageBlob S gs)). m.unopened s) back.sections ∙ known s;
-      marks = record { stands = e.over.markers; here = e.here.store };
+      marks = record { stands = λ t is. e.over.markers t; here = λ is. e.here.store; none = λ not. absurd (cc (e.here.marked, not)) };
     }
 
     module _ (t : told) where

@@ -15,37 +15,37 @@ returns-clause-tails g c = record { records = c.in_ok-index.ensures.tail; values
 
 pub returns-in_err-frame_size-clause-moments : goal.returns-in_err-frame_size-clause-moments
 returns-in_err-frame_size-clause-moments g c t sound =
-    let laid = is_laid c.requires.over (are_pages g.row.S g.S.Seal g.S.Seal-dict) refl refl refl refl g.met.I.CodecFixed.fixed.at_least in
+    let laid = is_laid c.requires.over (are_pages g.row.S g.S.Seal g.S.Seal-dict) refl refl refl refl refl g.met.I.CodecFixed.fixed.at_least in
     still_keeps (shown g.I.Record.place c.args.self) (g.D.Device.opened c.args.dev.now) (g.D.Device.time c.args.dev.now) c.requires.over laid t sound.sound sound.floor _ _
 
 pub returns-in_err-is_full-clause-moments : goal.returns-in_err-is_full-clause-moments
 returns-in_err-is_full-clause-moments g c t sound =
-    let laid = is_laid c.requires.over (are_pages g.row.S g.S.Seal g.S.Seal-dict) refl refl refl refl g.met.I.CodecFixed.fixed.at_least in
+    let laid = is_laid c.requires.over (are_pages g.row.S g.S.Seal g.S.Seal-dict) refl refl refl refl refl g.met.I.CodecFixed.fixed.at_least in
     still_keeps (shown g.I.Record.place c.args.self) (g.D.Device.opened c.args.dev.now) (g.D.Device.time c.args.dev.now) c.requires.over laid t sound.sound sound.floor _ _
 
 pub returns-then-branch-clause-moments : goal.returns-then-branch-clause-moments
 returns-then-branch-clause-moments g c t sound =
-    let laid = is_laid c.requires.over (are_pages g.row.S g.S.Seal g.S.Seal-dict) refl refl refl refl g.met.I.CodecFixed.fixed.at_least in
+    let laid = is_laid c.requires.over (are_pages g.row.S g.S.Seal g.S.Seal-dict) refl refl refl refl refl g.met.I.CodecFixed.fixed.at_least in
     still_keeps (shown g.I.Record.place c.args.self) (g.D.Device.opened c.args.dev.now) (g.D.Device.time c.args.dev.now) c.requires.over laid t sound.sound sound.floor _ _
 
 pub returns-in_err-values-clause-moments : goal.returns-in_err-values-clause-moments
 returns-in_err-values-clause-moments g c t sound =
-    let laid = is_laid c.requires.over (are_pages g.row.S g.S.Seal g.S.Seal-dict) refl refl refl refl g.met.I.CodecFixed.fixed.at_least in
+    let laid = is_laid c.requires.over (are_pages g.row.S g.S.Seal g.S.Seal-dict) refl refl refl refl refl g.met.I.CodecFixed.fixed.at_least in
     value_keeps (shown g.I.Record.place c.args.self) (g.D.Device.opened c.args.dev.now) (g.D.Device.time c.args.dev.now) c.requires.over laid t sound.sound c.args.section c.ranges.section.fits (g.V.Codec.spelling c.args.value.now) (g.D.Device.time c.append.new.dev) (record { moments = c.append.ensures.moments t; made = c.append.ensures.made t }) sound.floor _
 
 pub returns-in_err-values-clause-order : goal.returns-in_err-values-clause-order
 returns-in_err-values-clause-order g c t =
-    let laid = is_laid c.requires.over (are_pages g.row.S g.S.Seal g.S.Seal-dict) refl refl refl refl g.met.I.CodecFixed.fixed.at_least in
+    let laid = is_laid c.requires.over (are_pages g.row.S g.S.Seal g.S.Seal-dict) refl refl refl refl refl g.met.I.CodecFixed.fixed.at_least in
     value_order (shown g.I.Record.place c.args.self) (g.D.Device.opened c.args.dev.now) (g.D.Device.time c.args.dev.now) c.requires.over laid _ c.args.section (g.V.Codec.spelling c.args.value.now) (g.D.Device.time c.append.new.dev) (record { moments = c.append.ensures.moments t; made = c.append.ensures.made t })
 
 pub append-requires-2-clause-over : goal.append-requires-2-clause-over
 append-requires-2-clause-over g c =
-    let laid = is_laid c.requires.over (are_pages g.row.S g.S.Seal g.S.Seal-dict) refl refl refl refl g.met.I.CodecFixed.fixed.at_least in
+    let laid = is_laid c.requires.over (are_pages g.row.S g.S.Seal g.S.Seal-dict) refl refl refl refl refl g.met.I.CodecFixed.fixed.at_least in
     index_on (shown g.I.Record.place c.args.self) (g.D.Device.opened c.args.dev.now) (g.D.Device.time c.args.dev.now) c.requires.over laid c.args.section (g.D.Device.opened c.append.new.dev) _ c.append.ensures.entries (λ t. value_blobs (shown g.I.Record.place c.args.self) c.args.section (g.V.Codec.spelling c.args.value.now) (g.D.Device.time c.args.dev.now) (g.D.Device.time c.append.new.dev) (record { moments = c.append.ensures.moments t; made = c.append.ensures.made t }))
 
 pub returns-in_err-index-clause-moments : goal.returns-in_err-index-clause-moments
 returns-in_err-index-clause-moments g c t sound =
-    let laid = is_laid c.requires.over (are_pages g.row.S g.S.Seal g.S.Seal-dict) refl refl refl refl g.met.I.CodecFixed.fixed.at_least in
+    let laid = is_laid c.requires.over (are_pages g.row.S g.S.Seal g.S.Seal-dict) refl refl refl refl refl g.met.I.CodecFixed.fixed.at_least in
     let value : GetsValue (shown g.I.Record.place c.args.self) c.args.section _ g.D.Device.Tells (g.V.Codec.spelling c.args.value.now) (managed.shown c.in_ok-values.values.manager) (g.D.Device.opened c.args.dev.now) (g.D.Device.opened c.append.new.dev) (g.D.Device.time c.args.dev.now) (g.D.Device.time c.append.new.dev) = record {
       over = c.in_ok-values.ensures.over;
       bytes = c.in_ok-values.ensures.bytes;
@@ -67,7 +67,7 @@ returns-in_err-index-clause-moments g c t sound =
 
 pub returns-in_err-index-clause-order : goal.returns-in_err-index-clause-order
 returns-in_err-index-clause-order g c t =
-    let laid = is_laid c.requires.over (are_pages g.row.S g.S.Seal g.S.Seal-dict) refl refl refl refl g.met.I.CodecFixed.fixed.at_least in
+    let laid = is_laid c.requires.over (are_pages g.row.S g.S.Seal g.S.Seal-dict) refl refl refl refl refl g.met.I.CodecFixed.fixed.at_least in
     record_order (shown g.I.Record.place c.args.self) (g.D.Device.opened c.args.dev.now) (g.D.Device.time c.args.dev.now) c.requires.over laid _ c.args.section (g.V.Codec.spelling c.args.value.now) (g.D.Device.time c.append.new.dev) (record { moments = c.append.ensures.moments t; made = c.append.ensures.made t }) (g.I.Codec.spelling c.naming-entry.result) (g.D.Device.time c.append-2.new.dev) (record { alone = c.append-2.ensures.alone t; moments = c.append-2.ensures.moments t; made = c.append-2.ensures.made t })
 
 pub returns-in_err-index-clause-below : goal.returns-in_err-index-clause-below
@@ -80,7 +80,7 @@ returns-clause-below g c u v index values flushes few =
 
 pub returns-clause-over : goal.returns-clause-over
 returns-clause-over g c =
-    let laid = is_laid c.requires.over (are_pages g.row.S g.S.Seal g.S.Seal-dict) refl refl refl refl g.met.I.CodecFixed.fixed.at_least in
+    let laid = is_laid c.requires.over (are_pages g.row.S g.S.Seal g.S.Seal-dict) refl refl refl refl refl g.met.I.CodecFixed.fixed.at_least in
     let value : GetsValue (shown g.I.Record.place c.args.self) c.args.section _ g.D.Device.Tells (g.V.Codec.spelling c.args.value.now) (managed.shown c.in_ok-values.values.manager) (g.D.Device.opened c.args.dev.now) (g.D.Device.opened c.append.new.dev) (g.D.Device.time c.args.dev.now) (g.D.Device.time c.append.new.dev) = record {
       over = c.in_ok-values.ensures.over;
       bytes = c.in_ok-values.ensures.bytes;
@@ -109,7 +109,7 @@ returns-clause-over g c =
 
 pub returns-clause-sound : goal.returns-clause-sound
 returns-clause-sound g c t sound =
-    let laid = is_laid c.requires.over (are_pages g.row.S g.S.Seal g.S.Seal-dict) refl refl refl refl g.met.I.CodecFixed.fixed.at_least in
+    let laid = is_laid c.requires.over (are_pages g.row.S g.S.Seal g.S.Seal-dict) refl refl refl refl refl g.met.I.CodecFixed.fixed.at_least in
     let value : GetsValue (shown g.I.Record.place c.args.self) c.args.section _ g.D.Device.Tells (g.V.Codec.spelling c.args.value.now) (managed.shown c.in_ok-values.values.manager) (g.D.Device.opened c.args.dev.now) (g.D.Device.opened c.append.new.dev) (g.D.Device.time c.args.dev.now) (g.D.Device.time c.append.new.dev) = record {
       over = c.in_ok-values.ensures.over;
       bytes = c.in_ok-values.ensures.bytes;
@@ -142,7 +142,7 @@ returns-clause-sound g c t sound =
 
 pub returns-clause-list : goal.returns-clause-list
 returns-clause-list g c t sound =
-    let laid = is_laid c.requires.over (are_pages g.row.S g.S.Seal g.S.Seal-dict) refl refl refl refl g.met.I.CodecFixed.fixed.at_least in
+    let laid = is_laid c.requires.over (are_pages g.row.S g.S.Seal g.S.Seal-dict) refl refl refl refl refl g.met.I.CodecFixed.fixed.at_least in
     let value : GetsValue (shown g.I.Record.place c.args.self) c.args.section _ g.D.Device.Tells (g.V.Codec.spelling c.args.value.now) (managed.shown c.in_ok-values.values.manager) (g.D.Device.opened c.args.dev.now) (g.D.Device.opened c.append.new.dev) (g.D.Device.time c.args.dev.now) (g.D.Device.time c.append.new.dev) = record {
       over = c.in_ok-values.ensures.over;
       bytes = c.in_ok-values.ensures.bytes;
@@ -177,7 +177,7 @@ returns-clause-list g c t sound =
 
 pub returns-clause-other_lists : goal.returns-clause-other_lists
 returns-clause-other_lists g c t q other =
-    let laid = is_laid c.requires.over (are_pages g.row.S g.S.Seal g.S.Seal-dict) refl refl refl refl g.met.I.CodecFixed.fixed.at_least in
+    let laid = is_laid c.requires.over (are_pages g.row.S g.S.Seal g.S.Seal-dict) refl refl refl refl refl g.met.I.CodecFixed.fixed.at_least in
     let value : GetsValue (shown g.I.Record.place c.args.self) c.args.section _ g.D.Device.Tells (g.V.Codec.spelling c.args.value.now) (managed.shown c.in_ok-values.values.manager) (g.D.Device.opened c.args.dev.now) (g.D.Device.opened c.append.new.dev) (g.D.Device.time c.args.dev.now) (g.D.Device.time c.append.new.dev) = record {
       over = c.in_ok-values.ensures.over;
       bytes = c.in_ok-values.ensures.bytes;
@@ -206,7 +206,7 @@ returns-clause-other_lists g c t q other =
 
 pub returns-clause-moments : goal.returns-clause-moments
 returns-clause-moments g c t sound =
-    let laid = is_laid c.requires.over (are_pages g.row.S g.S.Seal g.S.Seal-dict) refl refl refl refl g.met.I.CodecFixed.fixed.at_least in
+    let laid = is_laid c.requires.over (are_pages g.row.S g.S.Seal g.S.Seal-dict) refl refl refl refl refl g.met.I.CodecFixed.fixed.at_least in
     let value : GetsValue (shown g.I.Record.place c.args.self) c.args.section _ g.D.Device.Tells (g.V.Codec.spelling c.args.value.now) (managed.shown c.in_ok-values.values.manager) (g.D.Device.opened c.args.dev.now) (g.D.Device.opened c.append.new.dev) (g.D.Device.time c.args.dev.now) (g.D.Device.time c.append.new.dev) = record {
       over = c.in_ok-values.ensures.over;
       bytes = c.in_ok-values.ensures.bytes;
@@ -228,7 +228,7 @@ returns-clause-moments g c t sound =
 
 pub returns-clause-order : goal.returns-clause-order
 returns-clause-order g c t =
-    let laid = is_laid c.requires.over (are_pages g.row.S g.S.Seal g.S.Seal-dict) refl refl refl refl g.met.I.CodecFixed.fixed.at_least in
+    let laid = is_laid c.requires.over (are_pages g.row.S g.S.Seal g.S.Seal-dict) refl refl refl refl refl g.met.I.CodecFixed.fixed.at_least in
     record_order (shown g.I.Record.place c.args.self) (g.D.Device.opened c.args.dev.now) (g.D.Device.time c.args.dev.now) c.requires.over laid _ c.args.section (g.V.Codec.spelling c.args.value.now) (g.D.Device.time c.append.new.dev) (record { moments = c.append.ensures.moments t; made = c.append.ensures.made t }) (g.I.Codec.spelling c.naming-entry.result) (g.D.Device.time c.append-2.new.dev) (record { alone = c.append-2.ensures.alone t; moments = c.append-2.ensures.moments t; made = c.append-2.ensures.made t })
 
 pub returns-in_err-values-clause-untouched : goal.returns-in_err-values-clause-untouched
@@ -244,7 +244,7 @@ returns-clause-untouched g c t = untouched_record (shown g.I.Record.place c.args
 
 pub returns-clause-records : goal.returns-clause-records
 returns-clause-records g c t =
-    let laid = is_laid c.requires.over (are_pages g.row.S g.S.Seal g.S.Seal-dict) refl refl refl refl g.met.I.CodecFixed.fixed.at_least in
+    let laid = is_laid c.requires.over (are_pages g.row.S g.S.Seal g.S.Seal-dict) refl refl refl refl refl g.met.I.CodecFixed.fixed.at_least in
     let was : List ℕ = section_bytes (shown g.I.Record.place c.args.self).index.sections (disk (g.D.Device.time c.args.dev.now)) c.args.section in
     c.in_ok-index.ensures.bytes t
     ∙ ap (λ (l : List ℕ). l ++ g.I.Codec.spelling c.naming-entry.result) (index_bytes_on (shown g.I.Record.place c.args.self) (g.D.Device.opened c.args.dev.now) (g.D.Device.time c.args.dev.now) c.requires.over laid c.args.section (g.V.Codec.spelling c.args.value.now) (g.D.Device.time c.append.new.dev) (record { moments = c.append.ensures.moments t; made = c.append.ensures.made t }))
@@ -252,7 +252,7 @@ returns-clause-records g c t =
 
 pub returns-clause-values : goal.returns-clause-values
 returns-clause-values g c t =
-    let laid = is_laid c.requires.over (are_pages g.row.S g.S.Seal g.S.Seal-dict) refl refl refl refl g.met.I.CodecFixed.fixed.at_least in
+    let laid = is_laid c.requires.over (are_pages g.row.S g.S.Seal g.S.Seal-dict) refl refl refl refl refl g.met.I.CodecFixed.fixed.at_least in
     values_bytes_on (shown g.I.Record.place c.args.self) (g.D.Device.opened c.args.dev.now) (g.D.Device.time c.args.dev.now) c.requires.over laid c.args.section (managed.shown c.in_ok-values.values.manager) c.in_ok-values.ensures.bounds (g.I.Codec.spelling c.naming-entry.result) (g.D.Device.time c.append.new.dev) (g.D.Device.time c.append-2.new.dev) (record { alone = c.append-2.ensures.alone t; moments = c.append-2.ensures.moments t; made = c.append-2.ensures.made t })
     ∙ c.in_ok-values.ensures.bytes t
 

@@ -18,7 +18,7 @@ pub returns-in_err-destroy-clause-moments : goal.returns-in_err-destroy-clause-m
 returns-in_err-destroy-clause-moments g c t sound =
     let p = shown g.I.Record.place c.args.self in
     let ways = destroy_ways p (g.D.Device.opened c.args.dev.now) (disk (g.D.Device.time c.args.dev.now)) c.requires.over refl refl in
-    let parts = parts_of p (g.D.Device.opened c.args.dev.now) (disk (g.D.Device.time c.args.dev.now)) c.requires.over t sound.sound refl refl refl (λ s v held. ap (λ (x : Setting). x.page_size) (c.requires.over.index.over.opened_list.setting s v held)) in
+    let parts = parts_of p (g.D.Device.opened c.args.dev.now) (disk (g.D.Device.time c.args.dev.now)) c.requires.over t sound.sound refl refl refl refl (λ s v held. ap (λ (x : Setting). x.page_size) (c.requires.over.index.over.opened_list.setting s v held)) in
     keeps_markers ways g.met.I.CodecFixed.fixed.at_least (g.D.Device.time c.args.dev.now) parts t sound.floor (λ s. inl tt) empty_map refl (λ s n is. absurd (cc is.1)) (λ s n named is. cc is.1) (g.D.Device.time c.destroy.new.dev) (c.destroy.ensures.crashes t (contents_of p.store) (c.requires.over.disk t).markers)
 
 pub returns-in_err-destroy-clause-markers_first : goal.returns-in_err-destroy-clause-markers_first
@@ -45,7 +45,7 @@ pub returns-in_err-destroy-2-clause-moments : goal.returns-in_err-destroy-2-clau
 returns-in_err-destroy-2-clause-moments g c t sound =
     let p = shown g.I.Record.place c.args.self in
     let ways = destroy_ways p (g.D.Device.opened c.args.dev.now) (disk (g.D.Device.time c.args.dev.now)) c.requires.over refl refl in
-    let parts = parts_of p (g.D.Device.opened c.args.dev.now) (disk (g.D.Device.time c.args.dev.now)) c.requires.over t sound.sound refl refl refl (λ s v held. ap (λ (x : Setting). x.page_size) (c.requires.over.index.over.opened_list.setting s v held)) in
+    let parts = parts_of p (g.D.Device.opened c.args.dev.now) (disk (g.D.Device.time c.args.dev.now)) c.requires.over t sound.sound refl refl refl refl (λ s v held. ap (λ (x : Setting). x.page_size) (c.requires.over.index.over.opened_list.setting s v held)) in
     keeps_records ways g.met.I.CodecFixed.fixed.at_least (g.D.Device.time c.args.dev.now) parts t sound.floor (λ s. inl tt) empty_map refl (λ s n is. absurd (cc is.1)) (λ s n named is. cc is.1) (g.D.Device.time c.destroy.new.dev) (c.destroy.ensures.crashes t (contents_of p.store) (c.requires.over.disk t).markers) (copies_gone p.layout (disk (g.D.Device.time c.destroy.new.dev)) (λ side. c.in_ok-destroy.ensures.gone t side)) (λ s is. known_held p (g.D.Device.opened c.args.dev.now) (disk (g.D.Device.time c.args.dev.now)) c.requires.over refl refl s is) (λ s named held. inl held) (g.D.Device.time c.destroy-2.new.dev) (c.destroy-2.ensures.moments t)
 
 pub returns-in_err-destroy-2-clause-markers_first : goal.returns-in_err-destroy-2-clause-markers_first
@@ -72,7 +72,7 @@ pub returns-clause-moments : goal.returns-clause-moments
 returns-clause-moments g c t sound =
     let p = shown g.I.Record.place c.args.self in
     let ways = destroy_ways p (g.D.Device.opened c.args.dev.now) (disk (g.D.Device.time c.args.dev.now)) c.requires.over refl refl in
-    let parts = parts_of p (g.D.Device.opened c.args.dev.now) (disk (g.D.Device.time c.args.dev.now)) c.requires.over t sound.sound refl refl refl (λ s v held. ap (λ (x : Setting). x.page_size) (c.requires.over.index.over.opened_list.setting s v held)) in
+    let parts = parts_of p (g.D.Device.opened c.args.dev.now) (disk (g.D.Device.time c.args.dev.now)) c.requires.over t sound.sound refl refl refl refl (λ s v held. ap (λ (x : Setting). x.page_size) (c.requires.over.index.over.opened_list.setting s v held)) in
     keeps_values ways g.met.I.CodecFixed.fixed.at_least (g.D.Device.time c.args.dev.now) parts t sound.floor (λ s. inl tt) empty_map refl (λ s n is. absurd (cc is.1)) (λ s n named is. cc is.1) (g.D.Device.time c.destroy.new.dev) (c.destroy.ensures.crashes t (contents_of p.store) (c.requires.over.disk t).markers) (copies_gone p.layout (disk (g.D.Device.time c.destroy.new.dev)) (λ side. c.in_ok-destroy.ensures.gone t side)) (λ s is. known_held p (g.D.Device.opened c.args.dev.now) (disk (g.D.Device.time c.args.dev.now)) c.requires.over refl refl s is) (λ s named held. inl held) (g.D.Device.time c.destroy-2.new.dev) (c.destroy-2.ensures.moments t) (g.D.Device.time c.destroy-3.new.dev) (c.destroy-3.ensures.moments t) (λ s named held. c.in_ok-destroy-2.ensures.gone_all t s (inl held))
 
 pub returns-clause-markers_first : goal.returns-clause-markers_first

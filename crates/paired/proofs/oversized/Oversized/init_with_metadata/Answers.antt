@@ -31,7 +31,8 @@ use Rattle.meta_store.specs.Opening.{Opening}
 use Rattle.meta_store.specs.Store.{Stands, MayBeSynced, chosen_by, contents_of}
 use Rattle.paired.specs.glob.Sections.{section_size}
 use Rattle.paired.specs.Kept.{Layout, Markers, IsMarked}
-use Rattle.paired.specs.Opening.{as_read, HoldMarkers, IsLawful, OnlyOpens}
+use Rattle.paired.specs.Crashes.{HoldMarkers}
+use Rattle.paired.specs.Opening.{as_read, IsLawful, OnlyOpens}
 use Rattle.paired.specs.Pair.{AreApart}
 use Rattle.paired.specs.ReplayShown.{layout_for, run_of}
 use Rattle.paired.specs.sighted.Shown as tracking
@@ -63,7 +64,7 @@ returns-in_err-tracking-clause-moments g c t may =
     let b = g.D.Device.time c.init.new.dev in
     let promised : (k : Key) → IsPromised (disk a k) = (λ k. record { bytes = g.met.D.Device.holds_bytes t c.args.dev.now k; agrees = g.met.D.Device.agrees t c.args.dev.now k; absent = g.met.D.Device.absent t c.args.dev.now k; as_read = g.met.D.Device.as_read t c.args.dev.now k }) in
     let opens : Always a b (OnlyOpens l (disk a)) = first_opens l c.requires.apart a b (c.init.ensures.moments t) in
-    always_recalls l c.requires.apart a b promised g.met.S.Seal.fits opens may
+    always_recalls l c.requires.apart a b promised g.met.S.Seal.fits opens may refl
 
 pub returns-in_err-tracking-clause-opened : goal.returns-in_err-tracking-clause-opened
 returns-in_err-tracking-clause-opened g c t may =
@@ -89,7 +90,7 @@ returns-in_err-floors-clause-moments g c t may =
     let b = g.D.Device.time c.init.new.dev in
     let promised : (k : Key) → IsPromised (disk a k) = (λ k. record { bytes = g.met.D.Device.holds_bytes t c.args.dev.now k; agrees = g.met.D.Device.agrees t c.args.dev.now k; absent = g.met.D.Device.absent t c.args.dev.now k; as_read = g.met.D.Device.as_read t c.args.dev.now k }) in
     let opens : Always a b (OnlyOpens l (disk a)) = first_opens l c.requires.apart a b (c.init.ensures.moments t) in
-    always_recalls l c.requires.apart a b promised g.met.S.Seal.fits opens may
+    always_recalls l c.requires.apart a b promised g.met.S.Seal.fits opens may refl
 
 pub returns-in_err-floors-clause-opened : goal.returns-in_err-floors-clause-opened
 returns-in_err-floors-clause-opened g c t may =
@@ -117,7 +118,7 @@ returns-in_err-index-clause-moments g c t may =
     let e = g.D.Device.time c.open_parts.new.dev in
     let promised : (k : Key) → IsPromised (disk a k) = (λ k. record { bytes = g.met.D.Device.holds_bytes t c.args.dev.now k; agrees = g.met.D.Device.agrees t c.args.dev.now k; absent = g.met.D.Device.absent t c.args.dev.now k; as_read = g.met.D.Device.as_read t c.args.dev.now k }) in
     let opens : Always a e (OnlyOpens l (disk a)) = both_open l c.requires.apart a b e (c.init.ensures.moments t) (c.open_parts.ensures.moments t) in
-    always_recalls l c.requires.apart a e promised g.met.S.Seal.fits opens may
+    always_recalls l c.requires.apart a e promised g.met.S.Seal.fits opens may refl
 
 pub returns-in_err-index-clause-opened : goal.returns-in_err-index-clause-opened
 returns-in_err-index-clause-opened g c t may =
@@ -148,7 +149,7 @@ returns-clause-moments g c t may =
     let f = g.D.Device.time c.tracked.new.dev in
     let promised : (k : Key) → IsPromised (disk a k) = (λ k. record { bytes = g.met.D.Device.holds_bytes t c.args.dev.now k; agrees = g.met.D.Device.agrees t c.args.dev.now k; absent = g.met.D.Device.absent t c.args.dev.now k; as_read = g.met.D.Device.as_read t c.args.dev.now k }) in
     let opens : Always a f (OnlyOpens l (disk a)) = subst (λ dev. Always a (g.D.Device.time dev) (OnlyOpens l (disk a))) (sym c.tracked.ensures.unchanged) (both_open l c.requires.apart a b e (c.init.ensures.moments t) (c.open_parts.ensures.moments t)) in
-    always_recalls l c.requires.apart a f promised g.met.S.Seal.fits opens may
+    always_recalls l c.requires.apart a f promised g.met.S.Seal.fits opens may refl
 
 pub returns-clause-opened : goal.returns-clause-opened
 returns-clause-opened g c t may =
@@ -245,7 +246,7 @@ returns-in_err-tracking-clause-complete g c t markers lawful spelled counted =
     let x = c.in_err-tracking.field-0.0 in
     let is = err_of r (raised_metadata x) c.from_residual.ensures.1 in
     let why = markers_refuse r x is fa fb c.in_err-tracking.ensures.cause in
-    err_with r (markers_gave_up r x is fa fb (c.in_err-tracking.ensures.map t lawful.held.chosen lawful.held.reads))
+    err_with r (markers_gave_up r x is fa fb (c.in_err-tracking.ensures.map t (lawful.held.copies refl).chosen (lawful.held.copies refl).reads))
 
 pub returns-in_err-tracking-clause-cause : goal.returns-in_err-tracking-clause-cause
 returns-in_err-tracking-clause-cause g c =
@@ -323,7 +324,7 @@ returns-in_err-index-clause-refusals g c t =
     let is = err_of r x c.from_residual-in_err-index.ensures.1 in
     let why : PartsRefuse r fa fe = parts_refuse r x is fa fb fe c.init.ensures.faults c.in_err-index.ensures.cause in
     let store = (tracking.shown c.in_ok-tracking.tracking).store in
-    let held : HoldMarkers l (as_read (disk a)) (contents_of store) = record { chosen = chosen_by store (contents_of store); reads = c.in_ok-tracking.ensures.reads t; map = refl } in
+    let held : HoldMarkers l (as_read (disk a)) (contents_of store) = record { copies = λ is. record { chosen = chosen_by store (contents_of store); reads = c.in_ok-tracking.ensures.reads t; map = refl }; none = λ not. absurd (cc not) } in
     record {
       corrupt = λ side has. absurd (parts_corrupt r fa fe why side has);
       named = λ n has. named_before l c.requires.apart (disk a) (disk b) opening n (c.in_err-index.ensures.named t n (error_back r x is (journal_error.InvalidBlobName n) has));
@@ -359,8 +360,8 @@ returns-in_err-index-clause-complete g c t markers lawful spelled counted =
     let why : PartsRefuse r fa fe = parts_refuse r x is fa fb fe c.init.ensures.faults c.in_err-index.ensures.cause in
     parts_give_up r fa fe why
     (λ n has. lawful_named l (disk a) markers lawful n (named_before l c.requires.apart (disk a) (disk b) opening n (c.in_err-index.ensures.named t n (error_back r x is (journal_error.InvalidBlobName n) has))))
-    (λ d has. no_loss l c.requires.valid g.met.I.CodecFixed.fixed.at_least (disk a) markers lawful counted d (lost_as l [] (λ s n. get nat_cmp c.in_ok-floors.floors s ≡ Some n) (IsMarked markers.entries) (λ s n is_n. subst (λ (m : Markers). IsMarked m.entries s n) (ap (λ (k : Chosen Key8 ℕ). k.contents) (c.in_ok-tracking.ensures.map t lawful.held.chosen lawful.held.reads) ∙ lawful.held.map) ((c.in_ok-floors.ensures.each s n).0 is_n)) (disk b) (disk a) (λ s. index_stays l c.requires.apart (disk a) (disk b) opening (to_be_bytes w64 s)) (λ s. values_stay l c.requires.apart (disk a) (disk b) opening (to_be_bytes w64 s)) d (c.in_err-index.ensures.damage t d (error_back r x is (journal_error.Corruption d) has))))
-    (λ y has. no_unreadable l c.requires.valid g.met.I.CodecFixed.fixed.at_least (disk a) markers lawful g.I.Codec.refusal spelled y (unreadable_as l [] (λ s n. get nat_cmp c.in_ok-floors.floors s ≡ Some n) (IsMarked markers.entries) (λ s n is_n. subst (λ (m : Markers). IsMarked m.entries s n) (ap (λ (k : Chosen Key8 ℕ). k.contents) (c.in_ok-tracking.ensures.map t lawful.held.chosen lawful.held.reads) ∙ lawful.held.map) ((c.in_ok-floors.ensures.each s n).0 is_n)) (disk b) (disk a) (λ s. index_stays l c.requires.apart (disk a) (disk b) opening (to_be_bytes w64 s)) (λ s. values_stay l c.requires.apart (disk a) (disk b) opening (to_be_bytes w64 s)) g.I.Codec.refusal y (c.in_err-index.ensures.refused t y (error_back r x is (journal_error.Codec y) has))))
+    (λ d has. no_loss l c.requires.valid g.met.I.CodecFixed.fixed.at_least (disk a) markers lawful counted d (lost_as l [] (λ s n. get nat_cmp c.in_ok-floors.floors s ≡ Some n) (IsMarked markers.entries) (λ s n is_n. subst (λ (m : Markers). IsMarked m.entries s n) (ap (λ (k : Chosen Key8 ℕ). k.contents) (c.in_ok-tracking.ensures.map t (lawful.held.copies refl).chosen (lawful.held.copies refl).reads) ∙ (lawful.held.copies refl).map) ((c.in_ok-floors.ensures.each s n).0 is_n)) (disk b) (disk a) (λ s. index_stays l c.requires.apart (disk a) (disk b) opening (to_be_bytes w64 s)) (λ s. values_stay l c.requires.apart (disk a) (disk b) opening (to_be_bytes w64 s)) d (c.in_err-index.ensures.damage t d (error_back r x is (journal_error.Corruption d) has))))
+    (λ y has. no_unreadable l c.requires.valid g.met.I.CodecFixed.fixed.at_least (disk a) markers lawful g.I.Codec.refusal spelled y (unreadable_as l [] (λ s n. get nat_cmp c.in_ok-floors.floors s ≡ Some n) (IsMarked markers.entries) (λ s n is_n. subst (λ (m : Markers). IsMarked m.entries s n) (ap (λ (k : Chosen Key8 ℕ). k.contents) (c.in_ok-tracking.ensures.map t (lawful.held.copies refl).chosen (lawful.held.copies refl).reads) ∙ (lawful.held.copies refl).map) ((c.in_ok-floors.ensures.each s n).0 is_n)) (disk b) (disk a) (λ s. index_stays l c.requires.apart (disk a) (disk b) opening (to_be_bytes w64 s)) (λ s. values_stay l c.requires.apart (disk a) (disk b) opening (to_be_bytes w64 s)) g.I.Codec.refusal y (c.in_err-index.ensures.refused t y (error_back r x is (journal_error.Codec y) has))))
     (λ room. (let long = c.in_err-index.ensures.overflow (error_back r x is (journal_error.Runtime OffsetOverflow) room) in
     no_overflow l c.requires.apart (disk a) (disk e) (always_now a e (OnlyOpens l (disk a)) opens) counted (g.D.Device.opened c.open_parts.new.dev) (g.met.D.Device.opened_stands t c.open_parts.new.dev) long.0 long.1))
 
@@ -472,6 +473,7 @@ returns-clause-layout g c =
     record {
       index = ap (λ (k : Lists (AppendFactory g.row.S.Denot) (PageBlob g.row.S.Denot g.S.Seal)). k.sections.partition) same_j ∙ c.in_ok-index.ensures.index_partition;
       values = ap (λ y. (managed.shown y.manager).partition) vals ∙ c.in_ok-index.ensures.values_partition;
+      marked = refl;
       metadata = ap (λ y. (tracking.shown y).store.partition) trk ∙ c.in_ok-tracking.ensures.partition;
       page_size = ap (λ (k : Lists (AppendFactory g.row.S.Denot) (PageBlob g.row.S.Denot g.S.Seal)). k.sections.factory.pages.page_size) same_j ∙ ap (λ (p : Pages). p.page_size) c.in_ok-index.ensures.pages;
     })
@@ -552,8 +554,8 @@ returns-clause-found g c t =
     let alike = read_alike l c.requires.apart (disk a) (disk f) only in
     let entries : contents_of R.store ≡ contents_of (tracking.shown c.in_ok-tracking.tracking).store = ap (λ y. contents_of (tracking.shown y).store) trk in
     found_of _ g.D.Device.Tells floors (disk a) (disk f) R parts own each g.met.I.CodecFixed.fixed.at_least (subst (λ (n : ℕ). 1 ≤ n) (sym (ap (λ (y : Layout). y.page_size) layout)) c.requires.valid) t l layout (disk f)
-    (record { chosen = chosen_by (tracking.shown c.in_ok-tracking.tracking).store (contents_of (tracking.shown c.in_ok-tracking.tracking).store); reads = c.in_ok-tracking.ensures.reads t; map = sym entries }) alike (at_ok r x _ is c.tracked.ensures.goes_on)
-    (λ markers lawful. subst (IsLawful l (as_read (disk f))) (sym lawful.held.map ∙ sym (ap (λ (k : Chosen Key8 ℕ). k.contents) (c.in_ok-tracking.ensures.map t lawful.held.chosen lawful.held.reads)) ∙ sym entries) (lawful_alike l (as_read (disk a)) (as_read (disk f)) alike markers lawful)))
+    (record { copies = λ is. record { chosen = chosen_by (tracking.shown c.in_ok-tracking.tracking).store (contents_of (tracking.shown c.in_ok-tracking.tracking).store); reads = c.in_ok-tracking.ensures.reads t; map = sym entries }; none = λ not. absurd (cc not) }) alike (at_ok r x _ is c.tracked.ensures.goes_on)
+    (λ markers lawful. subst (IsLawful l (as_read (disk f))) (sym (lawful.held.copies refl).map ∙ sym (ap (λ (k : Chosen Key8 ℕ). k.contents) (c.in_ok-tracking.ensures.map t (lawful.held.copies refl).chosen (lawful.held.copies refl).reads)) ∙ sym entries) (lawful_alike l (as_read (disk a)) (as_read (disk f)) alike markers lawful)))
 
 pub open_parts-requires-clause-floors : goal.open_parts-requires-clause-floors
 open_parts-requires-clause-floors g c s has =

@@ -65,6 +65,7 @@ returns-clause-layout g c =
     record {
       index = ap (λ q. q.layout.index) same;
       values = ap (λ q. q.layout.values) same;
+      marked = refl;
       metadata = refl;
       page_size = ap (λ q. q.layout.page_size) same;
     }

@@ -242,7 +242,7 @@ returns g c =
           ap (λ u. unwrap_or (t.trailing s) (marker_of u.entries s)) c.note_synced.ensures.store ∙ others_synced _ _ told p pages named decides k n t.trailing _ _ _ (disk a) (disk b) (disk e) here c.requires.over index values noted s not;
       store = c.note_synced.ensures.store;
       bounds = (c.in_ok-this.ensures.bounds, c.in_ok-this-2.ensures.bounds);
-      layout = record { index = says.bounds.place.partition; values = puts.bounds.place.partition; metadata = ap (λ u. u.partition) c.note_synced.ensures.store; page_size = ap (λ f. f.pages.page_size) says.bounds.place.factory };
+      layout = record { index = says.bounds.place.partition; values = puts.bounds.place.partition; marked = refl; metadata = ap (λ u. u.partition) c.note_synced.ensures.store; page_size = ap (λ f. f.pages.page_size) says.bounds.place.factory };
       codec_config = c.in_ok-this-2.ensures.codec_config;
       moments = λ x sound. settle_keeps _ _ told p _ named a b here c.requires.over (c.sync.ensures.moments x) pages decides x (parts_of _ _ told p pages _ (disk a) here c.requires.over x sound.sound) sound.floor e (c.sync-2.ensures.moments x);
       alone = λ x. settle_alone _ _ told p _ named a b here c.requires.over (c.sync.ensures.moments x) e (c.sync-2.ensures.moments x);

@@ -23,6 +23,7 @@ returns-clause-back g c =
       layout = record {
         index = ap (λ m. m.partition) says.sections;
         values = ap (λ m. m.partition) values;
+        marked = refl;
         metadata = refl;
         page_size = ap (λ m. m.factory.pages.page_size) says.sections;
       };
