@@ -25,8 +25,9 @@ pub struct Kept<F> {
 pub struct OpenFiles<R: Files + Clone + Drop> {
     /// The runtime that has the files.
     rt: R,
-    /// At most `MOST_OPEN` files, by number; the one that was not used the longest goes first.
-    kept: LruCache<u64, Kept<R::File>>,
+    /// At most `MOST_OPEN` files, by number; the one that was not used the longest goes first. None stands for
+    /// a file that is taken out, which comes back without memory.
+    kept: LruCache<u64, Option<Kept<R::File>>>,
 }
 
 /// Opens a file to read and write it. Where it is absent, it is made if `makes` says so.
@@ -45,6 +46,14 @@ fn close<F: OpenFile + Drop>(kept: Kept<F>) -> Result<(), Stop> {
     Ok(())
 }
 
+// Closes a file, if there is one.
+fn closed<F: OpenFile + Drop>(kept: Option<Kept<F>>) -> Result<(), Stop> {
+    match kept {
+        Some(kept) => close(kept),
+        None => Ok(()),
+    }
+}
+
 impl<R: Files + Clone + Drop> OpenFiles<R> {
     /// No open files.
     pub fn new(rt: &R, alloc: Global) -> Result<Self, AllocError> {
@@ -54,9 +63,17 @@ impl<R: Files + Clone + Drop> OpenFiles<R> {
         })
     }
 
+    // Takes a file out of the open ones. Its number stays.
+    fn lend(&mut self, number: u64) -> Option<Kept<R::File>> {
+        match self.kept.get_mut(&number) {
+            Some(kept) => kept.take(),
+            None => None,
+        }
+    }
+
     /// Takes the file of a blob of this length out of the open ones, or opens it. It comes back by [`keep`](OpenFiles::keep).
     pub fn take(&mut self, place: &BlobFile, len: u64) -> Result<Kept<R::File>, Stop> {
-        if let Some(kept) = self.kept.pop(&place.number) {
+        if let Some(kept) = self.lend(place.number) {
             return Ok(kept);
         }
         let kept = self.open(place, false)?;
@@ -66,7 +83,7 @@ impl<R: Files + Clone + Drop> OpenFiles<R> {
 
     /// Takes the file of a blob out of the open ones, or opens it, if it is there.
     pub fn find(&mut self, place: &BlobFile) -> Result<Kept<R::File>, Stop> {
-        match self.kept.pop(&place.number) {
+        match self.lend(place.number) {
             Some(kept) => Ok(kept),
             None => self.open(place, false),
         }
@@ -88,26 +105,23 @@ impl<R: Files + Clone + Drop> OpenFiles<R> {
             return Ok(());
         }
         match self.kept.pop_lru() {
-            Some((number, kept)) => at(Place::File(number), close(kept)),
-            None => Ok(()),
+            Some((number, Some(kept))) => at(Place::File(number), close(kept)),
+            _ => Ok(()),
         }
     }
 
     /// Keeps a file open. Where there is no memory for that, it is closed, and the next call opens it again.
     pub fn keep(&mut self, number: u64, kept: Kept<R::File>) -> Result<(), Stop> {
-        match self.kept.push(number, kept) {
-            Ok(Some((number, other))) => at(Place::File(number), close(other)),
-            Ok(None) => Ok(()),
-            Err(failed) => close(failed.value.1),
+        match self.kept.push(number, Some(kept)) {
+            Ok(Some((number, Some(other)))) => at(Place::File(number), close(other)),
+            Ok(_) => Ok(()),
+            Err(failed) => closed(failed.value.1),
         }
     }
 
     /// Closes the file of a blob, which may be gone or not. The next call opens what has its name by then.
     pub fn close(&mut self, number: u64) -> Result<(), Stop> {
-        match self.kept.pop(&number) {
-            Some(kept) => close(kept),
-            None => Ok(()),
-        }
+        closed(self.kept.pop(&number).flatten())
     }
 
     /// Closes the file of a blob that is gone. Its bytes went with it.
