@@ -56,6 +56,7 @@ impl<A: CodecFixed, S: Seal> Journal<A, S> {
             manager,
             unrecovered,
             floors,
+            spelling: Vec::new(alloc),
             item: PhantomData,
         })
     }

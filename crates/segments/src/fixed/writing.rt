@@ -24,12 +24,13 @@ use sealed_pages::PageBlob;
 use std::alloc::Global;
 use value_codec::{CodecFixed, Seal};
 
-// The bytes of an item.
-fn spelled<A: CodecFixed>(alloc: Global, item: &A) -> Result<Vec<u8>, Error>
+// The bytes of an item, in the memory of other bytes.
+fn spelled<A: CodecFixed>(other: Vec<u8>, item: &A) -> Result<Vec<u8>, Error>
     ensures bytes { IfOk result (λ r. r.items ≡ A.spelling item.now) }
     ensures cause { OnErr result (IsErrOf result Error.Mem) }
 {
-    let mut bytes = Vec::new(alloc);
+    let mut bytes = other;
+    bytes.clear();
     item.write(&mut bytes)?;
     Ok(bytes)
 }
@@ -115,14 +116,15 @@ impl<A: CodecFixed, S: Seal> Journal<A, S> {
         ensures cause { OnErr result (IsPruned result (shown self).sections.floor ⊎ (IsErrOf result Error.Full ⊎ (HasNoRoom result ⊎ HasFailed result (D.faults dev.old) (D.faults dev.new)))) }
     {
         self.manager.prune_guard(section)?;
-        let bytes = spelled(self.alloc, item)?;
         let mut this = self;
+        let bytes = spelled(this.spelling, item)?;
         // Behind the spelling: where there is no memory for that, no section is made.
         let buffer = this.manager.take(dev, section)?;
         let (buffer, offset) = buffer
             .append(dev, bytes.as_slice())
             .map_err(full_or_raised)?;
         this.manager.put(section, buffer)?;
+        this.spelling = bytes;
         Ok((this, offset / A::SIZE as u64))
     }
 
