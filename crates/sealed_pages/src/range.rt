@@ -21,6 +21,9 @@ use blob_device::{DevError, Device, RError};
 use std::alloc::Global;
 use value_codec::Seal;
 
+// A page of at most so many bytes, slots and all, is read without memory for it: 1,024 bytes of data.
+const STACK_PAGE: usize = 1036;
+
 /// Whether so many bytes from `offset` on stand within the first `size` bytes.
 pub fn check_range(offset: u64, len: usize, size: u64) -> Result<(), RError>
     ensures fits { OnOk result (offset + len ≤ size) }
@@ -143,6 +146,11 @@ pub fn read_pages<D: Device, S: Seal>(
         return Ok(());
     }
     let unit = usize::from(page_size) + 12;
+    if unit <= STACK_PAGE {
+        let mut room = [0; STACK_PAGE];
+        let buf = &mut room[..unit];
+        return read_each::<D, S>(dev, partition, name, page_size, end, held, offset, out, buf);
+    }
     let mut page_buf = vec![in alloc; 0; unit]?;
     let buf = page_buf.as_mut_slice();
     read_each::<D, S>(dev, partition, name, page_size, end, held, offset, out, buf)
