@@ -36,6 +36,7 @@ same_then old mid new first second = record {
   layout = record {
     index = second.layout.index ∙ first.layout.index;
     values = second.layout.values ∙ first.layout.values;
+    marked = second.layout.marked ∙ first.layout.marked;
     metadata = second.layout.metadata ∙ first.layout.metadata;
     page_size = second.layout.page_size ∙ first.layout.page_size;
   };
