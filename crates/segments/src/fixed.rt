@@ -110,6 +110,8 @@ pub struct Journal<A: CodecFixed, S: Seal> {
     unrecovered: BTreeSet<u64>,
     /// How many bytes of a section a marker vouches for; 0 where it is not in the map (`floor_of`).
     floors: BTreeMap<u64, u64>,
+    /// The bytes of the item that was added last. Its memory is used again for the next one.
+    spelling: Vec<u8>,
     /// The kind of item; no data.
     item: PhantomData<A>,
     // An item has a byte, so that positions can be found by division.

@@ -113,6 +113,7 @@ impl<A: CodecFixed, S: Seal> Journal<A, S> {
             manager,
             unrecovered,
             floors,
+            spelling: Vec::new(alloc),
             item: PhantomData,
         })
     }

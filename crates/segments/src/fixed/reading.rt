@@ -20,8 +20,12 @@ use crate::journal::Error;
 use crate::{AppendFactory, BufferFactory, Items, SectionBuffer};
 use blob_device::Device;
 use sealed_pages::PageBlob;
+use smallvec::SmallVec;
 use std::alloc::Global;
 use value_codec::{CodecFixed, Seal, codec};
+
+// An item of at most so many bytes is read without memory for them.
+const STACK_ITEM: usize = 64;
 
 impl<A: CodecFixed, S: Seal> Journal<A, S> {
     ghost use Rattle.sealed_pages.specs.Buffer as pages;
@@ -144,7 +148,7 @@ impl<A: CodecFixed, S: Seal> Journal<A, S> {
         ensures faults { D.faults dev.old ≤ D.faults dev.new }
         ensures cause { OnErr result (HasNotRead result (D.faults dev.old) (D.faults dev.new)) }
     {
-        let mut bytes = vec![in alloc; 0; A::SIZE]?;
+        let mut bytes: SmallVec<u8, STACK_ITEM> = SmallVec::from_elem(alloc, 0, A::SIZE)?;
         let (item, _) = Self::read_into(alloc, dev, buffer, position, bytes.as_mut_slice())?;
         Ok(item)
     }

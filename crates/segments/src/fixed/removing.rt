@@ -61,6 +61,7 @@ impl<A: CodecFixed, S: Seal> Journal<A, S> {
             manager,
             mut unrecovered,
             mut floors,
+            spelling,
             item,
         } = self;
         // The blobs first; then no note is kept of a section that is gone.
@@ -72,6 +73,7 @@ impl<A: CodecFixed, S: Seal> Journal<A, S> {
             manager,
             unrecovered,
             floors,
+            spelling,
             item,
         };
         Ok((this, was))

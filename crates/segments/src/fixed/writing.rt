@@ -20,12 +20,13 @@ use sealed_pages::PageBlob;
 use std::alloc::Global;
 use value_codec::{CodecFixed, Seal};
 
-// The bytes of an item.
-fn spelled<A: CodecFixed>(alloc: Global, item: &A) -> Result<Vec<u8>, Error>
+// The bytes of an item, in the memory of other bytes.
+fn spelled<A: CodecFixed>(other: Vec<u8>, item: &A) -> Result<Vec<u8>, Error>
     ensures bytes { IfOk result (λ r. r.items ≡ A.spelling item.now) }
     ensures cause { OnErr result (IsErrOf result Error.Mem) }
 {
-    let mut bytes = Vec::new(alloc);
+    let mut bytes = other;
+    bytes.clear();
     item.write(&mut bytes)?;
     Ok(bytes)
 }
@@ -79,9 +80,14 @@ impl<A: CodecFixed, S: Seal> Journal<A, S> {
             D.Device result (λ r. (shown r.0, r.1)) dev.old dev.new }
     {
         self.manager.prune_guard(section)?;
+        let mut this = self;
         // Spelled before the section is taken: where there is no memory for that, none is made.
-        let bytes = spelled(self.alloc, item)?;
-        self.append_bytes(dev, section, bytes.as_slice())
+        let bytes = spelled(this.spelling, item)?;
+        this.spelling = Vec::new(this.alloc);
+        let (mut this, position) = this.append_bytes(dev, section, bytes.as_slice())?;
+        // The next item is spelled in the memory of this one.
+        this.spelling = bytes;
+        Ok((this, position))
     }
 
     /// Adds bytes at the end of the section, a whole number of items, by one append of its buffer. The section is made where it is

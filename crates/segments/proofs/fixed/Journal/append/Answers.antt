@@ -5,7 +5,7 @@ use Rattle.blob_device.proofs.Results.{err_of}
 use Rattle.segments.specs.FixedShown.{shown}
 use Rattle.segments.specs.declared.journal.Error.TheVariants.{Mem}
 use Rattle.segments.proofs.FixedAdding.{along_nothing, error_is, failed, item_appended, item_overfills, mem_not_full, mem_not_pruned, mem_not_room, pruned_not_full, pruned_not_room}
-use Rattle.segments.proofs.FixedPassing.{guard_on, no_error}
+use Rattle.segments.proofs.FixedPassing.{guard_ok, guard_on, no_error}
 use Rattle.segments.proofs.FixedWriteLemmas.{are_pages}
 use Rattle.segments.proofs.fixed.Journal.append.Goals as goal
 
@@ -32,8 +32,47 @@ returns-in_err-bytes g c =
     (λ pruned. absurd (mem_not_pruned e mem _ pruned), λ lt. absurd (no_error _ _ (c.in_ok-prune_guard.ensures.guard.1 lt))) (λ lt. refl)
     (λ is which. absurd (mem_not_full e mem is)) (λ le u held big. inr (ap Err mem)) (λ t is. mem_not_room e mem is) (inr (inr (inr (inl (ap Err mem))))))
 
-pub returns : goal.returns
-returns g c = item_appended g.S.Seal.seal_of g.A.CodecFixed.SIZE _ _ g.D.Device (shown c.args.self) c.args.section c.args.dev.now c.append_bytes.new.dev c.append_bytes.result _ c.as_slice.result.now (g.A.Codec.spelling c.args.item.now) g.A.CodecFixed.SIZE
+pub returns-in_err-this : goal.returns-in_err-this
+returns-in_err-this g c =
+    let e = c.in_err-this.field-0.0 in
+    rw (err_of c.from_residual-in_err-this.result e c.from_residual-in_err-this.ensures.1)
+    (item_appended g.S.Seal.seal_of g.A.CodecFixed.SIZE _ _ g.D.Device (shown c.args.self) c.args.section c.args.dev.now c.append_bytes.new.dev (Err e) _ c.as_slice.result.now (g.A.Codec.spelling c.args.item.now) g.A.CodecFixed.SIZE
     (c.as_slice.ensures.value ∙ c.in_ok-bytes.ensures.bytes) (g.met.A.CodecFixed.fixed.sized c.args.item.now c.requires.accepted)
     (item_overfills (shown c.args.self) c.args.section g.A.CodecFixed.SIZE c.args.self.manager.factory.valid c.args.self.manager.factory.small g.met.A.CodecFixed.fixed.at_most (λ u held i. (c.requires.over.over.opened_list.setting c.args.section u held i).page_size))
-    c.append_bytes.ensures
+    c.in_err-this.ensures)
+
+pub returns : goal.returns
+returns g c =
+    let did = item_appended g.S.Seal.seal_of g.A.CodecFixed.SIZE _ _ g.D.Device (shown c.args.self) c.args.section c.args.dev.now c.append_bytes.new.dev _ _ c.as_slice.result.now (g.A.Codec.spelling c.args.item.now) g.A.CodecFixed.SIZE
+        (c.as_slice.ensures.value ∙ c.in_ok-bytes.ensures.bytes) (g.met.A.CodecFixed.fixed.sized c.args.item.now c.requires.accepted)
+        (item_overfills (shown c.args.self) c.args.section g.A.CodecFixed.SIZE c.args.self.manager.factory.valid c.args.self.manager.factory.small g.met.A.CodecFixed.fixed.at_most (λ u held i. (c.requires.over.over.opened_list.setting c.args.section u held i).page_size))
+        c.in_ok-this.ensures in
+    record {
+      over = did.over;
+      position = did.position;
+      size = did.size;
+      bytes = did.bytes;
+      tail = did.tail;
+      held = did.held;
+      settled = did.settled;
+      others = did.others;
+      spares = did.spares;
+      bounds = did.bounds;
+      unrecovered = did.unrecovered;
+      floors = did.floors;
+      alone = did.alone;
+      moments = did.moments;
+      sealed = did.sealed;
+      steady = did.steady;
+      made = did.made;
+      below = did.below;
+      entries = did.entries;
+      guard = guard_ok _ _ _ _ did.guard;
+      refuses = did.refuses;
+      full = λ is which. absurd (no_error _ _ is);
+      full_first = λ le u held big. absurd (elim (did.full_first le u held big) [ | inl is ↦ no_error _ _ is | inr is ↦ no_error _ _ is ]);
+      no_room = λ t is. no_error _ _ is;
+      room = did.room;
+      faults = did.faults;
+      cause = did.cause;
+    }
