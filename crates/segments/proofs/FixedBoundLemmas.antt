@@ -1,11 +1,11 @@
 -- How far a section of a fixed journal is sealed, up to a byte, and where it is cut that is to have no more.
-use Rattle.std.specs.Prelude.{MatchOption}
+use Rattle.std.specs.Prelude.{IfOk, MatchOption}
 use Rattle.std.specs.Result.{IsErrOf}
 use Rattle.std.proofs.Common.{◌≡◌, ◌⊎◌, ◌↔◌, inl, inr, ℕ, ◌+◌, ◌*◌, ◌/◌, ◌%◌, ◌<◌, ◌≤◌, min, List, length, Option, None, Some, Result, Ok, Err, refl, sym, ◌∙◌, ap, subst, arith}
 use Rattle.std.proofs.Math.Nat.{div-mul-le_self}
 use Rattle.std.proofs.lemmas.Nat.{mod-mul-add}
 use Rattle.blob_device.specs.Counts.{Rose}
-use Rattle.blob_device.specs.Disk.{Key}
+use Rattle.blob_device.specs.Disk.{Key, Disk}
 use Rattle.blob_device.specs.Timeline.{disk}
 use Rattle.blob_device.specs.declared.device.Device as device
 use Rattle.blob_device.specs.declared.runtime.RError.{RError}
@@ -17,14 +17,17 @@ use Rattle.sealed_pages.specs.SealedPrefix.{sealed_prefix}
 use Rattle.sealed_pages.specs.Shown.{shown}
 use Rattle.sealed_pages.specs.declared.page_blob.PageBlob.{PageBlob}
 use Rattle.sealed_pages.proofs.EntryLemmas.{only_read_start}
-use Rattle.sealed_pages.proofs.Looking.{unchanged_start}
-use Rattle.segments.specs.FixedBounds.{whole_of, sealed_size, Recovers, FindsEnd}
-use Rattle.segments.specs.FixedLists.{size_held}
+use Rattle.sealed_pages.proofs.Looking.{unchanged_now, unchanged_start}
+use Rattle.segments.specs.FixedBounds.{whole_of, sealed_size, Measures, Recovers, FindsEnd}
+use Rattle.segments.specs.FixedLists.{Lists, size_held}
 use Rattle.segments.specs.Raised.{raised}
 use Rattle.segments.specs.Refusing.{IsPruned, HasFailed}
 use Rattle.segments.specs.Sections.{Sections, key_of}
+use Rattle.segments.specs.Setting.{Setting}
+use Rattle.segments.specs.declared.buffer.SectionBuffer as buffer
 use Rattle.segments.specs.declared.journal.Error.{Error}
 use Rattle.segments.proofs.FixedPassing.{no_error, guard_on}
+use Rattle.segments.proofs.FixedSections.{journal_read}
 
 -- whole items leave no rest
 pub whole_whole : (size n : ℕ) → 1 ≤ size → whole_of size n % size ≡ 0
@@ -49,8 +52,8 @@ failed_unpruned r floor few many (inr fault) pruned = (let h = fault.0 in cc (h,
 
 module _ {F S D : Type 0} {gs : _} (seal : List ℕ → ℕ) (size : ℕ) (dev : device.Ghosts D) (m : Sections F (PageBlob S gs)) (section end : ℕ) where
   -- of a section that is not held
-  pub recovers_none : (n : ℕ) (old : D) → 1 ≤ size → (section < m.floor → ⊥) → m.held section ≡ None → n ≡ whole_of size end → Recovers seal size dev m section end (Ok n) old old
-  recovers_none n old pos kept none is = record {
+  pub measures_none : (n : ℕ) (old : D) → 1 ≤ size → (section < m.floor → ⊥) → m.held section ≡ None → n ≡ whole_of size end → Measures seal size dev m section end (Ok n) old old
+  measures_none n old pos kept none is = record {
     answer = λ t. is ∙ sym (ap (λ (o : Option (PageBlob S gs)). sealed_size seal size o (disk (dev.time old) (key_of m section)).content end) none);
     within = omega (arith, is, div-mul-le_self end size);
     whole = ap (λ (k : ℕ). k % size) is ∙ whole_whole size end pos;
@@ -68,10 +71,10 @@ module _ {F S D : Type 0} {gs : _} (seal : List ℕ → ℕ) (size : ℕ) (dev :
     entries_own : OnlyRead (key_of m section) (dev.opened old) (dev.opened new)
     entries_own = subst (λ (k : Key). OnlyRead k (dev.opened old) (dev.opened new)) key entries
 
-    pub recovers_some : (n bytes : ℕ) → 1 ≤ size → n ≡ whole_of size bytes → bytes ≤ end
+    pub measures_some : (n bytes : ℕ) → 1 ≤ size → n ≡ whole_of size bytes → bytes ≤ end
         → (dev.Tells → bytes ≡ min end (length (sealed_prefix seal u.page_size (disk (dev.time old) (pages.key_of (shown u))).content)))
-        → Recovers seal size dev m section end (Ok n) old new
-    recovers_some n bytes pos is within prefix = record {
+        → Measures seal size dev m section end (Ok n) old new
+    measures_some n bytes pos is within prefix = record {
       answer = λ t. is ∙ ap (λ (k : ℕ). whole_of size k) (prefix t)
           ∙ ap (λ (k : Key). whole_of size (min end (length (sealed_prefix seal u.page_size (disk (dev.time old) k).content)))) key
           ∙ sym (ap (λ (o : Option (PageBlob S gs)). sealed_size seal size o (disk (dev.time old) (key_of m section)).content end) held);
@@ -86,11 +89,11 @@ module _ {F S D : Type 0} {gs : _} (seal : List ℕ → ℕ) (size : ℕ) (dev :
       cause = tt;
     }
 
-    pub recovers_err : {U : Type 0} (r : Result ℕ Error) (e : RError) → r ≡ Err (raised e)
-        → IsErrOf {T = U} (Err e) runtime.Mem ⊎ (IsErrOf {T = U} (Err e) runtime.Fault × Rose (dev.faults old) (dev.faults new)) → Recovers seal size dev m section end r old new
-    recovers_err {U = U} r e is cause =
+    pub measures_err : {U : Type 0} (r : Result ℕ Error) (e : RError) → r ≡ Err (raised e)
+        → IsErrOf {T = U} (Err e) runtime.Mem ⊎ (IsErrOf {T = U} (Err e) runtime.Fault × Rose (dev.faults old) (dev.faults new)) → Measures seal size dev m section end r old new
+    measures_err {U = U} r e is cause =
         let failed = raised_failed {U = U} (Err (raised e)) e (dev.faults old) (dev.faults new) refl cause in
-        subst (λ (x : Result ℕ Error). Recovers seal size dev m section end x old new) (sym is) (record {
+        subst (λ (x : Result ℕ Error). Measures seal size dev m section end x old new) (sym is) (record {
           answer = λ t. tt;
           within = tt;
           whole = tt;
@@ -102,6 +105,22 @@ module _ {F S D : Type 0} {gs : _} (seal : List ℕ → ℕ) (size : ℕ) (dev :
           faults = faults;
           cause = inr failed;
         })
+
+  -- of a section below the floor
+  pub measures_pruned : {U : Type 0} (r : Result ℕ Error) (e : Error) (old : D) → r ≡ Err e → IsPruned {T = U} (Err e) m.floor ↔ (section < m.floor) → IsPruned {T = U} (Err e) m.floor
+      → Measures seal size dev m section end r old old
+  measures_pruned {U = U} r e old is guard pruned = subst (λ (x : Result ℕ Error). Measures seal size dev m section end x old old) (sym is) (record {
+    answer = λ t. tt;
+    within = tt;
+    whole = tt;
+    unchanged = λ t. unchanged_start (dev.time old);
+    entries = only_read_start (key_of m section) (dev.opened old);
+    absent = λ none. refl;
+    guard = guard_on {U = U} (Err e) e m.floor (section < m.floor) refl guard;
+    refuses = λ lt. refl;
+    faults = omega arith;
+    cause = inl (cc pruned);
+  })
 
   -- a section that is not longer is not read
   pub finds_short : (n : ℕ) (old : D) → (section < m.floor → ⊥) → end % size ≡ 0 → MatchOption (m.held section) (n ≡ 0) (λ u. n ≡ size_of (shown u)) → n ≤ end → FindsEnd seal size dev m section end (Ok end) old old
@@ -119,7 +138,7 @@ module _ {F S D : Type 0} {gs : _} (seal : List ℕ → ℕ) (size : ℕ) (dev :
   }
 
   -- a longer one is read as far as it is sealed
-  pub finds_long : (n : ℕ) (r : Result ℕ Error) (old new : D) → MatchOption (m.held section) (n ≡ 0) (λ u. n ≡ size_of (shown u)) → end < n → Recovers seal size dev m section end r old new → FindsEnd seal size dev m section end r old new
+  pub finds_long : (n : ℕ) (r : Result ℕ Error) (old new : D) → MatchOption (m.held section) (n ≡ 0) (λ u. n ≡ size_of (shown u)) → end < n → Measures seal size dev m section end r old new → FindsEnd seal size dev m section end r old new
   finds_long n r old new is more has = record {
     short = λ small. absurd (omega (arith, small, more, size_is (m.held section) n is));
     idle = λ small. absurd (omega (arith, small, more, size_is (m.held section) n is));
@@ -148,3 +167,22 @@ module _ {F S D : Type 0} {gs : _} (seal : List ℕ → ℕ) (size : ℕ) (dev :
     faults = omega arith;
     cause = inl (cc pruned);
   })
+
+-- what was learned of a journal holds of it still
+module _ {F S D : Type 0} {gs : _} (g : buffer.Ghosts (PageBlob S gs)) (gives : F → Setting) (seal : List ℕ → ℕ) (size : ℕ) (dev : device.Ghosts D) (j : Lists F (PageBlob S gs)) (section end : ℕ) (old new : D) where
+  safe_of : (r : Result ℕ Error) → Measures seal size dev j.sections section end r old new → dev.Tells
+      → IfOk r (λ n. (u : PageBlob S gs) → j.sections.held section ≡ Some u → n ≤ length (sealed_prefix seal u.page_size (disk (dev.time new) (key_of j.sections section)).content))
+  safe_of (Err e) learned t = tt
+  safe_of (Ok n) learned t = λ u held. (
+      let c = (disk (dev.time old) (key_of j.sections section)).content in
+      let at : n ≡ whole_of size (min end (length (sealed_prefix seal u.page_size c))) = learned.answer t ∙ ap (λ (o : Option (PageBlob S gs)). sealed_size seal size o c end) held in
+      let same = ap (λ (d : Disk). length (sealed_prefix seal u.page_size (d (key_of j.sections section)).content)) (unchanged_now (dev.time old) (dev.time new) (learned.unchanged t)) in
+      omega (arith, at, div-mul-le_self (min end (length (sealed_prefix seal u.page_size c))) size, same))
+
+  pub recovers_of : (r : Result ℕ Error) → Measures seal size dev j.sections section end r old new → Recovers g gives seal size dev j section end r old new
+  recovers_of r learned = record {
+    learned = learned;
+    safe = safe_of r learned;
+    over = journal_read g gives seal size dev.Tells j (key_of j.sections section) (dev.opened old) (dev.opened new) (disk (dev.time old)) (disk (dev.time new))
+        learned.entries (λ t. unchanged_now (dev.time old) (dev.time new) (learned.unchanged t));
+  }

@@ -48,7 +48,7 @@ module _ {S : Type 0} {gs : _} (seal : List ℕ → ℕ) (size : ℕ) where
   module _ {F D : Type 0} (dev : device.Ghosts D) (m : Sections F (PageBlob S gs))
       (section end : ℕ) where
     -- It was learned how far a section is sealed, up to `end`. Nothing was written.
-    pub record Recovers (result : Result ℕ Error) (old new : D) : Type 0 where
+    pub record Measures (result : Result ℕ Error) (old new : D) : Type 0 where
       -- the answer is the bytes of whole items in the section's sealed prefix that end at or before
       -- `end`
       pub answer : dev.Tells → IfOk result (λ n.
@@ -99,6 +99,21 @@ module _ {S : Type 0} {gs : _} (seal : List ℕ → ℕ) (size : ℕ) where
       -- floor
       pub cause : OnErr result (IsPruned result m.floor
           ⊎ HasFailed result (dev.faults old) (dev.faults new))
+
+module _ {F S D : Type 0} {gs : _} (g : buffer.Ghosts (PageBlob S gs)) (gives : F → Setting)
+    (seal : List ℕ → ℕ) (size : ℕ) (dev : device.Ghosts D) (j : Lists F (PageBlob S gs))
+    (section end : ℕ) where
+  -- A journal was asked how far a section is sealed.
+  pub record Recovers (result : Result ℕ Error) (old new : D) : Type 0 where
+    -- this was learned
+    pub learned : Measures seal size dev j.sections section end result old new
+    -- so many bytes are sealed still, so the section may be cut there
+    pub safe : dev.Tells → IfOk result (λ n. (u : PageBlob S gs) → j.sections.held section ≡ Some u
+        → n ≤ length (sealed_prefix seal u.page_size
+        (disk (dev.time new) (key_of j.sections section)).content))
+    -- and the journal may be used as before
+    pub over : IsJournal g gives seal size dev.Tells j (dev.opened old) (disk (dev.time old))
+        → IsJournal g gives seal size dev.Tells j (dev.opened new) (disk (dev.time new))
 
 -- ---- the cut of all that stands behind a byte of a section
 

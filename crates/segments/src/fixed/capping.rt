@@ -62,7 +62,8 @@ impl<A: CodecFixed, S: Seal> Journal<A, S> {
         buffer: usize,
     ) -> Result<u64, Error>
         requires over { IsOver ⟦<PageBlob<S> as SectionBuffer>⟧ ⟦<AppendFactory<S> as BufferFactory>⟧.gives D.Tells (shown self.now).sections (D.opened dev.old) (disk (D.time dev.old)) }
-        ensures { Recovers S.seal_of A.SIZE D.Device (shown self.now).sections section end result dev.old dev.new }
+        ensures { Recovers ⟦<PageBlob<S> as SectionBuffer>⟧ ⟦<AppendFactory<S> as BufferFactory>⟧.gives S.seal_of A.SIZE D.Device
+            (shown self.now) section end result dev.old dev.new }
     {
         let Some(held) = self.manager.get(section)? else {
             return Ok(whole_bytes::<A>(end));

@@ -14,4 +14,4 @@ returns-then-branch-end g c = finds_short g.S.Seal.seal_of g.A.CodecFixed.SIZE g
 
 pub returns : goal.returns
 returns g c = finds_long g.S.Seal.seal_of g.A.CodecFixed.SIZE g.D.Device (shown c.args.self.now.manager) c.args.section c.args.end c.in_ok-size.field-0 c.recoverable_prefix_len_at_most.result c.args.dev.now c.recoverable_prefix_len_at_most.new.dev
-    c.in_ok-size.ensures.size c.if-branch-end.false c.recoverable_prefix_len_at_most.ensures
+    c.in_ok-size.ensures.size c.if-branch-end.false c.recoverable_prefix_len_at_most.ensures.learned
