@@ -1,5 +1,5 @@
 -- Where a replay of a fixed journal comes to the end of a section: behind the last whole item of its sealed prefix.
-use Rattle.std.specs.Prelude.{◌≡◌, ◌⊎◌, ℕ, ◌+◌, ◌*◌, ◌%◌, ◌<◌, ◌≤◌, Bool, true, false, List, length, IsTrue, Some}
+use Rattle.std.specs.Prelude.{◌≡◌, ◌⊎◌, ℕ, ◌+◌, ◌*◌, ◌%◌, ◌<◌, ◌≤◌, Bool, true, false, List, length, IsTrue, None, Some}
 use Rattle.std.proofs.Common.{inl, inr, refl, sym, ◌∙◌, ap, subst, arith}
 use Rattle.std.proofs.lemmas.Bool.{cases_lt}
 use Rattle.std.proofs.lemmas.Nat.{mod-mul-add}
@@ -16,9 +16,10 @@ use Rattle.segments.specs.declared.buffer.SectionBuffer as buffer
 use Rattle.segments.specs.Setting.{Setting}
 use Rattle.segments.specs.Sections.{key_of}
 use Rattle.segments.specs.FixedLists.{IsProven}
-use Rattle.segments.specs.FixedReplay.{Place, Walk, IsReadWhole, IsWalk, FindsDamage, kept_bytes}
+use Rattle.segments.specs.FixedReplay.{Place, Walk, IsReadWhole, IsWalk, EndsDamaged, kept_bytes}
 use Rattle.segments.specs.FixedStepping.{standing, EndsAt}
 use Rattle.segments.proofs.FixedKept.{last_place, next_within, short_length, sealed_flushed, sealed_by_length, covered_length}
+use Rattle.segments.proofs.FixedStopping.{ended_here}
 use Rattle.segments.proofs.FixedReading.{some_and, here, reads_here, kept_owed, kept_free}
 
 module _ {F S : Type 0} {gs : _} (seal : List ℕ → ℕ) (size : ℕ) (g : buffer.Ghosts (PageBlob S gs)) (gives : F → Setting) {told : Type 0} (w : Walk F (PageBlob S gs)) (r : Place) (opened : OpenedList) (d : Disk)
@@ -85,19 +86,22 @@ module _ {F S : Type 0} {gs : _} (seal : List ℕ → ℕ) (size : ℕ) (g : buf
       ]
 
   -- It is one of the item at hand.
-  pub short_found : (m n k : ℕ) → r.reader.at ≤ m → m + n ≤ r.reader.at + size → m + n ≤ r.reader.size → told → w.journal.unrecovered r.section ≡ false → 0 < w.journal.floor_of r.section → IsShort seal u.page_size blob.content m n k → FindsDamage seal size (standing w r) w d k
-  short_found m n k low near fits t free floor short = (let h = here seal size g gives w r opened d was in record {
-    section = r.section;
-    position = r.position;
-    near = inr refl;
-    free = free;
-    floor = floor;
-    within = some_and (λ (v : PageBlob S gs). (r.position + 1) * size ≤ size_of (shown v)) (w.journal.sections.held r.section) u h.1
-        (next_within size (size_of (shown u)) r.position pos ((was.disk t).sealed.whole r.section u h.1 free) (omega (arith, short.wanted.some, low, fits, h.2.at, h.2.blob_size)));
-    page = some_and (λ (v : PageBlob S gs). IsShort seal v.page_size blob.content (r.position * size) size k) (w.journal.sections.held r.section) u h.1 (record {
-      wanted = record { some = omega (arith, pos); low = omega (arith, short.wanted.low, low, h.2.at); high = omega (arith, short.wanted.high, near, h.2.at) };
-      short = omega (arith, short.short, near, h.2.at);
-    });
+  pub short_found : w.place ≡ None → (m n k : ℕ) → r.reader.at ≤ m → m + n ≤ r.reader.at + size → m + n ≤ r.reader.size → told → w.journal.unrecovered r.section ≡ false → 0 < w.journal.floor_of r.section → IsShort seal u.page_size blob.content m n k → EndsDamaged seal size (standing w r) w d d k
+  short_found none m n k low near fits t free floor short = (let h = here seal size g gives w r opened d was in record {
+    ends = ended_here seal size w r d none (was.walk.come_to r refl).1;
+    damage = record {
+      section = r.section;
+      position = r.position;
+      near = inr refl;
+      free = free;
+      floor = floor;
+      within = some_and (λ (v : PageBlob S gs). (r.position + 1) * size ≤ size_of (shown v)) (w.journal.sections.held r.section) u h.1
+          (next_within size (size_of (shown u)) r.position pos ((was.disk t).sealed.whole r.section u h.1 free) (omega (arith, short.wanted.some, low, fits, h.2.at, h.2.blob_size)));
+      page = some_and (λ (v : PageBlob S gs). IsShort seal v.page_size blob.content (r.position * size) size k) (w.journal.sections.held r.section) u h.1 (record {
+        wanted = record { some = omega (arith, pos); low = omega (arith, short.wanted.low, low, h.2.at); high = omega (arith, short.wanted.high, near, h.2.at) };
+        short = omega (arith, short.short, near, h.2.at);
+      });
+    };
   })
 
   -- A page is not covered as far as the next item goes.

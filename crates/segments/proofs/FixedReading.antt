@@ -37,7 +37,7 @@ use Rattle.segments.specs.FixedItems.{item_at, IsItem}
 use Rattle.segments.specs.Refusing.{HasFailed}
 use Rattle.segments.specs.FixedReading.{HasNotRead, IsBelowFloor}
 use Rattle.segments.specs.FixedLists.{section_size}
-use Rattle.segments.specs.FixedReplay.{Place, Walk, IsAhead, IsIn, IsReadWhole, IsLeft, SameWalk, IsWalk, WalksOver, StandsBefore, KeepsItems, IsFromCovered, Gives, Refuses, Stops, Replaying, LeavesNoMore, EndsBelow, FindsDamage, StandsIn, ReadsIn, kept_of, kept_bytes, first_of}
+use Rattle.segments.specs.FixedReplay.{Place, Walk, IsAhead, IsIn, IsReadWhole, IsLeft, SameWalk, IsWalk, WalksOver, StandsBefore, KeepsItems, IsFromCovered, Gives, Refuses, IsEndedAt, Stops, Replaying, LeavesNoMore, EndsBelow, EndsDamaged, StandsIn, ReadsIn, kept_of, kept_bytes, first_of}
 use Rattle.segments.specs.FixedStepping.{standing, after_item, bytes_ahead, way_of, reads_left, ReadsOnce, GoesOn, Carries, EndsAt, Steps}
 use Rattle.segments.proofs.sections.KeyLemmas.{keys_differ}
 use Rattle.segments.proofs.FixedCounts.{count_here, count_apart, count_same}
@@ -46,6 +46,7 @@ use Rattle.segments.proofs.FixedEnding.{ahead_from}
 use Rattle.segments.proofs.FixedOwed.{same_items, same_or_cut}
 use Rattle.segments.proofs.FixedWalks.{IsBehind, IsReached, is_some, same_some, same_bytes, none_in, left_later}
 use Rattle.segments.proofs.FixedWalksOn.{replaying_start}
+use Rattle.segments.proofs.FixedStopping.{ended_back, ended_here}
 use Rattle.segments.proofs.FixedSteps.{Called, Answered, call_stopped, call_failed, call_ended, call_refused}
 
 -- the value that has P
@@ -268,11 +269,14 @@ module _ {F S : Type 0} {gs : _} (seal : List ℕ → ℕ) (size : ℕ) (g : buf
         rest = λ x y. (λ l. (let was = (has.rest x y).0 l in ((left_read (disk a) x y).0 was.0, was.1)), λ l. (has.rest x y).1 ((left_read (disk a) x y).1 l.0, l.1));
       });
       stops = λ t. stops_read t result (step.stops t);
-      start = λ t p is. (let has = step.start t p is in (has.0, subst (λ (d : Disk). length (kept_bytes seal size (standing w on) d w.start_section) < p * size) (same_disk t) has.1, has.2));
+      start = λ t p is. (let has = step.start t p is in (has.0, subst (λ (d : Disk). length (kept_bytes seal size (standing w on) d w.start_section) < p * size) (same_disk t) has.1, has.2, ended_read t w.start_section has.3));
       damage = λ t x is. (let has = step.damage t x is in
           let below = subst (λ (d : Disk). EndsBelow seal size (standing w on) d x) (same_disk t) has.0 in
-          (record { owes = below.owes; held = below.held; kept = below.kept; wanted = below.wanted; less = below.less }, has.1));
-      damaged = λ t k is. (let has = step.damaged t k is in record { section = has.section; position = has.position; near = has.near; free = has.free; floor = has.floor; within = has.within; page = has.page });
+          (record { owes = below.owes; held = below.held; kept = below.kept; wanted = below.wanted; less = below.less }, has.1, ended_read t x.section has.2));
+      damaged = λ t k is. (let has = (step.damaged t k is).damage in record {
+        damage = record { section = has.section; position = has.position; near = has.near; free = has.free; floor = has.floor; within = has.within; page = has.page };
+        ends = ended_read t has.section (step.damaged t k is).ends;
+      });
       refused = λ t e is. (let has = subst (λ (d : Disk). Refuses seal size refusal (standing w on) new d (disk c) e) (same_disk t) (step.refused t e is) in record {
         section = has.section;
         position = has.position;
@@ -312,18 +316,17 @@ module _ {F S : Type 0} {gs : _} (seal : List ℕ → ℕ) (size : ℕ) (g : buf
         later_read t (Ok y) has = λ q x is. replaying_read (disk a) q x (subst (λ (d : Disk). Replaying seal size (standing w on) d q x) (same_disk t) (has q x is))
         later_read t (Err y) has = tt
 
+        ended_read : told → (s : ℕ) → IsEndedAt seal size (standing w on) new (disk b) (disk c) s → IsEndedAt seal size (standing w r) new (disk a) (disk c) s
+        ended_read t s has = ended_back seal size (standing w r) (standing w on) new (disk a) (disk a) (disk c) s (left_read (disk a))
+            (subst (λ (d : Disk). IsEndedAt seal size (standing w on) new d (disk c) s) (same_disk t) has)
+
         stops_read : told → (x : Result (Option (ℕ × ℕ × V)) Error) → OnErr x (Stops seal size (standing w on) new (disk b) (disk c)) → OnErr x (Stops seal size (standing w r) new (disk a) (disk c))
         stops_read t (Ok y) has = has
         stops_read t (Err y) has =
-            let stops = subst (λ (d : Disk). Stops seal size (standing w on) new d (disk c)) (same_disk t) has in
             record {
-              rest = elim stops.rest [
+              rest = elim has.rest [
                 | inl end ↦ inl end
-                | inr some ↦ inr (
-                  some.0,
-                  λ x y l lt. some.1 x y ((left_read (disk a) x y).1 l) lt,
-                  λ x y. (λ l. (let was = (some.2 x y).0 l in ((left_read (disk a) x y).0 was.0, was.1)), λ l. (some.2 x y).1 ((left_read (disk a) x y).1 l.0, l.1)),
-                )
+                | inr some ↦ inr (some.0, ended_read t some.0 some.1)
               ];
             }
 
@@ -395,7 +398,7 @@ module _ {F S : Type 0} {gs : _} (seal : List ℕ → ℕ) (size : ℕ) (g : buf
       nearer_none = omega (arith, ap bytes_ahead none)
 
       -- The section's reading failed.
-      pub read_failed : (x : Error) → ((p : ℕ) → x ≡ ItemOutOfRange p → ⊥) → (told → (k : ℕ) → x ≡ Runtime (InvalidChecksum k) → FindsDamage seal size (standing w r) w (disk now) k)
+      pub read_failed : (x : Error) → ((p : ℕ) → x ≡ ItemOutOfRange p → ⊥) → (told → (k : ℕ) → x ≡ Runtime (InvalidChecksum k) → EndsDamaged seal size (standing w r) w (disk now) (disk now) k)
           → (told → (e : codec.Error) → x ≡ Codec e → Refuses seal size refusal (standing w r) w (disk now) (disk now) e) → HasNotRead {T = Option (ℕ × ℕ × V)} (Err x) few many
           → Steps seal size g gives spelling accepted refusal told (Err x) (standing w r) w opened opened now now few many
       read_failed x other found refuses cause = call_failed seal size g gives spelling accepted refusal told r.section (standing w r) w opened opened now now few many no_call nearer_none x (inr (refl, refl)) (λ going owed. refl) none (λ t h. h) (inr refl) other found refuses cause
@@ -403,7 +406,8 @@ module _ {F S : Type 0} {gs : _} (seal : List ℕ → ℕ) (size : ℕ) (g : buf
       -- Its whole items end below its floor.
       pub floor_refused : (x : Damage) → (told → EndsBelow seal size (standing w r) (disk now) x) → x.section ≡ r.section → Steps seal size g gives spelling accepted refusal told (Err (Corruption x)) (standing w r) w opened opened now now few many
       floor_refused x below at = call_stopped seal size g gives spelling accepted refusal told r.section (standing w r) w opened opened now now few many no_call nearer_none (Corruption x) (inr (refl, refl)) (λ going owed. refl) none (λ t h. h) (inr refl) (λ p is. absurd (cc is))
-          (λ t y is. (let same : x ≡ y = cc is in subst (λ (z : Damage). EndsBelow seal size (standing w r) (disk now) z × (IsAhead (standing w r) z.section ⊎ IsIn (standing w r) z.section)) same (below t, inr (sym at))))
+          (λ t y is. (let same : x ≡ y = cc is in subst (λ (z : Damage). EndsBelow seal size (standing w r) (disk now) z × (IsAhead (standing w r) z.section ⊎ IsIn (standing w r) z.section) × IsEndedAt seal size (standing w r) w (disk now) (disk now) z.section) same
+          (below t, inr (sym at), subst (λ (k : ℕ). IsEndedAt seal size (standing w r) w (disk now) (disk now) k) (sym at) (ended_here seal size w r (disk now) none not_ahead_here))))
           (λ t k is. absurd (cc is)) (λ t e is. absurd (cc is)) (inl (x, refl))
 
       -- The section is at its end, and was not cut.

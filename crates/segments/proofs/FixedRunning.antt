@@ -21,8 +21,9 @@ use Rattle.segments.specs.FixedItems.{item_at, IsItem}
 use Rattle.segments.specs.Refusing.{HasFailed, HasDamage}
 use Rattle.segments.specs.FixedReading.{HasNotRead, IsBelowFloor}
 use Rattle.segments.specs.FixedLists.{section_size}
-use Rattle.segments.specs.FixedReplay.{Walk, IsAhead, IsIn, IsLeft, IsDrained, SameWalk, SameItems, IsSameOrCut, KeepsSections, KeepsFloors, KeepsBytes, KeepsItems, HasWalk, IsWalk, Gives, Refuses, Stops, IsCutting, Replaying, LeavesNoMore, EndsBelow, FindsDamage, kept_bytes}
+use Rattle.segments.specs.FixedReplay.{Walk, IsAhead, IsIn, IsLeft, IsDrained, SameWalk, SameItems, IsSameOrCut, KeepsSections, KeepsFloors, KeepsBytes, KeepsItems, HasWalk, IsWalk, Gives, Refuses, IsEndedAt, Stops, IsCutting, Replaying, LeavesNoMore, EndsBelow, EndsDamaged, kept_bytes}
 use Rattle.segments.specs.FixedStepping.{failing, way_of, reads_left, ReadsOnce, GoesOn, Carries, Steps}
+use Rattle.segments.proofs.FixedStopping.{ended_back, ended_failing}
 use Rattle.segments.proofs.FixedOwed.{same_items, items_then, same_or_cut, cut_then}
 use Rattle.segments.proofs.FixedReading.{not_read_since, failed_since}
 use Rattle.segments.specs.Sealed.{is_unsettled}
@@ -246,30 +247,29 @@ module _ {F S : Type 0} {gs : _} (seal : List ℕ → ℕ) (size : ℕ) (g : buf
         rest = λ x q. (λ l. (let k = (has.rest x q).0 l in ((run_left x q).0 k.0, k.1)), λ l. (has.rest x q).1 ((run_left x q).1 l.0, l.1));
       }
 
+      ended_after : told → (s : ℕ) → IsEndedAt seal size now new (disk b) (disk c) s → IsEndedAt seal size old (failing new) (disk a) (disk c) s
+      ended_after t s has = ended_failing seal size old new (disk a) (disk c) s (ended_back seal size old now new (disk a) (disk b) (disk c) s (run.carries t).left has)
+
       pub stops_after : told → Stops seal size now new (disk b) (disk c) → Stops seal size old (failing new) (disk a) (disk c)
       stops_after t has = record {
         rest = elim has.rest [
           | inl end ↦ inl end
-          | inr some ↦ inr (
-            some.0,
-            λ x q l lt. some.1 x q (((run.carries t).left x q).1 l) lt,
-            λ x q. (
-              λ l. (let k = (some.2 x q).0 (record { goes_on = l.goes_on; begun = l.begun; whole = l.whole; ahead = l.ahead }) in (((run.carries t).left x q).0 k.0, k.1)),
-              λ l. (let k = (some.2 x q).1 (((run.carries t).left x q).1 l.0, l.1) in record { goes_on = k.goes_on; begun = k.begun; whole = k.whole; ahead = k.ahead }),
-            ),
-          )
+          | inr some ↦ inr (some.0, ended_after t some.0 some.1)
         ];
       }
 
-      pub damaged_after : (x : Error) → result ≡ Err x → told → (k : ℕ) → x ≡ Runtime (InvalidChecksum k) → FindsDamage seal size old (failing new) (disk c) k
-      damaged_after x is t k same = (let has = step.damaged t k (is ∙ ap Err same) in record {
-        section = has.section;
-        position = has.position;
-        near = run.onward has.section has.near;
-        free = has.free;
-        floor = has.floor;
-        within = has.within;
-        page = has.page;
+      pub damaged_after : (x : Error) → result ≡ Err x → told → (k : ℕ) → x ≡ Runtime (InvalidChecksum k) → EndsDamaged seal size old (failing new) (disk a) (disk c) k
+      damaged_after x is t k same = (let has = (step.damaged t k (is ∙ ap Err same)).damage in record {
+        damage = record {
+          section = has.section;
+          position = has.position;
+          near = run.onward has.section has.near;
+          free = has.free;
+          floor = has.floor;
+          within = has.within;
+          page = has.page;
+        };
+        ends = ended_after t has.section (step.damaged t k (is ∙ ap Err same)).ends;
       })
 
       pub refused_after : (x : Error) → result ≡ Err x → told → (e : codec.Error) → x ≡ Codec e → Refuses seal size refusal old (failing new) (disk a) (disk c) e
@@ -311,13 +311,18 @@ module _ {F S : Type 0} {gs : _} (seal : List ℕ → ℕ) (size : ℕ) (g : buf
       ]
 
       pub start_after : told → (p : ℕ) → IsErrOf result (ItemOutOfRange p) → (p ≡ old.start_position) × (length (kept_bytes seal size old (disk a) old.start_section) < p * size)
+          × IsEndedAt seal size old (failing new) (disk a) (disk c) old.start_section
       start_after t p is =
           let has = step.start t p is in
           let same = (run.carries t).kept now.start_section has.2 in
-          let there : length (kept_bytes seal size old (disk a) now.start_section) < p * size = subst (λ (bytes : List ℕ). length bytes < p * size) same has.1 in
-          (has.0 ∙ run.same.position, subst (λ (k : ℕ). length (kept_bytes seal size old (disk a) k) < p * size) run.same.section there)
+          let there : length (kept_bytes seal size old (disk a) now.start_section) < p * size = subst (λ (bytes : List ℕ). length bytes < p * size) same has.1 in (
+            has.0 ∙ run.same.position,
+            subst (λ (k : ℕ). length (kept_bytes seal size old (disk a) k) < p * size) run.same.section there,
+            subst (λ (k : ℕ). IsEndedAt seal size old (failing new) (disk a) (disk c) k) run.same.section (ended_after t now.start_section has.3),
+          )
 
       pub damage_after : told → (x : Damage) → IsErrOf result (Corruption x) → EndsBelow seal size old (disk a) x × (IsAhead old x.section ⊎ IsIn old x.section)
+          × IsEndedAt seal size old (failing new) (disk a) (disk c) x.section
       damage_after t x is =
           let has = step.damage t x is in
           let same = (run.carries t).kept x.section has.1 in (
@@ -329,6 +334,7 @@ module _ {F S : Type 0} {gs : _} (seal : List ℕ → ℕ) (size : ℕ) (g : buf
               less = has.0.less;
             },
             run.onward x.section has.1,
+            ended_after t x.section has.2,
           )
 
       pub cause_after : (x : Error) → result ≡ Err x → (x ≡ ItemOutOfRange old.start_position) ⊎ (IsBelowFloor {T = V} (Err x) ⊎ HasNotRead {T = V} (Err x) few many)

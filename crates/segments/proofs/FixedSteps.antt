@@ -19,7 +19,7 @@ use Rattle.segments.specs.Sections.{key_of, IsHeld, IsKeyOf, IsOver}
 use Rattle.segments.specs.Refusing.{HasFailed, HasDamage}
 use Rattle.segments.specs.FixedReading.{HasNotRead, IsBelowFloor}
 use Rattle.segments.specs.FixedLists.{size_held, section_size}
-use Rattle.segments.specs.FixedReplay.{Place, Walk, IsAhead, IsIn, IsLeft, SameItems, IsSameOrCut, KeepsSections, KeepsFloors, KeepsItems, HasSameBytes, KeepsBytes, IsWalk, Refuses, IsCutting, Replaying, LeavesNoMore, EndsBelow, FindsDamage, kept_bytes}
+use Rattle.segments.specs.FixedReplay.{Place, Walk, IsAhead, IsIn, IsLeft, SameItems, IsSameOrCut, KeepsSections, KeepsFloors, KeepsItems, HasSameBytes, KeepsBytes, IsWalk, Refuses, IsEndedAt, IsCutting, Replaying, LeavesNoMore, EndsBelow, EndsDamaged, kept_bytes}
 use Rattle.segments.specs.FixedStepping.{word, sections_ahead, bytes_ahead, way_of, reads_left, ReadsOnce, GoesOn, Steps}
 use Rattle.segments.proofs.sections.KeyLemmas.{keys_differ}
 use Rattle.segments.proofs.FixedCounts.{count_other, count_over}
@@ -80,12 +80,19 @@ module _ {F S V : Type 0} {gs : _} (seal : List ℕ → ℕ) (size : ℕ) (g : b
         (λ q apart u was owed. same_items seal u.page_size size (disk a (key_of old.journal.sections q)) (disk b (key_of old.journal.sections q))
         (call.one.blobs t (key_of old.journal.sections q) (keys_differ old.journal.sections.partition q s (call.one.numbers q (is_some (old.journal.sections.held q) u was)) call.one.small apart)))
 
+    -- nothing of it or before is left
+    ended_at : new.place ≡ None → told → new.ended ≡ old.ended → IsEndedAt seal size old new (disk a) (disk b) s
+    ended_at none t going = record {
+      first = left_first seal size s old new (disk a) (disk b) call.one call.behind;
+      rest = left_later seal size s old new (disk a) (disk b) call.one call.behind none t going;
+    }
+
     -- An error was answered; the section may be lost.
     pub call_stopped : way_of new < way_of old → (x : Error) → ((new.journal.sections.held s ≡ None) × IsSome (new.journal.sections.unopened s)) ⊎ ((new.journal.sections.held s ≡ old.journal.sections.held s) × (b ≡ a)) → (new.ended ≡ false → IsTrue (old.journal.unrecovered s) → b ≡ a) → new.place ≡ None
         → ((t : ℕ) → IsAhead new t → IsAhead old t)
         → ((new.ended ≡ true) × ((HasDamage {T = Option (ℕ × ℕ × V)} (Err x) × (told → ⊥)) ⊎ HasFailed {T = Option (ℕ × ℕ × V)} (Err x) few many) × IsCutting seal size told old (disk a)) ⊎ (new.ended ≡ old.ended) → ((p : ℕ) → x ≡ ItemOutOfRange p → ⊥)
-        → (told → (y : Damage) → x ≡ Corruption y → EndsBelow seal size old (disk a) y × (IsAhead old y.section ⊎ IsIn old y.section))
-        → (told → (k : ℕ) → x ≡ Runtime (InvalidChecksum k) → FindsDamage seal size old new (disk b) k) → (told → (e : codec.Error) → x ≡ Codec e → Refuses seal size refusal old new (disk a) (disk b) e)
+        → (told → (y : Damage) → x ≡ Corruption y → EndsBelow seal size old (disk a) y × (IsAhead old y.section ⊎ IsIn old y.section) × IsEndedAt seal size old new (disk a) (disk b) y.section)
+        → (told → (k : ℕ) → x ≡ Runtime (InvalidChecksum k) → EndsDamaged seal size old new (disk a) (disk b) k) → (told → (e : codec.Error) → x ≡ Codec e → Refuses seal size refusal old new (disk a) (disk b) e)
         → IsBelowFloor {T = Option (ℕ × ℕ × V)} (Err x) ⊎ HasNotRead {T = Option (ℕ × ℕ × V)} (Err x) few many
         → Steps seal size g gives spelling accepted refusal told (Err x) old new before after a b few many
     call_stopped nearer x lost still none onward ended other below found refuses cause = record {
@@ -107,7 +114,7 @@ module _ {F S V : Type 0} {gs : _} (seal : List ℕ → ℕ) (size : ℕ) (g : b
       stops = λ t. record {
         rest = elim ended [
           | inl end ↦ inl end.0
-          | inr going ↦ inr (s, left_first seal size s old new (disk a) (disk b) call.one call.behind, left_later seal size s old new (disk a) (disk b) call.one call.behind none t going)
+          | inr going ↦ inr (s, ended_at none t going)
         ];
       };
       start = λ t p is. absurd (other p (cc is));
@@ -143,7 +150,7 @@ module _ {F S V : Type 0} {gs : _} (seal : List ℕ → ℕ) (size : ℕ) (g : b
     pub call_failed : way_of new < way_of old → (x : Error) → ((new.journal.sections.held s ≡ None) × IsSome (new.journal.sections.unopened s)) ⊎ ((new.journal.sections.held s ≡ old.journal.sections.held s) × (b ≡ a)) → (new.ended ≡ false → IsTrue (old.journal.unrecovered s) → b ≡ a) → new.place ≡ None
         → ((t : ℕ) → IsAhead new t → IsAhead old t)
         → ((new.ended ≡ true) × ((HasDamage {T = Option (ℕ × ℕ × V)} (Err x) × (told → ⊥)) ⊎ HasFailed {T = Option (ℕ × ℕ × V)} (Err x) few many) × IsCutting seal size told old (disk a)) ⊎ (new.ended ≡ old.ended) → ((p : ℕ) → x ≡ ItemOutOfRange p → ⊥)
-        → (told → (k : ℕ) → x ≡ Runtime (InvalidChecksum k) → FindsDamage seal size old new (disk b) k) → (told → (e : codec.Error) → x ≡ Codec e → Refuses seal size refusal old new (disk a) (disk b) e)
+        → (told → (k : ℕ) → x ≡ Runtime (InvalidChecksum k) → EndsDamaged seal size old new (disk a) (disk b) k) → (told → (e : codec.Error) → x ≡ Codec e → Refuses seal size refusal old new (disk a) (disk b) e)
         → HasNotRead {T = Option (ℕ × ℕ × V)} (Err x) few many → Steps seal size g gives spelling accepted refusal told (Err x) old new before after a b few many
     call_failed nearer x lost still none onward ended other found refuses cause = call_stopped nearer x lost still none onward ended other (λ t y is. absurd (not_below x few many cause y is)) found refuses (inr cause)
 
@@ -294,7 +301,7 @@ module _ {F S V : Type 0} {gs : _} (seal : List ℕ → ℕ) (size : ℕ) (g : b
           bytes = keeps_bytes;
           carries = λ t is. absurd (cc is);
           item = λ t q p w is. absurd (cc is);
-          stops = λ t. record { rest = inr (s, left_first seal size s old new (disk a) (disk b) call.one call.behind, left_later seal size s old new (disk a) (disk b) call.one call.behind none t answer.ended) };
+          stops = λ t. record { rest = inr (s, ended_at none t answer.ended) };
           start = λ t p is. (
             cc is,
             (let at : p ≡ old.start_position = cc is in
@@ -302,6 +309,7 @@ module _ {F S V : Type 0} {gs : _} (seal : List ℕ → ℕ) (size : ℕ) (g : b
                 let there : length (kept_bytes seal size old (disk a) old.start_section) < old.start_position * size = subst (λ (k : ℕ). length (kept_bytes seal size old (disk a) k) < old.start_position * size) first short in
                 subst (λ (n : ℕ). length (kept_bytes seal size old (disk a) old.start_section) < n * size) (sym at) there),
             subst (λ (k : ℕ). IsAhead old k ⊎ IsIn old k) first (inr near),
+            subst (λ (k : ℕ). IsEndedAt seal size old new (disk a) (disk b) k) first (ended_at none t answer.ended),
           );
           damage = λ t y is. absurd (cc is);
           damaged = λ t k is. absurd (cc is);

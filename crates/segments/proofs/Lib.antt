@@ -9,6 +9,7 @@ pub mod FixedWalksOn
 pub mod FixedOwed
 pub mod FixedEnding
 pub mod FixedCounts
+pub mod FixedStopping
 pub mod FixedSteps
 pub mod FixedReading
 pub mod FixedCutting

@@ -199,6 +199,14 @@ module _ {S : Type 0} {gs : _} where
     pub covered : IsFromCovered seal size new to section position
     pub rest : (t q : ℕ) → IsLeft seal size new to t q ↔ (IsLeft seal size old from t q × (section < t))
 
+  -- The replay has ended section s.
+  pub record IsEndedAt {F : Type 0} (seal : List ℕ → ℕ) (size : ℕ)
+      (old new : Walk F (PageBlob S gs)) (d e : Disk) (s : ℕ) : Type 0 where
+    -- no item of an earlier section was left
+    pub first : (t q : ℕ) → IsLeft seal size old d t q → t < s → ⊥
+    -- what is left are the items of later ones
+    pub rest : (t q : ℕ) → IsLeft seal size new e t q ↔ (IsLeft seal size old d t q × (s < t))
+
   -- Page k has bytes of an item of a section that owes no replay and has a floor, and no matching slot covers it as far as the item goes. The
   -- item ends within the section. The pages below a floor are taken as a marker vouches for them, so none was read before.
   pub record FindsDamage {F : Type 0} (seal : List ℕ → ℕ) (size : ℕ) (old new : Walk F (PageBlob S gs)) (d : Disk) (k : ℕ) : Type 0 where
@@ -210,9 +218,15 @@ module _ {S : Type 0} {gs : _} where
     pub within : IsSomeAnd (new.journal.sections.held section) (λ u. (position + 1) * size ≤ size_of (shown u))
     pub page : IsSomeAnd (new.journal.sections.held section) (λ u. IsShort seal u.page_size (d (key_of new.journal.sections section)).content (position * size) size k)
 
-  -- An error ended the whole replay, or that of section s. No item of an earlier section was left, and the items of later ones are left.
+  -- A page was found damaged, and the error ended its section.
+  pub record EndsDamaged {F : Type 0} (seal : List ℕ → ℕ) (size : ℕ)
+      (old new : Walk F (PageBlob S gs)) (from d : Disk) (k : ℕ) : Type 0 where
+    pub damage : FindsDamage seal size old new d k
+    pub ends : IsEndedAt seal size old new from d damage.section
+
+  -- An error ended the whole replay, or that of a section.
   pub record Stops {F : Type 0} (seal : List ℕ → ℕ) (size : ℕ) (old new : Walk F (PageBlob S gs)) (d e : Disk) : Type 0 where
-    pub rest : (new.ended ≡ true) ⊎ ((s : ℕ) × ((t q : ℕ) → IsLeft seal size old d t q → t < s → ⊥) × ((t q : ℕ) → IsLeft seal size new e t q ↔ (IsLeft seal size old d t q × (s < t))))
+    pub rest : (new.ended ≡ true) ⊎ ((s : ℕ) × IsEndedAt seal size old new d e s)
 
   -- A section is being cut: it owes a replay, and has more bytes than the whole items of its sealed prefix. No item of it was left, and none
   -- of an earlier one.

@@ -25,7 +25,7 @@ use Rattle.segments.specs.Sections.{Sections, key_of, IsHeld, IsKeyOf, IsSame, S
 use Rattle.segments.specs.Refusing.{HasFailed, HasDamage}
 use Rattle.segments.specs.FixedReading.{HasNotRead, IsBelowFloor}
 use Rattle.segments.specs.FixedLists.{section_size}
-use Rattle.segments.specs.FixedReplay.{Place, Walk, IsAhead, IsIn, IsReadWhole, IsLeft, SameWalk, KeepsSections, KeepsFloors, KeepsBytes, KeepsItems, IsWalk, Gives, Refuses, Stops, IsCutting, Replaying, LeavesNoMore, EndsBelow, FindsDamage, kept_bytes}
+use Rattle.segments.specs.FixedReplay.{Place, Walk, IsAhead, IsIn, IsReadWhole, IsLeft, SameWalk, KeepsSections, KeepsFloors, KeepsBytes, KeepsItems, IsWalk, Gives, Refuses, IsEndedAt, Stops, IsCutting, Replaying, LeavesNoMore, EndsBelow, EndsDamaged, kept_bytes}
 
 -- greater than each number of a section, and than each place in one
 unfoldable pub word : ℕ
@@ -156,7 +156,7 @@ module _ {F S : Type 0} {gs : _} (seal : List ℕ → ℕ) (size : ℕ) where
 
   module _ {V : Type 0} (g : buffer.Ghosts (PageBlob S gs)) (gives : F → Setting) (spelling : V → List ℕ) (accepted : V → Unit {0} → Type 0) (refusal : List ℕ → Unit {0} → Option codec.Error) (told : Type 0) where
     -- A step of the replay `old`, and the replay after it. It gives the first item that was left, or comes nearer to one, or gives an
-    -- error, which ends the section or the replay. It never goes back to a section that it had gone over. Where the disk is told a page is
+    -- error, which ends the replay, or the section that it names. It never goes back to a section that it had gone over. Where the disk is told a page is
     -- found damaged only in a section that owes no replay and has a floor: one that owes a replay is cut before such a page, and any other
     -- is sealed.
     pub record Steps (result : Result (Option (ℕ × ℕ × V)) Error) (old new : Walk F (PageBlob S gs)) (before after : OpenedList) (begin end : Timeline) (few many : ℕ) : Type 0 where
@@ -176,8 +176,10 @@ module _ {F S : Type 0} {gs : _} (seal : List ℕ → ℕ) (size : ℕ) where
       pub stops : told → OnErr result (Stops seal size old new (disk begin) (disk end))
       pub start : told → (p : ℕ) → IsErrOf result (ItemOutOfRange p) → (p ≡ old.start_position)
           × (length (kept_bytes seal size old (disk begin) old.start_section) < p * size) × (IsAhead old old.start_section ⊎ IsIn old old.start_section)
+          × IsEndedAt seal size old new (disk begin) (disk end) old.start_section
       pub damage : told → (x : Damage) → IsErrOf result (Corruption x) → EndsBelow seal size old (disk begin) x × (IsAhead old x.section ⊎ IsIn old x.section)
-      pub damaged : told → (k : ℕ) → IsErrOf result (Runtime (InvalidChecksum k)) → FindsDamage seal size old new (disk end) k
+          × IsEndedAt seal size old new (disk begin) (disk end) x.section
+      pub damaged : told → (k : ℕ) → IsErrOf result (Runtime (InvalidChecksum k)) → EndsDamaged seal size old new (disk begin) (disk end) k
       pub refused : told → (e : codec.Error) → IsErrOf result (Codec e) → Refuses seal size refusal old new (disk begin) (disk end) e
       pub ends : new.ended ≡ true → (old.ended ≡ true) ⊎ ((HasDamage result × (told → ⊥)) ⊎ HasFailed result few many)
       pub ends_cut : new.ended ≡ true → (old.ended ≡ true) ⊎ IsCutting seal size told old (disk begin)

@@ -150,7 +150,7 @@ impl<A: CodecFixed, S: Seal> Journal<A, S> {
 impl<A: CodecFixed, S: Seal> Replay<A, S> {
     ghost use Rattle.segments.specs.FixedShown.{shown};
     ghost use Rattle.segments.specs.FixedLists.{OwesHeld, OwesSettled, AreSealed, UnopenedLater};
-    ghost use Rattle.segments.specs.FixedReplay.{IsWalk, HasWalk, WalksOver, SameWalk, KeepsSections, KeepsFloors, KeepsBytes, KeepsItems, IsLeft, IsDrained, IsAhead, IsIn, first_of, Gives, Refuses, Stops, IsCutting, Replaying, LeavesNoMore, EndsBelow, FindsDamage, kept_bytes};
+    ghost use Rattle.segments.specs.FixedReplay.{IsWalk, HasWalk, WalksOver, SameWalk, KeepsSections, KeepsFloors, KeepsBytes, KeepsItems, IsLeft, IsDrained, IsAhead, IsIn, first_of, Gives, Refuses, IsEndedAt, Stops, IsCutting, Replaying, LeavesNoMore, EndsBelow, EndsDamaged, kept_bytes};
     ghost use Rattle.segments.specs.FixedGiving.{given, HasRun, AreAllLeft, ReadsAllOnce};
     ghost use Rattle.segments.specs.FixedStepping.{way_of, standing, after_item, ReadsOnce, OnlySections, Touches, IsFlushed, IsCutBack, BeginsOver, EndsAt, Steps};
     ghost use Rattle.segments.specs.FixedWalking.{walk_of, walk_at, place_of};
@@ -236,17 +236,19 @@ impl<A: CodecFixed, S: Seal> Replay<A, S> {
         ensures later { (result ≡ None) ⊎ ((x : _) × (result ≡ Some (Ok x))) → D.Tells → LeavesNoMore S.seal_of A.SIZE (walk_of self.old) (walk_of self.new) (disk (D.time dev.old)) (disk (D.time dev.new)) }
         // A replay that has ended does nothing more.
         ensures ended { (walk_of self.old).ended ≡ true → (result ≡ None) × (self.new ≡ self.old) × (dev.new ≡ dev.old) }
-        // An error ends its section, and one while a section is cut ends the replay.
+        // An error ends the section that it names, and one while a section is cut ends the replay.
         ensures failed { (e : _) → result ≡ Some (Err e) → (walk_of self.new).failed ≡ true }
         ensures stops { D.Tells → (e : _) → result ≡ Some (Err e) → Stops S.seal_of A.SIZE (walk_of self.old) (walk_of self.new) (disk (D.time dev.old)) (disk (D.time dev.new)) }
         // The start is refused only where its section keeps fewer items.
         ensures start { D.Tells → (p : ℕ) → result ≡ Some (Err (Error.ItemOutOfRange p)) → (p ≡ (walk_of self.old).start_position)
-            × (length (kept_bytes S.seal_of A.SIZE (walk_of self.old) (disk (D.time dev.old)) (walk_of self.old).start_section) < p * A.SIZE) }
+            × (length (kept_bytes S.seal_of A.SIZE (walk_of self.old) (disk (D.time dev.old)) (walk_of self.old).start_section) < p * A.SIZE)
+            × IsEndedAt S.seal_of A.SIZE (walk_of self.old) (walk_of self.new) (disk (D.time dev.old)) (disk (D.time dev.new)) (walk_of self.old).start_section }
         // What is kept of a section is refused only where it is less than the floor of one of which a replay is owed; that is not cut.
-        ensures damage { D.Tells → (x : _) → result ≡ Some (Err (Error.Corruption x)) → EndsBelow S.seal_of A.SIZE (walk_of self.old) (disk (D.time dev.old)) x × (IsAhead (walk_of self.old) x.section ⊎ IsIn (walk_of self.old) x.section) }
+        ensures damage { D.Tells → (x : _) → result ≡ Some (Err (Error.Corruption x)) → EndsBelow S.seal_of A.SIZE (walk_of self.old) (disk (D.time dev.old)) x × (IsAhead (walk_of self.old) x.section ⊎ IsIn (walk_of self.old) x.section)
+            × IsEndedAt S.seal_of A.SIZE (walk_of self.old) (walk_of self.new) (disk (D.time dev.old)) (disk (D.time dev.new)) x.section }
         // A page is found damaged, where the disk is told, only in a section that owes no replay and has a floor: one that owes a replay is cut
         // before such a page, and any other is sealed.
-        ensures damaged { D.Tells → (k : ℕ) → result ≡ Some (Err (Error.Runtime (InvalidChecksum k))) → FindsDamage S.seal_of A.SIZE (walk_of self.old) (walk_of self.new) (disk (D.time dev.new)) k }
+        ensures damaged { D.Tells → (k : ℕ) → result ≡ Some (Err (Error.Runtime (InvalidChecksum k))) → EndsDamaged S.seal_of A.SIZE (walk_of self.old) (walk_of self.new) (disk (D.time dev.old)) (disk (D.time dev.new)) k }
         // The codec's error is that of the first item that was left.
         ensures refused { D.Tells → (e : _) → result ≡ Some (Err (Error.Codec e)) → Refuses S.seal_of A.SIZE A.refusal (walk_of self.old) (walk_of self.new) (disk (D.time dev.old)) (disk (D.time dev.new)) e }
         // The replay ends only by a damaged page, where the disk is not told, by a fault or want of memory.
@@ -449,7 +451,7 @@ impl<A: CodecFixed, S: Seal> Replay<A, S> {
         requires going { (walk_of self.old).ended ≡ false }
         requires between { (walk_of self.old).place ≡ None }
         requires last { D.Tells → (IsTrue ((walk_of self.old).journal.unrecovered reading.section) × EndsAt S.seal_of A.SIZE (walk_at self.old reading) (disk (D.time dev.old)) (place_of reading) true)
-            ⊎ (((walk_of self.old).journal.unrecovered reading.section ≡ false) × FindsDamage S.seal_of A.SIZE (walk_at self.old reading) (walk_of self.old) (disk (D.time dev.old)) page) }
+            ⊎ (((walk_of self.old).journal.unrecovered reading.section ≡ false) × EndsDamaged S.seal_of A.SIZE (walk_at self.old reading) (walk_of self.old) (disk (D.time dev.old)) (disk (D.time dev.old)) page) }
         ensures { Steps S.seal_of A.SIZE ⟦<PageBlob<S> as SectionBuffer>⟧ ⟦<AppendFactory<S> as BufferFactory>⟧.gives A.spelling A.accepted A.refusal D.Tells result (walk_at self.old reading) (walk_of self.new) (D.opened dev.old) (D.opened dev.new) (D.time dev.old) (D.time dev.new) (D.faults dev.old) (D.faults dev.new) }
     {
         if !self.owes(reading.section) {

@@ -36,9 +36,9 @@ returns-in_err-next g c =
     (not_true (walk_of c.items.this).ended (λ ended. (let none = (f.ended ended).0 in cc (none, is))))
     f.over f.same f.stays f.floors f.bytes f.moments
     (λ t x at. f.refused t x (is ∙ ap (λ y. Some (Err y)) at))
-    (λ t x at. f.damage t x (is ∙ ap (λ y. Some (Err y)) at))
-    (λ t p at. f.start t p (is ∙ ap (λ y. Some (Err y)) at))
-    (λ t k at. f.damaged t k (is ∙ ap (λ y. Some (Err y)) at))
+    (λ t x at. (let has = f.damage t x (is ∙ ap (λ y. Some (Err y)) at) in (has.0, has.1)))
+    (λ t p at. (let has = f.start t p (is ∙ ap (λ y. Some (Err y)) at) in (has.0, has.1)))
+    (λ t k at. (f.damaged t k (is ∙ ap (λ y. Some (Err y)) at)).damage)
     f.entries f.faults (f.cause e is)
 
 pub returns : goal.returns

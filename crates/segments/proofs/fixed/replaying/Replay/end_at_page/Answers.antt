@@ -2,7 +2,7 @@
 use Rattle.std.specs.Prelude.{◌≡◌, ℕ, Bool, true, IsTrue}
 use Rattle.std.proofs.Common.{inl, inr, refl, sym, ◌∙◌, subst, arith}
 use Rattle.blob_device.specs.Timeline.{disk}
-use Rattle.segments.specs.FixedReplay.{FindsDamage}
+use Rattle.segments.specs.FixedReplay.{EndsDamaged}
 use Rattle.segments.specs.FixedWalking.{walk_of, walk_at, place_of}
 use Rattle.segments.proofs.FixedReading.{read_failed}
 use Rattle.segments.proofs.fixed.replaying.Replay.end_at_page.Goals as goal
@@ -15,7 +15,7 @@ returns-then-not-owes g c = read_failed g.S.Seal.seal_of g.A.CodecFixed.SIZE _ _
     _ (λ p is. cc is)
     (λ t k is. (let same : c.args.page ≡ k = cc is in elim (c.requires.last t) [
       | inl has ↦ (let at = has.0 in let same = c.owes.ensures in let not = c.if-not-owes.true in absurd (cc (at, same, not)))
-      | inr has ↦ subst (λ (n : ℕ). FindsDamage g.S.Seal.seal_of g.A.CodecFixed.SIZE (walk_at c.args.self.now c.args.reading) (walk_of c.args.self.now) (disk (g.D.Device.time c.args.dev.now)) n) same has.1
+      | inr has ↦ subst (λ (n : ℕ). EndsDamaged g.S.Seal.seal_of g.A.CodecFixed.SIZE (walk_at c.args.self.now c.args.reading) (walk_of c.args.self.now) (disk (g.D.Device.time c.args.dev.now)) (disk (g.D.Device.time c.args.dev.now)) n) same has.1
     ])) (λ t e is. absurd (cc is)) (inl (c.args.page, refl))
 
 pub end_section-requires-clause-over : goal.end_section-requires-clause-over

@@ -124,7 +124,7 @@ end_at_page-requires-clause-last g c t =
       | inr floor ↦ inr (
         floor.0,
         short_found g.S.Seal.seal_of g.A.CodecFixed.SIZE _ _ w (record { section = r.section; position = r.position; reader = more }) _ (disk b) was (λ u x stands. stands.stands.adopted) g.met.A.CodecFixed.fixed.at_least
-            (next_of r.reader) (missing_of r.reader c.SIZE.result) page (omega (arith, e.same.at)) far inside t floor.0 floor.1 here_short,
+            c.requires.between (next_of r.reader) (missing_of r.reader c.SIZE.result) page (omega (arith, e.same.at)) far inside t floor.0 floor.1 here_short,
       )
     ]
 
