@@ -90,3 +90,10 @@ returns-clause-alike g c =
     let put = c.in_ok-put.ensures.put in
     alike_back m q c.args.section h.0 c.hold.new.self h.1 (c.requires.over.opened_list.apart c.args.section (is_some (m.held c.args.section) h.0 h.1)) put.here put.opened (c.in_ok-hold.ensures.same ∙ ap shown (c.in_ok-buffer.ensures.same h.0 h.1))
     (λ x other. same_then m n q x (c.take.ensures.others x other) (put.others x other)) (bounds_then m n q c.take.ensures.bounds c.put.ensures.bounds)
+
+pub returns-clause-entries : goal.returns-clause-entries
+returns-clause-entries g c =
+    let m = manager.shown c.args.self.manager in
+    let h = held_some (m.held c.args.section) c.in_ok-size.field-0 (λ u. size_of (shown u)) c.in_ok-size.ensures.size (omega (arith, c.if-end-eq0.false, c.if-branch-end.false)) in
+    own_entries (key_of (shown c.in_ok-buffer.buffer)) (sections.key_of m c.args.section) (g.D.Device.opened c.args.dev.now) (g.D.Device.opened c.take.new.dev) (g.D.Device.opened c.hold.new.dev)
+    c.in_ok-buffer.ensures.key (ap g.D.Device.opened (c.take.ensures.untouched (is_some (m.held c.args.section) h.0 h.1))) c.in_ok-hold.ensures.entries.others

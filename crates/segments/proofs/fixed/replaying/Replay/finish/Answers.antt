@@ -1,4 +1,5 @@
 -- The sections that were gone over are sealed.
+use Rattle.std.proofs.Common.{inl, refl}
 use Rattle.segments.specs.FixedShown.{shown}
 use Rattle.segments.specs.FixedWalking.{walk_of}
 use Rattle.segments.proofs.FixedGiven.{all_given}
@@ -25,3 +26,6 @@ returns-clause-start g c walk = finished_start g.A.CodecFixed.SIZE (walk_of c.ar
 pub returns-clause-given : goal.returns-clause-given
 returns-clause-given g c from calls opened d run = all_given g.S.Seal.seal_of g.A.CodecFixed.SIZE g.A.Codec.spelling g.A.Codec.accepted from calls
     (record { walk = walk_of c.args.self; opened = opened; disk = d }) run (c.is_drained.ensures.0 c.if-not-is_drained.false)
+
+pub returns-then-self-clause-replay_failed : goal.returns-then-self-clause-replay_failed
+returns-then-self-clause-replay_failed g c = (λ is. inl c.if-self.true, λ why. refl)
