@@ -1,10 +1,11 @@
 -- The sections that were gone over are sealed.
-use Rattle.std.proofs.Common.{inl, refl}
+use Rattle.std.proofs.Common.{inl, inr, refl}
 use Rattle.segments.specs.FixedShown.{shown}
 use Rattle.segments.specs.FixedWalking.{walk_of}
 use Rattle.segments.proofs.FixedGiven.{all_given}
 use Rattle.segments.proofs.FixedBeginning.{finished_sealed, finished_start, owed_before, finished_held, finished_settled, finished_unopened}
 use Rattle.segments.proofs.fixed.replaying.Replay.finish.Goals as goal
+use Rattle.segments.proofs.fixed.replaying.Replay.finish.Goals.{then-self-via-then-self, then-self-via-else-self+then-not-is_drained}
 
 pub returns-clause-sealed : goal.returns-clause-sealed
 returns-clause-sealed g c d over = finished_sealed g.S.Seal.seal_of g.A.CodecFixed.SIZE (walk_of c.args.self) (shown c.recovered_from.result) d over c.if-self.false (c.is_drained.ensures.0 c.if-not-is_drained.false) c.recovered_from.ensures.sections c.recovered_from.ensures.unrecovered c.recovered_from.ensures.floors
@@ -28,4 +29,7 @@ returns-clause-given g c from calls opened d run = all_given g.S.Seal.seal_of g.
     (record { walk = walk_of c.args.self; opened = opened; disk = d }) run (c.is_drained.ensures.0 c.if-not-is_drained.false)
 
 pub returns-then-self-clause-replay_failed : goal.returns-then-self-clause-replay_failed
-returns-then-self-clause-replay_failed g c = (λ is. inl c.if-self.true, λ why. refl)
+returns-then-self-clause-replay_failed g c = (λ is. elim c.then-self.branch [
+  | then-self-via-then-self w ↦ inl w.if-self.true
+  | then-self-via-else-self+then-not-is_drained w ↦ inr (λ drained. absurd (cc (w.if-not-is_drained.true, w.is_drained.ensures.1 drained)))
+], λ why. refl)
