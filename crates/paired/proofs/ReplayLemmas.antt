@@ -234,14 +234,14 @@ module _ {F S : Type 0} {gs : _} (old new : Run F (PageBlob S gs)) (w : Walk F (
       | inr some ↦ record {
         rest = inr (
           some.0,
-          (λ t q due lt. some.1 t q due.left lt),
+          (λ t q due lt. some.1.first t q due.left lt),
           (λ t q. (
             (λ due.
                 let left = left_to t q due.left in
-                let back = (some.2 t q).0 left in
+                let back = (some.1.rest t q).0 left in
                 (record { left = back.0; goes_on = λ is. due.goes_on (ended ∙ is); given = given_back t (rs_left t q left) q due }, back.1)),
             (λ pair.
-                let left = (some.2 t q).1 (pair.0.left, pair.1) in
+                let left = (some.1.rest t q).1 (pair.0.left, pair.1) in
                 due_from t (rs_left t q left) q (left_from t q left) (λ is. pair.0.goes_on (sym ended ∙ is)) pair.0.given),
           )),
         );
@@ -263,20 +263,20 @@ module _ {F S : Type 0} {gs : _} (old new : Run F (PageBlob S gs)) (w : Walk F (
         good = λ t q unbroken lt no_end. (
             let has = left_on t unbroken in
             let here = left_to t has.1.0 has.1.1 in
-            let back = (some.2 t has.1.0).0 here in
+            let back = (some.1.rest t has.1.0).0 here in
             let same = rs_left t has.1.0 here in
             elim (checked.good t q (inr ((λ is. has.0 (ended ∙ is)), (has.1.0, back.0))) (omega (arith, ap length same, lt)) (sym (ends t) ∙ no_end)) [
               | inl good ↦ inl (good_from t same q good)
-              | inr left ↦ inr (left_from t q ((some.2 t q).1 (left, back.1)))
+              | inr left ↦ inr (left_from t q ((some.1.rest t q).1 (left, back.1)))
             ]);
         ends = λ t q unbroken is. (
             let has = left_on t unbroken in
             let here = left_to t has.1.0 has.1.1 in
-            let back = (some.2 t has.1.0).0 here in
+            let back = (some.1.rest t has.1.0).0 here in
             end_from t (rs_left t has.1.0 here) q (checked.ends t q (inr ((λ was. has.0 (ended ∙ was)), (has.1.0, back.0))) (sym (ends t) ∙ is)));
-        behind = λ t p q is left. checked.behind t p q (sym (ends t) ∙ is) ((some.2 t q).0 (left_to t q left)).0;
+        behind = λ t p q is left. checked.behind t p q (sym (ends t) ∙ is) ((some.1.rest t q).0 (left_to t q left)).0;
         broken = λ t is. failed;
-        passed = λ t u q is left. checked.passed t u q (sym ended ∙ is) ((some.2 u q).0 (left_to u q left)).0;
+        passed = λ t u q is left. checked.passed t u q (sym ended ∙ is) ((some.1.rest u q).0 (left_to u q left)).0;
       }
     ]
       where

@@ -285,7 +285,7 @@ module _ {F S V : Type 0} {gs : _} (g : buffer.Ghosts (PageBlob S gs)) (gives : 
       pub stop_left : told → (s q : ℕ) → IsLeft run.layout.seal run.layout.record_size w (disk c) s q → IsLeft run.layout.seal run.layout.record_size run.walk (disk b) s q
       stop_left t s q left = elim (walk_stops t).rest [
         | inl end ↦ absurd (cc (end, left.goes_on))
-        | inr rest ↦ ((rest.2 s q).0 left).0
+        | inr rest ↦ ((rest.1.rest s q).0 left).0
       ]
 
       pub stop_loses : told → LosesRecords run (moved run w ends ended true) (disk b) (disk c)
