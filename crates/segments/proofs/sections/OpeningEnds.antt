@@ -280,7 +280,7 @@ module _ {F B D : Type 0} (g : buffer.Ghosts B) (gives : F → Setting) (TooLong
       hold_short {T = T} u still opened o bounds_on same r is =
           let opens = subst (λ (x : Key). OpensBlob g gives TooLong dev x m.factory old new (Ok u)) here (subst (λ (f : F). OpensBlob g gives TooLong dev k f old new (Ok u)) made_by opened) in
           subst (λ (x : Result T Error). Holds g gives TooLong dev m s o old new x) (sym is)
-          (subst (λ (x : Sections F B). Holds {T = T} g gives TooLong dev m s x old new (Err Mem)) (same_sections n o bounds_on same) (record {
+          (subst (λ (x : Sections F B). Holds g gives TooLong dev m s {T = T} x old new (Err Mem)) (same_sections n o bounds_on same) (record {
             over = over_now (Ok u) opens;
             held = tt;
             same = tt;
@@ -303,7 +303,7 @@ module _ {F B D : Type 0} (g : buffer.Ghosts B) (gives : F → Setting) (TooLong
 
       -- it was made, and is held
       pub holds_made : {T : Type 0} (u : B) (v : T) → OpensBlob g gives TooLong dev k maker old new (Ok u) → (o : Sections F B) → IsPut s u n o → IsOver g gives dev.Tells o (dev.opened new) (disk (dev.time new))
-          → Holds {T = T} g gives TooLong dev m s o old new (Ok v)
+          → Holds g gives TooLong dev m s {T = T} o old new (Ok v)
       holds_made u v opened o put over_o =
           let opens = subst (λ (x : Key). OpensBlob g gives TooLong dev x m.factory old new (Ok u)) here (subst (λ (f : F). OpensBlob g gives TooLong dev k f old new (Ok u)) made_by opened) in
           record {
@@ -366,7 +366,7 @@ module _ {F B D : Type 0} (g : buffer.Ghosts B) (gives : F → Setting) (TooLong
 
   pub hold_unnoted : {T : Type 0} → m.floor ≤ s → (n : Sections F B) → SameBounds m n → ((q : ℕ) → IsSame m n q) → (r : Result T Error) → r ≡ Err Mem → Holds g gives TooLong dev m s n old old r
   hold_unnoted {T = T} from n bounds same r is = subst (λ (x : Result T Error). Holds g gives TooLong dev m s n old old x) (sym is)
-      (subst (λ (x : Sections F B). Holds {T = T} g gives TooLong dev m s x old old (Err Mem)) (same_sections m n bounds same) (record {
+      (subst (λ (x : Sections F B). Holds g gives TooLong dev m s {T = T} x old old (Err Mem)) (same_sections m n bounds same) (record {
         over = over;
         held = tt;
         same = tt;
@@ -388,7 +388,7 @@ module _ {F B D : Type 0} (g : buffer.Ghosts B) (gives : F → Setting) (TooLong
       }))
 
   -- it is held already
-  pub holds_held : {T : Type 0} (v : T) → IsHeld m s → Holds {T = T} g gives TooLong dev m s m old old (Ok v)
+  pub holds_held : {T : Type 0} (v : T) → IsHeld m s → Holds g gives TooLong dev m s {T = T} m old old (Ok v)
   holds_held v held = record {
     over = over;
     held = held;
@@ -434,7 +434,7 @@ module _ {F B D : Type 0} (g : buffer.Ghosts B) (gives : F → Setting) (TooLong
     }
 
     module _ {T : Type 0} (within : s ≤ m.ceiling) (n : Sections F B) (new : D) where
-      pub next_failed : (e : Error) → Holds {T = T} g gives TooLong dev m s n old new (Err e) → (r : Result (Sections F B) Error) → r ≡ Err e → OpensNext g gives TooLong dev m s old new r
+      pub next_failed : (e : Error) → Holds g gives TooLong dev m s {T = T} n old new (Err e) → (r : Result (Sections F B) Error) → r ≡ Err e → OpensNext g gives TooLong dev m s old new r
       next_failed e holds r is = subst (OpensNext g gives TooLong dev m s old new) (sym is) (record {
         over = tt;
         held = λ le. tt;
@@ -457,7 +457,7 @@ module _ {F B D : Type 0} (g : buffer.Ghosts B) (gives : F → Setting) (TooLong
         ];
       })
 
-      pub next_held : (v : T) → Holds {T = T} g gives TooLong dev m s n old new (Ok v) → OpensNext g gives TooLong dev m s old new (Ok n)
+      pub next_held : (v : T) → Holds g gives TooLong dev m s {T = T} n old new (Ok v) → OpensNext g gives TooLong dev m s old new (Ok n)
       next_held v holds = record {
         over = holds.over;
         held = λ le. holds.held;

@@ -371,24 +371,6 @@ module _ {F B D : Type 0} (g : buffer.Ghosts B) (gives : F → Setting) (TooLong
     pub cause : OnErr result (HasNoRoom result
         ⊎ HasFailed result (dev.faults old) (dev.faults new))
 
-module _ {F B : Type 0} (m : Sections F B) (section : ℕ) where
-  -- The section was noted as one whose blob may be there, and the manager is n.
-  pub record Expects {T : Type 0} (n : Sections F B) (result : Result T Error) : Type 0 where
-    -- it is known
-    pub known : OnOk result (IsSome (n.unopened section))
-    -- at most as a leftover, where it was not
-    pub still_section : n.unopened section ≡ Some Section → m.unopened section ≡ Some Section
-    -- what is held stays,
-    pub held : (q : ℕ) → n.held q ≡ m.held q
-    -- what is unopened else,
-    pub others : (q : ℕ) → q ≢ section → n.unopened q ≡ m.unopened q
-    -- and all after a refusal
-    pub refused : OnErr result (n.unopened section ≡ m.unopened section)
-    -- the place with its bounds stays
-    pub bounds : SameBounds m n
-    -- nothing is answered but want of memory
-    pub cause : OnErr result (IsErrOf result Mem)
-
 module _ {F B : Type 0} (g : buffer.Ghosts B) (gives : F → Setting) (m : Sections F B)
     (section : ℕ) where
   -- The buffer w was given to the section, and the manager is n.

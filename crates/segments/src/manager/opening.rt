@@ -1,12 +1,12 @@
 // Opening a manager, and the sections in it.
-ghost use Rattle.std.specs.Prelude.{◌≡◌, ◌≢◌, ◌≤◌, ◌<◌, ◌⊎◌, ◌^◌, ◌-◌, ℕ, Some, None, List, length, map, IfOk, OnOk, OnErr, Err, IsTrue, string_bytes};
+ghost use Rattle.std.specs.Prelude.{◌≡◌, ◌≢◌, ◌≤◌, ◌<◌, ◌⊎◌, ◌^◌, ◌-◌, ℕ, Some, None, List, length, map, IfOk, OnOk, OnErr, Err, IsSome, IsTrue, string_bytes};
 ghost use Rattle.std.specs.Result.{IsErrOf};
 ghost use Rattle.std.specs.List.{Contains};
 ghost use Rattle.std.specs.Int.{w64, to_be_bytes};
 ghost use Rattle.std.specs.Borrow.{sem};
 ghost use Rattle.blob_device.specs.Timeline.{disk};
 ghost use Rattle.segments.specs.Answers.{seen};
-ghost use Rattle.segments.specs.Sections.{key_of, IsOver};
+ghost use Rattle.segments.specs.Sections.{key_of, IsOver, SameBounds};
 
 use super::{Manager, ManagerConfig};
 use crate::held::Held;
@@ -93,7 +93,7 @@ impl<F: BufferFactory> Manager<F> {
     ghost use Rattle.segments.specs.managing.Managed.{shown};
     ghost use Rattle.segments.specs.managing.Finding.{finding, Scans};
     ghost use Rattle.segments.specs.managing.Lending.{IsRefused, lends_made};
-    ghost use Rattle.segments.specs.managing.Opening.{Creates, Expects, Holds, Inits, Knows};
+    ghost use Rattle.segments.specs.managing.Opening.{Creates, Holds, Inits, Knows};
     ghost use Rattle.segments.specs.managing.Opening.{OpensBlob, OpensEach, OpensNext, Puts, Takes};
 
     // A manager that knows these sections and has opened none.
@@ -265,7 +265,16 @@ impl<F: BufferFactory> Manager<F> {
 
     // Notes that the section's blob may be there.
     fn expect(&mut self, section: u64) -> Result<(), Error>
-        ensures { Expects (shown self.old) section (shown self.new) result }
+        ensures known { OnOk result (IsSome ((shown self.new).unopened section)) }
+        ensures still_section { (shown self.new).unopened section ≡ Some Unopened.Section
+            → (shown self.old).unopened section ≡ Some Unopened.Section }
+        ensures held { (q : ℕ) → (shown self.new).held q ≡ (shown self.old).held q }
+        ensures others { (q : ℕ) → q ≢ section
+            → (shown self.new).unopened q ≡ (shown self.old).unopened q }
+        ensures refused { OnErr result ((shown self.new).unopened section
+            ≡ (shown self.old).unopened section) }
+        ensures bounds { SameBounds (shown self.old) (shown self.new) }
+        ensures cause { OnErr result (IsErrOf result Error.Mem) }
     {
         if !self.unopened.contains_key(&section) {
             self.unopened.insert(section, Unopened::Leftover)?;

@@ -1,4 +1,5 @@
 use Rattle.std.proofs.Common.{◌∙◌, ap, rules}
+use Rattle.std.specs.Prelude.{is_some}
 use Rattle.segments.specs.managing.Managed.{shown}
 use Rattle.segments.specs.Sections.{section_key}
 use Rattle.blob_device.proofs.Results.{err_of}
@@ -24,7 +25,7 @@ returns-in_err-buffer g c =
     (e.held c.args.section ∙ c.requires.absent) c.in_ok-expect.ensures.known _ e.still_section c.in_err-buffer.ensures _ (err_of c.from_residual-in_err-buffer.result _ c.from_residual-in_err-buffer.ensures.1)
 
 pub returns-in_err-insert : goal.returns-in_err-insert
-returns-in_err-insert g c = ?
+returns-in_err-insert g c = absurd (cc (ap is_some c.in_err-insert.ensures.absent, c.in_ok-expect.ensures.known))
 
 pub returns : goal.returns
 returns g c =

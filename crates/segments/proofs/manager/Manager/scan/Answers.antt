@@ -16,9 +16,8 @@ returns-in_err-names g c = names_unread g.D.Device (string_bytes c.args.cfg.part
 pub returns-in_err-numbers : goal.returns-in_err-numbers
 returns-in_err-numbers g c = names_refused g.D.Device (string_bytes c.args.cfg.partition) c.args.cfg.factory c.args.dev.now c.scan.new.self
     (λ t. unchanged_on (g.D.Device.time c.args.dev.now) (g.D.Device.time c.scan.new.self) (c.scan.ensures.told t)) c.scan.ensures.opened c.scan.ensures.counts.later
-    _ _ (err_seen finding c.from_residual-in_err-numbers.result _ c.from_residual-in_err-numbers.ensures.1) c.in_ok-names.names
-    (λ t. subst (λ (p : List ℕ). AreNamesIn (disk (g.D.Device.time c.args.dev.now)) p c.in_ok-names.names) c.as_str.ensures.value (c.in_ok-names.ensures.names t))
-    c.in_err-numbers.ensures.foreign c.in_err-numbers.ensures.cause
+    c.in_ok-names.names (λ t. subst (λ (p : List ℕ). AreNamesIn (disk (g.D.Device.time c.args.dev.now)) p c.in_ok-names.names) c.as_str.ensures.value (c.in_ok-names.ensures.names t))
+    _ _ (err_seen finding c.from_residual-in_err-numbers.result _ c.from_residual-in_err-numbers.ensures.1) c.in_err-numbers.ensures.foreign c.in_err-numbers.ensures.cause
 
 pub returns : goal.returns
 returns g c = scanned g.D.Device (string_bytes c.args.cfg.partition) c.args.cfg.factory c.args.dev.now c.scan.new.self
