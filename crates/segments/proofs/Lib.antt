@@ -1,4 +1,5 @@
 pub mod buffers
+pub mod Seen
 pub mod sections
 pub mod CountLemmas
 pub mod WalkLemmas

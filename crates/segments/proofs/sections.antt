@@ -7,3 +7,8 @@ pub mod RemoveLemmas
 pub mod TruncateLemmas
 pub mod SyncLemmas
 pub mod CutLemmas
+pub mod SettlingEnds
+pub mod RemovingEnds
+pub mod CuttingEnds
+pub mod OpeningEnds
+pub mod InitEnds

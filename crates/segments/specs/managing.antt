@@ -1,2 +1,7 @@
 pub mod Lending
 pub mod Managed
+pub mod Finding
+pub mod Opening
+pub mod Settling
+pub mod Removing
+pub mod Cutting

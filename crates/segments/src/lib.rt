@@ -29,6 +29,6 @@ mod unsealed;
 pub use buffer::{BufferFactory, SectionBuffer};
 pub use held::SectionIter;
 pub use items::Items;
-pub use manager::{Manager, ManagerConfig};
+pub use manager::{Found, Manager, ManagerConfig};
 pub use sealed::AppendFactory;
 pub use unsealed::WriteFactory;

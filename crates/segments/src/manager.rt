@@ -60,6 +60,8 @@ mod opening;
 mod removing;
 mod syncing;
 
+pub use opening::Found;
+
 use crate::held::{Held, SectionIter};
 use crate::journal::Error;
 use crate::unopened::Unopened;

@@ -1,5 +1,5 @@
 -- What a manager shows of itself.
-use Rattle.std.specs.Prelude.{ℕ, ◌+◌, string_bytes}
+use Rattle.std.specs.Prelude.{ℕ, Bool, ◌+◌, string_bytes}
 use Rattle.std.specs.Ordering.{nat_cmp}
 use Rattle.std.specs.BTreeMap as tree
 use Rattle.segments.specs.declared.manager.Manager.{Manager}
@@ -14,6 +14,10 @@ shown m = record {
   floor = m.floor;
   ceiling = m.ceiling;
 }
+
+-- the same beside an answer
+abbrev pub flagged : {F B : Type 0} → Manager F B × Bool → Sections F B × Bool
+flagged r = (shown r.0, r.1)
 
 -- how many sections are held, and how many are unopened
 abbrev pub known_count : {F B : Type 0} → Manager F B → ℕ

@@ -1,11 +1,8 @@
 // Removing sections, for good and in order.
-ghost use Rattle.std.specs.Prelude.{◌≡◌, ◌≢◌, ◌↔◌, ◌+◌, ◌-◌, ◌^◌, ◌≤◌, ◌<◌, ◌⊎◌, ℕ, Option, Some, None, Bool, true, false, List, length, IfOk, OnOk, OnErr, IfSome, IsTrue};
-ghost use Rattle.blob_device.specs.Disk.{Key, Blob, nothing};
-ghost use Rattle.blob_device.specs.Timeline.{disk, Always};
-ghost use Rattle.segments.specs.Leaving.{AllMoments};
-ghost use Rattle.segments.specs.Sections.{Sections, key_of, IsHeld, IsSection, IsKnown, IsGone, IsSame, SamePlace, SameBounds, IsKeyOf, IsOver};
-ghost use Rattle.segments.specs.Lasting.{IsGoing, Removing, EntriesLeave};
-ghost use Rattle.segments.specs.Refusing.{HasFailed, IsPruned};
+ghost use Rattle.std.specs.Prelude.{◌≡◌, ◌≢◌, ◌↔◌, ◌≤◌, ◌<◌, ℕ, None, IfOk, IfSome, IsTrue};
+ghost use Rattle.blob_device.specs.Timeline.{disk};
+ghost use Rattle.segments.specs.Answers.{seen};
+ghost use Rattle.segments.specs.Sections.{IsKnown, IsOver, IsSection};
 
 use super::Manager;
 use crate::journal::Error;
@@ -23,7 +20,9 @@ pub(super) enum Doomed {
 }
 
 impl<F: BufferFactory> Manager<F> {
-    ghost use Rattle.segments.specs.managing.Managed.{shown, known_count};
+    ghost use Rattle.segments.specs.managing.Managed.{flagged, known_count, shown};
+    ghost use Rattle.segments.specs.managing.Removing.{Clears, Destroys, Forgets, Prunes};
+    ghost use Rattle.segments.specs.managing.Removing.{RemovesAll, RemovesOne};
     ghost use Rattle.segments.specs.Doomed.{IsDoomed, GoesBefore};
 
     // The least section that is known.
@@ -56,7 +55,8 @@ impl<F: BufferFactory> Manager<F> {
     fn next_doomed(&self, doomed: Doomed) -> Option<u64>
         ensures none { result ≡ None → (s : ℕ) → IsDoomed (shown self.now) doomed s → ⊥ }
         ensures doomed { IfSome result (IsDoomed (shown self.now) doomed) }
-        ensures first { IfSome result (λ n. (s : ℕ) → IsDoomed (shown self.now) doomed s → s ≢ n → GoesBefore doomed n s) }
+        ensures first { IfSome result (λ n. (s : ℕ) → IsDoomed (shown self.now) doomed s → s ≢ n
+            → GoesBefore doomed n s) }
     {
         match doomed {
             Doomed::Through(last) => self.oldest_known().filter(|n| *n <= last),
@@ -74,17 +74,12 @@ impl<F: BufferFactory> Manager<F> {
 
     // Removes the section's blob for good, and forgets the section.
     fn remove_known<D: Device>(self, dev: &mut D, section: u64) -> Result<Self, Error>
-        requires over { IsOver F.Buffer.SectionBuffer F.gives D.Tells (shown self) (D.opened dev.old) (disk (D.time dev.old)) }
-        ensures over { IfOk result (λ r. IsOver F.Buffer.SectionBuffer F.gives D.Tells (shown r) (D.opened dev.new) (disk (D.time dev.new))) }
-        ensures removed { IfOk result (λ r. IsGone (shown r) section) }
-        ensures others { IfOk result (λ r. (q : ℕ) → q ≢ section → IsSame (shown self) (shown r) q) }
-        ensures bounds { IfOk result (λ r. SameBounds (shown self) (shown r)) }
-        ensures fewer { IsKnown (shown self) section → IfOk result (λ r. known_count r < known_count self) }
-        ensures moments { D.Tells → AllMoments (key_of (shown self) section) (IsGoing (disk (D.time dev.old) (key_of (shown self) section))) (D.time dev.old) (D.time dev.new) }
-        ensures gone { D.Tells → OnOk result (disk (D.time dev.new) (key_of (shown self) section) ≡ nothing) }
-        ensures entries { EntriesLeave (λ q. q ≡ key_of (shown self) section) (D.opened dev.old) (D.opened dev.new) }
-        ensures faults { D.faults dev.old ≤ D.faults dev.new }
-        ensures cause { OnErr result (HasFailed result (D.faults dev.old) (D.faults dev.new)) }
+        requires over { IsOver F.Buffer.SectionBuffer F.gives D.Tells (shown self)
+            (D.opened dev.old) (disk (D.time dev.old)) }
+        ensures forgets { Forgets F.Buffer.SectionBuffer F.gives D.Device (shown self) section
+            dev.old dev.new (seen shown result) }
+        ensures fewer { IsKnown (shown self) section
+            → IfOk result (λ r. known_count r < known_count self) }
     {
         let name = section.to_be_bytes();
         // Before the section is forgotten: only a removal that returned Ok lasts.
@@ -101,18 +96,10 @@ impl<F: BufferFactory> Manager<F> {
         dev: &mut D,
         doomed: Doomed,
     ) -> Result<(Self, bool), Error>
-        requires over { IsOver F.Buffer.SectionBuffer F.gives D.Tells (shown self) (D.opened dev.old) (disk (D.time dev.old)) }
-        ensures over { IfOk result (λ r. IsOver F.Buffer.SectionBuffer F.gives D.Tells (shown r.0) (D.opened dev.new) (disk (D.time dev.new))) }
-        ensures removed { IfOk result (λ r. (s : ℕ) → IsDoomed (shown self) doomed s → IsGone (shown r.0) s) }
-        ensures kept { IfOk result (λ r. (s : ℕ) → (IsDoomed (shown self) doomed s → ⊥) → IsSame (shown self) (shown r.0) s) }
-        ensures bounds { IfOk result (λ r. SameBounds (shown self) (shown r.0)) }
-        ensures flag { IfOk result (λ r. IsTrue r.1 ↔ ((s : ℕ) × IsDoomed (shown self) doomed s × IsSection (shown self) s)) }
-        ensures moments { D.Tells → Always (D.time dev.old) (D.time dev.new) (Removing (shown self) (IsDoomed (shown self) doomed) (GoesBefore doomed) (disk (D.time dev.old))) }
-        ensures gone { D.Tells → OnOk result ((s : ℕ) → IsDoomed (shown self) doomed s → disk (D.time dev.new) (key_of (shown self) s) ≡ nothing) }
-        ensures idle { ((s : ℕ) → IsDoomed (shown self) doomed s → ⊥) → dev.new ≡ dev.old }
-        ensures entries { EntriesLeave (IsKeyOf (shown self) (IsDoomed (shown self) doomed)) (D.opened dev.old) (D.opened dev.new) }
-        ensures faults { D.faults dev.old ≤ D.faults dev.new }
-        ensures cause { OnErr result (HasFailed result (D.faults dev.old) (D.faults dev.new)) }
+        requires over { IsOver F.Buffer.SectionBuffer F.gives D.Tells (shown self)
+            (D.opened dev.old) (disk (D.time dev.old)) }
+        ensures { RemovesAll F.Buffer.SectionBuffer F.gives D.Device (shown self) doomed
+            dev.old dev.new (seen flagged result) }
     {
         let mut this = self;
         let mut removed = false;
@@ -124,24 +111,13 @@ impl<F: BufferFactory> Manager<F> {
         Ok((this, removed))
     }
 
-    /// Removes the sections below `min`, the oldest first, and says whether there was one; only then `min` is the floor.
+    /// Removes the sections below `min`, the oldest first, and says whether there was one; only then `min` is
+    /// the floor.
     pub fn prune<D: Device>(self, dev: &mut D, min: u64) -> Result<(Self, bool), Error>
-        requires over { IsOver F.Buffer.SectionBuffer F.gives D.Tells (shown self) (D.opened dev.old) (disk (D.time dev.old)) }
-        ensures over { IfOk result (λ r. IsOver F.Buffer.SectionBuffer F.gives D.Tells (shown r.0) (D.opened dev.new) (disk (D.time dev.new))) }
-        ensures removed { IfOk result (λ r. (s : ℕ) → s < min → IsGone (shown r.0) s) }
-        ensures kept { IfOk result (λ r. (s : ℕ) → min ≤ s → IsSame (shown self) (shown r.0) s) }
-        ensures place { IfOk result (λ r. SamePlace (shown self) (shown r.0)) }
-        ensures ceiling { IfOk result (λ r. (shown r.0).ceiling ≡ (shown self).ceiling) }
-        ensures flag { IfOk result (λ r. IsTrue r.1 ↔ ((s : ℕ) × IsSection (shown self) s × (s < min))) }
-        ensures floor { IfOk result (λ r. IsTrue r.1 → (shown r.0).floor ≡ min) }
-        ensures same_floor { IfOk result (λ r. r.1 ≡ false → (shown r.0).floor ≡ (shown self).floor) }
-        // At every moment, also where the call fails, no section's blob is touched before those of all older ones are gone.
-        ensures moments { D.Tells → Always (D.time dev.old) (D.time dev.new) (Removing (shown self) (λ s. IsKnown (shown self) s × (s < min)) (λ s t. s < t) (disk (D.time dev.old))) }
-        ensures gone { D.Tells → OnOk result ((s : ℕ) → IsKnown (shown self) s → s < min → disk (D.time dev.new) (key_of (shown self) s) ≡ nothing) }
-        ensures idle { ((s : ℕ) → IsKnown (shown self) s → min ≤ s) → dev.new ≡ dev.old }
-        ensures entries { EntriesLeave (IsKeyOf (shown self) (λ s. IsKnown (shown self) s × (s < min))) (D.opened dev.old) (D.opened dev.new) }
-        ensures faults { D.faults dev.old ≤ D.faults dev.new }
-        ensures cause { OnErr result (HasFailed result (D.faults dev.old) (D.faults dev.new)) }
+        requires over { IsOver F.Buffer.SectionBuffer F.gives D.Tells (shown self)
+            (D.opened dev.old) (disk (D.time dev.old)) }
+        ensures { Prunes F.Buffer.SectionBuffer F.gives D.Device (shown self) min dev.old dev.new
+            (seen flagged result) }
     {
         if min == 0 {
             return Ok((self, false));
@@ -157,22 +133,10 @@ impl<F: BufferFactory> Manager<F> {
 
     /// Removes one section, and says whether it was held.
     pub fn remove_section<D: Device>(self, dev: &mut D, section: u64) -> Result<(Self, bool), Error>
-        requires over { IsOver F.Buffer.SectionBuffer F.gives D.Tells (shown self) (D.opened dev.old) (disk (D.time dev.old)) }
-        ensures over { IfOk result (λ r. IsOver F.Buffer.SectionBuffer F.gives D.Tells (shown r.0) (D.opened dev.new) (disk (D.time dev.new))) }
-        ensures removed { IfOk result (λ r. (shown r.0).held section ≡ None) }
-        ensures others { IfOk result (λ r. (q : ℕ) → q ≢ section → IsSame (shown self) (shown r.0) q) }
-        ensures unopened { IfOk result (λ r. (shown r.0).unopened section ≡ (shown self).unopened section) }
-        ensures bounds { IfOk result (λ r. SameBounds (shown self) (shown r.0)) }
-        ensures flag { IfOk result (λ r. IsTrue r.1 ↔ IsHeld (shown self) section) }
-        // At every moment the blob is as before, under removal, or gone; no other blob changes.
-        ensures moments { D.Tells → AllMoments (key_of (shown self) section) (IsGoing (disk (D.time dev.old) (key_of (shown self) section))) (D.time dev.old) (D.time dev.new) }
-        ensures gone { D.Tells → IsHeld (shown self) section → OnOk result (disk (D.time dev.new) (key_of (shown self) section) ≡ nothing) }
-        ensures absent { (shown self).held section ≡ None → dev.new ≡ dev.old }
-        ensures entries { EntriesLeave (λ q. q ≡ key_of (shown self) section) (D.opened dev.old) (D.opened dev.new) }
-        ensures guard { IsPruned result (shown self).floor ↔ (section < (shown self).floor) }
-        ensures refuses { section < (shown self).floor → dev.new ≡ dev.old }
-        ensures faults { D.faults dev.old ≤ D.faults dev.new }
-        ensures cause { OnErr result (IsPruned result (shown self).floor ⊎ HasFailed result (D.faults dev.old) (D.faults dev.new)) }
+        requires over { IsOver F.Buffer.SectionBuffer F.gives D.Tells (shown self)
+            (D.opened dev.old) (disk (D.time dev.old)) }
+        ensures { RemovesOne F.Buffer.SectionBuffer F.gives D.Device (shown self) section
+            dev.old dev.new (seen flagged result) }
     {
         self.prune_guard(section)?;
         if !self.held.contains(section) {
@@ -184,18 +148,10 @@ impl<F: BufferFactory> Manager<F> {
 
     /// Removes all sections, the oldest first, and lifts the floor and the ceiling.
     pub fn clear<D: Device>(self, dev: &mut D) -> Result<Self, Error>
-        requires over { IsOver F.Buffer.SectionBuffer F.gives D.Tells (shown self) (D.opened dev.old) (disk (D.time dev.old)) }
-        ensures over { IfOk result (λ r. IsOver F.Buffer.SectionBuffer F.gives D.Tells (shown r) (D.opened dev.new) (disk (D.time dev.new))) }
-        ensures removed { IfOk result (λ r. (s : ℕ) → IsGone (shown r) s) }
-        ensures place { IfOk result (λ r. SamePlace (shown self) (shown r)) }
-        ensures floor { IfOk result (λ r. (shown r).floor ≡ 0) }
-        ensures ceiling { IfOk result (λ r. (shown r).ceiling ≡ 2 ^ 64 - 1) }
-        ensures moments { D.Tells → Always (D.time dev.old) (D.time dev.new) (Removing (shown self) (IsKnown (shown self)) (λ s t. s < t) (disk (D.time dev.old))) }
-        ensures gone { D.Tells → OnOk result ((s : ℕ) → s < 2 ^ 64 → IsTrue (disk (D.time dev.new) (key_of (shown self) s)).there → ⊥) }
-        ensures gone_all { D.Tells → OnOk result ((s : ℕ) → IsKnown (shown self) s → disk (D.time dev.new) (key_of (shown self) s) ≡ nothing) }
-        ensures entries { EntriesLeave (IsKeyOf (shown self) (IsKnown (shown self))) (D.opened dev.old) (D.opened dev.new) }
-        ensures faults { D.faults dev.old ≤ D.faults dev.new }
-        ensures cause { OnErr result (HasFailed result (D.faults dev.old) (D.faults dev.new)) }
+        requires over { IsOver F.Buffer.SectionBuffer F.gives D.Tells (shown self)
+            (D.opened dev.old) (disk (D.time dev.old)) }
+        ensures { Clears F.Buffer.SectionBuffer F.gives D.Device (shown self) dev.old dev.new
+            (seen shown result) }
     {
         // Before the bounds are lifted: sections above the ceiling are removed too.
         let (this, _) = self.remove_all(dev, Doomed::Through(u64::MAX))?;
@@ -207,13 +163,9 @@ impl<F: BufferFactory> Manager<F> {
 
     /// Removes all sections, the oldest first.
     pub fn destroy<D: Device>(self, dev: &mut D) -> Result<(), Error>
-        requires over { IsOver F.Buffer.SectionBuffer F.gives D.Tells (shown self) (D.opened dev.old) (disk (D.time dev.old)) }
-        ensures moments { D.Tells → Always (D.time dev.old) (D.time dev.new) (Removing (shown self) (IsKnown (shown self)) (λ s t. s < t) (disk (D.time dev.old))) }
-        ensures gone { D.Tells → OnOk result ((s : ℕ) → s < 2 ^ 64 → IsTrue (disk (D.time dev.new) (key_of (shown self) s)).there → ⊥) }
-        ensures gone_all { D.Tells → OnOk result ((s : ℕ) → IsKnown (shown self) s → disk (D.time dev.new) (key_of (shown self) s) ≡ nothing) }
-        ensures entries { EntriesLeave (IsKeyOf (shown self) (IsKnown (shown self))) (D.opened dev.old) (D.opened dev.new) }
-        ensures faults { D.faults dev.old ≤ D.faults dev.new }
-        ensures cause { OnErr result (HasFailed result (D.faults dev.old) (D.faults dev.new)) }
+        requires over { IsOver F.Buffer.SectionBuffer F.gives D.Tells (shown self)
+            (D.opened dev.old) (disk (D.time dev.old)) }
+        ensures { Destroys D.Device (shown self) dev.old dev.new result }
     {
         // As `clear` does it: the bounds that it lifts are lost with the manager.
         self.clear(dev)?;

@@ -1,4 +1,4 @@
-use Rattle.std.proofs.Common.{◌≡◌, ◌≢◌, ◌<◌, ◌^◌, ℕ, inl, inr, get_or, Some, ap, subst, sym, ◌∙◌, arith, rules}
+use Rattle.std.proofs.Common.{refl, ◌≡◌, ◌≢◌, ◌<◌, ◌^◌, ℕ, inl, inr, get_or, Some, ap, subst, sym, ◌∙◌, arith, rules}
 use Rattle.std.specs.BTreeMap.{get}
 use Rattle.std.specs.List.{Contains}
 use Rattle.std.specs.Option.{is_some}
@@ -7,6 +7,10 @@ use Rattle.std.proofs.lemmas.Bool.{cases_lt, cases_eq}
 use Rattle.std.proofs.lemmas.Grind.{common_steps}
 use Rattle.std.proofs.lemmas.List.Elements.{Contains-get_or}
 use Rattle.segments.specs.declared.unopened.Unopened.TheVariants.{Section}
+use Rattle.std.specs.Prelude.{string_bytes}
+use Rattle.segments.specs.managing.Managed.{shown}
+use Rattle.segments.specs.managing.Opening.{Knows}
+use Rattle.segments.proofs.Seen.{err_seen}
 use Rattle.segments.proofs.NumberLemmas.{of_listed, listed_or_not}
 use Rattle.segments.proofs.manager.Manager.found.Goals as goal
 
@@ -31,17 +35,34 @@ loop-number-preserved g c =
       others = λ s other. kept s (λ is. other (subst (λ (n : ℕ). Contains c.args.numbers.now n) (sym is) (Contains-get_or c.args.numbers.now c.loop-number.number-index 0 c.loop-number-test.true))) ∙ c.loop-number.invariant.others s other;
     }
 
-pub returns-clause-unopened : goal.returns-clause-unopened
-returns-clause-unopened g c s listed = of_listed (λ n. get nat_cmp c.loop-number.unopened n ≡ Some Section) c.args.numbers.now s (λ k lt. c.loop-number.invariant.known k (omega (arith, lt, c.loop-number-test.false))) listed
+pub returns-in_err-insert : goal.returns-in_err-insert
+returns-in_err-insert g c = subst (Knows (string_bytes c.args.partition) c.args.factory c.args.ceiling c.args.numbers.now) (sym (err_seen shown c.from_residual.result _ c.from_residual.ensures.1)) (record {
+  held = tt;
+  unopened = tt;
+  others = tt;
+  number = tt;
+  partition = tt;
+  factory = tt;
+  floor = tt;
+  ceiling = tt;
+  cause = refl;
+})
 
-pub returns-clause-others : goal.returns-clause-others
-returns-clause-others g c = c.loop-number.invariant.others
-
-pub returns-clause-number : goal.returns-clause-number
-returns-clause-number g c s known = elim known [
-  | inl held ↦ absurd (cc (ap is_some (c.new.ensures s), held))
-  | inr unopened ↦ elim (listed_or_not c.args.numbers.now s) [
-    | inl listed ↦ of_listed (λ n. n < 2 ^ 64) c.args.numbers.now s (λ k lt. (c.type_inv.numbers k).fits) listed
-    | inr none ↦ absurd (cc (ap is_some (c.loop-number.invariant.others s none), unopened))
-  ]
-]
+pub returns : goal.returns
+returns g c = record {
+  held = c.new.ensures;
+  unopened = λ s listed. of_listed (λ n. get nat_cmp c.loop-number.unopened n ≡ Some Section) c.args.numbers.now s (λ k lt. c.loop-number.invariant.known k (omega (arith, lt, c.loop-number-test.false))) listed;
+  others = c.loop-number.invariant.others;
+  number = λ s known. elim known [
+    | inl held ↦ absurd (cc (ap is_some (c.new.ensures s), held))
+    | inr unopened ↦ elim (listed_or_not c.args.numbers.now s) [
+      | inl listed ↦ of_listed (λ n. n < 2 ^ 64) c.args.numbers.now s (λ k lt. (c.type_inv.numbers k).fits) listed
+      | inr none ↦ absurd (cc (ap is_some (c.loop-number.invariant.others s none), unopened))
+    ]
+  ];
+  partition = refl;
+  factory = refl;
+  floor = refl;
+  ceiling = refl;
+  cause = tt;
+}

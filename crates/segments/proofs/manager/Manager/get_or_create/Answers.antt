@@ -36,22 +36,24 @@ returns g c =
       ),
       record {
         writes_back = tt;
-        same = λ v was. cc (held, done.same v was);
-        bytes = λ t none. done.bytes t none u held;
-        idle = λ none. done.idle none u held;
-        made = done.made;
-        stands = λ t. subst (λ (k : Key). g.F.Buffer.SectionBuffer.Stands u (disk (g.D.Device.time c.hold.new.dev) k)) here ((hold.over.disk t).stands s u held);
-        key = has.key s u held ∙ here;
-        setting = has.setting s u held ∙ ap g.F.BufferFactory.gives b.place.factory;
-        «open» = subst (λ (k : Key). IsOpenAt (g.D.Device.opened c.hold.new.dev) k (g.F.Buffer.SectionBuffer.extent u)) here (has.is_open s u held);
-        untouched = hold.untouched;
-        moments = hold.moments;
-        entries = hold.entries;
-        reads = hold.reads;
-        guard = (λ is. absurd (cc is), λ below. absurd (cc (done.guard.1 below)));
-        refuses = hold.refuses;
-        overflow = λ is. absurd (cc is);
-        faults = hold.faults;
-        cause = tt;
+        creates = record {
+          same = λ v was. cc (held, done.same v was);
+          bytes = λ t none. done.bytes t none u held;
+          idle = λ none. done.idle none u held;
+          made = done.made;
+          stands = λ t. subst (λ (k : Key). g.F.Buffer.SectionBuffer.Stands u (disk (g.D.Device.time c.hold.new.dev) k)) here ((hold.over.disk t).stands s u held);
+          key = has.key s u held ∙ here;
+          setting = has.setting s u held ∙ ap g.F.BufferFactory.gives b.place.factory;
+          «open» = subst (λ (k : Key). IsOpenAt (g.D.Device.opened c.hold.new.dev) k (g.F.Buffer.SectionBuffer.extent u)) here (has.is_open s u held);
+          untouched = hold.untouched;
+          moments = hold.moments;
+          entries = hold.entries;
+          reads = hold.reads;
+          guard = (λ is. absurd (cc is), λ below. absurd (cc (done.guard.1 below)));
+          refuses = hold.refuses;
+          overflow = λ is. absurd (cc is);
+          faults = hold.faults;
+          cause = tt;
+        };
       },
     )

@@ -1,14 +1,21 @@
+use Rattle.std.proofs.Common.{inl}
 use Rattle.std.specs.List.{Contains}
 use Rattle.segments.specs.managing.Managed.{shown}
-use Rattle.segments.proofs.sections.SyncLemmas.{BufferLaws, sync_tried_start, syncing_of}
+use Rattle.segments.specs.managing.Settling.{IsAnyBelow}
+use Rattle.segments.proofs.Seen.{err_same, err_seen}
+use Rattle.segments.proofs.sections.SettlingEnds.{below_none, each_refused}
+use Rattle.segments.proofs.sections.SyncLemmas.{BufferLaws}
 use Rattle.segments.proofs.manager.Manager.sync.Goals as goal
 
-pub returns-in_err-check_all-clause-moments : goal.returns-in_err-check_all-clause-moments
-returns-in_err-check_all-clause-moments g c =
-    let b = g.F.Buffer.SectionBuffer in
-    let f = g.F.BufferFactory.gives in
-    let d = g.D.Device in
+pub returns-in_err-check_all : goal.returns-in_err-check_all
+returns-in_err-check_all g c =
     let l = g.met.F.Buffer.SectionBuffer in
-    let laws : BufferLaws b = record { passes = l.passes; looser = l.looser; counted = l.counted; all_settled = l.all_settled; rested = l.rested; found_again = l.found_again } in
-    syncing_of b f d.Tells d.time d.opened d.faults (shown c.args.self) (Contains c.args.sections.now) c.args.dev.now c.args.dev.now
-    (sync_tried_start b f d.Tells d.time d.opened d.faults laws (shown c.args.self) (Contains c.args.sections.now) c.args.dev.now c.requires.over)
+    let laws : BufferLaws g.F.Buffer.SectionBuffer = record { passes = l.passes; looser = l.looser; counted = l.counted; all_settled = l.all_settled; rested = l.rested; found_again = l.found_again } in
+    let pruned = c.in_err-check_all.ensures.cause in
+    let floor = c.args.self.floor in
+    each_refused g.F.Buffer.SectionBuffer g.F.BufferFactory.gives g.D.Device laws (shown c.args.self) c.args.dev.now c.requires.over (Contains c.args.sections.now) (IsAnyBelow (Contains c.args.sections.now) floor)
+    _ _ (err_seen shown c.from_residual.result _ c.from_residual.ensures.1) (λ is. c.in_err-check_all.ensures.guard.0 pruned) (λ below. err_same pruned) (inl (err_same pruned))
+
+pub returns : goal.returns
+returns g c = below_none g.F.Buffer.SectionBuffer g.F.BufferFactory.gives g.D.Device (shown c.args.self) c.args.dev.now c.sync_each.new.dev (Contains c.args.sections.now) _ _
+    (λ below. absurd (cc (c.in_ok-check_all.ensures.guard.1 below))) c.sync_each.ensures

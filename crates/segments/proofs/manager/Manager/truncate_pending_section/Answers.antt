@@ -1,15 +1,17 @@
-use Rattle.std.proofs.Common.{min, arith}
 use Rattle.segments.specs.managing.Managed.{shown}
-use Rattle.segments.proofs.sections.SyncLemmas.{BufferLaws, same_moments}
-use Rattle.segments.proofs.sections.CutLemmas.{leaves_few}
+use Rattle.segments.proofs.Seen.{err_same, err_seen}
+use Rattle.segments.proofs.sections.CuttingEnds.{cut_above, cut_refused}
+use Rattle.segments.proofs.sections.SyncLemmas.{BufferLaws}
 use Rattle.segments.proofs.manager.Manager.truncate_pending_section.Goals as goal
 
-pub returns-in_err-prune_guard-clause-moments : goal.returns-in_err-prune_guard-clause-moments
-returns-in_err-prune_guard-clause-moments g c =
-    let b = g.F.Buffer.SectionBuffer in
-    let f = g.F.BufferFactory.gives in
-    let d = g.D.Device in
+pub returns-in_err-prune_guard : goal.returns-in_err-prune_guard
+returns-in_err-prune_guard g c =
     let l = g.met.F.Buffer.SectionBuffer in
-    let laws : BufferLaws b = record { passes = l.passes; looser = l.looser; counted = l.counted; all_settled = l.all_settled; rested = l.rested; found_again = l.found_again } in
-    same_moments b f d.Tells (shown c.args.self) (d.opened c.args.dev.now) c.args.section (d.time c.args.dev.now) (λ u. min (b.settled u) c.args.size) c.requires.over
-    (λ u x stands. leaves_few b f d.Tells laws u x (min (b.settled u) c.args.size) (omega arith) stands)
+    let laws : BufferLaws g.F.Buffer.SectionBuffer = record { passes = l.passes; looser = l.looser; counted = l.counted; all_settled = l.all_settled; rested = l.rested; found_again = l.found_again } in
+    let pruned = c.in_err-prune_guard.ensures.cause in
+    cut_refused g.F.Buffer.SectionBuffer g.F.BufferFactory.gives g.D.Device laws (shown c.args.self) c.args.dev.now c.requires.over c.args.section c.args.size _
+    _ _ (err_seen shown c.from_residual.result _ c.from_residual.ensures.1) (err_same pruned) (c.in_err-prune_guard.ensures.guard.0 pruned)
+
+pub returns : goal.returns
+returns g c = cut_above g.F.Buffer.SectionBuffer g.F.BufferFactory.gives g.D.Device (shown c.args.self) c.args.section c.args.size c.args.dev.now c.cut_one.new.dev _ _
+    (λ below. absurd (cc (c.in_ok-prune_guard.ensures.guard.1 below))) c.cut_one.ensures
