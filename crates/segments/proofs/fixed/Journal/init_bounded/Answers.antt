@@ -8,7 +8,7 @@ use Rattle.segments.specs.FixedShown as journal
 use Rattle.segments.specs.contracts.sealed.PageBlobSectionBuffer.TheImpl.{ghosts}
 use Rattle.segments.specs.managing.Managed.{shown}
 use Rattle.segments.specs.declared.journal.Error.TheVariants.{Mem}
-use Rattle.segments.specs.declared.manager.Manager.{Manager}
+use Rattle.segments.specs.Sections.{Sections}
 use Rattle.segments.specs.declared.sealed.AppendFactory.{AppendFactory}
 use Rattle.sealed_pages.specs.declared.page_blob.PageBlob.{PageBlob}
 use Rattle.segments.proofs.FixedOpens.{opens_none, opens_failed, opens_memory, opens_ok, opens_as}
@@ -23,7 +23,7 @@ returns-in_err-manager g c =
     opens_as (ghosts g.row.S g.S.Seal g.S.Seal-dict) (λ x. record { page_size = x.pages.page_size; capacity = x.write_buffer }) g.S.Seal.seal_of g.A.CodecFixed.SIZE c.args.ceiling g.D.Device
     r c.args.dev.now c.init_bounded.new.dev (string_bytes c.in_ok-clone.field-0) (string_bytes c.args.cfg.now.partition) c.new.result c.args.cfg.now.pages c.args.cfg.now.write_buffer c.in_ok-clone.ensures.cases c.new.ensures.pages c.new.ensures.write_buffer
     (opens_failed (ghosts g.row.S g.S.Seal g.S.Seal-dict) (λ x. record { page_size = x.pages.page_size; capacity = x.write_buffer }) g.S.Seal.seal_of g.A.CodecFixed.SIZE (string_bytes c.in_ok-clone.field-0) c.new.result c.args.ceiling g.D.Device
-    {U = Manager (AppendFactory g.row.S.Denot) (PageBlob g.row.S.Denot g.S.Seal)} r e c.args.dev.now c.init_bounded.new.dev
+    {U = Sections (AppendFactory g.row.S.Denot) (PageBlob g.row.S.Denot g.S.Seal)} r e c.args.dev.now c.init_bounded.new.dev
     (ap (seen journal.shown) (err_of c.from_residual-in_err-manager.result e c.from_residual-in_err-manager.ensures.1))
     f.moments (λ t name bad. (f.foreign t name bad).1) f.foreign_disk f.foreign_entries f.name_entries f.named f.entries f.overflow f.faults f.cause)
 
