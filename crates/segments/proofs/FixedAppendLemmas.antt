@@ -1,8 +1,8 @@
 -- What an append makes of a fixed journal, and what it leaves of the section's blob.
-use Rattle.std.proofs.Common.{◌≡◌, ◌≢◌, ◌⊎◌, inl, inr, ℕ, ◌+◌, ◌-◌, ◌/◌, ◌%◌, ◌^◌, ◌<◌, ◌≤◌, Bool, true, false, cond, List, [], ◌∷◌, ◌++◌, length, Option, None, Some, IsSome, IsSomeAnd, IfSome, IsTrue, Result, Ok, Err, IfOk, refl, sym, ◌∙◌, ap, subst, arith}
+use Rattle.std.proofs.Common.{◌≡◌, ◌≢◌, ◌⊎◌, inl, inr, ℕ, ◌+◌, ◌-◌, ◌/◌, ◌%◌, ◌^◌, ◌<◌, ◌≤◌, Bool, true, false, cond, List, [], ◌∷◌, ◌++◌, length, Option, None, Some, IsSome, IsSomeAnd, IfSome, IsTrue, Result, Ok, Err, IfOk, add-zero, refl, sym, ◌∙◌, ap, subst, arith}
 use Rattle.std.proofs.lemmas.Bool.{cases_eq}
 use Rattle.std.specs.Result.{MatchResult}
-use Rattle.std.proofs.Math.Nat.{add-mod_right, div-le_self, mul-le-mul_right}
+use Rattle.std.proofs.Math.Nat.{add-mod-mod, div-le_self, mul-le-mul_right}
 use Rattle.std.proofs.Math.Seq.{take-append_seam}
 use Rattle.blob_device.specs.declared.runtime.RError.{RError}
 use Rattle.blob_device.specs.declared.runtime.RError.TheVariants as runtime
@@ -11,8 +11,9 @@ use Rattle.blob_device.specs.Disk.{Key, Blob, Disk}
 use Rattle.blob_device.specs.Opened.{Opened, OpenedList}
 use Rattle.blob_device.specs.Timeline.{Timeline, disk, Always, OnlyAt}
 use Rattle.blob_device.proofs.Moments.{always_now, always_then, only_start}
-use Rattle.sealed_pages.specs.Buffer.{Buffer, extent, size_of, bytes_of, IsSealed}
+use Rattle.sealed_pages.specs.Buffer.{Buffer, extent, size_of, bytes_of, FlushesNothing, IsSealed}
 use Rattle.sealed_pages.specs.ChanceSeal.{Sealing}
+use Rattle.sealed_pages.specs.Cutting.{IsAtRest}
 use Rattle.sealed_pages.specs.declared.page_blob.PageBlob.{PageBlob}
 use Rattle.sealed_pages.specs.Entries.{IsOpenAt}
 use Rattle.sealed_pages.specs.Held.{AreHeldOf}
@@ -25,6 +26,7 @@ use Rattle.sealed_pages.proofs.cutting.Calls.{sealing_whole}
 use Rattle.sealed_pages.proofs.Holding.{holds_start}
 use Rattle.sealed_pages.proofs.PageCalls.{only_weaker}
 use Rattle.sealed_pages.proofs.Shortening.{size_before}
+use Rattle.sealed_pages.proofs.Truncating.{all_flushed}
 use Rattle.sealed_pages.proofs.UnrecoveredLemmas.{unrecovered_prefix}
 use Rattle.segments.specs.declared.buffer.SectionBuffer as buffer
 use Rattle.segments.specs.declared.journal.Error.TheVariants.{Full}
@@ -41,7 +43,7 @@ use Rattle.segments.specs.Sections.{Sections, key_of, IsHeld, IsKnown, IsSame, S
 use Rattle.segments.specs.Setting.{Setting}
 use Rattle.segments.proofs.sections.KeyLemmas.{keys_differ}
 use Rattle.segments.proofs.sections.OverLemmas.{same_key, over_put}
-use Rattle.segments.proofs.WalkLemmas.{has_value, none_or_value, some_same}
+use Rattle.segments.proofs.WalkLemmas.{none_or_value, some_same}
 use Rattle.segments.proofs.FixedWriteLemmas.{ArePages, IsFine, proven_back, fine_of, journal_of, fine_same}
 use Rattle.segments.proofs.FixedCutLemmas.{no_rest, empty_sealed}
 
@@ -70,11 +72,15 @@ pub nothing_adopted : (seal : List ℕ → ℕ) (P : ℕ) (c : List ℕ) → c �
 nothing_adopted seal P c none = length-data_from P (view c) (adopted_size seal P c) 0 ∙ (let e : adopted_size seal P c ≡ 0 = omega (arith, size_before seal P c 0 (omega (arith, ap length none))) in e)
 
 -- a first item fits in any blob
-first_fits : (P n : ℕ) → 1 ≤ P → P < 2 ^ 16 → n ≤ 65535 → extent P n < 2 ^ 64
+pub first_fits : (P n : ℕ) → 1 ≤ P → P < 2 ^ 16 → n ≤ 65535 → extent P n < 2 ^ 64
 unfolding page_at
 first_fits P n pos small few =
     let pages : (n + (P - 1)) / P ≤ 131072 = omega (arith, div-le_self (n + (P - 1)) P, small, few) in
     omega (arith, small, mul-le-mul_right (P + 12) pages)
+
+-- whole items behind whole items
+no_part : (a n size : ℕ) → n % size ≡ 0 → a % size ≡ 0 → (a + n) % size ≡ 0
+no_part a n size few whole = sym (add-mod-mod a n size) ∙ ap (λ (x : ℕ). (a + x) % size) few ∙ ap (λ (x : ℕ). x % size) (add-zero a) ∙ whole
 
 -- a result whose error was mapped
 abbrev pub answer : {T : Type 0} (D : Type 0) → T → Result T D
@@ -210,16 +216,11 @@ module _ {F S : Type 0} {gs : _} (seal : List ℕ → ℕ) (size : ℕ) (told : 
       | inr w ↦ ap (λ (x : PageBlob S gs). size_of (shown x) % size) (takes.same w.0 w.1) ∙ (journal.disk t).whole s w.0 w.1 recovered.checked
     ]
 
-    -- it is full only where it was held
-    pub full_here : told ⊎ IsHeld j.sections s → u.page_size < 2 ^ 16 → size ≤ 65535 → 2 ^ 64 ≤ extent u.page_size (size_of (shown u) + size) → IsSomeAnd (j.sections.held s) (λ w. 2 ^ 64 ≤ extent w.page_size (size_of (shown w) + size))
-    full_here which small few big = elim (none_or_value (j.sections.held s)) [
-      | inl none ↦
-          let long : section_size j.sections s ≡ 0 = rw none refl in
-          let empty : size_of (shown u) + size ≡ size = omega (arith, taken_size which, long) in
-          absurd (omega (arith, big, ap (extent u.page_size) empty, first_fits u.page_size size (omega (arith, u.fit.begun)) small few))
-      | inr w ↦ has_value (j.sections.held s) (λ w. 2 ^ 64 ≤ extent w.page_size (size_of (shown w) + size)) w.0 w.1
-          (subst (λ (x : PageBlob S gs). 2 ^ 64 ≤ extent x.page_size (size_of (shown x) + size)) (takes.same w.0 w.1) big)
-    ]
+    -- too many bytes for the buffer are too many for the section
+    pub full_here : told ⊎ IsHeld j.sections s → (P n : ℕ) → u.page_size ≡ P → 2 ^ 64 ≤ extent u.page_size (size_of (shown u) + n) → 2 ^ 64 ≤ extent P (section_size j.sections s + n)
+    full_here which P n page big =
+        subst (λ (m : ℕ). 2 ^ 64 ≤ extent P (m + n)) (taken_size which)
+        (subst (λ (p : ℕ). 2 ^ 64 ≤ extent p (size_of (shown u) + n)) page big)
 
     -- the moments of a call that takes the bytes of a held section and then adds to them
     pub held_sealing : told → (w : PageBlob S gs) → j.sections.held s ≡ Some w → (more : List ℕ) (c : Timeline) → a ≡ b → Sealing seal u.page_size (bytes_of (shown u) (disk b (key_of j.sections s)).content ++ more) u.settled (key_of j.sections s) b c
@@ -229,8 +230,10 @@ module _ {F S : Type 0} {gs : _} (seal : List ℕ → ℕ) (size : ℕ) (told : 
         (subst (λ (l : List ℕ). Sealing seal u.page_size (l ++ more) u.settled (key_of j.sections s) a c) (taken_bytes t)
         (subst (λ (x : Timeline). Sealing seal u.page_size (bytes_of (shown u) (disk b (key_of j.sections s)).content ++ more) u.settled (key_of j.sections s) x c) (sym stood) sealing))
 
-    -- What an append answered.
-    pub record Appends (c : Timeline) (v : PageBlob S gs) (mid new : OpenedList) : Type 0 where
+    -- What an append of n bytes, whole items, answered.
+    pub record Added (n : ℕ) (c : Timeline) (v : PageBlob S gs) (mid new : OpenedList) : Type 0 where
+      pub few : n % size ≡ 0
+      pub idle : FlushesNothing (shown u) n → disk c ≡ disk b
       pub key : g.key v ≡ key_of j.sections s
       pub setting : g.setting v ≡ gives j.sections.factory
       pub is_open : IsOpenAt new (key_of j.sections s) (g.extent v)
@@ -238,13 +241,13 @@ module _ {F S : Type 0} {gs : _} (seal : List ℕ → ℕ) (size : ℕ) (told : 
       pub adopted : told → IsAdopted seal (shown v) (disk c (key_of j.sections s))
       pub holds : told → AreHeldOf (disk c (key_of j.sections s)).content v.held
       pub sealed : told → IsSealed seal (shown u) (disk b (key_of j.sections s)) → IsSealed seal (shown v) (disk c (key_of j.sections s))
-      pub long : size_of (shown v) ≡ size_of (shown u) + size
+      pub long : size_of (shown v) ≡ size_of (shown u) + n
       pub settled : v.settled ≡ u.settled
       pub others : told → (q : Key) → q ≢ key_of j.sections s → disk c q ≡ disk b q
       pub before : told → (q : Key) → q ≢ key_of j.sections s → disk b q ≡ disk a q
 
-    module _ (pos : 1 ≤ size) (m : Sections F (PageBlob S gs)) (mid : OpenedList) (over : IsOver g gives told m mid (disk b)) (known : IsKnown m s) (first : (q : ℕ) → q ≢ s → IsSame j.sections m q) (bounds : SameBounds j.sections m)
-        (c : Timeline) (v : PageBlob S gs) (new : OpenedList) (appends : Appends c v mid new) (k : Lists F (PageBlob S gs)) (put : IsPut s v m k.sections) (owes : (q : ℕ) → k.unrecovered q ≡ j.unrecovered q) (floors : (q : ℕ) → k.floor_of q ≡ j.floor_of q) where
+    module _ (n : ℕ) (m : Sections F (PageBlob S gs)) (mid : OpenedList) (over : IsOver g gives told m mid (disk b)) (known : IsKnown m s) (first : (q : ℕ) → q ≢ s → IsSame j.sections m q) (bounds : SameBounds j.sections m)
+        (c : Timeline) (v : PageBlob S gs) (new : OpenedList) (appends : Added n c v mid new) (k : Lists F (PageBlob S gs)) (put : IsPut s v m k.sections) (owes : (q : ℕ) → k.unrecovered q ≡ j.unrecovered q) (floors : (q : ℕ) → k.floor_of q ≡ j.floor_of q) where
       here : key_of m s ≡ key_of j.sections s
       here = same_key j.sections m bounds s
 
@@ -255,13 +258,22 @@ module _ {F S : Type 0} {gs : _} (seal : List ℕ → ℕ) (size : ℕ) (told : 
         ceiling = put.bounds.ceiling ∙ bounds.ceiling;
       }
 
+      -- all has settled only where nothing was added
+      rested : told → v.settled ≡ size_of (shown v) → IsAtRest (disk c (key_of j.sections s))
+      rested t all =
+          let was_all : u.settled ≡ size_of (shown u) = omega (arith, all, appends.long, appends.settled, u.order, u.fit.within) in
+          let none : n ≡ 0 = omega (arith, all, appends.long, appends.settled, u.order, u.fit.within) in
+          let flushed : u.from ≡ length u.tip.items = all_flushed (shown u) u.fit.within u.order was_all in
+          subst (λ (d : Disk). IsAtRest (d (key_of j.sections s))) (sym (appends.idle (inr (omega (arith, none, flushed)))))
+          ((pages.stands u (disk b (key_of j.sections s)) (takes.stands t)).rest was_all)
+
       over_again : IsOver g gives told k.sections new (disk c)
       over_again = over_put g gives m k.sections mid new (disk b) (disk c) s v over put known (omega (arith, bounds.ceiling, recovered.below)) (appends.key ∙ sym here) (appends.setting ∙ ap gives (sym bounds.place.factory))
           (subst (λ (q : Key). IsOpenAt new q (g.extent v)) (sym here) appends.is_open) (subst (λ (q : Key). OnlyOwnEntry q mid new) (sym here) appends.entries)
           (λ t. subst (λ (p : Key). (q : Key) → q ≢ p → disk c q ≡ disk b q) (sym here) (appends.others t))
           (λ t. subst (λ (q : Key). g.Stands v (disk c q)) (sym here) (pages.is_stands v (disk c (key_of j.sections s)) (record {
             adopted = appends.adopted t;
-            rest = λ all. absurd (omega (arith, all, appends.long, appends.settled, pos, u.order, u.fit.within));
+            rest = rested t;
           }) (appends.holds t)))
 
       fine_here : IsFine seal size told k (disk c) s
@@ -271,7 +283,7 @@ module _ {F S : Type 0} {gs : _} (seal : List ℕ → ℕ) (size : ℕ) (told : 
         sealed = λ t w held is. subst (λ (x : PageBlob S gs). IsSealed seal (shown x) (disk c (key_of k.sections s))) (some_same v w (sym put.here ∙ held))
             (subst (λ (q : Key). IsSealed seal (shown v) (disk c q)) (sym (same_key j.sections k.sections same_bounds s)) (appends.sealed t (taken_sealed t (inr (proven_back j k s (owes s) (floors s) is)))));
         whole = λ t w held is. subst (λ (x : PageBlob S gs). size_of (shown x) % size ≡ 0) (some_same v w (sym put.here ∙ held))
-            (ap (λ (n : ℕ). n % size) appends.long ∙ add-mod_right (size_of (shown u)) size ∙ taken_whole t);
+            (ap (λ (x : ℕ). x % size) appends.long ∙ no_part (size_of (shown u)) n size appends.few (taken_whole t));
         later = λ t is. absurd (cc (subst IsSome put.opened is));
       }
 

@@ -23,6 +23,8 @@ pub mod FixedWriteLemmas
 pub mod FixedCutLemmas
 pub mod FixedAdopted
 pub mod FixedAppendLemmas
+pub mod FixedAdding
+pub mod FixedSpared
 pub mod FixedOpenLemmas
 pub mod FixedOpens
 pub mod FixedErrors

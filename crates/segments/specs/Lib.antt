@@ -18,6 +18,7 @@ pub mod unsealed
 pub mod FixedItems
 pub mod FixedReading
 pub mod FixedFull
+pub mod FixedAdding
 pub mod FixedLists
 pub mod FixedLasting
 pub mod FixedShown

@@ -1,19 +1,14 @@
 // Adding items to a fixed journal, and settling them.
-ghost use Rattle.std.specs.Prelude.{◌≡◌, ◌≢◌, ◌↔◌, ◌⊎◌, ◌≤◌, ◌<◌, ◌+◌, ◌/◌, ◌^◌, ◌++◌, ⊤, ℕ, List, Some, None, false, IfOk, OnOk, OnErr, IsSomeAnd, IsTrue};
+ghost use Rattle.std.specs.Prelude.{◌≡◌, ◌↔◌, ◌⊎◌, ◌≤◌, ◌<◌, ◌+◌, ◌/◌, ◌%◌, ◌^◌, length, ⊤, ℕ, Some, None, false, IfOk, OnErr, IsSomeAnd, IsTrue};
 ghost use Rattle.std.specs.Result.{IsErrOf};
 ghost use Rattle.std.specs.List.{Contains};
 ghost use Rattle.blob_device.specs.Disk.{Key};
 ghost use Rattle.blob_device.specs.Timeline.{disk, Always, Each};
-ghost use Rattle.sealed_pages.specs.Buffer.{extent, size_of, FlushesNothing, IsSealed};
-ghost use Rattle.sealed_pages.specs.ChanceSeal.{Sealing};
-ghost use Rattle.sealed_pages.specs.SealedPrefix.{sealed_prefix};
-ghost use Rattle.sealed_pages.specs.Unrecovered.{IsUnrecovered, KeepsPrefix};
-ghost use Rattle.sealed_pages.specs.Flushing.{Alone};
-ghost use Rattle.segments.specs.Leaving.{AllMoments};
-ghost use Rattle.segments.specs.Entries.{OnlyOwnEntry};
-ghost use Rattle.segments.specs.Sections.{key_of, IsHeld, IsKeyOf, IsSame, SameBounds, IsSynced};
+ghost use Rattle.sealed_pages.specs.Buffer.{extent, size_of};
+ghost use Rattle.segments.specs.Sections.{key_of, IsKeyOf, SameBounds, IsSynced};
 ghost use Rattle.segments.specs.Lasting.{IsUnsettled};
-ghost use Rattle.segments.specs.Refusing.{HasFailed, HasNoRoom, IsPruned};
+ghost use Rattle.segments.specs.Refusing.{HasFailed, IsPruned};
+ghost use Rattle.segments.specs.FixedAdding.{Appends, Overfills, WouldOverfill};
 ghost use Rattle.segments.specs.FixedFull.{full_or_raised_of};
 
 use super::Journal;
@@ -47,9 +42,8 @@ fn full_or_raised(e: RError) -> Error
 impl<A: CodecFixed, S: Seal> Journal<A, S> {
     ghost use Rattle.sealed_pages.specs.Shown as page_blob;
     ghost use Rattle.segments.specs.FixedShown.{shown};
-    ghost use Rattle.segments.specs.FixedLists.{IsJournal, IsRecovered, section_bytes, section_size};
-    ghost use Rattle.segments.specs.FixedLasting.{IsBeginning, Settling};
-    ghost use Rattle.segments.specs.Tails.{IsTailAfter};
+    ghost use Rattle.segments.specs.FixedLists.{IsJournal, IsRecovered};
+    ghost use Rattle.segments.specs.FixedLasting.{Settling};
 
     /// Whether an append to the section would answer `Full`: whether one item more makes its blob, with both slots of its last page, pass the
     /// greatest `u64`. It takes no memory.
@@ -73,55 +67,48 @@ impl<A: CodecFixed, S: Seal> Journal<A, S> {
         section: u64,
         item: &A,
     ) -> Result<(Self, u64), Error>
-        requires over { IsJournal ⟦<PageBlob<S> as SectionBuffer>⟧ ⟦<AppendFactory<S> as BufferFactory>⟧.gives S.seal_of A.SIZE D.Tells (shown self) (D.opened dev.old) (disk (D.time dev.old)) }
+        requires over { IsJournal
+            ⟦<PageBlob<S> as SectionBuffer>⟧ ⟦<AppendFactory<S> as BufferFactory>⟧.gives
+            S.seal_of A.SIZE D.Tells (shown self) (D.opened dev.old) (disk (D.time dev.old)) }
         requires recovered { IsRecovered (shown self) section }
         requires accepted { A.accepted item.now tt }
-        ensures over { IfOk result (λ r. IsJournal ⟦<PageBlob<S> as SectionBuffer>⟧ ⟦<AppendFactory<S> as BufferFactory>⟧.gives S.seal_of A.SIZE D.Tells (shown r.0) (D.opened dev.new) (disk (D.time dev.new))) }
-        ensures position { IfOk result (λ r. D.Tells ⊎ IsHeld (shown self).sections section → r.1 ≡ section_size (shown self).sections section / A.SIZE) }
-        ensures size { IfOk result (λ r. D.Tells ⊎ IsHeld (shown self).sections section → section_size (shown r.0).sections section ≡ section_size (shown self).sections section + A.SIZE) }
-        ensures bytes { D.Tells → IfOk result (λ r. section_bytes (shown r.0).sections (disk (D.time dev.new)) section ≡ section_bytes (shown self).sections (disk (D.time dev.old)) section ++ A.spelling item.now) }
-        // What is not flushed then: all, until it reaches the capacity.
-        ensures tail { IfOk result
-            (λ r. IsTailAfter (shown self).sections section A.SIZE (shown r.0).sections) }
-        ensures held { IfOk result (λ r. IsHeld (shown r.0).sections section) }
-        ensures settled { IfOk result (λ r. (u v : _) → (shown self).sections.held section ≡ Some u → (shown r.0).sections.held section ≡ Some v → v.settled ≡ u.settled) }
-        ensures others { IfOk result (λ r. (q : ℕ) → q ≢ section → IsSame (shown self).sections (shown r.0).sections q) }
-        ensures bounds { IfOk result (λ r. SameBounds (shown self).sections (shown r.0).sections) }
-        ensures unrecovered { IfOk result (λ r. (q : ℕ) → (shown r.0).unrecovered q ≡ (shown self).unrecovered q) }
-        ensures floors { IfOk result (λ r. (q : ℕ) → (shown r.0).floor_of q ≡ (shown self).floor_of q) }
-        // At every moment, also where the call fails, no other blob changes.
-        ensures alone { D.Tells → Alone (key_of (shown self).sections section) (D.time dev.old) (D.time dev.new) }
-        // Each crash leaves of a section that is sealed, as each proven one is, a prefix of its bytes, this item's included, and no shorter than
-        // what has settled. It stays sealed. Of one that is not sealed each crash leaves the sealed prefix, as it reads.
-        ensures moments { D.Tells → (u : _) → (shown self).sections.held section ≡ Some u → IsSealed S.seal_of (page_blob.shown u) (disk (D.time dev.old) (key_of (shown self).sections section))
-            → Sealing S.seal_of u.page_size (section_bytes (shown self).sections (disk (D.time dev.old)) section ++ A.spelling item.now) u.settled (key_of (shown self).sections section) (D.time dev.old) (D.time dev.new) }
-        ensures sealed { D.Tells → IfOk result (λ r. (u v : _) → (shown self).sections.held section ≡ Some u → (shown r.0).sections.held section ≡ Some v
-            → IsSealed S.seal_of (page_blob.shown u) (disk (D.time dev.old) (key_of (shown self).sections section)) → IsSealed S.seal_of (page_blob.shown v) (disk (D.time dev.new) (key_of (shown self).sections section))) }
-        ensures steady { D.Tells → (u : _) → (shown self).sections.held section ≡ Some u → IsUnrecovered S.seal_of (page_blob.shown u) (disk (D.time dev.old) (key_of (shown self).sections section))
-            → KeepsPrefix S.seal_of u.page_size (sealed_prefix S.seal_of u.page_size (disk (D.time dev.old) (key_of (shown self).sections section)).content) (key_of (shown self).sections section) (D.time dev.old) (D.time dev.new) }
-        ensures made { D.Tells → (shown self).sections.held section ≡ None
-            → AllMoments (key_of (shown self).sections section) (IsBeginning S.seal_of (shown self).sections.factory.pages.page_size (A.spelling item.now) (disk (D.time dev.old) (key_of (shown self).sections section))) (D.time dev.old) (D.time dev.new) }
-        // Below the buffer's capacity no call of the device is made.
-        ensures below { (u : _) → (shown self).sections.held section ≡ Some u → FlushesNothing (page_blob.shown u) A.SIZE → dev.new ≡ dev.old }
-        ensures entries { OnlyOwnEntry (key_of (shown self).sections section) (D.opened dev.old) (D.opened dev.new) }
-        ensures guard { IsPruned result (shown self).sections.floor ↔ (section < (shown self).sections.floor) }
-        ensures refuses { section < (shown self).sections.floor → dev.new ≡ dev.old }
-        // A section is full exactly where its blob, with both slots of its last page, would pass 2^64.
-        ensures full { IsErrOf result Error.Full → D.Tells ⊎ IsHeld (shown self).sections section → IsSomeAnd ((shown self).sections.held section) (λ u. 2 ^ 64 ≤ extent u.page_size (size_of (page_blob.shown u) + A.SIZE)) }
-        ensures full_first { (shown self).sections.floor ≤ section → (u : _) → (shown self).sections.held section ≡ Some u → 2 ^ 64 ≤ extent u.page_size (size_of (page_blob.shown u) + A.SIZE) → IsErrOf result Error.Full ⊎ IsErrOf result Error.Mem }
-        ensures no_room { D.Tells → HasNoRoom result → ⊥ }
-        ensures room { OnOk result ((u : _) → (shown self).sections.held section ≡ Some u → extent u.page_size (size_of (page_blob.shown u) + A.SIZE) < 2 ^ 64) }
-        ensures faults { D.faults dev.old ≤ D.faults dev.new }
-        ensures cause { OnErr result (IsPruned result (shown self).sections.floor ⊎ (IsErrOf result Error.Full ⊎ (HasNoRoom result ⊎ HasFailed result (D.faults dev.old) (D.faults dev.new)))) }
+        ensures { Appends (shown self) section
+            ⟦<PageBlob<S> as SectionBuffer>⟧ ⟦<AppendFactory<S> as BufferFactory>⟧.gives
+            S.seal_of A.SIZE (A.spelling item.now) A.SIZE (Overfills (shown self) section A.SIZE)
+            D.Device result (λ r. (shown r.0, r.1)) dev.old dev.new }
     {
         self.manager.prune_guard(section)?;
+        // Spelled before the section is taken: where there is no memory for that, none is made.
         let bytes = spelled(self.alloc, item)?;
+        self.append_bytes(dev, section, bytes.as_slice())
+    }
+
+    /// Adds bytes at the end of the section, a whole number of items, by one append of its buffer. The section is made where it is
+    /// not held. The answer has the position of the first item.
+    ///
+    /// `Full` says that the section's blob would pass the greatest `u64`.
+    pub fn append_bytes<D: Device>(
+        self,
+        dev: &mut D,
+        section: u64,
+        bytes: &[u8],
+    ) -> Result<(Self, u64), Error>
+        requires over { IsJournal
+            ⟦<PageBlob<S> as SectionBuffer>⟧ ⟦<AppendFactory<S> as BufferFactory>⟧.gives
+            S.seal_of A.SIZE D.Tells (shown self) (D.opened dev.old) (disk (D.time dev.old)) }
+        requires recovered { IsRecovered (shown self) section }
+        requires whole { length bytes.now % A.SIZE ≡ 0 }
+        ensures { Appends (shown self) section
+            ⟦<PageBlob<S> as SectionBuffer>⟧ ⟦<AppendFactory<S> as BufferFactory>⟧.gives
+            S.seal_of A.SIZE bytes.now (length bytes.now)
+            (WouldOverfill (shown self) section (length bytes.now))
+            D.Device result (λ r. (shown r.0, r.1)) dev.old dev.new }
+    {
         let mut this = self;
-        // Behind the spelling: where there is no memory for that, no section is made.
+        // A section below the floor is refused by this, before one is made.
         let buffer = this.manager.take(dev, section)?;
-        let (buffer, offset) = buffer
-            .append(dev, bytes.as_slice())
-            .map_err(full_or_raised)?;
+        // In one append: a flush between two would leave a part of the items.
+        let (buffer, offset) = buffer.append(dev, bytes).map_err(full_or_raised)?;
         this.manager.put(section, buffer)?;
         Ok((this, offset / A::SIZE as u64))
     }
