@@ -2,6 +2,7 @@
 ghost use Rattle.std.specs.Prelude.{◌≡◌, ◌↔◌, ◌⊎◌, ◌≤◌, ◌<◌, ◌+◌, ◌/◌, ◌%◌, ◌^◌, length, ⊤, ℕ, Some, None, false, IfOk, OnErr, IsSomeAnd, IsTrue};
 ghost use Rattle.std.specs.Result.{IsErrOf};
 ghost use Rattle.std.specs.List.{Contains};
+ghost use Rattle.std.specs.Option.{option_copied};
 ghost use Rattle.blob_device.specs.Disk.{Key};
 ghost use Rattle.blob_device.specs.Timeline.{disk, Always, Each};
 ghost use Rattle.sealed_pages.specs.Buffer.{extent, size_of};
@@ -111,6 +112,16 @@ impl<A: CodecFixed, S: Seal> Journal<A, S> {
         let (buffer, offset) = buffer.append(dev, bytes).map_err(full_or_raised)?;
         this.manager.put(section, buffer)?;
         Ok((this, offset / A::SIZE as u64))
+    }
+
+    /// The section's buffer, if the section is held, for reads of any range. It takes no memory.
+    pub fn buffer(&self, section: u64) -> Result<Option<&PageBlob<S>>, Error>
+        ensures held { IfOk result (λ r. option_copied r ≡ (shown self.now).sections.held section) }
+        ensures guard { IsPruned result (shown self.now).sections.floor
+            ↔ (section < (shown self.now).sections.floor) }
+        ensures cause { OnErr result (IsPruned result (shown self.now).sections.floor) }
+    {
+        self.manager.get(section)
     }
 
     /// Settles these sections. One that is not held is passed over. All are checked before one is synced.
