@@ -54,14 +54,14 @@ nearer_begun a b x le small =
     let w = word in
     omega (arith, times_next b (w + 1), mul-le (b + 1) (w + 1) a (w + 1) le (omega arith), small, word_is)
 
-place_fails : {F S : Type 0} {gs : _} (seal : List ℕ → ℕ) (size : ℕ) (w : Walk F (PageBlob S gs)) (r : Place) → IsSomeAnd (w.journal.sections.held r.section) (StandsIn size w r) → IsSomeAnd (w.journal.sections.held r.section) (StandsIn size (failing w) r)
+pub place_fails : {F S : Type 0} {gs : _} (seal : List ℕ → ℕ) (size : ℕ) (w : Walk F (PageBlob S gs)) (r : Place) → IsSomeAnd (w.journal.sections.held r.section) (StandsIn size w r) → IsSomeAnd (w.journal.sections.held r.section) (StandsIn size (failing w) r)
 place_fails {S = S} {gs = gs} seal size w r has = go (w.journal.sections.held r.section) has
   where
     go : (o : Option (PageBlob S gs)) → IsSomeAnd o (StandsIn size w r) → IsSomeAnd o (StandsIn size (failing w) r)
     go None h = h
     go (Some u) h = record { key = h.key; page_size = h.page_size; end = h.end; blob_size = h.blob_size; flushed = h.flushed; at = h.at; within = h.within; begun = h.begun }
 
-reads_fails : {F S : Type 0} {gs : _} (seal : List ℕ → ℕ) (size : ℕ) (w : Walk F (PageBlob S gs)) (d : Disk) (r : Place) → IsSomeAnd (w.journal.sections.held r.section) (ReadsIn seal w d r) → IsSomeAnd (w.journal.sections.held r.section) (ReadsIn seal (failing w) d r)
+pub reads_fails : {F S : Type 0} {gs : _} (seal : List ℕ → ℕ) (size : ℕ) (w : Walk F (PageBlob S gs)) (d : Disk) (r : Place) → IsSomeAnd (w.journal.sections.held r.section) (ReadsIn seal w d r) → IsSomeAnd (w.journal.sections.held r.section) (ReadsIn seal (failing w) d r)
 reads_fails {S = S} {gs = gs} seal size w d r has = go (w.journal.sections.held r.section) has
   where
     go : (o : Option (PageBlob S gs)) → IsSomeAnd o (ReadsIn seal w d r) → IsSomeAnd o (ReadsIn seal (failing w) d r)

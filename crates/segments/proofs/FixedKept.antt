@@ -27,13 +27,17 @@ data_front : (P m n k : ℕ) (v : View) → k ≤ n → take k (data_from P v m 
 data_front P m n k v le = read_data P m k v (take k (data_from P v m n)) (omega (arith, length-take k (data_from P v m n), length-data_from P v n m, le))
     (λ i lt. get_or-take k (data_from P v m n) i 0 lt ∙ get_or-data_from P v n m i (omega (arith, lt, le)))
 
--- an item among data
+-- bytes among data
+range_data : (P at n all : ℕ) (v : View) → at + n ≤ all → take n (drop at (data_from P v 0 all)) ≡ data_from P v at n
+range_data P at n all v fits =
+    let whole = data_from P v 0 all in
+    read_data P at n v (take n (drop at whole)) (omega (arith, length-take n (drop at whole), length-drop at whole, length-data_from P v all 0, fits))
+    (λ i lt. get_or-take n (drop at whole) i 0 lt ∙ get_or-drop at whole i 0 ∙ get_or-data_from P v all 0 (at + i) (omega (arith, lt, fits))
+    ∙ (let e : 0 + (at + i) ≡ at + i = omega arith in ap (λ (x : ℕ). v (place P x)) e))
+
+-- an item among them
 pub item_data : (P size n p : ℕ) (v : View) → p * size + size ≤ n → item_at size (data_from P v 0 n) p ≡ data_from P v (p * size) size
-item_data P size n p v fits =
-    let all = data_from P v 0 n in
-    read_data P (p * size) size v (take size (drop (p * size) all)) (omega (arith, length-take size (drop (p * size) all), length-drop (p * size) all, length-data_from P v n 0, fits))
-    (λ i lt. get_or-take size (drop (p * size) all) i 0 lt ∙ get_or-drop (p * size) all i 0 ∙ get_or-data_from P v n 0 (p * size + i) (omega (arith, lt, fits))
-    ∙ (let e : 0 + (p * size + i) ≡ p * size + i = omega arith in ap (λ (x : ℕ). v (place P x)) e))
+item_data P size n p v fits = range_data P (p * size) size n v fits
 
 -- the place behind the last whole item
 pub last_place : (size n p : ℕ) → 1 ≤ size → p * size ≤ n → n < p * size + size → n / size ≡ p
@@ -79,13 +83,18 @@ module _ (seal : List ℕ → ℕ) (P : ℕ) (c : List ℕ) (pos : 1 ≤ P) wher
       let own = own_prefix seal P c in
       own.is ∙ data_front P 0 (adopted_size seal P c) (length (sealed_prefix seal P c)) (view c) (omega (arith, own.no_longer, length-data_from P (view c) (adopted_size seal P c) 0))
 
+  -- the bytes at hand
+  pub range_kept : (kept : List ℕ) → kept ≡ data_from P (view c) 0 (length kept) → (n at : ℕ) (bytes : List ℕ) → bytes ≡ data_from P (view c) at (length bytes) → n ≤ length bytes → at + length bytes ≤ length kept
+      → take n bytes ≡ take n (drop at kept)
+  range_kept kept stands n at bytes is has fits =
+      ap (take n) is ∙ data_front P at (length bytes) n (view c) has
+      ∙ sym (range_data P at n (length kept) (view c) (omega (arith, has, fits)))
+      ∙ ap (λ (l : List ℕ). take n (drop at l)) (sym stands)
+
   -- the item at hand
   pub item_kept : (kept : List ℕ) → kept ≡ data_from P (view c) 0 (length kept) → (size p at : ℕ) (bytes : List ℕ) → bytes ≡ data_from P (view c) at (length bytes) → at ≡ p * size → size ≤ length bytes → at + length bytes ≤ length kept
       → take size bytes ≡ item_at size kept p
-  item_kept kept stands size p at bytes is here has fits =
-      ap (take size) is ∙ data_front P at (length bytes) size (view c) has ∙ ap (λ (m : ℕ). data_from P (view c) m size) here
-      ∙ sym (item_data P size (length kept) p (view c) (omega (arith, here, has, fits)))
-      ∙ ap (λ (l : List ℕ). item_at size l p) (sym stands)
+  item_kept kept stands size p at bytes is here has fits = range_kept kept stands size at bytes is has fits ∙ ap (λ (m : ℕ). take size (drop m kept)) here
 
   -- with bytes behind them that are covered too
   pub covered_on : (at n : ℕ) → IsCovered seal P c 0 at → IsCovered seal P c at n → IsCovered seal P c 0 (at + n)

@@ -33,6 +33,7 @@ use Rattle.segments.specs.declared.journal.Error.TheVariants.{ItemOutOfRange, Co
 use Rattle.value_codec.specs.declared.codec.Error as codec
 use Rattle.segments.specs.Setting.{Setting}
 use Rattle.segments.specs.Sections.{Sections, key_of, IsHeld, IsKeyOf, HasOpened, StandsOver}
+use Rattle.segments.specs.Entries.{OnlyOwnEntry}
 use Rattle.segments.specs.FixedItems.{item_at, IsItem}
 use Rattle.segments.specs.Refusing.{HasFailed}
 use Rattle.segments.specs.FixedReading.{HasNotRead, IsBelowFloor}
@@ -70,7 +71,7 @@ pub failed_since : {T : Type 0} (x : Result T Error) (few some many : ℕ) → f
 failed_since x few some many le has = elim has [ inl mem ↦ inl mem | inr fault ↦ inr (fault.0, rose_since few some many le fault.1) ]
 
 -- the reader behind n bytes
-advanced : (seal : List ℕ → ℕ) (content : List ℕ) (n : ℕ) (r : Reader) → n ≤ length r.bytes → IsReplayOf seal content r → IsReplayOf seal content (record r { at = r.at + n; bytes = drop n r.bytes })
+pub advanced : (seal : List ℕ → ℕ) (content : List ℕ) (n : ℕ) (r : Reader) → n ≤ length r.bytes → IsReplayOf seal content r → IsReplayOf seal content (record r { at = r.at + n; bytes = drop n r.bytes })
 advanced seal content n r fits is = record {
   bytes = data_drop r.page_size r.at n (view content) r.bytes is.bytes fits;
   covered = covered_rest seal r.page_size content r.at (length r.bytes) n (length (drop n r.bytes)) is.covered fits (length-drop n r.bytes);
@@ -213,17 +214,8 @@ module _ {F S : Type 0} {gs : _} (seal : List ℕ → ℕ) (size : ℕ) (g : buf
       disk = λ t. subst (WalksOver seal size (standing w on)) (sym (same_disk t)) (walks_on t);
     }
 
-    left_read : (d : Disk) (t q : ℕ) → IsLeft seal size (standing w on) d t q ↔ IsLeft seal size (standing w r) d t q
-    left_read d t q = (
-      λ l. record { goes_on = l.goes_on; begun = l.begun; whole = l.whole; ahead = l.ahead },
-      λ l. record { goes_on = l.goes_on; begun = l.begun; whole = l.whole; ahead = l.ahead },
-    )
-
-    replaying_read : (d : Disk) (q : Key) (x : Blob) → Replaying seal size (standing w on) d q x → Replaying seal size (standing w r) d q x
-    replaying_read d q x is = record { flushed = is.flushed; front = is.front; cut = is.cut; still = is.still; others = λ never. is.others (λ k. never (k.0, k.1, k.2)) }
-
     -- each read took a page that was not read
-    count_read : ReadsUnread r.reader more before after → (t : ℕ) → IsHeld w.journal.sections t
+    pub count_read : ReadsUnread r.reader more before after → (t : ℕ) → IsHeld w.journal.sections t
         → reads_of (after (key_of w.journal.sections t)) + reads_left (standing w on) t ≤ reads_of (before (key_of w.journal.sections t)) + reads_left (standing w r) t
     count_read read t held = elim (cases_eq t r.section) [
       | inl at ↦ subst (λ (k : ℕ). reads_of (after (key_of w.journal.sections k)) + reads_left (standing w on) k ≤ reads_of (before (key_of w.journal.sections k)) + reads_left (standing w r) k) (sym at)
@@ -237,9 +229,27 @@ module _ {F S : Type 0} {gs : _} (seal : List ℕ → ℕ) (size : ℕ) (g : buf
           omega (arith, ap reads_of (reads.others (key_of w.journal.sections t) apart), count_apart w r on t (λ is. other (sym is)) (λ is. other (sym is)))
     ]
 
+  -- The reader took more bytes, and then a step is made.
+  module _ (r : Place) (more : Reader) (before after : OpenedList) (a b : Timeline) (was : IsWalk g gives seal size told (standing w r) before (disk a)) (same : SameReader r.reader more)
+      (stood : told → Unchanged a b) (entries : OnlyOwnEntry (key_of w.journal.sections r.section) before after) where
+    abbrev more_at : Place
+    more_at = record { section = r.section; position = r.position; reader = more }
+
+    stood_disk : told → disk b ≡ disk a
+    stood_disk t = always_now a b (λ x. x ≡ disk a) (stood t)
+
+    left_read : (d : Disk) (t q : ℕ) → IsLeft seal size (standing w more_at) d t q ↔ IsLeft seal size (standing w r) d t q
+    left_read d t q = (
+      λ l. record { goes_on = l.goes_on; begun = l.begun; whole = l.whole; ahead = l.ahead },
+      λ l. record { goes_on = l.goes_on; begun = l.begun; whole = l.whole; ahead = l.ahead },
+    )
+
+    replaying_read : (d : Disk) (q : Key) (x : Blob) → Replaying seal size (standing w more_at) d q x → Replaying seal size (standing w r) d q x
+    replaying_read d q x is = record { flushed = is.flushed; front = is.front; cut = is.cut; still = is.still; others = λ never. is.others (λ k. never (k.0, k.1, k.2)) }
+
     -- What a step from there on does, it does from here on.
     pub steps_read : {V : Type 0} (spelling : V → List ℕ) (accepted : V → Unit {0} → Type 0) (refusal : List ℕ → Unit {0} → Option codec.Error) (result : Result (Option (ℕ × ℕ × V)) Error) (new : Walk F (PageBlob S gs)) (last : OpenedList) (c : Timeline) (few some many : ℕ)
-        → few ≤ some → OnOk result (ReadsUnread r.reader more before after) → Steps seal size g gives spelling accepted refusal told result (standing w on) new after last b c some many → Steps seal size g gives spelling accepted refusal told result (standing w r) new before last a c few many
+        → few ≤ some → OnOk result (ReadsOnce (standing w r) (standing w more_at) before after) → Steps seal size g gives spelling accepted refusal told result (standing w more_at) new after last b c some many → Steps seal size g gives spelling accepted refusal told result (standing w r) new before last a c few many
     steps_read {V = V} spelling accepted refusal result new last c few some many le unread step = record {
       over = step.over;
       broken = step.broken;
@@ -249,19 +259,19 @@ module _ {F S : Type 0} {gs : _} (seal : List ℕ → ℕ) (size : ℕ) (g : buf
       bytes = λ q u v held now free. (let has = step.bytes q u v held now free in record {
         size = has.size;
         settled = has.settled;
-        bytes = λ t. subst (λ (d : Disk). bytes_of (shown v) (disk c (key_of w.journal.sections q)).content ≡ bytes_of (shown u) (d (key_of w.journal.sections q)).content) (same_disk t) (has.bytes t);
+        bytes = λ t. subst (λ (d : Disk). bytes_of (shown v) (disk c (key_of w.journal.sections q)).content ≡ bytes_of (shown u) (d (key_of w.journal.sections q)).content) (stood_disk t) (has.bytes t);
       });
       onward = λ q h. step.onward q h;
       stays = step.stays;
       floors = step.floors;
-      items = λ t going. subst (λ (d : Disk). KeepsItems seal size (standing w on) d (disk c)) (same_disk t) (step.items t going);
+      items = λ t going. subst (λ (d : Disk). KeepsItems seal size (standing w more_at) d (disk c)) (stood_disk t) (step.items t going);
       later = λ t. later_read t result (step.later t);
-      carries = λ t is. (let has = subst (λ (d : Disk). Carries seal size (standing w on) new d (disk c)) (same_disk t) (step.carries t is) in record {
+      carries = λ t is. (let has = subst (λ (d : Disk). Carries seal size (standing w more_at) new d (disk c)) (stood_disk t) (step.carries t is) in record {
         left = λ q p. (λ l. (left_read (disk a) q p).0 ((has.left q p).0 l), λ l. (has.left q p).1 ((left_read (disk a) q p).1 l));
         kept = has.kept;
         sizes = has.sizes;
       });
-      item = λ t q p v is. (let has = subst (λ (d : Disk). Gives seal size spelling accepted (standing w on) new d (disk c) q p v) (same_disk t) (step.item t q p v is) in record {
+      item = λ t q p v is. (let has = subst (λ (d : Disk). Gives seal size spelling accepted (standing w more_at) new d (disk c) q p v) (stood_disk t) (step.item t q p v is) in record {
         left = (left_read (disk a) q p).0 has.left;
         first = λ x y l. has.first x y ((left_read (disk a) x y).1 l);
         item = has.item;
@@ -269,15 +279,15 @@ module _ {F S : Type 0} {gs : _} (seal : List ℕ → ℕ) (size : ℕ) (g : buf
         rest = λ x y. (λ l. (let was = (has.rest x y).0 l in ((left_read (disk a) x y).0 was.0, was.1)), λ l. (has.rest x y).1 ((left_read (disk a) x y).1 l.0, l.1));
       });
       stops = λ t. stops_read t result (step.stops t);
-      start = λ t p is. (let has = step.start t p is in (has.0, subst (λ (d : Disk). length (kept_bytes seal size (standing w on) d w.start_section) < p * size) (same_disk t) has.1, has.2, ended_read t w.start_section has.3));
+      start = λ t p is. (let has = step.start t p is in (has.0, subst (λ (d : Disk). length (kept_bytes seal size (standing w more_at) d w.start_section) < p * size) (stood_disk t) has.1, has.2, ended_read t w.start_section has.3));
       damage = λ t x is. (let has = step.damage t x is in
-          let below = subst (λ (d : Disk). EndsBelow seal size (standing w on) d x) (same_disk t) has.0 in
+          let below = subst (λ (d : Disk). EndsBelow seal size (standing w more_at) d x) (stood_disk t) has.0 in
           (record { owes = below.owes; held = below.held; kept = below.kept; wanted = below.wanted; less = below.less }, has.1, ended_read t x.section has.2));
       damaged = λ t k is. (let has = (step.damaged t k is).damage in record {
         damage = record { section = has.section; position = has.position; near = has.near; free = has.free; floor = has.floor; within = has.within; page = has.page };
         ends = ended_read t has.section (step.damaged t k is).ends;
       });
-      refused = λ t e is. (let has = subst (λ (d : Disk). Refuses seal size refusal (standing w on) new d (disk c) e) (same_disk t) (step.refused t e is) in record {
+      refused = λ t e is. (let has = subst (λ (d : Disk). Refuses seal size refusal (standing w more_at) new d (disk c) e) (stood_disk t) (step.refused t e is) in record {
         section = has.section;
         position = has.position;
         left = (left_read (disk a) has.section has.position).0 has.left;
@@ -293,34 +303,34 @@ module _ {F S : Type 0} {gs : _} (seal : List ℕ → ℕ) (size : ℕ) (g : buf
           section = has.section;
           near = has.near;
           owes = has.owes;
-          longer = λ t. subst (λ (d : Disk). length (kept_bytes seal size (standing w on) d has.section) / size * size < section_size w.journal.sections has.section) (same_disk t) (has.longer t);
-          given = λ t x y l. has.given t x y (subst (λ (d : Disk). IsLeft seal size (standing w on) d x y) (sym (same_disk t)) ((left_read (disk a) x y).1 l));
+          longer = λ t. subst (λ (d : Disk). length (kept_bytes seal size (standing w more_at) d has.section) / size * size < section_size w.journal.sections has.section) (stood_disk t) (has.longer t);
+          given = λ t x y l. has.given t x y (subst (λ (d : Disk). IsLeft seal size (standing w more_at) d x y) (sym (stood_disk t)) ((left_read (disk a) x y).1 l));
         })
       ];
       moments = λ t. always_then a b c (Each (Replaying seal size (standing w r) (disk a)))
           (always_weaker a b (λ x. x ≡ disk a) (Each (Replaying seal size (standing w r) (disk a)))
           (λ x is q. subst (λ (d : Disk). Replaying seal size (standing w r) (disk a) q (d q)) (sym is) (replaying_start seal size (standing w r) (disk a) q)) (stood t))
-          (always_weaker b c (Each (Replaying seal size (standing w on) (disk b))) (Each (Replaying seal size (standing w r) (disk a)))
-          (λ x each q. replaying_read (disk a) q (x q) (subst (λ (d : Disk). Replaying seal size (standing w on) d q (x q)) (same_disk t) (each q))) (step.moments t));
-      entries = λ q never. step.entries q (λ k. never (k.0, k.1, k.2)) ∙ reads.others q (λ is. never (r.section, (is_some (w.journal.sections.held r.section) (here r before (disk a) was).0 (here r before (disk a) was).1, inr refl), is ∙ key_is));
+          (always_weaker b c (Each (Replaying seal size (standing w more_at) (disk b))) (Each (Replaying seal size (standing w r) (disk a)))
+          (λ x each q. replaying_read (disk a) q (x q) (subst (λ (d : Disk). Replaying seal size (standing w more_at) d q (x q)) (stood_disk t) (each q))) (step.moments t));
+      entries = λ q never. step.entries q (λ k. never (k.0, k.1, k.2)) ∙ entries q (λ is. never (r.section, (is_some (w.journal.sections.held r.section) (here r before (disk a) was).0 (here r before (disk a) was).1, inr refl), is));
       once = once_read result unread step.once;
       faults = omega (arith, le, step.faults);
       cause = cause_read result step.cause;
     }
       where
-        goes_read : (x : Result (Option (ℕ × ℕ × V)) Error) → OnOk x (GoesOn (standing w on) new) → OnOk x (GoesOn (standing w r) new)
+        goes_read : (x : Result (Option (ℕ × ℕ × V)) Error) → OnOk x (GoesOn (standing w more_at) new) → OnOk x (GoesOn (standing w r) new)
         goes_read (Ok y) has = record { failed = has.failed; ended = has.ended; held = has.held; known = has.known }
         goes_read (Err y) has = has
 
-        later_read : told → (x : Result (Option (ℕ × ℕ × V)) Error) → OnOk x (LeavesNoMore seal size (standing w on) new (disk b) (disk c)) → OnOk x (LeavesNoMore seal size (standing w r) new (disk a) (disk c))
-        later_read t (Ok y) has = λ q x is. replaying_read (disk a) q x (subst (λ (d : Disk). Replaying seal size (standing w on) d q x) (same_disk t) (has q x is))
+        later_read : told → (x : Result (Option (ℕ × ℕ × V)) Error) → OnOk x (LeavesNoMore seal size (standing w more_at) new (disk b) (disk c)) → OnOk x (LeavesNoMore seal size (standing w r) new (disk a) (disk c))
+        later_read t (Ok y) has = λ q x is. replaying_read (disk a) q x (subst (λ (d : Disk). Replaying seal size (standing w more_at) d q x) (stood_disk t) (has q x is))
         later_read t (Err y) has = tt
 
-        ended_read : told → (s : ℕ) → IsEndedAt seal size (standing w on) new (disk b) (disk c) s → IsEndedAt seal size (standing w r) new (disk a) (disk c) s
-        ended_read t s has = ended_back seal size (standing w r) (standing w on) new (disk a) (disk a) (disk c) s (left_read (disk a))
-            (subst (λ (d : Disk). IsEndedAt seal size (standing w on) new d (disk c) s) (same_disk t) has)
+        ended_read : told → (s : ℕ) → IsEndedAt seal size (standing w more_at) new (disk b) (disk c) s → IsEndedAt seal size (standing w r) new (disk a) (disk c) s
+        ended_read t s has = ended_back seal size (standing w r) (standing w more_at) new (disk a) (disk a) (disk c) s (left_read (disk a))
+            (subst (λ (d : Disk). IsEndedAt seal size (standing w more_at) new d (disk c) s) (stood_disk t) has)
 
-        stops_read : told → (x : Result (Option (ℕ × ℕ × V)) Error) → OnErr x (Stops seal size (standing w on) new (disk b) (disk c)) → OnErr x (Stops seal size (standing w r) new (disk a) (disk c))
+        stops_read : told → (x : Result (Option (ℕ × ℕ × V)) Error) → OnErr x (Stops seal size (standing w more_at) new (disk b) (disk c)) → OnErr x (Stops seal size (standing w r) new (disk a) (disk c))
         stops_read t (Ok y) has = has
         stops_read t (Err y) has =
             record {
@@ -330,8 +340,8 @@ module _ {F S : Type 0} {gs : _} (seal : List ℕ → ℕ) (size : ℕ) (g : buf
               ];
             }
 
-        once_read : (x : Result (Option (ℕ × ℕ × V)) Error) → OnOk x (ReadsUnread r.reader more before after) → OnOk x (ReadsOnce (standing w on) new after last) → OnOk x (ReadsOnce (standing w r) new before last)
-        once_read (Ok y) read has = λ t held. omega (arith, has t held, count_read read t held)
+        once_read : (x : Result (Option (ℕ × ℕ × V)) Error) → OnOk x (ReadsOnce (standing w r) (standing w more_at) before after) → OnOk x (ReadsOnce (standing w more_at) new after last) → OnOk x (ReadsOnce (standing w r) new before last)
+        once_read (Ok y) read has = λ t held. omega (arith, has t held, read t held)
         once_read (Err y) read has = tt
 
         cause_read : (x : Result (Option (ℕ × ℕ × V)) Error) → OnErr x (IsErrOf x (ItemOutOfRange w.start_position) ⊎ (IsBelowFloor x ⊎ HasNotRead x some many)) → OnErr x (IsErrOf x (ItemOutOfRange w.start_position) ⊎ (IsBelowFloor x ⊎ HasNotRead x few many))

@@ -17,6 +17,10 @@ pub mod FixedCutting
 pub mod FixedOpening
 pub mod FixedRunning
 pub mod FixedEnds
+pub mod FixedFilling
+pub mod FixedGoing
+pub mod FixedAdvancing
+pub mod FixedShortening
 pub mod FixedTouching
 pub mod NumberLemmas
 pub mod InitLemmas

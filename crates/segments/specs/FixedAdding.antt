@@ -30,7 +30,8 @@ module _ {S : Type 0} {gs : _} (j : Lists (AppendFactory S) (PageBlob S gs)) (se
   Overfills n = IsSomeAnd (j.sections.held section)
       (λ u. 2 ^ 64 ≤ extent u.page_size (size_of (shown u) + n))
 
-  -- The same of a section that may have to be made: it has no bytes then, in pages as they are made.
+  -- The same of a section that may have to be made: it has no bytes then, in pages as the factory
+  -- has them.
   abbrev pub WouldOverfill : ℕ → Type 0
   WouldOverfill n =
       2 ^ 64 ≤ extent j.sections.factory.pages.page_size (section_size j.sections section + n)
@@ -76,12 +77,13 @@ module _ {S : Type 0} {gs : _} (j : Lists (AppendFactory S) (PageBlob S gs)) (se
       pub floors : IfOk result (λ r. (q : ℕ) → (see r).0.floor_of q ≡ j.floor_of q)
       -- at every moment, also where the call fails, no other blob changes
       pub alone : dev.Tells → Alone (key_of j.sections section) (dev.time old) (dev.time new)
-      -- each crash leaves of a section that is sealed, as each proven one is, a prefix of its bytes,
-      -- these included, and no shorter than what has settled
+      -- each crash leaves of a section that is sealed, as each proven one is, a prefix of its
+      -- bytes, these included, and no shorter than what has settled
       pub moments : dev.Tells → (u : _) → j.sections.held section ≡ Some u
           → IsSealed seal (shown u) (disk (dev.time old) (key_of j.sections section))
-          → Sealing seal u.page_size (section_bytes j.sections (disk (dev.time old)) section ++ spelled)
-          u.settled (key_of j.sections section) (dev.time old) (dev.time new)
+          → Sealing seal u.page_size
+          (section_bytes j.sections (disk (dev.time old)) section ++ spelled) u.settled
+          (key_of j.sections section) (dev.time old) (dev.time new)
       -- it stays sealed
       pub sealed : dev.Tells → IfOk result (λ r. (u v : _) → j.sections.held section ≡ Some u
           → (see r).0.sections.held section ≡ Some v

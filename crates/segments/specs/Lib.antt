@@ -25,6 +25,7 @@ pub mod FixedShown
 pub mod FixedReplay
 pub mod FixedStepping
 pub mod FixedWalking
+pub mod FixedCursor
 pub mod FixedFloors
 pub mod Tails
 pub mod Answers

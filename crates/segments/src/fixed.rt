@@ -53,6 +53,7 @@ ghost use Rattle.segments.specs.FixedItems.{HoldsFirstItems};
 ghost use Rattle.segments.specs.Refusing.{IsPruned};
 
 mod capping;
+mod cursor;
 mod cutting;
 mod draining;
 mod floors;

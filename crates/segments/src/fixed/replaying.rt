@@ -1,5 +1,5 @@
 // Going over the items of a fixed journal from a position on, and cutting what no seal vouches for.
-ghost use Rattle.std.specs.Prelude.{◌≡◌, ◌≢◌, ◌↔◌, ◌⊎◌, ◌≤◌, ◌<◌, ◌+◌, ◌*◌, ◌/◌, ◌^◌, ℕ, Some, None, Ok, Err, true, false, cond, length, take, IfOk, IfSome, OnOk, OnErr, IsSomeAnd, IsTrue};
+ghost use Rattle.std.specs.Prelude.{◌≡◌, ◌↔◌, ◌⊎◌, ◌≤◌, ◌<◌, ◌+◌, ◌*◌, ◌/◌, ◌^◌, ℕ, Some, None, Ok, Err, true, false, cond, length, take, IfOk, IfSome, OnOk, OnErr, IsSomeAnd, IsTrue};
 ghost use Rattle.std.specs.Result.{IsErrOf};
 ghost use Rattle.std.specs.Ordering.{nat_cmp};
 ghost use Rattle.std.specs.BTreeSet as set;
@@ -28,13 +28,13 @@ use value_codec::{CodecFixed, Seal};
 
 /// Where a replay stands within a section. The reader is at the item of this position.
 #[derive(Drop)]
-struct Reading<S: Seal> {
+pub(super) struct Reading<S: Seal> {
     /// The section, which is held (`HasWalk.place`).
-    section: u64,
+    pub(super) section: u64,
     /// The position of the next item, which the reader stands at (`StandsIn.at`).
-    position: u64,
+    pub(super) position: u64,
     /// Over the section's blob, of which all bytes are flushed (`StandsIn.flushed`).
-    reader: PageReplay<S>,
+    pub(super) reader: PageReplay<S>,
 }
 
 /// A walk over the items of a journal, which gives the journal back.
@@ -51,9 +51,9 @@ pub struct Replay<A: CodecFixed, S: Seal> {
     /// The replay has come to the sections below; to all where there is none (`IsAhead`).
     next_section: Option<u64>,
     /// Where it stands in a section; none between two (`HasWalk.come_to`).
-    reading: Option<Reading<S>>,
+    pub(super) reading: Option<Reading<S>>,
     /// Whether an error was given. Then `finish` refuses.
-    has_failed: bool,
+    pub(super) has_failed: bool,
     /// Whether it gives no more, since an error came while a section was cut (`HasWalk.ends`).
     has_ended: bool,
 }
@@ -152,12 +152,13 @@ impl<A: CodecFixed, S: Seal> Replay<A, S> {
     ghost use Rattle.segments.specs.FixedLists.{OwesHeld, OwesSettled, AreSealed, UnopenedLater};
     ghost use Rattle.segments.specs.FixedReplay.{IsWalk, HasWalk, WalksOver, SameWalk, KeepsSections, KeepsFloors, KeepsBytes, KeepsItems, IsLeft, IsDrained, IsAhead, IsIn, first_of, Gives, Refuses, IsEndedAt, Stops, IsCutting, Replaying, LeavesNoMore, EndsBelow, EndsDamaged, kept_bytes};
     ghost use Rattle.segments.specs.FixedGiving.{given, HasRun, AreAllLeft, ReadsAllOnce};
+    ghost use Rattle.segments.specs.FixedCursor.{Ends, Enters};
     ghost use Rattle.segments.specs.FixedStepping.{way_of, standing, after_item, ReadsOnce, OnlySections, Touches, IsFlushed, IsCutBack, BeginsOver, EndsAt, Steps};
     ghost use Rattle.segments.specs.FixedWalking.{walk_of, walk_at, place_of};
     ghost use Rattle.sealed_pages.specs.Readers.{reading};
 
     // The least held section that the replay has not come to.
-    fn section_ahead(&self) -> Option<u64>
+    pub(super) fn section_ahead(&self) -> Option<u64>
         ensures none { result ≡ None → (s : ℕ) → IsHeld (walk_of self.now).journal.sections s → IsAhead (walk_of self.now) s → ⊥ }
         ensures held { IfSome result (IsHeld (walk_of self.now).journal.sections) }
         ensures ahead { IfSome result (IsAhead (walk_of self.now)) }
@@ -176,15 +177,15 @@ impl<A: CodecFixed, S: Seal> Replay<A, S> {
         self.reading.is_none() && self.section_ahead().is_none()
     }
 
-    // Whether nothing more is given.
-    fn is_over(&self) -> bool
+    /// Whether nothing more is given: no section is left, or the replay has ended.
+    pub fn is_over(&self) -> bool
         ensures { IsTrue result ↔ (IsDrained (walk_of self.now) ⊎ ((walk_of self.now).ended ≡ true)) }
     {
         self.has_ended || self.is_drained()
     }
 
     // Whether a replay of the section is owed.
-    fn owes(&self, section: u64) -> bool
+    pub(super) fn owes(&self, section: u64) -> bool
         ensures { result ≡ (walk_of self.now).journal.unrecovered section }
     {
         self.journal.unrecovered.contains(&section)
@@ -283,39 +284,34 @@ impl<A: CodecFixed, S: Seal> Replay<A, S> {
         requires more { IsDrained (walk_of self.old) → ⊥ }
         ensures { Steps S.seal_of A.SIZE ⟦<PageBlob<S> as SectionBuffer>⟧ ⟦<AppendFactory<S> as BufferFactory>⟧.gives A.spelling A.accepted A.refusal D.Tells result (walk_of self.old) (walk_of self.new) (D.opened dev.old) (D.opened dev.new) (D.time dev.old) (D.time dev.new) (D.faults dev.old) (D.faults dev.new) }
     {
-        match self.reading.take() {
-            Some(reading) => self.read(dev, reading),
-            None => self.next_one(dev),
+        if self.reading.is_none() {
+            self.enter(dev)?;
+            return Ok(None);
         }
-    }
-
-    // Goes into the next section.
-    fn next_one<D: Device>(&mut self, dev: &mut D) -> Result<Option<(u64, u64, A)>, Error>
-        requires over { IsWalk ⟦<PageBlob<S> as SectionBuffer>⟧ ⟦<AppendFactory<S> as BufferFactory>⟧.gives S.seal_of A.SIZE D.Tells (walk_of self.old) (D.opened dev.old) (disk (D.time dev.old)) }
-        requires going { (walk_of self.old).ended ≡ false }
-        requires between { (walk_of self.old).place ≡ None }
-        requires more { IsDrained (walk_of self.old) → ⊥ }
-        ensures { Steps S.seal_of A.SIZE ⟦<PageBlob<S> as SectionBuffer>⟧ ⟦<AppendFactory<S> as BufferFactory>⟧.gives A.spelling A.accepted A.refusal D.Tells result (walk_of self.old) (walk_of self.new) (D.opened dev.old) (D.opened dev.new) (D.time dev.old) (D.time dev.new) (D.faults dev.old) (D.faults dev.new) }
-    {
-        match self.section_ahead() {
-            Some(section) => self.begin(dev, section),
-            None => Ok(None),
+        let enough = self.fill(dev, 1)?;
+        if enough {
+            let Some(reading) = self.reading.take() else {
+                return Ok(None);
+            };
+            return self.take_item(reading);
         }
+        self.end(dev)?;
+        Ok(None)
     }
 
     // Begins to read a section. A section of which a replay is owed is read from its start, so that all of it is checked.
-    fn begin<D: Device>(
-        &mut self,
-        dev: &mut D,
-        section: u64,
-    ) -> Result<Option<(u64, u64, A)>, Error>
+    pub(super) fn begin<D: Device>(&mut self, dev: &mut D, section: u64) -> Result<(), Error>
         requires over { IsWalk ⟦<PageBlob<S> as SectionBuffer>⟧ ⟦<AppendFactory<S> as BufferFactory>⟧.gives S.seal_of A.SIZE D.Tells (walk_of self.old) (D.opened dev.old) (disk (D.time dev.old)) }
         requires going { (walk_of self.old).ended ≡ false }
         requires between { (walk_of self.old).place ≡ None }
         requires held { IsHeld (walk_of self.old).journal.sections section }
         requires ahead { IsAhead (walk_of self.old) section }
         requires least { (s : ℕ) → IsHeld (walk_of self.old).journal.sections s → IsAhead (walk_of self.old) s → section ≤ s }
-        ensures { Steps S.seal_of A.SIZE ⟦<PageBlob<S> as SectionBuffer>⟧ ⟦<AppendFactory<S> as BufferFactory>⟧.gives A.spelling A.accepted A.refusal D.Tells result (walk_of self.old) (walk_of self.new) (D.opened dev.old) (D.opened dev.new) (D.time dev.old) (D.time dev.new) (D.faults dev.old) (D.faults dev.new) }
+        ensures { Enters S.seal_of A.SIZE
+            ⟦<PageBlob<S> as SectionBuffer>⟧ ⟦<AppendFactory<S> as BufferFactory>⟧.gives
+            A.spelling A.accepted A.refusal D.Tells result (walk_of self.old) (walk_of self.new)
+            (D.opened dev.old) (D.opened dev.new) (D.time dev.old) (D.time dev.new)
+            (D.faults dev.old) (D.faults dev.new) }
     {
         self.next_section = number_after(section);
         let mut reader = self.open_reader(dev, section)?;
@@ -326,7 +322,7 @@ impl<A: CodecFixed, S: Seal> Replay<A, S> {
             position,
             reader,
         });
-        Ok(None)
+        Ok(())
     }
 
     // The position at which the section is begun.
@@ -364,39 +360,6 @@ impl<A: CodecFixed, S: Seal> Replay<A, S> {
         let (buffer, reader) = buffer.replay(dev, self.buffer)?;
         self.journal.manager.put(section, buffer)?;
         Ok(reader)
-    }
-
-    // Reads the next item of the section, or comes to its end. A page that no matching slot covers as far as the item goes is the end of
-    // a section of which a replay is owed; of any other it is answered.
-    fn read<D: Device>(
-        &mut self,
-        dev: &mut D,
-        reading: Reading<S>,
-    ) -> Result<Option<(u64, u64, A)>, Error>
-        requires over { IsWalk ⟦<PageBlob<S> as SectionBuffer>⟧ ⟦<AppendFactory<S> as BufferFactory>⟧.gives S.seal_of A.SIZE D.Tells (walk_at self.old reading) (D.opened dev.old) (disk (D.time dev.old)) }
-        requires going { (walk_of self.old).ended ≡ false }
-        requires between { (walk_of self.old).place ≡ None }
-        ensures { Steps S.seal_of A.SIZE ⟦<PageBlob<S> as SectionBuffer>⟧ ⟦<AppendFactory<S> as BufferFactory>⟧.gives A.spelling A.accepted A.refusal D.Tells result (walk_at self.old reading) (walk_of self.new) (D.opened dev.old) (D.opened dev.new) (D.time dev.old) (D.time dev.new) (D.faults dev.old) (D.faults dev.new) }
-    {
-        let mut reading = reading;
-        match reading.reader.ensure(dev, A::SIZE) {
-            Ok(true) => self.take_item(reading),
-            Ok(false) => {
-                let cuts = self.is_torn(&reading);
-                self.end_section(dev, reading, cuts)
-            }
-            Err(e) => match e {
-                RError::InvalidChecksum(page) => self.end_at_page(dev, reading, page),
-                e => Err(Error::from(e)),
-            },
-        }
-    }
-
-    // Whether bytes are at hand behind the last whole item of a section of which a replay is owed.
-    fn is_torn(&self, reading: &Reading<S>) -> bool
-        ensures { IsTrue result ↔ ((0 < length (place_of reading.now).reader.bytes) × IsTrue ((walk_of self.now).journal.unrecovered reading.now.section)) }
-    {
-        reading.reader.remaining() > 0 && self.owes(reading.section)
     }
 
     // Takes the item at hand, unless it stands before the start.
@@ -440,65 +403,39 @@ impl<A: CodecFixed, S: Seal> Replay<A, S> {
         Ok(Some((section, position, item)))
     }
 
-    // Comes to a page that no matching slot covers as far as the next item goes.
-    fn end_at_page<D: Device>(
-        &mut self,
-        dev: &mut D,
-        reading: Reading<S>,
-        page: u64,
-    ) -> Result<Option<(u64, u64, A)>, Error>
-        requires over { IsWalk ⟦<PageBlob<S> as SectionBuffer>⟧ ⟦<AppendFactory<S> as BufferFactory>⟧.gives S.seal_of A.SIZE D.Tells (walk_at self.old reading) (D.opened dev.old) (disk (D.time dev.old)) }
-        requires going { (walk_of self.old).ended ≡ false }
-        requires between { (walk_of self.old).place ≡ None }
-        requires last { D.Tells → (IsTrue ((walk_of self.old).journal.unrecovered reading.section) × EndsAt S.seal_of A.SIZE (walk_at self.old reading) (disk (D.time dev.old)) (place_of reading) true)
-            ⊎ (((walk_of self.old).journal.unrecovered reading.section ≡ false) × EndsDamaged S.seal_of A.SIZE (walk_at self.old reading) (walk_of self.old) (disk (D.time dev.old)) (disk (D.time dev.old)) page) }
-        ensures { Steps S.seal_of A.SIZE ⟦<PageBlob<S> as SectionBuffer>⟧ ⟦<AppendFactory<S> as BufferFactory>⟧.gives A.spelling A.accepted A.refusal D.Tells result (walk_at self.old reading) (walk_of self.new) (D.opened dev.old) (D.opened dev.new) (D.time dev.old) (D.time dev.new) (D.faults dev.old) (D.faults dev.new) }
+    // Whether bytes stand behind the place, in a section of which a replay is owed.
+    pub(super) fn is_torn(&self, reading: &Reading<S>) -> bool
+        requires { reading.now.position * A.SIZE < 2 ^ 64 }
+        ensures { IsTrue result ↔ (IsTrue ((walk_of self.now).journal.unrecovered reading.now.section)
+            × (reading.now.position * A.SIZE < (place_of reading.now).reader.size)) }
     {
-        if !self.owes(reading.section) {
-            return Err(Error::Runtime(RError::InvalidChecksum(page)));
-        }
-        self.end_section(dev, reading, true)
+        let place = reading.position * A::SIZE as u64;
+        place < reading.reader.blob_size() && self.owes(reading.section)
     }
 
-    // Comes to the end of a section, behind its last whole item, and cuts off there what is left.
-    fn end_section<D: Device>(
+    // Comes to the end of a section, behind its last whole item, and cuts off there what is left. A cut below the section's floor is
+    // refused.
+    pub(super) fn end_cut<D: Device>(
         &mut self,
         dev: &mut D,
         reading: Reading<S>,
-        cuts: bool,
-    ) -> Result<Option<(u64, u64, A)>, Error>
-        requires over { IsWalk ⟦<PageBlob<S> as SectionBuffer>⟧ ⟦<AppendFactory<S> as BufferFactory>⟧.gives S.seal_of A.SIZE D.Tells (walk_at self.old reading) (D.opened dev.old) (disk (D.time dev.old)) }
-        requires going { (walk_of self.old).ended ≡ false }
-        requires between { (walk_of self.old).place ≡ None }
-        requires owed { cuts ≡ true → IsTrue ((walk_of self.old).journal.unrecovered reading.section) }
-        requires last { D.Tells → EndsAt S.seal_of A.SIZE (walk_at self.old reading) (disk (D.time dev.old)) (place_of reading) cuts }
-        ensures { Steps S.seal_of A.SIZE ⟦<PageBlob<S> as SectionBuffer>⟧ ⟦<AppendFactory<S> as BufferFactory>⟧.gives A.spelling A.accepted A.refusal D.Tells result (walk_at self.old reading) (walk_of self.new) (D.opened dev.old) (D.opened dev.new) (D.time dev.old) (D.time dev.new) (D.faults dev.old) (D.faults dev.new) }
-    {
-        if cuts {
-            return self.end_cut(dev, reading);
-        }
-        self.check_start(reading.section, reading.position)?;
-        Ok(None)
-    }
-
-    // The same, where there is something to be cut off. A cut below the section's floor is refused.
-    fn end_cut<D: Device>(
-        &mut self,
-        dev: &mut D,
-        reading: Reading<S>,
-    ) -> Result<Option<(u64, u64, A)>, Error>
+    ) -> Result<(), Error>
         requires over { IsWalk ⟦<PageBlob<S> as SectionBuffer>⟧ ⟦<AppendFactory<S> as BufferFactory>⟧.gives S.seal_of A.SIZE D.Tells (walk_at self.old reading) (D.opened dev.old) (disk (D.time dev.old)) }
         requires going { (walk_of self.old).ended ≡ false }
         requires between { (walk_of self.old).place ≡ None }
         requires owed { IsTrue ((walk_of self.old).journal.unrecovered reading.section) }
         requires last { D.Tells → EndsAt S.seal_of A.SIZE (walk_at self.old reading) (disk (D.time dev.old)) (place_of reading) true }
-        ensures { Steps S.seal_of A.SIZE ⟦<PageBlob<S> as SectionBuffer>⟧ ⟦<AppendFactory<S> as BufferFactory>⟧.gives A.spelling A.accepted A.refusal D.Tells result (walk_at self.old reading) (walk_of self.new) (D.opened dev.old) (D.opened dev.new) (D.time dev.old) (D.time dev.new) (D.faults dev.old) (D.faults dev.new) }
+        ensures { Ends S.seal_of A.SIZE
+            ⟦<PageBlob<S> as SectionBuffer>⟧ ⟦<AppendFactory<S> as BufferFactory>⟧.gives
+            A.spelling A.accepted A.refusal D.Tells result
+            (walk_at self.old reading) (walk_of self.new) (D.opened dev.old) (D.opened dev.new)
+            (D.time dev.old) (D.time dev.new) (D.faults dev.old) (D.faults dev.new) (place_of reading) }
     {
         self.check_floor(reading.section, reading.position)?;
         // Behind the check of the floor: no item that a marker vouches for is cut.
         self.cut(dev, reading.section, reading.position)?;
         self.check_start(reading.section, reading.position)?;
-        Ok(None)
+        Ok(())
     }
 
     // Refuses a cut to so many items where the section's floor is higher.
@@ -521,7 +458,7 @@ impl<A: CodecFixed, S: Seal> Replay<A, S> {
     }
 
     // Refuses the start where its section has fewer items.
-    fn check_start(&self, section: u64, count: u64) -> Result<(), Error>
+    pub(super) fn check_start(&self, section: u64, count: u64) -> Result<(), Error>
         ensures ok { OnOk result (first_of (walk_of self.now) section ≤ count) }
         ensures fewer { (p : ℕ) → IsErrOf result (Error.ItemOutOfRange p) → (section ≡ (walk_of self.now).start_section) × (p ≡ (walk_of self.now).start_position) × (count < p) }
         ensures cause { OnErr result (IsErrOf result (Error.ItemOutOfRange (walk_of self.now).start_position)) }
@@ -534,7 +471,12 @@ impl<A: CodecFixed, S: Seal> Replay<A, S> {
     }
 
     // Cuts a section to so many items of its sealed prefix. An error ends the replay, since the section's buffer is gone.
-    fn cut<D: Device>(&mut self, dev: &mut D, section: u64, count: u64) -> Result<(), Error>
+    pub(super) fn cut<D: Device>(
+        &mut self,
+        dev: &mut D,
+        section: u64,
+        count: u64,
+    ) -> Result<(), Error>
         requires over { IsOver ⟦<PageBlob<S> as SectionBuffer>⟧ ⟦<AppendFactory<S> as BufferFactory>⟧.gives D.Tells (walk_of self.old).journal.sections (D.opened dev.old) (disk (D.time dev.old)) }
         requires held { IsHeld (walk_of self.old).journal.sections section }
         requires settled { (u : _) → (walk_of self.old).journal.sections.held section ≡ Some u → u.settled ≡ size_of (page_blob.shown u) }

@@ -31,10 +31,13 @@ returns-in_err-reader g c =
     let p = err_from_is_err_and c.from_residual.result c.from_residual.ensures.1 in
     let u = some_of ((walk_of c.args.self.now).journal.sections.held c.args.section) c.requires.held in
     let rest = c.open_reader.ensures.rest in
-    rw p.1 (begin_failed g.S.Seal.seal_of g.A.CodecFixed.SIZE _ _ (walk_of c.args.self.now) (walk_of c.open_reader.new.self) c.args.section c.number_after-self.result (walk_of c.args.self.now).place _ _ (g.D.Device.time c.args.dev.now) (g.D.Device.time c.open_reader.new.dev)
-    c.requires.over c.requires.between c.open_reader.result rest c.number_after-self.ensures c.open_reader.ensures.touches u.0 u.1 c.requires.ahead c.requires.least
-    (λ t. c.open_reader.ensures.moments t u.0 u.1) (λ t. c.open_reader.ensures.steady t u.0 u.1) (λ x b stands. stands.stands.adopted) (c.open_reader.ensures.idle u.0 u.1) g.A.Codec.spelling g.A.Codec.accepted g.A.Codec.refusal _ _ c.open_reader.ensures.faults
-    p.0 (rest.place ∙ c.requires.between) c.open_reader.ensures.ended c.in_err-reader.ensures.touches.lost (failed_as _ p.0 p.2 _ _ c.in_err-reader.ensures.cause))
+    rw p.1 (record {
+      steps = begin_failed g.S.Seal.seal_of g.A.CodecFixed.SIZE _ _ (walk_of c.args.self.now) (walk_of c.open_reader.new.self) c.args.section c.number_after-self.result (walk_of c.args.self.now).place _ _ (g.D.Device.time c.args.dev.now) (g.D.Device.time c.open_reader.new.dev)
+          c.requires.over c.requires.between c.open_reader.result rest c.number_after-self.ensures c.open_reader.ensures.touches u.0 u.1 c.requires.ahead c.requires.least
+          (λ t. c.open_reader.ensures.moments t u.0 u.1) (λ t. c.open_reader.ensures.steady t u.0 u.1) (λ x b stands. stands.stands.adopted) (c.open_reader.ensures.idle u.0 u.1) g.A.Codec.spelling g.A.Codec.accepted g.A.Codec.refusal _ _ c.open_reader.ensures.faults
+          p.0 (rest.place ∙ c.requires.between) c.open_reader.ensures.ended c.in_err-reader.ensures.touches.lost (failed_as _ p.0 p.2 _ _ c.in_err-reader.ensures.cause);
+      begun = tt;
+    })
 
 pub overflow_mul-position : goal.overflow_mul-position
 overflow_mul-position g c =
@@ -65,10 +68,13 @@ returns g c =
     let both = c.in_ok-reader.ensures.flushed u.0 v.0 u.1 v.1 in
     let offset : c.begin_at-position.result * c.SIZE.result ≡ c.begin_at-position.result * g.A.CodecFixed.SIZE = ap (λ (n : ℕ). c.begin_at-position.result * n) c.SIZE.ensures in
     let goes : reading c.seek_to.new.self ≡ record (reading c.in_ok-reader.reader) { at = c.begin_at-position.result * g.A.CodecFixed.SIZE; bytes = [] } = c.in_ok-seek_to.ensures.goes ∙ ap (λ (n : ℕ). record (reading c.in_ok-reader.reader) { at = n; bytes = [] }) offset in
-    begin_begun g.S.Seal.seal_of g.A.CodecFixed.SIZE _ _ w _ c.args.section c.number_after-self.result _ _ _ (g.D.Device.time c.args.dev.now) (g.D.Device.time c.open_reader.new.dev)
-    c.requires.over c.requires.between c.open_reader.result (record { unrecovered = rest.unrecovered; floors = rest.floors; section = rest.section; position = rest.position; next = rest.next; place = refl; failed = rest.failed }) c.number_after-self.ensures c.open_reader.ensures.touches u.0 u.1 c.requires.ahead c.requires.least
-    (λ t. c.open_reader.ensures.moments t u.0 u.1) (λ t. c.open_reader.ensures.steady t u.0 u.1) (λ x b stands. stands.stands.adopted) (c.open_reader.ensures.idle u.0 u.1) g.A.Codec.spelling g.A.Codec.accepted g.A.Codec.refusal _ _ c.open_reader.ensures.faults
-    v.0 v.1 (reading c.in_ok-reader.reader) c.begin_at-position.result at both.0 both.1
-    (λ content held. subst (λ (r : Reader). IsReplayOf g.S.Seal.seal_of content r) goes (c.seek_to.ensures.replays content (both.1.replays content held))) (λ x b stands. stands.held)
-    (ap (λ (r : Reader). Some (record { section = c.args.section; position = c.begin_at-position.result; reader = r })) goes)
-    c.open_reader.ensures.ended g.met.A.CodecFixed.fixed.at_least c.in_ok-reader.ensures.reads
+    record {
+      steps = begin_begun g.S.Seal.seal_of g.A.CodecFixed.SIZE _ _ w _ c.args.section c.number_after-self.result _ _ _ (g.D.Device.time c.args.dev.now) (g.D.Device.time c.open_reader.new.dev)
+          c.requires.over c.requires.between c.open_reader.result (record { unrecovered = rest.unrecovered; floors = rest.floors; section = rest.section; position = rest.position; next = rest.next; place = refl; failed = rest.failed }) c.number_after-self.ensures c.open_reader.ensures.touches u.0 u.1 c.requires.ahead c.requires.least
+          (λ t. c.open_reader.ensures.moments t u.0 u.1) (λ t. c.open_reader.ensures.steady t u.0 u.1) (λ x b stands. stands.stands.adopted) (c.open_reader.ensures.idle u.0 u.1) g.A.Codec.spelling g.A.Codec.accepted g.A.Codec.refusal _ _ c.open_reader.ensures.faults
+          v.0 v.1 (reading c.in_ok-reader.reader) c.begin_at-position.result at both.0 both.1
+          (λ content held. subst (λ (r : Reader). IsReplayOf g.S.Seal.seal_of content r) goes (c.seek_to.ensures.replays content (both.1.replays content held))) (λ x b stands. stands.held)
+          (ap (λ (r : Reader). Some (record { section = c.args.section; position = c.begin_at-position.result; reader = r })) goes)
+          c.open_reader.ensures.ended g.met.A.CodecFixed.fixed.at_least c.in_ok-reader.ensures.reads;
+      begun = record { held = c.requires.held; ahead = c.requires.ahead; least = c.requires.least; position = at };
+    }

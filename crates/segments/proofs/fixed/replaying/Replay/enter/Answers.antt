@@ -1,5 +1,5 @@
 -- The least held section that is ahead is begun; there is one.
-use Rattle.segments.proofs.fixed.replaying.Replay.next_one.Goals as goal
+use Rattle.segments.proofs.fixed.replaying.Replay.enter.Goals as goal
 
 pub begin-requires-clause-over : goal.begin-requires-clause-over
 begin-requires-clause-over g c = c.requires.over
