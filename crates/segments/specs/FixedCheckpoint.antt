@@ -1,6 +1,6 @@
 -- What a checkpoint of a fixed journal asks of the blobs: each earlier section whole, and so many bytes of its own. Why one is
 -- refused, and what is left once it is restored.
-use Rattle.std.specs.Prelude.{⊤, ◌≡◌, ◌≢◌, ◌↔◌, ◌⊎◌, ℕ, ◌+◌, ◌-◌, ◌*◌, ◌/◌, ◌%◌, ◌^◌, ◌<◌, ◌≤◌, eqb, cond, false, List, length, Option, None, Some, Result, IfOk, OnErr, IsTrue, IsSome, IsSomeAnd}
+use Rattle.std.specs.Prelude.{⊤, ◌≡◌, ◌≢◌, ◌↔◌, ◌⊎◌, ℕ, ◌+◌, ◌-◌, ◌/◌, ◌%◌, ◌^◌, ◌<◌, ◌≤◌, eqb, cond, false, List, length, Option, None, Some, Result, IfOk, OnErr, IsTrue, IsSome, IsSomeAnd}
 use Rattle.std.specs.Result.{IsErrOf}
 use Rattle.blob_device.specs.Disk.{Key, Disk}
 use Rattle.blob_device.specs.Opened.{OpenedList}

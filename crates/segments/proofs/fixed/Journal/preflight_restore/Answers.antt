@@ -1,5 +1,5 @@
 use Rattle.std.specs.Prelude.{string_bytes}
-use Rattle.std.proofs.Common.{◌≡◌, ◌≢◌, ◌∙◌, ◌%◌, ◌<◌, ◌≤◌, ◌↔◌, ◌^◌, ℕ, List, None, IsSomeAnd, IsTrue, refl, sym, ap, subst, arith}
+use Rattle.std.proofs.Common.{◌≡◌, ◌≢◌, ◌∙◌, ◌<◌, ◌≤◌, ℕ, List, IsSomeAnd, sym, ap, subst, arith}
 use Rattle.blob_device.specs.Disk.{Key}
 use Rattle.blob_device.specs.Timeline.{disk}
 use Rattle.blob_device.proofs.Results.{err_of}
@@ -8,9 +8,8 @@ use Rattle.sealed_pages.specs.declared.pages.Pages.{Pages}
 use Rattle.segments.specs.FixedFloors.{Floors, shown, journal_of}
 use Rattle.segments.specs.FixedLists.{Lists}
 use Rattle.segments.specs.FixedShown as journal
-use Rattle.segments.specs.Sections.{Sections, section_key, IsHeld, IsOver}
+use Rattle.segments.specs.Sections.{Sections, section_key}
 use Rattle.segments.specs.contracts.sealed.PageBlobSectionBuffer.TheImpl.{ghosts}
-use Rattle.segments.specs.declared.fixed.Journal.{Journal}
 use Rattle.segments.specs.declared.sealed.AppendFactory.{AppendFactory}
 use Rattle.segments.proofs.FixedPreflights.{checks_partial, checks_opening, checks_looks, looks_at, settling_more, adopted_of, held_of, come_at, looks_owing, checks_ok}
 use Rattle.segments.proofs.FixedFound.{reaches, found, opened_for}

@@ -4,7 +4,7 @@ use Rattle.segments.proofs.FixedRestored.{restores, restores_err}
 use Rattle.segments.proofs.FixedWriteLemmas.{are_pages}
 use Rattle.blob_device.proofs.Results.{err_of}
 use Rattle.segments.specs.FixedShown.{shown}
-use Rattle.std.proofs.Common.{◌≡◌, refl, ap, arith, rules}
+use Rattle.std.proofs.Common.{rules}
 use Rattle.segments.proofs.fixed.Journal.restored.Goals as goal
 
 pub truncate_pending_tail-requires-clause-whole : goal.truncate_pending_tail-requires-clause-whole

@@ -1,16 +1,15 @@
 use Rattle.std.specs.List.{Contains}
 use Rattle.std.specs.List.Sorted.{IsStrictlySortedBy}
 use Rattle.std.specs.Ordering.{nat_cmp}
-use Rattle.std.proofs.Common.{◌≡◌, ◌∙◌, ◌<◌, ◌≤◌, ◌+◌, ◌++◌, ◌∷◌, [], ℕ, List, take, length, get_or, sym, ap, subst, arith}
+use Rattle.std.proofs.Common.{◌≡◌, ◌∙◌, ◌+◌, ◌++◌, ◌∷◌, [], ℕ, List, take, get_or, sym, subst, arith}
 use Rattle.std.proofs.lemmas.List.{take_more, take_all}
 use Rattle.blob_device.proofs.Results.{err_of}
 use Rattle.sealed_pages.specs.declared.page_blob.PageBlob.{PageBlob}
 use Rattle.segments.specs.FixedFloors.{shown, journal_of}
 use Rattle.segments.specs.Sections.{Sections, IsHeld}
-use Rattle.segments.specs.contracts.sealed.PageBlobSectionBuffer.TheImpl.{ghosts}
 use Rattle.segments.specs.declared.sealed.AppendFactory.{AppendFactory}
 use Rattle.segments.proofs.FixedChecking.{looks_err}
-use Rattle.segments.proofs.FixedEarlier.{Gone, Come, gone_none, gone_more, gone_past, gone_to, gone_all, turn, looks_none, had_numbers, has_number}
+use Rattle.segments.proofs.FixedEarlier.{gone_none, gone_more, gone_past, gone_to, gone_all, turn, looks_none, had_numbers, has_number}
 use Rattle.segments.proofs.fixed.preflighting.Preflight.checked_earlier.Given.{Over}
 use Rattle.segments.proofs.fixed.preflighting.Preflight.checked_earlier.Goals as goal
 use Rattle.segments.proofs.fixed.preflighting.Preflight.checked_earlier.Goals.{then-number-section+in_ok-found, else-number-section}

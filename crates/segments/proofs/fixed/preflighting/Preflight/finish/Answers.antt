@@ -1,9 +1,4 @@
-use Rattle.std.proofs.Common.{◌≡◌, Option, None, Some, refl, sym, subst}
-use Rattle.segments.specs.Answers.{seen}
-use Rattle.segments.specs.FixedCheckpoint.{Finishes}
 use Rattle.segments.specs.FixedFloors.{journal_of}
-use Rattle.segments.specs.FixedShown.{shown}
-use Rattle.segments.specs.declared.fixed.preflighting.Target.{Target}
 use Rattle.segments.proofs.FixedRestored.{gives_same, finishes_some}
 use Rattle.segments.proofs.fixed.preflighting.Preflight.finish.Goals as goal
 
