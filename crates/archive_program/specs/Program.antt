@@ -1,5 +1,5 @@
 -- What the program answers to its input, and what it leaves on its device at every moment.
-use Rattle.std.specs.Prelude.{◌≡◌, ◌≢◌, ◌⊎◌, ⊤, ℕ, ◌+◌, ◌^◌, ◌≤◌, List, [], ◌∷◌, ◌++◌, length, Contains, Option, Some, None, IsSome, IfSome, codes}
+use Rattle.std.specs.Prelude.{◌≡◌, ◌≢◌, ◌⊎◌, ⊤, ℕ, ◌+◌, ◌^◌, ◌≤◌, List, [], ◌∷◌, ◌++◌, length, Contains, true, Option, Some, None, IsSome, IfSome, codes}
 use Rattle.blob_device.specs.Counts.{Rose}
 use Rattle.blob_device.specs.Disk.{NothingPending}
 use Rattle.blob_device.specs.Timeline.{Timeline, disk}
@@ -42,6 +42,7 @@ program_filing settings items = record {
   layout = record {
     index = codes "keys";
     values = codes "values";
+    marked = true;
     metadata = codes "meta";
     page_size = settings.page_size;
     record_size = 28;

@@ -114,14 +114,14 @@ module _ {A V S D : Type 0} {gs : _} (p : Prunable A V (AppendFactory S) (PageBl
       (refl, dropping.0),
       (
         contents_of (p.see a).pair.store,
-        markers_held filing.layout (p.see a).pair.store from given.partition (given.usable.usable.pair.disk t).markers,
+        markers_held filing.layout (p.see a).pair.store from given.partition given.marked (given.usable.usable.pair.disk t).markers,
         (let (s, m, below, marked) = dropping.1 in (s, m, marked, below)),
       ),
     )
 
     there_drops : IsRaisedTo (p.see a).items true (p.see a).floor bound × HasLow → IsDropping (p.see a) bound
     there_drops (raised, (markers, held, (s, m, marked, below))) =
-        let same : markers ≡ contents_of (p.see a).pair.store = markers_are filing.layout (p.see a).pair.store from given.partition (given.usable.usable.pair.disk t).markers given.readable markers held in
+        let same : markers ≡ contents_of (p.see a).pair.store = markers_are filing.layout (p.see a).pair.store from given.partition given.marked (given.usable.usable.pair.disk t).markers given.readable markers held in
         (raised.1, (s, m, below, subst (λ (x : Markers). IsMarked x.entries s m) same marked))
 
     -- ---- why it failed

@@ -10,9 +10,9 @@ use Rattle.blob_device.specs.Timeline.{Timeline, disk}
 use Rattle.blob_device.specs.declared.runtime.RError.TheVariants as runtime
 use Rattle.meta_store.specs.declared.error.Error.TheVariants as metadata
 use Rattle.segments.specs.declared.journal.Error.TheVariants as journal
-use Rattle.paired.specs.Crashes.{NoChanceSeal}
+use Rattle.paired.specs.Crashes.{HoldMarkers, NoChanceSeal}
 use Rattle.paired.specs.Kept.{Markers}
-use Rattle.paired.specs.Opening.{HoldMarkers, as_read}
+use Rattle.paired.specs.Opening.{as_read}
 use Rattle.paired.specs.OpeningRefusing.{AreCounted}
 use Rattle.archives.specs.Changes.{Asked, Replied}
 use Rattle.archives.specs.Commands.{Put, PutSync, PutStart, Multi, MultiSync, MultiStart, Sync, Start, Prune, Reopen, Destroy}

@@ -217,6 +217,7 @@ module _ {A V S D : Type 0} {gs : _} (p : Prunable A V (AppendFactory S) (PageBl
     pub markers : (x : A) → (filing_by p x).layout.markers ≡ setup.filing.layout.markers
     pub readable : IsReadable (filing_by p a).layout.markers
     pub partition : (p.see a).pair.store.partition ≡ (filing_by p a).layout.metadata
+    pub marked : IsTrue (filing_by p a).layout.marked
     pub buffers : (s : ℕ) (u : PageBlob S gs) → (p.see a).pair.index.sections.held s ≡ Some u
         → (u.page_size ≡ (p.see a).pair.layout.page_size) × (u.capacity ≡ write_buffer_of (p.see a))
 
@@ -510,5 +511,6 @@ given_by {seal = seal} pages sets dev cfg a old usable laws = record {
   markers = λ x. refl;
   readable = markers_readable seal;
   partition = refl;
+  marked = refl;
   buffers = λ s u held. (let made = sym (sets u) ∙ usable.usable.pair.index.over.opened_list.setting s u held in (ap (λ x. x.page_size) made, ap (λ x. x.capacity) made));
 }

@@ -4,9 +4,9 @@ use Rattle.std.specs.Prelude.{◌≡◌, ◌⊎◌, ⊤, ℕ, ◌+◌, ◌*◌, 
 use Rattle.blob_device.specs.Counts.{Rose}
 use Rattle.blob_device.specs.Disk.{Disk, Image, IsCrashOf, NothingPending, settled_disk}
 use Rattle.blob_device.specs.Timeline.{Timeline, disk}
-use Rattle.paired.specs.Crashes.{NoChanceSeal}
+use Rattle.paired.specs.Crashes.{HoldMarkers, NoChanceSeal}
 use Rattle.paired.specs.Kept.{Markers}
-use Rattle.paired.specs.Opening.{HoldMarkers, as_read}
+use Rattle.paired.specs.Opening.{as_read}
 use Rattle.archives.specs.Changes.{Asked, Replied}
 use Rattle.archives.specs.Filing.{Filing, kept}
 use Rattle.archives.specs.Lawful.{Lawful}

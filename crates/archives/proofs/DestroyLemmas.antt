@@ -81,7 +81,7 @@ module _ (l : Layout) (some_bytes : 1 ≤ l.record_size) where
       slots = λ s small. no_slots (past (d (section_key l.index s))) (content_at (as_read d) l.index s) (unread s small);
       frames = λ s small. subst (AllByRecursion (λ r. IsTrue (is_sound_in l (as_read d) s r) → WasThere (past (d (section_key l.values s))) (content_at (as_read d) l.values s) (l.place r)))
           (sym (none_stored (as_read d) s (unread s small))) tt;
-      copies = λ side. subst (λ (b : Blob). metadata_crash.NoChanceSeal l.markers.seal (past b) (bytes_of (reads b))) (sym (copies (blob_of l.metadata side) (side, refl)))
+      copies = λ is side. subst (λ (b : Blob). metadata_crash.NoChanceSeal l.markers.seal (past b) (bytes_of (reads b))) (sym (copies (blob_of l.metadata side) (side, refl)))
           (λ version form body sealed. absurd (empty_absent l.markers.seal version form body sealed));
     };
     named = λ image crash s small seals. subst (AllByRecursion (λ r. IsTrue (is_sound_in l (as_read d) s r) → WasThere (past (d (section_key l.values s))) (content_at (as_read d) l.values s) (l.place r)))

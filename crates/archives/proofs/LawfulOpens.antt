@@ -133,7 +133,7 @@ failed_on_lawful f dev old new e (inr lost) = subst (IsLawfulCause f dev old new
 
 -- ---- nothing is refused
 
-module _ {D : Type 0} (f : Filing) (dev : device.Ghosts D) (old new : D) (readable : IsReadable f.layout.markers) (paged : 1 ≤ f.layout.page_size) (sized : 1 ≤ f.layout.record_size)
+module _ {D : Type 0} (f : Filing) (dev : device.Ghosts D) (old new : D) (marked : IsTrue f.layout.marked) (readable : IsReadable f.layout.markers) (paged : 1 ≤ f.layout.page_size) (sized : 1 ≤ f.layout.record_size)
     (t : dev.Tells) (markers : Markers) (lawful : Lawful f (as_read (disk (dev.time old))) markers) where
   abbrev from : Disk
   from = disk (dev.time old)
@@ -144,7 +144,7 @@ module _ {D : Type 0} (f : Filing) (dev : device.Ghosts D) (old new : D) (readab
 
   whole_copies : (side : Side) → HaveBadCopy f from side → ⊥
   whole_copies side bad = no_bad_pair f.layout.markers readable (bytes_of (as_read from (blob_of f.layout.metadata Left))) (bytes_of (as_read from (blob_of f.layout.metadata Right))) side
-      lawful.pair.held.chosen bad lawful.pair.held.reads
+      (lawful.pair.held.copies marked).chosen bad (lawful.pair.held.copies marked).reads
 
   own_names : (name : List ℕ) → HasForeign f from name → ⊥
   own_names name (inl index) = index.size (lawful.pair.names.index name (there_reads (from (f.layout.index, name)) index.there))

@@ -90,7 +90,7 @@ module _ (l : Layout) (d : Disk) (index : (s : ℕ) → s < 2 ^ 64 → ReadsAsHa
     no_chance = record {
       slots = slots_read;
       frames = λ s small. frames_read s small (stored_records l (as_read d) s);
-      copies = λ side. of_rest (metadata.NoChanceSeal l.markers.seal) (d (blob_of l.metadata side)) (copies side) (λ c version form body sealed. inl refl);
+      copies = λ is side. of_rest (metadata.NoChanceSeal l.markers.seal) (d (blob_of l.metadata side)) (copies side) (λ c version form body sealed. inl refl);
     };
     named = λ image crash s small slots. frames_read s small (stored_records l image s);
     absent = λ s small gone. bare (d (section_key l.index s)) (index s small) gone;

@@ -1,5 +1,5 @@
 -- What an opening promises, by the ways in which it ends.
-use Rattle.std.proofs.Common.{◌≡◌, ◌⊎◌, inl, inr, refl, sym, ◌∙◌, ap, subst, ℕ, ◌+◌, ◌*◌, ◌≤◌, ◌^◌, List, length, Result, Ok, Err, arith}
+use Rattle.std.proofs.Common.{◌≡◌, ◌⊎◌, inl, inr, refl, sym, ◌∙◌, ap, subst, ℕ, ◌+◌, ◌*◌, ◌≤◌, ◌^◌, List, length, IsTrue, Result, Ok, Err, arith}
 use Rattle.std.specs.Prelude.{⊤}
 use Rattle.std.specs.Result.{IsErrOf}
 use Rattle.blob_device.specs.Disk.{Key}
@@ -80,9 +80,9 @@ module _ {A V S D : Type 0} {gs : _} (p : Prunable A V (AppendFactory S) (PageBl
         → (dev.Tells → (side : Side) → HaveBadCopy setup.filing (disk (dev.time old)) side → IsErrOf r (Metadata (metadata.Corruption side)) ⊎ GaveUp r)
         → (dev.Tells → (k : ℕ) → IsErrOf r (Journal (journal.Runtime (runtime.InvalidChecksum k))) → ⊥)
         → (dev.Tells → (markers : Markers) → Lawful setup.filing (as_read (disk (dev.time old))) markers → AreCounted setup.filing.layout (as_read (disk (dev.time old))) → HasNoRoom r → ⊥)
-        → IsReadable setup.filing.layout.markers → 1 ≤ setup.filing.layout.page_size → 1 ≤ setup.filing.layout.record_size
+        → IsTrue setup.filing.layout.marked → IsReadable setup.filing.layout.markers → 1 ≤ setup.filing.layout.page_size → 1 ≤ setup.filing.layout.record_size
         → Opens p dev setup r old new
-    not_opened r e is cause causes room copies page counted readable paged sized = subst (λ (x : Result A Error). Opens p dev setup x old new) (sym is) (record {
+    not_opened r e is cause causes room copies page counted marked readable paged sized = subst (λ (x : Result A Error). Opens p dev setup x old new) (sym is) (record {
       moments = moments;
       footprint = touched;
       ends = record {
@@ -91,7 +91,7 @@ module _ {A V S D : Type 0} {gs : _} (p : Prunable A V (AppendFactory S) (PageBl
           | inl corrupt ↦ inl (the_error (Metadata (metadata.Corruption side)) corrupt)
           | inr gave ↦ inr (opening_failure setup.filing dev old new A e gave)
         ];
-        complete = λ t markers lawful. lawful_cause setup.filing dev old new readable paged sized t markers lawful e why
+        complete = λ t markers lawful. lawful_cause setup.filing dev old new marked readable paged sized t markers lawful e why
             (λ k same. page t k (given (Journal (journal.Runtime (runtime.InvalidChecksum k))) same))
             (λ all same. counted t markers lawful all (given (Journal (journal.Runtime runtime.OffsetOverflow)) same));
       };

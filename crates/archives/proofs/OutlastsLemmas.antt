@@ -14,7 +14,8 @@ use Rattle.meta_store.specs.declared.pair.Chosen.{Chosen}
 use Rattle.meta_store.proofs.Uses.{IsReadable}
 use Rattle.sealed_pages.specs.declared.page_blob.PageBlob.{PageBlob}
 use Rattle.paired.specs.Kept.{Layout, Markers, marker_of}
-use Rattle.paired.specs.Opening.{HoldMarkers, as_read}
+use Rattle.paired.specs.Crashes.{HoldMarkers}
+use Rattle.paired.specs.Opening.{as_read}
 use Rattle.paired.specs.Pair.{length_of, list_of, synced_length}
 use Rattle.paired.specs.Pair as pair
 use Rattle.archives.specs.Archives.{Archive, Buffers, IsArchive, filing_of, state_of}
@@ -28,7 +29,7 @@ use Rattle.archives.proofs.put.Stands.{put_by}
 use Rattle.archives.proofs.put.Rows.{other_or_same}
 use Rattle.archives.proofs.sync.Lemmas.{list_counted}
 
-module _ (l : Layout) (u : Store Key8 ℕ) (d : Disk) (here : u.partition ≡ l.metadata) (stands : Stands l.markers u (contents_of u) d) where
+module _ (l : Layout) (u : Store Key8 ℕ) (d : Disk) (here : u.partition ≡ l.metadata) (marked : IsTrue l.marked) (stands : Stands l.markers u (contents_of u) d) where
   reads_so : (bytes : Blob → List ℕ) → ((d (blob_of u.partition Left)).content ≡ bytes (d (blob_of u.partition Left))) → ((d (blob_of u.partition Right)).content ≡ bytes (d (blob_of u.partition Right)))
       → ReadsPair l.markers (bytes (d (blob_of l.metadata Left))) (bytes (d (blob_of l.metadata Right))) (Ok (chosen_by u (contents_of u)))
   reads_so bytes left right = subst (λ (p : List ℕ). ReadsPair l.markers (bytes (d (blob_of p Left))) (bytes (d (blob_of p Right))) (Ok (chosen_by u (contents_of u)))) here (record {
@@ -42,9 +43,12 @@ module _ (l : Layout) (u : Store Key8 ℕ) (d : Disk) (here : u.partition ≡ l.
   -- the disk holds the markers of the store
   pub markers_held : HoldMarkers l (as_read d) (contents_of u)
   markers_held = record {
-    chosen = chosen_by u (contents_of u);
-    reads = reads_so (λ b. bytes_of (reads b)) (sym (ap (λ (b : Blob). bytes_of (reads b)) stands.left)) (sym (ap (λ (b : Blob). bytes_of (reads b)) stands.right));
-    map = refl;
+    copies = λ is. record {
+      chosen = chosen_by u (contents_of u);
+      reads = reads_so (λ b. bytes_of (reads b)) (sym (ap (λ (b : Blob). bytes_of (reads b)) stands.left)) (sym (ap (λ (b : Blob). bytes_of (reads b)) stands.right));
+      map = refl;
+    };
+    none = λ not. absurd (cc (marked, not));
   }
 
   module _ (readable : IsReadable l.markers) where
@@ -64,12 +68,12 @@ true_or_not false = inr refl
 
 -- A section has to be moved just where nothing of it is unsynced, and its marker is another number.
 module _ {F S : Type 0} {gs : _} (a : Archive F (PageBlob S gs)) {bs : Buffers F (PageBlob S gs)} {told : Type 0} (opened : OpenedList) (d : Disk) (archive : IsArchive a bs told opened d) (t : told)
-    (here : a.pair.store.partition ≡ a.pair.layout.metadata) (readable : IsReadable a.pair.layout.markers) where
+    (here : a.pair.store.partition ≡ a.pair.layout.metadata) (marked : IsTrue a.pair.layout.marked) (readable : IsReadable a.pair.layout.markers) where
   counted : (s : ℕ) → length ((state_of a d).lists s) ≡ length_of a.pair s
   counted s = length-map (list_of a.pair d s) (filed (filing_of a)) ∙ list_counted a.pair d s
 
   held : HoldMarkers a.pair.layout (as_read d) (contents_of a.pair.store)
-  held = markers_held a.pair.layout a.pair.store d here (archive.pair.disk t).markers
+  held = markers_held a.pair.layout a.pair.store d here marked (archive.pair.disk t).markers
 
   -- By which sections count as written, and how many records each has.
   module _ (IsCounted : ℕ → Type 0) (lengths : ℕ → ℕ) (rests : (s : ℕ) → (IsCounted s → ⊥) → synced_length a.pair s ≡ lengths s) (grows : (s : ℕ) → IsCounted s → synced_length a.pair s < lengths s) where
@@ -90,7 +94,7 @@ module _ {F S : Type 0} {gs : _} (a : Archive F (PageBlob S gs)) {bs : Buffers F
 
     said_so : IsMovingBy (filing_of a) d lengths (synced_length a.pair) → (s : ℕ) × pair.IsMoving a.pair IsCounted IsCounted s
     said_so (markers, holds, (s, below, all, other)) =
-        let same : markers ≡ contents_of a.pair.store = markers_are a.pair.layout a.pair.store d here (archive.pair.disk t).markers readable markers holds in
+        let same : markers ≡ contents_of a.pair.store = markers_are a.pair.layout a.pair.store d here marked (archive.pair.disk t).markers readable markers holds in
         let not : IsCounted s → ⊥ = λ is. omega (arith, grows s is, all) in
         (s, (below, not, inr (not, λ is. other (ap (λ (m : Markers). marker_of m.entries s) same ∙ sym is))))
 

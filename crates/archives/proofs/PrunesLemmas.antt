@@ -197,7 +197,7 @@ module _ {A V F S D : Type 0} {gs : _} (p : Prunable A V F (PageBlob S gs)) (dev
     nothing_pruned : (p.see a).pair.index.sections.partition ≡ (filing_by p a).layout.index → (p.see a).pair.values.partition ≡ (filing_by p a).layout.values → Pruned p dev a min a d
     nothing_pruned index values = record {
       filing = record {
-        layout = record { index = refl; values = refl; metadata = refl; page_size = refl };
+        layout = record { index = refl; values = refl; marked = refl; metadata = refl; page_size = refl };
         record_size = refl;
         seal = λ bytes. refl;
         place = λ bytes. refl;

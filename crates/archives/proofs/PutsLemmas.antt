@@ -123,7 +123,7 @@ module _ {A V S D : Type 0} {gs : _} (p : Prunable A V (AppendFactory S) (PageBl
     };
     ends = record {
       filing = record {
-        layout = record { index = refl; values = refl; metadata = refl; page_size = refl };
+        layout = record { index = refl; values = refl; marked = refl; metadata = refl; page_size = refl };
         record_size = refl;
         seal = λ bytes. refl;
         place = λ bytes. refl;

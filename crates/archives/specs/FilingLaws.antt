@@ -8,6 +8,7 @@ one_filing f g same markers = λ i. record {
   layout = record {
     index = same.layout.index i;
     values = same.layout.values i;
+    marked = same.layout.marked i;
     metadata = same.layout.metadata i;
     page_size = same.layout.page_size i;
     record_size = same.record_size i;

@@ -10,9 +10,8 @@ use Rattle.meta_store.specs.declared.pair.Chosen.{Chosen}
 use Rattle.sealed_pages.specs.Reads.{IsShort}
 use Rattle.segments.specs.Sections.{section_key}
 use Rattle.sealed_pages.specs.declared.page_blob.PageBlob.{PageBlob}
-use Rattle.paired.specs.Crashes.{NoChanceSeal}
+use Rattle.paired.specs.Crashes.{HoldMarkers, NoChanceSeal}
 use Rattle.paired.specs.Kept.{Layout, Markers}
-use Rattle.paired.specs.Opening.{HoldMarkers}
 use Rattle.paired.specs.Records as stored
 use Rattle.paired.specs.Replaying.{Run, IsDue, records_given}
 use Rattle.archives.specs.Filing.{Filing, kept_entries}

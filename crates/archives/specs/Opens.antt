@@ -16,10 +16,10 @@ use Rattle.segments.specs.declared.journal.Error.TheVariants as journal
 use Rattle.segments.specs.declared.sealed.AppendFactory.{AppendFactory}
 use Rattle.sealed_pages.specs.Reads.{IsShort}
 use Rattle.sealed_pages.specs.declared.page_blob.PageBlob.{PageBlob}
-use Rattle.paired.specs.Crashes.{IsOwn}
+use Rattle.paired.specs.Crashes.{HoldMarkers, IsOwn}
 use Rattle.paired.specs.glob.Sections as glob
 use Rattle.paired.specs.Kept.{content_at, IsMarked, Markers, marker_of, stored_records}
-use Rattle.paired.specs.Opening.{HoldMarkers, MayBeOpened, RecallsAlone, as_read}
+use Rattle.paired.specs.Opening.{MayBeOpened, RecallsAlone, as_read}
 use Rattle.paired.specs.OpeningRefusing.{AreCounted, IsLost, IsProved}
 use Rattle.paired.specs.Pair.{length_of, records_of}
 use Rattle.archives.specs.Changes.{IsSoundOver, MayUse, state_over}

@@ -1,5 +1,5 @@
 -- What an archive shows of itself, and how one that is opened files its records.
-use Rattle.std.specs.Prelude.{ℕ, ◌+◌, Bool, List, Option, string_bytes}
+use Rattle.std.specs.Prelude.{ℕ, ◌+◌, Bool, true, List, Option, string_bytes}
 use Rattle.std.specs.BTreeSet as set
 use Rattle.std.specs.Ordering.{nat_cmp}
 use Rattle.value_codec.specs.declared.codec.Codec as codec
@@ -48,6 +48,7 @@ filing_for n sealing refusal cfg = record {
   layout = record {
     index = string_bytes cfg.key_partition;
     values = string_bytes cfg.value_partition;
+    marked = true;
     metadata = string_bytes cfg.metadata_partition;
     page_size = cfg.key_pages.page_size;
     record_size = n + 20;

@@ -1,9 +1,8 @@
 -- When an image stands for a state of the machine with a command under way, and what a crash leaves of an archive.
 use Rattle.std.specs.Prelude.{◌≡◌, ◌⊎◌, ℕ, ◌<◌, ◌≤◌, ◌^◌, if◌then◌else◌, List, [], length, take, Option, Some, IsTrue}
 use Rattle.blob_device.specs.Disk.{Image, Disk, IsCrashOf}
-use Rattle.paired.specs.Crashes.{NoChanceSeal}
+use Rattle.paired.specs.Crashes.{HoldMarkers, NoChanceSeal}
 use Rattle.paired.specs.Kept.{Markers}
-use Rattle.paired.specs.Opening.{HoldMarkers}
 use Rattle.archives.specs.Commands.{Command, Put, PutSync, PutStart, Multi, MultiSync, MultiStart, Prune, Destroy}
 use Rattle.archives.specs.Filing.{Filing, floor_of, kept}
 use Rattle.archives.specs.Lawful.{Lawful}

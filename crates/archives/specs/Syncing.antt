@@ -6,7 +6,8 @@ use Rattle.segments.specs.declared.buffer.SectionBuffer as buffer
 use Rattle.segments.specs.Lasting.{IsUnsettled}
 use Rattle.paired.specs.glob.Sections as glob
 use Rattle.paired.specs.Kept.{Markers, marker_of}
-use Rattle.paired.specs.Opening.{HoldMarkers, as_read}
+use Rattle.paired.specs.Crashes.{HoldMarkers}
+use Rattle.paired.specs.Opening.{as_read}
 use Rattle.paired.specs.Pair as pair
 use Rattle.archives.specs.Archives.{Archive}
 use Rattle.archives.specs.Filing.{Filing}

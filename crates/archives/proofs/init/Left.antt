@@ -61,8 +61,9 @@ pair_rests p o d are_pages here pair index values = record {
   proven = proven_of pair.whole;
   index_known = pair.whole.index_known;
   marks = record {
-    stands = λ t. (pair.disk t).markers;
-    here = here.store;
+    stands = λ t is. (pair.disk t).markers;
+    here = λ is. here.store;
+    none = λ not. absurd (cc (here.marked, not));
   };
 }
 
@@ -80,7 +81,7 @@ module _ {F S : Type 0} {gs : _} {g : buffer.Ghosts (PageBlob S gs)} {gives : F 
   -- ---- the disk as it reads is lawful
   module _ (markers : Markers) (lawful : Lawful (filing_of arch) (as_read z) markers) where
     own_markers : markers ≡ contents_of arch.pair.store
-    own_markers = markers_one rests t readable (as_read z) (λ side. refl) markers lawful.pair
+    own_markers = markers_one rests t readable (as_read z) (λ is side. refl) markers lawful.pair
 
     -- so all records are sound
     all_sound : (s : ℕ) → s < 2 ^ 64 → AllByRecursion (λ r. IsTrue (is_sound arch.pair.layout.seal (values_now s) (arch.pair.layout.place r))) (records_of arch.pair z s)

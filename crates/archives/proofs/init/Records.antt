@@ -1,6 +1,7 @@
 -- What the records of an archive are by their size, and which markers an image holds.
-use Rattle.std.proofs.Common.{◌≡◌, sym, ◌∙◌, ap, subst, ℕ, zero, suc, ◌+◌, ◌-◌, ◌*◌, ◌<◌, ◌≤◌, ◌^◌, List, length, drop, None, Ok, arith, length-drop}
+use Rattle.std.proofs.Common.{◌≡◌, inl, inr, sym, ◌∙◌, ap, subst, ℕ, zero, suc, ◌+◌, ◌-◌, ◌*◌, ◌<◌, ◌≤◌, ◌^◌, List, length, drop, IsTrue, None, Ok, arith, length-drop}
 use Rattle.std.specs.List.{AllByRecursion}
+use Rattle.std.proofs.lemmas.Bool.{cases_Bool}
 use Rattle.std.proofs.lemmas.Bool.Decides.{nat_tests}
 use Rattle.std.proofs.lemmas.List.{length-take-le}
 use Rattle.blob_device.specs.Disk.{Blob, Disk, Image, reads}
@@ -22,7 +23,8 @@ use Rattle.meta_store.specs.Pairs.{ReadsPair, chosen_of}
 use Rattle.meta_store.specs.Store.{Stands, Store, chosen_by, contents_of}
 use Rattle.meta_store.proofs.Uses.{IsReadable, one_map, one_reading}
 use Rattle.paired.specs.Kept.{Layout, Markers}
-use Rattle.paired.specs.Opening.{as_read, HoldMarkers, OnlyOpens}
+use Rattle.paired.specs.Crashes.{HoldMarkers}
+use Rattle.paired.specs.Opening.{as_read, OnlyOpens}
 use Rattle.paired.specs.OpeningRefusing.{IsUnreadable, last_of}
 use Rattle.paired.specs.Pair.{AreApart}
 use Rattle.paired.specs.Records.{each_below, records}
@@ -67,7 +69,10 @@ module _ {K V : Type 0} (f : Format K V) (readable : IsReadable f) where
 module _ (l : Layout) (readable : IsReadable l.markers) where
   -- an image holds one map of markers
   pub one_markers : (image : Image) (m n : Markers) → HoldMarkers l image m → HoldMarkers l image n → m ≡ n
-  one_markers image m n of_m of_n = one_map l.markers readable (bytes_of (image (blob_of l.metadata Left))) (bytes_of (image (blob_of l.metadata Right))) m n of_m of_n
+  one_markers image m n of_m of_n = elim (cases_Bool l.marked) [
+    | inl is ↦ one_map l.markers readable (bytes_of (image (blob_of l.metadata Left))) (bytes_of (image (blob_of l.metadata Right))) m n (of_m.copies is) (of_n.copies is)
+    | inr not ↦ of_m.none not ∙ sym (of_n.none not)
+  ]
 
   module _ (apart : AreApart l) (from d : Disk) (opens : OnlyOpens l from d) (u : Store Key8 ℕ) (here : u.partition ≡ l.metadata) (stands : Stands l.markers u (contents_of u) d) where
     stood : ReadsPair l.markers (bytes_of (as_read d (blob_of l.metadata Left))) (bytes_of (as_read d (blob_of l.metadata Right))) (Ok (chosen_by u (contents_of u)))
@@ -93,8 +98,10 @@ module _ (l : Layout) (readable : IsReadable l.markers) where
         })
         stood
 
-    pub has_no_version : HoldMarkers l (as_read from) (contents_of u) → 2 ^ 64 ≤ u.version + 1 → HasNoVersion l from
-    has_no_version held over = (held.chosen, held.reads, omega (arith, over, ap (λ (c : Chosen Key8 ℕ). c.version) (chosen_before held.chosen held.reads)))
+    pub has_no_version : IsTrue l.marked → HoldMarkers l (as_read from) (contents_of u) → 2 ^ 64 ≤ u.version + 1 → HasNoVersion l from
+    has_no_version is held over =
+        let copies = held.copies is in
+        (copies.chosen, copies.reads, omega (arith, over, ap (λ (c : Chosen Key8 ℕ). c.version) (chosen_before copies.chosen copies.reads)))
 
     pub no_version_left : HasNoVersion l from → 2 ^ 64 ≤ u.version + 1
     no_version_left (chosen, pair, over) = omega (arith, over, ap (λ (c : Chosen Key8 ℕ). c.version) (chosen_before chosen pair))

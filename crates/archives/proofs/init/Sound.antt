@@ -103,7 +103,7 @@ module _ (l : Layout) (d : Disk) (was new : Image) (same : (q : Key) → IsOwn l
         let P : Option (List ℕ) → Option (List ℕ) → Type 0 =
         λ i v. AllByRecursion (λ r. IsTrue (is_sound l.seal (unwrap_or v []) (l.place r)) → WasThere b (unwrap_or v []) (l.place r)) (records l.record_size (sealed_prefix l.seal l.page_size (unwrap_or i []))) in
         subst (λ i. P i (new (section_key l.values s))) (sym (index_same s small)) (subst (λ v. P (was (section_key l.index s)) v) (sym (values_same s small)) (none.frames s small)));
-    copies = λ side. subst (λ (o : Option (List ℕ)). metadata.NoChanceSeal l.markers.seal (past (d (blob_of l.metadata side))) (bytes_of o)) (sym (same (blob_of l.metadata side) (inr (inr (side, refl))))) (none.copies side);
+    copies = λ is side. subst (λ (o : Option (List ℕ)). metadata.NoChanceSeal l.markers.seal (past (d (blob_of l.metadata side))) (bytes_of o)) (sym (same (blob_of l.metadata side) (inr (inr (side, refl))))) (none.copies is side);
   }
 
 -- what stands for a state is lawful

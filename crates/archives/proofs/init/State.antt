@@ -17,7 +17,8 @@ use Rattle.segments.proofs.FixedWalks.{is_some}
 use Rattle.segments.proofs.WalkLemmas.{none_or_value}
 use Rattle.paired.specs.glob.Sections as glob
 use Rattle.paired.specs.Kept.{Layout, Markers, kept, marker_of}
-use Rattle.paired.specs.Opening.{as_read, HoldMarkers, IsLawful}
+use Rattle.paired.specs.Crashes.{HoldMarkers}
+use Rattle.paired.specs.Opening.{as_read, IsLawful}
 use Rattle.paired.specs.OpeningFound.{CountsAll, GivesInPlace, HasFound, HasKept}
 use Rattle.paired.specs.Pair.{Pair, length_of, list_of, records_of}
 use Rattle.paired.specs.Records as stored

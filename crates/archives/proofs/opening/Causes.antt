@@ -16,7 +16,8 @@ use Rattle.segments.specs.Sections.{section_key}
 use Rattle.segments.specs.declared.journal.Damage.{Damage}
 use Rattle.segments.specs.declared.journal.Error.TheVariants as journal
 use Rattle.paired.specs.Kept.{IsMarked, Markers, marker_of, stored_records}
-use Rattle.paired.specs.Opening.{HoldMarkers, as_read}
+use Rattle.paired.specs.Crashes.{HoldMarkers}
+use Rattle.paired.specs.Opening.{as_read}
 use Rattle.paired.specs.OpeningRefusing.{IsLost}
 use Rattle.archives.specs.Filing.{Filing, kept_entries}
 use Rattle.archives.specs.Opening.{HasNoVersion, HasStray, IsPastLimits, OfKept}

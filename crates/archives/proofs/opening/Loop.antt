@@ -36,6 +36,7 @@ same_then old mid new first second = record {
   layout = record {
     index = second.layout.index ∙ first.layout.index;
     values = second.layout.values ∙ first.layout.values;
+    marked = second.layout.marked ∙ first.layout.marked;
     metadata = second.layout.metadata ∙ first.layout.metadata;
     page_size = second.layout.page_size ∙ first.layout.page_size;
   };
@@ -55,7 +56,7 @@ same_then old mid new first second = record {
 
 pub same_start : {F B : Type 0} (run : Run F B) → SameRun run run
 same_start run = record {
-  layout = record { index = refl; values = refl; metadata = refl; page_size = refl };
+  layout = record { index = refl; values = refl; marked = refl; metadata = refl; page_size = refl };
   walk = record { bounds = record { place = record { partition = refl; factory = refl }; floor = refl; ceiling = refl }; unrecovered = λ s. refl; floors = λ s. refl; section = refl; position = refl };
   values = refl;
   store = refl;
@@ -176,6 +177,7 @@ pub run_layout : {I V S C : Type 0} {fixed codec seal : _} (place : List ℕ →
 run_layout {fixed = fixed} {seal = seal} place r q same = λ i. record {
   index = same.layout.index i;
   values = same.layout.values i;
+  marked = true;
   metadata = same.layout.metadata i;
   page_size = same.layout.page_size i;
   record_size = fixed.SIZE;

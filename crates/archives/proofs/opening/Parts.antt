@@ -1,5 +1,5 @@
 -- What an opening of an archive does part by part, over plain variables: a replay is made, its records are entered, and it is ended.
-use Rattle.std.proofs.Common.{◌≡◌, ◌≢◌, refl, ◌∙◌, ap, subst, ℕ, ◌+◌, ◌-◌, ◌*◌, ◌<◌, ◌≤◌, ◌^◌, List, length, map, Result, Ok, arith}
+use Rattle.std.proofs.Common.{◌≡◌, ◌≢◌, refl, ◌∙◌, ap, subst, ℕ, ◌+◌, ◌-◌, ◌*◌, ◌<◌, ◌≤◌, ◌^◌, List, length, map, IsTrue, Result, Ok, arith}
 use Rattle.blob_device.specs.Opened.{reads_of}
 use Rattle.blob_device.specs.Timeline.{Always, disk}
 use Rattle.blob_device.specs.declared.device.Device as device
@@ -9,7 +9,8 @@ use Rattle.meta_store.proofs.Uses.{IsReadable}
 use Rattle.sealed_pages.specs.declared.page_blob.PageBlob.{PageBlob}
 use Rattle.segments.specs.Sections.{section_key}
 use Rattle.paired.specs.Kept.{Layout, Markers, kept, marker_of, stored_records}
-use Rattle.paired.specs.Opening.{HoldMarkers, IsLawful, OnlyOpens, as_read}
+use Rattle.paired.specs.Crashes.{HoldMarkers}
+use Rattle.paired.specs.Opening.{IsLawful, OnlyOpens, as_read}
 use Rattle.paired.specs.OpeningFound.{HasFound}
 use Rattle.paired.specs.Pair.{AreApart}
 use Rattle.paired.specs.Replaying.{LeftAtMost, Run, marker, records_given}
@@ -67,6 +68,7 @@ module _ {F S D : Type 0} {gs : _} (dev : device.Ghosts D) (f : Filing) (old mid
     pub here : run.layout ≡ f.layout
     pub partition : run.store.partition ≡ f.layout.metadata
     pub apart : AreApart f.layout
+    pub marked : IsTrue f.layout.marked
     pub readable : IsReadable f.layout.markers
     pub found : dev.Tells → HasFound f.layout (disk (dev.time old)) (disk (dev.time mid)) run
     pub stands : dev.Tells → Stands f.layout.markers run.store (contents_of run.store) (disk (dev.time mid))
@@ -110,7 +112,7 @@ module _ {F S D : Type 0} {gs : _} {dev : device.Ghosts D} {f : Filing} {old mid
 
   -- the markers have no next version now where they had none
   pub no_next : dev.Tells → 2 ^ 64 ≤ run.store.version + 1 → HasNoVersion f.layout (disk (dev.time old))
-  no_next t over = has_no_version f.layout r.readable r.apart (disk (dev.time old)) (disk (dev.time mid)) (r.opens t) run.store r.partition (r.stands t) (r.found t).markers over
+  no_next t over = has_no_version f.layout r.readable r.apart (disk (dev.time old)) (disk (dev.time mid)) (r.opens t) run.store r.partition (r.stands t) r.marked (r.found t).markers over
 
   pub none_before : dev.Tells → HasNoVersion f.layout (disk (dev.time old)) → 2 ^ 64 ≤ run.store.version + 1
   none_before t none = no_version_left f.layout r.readable r.apart (disk (dev.time old)) (disk (dev.time mid)) (r.opens t) run.store r.partition (r.stands t) none

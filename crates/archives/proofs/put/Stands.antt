@@ -1,5 +1,5 @@
 -- What a crash leaves of an archive while a put is under way.
-use Rattle.std.proofs.Common.{◌≡◌, ◌≢◌, ◌⊎◌, inl, inr, refl, sym, ◌∙◌, ap, subst, ℕ, ◌+◌, ◌-◌, ◌^◌, ◌<◌, ◌≤◌, List, [], ◌∷◌, ◌++◌, length, map, take, Bool, true, false, ◌==◌, ◌||◌, if◌then◌else◌, nat_lt, Option, None, Some, IsSomeAnd, arith}
+use Rattle.std.proofs.Common.{◌≡◌, ◌≢◌, ◌⊎◌, inl, inr, refl, sym, ◌∙◌, ap, subst, ℕ, ◌+◌, ◌-◌, ◌^◌, ◌<◌, ◌≤◌, List, [], ◌∷◌, ◌++◌, length, map, take, Bool, true, false, ◌==◌, ◌||◌, if◌then◌else◌, nat_lt, IsTrue, Option, None, Some, IsSomeAnd, arith}
 use Rattle.std.specs.List.{AllByRecursion}
 use Rattle.std.specs.List.Sorted.{IsStrictlySortedBy}
 use Rattle.std.specs.Ordering.{nat_cmp}
@@ -42,11 +42,11 @@ use Rattle.archives.proofs.StandLemmas.{AreFiled, keeps_stand}
 
 -- what a crash leaves while no call is under way
 pub at_rest : {F S : Type 0} {gs : _} {g : buffer.Ghosts (PageBlob S gs)} {gives : F → Setting} {takes : WriteFactory → Setting} {told : Type 0} {opened : _} (a : Archive F (PageBlob S gs)) (d : Disk)
-    → 1 ≤ a.pair.layout.record_size → a.pair.index.sections.partition ≡ a.pair.layout.index → a.pair.values.partition ≡ a.pair.layout.values → a.pair.store.partition ≡ a.pair.layout.metadata
+    → 1 ≤ a.pair.layout.record_size → a.pair.index.sections.partition ≡ a.pair.layout.index → a.pair.values.partition ≡ a.pair.layout.values → a.pair.store.partition ≡ a.pair.layout.metadata → IsTrue a.pair.layout.marked
     → ((s : ℕ) (v : PageBlob S gs) → a.pair.index.sections.held s ≡ Some v → v.page_size ≡ a.pair.layout.page_size)
     → IsArchive a (glob_buffers g gives takes) told opened d → told → IsSoundArchive a d → Leaves (filing_of a) (state_of a d) None d
-at_rest {opened = opened} a d pos index values store paged archive t sound =
-    stands_at a d archive t sound (λ _. ⊥) d (λ q other. refl) (leaves_now a.pair opened d pos index values store paged archive.pair t sound.pair)
+at_rest {opened = opened} a d pos index values store is_marked paged archive t sound =
+    stands_at a d archive t sound (λ _. ⊥) d (λ q other. refl) (leaves_now a.pair opened d pos index values store is_marked paged archive.pair t sound.pair)
 
 -- A command under way that adds to a list leaves room for what stands for the state without it.
 module _ (f : Filing) (st : State (List ℕ)) (command : Command (List ℕ)) (adds : (s : ℕ) → (more : List (Entry (List ℕ))) × (submitted f.items st (Some command) s ≡ submitted f.items st None s ++ more)) where

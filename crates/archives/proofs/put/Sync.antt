@@ -58,6 +58,7 @@ filing_then f g h one two = record {
   layout = record {
     index = two.layout.index ∙ one.layout.index;
     values = two.layout.values ∙ one.layout.values;
+    marked = two.layout.marked ∙ one.layout.marked;
     metadata = two.layout.metadata ∙ one.layout.metadata;
     page_size = two.layout.page_size ∙ one.layout.page_size;
   };

@@ -91,11 +91,11 @@ module _ {F S : Type 0} {gs : _} (a : Archive F (PageBlob S gs)) where
 
   -- What a crash now leaves of an archive that is sound stands for its state.
   pub stands_now : {g : _} {gives : _} {takes : _} {told : Type 0} (opened : OpenedList) (d : Disk)
-      → 1 ≤ a.pair.layout.record_size → a.pair.index.sections.partition ≡ a.pair.layout.index → a.pair.values.partition ≡ a.pair.layout.values → a.pair.store.partition ≡ a.pair.layout.metadata
+      → 1 ≤ a.pair.layout.record_size → a.pair.index.sections.partition ≡ a.pair.layout.index → a.pair.values.partition ≡ a.pair.layout.values → a.pair.store.partition ≡ a.pair.layout.metadata → IsTrue a.pair.layout.marked
       → ((s : ℕ) (v : PageBlob S gs) → a.pair.index.sections.held s ≡ Some v → v.page_size ≡ a.pair.layout.page_size)
       → IsArchive a (glob_buffers g gives takes) told opened d → told → IsSoundArchive a d → Leaves (filing_of a) (state_of a d) None d
-  stands_now opened d pos index values store paged archive t sound =
-      stands_at a d archive t sound (λ _. ⊥) d (λ q not. refl) (leaves_now a.pair opened d pos index values store paged archive.pair t sound.pair)
+  stands_now opened d pos index values store is_marked paged archive t sound =
+      stands_at a d archive t sound (λ _. ⊥) d (λ q not. refl) (leaves_now a.pair opened d pos index values store is_marked paged archive.pair t sound.pair)
 
   module _ {bs : _} {told : Type 0} (opened : OpenedList) (old new : Timeline) (M N : ℕ → Type 0) (archive : IsArchive a bs told opened (disk old)) (t : told)
       (sound : IsSoundArchive a (disk old)) (keeps : SyncKeeps a.pair M N old new) where

@@ -19,7 +19,7 @@ returns g c =
     let over = c.requires.over in
     let key : g.K.Key.SIZE ≤ 1024 = g.met.K.Key.small in
     record {
-      leaves = λ t sound. stands_now a opened d (omega arith) refl refl refl (λ s v held. λ i. (over.pair.index.over.opened_list.setting s v held i).page_size) over t sound;
+      leaves = λ t sound. stands_now a opened d (omega arith) refl refl refl refl (λ s v held. λ i. (over.pair.index.over.opened_list.setting s v held i).page_size) over t sound;
       opened = λ t sound. opened_again a opened d (are_pages g.row.S g.S.Seal g.S.Seal-dict) refl refl refl over t sound;
       no_lists = λ s far. (none_beyond a opened d (omega arith) over s far).0;
       none_synced = λ s far. (none_beyond a opened d (omega arith) over s far).1;
@@ -30,11 +30,11 @@ returns g c =
           passed a opened d over t sound (λ s v held. λ j. (over.pair.index.over.opened_list.setting s v held j).page_size) i n,
           passes a opened d over t sound (λ s v held. λ j. (over.pair.index.over.opened_list.setting s v held j).page_size) i n c.args.self.now.pair.index.manager.factory.small (omega (arith, key)) few,
         );
-        moving = moving_said a opened d over t refl (markers_readable g.S.Seal);
-        moving_after = λ times i key value. moving_after_said a opened d over t refl (markers_readable g.S.Seal) times i key value;
+        moving = moving_said a opened d over t refl refl (markers_readable g.S.Seal);
+        moving_after = λ times i key value. moving_after_said a opened d over t refl refl (markers_readable g.S.Seal) times i key value;
         version = (
           has_no_version_now a.pair.layout a.pair.store d refl (over.pair.disk t).markers,
-          no_next_version a.pair.layout a.pair.store d refl (over.pair.disk t).markers (markers_readable g.S.Seal),
+          no_next_version a.pair.layout a.pair.store d refl refl (over.pair.disk t).markers (markers_readable g.S.Seal),
         );
       };
     }

@@ -15,12 +15,12 @@ use Rattle.std.specs.Ordering.{nat_cmp}
 use Rattle.blob_device.specs.Disk.{Key, MayLeave, reads}
 use Rattle.blob_device.proofs.Moments.{always_now, always_start}
 use Rattle.meta_store.specs.Store.{contents_of}
-use Rattle.paired.specs.Crashes.{IsOwn}
+use Rattle.paired.specs.Crashes.{HoldMarkers, IsOwn}
 use Rattle.sealed_pages.specs.declared.page_blob.PageBlob.{PageBlob}
 use Rattle.segments.specs.declared.sealed.AppendFactory.{AppendFactory}
 use Rattle.segments.proofs.FixedWriteLemmas.{are_pages}
 use Rattle.paired.specs.Kept.{content_at, IsMarked, IsSameLayout, Markers}
-use Rattle.paired.specs.Opening.{HoldMarkers, IsLawful, MayBeOpened, OnlyOpens, RecallsAlone, as_read}
+use Rattle.paired.specs.Opening.{IsLawful, MayBeOpened, OnlyOpens, RecallsAlone, as_read}
 use Rattle.paired.specs.OpeningFound.{HasFound}
 use Rattle.paired.specs.Pair.{AreApart, IsSoundOn, records_of}
 use Rattle.paired.specs.PairShown as pair
@@ -106,6 +106,7 @@ replayed_at g c named part =
       here = here;
       partition = ap (λ y. y.metadata) here;
       apart = subst AreApart here found.over.apart;
+      marked = refl;
       readable = markers_readable g.S.Seal;
       found = λ t. subst (λ y. HasFound y (disk a) (disk b) run) named (found.found t);
       stands = λ t. found.over.markers t;
@@ -178,7 +179,7 @@ returns-in_err-replay g c =
     (λ t k has. absurd (pair_no_page r _ x is fa fb says.cause k has))
     (λ t markers lawful counted room. no_room_given_up r fa fb (gives_up_on r _ x is fa fb (says.complete t markers (subst (λ y. IsLawful y (as_read (disk a)) markers) (sym named) lawful.pair)
     (λ s small. all_whole (g.K.Key.SIZE + 20) _) (subst (λ y. AreCounted y (as_read (disk a))) (sym named) counted))) room)
-    (markers_readable g.S.Seal) c.requires.valid.pages (omega arith)
+    refl (markers_readable g.S.Seal) c.requires.valid.pages (omega arith)
 
 pub returns-in_err-tables : goal.returns-in_err-tables
 returns-in_err-tables g c =
@@ -246,7 +247,7 @@ returns-in_err-finish_tracked g c =
     (λ t side has. absurd (here.copies t side has))
     (λ t k has. absurd (says.damaged t (k, journal_back r _ x is (section.Runtime (InvalidChecksum k)) has)))
     (λ t markers lawful counted room. end_no_room r _ x is fe fz why room)
-    (markers_readable g.S.Seal) c.requires.valid.pages (omega arith)
+    refl (markers_readable g.S.Seal) c.requires.valid.pages (omega arith)
 
 pub returns : goal.returns
 returns g c =
@@ -273,7 +274,7 @@ returns g c =
     says.codec_config ∙ c.entered.ensures.config ∙ c.in_ok-replay.ensures.codec_config ∙ c.in_ok-pair.ensures.codec_config in
     let arch : Archive (AppendFactory g.row.S.Denot) (PageBlob g.row.S.Denot g.S.Seal) =
     archive_over p f refusal (rows_of g.K.Key.key_bytes c.in_ok-tables.tables) (AreTables g.K.Key.key_bytes g.T.Word.PartialEq.eq (g.T.Translator.word_of c.args.cfg.now.translator) c.in_ok-tables.tables) (set_of c.in_ok-indices.indices) (set.contains nat_cmp c.new.result) in
-    let alike : IsSameLayout f.layout p.layout = record { index = ap (λ y. y.index) own; values = ap (λ y. y.values) own; metadata = ap (λ y. y.metadata) own; page_size = ap (λ y. y.page_size) own } in
+    let alike : IsSameLayout f.layout p.layout = record { index = ap (λ y. y.index) own; values = ap (λ y. y.values) own; marked = ap (λ y. y.marked) own; metadata = ap (λ y. y.metadata) own; page_size = ap (λ y. y.page_size) own } in
     let filing = same_filing f p.layout refusal alike refl (λ _. refl) (λ _. refl) (λ bytes. ap (g.V.Codec.refusal bytes) config) in
     let none_is : (s : ℕ) → arch.is_written s ≡ false = none_in c.new.result c.new.ensures.empty in
     let part = ended_part here since (record {
@@ -353,7 +354,7 @@ returns g c =
             sound refl (λ s. refl)
             (no_foreign f.layout here.apart (λ _. ⊤) a z (always_now (g.D.Device.time c.args.dev.now) (g.D.Device.time c.finish_tracked.new.dev) (OthersStay f.layout a) (part.alone t))
             (no_foreign_before f a law may.no_chance (all_lawful f st a leaves) here.apart))
-            (leaves_now arch.pair opened z (omega arith) refl refl refl (λ s v held. λ i. (says.over.index.over.opened_list.setting s v held i).page_size) says.over t (record { sound = sound; floor = says.counts.marker_floor ∙ (lawful_now f here.readable run walked a b e since.still since.store (here.found t) (since.stays t) was.markers was.lawful.pair.held z arch (says.kept t) was.lawful.pair (since.lawful_on t)).floor }));
+            (leaves_now arch.pair opened z (omega arith) refl refl refl refl (λ s v held. λ i. (says.over.index.over.opened_list.setting s v held i).page_size) says.over t (record { sound = sound; floor = says.counts.marker_floor ∙ (lawful_now f here.readable run walked a b e since.still since.store (here.found t) (since.stays t) was.markers was.lawful.pair.held z arch (says.kept t) was.lawful.pair (since.lawful_on t)).floor }));
       };
     })
 

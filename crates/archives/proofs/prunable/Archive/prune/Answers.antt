@@ -32,14 +32,14 @@ remove_below-requires g c = c.requires.over.tied.order
 pub returns-then-bound-self : goal.returns-then-bound-self
 returns-then-bound-self g c =
     prune_low _ g.D.Device c.args.self c.args.min c.args.dev.now c.requires.over (omega (arith, c.if-bound-self.true, c.section_of-bound.ensures)) refl refl
-    (λ t sound. stands_now (shown c.args.self) (g.D.Device.opened c.args.dev.now) (disk (g.D.Device.time c.args.dev.now)) (omega arith) refl refl refl (λ s v held. λ i. (c.requires.over.pair.index.over.opened_list.setting s v held i).page_size) c.requires.over t sound)
+    (λ t sound. stands_now (shown c.args.self) (g.D.Device.opened c.args.dev.now) (disk (g.D.Device.time c.args.dev.now)) (omega arith) refl refl refl refl (λ s v held. λ i. (c.requires.over.pair.index.over.opened_list.setting s v held i).page_size) c.requires.over t sound)
 
 -- there was no memory to take indices out
 pub returns-in_err-remove : goal.returns-in_err-remove
 returns-in_err-remove g c =
     prune_as _ g.D.Device c.args.self c.args.min _ (Err Mem) _ _ (err_of _ Mem c.from_residual.ensures.1)
     (prune_no_memory _ g.D.Device c.args.self c.args.min c.args.dev.now
-    (λ t sound. stands_now (shown c.args.self) (g.D.Device.opened c.args.dev.now) (disk (g.D.Device.time c.args.dev.now)) (omega arith) refl refl refl (λ s v held. λ i. (c.requires.over.pair.index.over.opened_list.setting s v held i).page_size) c.requires.over t sound)
+    (λ t sound. stands_now (shown c.args.self) (g.D.Device.opened c.args.dev.now) (disk (g.D.Device.time c.args.dev.now)) (omega arith) refl refl refl refl (λ s v held. λ i. (c.requires.over.pair.index.over.opened_list.setting s v held i).page_size) c.requires.over t sound)
     (omega (arith, c.if-bound-self.false, c.section_of-bound.ensures)))
 
 -- the pair's prune failed
@@ -102,7 +102,7 @@ returns g c =
     prune_done _ g.D.Device c.args.self c.args.min c.args.dev.now c.prune.new.dev goes _ (λ none. absurd (none (omega (arith, raises, is))))
     over (one_filing (filing_of a) _ filing refl) (λ w accepts. subst (g.V.Codec.accepted w) (sym says.codec_config) accepts) sound_now
     (λ t. prune_step a c.args.min b is raises d _ (pruned_step a b p (omega arith) g.D.Device.Tells d e left refusal rows Tied indices is_written t says.over.markers))
-    (λ t sound. stands_now _ after e (omega arith) refl refl refl (λ s v held. λ i. (over.pair.index.over.opened_list.setting s v held i).page_size) over t (sound_now t sound))
+    (λ t sound. stands_now _ after e (omega arith) refl refl refl refl (λ s v held. λ i. (over.pair.index.over.opened_list.setting s v held i).page_size) over t (sound_now t sound))
     (record {
       filing = filing;
       alike = refl;

@@ -28,7 +28,7 @@ pub returns-in_err-sections : goal.returns-in_err-sections
 returns-in_err-sections g c =
     syncs.sync_as _ g.D.Device c.args.self _ (Err Mem) _ _ (known_error _ c.in_err-sections.field-0.0 Mem (err_of _ c.in_err-sections.field-0.0 c.from_residual.ensures.1) c.in_err-sections.ensures.cause)
     (sync_no_memory _ g.D.Device c.args.self c.args.dev.now (λ t sound.
-    stands_now (shown c.args.self) (g.D.Device.opened c.args.dev.now) (disk (g.D.Device.time c.args.dev.now)) (omega arith) refl refl refl (λ s v held. λ i. (c.requires.over.pair.index.over.opened_list.setting s v held i).page_size) c.requires.over t sound))
+    stands_now (shown c.args.self) (g.D.Device.opened c.args.dev.now) (disk (g.D.Device.time c.args.dev.now)) (omega arith) refl refl refl refl (λ s v held. λ i. (c.requires.over.pair.index.over.opened_list.setting s v held i).page_size) c.requires.over t sound))
 
 pub returns-in_err-this : goal.returns-in_err-this
 returns-in_err-this g c =
@@ -69,7 +69,7 @@ returns g c =
     _ over (one_filing (filing_of a) _ filing refl) (λ w accepts. subst (g.V.Codec.accepted w) (sym says.codec_config) accepts)
     (λ t sound. synced_sound a p refusal is_written sync before (disk old) (disk new) c.requires.over (says.lists t) layout t sound (record { sound = says.sound t sound.pair.sound; floor = sync.marker_floor ∙ sound.pair.floor })
     (sync_others a.pair first second written named active old new (c.sync_tracked.ensures.moments t)) (λ s has. has_values a before (disk old) c.requires.over t sound s (c.requires.over.written s has)) (λ bytes. ap (g.V.Codec.refusal bytes) says.codec_config))
-    (λ t sound. stands_now _ after (disk new) (omega arith) refl refl refl (λ s v held. λ i. (over.pair.index.over.opened_list.setting s v held i).page_size) over t sound)
+    (λ t sound. stands_now _ after (disk new) (omega arith) refl refl refl refl (λ s v held. λ i. (over.pair.index.over.opened_list.setting s v held i).page_size) over t sound)
     (record {
       filing = filing;
       alike = refl;
