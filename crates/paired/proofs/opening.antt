@@ -1,7 +1,9 @@
 pub mod Lemmas
 pub mod Laws
+pub mod Recovering
 pub mod Ends
 pub mod Phases
+pub mod Wanted
 pub mod Start
 pub mod StartRefusals
 pub mod StartRun

@@ -21,6 +21,7 @@ pub mod Replaying
 pub mod ReplayShown
 pub mod OpeningRefusing
 pub mod OpeningFound
+pub mod Openings
 pub mod Reconciling
 pub mod Tails
 pub mod CodecShown
