@@ -58,15 +58,18 @@ module _ (settings : Settings) (items : ℕ) where
     pair = record {
       names = record { index = λ name some. absurd (cc some); values = λ name some. absurd (cc some) };
       held = record {
-        chosen = record { version = 0; older = Left; contents = empty_map };
-        reads = record {
-          left_text = Absent;
-          right_text = Absent;
-          left_reads = empty_absent (program_filing settings items).layout.markers.seal;
-          right_reads = empty_absent (program_filing settings items).layout.markers.seal;
-          is = refl;
+        copies = λ is. record {
+          chosen = record { version = 0; older = Left; contents = empty_map };
+          reads = record {
+            left_text = Absent;
+            right_text = Absent;
+            left_reads = empty_absent (program_filing settings items).layout.markers.seal;
+            right_reads = empty_absent (program_filing settings items).layout.markers.seal;
+            is = refl;
+          };
+          map = refl;
         };
-        map = refl;
+        none = λ not. refl;
       };
       floor = refl;
       true_markers = λ s m marked. absurd (cc marked.1);
