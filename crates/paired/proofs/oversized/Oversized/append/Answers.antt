@@ -258,3 +258,9 @@ returns-clause-values g c t =
 
 pub returns-clause-others : goal.returns-clause-others
 returns-clause-others g c s other = (c.in_ok-index.ensures.others s other, c.in_ok-values.ensures.others s other)
+
+pub returns-in_err-index-clause-entries : goal.returns-in_err-index-clause-entries
+returns-in_err-index-clause-entries g c q index values = c.append-2.ensures.entries q index ∙ c.append.ensures.entries q values
+
+pub returns-clause-entries : goal.returns-clause-entries
+returns-clause-entries g c q index values = c.append-2.ensures.entries q index ∙ c.append.ensures.entries q values

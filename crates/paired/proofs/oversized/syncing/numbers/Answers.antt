@@ -21,3 +21,6 @@ returns-clause-each g c s =
     let items = c.loop-section.numbers.items in
     let end : c.loop-section.section-iterator ≡ [] = c.in-None.ensures.steps.0 in
     subst (λ (l : List ℕ). Contains l s ↔ IsHeld (shown c.args.index.now).sections s) (ap (λ (l : List ℕ). items ++ l) end ∙ append-nil items) (c.loop-section.invariant s)
+
+pub loop-section-init : goal.loop-section-init
+loop-section-init g c s = ?
