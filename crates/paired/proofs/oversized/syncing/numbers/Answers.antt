@@ -23,4 +23,8 @@ returns-clause-each g c s =
     subst (λ (l : List ℕ). Contains l s ↔ IsHeld (shown c.args.index.now).sections s) (ap (λ (l : List ℕ). items ++ l) end ∙ append-nil items) (c.loop-section.invariant s)
 
 pub loop-section-init : goal.loop-section-init
-loop-section-init g c s = ?
+loop-section-init g c s =
+    let all = c.sections-section-items in
+    let same : c.new-numbers.result.items ++ c.into_iter-section-iterator.result ≡ all.result =
+    ap (λ (l : List ℕ). l ++ c.into_iter-section-iterator.result) c.new-numbers.ensures.items ∙ c.into_iter-section-iterator.ensures.into_iter_gives in
+    subst (λ (l : List ℕ). Contains l s ↔ IsHeld (shown c.args.index.now).sections s) (sym same) (all.ensures.each s)
