@@ -70,7 +70,7 @@ choose_out (inr not) x y none = refl
 abbrev pub IsFirst : List (List ℕ) → List (List ℕ) → Type 0
 IsFirst found rs = found ≡ take (length found) rs
 
-none_marked : (markers : Markers) → markers ≡ empty_map → (s m : ℕ) → IsMarked markers.entries s m → ⊥
+pub none_marked : (markers : Markers) → markers ≡ empty_map → (s m : ℕ) → IsMarked markers.entries s m → ⊥
 none_marked markers none s m is = none_there (subst (λ (ms : Markers). IsMarked ms.entries s m) none is)
   where
     none_there : IsMarked [] s m → ⊥
