@@ -22,22 +22,29 @@ use Rattle.paired.specs.Opening.{as_read, MayBeOpened, Relation, IsOrder, Recall
 use Rattle.paired.specs.Pair.{AreApart}
 use Rattle.paired.specs.Reconciling.{CutTo, EndOf, Shortening}
 use Rattle.paired.specs.Records.{is_sound, front}
-use Rattle.paired.proofs.Ends.{Ends, Between, none_of_not}
-use Rattle.paired.proofs.reconcile.Resting.{values_number, values_key, stored_at, values_at}
-use Rattle.paired.proofs.reconcile.Phases.{index_cut_only, shortening_recalls, cutting_recalls, removing_recalls}
+use Rattle.paired.proofs.Ends.{Bounds, CutsTo, Ends, Between, bounds_of, none_of_not}
+use Rattle.paired.proofs.reconcile.Resting.{Known, known_of, values_number, values_key, stored_at, values_at}
+use Rattle.paired.proofs.reconcile.Phases.{shortening_cuts, shortening_recalls, cutting_recalls, removing_recalls}
 use Rattle.paired.proofs.Steps.{Step}
 
 -- ---- records are cut
+-- whatever is owed of a replay
+pub cuts_step : {F S : Type 0} {gs : _} {g : buffer.Ghosts (PageBlob S gs)} {gives : F → Setting} {takes : WriteFactory → Setting} {told : Type 0} {Rel : Relation} {l : Layout} {i : Sections F (PageBlob S gs)} {m : Sections WriteFactory WriteBlob} {u : Store Key8 ℕ} {ends : ℕ → Option ℕ} {o : OpenedList}
+    (a : Timeline) (known : Known g gives takes told l i m u o (disk a)) (map_readable : IsReadable l.markers) (t : told) (apart : AreApart l) (bounds : Bounds Rel l u ends (disk a))
+    → ((q : Key) → MayLeave (disk a q) (reads (disk a q))) → (b : Timeline) → Always a b (CutsTo l ends (disk a)) → Step l Rel (MayBeOpened l (disk a)) (IsIndexOf l (λ s. IsSome (ends s))) a b
+cuts_step {Rel = Rel} {l = l} {ends = ends} a known map_readable t apart bounds readable b moments = record {
+  only = always_weaker a b (CutsTo l ends (disk a)) (λ d. (q : Key) → (IsIndexOf l (λ s. IsSome (ends s)) q → ⊥) → d q ≡ disk a q) (λ d cuts. cuts.others) moments;
+  recalls = λ may. always_weaker a b (CutsTo l ends (disk a)) (RecallsBy l Rel (disk a)) (λ d cuts. shortening_recalls known t apart bounds d cuts may readable map_readable) moments;
+}
+
+-- at the ends of proven sections
 module _ {F S : Type 0} {gs : _} {g : buffer.Ghosts (PageBlob S gs)} {gives : F → Setting} {takes : WriteFactory → Setting} {told : Type 0} {Rel : Relation} {l : Layout} {i0 : Sections F (PageBlob S gs)} {m0 : Sections WriteFactory WriteBlob} {u : Store Key8 ℕ} {ends : ℕ → Option ℕ} {given : ℕ → List (List ℕ)} {j : Lists F (PageBlob S gs)} {o : OpenedList}
     (a : Timeline) (e : Ends g gives takes told Rel l i0 m0 u ends given j o (disk a)) (map_readable : IsReadable l.markers) (t : told) where
   pub records_step : ((q : Key) → MayLeave (disk a q) (reads (disk a q))) → (b : Timeline) → Always a b (Each (Shortening l.seal j.sections (λ s. CutTo l.record_size (ends s)) (disk a)))
       → Step l Rel (MayBeOpened l (disk a)) (IsIndexOf l (λ s. IsSome (ends s))) a b
   records_step readable b moments =
-      let Cuts : Disk → Type 0 = Each (Shortening l.seal j.sections (λ s. CutTo l.record_size (ends s)) (disk a)) in
-      record {
-        only = always_weaker a b Cuts (λ d. (q : Key) → (IsIndexOf l (λ s. IsSome (ends s)) q → ⊥) → d q ≡ disk a q) (λ d each q none. index_cut_only e t d each q none) moments;
-        recalls = λ may. always_weaker a b Cuts (RecallsBy l Rel (disk a)) (λ d each. shortening_recalls e t d each may readable map_readable) moments;
-      }
+      cuts_step a (known_of e.rests) map_readable t e.apart (bounds_of e t) readable b
+      (always_weaker a b (Each (Shortening l.seal j.sections (λ s. CutTo l.record_size (ends s)) (disk a))) (CutsTo l ends (disk a)) (λ d each. shortening_cuts e t d each) moments)
 
 -- ---- values are cut, and those without records removed
 module _ {F S : Type 0} {gs : _} {g : buffer.Ghosts (PageBlob S gs)} {gives : F → Setting} {takes : WriteFactory → Setting} {told : Type 0} {l : Layout} {i0 : Sections F (PageBlob S gs)} {u : Store Key8 ℕ} {given : ℕ → List (List ℕ)} {May : Type 0}

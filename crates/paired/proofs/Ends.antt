@@ -4,6 +4,8 @@ use Rattle.std.specs.Option.{option_map}
 use Rattle.blob_device.specs.Disk.{Key, Disk, MayLeave, reads, nothing}
 use Rattle.blob_device.specs.Opened.{OpenedList}
 use Rattle.blob_device.specs.Timeline.{Timeline, disk, Always, Each}
+use Rattle.sealed_pages.specs.ChanceSeal as pages
+use Rattle.sealed_pages.specs.SealedPrefix.{sealed_prefix}
 use Rattle.sealed_pages.specs.declared.page_blob.PageBlob.{PageBlob}
 use Rattle.sealed_pages.specs.declared.write_blob.WriteBlob.{WriteBlob}
 use Rattle.segments.specs.declared.buffer.SectionBuffer as buffer
@@ -16,6 +18,7 @@ use Rattle.segments.specs.Setting.{Setting}
 use Rattle.segments.specs.unsealed.Buffer.{count_of}
 use Rattle.value_codec.specs.declared.key.Key8.{Key8}
 use Rattle.meta_store.specs.Store.{Store}
+use Rattle.paired.specs.Crashes.{IsIndexOf}
 use Rattle.paired.specs.glob.Lasting.{Cutting}
 use Rattle.paired.specs.glob.Sections.{IsGlob, IsAllSettled}
 use Rattle.paired.specs.glob.Sections as glob
@@ -104,9 +107,26 @@ pub record Ends {F S : Type 0} {gs : _} (g : buffer.Ghosts (PageBlob S gs)) (giv
   pub fronts : told → (s p : ℕ) → s < 2 ^ 64 → ends s ≡ Some p → (k : ℕ) → p ≤ k → k ≤ length (stored_records l (as_read d) s)
       → Rel s (map (entry_of l.place (content_at (as_read d) l.values s)) (front (is_sound_in l (as_read d) s) (marker_of u.entries s) 0 (take k (stored_records l (as_read d) s)))) (kept l (as_read d) (marker_of u.entries s) s)
 
+-- What of that a cut of records needs, whatever is owed of a replay.
+pub record Bounds (Rel : Relation) (l : Layout) (u : Store Key8 ℕ) (ends : ℕ → Option ℕ) (d : Disk) : Type 0 where
+  pub order : IsOrder Rel
+  pub from : (s p : ℕ) → ends s ≡ Some p → (s < 2 ^ 64) × (marker_of u.entries s ≤ p)
+  pub fronts : (s p : ℕ) → s < 2 ^ 64 → ends s ≡ Some p → (k : ℕ) → p ≤ k → k ≤ length (stored_records l (as_read d) s)
+      → Rel s (map (entry_of l.place (content_at (as_read d) l.values s)) (front (is_sound_in l (as_read d) s) (marker_of u.entries s) 0 (take k (stored_records l (as_read d) s)))) (kept l (as_read d) (marker_of u.entries s) s)
+
+pub bounds_of : {F S : Type 0} {gs : _} {g : buffer.Ghosts (PageBlob S gs)} {gives : F → Setting} {takes : WriteFactory → Setting} {told : Type 0} {Rel : Relation} {l : Layout} {i0 : Sections F (PageBlob S gs)} {m0 : Sections WriteFactory WriteBlob} {u : Store Key8 ℕ} {ends : ℕ → Option ℕ} {given : ℕ → List (List ℕ)} {j : Lists F (PageBlob S gs)} {o : OpenedList} {d : Disk}
+    → Ends g gives takes told Rel l i0 m0 u ends given j o d → told → Bounds Rel l u ends d
+bounds_of e t = record { order = e.order; from = e.from; fronts = e.fronts t }
+
+-- Each crash leaves of the sealed bytes of a section that is cut a prefix that holds the records before its end. No other blob has changed.
+pub record CutsTo (l : Layout) (ends : ℕ → Option ℕ) (from d : Disk) : Type 0 where
+  pub leaves : (s p : ℕ) → s < 2 ^ 64 → ends s ≡ Some p
+      → pages.Leaves l.seal l.page_size (sealed_prefix l.seal l.page_size (content_at (as_read from) l.index s)) (p * l.record_size) (d (section_key l.index s))
+  pub others : (q : Key) → (IsIndexOf l (λ s. IsSome (ends s)) q → ⊥) → d q ≡ from q
+
 -- no crash brings bytes back into the blobs of sections that are not held
-pub record Bare {F B : Type 0} (l : Layout) (j : Lists F B) (m : Sections WriteFactory WriteBlob) (d : Disk) : Type 0 where
-  pub index : (s : ℕ) → s < 2 ^ 64 → j.sections.held s ≡ None → HasNoBytes (d (section_key l.index s))
+pub record Bare {F B : Type 0} (l : Layout) (i : Sections F B) (m : Sections WriteFactory WriteBlob) (d : Disk) : Type 0 where
+  pub index : (s : ℕ) → s < 2 ^ 64 → i.held s ≡ None → HasNoBytes (d (section_key l.index s))
   pub values : (s : ℕ) → s < 2 ^ 64 → m.held s ≡ None → HasNoBytes (d (section_key l.values s))
 
 -- Between two steps: all has settled, the same sections are held, and the journal has the records that were given.
@@ -115,5 +135,5 @@ pub record Between {F S : Type 0} {gs : _} (g : buffer.Ghosts (PageBlob S gs)) (
   pub rests : Resting g gives takes told l j m u o d
   pub held : (s : ℕ) → IsHeld j.sections s ↔ IsHeld i0 s
   pub records : told → (s : ℕ) → records l.record_size (fixed.section_bytes j.sections d s) ≡ given s
-  pub bare : told → May → Bare l j m d
+  pub bare : told → May → Bare l j.sections m d
   pub readable : told → (q : Key) → MayLeave (d q) (reads (d q))

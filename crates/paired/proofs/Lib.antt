@@ -22,6 +22,7 @@ pub mod reconcile
 pub mod Steps
 pub mod Ends
 pub mod CutSteps
+pub mod MarkSteps
 pub mod CappedEnds
 pub mod UnmarkedSteps
 pub mod RecordCuts

@@ -1,4 +1,5 @@
--- Which records each opening of a pair keeps, and what it keeps where a crash stops it. Markers are here without a floor, as lawful ones are.
+-- Which records each opening of a pair keeps, and what it keeps where a crash stops it. Markers are here
+-- without a floor, as lawful ones are.
 use Rattle.std.specs.Prelude.{◌≡◌, ℕ, ◌||◌, ◌==◌, nat_lt, min, if◌then◌else◌, Bool, false, List, [], ◌∷◌, length, take}
 use Rattle.blob_device.specs.Disk.{Image, NothingPending}
 use Rattle.blob_device.specs.Timeline.{Timeline, disk, Always}
@@ -53,7 +54,7 @@ module _ (l : Layout) where
   abbrev pub tracked_at_most : ℕ → ℕ → Wanted
   tracked_at_most section n image markers s =
       front (is_sound_in l image s) (lowered section n s (marker_of markers.entries s)) 0
-          (within section n s (stored_records l image s))
+      (within section n s (stored_records l image s))
 
   -- it keeps the first records of each section
   abbrev pub KeepsFirst : Wanted → Type 0
@@ -65,8 +66,9 @@ module _ (l : Layout) where
   committed section n image markers s = within section n s (kept_by l image markers s)
 
   -- ---- where a crash stops it
-  -- On a lawful image with nothing pending: at each moment each image that a crash leaves without a chance seal is lawful, and keeps so much of what
-  -- the image kept.
+  -- On a lawful image with nothing pending: at each moment each image that a crash leaves without a chance
+  -- seal is lawful, and keeps so much of what the image kept.
   abbrev pub Recovers : Relation → Timeline → Timeline → Type 0
-  Recovers Rel old new = NothingPending (disk old) → (markers : Markers) → IsLawful l (as_read (disk old)) markers
+  Recovers Rel old new = NothingPending (disk old)
+      → (markers : Markers) → IsLawful l (as_read (disk old)) markers
       → Always old new (KeepsAllBy l Rel (as_read (disk old)) markers)

@@ -30,7 +30,7 @@ use Rattle.paired.proofs.pair.Synced.{Here}
 use Rattle.paired.proofs.RecordLemmas.{all_by}
 use Rattle.paired.proofs.reconcile.Kept.{sound_longer}
 use Rattle.paired.proofs.reconcile.Phases.{markers_one}
-use Rattle.paired.proofs.reconcile.Resting.{Resting, index_number, rests_no_chance, stored_at, values_at, values_number}
+use Rattle.paired.proofs.reconcile.Resting.{Resting, known_of, index_number, rests_no_chance, stored_at, values_at, values_number}
 use Rattle.archives.specs.Archives.{Archive, IsSoundArchive, filing_of}
 use Rattle.archives.specs.Filing.{kept_entries}
 use Rattle.archives.specs.Lawful.{Lawful}
@@ -81,7 +81,7 @@ module _ {F S : Type 0} {gs : _} {g : buffer.Ghosts (PageBlob S gs)} {gives : F 
   -- ---- the disk as it reads is lawful
   module _ (markers : Markers) (lawful : Lawful (filing_of arch) (as_read z) markers) where
     own_markers : markers ≡ contents_of arch.pair.store
-    own_markers = markers_one rests t readable (as_read z) (λ is side. refl) markers lawful.pair
+    own_markers = markers_one (known_of rests) t readable (as_read z) (λ is side. refl) markers lawful.pair
 
     -- so all records are sound
     all_sound : (s : ℕ) → s < 2 ^ 64 → AllByRecursion (λ r. IsTrue (is_sound arch.pair.layout.seal (values_now s) (arch.pair.layout.place r))) (records_of arch.pair z s)

@@ -225,7 +225,7 @@ pub stored_alone : (l : Layout) (old image : Image) (markers : Markers) (s : ℕ
     → KeptBy l Any old image markers s
 stored_alone l old image markers s unmarked first = record { stored = first; kept = tt; marked = λ m is was. absurd (unmarked m is) }
 
--- ---- markers are lowered
+-- ---- markers move
 -- below a marker all are sound: so a lower one keeps the same
 pub front_lower : (sound : List ℕ → Bool) (low high left position : ℕ) (rs : List (List ℕ)) → low ≤ high → left ≡ high - position → AllByRecursion (λ r. IsTrue (sound r)) (take left rs)
     → front sound low position rs ≡ front sound high position rs
@@ -243,62 +243,76 @@ front_lower sound low high (suc left) position (r ∷ rs) le is all =
         ∙ ap (λ (xs : List (List ℕ)). r ∷ xs) rest
         ∙ sym (ap (λ (b : Bool). if b then r ∷ front sound high (position + 1) rs else []) (or_right (nat_lt position high) (sound r) all.0))
 
--- of a lawful image the records below a marker are sound
-pub sound_below : (l : Layout) (old : Image) (markers : Markers) → IsLawful l old markers → (s : ℕ)
+-- each of these markers is true of the image
+abbrev pub AreTrueOf : Layout → Image → Markers → Type 0
+AreTrueOf l image markers = (s m : ℕ) → IsMarked markers.entries s m → IsTrueMarker l image s m
+
+-- so the records below a marker are sound
+pub sound_below : (l : Layout) (old : Image) (markers : Markers) → AreTrueOf l old markers → (s : ℕ)
     → AllByRecursion (λ r. IsTrue (is_sound_in l old s r)) (take (marker_of markers.entries s) (stored_records l old s))
-sound_below l old markers lawful s = elim (marked_or_zero markers.entries s) [
-  | inl is ↦ subst (λ (m : ℕ). AllByRecursion (λ r. IsTrue (is_sound_in l old s r)) (take m (stored_records l old s))) (sym (marked_is markers.entries s is.0 is.1)) (lawful.true_markers s is.0 is.1).sound
+sound_below l old markers are_true s = elim (marked_or_zero markers.entries s) [
+  | inl is ↦ subst (λ (m : ℕ). AllByRecursion (λ r. IsTrue (is_sound_in l old s r)) (take m (stored_records l old s))) (sym (marked_is markers.entries s is.0 is.1)) (are_true s is.0 is.1).sound
   | inr none ↦ subst (λ (m : ℕ). AllByRecursion (λ r. IsTrue (is_sound_in l old s r)) (take m (stored_records l old s))) (sym none) tt
 ]
 
-module _ (l : Layout) (old image : Image) (markers low : Markers) where
-  -- each marker is one that was there, or a lower number
-  abbrev pub AreLowered : Type 0
-  AreLowered = (s m : ℕ) → IsMarked low.entries s m → (n : ℕ) × IsMarked markers.entries s n × (m ≤ n)
+-- each marker is one that was there, or a lower number
+abbrev pub AreLowered : Markers → Markers → Type 0
+AreLowered markers low = (s m : ℕ) → IsMarked low.entries s m → (n : ℕ) × IsMarked markers.entries s n × (m ≤ n)
 
-  -- Where the sections have the bytes that they had, and the copies hold lower markers, it keeps just what the old one keeps.
-  module _ (lawful : IsLawful l old markers) (names : AreNamed l image) (held : HoldMarkers l image low) (floor : HasNoFloor low) (lowered : AreLowered)
-      (index : (s : ℕ) → s < 2 ^ 64 → image (section_key l.index s) ≡ old (section_key l.index s)) (values : (s : ℕ) → s < 2 ^ 64 → content_at image l.values s ≡ content_at old l.values s) where
-    records_as : (s : ℕ) → s < 2 ^ 64 → stored_records l image s ≡ stored_records l old s
-    records_as s small = ap (λ (o : Option (List ℕ)). stored_records l (λ _. o) s) (index s small)
-
-    sound_as : (s : ℕ) → s < 2 ^ 64 → is_sound_in l image s ≡ is_sound_in l old s
-    sound_as s small = λ i r. is_sound l.seal (values s small i) (l.place r)
-
-    lower : (s : ℕ) → marker_of low.entries s ≤ marker_of markers.entries s
-    lower s = elim (marked_or_zero low.entries s) [
-      | inl is ↦ (let was = lowered s is.0 is.1 in omega (arith, marked_is low.entries s is.0 is.1, marked_is markers.entries s was.0 was.1, was.2))
-      | inr zero_here ↦ omega (arith, zero_here)
-    ]
-
-    pub lowered_keeps : KeepsBy l Same old markers image
-    lowered_keeps = record {
-      markers = low;
-      lawful = record {
-        names = names;
-        held = held;
-        floor = floor;
-        true_markers = λ s m is.
-            let was = lowered s m is in
-            let old_true = lawful.true_markers s was.0 was.1 in
-            record {
-              index_blob = subst IsSome (sym (index s is.0)) old_true.index_blob;
-              enough = omega (arith, was.2, old_true.enough, ap length (records_as s is.0));
-              sound = subst (λ (f : List ℕ → Bool). AllByRecursion (λ r. IsTrue (f r)) (take m (stored_records l image s))) (sym (sound_as s is.0))
-                  (subst (λ (rs : List (List ℕ)). AllByRecursion (λ r. IsTrue (is_sound_in l old s r)) (take m rs)) (sym (records_as s is.0))
-                  (subst (AllByRecursion (λ r. IsTrue (is_sound_in l old s r))) (take-take m was.0 (stored_records l old s) was.2) (all_take (λ r. IsTrue (is_sound_in l old s r)) m (take was.0 (stored_records l old s)) old_true.sound)));
-            };
-        places = λ s small. record {
-          end = (lawful.places s small).end;
-          fits = (lawful.places s small).fits;
-          follow = subst (λ (rs : List (List ℕ)). Follow l.place 0 rs (lawful.places s small).end) (sym (records_as s small)) (lawful.places s small).follow;
-        };
-      };
-      same = λ s small.
-          (λ i. map (entry_of l.place (values s small i)) (front (sound_as s small i) (marker_of low.entries s) 0 (records_as s small i)))
-          ∙ ap (map (entry_of l.place (content_at old l.values s))) (front_lower (is_sound_in l old s) (marker_of low.entries s) (marker_of markers.entries s) (marker_of markers.entries s) 0 (stored_records l old s) (lower s) (omega arith) (sound_below l old markers lawful s));
-      stored = λ s small. records_as s small ∙ sym (take_all (length (stored_records l image s)) (stored_records l old s) (omega (arith, ap length (records_as s small))));
+-- so each is true if those were
+pub lowered_true : (l : Layout) (old : Image) (markers low : Markers) → AreLowered markers low → AreTrueOf l old markers → AreTrueOf l old low
+lowered_true l old markers low lowered are_true s m is =
+    let was = lowered s m is in
+    let old_true = are_true s was.0 was.1 in
+    record {
+      index_blob = old_true.index_blob;
+      enough = omega (arith, was.2, old_true.enough);
+      sound = subst (AllByRecursion (λ r. IsTrue (is_sound_in l old s r))) (take-take m was.0 (stored_records l old s) was.2)
+          (all_take (λ r. IsTrue (is_sound_in l old s r)) m (take was.0 (stored_records l old s)) old_true.sound);
     }
+
+-- Where the sections have the bytes that they had, and the copies hold markers that are true, it keeps just what the old one keeps.
+module _ (l : Layout) (old image : Image) (markers new : Markers) (lawful : IsLawful l old markers) (names : AreNamed l image) (held : HoldMarkers l image new) (floor : HasNoFloor new) (are_true : AreTrueOf l old new)
+    (index : (s : ℕ) → s < 2 ^ 64 → image (section_key l.index s) ≡ old (section_key l.index s)) (values : (s : ℕ) → s < 2 ^ 64 → content_at image l.values s ≡ content_at old l.values s) where
+  records_as : (s : ℕ) → s < 2 ^ 64 → stored_records l image s ≡ stored_records l old s
+  records_as s small = ap (λ (o : Option (List ℕ)). stored_records l (λ _. o) s) (index s small)
+
+  sound_as : (s : ℕ) → s < 2 ^ 64 → is_sound_in l image s ≡ is_sound_in l old s
+  sound_as s small = λ i r. is_sound l.seal (values s small i) (l.place r)
+
+  -- the lower of the two markers gives what the higher one gives
+  front_as : (s : ℕ) → front (is_sound_in l old s) (marker_of new.entries s) 0 (stored_records l old s) ≡ front (is_sound_in l old s) (marker_of markers.entries s) 0 (stored_records l old s)
+  front_as s = elim (cases_lt (marker_of new.entries s) (marker_of markers.entries s)) [
+    | inl less ↦ front_lower (is_sound_in l old s) (marker_of new.entries s) (marker_of markers.entries s) (marker_of markers.entries s) 0 (stored_records l old s) (omega (arith, less)) (omega arith) (sound_below l old markers lawful.true_markers s)
+    | inr more ↦ sym (front_lower (is_sound_in l old s) (marker_of markers.entries s) (marker_of new.entries s) (marker_of new.entries s) 0 (stored_records l old s) (omega (arith, more)) (omega arith) (sound_below l old new are_true s))
+  ]
+
+  pub remarked_keeps : KeepsBy l Same old markers image
+  remarked_keeps = record {
+    markers = new;
+    lawful = record {
+      names = names;
+      held = held;
+      floor = floor;
+      true_markers = λ s m is.
+          let was = are_true s m is in
+          record {
+            index_blob = subst IsSome (sym (index s is.0)) was.index_blob;
+            enough = omega (arith, was.enough, ap length (records_as s is.0));
+            sound = subst (λ (f : List ℕ → Bool). AllByRecursion (λ r. IsTrue (f r)) (take m (stored_records l image s))) (sym (sound_as s is.0))
+                (subst (λ (rs : List (List ℕ)). AllByRecursion (λ r. IsTrue (is_sound_in l old s r)) (take m rs)) (sym (records_as s is.0)) was.sound);
+          };
+      places = λ s small. record {
+        end = (lawful.places s small).end;
+        fits = (lawful.places s small).fits;
+        follow = subst (λ (rs : List (List ℕ)). Follow l.place 0 rs (lawful.places s small).end) (sym (records_as s small)) (lawful.places s small).follow;
+      };
+    };
+    same = λ s small.
+        (λ i. map (entry_of l.place (values s small i)) (front (sound_as s small i) (marker_of new.entries s) 0 (records_as s small i)))
+        ∙ ap (map (entry_of l.place (content_at old l.values s))) (front_as s);
+    stored = λ s small. records_as s small ∙ sym (take_all (length (stored_records l image s)) (stored_records l old s) (omega (arith, ap length (records_as s small))));
+  }
 
 module _ (l : Layout) (Rel : Relation) (order : IsOrder Rel) (old image : Image) where
   -- all its bytes are as they were

@@ -22,7 +22,7 @@ use Rattle.paired.specs.Opening.{AreNamed, as_read, IsLawful, Relation, IsOrder,
 use Rattle.paired.specs.Pair.{AreApart}
 use Rattle.paired.specs.Places.{Follow, last_end}
 use Rattle.paired.specs.Records.{Entry, records, is_sound, front, entry_of}
-use Rattle.paired.proofs.opening.Ends.{IsGoodAt, KeptBy, KeptHere, same_order, any_order, stored_alone, AreLowered, lowered_keeps, as_before, without_records, index_removed, records_cut, values_cut, sections_kept, markers_moved, sound_below, follow_last_end, front_is_sound, front_cut}
+use Rattle.paired.proofs.opening.Ends.{IsGoodAt, KeptBy, KeptHere, same_order, any_order, stored_alone, AreTrueOf, remarked_keeps, as_before, without_records, index_removed, records_cut, values_cut, sections_kept, markers_moved, sound_below, follow_last_end, front_is_sound, front_cut}
 use Rattle.paired.proofs.RecordLemmas.{records-front, records-enough}
 
 -- a key is that of a section of the partition that P names, or of none
@@ -70,7 +70,7 @@ choose_out (inr not) x y none = refl
 abbrev pub IsFirst : List (List ℕ) → List (List ℕ) → Type 0
 IsFirst found rs = found ≡ take (length found) rs
 
-none_marked : (markers : Markers) → markers ≡ empty_map → (s m : ℕ) → IsMarked markers.entries s m → ⊥
+pub none_marked : (markers : Markers) → markers ≡ empty_map → (s m : ℕ) → IsMarked markers.entries s m → ⊥
 none_marked markers none s m is = none_there (subst (λ (ms : Markers). IsMarked ms.entries s m) none is)
   where
     none_there : IsMarked [] s m → ⊥
@@ -385,7 +385,7 @@ module _ (l : Layout) (apart : AreApart l) (from d : Disk) (IsChanged : ℕ → 
         whole_old = (λ i. front (read_sound image old back s small changed i) (marker_of markers.entries s) 0 (read_records image old back s small changed i)) ∙ trim.whole ∙ sym (read_records image old back s small changed)
 
         all_sound : AllByRecursion (λ r. IsTrue (is_sound_in l old s r)) (stored_records l old s)
-        all_sound = front_is_sound (is_sound_in l old s) (marker_of markers.entries s) (marker_of markers.entries s) 0 (stored_records l old s) (omega arith) (sound_below l old markers lawful s) whole_old
+        all_sound = front_is_sound (is_sound_in l old s) (marker_of markers.entries s) (marker_of markers.entries s) 0 (stored_records l old s) (omega arith) (sound_below l old markers lawful.true_markers s) whole_old
 
         no_end : stored_records l old s ≡ [] → 0 ≡ places_end
         no_end none = subst (λ (rs : List (List ℕ)). Follow l.place 0 rs places_end) none (lawful.places s small).follow
@@ -426,11 +426,11 @@ module _ (l : Layout) (apart : AreApart l) (from d : Disk) (IsChanged : ℕ → 
         → ((image old : Image) (markers : Markers) → IsCrashOf d image → NoChanceSeal l d image → IsBack image old → IsLawful l old markers → Keeps l wanted (λ s. length (wanted s)) (λ _. ⊥) image) → Recalls l from d
     markers_phase = markers_by Same same_order
 
-    -- Markers are lowered: each crash leaves the copies with lower markers than a lawful old image has, if it has any.
-    pub lowering_phase : ((s : ℕ) → IsChanged s ≡ false)
-        → ((image old : Image) (markers : Markers) → IsCrashOf d image → NoChanceSeal l d image → IsBack image old → IsLawful l old markers → (low : Markers) × HoldMarkers l image low × HasNoFloor low × AreLowered l old image markers low) → Recalls l from d
-    lowering_phase still lowers = recalls_of Same (λ image old crash fresh back markers lawful.
-        let found = lowers image old markers crash fresh back lawful in
-        lowered_keeps l old image markers found.0 lawful (named_still image old back lawful.names) found.1 found.2 found.3
+    -- Markers move: each crash leaves the copies with markers that are true of a lawful old image.
+    pub marks_phase : ((s : ℕ) → IsChanged s ≡ false)
+        → ((image old : Image) (markers : Markers) → IsCrashOf d image → NoChanceSeal l d image → IsBack image old → IsLawful l old markers → (new : Markers) × HoldMarkers l image new × HasNoFloor new × AreTrueOf l old new) → Recalls l from d
+    marks_phase still moves = recalls_of Same (λ image old crash fresh back markers lawful.
+        let found = moves image old markers crash fresh back lawful in
+        remarked_keeps l old image markers found.0 lawful (named_still image old back lawful.names) found.1 found.2 found.3
         (λ s small. sym (back.other (section_key l.index s) (not_index s small (still s))))
         (λ s small. ap (λ (o : Option (List ℕ)). unwrap_or o []) (sym (back.other (section_key l.values s) (not_values s small (still s))))))

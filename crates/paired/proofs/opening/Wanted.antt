@@ -1,5 +1,5 @@
 -- Which records an opening keeps: the first ones of each section, by markers those of the entries, and within a bound so many of these.
-use Rattle.std.proofs.Common.{◌≡◌, ℕ, zero, suc, ◌-◌, ◌==◌, min, if◌then◌else◌, Bool, true, false, List, [], ◌∷◌, length, take, IsTrue, refl, sym, ◌∙◌, ap, subst, arith, length-take}
+use Rattle.std.proofs.Common.{◌≡◌, ℕ, zero, suc, ◌==◌, min, if◌then◌else◌, Bool, true, false, List, [], ◌∷◌, length, take, IsTrue, refl, sym, ◌∙◌, ap, subst, arith, length-take}
 use Rattle.std.specs.Prelude.{nat_lt, map}
 use Rattle.std.specs.List.{AllByRecursion}
 use Rattle.std.proofs.lemmas.List.{take_all, take-take}
@@ -66,7 +66,7 @@ module _ (l : Layout) where
   -- On a lawful image a bound keeps so many of what all would keep: below a marker all are sound, so a lower one keeps the same.
   module _ (image : Image) (markers : Markers) (lawful : IsLawful l image markers) (section n s : ℕ) where
     pub capped_within : tracked_at_most l section n image markers s ≡ within section n s (tracked l image markers s)
-    capped_within = step (nat_lt s section) (s == section) (marker_of markers.entries s) (stored_records l image s) (sound_below l image markers lawful s)
+    capped_within = step (nat_lt s section) (s == section) (marker_of markers.entries s) (stored_records l image s) (sound_below l image markers lawful.true_markers s)
       where
         sound : List ℕ → Bool
         sound = is_sound_in l image s

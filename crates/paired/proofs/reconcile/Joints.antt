@@ -37,7 +37,7 @@ use Rattle.paired.proofs.GlobLemmas.{same_bytes}
 use Rattle.paired.proofs.pair.Sections.{glob_kept}
 use Rattle.paired.proofs.pair.Stays.{journal_stays}
 use Rattle.paired.proofs.RecordLemmas.{length-records, records-take, item_ends}
-use Rattle.paired.proofs.reconcile.Resting.{Resting, MarksRest, index_number, values_number, index_key, values_key, none_stored}
+use Rattle.paired.proofs.reconcile.Resting.{Resting, MarksRest, known_of, index_number, values_number, index_key, values_key, none_stored}
 use Rattle.paired.proofs.Ends.{Ends, Between, RecordsCut, ValuesCut, ValuesRemoved, none_of_not, not_of_none}
 use Rattle.paired.proofs.reconcile.Phases.{bare_of, index_cut_only, values_cut_only, values_still}
 
@@ -154,7 +154,7 @@ module _ {F S : Type 0} {gs : _} {g : buffer.Ghosts (PageBlob S gs)} {gives : F 
       held = cut_held;
       records = cut_records;
       bare = λ t may.
-          let was = bare_of e.rests t may in
+          let was = bare_of (known_of e.rests) t may in
           record {
             index = λ s small none.
                 let absent : j0.sections.held s ≡ None = none_of_not (j0.sections.held s) (λ has. not_of_none (k.sections.held s) none ((did.held s).1 has)) in

@@ -33,7 +33,7 @@ use Rattle.paired.specs.Replaying.{Run, marker, records_given, is_sound_over}
 use Rattle.paired.proofs.opening.Ends.{front_sound, marked_is, marked_or_zero}
 use Rattle.paired.proofs.opening.Phases.{copy_or_not, IsPhase, IsBack, not_index, not_values, markers_phase}
 use Rattle.paired.proofs.RecordLemmas.{all_by}
-use Rattle.paired.proofs.reconcile.Resting.{stored_at, values_at, rests_no_chance}
+use Rattle.paired.proofs.reconcile.Resting.{known_of, stored_at, values_at, rests_no_chance}
 use Rattle.paired.proofs.reconcile.Start.{Drained, GaveBack}
 use Rattle.paired.proofs.reconcile.Phases.{index_left, values_left, markers_one}
 use Rattle.paired.proofs.reconcile.Left.{IsDirty, Stage}
@@ -61,20 +61,20 @@ module _ {F S : Type 0} {gs : _} {g : buffer.Ghosts (PageBlob S gs)} {gives : F 
       old_index s small =
           let none = not_index run.layout e.over.apart (disk f) d (λ _. false) true s small refl in
           ap (λ (x : Option (List ℕ)). unwrap_or x []) (back_to.other (section_key run.layout.index s) none)
-          ∙ index_left did.joint.rests t (did.joint.bare t may) s small (image (section_key run.layout.index s)) (subst (λ (b : Blob). MayLeave b (image (section_key run.layout.index s))) (marking.others (section_key run.layout.index s) none) (crash (section_key run.layout.index s)))
+          ∙ index_left (known_of did.joint.rests) t (did.joint.bare t may) s small (image (section_key run.layout.index s)) (subst (λ (b : Blob). MayLeave b (image (section_key run.layout.index s))) (marking.others (section_key run.layout.index s) none) (crash (section_key run.layout.index s)))
 
       old_values : (s : ℕ) → s < 2 ^ 64 → content_at old run.layout.values s ≡ glob.section_bytes n (disk f) s
       old_values s small =
           let none = not_values run.layout e.over.apart (disk f) d (λ _. false) true s small refl in
           ap (λ (x : Option (List ℕ)). unwrap_or x []) (back_to.other (section_key run.layout.values s) none)
-          ∙ values_left did.joint.rests t (did.joint.bare t may) s small (image (section_key run.layout.values s)) (subst (λ (b : Blob). MayLeave b (image (section_key run.layout.values s))) (marking.others (section_key run.layout.values s) none) (crash (section_key run.layout.values s)))
+          ∙ values_left (known_of did.joint.rests) t (did.joint.bare t may) s small (image (section_key run.layout.values s)) (subst (λ (b : Blob). MayLeave b (image (section_key run.layout.values s))) (marking.others (section_key run.layout.values s) none) (crash (section_key run.layout.values s)))
           ∙ values_at did.joint.rests.parts t s small
 
       old_stored : (s : ℕ) → s < 2 ^ 64 → stored_records run.layout old s ≡ records_given run (disk a) s
       old_stored s small = ap (λ (c : List ℕ). records run.layout.record_size (sealed_prefix run.layout.seal run.layout.page_size c)) (old_index s small) ∙ stored_at did.joint.rests t s small ∙ did.joint.records t s
 
       same_markers : markers ≡ contents_of run.store
-      same_markers = markers_one did.joint.rests t map_readable old (λ is side. back_to.own (blob_of run.layout.metadata side) (inr (inr (refl, (side, refl))))) markers lawful
+      same_markers = markers_one (known_of did.joint.rests) t map_readable old (λ is side. back_to.own (blob_of run.layout.metadata side) (inr (inr (refl, (side, refl))))) markers lawful
 
       -- so the given records are in place
       marked_sound : (s : ℕ) → s < 2 ^ 64 → IsHeld run.walk.journal.sections s → AllByRecursion (λ r. IsTrue (is_sound_over run (disk a) s r)) (take (marker run s) (records_given run (disk a) s))

@@ -45,8 +45,8 @@ use Rattle.paired.specs.Reconciling.{CutTo, EndOf, Shortening}
 use Rattle.paired.specs.Records.{records, front}
 use Rattle.paired.proofs.opening.Phases.{IsPhase, IsCut, IsTrimmed, IsBare, HasMarkers, not_copy, records_by, values_by}
 use Rattle.paired.proofs.RecordLemmas.{length-records, item_ends}
-use Rattle.paired.proofs.reconcile.Resting.{Resting, index_number, values_number, index_key, values_key, paged, all_of, value_idle, index_settles, index_rest, index_absent, stored_at, none_stored, values_rest, values_absent, frames_at, copy_rest, rests_no_chance, rest_left, rest_there, left_bare, reads_there, reads_absent}
-use Rattle.paired.proofs.Ends.{Bare, Ends}
+use Rattle.paired.proofs.reconcile.Resting.{Resting, Known, known_of, known_no_chance, absent_of, index_number, values_number, index_key, values_key, paged, all_of, value_idle, index_settles, index_rest, index_absent, stored_at, none_stored, values_rest, values_absent, frames_at, copy_rest, rests_no_chance, rest_left, rest_there, left_bare, reads_there, reads_absent}
+use Rattle.paired.proofs.Ends.{Bare, Bounds, CutsTo, Ends}
 
 -- ---- small facts
 pub some_or_none : {T : Type 0} (o : Option T) → (is_some o ≡ true) ⊎ (o ≡ None)
@@ -83,42 +83,42 @@ ends_both (Some w) None n is = absurd is
 ends_both (Some w) (Some v) n is = (refl, refl)
 
 module _ {F S : Type 0} {gs : _} {g : buffer.Ghosts (PageBlob S gs)} {gives : F → Setting} {takes : WriteFactory → Setting} {told : Type 0} {l : Layout}
-    {j : Lists F (PageBlob S gs)} {m : Sections WriteFactory WriteBlob} {u : Store Key8 ℕ} {o : OpenedList} {d : Disk} (rests : Resting g gives takes told l j m u o d) (t : told) where
+    {i : Sections F (PageBlob S gs)} {m : Sections WriteFactory WriteBlob} {u : Store Key8 ℕ} {o : OpenedList} {d : Disk} (known : Known g gives takes told l i m u o d) (t : told) where
   -- where the disk may be opened
-  pub bare_of : MayBeOpened l d → Bare l j m d
+  pub bare_of : MayBeOpened l d → Bare l i m d
   bare_of may = record {
-    index = λ s small none. may.absent s small (index_absent rests t s small none);
-    values = λ s small none. may.values_absent s small (values_absent rests.parts t s small none);
+    index = λ s small none. may.absent s small (absent_of known.parts t known.index_known s small none);
+    values = λ s small none. may.values_absent s small (values_absent known.parts t s small none);
   }
 
-  module _ (bare : Bare l j m d) where
+  module _ (bare : Bare l i m d) where
     -- each crash leaves the bytes that the blobs read as
     pub index_left : (s : ℕ) → s < 2 ^ 64 → (left : Option (List ℕ)) → MayLeave (d (section_key l.index s)) left → unwrap_or left [] ≡ content_at (as_read d) l.index s
-    index_left s small left may = elim (none_or_value (j.sections.held s)) [
+    index_left s small left may = elim (none_or_value (i.held s)) [
       | inl none ↦ left_bare (d (section_key l.index s)) (bare.index s small none) left may
-          ∙ sym (ap (λ (x : Option (List ℕ)). unwrap_or x []) (reads_absent (d (section_key l.index s)) (index_absent rests t s small none)))
-      | inr some ↦ ap (λ (x : Option (List ℕ)). unwrap_or x []) (rest_left (d (section_key l.index s)) (index_settles rests t s some.0 some.1).rest left may)
+          ∙ sym (ap (λ (x : Option (List ℕ)). unwrap_or x []) (reads_absent (d (section_key l.index s)) (absent_of known.parts t known.index_known s small none)))
+      | inr some ↦ ap (λ (x : Option (List ℕ)). unwrap_or x []) (rest_left (d (section_key l.index s)) (index_rest known.parts t s some.0 some.1) left may)
     ]
 
     pub values_left : (s : ℕ) → s < 2 ^ 64 → (left : Option (List ℕ)) → MayLeave (d (section_key l.values s)) left → unwrap_or left [] ≡ content_at (as_read d) l.values s
     values_left s small left may = elim (none_or_value (m.held s)) [
       | inl none ↦ left_bare (d (section_key l.values s)) (bare.values s small none) left may
-          ∙ sym (ap (λ (x : Option (List ℕ)). unwrap_or x []) (reads_absent (d (section_key l.values s)) (values_absent rests.parts t s small none)))
-      | inr some ↦ ap (λ (x : Option (List ℕ)). unwrap_or x []) (rest_left (d (section_key l.values s)) (values_rest rests.parts t s some.0 some.1).0 left may)
+          ∙ sym (ap (λ (x : Option (List ℕ)). unwrap_or x []) (reads_absent (d (section_key l.values s)) (values_absent known.parts t s small none)))
+      | inr some ↦ ap (λ (x : Option (List ℕ)). unwrap_or x []) (rest_left (d (section_key l.values s)) (values_rest known.parts t s some.0 some.1).0 left may)
     ]
 
     -- so the disk may be opened
     pub rests_open : MayBeOpened l d
     rests_open = record {
-      no_chance = rests_no_chance rests t;
-      named = λ image crash s small slots. frames_at rests.parts t s small (stored_records l image s);
-      absent = λ s small gone. elim (none_or_value (j.sections.held s)) [
+      no_chance = known_no_chance known t;
+      named = λ image crash s small slots. frames_at known.parts t s small (stored_records l image s);
+      absent = λ s small gone. elim (none_or_value (i.held s)) [
         | inl none ↦ bare.index s small none
-        | inr some ↦ absurd (cc (gone, rest_there (d (section_key l.index s)) (index_rest rests.parts t s some.0 some.1)))
+        | inr some ↦ absurd (cc (gone, rest_there (d (section_key l.index s)) (index_rest known.parts t s some.0 some.1)))
       ];
       values_absent = λ s small gone. elim (none_or_value (m.held s)) [
         | inl none ↦ bare.values s small none
-        | inr some ↦ absurd (cc (gone, rest_there (d (section_key l.values s)) (values_rest rests.parts t s some.0 some.1).0))
+        | inr some ↦ absurd (cc (gone, rest_there (d (section_key l.values s)) (values_rest known.parts t s some.0 some.1).0))
       ];
     }
 
@@ -126,17 +126,17 @@ module _ {F S : Type 0} {gs : _} {g : buffer.Ghosts (PageBlob S gs)} {gives : F 
   module _ (readable : IsReadable l.markers) where
     pub copies_hold : IsTrue l.marked → HoldMap l.markers (metadata.bytes_of (reads (d (blob_of l.metadata Left)))) (metadata.bytes_of (reads (d (blob_of l.metadata Right)))) (contents_of u)
     copies_hold is =
-        let left : reads (d (blob_of l.metadata Left)) ≡ Some (d (blob_of l.metadata Left)).content = reads_there (d (blob_of l.metadata Left)) (rest_there (d (blob_of l.metadata Left)) (copy_rest rests.marks t is Left)) in
-        let right : reads (d (blob_of l.metadata Right)) ≡ Some (d (blob_of l.metadata Right)).content = reads_there (d (blob_of l.metadata Right)) (rest_there (d (blob_of l.metadata Right)) (copy_rest rests.marks t is Right)) in
+        let left : reads (d (blob_of l.metadata Left)) ≡ Some (d (blob_of l.metadata Left)).content = reads_there (d (blob_of l.metadata Left)) (rest_there (d (blob_of l.metadata Left)) (copy_rest known.marks t is Left)) in
+        let right : reads (d (blob_of l.metadata Right)) ≡ Some (d (blob_of l.metadata Right)).content = reads_there (d (blob_of l.metadata Right)) (rest_there (d (blob_of l.metadata Right)) (copy_rest known.marks t is Right)) in
         subst (λ (x : Option (List ℕ)). HoldMap l.markers (metadata.bytes_of x) (metadata.bytes_of (reads (d (blob_of l.metadata Right)))) (contents_of u)) (sym left)
         (subst (λ (x : Option (List ℕ)). HoldMap l.markers (d (blob_of l.metadata Left)).content (metadata.bytes_of x) (contents_of u)) (sym right)
-        (subst (λ (p : List ℕ). HoldMap l.markers (d (blob_of p Left)).content (d (blob_of p Right)).content (contents_of u)) (rests.marks.here is)
-        (record { chosen = chosen_by u (contents_of u); reads = (rests.marks.stands t is).pair; map = refl })))
+        (subst (λ (p : List ℕ). HoldMap l.markers (d (blob_of p Left)).content (d (blob_of p Right)).content (contents_of u)) (known.marks.here is)
+        (record { chosen = chosen_by u (contents_of u); reads = (known.marks.stands t is).pair; map = refl })))
 
     -- so an image that has them as they read is lawful with these alone
     pub markers_one : (old : Image) → (IsTrue l.marked → (side : Side) → old (blob_of l.metadata side) ≡ reads (d (blob_of l.metadata side))) → (markers : Markers) → IsLawful l old markers → markers ≡ contents_of u
     markers_one old same markers lawful = elim (cases_Bool l.marked) [
-      | inr not ↦ lawful.held.none not ∙ sym (rests.marks.none not)
+      | inr not ↦ lawful.held.none not ∙ sym (known.marks.none not)
       | inl is ↦ one_map l.markers readable (metadata.bytes_of (old (blob_of l.metadata Left))) (metadata.bytes_of (old (blob_of l.metadata Right))) markers (contents_of u) (lawful.held.copies is)
           (subst (λ (x : Option (List ℕ)). HoldMap l.markers (metadata.bytes_of x) (metadata.bytes_of (old (blob_of l.metadata Right))) (contents_of u)) (sym (same is Left))
           (subst (λ (x : Option (List ℕ)). HoldMap l.markers (metadata.bytes_of (reads (d (blob_of l.metadata Left)))) (metadata.bytes_of x) (contents_of u)) (sym (same is Right)) (copies_hold is)))
@@ -147,9 +147,11 @@ module _ {F S : Type 0} {gs : _} {g : buffer.Ghosts (PageBlob S gs)} {gives : F 
     has_markers apart x IsChanged phase image old markers crash back lawful s small =
         ap (λ (ms : Markers). marker_of ms.entries s) (markers_one old (λ is side.
         back.other (blob_of l.metadata side) (not_copy l apart d x IsChanged false side refl)
-        ∙ rest_left (d (blob_of l.metadata side)) (copy_rest rests.marks t is side) (image (blob_of l.metadata side))
+        ∙ rest_left (d (blob_of l.metadata side)) (copy_rest known.marks t is side) (image (blob_of l.metadata side))
         (subst (λ (b : Blob). MayLeave b (image (blob_of l.metadata side))) (phase.others (blob_of l.metadata side) (not_copy l apart d x IsChanged false side refl)) (crash (blob_of l.metadata side)))) markers lawful)
 
+module _ {F S : Type 0} {gs : _} {g : buffer.Ghosts (PageBlob S gs)} {gives : F → Setting} {takes : WriteFactory → Setting} {told : Type 0} {l : Layout}
+    {j : Lists F (PageBlob S gs)} {m : Sections WriteFactory WriteBlob} {u : Store Key8 ℕ} {o : OpenedList} {d : Disk} (rests : Resting g gives takes told l j m u o d) (t : told) where
   -- ---- values are cut
   module _ (apart : AreApart l) (x : Disk) (each : Each (Cutting m (EndOf l.place l.record_size j.sections d) d) x) where
     held_end : (s : ℕ) → IsSomeAnd (EndOf l.place l.record_size j.sections d s) (glob.IsLonger m s) → IsHeld j.sections s × IsHeld m s
@@ -167,7 +169,7 @@ module _ {F S : Type 0} {gs : _} {g : buffer.Ghosts (PageBlob S gs)} {gives : F 
     index_still : (s : ℕ) → x (section_key l.index s) ≡ d (section_key l.index s)
     index_still s = values_cut_only (section_key l.index s) (λ is. apart.values (ap (λ (k : Key). k.0) is.3))
 
-    module _ (bare : Bare l j m d) (readable : (q : Key) → MayLeave (d q) (reads (d q))) (map_readable : IsReadable l.markers)
+    module _ (bare : Bare l j.sections m d) (readable : (q : Key) → MayLeave (d q) (reads (d q))) (map_readable : IsReadable l.markers)
         (whole : (s : ℕ) → s < 2 ^ 64 → front (is_sound_in l (as_read d) s) (marker_of u.entries s) 0 (stored_records l (as_read d) s) ≡ stored_records l (as_read d) s) where
       pub trimming : IsPhase l apart d x (λ s. is_some (j.sections.held s)) false
       trimming = record {
@@ -216,11 +218,11 @@ module _ {F S : Type 0} {gs : _} {g : buffer.Ghosts (PageBlob S gs)} {gives : F 
       }
 
       pub cutting_recalls : (Rel : Relation) → IsOrder Rel → RecallsBy l Rel d x
-      cutting_recalls Rel order = values_by l apart d x (λ s. is_some (j.sections.held s)) false trimming Rel order refl (λ s. marker_of u.entries s) (has_markers map_readable apart x (λ s. is_some (j.sections.held s)) trimming)
+      cutting_recalls Rel order = values_by l apart d x (λ s. is_some (j.sections.held s)) false trimming Rel order refl (λ s. marker_of u.entries s) (has_markers (known_of rests) t map_readable apart x (λ s. is_some (j.sections.held s)) trimming)
           (λ s small changed. inl (trimmed s small changed))
 
   -- ---- values without records are removed
-  module _ (apart : AreApart l) (x : Disk) (others : (q : Key) → (IsValuesOf l (λ s. j.sections.held s ≡ None) q → ⊥) → x q ≡ d q) (bare : Bare l j m d) (readable : (q : Key) → MayLeave (d q) (reads (d q))) (map_readable : IsReadable l.markers) where
+  module _ (apart : AreApart l) (x : Disk) (others : (q : Key) → (IsValuesOf l (λ s. j.sections.held s ≡ None) q → ⊥) → x q ≡ d q) (bare : Bare l j.sections m d) (readable : (q : Key) → MayLeave (d q) (reads (d q))) (map_readable : IsReadable l.markers) where
     pub removing : IsPhase l apart d x (λ s. not (is_some (j.sections.held s))) false
     removing = record {
       readable = λ q own. readable q;
@@ -244,10 +246,11 @@ module _ {F S : Type 0} {gs : _} {g : buffer.Ghosts (PageBlob S gs)} {gives : F 
         }
 
     pub removing_recalls : (Rel : Relation) → IsOrder Rel → RecallsBy l Rel d x
-    removing_recalls Rel order = values_by l apart d x (λ s. not (is_some (j.sections.held s))) false removing Rel order refl (λ s. marker_of u.entries s) (has_markers map_readable apart x (λ s. not (is_some (j.sections.held s))) removing)
+    removing_recalls Rel order = values_by l apart d x (λ s. not (is_some (j.sections.held s))) false removing Rel order refl (λ s. marker_of u.entries s) (has_markers (known_of rests) t map_readable apart x (λ s. not (is_some (j.sections.held s))) removing)
         (λ s small changed. inr (bare_now s small changed))
 
 -- ---- records are cut
+-- from a call that says its moments in the bytes of the sections, of which each is proven
 module _ {F S : Type 0} {gs : _} {g : buffer.Ghosts (PageBlob S gs)} {gives : F → Setting} {takes : WriteFactory → Setting} {told : Type 0} {Rel : Relation} {l : Layout} {i0 : Sections F (PageBlob S gs)} {m0 : Sections WriteFactory WriteBlob} {u : Store Key8 ℕ} {ends : ℕ → Option ℕ} {given : ℕ → List (List ℕ)} {j : Lists F (PageBlob S gs)} {o : OpenedList}
     {d : Disk} (e : Ends g gives takes told Rel l i0 m0 u ends given j o d) (t : told) (x : Disk) (each : Each (Shortening l.seal j.sections (λ s. CutTo l.record_size (ends s)) d) x) where
   both : (end : Option ℕ) (held : Option (PageBlob S gs)) → IsSomeAnd (CutTo l.record_size end) (λ n. IsSomeAnd held (λ v. n < size_of (shown v))) → IsSome end × IsSome held
@@ -258,52 +261,58 @@ module _ {F S : Type 0} {gs : _} {g : buffer.Ghosts (PageBlob S gs)} {gives : F 
   pub index_cut_only : (q : Key) → (IsIndexOf l (λ s. IsSome (ends s)) q → ⊥) → x q ≡ d q
   index_cut_only q none = (each q).others (λ w. (let has = both (ends w.0) (j.sections.held w.0) w.1 in none (w.0, index_number e.rests.parts w.0 has.1, has.0, w.2 ∙ index_key e.rests.parts w.0)))
 
+  -- what is left of a section that is cut
+  cut_left : (s p : ℕ) → s < 2 ^ 64 → ends s ≡ Some p
+      → pages.Leaves l.seal l.page_size (sealed_prefix l.seal l.page_size (content_at (as_read d) l.index s)) (p * l.record_size) (x (section_key l.index s))
+  cut_left s p small is = elim (none_or_value (j.sections.held s)) [
+    | inl none ↦ absurd (omega (arith, e.within t s p is, ap length (none_stored e.rests t s none)))
+    | inr some ↦
+        let v = some.0 in
+        let key = section_key l.index s in
+        let settles = index_settles e.rests t s v some.1 in
+        let bytes : bytes_of (shown v) (d key).content ≡ fixed.section_bytes j.sections d s = sym (ap (λ (y : Option (PageBlob S gs)). fixed.bytes_held y (d (key_of j.sections s)).content) some.1 ∙ ap (λ (k : Key). bytes_of (shown v) (d k).content) (index_key e.rests.parts s)) in
+        let count : length (records l.record_size (fixed.section_bytes j.sections d s)) ≡ length (fixed.section_bytes j.sections d s) / l.record_size = length-records l.record_size (fixed.section_bytes j.sections d s) in
+        let lt : p < length (fixed.section_bytes j.sections d s) / l.record_size = omega (arith, e.within t s p is, count) in
+        let fit : p * l.record_size + l.record_size ≤ length (fixed.section_bytes j.sections d s) = item_ends l.record_size (length (fixed.section_bytes j.sections d s)) p lt in
+        let least : min v.settled (p * l.record_size) ≡ p * l.record_size = omega (arith, all_of e.rests.parts s v some.1, sealed_laws.counted (shown v) (d key).content, ap length bytes, fit) in
+        let there : content_at (as_read d) l.index s ≡ (d key).content = ap (λ (y : Option (List ℕ)). unwrap_or y []) (reads_there (d key) (rest_there (d key) settles.rest)) in
+        subst (λ (c : List ℕ). pages.Leaves l.seal l.page_size (sealed_prefix l.seal l.page_size c) (p * l.record_size) (x key)) (sym there)
+        (subst (λ (c : List ℕ). pages.Leaves l.seal l.page_size c (p * l.record_size) (x key)) (bytes ∙ sym settles.prefix)
+        (subst (λ (n : ℕ). pages.Leaves l.seal l.page_size (bytes_of (shown v) (d key).content) n (x key)) least
+        (subst (λ (n : ℕ). pages.Leaves l.seal n (bytes_of (shown v) (d key).content) (min v.settled (p * l.record_size)) (x key)) (paged e.rests.parts s v some.1)
+        ((each key).shortened s (p * l.record_size) v (ap (CutTo l.record_size) is) some.1 (sym (index_key e.rests.parts s))))))
+  ]
+
+  pub shortening_cuts : CutsTo l ends d x
+  shortening_cuts = record { leaves = λ s p small is. cut_left s p small is; others = index_cut_only }
+
+-- Whatever is owed of a replay: what is left are sealed records up to the ends.
+module _ {F S : Type 0} {gs : _} {g : buffer.Ghosts (PageBlob S gs)} {gives : F → Setting} {takes : WriteFactory → Setting} {told : Type 0} {Rel : Relation} {l : Layout} {i : Sections F (PageBlob S gs)} {m : Sections WriteFactory WriteBlob} {u : Store Key8 ℕ} {ends : ℕ → Option ℕ} {o : OpenedList}
+    {d : Disk} (known : Known g gives takes told l i m u o d) (t : told) (apart : AreApart l) (bounds : Bounds Rel l u ends d) (x : Disk) (cuts : CutsTo l ends d x) where
   values_same : (s : ℕ) → x (section_key l.values s) ≡ d (section_key l.values s)
-  values_same s = index_cut_only (section_key l.values s) (λ is. e.apart.values (sym (ap (λ (k : Key). k.0) is.3)))
+  values_same s = cuts.others (section_key l.values s) (λ is. apart.values (sym (ap (λ (k : Key). k.0) is.3)))
 
   module _ (may : MayBeOpened l d) (readable : (q : Key) → MayLeave (d q) (reads (d q))) (map_readable : IsReadable l.markers) where
-    pub shortening : IsPhase l e.apart d x (λ s. is_some (ends s)) false
+    pub shortening : IsPhase l apart d x (λ s. is_some (ends s)) false
     shortening = record {
       readable = λ q own. readable q;
-      no_chance = rests_no_chance e.rests t;
-      others = λ q none. index_cut_only q (λ is. none (inl is));
+      no_chance = known_no_chance known t;
+      others = λ q none. cuts.others q (λ is. none (inl is));
     }
 
-    -- what is left of a section that is cut
-    cut_left : (s p : ℕ) → s < 2 ^ 64 → ends s ≡ Some p
-        → pages.Leaves l.seal l.page_size (sealed_prefix l.seal l.page_size (content_at (as_read d) l.index s)) (p * l.record_size) (x (section_key l.index s))
-    cut_left s p small is = elim (none_or_value (j.sections.held s)) [
-      | inl none ↦ absurd (omega (arith, e.within t s p is, ap length (none_stored e.rests t s none)))
-      | inr some ↦
-          let v = some.0 in
-          let key = section_key l.index s in
-          let settles = index_settles e.rests t s v some.1 in
-          let bytes : bytes_of (shown v) (d key).content ≡ fixed.section_bytes j.sections d s = sym (ap (λ (y : Option (PageBlob S gs)). fixed.bytes_held y (d (key_of j.sections s)).content) some.1 ∙ ap (λ (k : Key). bytes_of (shown v) (d k).content) (index_key e.rests.parts s)) in
-          let count : length (records l.record_size (fixed.section_bytes j.sections d s)) ≡ length (fixed.section_bytes j.sections d s) / l.record_size = length-records l.record_size (fixed.section_bytes j.sections d s) in
-          let lt : p < length (fixed.section_bytes j.sections d s) / l.record_size = omega (arith, e.within t s p is, count) in
-          let fit : p * l.record_size + l.record_size ≤ length (fixed.section_bytes j.sections d s) = item_ends l.record_size (length (fixed.section_bytes j.sections d s)) p lt in
-          let least : min v.settled (p * l.record_size) ≡ p * l.record_size = omega (arith, all_of e.rests.parts s v some.1, sealed_laws.counted (shown v) (d key).content, ap length bytes, fit) in
-          let there : content_at (as_read d) l.index s ≡ (d key).content = ap (λ (y : Option (List ℕ)). unwrap_or y []) (reads_there (d key) (rest_there (d key) settles.rest)) in
-          subst (λ (c : List ℕ). pages.Leaves l.seal l.page_size (sealed_prefix l.seal l.page_size c) (p * l.record_size) (x key)) (sym there)
-          (subst (λ (c : List ℕ). pages.Leaves l.seal l.page_size c (p * l.record_size) (x key)) (bytes ∙ sym settles.prefix)
-          (subst (λ (n : ℕ). pages.Leaves l.seal l.page_size (bytes_of (shown v) (d key).content) n (x key)) least
-          (subst (λ (n : ℕ). pages.Leaves l.seal n (bytes_of (shown v) (d key).content) (min v.settled (p * l.record_size)) (x key)) (paged e.rests.parts s v some.1)
-          ((each key).shortened s (p * l.record_size) v (ap (CutTo l.record_size) is) some.1 (sym (index_key e.rests.parts s))))))
-    ]
-
-    pub cut_at : (s p : ℕ) → s < 2 ^ 64 → ends s ≡ Some p → IsCut l e.apart d x (λ s. is_some (ends s)) false shortening Rel (marker_of u.entries s) s
+    pub cut_at : (s p : ℕ) → s < 2 ^ 64 → ends s ≡ Some p → IsCut l apart d x (λ s. is_some (ends s)) false shortening Rel (marker_of u.entries s) s
     cut_at s p small is = record {
       p = p;
-      high = (e.from s p is).1;
-      fronts = e.fronts t s p small is;
-      leaves = cut_left s p small is;
-      values = λ left left_may. values_left e.rests t (bare_of e.rests t may) s small left (subst (λ (b : Blob). MayLeave b left) (values_same s) left_may);
+      high = (bounds.from s p is).1;
+      fronts = bounds.fronts s p small is;
+      leaves = cuts.leaves s p small is;
+      values = λ left left_may. values_left known t (bare_of known t may) s small left (subst (λ (b : Blob). MayLeave b left) (values_same s) left_may);
     }
 
     pub shortening_recalls : RecallsBy l Rel d x
-    shortening_recalls = records_by l e.apart d x (λ s. is_some (ends s)) false shortening Rel e.order refl e.rests.parts.some (λ s. marker_of u.entries s) (has_markers e.rests t map_readable e.apart x (λ s. is_some (ends s)) shortening)
+    shortening_recalls = records_by l apart d x (λ s. is_some (ends s)) false shortening Rel bounds.order refl known.parts.some (λ s. marker_of u.entries s) (has_markers known t map_readable apart x (λ s. is_some (ends s)) shortening)
         (λ s small changed. go s small (ends s) refl changed)
       where
-        go : (s : ℕ) → s < 2 ^ 64 → (y : Option ℕ) → ends s ≡ y → IsTrue (is_some (ends s)) → IsCut l e.apart d x (λ s. is_some (ends s)) false shortening Rel (marker_of u.entries s) s
+        go : (s : ℕ) → s < 2 ^ 64 → (y : Option ℕ) → ends s ≡ y → IsTrue (is_some (ends s)) → IsCut l apart d x (λ s. is_some (ends s)) false shortening Rel (marker_of u.entries s) s
         go s small None is changed = absurd (cc (subst IsSome is changed))
         go s small (Some p) is changed = cut_at s p small is

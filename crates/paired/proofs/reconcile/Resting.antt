@@ -116,7 +116,14 @@ pub record MarksRest (told : Type 0) (l : Layout) (u : Store Key8 ℕ) (d : Disk
   pub here : IsTrue l.marked → u.partition ≡ l.metadata
   pub none : l.marked ≡ false → contents_of u ≡ empty_map
 
--- Both, where no replay is owed and every section is known: each is proven.
+-- Both, where every section is known. Nothing is said of a replay that is owed.
+pub record Known {F S : Type 0} {gs : _} (g : buffer.Ghosts (PageBlob S gs)) (gives : F → Setting) (takes : WriteFactory → Setting) (told : Type 0) (l : Layout)
+    (i : Sections F (PageBlob S gs)) (m : Sections WriteFactory WriteBlob) (u : Store Key8 ℕ) (o : OpenedList) (d : Disk) : Type 0 where
+  pub parts : Rests g gives takes told l i m o d
+  pub index_known : (s : ℕ) → i.unopened s ≡ None
+  pub marks : MarksRest told l u d
+
+-- And where no replay is owed: each section is proven.
 pub record Resting {F S : Type 0} {gs : _} (g : buffer.Ghosts (PageBlob S gs)) (gives : F → Setting) (takes : WriteFactory → Setting) (told : Type 0) (l : Layout)
     (j : Lists F (PageBlob S gs)) (m : Sections WriteFactory WriteBlob) (u : Store Key8 ℕ) (o : OpenedList) (d : Disk) : Type 0 where
   pub parts : Rests g gives takes told l j.sections m o d
@@ -124,6 +131,10 @@ pub record Resting {F S : Type 0} {gs : _} (g : buffer.Ghosts (PageBlob S gs)) (
   pub proven : (s : ℕ) → IsProven j s
   pub index_known : (s : ℕ) → j.sections.unopened s ≡ None
   pub marks : MarksRest told l u d
+
+pub known_of : {F S : Type 0} {gs : _} {g : buffer.Ghosts (PageBlob S gs)} {gives : F → Setting} {takes : WriteFactory → Setting} {told : Type 0} {l : Layout}
+    {j : Lists F (PageBlob S gs)} {m : Sections WriteFactory WriteBlob} {u : Store Key8 ℕ} {o : OpenedList} {d : Disk} → Resting g gives takes told l j m u o d → Known g gives takes told l j.sections m u o d
+known_of rests = record { parts = rests.parts; index_known = rests.index_known; marks = rests.marks }
 
 module _ {F S : Type 0} {gs : _} {g : buffer.Ghosts (PageBlob S gs)} {gives : F → Setting} {takes : WriteFactory → Setting} {told : Type 0} {l : Layout}
     {i : Sections F (PageBlob S gs)} {m : Sections WriteFactory WriteBlob} {o : OpenedList} {d : Disk} (rests : Rests g gives takes told l i m o d) where
@@ -215,6 +226,11 @@ copy_rest {u = u} {d = d} marks t is side = subst (λ (x : List ℕ). IsAtRest (
     go Left = (marks.stands t is).left
     go Right = (marks.stands t is).right
 
+-- no seal that is read holds by chance
+pub known_no_chance : {F S : Type 0} {gs : _} {g : buffer.Ghosts (PageBlob S gs)} {gives : F → Setting} {takes : WriteFactory → Setting} {told : Type 0} {l : Layout}
+    {i : Sections F (PageBlob S gs)} {m : Sections WriteFactory WriteBlob} {u : Store Key8 ℕ} {o : OpenedList} {d : Disk} → Known g gives takes told l i m u o d → told → NoChanceSeal l d (as_read d)
+known_no_chance known t = parts_no_chance known.parts t known.index_known (copy_rest known.marks t)
+
 -- ---- sections that are proven
 module _ {F S : Type 0} {gs : _} {g : buffer.Ghosts (PageBlob S gs)} {gives : F → Setting} {takes : WriteFactory → Setting} {told : Type 0} {l : Layout}
     {j : Lists F (PageBlob S gs)} {m : Sections WriteFactory WriteBlob} {u : Store Key8 ℕ} {o : OpenedList} {d : Disk} (rests : Resting g gives takes told l j m u o d) where
@@ -245,4 +261,4 @@ module _ {F S : Type 0} {gs : _} {g : buffer.Ghosts (PageBlob S gs)} {gives : F 
     none_stored s none = ap (λ (x : Option (PageBlob S gs)). records l.record_size (fixed.bytes_held x (d (key_of j.sections s)).content)) none ∙ none_of l.record_size rests.parts.some
 
     pub rests_no_chance : NoChanceSeal l d (as_read d)
-    rests_no_chance = parts_no_chance rests.parts t rests.index_known (copy_rest rests.marks t)
+    rests_no_chance = known_no_chance (known_of rests) t
