@@ -1,6 +1,6 @@
 -- What lookups promise, in the terms of a store that serves commands; and so what is asked of the indices, which touches no device.
-use Rattle.std.proofs.Common.{◌≡◌, inl, inr, refl, sym, ◌∙◌, subst, ℕ, Bool, List, [], map, Option, Some, None, IsSomeAnd, Result, Ok, Err, arith, rules}
-use Rattle.std.specs.Prelude.{⊤, option_map}
+use Rattle.std.proofs.Common.{◌≡◌, inl, inr, refl, sym, ◌∙◌, ap, subst, ℕ, Bool, List, [], map, Option, Some, None, IsSomeAnd, Result, Ok, Err, arith, rules}
+use Rattle.std.specs.Prelude.{⊤, option_map, IfOk, OnErr}
 use Rattle.blob_device.specs.Disk.{Disk, Key}
 use Rattle.blob_device.specs.Footprint.{NoBound}
 use Rattle.blob_device.specs.Timeline.{disk}
@@ -19,6 +19,7 @@ use Rattle.archives.specs.Entries.{AllEnd, GetsAll}
 use Rattle.archives.specs.Entries as entries
 use Rattle.archives.specs.Finding.{Wanted, get_command, has_command}
 use Rattle.archives.specs.Finding as wanted
+use Rattle.archives.specs.Indices.{GivesMissing}
 use Rattle.archives.specs.Machine.{Entry, State, Step, has_index}
 use Rattle.archives.specs.Gets.{GetEnds, Gets, Has, HasEnds, IsLookupCause, IsReadCause, IsRecordCause, SomeToLookAt}
 use Rattle.archives.specs.Prunable.{Prunable, Setup, filing_by, meaning}
@@ -44,6 +45,22 @@ none_missing set from most none = record {
   each = λ x has. absurd (omega (arith, has.1));
   first = λ x missing. inr (sym none, λ y has. absurd (omega (arith, has.1)));
 }
+
+-- ---- answers that are given, or not for want of memory
+
+abbrev pub OrMemory : {R : Type 0} → (R → Type 0) → Result R Error → Type 0
+OrMemory P (Ok x) = P x
+OrMemory P (Err e) = e ≡ Mem
+
+pub missing_given : (set : Set) (from most : ℕ) (result : Result (List ℕ) Error) → GivesMissing set from most result → OrMemory (AreMissing set from most) result
+missing_given set from most (Ok numbers) are = are
+missing_given set from most (Err e) is = is
+
+pub one_given : {R : Type 0} (P : R → Type 0) (x : R) → P x → (result : Result R Error) → IfOk result (λ r. r ≡ x) → OnErr result (result ≡ Err Mem) → OrMemory P result
+one_given P x holds (Ok r) is none = subst P (sym is) holds
+one_given P x holds (Err e) is none = cc none
+
+-- ---- commands
 
 -- a command that asks, and changes nothing
 abbrev IsLookup : Family → Type 0
@@ -286,3 +303,10 @@ module _ {A V S D : Type 0} {gs : _} (p : Prunable A V (AppendFactory S) (PageBl
         no_fault : IsFault Mem → ⊥
         no_fault (inl records) = cc records
         no_fault (inr markers) = cc markers
+
+    -- so each result answers
+    pub indices_given : {R : Type 0} (reply_of : R → Replied) (P : Set → R → Type 0)
+        → ((x : R) → P (has_index (p.see a).items state) x → Step (p.see a).items state c (reply_of x) state)
+        → (result : Result R Error) → OrMemory (P (p.see a).indices) result → Answers (openable_serving p setup valid) dev (Open a) c (outcome (λ x. (Open a, reply_of x)) result) old old
+    indices_given reply_of P step (Ok x) holds = indices_told reply_of P step x holds
+    indices_given reply_of P step (Err e) is = indices_untold (λ x. (Open a, reply_of x)) (Err e) (ap (λ (y : Error). Err y) is)

@@ -1,21 +1,17 @@
-use Rattle.std.proofs.Common.{refl, subst, sym}
+use Rattle.std.proofs.Common.{refl}
 use Rattle.archives.specs.Commands.{RangesFrom}
+use Rattle.archives.specs.Machine.{replied}
 use Rattle.archives.specs.Replies as reply
+use Rattle.archives.specs.declared.commands.Reply.TheVariants as said
 use Rattle.ordinal_store.specs.Numbers.{AreRunsFrom}
-use Rattle.archives.specs.declared.error.Error.TheVariants.{Mem}
-use Rattle.blob_device.proofs.Results.{err_of}
-use Rattle.archive_service.proofs.LookAnswers.{indices_told, indices_untold}
-use Rattle.archive_service.proofs.StoreLemmas.{given_by}
+use Rattle.archive_service.specs.declared.store.openable.Openable.TheVariants.{Open}
+use Rattle.archive_service.proofs.LookAnswers.{indices_given, one_given}
+use Rattle.archive_service.proofs.StoreLemmas.{answers_with, given_by, seen_so}
 use Rattle.archive_service.proofs.store.prunable.indices.ranges_from.Goals as goal
-
--- there was no memory for the list
-pub returns-in_err-runs : goal.returns-in_err-runs
-returns-in_err-runs g c =
-    indices_untold _ _ _ g.D.Device _ _ (given_by _ (λ u. refl) g.D.Device c.args._cfg.now c.args.archive c.args.dev.now c.requires.usable c.crash_laws.ensures)
-    (RangesFrom c.args.index) tt _ c.from_residual.result (err_of c.from_residual.result Mem c.from_residual.ensures.1)
 
 pub returns : goal.returns
 returns g c =
-    indices_told _ _ _ g.D.Device _ _ (given_by _ (λ u. refl) g.D.Device c.args._cfg.now c.args.archive c.args.dev.now c.requires.usable c.crash_laws.ensures)
-    (RangesFrom c.args.index) tt reply.Ranges (λ set runs. AreRunsFrom set c.args.index runs) (λ runs are. (are, refl)) c.in_ok-runs.runs
-    (subst (AreRunsFrom _ c.args.index) (sym c.in_ok-runs.ensures) c.ranges_from.ensures)
+    answers_with _ g.D.Device (Open c.args.archive) _ _ _ _ _ (seen_so (λ r. (r.0, replied g.V.Codec.spelling r.1)) (λ list. (Open c.args.archive, said.Ranges list)) c.runs_of-runs.result c.ranged.result c.ranged.ensures)
+    (indices_given _ _ _ g.D.Device _ _ (given_by _ (λ u. refl) g.D.Device c.args._cfg.now c.args.archive c.args.dev.now c.requires.usable c.crash_laws.ensures)
+    (RangesFrom c.args.index) tt reply.Ranges (λ set runs. AreRunsFrom set c.args.index runs) (λ runs are. (are, refl)) c.runs_of-runs.result
+    (one_given (AreRunsFrom _ c.args.index) c.ranges_from.result c.ranges_from.ensures c.runs_of-runs.result c.runs_of-runs.ensures.runs c.runs_of-runs.ensures.memory))
