@@ -35,10 +35,10 @@ BESIDE = [["archive_service/specs/Families.antt: Family family_of", "archive_ser
 CITING = {"prunable_kind", "RunsJob", "ServesBy"}
 
 # of the headline, the sitting of a crate's files, and of those files that are read in another one
-SITTINGS = {"blob_device": 1, "value_codec": 2, "sealed_pages": 2, "segments": 3, "meta_store": 3, "paired": 3,
+SITTINGS = {"blob_device": 1, "value_codec": 2, "sealed_pages": 2, "section_manager": 3, "segments": 3, "meta_store": 3, "paired": 3,
             "archives": 4, "ordinal_store": 4, "archive_service": 5, "archive_program": 5}
 ELSEWHERE = {"archives/specs/IndexRecord.antt": 3, "archives/specs/Filing.antt": 3, "archives/specs/Lawful.antt": 3,
-             "blob_device/src/runtime.rt": 4, "segments/src/journal.rt": 4, "archive_service/src/replies.rt": 4,
+             "blob_device/src/runtime.rt": 4, "section_manager/src/journal.rt": 4, "archive_service/src/replies.rt": 4,
              "archive_service/specs/Serves.antt": 4, "archive_service/specs/Kinds.antt": 4,
              "archive_service/specs/PrunableKind.antt": 4,
              "archives/specs/Limits.antt": 5, "archives/src/prunable/limits.rt": 5, "blob_device/specs/Streams.antt": 5,

@@ -6,7 +6,7 @@ use Rattle.blob_device.specs.Disk.{Disk}
 use Rattle.blob_device.specs.Timeline.{Timeline}
 use Rattle.blob_device.specs.declared.runtime.RError.TheVariants as runtime
 use Rattle.meta_store.specs.declared.error.Error.TheVariants as metadata
-use Rattle.segments.specs.declared.journal.Error.TheVariants as journal
+use Rattle.section_manager.specs.declared.journal.Error.TheVariants as journal
 use Rattle.paired.specs.Opening.{as_read}
 use Rattle.paired.specs.OpeningRefusing.{AreCounted}
 use Rattle.archives.specs.Commands.{Command}

@@ -9,7 +9,7 @@ use Rattle.blob_device.specs.declared.source.Source as source
 use Rattle.value_codec.specs.Digest.{seal_number}
 use Rattle.value_codec.specs.Spelling.{length_refusal}
 use Rattle.value_codec.specs.contracts.seal.Sha256SealSeal.TheImpl as sha256
-use Rattle.segments.specs.declared.journal.Error.TheVariants as journal
+use Rattle.section_manager.specs.declared.journal.Error.TheVariants as journal
 use Rattle.paired.specs.Kept.{Markers}
 use Rattle.paired.specs.Opening.{as_read}
 use Rattle.paired.specs.sighted.Shown.{marker_format}

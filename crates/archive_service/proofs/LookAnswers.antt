@@ -9,8 +9,8 @@ use Rattle.blob_device.specs.declared.runtime.RError.TheVariants as runtime
 use Rattle.blob_device.proofs.FootprintLemmas.{footprint_none}
 use Rattle.ordinal_store.specs.Numbers.{AreMissing, Set}
 use Rattle.paired.specs.Crashes.{IsOwn}
-use Rattle.segments.specs.declared.journal.Error.TheVariants as journal
-use Rattle.segments.specs.declared.sealed.AppendFactory.{AppendFactory}
+use Rattle.section_manager.specs.declared.journal.Error.TheVariants as journal
+use Rattle.section_manager.specs.declared.sealed.AppendFactory.{AppendFactory}
 use Rattle.sealed_pages.specs.declared.page_blob.PageBlob.{PageBlob}
 use Rattle.archives.specs.Archives.{IsSoundArchive, state_of}
 use Rattle.archives.specs.Changes.{AskEnds, Asked, Asks, Replied, outcome}

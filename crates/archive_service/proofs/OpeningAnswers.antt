@@ -12,10 +12,10 @@ use Rattle.blob_device.specs.declared.runtime.RError.TheVariants as runtime
 use Rattle.meta_store.specs.declared.error.Error.TheVariants as metadata
 use Rattle.blob_device.proofs.FootprintLemmas.{footprint_wider}
 use Rattle.meta_store.proofs.Uses.{IsReadable}
-use Rattle.segments.specs.Refusing.{IsOpenedTooLong}
-use Rattle.segments.specs.Sections.{section_key}
-use Rattle.segments.specs.declared.journal.Error.TheVariants as journal
-use Rattle.segments.specs.declared.sealed.AppendFactory.{AppendFactory}
+use Rattle.section_manager.specs.Refusing.{IsOpenedTooLong}
+use Rattle.section_manager.specs.Sections.{section_key}
+use Rattle.section_manager.specs.declared.journal.Error.TheVariants as journal
+use Rattle.section_manager.specs.declared.sealed.AppendFactory.{AppendFactory}
 use Rattle.sealed_pages.specs.declared.page_blob.PageBlob.{PageBlob}
 use Rattle.paired.specs.Kept.{Markers, content_at}
 use Rattle.paired.specs.Opening.{MayBeOpened, as_read}

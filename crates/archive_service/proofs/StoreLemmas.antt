@@ -13,11 +13,11 @@ use Rattle.sealed_pages.specs.Reading.{Unchanged}
 use Rattle.sealed_pages.specs.Shown as page_blob
 use Rattle.sealed_pages.specs.declared.page_blob.PageBlob.{PageBlob}
 use Rattle.sealed_pages.specs.declared.write_blob.WriteBlob.{WriteBlob}
+use Rattle.section_manager.specs.unsealed.Buffer.{count_of}
+use Rattle.section_manager.specs.declared.buffer.SectionBuffer as buffer
+use Rattle.section_manager.specs.declared.sealed.AppendFactory.{AppendFactory}
 use Rattle.segments.specs.FixedLists as fixed
 use Rattle.segments.specs.Tails.{tail_held}
-use Rattle.segments.specs.unsealed.Buffer.{count_of}
-use Rattle.segments.specs.declared.buffer.SectionBuffer as buffer
-use Rattle.segments.specs.declared.sealed.AppendFactory.{AppendFactory}
 use Rattle.paired.specs.glob.Sections as glob
 use Rattle.paired.specs.Pair.{length_of, list_of, records_of}
 use Rattle.paired.specs.Records as stored

@@ -7,7 +7,7 @@ use Rattle.blob_device.specs.declared.runtime.RError.TheVariants as runtime
 use Rattle.sealed_pages.specs.Buffer.{extent}
 use Rattle.meta_store.specs.declared.error.Error.TheVariants as metadata
 use Rattle.meta_store.specs.declared.error.Side.{Side}
-use Rattle.segments.specs.declared.journal.Error.TheVariants as journal
+use Rattle.section_manager.specs.declared.journal.Error.TheVariants as journal
 use Rattle.paired.specs.Kept.{IsMarked, content_at}
 use Rattle.paired.specs.Opening.{as_read}
 use Rattle.paired.specs.OpeningRefusing.{AreCounted}

@@ -9,9 +9,9 @@ use Rattle.value_codec.specs.declared.codec.Error.TheVariants as codec_error
 use Rattle.meta_store.specs.declared.error.Error as metadata
 use Rattle.meta_store.specs.declared.error.Error.TheVariants as metadata_error
 use Rattle.meta_store.specs.declared.error.Side.TheVariants.{Left, Right}
-use Rattle.segments.specs.declared.journal.Damage.{Damage}
-use Rattle.segments.specs.declared.journal.Error as journal
-use Rattle.segments.specs.declared.journal.Error.TheVariants as journal_error
+use Rattle.section_manager.specs.declared.journal.Damage.{Damage}
+use Rattle.section_manager.specs.declared.journal.Error as journal
+use Rattle.section_manager.specs.declared.journal.Error.TheVariants as journal_error
 use Rattle.archives.specs.Replies.{Reply}
 use Rattle.archives.specs.declared.error.Error.{Error}
 use Rattle.archives.specs.declared.error.Error.TheVariants.{Journal, Metadata, RecordCorrupted, Full, Mem}

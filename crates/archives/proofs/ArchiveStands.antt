@@ -12,11 +12,11 @@ use Rattle.paired.specs.Kept.{Layout}
 use Rattle.paired.specs.Opening.{AreNamed}
 use Rattle.paired.specs.Pair.{AreApart, list_of, records_of, synced_length}
 use Rattle.paired.specs.Places.{Follow}
-use Rattle.segments.specs.declared.buffer.SectionBuffer as buffer
-use Rattle.segments.specs.declared.unsealed.WriteFactory.{WriteFactory}
-use Rattle.segments.specs.Setting.{Setting}
-use Rattle.segments.specs.Sections.{section_key}
-use Rattle.segments.proofs.sections.KeyLemmas.{key_injective}
+use Rattle.section_manager.specs.declared.buffer.SectionBuffer as buffer
+use Rattle.section_manager.specs.declared.unsealed.WriteFactory.{WriteFactory}
+use Rattle.section_manager.specs.Setting.{Setting}
+use Rattle.section_manager.specs.Sections.{section_key}
+use Rattle.section_manager.proofs.sections.KeyLemmas.{key_injective}
 use Rattle.paired.proofs.GlobLemmas.{buffers}
 use Rattle.paired.proofs.OpenParts.{keys_apart}
 use Rattle.paired.specs.Records as stored

@@ -17,11 +17,11 @@ use Rattle.sealed_pages.specs.ChanceSeal as pages
 use Rattle.sealed_pages.specs.SealedPrefix.{sealed_prefix}
 use Rattle.sealed_pages.specs.declared.page_blob.PageBlob.{PageBlob}
 use Rattle.sealed_pages.proofs.SlotLemmas.{slot_stands}
-use Rattle.segments.specs.Refusing.{HasFailed}
-use Rattle.segments.specs.Sections.{IsHeld, section_key}
-use Rattle.segments.specs.declared.journal.Error as journal
-use Rattle.segments.proofs.buffers.NothingSealed.{nothing_sealed}
-use Rattle.segments.proofs.WalkLemmas.{none_or_value}
+use Rattle.section_manager.specs.Refusing.{HasFailed}
+use Rattle.section_manager.specs.Sections.{IsHeld, section_key}
+use Rattle.section_manager.specs.declared.journal.Error as journal
+use Rattle.section_manager.proofs.buffers.NothingSealed.{nothing_sealed}
+use Rattle.section_manager.proofs.WalkLemmas.{none_or_value}
 use Rattle.paired.specs.Crashes.{IsBlobOf, IsCopy, IsIndexOf, IsOneOf, IsOwn, IsValuesOf, Keeping, LeavesAlone, WasThere}
 use Rattle.paired.specs.Kept.{Layout, Markers, content_at, is_sound_in, marker_of, stored_records}
 use Rattle.paired.specs.Opening.{MayBeOpened, as_read}

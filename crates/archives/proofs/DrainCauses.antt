@@ -6,8 +6,8 @@ use Rattle.blob_device.specs.declared.device.Device as device
 use Rattle.blob_device.specs.declared.runtime.RError.TheVariants as runtime
 use Rattle.meta_store.specs.declared.error.Error.TheVariants as metadata
 use Rattle.sealed_pages.specs.declared.page_blob.PageBlob.{PageBlob}
-use Rattle.segments.specs.declared.journal.Damage.{Damage}
-use Rattle.segments.specs.declared.journal.Error.TheVariants as section
+use Rattle.section_manager.specs.declared.journal.Damage.{Damage}
+use Rattle.section_manager.specs.declared.journal.Error.TheVariants as section
 use Rattle.paired.specs.Opening.{as_read}
 use Rattle.paired.specs.Replaying.{Run}
 use Rattle.archives.specs.Archives.{Buffers}

@@ -10,8 +10,8 @@ use Rattle.blob_device.specs.declared.device.Device as device
 use Rattle.blob_device.specs.declared.runtime.RError.TheVariants as runtime
 use Rattle.meta_store.specs.declared.error.Error.TheVariants as metadata
 use Rattle.sealed_pages.specs.declared.page_blob.PageBlob.{PageBlob}
-use Rattle.segments.specs.Sections.{section_key}
-use Rattle.segments.specs.declared.journal.Error.TheVariants as section
+use Rattle.section_manager.specs.Sections.{section_key}
+use Rattle.section_manager.specs.declared.journal.Error.TheVariants as section
 use Rattle.paired.specs.Crashes.{IsOwn}
 use Rattle.paired.specs.Opening.{MayBeOpened, RecallsAlone}
 use Rattle.paired.specs.Replaying.{LeftAtMost, Run, SameRun}

@@ -10,7 +10,7 @@ use Rattle.blob_device.proofs.Moments.{always_weaker}
 use Rattle.sealed_pages.specs.Entries.{ReadsAtMost}
 use Rattle.sealed_pages.specs.Reading.{Unchanged}
 use Rattle.sealed_pages.specs.declared.page_blob.PageBlob.{PageBlob}
-use Rattle.segments.specs.Sections.{section_key}
+use Rattle.section_manager.specs.Sections.{section_key}
 use Rattle.paired.specs.Pair.{list_of}
 use Rattle.archives.specs.Entries.{HasKeyThere, HasRecord, ReadsEntry, ReadsRecordAlone, ReadsRecordAt}
 use Rattle.archives.specs.Gets.{IsSectionBlob, Reads, ReadsRecord}

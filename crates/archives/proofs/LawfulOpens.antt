@@ -20,10 +20,10 @@ use Rattle.meta_store.specs.declared.pair.Chosen.{Chosen}
 use Rattle.meta_store.proofs.Uses.{IsReadable, one_reading}
 use Rattle.sealed_pages.specs.SealedPrefix.{data_from, sealed_prefix}
 use Rattle.sealed_pages.specs.View.{view}
+use Rattle.section_manager.specs.Sections.{section_key}
+use Rattle.section_manager.specs.declared.journal.Damage.{Damage}
+use Rattle.section_manager.specs.declared.journal.Error.TheVariants as journal
 use Rattle.segments.specs.FixedFloors.{IsRefused}
-use Rattle.segments.specs.Sections.{section_key}
-use Rattle.segments.specs.declared.journal.Damage.{Damage}
-use Rattle.segments.specs.declared.journal.Error.TheVariants as journal
 use Rattle.segments.proofs.FixedKept.{prefix_data}
 use Rattle.paired.specs.Kept.{IsMarked, Layout, Markers, content_at, is_sound_in, stored_records}
 use Rattle.paired.specs.Opening.{IsLawful, as_read}

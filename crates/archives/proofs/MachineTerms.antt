@@ -12,9 +12,9 @@ use Rattle.sealed_pages.specs.Shown as page_blob
 use Rattle.sealed_pages.specs.View.{page_at}
 use Rattle.sealed_pages.specs.declared.page_blob.PageBlob.{PageBlob}
 use Rattle.sealed_pages.specs.declared.write_blob.WriteBlob.{WriteBlob}
+use Rattle.section_manager.specs.unsealed.Buffer.{count_of}
+use Rattle.section_manager.proofs.WalkLemmas.{has_value, none_or_value}
 use Rattle.segments.specs.FixedLists as fixed
-use Rattle.segments.specs.unsealed.Buffer.{count_of}
-use Rattle.segments.proofs.WalkLemmas.{has_value, none_or_value}
 use Rattle.meta_store.specs.Blobs.{blob_of, read_bytes}
 use Rattle.meta_store.specs.Copies.{ReadsAs}
 use Rattle.meta_store.specs.Pairs.{ReadsPair}

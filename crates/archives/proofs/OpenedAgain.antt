@@ -9,15 +9,15 @@ use Rattle.sealed_pages.specs.Contents.{IsHad}
 use Rattle.sealed_pages.specs.Cutting.{IsAtRest}
 use Rattle.sealed_pages.specs.declared.page_blob.PageBlob.{PageBlob}
 use Rattle.sealed_pages.specs.declared.write_blob.WriteBlob.{WriteBlob}
-use Rattle.segments.specs.declared.buffer.SectionBuffer as buffer
-use Rattle.segments.specs.declared.unsealed.WriteFactory.{WriteFactory}
-use Rattle.segments.specs.SealedLaws.{no_chance}
-use Rattle.segments.specs.Sections.{key_of, section_key}
-use Rattle.segments.specs.Setting.{Setting}
-use Rattle.segments.specs.unsealed.Buffer.{Stands}
+use Rattle.section_manager.specs.declared.buffer.SectionBuffer as buffer
+use Rattle.section_manager.specs.declared.unsealed.WriteFactory.{WriteFactory}
+use Rattle.section_manager.specs.SealedLaws.{no_chance}
+use Rattle.section_manager.specs.Sections.{key_of, section_key}
+use Rattle.section_manager.specs.Setting.{Setting}
+use Rattle.section_manager.specs.unsealed.Buffer.{Stands}
+use Rattle.section_manager.proofs.WalkLemmas.{none_or_value}
 use Rattle.segments.proofs.FixedWriteLemmas.{ArePages}
 use Rattle.segments.proofs.HadLemmas.{journal_had, sections_had}
-use Rattle.segments.proofs.WalkLemmas.{none_or_value}
 use Rattle.meta_store.specs.declared.error.Side.{Side}
 use Rattle.meta_store.specs.declared.error.Side.TheVariants.{Left, Right}
 use Rattle.meta_store.specs.Blobs.{blob_of}

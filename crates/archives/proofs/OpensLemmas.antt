@@ -12,10 +12,10 @@ use Rattle.meta_store.specs.declared.error.Error.TheVariants as metadata
 use Rattle.meta_store.specs.declared.error.Side.{Side}
 use Rattle.meta_store.proofs.Uses.{IsReadable}
 use Rattle.sealed_pages.specs.declared.page_blob.PageBlob.{PageBlob}
-use Rattle.segments.specs.Refusing.{IsOpenedTooLong}
-use Rattle.segments.specs.Sections.{section_key}
-use Rattle.segments.specs.declared.journal.Error.TheVariants as journal
-use Rattle.segments.specs.declared.sealed.AppendFactory.{AppendFactory}
+use Rattle.section_manager.specs.Refusing.{IsOpenedTooLong}
+use Rattle.section_manager.specs.Sections.{section_key}
+use Rattle.section_manager.specs.declared.journal.Error.TheVariants as journal
+use Rattle.section_manager.specs.declared.sealed.AppendFactory.{AppendFactory}
 use Rattle.meta_store.specs.Store.{contents_of}
 use Rattle.paired.specs.Crashes.{IsOwn}
 use Rattle.paired.specs.Kept.{Layout, Markers, stored_records}

@@ -12,11 +12,11 @@ use Rattle.blob_device.specs.declared.device.Device as device
 use Rattle.blob_device.proofs.FootprintLemmas.{footprint_none, footprint_wider}
 use Rattle.blob_device.proofs.Moments.{always_start, always_weaker}
 use Rattle.sealed_pages.specs.declared.page_blob.PageBlob.{PageBlob}
-use Rattle.segments.specs.Refusing.{HasFailed}
-use Rattle.segments.specs.Sections.{IsHeld, section_key}
+use Rattle.section_manager.specs.Refusing.{HasFailed}
+use Rattle.section_manager.specs.Sections.{IsHeld, section_key}
+use Rattle.section_manager.specs.declared.journal.Error as journal
+use Rattle.section_manager.specs.declared.journal.Error.TheVariants as section
 use Rattle.segments.specs.Tails.{tail_held}
-use Rattle.segments.specs.declared.journal.Error as journal
-use Rattle.segments.specs.declared.journal.Error.TheVariants as section
 use Rattle.paired.specs.Crashes.{IsBlobOf, IsIndexOf, IsOneOf, IsOwn, IsValuesOf, Keeping, LeavesAlone}
 use Rattle.paired.specs.glob.Sections as glob
 use Rattle.paired.specs.Kept.{IsMarked, Layout, marker_of}

@@ -14,13 +14,13 @@ use Rattle.blob_device.proofs.Moments.{always_weaker}
 use Rattle.sealed_pages.specs.Buffer.{FlushesNothing, extent, size_of}
 use Rattle.sealed_pages.specs.Shown as page_blob
 use Rattle.sealed_pages.specs.declared.page_blob.PageBlob.{PageBlob}
-use Rattle.segments.specs.declared.sealed.AppendFactory.{AppendFactory}
+use Rattle.section_manager.specs.declared.sealed.AppendFactory.{AppendFactory}
 use Rattle.sealed_pages.specs.declared.write_blob.WriteBlob.{WriteBlob}
-use Rattle.segments.specs.Refusing.{HasFailed, HasNoRoom, IsPruned}
-use Rattle.segments.specs.Sections.{IsHeld, section_key}
-use Rattle.segments.specs.unsealed.Buffer.{count_of}
-use Rattle.segments.specs.declared.journal.Error as journal
-use Rattle.segments.specs.declared.journal.Error.TheVariants as section
+use Rattle.section_manager.specs.Refusing.{HasFailed, HasNoRoom, IsPruned}
+use Rattle.section_manager.specs.Sections.{IsHeld, section_key}
+use Rattle.section_manager.specs.unsealed.Buffer.{count_of}
+use Rattle.section_manager.specs.declared.journal.Error as journal
+use Rattle.section_manager.specs.declared.journal.Error.TheVariants as section
 use Rattle.paired.specs.Crashes.{IsOwn}
 use Rattle.paired.specs.glob.Sections as glob
 use Rattle.archives.specs.Changes.{IsSoundOver, MayUse, state_over}

@@ -10,7 +10,7 @@ use Rattle.blob_device.proofs.FootprintLemmas.{footprint_none, footprint_wider}
 use Rattle.blob_device.proofs.Moments.{always_start}
 use Rattle.blob_device.proofs.Puts.{same_or_other}
 use Rattle.sealed_pages.specs.declared.page_blob.PageBlob.{PageBlob}
-use Rattle.segments.specs.Sections.{section_key}
+use Rattle.section_manager.specs.Sections.{section_key}
 use Rattle.paired.specs.Crashes.{IsIndexOf, IsOwn}
 use Rattle.archives.specs.Changes.{IsSoundOver, MayUse, state_over}
 use Rattle.archives.specs.Finding.{Index, IsAt, Wanted, get_command}

@@ -6,8 +6,8 @@ use Rattle.std.proofs.lemmas.Bool.{cases_lt}
 use Rattle.blob_device.specs.Disk.{Disk, Image, NothingPending}
 use Rattle.blob_device.specs.Opened.{OpenedList}
 use Rattle.sealed_pages.specs.declared.page_blob.PageBlob.{PageBlob}
+use Rattle.section_manager.proofs.WalkLemmas.{none_or_value}
 use Rattle.segments.proofs.FixedWalks.{is_some}
-use Rattle.segments.proofs.WalkLemmas.{none_or_value}
 use Rattle.paired.specs.Kept.{Markers}
 use Rattle.paired.specs.Opening.{as_read}
 use Rattle.paired.proofs.opening.Laws.{crash_as_read}

@@ -17,7 +17,7 @@ use Rattle.meta_store.proofs.Ascending.{all_one_more}
 use Rattle.sealed_pages.specs.Reading.{Unchanged}
 use Rattle.sealed_pages.specs.declared.page_blob.PageBlob.{PageBlob}
 use Rattle.sealed_pages.proofs.Looking.{unchanged_now, unchanged_then}
-use Rattle.segments.specs.Sections.{section_key}
+use Rattle.section_manager.specs.Sections.{section_key}
 use Rattle.paired.specs.Crashes.{IsBlobOf, IsIndexOf, IsOwn}
 use Rattle.paired.specs.Pair.{list_of}
 use Rattle.record_tables.specs.Rows.{ArePositions}

@@ -10,11 +10,11 @@ use Rattle.blob_device.specs.declared.device.Device as device
 use Rattle.blob_device.proofs.FootprintLemmas.{footprint_none, footprint_wider}
 use Rattle.blob_device.proofs.Moments.{always_start}
 use Rattle.sealed_pages.specs.declared.page_blob.PageBlob.{PageBlob}
-use Rattle.segments.specs.declared.sealed.AppendFactory.{AppendFactory}
-use Rattle.segments.specs.Lasting.{IsUnsettled}
-use Rattle.segments.specs.Refusing.{IsPruned}
-use Rattle.segments.specs.declared.journal.Error as journal
-use Rattle.segments.specs.declared.journal.Error.TheVariants as section
+use Rattle.section_manager.specs.declared.sealed.AppendFactory.{AppendFactory}
+use Rattle.section_manager.specs.Lasting.{IsUnsettled}
+use Rattle.section_manager.specs.Refusing.{IsPruned}
+use Rattle.section_manager.specs.declared.journal.Error as journal
+use Rattle.section_manager.specs.declared.journal.Error.TheVariants as section
 use Rattle.paired.specs.Crashes.{IsOwn}
 use Rattle.paired.specs.glob.Sections as glob
 use Rattle.paired.specs.Pair as pair

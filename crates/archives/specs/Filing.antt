@@ -2,7 +2,7 @@
 use Rattle.std.specs.Prelude.{◌≡◌, ◌⊎◌, ℕ, List, map, Option}
 use Rattle.blob_device.specs.Disk.{Image, Key}
 use Rattle.value_codec.specs.declared.codec.Error as codec
-use Rattle.segments.specs.Sections.{section_key}
+use Rattle.section_manager.specs.Sections.{section_key}
 use Rattle.paired.specs.Kept.{IsSameLayout, Layout, Markers}
 use Rattle.paired.specs.Kept as pair
 use Rattle.paired.specs.Records as stored

@@ -8,7 +8,7 @@ use Rattle.value_codec.specs.declared.key.Key8.{Key8}
 use Rattle.meta_store.specs.Opening.{PairOn}
 use Rattle.meta_store.specs.declared.pair.Chosen.{Chosen}
 use Rattle.sealed_pages.specs.Reads.{IsShort}
-use Rattle.segments.specs.Sections.{section_key}
+use Rattle.section_manager.specs.Sections.{section_key}
 use Rattle.sealed_pages.specs.declared.page_blob.PageBlob.{PageBlob}
 use Rattle.paired.specs.Crashes.{HoldMarkers, NoChanceSeal}
 use Rattle.paired.specs.Kept.{Layout, Markers}

@@ -9,11 +9,11 @@ use Rattle.blob_device.specs.declared.runtime.RError.TheVariants as runtime
 use Rattle.meta_store.specs.Opening.{PairOn}
 use Rattle.meta_store.specs.declared.error.Error.TheVariants as metadata
 use Rattle.meta_store.specs.declared.error.Side.{Side}
-use Rattle.segments.specs.Refusing.{IsForeign, IsOpenedTooLong}
-use Rattle.segments.specs.Sections.{section_key}
-use Rattle.segments.specs.declared.journal.Damage.{Damage}
-use Rattle.segments.specs.declared.journal.Error.TheVariants as journal
-use Rattle.segments.specs.declared.sealed.AppendFactory.{AppendFactory}
+use Rattle.section_manager.specs.Refusing.{IsForeign, IsOpenedTooLong}
+use Rattle.section_manager.specs.Sections.{section_key}
+use Rattle.section_manager.specs.declared.journal.Damage.{Damage}
+use Rattle.section_manager.specs.declared.journal.Error.TheVariants as journal
+use Rattle.section_manager.specs.declared.sealed.AppendFactory.{AppendFactory}
 use Rattle.sealed_pages.specs.Reads.{IsShort}
 use Rattle.sealed_pages.specs.declared.page_blob.PageBlob.{PageBlob}
 use Rattle.paired.specs.Crashes.{HoldMarkers, IsOwn}

@@ -5,9 +5,9 @@ use Rattle.blob_device.specs.Counts.{Rose}
 use Rattle.blob_device.specs.Footprint.{Footprint, NoBound}
 use Rattle.blob_device.specs.declared.device.Device as device
 use Rattle.blob_device.specs.declared.runtime.RError.TheVariants as runtime
-use Rattle.segments.specs.Sections.{SameBounds}
-use Rattle.segments.specs.declared.journal.Error.TheVariants as journal
-use Rattle.segments.specs.declared.sealed.AppendFactory.{AppendFactory}
+use Rattle.section_manager.specs.Sections.{SameBounds}
+use Rattle.section_manager.specs.declared.journal.Error.TheVariants as journal
+use Rattle.section_manager.specs.declared.sealed.AppendFactory.{AppendFactory}
 use Rattle.sealed_pages.specs.declared.page_blob.PageBlob.{PageBlob}
 use Rattle.paired.specs.glob.Sections as glob
 use Rattle.paired.specs.Pair.{synced_length}

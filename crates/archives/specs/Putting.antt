@@ -4,9 +4,9 @@ use Rattle.sealed_pages.specs.declared.page_blob.PageBlob.{PageBlob}
 use Rattle.sealed_pages.specs.declared.write_blob.WriteBlob.{WriteBlob}
 use Rattle.sealed_pages.specs.Buffer.{FlushesNothing, extent, size_of}
 use Rattle.sealed_pages.specs.Shown as page_blob
-use Rattle.segments.specs.Sections.{IsHeld}
+use Rattle.section_manager.specs.Sections.{IsHeld}
+use Rattle.section_manager.specs.unsealed.Buffer.{count_of}
 use Rattle.segments.specs.Tails.{tail_held}
-use Rattle.segments.specs.unsealed.Buffer.{count_of}
 use Rattle.paired.specs.Frames.{frame}
 use Rattle.paired.specs.glob.Sections as glob
 use Rattle.paired.specs.Kept.{Layout}

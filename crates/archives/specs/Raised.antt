@@ -1,8 +1,8 @@
 -- What an archive answers where a lower layer answered this.
 use Rattle.meta_store.specs.declared.error.Error as meta
 use Rattle.meta_store.specs.declared.error.Error.TheVariants as store
-use Rattle.segments.specs.declared.journal.Error as journal
-use Rattle.segments.specs.declared.journal.Error.TheVariants as section
+use Rattle.section_manager.specs.declared.journal.Error as journal
+use Rattle.section_manager.specs.declared.journal.Error.TheVariants as section
 use Rattle.archives.specs.declared.error.Error.{Error}
 use Rattle.archives.specs.declared.error.Error.TheVariants.{Journal, Metadata, Full, Mem}
 

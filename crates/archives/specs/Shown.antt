@@ -6,9 +6,9 @@ use Rattle.value_codec.specs.declared.codec.Codec as codec
 use Rattle.value_codec.specs.declared.codec.Error as codec_error
 use Rattle.value_codec.specs.declared.seal.Seal as seal
 use Rattle.sealed_pages.specs.declared.page_blob.PageBlob.{PageBlob}
-use Rattle.segments.specs.contracts.unsealed.WriteBlobSectionBuffer.TheImpl as write_blob
-use Rattle.segments.specs.declared.buffer.SectionBuffer as buffer
-use Rattle.segments.specs.declared.sealed.AppendFactory.{AppendFactory}
+use Rattle.section_manager.specs.contracts.unsealed.WriteBlobSectionBuffer.TheImpl as write_blob
+use Rattle.section_manager.specs.declared.buffer.SectionBuffer as buffer
+use Rattle.section_manager.specs.declared.sealed.AppendFactory.{AppendFactory}
 use Rattle.paired.specs.CodecShown.{pair_codec_config}
 use Rattle.paired.specs.PairShown as pair
 use Rattle.paired.specs.sighted.Shown.{marker_format}

@@ -2,8 +2,8 @@
 use Rattle.std.specs.Prelude.{◌≡◌, ◌≢◌, ◌⊎◌, ℕ, ◌<◌, ◌^◌, List, length, IsTrue}
 use Rattle.blob_device.specs.Disk.{Disk}
 use Rattle.sealed_pages.specs.declared.page_blob.PageBlob.{PageBlob}
-use Rattle.segments.specs.declared.buffer.SectionBuffer as buffer
-use Rattle.segments.specs.Lasting.{IsUnsettled}
+use Rattle.section_manager.specs.declared.buffer.SectionBuffer as buffer
+use Rattle.section_manager.specs.Lasting.{IsUnsettled}
 use Rattle.paired.specs.glob.Sections as glob
 use Rattle.paired.specs.Kept.{Markers, marker_of}
 use Rattle.paired.specs.Crashes.{HoldMarkers}

@@ -9,10 +9,10 @@ use Rattle.std.specs.Result.{is_ok, IsErrOf}
 use Rattle.blob_device.specs.declared.runtime.RError.{RError}
 use Rattle.blob_device.specs.declared.runtime.RError.TheVariants.{OffsetOverflow, Fault}
 use Rattle.blob_device.specs.declared.runtime.RError.TheVariants.{Mem as RMem}
-use Rattle.segments.specs.declared.journal.Error.{Error}
-use Rattle.segments.specs.declared.journal.Error.TheVariants as journal
-use Rattle.segments.specs.declared.journal.Error.TheVariants.{Full, Runtime}
-use Rattle.segments.specs.Raised.{raised}
+use Rattle.section_manager.specs.declared.journal.Error.{Error}
+use Rattle.section_manager.specs.declared.journal.Error.TheVariants as journal
+use Rattle.section_manager.specs.declared.journal.Error.TheVariants.{Full, Runtime}
+use Rattle.section_manager.specs.Raised.{raised}
 use Rattle.blob_device.specs.Disk.{Key, Blob, Disk, Outside}
 use Rattle.blob_device.specs.Change.{Make, done}
 use Rattle.blob_device.specs.Opened.{Opened, OpenedList}
@@ -24,15 +24,15 @@ use Rattle.sealed_pages.specs.Contents.{KeepsAll, AddsOnly}
 use Rattle.sealed_pages.specs.Sparing.{Sparing}
 use Rattle.sealed_pages.specs.unsealed.Writing.{shown, blob_key, run_of, Joins, HoldsOnly, StaysBelow, is_idle}
 use Rattle.sealed_pages.proofs.ContentLemmas.{adds_keep, keeps_now}
-use Rattle.segments.specs.Fronts.{IsFront}
-use Rattle.segments.specs.Leaving.{AllMoments}
-use Rattle.segments.specs.Lasting.{IsOpening}
-use Rattle.segments.specs.Setting.{Setting}
-use Rattle.segments.specs.Sections.{Sections, key_of}
-use Rattle.segments.specs.unsealed.Buffer.{Stands, IsWhole, KeepsBytes, content_of, count_of, is_unsettled}
-use Rattle.segments.specs.unsealed.Laws.{passes, idle_parts}
-use Rattle.segments.proofs.buffers.UnsealedCalls.{crash_keeps, front_itself}
-use Rattle.segments.proofs.WalkLemmas.{none_or_value}
+use Rattle.section_manager.specs.Fronts.{IsFront}
+use Rattle.section_manager.specs.Leaving.{AllMoments}
+use Rattle.section_manager.specs.Lasting.{IsOpening}
+use Rattle.section_manager.specs.Setting.{Setting}
+use Rattle.section_manager.specs.Sections.{Sections, key_of}
+use Rattle.section_manager.specs.unsealed.Buffer.{Stands, IsWhole, KeepsBytes, content_of, count_of, is_unsettled}
+use Rattle.section_manager.specs.unsealed.Laws.{passes, idle_parts}
+use Rattle.section_manager.proofs.buffers.UnsealedCalls.{crash_keeps, front_itself}
+use Rattle.section_manager.proofs.WalkLemmas.{none_or_value}
 use Rattle.paired.specs.glob.Lasting.{Outlasts, IsBeginning, settled_bytes}
 use Rattle.paired.specs.glob.Sections.{section_bytes, section_size, settled_size, size_held, settled_held, HadFronts, TakesMore, IsGlob}
 use Rattle.paired.proofs.GlobLemmas.{buffers, kept_front, front_longer, fronts_longer, Serves, idle_serves, serves_of, outlasts_of, held_bytes, no_bytes}

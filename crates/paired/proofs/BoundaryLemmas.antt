@@ -7,11 +7,11 @@ use Rattle.blob_device.specs.Opened.{OpenedList}
 use Rattle.sealed_pages.specs.declared.write_blob.WriteBlob.{WriteBlob}
 use Rattle.sealed_pages.specs.SealedPrefix.{data_from}
 use Rattle.sealed_pages.specs.View.{view}
-use Rattle.segments.specs.declared.journal.Damage.{Damage}
+use Rattle.section_manager.specs.declared.journal.Damage.{Damage}
+use Rattle.section_manager.specs.Sections.{Sections, section_key, IsHeld}
+use Rattle.section_manager.specs.Setting.{Setting}
+use Rattle.section_manager.proofs.WalkLemmas.{none_or_value}
 use Rattle.segments.specs.FixedFloors.{IsBoundary}
-use Rattle.segments.specs.Sections.{Sections, section_key, IsHeld}
-use Rattle.segments.specs.Setting.{Setting}
-use Rattle.segments.proofs.WalkLemmas.{none_or_value}
 use Rattle.paired.specs.glob.Sections.{size_held, section_bytes, section_size, IsGlob}
 use Rattle.paired.specs.Kept.{Layout, content_at}
 use Rattle.paired.specs.Opening.{as_read}

@@ -7,11 +7,11 @@ use Rattle.blob_device.specs.Disk.{Key, Disk}
 use Rattle.blob_device.specs.Opened.{OpenedList}
 use Rattle.blob_device.specs.Timeline.{Each}
 use Rattle.sealed_pages.specs.declared.write_blob.WriteBlob.{WriteBlob}
-use Rattle.segments.specs.Setting.{Setting}
-use Rattle.segments.specs.Sections.{Sections, section_key, key_of, IsHeld, IsKnown, IsGone, IsSame, SameBounds, IsOver, IsSynced, IsCut}
-use Rattle.segments.specs.Lasting.{Syncing, Cutting, Truncating, Removing, IsLonger, IsUnsettled}
-use Rattle.segments.proofs.sections.RemoveLemmas.{gone_unknown}
-use Rattle.segments.proofs.WalkLemmas.{none_or_value, value_of, some_same}
+use Rattle.section_manager.specs.Setting.{Setting}
+use Rattle.section_manager.specs.Sections.{Sections, section_key, key_of, IsHeld, IsKnown, IsGone, IsSame, SameBounds, IsOver, IsSynced, IsCut}
+use Rattle.section_manager.specs.Lasting.{Syncing, Cutting, Truncating, Removing, IsLonger, IsUnsettled}
+use Rattle.section_manager.proofs.sections.RemoveLemmas.{gone_unknown}
+use Rattle.section_manager.proofs.WalkLemmas.{none_or_value, value_of, some_same}
 use Rattle.paired.specs.glob.Sections.{section_bytes, HasSettled, IsAllSettled, IsGlob}
 use Rattle.paired.proofs.GlobLemmas.{buffers, Serves, serves_of, glob_one, no_bytes, other_key, same_bytes}
 use Rattle.paired.proofs.StepLemmas.{of_some, Steps, step_synced, step_cut, step_same, glob_steps, synced_bytes, synced_settled, synced_all, cut_bytes, cut_settled, cut_all}

@@ -6,11 +6,11 @@ use Rattle.blob_device.specs.declared.runtime.RError.{RError}
 use Rattle.blob_device.specs.declared.runtime.RError.TheVariants.{Mem, Fault}
 use Rattle.value_codec.specs.declared.codec.Error as codec
 use Rattle.value_codec.specs.declared.codec.Error.TheVariants as code
-use Rattle.segments.specs.declared.journal.Error.{Error}
-use Rattle.segments.specs.declared.journal.Error.TheVariants as journal
-use Rattle.segments.specs.declared.journal.Error.TheVariants.{AlreadyPrunedToSection, ChecksumMismatch, Codec, Runtime}
-use Rattle.segments.specs.Raised.{raised, raised_codec}
-use Rattle.segments.specs.Refusing.{HasDamage, HasFailed, IsPruned}
+use Rattle.section_manager.specs.declared.journal.Error.{Error}
+use Rattle.section_manager.specs.declared.journal.Error.TheVariants as journal
+use Rattle.section_manager.specs.declared.journal.Error.TheVariants.{AlreadyPrunedToSection, ChecksumMismatch, Codec, Runtime}
+use Rattle.section_manager.specs.Raised.{raised, raised_codec}
+use Rattle.section_manager.specs.Refusing.{HasDamage, HasFailed, IsPruned}
 
 -- there was no memory, or the device failed
 pub raised_failed : {T : Type 0} (r : Result T Error) (e : RError) (a b : ℕ) → r ≡ Err (raised e) → (e ≡ Mem) ⊎ ((e ≡ Fault) × Rose a b) → HasFailed r a b

@@ -6,7 +6,7 @@ use Rattle.std.specs.Int.{w32, to_be_bytes, from_be_bytes}
 use Rattle.std.proofs.lemmas.List.{take-append-le, drop-append-le, length-take}
 use Rattle.std.proofs.lemmas.Nat.{from_be_bytes-to_be_bytes_4}
 use Rattle.std.proofs.Math.Seq.{take-length, take-append_seam, drop-append_seam}
-use Rattle.segments.specs.Fronts.{IsFront}
+use Rattle.section_manager.specs.Fronts.{IsFront}
 use Rattle.paired.specs.Frames.{with_number, bytes_at, frame, HasFrame, IsSealed, IsBroken}
 
 length-number : (n : ℕ) → length (to_be_bytes w32 n) ≡ 4

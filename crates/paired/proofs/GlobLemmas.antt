@@ -12,18 +12,18 @@ use Rattle.sealed_pages.specs.declared.write_blob.WriteBlob.{WriteBlob}
 use Rattle.sealed_pages.specs.Cutting.{IsAtRest}
 use Rattle.sealed_pages.specs.Entries.{IsOpenAt, ReadsAtMost}
 use Rattle.sealed_pages.specs.unsealed.Writing.{shown, is_idle, StandsBehind}
-use Rattle.segments.specs.declared.buffer.SectionBuffer as buffer
-use Rattle.segments.specs.contracts.unsealed.WriteBlobSectionBuffer.TheImpl as write_blob
-use Rattle.segments.specs.Fronts.{IsFront}
-use Rattle.segments.specs.Leaving.{Leaves}
-use Rattle.segments.specs.Setting.{Setting}
-use Rattle.segments.specs.Sections.{Sections, key_of, IsHeld, IsSame, SameBounds, IsKeyOf, IsOver}
-use Rattle.segments.specs.unsealed.Buffer.{Stands, IsWhole, KeepsBytes, IsOldOrFront, MayKeep, content_of, is_unsettled}
-use Rattle.segments.specs.unsealed.Laws.{all_weaker, counted, settled_within, idle_parts, rested, found_again}
-use Rattle.segments.proofs.sections.KeyLemmas.{key_injective, keys_differ}
-use Rattle.segments.proofs.sections.OverLemmas.{same_key}
-use Rattle.segments.proofs.buffers.UnsealedCalls.{front_itself, whole_at_rest}
-use Rattle.segments.proofs.WalkLemmas.{none_or_value}
+use Rattle.section_manager.specs.declared.buffer.SectionBuffer as buffer
+use Rattle.section_manager.specs.contracts.unsealed.WriteBlobSectionBuffer.TheImpl as write_blob
+use Rattle.section_manager.specs.Fronts.{IsFront}
+use Rattle.section_manager.specs.Leaving.{Leaves}
+use Rattle.section_manager.specs.Setting.{Setting}
+use Rattle.section_manager.specs.Sections.{Sections, key_of, IsHeld, IsSame, SameBounds, IsKeyOf, IsOver}
+use Rattle.section_manager.specs.unsealed.Buffer.{Stands, IsWhole, KeepsBytes, IsOldOrFront, MayKeep, content_of, is_unsettled}
+use Rattle.section_manager.specs.unsealed.Laws.{all_weaker, counted, settled_within, idle_parts, rested, found_again}
+use Rattle.section_manager.proofs.sections.KeyLemmas.{key_injective, keys_differ}
+use Rattle.section_manager.proofs.sections.OverLemmas.{same_key}
+use Rattle.section_manager.proofs.buffers.UnsealedCalls.{front_itself, whole_at_rest}
+use Rattle.section_manager.proofs.WalkLemmas.{none_or_value}
 use Rattle.paired.specs.glob.Lasting.{Outlasts}
 use Rattle.paired.specs.glob.Sections.{bytes_held, size_held, section_bytes, section_size, HadFronts, HasSettled, TakesMore, IsGlob}
 

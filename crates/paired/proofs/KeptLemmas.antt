@@ -6,7 +6,7 @@ use Rattle.std.proofs.lemmas.Bool.{and_parts, and_from, leb-true, le-leb, eqb-tr
 use Rattle.std.proofs.lemmas.List.{take-take, take-map, length-map}
 use Rattle.sealed_pages.specs.SealedPrefix.{sealed_prefix, Prefix}
 use Rattle.meta_store.specs.Crashes.{SomeByRecursion}
-use Rattle.segments.specs.Fronts.{IsFront}
+use Rattle.section_manager.specs.Fronts.{IsFront}
 use Rattle.paired.specs.Frames.{bytes_at}
 use Rattle.paired.specs.Records.{Entry, records, entries_of, is_sound, front, entry_of}
 use Rattle.paired.specs.Places.{Follow, end_of}

@@ -10,18 +10,18 @@ use Rattle.sealed_pages.specs.SealedPrefix.{data_from}
 use Rattle.sealed_pages.specs.View.{view}
 use Rattle.sealed_pages.specs.declared.page_blob.PageBlob.{PageBlob}
 use Rattle.value_codec.specs.declared.codec.Error as codec
+use Rattle.section_manager.specs.declared.buffer.SectionBuffer as buffer
+use Rattle.section_manager.specs.declared.journal.Damage.{Damage}
+use Rattle.section_manager.specs.declared.journal.Error.{Error}
+use Rattle.section_manager.specs.declared.journal.Error.TheVariants as journal
+use Rattle.section_manager.specs.Refusing.{HasFailed, HasNoRoom, IsForeign}
+use Rattle.section_manager.specs.Sections.{Sections, section_key, IsOver}
+use Rattle.section_manager.specs.Setting.{Setting}
+use Rattle.section_manager.proofs.WalkLemmas.{none_or_value, value_of}
 use Rattle.segments.specs.declared.fixed.preflighting.Target.{Target}
 use Rattle.segments.specs.FixedCheckpoint.{Finishes, Gives}
 use Rattle.segments.specs.FixedLists.{Lists}
-use Rattle.segments.specs.declared.buffer.SectionBuffer as buffer
-use Rattle.segments.specs.declared.journal.Damage.{Damage}
-use Rattle.segments.specs.declared.journal.Error.{Error}
-use Rattle.segments.specs.declared.journal.Error.TheVariants as journal
 use Rattle.segments.specs.FixedFloors.{IsRefused}
-use Rattle.segments.specs.Refusing.{HasFailed, HasNoRoom, IsForeign}
-use Rattle.segments.specs.Sections.{Sections, section_key, IsOver}
-use Rattle.segments.specs.Setting.{Setting}
-use Rattle.segments.proofs.WalkLemmas.{none_or_value, value_of}
 use Rattle.paired.specs.Kept.{Layout}
 use Rattle.paired.specs.OpeningRefusing.{IsLost, IsUnreadable}
 use Rattle.paired.proofs.opening.StartCauses.{PartsRefuse}

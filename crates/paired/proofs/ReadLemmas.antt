@@ -5,13 +5,13 @@ use Rattle.std.specs.Result.{IsErrOf, is_ok, is_err}
 use Rattle.blob_device.specs.Disk.{Key, Disk}
 use Rattle.blob_device.specs.Opened.{OpenedList}
 use Rattle.sealed_pages.specs.declared.write_blob.WriteBlob.{WriteBlob}
-use Rattle.segments.specs.declared.journal.Error.{Error}
-use Rattle.segments.specs.declared.journal.Error.TheVariants.{ChecksumMismatch}
-use Rattle.segments.specs.Setting.{Setting}
-use Rattle.segments.specs.Sections.{Sections, key_of}
-use Rattle.segments.specs.unsealed.Buffer as unsealed
-use Rattle.segments.specs.unsealed.Buffer.{content_of, count_of}
-use Rattle.segments.proofs.WalkLemmas.{none_or_value}
+use Rattle.section_manager.specs.declared.journal.Error.{Error}
+use Rattle.section_manager.specs.declared.journal.Error.TheVariants.{ChecksumMismatch}
+use Rattle.section_manager.specs.Setting.{Setting}
+use Rattle.section_manager.specs.Sections.{Sections, key_of}
+use Rattle.section_manager.specs.unsealed.Buffer as unsealed
+use Rattle.section_manager.specs.unsealed.Buffer.{content_of, count_of}
+use Rattle.section_manager.proofs.WalkLemmas.{none_or_value}
 use Rattle.paired.specs.Frames.{bytes_at, with_number, frame, HasFrame, IsSealed, IsBroken, Differ}
 use Rattle.paired.specs.glob.Reading.{IsInside, IsMismatch}
 use Rattle.paired.specs.glob.Sections.{section_bytes, size_held, IsGlob}

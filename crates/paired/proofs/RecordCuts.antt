@@ -18,25 +18,25 @@ use Rattle.sealed_pages.specs.declared.page_blob.PageBlob.{PageBlob}
 use Rattle.sealed_pages.specs.Flushing.{Alone}
 use Rattle.sealed_pages.specs.Shown.{shown}
 use Rattle.sealed_pages.proofs.Holding.{fit_size}
-use Rattle.segments.specs.contracts.sealed.PageBlobSectionBuffer.TheImpl.{ghosts}
-use Rattle.segments.specs.declared.buffer.SectionBuffer as buffer
-use Rattle.segments.specs.declared.journal.Error.{Error}
-use Rattle.segments.specs.declared.journal.Error.TheVariants.{Runtime, Mem}
-use Rattle.segments.specs.Entries.{OnlyOwnEntry}
+use Rattle.section_manager.specs.contracts.sealed.PageBlobSectionBuffer.TheImpl.{ghosts}
+use Rattle.section_manager.specs.declared.buffer.SectionBuffer as buffer
+use Rattle.section_manager.specs.declared.journal.Error.{Error}
+use Rattle.section_manager.specs.declared.journal.Error.TheVariants.{Runtime, Mem}
+use Rattle.section_manager.specs.Entries.{OnlyOwnEntry}
+use Rattle.section_manager.specs.Lasting.{IsLonger}
+use Rattle.section_manager.specs.Lasting as lasting
+use Rattle.section_manager.specs.Leaving.{Leaves}
+use Rattle.section_manager.specs.Refusing.{HasDamage, HasFailed, IsPruned}
+use Rattle.section_manager.specs.Sealed.{MayKeep}
+use Rattle.section_manager.specs.SealedLaws.{passes, looser, counted, all_settled, rested, found_again, sealed_keeps}
+use Rattle.section_manager.specs.Sections.{Sections, key_of, IsHeld, IsSame, SameBounds, IsKeyOf, IsCut}
+use Rattle.section_manager.specs.Setting.{Setting}
+use Rattle.section_manager.proofs.sections.CutLemmas.{CutWalked, CutTried, CutCall, CutMade, cut_same, cut_moves, cut_at, cut_tried_start, cut_walked_start, cut_tried_more, cut_walked_more, cutting_of}
+use Rattle.section_manager.proofs.sections.OverLemmas.{same_key}
+use Rattle.section_manager.proofs.sections.SyncLemmas.{BufferLaws}
+use Rattle.section_manager.proofs.WalkLemmas.{some_same, value_of, none_or_value}
 use Rattle.segments.specs.FixedLists.{Lists, IsJournal, IsProven, section_bytes, section_size}
-use Rattle.segments.specs.Lasting.{IsLonger}
-use Rattle.segments.specs.Lasting as lasting
-use Rattle.segments.specs.Leaving.{Leaves}
-use Rattle.segments.specs.Refusing.{HasDamage, HasFailed, IsPruned}
-use Rattle.segments.specs.Sealed.{MayKeep}
-use Rattle.segments.specs.SealedLaws.{passes, looser, counted, all_settled, rested, found_again, sealed_keeps}
-use Rattle.segments.specs.Sections.{Sections, key_of, IsHeld, IsSame, SameBounds, IsKeyOf, IsCut}
-use Rattle.segments.specs.Setting.{Setting}
-use Rattle.segments.proofs.sections.CutLemmas.{CutWalked, CutTried, CutCall, CutMade, cut_same, cut_moves, cut_at, cut_tried_start, cut_walked_start, cut_tried_more, cut_walked_more, cutting_of}
 use Rattle.segments.proofs.FixedWriteLemmas.{ArePages, are_pages, leaves_sealed, size_here, bytes_here}
-use Rattle.segments.proofs.sections.OverLemmas.{same_key}
-use Rattle.segments.proofs.sections.SyncLemmas.{BufferLaws}
-use Rattle.segments.proofs.WalkLemmas.{some_same, value_of, none_or_value}
 use Rattle.paired.specs.Reconciling.{CutTo, Shortening}
 
 -- the laws of page blobs under this seal, and what their ghosts say

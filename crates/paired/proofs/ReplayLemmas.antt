@@ -9,10 +9,10 @@ use Rattle.std.proofs.Math.Nat.{div-mul-le_self, div-le_self}
 use Rattle.std.proofs.Math.Numerals.{add-one}
 use Rattle.blob_device.specs.Disk.{Disk}
 use Rattle.sealed_pages.specs.declared.page_blob.PageBlob.{PageBlob}
+use Rattle.section_manager.specs.Sections.{key_of, IsHeld}
+use Rattle.section_manager.proofs.WalkLemmas.{none_or_value, some_same}
 use Rattle.segments.specs.FixedItems.{item_count, item_at}
 use Rattle.segments.specs.FixedReplay.{Walk, Gives, Stops, IsLeft, StandsBefore, kept_of, kept_bytes}
-use Rattle.segments.specs.Sections.{key_of, IsHeld}
-use Rattle.segments.proofs.WalkLemmas.{none_or_value, some_same}
 use Rattle.meta_store.specs.Store.{Store}
 use Rattle.value_codec.specs.declared.key.Key8.{Key8}
 use Rattle.paired.specs.glob.Sections as glob

@@ -4,8 +4,8 @@ use Rattle.std.specs.Prelude.{IsTrue, is_ok, IfOk, OnErr}
 use Rattle.std.specs.Int.{w32, from_be_bytes}
 use Rattle.std.specs.Result.{IsErrOf}
 use Rattle.std.proofs.lemmas.Nat.{from_be_bytes-to_be_bytes_4}
-use Rattle.segments.specs.declared.journal.Error.{Error}
-use Rattle.segments.specs.declared.journal.Error.TheVariants.{ChecksumMismatch}
+use Rattle.section_manager.specs.declared.journal.Error.{Error}
+use Rattle.section_manager.specs.declared.journal.Error.TheVariants.{ChecksumMismatch}
 use Rattle.paired.specs.Frames.{bytes_at, frame, IsSealed}
 use Rattle.paired.specs.glob.Reading.{IsMismatch}
 use Rattle.paired.specs.Records.{is_sound}

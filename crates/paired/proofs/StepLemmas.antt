@@ -9,15 +9,15 @@ use Rattle.blob_device.specs.Timeline.{Timeline, disk, Always, OnlyAt, Each}
 use Rattle.blob_device.proofs.Moments.{always_weaker}
 use Rattle.sealed_pages.specs.Cutting.{IsAtRest}
 use Rattle.sealed_pages.specs.declared.write_blob.WriteBlob.{WriteBlob}
-use Rattle.segments.specs.declared.unopened.Unopened.{Unopened}
-use Rattle.segments.specs.declared.unopened.Unopened.TheVariants.{Section, Leftover}
-use Rattle.segments.specs.Leaving.{Leaves, AllMoments}
-use Rattle.segments.specs.Setting.{Setting}
-use Rattle.segments.specs.Sections.{Sections, key_of, section_key, IsHeld, IsOver, IsSynced, IsCut}
-use Rattle.segments.specs.Lasting.{Syncing, Cutting, Truncating, IsLonger, IsUnsettled}
-use Rattle.segments.specs.unsealed.Buffer.{Stands, IsWhole, MayKeep, content_of, count_of, is_unsettled}
-use Rattle.segments.specs.unsealed.Laws.{all_settled, rested, found_again}
-use Rattle.segments.proofs.WalkLemmas.{has_value, none_or_value}
+use Rattle.section_manager.specs.declared.unopened.Unopened.{Unopened}
+use Rattle.section_manager.specs.declared.unopened.Unopened.TheVariants.{Section, Leftover}
+use Rattle.section_manager.specs.Leaving.{Leaves, AllMoments}
+use Rattle.section_manager.specs.Setting.{Setting}
+use Rattle.section_manager.specs.Sections.{Sections, key_of, section_key, IsHeld, IsOver, IsSynced, IsCut}
+use Rattle.section_manager.specs.Lasting.{Syncing, Cutting, Truncating, IsLonger, IsUnsettled}
+use Rattle.section_manager.specs.unsealed.Buffer.{Stands, IsWhole, MayKeep, content_of, count_of, is_unsettled}
+use Rattle.section_manager.specs.unsealed.Laws.{all_settled, rested, found_again}
+use Rattle.section_manager.proofs.WalkLemmas.{has_value, none_or_value}
 use Rattle.paired.specs.glob.Lasting as lasting
 use Rattle.paired.specs.glob.Sections.{section_bytes, HadFronts, HasSettled, IsAllSettled, IsGlob}
 use Rattle.paired.proofs.GlobLemmas.{buffers, idle_takes, idle_behind, idle_whole, rested_fronts, Serves, idle_serves, outlasts_of, held_bytes, has_settled, glob_of, serves_of}

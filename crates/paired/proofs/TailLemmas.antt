@@ -6,10 +6,10 @@ use Rattle.sealed_pages.specs.Tails.{tail_after, run_at_end, LeavesPending}
 use Rattle.sealed_pages.specs.unsealed.Writing.{shown, is_idle, StandsBehind}
 use Rattle.sealed_pages.proofs.Tails.{end_behind}
 use Rattle.sealed_pages.proofs.WritingLemmas.{idle_parts}
-use Rattle.segments.specs.declared.unsealed.WriteFactory.{WriteFactory}
-use Rattle.segments.specs.Sections.{Sections}
-use Rattle.segments.specs.unsealed.Buffer.{is_unsettled}
-use Rattle.segments.proofs.WalkLemmas.{none_or_value}
+use Rattle.section_manager.specs.declared.unsealed.WriteFactory.{WriteFactory}
+use Rattle.section_manager.specs.Sections.{Sections}
+use Rattle.section_manager.specs.unsealed.Buffer.{is_unsettled}
+use Rattle.section_manager.proofs.WalkLemmas.{none_or_value}
 use Rattle.paired.specs.glob.Sections.{pending_held, pending_size}
 use Rattle.paired.specs.Tails.{IsTailAfter}
 

@@ -19,23 +19,23 @@ use Rattle.sealed_pages.specs.declared.write_blob.WriteBlob.{WriteBlob}
 use Rattle.sealed_pages.specs.Reading.{Unchanged}
 use Rattle.sealed_pages.proofs.Looking.{unchanged_start, unchanged_then, unchanged_now}
 use Rattle.value_codec.specs.declared.codec.Error as codec
-use Rattle.segments.specs.declared.buffer.SectionBuffer as buffer
-use Rattle.segments.specs.declared.journal.Damage.{Damage}
-use Rattle.segments.specs.declared.journal.Error.{Error}
-use Rattle.segments.specs.declared.journal.Error.TheVariants.{Corruption, Runtime, Mem}
+use Rattle.section_manager.specs.declared.buffer.SectionBuffer as buffer
+use Rattle.section_manager.specs.declared.journal.Damage.{Damage}
+use Rattle.section_manager.specs.declared.journal.Error.{Error}
+use Rattle.section_manager.specs.declared.journal.Error.TheVariants.{Corruption, Runtime, Mem}
+use Rattle.section_manager.specs.Leaving.{Leaves}
+use Rattle.section_manager.specs.Refusing.{HasFailed, IsPruned}
+use Rattle.section_manager.specs.Sections.{Sections, key_of, IsHeld, IsKeyOf, IsOver, IsCut}
+use Rattle.section_manager.specs.Setting.{Setting}
+use Rattle.section_manager.specs.unsealed.Buffer.{Stands, MayKeep, count_of, is_unsettled}
+use Rattle.section_manager.specs.unsealed.Laws.{passes, looser}
+use Rattle.section_manager.proofs.sections.CutLemmas.{same_number}
+use Rattle.section_manager.proofs.WalkLemmas.{some_same, has_value, value_of, none_or_value}
 use Rattle.segments.specs.FixedItems.{item_count, item_at, IsItem}
 use Rattle.segments.specs.FixedLists.{Lists, IsJournal, section_bytes, section_size}
 use Rattle.segments.specs.FixedReading.{HasNotRead, IsAbsent}
-use Rattle.segments.specs.Leaving.{Leaves}
-use Rattle.segments.specs.Refusing.{HasFailed, IsPruned}
-use Rattle.segments.specs.Sections.{Sections, key_of, IsHeld, IsKeyOf, IsOver, IsCut}
-use Rattle.segments.specs.Setting.{Setting}
-use Rattle.segments.specs.unsealed.Buffer.{Stands, MayKeep, count_of, is_unsettled}
-use Rattle.segments.specs.unsealed.Laws.{passes, looser}
-use Rattle.segments.proofs.sections.CutLemmas.{same_number}
 use Rattle.segments.proofs.FixedErrors.{read_failed}
 use Rattle.segments.proofs.FixedSteps.{not_below}
-use Rattle.segments.proofs.WalkLemmas.{some_same, has_value, value_of, none_or_value}
 use Rattle.paired.specs.glob.Lasting.{Cutting}
 use Rattle.paired.specs.glob.Sections.{IsGlob}
 use Rattle.paired.specs.glob.Sections as glob

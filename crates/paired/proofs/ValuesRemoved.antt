@@ -9,13 +9,13 @@ use Rattle.blob_device.specs.Opened.{OpenedList}
 use Rattle.blob_device.specs.Timeline.{Timeline, disk, Always, OnlyAt}
 use Rattle.blob_device.proofs.Moments.{always_start, always_then, always_weaker, always_now}
 use Rattle.sealed_pages.specs.declared.write_blob.WriteBlob.{WriteBlob}
-use Rattle.segments.specs.Lasting.{IsGoing, EntriesLeave}
-use Rattle.segments.specs.Leaving.{AllMoments}
-use Rattle.segments.specs.Sections.{Sections, key_of, IsHeld, IsSame, SameBounds, IsKeyOf}
-use Rattle.segments.specs.Setting.{Setting}
-use Rattle.segments.proofs.sections.KeyLemmas.{keys_differ}
-use Rattle.segments.proofs.sections.OverLemmas.{same_key}
-use Rattle.segments.proofs.WalkLemmas.{none_or_value, contains_or_not, first_or_later, later_in, first_in, same_bounds}
+use Rattle.section_manager.specs.Lasting.{IsGoing, EntriesLeave}
+use Rattle.section_manager.specs.Leaving.{AllMoments}
+use Rattle.section_manager.specs.Sections.{Sections, key_of, IsHeld, IsSame, SameBounds, IsKeyOf}
+use Rattle.section_manager.specs.Setting.{Setting}
+use Rattle.section_manager.proofs.sections.KeyLemmas.{keys_differ}
+use Rattle.section_manager.proofs.sections.OverLemmas.{same_key}
+use Rattle.section_manager.proofs.WalkLemmas.{none_or_value, contains_or_not, first_or_later, later_in, first_in, same_bounds}
 use Rattle.paired.specs.glob.Sections.{IsGlob, section_bytes}
 use Rattle.paired.proofs.GlobLemmas.{buffers}
 

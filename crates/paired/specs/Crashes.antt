@@ -4,7 +4,7 @@ use Rattle.std.specs.List.{AllByRecursion}
 use Rattle.blob_device.specs.Disk.{Key, Disk, Image, IsCrashOf, past}
 use Rattle.blob_device.specs.Timeline.{Timeline, disk, Always}
 use Rattle.sealed_pages.specs.ChanceSeal as pages
-use Rattle.segments.specs.Sections.{section_key}
+use Rattle.section_manager.specs.Sections.{section_key}
 use Rattle.meta_store.specs.declared.error.Side.{Side}
 use Rattle.meta_store.specs.declared.error.Side.TheVariants.{Left, Right}
 use Rattle.meta_store.specs.Blobs.{blob_of, bytes_of}

@@ -5,8 +5,8 @@ use Rattle.blob_device.specs.Disk.{Blob, Disk, past, longest, MayLeave}
 use Rattle.meta_store.specs.Crashes as metadata
 use Rattle.sealed_pages.specs.ChanceSeal as pages
 use Rattle.sealed_pages.specs.SealedPrefix.{sealed_prefix, Prefix}
-use Rattle.segments.specs.Sections.{section_key}
-use Rattle.segments.specs.Fronts.{IsFront}
+use Rattle.section_manager.specs.Sections.{section_key}
+use Rattle.section_manager.specs.Fronts.{IsFront}
 use Rattle.paired.specs.Places.{Follow, end_of}
 use Rattle.paired.specs.Records.{Entry, records, entries_of, is_sound}
 use Rattle.paired.specs.Kept.{Layout, Markers, HasNoFloor, IsMarked}

@@ -10,7 +10,7 @@ use Rattle.meta_store.specs.declared.copy.Contents.{Contents}
 use Rattle.meta_store.specs.Format.{Format}
 use Rattle.value_codec.specs.Keys.{key8_bytes}
 use Rattle.sealed_pages.specs.SealedPrefix.{sealed_prefix}
-use Rattle.segments.specs.Sections.{section_key}
+use Rattle.section_manager.specs.Sections.{section_key}
 use Rattle.paired.specs.Records.{Entry, records, is_sound, front, entry_of}
 
 -- which sections have which markers, ascending by the bytes of the section's number

@@ -3,8 +3,8 @@ use Rattle.std.specs.Prelude.{◌≡◌, ℕ, ◌-◌, ◌^◌, ◌<◌, ◌≤�
 use Rattle.std.specs.List.{AllByRecursion}
 use Rattle.blob_device.specs.Disk.{Key, Disk, Image, IsCrashOf, past, reads}
 use Rattle.sealed_pages.specs.ChanceSeal as pages
-use Rattle.segments.specs.Sections.{section_key}
-use Rattle.segments.specs.Lasting.{IsSettling}
+use Rattle.section_manager.specs.Sections.{section_key}
+use Rattle.section_manager.specs.Lasting.{IsSettling}
 use Rattle.meta_store.specs.declared.error.Side.{Side}
 use Rattle.meta_store.specs.Blobs.{blob_of}
 use Rattle.meta_store.specs.Opening.{Opens}

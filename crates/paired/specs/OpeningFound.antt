@@ -9,10 +9,10 @@ use Rattle.meta_store.specs.declared.error.Error.TheVariants as metadata
 use Rattle.meta_store.specs.declared.error.Side.{Side}
 use Rattle.meta_store.specs.Opening.{PairOn}
 use Rattle.meta_store.specs.Store.{contents_of}
-use Rattle.segments.specs.declared.journal.Error.{Error}
-use Rattle.segments.specs.declared.journal.Error.TheVariants as journal
-use Rattle.segments.specs.Refusing.{IsForeign}
-use Rattle.segments.specs.Sections.{section_key, IsHeld, SamePlace}
+use Rattle.section_manager.specs.declared.journal.Error.{Error}
+use Rattle.section_manager.specs.declared.journal.Error.TheVariants as journal
+use Rattle.section_manager.specs.Refusing.{IsForeign}
+use Rattle.section_manager.specs.Sections.{section_key, IsHeld, SamePlace}
 use Rattle.paired.specs.glob.Sections as glob
 use Rattle.paired.specs.Kept.{Layout, Markers, IsMarked, IsSameLayout, kept_by, marker_of}
 use Rattle.paired.specs.Crashes.{HoldMarkers}

@@ -6,9 +6,9 @@ use Rattle.sealed_pages.specs.SealedPrefix.{data_from}
 use Rattle.sealed_pages.specs.Reads.{IsCovered}
 use Rattle.sealed_pages.specs.View.{view}
 use Rattle.value_codec.specs.declared.codec.Error as codec
-use Rattle.segments.specs.declared.journal.Damage.{Damage}
+use Rattle.section_manager.specs.declared.journal.Damage.{Damage}
+use Rattle.section_manager.specs.Sections.{section_key}
 use Rattle.segments.specs.FixedFloors.{IsRefused, KeepsLast}
-use Rattle.segments.specs.Sections.{section_key}
 use Rattle.paired.specs.Kept.{Layout, content_at, stored_records}
 use Rattle.paired.specs.Opening.{as_read}
 

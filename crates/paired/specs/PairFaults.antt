@@ -6,9 +6,9 @@ use Rattle.blob_device.specs.Timeline.{Timeline, disk, Always}
 use Rattle.blob_device.specs.declared.runtime.RError.TheVariants.{Fault}
 use Rattle.sealed_pages.specs.Cutting.{IsAtRest}
 use Rattle.sealed_pages.specs.declared.page_blob.PageBlob.{PageBlob}
-use Rattle.segments.specs.Sections.{section_key, IsHeld}
-use Rattle.segments.specs.declared.journal.Error.{Error}
-use Rattle.segments.specs.declared.journal.Error.TheVariants.{Runtime, Full}
+use Rattle.section_manager.specs.Sections.{section_key, IsHeld}
+use Rattle.section_manager.specs.declared.journal.Error.{Error}
+use Rattle.section_manager.specs.declared.journal.Error.TheVariants.{Runtime, Full}
 use Rattle.meta_store.specs.Store.{Store, Stands, contents_of}
 use Rattle.value_codec.specs.declared.key.Key8.{Key8}
 use Rattle.paired.specs.Kept.{IsMarked, marker_of}

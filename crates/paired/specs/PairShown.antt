@@ -3,9 +3,9 @@ use Rattle.std.specs.Prelude.{ℕ, true, List, string_bytes}
 use Rattle.std.specs.Ordering.{nat_cmp}
 use Rattle.std.specs.BTreeMap as tree
 use Rattle.sealed_pages.specs.declared.page_blob.PageBlob.{PageBlob}
-use Rattle.segments.specs.declared.sealed.AppendFactory.{AppendFactory}
+use Rattle.section_manager.specs.declared.sealed.AppendFactory.{AppendFactory}
+use Rattle.section_manager.specs.managing.Managed as manager
 use Rattle.segments.specs.FixedShown as fixed
-use Rattle.segments.specs.managing.Managed as manager
 use Rattle.meta_store.specs.Store as store
 use Rattle.paired.specs.declared.oversized.Oversized.{Oversized}
 use Rattle.paired.specs.Pair.{Pair}

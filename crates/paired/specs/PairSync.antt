@@ -3,7 +3,7 @@ use Rattle.std.specs.Prelude.{◌≡◌, ◌≢◌, ◌↔◌, ◌⊎◌, ℕ}
 use Rattle.blob_device.specs.Disk.{Key}
 use Rattle.blob_device.specs.Timeline.{Timeline, disk, Always}
 use Rattle.sealed_pages.specs.declared.page_blob.PageBlob.{PageBlob}
-use Rattle.segments.specs.Sections.{IsHeld, IsSame, SameBounds}
+use Rattle.section_manager.specs.Sections.{IsHeld, IsSame, SameBounds}
 use Rattle.meta_store.specs.Blobs.{blob_of, other_side}
 use Rattle.paired.specs.glob.Sections as glob
 use Rattle.paired.specs.Kept.{IsMarked, IsSameLayout, marker_of}

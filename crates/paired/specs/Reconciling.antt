@@ -6,8 +6,8 @@ use Rattle.sealed_pages.specs.Buffer.{bytes_of, size_of}
 use Rattle.sealed_pages.specs.ChanceSeal.{Leaves}
 use Rattle.sealed_pages.specs.Shown.{shown}
 use Rattle.sealed_pages.specs.declared.page_blob.PageBlob.{PageBlob}
+use Rattle.section_manager.specs.Sections.{Sections, key_of, IsKeyOf}
 use Rattle.segments.specs.FixedLists.{section_bytes}
-use Rattle.segments.specs.Sections.{Sections, key_of, IsKeyOf}
 use Rattle.paired.specs.Places.{last_end}
 use Rattle.paired.specs.Records.{records}
 

@@ -4,9 +4,9 @@ use Rattle.std.specs.Ordering.{nat_cmp}
 use Rattle.std.specs.BTreeMap as tree
 use Rattle.value_codec.specs.declared.seal.Seal as seal
 use Rattle.sealed_pages.specs.declared.page_blob.PageBlob.{PageBlob}
-use Rattle.segments.specs.declared.sealed.AppendFactory.{AppendFactory}
+use Rattle.section_manager.specs.declared.sealed.AppendFactory.{AppendFactory}
+use Rattle.section_manager.specs.managing.Managed as manager
 use Rattle.segments.specs.FixedWalking.{walk_of}
-use Rattle.segments.specs.managing.Managed as manager
 use Rattle.meta_store.specs.Store as store
 use Rattle.paired.specs.declared.oversized.opening.Config.{Config}
 use Rattle.paired.specs.declared.oversized.replaying.Replay.{Replay}

@@ -5,10 +5,10 @@ use Rattle.blob_device.specs.Opened.{OpenedList}
 use Rattle.sealed_pages.specs.declared.page_blob.PageBlob.{PageBlob}
 use Rattle.value_codec.specs.declared.codec.Error as codec
 use Rattle.sealed_pages.specs.declared.write_blob.WriteBlob.{WriteBlob}
-use Rattle.segments.specs.declared.buffer.SectionBuffer as buffer
-use Rattle.segments.specs.declared.unsealed.WriteFactory.{WriteFactory}
-use Rattle.segments.specs.Setting.{Setting}
-use Rattle.segments.specs.Sections.{Sections, key_of, IsHeld}
+use Rattle.section_manager.specs.declared.buffer.SectionBuffer as buffer
+use Rattle.section_manager.specs.declared.unsealed.WriteFactory.{WriteFactory}
+use Rattle.section_manager.specs.Setting.{Setting}
+use Rattle.section_manager.specs.Sections.{Sections, key_of, IsHeld}
 use Rattle.segments.specs.FixedItems.{IsItem}
 use Rattle.segments.specs.FixedLists.{AreSealed, IsProven, OwesHeld, OwesSettled, UnopenedLater, section_size}
 use Rattle.segments.specs.FixedReplay.{Walk, HasWalk, IsWalk, WalksOver, SameWalk, IsAhead, IsIn, IsLeft, StandsBefore, StaysStill, kept_bytes}

@@ -40,8 +40,8 @@ ghost use Rattle.std.specs.Prelude.{◌≡◌, ◌↔◌, ◌≤◌, ◌<◌, �
 ghost use Rattle.std.specs.List.{Contains};
 ghost use Rattle.std.specs.List.Sorted.{IsStrictlySortedBy};
 ghost use Rattle.std.specs.Ordering.{nat_cmp};
-ghost use Rattle.segments.specs.Sections.{IsHeld};
-ghost use Rattle.segments.specs.Refusing.{IsPruned};
+ghost use Rattle.section_manager.specs.Sections.{IsHeld};
+ghost use Rattle.section_manager.specs.Refusing.{IsPruned};
 
 mod framing;
 mod opening;
@@ -105,7 +105,7 @@ pub struct Glob<V: Codec, S: Seal> {
 }
 
 impl<V: Codec, S: Seal> Glob<V, S> {
-    ghost use Rattle.segments.specs.managing.Managed.{shown};
+    ghost use Rattle.section_manager.specs.managing.Managed.{shown};
     ghost use Rattle.paired.specs.glob.Sections.{section_size};
 
     /// The greatest section that takes an append: the bound of the opening, until it is lifted, and `u64::MAX` from there on.

@@ -2,7 +2,7 @@
 ghost use Rattle.std.specs.Prelude.{◌≡◌, ◌≤◌, ◌%◌, ◌*◌, ℕ, List, length, map, take, IsTrue};
 ghost use Rattle.std.specs.List.{AllByRecursion};
 ghost use Rattle.sealed_pages.specs.SealedPrefix.{sealed_prefix, Prefix};
-ghost use Rattle.segments.specs.Fronts.{IsFront};
+ghost use Rattle.section_manager.specs.Fronts.{IsFront};
 ghost use Rattle.paired.specs.Records.{records, entries_of, is_sound, front, entry_of};
 ghost use Rattle.paired.specs.Places.{Follow, end_of};
 ghost use Rattle.blob_device.specs.Disk.{AbsentIsNothing, Disk, Key, NothingPending};

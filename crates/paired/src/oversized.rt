@@ -59,9 +59,9 @@
 // pages that it fills, a value by one. An opening reads no value below a marker, and each one above it by one
 // read at most.
 ghost use Rattle.std.specs.Prelude.{◌≡◌, ◌↔◌, ◌≤◌, ◌<◌, ℕ, None, IfOk, IfSome, OnErr, IsTrue};
-ghost use Rattle.segments.specs.Sections.{IsHeld};
+ghost use Rattle.section_manager.specs.Sections.{IsHeld};
 ghost use Rattle.blob_device.specs.Timeline.{disk};
-ghost use Rattle.segments.specs.Refusing.{IsPruned};
+ghost use Rattle.section_manager.specs.Refusing.{IsPruned};
 ghost use Rattle.paired.specs.Crashes.{Leaves};
 ghost use Rattle.paired.specs.Pair.{IsPair, IsSafeOn, list_of, synced_length};
 

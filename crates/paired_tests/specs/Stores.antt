@@ -4,9 +4,9 @@ use Rattle.blob_device.specs.MemoryMeaning.{memory_opened, memory_time}
 use Rattle.blob_device.specs.Opened.{OpenedList}
 use Rattle.blob_device.specs.Timeline.{Timeline, disk}
 use Rattle.blob_device.specs.contracts.memory.MemoryDevice.TheImpl as memory
-use Rattle.segments.specs.managing.Managed as managed
-use Rattle.segments.specs.contracts.sealed.PageBlobSectionBuffer.TheImpl as page_blob
-use Rattle.segments.specs.contracts.unsealed.WriteBlobSectionBuffer.TheImpl as write_blob
+use Rattle.section_manager.specs.managing.Managed as managed
+use Rattle.section_manager.specs.contracts.sealed.PageBlobSectionBuffer.TheImpl as page_blob
+use Rattle.section_manager.specs.contracts.unsealed.WriteBlobSectionBuffer.TheImpl as write_blob
 use Rattle.value_codec.specs.contracts.seal.Sha256Seal.{the_row}
 use Rattle.value_codec.specs.contracts.seal.Sha256SealSeal.TheImpl as seal
 use Rattle.paired.specs.glob.Sections.{IsGlob}

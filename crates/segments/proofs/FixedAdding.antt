@@ -19,24 +19,24 @@ use Rattle.sealed_pages.specs.Unrecovered.{IsAdopted, IsUnrecovered, KeepsPrefix
 use Rattle.sealed_pages.specs.declared.page_blob.PageBlob.{PageBlob}
 use Rattle.sealed_pages.proofs.PageCalls.{alone_then, only_weaker}
 use Rattle.sealed_pages.proofs.UnrecoveredLemmas.{adopted_backed}
-use Rattle.segments.specs.Entries.{OnlyOwnEntry}
+use Rattle.section_manager.specs.Entries.{OnlyOwnEntry}
+use Rattle.section_manager.specs.Lasting.{IsOpening}
+use Rattle.section_manager.specs.Leaving.{AllMoments}
+use Rattle.section_manager.specs.Refusing.{HasFailed, HasNoRoom, IsPruned}
+use Rattle.section_manager.specs.Sections.{key_of, IsHeld}
+use Rattle.section_manager.specs.Setting.{Setting}
+use Rattle.section_manager.specs.declared.buffer.SectionBuffer as buffer
+use Rattle.section_manager.specs.declared.journal.Error.{Error}
+use Rattle.section_manager.specs.declared.journal.Error.TheVariants.{AlreadyPrunedToSection, Full, Mem}
+use Rattle.section_manager.specs.declared.sealed.AppendFactory.{AppendFactory}
+use Rattle.section_manager.proofs.WalkLemmas.{has_value, none_or_value}
 use Rattle.segments.specs.FixedAdding.{Appends, Overfills, WouldOverfill}
 use Rattle.segments.specs.FixedFull.{full_or_raised_of}
 use Rattle.segments.specs.FixedLasting.{IsBeginning}
 use Rattle.segments.specs.FixedLists.{Lists, section_bytes, section_size, size_held, IsJournal, IsRecovered}
-use Rattle.segments.specs.Lasting.{IsOpening}
-use Rattle.segments.specs.Leaving.{AllMoments}
-use Rattle.segments.specs.Refusing.{HasFailed, HasNoRoom, IsPruned}
-use Rattle.segments.specs.Sections.{key_of, IsHeld}
-use Rattle.segments.specs.Setting.{Setting}
-use Rattle.segments.specs.declared.buffer.SectionBuffer as buffer
-use Rattle.segments.specs.declared.journal.Error.{Error}
-use Rattle.segments.specs.declared.journal.Error.TheVariants.{AlreadyPrunedToSection, Full, Mem}
-use Rattle.segments.specs.declared.sealed.AppendFactory.{AppendFactory}
 use Rattle.segments.proofs.FixedAppendLemmas.{Takes, beginning, first_fits, full_here, held_sealing, start_sealing, steady_start, taken_adopted, taken_sealed, taken_still}
 use Rattle.segments.proofs.FixedCalls.{moved}
 use Rattle.segments.proofs.FixedWriteLemmas.{ArePages}
-use Rattle.segments.proofs.WalkLemmas.{has_value, none_or_value}
 
 some_held : {B : Type 0} (o : Option B) (u : B) → o ≡ Some u → IsSome o
 some_held o u is = subst IsSome (sym is) refl

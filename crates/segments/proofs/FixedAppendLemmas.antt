@@ -28,22 +28,22 @@ use Rattle.sealed_pages.proofs.PageCalls.{only_weaker}
 use Rattle.sealed_pages.proofs.Shortening.{size_before}
 use Rattle.sealed_pages.proofs.Truncating.{all_flushed}
 use Rattle.sealed_pages.proofs.UnrecoveredLemmas.{unrecovered_prefix}
-use Rattle.segments.specs.declared.buffer.SectionBuffer as buffer
-use Rattle.segments.specs.declared.journal.Error.TheVariants.{Full}
-use Rattle.segments.specs.Entries.{OnlyOwnEntry}
+use Rattle.section_manager.specs.declared.buffer.SectionBuffer as buffer
+use Rattle.section_manager.specs.declared.journal.Error.TheVariants.{Full}
+use Rattle.section_manager.specs.Entries.{OnlyOwnEntry}
+use Rattle.section_manager.specs.Lasting.{IsOpening}
+use Rattle.section_manager.specs.Leaving.{AllMoments}
+use Rattle.section_manager.specs.managing.Lending.{IsPut}
+use Rattle.section_manager.specs.Sealed.{IsTooLong, adopted_bytes}
+use Rattle.section_manager.specs.SealedLaws.{counted}
+use Rattle.section_manager.specs.Sections.{Sections, key_of, IsHeld, IsKnown, IsSame, SameBounds, IsOver}
+use Rattle.section_manager.specs.Setting.{Setting}
+use Rattle.section_manager.proofs.sections.KeyLemmas.{keys_differ}
+use Rattle.section_manager.proofs.sections.OverLemmas.{same_key, over_put}
+use Rattle.section_manager.proofs.WalkLemmas.{none_or_value, some_same}
 use Rattle.segments.specs.FixedFull.{full_or_raised_of}
 use Rattle.segments.specs.FixedLasting.{IsBeginning}
 use Rattle.segments.specs.FixedLists.{Lists, section_bytes, section_size, IsJournal, IsRecovered, IsProven}
-use Rattle.segments.specs.Lasting.{IsOpening}
-use Rattle.segments.specs.Leaving.{AllMoments}
-use Rattle.segments.specs.managing.Lending.{IsPut}
-use Rattle.segments.specs.Sealed.{IsTooLong, adopted_bytes}
-use Rattle.segments.specs.SealedLaws.{counted}
-use Rattle.segments.specs.Sections.{Sections, key_of, IsHeld, IsKnown, IsSame, SameBounds, IsOver}
-use Rattle.segments.specs.Setting.{Setting}
-use Rattle.segments.proofs.sections.KeyLemmas.{keys_differ}
-use Rattle.segments.proofs.sections.OverLemmas.{same_key, over_put}
-use Rattle.segments.proofs.WalkLemmas.{none_or_value, some_same}
 use Rattle.segments.proofs.FixedWriteLemmas.{ArePages, IsFine, proven_back, fine_of, journal_of, fine_same}
 use Rattle.segments.proofs.FixedCutLemmas.{no_rest, empty_sealed}
 

@@ -6,11 +6,11 @@ use Rattle.sealed_pages.specs.Reads.{IsCovered}
 use Rattle.sealed_pages.specs.SealedPrefix.{sealed_prefix, adopted_size, data_from}
 use Rattle.sealed_pages.specs.View.{view}
 use Rattle.value_codec.specs.declared.codec.Error as codec
+use Rattle.section_manager.specs.Sections.{section_key}
+use Rattle.section_manager.specs.declared.journal.Damage.{Damage}
+use Rattle.section_manager.proofs.WalkLemmas.{value_of, has_value}
 use Rattle.segments.specs.FixedCheckpoint.{boundary_at, IsUnder, IsPartial, IsMissing, IsUnsealed, IsRefused, IsKept, IsPassed, IsRefusedItem, IsShown, AreChecked}
 use Rattle.segments.specs.FixedFloors.{Floors, IsBoundary}
-use Rattle.segments.specs.Sections.{section_key}
-use Rattle.segments.specs.declared.journal.Damage.{Damage}
-use Rattle.segments.proofs.WalkLemmas.{value_of, has_value}
 
 module _ (seal : List ℕ → ℕ) (P size : ℕ) (partition : List ℕ) (at bytes : ℕ) (e d : Disk) where
   -- each blob of a section reads as before

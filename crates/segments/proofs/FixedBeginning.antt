@@ -10,10 +10,10 @@ use Rattle.blob_device.specs.Opened.{OpenedList}
 use Rattle.sealed_pages.specs.declared.page_blob.PageBlob.{PageBlob}
 use Rattle.sealed_pages.specs.Shown.{shown}
 use Rattle.sealed_pages.specs.Buffer.{size_of, IsSealed}
-use Rattle.segments.specs.declared.buffer.SectionBuffer as buffer
-use Rattle.segments.specs.Setting.{Setting}
+use Rattle.section_manager.specs.declared.buffer.SectionBuffer as buffer
+use Rattle.section_manager.specs.Setting.{Setting}
+use Rattle.section_manager.specs.Sections.{Sections, key_of, IsHeld}
 use Rattle.segments.specs.FixedLists.{Lists, IsProven, OwesHeld, OwesSettled, AreSealed, UnopenedLater, IsJournal}
-use Rattle.segments.specs.Sections.{Sections, key_of, IsHeld}
 use Rattle.segments.specs.FixedReplay.{Walk, IsDrained, HasWalk, IsWalk, WalksOver, first_of}
 use Rattle.segments.proofs.FixedWalks.{is_some, none_in}
 use Rattle.segments.proofs.FixedWriteLemmas.{proven_back}

@@ -18,14 +18,14 @@ use Rattle.sealed_pages.specs.Shown.{shown}
 use Rattle.sealed_pages.specs.declared.page_blob.PageBlob.{PageBlob}
 use Rattle.sealed_pages.proofs.EntryLemmas.{only_read_start}
 use Rattle.sealed_pages.proofs.Looking.{unchanged_now, unchanged_start}
+use Rattle.section_manager.specs.Raised.{raised}
+use Rattle.section_manager.specs.Refusing.{IsPruned, HasFailed}
+use Rattle.section_manager.specs.Sections.{Sections, key_of}
+use Rattle.section_manager.specs.Setting.{Setting}
+use Rattle.section_manager.specs.declared.buffer.SectionBuffer as buffer
+use Rattle.section_manager.specs.declared.journal.Error.{Error}
 use Rattle.segments.specs.FixedBounds.{whole_of, sealed_size, Measures, Recovers, FindsEnd}
 use Rattle.segments.specs.FixedLists.{Lists, size_held}
-use Rattle.segments.specs.Raised.{raised}
-use Rattle.segments.specs.Refusing.{IsPruned, HasFailed}
-use Rattle.segments.specs.Sections.{Sections, key_of}
-use Rattle.segments.specs.Setting.{Setting}
-use Rattle.segments.specs.declared.buffer.SectionBuffer as buffer
-use Rattle.segments.specs.declared.journal.Error.{Error}
 use Rattle.segments.proofs.FixedPassing.{no_error, guard_on}
 use Rattle.segments.proofs.FixedSections.{journal_read}
 

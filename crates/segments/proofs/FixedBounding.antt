@@ -20,21 +20,21 @@ use Rattle.sealed_pages.proofs.Adopt.{length-data_from}
 use Rattle.sealed_pages.proofs.Holding.{bytes_length}
 use Rattle.sealed_pages.proofs.Reaching.{own_prefix}
 use Rattle.sealed_pages.proofs.Truncating.{all_flushed, settles_of}
+use Rattle.section_manager.specs.Lasting.{IsGoing, IsSettling}
+use Rattle.section_manager.specs.Sealed.{adopted_bytes, is_unsettled}
+use Rattle.section_manager.specs.Sections.{section_key, key_of, IsHeld, IsKnown, IsKeyOf, IsCut}
+use Rattle.section_manager.specs.Setting.{Setting}
+use Rattle.section_manager.specs.declared.buffer.SectionBuffer as buffer
+use Rattle.section_manager.specs.declared.sealed.AppendFactory.{AppendFactory}
+use Rattle.section_manager.specs.declared.unopened.Unopened.{Unopened}
+use Rattle.section_manager.specs.declared.unopened.Unopened.TheVariants.{Section, Leftover}
+use Rattle.section_manager.proofs.sections.KeyLemmas.{key_injective}
+use Rattle.section_manager.proofs.WalkLemmas.{value_of, none_or_value, some_same}
 use Rattle.segments.specs.FixedBounds.{whole_of, sealed_size, bounded_size, CuttingTail, IsTailCut, Bounding, IsOpenedWhole, IsOpenedCut}
 use Rattle.segments.specs.FixedLists.{Lists, bytes_held, section_bytes, section_size, IsJournal}
-use Rattle.segments.specs.Lasting.{IsGoing, IsSettling}
-use Rattle.segments.specs.Sealed.{adopted_bytes, is_unsettled}
-use Rattle.segments.specs.Sections.{section_key, key_of, IsHeld, IsKnown, IsKeyOf, IsCut}
-use Rattle.segments.specs.Setting.{Setting}
-use Rattle.segments.specs.declared.buffer.SectionBuffer as buffer
-use Rattle.segments.specs.declared.sealed.AppendFactory.{AppendFactory}
-use Rattle.segments.specs.declared.unopened.Unopened.{Unopened}
-use Rattle.segments.specs.declared.unopened.Unopened.TheVariants.{Section, Leftover}
 use Rattle.segments.proofs.FixedKept.{last_place}
 use Rattle.segments.proofs.FixedWriteLemmas.{ArePages, size_here, bytes_here}
 use Rattle.segments.proofs.FixedWalks.{some_of}
-use Rattle.segments.proofs.sections.KeyLemmas.{key_injective}
-use Rattle.segments.proofs.WalkLemmas.{value_of, none_or_value, some_same}
 
 -- a settled blob outlives every crash as it is
 settled_content : (c x : List ℕ) → MayHold (settled_at c) x → x ≡ c

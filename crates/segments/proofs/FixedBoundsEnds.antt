@@ -15,17 +15,17 @@ use Rattle.sealed_pages.specs.Shown.{shown}
 use Rattle.sealed_pages.specs.declared.page_blob.PageBlob.{PageBlob}
 use Rattle.sealed_pages.specs.declared.pages.Pages.{Pages}
 use Rattle.sealed_pages.proofs.Looking.{unchanged_now}
+use Rattle.section_manager.specs.Lasting.{IsSettling}
+use Rattle.section_manager.specs.Refusing.{HasDamage, HasFailed, HasNoRoom, IsForeign, IsOpenedTooLong, IsPruned}
+use Rattle.section_manager.specs.Sections.{section_key, key_of, IsKeyOf, IsKnown}
+use Rattle.section_manager.specs.Setting.{Setting}
+use Rattle.section_manager.specs.declared.buffer.SectionBuffer as buffer
+use Rattle.section_manager.specs.declared.journal.Error.{Error}
+use Rattle.section_manager.specs.declared.journal.Error.TheVariants.{InvalidBlobName}
+use Rattle.section_manager.specs.declared.sealed.AppendFactory.{AppendFactory}
+use Rattle.section_manager.specs.declared.unopened.Unopened.TheVariants.{Leftover}
 use Rattle.segments.specs.FixedBounds.{whole_of, sealed_size, FindsEnd, CuttingTail, IsTailCut, Bounding, IsOpenedCut, Bounds, IsBoundCause}
 use Rattle.segments.specs.FixedLists.{Lists, section_bytes, section_size, IsJournal}
-use Rattle.segments.specs.Lasting.{IsSettling}
-use Rattle.segments.specs.Refusing.{HasDamage, HasFailed, HasNoRoom, IsForeign, IsOpenedTooLong, IsPruned}
-use Rattle.segments.specs.Sections.{section_key, key_of, IsKeyOf, IsKnown}
-use Rattle.segments.specs.Setting.{Setting}
-use Rattle.segments.specs.declared.buffer.SectionBuffer as buffer
-use Rattle.segments.specs.declared.journal.Error.{Error}
-use Rattle.segments.specs.declared.journal.Error.TheVariants.{InvalidBlobName}
-use Rattle.segments.specs.declared.sealed.AppendFactory.{AppendFactory}
-use Rattle.segments.specs.declared.unopened.Unopened.TheVariants.{Leftover}
 use Rattle.segments.proofs.FixedBounding.{Found, settling_bounding, tail_bounding, opened_cut}
 use Rattle.segments.proofs.FixedPassing.{failed_on, pruned_on, error_back}
 use Rattle.segments.proofs.FixedReading.{failed_since}

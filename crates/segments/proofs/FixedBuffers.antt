@@ -18,7 +18,7 @@ use Rattle.sealed_pages.proofs.Holding.{bytes_length}
 use Rattle.sealed_pages.proofs.Reaching.{rest_leaves}
 use Rattle.sealed_pages.proofs.Truncating.{all_flushed}
 use Rattle.sealed_pages.proofs.UnrecoveredLemmas.{adopted_backed, keeps_now}
-use Rattle.segments.specs.Sealed.{Stands}
+use Rattle.section_manager.specs.Sealed.{Stands}
 use Rattle.segments.specs.FixedStepping.{IsFlushed, IsCutBack}
 use Rattle.segments.proofs.FixedKept.{sealed_flushed}
 

@@ -17,12 +17,12 @@ use Rattle.sealed_pages.specs.Flushing.{Alone}
 use Rattle.sealed_pages.specs.Unrecovered.{IsUnrecovered}
 use Rattle.sealed_pages.proofs.Truncating.{all_flushed}
 use Rattle.sealed_pages.proofs.UnrecoveredLemmas.{adopted_backed}
-use Rattle.segments.specs.declared.buffer.SectionBuffer as buffer
-use Rattle.segments.specs.Entries.{OnlyOwnEntry}
-use Rattle.segments.specs.Sealed.{Stands}
-use Rattle.segments.specs.Setting.{Setting}
+use Rattle.section_manager.specs.declared.buffer.SectionBuffer as buffer
+use Rattle.section_manager.specs.Entries.{OnlyOwnEntry}
+use Rattle.section_manager.specs.Sealed.{Stands}
+use Rattle.section_manager.specs.Setting.{Setting}
+use Rattle.section_manager.specs.Sections.{Sections, IsSame, SameBounds, IsOver}
 use Rattle.segments.specs.FixedStepping.{IsFlushed, IsCutBack, BeginsOver}
-use Rattle.segments.specs.Sections.{Sections, IsSame, SameBounds, IsOver}
 
 -- two changes of other sections, and of none of the bounds
 pub bounds_then : {F B : Type 0} (m n p : Sections F B) → SameBounds m n → SameBounds n p → SameBounds m p

@@ -20,22 +20,22 @@ use Rattle.sealed_pages.specs.declared.page_blob.PageBlob.{PageBlob}
 use Rattle.sealed_pages.proofs.Holding.{bool_or, extent_more}
 use Rattle.sealed_pages.proofs.Looking.{unchanged_now, unchanged_start, unchanged_then}
 use Rattle.value_codec.specs.declared.codec.Error as codec
+use Rattle.section_manager.specs.Refusing.{HasFailed}
+use Rattle.section_manager.specs.Sections.{Sections, section_key, key_of, IsHeld, IsOver}
+use Rattle.section_manager.specs.Setting.{Setting}
+use Rattle.section_manager.specs.declared.buffer.SectionBuffer as buffer
+use Rattle.section_manager.specs.declared.journal.Damage.{Damage}
+use Rattle.section_manager.specs.declared.journal.Error.{Error}
+use Rattle.section_manager.specs.declared.journal.Error.TheVariants.{Codec, Corruption}
+use Rattle.section_manager.proofs.WalkLemmas.{value_of, has_value, none_or_value}
 use Rattle.segments.specs.FixedCheckpoint.{boundary_at, IsUnder, IsPartial, IsMissing, IsUnsealed, IsRefused, IsPassed, IsRefusedItem, IsShown, AreChecked, HasCome, PassesBelow, Looks}
 use Rattle.segments.specs.FixedFloors as marks
 use Rattle.segments.specs.FixedFloors.{Floors, IsBoundary, AreAdopted}
 use Rattle.segments.specs.FixedLists.{section_size, size_held}
-use Rattle.segments.specs.Refusing.{HasFailed}
-use Rattle.segments.specs.Sections.{Sections, section_key, key_of, IsHeld, IsOver}
-use Rattle.segments.specs.Setting.{Setting}
-use Rattle.segments.specs.declared.buffer.SectionBuffer as buffer
-use Rattle.segments.specs.declared.journal.Damage.{Damage}
-use Rattle.segments.specs.declared.journal.Error.{Error}
-use Rattle.segments.specs.declared.journal.Error.TheVariants.{Codec, Corruption}
 use Rattle.segments.proofs.FixedFloorLemmas.{whole_items}
 use Rattle.segments.proofs.FixedPassing.{failed_on, error_back}
 use Rattle.segments.proofs.FixedReading.{failed_since}
 use Rattle.segments.proofs.FixedWriteLemmas.{ArePages}
-use Rattle.segments.proofs.WalkLemmas.{value_of, has_value, none_or_value}
 
 -- n whole items have the bytes that they were counted by
 pub whole_count : (n size : ℕ) → 1 ≤ size → n % size ≡ 0 → n / size * size ≡ n

@@ -17,14 +17,14 @@ use Rattle.sealed_pages.proofs.PageCalls.{only_weaker}
 use Rattle.sealed_pages.proofs.SlotLemmas.{times_more}
 use Rattle.sealed_pages.proofs.Truncating.{all_flushed, settles_of}
 use Rattle.sealed_pages.proofs.UnrecoveredLemmas.{unrecovered_prefix, adopted_sealed}
-use Rattle.segments.specs.declared.buffer.SectionBuffer as buffer
+use Rattle.section_manager.specs.declared.buffer.SectionBuffer as buffer
+use Rattle.section_manager.specs.Leaving.{Leaves, AllMoments}
+use Rattle.section_manager.specs.Sections.{key_of, IsSame, SameBounds, IsOver, IsCut}
+use Rattle.section_manager.specs.Setting.{Setting}
+use Rattle.section_manager.proofs.sections.KeyLemmas.{keys_differ}
+use Rattle.section_manager.proofs.sections.OverLemmas.{same_key}
+use Rattle.section_manager.proofs.WalkLemmas.{value_of, has_value, some_same, none_or_value}
 use Rattle.segments.specs.FixedLists.{Lists, section_bytes, IsJournal, IsProven}
-use Rattle.segments.specs.Leaving.{Leaves, AllMoments}
-use Rattle.segments.specs.Sections.{key_of, IsSame, SameBounds, IsOver, IsCut}
-use Rattle.segments.specs.Setting.{Setting}
-use Rattle.segments.proofs.sections.KeyLemmas.{keys_differ}
-use Rattle.segments.proofs.sections.OverLemmas.{same_key}
-use Rattle.segments.proofs.WalkLemmas.{value_of, has_value, some_same, none_or_value}
 use Rattle.segments.proofs.FixedWriteLemmas.{ArePages, IsFine, fine_of, journal_of, fine_same, fine_none, leaves_sealed, leaves_front, proven_back, proven_or_not}
 
 pub no_rest : (n : ℕ) → 0 % n ≡ 0

@@ -13,14 +13,14 @@ use Rattle.sealed_pages.specs.ChanceSeal.{NoChanceSeal, Leaves, Sealing}
 use Rattle.sealed_pages.specs.SealedPrefix.{Prefix, sealed_prefix}
 use Rattle.sealed_pages.proofs.cutting.Calls.{prefix_whole}
 use Rattle.value_codec.specs.declared.codec.Error as codec
-use Rattle.segments.specs.declared.buffer.SectionBuffer as buffer
-use Rattle.segments.specs.declared.journal.Damage.{Damage}
-use Rattle.segments.specs.declared.journal.Error.{Error}
+use Rattle.section_manager.specs.declared.buffer.SectionBuffer as buffer
+use Rattle.section_manager.specs.declared.journal.Damage.{Damage}
+use Rattle.section_manager.specs.declared.journal.Error.{Error}
 use Rattle.blob_device.specs.declared.runtime.RError.TheVariants.{InvalidChecksum}
-use Rattle.segments.specs.declared.journal.Error.TheVariants.{ItemOutOfRange, Runtime}
-use Rattle.segments.specs.Setting.{Setting}
-use Rattle.segments.specs.Sections.{key_of, IsHeld}
-use Rattle.segments.specs.Refusing.{HasFailed, HasDamage}
+use Rattle.section_manager.specs.declared.journal.Error.TheVariants.{ItemOutOfRange, Runtime}
+use Rattle.section_manager.specs.Setting.{Setting}
+use Rattle.section_manager.specs.Sections.{key_of, IsHeld}
+use Rattle.section_manager.specs.Refusing.{HasFailed, HasDamage}
 use Rattle.segments.specs.FixedLists.{size_held, section_size}
 use Rattle.segments.specs.FixedReplay.{Place, Walk, SameItems, IsSameOrCut, IsWalk, HasNothingToCut, StaysStill, IsCutting, Replaying, EndsBelow, kept_bytes}
 use Rattle.segments.specs.FixedStepping.{word, sections_ahead, bytes_ahead, standing, OnlySections, Touches, IsCutBack, EndsAt, Steps}

@@ -20,7 +20,14 @@ use Rattle.sealed_pages.proofs.Holding.{bytes_length}
 use Rattle.sealed_pages.proofs.SlotLemmas.{times_more}
 use Rattle.sealed_pages.proofs.Truncating.{all_flushed, settles_of}
 use Rattle.value_codec.specs.declared.codec.Error as codec
-use Rattle.segments.specs.Answers.{seen}
+use Rattle.section_manager.specs.Answers.{seen}
+use Rattle.section_manager.specs.Sections.{Sections, section_key, key_of, IsHeld, IsKeyOf, IsOver, SameBounds}
+use Rattle.section_manager.specs.Setting.{Setting}
+use Rattle.section_manager.specs.declared.buffer.SectionBuffer as buffer
+use Rattle.section_manager.specs.declared.journal.Damage.{Damage}
+use Rattle.section_manager.specs.declared.journal.Error.{Error}
+use Rattle.section_manager.specs.declared.journal.Error.TheVariants.{Codec, Corruption, ItemOutOfRange, ReplayFailed, Runtime}
+use Rattle.section_manager.proofs.WalkLemmas.{value_of, has_value}
 use Rattle.segments.specs.FixedBounds.{whole_of}
 use Rattle.segments.specs.FixedDraining.{IsBadPage, IsFromStart, IsBeforeStart, IsGoneThrough, IsFirstRefused, Drains}
 use Rattle.segments.specs.FixedItems.{item_at, IsItem}
@@ -28,19 +35,12 @@ use Rattle.segments.specs.FixedLists.{Lists, bytes_held, section_bytes, OwesHeld
 use Rattle.segments.specs.FixedReading.{HasNotRead, IsBelowFloor}
 use Rattle.segments.specs.FixedReplay.{Walk, IsAhead, IsIn, IsLeft, IsDrained, IsGoneOver, SameWalk, SameItems, IsSameOrCut, KeepsSections, KeepsFloors, KeepsBytes, KeepsItems, IsWalk, Gives, Refuses, Replaying, LeavesNoMore, EndsBelow, FindsDamage, kept_of, kept_bytes}
 use Rattle.segments.specs.FixedStepping.{reads_left, ReadsOnce}
-use Rattle.segments.specs.Sections.{Sections, section_key, key_of, IsHeld, IsKeyOf, IsOver, SameBounds}
-use Rattle.segments.specs.Setting.{Setting}
-use Rattle.segments.specs.declared.buffer.SectionBuffer as buffer
-use Rattle.segments.specs.declared.journal.Damage.{Damage}
-use Rattle.segments.specs.declared.journal.Error.{Error}
-use Rattle.segments.specs.declared.journal.Error.TheVariants.{Codec, Corruption, ItemOutOfRange, ReplayFailed, Runtime}
 use Rattle.segments.proofs.FixedCutLemmas.{no_rest}
 use Rattle.segments.proofs.FixedKept.{short_item}
 use Rattle.segments.proofs.FixedOwed.{same_items, items_then, same_or_cut, cut_then}
 use Rattle.segments.proofs.FixedRunning.{idle_after}
 use Rattle.segments.proofs.FixedWalks.{is_some, same_some, some_of, same_bytes, none_in}
 use Rattle.segments.proofs.FixedWalksOn.{replaying_start}
-use Rattle.segments.proofs.WalkLemmas.{value_of, has_value}
 
 -- ---- lists of items
 

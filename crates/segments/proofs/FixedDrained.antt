@@ -20,23 +20,23 @@ use Rattle.sealed_pages.proofs.Adopt.{length-data_from}
 use Rattle.sealed_pages.proofs.Reaching.{prefix_size}
 use Rattle.sealed_pages.proofs.SlotLemmas.{times_more, times_next}
 use Rattle.value_codec.specs.declared.codec.Error as codec
+use Rattle.section_manager.specs.Lasting.{IsGoing}
+use Rattle.section_manager.specs.SealedLaws.{all_settled}
+use Rattle.section_manager.specs.Sections.{section_key, key_of, IsHeld}
+use Rattle.section_manager.specs.Setting.{Setting}
+use Rattle.section_manager.specs.declared.buffer.SectionBuffer as buffer
+use Rattle.section_manager.specs.declared.sealed.AppendFactory.{AppendFactory}
+use Rattle.section_manager.proofs.sections.KeyLemmas.{key_injective}
 use Rattle.segments.specs.FixedBounds.{whole_of, bounded_size, Bounding, IsOpenedCut, IsOpenedAtMost, IsRefusedItem}
 use Rattle.segments.specs.FixedDraining.{IsFromStart, IsGoneThrough, IsFirstRefused}
 use Rattle.segments.specs.FixedItems.{item_at, IsItem}
 use Rattle.segments.specs.FixedLists.{Lists}
 use Rattle.segments.specs.FixedReplay.{Walk, IsLeft, Replaying, kept_of, kept_bytes}
-use Rattle.segments.specs.Lasting.{IsGoing}
-use Rattle.segments.specs.SealedLaws.{all_settled}
-use Rattle.segments.specs.Sections.{section_key, key_of, IsHeld}
-use Rattle.segments.specs.Setting.{Setting}
-use Rattle.segments.specs.declared.buffer.SectionBuffer as buffer
-use Rattle.segments.specs.declared.sealed.AppendFactory.{AppendFactory}
 use Rattle.segments.proofs.FixedBounding.{bounded_le}
 use Rattle.segments.proofs.FixedBoundLemmas.{whole_whole}
 use Rattle.segments.proofs.FixedDrainLemmas.{same_item}
 use Rattle.segments.proofs.FixedWalks.{is_some, some_of}
 use Rattle.segments.proofs.FixedWriteLemmas.{ArePages, bytes_here}
-use Rattle.segments.proofs.sections.KeyLemmas.{key_injective}
 
 -- what leaves a prefix of the first bytes of a list leaves one of the list
 leaves_front_on : (seal : List ℕ → ℕ) (P m least : ℕ) (bytes : List ℕ) (b : Blob) → m ≤ length bytes → Leaves seal P (take m bytes) least b → Leaves seal P bytes least b

@@ -9,23 +9,23 @@ use Rattle.blob_device.proofs.Results.{on_err}
 use Rattle.sealed_pages.specs.declared.page_blob.PageBlob.{PageBlob}
 use Rattle.sealed_pages.specs.declared.pages.Pages.{Pages}
 use Rattle.value_codec.specs.declared.codec.Error as codec
+use Rattle.section_manager.specs.Refusing.{HasFailed, HasNoRoom, IsForeign}
+use Rattle.section_manager.specs.Sections.{section_key}
+use Rattle.section_manager.specs.Setting.{Setting}
+use Rattle.section_manager.specs.declared.buffer.SectionBuffer as buffer
+use Rattle.section_manager.specs.declared.journal.Error.{Error}
+use Rattle.section_manager.specs.declared.journal.Error.TheVariants.{Codec, InvalidBlobName, ItemOutOfRange, ReplayFailed}
+use Rattle.section_manager.specs.declared.sealed.AppendFactory.{AppendFactory}
+use Rattle.section_manager.proofs.WalkLemmas.{value_of}
 use Rattle.segments.specs.FixedBounds.{Bounding, IsOpenedCut, IsOpenedAtMost, Bounds, IsBoundCause, IsDrainCause, IsRefusedItem}
 use Rattle.segments.specs.FixedDraining.{Drains}
 use Rattle.segments.specs.FixedLists.{Lists}
 use Rattle.segments.specs.FixedReading.{HasNotRead, IsBelowFloor}
 use Rattle.segments.specs.FixedReplay.{Walk, Begins, Replaying}
-use Rattle.segments.specs.Refusing.{HasFailed, HasNoRoom, IsForeign}
-use Rattle.segments.specs.Sections.{section_key}
-use Rattle.segments.specs.Setting.{Setting}
-use Rattle.segments.specs.declared.buffer.SectionBuffer as buffer
-use Rattle.segments.specs.declared.journal.Error.{Error}
-use Rattle.segments.specs.declared.journal.Error.TheVariants.{Codec, InvalidBlobName, ItemOutOfRange, ReplayFailed}
-use Rattle.segments.specs.declared.sealed.AppendFactory.{AppendFactory}
 use Rattle.segments.proofs.FixedBoundsEnds.{if_ok_on, opened_bounds}
 use Rattle.segments.proofs.FixedDrained.{begun, drained_bounding, refused_kept, opened_at_most}
 use Rattle.segments.proofs.FixedReading.{failed_since}
 use Rattle.segments.proofs.FixedWriteLemmas.{ArePages}
-use Rattle.segments.proofs.WalkLemmas.{value_of}
 
 -- no count is below none
 pub none_past : {T : Type 0} (o : Option T) (f : T → ℕ) → IsSomeAnd o (λ u. f u < 0) → ⊥

@@ -15,18 +15,18 @@ use Rattle.sealed_pages.specs.Reading.{Unchanged}
 use Rattle.sealed_pages.specs.declared.page_blob.PageBlob.{PageBlob}
 use Rattle.sealed_pages.proofs.Looking.{unchanged_now, unchanged_start}
 use Rattle.value_codec.specs.declared.codec.Error as codec
+use Rattle.section_manager.specs.Sections.{Sections, section_key, key_of, IsHeld, IsOver}
+use Rattle.section_manager.specs.Setting.{Setting}
+use Rattle.section_manager.specs.declared.buffer.SectionBuffer as buffer
+use Rattle.section_manager.specs.declared.journal.Error.{Error}
+use Rattle.section_manager.specs.declared.journal.Error.TheVariants.{Mem}
+use Rattle.section_manager.specs.declared.sealed.AppendFactory.{AppendFactory}
+use Rattle.section_manager.proofs.TurnLemmas.{before_turn}
 use Rattle.segments.specs.FixedCheckpoint.{IsUnder, IsShown, IsPassed, AreChecked, HasCome, Looks}
 use Rattle.segments.specs.FixedFloors.{Floors, AreAdopted}
-use Rattle.segments.specs.Sections.{Sections, section_key, key_of, IsHeld, IsOver}
-use Rattle.segments.specs.Setting.{Setting}
-use Rattle.segments.specs.declared.buffer.SectionBuffer as buffer
-use Rattle.segments.specs.declared.journal.Error.{Error}
-use Rattle.segments.specs.declared.journal.Error.TheVariants.{Mem}
-use Rattle.segments.specs.declared.sealed.AppendFactory.{AppendFactory}
 use Rattle.segments.proofs.FixedBoundsEnds.{if_ok_on}
 use Rattle.segments.proofs.FixedChecking.{come_named, looks_then}
 use Rattle.segments.proofs.FixedPassing.{no_error}
-use Rattle.segments.proofs.TurnLemmas.{before_turn}
 
 -- the numbers below that of this turn had theirs
 pub had_numbers : (xs : List ℕ) (i : ℕ) → i < length xs → IsStrictlySortedBy nat_cmp xs → (q : ℕ) → q < get_or xs i 0 → Contains xs q → Contains (take i xs) q

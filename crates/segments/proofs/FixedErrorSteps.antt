@@ -6,11 +6,11 @@ use Rattle.blob_device.specs.Counts.{Rose}
 use Rattle.blob_device.specs.declared.runtime.RError.{RError}
 use Rattle.blob_device.specs.declared.runtime.RError.TheVariants as runtime
 use Rattle.sealed_pages.proofs.Truncating.{rose_since}
-use Rattle.segments.specs.declared.journal.Error.{Error}
+use Rattle.section_manager.specs.declared.journal.Error.{Error}
 use Rattle.value_codec.specs.declared.codec.Error as codec
-use Rattle.segments.specs.declared.journal.Error.TheVariants.{Runtime, Codec, Mem, ItemOutOfRange}
-use Rattle.segments.specs.Raised.{raised}
-use Rattle.segments.specs.Refusing.{HasFailed, HasDamage}
+use Rattle.section_manager.specs.declared.journal.Error.TheVariants.{Runtime, Codec, Mem, ItemOutOfRange}
+use Rattle.section_manager.specs.Raised.{raised}
+use Rattle.section_manager.specs.Refusing.{HasFailed, HasDamage}
 use Rattle.segments.specs.FixedReading.{HasNotRead}
 
 -- want of memory, or a fault

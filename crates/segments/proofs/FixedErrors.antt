@@ -6,11 +6,11 @@ use Rattle.blob_device.specs.declared.runtime.RError.{RError}
 use Rattle.blob_device.specs.declared.runtime.RError.TheVariants as runtime
 use Rattle.value_codec.specs.declared.codec.Error as codec
 use Rattle.value_codec.specs.declared.codec.Error.TheVariants as code
-use Rattle.segments.specs.declared.journal.Error.{Error}
-use Rattle.segments.specs.declared.journal.Error.TheVariants.{Runtime, Codec, Mem}
-use Rattle.segments.specs.Raised.{raised, raised_codec}
+use Rattle.section_manager.specs.declared.journal.Error.{Error}
+use Rattle.section_manager.specs.declared.journal.Error.TheVariants.{Runtime, Codec, Mem}
+use Rattle.section_manager.specs.Raised.{raised, raised_codec}
+use Rattle.section_manager.specs.Refusing.{HasFailed}
 use Rattle.segments.specs.FixedReading.{HasNotRead}
-use Rattle.segments.specs.Refusing.{HasFailed}
 
 -- an error of a buffer is that very one
 pub runtime_of : (e x : RError) → raised e ≡ Runtime x → e ≡ x

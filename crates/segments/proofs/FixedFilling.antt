@@ -19,15 +19,15 @@ use Rattle.sealed_pages.specs.Unrecovered.{IsAdopted}
 use Rattle.sealed_pages.specs.View.{view}
 use Rattle.sealed_pages.specs.declared.page_blob.PageBlob.{PageBlob}
 use Rattle.std.proofs.Math.Nat.{add-mul}
+use Rattle.section_manager.specs.Refusing.{HasDamage, HasFailed}
+use Rattle.section_manager.specs.Sections.{key_of}
+use Rattle.section_manager.specs.Setting.{Setting}
+use Rattle.section_manager.specs.declared.buffer.SectionBuffer as buffer
+use Rattle.section_manager.specs.declared.journal.Error.{Error}
+use Rattle.section_manager.specs.declared.journal.Error.TheVariants.{Runtime}
 use Rattle.segments.specs.FixedCursor.{Fills, IsFoundShort}
 use Rattle.segments.specs.FixedReplay.{Place, Walk, IsWalk, kept_bytes}
 use Rattle.segments.specs.FixedStepping.{standing}
-use Rattle.segments.specs.Refusing.{HasDamage, HasFailed}
-use Rattle.segments.specs.Sections.{key_of}
-use Rattle.segments.specs.Setting.{Setting}
-use Rattle.segments.specs.declared.buffer.SectionBuffer as buffer
-use Rattle.segments.specs.declared.journal.Error.{Error}
-use Rattle.segments.specs.declared.journal.Error.TheVariants.{Runtime}
 use Rattle.segments.proofs.FixedEnds.{count_all, short_owed}
 use Rattle.segments.proofs.FixedKept.{range_kept, short_length}
 use Rattle.segments.proofs.FixedReading.{count_read, here, kept_data, kept_owed, long_here, reads_here, some_and, walk_read}

@@ -35,26 +35,26 @@ use Rattle.sealed_pages.proofs.Holding.{bytes_length}
 use Rattle.sealed_pages.proofs.Looking.{unchanged_now}
 use Rattle.sealed_pages.proofs.Reaching.{prefix_size}
 use Rattle.sealed_pages.proofs.SlotLemmas.{times_next}
-use Rattle.segments.specs.declared.buffer.SectionBuffer as buffer
-use Rattle.segments.specs.declared.journal.Damage.{Damage}
-use Rattle.segments.specs.declared.journal.Error.{Error}
-use Rattle.segments.specs.declared.journal.Error.TheVariants.{InvalidBlobName, Corruption, Codec}
-use Rattle.segments.specs.declared.unopened.Unopened.TheVariants.{Section, Leftover}
-use Rattle.segments.specs.Entries.{OnlyOwnEntry}
+use Rattle.section_manager.specs.declared.buffer.SectionBuffer as buffer
+use Rattle.section_manager.specs.declared.journal.Damage.{Damage}
+use Rattle.section_manager.specs.declared.journal.Error.{Error}
+use Rattle.section_manager.specs.declared.journal.Error.TheVariants.{InvalidBlobName, Corruption, Codec}
+use Rattle.section_manager.specs.declared.unopened.Unopened.TheVariants.{Section, Leftover}
+use Rattle.section_manager.specs.Entries.{OnlyOwnEntry}
+use Rattle.section_manager.specs.Lasting.{IsSettling}
+use Rattle.section_manager.specs.Refusing.{HasFailed, HasNoRoom}
+use Rattle.section_manager.specs.Sealed.{adopted_bytes}
+use Rattle.section_manager.specs.SealedLaws.{all_settled}
+use Rattle.section_manager.specs.Sections.{Sections, section_key, key_of, IsHeld, StandsOver, IsOver}
+use Rattle.section_manager.specs.Setting.{Setting}
+use Rattle.section_manager.proofs.sections.CutLemmas.{same_number}
+use Rattle.section_manager.proofs.InitLemmas.{settling_was, settling_there, settling_content}
+use Rattle.section_manager.proofs.sections.KeyLemmas.{keys_differ}
+use Rattle.section_manager.proofs.WalkLemmas.{some_same, value_of, has_value, none_or_value}
 use Rattle.segments.specs.FixedFloors.{Floors, AreAdopted, IsBoundary, Keeps, KeepsBoundary, IsUnsealed, IsRefused}
 use Rattle.segments.specs.FixedLists.{floor_in, bytes_held, size_held, section_bytes, section_size}
-use Rattle.segments.specs.Lasting.{IsSettling}
-use Rattle.segments.specs.Refusing.{HasFailed, HasNoRoom}
-use Rattle.segments.specs.Sealed.{adopted_bytes}
-use Rattle.segments.specs.SealedLaws.{all_settled}
-use Rattle.segments.specs.Sections.{Sections, section_key, key_of, IsHeld, StandsOver, IsOver}
-use Rattle.segments.specs.Setting.{Setting}
-use Rattle.segments.proofs.sections.CutLemmas.{same_number}
 use Rattle.segments.proofs.FixedKept.{short_length}
 use Rattle.segments.proofs.FixedWriteLemmas.{ArePages}
-use Rattle.segments.proofs.InitLemmas.{settling_was, settling_there, settling_content}
-use Rattle.segments.proofs.sections.KeyLemmas.{keys_differ}
-use Rattle.segments.proofs.WalkLemmas.{some_same, value_of, has_value, none_or_value}
 
 -- a read that ends below the greatest u64
 pub read_cause : {T : Type 0} (r : Result T RError) (W : ℕ → Type 0) (before now : ℕ) → (r ≡ Err OffsetOverflow → ⊥)

@@ -10,25 +10,25 @@ use Rattle.sealed_pages.specs.SealedPrefix.{sealed_prefix, adopted_size}
 use Rattle.sealed_pages.specs.Shown.{shown}
 use Rattle.sealed_pages.specs.declared.page_blob.PageBlob.{PageBlob}
 use Rattle.sealed_pages.specs.declared.pages.Pages.{Pages}
+use Rattle.section_manager.specs.Lasting.{IsSettling}
+use Rattle.section_manager.specs.Sealed.{adopted_bytes}
+use Rattle.section_manager.specs.Sections.{Sections, section_key, key_of, IsHeld}
+use Rattle.section_manager.specs.Setting.{Setting}
+use Rattle.section_manager.specs.declared.buffer.SectionBuffer as buffer
+use Rattle.section_manager.specs.declared.sealed.AppendFactory.{AppendFactory}
+use Rattle.section_manager.specs.declared.unopened.Unopened.{Unopened}
+use Rattle.section_manager.specs.declared.unopened.Unopened.TheVariants.{Section, Leftover}
+use Rattle.section_manager.proofs.WalkLemmas.{none_or_value}
 use Rattle.segments.specs.FixedCheckpoint.{boundary_at, IsUnder, AreChecked, HasCome, Found, IsReady, IsOpenedFor}
 use Rattle.segments.specs.FixedFloors.{Floors}
 use Rattle.segments.specs.FixedLists.{Lists, section_size, size_held}
-use Rattle.segments.specs.Lasting.{IsSettling}
-use Rattle.segments.specs.Sealed.{adopted_bytes}
-use Rattle.segments.specs.Sections.{Sections, section_key, key_of, IsHeld}
-use Rattle.segments.specs.Setting.{Setting}
-use Rattle.segments.specs.declared.buffer.SectionBuffer as buffer
 use Rattle.segments.specs.declared.fixed.preflighting.Target.{Target}
-use Rattle.segments.specs.declared.sealed.AppendFactory.{AppendFactory}
-use Rattle.segments.specs.declared.unopened.Unopened.{Unopened}
-use Rattle.segments.specs.declared.unopened.Unopened.TheVariants.{Section, Leftover}
 use Rattle.segments.proofs.FixedAsBefore.{checked_same, under_back}
 use Rattle.segments.proofs.FixedChecking.{boundary_own, adopted_here, whole_count}
 use Rattle.segments.proofs.FixedFloorLemmas.{AreOpened, adopted_now, was_there}
 use Rattle.segments.proofs.FixedOpenLemmas.{opened_journal}
 use Rattle.segments.proofs.FixedPreflights.{reads_as}
 use Rattle.segments.proofs.FixedWriteLemmas.{ArePages}
-use Rattle.segments.proofs.WalkLemmas.{none_or_value}
 
 module _ {A S : Type 0} {gs : _} (seal : List ℕ → ℕ) (size at bytes : ℕ) (spelling : A → List ℕ) (accepted : A → Unit {0} → Type 0) (g : buffer.Ghosts (PageBlob S gs)) (gives : AppendFactory S → Setting)
     (are : ArePages g seal) (told : Type 0) (p : List ℕ) (pages : Pages) (from now : Timeline) (list : OpenedList) (m : Sections (AppendFactory S) (PageBlob S gs)) (f : Floors A)

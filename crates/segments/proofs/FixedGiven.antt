@@ -8,11 +8,11 @@ use Rattle.std.proofs.lemmas.List.Elements.{Contains-append_left, Contains-appen
 use Rattle.blob_device.specs.Disk.{Key}
 use Rattle.blob_device.specs.Opened.{reads_of}
 use Rattle.sealed_pages.specs.declared.page_blob.PageBlob.{PageBlob}
+use Rattle.section_manager.specs.Sections.{section_key, key_of, IsHeld}
 use Rattle.segments.specs.FixedGiving.{Given, At, Call, given_by, given, AreAscending, GivesOne, IsCall, HasRun, AreAllLeft, ReadsAllOnce}
 use Rattle.segments.specs.FixedItems.{item_at, IsItem}
 use Rattle.segments.specs.FixedReplay.{IsLeft, IsDrained, StandsBefore, kept_bytes}
 use Rattle.segments.specs.FixedStepping.{reads_left}
-use Rattle.segments.specs.Sections.{section_key, key_of, IsHeld}
 use Rattle.segments.proofs.FixedDrainLemmas.{kept_item}
 use Rattle.segments.proofs.FixedWalks.{none_in}
 

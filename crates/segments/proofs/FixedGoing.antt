@@ -13,16 +13,16 @@ use Rattle.sealed_pages.specs.Reads.{IsShort}
 use Rattle.sealed_pages.specs.Shown.{shown}
 use Rattle.sealed_pages.specs.declared.page_blob.PageBlob.{PageBlob}
 use Rattle.value_codec.specs.declared.codec.Error as codec
+use Rattle.section_manager.specs.Refusing.{HasDamage, HasFailed}
+use Rattle.section_manager.specs.Sections.{key_of}
+use Rattle.section_manager.specs.Setting.{Setting}
+use Rattle.section_manager.specs.declared.buffer.SectionBuffer as buffer
+use Rattle.section_manager.specs.declared.journal.Error.{Error}
+use Rattle.section_manager.specs.declared.journal.Error.TheVariants.{Codec, ItemOutOfRange, Runtime}
 use Rattle.segments.specs.FixedCursor.{Ends, Fills, IsFilled, leaving}
 use Rattle.segments.specs.FixedReading.{HasNotRead}
 use Rattle.segments.specs.FixedReplay.{Place, Walk, WalksOver, IsWalk, EndsDamaged, kept_bytes}
 use Rattle.segments.specs.FixedStepping.{failing, standing, ReadsOnce, Steps}
-use Rattle.segments.specs.Refusing.{HasDamage, HasFailed}
-use Rattle.segments.specs.Sections.{key_of}
-use Rattle.segments.specs.Setting.{Setting}
-use Rattle.segments.specs.declared.buffer.SectionBuffer as buffer
-use Rattle.segments.specs.declared.journal.Error.{Error}
-use Rattle.segments.specs.declared.journal.Error.TheVariants.{Codec, ItemOutOfRange, Runtime}
 use Rattle.segments.proofs.FixedKept.{next_within}
 use Rattle.segments.proofs.FixedStopping.{ended_here}
 use Rattle.segments.proofs.FixedReading.{read_failed, some_and, steps_read, the_some}

@@ -4,14 +4,14 @@ use Rattle.std.proofs.Common.{inl, inr, refl, sym, ◌∙◌, ap, subst, arith}
 use Rattle.std.proofs.lemmas.Bool.{cases_eq}
 use Rattle.blob_device.specs.Disk.{Key, Disk}
 use Rattle.blob_device.specs.Opened.{OpenedList}
-use Rattle.segments.specs.Entries.{OnlyOwnEntry}
+use Rattle.section_manager.specs.Entries.{OnlyOwnEntry}
 use Rattle.sealed_pages.specs.declared.page_blob.PageBlob.{PageBlob}
 use Rattle.sealed_pages.specs.Buffer.{Buffer, bytes_of}
 use Rattle.sealed_pages.specs.Shown.{shown}
+use Rattle.section_manager.specs.Sections.{Sections, section_key, key_of, IsHeld, IsSame, SameBounds}
+use Rattle.section_manager.proofs.WalkLemmas.{none_or_value}
 use Rattle.segments.specs.FixedLists.{AreAlike, shown_held, bytes_held, section_bytes}
-use Rattle.segments.specs.Sections.{Sections, section_key, key_of, IsHeld, IsSame, SameBounds}
 use Rattle.segments.proofs.FixedCalls.{bounds_then}
-use Rattle.segments.proofs.WalkLemmas.{none_or_value}
 
 -- what is shown is held
 pub some_shown : {S : Type 0} {gs : _} (a b : Option (PageBlob S gs)) → shown_held b ≡ shown_held a → IsSome b → IsSome a

@@ -8,21 +8,21 @@ use Rattle.blob_device.specs.Opened.{OpenedList}
 use Rattle.sealed_pages.specs.Buffer.{size_of}
 use Rattle.sealed_pages.specs.declared.page_blob.PageBlob.{PageBlob}
 use Rattle.sealed_pages.specs.Shown.{shown}
-use Rattle.segments.specs.declared.buffer.SectionBuffer as buffer
-use Rattle.segments.specs.declared.journal.Error.{Error}
-use Rattle.segments.specs.declared.journal.Error.TheVariants.{Runtime, InvalidBlobName, Mem}
-use Rattle.segments.specs.declared.unopened.Unopened.{Unopened}
-use Rattle.segments.specs.declared.unopened.Unopened.TheVariants.{Section, Leftover}
+use Rattle.section_manager.specs.declared.buffer.SectionBuffer as buffer
+use Rattle.section_manager.specs.declared.journal.Error.{Error}
+use Rattle.section_manager.specs.declared.journal.Error.TheVariants.{Runtime, InvalidBlobName, Mem}
+use Rattle.section_manager.specs.declared.unopened.Unopened.{Unopened}
+use Rattle.section_manager.specs.declared.unopened.Unopened.TheVariants.{Section, Leftover}
 use Rattle.std.specs.BTreeMap.{BTreeMap, is_at}
 use Rattle.std.specs.Map.{lookup}
 use Rattle.std.specs.Option.{unwrap_or}
 use Rattle.std.specs.Ordering.{nat_cmp}
+use Rattle.section_manager.specs.Refusing.{HasNoRoom, HasFailed}
+use Rattle.section_manager.specs.SealedLaws.{all_settled}
+use Rattle.section_manager.specs.Sections.{Sections, section_key, key_of, IsHeld, IsOver}
+use Rattle.section_manager.specs.Setting.{Setting}
+use Rattle.section_manager.proofs.WalkLemmas.{none_or_value}
 use Rattle.segments.specs.FixedLists.{floor_in, size_held, section_size, section_bytes, IsJournal}
-use Rattle.segments.specs.Refusing.{HasNoRoom, HasFailed}
-use Rattle.segments.specs.SealedLaws.{all_settled}
-use Rattle.segments.specs.Sections.{Sections, section_key, key_of, IsHeld, IsOver}
-use Rattle.segments.specs.Setting.{Setting}
-use Rattle.segments.proofs.WalkLemmas.{none_or_value}
 use Rattle.segments.proofs.FixedWriteLemmas.{ArePages, journal_of}
 use Rattle.segments.proofs.FixedCutLemmas.{empty_sealed}
 

@@ -20,15 +20,15 @@ use Rattle.sealed_pages.proofs.Holding.{fit_size}
 use Rattle.sealed_pages.proofs.ReplayLemmas.{covered_none}
 use Rattle.sealed_pages.proofs.UnrecoveredLemmas.{prefix_leaves}
 use Rattle.value_codec.specs.declared.codec.Error as codec
-use Rattle.segments.specs.declared.buffer.SectionBuffer as buffer
-use Rattle.segments.specs.declared.journal.Error.{Error}
-use Rattle.segments.specs.Setting.{Setting}
-use Rattle.segments.specs.Sections.{key_of, IsHeld}
-use Rattle.segments.specs.Refusing.{HasFailed}
+use Rattle.section_manager.specs.declared.buffer.SectionBuffer as buffer
+use Rattle.section_manager.specs.declared.journal.Error.{Error}
+use Rattle.section_manager.specs.Setting.{Setting}
+use Rattle.section_manager.specs.Sections.{key_of, IsHeld}
+use Rattle.section_manager.specs.Refusing.{HasFailed}
+use Rattle.section_manager.specs.SealedLaws.{not_both}
 use Rattle.segments.specs.FixedLists.{size_held, section_size, IsProven}
 use Rattle.segments.specs.FixedReplay.{Place, Walk, IsAhead, IsIn, IsReadWhole, IsLeft, IsSameOrCut, HasSameBytes, IsWalk, StaysStill, Replaying, StandsIn, ReadsIn, kept_of, kept_bytes, first_of}
 use Rattle.segments.specs.FixedStepping.{reads_left, way_of, sections_ahead, bytes_ahead, OnlySections, Touches, IsFlushed, BeginsOver, Steps}
-use Rattle.segments.specs.SealedLaws.{not_both}
 use Rattle.segments.proofs.FixedCounts.{count_here, count_ahead}
 use Rattle.segments.proofs.FixedEnding.{IsNext, next_after, next_from, ahead_from, next_back, fewer_ahead, nearer_begun}
 use Rattle.segments.proofs.FixedReading.{the_some, here}

@@ -9,22 +9,22 @@ use Rattle.blob_device.specs.declared.device.Device as device
 use Rattle.sealed_pages.specs.Reading.{Unchanged}
 use Rattle.sealed_pages.specs.declared.page_blob.PageBlob.{PageBlob}
 use Rattle.sealed_pages.specs.declared.pages.Pages.{Pages}
+use Rattle.section_manager.specs.Lasting.{IsSettling}
+use Rattle.section_manager.specs.Refusing.{HasFailed, HasNoRoom, IsForeign, IsOpenedTooLong}
+use Rattle.section_manager.specs.Sections.{Sections, section_key, IsHeld, IsOver}
+use Rattle.section_manager.specs.Setting.{Setting}
+use Rattle.section_manager.specs.declared.buffer.SectionBuffer as buffer
+use Rattle.section_manager.specs.declared.journal.Error.{Error}
+use Rattle.section_manager.specs.declared.journal.Error.TheVariants.{InvalidBlobName, Mem}
+use Rattle.section_manager.specs.declared.sealed.AppendFactory.{AppendFactory}
+use Rattle.section_manager.specs.declared.unopened.Unopened.TheVariants.{Section, Leftover}
+use Rattle.section_manager.proofs.InitLemmas.{settling_start}
 use Rattle.segments.specs.FixedLists.{Lists, floor_in, section_size}
 use Rattle.segments.specs.FixedOpens.{Opens}
-use Rattle.segments.specs.Lasting.{IsSettling}
-use Rattle.segments.specs.Refusing.{HasFailed, HasNoRoom, IsForeign, IsOpenedTooLong}
-use Rattle.segments.specs.Sections.{Sections, section_key, IsHeld, IsOver}
-use Rattle.segments.specs.Setting.{Setting}
-use Rattle.segments.specs.declared.buffer.SectionBuffer as buffer
-use Rattle.segments.specs.declared.journal.Error.{Error}
-use Rattle.segments.specs.declared.journal.Error.TheVariants.{InvalidBlobName, Mem}
-use Rattle.segments.specs.declared.sealed.AppendFactory.{AppendFactory}
-use Rattle.segments.specs.declared.unopened.Unopened.TheVariants.{Section, Leftover}
 use Rattle.segments.proofs.FixedCutLemmas.{no_rest}
 use Rattle.segments.proofs.FixedOpenLemmas.{no_floor, above_ceiling, opened_cause, opened_journal, opened_bytes}
 use Rattle.segments.proofs.FixedPassing.{error_back, no_error}
 use Rattle.segments.proofs.FixedWriteLemmas.{ArePages}
-use Rattle.segments.proofs.InitLemmas.{settling_start}
 use Rattle.sealed_pages.proofs.Looking.{unchanged_start}
 
 none_of : {T : Type 0} (o : Option T) → (IsSome o → ⊥) → o ≡ None

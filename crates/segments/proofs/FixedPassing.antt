@@ -5,13 +5,13 @@ use Rattle.blob_device.proofs.Results.{err_with}
 use Rattle.sealed_pages.specs.Buffer.{Buffer}
 use Rattle.sealed_pages.specs.Shown.{shown}
 use Rattle.sealed_pages.specs.declared.page_blob.PageBlob.{PageBlob}
-use Rattle.segments.specs.declared.journal.Error.{Error}
-use Rattle.segments.specs.declared.journal.Error.TheVariants.{InvalidBlobName, Corruption, Codec, Mem}
-use Rattle.segments.specs.declared.journal.Damage.{Damage}
+use Rattle.section_manager.specs.declared.journal.Error.{Error}
+use Rattle.section_manager.specs.declared.journal.Error.TheVariants.{InvalidBlobName, Corruption, Codec, Mem}
+use Rattle.section_manager.specs.declared.journal.Damage.{Damage}
 use Rattle.value_codec.specs.declared.codec.Error as codec
+use Rattle.section_manager.specs.Refusing.{IsPruned, HasDamage, HasFailed, HasNoRoom}
 use Rattle.segments.proofs.FixedReading.{failed_since}
 use Rattle.segments.specs.FixedLists.{shown_held}
-use Rattle.segments.specs.Refusing.{IsPruned, HasDamage, HasFailed, HasNoRoom}
 
 -- nothing is said of the value of a call that failed
 pub no_value : {T E : Type 0} (P : T → Type 0) (r : Result T E) → IsErr r → IfOk r P

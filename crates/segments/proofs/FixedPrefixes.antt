@@ -7,11 +7,11 @@ use Rattle.sealed_pages.specs.Buffer.{size_of}
 use Rattle.sealed_pages.specs.SealedPrefix.{sealed_prefix}
 use Rattle.sealed_pages.specs.Shown.{shown}
 use Rattle.sealed_pages.specs.declared.page_blob.PageBlob.{PageBlob}
-use Rattle.segments.specs.Sections.{Sections, key_of}
-use Rattle.segments.specs.declared.journal.Damage.{Damage}
-use Rattle.segments.specs.declared.journal.Error.{Error}
-use Rattle.segments.specs.declared.journal.Error.TheVariants.{Corruption}
-use Rattle.segments.proofs.WalkLemmas.{has_value, some_same}
+use Rattle.section_manager.specs.Sections.{Sections, key_of}
+use Rattle.section_manager.specs.declared.journal.Damage.{Damage}
+use Rattle.section_manager.specs.declared.journal.Error.{Error}
+use Rattle.section_manager.specs.declared.journal.Error.TheVariants.{Corruption}
+use Rattle.section_manager.proofs.WalkLemmas.{has_value, some_same}
 
 module _ {F S : Type 0} {gs : _} (seal : List ℕ → ℕ) (m : Sections F (PageBlob S gs)) (section size kept : ℕ) (u : PageBlob S gs) (held : m.held section ≡ Some u) (d : Disk)
     (key : pages.key_of (shown u) ≡ key_of m section) (is : kept ≡ min size (length (sealed_prefix seal u.page_size (d (pages.key_of (shown u))).content))) where

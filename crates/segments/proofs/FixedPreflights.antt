@@ -12,25 +12,25 @@ use Rattle.sealed_pages.specs.declared.pages.Pages.{Pages}
 use Rattle.sealed_pages.proofs.Looking.{unchanged_start}
 use Rattle.sealed_pages.specs.declared.page_blob.PageBlob.{PageBlob}
 use Rattle.value_codec.specs.declared.codec.Error as codec
-use Rattle.segments.specs.Answers.{RefusesNames}
+use Rattle.section_manager.specs.Answers.{RefusesNames}
+use Rattle.section_manager.specs.Lasting.{IsSettling}
+use Rattle.section_manager.specs.Refusing.{HasFailed, HasNoRoom, IsForeign, IsOpenedTooLong}
+use Rattle.section_manager.specs.Sections.{Sections, section_key, key_of, IsHeld, IsOver}
+use Rattle.section_manager.specs.Setting.{Setting}
+use Rattle.section_manager.specs.declared.buffer.SectionBuffer as buffer
+use Rattle.section_manager.specs.declared.journal.Damage.{Damage}
+use Rattle.section_manager.specs.declared.journal.Error.{Error}
+use Rattle.section_manager.specs.declared.journal.Error.TheVariants.{Codec, Corruption, InvalidBlobName, Mem}
+use Rattle.section_manager.specs.declared.sealed.AppendFactory.{AppendFactory}
+use Rattle.section_manager.proofs.InitLemmas.{settling_start}
 use Rattle.segments.specs.FixedBounds.{whole_of}
 use Rattle.segments.specs.FixedCheckpoint.{boundary_at, IsUnder, IsRefused, IsKept, IsPassed, IsRefusedItem, HasCome, Looks, Checks}
 use Rattle.segments.specs.FixedFloors.{Floors, AreAdopted}
-use Rattle.segments.specs.Lasting.{IsSettling}
-use Rattle.segments.specs.Refusing.{HasFailed, HasNoRoom, IsForeign, IsOpenedTooLong}
-use Rattle.segments.specs.Sections.{Sections, section_key, key_of, IsHeld, IsOver}
-use Rattle.segments.specs.Setting.{Setting}
-use Rattle.segments.specs.declared.buffer.SectionBuffer as buffer
-use Rattle.segments.specs.declared.journal.Damage.{Damage}
-use Rattle.segments.specs.declared.journal.Error.{Error}
-use Rattle.segments.specs.declared.journal.Error.TheVariants.{Codec, Corruption, InvalidBlobName, Mem}
-use Rattle.segments.specs.declared.sealed.AppendFactory.{AppendFactory}
 use Rattle.segments.proofs.FixedAsBefore.{ReadsAs, under_same, under_back, refused_same, item_same, passed_same, kept_none}
 use Rattle.segments.proofs.FixedChecking.{boundary_own}
 use Rattle.segments.proofs.FixedFloorLemmas.{AreOpened, adopted_now, held_now, content_now, there_now, was_there, not_damaged, not_coded}
 use Rattle.segments.proofs.FixedWriteLemmas.{ArePages}
 use Rattle.segments.proofs.FixedPassing.{failed_on, opening_on, error_back, checked_on, checked_named, checked_room, no_error}
-use Rattle.segments.proofs.InitLemmas.{settling_start}
 
 -- after an opening that settles, each blob reads as before
 pub reads_as : (seal : List ℕ → ℕ) (P size : ℕ) (p : List ℕ) (at bytes : ℕ) (from now : Timeline) → Always from now (Each (IsSettling p at (disk from))) → ReadsAs seal P size p at bytes (disk now) (disk from)

@@ -8,9 +8,9 @@ use Rattle.blob_device.specs.Opened.{OpenedList}
 use Rattle.sealed_pages.specs.declared.page_blob.PageBlob.{PageBlob}
 use Rattle.sealed_pages.specs.Buffer.{IsSealed}
 use Rattle.sealed_pages.specs.Shown.{shown}
-use Rattle.segments.specs.declared.buffer.SectionBuffer as buffer
-use Rattle.segments.specs.Setting.{Setting}
-use Rattle.segments.specs.Sections.{key_of, IsKnown, IsGone, IsSame, IsKeyOf, SamePlace, IsOver}
+use Rattle.section_manager.specs.declared.buffer.SectionBuffer as buffer
+use Rattle.section_manager.specs.Setting.{Setting}
+use Rattle.section_manager.specs.Sections.{key_of, IsKnown, IsGone, IsSame, IsKeyOf, SamePlace, IsOver}
 use Rattle.segments.specs.FixedLists.{Lists, IsJournal}
 use Rattle.segments.proofs.FixedSections.{is_held}
 use Rattle.segments.proofs.FixedWriteLemmas.{proven_back}

@@ -9,21 +9,21 @@ use Rattle.blob_device.specs.declared.device.Device as device
 use Rattle.sealed_pages.specs.Buffer.{size_of}
 use Rattle.sealed_pages.specs.Shown.{shown}
 use Rattle.sealed_pages.specs.declared.page_blob.PageBlob.{PageBlob}
-use Rattle.segments.specs.Answers.{seen}
+use Rattle.section_manager.specs.Answers.{seen}
+use Rattle.section_manager.specs.Refusing.{HasDamage, HasFailed, IsPruned}
+use Rattle.section_manager.specs.Sealed.{is_unsettled}
+use Rattle.section_manager.specs.Sections.{key_of, IsCut}
+use Rattle.section_manager.specs.Setting.{Setting}
+use Rattle.section_manager.specs.declared.buffer.SectionBuffer as buffer
+use Rattle.section_manager.specs.declared.journal.Error.{Error}
+use Rattle.section_manager.proofs.WalkLemmas.{value_of, some_same, none_or_value}
 use Rattle.segments.specs.FixedBounds.{IsTailCut, CutsTail}
 use Rattle.segments.specs.FixedCheckpoint.{IsReady, IsRestored, Restores, Finishes}
 use Rattle.segments.specs.FixedLists.{Lists, section_size, size_held, IsJournal}
-use Rattle.segments.specs.Refusing.{HasDamage, HasFailed, IsPruned}
-use Rattle.segments.specs.Sealed.{is_unsettled}
-use Rattle.segments.specs.Sections.{key_of, IsCut}
-use Rattle.segments.specs.Setting.{Setting}
-use Rattle.segments.specs.declared.buffer.SectionBuffer as buffer
 use Rattle.segments.specs.declared.fixed.preflighting.Target.{Target}
-use Rattle.segments.specs.declared.journal.Error.{Error}
 use Rattle.segments.proofs.FixedCutLemmas.{empty_sealed}
 use Rattle.segments.proofs.FixedPassing.{no_error}
 use Rattle.segments.proofs.FixedWriteLemmas.{ArePages, journal_of}
-use Rattle.segments.proofs.WalkLemmas.{value_of, some_same, none_or_value}
 
 module _ {F S : Type 0} {gs : _} (g : buffer.Ghosts (PageBlob S gs)) (gives : F → Setting) (seal : List ℕ → ℕ) (size : ℕ) (told : Type 0) (pages : ArePages g seal)
     (j : Lists F (PageBlob S gs)) (t : Target) (before opened : OpenedList) (from d : Disk) (ready : IsReady g gives seal size told j t before from)

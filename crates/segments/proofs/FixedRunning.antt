@@ -10,15 +10,17 @@ use Rattle.sealed_pages.specs.declared.page_blob.PageBlob.{PageBlob}
 use Rattle.sealed_pages.specs.Shown.{shown}
 use Rattle.sealed_pages.specs.Buffer.{size_of, bytes_of}
 use Rattle.value_codec.specs.declared.codec.Error as codec
-use Rattle.segments.specs.declared.buffer.SectionBuffer as buffer
-use Rattle.segments.specs.declared.journal.Error.{Error}
-use Rattle.segments.specs.declared.journal.Damage.{Damage}
+use Rattle.section_manager.specs.declared.buffer.SectionBuffer as buffer
+use Rattle.section_manager.specs.declared.journal.Error.{Error}
+use Rattle.section_manager.specs.declared.journal.Damage.{Damage}
 use Rattle.blob_device.specs.declared.runtime.RError.TheVariants.{InvalidChecksum}
-use Rattle.segments.specs.declared.journal.Error.TheVariants.{ItemOutOfRange, Runtime, Codec, Corruption}
-use Rattle.segments.specs.Setting.{Setting}
-use Rattle.segments.specs.Sections.{section_key, key_of, IsHeld, IsKeyOf}
+use Rattle.section_manager.specs.declared.journal.Error.TheVariants.{ItemOutOfRange, Runtime, Codec, Corruption}
+use Rattle.section_manager.specs.Setting.{Setting}
+use Rattle.section_manager.specs.Sections.{section_key, key_of, IsHeld, IsKeyOf}
+use Rattle.section_manager.specs.Refusing.{HasFailed, HasDamage}
+use Rattle.section_manager.specs.Sealed.{is_unsettled}
+use Rattle.section_manager.specs.SealedLaws.{all_settled}
 use Rattle.segments.specs.FixedItems.{item_at, IsItem}
-use Rattle.segments.specs.Refusing.{HasFailed, HasDamage}
 use Rattle.segments.specs.FixedReading.{HasNotRead, IsBelowFloor}
 use Rattle.segments.specs.FixedLists.{section_size}
 use Rattle.segments.specs.FixedReplay.{Walk, IsAhead, IsIn, IsLeft, IsDrained, SameWalk, SameItems, IsSameOrCut, KeepsSections, KeepsFloors, KeepsBytes, KeepsItems, HasWalk, IsWalk, Gives, Refuses, IsEndedAt, Stops, IsCutting, Replaying, LeavesNoMore, EndsBelow, EndsDamaged, kept_bytes}
@@ -26,8 +28,6 @@ use Rattle.segments.specs.FixedStepping.{failing, way_of, reads_left, ReadsOnce,
 use Rattle.segments.proofs.FixedStopping.{ended_back, ended_failing}
 use Rattle.segments.proofs.FixedOwed.{same_items, items_then, same_or_cut, cut_then}
 use Rattle.segments.proofs.FixedReading.{not_read_since, failed_since}
-use Rattle.segments.specs.Sealed.{is_unsettled}
-use Rattle.segments.specs.SealedLaws.{all_settled}
 use Rattle.segments.proofs.FixedWalks.{is_some, same_some, some_of, same_bytes, none_in, in_section}
 use Rattle.segments.proofs.FixedWriteLemmas.{settled_idle}
 use Rattle.segments.proofs.FixedWalksOn.{replaying_start}

@@ -11,12 +11,12 @@ use Rattle.sealed_pages.specs.Held.{AreHeldOf}
 use Rattle.sealed_pages.specs.Reading.{OnlyRead}
 use Rattle.sealed_pages.specs.Shown.{shown}
 use Rattle.sealed_pages.proofs.WholeLemmas.{whole_read}
-use Rattle.segments.specs.declared.buffer.SectionBuffer as buffer
-use Rattle.segments.specs.Setting.{Setting}
-use Rattle.segments.specs.Sections.{Sections, key_of, IsHeld, HasOpened}
+use Rattle.section_manager.specs.declared.buffer.SectionBuffer as buffer
+use Rattle.section_manager.specs.Setting.{Setting}
+use Rattle.section_manager.specs.Sections.{Sections, key_of, IsHeld, HasOpened}
+use Rattle.section_manager.proofs.WalkLemmas.{value_of, some_same}
 use Rattle.segments.specs.FixedLists.{Lists, section_bytes, section_size, IsProven, IsJournal}
 use Rattle.segments.specs.FixedReading.{IsDamaged}
-use Rattle.segments.proofs.WalkLemmas.{value_of, some_same}
 
 module _ {F S : Type 0} {gs : _} (m : Sections F (PageBlob S gs)) (s : ℕ) (u : PageBlob S gs) (held : m.held s ≡ Some u) where
   pub size_here : section_size m s ≡ size_of (shown u)

@@ -11,14 +11,14 @@ use Rattle.sealed_pages.specs.Shown.{shown}
 use Rattle.sealed_pages.specs.declared.page_blob.PageBlob.{PageBlob}
 use Rattle.sealed_pages.proofs.Holding.{bytes_length}
 use Rattle.sealed_pages.proofs.Truncating.{all_flushed}
+use Rattle.section_manager.specs.Sections.{key_of}
+use Rattle.section_manager.specs.Setting.{Setting}
+use Rattle.section_manager.specs.declared.buffer.SectionBuffer as buffer
+use Rattle.section_manager.specs.declared.journal.Error.{Error}
 use Rattle.segments.specs.FixedCursor.{MayBeShortened}
 use Rattle.segments.specs.FixedLists.{size_held}
 use Rattle.segments.specs.FixedReplay.{Walk, IsAhead, IsWalk}
 use Rattle.segments.specs.FixedStepping.{failing, OnlySections, Touches, IsCutBack}
-use Rattle.segments.specs.Sections.{key_of}
-use Rattle.segments.specs.Setting.{Setting}
-use Rattle.segments.specs.declared.buffer.SectionBuffer as buffer
-use Rattle.segments.specs.declared.journal.Error.{Error}
 use Rattle.segments.proofs.FixedEnding.{ahead_from}
 use Rattle.segments.proofs.FixedKept.{sealed_flushed}
 use Rattle.segments.proofs.FixedWalks.{IsBehind, OnlyOne, blob_other, key_new, none_in}

@@ -2,8 +2,8 @@
 use Rattle.std.proofs.Common.{◌≡◌, ◌∙◌, ℕ, Option, None, Some, refl}
 use Rattle.blob_device.specs.Disk.{Disk}
 use Rattle.sealed_pages.specs.declared.page_blob.PageBlob.{PageBlob}
+use Rattle.section_manager.specs.Sections.{Sections, section_key, key_of, IsSame, SameBounds}
 use Rattle.segments.specs.FixedLists.{bytes_held, section_bytes}
-use Rattle.segments.specs.Sections.{Sections, section_key, key_of, IsSame, SameBounds}
 
 -- A section that is held as before, over a blob as before, has the bytes that it had.
 pub bytes_spared : {F S : Type 0} {gs : _} (m n : Sections F (PageBlob S gs)) (d e : Disk) (s : ℕ)

@@ -9,19 +9,19 @@ use Rattle.sealed_pages.specs.declared.page_blob.PageBlob.{PageBlob}
 use Rattle.sealed_pages.specs.Shown.{shown}
 use Rattle.sealed_pages.specs.Buffer.{size_of}
 use Rattle.value_codec.specs.declared.codec.Error as codec
-use Rattle.segments.specs.declared.buffer.SectionBuffer as buffer
-use Rattle.segments.specs.declared.journal.Error.{Error}
-use Rattle.segments.specs.declared.journal.Damage.{Damage}
+use Rattle.section_manager.specs.declared.buffer.SectionBuffer as buffer
+use Rattle.section_manager.specs.declared.journal.Error.{Error}
+use Rattle.section_manager.specs.declared.journal.Damage.{Damage}
 use Rattle.blob_device.specs.declared.runtime.RError.TheVariants.{InvalidChecksum}
-use Rattle.segments.specs.declared.journal.Error.TheVariants.{ItemOutOfRange, Runtime, Codec, Corruption}
-use Rattle.segments.specs.Setting.{Setting}
-use Rattle.segments.specs.Sections.{key_of, IsHeld, IsKeyOf, IsOver}
-use Rattle.segments.specs.Refusing.{HasFailed, HasDamage}
+use Rattle.section_manager.specs.declared.journal.Error.TheVariants.{ItemOutOfRange, Runtime, Codec, Corruption}
+use Rattle.section_manager.specs.Setting.{Setting}
+use Rattle.section_manager.specs.Sections.{key_of, IsHeld, IsKeyOf, IsOver}
+use Rattle.section_manager.specs.Refusing.{HasFailed, HasDamage}
+use Rattle.section_manager.proofs.sections.KeyLemmas.{keys_differ}
 use Rattle.segments.specs.FixedReading.{HasNotRead, IsBelowFloor}
 use Rattle.segments.specs.FixedLists.{size_held, section_size}
 use Rattle.segments.specs.FixedReplay.{Place, Walk, IsAhead, IsIn, IsLeft, SameItems, IsSameOrCut, KeepsSections, KeepsFloors, KeepsItems, HasSameBytes, KeepsBytes, IsWalk, Refuses, IsEndedAt, IsCutting, Replaying, LeavesNoMore, EndsBelow, EndsDamaged, kept_bytes}
 use Rattle.segments.specs.FixedStepping.{word, sections_ahead, bytes_ahead, way_of, reads_left, ReadsOnce, GoesOn, Steps}
-use Rattle.segments.proofs.sections.KeyLemmas.{keys_differ}
 use Rattle.segments.proofs.FixedCounts.{count_other, count_over}
 use Rattle.segments.proofs.FixedKept.{short_item}
 use Rattle.segments.proofs.FixedOwed.{same_items, same_or_cut}

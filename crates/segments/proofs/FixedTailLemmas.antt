@@ -12,19 +12,19 @@ use Rattle.sealed_pages.specs.SealedPrefix.{sealed_prefix}
 use Rattle.sealed_pages.specs.Shown.{shown}
 use Rattle.sealed_pages.specs.Unrecovered.{IsAdopted}
 use Rattle.sealed_pages.specs.declared.page_blob.PageBlob.{PageBlob}
-use Rattle.segments.specs.Answers.{seen}
+use Rattle.section_manager.specs.Answers.{seen}
+use Rattle.section_manager.specs.Lasting.{Truncating}
+use Rattle.section_manager.specs.Sections.{key_of, IsKnown, IsKeyOf, IsGone, IsSame, SamePlace, IsOver, IsCut}
+use Rattle.section_manager.specs.Setting.{Setting}
+use Rattle.section_manager.specs.declared.buffer.SectionBuffer as buffer
+use Rattle.section_manager.specs.declared.journal.Error.{Error}
+use Rattle.section_manager.proofs.WalkLemmas.{value_of, has_value, some_same, none_or_value}
 use Rattle.segments.specs.FixedBounds.{CuttingTail, CutsTail}
 use Rattle.segments.specs.FixedLists.{Lists, IsJournal}
-use Rattle.segments.specs.Lasting.{Truncating}
-use Rattle.segments.specs.Sections.{key_of, IsKnown, IsKeyOf, IsGone, IsSame, SamePlace, IsOver, IsCut}
-use Rattle.segments.specs.Setting.{Setting}
-use Rattle.segments.specs.declared.buffer.SectionBuffer as buffer
-use Rattle.segments.specs.declared.journal.Error.{Error}
 use Rattle.segments.proofs.FixedCutLemmas.{settled_front}
 use Rattle.segments.proofs.FixedRemoveLemmas.{same_number}
 use Rattle.segments.proofs.FixedSections.{is_held}
 use Rattle.segments.proofs.FixedWriteLemmas.{ArePages, IsFine, fine_of, journal_of, leaves_sealed, leaves_front, proven_back}
-use Rattle.segments.proofs.WalkLemmas.{value_of, has_value, some_same, none_or_value}
 
 module _ {F S : Type 0} {gs : _} (seal : List ℕ → ℕ) (size : ℕ) (told : Type 0) (g : buffer.Ghosts (PageBlob S gs)) (pages : ArePages g seal) (gives : F → Setting)
     (j : Lists F (PageBlob S gs)) (old : OpenedList) (a b : Timeline) (journal : IsJournal g gives seal size told j old (disk a)) (s n : ℕ) where

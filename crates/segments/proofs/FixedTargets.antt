@@ -14,24 +14,24 @@ use Rattle.sealed_pages.specs.Shown.{shown}
 use Rattle.sealed_pages.specs.declared.page_blob.PageBlob.{PageBlob}
 use Rattle.sealed_pages.proofs.Looking.{unchanged_now, unchanged_start, unchanged_then}
 use Rattle.value_codec.specs.declared.codec.Error as codec
+use Rattle.section_manager.specs.Refusing.{HasFailed}
+use Rattle.section_manager.specs.Sections.{Sections, section_key, key_of, IsHeld, IsOver}
+use Rattle.section_manager.specs.Setting.{Setting}
+use Rattle.section_manager.specs.declared.buffer.SectionBuffer as buffer
+use Rattle.section_manager.specs.declared.journal.Damage.{Damage}
+use Rattle.section_manager.specs.declared.journal.Error.{Error}
+use Rattle.section_manager.specs.declared.journal.Error.TheVariants.{Codec, Corruption, Mem}
+use Rattle.section_manager.proofs.WalkLemmas.{value_of, has_value, none_or_value}
 use Rattle.segments.specs.FixedCheckpoint.{boundary_at, IsUnder, IsRefused, IsPassed, IsShown, HasCome, Looks}
 use Rattle.segments.specs.FixedFloors.{Floors, AreAdopted}
 use Rattle.segments.specs.FixedLists.{section_size, size_held}
-use Rattle.segments.specs.Refusing.{HasFailed}
-use Rattle.segments.specs.Sections.{Sections, section_key, key_of, IsHeld, IsOver}
-use Rattle.segments.specs.Setting.{Setting}
-use Rattle.segments.specs.declared.buffer.SectionBuffer as buffer
 use Rattle.segments.specs.declared.fixed.preflighting.Target.{Target}
-use Rattle.segments.specs.declared.journal.Damage.{Damage}
-use Rattle.segments.specs.declared.journal.Error.{Error}
-use Rattle.segments.specs.declared.journal.Error.TheVariants.{Codec, Corruption, Mem}
 use Rattle.segments.proofs.FixedChecking.{Adds, come_add, come_one, Answers, boundary_own, passes_below, looks_one}
 use Rattle.segments.proofs.FixedCutLemmas.{no_rest}
 use Rattle.segments.proofs.FixedPassing.{no_error, failed_on}
 use Rattle.segments.proofs.FixedReading.{failed_since}
 use Rattle.segments.proofs.FixedSections.{opened_read}
 use Rattle.segments.proofs.FixedWriteLemmas.{ArePages}
-use Rattle.segments.proofs.WalkLemmas.{value_of, has_value, none_or_value}
 
 module _ {A D F S T : Type 0} {gs : _} (seal : List ℕ → ℕ) (P size : ℕ) (at bytes : ℕ) (spelling : A → List ℕ) (accepted : A → Unit {0} → Type 0)
     (refusal : List ℕ → Unit {0} → Option codec.Error) (dev : device.Ghosts D) (g : buffer.Ghosts (PageBlob S gs)) (gives : F → Setting) (m : Sections F (PageBlob S gs))

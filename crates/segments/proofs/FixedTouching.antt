@@ -5,14 +5,14 @@ use Rattle.blob_device.specs.Disk.{Key}
 use Rattle.blob_device.specs.Opened.{OpenedList}
 use Rattle.blob_device.specs.Timeline.{Timeline, disk}
 use Rattle.sealed_pages.specs.Entries.{IsOpenAt}
-use Rattle.segments.specs.declared.buffer.SectionBuffer as buffer
-use Rattle.segments.specs.declared.journal.Error.{Error}
-use Rattle.segments.specs.Entries.{OnlyOwnEntry}
-use Rattle.segments.specs.Setting.{Setting}
-use Rattle.segments.specs.Sections.{Sections, key_of, IsHeld, IsSame, SameBounds, IsOver}
+use Rattle.section_manager.specs.declared.buffer.SectionBuffer as buffer
+use Rattle.section_manager.specs.declared.journal.Error.{Error}
+use Rattle.section_manager.specs.Entries.{OnlyOwnEntry}
+use Rattle.section_manager.specs.Setting.{Setting}
+use Rattle.section_manager.specs.Sections.{Sections, key_of, IsHeld, IsSame, SameBounds, IsOver}
+use Rattle.section_manager.proofs.sections.OverLemmas.{over_changed, same_key}
 use Rattle.segments.specs.FixedStepping.{Touches}
 use Rattle.segments.proofs.FixedWalks.{is_some, same_some}
-use Rattle.segments.proofs.sections.OverLemmas.{over_changed, same_key}
 
 module _ {F B : Type 0} (g : buffer.Ghosts B) (gives : F → Setting) {told : Type 0} (m n : Sections F B) (s : ℕ) (u : B) (held : m.held s ≡ Some u) (before after : OpenedList) (a b : Timeline)
     (over : IsOver g gives told m before (disk a)) (bounds : SameBounds m n) (others : (q : ℕ) → q ≢ s → IsSame m n q)

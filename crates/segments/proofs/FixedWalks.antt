@@ -9,9 +9,9 @@ use Rattle.sealed_pages.specs.Buffer.{size_of, bytes_of, IsSealed}
 use Rattle.sealed_pages.specs.ChanceSeal.{Leaves}
 use Rattle.sealed_pages.specs.SealedPrefix.{sealed_prefix}
 use Rattle.sealed_pages.specs.Unrecovered.{IsUnrecovered}
-use Rattle.segments.specs.Sections.{section_key, key_of, IsHeld, IsKeyOf, IsSame}
+use Rattle.section_manager.specs.Sections.{section_key, key_of, IsHeld, IsKeyOf, IsSame}
+use Rattle.section_manager.proofs.sections.KeyLemmas.{keys_differ}
 use Rattle.segments.specs.FixedReplay.{Place, Walk, IsAhead, IsIn, IsReadWhole, IsLeft, first_of, kept_of, kept_bytes, SameWalk, HasSameBytes, StaysStill, Replaying}
-use Rattle.segments.proofs.sections.KeyLemmas.{keys_differ}
 
 pub some_of : {A : Type 0} → (o : Option A) → IsSome o → (v : A) × (o ≡ Some v)
 some_of None has = absurd (cc has)

@@ -14,13 +14,13 @@ use Rattle.sealed_pages.specs.SealedPrefix.{sealed_prefix}
 use Rattle.sealed_pages.specs.Unrecovered.{IsUnrecovered}
 use Rattle.sealed_pages.proofs.Holding.{holds_leaves}
 use Rattle.sealed_pages.proofs.UnrecoveredLemmas.{prefix_leaves, unrecovered_prefix}
-use Rattle.segments.specs.declared.buffer.SectionBuffer as buffer
-use Rattle.segments.specs.Setting.{Setting}
-use Rattle.segments.specs.Sections.{key_of, IsHeld, IsOver}
+use Rattle.section_manager.specs.declared.buffer.SectionBuffer as buffer
+use Rattle.section_manager.specs.Setting.{Setting}
+use Rattle.section_manager.specs.Sections.{key_of, IsHeld, IsOver}
+use Rattle.section_manager.proofs.sections.KeyLemmas.{key_injective}
 use Rattle.segments.specs.FixedLists.{IsProven}
 use Rattle.segments.specs.FixedReplay.{Place, Walk, IsAhead, IsIn, IsReadWhole, SameWalk, StandsIn, ReadsIn, IsGoneOver, HasWalk, WalksOver, IsWalk, StaysStill, Replaying}
 use Rattle.segments.specs.FixedStepping.{failing}
-use Rattle.segments.proofs.sections.KeyLemmas.{key_injective}
 use Rattle.segments.proofs.FixedWalks.{OnlyOne, IsBehind, IsReached, MayCut, MayFlush, MayFront, is_some, same_some, none_in, blob_other, held_on, reads_back}
 use Rattle.segments.proofs.FixedWriteLemmas.{proven_back}
 

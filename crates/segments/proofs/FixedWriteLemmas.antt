@@ -14,18 +14,18 @@ use Rattle.sealed_pages.specs.Held.{AreHeldOf}
 use Rattle.sealed_pages.specs.SealedPrefix.{sealed_prefix, Prefix}
 use Rattle.sealed_pages.specs.Unrecovered.{IsUnrecovered}
 use Rattle.sealed_pages.specs.Shown.{shown}
-use Rattle.segments.specs.contracts.sealed.PageBlobSectionBuffer.TheImpl.{ghosts}
-use Rattle.segments.specs.declared.buffer.SectionBuffer as buffer
+use Rattle.section_manager.specs.contracts.sealed.PageBlobSectionBuffer.TheImpl.{ghosts}
+use Rattle.section_manager.specs.declared.buffer.SectionBuffer as buffer
+use Rattle.section_manager.specs.Lasting.{IsUnsettled, Syncing}
+use Rattle.section_manager.specs.Leaving.{Leaves}
+use Rattle.section_manager.specs.Sealed.{is_unsettled, adopted_bytes, Stands, MayKeep}
+use Rattle.section_manager.specs.Sections.{Sections, key_of, IsHeld, IsSame, SameBounds, IsOver, IsSynced}
+use Rattle.section_manager.specs.Setting.{Setting}
+use Rattle.section_manager.proofs.sections.KeyLemmas.{key_injective}
+use Rattle.section_manager.proofs.sections.OverLemmas.{same_key}
+use Rattle.section_manager.proofs.WalkLemmas.{value_of, has_value, some_same, none_or_value}
 use Rattle.segments.specs.FixedLasting.{Settling}
 use Rattle.segments.specs.FixedLists.{Lists, section_bytes, section_size, IsJournal, IsProven}
-use Rattle.segments.specs.Lasting.{IsUnsettled, Syncing}
-use Rattle.segments.specs.Leaving.{Leaves}
-use Rattle.segments.specs.Sealed.{is_unsettled, adopted_bytes, Stands, MayKeep}
-use Rattle.segments.specs.Sections.{Sections, key_of, IsHeld, IsSame, SameBounds, IsOver, IsSynced}
-use Rattle.segments.specs.Setting.{Setting}
-use Rattle.segments.proofs.sections.KeyLemmas.{key_injective}
-use Rattle.segments.proofs.sections.OverLemmas.{same_key}
-use Rattle.segments.proofs.WalkLemmas.{value_of, has_value, some_same, none_or_value}
 
 -- The buffers are page blobs under this seal.
 pub record ArePages {S : Type 0} {gs : _} (g : buffer.Ghosts (PageBlob S gs)) (seal : List ℕ → ℕ) : Type 0 where

@@ -8,13 +8,13 @@ use Rattle.sealed_pages.specs.declared.page_blob.PageBlob.{PageBlob}
 use Rattle.sealed_pages.specs.declared.write_blob.WriteBlob.{WriteBlob}
 use Rattle.sealed_pages.specs.Shown.{shown}
 use Rattle.sealed_pages.proofs.HadLemmas.{adopted_had}
-use Rattle.segments.specs.contracts.unsealed.WriteBlobSectionBuffer.TheImpl as write_blob
-use Rattle.segments.specs.declared.buffer.SectionBuffer as buffer
+use Rattle.section_manager.specs.contracts.unsealed.WriteBlobSectionBuffer.TheImpl as write_blob
+use Rattle.section_manager.specs.declared.buffer.SectionBuffer as buffer
+use Rattle.section_manager.specs.Sealed as sealed
+use Rattle.section_manager.specs.Sections.{Sections, key_of, IsOver}
+use Rattle.section_manager.specs.Setting.{Setting}
+use Rattle.section_manager.specs.unsealed.Buffer as unsealed
 use Rattle.segments.specs.FixedLists.{Lists, IsJournal}
-use Rattle.segments.specs.Sealed as sealed
-use Rattle.segments.specs.Sections.{Sections, key_of, IsOver}
-use Rattle.segments.specs.Setting.{Setting}
-use Rattle.segments.specs.unsealed.Buffer as unsealed
 use Rattle.segments.proofs.FixedWriteLemmas.{ArePages}
 
 -- under a buffer whose pages carry seals

@@ -1,8 +1,3 @@
-pub mod buffers
-pub mod Seen
-pub mod sections
-pub mod CountLemmas
-pub mod WalkLemmas
 pub mod FixedHolding
 pub mod FixedKept
 pub mod FixedWalks
@@ -22,8 +17,6 @@ pub mod FixedGoing
 pub mod FixedAdvancing
 pub mod FixedShortening
 pub mod FixedTouching
-pub mod NumberLemmas
-pub mod InitLemmas
 pub mod FixedWriteLemmas
 pub mod FixedCutLemmas
 pub mod FixedAdopted
@@ -42,7 +35,6 @@ pub mod FixedErrorSteps
 pub mod FixedCalls
 pub mod FixedBeginning
 pub mod FixedFloorLemmas
-pub mod TurnLemmas
 pub mod HadLemmas
 pub mod TailLemmas
 pub mod FixedTailLemmas

@@ -3,12 +3,12 @@ use Rattle.std.proofs.Common.{◌≡◌, ◌∙◌, inl, inr, ℕ, false, Option
 use Rattle.sealed_pages.specs.declared.page_blob.PageBlob.{PageBlob}
 use Rattle.sealed_pages.specs.Shown.{shown}
 use Rattle.sealed_pages.specs.Tails.{tail_of, tail_after, LeavesTail}
-use Rattle.segments.specs.declared.sealed.AppendFactory.{AppendFactory}
-use Rattle.segments.specs.Sealed.{is_unsettled}
-use Rattle.segments.specs.SealedLaws.{all_settled}
-use Rattle.segments.specs.Sections.{Sections}
+use Rattle.section_manager.specs.declared.sealed.AppendFactory.{AppendFactory}
+use Rattle.section_manager.specs.Sealed.{is_unsettled}
+use Rattle.section_manager.specs.SealedLaws.{all_settled}
+use Rattle.section_manager.specs.Sections.{Sections}
+use Rattle.section_manager.proofs.WalkLemmas.{none_or_value}
 use Rattle.segments.specs.Tails.{tail_held, tail_size, IsTailAfter}
-use Rattle.segments.proofs.WalkLemmas.{none_or_value}
 
 module _ {S : Type 0} {gs : _} where
   -- a buffer of which all has settled has nothing left to flush

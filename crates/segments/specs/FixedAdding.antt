@@ -10,18 +10,18 @@ use Rattle.sealed_pages.specs.SealedPrefix.{sealed_prefix}
 use Rattle.sealed_pages.specs.Shown.{shown}
 use Rattle.sealed_pages.specs.Unrecovered.{IsUnrecovered, KeepsPrefix}
 use Rattle.sealed_pages.specs.declared.page_blob.PageBlob.{PageBlob}
-use Rattle.segments.specs.Entries.{OnlyOwnEntry}
+use Rattle.section_manager.specs.Entries.{OnlyOwnEntry}
+use Rattle.section_manager.specs.Leaving.{AllMoments}
+use Rattle.section_manager.specs.Refusing.{HasFailed, HasNoRoom, IsPruned}
+use Rattle.section_manager.specs.Sections.{key_of, IsHeld, IsSame, SameBounds}
+use Rattle.section_manager.specs.Setting.{Setting}
+use Rattle.section_manager.specs.declared.buffer.SectionBuffer as buffer
+use Rattle.section_manager.specs.declared.journal.Error.{Error}
+use Rattle.section_manager.specs.declared.journal.Error.TheVariants.{Full, Mem}
+use Rattle.section_manager.specs.declared.sealed.AppendFactory.{AppendFactory}
 use Rattle.segments.specs.FixedLasting.{IsBeginning}
 use Rattle.segments.specs.FixedLists.{Lists, section_bytes, section_size, IsJournal}
-use Rattle.segments.specs.Leaving.{AllMoments}
-use Rattle.segments.specs.Refusing.{HasFailed, HasNoRoom, IsPruned}
-use Rattle.segments.specs.Sections.{key_of, IsHeld, IsSame, SameBounds}
-use Rattle.segments.specs.Setting.{Setting}
 use Rattle.segments.specs.Tails.{IsTailAfter}
-use Rattle.segments.specs.declared.buffer.SectionBuffer as buffer
-use Rattle.segments.specs.declared.journal.Error.{Error}
-use Rattle.segments.specs.declared.journal.Error.TheVariants.{Full, Mem}
-use Rattle.segments.specs.declared.sealed.AppendFactory.{AppendFactory}
 
 module _ {S : Type 0} {gs : _} (j : Lists (AppendFactory S) (PageBlob S gs)) (section : ℕ) where
   -- The section is held, and with n bytes more its blob would pass 2^64, with both slots of its

@@ -16,20 +16,20 @@ use Rattle.sealed_pages.specs.Unrecovered.{IsUnrecovered}
 use Rattle.sealed_pages.specs.declared.page_blob.PageBlob.{PageBlob}
 use Rattle.sealed_pages.specs.declared.pages.Pages.{Pages}
 use Rattle.value_codec.specs.declared.codec.Error as codec
-use Rattle.segments.specs.Answers.{RefusesNames}
+use Rattle.section_manager.specs.Answers.{RefusesNames}
+use Rattle.section_manager.specs.Lasting.{IsGoing, Going}
+use Rattle.section_manager.specs.Refusing.{HasDamage, HasFailed, HasNoRoom, IsOpenedTooLong, IsPruned}
+use Rattle.section_manager.specs.Sealed.{adopted_bytes, is_unsettled}
+use Rattle.section_manager.specs.Sections.{Sections, section_key, key_of, IsCut, IsGone, IsHeld, IsKeyOf, IsKnown, IsSame, SamePlace}
+use Rattle.section_manager.specs.Setting.{Setting}
+use Rattle.section_manager.specs.declared.buffer.SectionBuffer as buffer
+use Rattle.section_manager.specs.declared.journal.Error.{Error}
+use Rattle.section_manager.specs.declared.journal.Error.TheVariants.{Codec, InvalidBlobName, ItemOutOfRange}
+use Rattle.section_manager.specs.declared.sealed.AppendFactory.{AppendFactory}
 use Rattle.segments.specs.FixedItems.{item_at, IsItem}
 use Rattle.segments.specs.FixedLists.{Lists, section_bytes, section_size, IsJournal}
 use Rattle.segments.specs.FixedReading.{IsBelowFloor}
 use Rattle.segments.specs.FixedReplay.{StandsBefore}
-use Rattle.segments.specs.Lasting.{IsGoing, Going}
-use Rattle.segments.specs.Refusing.{HasDamage, HasFailed, HasNoRoom, IsOpenedTooLong, IsPruned}
-use Rattle.segments.specs.Sealed.{adopted_bytes, is_unsettled}
-use Rattle.segments.specs.Sections.{Sections, section_key, key_of, IsCut, IsGone, IsHeld, IsKeyOf, IsKnown, IsSame, SamePlace}
-use Rattle.segments.specs.Setting.{Setting}
-use Rattle.segments.specs.declared.buffer.SectionBuffer as buffer
-use Rattle.segments.specs.declared.journal.Error.{Error}
-use Rattle.segments.specs.declared.journal.Error.TheVariants.{Codec, InvalidBlobName, ItemOutOfRange}
-use Rattle.segments.specs.declared.sealed.AppendFactory.{AppendFactory}
 
 -- so many bytes, without a partial item at their end
 abbrev pub whole_of : ℕ → ℕ → ℕ

@@ -15,21 +15,21 @@ use Rattle.sealed_pages.specs.View.{view}
 use Rattle.sealed_pages.specs.declared.page_blob.PageBlob.{PageBlob}
 use Rattle.sealed_pages.specs.declared.pages.Pages.{Pages}
 use Rattle.value_codec.specs.declared.codec.Error as codec
-use Rattle.segments.specs.Answers.{RefusesNames}
+use Rattle.section_manager.specs.Answers.{RefusesNames}
+use Rattle.section_manager.specs.Lasting.{IsSettling}
+use Rattle.section_manager.specs.Refusing.{HasDamage, HasFailed, HasNoRoom, IsOpenedTooLong}
+use Rattle.section_manager.specs.Sealed.{adopted_bytes, is_unsettled}
+use Rattle.section_manager.specs.Sections.{Sections, section_key, key_of, IsHeld, IsKeyOf, IsKnown, IsOver}
+use Rattle.section_manager.specs.Setting.{Setting}
+use Rattle.section_manager.specs.declared.buffer.SectionBuffer as buffer
+use Rattle.section_manager.specs.declared.journal.Damage.{Damage}
+use Rattle.section_manager.specs.declared.journal.Error.{Error}
+use Rattle.section_manager.specs.declared.journal.Error.TheVariants.{Codec, Corruption, InvalidBlobName}
+use Rattle.section_manager.specs.declared.sealed.AppendFactory.{AppendFactory}
 use Rattle.segments.specs.FixedBounds.{CuttingTail, IsTailCut, whole_of}
 use Rattle.segments.specs.FixedFloors.{Floors, IsBoundary}
 use Rattle.segments.specs.FixedLists.{Lists, section_bytes, section_size, IsJournal}
-use Rattle.segments.specs.Lasting.{IsSettling}
-use Rattle.segments.specs.Refusing.{HasDamage, HasFailed, HasNoRoom, IsOpenedTooLong}
-use Rattle.segments.specs.Sealed.{adopted_bytes, is_unsettled}
-use Rattle.segments.specs.Sections.{Sections, section_key, key_of, IsHeld, IsKeyOf, IsKnown, IsOver}
-use Rattle.segments.specs.Setting.{Setting}
-use Rattle.segments.specs.declared.buffer.SectionBuffer as buffer
 use Rattle.segments.specs.declared.fixed.preflighting.Target.{Target}
-use Rattle.segments.specs.declared.journal.Damage.{Damage}
-use Rattle.segments.specs.declared.journal.Error.{Error}
-use Rattle.segments.specs.declared.journal.Error.TheVariants.{Codec, Corruption, InvalidBlobName}
-use Rattle.segments.specs.declared.sealed.AppendFactory.{AppendFactory}
 
 -- ---- what it asks
 

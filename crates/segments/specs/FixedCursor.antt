@@ -17,17 +17,17 @@ use Rattle.sealed_pages.specs.Reading.{Unchanged}
 use Rattle.sealed_pages.specs.Reads.{IsShort}
 use Rattle.sealed_pages.specs.Shown.{shown}
 use Rattle.sealed_pages.specs.declared.page_blob.PageBlob.{PageBlob}
-use Rattle.segments.specs.Answers.{seen}
-use Rattle.segments.specs.Entries.{OnlyOwnEntry}
+use Rattle.section_manager.specs.Answers.{seen}
+use Rattle.section_manager.specs.Entries.{OnlyOwnEntry}
+use Rattle.section_manager.specs.Refusing.{HasDamage, HasFailed}
+use Rattle.section_manager.specs.Sections.{key_of, IsHeld}
+use Rattle.section_manager.specs.Setting.{Setting}
+use Rattle.section_manager.specs.declared.buffer.SectionBuffer as buffer
+use Rattle.section_manager.specs.declared.journal.Error.{Error}
+use Rattle.section_manager.specs.declared.journal.Error.TheVariants.{Runtime}
 use Rattle.segments.specs.FixedLists.{section_bytes, section_size}
 use Rattle.segments.specs.FixedReplay.{Place, Walk, IsAhead, IsReadWhole, HasWalk, WalksOver, IsWalk, first_of, kept_bytes}
 use Rattle.segments.specs.FixedStepping.{failing, standing, ReadsOnce, OnlySections, Touches, IsCutBack, Steps}
-use Rattle.segments.specs.Refusing.{HasDamage, HasFailed}
-use Rattle.segments.specs.Sections.{key_of, IsHeld}
-use Rattle.segments.specs.Setting.{Setting}
-use Rattle.segments.specs.declared.buffer.SectionBuffer as buffer
-use Rattle.segments.specs.declared.journal.Error.{Error}
-use Rattle.segments.specs.declared.journal.Error.TheVariants.{Runtime}
 
 -- the place behind so many items that are at hand
 abbrev pub after_items : ℕ → ℕ → Place → Place

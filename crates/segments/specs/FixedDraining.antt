@@ -11,19 +11,19 @@ use Rattle.sealed_pages.specs.Reads.{IsShort}
 use Rattle.sealed_pages.specs.Shown.{shown}
 use Rattle.sealed_pages.specs.declared.page_blob.PageBlob.{PageBlob}
 use Rattle.value_codec.specs.declared.codec.Error as codec
+use Rattle.section_manager.specs.Sealed.{is_unsettled}
+use Rattle.section_manager.specs.Sections.{key_of, IsHeld, IsKeyOf, SameBounds}
+use Rattle.section_manager.specs.Setting.{Setting}
+use Rattle.section_manager.specs.declared.buffer.SectionBuffer as buffer
+use Rattle.section_manager.specs.declared.journal.Damage.{Damage}
+use Rattle.section_manager.specs.declared.journal.Error.{Error}
+use Rattle.section_manager.specs.declared.journal.Error.TheVariants.{Codec, Corruption, ItemOutOfRange, ReplayFailed, Runtime}
 use Rattle.segments.specs.FixedBounds.{whole_of}
 use Rattle.segments.specs.FixedItems.{item_at, IsItem}
 use Rattle.segments.specs.FixedLists.{Lists, section_bytes, IsJournal}
 use Rattle.segments.specs.FixedReading.{IsBelowFloor, HasNotRead}
 use Rattle.segments.specs.FixedReplay.{Walk, IsAhead, IsIn, IsLeft, StandsBefore, HasSameBytes, Replaying, EndsBelow, kept_bytes}
 use Rattle.segments.specs.FixedStepping.{reads_left}
-use Rattle.segments.specs.Sealed.{is_unsettled}
-use Rattle.segments.specs.Sections.{key_of, IsHeld, IsKeyOf, SameBounds}
-use Rattle.segments.specs.Setting.{Setting}
-use Rattle.segments.specs.declared.buffer.SectionBuffer as buffer
-use Rattle.segments.specs.declared.journal.Damage.{Damage}
-use Rattle.segments.specs.declared.journal.Error.{Error}
-use Rattle.segments.specs.declared.journal.Error.TheVariants.{Codec, Corruption, ItemOutOfRange, ReplayFailed, Runtime}
 
 -- the replay gives the section from its first item on
 abbrev pub IsFromStart : {F B : Type 0} → Walk F B → ℕ → Type 0

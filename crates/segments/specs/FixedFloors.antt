@@ -11,15 +11,15 @@ use Rattle.sealed_pages.specs.Shown as page_blob
 use Rattle.sealed_pages.specs.Reads.{IsCovered, IsShort, PassesSize}
 use Rattle.sealed_pages.specs.SealedPrefix.{sealed_prefix, adopted_size, data_from}
 use Rattle.sealed_pages.specs.View.{view}
-use Rattle.segments.specs.declared.journal.Damage.{Damage}
-use Rattle.segments.specs.declared.sealed.AppendFactory.{AppendFactory}
+use Rattle.section_manager.specs.declared.journal.Damage.{Damage}
+use Rattle.section_manager.specs.declared.sealed.AppendFactory.{AppendFactory}
+use Rattle.section_manager.specs.Sealed.{adopted_bytes}
+use Rattle.section_manager.specs.Sections.{Sections, key_of}
 use Rattle.segments.specs.declared.fixed.preflighting.Preflight.{Preflight}
 use Rattle.segments.specs.declared.fixed.preflighting.Target.{Target}
 use Rattle.segments.specs.FixedItems.{IsItem}
 use Rattle.segments.specs.FixedLists.{Lists, floor_in}
 use Rattle.segments.specs.FixedShown as journal
-use Rattle.segments.specs.Sealed.{adopted_bytes}
-use Rattle.segments.specs.Sections.{Sections, key_of}
 
 -- Where the journal is and how it is kept, and up to which section it was opened; how many bytes of each section a marker vouches for;
 -- of each section with a marker, the last item that it vouches for, if any; and where a checkpoint cuts.

@@ -4,10 +4,10 @@ use Rattle.std.specs.List.{Contains}
 use Rattle.blob_device.specs.Disk.{Disk}
 use Rattle.blob_device.specs.Opened.{OpenedList, reads_of}
 use Rattle.sealed_pages.specs.declared.page_blob.PageBlob.{PageBlob}
+use Rattle.section_manager.specs.Sections.{key_of, IsHeld}
 use Rattle.segments.specs.FixedItems.{item_at, IsItem}
 use Rattle.segments.specs.FixedReplay.{Walk, IsLeft, IsDrained, SameWalk, KeepsFloors, KeepsBytes, KeepsItems, Gives, StandsBefore, kept_bytes}
 use Rattle.segments.specs.FixedStepping.{reads_left, ReadsOnce}
-use Rattle.segments.specs.Sections.{key_of, IsHeld}
 
 -- an item, with its section and its position
 abbrev pub Given : Type 0 → Type 0

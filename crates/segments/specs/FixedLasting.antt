@@ -7,8 +7,8 @@ use Rattle.sealed_pages.specs.Buffer.{bytes_of, IsSealed}
 use Rattle.sealed_pages.specs.ChanceSeal.{Leaves}
 use Rattle.sealed_pages.specs.SealedPrefix.{sealed_prefix}
 use Rattle.sealed_pages.specs.Unrecovered.{IsUnrecovered}
-use Rattle.segments.specs.Sections.{key_of, IsHeld, IsKeyOf}
-use Rattle.segments.specs.Lasting.{IsOpening}
+use Rattle.section_manager.specs.Sections.{key_of, IsHeld, IsKeyOf}
+use Rattle.section_manager.specs.Lasting.{IsOpening}
 use Rattle.segments.specs.FixedLists.{Lists}
 
 -- The blob is made, or being made; then each crash leaves a prefix of these bytes in it.

@@ -7,16 +7,16 @@ use Rattle.blob_device.specs.declared.device.Device as device
 use Rattle.sealed_pages.specs.Reading.{Unchanged}
 use Rattle.sealed_pages.specs.declared.page_blob.PageBlob.{PageBlob}
 use Rattle.sealed_pages.specs.declared.pages.Pages.{Pages}
+use Rattle.section_manager.specs.Lasting.{IsSettling}
+use Rattle.section_manager.specs.Refusing.{HasFailed, HasNoRoom, IsForeign, IsOpenedTooLong}
+use Rattle.section_manager.specs.Sections.{section_key, IsHeld}
+use Rattle.section_manager.specs.Setting.{Setting}
+use Rattle.section_manager.specs.declared.buffer.SectionBuffer as buffer
+use Rattle.section_manager.specs.declared.journal.Error.{Error}
+use Rattle.section_manager.specs.declared.journal.Error.TheVariants.{InvalidBlobName}
+use Rattle.section_manager.specs.declared.sealed.AppendFactory.{AppendFactory}
+use Rattle.section_manager.specs.declared.unopened.Unopened.TheVariants.{Section, Leftover}
 use Rattle.segments.specs.FixedLists.{Lists, section_bytes, section_size, IsJournal}
-use Rattle.segments.specs.Lasting.{IsSettling}
-use Rattle.segments.specs.Refusing.{HasFailed, HasNoRoom, IsForeign, IsOpenedTooLong}
-use Rattle.segments.specs.Sections.{section_key, IsHeld}
-use Rattle.segments.specs.Setting.{Setting}
-use Rattle.segments.specs.declared.buffer.SectionBuffer as buffer
-use Rattle.segments.specs.declared.journal.Error.{Error}
-use Rattle.segments.specs.declared.journal.Error.TheVariants.{InvalidBlobName}
-use Rattle.segments.specs.declared.sealed.AppendFactory.{AppendFactory}
-use Rattle.segments.specs.declared.unopened.Unopened.TheVariants.{Section, Leftover}
 
 -- The sections of the partition `place` were opened up to the section `most`, in pages of this kind
 -- and with so large a write buffer.

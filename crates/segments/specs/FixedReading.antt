@@ -7,10 +7,10 @@ use Rattle.sealed_pages.specs.declared.page_blob.PageBlob.{PageBlob}
 use Rattle.sealed_pages.specs.Shown.{shown}
 use Rattle.sealed_pages.specs.Buffer.{size_of}
 use Rattle.sealed_pages.specs.Reads.{IsShort, IsCovered, below}
-use Rattle.segments.specs.declared.journal.Damage.{Damage}
-use Rattle.segments.specs.declared.journal.Error.{Error}
-use Rattle.segments.specs.declared.journal.Error.TheVariants.{Runtime, Codec, SectionOutOfRange, ItemOutOfRange, Corruption}
-use Rattle.segments.specs.Refusing.{HasFailed}
+use Rattle.section_manager.specs.declared.journal.Damage.{Damage}
+use Rattle.section_manager.specs.declared.journal.Error.{Error}
+use Rattle.section_manager.specs.declared.journal.Error.TheVariants.{Runtime, Codec, SectionOutOfRange, ItemOutOfRange, Corruption}
+use Rattle.section_manager.specs.Refusing.{HasFailed}
 
 module _ {S : Type 0} {gs : _} (size : ℕ) where
   -- the position is that of an item of the buffer

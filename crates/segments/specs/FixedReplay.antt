@@ -12,10 +12,10 @@ use Rattle.sealed_pages.specs.ChanceSeal.{Leaves}
 use Rattle.sealed_pages.specs.Readers.{Reader, IsReplayOf}
 use Rattle.sealed_pages.specs.Reads.{IsCovered, IsShort}
 use Rattle.sealed_pages.specs.Unrecovered.{IsUnrecovered}
-use Rattle.segments.specs.declared.buffer.SectionBuffer as buffer
-use Rattle.segments.specs.declared.journal.Damage.{Damage}
-use Rattle.segments.specs.Setting.{Setting}
-use Rattle.segments.specs.Sections.{key_of, IsHeld, IsKeyOf, SameBounds, IsOver}
+use Rattle.section_manager.specs.declared.buffer.SectionBuffer as buffer
+use Rattle.section_manager.specs.declared.journal.Damage.{Damage}
+use Rattle.section_manager.specs.Setting.{Setting}
+use Rattle.section_manager.specs.Sections.{key_of, IsHeld, IsKeyOf, SameBounds, IsOver}
 use Rattle.segments.specs.FixedItems.{item_at, IsItem}
 use Rattle.segments.specs.FixedLists.{Lists, section_size, OwesHeld, OwesSettled, AreSealed, UnopenedLater}
 

@@ -2,9 +2,9 @@
 use Rattle.std.specs.Ordering.{nat_cmp}
 use Rattle.std.specs.BTreeSet as set
 use Rattle.sealed_pages.specs.declared.page_blob.PageBlob.{PageBlob}
-use Rattle.segments.specs.declared.sealed.AppendFactory.{AppendFactory}
+use Rattle.section_manager.specs.declared.sealed.AppendFactory.{AppendFactory}
+use Rattle.section_manager.specs.managing.Managed as manager
 use Rattle.segments.specs.declared.fixed.Journal.{Journal}
-use Rattle.segments.specs.managing.Managed as manager
 use Rattle.segments.specs.FixedLists.{Lists, floor_in}
 
 abbrev pub shown : {A S : Type 0} {fixed codec seal : _} → Journal A S fixed codec seal → Lists (AppendFactory S) (PageBlob S seal)

@@ -14,15 +14,15 @@ use Rattle.sealed_pages.specs.Readers.{Reader, IsReplayOf, unread_of}
 use Rattle.sealed_pages.specs.Reads.{pages_for}
 use Rattle.sealed_pages.specs.Unrecovered.{IsUnrecovered}
 use Rattle.value_codec.specs.declared.codec.Error as codec
-use Rattle.segments.specs.declared.buffer.SectionBuffer as buffer
-use Rattle.segments.specs.declared.journal.Error.{Error}
+use Rattle.section_manager.specs.declared.buffer.SectionBuffer as buffer
+use Rattle.section_manager.specs.declared.journal.Error.{Error}
 use Rattle.blob_device.specs.declared.runtime.RError.TheVariants.{InvalidChecksum}
-use Rattle.segments.specs.declared.journal.Damage.{Damage}
-use Rattle.segments.specs.declared.journal.Error.TheVariants.{ItemOutOfRange, Runtime, Codec, Corruption}
-use Rattle.segments.specs.Setting.{Setting}
-use Rattle.segments.specs.Entries.{OnlyOwnEntry}
-use Rattle.segments.specs.Sections.{Sections, key_of, IsHeld, IsKeyOf, IsSame, SameBounds, IsOver}
-use Rattle.segments.specs.Refusing.{HasFailed, HasDamage}
+use Rattle.section_manager.specs.declared.journal.Damage.{Damage}
+use Rattle.section_manager.specs.declared.journal.Error.TheVariants.{ItemOutOfRange, Runtime, Codec, Corruption}
+use Rattle.section_manager.specs.Setting.{Setting}
+use Rattle.section_manager.specs.Entries.{OnlyOwnEntry}
+use Rattle.section_manager.specs.Sections.{Sections, key_of, IsHeld, IsKeyOf, IsSame, SameBounds, IsOver}
+use Rattle.section_manager.specs.Refusing.{HasFailed, HasDamage}
 use Rattle.segments.specs.FixedReading.{HasNotRead, IsBelowFloor}
 use Rattle.segments.specs.FixedLists.{section_size}
 use Rattle.segments.specs.FixedReplay.{Place, Walk, IsAhead, IsIn, IsReadWhole, IsLeft, SameWalk, KeepsSections, KeepsFloors, KeepsBytes, KeepsItems, IsWalk, Gives, Refuses, IsEndedAt, Stops, IsCutting, Replaying, LeavesNoMore, EndsBelow, EndsDamaged, kept_bytes}

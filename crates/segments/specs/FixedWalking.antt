@@ -2,7 +2,7 @@
 use Rattle.std.specs.Option.{option_map}
 use Rattle.sealed_pages.specs.declared.page_blob.PageBlob.{PageBlob}
 use Rattle.sealed_pages.specs.Readers.{reading}
-use Rattle.segments.specs.declared.sealed.AppendFactory.{AppendFactory}
+use Rattle.section_manager.specs.declared.sealed.AppendFactory.{AppendFactory}
 use Rattle.segments.specs.declared.fixed.replaying.Reading.{Reading}
 use Rattle.segments.specs.declared.fixed.replaying.Replay.{Replay}
 use Rattle.segments.specs.FixedShown.{shown}

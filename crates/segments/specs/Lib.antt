@@ -1,20 +1,6 @@
--- What this layer means to the layers above: a map from sections, by number, to lists of bytes, with a floor and a ceiling
--- (`Sections`). Each section is a buffer over a blob of its own. What a crash at any moment of a call leaves of the blobs is said
--- blob by blob (`Leaving`, `Lasting`), by the test that each buffer brings: one over sealed pages (`Sealed`), one without seals
--- (`unsealed/Buffer`), whose contents since its blob settled are fronts of its bytes (`Fronts`).
-pub mod Raised
-pub mod Setting
-pub mod Leaving
-pub mod Fronts
-pub mod Entries
-pub mod Sections
-pub mod Lasting
-pub mod Refusing
-pub mod managing
-pub mod Doomed
-pub mod Sealed
-pub mod SealedLaws
-pub mod unsealed
+-- What this layer means to the layers above: of each section a list of items of one size (`FixedItems`), in the bytes that a manager
+-- of sealed sections keeps (`FixedLists`). What a marker vouches for is in `FixedFloors`, and what a replay gives, cuts and refuses
+-- in `FixedReplay`. What a crash leaves of a section is said by the layer below, of its bytes.
 pub mod FixedItems
 pub mod FixedReading
 pub mod FixedFull
@@ -28,7 +14,6 @@ pub mod FixedWalking
 pub mod FixedCursor
 pub mod FixedFloors
 pub mod Tails
-pub mod Answers
 pub mod FixedOpens
 pub mod FixedBounds
 pub mod FixedDraining

@@ -3,8 +3,8 @@ use Rattle.std.specs.Prelude.{◌≡◌, ℕ, Option, None, Some}
 use Rattle.sealed_pages.specs.declared.page_blob.PageBlob.{PageBlob}
 use Rattle.sealed_pages.specs.Shown.{shown}
 use Rattle.sealed_pages.specs.Tails.{tail_of, tail_after}
-use Rattle.segments.specs.declared.sealed.AppendFactory.{AppendFactory}
-use Rattle.segments.specs.Sections.{Sections}
+use Rattle.section_manager.specs.declared.sealed.AppendFactory.{AppendFactory}
+use Rattle.section_manager.specs.Sections.{Sections}
 
 module _ {S : Type 0} {gs : _} where
   abbrev pub tail_held : Option (PageBlob S gs) → ℕ

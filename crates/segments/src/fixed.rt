@@ -48,9 +48,9 @@ ghost use Rattle.std.specs.List.{Contains};
 ghost use Rattle.std.specs.List.Sorted.{IsStrictlySortedBy};
 ghost use Rattle.std.specs.Ordering.{nat_cmp};
 ghost use Rattle.sealed_pages.specs.SealedPrefix.{sealed_prefix, Prefix};
-ghost use Rattle.segments.specs.Sections.{IsHeld};
+ghost use Rattle.section_manager.specs.Sections.{IsHeld};
+ghost use Rattle.section_manager.specs.Refusing.{IsPruned};
 ghost use Rattle.segments.specs.FixedItems.{HoldsFirstItems};
-ghost use Rattle.segments.specs.Refusing.{IsPruned};
 
 mod capping;
 mod cursor;

@@ -1,7 +1,7 @@
-//! Sections of a partition, each kept in a buffer over a blob of its own, with sealed pages or without.
+//! A journal of items of one size, by section and position, over the sections of `section_manager`.
 //!
-//! [`Manager`] opens, makes, settles, cuts and removes them. [`fixed::Journal`] keeps items of one size in
-//! them.
+//! [`fixed::Journal`] keeps the items. [`Manager`], the buffers and [`journal::Error`] are those of
+//! `section_manager`, and are public here too.
 //!
 //! ```rust
 //! let journal = Journal::<u64, Sha256Seal>::init(alloc, &mut dev, &cfg)?;
@@ -16,19 +16,11 @@
 //! ```
 #![tactic(auto)]
 
-mod buffer;
 pub mod fixed;
-mod held;
 mod items;
-pub mod journal;
-mod manager;
-mod sealed;
-mod unopened;
-mod unsealed;
 
-pub use buffer::{BufferFactory, SectionBuffer};
-pub use held::SectionIter;
 pub use items::Items;
-pub use manager::{Found, Manager, ManagerConfig};
-pub use sealed::AppendFactory;
-pub use unsealed::WriteFactory;
+pub use section_manager::{
+    AppendFactory, BufferFactory, Found, Manager, ManagerConfig, SectionBuffer, SectionIter,
+    WriteFactory, journal,
+};

@@ -2,12 +2,12 @@
 use Rattle.blob_device.specs.MemoryMeaning.{memory_opened, memory_time}
 use Rattle.blob_device.specs.Timeline.{disk}
 use Rattle.blob_device.specs.declared.memory.Memory.{Memory}
+use Rattle.section_manager.specs.managing.Managed as managed
+use Rattle.section_manager.specs.Sections.{IsOver}
+use Rattle.section_manager.specs.contracts.sealed.PageBlobSectionBuffer.TheImpl as page_blob
+use Rattle.section_manager.specs.contracts.unsealed.WriteBlobSectionBuffer.TheImpl as write_blob
 use Rattle.segments.specs.FixedLists.{IsJournal}
 use Rattle.segments.specs.FixedShown as journal
-use Rattle.segments.specs.managing.Managed as managed
-use Rattle.segments.specs.Sections.{IsOver}
-use Rattle.segments.specs.contracts.sealed.PageBlobSectionBuffer.TheImpl as page_blob
-use Rattle.segments.specs.contracts.unsealed.WriteBlobSectionBuffer.TheImpl as write_blob
 use Rattle.value_codec.specs.contracts.seal.Sha256Seal.{the_row}
 use Rattle.value_codec.specs.contracts.seal.Sha256SealSeal.TheImpl as seal
 use Rattle.segments_tests.specs.declared.store.Store.{Store}

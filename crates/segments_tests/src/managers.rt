@@ -1,8 +1,8 @@
 // A manager that is open, with buffers that have no seals, and the commands over it.
 ghost use Rattle.std.specs.Prelude.{◌≡◌, ◌≤◌, IfOk};
 ghost use Rattle.blob_device.specs.Timeline.{disk};
-ghost use Rattle.segments.specs.managing.Managed.{shown};
-ghost use Rattle.segments.specs.Sections.{IsOver};
+ghost use Rattle.section_manager.specs.managing.Managed.{shown};
+ghost use Rattle.section_manager.specs.Sections.{IsOver};
 ghost use Rattle.segments_tests.specs.Stores.{IsOpen};
 
 use crate::reading::listed;

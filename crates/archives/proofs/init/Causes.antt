@@ -6,8 +6,8 @@ use Rattle.std.proofs.lemmas.Nat.{mul-le}
 use Rattle.blob_device.specs.Disk.{Disk, Image}
 use Rattle.sealed_pages.specs.Reads.{IsShort}
 use Rattle.sealed_pages.specs.declared.page_blob.PageBlob.{PageBlob}
-use Rattle.segments.specs.Sections.{section_key}
-use Rattle.segments.specs.declared.journal.Damage.{Damage}
+use Rattle.section_manager.specs.Sections.{section_key}
+use Rattle.section_manager.specs.declared.journal.Damage.{Damage}
 use Rattle.value_codec.specs.declared.codec.Error as codec
 use Rattle.value_codec.specs.Spelling.{size_refusal}
 use Rattle.paired.specs.Kept.{Layout, Markers, MarkerMap, IsMarked, content_at, is_sound_in, marker_of, stored_records}

@@ -5,15 +5,15 @@ use Rattle.std.proofs.lemmas.List.{length-map}
 use Rattle.blob_device.specs.Disk.{Disk}
 use Rattle.blob_device.specs.Opened.{OpenedList}
 use Rattle.sealed_pages.specs.declared.page_blob.PageBlob.{PageBlob}
-use Rattle.segments.specs.declared.buffer.SectionBuffer as buffer
-use Rattle.segments.specs.declared.unsealed.WriteFactory.{WriteFactory}
+use Rattle.section_manager.specs.declared.buffer.SectionBuffer as buffer
+use Rattle.section_manager.specs.declared.unsealed.WriteFactory.{WriteFactory}
+use Rattle.section_manager.specs.Sections.{key_of}
+use Rattle.section_manager.specs.Setting.{Setting}
+use Rattle.section_manager.proofs.WalkLemmas.{none_or_value}
 use Rattle.segments.specs.FixedLists.{Lists}
 use Rattle.segments.specs.FixedReplay.{IsDrained, kept_of}
-use Rattle.segments.specs.Sections.{key_of}
-use Rattle.segments.specs.Setting.{Setting}
 use Rattle.segments.proofs.FixedBeginning.{finished_sealed}
 use Rattle.segments.proofs.FixedWalks.{is_some}
-use Rattle.segments.proofs.WalkLemmas.{none_or_value}
 use Rattle.meta_store.proofs.Uses.{IsReadable}
 use Rattle.meta_store.specs.Store.{contents_of}
 use Rattle.paired.specs.Kept.{kept, marker_of}

@@ -7,10 +7,10 @@ use Rattle.value_codec.specs.declared.codec.Error as codec
 use Rattle.meta_store.specs.declared.error.Error as meta
 use Rattle.meta_store.specs.declared.error.Error.TheVariants as store
 use Rattle.meta_store.specs.declared.error.Side.{Side}
-use Rattle.segments.specs.declared.journal.Damage.{Damage}
-use Rattle.segments.specs.declared.journal.Error as journal
-use Rattle.segments.specs.declared.journal.Error.TheVariants as section
-use Rattle.segments.specs.Refusing as below
+use Rattle.section_manager.specs.declared.journal.Damage.{Damage}
+use Rattle.section_manager.specs.declared.journal.Error as journal
+use Rattle.section_manager.specs.declared.journal.Error.TheVariants as section
+use Rattle.section_manager.specs.Refusing as below
 use Rattle.segments.specs.FixedReading.{HasNotRead}
 use Rattle.paired.specs.PairRefusing as pair
 use Rattle.archives.proofs.opening.Causes.{HasLostMarkers, IsOpeningError}

@@ -6,13 +6,13 @@ use Rattle.blob_device.specs.Disk.{Disk, Key, MayLeave, reads}
 use Rattle.blob_device.specs.Opened.{OpenedList}
 use Rattle.meta_store.proofs.Uses.{IsReadable}
 use Rattle.sealed_pages.specs.declared.page_blob.PageBlob.{PageBlob}
-use Rattle.segments.specs.declared.buffer.SectionBuffer as buffer
-use Rattle.segments.specs.declared.unsealed.WriteFactory.{WriteFactory}
-use Rattle.segments.specs.Sections.{IsHeld, section_key}
-use Rattle.segments.specs.Setting.{Setting}
+use Rattle.section_manager.specs.declared.buffer.SectionBuffer as buffer
+use Rattle.section_manager.specs.declared.unsealed.WriteFactory.{WriteFactory}
+use Rattle.section_manager.specs.Sections.{IsHeld, section_key}
+use Rattle.section_manager.specs.Setting.{Setting}
+use Rattle.section_manager.proofs.WalkLemmas.{none_or_value}
 use Rattle.segments.proofs.FixedWalks.{is_some}
 use Rattle.segments.proofs.FixedWriteLemmas.{ArePages}
-use Rattle.segments.proofs.WalkLemmas.{none_or_value}
 use Rattle.meta_store.specs.Store.{contents_of}
 use Rattle.paired.specs.glob.Sections as glob
 use Rattle.paired.specs.glob.Sections.{IsAllSettled}

@@ -10,8 +10,8 @@ use Rattle.value_codec.specs.declared.codec.Error as codec
 use Rattle.value_codec.specs.declared.key.Key8.{Key8}
 use Rattle.sealed_pages.proofs.Adopt.{length-data_from}
 use Rattle.sealed_pages.specs.View.{view}
+use Rattle.section_manager.specs.Sections.{section_key}
 use Rattle.segments.specs.FixedItems.{item_at, item_count}
-use Rattle.segments.specs.Sections.{section_key}
 use Rattle.meta_store.specs.declared.copy.CopyText.{CopyText}
 use Rattle.meta_store.specs.declared.error.Side.TheVariants.{Left, Right}
 use Rattle.meta_store.specs.declared.pair.Chosen.{Chosen}

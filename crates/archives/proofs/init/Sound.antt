@@ -9,9 +9,9 @@ use Rattle.blob_device.proofs.Puts.{put_other, put_same, same_or_other}
 use Rattle.sealed_pages.specs.ChanceSeal as pages
 use Rattle.sealed_pages.specs.SealedPrefix.{sealed_prefix}
 use Rattle.sealed_pages.specs.declared.page_blob.PageBlob.{PageBlob}
-use Rattle.segments.specs.Sections.{IsHeld, section_key}
+use Rattle.section_manager.specs.Sections.{IsHeld, section_key}
+use Rattle.section_manager.proofs.WalkLemmas.{none_or_value}
 use Rattle.segments.proofs.FixedWalks.{is_some}
-use Rattle.segments.proofs.WalkLemmas.{none_or_value}
 use Rattle.meta_store.specs.Blobs.{blob_of, bytes_of}
 use Rattle.meta_store.specs.Crashes as metadata
 use Rattle.paired.specs.Crashes.{IsOwn, NoChanceSeal, WasThere}

@@ -11,10 +11,10 @@ use Rattle.value_codec.specs.declared.key.Key8.{Key8}
 use Rattle.meta_store.specs.Store.{Store, contents_of}
 use Rattle.meta_store.proofs.Uses.{IsReadable}
 use Rattle.sealed_pages.specs.declared.page_blob.PageBlob.{PageBlob}
+use Rattle.section_manager.specs.Sections.{IsHeld, key_of}
+use Rattle.section_manager.proofs.WalkLemmas.{none_or_value}
 use Rattle.segments.specs.FixedLists as fixed
-use Rattle.segments.specs.Sections.{IsHeld, key_of}
 use Rattle.segments.proofs.FixedWalks.{is_some}
-use Rattle.segments.proofs.WalkLemmas.{none_or_value}
 use Rattle.paired.specs.glob.Sections as glob
 use Rattle.paired.specs.Kept.{Layout, Markers, kept, marker_of}
 use Rattle.paired.specs.Crashes.{HoldMarkers}

@@ -10,19 +10,19 @@ use Rattle.sealed_pages.specs.Buffer.{bytes_of, size_of}
 use Rattle.sealed_pages.specs.Cutting.{IsAtRest}
 use Rattle.sealed_pages.specs.SealedPrefix.{sealed_prefix}
 use Rattle.sealed_pages.specs.Shown.{shown}
-use Rattle.segments.specs.declared.buffer.SectionBuffer as buffer
-use Rattle.segments.specs.declared.unsealed.WriteFactory.{WriteFactory}
+use Rattle.section_manager.specs.declared.buffer.SectionBuffer as buffer
+use Rattle.section_manager.specs.declared.unsealed.WriteFactory.{WriteFactory}
+use Rattle.section_manager.specs.SealedLaws.{all_settled}
+use Rattle.section_manager.specs.Sections.{section_key, key_of, IsHeld}
+use Rattle.section_manager.specs.Setting.{Setting}
+use Rattle.section_manager.specs.unsealed.Buffer.{count_of, is_unsettled}
+use Rattle.section_manager.specs.unsealed.Laws.{rested, found_again}
+use Rattle.section_manager.proofs.buffers.NothingSealed.{nothing_sealed}
+use Rattle.section_manager.proofs.WalkLemmas.{none_or_value, some_same, value_of}
 use Rattle.segments.specs.FixedLists as fixed
 use Rattle.segments.specs.FixedReplay.{kept_of}
-use Rattle.segments.specs.SealedLaws.{all_settled}
-use Rattle.segments.specs.Sections.{section_key, key_of, IsHeld}
-use Rattle.segments.specs.Setting.{Setting}
-use Rattle.segments.specs.unsealed.Buffer.{count_of, is_unsettled}
-use Rattle.segments.specs.unsealed.Laws.{rested, found_again}
 use Rattle.segments.proofs.FixedWalks.{is_some}
 use Rattle.segments.proofs.FixedWriteLemmas.{ArePages}
-use Rattle.segments.proofs.buffers.NothingSealed.{nothing_sealed}
-use Rattle.segments.proofs.WalkLemmas.{none_or_value, some_same, value_of}
 use Rattle.paired.specs.glob.Sections as glob
 use Rattle.paired.specs.Kept.{content_at, stored_records}
 use Rattle.paired.specs.Opening.{as_read}

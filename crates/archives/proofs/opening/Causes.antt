@@ -11,10 +11,10 @@ use Rattle.meta_store.specs.Opening.{PairOn}
 use Rattle.meta_store.specs.declared.error.Error.TheVariants as metadata
 use Rattle.meta_store.specs.declared.error.Side.{Side}
 use Rattle.sealed_pages.specs.Reads.{IsShort}
-use Rattle.segments.specs.Refusing.{IsForeign, IsOpenedTooLong}
-use Rattle.segments.specs.Sections.{section_key}
-use Rattle.segments.specs.declared.journal.Damage.{Damage}
-use Rattle.segments.specs.declared.journal.Error.TheVariants as journal
+use Rattle.section_manager.specs.Refusing.{IsForeign, IsOpenedTooLong}
+use Rattle.section_manager.specs.Sections.{section_key}
+use Rattle.section_manager.specs.declared.journal.Damage.{Damage}
+use Rattle.section_manager.specs.declared.journal.Error.TheVariants as journal
 use Rattle.paired.specs.Kept.{IsMarked, Markers, marker_of, stored_records}
 use Rattle.paired.specs.Crashes.{HoldMarkers}
 use Rattle.paired.specs.Opening.{as_read}

@@ -20,16 +20,16 @@ use Rattle.sealed_pages.specs.declared.page_blob.PageBlob.{PageBlob}
 use Rattle.meta_store.specs.declared.error.Error.TheVariants as store
 use Rattle.meta_store.specs.declared.error.Side.{Side}
 use Rattle.meta_store.specs.Store.{Store, contents_of}
-use Rattle.segments.specs.declared.buffer.SectionBuffer as buffer
-use Rattle.segments.specs.declared.journal.Damage.{Damage}
-use Rattle.segments.specs.declared.journal.Error as journal
-use Rattle.segments.specs.declared.journal.Error.TheVariants as section
-use Rattle.segments.specs.declared.unsealed.WriteFactory.{WriteFactory}
+use Rattle.section_manager.specs.declared.buffer.SectionBuffer as buffer
+use Rattle.section_manager.specs.declared.journal.Damage.{Damage}
+use Rattle.section_manager.specs.declared.journal.Error as journal
+use Rattle.section_manager.specs.declared.journal.Error.TheVariants as section
+use Rattle.section_manager.specs.declared.unsealed.WriteFactory.{WriteFactory}
+use Rattle.section_manager.specs.Sections.{key_of, section_key}
+use Rattle.section_manager.specs.Setting.{Setting}
 use Rattle.segments.specs.FixedItems.{item_at}
 use Rattle.segments.specs.FixedLists.{section_size, size_held}
 use Rattle.segments.specs.FixedReplay.{FindsDamage, kept_bytes}
-use Rattle.segments.specs.Sections.{key_of, section_key}
-use Rattle.segments.specs.Setting.{Setting}
 use Rattle.segments.proofs.FixedReading.{the_some}
 use Rattle.segments.proofs.FixedWriteLemmas.{ArePages}
 use Rattle.paired.specs.Kept.{Layout, marker_of, stored_records}

@@ -9,9 +9,9 @@ use Rattle.blob_device.specs.Timeline.{Timeline, disk}
 use Rattle.sealed_pages.specs.declared.page_blob.PageBlob.{PageBlob}
 use Rattle.meta_store.specs.Store.{Store, contents_of}
 use Rattle.value_codec.specs.declared.key.Key8.{Key8}
-use Rattle.segments.specs.declared.buffer.SectionBuffer as buffer
-use Rattle.segments.specs.declared.unsealed.WriteFactory.{WriteFactory}
-use Rattle.segments.specs.Setting.{Setting}
+use Rattle.section_manager.specs.declared.buffer.SectionBuffer as buffer
+use Rattle.section_manager.specs.declared.unsealed.WriteFactory.{WriteFactory}
+use Rattle.section_manager.specs.Setting.{Setting}
 use Rattle.segments.proofs.FixedWriteLemmas.{ArePages}
 use Rattle.paired.specs.Kept.{Layout, kept, marker_of, stored_records}
 use Rattle.paired.specs.Opening.{as_read}

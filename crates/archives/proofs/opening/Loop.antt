@@ -6,12 +6,12 @@ use Rattle.blob_device.specs.Opened.{OpenedList, reads_of}
 use Rattle.blob_device.specs.Timeline.{Timeline, disk}
 use Rattle.value_codec.specs.declared.codec.Error as codec
 use Rattle.sealed_pages.specs.declared.page_blob.PageBlob.{PageBlob}
-use Rattle.segments.specs.declared.buffer.SectionBuffer as buffer
-use Rattle.segments.specs.declared.journal.Error.{Error}
-use Rattle.segments.specs.declared.unsealed.WriteFactory.{WriteFactory}
+use Rattle.section_manager.specs.declared.buffer.SectionBuffer as buffer
+use Rattle.section_manager.specs.declared.journal.Error.{Error}
+use Rattle.section_manager.specs.declared.unsealed.WriteFactory.{WriteFactory}
+use Rattle.section_manager.specs.Sections.{IsHeld, SameBounds, section_key}
+use Rattle.section_manager.specs.Setting.{Setting}
 use Rattle.segments.specs.FixedReplay.{IsDrained}
-use Rattle.segments.specs.Sections.{IsHeld, SameBounds, section_key}
-use Rattle.segments.specs.Setting.{Setting}
 use Rattle.meta_store.specs.Store.{contents_of}
 use Rattle.paired.specs.Kept.{Layout}
 use Rattle.paired.specs.ReplayShown.{run_of}

@@ -7,7 +7,7 @@ use Rattle.meta_store.specs.Store.{Stands, contents_of}
 use Rattle.meta_store.specs.declared.error.Side.{Side}
 use Rattle.meta_store.proofs.Uses.{IsReadable}
 use Rattle.sealed_pages.specs.declared.page_blob.PageBlob.{PageBlob}
-use Rattle.segments.specs.Sections.{section_key}
+use Rattle.section_manager.specs.Sections.{section_key}
 use Rattle.paired.specs.Kept.{Layout, Markers, kept, marker_of, stored_records}
 use Rattle.paired.specs.Crashes.{HoldMarkers}
 use Rattle.paired.specs.Opening.{IsLawful, OnlyOpens, as_read}

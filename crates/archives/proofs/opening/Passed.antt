@@ -18,16 +18,16 @@ use Rattle.sealed_pages.proofs.ReadLemmas.{read_data}
 use Rattle.sealed_pages.proofs.SlotLemmas.{times_next}
 use Rattle.sealed_pages.proofs.Truncating.{all_flushed}
 use Rattle.sealed_pages.proofs.UnrecoveredLemmas.{prefix_short}
-use Rattle.segments.specs.declared.buffer.SectionBuffer as buffer
-use Rattle.segments.specs.declared.journal.Damage.{Damage}
-use Rattle.segments.specs.declared.unsealed.WriteFactory.{WriteFactory}
+use Rattle.section_manager.specs.declared.buffer.SectionBuffer as buffer
+use Rattle.section_manager.specs.declared.journal.Damage.{Damage}
+use Rattle.section_manager.specs.declared.unsealed.WriteFactory.{WriteFactory}
+use Rattle.section_manager.specs.Sections.{IsHeld, key_of}
+use Rattle.section_manager.specs.Setting.{Setting}
+use Rattle.section_manager.proofs.WalkLemmas.{has_value, none_or_value, some_same, value_of}
 use Rattle.segments.specs.FixedReplay.{EndsBelow, IsAhead, IsGoneOver, IsIn, IsLeft, Place, ReadsIn, StandsIn, first_of, kept_bytes}
-use Rattle.segments.specs.Sections.{IsHeld, key_of}
-use Rattle.segments.specs.Setting.{Setting}
 use Rattle.segments.proofs.FixedKept.{covered_length, flushed_data, prefix_data, sealed_flushed}
 use Rattle.segments.proofs.FixedWalks.{is_some}
 use Rattle.segments.proofs.FixedWriteLemmas.{ArePages}
-use Rattle.segments.proofs.WalkLemmas.{has_value, none_or_value, some_same, value_of}
 use Rattle.paired.specs.Kept.{Layout, content_at, is_sound_in, kept, stored_records}
 use Rattle.paired.specs.Opening.{as_read}
 use Rattle.paired.specs.Records.{entry_of, front, is_sound, records}

@@ -3,9 +3,9 @@ use Rattle.std.proofs.Common.{◌≡◌, ◌≢◌, inl, inr, sym, ◌∙◌, ap
 use Rattle.std.proofs.lemmas.Bool.Decides.{nat_tests}
 use Rattle.sealed_pages.specs.declared.page_blob.PageBlob.{PageBlob}
 use Rattle.sealed_pages.specs.declared.write_blob.WriteBlob.{WriteBlob}
+use Rattle.section_manager.specs.Sections.{IsSame, Sections}
+use Rattle.section_manager.specs.declared.unsealed.WriteFactory.{WriteFactory}
 use Rattle.segments.specs.Tails.{tail_held}
-use Rattle.segments.specs.Sections.{IsSame, Sections}
-use Rattle.segments.specs.declared.unsealed.WriteFactory.{WriteFactory}
 use Rattle.paired.specs.glob.Sections as glob
 use Rattle.paired.specs.Pair.{Pair}
 use Rattle.archives.specs.Archives.{Archive}

@@ -1,9 +1,9 @@
 -- What an append of the pair answers where it fails, and what the archive answers then.
 use Rattle.std.proofs.Common.{◌≡◌, ◌⊎◌, inl, inr, ℕ, Result, Err}
 use Rattle.std.specs.Result.{IsErrOf}
-use Rattle.segments.specs.Refusing.{HasFailed, HasNoRoom, IsPruned}
-use Rattle.segments.specs.declared.journal.Error as journal
-use Rattle.segments.specs.declared.journal.Error.TheVariants as section
+use Rattle.section_manager.specs.Refusing.{HasFailed, HasNoRoom, IsPruned}
+use Rattle.section_manager.specs.declared.journal.Error as journal
+use Rattle.section_manager.specs.declared.journal.Error.TheVariants as section
 use Rattle.archives.specs.Raised.{raised}
 use Rattle.archives.specs.declared.error.Error.{Error}
 use Rattle.archives.specs.declared.error.Error.TheVariants.{Full, Journal}

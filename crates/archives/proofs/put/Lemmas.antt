@@ -8,15 +8,15 @@ use Rattle.value_codec.specs.declared.codec.Error as codec
 use Rattle.sealed_pages.specs.declared.page_blob.PageBlob.{PageBlob}
 use Rattle.sealed_pages.specs.declared.write_blob.WriteBlob.{WriteBlob}
 use Rattle.sealed_pages.specs.Shown as page_blob
-use Rattle.segments.specs.declared.buffer.SectionBuffer as buffer
-use Rattle.segments.specs.declared.unsealed.WriteFactory.{WriteFactory}
+use Rattle.section_manager.specs.declared.buffer.SectionBuffer as buffer
+use Rattle.section_manager.specs.declared.unsealed.WriteFactory.{WriteFactory}
+use Rattle.section_manager.specs.Sections.{IsSame}
+use Rattle.section_manager.specs.Sections as sections
+use Rattle.section_manager.specs.SealedLaws.{counted}
+use Rattle.section_manager.specs.Setting.{Setting}
+use Rattle.section_manager.proofs.WalkLemmas.{none_or_value}
 use Rattle.segments.specs.FixedLists as fixed
-use Rattle.segments.specs.Sections.{IsSame}
-use Rattle.segments.specs.Sections as sections
-use Rattle.segments.specs.SealedLaws.{counted}
-use Rattle.segments.specs.Setting.{Setting}
 use Rattle.segments.proofs.FixedCutLemmas.{no_rest}
-use Rattle.segments.proofs.WalkLemmas.{none_or_value}
 use Rattle.paired.specs.glob.Sections as glob
 use Rattle.paired.specs.Pair.{Pair, IsPair, length_of, list_of, records_of, synced_length}
 use Rattle.paired.specs.Records as stored

@@ -7,7 +7,7 @@ use Rattle.meta_store.specs.Store.{Store}
 use Rattle.value_codec.specs.declared.codec.Error as codec
 use Rattle.value_codec.specs.declared.key.Key8.{Key8}
 use Rattle.sealed_pages.specs.declared.page_blob.PageBlob.{PageBlob}
-use Rattle.segments.specs.Sections.{section_key}
+use Rattle.section_manager.specs.Sections.{section_key}
 use Rattle.paired.specs.Crashes.{IsOwn}
 use Rattle.paired.specs.Kept.{IsSameLayout, Layout, marker_of}
 use Rattle.paired.specs.Pair.{synced_length}

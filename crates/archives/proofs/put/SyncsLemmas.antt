@@ -14,8 +14,8 @@ use Rattle.meta_store.specs.Store.{Store}
 use Rattle.meta_store.specs.declared.error.Error.TheVariants as metadata
 use Rattle.value_codec.specs.declared.key.Key8.{Key8}
 use Rattle.sealed_pages.specs.declared.page_blob.PageBlob.{PageBlob}
-use Rattle.segments.specs.declared.sealed.AppendFactory.{AppendFactory}
-use Rattle.segments.specs.declared.journal.Error.TheVariants as section
+use Rattle.section_manager.specs.declared.sealed.AppendFactory.{AppendFactory}
+use Rattle.section_manager.specs.declared.journal.Error.TheVariants as section
 use Rattle.paired.specs.Crashes.{IsOwn}
 use Rattle.paired.specs.Kept.{marker_of}
 use Rattle.paired.proofs.pair.Failing.{rose_before}

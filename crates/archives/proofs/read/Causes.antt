@@ -8,9 +8,9 @@ use Rattle.blob_device.specs.declared.runtime.RError.TheVariants as runtime
 use Rattle.value_codec.specs.declared.codec.Error as codec
 use Rattle.meta_store.specs.declared.error.Error.TheVariants as metadata
 use Rattle.sealed_pages.specs.declared.page_blob.PageBlob.{PageBlob}
+use Rattle.section_manager.specs.Sections.{key_of}
+use Rattle.section_manager.specs.declared.journal.Error.TheVariants as journal
 use Rattle.segments.specs.FixedReading.{IsDamaged}
-use Rattle.segments.specs.Sections.{key_of}
-use Rattle.segments.specs.declared.journal.Error.TheVariants as journal
 use Rattle.paired.specs.Frames.{HasFrame, IsBroken}
 use Rattle.paired.specs.glob.Sections as glob
 use Rattle.paired.proofs.pair.Failing.{rose_before}

@@ -3,11 +3,11 @@ use Rattle.std.proofs.Common.{◌≡◌, ◌⊎◌, inl, inr, refl, sym, ◌∙�
 use Rattle.std.specs.Result.{IsErrOf}
 use Rattle.blob_device.specs.declared.runtime.RError.TheVariants.{BlobInsufficientLength, Fault, InvalidChecksum, OffsetOverflow}
 use Rattle.value_codec.specs.declared.codec.Error as codec
+use Rattle.section_manager.specs.Refusing as segments
+use Rattle.section_manager.specs.declared.journal.Error as journal
+use Rattle.section_manager.specs.declared.journal.Error.TheVariants as section
 use Rattle.segments.specs.FixedReading as fixed
 use Rattle.segments.specs.FixedReading.{HasNotRead, IsPast}
-use Rattle.segments.specs.Refusing as segments
-use Rattle.segments.specs.declared.journal.Error as journal
-use Rattle.segments.specs.declared.journal.Error.TheVariants as section
 use Rattle.meta_store.specs.declared.error.Error as meta
 use Rattle.meta_store.specs.declared.error.Error.TheVariants as store
 use Rattle.paired.specs.glob.Reading as frames

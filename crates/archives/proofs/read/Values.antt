@@ -8,13 +8,13 @@ use Rattle.blob_device.specs.declared.runtime.RError.TheVariants.{BlobInsufficie
 use Rattle.value_codec.specs.declared.codec.Error as codec
 use Rattle.sealed_pages.specs.declared.page_blob.PageBlob.{PageBlob}
 use Rattle.sealed_pages.specs.declared.write_blob.WriteBlob.{WriteBlob}
-use Rattle.segments.specs.Refusing as segments
-use Rattle.segments.specs.Sections.{IsHeld}
-use Rattle.segments.specs.Setting.{Setting}
-use Rattle.segments.specs.unsealed.Buffer.{count_of}
-use Rattle.segments.specs.declared.journal.Error as journal
-use Rattle.segments.specs.declared.journal.Error.TheVariants as section
-use Rattle.segments.specs.declared.unsealed.WriteFactory.{WriteFactory}
+use Rattle.section_manager.specs.Refusing as segments
+use Rattle.section_manager.specs.Sections.{IsHeld}
+use Rattle.section_manager.specs.Setting.{Setting}
+use Rattle.section_manager.specs.unsealed.Buffer.{count_of}
+use Rattle.section_manager.specs.declared.journal.Error as journal
+use Rattle.section_manager.specs.declared.journal.Error.TheVariants as section
+use Rattle.section_manager.specs.declared.unsealed.WriteFactory.{WriteFactory}
 use Rattle.paired.specs.Frames.{HasFrame, IsBroken, bytes_at}
 use Rattle.paired.specs.glob.Reading as frames
 use Rattle.paired.specs.glob.Sections as glob

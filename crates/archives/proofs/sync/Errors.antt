@@ -5,10 +5,10 @@ use Rattle.blob_device.specs.Counts.{Rose}
 use Rattle.blob_device.specs.declared.runtime.RError.TheVariants.{Fault}
 use Rattle.meta_store.specs.declared.error.Error.TheVariants as store
 use Rattle.sealed_pages.specs.declared.page_blob.PageBlob.{PageBlob}
-use Rattle.segments.specs.declared.journal.Error as journal
-use Rattle.segments.specs.declared.journal.Error.TheVariants as section
-use Rattle.segments.specs.Refusing.{IsPruned}
-use Rattle.segments.specs.Refusing as refusing
+use Rattle.section_manager.specs.declared.journal.Error as journal
+use Rattle.section_manager.specs.declared.journal.Error.TheVariants as section
+use Rattle.section_manager.specs.Refusing.{IsPruned}
+use Rattle.section_manager.specs.Refusing as refusing
 use Rattle.paired.specs.PairFaults.{StopsAtMarkers}
 use Rattle.paired.specs.PairRefusing as pair
 use Rattle.archives.specs.Archives.{Archive}

@@ -12,8 +12,8 @@ use Rattle.blob_device.specs.Timeline.{Timeline, disk, Always}
 use Rattle.blob_device.proofs.Moments.{always_now, always_weaker}
 use Rattle.sealed_pages.specs.declared.page_blob.PageBlob.{PageBlob}
 use Rattle.sealed_pages.specs.declared.write_blob.WriteBlob.{WriteBlob}
-use Rattle.segments.specs.Sections.{section_key, IsHeld}
-use Rattle.segments.proofs.WalkLemmas.{none_or_value}
+use Rattle.section_manager.specs.Sections.{section_key, IsHeld}
+use Rattle.section_manager.proofs.WalkLemmas.{none_or_value}
 use Rattle.value_codec.specs.declared.codec.Error as codec
 use Rattle.paired.specs.Crashes.{IsOwn, LeavesAlone}
 use Rattle.paired.specs.Crashes as pair

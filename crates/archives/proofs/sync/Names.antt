@@ -4,7 +4,7 @@ use Rattle.blob_device.specs.Disk.{Key}
 use Rattle.blob_device.specs.Timeline.{Timeline, disk, Always}
 use Rattle.blob_device.proofs.Moments.{always_now, always_weaker}
 use Rattle.sealed_pages.specs.declared.page_blob.PageBlob.{PageBlob}
-use Rattle.segments.specs.Sections.{IsHeld}
+use Rattle.section_manager.specs.Sections.{IsHeld}
 use Rattle.paired.specs.Crashes.{IsOneOf, IsOwn}
 use Rattle.paired.specs.Kept.{Layout}
 use Rattle.paired.specs.Pair.{Pair, IsMoving}

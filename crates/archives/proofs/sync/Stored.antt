@@ -8,15 +8,15 @@ use Rattle.sealed_pages.specs.Buffer.{size_of}
 use Rattle.sealed_pages.specs.Shown as page_blob
 use Rattle.sealed_pages.specs.declared.page_blob.PageBlob.{PageBlob}
 use Rattle.sealed_pages.specs.declared.write_blob.WriteBlob.{WriteBlob}
-use Rattle.segments.specs.declared.buffer.SectionBuffer as buffer
-use Rattle.segments.specs.declared.unsealed.WriteFactory.{WriteFactory}
+use Rattle.section_manager.specs.declared.buffer.SectionBuffer as buffer
+use Rattle.section_manager.specs.declared.unsealed.WriteFactory.{WriteFactory}
+use Rattle.section_manager.specs.Sections.{IsHeld, key_of}
+use Rattle.section_manager.specs.Setting.{Setting}
+use Rattle.section_manager.specs.unsealed.Buffer.{count_of, is_unsettled}
+use Rattle.section_manager.specs.unsealed.Laws.{counted, found_again, idle_parts}
+use Rattle.section_manager.proofs.WalkLemmas.{none_or_value}
 use Rattle.segments.specs.Tails.{tail_held}
 use Rattle.segments.specs.FixedLists as fixed
-use Rattle.segments.specs.Sections.{IsHeld, key_of}
-use Rattle.segments.specs.Setting.{Setting}
-use Rattle.segments.specs.unsealed.Buffer.{count_of, is_unsettled}
-use Rattle.segments.specs.unsealed.Laws.{counted, found_again, idle_parts}
-use Rattle.segments.proofs.WalkLemmas.{none_or_value}
 use Rattle.paired.specs.glob.Sections as glob
 use Rattle.paired.specs.Kept.{content_at}
 use Rattle.paired.specs.Opening.{as_read}

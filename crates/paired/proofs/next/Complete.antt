@@ -15,23 +15,23 @@ use Rattle.sealed_pages.specs.SealedPrefix.{sealed_prefix}
 use Rattle.sealed_pages.specs.Shown.{shown}
 use Rattle.sealed_pages.proofs.Truncating.{all_flushed}
 use Rattle.value_codec.specs.declared.codec.Error as codec
-use Rattle.segments.specs.declared.buffer.SectionBuffer as buffer
-use Rattle.segments.specs.declared.journal.Damage.{Damage}
-use Rattle.segments.specs.declared.journal.Error.{Error}
-use Rattle.segments.specs.declared.journal.Error.TheVariants.{ItemOutOfRange, Runtime, Codec, Corruption}
-use Rattle.segments.specs.declared.unsealed.WriteFactory.{WriteFactory}
+use Rattle.section_manager.specs.declared.buffer.SectionBuffer as buffer
+use Rattle.section_manager.specs.declared.journal.Damage.{Damage}
+use Rattle.section_manager.specs.declared.journal.Error.{Error}
+use Rattle.section_manager.specs.declared.journal.Error.TheVariants.{ItemOutOfRange, Runtime, Codec, Corruption}
+use Rattle.section_manager.specs.declared.unsealed.WriteFactory.{WriteFactory}
+use Rattle.section_manager.specs.Refusing.{HasFailed}
+use Rattle.section_manager.specs.SealedLaws.{all_settled}
+use Rattle.section_manager.specs.Sections.{section_key, key_of}
+use Rattle.section_manager.specs.Setting.{Setting}
+use Rattle.section_manager.proofs.WalkLemmas.{none_or_value}
 use Rattle.segments.specs.FixedLists.{size_held}
 use Rattle.segments.specs.FixedReading.{IsBelowFloor, HasNotRead}
 use Rattle.segments.specs.FixedReplay.{Walk, IsWalk, EndsBelow, FindsDamage, Replaying, kept_of, kept_bytes}
-use Rattle.segments.specs.Refusing.{HasFailed}
-use Rattle.segments.specs.SealedLaws.{all_settled}
-use Rattle.segments.specs.Sections.{section_key, key_of}
-use Rattle.segments.specs.Setting.{Setting}
 use Rattle.segments.proofs.FixedKept.{short_length, sealed_by_length, sealed_flushed}
 use Rattle.segments.proofs.FixedReading.{the_some}
 use Rattle.segments.proofs.FixedWalks.{is_some, some_of}
 use Rattle.segments.proofs.FixedWriteLemmas.{ArePages}
-use Rattle.segments.proofs.WalkLemmas.{none_or_value}
 use Rattle.meta_store.specs.Store.{contents_of}
 use Rattle.paired.specs.Kept.{content_at, stored_records}
 use Rattle.paired.specs.Opening.{as_read, IsLawful}

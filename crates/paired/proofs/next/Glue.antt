@@ -7,13 +7,13 @@ use Rattle.blob_device.specs.Disk.{Disk}
 use Rattle.blob_device.specs.Opened.{OpenedList}
 use Rattle.blob_device.specs.Timeline.{Timeline}
 use Rattle.sealed_pages.specs.declared.page_blob.PageBlob.{PageBlob}
-use Rattle.segments.specs.declared.buffer.SectionBuffer as buffer
-use Rattle.segments.specs.declared.sealed.AppendFactory.{AppendFactory}
-use Rattle.segments.specs.declared.unsealed.WriteFactory.{WriteFactory}
-use Rattle.segments.specs.Setting.{Setting}
+use Rattle.section_manager.specs.declared.buffer.SectionBuffer as buffer
+use Rattle.section_manager.specs.declared.sealed.AppendFactory.{AppendFactory}
+use Rattle.section_manager.specs.declared.unsealed.WriteFactory.{WriteFactory}
+use Rattle.section_manager.specs.Setting.{Setting}
+use Rattle.section_manager.specs.managing.Managed as manager
 use Rattle.segments.specs.FixedReplay.{Walk, SameWalk}
 use Rattle.segments.specs.FixedWalking.{walk_of}
-use Rattle.segments.specs.managing.Managed as manager
 use Rattle.meta_store.specs.Store as store
 use Rattle.paired.specs.declared.oversized.replaying.Replay.{Replay}
 use Rattle.paired.specs.declared.glob.recovery.Recovery.{Recovery}

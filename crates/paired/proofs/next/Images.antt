@@ -16,16 +16,16 @@ use Rattle.sealed_pages.specs.Cutting.{IsAtRest}
 use Rattle.sealed_pages.specs.SealedPrefix.{sealed_prefix}
 use Rattle.sealed_pages.specs.Shown.{shown}
 use Rattle.value_codec.specs.declared.codec.Error as codec
-use Rattle.segments.specs.declared.buffer.SectionBuffer as buffer
-use Rattle.segments.specs.declared.unsealed.WriteFactory.{WriteFactory}
+use Rattle.section_manager.specs.declared.buffer.SectionBuffer as buffer
+use Rattle.section_manager.specs.declared.unsealed.WriteFactory.{WriteFactory}
+use Rattle.section_manager.specs.SealedLaws.{no_chance, all_settled}
+use Rattle.section_manager.specs.Sections.{section_key, key_of, IsHeld}
+use Rattle.section_manager.specs.Setting.{Setting}
+use Rattle.section_manager.proofs.sections.KeyLemmas.{key_injective}
+use Rattle.section_manager.proofs.WalkLemmas.{none_or_value}
 use Rattle.segments.specs.FixedReplay.{Walk, SameItems, Replaying}
-use Rattle.segments.specs.SealedLaws.{no_chance, all_settled}
-use Rattle.segments.specs.Sections.{section_key, key_of, IsHeld}
-use Rattle.segments.specs.Setting.{Setting}
 use Rattle.segments.proofs.FixedOwed.{same_items}
 use Rattle.segments.proofs.FixedWriteLemmas.{ArePages}
-use Rattle.segments.proofs.sections.KeyLemmas.{key_injective}
-use Rattle.segments.proofs.WalkLemmas.{none_or_value}
 use Rattle.meta_store.specs.Blobs.{blob_of, bytes_of}
 use Rattle.meta_store.specs.Crashes as metadata
 use Rattle.meta_store.specs.declared.error.Side.{Side}

@@ -8,15 +8,15 @@ use Rattle.blob_device.specs.Opened.{OpenedList}
 use Rattle.blob_device.specs.Timeline.{Timeline, disk, Each}
 use Rattle.blob_device.proofs.Moments.{always_now}
 use Rattle.sealed_pages.specs.declared.page_blob.PageBlob.{PageBlob}
-use Rattle.segments.specs.declared.buffer.SectionBuffer as buffer
-use Rattle.segments.specs.declared.unsealed.WriteFactory.{WriteFactory}
+use Rattle.section_manager.specs.declared.buffer.SectionBuffer as buffer
+use Rattle.section_manager.specs.declared.unsealed.WriteFactory.{WriteFactory}
+use Rattle.section_manager.specs.Sections.{section_key, key_of, IsHeld}
+use Rattle.section_manager.specs.Setting.{Setting}
+use Rattle.section_manager.proofs.WalkLemmas.{none_or_value}
 use Rattle.segments.specs.FixedLists as fixed
 use Rattle.segments.specs.FixedReplay.{Walk, Replaying}
-use Rattle.segments.specs.Sections.{section_key, key_of, IsHeld}
-use Rattle.segments.specs.Setting.{Setting}
 use Rattle.segments.proofs.FixedWalks.{is_some, some_of}
 use Rattle.segments.proofs.FixedWriteLemmas.{ArePages}
-use Rattle.segments.proofs.WalkLemmas.{none_or_value}
 use Rattle.meta_store.specs.Store.{contents_of}
 use Rattle.paired.specs.Crashes.{IsIndexOf, Keeping}
 use Rattle.paired.specs.glob.Sections as glob

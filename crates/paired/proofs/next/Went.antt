@@ -9,9 +9,9 @@ use Rattle.sealed_pages.specs.declared.page_blob.PageBlob.{PageBlob}
 use Rattle.sealed_pages.specs.Shown.{shown}
 use Rattle.sealed_pages.specs.Buffer.{bytes_of}
 use Rattle.sealed_pages.specs.Reading.{Unchanged}
-use Rattle.segments.specs.declared.buffer.SectionBuffer as buffer
-use Rattle.segments.specs.Setting.{Setting}
-use Rattle.segments.specs.Sections.{section_key, key_of, IsHeld, StandsOver}
+use Rattle.section_manager.specs.declared.buffer.SectionBuffer as buffer
+use Rattle.section_manager.specs.Setting.{Setting}
+use Rattle.section_manager.specs.Sections.{section_key, key_of, IsHeld, StandsOver}
 use Rattle.segments.specs.FixedReplay.{Walk, IsAhead, IsIn, SameWalk, SameItems, IsSameOrCut, KeepsSections, KeepsFloors, KeepsBytes, KeepsItems, IsWalk, WalksOver, Replaying, LeavesNoMore}
 use Rattle.segments.proofs.FixedOwed.{same_items, items_then, same_or_cut, cut_then}
 use Rattle.segments.proofs.FixedWalks.{is_some, same_some, some_of, same_bytes}

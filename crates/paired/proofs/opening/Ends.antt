@@ -10,8 +10,8 @@ use Rattle.std.proofs.lemmas.Bool.Decides.{nat_tests}
 use Rattle.std.proofs.lemmas.List.{take_all, take-take, take-map, get_or-take}
 use Rattle.blob_device.specs.Disk.{Image}
 use Rattle.value_codec.specs.Keys.{key8_bytes}
-use Rattle.segments.specs.Fronts.{IsFront}
-use Rattle.segments.specs.Sections.{section_key}
+use Rattle.section_manager.specs.Fronts.{IsFront}
+use Rattle.section_manager.specs.Sections.{section_key}
 use Rattle.meta_store.specs.declared.error.Side.{Side}
 use Rattle.meta_store.specs.declared.error.Side.TheVariants.{Left, Right}
 use Rattle.meta_store.specs.Blobs.{blob_of, bytes_of}
@@ -23,7 +23,7 @@ use Rattle.paired.specs.Places.{Follow, end_of, last_end}
 use Rattle.paired.specs.Records.{Entry, is_sound, front, entry_of}
 use Rattle.paired.proofs.KeptLemmas.{EndsBy, follow_least, follow_ends, entry_same, settled_bytes, sound_parts, sound_settled, stored_entries}
 use Rattle.paired.proofs.pair.Synced.{unmarked_zero}
-use Rattle.segments.proofs.WalkLemmas.{none_or_value}
+use Rattle.section_manager.proofs.WalkLemmas.{none_or_value}
 use Rattle.paired.proofs.RecordLemmas.{all_take, all_with, map-same, front-take}
 
 -- ---- which records stand

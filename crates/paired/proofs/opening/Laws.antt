@@ -6,8 +6,8 @@ use Rattle.std.proofs.lemmas.List.{take_all, take-take}
 use Rattle.std.proofs.lemmas.List.Elements.{Contains-push}
 use Rattle.blob_device.specs.Disk.{Key, Blob, Disk, Image, IsCrashOf, IsSettled, NothingPending, AbsentIsNothing, AreBytes, MayLeave, past, reads, longest}
 use Rattle.sealed_pages.specs.ChanceSeal as pages
-use Rattle.segments.specs.SealedLaws.{no_chance}
-use Rattle.segments.specs.Sections.{section_key}
+use Rattle.section_manager.specs.SealedLaws.{no_chance}
+use Rattle.section_manager.specs.Sections.{section_key}
 use Rattle.meta_store.specs.declared.error.Side.{Side}
 use Rattle.meta_store.specs.Blobs.{blob_of}
 use Rattle.meta_store.specs.Crashes as metadata

@@ -10,7 +10,7 @@ use Rattle.std.proofs.lemmas.List.Elements.{recursion_from_All, Contains-append_
 use Rattle.blob_device.specs.Disk.{Key, Blob, Disk, settled_at}
 use Rattle.blob_device.specs.Timeline.{Timeline, disk, Always, Each}
 use Rattle.blob_device.proofs.Moments.{always_then, always_weaker, always_now}
-use Rattle.segments.specs.Lasting.{IsSettling}
+use Rattle.section_manager.specs.Lasting.{IsSettling}
 use Rattle.paired.proofs.tracking.Lemmas.{apart}
 
 -- ---- blobs that are settled as they read

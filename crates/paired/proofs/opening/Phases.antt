@@ -9,8 +9,8 @@ use Rattle.blob_device.specs.Disk.{Key, Blob, Disk, Image, IsCrashOf, MayLeave, 
 use Rattle.blob_device.proofs.Puts.{same_or_other}
 use Rattle.sealed_pages.specs.ChanceSeal as pages
 use Rattle.sealed_pages.specs.SealedPrefix.{sealed_prefix, Prefix}
-use Rattle.segments.specs.Fronts.{IsFront}
-use Rattle.segments.specs.Sections.{section_key}
+use Rattle.section_manager.specs.Fronts.{IsFront}
+use Rattle.section_manager.specs.Sections.{section_key}
 use Rattle.meta_store.specs.declared.error.Side.{Side}
 use Rattle.meta_store.specs.declared.error.Side.TheVariants.{Left, Right}
 use Rattle.meta_store.specs.Blobs.{blob_of, bytes_of}

@@ -11,9 +11,9 @@ use Rattle.blob_device.specs.Change.{Make, during}
 use Rattle.blob_device.proofs.Puts.{same_or_other, put_same, put_other}
 use Rattle.sealed_pages.specs.ChanceSeal as pages
 use Rattle.sealed_pages.specs.SealedPrefix.{sealed_prefix}
-use Rattle.segments.specs.Lasting.{IsSettling}
-use Rattle.segments.specs.SealedLaws.{no_chance}
-use Rattle.segments.specs.Sections.{section_key}
+use Rattle.section_manager.specs.Lasting.{IsSettling}
+use Rattle.section_manager.specs.SealedLaws.{no_chance}
+use Rattle.section_manager.specs.Sections.{section_key}
 use Rattle.meta_store.specs.declared.copy.CopyText.{CopyText}
 use Rattle.meta_store.specs.declared.error.Side.{Side}
 use Rattle.meta_store.specs.declared.error.Side.TheVariants.{Left, Right}

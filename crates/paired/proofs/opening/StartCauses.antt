@@ -11,11 +11,11 @@ use Rattle.meta_store.specs.declared.error.Error as meta
 use Rattle.meta_store.specs.declared.error.Error.TheVariants as store
 use Rattle.meta_store.specs.declared.error.Side.{Side}
 use Rattle.meta_store.specs.Opening.{PairOn}
-use Rattle.segments.specs.Raised.{raised_metadata}
-use Rattle.segments.specs.declared.journal.Damage.{Damage}
-use Rattle.segments.specs.declared.journal.Error.{Error}
-use Rattle.segments.specs.declared.journal.Error.TheVariants as journal
-use Rattle.segments.specs.Refusing.{HasFailed, HasNoRoom}
+use Rattle.section_manager.specs.Raised.{raised_metadata}
+use Rattle.section_manager.specs.declared.journal.Damage.{Damage}
+use Rattle.section_manager.specs.declared.journal.Error.{Error}
+use Rattle.section_manager.specs.declared.journal.Error.TheVariants as journal
+use Rattle.section_manager.specs.Refusing.{HasFailed, HasNoRoom}
 use Rattle.paired.specs.Kept.{Layout}
 use Rattle.paired.specs.OpeningFound.{HasCause}
 use Rattle.paired.specs.PairRefusing.{HasLostMarkers}

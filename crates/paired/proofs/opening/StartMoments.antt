@@ -5,9 +5,9 @@ use Rattle.blob_device.specs.Disk.{Key, Blob, Disk, reads, settled_at}
 use Rattle.blob_device.specs.Opened.{OpenedList}
 use Rattle.blob_device.specs.Timeline.{Timeline, disk, Always, Each}
 use Rattle.blob_device.proofs.Moments.{always_now, always_then, always_weaker}
-use Rattle.segments.specs.Lasting.{IsSettling}
-use Rattle.segments.specs.Refusing.{IsForeign}
-use Rattle.segments.specs.Sections.{section_key}
+use Rattle.section_manager.specs.Lasting.{IsSettling}
+use Rattle.section_manager.specs.Refusing.{IsForeign}
+use Rattle.section_manager.specs.Sections.{section_key}
 use Rattle.meta_store.specs.declared.error.Side.{Side}
 use Rattle.meta_store.specs.declared.error.Side.TheVariants.{Left, Right}
 use Rattle.meta_store.specs.Blobs.{blob_of}

@@ -15,13 +15,13 @@ use Rattle.sealed_pages.proofs.Adopt.{best_length, length-data_from}
 use Rattle.sealed_pages.proofs.Reaching.{prefix_size, size_at_most}
 use Rattle.sealed_pages.proofs.SlotLemmas.{slot_length-le, slot_stands, times_next, times_page}
 use Rattle.value_codec.specs.declared.codec.Error as codec
-use Rattle.segments.specs.declared.journal.Damage.{Damage}
+use Rattle.section_manager.specs.declared.journal.Damage.{Damage}
+use Rattle.section_manager.specs.Refusing.{IsOpenedTooLong}
+use Rattle.section_manager.specs.Sections.{section_key}
+use Rattle.section_manager.proofs.WalkLemmas.{value_of}
 use Rattle.segments.specs.FixedFloors.{IsRefused}
 use Rattle.segments.specs.FixedItems.{item_count, item_at}
-use Rattle.segments.specs.Refusing.{IsOpenedTooLong}
-use Rattle.segments.specs.Sections.{section_key}
 use Rattle.segments.proofs.FixedKept.{item_kept, prefix_data}
-use Rattle.segments.proofs.WalkLemmas.{value_of}
 use Rattle.paired.specs.Kept.{Layout, Markers, IsMarked, content_at, stored_records, is_sound_in}
 use Rattle.paired.specs.Opening.{as_read, IsLawful, OnlyOpens}
 use Rattle.paired.specs.OpeningRefusing.{AreCounted, AreSpellings, IsCutOff, IsLost, IsOutside, IsUnreadable, last_of}

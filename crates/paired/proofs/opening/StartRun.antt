@@ -12,13 +12,13 @@ use Rattle.sealed_pages.specs.View.{view}
 use Rattle.sealed_pages.proofs.Adopt.{length-data_from}
 use Rattle.sealed_pages.proofs.SlotLemmas.{times_page}
 use Rattle.value_codec.specs.declared.codec.Error as codec
-use Rattle.segments.specs.declared.journal.Damage.{Damage}
+use Rattle.section_manager.specs.declared.journal.Damage.{Damage}
+use Rattle.section_manager.specs.Sealed.{adopted_bytes}
+use Rattle.section_manager.specs.Sections.{section_key, key_of, IsHeld}
+use Rattle.section_manager.proofs.WalkLemmas.{none_or_value}
 use Rattle.segments.specs.FixedFloors.{IsRefused}
 use Rattle.segments.specs.FixedReplay.{Begins, IsLeft, kept_bytes, kept_of}
-use Rattle.segments.specs.Sealed.{adopted_bytes}
-use Rattle.segments.specs.Sections.{section_key, key_of, IsHeld}
 use Rattle.segments.proofs.FixedKept.{prefix_data}
-use Rattle.segments.proofs.WalkLemmas.{none_or_value}
 use Rattle.paired.specs.glob.Sections as glob
 use Rattle.paired.specs.Kept.{Layout, MarkerMap, IsMarked, marker_of, content_at}
 use Rattle.paired.specs.Opening.{as_read}

@@ -6,9 +6,9 @@ use Rattle.std.proofs.lemmas.List.{take-append-le, map-append}
 use Rattle.std.proofs.lemmas.Nat.{from_be_bytes-to_be_bytes_4}
 use Rattle.std.proofs.Math.Nat.{div-add-mod}
 use Rattle.std.proofs.Math.Seq.{take-length, take-append_seam, drop-append_seam, drop-append-add}
+use Rattle.section_manager.specs.Fronts.{IsFront}
 use Rattle.segments.specs.FixedItems.{item_at}
 use Rattle.segments.proofs.FixedKept.{last_place}
-use Rattle.segments.specs.Fronts.{IsFront}
 use Rattle.paired.specs.Frames.{bytes_at, frame}
 use Rattle.paired.specs.Places.{Follow, end_of}
 use Rattle.paired.specs.Records.{Entry, each_below, records, is_sound, entry_of}

@@ -3,8 +3,8 @@ use Rattle.std.proofs.Common.{◌≡◌, inl, inr, ℕ, ◌≤◌, max, Bool, tr
 use Rattle.std.proofs.lemmas.List.{nil_from_length}
 use Rattle.blob_device.specs.Disk.{Blob, nothing, greatest, longest}
 use Rattle.sealed_pages.specs.SealedPrefix.{sealed_prefix, Prefix}
-use Rattle.segments.specs.Lasting.{IsOpening, IsGoing}
-use Rattle.segments.specs.Fronts.{IsFront}
+use Rattle.section_manager.specs.Lasting.{IsOpening, IsGoing}
+use Rattle.section_manager.specs.Fronts.{IsFront}
 use Rattle.paired.specs.glob.Lasting.{Outlasts}
 use Rattle.paired.specs.Records.{records}
 use Rattle.paired.specs.Kept.{Layout}

@@ -5,8 +5,8 @@ use Rattle.std.proofs.Math.Seq.{take-length, take-append_seam}
 use Rattle.blob_device.specs.Disk.{Key, Blob, Disk, longest}
 use Rattle.blob_device.specs.Timeline.{Timeline, disk, Always, OnlyAt}
 use Rattle.blob_device.proofs.Moments.{always_now}
-use Rattle.segments.specs.Lasting.{IsGoing}
-use Rattle.segments.specs.Sections.{section_key}
+use Rattle.section_manager.specs.Lasting.{IsGoing}
+use Rattle.section_manager.specs.Sections.{section_key}
 use Rattle.meta_store.specs.Crashes as metadata
 use Rattle.paired.specs.Records.{Entry, records}
 use Rattle.paired.specs.Kept.{Layout, Markers, IsMarked}

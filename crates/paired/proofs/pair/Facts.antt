@@ -10,16 +10,16 @@ use Rattle.sealed_pages.specs.Buffer.{bytes_of}
 use Rattle.sealed_pages.specs.ChanceSeal as pages
 use Rattle.sealed_pages.specs.Shown.{shown}
 use Rattle.sealed_pages.proofs.Holding.{holds_leaves}
-use Rattle.segments.specs.declared.buffer.SectionBuffer as buffer
+use Rattle.section_manager.specs.declared.buffer.SectionBuffer as buffer
+use Rattle.section_manager.specs.Sections.{Sections, section_key, key_of, IsHeld, IsOver}
+use Rattle.section_manager.specs.Setting.{Setting}
+use Rattle.section_manager.specs.unsealed.Buffer.{content_of}
+use Rattle.section_manager.specs.unsealed.Laws.{passes, counted, settled_within}
+use Rattle.section_manager.specs.SealedLaws.{counted as index_counted}
+use Rattle.section_manager.proofs.WalkLemmas.{none_or_value}
 use Rattle.segments.specs.FixedLists.{Lists, IsProven, IsJournal}
 use Rattle.segments.specs.FixedLists as fixed
-use Rattle.segments.specs.Sections.{Sections, section_key, key_of, IsHeld, IsOver}
-use Rattle.segments.specs.Setting.{Setting}
-use Rattle.segments.specs.unsealed.Buffer.{content_of}
-use Rattle.segments.specs.unsealed.Laws.{passes, counted, settled_within}
-use Rattle.segments.specs.SealedLaws.{counted as index_counted}
 use Rattle.segments.proofs.FixedCutLemmas.{no_rest}
-use Rattle.segments.proofs.WalkLemmas.{none_or_value}
 use Rattle.value_codec.specs.declared.key.Key8.{Key8}
 use Rattle.meta_store.specs.declared.copy.CopyText.{CopyText}
 use Rattle.meta_store.specs.declared.copy.CopyText.TheVariants.{Absent}

@@ -7,11 +7,11 @@ use Rattle.blob_device.proofs.Results.{err_with}
 use Rattle.meta_store.specs.Calls.{GaveUp}
 use Rattle.meta_store.specs.declared.error.Error as meta
 use Rattle.meta_store.specs.declared.error.Error.TheVariants as store
-use Rattle.segments.specs.Raised.{raised_metadata}
+use Rattle.section_manager.specs.Raised.{raised_metadata}
 use Rattle.paired.proofs.FailLemmas.{failed_as}
-use Rattle.segments.specs.declared.journal.Error.{Error}
-use Rattle.segments.specs.declared.journal.Error.TheVariants.{Full}
-use Rattle.segments.specs.Refusing.{HasFailed, IsPruned}
+use Rattle.section_manager.specs.declared.journal.Error.{Error}
+use Rattle.section_manager.specs.declared.journal.Error.TheVariants.{Full}
+use Rattle.section_manager.specs.Refusing.{HasFailed, IsPruned}
 use Rattle.paired.specs.PairRefusing.{HasLostMarkers}
 
 -- a count that rose since a later moment rose since an earlier one

@@ -8,16 +8,16 @@ use Rattle.blob_device.specs.declared.runtime.RError.TheVariants.{Fault}
 use Rattle.sealed_pages.specs.Cutting.{IsAtRest}
 use Rattle.sealed_pages.specs.declared.page_blob.PageBlob.{PageBlob}
 use Rattle.sealed_pages.specs.declared.write_blob.WriteBlob.{WriteBlob}
-use Rattle.segments.specs.declared.buffer.SectionBuffer as buffer
-use Rattle.segments.specs.declared.journal.Error.{Error}
-use Rattle.segments.specs.declared.journal.Error.TheVariants.{Runtime, Full}
-use Rattle.segments.specs.declared.unsealed.WriteFactory.{WriteFactory}
+use Rattle.section_manager.specs.declared.buffer.SectionBuffer as buffer
+use Rattle.section_manager.specs.declared.journal.Error.{Error}
+use Rattle.section_manager.specs.declared.journal.Error.TheVariants.{Runtime, Full}
+use Rattle.section_manager.specs.declared.unsealed.WriteFactory.{WriteFactory}
+use Rattle.section_manager.specs.Raised.{raised_metadata}
+use Rattle.section_manager.specs.Refusing.{HasFailed, IsPruned}
+use Rattle.section_manager.specs.Sections.{Sections, section_key, key_of, IsHeld, IsSynced}
+use Rattle.section_manager.specs.Setting.{Setting}
+use Rattle.section_manager.proofs.WalkLemmas.{none_or_value, value_of}
 use Rattle.segments.specs.FixedLists.{Lists}
-use Rattle.segments.specs.Raised.{raised_metadata}
-use Rattle.segments.specs.Refusing.{HasFailed, IsPruned}
-use Rattle.segments.specs.Sections.{Sections, section_key, key_of, IsHeld, IsSynced}
-use Rattle.segments.specs.Setting.{Setting}
-use Rattle.segments.proofs.WalkLemmas.{none_or_value, value_of}
 use Rattle.meta_store.specs.declared.error.Error as meta
 use Rattle.meta_store.specs.declared.error.Side.{Side}
 use Rattle.meta_store.specs.Blobs.{blob_of}

@@ -3,9 +3,9 @@ use Rattle.std.proofs.Common.{◌≡◌, Result, Err, refl, ◌∙◌, sym, ap}
 use Rattle.std.specs.Result.{IsErrOf}
 use Rattle.meta_store.specs.declared.error.Error as meta
 use Rattle.meta_store.specs.declared.error.Error.TheVariants as metadata
-use Rattle.segments.specs.declared.journal.Error.{Error}
-use Rattle.segments.specs.declared.journal.Error.TheVariants.{Full}
-use Rattle.segments.specs.Raised.{raised_metadata}
+use Rattle.section_manager.specs.declared.journal.Error.{Error}
+use Rattle.section_manager.specs.declared.journal.Error.TheVariants.{Full}
+use Rattle.section_manager.specs.Raised.{raised_metadata}
 
 abbrev answer : (T : Type 0) → Error → Result T Error
 answer T e = Err e

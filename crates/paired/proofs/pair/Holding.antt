@@ -9,19 +9,19 @@ use Rattle.std.proofs.lemmas.Nat.{div_below}
 use Rattle.blob_device.specs.Disk.{Blob, Disk, Image, IsCrashOf, past, longest, MayLeave}
 use Rattle.sealed_pages.specs.ChanceSeal as pages
 use Rattle.sealed_pages.specs.SealedPrefix.{sealed_prefix, Prefix}
-use Rattle.segments.specs.Sections.{section_key}
+use Rattle.section_manager.specs.Sections.{section_key}
 use Rattle.value_codec.specs.Keys.{key8_bytes}
 use Rattle.meta_store.specs.declared.error.Side.{Side}
 use Rattle.meta_store.specs.declared.error.Side.TheVariants.{Left, Right}
 use Rattle.meta_store.specs.Blobs.{blob_of, bytes_of}
 use Rattle.meta_store.specs.Crashes as metadata
 use Rattle.meta_store.specs.Pairs.{HoldMap}
-use Rattle.segments.specs.Fronts.{IsFront}
+use Rattle.section_manager.specs.Fronts.{IsFront}
 use Rattle.paired.specs.Records.{Entry, records, is_sound, front, entry_of}
 use Rattle.paired.specs.Kept.{Layout, Markers, MarkerMap, IsMarked, marker_of, content_at, stored_records, kept, IsTrueMarker}
 use Rattle.paired.specs.Crashes.{IsPrefix, WasThere, NoChanceSeal, Keeps, Leaves}
 use Rattle.paired.specs.Holding.{Facts, list_in, AreGood, IsLasting, IsFading, IndexStands, LeavesNoRecords, ValuesStand, SectionStands, AreTrue, Holding}
-use Rattle.segments.proofs.buffers.NothingSealed.{nothing_sealed}
+use Rattle.section_manager.proofs.buffers.NothingSealed.{nothing_sealed}
 use Rattle.paired.proofs.RecordLemmas.{length-records, records-front, records-enough, all_take, all_by}
 use Rattle.paired.proofs.KeptLemmas.{kept_prefix, marker_sound, stored_entries, settled_length}
 

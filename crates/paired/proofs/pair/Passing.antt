@@ -7,12 +7,12 @@ use Rattle.blob_device.specs.Opened.{OpenedList}
 use Rattle.blob_device.proofs.Results.{err_with}
 use Rattle.sealed_pages.specs.declared.page_blob.PageBlob.{PageBlob}
 use Rattle.sealed_pages.specs.Entries.{ReadsAtMost}
-use Rattle.segments.specs.declared.journal.Error.{Error}
-use Rattle.segments.specs.declared.journal.Error.TheVariants.{Full, AlreadyPrunedToSection, OffsetOverflow}
+use Rattle.section_manager.specs.declared.journal.Error.{Error}
+use Rattle.section_manager.specs.declared.journal.Error.TheVariants.{Full, AlreadyPrunedToSection, OffsetOverflow}
+use Rattle.section_manager.specs.Refusing.{HasFailed, IsPruned}
+use Rattle.section_manager.specs.Sections.{Sections}
 use Rattle.segments.specs.FixedLists.{section_size, size_held}
 use Rattle.segments.specs.FixedReading.{IsAbsent, HasNotRead}
-use Rattle.segments.specs.Refusing.{HasFailed, IsPruned}
-use Rattle.segments.specs.Sections.{Sections}
 use Rattle.paired.specs.PairRefusing.{HasLostMarkers}
 use Rattle.paired.proofs.FailLemmas.{failed_as}
 use Rattle.paired.proofs.pair.Failing.{failed_before}

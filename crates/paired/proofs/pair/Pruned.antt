@@ -1,9 +1,9 @@
 -- A refusal of a section, handed on by the calls above.
 use Rattle.std.proofs.Common.{◌≡◌, ℕ, Result, Err, sym, ◌∙◌, ap}
 use Rattle.std.specs.Prelude.{◌↔◌}
-use Rattle.segments.specs.declared.journal.Error.{Error}
-use Rattle.segments.specs.declared.journal.Error.TheVariants.{AlreadyPrunedToSection}
-use Rattle.segments.specs.Refusing.{IsPruned}
+use Rattle.section_manager.specs.declared.journal.Error.{Error}
+use Rattle.section_manager.specs.declared.journal.Error.TheVariants.{AlreadyPrunedToSection}
+use Rattle.section_manager.specs.Refusing.{IsPruned}
 
 abbrev refusal : (U : Type 0) → Error → Result U Error
 refusal U e = Err e

@@ -20,22 +20,22 @@ use Rattle.sealed_pages.specs.Entries.{IsOpenAt, ReadsAtMost}
 use Rattle.sealed_pages.specs.Shown.{shown}
 use Rattle.sealed_pages.proofs.EntryLemmas.{only_read_of}
 use Rattle.sealed_pages.proofs.WholeLemmas.{whole_read}
-use Rattle.segments.specs.declared.buffer.SectionBuffer as buffer
-use Rattle.segments.specs.declared.journal.Error.{Error}
-use Rattle.segments.specs.declared.journal.Error.TheVariants.{Runtime, Codec, ChecksumMismatch}
+use Rattle.section_manager.specs.declared.buffer.SectionBuffer as buffer
+use Rattle.section_manager.specs.declared.journal.Error.{Error}
+use Rattle.section_manager.specs.declared.journal.Error.TheVariants.{Runtime, Codec, ChecksumMismatch}
 use Rattle.blob_device.specs.declared.runtime.RError.TheVariants.{InvalidChecksum}
 use Rattle.value_codec.specs.declared.codec.Error as codec
+use Rattle.section_manager.specs.Refusing.{IsPruned, HasFailed}
+use Rattle.section_manager.specs.SealedLaws.{counted}
+use Rattle.section_manager.specs.Sections.{Sections, key_of, IsHeld, IsOver}
+use Rattle.section_manager.specs.Setting.{Setting}
+use Rattle.section_manager.specs.declared.unsealed.WriteFactory.{WriteFactory}
+use Rattle.section_manager.specs.unsealed.Buffer.{count_of}
+use Rattle.section_manager.proofs.WalkLemmas.{none_or_value}
 use Rattle.segments.specs.FixedItems.{item_count, item_at, IsItem}
 use Rattle.segments.specs.FixedLists as fixed
 use Rattle.segments.specs.FixedReading.{IsAbsent, IsPast, IsDamaged, HasNotRead}
-use Rattle.segments.specs.Refusing.{IsPruned, HasFailed}
-use Rattle.segments.specs.SealedLaws.{counted}
-use Rattle.segments.specs.Sections.{Sections, key_of, IsHeld, IsOver}
-use Rattle.segments.specs.Setting.{Setting}
-use Rattle.segments.specs.declared.unsealed.WriteFactory.{WriteFactory}
-use Rattle.segments.specs.unsealed.Buffer.{count_of}
 use Rattle.segments.proofs.FixedSections.{size_here, from_here, is_held, journal_read}
-use Rattle.segments.proofs.WalkLemmas.{none_or_value}
 use Rattle.meta_store.specs.Blobs.{blob_of}
 use Rattle.meta_store.specs.declared.error.Side.TheVariants.{Left, Right}
 use Rattle.meta_store.specs.Store.{contents_of}

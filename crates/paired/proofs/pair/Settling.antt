@@ -7,17 +7,17 @@ use Rattle.blob_device.specs.Timeline.{Timeline, disk, Always, Each}
 use Rattle.blob_device.proofs.Moments.{always_now, always_then, always_weaker}
 use Rattle.sealed_pages.specs.declared.page_blob.PageBlob.{PageBlob}
 use Rattle.sealed_pages.specs.declared.write_blob.WriteBlob.{WriteBlob}
-use Rattle.segments.specs.declared.buffer.SectionBuffer as buffer
-use Rattle.segments.specs.declared.unsealed.WriteFactory.{WriteFactory}
+use Rattle.section_manager.specs.declared.buffer.SectionBuffer as buffer
+use Rattle.section_manager.specs.declared.unsealed.WriteFactory.{WriteFactory}
+use Rattle.section_manager.specs.Lasting as lasting
+use Rattle.section_manager.specs.Sections.{Sections, section_key, key_of, IsHeld, IsKeyOf, SameBounds, IsSynced}
+use Rattle.section_manager.specs.Setting.{Setting}
+use Rattle.section_manager.specs.unsealed.Buffer.{content_of}
+use Rattle.section_manager.proofs.sections.KeyLemmas.{key_injective}
+use Rattle.section_manager.proofs.WalkLemmas.{none_or_value, value_of}
 use Rattle.segments.specs.FixedLasting as fixed
 use Rattle.segments.specs.FixedLists.{Lists, IsJournal}
-use Rattle.segments.specs.Lasting as lasting
-use Rattle.segments.specs.Sections.{Sections, section_key, key_of, IsHeld, IsKeyOf, SameBounds, IsSynced}
-use Rattle.segments.specs.Setting.{Setting}
-use Rattle.segments.specs.unsealed.Buffer.{content_of}
 use Rattle.segments.proofs.FixedWriteLemmas.{ArePages}
-use Rattle.segments.proofs.sections.KeyLemmas.{key_injective}
-use Rattle.segments.proofs.WalkLemmas.{none_or_value, value_of}
 use Rattle.meta_store.specs.Store.{contents_of}
 use Rattle.paired.specs.Crashes.{IsIndexOf, IsValuesOf, IsBlobOf, IsCopy, IsOwn, InOrder, LeavesAlone, Keeping}
 use Rattle.paired.specs.glob.Lasting.{Outlasts}

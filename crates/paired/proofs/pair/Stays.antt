@@ -5,10 +5,10 @@ use Rattle.blob_device.specs.Opened.{Opened, OpenedList}
 use Rattle.sealed_pages.specs.Buffer.{IsSealed}
 use Rattle.sealed_pages.specs.declared.page_blob.PageBlob.{PageBlob}
 use Rattle.sealed_pages.specs.Shown.{shown}
-use Rattle.segments.specs.declared.buffer.SectionBuffer as buffer
+use Rattle.section_manager.specs.declared.buffer.SectionBuffer as buffer
+use Rattle.section_manager.specs.Sections.{key_of}
+use Rattle.section_manager.specs.Setting.{Setting}
 use Rattle.segments.specs.FixedLists.{Lists, IsJournal}
-use Rattle.segments.specs.Sections.{key_of}
-use Rattle.segments.specs.Setting.{Setting}
 
 -- a journal stays what it is where the blobs of its sections stay, in the list and on the disk
 pub journal_stays : {F S : Type 0} {gs : _} {g : buffer.Ghosts (PageBlob S gs)} {gives : F → Setting} {told : Type 0} (seal : List ℕ → ℕ) (size : ℕ) (j : Lists F (PageBlob S gs)) (old new : OpenedList) (d e : Disk)

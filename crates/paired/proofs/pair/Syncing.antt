@@ -1,8 +1,8 @@
 -- What a sync of sections, with the markers moved behind it, makes of a pair.
 use Rattle.std.proofs.Common.{◌≡◌, ◌⊎◌, ℕ, ◌/◌, List, Result, Ok, Err, IfOk, sym, ◌∙◌, ap, subst}
 use Rattle.std.specs.Prelude.{◌↔◌, ◌≢◌}
+use Rattle.section_manager.specs.Sections.{IsHeld, IsSame, SameBounds}
 use Rattle.segments.specs.FixedLists as fixed
-use Rattle.segments.specs.Sections.{IsHeld, IsSame, SameBounds}
 use Rattle.paired.specs.glob.Sections as glob
 use Rattle.paired.specs.Kept.{IsMarked, IsSameLayout, marker_of}
 use Rattle.paired.specs.Pair.{IsMoving, length_of, synced_length}

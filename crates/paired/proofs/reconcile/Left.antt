@@ -6,14 +6,14 @@ use Rattle.blob_device.specs.Timeline.{Timeline, disk, Always}
 use Rattle.blob_device.proofs.Moments.{always_then, always_weaker, always_now}
 use Rattle.sealed_pages.specs.declared.page_blob.PageBlob.{PageBlob}
 use Rattle.sealed_pages.specs.Reading.{Unchanged}
-use Rattle.segments.specs.Sections.{IsHeld}
+use Rattle.section_manager.specs.Sections.{IsHeld}
 use Rattle.meta_store.specs.Blobs.{blob_of, other_side}
 use Rattle.paired.specs.Crashes.{IsBlobOf, IsCopy, IsIndexOf, IsOwn, IsValuesOf, InOrder}
 use Rattle.paired.specs.Opening.{MayBeOpened, Same, Recalls, RecallsAlone}
 use Rattle.paired.specs.Pair.{AreApart}
 use Rattle.paired.specs.Replaying.{Run, IsAllKept, IsClean}
-use Rattle.segments.proofs.sections.KeyLemmas.{key_injective}
-use Rattle.segments.proofs.WalkLemmas.{none_or_value}
+use Rattle.section_manager.proofs.sections.KeyLemmas.{key_injective}
+use Rattle.section_manager.proofs.WalkLemmas.{none_or_value}
 use Rattle.paired.proofs.opening.Ends.{same_order}
 use Rattle.paired.proofs.Steps.{Stay, stay_fewer, both_always, Step, no_step, step_then, step_wider, order_fewer, FirstKinds, LaterKinds, Ascends, ascend_start, ascend_then}
 

@@ -9,14 +9,14 @@ use Rattle.blob_device.specs.Timeline.{Timeline, disk}
 use Rattle.sealed_pages.specs.declared.page_blob.PageBlob.{PageBlob}
 use Rattle.sealed_pages.specs.declared.write_blob.WriteBlob.{WriteBlob}
 use Rattle.sealed_pages.specs.Shown.{shown}
-use Rattle.segments.specs.declared.buffer.SectionBuffer as buffer
-use Rattle.segments.specs.declared.unsealed.WriteFactory.{WriteFactory}
+use Rattle.section_manager.specs.declared.buffer.SectionBuffer as buffer
+use Rattle.section_manager.specs.declared.unsealed.WriteFactory.{WriteFactory}
+use Rattle.section_manager.specs.SealedLaws.{counted as index_counted}
+use Rattle.section_manager.specs.Sections.{Sections, section_key, key_of, IsHeld, SameBounds, SamePlace}
+use Rattle.section_manager.specs.Setting.{Setting}
+use Rattle.section_manager.proofs.WalkLemmas.{none_or_value, same_bounds}
 use Rattle.segments.specs.FixedLists.{Lists}
 use Rattle.segments.specs.FixedLists as fixed
-use Rattle.segments.specs.SealedLaws.{counted as index_counted}
-use Rattle.segments.specs.Sections.{Sections, section_key, key_of, IsHeld, SameBounds, SamePlace}
-use Rattle.segments.specs.Setting.{Setting}
-use Rattle.segments.proofs.WalkLemmas.{none_or_value, same_bounds}
 use Rattle.meta_store.specs.Calls.{IsOpened}
 use Rattle.paired.specs.glob.Sections as glob
 use Rattle.paired.specs.Kept.{IsMarked, IsSameLayout, marker_of}

@@ -14,19 +14,19 @@ use Rattle.sealed_pages.specs.declared.page_blob.PageBlob.{PageBlob}
 use Rattle.sealed_pages.specs.declared.write_blob.WriteBlob.{WriteBlob}
 use Rattle.sealed_pages.proofs.Looking.{slot_short}
 use Rattle.sealed_pages.proofs.Truncating.{all_flushed, settles_of}
-use Rattle.segments.specs.declared.buffer.SectionBuffer as buffer
-use Rattle.segments.specs.declared.unsealed.WriteFactory.{WriteFactory}
+use Rattle.section_manager.specs.declared.buffer.SectionBuffer as buffer
+use Rattle.section_manager.specs.declared.unsealed.WriteFactory.{WriteFactory}
+use Rattle.section_manager.specs.SealedLaws.{no_chance}
+use Rattle.section_manager.specs.SealedLaws as sealed_laws
+use Rattle.section_manager.specs.Sections.{Sections, section_key, key_of, IsHeld, IsOver}
+use Rattle.section_manager.specs.Setting.{Setting}
+use Rattle.section_manager.specs.unsealed.Buffer.{count_of, is_unsettled}
+use Rattle.section_manager.specs.unsealed.Laws.{rested, found_again}
+use Rattle.section_manager.proofs.buffers.NothingSealed.{nothing_sealed}
+use Rattle.section_manager.proofs.WalkLemmas.{value_of, none_or_value, some_same}
 use Rattle.segments.specs.FixedLists.{Lists, IsJournal, IsProven}
 use Rattle.segments.specs.FixedLists as fixed
-use Rattle.segments.specs.SealedLaws.{no_chance}
-use Rattle.segments.specs.SealedLaws as sealed_laws
-use Rattle.segments.specs.Sections.{Sections, section_key, key_of, IsHeld, IsOver}
-use Rattle.segments.specs.Setting.{Setting}
-use Rattle.segments.specs.unsealed.Buffer.{count_of, is_unsettled}
-use Rattle.segments.specs.unsealed.Laws.{rested, found_again}
 use Rattle.segments.proofs.FixedWriteLemmas.{ArePages}
-use Rattle.segments.proofs.buffers.NothingSealed.{nothing_sealed}
-use Rattle.segments.proofs.WalkLemmas.{value_of, none_or_value, some_same}
 use Rattle.std.proofs.lemmas.List.Elements.{Contains-push}
 use Rattle.value_codec.specs.declared.key.Key8.{Key8}
 use Rattle.meta_store.specs.declared.error.Side.{Side}

@@ -7,11 +7,11 @@ use Rattle.blob_device.specs.Timeline.{Timeline, disk, Always}
 use Rattle.sealed_pages.specs.declared.page_blob.PageBlob.{PageBlob}
 use Rattle.sealed_pages.specs.declared.write_blob.WriteBlob.{WriteBlob}
 use Rattle.sealed_pages.specs.Reading.{Unchanged}
-use Rattle.segments.specs.declared.buffer.SectionBuffer as buffer
-use Rattle.segments.specs.declared.unsealed.WriteFactory.{WriteFactory}
+use Rattle.section_manager.specs.declared.buffer.SectionBuffer as buffer
+use Rattle.section_manager.specs.declared.unsealed.WriteFactory.{WriteFactory}
+use Rattle.section_manager.specs.Sections.{Sections, IsHeld}
+use Rattle.section_manager.specs.Setting.{Setting}
 use Rattle.segments.specs.FixedLists.{Lists}
-use Rattle.segments.specs.Sections.{Sections, IsHeld}
-use Rattle.segments.specs.Setting.{Setting}
 use Rattle.meta_store.specs.Blobs.{blob_of, other_side}
 use Rattle.meta_store.proofs.Uses.{IsReadable}
 use Rattle.paired.specs.Crashes.{IsCopy, Keeping}

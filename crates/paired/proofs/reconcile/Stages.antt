@@ -5,14 +5,14 @@ use Rattle.blob_device.specs.Opened.{OpenedList}
 use Rattle.blob_device.specs.Timeline.{Timeline, disk, Always, Each}
 use Rattle.sealed_pages.specs.declared.page_blob.PageBlob.{PageBlob}
 use Rattle.sealed_pages.specs.declared.write_blob.WriteBlob.{WriteBlob}
-use Rattle.segments.specs.declared.buffer.SectionBuffer as buffer
-use Rattle.segments.specs.declared.unsealed.WriteFactory.{WriteFactory}
+use Rattle.section_manager.specs.declared.buffer.SectionBuffer as buffer
+use Rattle.section_manager.specs.declared.unsealed.WriteFactory.{WriteFactory}
+use Rattle.section_manager.specs.Sections.{Sections, IsHeld, IsKeyOf}
+use Rattle.section_manager.specs.Setting.{Setting}
+use Rattle.section_manager.proofs.sections.KeyLemmas.{key_injective}
+use Rattle.section_manager.proofs.WalkLemmas.{none_or_value}
 use Rattle.segments.specs.FixedLists.{Lists}
 use Rattle.segments.specs.FixedLists as fixed
-use Rattle.segments.specs.Sections.{Sections, IsHeld, IsKeyOf}
-use Rattle.segments.specs.Setting.{Setting}
-use Rattle.segments.proofs.sections.KeyLemmas.{key_injective}
-use Rattle.segments.proofs.WalkLemmas.{none_or_value}
 use Rattle.meta_store.proofs.Uses.{IsReadable}
 use Rattle.paired.specs.Crashes.{IsBlobOf, IsIndexOf}
 use Rattle.paired.specs.glob.Lasting.{Cutting}

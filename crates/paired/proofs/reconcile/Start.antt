@@ -6,15 +6,15 @@ use Rattle.blob_device.specs.Disk.{Disk}
 use Rattle.blob_device.specs.Opened.{OpenedList}
 use Rattle.sealed_pages.specs.SealedPrefix.{sealed_prefix}
 use Rattle.sealed_pages.specs.declared.page_blob.PageBlob.{PageBlob}
-use Rattle.segments.specs.declared.buffer.SectionBuffer as buffer
-use Rattle.segments.specs.declared.unsealed.WriteFactory.{WriteFactory}
+use Rattle.section_manager.specs.declared.buffer.SectionBuffer as buffer
+use Rattle.section_manager.specs.declared.unsealed.WriteFactory.{WriteFactory}
+use Rattle.section_manager.specs.Sections.{Sections, section_key, key_of, IsOver}
+use Rattle.section_manager.specs.Setting.{Setting}
+use Rattle.section_manager.proofs.WalkLemmas.{none_or_value}
 use Rattle.segments.specs.FixedLists.{Lists, IsJournal, IsProven, OwesHeld, OwesSettled, AreSealed, UnopenedLater}
 use Rattle.segments.specs.FixedLists as fixed
 use Rattle.segments.specs.FixedReplay.{HasWalk, WalksOver, IsDrained, IsLeft, kept_of, kept_bytes}
-use Rattle.segments.specs.Sections.{Sections, section_key, key_of, IsOver}
-use Rattle.segments.specs.Setting.{Setting}
 use Rattle.segments.proofs.FixedWriteLemmas.{ArePages}
-use Rattle.segments.proofs.WalkLemmas.{none_or_value}
 use Rattle.paired.specs.glob.Sections as glob
 use Rattle.paired.specs.Kept.{content_at, stored_records, is_sound_in, kept}
 use Rattle.paired.specs.Opening.{as_read, Same}

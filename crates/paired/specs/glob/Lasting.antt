@@ -2,10 +2,10 @@
 use Rattle.std.specs.Prelude.{◌≡◌, ◌⊎◌, ℕ, ◌<◌, ◌≤◌, min, List, [], take, Option, Some, IsSomeAnd}
 use Rattle.blob_device.specs.Disk.{Key, Blob, Disk, MayLeave, nothing}
 use Rattle.sealed_pages.specs.declared.write_blob.WriteBlob.{WriteBlob}
-use Rattle.segments.specs.Sections.{Sections, key_of, IsKnown, IsKeyOf}
-use Rattle.segments.specs.Lasting.{IsOpening, Going}
-use Rattle.segments.specs.unsealed.Buffer.{content_of}
-use Rattle.segments.specs.Fronts.{IsFront}
+use Rattle.section_manager.specs.Sections.{Sections, key_of, IsKnown, IsKeyOf}
+use Rattle.section_manager.specs.Lasting.{IsOpening, Going}
+use Rattle.section_manager.specs.unsealed.Buffer.{content_of}
+use Rattle.section_manager.specs.Fronts.{IsFront}
 use Rattle.paired.specs.glob.Sections.{HadFronts, IsUnsettled, IsLonger}
 
 -- Each crash leaves the blob, and the kept bytes at its front. Where a crash may leave it at all, each content that the blob has had since

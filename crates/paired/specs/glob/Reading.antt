@@ -4,9 +4,9 @@ use Rattle.std.specs.Result.{IsErrOf}
 use Rattle.blob_device.specs.declared.runtime.RError.TheVariants.{OffsetOverflow, BlobInsufficientLength}
 use Rattle.value_codec.specs.declared.codec.Error as codec
 use Rattle.sealed_pages.specs.declared.write_blob.WriteBlob.{WriteBlob}
-use Rattle.segments.specs.declared.journal.Error.{Error}
-use Rattle.segments.specs.declared.journal.Error.TheVariants.{Runtime, Codec, SectionOutOfRange, ChecksumMismatch}
-use Rattle.segments.specs.unsealed.Buffer.{count_of}
+use Rattle.section_manager.specs.declared.journal.Error.{Error}
+use Rattle.section_manager.specs.declared.journal.Error.TheVariants.{Runtime, Codec, SectionOutOfRange, ChecksumMismatch}
+use Rattle.section_manager.specs.unsealed.Buffer.{count_of}
 
 -- n bytes from a place on are inside the buffer, and enough for a seal
 pub record IsInside (u : WriteBlob) (at n : ℕ) : Type 0 where

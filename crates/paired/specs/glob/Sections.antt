@@ -5,11 +5,11 @@ use Rattle.blob_device.specs.Opened.{OpenedList}
 use Rattle.sealed_pages.specs.declared.write_blob.WriteBlob.{WriteBlob}
 use Rattle.sealed_pages.specs.Contents.{AllSince}
 use Rattle.sealed_pages.specs.unsealed.Writing.{shown, is_idle, size_of, Joins, AllPending, StandsBehind}
-use Rattle.segments.specs.declared.buffer.SectionBuffer as buffer
-use Rattle.segments.specs.Fronts.{IsFront}
-use Rattle.segments.specs.Setting.{Setting}
-use Rattle.segments.specs.Sections.{Sections, key_of, IsOver}
-use Rattle.segments.specs.unsealed.Buffer.{content_of, count_of, is_unsettled, IsWhole}
+use Rattle.section_manager.specs.declared.buffer.SectionBuffer as buffer
+use Rattle.section_manager.specs.Fronts.{IsFront}
+use Rattle.section_manager.specs.Setting.{Setting}
+use Rattle.section_manager.specs.Sections.{Sections, key_of, IsOver}
+use Rattle.section_manager.specs.unsealed.Buffer.{content_of, count_of, is_unsettled, IsWhole}
 
 abbrev pub bytes_held : Option WriteBlob → List ℕ → List ℕ
 bytes_held None content = []

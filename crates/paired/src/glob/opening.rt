@@ -4,10 +4,10 @@ ghost use Rattle.std.specs.Result.{IsErrOf};
 ghost use Rattle.blob_device.specs.Disk.{Key};
 ghost use Rattle.blob_device.specs.Timeline.{disk, Always, Each};
 ghost use Rattle.sealed_pages.specs.Reading.{Unchanged};
-ghost use Rattle.segments.specs.Entries.{StartsNoRead};
-ghost use Rattle.segments.specs.Sections.{section_key, IsHeld};
-ghost use Rattle.segments.specs.Lasting.{IsSettling};
-ghost use Rattle.segments.specs.Refusing.{HasFailed, IsForeign};
+ghost use Rattle.section_manager.specs.Entries.{StartsNoRead};
+ghost use Rattle.section_manager.specs.Sections.{section_key, IsHeld};
+ghost use Rattle.section_manager.specs.Lasting.{IsSettling};
+ghost use Rattle.section_manager.specs.Refusing.{HasFailed, IsForeign};
 
 use super::{Config, Glob, Recovery};
 use blob_device::Device;
@@ -18,7 +18,7 @@ use std::alloc::Global;
 use value_codec::{Codec, Seal};
 
 impl<V: Codec, S: Seal> Glob<V, S> {
-    ghost use Rattle.segments.specs.managing.Managed.{shown};
+    ghost use Rattle.section_manager.specs.managing.Managed.{shown};
     ghost use Rattle.paired.specs.glob.Sections.{IsGlob, section_bytes, HasSettled, IsAllSettled};
 
     /// Opens the sections of the partition.

@@ -6,11 +6,11 @@ ghost use Rattle.value_codec.specs.declared.codec.Error.TheVariants as codec;
 ghost use Rattle.sealed_pages.specs.Entries.{IsOpenAt, ReadsAtMost};
 ghost use Rattle.sealed_pages.specs.Reading.{Unchanged};
 ghost use Rattle.sealed_pages.specs.unsealed.Writing as writing;
-ghost use Rattle.segments.specs.Sections.{key_of, IsHeld};
-ghost use Rattle.segments.specs.unsealed.Buffer as unsealed;
-ghost use Rattle.segments.specs.unsealed.Buffer.{content_of, count_of};
-ghost use Rattle.segments.specs.managing.Managed.{shown};
-ghost use Rattle.segments.specs.Refusing.{HasFailed, IsPruned};
+ghost use Rattle.section_manager.specs.Sections.{key_of, IsHeld};
+ghost use Rattle.section_manager.specs.unsealed.Buffer as unsealed;
+ghost use Rattle.section_manager.specs.unsealed.Buffer.{content_of, count_of};
+ghost use Rattle.section_manager.specs.managing.Managed.{shown};
+ghost use Rattle.section_manager.specs.Refusing.{HasFailed, IsPruned};
 ghost use Rattle.paired.specs.Frames.{bytes_at, HasFrame, IsBroken, Differ};
 ghost use Rattle.paired.specs.glob.Reading.{IsInside, IsAbsent, IsOverflow, IsShort, IsMismatch, IsRefused};
 

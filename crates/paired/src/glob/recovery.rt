@@ -9,12 +9,12 @@ ghost use Rattle.blob_device.specs.Disk.{Key, nothing};
 ghost use Rattle.blob_device.specs.Timeline.{disk, Always, Each};
 ghost use Rattle.sealed_pages.specs.Entries.{ReadsAtMost};
 ghost use Rattle.sealed_pages.specs.Reading.{Unchanged};
-ghost use Rattle.segments.specs.Leaving.{AllMoments};
-ghost use Rattle.segments.specs.unsealed.Buffer.{content_of};
-ghost use Rattle.segments.specs.Entries.{StartsNoRead};
-ghost use Rattle.segments.specs.Sections.{section_key, key_of, IsHeld, IsKnown, IsGone, IsSame, SamePlace, SameBounds, IsKeyOf, IsCut};
-ghost use Rattle.segments.specs.Lasting.{IsSettling};
-ghost use Rattle.segments.specs.Refusing.{HasFailed, IsPruned, IsForeign};
+ghost use Rattle.section_manager.specs.Leaving.{AllMoments};
+ghost use Rattle.section_manager.specs.unsealed.Buffer.{content_of};
+ghost use Rattle.section_manager.specs.Entries.{StartsNoRead};
+ghost use Rattle.section_manager.specs.Sections.{section_key, key_of, IsHeld, IsKnown, IsGone, IsSame, SamePlace, SameBounds, IsKeyOf, IsCut};
+ghost use Rattle.section_manager.specs.Lasting.{IsSettling};
+ghost use Rattle.section_manager.specs.Refusing.{HasFailed, IsPruned, IsForeign};
 ghost use Rattle.paired.specs.Frames.{IsSealed};
 ghost use Rattle.paired.specs.glob.Reading.{IsInside};
 ghost use Rattle.paired.specs.glob.Lasting.{Outlasts, settled_to, Cutting, Truncating};
@@ -88,7 +88,7 @@ impl<V: Codec, S: Seal> Recovery<V, S> {
         }
     }
 
-    ghost use Rattle.segments.specs.managing.Managed.{shown};
+    ghost use Rattle.section_manager.specs.managing.Managed.{shown};
     ghost use Rattle.paired.specs.glob.Sections.{IsGlob, section_bytes, section_size, HasSettled, IsAllSettled, IsLonger};
 
     /// Opens the sections of the partition up to this one. The later ones are not held, until a [`truncate`](Recovery::truncate), a

@@ -2,10 +2,10 @@
 ghost use Rattle.std.specs.Prelude.{◌≡◌, ◌≢◌, ◌↔◌, ◌⊎◌, ◌≤◌, ◌<◌, ◌^◌, ℕ, None, false, IfOk, OnOk, OnErr, IsTrue};
 ghost use Rattle.blob_device.specs.Disk.{nothing};
 ghost use Rattle.blob_device.specs.Timeline.{disk, Always};
-ghost use Rattle.segments.specs.Leaving.{AllMoments};
-ghost use Rattle.segments.specs.Sections.{key_of, IsHeld, IsKnown, IsSection, IsGone, IsSame, SamePlace, SameBounds, IsKeyOf};
-ghost use Rattle.segments.specs.Lasting.{IsGoing, Removing, EntriesLeave};
-ghost use Rattle.segments.specs.Refusing.{HasFailed, IsPruned};
+ghost use Rattle.section_manager.specs.Leaving.{AllMoments};
+ghost use Rattle.section_manager.specs.Sections.{key_of, IsHeld, IsKnown, IsSection, IsGone, IsSame, SamePlace, SameBounds, IsKeyOf};
+ghost use Rattle.section_manager.specs.Lasting.{IsGoing, Removing, EntriesLeave};
+ghost use Rattle.section_manager.specs.Refusing.{HasFailed, IsPruned};
 
 use super::Glob;
 use blob_device::Device;
@@ -15,7 +15,7 @@ use segments::{BufferFactory, SectionBuffer, WriteFactory};
 use value_codec::{Codec, Seal};
 
 impl<V: Codec, S: Seal> Glob<V, S> {
-    ghost use Rattle.segments.specs.managing.Managed.{shown};
+    ghost use Rattle.section_manager.specs.managing.Managed.{shown};
     ghost use Rattle.paired.specs.glob.Sections.{IsGlob, section_bytes};
 
     /// Removes the sections below `min`, the oldest first, and says whether there was one; only then `min` is the floor.

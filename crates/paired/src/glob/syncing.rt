@@ -3,9 +3,9 @@ ghost use Rattle.std.specs.Prelude.{◌≡◌, ◌↔◌, ◌⊎◌, ◌≤◌, 
 ghost use Rattle.std.specs.List.{Contains};
 ghost use Rattle.blob_device.specs.Disk.{Key};
 ghost use Rattle.blob_device.specs.Timeline.{disk, Always, Each};
-ghost use Rattle.segments.specs.Entries.{StartsNoRead};
-ghost use Rattle.segments.specs.Sections.{key_of, IsHeld, IsKeyOf, SameBounds, IsSynced};
-ghost use Rattle.segments.specs.Refusing.{HasFailed, IsPruned};
+ghost use Rattle.section_manager.specs.Entries.{StartsNoRead};
+ghost use Rattle.section_manager.specs.Sections.{key_of, IsHeld, IsKeyOf, SameBounds, IsSynced};
+ghost use Rattle.section_manager.specs.Refusing.{HasFailed, IsPruned};
 ghost use Rattle.paired.specs.glob.Lasting.{Settling};
 
 use super::Glob;
@@ -16,7 +16,7 @@ use segments::{BufferFactory, SectionBuffer, WriteFactory};
 use value_codec::{Codec, Seal};
 
 impl<V: Codec, S: Seal> Glob<V, S> {
-    ghost use Rattle.segments.specs.managing.Managed.{shown};
+    ghost use Rattle.section_manager.specs.managing.Managed.{shown};
     ghost use Rattle.paired.specs.glob.Sections.{IsGlob, section_bytes, HasSettled, IsAllSettled, IsUnsettled};
 
     /// Settles these sections. One that is not held is passed over. All are checked before one is synced.

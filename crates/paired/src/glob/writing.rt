@@ -2,12 +2,12 @@
 ghost use Rattle.std.specs.Prelude.{◌≡◌, ◌≢◌, ◌↔◌, ◌⊎◌, ◌≤◌, ◌<◌, ◌+◌, ◌-◌, ◌^◌, ◌++◌, ℕ, Some, None, length, IfOk, OnErr, IsSomeAnd};
 ghost use Rattle.std.specs.Result.{IsErrOf};
 ghost use Rattle.blob_device.specs.Timeline.{disk};
-ghost use Rattle.segments.specs.Leaving.{AllMoments};
-ghost use Rattle.segments.specs.Entries.{OnlyOwnEntry, StartsNoRead};
-ghost use Rattle.segments.specs.Sections.{key_of, IsHeld, IsSame, SameBounds};
-ghost use Rattle.segments.specs.unsealed.Buffer.{content_of, count_of};
-ghost use Rattle.segments.specs.Raised.{raised};
-ghost use Rattle.segments.specs.Refusing.{HasFailed, IsPruned};
+ghost use Rattle.section_manager.specs.Leaving.{AllMoments};
+ghost use Rattle.section_manager.specs.Entries.{OnlyOwnEntry, StartsNoRead};
+ghost use Rattle.section_manager.specs.Sections.{key_of, IsHeld, IsSame, SameBounds};
+ghost use Rattle.section_manager.specs.unsealed.Buffer.{content_of, count_of};
+ghost use Rattle.section_manager.specs.Raised.{raised};
+ghost use Rattle.section_manager.specs.Refusing.{HasFailed, IsPruned};
 ghost use Rattle.paired.specs.Frames.{frame, HasFrame};
 ghost use Rattle.paired.specs.glob.Lasting.{Outlasts, IsBeginning, settled_bytes};
 
@@ -31,7 +31,7 @@ fn full_or_raised(e: RError) -> Error
 }
 
 impl<V: Codec, S: Seal> Glob<V, S> {
-    ghost use Rattle.segments.specs.managing.Managed.{shown};
+    ghost use Rattle.section_manager.specs.managing.Managed.{shown};
     ghost use Rattle.paired.specs.glob.Sections.{IsGlob, section_bytes, section_size, settled_size, pending_size, IsFlushed};
     ghost use Rattle.paired.specs.Tails.{IsTailAfter};
 

@@ -7,9 +7,9 @@ ghost use Rattle.sealed_pages.specs.Entries.{IsOpenAt};
 ghost use Rattle.sealed_pages.specs.Reading.{OnlyRead, Unchanged};
 ghost use Rattle.sealed_pages.specs.SealedPrefix.{sealed_prefix};
 ghost use Rattle.sealed_pages.specs.Shown as page_blob;
-ghost use Rattle.segments.specs.Answers.{seen};
+ghost use Rattle.section_manager.specs.Answers.{seen};
+ghost use Rattle.section_manager.specs.Sections.{key_of, IsOver};
 ghost use Rattle.segments.specs.FixedBounds.{whole_of, Recovers, FindsEnd, CutsTail, Bounds, IsBoundCause, IsDrainCause, IsOpenedCut, IsOpenedAtMost};
-ghost use Rattle.segments.specs.Sections.{key_of, IsOver};
 
 use super::floors::lift_after;
 use super::replaying::forget_later;

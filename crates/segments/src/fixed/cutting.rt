@@ -9,8 +9,8 @@ ghost use Rattle.sealed_pages.specs.SealedPrefix.{sealed_prefix};
 ghost use Rattle.sealed_pages.specs.ChanceSeal.{Sealing};
 ghost use Rattle.sealed_pages.specs.Flushing.{Alone};
 ghost use Rattle.sealed_pages.specs.Unrecovered.{IsUnrecovered};
-ghost use Rattle.segments.specs.Sections.{key_of, IsSame, SameBounds, IsCut};
-ghost use Rattle.segments.specs.Refusing.{HasDamage, HasFailed, IsPruned};
+ghost use Rattle.section_manager.specs.Sections.{key_of, IsSame, SameBounds, IsCut};
+ghost use Rattle.section_manager.specs.Refusing.{HasDamage, HasFailed, IsPruned};
 
 use super::Journal;
 use super::floors::lower_to;

@@ -1,6 +1,6 @@
 // Going over all items of a fixed journal that are left, for what that cuts and checks.
 ghost use Rattle.blob_device.specs.Timeline.{disk};
-ghost use Rattle.segments.specs.Answers.{seen};
+ghost use Rattle.section_manager.specs.Answers.{seen};
 ghost use Rattle.segments.specs.FixedDraining.{Drains};
 
 use super::{Journal, Replay};

@@ -1,6 +1,6 @@
 // Opening a fixed journal.
 ghost use Rattle.std.specs.Prelude.{◌≤◌, ◌-◌, ◌^◌, string_bytes};
-ghost use Rattle.segments.specs.Answers.{seen};
+ghost use Rattle.section_manager.specs.Answers.{seen};
 ghost use Rattle.segments.specs.FixedOpens.{Opens};
 
 use super::preflighting::longer_sections;

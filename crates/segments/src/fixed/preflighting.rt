@@ -19,20 +19,20 @@ ghost use Rattle.sealed_pages.specs.Reads.{IsCovered, IsShort, PassesSize};
 ghost use Rattle.sealed_pages.specs.SealedPrefix.{adopted_size, data_from};
 ghost use Rattle.sealed_pages.specs.Shown as page_blob;
 ghost use Rattle.sealed_pages.specs.View.{view};
-ghost use Rattle.segments.specs.Sections.{section_key, IsHeld, IsOver};
-ghost use Rattle.segments.specs.Lasting.{IsSettling};
-ghost use Rattle.segments.specs.Entries.{OnlyOwnEntry};
-ghost use Rattle.segments.specs.managing.Managed as managed;
+ghost use Rattle.section_manager.specs.Sections.{section_key, IsHeld, IsOver};
+ghost use Rattle.section_manager.specs.Lasting.{IsSettling};
+ghost use Rattle.section_manager.specs.Entries.{OnlyOwnEntry};
+ghost use Rattle.section_manager.specs.managing.Managed as managed;
+ghost use Rattle.section_manager.specs.Refusing.{HasFailed, HasNoRoom, IsForeign, IsOpenedTooLong};
 ghost use Rattle.segments.specs.FixedLists.{floor_in, section_size};
-ghost use Rattle.segments.specs.Refusing.{HasFailed, HasNoRoom, IsForeign, IsOpenedTooLong};
 
 use super::floors::floor_at;
 use super::{Config, Journal};
 use crate::journal::{Damage, Error};
-use crate::unopened::Unopened;
 use crate::{AppendFactory, BufferFactory, Manager, SectionBuffer};
 use blob_device::{Device, RError};
 use sealed_pages::PageBlob;
+use section_manager::Unopened;
 use std::alloc::Global;
 use std::collections::{BTreeMap, BTreeSet, btree_map};
 use std::marker::Model;
@@ -316,7 +316,7 @@ impl<A: CodecFixed, S: Seal> Journal<A, S> {
 }
 
 impl<A: CodecFixed, S: Seal> Preflight<A, S> {
-    ghost use Rattle.segments.specs.Answers.{seen};
+    ghost use Rattle.section_manager.specs.Answers.{seen};
     ghost use Rattle.segments.specs.FixedCheckpoint.{Finishes, IsReady};
     ghost use Rattle.segments.specs.FixedFloors.{shown, journal_of, IsBoundary, IsRefused, IsUnsealed, IsAdoptedOver, AreAdopted};
     ghost use Rattle.segments.specs.FixedShown as journal;

@@ -10,8 +10,8 @@ ghost use Rattle.sealed_pages.specs.Buffer.{size_of, bytes_of, IsSealed};
 ghost use Rattle.sealed_pages.specs.Entries.{IsOpenAt, ReadsAtMost};
 ghost use Rattle.sealed_pages.specs.Held.{AreHeldOf};
 ghost use Rattle.sealed_pages.specs.Reading.{Unchanged};
-ghost use Rattle.segments.specs.Sections.{key_of, IsHeld};
-ghost use Rattle.segments.specs.Refusing.{HasFailed, IsPruned};
+ghost use Rattle.section_manager.specs.Sections.{key_of, IsHeld};
+ghost use Rattle.section_manager.specs.Refusing.{HasFailed, IsPruned};
 ghost use Rattle.segments.specs.FixedItems.{item_at, IsItem};
 ghost use Rattle.segments.specs.FixedReading.{HasItem, is_item_held, unheld, IsDamaged, IsItemCovered, IsAbsent, IsPast, HasNotRead};
 

@@ -4,9 +4,9 @@ ghost use Rattle.std.specs.Ordering.{nat_cmp};
 ghost use Rattle.std.specs.BTreeSet as set;
 ghost use Rattle.blob_device.specs.Disk.{nothing};
 ghost use Rattle.blob_device.specs.Timeline.{disk, Always};
-ghost use Rattle.segments.specs.Sections.{key_of, IsKnown, IsSection, IsGone, IsSame, SamePlace, IsKeyOf};
-ghost use Rattle.segments.specs.Lasting.{Removing, EntriesLeave};
-ghost use Rattle.segments.specs.Refusing.{HasFailed};
+ghost use Rattle.section_manager.specs.Sections.{key_of, IsKnown, IsSection, IsGone, IsSame, SamePlace, IsKeyOf};
+ghost use Rattle.section_manager.specs.Lasting.{Removing, EntriesLeave};
+ghost use Rattle.section_manager.specs.Refusing.{HasFailed};
 
 use super::Journal;
 use super::floors::lift_below;

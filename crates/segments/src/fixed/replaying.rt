@@ -12,8 +12,8 @@ ghost use Rattle.sealed_pages.specs.ChanceSeal.{Sealing};
 ghost use Rattle.sealed_pages.specs.SealedPrefix.{sealed_prefix};
 ghost use Rattle.sealed_pages.specs.Shown as page_blob;
 ghost use Rattle.sealed_pages.specs.Unrecovered.{IsUnrecovered, KeepsPrefix};
-ghost use Rattle.segments.specs.Sections.{key_of, IsHeld, IsKeyOf, IsOver};
-ghost use Rattle.segments.specs.Refusing.{HasDamage, HasFailed};
+ghost use Rattle.section_manager.specs.Sections.{key_of, IsHeld, IsKeyOf, IsOver};
+ghost use Rattle.section_manager.specs.Refusing.{HasDamage, HasFailed};
 ghost use Rattle.segments.specs.FixedItems.{IsItem};
 ghost use Rattle.segments.specs.FixedReading.{IsPast, IsBelowFloor, HasNotRead};
 

@@ -7,13 +7,13 @@ ghost use Rattle.sealed_pages.specs.Buffer as buffer;
 ghost use Rattle.sealed_pages.specs.Reading.{OnlyRead, Unchanged};
 ghost use Rattle.sealed_pages.specs.SealedPrefix.{sealed_prefix};
 ghost use Rattle.sealed_pages.specs.Shown as page_blob;
-ghost use Rattle.segments.specs.Answers.{seen};
+ghost use Rattle.section_manager.specs.Answers.{seen};
+ghost use Rattle.section_manager.specs.Refusing.{HasFailed};
+ghost use Rattle.section_manager.specs.Sections.{section_key, key_of, IsHeld, IsOver};
 ghost use Rattle.segments.specs.FixedBounds.{whole_of};
 ghost use Rattle.segments.specs.FixedCheckpoint.{Checks, Found, HasCome, IsOpenedFor, IsReady, Looks, Restores};
 ghost use Rattle.segments.specs.FixedFloors as floors;
 ghost use Rattle.segments.specs.FixedShown as journal;
-ghost use Rattle.segments.specs.Refusing.{HasFailed};
-ghost use Rattle.segments.specs.Sections.{section_key, key_of, IsHeld, IsOver};
 
 use super::capping::{prefix_at_most, whole_bytes};
 use super::preflighting::Target;

@@ -6,9 +6,9 @@ ghost use Rattle.std.specs.Option.{option_copied};
 ghost use Rattle.blob_device.specs.Disk.{Key};
 ghost use Rattle.blob_device.specs.Timeline.{disk, Always, Each};
 ghost use Rattle.sealed_pages.specs.Buffer.{extent, size_of};
-ghost use Rattle.segments.specs.Sections.{key_of, IsKeyOf, SameBounds, IsSynced};
-ghost use Rattle.segments.specs.Lasting.{IsUnsettled};
-ghost use Rattle.segments.specs.Refusing.{HasFailed, IsPruned};
+ghost use Rattle.section_manager.specs.Sections.{key_of, IsKeyOf, SameBounds, IsSynced};
+ghost use Rattle.section_manager.specs.Lasting.{IsUnsettled};
+ghost use Rattle.section_manager.specs.Refusing.{HasFailed, IsPruned};
 ghost use Rattle.segments.specs.FixedAdding.{Appends, Overfills, WouldOverfill};
 ghost use Rattle.segments.specs.FixedFull.{full_or_raised_of};
 

@@ -1,5 +1,5 @@
 -- A content without bytes has no slot.
-use Rattle.segments.proofs.buffers.NothingSealed.{nothing_sealed}
+use Rattle.section_manager.proofs.buffers.NothingSealed.{nothing_sealed}
 use Rattle.segments.proofs.fixed.item_laws.Goals as goal
 
 pub returns-clause-none : goal.returns-clause-none

@@ -4,14 +4,14 @@ use Rattle.blob_device.specs.Timeline.{disk}
 use Rattle.blob_device.specs.declared.device.Device as device
 use Rattle.blob_device.specs.declared.memory.Memory.{Memory}
 use Rattle.sealed_pages.specs.declared.page_blob.PageBlob.{PageBlob}
+use Rattle.section_manager.specs.Setting.{Setting}
+use Rattle.section_manager.specs.contracts.sealed.PageBlobSectionBuffer.TheImpl as page_blob
+use Rattle.section_manager.specs.declared.buffer.SectionBuffer as buffer
+use Rattle.section_manager.specs.declared.journal.Error.{Error}
 use Rattle.segments.specs.FixedCheckpoint.{Finishes, Gives}
 use Rattle.segments.specs.FixedFloors as floors
 use Rattle.segments.specs.FixedLists.{Lists, IsJournal}
-use Rattle.segments.specs.Setting.{Setting}
-use Rattle.segments.specs.contracts.sealed.PageBlobSectionBuffer.TheImpl as page_blob
-use Rattle.segments.specs.declared.buffer.SectionBuffer as buffer
 use Rattle.segments.specs.declared.fixed.preflighting.Target.{Target}
-use Rattle.segments.specs.declared.journal.Error.{Error}
 use Rattle.value_codec.specs.contracts.seal.Sha256Seal.{the_row}
 use Rattle.value_codec.specs.contracts.seal.Sha256SealSeal.TheImpl as seal
 use Rattle.segments_tests.specs.Stores.{IsOpen}

@@ -7,10 +7,10 @@ use Rattle.sealed_pages.specs.Entries.{IsOpenAt}
 use Rattle.sealed_pages.specs.unsealed.Writing.{WriteBuffer, blob_key, Over}
 use Rattle.sealed_pages.specs.unsealed.Writing as writing
 use Rattle.sealed_pages.proofs.Looking.{content_length}
-use Rattle.segments.specs.Entries.{OnlyOwnEntry}
-use Rattle.segments.specs.managing.Managed.{shown}
-use Rattle.segments.specs.Sections.{key_of}
-use Rattle.segments.proofs.sections.OverLemmas.{same_key, over_put}
+use Rattle.section_manager.specs.Entries.{OnlyOwnEntry}
+use Rattle.section_manager.specs.managing.Managed.{shown}
+use Rattle.section_manager.specs.Sections.{key_of}
+use Rattle.section_manager.proofs.sections.OverLemmas.{same_key, over_put}
 use Rattle.segments_tests.proofs.managers.extended.Goals as goal
 
 pub returns-clause-over : goal.returns-clause-over

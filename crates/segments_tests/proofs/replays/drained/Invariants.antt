@@ -1,6 +1,6 @@
 use Rattle.blob_device.specs.MemoryMeaning.{memory_opened, memory_time}
 use Rattle.blob_device.specs.Timeline.{disk}
-use Rattle.segments.specs.contracts.sealed.PageBlobSectionBuffer.TheImpl as page_blob
+use Rattle.section_manager.specs.contracts.sealed.PageBlobSectionBuffer.TheImpl as page_blob
 use Rattle.segments.specs.FixedReplay.{IsWalk}
 use Rattle.segments.specs.FixedWalking.{walk_of}
 use Rattle.value_codec.specs.contracts.seal.Sha256Seal.{the_row}

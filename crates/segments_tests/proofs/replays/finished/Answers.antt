@@ -1,8 +1,8 @@
 use Rattle.std.proofs.Common.{sym, subst}
 use Rattle.blob_device.specs.MemoryMeaning.{memory_opened, memory_time}
 use Rattle.blob_device.specs.Timeline.{disk}
-use Rattle.segments.specs.contracts.sealed.PageBlobSectionBuffer.TheImpl as page_blob
-use Rattle.segments.specs.Sections.{IsOver}
+use Rattle.section_manager.specs.contracts.sealed.PageBlobSectionBuffer.TheImpl as page_blob
+use Rattle.section_manager.specs.Sections.{IsOver}
 use Rattle.value_codec.specs.contracts.seal.Sha256Seal.{the_row}
 use Rattle.value_codec.specs.contracts.seal.Sha256SealSeal.TheImpl as seal
 use Rattle.segments_tests.proofs.replays.finished.Goals as goal

@@ -7,8 +7,8 @@ use Rattle.blob_device.specs.Disk.{Key}
 use Rattle.blob_device.specs.Timeline.{Always, disk}
 use Rattle.blob_device.proofs.Moments.{always_now}
 use Rattle.blob_device.proofs.Results.{err_of}
+use Rattle.section_manager.specs.Sections.{section_key}
 use Rattle.segments.specs.FixedLists as fixed
-use Rattle.segments.specs.Sections.{section_key}
 use Rattle.paired.specs.Tails.{AreTailsAfter}
 use Rattle.paired.specs.Crashes.{IsIndexOf, IsValuesOf, Keeping}
 use Rattle.paired.specs.Frames.{frame}

@@ -8,7 +8,7 @@ use Rattle.blob_device.proofs.Results.{err_of}
 use Rattle.archives.proofs.DrainsLemmas.{drained, entry_is, not_entered, not_walked}
 use Rattle.blob_device.specs.Timeline.{disk}
 use Rattle.value_codec.specs.Spelling.{size_refusal}
-use Rattle.segments.specs.contracts.sealed.PageBlobSectionBuffer.TheImpl as page_blob
+use Rattle.section_manager.specs.contracts.sealed.PageBlobSectionBuffer.TheImpl as page_blob
 use Rattle.segments.proofs.FixedWriteLemmas.{are_pages}
 use Rattle.paired.specs.ReplayShown.{run_of}
 use Rattle.paired.proofs.next.Answers.{Clauses}

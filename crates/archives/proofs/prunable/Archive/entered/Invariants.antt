@@ -1,7 +1,7 @@
 use Rattle.std.specs.Prelude.{◌≡◌, ◌≤◌, ℕ, length, take}
 use Rattle.std.specs.List.{AllByRecursion}
 use Rattle.blob_device.specs.Timeline.{disk}
-use Rattle.segments.specs.contracts.sealed.PageBlobSectionBuffer.TheImpl as page_blob
+use Rattle.section_manager.specs.contracts.sealed.PageBlobSectionBuffer.TheImpl as page_blob
 use Rattle.segments.specs.FixedStepping.{way_of}
 use Rattle.segments.specs.FixedWalking.{walk_of}
 use Rattle.paired.specs.Replaying.{records_given}

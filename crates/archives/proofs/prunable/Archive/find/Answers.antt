@@ -1,7 +1,7 @@
 use Rattle.std.proofs.Common.{sym, ◌∙◌, ap, subst, refl}
 use Rattle.blob_device.proofs.Results.{err_of}
 use Rattle.record_tables.specs.Tables.{AreCandidates}
-use Rattle.segments.specs.contracts.sealed.PageBlobSectionBuffer.TheImpl as page_blob
+use Rattle.section_manager.specs.contracts.sealed.PageBlobSectionBuffer.TheImpl as page_blob
 use Rattle.archives.specs.Shown.{means}
 use Rattle.archives.proofs.FindLemmas.{key_found, key_none, key_unread, next_near, next_placed, none_read, other_more}
 use Rattle.archives.proofs.read.Records.{weaker_at}

@@ -1,5 +1,5 @@
 use Rattle.std.proofs.Common.{take}
-use Rattle.segments.specs.contracts.sealed.PageBlobSectionBuffer.TheImpl as page_blob
+use Rattle.section_manager.specs.contracts.sealed.PageBlobSectionBuffer.TheImpl as page_blob
 use Rattle.archives.specs.Shown.{means}
 use Rattle.archives.proofs.FindLemmas.{HasReadOthers}
 use Rattle.archives.proofs.prunable.Archive.find.Given as goal

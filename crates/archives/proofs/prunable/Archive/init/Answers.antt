@@ -7,9 +7,9 @@ use Rattle.blob_device.specs.declared.runtime.RError.TheVariants.{InvalidChecksu
 use Rattle.blob_device.proofs.Results.{err_of}
 use Rattle.meta_store.specs.Opening.{PairOn}
 use Rattle.meta_store.specs.declared.error.Error.TheVariants as store
-use Rattle.segments.specs.Refusing.{IsForeign, IsOpenedTooLong}
-use Rattle.segments.specs.Sections.{section_key}
-use Rattle.segments.specs.declared.journal.Error.TheVariants as section
+use Rattle.section_manager.specs.Refusing.{IsForeign, IsOpenedTooLong}
+use Rattle.section_manager.specs.Sections.{section_key}
+use Rattle.section_manager.specs.declared.journal.Error.TheVariants as section
 use Rattle.std.specs.BTreeSet as set
 use Rattle.std.specs.Ordering.{nat_cmp}
 use Rattle.blob_device.specs.Disk.{Key, MayLeave, reads}
@@ -17,7 +17,7 @@ use Rattle.blob_device.proofs.Moments.{always_now, always_start}
 use Rattle.meta_store.specs.Store.{contents_of}
 use Rattle.paired.specs.Crashes.{HoldMarkers, IsOwn}
 use Rattle.sealed_pages.specs.declared.page_blob.PageBlob.{PageBlob}
-use Rattle.segments.specs.declared.sealed.AppendFactory.{AppendFactory}
+use Rattle.section_manager.specs.declared.sealed.AppendFactory.{AppendFactory}
 use Rattle.segments.proofs.FixedWriteLemmas.{are_pages}
 use Rattle.paired.specs.Kept.{content_at, IsMarked, IsSameLayout, Markers}
 use Rattle.paired.specs.Opening.{IsLawful, MayBeOpened, OnlyOpens, RecallsAlone, as_read}

@@ -2,8 +2,8 @@ use Rattle.std.proofs.Common.{inl, inr, ap, Err}
 use Rattle.blob_device.specs.Timeline.{disk}
 use Rattle.blob_device.proofs.Results.{err_of}
 use Rattle.sealed_pages.proofs.Looking.{unchanged_now}
-use Rattle.segments.specs.Refusing as segments
-use Rattle.segments.specs.Sections.{section_key}
+use Rattle.section_manager.specs.Refusing as segments
+use Rattle.section_manager.specs.Sections.{section_key}
 use Rattle.paired.proofs.pair.Reads.{may_read}
 use Rattle.archives.specs.Raised.{raised}
 use Rattle.archives.specs.Shown.{shown}

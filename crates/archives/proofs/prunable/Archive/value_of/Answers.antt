@@ -2,7 +2,7 @@ use Rattle.std.proofs.Common.{◌≡◌, refl, ℕ, slice_get, IsSomeAnd, Result
 use Rattle.blob_device.specs.Timeline.{disk}
 use Rattle.blob_device.proofs.Results.{err_of}
 use Rattle.sealed_pages.proofs.Looking.{unchanged_now}
-use Rattle.segments.specs.Sections.{section_key}
+use Rattle.section_manager.specs.Sections.{section_key}
 use Rattle.paired.specs.Pair.{list_of}
 use Rattle.archives.specs.IndexRecord.{IsInRange, spelling_of}
 use Rattle.archives.specs.IndexRecordLaws.{place_of-index_record}

@@ -5,27 +5,27 @@ use Rattle.std.specs.Result.{is_ok}
 use Rattle.blob_device.specs.declared.runtime.RError.TheVariants.{Fault}
 use Rattle.blob_device.specs.declared.runtime.RError.TheVariants.{Mem as RMem}
 use Rattle.blob_device.proofs.Results.{err_of}
-use Rattle.segments.specs.declared.journal.Error.TheVariants.{Full}
+use Rattle.section_manager.specs.declared.journal.Error.TheVariants.{Full}
 use Rattle.blob_device.proofs.Moments.{always_now}
 use Rattle.blob_device.specs.Disk.{Key, Outside}
 use Rattle.sealed_pages.specs.Entries.{IsOpenAt}
 use Rattle.blob_device.specs.Timeline.{disk}
 use Rattle.sealed_pages.specs.unsealed.Writing.{WriteBuffer, run_of}
 use Rattle.sealed_pages.specs.unsealed.Writing as writing
-use Rattle.segments.specs.Leaving.{AllMoments}
-use Rattle.segments.specs.managing.Managed.{shown}
-use Rattle.segments.specs.Sections.{key_of}
-use Rattle.segments.specs.unsealed.Buffer.{Stands, content_of, count_of}
+use Rattle.section_manager.specs.Leaving.{AllMoments}
+use Rattle.section_manager.specs.managing.Managed.{shown}
+use Rattle.section_manager.specs.Sections.{key_of}
+use Rattle.section_manager.specs.unsealed.Buffer.{Stands, content_of, count_of}
 use Rattle.paired.specs.glob.Lasting.{Outlasts, settled_bytes}
 use Rattle.sealed_pages.specs.declared.write_blob.WriteBlob.{WriteBlob}
-use Rattle.segments.specs.Setting.{Setting}
-use Rattle.segments.proofs.sections.KeyLemmas.{keys_differ}
-use Rattle.segments.proofs.sections.OverLemmas.{same_key, over_put}
-use Rattle.segments.proofs.sections.RemoveLemmas.{same_then}
-use Rattle.segments.proofs.WalkLemmas.{same_bounds, some_same}
+use Rattle.section_manager.specs.Setting.{Setting}
+use Rattle.section_manager.proofs.sections.KeyLemmas.{keys_differ}
+use Rattle.section_manager.proofs.sections.OverLemmas.{same_key, over_put}
+use Rattle.section_manager.proofs.sections.RemoveLemmas.{same_then}
+use Rattle.section_manager.proofs.WalkLemmas.{same_bounds, some_same}
 use Rattle.paired.proofs.GlobLemmas.{buffers, Serves, serves_of, glob_one, same_bytes, held_bytes, no_bytes, section_counted}
-use Rattle.segments.proofs.sections.EntryLemmas.{starts_none}
-use Rattle.segments.proofs.sections.TruncateLemmas.{unread_then}
+use Rattle.section_manager.proofs.sections.EntryLemmas.{starts_none}
+use Rattle.section_manager.proofs.sections.TruncateLemmas.{unread_then}
 use Rattle.paired.specs.Frames.{frame, HasFrame}
 use Rattle.paired.specs.glob.Sections.{section_bytes, section_size, pending_size, pending_held, settled_held, HadFronts, TakesMore}
 use Rattle.paired.proofs.AppendLemmas.{stays_below, full_held, end_size, some_size, match_err, never_full, why_of, same_error, mapped_ok, ok_at, open_long, taken_size, taken_bytes, appended_takes, appended_whole, still_moments, begin_moments, begun_moments, append_fronts, append_moments, taken_serves, held_moments}

@@ -4,8 +4,8 @@ use Rattle.blob_device.specs.Disk.{Key}
 use Rattle.blob_device.proofs.Results.{err_of}
 use Rattle.sealed_pages.specs.Entries.{ReadsAtMost}
 use Rattle.sealed_pages.proofs.Looking.{unchanged_now}
-use Rattle.segments.specs.managing.Managed.{shown}
-use Rattle.segments.specs.Raised.{raised_codec}
+use Rattle.section_manager.specs.managing.Managed.{shown}
+use Rattle.section_manager.specs.Raised.{raised_codec}
 use Rattle.paired.specs.Frames.{HasFrame}
 use Rattle.paired.specs.glob.Sections.{section_bytes}
 use Rattle.paired.proofs.FailLemmas.{failed_as, codec_mismatch, codec_refusal, codec_memory, decoded_as, decoded_error}

@@ -1,6 +1,6 @@
 use Rattle.std.proofs.Common.{◌≡◌, ◌<◌, ◌^◌, None, inl, inr, ◌∙◌, ap, arith}
-use Rattle.segments.specs.managing.Managed.{shown}
-use Rattle.segments.proofs.WalkLemmas.{none_or_value}
+use Rattle.section_manager.specs.managing.Managed.{shown}
+use Rattle.section_manager.proofs.WalkLemmas.{none_or_value}
 use Rattle.paired.proofs.CallLemmas.{some_held}
 use Rattle.paired.proofs.glob.Glob.init.Goals as goal
 

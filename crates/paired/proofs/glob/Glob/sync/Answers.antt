@@ -1,8 +1,8 @@
 use Rattle.std.specs.List.{Contains}
 use Rattle.blob_device.specs.Timeline.{disk}
 use Rattle.blob_device.proofs.Moments.{always_now}
-use Rattle.segments.specs.managing.Managed.{shown}
-use Rattle.segments.proofs.WalkLemmas.{contains_or_not}
+use Rattle.section_manager.specs.managing.Managed.{shown}
+use Rattle.section_manager.proofs.WalkLemmas.{contains_or_not}
 use Rattle.paired.proofs.CallLemmas.{sync_glob, sync_bytes, sync_settled, sync_all}
 use Rattle.paired.proofs.StepLemmas.{settling_moments, same_unopened, none_unsettled}
 use Rattle.paired.proofs.glob.Glob.sync.Goals as goal

@@ -3,8 +3,8 @@ use Rattle.std.proofs.Math.Seq.{take-append_seam}
 use Rattle.blob_device.proofs.Results.{err_with, err_of}
 use Rattle.blob_device.specs.Timeline.{disk}
 use Rattle.paired.specs.Frames.{bytes_at}
-use Rattle.segments.specs.Raised.{raised}
-use Rattle.segments.specs.unsealed.Buffer.{content_of, key_of}
+use Rattle.section_manager.specs.Raised.{raised}
+use Rattle.section_manager.specs.unsealed.Buffer.{content_of, key_of}
 use Rattle.paired.proofs.FailLemmas.{raised_failed}
 use Rattle.paired.proofs.glob.reading.read_frame.Goals as goal
 

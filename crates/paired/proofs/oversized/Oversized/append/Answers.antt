@@ -1,7 +1,7 @@
 use Rattle.std.proofs.Common.{◌≡◌, ◌++◌, ℕ, List, inl, IsSome, length, refl, sym, ◌∙◌, ap, subst}
 use Rattle.blob_device.specs.Timeline.{disk}
+use Rattle.section_manager.specs.managing.Managed as managed
 use Rattle.segments.specs.FixedLists.{section_bytes}
-use Rattle.segments.specs.managing.Managed as managed
 use Rattle.segments.specs.FixedShown as fixed
 use Rattle.segments.proofs.FixedWriteLemmas.{are_pages}
 use Rattle.paired.specs.Frames.{frame}

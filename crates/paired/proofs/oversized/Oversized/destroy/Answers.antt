@@ -5,8 +5,8 @@ use Rattle.blob_device.specs.Opened.{Opened}
 use Rattle.blob_device.specs.Timeline.{disk}
 use Rattle.meta_store.specs.Pairs.{empty_map}
 use Rattle.meta_store.specs.Store.{contents_of}
-use Rattle.segments.specs.Sections.{IsHeld, IsKnown}
-use Rattle.segments.specs.Setting.{Setting}
+use Rattle.section_manager.specs.Sections.{IsHeld, IsKnown}
+use Rattle.section_manager.specs.Setting.{Setting}
 use Rattle.paired.specs.PairShown.{shown}
 use Rattle.paired.proofs.GlobLemmas.{glob_stays}
 use Rattle.paired.proofs.pair.Facts.{copies_gone}

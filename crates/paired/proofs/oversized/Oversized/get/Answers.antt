@@ -1,10 +1,10 @@
 use Rattle.std.proofs.Common.{◌≡◌, ◌+◌, ◌/◌, inl, inr, false, ap, arith}
 use Rattle.blob_device.specs.Timeline.{disk}
 use Rattle.sealed_pages.proofs.Looking.{unchanged_now}
+use Rattle.section_manager.specs.Sections.{key_of}
 use Rattle.segments.specs.FixedItems.{item_at}
 use Rattle.segments.specs.FixedLists as fixed
 use Rattle.segments.specs.FixedReading.{is_item_held}
-use Rattle.segments.specs.Sections.{key_of}
 use Rattle.paired.specs.PairShown.{shown}
 use Rattle.paired.proofs.pair.Reads.{listed_answer, in_list, held_by, from_floor, not_held, no_item, answered_inside, past_held, undamaged, gives_record, may_read, pair_read}
 use Rattle.paired.proofs.pair.Facts.{proven_of}

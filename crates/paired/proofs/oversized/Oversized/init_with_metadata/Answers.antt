@@ -12,17 +12,17 @@ use Rattle.blob_device.proofs.Results.{err_of, err_with, ok_with, on_err}
 use Rattle.sealed_pages.specs.declared.page_blob.PageBlob.{PageBlob}
 use Rattle.sealed_pages.specs.declared.pages.Pages.{Pages}
 use Rattle.sealed_pages.specs.declared.write_blob.WriteBlob.{WriteBlob}
-use Rattle.segments.specs.declared.unsealed.WriteFactory.{WriteFactory}
-use Rattle.segments.specs.declared.journal.Error.TheVariants as journal_error
-use Rattle.segments.specs.declared.sealed.AppendFactory.{AppendFactory}
+use Rattle.section_manager.specs.declared.unsealed.WriteFactory.{WriteFactory}
+use Rattle.section_manager.specs.declared.journal.Error.TheVariants as journal_error
+use Rattle.section_manager.specs.declared.sealed.AppendFactory.{AppendFactory}
+use Rattle.section_manager.specs.managing.Managed as managed
+use Rattle.section_manager.specs.Raised.{raised_metadata}
+use Rattle.section_manager.specs.Sealed.{adopted_bytes}
+use Rattle.section_manager.specs.Sections.{Sections, section_key, IsHeld}
+use Rattle.section_manager.specs.Setting.{Setting}
 use Rattle.segments.specs.FixedLists.{Lists}
 use Rattle.segments.specs.FixedReplay.{Begins}
 use Rattle.segments.specs.FixedShown as journal
-use Rattle.segments.specs.managing.Managed as managed
-use Rattle.segments.specs.Raised.{raised_metadata}
-use Rattle.segments.specs.Sealed.{adopted_bytes}
-use Rattle.segments.specs.Sections.{Sections, section_key, IsHeld}
-use Rattle.segments.specs.Setting.{Setting}
 use Rattle.value_codec.specs.declared.key.Key8.{Key8}
 use Rattle.meta_store.specs.declared.pair.Chosen.{Chosen}
 use Rattle.meta_store.specs.Blobs.{blob_of}

@@ -3,8 +3,8 @@ use Rattle.blob_device.specs.Timeline.{disk}
 use Rattle.sealed_pages.specs.Buffer.{size_of}
 use Rattle.sealed_pages.specs.Shown as page_blob
 use Rattle.sealed_pages.proofs.Looking.{unchanged_now}
+use Rattle.section_manager.specs.Sections.{key_of}
 use Rattle.segments.specs.FixedReading.{is_item_held}
-use Rattle.segments.specs.Sections.{key_of}
 use Rattle.paired.specs.PairShown.{shown}
 use Rattle.paired.proofs.pair.Reads.{listed_last, damaged_last, no_item, may_read, pair_read}
 use Rattle.paired.proofs.oversized.Oversized.last.Goals as goal

@@ -4,10 +4,10 @@ use Rattle.std.proofs.lemmas.Bool.{cases_Bool}
 use Rattle.blob_device.specs.Disk.{Key}
 use Rattle.blob_device.specs.Timeline.{disk}
 use Rattle.blob_device.proofs.Results.{err_of}
-use Rattle.segments.specs.Raised.{raised_metadata}
+use Rattle.section_manager.specs.Raised.{raised_metadata}
 use Rattle.blob_device.proofs.Moments.{always_now, always_start, always_weaker}
+use Rattle.section_manager.proofs.WalkLemmas.{contains_or_not}
 use Rattle.segments.proofs.FixedWriteLemmas.{are_pages}
-use Rattle.segments.proofs.WalkLemmas.{contains_or_not}
 use Rattle.meta_store.specs.Blobs.{blob_of, other_side, OnlyOne}
 use Rattle.meta_store.specs.Calls.{IsOpened}
 use Rattle.meta_store.specs.Crashes as metadata

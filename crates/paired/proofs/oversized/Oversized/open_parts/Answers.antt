@@ -11,18 +11,18 @@ use Rattle.blob_device.proofs.Moments.{always_now}
 use Rattle.blob_device.proofs.Results.{err_of, err_with}
 use Rattle.sealed_pages.specs.declared.pages.Pages.{Pages}
 use Rattle.sealed_pages.specs.Shown as page_blob
-use Rattle.segments.specs.contracts.sealed.AppendFactoryBufferFactory.TheImpl as factory
-use Rattle.segments.specs.contracts.sealed.PageBlobSectionBuffer.TheImpl as pages
-use Rattle.segments.specs.declared.journal.Error.TheVariants as journal_error
-use Rattle.segments.specs.declared.sealed.AppendFactory.{AppendFactory}
+use Rattle.section_manager.specs.contracts.sealed.AppendFactoryBufferFactory.TheImpl as factory
+use Rattle.section_manager.specs.contracts.sealed.PageBlobSectionBuffer.TheImpl as pages
+use Rattle.section_manager.specs.declared.journal.Error.TheVariants as journal_error
+use Rattle.section_manager.specs.declared.sealed.AppendFactory.{AppendFactory}
+use Rattle.section_manager.specs.Lasting.{IsSettling}
+use Rattle.section_manager.specs.managing.Managed as managed
+use Rattle.section_manager.specs.Refusing.{IsForeign, IsOpenedTooLong}
+use Rattle.section_manager.specs.Sealed.{adopted_bytes, is_unsettled}
+use Rattle.section_manager.specs.Sections.{section_key, key_of, IsHeld}
 use Rattle.segments.specs.FixedFloors as floors
 use Rattle.segments.specs.FixedLists as fixed
 use Rattle.segments.specs.FixedLists.{Lists, IsJournal}
-use Rattle.segments.specs.Lasting.{IsSettling}
-use Rattle.segments.specs.managing.Managed as managed
-use Rattle.segments.specs.Refusing.{IsForeign, IsOpenedTooLong}
-use Rattle.segments.specs.Sealed.{adopted_bytes, is_unsettled}
-use Rattle.segments.specs.Sections.{section_key, key_of, IsHeld}
 use Rattle.paired.specs.glob.Sections.{section_bytes, section_size}
 use Rattle.paired.specs.ReplayShown.{layout_for}
 use Rattle.paired.proofs.BoundaryLemmas.{boundary_as, cut_off, ends_within, opened_size}

@@ -4,12 +4,12 @@ use Rattle.blob_device.proofs.Results.{err_of}
 use Rattle.blob_device.specs.Disk.{Blob}
 use Rattle.blob_device.specs.Opened.{Opened}
 use Rattle.blob_device.specs.Timeline.{disk}
-use Rattle.segments.specs.declared.sealed.AppendFactory.{AppendFactory}
+use Rattle.section_manager.specs.declared.sealed.AppendFactory.{AppendFactory}
+use Rattle.section_manager.specs.managing.Managed as manager
+use Rattle.section_manager.specs.Raised.{raised_metadata}
+use Rattle.section_manager.specs.Sections.{IsHeld, section_key}
+use Rattle.section_manager.specs.Setting.{Setting}
 use Rattle.segments.specs.FixedShown as fixed
-use Rattle.segments.specs.managing.Managed as manager
-use Rattle.segments.specs.Raised.{raised_metadata}
-use Rattle.segments.specs.Sections.{IsHeld, section_key}
-use Rattle.segments.specs.Setting.{Setting}
 use Rattle.value_codec.specs.declared.key.Key8.{Key8}
 use Rattle.meta_store.specs.Blobs.{blob_of, other_side}
 use Rattle.meta_store.specs.Calls.{IsOpened, OthersOpened}

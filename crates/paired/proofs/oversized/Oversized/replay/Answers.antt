@@ -3,11 +3,11 @@ use Rattle.std.specs.BTreeMap.{is_at}
 use Rattle.std.specs.Map.{lookup}
 use Rattle.std.specs.Ordering.{nat_cmp}
 use Rattle.blob_device.specs.Timeline.{disk}
-use Rattle.segments.specs.managing.Managed as managed
+use Rattle.section_manager.specs.managing.Managed as managed
 use Rattle.meta_store.specs.Calls.{IsOpened}
 use Rattle.meta_store.specs.Store.{Stands, contents_of}
 use Rattle.sealed_pages.specs.declared.page_blob.PageBlob.{PageBlob}
-use Rattle.segments.specs.declared.sealed.AppendFactory.{AppendFactory}
+use Rattle.section_manager.specs.declared.sealed.AppendFactory.{AppendFactory}
 use Rattle.segments.specs.FixedLists.{Lists}
 use Rattle.paired.specs.Pair.{Pair, AreApart, AreWhole, AreMarkers, HasSettled, IsSoundOn, list_of}
 use Rattle.paired.specs.PairShown.{shown}

@@ -3,11 +3,11 @@ use Rattle.std.specs.Prelude.{◌<◌, unwrap_or}
 use Rattle.std.specs.List.{Contains}
 use Rattle.blob_device.proofs.Results.{err_of, err_with}
 use Rattle.blob_device.specs.Timeline.{disk}
+use Rattle.section_manager.specs.managing.Managed as manager
+use Rattle.section_manager.proofs.WalkLemmas.{contains_or_not}
 use Rattle.segments.specs.FixedLists.{section_size}
 use Rattle.segments.specs.FixedShown as fixed
-use Rattle.segments.specs.managing.Managed as manager
 use Rattle.segments.proofs.FixedWriteLemmas.{are_pages}
-use Rattle.segments.proofs.WalkLemmas.{contains_or_not}
 use Rattle.paired.specs.Kept.{marker_of}
 use Rattle.paired.specs.PairShown.{shown}
 use Rattle.paired.specs.sighted.Shown as tracked

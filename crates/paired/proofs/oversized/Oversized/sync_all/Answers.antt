@@ -5,9 +5,9 @@ use Rattle.std.proofs.Math.Seq.{take-length}
 use Rattle.blob_device.specs.Disk.{Key}
 use Rattle.blob_device.specs.Timeline.{disk}
 use Rattle.blob_device.proofs.Moments.{always_weaker}
-use Rattle.segments.specs.Sections.{IsHeld}
+use Rattle.section_manager.specs.Sections.{IsHeld}
+use Rattle.section_manager.proofs.WalkLemmas.{contains_or_not}
 use Rattle.segments.proofs.FixedWriteLemmas.{are_pages}
-use Rattle.segments.proofs.WalkLemmas.{contains_or_not}
 use Rattle.paired.specs.Crashes.{IsBlobOf, IsCopy, IsIndexOf, IsValuesOf}
 use Rattle.paired.specs.Pair.{list_of, synced_length}
 use Rattle.paired.specs.PairShown.{shown}

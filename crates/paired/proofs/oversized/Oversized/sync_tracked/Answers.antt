@@ -6,8 +6,8 @@ use Rattle.blob_device.specs.Disk.{Key}
 use Rattle.blob_device.specs.Timeline.{disk, Always}
 use Rattle.blob_device.proofs.Results.{err_of}
 use Rattle.blob_device.proofs.Moments.{always_now, always_then, always_weaker}
-use Rattle.segments.specs.Sections.{IsHeld}
-use Rattle.segments.proofs.WalkLemmas.{contains_or_not}
+use Rattle.section_manager.specs.Sections.{IsHeld}
+use Rattle.section_manager.proofs.WalkLemmas.{contains_or_not}
 use Rattle.meta_store.specs.Blobs.{blob_of, other_side}
 use Rattle.paired.specs.Crashes.{IsBlobOf, IsCopy, IsIndexOf, IsOwn, IsValuesOf, Keeping, LeavesAlone}
 use Rattle.paired.specs.Kept.{Layout}

@@ -5,11 +5,11 @@ use Rattle.sealed_pages.specs.Buffer.{size_of}
 use Rattle.sealed_pages.specs.Shown as page_blob
 use Rattle.sealed_pages.proofs.Looking.{unchanged_start, unchanged_now}
 use Rattle.blob_device.proofs.Results.{err_of}
-use Rattle.segments.specs.declared.journal.Error.TheVariants.{AlreadyPrunedToSection, Runtime, Codec, OffsetOverflow}
-use Rattle.segments.specs.declared.journal.Error.{Error}
+use Rattle.section_manager.specs.declared.journal.Error.TheVariants.{AlreadyPrunedToSection, Runtime, Codec, OffsetOverflow}
+use Rattle.section_manager.specs.declared.journal.Error.{Error}
 use Rattle.segments.specs.FixedReading.{is_item_held, IsAbsent}
 use Rattle.std.specs.Result.{IsErrOf}
-use Rattle.segments.specs.Sections.{key_of}
+use Rattle.section_manager.specs.Sections.{key_of}
 use Rattle.segments.proofs.FixedErrors.{of_error}
 use Rattle.paired.specs.glob.Sections as glob
 use Rattle.paired.specs.Pair.{list_of, length_of}

@@ -5,10 +5,10 @@ use Rattle.std.specs.Map.{lookup}
 use Rattle.std.specs.Ordering.{nat_cmp}
 use Rattle.std.specs.Map.Iter.{deref_pair}
 use Rattle.std.proofs.lemmas.Map.Iter.{rest_more, rest_all}
-use Rattle.segments.specs.declared.journal.Damage.{Damage}
+use Rattle.section_manager.specs.declared.journal.Damage.{Damage}
+use Rattle.section_manager.specs.Sections.{IsHeld}
+use Rattle.section_manager.proofs.WalkLemmas.{none_or_value}
 use Rattle.segments.specs.FixedShown.{shown}
-use Rattle.segments.specs.Sections.{IsHeld}
-use Rattle.segments.proofs.WalkLemmas.{none_or_value}
 use Rattle.paired.proofs.OpenParts.{same_damage}
 use Rattle.paired.proofs.opening.Lemmas.{AreHeld, are_held_all, are_held_more, are_held_none}
 use Rattle.paired.proofs.oversized.opening.check_held.Goals as goal

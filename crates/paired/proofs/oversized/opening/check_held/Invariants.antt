@@ -1,5 +1,5 @@
+use Rattle.section_manager.specs.Sections.{IsHeld}
 use Rattle.segments.specs.FixedShown.{shown}
-use Rattle.segments.specs.Sections.{IsHeld}
 use Rattle.paired.proofs.opening.Lemmas.{AreHeld}
 use Rattle.paired.proofs.oversized.opening.check_held.Given as goal
 

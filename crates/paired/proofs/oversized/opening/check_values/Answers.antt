@@ -2,9 +2,9 @@ use Rattle.std.proofs.Common.{◌≡◌, ◌∷◌, [], ◌+◌, ◌≤◌, Some
 use Rattle.std.specs.Option.{option_copied}
 use Rattle.std.proofs.lemmas.Map.Iter.{rest_more, rest_all}
 use Rattle.blob_device.proofs.Results.{err_of}
-use Rattle.segments.specs.declared.journal.Error.TheVariants.{Corruption}
+use Rattle.section_manager.specs.declared.journal.Error.TheVariants.{Corruption}
+use Rattle.section_manager.specs.managing.Managed as managed
 use Rattle.segments.specs.FixedFloors as floors
-use Rattle.segments.specs.managing.Managed as managed
 use Rattle.paired.specs.glob.Sections.{section_size}
 use Rattle.paired.specs.OpeningRefusing.{IsOutside}
 use Rattle.paired.proofs.opening.StartCauses.{error_back}

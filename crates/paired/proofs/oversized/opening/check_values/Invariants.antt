@@ -1,6 +1,6 @@
 use Rattle.std.proofs.Common.{◌+◌, ◌≤◌}
+use Rattle.section_manager.specs.managing.Managed as managed
 use Rattle.segments.specs.FixedFloors as floors
-use Rattle.segments.specs.managing.Managed as managed
 use Rattle.paired.specs.glob.Sections.{section_size}
 use Rattle.paired.proofs.opening.Lemmas.{Checking}
 use Rattle.paired.proofs.oversized.opening.check_values.Given as goal

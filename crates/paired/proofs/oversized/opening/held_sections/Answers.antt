@@ -3,8 +3,8 @@ use Rattle.std.specs.BTreeSet.{contains}
 use Rattle.std.specs.Ordering.{nat_cmp}
 use Rattle.std.proofs.lemmas.Bool.{cases_eq}
 use Rattle.std.proofs.lemmas.Grind.{common_steps}
+use Rattle.section_manager.specs.Sections.{IsHeld}
 use Rattle.segments.specs.FixedShown.{shown}
-use Rattle.segments.specs.Sections.{IsHeld}
 use Rattle.paired.proofs.opening.Lemmas.{GoneOver, gone_over_more, gone_over_all}
 use Rattle.paired.proofs.oversized.opening.held_sections.Goals as goal
 

@@ -1,8 +1,8 @@
 use Rattle.std.specs.Prelude.{IsTrue}
 use Rattle.std.specs.BTreeSet.{contains}
 use Rattle.std.specs.Ordering.{nat_cmp}
+use Rattle.section_manager.specs.Sections.{IsHeld}
 use Rattle.segments.specs.FixedShown.{shown}
-use Rattle.segments.specs.Sections.{IsHeld}
 use Rattle.paired.proofs.opening.Lemmas.{GoneOver}
 use Rattle.paired.proofs.oversized.opening.held_sections.Given as goal
 

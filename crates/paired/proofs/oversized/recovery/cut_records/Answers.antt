@@ -10,9 +10,9 @@ use Rattle.std.proofs.lemmas.Map.Views.{Contains-keys_from_lookup, IsSome-lookup
 use Rattle.blob_device.proofs.Results.{err_of}
 use Rattle.sealed_pages.specs.Buffer.{size_of}
 use Rattle.sealed_pages.specs.Shown as page_blob
-use Rattle.segments.specs.contracts.sealed.PageBlobSectionBuffer.TheImpl as pages
+use Rattle.section_manager.specs.contracts.sealed.PageBlobSectionBuffer.TheImpl as pages
+use Rattle.section_manager.proofs.sections.CutLemmas.{numbers_of, numbers_push, numbers_shown, same_number}
 use Rattle.segments.specs.FixedShown.{shown}
-use Rattle.segments.proofs.sections.CutLemmas.{numbers_of, numbers_push, numbers_shown, same_number}
 use Rattle.paired.proofs.RecordCuts.{page_laws, cut_off, CutsOne, CutOne, RecordsTried, RecordsCut, cuts_start, whole_cut, tried_more, cuts_more, cuts_moments, cuts_idle, cuts_entries, cuts_cut, cuts_sizes, cuts_others, cuts_held, cuts_settled, cause_cut}
 use Rattle.paired.proofs.oversized.recovery.cut_records.Goals as goal
 

@@ -1,8 +1,8 @@
 use Rattle.std.specs.BTreeMap.{get}
 use Rattle.std.specs.Ordering.{nat_cmp}
-use Rattle.segments.specs.contracts.sealed.PageBlobSectionBuffer.TheImpl as page_blob
+use Rattle.section_manager.specs.contracts.sealed.PageBlobSectionBuffer.TheImpl as page_blob
+use Rattle.section_manager.proofs.sections.CutLemmas.{numbers_of}
 use Rattle.segments.specs.FixedShown.{shown}
-use Rattle.segments.proofs.sections.CutLemmas.{numbers_of}
 use Rattle.paired.proofs.RecordCuts.{RecordsCut}
 use Rattle.paired.proofs.oversized.recovery.cut_records.Given as goal
 

@@ -5,9 +5,9 @@ use Rattle.blob_device.proofs.Moments.{always_now}
 use Rattle.blob_device.specs.Disk.{Key}
 use Rattle.blob_device.specs.Opened.{Opened, reads_of}
 use Rattle.blob_device.specs.Timeline.{disk, Each}
+use Rattle.section_manager.specs.managing.Managed.{shown}
+use Rattle.section_manager.specs.Sections.{IsHeld, IsKeyOf, key_of}
 use Rattle.segments.specs.FixedShown as journal
-use Rattle.segments.specs.managing.Managed.{shown}
-use Rattle.segments.specs.Sections.{IsHeld, IsKeyOf, key_of}
 use Rattle.paired.specs.glob.Lasting.{Cutting}
 use Rattle.paired.specs.glob.Sections as glob
 use Rattle.paired.specs.Reconciling.{EndOf}

@@ -1,7 +1,7 @@
 use Rattle.std.proofs.Common.{◌≡◌, ◌∷◌, ℕ, List, true, false, sym, ◌∙◌, subst}
 use Rattle.std.specs.BTreeSet.{contains}
 use Rattle.std.specs.Ordering.{nat_cmp}
-use Rattle.segments.specs.managing.Managed.{shown}
+use Rattle.section_manager.specs.managing.Managed.{shown}
 use Rattle.paired.proofs.ValuesRemoved.{AreAlone, alone_pass, alone_more, alone_all}
 use Rattle.paired.proofs.oversized.recovery.orphans.Goals as goal
 

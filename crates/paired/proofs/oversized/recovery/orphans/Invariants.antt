@@ -1,6 +1,6 @@
 use Rattle.std.specs.BTreeSet.{contains}
 use Rattle.std.specs.Ordering.{nat_cmp}
-use Rattle.segments.specs.managing.Managed.{shown}
+use Rattle.section_manager.specs.managing.Managed.{shown}
 use Rattle.paired.proofs.ValuesRemoved.{AreAlone}
 use Rattle.paired.proofs.oversized.recovery.orphans.Given as goal
 

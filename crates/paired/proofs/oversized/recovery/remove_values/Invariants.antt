@@ -1,6 +1,6 @@
 use Rattle.std.proofs.Common.{◌≡◌, take}
 use Rattle.std.specs.List.{Contains}
-use Rattle.segments.specs.managing.Managed.{shown}
+use Rattle.section_manager.specs.managing.Managed.{shown}
 use Rattle.paired.proofs.ValuesRemoved.{ValuesGone}
 use Rattle.paired.proofs.oversized.recovery.remove_values.Given as goal
 

@@ -7,10 +7,10 @@ use Rattle.std.specs.Ordering.{nat_cmp}
 use Rattle.blob_device.specs.Disk.{Disk}
 use Rattle.blob_device.specs.Timeline.{disk}
 use Rattle.sealed_pages.proofs.Looking.{unchanged_now}
+use Rattle.section_manager.specs.managing.Managed as managed
+use Rattle.section_manager.specs.Sections.{IsHeld, IsKeyOf}
 use Rattle.segments.specs.FixedLists.{section_bytes}
 use Rattle.segments.specs.FixedShown.{shown}
-use Rattle.segments.specs.managing.Managed as managed
-use Rattle.segments.specs.Sections.{IsHeld, IsKeyOf}
 use Rattle.paired.specs.glob.Sections as glob
 use Rattle.paired.specs.OpeningRefusing.{IsLastOutside, IsSomeRefused}
 use Rattle.paired.specs.Places.{last_end}

@@ -1,10 +1,10 @@
 use Rattle.std.specs.BTreeMap.{get}
 use Rattle.std.specs.Ordering.{nat_cmp}
 use Rattle.blob_device.specs.Timeline.{disk}
-use Rattle.segments.specs.contracts.sealed.PageBlobSectionBuffer.TheImpl as page_blob
+use Rattle.section_manager.specs.contracts.sealed.PageBlobSectionBuffer.TheImpl as page_blob
+use Rattle.section_manager.specs.Sections.{IsHeld, IsKeyOf}
 use Rattle.segments.specs.FixedLists.{IsJournal}
 use Rattle.segments.specs.FixedShown.{shown}
-use Rattle.segments.specs.Sections.{IsHeld, IsKeyOf}
 use Rattle.paired.proofs.ValueEnds.{EndsFound, OnlyLooked}
 use Rattle.paired.proofs.oversized.recovery.value_ends.Given as goal
 

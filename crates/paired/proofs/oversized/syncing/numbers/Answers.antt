@@ -1,8 +1,8 @@
 use Rattle.std.proofs.Common.{◌≡◌, ◌∙◌, ◌++◌, ◌∷◌, [], ◌↔◌, ℕ, List, sym, ap, subst}
 use Rattle.std.specs.List.{Contains}
 use Rattle.std.proofs.lemmas.List.{append-nil, append_assoc}
+use Rattle.section_manager.specs.Sections.{IsHeld}
 use Rattle.segments.specs.FixedShown.{shown}
-use Rattle.segments.specs.Sections.{IsHeld}
 use Rattle.paired.proofs.oversized.syncing.numbers.Goals as goal
 
 pub loop-section-preserved : goal.loop-section-preserved

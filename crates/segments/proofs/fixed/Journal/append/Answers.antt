@@ -2,8 +2,8 @@
 use Rattle.std.proofs.Common.{◌≡◌, ◌∙◌, ◌%◌, ℕ, inl, inr, length, Err, refl, ap, arith}
 use Rattle.std.proofs.Math.Nat.{mod_self}
 use Rattle.blob_device.proofs.Results.{err_of}
+use Rattle.section_manager.specs.declared.journal.Error.TheVariants.{Mem}
 use Rattle.segments.specs.FixedShown.{shown}
-use Rattle.segments.specs.declared.journal.Error.TheVariants.{Mem}
 use Rattle.segments.proofs.FixedAdding.{along_nothing, error_is, failed, item_appended, item_overfills, mem_not_full, mem_not_pruned, mem_not_room, pruned_not_full, pruned_not_room}
 use Rattle.segments.proofs.FixedPassing.{guard_ok, guard_on, no_error}
 use Rattle.segments.proofs.FixedWriteLemmas.{are_pages}
@@ -44,9 +44,9 @@ returns-in_err-this g c =
 pub returns : goal.returns
 returns g c =
     let did = item_appended g.S.Seal.seal_of g.A.CodecFixed.SIZE _ _ g.D.Device (shown c.args.self) c.args.section c.args.dev.now c.append_bytes.new.dev _ _ c.as_slice.result.now (g.A.Codec.spelling c.args.item.now) g.A.CodecFixed.SIZE
-        (c.as_slice.ensures.value ∙ c.in_ok-bytes.ensures.bytes) (g.met.A.CodecFixed.fixed.sized c.args.item.now c.requires.accepted)
-        (item_overfills (shown c.args.self) c.args.section g.A.CodecFixed.SIZE c.args.self.manager.factory.valid c.args.self.manager.factory.small g.met.A.CodecFixed.fixed.at_most (λ u held i. (c.requires.over.over.opened_list.setting c.args.section u held i).page_size))
-        c.in_ok-this.ensures in
+    (c.as_slice.ensures.value ∙ c.in_ok-bytes.ensures.bytes) (g.met.A.CodecFixed.fixed.sized c.args.item.now c.requires.accepted)
+    (item_overfills (shown c.args.self) c.args.section g.A.CodecFixed.SIZE c.args.self.manager.factory.valid c.args.self.manager.factory.small g.met.A.CodecFixed.fixed.at_most (λ u held i. (c.requires.over.over.opened_list.setting c.args.section u held i).page_size))
+    c.in_ok-this.ensures in
     record {
       over = did.over;
       position = did.position;
@@ -70,7 +70,7 @@ returns g c =
       guard = guard_ok _ _ _ _ did.guard;
       refuses = did.refuses;
       full = λ is which. absurd (no_error _ _ is);
-      full_first = λ le u held big. absurd (elim (did.full_first le u held big) [ | inl is ↦ no_error _ _ is | inr is ↦ no_error _ _ is ]);
+      full_first = λ le u held big. absurd (elim (did.full_first le u held big) [ inl is ↦ no_error _ _ is | inr is ↦ no_error _ _ is ]);
       no_room = λ t is. no_error _ _ is;
       room = did.room;
       faults = did.faults;

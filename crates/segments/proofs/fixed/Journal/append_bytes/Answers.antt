@@ -15,13 +15,15 @@ use Rattle.sealed_pages.specs.Tails.{LeavesTail}
 use Rattle.sealed_pages.specs.Unrecovered.{IsAdopted, IsUnrecovered}
 use Rattle.sealed_pages.specs.declared.page_blob.PageBlob.{PageBlob}
 use Rattle.sealed_pages.proofs.UnrecoveredLemmas.{adopted_backed}
+use Rattle.section_manager.specs.Sections.{section_key, key_of}
+use Rattle.section_manager.specs.declared.journal.Error.{Error}
+use Rattle.section_manager.specs.declared.journal.Error.TheVariants.{Full, Mem}
+use Rattle.section_manager.specs.managing.Managed as managed
+use Rattle.section_manager.proofs.WalkLemmas.{some_same}
+use Rattle.section_manager.proofs.sections.KeyLemmas.{keys_differ}
 use Rattle.segments.specs.FixedFull.{full_or_raised_of}
 use Rattle.segments.specs.FixedLists.{section_size}
 use Rattle.segments.specs.FixedShown.{shown}
-use Rattle.segments.specs.Sections.{section_key, key_of}
-use Rattle.segments.specs.declared.journal.Error.{Error}
-use Rattle.segments.specs.declared.journal.Error.TheVariants.{Full, Mem}
-use Rattle.segments.specs.managing.Managed as managed
 use Rattle.segments.proofs.FixedAdding.{Took, along_taken, along_untaken, buffer_error, buffer_well, error_is, failed, mem_not_full, mem_not_pruned, mem_not_room, took_of, taken_cause, taken_no_room, taken_not_full, too_many, too_many_taken, why_cause, why_not_pruned, why_not_room, why_of}
 use Rattle.segments.proofs.FixedAppendLemmas.{Added, append_journal, appended_adopted, at_ok, full_is, no_room_made, same_setting, taken_adopted, taken_bytes, taken_size, taken_still, was_err, was_ok}
 use Rattle.segments.proofs.FixedCalls.{bounds_then, held_on, same_then}
@@ -29,8 +31,6 @@ use Rattle.segments.proofs.FixedPassing.{guard_ok, guard_on, no_error}
 use Rattle.segments.proofs.FixedSpared.{bytes_spared}
 use Rattle.segments.proofs.FixedWriteLemmas.{are_pages, bytes_here, size_here}
 use Rattle.segments.proofs.TailLemmas.{appended_tail}
-use Rattle.segments.proofs.WalkLemmas.{some_same}
-use Rattle.segments.proofs.sections.KeyLemmas.{keys_differ}
 use Rattle.segments.proofs.fixed.Journal.append_bytes.Goals as goal
 
 pub put-requires-clause-floor : goal.put-requires-clause-floor

@@ -1,5 +1,5 @@
 use Rattle.blob_device.proofs.Results.{err_of}
-use Rattle.segments.specs.managing.Managed.{shown}
+use Rattle.section_manager.specs.managing.Managed.{shown}
 use Rattle.segments.proofs.FixedBoundLemmas.{finds_short, finds_long, finds_pruned}
 use Rattle.segments.proofs.FixedPassing.{no_error}
 use Rattle.segments.proofs.fixed.Journal.end_within.Goals as goal

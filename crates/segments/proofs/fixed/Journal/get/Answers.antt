@@ -5,11 +5,11 @@ use Rattle.sealed_pages.specs.Buffer as pages
 use Rattle.sealed_pages.specs.Shown as page_blob
 use Rattle.sealed_pages.proofs.EntryLemmas.{only_read_of}
 use Rattle.sealed_pages.proofs.Looking.{unchanged_now}
+use Rattle.section_manager.specs.managing.Managed.{shown}
+use Rattle.section_manager.specs.Sections.{key_of}
 use Rattle.segments.specs.FixedItems.{item_at, IsItem}
 use Rattle.segments.specs.FixedReading.{IsDamaged, IsItemCovered}
 use Rattle.segments.specs.FixedShown as lists
-use Rattle.segments.specs.managing.Managed.{shown}
-use Rattle.segments.specs.Sections.{key_of}
 use Rattle.segments.proofs.FixedSections.{bytes_own, own_here, holds_own, journal_read, reads_as, sound_page}
 use Rattle.segments.proofs.fixed.Journal.get.Goals as goal
 

@@ -7,16 +7,16 @@ use Rattle.sealed_pages.specs.Shown as page_blob
 use Rattle.sealed_pages.specs.declared.page_blob.PageBlob.{PageBlob}
 use Rattle.sealed_pages.proofs.EntryLemmas.{only_read_of}
 use Rattle.sealed_pages.proofs.Looking.{unchanged_now}
-use Rattle.segments.specs.declared.journal.Error.TheVariants.{ItemOutOfRange}
+use Rattle.section_manager.specs.declared.journal.Error.TheVariants.{ItemOutOfRange}
+use Rattle.section_manager.specs.managing.Managed.{shown}
+use Rattle.section_manager.specs.Sections.{key_of}
+use Rattle.section_manager.proofs.WalkLemmas.{some_same}
 use Rattle.segments.specs.FixedItems.{item_at}
 use Rattle.segments.specs.FixedReading.{HasItem, unheld, IsDamaged, IsItemCovered}
 use Rattle.segments.specs.FixedShown as lists
-use Rattle.segments.specs.managing.Managed.{shown}
-use Rattle.segments.specs.Sections.{key_of}
 use Rattle.segments.proofs.FixedErrors.{of_error}
 use Rattle.segments.proofs.FixedReadLemmas.{none_over}
 use Rattle.segments.proofs.FixedSections.{some_here, from_here, bytes_own, own_here, holds_own, journal_read, reads_as, sound_page}
-use Rattle.segments.proofs.WalkLemmas.{some_same}
 use Rattle.segments.proofs.fixed.Journal.get_many.Goals as goal
 
 pub returns-in_err-check_positions-clause-first : goal.returns-in_err-check_positions-clause-first

@@ -2,11 +2,11 @@ use Rattle.std.specs.Prelude.{◌≡◌, ◌≢◌, ℕ, ◌≤◌}
 use Rattle.blob_device.specs.Disk.{Key}
 use Rattle.blob_device.specs.Timeline.{disk}
 use Rattle.sealed_pages.specs.Reading.{Unchanged}
-use Rattle.segments.specs.contracts.sealed.PageBlobSectionBuffer.TheImpl.{ghosts}
-use Rattle.segments.specs.declared.sealed.AppendFactory.{AppendFactory}
+use Rattle.section_manager.specs.contracts.sealed.PageBlobSectionBuffer.TheImpl.{ghosts}
+use Rattle.section_manager.specs.declared.sealed.AppendFactory.{AppendFactory}
+use Rattle.section_manager.specs.Sections.{section_key, IsHeld, IsOver}
 use Rattle.segments.specs.FixedLists.{AreAlike}
 use Rattle.segments.specs.FixedShown.{shown}
-use Rattle.segments.specs.Sections.{section_key, IsHeld, IsOver}
 use Rattle.segments.proofs.fixed.Journal.holding.Given as goal
 
 abbrev pub invariant-loop-section : goal.invariant-loop-section

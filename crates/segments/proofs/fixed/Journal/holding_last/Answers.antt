@@ -6,9 +6,9 @@ use Rattle.sealed_pages.specs.Held.{AreHeldOf}
 use Rattle.sealed_pages.specs.Reading.{Unchanged}
 use Rattle.sealed_pages.specs.Shown.{shown}
 use Rattle.sealed_pages.proofs.Looking.{unchanged_now}
-use Rattle.segments.specs.managing.Managed as manager
-use Rattle.segments.specs.Sealed.{Stands, StandsHolding}
-use Rattle.segments.specs.Sections as sections
+use Rattle.section_manager.specs.managing.Managed as manager
+use Rattle.section_manager.specs.Sealed.{Stands, StandsHolding}
+use Rattle.section_manager.specs.Sections as sections
 use Rattle.sealed_pages.specs.declared.page_blob.PageBlob.{PageBlob}
 use Rattle.segments.proofs.FixedCalls.{bounds_then, same_then, own_entries, open_at}
 use Rattle.segments.proofs.FixedTouching.{touch_back}

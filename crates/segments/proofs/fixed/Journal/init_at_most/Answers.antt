@@ -4,11 +4,11 @@ use Rattle.blob_device.proofs.Results.{err_of}
 use Rattle.sealed_pages.specs.Buffer.{size_of}
 use Rattle.sealed_pages.specs.Shown as page_blob
 use Rattle.sealed_pages.specs.declared.pages.Pages.{Pages}
-use Rattle.segments.specs.Answers.{seen}
+use Rattle.section_manager.specs.Answers.{seen}
+use Rattle.section_manager.specs.contracts.sealed.PageBlobSectionBuffer.TheImpl.{ghosts}
 use Rattle.segments.specs.FixedDraining.{Drains}
 use Rattle.segments.specs.FixedShown.{shown}
 use Rattle.segments.specs.FixedWalking.{walk_of}
-use Rattle.segments.specs.contracts.sealed.PageBlobSectionBuffer.TheImpl.{ghosts}
 use Rattle.segments.proofs.FixedDrainedEnds.{none_past, ok_unfailed, failed_bounds, failed_cause, drained_bounds, drained_cause}
 use Rattle.segments.proofs.FixedWriteLemmas.{are_pages}
 use Rattle.segments.proofs.fixed.Journal.init_at_most.Goals as goal

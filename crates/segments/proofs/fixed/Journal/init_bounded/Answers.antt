@@ -3,13 +3,13 @@ use Rattle.std.specs.Prelude.{string_bytes}
 use Rattle.std.specs.BTreeSet.{contains}
 use Rattle.std.specs.Ordering.{nat_cmp}
 use Rattle.blob_device.proofs.Results.{err_of}
-use Rattle.segments.specs.Answers.{seen}
+use Rattle.section_manager.specs.Answers.{seen}
+use Rattle.section_manager.specs.contracts.sealed.PageBlobSectionBuffer.TheImpl.{ghosts}
+use Rattle.section_manager.specs.managing.Managed.{shown}
+use Rattle.section_manager.specs.declared.journal.Error.TheVariants.{Mem}
+use Rattle.section_manager.specs.Sections.{Sections}
+use Rattle.section_manager.specs.declared.sealed.AppendFactory.{AppendFactory}
 use Rattle.segments.specs.FixedShown as journal
-use Rattle.segments.specs.contracts.sealed.PageBlobSectionBuffer.TheImpl.{ghosts}
-use Rattle.segments.specs.managing.Managed.{shown}
-use Rattle.segments.specs.declared.journal.Error.TheVariants.{Mem}
-use Rattle.segments.specs.Sections.{Sections}
-use Rattle.segments.specs.declared.sealed.AppendFactory.{AppendFactory}
 use Rattle.sealed_pages.specs.declared.page_blob.PageBlob.{PageBlob}
 use Rattle.segments.proofs.FixedOpens.{opens_none, opens_failed, opens_memory, opens_ok, opens_as}
 use Rattle.segments.proofs.FixedWriteLemmas.{are_pages}

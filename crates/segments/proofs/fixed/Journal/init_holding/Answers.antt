@@ -5,14 +5,14 @@ use Rattle.blob_device.specs.Timeline.{disk, Each}
 use Rattle.blob_device.proofs.Moments.{always_now, always_then, always_weaker}
 use Rattle.sealed_pages.proofs.Looking.{unchanged_now}
 use Rattle.sealed_pages.proofs.Truncating.{map_ok}
-use Rattle.segments.specs.declared.sealed.AppendFactory.{AppendFactory}
-use Rattle.segments.specs.declared.unopened.Unopened.{Unopened}
-use Rattle.segments.specs.declared.unopened.Unopened.TheVariants.{Section}
+use Rattle.section_manager.specs.declared.sealed.AppendFactory.{AppendFactory}
+use Rattle.section_manager.specs.declared.unopened.Unopened.{Unopened}
+use Rattle.section_manager.specs.declared.unopened.Unopened.TheVariants.{Section}
+use Rattle.section_manager.specs.Lasting.{IsSettling}
+use Rattle.section_manager.specs.Sealed.{adopted_bytes}
+use Rattle.section_manager.specs.Sections.{section_key}
 use Rattle.segments.specs.FixedLists.{AreAlike, section_bytes}
 use Rattle.segments.specs.FixedShown.{shown}
-use Rattle.segments.specs.Lasting.{IsSettling}
-use Rattle.segments.specs.Sealed.{adopted_bytes}
-use Rattle.segments.specs.Sections.{section_key}
 use Rattle.segments.proofs.FixedHolding.{some_shown, bytes_alike}
 use Rattle.segments.proofs.fixed.Journal.init_holding.Goals as goal
 

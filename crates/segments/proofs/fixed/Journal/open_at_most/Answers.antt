@@ -2,12 +2,12 @@ use Rattle.std.specs.Prelude.{string_bytes}
 use Rattle.std.proofs.Common.{◌%◌, ℕ, List, ◌∙◌, ap, arith}
 use Rattle.blob_device.proofs.Results.{err_of}
 use Rattle.sealed_pages.specs.declared.pages.Pages.{Pages}
-use Rattle.segments.specs.Answers.{seen}
+use Rattle.section_manager.specs.Answers.{seen}
+use Rattle.section_manager.specs.Sections.{section_key}
+use Rattle.section_manager.specs.contracts.sealed.PageBlobSectionBuffer.TheImpl.{ghosts}
+use Rattle.section_manager.specs.declared.sealed.AppendFactory.{AppendFactory}
 use Rattle.segments.specs.FixedShown.{shown}
-use Rattle.segments.specs.Sections.{section_key}
-use Rattle.segments.specs.contracts.sealed.PageBlobSectionBuffer.TheImpl.{ghosts}
 use Rattle.segments.specs.FixedLists.{Lists}
-use Rattle.segments.specs.declared.sealed.AppendFactory.{AppendFactory}
 use Rattle.sealed_pages.specs.declared.page_blob.PageBlob.{PageBlob}
 use Rattle.segments.proofs.FixedBoundLemmas.{whole_whole}
 use Rattle.segments.proofs.FixedBoundsEnds.{cut_unnamed, cut_room, end_cut, end_cause, unopened_bounds, unopened_cause, opened_bounds, opened_cause, if_ok_on, journal_there, cut_sealed, none_ends, still_moments, moments_tail, opened_tail, entries_tail}

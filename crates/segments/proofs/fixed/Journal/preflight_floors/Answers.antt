@@ -12,17 +12,17 @@ use Rattle.blob_device.specs.Timeline.{disk}
 use Rattle.blob_device.proofs.Results.{err_of}
 use Rattle.sealed_pages.specs.declared.page_blob.PageBlob.{PageBlob}
 use Rattle.sealed_pages.specs.declared.pages.Pages.{Pages}
-use Rattle.segments.specs.contracts.sealed.PageBlobSectionBuffer.TheImpl.{ghosts}
-use Rattle.segments.specs.declared.journal.Error.TheVariants.{Corruption, Codec}
-use Rattle.segments.specs.declared.journal.Damage.{Damage}
-use Rattle.segments.specs.declared.sealed.AppendFactory.{AppendFactory}
-use Rattle.segments.specs.Entries.{OnlyOwnEntry}
+use Rattle.section_manager.specs.contracts.sealed.PageBlobSectionBuffer.TheImpl.{ghosts}
+use Rattle.section_manager.specs.declared.journal.Error.TheVariants.{Corruption, Codec}
+use Rattle.section_manager.specs.declared.journal.Damage.{Damage}
+use Rattle.section_manager.specs.declared.sealed.AppendFactory.{AppendFactory}
+use Rattle.section_manager.specs.Entries.{OnlyOwnEntry}
+use Rattle.section_manager.specs.Sections.{Sections, section_key, IsHeld}
+use Rattle.section_manager.proofs.sections.CutLemmas.{numbers_of, numbers_push, numbers_shown, same_number}
+use Rattle.section_manager.proofs.TurnLemmas.{had_turn}
+use Rattle.section_manager.proofs.WalkLemmas.{none_or_value}
 use Rattle.segments.specs.FixedFloors.{Floors, shown, journal_of}
 use Rattle.segments.specs.FixedLists.{Lists}
-use Rattle.segments.specs.Sections.{Sections, section_key, IsHeld}
-use Rattle.segments.proofs.sections.CutLemmas.{numbers_of, numbers_push, numbers_shown, same_number}
-use Rattle.segments.proofs.TurnLemmas.{had_turn}
-use Rattle.segments.proofs.WalkLemmas.{none_or_value}
 use Rattle.segments.proofs.FixedErrors.{of_error}
 use Rattle.segments.proofs.FixedPassing.{no_value, opening_on, checked_on, checked_named, checked_room, owing_cause, owing_coded}
 use Rattle.segments.proofs.FixedOpenLemmas.{opened_journal}

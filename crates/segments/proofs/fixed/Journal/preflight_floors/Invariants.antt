@@ -1,10 +1,10 @@
 use Rattle.std.specs.Prelude.{◌≡◌, ◌≤◌, None, string_bytes}
 use Rattle.std.specs.BTreeMap.{get}
 use Rattle.std.specs.Ordering.{nat_cmp}
-use Rattle.segments.specs.contracts.sealed.PageBlobSectionBuffer.TheImpl.{ghosts}
-use Rattle.segments.specs.declared.sealed.AppendFactory.{AppendFactory}
+use Rattle.section_manager.specs.contracts.sealed.PageBlobSectionBuffer.TheImpl.{ghosts}
+use Rattle.section_manager.specs.declared.sealed.AppendFactory.{AppendFactory}
+use Rattle.section_manager.proofs.sections.CutLemmas.{numbers_of}
 use Rattle.segments.specs.FixedFloors.{shown, journal_of}
-use Rattle.segments.proofs.sections.CutLemmas.{numbers_of}
 use Rattle.segments.proofs.FixedFloorLemmas.{Checked, Settled, AreOpened}
 use Rattle.segments.proofs.fixed.Journal.preflight_floors.Given as goal
 

@@ -5,12 +5,12 @@ use Rattle.blob_device.specs.Timeline.{disk}
 use Rattle.blob_device.proofs.Results.{err_of}
 use Rattle.sealed_pages.specs.declared.page_blob.PageBlob.{PageBlob}
 use Rattle.sealed_pages.specs.declared.pages.Pages.{Pages}
+use Rattle.section_manager.specs.Sections.{Sections, section_key}
+use Rattle.section_manager.specs.contracts.sealed.PageBlobSectionBuffer.TheImpl.{ghosts}
+use Rattle.section_manager.specs.declared.sealed.AppendFactory.{AppendFactory}
 use Rattle.segments.specs.FixedFloors.{Floors, shown, journal_of}
 use Rattle.segments.specs.FixedLists.{Lists}
 use Rattle.segments.specs.FixedShown as journal
-use Rattle.segments.specs.Sections.{Sections, section_key}
-use Rattle.segments.specs.contracts.sealed.PageBlobSectionBuffer.TheImpl.{ghosts}
-use Rattle.segments.specs.declared.sealed.AppendFactory.{AppendFactory}
 use Rattle.segments.proofs.FixedPreflights.{checks_partial, checks_opening, checks_looks, looks_at, settling_more, adopted_of, held_of, come_at, looks_owing, checks_ok}
 use Rattle.segments.proofs.FixedFound.{reaches, found, opened_for}
 use Rattle.segments.proofs.FixedEarlier.{Come, come_moved}

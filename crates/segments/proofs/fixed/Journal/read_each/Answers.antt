@@ -12,7 +12,7 @@ use Rattle.sealed_pages.specs.Held.{AreHeldOf}
 use Rattle.sealed_pages.specs.Shown.{shown}
 use Rattle.sealed_pages.proofs.Holding.{bool_or}
 use Rattle.sealed_pages.proofs.Looking.{unchanged_now, unchanged_then}
-use Rattle.segments.specs.declared.journal.Error.TheVariants.{Runtime, Codec}
+use Rattle.section_manager.specs.declared.journal.Error.TheVariants.{Runtime, Codec}
 use Rattle.segments.specs.FixedItems.{item_at}
 use Rattle.segments.specs.FixedReading.{is_item_held, IsDamaged, IsItemCovered}
 use Rattle.segments.proofs.FixedErrors.{of_error, read_failed}

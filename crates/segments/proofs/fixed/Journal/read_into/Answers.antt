@@ -1,6 +1,6 @@
 use Rattle.std.proofs.Common.{ap, Err}
 use Rattle.blob_device.specs.declared.runtime.RError.TheVariants.{InvalidChecksum}
-use Rattle.segments.specs.declared.journal.Error.TheVariants.{Runtime}
+use Rattle.section_manager.specs.declared.journal.Error.TheVariants.{Runtime}
 use Rattle.segments.proofs.FixedErrors.{of_error}
 use Rattle.segments.proofs.fixed.Journal.read_into.Goals as goal
 

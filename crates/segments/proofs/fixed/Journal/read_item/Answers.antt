@@ -1,6 +1,6 @@
 use Rattle.std.proofs.Common.{ap, Err}
 use Rattle.blob_device.specs.declared.runtime.RError.TheVariants.{InvalidChecksum}
-use Rattle.segments.specs.declared.journal.Error.TheVariants.{Runtime, Codec}
+use Rattle.section_manager.specs.declared.journal.Error.TheVariants.{Runtime, Codec}
 use Rattle.segments.proofs.FixedErrors.{of_error}
 use Rattle.segments.proofs.fixed.Journal.read_item.Goals as goal
 

@@ -3,8 +3,8 @@ use Rattle.std.specs.Option.{option_copied}
 use Rattle.std.specs.Ordering.{nat_cmp}
 use Rattle.std.proofs.Common.{◌≡◌, ◌∙◌, None, Some, sym, ap}
 use Rattle.blob_device.proofs.Results.{err_of}
+use Rattle.section_manager.specs.managing.Managed.{shown}
 use Rattle.segments.specs.FixedShown as lists
-use Rattle.segments.specs.managing.Managed.{shown}
 use Rattle.segments.proofs.FixedBoundLemmas.{measures_none, measures_some, measures_err, measures_pruned, recovers_of}
 use Rattle.segments.proofs.FixedPassing.{no_error}
 use Rattle.segments.proofs.fixed.Journal.recoverable_prefix_len_at_most.Goals as goal

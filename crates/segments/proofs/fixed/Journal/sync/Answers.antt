@@ -1,11 +1,11 @@
 use Rattle.std.proofs.Common.{◌∙◌, refl, sym}
 use Rattle.std.specs.List.{Contains}
 use Rattle.blob_device.proofs.Results.{err_of}
-use Rattle.segments.specs.contracts.sealed.PageBlobSectionBuffer.TheImpl.{ghosts}
+use Rattle.section_manager.specs.contracts.sealed.PageBlobSectionBuffer.TheImpl.{ghosts}
+use Rattle.section_manager.proofs.WalkLemmas.{contains_or_not}
 use Rattle.segments.specs.FixedShown.{shown}
 use Rattle.segments.proofs.FixedPassing.{no_value, pruned_on}
 use Rattle.segments.proofs.FixedWriteLemmas.{are_pages, is_settled, settling_of, synced_journal}
-use Rattle.segments.proofs.WalkLemmas.{contains_or_not}
 use Rattle.segments.proofs.fixed.Journal.sync.Goals as goal
 
 pub returns-in_err-this : goal.returns-in_err-this

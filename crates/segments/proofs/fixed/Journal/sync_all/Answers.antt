@@ -1,7 +1,7 @@
 use Rattle.std.proofs.Common.{inl, inr, refl}
 use Rattle.std.specs.Prelude.{⊤}
 use Rattle.blob_device.proofs.Results.{err_of, err_with}
-use Rattle.segments.specs.contracts.sealed.PageBlobSectionBuffer.TheImpl.{ghosts}
+use Rattle.section_manager.specs.contracts.sealed.PageBlobSectionBuffer.TheImpl.{ghosts}
 use Rattle.segments.specs.FixedShown.{shown}
 use Rattle.segments.proofs.FixedPassing.{no_value, failed_on}
 use Rattle.segments.proofs.FixedWriteLemmas.{are_pages, is_settled, settling_of, synced_journal}

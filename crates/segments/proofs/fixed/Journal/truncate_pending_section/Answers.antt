@@ -1,7 +1,7 @@
 use Rattle.blob_device.specs.Timeline.{disk}
 use Rattle.sealed_pages.proofs.PageCalls.{only_weaker}
+use Rattle.section_manager.specs.Sections.{key_of}
 use Rattle.segments.specs.FixedShown.{shown}
-use Rattle.segments.specs.Sections.{key_of}
 use Rattle.segments.proofs.FixedWriteLemmas.{are_pages}
 use Rattle.segments.proofs.FixedCutLemmas.{safe_cut, cut_sealing, cut_unsealed, cut_front, cut_journal}
 use Rattle.segments.proofs.fixed.Journal.truncate_pending_section.Goals as goal

@@ -9,12 +9,12 @@ use Rattle.std.proofs.lemmas.Cmp.{nat_cmp_total}
 use Rattle.std.proofs.lemmas.List.Elements.{Contains-push_cases}
 use Rattle.std.proofs.lemmas.Map.Iter.{btree_map_turn, iter_end}
 use Rattle.std.proofs.lemmas.Map.Views.{Contains-keys_from_lookup}
-use Rattle.segments.specs.declared.journal.Damage.{Damage}
+use Rattle.section_manager.specs.declared.journal.Damage.{Damage}
+use Rattle.section_manager.specs.managing.Managed.{shown}
+use Rattle.section_manager.proofs.sections.CutLemmas.{numbers_of, numbers_push, numbers_shown, same_number}
+use Rattle.section_manager.proofs.TurnLemmas.{had_turn}
+use Rattle.section_manager.proofs.WalkLemmas.{none_or_value}
 use Rattle.segments.specs.FixedLists.{floor_in, section_size}
-use Rattle.segments.specs.managing.Managed.{shown}
-use Rattle.segments.proofs.sections.CutLemmas.{numbers_of, numbers_push, numbers_shown, same_number}
-use Rattle.segments.proofs.TurnLemmas.{had_turn}
-use Rattle.segments.proofs.WalkLemmas.{none_or_value}
 use Rattle.segments.proofs.FixedFloorLemmas.{size_is}
 use Rattle.segments.proofs.fixed.preflighting.check_reached.Goals as goal
 

@@ -1,8 +1,8 @@
 use Rattle.std.proofs.Common.{ℕ, ◌≤◌}
 use Rattle.std.specs.List.{Contains}
+use Rattle.section_manager.specs.managing.Managed.{shown}
+use Rattle.section_manager.proofs.sections.CutLemmas.{numbers_of}
 use Rattle.segments.specs.FixedLists.{floor_in, section_size}
-use Rattle.segments.specs.managing.Managed.{shown}
-use Rattle.segments.proofs.sections.CutLemmas.{numbers_of}
 use Rattle.segments.proofs.fixed.preflighting.check_reached.Given as goal
 
 abbrev pub invariant-loop-section : goal.invariant-loop-section

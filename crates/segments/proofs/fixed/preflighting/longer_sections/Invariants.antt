@@ -1,7 +1,7 @@
 use Rattle.std.specs.Ordering.{nat_cmp}
 use Rattle.std.specs.BTreeSet.{contains}
+use Rattle.section_manager.specs.managing.Managed.{shown}
 use Rattle.segments.specs.FixedLists.{floor_in}
-use Rattle.segments.specs.managing.Managed.{shown}
 use Rattle.segments.proofs.FixedOpenLemmas.{Longer}
 use Rattle.segments.proofs.fixed.preflighting.longer_sections.Given as goal
 

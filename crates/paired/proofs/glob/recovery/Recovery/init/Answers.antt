@@ -1,9 +1,9 @@
 use Rattle.std.proofs.Common.{◌≡◌, ◌<◌, ℕ, List, inr, refl, sym, ◌∙◌, ap, subst, arith}
 use Rattle.std.specs.Prelude.{IsTrue, IsSome, string_bytes}
 use Rattle.blob_device.specs.Timeline.{disk}
-use Rattle.segments.specs.managing.Managed.{shown}
-use Rattle.segments.specs.Sections.{section_key}
-use Rattle.segments.specs.unsealed.Buffer.{content_of}
+use Rattle.section_manager.specs.managing.Managed.{shown}
+use Rattle.section_manager.specs.Sections.{section_key}
+use Rattle.section_manager.specs.unsealed.Buffer.{content_of}
 use Rattle.paired.proofs.CallLemmas.{held_some}
 use Rattle.paired.proofs.GlobLemmas.{held_bytes}
 use Rattle.paired.proofs.StepLemmas.{opened_glob, opened_settled, no_leftover}

@@ -1,7 +1,7 @@
 use Rattle.blob_device.specs.Timeline.{disk}
 use Rattle.blob_device.proofs.Moments.{always_now}
 use Rattle.blob_device.proofs.Results.{err_of}
-use Rattle.segments.specs.managing.Managed.{shown}
+use Rattle.section_manager.specs.managing.Managed.{shown}
 use Rattle.paired.proofs.CallLemmas.{none_each, cut_glob, one_bytes, one_settled, one_all}
 use Rattle.paired.proofs.FailLemmas.{undamaged}
 use Rattle.paired.proofs.GlobLemmas.{other_bytes}

@@ -5,11 +5,11 @@ use Rattle.blob_device.specs.Timeline.{disk}
 use Rattle.blob_device.specs.Disk.{Key}
 use Rattle.sealed_pages.specs.Entries.{ReadsAtMost}
 use Rattle.sealed_pages.proofs.Looking.{unchanged_now}
-use Rattle.segments.specs.managing.Managed.{shown}
+use Rattle.section_manager.specs.managing.Managed.{shown}
 use Rattle.paired.specs.Frames.{IsSealed}
 use Rattle.paired.specs.glob.Sections.{section_bytes}
 use Rattle.paired.proofs.GlobLemmas.{glob_read}
-use Rattle.segments.specs.unsealed.Buffer.{count_of}
+use Rattle.section_manager.specs.unsealed.Buffer.{count_of}
 use Rattle.paired.specs.Records.{is_sound}
 use Rattle.paired.proofs.KeptLemmas.{sound_parts}
 use Rattle.paired.proofs.SoundLemmas.{sound_verdict}

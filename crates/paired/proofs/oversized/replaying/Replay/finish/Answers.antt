@@ -1,7 +1,7 @@
 use Rattle.std.proofs.Common.{◌≡◌, true, false, inl, refl, ap}
+use Rattle.section_manager.specs.managing.Managed as managed
 use Rattle.segments.specs.FixedLists as lists
 use Rattle.segments.specs.FixedShown as fixed
-use Rattle.segments.specs.managing.Managed as managed
 use Rattle.paired.specs.glob.Sections as glob
 use Rattle.paired.specs.Records.{entries_of}
 use Rattle.paired.specs.ReplayShown.{run_of}

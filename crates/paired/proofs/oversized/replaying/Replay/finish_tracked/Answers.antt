@@ -7,13 +7,13 @@ use Rattle.blob_device.specs.Timeline.{disk, Always}
 use Rattle.blob_device.proofs.Moments.{always_start, always_now}
 use Rattle.blob_device.proofs.Results.{err_of}
 use Rattle.sealed_pages.specs.Reading.{Unchanged}
+use Rattle.section_manager.specs.managing.Managed as manager
+use Rattle.section_manager.specs.declared.journal.Error.TheVariants.{Codec, Corruption, ReplayFailed}
+use Rattle.section_manager.specs.Sections.{section_key, IsHeld}
+use Rattle.section_manager.proofs.WalkLemmas.{contains_or_not}
 use Rattle.segments.specs.FixedReplay.{IsDrained}
 use Rattle.segments.specs.FixedShown as fixed
-use Rattle.segments.specs.managing.Managed as manager
-use Rattle.segments.specs.declared.journal.Error.TheVariants.{Codec, Corruption, ReplayFailed}
-use Rattle.segments.specs.Sections.{section_key, IsHeld}
 use Rattle.segments.proofs.FixedWriteLemmas.{are_pages}
-use Rattle.segments.proofs.WalkLemmas.{contains_or_not}
 use Rattle.paired.specs.Crashes.{IsCopy}
 use Rattle.paired.specs.OpeningRefusing.{IsSomeRefused}
 use Rattle.paired.specs.PairShown.{shown}

@@ -3,10 +3,10 @@ use Rattle.std.specs.BTreeMap as tree
 use Rattle.std.specs.Ordering.{nat_cmp}
 use Rattle.std.proofs.Common.{refl, sym, ◌∙◌, ap, subst}
 use Rattle.blob_device.specs.Timeline.{disk}
-use Rattle.segments.specs.contracts.sealed.PageBlobSectionBuffer.TheImpl as page_blob
+use Rattle.section_manager.specs.contracts.sealed.PageBlobSectionBuffer.TheImpl as page_blob
+use Rattle.section_manager.specs.Sections.{key_of}
 use Rattle.segments.specs.FixedReplay.{SameWalk}
 use Rattle.segments.specs.FixedWalking.{walk_of}
-use Rattle.segments.specs.Sections.{key_of}
 use Rattle.segments.proofs.FixedWriteLemmas.{are_pages}
 use Rattle.paired.specs.Replaying.{Run}
 use Rattle.paired.specs.ReplayShown.{run_of}

@@ -1,7 +1,7 @@
 use Rattle.std.specs.Prelude.{◌≡◌, true}
 use Rattle.std.specs.BTreeMap as tree
 use Rattle.std.specs.Ordering.{nat_cmp}
-use Rattle.segments.specs.contracts.sealed.PageBlobSectionBuffer.TheImpl as page_blob
+use Rattle.section_manager.specs.contracts.sealed.PageBlobSectionBuffer.TheImpl as page_blob
 use Rattle.segments.specs.FixedStepping.{way_of}
 use Rattle.segments.specs.FixedWalking.{walk_of}
 use Rattle.paired.specs.ReplayShown.{run_of}

@@ -1,8 +1,8 @@
 use Rattle.std.proofs.Common.{◌<◌, ◌/◌, arith}
 use Rattle.sealed_pages.specs.Buffer.{size_of}
 use Rattle.sealed_pages.specs.Shown as page_blob
+use Rattle.section_manager.proofs.WalkLemmas.{value_of}
 use Rattle.segments.specs.FixedShown.{shown}
-use Rattle.segments.proofs.WalkLemmas.{value_of}
 use Rattle.paired.proofs.oversized.replaying.Replay.tracked.Goals as goal
 
 pub returns-in_err-index-clause-cause : goal.returns-in_err-index-clause-cause

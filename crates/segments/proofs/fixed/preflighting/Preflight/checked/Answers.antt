@@ -11,12 +11,12 @@ use Rattle.sealed_pages.specs.Reads.{IsCovered}
 use Rattle.sealed_pages.specs.SealedPrefix.{data_from}
 use Rattle.sealed_pages.specs.View.{view}
 use Rattle.sealed_pages.proofs.Looking.{unchanged_now}
-use Rattle.segments.specs.declared.journal.Error.TheVariants.{Codec, Corruption}
-use Rattle.segments.specs.Entries.{OnlyOwnEntry}
+use Rattle.section_manager.specs.declared.journal.Error.TheVariants.{Codec, Corruption}
+use Rattle.section_manager.specs.Entries.{OnlyOwnEntry}
+use Rattle.section_manager.specs.managing.Managed.{shown}
+use Rattle.section_manager.specs.Sections.{section_key}
+use Rattle.section_manager.specs.Setting.{Setting}
 use Rattle.segments.specs.FixedFloors.{IsAdoptedOver, IsBoundary, IsUnsealed}
-use Rattle.segments.specs.managing.Managed.{shown}
-use Rattle.segments.specs.Sections.{section_key}
-use Rattle.segments.specs.Setting.{Setting}
 use Rattle.segments.proofs.FixedErrors.{of_error}
 use Rattle.segments.proofs.FixedFloorLemmas.{over_read, whole_items}
 use Rattle.segments.proofs.fixed.preflighting.Preflight.checked.Goals as goal

@@ -5,9 +5,9 @@ use Rattle.std.proofs.Common.{◌≡◌, ◌∙◌, ◌+◌, ◌++◌, ◌∷◌
 use Rattle.std.proofs.lemmas.List.{take_more, take_all}
 use Rattle.blob_device.proofs.Results.{err_of}
 use Rattle.sealed_pages.specs.declared.page_blob.PageBlob.{PageBlob}
+use Rattle.section_manager.specs.Sections.{Sections, IsHeld}
+use Rattle.section_manager.specs.declared.sealed.AppendFactory.{AppendFactory}
 use Rattle.segments.specs.FixedFloors.{shown, journal_of}
-use Rattle.segments.specs.Sections.{Sections, IsHeld}
-use Rattle.segments.specs.declared.sealed.AppendFactory.{AppendFactory}
 use Rattle.segments.proofs.FixedChecking.{looks_err}
 use Rattle.segments.proofs.FixedEarlier.{gone_none, gone_more, gone_past, gone_to, gone_all, turn, looks_none, had_numbers, has_number}
 use Rattle.segments.proofs.fixed.preflighting.Preflight.checked_earlier.Given.{Over}

@@ -3,7 +3,7 @@ use Rattle.std.proofs.lemmas.Nat.{div_below}
 use Rattle.blob_device.specs.Timeline.{disk}
 use Rattle.sealed_pages.specs.Buffer.{key_of}
 use Rattle.sealed_pages.specs.Shown.{shown}
-use Rattle.segments.specs.declared.journal.Damage.{Damage}
+use Rattle.section_manager.specs.declared.journal.Damage.{Damage}
 use Rattle.segments.specs.FixedFloors.{IsUnsealed}
 use Rattle.segments.proofs.FixedFloorLemmas.{unsealed_less}
 use Rattle.segments.proofs.fixed.preflighting.Preflight.refuse.Goals as goal

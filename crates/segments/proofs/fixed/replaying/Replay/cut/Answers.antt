@@ -12,22 +12,22 @@ use Rattle.sealed_pages.specs.Shown.{shown}
 use Rattle.sealed_pages.specs.Unrecovered.{IsAdopted, IsSafeCut}
 use Rattle.sealed_pages.specs.SealedPrefix.{sealed_prefix}
 use Rattle.sealed_pages.proofs.Holding.{fit_size}
-use Rattle.segments.specs.managing.Managed as manager
-use Rattle.segments.specs.Sealed.{Stands}
-use Rattle.segments.specs.Sections as sections
+use Rattle.section_manager.specs.managing.Managed as manager
+use Rattle.section_manager.specs.Sealed.{Stands}
+use Rattle.section_manager.specs.Sections as sections
+use Rattle.section_manager.proofs.buffers.SealedCalls.{sound_page}
+use Rattle.section_manager.specs.Raised.{raised}
 use Rattle.segments.specs.FixedWalking.{walk_of}
 use Rattle.segments.proofs.FixedBuffers.{cut_at, no_cut_moments, cut_moved}
 use Rattle.segments.proofs.FixedCalls.{bounds_then, same_then, own_entries, moved_back, alone_blobs, cut_back_moved, held_on, cut_stands, open_at}
 use Rattle.segments.proofs.FixedCounts.{few_reads}
 use Rattle.segments.proofs.FixedErrorSteps.{raised_cut}
 use Rattle.segments.proofs.FixedErrors.{runtime_of}
-use Rattle.segments.proofs.buffers.SealedCalls.{sound_page}
-use Rattle.segments.specs.Raised.{raised}
 use Rattle.blob_device.specs.declared.runtime.RError.TheVariants.{InvalidChecksum}
-use Rattle.segments.specs.declared.journal.Error.TheVariants.{Runtime}
+use Rattle.section_manager.specs.declared.journal.Error.TheVariants.{Runtime}
+use Rattle.section_manager.proofs.sections.OverLemmas.{same_key}
 use Rattle.segments.proofs.FixedTouching.{touch_out, touch_back}
 use Rattle.segments.proofs.FixedWalks.{is_some, some_of, same_some}
-use Rattle.segments.proofs.sections.OverLemmas.{same_key}
 use Rattle.segments.proofs.fixed.replaying.Replay.cut.Goals as goal
 
 pub take-requires-clause-over : goal.take-requires-clause-over

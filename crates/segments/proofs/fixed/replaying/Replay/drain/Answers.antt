@@ -2,7 +2,7 @@
 use Rattle.std.specs.Prelude.{◌≡◌, true, Some, None, Ok, Err}
 use Rattle.std.proofs.Common.{inl, inr, sym, ◌∙◌, ap, subst}
 use Rattle.blob_device.proofs.Results.{err_of}
-use Rattle.segments.specs.contracts.sealed.PageBlobSectionBuffer.TheImpl as impl
+use Rattle.section_manager.specs.contracts.sealed.PageBlobSectionBuffer.TheImpl as impl
 use Rattle.segments.specs.FixedShown.{shown}
 use Rattle.segments.specs.FixedWalking.{walk_of}
 use Rattle.segments.specs.declared.fixed.replaying.Replay.{Replay}

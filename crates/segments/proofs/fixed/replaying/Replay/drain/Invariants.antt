@@ -1,4 +1,4 @@
-use Rattle.segments.specs.contracts.sealed.PageBlobSectionBuffer.TheImpl as impl
+use Rattle.section_manager.specs.contracts.sealed.PageBlobSectionBuffer.TheImpl as impl
 use Rattle.segments.specs.FixedStepping.{way_of}
 use Rattle.segments.specs.FixedWalking.{walk_of}
 use Rattle.segments.proofs.FixedDrainLemmas.{Draining}

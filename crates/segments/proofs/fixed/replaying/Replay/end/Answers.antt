@@ -8,18 +8,18 @@ use Rattle.blob_device.specs.Timeline.{disk}
 use Rattle.sealed_pages.specs.Buffer.{size_of}
 use Rattle.sealed_pages.specs.Shown.{shown}
 use Rattle.sealed_pages.proofs.Holding.{fit_size}
+use Rattle.section_manager.specs.declared.journal.Error.TheVariants.{ItemOutOfRange}
+use Rattle.section_manager.proofs.WalkLemmas.{some_same}
 use Rattle.segments.specs.FixedCursor.{leaving}
 use Rattle.segments.specs.FixedReplay.{Place, kept_bytes}
 use Rattle.segments.specs.FixedStepping.{standing}
 use Rattle.segments.specs.FixedWalking.{walk_of, place_of}
-use Rattle.segments.specs.declared.journal.Error.TheVariants.{ItemOutOfRange}
 use Rattle.segments.proofs.FixedEnds.{ends_kept}
 use Rattle.segments.proofs.FixedFilling.{none_some}
 use Rattle.segments.proofs.FixedGoing.{ends_as, if_some_at}
 use Rattle.segments.proofs.FixedOpening.{first_here}
 use Rattle.segments.proofs.FixedReading.{end_uncut, end_refused, here}
 use Rattle.segments.proofs.FixedRunning.{walk_same}
-use Rattle.segments.proofs.WalkLemmas.{some_same}
 use Rattle.segments.proofs.fixed.replaying.Replay.end.Goals as goal
 
 false_true : (b : Bool) → b ≡ false → IsTrue b → ⊥

@@ -4,7 +4,7 @@ use Rattle.std.proofs.Common.{refl, sym, ◌∙◌, arith}
 use Rattle.std.proofs.lemmas.Result.{err_from_is_err_and}
 use Rattle.blob_device.specs.Timeline.{disk}
 use Rattle.sealed_pages.proofs.Holding.{fit_size}
-use Rattle.segments.specs.declared.journal.Error.TheVariants.{Corruption, ItemOutOfRange}
+use Rattle.section_manager.specs.declared.journal.Error.TheVariants.{Corruption, ItemOutOfRange}
 use Rattle.segments.specs.FixedWalking.{walk_of, place_of}
 use Rattle.segments.proofs.FixedCutting.{ends_below, cut_failed, cut_ended, cut_refused, cut_within, cut_prefix}
 use Rattle.segments.proofs.FixedOpening.{first_here}

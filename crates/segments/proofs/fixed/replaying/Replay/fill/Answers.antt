@@ -10,16 +10,16 @@ use Rattle.blob_device.specs.declared.runtime.RError.TheVariants.{InvalidChecksu
 use Rattle.sealed_pages.specs.Entries.{IsOpenAt}
 use Rattle.sealed_pages.specs.Readers.{reading, missing_of, next_of}
 use Rattle.sealed_pages.specs.Reads.{IsShort}
+use Rattle.section_manager.specs.Sections.{key_of}
+use Rattle.section_manager.proofs.WalkLemmas.{some_same}
 use Rattle.segments.specs.FixedCursor.{leaving, IsFoundShort}
 use Rattle.segments.specs.FixedStepping.{standing}
 use Rattle.segments.specs.FixedWalking.{walk_of, place_of}
-use Rattle.segments.specs.Sections.{key_of}
 use Rattle.segments.proofs.FixedErrors.{runtime_of}
 use Rattle.segments.proofs.FixedErrorSteps.{raised_cut}
 use Rattle.segments.proofs.FixedFilling.{fills_as, filled, page_alone, none_some, filled_failed, filled_out, filled_short, found_short, never_ok, page_is, same_ok}
 use Rattle.segments.proofs.FixedReading.{here}
 use Rattle.segments.proofs.FixedRunning.{ok_at, walk_same}
-use Rattle.segments.proofs.WalkLemmas.{some_same}
 use Rattle.segments.proofs.fixed.replaying.Replay.fill.Goals as goal
 
 pub ensure-requires : goal.ensure-requires

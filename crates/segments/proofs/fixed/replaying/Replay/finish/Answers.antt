@@ -29,7 +29,10 @@ returns-clause-given g c from calls opened d run = all_given g.S.Seal.seal_of g.
     (record { walk = walk_of c.args.self; opened = opened; disk = d }) run (c.is_drained.ensures.0 c.if-not-is_drained.false)
 
 pub returns-then-self-clause-replay_failed : goal.returns-then-self-clause-replay_failed
-returns-then-self-clause-replay_failed g c = (λ is. elim c.then-self.branch [
-  | then-self-via-then-self w ↦ inl w.if-self.true
-  | then-self-via-else-self+then-not-is_drained w ↦ inr (λ drained. absurd (cc (w.if-not-is_drained.true, w.is_drained.ensures.1 drained)))
-], λ why. refl)
+returns-then-self-clause-replay_failed g c = (
+  λ is. elim c.then-self.branch [
+    | then-self-via-then-self w ↦ inl w.if-self.true
+    | then-self-via-else-self+then-not-is_drained w ↦ inr (λ drained. absurd (cc (w.if-not-is_drained.true, w.is_drained.ensures.1 drained)))
+  ],
+  λ why. refl,
+)

@@ -1,5 +1,5 @@
 use Rattle.std.specs.Prelude.{◌≡◌, true}
-use Rattle.segments.specs.contracts.sealed.PageBlobSectionBuffer.TheImpl as impl
+use Rattle.section_manager.specs.contracts.sealed.PageBlobSectionBuffer.TheImpl as impl
 use Rattle.segments.specs.FixedStepping.{way_of}
 use Rattle.segments.specs.FixedWalking.{walk_of}
 use Rattle.segments.proofs.FixedRunning.{Running}

@@ -13,8 +13,9 @@ use Rattle.sealed_pages.specs.Shown.{shown}
 use Rattle.sealed_pages.specs.Unrecovered.{IsUnrecovered, KeepsPrefix}
 use Rattle.sealed_pages.proofs.Holding.{holds_start}
 use Rattle.sealed_pages.proofs.Truncating.{all_flushed}
-use Rattle.segments.specs.managing.Managed as manager
-use Rattle.segments.specs.Sections as sections
+use Rattle.section_manager.specs.managing.Managed as manager
+use Rattle.section_manager.specs.Sections as sections
+use Rattle.section_manager.proofs.sections.OverLemmas.{same_key}
 use Rattle.segments.specs.FixedWalking.{walk_of}
 use Rattle.segments.proofs.FixedAppendLemmas.{steady_start}
 use Rattle.segments.proofs.FixedBuffers.{flushed_at}
@@ -23,7 +24,6 @@ use Rattle.segments.proofs.FixedCounts.{no_reads}
 use Rattle.segments.proofs.FixedErrorSteps.{raised_failed}
 use Rattle.segments.proofs.FixedTouching.{touch_out, touch_back}
 use Rattle.segments.proofs.FixedWalks.{is_some, some_of, same_some}
-use Rattle.segments.proofs.sections.OverLemmas.{same_key}
 use Rattle.segments.proofs.fixed.replaying.Replay.open_reader.Goals as goal
 
 pub take-requires-clause-over : goal.take-requires-clause-over

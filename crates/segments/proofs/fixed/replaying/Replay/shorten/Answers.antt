@@ -7,10 +7,10 @@ use Rattle.blob_device.specs.Timeline.{disk}
 use Rattle.sealed_pages.specs.ChanceSeal.{Sealing}
 use Rattle.sealed_pages.specs.SealedPrefix.{sealed_prefix}
 use Rattle.sealed_pages.specs.declared.page_blob.PageBlob.{PageBlob}
+use Rattle.section_manager.specs.Sections.{key_of}
+use Rattle.section_manager.specs.declared.journal.Error.{Error}
 use Rattle.segments.specs.FixedStepping.{IsCutBack}
 use Rattle.segments.specs.FixedWalking.{walk_of}
-use Rattle.segments.specs.Sections.{key_of}
-use Rattle.segments.specs.declared.journal.Error.{Error}
 use Rattle.segments.proofs.FixedChecking.{whole_count}
 use Rattle.segments.proofs.FixedErrorSteps.{cut_as}
 use Rattle.segments.proofs.FixedPassing.{no_error}

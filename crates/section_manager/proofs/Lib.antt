@@ -1,0 +1,8 @@
+pub mod buffers
+pub mod Seen
+pub mod sections
+pub mod CountLemmas
+pub mod WalkLemmas
+pub mod NumberLemmas
+pub mod InitLemmas
+pub mod TurnLemmas

@@ -1,0 +1,15 @@
+use Rattle.section_manager.proofs.sections.EntryLemmas.{starts_none}
+use Rattle.section_manager.proofs.buffers.UnsealedCalls.{sync_moments}
+use Rattle.section_manager.proofs.unsealed.WriteBlobSectionBuffer.start_sync.Goals as goal
+
+pub returns-in_err-this-clause-moments : goal.returns-in_err-this-clause-moments
+returns-in_err-this-clause-moments g c t stands = sync_moments c.args.self _ _ _ stands (c.sync.ensures.spares t) (c.sync.ensures.since t)
+
+pub returns-in_err-this-clause-reads : goal.returns-in_err-this-clause-reads
+returns-in_err-this-clause-reads g c none = starts_none _ _ _ c.sync.ensures.entries
+
+pub returns-clause-moments : goal.returns-clause-moments
+returns-clause-moments g c t stands = sync_moments c.args.self _ _ _ stands (c.sync.ensures.spares t) (c.sync.ensures.since t)
+
+pub returns-clause-reads : goal.returns-clause-reads
+returns-clause-reads g c none = starts_none _ _ _ c.sync.ensures.entries

@@ -1,0 +1,18 @@
+-- What this layer means to the layers above: a map from sections, by number, to lists of bytes, with a floor and a ceiling
+-- (`Sections`). Each section is a buffer over a blob of its own. What a crash at any moment of a call leaves of the blobs is said
+-- blob by blob (`Leaving`, `Lasting`), by the test that each buffer brings: one over sealed pages (`Sealed`), one without seals
+-- (`unsealed/Buffer`), whose contents since its blob settled are fronts of its bytes (`Fronts`).
+pub mod Raised
+pub mod Setting
+pub mod Leaving
+pub mod Fronts
+pub mod Entries
+pub mod Sections
+pub mod Lasting
+pub mod Refusing
+pub mod managing
+pub mod Doomed
+pub mod Sealed
+pub mod SealedLaws
+pub mod unsealed
+pub mod Answers

@@ -1,4 +1,0 @@
-use Rattle.segments.proofs.manager.Manager.init.Goals as goal
-
-pub returns : goal.returns
-returns g c = c.init_bounded.ensures

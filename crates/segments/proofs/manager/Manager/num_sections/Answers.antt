@@ -1,6 +1,0 @@
-use Rattle.std.proofs.Common.{◌∙◌}
-use Rattle.segments.proofs.CountLemmas.{counted}
-use Rattle.segments.proofs.manager.Manager.num_sections.Goals as goal
-
-pub returns : goal.returns
-returns g c numbers ascending each = c.len.ensures.len ∙ counted c.args.self.now.held.buffers numbers c.len.ensures.ordered ascending each
