@@ -1,5 +1,5 @@
 -- What a fill of a replay's cursor answers, from what its reader answered.
-use Rattle.std.specs.Prelude.{◌≡◌, ◌≢◌, ◌⊎◌, ℕ, ◌+◌, ◌*◌, ◌<◌, ◌≤◌, Bool, true, false, List, length, take, drop, IsTrue, None, Some, Result, Ok, Err}
+use Rattle.std.specs.Prelude.{◌≡◌, ◌≢◌, ◌⊎◌, ℕ, ◌+◌, ◌*◌, ◌-◌, ◌<◌, ◌≤◌, Bool, true, false, List, min, length, take, drop, IsTrue, None, Some, Result, Ok, Err}
 use Rattle.std.specs.Result.{IsErrOf}
 use Rattle.std.proofs.Common.{inl, inr, refl, sym, ◌∙◌, ap, subst, arith}
 use Rattle.blob_device.specs.Disk.{Key, Blob, Disk}
@@ -183,11 +183,11 @@ module _ {F S D : Type 0} {gs : _} (seal : List ℕ → ℕ) (size : ℕ) (g : b
             | inl owed ↦ absurd (not_owed free owed)
             | inr floor ↦ floor.1
           ];
-          page = some_and (λ (v : PageBlob S gs). (r.position * size < size_of (shown v)) × IsShort seal v.page_size (disk (dev.time from) K).content (r.position * size) (count * size) k) (w.journal.sections.held r.section) h.0 h.1 (
+          page = some_and (λ (v : PageBlob S gs). (r.position * size < size_of (shown v)) × IsShort seal v.page_size (disk (dev.time from) K).content (r.position * size) (min (count * size) (size_of (shown v) - r.position * size)) k) (w.journal.sections.held r.section) h.0 h.1 (
             omega (arith, s.wanted.some, at_place, h.2.blob_size),
             record {
-              wanted = record { some = omega (arith, s.wanted.some); low = omega (arith, s.wanted.low, at_place); high = omega (arith, s.wanted.high, far t) };
-              short = omega (arith, s.short, far t);
+              wanted = record { some = omega (arith, s.wanted.some, at_place, far t, inside t, h.2.blob_size); low = omega (arith, s.wanted.low, at_place); high = omega (arith, s.wanted.high, far t, inside t, h.2.blob_size) };
+              short = omega (arith, s.short, far t, inside t, h.2.blob_size);
             },
           );
         }

@@ -1,5 +1,5 @@
 -- A step of a replay that reads first: what stands at the place, or that the section's reading failed.
-use Rattle.std.specs.Prelude.{◌≡◌, ◌⊎◌, ℕ, ◌+◌, ◌*◌, ◌<◌, ◌≤◌, Bool, true, false, List, length, IsSome, IsSomeAnd, Option, Some, Result, Ok, Err, IfSome}
+use Rattle.std.specs.Prelude.{◌≡◌, ◌⊎◌, ℕ, ◌+◌, ◌*◌, ◌-◌, ◌<◌, ◌≤◌, Bool, true, false, List, min, length, IsSome, IsSomeAnd, Option, Some, Result, Ok, Err, IfSome}
 use Rattle.std.proofs.Common.{inl, inr, refl, sym, ◌∙◌, ap, subst, arith}
 use Rattle.blob_device.specs.Disk.{Disk}
 use Rattle.blob_device.specs.Opened.{OpenedList}
@@ -115,7 +115,8 @@ module _ {F S D V : Type 0} {gs : _} (seal : List ℕ → ℕ) (size : ℕ) (g :
     found t k is =
         let f = fill.damaged t k (ap Err is) in
         let u = the_some (old.journal.sections.held r.section) f.page in
-        let one : 1 * size ≡ size = omega arith in
+        let fits = next_within size (size_of (shown u.0)) r.position pos ((was.disk t).sealed.whole r.section u.0 u.1 f.free) u.2.0 in
+        let one : min (1 * size) (size_of (shown u.0) - r.position * size) ≡ size = omega (arith, fits) in
         record {
           damage = record {
             section = r.section;
@@ -124,10 +125,10 @@ module _ {F S D V : Type 0} {gs : _} (seal : List ℕ → ℕ) (size : ℕ) (g :
             free = f.free;
             floor = f.floor;
             within = some_and (λ (v : PageBlob S gs). (r.position + 1) * size ≤ size_of (shown v)) (old.journal.sections.held r.section) u.0 u.1
-                (next_within size (size_of (shown u.0)) r.position pos ((was.disk t).sealed.whole r.section u.0 u.1 f.free) u.2.0);
+                fits;
             page = some_and (λ (v : PageBlob S gs). IsShort seal v.page_size (disk (dev.time via) (key_of old.journal.sections r.section)).content (r.position * size) size k) (old.journal.sections.held r.section) u.0 u.1
                 (subst (λ (n : ℕ). IsShort seal u.0.page_size (disk (dev.time via) (key_of old.journal.sections r.section)).content (r.position * size) n k) one
-                (subst (λ (d : Disk). IsShort seal u.0.page_size (d (key_of old.journal.sections r.section)).content (r.position * size) (1 * size) k) (sym (same_disk t)) u.2.1));
+                (subst (λ (d : Disk). IsShort seal u.0.page_size (d (key_of old.journal.sections r.section)).content (r.position * size) (min (1 * size) (size_of (shown u.0) - r.position * size)) k) (sym (same_disk t)) u.2.1));
           };
           ends = ended_here seal size w r (disk (dev.time via)) refl (was.walk.come_to r at).1;
         }

@@ -1,7 +1,7 @@
 -- A cursor over a replay of a fixed journal, for a layer that keeps something else than items of
 -- one size in the bytes. It goes into a section, looks at whole items before it passes over them,
 -- ends the section, and may cut it once more.
-use Rattle.std.specs.Prelude.{◌≡◌, ◌⊎◌, ℕ, ◌+◌, ◌*◌, ◌%◌, ◌<◌, ◌≤◌, Bool, false, true, cond, List, length, take, drop, Option, Some, None, Result, Ok, OnOk, OnErr, IsTrue, IsSomeAnd}
+use Rattle.std.specs.Prelude.{◌≡◌, ◌⊎◌, ℕ, ◌+◌, ◌*◌, ◌-◌, ◌%◌, ◌<◌, ◌≤◌, Bool, false, true, cond, List, length, min, take, drop, Option, Some, None, Result, Ok, OnOk, OnErr, IsTrue, IsSomeAnd}
 use Rattle.std.specs.Option.{option_map}
 use Rattle.std.specs.Result.{IsErrOf}
 use Rattle.blob_device.specs.Disk.{Disk}
@@ -83,7 +83,7 @@ module _ {F S : Type 0} {gs : _} (seal : List ℕ → ℕ) (size : ℕ) where
     pub page : IsSomeAnd (w.journal.sections.held r.section) (λ u.
         (r.position * size < size_of (shown u))
         × IsShort seal u.page_size (d (key_of w.journal.sections r.section)).content
-        (r.position * size) (count * size) k)
+        (r.position * size) (min (count * size) (size_of (shown u) - r.position * size)) k)
 
   -- The replay `old` was turned into `to`, without a call of the device.
   pub record Turns (to old new : Walk F (PageBlob S gs)) : Type 0 where
