@@ -63,10 +63,15 @@ pub record IsEntered {F B : Type 0} (old : Walk F B) (r : Place) : Type 0 where
 
 -- The replay `new` is `old` at the place q, which is r with as many bytes at hand or more.
 pub record IsFilled {F B : Type 0} (old new : Walk F B) (r q : Place) : Type 0 where
+  -- nothing but the place has changed
   pub goes : new ≡ standing old q
+  -- it is in the same section
   pub section : q.section ≡ r.section
+  -- at the same position
   pub position : q.position ≡ r.position
+  -- over the same blob
   pub same : SameReader r.reader q.reader
+  -- what was at hand is
   pub grows : length r.reader.bytes ≤ length q.reader.bytes
 
 module _ {F S : Type 0} {gs : _} (seal : List ℕ → ℕ) (size : ℕ) where
@@ -74,12 +79,14 @@ module _ {F S : Type 0} {gs : _} (seal : List ℕ → ℕ) (size : ℕ) where
   abbrev pub kept_at : Walk F (PageBlob S gs) → Place → Disk → List ℕ
   kept_at w r d = kept_bytes seal size w d r.section
 
-  -- Page k has bytes of so many items from the place on, and no matching slot covers it as far as
-  -- these go. The section owes no replay, and has a floor and bytes behind the place.
+  -- Page k was found damaged: it has bytes of so many items from the place on.
   pub record IsFoundShort (count : ℕ) (w : Walk F (PageBlob S gs)) (r : Place) (d : Disk) (k : ℕ)
       : Type 0 where
+    -- the section owes no replay
     pub free : w.journal.unrecovered r.section ≡ false
+    -- and has a floor
     pub floor : 0 < w.journal.floor_of r.section
+    -- it has bytes behind the place, and no matching slot covers the page as far as the items go
     pub page : IsSomeAnd (w.journal.sections.held r.section) (λ u.
         (r.position * size < size_of (shown u))
         × IsShort seal u.page_size (d (key_of w.journal.sections r.section)).content
@@ -122,15 +129,17 @@ module _ {F S : Type 0} {gs : _} (seal : List ℕ → ℕ) (size : ℕ) where
         (refusal : List ℕ → Unit {0} → Option codec.Error) (told : Type 0)
         (result : Result (Unit {0}) Error) (old new : Walk F (PageBlob S gs))
         (before after : OpenedList) (begin end : Timeline) (few many : ℕ) where
-      -- It went into the next section. It is a step that gives no item.
+      -- It went into the next section.
       pub record Enters : Type 0 where
+        -- this is a step that gives no item
         pub steps : Steps seal size g gives spelling accepted refusal told
             (seen (λ _. None) result) old new before after begin end few many
         -- it stands in that section then
         pub begun : OnOk result (IsSomeAnd new.place (IsEntered old))
 
-      -- It ended the section in which it stood, at the place r. It is a step that gives no item.
+      -- It ended the section in which it stood, at the place r.
       pub record Ends (r : Place) : Type 0 where
+        -- this is a step that gives no item
         pub steps : Steps seal size g gives spelling accepted refusal told
             (seen (λ _. None) result) old new before after begin end few many
         -- it stands in no section then, also behind an error
