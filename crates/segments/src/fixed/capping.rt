@@ -118,7 +118,8 @@ impl<A: CodecFixed, S: Seal> Journal<A, S> {
     }
 
     /// Opens the sections of the partition up to this one, removes the later ones, the newest first, and then cuts this one to the whole
-    /// items of its sealed prefix that end at or before `end`. All sections with bytes owe a replay.
+    /// items of its sealed prefix that end at or before `end`. Each section that had bytes before the cut owes a replay, also one that
+    /// the cut emptied.
     ///
     /// It refuses a blob with a name that is no section's, also above the bound, before it changes anything.
     pub fn open_at_most<D: Device>(

@@ -523,7 +523,8 @@ impl<A: CodecFixed, S: Seal> Replay<A, S> {
         // So it is of their floors.
         ensures lifted { IfOk result (λ r. (s : ℕ) → ((walk_of self).start_section < s) ⊎ (((walk_of self).start_position ≡ 0) × ((walk_of self).start_section ≡ s)) → (shown r).floor_of s ≡ 0) }
         ensures floors { IfOk result (λ r. (s : ℕ) → (s < (walk_of self).start_section) ⊎ ((0 < (walk_of self).start_position) × ((walk_of self).start_section ≡ s)) → (shown r).floor_of s ≡ (walk_of self).journal.floor_of s) }
-        // What was given by calls without an error, from any moment on, is all that was to be given then, ascending; each page was read once.
+        // Where it answers Ok, what calls without an error gave, from any moment on, is all that was to be given then,
+        // ascending. Each page was read at most once, and one of a section once more where a replay of it was owed.
         ensures given { (from : _) (calls : _) (opened : _) (d : _)
             → HasRun S.seal_of A.SIZE A.spelling A.accepted from calls (record { walk = walk_of self; opened = opened; disk = d })
             → OnOk result (AreAllLeft S.seal_of A.SIZE A.spelling A.accepted from (given calls) × ReadsAllOnce from opened) }
