@@ -338,7 +338,7 @@ impl<A: CodecFixed, S: Seal> Journal<A, S> {
         // Where it refuses without a read, or where all items are held in memory, no call of the device is made.
         ensures idle { (IsSomeAnd ((shown self.now).sections.held section)
             (λ u. ((p : ℕ) → Contains positions.now p → HasItem A.SIZE u p) × (0 < unheld A.SIZE u positions.now)) → ⊥) → dev.new ≡ dev.old }
-        // Only items that are not held whole are read: of each at most two pages more than it fills, all of the section's blob.
+        // So many reads at most as the items that are not held whole may need, each two pages more than it fills; all of the section's blob.
         ensures reads { (u : _) → (shown self.now).sections.held section ≡ Some u
             → ReadsAtMost (unheld A.SIZE u positions.now * (A.SIZE / (shown self.now).sections.factory.pages.page_size + 2))
             (key_of (shown self.now).sections section) (D.opened dev.old) (D.opened dev.new) }
