@@ -25,7 +25,6 @@ STARTS = [("blob_device/src/device.rt", "Device"), ("blob_device/src/source.rt",
 
 # what is read beside the headline: why a run ends, and what holds over any image; what the headline needs too is read there
 BESIDE = [["archive_service/specs/Families.antt: Family family_of", "archive_service/specs/Causes.antt: IsCause MustRefuse RefusesPut",
-           "archive_service/specs/OpeningCounted.antt: AreCountedIfOpening",
            "archive_program/specs/Program.antt: MayBeServed IsGiven IsRefusal"],
           ["archive_service/specs/Serves.antt: OverAnyImage", "archive_service/specs/Causes.antt: Held holding_nothing",
            "archive_service/specs/Causes.antt: IsCauseAnywhere MustRefuseAnywhere RefusesAnywhere",

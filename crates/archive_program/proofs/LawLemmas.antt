@@ -12,7 +12,6 @@ use Rattle.sealed_pages.proofs.Looking.{slot_short}
 use Rattle.sealed_pages.proofs.Reaching.{prefix_size}
 use Rattle.paired.specs.Kept.{is_sound_in, marker_of, stored_records}
 use Rattle.paired.specs.Opening.{as_read}
-use Rattle.paired.specs.OpeningRefusing.{AreCounted}
 use Rattle.paired.specs.Places.{Follow}
 use Rattle.paired.specs.Records.{Entry, entry_of, front, records}
 use Rattle.archives.specs.Filing.{kept_entries}
@@ -91,6 +90,3 @@ module _ (settings : Settings) (items : ℕ) where
     markers = empty_map;
     lawful = subst (λ (d : Disk). Lawful (program_filing settings items) (as_read d) empty_map) (sym none) nothing_lawful;
   }
-
-  pub nothing_counted : settings.page_size < 2 ^ 16 → (t : Timeline) → disk t ≡ (λ q. nothing) → AreCounted (program_filing settings items).layout (as_read (disk t))
-  nothing_counted small t none = subst (λ (d : Disk). AreCounted (program_filing settings items).layout (as_read d)) (sym none) (λ s fits. omega (arith, small))

@@ -11,7 +11,6 @@ use Rattle.archives.specs.Replies.{Reply}
 use Rattle.archives.specs.declared.error.Error.{Error}
 use Rattle.archives.specs.Refusing.{IsFault}
 use Rattle.archive_service.specs.Ended.{EndsUnserved, code_of}
-use Rattle.archive_service.specs.OpeningCounted.{AreCountedIfOpening}
 use Rattle.archive_service.specs.Script.{Spells}
 use Rattle.archive_service.specs.Texts.{Spelled}
 use Rattle.archive_service.specs.declared.ended.Ended.{Ended}
@@ -139,7 +138,7 @@ module _ {D S W : Type 0} (settings : Settings) (words : List (List ℕ)) (ended
         write_fault = λ is. absurd (unlike.1.1.1.0 (sym is ∙ status));
         store_error = λ is. absurd (unlike.1.1.1.1.0 (sym is ∙ status));
         no_memory = λ is. inl (served, unwritten);
-        complete = λ t may commands given counted calm calm_out.
+        complete = λ t may commands given calm calm_out.
             let (told, limit, calm) = given.given reads in
             inl (1, lit< tt, sym (status ∙ memory told limit calm));
       }
@@ -318,7 +317,6 @@ module _ {D S W : Type 0} (settings : Settings) (words : List (List ℕ)) (ended
 
       module _ (t : dev.Tells) (may : MayBeServed settings (items_of job) (dev.time old)) (commands : List Spelled)
           (given : IsGiven job settings.max_value input.Tells (input.left input_old) (input.faults input_old) (input.faults input_new) commands)
-          (counted : AreCountedIfOpening (program_filing settings (items_of job)).layout (dev.time old) (dev.time new) commands ended.marks)
           (calm : Rose (dev.faults old) (dev.faults new) → ⊥) where
         complete : FoundNow → Contains (0 ∷ 6 ∷ []) ended.status ⊎ ((ended.status ≡ 5) × IfSome ended.error IsRefusal)
         complete (none s u e) = inl (1, lit< tt, sym (same ∙ s))
@@ -334,7 +332,6 @@ module _ {D S W : Type 0} (settings : Settings) (words : List (List ℕ)) (ended
               same ∙ s,
               refusal_only (program_filing settings (items_of job)) settings.write_buffer settings.write_buffer (dev.faults old) (dev.faults new) (dev.time old) (dev.time new)
                   script.commands ended.marks script.replies
-                  (subst (λ (cs : List Spelled). AreCountedIfOpening (program_filing settings (items_of job)).layout (dev.time old) (dev.time new) cs ended.marks) these counted)
                   calm script.end ended.error (script.served.serves t may.nothing_pending (may.markers, may.lawful)) script.ended some,
             )
         complete (short s wanted rest answers front) = inl (1, lit< tt, sym (same ∙ s))
@@ -349,7 +346,7 @@ module _ {D S W : Type 0} (settings : Settings) (words : List (List ℕ)) (ended
         write_fault = λ is. absurd (never_4 is);
         store_error = store_error answer;
         no_memory = no_memory answer;
-        complete = λ t may commands given counted calm calm_out. complete t may commands given counted calm answer;
+        complete = λ t may commands given calm calm_out. complete t may commands given calm answer;
       }
 
       pub runs_written : Ran
@@ -391,7 +388,7 @@ module _ {D S W : Type 0} (settings : Settings) (words : List (List ℕ)) (ended
         write_fault = λ e. (rose (sym is ∙ e), gives_part answer);
         store_error = λ e. absurd (unlike.1.1.1.1.0 (sym e ∙ is));
         no_memory = λ e. inr (gives_part answer);
-        complete = λ t may commands given counted calm calm_out. inl (1, lit< tt, sym (is ∙ calm_six calm_out));
+        complete = λ t may commands given calm calm_out. inl (1, lit< tt, sym (is ∙ calm_six calm_out));
       }
 
       runs_cut : (s : ℕ) → ended.status ≡ s → AllByRecursion (λ x. x ≢ s) (0 ∷ 1 ∷ 2 ∷ 3 ∷ 5 ∷ 7 ∷ []) → s ≤ 7 → Contains (4 ∷ 5 ∷ 6 ∷ []) s → RanJob job → Ran

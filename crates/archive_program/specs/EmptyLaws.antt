@@ -1,18 +1,13 @@
 -- That the premises of the promise can be met.
-use Rattle.std.specs.Prelude.{◌≡◌, ℕ, ◌^◌, ◌≤◌, ◌<◌}
+use Rattle.std.specs.Prelude.{◌≡◌, ℕ, ◌≤◌}
 use Rattle.blob_device.specs.Disk.{nothing}
 use Rattle.blob_device.specs.Timeline.{Timeline, disk}
-use Rattle.paired.specs.Opening.{as_read}
-use Rattle.paired.specs.OpeningRefusing.{AreCounted}
 use Rattle.archive_service.specs.Settings.{AreSettings}
 use Rattle.archive_service.specs.declared.settings.Settings.{Settings}
-use Rattle.archive_program.specs.Program.{MayBeServed, program_filing}
+use Rattle.archive_program.specs.Program.{MayBeServed}
 
 -- What holds of a device on which nothing was kept yet.
 pub record EmptyLaws : Type 0 where
   -- it may be served, since it has nothing pending, and an empty image is lawful
   pub lawful : (settings : Settings) (items : ℕ) → AreSettings settings → 1 ≤ items
       → (t : Timeline) → disk t ≡ (λ q. nothing) → MayBeServed settings items t
-  -- and a u64 counts the bytes of one page more with its slots, where pages have fewer than 2^16 bytes
-  pub counted : (settings : Settings) (items : ℕ) → AreSettings settings → settings.page_size < 2 ^ 16
-      → (t : Timeline) → disk t ≡ (λ q. nothing) → AreCounted (program_filing settings items).layout (as_read (disk t))

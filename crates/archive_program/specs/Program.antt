@@ -25,7 +25,6 @@ use Rattle.archive_service.specs.Script.{Spells, IsFirstBad}
 use Rattle.archive_service.specs.Kinds.{Kind}
 use Rattle.archive_service.specs.Made.{made, made_text}
 use Rattle.archive_service.specs.PrunableKind.{prunable_kind}
-use Rattle.archive_service.specs.OpeningCounted.{AreCountedIfOpening}
 use Rattle.archive_service.specs.Serves.{ServesBy}
 use Rattle.archive_service.specs.Texts.{Spelled, bad_line_text}
 use Rattle.archive_service.specs.declared.ended.Ended.{Ended}
@@ -266,14 +265,11 @@ module _ {D S W : Type 0} (settings : Settings) (words : List (List ℕ)) (ended
         → (IsUnserved × (out_new ≡ out_old))
         ⊎ Gives job (AnswersInput job settings.max_value (Served job) ended.error IsUnserved) InPart
     -- Commands that are given, over a lawful image, are served, unless a count rises, memory is short, a put is
-    -- refused, or the markers would have no next version. Where the opening under way at the end finds a blob of
-    -- records that ends within one page, with its slots, of 2^64 bytes, nothing of that is promised.
+    -- refused, or the markers would have no next version.
     pub complete : dev.Tells → MayBeServed settings (items_of job) (dev.time old)
         → (commands : List Spelled)
         → IsGiven job settings.max_value input.Tells (input.left input_old) (input.faults input_old)
         (input.faults input_new) commands
-        → AreCountedIfOpening (program_filing settings (items_of job)).layout (dev.time old) (dev.time new) commands
-        ended.marks
         → ¬ Rose (dev.faults old) (dev.faults new) → ¬ Rose (out.faults out_old) (out.faults out_new)
         → Contains (0 ∷ 6 ∷ []) ended.status ⊎ ((ended.status ≡ 5) × IfSome ended.error IsRefusal)
 

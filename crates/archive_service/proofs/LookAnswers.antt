@@ -144,7 +144,7 @@ module _ {A V S D : Type 0} {gs : _} (p : Prunable A V (AppendFactory S) (PageBl
   read_anywhere t c reads Met to before now (Journal (journal.Runtime (runtime.InvalidChecksum k))) why = inr (refl, reads)
   read_anywhere t c reads Met to before now (Journal (journal.SectionOutOfRange n)) why = (refl, reads)
   read_anywhere t c reads Met to before now (Journal (journal.Runtime runtime.BlobInsufficientLength)) why = (refl, reads)
-  read_anywhere t c reads Met to before now (Journal (journal.Runtime runtime.OffsetOverflow)) why = inr (refl, reads)
+  read_anywhere t c reads Met to before now (Journal (journal.Runtime runtime.OffsetOverflow)) why = (refl, reads)
   read_anywhere t c reads Met to before now (Journal (journal.ChecksumMismatch stored computed)) why = (refl, reads)
   read_anywhere t c reads Met to before now (Journal (journal.Codec e)) why = (refl, reads)
   read_anywhere t c reads Met to before now (Journal (journal.ItemOutOfRange n)) why = absurd (why t)

@@ -12,7 +12,6 @@ use Rattle.blob_device.specs.declared.runtime.RError.TheVariants as runtime
 use Rattle.meta_store.specs.declared.error.Error.TheVariants as metadata
 use Rattle.blob_device.proofs.FootprintLemmas.{footprint_wider}
 use Rattle.meta_store.proofs.Uses.{IsReadable}
-use Rattle.section_manager.specs.Refusing.{IsOpenedTooLong}
 use Rattle.section_manager.specs.Sections.{section_key}
 use Rattle.section_manager.specs.declared.journal.Error.TheVariants as journal
 use Rattle.section_manager.specs.declared.sealed.AppendFactory.{AppendFactory}
@@ -37,7 +36,7 @@ use Rattle.archives.specs.declared.error.Error.{Error}
 use Rattle.archives.specs.declared.error.Error.TheVariants.{Full, Journal, Mem, Metadata, RecordCorrupted}
 use Rattle.archives.proofs.init.Records.{one_markers}
 use Rattle.archives.proofs.Reopening.{none_beyond}
-use Rattle.archive_service.specs.Causes.{HasLongBlob, Held, IsCause, IsCauseAnywhere, IsOpening, IsUnfit, MustMoveHeld, MustMoveNow, MustRefuseAnywhere, holding_nothing}
+use Rattle.archive_service.specs.Causes.{Held, IsCause, IsCauseAnywhere, IsOpening, IsUnfit, MustMoveHeld, MustMoveNow, MustRefuseAnywhere, holding_nothing}
 use Rattle.archive_service.specs.StoreCalls.{AnswerEnds, Answers, OpeningEnds, OpensStore}
 use Rattle.archive_service.specs.PrunableKind.{IsFound, IsQuiet}
 use Rattle.archive_service.specs.PrunableStore.{IsSoundOpenable, IsUsableStore, held_by, openable_held, openable_serving, openable_state}
@@ -124,29 +123,23 @@ module _ {A V S D : Type 0} {gs : _} (p : Prunable A V (AppendFactory S) (PageBl
   opening_fault e why (inl records) = subst (IsOpeningCause f dev old new) records why
   opening_fault e why (inr markers) = subst (IsOpeningCause f dev old new) markers why
 
-  -- an entry of an opened blob tells how long the blob is
-  abbrev pub TellsLengths : Type 0
-  TellsLengths = (q : Key) → IfSome (dev.opened new q) (λ o. (IsTrue (to q).there) × (length (to q).content ≡ o.len))
-
   module _ (t : dev.Tells) (u : Option Asked) (opening : IsOpening u) (held : Held) where
-    pub opening_anywhere : (long : (s : ℕ) → IsOpenedTooLong (λ n. 2 ^ 64 ≤ n + (f.layout.page_size + 12)) (dev.opened new) (section_key f.layout.index s) → HasLongBlob f to)
-        → (moves : OfMarkers f from (HasToMove f from) → MustMoveHeld f held from u) → (e : Error) → IsOpeningCause f dev old new e → IsCauseAnywhere f held u from to e
-    opening_anywhere long moves Mem why = tt
-    opening_anywhere long moves (Journal (journal.Runtime runtime.Fault)) why = tt
-    opening_anywhere long moves (Metadata (metadata.Runtime runtime.Fault)) why = inl opening
-    opening_anywhere long moves (Metadata (metadata.Corruption side)) why = (opening, why t)
-    opening_anywhere long moves (Journal (journal.InvalidBlobName name)) why = (opening, why t)
-    opening_anywhere long moves (Journal (journal.Corruption x)) why = (opening, why t)
-    opening_anywhere long moves (Journal (journal.Runtime (runtime.InvalidChecksum k))) why = inl (opening, why t)
-    opening_anywhere long moves (Journal (journal.Runtime runtime.OffsetOverflow)) why = inl (opening, long why.0 why.1)
-    opening_anywhere long moves RecordCorrupted why = (opening, why t)
-    opening_anywhere long moves Full why = inr (elim (why t) as (λ _. (IsOpening u × OfKept f (as_read from) (IsPastLimits f.most_sections f.most_records)) ⊎ (MustMoveHeld f held from u × HasNoVersion f.layout from)) [
+    pub opening_anywhere : (moves : OfMarkers f from (HasToMove f from) → MustMoveHeld f held from u) → (e : Error) → IsOpeningCause f dev old new e → IsCauseAnywhere f held u from to e
+    opening_anywhere moves Mem why = tt
+    opening_anywhere moves (Journal (journal.Runtime runtime.Fault)) why = tt
+    opening_anywhere moves (Metadata (metadata.Runtime runtime.Fault)) why = inl opening
+    opening_anywhere moves (Metadata (metadata.Corruption side)) why = (opening, why t)
+    opening_anywhere moves (Journal (journal.InvalidBlobName name)) why = (opening, why t)
+    opening_anywhere moves (Journal (journal.Corruption x)) why = (opening, why t)
+    opening_anywhere moves (Journal (journal.Runtime (runtime.InvalidChecksum k))) why = inl (opening, why t)
+    opening_anywhere moves RecordCorrupted why = (opening, why t)
+    opening_anywhere moves Full why = inr (elim (why t) as (λ _. (IsOpening u × OfKept f (as_read from) (IsPastLimits f.most_sections f.most_records)) ⊎ (MustMoveHeld f held from u × HasNoVersion f.layout from)) [
       | inl over ↦ inl (opening, over)
       | inr moving ↦ inr (moves moving.1, moving.0)
     ])
-    opening_anywhere long moves (Journal (journal.ItemOutOfRange n)) why = absurd (why t)
-    opening_anywhere long moves (Journal (journal.Codec x)) why = absurd (why t)
-    opening_anywhere long moves e why = absurd why
+    opening_anywhere moves (Journal (journal.ItemOutOfRange n)) why = absurd (why t)
+    opening_anywhere moves (Journal (journal.Codec x)) why = absurd (why t)
+    opening_anywhere moves e why = absurd why
 
     pub opening_cause : (markers : Markers) → Lawful f (as_read from) markers → (st : State (List ℕ))
         → (moves : OfMarkers f from (HasToMove f from) → MustMoveNow f st from u) → (e : Error) → NotOpened p dev setup e old new → IsCause f st u from e
@@ -157,22 +150,7 @@ module _ {A V S D : Type 0} {gs : _} (p : Prunable A V (AppendFactory S) (PageBl
         go (Journal (journal.Runtime runtime.Fault)) why = tt
         go (Metadata (metadata.Runtime runtime.Fault)) why = inl opening
         go Full why = inr (moves why.1, why.0)
-        go (Journal (journal.Runtime runtime.OffsetOverflow)) why = (opening, why)
-        go (Journal (journal.Corruption x)) why = (opening, why)
         go x why = absurd why
-
-  -- a blob whose entry is too long is so long
-  module _ (tells : TellsLengths) where
-    long_content : (b : Blob) (n m : ℕ) → IsTrue b.there → length b.content ≡ n → 2 ^ 64 ≤ n + m → 2 ^ 64 ≤ length (unwrap_or (reads b) []) + m
-    long_content b n m there is over = subst (λ (x : Bool). 2 ^ 64 ≤ length (unwrap_or (cond x (Some b.content) None) []) + m) (sym there) (omega (arith, over, is))
-
-    long_blob : (s : ℕ) → IsOpenedTooLong (λ n. 2 ^ 64 ≤ n + (f.layout.page_size + 12)) (dev.opened new) (section_key f.layout.index s) → HasLongBlob f to
-    long_blob s long = (s, go (dev.opened new (section_key f.layout.index s)) (tells (section_key f.layout.index s)) long)
-      where
-        go : (o : Option Entry) → IfSome o (λ x. (IsTrue (to (section_key f.layout.index s)).there) × (length (to (section_key f.layout.index s)).content ≡ x.len))
-            → IsSomeAnd o (λ x. 2 ^ 64 ≤ x.len + (f.layout.page_size + 12)) → 2 ^ 64 ≤ length (content_at (as_read to) f.layout.index s) + (f.layout.page_size + 12)
-        go None known over = absurd over
-        go (Some x) known over = long_content (to (section_key f.layout.index s)) x.len (f.layout.page_size + 12) known.0 known.1 over
 
   -- blobs of others are left alone
   own_alone : (result : Result A Error) → Opens p dev setup result old new → Footprint dev (openable_serving p setup valid).kind.IsOwn NoBound old new
@@ -180,7 +158,7 @@ module _ {A V S D : Type 0} {gs : _} (p : Prunable A V (AppendFactory S) (PageBl
 
   -- ---- the first opening
 
-  module _ (readable : IsReadable f.layout.markers) (sized : 1 ≤ f.layout.record_size) (may : dev.Tells → MayStart f from) (tells : dev.Tells → TellsLengths) where
+  module _ (readable : IsReadable f.layout.markers) (sized : 1 ≤ f.layout.record_size) (may : dev.Tells → MayStart f from) where
     -- a start state by the markers that the lawful image has
     start_by : (lawful : (markers : Markers) × Lawful f (as_read from) markers) (st : State (List ℕ)) → ((markers : Markers) × IsStart f (as_read from) markers st) → IsStart f (as_read from) lawful.0 st
     start_by lawful st start =
@@ -213,7 +191,7 @@ module _ {A V S D : Type 0} {gs : _} (p : Prunable A V (AppendFactory S) (PageBl
     }
     open_ends (Err e) opens = record {
       cause = λ t pending lawful st start. opening_cause t None tt holding_nothing lawful.0 lawful.1 st (λ moving. moving) e opens.ends;
-      anywhere = λ t held. opening_anywhere t None tt held (long_blob (tells t)) (λ moving. moving) e opens.ends.cause;
+      anywhere = λ t held. opening_anywhere t None tt held (λ moving. moving) e opens.ends.cause;
       fault = opening_fault e opens.ends.cause;
     }
 
@@ -230,7 +208,7 @@ module _ {A V S D : Type 0} {gs : _} (p : Prunable A V (AppendFactory S) (PageBl
   module _ (x : Openable A) (ready : dev.Tells → IsSoundOpenable p setup x from → MayBeOpened f.layout from)
       (stands : dev.Tells → IsSoundOpenable p setup x from → Leaves f (openable_state p setup x from) None from)
       (none_synced : (s : ℕ) → 2 ^ 64 ≤ s → (openable_state p setup x from).synced s ≡ 0)
-      (sized : 1 ≤ f.layout.record_size) (tells : dev.Tells → TellsLengths) (law : dev.Tells → (q : Key) → MayLeave (from q) (reads (from q))) where
+      (sized : 1 ≤ f.layout.record_size) (law : dev.Tells → (q : Key) → MayLeave (from q) (reads (from q))) where
     abbrev was : State (List ℕ)
     was = openable_state p setup x from
 
@@ -260,7 +238,7 @@ module _ {A V S D : Type 0} {gs : _} (p : Prunable A V (AppendFactory S) (PageBl
     reopen_ends (Err e) opens = record {
       cause = λ t sound. (let lawful = lawful_before t sound in opening_cause t (Some Reopen) refl known lawful.0 lawful.1 was (λ moving. moving) e opens.ends);
       unwritten = λ t sound refuses. absurd (no_refusal refuses);
-      anywhere = λ t. opening_anywhere t (Some Reopen) refl known (long_blob (tells t)) (λ moving. moving) e opens.ends.cause;
+      anywhere = λ t. opening_anywhere t (Some Reopen) refl known (λ moving. moving) e opens.ends.cause;
       unwritten_anywhere = λ t refuses. absurd (no_refusal refuses);
       fault = opening_fault e opens.ends.cause;
     }
@@ -278,7 +256,7 @@ module _ {A V S D : Type 0} {gs : _} (p : Prunable A V (AppendFactory S) (PageBl
       ends = reopen_ends result opens;
     }
 
-  module _ (sized : 1 ≤ f.layout.record_size) (tells : dev.Tells → TellsLengths) (law : dev.Tells → (q : Key) → MayLeave (from q) (reads (from q)))
+  module _ (sized : 1 ≤ f.layout.record_size) (law : dev.Tells → (q : Key) → MayLeave (from q) (reads (from q)))
       (result : Result A Error) (opens : Opens p dev setup result old new) where
     -- an open one is given up as it is
     pub reopen_answers : (a : A) → Given p setup valid dev a old → Answers (openable_serving p setup valid) dev (Open a) Reopen (outcome (λ r. (Open r, reply.Done)) result) old new
@@ -286,8 +264,8 @@ module _ {A V S D : Type 0} {gs : _} (p : Prunable A V (AppendFactory S) (PageBl
         let same = own p setup valid dev a old given in
         reopen_by (Open a) (λ t sound. subst (λ (h : Filing). MayBeOpened h.layout from) same (given.laws.opened t sound))
         (λ t sound. subst (λ (h : Filing). Leaves h (state_of (p.see a) from) None from) same (given.laws.leaves t sound))
-        given.laws.none_synced sized tells law result opens
+        given.laws.none_synced sized law result opens
 
     -- a closed one keeps nothing
     pub closed_reopens : (floor : ℕ) → Answers (openable_serving p setup valid) dev (Closed floor) Reopen (outcome (λ r. (Open r, reply.Done)) result) old new
-    closed_reopens floor = reopen_by (Closed floor) (λ t sound. sound.opened) (λ t sound. sound.leaves) (λ s far. refl) sized tells law result opens
+    closed_reopens floor = reopen_by (Closed floor) (λ t sound. sound.opened) (λ t sound. sound.leaves) (λ s far. refl) sized law result opens

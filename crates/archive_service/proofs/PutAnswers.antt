@@ -151,7 +151,6 @@ module _ {A V S D : Type 0} {gs : _} (p : Prunable A V (AppendFactory S) (PageBl
       put_cause sound before now Mem why = tt
       put_cause sound before now Full why = inl (acts.adds (IsRefusedAsFull filing was) (full_adds p setup valid dev a old given times i k v t sound (full_for p setup valid dev a old given times i k v t why)))
       put_cause sound before now (Journal (journal.Runtime runtime.Fault)) why = tt
-      put_cause sound before now (Journal (journal.Runtime runtime.OffsetOverflow)) why = absurd (why t)
       put_cause sound before now (Journal journal.ValueTooLarge) why = acts.adds (IsRefusedAsTooLarge filing was) (large_adds p setup valid dev a old given times i k v t why)
       put_cause sound before now e why = absurd why
 
@@ -161,7 +160,6 @@ module _ {A V S D : Type 0} {gs : _} (p : Prunable A V (AppendFactory S) (PageBl
           let full = full_for p setup valid dev a old given times i k v t why in
           inl (acts.holds (IsPastAll filing (held_by p a)) (holds_now p setup valid dev a old given times i k v (IsPastAll filing (held_by p a)) full.free (past p setup valid dev a old given times i k v t full)))
       put_anywhere to before now (Journal (journal.Runtime runtime.Fault)) why = tt
-      put_anywhere to before now (Journal (journal.Runtime runtime.OffsetOverflow)) why = absurd (why t)
       put_anywhere to before now (Journal journal.ValueTooLarge) why =
           acts.holds (IsPastSizeAlone filing (held_by p a)) (holds_now p setup valid dev a old given times i k v (IsPastSizeAlone filing (held_by p a)) why.free (past_size p setup valid dev a old given times i k v t why))
       put_anywhere to before now e why = absurd why

@@ -188,7 +188,6 @@ module _ {A V S D : Type 0} {gs : _} (p : Prunable A V (AppendFactory S) (PageBl
       ]
       cause_of sound before now (Journal (journal.Runtime runtime.Fault)) why = tt
       cause_of sound before now (Metadata (metadata.Runtime runtime.Fault)) why = inr (inr (acts.moves (moves_of t why.1)))
-      cause_of sound before now (Journal (journal.Runtime runtime.OffsetOverflow)) why = absurd (why t)
       cause_of sound before now (Journal journal.ValueTooLarge) why = acts.it.adds (IsRefusedAsTooLarge filing was) (large_adds p setup valid dev a old given times i k v t why)
       cause_of sound before now e why = absurd why
 
@@ -201,7 +200,6 @@ module _ {A V S D : Type 0} {gs : _} (p : Prunable A V (AppendFactory S) (PageBl
       ]
       anywhere_of to before now (Journal (journal.Runtime runtime.Fault)) why = tt
       anywhere_of to before now (Metadata (metadata.Runtime runtime.Fault)) why = inr (inr (acts.moves_held (moves_held t (moves_of t why.1))))
-      anywhere_of to before now (Journal (journal.Runtime runtime.OffsetOverflow)) why = absurd (why t)
       anywhere_of to before now (Journal journal.ValueTooLarge) why = acts.it.holds (IsPastSizeAlone filing (held_by p a))
           (holds_now p setup valid dev a old given times i k v (IsPastSizeAlone filing (held_by p a)) why.free (past_size p setup valid dev a old given times i k v t why))
       anywhere_of to before now e why = absurd why

@@ -13,7 +13,6 @@ use Rattle.section_manager.specs.declared.journal.Error.TheVariants as journal
 use Rattle.paired.specs.Crashes.{HoldMarkers, NoChanceSeal}
 use Rattle.paired.specs.Kept.{Markers}
 use Rattle.paired.specs.Opening.{as_read}
-use Rattle.paired.specs.OpeningRefusing.{AreCounted}
 use Rattle.archives.specs.Changes.{Asked, Replied}
 use Rattle.archives.specs.Commands.{Put, PutSync, PutStart, Multi, MultiSync, MultiStart, Sync, Start, Prune, Reopen, Destroy}
 use Rattle.archives.specs.Filing.{Filing, kept}
@@ -144,18 +143,16 @@ module _ (f : Filing) (st : State (List ℕ)) where
   IsRefused r = IsRefusedAsFull f st r ⊎ IsRefusedAsTooLarge f st r
 
   only_memory : (u : Option Asked) (from : Disk) (e : Error) → (IsFault e → ⊥) → (Adds f st u IsRefused ⊎ (MustMoveNow f st from u × HasNoVersion f.layout from) → ⊥)
-      → (IsOpening u → AreCounted f.layout (as_read from)) → IsCause f st u from e → e ≡ Mem
-  only_memory u from Mem calm lawful counted cause = refl
-  only_memory u from Full calm lawful counted cause = absurd (lawful (elim cause as (λ _. Adds f st u IsRefused ⊎ (MustMoveNow f st from u × HasNoVersion f.layout from)) [
+      → IsCause f st u from e → e ≡ Mem
+  only_memory u from Mem calm lawful cause = refl
+  only_memory u from Full calm lawful cause = absurd (lawful (elim cause as (λ _. Adds f st u IsRefused ⊎ (MustMoveNow f st from u × HasNoVersion f.layout from)) [
     | inl adds ↦ inl (adds_weaker (IsRefusedAsFull f st) IsRefused (λ r full. inl full) u adds)
     | inr moves ↦ inr moves
   ]))
-  only_memory u from (Journal journal.ValueTooLarge) calm lawful counted cause = absurd (lawful (inl (adds_weaker (IsRefusedAsTooLarge f st) IsRefused (λ r large. inr large) u cause)))
-  only_memory u from (Journal (journal.Runtime runtime.Fault)) calm lawful counted cause = absurd (calm (inl refl))
-  only_memory u from (Metadata (metadata.Runtime runtime.Fault)) calm lawful counted cause = absurd (calm (inr refl))
-  only_memory u from (Journal (journal.Runtime runtime.OffsetOverflow)) calm lawful counted cause = absurd (cause.1 (counted cause.0))
-  only_memory u from (Journal (journal.Corruption x)) calm lawful counted cause = absurd (omega (arith, counted cause.0 x.section cause.1.0, cause.1.1))
-  only_memory u from e calm lawful counted cause = absurd cause
+  only_memory u from (Journal journal.ValueTooLarge) calm lawful cause = absurd (lawful (inl (adds_weaker (IsRefusedAsTooLarge f st) IsRefused (λ r large. inr large) u cause)))
+  only_memory u from (Journal (journal.Runtime runtime.Fault)) calm lawful cause = absurd (calm (inl refl))
+  only_memory u from (Metadata (metadata.Runtime runtime.Fault)) calm lawful cause = absurd (calm (inr refl))
+  only_memory u from e calm lawful cause = absurd cause
 
 memory_or_not : (e : Error) → (e ≡ Mem) ⊎ (e ≢ Mem)
 memory_or_not Mem = inl refl
@@ -268,11 +265,11 @@ module _ (f : Filing) (write_buffer value_buffer : ℕ) (old new : Timeline) (co
         keeps_at (length replies) (omega (arith, last)) (omega arith) (λ j command after lt. spared j command after (omega (arith, lt, same))) None (disk new) (λ going. going) small (served.rest same)
 
   pub run_complete : (Rose faults_old faults_new → ⊥) → (HadToRefuse f (state_in states (length marks)) (under_way commands (length marks)) (disk_at old new marks (length marks)) → ⊥)
-      → (IsOpening (under_way commands (length marks)) → AreCounted f.layout (as_read (disk_at old new marks (length marks)))) → (e : Error) → end ≡ Failed e → e ≡ Mem
-  run_complete calm lawful counted e is = elim (memory_or_not e) as (λ _. e ≡ Mem) [
+      → (e : Error) → end ≡ Failed e → e ≡ Mem
+  run_complete calm lawful e is = elim (memory_or_not e) as (λ _. e ≡ Mem) [
     | inl memory ↦ memory
     | inr other ↦ only_memory f (state_in states (length marks)) (under_way commands (length marks)) (disk_at old new marks (length marks)) e
-        (λ fault. calm (failed_fault faults_old faults_new end e is served.fault fault)) lawful counted (served.stopped e is other)
+        (λ fault. calm (failed_fault faults_old faults_new end e is served.fault fault)) lawful (served.stopped e is other)
   ]
 
   pub goes_on_from : (t m : ℕ) (image : Image) → t ≤ length marks → 2 * begin old new marks t ≤ m → m ≤ 2 * begin old new marks (t + 1)

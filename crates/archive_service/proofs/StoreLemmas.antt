@@ -500,7 +500,7 @@ module _ {A V S D : Type 0} {gs : _} (p : Prunable A V (AppendFactory S) (PageBl
 
 -- What a call may use it for, and its laws of crashes, tell what is known of it: its markers and buffers are as its configuration says.
 pub given_by : {T K V S W C D : Type 0} {translator word_eq word_hash key key_eq key_ord key_partial codec seal stored fixed stored_codec : _} (pages : buffer.Ghosts (PageBlob S seal))
-    (sets : (u : PageBlob S seal) → pages.setting u ≡ record { page_size = u.page_size; capacity = u.capacity }) (dev : device.Ghosts D) (cfg : Config T C)
+    (sets : (u : PageBlob S seal) → pages.setting u ≡ record { page_size = u.page_size; capacity = u.capacity; cache_pages = (page_blob.shown u).cache_pages }) (dev : device.Ghosts D) (cfg : Config T C)
     (a : Archive T K V S W C translator word_eq word_hash key key_eq key_ord key_partial codec seal stored fixed stored_codec) (old : D)
     → IsUsableStore (means pages) (setup_for key.SIZE seal codec translator.word_of word_eq.eq cfg) a dev.Tells (dev.opened old) (disk (dev.time old))
     → Outlasts (means pages) dev a old

@@ -8,9 +8,8 @@ use Rattle.sealed_pages.specs.Buffer.{extent}
 use Rattle.meta_store.specs.declared.error.Error.TheVariants as metadata
 use Rattle.meta_store.specs.declared.error.Side.{Side}
 use Rattle.section_manager.specs.declared.journal.Error.TheVariants as journal
-use Rattle.paired.specs.Kept.{IsMarked, content_at}
+use Rattle.paired.specs.Kept.{IsMarked}
 use Rattle.paired.specs.Opening.{as_read}
-use Rattle.paired.specs.OpeningRefusing.{AreCounted}
 use Rattle.archives.specs.Changes.{Asked}
 use Rattle.archives.specs.Commands.{Destroy, Reopen}
 use Rattle.archives.specs.Filing.{Filing}
@@ -160,12 +159,6 @@ module _ (f : Filing) (st : State (List ℕ)) where
     IsCause (Journal journal.ValueTooLarge) = Adds under_way IsRefusedAsTooLarge
     -- a put that passes a limit or a number, or a marker to move where the markers have no next version
     IsCause Full = Adds under_way IsRefusedAsFull ⊎ (MustMoveNow from under_way × HasNoVersion f.layout from)
-    -- of an opening where a blob of records ends within one page, with its slots, of 2^64 bytes
-    IsCause (Journal (journal.Runtime runtime.OffsetOverflow)) =
-        IsOpening under_way × (AreCounted f.layout (as_read from) → ⊥)
-    -- of an opening where the blob of a section's records has 2^64 bytes or more
-    IsCause (Journal (journal.Corruption x)) = IsOpening under_way
-        × ((x.section < 2 ^ 64) × (2 ^ 64 ≤ length (content_at (as_read from) f.layout.index x.section)))
     -- no other comes
     IsCause e = ⊥
 
@@ -286,10 +279,6 @@ module _ (f : Filing) where
     MustTouchHeld d under_way = IsOpening under_way
         ⊎ ((IsTrue held.is_open × (under_way ≡ Some Destroy)) ⊎ MustMoveHeld d under_way)
 
-  -- a blob of records ends within one page, with its slots, of 2^64 bytes
-  abbrev pub HasLongBlob : Disk → Type 0
-  HasLongBlob d = (s : ℕ) × (2 ^ 64 ≤ length (content_at (as_read d) f.layout.index s) + (f.layout.page_size + 12))
-
   -- the disk has what an opening refuses: a bad copy of the markers, a foreign name, a record in another section than
   -- its index, or more than the limits
   abbrev pub IsUnfit : Disk → Type 0
@@ -332,10 +321,8 @@ module _ (f : Filing) where
     -- a page below a marker is damaged, or stored bytes that a lookup met
     IsCauseAnywhere (Journal (journal.Runtime (runtime.InvalidChecksum k))) =
         (IsOpening under_way × OfMarkers f from (λ markers. HasDamagedPage f to markers k)) ⊎ IsLooking held under_way
-    -- a blob is longer than a buffer takes, or stored bytes that a lookup met
-    IsCauseAnywhere (Journal (journal.Runtime runtime.OffsetOverflow)) =
-        (IsOpening under_way × HasLongBlob to) ⊎ IsLooking held under_way
     -- stored bytes that a lookup met
+    IsCauseAnywhere (Journal (journal.Runtime runtime.OffsetOverflow)) = IsLooking held under_way
     IsCauseAnywhere (Journal (journal.Runtime runtime.BlobInsufficientLength)) = IsLooking held under_way
     IsCauseAnywhere (Journal (journal.SectionOutOfRange n)) = IsLooking held under_way
     IsCauseAnywhere (Journal (journal.ChecksumMismatch stored computed)) = IsLooking held under_way

@@ -9,7 +9,6 @@ pub mod ErrorTexts
 pub mod Kinds
 pub mod Made
 pub mod MadeCounts
-pub mod OpeningCounted
 pub mod PrunableKind
 pub mod PrunableStore
 pub mod PuttingNames

@@ -22,7 +22,6 @@ use Rattle.archive_service.specs.PrunableKind.{prunable_kind}
 use Rattle.archive_service.specs.Serves.{Serves, begin, disk_at, state_in, under_way}
 use Rattle.archive_service.specs.declared.replies.End.{End}
 use Rattle.archive_service.specs.declared.replies.End.TheVariants.{Failed}
-use Rattle.archive_service.specs.OpeningCounted.{AreCountedIfOpening}
 
 -- once it got its reply, all that the state then has is durable
 abbrev pub IsSyncing : Family → Type 0
@@ -107,13 +106,11 @@ module _ (f : Filing) where
           → length marks ≡ length replies → IsSpared f.items commands i (length marks) s
           → KeepsRecords (states (i + 1)) s (disk new)
 
-    -- Where no count of faults rose and nothing had to be refused, it was done, or memory was short. Where an opening
-    -- finds a blob of records that ends within one page, with its slots, of 2^64 bytes, that is not said.
+    -- Where no count of faults rose and nothing had to be refused, it was done, or memory was short.
     abbrev pub IsComplete : ℕ → ℕ → End → Type 0
     IsComplete faults_old faults_new end = (Rose faults_old faults_new → ⊥)
         → (HadToRefuse (state_in states (length marks)) (under_way commands (length marks))
         (disk_at old new marks (length marks)) → ⊥)
-        → AreCountedIfOpening f.layout old new commands marks
         → (e : Error) → end ≡ Failed e → e ≡ Mem
 
     -- what a crash left at a moment of stretch t may be served, and goes on from there

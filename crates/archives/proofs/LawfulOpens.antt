@@ -27,11 +27,11 @@ use Rattle.segments.specs.FixedFloors.{IsRefused}
 use Rattle.segments.proofs.FixedKept.{prefix_data}
 use Rattle.paired.specs.Kept.{IsMarked, Layout, Markers, content_at, is_sound_in, stored_records}
 use Rattle.paired.specs.Opening.{IsLawful, as_read}
-use Rattle.paired.specs.OpeningRefusing.{AreCounted, IsCutOff, IsLost, IsOutside, last_of}
+use Rattle.paired.specs.OpeningRefusing.{IsCutOff, IsLost, IsOutside, last_of}
 use Rattle.paired.specs.Places.{end_of}
 use Rattle.paired.proofs.BoundaryLemmas.{content_there}
 use Rattle.paired.proofs.KeptLemmas.{EndsBy, follow_ends, sound_parts}
-use Rattle.paired.proofs.opening.StartRefusals.{all_at, last_is_record, records_end, sealed_within}
+use Rattle.paired.proofs.opening.StartRefusals.{all_at, last_is_record, records_end, sealed_small}
 use Rattle.archives.specs.Filing.{Filing, kept_entries}
 use Rattle.archives.specs.Lawful.{Lawful}
 use Rattle.archives.specs.Opening.{HasNoVersion, HasStray, IsPastLimits}
@@ -98,9 +98,9 @@ module _ (l : Layout) (paged : 1 ≤ l.page_size) (sized : 1 ≤ l.record_size) 
         let end : EndsBy l.place in_place.end (last_of l d s m) = subst (EndsBy l.place in_place.end) first (all_at (EndsBy l.place in_place.end) [] (take m rs) ends (m - 1) long) in
         (parts.1, omega (arith, end, in_place.fits))
 
-  -- a marker of a lawful image is lost only where its records alone have 2^64 bytes
-  lost_long : (x : Damage) → IsLost l (IsMarked markers.entries) d x → (x.section < 2 ^ 64) × (2 ^ 64 ≤ length (content_at (as_read d) l.index x.section))
-  lost_long x lost = (lost.marked.0, go lost.why)
+  -- no marker of a lawful image is lost
+  none_lost : (x : Damage) → IsLost l (IsMarked markers.entries) d x → ⊥
+  none_lost x lost = go lost.why
     where
       content : content_at (as_read d) l.index x.section ≡ (d (section_key l.index x.section)).content
       content = content_there d l.index x.section (there_marked x.section lost.items lost.marked)
@@ -108,8 +108,8 @@ module _ (l : Layout) (paged : 1 ≤ l.page_size) (sized : 1 ≤ l.record_size) 
       fits : lost.items * l.record_size ≤ length (sealed_prefix l.seal l.page_size (d (section_key l.index x.section)).content)
       fits = subst (λ (c : List ℕ). lost.items * l.record_size ≤ length (sealed_prefix l.seal l.page_size c)) content (marked_fits x.section lost.items lost.marked)
 
-      refused : IsRefused l.seal l.page_size l.record_size (d (section_key l.index x.section)) lost.items x → 2 ^ 64 ≤ length (content_at (as_read d) l.index x.section)
-      refused (inl many) = omega (arith, many.many, fits, sealed_within l.seal l.page_size (d (section_key l.index x.section)).content, ap length content)
+      refused : IsRefused l.seal l.page_size l.record_size (d (section_key l.index x.section)) lost.items x → ⊥
+      refused (inl many) = omega (arith, many.many, fits, sealed_small l.seal l.page_size (d (section_key l.index x.section)).content)
       refused (inr (inl missing)) = absurd (cc (missing.absent, there_marked x.section lost.items lost.marked))
       refused (inr (inr unsealed)) = absurd (omega (arith, unsealed.less, unsealed.kept, unsealed.wanted, fits))
 
@@ -118,7 +118,7 @@ module _ (l : Layout) (paged : 1 ≤ l.page_size) (sized : 1 ≤ l.record_size) 
       outside at n len within small (inr past) = omega (arith, past.1, within)
 
       go : IsRefused l.seal l.page_size l.record_size (d (section_key l.index x.section)) lost.items x ⊎ IsCutOff l d x.section lost.items x
-          → 2 ^ 64 ≤ length (content_at (as_read d) l.index x.section)
+          → ⊥
       go (inl is) = refused is
       go (inr cut) =
           let both = last_inside x.section lost.items lost.marked cut.some in
@@ -150,10 +150,10 @@ module _ {D : Type 0} (f : Filing) (dev : device.Ghosts D) (old new : D) (marked
   own_names name (inl index) = index.size (lawful.pair.names.index name (there_reads (from (f.layout.index, name)) index.there))
   own_names name (inr values) = values.size (lawful.pair.names.values name (there_reads (from (f.layout.values, name)) values.there))
 
-  -- a section with less than its marker says
-  short_long : (x : Damage) → OfMarkers f from (λ (m : Markers). IsShortOf f from m x) → (x.section < 2 ^ 64) × (2 ^ 64 ≤ length (content_at (as_read from) f.layout.index x.section))
-  short_long x short = elim (here (λ (m : Markers). IsShortOf f from m x) short) as (λ _. (x.section < 2 ^ 64) × (2 ^ 64 ≤ length (content_at (as_read from) f.layout.index x.section))) [
-    | inl lost ↦ lost_long f.layout paged sized from markers lawful.pair x lost
+  -- none has less than its marker says
+  none_short : (x : Damage) → OfMarkers f from (λ (m : Markers). IsShortOf f from m x) → ⊥
+  none_short x short = elim (here (λ (m : Markers). IsShortOf f from m x) short) as (λ _. ⊥) [
+    | inl lost ↦ none_lost f.layout paged sized from markers lawful.pair x lost
     | inr (m, marked, wanted, kept, less) ↦ absurd (omega (
       arith,
       wanted,
@@ -164,20 +164,19 @@ module _ {D : Type 0} (f : Filing) (dev : device.Ghosts D) (old new : D) (marked
   ]
 
   pub lawful_cause : (e : Error) → IsOpeningCause f dev old new e → ((k : ℕ) → e ≡ Journal (journal.Runtime (runtime.InvalidChecksum k)) → ⊥)
-      → (AreCounted f.layout (as_read from) → e ≡ Journal (journal.Runtime runtime.OffsetOverflow) → ⊥) → IsLawfulCause f dev old new e
-  lawful_cause Mem why page room = tt
-  lawful_cause (Journal (journal.Runtime runtime.Fault)) why page room = why
-  lawful_cause (Metadata (metadata.Runtime runtime.Fault)) why page room = why
-  lawful_cause (Metadata (metadata.Corruption side)) why page room = absurd (whole_copies side (why t))
-  lawful_cause (Journal (journal.InvalidBlobName name)) why page room = absurd (own_names name (why t))
-  lawful_cause (Journal (journal.Corruption x)) why page room = short_long x (why t)
-  lawful_cause (Journal (journal.Runtime (runtime.InvalidChecksum k))) why page room = absurd (page k refl)
-  lawful_cause (Journal (journal.Runtime runtime.OffsetOverflow)) why page room = λ counted. room counted refl
-  lawful_cause RecordCorrupted why page room = absurd (lawful_no_stray f (as_read from) markers lawful (here (λ (m : Markers). HasStray f.items (kept_entries f (as_read from) m)) (why t)))
-  lawful_cause Full why page room = elim (why t) as (λ _. HasNoVersion f.layout from × OfMarkers f from (HasToMove f from)) [
+      → IsLawfulCause f dev old new e
+  lawful_cause Mem why page = tt
+  lawful_cause (Journal (journal.Runtime runtime.Fault)) why page = why
+  lawful_cause (Metadata (metadata.Runtime runtime.Fault)) why page = why
+  lawful_cause (Metadata (metadata.Corruption side)) why page = absurd (whole_copies side (why t))
+  lawful_cause (Journal (journal.InvalidBlobName name)) why page = absurd (own_names name (why t))
+  lawful_cause (Journal (journal.Corruption x)) why page = absurd (none_short x (why t))
+  lawful_cause (Journal (journal.Runtime (runtime.InvalidChecksum k))) why page = absurd (page k refl)
+  lawful_cause RecordCorrupted why page = absurd (lawful_no_stray f (as_read from) markers lawful (here (λ (m : Markers). HasStray f.items (kept_entries f (as_read from) m)) (why t)))
+  lawful_cause Full why page = elim (why t) as (λ _. HasNoVersion f.layout from × OfMarkers f from (HasToMove f from)) [
     | inl over ↦ absurd (lawful_no_over f (as_read from) markers lawful (here (λ (m : Markers). IsPastLimits f.most_sections f.most_records (kept_entries f (as_read from) m)) over))
     | inr moving ↦ moving
   ]
-  lawful_cause (Journal (journal.ItemOutOfRange n)) why page room = absurd (why t)
-  lawful_cause (Journal (journal.Codec x)) why page room = absurd (why t)
-  lawful_cause e why page room = absurd why
+  lawful_cause (Journal (journal.ItemOutOfRange n)) why page = absurd (why t)
+  lawful_cause (Journal (journal.Codec x)) why page = absurd (why t)
+  lawful_cause e why page = absurd why

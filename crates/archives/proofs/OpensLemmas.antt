@@ -12,7 +12,6 @@ use Rattle.meta_store.specs.declared.error.Error.TheVariants as metadata
 use Rattle.meta_store.specs.declared.error.Side.{Side}
 use Rattle.meta_store.proofs.Uses.{IsReadable}
 use Rattle.sealed_pages.specs.declared.page_blob.PageBlob.{PageBlob}
-use Rattle.section_manager.specs.Refusing.{IsOpenedTooLong}
 use Rattle.section_manager.specs.Sections.{section_key}
 use Rattle.section_manager.specs.declared.journal.Error.TheVariants as journal
 use Rattle.section_manager.specs.declared.sealed.AppendFactory.{AppendFactory}
@@ -20,7 +19,6 @@ use Rattle.meta_store.specs.Store.{contents_of}
 use Rattle.paired.specs.Crashes.{IsOwn}
 use Rattle.paired.specs.Kept.{Layout, Markers, stored_records}
 use Rattle.paired.specs.Opening.{IsLawful, MayBeOpened, as_read}
-use Rattle.paired.specs.OpeningRefusing.{AreCounted}
 use Rattle.paired.specs.Records as stored
 use Rattle.paired.specs.Replaying.{Run}
 use Rattle.paired.proofs.pair.Failing.{rose_before}
@@ -39,7 +37,7 @@ use Rattle.archives.proofs.DrainCauses.{opening_of_drain, over_at, stray_at}
 use Rattle.archives.proofs.init.Causes.{lawful_no_over, lawful_no_stray, marked_damage, marked_short}
 use Rattle.archives.proofs.init.Moments.{moments_lawful, moments_stand}
 use Rattle.archives.proofs.LawfulOpens.{failed_on_lawful, lawful_cause}
-use Rattle.archives.proofs.opening.Causes.{HasCause, HasLostMarkers, HasNoRoom, IsOpeningError, opening_cause, opening_failure}
+use Rattle.archives.proofs.opening.Causes.{HasCause, HasLostMarkers, IsOpeningError, opening_cause, opening_failure}
 use Rattle.archives.proofs.opening.Kept.{over_same, stray_same}
 use Rattle.archives.proofs.opening.Parts.{AreFew, Part, Replayed, drained_part, few_left, kept_same, left_behind, markers_are, stored_same}
 use Rattle.archives.proofs.read.Causes.{HasFailed}
@@ -76,13 +74,11 @@ module _ {A V S D : Type 0} {gs : _} (p : Prunable A V (AppendFactory S) (PageBl
     GaveUp r = HasFailed r (dev.faults old) (dev.faults new) ⊎ HasLostMarkers r (dev.faults old) (dev.faults new)
 
     pub not_opened : (r : Result A Error) (e : Error) → r ≡ Err e → IsOpeningError r ⊎ GaveUp r → (dev.Tells → HasCause r setup.filing (disk (dev.time old)) (disk (dev.time new)))
-        → (HasNoRoom r → (s : ℕ) × IsOpenedTooLong (λ n. 2 ^ 64 ≤ n + (setup.filing.layout.page_size + 12)) (dev.opened new) (section_key setup.filing.layout.index s))
         → (dev.Tells → (side : Side) → HaveBadCopy setup.filing (disk (dev.time old)) side → IsErrOf r (Metadata (metadata.Corruption side)) ⊎ GaveUp r)
         → (dev.Tells → (k : ℕ) → IsErrOf r (Journal (journal.Runtime (runtime.InvalidChecksum k))) → ⊥)
-        → (dev.Tells → (markers : Markers) → Lawful setup.filing (as_read (disk (dev.time old))) markers → AreCounted setup.filing.layout (as_read (disk (dev.time old))) → HasNoRoom r → ⊥)
         → IsTrue setup.filing.layout.marked → IsReadable setup.filing.layout.markers → 1 ≤ setup.filing.layout.page_size → 1 ≤ setup.filing.layout.record_size
         → Opens p dev setup r old new
-    not_opened r e is cause causes room copies page counted marked readable paged sized = subst (λ (x : Result A Error). Opens p dev setup x old new) (sym is) (record {
+    not_opened r e is cause causes copies page marked readable paged sized = subst (λ (x : Result A Error). Opens p dev setup x old new) (sym is) (record {
       moments = moments;
       footprint = touched;
       ends = record {
@@ -92,8 +88,7 @@ module _ {A V S D : Type 0} {gs : _} (p : Prunable A V (AppendFactory S) (PageBl
           | inr gave ↦ inr (opening_failure setup.filing dev old new A e gave)
         ];
         complete = λ t markers lawful. lawful_cause setup.filing dev old new marked readable paged sized t markers lawful e why
-            (λ k same. page t k (given (Journal (journal.Runtime (runtime.InvalidChecksum k))) same))
-            (λ all same. counted t markers lawful all (given (Journal (journal.Runtime runtime.OffsetOverflow)) same));
+            (λ k same. page t k (given (Journal (journal.Runtime (runtime.InvalidChecksum k))) same));
       };
     })
       where
@@ -106,7 +101,6 @@ module _ {A V S D : Type 0} {gs : _} (p : Prunable A V (AppendFactory S) (PageBl
         why : IsOpeningCause setup.filing dev old new e
         why = opening_cause setup.filing dev old new A e (subst (λ (x : Result A Error). IsOpeningError x ⊎ GaveUp x) is cause)
             (λ t. subst (λ (x : Result A Error). HasCause x setup.filing (disk (dev.time old)) (disk (dev.time new))) is (causes t))
-            (subst (λ (x : Result A Error). HasNoRoom x → (s : ℕ) × IsOpenedTooLong (λ n. 2 ^ 64 ≤ n + (setup.filing.layout.page_size + 12)) (dev.opened new) (section_key setup.filing.layout.index s)) is room)
 
 -- ---- the records were not all entered
 

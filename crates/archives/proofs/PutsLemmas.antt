@@ -16,7 +16,7 @@ use Rattle.sealed_pages.specs.Shown as page_blob
 use Rattle.sealed_pages.specs.declared.page_blob.PageBlob.{PageBlob}
 use Rattle.section_manager.specs.declared.sealed.AppendFactory.{AppendFactory}
 use Rattle.sealed_pages.specs.declared.write_blob.WriteBlob.{WriteBlob}
-use Rattle.section_manager.specs.Refusing.{HasFailed, HasNoRoom, IsPruned}
+use Rattle.section_manager.specs.Refusing.{HasFailed, IsPruned}
 use Rattle.section_manager.specs.Sections.{IsHeld, section_key}
 use Rattle.section_manager.specs.unsealed.Buffer.{count_of}
 use Rattle.section_manager.specs.declared.journal.Error as journal
@@ -200,7 +200,7 @@ module _ {A V S D : Type 0} {gs : _} (p : Prunable A V (AppendFactory S) (PageBl
     -- What the pair says of it, of a section s.
     pub record PairFailed (T : Type 0) (s : ℕ) (e : journal.Error) (old new : D) : Type 0 where
       pub cause : IsErrOf {T = T} (Err e) section.ValueTooLarge ⊎ (IsPruned {T = T} (Err e) (p.see a).pair.index.sections.floor
-          ⊎ (IsErrOf {T = T} (Err e) section.Full ⊎ (HasNoRoom {T = T} (Err e) ⊎ HasFailed {T = T} (Err e) (dev.faults old) (dev.faults new))))
+          ⊎ (IsErrOf {T = T} (Err e) section.Full ⊎ HasFailed {T = T} (Err e) (dev.faults old) (dev.faults new)))
       pub guard : IsPruned {T = T} (Err e) (p.see a).pair.index.sections.floor ↔ ((size ≤ 2 ^ 32 - 1) × (s < (p.see a).pair.index.sections.floor))
       pub too_large : IsErrOf {T = T} (Err e) section.ValueTooLarge ↔ (2 ^ 32 - 1 < size)
       pub full : dev.Tells ⊎ (IsHeld (p.see a).pair.index.sections s × IsHeld (p.see a).pair.values s)
@@ -209,7 +209,6 @@ module _ {A V S D : Type 0} {gs : _} (p : Prunable A V (AppendFactory S) (PageBl
           ⊎ IsSomeAnd ((p.see a).pair.values.held s) (λ v. 2 ^ 64 ≤ count_of v + size)))
       pub refused : IsErrOf {T = T} (Err e) section.ValueTooLarge ⊎ (IsPruned {T = T} (Err e) (p.see a).pair.index.sections.floor
           ⊎ ((dev.Tells ⊎ (IsHeld (p.see a).pair.index.sections s × IsHeld (p.see a).pair.values s)) × IsErrOf {T = T} (Err e) section.Full)) → new ≡ old
-      pub no_room : dev.Tells → HasNoRoom {T = T} (Err e) → ⊥
 
     pub failed_here : {T : Type 0} (s : ℕ) → s ≡ sec → (e : journal.Error) (old new : D) → PairFailed T s e old new → PairFailed T sec e old new
     failed_here {T} s is e old new says = subst (λ (x : ℕ). PairFailed T x e old new) is says
@@ -239,9 +238,8 @@ module _ {A V S D : Type 0} {gs : _} (p : Prunable A V (AppendFactory S) (PageBl
         | inl large ↦ cause_as section.ValueTooLarge large (record { free = free; allowed = allowed; large = says.too_large.0 large })
         | inr (inl pruned) ↦ absurd (not_pruned pruned)
         | inr (inr (inl full)) ↦ cause_as section.Full full (record { free = free; full = inr (fits full, λ known. ((says.full known).0 full).2) })
-        | inr (inr (inr (inl room))) ↦ cause_as (section.Runtime runtime.OffsetOverflow) room (λ t. says.no_room t room)
-        | inr (inr (inr (inr (inl memory)))) ↦ cause_as section.Mem memory tt
-        | inr (inr (inr (inr (inr fault)))) ↦ cause_as (section.Runtime runtime.Fault) fault.0 fault.1
+        | inr (inr (inr (inl memory))) ↦ cause_as section.Mem memory tt
+        | inr (inr (inr (inr fault))) ↦ cause_as (section.Runtime runtime.Fault) fault.0 fault.1
       ]
 
       pub put_pair_failed : PutMoments old new → PairTouches sec old new → Puts p dev times a index key value (Err (raised e)) old new

@@ -9,7 +9,7 @@ use Rattle.blob_device.specs.declared.runtime.RError.TheVariants as runtime
 use Rattle.meta_store.specs.Opening.{PairOn}
 use Rattle.meta_store.specs.declared.error.Error.TheVariants as metadata
 use Rattle.meta_store.specs.declared.error.Side.{Side}
-use Rattle.section_manager.specs.Refusing.{IsForeign, IsOpenedTooLong}
+use Rattle.section_manager.specs.Refusing.{IsForeign}
 use Rattle.section_manager.specs.Sections.{section_key}
 use Rattle.section_manager.specs.declared.journal.Damage.{Damage}
 use Rattle.section_manager.specs.declared.journal.Error.TheVariants as journal
@@ -20,7 +20,7 @@ use Rattle.paired.specs.Crashes.{HoldMarkers, IsOwn}
 use Rattle.paired.specs.glob.Sections as glob
 use Rattle.paired.specs.Kept.{content_at, IsMarked, Markers, marker_of, stored_records}
 use Rattle.paired.specs.Opening.{MayBeOpened, RecallsAlone, as_read}
-use Rattle.paired.specs.OpeningRefusing.{AreCounted, IsLost, IsProved}
+use Rattle.paired.specs.OpeningRefusing.{IsLost, IsProved}
 use Rattle.paired.specs.Pair.{length_of, records_of}
 use Rattle.archives.specs.Changes.{IsSoundOver, MayUse, state_over}
 use Rattle.archives.specs.Commands.{Reopen}
@@ -122,9 +122,6 @@ module _ (f : Filing) where
     -- a page below a marker is damaged
     IsOpeningCause (Journal (journal.Runtime (runtime.InvalidChecksum k))) =
         dev.Tells → OfMarkers from (λ markers. HasDamagedPage to markers k)
-    -- a blob of records ends within one page, with its slots, of 2^64 bytes
-    IsOpeningCause (Journal (journal.Runtime runtime.OffsetOverflow)) = (s : ℕ)
-        × IsOpenedTooLong (λ n. 2 ^ 64 ≤ n + (f.layout.page_size + 12)) (dev.opened new) (section_key f.layout.index s)
     -- a record that is kept stands in another section than its index
     IsOpeningCause RecordCorrupted = dev.Tells → OfKept f (as_read from) (HasStray f.items)
     -- more is kept than the limits allow, or a marker has to move, and the markers have no next version
@@ -145,11 +142,6 @@ module _ (f : Filing) where
     IsLawfulCause (Metadata (metadata.Runtime runtime.Fault)) = Rose (dev.faults old) (dev.faults new)
     -- a marker has to move, and the markers have no next version
     IsLawfulCause Full = HasNoVersion f.layout from × OfMarkers from (HasToMove from)
-    -- a u64 does not count the bytes of each blob of records, with those of one page more
-    IsLawfulCause (Journal (journal.Runtime runtime.OffsetOverflow)) = AreCounted f.layout (as_read from) → ⊥
-    -- nor those of this section's blob alone
-    IsLawfulCause (Journal (journal.Corruption x)) =
-        (x.section < 2 ^ 64) × (2 ^ 64 ≤ length (content_at (as_read from) f.layout.index x.section))
     -- and no other comes at all
     IsLawfulCause e = ⊥
 

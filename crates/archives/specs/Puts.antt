@@ -33,8 +33,6 @@ module _ {F S : Type 0} {gs : _} (a : Archive F (PageBlob S gs)) (index : ℕ) (
   -- the limits, or a number that would pass its type
   IsPutCause told before now Full = IsFullOver a index skip told n
   IsPutCause told before now (Journal journal.ValueTooLarge) = IsTooLargeFor a index skip n
-  -- a blob is longer than a buffer takes: only on a device that does not tell its disk
-  IsPutCause told before now (Journal (journal.Runtime runtime.OffsetOverflow)) = told → ⊥
   -- no other comes
   IsPutCause told before now e = ⊥
 

@@ -68,9 +68,9 @@ abbrev pub buffers_by : {S : Type 0} {sealing : _} → buffer.Ghosts (PageBlob S
     → Buffers (AppendFactory S) (PageBlob S sealing)
 buffers_by pages = record {
   pages = pages;
-  gives = λ f. record { page_size = f.pages.page_size; capacity = f.write_buffer };
+  gives = λ f. record { page_size = f.pages.page_size; capacity = f.write_buffer; cache_pages = f.pages.cache_pages };
   values = write_blob.ghosts;
-  takes = λ f. record { page_size = 1; capacity = f.capacity };
+  takes = λ f. record { page_size = 1; capacity = f.capacity; cache_pages = 0 };
 }
 
 -- what contracts see of archives with such buffers

@@ -57,9 +57,6 @@ IsPutSyncCause a index skip n told before now Full =
     ⊎ ((2 ^ 64 ≤ a.pair.store.version + 1) × IsMovingAfter a index skip)
 IsPutSyncCause a index skip n told before now (Journal journal.ValueTooLarge) =
     IsTooLargeFor a index skip n
--- a blob is longer than a buffer takes: only on a device that does not tell its disk
-IsPutSyncCause a index skip n told before now (Journal (journal.Runtime runtime.OffsetOverflow)) =
-    told → ⊥
 -- no other comes
 IsPutSyncCause a index skip n told before now e = ⊥
 

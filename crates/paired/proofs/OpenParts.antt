@@ -14,7 +14,7 @@ use Rattle.section_manager.specs.declared.buffer.SectionBuffer as buffer
 use Rattle.section_manager.specs.declared.journal.Damage.{Damage}
 use Rattle.section_manager.specs.declared.journal.Error.{Error}
 use Rattle.section_manager.specs.declared.journal.Error.TheVariants as journal
-use Rattle.section_manager.specs.Refusing.{HasFailed, HasNoRoom, IsForeign}
+use Rattle.section_manager.specs.Refusing.{HasFailed, IsForeign}
 use Rattle.section_manager.specs.Sections.{Sections, section_key, IsOver}
 use Rattle.section_manager.specs.Setting.{Setting}
 use Rattle.section_manager.proofs.WalkLemmas.{none_or_value, value_of}
@@ -104,16 +104,11 @@ module _ {T U : Type 0} (r : Result T Error) (e : Error) (is : r ≡ Err e) (a b
   named_no_codec (inr (inl memory)) x has = cc (is, memory, has)
   named_no_codec (inr (inr fault)) x has = cc (is, fault.0, has)
 
-  pub named_no_room : OnlyNamed {T = U} (Err e) a b → HasNoRoom r → ⊥
-  named_no_room (inl named) has = cc (is, named.1, has)
-  named_no_room (inr (inl memory)) has = cc (is, memory, has)
-  named_no_room (inr (inr fault)) has = cc (is, fault.0, has)
-
 -- why both parts' opening fails, where the one part's does
 module _ {T : Type 0} (r : Result T Error) (a b : ℕ) where
   pub named_refuse : OnlyNamed r a b → PartsRefuse r a b
   named_refuse (inl named) = inl named
-  named_refuse (inr failed) = inr (inr (inr (inr failed)))
+  named_refuse (inr failed) = inr (inr (inr failed))
 
 -- a check of the markers' sections answers damage or want of memory alone
 pub only_damage : {T U : Type 0} (r : Result T Error) (e : Error) → r ≡ Err e → ((x : Damage) × IsErrOf {T = U} (Err e) (journal.Corruption x)) ⊎ IsErrOf {T = U} (Err e) journal.Mem

@@ -50,11 +50,11 @@ pub record PageLaws {S : Type 0} {gs : _} (g : buffer.Ghosts (PageBlob S gs)) (s
 pub page_laws : (R : _) (gs : _) (dict : _) → PageLaws (ghosts R gs dict) gs.seal_of
 page_laws R gs dict = record {
   buffers = record {
-    passes = λ u b stands. passes gs.seal_of (shown u) u.fit u.order b stands.stands;
+    passes = λ u b stands. passes gs.seal_of (shown u) u.fit u.order b stands;
     looser = λ u b few more contents c le keeps. looser gs.seal_of (shown u) b few more c le keeps;
     counted = λ u b stands. counted (shown u) b.content;
     all_settled = λ u idle. all_settled (shown u) idle;
-    rested = λ u b stands idle. rested gs.seal_of (shown u) b stands.stands idle;
+    rested = λ u b stands idle. rested gs.seal_of (shown u) b stands idle;
     found_again = λ u b stands sealed idle. found_again gs.seal_of (shown u) u.fit u.order b sealed idle;
   };
   pages = are_pages R gs dict;

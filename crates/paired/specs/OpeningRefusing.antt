@@ -77,7 +77,3 @@ module _ (l : Layout) where
   -- Each record that a section stores is spelled by one that may be added.
   abbrev pub AreSpellings : (List ℕ → Unit {0} → Option codec.Error) → Image → Type 0
   AreSpellings refusal image = (s : ℕ) → s < 2 ^ 64 → AllByRecursion (λ r. refusal r tt ≡ None) (stored_records l image s)
-
-  -- a u64 counts the bytes of each section's index blob and of one more page with its slots
-  abbrev pub AreCounted : Image → Type 0
-  AreCounted image = (s : ℕ) → s < 2 ^ 64 → length (content_at image l.index s) + (l.page_size + 12) < 2 ^ 64

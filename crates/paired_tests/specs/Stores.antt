@@ -21,10 +21,10 @@ use Rattle.paired_tests.specs.declared.store.Store.TheVariants.{Closed, Pair, Wa
 -- the blobs of what is open stand open, as a device that tells so says and at this moment of it
 abbrev pub IsOpenAt : OpenedList → Timeline → Store → Type 0
 IsOpenAt opened time Closed = Unit {0}
-IsOpenAt opened time (Pair p) = IsPair (page_blob.ghosts the_row seal.ghosts seal.dict) (λ f. record { page_size = f.pages.page_size; capacity = f.write_buffer }) write_blob.ghosts (λ f. record { page_size = 1; capacity = f.capacity }) memory.ghosts.Tells (shown note.ghosts.place p) opened (disk time)
-IsOpenAt opened time (Walk r) = IsRun (run_of note.ghosts.place r) (page_blob.ghosts the_row seal.ghosts seal.dict) (λ f. record { page_size = f.pages.page_size; capacity = f.write_buffer }) write_blob.ghosts (λ f. record { page_size = 1; capacity = f.capacity }) memory.ghosts.Tells opened (disk time)
-IsOpenAt opened time (Glob g) = IsGlob write_blob.ghosts (λ f. record { page_size = 1; capacity = f.capacity }) memory.ghosts.Tells (managed.shown g.manager) opened (disk time)
-IsOpenAt opened time (Mend g) = IsGlob write_blob.ghosts (λ f. record { page_size = 1; capacity = f.capacity }) memory.ghosts.Tells (managed.shown g.manager) opened (disk time)
+IsOpenAt opened time (Pair p) = IsPair (page_blob.ghosts the_row seal.ghosts seal.dict) (λ f. record { page_size = f.pages.page_size; capacity = f.write_buffer; cache_pages = f.pages.cache_pages }) write_blob.ghosts (λ f. record { page_size = 1; capacity = f.capacity; cache_pages = 0 }) memory.ghosts.Tells (shown note.ghosts.place p) opened (disk time)
+IsOpenAt opened time (Walk r) = IsRun (run_of note.ghosts.place r) (page_blob.ghosts the_row seal.ghosts seal.dict) (λ f. record { page_size = f.pages.page_size; capacity = f.write_buffer; cache_pages = f.pages.cache_pages }) write_blob.ghosts (λ f. record { page_size = 1; capacity = f.capacity; cache_pages = 0 }) memory.ghosts.Tells opened (disk time)
+IsOpenAt opened time (Glob g) = IsGlob write_blob.ghosts (λ f. record { page_size = 1; capacity = f.capacity; cache_pages = 0 }) memory.ghosts.Tells (managed.shown g.manager) opened (disk time)
+IsOpenAt opened time (Mend g) = IsGlob write_blob.ghosts (λ f. record { page_size = 1; capacity = f.capacity; cache_pages = 0 }) memory.ghosts.Tells (managed.shown g.manager) opened (disk time)
 
 abbrev pub IsOpen : Memory → Store → Type 0
 IsOpen dev store = IsOpenAt (memory_opened dev) (memory_time dev) store

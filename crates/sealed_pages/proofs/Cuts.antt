@@ -14,7 +14,7 @@ use Rattle.sealed_pages.proofs.Looking.{slot_short}
 use Rattle.sealed_pages.proofs.Reaching.{prefix_sound, prefix_is}
 use Rattle.sealed_pages.proofs.Repairing.{page_order}
 use Rattle.sealed_pages.proofs.SealedBytes.{SoundTo}
-use Rattle.sealed_pages.proofs.SlotLemmas.{times_more, page_apart, page_next, slot_length-le, slot_stands, slot_named, slot_at_most, slot_same, zero_named}
+use Rattle.sealed_pages.proofs.SlotLemmas.{times_more, page_apart, page_next, slot_length-le, slot_stands, slot_room, slot_named, slot_at_most, slot_same, zero_named}
 use Rattle.sealed_pages.proofs.Steps.{slot_low, slot_high}
 use Rattle.sealed_pages.proofs.SlotSteps.{length-slot_bytes, slot_matches, slot_same_data, slot_is, slot_kept, same_or_apart}
 
@@ -190,7 +190,7 @@ module _ (seal : List ℕ → ℕ) (P : ℕ) where
 
     pub short_length : slot_length seal P (written c (slot_at P j b) (slot_bytes seal P page)) j b ≡ length page
     short_length = slot_matches seal P (written c (slot_at P j b) (slot_bytes seal P page)) j b page
-        (omega (arith, length-slot_bytes seal P page, length-written c (slot_at P j b) (slot_bytes seal P page))) fits (omega (arith, reach, slot_length-le seal P c j a)) small
+        (omega (arith, length-slot_bytes seal P page, length-written c (slot_at P j b) (slot_bytes seal P page))) (slot_room seal P c j a (omega (arith, reach, some))) fits (omega (arith, reach, slot_length-le seal P c j a)) small
         (λ i lt. slot_is seal P c j b (slot_bytes seal P page) (length-slot_bytes seal P page) i lt)
         (λ i lt. slot_same_data seal P c j b (slot_bytes seal P page) (length-slot_bytes seal P page) j i (omega (arith, lt, reach, slot_length-le seal P c j a))
         ∙ sym (get_or-take (length page) (drop (page_at P j) c) i 0 lt ∙ get_or-drop (page_at P j) c i 0) ∙ sym (ap (λ (l : List ℕ). get_or l i 0) page_is))

@@ -36,5 +36,5 @@ module _ (seal : List ℕ → ℕ) where
   holds_had u bytes b holds = had_state u.page_size bytes u.first u.from u.settled u.newest u.behind u.torn b holds.state
 
   pub adopted_had : (u : Buffer) (b : Blob) → IsAdopted seal u b → IsHad b
-  adopted_had u b (inl sealed) = holds_had u _ b sealed
+  adopted_had u b (inl sealed) = holds_had u _ b sealed.holds
   adopted_had u b (inr short) = short.had

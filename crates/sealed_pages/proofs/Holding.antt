@@ -15,7 +15,7 @@ use Rattle.sealed_pages.proofs.Repairing.{page_order}
 use Rattle.sealed_pages.proofs.Adopt.{length-data_from, get_or-data_from, place_in}
 use Rattle.sealed_pages.proofs.Adopting.{adopted_kept}
 use Rattle.sealed_pages.proofs.PageCalls.{part_stands, rest_whole, ready_more, data_more}
-use Rattle.sealed_pages.specs.Buffer.{extent, Fit, Buffer, size_of, flushed_of, bytes_of, State, Holds, IsSealed}
+use Rattle.sealed_pages.specs.Buffer.{extent, Fit, Buffer, size_of, flushed_of, bytes_of, State, Holds}
 use Rattle.sealed_pages.specs.ChanceSeal.{Leaves, Sealing}
 use Rattle.sealed_pages.specs.Flushing.{Data, Ready, PageFlushed, Wrote}
 use Rattle.sealed_pages.specs.SealedPrefix.{place, data_from}
@@ -171,8 +171,8 @@ data_less P F G all v le same k i lt below = same k i lt (omega (arith, below, l
 pub holds_bytes : (seal : List ℕ → ℕ) (u : Buffer) (all : List ℕ) (b : Blob) → 0 < u.page_size → Holds seal u all b → bytes_of u b.content ≡ all
 holds_bytes seal u all b pos holds = bytes_is u all b.content pos (data_less u.page_size (flushed_of u) (u.first * u.page_size) all (view b.content) (omega arith) (holds_data seal u all b holds)) holds.tip_at holds.size
 
-pub holds_sealed : (seal : List ℕ → ℕ) (u : Buffer) (all : List ℕ) (b : Blob) → 0 < u.page_size → Holds seal u all b → IsSealed seal u b
-holds_sealed seal u all b pos holds = subst (λ (l : List ℕ). Holds seal u l b) (sym (holds_bytes seal u all b pos holds)) holds
+pub holds_own : (seal : List ℕ → ℕ) (u : Buffer) (all : List ℕ) (b : Blob) → 0 < u.page_size → Holds seal u all b → Holds seal u (bytes_of u b.content) b
+holds_own seal u all b pos holds = subst (λ (l : List ℕ). Holds seal u l b) (sym (holds_bytes seal u all b pos holds)) holds
 
 -- the same by the weaker premise
 pub tip_stands : (u : Buffer) (content : List ℕ) → StandsAt (bytes_of u content) (u.first * u.page_size) u.tip

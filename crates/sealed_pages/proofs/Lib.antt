@@ -1,3 +1,7 @@
+pub mod CacheLemmas
+pub mod CoverLemmas
+pub mod MemoryLemmas
+pub mod HeldLemmas
 pub mod SlotLemmas
 pub mod SixBytes
 pub mod SealedBytes

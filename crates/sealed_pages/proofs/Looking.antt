@@ -1,8 +1,8 @@
 -- Reading slots, and calls that only read.
-use Rattle.std.proofs.Common.{◌≡◌, ◌≢◌, ◌⊎◌, inl, inr, ℕ, suc, ◌+◌, ◌-◌, ◌*◌, ◌<◌, ◌≤◌, leb, eqb, min, max, ◌/◌, Bool, true, false, cond, List, [], ◌∷◌, ◌++◌, length, get_or, take, drop, Result, Ok, Err, Option, Some, None, IsSomeAnd, refl, sym, ◌∙◌, ap, subst, arith, length-take, length-drop}
+use Rattle.std.proofs.Common.{◌≡◌, ◌≢◌, ◌⊎◌, inl, inr, ℕ, zero, suc, ◌+◌, ◌-◌, ◌*◌, ◌^◌, ◌<◌, ◌≤◌, leb, eqb, min, max, ◌/◌, Bool, true, false, cond, List, [], ◌∷◌, ◌++◌, length, get_or, take, drop, Result, Ok, Err, Option, Some, None, IsSomeAnd, refl, sym, ◌∙◌, ap, subst, arith, length-take, length-drop}
 use Rattle.std.specs.Prelude.{IfSome}
 use Rattle.std.specs.Int.{w16, w32, from_be_bytes}
-use Rattle.std.proofs.Math.Nat.{mul-le-mul_right, div-mul-le_self}
+use Rattle.std.proofs.Math.Nat.{mul-le-mul_right, div-mul-le_self, lt-div-mul-add}
 use Rattle.std.proofs.lemmas.Bool.{cases_lt, cases_eq, le-leb, eq-eqb, ne_eqb}
 use Rattle.std.proofs.lemmas.List.{get_or-take, get_or-drop, ext_get_or}
 use Rattle.blob_device.specs.declared.error.DevError.{DevError}
@@ -12,7 +12,7 @@ use Rattle.blob_device.specs.Timeline.{Timeline, disk, Passes}
 use Rattle.blob_device.specs.Opened.{Opened, OpenedList}
 use Rattle.blob_device.proofs.Moments.{always_start, always_then, always_on, always_weaker, passes_after, ok_blob, err_has}
 use Rattle.blob_device.proofs.Puts.{put_self, put_same}
-use Rattle.sealed_pages.proofs.SlotLemmas.{length-bytes_at, get_or-bytes_at, slot_length-le, slot_stands, slot_named, zero_named}
+use Rattle.sealed_pages.proofs.SlotLemmas.{length-bytes_at, get_or-bytes_at, whole_true, slot_length-le, slot_stands, slot_room, slot_named, zero_named}
 use Rattle.sealed_pages.specs.Entries.{IsOpenAt}
 use Rattle.sealed_pages.specs.Reading.{page_of, Unchanged}
 use Rattle.sealed_pages.specs.SealedPrefix.{size_below}
@@ -42,15 +42,15 @@ module _ (seal : List ℕ → ℕ) (P : ℕ) (c : List ℕ) (k : ℕ) (b : Bool)
   computed : ℕ
   computed = computed_seal seal P (view c) (page_at P k) (slot_at P k b) (named_length (view c) (slot_at P k b))
 
-  pub slot_right : slot_at P k b + 6 ≤ length c → named_length (view c) (slot_at P k b) ≤ P → computed_seal seal P (view c) (page_at P k) (slot_at P k b) (named_length (view c) (slot_at P k b)) ≡ named_seal (view c) (slot_at P k b) → slot_length seal P c k b ≡ named_length (view c) (slot_at P k b)
+  pub slot_right : slot_at P k b + 6 ≤ length c → page_at P k + (P + 12) < 2 ^ 64 → named_length (view c) (slot_at P k b) ≤ P → computed_seal seal P (view c) (page_at P k) (slot_at P k b) (named_length (view c) (slot_at P k b)) ≡ named_seal (view c) (slot_at P k b) → slot_length seal P c k b ≡ named_length (view c) (slot_at P k b)
   unfolding slot_length
-  slot_right stands short holds = ap (λ (t : Bool). cond t (cond (leb (named_length (view c) (slot_at P k b)) P) (cond (eqb (computed_seal seal P (view c) (page_at P k) (slot_at P k b) (named_length (view c) (slot_at P k b))) (named_seal (view c) (slot_at P k b))) (named_length (view c) (slot_at P k b)) 0) 0) 0) (le-leb (slot_at P k b + 6) (length c) stands)
+  slot_right stands room short holds = ap (λ (t : Bool). cond t (cond (leb (named_length (view c) (slot_at P k b)) P) (cond (eqb (computed_seal seal P (view c) (page_at P k) (slot_at P k b) (named_length (view c) (slot_at P k b))) (named_seal (view c) (slot_at P k b))) (named_length (view c) (slot_at P k b)) 0) 0) 0) (whole_true P c k b stands room)
       ∙ ap (λ (t : Bool). cond t (cond (eqb (computed_seal seal P (view c) (page_at P k) (slot_at P k b) (named_length (view c) (slot_at P k b))) (named_seal (view c) (slot_at P k b))) (named_length (view c) (slot_at P k b)) 0) 0) (le-leb (named_length (view c) (slot_at P k b)) P short)
       ∙ ap (λ (t : Bool). cond t (named_length (view c) (slot_at P k b)) 0) (eq-eqb (computed_seal seal P (view c) (page_at P k) (slot_at P k b) (named_length (view c) (slot_at P k b))) (named_seal (view c) (slot_at P k b)) holds)
 
-  pub slot_wrong : slot_at P k b + 6 ≤ length c → named_length (view c) (slot_at P k b) ≤ P → computed_seal seal P (view c) (page_at P k) (slot_at P k b) (named_length (view c) (slot_at P k b)) ≢ named_seal (view c) (slot_at P k b) → slot_length seal P c k b ≡ 0
+  pub slot_wrong : slot_at P k b + 6 ≤ length c → page_at P k + (P + 12) < 2 ^ 64 → named_length (view c) (slot_at P k b) ≤ P → computed_seal seal P (view c) (page_at P k) (slot_at P k b) (named_length (view c) (slot_at P k b)) ≢ named_seal (view c) (slot_at P k b) → slot_length seal P c k b ≡ 0
   unfolding slot_length
-  slot_wrong stands short differ = ap (λ (t : Bool). cond t (cond (leb (named_length (view c) (slot_at P k b)) P) (cond (eqb (computed_seal seal P (view c) (page_at P k) (slot_at P k b) (named_length (view c) (slot_at P k b))) (named_seal (view c) (slot_at P k b))) (named_length (view c) (slot_at P k b)) 0) 0) 0) (le-leb (slot_at P k b + 6) (length c) stands)
+  slot_wrong stands room short differ = ap (λ (t : Bool). cond t (cond (leb (named_length (view c) (slot_at P k b)) P) (cond (eqb (computed_seal seal P (view c) (page_at P k) (slot_at P k b) (named_length (view c) (slot_at P k b))) (named_seal (view c) (slot_at P k b))) (named_length (view c) (slot_at P k b)) 0) 0) 0) (whole_true P c k b stands room)
       ∙ ap (λ (t : Bool). cond t (cond (eqb (computed_seal seal P (view c) (page_at P k) (slot_at P k b) (named_length (view c) (slot_at P k b))) (named_seal (view c) (slot_at P k b))) (named_length (view c) (slot_at P k b)) 0) 0) (le-leb (named_length (view c) (slot_at P k b)) P short)
       ∙ ap (λ (t : Bool). cond t (named_length (view c) (slot_at P k b)) 0) (ne_eqb (computed_seal seal P (view c) (page_at P k) (slot_at P k b) (named_length (view c) (slot_at P k b))) (named_seal (view c) (slot_at P k b)) differ)
 
@@ -95,8 +95,8 @@ module _ (seal : List ℕ → ℕ) (P : ℕ) (c : List ℕ) (k : ℕ) where
   move_list : (d : List ℕ) (b : Bool) → ((i : ℕ) → i < P + 12 → view d i ≡ view c (page_at P k + i)) → bytes_at (view d) (slot_at P 0 b) 2 ≡ bytes_at (view c) (slot_at P k b) 2
   move_list d b same = moved d 2 (slot_at P 0 b) (slot_at P k b) (offset b) (omega (arith, low b)) same
 
-  pub part_slot : (b : Bool) → slot_length seal P (page_of P c k) 0 b ≡ slot_length seal P c k b
-  part_slot b = elim (cases_lt (length c) (slot_at P k b + 6)) [
+  pub part_slot : page_at P k + (P + 12) < 2 ^ 64 → (b : Bool) → slot_length seal P (page_of P c k) 0 b ≡ slot_length seal P c k b
+  part_slot room b = elim (cases_lt (length c) (slot_at P k b + 6)) [
     | inl short ↦ slot_short seal P (page_of P c k) 0 b (omega (arith, short, part_length, offset b, low b)) ∙ sym (slot_short seal P c k b short)
     | inr stands ↦ matching_same (page_of P c k) (omega (arith, stands, part_length, offset b, low b)) stands part_view
   ]
@@ -124,8 +124,8 @@ module _ (seal : List ℕ → ℕ) (P : ℕ) (c : List ℕ) (k : ℕ) where
               = ap (bytes_at (view d) (page_at P 0)) name ∙ moved d (named_length (view c) (slot_at P k b)) (page_at P 0) (page_at P k) (omega (arith, page_zero P)) (omega (arith, page_zero P, fits)) same in
               let made : computed_seal seal P (view d) (page_at P 0) (slot_at P 0 b) (named_length (view d) (slot_at P 0 b)) ≡ computed_seal seal P (view c) (page_at P k) (slot_at P k b) (named_length (view c) (slot_at P k b)) = λ t. seal (two t ++ front t) in
               elim yes_no [
-                | inl holds ↦ slot_right seal P d 0 b in_d (omega (arith, name, fits)) (made ∙ holds ∙ sym seals) ∙ name ∙ sym (slot_right seal P c k b in_c fits holds)
-                | inr differ ↦ slot_wrong seal P d 0 b in_d (omega (arith, name, fits)) (λ e. differ (sym made ∙ e ∙ seals)) ∙ sym (slot_wrong seal P c k b in_c fits differ)
+                | inl holds ↦ slot_right seal P d 0 b in_d (omega (arith, room, page_zero P)) (omega (arith, name, fits)) (made ∙ holds ∙ sym seals) ∙ name ∙ sym (slot_right seal P c k b in_c room fits holds)
+                | inr differ ↦ slot_wrong seal P d 0 b in_d (omega (arith, room, page_zero P)) (omega (arith, name, fits)) (λ e. differ (sym made ∙ e ∙ seals)) ∙ sym (slot_wrong seal P c k b in_c room fits differ)
               ]
 
 -- a call that looks
@@ -202,3 +202,41 @@ page_reaches seal P c k some = elim (cases_lt 0 (slot_length seal P c k false)) 
 
 pub below_some : {A : Type 0} (r : Option A) (p : A) (Q : A → Type 0) → r ≡ Some p → IfSome r Q → Q p
 below_some {A = A} r p Q is below = subst (λ (x : Option A). IfSome x Q) is below
+
+-- a page without its places has no matching slot
+pub no_places : (seal : List ℕ → ℕ) (P : ℕ) (c : List ℕ) (k : ℕ) → 2 ^ 64 ≤ page_at P k + (P + 12) → page_length seal P c k ≡ 0
+no_places seal P c k past = omega (arith, page_length_is seal P c k, none false, none true)
+  where
+    none : (b : Bool) → slot_length seal P c k b ≡ 0
+    none b = elim (cases_lt 0 (slot_length seal P c k b)) [
+      | inl some ↦ absurd (omega (arith, past, slot_room seal P c k b some))
+      | inr nothing ↦ omega (arith, nothing)
+    ]
+
+-- a page with a matching slot has its places
+pub page_places : (seal : List ℕ → ℕ) (P : ℕ) (c : List ℕ) (k : ℕ) → 1 ≤ page_length seal P c k → page_at P k + (P + 12) < 2 ^ 64
+page_places seal P c k some = elim (cases_lt (page_at P k + (P + 12)) (2 ^ 64)) [
+  | inl room ↦ room
+  | inr past ↦ absurd (omega (arith, some, no_places seal P c k past))
+]
+
+-- the size does not change by pages without a matching slot
+pub size_upto : (seal : List ℕ → ℕ) (P : ℕ) (c : List ℕ) (n m : ℕ) → ((k : ℕ) → n ≤ k → page_length seal P c k ≡ 0) → size_below seal P c (n + m) ≡ size_below seal P c n
+size_upto seal P c n zero none = let e : n + zero ≡ n = omega arith in ap (size_below seal P c) e
+size_upto seal P c n (suc m) none = (let e : n + suc m ≡ suc (n + m) = omega arith in ap (size_below seal P c) e) ∙ size_none seal P c (n + m) (none (n + m) (omega arith)) ∙ size_upto seal P c n m none
+
+-- so many pages have their places, and no page behind
+pub places_count : (P : ℕ) → (page_at P ((2 ^ 64 - 1) / (P + 12)) < 2 ^ 64) × ((k : ℕ) → (2 ^ 64 - 1) / (P + 12) ≤ k → 2 ^ 64 ≤ page_at P k + (P + 12))
+unfolding page_at
+places_count P = (
+  omega (arith, div-mul-le_self (2 ^ 64 - 1) (P + 12)),
+  λ k past. (let pos : 0 < P + 12 = omega arith in
+      let few : (2 ^ 64 - 1) / (P + 12) * (P + 12) ≤ k * (P + 12) = mul-le-mul_right (P + 12) past in
+      let near : 2 ^ 64 - 1 < (2 ^ 64 - 1) / (P + 12) * (P + 12) + (P + 12) = lt-div-mul-add pos in
+      omega (arith, few, near)),
+)
+
+-- fewer pages have their places too
+pub fewer_places : (P n m : ℕ) → n ≤ m → page_at P m < 2 ^ 64 → page_at P n < 2 ^ 64
+unfolding page_at
+fewer_places P n m le fits = omega (arith, mul-le-mul_right (P + 12) le, fits)

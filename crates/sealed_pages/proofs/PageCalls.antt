@@ -36,6 +36,7 @@ module _ (seal : List ℕ → ℕ) (P : ℕ) (bytes : List ℕ) (F L : ℕ) (new
     pub is : F ≡ k * P + f
     pub new : f < length page
     pub size : length page ≤ P
+    pub places : page_at P k + (P + 12) < 2 ^ 64
     pub at : StandsAt bytes (k * P) page
     pub pick : b ≡ next_slot P L newest k
 
@@ -87,7 +88,7 @@ module _ (seal : List ℕ → ℕ) (P : ℕ) (bytes : List ℕ) (F L : ℕ) (new
     six = slot_bytes seal P page
 
     done_now : Flushed seal P bytes (F + length (drop f page)) (with_slot begun.ready.τ k b) (written (written (disk t0 key).content (page_at P k + f) (drop f page)) (slot_at P k b) (slot_bytes seal P page))
-    done_now = flushed_page seal P bytes F begun.ready.τ (disk t0 key).content k f (page_at P k + f) b (drop f page) page begun.seal_fits begun.small pos was begun.is short refl
+    done_now = flushed_page seal P bytes F begun.ready.τ (disk t0 key).content k f (page_at P k + f) b (drop f page) page begun.places begun.seal_fits begun.small pos was begun.is short refl
         (omega (arith, length-drop f page, begun.new)) begun.size (omega (arith, length-drop f page, begun.new)) (omega (arith, length-drop f page, begun.new, begun.is, begun.at.room)) chunk_is begun.at.same
 
     pub page_two : {v : Unit {0}} {r : Result (Unit {0}) DevError} {t1 t2 : Timeline} → Passes {T = Unit {0}} key (Write (page_at P k + f) (drop f page)) (Ok v) t0 t1

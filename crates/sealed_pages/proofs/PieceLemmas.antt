@@ -1,6 +1,11 @@
 -- Pages in a piece of a blob, and the sealed prefix page by page.
-use Rattle.std.proofs.Common.{◌≡◌, ◌⊎◌, inl, inr, ℕ, zero, suc, ◌+◌, ◌-◌, ◌*◌, ◌^◌, ◌<◌, ◌≤◌, min, List, length, take, drop, refl, sym, ◌∙◌, ap, arith, length-drop}
-use Rattle.std.proofs.Math.Nat.{mul-le-mul_right}
+use Rattle.std.proofs.Common.{◌≡◌, ◌⊎◌, inl, inr, ◌%◌, ℕ, zero, suc, ◌+◌, ◌-◌, ◌*◌, ◌/◌, ◌^◌, ◌<◌, ◌≤◌, min, List, length, take, drop, refl, sym, ◌∙◌, ap, arith, length-drop}
+use Rattle.std.proofs.Math.Nat.{mul-le-mul_right, div-mul-le_self, lt-div-mul-add}
+use Rattle.std.proofs.lemmas.Grind.{div_ceil_times}
+use Rattle.sealed_pages.proofs.Holding.{times_sum}
+use Rattle.sealed_pages.proofs.SealedBytes.{page_length-le}
+use Rattle.sealed_pages.specs.Proven.{prefix_upto, proven_prefix}
+use Rattle.sealed_pages.specs.Reads.{pages_for}
 use Rattle.std.proofs.lemmas.Bool.{cases_lt}
 use Rattle.std.proofs.lemmas.List.{take-take, drop-drop, drop-take, take_rest, drop_all}
 use Rattle.sealed_pages.specs.declared.piece.Piece.{Piece}
@@ -39,14 +44,6 @@ pub page_room : (P q : ℕ) → page_at P q < 2 ^ 64 → q + 1 < 2 ^ 64
 unfolding page_at
 page_room P q fits = let e : q * (P + 12) ≡ q * P + q * 12 = omega arith in omega (arith, e, fits)
 
--- one page that is held alone
-pub one_page : (P q k have : ℕ) (l b c : List ℕ) → take have l ≡ b → b ≡ page_of P c q → q ≤ k → k < q + 1 → page_of P (take have l) (k - q) ≡ page_of P c k
-one_page P q k have l b c held is from upto =
-    let same : q ≡ k = omega (arith, from, upto) in
-    let none : k - q ≡ 0 = omega (arith, from, upto) in
-    let start : page_at P (k - q) ≡ 0 = ap (page_at P) none ∙ page_times P 0 ∙ (let e : 0 * (P + 12) ≡ 0 = omega arith in e) in
-    ap (λ (n : ℕ). take (P + 12) (drop n (take have l))) start ∙ ap (take (P + 12)) (held ∙ is) ∙ take-take (P + 12) (P + 12) (drop (page_at P q) c) (omega arith) ∙ ap (page_of P c) same
-
 -- a page cut out of a piece
 pub page_slice : (P j from n : ℕ) (held : List ℕ) → from ≡ min (j * (P + 12)) (length held) → n ≡ min (P + 12) (length held - from) → take n (take (length held - from) (drop from held)) ≡ page_of P held j
 page_slice P j from n held is short = ap (take n) (take_rest held from) ∙ take_short n (P + 12) (drop from held) (omega (arith, short, length-drop from held)) ∙ ap (take (P + 12)) (same (cases_lt (page_at P j) (length held)))
@@ -56,9 +53,24 @@ page_slice P j from n held is short = ap (take n) (take_rest held from) ∙ take
     same (inr past) = drop_all from held (omega (arith, is, past, page_times P j)) ∙ sym (drop_all (page_at P j) held past)
 
 -- how far a page of a piece is covered
-pub piece_covered : (seal : List ℕ → ℕ) (P : ℕ) (c : List ℕ) (p : Piece) (k : ℕ) (bytes : List ℕ) (n : ℕ) → p.page_size ≡ P → IsPieceOf c p → HasPage p k → bytes ≡ page_of p.page_size (held_of p) (k - p.page)
+pub piece_covered : (seal : List ℕ → ℕ) (P : ℕ) (c : List ℕ) (p : Piece) (k : ℕ) (bytes : List ℕ) (n : ℕ) → page_at P k + (P + 12) < 2 ^ 64 → p.page_size ≡ P → IsPieceOf c p → HasPage p k → bytes ≡ page_of p.page_size (held_of p) (k - p.page)
     → n ≡ page_length seal P bytes 0 → n ≡ page_length seal P c k
-piece_covered seal P c p k bytes n size is has part len = len ∙ ap (λ (l : List ℕ). page_length seal P l 0) (part ∙ is k has ∙ ap (λ (x : ℕ). page_of x c k) size) ∙ part_page seal P c k
+piece_covered seal P c p k bytes n room size is has part len = len ∙ ap (λ (l : List ℕ). page_length seal P l 0) (part ∙ is k has ∙ ap (λ (x : ℕ). page_of x c k) size) ∙ part_page seal P c k room
+
+-- how many pages n bytes take, as `div_ceil` counts them
+pub pages_up : (P n : ℕ) → 1 ≤ P → n / P + min 1 (n % P) ≡ pages_for P n
+pages_up P n pos =
+    let q : ℕ = n / P + min 1 (n % P) in
+    let spans : (n ≤ q * P) × (q * P < n + P) = div_ceil_times n P pos in
+    let low : (n + (P - 1)) / P * P ≤ n + (P - 1) = div-mul-le_self (n + (P - 1)) P in
+    let high : n + (P - 1) < (n + (P - 1)) / P * P + P = lt-div-mul-add pos in
+    elim (cases_lt q ((n + (P - 1)) / P)) [
+      | inl less ↦ absurd (let le : q + 1 ≤ (n + (P - 1)) / P = omega (arith, less) in omega (arith, mul-le-mul_right P le, times_next q P, spans.0, low, pos))
+      | inr le ↦ elim (cases_lt ((n + (P - 1)) / P) q) [
+        | inl less ↦ absurd (let up : (n + (P - 1)) / P + 1 ≤ q = omega (arith, less) in omega (arith, mul-le-mul_right P up, times_next ((n + (P - 1)) / P) P, spans.1, high, pos))
+        | inr ge ↦ omega (arith, le, ge)
+      ]
+    ]
 
 module _ (seal : List ℕ → ℕ) (P : ℕ) (c : List ℕ) where
   pub sealed_next : (k m : ℕ) → page_length seal P c k ≡ P → length (sealed_from seal P c k (suc m)) ≡ P + length (sealed_from seal P c (k + 1) m)
@@ -89,6 +101,42 @@ module _ (seal : List ℕ → ℕ) (P : ℕ) (c : List ℕ) where
 
   pub sealed_past : (k m : ℕ) → m ≤ k → length (sealed_from seal P c k (m - k)) ≡ 0
   sealed_past k m le = let e : m - k ≡ 0 = omega (arith, le) in ap (λ (x : ℕ). length (sealed_from seal P c k x)) e ∙ sealed_none k
+
+  -- behind the pages that have a matching slot, and behind those that are to be read
+  pub sealed_behind : (k count upto m : ℕ) → 1 ≤ P → min count upto ≤ k → m ≤ upto → ((j : ℕ) → count ≤ j → page_length seal P c j ≡ 0) → length (sealed_from seal P c k (m - k)) ≡ 0
+  sealed_behind k count upto m pos past le none = elim (cases_lt k m) [
+    | inr over ↦ sealed_past k m over
+    | inl less ↦ (let is : page_length seal P c k ≡ 0 = none k (omega (arith, past, le, less)) in omega (arith, is, sealed_last k m less (omega (arith, is, pos))))
+  ]
+
+  -- fewer pages give as much, or are all full
+  fewer : (k m extra : ℕ) → (length (sealed_from seal P c k m) ≡ length (sealed_from seal P c k (m + extra))) ⊎ ((length (sealed_from seal P c k m) ≡ m * P) × (m * P ≤ length (sealed_from seal P c k (m + extra))))
+  fewer k zero extra = inr (omega (arith, sealed_none k), omega arith)
+  fewer k (suc m) extra = elim (cases_lt (page_length seal P c k) P) [
+    | inl less ↦ inl (sealed_stop k m less ∙ sym (ap (λ (x : ℕ). length (sealed_from seal P c k x)) (more m) ∙ sealed_stop k (m + extra) less))
+    | inr le ↦ (let full : page_length seal P c k ≡ P = omega (arith, le, page_length-le seal P c k) in elim (fewer (k + 1) m extra) [
+      | inl same ↦ inl (sealed_next k m full ∙ ap (λ (x : ℕ). P + x) same ∙ sym (ap (λ (x : ℕ). length (sealed_from seal P c k x)) (more m) ∙ sealed_next k (m + extra) full))
+      | inr all ↦ inr (omega (arith, sealed_next k m full, all.0), omega (arith, ap (λ (x : ℕ). length (sealed_from seal P c k x)) (more m), sealed_next k (m + extra) full, all.1))
+    ])
+  ]
+    where
+      more : (n : ℕ) → suc n + extra ≡ suc (n + extra)
+      more n = omega arith
+
+  -- up to a bound it is enough to look at the pages that begin below it
+  pub prefix_at_most : (k end : ℕ) → 1 ≤ P → min end (prefix_upto seal P c k (pages_for P end)) ≡ min end (proven_prefix seal P c k)
+  prefix_at_most k end pos =
+      let near : end + (P - 1) < (end + (P - 1)) / P * P + P = lt-div-mul-add pos in
+      let e : min (pages_in P c) (pages_for P end) - k + (pages_in P c - k - (min (pages_in P c) (pages_for P end) - k)) ≡ pages_in P c - k = omega arith in
+      let all : length (sealed_from seal P c k (min (pages_in P c) (pages_for P end) - k + (pages_in P c - k - (min (pages_in P c) (pages_for P end) - k)))) ≡ length (sealed_from seal P c k (pages_in P c - k)) = ap (λ (x : ℕ). length (sealed_from seal P c k x)) e in
+      elim (fewer k (min (pages_in P c) (pages_for P end) - k) (pages_in P c - k - (min (pages_in P c) (pages_for P end) - k))) [
+        | inl same ↦ omega (arith, same, all)
+        | inr full ↦ elim (cases_lt (pages_in P c) (pages_for P end + 1)) [
+          | inl few ↦ (let f : min (pages_in P c) (pages_for P end) - k ≡ pages_in P c - k = omega (arith, few) in omega (arith, ap (λ (x : ℕ). length (sealed_from seal P c k x)) f))
+          | inr many ↦ (let reach : pages_for P end * P ≤ (k + (min (pages_in P c) (pages_for P end) - k)) * P = mul-le-mul_right P (let g : pages_for P end ≤ k + (min (pages_in P c) (pages_for P end) - k) = omega (arith, many) in g) in
+              omega (arith, full.0, full.1, all, near, reach, times_sum k (min (pages_in P c) (pages_for P end) - k) P))
+        ]
+      ]
 
 -- full pages below k change nothing
 pub proven_is : (seal : List ℕ → ℕ) (P : ℕ) (c : List ℕ) → 1 ≤ P → (k : ℕ) → ((j : ℕ) → j < k → page_length seal P c j ≡ P) → k * P + length (sealed_from seal P c k (pages_in P c - k)) ≡ length (sealed_prefix seal P c)

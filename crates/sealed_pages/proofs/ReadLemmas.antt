@@ -19,11 +19,11 @@ use Rattle.sealed_pages.specs.View.{View, page_at}
 use Rattle.sealed_pages.proofs.Adopt.{length-data_from, get_or-data_from}
 use Rattle.sealed_pages.proofs.Repairing.{page_order}
 use Rattle.sealed_pages.proofs.Looking.{page_length_is, part_slot}
-use Rattle.sealed_pages.proofs.SlotLemmas.{times_next, times_more, slot_stands}
+use Rattle.sealed_pages.proofs.SlotLemmas.{page_next, times_next, times_more, slot_stands}
 
 -- a page by itself is covered as far as in the blob
-pub part_page : (seal : List ℕ → ℕ) (P : ℕ) (c : List ℕ) (k : ℕ) → page_length seal P (page_of P c k) 0 ≡ page_length seal P c k
-part_page seal P c k = omega (arith, page_length_is seal P (page_of P c k) 0, page_length_is seal P c k, part_slot seal P c k false, part_slot seal P c k true)
+pub part_page : (seal : List ℕ → ℕ) (P : ℕ) (c : List ℕ) (k : ℕ) → page_at P k + (P + 12) < 2 ^ 64 → page_length seal P (page_of P c k) 0 ≡ page_length seal P c k
+part_page seal P c k room = omega (arith, page_length_is seal P (page_of P c k) 0, page_length_is seal P c k, part_slot seal P c k room false, part_slot seal P c k room true)
 
 touched_some : (P m n : ℕ) → 0 < n → touched P m n ≡ (m + n + (P - 1)) / P - m / P
 touched_some P m n some = let differ : n ≢ 0 = λ e. omega (arith, e, some) in ap (λ t. cond t 0 ((m + n + (P - 1)) / P - m / P)) (ne_eqb n 0 differ)
@@ -144,12 +144,12 @@ pub found_is : (seal : List ℕ → ℕ) (P : ℕ) (c : List ℕ) (r : Option La
 found_is seal P c None buf n finds some none = omega (arith, finds, none)
 found_is seal P c (Some p) buf n finds some none = omega (arith, finds.0, some, page_length_is seal P c p.page, finds.2, finds.3)
 
-pub found_room : (P end : ℕ) (r : Option LastPage) (n : ℕ) → end < 2 ^ 64 → IfSome r (λ p. (page_at P p.page ≤ end) × (p.have ≤ P + 12) × (p.first_len ≤ P) × (p.second_len ≤ P) × (1 ≤ max p.first_len p.second_len))
-    → IfSome r (λ p. n ≡ p.page * P + max p.first_len p.second_len) → IfNone r (n ≡ 0) → (k : ℕ) → k * P < n → page_at P k < 2 ^ 64
-found_room P end None n fits below some none k lt = absurd (omega (arith, lt, none))
-found_room P end (Some p) n fits below some none k lt =
-    let le : k < p.page + 1 = page_before P k (p.page + 1) (omega (arith, lt, some, below.2, below.3, times_next p.page P)) in
-    omega (arith, page_order (λ x. 0) P k p.page (omega (arith, le)), below.0, fits)
+pub found_room : (P end : ℕ) (r : Option LastPage) (n : ℕ) → IfSome r (λ p. (page_at P p.page ≤ end) × (page_at P p.page + (P + 12) < 2 ^ 64) × (p.have ≤ P + 12) × (p.first_len ≤ P) × (p.second_len ≤ P) × (1 ≤ max p.first_len p.second_len))
+    → IfSome r (λ p. n ≡ p.page * P + max p.first_len p.second_len) → IfNone r (n ≡ 0) → (k : ℕ) → k * P < n → page_at P k + (P + 12) < 2 ^ 64
+found_room P end None n below some none k lt = absurd (omega (arith, lt, none))
+found_room P end (Some p) n below some none k lt =
+    let le : k < p.page + 1 = page_before P k (p.page + 1) (omega (arith, lt, some, below.3, below.4, times_next p.page P)) in
+    omega (arith, page_order (λ x. 0) P k p.page (omega (arith, le)), below.1)
 
 -- what was read byte by byte, as a list
 pub read_data : (P m n : ℕ) (v : View) (out : List ℕ) → length out ≡ n → ((i : ℕ) → i < n → get_or out i 0 ≡ v (place P (m + i))) → out ≡ data_from P v m n
@@ -167,11 +167,11 @@ page_in seal P c k some =
     go (inr none) = let second : 1 ≤ slot_length seal P c k true = omega (arith, none, some, page_length_is seal P c k) in omega (arith, slot_stands seal P c k true second)
 
 -- a page of a blob whose extent fits has its place
-pub extent_room : (P n k : ℕ) → 1 ≤ P → extent P n < 2 ^ 64 → k * P < n → page_at P k < 2 ^ 64
+pub extent_room : (P n k : ℕ) → 1 ≤ P → extent P n < 2 ^ 64 → k * P < n → page_at P k + (P + 12) < 2 ^ 64
 extent_room P n k pos fits lt =
     let next : (k + 1) * P ≤ n + (P - 1) = omega (arith, lt, pos, times_next k P) in
     let le : k + 1 ≤ (n + (P - 1)) / P = le-div (k + 1) (n + (P - 1)) P (omega (arith, pos)) next in
-    omega (arith, fits, page_order (λ x. 0) P k ((n + (P - 1)) / P) (omega (arith, le)))
+    omega (arith, fits, page_next P k, page_order (λ x. 0) P (k + 1) ((n + (P - 1)) / P) le)
 
 -- an error is the same whatever else might have been answered
 pub same_error : {T U E : Type 0} {a b : E} → IsErrOf {T = T} {E = E} (Err a) b → IsErrOf {T = U} {E = E} (Err a) b

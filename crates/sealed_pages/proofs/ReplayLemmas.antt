@@ -1,6 +1,7 @@
 -- The bytes that a reader has at hand.
-use Rattle.std.proofs.Common.{◌≡◌, ◌⊎◌, inl, inr, ℕ, ◌+◌, ◌-◌, ◌*◌, ◌/◌, ◌<◌, ◌≤◌, min, max, cond, Bool, Result, Ok, Err, List, ◌++◌, length, get_or, take, drop, refl, sym, ◌∙◌, ap, subst, arith, is_ok, if◌then◌else◌, length-drop, length-append, length-take}
-use Rattle.std.proofs.Math.Nat.{div-mul-le_self}
+use Rattle.std.proofs.Common.{◌≡◌, ◌⊎◌, inl, inr, ℕ, ◌+◌, ◌-◌, ◌*◌, ◌/◌, ◌<◌, ◌≤◌, min, max, cond, Bool, Result, Ok, Err, List, ◌++◌, length, get_or, take, drop, refl, sym, ◌∙◌, ap, subst, arith, is_ok, if◌then◌else◌, length-drop, length-append, length-take, ◌%◌}
+use Rattle.std.proofs.Math.Nat.{div-mul-le_self, mod-eq-sub-div-mul, lt-div-mul-add}
+use Rattle.sealed_pages.specs.Readers.{IsTipOf}
 use Rattle.std.proofs.lemmas.Bool.{cases_lt, le-leb, lt-leb}
 use Rattle.std.proofs.lemmas.Nat.{le-div}
 use Rattle.std.proofs.lemmas.List.{get_or-drop, get_or-take, get_or_append_left, get_or-append_right, drop-append-le}
@@ -12,7 +13,7 @@ use Rattle.sealed_pages.specs.Entries.{ReadsAtMost}
 use Rattle.sealed_pages.specs.Pieces.{HasPage, next_missing}
 use Rattle.sealed_pages.specs.Reading.{page_of}
 use Rattle.sealed_pages.specs.Readers.{Reader, ReadsUnread, SameReader}
-use Rattle.sealed_pages.specs.Reads.{IsWanted, IsCovered, IsShort, EndsAtOrPast, needed, pages_for, touched}
+use Rattle.sealed_pages.specs.Reads.{IsWanted, IsCovered, IsShort, EndsAtOrPast, needed, touched}
 use Rattle.sealed_pages.specs.SealedPrefix.{place, data_from}
 use Rattle.sealed_pages.specs.Slots.{page_length}
 use Rattle.sealed_pages.specs.View.{View, view}
@@ -147,10 +148,16 @@ missing_none p k not = elim (cases_lt k p.page) [
   | inr from ↦ (let past : p.page + p.count ≤ k = elim (cases_lt k (p.page + p.count)) [ inl inside ↦ absurd (not (from, inside)) | inr le ↦ le ] in omega (arith, missing_held p k from, past))
 ]
 
+pub missing_later : (p : Piece) (k : ℕ) → k ≤ next_missing p k
+missing_later p k = elim (cases_lt k p.page) [
+  | inl before ↦ omega (arith, ap (λ (b : Bool). cond b (max k (p.page + p.count)) k) (lt-leb p.page k before))
+  | inr from ↦ omega (arith, missing_held p k from)
+]
+
 -- a read of a page that was not held takes it from those that are not yet read
-pub unread_step : (P size m n before after : ℕ) (old new : Piece) → 1 ≤ P → m < size → m ≤ n → HasPage new (m / P) → ((HasPage old (m / P) × (new ≡ old)) ⊎ ((new.page ≡ m / P) × (HasPage old (m / P) → ⊥)))
-    → (HasPage old (m / P) → after ≡ before) → after ≤ before + 1 → after + (pages_for P size - next_missing new (n / P)) ≤ before + (pages_for P size - next_missing old (m / P))
-unread_step P size m n before after old new pos inside further has loaded held once = go loaded
+pub unread_step : (P full m n before after : ℕ) (old new : Piece) → 1 ≤ P → m / P < full → m ≤ n → HasPage new (m / P) → ((HasPage old (m / P) × (new ≡ old)) ⊎ ((new.page ≡ m / P) × (HasPage old (m / P) → ⊥)))
+    → (HasPage old (m / P) → after ≡ before) → after ≤ before + 1 → after + (full - next_missing new (n / P)) ≤ before + (full - next_missing old (m / P))
+unread_step P full m n before after old new pos inside further has loaded held once = go loaded
   where
     begun : m / P * P ≤ m
     begun = div-mul-le_self m P
@@ -158,10 +165,10 @@ unread_step P size m n before after old new pos inside further has loaded held o
     later : m / P ≤ n / P
     later = le-div (m / P) n P (omega (arith, pos)) (omega (arith, begun, further))
 
-    left : m / P + 1 ≤ pages_for P size
-    left = le-div (m / P + 1) (size + (P - 1)) P (omega (arith, pos)) (omega (arith, begun, inside, times_next (m / P) P))
+    left : m / P + 1 ≤ full
+    left = omega (arith, inside)
 
-    go : ((HasPage old (m / P) × (new ≡ old)) ⊎ ((new.page ≡ m / P) × (HasPage old (m / P) → ⊥))) → after + (pages_for P size - next_missing new (n / P)) ≤ before + (pages_for P size - next_missing old (m / P))
+    go : ((HasPage old (m / P) × (new ≡ old)) ⊎ ((new.page ≡ m / P) × (HasPage old (m / P) → ⊥))) → after + (full - next_missing new (n / P)) ≤ before + (full - next_missing old (m / P))
     go (inl (was, same)) =
         let page : new.page ≡ old.page = ap (λ (p : Piece). p.page) same in
         let count : new.count ≡ old.count = ap (λ (p : Piece). p.count) same in
@@ -215,3 +222,42 @@ same_then a b c first second = record {
   size = second.size ∙ first.size;
   at = second.at ∙ first.at;
 }
+
+-- where the tip goes on
+pub tip_place : (P size next : ℕ) → 1 ≤ P → size / P ≤ next / P → next ≤ size → (next / P ≡ size / P) × (size / P * P + next % P ≡ next) × (size / P * P + size % P ≡ size)
+tip_place P size next pos full within =
+    let begun : next / P * P ≤ next = div-mul-le_self next P in
+    let most : next / P ≤ size / P = le-div (next / P) size P pos (omega (arith, begun, within)) in
+    let same : next / P ≡ size / P = omega (arith, full, most) in
+    (same, omega (arith, mod-eq-sub-div-mul next P, begun, ap (λ (k : ℕ). k * P) same), omega (arith, mod-eq-sub-div-mul size P, div-mul-le_self size P))
+
+-- the reader takes the tip from the next byte on
+module _ (seal : List ℕ → ℕ) (P size at used next : ℕ) (held tip rest new c : List ℕ) (pos : 1 ≤ P) (taken : used ≤ length held) (next_is : next ≡ at + length (drop used held)) (full : size / P ≤ next / P) (within : next ≤ size)
+    (long : length tip ≡ size % P) (rest_is : rest ≡ drop (next % P) tip) (is : new ≡ held ++ rest) where
+  place_is : (next / P ≡ size / P) × (size / P * P + next % P ≡ next) × (size / P * P + size % P ≡ size)
+  place_is = tip_place P size next pos full within
+
+  split : drop used new ≡ drop used held ++ rest
+  split = ap (drop used) is ∙ drop-append-le used held rest taken
+
+  rest_long : length rest ≡ size % P - next % P
+  rest_long = omega (arith, ap length rest_is, length-drop (next % P) tip, long)
+
+  pub tip_ends : at + length (drop used new) ≡ size
+  tip_ends = omega (arith, ap length split, length-append (drop used held) rest, rest_long, next_is, place_is.1, place_is.2, within)
+
+  module _ (tip_of : IsTipOf seal P c (size / P) tip) (bytes : drop used held ≡ data_from P (view c) at (length (drop used held))) (covered : IsCovered seal P c at (length (drop used held))) where
+    rest_data : rest ≡ data_from P (view c) (at + length (drop used held)) (length rest)
+    rest_data = read_data P (at + length (drop used held)) (length rest) (view c) rest refl
+        (λ i lt. let inside : next % P + i < length tip = omega (arith, lt, rest_long, long) in
+        let small : next % P + i < P = omega (arith, inside, long, mod-eq-sub-div-mul size P, lt-div-mul-add {a = size} pos) in
+        let e : size / P * P + (next % P + i) ≡ at + length (drop used held) + i = omega (arith, place_is.1, next_is) in
+        ap (λ (l : List ℕ). get_or l i 0) rest_is ∙ get_or-drop (next % P) tip i 0 ∙ tip_of.same (next % P + i) inside
+        ∙ ap (view c) (sym (place_in P (size / P) (next % P + i) small) ∙ ap (place P) e))
+
+    pub tip_bytes : drop used new ≡ data_from P (view c) at (length (drop used new))
+    tip_bytes = subst (λ (l : List ℕ). l ≡ data_from P (view c) at (length l)) (sym (split ∙ ap (λ (l : List ℕ). drop used held ++ l) rest_data)) (data_next P at (length rest) (view c) (drop used held) bytes)
+
+    pub tip_covered : IsCovered seal P c at (length (drop used new))
+    tip_covered = covered_more seal P c at (length (drop used held)) (length (drop used new)) (size / P) (size % P) covered (omega (arith, next_is, place_is.1)) (omega (arith, ap length split, length-append (drop used held) rest)) (omega (arith, tip_ends, place_is.2))
+        (omega (arith, mod-eq-sub-div-mul size P, lt-div-mul-add {a = size} pos)) (omega (arith, tip_of.covered, long))

@@ -1,8 +1,8 @@
 -- How far a blob is adopted after a cut, whatever its slots said before.
-use Rattle.std.proofs.Common.{◌≡◌, inl, inr, ℕ, ◌+◌, ◌*◌, ◌^◌, ◌<◌, ◌≤◌, not, Bool, true, false, List, ◌++◌, length, get_or, take, refl, sym, ◌∙◌, ap, arith, length-take}
+use Rattle.std.proofs.Common.{◌≡◌, inl, inr, ℕ, ◌+◌, ◌*◌, ◌^◌, ◌<◌, ◌≤◌, not, Bool, true, false, List, ◌++◌, length, get_or, take, drop, refl, sym, ◌∙◌, ap, arith, length-take}
 use Rattle.std.specs.Int.{w16, w32, to_be_bytes, from_be_bytes}
 use Rattle.std.proofs.lemmas.Bool.{cases_lt, cases_order}
-use Rattle.std.proofs.lemmas.List.{get_or_append_left}
+use Rattle.std.proofs.lemmas.List.{get_or_append_left, get_or-take, get_or-drop}
 use Rattle.std.proofs.lemmas.Nat.{from_be_bytes-to_be_bytes_2}
 use Rattle.blob_device.specs.Change.{written, resized}
 use Rattle.blob_device.proofs.Bytes.{length-written, length-resized}
@@ -19,7 +19,7 @@ use Rattle.sealed_pages.proofs.Reaching.{size_at_most}
 use Rattle.sealed_pages.proofs.Repairing.{page_order}
 use Rattle.sealed_pages.proofs.SealedBytes.{page_length-le}
 use Rattle.sealed_pages.proofs.SlotLemmas.{times_more, page_next, slot_at_most, slot_stands}
-use Rattle.sealed_pages.proofs.SlotSteps.{bytes_at-list, length-two_bytes, length-slot_bytes, slot_is, slot_same_slot}
+use Rattle.sealed_pages.proofs.SlotSteps.{bytes_at-list, length-two_bytes, length-slot_bytes, slot_is, slot_matches, slot_same_data, slot_same_slot}
 use Rattle.sealed_pages.proofs.Steps.{slot_low, slot_high, named_same}
 
 module _ (seal : List ℕ → ℕ) (P : ℕ) where
@@ -83,6 +83,33 @@ module _ (seal : List ℕ → ℕ) (P : ℕ) where
         let this : slot_length seal P (page_cut seal P c j old page) j old ≤ length page = omega (arith, zeros_none seal P (written (take (page_at P (j + 1)) c) (slot_at P j (not old)) (slot_bytes seal P page)) j old) in
         let that : slot_length seal P (page_cut seal P c j old page) j (not old) ≤ length page = omega (arith, slot_at_most seal P (page_cut seal P c j old page) j (not old), names) in
         omega (arith, page_length_is seal P (page_cut seal P c j old page) j, by_slot false this that, by_slot true this that)
+
+    slot_within : (b : Bool) → slot_length seal P (page_cut seal P c j old page) j b ≤ page_length seal P (page_cut seal P c j old page) j
+    slot_within false = omega (arith, page_length_is seal P (page_cut seal P c j old page) j)
+    slot_within true = omega (arith, page_length_is seal P (page_cut seal P c j old page) j)
+
+    -- and as far
+    pub cut_covers : ((x : List ℕ) → seal x < 2 ^ 32) → P < 2 ^ 16 → page_at P j + (P + 12) < 2 ^ 64 → length page ≤ P → page ≡ take (length page) (drop (page_at P j) c)
+        → length page ≤ page_length seal P (page_cut seal P c j old page) j
+    cut_covers fits narrow room size is = omega (arith, slot_within (not old), whole)
+      where
+        before : List ℕ
+        before = written (take (page_at P (j + 1)) c) (slot_at P j (not old)) (slot_bytes seal P page)
+
+        whole : slot_length seal P (page_cut seal P c j old page) j (not old) ≡ length page
+        whole = slot_matches seal P (page_cut seal P c j old page) j (not old) page
+            (omega (
+              arith,
+              length-written (written (take (page_at P (j + 1)) c) (slot_at P j (not old)) (slot_bytes seal P page)) (slot_at P j old) no_slot,
+              length-written (take (page_at P (j + 1)) c) (slot_at P j (not old)) (slot_bytes seal P page),
+              length-slot_bytes seal P page,
+            )) room fits size narrow
+            (λ i lt. slot_same_slot seal P before j old no_slot refl j (not old) i lt (λ same e. other_not old (sym e))
+            ∙ slot_is seal P (take (page_at P (j + 1)) c) j (not old) (slot_bytes seal P page) (length-slot_bytes seal P page) i lt)
+            (λ i lt. slot_same_data seal P before j old no_slot refl j i (omega (arith, lt, size))
+            ∙ slot_same_data seal P (take (page_at P (j + 1)) c) j (not old) (slot_bytes seal P page) (length-slot_bytes seal P page) j i (omega (arith, lt, size))
+            ∙ get_or-take (page_at P (j + 1)) c (page_at P j + i) 0 (omega (arith, lt, size, page_next P j))
+            ∙ sym (get_or-take (length page) (drop (page_at P j) c) i 0 lt ∙ get_or-drop (page_at P j) c i 0) ∙ sym (ap (λ (l : List ℕ). get_or l i 0) is))
 
     pub shorter_within : adopted_size seal P (page_cut seal P c j old page) ≤ j * P + length page
     shorter_within = size_at_most seal P (j * P + length page) (page_cut seal P c j old page) (pages_in P (page_cut seal P c j old page)) each

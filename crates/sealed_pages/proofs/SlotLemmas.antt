@@ -1,10 +1,10 @@
 -- Where pages and slots stand, and what decides whether a slot matches.
-use Rattle.std.proofs.Common.{◌≡◌, ◌⊎◌, inl, inr, ℕ, zero, suc, ◌+◌, ◌*◌, ◌<◌, ◌≤◌, leb, eqb, Bool, true, false, cond, List, ◌∷◌, ◌++◌, length, get_or, refl, sym, ◌∙◌, ap, subst, arith}
+use Rattle.std.proofs.Common.{◌≡◌, ◌⊎◌, inl, inr, ℕ, zero, suc, ◌+◌, ◌*◌, ◌^◌, ◌<◌, ◌≤◌, ◌&&◌, leb, eqb, Bool, true, false, cond, List, ◌∷◌, ◌++◌, length, get_or, refl, sym, ◌∙◌, ap, subst, arith}
 use Rattle.std.specs.Int.{w16, w32, from_be_bytes}
 use Rattle.std.proofs.Math.Nat.{mul-le-mul_right, mul-le-mul_left, le-mul_of_pos_right}
-use Rattle.std.proofs.lemmas.Bool.{cases_lt, le-leb}
+use Rattle.std.proofs.lemmas.Bool.{cases_lt, le-leb, leb-true, lt-ltb, ltb-true}
 use Rattle.std.proofs.lemmas.Bool.Decides.{leb_tells}
-use Rattle.sealed_pages.specs.Slots.{named_length, named_seal, slot_length}
+use Rattle.sealed_pages.specs.Slots.{named_length, named_seal, has_places, is_whole, slot_length}
 use Rattle.sealed_pages.specs.View.{View, view, bytes_at, page_at, slot_at}
 
 pub times_next : (k n : ℕ) → (k + 1) * n ≡ k * n + n
@@ -47,6 +47,28 @@ named_bytes v w at same = bytes_at-same v w 2 at (λ i lt. same i (omega (arith,
 pub seal_bytes : (v w : View) (at : ℕ) → ((i : ℕ) → i < 6 → v (at + i) ≡ w (at + i)) → bytes_at v (at + 2) 4 ≡ bytes_at w (at + 2) 4
 seal_bytes v w at same = bytes_at-same v w 4 (at + 2) (λ i lt. let e : at + 2 + i ≡ at + (2 + i) = omega arith in ap v e ∙ same (2 + i) (omega (arith, lt)) ∙ sym (ap w e))
 
+both_true : (x y : Bool) → (x && y) ≡ true → (x ≡ true) × (y ≡ true)
+both_true true true e = (refl, refl)
+both_true true false e = absurd (cc e)
+both_true false y e = absurd (cc e)
+
+true_both : (x y : Bool) → x ≡ true → y ≡ true → (x && y) ≡ true
+true_both x y e f = λ t. e t && f t
+
+-- a slot stands whole where its bytes are below the end, in a page that has its places
+pub whole_true : (P : ℕ) (c : List ℕ) (k : ℕ) (b : Bool) → slot_at P k b + 6 ≤ length c → page_at P k + (P + 12) < 2 ^ 64 → is_whole P c k b ≡ true
+unfolding is_whole
+whole_true P c k b stands room = true_both (leb (slot_at P k b + 6) (length c)) (has_places P k) (le-leb (slot_at P k b + 6) (length c) stands) (lt-ltb (page_at P k + (P + 12)) (2 ^ 64) room)
+
+pub whole_stands : (P : ℕ) (c : List ℕ) (k : ℕ) (b : Bool) → is_whole P c k b ≡ true → (slot_at P k b + 6 ≤ length c) × (page_at P k + (P + 12) < 2 ^ 64)
+unfolding is_whole
+whole_stands P c k b whole = let both = both_true (leb (slot_at P k b + 6) (length c)) (has_places P k) whole in (leb-true (slot_at P k b + 6) (length c) both.0, ltb-true (page_at P k + (P + 12)) (2 ^ 64) both.1)
+
+-- where both stand, one is whole as the other is
+pub whole_same : (P : ℕ) (c d : List ℕ) (k : ℕ) (b : Bool) → slot_at P k b + 6 ≤ length c → slot_at P k b + 6 ≤ length d → is_whole P c k b ≡ is_whole P d k b
+unfolding is_whole
+whole_same P c d k b in_c in_d = ap (λ (t : Bool). t && has_places P k) (le-leb (slot_at P k b + 6) (length c) in_c ∙ sym (le-leb (slot_at P k b + 6) (length d) in_d))
+
 module _ (seal : List ℕ → ℕ) (P : ℕ) where
   pick : ℕ → ℕ → ℕ → Bool → Bool → ℕ
   pick n made named short stands = cond stands (cond short (cond (eqb made named) n 0) 0) 0
@@ -62,9 +84,9 @@ module _ (seal : List ℕ → ℕ) (P : ℕ) where
       by_test false = (omega arith, inl refl)
 
   module _ (c : List ℕ) (k : ℕ) (b : Bool) where
-    parts : (slot_length seal P c k b ≤ P) × ((slot_length seal P c k b ≡ 0) ⊎ ((slot_length seal P c k b ≡ named_length (view c) (slot_at P k b)) × (leb (slot_at P k b + 6) (length c) ≡ true)))
+    parts : (slot_length seal P c k b ≤ P) × ((slot_length seal P c k b ≡ 0) ⊎ ((slot_length seal P c k b ≡ named_length (view c) (slot_at P k b)) × (is_whole P c k b ≡ true)))
     unfolding slot_length pick
-    parts = pick_le (named_length (view c) (slot_at P k b)) (seal (bytes_at (view c) (slot_at P k b) 2 ++ bytes_at (view c) (page_at P k) (named_length (view c) (slot_at P k b)))) (named_seal (view c) (slot_at P k b)) (leb (named_length (view c) (slot_at P k b)) P) (leb (slot_at P k b + 6) (length c))
+    parts = pick_le (named_length (view c) (slot_at P k b)) (seal (bytes_at (view c) (slot_at P k b) 2 ++ bytes_at (view c) (page_at P k) (named_length (view c) (slot_at P k b)))) (named_seal (view c) (slot_at P k b)) (leb (named_length (view c) (slot_at P k b)) P) (is_whole P c k b)
         (λ e. elim (leb_tells (named_length (view c) (slot_at P k b)) P) [
           | inl it ↦ it.1
           | inr it ↦ absurd (cc (e, it.0))
@@ -77,10 +99,14 @@ module _ (seal : List ℕ → ℕ) (P : ℕ) where
     pub slot_stands : 1 ≤ slot_length seal P c k b → slot_at P k b + 6 ≤ length c
     slot_stands some = elim parts.1 [
       | inl none ↦ absurd (omega (arith, some, none))
-      | inr is ↦ elim (leb_tells (slot_at P k b + 6) (length c)) [
-        | inl it ↦ it.1
-        | inr it ↦ absurd (cc (is.1, it.0))
-      ]
+      | inr is ↦ (whole_stands P c k b is.1).0
+    ]
+
+    -- its page has its places
+    pub slot_room : 1 ≤ slot_length seal P c k b → page_at P k + (P + 12) < 2 ^ 64
+    slot_room some = elim parts.1 [
+      | inl none ↦ absurd (omega (arith, some, none))
+      | inr is ↦ (whole_stands P c k b is.1).1
     ]
 
     -- a slot that matches names its length
@@ -109,7 +135,7 @@ module _ (seal : List ℕ → ℕ) (P : ℕ) where
   unfolding slot_length pick
   slot_same c d k b in_c in_d slots bytes = elim (cases_lt P (named_length (view c) (slot_at P k b))) [
     | inl past ↦ slot_past c k b past ∙ sym (slot_past d k b (subst (λ (n : ℕ). P < n) (ap (from_be_bytes w16) (named_bytes v w (slot_at P k b) slots)) past))
-    | inr fits ↦ step1 (bytes_at-same v w (named_length v (slot_at P k b)) (page_at P k) (λ i lt. bytes i lt (omega (arith, lt, fits)))) (le-leb (slot_at P k b + 6) (length c) in_c) (le-leb (slot_at P k b + 6) (length d) in_d)
+    | inr fits ↦ step1 (bytes_at-same v w (named_length v (slot_at P k b)) (page_at P k) (λ i lt. bytes i lt (omega (arith, lt, fits)))) (whole_same P c d k b in_c in_d)
         ∙ step2 (named_bytes v w (slot_at P k b) slots) (seal_bytes v w (slot_at P k b) slots)
   ]
     where
@@ -123,13 +149,13 @@ module _ (seal : List ℕ → ℕ) (P : ℕ) where
       with_bytes stands l = pick (named_length v (slot_at P k b)) (seal (bytes_at v (slot_at P k b) 2 ++ l)) (named_seal v (slot_at P k b)) (leb (named_length v (slot_at P k b)) P) stands
 
       step1 : bytes_at v (page_at P k) (named_length v (slot_at P k b)) ≡ bytes_at w (page_at P k) (named_length v (slot_at P k b))
-          → leb (slot_at P k b + 6) (length c) ≡ true → leb (slot_at P k b + 6) (length d) ≡ true
-          → slot_length seal P c k b ≡ with_bytes (leb (slot_at P k b + 6) (length d)) (bytes_at w (page_at P k) (named_length v (slot_at P k b)))
-      step1 e f g = λ t. with_bytes ((f ∙ sym g) t) (e t)
+          → is_whole P c k b ≡ is_whole P d k b
+          → slot_length seal P c k b ≡ with_bytes (is_whole P d k b) (bytes_at w (page_at P k) (named_length v (slot_at P k b)))
+      step1 e f = λ t. with_bytes (f t) (e t)
 
       step2 : bytes_at v (slot_at P k b) 2 ≡ bytes_at w (slot_at P k b) 2 → bytes_at v (slot_at P k b + 2) 4 ≡ bytes_at w (slot_at P k b + 2) 4
-          → with_bytes (leb (slot_at P k b + 6) (length d)) (bytes_at w (page_at P k) (named_length v (slot_at P k b))) ≡ slot_length seal P d k b
-      step2 e f = λ t. pick (from_be_bytes w16 (e t)) (seal (e t ++ bytes_at w (page_at P k) (from_be_bytes w16 (e t)))) (from_be_bytes w32 (f t)) (leb (from_be_bytes w16 (e t)) P) (leb (slot_at P k b + 6) (length d))
+          → with_bytes (is_whole P d k b) (bytes_at w (page_at P k) (named_length v (slot_at P k b))) ≡ slot_length seal P d k b
+      step2 e f = λ t. pick (from_be_bytes w16 (e t)) (seal (e t ++ bytes_at w (page_at P k) (from_be_bytes w16 (e t)))) (from_be_bytes w32 (f t)) (leb (from_be_bytes w16 (e t)) P) (is_whole P d k b)
 
 pub times_page : (P k : ℕ) → k * P ≤ page_at P k
 unfolding page_at

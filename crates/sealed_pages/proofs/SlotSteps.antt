@@ -8,12 +8,12 @@ use Rattle.blob_device.specs.Disk.{Blob, settled_at}
 use Rattle.blob_device.specs.Change.{Write, written}
 use Rattle.blob_device.proofs.Bytes.{length-written}
 use Rattle.sealed_pages.specs.Flushing.{with_slot, Quiet, Data, Sound, Covers, Held, Stands, Flushed}
-use Rattle.sealed_pages.specs.Slots.{named_length, named_seal, slot_length, slot_bytes}
+use Rattle.sealed_pages.specs.Slots.{named_length, named_seal, is_whole, slot_length, slot_bytes}
 use Rattle.sealed_pages.specs.View.{View, view, bytes_at, page_at, slot_at}
 use Rattle.blob_device.specs.Guards.{Guards, Avoids}
 use Rattle.blob_device.proofs.Places.{written_out, written_in}
 use Rattle.blob_device.proofs.GuardsLemmas.{guards_settled}
-use Rattle.sealed_pages.proofs.SlotLemmas.{times_more, length-bytes_at, get_or-bytes_at, slot_length-le, slot_named, slot_at_most, slot_stands, slot_same}
+use Rattle.sealed_pages.proofs.SlotLemmas.{times_more, length-bytes_at, get_or-bytes_at, whole_true, slot_length-le, slot_named, slot_at_most, slot_stands, slot_same}
 use Rattle.sealed_pages.proofs.Steps.{slot_data, data_slot, slot_slot, data_data, slot_low, named_same, tidy_sound, data_slots, data_quiet, data_same, data_below}
 
 pub quiet_more : (P F G : ℕ) (v : View) → F ≤ G → Quiet P F v → Quiet P G v
@@ -36,11 +36,11 @@ module _ (seal : List ℕ → ℕ) (P : ℕ) where
   length-slot_bytes bytes = omega (arith, length-append (to_be_bytes w16 (length bytes)) (to_be_bytes w32 (seal (to_be_bytes w16 (length bytes) ++ bytes))), length-two_bytes (length bytes), length-four_bytes (seal (to_be_bytes w16 (length bytes) ++ bytes)))
 
   -- a slot that is written over its data matches
-  pub slot_matches : (c : List ℕ) (k : ℕ) (b : Bool) (bytes : List ℕ) → slot_at P k b + 6 ≤ length c → ((x : List ℕ) → seal x < 2 ^ 32) → length bytes ≤ P → P < 2 ^ 16
+  pub slot_matches : (c : List ℕ) (k : ℕ) (b : Bool) (bytes : List ℕ) → slot_at P k b + 6 ≤ length c → page_at P k + (P + 12) < 2 ^ 64 → ((x : List ℕ) → seal x < 2 ^ 32) → length bytes ≤ P → P < 2 ^ 16
       → ((i : ℕ) → i < 6 → view c (slot_at P k b + i) ≡ get_or (slot_bytes seal P bytes) i 0) → ((i : ℕ) → i < length bytes → view c (page_at P k + i) ≡ get_or bytes i 0)
       → slot_length seal P c k b ≡ length bytes
   unfolding slot_length slot_bytes
-  slot_matches content k b bytes stands fits short small slot same = shown
+  slot_matches content k b bytes stands room fits short small slot same = shown
     where
       v : View
       v = view content
@@ -81,8 +81,8 @@ module _ (seal : List ℕ → ℕ) (P : ℕ) where
       inner : ℕ
       inner = cond (leb (named_length v (slot_at P k b)) P) (cond (eqb (seal (bytes_at v (slot_at P k b) 2 ++ bytes_at v (page_at P k) (named_length v (slot_at P k b)))) (named_seal v (slot_at P k b))) (named_length v (slot_at P k b)) 0) 0
 
-      shown : cond (leb (slot_at P k b + 6) (length content)) (cond (leb (named_length v (slot_at P k b)) P) (cond (eqb (seal (bytes_at v (slot_at P k b) 2 ++ bytes_at v (page_at P k) (named_length v (slot_at P k b)))) (named_seal v (slot_at P k b))) (named_length v (slot_at P k b)) 0) 0) 0 ≡ length bytes
-      shown = ap (λ (t : Bool). cond t inner 0) (le-leb (slot_at P k b + 6) (length content) stands) ∙ ap (λ (t : Bool). cond t (cond (eqb (seal (bytes_at v (slot_at P k b) 2 ++ bytes_at v (page_at P k) (named_length v (slot_at P k b)))) (named_seal v (slot_at P k b))) (named_length v (slot_at P k b)) 0) 0) (le-leb (named_length v (slot_at P k b)) P (omega (arith, n, short)))
+      shown : cond (is_whole P content k b) (cond (leb (named_length v (slot_at P k b)) P) (cond (eqb (seal (bytes_at v (slot_at P k b) 2 ++ bytes_at v (page_at P k) (named_length v (slot_at P k b)))) (named_seal v (slot_at P k b))) (named_length v (slot_at P k b)) 0) 0) 0 ≡ length bytes
+      shown = ap (λ (t : Bool). cond t inner 0) (whole_true P content k b stands room) ∙ ap (λ (t : Bool). cond t (cond (eqb (seal (bytes_at v (slot_at P k b) 2 ++ bytes_at v (page_at P k) (named_length v (slot_at P k b)))) (named_seal v (slot_at P k b))) (named_length v (slot_at P k b)) 0) 0) (le-leb (named_length v (slot_at P k b)) P (omega (arith, n, short)))
           ∙ ap (λ (t : Bool). cond t (named_length v (slot_at P k b)) 0) (eq-eqb (seal (bytes_at v (slot_at P k b) 2 ++ bytes_at v (page_at P k) (named_length v (slot_at P k b)))) (named_seal v (slot_at P k b)) (c ∙ sym s))
           ∙ n
 
@@ -156,11 +156,11 @@ module _ (seal : List ℕ → ℕ) (P : ℕ) where
         (data_slot P j (i - page_at P j) k a (omega (arith, page.low, page.high, slot_length-le seal P w j (σ j)))))
 
   -- both steps of a flush in page k: the content is flushed that far
-  pub flushed_page : (bytes : List ℕ) (F : ℕ) (τ : ℕ → Bool) (c : List ℕ) (k f at : ℕ) (b : Bool) (chunk page : List ℕ) → ((x : List ℕ) → seal x < 2 ^ 32) → P < 2 ^ 16 → 1 ≤ P → Flushed seal P bytes F τ c
+  pub flushed_page : (bytes : List ℕ) (F : ℕ) (τ : ℕ → Bool) (c : List ℕ) (k f at : ℕ) (b : Bool) (chunk page : List ℕ) → page_at P k + (P + 12) < 2 ^ 64 → ((x : List ℕ) → seal x < 2 ^ 32) → P < 2 ^ 16 → 1 ≤ P → Flushed seal P bytes F τ c
       → F ≡ k * P + f → f < P → at ≡ page_at P k + f → length page ≡ f + length chunk → length page ≤ P → 1 ≤ length chunk → F + length chunk ≤ length bytes
       → ((i : ℕ) → i < length chunk → get_or chunk i 0 ≡ get_or bytes (F + i) 0) → ((i : ℕ) → i < length page → get_or page i 0 ≡ get_or bytes (k * P + i) 0)
       → Flushed seal P bytes (F + length chunk) (with_slot τ k b) (written (written c at chunk) (slot_at P k b) (slot_bytes seal P page))
-  flushed_page bytes F τ c k f at b chunk page fits small pos was is short start size end some room chunk_is page_is = record {
+  flushed_page bytes F τ c k f at b chunk page places fits small pos was is short start size end some room chunk_is page_is = record {
     fits = room;
     quiet = slot_quiet c1 k b six six_is (F + length chunk) (quiet_more P F (F + length chunk) (view c1) (omega arith) quiet1)
         (λ part. omega (arith, named_is, is, size));
@@ -193,7 +193,7 @@ module _ (seal : List ℕ → ℕ) (P : ℕ) where
       data2 = slot_data_kept c1 k b six six_is bytes (F + length chunk) data1
 
       matches : slot_length seal P c2 k b ≡ length page
-      matches = slot_matches c2 k b page (omega (arith, six_is, length-written c1 (slot_at P k b) (slot_bytes seal P page))) fits end small (λ i lt. slot_is c1 k b six six_is i lt)
+      matches = slot_matches c2 k b page (omega (arith, six_is, length-written c1 (slot_at P k b) (slot_bytes seal P page))) places fits end small (λ i lt. slot_is c1 k b six six_is i lt)
           (λ i lt. data2 k i (omega (arith, lt, end)) (omega (arith, lt, size, is)) ∙ sym (page_is i lt))
 
       named_is : named_length (view c2) (slot_at P k b) ≡ length page

@@ -3,7 +3,7 @@ use Rattle.std.proofs.Common.{◌≡◌, ◌≢◌, ◌⊎◌, inl, inr, ℕ, �
 use Rattle.std.specs.Prelude.{IfSome}
 use Rattle.std.proofs.lemmas.Bool.{cases_lt, cases_order, ltb-true, ltb-false}
 use Rattle.blob_device.specs.Disk.{settled_at}
-use Rattle.sealed_pages.specs.Buffer.{extent, Buffer, bytes_of, pages_of, Adopted, IsBacked}
+use Rattle.sealed_pages.specs.Buffer.{extent, Buffer, bytes_of, pages_of, Adopted, HasFlushed}
 use Rattle.sealed_pages.specs.Flushing.{Data, Covers, Below, KeptContent, IsClean}
 use Rattle.sealed_pages.specs.Found.{Finds}
 use Rattle.sealed_pages.specs.Reading.{page_of}
@@ -67,7 +67,7 @@ module _ (seal : List ℕ → ℕ) (P : ℕ) (c : List ℕ) (page a b : ℕ) (fi
         go (inr zeros) = inr (blank_named seal P c page (not (ltb a b)) zeros)
 
 -- what the buffer has of the last page
-pub backed_of : (u : Buffer) (c : List ℕ) → u.from < u.page_size → length u.tip ≡ u.from → ((i : ℕ) → i < u.from → get_or u.tip i 0 ≡ view c (page_at u.page_size u.first + i)) → IsBacked u c
+pub backed_of : (u : Buffer) (c : List ℕ) → u.from < u.page_size → length u.tip ≡ u.from → ((i : ℕ) → i < u.from → get_or u.tip i 0 ≡ view c (page_at u.page_size u.first + i)) → HasFlushed u c
 backed_of u c begun long tip k i lt below = elim (cases_lt (k * u.page_size + i) (u.first * u.page_size)) [
   | inl front ↦ own_data u.page_size (u.first * u.page_size) (view c) k i lt front
       ∙ sym (get_or_append_left (data_from u.page_size (view c) 0 (u.first * u.page_size)) u.tip 0 (k * u.page_size + i) (omega (arith, front, len)))
@@ -160,6 +160,14 @@ module _ (seal : List ℕ → ℕ) (P : ℕ) (c : List ℕ) (found : Option Last
       go : (r : Option LastPage) → Finds seal P c r buf → StartsOver seal P c r first from newest behind torn → get_or buf i 0 ≡ view c (page_at P first + i)
       go None finds s = absurd (omega (arith, lt, s.1))
       go (Some p) finds s = here p finds s
+
+-- the slot that adopting finds covers what is in the tip
+pub starts_tip : (seal : List ℕ → ℕ) (P : ℕ) (c : List ℕ) (found : Option LastPage) (first from : ℕ) (newest behind torn : Bool) → StartsOver seal P c found first from newest behind torn → from ≤ page_length seal P c first
+starts_tip seal P c None first from newest behind torn over = omega (arith, over.1)
+starts_tip seal P c (Some p) first from newest behind torn over = elim (cases_lt 0 from) [
+  | inl some ↦ (let is = over.within some in omega (arith, over.size, ap (λ (k : ℕ). k * P) is, ap (page_length seal P c) is))
+  | inr none ↦ omega (arith, none)
+]
 
 pub extent_pages : (P first from : ℕ) → from < P → extent P (first * P + from) ≤ page_at P (pages_of first from)
 extent_pages P first from begun =

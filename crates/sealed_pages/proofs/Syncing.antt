@@ -9,7 +9,7 @@ use Rattle.sealed_pages.proofs.Adopting.{end_page, adopted_kept}
 use Rattle.sealed_pages.proofs.Keeping.{settle_any}
 use Rattle.sealed_pages.proofs.Holding.{bytes_is, bytes_length, bool_or, data_less}
 use Rattle.sealed_pages.proofs.PageCalls.{only_then, synced_any, synced_ok, data_more}
-use Rattle.sealed_pages.specs.Buffer.{Buffer, key_of, size_of, flushed_of, bytes_of, Holds, IsBacked}
+use Rattle.sealed_pages.specs.Buffer.{Buffer, key_of, size_of, flushed_of, bytes_of, Holds, HasFlushed}
 use Rattle.sealed_pages.specs.ChanceSeal.{Leaves, Sealing}
 use Rattle.sealed_pages.specs.Flushing.{last_slot, Data, Ready}
 use Rattle.sealed_pages.specs.SealedPrefix.{data_from}
@@ -23,8 +23,8 @@ flush_told seal u v n all t0 t1 t2 is first = subst (λ (x : Buffer). Holds seal
 pub bytes_longer : (u : Buffer) (more c : List ℕ) → bytes_of (record u { tip = u.tip ++ more }) c ≡ bytes_of u c ++ more
 bytes_longer u more c = sym (append_assoc (data_from u.page_size (view c) 0 (u.first * u.page_size)) u.tip more)
 
-pub backed_more : (u v : Buffer) (more c : List ℕ) → v ≡ record u { tip = u.tip ++ more } → u.from ≤ length u.tip → IsBacked u c → IsBacked v c
-backed_more u v more c is within backed = subst (λ (x : Buffer). IsBacked x c) (sym is)
+pub backed_more : (u v : Buffer) (more c : List ℕ) → v ≡ record u { tip = u.tip ++ more } → u.from ≤ length u.tip → HasFlushed u c → HasFlushed v c
+backed_more u v more c is within backed = subst (λ (x : Buffer). HasFlushed x c) (sym is)
     (subst (λ (l : List ℕ). Data u.page_size l (flushed_of u) (view c)) (sym (bytes_longer u more c)) (data_more (λ x. 0) u.page_size (bytes_of u c) more (flushed_of u) (view c) (omega (arith, bytes_length u c, within)) backed))
 
 -- once all bytes are flushed
@@ -33,7 +33,7 @@ flushed_bytes r P n all content pos page size same at long =
     let own : Data r.page_size all n (view content) = subst (λ (p : ℕ). Data p all n (view content)) (sym page) same in
     bytes_is r all content pos (data_less r.page_size n (r.first * r.page_size) all (view content) (omega (arith, size)) own) at (long ∙ sym size)
 
-pub flushed_backed : (r : Buffer) (P n : ℕ) (all content : List ℕ) → 0 < r.page_size → r.page_size ≡ P → size_of r ≡ n → Data P all n (view content) → StandsAt all (r.first * r.page_size) r.tip → length all ≡ n → r.from ≤ length r.tip → IsBacked r content
+pub flushed_backed : (r : Buffer) (P n : ℕ) (all content : List ℕ) → 0 < r.page_size → r.page_size ≡ P → size_of r ≡ n → Data P all n (view content) → StandsAt all (r.first * r.page_size) r.tip → length all ≡ n → r.from ≤ length r.tip → HasFlushed r content
 flushed_backed r P n all content pos page size same at long within =
     let own : Data r.page_size all n (view content) = subst (λ (p : ℕ). Data p all n (view content)) (sym page) same in
     subst (λ (l : List ℕ). Data r.page_size l (flushed_of r) (view content)) (sym (flushed_bytes r P n all content pos page size same at long)) (data_less r.page_size n (flushed_of r) all (view content) (omega (arith, size, within)) own)

@@ -1,5 +1,5 @@
 -- A cut of a buffer whose bytes a sync has settled first: what it owes, from what the two calls say.
-use Rattle.std.proofs.Common.{◌≡◌, ◌+◌, ◌*◌, ◌/◌, ◌%◌, ◌≤◌, ◌<◌, ◌∙◌, ◌⊎◌, min, ap, sym, subst, ℕ, Bool, List, false, length, take, refl, arith, length-take, inl, inr, Result, Ok, Err, Option, Some, None, IsSomeAnd}
+use Rattle.std.proofs.Common.{◌≡◌, ◌+◌, ◌*◌, ◌/◌, ◌%◌, ◌≤◌, ◌<◌, ◌∙◌, ◌⊎◌, min, ap, sym, subst, ℕ, Bool, List, [], false, length, take, refl, arith, length-take, inl, inr, Result, Ok, Err, Option, Some, None, IsSomeAnd}
 use Rattle.std.specs.Prelude.{IfOk, OnOk, OnErr}
 use Rattle.blob_device.specs.Counts.{Rose}
 use Rattle.blob_device.specs.Disk.{Key, Disk, Blob}
@@ -8,7 +8,9 @@ use Rattle.blob_device.specs.Timeline.{Timeline, disk}
 use Rattle.blob_device.specs.declared.runtime.RError.{RError}
 use Rattle.blob_device.specs.declared.runtime.RError.TheVariants.{Fault, InvalidChecksum, Mem}
 use Rattle.blob_device.proofs.Results.{if_ok_with, on_ok_two, on_ok, on_err}
-use Rattle.sealed_pages.specs.Buffer.{Buffer, key_of, size_of, flushed_of, bytes_of, Holds, IsSealed, IsBacked}
+use Rattle.sealed_pages.specs.Buffer.{Buffer, key_of, size_of, flushed_of, bytes_of, Holds, IsSealed, IsBacked, HasFlushed}
+use Rattle.sealed_pages.specs.Cached.{IsCachedOf, AreCachedOf}
+use Rattle.std.proofs.lemmas.List.Elements.{All-nil}
 use Rattle.sealed_pages.specs.ChanceSeal.{Leaves, Sealing}
 use Rattle.sealed_pages.specs.Cutting.{Settles, IsAtRest, FewReads}
 use Rattle.sealed_pages.specs.Entries.{IsOpenAt}
@@ -20,7 +22,7 @@ use Rattle.sealed_pages.specs.Unrecovered.{blob_of, prefix_of, SparesFront, Keep
 use Rattle.sealed_pages.specs.View.{page_at, view}
 use Rattle.sealed_pages.proofs.cutting.Calls.{sealing_less, sealing_then}
 use Rattle.sealed_pages.proofs.Fronts.{front_look, front_then, front_now}
-use Rattle.sealed_pages.proofs.Holding.{holds_data, holds_sealed, holds_bytes, bytes_length}
+use Rattle.sealed_pages.proofs.Holding.{holds_data, holds_own, holds_bytes, bytes_length}
 use Rattle.sealed_pages.proofs.Looking.{unchanged_now}
 use Rattle.sealed_pages.proofs.PageCalls.{alone_then}
 use Rattle.sealed_pages.proofs.Truncating.{all_flushed, after_sync, page_stands, cut_place, map_ok, both_ok, data_taken, settles_of, leaves_of, prefix_covers, rose_since}
@@ -44,9 +46,9 @@ pub record Synced (seal : List ℕ → ℕ) (u w : Buffer) (a b : Timeline) : Ty
   pub steady : IsUnrecovered seal u (blob_of u a) → KeepsPrefix seal u.page_size (prefix_of seal u a) (key_of u) a b
   pub unrecovered : IsUnrecovered seal u (blob_of u a) → IsUnrecovered seal w (blob_of u b)
   pub front : SparesFront (page_at u.page_size u.first) (key_of u) a b
-  pub alone : IsBacked u (blob_of u a).content → Alone (key_of u) a b
-  pub bytes : IsBacked u (blob_of u a).content → bytes_of w (blob_of u b).content ≡ meant u a
-  pub backed : IsBacked u (blob_of u a).content → IsBacked w (blob_of u b).content
+  pub alone : IsBacked seal u (blob_of u a).content → Alone (key_of u) a b
+  pub bytes : IsBacked seal u (blob_of u a).content → bytes_of w (blob_of u b).content ≡ meant u a
+  pub backed : IsBacked seal u (blob_of u a).content → IsBacked seal w (blob_of u b).content
 
 -- a place in a page, by its number and the bytes before it in the page
 pub record Place (P len j keep : ℕ) : Type 0 where
@@ -60,7 +62,8 @@ pub record Cut {T : Type 0} (see : T → Buffer) (seal : List ℕ → ℕ) (P le
   pub crashes : IsAtRest (disk b key) → page_at P j ≤ length (disk b key).content → len ≤ length (sealed_prefix seal P (disk b key).content) → Sealing seal P (sealed_prefix seal P (disk b key).content) len key b d
   pub done : IsAtRest (disk b key) → page_at P j ≤ length (disk b key).content → len ≤ length (sealed_prefix seal P (disk b key).content) → IfOk r (λ v. Holds seal (see v) (take len (sealed_prefix seal P (disk b key).content)) (disk d key))
   pub bytes : (all : List ℕ) → Data P all len (view (disk b key).content) → length all ≡ len → IfOk r (λ v. bytes_of (see v) (disk d key).content ≡ all)
-  pub backed : (all : List ℕ) → Data P all len (view (disk b key).content) → length all ≡ len → IfOk r (λ v. IsBacked (see v) (disk d key).content)
+  pub backed : (all : List ℕ) → Data P all len (view (disk b key).content) → length all ≡ len → IfOk r (λ v. HasFlushed (see v) (disk d key).content)
+  pub memory : IfOk r (λ v. ((see v).from ≤ page_length seal P (disk d key).content (see v).first) × ((see v).cache ≡ []))
   pub rests : OnOk r (IsAtRest (disk d key))
   pub alone : Alone key b d
   pub front : SparesFront (page_at P j) key b d
@@ -70,6 +73,8 @@ pub record Cut {T : Type 0} (see : T → Buffer) (seal : List ℕ → ℕ) (P le
 
 -- the buffer that a cut gives
 pub record IsCut (u : Buffer) (len j : ℕ) (v : Buffer) : Type 0 where
+  pub cache_pages : v.cache_pages ≡ u.cache_pages
+  pub cache : v.cache ≡ []
   pub key : key_of v ≡ key_of u
   pub page : v.page_size ≡ u.page_size
   pub capacity : v.capacity ≡ u.capacity
@@ -87,11 +92,13 @@ placed P q len is = subst (λ (n : ℕ). Place P len (len / n) (len % n)) (sym i
 pub cut_as : {T : Type 0} {see : T → Buffer} {seal : List ℕ → ℕ} {j keep : ℕ} {r : Result T RError} {b d : Timeline} {k l : Key} {p q n m : ℕ} → k ≡ l → p ≡ q → n ≡ m → Cut see seal p n j keep k r b d → Cut see seal q m j keep l r b d
 cut_as {see = see} {seal = seal} {j = j} {keep = keep} {r = r} {b = b} {d = d} e f h says = subst (λ (x : Key × ℕ × ℕ). Cut see seal x.1 x.2 j keep x.0 r b d) (λ t. (e t, f t, h t)) says
 
-pub is_cut : (u w v : Buffer) (len j : ℕ) (tip : List ℕ) → key_of w ≡ key_of u → w.page_size ≡ u.page_size → w.capacity ≡ u.capacity
+pub is_cut : (u w v : Buffer) (len j : ℕ) (tip : List ℕ) → key_of w ≡ key_of u → w.page_size ≡ u.page_size → w.capacity ≡ u.capacity → w.cache_pages ≡ u.cache_pages
     → v.from < v.page_size → j * w.page_size + length tip ≡ len
-    → v ≡ record w { end = v.end; first = j; tip = tip; from = length tip; settled = j * w.page_size + length tip; newest = v.newest; behind = false; torn = false }
+    → v ≡ record w { end = v.end; first = j; tip = tip; from = length tip; settled = j * w.page_size + length tip; newest = v.newest; behind = false; torn = false; cache = [] }
     → IsCut u len j v
-is_cut u w v len j tip key page capacity begun at is = record {
+is_cut u w v len j tip key page capacity pages begun at is = record {
+  cache_pages = ap (λ (x : Buffer). x.cache_pages) is ∙ pages;
+  cache = ap (λ (x : Buffer). x.cache) is;
   key = ap key_of is ∙ key;
   page = ap (λ (x : Buffer). x.page_size) is ∙ page;
   capacity = ap (λ (x : Buffer). x.capacity) is ∙ capacity;
@@ -181,11 +188,22 @@ module _ {T : Type 0} {see : T → Buffer} {seal : List ℕ → ℕ} {u w : Buff
   whole : length (meant u a) ≡ size_of u
   whole = bytes_length u (blob_of u a).content
 
+  -- what a cut buffer has in memory
+  abbrev HasMemory : Buffer → Type 0
+  HasMemory v = (v.from ≤ page_length seal u.page_size (blob_of u d).content v.first) × (v.cache ≡ [])
+
+  backed_cut : (v : Buffer) → v.page_size ≡ u.page_size → HasFlushed v (blob_of u d).content → HasMemory v → IsBacked seal v (blob_of u d).content
+  backed_cut v same flushed memory = record {
+    flushed = flushed;
+    tip = subst (λ (p : ℕ). v.from ≤ page_length seal p (blob_of u d).content v.first) (sym same) memory.0;
+    cache = subst (λ (l : List (ℕ × List ℕ)). AreCachedOf seal v.page_size (blob_of u d).content l) (sym memory.1) (All-nil (IsCachedOf seal v.page_size (blob_of u d).content));
+  }
+
   -- the bytes of a sealed buffer
   sealed_so_far : IsSealed seal u (blob_of u a) → Reached seal u.page_size len j (meant u a) (blob_of u b)
   sealed_so_far sealed =
-      let same = s.bytes (holds_data seal u (meant u a) (blob_of u a) sealed) in
-      let t : Settles seal u.page_size (meant u a) (blob_of u b) = after_sync seal u w (blob_of u a) (blob_of u b) s.page s.begun s.within s.order s.settled (s.sealed sealed) same in
+      let same = s.bytes sealed.backed in
+      let t : Settles seal u.page_size (meant u a) (blob_of u b) = after_sync seal u w (blob_of u a) (blob_of u b) s.page s.begun s.within s.order s.settled (s.sealed sealed).holds same in
       record {
         rest = t.rest;
         stands = page_stands seal u.page_size (blob_of u b).content j (omega (arith, t.adopted, whole, place.at, lt));
@@ -225,8 +243,11 @@ module _ {T : Type 0} {see : T → Buffer} {seal : List ℕ → ℕ} {u w : Buff
         (λ v m. leaves_of seal (see v) u.page_size len (take len all) (blob_of u d) m.1.page m.1.begun m.1.settled m.0) held_marked
 
     sealed_of : IfOk r (λ v. IsSealed seal (see v) (blob_of u d))
-    sealed_of = map_ok r (λ v. Holds seal (see v) (take len all) (blob_of u d) × IsCut u len j (see v)) (λ v. IsSealed seal (see v) (blob_of u d))
-        (λ v m. holds_sealed seal (see v) (take len all) (blob_of u d) (omega (arith, m.1.begun)) m.0) held_marked
+    sealed_of = map_ok r (λ v. (Holds seal (see v) (take len all) (blob_of u d) × IsCut u len j (see v)) × HasMemory (see v)) (λ v. IsSealed seal (see v) (blob_of u d))
+        (λ v m. let own = holds_own seal (see v) (take len all) (blob_of u d) (omega (arith, m.0.1.begun)) m.0.0 in record {
+          holds = own;
+          backed = backed_cut (see v) m.0.1.page (holds_data seal (see v) (bytes_of (see v) (blob_of u d).content) (blob_of u d) own) m.1;
+        }) (both_ok r (λ v. Holds seal (see v) (take len all) (blob_of u d) × IsCut u len j (see v)) (λ v. HasMemory (see v)) held_marked k.memory)
 
     bytes_cut : IfOk r (λ v. bytes_of (see v) (blob_of u d).content ≡ take len all)
     bytes_cut = map_ok r (λ v. Holds seal (see v) (take len all) (blob_of u d) × IsCut u len j (see v)) (λ v. bytes_of (see v) (blob_of u d).content ≡ take len all)
@@ -242,26 +263,29 @@ module _ {T : Type 0} {see : T → Buffer} {seal : List ℕ → ℕ} {u w : Buff
   cut_recovering recovery = sealing_then seal u.page_size (prefix_of seal u a) len (key_of u) a b d
       (keeps_sealing seal u.page_size (prefix_of seal u a) (key_of u) len a b recovery.1 (s.steady recovery.0)) (told (prefix_so_far recovery))
 
-  pub cut_alone : IsBacked u (blob_of u a).content → Alone (key_of u) a d
+  pub cut_alone : IsBacked seal u (blob_of u a).content → Alone (key_of u) a d
   cut_alone backed = alone_then a b d (key_of u) (s.alone backed) k.alone
 
   far : flushed_of w ≡ size_of u
   far = omega (arith, all_flushed w s.within s.order s.settled, s.size)
 
-  own : IsBacked u (blob_of u a).content → Data u.page_size (meant u a) (size_of u) (view (blob_of u b).content)
-  own backed = subst (λ (x : List ℕ × ℕ × ℕ). Data x.2 x.0 x.1 (view (blob_of u b).content)) (λ i. (s.bytes backed i, far i, s.page i)) (s.backed backed)
+  own : IsBacked seal u (blob_of u a).content → Data u.page_size (meant u a) (size_of u) (view (blob_of u b).content)
+  own backed = subst (λ (x : List ℕ × ℕ × ℕ). Data x.2 x.0 x.1 (view (blob_of u b).content)) (λ i. (s.bytes backed i, far i, s.page i)) (s.backed backed).flushed
 
-  left : IsBacked u (blob_of u a).content → Data u.page_size (take len (meant u a)) len (view (blob_of u b).content)
+  left : IsBacked seal u (blob_of u a).content → Data u.page_size (take len (meant u a)) len (view (blob_of u b).content)
   left backed = data_taken u.page_size (meant u a) (size_of u) len (view (blob_of u b).content) (omega (arith, lt)) (own backed)
 
   long : length (take len (meant u a)) ≡ len
   long = omega (arith, length-take len (meant u a), whole, lt)
 
-  pub cut_bytes_are : IsBacked u (blob_of u a).content → IfOk r (λ v. bytes_of (see v) (blob_of u d).content ≡ take len (meant u a))
+  pub cut_bytes_are : IsBacked seal u (blob_of u a).content → IfOk r (λ v. bytes_of (see v) (blob_of u d).content ≡ take len (meant u a))
   cut_bytes_are backed = k.bytes (take len (meant u a)) (left backed) long
 
-  pub cut_is_backed : IsBacked u (blob_of u a).content → IfOk r (λ v. IsBacked (see v) (blob_of u d).content)
-  cut_is_backed backed = k.backed (take len (meant u a)) (left backed) long
+  pub cut_is_backed : IsBacked seal u (blob_of u a).content → IfOk r (λ v. IsBacked seal (see v) (blob_of u d).content)
+  cut_is_backed backed = map_ok r (λ v. HasFlushed (see v) (blob_of u d).content × (HasMemory (see v) × IsCut u len j (see v))) (λ v. IsBacked seal (see v) (blob_of u d).content)
+      (λ v m. backed_cut (see v) m.1.1.page m.0 m.1.0)
+      (both_ok r (λ v. HasFlushed (see v) (blob_of u d).content) (λ v. HasMemory (see v) × IsCut u len j (see v)) (k.backed (take len (meant u a)) (left backed) long)
+      (both_ok r (λ v. HasMemory (see v)) (λ v. IsCut u len j (see v)) k.memory x.marks))
 
   -- behind the sealed prefix of an adopted blob
   less : IsUnrecovered seal u (blob_of u a) → length (prefix_of seal u a) < len → length (prefix_of seal u b) < j * u.page_size + keep
@@ -309,7 +333,7 @@ module _ {T : Type 0} {see : T → Buffer} {seal : List ℕ → ℕ} {u w : Buff
     pub refused_front : SparesFront (page_at u.page_size u.first) (key_of u) a d
     refused_front = front_then (page_at u.page_size u.first) (key_of u) a b d s.front (front_look (page_at u.page_size u.first) (key_of u) b d (k.refused short))
 
-    pub refused_data : IsBacked u (blob_of u a).content → Data u.page_size (meant u a) (size_of u) (view (blob_of u d).content)
+    pub refused_data : IsBacked seal u (blob_of u a).content → Data u.page_size (meant u a) (size_of u) (view (blob_of u d).content)
     refused_data backed = subst (λ (x : Blob). Data u.page_size (meant u a) (size_of u) (view x.content)) (sym still) (own backed)
 
     pub refused_rests : IsAtRest (blob_of u b) → IsAtRest (blob_of u d)
@@ -338,7 +362,7 @@ module _ {T : Type 0} {see : T → Buffer} {seal : List ℕ → ℕ} {u w : Buff
 
   pub cut_unrecovered : IsUnrecovered seal u (blob_of u a) → length (prefix_of seal u a) < len → IfOk r (λ v. IsUnrecovered seal (see v) (blob_of u d))
   cut_unrecovered un past = if_ok_with {Q = (keep ≤ page_length seal u.page_size (blob_of u b).content j) × IsAtRest (blob_of u d)} r (on_ok_two r (λ x y. (x, y)) k.covered k.rests)
-      (both_ok r (λ v. IsCut u len j (see v)) (λ v. IsBacked (see v) (blob_of u d).content) x.marks (cut_is_backed un.backed))
+      (both_ok r (λ v. IsCut u len j (see v)) (λ v. IsBacked seal (see v) (blob_of u d).content) x.marks (cut_is_backed un.backed))
       (λ v both is. subst (λ (p : ℕ). length (sealed_prefix seal p (blob_of u b).content) < j * p + keep → SparesFront (page_at p j) (key_of u) b d → keep ≤ page_length seal p (blob_of u b).content j → (see v).page_size ≡ p
       → IsUnrecovered seal (see v) (blob_of u d)) s.page
       (λ lt spares covered same. cut_stays seal w pos (key_of u) b d (s.unrecovered un) j keep lt spares covered (see v) same is.0.first is.1 both.1) (less un past) k.front both.0 is.0.page)

@@ -1,5 +1,5 @@
 -- A buffer that is cut: what it holds before and after.
-use Rattle.std.proofs.Common.{eqb, ◌≡◌, ◌≢◌, ◌⊎◌, inl, inr, ℕ, ◌+◌, ◌-◌, ◌*◌, ◌/◌, ◌%◌, ◌^◌, ◌<◌, ◌≤◌, ◌||◌, not, min, Bool, false, cond, List, length, get_or, take, drop, Result, Ok, Err, refl, sym, ◌∙◌, ap, subst, arith, length-take, IsErrAnd}
+use Rattle.std.proofs.Common.{eqb, ◌≡◌, ◌≢◌, ◌⊎◌, inl, inr, ℕ, ◌+◌, ◌-◌, ◌*◌, ◌/◌, ◌%◌, ◌^◌, ◌<◌, ◌≤◌, ◌||◌, not, min, Bool, false, cond, List, [], length, get_or, take, drop, Result, Ok, Err, refl, sym, ◌∙◌, ap, subst, arith, length-take, IsErrAnd}
 use Rattle.std.proofs.lemmas.Bool.{cases_lt, cases_eq, eq-eqb, ne_eqb}
 use Rattle.std.proofs.lemmas.List.{get_or-take, get_or-drop}
 use Rattle.blob_device.specs.Change.{written, resized}
@@ -17,7 +17,7 @@ use Rattle.blob_device.specs.declared.runtime.RError.TheVariants.{Fault, Invalid
 use Rattle.std.proofs.Math.Nat.{div-mul-le_self, mod-eq-sub-div-mul}
 use Rattle.std.proofs.lemmas.Nat.{le-div}
 use Rattle.sealed_pages.specs.ChanceSeal.{Leaves, Sealing}
-use Rattle.sealed_pages.specs.Buffer.{extent, Buffer, size_of, flushed_of, bytes_of, Holds, IsBacked}
+use Rattle.sealed_pages.specs.Buffer.{extent, Buffer, size_of, flushed_of, bytes_of, Holds, HasFlushed}
 use Rattle.sealed_pages.specs.Cutting.{IsAtRest, Settles, page_cut}
 use Rattle.sealed_pages.specs.Flushing.{Alone, with_slot, next_slot, no_slot, Quiet, Data, Sound, Covers, Stands, Below, Ready}
 use Rattle.sealed_pages.specs.Reading.{Unchanged}
@@ -159,7 +159,7 @@ module _ (seal : List ℕ → ℕ) (P : ℕ) where
     }
 
 -- what a cut buffer holds
-pub holds_cut : (seal : List ℕ → ℕ) (u v : Buffer) (all : List ℕ) (b : Blob) (j end : ℕ) (tip : List ℕ) (newest : Bool) → v ≡ record u { end = end; first = j; tip = tip; from = length tip; settled = j * u.page_size + length tip; newest = newest; behind = false; torn = false }
+pub holds_cut : (seal : List ℕ → ℕ) (u v : Buffer) (all : List ℕ) (b : Blob) (j end : ℕ) (tip : List ℕ) (newest : Bool) → v ≡ record u { end = end; first = j; tip = tip; from = length tip; settled = j * u.page_size + length tip; newest = newest; behind = false; torn = false; cache = [] }
     → Ready seal u.page_size all (j * u.page_size + length tip) (j * u.page_size + length tip) newest b → StandsAt all (j * u.page_size) tip → length all ≡ j * u.page_size + length tip → Holds seal v all b
 holds_cut seal u v all b j end tip newest is ready at size = subst (λ (x : Buffer). Holds seal x all b) (sym is) (record {
   state = record { ready = λ e. ready; adopted = λ e. absurd (cc e) };
@@ -185,10 +185,10 @@ head_stands P all c j n tip le is long size same = record {
 }
 
 -- what a cut buffer means
-pub cut_bytes : (u v : Buffer) (all content : List ℕ) (j end : ℕ) (tip : List ℕ) (newest : Bool) → 1 ≤ u.page_size → v ≡ record u { end = end; first = j; tip = tip; from = length tip; settled = j * u.page_size + length tip; newest = newest; behind = false; torn = false }
+pub cut_bytes : (u v : Buffer) (all content : List ℕ) (j end : ℕ) (tip : List ℕ) (newest : Bool) → 1 ≤ u.page_size → v ≡ record u { end = end; first = j; tip = tip; from = length tip; settled = j * u.page_size + length tip; newest = newest; behind = false; torn = false; cache = [] }
     → Data u.page_size all (j * u.page_size + length tip) (view content) → StandsAt all (j * u.page_size) tip → length all ≡ j * u.page_size + length tip → bytes_of v content ≡ all
 cut_bytes u v all content j end tip newest pos is same at size = ap (λ (x : Buffer). bytes_of x content) is
-    ∙ bytes_is (record u { end = end; first = j; tip = tip; from = length tip; settled = j * u.page_size + length tip; newest = newest; behind = false; torn = false }) all content pos
+    ∙ bytes_is (record u { end = end; first = j; tip = tip; from = length tip; settled = j * u.page_size + length tip; newest = newest; behind = false; torn = false; cache = [] }) all content pos
     (data_less u.page_size (j * u.page_size + length tip) (j * u.page_size) all (view content) (omega arith) same) at size
 
 pub stands_none : (all tip : List ℕ) (at : ℕ) → length tip ≡ 0 → at ≤ length all → StandsAt all at tip
@@ -311,11 +311,11 @@ rose_since a b n le rose = omega (arith, le, rose)
 pub data_taken : (P : ℕ) (all : List ℕ) (F L : ℕ) (v : View) → L ≤ F → Data P all F v → Data P (take L all) L v
 data_taken P all F L v le same k i lt below = same k i lt (omega (arith, below, le)) ∙ sym (get_or-take L all (k * P + i) 0 below)
 
-pub cut_backed : (u v : Buffer) (all content : List ℕ) (j end : ℕ) (tip : List ℕ) (newest : Bool) → 1 ≤ u.page_size → v ≡ record u { end = end; first = j; tip = tip; from = length tip; settled = j * u.page_size + length tip; newest = newest; behind = false; torn = false }
-    → Data u.page_size all (j * u.page_size + length tip) (view content) → StandsAt all (j * u.page_size) tip → length all ≡ j * u.page_size + length tip → IsBacked v content
+pub cut_backed : (u v : Buffer) (all content : List ℕ) (j end : ℕ) (tip : List ℕ) (newest : Bool) → 1 ≤ u.page_size → v ≡ record u { end = end; first = j; tip = tip; from = length tip; settled = j * u.page_size + length tip; newest = newest; behind = false; torn = false; cache = [] }
+    → Data u.page_size all (j * u.page_size + length tip) (view content) → StandsAt all (j * u.page_size) tip → length all ≡ j * u.page_size + length tip → HasFlushed v content
 cut_backed u v all content j end tip newest pos is same at size =
-    let w : Buffer = record u { end = end; first = j; tip = tip; from = length tip; settled = j * u.page_size + length tip; newest = newest; behind = false; torn = false } in
-    subst (λ (x : Buffer). IsBacked x content) (sym is)
+    let w : Buffer = record u { end = end; first = j; tip = tip; from = length tip; settled = j * u.page_size + length tip; newest = newest; behind = false; torn = false; cache = [] } in
+    subst (λ (x : Buffer). HasFlushed x content) (sym is)
     (subst (λ (l : List ℕ). Data u.page_size l (j * u.page_size + length tip) (view content)) (sym (cut_bytes u w all content j end tip newest pos refl same at size)) same)
 
 -- no moment passed

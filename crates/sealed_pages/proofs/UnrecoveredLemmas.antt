@@ -189,7 +189,7 @@ module _ (seal : List ℕ → ℕ) (u : Buffer) where
     now : HasFront (page_at u.page_size (un.page + 1)) (view (disk a key).content) (disk b key)
     now = (front_now (page_at u.page_size end) key a b spares).crashes (page_at u.page_size (un.page + 1)) (view (disk a key).content) reach un.front
 
-    pub spared_stays : (v : Buffer) → v.page_size ≡ u.page_size → un.page < v.first → IsBacked v (disk b key).content → (v.settled ≡ size_of v → IsAtRest (disk b key)) → IsHad (disk b key) → IsUnrecovered seal v (disk b key)
+    pub spared_stays : (v : Buffer) → v.page_size ≡ u.page_size → un.page < v.first → IsBacked seal v (disk b key).content → (v.settled ≡ size_of v → IsAtRest (disk b key)) → IsHad (disk b key) → IsUnrecovered seal v (disk b key)
     spared_stays v same below backed rest had = record {
       page = un.page;
       below = below;
@@ -214,7 +214,7 @@ module _ (seal : List ℕ → ℕ) (u : Buffer) where
   pub settled_keeps : {T : Type 0} (key : Key) (a b : Timeline) (r : Result T DevError) → IsUnrecovered seal u (disk a key) → Passes key Settle r a b → KeepsPrefix seal u.page_size (sealed_prefix seal u.page_size (disk a key).content) key a b
   settled_keeps key a b r un passes = spared_keeps key a b un u.first un.below (front_settle (page_at u.page_size u.first) key a a b r (front_start (page_at u.page_size u.first) key a) passes)
 
-  pub settled_stays : {T : Type 0} (key : Key) (a b : Timeline) (x : T) (v : Buffer) → IsUnrecovered seal u (disk a key) → Passes key Settle (Ok x) a b → v.page_size ≡ u.page_size → v.first ≡ u.first → IsBacked v (disk b key).content → IsUnrecovered seal v (disk b key)
+  pub settled_stays : {T : Type 0} (key : Key) (a b : Timeline) (x : T) (v : Buffer) → IsUnrecovered seal u (disk a key) → Passes key Settle (Ok x) a b → v.page_size ≡ u.page_size → v.first ≡ u.first → IsBacked seal v (disk b key).content → IsUnrecovered seal v (disk b key)
   settled_stays key a b x v un passes same first backed = spared_stays key a b un u.first un.below (front_settle (page_at u.page_size u.first) key a a b (Ok x) (front_start (page_at u.page_size u.first) key a) passes) v same (omega (arith, un.below, first)) backed
       (λ e. settled_rest (disk b key) (disk a key).content (ok_blob key Settle x a b passes)) (had_rest (disk b key) (settled_rest (disk b key) (disk a key).content (ok_blob key Settle x a b passes)))
 
@@ -225,7 +225,11 @@ module _ (seal : List ℕ → ℕ) (u : Buffer) where
     below = un.below;
     short = un.short;
     front = un.front;
-    backed = backed_more u (record u { tip = u.tip ++ more }) more b.content refl within un.backed;
+    backed = record {
+      flushed = backed_more u (record u { tip = u.tip ++ more }) more b.content refl within un.backed.flushed;
+      tip = un.backed.tip;
+      cache = un.backed.cache;
+    };
     rest = λ e. un.rest (omega (arith, e, order, length-append u.tip more));
     had = un.had;
   })
@@ -282,7 +286,7 @@ module _ (seal : List ℕ → ℕ) (u : Buffer) (pos : 1 ≤ u.page_size) where
       | inr short ↦ spared_keeps seal u key a b un u.first un.below (front_look (page_at u.page_size u.first) key a b (refused short))
     ]
 
-    pub cut_stays : keep ≤ page_length seal u.page_size (disk a key).content j → (v : Buffer) → v.page_size ≡ u.page_size → v.first ≡ j → IsBacked v (disk b key).content → IsAtRest (disk b key) → IsUnrecovered seal v (disk b key)
+    pub cut_stays : keep ≤ page_length seal u.page_size (disk a key).content j → (v : Buffer) → v.page_size ≡ u.page_size → v.first ≡ j → IsBacked seal v (disk b key).content → IsAtRest (disk b key) → IsUnrecovered seal v (disk b key)
     cut_stays covered v same first backed rest = elim (behind_prefix seal u (disk a key) j keep pos un less) [
       | inl before ↦ spared_stays seal u key a b before.0 j before.1 spares v same (omega (arith, before.1, first)) backed (λ e. rest) (had_rest (disk b key) rest)
       | inr short ↦ absurd (omega (arith, short, covered))
@@ -296,7 +300,7 @@ pages_span first from = elim (cases_lt 0 from) [
 
 -- an adopted blob whose sealed prefix is shorter than its size
 pub adopted_unrecovered : (seal : List ℕ → ℕ) (u : Buffer) (c : List ℕ) (found : Option LastPage) (buf : List ℕ) → 1 ≤ u.page_size → Finds seal u.page_size c found buf → StartsOver seal u.page_size c found u.first u.from u.newest u.behind u.torn
-    → IsBacked u c → length (sealed_prefix seal u.page_size c) < adopted_size seal u.page_size c → IsUnrecovered seal u (settled_at c)
+    → IsBacked seal u c → length (sealed_prefix seal u.page_size c) < adopted_size seal u.page_size c → IsUnrecovered seal u (settled_at c)
 adopted_unrecovered seal u c found buf pos finds over backed less = go found finds over
   where
     go : (r : Option LastPage) → Finds seal u.page_size c r buf → StartsOver seal u.page_size c r u.first u.from u.newest u.behind u.torn → IsUnrecovered seal u (settled_at c)
@@ -357,6 +361,6 @@ adopted_sealed seal u b (inl sealed) full = sealed
 adopted_sealed seal u b (inr un) full = absurd (omega (arith, un.short, full un.page un.below))
 
 -- what is flushed stands in the blob
-pub adopted_backed : (seal : List ℕ → ℕ) (u : Buffer) (b : Blob) → IsAdopted seal u b → IsBacked u b.content
-adopted_backed seal u b (inl sealed) = holds_data seal u (bytes_of u b.content) b sealed
+pub adopted_backed : (seal : List ℕ → ℕ) (u : Buffer) (b : Blob) → IsAdopted seal u b → IsBacked seal u b.content
+adopted_backed seal u b (inl sealed) = sealed.backed
 adopted_backed seal u b (inr un) = un.backed

@@ -4,7 +4,7 @@ use Rattle.blob_device.specs.Disk.{Key, Blob, settled_at}
 use Rattle.blob_device.specs.Guards.{Sealed}
 use Rattle.blob_device.specs.Timeline.{Timeline, disk, Always, OnlyAt}
 use Rattle.sealed_pages.specs.View.{View, view, page_at, slot_at, Within}
-use Rattle.sealed_pages.specs.Slots.{named_length, slot_length}
+use Rattle.sealed_pages.specs.Slots.{named_length, slot_length, page_length}
 use Rattle.sealed_pages.specs.ChanceSeal.{Sealing}
 use Rattle.sealed_pages.specs.Contents.{IsHad}
 
@@ -95,6 +95,10 @@ module _ (seal : List ℕ → ℕ) (P : ℕ) where
   pub record PageFlushed {T E : Type 0} (bytes : List ℕ) (G L : ℕ) (newest : Bool) (key : Key) (result : Result T E) (old new : Timeline) : Type 0 where
     pub any_moment : Sealing seal P bytes L key old new
     pub done : OnOk result (Ready bytes G L newest (disk new key))
+
+-- each page from `first` on that begins below G is covered as far as G goes
+abbrev pub CoversFrom : (List ℕ → ℕ) → ℕ → List ℕ → ℕ → ℕ → Type 0
+CoversFrom seal P c first G = (k : ℕ) → first ≤ k → k * P < G → min P (G - k * P) ≤ page_length seal P c k
 
 -- no other blob changes at any moment
 abbrev pub Alone : Key → Timeline → Timeline → Type 0

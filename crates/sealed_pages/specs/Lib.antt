@@ -3,6 +3,7 @@
 -- crash leaves what was synced and not written since (`Writing`, `Sparing`). Both stand on one blob each, and touch no other.
 pub mod View
 pub mod Slots
+pub mod Cached
 pub mod SealedPrefix
 pub mod ChanceSeal
 pub mod Flushing
@@ -22,7 +23,6 @@ pub mod Reads
 pub mod Leftover
 pub mod Reopening
 pub mod Pieces
-pub mod Held
 pub mod Proven
 pub mod Readers
 pub mod Tails

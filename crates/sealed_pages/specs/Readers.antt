@@ -1,17 +1,16 @@
 -- What a reader over a sealed blob shows: a position, and the bytes at hand there.
-use Rattle.std.specs.Prelude.{◌≡◌, ℕ, ◌+◌, ◌-◌, ◌/◌, ◌≤◌, min, List, length, drop, string_bytes}
+use Rattle.std.specs.Prelude.{◌≡◌, ℕ, ◌+◌, ◌-◌, ◌/◌, ◌<◌, ◌≤◌, min, List, length, drop, get_or, string_bytes}
 use Rattle.blob_device.specs.Disk.{Key}
 use Rattle.blob_device.specs.Opened.{OpenedList, reads_of}
-use Rattle.sealed_pages.specs.declared.held.HeldPages.{HeldPages}
 use Rattle.sealed_pages.specs.declared.piece.Piece.{Piece}
 use Rattle.sealed_pages.specs.declared.replay.PageReplay.{PageReplay}
-use Rattle.sealed_pages.specs.Held.{AreHeldOf}
 use Rattle.sealed_pages.specs.Pieces.{IsPieceOf, next_missing}
-use Rattle.sealed_pages.specs.Reads.{IsCovered, pages_for}
+use Rattle.sealed_pages.specs.Reads.{IsCovered}
 use Rattle.sealed_pages.specs.SealedPrefix.{data_from}
-use Rattle.sealed_pages.specs.View.{view}
+use Rattle.sealed_pages.specs.Slots.{page_length}
+use Rattle.sealed_pages.specs.View.{view, page_at}
 
--- `end` is the physical end of the blob, `size` the number of its bytes
+-- `end` is the physical end of the blob, `size` the number of its bytes. `tip` has those of a last page that is not full.
 pub record Reader : Type 0 where
   pub key : Key
   pub page_size : ℕ
@@ -20,7 +19,7 @@ pub record Reader : Type 0 where
   pub at : ℕ
   pub bytes : List ℕ
   pub piece : Piece
-  pub pages : HeldPages
+  pub tip : List ℕ
 
 abbrev pub reading : {S : Type 0} {g : _} → PageReplay S g → Reader
 reading r = record {
@@ -31,7 +30,7 @@ reading r = record {
   at = r.at;
   bytes = drop r.used r.held.items;
   piece = r.piece;
-  pages = r.pages;
+  tip = r.tip.items;
 }
 
 -- where the next byte stands that is not at hand
@@ -42,9 +41,14 @@ next_of r = r.at + length r.bytes
 abbrev pub missing_of : Reader → ℕ → ℕ
 missing_of r n = min (r.size - r.at) n - length r.bytes
 
--- how many of the blob's pages, from that of the next byte on, are not yet read
+-- how many of the blob's full pages, from that of the next byte on, are not yet read
 abbrev pub unread_of : Reader → ℕ
-unread_of r = pages_for r.page_size r.size - next_missing r.piece (next_of r / r.page_size)
+unread_of r = r.size / r.page_size - next_missing r.piece (next_of r / r.page_size)
+
+-- The tip is as the content has it in this page, and a matching slot covers it.
+pub record IsTipOf (seal : List ℕ → ℕ) (P : ℕ) (content : List ℕ) (k : ℕ) (tip : List ℕ) : Type 0 where
+  pub same : (i : ℕ) → i < length tip → get_or tip i 0 ≡ view content (page_at P k + i)
+  pub covered : length tip ≤ page_length seal P content k
 
 -- The bytes at hand are those of the content at the position, and matching slots cover each page that has one of them, as far as
 -- they go.
@@ -52,7 +56,7 @@ pub record IsReplayOf (seal : List ℕ → ℕ) (content : List ℕ) (r : Reader
   pub bytes : r.bytes ≡ data_from r.page_size (view content) r.at (length r.bytes)
   pub covered : IsCovered seal r.page_size content r.at (length r.bytes)
   pub piece : IsPieceOf content r.piece
-  pub pages : AreHeldOf content r.pages
+  pub tip : IsTipOf seal r.page_size content (r.size / r.page_size) r.tip
 
 -- Reads that began on the blob, and pages that are not yet read, come to no more than before: each read takes a page that was not.
 abbrev pub ReadsUnread : Reader → Reader → OpenedList → OpenedList → Type 0

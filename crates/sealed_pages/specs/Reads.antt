@@ -1,5 +1,7 @@
 -- Which pages a read of n bytes from byte m on touches, and how far it needs them covered.
-use Rattle.std.specs.Prelude.{◌≡◌, ◌⊎◌, ℕ, ◌+◌, ◌*◌, ◌-◌, ◌/◌, ◌^◌, ◌<◌, ◌≤◌, min, eqb, cond, List}
+use Rattle.std.specs.Prelude.{◌≡◌, ◌⊎◌, ℕ, ◌+◌, ◌*◌, ◌-◌, ◌/◌, ◌^◌, ◌<◌, ◌≤◌, min, eqb, cond, true, List}
+use Rattle.sealed_pages.specs.Buffer.{Buffer, size_of, cached, is_cached}
+use Rattle.sealed_pages.specs.Cached.{uncached}
 use Rattle.sealed_pages.specs.SealedPrefix.{adopted_size}
 use Rattle.sealed_pages.specs.Slots.{page_length}
 
@@ -44,6 +46,14 @@ module _ (seal : List ℕ → ℕ) (P : ℕ) where
     pub fits : m + n < 2 ^ 64
     pub past : adopted_size seal P c < m + n
 
--- each of the bytes stands in the tip, which begins with page `first` and ends at the size
-abbrev pub IsHeld : ℕ → ℕ → ℕ → ℕ → ℕ → Type 0
-IsHeld P first size m n = (i : ℕ) → m ≤ i → i < m + n → (first * P ≤ i) × (i < size)
+  -- so it is for the last n bytes of what adopting finds
+  abbrev pub IsTailShort : List ℕ → ℕ → ℕ → Type 0
+  IsTailShort c n k = (n ≤ adopted_size seal P c) × IsShort c (adopted_size seal P c - n) n k
+
+-- Each of n bytes from byte m on is in memory: it stands in the tip, or in a page that is cached.
+abbrev pub IsHeld : Buffer → ℕ → ℕ → Type 0
+IsHeld u m n = (i : ℕ) → m ≤ i → i < m + n → (i < size_of u) × ((u.first * u.page_size ≤ i) ⊎ (is_cached u (i / u.page_size) ≡ true))
+
+-- how many pages have one of these bytes that is not in memory
+abbrev pub missing_pages : Buffer → ℕ → ℕ → ℕ
+missing_pages u m n = uncached (cached u) (m / u.page_size) (touched u.page_size m (below u.page_size u.first m n))

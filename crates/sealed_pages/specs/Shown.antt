@@ -2,6 +2,7 @@
 use Rattle.std.specs.Prelude.{string_bytes}
 use Rattle.sealed_pages.specs.declared.page_blob.PageBlob.{PageBlob}
 use Rattle.sealed_pages.specs.Buffer.{Buffer}
+use Rattle.sealed_pages.specs.Cached.{held_in}
 
 abbrev pub shown : {S : Type 0} {g : _} → PageBlob S g → Buffer
 shown p = record {
@@ -9,6 +10,8 @@ shown p = record {
   name = p.name.items;
   page_size = p.page_size;
   capacity = p.capacity;
+  cache_pages = p.cache.most;
+  cache = held_in p.cache;
   end = p.end;
   first = p.first;
   tip = p.tip.items;

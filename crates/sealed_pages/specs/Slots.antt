@@ -1,5 +1,5 @@
 -- Pages with two slots each, under any seal: which slots of a content match, and how far a page is covered.
-use Rattle.std.specs.Prelude.{ℕ, ◌+◌, ◌++◌, leb, ltb, eqb, max, Bool, true, false, cond, List, length}
+use Rattle.std.specs.Prelude.{ℕ, ◌+◌, ◌^◌, ◌++◌, ◌&&◌, leb, ltb, eqb, max, Bool, true, false, cond, List, length}
 use Rattle.std.specs.Int.{w16, w32, to_be_bytes, from_be_bytes}
 use Rattle.sealed_pages.specs.View.{View, view, bytes_at, page_at, slot_at}
 
@@ -11,16 +11,25 @@ named_length v at = from_be_bytes w16 (bytes_at v at 2)
 abbrev pub named_seal : View → ℕ → ℕ
 named_seal v at = from_be_bytes w32 (bytes_at v (at + 2) 4)
 
+-- Page k, with both its slots, ends below 2^64. A page that does not can not have both: it counts as one without a matching slot.
+abbrev pub has_places : ℕ → ℕ → Bool
+has_places P k = ltb (page_at P k + (P + 12)) (2 ^ 64)
+
+-- the six bytes of a slot stand below the content's end, in a page that has its places
+unfoldable pub is_whole : ℕ → List ℕ → ℕ → Bool → Bool
+is_whole P c k second = leb (slot_at P k second + 6) (length c) && has_places P k
+
 module _ (seal : List ℕ → ℕ) (P : ℕ) where
   -- the seal over the two length bytes and the data bytes that the slot covers
   abbrev pub computed_seal : View → ℕ → ℕ → ℕ → ℕ
   computed_seal v page slot n = seal (bytes_at v slot 2 ++ bytes_at v page n)
 
-  -- The length of a slot that matches, else 0. A slot matches where its six bytes stand whole below the content's end, its
-  -- length is 1 to P, and its seal holds. (One that names the length 0 is like one that does not match.)
+  -- The length of a slot that matches, else 0. A slot matches where its six bytes stand whole below the content's end, in a
+  -- page that has its places, its length is 1 to P, and its seal holds. (One that names the length 0 is like one that does not
+  -- match.)
   unfoldable pub slot_length : List ℕ → ℕ → Bool → ℕ
   slot_length c k second = let n = named_length (view c) (slot_at P k second) in
-      cond (leb (slot_at P k second + 6) (length c))
+      cond (is_whole P c k second)
       (cond (leb n P) (cond (eqb (computed_seal (view c) (page_at P k) (slot_at P k second) n) (named_seal (view c) (slot_at P k second))) n 0) 0)
       0
 

@@ -51,7 +51,7 @@ pub record IsUnrecovered (seal : List ℕ → ℕ) (u : Buffer) (b : Blob) : Typ
   pub below : page < u.first
   pub short : page_length seal u.page_size b.content page < u.page_size
   pub front : HasFront (page_at u.page_size (page + 1)) (view b.content) b
-  pub backed : IsBacked u b.content
+  pub backed : IsBacked seal u b.content
   pub rest : u.settled ≡ size_of u → IsAtRest b
   pub had : IsHad b
 

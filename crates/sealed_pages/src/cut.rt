@@ -219,7 +219,7 @@ pub fn read_head<D: Device, S: Seal>(
 ) -> Result<Head, RError>
     requires open { IsOpenAt (D.opened dev.old) (partition.now, name.now) end }
     requires some { 0 < keep }
-    requires room { page_at page_size page < 2 ^ 64 }
+    requires room { page_at page_size page + (page_size + 12) < 2 ^ 64 }
     ensures covered { D.Tells → OnOk result (keep ≤ page_length S.seal_of page_size (disk (D.time dev.old) (partition.now, name.now)).content page) }
     ensures best { D.Tells → IfOk result (λ h. best_slot S.seal_of page_size (disk (D.time dev.old) (partition.now, name.now)).content page ≡ h.second) }
     ensures bytes { D.Tells → IfOk result (λ h. h.bytes.items ≡ take keep (drop (page_at page_size page) (disk (D.time dev.old) (partition.now, name.now)).content)) }

@@ -3,7 +3,7 @@ ghost use Rattle.std.specs.Prelude.{◌≡◌, ◌≢◌, ◌+◌, ◌*◌, ◌�
 ghost use Rattle.blob_device.specs.Timeline.{disk};
 ghost use Rattle.blob_device.specs.Counts.{Rose};
 ghost use Rattle.sealed_pages.specs.View.{view, page_at, StandsAt};
-ghost use Rattle.sealed_pages.specs.Flushing.{Ready, PageFlushed, Data, Wrote, next_slot};
+ghost use Rattle.sealed_pages.specs.Flushing.{Ready, PageFlushed, Data, Wrote, CoversFrom, next_slot};
 ghost use Rattle.sealed_pages.specs.Contents.{IsHad};
 ghost use Rattle.sealed_pages.specs.Entries.{IsOpenAt, NoReads};
 ghost use Rattle.sealed_pages.specs.Leftover.{SettlesNothing};
@@ -52,6 +52,11 @@ pub fn flush_pages<D: Device, S: Seal>(
         → Data page_size all (first * page_size + from) (view (disk (D.time dev.old) (partition.now, name.now)).content)
         → StandsAt all (first * page_size) tip.now
         → Wrote page_size all (first * page_size + length tip.now) (partition.now, name.now) result (D.time dev.old) (D.time dev.new) }
+    ensures covers { D.Tells → (all : List ℕ)
+        → from < length tip.now
+        → Data page_size all (first * page_size + from) (view (disk (D.time dev.old) (partition.now, name.now)).content)
+        → StandsAt all (first * page_size) tip.now
+        → OnOk result (CoversFrom S.seal_of page_size (disk (D.time dev.new) (partition.now, name.now)).content first (first * page_size + length tip.now)) }
     ensures front { D.Tells → SparesFront (page_at page_size first) (partition.now, name.now) (D.time dev.old) (D.time dev.new) }
     ensures stays { D.Tells → SettlesNothing (partition.now, name.now) (D.time dev.old) (D.time dev.new) }
     ensures had { D.Tells → IsHad (disk (D.time dev.old) (partition.now, name.now)) → OnOk result (IsHad (disk (D.time dev.new) (partition.now, name.now))) }

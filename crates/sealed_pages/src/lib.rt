@@ -13,9 +13,9 @@
 //! ```
 #![tactic(auto)]
 
+mod cache;
 mod cut;
 mod flush;
-mod held;
 mod page;
 mod page_blob;
 mod pages;

@@ -3,7 +3,7 @@ ghost use Rattle.std.specs.Prelude.{◌≡◌, ◌≢◌, ◌+◌, ◌*◌, ◌�
 ghost use Rattle.blob_device.specs.Timeline.{disk};
 ghost use Rattle.blob_device.specs.Counts.{Rose};
 ghost use Rattle.sealed_pages.specs.View.{view, page_at, slot_at, StandsAt};
-ghost use Rattle.sealed_pages.specs.Slots.{slot_bytes};
+ghost use Rattle.sealed_pages.specs.Slots.{slot_bytes, page_length};
 ghost use Rattle.sealed_pages.specs.Flushing.{Ready, PageFlushed, Data, Wrote, next_slot};
 ghost use Rattle.sealed_pages.specs.Contents.{IsHad};
 ghost use Rattle.sealed_pages.specs.Entries.{IsOpenAt, NoReads};
@@ -67,6 +67,10 @@ pub fn write_page<D: Device, S: Seal>(
         → Data page_size all (page * page_size + from) (view (disk (D.time dev.old) (partition.now, name.now)).content)
         → StandsAt all (page * page_size) bytes.now
         → Wrote page_size all (page * page_size + length bytes.now) (partition.now, name.now) result (D.time dev.old) (D.time dev.new) }
+    ensures covers { D.Tells → (all : List ℕ)
+        → Data page_size all (page * page_size + from) (view (disk (D.time dev.old) (partition.now, name.now)).content)
+        → StandsAt all (page * page_size) bytes.now
+        → OnOk result (length bytes.now ≤ page_length S.seal_of page_size (disk (D.time dev.new) (partition.now, name.now)).content page) }
     ensures front { D.Tells → SparesFront (page_at page_size page) (partition.now, name.now) (D.time dev.old) (D.time dev.new) }
     ensures stays { D.Tells → SettlesNothing (partition.now, name.now) (D.time dev.old) (D.time dev.new) }
     ensures had { D.Tells → OnOk result (IsHad (disk (D.time dev.new) (partition.now, name.now))) }

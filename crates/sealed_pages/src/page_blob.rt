@@ -51,7 +51,7 @@
 // one call more. A read makes one call a page that is not held. A cut inside a page reads it, and makes up to
 // three changes, each with a sync. Adopting reads page by page from the last one back to one with a matching
 // slot.
-ghost use Rattle.std.specs.Prelude.{◌≡◌, ◌≢◌, ◌+◌, ◌*◌, ◌≤◌, ◌<◌, ◌^◌, ◌-◌, ◌++◌, ◌↔◌, ◌==◌, ◌||◌, ◌⊎◌, Err, not, length, drop, take, IfOk, IfSome, IsOkAnd, OnOk, OnErr, Bool, true, false, ℕ, List, IsTrue};
+ghost use Rattle.std.specs.Prelude.{◌≡◌, ◌≢◌, ◌+◌, ◌*◌, ◌≤◌, ◌<◌, ◌^◌, ◌-◌, ◌++◌, ◌↔◌, ◌==◌, ◌||◌, ◌⊎◌, Err, [], not, length, drop, take, IfOk, IfSome, IsOkAnd, OnOk, OnErr, Bool, true, false, ℕ, List, IsTrue};
 ghost use Rattle.std.specs.Result.{IsErrOf};
 ghost use Rattle.blob_device.specs.declared.runtime.RError.TheVariants.{Fault, OffsetOverflow};
 ghost use Rattle.blob_device.specs.Timeline.{disk};
@@ -59,20 +59,19 @@ ghost use Rattle.blob_device.specs.Counts.{Rose};
 ghost use Rattle.sealed_pages.specs.View.{page_at};
 ghost use Rattle.sealed_pages.specs.ChanceSeal.{Leaves, Sealing};
 ghost use Rattle.sealed_pages.specs.Flushing.{Alone, last_slot};
-ghost use Rattle.sealed_pages.specs.Buffer.{Fit, Buffer, extent, key_of, size_of, bytes_of, flushed_of, FlushesNothing, Holds, IsSealed};
+ghost use Rattle.sealed_pages.specs.Buffer.{Fit, Buffer, extent, key_of, size_of, bytes_of, flushed_of, FlushesNothing, AddsPages, FlushesInto, Holds, IsSealed};
 ghost use Rattle.sealed_pages.specs.Contents.{IsHad};
 ghost use Rattle.sealed_pages.specs.Entries.{IsOpenAt, NoReads};
 ghost use Rattle.sealed_pages.specs.Cutting.{IsAtRest, Settles};
-ghost use Rattle.sealed_pages.specs.Held.{AreHeldOf};
-ghost use Rattle.sealed_pages.specs.Reading.{page_of};
+ghost use Rattle.sealed_pages.specs.Cached.{held_in, AreFull};
 
 mod cutting;
 mod reads;
 
 use crate::Pages;
+use crate::cache::PageCache;
 use crate::flush::{flush_pages, next_slot_of};
-use crate::held::HeldPages;
-use crate::reading::{LastPage, find_last};
+use crate::reading::find_last;
 use crate::repair::repair;
 use crate::start::start_of;
 use blob_device::{DevError, Device, RError};
@@ -83,8 +82,8 @@ use value_codec::Seal;
 /// A buffer over an opened blob whose pages carry two seals each.
 ///
 /// The tip is held in memory: the bytes of a last page that is not full, and all bytes that are not flushed.
-/// So is the page that adopting read, until the blob is written to, unless `cache_pages` is 0: an opening
-/// reads it no second time. A refused call gives the buffer up; the blob is then opened and adopted again.
+/// So are the full pages that were flushed last, at most `cache_pages` of them. A read fills nothing. A refused
+/// call gives the buffer up; the blob is then opened and adopted again.
 #[derive(Drop)]
 pub struct PageBlob<S: Seal> {
     /// Where memory for tips and pages comes from.
@@ -114,8 +113,8 @@ pub struct PageBlob<S: Seal> {
     behind: bool,
     /// Whether that page's other slot is torn. The first flush clears it (`Leftover.torn_is`).
     torn: bool,
-    /// Pages as they were read. A write to the blob drops them all (`AreHeldOf`).
-    held: HeldPages,
+    /// The full pages that were flushed last. They are as in the blob (`IsBacked.cache`).
+    cache: PageCache,
     /// The kind of seal; no data.
     seal: PhantomData<S>,
     // The tip begins where a page does, and all pages with their slots end below 2^64.
@@ -124,6 +123,10 @@ pub struct PageBlob<S: Seal> {
     ghost inside: { torn ≡ true → 0 < from },
     // No more has settled than is flushed.
     ghost order: { settled ≤ first * page_size + from },
+    // The pages that are held stand below the tip, and are whole.
+    ghost full: { AreFull page_size first (held_in cache) },
+    // There are no more of them than the cache takes.
+    ghost few: { length (held_in cache) ≤ cache.most },
 }
 
 /// Takes the first n bytes away.
@@ -165,20 +168,6 @@ fn last_slot_of(
     next_slot_of(page_size, page, settled, newest)
 }
 
-// The page that was found, to be held, where pages are held.
-fn held_of(pages: Pages, found: &Option<LastPage>, bytes: Vec<u8>) -> HeldPages
-    requires wide { length bytes.items ≡ pages.page_size + 12 }
-    requires within { IfSome found.now (λ p. p.have ≤ pages.page_size + 12) }
-    ensures { (c : List ℕ) → IfSome found.now (λ p. take p.have bytes.items ≡ page_of pages.page_size c p.page) → AreHeldOf c result }
-{
-    match found {
-        Some(last) if pages.cache_pages > 0 => {
-            HeldPages::of_page(pages.page_size, last.page, bytes, last.have)
-        }
-        _ => HeldPages::none(),
-    }
-}
-
 impl<S: Seal> PageBlob<S> {
     ghost use Rattle.sealed_pages.specs.Shown.{shown};
     ghost use Rattle.sealed_pages.specs.SealedPrefix.{sealed_prefix, adopted_size};
@@ -186,14 +175,12 @@ impl<S: Seal> PageBlob<S> {
     ghost use Rattle.sealed_pages.specs.View.{view, StandsAt};
     ghost use Rattle.sealed_pages.specs.Buffer.{IsBacked, has_leftover};
     ghost use Rattle.sealed_pages.specs.Tails.{LeavesTail};
-    ghost use Rattle.sealed_pages.specs.Flushing.{Data, Wrote};
+    ghost use Rattle.sealed_pages.specs.Flushing.{Data, Wrote, CoversFrom};
     ghost use Rattle.blob_device.specs.Timeline.{Always, OnlyAt};
     ghost use Rattle.sealed_pages.specs.Leftover.{Leftover, IsCleared, ClearsFirst, SettlesNothing};
     ghost use Rattle.sealed_pages.specs.Unrecovered.{blob_of, prefix_of, SparesFront, KeepsPrefix, IsUnrecovered, IsAdopted};
 
-    /// Adopts an opened blob of this length. The size goes back to the last page with a matching slot.
-    ///
-    /// It answers `OffsetOverflow` exactly where a page behind the blob's end would pass the greatest `u64`.
+    /// Adopts an opened blob of this length. The size goes back to the last page with a matching slot. No page is held then.
     pub fn adopt<D: Device>(
         alloc: Global,
         dev: &mut D,
@@ -206,7 +193,7 @@ impl<S: Seal> PageBlob<S> {
         requires valid { 1 ≤ pages.page_size }
         requires open { IsOpenAt (D.opened dev.old) (partition.now, name.now) size }
         ensures size { D.Tells → IfOk result (λ r. size_of (shown r) ≡ adopted_size S.seal_of pages.page_size (disk (D.time dev.old) (partition.now, name.now)).content) }
-        ensures backed { D.Tells → IfOk result (λ r. IsBacked (shown r) (disk (D.time dev.old) (partition.now, name.now)).content) }
+        ensures backed { D.Tells → IfOk result (λ r. IsBacked S.seal_of (shown r) (disk (D.time dev.old) (partition.now, name.now)).content) }
         // Where the blob has settled, and its sealed prefix is the size, the promise on crashes begins.
         ensures sealed { D.Tells → IsAtRest (disk (D.time dev.old) (partition.now, name.now))
             → length (sealed_prefix S.seal_of pages.page_size (disk (D.time dev.old) (partition.now, name.now)).content) ≡ adopted_size S.seal_of pages.page_size (disk (D.time dev.old) (partition.now, name.now)).content
@@ -217,7 +204,8 @@ impl<S: Seal> PageBlob<S> {
             → IfOk result (λ r. IsUnrecovered S.seal_of (shown r) (disk (D.time dev.old) (partition.now, name.now))) }
         ensures adopted { D.Tells → IsAtRest (disk (D.time dev.old) (partition.now, name.now)) → IfOk result (λ r. IsAdopted S.seal_of (shown r) (disk (D.time dev.old) (partition.now, name.now))) }
         ensures leftover { D.Tells → IfOk result (λ r. Leftover S.seal_of r.page_size (disk (D.time dev.old) (partition.now, name.now)).content r.first r.from r.newest r.behind r.torn) }
-        ensures held { D.Tells → IfOk result (λ r. AreHeldOf (disk (D.time dev.old) (partition.now, name.now)).content r.held) }
+        ensures cache { IfOk result (λ r. (shown r).cache ≡ []) }
+        ensures cache_pages { IfOk result (λ r. (shown r).cache_pages ≡ pages.cache_pages) }
         ensures unchanged { D.Tells → Unchanged (D.time dev.old) (D.time dev.new) }
         ensures settled { IfOk result (λ r. r.settled ≡ size_of (shown r)) }
         ensures key { IfOk result (λ r. key_of (shown r) ≡ (partition.now, name.now)) }
@@ -226,15 +214,10 @@ impl<S: Seal> PageBlob<S> {
         ensures end { IfOk result (λ r. r.end ≡ size) }
         ensures open { IfOk result (λ r. IsOpenAt (D.opened dev.new) (key_of (shown r)) r.end) }
         ensures entries { OnlyRead (partition.now, name.now) (D.opened dev.old) (D.opened dev.new) }
-        ensures overflow { IsErrOf result OffsetOverflow ↔ 2 ^ 64 ≤ size + (pages.page_size + 12) }
-        ensures refused { IsErrOf result OffsetOverflow → dev.new ≡ dev.old }
         ensures faults { D.faults dev.old ≤ D.faults dev.new }
-        ensures cause { OnErr result ((result ≡ Err RError.OffsetOverflow) ⊎ ((result ≡ Err RError.Mem) ⊎ ((result ≡ Err RError.Fault) × Rose (D.faults dev.old) (D.faults dev.new)))) }
+        ensures cause { OnErr result ((result ≡ Err RError.Mem) ⊎ ((result ≡ Err RError.Fault) × Rose (D.faults dev.old) (D.faults dev.new))) }
     {
         let unit = usize::from(pages.page_size) + 12;
-        if u64::MAX - size < unit as u64 {
-            return Err(RError::OffsetOverflow);
-        }
         let mut bytes = vec![in alloc; 0; unit]?;
         let buf = bytes.as_mut_slice();
         let found = find_last::<D, S>(dev, partition, name, pages.page_size, size, buf)?;
@@ -243,7 +226,6 @@ impl<S: Seal> PageBlob<S> {
         let partition = String::from_str(alloc, partition)?;
         let name = name.to_vec(alloc)?;
         let tip = page[..start.from].to_vec(alloc)?;
-        let held = held_of(pages, &found, bytes);
         Ok(PageBlob {
             alloc,
             partition,
@@ -258,7 +240,7 @@ impl<S: Seal> PageBlob<S> {
             newest: start.newest,
             behind: start.behind,
             torn: start.torn,
-            held,
+            cache: PageCache::new(pages.cache_pages),
             seal: PhantomData,
         })
     }
@@ -306,7 +288,6 @@ impl<S: Seal> PageBlob<S> {
         ensures cleared { D.Tells → IsAtRest (blob_of (shown self) (D.time dev.old)) → Leftover S.seal_of self.page_size (blob_of (shown self) (D.time dev.old)).content self.first self.from self.newest self.behind self.torn → OnOk result (IsCleared S.seal_of self.page_size self.first self.from self.newest (blob_of (shown self) (D.time dev.new)).settled) }
         ensures settles { D.Tells → (self.behind || self.torn) ≡ true → OnOk result (IsAtRest (disk (D.time dev.new) (key_of (shown self)))) }
         ensures had { D.Tells → IsHad (blob_of (shown self) (D.time dev.old)) → OnOk result (IsHad (blob_of (shown self) (D.time dev.new))) }
-        ensures held { D.Tells → AreHeldOf (disk (D.time dev.old) (key_of (shown self))).content self.held → IfOk result (λ r. AreHeldOf (disk (D.time dev.new) (key_of (shown self))).content r.held) }
         ensures same { IfOk result (λ r. shown r ≡ record (shown self) { end = r.end; behind = false; torn = false }) }
         ensures length { IfOk result (λ r. IsOpenAt (D.opened dev.new) (key_of (shown self)) r.end) }
         ensures entries { NoReads (key_of (shown self)) (D.opened dev.old) (D.opened dev.new) }
@@ -332,7 +313,6 @@ impl<S: Seal> PageBlob<S> {
         this.end = end;
         this.behind = false;
         this.torn = false;
-        this.held = HeldPages::none();
         Ok(this)
     }
 
@@ -350,10 +330,12 @@ impl<S: Seal> PageBlob<S> {
         ensures front { D.Tells → SparesFront (page_at self.page_size self.first) (key_of (shown self)) (D.time dev.old) (D.time dev.new) }
         ensures stays { D.Tells → SettlesNothing (key_of (shown self)) (D.time dev.old) (D.time dev.new) }
         ensures had { D.Tells → IsHad (blob_of (shown self) (D.time dev.old)) → OnOk result (IsHad (blob_of (shown self) (D.time dev.new))) }
-        ensures held { IfOk result (λ r. (c : List ℕ) → AreHeldOf c r.held) }
-        ensures same { IfOk result (λ r. shown r ≡ record (shown self) { end = r.end; first = r.first; tip = r.tip.items; from = length r.tip.items }) }
-        ensures size { IfOk result (λ r. size_of (shown r) ≡ size_of (shown self)) }
-        ensures tip { IfOk result (λ r. (all : List ℕ) → StandsAt all (self.first * self.page_size) self.tip.items → StandsAt all (r.first * r.page_size) r.tip.items) }
+        // Each page of the tip is covered as far as it goes.
+        ensures covers { D.Tells → (all : List ℕ) → Data self.page_size all (flushed_of (shown self)) (view (disk (D.time dev.old) (key_of (shown self))).content)
+            → StandsAt all (self.first * self.page_size) self.tip.items
+            → self.from < length self.tip.items
+            → OnOk result (CoversFrom S.seal_of self.page_size (disk (D.time dev.new) (key_of (shown self))).content self.first (size_of (shown self))) }
+        ensures into { IfOk result (λ r. FlushesInto (shown self) (shown r)) }
         ensures length { IfOk result (λ r. IsOpenAt (D.opened dev.new) (key_of (shown self)) r.end) }
         ensures entries { NoReads (key_of (shown self)) (D.opened dev.old) (D.opened dev.new) }
         ensures faults { D.faults dev.old ≤ D.faults dev.new }
@@ -386,9 +368,11 @@ impl<S: Seal> PageBlob<S> {
             newest,
             behind,
             torn,
+            cache,
             seal,
             ..
         } = self;
+        let cache = cache.put_full(alloc, page_size, first, tip.as_slice())?;
         drop_front(&mut tip, full * size);
         let from = tip.len();
         Ok(PageBlob {
@@ -405,7 +389,7 @@ impl<S: Seal> PageBlob<S> {
             newest,
             behind,
             torn,
-            held: HeldPages::none(),
+            cache,
             seal,
         })
     }
@@ -424,14 +408,16 @@ impl<S: Seal> PageBlob<S> {
             → KeepsPrefix S.seal_of self.page_size (prefix_of S.seal_of (shown self) (D.time dev.old)) (key_of (shown self)) (D.time dev.old) (D.time dev.new) }
         ensures unrecovered { D.Tells → IsUnrecovered S.seal_of (shown self) (blob_of (shown self) (D.time dev.old)) → IfOk result (λ r. IsUnrecovered S.seal_of (shown r) (blob_of (shown self) (D.time dev.new))) }
         ensures front { D.Tells → SparesFront (page_at self.page_size self.first) (key_of (shown self)) (D.time dev.old) (D.time dev.new) }
+        // What a crash left in the blob is gone for good before the first byte is written.
         ensures clears { D.Tells → IsAtRest (blob_of (shown self) (D.time dev.old)) → Leftover S.seal_of self.page_size (blob_of (shown self) (D.time dev.old)).content self.first self.from self.newest self.behind self.torn → Always (D.time dev.old) (D.time dev.new) (OnlyAt (key_of (shown self)) (disk (D.time dev.old)) (ClearsFirst S.seal_of self.page_size self.first self.from self.newest)) }
-        ensures backed { D.Tells → IsBacked (shown self) (blob_of (shown self) (D.time dev.old)).content → IfOk result (λ r. IsBacked (shown r) (blob_of (shown self) (D.time dev.new)).content) }
-        ensures held { D.Tells → AreHeldOf (disk (D.time dev.old) (key_of (shown self))).content self.held → IfOk result (λ r. AreHeldOf (disk (D.time dev.new) (key_of (shown self))).content r.held) }
+        ensures backed { D.Tells → IsBacked S.seal_of (shown self) (blob_of (shown self) (D.time dev.old)).content → IfOk result (λ r. IsBacked S.seal_of (shown r) (blob_of (shown self) (D.time dev.new)).content) }
+        ensures cached { IfOk result (λ r. AddsPages (shown self) (shown r)) }
         ensures idle { length self.tip.items ≤ self.from → dev.new ≡ dev.old }
         ensures fine { length self.tip.items ≤ self.from → IsOkAnd result (λ r. shown r ≡ shown self) }
         ensures key { IfOk result (λ r. key_of (shown r) ≡ key_of (shown self)) }
         ensures page_size { IfOk result (λ r. r.page_size ≡ self.page_size) }
         ensures capacity { IfOk result (λ r. r.capacity ≡ self.capacity) }
+        ensures cache_pages { IfOk result (λ r. (shown r).cache_pages ≡ (shown self).cache_pages) }
         ensures settled { IfOk result (λ r. r.settled ≡ self.settled) }
         ensures newest { IfOk result (λ r. r.newest ≡ self.newest) }
         ensures flushed { IfOk result (λ r. r.from ≡ length r.tip.items) }
@@ -461,19 +447,16 @@ impl<S: Seal> PageBlob<S> {
             → Sealing S.seal_of self.page_size (bytes_of (shown self) (disk (D.time dev.old) (key_of (shown self))).content ++ bytes.now) self.settled (key_of (shown self)) (D.time dev.old) (D.time dev.new) }
         ensures sealed { D.Tells → IsSealed S.seal_of (shown self) (disk (D.time dev.old) (key_of (shown self)))
             → IfOk result (λ r. IsSealed S.seal_of (shown r.0) (disk (D.time dev.new) (key_of (shown self)))) }
-        // What a crash left in the blob is gone for good before the first byte is written.
-        ensures clears { D.Tells → IsAtRest (blob_of (shown self) (D.time dev.old)) → Leftover S.seal_of self.page_size (blob_of (shown self) (D.time dev.old)).content self.first self.from self.newest self.behind self.torn
-            → Always (D.time dev.old) (D.time dev.new) (OnlyAt (key_of (shown self)) (disk (D.time dev.old)) (ClearsFirst S.seal_of self.page_size self.first self.from self.newest)) }
         // Where the sealed prefix of an adopted blob is shorter than its size, each crash leaves that prefix as it was.
         ensures steady { D.Tells → IsUnrecovered S.seal_of (shown self) (blob_of (shown self) (D.time dev.old))
             → KeepsPrefix S.seal_of self.page_size (prefix_of S.seal_of (shown self) (D.time dev.old)) (key_of (shown self)) (D.time dev.old) (D.time dev.new) }
         ensures unrecovered { D.Tells → IsUnrecovered S.seal_of (shown self) (blob_of (shown self) (D.time dev.old)) → IfOk result (λ r. IsUnrecovered S.seal_of (shown r.0) (blob_of (shown self) (D.time dev.new))) }
-        ensures alone { D.Tells → IsBacked (shown self) (disk (D.time dev.old) (key_of (shown self))).content → Alone (key_of (shown self)) (D.time dev.old) (D.time dev.new) }
-        ensures bytes { D.Tells → IsBacked (shown self) (disk (D.time dev.old) (key_of (shown self))).content
+        ensures alone { D.Tells → IsBacked S.seal_of (shown self) (disk (D.time dev.old) (key_of (shown self))).content → Alone (key_of (shown self)) (D.time dev.old) (D.time dev.new) }
+        ensures bytes { D.Tells → IsBacked S.seal_of (shown self) (disk (D.time dev.old) (key_of (shown self))).content
             → IfOk result (λ r. bytes_of (shown r.0) (disk (D.time dev.new) (key_of (shown self))).content ≡ bytes_of (shown self) (disk (D.time dev.old) (key_of (shown self))).content ++ bytes.now) }
-        ensures backed { D.Tells → IsBacked (shown self) (disk (D.time dev.old) (key_of (shown self))).content
-            → IfOk result (λ r. IsBacked (shown r.0) (disk (D.time dev.new) (key_of (shown self))).content) }
-        ensures held { D.Tells → AreHeldOf (disk (D.time dev.old) (key_of (shown self))).content self.held → IfOk result (λ r. AreHeldOf (disk (D.time dev.new) (key_of (shown self))).content r.0.held) }
+        ensures backed { D.Tells → IsBacked S.seal_of (shown self) (disk (D.time dev.old) (key_of (shown self))).content
+            → IfOk result (λ r. IsBacked S.seal_of (shown r.0) (disk (D.time dev.new) (key_of (shown self))).content) }
+        ensures cached { IfOk result (λ r. AddsPages (shown self) (shown r.0)) }
         // Below the capacity, and where nothing is to be flushed, no call of the device is made, and so none fails.
         ensures below { FlushesNothing (shown self) (length bytes.now) → dev.new ≡ dev.old }
         ensures faultless { FlushesNothing (shown self) (length bytes.now) → OnErr result ((result ≡ Err RError.OffsetOverflow) ⊎ (result ≡ Err RError.Mem)) }
@@ -485,6 +468,7 @@ impl<S: Seal> PageBlob<S> {
         ensures key { IfOk result (λ r. key_of (shown r.0) ≡ key_of (shown self)) }
         ensures page_size { IfOk result (λ r. r.0.page_size ≡ self.page_size) }
         ensures capacity { IfOk result (λ r. r.0.capacity ≡ self.capacity) }
+        ensures cache_pages { IfOk result (λ r. (shown r.0).cache_pages ≡ (shown self).cache_pages) }
         ensures settled { IfOk result (λ r. r.0.settled ≡ self.settled) }
         ensures open { IfOk result (λ r. IsOpenAt (D.opened dev.new) (key_of (shown r.0)) r.0.end) }
         ensures entries { NoReads (key_of (shown self)) (D.opened dev.old) (D.opened dev.new) }
@@ -514,21 +498,18 @@ impl<S: Seal> PageBlob<S> {
             → Sealing S.seal_of self.page_size (bytes_of (shown self) (disk (D.time dev.old) (key_of (shown self))).content) self.settled (key_of (shown self)) (D.time dev.old) (D.time dev.new) }
         ensures sealed { D.Tells → IsSealed S.seal_of (shown self) (disk (D.time dev.old) (key_of (shown self)))
             → IfOk result (λ r. IsSealed S.seal_of (shown r) (disk (D.time dev.new) (key_of (shown self)))) }
-        // What a crash left in the blob is gone for good before the first byte is written.
-        ensures clears { D.Tells → IsAtRest (blob_of (shown self) (D.time dev.old)) → Leftover S.seal_of self.page_size (blob_of (shown self) (D.time dev.old)).content self.first self.from self.newest self.behind self.torn
-            → Always (D.time dev.old) (D.time dev.new) (OnlyAt (key_of (shown self)) (disk (D.time dev.old)) (ClearsFirst S.seal_of self.page_size self.first self.from self.newest)) }
         // Where the sealed prefix of an adopted blob is shorter than its size, each crash leaves that prefix as it was.
         ensures steady { D.Tells → IsUnrecovered S.seal_of (shown self) (blob_of (shown self) (D.time dev.old))
             → KeepsPrefix S.seal_of self.page_size (prefix_of S.seal_of (shown self) (D.time dev.old)) (key_of (shown self)) (D.time dev.old) (D.time dev.new) }
         ensures unrecovered { D.Tells → IsUnrecovered S.seal_of (shown self) (blob_of (shown self) (D.time dev.old)) → IfOk result (λ r. IsUnrecovered S.seal_of (shown r) (blob_of (shown self) (D.time dev.new))) }
         // The pages below the tip's stand as they did.
         ensures front { D.Tells → SparesFront (page_at self.page_size self.first) (key_of (shown self)) (D.time dev.old) (D.time dev.new) }
-        ensures alone { D.Tells → IsBacked (shown self) (disk (D.time dev.old) (key_of (shown self))).content → Alone (key_of (shown self)) (D.time dev.old) (D.time dev.new) }
-        ensures bytes { D.Tells → IsBacked (shown self) (disk (D.time dev.old) (key_of (shown self))).content
+        ensures alone { D.Tells → IsBacked S.seal_of (shown self) (disk (D.time dev.old) (key_of (shown self))).content → Alone (key_of (shown self)) (D.time dev.old) (D.time dev.new) }
+        ensures bytes { D.Tells → IsBacked S.seal_of (shown self) (disk (D.time dev.old) (key_of (shown self))).content
             → IfOk result (λ r. bytes_of (shown r) (disk (D.time dev.new) (key_of (shown self))).content ≡ bytes_of (shown self) (disk (D.time dev.old) (key_of (shown self))).content) }
-        ensures backed { D.Tells → IsBacked (shown self) (disk (D.time dev.old) (key_of (shown self))).content
-            → IfOk result (λ r. IsBacked (shown r) (disk (D.time dev.new) (key_of (shown self))).content) }
-        ensures held { D.Tells → AreHeldOf (disk (D.time dev.old) (key_of (shown self))).content self.held → IfOk result (λ r. AreHeldOf (disk (D.time dev.new) (key_of (shown self))).content r.held) }
+        ensures backed { D.Tells → IsBacked S.seal_of (shown self) (disk (D.time dev.old) (key_of (shown self))).content
+            → IfOk result (λ r. IsBacked S.seal_of (shown r) (disk (D.time dev.new) (key_of (shown self))).content) }
+        ensures cached { IfOk result (λ r. AddsPages (shown self) (shown r)) }
         ensures idle { self.settled ≡ size_of (shown self) → dev.new ≡ dev.old }
         ensures same { self.settled ≡ size_of (shown self) → IsOkAnd result (λ r. shown r ≡ shown self) }
         // What has settled outlives each crash.
@@ -544,6 +525,7 @@ impl<S: Seal> PageBlob<S> {
         ensures key { IfOk result (λ r. key_of (shown r) ≡ key_of (shown self)) }
         ensures page_size { IfOk result (λ r. r.page_size ≡ self.page_size) }
         ensures capacity { IfOk result (λ r. r.capacity ≡ self.capacity) }
+        ensures cache_pages { IfOk result (λ r. (shown r).cache_pages ≡ (shown self).cache_pages) }
         ensures open { IfOk result (λ r. IsOpenAt (D.opened dev.new) (key_of (shown r)) r.end) }
         ensures entries { NoReads (key_of (shown self)) (D.opened dev.old) (D.opened dev.new) }
         ensures faults { D.faults dev.old ≤ D.faults dev.new }

@@ -2,13 +2,11 @@
 ghost use Rattle.std.specs.Prelude.{◌≡◌, ◌≤◌, ◌↔◌, IsTrue};
 
 /// The data bytes of a page, and how many full pages are held in memory besides the tip.
-///
-/// The cache is not built yet: beside the tip those pages alone are held that an opening read, and only where `cache_pages` is at least 1.
 #[derive(Clone, Copy, Debug, PartialEq, Eq)]
 pub struct Pages {
     /// From 1 on.
     pub page_size: u16,
-    /// The greatest number of full pages that are held.
+    /// The greatest number of full pages that are held: those that were flushed last.
     pub cache_pages: u32,
 }
 

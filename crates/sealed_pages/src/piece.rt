@@ -6,9 +6,8 @@ ghost use Rattle.sealed_pages.specs.View.{page_at};
 ghost use Rattle.sealed_pages.specs.Reading.{page_of, Unchanged};
 ghost use Rattle.sealed_pages.specs.Entries.{IsOpenAt, ReadsAtMost};
 
-use crate::held::HeldPages;
 use crate::page::page_place;
-use crate::reading::{copy_front, read_front};
+use crate::reading::read_front;
 use blob_device::{DevError, Device};
 use std::alloc::{AllocError, Global};
 
@@ -39,7 +38,6 @@ pub struct Piece {
 
 impl Piece {
     ghost use Rattle.sealed_pages.specs.Pieces.{held_of, HasPage, IsPieceOf};
-    ghost use Rattle.sealed_pages.specs.Held.{AreHeldOf};
 
     /// Room for about so many bytes, and for one page at least. It holds no page.
     pub fn new(alloc: Global, page_size: u16, buffer: usize) -> Result<Piece, AllocError>
@@ -59,73 +57,11 @@ impl Piece {
         })
     }
 
-    /// One page, of which these bytes stand below the blob's end: the first `have` of them.
-    pub fn of_page(page_size: u16, page: u64, bytes: Vec<u8>, have: usize) -> Piece
-        requires wide { length bytes.items ≡ page_size + 12 }
-        requires within { have ≤ page_size + 12 }
-        ensures page_size { result.page_size ≡ page_size }
-        ensures holds { (c : List ℕ) → take have bytes.items ≡ page_of page_size c page → IsPieceOf c result }
-    {
-        Piece {
-            page_size,
-            room: 1,
-            bytes,
-            have,
-            page,
-            count: 1,
-        }
-    }
-
-    /// The same pages once more.
-    pub fn try_clone(&self) -> Result<Piece, AllocError>
-        ensures { IfOk result (λ p. (c : List ℕ) → IsPieceOf c self.now → IsPieceOf c p) }
-    {
-        Ok(Piece {
-            page_size: self.page_size,
-            room: self.room,
-            bytes: self.bytes.clone()?,
-            have: self.have,
-            page: self.page,
-            count: self.count,
-        })
-    }
-
     /// Whether the page is held.
     pub fn has(&self, page: u64) -> bool
         ensures { IsTrue result ↔ HasPage self.now page }
     {
         page >= self.page && page - self.page < self.count
-    }
-
-    /// The bytes of a page of this size that stand below the blob's end, where the piece has it.
-    pub fn page(&self, page_size: u16, page: u64) -> Option<&[u8]>
-        ensures bytes { (c : List ℕ) → IsPieceOf c self.now → IfSome result (λ b. b.now ≡ page_of page_size c page) }
-        ensures within { IfSome result (λ b. length b.now ≤ page_size + 12) }
-    {
-        if page_size != self.page_size || !self.has(page) {
-            return None;
-        }
-        Some(self.page_bytes(page))
-    }
-
-    /// The first page that is held, if one is.
-    pub fn first(&self) -> u64
-        ensures { result ≡ self.now.page }
-    {
-        self.page
-    }
-
-    // Holds this page alone.
-    fn copy(&mut self, page: u64, bytes: &[u8])
-        requires { length bytes.now ≤ self.old.page_size + 12 }
-        ensures page { (self.new.page ≡ page) × HasPage self.new page }
-        ensures piece { (c : List ℕ) → bytes.now ≡ page_of self.old.page_size c page → IsPieceOf c self.new }
-        ensures page_size { self.new.page_size ≡ self.old.page_size }
-    {
-        copy_front(self.bytes.as_mut_slice(), bytes);
-        self.have = bytes.len();
-        self.page = page;
-        self.count = 1;
     }
 
     // Reads the page, and as many behind it as there is room for, up to the page `upto`. After an error it holds none.
@@ -162,8 +98,8 @@ impl Piece {
         Ok(())
     }
 
-    /// Takes the page from those that are held; else reads it, and as many behind it as there is room for and are not held, where this
-    /// piece does not have it. After an error it may hold none.
+    /// Reads the page, and as many behind it as there is room for, up to the page `upto`, where this piece does not have it. After an
+    /// error it may hold none.
     pub fn load<D: Device>(
         &mut self,
         dev: &mut D,
@@ -171,12 +107,13 @@ impl Piece {
         name: &[u8],
         end: u64,
         page: u64,
-        held: &HeldPages,
+        upto: u64,
     ) -> Result<(), DevError>
         requires open { IsOpenAt (D.opened dev.old) (partition.now, name.now) end }
         requires place { page_at self.old.page_size page < 2 ^ 64 }
+        requires some { page < upto }
         ensures holds { OnOk result (HasPage self.new page) }
-        ensures piece { D.Tells → AreHeldOf (disk (D.time dev.old) (partition.now, name.now)).content held.now → IsPieceOf (disk (D.time dev.old) (partition.now, name.now)).content self.old → IsPieceOf (disk (D.time dev.old) (partition.now, name.now)).content self.new }
+        ensures piece { D.Tells → IsPieceOf (disk (D.time dev.old) (partition.now, name.now)).content self.old → IsPieceOf (disk (D.time dev.old) (partition.now, name.now)).content self.new }
         ensures held { HasPage self.old page → (D.time dev.new ≡ D.time dev.old) × (D.opened dev.new ≡ D.opened dev.old) }
         // It was held, or is the first page that is held now.
         ensures loads { OnOk result ((HasPage self.old page × (self.new ≡ self.old)) ⊎ ((self.new.page ≡ page) × (HasPage self.old page → ⊥))) }
@@ -189,13 +126,7 @@ impl Piece {
         if self.has(page) {
             return Ok(());
         }
-        match held.page(self.page_size, page) {
-            Some(bytes) => {
-                self.copy(page, bytes);
-                Ok(())
-            }
-            None => self.read(dev, partition, name, end, page, held.next_behind(page)),
-        }
+        self.read(dev, partition, name, end, page, upto)
     }
 
     /// The bytes of a page that stand below the blob's end.

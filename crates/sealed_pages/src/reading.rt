@@ -1,5 +1,5 @@
 // Reading a page and its slots.
-ghost use Rattle.std.specs.Prelude.{◌≡◌, ◌≢◌, ◌+◌, ◌*◌, ◌≤◌, ◌<◌, ◌^◌, ◌-◌, Err, length, take, drop, max, IfOk, IfSome, Bool, ℕ, List};
+ghost use Rattle.std.specs.Prelude.{◌≡◌, ◌≢◌, ◌+◌, ◌*◌, ◌≤◌, ◌<◌, ◌^◌, ◌-◌, ◌/◌, Err, length, take, drop, max, IfOk, IfSome, Bool, ℕ, List};
 ghost use Rattle.blob_device.specs.Timeline.{disk};
 ghost use Rattle.blob_device.specs.Counts.{Rose};
 ghost use Rattle.sealed_pages.specs.View.{page_at, slot_at};
@@ -7,9 +7,7 @@ ghost use Rattle.sealed_pages.specs.Slots.{slot_length, page_length};
 ghost use Rattle.sealed_pages.specs.Reading.{page_of, Unchanged, OnlyRead};
 ghost use Rattle.sealed_pages.specs.Entries.{IsOpenAt, ReadsAtMost};
 ghost use Rattle.sealed_pages.specs.Found.{Finds, found_of};
-ghost use Rattle.sealed_pages.specs.Held.{AreHeldOf};
 
-use crate::held::HeldPages;
 use crate::page::page_place;
 use blob_device::{DevError, Device};
 use value_codec::Seal;
@@ -106,16 +104,7 @@ pub fn read_front<D: Device>(
     read_span(dev, partition, name, end, place, part)
 }
 
-/// Writes bytes over the first ones.
-pub fn copy_front(buf: &mut [u8], bytes: &[u8])
-    requires { length bytes.now ≤ length buf.old }
-    ensures { take (length bytes.now) buf.new ≡ bytes.now }
-{
-    buf[..bytes.len()].copy_from_slice(bytes);
-}
-
-/// Takes the bytes of a page that stand below the blob's end, which is at `end`, from the pages that are held, or reads them. The answer
-/// is how many there are.
+/// Reads the bytes of a page that stand below the blob's end, which is at `end`. The answer is how many there are.
 pub fn read_page<D: Device>(
     dev: &mut D,
     partition: &str,
@@ -123,25 +112,31 @@ pub fn read_page<D: Device>(
     page_size: u16,
     end: u64,
     page: u64,
-    held: &HeldPages,
     buf: &mut [u8],
 ) -> Result<usize, DevError>
     requires open { IsOpenAt (D.opened dev.old) (partition.now, name.now) end }
     requires buf { length buf.old ≡ page_size + 12 }
     requires room { page_at page_size page < 2 ^ 64 }
-    ensures bytes { D.Tells → AreHeldOf (disk (D.time dev.old) (partition.now, name.now)).content held.now → IfOk result (λ n. take n buf.new ≡ page_of page_size (disk (D.time dev.old) (partition.now, name.now)).content page) }
+    ensures bytes { D.Tells → IfOk result (λ n. take n buf.new ≡ page_of page_size (disk (D.time dev.old) (partition.now, name.now)).content page) }
     ensures within { IfOk result (λ n. n ≤ page_size + 12) }
     ensures unchanged { D.Tells → Unchanged (D.time dev.old) (D.time dev.new) }
     ensures entries { ReadsAtMost 1 (partition.now, name.now) (D.opened dev.old) (D.opened dev.new) }
     ensures faults { D.faults dev.old ≤ D.faults dev.new }
     ensures cause { result ≡ Err DevError.Fault → Rose (D.faults dev.old) (D.faults dev.new) }
 {
-    if let Some(bytes) = held.page(page_size, page) {
-        copy_front(buf, bytes);
-        return Ok(bytes.len());
-    }
     let place = page_place(page_size, page);
     read_span(dev, partition, name, end, place, buf)
+}
+
+/// A number of pages such that none from there on has a matching slot in a blob that ends at `end`. All of them have their
+/// places below 2^64.
+pub fn page_count(page_size: u16, end: u64) -> u64
+    ensures fits { page_at page_size result < 2 ^ 64 }
+    ensures within { result ≤ end / (page_size + 12) + 1 }
+    ensures none { (seal : List ℕ → ℕ) (c : List ℕ) → length c ≡ end → (k : ℕ) → result ≤ k → page_length seal page_size c k ≡ 0 }
+{
+    let unit = u64::from(page_size) + 12;
+    (end / unit + 1).min(u64::MAX / unit)
 }
 
 /// The last page with a matching slot: its number, the lengths of its slots, and how many of its bytes stand
@@ -170,17 +165,16 @@ pub fn find_last<D: Device, S: Seal>(
     requires open { IsOpenAt (D.opened dev.old) (partition.now, name.now) end }
     requires buf { length buf.old ≡ page_size + 12 }
     ensures found { D.Tells → IfOk result (λ r. Finds S.seal_of page_size (disk (D.time dev.old) (partition.now, name.now)).content (found_of r) buf.new) }
-    ensures below { IfOk result (λ r. IfSome r (λ p. (page_at page_size p.page ≤ end) × (p.have ≤ page_size + 12) × (p.first_len ≤ page_size) × (p.second_len ≤ page_size) × (1 ≤ max p.first_len p.second_len))) }
+    ensures below { IfOk result (λ r. IfSome r (λ p. (page_at page_size p.page ≤ end) × (page_at page_size p.page + (page_size + 12) < 2 ^ 64) × (p.have ≤ page_size + 12) × (p.first_len ≤ page_size) × (p.second_len ≤ page_size) × (1 ≤ max p.first_len p.second_len))) }
     ensures unchanged { D.Tells → Unchanged (D.time dev.old) (D.time dev.new) }
     ensures entries { OnlyRead (partition.now, name.now) (D.opened dev.old) (D.opened dev.new) }
     ensures faults { D.faults dev.old ≤ D.faults dev.new }
     ensures cause { result ≡ Err DevError.Fault → Rose (D.faults dev.old) (D.faults dev.new) }
 {
-    let none = HeldPages::none();
-    let mut page = end / (u64::from(page_size) + 12) + 1;
+    let mut page = page_count(page_size, end);
     'back: while page > 0 {
         page -= 1;
-        let have = read_page(dev, partition, name, page_size, end, page, &none, buf)?;
+        let have = read_page(dev, partition, name, page_size, end, page, buf)?;
         let first_len = matching_len::<S>(page_size, &buf[..have], false);
         let second_len = matching_len::<S>(page_size, &buf[..have], true);
         if first_len.max(second_len) > 0 {

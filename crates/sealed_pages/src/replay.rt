@@ -1,5 +1,5 @@
 // Reading a sealed blob from a position on, in pieces.
-ghost use Rattle.std.specs.Prelude.{◌≡◌, ◌+◌, ◌*◌, ◌-◌, ◌/◌, ◌≤◌, ◌<◌, ◌^◌, ◌⊎◌, ◌↔◌, Ok, Err, min, length, drop, [], IfOk, OnOk, OnErr, true, false, ℕ, List};
+ghost use Rattle.std.specs.Prelude.{◌≡◌, ◌+◌, ◌*◌, ◌-◌, ◌/◌, ◌%◌, ◌≤◌, ◌<◌, ◌^◌, ◌⊎◌, ◌↔◌, Ok, Err, min, length, drop, [], IfOk, OnOk, OnErr, true, false, ℕ, List};
 ghost use Rattle.std.specs.Result.{IsErrOf};
 ghost use Rattle.blob_device.specs.declared.runtime.RError.TheVariants.{BlobInsufficientLength};
 ghost use Rattle.blob_device.specs.Timeline.{disk};
@@ -10,7 +10,6 @@ ghost use Rattle.sealed_pages.specs.Reads.{IsWanted, IsShort, touched, EndsAtOrP
 ghost use Rattle.sealed_pages.specs.Slots.{page_length};
 ghost use Rattle.sealed_pages.specs.Entries.{IsOpenAt, ReadsAtMost};
 
-use crate::held::HeldPages;
 use crate::page_blob::drop_front;
 use crate::piece::Piece;
 use crate::reading::covered_len;
@@ -43,8 +42,8 @@ pub struct PageReplay<S: Seal> {
     used: usize,
     /// The pages that were read last (`IsReplayOf.piece`).
     piece: Piece,
-    /// Pages that the buffer held, which are read no second time (`IsReplayOf.pages`).
-    pages: HeldPages,
+    /// The bytes of a last page that is not full, which the buffer has in memory (`IsReplayOf.tip`).
+    tip: Vec<u8>,
     /// The kind of seal; no data.
     seal: PhantomData<S>,
     // No more was passed by than was checked.
@@ -55,16 +54,17 @@ pub struct PageReplay<S: Seal> {
     ghost some: { 1 ≤ page_size },
     // All pages with their slots end below 2^64.
     ghost room: { extent page_size size < 2 ^ 64 },
+    // The tip is what is left behind the full pages.
+    ghost tip_long: { length tip.items ≡ size % page_size },
     // The pages that were read are cut as those of the blob.
     ghost same_pages: { piece.page_size ≡ page_size },
 }
 
 impl<S: Seal> PageReplay<S> {
-    ghost use Rattle.sealed_pages.specs.Held.{AreHeldOf};
-    ghost use Rattle.sealed_pages.specs.Readers.{reading, next_of, missing_of, IsReplayOf, ReadsUnread, SameReader};
+    ghost use Rattle.sealed_pages.specs.Readers.{reading, next_of, missing_of, IsTipOf, IsReplayOf, ReadsUnread, SameReader};
 
-    /// A reader from 0 over a blob that ends at `end`, and has `size` bytes in pages. It reads pieces of about `buffer` bytes, but for the
-    /// pages that are held.
+    /// A reader from 0 over a blob that ends at `end`, and has `size` bytes in pages. It reads full pages, in pieces of about `buffer`
+    /// bytes. The bytes behind them are the tip.
     pub(crate) fn new(
         alloc: Global,
         partition: &str,
@@ -73,16 +73,17 @@ impl<S: Seal> PageReplay<S> {
         end: u64,
         size: u64,
         buffer: usize,
-        pages: HeldPages,
+        tip: Vec<u8>,
     ) -> Result<PageReplay<S>, RError>
         requires some { 1 ≤ page_size }
         requires room { extent page_size size < 2 ^ 64 }
+        requires tip { length tip.items ≡ size % page_size }
         ensures key { IfOk result (λ r. (reading r).key ≡ (partition.now, name.now)) }
         ensures page_size { IfOk result (λ r. (reading r).page_size ≡ page_size) }
         ensures end { IfOk result (λ r. (reading r).end ≡ end) }
         ensures size { IfOk result (λ r. (reading r).size ≡ size) }
         ensures begin { IfOk result (λ r. (reading r).at ≡ 0) }
-        ensures replays { IfOk result (λ r. (content : List ℕ) → AreHeldOf content pages → IsReplayOf S.seal_of content (reading r)) }
+        ensures replays { IfOk result (λ r. (content : List ℕ) → IsTipOf S.seal_of page_size content (size / page_size) tip.items → IsReplayOf S.seal_of content (reading r)) }
         ensures cause { OnErr result (result ≡ Err RError.Mem) }
     {
         let partition = String::from_str(alloc, partition)?;
@@ -98,7 +99,7 @@ impl<S: Seal> PageReplay<S> {
             held: Vec::new(alloc),
             used: 0,
             piece,
-            pages,
+            tip,
             seal: PhantomData,
         })
     }
@@ -158,8 +159,26 @@ impl<S: Seal> PageReplay<S> {
         self.used = 0;
     }
 
-    // Adds the bytes of the next page that a matching slot covers, up to the blob's last. It has to cover the page up to its end
-    // or to byte `goal`.
+    // Adds the bytes of the last page, which is not full, from the next one on.
+    fn take_tip(&mut self) -> Result<(), RError>
+        requires full { (reading self.old).size / (reading self.old).page_size ≤ next_of (reading self.old) / (reading self.old).page_size }
+        requires within { next_of (reading self.old) ≤ (reading self.old).size }
+        ensures same { SameReader (reading self.old) (reading self.new) }
+        ensures piece { (reading self.new).piece ≡ (reading self.old).piece }
+        ensures replays { (content : List ℕ) → IsReplayOf S.seal_of content (reading self.old) → IsReplayOf S.seal_of content (reading self.new) }
+        ensures ends { OnOk result (next_of (reading self.new) ≡ (reading self.old).size) }
+        ensures stays { OnErr result ((reading self.new).bytes ≡ (reading self.old).bytes) }
+        ensures cause { OnErr result (result ≡ Err RError.Mem) }
+    {
+        let next = self.at + self.remaining() as u64;
+        let skip = (next % u64::from(self.page_size)) as usize;
+        let rest = &self.tip[skip..];
+        self.held.extend_from_slice(rest)?;
+        Ok(())
+    }
+
+    // Adds the bytes of the next page, up to the blob's last: of a full page those that a matching slot covers, and of the last one
+    // the tip. The slot has to cover a full page up to its end or to byte `goal`.
     fn fetch<D: Device>(&mut self, dev: &mut D, goal: u64) -> Result<(), RError>
         requires open { IsOpenAt (D.opened dev.old) (reading self.old).key (reading self.old).end }
         requires more { next_of (reading self.old) < goal }
@@ -183,11 +202,14 @@ impl<S: Seal> PageReplay<S> {
         let data = u64::from(self.page_size);
         let next = self.at + self.remaining() as u64;
         let page = next / data;
+        let full = self.size / data;
+        if page >= full {
+            return self.take_tip();
+        }
         let start = page * data;
         let partition = self.partition.as_str();
         let name = self.name.as_slice();
-        self.piece
-            .load(dev, partition, name, self.end, page, &self.pages)?;
+        self.piece.load(dev, partition, name, self.end, page, full)?;
         let found = self.piece.page_bytes(page);
         let covered = covered_len::<S>(self.page_size, found);
         let need = (goal - start).min(data) as usize;

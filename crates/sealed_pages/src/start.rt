@@ -105,9 +105,8 @@ pub fn start_at<S: Seal>(page_size: u16, end: u64, last: &LastPage, page: &[u8])
 /// The start over what [`find_last`](crate::reading::find_last) found. With no matching slot, all bytes have to be removed.
 pub fn start_of<S: Seal>(page_size: u16, end: u64, found: &Option<LastPage>, buf: &[u8]) -> Start
     requires some { 1 ≤ page_size }
-    requires room { end + (page_size + 12) < 2 ^ 64 }
     requires buf { length buf.now ≡ page_size + 12 }
-    requires below { IfSome found.now (λ p. (page_at page_size p.page ≤ end) × (p.have ≤ page_size + 12) × (p.first_len ≤ page_size) × (p.second_len ≤ page_size) × (1 ≤ max p.first_len p.second_len)) }
+    requires below { IfSome found.now (λ p. (page_at page_size p.page ≤ end) × (page_at page_size p.page + (page_size + 12) < 2 ^ 64) × (p.have ≤ page_size + 12) × (p.first_len ≤ page_size) × (p.second_len ≤ page_size) × (1 ≤ max p.first_len p.second_len)) }
     ensures begun { result.from < page_size }
     ensures place { page_at page_size (pages_of result.first result.from) < 2 ^ 64 }
     ensures inside { result.torn ≡ true → 0 < result.from }

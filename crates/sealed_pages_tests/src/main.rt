@@ -12,8 +12,9 @@
 //! sealed prefix and the adopted size of the pages by the plain program.
 //!
 //! Pages: `open PAGE BUFFER CACHE` says the size, `append BYTES` the place, `sync`, `cut
-//! LENGTH`, `size`, `needs-sync`, `has-room N`, `read FROM N`, `read-held FROM N`, `hold FROM
-//! N`, `prefix FROM BUFFER`; `read-range PAGE FROM N` with no buffer open. A reader over them:
+//! LENGTH`, `size`, `needs-sync`, `has-room N`, `read FROM N`, `read-held FROM N`, `prefix
+//! FROM BUFFER`, `prefix-below FROM END BUFFER`; with no buffer open `read-range PAGE FROM N`,
+//! and `read-tail PAGE N`, which says the size behind the bytes. A reader over them:
 //! `replay BUFFER`, then `ensure N`, `hand`, `remaining`, `advance N`, `seek N` and
 //! `blob-size`; any other command gives it up. Bytes without seals: `open-plain BUFFER`, then
 //! `append`, `write AT BYTES`, `flush`, `sync`, `cut`, `size`, `needs-sync` and `read`. A

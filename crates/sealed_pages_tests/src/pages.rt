@@ -35,7 +35,9 @@ pub fn open(alloc: Global, dev: &mut Memory, step: &Step) -> Result<(Store, Said
 {
     let page_size = page_size(step)?;
     let capacity = number(step, 1)? as usize;
-    let cache_pages = if number(step, 2)? > 0 { 1 } else { 0 };
+    let Ok(cache_pages) = u32::try_from(number(step, 2)?) else {
+        return Err(Stop::Refused("this is no number of pages"));
+    };
     let pages = Pages {
         page_size,
         cache_pages,
@@ -52,6 +54,17 @@ pub fn read_range(alloc: Global, dev: &mut Memory, step: &Step) -> Result<Said, 
     let mut buf = vec![in alloc; 0; number(step, 2)? as usize]?;
     dev.open_blob("p", b"x")?;
     PageBlob::<Sha256Seal>::read_range(alloc, dev, "p", b"x", page_size, from, &mut buf)?;
+    Ok(Said::Bytes(buf))
+}
+
+/// Opens the blob, and reads its last bytes without a buffer over it. It says them, and behind them the size in eight bytes.
+pub fn read_tail(alloc: Global, dev: &mut Memory, step: &Step) -> Result<Said, Stop> {
+    let page_size = page_size(step)?;
+    let mut buf = vec![in alloc; 0; number(step, 1)? as usize]?;
+    dev.open_blob("p", b"x")?;
+    let size =
+        PageBlob::<Sha256Seal>::read_tail(alloc, dev, "p", b"x", page_size, &mut buf)?;
+    buf.extend_from_slice(&size.to_be_bytes())?;
     Ok(Said::Bytes(buf))
 }
 
@@ -98,12 +111,10 @@ pub fn ask(
         "needs-sync" => Ok(Said::Truth(blob.needs_sync())),
         "has-room" => Ok(Said::Truth(blob.has_room(from as usize))),
         "prefix" => Ok(Said::Number(blob.recoverable_prefix_len(dev, from, n)?)),
-        "hold" => {
-            if from > blob.size() || n as u64 > blob.size() - from {
-                return Err(Stop::Refused("past the size"));
-            }
-            blob.hold(dev, from, n)?;
-            Ok(Said::Done)
+        "prefix-below" => {
+            let buffer = number(step, 2)? as usize;
+            let len = blob.recoverable_prefix_len_at_most(dev, from, n as u64, buffer)?;
+            Ok(Said::Number(len))
         }
         "read-held" => read_held(alloc, blob, from, n),
         _ => {

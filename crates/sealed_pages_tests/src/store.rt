@@ -71,6 +71,7 @@ fn open(alloc: Global, dev: &mut Memory, step: &Step) -> (Store, Result<Said, St
     match step.word() {
         "open" => or_closed(pages::open(alloc, dev, step), dev),
         "open-plain" => or_closed(unsealed::open(alloc, dev, step), dev),
+        "read-tail" => (Store::Closed, pages::read_tail(alloc, dev, step)),
         _ => (Store::Closed, pages::read_range(alloc, dev, step)),
     }
 }

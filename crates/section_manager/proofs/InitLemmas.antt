@@ -22,7 +22,7 @@ use Rattle.section_manager.specs.Setting.{Setting}
 use Rattle.section_manager.specs.Leaving.{AllMoments}
 use Rattle.section_manager.specs.Entries.{OnlyOwnEntry, StartsNoRead}
 use Rattle.section_manager.specs.Lasting.{IsOpening, IsSettling}
-use Rattle.section_manager.specs.Refusing.{HasFailed, HasNoRoom, IsForeign, IsOpenedTooLong}
+use Rattle.section_manager.specs.Refusing.{HasFailed, IsForeign}
 use Rattle.section_manager.specs.Sections.{Sections, section_key, key_of, IsHeld, IsKnown, IsSame, SameBounds, IsOver}
 use Rattle.section_manager.proofs.sections.KeyLemmas.{keys_differ}
 use Rattle.section_manager.proofs.NumberLemmas.{listed_or_not, has_name, name_size, names_number}
@@ -393,19 +393,11 @@ pub bytes_as : {F B : Type 0} (g : buffer.Ghosts B) (gives : F → Setting) (m :
 bytes_as {F = F} g gives m partition factory new e d s u here made same is = subst (λ (p : List ℕ). g.bytes u (new (section_key p s)).content ≡ g.holds (gives factory) (d (section_key p s)).content) here
     (is ∙ ap (λ (f : F). g.holds (gives f) (e (key_of m s)).content) made ∙ ap (λ (x : Disk). g.holds (gives factory) (x (key_of m s)).content) same)
 
-pub too_long_at : {F B : Type 0} (TooLong : F → ℕ → Type 0) (m n : Sections F B) (s : ℕ) (opened : OpenedList) → SameBounds m n
-    → IsOpenedTooLong (TooLong n.factory) opened (key_of n s) → IsOpenedTooLong (TooLong m.factory) opened (key_of m s)
-too_long_at {F = F} TooLong m n s opened bounds long = subst (IsOpenedTooLong (TooLong m.factory) opened) (same_key m n bounds s)
-    (subst (λ (f : F). IsOpenedTooLong (TooLong f) opened (key_of n s)) bounds.place.factory long)
-
 -- the refusal of a call, passed on
-pub failed_since : {T U : Type 0} (r : Result T Error) (e : Error) (a b n : ℕ) → r ≡ Err e → a ≤ b → HasNoRoom {T = U} (Err e) ⊎ HasFailed {T = U} (Err e) b n → OnErr r (HasNoRoom r ⊎ HasFailed r a n)
+pub failed_since : {T U : Type 0} (r : Result T Error) (e : Error) (a b n : ℕ) → r ≡ Err e → a ≤ b → HasFailed {T = U} (Err e) b n → OnErr r (HasFailed r a n)
 failed_since r e a b n is le cause = err_with r (elim cause [
-  | inl over ↦ inl (cc (is, over))
-  | inr failed ↦ elim failed [
-    | inl none ↦ inr (inl (cc (is, none)))
-    | inr fault ↦ inr (inr (cc (is, fault.0), omega (arith, le, fault.1)))
-  ]
+  | inl none ↦ inl (cc (is, none))
+  | inr fault ↦ inr (cc (is, fault.0), omega (arith, le, fault.1))
 ])
 
 -- a section that is unopened is above the ceiling, so below the greatest ceiling there is none

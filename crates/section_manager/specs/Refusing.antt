@@ -1,10 +1,9 @@
 -- When the calls on sections refuse.
-use Rattle.std.specs.Prelude.{◌≢◌, ◌⊎◌, ℕ, List, length, IsTrue, Result, IsSomeAnd}
+use Rattle.std.specs.Prelude.{◌≢◌, ◌⊎◌, ℕ, List, length, IsTrue, Result}
 use Rattle.std.specs.Result.{IsErrOf}
-use Rattle.blob_device.specs.declared.runtime.RError.TheVariants.{Fault, InvalidChecksum, OffsetOverflow}
+use Rattle.blob_device.specs.declared.runtime.RError.TheVariants.{Fault, InvalidChecksum}
 use Rattle.blob_device.specs.Counts.{Rose}
-use Rattle.blob_device.specs.Disk.{Key, Disk}
-use Rattle.blob_device.specs.Opened.{OpenedList}
+use Rattle.blob_device.specs.Disk.{Disk}
 use Rattle.section_manager.specs.declared.journal.Error.{Error}
 use Rattle.section_manager.specs.declared.journal.Error.TheVariants.{Runtime, AlreadyPrunedToSection, Mem}
 
@@ -21,15 +20,7 @@ module _ {T : Type 0} (result : Result T Error) where
   abbrev pub HasDamage : Type 0
   HasDamage = (page : ℕ) × IsErrOf result (Runtime (InvalidChecksum page))
 
-  -- a blob leaves no room for what a buffer needs behind it
-  abbrev pub HasNoRoom : Type 0
-  HasNoRoom = IsErrOf result (Runtime OffsetOverflow)
-
 -- a blob with this name is there in the partition, and the name is not eight bytes long
 pub record IsForeign (d : Disk) (partition name : List ℕ) : Type 0 where
   pub there : IsTrue (d (partition, name)).there
   pub size : length name ≢ 8
-
--- the blob at k is opened, and too long for the test
-abbrev pub IsOpenedTooLong : (ℕ → Type 0) → OpenedList → Key → Type 0
-IsOpenedTooLong TooLong opened k = IsSomeAnd (opened k) (λ o. TooLong o.len)

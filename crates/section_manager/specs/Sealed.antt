@@ -1,21 +1,19 @@
 -- A section in a buffer whose pages carry seals: what it means, and what a crash may leave of it.
-use Rattle.std.specs.Prelude.{◌≡◌, ℕ, ◌+◌, ◌^◌, ◌≤◌, ◌==◌, not, min, Bool, List, length}
+use Rattle.std.specs.Prelude.{◌≡◌, ℕ, ◌==◌, not, min, Bool, List, length}
 use Rattle.blob_device.specs.Disk.{Blob}
 use Rattle.sealed_pages.specs.Buffer.{Buffer, size_of, bytes_of, IsSealed}
 use Rattle.sealed_pages.specs.Cutting.{IsAtRest}
-use Rattle.sealed_pages.specs.declared.page_blob.PageBlob.{PageBlob}
-use Rattle.sealed_pages.specs.Held.{AreHeldOf}
 use Rattle.sealed_pages.specs.SealedPrefix.{sealed_prefix, adopted_size, data_from, Prefix}
-use Rattle.sealed_pages.specs.Shown.{shown}
 use Rattle.sealed_pages.specs.Unrecovered.{IsUnrecovered, IsAdopted}
 use Rattle.sealed_pages.specs.View.{view}
+use Rattle.section_manager.specs.Setting.{Setting}
 
 abbrev pub is_unsettled : Buffer → Bool
 is_unsettled u = not (u.settled == size_of u)
 
--- a page behind a blob of this length would pass the greatest u64
-abbrev pub IsTooLong : ℕ → ℕ → Type 0
-IsTooLong P size = 2 ^ 64 ≤ size + (P + 12)
+-- what it was made with
+abbrev pub setting_of : Buffer → Setting
+setting_of u = record { page_size = u.page_size; capacity = u.capacity; cache_pages = u.cache_pages }
 
 module _ (seal : List ℕ → ℕ) where
   -- the bytes of a new buffer over a blob of this content: the data up to the size at which it is adopted
@@ -26,11 +24,6 @@ module _ (seal : List ℕ → ℕ) where
   pub record Stands (u : Buffer) (b : Blob) : Type 0 where
     pub adopted : IsAdopted seal u b
     pub rest : u.settled ≡ size_of u → IsAtRest b
-
-  -- It stands over the blob, and the pages that it holds are as in it.
-  pub record StandsHolding {S : Type 0} {g : _} (u : PageBlob S g) (b : Blob) : Type 0 where
-    pub stands : Stands (shown u) b
-    pub held : AreHeldOf b.content u.held
 
   -- A crash may leave these bytes: their sealed prefix is a prefix of the buffer's bytes, with as many as are to be kept. Where
   -- the sealed prefix of an adopted blob is shorter than its size, no more is kept than that prefix as it read.

@@ -16,7 +16,7 @@ use Rattle.sealed_pages.specs.Slots.{slot_length}
 use Rattle.sealed_pages.specs.Unrecovered.{IsUnrecovered}
 use Rattle.sealed_pages.specs.View.{View, view}
 use Rattle.sealed_pages.proofs.Adopt.{length-data_from, get_or-data_from}
-use Rattle.sealed_pages.proofs.Holding.{holds_leaves, holds_data}
+use Rattle.sealed_pages.proofs.Holding.{holds_leaves}
 use Rattle.sealed_pages.proofs.SlotLemmas.{times_more, slot_stands}
 use Rattle.sealed_pages.proofs.Truncating.{all_flushed, settles_of}
 use Rattle.sealed_pages.proofs.UnrecoveredLemmas.{prefix_leaves, unrecovered_prefix}
@@ -61,7 +61,7 @@ module _ (seal : List ℕ → ℕ) where
     not_both b sealed un =
         let room : un.page * u.page_size + u.page_size ≤ u.first * u.page_size = times_more un.page u.first u.page_size un.below in
         let wanted : IsWanted u.page_size 0 (flushed_of u) un.page = record { some = omega (arith, un.short, room); low = omega (arith, un.short); high = omega (arith, un.short, room) } in
-        omega (arith, un.short, room, whole_covered seal u (bytes_of u b.content) b sealed (flushed_of u) refl un.page wanted)
+        omega (arith, un.short, room, whole_covered seal u (bytes_of u b.content) b sealed.holds (flushed_of u) refl un.page wanted)
 
     -- what the clauses on crashes of a sealed buffer leave passes its test
     pub sealed_keeps : (from b : Blob) (least : ℕ) → IsSealed seal u from → chance.Leaves seal u.page_size (bytes_of u from.content) least b → Leaves (NoChanceSeal seal u.page_size) (λ _. MayKeep seal u from least) b
@@ -101,20 +101,20 @@ module _ (seal : List ℕ → ℕ) where
 
       pub passes : (b : Blob) → Stands seal u b → Leaves (NoChanceSeal seal u.page_size) (λ _. MayKeep seal u b u.settled) b
       passes b stands = elim stands.adopted [
-        | inl sealed ↦ sealed_keeps b b u.settled sealed (holds_leaves seal u (bytes_of u b.content) b fit.begun sealed)
+        | inl sealed ↦ sealed_keeps b b u.settled sealed (holds_leaves seal u (bytes_of u b.content) b fit.begun sealed.holds)
         | inr un ↦ unrecovered_keeps b b u.settled un
             (prefix_leaves seal u.page_size (sealed_prefix seal u.page_size b.content) (min u.settled (length (sealed_prefix seal u.page_size b.content))) b (omega arith) (unrecovered_prefix seal u b (omega (arith, fit.begun)) un).0)
       ]
 
       -- where all has settled, and adopting finds as many bytes, it gives the bytes again
-      pub again : (content : List ℕ) → u.settled ≡ size_of u → IsBacked u content → size_of u ≡ adopted_size seal u.page_size content → adopted_bytes seal u.page_size content ≡ bytes_of u content
+      pub again : (content : List ℕ) → u.settled ≡ size_of u → IsBacked seal u content → size_of u ≡ adopted_size seal u.page_size content → adopted_bytes seal u.page_size content ≡ bytes_of u content
       again content settled backed size =
           let full : u.from ≡ length u.tip = all_flushed u fit.within order settled in
           data_again u.page_size (adopted_size seal u.page_size content) (view content) (bytes_of u content) (omega (arith, fit.begun)) (omega (arith, size, counted u content))
-          (λ k i lt below. backed k i lt (omega (arith, below, size, full)))
+          (λ k i lt below. backed.flushed k i lt (omega (arith, below, size, full)))
 
       pub found_again : (b : Blob) → IsSealed seal u b → is_unsettled u ≡ false → adopted_bytes seal u.page_size b.content ≡ bytes_of u b.content
       found_again b sealed idle =
           let settled = all_settled u idle in
-          let settles = settles_of seal u u.page_size (bytes_of u b.content) b refl fit.begun (all_flushed u fit.within order settled) settled sealed in
-          again b.content settled (holds_data seal u (bytes_of u b.content) b sealed) (omega (arith, settles.adopted, counted u b.content))
+          let settles = settles_of seal u u.page_size (bytes_of u b.content) b refl fit.begun (all_flushed u fit.within order settled) settled sealed.holds in
+          again b.content settled sealed.backed (omega (arith, settles.adopted, counted u b.content))

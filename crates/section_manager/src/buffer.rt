@@ -1,8 +1,7 @@
 // What a section is kept in, and how it is made.
 ghost use Rattle.std.specs.Prelude.{◌≡◌, ◌≢◌, ◌≤◌, ◌<◌, ◌⊎◌, ℕ, Bool, true, false, List, length, take, min, Err, IfOk, OnOk, OnErr};
-ghost use Rattle.std.specs.Result.{IsErrOf};
 ghost use Rattle.std.specs.List.{Contains};
-ghost use Rattle.blob_device.specs.declared.runtime.RError.TheVariants.{Fault, InvalidChecksum, Mem, OffsetOverflow};
+ghost use Rattle.blob_device.specs.declared.runtime.RError.TheVariants.{Fault, InvalidChecksum, Mem};
 ghost use Rattle.blob_device.specs.Disk.{Key, Blob, settled_at};
 ghost use Rattle.blob_device.specs.Timeline.{disk};
 ghost use Rattle.blob_device.specs.Counts.{Rose};
@@ -188,12 +187,7 @@ pub trait BufferFactory: Drop {
     /// What it makes them with.
     ghost gives: { Self → Setting };
 
-    /// A blob of this length has no room behind it for what a buffer needs, below 2^64.
-    ghost TooLong: { Self → ℕ → Type 0 };
-
     /// A buffer over an opened blob of this length. It changes no blob.
-    ///
-    /// It answers `OffsetOverflow` only where the blob is too long.
     fn create<D: Device>(
         &self,
         alloc: Global,
@@ -215,8 +209,6 @@ pub trait BufferFactory: Drop {
         ensures open { IsOpenAt (D.opened dev.new) (partition.now, name.now) size }
         ensures entries { OnlyOwnEntry (partition.now, name.now) (D.opened dev.old) (D.opened dev.new) }
         ensures reads { (Self.Buffer.StartsReads → ⊥) → D.opened dev.new ≡ D.opened dev.old }
-        ensures overflow { IsErrOf result OffsetOverflow → TooLong self.now size }
-        ensures room { OnOk result (TooLong self.now size → ⊥) }
         ensures faults { D.faults dev.old ≤ D.faults dev.new }
-        ensures cause { OnErr result ((result ≡ Err OffsetOverflow) ⊎ ((result ≡ Err Mem) ⊎ ((result ≡ Err Fault) × Rose (D.faults dev.old) (D.faults dev.new)))) };
+        ensures cause { OnErr result ((result ≡ Err Mem) ⊎ ((result ≡ Err Fault) × Rose (D.faults dev.old) (D.faults dev.new))) };
 }

@@ -53,7 +53,7 @@ ghost use Rattle.section_manager.specs.Leaving.{AllMoments};
 ghost use Rattle.section_manager.specs.Entries.{OnlyOwnEntry, StartsNoRead};
 ghost use Rattle.section_manager.specs.Sections.{Sections, section_key, key_of, IsHeld, IsKnown, IsGone, IsSame, SamePlace, SameBounds, IsKeyOf, HasOpened, StandsOver, IsOver};
 ghost use Rattle.section_manager.specs.Lasting.{IsOpening, IsSettling};
-ghost use Rattle.section_manager.specs.Refusing.{HasFailed, IsPruned, HasNoRoom, IsForeign, IsOpenedTooLong};
+ghost use Rattle.section_manager.specs.Refusing.{HasFailed, IsPruned, IsForeign};
 
 mod cutting;
 mod opening;

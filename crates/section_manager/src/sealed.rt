@@ -54,10 +54,10 @@ impl<S: Seal> SectionBuffer for PageBlob<S> {
     ghost use Rattle.sealed_pages.specs.Buffer.{key_of, size_of, bytes_of, IsSealed};
     ghost use Rattle.sealed_pages.specs.ChanceSeal.{NoChanceSeal};
     ghost use Rattle.sealed_pages.specs.Unrecovered.{IsSafeCut};
-    ghost use Rattle.section_manager.specs.Sealed.{is_unsettled, adopted_bytes, StandsHolding, MayKeep};
+    ghost use Rattle.section_manager.specs.Sealed.{setting_of, is_unsettled, adopted_bytes, Stands, MayKeep};
     ghost use Rattle.section_manager.specs.SealedLaws.{passes, looser, counted, settled_within, no_chance, all_settled, rested, found_again};
 
-    ghost setting = { λ u. record { page_size = u.page_size; capacity = u.capacity } };
+    ghost setting = { λ u. setting_of (shown u) };
 
     ghost holds = { λ s content. adopted_bytes S.seal_of s.page_size content };
 
@@ -75,7 +75,7 @@ impl<S: Seal> SectionBuffer for PageBlob<S> {
 
     ghost StartsReads = { ⊤ };
 
-    ghost Stands = { λ u b. StandsHolding S.seal_of u b };
+    ghost Stands = { λ u b. Stands S.seal_of (shown u) b };
 
     ghost IsWhole = { λ u b. IsSealed S.seal_of (shown u) b };
 
@@ -113,7 +113,7 @@ impl<S: Seal> SectionBuffer for PageBlob<S> {
         self.truncate(dev, len)
     }
 
-    ghost passes = { λ u b over. passes S.seal_of (shown u) u.fit u.order b over.stands };
+    ghost passes = { λ u b over. passes S.seal_of (shown u) u.fit u.order b over };
 
     ghost looser = { λ u b few more contents. looser S.seal_of (shown u) b few more };
 
@@ -125,7 +125,7 @@ impl<S: Seal> SectionBuffer for PageBlob<S> {
 
     ghost all_settled = { λ u. all_settled (shown u) };
 
-    ghost rested = { λ u b over. rested S.seal_of (shown u) b over.stands };
+    ghost rested = { λ u b over. rested S.seal_of (shown u) b over };
 
     ghost found_again = { λ u b stands. found_again S.seal_of (shown u) u.fit u.order b };
 }
@@ -133,11 +133,7 @@ impl<S: Seal> SectionBuffer for PageBlob<S> {
 impl<S: Seal> BufferFactory for AppendFactory<S> {
     type Buffer = PageBlob<S>;
 
-    ghost use Rattle.section_manager.specs.Sealed.{IsTooLong};
-
-    ghost gives = { λ f. record { page_size = f.pages.page_size; capacity = f.write_buffer } };
-
-    ghost TooLong = { λ f size. IsTooLong f.pages.page_size size };
+    ghost gives = { λ f. record { page_size = f.pages.page_size; capacity = f.write_buffer; cache_pages = f.pages.cache_pages } };
 
     fn create<D: Device>(
         &self,

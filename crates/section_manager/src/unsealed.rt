@@ -92,9 +92,7 @@ impl SectionBuffer for WriteBlob {
 impl BufferFactory for WriteFactory {
     type Buffer = WriteBlob;
 
-    ghost gives = { λ f. record { page_size = 1; capacity = f.capacity } };
-
-    ghost TooLong = { λ _ _. ⊥ };
+    ghost gives = { λ f. record { page_size = 1; capacity = f.capacity; cache_pages = 0 } };
 
     fn create<D: Device>(
         &self,

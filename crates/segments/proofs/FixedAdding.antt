@@ -22,7 +22,7 @@ use Rattle.sealed_pages.proofs.UnrecoveredLemmas.{adopted_backed}
 use Rattle.section_manager.specs.Entries.{OnlyOwnEntry}
 use Rattle.section_manager.specs.Lasting.{IsOpening}
 use Rattle.section_manager.specs.Leaving.{AllMoments}
-use Rattle.section_manager.specs.Refusing.{HasFailed, HasNoRoom, IsPruned}
+use Rattle.section_manager.specs.Refusing.{HasFailed, IsPruned}
 use Rattle.section_manager.specs.Sections.{key_of, IsHeld}
 use Rattle.section_manager.specs.Setting.{Setting}
 use Rattle.section_manager.specs.declared.buffer.SectionBuffer as buffer
@@ -64,41 +64,26 @@ module _ {T : Type 0} (e : Error) (mem : e ≡ Mem) where
   pub mem_not_full : IsErrOf {T = T} (Err e) Full → ⊥
   mem_not_full is = cc (is, mem)
 
-  pub mem_not_room : HasNoRoom {T = T} (Err e) → ⊥
-  mem_not_room is = cc (is, mem)
-
 -- nor is a section below the floor
 module _ {T : Type 0} (e : Error) (floor : ℕ) (pruned : e ≡ AlreadyPrunedToSection floor) where
   pub pruned_not_full : IsErrOf {T = T} (Err e) Full → ⊥
   pruned_not_full is = cc (is, pruned)
 
-  pub pruned_not_room : HasNoRoom {T = T} (Err e) → ⊥
-  pruned_not_room is = cc (is, pruned)
-
--- A section that is held was refused for want of memory, and one that was made had room.
-pub taken_no_room : {T U B : Type 0} (e : Error) (o : Option B) → (IsSome o → IsErrOf {T = U} (Err e) Mem) → (o ≡ None → HasNoRoom {T = U} (Err e) → ⊥) → HasNoRoom {T = T} (Err e) → ⊥
-taken_no_room e o held made is = elim (none_or_value o) [
-  | inl none ↦ made none (cc is)
-  | inr w ↦ mem_not_room e (error_is e Mem (held (some_held o w.0 w.1))) is
-]
-
 -- a `take` that failed found no section full
-pub taken_not_full : {T U : Type 0} (e : Error) (floor n m : ℕ) → IsPruned {T = U} (Err e) floor ⊎ (HasNoRoom {T = U} (Err e) ⊎ HasFailed {T = U} (Err e) n m)
+pub taken_not_full : {T U : Type 0} (e : Error) (floor n m : ℕ) → IsPruned {T = U} (Err e) floor ⊎ HasFailed {T = U} (Err e) n m
     → IsErrOf {T = T} (Err e) Full → ⊥
 taken_not_full e floor n m cause full = elim cause [
   | inl pruned ↦ cc (pruned, full)
-  | inr (inl room) ↦ cc (room, full)
-  | inr (inr (inl none)) ↦ cc (none, full)
-  | inr (inr (inr (fault, rose))) ↦ cc (fault, full)
+  | inr (inl none) ↦ cc (none, full)
+  | inr (inr (fault, rose)) ↦ cc (fault, full)
 ]
 
-pub taken_cause : {T U : Type 0} (e : Error) (floor n m : ℕ) → IsPruned {T = U} (Err e) floor ⊎ (HasNoRoom {T = U} (Err e) ⊎ HasFailed {T = U} (Err e) n m)
-    → IsPruned {T = T} (Err e) floor ⊎ (IsErrOf {T = T} (Err e) Full ⊎ (HasNoRoom {T = T} (Err e) ⊎ HasFailed {T = T} (Err e) n m))
+pub taken_cause : {T U : Type 0} (e : Error) (floor n m : ℕ) → IsPruned {T = U} (Err e) floor ⊎ HasFailed {T = U} (Err e) n m
+    → IsPruned {T = T} (Err e) floor ⊎ (IsErrOf {T = T} (Err e) Full ⊎ HasFailed {T = T} (Err e) n m)
 taken_cause e floor n m cause = elim cause [
   | inl pruned ↦ inl (cc pruned)
-  | inr (inl room) ↦ inr (inr (inl (cc room)))
-  | inr (inr (inl none)) ↦ inr (inr (inr (inl (cc none))))
-  | inr (inr (inr (fault, rose))) ↦ inr (inr (inr (inr (cc fault, rose))))
+  | inr (inl none) ↦ inr (inr (inl (cc none)))
+  | inr (inr (fault, rose)) ↦ inr (inr (inr (cc fault, rose)))
 ]
 
 -- What an append of the buffer failed by: the section is full, or there was no memory, or the device failed.
@@ -129,19 +114,12 @@ module _ {T : Type 0} (e : Error) (n m : ℕ) (why : Why e n m) where
     | inr (inr (fault, rose)) ↦ cc (pruned, why.is ∙ ap full_or_raised_of fault)
   ]
 
-  pub why_not_room : HasNoRoom {T = T} (Err e) → ⊥
-  why_not_room room = elim why.which [
-    | inl over ↦ cc (room, why.is ∙ ap full_or_raised_of over)
-    | inr (inl none) ↦ cc (room, why.is ∙ ap full_or_raised_of none)
-    | inr (inr (fault, rose)) ↦ cc (room, why.is ∙ ap full_or_raised_of fault)
-  ]
-
   pub why_cause : (floor first : ℕ) → first ≤ n
-      → IsPruned {T = T} (Err e) floor ⊎ (IsErrOf {T = T} (Err e) Full ⊎ (HasNoRoom {T = T} (Err e) ⊎ HasFailed {T = T} (Err e) first m))
+      → IsPruned {T = T} (Err e) floor ⊎ (IsErrOf {T = T} (Err e) Full ⊎ HasFailed {T = T} (Err e) first m)
   why_cause floor first le = elim why.which [
     | inl over ↦ inr (inl (ap Err (why.is ∙ ap full_or_raised_of over)))
-    | inr (inl none) ↦ inr (inr (inr (inl (ap Err (why.is ∙ ap full_or_raised_of none)))))
-    | inr (inr (fault, rose)) ↦ inr (inr (inr (inr (ap Err (why.is ∙ ap full_or_raised_of fault), omega (arith, le, rose)))))
+    | inr (inl none) ↦ inr (inr (inl (ap Err (why.is ∙ ap full_or_raised_of none))))
+    | inr (inr (fault, rose)) ↦ inr (inr (inr (ap Err (why.is ∙ ap full_or_raised_of fault), omega (arith, le, rose))))
   ]
 
 -- ---- what an append leaves, however it ends
@@ -165,10 +143,9 @@ module _ {S D : Type 0} {gs : _} (seal : List ℕ → ℕ) (size : ℕ) (g : buf
       → (IsPruned {T = T} (Err e) j.sections.floor ↔ (s < j.sections.floor)) → (s < j.sections.floor → new ≡ old)
       → (IsErrOf {T = T} (Err e) Full → dev.Tells ⊎ IsHeld j.sections s → TooMany)
       → (j.sections.floor ≤ s → (u : PageBlob S gs) → j.sections.held s ≡ Some u → 2 ^ 64 ≤ extent u.page_size (size_of (shown u) + n) → IsErrOf {T = T} (Err e) Full ⊎ IsErrOf {T = T} (Err e) Mem)
-      → (dev.Tells → HasNoRoom {T = T} (Err e) → ⊥)
-      → IsPruned {T = T} (Err e) j.sections.floor ⊎ (IsErrOf {T = T} (Err e) Full ⊎ (HasNoRoom {T = T} (Err e) ⊎ HasFailed {T = T} (Err e) (dev.faults old) (dev.faults new)))
+      → IsPruned {T = T} (Err e) j.sections.floor ⊎ (IsErrOf {T = T} (Err e) Full ⊎ HasFailed {T = T} (Err e) (dev.faults old) (dev.faults new))
       → Appends j s g gives seal size spelled n TooMany dev (Err e) see old new
-  failed n TooMany see new e along guard refuses full full_first no_room cause = record {
+  failed n TooMany see new e along guard refuses full full_first cause = record {
     over = tt;
     position = tt;
     size = tt;
@@ -192,7 +169,6 @@ module _ {S D : Type 0} {gs : _} (seal : List ℕ → ℕ) (size : ℕ) (g : buf
     refuses = refuses;
     full = full;
     full_first = full_first;
-    no_room = no_room;
     room = tt;
     faults = along.faults;
     cause = cause;
@@ -257,7 +233,7 @@ module _ {S D : Type 0} {gs : _} (seal : List ℕ → ℕ) (size : ℕ) (g : buf
     abbrev at_taken : Key
     at_taken = pages.key_of (shown u)
 
-    backed : dev.Tells → IsBacked (shown u) (disk (dev.time mid) at_taken).content
+    backed : dev.Tells → IsBacked seal (shown u) (disk (dev.time mid) at_taken).content
     backed t = adopted_backed seal (shown u) (disk (dev.time mid) at_taken)
         (subst (λ (q : Key). IsAdopted seal (shown u) (disk (dev.time mid) q)) (sym took.key)
         (taken_adopted seal size dev.Tells g are gives j (dev.opened old) (dev.time old) journal s recovered small (dev.time mid) u took.takes t))
@@ -267,7 +243,7 @@ module _ {S D : Type 0} {gs : _} (seal : List ℕ → ℕ) (size : ℕ) (g : buf
         → Sealing seal u.page_size (bytes_of (shown u) (disk (dev.time mid) at_taken).content ++ spelled) u.settled at_taken (dev.time mid) (dev.time new))
         (steady : dev.Tells → IsUnrecovered seal (shown u) (disk (dev.time mid) at_taken)
         → KeepsPrefix seal u.page_size (sealed_prefix seal u.page_size (disk (dev.time mid) at_taken).content) at_taken (dev.time mid) (dev.time new))
-        (alone : dev.Tells → IsBacked (shown u) (disk (dev.time mid) at_taken).content → Alone at_taken (dev.time mid) (dev.time new))
+        (alone : dev.Tells → IsBacked seal (shown u) (disk (dev.time mid) at_taken).content → Alone at_taken (dev.time mid) (dev.time new))
         (below : FlushesNothing (shown u) (length spelled) → new ≡ mid)
         (entries : (q : Key) → q ≢ at_taken → dev.opened new q ≡ dev.opened mid q) (faults : dev.faults mid ≤ dev.faults new) where
       -- the promise on crashes, at the section's key
@@ -350,7 +326,6 @@ module _ {S D T : Type 0} {gs : _} (seal : List ℕ → ℕ) (size : ℕ) (g : b
     refuses = did.refuses;
     full = λ is which. so (did.full is which);
     full_first = did.full_first;
-    no_room = did.no_room;
     room = did.room;
     faults = did.faults;
     cause = did.cause;

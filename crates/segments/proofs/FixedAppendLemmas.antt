@@ -16,7 +16,6 @@ use Rattle.sealed_pages.specs.ChanceSeal.{Sealing}
 use Rattle.sealed_pages.specs.Cutting.{IsAtRest}
 use Rattle.sealed_pages.specs.declared.page_blob.PageBlob.{PageBlob}
 use Rattle.sealed_pages.specs.Entries.{IsOpenAt}
-use Rattle.sealed_pages.specs.Held.{AreHeldOf}
 use Rattle.sealed_pages.specs.SealedPrefix.{sealed_prefix, adopted_size}
 use Rattle.sealed_pages.specs.Unrecovered.{HasPrefix, KeepsPrefix, IsAdopted, IsUnrecovered}
 use Rattle.sealed_pages.specs.Shown.{shown}
@@ -34,7 +33,7 @@ use Rattle.section_manager.specs.Entries.{OnlyOwnEntry}
 use Rattle.section_manager.specs.Lasting.{IsOpening}
 use Rattle.section_manager.specs.Leaving.{AllMoments}
 use Rattle.section_manager.specs.managing.Lending.{IsPut}
-use Rattle.section_manager.specs.Sealed.{IsTooLong, adopted_bytes}
+use Rattle.section_manager.specs.Sealed.{adopted_bytes}
 use Rattle.section_manager.specs.SealedLaws.{counted}
 use Rattle.section_manager.specs.Sections.{Sections, key_of, IsHeld, IsKnown, IsSame, SameBounds, IsOver}
 use Rattle.section_manager.specs.Setting.{Setting}
@@ -61,11 +60,6 @@ opening_empty from b not there (inl same) = absurd (cc (ap (λ (x : Blob). x.the
 opening_empty from b not there (inr (inl (inl under))) = ap (λ (x : Blob). x.content) under ∙ ap (λ (t : Bool). (cond t from (record from { content = []; unsure = true; since = from.since ++ [] ∷ [] })).content) not
 opening_empty from b not there (inr (inl (inr under))) = ap (λ (x : Blob). x.content) under ∙ ap (λ (t : Bool). (cond t from (record from { content = []; unsure = true; since = from.since ++ [] ∷ [] })).content) not
 opening_empty from b not there (inr (inr made)) = made_empty from b not made
-
--- and has room
-made_room : (from b : Blob) (P : ℕ) (o : Option Opened) → P < 2 ^ 16 → from.there ≡ false → IsOpening from b → IfSome o (λ e. IsTrue b.there × (length b.content ≡ e.len)) → IsSomeAnd o (λ e. IsTooLong P e.len) → ⊥
-made_room from b P None small not opening stands long = long
-made_room from b P (Some e) small not opening stands long = absurd (omega (arith, small, long, stands.1, ap length (opening_empty from b not stands.0 opening)))
 
 -- nothing is adopted there
 pub nothing_adopted : (seal : List ℕ → ℕ) (P : ℕ) (c : List ℕ) → c ≡ [] → length (adopted_bytes seal P c) ≡ 0
@@ -111,18 +105,18 @@ pub appended_adopted : (seal : List ℕ → ℕ) (u v : Buffer) (b c : Blob) →
 appended_adopted seal u v b c sealed un is = elim is [ inl has ↦ inl (sealed has) | inr has ↦ inr (un has) ]
 
 -- what buffers are made with, part by part
-abbrev pub setting_of : ℕ → ℕ → Setting
-setting_of p m = record { page_size = p; capacity = m }
+abbrev pub setting_of : ℕ → ℕ → ℕ → Setting
+setting_of p m c = record { page_size = p; capacity = m; cache_pages = c }
 
-pub same_setting : (p q m n : ℕ) → p ≡ q → m ≡ n → setting_of p m ≡ setting_of q n
-same_setting p q m n page capacity = λ i. setting_of (page i) (capacity i)
+pub same_setting : (p q m n c d : ℕ) → p ≡ q → m ≡ n → c ≡ d → setting_of p m c ≡ setting_of q n d
+same_setting p q m n c d page capacity cache = λ i. setting_of (page i) (capacity i) (cache i)
 
 -- A buffer that is sealed keeps what it holds, with whatever may follow.
 pub sealed_start : (seal : List ℕ → ℕ) (u : Buffer) (more : List ℕ) (key : Key) (t : Timeline) → u.from < u.page_size → IsSealed seal u (disk t key) → Sealing seal u.page_size (bytes_of u (disk t key).content ++ more) u.settled key t t
 sealed_start seal u more key t begun sealed =
     let all = bytes_of u (disk t key).content in
     sealing_whole seal u.page_size (all ++ more) (length all) u.settled key t t
-    (subst (λ (l : List ℕ). Sealing seal u.page_size l u.settled key t t) (sym (take-append_seam all more)) (holds_start seal u all key t begun sealed))
+    (subst (λ (l : List ℕ). Sealing seal u.page_size l u.settled key t t) (sym (take-append_seam all more)) (holds_start seal u all key t begun sealed.holds))
 
 -- One that is not keeps its sealed prefix.
 pub steady_start : (seal : List ℕ → ℕ) (u : Buffer) (key : Key) (t : Timeline) → u.from < u.page_size → IsUnrecovered seal u (disk t key) → KeepsPrefix seal u.page_size (sealed_prefix seal u.page_size (disk t key).content) key t t
@@ -151,12 +145,6 @@ module _ {F S : Type 0} {gs : _} (seal : List ℕ → ℕ) (size : ℕ) (told : 
       go : (there : Bool) → (disk a (key_of j.sections s)).there ≡ there → there ≡ false
       go false is = refl
       go true is = absurd (known ((journal.over.disk t).whose s small is))
-
-  -- a section that was not held has room
-  pub no_room_made : s < 2 ^ 64 → told → j.sections.held s ≡ None → (b : Timeline) (P : ℕ) (o : Option Opened) → P < 2 ^ 16 → AllMoments (key_of j.sections s) (IsOpening (disk a (key_of j.sections s))) a b
-      → IfSome o (λ e. IsTrue (disk b (key_of j.sections s)).there × (length (disk b (key_of j.sections s)).content ≡ e.len)) → IsSomeAnd o (λ e. IsTooLong P e.len) → ⊥
-  no_room_made small t none b P o few opening = made_room (disk a (key_of j.sections s)) (disk b (key_of j.sections s)) P o few (not_there small t none)
-      (always_now a b (OnlyAt (key_of j.sections s) (disk a) (IsOpening (disk a (key_of j.sections s)))) opening).here
 
   -- What a `take` answered.
   pub record Takes (b : Timeline) (u : PageBlob S gs) : Type 0 where
@@ -239,7 +227,6 @@ module _ {F S : Type 0} {gs : _} (seal : List ℕ → ℕ) (size : ℕ) (told : 
       pub is_open : IsOpenAt new (key_of j.sections s) (g.extent v)
       pub entries : OnlyOwnEntry (key_of j.sections s) mid new
       pub adopted : told → IsAdopted seal (shown v) (disk c (key_of j.sections s))
-      pub holds : told → AreHeldOf (disk c (key_of j.sections s)).content v.held
       pub sealed : told → IsSealed seal (shown u) (disk b (key_of j.sections s)) → IsSealed seal (shown v) (disk c (key_of j.sections s))
       pub long : size_of (shown v) ≡ size_of (shown u) + n
       pub settled : v.settled ≡ u.settled
@@ -274,7 +261,7 @@ module _ {F S : Type 0} {gs : _} (seal : List ℕ → ℕ) (size : ℕ) (told : 
           (λ t. subst (λ (q : Key). g.Stands v (disk c q)) (sym here) (pages.is_stands v (disk c (key_of j.sections s)) (record {
             adopted = appends.adopted t;
             rest = rested t;
-          }) (appends.holds t)))
+          })))
 
       fine_here : IsFine seal size told k (disk c) s
       fine_here = record {

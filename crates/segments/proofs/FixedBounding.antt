@@ -415,7 +415,7 @@ module _ {S : Type 0} {gs : _} (seal : List ℕ → ℕ) (P size : ℕ) (pos : 1
           ) in
           let settled : v.0.settled ≡ size_of (shown v.0) = sym (laws.settled v.0) ∙ v.2.settled shorter ∙ (let e : n ≡ size_of (shown v.0) = omega (arith, v.2.size, laws.count v.0, shorter) in e) in
           let settles = settles_of seal (shown v.0) v.0.page_size (bytes_of (shown v.0) (disk c (key_of j.sections last)).content) (disk c (key_of j.sections last)) refl v.0.fit.begun
-          (all_flushed (shown v.0) v.0.fit.within v.0.order settled) settled (laws.whole v.0 (disk c (key_of j.sections last)) (v.2.mended t shorter)) in
+          (all_flushed (shown v.0) v.0.fit.within v.0.order settled) settled (laws.whole v.0 (disk c (key_of j.sections last)) (v.2.mended t shorter)).holds in
           let page : v.0.page_size ≡ P = sym (laws.page_size v.0) ∙ ap (λ (x : Setting). x.page_size) (cut.over.over.opened_list.setting last v.0 v.1) ∙ ap (λ (f : AppendFactory S). (gives f).page_size) cut.place.factory ∙ paged in
           ap (λ (Q : ℕ). sealed_prefix seal Q (disk c (key_of j.sections last)).content) (sym page) ∙ settles.prefix
           ∙ ap (λ (q : Key). bytes_of (shown v.0) (disk c q).content) (sym (key_k last)) ∙ sym (bytes_here k.sections last v.0 v.1 (disk c)) ∙ last_bytes held lt

@@ -16,7 +16,7 @@ use Rattle.sealed_pages.specs.declared.page_blob.PageBlob.{PageBlob}
 use Rattle.sealed_pages.specs.declared.pages.Pages.{Pages}
 use Rattle.sealed_pages.proofs.Looking.{unchanged_now}
 use Rattle.section_manager.specs.Lasting.{IsSettling}
-use Rattle.section_manager.specs.Refusing.{HasDamage, HasFailed, HasNoRoom, IsForeign, IsOpenedTooLong, IsPruned}
+use Rattle.section_manager.specs.Refusing.{HasDamage, HasFailed, IsForeign, IsPruned}
 use Rattle.section_manager.specs.Sections.{section_key, key_of, IsKeyOf, IsKnown}
 use Rattle.section_manager.specs.Setting.{Setting}
 use Rattle.section_manager.specs.declared.buffer.SectionBuffer as buffer
@@ -40,19 +40,10 @@ pub none_ends : {T E : Type 0} (Q : T → Type 0) (r : Result T E) (e : E) → r
 none_ends Q (Ok v) e is = absurd (cc is)
 none_ends Q (Err x) e is = tt
 
--- a cut names no blob, and wants no room
+-- a cut names no blob
 pub cut_unnamed : {T : Type 0} (r : Result T Error) (floor n m : ℕ) (x : List ℕ) → OnErr r (IsPruned r floor ⊎ (HasDamage r ⊎ HasFailed r n m)) → IsErrOf r (InvalidBlobName x) → ⊥
 cut_unnamed (Ok v) floor n m x cause is = cc is
 cut_unnamed (Err e) floor n m x cause is = elim cause [
-  | inl pruned ↦ cc (pruned, is)
-  | inr (inl damage) ↦ (let bad = damage.1 in cc (bad, is))
-  | inr (inr (inl none)) ↦ cc (none, is)
-  | inr (inr (inr fault)) ↦ (let h = fault.0 in cc (h, is))
-]
-
-pub cut_room : {T : Type 0} (r : Result T Error) (floor n m : ℕ) → OnErr r (IsPruned r floor ⊎ (HasDamage r ⊎ HasFailed r n m)) → HasNoRoom r → ⊥
-cut_room (Ok v) floor n m cause is = cc is
-cut_room (Err e) floor n m cause is = elim cause [
   | inl pruned ↦ cc (pruned, is)
   | inr (inl damage) ↦ (let bad = damage.1 in cc (bad, is))
   | inr (inr (inl none)) ↦ cc (none, is)
@@ -66,25 +57,22 @@ end_cut {U = U} r e floor n m is cause = on_err r (λ x. elim x [ inl pruned ↦
 module _ {T D : Type 0} (dev : device.Ghosts D) (seal : List ℕ → ℕ) (P size : ℕ) (p : List ℕ) (last end : ℕ) (r : Result T Error) (old new : D) where
   -- its sections were not opened
   pub unopened_bounds : {U : Type 0} (e : Error) (Ends : T → Type 0) → last < 2 ^ 64 → r ≡ Err e → (dev.Tells → Always (dev.time old) (dev.time new) (Each (IsSettling p last (disk (dev.time old)))))
-      → (dev.Tells → (name : List ℕ) → IsForeign (disk (dev.time old)) p name → HasNoRoom {T = U} (Err e) → ⊥)
       → (dev.Tells → (name : List ℕ) → IsForeign (disk (dev.time old)) p name → Unchanged (dev.time old) (dev.time new))
       → (dev.Tells → (name : List ℕ) → IsForeign (disk (dev.time old)) p name → dev.opened new ≡ dev.opened old)
       → ((n : List ℕ) → IsErrOf {T = U} (Err e) (InvalidBlobName n) → dev.opened new ≡ dev.opened old)
       → (dev.Tells → (n : List ℕ) → IsErrOf {T = U} (Err e) (InvalidBlobName n) → IsForeign (disk (dev.time old)) p n)
       → ((q : Key) → ((s : ℕ) → s ≤ last → q ≢ section_key p s) → dev.opened new q ≡ dev.opened old q)
-      → (HasNoRoom {T = U} (Err e) → (s : ℕ) × IsOpenedTooLong (λ n. 2 ^ 64 ≤ n + (P + 12)) (dev.opened new) (section_key p s))
       → dev.faults old ≤ dev.faults new
-      → ((n : List ℕ) × IsErrOf {T = U} (Err e) (InvalidBlobName n)) ⊎ (HasNoRoom {T = U} (Err e) ⊎ HasFailed {T = U} (Err e) (dev.faults old) (dev.faults new))
+      → ((n : List ℕ) × IsErrOf {T = U} (Err e) (InvalidBlobName n)) ⊎ HasFailed {T = U} (Err e) (dev.faults old) (dev.faults new)
       → Bounds seal P size p last end dev r old new Ends
-  unopened_bounds {U = U} e Ends small is moments room untouched unopened entries named others overflow faults cause = record {
+  unopened_bounds {U = U} e Ends small is moments untouched unopened entries named others faults cause = record {
     moments = λ t. always_weaker (dev.time old) (dev.time new) (Each (IsSettling p last (disk (dev.time old)))) (Bounding seal P size p last end (disk (dev.time old)))
         (λ d each. settling_bounding seal P size p last end small (disk (dev.time old)) d each) (moments t);
     ends = subst (λ (x : Result T Error). IfOk x Ends) (sym is) tt;
     names = record {
       foreign = λ t name bad. elim cause [
         | inl called ↦ inl (called.0, (let at = called.1 in cc (is, at)))
-        | inr (inl none) ↦ absurd (room t name bad none)
-        | inr (inr failed) ↦ inr (failed_on {U = U} r e (dev.faults old) (dev.faults new) is failed)
+        | inr failed ↦ inr (failed_on {U = U} r e (dev.faults old) (dev.faults new) is failed)
       ];
       untouched = untouched;
       unopened = unopened;
@@ -92,25 +80,23 @@ module _ {T D : Type 0} (dev : device.Ghosts D) (seal : List ℕ → ℕ) (P siz
       entries = λ n of. entries n (error_back {U = U} r e _ is of);
     };
     entries = λ q never. others q (λ s le. never s);
-    overflow = λ none. overflow (error_back {U = U} r e _ is none);
     faults = faults;
   }
 
   pub unopened_cause : {U : Type 0} (e : Error) → r ≡ Err e
-      → ((n : List ℕ) × IsErrOf {T = U} (Err e) (InvalidBlobName n)) ⊎ (HasNoRoom {T = U} (Err e) ⊎ HasFailed {T = U} (Err e) (dev.faults old) (dev.faults new))
+      → ((n : List ℕ) × IsErrOf {T = U} (Err e) (InvalidBlobName n)) ⊎ HasFailed {T = U} (Err e) (dev.faults old) (dev.faults new)
       → OnErr r (IsBoundCause seal P size p last end dev r old new)
   unopened_cause {U = U} e is cause = err_with r (elim cause [
     | inl called ↦ inl (called.0, (let at = called.1 in cc (is, at)))
-    | inr (inl none) ↦ inr (inl (cc (is, none)))
-    | inr (inr failed) ↦ inr (inr (inl (failed_on {U = U} r e (dev.faults old) (dev.faults new) is failed)))
+    | inr failed ↦ inr (inl (failed_on {U = U} r e (dev.faults old) (dev.faults new) is failed))
   ])
 
   -- they were, so no name was refused
   pub opened_bounds : (Ends : T → Type 0) → (dev.Tells → Always (dev.time old) (dev.time new) (Bounding seal P size p last end (disk (dev.time old)))) → IfOk r Ends
-      → (dev.Tells → (name : List ℕ) → IsForeign (disk (dev.time old)) p name → ⊥) → ((n : List ℕ) → IsErrOf r (InvalidBlobName n) → ⊥) → (HasNoRoom r → ⊥)
+      → (dev.Tells → (name : List ℕ) → IsForeign (disk (dev.time old)) p name → ⊥) → ((n : List ℕ) → IsErrOf r (InvalidBlobName n) → ⊥)
       → ((q : Key) → ((s : ℕ) → q ≢ section_key p s) → dev.opened new q ≡ dev.opened old q) → dev.faults old ≤ dev.faults new
       → Bounds seal P size p last end dev r old new Ends
-  opened_bounds Ends moments ends never unnamed roomy entries faults = record {
+  opened_bounds Ends moments ends never unnamed entries faults = record {
     moments = moments;
     ends = ends;
     names = record {
@@ -121,7 +107,6 @@ module _ {T D : Type 0} (dev : device.Ghosts D) (seal : List ℕ → ℕ) (P siz
       entries = λ n of. absurd (unnamed n of);
     };
     entries = entries;
-    overflow = λ none. absurd (roomy none);
     faults = faults;
   }
 
@@ -139,7 +124,7 @@ module _ {T D : Type 0} (dev : device.Ghosts D) (seal : List ℕ → ℕ) (P siz
       → OnErr r (IsBoundCause seal P size p last end dev r old new)
   end_cause {U = U} e is floor mid le unpruned cause = err_with r (elim cause [
     | inl pruned ↦ absurd (unpruned pruned)
-    | inr failed ↦ inr (inr (inl (failed_since r (dev.faults old) mid (dev.faults new) le (failed_on {U = U} r e mid (dev.faults new) is failed))))
+    | inr failed ↦ inr (inl (failed_since r (dev.faults old) mid (dev.faults new) le (failed_on {U = U} r e mid (dev.faults new) is failed)))
   ])
 
   -- only a fault, want of memory or damage that the disk does not tell of is left as a cause
@@ -147,8 +132,8 @@ module _ {T D : Type 0} (dev : device.Ghosts D) (seal : List ℕ → ℕ) (P siz
       → OnErr r (IsBoundCause seal P size p last end dev r old new)
   opened_cause floor mid le unpruned untold cause = on_err r (λ is. elim is [
     | inl pruned ↦ absurd (unpruned pruned)
-    | inr (inl damage) ↦ inr (inr (inr (damage, λ t. untold t damage)))
-    | inr (inr failed) ↦ inr (inr (inl (failed_since r (dev.faults old) mid (dev.faults new) le failed)))
+    | inr (inl damage) ↦ inr (inr (damage, λ t. untold t damage))
+    | inr (inr failed) ↦ inr (inl (failed_since r (dev.faults old) mid (dev.faults new) le failed))
   ]) cause
 
 -- The journal j was opened, and it was found where its last section is to be cut.

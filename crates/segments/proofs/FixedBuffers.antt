@@ -27,7 +27,7 @@ module _ {S : Type 0} {gs : _} (seal : List ℕ → ℕ) (told : Type 0) (u v : 
       → (told → IsSealed seal (shown u) (disk a (key_of (shown u))) → IsSealed seal (shown v) (disk b (key_of (shown u))))
       → (told → IsUnrecovered seal (shown u) (disk a (key_of (shown u))) → IsUnrecovered seal (shown v) (disk b (key_of (shown u))))
       → (told → IsUnrecovered seal (shown u) (disk a (key_of (shown u))) → KeepsPrefix seal u.page_size (sealed_prefix seal u.page_size (disk a (key_of (shown u))).content) (key_of (shown u)) a b)
-      → (told → IsBacked (shown u) (disk a (key_of (shown u))).content → bytes_of (shown v) (disk b (key_of (shown u))).content ≡ bytes_of (shown u) (disk a (key_of (shown u))).content)
+      → (told → IsBacked seal (shown u) (disk a (key_of (shown u))).content → bytes_of (shown v) (disk b (key_of (shown u))).content ≡ bytes_of (shown u) (disk a (key_of (shown u))).content)
       → (told → IsAdopted seal (shown u) (disk a K)) → IsFlushed seal told u (disk a K) v (disk b K)
   flushed_at page size settled flushed sealed unsealed steady bytes adopted = subst (λ (k : Key). IsFlushed seal told u (disk a k) v (disk b k)) key (record {
     page_size = page;

@@ -11,7 +11,6 @@ use Rattle.sealed_pages.specs.Shown.{shown}
 use Rattle.sealed_pages.specs.Buffer.{key_of, size_of, flushed_of, IsBacked, IsSealed}
 use Rattle.sealed_pages.specs.Cutting.{IsAtRest}
 use Rattle.sealed_pages.specs.Entries.{IsOpenAt}
-use Rattle.sealed_pages.specs.Held.{AreHeldOf}
 use Rattle.sealed_pages.specs.Readers.{Reader}
 use Rattle.sealed_pages.specs.Flushing.{Alone}
 use Rattle.sealed_pages.specs.Unrecovered.{IsUnrecovered}
@@ -52,9 +51,9 @@ module _ {S : Type 0} {gs : _} (bu u : PageBlob S gs) (is : bu ≡ u) (K : Key) 
   moved_back P has = subst (λ (k : Key). P bu k a0) (sym key) (subst (λ (t : Timeline). P bu K t) (sym same) (subst (λ (x : PageBlob S gs). P x K a) (sym is) has))
 
   -- no other blob changes
-  pub alone_blobs : (seal : List ℕ → ℕ) (b : Timeline) → Stands seal (shown bu) (disk a0 K) → (IsBacked (shown bu) (disk a0 (key_of (shown bu))).content → Alone (key_of (shown bu)) a0 b) → (q : Key) → q ≢ K → disk b q ≡ disk a q
+  pub alone_blobs : (seal : List ℕ → ℕ) (b : Timeline) → Stands seal (shown bu) (disk a0 K) → (IsBacked seal (shown bu) (disk a0 (key_of (shown bu))).content → Alone (key_of (shown bu)) a0 b) → (q : Key) → q ≢ K → disk b q ≡ disk a q
   alone_blobs seal b stands alone q other =
-      let backed : IsBacked (shown bu) (disk a0 (key_of (shown bu))).content = subst (λ (k : Key). IsBacked (shown bu) (disk a0 k).content) (sym key) (adopted_backed seal (shown bu) (disk a0 K) stands.adopted) in
+      let backed : IsBacked seal (shown bu) (disk a0 (key_of (shown bu))).content = subst (λ (k : Key). IsBacked seal (shown bu) (disk a0 k).content) (sym key) (adopted_backed seal (shown bu) (disk a0 K) stands.adopted) in
       (always_now a0 b (OnlyAt (key_of (shown bu)) (disk a0) (λ x. Unit {0})) (alone backed)).others q (λ at. other (at ∙ key)) ∙ ap (λ (t : Timeline). disk t q) same
 
   -- the buffer that a flush gives stands over the blob
@@ -89,11 +88,6 @@ module _ {S : Type 0} {gs : _} (bu u : PageBlob S gs) (is : bu ≡ u) (K : Key) 
 -- the blob of a buffer is opened at the section's key
 pub open_at : {S : Type 0} {gs : _} (v : PageBlob S gs) (K : Key) (o : OpenedList) → key_of (shown v) ≡ K → IsOpenAt o (key_of (shown v)) v.end → IsOpenAt o K v.end
 open_at v K o key is = subst (λ (k : Key). IsOpenAt o k v.end) key is
-
--- the pages that a call left held are as in the section's blob
-pub held_on : {S : Type 0} {gs : _} (bu v : PageBlob S gs) (K : Key) (a0 b : Timeline) → key_of (shown bu) ≡ K → (AreHeldOf (disk a0 (key_of (shown bu))).content bu.held → AreHeldOf (disk b (key_of (shown bu))).content v.held)
-    → AreHeldOf (disk a0 K).content bu.held → AreHeldOf (disk b K).content v.held
-held_on bu v K a0 b key call = subst (λ (k : Key). AreHeldOf (disk a0 k).content bu.held → AreHeldOf (disk b k).content v.held) key call
 
 -- a buffer that was cut stands over the blob
 pub cut_stands : {S : Type 0} {gs : _} (seal : List ℕ → ℕ) {told : Type 0} (bu v : PageBlob S gs) (K : Key) (a0 b : Timeline) (key : key_of (shown bu) ≡ K) (n : ℕ) (t : told) → Stands seal (shown bu) (disk a0 K) → bu.settled ≡ size_of (shown bu)

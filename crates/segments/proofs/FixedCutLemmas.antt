@@ -39,9 +39,9 @@ module _ {S : Type 0} {gs : _} (seal : List ℕ → ℕ) (g : buffer.Ghosts (Pag
   pub settled_front : (from b : Blob) (least n : ℕ) → u.settled ≡ size_of (shown u) → least ≡ min u.settled n → IsAdopted seal (shown u) from → Leaves (g.NoChanceSeal u) (g.MayKeep u from least) b
       → chance.Leaves seal u.page_size (sealed_prefix seal u.page_size from.content) (min n (length (sealed_prefix seal u.page_size from.content))) b
   settled_front from b least n settled is (inl sealed) leaves =
-      let settles = settles_of seal (shown u) u.page_size (bytes_of (shown u) from.content) from refl u.fit.begun (all_flushed (shown u) u.fit.within u.order settled) settled sealed in
+      let settles = settles_of seal (shown u) u.page_size (bytes_of (shown u) from.content) from refl u.fit.begun (all_flushed (shown u) u.fit.within u.order settled) settled sealed.holds in
       subst (λ (l : List ℕ). chance.Leaves seal u.page_size l (min n (length (sealed_prefix seal u.page_size from.content))) b) (sym settles.prefix)
-      (leaves_sealed seal g pages u from b least (min n (length (sealed_prefix seal u.page_size from.content))) (omega (arith, is, settled, ap length settles.prefix, sealed.size)) sealed leaves)
+      (leaves_sealed seal g pages u from b least (min n (length (sealed_prefix seal u.page_size from.content))) (omega (arith, is, settled, ap length settles.prefix, sealed.holds.size)) sealed leaves)
   settled_front from b least n settled is (inr un) leaves =
       leaves_front seal g pages u from b least (min n (length (sealed_prefix seal u.page_size from.content))) (omega (arith, is, settled, (unrecovered_prefix seal (shown u) from (omega (arith, u.fit.begun)) un).1)) un leaves
 

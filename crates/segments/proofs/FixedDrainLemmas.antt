@@ -460,7 +460,7 @@ module _ {F S V D : Type 0} {gs : _} (seal : List ℕ → ℕ) (size : ℕ) (g :
               let gone = (run.over.disk t).gone_over fine s u is (over_it u is) (inl owed) in
               let settled = run.over.walk.owes_settled.settled s u is owed in
               let prefix = (settles_of seal (shown u) u.page_size (bytes_of (shown u) (disk (dev.time mid) (key_of now.journal.sections s)).content) (disk (dev.time mid) (key_of now.journal.sections s)) refl u.fit.begun
-              (all_flushed (shown u) u.fit.within u.order settled) settled gone.0).prefix in (
+              (all_flushed (shown u) u.fit.within u.order settled) settled gone.0.holds).prefix in (
                 bytes_are (Some u) is ∙ sym prefix ∙ sym (kept_are true (Some u) owed is),
                 ap (λ (l : List ℕ). length l % size) (kept_are true (Some u) owed is ∙ prefix) ∙ ap (λ (n : ℕ). n % size) (bytes_length (shown u) (disk (dev.time mid) (key_of now.journal.sections s)).content) ∙ gone.1,
               )

@@ -9,7 +9,7 @@ use Rattle.blob_device.proofs.Results.{on_err}
 use Rattle.sealed_pages.specs.declared.page_blob.PageBlob.{PageBlob}
 use Rattle.sealed_pages.specs.declared.pages.Pages.{Pages}
 use Rattle.value_codec.specs.declared.codec.Error as codec
-use Rattle.section_manager.specs.Refusing.{HasFailed, HasNoRoom, IsForeign}
+use Rattle.section_manager.specs.Refusing.{HasFailed, IsForeign}
 use Rattle.section_manager.specs.Sections.{section_key}
 use Rattle.section_manager.specs.Setting.{Setting}
 use Rattle.section_manager.specs.declared.buffer.SectionBuffer as buffer
@@ -44,18 +44,6 @@ module _ {T : Type 0} (e : Error) (start n m : ℕ) (Bad : Type 0) (cause : (IsE
     | inr (inr (inr (inr (inr (inr fault))))) ↦ (let h = fault.0 in cc (h, is))
   ]
 
-  -- and wants no room
-  drain_room : HasNoRoom {T = T} (Err e) → ⊥
-  drain_room is = elim cause [
-    | inl failed ↦ (let h = failed.0 in cc (h, is))
-    | inr (inl past) ↦ cc (past, is)
-    | inr (inr (inl below)) ↦ (let h = below.1 in cc (h, is))
-    | inr (inr (inr (inl page))) ↦ (let h = page.1 in cc (h, is))
-    | inr (inr (inr (inr (inl code)))) ↦ (let h = code.1 in cc (h, is))
-    | inr (inr (inr (inr (inr (inl none))))) ↦ cc (none, is)
-    | inr (inr (inr (inr (inr (inr fault))))) ↦ (let h = fault.0 in cc (h, is))
-  ]
-
 module _ {T D : Type 0} (dev : device.Ghosts D) (seal : List ℕ → ℕ) (P size : ℕ) (p : List ℕ) (last end : ℕ) (old new : D) where
   -- the opening failed
   pub failed_bounds : (r : Result T Error) (e : Error) (First : T → Type 0) (Ends : T → Type 0) → r ≡ Err e → Bounds seal P size p last end dev (Err e) old new First → Bounds seal P size p last end dev r old new Ends
@@ -64,7 +52,6 @@ module _ {T D : Type 0} (dev : device.Ghosts D) (seal : List ℕ → ℕ) (P siz
     ends = tt;
     names = has.names;
     entries = has.entries;
-    overflow = has.overflow;
     faults = has.faults;
   })
 
@@ -76,10 +63,9 @@ module _ {T D : Type 0} (dev : device.Ghosts D) (seal : List ℕ → ℕ) (P siz
       uncoded : (x : codec.Error) → IsErrOf {T = T} (Err e) (Codec x) → ⊥
       uncoded x at = elim cause [
         | inl called ↦ (let h = called.1 in cc (h, at))
-        | inr (inl room) ↦ cc (room, at)
-        | inr (inr (inl (inl none))) ↦ cc (none, at)
-        | inr (inr (inl (inr fault))) ↦ (let h = fault.0 in cc (h, at))
-        | inr (inr (inr damage)) ↦ (let h = damage.0.1 in cc (h, at))
+        | inr (inl (inl none)) ↦ cc (none, at)
+        | inr (inl (inr fault)) ↦ (let h = fault.0 in cc (h, at))
+        | inr (inr damage) ↦ (let h = damage.0.1 in cc (h, at))
       ]
 
 -- one that ended well has not failed
@@ -132,18 +118,12 @@ module _ {S V D : Type 0} {gs : _} (seal : List ℕ → ℕ) (P size : ℕ) (pos
       (subst (λ (x : Result (Lists (AppendFactory S) (PageBlob S gs)) Error). OnErr x ((IsErrOf x ReplayFailed × ((begun j).failed ≡ true)) ⊎ (IsErrOf x (ItemOutOfRange 0) ⊎ (IsBelowFloor x ⊎ HasNotRead x (dev.faults mid) (dev.faults new))))) is own_drains.cause)
       n (sym is ∙ at)
 
-  roomy : (q : Result (Lists (AppendFactory S) (PageBlob S gs)) Error) → r ≡ q → HasNoRoom r → ⊥
-  roomy (Ok k) is at = cc (is, at)
-  roomy (Err e) is at = drain_room e 0 (dev.faults mid) (dev.faults new) ((begun j).failed ≡ true)
-      (subst (λ (x : Result (Lists (AppendFactory S) (PageBlob S gs)) Error). OnErr x ((IsErrOf x ReplayFailed × ((begun j).failed ≡ true)) ⊎ (IsErrOf x (ItemOutOfRange 0) ⊎ (IsBelowFloor x ⊎ HasNotRead x (dev.faults mid) (dev.faults new))))) is own_drains.cause)
-      (sym is ∙ at)
-
   pub drained_bounds : (dev.Tells → (name : List ℕ) → IsForeign (disk (dev.time old)) p name → ⊥)
       → ((q : Key) → ((s : ℕ) → q ≢ section_key p s) → dev.opened mid q ≡ dev.opened old q) → dev.faults old ≤ dev.faults mid
       → Bounds seal P size p last end dev r old new (λ k. IsOpenedAtMost seal P size p last end g gives dev.Tells pages write_buffer spelling accepted k (dev.opened new) (disk (dev.time old)) (disk (dev.time new)))
   drained_bounds never entries faults = opened_bounds dev seal P size p last end r old new
       (λ k. IsOpenedAtMost seal P size p last end g gives dev.Tells pages write_buffer spelling accepted k (dev.opened new) (disk (dev.time old)) (disk (dev.time new)))
-      drained_moments drained_ends never (unnamed r refl) (roomy r refl)
+      drained_moments drained_ends never (unnamed r refl)
       (λ q none. own_drains.entries q (λ k. none k.0 (k.2 ∙ ap (λ (x : List ℕ). section_key x k.0) same)) ∙ entries q none) (omega (arith, faults, own_drains.faults))
 
   pub drained_cause : dev.faults old ≤ dev.faults mid → IsDrainCause seal P size p last end dev r old new spelling accepted refusal
@@ -158,8 +138,8 @@ module _ {S V D : Type 0} {gs : _} (seal : List ℕ → ℕ) (P size : ℕ) (pos
       | inl failed ↦ (let bad = failed.1 in absurd (cc bad))
       | inr (inl past) ↦ inr (inr (inl past, λ t. (let has = (own_drains.start t 0 past).1 in omega (arith, has))))
       | inr (inr (inl below)) ↦ inr (inr (inr below, λ t. (let has = (own_drains.damage t below.0 below.1).0 in omega (arith, has.less, has.wanted, cut.whole.floors below.0.section))))
-      | inr (inr (inr (inl page))) ↦ inl (inr (inr (inr (page, λ t. (let has = own_drains.damaged t page.0 page.1 in omega (arith, has.2.floor, cut.whole.floors has.0))))))
+      | inr (inr (inr (inl page))) ↦ inl (inr (inr (page, λ t. (let has = own_drains.damaged t page.0 page.1 in omega (arith, has.2.floor, cut.whole.floors has.0)))))
       | inr (inr (inr (inr (inl code)))) ↦ inr (inl code)
-      | inr (inr (inr (inr (inr failed)))) ↦ inl (inr (inr (inl (failed_since r (dev.faults old) (dev.faults mid) (dev.faults new) faults failed))))
+      | inr (inr (inr (inr (inr failed)))) ↦ inl (inr (inl (failed_since r (dev.faults old) (dev.faults mid) (dev.faults new) faults failed)))
     ]) own_drains.cause;
   }

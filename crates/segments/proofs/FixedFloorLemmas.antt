@@ -35,6 +35,7 @@ use Rattle.sealed_pages.proofs.Holding.{bytes_length}
 use Rattle.sealed_pages.proofs.Looking.{unchanged_now}
 use Rattle.sealed_pages.proofs.Reaching.{prefix_size}
 use Rattle.sealed_pages.proofs.SlotLemmas.{times_next}
+use Rattle.sealed_pages.proofs.UnrecoveredLemmas.{adopted_backed}
 use Rattle.section_manager.specs.declared.buffer.SectionBuffer as buffer
 use Rattle.section_manager.specs.declared.journal.Damage.{Damage}
 use Rattle.section_manager.specs.declared.journal.Error.{Error}
@@ -42,7 +43,7 @@ use Rattle.section_manager.specs.declared.journal.Error.TheVariants.{InvalidBlob
 use Rattle.section_manager.specs.declared.unopened.Unopened.TheVariants.{Section, Leftover}
 use Rattle.section_manager.specs.Entries.{OnlyOwnEntry}
 use Rattle.section_manager.specs.Lasting.{IsSettling}
-use Rattle.section_manager.specs.Refusing.{HasFailed, HasNoRoom}
+use Rattle.section_manager.specs.Refusing.{HasFailed}
 use Rattle.section_manager.specs.Sealed.{adopted_bytes}
 use Rattle.section_manager.specs.SealedLaws.{all_settled}
 use Rattle.section_manager.specs.Sections.{Sections, section_key, key_of, IsHeld, StandsOver, IsOver}
@@ -195,7 +196,7 @@ module _ {F S : Type 0} {gs : _} (g : buffer.Ghosts (PageBlob S gs)) (gives : F 
           size = sym (bytes_length (shown u) blob.content) ∙ ap length bytes ∙ length-data_from u.page_size (view blob.content) (adopted_size seal u.page_size blob.content) 0;
           bytes = bytes;
           settled = all_settled (shown u) (sym (are.unsettled u) ∙ opened.idle s u held);
-          held = are.held u blob ((opened.over.disk t).stands s u held);
+          backed = adopted_backed seal (shown u) blob (are.stands u blob ((opened.over.disk t).stands s u held)).adopted;
         }
 
 -- ---- a section's blob was read
@@ -436,15 +437,13 @@ size_is None n is = is
 size_is (Some u) n is = is
 
 -- what an opening refuses with is no damage of a section
-pub not_damaged : {T : Type 0} (e : Error) (before now : ℕ) → ((n : List ℕ) × IsErrOf {T = T} (Err e) (InvalidBlobName n)) ⊎ (HasNoRoom {T = T} (Err e) ⊎ HasFailed {T = T} (Err e) before now) → (x : Damage) → e ≡ Corruption x → ⊥
+pub not_damaged : {T : Type 0} (e : Error) (before now : ℕ) → ((n : List ℕ) × IsErrOf {T = T} (Err e) (InvalidBlobName n)) ⊎ HasFailed {T = T} (Err e) before now → (x : Damage) → e ≡ Corruption x → ⊥
 not_damaged e before now (inl name) x is = (let at = name.1 in absurd (cc (at, is)))
-not_damaged e before now (inr (inl room)) x is = absurd (cc (room, is))
-not_damaged e before now (inr (inr (inl memory))) x is = absurd (cc (memory, is))
-not_damaged e before now (inr (inr (inr fault))) x is = (let at = fault.0 in absurd (cc (at, is)))
+not_damaged e before now (inr (inl memory)) x is = absurd (cc (memory, is))
+not_damaged e before now (inr (inr fault)) x is = (let at = fault.0 in absurd (cc (at, is)))
 
 -- nor of an item
-pub not_coded : {T : Type 0} (e : Error) (before now : ℕ) → ((n : List ℕ) × IsErrOf {T = T} (Err e) (InvalidBlobName n)) ⊎ (HasNoRoom {T = T} (Err e) ⊎ HasFailed {T = T} (Err e) before now) → (x : codec.Error) → e ≡ Codec x → ⊥
+pub not_coded : {T : Type 0} (e : Error) (before now : ℕ) → ((n : List ℕ) × IsErrOf {T = T} (Err e) (InvalidBlobName n)) ⊎ HasFailed {T = T} (Err e) before now → (x : codec.Error) → e ≡ Codec x → ⊥
 not_coded e before now (inl name) x is = (let at = name.1 in absurd (cc (at, is)))
-not_coded e before now (inr (inl room)) x is = absurd (cc (room, is))
-not_coded e before now (inr (inr (inl memory))) x is = absurd (cc (memory, is))
-not_coded e before now (inr (inr (inr fault))) x is = (let at = fault.0 in absurd (cc (at, is)))
+not_coded e before now (inr (inl memory)) x is = absurd (cc (memory, is))
+not_coded e before now (inr (inr fault)) x is = (let at = fault.0 in absurd (cc (at, is)))

@@ -112,12 +112,12 @@ module _ (seal : List ℕ → ℕ) (P : ℕ) (c : List ℕ) (pos : 1 ≤ P) wher
 module _ (seal : List ℕ → ℕ) (u : Buffer) (b : Blob) (begun : u.from < u.page_size) where
   -- the bytes of a sealed buffer are its sealed prefix, once they are flushed
   pub sealed_flushed : IsSealed seal u b → u.from ≡ length u.tip → sealed_prefix seal u.page_size b.content ≡ bytes_of u b.content
-  sealed_flushed sealed flushed = holds_prefix seal u (bytes_of u b.content) b begun sealed flushed
+  sealed_flushed sealed flushed = holds_prefix seal u (bytes_of u b.content) b begun sealed.holds flushed
 
   -- they stand in the blob, once they are flushed, also where the buffer is not sealed
   pub flushed_data : IsAdopted seal u b → u.from ≡ length u.tip → bytes_of u b.content ≡ data_from u.page_size (view b.content) 0 (length (bytes_of u b.content))
   flushed_data adopted flushed = sym (data_all u.page_size (length (bytes_of u b.content)) (bytes_of u b.content) b.content (omega (arith, begun))
-      (subst (λ (n : ℕ). Data u.page_size (bytes_of u b.content) n (view b.content)) (omega (arith, flushed, bytes_length u b.content)) (adopted_backed seal u b adopted)) refl)
+      (subst (λ (n : ℕ). Data u.page_size (bytes_of u b.content) n (view b.content)) (omega (arith, flushed, bytes_length u b.content)) (adopted_backed seal u b adopted).flushed) refl)
 
   -- a buffer whose sealed prefix has as many bytes as the buffer is sealed
   pub sealed_by_length : IsAdopted seal u b → size_of u ≤ length (sealed_prefix seal u.page_size b.content) → IsSealed seal u b

@@ -2,7 +2,7 @@
 use Rattle.std.proofs.Common.{◌≡◌, ◌≢◌, ◌⊎◌, ◌↔◌, inl, inr, ℕ, ◌%◌, ◌^◌, ◌<◌, ◌≤◌, Bool, false, List, [], Option, None, Some, IsSome, IsTrue, Result, Ok, Err, OnErr, refl, sym, ◌∙◌, ap, subst, arith}
 use Rattle.std.specs.List.{Contains}
 use Rattle.std.specs.Result.{IsErrOf}
-use Rattle.blob_device.specs.declared.runtime.RError.TheVariants.{Fault, OffsetOverflow}
+use Rattle.blob_device.specs.declared.runtime.RError.TheVariants.{Fault}
 use Rattle.blob_device.specs.Disk.{Disk}
 use Rattle.blob_device.specs.Opened.{OpenedList}
 use Rattle.sealed_pages.specs.Buffer.{size_of}
@@ -17,7 +17,7 @@ use Rattle.std.specs.BTreeMap.{BTreeMap, is_at}
 use Rattle.std.specs.Map.{lookup}
 use Rattle.std.specs.Option.{unwrap_or}
 use Rattle.std.specs.Ordering.{nat_cmp}
-use Rattle.section_manager.specs.Refusing.{HasNoRoom, HasFailed}
+use Rattle.section_manager.specs.Refusing.{HasFailed}
 use Rattle.section_manager.specs.SealedLaws.{all_settled}
 use Rattle.section_manager.specs.Sections.{Sections, section_key, key_of, IsHeld, IsOver}
 use Rattle.section_manager.specs.Setting.{Setting}
@@ -31,13 +31,12 @@ size_some None pos = absurd (omega (arith, pos))
 size_some (Some u) pos = refl
 
 -- what an opening refuses with is what its manager did
-pub opened_cause : {T U : Type 0} (e : Error) (r : Result U Error) (before now : ℕ) → r ≡ Err e → ((n : List ℕ) × IsErrOf {T = T} (Err e) (InvalidBlobName n)) ⊎ (HasNoRoom {T = T} (Err e) ⊎ HasFailed {T = T} (Err e) before now)
-    → OnErr r (((n : List ℕ) × IsErrOf r (InvalidBlobName n)) ⊎ (HasNoRoom r ⊎ HasFailed r before now))
+pub opened_cause : {T U : Type 0} (e : Error) (r : Result U Error) (before now : ℕ) → r ≡ Err e → ((n : List ℕ) × IsErrOf {T = T} (Err e) (InvalidBlobName n)) ⊎ HasFailed {T = T} (Err e) before now
+    → OnErr r (((n : List ℕ) × IsErrOf r (InvalidBlobName n)) ⊎ HasFailed r before now)
 opened_cause e (Ok v) before now is cause = tt
 opened_cause e (Err x) before now is (inl foreign) = (let same : e ≡ InvalidBlobName foreign.0 = cc foreign.1 in inl (foreign.0, is ∙ ap Err same))
-opened_cause e (Err x) before now is (inr (inl room)) = (let same : e ≡ Runtime OffsetOverflow = cc room in inr (inl (is ∙ ap Err same)))
-opened_cause e (Err x) before now is (inr (inr (inl memory))) = (let same : e ≡ Mem = cc memory in inr (inr (inl (is ∙ ap Err same))))
-opened_cause e (Err x) before now is (inr (inr (inr fault))) = (let same : e ≡ Runtime Fault = cc fault.0 in inr (inr (inr (is ∙ ap Err same, fault.1))))
+opened_cause e (Err x) before now is (inr (inl memory)) = (let same : e ≡ Mem = cc memory in inr (inl (is ∙ ap Err same)))
+opened_cause e (Err x) before now is (inr (inr fault)) = (let same : e ≡ Runtime Fault = cc fault.0 in inr (inr (is ∙ ap Err same, fault.1)))
 
 -- a map without entries gives no floor
 pub no_floor : (m : BTreeMap ℕ ℕ) → m.entries ≡ [] → (s : ℕ) → floor_in m s ≡ 0

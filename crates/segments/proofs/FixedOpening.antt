@@ -2,16 +2,17 @@
 use Rattle.std.specs.Prelude.{◌≡◌, ◌⊎◌, ◌↔◌, ℕ, ◌+◌, ◌-◌, ◌*◌, ◌/◌, ◌%◌, ◌^◌, ◌<◌, ◌≤◌, min, cond, Bool, true, false, List, [], length, IsTrue, IsSomeAnd, Option, None, Some, IsSome, Result, Ok, Err}
 use Rattle.std.proofs.Common.{inl, inr, refl, sym, ◌∙◌, ap, subst, arith, eqb}
 use Rattle.sealed_pages.proofs.Holding.{bool_or}
+use Rattle.std.proofs.Math.Nat.{div-mul-le_self}
 use Rattle.std.proofs.lemmas.Bool.{cases_eq, eq-eqb, eqb-true}
+use Rattle.std.proofs.lemmas.Nat.{le-div}
 use Rattle.blob_device.specs.Disk.{Key, Blob, Disk}
 use Rattle.blob_device.specs.Opened.{OpenedList, reads_of}
 use Rattle.blob_device.specs.Timeline.{Timeline, disk, Always, Each}
 use Rattle.blob_device.proofs.Moments.{always_start}
 use Rattle.sealed_pages.specs.declared.page_blob.PageBlob.{PageBlob}
 use Rattle.sealed_pages.specs.Shown.{shown}
-use Rattle.sealed_pages.specs.Buffer.{size_of, bytes_of, IsSealed}
+use Rattle.sealed_pages.specs.Buffer.{size_of, bytes_of, IsBacked, IsSealed}
 use Rattle.sealed_pages.specs.ChanceSeal.{Leaves, Sealing}
-use Rattle.sealed_pages.specs.Held.{AreHeldOf}
 use Rattle.sealed_pages.specs.Readers.{Reader, IsReplayOf}
 use Rattle.sealed_pages.specs.Reads.{pages_for}
 use Rattle.sealed_pages.specs.SealedPrefix.{sealed_prefix}
@@ -176,7 +177,7 @@ module _ {F S : Type 0} {gs : _} (seal : List ℕ → ℕ) (size : ℕ) (g : buf
     -- The replay stands at the section's first item, or at its start.
     module _ (v : PageBlob S gs) (held_new : new.journal.sections.held s ≡ Some v) (R : Reader) (first : ℕ) (first_is : first ≡ cond (w.journal.unrecovered s) 0 (first_of w s))
         (flush : IsFlushed seal told u (disk a (key_of w.journal.sections s)) v (disk b (key_of w.journal.sections s))) (begins : BeginsOver seal (key_of w.journal.sections s) u v R)
-        (replays : (content : List ℕ) → AreHeldOf content v.held → IsReplayOf seal content (record R { at = first * size; bytes = [] })) (holds : (x : PageBlob S gs) (c : Blob) → g.Stands x c → AreHeldOf c.content x.held)
+        (replays : (content : List ℕ) → IsBacked seal (shown v) content → IsReplayOf seal content (record R { at = first * size; bytes = [] })) (holds : (x : PageBlob S gs) (c : Blob) → g.Stands x c → IsBacked seal (shown x) c.content)
         (at_first : p ≡ Some (record { section = s; position = first; reader = record R { at = first * size; bytes = [] } })) (ended : new.ended ≡ w.ended) (pos : 1 ≤ size) where
       abbrev r : Place
       r = record { section = s; position = first; reader = record R { at = first * size; bytes = [] } }
@@ -387,7 +388,8 @@ module _ {F S : Type 0} {gs : _} (seal : List ℕ → ℕ) (size : ℕ) (g : buf
 
           reads_here : reads_of (after (key_of w.journal.sections s)) + reads_left new s ≤ reads_of (before (key_of w.journal.sections s)) + reads_left w s
           reads_here =
-              let pages : pages_for R.page_size R.size ≡ pages_for u.page_size (size_of (shown u)) = λ i. pages_for (begins.page_size i) (begins.size i) in
+              let pages : R.size / R.page_size ≤ pages_for u.page_size (size_of (shown u)) = subst (λ (x : ℕ × ℕ). x.1 / x.0 ≤ pages_for u.page_size (size_of (shown u))) (λ i. (sym begins.page_size i, sym begins.size i))
+              (le-div (size_of (shown u) / u.page_size) (size_of (shown u) + (u.page_size - 1)) u.page_size (omega (arith, u.fit.begun)) (omega (arith, div-mul-le_self (size_of (shown u)) u.page_size))) in
               omega (arith, none_begun, pages, count_here new r v place_new held_new, count_ahead w s u none held ahead, ap {B = ℕ} (λ (o : Bool). cond o 1 0) (only.unrecovered s))
 
           nearer : way_of new < way_of w

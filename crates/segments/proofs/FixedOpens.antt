@@ -10,7 +10,7 @@ use Rattle.sealed_pages.specs.Reading.{Unchanged}
 use Rattle.sealed_pages.specs.declared.page_blob.PageBlob.{PageBlob}
 use Rattle.sealed_pages.specs.declared.pages.Pages.{Pages}
 use Rattle.section_manager.specs.Lasting.{IsSettling}
-use Rattle.section_manager.specs.Refusing.{HasFailed, HasNoRoom, IsForeign, IsOpenedTooLong}
+use Rattle.section_manager.specs.Refusing.{HasFailed, IsForeign}
 use Rattle.section_manager.specs.Sections.{Sections, section_key, IsHeld, IsOver}
 use Rattle.section_manager.specs.Setting.{Setting}
 use Rattle.section_manager.specs.declared.buffer.SectionBuffer as buffer
@@ -51,15 +51,14 @@ module _ {S D : Type 0} {gs : _} (g : buffer.Ghosts (PageBlob S gs)) (gives : Ap
     floor = tt;
     ceiling = tt;
     moments = λ t. settling_start place most (dev.time old);
-    foreign = λ t name bad. (tt, λ room. cc room);
+    foreign = λ t name bad. tt;
     foreign_disk = λ t name bad. unchanged_start (dev.time old);
     foreign_entries = λ t name bad. refl;
     name_entries = λ n at. refl;
     named = λ t n at. absurd (cc at);
     entries = λ q never. refl;
-    overflow = λ room. absurd (cc room);
     faults = omega arith;
-    cause = inr (inr (inl refl));
+    cause = inr (inl refl);
   })
 
 module _ {S D : Type 0} {gs : _} (g : buffer.Ghosts (PageBlob S gs)) (gives : AppendFactory S → Setting) (seal : List ℕ → ℕ) (size : ℕ) (place : List ℕ) (f : AppendFactory S) (most : ℕ) (dev : device.Ghosts D) where
@@ -70,17 +69,15 @@ module _ {S D : Type 0} {gs : _} (g : buffer.Ghosts (PageBlob S gs)) (gives : Ap
   -- its sections were not opened
   pub opens_failed : {U : Type 0} (r : Result (Lists (AppendFactory S) (PageBlob S gs)) Error) (e : Error) (old new : D) → r ≡ Err e
       → (dev.Tells → Always (dev.time old) (dev.time new) (Each (IsSettling place most (disk (dev.time old)))))
-      → (dev.Tells → (name : List ℕ) → IsForeign (disk (dev.time old)) place name → HasNoRoom {T = U} (Err e) → ⊥)
       → (dev.Tells → (name : List ℕ) → IsForeign (disk (dev.time old)) place name → Unchanged (dev.time old) (dev.time new))
       → (dev.Tells → (name : List ℕ) → IsForeign (disk (dev.time old)) place name → dev.opened new ≡ dev.opened old)
       → ((n : List ℕ) → IsErrOf {T = U} (Err e) (InvalidBlobName n) → dev.opened new ≡ dev.opened old)
       → (dev.Tells → (n : List ℕ) → IsErrOf {T = U} (Err e) (InvalidBlobName n) → IsForeign (disk (dev.time old)) place n)
       → ((q : Key) → ((s : ℕ) → s ≤ most → q ≢ section_key place s) → dev.opened new q ≡ dev.opened old q)
-      → (HasNoRoom {T = U} (Err e) → (s : ℕ) × IsOpenedTooLong (λ n. 2 ^ 64 ≤ n + (f.pages.page_size + 12)) (dev.opened new) (section_key place s))
       → dev.faults old ≤ dev.faults new
-      → ((n : List ℕ) × IsErrOf {T = U} (Err e) (InvalidBlobName n)) ⊎ (HasNoRoom {T = U} (Err e) ⊎ HasFailed {T = U} (Err e) (dev.faults old) (dev.faults new))
+      → ((n : List ℕ) × IsErrOf {T = U} (Err e) (InvalidBlobName n)) ⊎ HasFailed {T = U} (Err e) (dev.faults old) (dev.faults new)
       → Opened r old new
-  opens_failed {U = U} r e old new is moments room untouched unopened entries named others overflow faults cause =
+  opens_failed {U = U} r e old new is moments untouched unopened entries named others faults cause =
       subst (λ (x : Result (Lists (AppendFactory S) (PageBlob S gs)) Error). Opened x old new) (sym is) (record {
         over = tt;
         held = λ t. tt;
@@ -98,13 +95,12 @@ module _ {S D : Type 0} {gs : _} (g : buffer.Ghosts (PageBlob S gs)) (gives : Ap
         floor = tt;
         ceiling = tt;
         moments = moments;
-        foreign = λ t name bad. (tt, λ none. room t name bad (cc none));
+        foreign = λ t name bad. tt;
         foreign_disk = untouched;
         foreign_entries = unopened;
         name_entries = λ n at. entries n (cc at);
         named = λ t n at. named t n (cc at);
         entries = others;
-        overflow = λ none. overflow (cc none);
         faults = faults;
         cause = opened_cause {T = U} e (Err e) (dev.faults old) (dev.faults new) refl cause;
       })
@@ -139,9 +135,8 @@ module _ {S D : Type 0} {gs : _} (g : buffer.Ghosts (PageBlob S gs)) (gives : Ap
       name_entries = λ n at. absurd (cc at);
       named = λ t n at. absurd (cc at);
       entries = others;
-      overflow = λ room. absurd (cc room);
       faults = faults;
-      cause = inr (inr (inl refl));
+      cause = inr (inl refl);
     })
 
     pub opens_ok : (are : ArePages g seal)
@@ -179,7 +174,6 @@ module _ {S D : Type 0} {gs : _} (g : buffer.Ghosts (PageBlob S gs)) (gives : Ap
       name_entries = λ n at. absurd (cc at);
       named = λ t n at. absurd (cc at);
       entries = others;
-      overflow = λ room. absurd (cc room);
       faults = faults;
       cause = tt;
     }

@@ -2,16 +2,12 @@
 use Rattle.std.proofs.Common.{◌≡◌, ◌⊎◌, ◌↔◌, ◌∙◌, ◌≤◌, inl, inr, ℕ, List, Bool, false, Option, Some, None, Result, Ok, Err, refl, ap, sym, subst, OnErr, IfOk}
 use Rattle.std.specs.Result.{IsErr, IsErrOf}
 use Rattle.blob_device.proofs.Results.{err_with}
-use Rattle.sealed_pages.specs.Buffer.{Buffer}
-use Rattle.sealed_pages.specs.Shown.{shown}
-use Rattle.sealed_pages.specs.declared.page_blob.PageBlob.{PageBlob}
 use Rattle.section_manager.specs.declared.journal.Error.{Error}
 use Rattle.section_manager.specs.declared.journal.Error.TheVariants.{InvalidBlobName, Corruption, Codec, Mem}
 use Rattle.section_manager.specs.declared.journal.Damage.{Damage}
 use Rattle.value_codec.specs.declared.codec.Error as codec
-use Rattle.section_manager.specs.Refusing.{IsPruned, HasDamage, HasFailed, HasNoRoom}
+use Rattle.section_manager.specs.Refusing.{IsPruned, HasDamage, HasFailed}
 use Rattle.segments.proofs.FixedReading.{failed_since}
-use Rattle.segments.specs.FixedLists.{shown_held}
 
 -- nothing is said of the value of a call that failed
 pub no_value : {T E : Type 0} (P : T → Type 0) (r : Result T E) → IsErr r → IfOk r P
@@ -64,40 +60,26 @@ cut_on {U = U} r e floor n m is cause = err_with r (elim cause [
 
 -- the same of another spelling of the result of an opening
 pub foreign_on : {T : Type 0} (r q : Result T Error) (n m : ℕ) → r ≡ q
-    → OnErr q (((x : List ℕ) × IsErrOf q (InvalidBlobName x)) ⊎ (HasNoRoom q ⊎ HasFailed q n m))
-    → OnErr r (((x : List ℕ) × IsErrOf r (InvalidBlobName x)) ⊎ (HasNoRoom r ⊎ HasFailed r n m))
+    → OnErr q (((x : List ℕ) × IsErrOf q (InvalidBlobName x)) ⊎ HasFailed q n m)
+    → OnErr r (((x : List ℕ) × IsErrOf r (InvalidBlobName x)) ⊎ HasFailed r n m)
 foreign_on {T = T} r q n m is cause =
-    subst (λ (y : Result T Error). OnErr y (((x : List ℕ) × IsErrOf y (InvalidBlobName x)) ⊎ (HasNoRoom y ⊎ HasFailed y n m))) (sym is) cause
+    subst (λ (y : Result T Error). OnErr y (((x : List ℕ) × IsErrOf y (InvalidBlobName x)) ⊎ HasFailed y n m)) (sym is) cause
 
--- what only fails so names no blob, and wants no room
+-- what only fails so names no blob
 pub never_named : {T : Type 0} (r : Result T Error) (n m : ℕ) (x : List ℕ) → OnErr r (HasFailed r n m) → IsErrOf r (InvalidBlobName x) → ⊥
 never_named (Ok v) n m x failed is = cc is
 never_named (Err e) n m x failed is = elim failed [ inl none ↦ cc (none, is) | inr fault ↦ (let h = fault.0 in cc (h, is)) ]
-
-pub never_room : {T : Type 0} (r : Result T Error) (n m : ℕ) → OnErr r (HasFailed r n m) → HasNoRoom r → ⊥
-never_room (Ok v) n m failed is = cc is
-never_room (Err e) n m failed is = elim failed [ inl none ↦ cc (none, is) | inr fault ↦ (let h = fault.0 in cc (h, is)) ]
-
--- a buffer that shows the same is as idle
-pub idle_alike : {S : Type 0} {gs : _} (busy : Buffer → Bool) (a b : Option (PageBlob S gs)) → shown_held b ≡ shown_held a
-    → ((v : PageBlob S gs) → a ≡ Some v → busy (shown v) ≡ false) → (u : PageBlob S gs) → b ≡ Some u → busy (shown u) ≡ false
-idle_alike busy a None same idle u is = absurd (cc is)
-idle_alike busy None (Some w) same idle u is = absurd (cc same)
-idle_alike {S = S} busy (Some v) (Some w) same idle u is =
-    let shows : shown w ≡ shown v = cc same in
-    let own : w ≡ u = cc is in
-    ap (λ (x : PageBlob S _). busy (shown x)) (sym own) ∙ ap busy shows ∙ idle v refl
 
 -- A marker's check failed: a damaged item, one that is none, or as any call of the device.
 module _ {T U : Type 0} (r : Result T Error) (e : Error) (n m l : ℕ) (is : r ≡ Err e)
     (cause : ((x : Damage) × IsErrOf {T = U} (Err e) (Corruption x)) ⊎ (((x : codec.Error) × IsErrOf {T = U} (Err e) (Codec x)) ⊎ HasFailed {T = U} (Err e) m l)) where
   pub checked_on : n ≤ m
       → OnErr r (((x : List ℕ) × IsErrOf r (InvalidBlobName x)) ⊎ (((x : Damage) × IsErrOf r (Corruption x))
-      ⊎ (((x : codec.Error) × IsErrOf r (Codec x)) ⊎ (HasNoRoom r ⊎ HasFailed r n l))))
+      ⊎ (((x : codec.Error) × IsErrOf r (Codec x)) ⊎ HasFailed r n l)))
   checked_on le = err_with r (elim cause [
     | inl (x, damage) ↦ inr (inl (x, cc (is, damage)))
     | inr (inl (x, refused)) ↦ inr (inr (inl (x, cc (is, refused))))
-    | inr (inr failed) ↦ inr (inr (inr (inr (failed_since r n m l le (failed_on {U = U} r e m l is failed)))))
+    | inr (inr failed) ↦ inr (inr (inr (failed_since r n m l le (failed_on {U = U} r e m l is failed))))
   ])
 
   pub checked_named : (x : List ℕ) → IsErrOf r (InvalidBlobName x) → ⊥
@@ -106,14 +88,6 @@ module _ {T U : Type 0} (r : Result T Error) (e : Error) (n m l : ℕ) (is : r �
     | inr (inl (y, refused)) ↦ cc (is, refused, named)
     | inr (inr (inl none)) ↦ cc (is, none, named)
     | inr (inr (inr (fault, rose))) ↦ cc (is, fault, named)
-  ]
-
-  pub checked_room : HasNoRoom r → ⊥
-  checked_room room = elim cause [
-    | inl (y, damage) ↦ cc (is, damage, room)
-    | inr (inl (y, refused)) ↦ cc (is, refused, room)
-    | inr (inr (inl none)) ↦ cc (is, none, room)
-    | inr (inr (inr (fault, rose))) ↦ cc (is, fault, room)
   ]
 
 -- The last step fails by damage, or for want of memory.
@@ -127,11 +101,10 @@ owing_coded r e x is cause refused = elim cause [ inl (y, damage) ↦ cc (is, da
 
 -- The opening failed.
 pub opening_on : {T U : Type 0} (r : Result T Error) (e : Error) (n m : ℕ) → r ≡ Err e
-    → ((x : List ℕ) × IsErrOf {T = U} (Err e) (InvalidBlobName x)) ⊎ (HasNoRoom {T = U} (Err e) ⊎ HasFailed {T = U} (Err e) n m)
+    → ((x : List ℕ) × IsErrOf {T = U} (Err e) (InvalidBlobName x)) ⊎ HasFailed {T = U} (Err e) n m
     → OnErr r (((x : List ℕ) × IsErrOf r (InvalidBlobName x)) ⊎ (((x : Damage) × IsErrOf r (Corruption x))
-    ⊎ (((x : codec.Error) × IsErrOf r (Codec x)) ⊎ (HasNoRoom r ⊎ HasFailed r n m))))
+    ⊎ (((x : codec.Error) × IsErrOf r (Codec x)) ⊎ HasFailed r n m)))
 opening_on {U = U} r e n m is cause = err_with r (elim cause [
   | inl (x, named) ↦ inl (x, cc (is, named))
-  | inr (inl room) ↦ inr (inr (inr (inl (cc (is, room)))))
-  | inr (inr failed) ↦ inr (inr (inr (inr (failed_on {U = U} r e n m is failed))))
+  | inr failed ↦ inr (inr (inr (failed_on {U = U} r e n m is failed)))
 ])

@@ -14,7 +14,7 @@ use Rattle.sealed_pages.specs.declared.page_blob.PageBlob.{PageBlob}
 use Rattle.value_codec.specs.declared.codec.Error as codec
 use Rattle.section_manager.specs.Answers.{RefusesNames}
 use Rattle.section_manager.specs.Lasting.{IsSettling}
-use Rattle.section_manager.specs.Refusing.{HasFailed, HasNoRoom, IsForeign, IsOpenedTooLong}
+use Rattle.section_manager.specs.Refusing.{HasFailed, IsForeign}
 use Rattle.section_manager.specs.Sections.{Sections, section_key, key_of, IsHeld, IsOver}
 use Rattle.section_manager.specs.Setting.{Setting}
 use Rattle.section_manager.specs.declared.buffer.SectionBuffer as buffer
@@ -30,7 +30,7 @@ use Rattle.segments.proofs.FixedAsBefore.{ReadsAs, under_same, under_back, refus
 use Rattle.segments.proofs.FixedChecking.{boundary_own}
 use Rattle.segments.proofs.FixedFloorLemmas.{AreOpened, adopted_now, held_now, content_now, there_now, was_there, not_damaged, not_coded}
 use Rattle.segments.proofs.FixedWriteLemmas.{ArePages}
-use Rattle.segments.proofs.FixedPassing.{failed_on, opening_on, error_back, checked_on, checked_named, checked_room, no_error}
+use Rattle.segments.proofs.FixedPassing.{failed_on, opening_on, error_back, checked_on, checked_named, no_error}
 
 -- after an opening that settles, each blob reads as before
 pub reads_as : (seal : List ℕ → ℕ) (P size : ℕ) (p : List ℕ) (at bytes : ℕ) (from now : Timeline) → Always from now (Each (IsSettling p at (disk from))) → ReadsAs seal P size p at bytes (disk now) (disk from)
@@ -67,10 +67,9 @@ module _ {A D T : Type 0} (seal : List ℕ → ℕ) (P size : ℕ) (p : List ℕ
     whole = λ t kept x of. absurd (rest (sym (ap (λ (n : ℕ). n % size) (own old)) ∙ (kept at (inl refl)).whole));
     refused = λ t x of. absurd (cc (is, bad, of));
     entries = λ q not. refl;
-    overflow = λ of. absurd (cc (is, bad, of));
     faults = omega arith;
     cause = subst (λ (x : Result T Error). OnErr x (((n : List ℕ) × IsErrOf x (InvalidBlobName n)) ⊎ (((y : Damage) × IsErrOf x (Corruption y))
-        ⊎ (((y : codec.Error) × IsErrOf x (Codec y)) ⊎ (HasNoRoom x ⊎ HasFailed x (dev.faults old) (dev.faults old)))))) (sym is)
+        ⊎ (((y : codec.Error) × IsErrOf x (Codec y)) ⊎ HasFailed x (dev.faults old) (dev.faults old))))) (sym is)
         (inr (inl (record { section = at; kept = bytes; wanted = whole_of size bytes }, cc bad)));
   }
     where
@@ -86,25 +85,22 @@ module _ {A D T : Type 0} (seal : List ℕ → ℕ) (P size : ℕ) (p : List ℕ
 
   -- its sections were not opened
   pub checks_opening : {U : Type 0} (old new : D) → bytes % size ≡ 0 → (dev.Tells → Always (dev.time old) (dev.time new) (Each (IsSettling p at (disk (dev.time old)))))
-      → (dev.Tells → (name : List ℕ) → IsForeign (disk (dev.time old)) p name → HasNoRoom {T = U} (Err e) → ⊥)
       → (dev.Tells → (name : List ℕ) → IsForeign (disk (dev.time old)) p name → Unchanged (dev.time old) (dev.time new))
       → (dev.Tells → (name : List ℕ) → IsForeign (disk (dev.time old)) p name → dev.opened new ≡ dev.opened old)
       → ((n : List ℕ) → IsErrOf {T = U} (Err e) (InvalidBlobName n) → dev.opened new ≡ dev.opened old)
       → (dev.Tells → (n : List ℕ) → IsErrOf {T = U} (Err e) (InvalidBlobName n) → IsForeign (disk (dev.time old)) p n)
       → ((q : Key) → ((s : ℕ) → s ≤ at → q ≢ section_key p s) → dev.opened new q ≡ dev.opened old q)
-      → (HasNoRoom {T = U} (Err e) → (s : ℕ) × IsOpenedTooLong (λ n. 2 ^ 64 ≤ n + (P + 12)) (dev.opened new) (section_key p s))
       → dev.faults old ≤ dev.faults new
-      → ((n : List ℕ) × IsErrOf {T = U} (Err e) (InvalidBlobName n)) ⊎ (HasNoRoom {T = U} (Err e) ⊎ HasFailed {T = U} (Err e) (dev.faults old) (dev.faults new))
+      → ((n : List ℕ) × IsErrOf {T = U} (Err e) (InvalidBlobName n)) ⊎ HasFailed {T = U} (Err e) (dev.faults old) (dev.faults new)
       → Checks seal P size p at bytes spelling accepted refusal dev r old new Ends
-  checks_opening {U = U} old new whole moments room untouched unopened entries named others overflow faults cause = record {
+  checks_opening {U = U} old new whole moments untouched unopened entries named others faults cause = record {
     moments = moments;
     ends = none;
     partial = λ rest. absurd (rest whole);
     names = λ same. record {
       foreign = λ t name bad. elim cause [
         | inl called ↦ inl (called.0, (let h = called.1 in cc (is, h)))
-        | inr (inl lack) ↦ absurd (room t name bad lack)
-        | inr (inr failed) ↦ inr (failed_on {U = U} r e (dev.faults old) (dev.faults new) is failed)
+        | inr failed ↦ inr (failed_on {U = U} r e (dev.faults old) (dev.faults new) is failed)
       ];
       untouched = untouched;
       unopened = unopened;
@@ -116,7 +112,6 @@ module _ {A D T : Type 0} (seal : List ℕ → ℕ) (P size : ℕ) (p : List ℕ
     whole = λ t kept x of. not_damaged {T = U} e (dev.faults old) (dev.faults new) cause x (cc (is, of));
     refused = λ t x of. absurd (not_coded {T = U} e (dev.faults old) (dev.faults new) cause x (cc (is, of)));
     entries = others;
-    overflow = λ of. overflow (cc (is, of));
     faults = faults;
     cause = opening_on {U = U} r e (dev.faults old) (dev.faults new) is cause;
   }
@@ -147,7 +142,6 @@ module _ {A D T : Type 0} (seal : List ℕ → ℕ) (P size : ℕ) (p : List ℕ
           let alike = reads_as seal P size p at bytes (dev.time old) (dev.time mid) (moments t) in
           (had.0, under_same seal P size p at bytes (disk (dev.time mid)) (disk (dev.time old)) alike had.0 had.1, item_same seal P size p at bytes (disk (dev.time mid)) (disk (dev.time old)) alike refusal had.0 x had.2, below t had.0 had.3);
       entries = λ q not. looks.entries q (λ s le at_s. not s le (at_s ∙ ap (λ (l : List ℕ). section_key l s) place)) ∙ others q not;
-      overflow = λ of. absurd (checked_room {U = U} r e (dev.faults old) (dev.faults mid) (dev.faults new) is looks.cause of);
       faults = omega (arith, faults, looks.faults);
       cause = checked_on {U = U} r e (dev.faults old) (dev.faults mid) (dev.faults new) is looks.cause faults;
     }
@@ -212,7 +206,6 @@ module _ {A D T : Type 0} (seal : List ℕ → ℕ) (P size : ℕ) (p : List ℕ
     whole = λ t kept y of. no_error x (Corruption y) of;
     refused = λ t y of. absurd (no_error x (Codec y) of);
     entries = others;
-    overflow = λ of. absurd (cc of);
     faults = faults;
     cause = tt;
   }

@@ -1,9 +1,9 @@
 -- Reading items of a fixed journal: where they stand, which of them are held in memory, and how many pages they touch.
-use Rattle.std.proofs.Common.{◌≡◌, ◌↔◌, inl, inr, ℕ, zero, suc, ◌+◌, ◌-◌, ◌*◌, ◌/◌, ◌<◌, ◌≤◌, leb, cond, count_by, Bool, true, false, List, length, get_or, take, drop, refl, sym, ◌∙◌, ap, subst, arith}
+use Rattle.std.proofs.Common.{◌≡◌, inl, inr, ℕ, zero, suc, ◌+◌, ◌-◌, ◌*◌, ◌/◌, ◌<◌, ◌≤◌, cond, count_by, Bool, true, false, List, length, get_or, take, drop, refl, sym, ◌∙◌, ap, subst, arith}
 use Rattle.std.specs.List.{Contains}
 use Rattle.std.specs.List.Sorted.{IsStrictlySortedBy}
 use Rattle.std.specs.Ordering.{nat_cmp}
-use Rattle.std.proofs.lemmas.Bool.{cases_eq, cases_lt, leb-true, le-leb}
+use Rattle.std.proofs.lemmas.Bool.{cases_eq, cases_lt}
 use Rattle.std.proofs.lemmas.Bool.Decides.{nat_tests}
 use Rattle.std.proofs.lemmas.List.{get_or_default}
 use Rattle.std.proofs.lemmas.List.Sums.{count_by_more_yes, count_by_more_no, sum_by-take-le, sum_by_more, sum_by_more_le}
@@ -13,7 +13,7 @@ use Rattle.std.proofs.Math.Nat.{mul-le-mul_right, div-mul-le_self}
 use Rattle.blob_device.specs.Disk.{Key}
 use Rattle.blob_device.specs.Opened.{OpenedList}
 use Rattle.sealed_pages.specs.Entries.{ReadsAtMost}
-use Rattle.sealed_pages.specs.Reads.{IsHeld, IsCovered, IsShort, touched, below}
+use Rattle.sealed_pages.specs.Reads.{IsShort, touched, below}
 use Rattle.sealed_pages.proofs.EntryLemmas.{reads_then}
 use Rattle.sealed_pages.proofs.Holding.{bool_or, div_place, times_sum}
 use Rattle.sealed_pages.proofs.SlotLemmas.{times_next}
@@ -27,14 +27,6 @@ item_within size n p lt =
 
 -- a read of as many bytes as the item at p has, from where it stands
 module _ (P first size p m n : ℕ) (at : m ≡ p * size) (long : n ≡ size) where
-  -- an answer that tells whether the bytes are held
-  pub told_held : (total : ℕ) (r : Bool) → 1 ≤ size → p * size + size ≤ total → (r ≡ true) ↔ IsHeld P first total m n → r ≡ leb (first * P) (p * size)
-  told_held total true pos fits iff = sym (le-leb (first * P) (p * size) (omega (arith, (iff.0 refl m (omega arith) (omega (arith, long, pos))).0, at)))
-  told_held total false pos fits iff = elim (bool_or (leb (first * P) (p * size))) [
-    | inl is ↦ absurd (cc (iff.1 (λ i low high. (omega (arith, leb-true (first * P) (p * size) is, low, at), omega (arith, fits, high, at, long)))))
-    | inr not_held ↦ sym not_held
-  ]
-
   pub read_item : (xs bytes : List ℕ) → xs ≡ take n (drop m bytes) → xs ≡ item_at size bytes p
   read_item xs bytes is = is ∙ ap (λ (k : ℕ). take n (drop k bytes)) at ∙ ap (λ (k : ℕ). take k (drop (p * size) bytes)) long
 
@@ -42,14 +34,10 @@ module _ (P first size p m n : ℕ) (at : m ≡ p * size) (long : n ≡ size) wh
   short_item seal content k short =
       subst (λ (x : ℕ). IsShort seal P content (p * size) (below P first (p * size) x) k) long (subst (λ (x : ℕ). IsShort seal P content x (below P first x n) k) at short)
 
--- no page below the tip has bytes of a held item
-pub held_covered : (seal : List ℕ → ℕ) (P first size p : ℕ) (content : List ℕ) → leb (first * P) (p * size) ≡ true → IsCovered seal P content (p * size) (below P first (p * size) size)
-held_covered seal P first size p content is k wanted = absurd (omega (arith, leb-true (first * P) (p * size) is, wanted.some))
-
-touched_none : (P m n : ℕ) → n ≡ 0 → touched P m n ≡ 0
+pub touched_none : (P m n : ℕ) → n ≡ 0 → touched P m n ≡ 0
 touched_none P m n none = grind (arith, nat_tests)
 
-touched_some : (P m n : ℕ) → (n ≡ 0 → ⊥) → touched P m n ≡ (m + n + (P - 1)) / P - m / P
+pub touched_some : (P m n : ℕ) → (n ≡ 0 → ⊥) → touched P m n ≡ (m + n + (P - 1)) / P - m / P
 touched_some P m n some = grind (arith, nat_tests)
 
 -- so many bytes touch at most two pages more than they fill

@@ -510,7 +510,7 @@ module _ {F S : Type 0} {gs : _} (seal : List ℕ → ℕ) (size : ℕ) (g : buf
       unread_item : unread_of (after_item size r).reader ≡ unread_of r.reader
       unread_item =
           let e : r.reader.at + size + length (drop size r.reader.bytes) ≡ r.reader.at + length r.reader.bytes = omega (arith, has, length-drop size r.reader.bytes) in
-          ap (λ (n : ℕ). pages_for r.reader.page_size r.reader.size - next_missing r.reader.piece (n / r.reader.page_size)) e
+          ap (λ (n : ℕ). r.reader.size / r.reader.page_size - next_missing r.reader.piece (n / r.reader.page_size)) e
 
       not_before : (x q : ℕ) → StandsBefore x q r.section r.position → r.section < x → ⊥
       not_before x q before lt = elim before [ inl less ↦ omega (arith, less, lt) | inr same ↦ omega (arith, same.0, lt) ]

@@ -4,14 +4,15 @@ use Rattle.blob_device.specs.Disk.{Key, Blob, Disk}
 use Rattle.blob_device.specs.Opened.{Opened, OpenedList}
 use Rattle.blob_device.proofs.Puts.{same_or_other}
 use Rattle.sealed_pages.specs.declared.page_blob.PageBlob.{PageBlob}
-use Rattle.sealed_pages.specs.Buffer.{size_of, bytes_of, IsSealed}
+use Rattle.sealed_pages.specs.Buffer.{size_of, bytes_of, IsBacked, IsSealed}
 use Rattle.sealed_pages.specs.Buffer as pages
 use Rattle.sealed_pages.specs.Entries.{IsOpenAt, ReadsAtMost}
-use Rattle.sealed_pages.specs.Held.{AreHeldOf}
 use Rattle.sealed_pages.specs.Reading.{OnlyRead}
 use Rattle.sealed_pages.specs.Shown.{shown}
+use Rattle.sealed_pages.proofs.UnrecoveredLemmas.{adopted_backed}
 use Rattle.sealed_pages.proofs.WholeLemmas.{whole_read}
 use Rattle.section_manager.specs.declared.buffer.SectionBuffer as buffer
+use Rattle.section_manager.specs.Sealed.{Stands}
 use Rattle.section_manager.specs.Setting.{Setting}
 use Rattle.section_manager.specs.Sections.{Sections, key_of, IsHeld, HasOpened}
 use Rattle.section_manager.proofs.WalkLemmas.{value_of, some_same}
@@ -42,9 +43,9 @@ module _ {F S : Type 0} {gs : _} (m : Sections F (PageBlob S gs)) (s : ℕ) (u :
     pub own_here : (P : PageBlob S gs → Blob → Type 0) (d : Disk) → P u (d (pages.key_of (shown u))) → IsSomeAnd (m.held s) (λ v. P v (d (key_of m s)))
     own_here P d has = some_here (λ v. P v (d (key_of m s))) (subst (λ (q : Key). P u (d q)) key has)
 
-    -- the pages that it holds are as in its blob
-    pub holds_own : (d : Disk) → AreHeldOf (d (key_of m s)).content u.held → AreHeldOf (d (pages.key_of (shown u))).content u.held
-    holds_own d has = subst (λ (q : Key). AreHeldOf (d q).content u.held) (sym key) has
+    -- what it has in memory is as in its blob
+    pub holds_own : (seal : List ℕ → ℕ) (d : Disk) → Stands seal (shown u) (d (key_of m s)) → IsBacked seal (shown u) (d (pages.key_of (shown u))).content
+    holds_own seal d stands = subst (λ (q : Key). IsBacked seal (shown u) (d q).content) (sym key) (adopted_backed seal (shown u) (d (key_of m s)) stands.adopted)
 
 module _ {F S : Type 0} {gs : _} (g : buffer.Ghosts (PageBlob S gs)) (gives : F → Setting) where
   -- reads leave each blob opened, as long as it was
@@ -89,4 +90,4 @@ sound_page {S = S} {gs = gs} g gives seal size told j opened d journal t s at k 
       | inr has ↦ (let w = value_of (j.sections.held s) (λ v. IsSealed seal (shown v) (d (key_of j.sections s))) has in
           subst (λ (v : PageBlob S gs). IsSealed seal (shown v) (d (key_of j.sections s))) (some_same w.value u.value (sym w.is ∙ u.is)) w.has)
     ] in
-    whole_read seal (shown u.value) (bytes_of (shown u.value) (d (key_of j.sections s)).content) (d (key_of j.sections s)) sealed (at u.value * size) size k u.has
+    whole_read seal (shown u.value) (bytes_of (shown u.value) (d (key_of j.sections s)).content) (d (key_of j.sections s)) sealed.holds (at u.value * size) size k u.has

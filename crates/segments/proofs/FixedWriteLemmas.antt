@@ -10,7 +10,6 @@ use Rattle.sealed_pages.specs.Buffer.{size_of, bytes_of, IsSealed}
 use Rattle.sealed_pages.specs.ChanceSeal.{NoChanceSeal}
 use Rattle.sealed_pages.specs.ChanceSeal as chance
 use Rattle.sealed_pages.specs.declared.page_blob.PageBlob.{PageBlob}
-use Rattle.sealed_pages.specs.Held.{AreHeldOf}
 use Rattle.sealed_pages.specs.SealedPrefix.{sealed_prefix, Prefix}
 use Rattle.sealed_pages.specs.Unrecovered.{IsUnrecovered}
 use Rattle.sealed_pages.specs.Shown.{shown}
@@ -36,8 +35,7 @@ pub record ArePages {S : Type 0} {gs : _} (g : buffer.Ghosts (PageBlob S gs)) (s
   pub bytes : (u : PageBlob S gs) (c : List ℕ) → g.bytes u c ≡ bytes_of (shown u) c
   pub holds : (s : Setting) (c : List ℕ) → g.holds s c ≡ adopted_bytes seal s.page_size c
   pub stands : (u : PageBlob S gs) (b : Blob) → g.Stands u b → Stands seal (shown u) b
-  pub held : (u : PageBlob S gs) (b : Blob) → g.Stands u b → AreHeldOf b.content u.held
-  pub is_stands : (u : PageBlob S gs) (b : Blob) → Stands seal (shown u) b → AreHeldOf b.content u.held → g.Stands u b
+  pub is_stands : (u : PageBlob S gs) (b : Blob) → Stands seal (shown u) b → g.Stands u b
   pub is_whole : (u : PageBlob S gs) (b : Blob) → IsSealed seal (shown u) b → g.IsWhole u b
   pub whole : (u : PageBlob S gs) (b : Blob) → g.IsWhole u b → IsSealed seal (shown u) b
   pub keeps : (u : PageBlob S gs) (b : Blob) (least : ℕ) (contents : List (List ℕ)) (c : List ℕ) → g.MayKeep u b least contents c → MayKeep seal (shown u) b least c
@@ -51,9 +49,8 @@ are_pages R gs dict = record {
   page_size = λ u. refl;
   bytes = λ u c. refl;
   holds = λ s c. refl;
-  stands = λ u b is. is.stands;
-  held = λ u b is. is.held;
-  is_stands = λ u b is held. record { stands = is; held = held };
+  stands = λ u b is. is;
+  is_stands = λ u b is. is;
   is_whole = λ u b is. is;
   whole = λ u b is. is;
   keeps = λ u b least contents c is. is;

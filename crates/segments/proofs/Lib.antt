@@ -1,4 +1,3 @@
-pub mod FixedHolding
 pub mod FixedKept
 pub mod FixedWalks
 pub mod FixedWalksOn
@@ -28,6 +27,7 @@ pub mod FixedOpens
 pub mod FixedErrors
 pub mod FixedPassing
 pub mod FixedReadLemmas
+pub mod FixedMemory
 pub mod FixedSections
 pub mod FixedRemoveLemmas
 pub mod FixedBuffers

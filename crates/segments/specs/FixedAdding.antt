@@ -12,7 +12,7 @@ use Rattle.sealed_pages.specs.Unrecovered.{IsUnrecovered, KeepsPrefix}
 use Rattle.sealed_pages.specs.declared.page_blob.PageBlob.{PageBlob}
 use Rattle.section_manager.specs.Entries.{OnlyOwnEntry}
 use Rattle.section_manager.specs.Leaving.{AllMoments}
-use Rattle.section_manager.specs.Refusing.{HasFailed, HasNoRoom, IsPruned}
+use Rattle.section_manager.specs.Refusing.{HasFailed, IsPruned}
 use Rattle.section_manager.specs.Sections.{key_of, IsHeld, IsSame, SameBounds}
 use Rattle.section_manager.specs.Setting.{Setting}
 use Rattle.section_manager.specs.declared.buffer.SectionBuffer as buffer
@@ -114,8 +114,6 @@ module _ {S : Type 0} {gs : _} (j : Lists (AppendFactory S) (PageBlob S gs)) (se
       pub full_first : j.sections.floor ≤ section → (u : _) → j.sections.held section ≡ Some u
           → 2 ^ 64 ≤ extent u.page_size (size_of (shown u) + count)
           → IsErrOf result Full ⊎ IsErrOf result Mem
-      -- a blob that leaves no room is found only where no disk is told
-      pub no_room : dev.Tells → HasNoRoom result → ⊥
       -- where the bytes were added there was room
       pub room : OnOk result ((u : _) → j.sections.held section ≡ Some u
           → extent u.page_size (size_of (shown u) + count) < 2 ^ 64)
@@ -123,4 +121,4 @@ module _ {S : Type 0} {gs : _} (j : Lists (AppendFactory S) (PageBlob S gs)) (se
       pub faults : dev.faults old ≤ dev.faults new
       -- nothing else is answered but a fault or want of memory
       pub cause : OnErr result (IsPruned result j.sections.floor ⊎ (IsErrOf result Full
-          ⊎ (HasNoRoom result ⊎ HasFailed result (dev.faults old) (dev.faults new))))
+          ⊎ HasFailed result (dev.faults old) (dev.faults new)))

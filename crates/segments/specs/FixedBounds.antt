@@ -18,7 +18,7 @@ use Rattle.sealed_pages.specs.declared.pages.Pages.{Pages}
 use Rattle.value_codec.specs.declared.codec.Error as codec
 use Rattle.section_manager.specs.Answers.{RefusesNames}
 use Rattle.section_manager.specs.Lasting.{IsGoing, Going}
-use Rattle.section_manager.specs.Refusing.{HasDamage, HasFailed, HasNoRoom, IsOpenedTooLong, IsPruned}
+use Rattle.section_manager.specs.Refusing.{HasDamage, HasFailed, IsPruned}
 use Rattle.section_manager.specs.Sealed.{adopted_bytes, is_unsettled}
 use Rattle.section_manager.specs.Sections.{Sections, section_key, key_of, IsCut, IsGone, IsHeld, IsKeyOf, IsKnown, IsSame, SamePlace}
 use Rattle.section_manager.specs.Setting.{Setting}
@@ -382,18 +382,14 @@ module _ (seal : List ℕ → ℕ) (P size : ℕ) (partition : List ℕ) (last e
       -- the list of opened blobs changes for the sections alone
       pub entries : (q : Key) → ((s : ℕ) → q ≢ section_key partition s) → dev.opened new q
           ≡ dev.opened old q
-      -- where a blob has no room behind it for a page, that is a section's
-      pub overflow : HasNoRoom result
-          → (s : ℕ)
-          × IsOpenedTooLong (λ n. 2 ^ 64 ≤ n + (P + 12)) (dev.opened new) (section_key partition s)
       -- faults are counted on
       pub faults : dev.faults old ≤ dev.faults new
 
     -- Why one fails that goes over no item. No page is damaged where the disk is told.
     abbrev pub IsBoundCause : Type 0
     IsBoundCause = ((n : List ℕ) × IsErrOf result (InvalidBlobName n))
-        ⊎ (HasNoRoom result ⊎ (HasFailed result (dev.faults old) (dev.faults new)
-        ⊎ (HasDamage result × (dev.Tells → ⊥))))
+        ⊎ (HasFailed result (dev.faults old) (dev.faults new)
+        ⊎ (HasDamage result × (dev.Tells → ⊥)))
 
     -- One that goes over all items may also find one that is none.
     pub record IsDrainCause {V : Type 0} (spelling : V → List ℕ)

@@ -17,7 +17,7 @@ use Rattle.sealed_pages.specs.declared.pages.Pages.{Pages}
 use Rattle.value_codec.specs.declared.codec.Error as codec
 use Rattle.section_manager.specs.Answers.{RefusesNames}
 use Rattle.section_manager.specs.Lasting.{IsSettling}
-use Rattle.section_manager.specs.Refusing.{HasDamage, HasFailed, HasNoRoom, IsOpenedTooLong}
+use Rattle.section_manager.specs.Refusing.{HasDamage, HasFailed}
 use Rattle.section_manager.specs.Sealed.{adopted_bytes, is_unsettled}
 use Rattle.section_manager.specs.Sections.{Sections, section_key, key_of, IsHeld, IsKeyOf, IsKnown, IsOver}
 use Rattle.section_manager.specs.Setting.{Setting}
@@ -243,13 +243,11 @@ module _ {A : Type 0} (seal : List ℕ → ℕ) (P size : ℕ) (partition : List
           × IsRefusedItem seal P size partition at bytes (disk (dev.time old)) refusal s e × PassesBelow s
       -- the list of opened blobs changes for sections up to the checkpoint alone
       pub entries : (q : Key) → ((s : ℕ) → s ≤ at → q ≢ section_key partition s) → dev.opened new q ≡ dev.opened old q
-      -- where a blob has no room behind it for a page, that is a section's
-      pub overflow : HasNoRoom result → (s : ℕ) × IsOpenedTooLong (λ n. 2 ^ 64 ≤ n + (P + 12)) (dev.opened new) (section_key partition s)
       -- faults are counted on
       pub faults : dev.faults old ≤ dev.faults new
       -- nothing else is answered but a fault or want of memory
       pub cause : OnErr result (((n : List ℕ) × IsErrOf result (InvalidBlobName n)) ⊎ (((x : Damage) × IsErrOf result (Corruption x))
-          ⊎ (((e : codec.Error) × IsErrOf result (Codec e)) ⊎ (HasNoRoom result ⊎ HasFailed result (dev.faults old) (dev.faults new)))))
+          ⊎ (((e : codec.Error) × IsErrOf result (Codec e)) ⊎ HasFailed result (dev.faults old) (dev.faults new))))
 
 -- ---- what `finish` does
 

@@ -3,10 +3,9 @@ use Rattle.std.specs.Prelude.{◌≡◌, ◌⊎◌, ℕ, ◌-◌, ◌*◌, ◌/�
 use Rattle.std.specs.BTreeMap as tree
 use Rattle.std.specs.Ordering.{nat_cmp}
 use Rattle.blob_device.specs.Disk.{Blob, Disk}
-use Rattle.sealed_pages.specs.Buffer.{size_of, bytes_of}
+use Rattle.sealed_pages.specs.Buffer.{size_of, bytes_of, IsBacked}
 use Rattle.sealed_pages.specs.declared.page_blob.PageBlob.{PageBlob}
 use Rattle.sealed_pages.specs.declared.pages.Pages.{Pages}
-use Rattle.sealed_pages.specs.Held.{AreHeldOf}
 use Rattle.sealed_pages.specs.Shown as page_blob
 use Rattle.sealed_pages.specs.Reads.{IsCovered, IsShort, PassesSize}
 use Rattle.sealed_pages.specs.SealedPrefix.{sealed_prefix, adopted_size, data_from}
@@ -49,13 +48,13 @@ journal_of p = journal.shown p.journal
 
 module _ (seal : List ℕ → ℕ) where
   -- A buffer as adopting makes it over this blob: its bytes are the data up to the size at which the blob is adopted, all of them have
-  -- settled, and the pages that it holds are as in it.
+  -- settled, and what it has in memory is as in it.
   pub record IsAdoptedOver {S : Type 0} {g : _} (u : PageBlob S g) (b : Blob) : Type 0 where
     pub there : IsTrue b.there
     pub size : size_of (page_blob.shown u) ≡ adopted_size seal u.page_size b.content
     pub bytes : bytes_of (page_blob.shown u) b.content ≡ adopted_bytes seal u.page_size b.content
     pub settled : u.settled ≡ size_of (page_blob.shown u)
-    pub held : AreHeldOf b.content u.held
+    pub backed : IsBacked seal (page_blob.shown u) b.content
 
   -- each section is held by such a buffer
   abbrev pub AreAdopted : {F S : Type 0} {g : _} → Sections F (PageBlob S g) → Disk → Type 0

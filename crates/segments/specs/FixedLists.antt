@@ -50,17 +50,6 @@ module _ {S : Type 0} {gs : _} where
     abbrev pub section_size : ℕ → ℕ
     section_size s = size_held (m.held s)
 
-  -- what a buffer shows, of one that is held
-  abbrev pub shown_held : Option (PageBlob S gs) → Option Buffer
-  shown_held None = None
-  shown_held (Some u) = Some (shown u)
-
-  -- The sections are the same, in buffers that show the same: they may hold other pages in memory.
-  pub record AreAlike {F : Type 0} (m n : Sections F (PageBlob S gs)) : Type 0 where
-    pub held : (s : ℕ) → shown_held (n.held s) ≡ shown_held (m.held s)
-    pub unopened : (s : ℕ) → n.unopened s ≡ m.unopened s
-    pub bounds : SameBounds m n
-
   -- A section that owes a replay is held.
   pub record OwesHeld {F : Type 0} (j : Lists F (PageBlob S gs)) : Type 0 where
     pub held : (s : ℕ) → IsTrue (j.unrecovered s) → IsHeld j.sections s

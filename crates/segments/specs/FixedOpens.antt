@@ -8,7 +8,7 @@ use Rattle.sealed_pages.specs.Reading.{Unchanged}
 use Rattle.sealed_pages.specs.declared.page_blob.PageBlob.{PageBlob}
 use Rattle.sealed_pages.specs.declared.pages.Pages.{Pages}
 use Rattle.section_manager.specs.Lasting.{IsSettling}
-use Rattle.section_manager.specs.Refusing.{HasFailed, HasNoRoom, IsForeign, IsOpenedTooLong}
+use Rattle.section_manager.specs.Refusing.{HasFailed, IsForeign}
 use Rattle.section_manager.specs.Sections.{section_key, IsHeld}
 use Rattle.section_manager.specs.Setting.{Setting}
 use Rattle.section_manager.specs.declared.buffer.SectionBuffer as buffer
@@ -70,7 +70,7 @@ module _ {S D : Type 0} {gs : _} (g : buffer.Ghosts (PageBlob S gs))
         (Each (IsSettling place most (disk (dev.time old))))
     -- a name that is no section's is refused, also above the bound
     pub foreign : dev.Tells → (name : List ℕ) → IsForeign (disk (dev.time old)) place name
-        → OnOk result ⊥ × (HasNoRoom result → ⊥)
+        → OnOk result ⊥
     -- then nothing was changed
     pub foreign_disk : dev.Tells → (name : List ℕ) → IsForeign (disk (dev.time old)) place name
         → Unchanged (dev.time old) (dev.time new)
@@ -86,12 +86,8 @@ module _ {S D : Type 0} {gs : _} (g : buffer.Ghosts (PageBlob S gs))
     -- the list of opened blobs changes for sections up to the bound alone
     pub entries : (q : Key) → ((s : ℕ) → s ≤ most → q ≢ section_key place s)
         → dev.opened new q ≡ dev.opened old q
-    -- where a blob has no room behind it for a page, that is a section's
-    pub overflow : HasNoRoom result
-        → (s : ℕ) × IsOpenedTooLong (λ n. 2 ^ 64 ≤ n + (paged.page_size + 12)) (dev.opened new)
-        (section_key place s)
     -- faults are counted on
     pub faults : dev.faults old ≤ dev.faults new
     -- nothing else is answered but a fault or want of memory
     pub cause : OnErr result (((n : List ℕ) × IsErrOf result (InvalidBlobName n))
-        ⊎ (HasNoRoom result ⊎ HasFailed result (dev.faults old) (dev.faults new)))
+        ⊎ HasFailed result (dev.faults old) (dev.faults new))

@@ -1,12 +1,12 @@
 -- What reading an item of a fixed journal answers.
-use Rattle.std.specs.Prelude.{◌⊎◌, ℕ, ◌*◌, ◌/◌, ◌<◌, leb, not, Bool, List, Result, count_by}
+use Rattle.std.specs.Prelude.{◌⊎◌, ℕ, ◌*◌, ◌/◌, ◌<◌, eqb, not, Bool, List, Result, count_by}
 use Rattle.std.specs.Result.{IsErrOf}
 use Rattle.blob_device.specs.declared.runtime.RError.TheVariants.{InvalidChecksum}
 use Rattle.value_codec.specs.declared.codec.Error as codec
 use Rattle.sealed_pages.specs.declared.page_blob.PageBlob.{PageBlob}
 use Rattle.sealed_pages.specs.Shown.{shown}
 use Rattle.sealed_pages.specs.Buffer.{size_of}
-use Rattle.sealed_pages.specs.Reads.{IsShort, IsCovered, below}
+use Rattle.sealed_pages.specs.Reads.{IsShort, IsCovered, below, missing_pages}
 use Rattle.section_manager.specs.declared.journal.Damage.{Damage}
 use Rattle.section_manager.specs.declared.journal.Error.{Error}
 use Rattle.section_manager.specs.declared.journal.Error.TheVariants.{Runtime, Codec, SectionOutOfRange, ItemOutOfRange, Corruption}
@@ -17,9 +17,9 @@ module _ {S : Type 0} {gs : _} (size : ℕ) where
   abbrev pub HasItem : PageBlob S gs → ℕ → Type 0
   HasItem u p = p < size_of (shown u) / size
 
-  -- all bytes of the item at p are held in memory
+  -- all bytes of the item at p are held in memory: no page below the tip that has one of them is out of it
   abbrev pub is_item_held : PageBlob S gs → ℕ → Bool
-  is_item_held u p = leb (u.first * u.page_size) (p * size)
+  is_item_held u p = eqb (missing_pages (shown u) (p * size) size) 0
 
   -- of so many of these positions the item is not held whole
   abbrev pub unheld : PageBlob S gs → List ℕ → ℕ

@@ -6,10 +6,9 @@ use Rattle.blob_device.specs.Opened.{OpenedList, reads_of}
 use Rattle.blob_device.specs.Timeline.{Timeline, disk, Always, Each}
 use Rattle.sealed_pages.specs.declared.page_blob.PageBlob.{PageBlob}
 use Rattle.sealed_pages.specs.Shown.{shown}
-use Rattle.sealed_pages.specs.Buffer.{size_of, bytes_of, IsSealed}
+use Rattle.sealed_pages.specs.Buffer.{size_of, bytes_of, IsBacked, IsSealed}
 use Rattle.sealed_pages.specs.Cutting.{IsAtRest}
 use Rattle.sealed_pages.specs.SealedPrefix.{sealed_prefix}
-use Rattle.sealed_pages.specs.Held.{AreHeldOf}
 use Rattle.sealed_pages.specs.Readers.{Reader, IsReplayOf, unread_of}
 use Rattle.sealed_pages.specs.Reads.{pages_for}
 use Rattle.sealed_pages.specs.Unrecovered.{IsUnrecovered}
@@ -137,7 +136,7 @@ pub record BeginsOver {S : Type 0} {gs : _} (seal : List ℕ → ℕ) (k : Key) 
   pub end : r.end ≡ v.end
   pub size : r.size ≡ size_of (shown u)
   pub at : r.at ≡ 0
-  pub replays : (content : List ℕ) → AreHeldOf content v.held → IsReplayOf seal content r
+  pub replays : (content : List ℕ) → IsBacked seal (shown v) content → IsReplayOf seal content r
 
 module _ {F S : Type 0} {gs : _} (seal : List ℕ → ℕ) (size : ℕ) where
   -- The items that are left are the same, from the same bytes, and what is still to be read is as long as before.

@@ -16,5 +16,5 @@ use Rattle.segments_tests.specs.declared.store.Store.TheVariants.{Closed, Items,
 -- a journal of items of eight bytes, or a manager of buffers without seals
 abbrev pub IsOpen : Memory → Store → Type 0
 IsOpen dev Closed = Unit {0}
-IsOpen dev (Items j) = IsJournal (page_blob.ghosts the_row seal.ghosts seal.dict) (λ f. record { page_size = f.pages.page_size; capacity = f.write_buffer }) seal.ghosts.seal_of 8 (Unit {0}) (journal.shown j) (memory_opened dev) (disk (memory_time dev))
-IsOpen dev (Sections m) = IsOver write_blob.ghosts (λ f. record { page_size = 1; capacity = f.capacity }) (Unit {0}) (managed.shown m) (memory_opened dev) (disk (memory_time dev))
+IsOpen dev (Items j) = IsJournal (page_blob.ghosts the_row seal.ghosts seal.dict) (λ f. record { page_size = f.pages.page_size; capacity = f.write_buffer; cache_pages = f.pages.cache_pages }) seal.ghosts.seal_of 8 (Unit {0}) (journal.shown j) (memory_opened dev) (disk (memory_time dev))
+IsOpen dev (Sections m) = IsOver write_blob.ghosts (λ f. record { page_size = 1; capacity = f.capacity; cache_pages = 0 }) (Unit {0}) (managed.shown m) (memory_opened dev) (disk (memory_time dev))

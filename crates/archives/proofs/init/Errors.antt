@@ -104,12 +104,6 @@ module _ {T : Type 0} (r : Result T Error) where
   gives_up_before a b c le (inl (inr fault)) = inl (inr (fault.0, rose_before a b c le fault.1))
   gives_up_before a b c le (inr lost) = inr (lost.0, rose_before a b c le lost.1)
 
-  -- then it is not for want of room
-  pub no_room_given_up : (a b : ℕ) → GivesUp a b → IsErrOf r (Journal (section.Runtime OffsetOverflow)) → ⊥
-  no_room_given_up a b (inl (inl memory)) room = cc (memory, room)
-  no_room_given_up a b (inl (inr fault)) room = (let is = fault.0 in cc (is, room))
-  no_room_given_up a b (inr lost) room = (let is = lost.0 in cc (is, room))
-
   module _ (U : Type 0) (e : journal.Error) (is : r ≡ Err (raised e)) where
     abbrev pub Lower : Result U journal.Error
     Lower = Err e
@@ -151,22 +145,21 @@ module _ {T : Type 0} (r : Result T Error) where
     -- the opening of the pair refuses
     abbrev pub PairRefuses : ℕ → ℕ → Type 0
     PairRefuses a b = ((side : Side) × IsErrOf Lower (section.Metadata (store.Corruption side))) ⊎ (((n : List ℕ) × IsErrOf Lower (section.InvalidBlobName n)) ⊎ (((x : Damage) × IsErrOf Lower (section.Corruption x))
-        ⊎ (((y : codec.Error) × IsErrOf Lower (section.Codec y)) ⊎ (below.HasNoRoom Lower ⊎ (below.HasFailed Lower a b ⊎ pair.HasLostMarkers Lower a b)))))
+        ⊎ (((y : codec.Error) × IsErrOf Lower (section.Codec y)) ⊎ (below.HasFailed Lower a b ⊎ pair.HasLostMarkers Lower a b))))
 
     pub pair_stops : (a b : ℕ) → PairRefuses a b → Stops a b
     pair_stops a b (inl corrupt) = inl (inl (corrupt.0, handed (section.Metadata (store.Corruption corrupt.0)) corrupt.1))
     pair_stops a b (inr (inl named)) = inl (inr (inl (named.0, handed (section.InvalidBlobName named.0) named.1)))
     pair_stops a b (inr (inr (inl damage))) = inl (inr (inr (inl (damage.0, handed (section.Corruption damage.0) damage.1))))
     pair_stops a b (inr (inr (inr (inl refused)))) = inl (inr (inr (inr (inr (inr (inl (refused.0, handed (section.Codec refused.0) refused.1)))))))
-    pair_stops a b (inr (inr (inr (inr (inl room))))) = inl (inr (inr (inr (inr (inr (inr (inl (handed (section.Runtime OffsetOverflow) room))))))))
-    pair_stops a b (inr (inr (inr (inr (inr gave))))) = inr (gives_up_on a b gave)
+    pair_stops a b (inr (inr (inr (inr gave)))) = inr (gives_up_on a b gave)
 
     -- the end of the pair's opening refuses
     abbrev pub EndRefuses : ℕ → ℕ → Type 0
     EndRefuses a b = IsErrOf Lower section.Full ⊎ (pair.HasLostMarkers Lower a b ⊎ (((x : Damage) × IsErrOf Lower (section.Corruption x)) ⊎ HasNotRead Lower a b))
 
     pub end_stops : (a b c : ℕ) → a ≤ b → EndRefuses b c → Stops a c
-    end_stops a b c le (inl full) = inl (inr (inr (inr (inr (inr (inr (inr (inr (handed section.Full full)))))))))
+    end_stops a b c le (inl full) = inl (inr (inr (inr (inr (inr (inr (inr (handed section.Full full))))))))
     end_stops a b c le (inr (inl lost)) = inr (gives_up_before a b c le (inr (lost_on b c lost)))
     end_stops a b c le (inr (inr (inl damage))) = inl (inr (inr (inl (damage.0, handed (section.Corruption damage.0) damage.1))))
     end_stops a b c le (inr (inr (inr (inl page)))) = inl (inr (inr (inr (inl (page.0, handed (section.Runtime (InvalidChecksum page.0)) page.1)))))
@@ -178,15 +171,14 @@ module _ {T : Type 0} (r : Result T Error) where
 
     -- what holds of each error of the pair's opening, or of its end, holds of this one
     pub pair_only : (Q : journal.Error → Type 0) → ((side : Side) → Q (section.Metadata (store.Corruption side))) → ((n : List ℕ) → Q (section.InvalidBlobName n)) → ((x : Damage) → Q (section.Corruption x)) → ((y : codec.Error) → Q (section.Codec y))
-        → Q (section.Runtime OffsetOverflow) → Q section.Mem → Q (section.Runtime Fault) → Q (section.Metadata (store.Runtime Fault)) → (a b : ℕ) → PairRefuses a b → Q e
-    pair_only Q corrupt named damage refused room memory fault lost a b (inl is_corrupt) = subst Q (this (section.Metadata (store.Corruption is_corrupt.0)) is_corrupt.1) (corrupt is_corrupt.0)
-    pair_only Q corrupt named damage refused room memory fault lost a b (inr (inl has)) = subst Q (this (section.InvalidBlobName has.0) has.1) (named has.0)
-    pair_only Q corrupt named damage refused room memory fault lost a b (inr (inr (inl has))) = subst Q (this (section.Corruption has.0) has.1) (damage has.0)
-    pair_only Q corrupt named damage refused room memory fault lost a b (inr (inr (inr (inl has)))) = subst Q (this (section.Codec has.0) has.1) (refused has.0)
-    pair_only Q corrupt named damage refused room memory fault lost a b (inr (inr (inr (inr (inl has))))) = subst Q (this (section.Runtime OffsetOverflow) has) room
-    pair_only Q corrupt named damage refused room memory fault lost a b (inr (inr (inr (inr (inr (inl (inl has))))))) = subst Q (this section.Mem has) memory
-    pair_only Q corrupt named damage refused room memory fault lost a b (inr (inr (inr (inr (inr (inl (inr has))))))) = subst Q (this (section.Runtime Fault) has.0) fault
-    pair_only Q corrupt named damage refused room memory fault lost a b (inr (inr (inr (inr (inr (inr has)))))) = subst Q (this (section.Metadata (store.Runtime Fault)) has.0) lost
+        → Q section.Mem → Q (section.Runtime Fault) → Q (section.Metadata (store.Runtime Fault)) → (a b : ℕ) → PairRefuses a b → Q e
+    pair_only Q corrupt named damage refused memory fault lost a b (inl is_corrupt) = subst Q (this (section.Metadata (store.Corruption is_corrupt.0)) is_corrupt.1) (corrupt is_corrupt.0)
+    pair_only Q corrupt named damage refused memory fault lost a b (inr (inl has)) = subst Q (this (section.InvalidBlobName has.0) has.1) (named has.0)
+    pair_only Q corrupt named damage refused memory fault lost a b (inr (inr (inl has))) = subst Q (this (section.Corruption has.0) has.1) (damage has.0)
+    pair_only Q corrupt named damage refused memory fault lost a b (inr (inr (inr (inl has)))) = subst Q (this (section.Codec has.0) has.1) (refused has.0)
+    pair_only Q corrupt named damage refused memory fault lost a b (inr (inr (inr (inr (inl (inl has)))))) = subst Q (this section.Mem has) memory
+    pair_only Q corrupt named damage refused memory fault lost a b (inr (inr (inr (inr (inl (inr has)))))) = subst Q (this (section.Runtime Fault) has.0) fault
+    pair_only Q corrupt named damage refused memory fault lost a b (inr (inr (inr (inr (inr has))))) = subst Q (this (section.Metadata (store.Runtime Fault)) has.0) lost
 
     pub end_only : (Q : journal.Error → Type 0) → Q section.Full → Q (section.Metadata (store.Runtime Fault)) → ((x : Damage) → Q (section.Corruption x)) → ((k : ℕ) → Q (section.Runtime (InvalidChecksum k))) → ((y : codec.Error) → Q (section.Codec y))
         → Q section.Mem → Q (section.Runtime Fault) → (a b : ℕ) → EndRefuses a b → Q e
@@ -202,19 +194,19 @@ module _ {T : Type 0} (r : Result T Error) where
     pub pair_no_page : (a b : ℕ) → PairRefuses a b → (k : ℕ) → IsErrOf r (Journal (section.Runtime (InvalidChecksum k))) → ⊥
     pair_no_page a b why k has =
         let Q : journal.Error → Type 0 = λ y. y ≢ section.Runtime (InvalidChecksum k) in
-        pair_only Q (λ side same. cc same) (λ n same. cc same) (λ x same. cc same) (λ y same. cc same) (λ same. cc same) (λ same. cc same) (λ same. cc same) (λ same. cc same) a b why
+        pair_only Q (λ side same. cc same) (λ n same. cc same) (λ x same. cc same) (λ y same. cc same) (λ same. cc same) (λ same. cc same) (λ same. cc same) a b why
         (let same : raised e ≡ Journal (section.Runtime (InvalidChecksum k)) = cc (is, has) in journal_error e (section.Runtime (InvalidChecksum k)) same)
 
     pub pair_no_start : (a b : ℕ) → PairRefuses a b → (n : ℕ) → IsErrOf r (Journal (section.ItemOutOfRange n)) → ⊥
     pair_no_start a b why n has =
         let Q : journal.Error → Type 0 = λ y. y ≢ section.ItemOutOfRange n in
-        pair_only Q (λ side same. cc same) (λ m same. cc same) (λ x same. cc same) (λ y same. cc same) (λ same. cc same) (λ same. cc same) (λ same. cc same) (λ same. cc same) a b why
+        pair_only Q (λ side same. cc same) (λ m same. cc same) (λ x same. cc same) (λ y same. cc same) (λ same. cc same) (λ same. cc same) (λ same. cc same) a b why
         (let same : raised e ≡ Journal (section.ItemOutOfRange n) = cc (is, has) in journal_error e (section.ItemOutOfRange n) same)
 
     pub pair_no_full : (a b : ℕ) → PairRefuses a b → IsErrOf r Full → ⊥
     pair_no_full a b why has =
         let Q : journal.Error → Type 0 = λ y. raised y ≢ Full in
-        pair_only Q (λ side same. cc same) (λ m same. cc same) (λ x same. cc same) (λ y same. cc same) (λ same. cc same) (λ same. cc same) (λ same. cc same) (λ same. cc same) a b why
+        pair_only Q (λ side same. cc same) (λ m same. cc same) (λ x same. cc same) (λ y same. cc same) (λ same. cc same) (λ same. cc same) (λ same. cc same) a b why
         (let same : raised e ≡ Full = cc (is, has) in same)
 
     -- and its end no copy, no name and no start; it is full where that says so
@@ -235,12 +227,6 @@ module _ {T : Type 0} (r : Result T Error) where
         let Q : journal.Error → Type 0 = λ y. y ≢ section.ItemOutOfRange n in
         end_only Q (λ same. cc same) (λ same. cc same) (λ x same. cc same) (λ k same. cc same) (λ y same. cc same) (λ same. cc same) (λ same. cc same) a b why
         (let same : raised e ≡ Journal (section.ItemOutOfRange n) = cc (is, has) in journal_error e (section.ItemOutOfRange n) same)
-
-    pub end_no_room : (a b : ℕ) → EndRefuses a b → IsErrOf r (Journal (section.Runtime OffsetOverflow)) → ⊥
-    end_no_room a b why has =
-        let Q : journal.Error → Type 0 = λ y. y ≢ section.Runtime OffsetOverflow in
-        end_only Q (λ same. cc same) (λ same. cc same) (λ x same. cc same) (λ k same. cc same) (λ y same. cc same) (λ same. cc same) (λ same. cc same) a b why
-        (let same : raised e ≡ Journal (section.Runtime OffsetOverflow) = cc (is, has) in journal_error e (section.Runtime OffsetOverflow) same)
 
     pub end_full : (a b : ℕ) → EndRefuses a b → IsErrOf r Full → IsErrOf Lower section.Full
     end_full a b why has =

@@ -11,7 +11,7 @@ use Rattle.meta_store.specs.Opening.{PairOn}
 use Rattle.meta_store.specs.declared.error.Error.TheVariants as metadata
 use Rattle.meta_store.specs.declared.error.Side.{Side}
 use Rattle.sealed_pages.specs.Reads.{IsShort}
-use Rattle.section_manager.specs.Refusing.{IsForeign, IsOpenedTooLong}
+use Rattle.section_manager.specs.Refusing.{IsForeign}
 use Rattle.section_manager.specs.Sections.{section_key}
 use Rattle.section_manager.specs.declared.journal.Damage.{Damage}
 use Rattle.section_manager.specs.declared.journal.Error.TheVariants as journal
@@ -30,10 +30,6 @@ use Rattle.archives.proofs.read.Causes.{HasFailed}
 abbrev pub HasLostMarkers : {T : Type 0} → Result T Error → ℕ → ℕ → Type 0
 HasLostMarkers result before now = IsErrOf result (Metadata (metadata.Runtime runtime.Fault)) × Rose before now
 
--- a blob leaves no room for what a buffer needs behind it
-abbrev pub HasNoRoom : {T : Type 0} → Result T Error → Type 0
-HasNoRoom result = IsErrOf result (Journal (journal.Runtime runtime.OffsetOverflow))
-
 module _ {T : Type 0} (result : Result T Error) where
   -- the copies of the markers, a blob's name, a marked section, a page, a record, or the limits refuse
   abbrev pub IsOpeningError : Type 0
@@ -44,7 +40,7 @@ module _ {T : Type 0} (result : Result T Error) where
       ⊎ (((k : ℕ) × IsErrOf result (Journal (journal.Runtime (runtime.InvalidChecksum k))))
       ⊎ (((n : ℕ) × IsErrOf result (Journal (journal.ItemOutOfRange n)))
       ⊎ (((e : codec.Error) × IsErrOf result (Journal (journal.Codec e)))
-      ⊎ (HasNoRoom result ⊎ (IsErrOf result RecordCorrupted ⊎ IsErrOf result Full)))))))
+      ⊎ (IsErrOf result RecordCorrupted ⊎ IsErrOf result Full))))))
 
   -- Each of them has its cause, on the disk as it was, or, of a page that is read, as it is now.
   pub record HasCause (f : Filing) (from to : Disk) : Type 0 where
@@ -83,19 +79,17 @@ module _ {D : Type 0} (f : Filing) (dev : device.Ghosts D) (old new : D) (T : Ty
   cause_as x is cause = subst (IsOpeningCause f dev old new) (sym (error_of x is)) cause
 
   pub opening_cause : IsOpeningError {T = T} (Err e) ⊎ (HasFailed {T = T} (Err e) (dev.faults old) (dev.faults new) ⊎ HasLostMarkers {T = T} (Err e) (dev.faults old) (dev.faults new))
-      → (dev.Tells → HasCause {T = T} (Err e) f (disk (dev.time old)) (disk (dev.time new)))
-      → (HasNoRoom {T = T} (Err e) → (s : ℕ) × IsOpenedTooLong (λ n. 2 ^ 64 ≤ n + (f.layout.page_size + 12)) (dev.opened new) (section_key f.layout.index s)) → IsOpeningCause f dev old new e
-  opening_cause (inl (inl (side, is))) causes room = cause_as (Metadata (metadata.Corruption side)) is (λ t. (causes t).corrupt side is)
-  opening_cause (inl (inr (inl (n, is)))) causes room = cause_as (Journal (journal.InvalidBlobName n)) is (λ t. (causes t).named n is)
-  opening_cause (inl (inr (inr (inl (x, is))))) causes room = cause_as (Journal (journal.Corruption x)) is (λ t. (causes t).damage x is)
-  opening_cause (inl (inr (inr (inr (inl (k, is)))))) causes room = cause_as (Journal (journal.Runtime (runtime.InvalidChecksum k))) is (λ t.
+      → (dev.Tells → HasCause {T = T} (Err e) f (disk (dev.time old)) (disk (dev.time new))) → IsOpeningCause f dev old new e
+  opening_cause (inl (inl (side, is))) causes = cause_as (Metadata (metadata.Corruption side)) is (λ t. (causes t).corrupt side is)
+  opening_cause (inl (inr (inl (n, is)))) causes = cause_as (Journal (journal.InvalidBlobName n)) is (λ t. (causes t).named n is)
+  opening_cause (inl (inr (inr (inl (x, is))))) causes = cause_as (Journal (journal.Corruption x)) is (λ t. (causes t).damage x is)
+  opening_cause (inl (inr (inr (inr (inl (k, is)))))) causes = cause_as (Journal (journal.Runtime (runtime.InvalidChecksum k))) is (λ t.
       let w = (causes t).damaged k is in
       (w.0, w.1, record { section = w.2.0; marker = w.2.1; position = w.2.2; marked = w.2.3; below = w.2.4; page = w.2.5 }))
-  opening_cause (inl (inr (inr (inr (inr (inl (n, is))))))) causes room = cause_as (Journal (journal.ItemOutOfRange n)) is (λ t. (causes t).start n is)
-  opening_cause (inl (inr (inr (inr (inr (inr (inl (x, is)))))))) causes room = cause_as (Journal (journal.Codec x)) is (λ t. (causes t).spelled x is)
-  opening_cause (inl (inr (inr (inr (inr (inr (inr (inl is)))))))) causes room = cause_as (Journal (journal.Runtime runtime.OffsetOverflow)) is (room is)
-  opening_cause (inl (inr (inr (inr (inr (inr (inr (inr (inl is))))))))) causes room = cause_as RecordCorrupted is (λ t. (causes t).stray is)
-  opening_cause (inl (inr (inr (inr (inr (inr (inr (inr (inr is))))))))) causes room = cause_as Full is (λ t. (causes t).full is)
-  opening_cause (inr (inl (inl memory))) causes room = cause_as Mem memory tt
-  opening_cause (inr (inl (inr fault))) causes room = cause_as (Journal (journal.Runtime runtime.Fault)) fault.0 fault.1
-  opening_cause (inr (inr lost)) causes room = cause_as (Metadata (metadata.Runtime runtime.Fault)) lost.0 lost.1
+  opening_cause (inl (inr (inr (inr (inr (inl (n, is))))))) causes = cause_as (Journal (journal.ItemOutOfRange n)) is (λ t. (causes t).start n is)
+  opening_cause (inl (inr (inr (inr (inr (inr (inl (x, is)))))))) causes = cause_as (Journal (journal.Codec x)) is (λ t. (causes t).spelled x is)
+  opening_cause (inl (inr (inr (inr (inr (inr (inr (inl is)))))))) causes = cause_as RecordCorrupted is (λ t. (causes t).stray is)
+  opening_cause (inl (inr (inr (inr (inr (inr (inr (inr is)))))))) causes = cause_as Full is (λ t. (causes t).full is)
+  opening_cause (inr (inl (inl memory))) causes = cause_as Mem memory tt
+  opening_cause (inr (inl (inr fault))) causes = cause_as (Journal (journal.Runtime runtime.Fault)) fault.0 fault.1
+  opening_cause (inr (inr lost)) causes = cause_as (Metadata (metadata.Runtime runtime.Fault)) lost.0 lost.1

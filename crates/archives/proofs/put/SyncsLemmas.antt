@@ -51,7 +51,7 @@ module _ {F S : Type 0} {gs : _} (a : Archive F (PageBlob S gs)) (index : ℕ) (
   put_both before now (Journal (section.Runtime runtime.Fault)) cause = cause
   put_both before now (Journal (section.Runtime (runtime.InvalidChecksum k))) cause = absurd cause
   put_both before now (Journal (section.Runtime runtime.BlobInsufficientLength)) cause = absurd cause
-  put_both before now (Journal (section.Runtime runtime.OffsetOverflow)) cause = cause
+  put_both before now (Journal (section.Runtime runtime.OffsetOverflow)) cause = absurd cause
   put_both before now (Journal (section.Runtime runtime.Mem)) cause = absurd cause
   put_both before now (Journal (section.Metadata m)) cause = absurd cause
   put_both before now (Journal (section.Codec x)) cause = absurd cause

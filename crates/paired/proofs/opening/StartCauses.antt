@@ -3,7 +3,7 @@ use Rattle.std.specs.Prelude.{◌≡◌, ◌⊎◌, ℕ, ◌≤◌, List, Option
 use Rattle.std.proofs.Common.{inl, inr, ◌∙◌, ap, subst}
 use Rattle.std.specs.Result.{IsErrOf}
 use Rattle.blob_device.specs.Disk.{Disk}
-use Rattle.blob_device.specs.declared.runtime.RError.TheVariants.{Fault, OffsetOverflow}
+use Rattle.blob_device.specs.declared.runtime.RError.TheVariants.{Fault}
 use Rattle.blob_device.proofs.Results.{err_with}
 use Rattle.value_codec.specs.declared.codec.Error as codec
 use Rattle.meta_store.specs.Calls.{GaveUp}
@@ -15,7 +15,7 @@ use Rattle.section_manager.specs.Raised.{raised_metadata}
 use Rattle.section_manager.specs.declared.journal.Damage.{Damage}
 use Rattle.section_manager.specs.declared.journal.Error.{Error}
 use Rattle.section_manager.specs.declared.journal.Error.TheVariants as journal
-use Rattle.section_manager.specs.Refusing.{HasFailed, HasNoRoom}
+use Rattle.section_manager.specs.Refusing.{HasFailed}
 use Rattle.paired.specs.Kept.{Layout}
 use Rattle.paired.specs.OpeningFound.{HasCause}
 use Rattle.paired.specs.PairRefusing.{HasLostMarkers}
@@ -28,9 +28,9 @@ module _ {T : Type 0} (r : Result T Error) (a b : ℕ) where
   abbrev pub GivesUp : Type 0
   GivesUp = HasFailed r a b ⊎ HasLostMarkers r a b
 
-  -- a name, a marker, a record or a length is refused
+  -- a name, a marker or a record is refused
   abbrev pub Refusals : Type 0
-  Refusals = ((n : List ℕ) × IsErrOf r (journal.InvalidBlobName n)) ⊎ (((x : Damage) × IsErrOf r (journal.Corruption x)) ⊎ (((e : codec.Error) × IsErrOf r (journal.Codec e)) ⊎ (HasNoRoom r ⊎ GivesUp)))
+  Refusals = ((n : List ℕ) × IsErrOf r (journal.InvalidBlobName n)) ⊎ (((x : Damage) × IsErrOf r (journal.Corruption x)) ⊎ (((e : codec.Error) × IsErrOf r (journal.Codec e)) ⊎ GivesUp))
 
   abbrev pub Refuses : Type 0
   Refuses = ((side : Side) × IsErrOf r (journal.Metadata (store.Corruption side))) ⊎ Refusals
@@ -103,18 +103,12 @@ module _ {T : Type 0} (r : Result T Error) (a b : ℕ) where
   early_codec (inr (inl (inr fault))) e has = cc (fault.0, has)
   early_codec (inr (inr lost)) e has = cc (lost.0, has)
 
-  pub early_room : StopsEarly → HasNoRoom r → ⊥
-  early_room (inl corrupt) has = cc (corrupt.1, has)
-  early_room (inr (inl (inl memory))) has = cc (memory, has)
-  early_room (inr (inl (inr fault))) has = cc (fault.0, has)
-  early_room (inr (inr lost)) has = cc (lost.0, has)
-
   pub early_cause : StopsEarly → OnErr r (Refuses r a b)
   early_cause why = err_with r (go why)
     where
       go : StopsEarly → Refuses r a b
       go (inl corrupt) = inl corrupt
-      go (inr given) = inr (inr (inr (inr (inr given))))
+      go (inr given) = inr (inr (inr (inr given)))
 
   pub early_has_cause : StopsEarly → (l : Layout) (from : Disk) (refusal : List ℕ → Unit {0} → Option codec.Error) → ((side : Side) → IsErrOf r (journal.Metadata (store.Corruption side)) → PairOn l.markers l.metadata from (Err side)) → HasCause l from refusal r
   early_has_cause why l from refusal corrupt = record {
@@ -127,7 +121,7 @@ module _ {T : Type 0} (r : Result T Error) (a b : ℕ) where
 -- ---- the parts are refused
 -- why their opening fails
 abbrev pub PartsRefuse : {T : Type 0} → Result T Error → ℕ → ℕ → Type 0
-PartsRefuse r a b = ((n : List ℕ) × IsErrOf r (journal.InvalidBlobName n)) ⊎ (((x : Damage) × IsErrOf r (journal.Corruption x)) ⊎ (((e : codec.Error) × IsErrOf r (journal.Codec e)) ⊎ (HasNoRoom r ⊎ HasFailed r a b)))
+PartsRefuse r a b = ((n : List ℕ) × IsErrOf r (journal.InvalidBlobName n)) ⊎ (((x : Damage) × IsErrOf r (journal.Corruption x)) ⊎ (((e : codec.Error) × IsErrOf r (journal.Codec e)) ⊎ HasFailed r a b))
 
 module _ {T U : Type 0} (r : Result T Error) (e : Error) (is : r ≡ Err e) where
   other_error : (x : Error) → ◌≡◌ {A = Result U Error} (Err e) (Err x) → r ≡ Err x
@@ -146,8 +140,7 @@ module _ {T U : Type 0} (r : Result T Error) (e : Error) (is : r ≡ Err e) wher
   parts_refuse a b c le (inl named) = inl (named.0, other_error (journal.InvalidBlobName named.0) named.1)
   parts_refuse a b c le (inr (inl damage)) = inr (inl (damage.0, other_error (journal.Corruption damage.0) damage.1))
   parts_refuse a b c le (inr (inr (inl refused))) = inr (inr (inl (refused.0, other_error (journal.Codec refused.0) refused.1)))
-  parts_refuse a b c le (inr (inr (inr (inl room)))) = inr (inr (inr (inl (other_error (journal.Runtime OffsetOverflow) room))))
-  parts_refuse a b c le (inr (inr (inr (inr failed)))) = inr (inr (inr (inr (failed_before (failed_as {U = U} r e b c is failed) le))))
+  parts_refuse a b c le (inr (inr (inr failed))) = inr (inr (inr (failed_before (failed_as {U = U} r e b c is failed) le)))
 
 module _ {T : Type 0} (r : Result T Error) (a b : ℕ) where
   pub parts_cause : PartsRefuse r a b → OnErr r (Refuses r a b)
@@ -157,29 +150,26 @@ module _ {T : Type 0} (r : Result T Error) (a b : ℕ) where
       go (inl named) = inl named
       go (inr (inl damage)) = inr (inl damage)
       go (inr (inr (inl refused))) = inr (inr (inl refused))
-      go (inr (inr (inr (inl room)))) = inr (inr (inr (inl room)))
-      go (inr (inr (inr (inr failed)))) = inr (inr (inr (inr (inl failed))))
+      go (inr (inr (inr failed))) = inr (inr (inr (inl failed)))
 
   -- no copy is
   pub parts_corrupt : PartsRefuse r a b → (side : Side) → IsErrOf r (journal.Metadata (store.Corruption side)) → ⊥
   parts_corrupt (inl named) side has = cc (named.1, has)
   parts_corrupt (inr (inl damage)) side has = cc (damage.1, has)
   parts_corrupt (inr (inr (inl refused))) side has = cc (refused.1, has)
-  parts_corrupt (inr (inr (inr (inl room)))) side has = cc (room, has)
-  parts_corrupt (inr (inr (inr (inr (inl memory))))) side has = cc (memory, has)
-  parts_corrupt (inr (inr (inr (inr (inr fault))))) side has = cc (fault.0, has)
+  parts_corrupt (inr (inr (inr (inl memory)))) side has = cc (memory, has)
+  parts_corrupt (inr (inr (inr (inr fault)))) side has = cc (fault.0, has)
 
   -- where nothing is refused, the device failed or memory was short
-  pub parts_give_up : PartsRefuse r a b → ((n : List ℕ) → IsErrOf r (journal.InvalidBlobName n) → ⊥) → ((x : Damage) → IsErrOf r (journal.Corruption x) → ⊥) → ((e : codec.Error) → IsErrOf r (journal.Codec e) → ⊥) → (HasNoRoom r → ⊥)
+  pub parts_give_up : PartsRefuse r a b → ((n : List ℕ) → IsErrOf r (journal.InvalidBlobName n) → ⊥) → ((x : Damage) → IsErrOf r (journal.Corruption x) → ⊥) → ((e : codec.Error) → IsErrOf r (journal.Codec e) → ⊥)
       → OnErr r (GivesUp r a b)
-  parts_give_up why name damage codec room = err_with r (go why)
+  parts_give_up why name damage codec = err_with r (go why)
     where
       go : PartsRefuse r a b → GivesUp r a b
       go (inl named) = absurd (name named.0 named.1)
       go (inr (inl lost)) = absurd (damage lost.0 lost.1)
       go (inr (inr (inl refused))) = absurd (codec refused.0 refused.1)
-      go (inr (inr (inr (inl short)))) = absurd (room short)
-      go (inr (inr (inr (inr failed)))) = inl failed
+      go (inr (inr (inr failed))) = inl failed
 
 -- ---- want of memory in a call of the markers, and a call of theirs that went well
 pub memory_raised : {T U : Type 0} (e : meta.Error) → ◌≡◌ {A = Result U meta.Error} (Err e) (Err store.Mem) → ◌≡◌ {A = Result T Error} (Err (raised_metadata e)) (Err journal.Mem)

@@ -12,11 +12,11 @@ use Rattle.sealed_pages.specs.SealedPrefix.{sealed_prefix, adopted_size, data_fr
 use Rattle.sealed_pages.specs.Slots.{best_slot}
 use Rattle.sealed_pages.specs.View.{view}
 use Rattle.sealed_pages.proofs.Adopt.{best_length, length-data_from}
+use Rattle.sealed_pages.proofs.Looking.{page_places}
 use Rattle.sealed_pages.proofs.Reaching.{prefix_size, size_at_most}
 use Rattle.sealed_pages.proofs.SlotLemmas.{slot_length-le, slot_stands, times_next, times_page}
 use Rattle.value_codec.specs.declared.codec.Error as codec
 use Rattle.section_manager.specs.declared.journal.Damage.{Damage}
-use Rattle.section_manager.specs.Refusing.{IsOpenedTooLong}
 use Rattle.section_manager.specs.Sections.{section_key}
 use Rattle.section_manager.proofs.WalkLemmas.{value_of}
 use Rattle.segments.specs.FixedFloors.{IsRefused}
@@ -24,7 +24,7 @@ use Rattle.segments.specs.FixedItems.{item_count, item_at}
 use Rattle.segments.proofs.FixedKept.{item_kept, prefix_data}
 use Rattle.paired.specs.Kept.{Layout, Markers, IsMarked, content_at, stored_records, is_sound_in}
 use Rattle.paired.specs.Opening.{as_read, IsLawful, OnlyOpens}
-use Rattle.paired.specs.OpeningRefusing.{AreCounted, AreSpellings, IsCutOff, IsLost, IsOutside, IsUnreadable, last_of}
+use Rattle.paired.specs.OpeningRefusing.{AreSpellings, IsCutOff, IsLost, IsOutside, IsUnreadable, last_of}
 use Rattle.paired.specs.Pair.{AreApart}
 use Rattle.paired.specs.Places.{end_of}
 use Rattle.paired.specs.Records.{each_below, records}
@@ -73,6 +73,16 @@ adopted_within seal P c = size_at_most seal P (length c) c (pages_in P c) (λ k 
 
 pub sealed_within : (seal : List ℕ → ℕ) (P : ℕ) (c : List ℕ) → length (sealed_prefix seal P c) ≤ length c
 sealed_within seal P c = omega (arith, prefix_size seal P c, adopted_within seal P c)
+
+-- a u64 counts the bytes that adopting finds, of a blob of any length
+adopted_small : (seal : List ℕ → ℕ) (P : ℕ) (c : List ℕ) → adopted_size seal P c ≤ 2 ^ 64 - 1
+adopted_small seal P c = size_at_most seal P (2 ^ 64 - 1) c (pages_in P c) (λ k some.
+    let is = best_length seal P c k in
+    let b : Bool = best_slot seal P c k in
+    omega (arith, is, slot_length-le seal P c k b, page_places seal P c k some, times_page P k))
+
+pub sealed_small : (seal : List ℕ → ℕ) (P : ℕ) (c : List ℕ) → length (sealed_prefix seal P c) < 2 ^ 64
+sealed_small seal P c = omega (arith, prefix_size seal P c, adopted_small seal P c)
 
 -- a blob that reads as something is there
 reads_there : (b : Blob) → IsSome (reads b) → b.there ≡ true
@@ -124,14 +134,14 @@ module _ (l : Layout) (paged : 1 ≤ l.page_size) (sized : 1 ≤ l.record_size) 
       let end : EndsBy l.place in_place.end (last_of l d s m) = subst (EndsBy l.place in_place.end) first (all_at (EndsBy l.place in_place.end) [] (take m rs) ends (m - 1) long) in
       (parts.1, omega (arith, end, in_place.fits))
 
-  pub no_loss : AreCounted l (as_read d) → (x : Damage) → IsLost l (IsMarked markers.entries) d x → ⊥
-  no_loss counted x lost = go lost.why
+  pub no_loss : (x : Damage) → IsLost l (IsMarked markers.entries) d x → ⊥
+  no_loss x lost = go lost.why
     where
       has : HasMarked x.section lost.items
       has = has_marked x.section lost.items lost.marked
 
       refused : IsRefused l.seal l.page_size l.record_size (d (section_key l.index x.section)) lost.items x → ⊥
-      refused (inl many) = omega (arith, many.many, has.fits, sealed_within l.seal l.page_size (d (section_key l.index x.section)).content, ap length has.content, counted x.section lost.marked.0)
+      refused (inl many) = omega (arith, many.many, has.fits, sealed_small l.seal l.page_size (d (section_key l.index x.section)).content)
       refused (inr (inl missing)) = cc (missing.absent, has.there)
       refused (inr (inr unsealed)) = omega (arith, unsealed.less, unsealed.kept, unsealed.wanted, has.fits)
 
@@ -152,31 +162,3 @@ module _ (l : Layout) (paged : 1 ≤ l.page_size) (sized : 1 ≤ l.record_size) 
       let long : is.items - 1 < length rs = omega (arith, is.some, has.few) in
       let none : refusal (last_of l d is.section is.items) tt ≡ None = subst (λ (r : List ℕ). refusal r tt ≡ None) (has.last is.some) (all_at (λ r. refusal r tt ≡ None) [] rs (spelled is.section is.marked.0) (is.items - 1) long) in
       cc (none, is.refused)
-
--- ---- a blob that leaves no room
--- the name of a section has the number below 2^64
-same_name : (s : ℕ) → to_be_bytes w64 (s % 2 ^ 64) ≡ to_be_bytes w64 s
-same_name s =
-    let r : ℕ = s % 2 ^ 64 in
-    let e0 : r % 256 ≡ s % 256 = omega arith in
-    let e1 : r / 256 ^ 1 % 256 ≡ s / 256 ^ 1 % 256 = omega arith in
-    let e2 : r / 256 ^ 2 % 256 ≡ s / 256 ^ 2 % 256 = omega arith in
-    let e3 : r / 256 ^ 3 % 256 ≡ s / 256 ^ 3 % 256 = omega arith in
-    let e4 : r / 256 ^ 4 % 256 ≡ s / 256 ^ 4 % 256 = omega arith in
-    let e5 : r / 256 ^ 5 % 256 ≡ s / 256 ^ 5 % 256 = omega arith in
-    let e6 : r / 256 ^ 6 % 256 ≡ s / 256 ^ 6 % 256 = omega arith in
-    let e7 : r / 256 ^ 7 % 256 ≡ s / 256 ^ 7 % 256 = omega arith in
-    λ i. e7 i ∷ e6 i ∷ e5 i ∷ e4 i ∷ e3 i ∷ e2 i ∷ e1 i ∷ e0 i ∷ []
-
-pub no_overflow : (l : Layout) → AreApart l → (from d : Disk) → OnlyOpens l from d → AreCounted l (as_read from) → (opened : OpenedList)
-    → ((k : Key) → IfSome (opened k) (λ o. IsTrue (d k).there × (length (d k).content ≡ o.len))) → (s : ℕ) → IsOpenedTooLong (λ n. 2 ^ 64 ≤ n + (l.page_size + 12)) opened (section_key l.index s) → ⊥
-no_overflow l apart from d opens counted opened stands s long =
-    let name : List ℕ = to_be_bytes w64 s in
-    let key = section_key l.index s in
-    let w = value_of (opened key) (λ o. 2 ^ 64 ≤ o.len + (l.page_size + 12)) long in
-    let stand = subst (λ (o : Option Opened). IfSome o (λ x. IsTrue (d key).there × (length (d key).content ≡ x.len))) w.is (stands key) in
-    let size : length (unwrap_or (reads (from (l.index, name))) []) ≡ w.value.len =
-    ap (λ (o : Option (List ℕ)). length (unwrap_or o [])) (sym (index_reads l apart from d opens name)) ∙ ap (λ (t : Bool). length (unwrap_or (cond t (Some (d key).content) None) [])) stand.0 ∙ stand.1 in
-    let few : length (unwrap_or (reads (from (l.index, name))) []) + (l.page_size + 12) < 2 ^ 64 =
-    subst (λ (n : List ℕ). length (unwrap_or (reads (from (l.index, n))) []) + (l.page_size + 12) < 2 ^ 64) (same_name s) (counted (s % 2 ^ 64) (omega arith)) in
-    omega (arith, size, few, w.has)

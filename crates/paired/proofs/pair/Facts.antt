@@ -67,7 +67,7 @@ pub journal_lasts : {F S : Type 0} {gs : _} {g : buffer.Ghosts (PageBlob S gs)} 
     → IsJournal g gives seal size told j opened d → told → (s : ℕ) (u : PageBlob S gs) → j.sections.held s ≡ Some u → IsProven j s
     → pages.Leaves seal u.page_size (bytes_of (shown u) (d (key_of j.sections s)).content) u.settled (d (key_of j.sections s))
 journal_lasts seal size j opened d journal t s u held is_proven =
-    holds_leaves seal (shown u) (bytes_of (shown u) (d (key_of j.sections s)).content) (d (key_of j.sections s)) u.fit.begun ((journal.disk t).sealed s u held is_proven)
+    holds_leaves seal (shown u) (bytes_of (shown u) (d (key_of j.sections s)).content) (d (key_of j.sections s)) u.fit.begun ((journal.disk t).sealed s u held is_proven).holds
 
 -- each crash leaves of a held section of a glob what has settled of its values
 pub glob_outlasts : {F : Type 0} {takes : F → Setting} {told : Type 0} (m : Sections F WriteBlob) (opened : OpenedList) (d : Disk) → IsGlob buffers takes told m opened d → told → (s : ℕ) (v : WriteBlob) → m.held s ≡ Some v

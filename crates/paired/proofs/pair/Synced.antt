@@ -94,7 +94,7 @@ pub record Here {F B : Type 0} (gives : F → Setting) (p : Pair F B) : Type 0 w
 
 -- how an index is kept
 abbrev pub page_setting : {S : Type 0} → AppendFactory S → Setting
-page_setting f = record { page_size = f.pages.page_size; capacity = f.write_buffer }
+page_setting f = record { page_size = f.pages.page_size; capacity = f.write_buffer; cache_pages = f.pages.cache_pages }
 
 pub here_of : {I V S C : Type 0} {fixed codec seal : _} (place : List ℕ → ℕ × ℕ) (o : Oversized I V S C fixed codec seal) → 1 ≤ fixed.SIZE → Here page_setting (shown place o)
 here_of place o pos = record { index = refl; values = refl; store = refl; page_size = refl; some = pos; marked = refl }

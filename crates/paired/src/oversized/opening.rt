@@ -14,7 +14,7 @@ ghost use Rattle.meta_store.specs.declared.error.Side.{Side};
 ghost use Rattle.meta_store.specs.Opening.{PairOn};
 ghost use Rattle.section_manager.specs.Lasting.{IsSettling};
 ghost use Rattle.section_manager.specs.managing.Managed as managed;
-ghost use Rattle.section_manager.specs.Refusing.{HasFailed, HasNoRoom, IsForeign, IsOpenedTooLong};
+ghost use Rattle.section_manager.specs.Refusing.{HasFailed, IsForeign};
 ghost use Rattle.section_manager.specs.Sections.{section_key, IsHeld};
 ghost use Rattle.segments.specs.FixedFloors as floors;
 ghost use Rattle.segments.specs.FixedLists.{IsJournal, floor_in, section_bytes, section_size};
@@ -25,7 +25,7 @@ ghost use Rattle.paired.specs.glob.Sections as glob;
 ghost use Rattle.paired.specs.Kept.{IsSameLayout, Markers};
 ghost use Rattle.paired.specs.Opening.{as_read, IsLawful, MayBeOpened, OnlyOpens, RecallsAlone};
 ghost use Rattle.paired.specs.OpeningFound.{HasCause, HasFound};
-ghost use Rattle.paired.specs.OpeningRefusing.{AreCounted, AreSpellings, EndsWithin, IsLost, IsOutside, IsUnreadable};
+ghost use Rattle.paired.specs.OpeningRefusing.{AreSpellings, EndsWithin, IsLost, IsOutside, IsUnreadable};
 ghost use Rattle.paired.specs.Pair.{AreApart};
 ghost use Rattle.paired.specs.PairRefusing.{HasLostMarkers};
 ghost use Rattle.paired.specs.ReplayShown.{layout_for, run_of};
@@ -252,9 +252,8 @@ impl<I: Record, V: Codec, S: Seal> Oversized<I, V, S> {
         ensures refused { D.Tells → (e : _) → IsErrOf result (Error.Codec e) → IsUnreadable (layout_for I.place I.SIZE S.Seal cfg.now []) (λ s n. get nat_cmp floors.now s ≡ Some n) I.refusal (disk (D.time dev.old)) e }
         ensures foreign { D.Tells → (name : List ℕ) → IsForeign (disk (D.time dev.old)) (string_bytes cfg.now.index_partition) name ⊎ IsForeign (disk (D.time dev.old)) (string_bytes cfg.now.value_partition) name → OnOk result ⊥ }
         ensures named { D.Tells → (n : List ℕ) → result ≡ Err (Error.InvalidBlobName n) → IsForeign (disk (D.time dev.old)) (string_bytes cfg.now.index_partition) n ⊎ IsForeign (disk (D.time dev.old)) (string_bytes cfg.now.value_partition) n }
-        ensures overflow { HasNoRoom result → (s : ℕ) × IsOpenedTooLong (λ n. 2 ^ 64 ≤ n + (cfg.now.index_pages.page_size + 12)) (D.opened dev.new) (section_key (string_bytes cfg.now.index_partition) s) }
         ensures faults { D.faults dev.old ≤ D.faults dev.new }
-        ensures cause { OnErr result (((n : List ℕ) × IsErrOf result (Error.InvalidBlobName n)) ⊎ (((x : _) × IsErrOf result (Error.Corruption x)) ⊎ (((e : _) × IsErrOf result (Error.Codec e)) ⊎ (HasNoRoom result ⊎ HasFailed result (D.faults dev.old) (D.faults dev.new))))) }
+        ensures cause { OnErr result (((n : List ℕ) × IsErrOf result (Error.InvalidBlobName n)) ⊎ (((x : _) × IsErrOf result (Error.Corruption x)) ⊎ (((e : _) × IsErrOf result (Error.Codec e)) ⊎ HasFailed result (D.faults dev.old) (D.faults dev.new)))) }
     {
         // Opened and checked with no byte changed, so that a refusal costs nothing.
         let found: Preflight<I, S> = fixed::Journal::preflight_floors(
@@ -294,6 +293,8 @@ impl<I: Record, V: Codec, S: Seal> Oversized<I, V, S> {
         ensures tracked { IfOk result (λ r. (run_of I.place r).tracked ≡ true) }
         ensures going { IfOk result (λ r. run.HasFailed (run_of I.place r) → ⊥) }
         ensures layout { IfOk result (λ r. IsSameLayout (layout_for I.place I.SIZE S.Seal cfg.now metadata_partition.now) (run_of I.place r).layout) }
+        // Its buffers are cut into these pages, of which they hold at most so many.
+        ensures pages { IfOk result (λ r. (run_of I.place r).walk.journal.sections.factory.pages ≡ cfg.now.index_pages) }
         ensures write_buffers { IfOk result (λ r. ((run_of I.place r).walk.journal.sections.factory.write_buffer ≡ cfg.now.index_write_buffer) × ((run_of I.place r).values.factory.capacity ≡ cfg.now.value_write_buffer)) }
         ensures codec_config { IfOk result (λ r. r.values.codec_config ≡ cfg.now.codec_config) }
         // What was found: the markers, proved, and the sections; all records are still to be given, and are those that the disk kept.
@@ -312,13 +313,11 @@ impl<I: Record, V: Codec, S: Seal> Oversized<I, V, S> {
         ensures corrupt_copies { D.Tells → (side : Side) → PairOn (layout_for I.place I.SIZE S.Seal cfg.now metadata_partition.now).markers metadata_partition.now (disk (D.time dev.old)) (Err side)
             → IsErrOf result (Error.Metadata (metadata.Corruption side)) ⊎ (HasFailed result (D.faults dev.old) (D.faults dev.new) ⊎ HasLostMarkers result (D.faults dev.old) (D.faults dev.new)) }
         ensures foreign { D.Tells → (name : List ℕ) → IsForeign (disk (D.time dev.old)) (string_bytes cfg.now.index_partition) name ⊎ IsForeign (disk (D.time dev.old)) (string_bytes cfg.now.value_partition) name → OnOk result ⊥ }
-        ensures overflow { HasNoRoom result → (s : ℕ) × IsOpenedTooLong (λ n. 2 ^ 64 ≤ n + (cfg.now.index_pages.page_size + 12)) (D.opened dev.new) (section_key (string_bytes cfg.now.index_partition) s) }
-        // A lawful image whose records are all spelled is opened, unless the device fails or memory is short; where a blob of records ends within a
-        // page of 2^64, nothing of that is promised.
+        // A lawful image whose records are all spelled is opened, unless the device fails or memory is short.
         ensures complete { D.Tells → (markers : Markers) → IsLawful (layout_for I.place I.SIZE S.Seal cfg.now metadata_partition.now) (as_read (disk (D.time dev.old))) markers → AreSpellings (layout_for I.place I.SIZE S.Seal cfg.now metadata_partition.now) I.refusal (as_read (disk (D.time dev.old)))
-            → AreCounted (layout_for I.place I.SIZE S.Seal cfg.now metadata_partition.now) (as_read (disk (D.time dev.old))) → OnErr result (HasFailed result (D.faults dev.old) (D.faults dev.new) ⊎ HasLostMarkers result (D.faults dev.old) (D.faults dev.new)) }
+            → OnErr result (HasFailed result (D.faults dev.old) (D.faults dev.new) ⊎ HasLostMarkers result (D.faults dev.old) (D.faults dev.new)) }
         ensures faults { D.faults dev.old ≤ D.faults dev.new }
-        ensures cause { OnErr result (((side : Side) × IsErrOf result (Error.Metadata (metadata.Corruption side))) ⊎ (((n : List ℕ) × IsErrOf result (Error.InvalidBlobName n)) ⊎ (((x : _) × IsErrOf result (Error.Corruption x)) ⊎ (((e : _) × IsErrOf result (Error.Codec e)) ⊎ (HasNoRoom result ⊎ (HasFailed result (D.faults dev.old) (D.faults dev.new) ⊎ HasLostMarkers result (D.faults dev.old) (D.faults dev.new))))))) }
+        ensures cause { OnErr result (((side : Side) × IsErrOf result (Error.Metadata (metadata.Corruption side))) ⊎ (((n : List ℕ) × IsErrOf result (Error.InvalidBlobName n)) ⊎ (((x : _) × IsErrOf result (Error.Corruption x)) ⊎ (((e : _) × IsErrOf result (Error.Codec e)) ⊎ (HasFailed result (D.faults dev.old) (D.faults dev.new) ⊎ HasLostMarkers result (D.faults dev.old) (D.faults dev.new)))))) }
     {
         // The markers first: they say what has to be found of records and values.
         let tracking = Tracking::init(alloc, dev, metadata_partition)?;

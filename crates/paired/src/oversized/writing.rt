@@ -6,7 +6,7 @@ ghost use Rattle.blob_device.specs.Timeline.{disk, Always};
 ghost use Rattle.sealed_pages.specs.Buffer.{extent, size_of, FlushesNothing};
 ghost use Rattle.section_manager.specs.Sections.{key_of, IsHeld, IsSame, SameBounds};
 ghost use Rattle.section_manager.specs.unsealed.Buffer.{count_of};
-ghost use Rattle.section_manager.specs.Refusing.{HasFailed, HasNoRoom, IsPruned};
+ghost use Rattle.section_manager.specs.Refusing.{HasFailed, IsPruned};
 ghost use Rattle.segments.specs.FixedLists.{section_bytes};
 ghost use Rattle.paired.specs.Frames.{frame};
 ghost use Rattle.paired.specs.Crashes.{IsIndexOf, IsValuesOf, InOrder, Keeping};
@@ -94,9 +94,8 @@ impl<I: Record, V: Codec, S: Seal> Oversized<I, V, S> {
             × (IsSomeAnd ((shown I.place self).index.sections.held section) (λ u. 2 ^ 64 ≤ extent u.page_size (size_of (page_blob.shown u) + I.SIZE))
             ⊎ IsSomeAnd ((shown I.place self).values.held section) (λ v. 2 ^ 64 ≤ count_of v + length (frame S.seal_of (V.spelling value.now))))) }
         ensures refused { (IsErrOf result Error.ValueTooLarge ⊎ (IsPruned result (shown I.place self).index.sections.floor ⊎ ((D.Tells ⊎ (IsHeld (shown I.place self).index.sections section × IsHeld (shown I.place self).values section)) × IsErrOf result Error.Full))) → dev.new ≡ dev.old }
-        ensures no_room { D.Tells → HasNoRoom result → ⊥ }
         ensures faults { D.faults dev.old ≤ D.faults dev.new }
-        ensures cause { OnErr result (IsErrOf result Error.ValueTooLarge ⊎ (IsPruned result (shown I.place self).index.sections.floor ⊎ (IsErrOf result Error.Full ⊎ (HasNoRoom result ⊎ HasFailed result (D.faults dev.old) (D.faults dev.new))))) }
+        ensures cause { OnErr result (IsErrOf result Error.ValueTooLarge ⊎ (IsPruned result (shown I.place self).index.sections.floor ⊎ (IsErrOf result Error.Full ⊎ HasFailed result (D.faults dev.old) (D.faults dev.new)))) }
     {
         frame_size(value)?;
         // Asked before a byte is written, so that no refusal leaves a value without its record.

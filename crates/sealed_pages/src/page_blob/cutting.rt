@@ -11,11 +11,10 @@ ghost use Rattle.sealed_pages.specs.Flushing.{Alone};
 ghost use Rattle.sealed_pages.specs.Buffer.{extent, key_of, size_of, bytes_of, Holds, IsSealed};
 ghost use Rattle.sealed_pages.specs.Entries.{IsOpenAt, NoReads};
 ghost use Rattle.sealed_pages.specs.Cutting.{IsAtRest, Settles, FewReads};
-ghost use Rattle.sealed_pages.specs.Held.{AreHeldOf};
 
 use super::PageBlob;
+use crate::cache::PageCache;
 use crate::cut::{Head, cut_inside, cut_pages, read_head};
-use crate::held::HeldPages;
 use crate::page::page_place;
 use blob_device::{Device, RError};
 use value_codec::Seal;
@@ -23,7 +22,7 @@ use value_codec::Seal;
 impl<S: Seal> PageBlob<S> {
     ghost use Rattle.sealed_pages.specs.Shown.{shown};
     ghost use Rattle.sealed_pages.specs.View.{view};
-    ghost use Rattle.sealed_pages.specs.Buffer.{IsBacked};
+    ghost use Rattle.sealed_pages.specs.Buffer.{HasFlushed, IsBacked};
     ghost use Rattle.sealed_pages.specs.Flushing.{Data};
     ghost use Rattle.sealed_pages.specs.Reading.{Unchanged};
     ghost use Rattle.sealed_pages.specs.Unrecovered.{blob_of, prefix_of, SparesFront, KeepsPrefix, IsUnrecovered, IsRecovery, IsSafeCut};
@@ -32,8 +31,7 @@ impl<S: Seal> PageBlob<S> {
     fn ending_with(self, end: u64, page: u64, tip: Vec<u8>, newest: bool) -> PageBlob<S>
         requires short { length tip.items < self.page_size }
         requires room { extent self.page_size (page * self.page_size + length tip.items) < 2 ^ 64 }
-        ensures held { (c : List ℕ) → AreHeldOf c result.held }
-        ensures same { shown result ≡ record (shown self) { end = end; first = page; tip = tip.items; from = length tip.items; settled = page * self.page_size + length tip.items; newest = newest; behind = false; torn = false } }
+        ensures same { shown result ≡ record (shown self) { end = end; first = page; tip = tip.items; from = length tip.items; settled = page * self.page_size + length tip.items; newest = newest; behind = false; torn = false; cache = [] } }
     {
         let PageBlob {
             alloc,
@@ -41,6 +39,7 @@ impl<S: Seal> PageBlob<S> {
             name,
             page_size,
             capacity,
+            cache,
             seal,
             ..
         } = self;
@@ -59,7 +58,8 @@ impl<S: Seal> PageBlob<S> {
             newest,
             behind: false,
             torn: false,
-            held: HeldPages::none(),
+            // Empty: what is cut may be written anew, with other bytes.
+            cache: PageCache::new(cache.most()),
             seal,
         }
     }
@@ -81,10 +81,10 @@ impl<S: Seal> PageBlob<S> {
             → IfOk result (λ r. bytes_of (shown r) (disk (D.time dev.new) (key_of (shown self))).content ≡ all) }
         ensures backed { D.Tells → (all : List ℕ) → Data self.page_size all (page * self.page_size) (view (disk (D.time dev.old) (key_of (shown self))).content)
             → length all ≡ page * self.page_size
-            → IfOk result (λ r. IsBacked (shown r) (disk (D.time dev.new) (key_of (shown self))).content) }
+            → IfOk result (λ r. HasFlushed (shown r) (disk (D.time dev.new) (key_of (shown self))).content) }
+        ensures memory { D.Tells → IfOk result (λ r. ((shown r).from ≤ page_length S.seal_of self.page_size (disk (D.time dev.new) (key_of (shown self))).content (shown r).first) × ((shown r).cache ≡ [])) }
         ensures rests { D.Tells → OnOk result (IsAtRest (disk (D.time dev.new) (key_of (shown self)))) }
-        ensures held { IfOk result (λ r. (c : List ℕ) → AreHeldOf c r.held) }
-        ensures same { IfOk result (λ r. shown r ≡ record (shown self) { end = r.end; first = page; tip = []; from = 0; settled = page * self.page_size + 0; newest = r.newest; behind = false; torn = false }) }
+        ensures same { IfOk result (λ r. shown r ≡ record (shown self) { end = r.end; first = page; tip = []; from = 0; settled = page * self.page_size + 0; newest = r.newest; behind = false; torn = false; cache = [] }) }
         ensures alone { D.Tells → Alone (key_of (shown self)) (D.time dev.old) (D.time dev.new) }
         ensures front { D.Tells → SparesFront (page_at self.page_size page) (key_of (shown self)) (D.time dev.old) (D.time dev.new) }
         ensures shorter { D.Tells → OnOk result (adopted_size S.seal_of self.page_size (blob_of (shown self) (D.time dev.new)).content ≤ page * self.page_size) }
@@ -129,10 +129,10 @@ impl<S: Seal> PageBlob<S> {
             → IfOk result (λ r. bytes_of (shown r) (disk (D.time dev.new) (key_of (shown self))).content ≡ all) }
         ensures backed { D.Tells → (all : List ℕ) → Data self.page_size all (page * self.page_size + keep) (view (disk (D.time dev.old) (key_of (shown self))).content)
             → length all ≡ page * self.page_size + keep
-            → IfOk result (λ r. IsBacked (shown r) (disk (D.time dev.new) (key_of (shown self))).content) }
+            → IfOk result (λ r. HasFlushed (shown r) (disk (D.time dev.new) (key_of (shown self))).content) }
+        ensures memory { D.Tells → IfOk result (λ r. ((shown r).from ≤ page_length S.seal_of self.page_size (disk (D.time dev.new) (key_of (shown self))).content (shown r).first) × ((shown r).cache ≡ [])) }
         ensures rests { D.Tells → OnOk result (IsAtRest (disk (D.time dev.new) (key_of (shown self)))) }
-        ensures held { IfOk result (λ r. (c : List ℕ) → AreHeldOf c r.held) }
-        ensures same { IfOk result (λ r. shown r ≡ record (shown self) { end = r.end; first = page; tip = r.tip.items; from = length r.tip.items; settled = page * self.page_size + length r.tip.items; newest = r.newest; behind = false; torn = false }) }
+        ensures same { IfOk result (λ r. shown r ≡ record (shown self) { end = r.end; first = page; tip = r.tip.items; from = length r.tip.items; settled = page * self.page_size + length r.tip.items; newest = r.newest; behind = false; torn = false; cache = [] }) }
         ensures long { IfOk result (λ r. length r.tip.items ≡ keep) }
         ensures alone { D.Tells → Alone (key_of (shown self)) (D.time dev.old) (D.time dev.new) }
         ensures front { D.Tells → SparesFront (page_at self.page_size page) (key_of (shown self)) (D.time dev.old) (D.time dev.new) }
@@ -199,12 +199,12 @@ impl<S: Seal> PageBlob<S> {
             → KeepsPrefix S.seal_of self.page_size (prefix_of S.seal_of (shown self) (D.time dev.old)) (key_of (shown self)) (D.time dev.old) (D.time dev.new) }
         ensures unrecovered { D.Tells → IsUnrecovered S.seal_of (shown self) (blob_of (shown self) (D.time dev.old)) → length (prefix_of S.seal_of (shown self) (D.time dev.old)) < len
             → IfOk result (λ r. IsUnrecovered S.seal_of (shown r) (blob_of (shown self) (D.time dev.new))) }
-        ensures bytes { D.Tells → IsBacked (shown self) (disk (D.time dev.old) (key_of (shown self))).content
+        ensures bytes { D.Tells → IsBacked S.seal_of (shown self) (disk (D.time dev.old) (key_of (shown self))).content
             → IfOk result (λ r. bytes_of (shown r) (disk (D.time dev.new) (key_of (shown self))).content ≡ take len (bytes_of (shown self) (disk (D.time dev.old) (key_of (shown self))).content)) }
-        ensures backed { D.Tells → IsBacked (shown self) (disk (D.time dev.old) (key_of (shown self))).content
-            → IfOk result (λ r. IsBacked (shown r) (disk (D.time dev.new) (key_of (shown self))).content) }
-        ensures alone { D.Tells → IsBacked (shown self) (disk (D.time dev.old) (key_of (shown self))).content → Alone (key_of (shown self)) (D.time dev.old) (D.time dev.new) }
-        ensures held { D.Tells → AreHeldOf (disk (D.time dev.old) (key_of (shown self))).content self.held → IfOk result (λ r. AreHeldOf (disk (D.time dev.new) (key_of (shown self))).content r.held) }
+        ensures backed { D.Tells → IsBacked S.seal_of (shown self) (disk (D.time dev.old) (key_of (shown self))).content
+            → IfOk result (λ r. IsBacked S.seal_of (shown r) (disk (D.time dev.new) (key_of (shown self))).content) }
+        ensures alone { D.Tells → IsBacked S.seal_of (shown self) (disk (D.time dev.old) (key_of (shown self))).content → Alone (key_of (shown self)) (D.time dev.old) (D.time dev.new) }
+        ensures cache { len < size_of (shown self) → IfOk result (λ r. (shown r).cache ≡ []) }
         ensures unchanged { size_of (shown self) ≤ len → dev.new ≡ dev.old }
         ensures same { size_of (shown self) ≤ len → IsOkAnd result (λ r. shown r ≡ shown self) }
         // Where it cut, all has settled, and adopting the blob gives it again.
@@ -220,6 +220,7 @@ impl<S: Seal> PageBlob<S> {
         ensures key { IfOk result (λ r. key_of (shown r) ≡ key_of (shown self)) }
         ensures page_size { IfOk result (λ r. r.page_size ≡ self.page_size) }
         ensures capacity { IfOk result (λ r. r.capacity ≡ self.capacity) }
+        ensures cache_pages { IfOk result (λ r. (shown r).cache_pages ≡ (shown self).cache_pages) }
         ensures open { IfOk result (λ r. IsOpenAt (D.opened dev.new) (key_of (shown r)) r.end) }
         ensures entries { FewReads 1 (key_of (shown self)) (D.opened dev.old) (D.opened dev.new) }
         ensures faults { D.faults dev.old ≤ D.faults dev.new }
@@ -228,7 +229,7 @@ impl<S: Seal> PageBlob<S> {
             → p * self.page_size + page_length S.seal_of self.page_size (disk (D.time dev.new) (key_of (shown self))).content p < len }
         ensures uncut_pages { D.Tells → (p : ℕ) → result ≡ Err (RError.InvalidChecksum p) → SparesFront (page_at self.page_size self.first) (key_of (shown self)) (D.time dev.old) (D.time dev.new) }
         // A refused cut leaves all bytes in the blob, and nothing pending; where nothing was pending, the disk is as it was.
-        ensures uncut { D.Tells → IsBacked (shown self) (blob_of (shown self) (D.time dev.old)).content → (p : ℕ) → result ≡ Err (RError.InvalidChecksum p)
+        ensures uncut { D.Tells → IsBacked S.seal_of (shown self) (blob_of (shown self) (D.time dev.old)).content → (p : ℕ) → result ≡ Err (RError.InvalidChecksum p)
             → Data self.page_size (bytes_of (shown self) (blob_of (shown self) (D.time dev.old)).content) (size_of (shown self)) (view (blob_of (shown self) (D.time dev.new)).content) }
         ensures uncut_rests { D.Tells → (self.settled ≡ size_of (shown self) → IsAtRest (blob_of (shown self) (D.time dev.old))) → (p : ℕ) → result ≡ Err (RError.InvalidChecksum p) → IsAtRest (blob_of (shown self) (D.time dev.new)) }
         ensures untouched { D.Tells → self.settled ≡ size_of (shown self) → (p : ℕ) → result ≡ Err (RError.InvalidChecksum p) → Unchanged (D.time dev.old) (D.time dev.new) }

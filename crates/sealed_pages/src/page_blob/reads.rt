@@ -1,26 +1,24 @@
 // Reading the bytes that a buffer means: from its tip what is held there, and the rest from pages of its blob.
-ghost use Rattle.std.specs.Prelude.{◌≡◌, ◌+◌, ◌*◌, ◌-◌, ◌≤◌, ◌<◌, ◌^◌, ◌⊎◌, ◌↔◌, ◌/◌, Err, length, take, drop, IfOk, OnOk, OnErr, IsSome, true, false, ℕ, List};
+ghost use Rattle.std.specs.Prelude.{◌≡◌, ◌+◌, ◌*◌, ◌-◌, ◌≤◌, ◌<◌, ◌^◌, ◌⊎◌, ◌↔◌, ◌/◌, Err, min, length, take, drop, IfOk, OnOk, OnErr, IsSome, true, false, ℕ, List};
 ghost use Rattle.std.specs.Result.{IsErrOf};
 ghost use Rattle.blob_device.specs.declared.runtime.RError.TheVariants.{BlobInsufficientLength, OffsetOverflow};
 ghost use Rattle.blob_device.specs.Timeline.{disk};
 ghost use Rattle.blob_device.specs.Counts.{Rose};
-ghost use Rattle.sealed_pages.specs.Buffer.{key_of, size_of, flushed_of, bytes_of, IsBacked, IsSealed};
+ghost use Rattle.sealed_pages.specs.Buffer.{key_of, size_of, flushed_of, bytes_of, is_cached, AddsPages, IsBacked, IsSealed};
 ghost use Rattle.sealed_pages.specs.Reading.{Unchanged};
 ghost use Rattle.sealed_pages.specs.SealedPrefix.{data_from, adopted_size, sealed_prefix};
 ghost use Rattle.sealed_pages.specs.Slots.{page_length};
 ghost use Rattle.sealed_pages.specs.Proven.{proven_prefix};
 ghost use Rattle.sealed_pages.specs.Reopening.{OnlySettles, StaysOpen};
 ghost use Rattle.sealed_pages.specs.View.{view};
-ghost use Rattle.sealed_pages.specs.Reads.{IsWanted, IsCovered, IsShort, IsHeld, PassesSize, touched, below};
+ghost use Rattle.sealed_pages.specs.Reads.{IsWanted, IsCovered, IsShort, IsTailShort, IsHeld, PassesSize, missing_pages, pages_for, below};
 ghost use Rattle.sealed_pages.specs.Entries.{IsOpenAt, ReadsAtMost, NoReads};
 ghost use Rattle.sealed_pages.specs.ChanceSeal.{Sealing};
 ghost use Rattle.sealed_pages.specs.Flushing.{Alone};
-ghost use Rattle.sealed_pages.specs.Held.{AreHeldOf};
 
 use super::PageBlob;
-use crate::piece::Piece;
 use crate::prefix::prefix_len;
-use crate::range::{check_range, open_again, read_opened, read_pages};
+use crate::range::{check_range, open_again, read_last, read_opened, read_pages};
 use crate::replay::PageReplay;
 use blob_device::{Device, RError};
 use std::alloc::Global;
@@ -57,32 +55,35 @@ impl<S: Seal> PageBlob<S> {
         buf.copy_from_slice(&self.tip[skip..skip + buf.len()]);
     }
 
-    /// Reads the bytes from `offset` on. Those of the tip are held, and so are the page that adopting read and those of a
-    /// [`hold`](PageBlob::hold), until the blob is written to; each other page is read once. A page is checked.
+    /// Reads the bytes from `offset` on: from memory those that are held, in the tip or in cached pages. Each other page is read
+    /// once, and checked.
     ///
     /// `InvalidChecksum` names a page that no matching slot covers as far as the read needs it. After an error `buf` holds any
     /// bytes. An empty `buf` reads nothing.
     pub fn read_at<D: Device>(&self, dev: &mut D, offset: u64, buf: &mut [u8]) -> Result<(), RError>
         requires { IsOpenAt (D.opened dev.old) (key_of (shown self.now)) self.now.end }
-        ensures bytes { D.Tells → AreHeldOf (disk (D.time dev.old) (key_of (shown self.now))).content self.now.held → OnOk result (buf.new ≡ take (length buf.old) (drop offset (bytes_of (shown self.now) (disk (D.time dev.old) (key_of (shown self.now))).content))) }
-        ensures checked { D.Tells → AreHeldOf (disk (D.time dev.old) (key_of (shown self.now))).content self.now.held → OnOk result (IsCovered S.seal_of self.now.page_size (disk (D.time dev.old) (key_of (shown self.now))).content offset (below self.now.page_size self.now.first offset (length buf.old))) }
-        ensures checksum { D.Tells → AreHeldOf (disk (D.time dev.old) (key_of (shown self.now))).content self.now.held → (p : ℕ) → IsErrOf result (RError.InvalidChecksum p)
+        ensures bytes { D.Tells → IsBacked S.seal_of (shown self.now) (disk (D.time dev.old) (key_of (shown self.now))).content → OnOk result (buf.new ≡ take (length buf.old) (drop offset (bytes_of (shown self.now) (disk (D.time dev.old) (key_of (shown self.now))).content))) }
+        ensures checked { D.Tells → IsBacked S.seal_of (shown self.now) (disk (D.time dev.old) (key_of (shown self.now))).content → OnOk result (IsCovered S.seal_of self.now.page_size (disk (D.time dev.old) (key_of (shown self.now))).content offset (below self.now.page_size self.now.first offset (length buf.old))) }
+        ensures checksum { D.Tells → (p : ℕ) → IsErrOf result (RError.InvalidChecksum p)
             → IsShort S.seal_of self.now.page_size (disk (D.time dev.old) (key_of (shown self.now))).content offset (below self.now.page_size self.now.first offset (length buf.old)) p }
         // No page of a sealed buffer is refused.
-        ensures whole { D.Tells → AreHeldOf (disk (D.time dev.old) (key_of (shown self.now))).content self.now.held → IsSealed S.seal_of (shown self.now) (disk (D.time dev.old) (key_of (shown self.now))) → (p : ℕ) → IsErrOf result (RError.InvalidChecksum p) → ⊥ }
+        ensures whole { D.Tells → IsSealed S.seal_of (shown self.now) (disk (D.time dev.old) (key_of (shown self.now))) → (p : ℕ) → IsErrOf result (RError.InvalidChecksum p) → ⊥ }
         ensures overflow { IsErrOf result OffsetOverflow ↔ (2 ^ 64 ≤ offset + length buf.old) }
         ensures short { IsErrOf result BlobInsufficientLength ↔ ((offset + length buf.old < 2 ^ 64) × (size_of (shown self.now) < offset + length buf.old)) }
         ensures refused { size_of (shown self.now) < offset + length buf.old → dev.new ≡ dev.old }
         ensures unchanged { D.Tells → Unchanged (D.time dev.old) (D.time dev.new) }
         // At most one read a page of which a wanted byte is not held.
-        ensures reads { ReadsAtMost (touched self.now.page_size offset (below self.now.page_size self.now.first offset (length buf.old))) (key_of (shown self.now)) (D.opened dev.old) (D.opened dev.new) }
-        ensures held { below self.now.page_size self.now.first offset (length buf.old) ≡ 0 → D.time dev.new ≡ D.time dev.old }
+        ensures reads { ReadsAtMost (missing_pages (shown self.now) offset (length buf.old)) (key_of (shown self.now)) (D.opened dev.old) (D.opened dev.new) }
+        ensures held { IsHeld (shown self.now) offset (length buf.old) → dev.new ≡ dev.old }
         ensures faults { D.faults dev.old ≤ D.faults dev.new }
         ensures cause { OnErr result ((result ≡ Err RError.OffsetOverflow) ⊎ ((result ≡ Err RError.BlobInsufficientLength)
             ⊎ (((p : ℕ) × (result ≡ Err (RError.InvalidChecksum p)) × IsWanted self.now.page_size offset (below self.now.page_size self.now.first offset (length buf.old)) p)
             ⊎ ((result ≡ Err RError.Mem) ⊎ ((result ≡ Err RError.Fault) × Rose (D.faults dev.old) (D.faults dev.new)))))) }
     {
         check_range(offset, buf.len(), self.size())?;
+        if self.try_read_held(offset, buf) {
+            return Ok(());
+        }
         let below = self.below_tip(offset, buf.len());
         let front = &mut buf[..below];
         read_pages::<D, S>(
@@ -92,7 +93,7 @@ impl<S: Seal> PageBlob<S> {
             self.name.as_slice(),
             self.page_size,
             self.end,
-            &self.held,
+            &self.cache,
             offset,
             front,
         )?;
@@ -100,52 +101,38 @@ impl<S: Seal> PageBlob<S> {
         Ok(())
     }
 
-    /// Reads those pages of the bytes from `offset` on that stand below the tip and are not held, and holds them until the blob is written
-    /// to: calls that read them read them no second time. The bytes stand within the size. It makes one read at most.
-    pub fn hold<D: Device>(&mut self, dev: &mut D, offset: u64, len: usize) -> Result<(), RError>
-        requires open { IsOpenAt (D.opened dev.old) (key_of (shown self.old)) self.old.end }
-        requires within { offset + len ≤ size_of (shown self.old) }
-        ensures same { shown self.new ≡ shown self.old }
-        ensures held { D.Tells → AreHeldOf (disk (D.time dev.old) (key_of (shown self.old))).content self.old.held → AreHeldOf (disk (D.time dev.old) (key_of (shown self.old))).content self.new.held }
-        ensures unchanged { D.Tells → Unchanged (D.time dev.old) (D.time dev.new) }
-        ensures open { IsOpenAt (D.opened dev.new) (key_of (shown self.new)) self.new.end }
-        ensures entries { ReadsAtMost 1 (key_of (shown self.old)) (D.opened dev.old) (D.opened dev.new) }
-        ensures faults { D.faults dev.old ≤ D.faults dev.new }
-        ensures cause { OnErr result ((result ≡ Err RError.Mem) ⊎ ((result ≡ Err RError.Fault) × Rose (D.faults dev.old) (D.faults dev.new))) }
+    // Whether these bytes, which stand below the tip, are all in pages that are held.
+    fn has_below(&self, offset: u64, len: usize) -> bool
+        requires { 0 < len → offset + len ≤ self.now.first * self.now.page_size }
+        ensures { (result ≡ true) ↔ ((k : ℕ) → IsWanted self.now.page_size offset len k → is_cached (shown self.now) k ≡ true) }
     {
-        let below = self.below_tip(offset, len);
-        if below == 0 {
-            return Ok(());
+        if len == 0 {
+            return true;
         }
         let page_size = u64::from(self.page_size);
-        let first = offset / page_size;
-        if self.held.page(self.page_size, first).is_some() {
-            return Ok(());
-        }
-        let count = (offset + (below as u64 - 1)) / page_size - first + 1;
-        let unit = usize::from(self.page_size) + 12;
-        let buffer = (count as usize).saturating_mul(unit);
-        let mut piece = Piece::new(self.alloc, self.page_size, buffer)?;
-        let partition = self.partition.as_str();
-        let name = self.name.as_slice();
-        piece.load(dev, partition, name, self.end, first, &self.held)?;
-        self.held.add(piece);
-        Ok(())
+        let last = (offset + (len as u64 - 1)) / page_size;
+        self.cache.has_all(offset / page_size, last + 1)
     }
 
     /// Takes the bytes from `offset` on where all of them are held in memory; else `buf` stays as it is. It takes no memory.
     pub fn try_read_held(&self, offset: u64, buf: &mut [u8]) -> bool
-        ensures held { (result ≡ true) ↔ IsHeld self.now.page_size self.now.first (size_of (shown self.now)) offset (length buf.old) }
-        ensures bytes { result ≡ true → (content : List ℕ) → buf.new ≡ take (length buf.old) (drop offset (bytes_of (shown self.now) content)) }
+        ensures held { (result ≡ true) ↔ IsHeld (shown self.now) offset (length buf.old) }
+        ensures bytes { result ≡ true → (content : List ℕ) → IsBacked S.seal_of (shown self.now) content → buf.new ≡ take (length buf.old) (drop offset (bytes_of (shown self.now) content)) }
         ensures same { result ≡ false → buf.new ≡ buf.old }
     {
         if buf.is_empty() {
             return true;
         }
-        if offset < self.tip_start() || check_range(offset, buf.len(), self.size()).is_err() {
+        if check_range(offset, buf.len(), self.size()).is_err() {
             return false;
         }
-        self.copy_held(offset, buf);
+        let below = self.below_tip(offset, buf.len());
+        if !self.has_below(offset, below) {
+            return false;
+        }
+        let front = &mut buf[..below];
+        self.cache.copy_out(self.page_size, offset, front);
+        self.copy_held(offset + below as u64, &mut buf[below..]);
         true
     }
 
@@ -190,6 +177,42 @@ impl<S: Seal> PageBlob<S> {
         read_opened::<D, S>(alloc, dev, partition, name, page_size, end, offset, buf)
     }
 
+    /// Reads the last bytes of an opened blob without a buffer over it. The answer is the size at which the blob would be adopted,
+    /// and the bytes are those before it. Its length is learned by opening it again, which settles it.
+    ///
+    /// `InvalidChecksum` names a page that no matching slot covers as far as the read needs it. After an error `buf` holds any
+    /// bytes.
+    pub fn read_tail<D: Device>(
+        alloc: Global,
+        dev: &mut D,
+        partition: &str,
+        name: &[u8],
+        page_size: u16,
+        buf: &mut [u8],
+    ) -> Result<u64, RError>
+        requires valid { 1 ≤ page_size }
+        requires open { IsSome (D.opened dev.old (partition.now, name.now)) }
+        ensures size { D.Tells → IfOk result (λ n. n ≡ adopted_size S.seal_of page_size (disk (D.time dev.old) (partition.now, name.now)).content) }
+        ensures within { IfOk result (λ n. length buf.old ≤ n) }
+        ensures bytes { D.Tells → IfOk result (λ n. buf.new ≡ data_from page_size (view (disk (D.time dev.old) (partition.now, name.now)).content) (n - length buf.old) (length buf.old)) }
+        ensures checked { D.Tells → IfOk result (λ n. IsCovered S.seal_of page_size (disk (D.time dev.old) (partition.now, name.now)).content (n - length buf.old) (length buf.old)) }
+        ensures checksum { D.Tells → (p : ℕ) → IsErrOf result (RError.InvalidChecksum p) → IsTailShort S.seal_of page_size (disk (D.time dev.old) (partition.now, name.now)).content (length buf.old) p }
+        // More bytes than the size are refused as too long, unless the size could not be learned.
+        ensures short { D.Tells → IsErrOf result BlobInsufficientLength → adopted_size S.seal_of page_size (disk (D.time dev.old) (partition.now, name.now)).content < length buf.old }
+        ensures past { D.Tells → adopted_size S.seal_of page_size (disk (D.time dev.old) (partition.now, name.now)).content < length buf.old
+            → (result ≡ Err RError.BlobInsufficientLength) ⊎ ((result ≡ Err RError.Mem) ⊎ ((result ≡ Err RError.Fault) × Rose (D.faults dev.old) (D.faults dev.new))) }
+        ensures settles { D.Tells → OnlySettles (partition.now, name.now) (D.time dev.old) (D.time dev.new) }
+        ensures entries { StaysOpen (partition.now, name.now) (D.opened dev.old) (D.opened dev.new) }
+        ensures length { D.Tells → (n : ℕ) → IsOpenAt (D.opened dev.old) (partition.now, name.now) n → IsOpenAt (D.opened dev.new) (partition.now, name.now) n }
+        ensures faults { D.faults dev.old ≤ D.faults dev.new }
+        ensures cause { OnErr result ((result ≡ Err RError.BlobInsufficientLength)
+            ⊎ (((p : ℕ) × (result ≡ Err (RError.InvalidChecksum p)))
+            ⊎ ((result ≡ Err RError.Mem) ⊎ ((result ≡ Err RError.Fault) × Rose (D.faults dev.old) (D.faults dev.new))))) }
+    {
+        let end = open_again(dev, partition, name)?;
+        read_last::<D, S>(alloc, dev, partition, name, page_size, end, buf)
+    }
+
     /// The length of the blob's sealed prefix as it reads, where the pages below the one that has byte `from` are taken as full.
     /// Where no page begins at or behind that one, the answer is that one's start.
     ///
@@ -217,12 +240,44 @@ impl<S: Seal> PageBlob<S> {
             self.page_size,
             self.end,
             from / u64::from(self.page_size),
+            u64::MAX,
             buffer,
         )
     }
 
-    /// Flushes what is not flushed, and gives a reader over all the bytes, from 0. It reads pieces of about `buffer` bytes, and no page
-    /// that is held.
+    /// The lesser of `end` and [`recoverable_prefix_len`](PageBlob::recoverable_prefix_len) from there. It reads only pages that begin
+    /// below `end`.
+    pub fn recoverable_prefix_len_at_most<D: Device>(
+        &self,
+        dev: &mut D,
+        from: u64,
+        end: u64,
+        buffer: usize,
+    ) -> Result<u64, RError>
+        requires { IsOpenAt (D.opened dev.old) (key_of (shown self.now)) self.now.end }
+        ensures length { D.Tells → IfOk result (λ n. n ≡ min end (proven_prefix S.seal_of self.now.page_size (disk (D.time dev.old) (key_of (shown self.now))).content (from / self.now.page_size))) }
+        ensures unchanged { D.Tells → Unchanged (D.time dev.old) (D.time dev.new) }
+        ensures reads { ReadsAtMost (pages_for self.now.page_size end - from / self.now.page_size) (key_of (shown self.now)) (D.opened dev.old) (D.opened dev.new) }
+        ensures faults { D.faults dev.old ≤ D.faults dev.new }
+        ensures cause { OnErr result ((result ≡ Err RError.Mem) ⊎ ((result ≡ Err RError.Fault) × Rose (D.faults dev.old) (D.faults dev.new))) }
+    {
+        let size = u64::from(self.page_size);
+        let len = prefix_len::<D, S>(
+            self.alloc,
+            dev,
+            self.partition.as_str(),
+            self.name.as_slice(),
+            self.page_size,
+            self.end,
+            from / size,
+            end.div_ceil(size),
+            buffer,
+        )?;
+        Ok(len.min(end))
+    }
+
+    /// Flushes what is not flushed, and gives a reader over all the bytes, from 0. It reads full pages, in pieces of about `buffer` bytes,
+    /// and has the bytes of a last page that is not full from here.
     pub fn replay<D: Device>(
         self,
         dev: &mut D,
@@ -233,17 +288,17 @@ impl<S: Seal> PageBlob<S> {
             → Sealing S.seal_of self.page_size (bytes_of (shown self) (disk (D.time dev.old) (key_of (shown self))).content) self.settled (key_of (shown self)) (D.time dev.old) (D.time dev.new) }
         ensures sealed { D.Tells → IsSealed S.seal_of (shown self) (disk (D.time dev.old) (key_of (shown self)))
             → IfOk result (λ r. IsSealed S.seal_of (shown r.0) (disk (D.time dev.new) (key_of (shown self)))) }
-        ensures alone { D.Tells → IsBacked (shown self) (disk (D.time dev.old) (key_of (shown self))).content → Alone (key_of (shown self)) (D.time dev.old) (D.time dev.new) }
-        ensures bytes { D.Tells → IsBacked (shown self) (disk (D.time dev.old) (key_of (shown self))).content
+        ensures alone { D.Tells → IsBacked S.seal_of (shown self) (disk (D.time dev.old) (key_of (shown self))).content → Alone (key_of (shown self)) (D.time dev.old) (D.time dev.new) }
+        ensures bytes { D.Tells → IsBacked S.seal_of (shown self) (disk (D.time dev.old) (key_of (shown self))).content
             → IfOk result (λ r. bytes_of (shown r.0) (disk (D.time dev.new) (key_of (shown self))).content ≡ bytes_of (shown self) (disk (D.time dev.old) (key_of (shown self))).content) }
-        ensures backed { D.Tells → IsBacked (shown self) (disk (D.time dev.old) (key_of (shown self))).content
-            → IfOk result (λ r. IsBacked (shown r.0) (disk (D.time dev.new) (key_of (shown self))).content) }
+        ensures backed { D.Tells → IsBacked S.seal_of (shown self) (disk (D.time dev.old) (key_of (shown self))).content
+            → IfOk result (λ r. IsBacked S.seal_of (shown r.0) (disk (D.time dev.new) (key_of (shown self))).content) }
         // Also of an adopted blob whose sealed prefix is shorter than its size, each crash leaves that prefix.
         ensures steady { D.Tells → IsUnrecovered S.seal_of (shown self) (blob_of (shown self) (D.time dev.old))
             → KeepsPrefix S.seal_of self.page_size (prefix_of S.seal_of (shown self) (D.time dev.old)) (key_of (shown self)) (D.time dev.old) (D.time dev.new) }
         ensures unrecovered { D.Tells → IsUnrecovered S.seal_of (shown self) (blob_of (shown self) (D.time dev.old)) → IfOk result (λ r. IsUnrecovered S.seal_of (shown r.0) (blob_of (shown self) (D.time dev.new))) }
         // What the reader gives is what the buffer means.
-        ensures data { D.Tells → IsBacked (shown self) (disk (D.time dev.old) (key_of (shown self))).content
+        ensures data { D.Tells → IsBacked S.seal_of (shown self) (disk (D.time dev.old) (key_of (shown self))).content
             → IfOk result (λ r. data_from self.page_size (view (disk (D.time dev.new) (key_of (shown self))).content) 0 (size_of (shown self)) ≡ bytes_of (shown self) (disk (D.time dev.old) (key_of (shown self))).content) }
         // No page of a sealed buffer will be refused.
         ensures whole { D.Tells → IsSealed S.seal_of (shown self) (disk (D.time dev.old) (key_of (shown self)))
@@ -251,8 +306,8 @@ impl<S: Seal> PageBlob<S> {
         // Where all is flushed, no call of the device is made.
         ensures idle { flushed_of (shown self) ≡ size_of (shown self) → dev.new ≡ dev.old }
         ensures same { flushed_of (shown self) ≡ size_of (shown self) → IfOk result (λ r. shown r.0 ≡ shown self) }
-        ensures replays { IfOk result (λ r. (content : List ℕ) → AreHeldOf content r.0.held → IsReplayOf S.seal_of content (reading r.1)) }
-        ensures held { D.Tells → AreHeldOf (disk (D.time dev.old) (key_of (shown self))).content self.held → IfOk result (λ r. AreHeldOf (disk (D.time dev.new) (key_of (shown self))).content r.0.held) }
+        ensures replays { IfOk result (λ r. (content : List ℕ) → IsBacked S.seal_of (shown r.0) content → IsReplayOf S.seal_of content (reading r.1)) }
+        ensures cached { IfOk result (λ r. AddsPages (shown self) (shown r.0)) }
         ensures begins { IfOk result (λ r. ((reading r.1).at ≡ 0) × ((reading r.1).size ≡ size_of (shown self))) }
         ensures over { IfOk result (λ r. ((reading r.1).key ≡ key_of (shown self)) × ((reading r.1).page_size ≡ self.page_size) × ((reading r.1).end ≡ r.0.end)) }
         ensures flushed { IfOk result (λ r. r.0.from ≡ length r.0.tip.items) }
@@ -261,14 +316,16 @@ impl<S: Seal> PageBlob<S> {
         ensures key { IfOk result (λ r. key_of (shown r.0) ≡ key_of (shown self)) }
         ensures page_size { IfOk result (λ r. r.0.page_size ≡ self.page_size) }
         ensures capacity { IfOk result (λ r. r.0.capacity ≡ self.capacity) }
+        ensures cache_pages { IfOk result (λ r. (shown r.0).cache_pages ≡ (shown self).cache_pages) }
         ensures open { IfOk result (λ r. IsOpenAt (D.opened dev.new) (key_of (shown r.0)) r.0.end) }
         ensures reader { IfOk result (λ r. IsOpenAt (D.opened dev.new) (reading r.1).key (reading r.1).end) }
         ensures entries { NoReads (key_of (shown self)) (D.opened dev.old) (D.opened dev.new) }
         ensures faults { D.faults dev.old ≤ D.faults dev.new }
         ensures cause { OnErr result ((result ≡ Err RError.Mem) ⊎ ((result ≡ Err RError.Fault) × Rose (D.faults dev.old) (D.faults dev.new))) }
     {
-        // Flushed, since the reader goes over the blob and does not see the tip.
+        // Flushed, so that the tip is the last page's bytes alone, and the reader has all others from the blob.
         let this = self.flush(dev)?;
+        let tip = this.tip.as_slice().to_vec(this.alloc)?;
         let replay = PageReplay::new(
             this.alloc,
             this.partition.as_str(),
@@ -277,7 +334,7 @@ impl<S: Seal> PageBlob<S> {
             this.end,
             this.size(),
             buffer,
-            this.held.try_clone()?,
+            tip,
         )?;
         Ok((this, replay))
     }

@@ -12,7 +12,6 @@ use Rattle.sealed_pages.specs.ChanceSeal.{NoChanceSeal, Sealing}
 use Rattle.sealed_pages.specs.ChanceSeal as chance
 use Rattle.sealed_pages.specs.Cutting.{IsAtRest}
 use Rattle.sealed_pages.specs.declared.page_blob.PageBlob.{PageBlob}
-use Rattle.sealed_pages.specs.Held.{AreHeldOf}
 use Rattle.sealed_pages.specs.SealedPrefix.{sealed_prefix, adopted_size}
 use Rattle.sealed_pages.specs.Shown.{shown}
 use Rattle.sealed_pages.specs.Unrecovered.{KeepsPrefix, IsUnrecovered, IsRecovery, IsAdopted, IsSafeCut}
@@ -21,17 +20,12 @@ use Rattle.sealed_pages.proofs.PageCalls.{only_weaker}
 use Rattle.sealed_pages.proofs.Truncating.{map_ok}
 use Rattle.sealed_pages.proofs.UnrecoveredLemmas.{keeps_sealing}
 use Rattle.section_manager.specs.Leaving.{Leaves, AllMoments}
-use Rattle.section_manager.specs.Sealed.{adopted_bytes, Stands, StandsHolding, MayKeep}
+use Rattle.section_manager.specs.Sealed.{adopted_bytes, Stands, MayKeep}
 use Rattle.section_manager.specs.SealedLaws.{sealed_keeps, unrecovered_keeps, again}
 
 ok_has : {T E : Type 0} (r : Result T E) (P : T → Type 0) → IsOkAnd r P → IfOk r P
 ok_has (Ok v) P has = has
 ok_has (Err e) P has = absurd has
-
--- what a call answers stands over the blob, and holds pages that are as in it
-pub stands_holding : {S : Type 0} {g : _} (seal : List ℕ → ℕ) (b : Blob) (r : Result (PageBlob S g) RError) → IfOk r (λ v. Stands seal (shown v) b) → IfOk r (λ v. AreHeldOf b.content v.held) → IfOk r (λ v. StandsHolding seal v b)
-stands_holding seal b (Ok v) stands held = record { stands = stands; held = held }
-stands_holding seal b (Err e) stands held = stands
 
 module _ (seal : List ℕ → ℕ) (u : Buffer) (key : Key) (old new : Timeline) where
   module _ (least : ℕ) where
@@ -132,7 +126,7 @@ sound_page (Err e) page A cause is = elim cause [
 
 -- adopting gives the bytes of the blob
 pub adopts_bytes : {S : Type 0} {g : _} (seal : List ℕ → ℕ) (P : ℕ) (content : List ℕ) (r : Result (PageBlob S g) RError) → IfOk r (λ v. v.page_size ≡ P) → IfOk r (λ v. v.settled ≡ size_of (shown v))
-    → IfOk r (λ v. size_of (shown v) ≡ adopted_size seal P content) → IfOk r (λ v. IsBacked (shown v) content) → IfOk r (λ v. bytes_of (shown v) content ≡ adopted_bytes seal P content)
+    → IfOk r (λ v. size_of (shown v) ≡ adopted_size seal P content) → IfOk r (λ v. IsBacked seal (shown v) content) → IfOk r (λ v. bytes_of (shown v) content ≡ adopted_bytes seal P content)
 adopts_bytes seal P content (Ok v) page settled size backed =
     sym (again seal (shown v) v.fit v.order content settled backed (size ∙ ap (λ (n : ℕ). adopted_size seal n content) (sym page)))
     ∙ ap (λ (n : ℕ). adopted_bytes seal n content) page

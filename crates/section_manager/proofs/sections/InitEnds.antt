@@ -4,7 +4,7 @@ use Rattle.std.specs.Int.{w64, to_be_bytes}
 use Rattle.std.specs.List.{Contains}
 use Rattle.std.specs.Result.{IsErrOf}
 use Rattle.std.proofs.Common.{inl, inr, refl, sym, ◌∙◌, ap, subst, arith}
-use Rattle.blob_device.specs.declared.runtime.RError.TheVariants.{Fault, OffsetOverflow}
+use Rattle.blob_device.specs.declared.runtime.RError.TheVariants.{Fault}
 use Rattle.blob_device.specs.Disk.{AreNamesIn, Disk}
 use Rattle.blob_device.specs.Opened.{OpenedList, reads_of}
 use Rattle.blob_device.specs.Timeline.{disk, Always, Each}
@@ -19,27 +19,24 @@ use Rattle.section_manager.specs.Entries.{StartsNoRead}
 use Rattle.section_manager.specs.Lasting.{IsSettling}
 use Rattle.section_manager.specs.managing.Finding.{AreSectionsIn, Finding, Scans}
 use Rattle.section_manager.specs.managing.Opening.{Inits, Knows, OpensEach, OpensFound}
-use Rattle.section_manager.specs.Refusing.{HasFailed, HasNoRoom, IsForeign}
+use Rattle.section_manager.specs.Refusing.{HasFailed, IsForeign}
 use Rattle.section_manager.specs.Sections.{Sections, section_key, key_of, IsHeld, IsKnown, IsOver}
 use Rattle.section_manager.specs.Setting.{Setting}
 use Rattle.section_manager.proofs.InitLemmas.{Found, Opened, above_unopened, found_over, held_wanted, listed_there, none_foreign, none_leftover, opened_as, settling_after, settling_start, settling_unchanged, there_listed, unopened_above}
 use Rattle.section_manager.proofs.Seen.{failed_again, failed_unnamed, if_ok_weaker}
 
 -- an opening that was refused for no name
-pub not_named : {T : Type 0} (r : Result T Error) (n : List ℕ) (a b : ℕ) → OnErr r (HasNoRoom r ⊎ HasFailed r a b) → r ≡ Err (InvalidBlobName n) → ⊥
+pub not_named : {T : Type 0} (r : Result T Error) (n : List ℕ) (a b : ℕ) → OnErr r (HasFailed r a b) → r ≡ Err (InvalidBlobName n) → ⊥
 not_named (Ok v) n a b cause is = absurd (cc is)
-not_named {T = T} (Err e) n a b cause is = elim cause [
-  | inl room ↦ absurd (cc (room, is))
-  | inr failed ↦ failed_unnamed {T = T} e n a b failed (cc is)
-]
+not_named {T = T} (Err e) n a b cause is = failed_unnamed {T = T} e n a b cause (cc is)
 
-module _ {F B D : Type 0} (g : buffer.Ghosts B) (gives : F → Setting) (TooLong : F → ℕ → Type 0) (dev : device.Ghosts D) where
+module _ {F B D : Type 0} (g : buffer.Ghosts B) (gives : F → Setting) (dev : device.Ghosts D) where
   -- ---- over what was found
 
   -- there is no memory for the maps
   pub found_short : (place : List ℕ) (maker : F) (bound : ℕ) (numbers : List ℕ) (old : D) → (dev.Tells → AreSectionsIn (disk (dev.time old)) place numbers) → (r : Result (Sections F B) Error) → r ≡ Err Mem
-      → OpensFound g gives TooLong dev place maker bound old old r
-  found_short place maker bound numbers old are r is = subst (OpensFound g gives TooLong dev place maker bound old old) (sym is) (record {
+      → OpensFound g gives dev place maker bound old old r
+  found_short place maker bound numbers old are r is = subst (OpensFound g gives dev place maker bound old old) (sym is) (record {
     inits = record {
       over = tt;
       held = λ t. tt;
@@ -61,9 +58,8 @@ module _ {F B D : Type 0} (g : buffer.Ghosts B) (gives : F → Setting) (TooLong
       named = λ t n named. absurd (cc named);
       entries = λ q other. refl;
       reads = λ none q. omega arith;
-      overflow = λ room. absurd (cc room);
       faults = omega arith;
-      cause = inr (inr (inl refl));
+      cause = inr (inl refl);
     };
     names = λ n named. absurd (cc named);
   })
@@ -81,7 +77,7 @@ module _ {F B D : Type 0} (g : buffer.Ghosts B) (gives : F → Setting) (TooLong
     pub start_there : dev.Tells → (s : ℕ) → Contains numbers s → IsTrue (disk (dev.time old) (key_of start s)).there
     start_there t s listed = listed_there numbers (map (to_be_bytes w64) numbers) refl (disk (dev.time old)) start.partition (are t) s listed
 
-    module _ (r : Result (Sections F B) Error) (each : OpensEach g gives TooLong dev start numbers old new r) where
+    module _ (r : Result (Sections F B) Error) (each : OpensEach g gives dev start numbers old new r) where
       opened : IfOk r (λ n. Opened numbers start found n)
       opened = opened_as numbers numbers refl start g gives dev.Tells found (dev.opened new) (disk (dev.time new)) r (λ v. v) each.held each.passed each.over
 
@@ -94,7 +90,7 @@ module _ {F B D : Type 0} (g : buffer.Ghosts B) (gives : F → Setting) (TooLong
       is_listed : dev.Tells → (s : ℕ) → s < 2 ^ 64 → IsTrue (disk (dev.time old) (section_key start.partition s)).there → Contains numbers s
       is_listed t = there_listed numbers (map (to_be_bytes w64) numbers) refl (disk (dev.time old)) start.partition (are t) small
 
-      pub found_opened : OpensFound g gives TooLong dev start.partition start.factory start.ceiling old new r
+      pub found_opened : OpensFound g gives dev start.partition start.factory start.ceiling old new r
       found_opened = record {
         inits = record {
           over = each.over;
@@ -123,7 +119,6 @@ module _ {F B D : Type 0} (g : buffer.Ghosts B) (gives : F → Setting) (TooLong
           named = λ t n is. absurd (not_named r n (dev.faults old) (dev.faults new) each.cause is);
           entries = each.entries;
           reads = each.reads;
-          overflow = each.overflow;
           faults = each.faults;
           cause = on_err r inr each.cause;
         };
@@ -133,10 +128,10 @@ module _ {F B D : Type 0} (g : buffer.Ghosts B) (gives : F → Setting) (TooLong
   -- ---- behind the scan
 
   module _ (place : List ℕ) (maker : F) (bound : ℕ) (old mid : D) where
-    pub init_refused : (e : Error) (r : Result (Sections F B) Error) → r ≡ Err e → Scans dev place maker old mid (Err e) → Inits g gives TooLong dev place maker bound old mid r
+    pub init_refused : (e : Error) (r : Result (Sections F B) Error) → r ≡ Err e → Scans dev place maker old mid (Err e) → Inits g gives dev place maker bound old mid r
     init_refused e r is scans =
         let refused : Error → Result (Finding F) Error = λ y. Err y in
-        subst (Inits g gives TooLong dev place maker bound old mid) (sym is) (record {
+        subst (Inits g gives dev place maker bound old mid) (sym is) (record {
           over = tt;
           held = λ t. tt;
           unopened = λ t. tt;
@@ -149,7 +144,7 @@ module _ {F B D : Type 0} (g : buffer.Ghosts B) (gives : F → Setting) (TooLong
           floor = tt;
           ceiling = tt;
           moments = λ t. settling_unchanged place bound (dev.time old) (dev.time mid) (scans.unchanged t);
-          foreign = λ t name foreign. (tt, λ room. no_room room);
+          foreign = λ t name foreign. tt;
           foreign_disk = λ t name foreign. scans.unchanged t;
           foreign_entries = λ t name foreign. scans.unopened;
           name = λ n named. scans.name n (let same : e ≡ InvalidBlobName n = cc named in ap refused same);
@@ -157,31 +152,21 @@ module _ {F B D : Type 0} (g : buffer.Ghosts B) (gives : F → Setting) (TooLong
           named = λ t n named. scans.named t n (let same : e ≡ InvalidBlobName n = cc named in ap refused same);
           entries = λ q other. ap (λ (l : OpenedList). l q) scans.unopened;
           reads = λ none q. omega (arith, ap reads_of (ap (λ (l : OpenedList). l q) scans.unopened));
-          overflow = λ room. absurd (no_room room);
           faults = scans.faults;
           cause = elim scans.cause [
             | inl named ↦ (let same : e ≡ InvalidBlobName named.0 = cc named.1 in inl (named.0, cc same))
-            | inr failed ↦ inr (inr (failed_again {T = Finding F} {U = Sections F B} e (dev.faults old) (dev.faults mid) failed))
+            | inr failed ↦ inr (failed_again {T = Finding F} {U = Sections F B} e (dev.faults old) (dev.faults mid) failed)
           ];
         })
-      where
-        no_room : HasNoRoom {T = Sections F B} (Err e) → ⊥
-        no_room room = elim scans.cause [
-          | inl named ↦ (let same : e ≡ InvalidBlobName named.0 = cc named.1 in absurd (cc (same, room)))
-          | inr failed ↦ elim failed [
-            | inl none ↦ (let same : e ≡ Mem = cc none in absurd (cc (same, room)))
-            | inr fault ↦ (let same : e ≡ Runtime Fault = cc fault.0 in absurd (cc (same, room)))
-          ]
-        ]
 
     module _ (f : Finding F) (scans : Scans dev place maker old mid (Ok f)) where
       pub found_there : dev.Tells → AreSectionsIn (disk (dev.time mid)) f.partition f.numbers
       found_there t = subst (λ (p : List ℕ). AreSectionsIn (disk (dev.time mid)) p f.numbers) (sym scans.partition)
           (subst (λ (d : Disk). AreSectionsIn d place f.numbers) (sym (unchanged_now (dev.time old) (dev.time mid) (scans.unchanged t))) (scans.found t))
 
-      pub inits_after : (new : D) (r : Result (Sections F B) Error) → OpensFound g gives TooLong dev f.partition f.factory bound mid new r → Inits g gives TooLong dev place maker bound old new r
+      pub inits_after : (new : D) (r : Result (Sections F B) Error) → OpensFound g gives dev f.partition f.factory bound mid new r → Inits g gives dev place maker bound old new r
       inits_after new r opened =
-          let opens = subst (λ (p : List ℕ). OpensFound g gives TooLong dev p maker bound mid new r) scans.partition (subst (λ (x : F). OpensFound g gives TooLong dev f.partition x bound mid new r) scans.factory opened) in
+          let opens = subst (λ (p : List ℕ). OpensFound g gives dev p maker bound mid new r) scans.partition (subst (λ (x : F). OpensFound g gives dev f.partition x bound mid new r) scans.factory opened) in
           let i = opens.inits in
           let same : dev.Tells → disk (dev.time mid) ≡ disk (dev.time old) = λ t. unchanged_now (dev.time old) (dev.time mid) (scans.unchanged t) in
           record {
@@ -208,16 +193,12 @@ module _ {F B D : Type 0} (g : buffer.Ghosts B) (gives : F → Setting) (TooLong
             named = λ t n is. absurd (opens.names n is);
             entries = λ q other. i.entries q other ∙ ap (λ (l : OpenedList). l q) scans.unopened;
             reads = λ none. subst (λ (l : OpenedList). StartsNoRead l (dev.opened new)) scans.unopened (i.reads none);
-            overflow = i.overflow;
             faults = omega (arith, scans.faults, i.faults);
             cause = on_err r (λ cause. elim cause [
               | inl named ↦ inl named
-              | inr other ↦ elim other [
-                | inl room ↦ inr (inl room)
-                | inr failed ↦ elim failed [
-                  | inl none ↦ inr (inr (inl none))
-                  | inr fault ↦ inr (inr (inr (fault.0, omega (arith, scans.faults, fault.1))))
-                ]
+              | inr failed ↦ elim failed [
+                | inl none ↦ inr (inl none)
+                | inr fault ↦ inr (inr (fault.0, omega (arith, scans.faults, fault.1)))
               ]
             ]) i.cause;
           }

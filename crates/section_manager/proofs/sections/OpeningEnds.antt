@@ -1,7 +1,7 @@
 -- How an opening of a section ends.
 use Rattle.std.specs.Prelude.{Option, IsSomeAnd, ◌≡◌, ◌≢◌, ◌⊎◌, ◌↔◌, ℕ, ◌^◌, ◌-◌, ◌<◌, ◌≤◌, false, List, None, Some, is_some, IsSome, IsTrue, Result, Ok, Err, IfOk, OnErr}
 use Rattle.std.proofs.Common.{inl, inr, refl, sym, ◌∙◌, ap, subst, arith}
-use Rattle.blob_device.specs.declared.runtime.RError.TheVariants.{BlobInsufficientLength, Fault, InvalidChecksum, Mem as RMem, OffsetOverflow}
+use Rattle.blob_device.specs.declared.runtime.RError.TheVariants.{Fault, Mem as RMem}
 use Rattle.blob_device.specs.declared.runtime.RError.{RError}
 use Rattle.blob_device.specs.Counts.{Rose}
 use Rattle.std.specs.Result.{IsErrOf}
@@ -21,33 +21,15 @@ use Rattle.section_manager.specs.Leaving.{AllMoments}
 use Rattle.section_manager.specs.managing.Lending.{IsPut, IsRefused}
 use Rattle.section_manager.specs.managing.Opening.{Holds, OpensBlob, OpensNext, Takes}
 use Rattle.section_manager.specs.Raised.{raised}
-use Rattle.section_manager.specs.Refusing.{HasFailed, HasNoRoom, IsPruned}
+use Rattle.section_manager.specs.Refusing.{HasFailed, IsPruned}
 use Rattle.section_manager.specs.Sections.{Sections, key_of, HasOpened, IsHeld, IsKnown, IsOver, IsSame, IsSection, SameBounds, StandsOver}
 use Rattle.section_manager.specs.Setting.{Setting}
+use Rattle.section_manager.proofs.Seen.{failed_again, failed_unpruned}
 use Rattle.section_manager.proofs.sections.OpenLemmas.{same_sections, same_over, unopened_over}
 use Rattle.section_manager.proofs.sections.OverLemmas.{over_changed, same_key}
 use Rattle.section_manager.proofs.WalkLemmas.{some_same}
 
--- a call that failed for want of room, for a fault or for want of memory was not refused for the floor
-pub room_unpruned : {T U : Type 0} (e : Error) (floor before now : ℕ) → HasNoRoom {T = T} (Err e) ⊎ HasFailed {T = T} (Err e) before now → IsPruned {T = U} (Err e) floor → ⊥
-room_unpruned e floor before now cause pruned = elim cause [
-  | inl room ↦ (let same : e ≡ Runtime OffsetOverflow = cc room in absurd (cc (same, pruned)))
-  | inr failed ↦ elim failed [
-    | inl memory ↦ (let same : e ≡ Mem = cc memory in absurd (cc (same, pruned)))
-    | inr fault ↦ (let same : e ≡ Runtime Fault = cc fault.0 in absurd (cc (same, pruned)))
-  ]
-]
-
-pub room_again : {T U : Type 0} (e : Error) (before now : ℕ) → HasNoRoom {T = T} (Err e) ⊎ HasFailed {T = T} (Err e) before now → HasNoRoom {T = U} (Err e) ⊎ HasFailed {T = U} (Err e) before now
-room_again e before now cause = elim cause [
-  | inl room ↦ (let same : e ≡ Runtime OffsetOverflow = cc room in inl (cc same))
-  | inr failed ↦ elim failed [
-    | inl memory ↦ (let same : e ≡ Mem = cc memory in inr (inl (cc same)))
-    | inr fault ↦ (let same : e ≡ Runtime Fault = cc fault.0 in inr (inr (cc same, fault.1)))
-  ]
-]
-
-module _ {F B D : Type 0} (g : buffer.Ghosts B) (gives : F → Setting) (TooLong : F → ℕ → Type 0) (dev : device.Ghosts D) (m : Sections F B) (s : ℕ) (old : D)
+module _ {F B D : Type 0} (g : buffer.Ghosts B) (gives : F → Setting) (dev : device.Ghosts D) (m : Sections F B) (s : ℕ) (old : D)
     (over : IsOver g gives dev.Tells m (dev.opened old) (disk (dev.time old))) where
   start : dev.Tells → AllMoments (key_of m s) (IsOpening (disk (dev.time old) (key_of m s))) (dev.time old) (dev.time old)
   start t = only_start (dev.time old) (key_of m s) (IsOpening (disk (dev.time old) (key_of m s))) (inl refl)
@@ -61,8 +43,8 @@ module _ {F B D : Type 0} (g : buffer.Ghosts B) (gives : F → Setting) (TooLong
   -- ---- taking the buffer out
 
   -- the section is below the floor
-  pub take_refused : (r : Result B Error) (e : Error) → r ≡ Err e → IsPruned {T = B} (Err e) m.floor → s < m.floor → Takes g gives TooLong dev m s m old old r
-  take_refused r e is pruned below = subst (Takes g gives TooLong dev m s m old old) (sym is) (record {
+  pub take_refused : (r : Result B Error) (e : Error) → r ≡ Err e → IsPruned {T = B} (Err e) m.floor → s < m.floor → Takes g gives dev m s m old old r
+  take_refused r e is pruned below = subst (Takes g gives dev m s m old old) (sym is) (record {
     over = over;
     same = tt;
     bytes = λ t none. tt;
@@ -85,15 +67,14 @@ module _ {F B D : Type 0} (g : buffer.Ghosts B) (gives : F → Setting) (TooLong
     reads = λ none q. omega arith;
     guard = (λ yes. below, λ yes. pruned);
     refuses = λ yes. refl;
-    overflow = λ room. absurd (cc (pruned, room));
     held_cause = λ held. absurd (not_below held below);
     faults = omega arith;
     cause = inl pruned;
   })
 
   -- there is no memory to note it
-  pub take_short : m.floor ≤ s → (n : Sections F B) → SameBounds m n → ((q : ℕ) → IsSame m n q) → (r : Result B Error) → r ≡ Err Mem → Takes g gives TooLong dev m s n old old r
-  take_short from n bounds same r is = subst (λ (x : Result B Error). Takes g gives TooLong dev m s n old old x) (sym is) (subst (λ (x : Sections F B). Takes g gives TooLong dev m s x old old (Err Mem)) (same_sections m n bounds same) (record {
+  pub take_short : m.floor ≤ s → (n : Sections F B) → SameBounds m n → ((q : ℕ) → IsSame m n q) → (r : Result B Error) → r ≡ Err Mem → Takes g gives dev m s n old old r
+  take_short from n bounds same r is = subst (λ (x : Result B Error). Takes g gives dev m s n old old x) (sym is) (subst (λ (x : Sections F B). Takes g gives dev m s x old old (Err Mem)) (same_sections m n bounds same) (record {
     over = over;
     same = tt;
     bytes = λ t none. tt;
@@ -116,15 +97,14 @@ module _ {F B D : Type 0} (g : buffer.Ghosts B) (gives : F → Setting) (TooLong
     reads = λ none q. omega arith;
     guard = (λ yes. absurd (cc yes), λ below. absurd (omega (arith, below, from)));
     refuses = λ below. absurd (omega (arith, below, from));
-    overflow = λ room. absurd (cc room);
     held_cause = λ held. refl;
     faults = omega arith;
-    cause = inr (inr (inl refl));
+    cause = inr (inl refl);
   }))
 
   -- it is held
   pub took_held : (u : B) (n : Sections F B) → s < 2 ^ 64 → m.held s ≡ Some u → n.held s ≡ None → n.unopened s ≡ Some Section → ((q : ℕ) → q ≢ s → IsSame m n q) → SameBounds m n
-      → Takes g gives TooLong dev m s n old old (Ok u)
+      → Takes g gives dev m s n old old (Ok u)
   took_held u n small was out known others bounds =
       let held : IsHeld m s = ap is_some was in
       record {
@@ -150,7 +130,6 @@ module _ {F B D : Type 0} (g : buffer.Ghosts B) (gives : F → Setting) (TooLong
         reads = λ none q. omega arith;
         guard = (λ yes. absurd (cc yes), λ below. absurd (not_below held below));
         refuses = λ below. absurd (not_below held below);
-        overflow = λ room. absurd (cc room);
         held_cause = λ is. tt;
         faults = omega arith;
         cause = tt;
@@ -174,17 +153,17 @@ module _ {F B D : Type 0} (g : buffer.Ghosts B) (gives : F → Setting) (TooLong
     }
 
     module _ (n : Sections F B) (bounds : SameBounds m n) (others : (q : ℕ) → q ≢ s → IsSame m n q) (out : n.held s ≡ None) (known : IsSome (n.unopened s)) where
-      module _ (r : Result B Error) (opens : OpensBlob g gives TooLong dev (key_of m s) m.factory old new r) where
+      module _ (r : Result B Error) (opens : OpensBlob g gives dev (key_of m s) m.factory old new r) where
         over_now : IsOver g gives dev.Tells n (dev.opened new) (disk (dev.time new))
         over_now = unopened_over g gives m m n (dev.opened old) (dev.opened new) (dev.time old) (dev.time new) s small from bounds_stay bounds others out known opens.entries opens.moments over
 
-      pub open_over : (r : Result B Error) → OpensBlob g gives TooLong dev k maker old new r → IsOver g gives dev.Tells n (dev.opened new) (disk (dev.time new))
-      open_over r opens = over_now r (subst (λ (x : Key). OpensBlob g gives TooLong dev x m.factory old new r) here (subst (λ (f : F). OpensBlob g gives TooLong dev k f old new r) made_by opens))
+      pub open_over : (r : Result B Error) → OpensBlob g gives dev k maker old new r → IsOver g gives dev.Tells n (dev.opened new) (disk (dev.time new))
+      open_over r opens = over_now r (subst (λ (x : Key). OpensBlob g gives dev x m.factory old new r) here (subst (λ (f : F). OpensBlob g gives dev k f old new r) made_by opens))
 
-      pub make_failed : (e : Error) → (n.unopened s ≡ Some Section → m.unopened s ≡ Some Section) → OpensBlob g gives TooLong dev k maker old new (Err e) → (r : Result B Error) → r ≡ Err e → Takes g gives TooLong dev m s n old new r
+      pub make_failed : (e : Error) → (n.unopened s ≡ Some Section → m.unopened s ≡ Some Section) → OpensBlob g gives dev k maker old new (Err e) → (r : Result B Error) → r ≡ Err e → Takes g gives dev m s n old new r
       make_failed e still opened r is =
-          let opens = subst (λ (x : Key). OpensBlob g gives TooLong dev x m.factory old new (Err e)) here (subst (λ (f : F). OpensBlob g gives TooLong dev k f old new (Err e)) made_by opened) in
-          subst (Takes g gives TooLong dev m s n old new) (sym is) (record {
+          let opens = subst (λ (x : Key). OpensBlob g gives dev x m.factory old new (Err e)) here (subst (λ (f : F). OpensBlob g gives dev k f old new (Err e)) made_by opened) in
+          subst (Takes g gives dev m s n old new) (sym is) (record {
             over = over_now (Err e) opens;
             same = tt;
             bytes = λ t none. tt;
@@ -208,17 +187,16 @@ module _ {F B D : Type 0} (g : buffer.Ghosts B) (gives : F → Setting) (TooLong
             moments = opens.moments;
             entries = opens.entries;
             reads = opens.reads;
-            guard = (λ pruned. absurd (room_unpruned {T = B} {U = B} e m.floor (dev.faults old) (dev.faults new) opens.cause pruned), λ below. absurd (omega (arith, below, from)));
+            guard = (λ pruned. absurd (failed_unpruned {T = B} e m.floor (dev.faults old) (dev.faults new) opens.cause pruned), λ below. absurd (omega (arith, below, from)));
             refuses = λ below. absurd (omega (arith, below, from));
-            overflow = opens.overflow;
             held_cause = λ held. absurd (is_none held);
             faults = opens.faults;
             cause = inr opens.cause;
           })
 
-      pub made : n.unopened s ≡ Some Section → (u : B) → OpensBlob g gives TooLong dev k maker old new (Ok u) → Takes g gives TooLong dev m s n old new (Ok u)
+      pub made : n.unopened s ≡ Some Section → (u : B) → OpensBlob g gives dev k maker old new (Ok u) → Takes g gives dev m s n old new (Ok u)
       made section u opened =
-          let opens = subst (λ (x : Key). OpensBlob g gives TooLong dev x m.factory old new (Ok u)) here (subst (λ (f : F). OpensBlob g gives TooLong dev k f old new (Ok u)) made_by opened) in
+          let opens = subst (λ (x : Key). OpensBlob g gives dev x m.factory old new (Ok u)) here (subst (λ (f : F). OpensBlob g gives dev k f old new (Ok u)) made_by opened) in
           record {
             over = over_now (Ok u) opens;
             same = λ w is. absurd (cc (absent, is));
@@ -242,18 +220,17 @@ module _ {F B D : Type 0} (g : buffer.Ghosts B) (gives : F → Setting) (TooLong
             reads = opens.reads;
             guard = (λ yes. absurd (cc yes), λ below. absurd (omega (arith, below, from)));
             refuses = λ below. absurd (omega (arith, below, from));
-            overflow = λ room. absurd (cc room);
             held_cause = λ held. tt;
             faults = opens.faults;
             cause = tt;
           }
 
       -- ---- making it, to be held: the opening failed
-      pub hold_failed : {T : Type 0} (e : Error) → (n.unopened s ≡ Some Section → m.unopened s ≡ Some Section) → OpensBlob g gives TooLong dev k maker old new (Err e) → (r : Result T Error) → r ≡ Err e
-          → Holds g gives TooLong dev m s n old new r
+      pub hold_failed : {T : Type 0} (e : Error) → (n.unopened s ≡ Some Section → m.unopened s ≡ Some Section) → OpensBlob g gives dev k maker old new (Err e) → (r : Result T Error) → r ≡ Err e
+          → Holds g gives dev m s n old new r
       hold_failed {T = T} e still opened r is =
-          let opens = subst (λ (x : Key). OpensBlob g gives TooLong dev x m.factory old new (Err e)) here (subst (λ (f : F). OpensBlob g gives TooLong dev k f old new (Err e)) made_by opened) in
-          subst (λ (x : Result T Error). Holds g gives TooLong dev m s n old new x) (sym is) (record {
+          let opens = subst (λ (x : Key). OpensBlob g gives dev x m.factory old new (Err e)) here (subst (λ (f : F). OpensBlob g gives dev k f old new (Err e)) made_by opened) in
+          subst (λ (x : Result T Error). Holds g gives dev m s n old new x) (sym is) (record {
             over = over_now (Err e) opens;
             held = tt;
             same = tt;
@@ -267,20 +244,19 @@ module _ {F B D : Type 0} (g : buffer.Ghosts B) (gives : F → Setting) (TooLong
             moments = opens.moments;
             entries = opens.entries;
             reads = opens.reads;
-            guard = (λ pruned. absurd (room_unpruned {T = B} {U = T} e m.floor (dev.faults old) (dev.faults new) opens.cause pruned), λ below. absurd (omega (arith, below, from)));
+            guard = (λ pruned. absurd (failed_unpruned {T = T} e m.floor (dev.faults old) (dev.faults new) (failed_again {T = B} {U = T} e (dev.faults old) (dev.faults new) opens.cause) pruned), λ below. absurd (omega (arith, below, from)));
             refuses = λ below. absurd (omega (arith, below, from));
-            overflow = λ room. opens.overflow (let same : e ≡ Runtime OffsetOverflow = cc room in cc same);
             faults = opens.faults;
-            cause = inr (room_again {T = B} {U = T} e (dev.faults old) (dev.faults new) opens.cause);
+            cause = inr (failed_again {T = B} {U = T} e (dev.faults old) (dev.faults new) opens.cause);
           })
 
       -- the buffer was made, and there was no memory to keep it
-      pub hold_short : {T : Type 0} (u : B) → (n.unopened s ≡ Some Section → m.unopened s ≡ Some Section) → OpensBlob g gives TooLong dev k maker old new (Ok u) → (o : Sections F B) → SameBounds n o → ((q : ℕ) → IsSame n o q)
-          → (r : Result T Error) → r ≡ Err Mem → Holds g gives TooLong dev m s o old new r
+      pub hold_short : {T : Type 0} (u : B) → (n.unopened s ≡ Some Section → m.unopened s ≡ Some Section) → OpensBlob g gives dev k maker old new (Ok u) → (o : Sections F B) → SameBounds n o → ((q : ℕ) → IsSame n o q)
+          → (r : Result T Error) → r ≡ Err Mem → Holds g gives dev m s o old new r
       hold_short {T = T} u still opened o bounds_on same r is =
-          let opens = subst (λ (x : Key). OpensBlob g gives TooLong dev x m.factory old new (Ok u)) here (subst (λ (f : F). OpensBlob g gives TooLong dev k f old new (Ok u)) made_by opened) in
-          subst (λ (x : Result T Error). Holds g gives TooLong dev m s o old new x) (sym is)
-          (subst (λ (x : Sections F B). Holds g gives TooLong dev m s {T = T} x old new (Err Mem)) (same_sections n o bounds_on same) (record {
+          let opens = subst (λ (x : Key). OpensBlob g gives dev x m.factory old new (Ok u)) here (subst (λ (f : F). OpensBlob g gives dev k f old new (Ok u)) made_by opened) in
+          subst (λ (x : Result T Error). Holds g gives dev m s o old new x) (sym is)
+          (subst (λ (x : Sections F B). Holds g gives dev m s {T = T} x old new (Err Mem)) (same_sections n o bounds_on same) (record {
             over = over_now (Ok u) opens;
             held = tt;
             same = tt;
@@ -296,16 +272,15 @@ module _ {F B D : Type 0} (g : buffer.Ghosts B) (gives : F → Setting) (TooLong
             reads = opens.reads;
             guard = (λ yes. absurd (cc yes), λ below. absurd (omega (arith, below, from)));
             refuses = λ below. absurd (omega (arith, below, from));
-            overflow = λ room. absurd (cc room);
             faults = opens.faults;
-            cause = inr (inr (inl refl));
+            cause = inr (inl refl);
           }))
 
       -- it was made, and is held
-      pub holds_made : {T : Type 0} (u : B) (v : T) → OpensBlob g gives TooLong dev k maker old new (Ok u) → (o : Sections F B) → IsPut s u n o → IsOver g gives dev.Tells o (dev.opened new) (disk (dev.time new))
-          → Holds g gives TooLong dev m s {T = T} o old new (Ok v)
+      pub holds_made : {T : Type 0} (u : B) (v : T) → OpensBlob g gives dev k maker old new (Ok u) → (o : Sections F B) → IsPut s u n o → IsOver g gives dev.Tells o (dev.opened new) (disk (dev.time new))
+          → Holds g gives dev m s {T = T} o old new (Ok v)
       holds_made u v opened o put over_o =
-          let opens = subst (λ (x : Key). OpensBlob g gives TooLong dev x m.factory old new (Ok u)) here (subst (λ (f : F). OpensBlob g gives TooLong dev k f old new (Ok u)) made_by opened) in
+          let opens = subst (λ (x : Key). OpensBlob g gives dev x m.factory old new (Ok u)) here (subst (λ (f : F). OpensBlob g gives dev k f old new (Ok u)) made_by opened) in
           record {
             over = over_o;
             held = ap is_some put.here;
@@ -326,7 +301,6 @@ module _ {F B D : Type 0} (g : buffer.Ghosts B) (gives : F → Setting) (TooLong
             reads = opens.reads;
             guard = (λ yes. absurd (cc yes), λ below. absurd (omega (arith, below, from)));
             refuses = λ below. absurd (omega (arith, below, from));
-            overflow = λ room. absurd (cc room);
             faults = opens.faults;
             cause = tt;
           }
@@ -342,8 +316,8 @@ module _ {F B D : Type 0} (g : buffer.Ghosts B) (gives : F → Setting) (TooLong
     bounds = bounds_stay;
   }
 
-  pub hold_refused : {T : Type 0} (r : Result T Error) (e : Error) → r ≡ Err e → IsPruned {T = T} (Err e) m.floor → s < m.floor → Holds g gives TooLong dev m s m old old r
-  hold_refused {T = T} r e is pruned below = subst (λ (x : Result T Error). Holds g gives TooLong dev m s m old old x) (sym is) (record {
+  pub hold_refused : {T : Type 0} (r : Result T Error) (e : Error) → r ≡ Err e → IsPruned {T = T} (Err e) m.floor → s < m.floor → Holds g gives dev m s m old old r
+  hold_refused {T = T} r e is pruned below = subst (λ (x : Result T Error). Holds g gives dev m s m old old x) (sym is) (record {
     over = over;
     held = tt;
     same = tt;
@@ -359,14 +333,13 @@ module _ {F B D : Type 0} (g : buffer.Ghosts B) (gives : F → Setting) (TooLong
     reads = λ none q. omega arith;
     guard = (λ yes. below, λ yes. pruned);
     refuses = λ yes. refl;
-    overflow = λ room. absurd (cc (pruned, room));
     faults = omega arith;
     cause = inl pruned;
   })
 
-  pub hold_unnoted : {T : Type 0} → m.floor ≤ s → (n : Sections F B) → SameBounds m n → ((q : ℕ) → IsSame m n q) → (r : Result T Error) → r ≡ Err Mem → Holds g gives TooLong dev m s n old old r
-  hold_unnoted {T = T} from n bounds same r is = subst (λ (x : Result T Error). Holds g gives TooLong dev m s n old old x) (sym is)
-      (subst (λ (x : Sections F B). Holds g gives TooLong dev m s {T = T} x old old (Err Mem)) (same_sections m n bounds same) (record {
+  pub hold_unnoted : {T : Type 0} → m.floor ≤ s → (n : Sections F B) → SameBounds m n → ((q : ℕ) → IsSame m n q) → (r : Result T Error) → r ≡ Err Mem → Holds g gives dev m s n old old r
+  hold_unnoted {T = T} from n bounds same r is = subst (λ (x : Result T Error). Holds g gives dev m s n old old x) (sym is)
+      (subst (λ (x : Sections F B). Holds g gives dev m s {T = T} x old old (Err Mem)) (same_sections m n bounds same) (record {
         over = over;
         held = tt;
         same = tt;
@@ -382,13 +355,12 @@ module _ {F B D : Type 0} (g : buffer.Ghosts B) (gives : F → Setting) (TooLong
         reads = λ none q. omega arith;
         guard = (λ yes. absurd (cc yes), λ below. absurd (omega (arith, below, from)));
         refuses = λ below. absurd (omega (arith, below, from));
-        overflow = λ room. absurd (cc room);
         faults = omega arith;
-        cause = inr (inr (inl refl));
+        cause = inr (inl refl);
       }))
 
   -- it is held already
-  pub holds_held : {T : Type 0} (v : T) → IsHeld m s → Holds g gives TooLong dev m s {T = T} m old old (Ok v)
+  pub holds_held : {T : Type 0} (v : T) → IsHeld m s → Holds g gives dev m s {T = T} m old old (Ok v)
   holds_held v held = record {
     over = over;
     held = held;
@@ -405,7 +377,6 @@ module _ {F B D : Type 0} (g : buffer.Ghosts B) (gives : F → Setting) (TooLong
     reads = λ none q. omega arith;
     guard = (λ yes. absurd (cc yes), λ below. absurd (not_below held below));
     refuses = λ below. absurd (not_below held below);
-    overflow = λ room. absurd (cc room);
     faults = omega arith;
     cause = tt;
   }
@@ -413,7 +384,7 @@ module _ {F B D : Type 0} (g : buffer.Ghosts B) (gives : F → Setting) (TooLong
   -- ---- opening one that was found
 
   module _ (none_pruned : m.floor ≡ 0) where
-    pub next_above : m.ceiling < s → OpensNext g gives TooLong dev m s old old (Ok m)
+    pub next_above : m.ceiling < s → OpensNext g gives dev m s old old (Ok m)
     next_above above = record {
       over = over;
       held = λ within. absurd (omega (arith, above, within));
@@ -428,14 +399,13 @@ module _ {F B D : Type 0} (g : buffer.Ghosts B) (gives : F → Setting) (TooLong
       moments = start;
       entries = λ q other. refl;
       reads = λ none q. omega arith;
-      overflow = λ room. absurd (cc room);
       faults = omega arith;
       cause = tt;
     }
 
     module _ {T : Type 0} (within : s ≤ m.ceiling) (n : Sections F B) (new : D) where
-      pub next_failed : (e : Error) → Holds g gives TooLong dev m s {T = T} n old new (Err e) → (r : Result (Sections F B) Error) → r ≡ Err e → OpensNext g gives TooLong dev m s old new r
-      next_failed e holds r is = subst (OpensNext g gives TooLong dev m s old new) (sym is) (record {
+      pub next_failed : (e : Error) → Holds g gives dev m s {T = T} n old new (Err e) → (r : Result (Sections F B) Error) → r ≡ Err e → OpensNext g gives dev m s old new r
+      next_failed e holds r is = subst (OpensNext g gives dev m s old new) (sym is) (record {
         over = tt;
         held = λ le. tt;
         same = tt;
@@ -449,15 +419,14 @@ module _ {F B D : Type 0} (g : buffer.Ghosts B) (gives : F → Setting) (TooLong
         moments = holds.moments;
         entries = holds.entries;
         reads = holds.reads;
-        overflow = λ room. holds.overflow (let same : e ≡ Runtime OffsetOverflow = cc room in cc same);
         faults = holds.faults;
         cause = elim holds.cause [
           | inl pruned ↦ absurd (omega (arith, holds.guard.0 pruned, none_pruned))
-          | inr cause ↦ room_again {T = T} {U = Sections F B} e (dev.faults old) (dev.faults new) cause
+          | inr cause ↦ failed_again {T = T} {U = Sections F B} e (dev.faults old) (dev.faults new) cause
         ];
       })
 
-      pub next_held : (v : T) → Holds g gives TooLong dev m s {T = T} n old new (Ok v) → OpensNext g gives TooLong dev m s old new (Ok n)
+      pub next_held : (v : T) → Holds g gives dev m s {T = T} n old new (Ok v) → OpensNext g gives dev m s old new (Ok n)
       next_held v holds = record {
         over = holds.over;
         held = λ le. holds.held;
@@ -472,22 +441,17 @@ module _ {F B D : Type 0} (g : buffer.Ghosts B) (gives : F → Setting) (TooLong
         moments = holds.moments;
         entries = holds.entries;
         reads = holds.reads;
-        overflow = λ room. absurd (cc room);
         faults = holds.faults;
         cause = tt;
       }
 
 -- ---- opening a blob
 
-too_long_open : (o : Option Opened) (n : ℕ) (P : ℕ → Type 0) → IsSomeAnd o (λ e. e.len ≡ n) → P n → IsSomeAnd o (λ e. P e.len)
-too_long_open None n P at long = at
-too_long_open (Some e) n P at long = subst P (sym at) long
-
-module _ {F B D : Type 0} (g : buffer.Ghosts B) (gives : F → Setting) (TooLong : F → ℕ → Type 0) (dev : device.Ghosts D) (k : Key) (maker : F) (old : D) where
+module _ {F B D : Type 0} (g : buffer.Ghosts B) (gives : F → Setting) (dev : device.Ghosts D) (k : Key) (maker : F) (old : D) where
   -- it could not be opened
   pub blob_refused : (new : D) (e : Error) (r : Result B Error) → r ≡ Err e → (dev.Tells → AllMoments k (IsOpening (disk (dev.time old) k)) (dev.time old) (dev.time new)) → dev.opened new ≡ dev.opened old
-      → dev.faults old ≤ dev.faults new → HasFailed {T = B} (Err e) (dev.faults old) (dev.faults new) → OpensBlob g gives TooLong dev k maker old new r
-  blob_refused new e r is moments same faults failed = subst (OpensBlob g gives TooLong dev k maker old new) (sym is) (record {
+      → dev.faults old ≤ dev.faults new → HasFailed {T = B} (Err e) (dev.faults old) (dev.faults new) → OpensBlob g gives dev k maker old new r
+  blob_refused new e r is moments same faults failed = subst (OpensBlob g gives dev k maker old new) (sym is) (record {
     moments = moments;
     made = λ t. tt;
     stands = λ t. tt;
@@ -498,20 +462,16 @@ module _ {F B D : Type 0} (g : buffer.Ghosts B) (gives : F → Setting) (TooLong
     «open» = tt;
     entries = λ q other. ap (λ (l : OpenedList). l q) same;
     reads = λ none q. omega (arith, ap reads_of (ap (λ (l : OpenedList). l q) same));
-    overflow = λ room. elim failed [
-      | inl none ↦ absurd (cc (none, room))
-      | inr fault ↦ absurd (cc (fault.0, room))
-    ];
     faults = faults;
-    cause = inr failed;
+    cause = failed;
   })
 
   -- a buffer could not be made over it, by what the factory answered
-  pub blob_failed : {S : Type 0} (mid new : D) (size : ℕ) (x : Result S RError) (e : RError) → x ≡ Err e → (r : Result B Error) → r ≡ Err (raised e)
+  pub blob_failed : {S : Type 0} (mid new : D) (x : Result S RError) (e : RError) → x ≡ Err e → (r : Result B Error) → r ≡ Err (raised e)
       → (dev.Tells → AllMoments k (IsOpening (disk (dev.time old) k)) (dev.time old) (dev.time new)) → OnlyOwnEntry k (dev.opened old) (dev.opened new) → ((g.StartsReads → ⊥) → StartsNoRead (dev.opened old) (dev.opened new))
-      → (IsErrOf x OffsetOverflow → TooLong maker size) → IsOpenAt (dev.opened new) k size → dev.faults old ≤ dev.faults mid → dev.faults mid ≤ dev.faults new
-      → (x ≡ Err OffsetOverflow) ⊎ ((x ≡ Err RMem) ⊎ ((x ≡ Err Fault) × Rose (dev.faults mid) (dev.faults new))) → OpensBlob g gives TooLong dev k maker old new r
-  blob_failed {S = S} mid new size x e was r is moments entries reads long at first then cause = subst (OpensBlob g gives TooLong dev k maker old new) (sym is) (record {
+      → dev.faults old ≤ dev.faults mid → dev.faults mid ≤ dev.faults new
+      → (x ≡ Err RMem) ⊎ ((x ≡ Err Fault) × Rose (dev.faults mid) (dev.faults new)) → OpensBlob g gives dev k maker old new r
+  blob_failed {S = S} mid new x e was r is moments entries reads first then cause = subst (OpensBlob g gives dev k maker old new) (sym is) (record {
     moments = moments;
     made = λ t. tt;
     stands = λ t. tt;
@@ -522,26 +482,12 @@ module _ {F B D : Type 0} (g : buffer.Ghosts B) (gives : F → Setting) (TooLong
     «open» = tt;
     entries = entries;
     reads = reads;
-    overflow = λ room.
-        let refused : RError → Result S RError = λ y. Err y in
-        let same : raised e ≡ Runtime OffsetOverflow = cc room in
-        too_long_open (dev.opened new k) size (TooLong maker) at (long (was ∙ ap refused (raised_room e same)));
     faults = omega (arith, first, then);
     cause = elim cause [
-      | inl room ↦ (let same : e ≡ OffsetOverflow = cc (was, room) in inl (ap Err (ap raised same)))
-      | inr failed ↦ elim failed [
-        | inl memory ↦ (let same : e ≡ RMem = cc (was, memory) in inr (inl (ap Err (ap raised same))))
-        | inr fault ↦ (let same : e ≡ Fault = cc (was, fault.0) in inr (inr (ap Err (ap raised same), omega (arith, first, fault.1))))
-      ]
+      | inl memory ↦ (let same : e ≡ RMem = cc (was, memory) in inl (ap Err (ap raised same)))
+      | inr fault ↦ (let same : e ≡ Fault = cc (was, fault.0) in inr (ap Err (ap raised same), omega (arith, first, fault.1)))
     ];
   })
-    where
-      raised_room : (x : RError) → raised x ≡ Runtime OffsetOverflow → x ≡ OffsetOverflow
-      raised_room Fault is = cc is
-      raised_room (InvalidChecksum p) is = cc is
-      raised_room BlobInsufficientLength is = cc is
-      raised_room OffsetOverflow is = refl
-      raised_room RMem is = absurd (cc is)
 
 -- ---- a buffer is put in
 

@@ -17,12 +17,11 @@ use Rattle.section_manager.specs.Entries.{OnlyOwnEntry, StartsNoRead}
 use Rattle.section_manager.specs.Lasting.{IsOpening, IsSettling}
 use Rattle.section_manager.specs.Leaving.{AllMoments}
 use Rattle.section_manager.specs.managing.Lending.{IsPut, IsRefused}
-use Rattle.section_manager.specs.Refusing.{HasFailed, HasNoRoom, IsForeign, IsOpenedTooLong, IsPruned}
+use Rattle.section_manager.specs.Refusing.{HasFailed, IsForeign, IsPruned}
 use Rattle.section_manager.specs.Sections.{Sections, section_key, key_of, HasOpened, IsHeld, IsKnown, IsOver, IsSame, IsSection, SameBounds, StandsOver}
 use Rattle.section_manager.specs.Setting.{Setting}
 
-module _ {F B D : Type 0} (g : buffer.Ghosts B) (gives : F → Setting) (TooLong : F → ℕ → Type 0)
-    (dev : device.Ghosts D) where
+module _ {F B D : Type 0} (g : buffer.Ghosts B) (gives : F → Setting) (dev : device.Ghosts D) where
   -- ---- the opening of a partition
 
   module _ (place : List ℕ) (maker : F) (bound : ℕ) where
@@ -62,7 +61,7 @@ module _ {F B D : Type 0} (g : buffer.Ghosts B) (gives : F → Setting) (TooLong
           (Each (IsSettling place bound (disk (dev.time old))))
       -- a partition that has a name that is no section's is refused,
       pub foreign : dev.Tells → (name : List ℕ) → IsForeign (disk (dev.time old)) place name
-          → OnOk result ⊥ × (HasNoRoom result → ⊥)
+          → OnOk result ⊥
       -- then no blob's history changes,
       pub foreign_disk : dev.Tells → (name : List ℕ) → IsForeign (disk (dev.time old)) place name
           → Unchanged (dev.time old) (dev.time new)
@@ -82,14 +81,11 @@ module _ {F B D : Type 0} (g : buffer.Ghosts B) (gives : F → Setting) (TooLong
           → dev.opened new q ≡ dev.opened old q
       -- buffers that start no reads start none here
       pub reads : (g.StartsReads → ⊥) → StartsNoRead (dev.opened old) (dev.opened new)
-      -- a blob that leaves no room is opened, and too long
-      pub overflow : HasNoRoom result → (s : ℕ)
-          × IsOpenedTooLong (TooLong maker) (dev.opened new) (section_key place s)
       -- faults are counted on
       pub faults : dev.faults old ≤ dev.faults new
       -- nothing else is answered but a fault or want of memory
       pub cause : OnErr result (((n : List ℕ) × IsErrOf result (InvalidBlobName n))
-          ⊎ (HasNoRoom result ⊎ HasFailed result (dev.faults old) (dev.faults new)))
+          ⊎ HasFailed result (dev.faults old) (dev.faults new))
 
     -- So were the sections that a scan had found, of which no name is refused any more.
     pub record OpensFound (old new : D) (result : Result (Sections F B) Error) : Type 0 where
@@ -125,14 +121,10 @@ module _ {F B D : Type 0} (g : buffer.Ghosts B) (gives : F → Setting) (TooLong
     pub entries : OnlyOwnEntry k (dev.opened old) (dev.opened new)
     -- buffers that start no reads start none here
     pub reads : (g.StartsReads → ⊥) → StartsNoRead (dev.opened old) (dev.opened new)
-    -- a blob that leaves no room is opened, and too long
-    pub overflow : HasNoRoom result
-        → IsOpenedTooLong (TooLong maker) (dev.opened new) k
     -- faults are counted on
     pub faults : dev.faults old ≤ dev.faults new
     -- nothing else is answered but a fault or want of memory
-    pub cause : OnErr result (HasNoRoom result
-        ⊎ HasFailed result (dev.faults old) (dev.faults new))
+    pub cause : OnErr result (HasFailed result (dev.faults old) (dev.faults new))
 
   module _ (m : Sections F B) (section : ℕ) where
     -- The section's buffer was taken out, and the manager is n. One that was not held was made.
@@ -188,16 +180,13 @@ module _ {F B D : Type 0} (g : buffer.Ghosts B) (gives : F → Setting) (TooLong
       pub guard : IsPruned result m.floor ↔ (section < m.floor)
       -- with no call of the device
       pub refuses : section < m.floor → new ≡ old
-      -- a blob that leaves no room is opened, and too long
-      pub overflow : HasNoRoom result
-          → IsOpenedTooLong (TooLong m.factory) (dev.opened new) (key_of m section)
       -- a section that is held is refused for want of memory alone
       pub held_cause : IsHeld m section → OnErr result (IsErrOf result Mem)
       -- faults are counted on
       pub faults : dev.faults old ≤ dev.faults new
       -- nothing else is answered but a fault or want of memory
       pub cause : OnErr result (IsPruned result m.floor
-          ⊎ (HasNoRoom result ⊎ HasFailed result (dev.faults old) (dev.faults new)))
+          ⊎ HasFailed result (dev.faults old) (dev.faults new))
 
     -- The section was made, if it was not held, and the manager is n.
     pub record Holds {T : Type 0} (n : Sections F B) (old new : D) (result : Result T Error)
@@ -239,14 +228,11 @@ module _ {F B D : Type 0} (g : buffer.Ghosts B) (gives : F → Setting) (TooLong
       pub guard : IsPruned result m.floor ↔ (section < m.floor)
       -- with no call of the device
       pub refuses : section < m.floor → new ≡ old
-      -- a blob that leaves no room is opened, and too long
-      pub overflow : HasNoRoom result
-          → IsOpenedTooLong (TooLong m.factory) (dev.opened new) (key_of m section)
       -- faults are counted on
       pub faults : dev.faults old ≤ dev.faults new
       -- nothing else is answered but a fault or want of memory
       pub cause : OnErr result (IsPruned result m.floor
-          ⊎ (HasNoRoom result ⊎ HasFailed result (dev.faults old) (dev.faults new)))
+          ⊎ HasFailed result (dev.faults old) (dev.faults new))
 
     -- The section's buffer was lent. One that was not held was made.
     pub record Creates (old new : D) (result : Result B Error) : Type 0 where
@@ -285,14 +271,11 @@ module _ {F B D : Type 0} (g : buffer.Ghosts B) (gives : F → Setting) (TooLong
       pub guard : IsPruned result m.floor ↔ (section < m.floor)
       -- with no call of the device
       pub refuses : section < m.floor → new ≡ old
-      -- a blob that leaves no room is opened, and too long
-      pub overflow : HasNoRoom result
-          → IsOpenedTooLong (TooLong m.factory) (dev.opened new) (key_of m section)
       -- faults are counted on
       pub faults : dev.faults old ≤ dev.faults new
       -- nothing else is answered but a fault or want of memory
       pub cause : OnErr result (IsPruned result m.floor
-          ⊎ (HasNoRoom result ⊎ HasFailed result (dev.faults old) (dev.faults new)))
+          ⊎ HasFailed result (dev.faults old) (dev.faults new))
 
     -- The section that was found was to be opened, unless it is above the ceiling.
     pub record OpensNext (old new : D) (result : Result (Sections F B) Error) : Type 0 where
@@ -327,14 +310,10 @@ module _ {F B D : Type 0} (g : buffer.Ghosts B) (gives : F → Setting) (TooLong
       pub entries : OnlyOwnEntry (key_of m section) (dev.opened old) (dev.opened new)
       -- buffers that start no reads start none here
       pub reads : (g.StartsReads → ⊥) → StartsNoRead (dev.opened old) (dev.opened new)
-      -- a blob that leaves no room is opened, and too long
-      pub overflow : HasNoRoom result
-          → IsOpenedTooLong (TooLong m.factory) (dev.opened new) (key_of m section)
       -- faults are counted on
       pub faults : dev.faults old ≤ dev.faults new
       -- nothing else is answered but a fault or want of memory
-      pub cause : OnErr result (HasNoRoom result
-          ⊎ HasFailed result (dev.faults old) (dev.faults new))
+      pub cause : OnErr result (HasFailed result (dev.faults old) (dev.faults new))
 
   -- The sections of these numbers were to be opened, up to the ceiling.
   pub record OpensEach (m : Sections F B) (numbers : List ℕ) (old new : D)
@@ -362,14 +341,10 @@ module _ {F B D : Type 0} (g : buffer.Ghosts B) (gives : F → Setting) (TooLong
         → dev.opened new q ≡ dev.opened old q
     -- buffers that start no reads start none here
     pub reads : (g.StartsReads → ⊥) → StartsNoRead (dev.opened old) (dev.opened new)
-    -- a blob that leaves no room is opened, and too long
-    pub overflow : HasNoRoom result
-        → (s : ℕ) × IsOpenedTooLong (TooLong m.factory) (dev.opened new) (key_of m s)
     -- faults are counted on
     pub faults : dev.faults old ≤ dev.faults new
     -- nothing else is answered but a fault or want of memory
-    pub cause : OnErr result (HasNoRoom result
-        ⊎ HasFailed result (dev.faults old) (dev.faults new))
+    pub cause : OnErr result (HasFailed result (dev.faults old) (dev.faults new))
 
 module _ {F B : Type 0} (g : buffer.Ghosts B) (gives : F → Setting) (m : Sections F B)
     (section : ℕ) where

@@ -10,7 +10,7 @@ use Rattle.section_manager.specs.Setting.{Setting}
 use Rattle.section_manager.specs.Fronts.{IsFront}
 
 abbrev pub setting_of : WriteBlob → Setting
-setting_of u = record { page_size = 1; capacity = u.capacity }
+setting_of u = record { page_size = 1; capacity = u.capacity; cache_pages = 0 }
 
 abbrev pub key_of : WriteBlob → Key
 key_of u = blob_key (shown u)

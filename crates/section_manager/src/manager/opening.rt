@@ -40,7 +40,7 @@ impl<F: BufferFactory> Found<F> {
     pub fn open<D: Device>(self, dev: &mut D, ceiling: u64) -> Result<Manager<F>, Error>
         requires there { D.Tells → AreSectionsIn (disk (D.time dev.old)) (finding self).partition
             (finding self).numbers }
-        ensures { OpensFound F.Buffer.SectionBuffer F.gives F.TooLong D.Device
+        ensures { OpensFound F.Buffer.SectionBuffer F.gives D.Device
             (finding self).partition (finding self).factory ceiling
             dev.old dev.new (seen shown result) }
     {
@@ -125,7 +125,7 @@ impl<F: BufferFactory> Manager<F> {
     ///
     /// It refuses a blob with a name that is no section's, before it changes anything.
     pub fn init<D: Device>(alloc: Global, dev: &mut D, cfg: ManagerConfig<F>) -> Result<Self, Error>
-        ensures { Inits F.Buffer.SectionBuffer F.gives F.TooLong D.Device
+        ensures { Inits F.Buffer.SectionBuffer F.gives D.Device
             (string_bytes cfg.partition) cfg.factory (2 ^ 64 - 1)
             dev.old dev.new (seen shown result) }
     {
@@ -143,7 +143,7 @@ impl<F: BufferFactory> Manager<F> {
         cfg: ManagerConfig<F>,
         ceiling: u64,
     ) -> Result<Self, Error>
-        ensures { Inits F.Buffer.SectionBuffer F.gives F.TooLong D.Device
+        ensures { Inits F.Buffer.SectionBuffer F.gives D.Device
             (string_bytes cfg.partition) cfg.factory ceiling dev.old dev.new (seen shown result) }
     {
         // All names before a blob is opened: a foreign one is refused with nothing changed.
@@ -185,7 +185,7 @@ impl<F: BufferFactory> Manager<F> {
         requires there { D.Tells → (s : ℕ) → Contains numbers.now s
             → IsTrue (disk (D.time dev.old) (key_of (shown self) s)).there }
         requires floor { (shown self).floor ≡ 0 }
-        ensures { OpensEach F.Buffer.SectionBuffer F.gives F.TooLong D.Device (shown self)
+        ensures { OpensEach F.Buffer.SectionBuffer F.gives D.Device (shown self)
             numbers.now dev.old dev.new (seen shown result) }
     {
         let mut this = self;
@@ -200,7 +200,7 @@ impl<F: BufferFactory> Manager<F> {
         requires over { IsOver F.Buffer.SectionBuffer F.gives D.Tells (shown self)
             (D.opened dev.old) (disk (D.time dev.old)) }
         requires floor { (shown self).floor ≡ 0 }
-        ensures { OpensNext F.Buffer.SectionBuffer F.gives F.TooLong D.Device (shown self) section
+        ensures { OpensNext F.Buffer.SectionBuffer F.gives D.Device (shown self) section
             dev.old dev.new (seen shown result) }
     {
         let mut this = self;
@@ -213,7 +213,7 @@ impl<F: BufferFactory> Manager<F> {
 
     // Opens the section's blob, and makes its buffer.
     fn open<D: Device>(&self, dev: &mut D, section: u64) -> Result<F::Buffer, Error>
-        ensures { OpensBlob F.Buffer.SectionBuffer F.gives F.TooLong D.Device
+        ensures { OpensBlob F.Buffer.SectionBuffer F.gives D.Device
             (key_of (shown self.now) section) (shown self.now).factory dev.old dev.new result }
     {
         let name = section.to_be_bytes();
@@ -235,7 +235,7 @@ impl<F: BufferFactory> Manager<F> {
         requires over { IsOver F.Buffer.SectionBuffer F.gives D.Tells (shown self.old)
             (D.opened dev.old) (disk (D.time dev.old)) }
         requires ceiling { section ≤ (shown self.old).ceiling }
-        ensures { Takes F.Buffer.SectionBuffer F.gives F.TooLong D.Device (shown self.old) section
+        ensures { Takes F.Buffer.SectionBuffer F.gives D.Device (shown self.old) section
             (shown self.new) dev.old dev.new result }
     {
         self.prune_guard(section)?;
@@ -253,7 +253,7 @@ impl<F: BufferFactory> Manager<F> {
             (D.opened dev.old) (disk (D.time dev.old)) }
         requires absent { (shown self.old).held section ≡ None }
         requires floor { (shown self.old).floor ≤ section }
-        ensures { Takes F.Buffer.SectionBuffer F.gives F.TooLong D.Device (shown self.old) section
+        ensures { Takes F.Buffer.SectionBuffer F.gives D.Device (shown self.old) section
             (shown self.new) dev.old dev.new result }
     {
         self.expect(section)?;
@@ -301,7 +301,7 @@ impl<F: BufferFactory> Manager<F> {
         requires over { IsOver F.Buffer.SectionBuffer F.gives D.Tells (shown self.old)
             (D.opened dev.old) (disk (D.time dev.old)) }
         requires ceiling { section ≤ (shown self.old).ceiling }
-        ensures { Holds F.Buffer.SectionBuffer F.gives F.TooLong D.Device (shown self.old) section
+        ensures { Holds F.Buffer.SectionBuffer F.gives D.Device (shown self.old) section
             (shown self.new) dev.old dev.new result }
     {
         self.prune_guard(section)?;
@@ -328,7 +328,7 @@ impl<F: BufferFactory> Manager<F> {
         ensures* writes_back { sem 𝓛 (lends_made F.row F.Buffer.row self.entry section result (λ n.
             IsRefused section (shown self.old) n × IsOver F.Buffer.SectionBuffer F.gives D.Tells n
             (D.opened dev.new) (disk (D.time dev.new)))) }
-        ensures creates { Creates F.Buffer.SectionBuffer F.gives F.TooLong D.Device
+        ensures creates { Creates F.Buffer.SectionBuffer F.gives D.Device
             (shown self.old) section dev.old dev.new (seen (λ r. r.now) result) }
     {
         self.hold(dev, section)?;

@@ -23,7 +23,7 @@ ghost use Rattle.section_manager.specs.Sections.{section_key, IsHeld, IsOver};
 ghost use Rattle.section_manager.specs.Lasting.{IsSettling};
 ghost use Rattle.section_manager.specs.Entries.{OnlyOwnEntry};
 ghost use Rattle.section_manager.specs.managing.Managed as managed;
-ghost use Rattle.section_manager.specs.Refusing.{HasFailed, HasNoRoom, IsForeign, IsOpenedTooLong};
+ghost use Rattle.section_manager.specs.Refusing.{HasFailed, IsForeign};
 ghost use Rattle.segments.specs.FixedLists.{floor_in, section_size};
 
 use super::floors::floor_at;
@@ -139,7 +139,6 @@ fn check_reached<S: Seal>(
 
 impl<A: CodecFixed, S: Seal> Journal<A, S> {
     ghost use Rattle.segments.specs.FixedFloors.{shown, journal_of, IsBoundary, Keeps, KeepsBoundary, IsRefused};
-    ghost use Rattle.segments.specs.FixedLists.{AreAlike};
     ghost use Rattle.segments.specs.FixedShown as journal;
     ghost use Rattle.segments.specs.FixedLists.{IsJournal, section_bytes};
 
@@ -151,7 +150,8 @@ impl<A: CodecFixed, S: Seal> Journal<A, S> {
     /// `u64` can, where it has no blob, or where the last item below the marker is not sealed; by `Codec`, which says why, where the bytes
     /// there are no item. A section with more bytes than its floor owes a replay, which cuts nothing below the floor.
     ///
-    /// The pages that it reads are held, unless `cache_pages` is 0: a replay reads no page a second time.
+    /// It keeps no page that it reads: a replay may read the pages of a section's last item below its marker again,
+    /// at most `SIZE / page_size + 2` of them.
     pub fn preflight_floors<D: Device>(
         alloc: Global,
         dev: &mut D,
@@ -207,20 +207,19 @@ impl<A: CodecFixed, S: Seal> Journal<A, S> {
         // At every moment, also where the call fails, each blob of the partition is as before, or settled as it read.
         ensures moments { D.Tells → Always (D.time dev.old) (D.time dev.new) (Each (IsSettling (string_bytes cfg.now.partition) ceiling (disk (D.time dev.old)))) }
         // A name that is no section's is refused, also above a bound, and then nothing was changed or opened.
-        ensures foreign { D.Tells → (name : List ℕ) → IsForeign (disk (D.time dev.old)) (string_bytes cfg.now.partition) name → OnOk result ⊥ × (((x : _) → IsErrOf result (Error.Corruption x) → ⊥) × (HasNoRoom result → ⊥)) }
+        ensures foreign { D.Tells → (name : List ℕ) → IsForeign (disk (D.time dev.old)) (string_bytes cfg.now.partition) name → OnOk result ⊥ × ((x : _) → IsErrOf result (Error.Corruption x) → ⊥) }
         ensures foreign_items { D.Tells → (name : List ℕ) → IsForeign (disk (D.time dev.old)) (string_bytes cfg.now.partition) name → (e : _) → IsErrOf result (Error.Codec e) → ⊥ }
         ensures foreign_disk { D.Tells → (name : List ℕ) → IsForeign (disk (D.time dev.old)) (string_bytes cfg.now.partition) name → Unchanged (D.time dev.old) (D.time dev.new) }
         ensures foreign_entries { D.Tells → (name : List ℕ) → IsForeign (disk (D.time dev.old)) (string_bytes cfg.now.partition) name → D.opened dev.new ≡ D.opened dev.old }
         ensures name_entries { (n : List ℕ) → result ≡ Err (Error.InvalidBlobName n) → D.opened dev.new ≡ D.opened dev.old }
         ensures named { D.Tells → (n : List ℕ) → result ≡ Err (Error.InvalidBlobName n) → IsForeign (disk (D.time dev.old)) (string_bytes cfg.now.partition) n }
         ensures entries { (q : Key) → ((s : ℕ) → s ≤ ceiling → q ≢ section_key (string_bytes cfg.now.partition) s) → D.opened dev.new q ≡ D.opened dev.old q }
-        ensures overflow { HasNoRoom result → (s : ℕ) × IsOpenedTooLong (λ n. 2 ^ 64 ≤ n + (cfg.now.pages.page_size + 12)) (D.opened dev.new) (section_key (string_bytes cfg.now.partition) s) }
         ensures faults { D.faults dev.old ≤ D.faults dev.new }
         ensures cause { OnErr result (((n : List ℕ) × IsErrOf result (Error.InvalidBlobName n)) ⊎ (((x : _) × IsErrOf result (Error.Corruption x))
-            ⊎ (((e : _) × IsErrOf result (Error.Codec e)) ⊎ (HasNoRoom result ⊎ HasFailed result (D.faults dev.old) (D.faults dev.new))))) }
+            ⊎ (((e : _) × IsErrOf result (Error.Codec e)) ⊎ HasFailed result (D.faults dev.old) (D.faults dev.new)))) }
     {
         // Opened before a marker is checked: the check reads by the buffers, and writes nothing.
-        let journal = Journal::init_holding(alloc, dev, cfg, floors, ceiling)?;
+        let journal = Journal::init_bounded(alloc, dev, cfg, ceiling)?;
         let unchecked = Preflight::unchecked(alloc, journal);
         let mut found = unchecked;
         for (section, items) in floors {
@@ -228,90 +227,6 @@ impl<A: CodecFixed, S: Seal> Journal<A, S> {
         }
         let owing = found.owing_longer()?;
         Ok(owing)
-    }
-
-    // As [`init_bounded`](Journal::init_bounded). The pages of the last item below each marker are held, unless no page is to be held.
-    fn init_holding<D: Device>(
-        alloc: Global,
-        dev: &mut D,
-        cfg: &Config,
-        floors: &BTreeMap<u64, u64>,
-        ceiling: u64,
-    ) -> Result<Self, Error>
-        requires valid { 1 ≤ cfg.now.pages.page_size }
-        ensures over { IfOk result (λ r. IsOver ⟦<PageBlob<S> as SectionBuffer>⟧ ⟦<AppendFactory<S> as BufferFactory>⟧.gives D.Tells (journal.shown r).sections (D.opened dev.new) (disk (D.time dev.new))) }
-        ensures held { D.Tells → IfOk result (λ r. (s : ℕ) → s < 2 ^ 64 → IsHeld (journal.shown r).sections s ↔ (IsTrue (disk (D.time dev.old) (section_key (string_bytes cfg.now.partition) s)).there × (s ≤ ceiling))) }
-        ensures unopened { D.Tells → IfOk result (λ r. (s : ℕ) → s < 2 ^ 64 → ((journal.shown r).sections.unopened s ≡ Some Unopened.Section) ↔ (IsTrue (disk (D.time dev.old) (section_key (string_bytes cfg.now.partition) s)).there × (ceiling < s))) }
-        ensures no_leftover { IfOk result (λ r. (s : ℕ) → (journal.shown r).sections.unopened s ≢ Some Unopened.Leftover) }
-        ensures later { IfOk result (λ r. (s : ℕ) → IsSome ((journal.shown r).sections.unopened s) → ceiling < s) }
-        ensures bytes { D.Tells → IfOk result (λ r. (s : ℕ) → IsHeld (journal.shown r).sections s
-            → section_bytes (journal.shown r).sections (disk (D.time dev.new)) s ≡ ⟦<PageBlob<S> as SectionBuffer>⟧.holds (⟦<AppendFactory<S> as BufferFactory>⟧.gives (journal.shown r).sections.factory) (disk (D.time dev.old) (section_key (string_bytes cfg.now.partition) s)).content) }
-        ensures floors { IfOk result (λ r. (s : ℕ) → (journal.shown r).floor_of s ≡ 0) }
-        ensures idle { IfOk result (λ r. (s : ℕ) (u : _) → (journal.shown r).sections.held s ≡ Some u → ⟦<PageBlob<S> as SectionBuffer>⟧.unsettled u ≡ false) }
-        ensures partition { IfOk result (λ r. (journal.shown r).sections.partition ≡ string_bytes cfg.now.partition) }
-        ensures pages { IfOk result (λ r. (journal.shown r).sections.factory.pages ≡ cfg.now.pages) }
-        ensures write_buffer { IfOk result (λ r. (journal.shown r).sections.factory.write_buffer ≡ cfg.now.write_buffer) }
-        ensures floor { IfOk result (λ r. (journal.shown r).sections.floor ≡ 0) }
-        ensures ceiling { IfOk result (λ r. (journal.shown r).sections.ceiling ≡ ceiling) }
-        ensures moments { D.Tells → Always (D.time dev.old) (D.time dev.new) (Each (IsSettling (string_bytes cfg.now.partition) ceiling (disk (D.time dev.old)))) }
-        ensures foreign { D.Tells → (name : List ℕ) → IsForeign (disk (D.time dev.old)) (string_bytes cfg.now.partition) name → OnOk result ⊥ × (HasNoRoom result → ⊥) }
-        ensures foreign_disk { D.Tells → (name : List ℕ) → IsForeign (disk (D.time dev.old)) (string_bytes cfg.now.partition) name → Unchanged (D.time dev.old) (D.time dev.new) }
-        ensures foreign_entries { D.Tells → (name : List ℕ) → IsForeign (disk (D.time dev.old)) (string_bytes cfg.now.partition) name → D.opened dev.new ≡ D.opened dev.old }
-        ensures name_entries { (n : List ℕ) → result ≡ Err (Error.InvalidBlobName n) → D.opened dev.new ≡ D.opened dev.old }
-        ensures named { D.Tells → (n : List ℕ) → result ≡ Err (Error.InvalidBlobName n) → IsForeign (disk (D.time dev.old)) (string_bytes cfg.now.partition) n }
-        ensures entries { (q : Key) → ((s : ℕ) → s ≤ ceiling → q ≢ section_key (string_bytes cfg.now.partition) s) → D.opened dev.new q ≡ D.opened dev.old q }
-        ensures overflow { HasNoRoom result → (s : ℕ) × IsOpenedTooLong (λ n. 2 ^ 64 ≤ n + (cfg.now.pages.page_size + 12)) (D.opened dev.new) (section_key (string_bytes cfg.now.partition) s) }
-        ensures faults { D.faults dev.old ≤ D.faults dev.new }
-        ensures cause { OnErr result (((n : List ℕ) × IsErrOf result (Error.InvalidBlobName n)) ⊎ (HasNoRoom result ⊎ HasFailed result (D.faults dev.old) (D.faults dev.new))) }
-    {
-        let opened = Journal::init_bounded(alloc, dev, cfg, ceiling)?;
-        opened.holding(dev, floors)
-    }
-
-    // Reads the pages of the last item below each marker, and holds them, unless no page is to be held.
-    fn holding<D: Device>(self, dev: &mut D, floors: &BTreeMap<u64, u64>) -> Result<Self, Error>
-        requires over { IsOver ⟦<PageBlob<S> as SectionBuffer>⟧ ⟦<AppendFactory<S> as BufferFactory>⟧.gives D.Tells (journal.shown self).sections (D.opened dev.old) (disk (D.time dev.old)) }
-        requires floor { (journal.shown self).sections.floor ≡ 0 }
-        ensures over { IfOk result (λ r. IsOver ⟦<PageBlob<S> as SectionBuffer>⟧ ⟦<AppendFactory<S> as BufferFactory>⟧.gives D.Tells (journal.shown r).sections (D.opened dev.new) (disk (D.time dev.new))) }
-        ensures alike { IfOk result (λ r. AreAlike (journal.shown self).sections (journal.shown r).sections) }
-        ensures floors { IfOk result (λ r. (s : ℕ) → (journal.shown r).floor_of s ≡ (journal.shown self).floor_of s) }
-        ensures unchanged { D.Tells → Unchanged (D.time dev.old) (D.time dev.new) }
-        ensures entries { (q : Key) → ((s : ℕ) → IsHeld (journal.shown self).sections s → q ≢ section_key (journal.shown self).sections.partition s) → D.opened dev.new q ≡ D.opened dev.old q }
-        ensures faults { D.faults dev.old ≤ D.faults dev.new }
-        ensures cause { OnErr result (HasFailed result (D.faults dev.old) (D.faults dev.new)) }
-    {
-        let mut this = self;
-        if this.manager.factory().pages.cache_pages == 0 {
-            return Ok(this);
-        }
-        for (section, items) in floors {
-            this = this.holding_last(dev, *section, *items)?;
-        }
-        Ok(this)
-    }
-
-    // Reads the pages of the last of a section's first items, and holds them, where the section has that item.
-    fn holding_last<D: Device>(self, dev: &mut D, section: u64, items: u64) -> Result<Self, Error>
-        requires over { IsOver ⟦<PageBlob<S> as SectionBuffer>⟧ ⟦<AppendFactory<S> as BufferFactory>⟧.gives D.Tells (journal.shown self).sections (D.opened dev.old) (disk (D.time dev.old)) }
-        requires floor { (journal.shown self).sections.floor ≡ 0 }
-        ensures over { IfOk result (λ r. IsOver ⟦<PageBlob<S> as SectionBuffer>⟧ ⟦<AppendFactory<S> as BufferFactory>⟧.gives D.Tells (journal.shown r).sections (D.opened dev.new) (disk (D.time dev.new))) }
-        ensures alike { IfOk result (λ r. AreAlike (journal.shown self).sections (journal.shown r).sections) }
-        ensures floors { IfOk result (λ r. (s : ℕ) → (journal.shown r).floor_of s ≡ (journal.shown self).floor_of s) }
-        ensures unchanged { D.Tells → Unchanged (D.time dev.old) (D.time dev.new) }
-        ensures entries { OnlyOwnEntry (section_key (journal.shown self).sections.partition section) (D.opened dev.old) (D.opened dev.new) }
-        ensures idle { (journal.shown self).sections.held section ≡ None → dev.new ≡ dev.old }
-        ensures faults { D.faults dev.old ≤ D.faults dev.new }
-        ensures cause { OnErr result (HasFailed result (D.faults dev.old) (D.faults dev.new)) }
-    {
-        let end = items.saturating_mul(A::SIZE as u64);
-        if end == 0 || self.manager.size(section)? < end {
-            return Ok(self);
-        }
-        let mut this = self;
-        let mut buffer = this.manager.take(dev, section)?;
-        buffer.hold(dev, end - A::SIZE as u64, A::SIZE)?;
-        this.manager.put(section, buffer)?;
-        Ok(this)
     }
 }
 

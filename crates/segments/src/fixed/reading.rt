@@ -6,9 +6,8 @@ ghost use Rattle.std.specs.List.Sorted.{IsStrictlySortedBy};
 ghost use Rattle.std.specs.Ordering.{nat_cmp};
 ghost use Rattle.blob_device.specs.declared.runtime.RError.TheVariants.{InvalidChecksum};
 ghost use Rattle.blob_device.specs.Timeline.{disk};
-ghost use Rattle.sealed_pages.specs.Buffer.{size_of, bytes_of, IsSealed};
+ghost use Rattle.sealed_pages.specs.Buffer.{size_of, bytes_of, IsBacked, IsSealed};
 ghost use Rattle.sealed_pages.specs.Entries.{IsOpenAt, ReadsAtMost};
-ghost use Rattle.sealed_pages.specs.Held.{AreHeldOf};
 ghost use Rattle.sealed_pages.specs.Reading.{Unchanged};
 ghost use Rattle.section_manager.specs.Sections.{key_of, IsHeld};
 ghost use Rattle.section_manager.specs.Refusing.{HasFailed, IsPruned};
@@ -69,8 +68,8 @@ impl<A: CodecFixed, S: Seal> Journal<A, S> {
         Ok(())
     }
 
-    // Takes the bytes of the item at a position: from the tip where all of them are held there, and whether they were; else from the
-    // blob.
+    // Takes the bytes of the item at a position: from memory where all of them are held there, and whether they were; else also from
+    // the blob.
     fn fill_item<D: Device>(
         dev: &mut D,
         buffer: &PageBlob<S>,
@@ -80,9 +79,9 @@ impl<A: CodecFixed, S: Seal> Journal<A, S> {
         requires open { IsOpenAt (D.opened dev.old) (pages.key_of (page_blob.shown buffer.now)) buffer.now.end }
         requires inside { HasItem A.SIZE buffer.now position }
         requires room { length bytes.old ≡ A.SIZE }
-        ensures bytes { D.Tells → AreHeldOf (disk (D.time dev.old) (pages.key_of (page_blob.shown buffer.now))).content buffer.now.held → OnOk result (bytes.new ≡ item_at A.SIZE (bytes_of (page_blob.shown buffer.now) (disk (D.time dev.old) (pages.key_of (page_blob.shown buffer.now))).content) position) }
-        ensures checked { D.Tells → AreHeldOf (disk (D.time dev.old) (pages.key_of (page_blob.shown buffer.now))).content buffer.now.held → OnOk result (IsItemCovered A.SIZE S.seal_of buffer.now (disk (D.time dev.old) (pages.key_of (page_blob.shown buffer.now))).content position) }
-        ensures damaged { D.Tells → AreHeldOf (disk (D.time dev.old) (pages.key_of (page_blob.shown buffer.now))).content buffer.now.held → (k : ℕ) → IsErrOf result (Error.Runtime (InvalidChecksum k)) → IsDamaged A.SIZE S.seal_of buffer.now (disk (D.time dev.old) (pages.key_of (page_blob.shown buffer.now))).content position k }
+        ensures bytes { D.Tells → IsBacked S.seal_of (page_blob.shown buffer.now) (disk (D.time dev.old) (pages.key_of (page_blob.shown buffer.now))).content → OnOk result (bytes.new ≡ item_at A.SIZE (bytes_of (page_blob.shown buffer.now) (disk (D.time dev.old) (pages.key_of (page_blob.shown buffer.now))).content) position) }
+        ensures checked { D.Tells → IsBacked S.seal_of (page_blob.shown buffer.now) (disk (D.time dev.old) (pages.key_of (page_blob.shown buffer.now))).content → OnOk result (IsItemCovered A.SIZE S.seal_of buffer.now (disk (D.time dev.old) (pages.key_of (page_blob.shown buffer.now))).content position) }
+        ensures damaged { D.Tells → IsBacked S.seal_of (page_blob.shown buffer.now) (disk (D.time dev.old) (pages.key_of (page_blob.shown buffer.now))).content → (k : ℕ) → IsErrOf result (Error.Runtime (InvalidChecksum k)) → IsDamaged A.SIZE S.seal_of buffer.now (disk (D.time dev.old) (pages.key_of (page_blob.shown buffer.now))).content position k }
         ensures held { IfOk result (λ r. r ≡ is_item_held A.SIZE buffer.now position) }
         ensures idle { is_item_held A.SIZE buffer.now position ≡ true → dev.new ≡ dev.old }
         ensures unchanged { D.Tells → Unchanged (D.time dev.old) (D.time dev.new) }
@@ -109,11 +108,11 @@ impl<A: CodecFixed, S: Seal> Journal<A, S> {
         requires open { IsOpenAt (D.opened dev.old) (pages.key_of (page_blob.shown buffer.now)) buffer.now.end }
         requires inside { HasItem A.SIZE buffer.now position }
         requires room { length bytes.old ≡ A.SIZE }
-        ensures item { D.Tells → AreHeldOf (disk (D.time dev.old) (pages.key_of (page_blob.shown buffer.now))).content buffer.now.held → IfOk result (λ r. IsItem A.spelling A.accepted (item_at A.SIZE (bytes_of (page_blob.shown buffer.now) (disk (D.time dev.old) (pages.key_of (page_blob.shown buffer.now))).content) position) r.0) }
-        ensures checked { D.Tells → AreHeldOf (disk (D.time dev.old) (pages.key_of (page_blob.shown buffer.now))).content buffer.now.held → OnOk result (IsItemCovered A.SIZE S.seal_of buffer.now (disk (D.time dev.old) (pages.key_of (page_blob.shown buffer.now))).content position) }
-        ensures damaged { D.Tells → AreHeldOf (disk (D.time dev.old) (pages.key_of (page_blob.shown buffer.now))).content buffer.now.held → (k : ℕ) → IsErrOf result (Error.Runtime (InvalidChecksum k)) → IsDamaged A.SIZE S.seal_of buffer.now (disk (D.time dev.old) (pages.key_of (page_blob.shown buffer.now))).content position k }
-        ensures refused { D.Tells → AreHeldOf (disk (D.time dev.old) (pages.key_of (page_blob.shown buffer.now))).content buffer.now.held → (e : _) → IsErrOf result (Error.Codec e) → A.refusal (item_at A.SIZE (bytes_of (page_blob.shown buffer.now) (disk (D.time dev.old) (pages.key_of (page_blob.shown buffer.now))).content) position) tt ≡ Some e }
-        ensures sealed_first { D.Tells → AreHeldOf (disk (D.time dev.old) (pages.key_of (page_blob.shown buffer.now))).content buffer.now.held → (e : _) → IsErrOf result (Error.Codec e) → IsItemCovered A.SIZE S.seal_of buffer.now (disk (D.time dev.old) (pages.key_of (page_blob.shown buffer.now))).content position }
+        ensures item { D.Tells → IsBacked S.seal_of (page_blob.shown buffer.now) (disk (D.time dev.old) (pages.key_of (page_blob.shown buffer.now))).content → IfOk result (λ r. IsItem A.spelling A.accepted (item_at A.SIZE (bytes_of (page_blob.shown buffer.now) (disk (D.time dev.old) (pages.key_of (page_blob.shown buffer.now))).content) position) r.0) }
+        ensures checked { D.Tells → IsBacked S.seal_of (page_blob.shown buffer.now) (disk (D.time dev.old) (pages.key_of (page_blob.shown buffer.now))).content → OnOk result (IsItemCovered A.SIZE S.seal_of buffer.now (disk (D.time dev.old) (pages.key_of (page_blob.shown buffer.now))).content position) }
+        ensures damaged { D.Tells → IsBacked S.seal_of (page_blob.shown buffer.now) (disk (D.time dev.old) (pages.key_of (page_blob.shown buffer.now))).content → (k : ℕ) → IsErrOf result (Error.Runtime (InvalidChecksum k)) → IsDamaged A.SIZE S.seal_of buffer.now (disk (D.time dev.old) (pages.key_of (page_blob.shown buffer.now))).content position k }
+        ensures refused { D.Tells → IsBacked S.seal_of (page_blob.shown buffer.now) (disk (D.time dev.old) (pages.key_of (page_blob.shown buffer.now))).content → (e : _) → IsErrOf result (Error.Codec e) → A.refusal (item_at A.SIZE (bytes_of (page_blob.shown buffer.now) (disk (D.time dev.old) (pages.key_of (page_blob.shown buffer.now))).content) position) tt ≡ Some e }
+        ensures sealed_first { D.Tells → IsBacked S.seal_of (page_blob.shown buffer.now) (disk (D.time dev.old) (pages.key_of (page_blob.shown buffer.now))).content → (e : _) → IsErrOf result (Error.Codec e) → IsItemCovered A.SIZE S.seal_of buffer.now (disk (D.time dev.old) (pages.key_of (page_blob.shown buffer.now))).content position }
         ensures accepted { IfOk result (λ r. A.accepted r.0 tt) }
         ensures held { IfOk result (λ r. r.1 ≡ is_item_held A.SIZE buffer.now position) }
         ensures idle { is_item_held A.SIZE buffer.now position ≡ true → dev.new ≡ dev.old }
@@ -136,11 +135,11 @@ impl<A: CodecFixed, S: Seal> Journal<A, S> {
     ) -> Result<A, Error>
         requires open { IsOpenAt (D.opened dev.old) (pages.key_of (page_blob.shown buffer.now)) buffer.now.end }
         requires inside { HasItem A.SIZE buffer.now position }
-        ensures item { D.Tells → AreHeldOf (disk (D.time dev.old) (pages.key_of (page_blob.shown buffer.now))).content buffer.now.held → IfOk result (IsItem A.spelling A.accepted (item_at A.SIZE (bytes_of (page_blob.shown buffer.now) (disk (D.time dev.old) (pages.key_of (page_blob.shown buffer.now))).content) position)) }
-        ensures checked { D.Tells → AreHeldOf (disk (D.time dev.old) (pages.key_of (page_blob.shown buffer.now))).content buffer.now.held → OnOk result (IsItemCovered A.SIZE S.seal_of buffer.now (disk (D.time dev.old) (pages.key_of (page_blob.shown buffer.now))).content position) }
-        ensures damaged { D.Tells → AreHeldOf (disk (D.time dev.old) (pages.key_of (page_blob.shown buffer.now))).content buffer.now.held → (k : ℕ) → IsErrOf result (Error.Runtime (InvalidChecksum k)) → IsDamaged A.SIZE S.seal_of buffer.now (disk (D.time dev.old) (pages.key_of (page_blob.shown buffer.now))).content position k }
-        ensures refused { D.Tells → AreHeldOf (disk (D.time dev.old) (pages.key_of (page_blob.shown buffer.now))).content buffer.now.held → (e : _) → IsErrOf result (Error.Codec e) → A.refusal (item_at A.SIZE (bytes_of (page_blob.shown buffer.now) (disk (D.time dev.old) (pages.key_of (page_blob.shown buffer.now))).content) position) tt ≡ Some e }
-        ensures sealed_first { D.Tells → AreHeldOf (disk (D.time dev.old) (pages.key_of (page_blob.shown buffer.now))).content buffer.now.held → (e : _) → IsErrOf result (Error.Codec e) → IsItemCovered A.SIZE S.seal_of buffer.now (disk (D.time dev.old) (pages.key_of (page_blob.shown buffer.now))).content position }
+        ensures item { D.Tells → IsBacked S.seal_of (page_blob.shown buffer.now) (disk (D.time dev.old) (pages.key_of (page_blob.shown buffer.now))).content → IfOk result (IsItem A.spelling A.accepted (item_at A.SIZE (bytes_of (page_blob.shown buffer.now) (disk (D.time dev.old) (pages.key_of (page_blob.shown buffer.now))).content) position)) }
+        ensures checked { D.Tells → IsBacked S.seal_of (page_blob.shown buffer.now) (disk (D.time dev.old) (pages.key_of (page_blob.shown buffer.now))).content → OnOk result (IsItemCovered A.SIZE S.seal_of buffer.now (disk (D.time dev.old) (pages.key_of (page_blob.shown buffer.now))).content position) }
+        ensures damaged { D.Tells → IsBacked S.seal_of (page_blob.shown buffer.now) (disk (D.time dev.old) (pages.key_of (page_blob.shown buffer.now))).content → (k : ℕ) → IsErrOf result (Error.Runtime (InvalidChecksum k)) → IsDamaged A.SIZE S.seal_of buffer.now (disk (D.time dev.old) (pages.key_of (page_blob.shown buffer.now))).content position k }
+        ensures refused { D.Tells → IsBacked S.seal_of (page_blob.shown buffer.now) (disk (D.time dev.old) (pages.key_of (page_blob.shown buffer.now))).content → (e : _) → IsErrOf result (Error.Codec e) → A.refusal (item_at A.SIZE (bytes_of (page_blob.shown buffer.now) (disk (D.time dev.old) (pages.key_of (page_blob.shown buffer.now))).content) position) tt ≡ Some e }
+        ensures sealed_first { D.Tells → IsBacked S.seal_of (page_blob.shown buffer.now) (disk (D.time dev.old) (pages.key_of (page_blob.shown buffer.now))).content → (e : _) → IsErrOf result (Error.Codec e) → IsItemCovered A.SIZE S.seal_of buffer.now (disk (D.time dev.old) (pages.key_of (page_blob.shown buffer.now))).content position }
         ensures accepted { IfOk result (λ v. A.accepted v tt) }
         ensures idle { is_item_held A.SIZE buffer.now position ≡ true → dev.new ≡ dev.old }
         ensures unchanged { D.Tells → Unchanged (D.time dev.old) (D.time dev.new) }
@@ -194,9 +193,9 @@ impl<A: CodecFixed, S: Seal> Journal<A, S> {
     fn held_item(alloc: Global, buffer: &PageBlob<S>, position: u64) -> Result<Option<A>, Error>
         requires { HasItem A.SIZE buffer.now position }
         ensures item { IfOk result (λ r. (v : A) → r ≡ Some v → (is_item_held A.SIZE buffer.now position ≡ true)
-            × ((content : List ℕ) → IsItem A.spelling A.accepted (item_at A.SIZE (bytes_of (page_blob.shown buffer.now) content) position) v)) }
+            × ((content : List ℕ) → IsBacked S.seal_of (page_blob.shown buffer.now) content → IsItem A.spelling A.accepted (item_at A.SIZE (bytes_of (page_blob.shown buffer.now) content) position) v)) }
         ensures none { IfOk result (λ r. r ≡ None → is_item_held A.SIZE buffer.now position ≡ true
-            → (content : List ℕ) → A.refusal (item_at A.SIZE (bytes_of (page_blob.shown buffer.now) content) position) tt ≡ None → ⊥) }
+            → (content : List ℕ) → IsBacked S.seal_of (page_blob.shown buffer.now) content → A.refusal (item_at A.SIZE (bytes_of (page_blob.shown buffer.now) content) position) tt ≡ None → ⊥) }
         ensures cause { OnErr result (IsErrOf result Error.Mem) }
     {
         let mut bytes = vec![in alloc; 0; A::SIZE]?;
@@ -216,9 +215,9 @@ impl<A: CodecFixed, S: Seal> Journal<A, S> {
         // Nothing is given of a section below the floor.
         ensures unpruned { IfOk result (λ r. IsSome r → (shown self.now).sections.floor ≤ section) }
         ensures item { IfOk result (λ r. (v : A) → r ≡ Some v → IsSomeAnd ((shown self.now).sections.held section) (λ u. HasItem A.SIZE u position × (is_item_held A.SIZE u position ≡ true)
-            × ((content : List ℕ) → IsItem A.spelling A.accepted (item_at A.SIZE (bytes_of (page_blob.shown u) content) position) v))) }
+            × ((content : List ℕ) → IsBacked S.seal_of (page_blob.shown u) content → IsItem A.spelling A.accepted (item_at A.SIZE (bytes_of (page_blob.shown u) content) position) v))) }
         ensures none { IfOk result (λ r. r ≡ None → (u : _) → (shown self.now).sections.held section ≡ Some u → (shown self.now).sections.floor ≤ section → HasItem A.SIZE u position → is_item_held A.SIZE u position ≡ true
-            → (content : List ℕ) → A.refusal (item_at A.SIZE (bytes_of (page_blob.shown u) content) position) tt ≡ None → ⊥) }
+            → (content : List ℕ) → IsBacked S.seal_of (page_blob.shown u) content → A.refusal (item_at A.SIZE (bytes_of (page_blob.shown u) content) position) tt ≡ None → ⊥) }
         ensures cause { OnErr result (IsErrOf result Error.Mem) }
     {
         let Ok(buffer) = self.buffer_of(section) else {
@@ -275,13 +274,13 @@ impl<A: CodecFixed, S: Seal> Journal<A, S> {
         requires open { IsOpenAt (D.opened dev.old) (pages.key_of (page_blob.shown buffer.now)) buffer.now.end }
         requires inside { (p : ℕ) → Contains positions.now p → HasItem A.SIZE buffer.now p }
         requires room { length positions.now * A.SIZE ≤ length buf.old }
-        ensures items { D.Tells → AreHeldOf (disk (D.time dev.old) (pages.key_of (page_blob.shown buffer.now))).content buffer.now.held → IfOk result (λ r. map A.spelling r.0 ≡ map (item_at A.SIZE (bytes_of (page_blob.shown buffer.now) (disk (D.time dev.old) (pages.key_of (page_blob.shown buffer.now))).content)) positions.now) }
+        ensures items { D.Tells → IsBacked S.seal_of (page_blob.shown buffer.now) (disk (D.time dev.old) (pages.key_of (page_blob.shown buffer.now))).content → IfOk result (λ r. map A.spelling r.0 ≡ map (item_at A.SIZE (bytes_of (page_blob.shown buffer.now) (disk (D.time dev.old) (pages.key_of (page_blob.shown buffer.now))).content)) positions.now) }
         ensures accepted { IfOk result (λ r. (v : A) → Contains r.0 v → A.accepted v tt) }
         ensures held { IfOk result (λ r. r.1 ≡ count_by (is_item_held A.SIZE buffer.now) positions.now) }
-        ensures checked { D.Tells → AreHeldOf (disk (D.time dev.old) (pages.key_of (page_blob.shown buffer.now))).content buffer.now.held → OnOk result ((p : ℕ) → Contains positions.now p → IsItemCovered A.SIZE S.seal_of buffer.now (disk (D.time dev.old) (pages.key_of (page_blob.shown buffer.now))).content p) }
-        ensures damaged { D.Tells → AreHeldOf (disk (D.time dev.old) (pages.key_of (page_blob.shown buffer.now))).content buffer.now.held → (k : ℕ) → IsErrOf result (Error.Runtime (InvalidChecksum k))
+        ensures checked { D.Tells → IsBacked S.seal_of (page_blob.shown buffer.now) (disk (D.time dev.old) (pages.key_of (page_blob.shown buffer.now))).content → OnOk result ((p : ℕ) → Contains positions.now p → IsItemCovered A.SIZE S.seal_of buffer.now (disk (D.time dev.old) (pages.key_of (page_blob.shown buffer.now))).content p) }
+        ensures damaged { D.Tells → IsBacked S.seal_of (page_blob.shown buffer.now) (disk (D.time dev.old) (pages.key_of (page_blob.shown buffer.now))).content → (k : ℕ) → IsErrOf result (Error.Runtime (InvalidChecksum k))
             → ((p : ℕ) × Contains positions.now p × IsDamaged A.SIZE S.seal_of buffer.now (disk (D.time dev.old) (pages.key_of (page_blob.shown buffer.now))).content p k) }
-        ensures refused { D.Tells → AreHeldOf (disk (D.time dev.old) (pages.key_of (page_blob.shown buffer.now))).content buffer.now.held → (e : _) → IsErrOf result (Error.Codec e)
+        ensures refused { D.Tells → IsBacked S.seal_of (page_blob.shown buffer.now) (disk (D.time dev.old) (pages.key_of (page_blob.shown buffer.now))).content → (e : _) → IsErrOf result (Error.Codec e)
             → ((p : ℕ) × Contains positions.now p × (A.refusal (item_at A.SIZE (bytes_of (page_blob.shown buffer.now) (disk (D.time dev.old) (pages.key_of (page_blob.shown buffer.now))).content) p) tt ≡ Some e) × IsItemCovered A.SIZE S.seal_of buffer.now (disk (D.time dev.old) (pages.key_of (page_blob.shown buffer.now))).content p) }
         ensures unchanged { D.Tells → Unchanged (D.time dev.old) (D.time dev.new) }
         ensures idle { unheld A.SIZE buffer.now positions.now ≡ 0 → dev.new ≡ dev.old }

@@ -58,8 +58,8 @@ returns-then-max-keep-clause-checksum g c t p gives =
     let place : c.page_place-place.result ≡ page_at c.args.page_size c.args.page = c.page_place-place.ensures in
     let part : c.read_at.new.buf ≡ page_of c.args.page_size (disk (g.D.Device.time c.args.dev.now) (c.args.partition.now, c.args.name.now)).content c.args.page = c.in_ok-read_at.ensures.bytes t ∙ take_short (length c.as_mut_slice-buf.result.now) (c.args.page_size + 12) (drop c.page_place-place.result (disk (g.D.Device.time c.args.dev.now) (c.args.partition.now, c.args.name.now)).content) (omega (arith, have, end, length-drop c.page_place-place.result (disk (g.D.Device.time c.args.dev.now) (c.args.partition.now, c.args.name.now)).content))
     ∙ ap (λ (n : ℕ). take (c.args.page_size + 12) (drop n (disk (g.D.Device.time c.args.dev.now) (c.args.partition.now, c.args.name.now)).content)) place in
-    let first : c.matching_len-first_len.result ≡ slot_length g.S.Seal.seal_of c.args.page_size (disk (g.D.Device.time c.args.dev.now) (c.args.partition.now, c.args.name.now)).content c.args.page false = c.matching_len-first_len.ensures ∙ ap (λ (l : List ℕ). slot_length g.S.Seal.seal_of c.args.page_size l 0 false) part ∙ part_slot g.S.Seal.seal_of c.args.page_size (disk (g.D.Device.time c.args.dev.now) (c.args.partition.now, c.args.name.now)).content c.args.page false in
-    let second : c.matching_len-second_len.result ≡ slot_length g.S.Seal.seal_of c.args.page_size (disk (g.D.Device.time c.args.dev.now) (c.args.partition.now, c.args.name.now)).content c.args.page true = c.matching_len-second_len.ensures ∙ ap (λ (l : List ℕ). slot_length g.S.Seal.seal_of c.args.page_size l 0 true) part ∙ part_slot g.S.Seal.seal_of c.args.page_size (disk (g.D.Device.time c.args.dev.now) (c.args.partition.now, c.args.name.now)).content c.args.page true in
+    let first : c.matching_len-first_len.result ≡ slot_length g.S.Seal.seal_of c.args.page_size (disk (g.D.Device.time c.args.dev.now) (c.args.partition.now, c.args.name.now)).content c.args.page false = c.matching_len-first_len.ensures ∙ ap (λ (l : List ℕ). slot_length g.S.Seal.seal_of c.args.page_size l 0 false) part ∙ part_slot g.S.Seal.seal_of c.args.page_size (disk (g.D.Device.time c.args.dev.now) (c.args.partition.now, c.args.name.now)).content c.args.page c.requires.room false in
+    let second : c.matching_len-second_len.result ≡ slot_length g.S.Seal.seal_of c.args.page_size (disk (g.D.Device.time c.args.dev.now) (c.args.partition.now, c.args.name.now)).content c.args.page true = c.matching_len-second_len.ensures ∙ ap (λ (l : List ℕ). slot_length g.S.Seal.seal_of c.args.page_size l 0 true) part ∙ part_slot g.S.Seal.seal_of c.args.page_size (disk (g.D.Device.time c.args.dev.now) (c.args.partition.now, c.args.name.now)).content c.args.page c.requires.room true in
     omega (arith, page_length_is g.S.Seal.seal_of c.args.page_size (disk (g.D.Device.time c.args.dev.now) (c.args.partition.now, c.args.name.now)).content c.args.page, first, second, c.max.ensures, c.if-max-keep.true)
 
 pub returns-clause-covered : goal.returns-clause-covered
@@ -69,8 +69,8 @@ returns-clause-covered g c t =
     let place : c.page_place-place.result ≡ page_at c.args.page_size c.args.page = c.page_place-place.ensures in
     let part : c.read_at.new.buf ≡ page_of c.args.page_size (disk (g.D.Device.time c.args.dev.now) (c.args.partition.now, c.args.name.now)).content c.args.page = c.in_ok-read_at.ensures.bytes t ∙ take_short (length c.as_mut_slice-buf.result.now) (c.args.page_size + 12) (drop c.page_place-place.result (disk (g.D.Device.time c.args.dev.now) (c.args.partition.now, c.args.name.now)).content) (omega (arith, have, end, length-drop c.page_place-place.result (disk (g.D.Device.time c.args.dev.now) (c.args.partition.now, c.args.name.now)).content))
     ∙ ap (λ (n : ℕ). take (c.args.page_size + 12) (drop n (disk (g.D.Device.time c.args.dev.now) (c.args.partition.now, c.args.name.now)).content)) place in
-    let first : c.matching_len-first_len.result ≡ slot_length g.S.Seal.seal_of c.args.page_size (disk (g.D.Device.time c.args.dev.now) (c.args.partition.now, c.args.name.now)).content c.args.page false = c.matching_len-first_len.ensures ∙ ap (λ (l : List ℕ). slot_length g.S.Seal.seal_of c.args.page_size l 0 false) part ∙ part_slot g.S.Seal.seal_of c.args.page_size (disk (g.D.Device.time c.args.dev.now) (c.args.partition.now, c.args.name.now)).content c.args.page false in
-    let second : c.matching_len-second_len.result ≡ slot_length g.S.Seal.seal_of c.args.page_size (disk (g.D.Device.time c.args.dev.now) (c.args.partition.now, c.args.name.now)).content c.args.page true = c.matching_len-second_len.ensures ∙ ap (λ (l : List ℕ). slot_length g.S.Seal.seal_of c.args.page_size l 0 true) part ∙ part_slot g.S.Seal.seal_of c.args.page_size (disk (g.D.Device.time c.args.dev.now) (c.args.partition.now, c.args.name.now)).content c.args.page true in
+    let first : c.matching_len-first_len.result ≡ slot_length g.S.Seal.seal_of c.args.page_size (disk (g.D.Device.time c.args.dev.now) (c.args.partition.now, c.args.name.now)).content c.args.page false = c.matching_len-first_len.ensures ∙ ap (λ (l : List ℕ). slot_length g.S.Seal.seal_of c.args.page_size l 0 false) part ∙ part_slot g.S.Seal.seal_of c.args.page_size (disk (g.D.Device.time c.args.dev.now) (c.args.partition.now, c.args.name.now)).content c.args.page c.requires.room false in
+    let second : c.matching_len-second_len.result ≡ slot_length g.S.Seal.seal_of c.args.page_size (disk (g.D.Device.time c.args.dev.now) (c.args.partition.now, c.args.name.now)).content c.args.page true = c.matching_len-second_len.ensures ∙ ap (λ (l : List ℕ). slot_length g.S.Seal.seal_of c.args.page_size l 0 true) part ∙ part_slot g.S.Seal.seal_of c.args.page_size (disk (g.D.Device.time c.args.dev.now) (c.args.partition.now, c.args.name.now)).content c.args.page c.requires.room true in
     omega (arith, page_length_is g.S.Seal.seal_of c.args.page_size (disk (g.D.Device.time c.args.dev.now) (c.args.partition.now, c.args.name.now)).content c.args.page, first, second, c.max.ensures, c.if-max-keep.false)
 
 pub returns-clause-best : goal.returns-clause-best
@@ -80,8 +80,8 @@ returns-clause-best g c t =
     let place : c.page_place-place.result ≡ page_at c.args.page_size c.args.page = c.page_place-place.ensures in
     let part : c.read_at.new.buf ≡ page_of c.args.page_size (disk (g.D.Device.time c.args.dev.now) (c.args.partition.now, c.args.name.now)).content c.args.page = c.in_ok-read_at.ensures.bytes t ∙ take_short (length c.as_mut_slice-buf.result.now) (c.args.page_size + 12) (drop c.page_place-place.result (disk (g.D.Device.time c.args.dev.now) (c.args.partition.now, c.args.name.now)).content) (omega (arith, have, end, length-drop c.page_place-place.result (disk (g.D.Device.time c.args.dev.now) (c.args.partition.now, c.args.name.now)).content))
     ∙ ap (λ (n : ℕ). take (c.args.page_size + 12) (drop n (disk (g.D.Device.time c.args.dev.now) (c.args.partition.now, c.args.name.now)).content)) place in
-    let first : c.matching_len-first_len.result ≡ slot_length g.S.Seal.seal_of c.args.page_size (disk (g.D.Device.time c.args.dev.now) (c.args.partition.now, c.args.name.now)).content c.args.page false = c.matching_len-first_len.ensures ∙ ap (λ (l : List ℕ). slot_length g.S.Seal.seal_of c.args.page_size l 0 false) part ∙ part_slot g.S.Seal.seal_of c.args.page_size (disk (g.D.Device.time c.args.dev.now) (c.args.partition.now, c.args.name.now)).content c.args.page false in
-    let second : c.matching_len-second_len.result ≡ slot_length g.S.Seal.seal_of c.args.page_size (disk (g.D.Device.time c.args.dev.now) (c.args.partition.now, c.args.name.now)).content c.args.page true = c.matching_len-second_len.ensures ∙ ap (λ (l : List ℕ). slot_length g.S.Seal.seal_of c.args.page_size l 0 true) part ∙ part_slot g.S.Seal.seal_of c.args.page_size (disk (g.D.Device.time c.args.dev.now) (c.args.partition.now, c.args.name.now)).content c.args.page true in
+    let first : c.matching_len-first_len.result ≡ slot_length g.S.Seal.seal_of c.args.page_size (disk (g.D.Device.time c.args.dev.now) (c.args.partition.now, c.args.name.now)).content c.args.page false = c.matching_len-first_len.ensures ∙ ap (λ (l : List ℕ). slot_length g.S.Seal.seal_of c.args.page_size l 0 false) part ∙ part_slot g.S.Seal.seal_of c.args.page_size (disk (g.D.Device.time c.args.dev.now) (c.args.partition.now, c.args.name.now)).content c.args.page c.requires.room false in
+    let second : c.matching_len-second_len.result ≡ slot_length g.S.Seal.seal_of c.args.page_size (disk (g.D.Device.time c.args.dev.now) (c.args.partition.now, c.args.name.now)).content c.args.page true = c.matching_len-second_len.ensures ∙ ap (λ (l : List ℕ). slot_length g.S.Seal.seal_of c.args.page_size l 0 true) part ∙ part_slot g.S.Seal.seal_of c.args.page_size (disk (g.D.Device.time c.args.dev.now) (c.args.partition.now, c.args.name.now)).content c.args.page c.requires.room true in
     (λ i. ltb (sym first i) (sym second i))
 
 pub returns-clause-bytes : goal.returns-clause-bytes
@@ -91,8 +91,8 @@ returns-clause-bytes g c t =
     let place : c.page_place-place.result ≡ page_at c.args.page_size c.args.page = c.page_place-place.ensures in
     let part : c.read_at.new.buf ≡ page_of c.args.page_size (disk (g.D.Device.time c.args.dev.now) (c.args.partition.now, c.args.name.now)).content c.args.page = c.in_ok-read_at.ensures.bytes t ∙ take_short (length c.as_mut_slice-buf.result.now) (c.args.page_size + 12) (drop c.page_place-place.result (disk (g.D.Device.time c.args.dev.now) (c.args.partition.now, c.args.name.now)).content) (omega (arith, have, end, length-drop c.page_place-place.result (disk (g.D.Device.time c.args.dev.now) (c.args.partition.now, c.args.name.now)).content))
     ∙ ap (λ (n : ℕ). take (c.args.page_size + 12) (drop n (disk (g.D.Device.time c.args.dev.now) (c.args.partition.now, c.args.name.now)).content)) place in
-    let first : c.matching_len-first_len.result ≡ slot_length g.S.Seal.seal_of c.args.page_size (disk (g.D.Device.time c.args.dev.now) (c.args.partition.now, c.args.name.now)).content c.args.page false = c.matching_len-first_len.ensures ∙ ap (λ (l : List ℕ). slot_length g.S.Seal.seal_of c.args.page_size l 0 false) part ∙ part_slot g.S.Seal.seal_of c.args.page_size (disk (g.D.Device.time c.args.dev.now) (c.args.partition.now, c.args.name.now)).content c.args.page false in
-    let second : c.matching_len-second_len.result ≡ slot_length g.S.Seal.seal_of c.args.page_size (disk (g.D.Device.time c.args.dev.now) (c.args.partition.now, c.args.name.now)).content c.args.page true = c.matching_len-second_len.ensures ∙ ap (λ (l : List ℕ). slot_length g.S.Seal.seal_of c.args.page_size l 0 true) part ∙ part_slot g.S.Seal.seal_of c.args.page_size (disk (g.D.Device.time c.args.dev.now) (c.args.partition.now, c.args.name.now)).content c.args.page true in
+    let first : c.matching_len-first_len.result ≡ slot_length g.S.Seal.seal_of c.args.page_size (disk (g.D.Device.time c.args.dev.now) (c.args.partition.now, c.args.name.now)).content c.args.page false = c.matching_len-first_len.ensures ∙ ap (λ (l : List ℕ). slot_length g.S.Seal.seal_of c.args.page_size l 0 false) part ∙ part_slot g.S.Seal.seal_of c.args.page_size (disk (g.D.Device.time c.args.dev.now) (c.args.partition.now, c.args.name.now)).content c.args.page c.requires.room false in
+    let second : c.matching_len-second_len.result ≡ slot_length g.S.Seal.seal_of c.args.page_size (disk (g.D.Device.time c.args.dev.now) (c.args.partition.now, c.args.name.now)).content c.args.page true = c.matching_len-second_len.ensures ∙ ap (λ (l : List ℕ). slot_length g.S.Seal.seal_of c.args.page_size l 0 true) part ∙ part_slot g.S.Seal.seal_of c.args.page_size (disk (g.D.Device.time c.args.dev.now) (c.args.partition.now, c.args.name.now)).content c.args.page c.requires.room true in
     let fits : c.args.keep ≤ c.args.page_size = omega (arith, first, second, c.max.ensures, c.if-max-keep.false, slot_length-le g.S.Seal.seal_of c.args.page_size (disk (g.D.Device.time c.args.dev.now) (c.args.partition.now, c.args.name.now)).content c.args.page false, slot_length-le g.S.Seal.seal_of c.args.page_size (disk (g.D.Device.time c.args.dev.now) (c.args.partition.now, c.args.name.now)).content c.args.page true) in
     let cut : c.in_ok-bytes.bytes.items ≡ take c.args.keep c.read_at.new.buf = search rules in
     cut ∙ ap (take c.args.keep) part ∙ take_front c.args.keep (c.args.page_size + 12) (drop (page_at c.args.page_size c.args.page) (disk (g.D.Device.time c.args.dev.now) (c.args.partition.now, c.args.name.now)).content) (omega (arith, fits))

@@ -1,12 +1,14 @@
 use Rattle.std.proofs.Common.{◌≡◌, ◌+◌, ◌*◌, ◌≤◌, ◌-◌, length, take, drop, ℕ, Ok, arith, subst, length-take, length-drop}
 use Rattle.blob_device.specs.declared.error.DevError.{DevError}
 use Rattle.blob_device.specs.Timeline.{disk}
-use Rattle.sealed_pages.specs.Flushing.{Data, PageFlushed, Wrote}
+use Rattle.sealed_pages.specs.Flushing.{Data, PageFlushed, Wrote, CoversFrom}
 use Rattle.sealed_pages.specs.View.{view, page_at}
 use Rattle.sealed_pages.proofs.SlotLemmas.{times_next, index_page}
 use Rattle.sealed_pages.proofs.PageCalls.{flushed_as, wrote_as, alone_then, wrote_start, wrote_then, flush_start, flush_then, part_stands, no_ok}
 use Rattle.sealed_pages.proofs.EntryLemmas.{open_some, no_reads_start, no_reads_then}
-use Rattle.sealed_pages.proofs.Fronts.{front_start, front_page, front_then}
+use Rattle.sealed_pages.proofs.CoverLemmas.{covers_next}
+use Rattle.std.proofs.Math.Nat.{mul-le-mul_right}
+use Rattle.sealed_pages.proofs.Fronts.{front_start, front_now, front_page, front_then}
 use Rattle.sealed_pages.proofs.Clearing.{settles_start, settles_then}
 use Rattle.sealed_pages.proofs.flush.flush_pages.Goals as goal
 
@@ -43,6 +45,7 @@ pages-init g c = record {
       let pos : 1 ≤ c.args.page_size = omega (arith, c.requires.begin) in
       subst (λ (n : ℕ). PageFlushed g.S.Seal.seal_of c.args.page_size {T = ℕ} {E = DevError} all n c.args.settled c.args.newest (c.args.partition.now, c.args.name.now) (Ok 0) (g.D.Device.time c.args.dev.now) (g.D.Device.time c.args.dev.now)) end
       (flush_start g.S.Seal.seal_of c.args.page_size pos (c.args.partition.now, c.args.name.now) 0 all (c.args.first * c.args.page_size + c.args.from) c.args.settled c.args.newest (g.D.Device.time c.args.dev.now) ready);
+  covers = λ t all was at k low lt. absurd (omega (arith, lt, mul-le-mul_right c.args.page_size low));
   wrote = λ t all was at.
       let end : c.args.first * c.args.page_size + c.args.from ≡ c.args.first * c.args.page_size + (0 + c.args.from) = omega arith in
       wrote_start c.args.page_size 0 all _ (c.args.partition.now, c.args.name.now) (g.D.Device.time c.args.dev.now) (subst (λ (n : ℕ). Data c.args.page_size all n (view (disk (g.D.Device.time c.args.dev.now) (c.args.partition.now, c.args.name.now)).content)) end was);
@@ -94,6 +97,15 @@ pages-preserved g c =
           = omega (arith, place, n_is, c.pages-test.true, length-take (c.pages.at + c.min-n.result - c.pages.at) (drop c.pages.at c.args.tip.now), length-drop c.pages.at c.args.tip.now) in
           subst (λ (n : ℕ). PageFlushed g.S.Seal.seal_of c.args.page_size {T = ℕ} {E = DevError} all n c.args.settled c.args.newest (c.args.partition.now, c.args.name.now) (Ok 0) (g.D.Device.time c.args.dev.now) (g.D.Device.time c.write_page.new.dev)) far
           (flush_then g.S.Seal.seal_of c.args.page_size pos (c.args.partition.now, c.args.name.now) 0 all _ _ c.args.settled c.args.newest (Ok 0) (g.D.Device.time c.args.dev.now) (g.D.Device.time c.pages.dev) (g.D.Device.time c.write_page.new.dev) now (flushed_as _ 0 step));
+      covers = λ t all was at.
+          let now = c.pages.invariant.wrote t all was at in
+          let fits : c.pages.at + (c.pages.at + c.min-n.result - c.pages.at) ≤ length c.args.tip.now = omega (arith, n_is, c.pages-test.true) in
+          let here : c.args.first * c.args.page_size + (c.pages.at + c.pages.skip) ≡ c.pages.page * c.args.page_size + c.pages.skip = omega (arith, place) in
+          let part = c.in_ok-reach.ensures.covers t all (subst (λ (n : ℕ). Data c.args.page_size all n (view (disk (g.D.Device.time c.pages.dev) (c.args.partition.now, c.args.name.now)).content)) here now.done)
+          (part_stands all (c.args.first * c.args.page_size) c.pages.at (c.pages.at + c.min-n.result - c.pages.at) (c.pages.page * c.args.page_size) c.args.tip.now at fits place) in
+          covers_next g.S.Seal.seal_of c.args.page_size c.args.first c.pages.page c.pages.at c.min-n.result (disk (g.D.Device.time c.pages.dev) (c.args.partition.now, c.args.name.now)) (disk (g.D.Device.time c.write_page.new.dev) (c.args.partition.now, c.args.name.now))
+          (c.pages.invariant.covers t all was at) place pos (omega (arith, c.min-n.ensures, c.from-size.ensures)) (front_now _ _ _ _ (c.in_ok-reach.ensures.front t))
+          (omega (arith, part, length-take (c.pages.at + c.min-n.result - c.pages.at) (drop c.pages.at c.args.tip.now), length-drop c.pages.at c.args.tip.now, n_is, c.pages-test.true));
       wrote = λ t all was at.
           let now = c.pages.invariant.wrote t all was at in
           let fits : c.pages.at + (c.pages.at + c.min-n.result - c.pages.at) ≤ length c.args.tip.now = omega (arith, n_is, c.pages-test.true) in
@@ -117,6 +129,14 @@ returns-clause-wrote g c t all was at =
     let end : c.args.first * c.args.page_size + (c.pages.at + c.pages.skip) ≡ c.args.first * c.args.page_size + length c.args.tip.now = omega (arith, c.pages-test.false, c.pages.invariant.in_tip) in
     subst (λ (n : ℕ). Wrote {T = ℕ} {E = DevError} c.args.page_size all n (c.args.partition.now, c.args.name.now) (Ok c.pages.reach) (g.D.Device.time c.args.dev.now) (g.D.Device.time c.pages.dev)) end
     (wrote_as _ _ (c.pages.invariant.wrote t all was at))
+
+pub returns-then-from-tip-clause-covers : goal.returns-then-from-tip-clause-covers
+returns-then-from-tip-clause-covers g c t all more was at = absurd (omega (arith, more, c.if-from-tip.true))
+
+pub returns-clause-covers : goal.returns-clause-covers
+returns-clause-covers g c t all more was at =
+    let end : c.args.first * c.args.page_size + c.pages.at ≡ c.args.first * c.args.page_size + length c.args.tip.now = omega (arith, c.pages-test.false, c.pages.invariant.in_tip) in
+    subst (λ (n : ℕ). CoversFrom g.S.Seal.seal_of c.args.page_size (disk (g.D.Device.time c.pages.dev) (c.args.partition.now, c.args.name.now)).content c.args.first n) end (c.pages.invariant.covers t all was at)
 
 pub returns-in_err-reach-clause-wrote : goal.returns-in_err-reach-clause-wrote
 returns-in_err-reach-clause-wrote g c t all was at =

@@ -3,7 +3,7 @@ use Rattle.blob_device.specs.declared.error.DevError.{DevError}
 use Rattle.blob_device.specs.Timeline.{disk}
 use Rattle.sealed_pages.specs.Contents.{IsHad}
 use Rattle.sealed_pages.specs.Entries.{IsOpenAt, NoReads}
-use Rattle.sealed_pages.specs.Flushing.{Data, Ready, PageFlushed, Wrote}
+use Rattle.sealed_pages.specs.Flushing.{Data, Ready, PageFlushed, Wrote, CoversFrom}
 use Rattle.sealed_pages.specs.Leftover.{SettlesNothing}
 use Rattle.sealed_pages.specs.Unrecovered.{SparesFront}
 use Rattle.sealed_pages.specs.View.{view, page_at, StandsAt}
@@ -25,6 +25,9 @@ invariant-pages g l = record {
   told : g.D.Device.Tells → (all : List ℕ) → Ready g.S.Seal.seal_of l.page_size all (l.first * l.page_size + l.from) l.settled l.newest (disk (g.D.Device.time l.initial.dev) (l.partition, l.name))
       → StandsAt all (l.first * l.page_size) l.tip
       → PageFlushed g.S.Seal.seal_of l.page_size {T = ℕ} {E = DevError} all (l.first * l.page_size + (l.at + l.skip)) l.settled l.newest (l.partition, l.name) (Ok 0) (g.D.Device.time l.initial.dev) (g.D.Device.time l.dev);
+  covers : g.D.Device.Tells → (all : List ℕ) → Data l.page_size all (l.first * l.page_size + l.from) (view (disk (g.D.Device.time l.initial.dev) (l.partition, l.name)).content)
+      → StandsAt all (l.first * l.page_size) l.tip
+      → CoversFrom g.S.Seal.seal_of l.page_size (disk (g.D.Device.time l.dev) (l.partition, l.name)).content l.first (l.first * l.page_size + l.at);
   wrote : g.D.Device.Tells → (all : List ℕ) → Data l.page_size all (l.first * l.page_size + l.from) (view (disk (g.D.Device.time l.initial.dev) (l.partition, l.name)).content)
       → StandsAt all (l.first * l.page_size) l.tip
       → Wrote {T = ℕ} {E = DevError} l.page_size all (l.first * l.page_size + (l.at + l.skip)) (l.partition, l.name) (Ok 0) (g.D.Device.time l.initial.dev) (g.D.Device.time l.dev);

@@ -4,6 +4,7 @@ use Rattle.sealed_pages.proofs.EntryLemmas.{open_some, no_reads_updated, no_read
 use Rattle.sealed_pages.proofs.Steps.{slot_low, slot_high}
 use Rattle.sealed_pages.proofs.SlotSteps.{length-slot_bytes}
 use Rattle.sealed_pages.proofs.PageCalls.{Begun, page_one, page_two, page_ready, page_leaves, passes_as, rest_whole, no_ok, alone_start, alone_on, page_wrote}
+use Rattle.sealed_pages.proofs.CoverLemmas.{page_covers}
 use Rattle.sealed_pages.proofs.Fronts.{front_start, front_write}
 use Rattle.sealed_pages.specs.View.{page_at}
 use Rattle.sealed_pages.proofs.Clearing.{settles_start, settles_write}
@@ -17,7 +18,7 @@ pub returns-in_err-write_at-clause-told : goal.returns-in_err-write_at-clause-to
 returns-in_err-write_at-clause-told g c t all F L newest ready is at pick =
     let key : Key = (c.args.partition.now, c.args.name.now) in
     let begun : Begun g.S.Seal.seal_of c.args.page_size all F L newest key (g.D.Device.time c.args.dev.now) c.args.page c.args.from c.args.bytes.now c.args.second
-    = record { seal_fits = g.met.S.Seal.fits; small = c.ranges.page_size.fits; ready = ready; is = is; new = c.requires.new; size = c.requires.size; at = at; pick = pick } in
+    = record { seal_fits = g.met.S.Seal.fits; small = c.ranges.page_size.fits; ready = ready; is = is; new = c.requires.new; size = c.requires.size; places = c.requires.room; at = at; pick = pick } in
     record {
       any_moment = page_leaves _ _ _ _ _ _ _ _ _ _ _ _ begun (page_one _ _ _ _ _ _ _ _ _ _ _ _ begun (passes_as (ap (λ (n : ℕ). n + c.args.from) c.page_place-start.ensures) (rest_whole c.args.from c.args.bytes.now) (c.write_at.ensures.told t)));
       done = no_ok _ c.from_residual.result c.from_residual.ensures.0;
@@ -30,7 +31,7 @@ pub returns-in_err-write_at-2-clause-told : goal.returns-in_err-write_at-2-claus
 returns-in_err-write_at-2-clause-told g c t all F L newest ready is at pick =
     let key : Key = (c.args.partition.now, c.args.name.now) in
     let begun : Begun g.S.Seal.seal_of c.args.page_size all F L newest key (g.D.Device.time c.args.dev.now) c.args.page c.args.from c.args.bytes.now c.args.second
-    = record { seal_fits = g.met.S.Seal.fits; small = c.ranges.page_size.fits; ready = ready; is = is; new = c.requires.new; size = c.requires.size; at = at; pick = pick } in
+    = record { seal_fits = g.met.S.Seal.fits; small = c.ranges.page_size.fits; ready = ready; is = is; new = c.requires.new; size = c.requires.size; places = c.requires.room; at = at; pick = pick } in
     record {
       any_moment = page_leaves _ _ _ _ _ _ _ _ _ _ _ _ begun (page_two _ _ _ _ _ _ _ _ _ _ _ _ begun (passes_as (ap (λ (n : ℕ). n + c.args.from) c.page_place-start.ensures) (rest_whole c.args.from c.args.bytes.now) (c.in_ok-write_at.ensures.told t)) (passes_as c.slot_place-place.ensures c.slot_of-slot.ensures (c.write_at-2.ensures.told t)));
       done = no_ok _ c.from_residual-in_err-write_at-2.result c.from_residual-in_err-write_at-2.ensures.0;
@@ -40,7 +41,7 @@ pub returns-clause-told : goal.returns-clause-told
 returns-clause-told g c t all F L newest ready is at pick =
     let key : Key = (c.args.partition.now, c.args.name.now) in
     let begun : Begun g.S.Seal.seal_of c.args.page_size all F L newest key (g.D.Device.time c.args.dev.now) c.args.page c.args.from c.args.bytes.now c.args.second
-    = record { seal_fits = g.met.S.Seal.fits; small = c.ranges.page_size.fits; ready = ready; is = is; new = c.requires.new; size = c.requires.size; at = at; pick = pick } in
+    = record { seal_fits = g.met.S.Seal.fits; small = c.ranges.page_size.fits; ready = ready; is = is; new = c.requires.new; size = c.requires.size; places = c.requires.room; at = at; pick = pick } in
     let first = (passes_as (ap (λ (n : ℕ). n + c.args.from) c.page_place-start.ensures) (rest_whole c.args.from c.args.bytes.now) (c.in_ok-write_at.ensures.told t)) in
     let second = (passes_as c.slot_place-place.ensures c.slot_of-slot.ensures (c.in_ok-write_at-2.ensures.told t)) in
     record {
@@ -112,3 +113,7 @@ returns-clause-stays g c t = settles_write (c.args.partition.now, c.args.name.no
 
 pub returns-clause-had : goal.returns-clause-had
 returns-clause-had g c t = had_write (c.args.partition.now, c.args.name.now) _ _ _ (g.D.Device.time c.write_at.new.self) (g.D.Device.time c.write_at-2.new.self) (c.in_ok-write_at-2.ensures.told t)
+
+pub returns-clause-covers : goal.returns-clause-covers
+returns-clause-covers g c t all was at = page_covers g.S.Seal.seal_of c.args.page_size all (c.args.partition.now, c.args.name.now) (g.D.Device.time c.args.dev.now) c.args.page c.args.from c.args.bytes.now c.args.second g.met.S.Seal.fits c.ranges.page_size.fits c.requires.room c.requires.new c.requires.size at was
+    (passes_as (ap (λ (n : ℕ). n + c.args.from) c.page_place-start.ensures) (rest_whole c.args.from c.args.bytes.now) (c.in_ok-write_at.ensures.told t)) (passes_as c.slot_place-place.ensures c.slot_of-slot.ensures (c.in_ok-write_at-2.ensures.told t))

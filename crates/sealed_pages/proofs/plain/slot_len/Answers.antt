@@ -1,4 +1,4 @@
-use Rattle.std.proofs.Common.{◌≡◌, ◌+◌, ◌-◌, ◌*◌, ◌≤◌, ◌++◌, ◌∙◌, ℕ, length, take, drop, ap, sym, arith}
+use Rattle.std.proofs.Common.{◌≡◌, ◌+◌, ◌-◌, ◌*◌, ◌≤◌, ◌++◌, ◌∙◌, ℕ, length, take, drop, ap, sym, arith, ◌<◌, ◌^◌}
 use Rattle.sealed_pages.specs.View.{view, bytes_at, page_at, slot_at}
 use Rattle.sealed_pages.specs.Slots.{named_length, named_seal, computed_seal}
 use Rattle.sealed_pages.proofs.Looking.{slot_short, slot_long, slot_right, slot_wrong}
@@ -26,6 +26,7 @@ returns-then-seal-high g c =
     let named : named_length (view c.args.bytes.now) (slot_at c.args.page_size c.args.page c.args.second) ≡ (c.from.result * 256 + c.from-2.result)
     = ap (named_length (view c.args.bytes.now)) (sym at) ∙ length_spelled c.args.bytes.now (c.args.page * (c.from-size.result + 12) + c.slot_start.result) ∙ sym (λ j. c.from.ensures j * 256 + c.from-2.ensures j) in
     let stands : (slot_at c.args.page_size c.args.page c.args.second) + 6 ≤ length c.args.bytes.now = omega (arith, at, c.if-bytes-at.false) in
+    let places : page_at c.args.page_size c.args.page + (c.args.page_size + 12) < 2 ^ 64 = omega (arith, begins, at, stands) in
     let short : named_length (view c.args.bytes.now) (slot_at c.args.page_size c.args.page c.args.second) ≤ c.args.page_size = omega (arith, named, c.if-len-size.false, c.from-size.ensures) in
     let fits : page_at c.args.page_size c.args.page + (c.from.result * 256 + c.from-2.result) ≤ length c.args.bytes.now = omega (arith, named, short, stands, at, begins, c.slot_start.ensures) in
     let first : bytes_at (view c.args.bytes.now) (slot_at c.args.page_size c.args.page c.args.second) 2 ≡ take ((c.args.page * (c.from-size.result + 12) + c.slot_start.result) + 2 - (c.args.page * (c.from-size.result + 12) + c.slot_start.result)) (drop (c.args.page * (c.from-size.result + 12) + c.slot_start.result) c.args.bytes.now)
@@ -35,7 +36,7 @@ returns-then-seal-high g c =
     let made : computed_seal g.S.Seal.seal_of c.args.page_size (view c.args.bytes.now) (page_at c.args.page_size c.args.page) (slot_at c.args.page_size c.args.page c.args.second) (named_length (view c.args.bytes.now) (slot_at c.args.page_size c.args.page c.args.second)) ≡ c.seal2-seal.result = (λ j. g.S.Seal.seal_of (first j ++ second j)) ∙ sym c.seal2-seal.ensures in
     let told : named_seal (view c.args.bytes.now) (slot_at c.args.page_size c.args.page c.args.second) ≡ (c.from-3.result * 256 + c.from-4.result) * 65536 + (c.from-5.result * 256 + c.from-6.result)
     = ap (named_seal (view c.args.bytes.now)) (sym at) ∙ seal_spelled c.args.bytes.now (c.args.page * (c.from-size.result + 12) + c.slot_start.result) ∙ sym (λ j. (c.from-3.ensures j * 256 + c.from-4.ensures j) * 65536 + (c.from-5.ensures j * 256 + c.from-6.ensures j)) in
-    sym (slot_wrong g.S.Seal.seal_of c.args.page_size c.args.bytes.now c.args.page c.args.second stands short (λ e. c.if-seal-high.true (sym made ∙ e ∙ told)))
+    sym (slot_wrong g.S.Seal.seal_of c.args.page_size c.args.bytes.now c.args.page c.args.second stands places short (λ e. c.if-seal-high.true (sym made ∙ e ∙ told)))
 
 pub returns : goal.returns
 returns g c =
@@ -44,6 +45,7 @@ returns g c =
     let named : named_length (view c.args.bytes.now) (slot_at c.args.page_size c.args.page c.args.second) ≡ (c.from.result * 256 + c.from-2.result)
     = ap (named_length (view c.args.bytes.now)) (sym at) ∙ length_spelled c.args.bytes.now (c.args.page * (c.from-size.result + 12) + c.slot_start.result) ∙ sym (λ j. c.from.ensures j * 256 + c.from-2.ensures j) in
     let stands : (slot_at c.args.page_size c.args.page c.args.second) + 6 ≤ length c.args.bytes.now = omega (arith, at, c.if-bytes-at.false) in
+    let places : page_at c.args.page_size c.args.page + (c.args.page_size + 12) < 2 ^ 64 = omega (arith, begins, at, stands) in
     let short : named_length (view c.args.bytes.now) (slot_at c.args.page_size c.args.page c.args.second) ≤ c.args.page_size = omega (arith, named, c.if-len-size.false, c.from-size.ensures) in
     let fits : page_at c.args.page_size c.args.page + (c.from.result * 256 + c.from-2.result) ≤ length c.args.bytes.now = omega (arith, named, short, stands, at, begins, c.slot_start.ensures) in
     let first : bytes_at (view c.args.bytes.now) (slot_at c.args.page_size c.args.page c.args.second) 2 ≡ take ((c.args.page * (c.from-size.result + 12) + c.slot_start.result) + 2 - (c.args.page * (c.from-size.result + 12) + c.slot_start.result)) (drop (c.args.page * (c.from-size.result + 12) + c.slot_start.result) c.args.bytes.now)
@@ -53,4 +55,4 @@ returns g c =
     let made : computed_seal g.S.Seal.seal_of c.args.page_size (view c.args.bytes.now) (page_at c.args.page_size c.args.page) (slot_at c.args.page_size c.args.page c.args.second) (named_length (view c.args.bytes.now) (slot_at c.args.page_size c.args.page c.args.second)) ≡ c.seal2-seal.result = (λ j. g.S.Seal.seal_of (first j ++ second j)) ∙ sym c.seal2-seal.ensures in
     let told : named_seal (view c.args.bytes.now) (slot_at c.args.page_size c.args.page c.args.second) ≡ (c.from-3.result * 256 + c.from-4.result) * 65536 + (c.from-5.result * 256 + c.from-6.result)
     = ap (named_seal (view c.args.bytes.now)) (sym at) ∙ seal_spelled c.args.bytes.now (c.args.page * (c.from-size.result + 12) + c.slot_start.result) ∙ sym (λ j. (c.from-3.ensures j * 256 + c.from-4.ensures j) * 65536 + (c.from-5.ensures j * 256 + c.from-6.ensures j)) in
-    sym (slot_right g.S.Seal.seal_of c.args.page_size c.args.bytes.now c.args.page c.args.second stands short (made ∙ c.if-seal-high.false ∙ sym told) ∙ named)
+    sym (slot_right g.S.Seal.seal_of c.args.page_size c.args.bytes.now c.args.page c.args.second stands places short (made ∙ c.if-seal-high.false ∙ sym told) ∙ named)

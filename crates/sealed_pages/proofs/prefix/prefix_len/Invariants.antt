@@ -1,4 +1,4 @@
-use Rattle.std.proofs.Common.{◌≡◌, ◌≤◌, ◌<◌, ◌+◌, ◌-◌, ◌*◌, ◌^◌, length}
+use Rattle.std.proofs.Common.{◌≡◌, ◌≤◌, ◌<◌, ◌+◌, ◌-◌, ◌*◌, ◌^◌, ℕ, length}
 use Rattle.blob_device.specs.Timeline.{disk}
 use Rattle.sealed_pages.specs.Entries.{ReadsAtMost}
 use Rattle.sealed_pages.specs.Pieces.{IsPieceOf}
@@ -16,8 +16,8 @@ invariant-pages g l = record {
   faults : g.D.Device.faults l.initial.dev ≤ g.D.Device.faults l.dev;
   unchanged : g.D.Device.Tells → Unchanged (g.D.Device.time l.initial.dev) (g.D.Device.time l.dev);
   piece_of : g.D.Device.Tells → IsPieceOf (disk (g.D.Device.time l.initial.dev) (l.partition, l.name)).content l.piece;
-  sealed : g.D.Device.Tells → l.first * l.page_size + length (sealed_from g.S.Seal.seal_of l.page_size (disk (g.D.Device.time l.initial.dev) (l.partition, l.name)).content l.first (l.pages - l.first))
-      ≡ l.page * l.page_size + length (sealed_from g.S.Seal.seal_of l.page_size (disk (g.D.Device.time l.initial.dev) (l.partition, l.name)).content l.page (l.pages - l.page));
+  sealed : g.D.Device.Tells → (m : ℕ) → l.pages ≤ m → l.first * l.page_size + length (sealed_from g.S.Seal.seal_of l.page_size (disk (g.D.Device.time l.initial.dev) (l.partition, l.name)).content l.first (m - l.first))
+      ≡ l.page * l.page_size + length (sealed_from g.S.Seal.seal_of l.page_size (disk (g.D.Device.time l.initial.dev) (l.partition, l.name)).content l.page (m - l.page));
 }
 
 abbrev pub decreases-pages : goal.decreases-pages

@@ -3,7 +3,9 @@ use Rattle.std.proofs.lemmas.Bool.{cases_lt}
 use Rattle.blob_device.specs.Disk.{Disk}
 use Rattle.blob_device.specs.Timeline.{disk}
 use borrow.Rule.Slice.PartMut.{put_mid}
-use Rattle.sealed_pages.specs.Held.{AreHeldOf}
+use Rattle.std.specs.Map.{keys_of}
+use Rattle.sealed_pages.specs.Cached.{held_in, uncached, AreCachedOf}
+use Rattle.sealed_pages.proofs.CacheLemmas.{uncached_more, uncached_next}
 use Rattle.sealed_pages.specs.Reads.{IsWanted, needed}
 use Rattle.sealed_pages.specs.SealedPrefix.{place}
 use Rattle.sealed_pages.specs.Slots.{page_length}
@@ -17,7 +19,7 @@ use Rattle.sealed_pages.proofs.range.read_each.Goals as goal
 pub overflow_add-page : goal.overflow_add-page
 overflow_add-page g c =
     let at = c.pages.invariant.place_is c.pages-test.true in
-    let below : page_at c.args.page_size c.pages.page < 2 ^ 64 = c.requires.room c.pages.page (omega (arith, at, c.pages-test.true)) in
+    let below : page_at c.args.page_size c.pages.page + (c.args.page_size + 12) < 2 ^ 64 = c.requires.room c.pages.page (omega (arith, at, c.pages-test.true)) in
     omega (arith, below, index_twice c.args.page_size c.pages.page)
 
 pub pages-preserved : goal.pages-preserved
@@ -30,8 +32,8 @@ pages-preserved g c =
     let is : c.pages.page * c.args.page_size + c.pages.skip ≡ c.args.offset + c.pages.at = c.pages.invariant.place_is c.pages-test.true in
     let whole : length (put_mid c.pages.at (c.pages.at + c.min-n.result - c.pages.at) c.pages.out c.read_part.new.out) ≡ length c.args.out.now = search rules in
     let same : (g.D.Device.Tells) → disk (g.D.Device.time c.pages.dev) ≡ disk (g.D.Device.time c.args.dev.now) = λ t. unchanged_now (g.D.Device.time c.args.dev.now) (g.D.Device.time c.pages.dev) (c.pages.invariant.unchanged t) in
-    let held_then : (t : g.D.Device.Tells) → AreHeldOf (disk (g.D.Device.time c.args.dev.now) (c.args.partition.now, c.args.name.now)).content c.args.held.now → AreHeldOf (disk (g.D.Device.time c.pages.dev) (c.args.partition.now, c.args.name.now)).content c.args.held.now
-    = λ t held. subst (λ (d : Disk). AreHeldOf (d (c.args.partition.now, c.args.name.now)).content c.args.held.now) (sym (same t)) held in
+    let held_then : (t : g.D.Device.Tells) → AreCachedOf g.S.Seal.seal_of c.args.page_size (disk (g.D.Device.time c.args.dev.now) (c.args.partition.now, c.args.name.now)).content (held_in c.args.cache.now) → AreCachedOf g.S.Seal.seal_of c.args.page_size (disk (g.D.Device.time c.pages.dev) (c.args.partition.now, c.args.name.now)).content (held_in c.args.cache.now)
+    = λ t held. subst (λ (d : Disk). AreCachedOf g.S.Seal.seal_of c.args.page_size (d (c.args.partition.now, c.args.name.now)).content (held_in c.args.cache.now)) (sym (same t)) held in
     record {
       page_buf = search rules;
       within = omega (arith, whole, n_is, more);
@@ -41,7 +43,7 @@ pages-preserved g c =
       from = omega (arith, c.pages.invariant.from);
       visited = λ e. absurd (omega (arith, e, n_is, more, begun));
       last = λ some. step_last c.args.page_size c.args.offset (length c.args.out.now) c.pages.page c.pages.skip c.pages.at c.min-n.result begun is more n_is;
-      reads = reads_then _ (c.pages.page - c.args.offset / c.args.page_size) 1 (c.pages.page + 1 - c.args.offset / c.args.page_size) _ _ _ (omega (arith, c.pages.invariant.from)) c.pages.invariant.reads c.in_ok-read_part.ensures.entries;
+      reads = reads_then _ _ _ _ _ _ _ (uncached_next (keys_of (held_in c.args.cache.now)) (c.args.offset / c.args.page_size) c.pages.page c.pages.invariant.from) c.pages.invariant.reads c.in_ok-read_part.ensures.entries;
       faults = omega (arith, c.pages.invariant.faults, c.in_ok-read_part.ensures.faults);
       unchanged = λ t. unchanged_then _ _ _ (c.pages.invariant.unchanged t) (c.in_ok-read_part.ensures.unchanged t);
       bytes = λ t held i lt. filled (λ x. view (disk (g.D.Device.time c.args.dev.now) (c.args.partition.now, c.args.name.now)).content (place c.args.page_size (c.args.offset + x))) c.pages.at (c.pages.at + c.min-n.result - c.pages.at) c.pages.out c.read_part.new.out
@@ -78,6 +80,13 @@ returns-clause-entries g c = elim (cases_lt 0 (length c.args.out.now)) [
   | inl some ↦ (let done : c.pages.at ≡ length c.args.out.now = omega (arith, c.pages-test.false, c.pages.invariant.within, c.pages.auto.out) in
       let at : 0 < c.pages.at = omega (arith, done, some) in
       let high : (c.pages.page - 1) * c.args.page_size < c.args.offset + length c.args.out.now = omega (arith, c.pages.invariant.last at, done) in
-      reads_more _ _ _ _ _ (omega (arith, touched_upto c.args.page_size c.args.offset (length c.args.out.now) (c.pages.page - 1) c.requires.some some high)) c.pages.invariant.reads)
-  | inr none ↦ (let e : c.pages.page ≡ c.args.offset / c.args.page_size = c.pages.invariant.visited (omega (arith, none, c.pages.invariant.within, c.pages.auto.out)) in reads_more _ _ _ _ _ (omega (arith, e)) c.pages.invariant.reads)
+      reads_more _ _ _ _ _ (uncached_more (keys_of (held_in c.args.cache.now)) (c.args.offset / c.args.page_size) (c.pages.page - c.args.offset / c.args.page_size) _ (omega (arith, touched_upto c.args.page_size c.args.offset (length c.args.out.now) (c.pages.page - 1) c.requires.some some high))) c.pages.invariant.reads)
+  | inr none ↦ (let e : c.pages.page ≡ c.args.offset / c.args.page_size = c.pages.invariant.visited (omega (arith, none, c.pages.invariant.within, c.pages.auto.out)) in reads_more _ _ _ _ _ (uncached_more (keys_of (held_in c.args.cache.now)) (c.args.offset / c.args.page_size) (c.pages.page - c.args.offset / c.args.page_size) _ (omega (arith, e))) c.pages.invariant.reads)
 ]
+
+pub returns-in_err-read_part-clause-entries : goal.returns-in_err-read_part-clause-entries
+returns-in_err-read_part-clause-entries g c =
+    let is = c.pages.invariant.place_is c.pages-test.true in
+    let low : c.args.offset / c.args.page_size ≤ c.pages.page = c.pages.invariant.from in
+    reads_more _ _ _ _ _ (uncached_more (keys_of (held_in c.args.cache.now)) (c.args.offset / c.args.page_size) (c.pages.page + 1 - c.args.offset / c.args.page_size) _ (touched_upto c.args.page_size c.args.offset (length c.args.out.now) c.pages.page c.requires.some (omega (arith, c.pages-test.true, c.pages.auto.out)) (omega (arith, is, c.pages-test.true, c.pages.auto.out))))
+    (reads_then _ _ _ _ _ _ _ (uncached_next (keys_of (held_in c.args.cache.now)) (c.args.offset / c.args.page_size) c.pages.page c.pages.invariant.from) c.pages.invariant.reads c.in_err-read_part.ensures.entries)

@@ -1,7 +1,8 @@
 use Rattle.std.proofs.Common.{◌≡◌, ◌≤◌, ◌<◌, ◌+◌, ◌-◌, ◌*◌, ◌/◌, ℕ, length, get_or}
 use Rattle.blob_device.specs.Timeline.{disk}
 use Rattle.sealed_pages.specs.Entries.{ReadsAtMost}
-use Rattle.sealed_pages.specs.Held.{AreHeldOf}
+use Rattle.std.specs.Map.{keys_of}
+use Rattle.sealed_pages.specs.Cached.{held_in, uncached, AreCachedOf}
 use Rattle.sealed_pages.specs.Reading.{Unchanged}
 use Rattle.sealed_pages.specs.Reads.{IsWanted, needed}
 use Rattle.sealed_pages.specs.SealedPrefix.{place}
@@ -19,11 +20,11 @@ invariant-pages g l = record {
   from : l.offset / l.page_size ≤ l.page;
   visited : l.at ≡ 0 → l.page ≡ l.offset / l.page_size;
   last : 0 < l.at → (l.page - 1) * l.page_size < l.offset + l.at;
-  reads : ReadsAtMost (l.page - l.offset / l.page_size) (l.partition, l.name) (g.D.Device.opened l.initial.dev) (g.D.Device.opened l.dev);
+  reads : ReadsAtMost (uncached (keys_of (held_in l.cache)) (l.offset / l.page_size) (l.page - l.offset / l.page_size)) (l.partition, l.name) (g.D.Device.opened l.initial.dev) (g.D.Device.opened l.dev);
   faults : g.D.Device.faults l.initial.dev ≤ g.D.Device.faults l.dev;
   unchanged : g.D.Device.Tells → Unchanged (g.D.Device.time l.initial.dev) (g.D.Device.time l.dev);
-  bytes : g.D.Device.Tells → AreHeldOf (disk (g.D.Device.time l.initial.dev) (l.partition, l.name)).content l.held → (i : ℕ) → i < l.at → get_or l.out i 0 ≡ view (disk (g.D.Device.time l.initial.dev) (l.partition, l.name)).content (place l.page_size (l.offset + i));
-  covered : g.D.Device.Tells → AreHeldOf (disk (g.D.Device.time l.initial.dev) (l.partition, l.name)).content l.held → (k : ℕ) → k < l.page → IsWanted l.page_size l.offset (length l.out) k → needed l.page_size l.offset (length l.out) k ≤ page_length g.S.Seal.seal_of l.page_size (disk (g.D.Device.time l.initial.dev) (l.partition, l.name)).content k;
+  bytes : g.D.Device.Tells → AreCachedOf g.S.Seal.seal_of l.page_size (disk (g.D.Device.time l.initial.dev) (l.partition, l.name)).content (held_in l.cache) → (i : ℕ) → i < l.at → get_or l.out i 0 ≡ view (disk (g.D.Device.time l.initial.dev) (l.partition, l.name)).content (place l.page_size (l.offset + i));
+  covered : g.D.Device.Tells → AreCachedOf g.S.Seal.seal_of l.page_size (disk (g.D.Device.time l.initial.dev) (l.partition, l.name)).content (held_in l.cache) → (k : ℕ) → k < l.page → IsWanted l.page_size l.offset (length l.out) k → needed l.page_size l.offset (length l.out) k ≤ page_length g.S.Seal.seal_of l.page_size (disk (g.D.Device.time l.initial.dev) (l.partition, l.name)).content k;
 }
 
 abbrev pub decreases-pages : goal.decreases-pages

@@ -7,6 +7,7 @@ use Rattle.sealed_pages.proofs.reading.find_last.Given as goal
 abbrev pub invariant-back : goal.invariant-back
 invariant-back g l = record {
   low : l.page ≤ l.end / (l.page_size + 12) + 1;
+  few : l.page ≤ l.initial.page;
   buf : length l.buf ≡ l.page_size + 12;
   faults : g.D.Device.faults l.initial.dev ≤ g.D.Device.faults l.dev;
   entries : OnlyRead (l.partition, l.name) (g.D.Device.opened l.initial.dev) (g.D.Device.opened l.dev);

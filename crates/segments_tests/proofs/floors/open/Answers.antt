@@ -29,5 +29,5 @@ returns c =
     let none = c.in_ok-found.ensures.target in
     let finished = given _ _ seal.ghosts.seal_of 8 _ (floors.journal_of c.in_ok-found.found) _ c.preflight_floors.new.dev c.finish.new.dev (floors.shown c.in_ok-found.found).target none c.in_ok-journal.ensures in
     subst (λ (d : Memory). IsOpen d (Items c.in_ok-journal.journal)) (sym finished.unchanged)
-    (subst (λ m. IsJournal (page_blob.ghosts the_row seal.ghosts seal.dict) (λ f. record { page_size = f.pages.page_size; capacity = f.write_buffer }) seal.ghosts.seal_of 8 (Unit {0}) m (memory_opened c.preflight_floors.new.dev) (disk (memory_time c.preflight_floors.new.dev)))
+    (subst (λ m. IsJournal (page_blob.ghosts the_row seal.ghosts seal.dict) (λ f. record { page_size = f.pages.page_size; capacity = f.write_buffer; cache_pages = f.pages.cache_pages }) seal.ghosts.seal_of 8 (Unit {0}) m (memory_opened c.preflight_floors.new.dev) (disk (memory_time c.preflight_floors.new.dev)))
     (sym finished.same) c.in_ok-found.ensures.over)

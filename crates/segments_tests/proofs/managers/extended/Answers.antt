@@ -28,7 +28,7 @@ returns-clause-over g c =
     (inr (subst IsSome (sym c.in_ok-buffer.ensures.known) refl))
     (omega (arith, c.in_ok-buffer.ensures.bounds.ceiling, c.requires.ceiling))
     there
-    (ap (λ (w : WriteBuffer). record { page_size = 1; capacity = w.capacity }) c.in_ok-buffer-2.ensures.same ∙ c.in_ok-buffer.ensures.setting ∙ ap (λ f. record { page_size = 1; capacity = f.capacity }) (sym c.in_ok-buffer.ensures.bounds.place.factory))
+    (ap (λ (w : WriteBuffer). record { page_size = 1; capacity = w.capacity; cache_pages = 0 }) c.in_ok-buffer-2.ensures.same ∙ c.in_ok-buffer.ensures.setting ∙ ap (λ f. record { page_size = 1; capacity = f.capacity; cache_pages = 0 }) (sym c.in_ok-buffer.ensures.bounds.place.factory))
     is_open
     (subst (λ (k : Key). OnlyOwnEntry k (g.D.Device.opened c.take.new.dev) (g.D.Device.opened c.append.new.dev)) here c.in_ok-buffer-2.ensures.entries.others)
     (λ t q other. (always_now old new _ (c.append.ensures.spares t)).others q (λ is. other (is ∙ here)))

@@ -8,5 +8,5 @@ use Rattle.value_codec.specs.contracts.seal.Sha256SealSeal.TheImpl as seal
 use Rattle.segments_tests.proofs.replays.drained.Given as goal
 
 abbrev pub invariant-answers : goal.invariant-answers
-invariant-answers l = IsWalk (page_blob.ghosts the_row seal.ghosts seal.dict) (λ f. record { page_size = f.pages.page_size; capacity = f.write_buffer }) seal.ghosts.seal_of 8 (Unit {0})
+invariant-answers l = IsWalk (page_blob.ghosts the_row seal.ghosts seal.dict) (λ f. record { page_size = f.pages.page_size; capacity = f.write_buffer; cache_pages = f.pages.cache_pages }) seal.ghosts.seal_of 8 (Unit {0})
     (walk_of l.walk) (memory_opened l.dev) (disk (memory_time l.dev))

@@ -9,7 +9,7 @@ use Rattle.segments_tests.proofs.replays.finished.Goals as goal
 
 pub returns : goal.returns
 returns c = record {
-  over = subst (λ m. IsOver (page_blob.ghosts the_row seal.ghosts seal.dict) (λ f. record { page_size = f.pages.page_size; capacity = f.write_buffer }) (Unit {0}) m (memory_opened c.args._dev.now) (disk (memory_time c.args._dev.now)))
+  over = subst (λ m. IsOver (page_blob.ghosts the_row seal.ghosts seal.dict) (λ f. record { page_size = f.pages.page_size; capacity = f.write_buffer; cache_pages = f.pages.cache_pages }) (Unit {0}) m (memory_opened c.args._dev.now) (disk (memory_time c.args._dev.now)))
       (sym c.in_ok-journal.ensures.sections) c.requires.over;
   owes_held = c.in_ok-journal.ensures.held c.requires.walk;
   owes_settled = c.in_ok-journal.ensures.settled c.requires.walk;

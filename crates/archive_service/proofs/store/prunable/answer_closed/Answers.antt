@@ -16,7 +16,7 @@ returns-in-Reopen g c =
     answers_to _ g.D.Device (Closed c.args.floor) _ _ _ _ _ (ap (asked g.K.Key.key_bytes g.V.Codec.spelling) c.in-Reopen.is)
     (answers_with _ g.D.Device (Closed c.args.floor) _ _ _ _ _ (seen_so (λ r. (r.0, replied g.V.Codec.spelling r.1)) (λ r. (Open r, Done)) c.init.result c.done.result c.done.ensures)
     (closed_reopens _ (setup_for g.K.Key.SIZE g.S.Seal g.V.Codec g.T.Translator.word_of g.T.Word.PartialEq.eq c.args.cfg.now) (IsValid c.args.cfg.now) g.D.Device c.args.dev.now c.init.new.dev
-    (omega arith) (λ t q. g.met.D.Device.opened_stands t c.init.new.dev q) (λ t q. g.met.D.Device.as_read t c.args.dev.now q) c.init.result c.init.ensures c.args.floor))
+    (omega arith) (λ t q. g.met.D.Device.as_read t c.args.dev.now q) c.init.result c.init.ensures c.args.floor))
 
 -- nothing else is done: it is none of the others
 pub returns-in-Put : goal.returns-in-Put

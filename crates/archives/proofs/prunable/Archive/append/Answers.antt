@@ -215,7 +215,6 @@ returns-in_err-pair g c times free =
       too_large = c.in_err-pair.ensures.too_large;
       full = c.in_err-pair.ensures.full;
       refused = c.in_err-pair.ensures.refused;
-      no_room = c.in_err-pair.ensures.no_room;
     }))
     (moments_of g (goal.at.returns-in_err-pair g c).After-append times free)
     (touches_here _ g.D.Device times c.args.self c.args.index key v sec c.section_of-section.ensures c.args.dev.now c.append.new.dev (record {

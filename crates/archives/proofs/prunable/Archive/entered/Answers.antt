@@ -30,7 +30,7 @@ use Rattle.archives.proofs.prunable.Archive.entered.Goals.{After-next, In_ok-sec
 
 -- ---- what the call of the replay says, and what follows of it
 
-says : (g : given.Over) (c : After-next g) → Clauses (λ bytes _. size_refusal (g.K.Key.SIZE + 20) bytes) g.D.Device.Tells (run_of (place_of g.K.Key.SIZE) c.loop-given.replay) (run_of (place_of g.K.Key.SIZE) c.next.new.self) (g.D.Device.time c.loop-given.dev) (g.D.Device.time c.next.new.dev) {V = IndexRecord g.row.K.Denot} (page_blob.ghosts g.row.S g.S.Seal g.S.Seal-dict) page_setting (λ f. record { page_size = 1; capacity = f.capacity }) (spelling_of g.K.Key.key_bytes) (λ r _. IsInRange r)
+says : (g : given.Over) (c : After-next g) → Clauses (λ bytes _. size_refusal (g.K.Key.SIZE + 20) bytes) g.D.Device.Tells (run_of (place_of g.K.Key.SIZE) c.loop-given.replay) (run_of (place_of g.K.Key.SIZE) c.next.new.self) (g.D.Device.time c.loop-given.dev) (g.D.Device.time c.next.new.dev) {V = IndexRecord g.row.K.Denot} (page_blob.ghosts g.row.S g.S.Seal g.S.Seal-dict) page_setting (λ f. record { page_size = 1; capacity = f.capacity; cache_pages = 0 }) (spelling_of g.K.Key.key_bytes) (λ r _. IsInRange r)
     c.next.result (g.D.Device.opened c.loop-given.dev) (g.D.Device.opened c.next.new.dev) (g.D.Device.faults c.loop-given.dev) (g.D.Device.faults c.next.new.dev)
 says g c = record {
   over = c.next.ensures.over;
@@ -61,14 +61,14 @@ says g c = record {
 laid : (g : given.Over) (c : After-next g) → (run_of (place_of g.K.Key.SIZE) c.loop-given.replay).layout ≡ (run_of (place_of g.K.Key.SIZE) c.args.replay.now).layout
 laid g c = run_layout (place_of g.K.Key.SIZE) c.args.replay.now c.loop-given.replay c.loop-given.invariant.passed.same
 
-passed : (g : given.Over) (c : After-next g) → Passed (page_blob.ghosts g.row.S g.S.Seal g.S.Seal-dict) page_setting (λ f. record { page_size = 1; capacity = f.capacity }) g.D.Device.Tells (run_of (place_of g.K.Key.SIZE) c.args.replay.now) (g.D.Device.time c.args.dev.now) (g.D.Device.opened c.args.dev.now) (run_of (place_of g.K.Key.SIZE) c.next.new.self) (g.D.Device.time c.next.new.dev) (g.D.Device.opened c.next.new.dev)
-passed g c = passed_on (page_blob.ghosts g.row.S g.S.Seal g.S.Seal-dict) page_setting (λ f. record { page_size = 1; capacity = f.capacity }) g.D.Device.Tells (λ bytes _. size_refusal (g.K.Key.SIZE + 20) bytes) (spelling_of g.K.Key.key_bytes) (λ r _. IsInRange r) (run_of (place_of g.K.Key.SIZE) c.args.replay.now) (g.D.Device.time c.args.dev.now) (g.D.Device.opened c.args.dev.now) c.requires.may.tracked
+passed : (g : given.Over) (c : After-next g) → Passed (page_blob.ghosts g.row.S g.S.Seal g.S.Seal-dict) page_setting (λ f. record { page_size = 1; capacity = f.capacity; cache_pages = 0 }) g.D.Device.Tells (run_of (place_of g.K.Key.SIZE) c.args.replay.now) (g.D.Device.time c.args.dev.now) (g.D.Device.opened c.args.dev.now) (run_of (place_of g.K.Key.SIZE) c.next.new.self) (g.D.Device.time c.next.new.dev) (g.D.Device.opened c.next.new.dev)
+passed g c = passed_on (page_blob.ghosts g.row.S g.S.Seal g.S.Seal-dict) page_setting (λ f. record { page_size = 1; capacity = f.capacity; cache_pages = 0 }) g.D.Device.Tells (λ bytes _. size_refusal (g.K.Key.SIZE + 20) bytes) (spelling_of g.K.Key.key_bytes) (λ r _. IsInRange r) (run_of (place_of g.K.Key.SIZE) c.args.replay.now) (g.D.Device.time c.args.dev.now) (g.D.Device.opened c.args.dev.now) c.requires.may.tracked
     (run_of (place_of g.K.Key.SIZE) c.loop-given.replay) (g.D.Device.time c.loop-given.dev) (g.D.Device.opened c.loop-given.dev) c.loop-given.invariant.passed c.loop-given.invariant.going (run_of (place_of g.K.Key.SIZE) c.next.new.self) (g.D.Device.time c.next.new.dev) (g.D.Device.opened c.next.new.dev)
     (g.D.Device.faults c.loop-given.dev) (g.D.Device.faults c.next.new.dev) c.next.result (says g c) (laid g c)
 
 -- where it has not failed
 going : (g : given.Over) (c : After-next g) → (HasFailed (run_of (place_of g.K.Key.SIZE) c.next.new.self) → ⊥) → Going g.D.Device.Tells (run_of (place_of g.K.Key.SIZE) c.args.replay.now) (g.D.Device.time c.args.dev.now) (run_of (place_of g.K.Key.SIZE) c.next.new.self) (g.D.Device.time c.next.new.dev)
-going g c unfailed = going_on (page_blob.ghosts g.row.S g.S.Seal g.S.Seal-dict) page_setting (λ f. record { page_size = 1; capacity = f.capacity }) g.D.Device.Tells (λ bytes _. size_refusal (g.K.Key.SIZE + 20) bytes) (spelling_of g.K.Key.key_bytes) (λ r _. IsInRange r) (run_of (place_of g.K.Key.SIZE) c.args.replay.now) (g.D.Device.time c.args.dev.now) (g.D.Device.opened c.args.dev.now) c.requires.may.tracked
+going g c unfailed = going_on (page_blob.ghosts g.row.S g.S.Seal g.S.Seal-dict) page_setting (λ f. record { page_size = 1; capacity = f.capacity; cache_pages = 0 }) g.D.Device.Tells (λ bytes _. size_refusal (g.K.Key.SIZE + 20) bytes) (spelling_of g.K.Key.key_bytes) (λ r _. IsInRange r) (run_of (place_of g.K.Key.SIZE) c.args.replay.now) (g.D.Device.time c.args.dev.now) (g.D.Device.opened c.args.dev.now) c.requires.may.tracked
     (run_of (place_of g.K.Key.SIZE) c.loop-given.replay) (g.D.Device.time c.loop-given.dev) (g.D.Device.opened c.loop-given.dev) c.loop-given.invariant.passed c.loop-given.invariant.going (run_of (place_of g.K.Key.SIZE) c.next.new.self) (g.D.Device.time c.next.new.dev) (g.D.Device.opened c.next.new.dev)
     (g.D.Device.faults c.loop-given.dev) (g.D.Device.faults c.next.new.dev) c.next.result (says g c) (laid g c) unfailed
 
@@ -90,7 +90,7 @@ pub loop-given-init : goal.loop-given-init
 loop-given-init g c =
     let none = bare_shown g.K.Key.key_bytes (tables.rows_of c.new-tables.result) c.new-tables.ensures.none in
     record {
-      passed = passed_start (page_blob.ghosts g.row.S g.S.Seal g.S.Seal-dict) page_setting (λ f. record { page_size = 1; capacity = f.capacity }) g.D.Device.Tells (run_of (place_of g.K.Key.SIZE) c.args.replay.now) (g.D.Device.time c.args.dev.now) (g.D.Device.opened c.args.dev.now) c.requires.may.over;
+      passed = passed_start (page_blob.ghosts g.row.S g.S.Seal g.S.Seal-dict) page_setting (λ f. record { page_size = 1; capacity = f.capacity; cache_pages = 0 }) g.D.Device.Tells (run_of (place_of g.K.Key.SIZE) c.args.replay.now) (g.D.Device.time c.args.dev.now) (g.D.Device.opened c.args.dev.now) c.requires.may.over;
       going = going_start g.D.Device.Tells (run_of (place_of g.K.Key.SIZE) c.args.replay.now) (g.D.Device.time c.args.dev.now) c.requires.may.going;
       entered = λ t. entered_start g.K.Key.SIZE (rows_of g.K.Key.key_bytes c.new-tables.result) (run_of (place_of g.K.Key.SIZE) c.args.replay.now) (disk (g.D.Device.time c.args.dev.now)) none (c.requires.may.due t);
       spelled = λ t s. subst (λ (rs : List Row). AllByRecursion (IsSpelled g.K.Key.SIZE) (take (length rs) (records_given (run_of (place_of g.K.Key.SIZE) c.args.replay.now) (disk (g.D.Device.time c.args.dev.now)) s))) (sym (none s)) tt;
@@ -138,9 +138,9 @@ returns-in_err-section g c =
       moments = (passed g n).moves.moments;
       untouched = (passed g n).moves.untouched;
       entries = (passed g n).moves.entries;
-      reads = reads_end (page_blob.ghosts g.row.S g.S.Seal g.S.Seal-dict) page_setting (λ f. record { page_size = 1; capacity = f.capacity }) g.D.Device.Tells (run_of (place_of g.K.Key.SIZE) c.args.replay.now) (g.D.Device.time c.args.dev.now) (g.D.Device.opened c.args.dev.now) (run_of (place_of g.K.Key.SIZE) c.next.new.self) (g.D.Device.time c.next.new.dev) (g.D.Device.opened c.next.new.dev) (passed g n);
+      reads = reads_end (page_blob.ghosts g.row.S g.S.Seal g.S.Seal-dict) page_setting (λ f. record { page_size = 1; capacity = f.capacity; cache_pages = 0 }) g.D.Device.Tells (run_of (place_of g.K.Key.SIZE) c.args.replay.now) (g.D.Device.time c.args.dev.now) (g.D.Device.opened c.args.dev.now) (run_of (place_of g.K.Key.SIZE) c.next.new.self) (g.D.Device.time c.next.new.dev) (g.D.Device.opened c.next.new.dev) (passed g n);
       faults = omega (arith, c.loop-given.invariant.faults, c.next.ensures.faults);
-    }) _ _ _ (raised c.in_err-section.field-0.0) back (answer (page_blob.ghosts g.row.S g.S.Seal g.S.Seal-dict) page_setting (λ f. record { page_size = 1; capacity = f.capacity }) g.D.Device.Tells (λ bytes _. size_refusal (g.K.Key.SIZE + 20) bytes) (spelling_of g.K.Key.key_bytes) (λ r _. IsInRange r) (run_of (place_of g.K.Key.SIZE) c.args.replay.now) (g.D.Device.time c.args.dev.now) (g.D.Device.opened c.args.dev.now) c.requires.may.tracked (run_of (place_of g.K.Key.SIZE) c.loop-given.replay) (g.D.Device.time c.loop-given.dev) (g.D.Device.opened c.loop-given.dev) c.loop-given.invariant.passed c.loop-given.invariant.going (run_of (place_of g.K.Key.SIZE) c.next.new.self) (g.D.Device.time c.next.new.dev) (g.D.Device.opened c.next.new.dev) (g.D.Device.faults c.args.dev.now) (g.D.Device.faults c.loop-given.dev) (g.D.Device.faults c.next.new.dev) c.loop-given.invariant.faults
+    }) _ _ _ (raised c.in_err-section.field-0.0) back (answer (page_blob.ghosts g.row.S g.S.Seal g.S.Seal-dict) page_setting (λ f. record { page_size = 1; capacity = f.capacity; cache_pages = 0 }) g.D.Device.Tells (λ bytes _. size_refusal (g.K.Key.SIZE + 20) bytes) (spelling_of g.K.Key.key_bytes) (λ r _. IsInRange r) (run_of (place_of g.K.Key.SIZE) c.args.replay.now) (g.D.Device.time c.args.dev.now) (g.D.Device.opened c.args.dev.now) c.requires.may.tracked (run_of (place_of g.K.Key.SIZE) c.loop-given.replay) (g.D.Device.time c.loop-given.dev) (g.D.Device.opened c.loop-given.dev) c.loop-given.invariant.passed c.loop-given.invariant.going (run_of (place_of g.K.Key.SIZE) c.next.new.self) (g.D.Device.time c.next.new.dev) (g.D.Device.opened c.next.new.dev) (g.D.Device.faults c.args.dev.now) (g.D.Device.faults c.loop-given.dev) (g.D.Device.faults c.next.new.dev) c.loop-given.invariant.faults
     c.next.result c.in_err-section.field-0.0 gave (says g n) (laid g n) (run_layout (place_of g.K.Key.SIZE) c.loop-given.replay c.next.new.self c.next.ensures.same) (λ r long. whole_kept (g.K.Key.SIZE + 20) r long)
     (are_pages g.row.S g.S.Seal g.S.Seal-dict) (here_run (place_of g.K.Key.SIZE) c.loop-given.replay (index_record_at_least g.K.Key.SIZE)) (here_run (place_of g.K.Key.SIZE) c.next.new.self (index_record_at_least g.K.Key.SIZE)) c.from_residual.result back)
 
@@ -158,7 +158,7 @@ returns-in_err-enter g c =
       moments = (passed g n).moves.moments;
       untouched = (passed g n).moves.untouched;
       entries = (passed g n).moves.entries;
-      reads = reads_end (page_blob.ghosts g.row.S g.S.Seal g.S.Seal-dict) page_setting (λ f. record { page_size = 1; capacity = f.capacity }) g.D.Device.Tells (run_of (place_of g.K.Key.SIZE) c.args.replay.now) (g.D.Device.time c.args.dev.now) (g.D.Device.opened c.args.dev.now) (run_of (place_of g.K.Key.SIZE) c.next.new.self) (g.D.Device.time c.next.new.dev) (g.D.Device.opened c.next.new.dev) (passed g n);
+      reads = reads_end (page_blob.ghosts g.row.S g.S.Seal g.S.Seal-dict) page_setting (λ f. record { page_size = 1; capacity = f.capacity; cache_pages = 0 }) g.D.Device.Tells (run_of (place_of g.K.Key.SIZE) c.args.replay.now) (g.D.Device.time c.args.dev.now) (g.D.Device.opened c.args.dev.now) (run_of (place_of g.K.Key.SIZE) c.next.new.self) (g.D.Device.time c.next.new.dev) (g.D.Device.opened c.next.new.dev) (passed g n);
       faults = omega (arith, c.loop-given.invariant.faults, c.next.ensures.faults);
     }) _ _ _ c.in_err-enter.field-0.0 (err_of _ c.in_err-enter.field-0.0 c.from_residual-in_err-enter.ensures.1) _ _
     (entry_is g.K.Key.key_bytes g.T.Word.PartialEq.eq (g.T.Translator.word_of c.args.cfg.now.translator) c.args.cfg.now.items_per_section c.args.cfg.now.limits c.loop-given.tables c.in_ok-section.section (record { index = c.in_ok-section.record.index; key = g.K.Key.key_bytes c.in_ok-section.record.key }) c.in_err-enter.field-0.0 c.in_err-enter.ensures)
@@ -197,11 +197,11 @@ returns g c =
       moments = (passed g n).moves.moments;
       untouched = (passed g n).moves.untouched;
       entries = (passed g n).moves.entries;
-      reads = reads_end (page_blob.ghosts g.row.S g.S.Seal g.S.Seal-dict) page_setting (λ f. record { page_size = 1; capacity = f.capacity }) g.D.Device.Tells (run_of (place_of g.K.Key.SIZE) c.args.replay.now) (g.D.Device.time c.args.dev.now) (g.D.Device.opened c.args.dev.now) (run_of (place_of g.K.Key.SIZE) c.next.new.self) (g.D.Device.time c.next.new.dev) (g.D.Device.opened c.next.new.dev) (passed g n);
+      reads = reads_end (page_blob.ghosts g.row.S g.S.Seal g.S.Seal-dict) page_setting (λ f. record { page_size = 1; capacity = f.capacity; cache_pages = 0 }) g.D.Device.Tells (run_of (place_of g.K.Key.SIZE) c.args.replay.now) (g.D.Device.time c.args.dev.now) (g.D.Device.opened c.args.dev.now) (run_of (place_of g.K.Key.SIZE) c.next.new.self) (g.D.Device.time c.next.new.dev) (g.D.Device.opened c.next.new.dev) (passed g n);
       faults = omega (arith, c.loop-given.invariant.faults, c.next.ensures.faults);
     }) _ _ c.loop-given.tables (record {
       going = went.going;
-      drained = drained_on (page_blob.ghosts g.row.S g.S.Seal g.S.Seal-dict) page_setting (λ f. record { page_size = 1; capacity = f.capacity }) g.D.Device.Tells (λ bytes _. size_refusal (g.K.Key.SIZE + 20) bytes) (spelling_of g.K.Key.key_bytes) (λ r _. IsInRange r) (run_of (place_of g.K.Key.SIZE) c.args.replay.now) (g.D.Device.time c.args.dev.now) (g.D.Device.opened c.args.dev.now) c.requires.may.tracked (run_of (place_of g.K.Key.SIZE) c.loop-given.replay) (g.D.Device.time c.loop-given.dev) (g.D.Device.opened c.loop-given.dev) c.loop-given.invariant.passed c.loop-given.invariant.going (run_of (place_of g.K.Key.SIZE) c.next.new.self) (g.D.Device.time c.next.new.dev) (g.D.Device.opened c.next.new.dev) (g.D.Device.faults c.loop-given.dev) (g.D.Device.faults c.next.new.dev) c.next.result (says g n) (laid g n)
+      drained = drained_on (page_blob.ghosts g.row.S g.S.Seal g.S.Seal-dict) page_setting (λ f. record { page_size = 1; capacity = f.capacity; cache_pages = 0 }) g.D.Device.Tells (λ bytes _. size_refusal (g.K.Key.SIZE + 20) bytes) (spelling_of g.K.Key.key_bytes) (λ r _. IsInRange r) (run_of (place_of g.K.Key.SIZE) c.args.replay.now) (g.D.Device.time c.args.dev.now) (g.D.Device.opened c.args.dev.now) c.requires.may.tracked (run_of (place_of g.K.Key.SIZE) c.loop-given.replay) (g.D.Device.time c.loop-given.dev) (g.D.Device.opened c.loop-given.dev) c.loop-given.invariant.passed c.loop-given.invariant.going (run_of (place_of g.K.Key.SIZE) c.next.new.self) (g.D.Device.time c.next.new.dev) (g.D.Device.opened c.next.new.dev) (g.D.Device.faults c.loop-given.dev) (g.D.Device.faults c.next.new.dev) c.next.result (says g n) (laid g n)
           (c.next.ensures.whole c.in_default.is c.loop-given.invariant.going.going) c.in_default.is;
       within = c.loop-given.invariant.within;
       tied = c.loop-given.invariant.tied;

@@ -16,7 +16,7 @@ use Rattle.archives.proofs.prunable.Archive.entered.Given as goal
 -- What the walk leaves so far, without an error; and of each section the first records that it gives are entered.
 abbrev pub invariant-loop-given : goal.invariant-loop-given
 invariant-loop-given g l = record {
-  passed : Passed (page_blob.ghosts g.row.S g.S.Seal g.S.Seal-dict) page_setting (λ f. record { page_size = 1; capacity = f.capacity }) g.D.Device.Tells
+  passed : Passed (page_blob.ghosts g.row.S g.S.Seal g.S.Seal-dict) page_setting (λ f. record { page_size = 1; capacity = f.capacity; cache_pages = 0 }) g.D.Device.Tells
       (run_of (place_of g.K.Key.SIZE) l.initial.replay) (g.D.Device.time l.initial.dev) (g.D.Device.opened l.initial.dev) (run_of (place_of g.K.Key.SIZE) l.replay) (g.D.Device.time l.dev) (g.D.Device.opened l.dev);
   going : Going g.D.Device.Tells (run_of (place_of g.K.Key.SIZE) l.initial.replay) (g.D.Device.time l.initial.dev) (run_of (place_of g.K.Key.SIZE) l.replay) (g.D.Device.time l.dev);
   entered : g.D.Device.Tells → HasEntered g.K.Key.SIZE (rows_of g.K.Key.key_bytes l.tables) (run_of (place_of g.K.Key.SIZE) l.replay) (disk (g.D.Device.time l.dev));

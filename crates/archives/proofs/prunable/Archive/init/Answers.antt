@@ -7,7 +7,7 @@ use Rattle.blob_device.specs.declared.runtime.RError.TheVariants.{InvalidChecksu
 use Rattle.blob_device.proofs.Results.{err_of}
 use Rattle.meta_store.specs.Opening.{PairOn}
 use Rattle.meta_store.specs.declared.error.Error.TheVariants as store
-use Rattle.section_manager.specs.Refusing.{IsForeign, IsOpenedTooLong}
+use Rattle.section_manager.specs.Refusing.{IsForeign}
 use Rattle.section_manager.specs.Sections.{section_key}
 use Rattle.section_manager.specs.declared.journal.Error.TheVariants as section
 use Rattle.std.specs.BTreeSet as set
@@ -27,7 +27,7 @@ use Rattle.paired.specs.PairShown as pair
 use Rattle.paired.proofs.pair.Reads.{leaves_now}
 use Rattle.paired.proofs.pair.Synced.{here_of}
 use Rattle.paired.proofs.reconcile.Entries.{drained_from, markers_readable, run_here}
-use Rattle.paired.specs.OpeningRefusing.{AreCounted, IsLost}
+use Rattle.paired.specs.OpeningRefusing.{IsLost}
 use Rattle.paired.specs.ReplayShown.{layout_for, run_of}
 use Rattle.ordinal_store.specs.Ranges.{set_of}
 use Rattle.archives.specs.Archives.{Archive, filing_of, state_of}
@@ -40,7 +40,7 @@ use Rattle.archives.specs.Raised.{raised}
 use Rattle.archives.specs.Rows.{AreTables, row_in, rows_of}
 use Rattle.archives.specs.Standing.{IsStart, StandsFor}
 use Rattle.archives.specs.Shown.{filing_for, setup_for}
-use Rattle.archives.proofs.init.Errors.{end_stops, gives_up_on, handed, journal_back, no_refusal, after_replay, end_full, end_no_copy, end_no_name, end_no_room, end_no_start, metadata_back, never, no_room_given_up, no_stray_back, pair_no_full, pair_no_page, pair_no_start, pair_stops}
+use Rattle.archives.proofs.init.Errors.{end_stops, gives_up_on, handed, journal_back, no_refusal, after_replay, end_full, end_no_copy, end_no_name, end_no_start, metadata_back, never, no_stray_back, pair_no_full, pair_no_page, pair_no_start, pair_stops}
 use Rattle.archives.proofs.put.Sync.{same_filing}
 use Rattle.archives.proofs.sync.Stored.{no_record_tail, no_value_tail, values_stored}
 use Rattle.archives.proofs.sync.Lemmas.{none_in}
@@ -170,15 +170,11 @@ returns-in_err-replay g c =
       stray = λ has. no_stray_back r ⊤ x is has;
       full = λ has. absurd (pair_no_full r _ x is fa fb says.cause has);
     })
-    (λ room. subst (λ y. (s : ℕ) × IsOpenedTooLong (λ n. 2 ^ 64 ≤ n + (y.page_size + 12)) (g.D.Device.opened c.init_with_metadata.new.dev) (section_key y.index s)) named
-    (says.overflow (journal_back r _ x is (section.Runtime OffsetOverflow) room)))
     (λ t side has. elim (says.corrupt_copies t side (subst (λ y. PairOn y.markers y.metadata (disk a) (Err side)) (sym named) has)) [
       | inl corrupt ↦ inl (handed r _ x is (section.Metadata (store.Corruption side)) corrupt)
       | inr gave ↦ inr (gives_up_on r _ x is fa fb gave)
     ])
     (λ t k has. absurd (pair_no_page r _ x is fa fb says.cause k has))
-    (λ t markers lawful counted room. no_room_given_up r fa fb (gives_up_on r _ x is fa fb (says.complete t markers (subst (λ y. IsLawful y (as_read (disk a)) markers) (sym named) lawful.pair)
-    (λ s small. all_whole (g.K.Key.SIZE + 20) _) (subst (λ y. AreCounted y (as_read (disk a))) (sym named) counted))) room)
     refl (markers_readable g.S.Seal) c.requires.valid.pages (omega arith)
 
 pub returns-in_err-tables : goal.returns-in_err-tables
@@ -243,10 +239,8 @@ returns-in_err-finish_tracked g c =
             to_move here since t (drained_given walked (g.D.Device.opened c.entered.new.dev) d drained t) moves.0 small moves.1,
           );
     })
-    (λ room. never (end_no_room r _ x is fe fz why room))
     (λ t side has. absurd (here.copies t side has))
     (λ t k has. absurd (says.damaged t (k, journal_back r _ x is (section.Runtime (InvalidChecksum k)) has)))
-    (λ t markers lawful counted room. end_no_room r _ x is fe fz why room)
     refl (markers_readable g.S.Seal) c.requires.valid.pages (omega arith)
 
 pub returns : goal.returns

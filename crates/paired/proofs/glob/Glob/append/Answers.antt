@@ -47,7 +47,7 @@ returns-clause-tail g c =
     (ap length (c.as_slice.ensures.value ∙ c.in_ok-frame.ensures.frame) ∙ length-frame g.S.Seal.seal_of (g.V.Codec.spelling c.args.value.now) ∙ sym c.in_ok-size.ensures.size) left
 
 abbrev setting_at : ℕ → Setting
-setting_at capacity = record { page_size = 1; capacity = capacity }
+setting_at capacity = record { page_size = 1; capacity = capacity; cache_pages = 0 }
 
 pub returns-in_err-size-clause-moments : goal.returns-in_err-size-clause-moments
 returns-in_err-size-clause-moments g c t u held =

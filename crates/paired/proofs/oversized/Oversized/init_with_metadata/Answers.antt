@@ -6,7 +6,6 @@ use Rattle.std.specs.Ordering.{nat_cmp}
 use Rattle.blob_device.specs.Disk.{Key, Blob, reads}
 use Rattle.blob_device.specs.Opened.{reads_of}
 use Rattle.blob_device.specs.Timeline.{disk, Always}
-use Rattle.blob_device.specs.declared.runtime.RError.TheVariants.{OffsetOverflow}
 use Rattle.blob_device.proofs.Moments.{always_now}
 use Rattle.blob_device.proofs.Results.{err_of, err_with, ok_with, on_err}
 use Rattle.sealed_pages.specs.declared.page_blob.PageBlob.{PageBlob}
@@ -40,11 +39,11 @@ use Rattle.paired.proofs.BoundaryLemmas.{opened_size}
 use Rattle.paired.proofs.CallLemmas.{held_some}
 use Rattle.paired.proofs.OpenParts.{named_key}
 use Rattle.paired.proofs.opening.Start.{lawful_alike, read_alike, stored_alike}
-use Rattle.paired.proofs.opening.StartCauses.{PartsRefuse, StopsEarly, corrupt_back, corrupt_on, early_cause, early_has_cause, early_room, error_back, markers_gave_up, markers_refuse, memory_raised, never, never_cause, no_corruption, no_refusal, parts_cause, parts_corrupt, parts_give_up, parts_refuse}
+use Rattle.paired.proofs.opening.StartCauses.{PartsRefuse, StopsEarly, corrupt_back, corrupt_on, early_cause, early_has_cause, error_back, markers_gave_up, markers_refuse, memory_raised, never, never_cause, no_corruption, no_refusal, parts_cause, parts_corrupt, parts_give_up, parts_refuse}
 use Rattle.meta_store.proofs.Reopening.{IsPromised}
 use Rattle.paired.proofs.opening.StartFound.{PartsOpened, at_ok, by_ok, found_of, glob_as, opening_run, parts_as}
 use Rattle.paired.proofs.opening.StartMoments.{always_recalls, both_open, copies_stay, copy_entries, first_opens, index_apart, index_stays, lawful_named, named_after, named_before, opened_over, opens_content, own_entries, stands_over, stays_open, value_entry, values_apart, values_stay}
-use Rattle.paired.proofs.opening.StartRefusals.{no_loss, no_overflow, no_unreadable}
+use Rattle.paired.proofs.opening.StartRefusals.{no_loss, no_unreadable}
 use Rattle.paired.proofs.opening.StartRun.{ends_as, lost_as, unreadable_as}
 use Rattle.paired.proofs.pair.Synced.{layout_as}
 use Rattle.paired.proofs.oversized.Oversized.init_with_metadata.Goals as goal
@@ -228,18 +227,8 @@ returns-in_err-tracking-clause-corrupt_copies g c t side has =
       | inr gave ↦ inr (markers_gave_up r x is fa fb gave)
     ]
 
-pub returns-in_err-tracking-clause-overflow : goal.returns-in_err-tracking-clause-overflow
-returns-in_err-tracking-clause-overflow g c room =
-    let fa = g.D.Device.faults c.args.dev.now in
-    let fb = g.D.Device.faults c.init.new.dev in
-    let r = c.from_residual.result in
-    let x = c.in_err-tracking.field-0.0 in
-    let is = err_of r (raised_metadata x) c.from_residual.ensures.1 in
-    let why = markers_refuse r x is fa fb c.in_err-tracking.ensures.cause in
-    absurd (early_room r fa fb why room)
-
 pub returns-in_err-tracking-clause-complete : goal.returns-in_err-tracking-clause-complete
-returns-in_err-tracking-clause-complete g c t markers lawful spelled counted =
+returns-in_err-tracking-clause-complete g c t markers lawful spelled =
     let fa = g.D.Device.faults c.args.dev.now in
     let fb = g.D.Device.faults c.init.new.dev in
     let r = c.from_residual.result in
@@ -280,18 +269,8 @@ returns-in_err-floors-clause-corrupt_copies g c t side has =
     let why : StopsEarly r fa fb = inr (inl (inl (is ∙ memory_raised x c.in_err-floors.ensures.cause))) in
     inr (inl (inl (is ∙ memory_raised x c.in_err-floors.ensures.cause)))
 
-pub returns-in_err-floors-clause-overflow : goal.returns-in_err-floors-clause-overflow
-returns-in_err-floors-clause-overflow g c room =
-    let fa = g.D.Device.faults c.args.dev.now in
-    let fb = g.D.Device.faults c.init.new.dev in
-    let r = c.from_residual-in_err-floors.result in
-    let x = c.in_err-floors.field-0.0 in
-    let is = err_of r (raised_metadata x) c.from_residual-in_err-floors.ensures.1 in
-    let why : StopsEarly r fa fb = inr (inl (inl (is ∙ memory_raised x c.in_err-floors.ensures.cause))) in
-    absurd (early_room r fa fb why room)
-
 pub returns-in_err-floors-clause-complete : goal.returns-in_err-floors-clause-complete
-returns-in_err-floors-clause-complete g c t markers lawful spelled counted =
+returns-in_err-floors-clause-complete g c t markers lawful spelled =
     let fa = g.D.Device.faults c.args.dev.now in
     let fb = g.D.Device.faults c.init.new.dev in
     let r = c.from_residual-in_err-floors.result in
@@ -336,15 +315,8 @@ pub returns-in_err-index-clause-corrupt_copies : goal.returns-in_err-index-claus
 returns-in_err-index-clause-corrupt_copies g c t side has =
     absurd (no_refusal _ _ _ _ (c.in_ok-tracking.ensures.refused t side has))
 
-pub returns-in_err-index-clause-overflow : goal.returns-in_err-index-clause-overflow
-returns-in_err-index-clause-overflow g c room =
-    let r = c.from_residual-in_err-index.result in
-    let x = c.in_err-index.field-0.0 in
-    let is = err_of r x c.from_residual-in_err-index.ensures.1 in
-    c.in_err-index.ensures.overflow (error_back r x is (journal_error.Runtime OffsetOverflow) room)
-
 pub returns-in_err-index-clause-complete : goal.returns-in_err-index-clause-complete
-returns-in_err-index-clause-complete g c t markers lawful spelled counted =
+returns-in_err-index-clause-complete g c t markers lawful spelled =
     let l = layout_for g.I.Record.place g.I.CodecFixed.SIZE g.S.Seal c.args.cfg.now c.args.metadata_partition.now in
     let a = g.D.Device.time c.args.dev.now in
     let b = g.D.Device.time c.init.new.dev in
@@ -360,10 +332,8 @@ returns-in_err-index-clause-complete g c t markers lawful spelled counted =
     let why : PartsRefuse r fa fe = parts_refuse r x is fa fb fe c.init.ensures.faults c.in_err-index.ensures.cause in
     parts_give_up r fa fe why
     (λ n has. lawful_named l (disk a) markers lawful n (named_before l c.requires.apart (disk a) (disk b) opening n (c.in_err-index.ensures.named t n (error_back r x is (journal_error.InvalidBlobName n) has))))
-    (λ d has. no_loss l c.requires.valid g.met.I.CodecFixed.fixed.at_least (disk a) markers lawful counted d (lost_as l [] (λ s n. get nat_cmp c.in_ok-floors.floors s ≡ Some n) (IsMarked markers.entries) (λ s n is_n. subst (λ (m : Markers). IsMarked m.entries s n) (ap (λ (k : Chosen Key8 ℕ). k.contents) (c.in_ok-tracking.ensures.map t (lawful.held.copies refl).chosen (lawful.held.copies refl).reads) ∙ (lawful.held.copies refl).map) ((c.in_ok-floors.ensures.each s n).0 is_n)) (disk b) (disk a) (λ s. index_stays l c.requires.apart (disk a) (disk b) opening (to_be_bytes w64 s)) (λ s. values_stay l c.requires.apart (disk a) (disk b) opening (to_be_bytes w64 s)) d (c.in_err-index.ensures.damage t d (error_back r x is (journal_error.Corruption d) has))))
+    (λ d has. no_loss l c.requires.valid g.met.I.CodecFixed.fixed.at_least (disk a) markers lawful d (lost_as l [] (λ s n. get nat_cmp c.in_ok-floors.floors s ≡ Some n) (IsMarked markers.entries) (λ s n is_n. subst (λ (m : Markers). IsMarked m.entries s n) (ap (λ (k : Chosen Key8 ℕ). k.contents) (c.in_ok-tracking.ensures.map t (lawful.held.copies refl).chosen (lawful.held.copies refl).reads) ∙ (lawful.held.copies refl).map) ((c.in_ok-floors.ensures.each s n).0 is_n)) (disk b) (disk a) (λ s. index_stays l c.requires.apart (disk a) (disk b) opening (to_be_bytes w64 s)) (λ s. values_stay l c.requires.apart (disk a) (disk b) opening (to_be_bytes w64 s)) d (c.in_err-index.ensures.damage t d (error_back r x is (journal_error.Corruption d) has))))
     (λ y has. no_unreadable l c.requires.valid g.met.I.CodecFixed.fixed.at_least (disk a) markers lawful g.I.Codec.refusal spelled y (unreadable_as l [] (λ s n. get nat_cmp c.in_ok-floors.floors s ≡ Some n) (IsMarked markers.entries) (λ s n is_n. subst (λ (m : Markers). IsMarked m.entries s n) (ap (λ (k : Chosen Key8 ℕ). k.contents) (c.in_ok-tracking.ensures.map t (lawful.held.copies refl).chosen (lawful.held.copies refl).reads) ∙ (lawful.held.copies refl).map) ((c.in_ok-floors.ensures.each s n).0 is_n)) (disk b) (disk a) (λ s. index_stays l c.requires.apart (disk a) (disk b) opening (to_be_bytes w64 s)) (λ s. values_stay l c.requires.apart (disk a) (disk b) opening (to_be_bytes w64 s)) g.I.Codec.refusal y (c.in_err-index.ensures.refused t y (error_back r x is (journal_error.Codec y) has))))
-    (λ room. (let long = c.in_err-index.ensures.overflow (error_back r x is (journal_error.Runtime OffsetOverflow) room) in
-    no_overflow l c.requires.apart (disk a) (disk e) (always_now a e (OnlyOpens l (disk a)) opens) counted (g.D.Device.opened c.open_parts.new.dev) (g.met.D.Device.opened_stands t c.open_parts.new.dev) long.0 long.1))
 
 pub returns-in_err-index-clause-cause : goal.returns-in_err-index-clause-cause
 returns-in_err-index-clause-cause g c =
@@ -477,6 +447,15 @@ returns-clause-layout g c =
       metadata = ap (λ y. (tracking.shown y).store.partition) trk ∙ c.in_ok-tracking.ensures.partition;
       page_size = ap (λ (k : Lists (AppendFactory g.row.S.Denot) (PageBlob g.row.S.Denot g.S.Seal)). k.sections.factory.pages.page_size) same_j ∙ ap (λ (p : Pages). p.page_size) c.in_ok-index.ensures.pages;
     })
+
+pub returns-clause-pages : goal.returns-clause-pages
+returns-clause-pages g c =
+    let r = c.tracked.result in
+    by_ok r _ (λ x is.
+    let begins = at_ok r x _ is c.tracked.ensures.begins in
+    let R = run_of g.I.Record.place x in
+    let same_j : R.walk.journal ≡ journal.shown c.in_ok-index.index = begins.journal in
+    ap (λ (k : Lists (AppendFactory g.row.S.Denot) (PageBlob g.row.S.Denot g.S.Seal)). k.sections.factory.pages) same_j ∙ c.in_ok-index.ensures.pages)
 
 pub returns-clause-write_buffers : goal.returns-clause-write_buffers
 returns-clause-write_buffers g c =
@@ -593,13 +572,8 @@ returns-clause-foreign g c t name has =
     let opening : g.D.Device.Tells → Opening l.metadata (disk a) (disk b) = (λ t. always_now a b (Opening l.metadata (disk a)) (c.init.ensures.moments t)) in
     absurd (c.in_ok-index.ensures.foreign t name (named_after l c.requires.apart (disk a) (disk b) (opening t) name has))
 
-pub returns-clause-overflow : goal.returns-clause-overflow
-returns-clause-overflow g c room =
-    let r = c.tracked.result in
-    absurd (never r (journal_error.Runtime OffsetOverflow) c.tracked.ensures.cause room)
-
 pub returns-clause-complete : goal.returns-clause-complete
-returns-clause-complete g c t markers lawful spelled counted =
+returns-clause-complete g c t markers lawful spelled =
     let r = c.tracked.result in
     on_err r (λ none. absurd none) c.tracked.ensures.cause
 

@@ -6,7 +6,6 @@ use Rattle.std.specs.Ordering.{nat_cmp}
 use Rattle.blob_device.specs.Disk.{Key, Blob}
 use Rattle.blob_device.specs.Opened.{reads_of}
 use Rattle.blob_device.specs.Timeline.{disk, Always, Each}
-use Rattle.blob_device.specs.declared.runtime.RError.TheVariants.{OffsetOverflow}
 use Rattle.blob_device.proofs.Moments.{always_now}
 use Rattle.blob_device.proofs.Results.{err_of, err_with}
 use Rattle.sealed_pages.specs.declared.pages.Pages.{Pages}
@@ -17,7 +16,7 @@ use Rattle.section_manager.specs.declared.journal.Error.TheVariants as journal_e
 use Rattle.section_manager.specs.declared.sealed.AppendFactory.{AppendFactory}
 use Rattle.section_manager.specs.Lasting.{IsSettling}
 use Rattle.section_manager.specs.managing.Managed as managed
-use Rattle.section_manager.specs.Refusing.{IsForeign, IsOpenedTooLong}
+use Rattle.section_manager.specs.Refusing.{IsForeign}
 use Rattle.section_manager.specs.Sealed.{adopted_bytes, is_unsettled}
 use Rattle.section_manager.specs.Sections.{section_key, key_of, IsHeld}
 use Rattle.segments.specs.FixedFloors as floors
@@ -28,7 +27,7 @@ use Rattle.paired.specs.ReplayShown.{layout_for}
 use Rattle.paired.proofs.BoundaryLemmas.{boundary_as, cut_off, ends_within, opened_size}
 use Rattle.paired.proofs.opening.Lemmas.{both_first, both_second, both_still, settling_of, settling_others, values_first}
 use Rattle.paired.proofs.opening.StartCauses.{error_back, parts_refuse}
-use Rattle.paired.proofs.OpenParts.{floor_given, foreign_as, given, held_before, keys_apart, named_key, named_no_codec, named_no_damage, named_no_room, named_refuse, only_damage, refused_lost, unknown, unreadable_found}
+use Rattle.paired.proofs.OpenParts.{floor_given, foreign_as, given, held_before, keys_apart, named_key, named_no_codec, named_no_damage, named_refuse, only_damage, refused_lost, unknown, unreadable_found}
 use Rattle.paired.proofs.pair.Sections.{glob_kept}
 use Rattle.paired.proofs.pair.Stays.{journal_stays}
 use Rattle.paired.proofs.oversized.Oversized.open_parts.Goals as goal
@@ -363,19 +362,6 @@ returns-in_err-found-clause-named g c t n has =
     let is_i : string_bytes c.in_ok-index.field-0.partition ≡ i = c.in_ok-index.ensures.partition in
     inl (subst (λ (p : List ℕ). IsForeign (disk a) p n) is_i (c.in_err-found.ensures.named t n (error_back r y is (journal_error.InvalidBlobName n) has)))
 
-pub returns-in_err-found-clause-overflow : goal.returns-in_err-found-clause-overflow
-returns-in_err-found-clause-overflow g c room =
-    let r = c.from_residual-in_err-found.result in
-    let y = c.in_err-found.field-0.0 in
-    let is = err_of r y c.from_residual-in_err-found.ensures.1 in
-    let i : List ℕ = string_bytes c.args.cfg.now.index_partition in
-    let is_i : string_bytes c.in_ok-index.field-0.partition ≡ i = c.in_ok-index.ensures.partition in
-    (let w = c.in_err-found.ensures.overflow (error_back r y is (journal_error.Runtime OffsetOverflow) room) in (
-      w.0,
-      subst (λ (k : Key). IsOpenedTooLong (λ n. 2 ^ 64 ≤ n + (c.args.cfg.now.index_pages.page_size + 12)) (g.D.Device.opened c.preflight_floors.new.dev) k) (named_key (string_bytes c.in_ok-index.field-0.partition) i w.0 is_i)
-          (subst (λ (k : ℕ). IsOpenedTooLong (λ n. 2 ^ 64 ≤ n + (k + 12)) (g.D.Device.opened c.preflight_floors.new.dev) (section_key (string_bytes c.in_ok-index.field-0.partition) w.0)) (ap (λ (p : Pages). p.page_size) c.in_ok-index.ensures.pages) w.1),
-    ))
-
 pub returns-in_err-found-clause-cause : goal.returns-in_err-found-clause-cause
 returns-in_err-found-clause-cause g c =
     let r = c.from_residual-in_err-found.result in
@@ -417,15 +403,6 @@ returns-in_err-values-2-clause-named g c t n has =
     let first : Always a b (Each (IsSettling i (2 ^ 64 - 1) (disk a))) = settling_of (string_bytes c.in_ok-index.field-0.partition) i (2 ^ 64 - 1) (2 ^ 64 - 1) a b is_i refl (c.preflight_floors.ensures.moments t) in
     inr (foreign_as (disk b) (disk a) v n (ap (λ (x : Blob). x.there) (values_first (2 ^ 64 - 1) i v c.requires.apart a b first n))
     (subst (λ (p : List ℕ). IsForeign (disk b) p n) is_v (c.in_err-values-2.ensures.named t n (error_back r y is (journal_error.InvalidBlobName n) has))))
-
-pub returns-in_err-values-2-clause-overflow : goal.returns-in_err-values-2-clause-overflow
-returns-in_err-values-2-clause-overflow g c room =
-    let r = c.from_residual-in_err-values-2.result in
-    let y = c.in_err-values-2.field-0.0 in
-    let is = err_of r y c.from_residual-in_err-values-2.ensures.1 in
-    let fb = g.D.Device.faults c.preflight_floors.new.dev in
-    let fe = g.D.Device.faults c.init.new.dev in
-    absurd (named_no_room r y is fb fe c.in_err-values-2.ensures.cause room)
 
 pub returns-in_err-values-2-clause-cause : goal.returns-in_err-values-2-clause-cause
 returns-in_err-values-2-clause-cause g c =
@@ -477,13 +454,6 @@ returns-in_err-check_values-clause-named g c t n has =
     let is = err_of r y c.from_residual-in_err-check_values.ensures.1 in
     absurd (cc (is, c.in_err-check_values.ensures.cause.1, has))
 
-pub returns-in_err-check_values-clause-overflow : goal.returns-in_err-check_values-clause-overflow
-returns-in_err-check_values-clause-overflow g c room =
-    let r = c.from_residual-in_err-check_values.result in
-    let y = c.in_err-check_values.field-0.0 in
-    let is = err_of r y c.from_residual-in_err-check_values.ensures.1 in
-    absurd (cc (is, c.in_err-check_values.ensures.cause.1, room))
-
 pub returns-in_err-check_held-clause-damage : goal.returns-in_err-check_held-clause-damage
 returns-in_err-check_held-clause-damage g c t x has =
     let r = c.from_residual-in_err-check_held.result in
@@ -507,13 +477,6 @@ returns-in_err-check_held-clause-named g c t n has =
     let y = c.in_err-check_held.field-0.0 in
     let is = err_of r y c.from_residual-in_err-check_held.ensures.1 in
     absurd (only_damage r y is c.in_err-check_held.ensures.cause (journal_error.InvalidBlobName n) (λ z same. cc same) (λ same. cc same) has)
-
-pub returns-in_err-check_held-clause-overflow : goal.returns-in_err-check_held-clause-overflow
-returns-in_err-check_held-clause-overflow g c room =
-    let r = c.from_residual-in_err-check_held.result in
-    let y = c.in_err-check_held.field-0.0 in
-    let is = err_of r y c.from_residual-in_err-check_held.ensures.1 in
-    absurd (only_damage r y is c.in_err-check_held.ensures.cause (journal_error.Runtime OffsetOverflow) (λ z same. cc same) (λ same. cc same) room)
 
 pub returns-clause-foreign : goal.returns-clause-foreign
 returns-clause-foreign g c t name has =

@@ -84,7 +84,7 @@ loop-section-preserved g c =
       lowered = ok.lowered;
       floors = ok.floors;
     }) in
-    subst (λ (ks : List ℕ). RecordsCut j r (pages.ghosts g.row.S g.S.Seal g.S.Seal-dict) (λ f. record { page_size = f.pages.page_size; capacity = f.write_buffer }) seal size d.Tells d.time d.opened d.faults ends ks c.args.dev.now dev) (sym (numbers_push c.loop-section.yielded (c.in-Some.section, c.in-Some.count)))
+    subst (λ (ks : List ℕ). RecordsCut j r (pages.ghosts g.row.S g.S.Seal g.S.Seal-dict) (λ f. record { page_size = f.pages.page_size; capacity = f.write_buffer; cache_pages = f.pages.cache_pages }) seal size d.Tells d.time d.opened d.faults ends ks c.args.dev.now dev) (sym (numbers_push c.loop-section.yielded (c.in-Some.section, c.in-Some.count)))
     (cuts_more _ _ seal size d.Tells d.time d.opened d.faults laws ends j k (numbers_of c.loop-section.yielded) s n is_end c.args.dev.now c.loop-section.dev c.requires.over c.loop-section.invariant dev call r made)
 
 pub returns-in_err-index-clause-moments : goal.returns-in_err-index-clause-moments

@@ -38,7 +38,7 @@ loop-section-preserved g c =
       gone = ok.gone;
     } in
     record {
-      gone = subst (λ (ks : List ℕ). ValuesGone m r (λ f. record { page_size = 1; capacity = f.capacity }) d.Tells d.time d.opened d.faults (Contains xs) ks c.args.dev.now c.remove_section.new.dev) (sym (take_more xs i 0 c.loop-section-test.true))
+      gone = subst (λ (ks : List ℕ). ValuesGone m r (λ f. record { page_size = 1; capacity = f.capacity; cache_pages = 0 }) d.Tells d.time d.opened d.faults (Contains xs) ks c.args.dev.now c.remove_section.new.dev) (sym (take_more xs i 0 c.loop-section-test.true))
           (gone_more _ d.Tells d.time d.opened d.faults (Contains xs) m n (take i xs) (get_or xs i 0) (Contains-get_or xs i 0 c.loop-section-test.true) c.args.dev.now c.loop-section.dev c.requires.over c.loop-section.invariant.gone c.remove_section.new.dev call r made);
       codec = ok.codec_config ∙ c.loop-section.invariant.codec;
     }

@@ -11,6 +11,6 @@ use Rattle.paired.proofs.oversized.recovery.value_ends.Given as goal
 abbrev pub invariant-loop-section : goal.invariant-loop-section
 invariant-loop-section g l = record {
   found : EndsFound (shown l.index).sections g.I.Record.place g.I.CodecFixed.SIZE g.D.Device.Tells (disk (g.D.Device.time l.fn.dev)) (get nat_cmp l.ends) l.section-iterator;
-  over : IsJournal (page_blob.ghosts g.row.S g.S.Seal g.S.Seal-dict) (λ f. record { page_size = f.pages.page_size; capacity = f.write_buffer }) g.S.Seal.seal_of g.I.CodecFixed.SIZE g.D.Device.Tells (shown l.index) (g.D.Device.opened l.dev) (disk (g.D.Device.time l.dev));
+  over : IsJournal (page_blob.ghosts g.row.S g.S.Seal g.S.Seal-dict) (λ f. record { page_size = f.pages.page_size; capacity = f.write_buffer; cache_pages = f.pages.cache_pages }) g.S.Seal.seal_of g.I.CodecFixed.SIZE g.D.Device.Tells (shown l.index) (g.D.Device.opened l.dev) (disk (g.D.Device.time l.dev));
   looked : OnlyLooked g.D.Device.Tells g.D.Device.time g.D.Device.opened g.D.Device.faults (IsKeyOf (shown l.index).sections (IsHeld (shown l.index).sections)) l.fn.dev l.dev;
 }

@@ -6,8 +6,10 @@ use Rattle.sealed_pages.specs.Entries.{IsOpenAt}
 use Rattle.sealed_pages.proofs.Looking.{content_length}
 use Rattle.std.proofs.lemmas.List.{with_items_is}
 use Rattle.sealed_pages.specs.Found.{Finds}
-use Rattle.sealed_pages.proofs.Starting.{found_page, backed_of, size_is, adopted_is, tip_is, extent_pages, start_fits}
+use Rattle.sealed_pages.proofs.Starting.{found_page, backed_of, size_is, adopted_is, tip_is, starts_tip, extent_pages, start_fits}
 use Rattle.sealed_pages.proofs.Adopting.{adopted_state}
+use Rattle.sealed_pages.specs.Cached.{held_in}
+use Rattle.sealed_pages.proofs.MemoryLemmas.{none_cached, none_full}
 use Rattle.sealed_pages.proofs.Holding.{tip_stands, bytes_length}
 use Rattle.sealed_pages.proofs.UnrecoveredLemmas.{adopted_unrecovered}
 use Rattle.sealed_pages.specs.Unrecovered.{IsUnrecovered}
@@ -47,6 +49,8 @@ invariant_of-result g c =
       };
       inside = c.start_of-start.ensures.inside;
       order = omega (arith, ap (λ (n : ℕ). c.start_of-start.result.first * n) page);
+      full = none_full c.args.pages.page_size c.start_of-start.result.first (held_in c.new.result) c.new.ensures.empty;
+      few = omega (arith, ap length c.new.ensures.empty);
     }
 
 pub returns-clause-size : goal.returns-clause-size
@@ -62,6 +66,8 @@ returns-clause-size g c t =
       name = c.in_ok-name.name.items;
       page_size = c.args.pages.page_size;
       capacity = c.args.capacity;
+      cache_pages = c.new.result.most;
+      cache = held_in c.new.result;
       end = c.args.size;
       first = c.start_of-start.result.first;
       tip = c.in_ok-tip.tip.items;
@@ -92,6 +98,8 @@ returns-clause-backed g c t =
       name = c.in_ok-name.name.items;
       page_size = c.args.pages.page_size;
       capacity = c.args.capacity;
+      cache_pages = c.new.result.most;
+      cache = held_in c.new.result;
       end = c.args.size;
       first = c.start_of-start.result.first;
       tip = c.in_ok-tip.tip.items;
@@ -107,7 +115,11 @@ returns-clause-backed g c t =
     let over = c.start_of-start.ensures.starts (disk (g.D.Device.time c.args.dev.now) (c.args.partition.now, c.args.name.now)).content size finds in
     let backed = backed_of u (disk (g.D.Device.time c.args.dev.now) (c.args.partition.now, c.args.name.now)).content begun long
     (λ i lt. ap (λ (l : List ℕ). get_or l i 0) tip ∙ tip_is g.S.Seal.seal_of c.args.pages.page_size (disk (g.D.Device.time c.args.dev.now) (c.args.partition.now, c.args.name.now)).content c.in_ok-found.found c.as_slice-page.result.now c.start_of-start.result.first c.start_of-start.result.from c.start_of-start.result.newest c.start_of-start.result.behind c.start_of-start.result.torn finds over i lt) in
-    backed
+    record {
+      flushed = backed;
+      tip = starts_tip g.S.Seal.seal_of c.args.pages.page_size (disk (g.D.Device.time c.args.dev.now) (c.args.partition.now, c.args.name.now)).content c.in_ok-found.found c.start_of-start.result.first c.start_of-start.result.from c.start_of-start.result.newest c.start_of-start.result.behind c.start_of-start.result.torn over;
+      cache = none_cached g.S.Seal.seal_of c.args.pages.page_size (disk (g.D.Device.time c.args.dev.now) (c.args.partition.now, c.args.name.now)).content (held_in c.new.result) c.new.ensures.empty;
+    }
 
 pub returns-clause-sealed : goal.returns-clause-sealed
 returns-clause-sealed g c t is whole =
@@ -122,6 +134,8 @@ returns-clause-sealed g c t is whole =
       name = c.in_ok-name.name.items;
       page_size = c.args.pages.page_size;
       capacity = c.args.capacity;
+      cache_pages = c.new.result.most;
+      cache = held_in c.new.result;
       end = c.args.size;
       first = c.start_of-start.result.first;
       tip = c.in_ok-tip.tip.items;
@@ -144,9 +158,12 @@ returns-clause-sealed g c t is whole =
     let adopted = adopted_is g.S.Seal.seal_of c.args.pages.page_size (disk (g.D.Device.time c.args.dev.now) (c.args.partition.now, c.args.name.now)).content c.in_ok-found.found c.as_slice-page.result.now c.start_of-start.result.first c.start_of-start.result.from c.start_of-start.result.newest c.start_of-start.result.behind c.start_of-start.result.torn pos all begun finds over whole fits backed in
     let state = adopted_state g.S.Seal.seal_of c.args.pages.page_size pos all c.start_of-start.result.first c.start_of-start.result.from c.start_of-start.result.newest c.start_of-start.result.behind c.start_of-start.result.torn begun (settled_at (disk (g.D.Device.time c.args.dev.now) (c.args.partition.now, c.args.name.now)).content) adopted (c.start_of-start.result.first * c.from.result + c.start_of-start.result.from) settled in
     record {
-      state = subst (λ (b : Blob). State g.S.Seal.seal_of c.args.pages.page_size all c.start_of-start.result.first c.start_of-start.result.from (c.start_of-start.result.first * c.from.result + c.start_of-start.result.from) c.start_of-start.result.newest c.start_of-start.result.behind c.start_of-start.result.torn b) (sym is) state;
-      tip_at = tip_stands u (disk (g.D.Device.time c.args.dev.now) (c.args.partition.now, c.args.name.now)).content;
-      size = bytes_length u (disk (g.D.Device.time c.args.dev.now) (c.args.partition.now, c.args.name.now)).content;
+      holds = record {
+        state = subst (λ (b : Blob). State g.S.Seal.seal_of c.args.pages.page_size all c.start_of-start.result.first c.start_of-start.result.from (c.start_of-start.result.first * c.from.result + c.start_of-start.result.from) c.start_of-start.result.newest c.start_of-start.result.behind c.start_of-start.result.torn b) (sym is) state;
+        tip_at = tip_stands u (disk (g.D.Device.time c.args.dev.now) (c.args.partition.now, c.args.name.now)).content;
+        size = bytes_length u (disk (g.D.Device.time c.args.dev.now) (c.args.partition.now, c.args.name.now)).content;
+      };
+      backed = returns-clause-backed g c t;
     }
 
 pub returns-clause-open : goal.returns-clause-open
@@ -168,6 +185,8 @@ returns-clause-unrecovered g c t rest less =
       name = c.in_ok-name.name.items;
       page_size = c.args.pages.page_size;
       capacity = c.args.capacity;
+      cache_pages = c.new.result.most;
+      cache = held_in c.new.result;
       end = c.args.size;
       first = c.start_of-start.result.first;
       tip = c.in_ok-tip.tip.items;
@@ -187,8 +206,3 @@ returns-clause-adopted g c t rest = elim (cases_lt (length (sealed_prefix g.S.Se
   | inl less ↦ inr (returns-clause-unrecovered g c t rest less)
   | inr whole ↦ (let is : length (sealed_prefix g.S.Seal.seal_of c.args.pages.page_size (disk (g.D.Device.time c.args.dev.now) (c.args.partition.now, c.args.name.now)).content) ≡ adopted_size g.S.Seal.seal_of c.args.pages.page_size (disk (g.D.Device.time c.args.dev.now) (c.args.partition.now, c.args.name.now)).content = omega (arith, whole, prefix_size g.S.Seal.seal_of c.args.pages.page_size (disk (g.D.Device.time c.args.dev.now) (c.args.partition.now, c.args.name.now)).content) in inl (returns-clause-sealed g c t rest is))
 ]
-
-pub returns-clause-held : goal.returns-clause-held
-returns-clause-held g c t =
-    let content : List ℕ = (disk (g.D.Device.time c.args.dev.now) (c.args.partition.now, c.args.name.now)).content in
-    c.held_of-held.ensures content (found_page g.S.Seal.seal_of c.args.pages.page_size content c.in_ok-found.found c.find_last.new.buf _ (with_items_is c.in_ok-bytes.bytes c.find_last.new.buf (c.find_last.auto.buf ∙ c.as_mut_slice-buf.ensures.len)) (c.in_ok-found.ensures.found t))

@@ -1,8 +1,8 @@
-use Rattle.std.proofs.Common.{◌≡◌, ◌+◌, ◌*◌, ◌≤◌, ◌∙◌, string_bytes, ap, sym, subst, ℕ, List, length, take, false, arith, length-take}
+use Rattle.std.proofs.Common.{rules, ◌≡◌, ◌+◌, ◌*◌, ◌≤◌, ◌∙◌, string_bytes, ap, sym, subst, ℕ, List, length, take, false, arith, length-take}
 use Rattle.blob_device.specs.Change.{resized}
 use Rattle.blob_device.specs.Disk.{Key, Blob, settled_at}
 use Rattle.blob_device.specs.Timeline.{disk}
-use Rattle.sealed_pages.specs.Buffer.{key_of, size_of}
+use Rattle.sealed_pages.specs.Buffer.{Buffer, key_of, size_of}
 use Rattle.sealed_pages.specs.Flushing.{Data, Ready}
 use Rattle.sealed_pages.specs.SealedPrefix.{sealed_prefix, adopted_size}
 use Rattle.sealed_pages.specs.Shown.{shown}
@@ -70,3 +70,6 @@ pub returns-clause-shorter : goal.returns-clause-shorter
 returns-clause-shorter g c t =
     let settles = key_as (λ (k : Key). disk (g.D.Device.time c.cut_pages.new.dev) k ≡ settled_at (resized (disk (g.D.Device.time c.args.dev.now) k).content (page_at c.args.self.page_size c.args.page))) _ (string_bytes c.args.self.partition) _ c.args.self.name.items c.as_str.ensures.value c.as_slice.ensures.value (c.in_ok-cut_pages.ensures.settles t) in
     omega (arith, ap (λ (b : Blob). adopted_size g.S.Seal.seal_of c.args.self.page_size b.content) settles, shorter_at g.S.Seal.seal_of c.args.self.page_size (disk (g.D.Device.time c.args.dev.now) (key_of (shown c.args.self))).content c.args.page)
+
+pub returns-clause-memory : goal.returns-clause-memory
+returns-clause-memory g c t = let none : length c.new-tip.result.items ≡ 0 = ap length c.new-tip.ensures.items in (omega (arith, ap (λ (x : Buffer). x.from) c.ending_with.ensures.same, none), ap (λ (x : Buffer). x.cache) c.ending_with.ensures.same)

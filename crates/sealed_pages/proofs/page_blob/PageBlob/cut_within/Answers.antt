@@ -1,7 +1,7 @@
 use Rattle.std.proofs.Common.{◌≡◌, ◌+◌, ◌*◌, ◌≤◌, ◌<◌, ◌^◌, ◌∙◌, not, string_bytes, ap, sym, subst, ℕ, List, length, take, drop, rules, arith, length-take}
 use Rattle.blob_device.specs.Disk.{Key, Blob, Disk, settled_at}
 use Rattle.blob_device.specs.Timeline.{disk}
-use Rattle.sealed_pages.specs.Buffer.{key_of, size_of, Holds}
+use Rattle.sealed_pages.specs.Buffer.{Buffer, key_of, size_of, Holds}
 use Rattle.sealed_pages.specs.ChanceSeal.{Sealing}
 use Rattle.sealed_pages.specs.Cutting.{page_cut, FewReads}
 use Rattle.sealed_pages.specs.Entries.{NoReads}
@@ -17,7 +17,7 @@ use Rattle.sealed_pages.proofs.SlotLemmas.{index_page, times_next}
 use Rattle.sealed_pages.proofs.Truncating.{InsideTold, look_sealing, look_then, look_alone, within_ready, within_stands, holds_cut, head_stands, page_cut_data, extent_less, key_as, cut_bytes, cut_backed}
 use Rattle.sealed_pages.specs.Unrecovered.{SparesFront}
 use Rattle.sealed_pages.proofs.Fronts.{front_look, front_then}
-use Rattle.sealed_pages.proofs.Shortening.{shorter_within}
+use Rattle.sealed_pages.proofs.Shortening.{shorter_within, cut_covers}
 use Rattle.sealed_pages.proofs.page_blob.PageBlob.cut_within.Goals as goal
 
 pub read_head-requires-clause-room : goal.read_head-requires-clause-room
@@ -167,3 +167,23 @@ returns-clause-shorter g c t =
     let wide : c.args.self.page_size < 2 ^ 16 = search rules in
     let small : length c.in_ok-head.head.bytes.items < 2 ^ 16 = omega (arith, long, c.requires.short, wide) in
     omega (arith, ap (λ (b : Blob). adopted_size g.S.Seal.seal_of c.args.self.page_size b.content) settles, shorter_within g.S.Seal.seal_of c.args.self.page_size (disk (g.D.Device.time c.read_head.new.dev) (key_of (shown c.args.self))).content c.args.page c.in_ok-head.head.second c.in_ok-head.head.bytes.items small, long)
+
+pub returns-clause-memory : goal.returns-clause-memory
+returns-clause-memory g c t =
+    let look = c.in_ok-head.ensures.unchanged t in
+    let long : length c.in_ok-head.head.bytes.items ≡ c.args.keep = c.in_ok-head.ensures.long in
+    let wide : c.args.self.page_size < 2 ^ 16 = search rules in
+    let small : length c.in_ok-head.head.bytes.items < 2 ^ 16 = omega (arith, long, c.requires.short, wide) in
+    let is_part = key_as (λ (k : Key). c.in_ok-head.head.bytes.items ≡ take c.args.keep (drop (page_at c.args.self.page_size c.args.page) (disk (g.D.Device.time c.args.dev.now) k).content)) _ (string_bytes c.args.self.partition) _ c.args.self.name.items c.as_str.ensures.value c.as_slice.ensures.value (c.in_ok-head.ensures.bytes t) in
+    let settles1 = key_as (λ (k : Key). disk (g.D.Device.time c.cut_inside.new.dev) k ≡ settled_at (page_cut g.S.Seal.seal_of c.args.self.page_size (disk (g.D.Device.time c.read_head.new.dev) k).content c.args.page c.in_ok-head.head.second c.in_ok-head.head.bytes.items)) _ (string_bytes c.args.self.partition) _ c.args.self.name.items c.as_str-2.ensures.value c.as_slice-2.ensures.value
+    (subst (λ (l : List ℕ). disk (g.D.Device.time c.cut_inside.new.dev) (c.as_str-2.result.now, c.as_slice-2.result.now) ≡ settled_at (page_cut g.S.Seal.seal_of c.args.self.page_size (disk (g.D.Device.time c.read_head.new.dev) (c.as_str-2.result.now, c.as_slice-2.result.now)).content c.args.page c.in_ok-head.head.second l)) c.as_slice-3.ensures.value (c.in_ok-end.ensures.settles t)) in
+    let part : c.in_ok-head.head.bytes.items ≡ take (length c.in_ok-head.head.bytes.items) (drop (page_at c.args.self.page_size c.args.page) (disk (g.D.Device.time c.read_head.new.dev) (key_of (shown c.args.self))).content)
+    = is_part ∙ ap (λ (n : ℕ). take n (drop (page_at c.args.self.page_size c.args.page) (disk (g.D.Device.time c.args.dev.now) (key_of (shown c.args.self))).content)) (sym long)
+    ∙ ap (λ (d : Disk). take (length c.in_ok-head.head.bytes.items) (drop (page_at c.args.self.page_size c.args.page) (d (key_of (shown c.args.self))).content)) (sym (unchanged_now _ _ look)) in
+    let room = fit_room _ _ _ _ c.args.self.fit c.args.page (omega (arith, c.requires.below)) in
+    let covers = cut_covers g.S.Seal.seal_of c.args.self.page_size (disk (g.D.Device.time c.read_head.new.dev) (key_of (shown c.args.self))).content c.args.page c.in_ok-head.head.second c.in_ok-head.head.bytes.items small g.met.S.Seal.fits wide room (omega (arith, long, c.requires.short)) part in
+    let from = ap (λ (x : Buffer). x.from) c.ending_with.ensures.same in
+    let first = ap (λ (x : Buffer). x.first) c.ending_with.ensures.same in (
+      omega (arith, from, covers, ap (λ (b : Blob). page_length g.S.Seal.seal_of c.args.self.page_size b.content c.args.page) settles1, ap (page_length g.S.Seal.seal_of c.args.self.page_size (disk (g.D.Device.time c.cut_inside.new.dev) (key_of (shown c.args.self))).content) first),
+      ap (λ (x : Buffer). x.cache) c.ending_with.ensures.same,
+    )

@@ -1,4 +1,4 @@
-use Rattle.std.proofs.Common.{◌≡◌, ◌*◌, ap, sym, subst, ◌≤◌, ◌<◌, ◌∙◌, ℕ, length, arith, List}
+use Rattle.std.proofs.Common.{◌≡◌, ◌*◌, ap, sym, subst, ◌≤◌, ◌<◌, ◌∙◌, ℕ, length, refl, arith, List, false}
 use Rattle.std.specs.Prelude.{IfOk, OnOk}
 use Rattle.blob_device.specs.Disk.{Key}
 use Rattle.blob_device.specs.Timeline.{disk}
@@ -15,12 +15,15 @@ use Rattle.sealed_pages.proofs.EntryLemmas.{no_reads_then}
 use Rattle.sealed_pages.proofs.PageCalls.{no_ok, alone_then}
 use Rattle.sealed_pages.proofs.UnrecoveredLemmas.{stood_keeps, spared_keeps, spared_stays, first_later}
 use Rattle.sealed_pages.specs.Unrecovered.{SparesFront}
-use Rattle.sealed_pages.proofs.Fronts.{front_then, front_start}
+use Rattle.sealed_pages.proofs.Fronts.{front_then, front_now, front_start}
 use Rattle.sealed_pages.proofs.Truncating.{both_ok}
-use Rattle.blob_device.proofs.Results.{if_ok_with}
+use Rattle.blob_device.proofs.Results.{if_ok_with, on_ok_two}
 use Rattle.sealed_pages.proofs.Clearing.{clears_then}
 use Rattle.sealed_pages.specs.Leftover.{SettlesNothing}
-use Rattle.sealed_pages.specs.Held.{AreHeldOf}
+use Rattle.sealed_pages.specs.Flushing.{CoversFrom}
+use Rattle.sealed_pages.specs.Buffer.{AddsPages, FlushesInto}
+use Rattle.sealed_pages.proofs.CacheLemmas.{cached_none, cached_by}
+use Rattle.sealed_pages.proofs.MemoryLemmas.{memory_flushed}
 use Rattle.sealed_pages.proofs.Truncating.{map_ok}
 use Rattle.sealed_pages.proofs.page_blob.PageBlob.flush.Goals as goal
 
@@ -75,12 +78,31 @@ returns-clause-backed g c t backed =
     let same = c.in_ok-this.ensures.same in
     let at = tip_stands u (disk (g.D.Device.time c.args.dev.now) (key_of (shown c.args.self))).content in
     let stands = subst (λ (x : Buffer). StandsAt all (x.first * x.page_size) x.tip) (sym same) at in
-    let wrote = returns-clause-wrote g c t all backed at in
-    if_ok_with c.written.result wrote.done
-    (both_ok c.written.result (λ v. shown v ≡ record (shown c.in_ok-this.this) { end = v.end; first = v.first; tip = v.tip.items; from = length v.tip.items }) (λ v. (size_of (shown v) ≡ size_of (shown c.in_ok-this.this)) × ((all : List ℕ) → StandsAt all (c.in_ok-this.this.first * c.in_ok-this.this.page_size) c.in_ok-this.this.tip.items → StandsAt all (v.first * v.page_size) v.tip.items))
-    c.written.ensures.same (both_ok c.written.result (λ v. size_of (shown v) ≡ size_of (shown c.in_ok-this.this)) (λ v. (all : List ℕ) → StandsAt all (c.in_ok-this.this.first * c.in_ok-this.this.page_size) c.in_ok-this.this.tip.items → StandsAt all (v.first * v.page_size) v.tip.items) c.written.ensures.size c.written.ensures.tip))
-    (λ v wrote is. flushed_backed (shown v) c.args.self.page_size (size_of u) all (disk (g.D.Device.time c.written.new.dev) (key_of (shown c.args.self))).content (omega (arith, v.fit.begun)) (ap (λ (x : Buffer). x.page_size) is.0 ∙ ap (λ (x : Buffer). x.page_size) same) (is.1.0 ∙ ap size_of same) wrote
-    (is.1.1 all stands) (bytes_length u (disk (g.D.Device.time c.args.dev.now) (key_of (shown c.args.self))).content) v.fit.within)
+    let first = c.in_ok-this.ensures.wrote t all backed.flushed in
+    let was = subst (λ (x : Buffer). Data x.page_size all (flushed_of x) (view (disk (g.D.Device.time c.repaired.new.dev) (key_of x)).content)) (sym same) first.done in
+    let unflushed = subst (λ (x : Buffer). x.from < length x.tip) (sym same) (omega (arith, c.if-self-len.false)) in
+    let wrote = returns-clause-wrote g c t all backed.flushed at in
+    let covers = subst (λ (x : Buffer). OnOk c.written.result (CoversFrom g.S.Seal.seal_of x.page_size (disk (g.D.Device.time c.written.new.dev) (key_of x)).content x.first (size_of x))) same (c.written.ensures.covers t all was stands unflushed) in
+    let P : ℕ = c.args.self.page_size in
+    let b : List ℕ = (disk (g.D.Device.time c.written.new.dev) (key_of (shown c.args.self))).content in
+    let both : OnOk c.written.result (Data P all (size_of u) (view b) × CoversFrom g.S.Seal.seal_of P b c.args.self.first (size_of u)) = on_ok_two {R = Data P all (size_of u) (view b) × CoversFrom g.S.Seal.seal_of P b c.args.self.first (size_of u)} c.written.result (λ x y. (x, y)) wrote.done covers in
+    if_ok_with c.written.result both c.written.ensures.into
+    (λ v two is. memory_flushed g.S.Seal.seal_of u (record (shown c.args.self) { end = c.in_ok-this.this.end; behind = false; torn = false }) (shown v) (disk (g.D.Device.time c.args.dev.now) (key_of (shown c.args.self))) (disk (g.D.Device.time c.written.new.dev) (key_of (shown c.args.self))) all refl refl refl refl
+    v.fit.begun (subst (λ (x : Buffer). FlushesInto x (shown v)) same is) (front_now _ _ _ _ (returns-clause-front g c t)) c.args.self.full two.0 (bytes_length u (disk (g.D.Device.time c.args.dev.now) (key_of (shown c.args.self))).content) at two.1 backed.cache)
+
+pub returns-clause-cached : goal.returns-clause-cached
+returns-clause-cached g c = map_ok c.written.result (λ v. FlushesInto (shown c.in_ok-this.this) (shown v)) (λ v. AddsPages (shown c.args.self) (shown v))
+    (λ v is. cached_by (shown c.args.self) (shown v) c.args.self.page_size c.args.self.tip.items (subst (λ (x : Buffer). FlushesInto x (shown v)) c.in_ok-this.ensures.same is).cache) c.written.ensures.into
+
+pub returns-then-self-len-clause-cached : goal.returns-then-self-len-clause-cached
+returns-then-self-len-clause-cached g c = cached_none (shown c.args.self) c.args.self.few
+
+pub returns-clause-size : goal.returns-clause-size
+returns-clause-size g c = map_ok c.written.result (λ v. FlushesInto (shown c.in_ok-this.this) (shown v)) (λ v. size_of (shown v) ≡ size_of (shown c.args.self)) (λ v is. is.size ∙ ap size_of c.in_ok-this.ensures.same) c.written.ensures.into
+
+pub returns-clause-tip : goal.returns-clause-tip
+returns-clause-tip g c = map_ok c.written.result (λ v. FlushesInto (shown c.in_ok-this.this) (shown v)) (λ v. (all : List ℕ) → StandsAt all (c.args.self.first * c.args.self.page_size) c.args.self.tip.items → StandsAt all (v.first * v.page_size) v.tip.items)
+    (λ v is. (subst (λ (x : Buffer). FlushesInto x (shown v)) c.in_ok-this.ensures.same is).tip) c.written.ensures.into
 
 pub returns-clause-unrecovered : goal.returns-clause-unrecovered
 returns-clause-unrecovered g c t un =
@@ -89,18 +111,35 @@ returns-clause-unrecovered g c t un =
     let key : key_of (shown c.in_ok-this.this) ≡ key_of (shown c.args.self) = ap key_of same in
     let first = subst (λ (k : Key). IsHad (disk (g.D.Device.time c.repaired.new.dev) k)) (sym key) (c.in_ok-this.ensures.had t un.had) in
     if_ok_with c.written.result (subst (λ (k : Key). OnOk c.written.result (IsHad (disk (g.D.Device.time c.written.new.dev) k))) key (c.written.ensures.had t first))
-    (both_ok c.written.result (λ v. shown v ≡ record (shown c.in_ok-this.this) { end = v.end; first = v.first; tip = v.tip.items; from = length v.tip.items }) (λ v. (size_of (shown v) ≡ size_of (shown c.in_ok-this.this)) × IsBacked (shown v) (disk (g.D.Device.time c.written.new.dev) (key_of (shown c.args.self))).content)
-    c.written.ensures.same (both_ok c.written.result (λ v. size_of (shown v) ≡ size_of (shown c.in_ok-this.this)) (λ v. IsBacked (shown v) (disk (g.D.Device.time c.written.new.dev) (key_of (shown c.args.self))).content) c.written.ensures.size (returns-clause-backed g c t un.backed)))
-    (λ v had is. (let page : v.page_size ≡ c.args.self.page_size = ap (λ (x : Buffer). x.page_size) is.0 ∙ ap (λ (x : Buffer). x.page_size) same in
-    let size : size_of (shown v) ≡ size_of (shown c.args.self) = is.1.0 ∙ ap size_of same in
-    let begun : length v.tip.items < v.page_size = omega (arith, v.fit.begun, ap (λ (x : Buffer). x.from) is.0) in
+    (both_ok c.written.result (λ v. FlushesInto (shown c.in_ok-this.this) (shown v)) (λ v. IsBacked g.S.Seal.seal_of (shown v) (disk (g.D.Device.time c.written.new.dev) (key_of (shown c.args.self))).content) c.written.ensures.into (returns-clause-backed g c t un.backed))
+    (λ v had is. (let page : v.page_size ≡ c.args.self.page_size = ap (λ (x : Buffer). x.page_size) is.0.same ∙ ap (λ (x : Buffer). x.page_size) same in
+    let size : size_of (shown v) ≡ size_of (shown c.args.self) = is.0.size ∙ ap size_of same in
+    let begun : length v.tip.items < v.page_size = omega (arith, v.fit.begun, ap (λ (x : Buffer). x.from) is.0.same) in
     let later : c.args.self.first ≤ v.first = first_later c.args.self.page_size c.args.self.first v.first (length c.args.self.tip.items) (length v.tip.items) (omega (arith, size, ap (λ (n : ℕ). v.first * n) page)) (omega (arith, begun, page)) in
-    spared_stays g.S.Seal.seal_of (shown c.args.self) (key_of (shown c.args.self)) (g.D.Device.time c.args.dev.now) (g.D.Device.time c.written.new.dev) un c.args.self.first un.below (returns-clause-front g c t) (shown v) page (omega (arith, un.below, later)) is.1.1
-    (λ settled. (let own : v.settled ≡ c.args.self.settled = ap (λ (x : Buffer). x.settled) is.0 ∙ ap (λ (x : Buffer). x.settled) same in absurd (omega (arith, settled, size, unsettled, own)))) had))
+    spared_stays g.S.Seal.seal_of (shown c.args.self) (key_of (shown c.args.self)) (g.D.Device.time c.args.dev.now) (g.D.Device.time c.written.new.dev) un c.args.self.first un.below (returns-clause-front g c t) (shown v) page (omega (arith, un.below, later)) is.1
+    (λ settled. (let own : v.settled ≡ c.args.self.settled = ap (λ (x : Buffer). x.settled) is.0.same ∙ ap (λ (x : Buffer). x.settled) same in absurd (omega (arith, settled, size, unsettled, own)))) had))
 
 pub returns-clause-clears : goal.returns-clause-clears
 returns-clause-clears g c t rest left = clears_then g.S.Seal.seal_of c.args.self.page_size c.args.self.first c.args.self.from c.args.self.newest (key_of (shown c.args.self)) (g.D.Device.time c.args.dev.now) (g.D.Device.time c.repaired.new.dev) (g.D.Device.time c.written.new.dev) (c.in_ok-this.ensures.clears t rest) (c.in_ok-this.ensures.cleared t rest left)
     (subst (λ (x : Buffer). SettlesNothing (key_of x) (g.D.Device.time c.repaired.new.dev) (g.D.Device.time c.written.new.dev)) c.in_ok-this.ensures.same (c.written.ensures.stays t))
 
-pub returns-clause-held : goal.returns-clause-held
-returns-clause-held g c t was = map_ok c.written.result (λ v. (l : List ℕ) → AreHeldOf l v.held) (λ v. AreHeldOf (disk (g.D.Device.time c.written.new.dev) (key_of (shown c.args.self))).content v.held) (λ v held. held _) c.written.ensures.held
+pub returns-clause-key : goal.returns-clause-key
+returns-clause-key g c = map_ok c.written.result (λ v. FlushesInto (shown c.in_ok-this.this) (shown v)) (λ v. key_of (shown v) ≡ key_of (shown c.args.self)) (λ v is. ap key_of is.same ∙ ap key_of c.in_ok-this.ensures.same) c.written.ensures.into
+
+pub returns-clause-page_size : goal.returns-clause-page_size
+returns-clause-page_size g c = map_ok c.written.result (λ v. FlushesInto (shown c.in_ok-this.this) (shown v)) (λ v. v.page_size ≡ c.args.self.page_size) (λ v is. ap (λ (x : Buffer). x.page_size) is.same ∙ ap (λ (x : Buffer). x.page_size) c.in_ok-this.ensures.same) c.written.ensures.into
+
+pub returns-clause-capacity : goal.returns-clause-capacity
+returns-clause-capacity g c = map_ok c.written.result (λ v. FlushesInto (shown c.in_ok-this.this) (shown v)) (λ v. v.capacity ≡ c.args.self.capacity) (λ v is. ap (λ (x : Buffer). x.capacity) is.same ∙ ap (λ (x : Buffer). x.capacity) c.in_ok-this.ensures.same) c.written.ensures.into
+
+pub returns-clause-cache_pages : goal.returns-clause-cache_pages
+returns-clause-cache_pages g c = map_ok c.written.result (λ v. FlushesInto (shown c.in_ok-this.this) (shown v)) (λ v. (shown v).cache_pages ≡ (shown c.args.self).cache_pages) (λ v is. ap (λ (x : Buffer). x.cache_pages) is.same ∙ ap (λ (x : Buffer). x.cache_pages) c.in_ok-this.ensures.same) c.written.ensures.into
+
+pub returns-clause-settled : goal.returns-clause-settled
+returns-clause-settled g c = map_ok c.written.result (λ v. FlushesInto (shown c.in_ok-this.this) (shown v)) (λ v. v.settled ≡ c.args.self.settled) (λ v is. ap (λ (x : Buffer). x.settled) is.same ∙ ap (λ (x : Buffer). x.settled) c.in_ok-this.ensures.same) c.written.ensures.into
+
+pub returns-clause-newest : goal.returns-clause-newest
+returns-clause-newest g c = map_ok c.written.result (λ v. FlushesInto (shown c.in_ok-this.this) (shown v)) (λ v. v.newest ≡ c.args.self.newest) (λ v is. ap (λ (x : Buffer). x.newest) is.same ∙ ap (λ (x : Buffer). x.newest) c.in_ok-this.ensures.same) c.written.ensures.into
+
+pub returns-clause-flushed : goal.returns-clause-flushed
+returns-clause-flushed g c = map_ok c.written.result (λ v. FlushesInto (shown c.in_ok-this.this) (shown v)) (λ v. v.from ≡ length v.tip.items) (λ v is. ap (λ (x : Buffer). x.from) is.same) c.written.ensures.into

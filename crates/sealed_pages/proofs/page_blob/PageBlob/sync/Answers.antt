@@ -3,11 +3,11 @@ use Rattle.blob_device.specs.Disk.{Key, Blob}
 use Rattle.blob_device.specs.Timeline.{disk}
 use Rattle.sealed_pages.specs.Buffer.{Buffer, key_of, size_of, flushed_of, bytes_of, IsBacked}
 use Rattle.sealed_pages.specs.ChanceSeal.{Leaves, Sealing}
-use Rattle.sealed_pages.specs.Held.{AreHeldOf}
+use Rattle.sealed_pages.proofs.CacheLemmas.{cached_none}
 use Rattle.sealed_pages.specs.Shown.{shown}
 use Rattle.sealed_pages.specs.Entries.{IsOpenAt, NoReads}
 use Rattle.sealed_pages.proofs.EntryLemmas.{open_same, open_some, no_reads_start}
-use Rattle.sealed_pages.proofs.Holding.{holds_start, holds_sealed, tip_stands, bytes_length, settle_as, fit_room}
+use Rattle.sealed_pages.proofs.Holding.{holds_start, holds_own, tip_stands, bytes_length, settle_as, fit_room}
 use Rattle.sealed_pages.proofs.Keeping.{settle_data}
 use Rattle.sealed_pages.proofs.Syncing.{holds_settle, holds_synced, needs, flushed_bytes, flushed_backed}
 use Rattle.sealed_pages.proofs.PageCalls.{only_then, alone_on, alone_start}
@@ -20,7 +20,6 @@ use Rattle.sealed_pages.specs.Unrecovered.{KeepsPrefix}
 use Rattle.sealed_pages.specs.SealedPrefix.{sealed_prefix}
 use Rattle.sealed_pages.proofs.Fronts.{front_start, front_settle}
 use Rattle.sealed_pages.specs.View.{page_at}
-use Rattle.sealed_pages.proofs.Clearing.{clears_start, clears_settle}
 use Rattle.sealed_pages.proofs.page_blob.PageBlob.sync.Goals as goal
 
 pub last_slot_of-slot-requires : goal.last_slot_of-slot-requires
@@ -32,26 +31,26 @@ returns-then-not-needs_sync g c =
     let b0 = disk (g.D.Device.time c.args.dev.now) (key_of (shown c.args.self)) in
     let settled : c.args.self.settled ≡ size_of (shown c.args.self) = no_need c.args.self.settled (size_of (shown c.args.self)) c.needs_sync.result c.needs_sync.ensures c.if-not-needs_sync.true in
     record {
-      crashes = λ t sealed. holds_start g.S.Seal.seal_of u (bytes_of u b0.content) (key_of (shown c.args.self)) (g.D.Device.time c.args.dev.now) c.args.self.fit.begun sealed;
+      crashes = λ t sealed. holds_start g.S.Seal.seal_of u (bytes_of u b0.content) (key_of (shown c.args.self)) (g.D.Device.time c.args.dev.now) c.args.self.fit.begun sealed.holds;
       sealed = λ t sealed. sealed;
-      clears = λ t rest left. clears_start g.S.Seal.seal_of c.args.self.page_size c.args.self.first c.args.self.from c.args.self.newest (key_of (shown c.args.self)) (g.D.Device.time c.args.dev.now) rest;
       steady = λ t un. stood_keeps g.S.Seal.seal_of (shown c.args.self) (key_of (shown c.args.self)) (g.D.Device.time c.args.dev.now) un;
       unrecovered = λ t un. un;
       front = λ t. front_start (page_at c.args.self.page_size c.args.self.first) (key_of (shown c.args.self)) (g.D.Device.time c.args.dev.now);
       alone = λ t backed. alone_start (g.D.Device.time c.args.dev.now) (key_of (shown c.args.self));
       bytes = λ t backed. refl;
       backed = λ t backed. backed;
-      held = λ t was. was;
+      cached = cached_none (shown c.args.self) c.args.self.few;
       idle = λ e. refl;
       same = λ e. refl;
-      leaves = λ t sealed. leaves_of g.S.Seal.seal_of (shown c.args.self) c.args.self.page_size (size_of (shown c.args.self)) (bytes_of (shown c.args.self) (disk (g.D.Device.time c.args.dev.now) (key_of (shown c.args.self))).content) (disk (g.D.Device.time c.args.dev.now) (key_of (shown c.args.self))) refl c.args.self.fit.begun settled sealed;
+      leaves = λ t sealed. leaves_of g.S.Seal.seal_of (shown c.args.self) c.args.self.page_size (size_of (shown c.args.self)) (bytes_of (shown c.args.self) (disk (g.D.Device.time c.args.dev.now) (key_of (shown c.args.self))).content) (disk (g.D.Device.time c.args.dev.now) (key_of (shown c.args.self))) refl c.args.self.fit.begun settled sealed.holds;
       rests = λ t before. before settled;
-      again = λ t sealed. settles_of g.S.Seal.seal_of (shown c.args.self) c.args.self.page_size (bytes_of (shown c.args.self) (disk (g.D.Device.time c.args.dev.now) (key_of (shown c.args.self))).content) (disk (g.D.Device.time c.args.dev.now) (key_of (shown c.args.self))) refl c.args.self.fit.begun (all_flushed (shown c.args.self) c.args.self.fit.within c.args.self.order settled) settled sealed;
+      again = λ t sealed. settles_of g.S.Seal.seal_of (shown c.args.self) c.args.self.page_size (bytes_of (shown c.args.self) (disk (g.D.Device.time c.args.dev.now) (key_of (shown c.args.self))).content) (disk (g.D.Device.time c.args.dev.now) (key_of (shown c.args.self))) refl c.args.self.fit.begun (all_flushed (shown c.args.self) c.args.self.fit.within c.args.self.order settled) settled sealed.holds;
       settled = settled;
       size = refl;
       key = refl;
       page_size = refl;
       capacity = refl;
+      cache_pages = refl;
       «open» = c.requires.open;
       entries = no_reads_start (g.D.Device.opened c.args.dev.now) (key_of (shown c.args.self)) (open_some (g.D.Device.opened c.args.dev.now) (key_of (shown c.args.self)) c.args.self.end c.requires.open);
       faults = omega arith;
@@ -64,16 +63,14 @@ returns-in_err-this g c =
     let b0 = disk (g.D.Device.time c.args.dev.now) (key_of (shown c.args.self)) in
     let unsettled : c.args.self.settled ≢ size_of (shown c.args.self) = needs c.args.self.settled (size_of (shown c.args.self)) c.needs_sync.result c.needs_sync.ensures c.if-not-needs_sync.false in
     record {
-      crashes = λ t sealed. c.in_err-this.ensures.told t (bytes_of u b0.content) sealed;
+      crashes = λ t sealed. c.in_err-this.ensures.told t (bytes_of u b0.content) sealed.holds;
       sealed = λ t sealed. no_value _ _ c.from_residual.ensures.0;
-      clears = c.in_err-this.ensures.clears;
       steady = c.in_err-this.ensures.steady;
       unrecovered = λ t un. no_value _ _ c.from_residual.ensures.0;
       front = c.in_err-this.ensures.front;
-      alone = λ t backed. (c.in_err-this.ensures.wrote t (bytes_of u b0.content) backed (tip_stands u b0.content)).alone;
+      alone = λ t backed. (c.in_err-this.ensures.wrote t (bytes_of u b0.content) backed.flushed (tip_stands u b0.content)).alone;
       bytes = λ t backed. no_value _ _ c.from_residual.ensures.0;
       backed = λ t backed. no_value _ _ c.from_residual.ensures.0;
-      held = λ t was. no_value _ _ c.from_residual.ensures.0;
       idle = λ e. absurd (unsettled e);
       same = λ e. absurd (unsettled e);
       leaves = λ t sealed. no_value _ _ c.from_residual.ensures.0;
@@ -84,6 +81,8 @@ returns-in_err-this g c =
       key = no_value _ _ c.from_residual.ensures.0;
       page_size = no_value _ _ c.from_residual.ensures.0;
       capacity = no_value _ _ c.from_residual.ensures.0;
+      cache_pages = no_value _ _ c.from_residual.ensures.0;
+      cached = no_value _ _ c.from_residual.ensures.0;
       «open» = no_value _ _ c.from_residual.ensures.0;
       entries = c.in_err-this.ensures.entries;
       faults = c.in_err-this.ensures.faults;
@@ -102,14 +101,13 @@ returns-in_err-sync g c =
     record {
       crashes = λ t sealed.
           let passes = settle_as c.sync.result _ _ _ _ (g.D.Device.time c.flush.new.dev) (g.D.Device.time c.sync.new.self) p n (c.sync.ensures.told t) in
-          let before = c.in_ok-this.ensures.told t (bytes_of u b0.content) sealed in
-          let now = c.in_ok-this.ensures.done t (bytes_of u b0.content) sealed in
+          let before = c.in_ok-this.ensures.told t (bytes_of u b0.content) sealed.holds in
+          let now = c.in_ok-this.ensures.done t (bytes_of u b0.content) sealed.holds in
           let after = subst (λ (m : ℕ). Sealing g.S.Seal.seal_of c.args.self.page_size (bytes_of u b0.content) m key (g.D.Device.time c.flush.new.dev) (g.D.Device.time c.sync.new.self)) c.in_ok-this.ensures.settled
           (subst (λ (m : ℕ). Sealing g.S.Seal.seal_of m (bytes_of u b0.content) c.in_ok-this.this.settled key (g.D.Device.time c.flush.new.dev) (g.D.Device.time c.sync.new.self)) c.in_ok-this.ensures.page_size
           (holds_settle g.S.Seal.seal_of r (bytes_of u b0.content) key (g.D.Device.time c.flush.new.dev) (g.D.Device.time c.sync.new.self) c.sync.result c.in_ok-this.this.fit.begun now passes)) in
           only_then (g.D.Device.time c.args.dev.now) (g.D.Device.time c.flush.new.dev) (g.D.Device.time c.sync.new.self) key (Leaves g.S.Seal.seal_of c.args.self.page_size (bytes_of u b0.content) c.args.self.settled) before after;
       sealed = λ t sealed. no_value _ _ c.from_residual-in_err-sync.ensures.0;
-      clears = λ t rest left. clears_settle g.S.Seal.seal_of c.args.self.page_size c.args.self.first c.args.self.from c.args.self.newest (key_of (shown c.args.self)) (g.D.Device.time c.args.dev.now) (g.D.Device.time c.flush.new.dev) (g.D.Device.time c.sync.new.self) c.sync.result (c.in_ok-this.ensures.clears t rest left) (settle_as c.sync.result _ _ _ _ (g.D.Device.time c.flush.new.dev) (g.D.Device.time c.sync.new.self) p n (c.sync.ensures.told t));
       steady = λ t un.
           let passes = settle_as c.sync.result _ _ _ _ (g.D.Device.time c.flush.new.dev) (g.D.Device.time c.sync.new.self) p n (c.sync.ensures.told t) in
           let now = c.in_ok-this.ensures.unrecovered t un in
@@ -120,10 +118,9 @@ returns-in_err-sync g c =
       front = λ t. front_settle (page_at c.args.self.page_size c.args.self.first) (key_of (shown c.args.self)) (g.D.Device.time c.args.dev.now) (g.D.Device.time c.flush.new.dev) (g.D.Device.time c.sync.new.self) c.sync.result (c.in_ok-this.ensures.front t) (settle_as c.sync.result _ _ _ _ (g.D.Device.time c.flush.new.dev) (g.D.Device.time c.sync.new.self) p n (c.sync.ensures.told t));
       alone = λ t backed.
           let passes = settle_as c.sync.result _ _ _ _ (g.D.Device.time c.flush.new.dev) (g.D.Device.time c.sync.new.self) p n (c.sync.ensures.told t) in
-          alone_on (c.in_ok-this.ensures.wrote t (bytes_of u b0.content) backed (tip_stands u b0.content)).alone passes;
+          alone_on (c.in_ok-this.ensures.wrote t (bytes_of u b0.content) backed.flushed (tip_stands u b0.content)).alone passes;
       bytes = λ t backed. no_value _ _ c.from_residual-in_err-sync.ensures.0;
       backed = λ t backed. no_value _ _ c.from_residual-in_err-sync.ensures.0;
-      held = λ t was. no_value _ _ c.from_residual-in_err-sync.ensures.0;
       idle = λ e. absurd (unsettled e);
       same = λ e. absurd (unsettled e);
       leaves = λ t sealed. no_value _ _ c.from_residual-in_err-sync.ensures.0;
@@ -134,6 +131,8 @@ returns-in_err-sync g c =
       key = no_value _ _ c.from_residual-in_err-sync.ensures.0;
       page_size = no_value _ _ c.from_residual-in_err-sync.ensures.0;
       capacity = no_value _ _ c.from_residual-in_err-sync.ensures.0;
+      cache_pages = no_value _ _ c.from_residual-in_err-sync.ensures.0;
+      cached = no_value _ _ c.from_residual-in_err-sync.ensures.0;
       «open» = no_value _ _ c.from_residual-in_err-sync.ensures.0;
       entries = subst (NoReads (key_of (shown c.args.self)) (g.D.Device.opened c.args.dev.now)) (sym c.sync.ensures.opened) c.in_ok-this.ensures.entries;
       faults = omega (arith, c.in_ok-this.ensures.faults, c.sync.ensures.counts.later);
@@ -159,8 +158,8 @@ returns g c =
     record {
       crashes = λ t sealed.
           let passes = settle_as c.sync.result _ _ _ _ (g.D.Device.time c.flush.new.dev) (g.D.Device.time c.sync.new.self) p n (c.sync.ensures.told t) in
-          let before = c.in_ok-this.ensures.told t (bytes_of u b0.content) sealed in
-          let now = c.in_ok-this.ensures.done t (bytes_of u b0.content) sealed in
+          let before = c.in_ok-this.ensures.told t (bytes_of u b0.content) sealed.holds in
+          let now = c.in_ok-this.ensures.done t (bytes_of u b0.content) sealed.holds in
           let after = subst (λ (m : ℕ). Sealing g.S.Seal.seal_of c.args.self.page_size (bytes_of u b0.content) m key (g.D.Device.time c.flush.new.dev) (g.D.Device.time c.sync.new.self)) c.in_ok-this.ensures.settled
           (subst (λ (m : ℕ). Sealing g.S.Seal.seal_of m (bytes_of u b0.content) c.in_ok-this.this.settled key (g.D.Device.time c.flush.new.dev) (g.D.Device.time c.sync.new.self)) c.in_ok-this.ensures.page_size
           (holds_settle g.S.Seal.seal_of r (bytes_of u b0.content) key (g.D.Device.time c.flush.new.dev) (g.D.Device.time c.sync.new.self) c.sync.result c.in_ok-this.this.fit.begun now passes)) in
@@ -168,10 +167,14 @@ returns g c =
       sealed = λ t sealed.
           let passes = settle_as c.sync.result _ _ _ _ (g.D.Device.time c.flush.new.dev) (g.D.Device.time c.sync.new.self) p n (c.sync.ensures.told t) in
           let passes-ok = settle_as (Ok tt) _ _ _ _ (g.D.Device.time c.flush.new.dev) (g.D.Device.time c.sync.new.self) p n (c.in_ok-sync.ensures.told t) in
-          holds_sealed g.S.Seal.seal_of after (bytes_of u b0.content) _ (omega (arith, c.in_ok-this.this.fit.begun))
-          (holds_synced g.S.Seal.seal_of r (bytes_of u b0.content) key (g.D.Device.time c.flush.new.dev) (g.D.Device.time c.sync.new.self) tt c.flushed-end.result c.last_slot_of-slot.result c.in_ok-this.this.fit.begun open_ c.flushed-end.ensures c.last_slot_of-slot.ensures
-          (c.in_ok-this.ensures.done t (bytes_of u b0.content) sealed) passes-ok);
-      clears = λ t rest left. clears_settle g.S.Seal.seal_of c.args.self.page_size c.args.self.first c.args.self.from c.args.self.newest (key_of (shown c.args.self)) (g.D.Device.time c.args.dev.now) (g.D.Device.time c.flush.new.dev) (g.D.Device.time c.sync.new.self) (Ok tt) (c.in_ok-this.ensures.clears t rest left) (settle_as (Ok tt) _ _ _ _ (g.D.Device.time c.flush.new.dev) (g.D.Device.time c.sync.new.self) p n (c.in_ok-sync.ensures.told t));
+          let same = ok_blob (key_of (shown c.args.self)) Settle tt (g.D.Device.time c.flush.new.dev) (g.D.Device.time c.sync.new.self) passes-ok in
+          let now = c.in_ok-this.ensures.backed t sealed.backed in
+          record {
+            holds = holds_own g.S.Seal.seal_of after (bytes_of u b0.content) _ (omega (arith, c.in_ok-this.this.fit.begun))
+                (holds_synced g.S.Seal.seal_of r (bytes_of u b0.content) key (g.D.Device.time c.flush.new.dev) (g.D.Device.time c.sync.new.self) tt c.flushed-end.result c.last_slot_of-slot.result c.in_ok-this.this.fit.begun open_ c.flushed-end.ensures c.last_slot_of-slot.ensures
+                (c.in_ok-this.ensures.done t (bytes_of u b0.content) sealed.holds) passes-ok);
+            backed = subst (λ (b : Blob). IsBacked g.S.Seal.seal_of after b.content) (sym same) (record { flushed = now.flushed; tip = now.tip; cache = now.cache });
+          };
       steady = λ t un.
           let passes = settle_as (Ok tt) _ _ _ _ (g.D.Device.time c.flush.new.dev) (g.D.Device.time c.sync.new.self) p n (c.in_ok-sync.ensures.told t) in
           let now = c.in_ok-this.ensures.unrecovered t un in
@@ -180,34 +183,31 @@ returns g c =
           (subst (λ (P : ℕ). KeepsPrefix g.S.Seal.seal_of P (sealed_prefix g.S.Seal.seal_of P (disk (g.D.Device.time c.flush.new.dev) (key_of (shown c.args.self))).content) (key_of (shown c.args.self)) (g.D.Device.time c.flush.new.dev) (g.D.Device.time c.sync.new.self)) c.in_ok-this.ensures.page_size second);
       unrecovered = λ t un.
           let passes = settle_as (Ok tt) _ _ _ _ (g.D.Device.time c.flush.new.dev) (g.D.Device.time c.sync.new.self) p n (c.in_ok-sync.ensures.told t) in
-          settled_stays g.S.Seal.seal_of (shown c.in_ok-this.this) (key_of (shown c.args.self)) (g.D.Device.time c.flush.new.dev) (g.D.Device.time c.sync.new.self) tt (record (shown c.in_ok-this.this) { settled = c.flushed-end.result; newest = c.last_slot_of-slot.result }) (c.in_ok-this.ensures.unrecovered t un) passes refl refl (subst (λ (b : Blob). IsBacked (shown c.in_ok-this.this) b.content) (sym (ok_blob (key_of (shown c.args.self)) Settle tt (g.D.Device.time c.flush.new.dev) (g.D.Device.time c.sync.new.self) passes)) (c.in_ok-this.ensures.backed t un.backed));
+          let passes-ok = passes in
+          let now = c.in_ok-this.ensures.unrecovered t un in
+          settled_stays g.S.Seal.seal_of (shown c.in_ok-this.this) (key_of (shown c.args.self)) (g.D.Device.time c.flush.new.dev) (g.D.Device.time c.sync.new.self) tt (record (shown c.in_ok-this.this) { settled = c.flushed-end.result; newest = c.last_slot_of-slot.result }) (c.in_ok-this.ensures.unrecovered t un) passes refl refl (subst (λ (b : Blob). IsBacked g.S.Seal.seal_of after b.content) (sym (ok_blob (key_of (shown c.args.self)) Settle tt (g.D.Device.time c.flush.new.dev) (g.D.Device.time c.sync.new.self) passes-ok)) (record { flushed = now.backed.flushed; tip = now.backed.tip; cache = now.backed.cache }));
       front = λ t. front_settle (page_at c.args.self.page_size c.args.self.first) (key_of (shown c.args.self)) (g.D.Device.time c.args.dev.now) (g.D.Device.time c.flush.new.dev) (g.D.Device.time c.sync.new.self) (Ok tt) (c.in_ok-this.ensures.front t) (settle_as (Ok tt) _ _ _ _ (g.D.Device.time c.flush.new.dev) (g.D.Device.time c.sync.new.self) p n (c.in_ok-sync.ensures.told t));
       alone = λ t backed.
           let passes = settle_as c.sync.result _ _ _ _ (g.D.Device.time c.flush.new.dev) (g.D.Device.time c.sync.new.self) p n (c.sync.ensures.told t) in
-          alone_on (c.in_ok-this.ensures.wrote t (bytes_of u b0.content) backed (tip_stands u b0.content)).alone passes;
+          alone_on (c.in_ok-this.ensures.wrote t (bytes_of u b0.content) backed.flushed (tip_stands u b0.content)).alone passes;
       bytes = λ t backed.
           let passes = settle_as c.sync.result _ _ _ _ (g.D.Device.time c.flush.new.dev) (g.D.Device.time c.sync.new.self) p n (c.sync.ensures.told t) in
           let passes-ok = settle_as (Ok tt) _ _ _ _ (g.D.Device.time c.flush.new.dev) (g.D.Device.time c.sync.new.self) p n (c.in_ok-sync.ensures.told t) in
-          let wrote = c.in_ok-this.ensures.wrote t (bytes_of u b0.content) backed (tip_stands u b0.content) in
+          let wrote = c.in_ok-this.ensures.wrote t (bytes_of u b0.content) backed.flushed (tip_stands u b0.content) in
           let same = settle_data c.args.self.page_size (bytes_of u b0.content) (size_of u) key (g.D.Device.time c.flush.new.dev) (g.D.Device.time c.sync.new.self) tt passes-ok wrote.done in
           flushed_bytes after c.args.self.page_size (size_of u) (bytes_of u b0.content) _ (omega (arith, c.in_ok-this.this.fit.begun)) c.in_ok-this.ensures.page_size size same (c.in_ok-this.ensures.tip (bytes_of u b0.content) (tip_stands u b0.content)) (bytes_length u b0.content);
       backed = λ t backed.
-          let passes = settle_as c.sync.result _ _ _ _ (g.D.Device.time c.flush.new.dev) (g.D.Device.time c.sync.new.self) p n (c.sync.ensures.told t) in
-          let passes-ok = settle_as (Ok tt) _ _ _ _ (g.D.Device.time c.flush.new.dev) (g.D.Device.time c.sync.new.self) p n (c.in_ok-sync.ensures.told t) in
-          let wrote = c.in_ok-this.ensures.wrote t (bytes_of u b0.content) backed (tip_stands u b0.content) in
-          let same = settle_data c.args.self.page_size (bytes_of u b0.content) (size_of u) key (g.D.Device.time c.flush.new.dev) (g.D.Device.time c.sync.new.self) tt passes-ok wrote.done in
-          flushed_backed after c.args.self.page_size (size_of u) (bytes_of u b0.content) _ (omega (arith, c.in_ok-this.this.fit.begun)) c.in_ok-this.ensures.page_size size same (c.in_ok-this.ensures.tip (bytes_of u b0.content) (tip_stands u b0.content)) (bytes_length u b0.content) (omega (arith, c.in_ok-this.ensures.flushed));
-      held = λ t was.
           let passes-ok = settle_as (Ok tt) _ _ _ _ (g.D.Device.time c.flush.new.dev) (g.D.Device.time c.sync.new.self) p n (c.in_ok-sync.ensures.told t) in
           let same = ok_blob (key_of (shown c.args.self)) Settle tt (g.D.Device.time c.flush.new.dev) (g.D.Device.time c.sync.new.self) passes-ok in
-          subst (λ (b : Blob). AreHeldOf b.content c.in_ok-this.this.held) (sym same) (c.in_ok-this.ensures.held t was);
+          let now = c.in_ok-this.ensures.backed t backed in
+          subst (λ (b : Blob). IsBacked g.S.Seal.seal_of after b.content) (sym same) (record { flushed = now.flushed; tip = now.tip; cache = now.cache });
       idle = λ e. absurd (unsettled e);
       same = λ e. absurd (unsettled e);
       leaves = λ t sealed.
           let passes = settle_as c.sync.result _ _ _ _ (g.D.Device.time c.flush.new.dev) (g.D.Device.time c.sync.new.self) p n (c.sync.ensures.told t) in
           let passes-ok = settle_as (Ok tt) _ _ _ _ (g.D.Device.time c.flush.new.dev) (g.D.Device.time c.sync.new.self) p n (c.in_ok-sync.ensures.told t) in
           let holds = (holds_synced g.S.Seal.seal_of r (bytes_of u b0.content) key (g.D.Device.time c.flush.new.dev) (g.D.Device.time c.sync.new.self) tt c.flushed-end.result c.last_slot_of-slot.result c.in_ok-this.this.fit.begun open_ c.flushed-end.ensures c.last_slot_of-slot.ensures
-          (c.in_ok-this.ensures.done t (bytes_of u b0.content) sealed) passes-ok) in
+          (c.in_ok-this.ensures.done t (bytes_of u b0.content) sealed.holds) passes-ok) in
           leaves_of g.S.Seal.seal_of after c.args.self.page_size (size_of u) (bytes_of u b0.content) (disk (g.D.Device.time c.sync.new.self) (key_of (shown c.args.self))) c.in_ok-this.ensures.page_size c.in_ok-this.this.fit.begun end holds;
       rests = λ t before.
           let passes-ok = settle_as (Ok tt) _ _ _ _ (g.D.Device.time c.flush.new.dev) (g.D.Device.time c.sync.new.self) p n (c.in_ok-sync.ensures.told t) in
@@ -216,13 +216,15 @@ returns g c =
           let passes = settle_as c.sync.result _ _ _ _ (g.D.Device.time c.flush.new.dev) (g.D.Device.time c.sync.new.self) p n (c.sync.ensures.told t) in
           let passes-ok = settle_as (Ok tt) _ _ _ _ (g.D.Device.time c.flush.new.dev) (g.D.Device.time c.sync.new.self) p n (c.in_ok-sync.ensures.told t) in
           let holds = (holds_synced g.S.Seal.seal_of r (bytes_of u b0.content) key (g.D.Device.time c.flush.new.dev) (g.D.Device.time c.sync.new.self) tt c.flushed-end.result c.last_slot_of-slot.result c.in_ok-this.this.fit.begun open_ c.flushed-end.ensures c.last_slot_of-slot.ensures
-          (c.in_ok-this.ensures.done t (bytes_of u b0.content) sealed) passes-ok) in
+          (c.in_ok-this.ensures.done t (bytes_of u b0.content) sealed.holds) passes-ok) in
           settles_of g.S.Seal.seal_of after c.args.self.page_size (bytes_of u b0.content) (disk (g.D.Device.time c.sync.new.self) (key_of (shown c.args.self))) c.in_ok-this.ensures.page_size c.in_ok-this.this.fit.begun flushed (end ∙ sym size) holds;
       settled = c.flushed-end.ensures ∙ ap (λ (m : ℕ). c.in_ok-this.this.first * c.in_ok-this.this.page_size + m) c.in_ok-this.ensures.flushed;
       size = c.in_ok-this.ensures.size;
       key = c.in_ok-this.ensures.key;
       page_size = c.in_ok-this.ensures.page_size;
       capacity = c.in_ok-this.ensures.capacity;
+      cache_pages = c.in_ok-this.ensures.cache_pages;
+      cached = c.in_ok-this.ensures.cached;
       «open» = subst (λ (k : Key). IsOpenAt (g.D.Device.opened c.sync.new.self) k c.in_ok-this.this.end) (sym c.in_ok-this.ensures.key)
           (open_same (key_of (shown c.args.self)) (g.D.Device.opened c.flush.new.dev) _ c.in_ok-this.this.end c.in_ok-sync.ensures.opened c.in_ok-this.ensures.length);
       entries = subst (NoReads (key_of (shown c.args.self)) (g.D.Device.opened c.args.dev.now)) (sym c.sync.ensures.opened) c.in_ok-this.ensures.entries;

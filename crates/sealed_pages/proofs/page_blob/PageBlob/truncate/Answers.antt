@@ -9,7 +9,6 @@ use Rattle.blob_device.proofs.Results.{err_of, ok_with, on_err}
 use Rattle.sealed_pages.specs.Buffer.{key_of, size_of, bytes_of}
 use Rattle.sealed_pages.specs.Cutting.{FewReads}
 use Rattle.sealed_pages.specs.Entries.{NoReads}
-use Rattle.sealed_pages.specs.Held.{AreHeldOf}
 use Rattle.sealed_pages.specs.Shown.{shown}
 use Rattle.sealed_pages.specs.Slots.{page_length}
 use Rattle.sealed_pages.specs.Reading.{Unchanged}
@@ -34,7 +33,7 @@ returns-then-len-size g c =
     let past : size_of (shown c.args.self) ≤ c.args.len = omega (arith, c.size.ensures, c.if-len-size.true) in
     record {
       crashes = λ t sealed. sealing_less g.S.Seal.seal_of _ _ c.args.self.settled _ _ _ _ (omega arith)
-          (holds_start g.S.Seal.seal_of (shown c.args.self) _ _ _ c.args.self.fit.begun sealed);
+          (holds_start g.S.Seal.seal_of (shown c.args.self) _ _ _ c.args.self.fit.begun sealed.holds);
       sealed = λ t sealed. sealed;
       recovering = λ t recovery. absurd (no_recovery g.S.Seal.seal_of (shown c.args.self) c.args.len (disk (g.D.Device.time c.args.dev.now) (key_of (shown c.args.self))) c.args.self.fit.begun past recovery);
       recovered = λ t recovery. absurd (no_recovery g.S.Seal.seal_of (shown c.args.self) c.args.len (disk (g.D.Device.time c.args.dev.now) (key_of (shown c.args.self))) c.args.self.fit.begun past recovery);
@@ -46,7 +45,7 @@ returns-then-len-size g c =
       bytes = λ t backed. sym (take_all c.args.len (bytes_of (shown c.args.self) (disk (g.D.Device.time c.args.dev.now) (key_of (shown c.args.self))).content) (omega (arith, bytes_length (shown c.args.self) (disk (g.D.Device.time c.args.dev.now) (key_of (shown c.args.self))).content, past)));
       backed = λ t backed. backed;
       alone = λ t backed. alone_start (g.D.Device.time c.args.dev.now) (key_of (shown c.args.self));
-      held = λ t was. was;
+      cache = λ lt. absurd (omega (arith, lt, past));
       unchanged = λ le. refl;
       same = λ le. refl;
       settled = λ lt. absurd (omega (arith, lt, past));
@@ -58,6 +57,7 @@ returns-then-len-size g c =
       key = refl;
       page_size = refl;
       capacity = refl;
+      cache_pages = refl;
       «open» = c.requires.open;
       entries = few_start 1 c.args.self.end (key_of (shown c.args.self)) (g.D.Device.opened c.args.dev.now) c.requires.open;
       faults = omega arith;
@@ -99,7 +99,7 @@ returns-in_err-this g c =
       bytes = λ t backed. no_value _ _ c.from_residual.ensures.0;
       backed = λ t backed. no_value _ _ c.from_residual.ensures.0;
       alone = c.in_err-this.ensures.alone;
-      held = λ t was. no_value _ _ c.from_residual.ensures.0;
+      cache = λ less. no_value _ _ c.from_residual.ensures.0;
       unchanged = λ le. absurd (omega (arith, le, lt));
       same = λ le. absurd (omega (arith, le, lt));
       settled = λ less. no_value _ _ c.from_residual.ensures.0;
@@ -111,6 +111,7 @@ returns-in_err-this g c =
       key = no_value _ _ c.from_residual.ensures.0;
       page_size = no_value _ _ c.from_residual.ensures.0;
       capacity = no_value _ _ c.from_residual.ensures.0;
+      cache_pages = no_value _ _ c.from_residual.ensures.0;
       «open» = no_value _ _ c.from_residual.ensures.0;
       entries = few_none 1 (key_of (shown c.args.self)) _ _ c.in_err-this.ensures.entries;
       faults = c.in_err-this.ensures.faults;
@@ -133,7 +134,7 @@ at-start g c = omega (arith, (placed c.in_ok-this.this.page_size c.from-page_siz
 -- the buffer that it gives
 marks-start : (g : given.Over) (c : goal.After-cut_at g) → IfOk c.cut_at.result (λ v. IsCut (shown c.args.self) c.args.len (c.args.len / c.from-page_size.result) (shown v))
 marks-start g c = ok_of c.cut_at.result c.cut_at.ensures.same (λ v is. is_cut (shown c.args.self) (shown c.in_ok-this.this) (shown v) c.args.len (c.args.len / c.from-page_size.result) []
-    c.in_ok-this.ensures.key c.in_ok-this.ensures.page_size c.in_ok-this.ensures.capacity v.fit.begun (omega (arith, at-start g c)) is)
+    c.in_ok-this.ensures.key c.in_ok-this.ensures.page_size c.in_ok-this.ensures.capacity c.in_ok-this.ensures.cache_pages v.fit.begun (omega (arith, at-start g c)) is)
 
 -- what the two calls say
 ends-start : (g : given.Over) (c : goal.After-cut_at g) → g.D.Device.Tells
@@ -162,6 +163,7 @@ ends-start g c t = record {
     done = c.cut_at.ensures.done t;
     bytes = c.cut_at.ensures.bytes t;
     backed = c.cut_at.ensures.backed t;
+    memory = c.cut_at.ensures.memory t;
     rests = c.cut_at.ensures.rests t;
     alone = c.cut_at.ensures.alone t;
     front = c.cut_at.ensures.front t;
@@ -192,7 +194,7 @@ returns-then-keep-eq0 g c = record {
   bytes = λ t. ends.cut_bytes_are (ends-start g c t);
   backed = λ t. ends.cut_is_backed (ends-start g c t);
   alone = λ t. ends.cut_alone (ends-start g c t);
-  held = λ t was. ok_of c.cut_at.result c.cut_at.ensures.held (λ v held. held _);
+  cache = λ lt. ok_of c.cut_at.result (marks-start g c) (λ v m. m.cache);
   unchanged = λ le. absurd (omega (arith, le, c.size.ensures, c.if-len-size.false));
   same = λ le. absurd (omega (arith, le, c.size.ensures, c.if-len-size.false));
   settled = λ lt. ok_of c.cut_at.result (marks-start g c) (λ v m. m.settled);
@@ -204,6 +206,7 @@ returns-then-keep-eq0 g c = record {
   key = ok_of c.cut_at.result (marks-start g c) (λ v m. m.key);
   page_size = ok_of c.cut_at.result (marks-start g c) (λ v m. m.page);
   capacity = ok_of c.cut_at.result (marks-start g c) (λ v m. m.capacity);
+  cache_pages = ok_of c.cut_at.result (marks-start g c) (λ v m. m.cache_pages);
   «open» = cut_open shown (shown c.args.self) (shown c.in_ok-this.this) c.args.len (c.args.len / c.from-page_size.result) (g.D.Device.opened c.cut_at.new.dev) c.cut_at.result c.in_ok-this.ensures.key (marks-start g c) c.cut_at.ensures.length;
   entries = few_then 1 (key_of (shown c.args.self)) _ (g.D.Device.opened c.sync.new.dev) _ (few_none 1 (key_of (shown c.args.self)) _ _ c.in_ok-this.ensures.entries)
       (subst (λ (q : Key). NoReads q (g.D.Device.opened c.sync.new.dev) (g.D.Device.opened c.cut_at.new.dev)) c.in_ok-this.ensures.key c.cut_at.ensures.entries);
@@ -228,7 +231,7 @@ at-inside g c = omega (arith, (placed c.in_ok-this.this.page_size c.from-page_si
 marks-inside : (g : given.Over) (c : goal.After-cut_within g) → IfOk c.cut_within.result (λ v. IsCut (shown c.args.self) c.args.len (c.args.len / c.from-page_size.result) (shown v))
 marks-inside g c = ok_of c.cut_within.result (both_ok _ _ _ c.cut_within.ensures.same c.cut_within.ensures.long)
     (λ v is. is_cut (shown c.args.self) (shown c.in_ok-this.this) (shown v) c.args.len (c.args.len / c.from-page_size.result) v.tip.items
-    c.in_ok-this.ensures.key c.in_ok-this.ensures.page_size c.in_ok-this.ensures.capacity v.fit.begun (omega (arith, at-inside g c, is.1)) is.0)
+    c.in_ok-this.ensures.key c.in_ok-this.ensures.page_size c.in_ok-this.ensures.capacity c.in_ok-this.ensures.cache_pages v.fit.begun (omega (arith, at-inside g c, is.1)) is.0)
 
 -- what the two calls say
 ends-inside : (g : given.Over) (c : goal.After-cut_within g) → g.D.Device.Tells
@@ -257,6 +260,7 @@ ends-inside g c t = record {
     done = λ rest stands inside. c.cut_within.ensures.done t rest inside;
     bytes = c.cut_within.ensures.bytes t;
     backed = c.cut_within.ensures.backed t;
+    memory = c.cut_within.ensures.memory t;
     rests = c.cut_within.ensures.rests t;
     alone = c.cut_within.ensures.alone t;
     front = c.cut_within.ensures.front t;
@@ -293,7 +297,7 @@ returns g c = record {
   bytes = λ t. ends.cut_bytes_are (ends-inside g c t);
   backed = λ t. ends.cut_is_backed (ends-inside g c t);
   alone = λ t. ends.cut_alone (ends-inside g c t);
-  held = λ t was. ok_of c.cut_within.result c.cut_within.ensures.held (λ v held. held _);
+  cache = λ lt. ok_of c.cut_within.result (marks-inside g c) (λ v m. m.cache);
   unchanged = λ le. absurd (omega (arith, le, c.size.ensures, c.if-len-size.false));
   same = λ le. absurd (omega (arith, le, c.size.ensures, c.if-len-size.false));
   settled = λ lt. ok_of c.cut_within.result (marks-inside g c) (λ v m. m.settled);
@@ -305,6 +309,7 @@ returns g c = record {
   key = ok_of c.cut_within.result (marks-inside g c) (λ v m. m.key);
   page_size = ok_of c.cut_within.result (marks-inside g c) (λ v m. m.page);
   capacity = ok_of c.cut_within.result (marks-inside g c) (λ v m. m.capacity);
+  cache_pages = ok_of c.cut_within.result (marks-inside g c) (λ v m. m.cache_pages);
   «open» = cut_open shown (shown c.args.self) (shown c.in_ok-this.this) c.args.len (c.args.len / c.from-page_size.result) (g.D.Device.opened c.cut_within.new.dev) c.cut_within.result c.in_ok-this.ensures.key (marks-inside g c) c.cut_within.ensures.length;
   entries = then_few 1 (key_of (shown c.args.self)) _ (g.D.Device.opened c.sync.new.dev) _ c.in_ok-this.ensures.entries
       (subst (λ (q : Key). FewReads 1 q (g.D.Device.opened c.sync.new.dev) (g.D.Device.opened c.cut_within.new.dev)) c.in_ok-this.ensures.key c.cut_within.ensures.entries);

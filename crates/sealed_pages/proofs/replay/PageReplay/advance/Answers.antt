@@ -13,5 +13,5 @@ returns-clause-replays g c content is =
       covered = covered_rest g.S.Seal.seal_of c.args.self.now.page_size content c.args.self.now.at (length (drop c.args.self.now.used c.args.self.now.held.items)) c.args.n (length (drop (c.args.self.now.used + c.args.n) c.args.self.now.held.items)) is.covered c.requires
           (omega (arith, length-drop c.args.self.now.used c.args.self.now.held.items, length-drop (c.args.self.now.used + c.args.n) c.args.self.now.held.items));
       piece = is.piece;
-      pages = is.pages;
+      tip = is.tip;
     }

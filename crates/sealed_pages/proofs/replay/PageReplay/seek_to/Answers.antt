@@ -9,5 +9,5 @@ returns-clause-replays g c content is =
       bytes = data_nil c.args.self.now.page_size c.args.offset (view content) (drop c.len-self.result c.args.self.now.held.items) (omega (arith, length-drop c.len-self.result c.args.self.now.held.items, len));
       covered = covered_none g.S.Seal.seal_of c.args.self.now.page_size content c.args.offset (length (drop c.len-self.result c.args.self.now.held.items)) (omega (arith, length-drop c.len-self.result c.args.self.now.held.items, len));
       piece = is.piece;
-      pages = is.pages;
+      tip = is.tip;
     }

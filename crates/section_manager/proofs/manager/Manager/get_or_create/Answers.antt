@@ -51,7 +51,6 @@ returns g c =
           reads = hold.reads;
           guard = (λ is. absurd (cc is), λ below. absurd (cc (done.guard.1 below)));
           refuses = hold.refuses;
-          overflow = λ is. absurd (cc is);
           faults = hold.faults;
           cause = tt;
         };

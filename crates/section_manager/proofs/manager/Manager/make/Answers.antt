@@ -13,14 +13,14 @@ returns-in_err-expect g c =
     let m = shown c.args.self.now in
     let n = shown c.expect.new.self in
     let e = c.expect.ensures in
-    take_short g.F.Buffer.SectionBuffer g.F.BufferFactory.gives g.F.BufferFactory.TooLong g.D.Device m c.args.section c.args.dev.now c.requires.over c.requires.floor n e.bounds
+    take_short g.F.Buffer.SectionBuffer g.F.BufferFactory.gives g.D.Device m c.args.section c.args.dev.now c.requires.over c.requires.floor n e.bounds
     (all_same m n c.args.section (record { held = e.held c.args.section; unopened = c.in_err-expect.ensures.refused }) (λ q other. record { held = e.held q; unopened = e.others q other }))
     _ (mem_of c.from_residual.result _ (err_of c.from_residual.result _ c.from_residual.ensures.1) c.in_err-expect.ensures.cause)
 
 pub returns-in_err-buffer : goal.returns-in_err-buffer
 returns-in_err-buffer g c =
     let e = c.expect.ensures in
-    make_failed g.F.Buffer.SectionBuffer g.F.BufferFactory.gives g.F.BufferFactory.TooLong g.D.Device (shown c.args.self.now) c.args.section c.args.dev.now c.requires.over c.ranges.section.fits c.requires.floor c.requires.absent c.open.new.dev _ _
+    make_failed g.F.Buffer.SectionBuffer g.F.BufferFactory.gives g.D.Device (shown c.args.self.now) c.args.section c.args.dev.now c.requires.over c.ranges.section.fits c.requires.floor c.requires.absent c.open.new.dev _ _
     (ap (λ p. section_key p c.args.section) e.bounds.place.partition) e.bounds.place.factory (shown c.expect.new.self) e.bounds (λ q other. record { held = e.held q; unopened = e.others q other })
     (e.held c.args.section ∙ c.requires.absent) c.in_ok-expect.ensures.known _ e.still_section c.in_err-buffer.ensures _ (err_of c.from_residual-in_err-buffer.result _ c.from_residual-in_err-buffer.ensures.1)
 
@@ -30,6 +30,6 @@ returns-in_err-insert g c = absurd (cc (ap is_some c.in_err-insert.ensures.absen
 pub returns : goal.returns
 returns g c =
     let e = c.expect.ensures in
-    made g.F.Buffer.SectionBuffer g.F.BufferFactory.gives g.F.BufferFactory.TooLong g.D.Device (shown c.args.self.now) c.args.section c.args.dev.now c.requires.over c.ranges.section.fits c.requires.floor c.requires.absent c.open.new.dev _ _
+    made g.F.Buffer.SectionBuffer g.F.BufferFactory.gives g.D.Device (shown c.args.self.now) c.args.section c.args.dev.now c.requires.over c.ranges.section.fits c.requires.floor c.requires.absent c.open.new.dev _ _
     (ap (λ p. section_key p c.args.section) e.bounds.place.partition) e.bounds.place.factory _ (record { place = record { partition = e.bounds.place.partition; factory = e.bounds.place.factory }; floor = e.bounds.floor; ceiling = e.bounds.ceiling })
     (λ q other. record { held = e.held q; unopened = search rules }) (e.held c.args.section ∙ c.requires.absent) (search rules) (search rules) c.in_ok-buffer.buffer c.in_ok-buffer.ensures

@@ -11,7 +11,7 @@ use Rattle.section_manager.proofs.sections.OpeningEnds.{blob_failed, blob_refuse
 use Rattle.section_manager.proofs.manager.Manager.open.Goals as goal
 
 pub returns-in_err-size : goal.returns-in_err-size
-returns-in_err-size g c = blob_refused g.F.Buffer.SectionBuffer g.F.BufferFactory.gives g.F.BufferFactory.TooLong g.D.Device (key_of (shown c.args.self.now) c.args.section) c.args.self.now.factory c.args.dev.now c.open_blob.new.self
+returns-in_err-size g c = blob_refused g.F.Buffer.SectionBuffer g.F.BufferFactory.gives g.D.Device (key_of (shown c.args.self.now) c.args.section) c.args.self.now.factory c.args.dev.now c.open_blob.new.self
     _ _ (err_of c.from_residual.result _ c.from_residual.ensures.1) (λ t. opening_moments _ _ (λ i. (c.as_str-partition.ensures.value i, (c.as_slice.ensures ∙ c.to_be_bytes-name.ensures) i)) (g.D.Device.time c.args.dev.now) (g.D.Device.time c.open_blob.new.self) c.open_blob.result (c.open_blob.ensures.told t))
     c.in_err-size.ensures.opened_err c.open_blob.ensures.counts.later (device_failed c.in_err-size.field-0.0 _ _ _ _ c.in_err-size.ensures.counts)
 
@@ -24,12 +24,12 @@ pub returns-in_err-buffer : goal.returns-in_err-buffer
 returns-in_err-buffer g c =
     let k = key_of (shown c.args.self.now) c.args.section in
     let e = c.in_err-buffer.ensures in
-    blob_failed g.F.Buffer.SectionBuffer g.F.BufferFactory.gives g.F.BufferFactory.TooLong g.D.Device k c.args.self.now.factory c.args.dev.now c.open_blob.new.self c.create.new.dev c.in_ok-size.size
+    blob_failed g.F.Buffer.SectionBuffer g.F.BufferFactory.gives g.D.Device k c.args.self.now.factory c.args.dev.now c.open_blob.new.self c.create.new.dev
     _ c.in_err-buffer.field-0.0 refl _ (err_of c.from_residual-in_err-buffer.result _ c.from_residual-in_err-buffer.ensures.1)
     (λ t. opened_moments _ _ (λ i. (c.as_str-partition.ensures.value i, (c.as_slice.ensures ∙ c.to_be_bytes-name.ensures) i)) (g.D.Device.time c.args.dev.now) (g.D.Device.time c.open_blob.new.self) (g.D.Device.time c.create.new.dev) (c.create.ensures.unchanged t) c.open_blob.result (c.open_blob.ensures.told t))
     (entered_entries _ _ (λ i. (c.as_str-partition.ensures.value i, (c.as_slice.ensures ∙ c.to_be_bytes-name.ensures) i)) c.in_ok-size.size (g.D.Device.opened c.args.dev.now) (g.D.Device.opened c.open_blob.new.self) c.in_ok-size.ensures.opened (g.D.Device.opened c.create.new.dev) _ (λ i. (c.as_str-partition.ensures.value i, (c.as_slice-2.ensures ∙ c.to_be_bytes-name.ensures) i)) c.create.ensures.entries)
     (λ none. entered_reads _ _ (λ i. (c.as_str-partition.ensures.value i, (c.as_slice.ensures ∙ c.to_be_bytes-name.ensures) i)) c.in_ok-size.size (g.D.Device.opened c.args.dev.now) (g.D.Device.opened c.open_blob.new.self) c.in_ok-size.ensures.opened (g.D.Device.opened c.create.new.dev) (c.create.ensures.reads none))
-    e.overflow (subst (λ (x : Key). IsOpenAt (g.D.Device.opened c.create.new.dev) x c.in_ok-size.size) (λ i. (c.as_str-partition.ensures.value i, (c.as_slice-2.ensures ∙ c.to_be_bytes-name.ensures) i)) c.create.ensures.«open») c.open_blob.ensures.counts.later c.create.ensures.faults e.cause
+    c.open_blob.ensures.counts.later c.create.ensures.faults e.cause
 
 pub returns : goal.returns
 returns g c =
@@ -52,7 +52,6 @@ returns g c =
       «open» = subst (λ n. IsOpenAt list k n) (sym c.in_ok-buffer.ensures.extent) (subst (λ (x : Key). IsOpenAt list x c.in_ok-size.size) (λ i. (c.as_str-partition.ensures.value i, (c.as_slice-2.ensures ∙ c.to_be_bytes-name.ensures) i)) c.create.ensures.«open»);
       entries = entered_entries _ _ (λ i. (c.as_str-partition.ensures.value i, (c.as_slice.ensures ∙ c.to_be_bytes-name.ensures) i)) c.in_ok-size.size (g.D.Device.opened c.args.dev.now) (g.D.Device.opened c.open_blob.new.self) c.in_ok-size.ensures.opened list _ (λ i. (c.as_str-partition.ensures.value i, (c.as_slice-2.ensures ∙ c.to_be_bytes-name.ensures) i)) c.create.ensures.entries;
       reads = λ none. entered_reads _ _ (λ i. (c.as_str-partition.ensures.value i, (c.as_slice.ensures ∙ c.to_be_bytes-name.ensures) i)) c.in_ok-size.size (g.D.Device.opened c.args.dev.now) (g.D.Device.opened c.open_blob.new.self) c.in_ok-size.ensures.opened list (c.create.ensures.reads none);
-      overflow = λ room. absurd (cc room);
       faults = omega (arith, c.open_blob.ensures.counts.later, c.create.ensures.faults);
       cause = tt;
     }

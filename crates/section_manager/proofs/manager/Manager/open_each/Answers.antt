@@ -4,7 +4,7 @@ use Rattle.section_manager.specs.managing.Managed.{shown}
 use Rattle.section_manager.specs.managing.Opening.{OpensEach}
 use Rattle.section_manager.specs.Sections.{IsHeld}
 use Rattle.section_manager.proofs.NumberLemmas.{of_listed}
-use Rattle.section_manager.proofs.InitLemmas.{touches_by, touched_none, opened_none, touched_more, opened_more, too_long_at, failed_since}
+use Rattle.section_manager.proofs.InitLemmas.{touches_by, touched_none, opened_none, touched_more, opened_more, failed_since}
 use Rattle.section_manager.proofs.Seen.{err_seen}
 use Rattle.section_manager.proofs.manager.Manager.open_each.Goals as goal
 
@@ -38,7 +38,7 @@ returns-in_err-this g c =
     let touches = touches_by b f d.Tells d.time d.opened number now before after call.passed call.untouched call.moments call.entries call.reads in
     let touched = touched_more b f d.Tells xs m (d.time first) (d.opened first) i number now (d.time before) (d.time after) (d.opened before) (d.opened after)
     c.loop-number.invariant.opened touches (Contains-get_or xs i 0 c.loop-number-test.true) c.requires.there c.loop-number.invariant.touched in
-    subst (OpensEach g.F.Buffer.SectionBuffer g.F.BufferFactory.gives g.F.BufferFactory.TooLong g.D.Device m xs first after) (sym (err_seen shown c.from_residual.result _ c.from_residual.ensures.1)) (record {
+    subst (OpensEach g.F.Buffer.SectionBuffer g.F.BufferFactory.gives g.D.Device m xs first after) (sym (err_seen shown c.from_residual.result _ c.from_residual.ensures.1)) (record {
       over = tt;
       held = tt;
       passed = tt;
@@ -48,7 +48,6 @@ returns-in_err-this g c =
       moments = touched.moments;
       entries = touched.entries;
       reads = touched.reads;
-      overflow = λ room. (number, too_long_at g.F.BufferFactory.TooLong m now number (d.opened after) c.loop-number.invariant.opened.bounds (c.in_err-this.ensures.overflow room));
       faults = omega (arith, c.loop-number.invariant.faults, call.faults);
       cause = failed_since _ c.in_err-this.field-0.0 (d.faults first) (d.faults before) (d.faults after) refl c.loop-number.invariant.faults c.in_err-this.ensures.cause;
     })
@@ -93,7 +92,6 @@ returns g c =
       moments = ran.touched.moments;
       entries = ran.touched.entries;
       reads = ran.touched.reads;
-      overflow = λ room. absurd (cc room);
       faults = ran.faults;
       cause = tt;
     }

@@ -4,7 +4,7 @@ use Rattle.std.proofs.Math.Nat.{mod_self}
 use Rattle.blob_device.proofs.Results.{err_of}
 use Rattle.section_manager.specs.declared.journal.Error.TheVariants.{Mem}
 use Rattle.segments.specs.FixedShown.{shown}
-use Rattle.segments.proofs.FixedAdding.{along_nothing, error_is, failed, item_appended, item_overfills, mem_not_full, mem_not_pruned, mem_not_room, pruned_not_full, pruned_not_room}
+use Rattle.segments.proofs.FixedAdding.{along_nothing, error_is, failed, item_appended, item_overfills, mem_not_full, mem_not_pruned, pruned_not_full}
 use Rattle.segments.proofs.FixedPassing.{guard_ok, guard_on, no_error}
 use Rattle.segments.proofs.FixedWriteLemmas.{are_pages}
 use Rattle.segments.proofs.fixed.Journal.append.Goals as goal
@@ -21,7 +21,7 @@ returns-in_err-prune_guard g c =
     let pruned = error_is e _ o.cause in
     rw (err_of c.from_residual.result e c.from_residual.ensures.1)
     (failed g.S.Seal.seal_of g.A.CodecFixed.SIZE _ (are_pages g.row.S g.S.Seal g.S.Seal-dict) _ g.D.Device (shown c.args.self) c.args.section c.args.dev.now c.requires.over c.requires.recovered (g.A.Codec.spelling c.args.item.now) g.A.CodecFixed.SIZE _ _ c.args.dev.now e (along_nothing g.S.Seal.seal_of g.A.CodecFixed.SIZE _ (are_pages g.row.S g.S.Seal g.S.Seal-dict) _ g.D.Device (shown c.args.self) c.args.section c.args.dev.now c.requires.over c.requires.recovered (g.A.Codec.spelling c.args.item.now) g.A.CodecFixed.SIZE) (guard_on _ e _ _ refl o.guard) (λ lt. refl)
-    (λ is which. absurd (pruned_not_full e _ pruned is)) (λ le u held big. absurd (omega (arith, le, o.guard.0 o.cause))) (λ t is. pruned_not_room e _ pruned is) (inl (ap Err pruned)))
+    (λ is which. absurd (pruned_not_full e _ pruned is)) (λ le u held big. absurd (omega (arith, le, o.guard.0 o.cause))) (inl (ap Err pruned)))
 
 pub returns-in_err-bytes : goal.returns-in_err-bytes
 returns-in_err-bytes g c =
@@ -30,7 +30,7 @@ returns-in_err-bytes g c =
     rw (err_of c.from_residual-in_err-bytes.result e c.from_residual-in_err-bytes.ensures.1)
     (failed g.S.Seal.seal_of g.A.CodecFixed.SIZE _ (are_pages g.row.S g.S.Seal g.S.Seal-dict) _ g.D.Device (shown c.args.self) c.args.section c.args.dev.now c.requires.over c.requires.recovered (g.A.Codec.spelling c.args.item.now) g.A.CodecFixed.SIZE _ _ c.args.dev.now e (along_nothing g.S.Seal.seal_of g.A.CodecFixed.SIZE _ (are_pages g.row.S g.S.Seal g.S.Seal-dict) _ g.D.Device (shown c.args.self) c.args.section c.args.dev.now c.requires.over c.requires.recovered (g.A.Codec.spelling c.args.item.now) g.A.CodecFixed.SIZE)
     (λ pruned. absurd (mem_not_pruned e mem _ pruned), λ lt. absurd (no_error _ _ (c.in_ok-prune_guard.ensures.guard.1 lt))) (λ lt. refl)
-    (λ is which. absurd (mem_not_full e mem is)) (λ le u held big. inr (ap Err mem)) (λ t is. mem_not_room e mem is) (inr (inr (inr (inl (ap Err mem))))))
+    (λ is which. absurd (mem_not_full e mem is)) (λ le u held big. inr (ap Err mem)) (inr (inr (inl (ap Err mem)))))
 
 pub returns-in_err-this : goal.returns-in_err-this
 returns-in_err-this g c =
@@ -71,7 +71,6 @@ returns g c =
       refuses = did.refuses;
       full = λ is which. absurd (no_error _ _ is);
       full_first = λ le u held big. absurd (elim (did.full_first le u held big) [ inl is ↦ no_error _ _ is | inr is ↦ no_error _ _ is ]);
-      no_room = λ t is. no_error _ _ is;
       room = did.room;
       faults = did.faults;
       cause = did.cause;

@@ -9,7 +9,6 @@ use Rattle.blob_device.proofs.Results.{err_of}
 use Rattle.sealed_pages.specs.Buffer as pages
 use Rattle.sealed_pages.specs.Buffer.{extent, bytes_of, IsSealed}
 use Rattle.sealed_pages.specs.Entries.{IsOpenAt}
-use Rattle.sealed_pages.specs.Held.{AreHeldOf}
 use Rattle.sealed_pages.specs.Shown as page_blob
 use Rattle.sealed_pages.specs.Tails.{LeavesTail}
 use Rattle.sealed_pages.specs.Unrecovered.{IsAdopted, IsUnrecovered}
@@ -24,9 +23,9 @@ use Rattle.section_manager.proofs.sections.KeyLemmas.{keys_differ}
 use Rattle.segments.specs.FixedFull.{full_or_raised_of}
 use Rattle.segments.specs.FixedLists.{section_size}
 use Rattle.segments.specs.FixedShown.{shown}
-use Rattle.segments.proofs.FixedAdding.{Took, along_taken, along_untaken, buffer_error, buffer_well, error_is, failed, mem_not_full, mem_not_pruned, mem_not_room, took_of, taken_cause, taken_no_room, taken_not_full, too_many, too_many_taken, why_cause, why_not_pruned, why_not_room, why_of}
-use Rattle.segments.proofs.FixedAppendLemmas.{Added, append_journal, appended_adopted, at_ok, full_is, no_room_made, same_setting, taken_adopted, taken_bytes, taken_size, taken_still, was_err, was_ok}
-use Rattle.segments.proofs.FixedCalls.{bounds_then, held_on, same_then}
+use Rattle.segments.proofs.FixedAdding.{Took, along_taken, along_untaken, buffer_error, buffer_well, error_is, failed, mem_not_full, mem_not_pruned, took_of, taken_cause, taken_not_full, too_many, too_many_taken, why_cause, why_not_pruned, why_of}
+use Rattle.segments.proofs.FixedAppendLemmas.{Added, append_journal, appended_adopted, at_ok, full_is, same_setting, taken_adopted, taken_bytes, taken_size, taken_still, was_err, was_ok}
+use Rattle.segments.proofs.FixedCalls.{bounds_then, same_then}
 use Rattle.segments.proofs.FixedPassing.{guard_ok, guard_on, no_error}
 use Rattle.segments.proofs.FixedSpared.{bytes_spared}
 use Rattle.segments.proofs.FixedWriteLemmas.{are_pages, bytes_here, size_here}
@@ -51,8 +50,6 @@ returns-in_err-buffer g c =
     (failed g.S.Seal.seal_of g.A.CodecFixed.SIZE _ (are_pages g.row.S g.S.Seal g.S.Seal-dict) _ g.D.Device j c.args.section c.args.dev.now c.requires.over c.requires.recovered c.args.bytes.now n _ _ c.take.new.dev e along (guard_on _ e _ _ refl o.guard) k.refuses
     (λ is which. absurd (taken_not_full e _ _ _ o.cause is))
     (λ le w held big. inr (ap Err (error_is e Mem (o.held_cause (subst IsSome (sym held) refl)))))
-    (λ t. taken_no_room e (j.sections.held c.args.section) o.held_cause (λ none room. no_room_made g.S.Seal.seal_of g.A.CodecFixed.SIZE g.D.Device.Tells _ (are_pages g.row.S g.S.Seal g.S.Seal-dict) _ j (g.D.Device.opened c.args.dev.now) (g.D.Device.time c.args.dev.now) c.requires.over c.args.section c.requires.recovered c.ranges.section.fits t none (g.D.Device.time c.take.new.dev) j.sections.factory.pages.page_size
-    (g.D.Device.opened c.take.new.dev (key_of j.sections c.args.section)) j.sections.factory.small (k.moments t) (g.met.D.Device.opened_stands t c.take.new.dev (key_of j.sections c.args.section)) (o.overflow room)))
     (taken_cause e _ _ _ o.cause))
 
 pub returns-in_err-buffer-2 : goal.returns-in_err-buffer-2
@@ -75,7 +72,7 @@ returns-in_err-buffer-2 g c =
     (λ is which. (let full : e ≡ Full = error_is e Full is in let over : was.0 ≡ OffsetOverflow = full_is was.0 (sym was.2 ∙ full) in
     too_many g.S.Seal.seal_of g.A.CodecFixed.SIZE _ (are_pages g.row.S g.S.Seal g.S.Seal-dict) _ g.D.Device j c.args.section c.args.dev.now c.requires.over c.requires.recovered c.args.bytes.now c.ranges.section.fits mid u took (f.overflow.0 (was.1 ∙ ap Err over)) which))
     (λ le w held big. (let over : was.0 ≡ OffsetOverflow = buffer_error c.append.result was.0 OffsetOverflow was.1 (f.overflow.1 (too_many_taken g.S.Seal.seal_of g.A.CodecFixed.SIZE _ (are_pages g.row.S g.S.Seal g.S.Seal-dict) _ g.D.Device j c.args.section c.args.dev.now c.requires.over c.requires.recovered c.args.bytes.now c.ranges.section.fits mid u took w held big)) in inl (ap Err (was.2 ∙ ap full_or_raised_of over))))
-    (λ t is. why_not_room e _ _ why is) (why_cause e _ _ why _ _ k.faults))
+    (why_cause e _ _ why _ _ k.faults))
 
 pub returns-in_err-put : goal.returns-in_err-put
 returns-in_err-put g c =
@@ -93,7 +90,7 @@ returns-in_err-put g c =
     rw (err_of c.from_residual-in_err-put.result e c.from_residual-in_err-put.ensures.1)
     (failed g.S.Seal.seal_of g.A.CodecFixed.SIZE _ (are_pages g.row.S g.S.Seal g.S.Seal-dict) _ g.D.Device j c.args.section c.args.dev.now c.requires.over c.requires.recovered c.args.bytes.now n _ _ c.append.new.dev e along
     (λ pruned. absurd (mem_not_pruned e mem _ pruned), λ lt. absurd (no_error _ _ (o.guard.1 lt))) (λ lt. absurd (no_error _ _ (o.guard.1 lt)))
-    (λ is which. absurd (mem_not_full e mem is)) (λ le w held big. inr (ap Err mem)) (λ t is. mem_not_room e mem is) (inr (inr (inr (inl (ap Err mem))))))
+    (λ is which. absurd (mem_not_full e mem is)) (λ le w held big. inr (ap Err mem)) (inr (inr (inl (ap Err mem)))))
 
 pub returns : goal.returns
 returns g c =
@@ -122,7 +119,7 @@ returns g c =
       few = c.requires.whole;
       idle = λ flushes. ap (λ (x : g.row.D.Denot). disk (g.D.Device.time x)) (f.below flushes);
       key = at_ok c.append.result (v, c.in_ok-buffer-2.offset) (λ (x : PageBlob g.row.S.Denot g.S.Seal × ℕ). pages.key_of (page_blob.shown x.0) ≡ pages.key_of (page_blob.shown u)) ok f.key ∙ o.key;
-      setting = same_setting v.page_size u.page_size v.capacity u.capacity (at_ok c.append.result (v, c.in_ok-buffer-2.offset) (λ (x : PageBlob g.row.S.Denot g.S.Seal × ℕ). x.0.page_size ≡ u.page_size) ok f.page_size) (at_ok c.append.result (v, c.in_ok-buffer-2.offset) (λ (x : PageBlob g.row.S.Denot g.S.Seal × ℕ). x.0.capacity ≡ u.capacity) ok f.capacity) ∙ o.setting;
+      setting = same_setting v.page_size u.page_size v.capacity u.capacity (page_blob.shown v).cache_pages (page_blob.shown u).cache_pages (at_ok c.append.result (v, c.in_ok-buffer-2.offset) (λ (x : PageBlob g.row.S.Denot g.S.Seal × ℕ). x.0.page_size ≡ u.page_size) ok f.page_size) (at_ok c.append.result (v, c.in_ok-buffer-2.offset) (λ (x : PageBlob g.row.S.Denot g.S.Seal × ℕ). x.0.capacity ≡ u.capacity) ok f.capacity) (at_ok c.append.result (v, c.in_ok-buffer-2.offset) (λ (x : PageBlob g.row.S.Denot g.S.Seal × ℕ). (page_blob.shown x.0).cache_pages ≡ (page_blob.shown u).cache_pages) ok f.cache_pages) ∙ o.setting;
       is_open = subst (λ (q : Key). IsOpenAt (g.D.Device.opened c.append.new.dev) q v.end) (at_ok c.append.result (v, c.in_ok-buffer-2.offset) (λ (x : PageBlob g.row.S.Denot g.S.Seal × ℕ). pages.key_of (page_blob.shown x.0) ≡ pages.key_of (page_blob.shown u)) ok f.key ∙ o.key) (at_ok c.append.result (v, c.in_ok-buffer-2.offset) (λ (x : PageBlob g.row.S.Denot g.S.Seal × ℕ). IsOpenAt (g.D.Device.opened c.append.new.dev) (pages.key_of (page_blob.shown x.0)) x.0.end) ok f.«open»);
       entries = λ q other. f.entries.others q (λ is. other (is ∙ o.key));
       adopted = λ t. subst (λ (q : Key). IsAdopted g.S.Seal.seal_of (page_blob.shown v) (disk end q)) o.key
@@ -130,9 +127,6 @@ returns g c =
           (λ is. at_ok c.append.result (v, c.in_ok-buffer-2.offset) (λ (x : PageBlob g.row.S.Denot g.S.Seal × ℕ). IsSealed g.S.Seal.seal_of (page_blob.shown x.0) (disk end (pages.key_of (page_blob.shown u)))) ok (f.sealed t is))
           (λ is. at_ok c.append.result (v, c.in_ok-buffer-2.offset) (λ (x : PageBlob g.row.S.Denot g.S.Seal × ℕ). IsUnrecovered g.S.Seal.seal_of (page_blob.shown x.0) (disk end (pages.key_of (page_blob.shown u)))) ok (f.unrecovered t is))
           (adopted t));
-      holds = λ t. held_on u v key now end o.key
-          (λ has. at_ok c.append.result (v, c.in_ok-buffer-2.offset) (λ (x : PageBlob g.row.S.Denot g.S.Seal × ℕ). AreHeldOf (disk end (pages.key_of (page_blob.shown u))).content x.0.held) ok (f.held t has))
-          (o.stands t).held;
       sealed = λ t is. subst (λ (q : Key). IsSealed g.S.Seal.seal_of (page_blob.shown v) (disk end q)) o.key
           (at_ok c.append.result (v, c.in_ok-buffer-2.offset) (λ (x : PageBlob g.row.S.Denot g.S.Seal × ℕ). IsSealed g.S.Seal.seal_of (page_blob.shown x.0) (disk end (pages.key_of (page_blob.shown u)))) ok
           (f.sealed t (subst (λ (q : Key). IsSealed g.S.Seal.seal_of (page_blob.shown u) (disk now q)) (sym o.key) is)));
@@ -180,7 +174,6 @@ returns g c =
       refuses = λ lt. absurd (no_error _ _ (o.guard.1 lt));
       full = λ is which. absurd (no_error _ _ is);
       full_first = λ le w held big. absurd (buffer_well c.append.result (v, c.in_ok-buffer-2.offset) OffsetOverflow ok (f.overflow.1 (too_many_taken g.S.Seal.seal_of g.A.CodecFixed.SIZE _ (are_pages g.row.S g.S.Seal g.S.Seal-dict) _ g.D.Device j c.args.section c.args.dev.now c.requires.over c.requires.recovered c.args.bytes.now c.ranges.section.fits mid u took w held big)));
-      no_room = λ t is. no_error _ _ is;
       room = λ w held. elim (cases_lt (extent w.page_size (pages.size_of (page_blob.shown w) + n)) (2 ^ 64)) [
         | inl lt ↦ lt
         | inr big ↦ absurd (buffer_well c.append.result (v, c.in_ok-buffer-2.offset) OffsetOverflow ok (f.overflow.1 (too_many_taken g.S.Seal.seal_of g.A.CodecFixed.SIZE _ (are_pages g.row.S g.S.Seal g.S.Seal-dict) _ g.D.Device j c.args.section c.args.dev.now c.requires.over c.requires.recovered c.args.bytes.now c.ranges.section.fits mid u took w held big)))

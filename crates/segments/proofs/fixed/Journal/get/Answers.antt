@@ -18,7 +18,7 @@ returns-clause-item g c t =
     let m = shown c.args.self.now.manager in
     let u = c.in_ok-buffer.buffer.now in
     let held = c.in_ok-buffer.ensures.held in
-    let holds = holds_own m c.args.section u held (c.requires.over.opened_list.key c.args.section u held) (disk (g.D.Device.time c.args.dev.now)) ((c.requires.over.disk t).stands c.args.section u held).held in
+    let holds = holds_own m c.args.section u held (c.requires.over.opened_list.key c.args.section u held) g.S.Seal.seal_of (disk (g.D.Device.time c.args.dev.now)) ((c.requires.over.disk t).stands c.args.section u held) in
     subst (λ (l : List ℕ). IfOk c.read_item.result (IsItem g.A.Codec.spelling g.A.Codec.accepted (item_at g.A.CodecFixed.SIZE l c.args.position)))
     (sym (bytes_own m c.args.section u held (c.requires.over.opened_list.key c.args.section u held) (disk (g.D.Device.time c.args.dev.now)))) (c.read_item.ensures.item t holds)
 
@@ -27,7 +27,7 @@ returns-clause-checked g c t =
     let m = shown c.args.self.now.manager in
     let u = c.in_ok-buffer.buffer.now in
     let held = c.in_ok-buffer.ensures.held in
-    let holds = holds_own m c.args.section u held (c.requires.over.opened_list.key c.args.section u held) (disk (g.D.Device.time c.args.dev.now)) ((c.requires.over.disk t).stands c.args.section u held).held in
+    let holds = holds_own m c.args.section u held (c.requires.over.opened_list.key c.args.section u held) g.S.Seal.seal_of (disk (g.D.Device.time c.args.dev.now)) ((c.requires.over.disk t).stands c.args.section u held) in
     on_ok c.read_item.result
     (own_here m c.args.section u held (c.requires.over.opened_list.key c.args.section u held) (λ v b. IsItemCovered g.A.CodecFixed.SIZE g.S.Seal.seal_of v b.content c.args.position) (disk (g.D.Device.time c.args.dev.now)))
     (c.read_item.ensures.checked t holds)
@@ -37,7 +37,7 @@ returns-clause-damaged g c t k is =
     let m = shown c.args.self.now.manager in
     let u = c.in_ok-buffer.buffer.now in
     let held = c.in_ok-buffer.ensures.held in
-    let holds = holds_own m c.args.section u held (c.requires.over.opened_list.key c.args.section u held) (disk (g.D.Device.time c.args.dev.now)) ((c.requires.over.disk t).stands c.args.section u held).held in
+    let holds = holds_own m c.args.section u held (c.requires.over.opened_list.key c.args.section u held) g.S.Seal.seal_of (disk (g.D.Device.time c.args.dev.now)) ((c.requires.over.disk t).stands c.args.section u held) in
     own_here m c.args.section u held (c.requires.over.opened_list.key c.args.section u held) (λ v b. IsDamaged g.A.CodecFixed.SIZE g.S.Seal.seal_of v b.content c.args.position k) (disk (g.D.Device.time c.args.dev.now)) (c.read_item.ensures.damaged t holds k is)
 
 pub returns-clause-refused : goal.returns-clause-refused
@@ -45,7 +45,7 @@ returns-clause-refused g c t e is =
     let m = shown c.args.self.now.manager in
     let u = c.in_ok-buffer.buffer.now in
     let held = c.in_ok-buffer.ensures.held in
-    let holds = holds_own m c.args.section u held (c.requires.over.opened_list.key c.args.section u held) (disk (g.D.Device.time c.args.dev.now)) ((c.requires.over.disk t).stands c.args.section u held).held in
+    let holds = holds_own m c.args.section u held (c.requires.over.opened_list.key c.args.section u held) g.S.Seal.seal_of (disk (g.D.Device.time c.args.dev.now)) ((c.requires.over.disk t).stands c.args.section u held) in
     ap (λ (l : List ℕ). g.A.Codec.refusal (item_at g.A.CodecFixed.SIZE l c.args.position) tt)
     (bytes_own m c.args.section u held (c.requires.over.opened_list.key c.args.section u held) (disk (g.D.Device.time c.args.dev.now)))
     ∙ c.read_item.ensures.refused t holds e is
@@ -55,7 +55,7 @@ returns-clause-sealed_first g c t e is =
     let m = shown c.args.self.now.manager in
     let u = c.in_ok-buffer.buffer.now in
     let held = c.in_ok-buffer.ensures.held in
-    let holds = holds_own m c.args.section u held (c.requires.over.opened_list.key c.args.section u held) (disk (g.D.Device.time c.args.dev.now)) ((c.requires.over.disk t).stands c.args.section u held).held in
+    let holds = holds_own m c.args.section u held (c.requires.over.opened_list.key c.args.section u held) g.S.Seal.seal_of (disk (g.D.Device.time c.args.dev.now)) ((c.requires.over.disk t).stands c.args.section u held) in
     own_here m c.args.section u held (c.requires.over.opened_list.key c.args.section u held) (λ v b. IsItemCovered g.A.CodecFixed.SIZE g.S.Seal.seal_of v b.content c.args.position) (disk (g.D.Device.time c.args.dev.now)) (c.read_item.ensures.sealed_first t holds e is)
 
 pub returns-clause-over : goal.returns-clause-over
@@ -74,6 +74,6 @@ pub returns-clause-sound : goal.returns-clause-sound
 returns-clause-sound g c t which k is =
     let m = shown c.args.self.now.manager in
     let u = c.in_ok-buffer.buffer.now in
-    let holds = holds_own m c.args.section u c.in_ok-buffer.ensures.held (c.requires.over.opened_list.key c.args.section u c.in_ok-buffer.ensures.held) (disk (g.D.Device.time c.args.dev.now)) ((c.requires.over.disk t).stands c.args.section u c.in_ok-buffer.ensures.held).held in
+    let holds = holds_own m c.args.section u c.in_ok-buffer.ensures.held (c.requires.over.opened_list.key c.args.section u c.in_ok-buffer.ensures.held) g.S.Seal.seal_of (disk (g.D.Device.time c.args.dev.now)) ((c.requires.over.disk t).stands c.args.section u c.in_ok-buffer.ensures.held) in
     sound_page _ _ g.S.Seal.seal_of g.A.CodecFixed.SIZE g.D.Device.Tells (lists.shown c.args.self.now) _ (disk (g.D.Device.time c.args.dev.now)) c.requires t c.args.section (λ v. c.args.position) k which
     (own_here m c.args.section u c.in_ok-buffer.ensures.held (c.requires.over.opened_list.key c.args.section u c.in_ok-buffer.ensures.held) (λ v b. IsDamaged g.A.CodecFixed.SIZE g.S.Seal.seal_of v b.content c.args.position k) (disk (g.D.Device.time c.args.dev.now)) (c.read_item.ensures.damaged t holds k is))

@@ -40,7 +40,7 @@ returns-clause-items g c t =
     let held = c.in_ok-buffer.ensures.held in
     let key = c.requires.over.over.opened_list.key c.args.section u held in
     let d = disk (g.D.Device.time c.args.dev.now) in
-    let holds = holds_own m c.args.section u held key d ((c.requires.over.over.disk t).stands c.args.section u held).held in
+    let holds = holds_own m c.args.section u held key g.S.Seal.seal_of d ((c.requires.over.over.disk t).stands c.args.section u held) in
     subst (λ (l : List ℕ). IfOk c.read_each.result (λ r. map g.A.Codec.spelling r.0 ≡ map (item_at g.A.CodecFixed.SIZE l) c.args.positions.now)) (sym (bytes_own m c.args.section u held key d)) (c.read_each.ensures.items t holds)
 
 pub returns-clause-checked : goal.returns-clause-checked
@@ -48,7 +48,7 @@ returns-clause-checked g c t =
     let m = shown c.args.self.now.manager in
     let u = c.in_ok-buffer.buffer.now in
     let held = c.in_ok-buffer.ensures.held in
-    let holds = holds_own m c.args.section u held (c.requires.over.over.opened_list.key c.args.section u held) (disk (g.D.Device.time c.args.dev.now)) ((c.requires.over.over.disk t).stands c.args.section u held).held in
+    let holds = holds_own m c.args.section u held (c.requires.over.over.opened_list.key c.args.section u held) g.S.Seal.seal_of (disk (g.D.Device.time c.args.dev.now)) ((c.requires.over.over.disk t).stands c.args.section u held) in
     on_ok c.read_each.result
     (own_here m c.args.section u held (c.requires.over.over.opened_list.key c.args.section u held)
     (λ v b. (p : ℕ) → Contains c.args.positions.now p → IsItemCovered g.A.CodecFixed.SIZE g.S.Seal.seal_of v b.content p) (disk (g.D.Device.time c.args.dev.now)))
@@ -61,7 +61,7 @@ returns-clause-damaged g c t k is =
     let held = c.in_ok-buffer.ensures.held in
     let key = c.requires.over.over.opened_list.key c.args.section u held in
     let d = disk (g.D.Device.time c.args.dev.now) in
-    let holds = holds_own m c.args.section u held key d ((c.requires.over.over.disk t).stands c.args.section u held).held in
+    let holds = holds_own m c.args.section u held key g.S.Seal.seal_of d ((c.requires.over.over.disk t).stands c.args.section u held) in
     own_here m c.args.section u held key (λ v b. (p : ℕ) × Contains c.args.positions.now p × IsDamaged g.A.CodecFixed.SIZE g.S.Seal.seal_of v b.content p k) d (c.read_each.ensures.damaged t holds k is)
 
 pub returns-clause-sound : goal.returns-clause-sound
@@ -69,7 +69,7 @@ returns-clause-sound g c t which k is =
     let m = shown c.args.self.now.manager in
     let u = c.in_ok-buffer.buffer.now in
     let held = c.in_ok-buffer.ensures.held in
-    let holds = holds_own m c.args.section u held (c.requires.over.over.opened_list.key c.args.section u held) (disk (g.D.Device.time c.args.dev.now)) ((c.requires.over.over.disk t).stands c.args.section u held).held in
+    let holds = holds_own m c.args.section u held (c.requires.over.over.opened_list.key c.args.section u held) g.S.Seal.seal_of (disk (g.D.Device.time c.args.dev.now)) ((c.requires.over.over.disk t).stands c.args.section u held) in
     let page = c.read_each.ensures.damaged t holds k is in
     sound_page _ _ g.S.Seal.seal_of g.A.CodecFixed.SIZE g.D.Device.Tells (lists.shown c.args.self.now) _ (disk (g.D.Device.time c.args.dev.now)) c.requires.over t c.args.section (λ v. page.0) k which
     (own_here m c.args.section u held (c.requires.over.over.opened_list.key c.args.section u held) (λ v b. IsDamaged g.A.CodecFixed.SIZE g.S.Seal.seal_of v b.content page.0 k) (disk (g.D.Device.time c.args.dev.now)) page.2)
@@ -81,7 +81,7 @@ returns-clause-refused g c t e is =
     let held = c.in_ok-buffer.ensures.held in
     let key = c.requires.over.over.opened_list.key c.args.section u held in
     let d = disk (g.D.Device.time c.args.dev.now) in
-    let holds = holds_own m c.args.section u held key d ((c.requires.over.over.disk t).stands c.args.section u held).held in
+    let holds = holds_own m c.args.section u held key g.S.Seal.seal_of d ((c.requires.over.over.disk t).stands c.args.section u held) in
     let has = c.read_each.ensures.refused t holds e is in (
       has.0,
       has.1,

@@ -3,18 +3,19 @@ use Rattle.std.proofs.lemmas.List.{take_at}
 use Rattle.sealed_pages.specs.Buffer.{size_of, bytes_of}
 use Rattle.sealed_pages.specs.Shown.{shown}
 use Rattle.sealed_pages.proofs.Holding.{fit_size}
-use Rattle.segments.proofs.FixedReadLemmas.{item_within, told_held, read_item}
+use Rattle.segments.proofs.FixedMemory.{told_held}
+use Rattle.segments.proofs.FixedReadLemmas.{item_within, read_item}
 use Rattle.segments.proofs.fixed.Journal.held_item.Goals as goal
 
 pub overflow_mul-offset : goal.overflow_mul-offset
 overflow_mul-offset g c = omega (arith, item_within g.A.CodecFixed.SIZE (size_of (shown c.args.buffer.now)) c.args.position c.requires, fit_size _ _ _ _ c.args.buffer.now.fit, ap (λ (n : ℕ). c.args.position * n) c.SIZE-2.ensures)
 
 pub returns-then-not-try_read_held-clause-none : goal.returns-then-not-try_read_held-clause-none
-returns-then-not-try_read_held-clause-none g c none held =
+returns-then-not-try_read_held-clause-none g c none held content backed =
     let u = c.args.buffer.now in
     let long : length c.as_mut_slice.result.now ≡ g.A.CodecFixed.SIZE = search rules in
-    let told = told_held u.page_size u.first g.A.CodecFixed.SIZE c.args.position (c.args.position * c.SIZE-2.result) (length c.as_mut_slice.result.now) (ap (λ (n : ℕ). c.args.position * n) c.SIZE-2.ensures) long
-    (size_of (shown u)) c.try_read_held.result g.met.A.CodecFixed.fixed.at_least (item_within g.A.CodecFixed.SIZE (size_of (shown u)) c.args.position c.requires) c.try_read_held.ensures.held in
+    let told = told_held (shown u) g.A.CodecFixed.SIZE c.args.position (c.args.position * c.SIZE-2.result) (length c.as_mut_slice.result.now) (ap (λ (n : ℕ). c.args.position * n) c.SIZE-2.ensures) long
+    (omega (arith, u.fit.begun)) (item_within g.A.CodecFixed.SIZE (size_of (shown u)) c.args.position c.requires) c.try_read_held.result c.try_read_held.ensures.held in
     let no : c.try_read_held.result ≡ false = search rules in
     absurd (cc (sym no ∙ told ∙ held))
 
@@ -23,14 +24,14 @@ returns-in-Ok-clause-item g c v is =
     let u = c.args.buffer.now in
     let at : c.args.position * c.SIZE-2.result ≡ c.args.position * g.A.CodecFixed.SIZE = ap (λ (n : ℕ). c.args.position * n) c.SIZE-2.ensures in
     let long : length c.as_mut_slice.result.now ≡ g.A.CodecFixed.SIZE = search rules in
-    let told = told_held u.page_size u.first g.A.CodecFixed.SIZE c.args.position (c.args.position * c.SIZE-2.result) (length c.as_mut_slice.result.now) at long
-    (size_of (shown u)) c.try_read_held.result g.met.A.CodecFixed.fixed.at_least (item_within g.A.CodecFixed.SIZE (size_of (shown u)) c.args.position c.requires) c.try_read_held.ensures.held in
+    let told = told_held (shown u) g.A.CodecFixed.SIZE c.args.position (c.args.position * c.SIZE-2.result) (length c.as_mut_slice.result.now) at long
+    (omega (arith, u.fit.begun)) (item_within g.A.CodecFixed.SIZE (size_of (shown u)) c.args.position c.requires) c.try_read_held.result c.try_read_held.ensures.held in
     let yes : c.try_read_held.result ≡ true = search rules in
     let same : c.in-Ok.item ≡ v = cc is in (
       sym told ∙ yes,
-      λ content. record {
+      λ content backed. record {
         spelled = (let whole : length c.try_read_held.new.buf ≡ c.in_ok-bytes.bytes.len = search rules in let spelled : g.A.Codec.spelling c.in-Ok.item ≡ c.try_read_held.new.buf = c.in-Ok.ensures.spelled ∙ c.as_slice.ensures.value ∙ take_at c.try_read_held.new.buf (drop (length c.try_read_held.new.buf) c.in_ok-bytes.bytes.items) c.in_ok-bytes.bytes.len whole in ap g.A.Codec.spelling (sym same) ∙ spelled
-            ∙ read_item u.page_size u.first g.A.CodecFixed.SIZE c.args.position (c.args.position * c.SIZE-2.result) (length c.as_mut_slice.result.now) at long c.try_read_held.new.buf (bytes_of (shown u) content) (c.try_read_held.ensures.bytes yes content));
+            ∙ read_item u.page_size u.first g.A.CodecFixed.SIZE c.args.position (c.args.position * c.SIZE-2.result) (length c.as_mut_slice.result.now) at long c.try_read_held.new.buf (bytes_of (shown u) content) (c.try_read_held.ensures.bytes yes content backed));
         allowed = rw (← same) c.in-Ok.ensures.allowed;
       },
     )

@@ -32,18 +32,18 @@ returns-in_err-replay-clause-cause g c = absurd (none_past ((shown c.in_ok-journ
 pub returns-clause-bounds : goal.returns-clause-bounds
 returns-clause-bounds g c =
     let b = c.in_ok-journal.ensures.bounds in
-    drained_bounds g.S.Seal.seal_of c.args.cfg.now.pages.page_size g.A.CodecFixed.SIZE g.met.A.CodecFixed.fixed.at_least (ghosts g.row.S g.S.Seal g.S.Seal-dict) (are_pages g.row.S g.S.Seal g.S.Seal-dict) (λ f. record { page_size = f.pages.page_size; capacity = f.write_buffer })
+    drained_bounds g.S.Seal.seal_of c.args.cfg.now.pages.page_size g.A.CodecFixed.SIZE g.met.A.CodecFixed.fixed.at_least (ghosts g.row.S g.S.Seal g.S.Seal-dict) (are_pages g.row.S g.S.Seal g.S.Seal-dict) (λ f. record { page_size = f.pages.page_size; capacity = f.write_buffer; cache_pages = f.pages.cache_pages })
     g.A.Codec.spelling g.A.Codec.accepted g.A.Codec.refusal g.D.Device c.args.section c.args.end c.ranges.section.fits c.args.cfg.now.pages c.args.cfg.now.write_buffer (shown c.in_ok-journal.journal) (walk_of c.in_ok-replay.replay)
     c.in_ok-replay.ensures.begins (string_bytes c.args.cfg.now.partition) b.ends.whole.partition_is c.args.dev.now c.open_at_most.new.dev c.drain.new.dev b.ends b.moments (ap (λ (x : Pages). x.page_size) b.ends.whole.pages_are) (seen shown c.drain.result)
-    (subst (λ (x : g.row.D.Denot). Drains (ghosts g.row.S g.S.Seal g.S.Seal-dict) (λ f. record { page_size = f.pages.page_size; capacity = f.write_buffer }) g.S.Seal.seal_of g.A.CodecFixed.SIZE g.A.Codec.spelling g.A.Codec.accepted g.A.Codec.refusal (walk_of c.in_ok-replay.replay) g.D.Device
+    (subst (λ (x : g.row.D.Denot). Drains (ghosts g.row.S g.S.Seal g.S.Seal-dict) (λ f. record { page_size = f.pages.page_size; capacity = f.write_buffer; cache_pages = f.pages.cache_pages }) g.S.Seal.seal_of g.A.CodecFixed.SIZE g.A.Codec.spelling g.A.Codec.accepted g.A.Codec.refusal (walk_of c.in_ok-replay.replay) g.D.Device
     (seen shown c.drain.result) x c.drain.new.dev) c.in_ok-replay.ensures.unchanged c.drain.ensures)
     (λ t name bad. ok_unfailed _ _ _ (b.names.foreign t name bad)) b.entries b.faults
 
 pub returns-clause-cause : goal.returns-clause-cause
 returns-clause-cause g c =
     let b = c.in_ok-journal.ensures.bounds in
-    drained_cause g.S.Seal.seal_of c.args.cfg.now.pages.page_size g.A.CodecFixed.SIZE g.met.A.CodecFixed.fixed.at_least (ghosts g.row.S g.S.Seal g.S.Seal-dict) (are_pages g.row.S g.S.Seal g.S.Seal-dict) (λ f. record { page_size = f.pages.page_size; capacity = f.write_buffer })
+    drained_cause g.S.Seal.seal_of c.args.cfg.now.pages.page_size g.A.CodecFixed.SIZE g.met.A.CodecFixed.fixed.at_least (ghosts g.row.S g.S.Seal g.S.Seal-dict) (are_pages g.row.S g.S.Seal g.S.Seal-dict) (λ f. record { page_size = f.pages.page_size; capacity = f.write_buffer; cache_pages = f.pages.cache_pages })
     g.A.Codec.spelling g.A.Codec.accepted g.A.Codec.refusal g.D.Device c.args.section c.args.end c.ranges.section.fits c.args.cfg.now.pages c.args.cfg.now.write_buffer (shown c.in_ok-journal.journal) (walk_of c.in_ok-replay.replay)
     c.in_ok-replay.ensures.begins (string_bytes c.args.cfg.now.partition) b.ends.whole.partition_is c.args.dev.now c.open_at_most.new.dev c.drain.new.dev b.ends b.moments (ap (λ (x : Pages). x.page_size) b.ends.whole.pages_are) (seen shown c.drain.result)
-    (subst (λ (x : g.row.D.Denot). Drains (ghosts g.row.S g.S.Seal g.S.Seal-dict) (λ f. record { page_size = f.pages.page_size; capacity = f.write_buffer }) g.S.Seal.seal_of g.A.CodecFixed.SIZE g.A.Codec.spelling g.A.Codec.accepted g.A.Codec.refusal (walk_of c.in_ok-replay.replay) g.D.Device
+    (subst (λ (x : g.row.D.Denot). Drains (ghosts g.row.S g.S.Seal g.S.Seal-dict) (λ f. record { page_size = f.pages.page_size; capacity = f.write_buffer; cache_pages = f.pages.cache_pages }) g.S.Seal.seal_of g.A.CodecFixed.SIZE g.A.Codec.spelling g.A.Codec.accepted g.A.Codec.refusal (walk_of c.in_ok-replay.replay) g.D.Device
     (seen shown c.drain.result) x c.drain.new.dev) c.in_ok-replay.ensures.unchanged c.drain.ensures) b.faults

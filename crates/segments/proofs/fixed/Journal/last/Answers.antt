@@ -21,7 +21,7 @@ returns-in_err-item-clause-damaged g c t k is =
     let m = shown c.args.self.now.manager in
     let u = c.in_ok-buffer.buffer.now in
     let held = c.in_ok-buffer.ensures.held in
-    let holds = holds_own m c.args.section u held (c.requires.over.opened_list.key c.args.section u held) (disk (g.D.Device.time c.args.dev.now)) ((c.requires.over.disk t).stands c.args.section u held).held in
+    let holds = holds_own m c.args.section u held (c.requires.over.opened_list.key c.args.section u held) g.S.Seal.seal_of (disk (g.D.Device.time c.args.dev.now)) ((c.requires.over.disk t).stands c.args.section u held) in
     own_here m c.args.section u held (c.requires.over.opened_list.key c.args.section u held)
     (λ v b. IsDamaged g.A.CodecFixed.SIZE g.S.Seal.seal_of v b.content (pages.size_of (page_blob.shown v) / g.A.CodecFixed.SIZE - 1) k) (disk (g.D.Device.time c.args.dev.now))
     (subst (λ (p : ℕ). IsDamaged g.A.CodecFixed.SIZE g.S.Seal.seal_of u (disk (g.D.Device.time c.args.dev.now) (pages.key_of (page_blob.shown u))).content p k) (ap (λ (n : ℕ). n - 1) c.count_of-count.ensures)
@@ -32,7 +32,7 @@ returns-in_err-item-clause-refused g c t e is =
     let m = shown c.args.self.now.manager in
     let u = c.in_ok-buffer.buffer.now in
     let held = c.in_ok-buffer.ensures.held in
-    let holds = holds_own m c.args.section u held (c.requires.over.opened_list.key c.args.section u held) (disk (g.D.Device.time c.args.dev.now)) ((c.requires.over.disk t).stands c.args.section u held).held in
+    let holds = holds_own m c.args.section u held (c.requires.over.opened_list.key c.args.section u held) g.S.Seal.seal_of (disk (g.D.Device.time c.args.dev.now)) ((c.requires.over.disk t).stands c.args.section u held) in
     let d = disk (g.D.Device.time c.args.dev.now) in
     ap (λ (n : ℕ). g.A.Codec.refusal (item_at g.A.CodecFixed.SIZE (section_bytes m d c.args.section) (n / g.A.CodecFixed.SIZE - 1)) tt) (size_here m c.args.section u held)
     ∙ ap (λ (n : ℕ). g.A.Codec.refusal (item_at g.A.CodecFixed.SIZE (section_bytes m d c.args.section) (n - 1)) tt) (sym c.count_of-count.ensures)
@@ -44,7 +44,7 @@ returns-in_err-item-clause-sealed_first g c t e is =
     let m = shown c.args.self.now.manager in
     let u = c.in_ok-buffer.buffer.now in
     let held = c.in_ok-buffer.ensures.held in
-    let holds = holds_own m c.args.section u held (c.requires.over.opened_list.key c.args.section u held) (disk (g.D.Device.time c.args.dev.now)) ((c.requires.over.disk t).stands c.args.section u held).held in
+    let holds = holds_own m c.args.section u held (c.requires.over.opened_list.key c.args.section u held) g.S.Seal.seal_of (disk (g.D.Device.time c.args.dev.now)) ((c.requires.over.disk t).stands c.args.section u held) in
     own_here m c.args.section u held (c.requires.over.opened_list.key c.args.section u held)
     (λ v b. IsItemCovered g.A.CodecFixed.SIZE g.S.Seal.seal_of v b.content (pages.size_of (page_blob.shown v) / g.A.CodecFixed.SIZE - 1)) (disk (g.D.Device.time c.args.dev.now))
     (subst (λ (p : ℕ). IsItemCovered g.A.CodecFixed.SIZE g.S.Seal.seal_of u (disk (g.D.Device.time c.args.dev.now) (pages.key_of (page_blob.shown u))).content p) (ap (λ (n : ℕ). n - 1) c.count_of-count.ensures)
@@ -67,7 +67,7 @@ returns-clause-item g c t v is =
     let m = shown c.args.self.now.manager in
     let u = c.in_ok-buffer.buffer.now in
     let held = c.in_ok-buffer.ensures.held in
-    let holds = holds_own m c.args.section u held (c.requires.over.opened_list.key c.args.section u held) (disk (g.D.Device.time c.args.dev.now)) ((c.requires.over.disk t).stands c.args.section u held).held in
+    let holds = holds_own m c.args.section u held (c.requires.over.opened_list.key c.args.section u held) g.S.Seal.seal_of (disk (g.D.Device.time c.args.dev.now)) ((c.requires.over.disk t).stands c.args.section u held) in
     let d = disk (g.D.Device.time c.args.dev.now) in
     let same : c.in_ok-item.item ≡ v = cc is in
     let at : section_size m c.args.section / g.A.CodecFixed.SIZE - 1 ≡ c.count_of-count.result - 1 = ap (λ (n : ℕ). n / g.A.CodecFixed.SIZE - 1) (size_here m c.args.section u held) ∙ ap (λ (n : ℕ). n - 1) (sym c.count_of-count.ensures) in
@@ -81,7 +81,7 @@ returns-clause-checked g c t v is some =
     let m = shown c.args.self.now.manager in
     let u = c.in_ok-buffer.buffer.now in
     let held = c.in_ok-buffer.ensures.held in
-    let holds = holds_own m c.args.section u held (c.requires.over.opened_list.key c.args.section u held) (disk (g.D.Device.time c.args.dev.now)) ((c.requires.over.disk t).stands c.args.section u held).held in
+    let holds = holds_own m c.args.section u held (c.requires.over.opened_list.key c.args.section u held) g.S.Seal.seal_of (disk (g.D.Device.time c.args.dev.now)) ((c.requires.over.disk t).stands c.args.section u held) in
     from_here m c.args.section v is (λ w. IsItemCovered g.A.CodecFixed.SIZE g.S.Seal.seal_of w (disk (g.D.Device.time c.args.dev.now) (key_of m c.args.section)).content (pages.size_of (page_blob.shown w) / g.A.CodecFixed.SIZE - 1))
     (own_here m c.args.section u held (c.requires.over.opened_list.key c.args.section u held)
     (λ w b. IsItemCovered g.A.CodecFixed.SIZE g.S.Seal.seal_of w b.content (pages.size_of (page_blob.shown w) / g.A.CodecFixed.SIZE - 1)) (disk (g.D.Device.time c.args.dev.now))

@@ -10,7 +10,7 @@ use Rattle.segments.specs.FixedShown.{shown}
 use Rattle.segments.specs.FixedLists.{Lists}
 use Rattle.sealed_pages.specs.declared.page_blob.PageBlob.{PageBlob}
 use Rattle.segments.proofs.FixedBoundLemmas.{whole_whole}
-use Rattle.segments.proofs.FixedBoundsEnds.{cut_unnamed, cut_room, end_cut, end_cause, unopened_bounds, unopened_cause, opened_bounds, opened_cause, if_ok_on, journal_there, cut_sealed, none_ends, still_moments, moments_tail, opened_tail, entries_tail}
+use Rattle.segments.proofs.FixedBoundsEnds.{cut_unnamed, end_cut, end_cause, unopened_bounds, unopened_cause, opened_bounds, opened_cause, if_ok_on, journal_there, cut_sealed, none_ends, still_moments, moments_tail, opened_tail, entries_tail}
 use Rattle.segments.proofs.FixedWriteLemmas.{are_pages}
 use Rattle.segments.proofs.fixed.Journal.open_at_most.Goals as goal
 
@@ -20,14 +20,14 @@ end_within-requires-clause-whole g c = ap (λ (n : ℕ). n % g.A.CodecFixed.SIZE
 pub truncate_pending_tail-requires-clause-over : goal.truncate_pending_tail-requires-clause-over
 truncate_pending_tail-requires-clause-over g c =
     let o = c.in_ok-journal.ensures in
-    journal_there g.S.Seal.seal_of c.args.cfg.now.pages.page_size g.A.CodecFixed.SIZE g.met.A.CodecFixed.fixed.at_least (ghosts g.row.S g.S.Seal g.S.Seal-dict) (are_pages g.row.S g.S.Seal g.S.Seal-dict) (λ f. record { page_size = f.pages.page_size; capacity = f.write_buffer }) g.D.Device
+    journal_there g.S.Seal.seal_of c.args.cfg.now.pages.page_size g.A.CodecFixed.SIZE g.met.A.CodecFixed.fixed.at_least (ghosts g.row.S g.S.Seal g.S.Seal-dict) (are_pages g.row.S g.S.Seal g.S.Seal-dict) (λ f. record { page_size = f.pages.page_size; capacity = f.write_buffer; cache_pages = f.pages.cache_pages }) g.D.Device
     (shown c.in_ok-journal.journal) c.args.section c.args.end c.in_ok-end.end c.whole_bytes-end.result c.ranges.section.fits (string_bytes c.args.cfg.now.partition) o.partition c.args.dev.now c.init_bounded.new.dev c.end_within.new.dev
     o.over (record { held = o.held; unopened = o.unopened; bytes = o.bytes; moments = o.moments }) o.no_leftover (ap (λ (x : Pages). x.page_size) o.pages) o.unrecovered c.whole_bytes-end.ensures c.in_ok-end.ensures
 
 pub truncate_pending_tail-requires-clause-sealed : goal.truncate_pending_tail-requires-clause-sealed
 truncate_pending_tail-requires-clause-sealed g c t u held lt unproven =
     let o = c.in_ok-journal.ensures in
-    cut_sealed g.S.Seal.seal_of c.args.cfg.now.pages.page_size g.A.CodecFixed.SIZE g.met.A.CodecFixed.fixed.at_least (ghosts g.row.S g.S.Seal g.S.Seal-dict) (are_pages g.row.S g.S.Seal g.S.Seal-dict) (λ f. record { page_size = f.pages.page_size; capacity = f.write_buffer }) g.D.Device
+    cut_sealed g.S.Seal.seal_of c.args.cfg.now.pages.page_size g.A.CodecFixed.SIZE g.met.A.CodecFixed.fixed.at_least (ghosts g.row.S g.S.Seal g.S.Seal-dict) (are_pages g.row.S g.S.Seal g.S.Seal-dict) (λ f. record { page_size = f.pages.page_size; capacity = f.write_buffer; cache_pages = f.pages.cache_pages }) g.D.Device
     (shown c.in_ok-journal.journal) c.args.section c.args.end c.in_ok-end.end c.whole_bytes-end.result c.ranges.section.fits (string_bytes c.args.cfg.now.partition) o.partition c.args.dev.now c.init_bounded.new.dev c.end_within.new.dev
     o.over (record { held = o.held; unopened = o.unopened; bytes = o.bytes; moments = o.moments }) o.no_leftover (ap (λ (x : Pages). x.page_size) o.pages) o.unrecovered c.whole_bytes-end.ensures c.in_ok-end.ensures t u held lt
 
@@ -36,7 +36,7 @@ returns-in_err-journal-clause-bounds g c =
     let e = c.in_err-journal.field-0.0 in
     let f = c.in_err-journal.ensures in
     unopened_bounds g.D.Device g.S.Seal.seal_of c.args.cfg.now.pages.page_size g.A.CodecFixed.SIZE (string_bytes c.args.cfg.now.partition) c.args.section c.args.end (seen shown c.from_residual.result) c.args.dev.now c.init_bounded.new.dev {U = Lists (AppendFactory g.row.S.Denot) (PageBlob g.row.S.Denot g.S.Seal)} e _ c.ranges.section.fits
-    (ap (seen shown) (err_of c.from_residual.result e c.from_residual.ensures.1)) f.moments (λ t name bad. (f.foreign t name bad).1) f.foreign_disk f.foreign_entries f.name_entries f.named f.entries f.overflow f.faults f.cause
+    (ap (seen shown) (err_of c.from_residual.result e c.from_residual.ensures.1)) f.moments f.foreign_disk f.foreign_entries f.name_entries f.named f.entries f.faults f.cause
 
 pub returns-in_err-journal-clause-cause : goal.returns-in_err-journal-clause-cause
 returns-in_err-journal-clause-cause g c =
@@ -53,9 +53,8 @@ returns-in_err-end-clause-bounds g c =
     opened_bounds g.D.Device g.S.Seal.seal_of c.args.cfg.now.pages.page_size g.A.CodecFixed.SIZE (string_bytes c.args.cfg.now.partition) c.args.section c.args.end (seen shown c.from_residual-in_err-end.result) c.args.dev.now c.end_within.new.dev _
     (still_moments g.D.Device g.S.Seal.seal_of c.args.cfg.now.pages.page_size g.A.CodecFixed.SIZE (string_bytes c.args.cfg.now.partition) c.args.section c.args.end (seen shown c.from_residual-in_err-end.result) c.args.dev.now c.end_within.new.dev c.init_bounded.new.dev c.ranges.section.fits o.moments f.unchanged)
     (none_ends _ (seen shown c.from_residual-in_err-end.result) c.in_err-end.field-0.0 is)
-    (λ t name bad. (o.foreign t name bad).0)
+    (λ t name bad. o.foreign t name bad)
     (λ n at. cut_unnamed (seen shown c.from_residual-in_err-end.result) (shown c.in_ok-journal.journal).sections.floor (g.D.Device.faults c.init_bounded.new.dev) (g.D.Device.faults c.end_within.new.dev) n failed at)
-    (λ room. cut_room (seen shown c.from_residual-in_err-end.result) (shown c.in_ok-journal.journal).sections.floor (g.D.Device.faults c.init_bounded.new.dev) (g.D.Device.faults c.end_within.new.dev) failed room)
     (λ q never. f.entries.others q (λ at. never c.args.section (at ∙ ap (λ (x : List ℕ). section_key x c.args.section) o.partition)) ∙ o.entries q (λ s le. never s))
     (omega (arith, o.faults, f.faults))
 
@@ -72,17 +71,16 @@ returns-clause-bounds g c =
     let o = c.in_ok-journal.ensures in
     let f = c.truncate_pending_tail.ensures in
     opened_bounds g.D.Device g.S.Seal.seal_of c.args.cfg.now.pages.page_size g.A.CodecFixed.SIZE (string_bytes c.args.cfg.now.partition) c.args.section c.args.end (seen shown c.truncate_pending_tail.result) c.args.dev.now c.truncate_pending_tail.new.dev _
-    (moments_tail g.S.Seal.seal_of c.args.cfg.now.pages.page_size g.A.CodecFixed.SIZE g.met.A.CodecFixed.fixed.at_least (ghosts g.row.S g.S.Seal g.S.Seal-dict) (are_pages g.row.S g.S.Seal g.S.Seal-dict) (λ f. record { page_size = f.pages.page_size; capacity = f.write_buffer }) g.D.Device
+    (moments_tail g.S.Seal.seal_of c.args.cfg.now.pages.page_size g.A.CodecFixed.SIZE g.met.A.CodecFixed.fixed.at_least (ghosts g.row.S g.S.Seal g.S.Seal-dict) (are_pages g.row.S g.S.Seal g.S.Seal-dict) (λ f. record { page_size = f.pages.page_size; capacity = f.write_buffer; cache_pages = f.pages.cache_pages }) g.D.Device
     (shown c.in_ok-journal.journal) c.args.section c.args.end c.in_ok-end.end c.whole_bytes-end.result c.ranges.section.fits (string_bytes c.args.cfg.now.partition) o.partition c.args.dev.now c.init_bounded.new.dev c.end_within.new.dev
     o.over (record { held = o.held; unopened = o.unopened; bytes = o.bytes; moments = o.moments }) o.no_leftover (ap (λ (x : Pages). x.page_size) o.pages) o.unrecovered c.whole_bytes-end.ensures c.in_ok-end.ensures c.truncate_pending_tail.new.dev f.moments)
-    (if_ok_on (seen shown c.truncate_pending_tail.result) (λ k cut. opened_tail g.S.Seal.seal_of c.args.cfg.now.pages.page_size g.A.CodecFixed.SIZE g.met.A.CodecFixed.fixed.at_least (ghosts g.row.S g.S.Seal g.S.Seal-dict) (are_pages g.row.S g.S.Seal g.S.Seal-dict) (λ f. record { page_size = f.pages.page_size; capacity = f.write_buffer }) g.D.Device
+    (if_ok_on (seen shown c.truncate_pending_tail.result) (λ k cut. opened_tail g.S.Seal.seal_of c.args.cfg.now.pages.page_size g.A.CodecFixed.SIZE g.met.A.CodecFixed.fixed.at_least (ghosts g.row.S g.S.Seal g.S.Seal-dict) (are_pages g.row.S g.S.Seal g.S.Seal-dict) (λ f. record { page_size = f.pages.page_size; capacity = f.write_buffer; cache_pages = f.pages.cache_pages }) g.D.Device
     (shown c.in_ok-journal.journal) c.args.section c.args.end c.in_ok-end.end c.whole_bytes-end.result c.ranges.section.fits (string_bytes c.args.cfg.now.partition) o.partition c.args.dev.now c.init_bounded.new.dev c.end_within.new.dev
     o.over (record { held = o.held; unopened = o.unopened; bytes = o.bytes; moments = o.moments }) o.no_leftover (ap (λ (x : Pages). x.page_size) o.pages) o.unrecovered c.whole_bytes-end.ensures c.in_ok-end.ensures
     c.truncate_pending_tail.new.dev k cut f.moments c.args.cfg.now.pages c.args.cfg.now.write_buffer o.later o.floors o.idle o.pages o.write_buffer o.floor) f.ends)
-    (λ t name bad. (o.foreign t name bad).0)
+    (λ t name bad. o.foreign t name bad)
     (λ n at. cut_unnamed (seen shown c.truncate_pending_tail.result) (shown c.in_ok-journal.journal).sections.floor (g.D.Device.faults c.end_within.new.dev) (g.D.Device.faults c.truncate_pending_tail.new.dev) n f.cause at)
-    (λ room. cut_room (seen shown c.truncate_pending_tail.result) (shown c.in_ok-journal.journal).sections.floor (g.D.Device.faults c.end_within.new.dev) (g.D.Device.faults c.truncate_pending_tail.new.dev) f.cause room)
-    (entries_tail g.S.Seal.seal_of c.args.cfg.now.pages.page_size g.A.CodecFixed.SIZE g.met.A.CodecFixed.fixed.at_least (ghosts g.row.S g.S.Seal g.S.Seal-dict) (are_pages g.row.S g.S.Seal g.S.Seal-dict) (λ f. record { page_size = f.pages.page_size; capacity = f.write_buffer }) g.D.Device
+    (entries_tail g.S.Seal.seal_of c.args.cfg.now.pages.page_size g.A.CodecFixed.SIZE g.met.A.CodecFixed.fixed.at_least (ghosts g.row.S g.S.Seal g.S.Seal-dict) (are_pages g.row.S g.S.Seal g.S.Seal-dict) (λ f. record { page_size = f.pages.page_size; capacity = f.write_buffer; cache_pages = f.pages.cache_pages }) g.D.Device
     (shown c.in_ok-journal.journal) c.args.section c.args.end c.in_ok-end.end c.whole_bytes-end.result c.ranges.section.fits (string_bytes c.args.cfg.now.partition) o.partition c.args.dev.now c.init_bounded.new.dev c.end_within.new.dev
     o.over (record { held = o.held; unopened = o.unopened; bytes = o.bytes; moments = o.moments }) o.no_leftover (ap (λ (x : Pages). x.page_size) o.pages) o.unrecovered c.whole_bytes-end.ensures c.in_ok-end.ensures c.truncate_pending_tail.new.dev f.entries o.entries)
     (omega (arith, o.faults, c.end_within.ensures.faults, f.faults))

@@ -24,7 +24,7 @@ use Rattle.section_manager.proofs.WalkLemmas.{none_or_value}
 use Rattle.segments.specs.FixedFloors.{Floors, shown, journal_of}
 use Rattle.segments.specs.FixedLists.{Lists}
 use Rattle.segments.proofs.FixedErrors.{of_error}
-use Rattle.segments.proofs.FixedPassing.{no_value, opening_on, checked_on, checked_named, checked_room, owing_cause, owing_coded}
+use Rattle.segments.proofs.FixedPassing.{no_value, opening_on, checked_on, checked_named, owing_cause, owing_coded}
 use Rattle.segments.proofs.FixedOpenLemmas.{opened_journal}
 use Rattle.segments.proofs.FixedWriteLemmas.{are_pages}
 use Rattle.segments.proofs.FixedFloorLemmas.{Checked, AreOpened, checked_none, checked_more, settled_read, opened_read, held_now, adopted_now, reaches, within, was_there, marker_refused, marker_codec, none_refused, last_taken, not_damaged, not_coded}
@@ -44,9 +44,9 @@ loop-section-init g c =
           (shown c.unchecked-unchecked.result) (λ s. ap (λ (j : Lists (AppendFactory g.row.S.Denot) (PageBlob g.row.S.Denot g.S.Seal)). j.floor_of s) same ∙ o.floors s) c.unchecked-unchecked.ensures.boundaries (ap (λ (m : Held g). m.partition) sections ∙ o.partition) (ap (λ (m : Held g). m.factory.pages) sections ∙ o.pages)
           (ap (λ (m : Held g). m.factory.write_buffer) sections ∙ o.write_buffer) (ap (λ (m : Held g). m.ceiling) sections ∙ o.ceiling);
       settled = record { moments = o.moments; entries = o.entries };
-      opened = subst (λ (m : Held g). AreOpened (ghosts g.row.S g.S.Seal g.S.Seal-dict) (λ (f : AppendFactory g.row.S.Denot). record { page_size = f.pages.page_size; capacity = f.write_buffer }) g.D.Device.Tells (string_bytes c.args.cfg.now.partition) c.args.ceiling (g.D.Device.time c.args.dev.now) m (g.D.Device.time c.init_holding.new.dev) (g.D.Device.opened c.init_holding.new.dev))
+      opened = subst (λ (m : Held g). AreOpened (ghosts g.row.S g.S.Seal g.S.Seal-dict) (λ (f : AppendFactory g.row.S.Denot). record { page_size = f.pages.page_size; capacity = f.write_buffer; cache_pages = f.pages.cache_pages }) g.D.Device.Tells (string_bytes c.args.cfg.now.partition) c.args.ceiling (g.D.Device.time c.args.dev.now) m (g.D.Device.time c.init_bounded.new.dev) (g.D.Device.opened c.init_bounded.new.dev))
           (sym sections) (record {
-            over = o.over;
+            over = o.over.over;
             held = o.held;
             unopened = o.unopened;
             no_leftover = o.no_leftover;
@@ -99,7 +99,7 @@ checked-requires-clause-adopted g c t =
     let f = shown c.loop-section.found in
     let settled = c.loop-section.invariant.settled in
     let opened = c.loop-section.invariant.opened in
-    adopted_now (ghosts g.row.S g.S.Seal g.S.Seal-dict) (λ (f : AppendFactory g.row.S.Denot). record { page_size = f.pages.page_size; capacity = f.write_buffer }) told place c.args.ceiling from (journal_of c.loop-section.found).sections now (g.D.Device.opened c.loop-section.dev) opened settled.moments t seal (are_pages g.row.S g.S.Seal g.S.Seal-dict)
+    adopted_now (ghosts g.row.S g.S.Seal g.S.Seal-dict) (λ (f : AppendFactory g.row.S.Denot). record { page_size = f.pages.page_size; capacity = f.write_buffer; cache_pages = f.pages.cache_pages }) told place c.args.ceiling from (journal_of c.loop-section.found).sections now (g.D.Device.opened c.loop-section.dev) opened settled.moments t seal (are_pages g.row.S g.S.Seal g.S.Seal-dict)
 
 pub checked-requires-clause-held : goal.checked-requires-clause-held
 checked-requires-clause-held g c t q small =
@@ -112,7 +112,7 @@ checked-requires-clause-held g c t q small =
     let settled = c.loop-section.invariant.settled in
     let opened = c.loop-section.invariant.opened in
     subst (λ (most : ℕ). IsHeld (journal_of c.loop-section.found).sections q ↔ (IsTrue (disk (g.D.Device.time c.loop-section.dev) (section_key (shown c.loop-section.found).partition q)).there × (q ≤ most))) (sym done.bound)
-    (held_now (ghosts g.row.S g.S.Seal g.S.Seal-dict) (λ (f : AppendFactory g.row.S.Denot). record { page_size = f.pages.page_size; capacity = f.write_buffer }) told place c.args.ceiling from (journal_of c.loop-section.found).sections now (g.D.Device.opened c.loop-section.dev) opened settled.moments t q small)
+    (held_now (ghosts g.row.S g.S.Seal g.S.Seal-dict) (λ (f : AppendFactory g.row.S.Denot). record { page_size = f.pages.page_size; capacity = f.write_buffer; cache_pages = f.pages.cache_pages }) told place c.args.ceiling from (journal_of c.loop-section.found).sections now (g.D.Device.opened c.loop-section.dev) opened settled.moments t q small)
 
 pub loop-section-preserved : goal.loop-section-preserved
 loop-section-preserved g c =
@@ -151,7 +151,7 @@ loop-section-preserved g c =
           }));
       settled = settled_read told place c.args.ceiling from now (g.D.Device.time c.checked.new.dev) (g.D.Device.opened c.args.dev.now) (g.D.Device.opened c.loop-section.dev) (g.D.Device.opened c.checked.new.dev) s (c.requires.ceiling s (subst IsSome (sym is) refl)) c.checked.ensures.unchanged
           (subst (λ (p : List ℕ). OnlyOwnEntry (section_key p c.in-Some.section.now) (g.D.Device.opened c.loop-section.dev) (g.D.Device.opened c.checked.new.dev)) done.place c.checked.ensures.entries) settled;
-      opened = opened_read (ghosts g.row.S g.S.Seal g.S.Seal-dict) (λ (f : AppendFactory g.row.S.Denot). record { page_size = f.pages.page_size; capacity = f.write_buffer }) told place c.args.ceiling from (journal_of c.loop-section.found).sections (journal_of c.in_ok-found.found).sections now (g.D.Device.time c.checked.new.dev) (g.D.Device.opened c.loop-section.dev) (g.D.Device.opened c.checked.new.dev) c.in_ok-found.ensures.sections c.checked.ensures.unchanged c.checked.ensures.over opened;
+      opened = opened_read (ghosts g.row.S g.S.Seal g.S.Seal-dict) (λ (f : AppendFactory g.row.S.Denot). record { page_size = f.pages.page_size; capacity = f.write_buffer; cache_pages = f.pages.cache_pages }) told place c.args.ceiling from (journal_of c.loop-section.found).sections (journal_of c.in_ok-found.found).sections now (g.D.Device.time c.checked.new.dev) (g.D.Device.opened c.loop-section.dev) (g.D.Device.opened c.checked.new.dev) c.in_ok-found.ensures.sections c.checked.ensures.unchanged c.checked.ensures.over opened;
       target = c.in_ok-found.ensures.target ∙ c.loop-section.invariant.target;
       faults = omega (arith, c.loop-section.invariant.faults, c.checked.ensures.faults);
     }
@@ -159,7 +159,7 @@ loop-section-preserved g c =
 pub returns-in_err-journal : goal.returns-in_err-journal
 returns-in_err-journal g c =
     let is = err_of c.from_residual.result c.in_err-journal.field-0.0 c.from_residual.ensures.1 in
-    let sound : (x : Damage) → c.from_residual.result ≡ Err (Corruption x) → ⊥ = λ x bad. not_damaged c.in_err-journal.field-0.0 (g.D.Device.faults c.args.dev.now) (g.D.Device.faults c.init_holding.new.dev)
+    let sound : (x : Damage) → c.from_residual.result ≡ Err (Corruption x) → ⊥ = λ x bad. not_damaged c.in_err-journal.field-0.0 (g.D.Device.faults c.args.dev.now) (g.D.Device.faults c.init_bounded.new.dev)
     c.in_err-journal.ensures.cause x (of_error c.from_residual.result c.in_err-journal.field-0.0 (Corruption x) c.from_residual.ensures.1 bad) in
     record {
       floors = no_value _ _ c.from_residual.ensures.0;
@@ -187,18 +187,17 @@ returns-in_err-journal g c =
       damage = λ t x bad. absurd (sound x bad);
       whole = λ t keeps x bad. absurd (sound x bad);
       first = λ t x bad q m before at. absurd (sound x bad);
-      refused = λ t e bad. absurd (not_coded c.in_err-journal.field-0.0 (g.D.Device.faults c.args.dev.now) (g.D.Device.faults c.init_holding.new.dev) c.in_err-journal.ensures.cause e (of_error c.from_residual.result c.in_err-journal.field-0.0 (Codec e) c.from_residual.ensures.1 bad));
+      refused = λ t e bad. absurd (not_coded c.in_err-journal.field-0.0 (g.D.Device.faults c.args.dev.now) (g.D.Device.faults c.init_bounded.new.dev) c.in_err-journal.ensures.cause e (of_error c.from_residual.result c.in_err-journal.field-0.0 (Codec e) c.from_residual.ensures.1 bad));
       moments = c.in_err-journal.ensures.moments;
-      foreign = λ t name foreign. (no_value _ _ c.from_residual.ensures.0, (sound, λ room. (c.in_err-journal.ensures.foreign t name foreign).1 (cc (is, room))));
-      foreign_items = λ t name foreign e bad. absurd (not_coded c.in_err-journal.field-0.0 (g.D.Device.faults c.args.dev.now) (g.D.Device.faults c.init_holding.new.dev) c.in_err-journal.ensures.cause e (of_error c.from_residual.result c.in_err-journal.field-0.0 (Codec e) c.from_residual.ensures.1 bad));
+      foreign = λ t name foreign. (no_value _ _ c.from_residual.ensures.0, sound);
+      foreign_items = λ t name foreign e bad. absurd (not_coded c.in_err-journal.field-0.0 (g.D.Device.faults c.args.dev.now) (g.D.Device.faults c.init_bounded.new.dev) c.in_err-journal.ensures.cause e (of_error c.from_residual.result c.in_err-journal.field-0.0 (Codec e) c.from_residual.ensures.1 bad));
       foreign_disk = c.in_err-journal.ensures.foreign_disk;
       foreign_entries = c.in_err-journal.ensures.foreign_entries;
       name_entries = λ n bad. c.in_err-journal.ensures.name_entries n (cc (is, bad));
       named = λ t n bad. c.in_err-journal.ensures.named t n (cc (is, bad));
       entries = c.in_err-journal.ensures.entries;
-      overflow = λ room. c.in_err-journal.ensures.overflow (cc (is, room));
       faults = c.in_err-journal.ensures.faults;
-      cause = opening_on c.from_residual.result c.in_err-journal.field-0.0 (g.D.Device.faults c.args.dev.now) (g.D.Device.faults c.init_holding.new.dev) is c.in_err-journal.ensures.cause;
+      cause = opening_on c.from_residual.result c.in_err-journal.field-0.0 (g.D.Device.faults c.args.dev.now) (g.D.Device.faults c.init_bounded.new.dev) is c.in_err-journal.ensures.cause;
     }
 
 pub returns-in_err-found : goal.returns-in_err-found
@@ -258,15 +257,14 @@ returns-in_err-found g c =
       moments = λ t.
           (settled_read told place c.args.ceiling from now (g.D.Device.time c.checked.new.dev) (g.D.Device.opened c.args.dev.now) (g.D.Device.opened c.loop-section.dev) (g.D.Device.opened c.checked.new.dev) s (c.requires.ceiling s (subst IsSome (sym is) refl)) c.checked.ensures.unchanged
           (subst (λ (p : List ℕ). OnlyOwnEntry (section_key p c.in-Some.section.now) (g.D.Device.opened c.loop-section.dev) (g.D.Device.opened c.checked.new.dev)) done.place c.checked.ensures.entries) settled).moments t;
-      foreign = λ t name foreign. absurd (c.in_ok-journal.ensures.foreign t name foreign).0;
-      foreign_items = λ t name foreign e bad. absurd (c.in_ok-journal.ensures.foreign t name foreign).0;
-      foreign_disk = λ t name foreign. absurd (c.in_ok-journal.ensures.foreign t name foreign).0;
-      foreign_entries = λ t name foreign. absurd (c.in_ok-journal.ensures.foreign t name foreign).0;
+      foreign = λ t name foreign. absurd (c.in_ok-journal.ensures.foreign t name foreign);
+      foreign_items = λ t name foreign e bad. absurd (c.in_ok-journal.ensures.foreign t name foreign);
+      foreign_disk = λ t name foreign. absurd (c.in_ok-journal.ensures.foreign t name foreign);
+      foreign_entries = λ t name foreign. absurd (c.in_ok-journal.ensures.foreign t name foreign);
       name_entries = λ n bad. absurd (checked_named c.from_residual-in_err-found.result c.in_err-found.field-0.0 (g.D.Device.faults c.args.dev.now) (g.D.Device.faults c.loop-section.dev) (g.D.Device.faults c.checked.new.dev) failed c.in_err-found.ensures.cause n bad);
       named = λ t n bad. absurd (checked_named c.from_residual-in_err-found.result c.in_err-found.field-0.0 (g.D.Device.faults c.args.dev.now) (g.D.Device.faults c.loop-section.dev) (g.D.Device.faults c.checked.new.dev) failed c.in_err-found.ensures.cause n bad);
       entries = (settled_read told place c.args.ceiling from now (g.D.Device.time c.checked.new.dev) (g.D.Device.opened c.args.dev.now) (g.D.Device.opened c.loop-section.dev) (g.D.Device.opened c.checked.new.dev) s (c.requires.ceiling s (subst IsSome (sym is) refl)) c.checked.ensures.unchanged
           (subst (λ (p : List ℕ). OnlyOwnEntry (section_key p c.in-Some.section.now) (g.D.Device.opened c.loop-section.dev) (g.D.Device.opened c.checked.new.dev)) done.place c.checked.ensures.entries) settled).entries;
-      overflow = λ room. absurd (checked_room c.from_residual-in_err-found.result c.in_err-found.field-0.0 (g.D.Device.faults c.args.dev.now) (g.D.Device.faults c.loop-section.dev) (g.D.Device.faults c.checked.new.dev) failed c.in_err-found.ensures.cause room);
       faults = omega (arith, c.loop-section.invariant.faults, c.checked.ensures.faults);
       cause = checked_on c.from_residual-in_err-found.result c.in_err-found.field-0.0 (g.D.Device.faults c.args.dev.now) (g.D.Device.faults c.loop-section.dev) (g.D.Device.faults c.checked.new.dev) failed c.in_err-found.ensures.cause c.loop-section.invariant.faults;
     }
@@ -294,7 +292,7 @@ returns-in_err-owing g c =
     let sound : (t : told) (x : Damage) → c.from_residual-in_err-owing.result ≡ Err (Corruption x) → ⊥ = λ t x bad. (
     let same : c.in_err-owing.field-0.0 ≡ Corruption x = of_error c.from_residual-in_err-owing.result c.in_err-owing.field-0.0 (Corruption x) c.from_residual-in_err-owing.ensures.1 bad in
     let less = c.in_err-owing.ensures.damage x (ap Err same) in
-    let reached = reaches seal size g.A.Codec.spelling g.A.Codec.accepted told place pages c.args.cfg.now.write_buffer c.args.ceiling marks from (ghosts g.row.S g.S.Seal g.S.Seal-dict) (λ (f : AppendFactory g.row.S.Denot). record { page_size = f.pages.page_size; capacity = f.write_buffer }) (are_pages g.row.S g.S.Seal g.S.Seal-dict) (journal_of c.loop-section.found).sections now (g.D.Device.opened c.loop-section.dev) opened settled.moments keys f done taken never c.requires.ceiling c.ranges.ceiling.fits (ap (λ (p : Pages). p.page_size) done.paging) t x.section in
+    let reached = reaches seal size g.A.Codec.spelling g.A.Codec.accepted told place pages c.args.cfg.now.write_buffer c.args.ceiling marks from (ghosts g.row.S g.S.Seal g.S.Seal-dict) (λ (f : AppendFactory g.row.S.Denot). record { page_size = f.pages.page_size; capacity = f.write_buffer; cache_pages = f.pages.cache_pages }) (are_pages g.row.S g.S.Seal g.S.Seal-dict) (journal_of c.loop-section.found).sections now (g.D.Device.opened c.loop-section.dev) opened settled.moments keys f done taken never c.requires.ceiling c.ranges.ceiling.fits (ap (λ (p : Pages). p.page_size) done.paging) t x.section in
     omega (arith, less, reached)) in
     let failed = err_of c.from_residual-in_err-owing.result c.in_err-owing.field-0.0 c.from_residual-in_err-owing.ensures.1 in
     record {
@@ -325,14 +323,13 @@ returns-in_err-owing g c =
       first = λ t x bad q m before at. absurd (sound t x bad);
       refused = λ t e bad. absurd (owing_coded c.from_residual-in_err-owing.result c.in_err-owing.field-0.0 e failed c.in_err-owing.ensures.cause bad);
       moments = c.loop-section.invariant.settled.moments;
-      foreign = λ t name foreign. absurd (c.in_ok-journal.ensures.foreign t name foreign).0;
-      foreign_items = λ t name foreign e bad. absurd (c.in_ok-journal.ensures.foreign t name foreign).0;
-      foreign_disk = λ t name foreign. absurd (c.in_ok-journal.ensures.foreign t name foreign).0;
-      foreign_entries = λ t name foreign. absurd (c.in_ok-journal.ensures.foreign t name foreign).0;
+      foreign = λ t name foreign. absurd (c.in_ok-journal.ensures.foreign t name foreign);
+      foreign_items = λ t name foreign e bad. absurd (c.in_ok-journal.ensures.foreign t name foreign);
+      foreign_disk = λ t name foreign. absurd (c.in_ok-journal.ensures.foreign t name foreign);
+      foreign_entries = λ t name foreign. absurd (c.in_ok-journal.ensures.foreign t name foreign);
       name_entries = λ n bad. absurd (checked_named c.from_residual-in_err-owing.result c.in_err-owing.field-0.0 (g.D.Device.faults c.args.dev.now) (g.D.Device.faults c.loop-section.dev) (g.D.Device.faults c.loop-section.dev) failed (owing_cause c.in_err-owing.field-0.0 (g.D.Device.faults c.loop-section.dev) (g.D.Device.faults c.loop-section.dev) c.in_err-owing.ensures.cause) n bad);
       named = λ t n bad. absurd (checked_named c.from_residual-in_err-owing.result c.in_err-owing.field-0.0 (g.D.Device.faults c.args.dev.now) (g.D.Device.faults c.loop-section.dev) (g.D.Device.faults c.loop-section.dev) failed (owing_cause c.in_err-owing.field-0.0 (g.D.Device.faults c.loop-section.dev) (g.D.Device.faults c.loop-section.dev) c.in_err-owing.ensures.cause) n bad);
       entries = c.loop-section.invariant.settled.entries;
-      overflow = λ room. absurd (checked_room c.from_residual-in_err-owing.result c.in_err-owing.field-0.0 (g.D.Device.faults c.args.dev.now) (g.D.Device.faults c.loop-section.dev) (g.D.Device.faults c.loop-section.dev) failed (owing_cause c.in_err-owing.field-0.0 (g.D.Device.faults c.loop-section.dev) (g.D.Device.faults c.loop-section.dev) c.in_err-owing.ensures.cause) room);
       faults = c.loop-section.invariant.faults;
       cause = checked_on c.from_residual-in_err-owing.result c.in_err-owing.field-0.0 (g.D.Device.faults c.args.dev.now) (g.D.Device.faults c.loop-section.dev) (g.D.Device.faults c.loop-section.dev) failed (owing_cause c.in_err-owing.field-0.0 (g.D.Device.faults c.loop-section.dev) (g.D.Device.faults c.loop-section.dev) c.in_err-owing.ensures.cause) c.loop-section.invariant.faults;
     }
@@ -346,7 +343,7 @@ returns g c =
     let done = subst (λ (f : Floors g.row.A.Denot). Checked g.S.Seal.seal_of g.A.CodecFixed.SIZE g.A.Codec.spelling g.A.Codec.accepted g.D.Device.Tells (string_bytes c.args.cfg.now.partition) c.args.cfg.now.pages c.args.cfg.now.write_buffer c.args.ceiling (get nat_cmp c.args.floors.now) (g.D.Device.time c.args.dev.now) (numbers_of c.loop-section.yielded) f)
     (sym c.in_ok-owing.ensures.same) c.loop-section.invariant.checked in
     let never : (s : ℕ) → get nat_cmp c.args.floors.now s ≡ None → Contains (numbers_of c.loop-section.yielded) s → ⊥ = λ s none listed. absurd (cc (subst IsSome none (IsSome-lookup_from_Contains (eq_by_cmp_equiv nat_cmp_total) s c.args.floors.now.entries (subst (λ (x : List ℕ). Contains x s) all listed)))) in
-    let opened = subst (λ (m : Held g). AreOpened (ghosts g.row.S g.S.Seal g.S.Seal-dict) (λ (f : AppendFactory g.row.S.Denot). record { page_size = f.pages.page_size; capacity = f.write_buffer }) g.D.Device.Tells (string_bytes c.args.cfg.now.partition) c.args.ceiling (g.D.Device.time c.args.dev.now) m (g.D.Device.time c.loop-section.dev) (g.D.Device.opened c.loop-section.dev))
+    let opened = subst (λ (m : Held g). AreOpened (ghosts g.row.S g.S.Seal g.S.Seal-dict) (λ (f : AppendFactory g.row.S.Denot). record { page_size = f.pages.page_size; capacity = f.write_buffer; cache_pages = f.pages.cache_pages }) g.D.Device.Tells (string_bytes c.args.cfg.now.partition) c.args.ceiling (g.D.Device.time c.args.dev.now) m (g.D.Device.time c.loop-section.dev) (g.D.Device.opened c.loop-section.dev))
     (sym c.in_ok-owing.ensures.sections) c.loop-section.invariant.opened in
     let m = (journal_of c.in_ok-owing.owing).sections in
     record {
@@ -383,14 +380,13 @@ returns g c =
       first = λ t x bad q m before at. absurd (cc bad);
       refused = λ t e bad. absurd (cc bad);
       moments = c.loop-section.invariant.settled.moments;
-      foreign = λ t name foreign. absurd (c.in_ok-journal.ensures.foreign t name foreign).0;
+      foreign = λ t name foreign. absurd (c.in_ok-journal.ensures.foreign t name foreign);
       foreign_items = λ t name foreign e bad. absurd (cc bad);
-      foreign_disk = λ t name foreign. absurd (c.in_ok-journal.ensures.foreign t name foreign).0;
-      foreign_entries = λ t name foreign. absurd (c.in_ok-journal.ensures.foreign t name foreign).0;
+      foreign_disk = λ t name foreign. absurd (c.in_ok-journal.ensures.foreign t name foreign);
+      foreign_entries = λ t name foreign. absurd (c.in_ok-journal.ensures.foreign t name foreign);
       name_entries = λ n bad. absurd (cc bad);
       named = λ t n bad. absurd (cc bad);
       entries = c.loop-section.invariant.settled.entries;
-      overflow = λ room. absurd (cc room);
       faults = c.loop-section.invariant.faults;
       cause = tt;
     }

@@ -13,7 +13,7 @@ invariant-loop-section g l = record {
   checked : Checked g.S.Seal.seal_of g.A.CodecFixed.SIZE g.A.Codec.spelling g.A.Codec.accepted g.D.Device.Tells (string_bytes l.cfg.partition) l.cfg.pages l.cfg.write_buffer l.ceiling (get nat_cmp l.floors) (g.D.Device.time l.fn.dev)
       (numbers_of l.yielded) (shown l.found);
   settled : Settled g.D.Device.Tells (string_bytes l.cfg.partition) l.ceiling (g.D.Device.time l.fn.dev) (g.D.Device.time l.dev) (g.D.Device.opened l.fn.dev) (g.D.Device.opened l.dev);
-  opened : AreOpened (ghosts g.row.S g.S.Seal g.S.Seal-dict) (λ (f : AppendFactory g.row.S.Denot). record { page_size = f.pages.page_size; capacity = f.write_buffer }) g.D.Device.Tells (string_bytes l.cfg.partition) l.ceiling (g.D.Device.time l.fn.dev)
+  opened : AreOpened (ghosts g.row.S g.S.Seal g.S.Seal-dict) (λ (f : AppendFactory g.row.S.Denot). record { page_size = f.pages.page_size; capacity = f.write_buffer; cache_pages = f.pages.cache_pages }) g.D.Device.Tells (string_bytes l.cfg.partition) l.ceiling (g.D.Device.time l.fn.dev)
       (journal_of l.found).sections (g.D.Device.time l.dev) (g.D.Device.opened l.dev);
   target : (shown l.found).target ≡ None;
   faults : g.D.Device.faults l.fn.dev ≤ g.D.Device.faults l.dev;

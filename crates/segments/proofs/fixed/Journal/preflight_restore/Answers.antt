@@ -38,7 +38,7 @@ returns-in_err-journal g c =
     let f = c.in_err-journal.ensures in
     checks_opening g.S.Seal.seal_of c.args.cfg.now.pages.page_size g.A.CodecFixed.SIZE (string_bytes c.args.cfg.now.partition) c.args.section c.args.size g.A.Codec.spelling g.A.Codec.accepted g.A.Codec.refusal g.D.Device
     c.from_residual-in_err-journal.result e (err_of c.from_residual-in_err-journal.result e c.from_residual-in_err-journal.ensures.1) _ c.args.dev.now c.init_bounded.new.dev c.in_ok-check_whole.ensures.whole
-    f.moments (λ t name bad. (f.foreign t name bad).1) f.foreign_disk f.foreign_entries f.name_entries f.named f.entries f.overflow f.faults f.cause
+    f.moments f.foreign_disk f.foreign_entries f.name_entries f.named f.entries f.faults f.cause
 
 pub returns-in_err-found : goal.returns-in_err-found
 returns-in_err-found g c =
@@ -50,7 +50,7 @@ returns-in_err-found g c =
     let paging = ap (λ (m : Held g). m.factory.pages) same ∙ o.pages in
     checks_looks g.S.Seal.seal_of c.args.cfg.now.pages.page_size g.A.CodecFixed.SIZE (string_bytes c.args.cfg.now.partition) c.args.section c.args.size g.A.Codec.spelling g.A.Codec.accepted g.A.Codec.refusal g.D.Device
     c.from_residual-in_err-found.result e (err_of c.from_residual-in_err-found.result e c.from_residual-in_err-found.ensures.1) _ _ _ m c.args.dev.now c.init_bounded.new.dev c.checked_earlier.new.dev _ c.in_ok-check_whole.ensures.whole
-    o.moments (λ t name bad. (o.foreign t name bad).0) o.entries o.faults place
+    o.moments (λ t name bad. o.foreign t name bad) o.entries o.faults place
     (looks_at g.S.Seal.seal_of g.A.CodecFixed.SIZE c.args.section c.args.size g.A.Codec.spelling g.A.Codec.accepted g.A.Codec.refusal g.D.Device _ _ m (string_bytes c.args.cfg.now.partition) c.args.cfg.now.pages _ c.init_bounded.new.dev c.checked_earlier.new.dev _ place paging
     (c.in_err-found.ensures c.args.size))
 
@@ -58,7 +58,7 @@ pub checked_earlier-requires-clause-floor : goal.checked_earlier-requires-clause
 checked_earlier-requires-clause-floor g c =
     let o = c.in_ok-journal.ensures in
     let same = ap (λ (j : Journals g). j.sections) c.unchecked-found.ensures.journal in
-    let opened = subst (λ (m : Held g). AreOpened (ghosts g.row.S g.S.Seal g.S.Seal-dict) (λ (f : AppendFactory g.row.S.Denot). record { page_size = f.pages.page_size; capacity = f.write_buffer }) g.D.Device.Tells (string_bytes c.args.cfg.now.partition) c.args.section (g.D.Device.time c.args.dev.now) m (g.D.Device.time c.init_bounded.new.dev) (g.D.Device.opened c.init_bounded.new.dev)) (sym same) (record {
+    let opened = subst (λ (m : Held g). AreOpened (ghosts g.row.S g.S.Seal g.S.Seal-dict) (λ (f : AppendFactory g.row.S.Denot). record { page_size = f.pages.page_size; capacity = f.write_buffer; cache_pages = f.pages.cache_pages }) g.D.Device.Tells (string_bytes c.args.cfg.now.partition) c.args.section (g.D.Device.time c.args.dev.now) m (g.D.Device.time c.init_bounded.new.dev) (g.D.Device.opened c.init_bounded.new.dev)) (sym same) (record {
       over = o.over.over;
       held = o.held;
       unopened = o.unopened;
@@ -76,7 +76,7 @@ pub checked_earlier-requires-clause-over : goal.checked_earlier-requires-clause-
 checked_earlier-requires-clause-over g c =
     let o = c.in_ok-journal.ensures in
     let same = ap (λ (j : Journals g). j.sections) c.unchecked-found.ensures.journal in
-    let opened = subst (λ (m : Held g). AreOpened (ghosts g.row.S g.S.Seal g.S.Seal-dict) (λ (f : AppendFactory g.row.S.Denot). record { page_size = f.pages.page_size; capacity = f.write_buffer }) g.D.Device.Tells (string_bytes c.args.cfg.now.partition) c.args.section (g.D.Device.time c.args.dev.now) m (g.D.Device.time c.init_bounded.new.dev) (g.D.Device.opened c.init_bounded.new.dev)) (sym same) (record {
+    let opened = subst (λ (m : Held g). AreOpened (ghosts g.row.S g.S.Seal g.S.Seal-dict) (λ (f : AppendFactory g.row.S.Denot). record { page_size = f.pages.page_size; capacity = f.write_buffer; cache_pages = f.pages.cache_pages }) g.D.Device.Tells (string_bytes c.args.cfg.now.partition) c.args.section (g.D.Device.time c.args.dev.now) m (g.D.Device.time c.init_bounded.new.dev) (g.D.Device.opened c.init_bounded.new.dev)) (sym same) (record {
       over = o.over.over;
       held = o.held;
       unopened = o.unopened;
@@ -94,7 +94,7 @@ pub checked_earlier-requires-clause-adopted : goal.checked_earlier-requires-clau
 checked_earlier-requires-clause-adopted g c =
     let o = c.in_ok-journal.ensures in
     let same = ap (λ (j : Journals g). j.sections) c.unchecked-found.ensures.journal in
-    let opened = subst (λ (m : Held g). AreOpened (ghosts g.row.S g.S.Seal g.S.Seal-dict) (λ (f : AppendFactory g.row.S.Denot). record { page_size = f.pages.page_size; capacity = f.write_buffer }) g.D.Device.Tells (string_bytes c.args.cfg.now.partition) c.args.section (g.D.Device.time c.args.dev.now) m (g.D.Device.time c.init_bounded.new.dev) (g.D.Device.opened c.init_bounded.new.dev)) (sym same) (record {
+    let opened = subst (λ (m : Held g). AreOpened (ghosts g.row.S g.S.Seal g.S.Seal-dict) (λ (f : AppendFactory g.row.S.Denot). record { page_size = f.pages.page_size; capacity = f.write_buffer; cache_pages = f.pages.cache_pages }) g.D.Device.Tells (string_bytes c.args.cfg.now.partition) c.args.section (g.D.Device.time c.args.dev.now) m (g.D.Device.time c.init_bounded.new.dev) (g.D.Device.opened c.init_bounded.new.dev)) (sym same) (record {
       over = o.over.over;
       held = o.held;
       unopened = o.unopened;
@@ -106,13 +106,13 @@ checked_earlier-requires-clause-adopted g c =
       place = o.partition;
     }) in
     let ceiling = ap (λ (m : Held g). m.ceiling) same ∙ o.ceiling in
-    adopted_of g.S.Seal.seal_of (ghosts g.row.S g.S.Seal g.S.Seal-dict) (λ (f : AppendFactory g.row.S.Denot). record { page_size = f.pages.page_size; capacity = f.write_buffer }) (are_pages g.row.S g.S.Seal g.S.Seal-dict) g.D.Device.Tells (string_bytes c.args.cfg.now.partition) c.args.section (g.D.Device.time c.args.dev.now) (g.D.Device.time c.init_bounded.new.dev) (g.D.Device.opened c.init_bounded.new.dev) (journal_of c.unchecked-found.result).sections opened o.moments ceiling
+    adopted_of g.S.Seal.seal_of (ghosts g.row.S g.S.Seal g.S.Seal-dict) (λ (f : AppendFactory g.row.S.Denot). record { page_size = f.pages.page_size; capacity = f.write_buffer; cache_pages = f.pages.cache_pages }) (are_pages g.row.S g.S.Seal g.S.Seal-dict) g.D.Device.Tells (string_bytes c.args.cfg.now.partition) c.args.section (g.D.Device.time c.args.dev.now) (g.D.Device.time c.init_bounded.new.dev) (g.D.Device.opened c.init_bounded.new.dev) (journal_of c.unchecked-found.result).sections opened o.moments ceiling
 
 pub checked_earlier-requires-clause-held : goal.checked_earlier-requires-clause-held
 checked_earlier-requires-clause-held g c =
     let o = c.in_ok-journal.ensures in
     let same = ap (λ (j : Journals g). j.sections) c.unchecked-found.ensures.journal in
-    let opened = subst (λ (m : Held g). AreOpened (ghosts g.row.S g.S.Seal g.S.Seal-dict) (λ (f : AppendFactory g.row.S.Denot). record { page_size = f.pages.page_size; capacity = f.write_buffer }) g.D.Device.Tells (string_bytes c.args.cfg.now.partition) c.args.section (g.D.Device.time c.args.dev.now) m (g.D.Device.time c.init_bounded.new.dev) (g.D.Device.opened c.init_bounded.new.dev)) (sym same) (record {
+    let opened = subst (λ (m : Held g). AreOpened (ghosts g.row.S g.S.Seal g.S.Seal-dict) (λ (f : AppendFactory g.row.S.Denot). record { page_size = f.pages.page_size; capacity = f.write_buffer; cache_pages = f.pages.cache_pages }) g.D.Device.Tells (string_bytes c.args.cfg.now.partition) c.args.section (g.D.Device.time c.args.dev.now) m (g.D.Device.time c.init_bounded.new.dev) (g.D.Device.opened c.init_bounded.new.dev)) (sym same) (record {
       over = o.over.over;
       held = o.held;
       unopened = o.unopened;
@@ -124,13 +124,13 @@ checked_earlier-requires-clause-held g c =
       place = o.partition;
     }) in
     let ceiling = ap (λ (m : Held g). m.ceiling) same ∙ o.ceiling in
-    held_of g.S.Seal.seal_of (ghosts g.row.S g.S.Seal g.S.Seal-dict) (λ (f : AppendFactory g.row.S.Denot). record { page_size = f.pages.page_size; capacity = f.write_buffer }) (are_pages g.row.S g.S.Seal g.S.Seal-dict) g.D.Device.Tells (string_bytes c.args.cfg.now.partition) c.args.section (g.D.Device.time c.args.dev.now) (g.D.Device.time c.init_bounded.new.dev) (g.D.Device.opened c.init_bounded.new.dev) (journal_of c.unchecked-found.result).sections opened o.moments ceiling
+    held_of g.S.Seal.seal_of (ghosts g.row.S g.S.Seal g.S.Seal-dict) (λ (f : AppendFactory g.row.S.Denot). record { page_size = f.pages.page_size; capacity = f.write_buffer; cache_pages = f.pages.cache_pages }) (are_pages g.row.S g.S.Seal g.S.Seal-dict) g.D.Device.Tells (string_bytes c.args.cfg.now.partition) c.args.section (g.D.Device.time c.args.dev.now) (g.D.Device.time c.init_bounded.new.dev) (g.D.Device.opened c.init_bounded.new.dev) (journal_of c.unchecked-found.result).sections opened o.moments ceiling
 
 pub checked_earlier-requires-clause-bounded : goal.checked_earlier-requires-clause-bounded
 checked_earlier-requires-clause-bounded g c =
     let o = c.in_ok-journal.ensures in
     let same = ap (λ (j : Journals g). j.sections) c.unchecked-found.ensures.journal in
-    let opened = subst (λ (m : Held g). AreOpened (ghosts g.row.S g.S.Seal g.S.Seal-dict) (λ (f : AppendFactory g.row.S.Denot). record { page_size = f.pages.page_size; capacity = f.write_buffer }) g.D.Device.Tells (string_bytes c.args.cfg.now.partition) c.args.section (g.D.Device.time c.args.dev.now) m (g.D.Device.time c.init_bounded.new.dev) (g.D.Device.opened c.init_bounded.new.dev)) (sym same) (record {
+    let opened = subst (λ (m : Held g). AreOpened (ghosts g.row.S g.S.Seal g.S.Seal-dict) (λ (f : AppendFactory g.row.S.Denot). record { page_size = f.pages.page_size; capacity = f.write_buffer; cache_pages = f.pages.cache_pages }) g.D.Device.Tells (string_bytes c.args.cfg.now.partition) c.args.section (g.D.Device.time c.args.dev.now) m (g.D.Device.time c.init_bounded.new.dev) (g.D.Device.opened c.init_bounded.new.dev)) (sym same) (record {
       over = o.over.over;
       held = o.held;
       unopened = o.unopened;
@@ -151,7 +151,7 @@ pub checked_target-requires-clause-floor : goal.checked_target-requires-clause-f
 checked_target-requires-clause-floor g c =
     let o = c.in_ok-journal.ensures in
     let same = ap (λ (j : Journals g). j.sections) c.unchecked-found.ensures.journal in
-    let opened = subst (λ (m : Held g). AreOpened (ghosts g.row.S g.S.Seal g.S.Seal-dict) (λ (f : AppendFactory g.row.S.Denot). record { page_size = f.pages.page_size; capacity = f.write_buffer }) g.D.Device.Tells (string_bytes c.args.cfg.now.partition) c.args.section (g.D.Device.time c.args.dev.now) m (g.D.Device.time c.init_bounded.new.dev) (g.D.Device.opened c.init_bounded.new.dev)) (sym same) (record {
+    let opened = subst (λ (m : Held g). AreOpened (ghosts g.row.S g.S.Seal g.S.Seal-dict) (λ (f : AppendFactory g.row.S.Denot). record { page_size = f.pages.page_size; capacity = f.write_buffer; cache_pages = f.pages.cache_pages }) g.D.Device.Tells (string_bytes c.args.cfg.now.partition) c.args.section (g.D.Device.time c.args.dev.now) m (g.D.Device.time c.init_bounded.new.dev) (g.D.Device.opened c.init_bounded.new.dev)) (sym same) (record {
       over = o.over.over;
       held = o.held;
       unopened = o.unopened;
@@ -165,7 +165,7 @@ checked_target-requires-clause-floor g c =
     let ceiling = ap (λ (m : Held g). m.ceiling) same ∙ o.ceiling in
     let looks = c.in_ok-found.ensures c.args.size in
     let kept = looks.ends.same in
-    let opened2 = opened_read (ghosts g.row.S g.S.Seal g.S.Seal-dict) (λ (f : AppendFactory g.row.S.Denot). record { page_size = f.pages.page_size; capacity = f.write_buffer }) g.D.Device.Tells (string_bytes c.args.cfg.now.partition) c.args.section (g.D.Device.time c.args.dev.now) (journal_of c.unchecked-found.result).sections (journal_of c.in_ok-found.found).sections (g.D.Device.time c.init_bounded.new.dev) (g.D.Device.time c.checked_earlier.new.dev) (g.D.Device.opened c.init_bounded.new.dev) (g.D.Device.opened c.checked_earlier.new.dev) kept looks.unchanged looks.over opened in
+    let opened2 = opened_read (ghosts g.row.S g.S.Seal g.S.Seal-dict) (λ (f : AppendFactory g.row.S.Denot). record { page_size = f.pages.page_size; capacity = f.write_buffer; cache_pages = f.pages.cache_pages }) g.D.Device.Tells (string_bytes c.args.cfg.now.partition) c.args.section (g.D.Device.time c.args.dev.now) (journal_of c.unchecked-found.result).sections (journal_of c.in_ok-found.found).sections (g.D.Device.time c.init_bounded.new.dev) (g.D.Device.time c.checked_earlier.new.dev) (g.D.Device.opened c.init_bounded.new.dev) (g.D.Device.opened c.checked_earlier.new.dev) kept looks.unchanged looks.over opened in
     let ceiling2 = ap (λ (m : Held g). m.ceiling) kept ∙ ceiling in
     let moments2 = λ (t : g.D.Device.Tells). settling_more (string_bytes c.args.cfg.now.partition) c.args.section (g.D.Device.time c.args.dev.now) (g.D.Device.time c.init_bounded.new.dev) (g.D.Device.time c.checked_earlier.new.dev) (o.moments t) (looks.unchanged t) in
     opened2.floor
@@ -174,7 +174,7 @@ pub checked_target-requires-clause-over : goal.checked_target-requires-clause-ov
 checked_target-requires-clause-over g c =
     let o = c.in_ok-journal.ensures in
     let same = ap (λ (j : Journals g). j.sections) c.unchecked-found.ensures.journal in
-    let opened = subst (λ (m : Held g). AreOpened (ghosts g.row.S g.S.Seal g.S.Seal-dict) (λ (f : AppendFactory g.row.S.Denot). record { page_size = f.pages.page_size; capacity = f.write_buffer }) g.D.Device.Tells (string_bytes c.args.cfg.now.partition) c.args.section (g.D.Device.time c.args.dev.now) m (g.D.Device.time c.init_bounded.new.dev) (g.D.Device.opened c.init_bounded.new.dev)) (sym same) (record {
+    let opened = subst (λ (m : Held g). AreOpened (ghosts g.row.S g.S.Seal g.S.Seal-dict) (λ (f : AppendFactory g.row.S.Denot). record { page_size = f.pages.page_size; capacity = f.write_buffer; cache_pages = f.pages.cache_pages }) g.D.Device.Tells (string_bytes c.args.cfg.now.partition) c.args.section (g.D.Device.time c.args.dev.now) m (g.D.Device.time c.init_bounded.new.dev) (g.D.Device.opened c.init_bounded.new.dev)) (sym same) (record {
       over = o.over.over;
       held = o.held;
       unopened = o.unopened;
@@ -188,7 +188,7 @@ checked_target-requires-clause-over g c =
     let ceiling = ap (λ (m : Held g). m.ceiling) same ∙ o.ceiling in
     let looks = c.in_ok-found.ensures c.args.size in
     let kept = looks.ends.same in
-    let opened2 = opened_read (ghosts g.row.S g.S.Seal g.S.Seal-dict) (λ (f : AppendFactory g.row.S.Denot). record { page_size = f.pages.page_size; capacity = f.write_buffer }) g.D.Device.Tells (string_bytes c.args.cfg.now.partition) c.args.section (g.D.Device.time c.args.dev.now) (journal_of c.unchecked-found.result).sections (journal_of c.in_ok-found.found).sections (g.D.Device.time c.init_bounded.new.dev) (g.D.Device.time c.checked_earlier.new.dev) (g.D.Device.opened c.init_bounded.new.dev) (g.D.Device.opened c.checked_earlier.new.dev) kept looks.unchanged looks.over opened in
+    let opened2 = opened_read (ghosts g.row.S g.S.Seal g.S.Seal-dict) (λ (f : AppendFactory g.row.S.Denot). record { page_size = f.pages.page_size; capacity = f.write_buffer; cache_pages = f.pages.cache_pages }) g.D.Device.Tells (string_bytes c.args.cfg.now.partition) c.args.section (g.D.Device.time c.args.dev.now) (journal_of c.unchecked-found.result).sections (journal_of c.in_ok-found.found).sections (g.D.Device.time c.init_bounded.new.dev) (g.D.Device.time c.checked_earlier.new.dev) (g.D.Device.opened c.init_bounded.new.dev) (g.D.Device.opened c.checked_earlier.new.dev) kept looks.unchanged looks.over opened in
     let ceiling2 = ap (λ (m : Held g). m.ceiling) kept ∙ ceiling in
     let moments2 = λ (t : g.D.Device.Tells). settling_more (string_bytes c.args.cfg.now.partition) c.args.section (g.D.Device.time c.args.dev.now) (g.D.Device.time c.init_bounded.new.dev) (g.D.Device.time c.checked_earlier.new.dev) (o.moments t) (looks.unchanged t) in
     opened2.over
@@ -197,7 +197,7 @@ pub checked_target-requires-clause-adopted : goal.checked_target-requires-clause
 checked_target-requires-clause-adopted g c =
     let o = c.in_ok-journal.ensures in
     let same = ap (λ (j : Journals g). j.sections) c.unchecked-found.ensures.journal in
-    let opened = subst (λ (m : Held g). AreOpened (ghosts g.row.S g.S.Seal g.S.Seal-dict) (λ (f : AppendFactory g.row.S.Denot). record { page_size = f.pages.page_size; capacity = f.write_buffer }) g.D.Device.Tells (string_bytes c.args.cfg.now.partition) c.args.section (g.D.Device.time c.args.dev.now) m (g.D.Device.time c.init_bounded.new.dev) (g.D.Device.opened c.init_bounded.new.dev)) (sym same) (record {
+    let opened = subst (λ (m : Held g). AreOpened (ghosts g.row.S g.S.Seal g.S.Seal-dict) (λ (f : AppendFactory g.row.S.Denot). record { page_size = f.pages.page_size; capacity = f.write_buffer; cache_pages = f.pages.cache_pages }) g.D.Device.Tells (string_bytes c.args.cfg.now.partition) c.args.section (g.D.Device.time c.args.dev.now) m (g.D.Device.time c.init_bounded.new.dev) (g.D.Device.opened c.init_bounded.new.dev)) (sym same) (record {
       over = o.over.over;
       held = o.held;
       unopened = o.unopened;
@@ -211,16 +211,16 @@ checked_target-requires-clause-adopted g c =
     let ceiling = ap (λ (m : Held g). m.ceiling) same ∙ o.ceiling in
     let looks = c.in_ok-found.ensures c.args.size in
     let kept = looks.ends.same in
-    let opened2 = opened_read (ghosts g.row.S g.S.Seal g.S.Seal-dict) (λ (f : AppendFactory g.row.S.Denot). record { page_size = f.pages.page_size; capacity = f.write_buffer }) g.D.Device.Tells (string_bytes c.args.cfg.now.partition) c.args.section (g.D.Device.time c.args.dev.now) (journal_of c.unchecked-found.result).sections (journal_of c.in_ok-found.found).sections (g.D.Device.time c.init_bounded.new.dev) (g.D.Device.time c.checked_earlier.new.dev) (g.D.Device.opened c.init_bounded.new.dev) (g.D.Device.opened c.checked_earlier.new.dev) kept looks.unchanged looks.over opened in
+    let opened2 = opened_read (ghosts g.row.S g.S.Seal g.S.Seal-dict) (λ (f : AppendFactory g.row.S.Denot). record { page_size = f.pages.page_size; capacity = f.write_buffer; cache_pages = f.pages.cache_pages }) g.D.Device.Tells (string_bytes c.args.cfg.now.partition) c.args.section (g.D.Device.time c.args.dev.now) (journal_of c.unchecked-found.result).sections (journal_of c.in_ok-found.found).sections (g.D.Device.time c.init_bounded.new.dev) (g.D.Device.time c.checked_earlier.new.dev) (g.D.Device.opened c.init_bounded.new.dev) (g.D.Device.opened c.checked_earlier.new.dev) kept looks.unchanged looks.over opened in
     let ceiling2 = ap (λ (m : Held g). m.ceiling) kept ∙ ceiling in
     let moments2 = λ (t : g.D.Device.Tells). settling_more (string_bytes c.args.cfg.now.partition) c.args.section (g.D.Device.time c.args.dev.now) (g.D.Device.time c.init_bounded.new.dev) (g.D.Device.time c.checked_earlier.new.dev) (o.moments t) (looks.unchanged t) in
-    adopted_of g.S.Seal.seal_of (ghosts g.row.S g.S.Seal g.S.Seal-dict) (λ (f : AppendFactory g.row.S.Denot). record { page_size = f.pages.page_size; capacity = f.write_buffer }) (are_pages g.row.S g.S.Seal g.S.Seal-dict) g.D.Device.Tells (string_bytes c.args.cfg.now.partition) c.args.section (g.D.Device.time c.args.dev.now) (g.D.Device.time c.checked_earlier.new.dev) (g.D.Device.opened c.checked_earlier.new.dev) (journal_of c.in_ok-found.found).sections opened2 moments2 ceiling2
+    adopted_of g.S.Seal.seal_of (ghosts g.row.S g.S.Seal g.S.Seal-dict) (λ (f : AppendFactory g.row.S.Denot). record { page_size = f.pages.page_size; capacity = f.write_buffer; cache_pages = f.pages.cache_pages }) (are_pages g.row.S g.S.Seal g.S.Seal-dict) g.D.Device.Tells (string_bytes c.args.cfg.now.partition) c.args.section (g.D.Device.time c.args.dev.now) (g.D.Device.time c.checked_earlier.new.dev) (g.D.Device.opened c.checked_earlier.new.dev) (journal_of c.in_ok-found.found).sections opened2 moments2 ceiling2
 
 pub checked_target-requires-clause-held : goal.checked_target-requires-clause-held
 checked_target-requires-clause-held g c =
     let o = c.in_ok-journal.ensures in
     let same = ap (λ (j : Journals g). j.sections) c.unchecked-found.ensures.journal in
-    let opened = subst (λ (m : Held g). AreOpened (ghosts g.row.S g.S.Seal g.S.Seal-dict) (λ (f : AppendFactory g.row.S.Denot). record { page_size = f.pages.page_size; capacity = f.write_buffer }) g.D.Device.Tells (string_bytes c.args.cfg.now.partition) c.args.section (g.D.Device.time c.args.dev.now) m (g.D.Device.time c.init_bounded.new.dev) (g.D.Device.opened c.init_bounded.new.dev)) (sym same) (record {
+    let opened = subst (λ (m : Held g). AreOpened (ghosts g.row.S g.S.Seal g.S.Seal-dict) (λ (f : AppendFactory g.row.S.Denot). record { page_size = f.pages.page_size; capacity = f.write_buffer; cache_pages = f.pages.cache_pages }) g.D.Device.Tells (string_bytes c.args.cfg.now.partition) c.args.section (g.D.Device.time c.args.dev.now) m (g.D.Device.time c.init_bounded.new.dev) (g.D.Device.opened c.init_bounded.new.dev)) (sym same) (record {
       over = o.over.over;
       held = o.held;
       unopened = o.unopened;
@@ -234,16 +234,16 @@ checked_target-requires-clause-held g c =
     let ceiling = ap (λ (m : Held g). m.ceiling) same ∙ o.ceiling in
     let looks = c.in_ok-found.ensures c.args.size in
     let kept = looks.ends.same in
-    let opened2 = opened_read (ghosts g.row.S g.S.Seal g.S.Seal-dict) (λ (f : AppendFactory g.row.S.Denot). record { page_size = f.pages.page_size; capacity = f.write_buffer }) g.D.Device.Tells (string_bytes c.args.cfg.now.partition) c.args.section (g.D.Device.time c.args.dev.now) (journal_of c.unchecked-found.result).sections (journal_of c.in_ok-found.found).sections (g.D.Device.time c.init_bounded.new.dev) (g.D.Device.time c.checked_earlier.new.dev) (g.D.Device.opened c.init_bounded.new.dev) (g.D.Device.opened c.checked_earlier.new.dev) kept looks.unchanged looks.over opened in
+    let opened2 = opened_read (ghosts g.row.S g.S.Seal g.S.Seal-dict) (λ (f : AppendFactory g.row.S.Denot). record { page_size = f.pages.page_size; capacity = f.write_buffer; cache_pages = f.pages.cache_pages }) g.D.Device.Tells (string_bytes c.args.cfg.now.partition) c.args.section (g.D.Device.time c.args.dev.now) (journal_of c.unchecked-found.result).sections (journal_of c.in_ok-found.found).sections (g.D.Device.time c.init_bounded.new.dev) (g.D.Device.time c.checked_earlier.new.dev) (g.D.Device.opened c.init_bounded.new.dev) (g.D.Device.opened c.checked_earlier.new.dev) kept looks.unchanged looks.over opened in
     let ceiling2 = ap (λ (m : Held g). m.ceiling) kept ∙ ceiling in
     let moments2 = λ (t : g.D.Device.Tells). settling_more (string_bytes c.args.cfg.now.partition) c.args.section (g.D.Device.time c.args.dev.now) (g.D.Device.time c.init_bounded.new.dev) (g.D.Device.time c.checked_earlier.new.dev) (o.moments t) (looks.unchanged t) in
-    held_of g.S.Seal.seal_of (ghosts g.row.S g.S.Seal g.S.Seal-dict) (λ (f : AppendFactory g.row.S.Denot). record { page_size = f.pages.page_size; capacity = f.write_buffer }) (are_pages g.row.S g.S.Seal g.S.Seal-dict) g.D.Device.Tells (string_bytes c.args.cfg.now.partition) c.args.section (g.D.Device.time c.args.dev.now) (g.D.Device.time c.checked_earlier.new.dev) (g.D.Device.opened c.checked_earlier.new.dev) (journal_of c.in_ok-found.found).sections opened2 moments2 ceiling2
+    held_of g.S.Seal.seal_of (ghosts g.row.S g.S.Seal g.S.Seal-dict) (λ (f : AppendFactory g.row.S.Denot). record { page_size = f.pages.page_size; capacity = f.write_buffer; cache_pages = f.pages.cache_pages }) (are_pages g.row.S g.S.Seal g.S.Seal-dict) g.D.Device.Tells (string_bytes c.args.cfg.now.partition) c.args.section (g.D.Device.time c.args.dev.now) (g.D.Device.time c.checked_earlier.new.dev) (g.D.Device.opened c.checked_earlier.new.dev) (journal_of c.in_ok-found.found).sections opened2 moments2 ceiling2
 
 pub checked_target-requires-clause-bounded : goal.checked_target-requires-clause-bounded
 checked_target-requires-clause-bounded g c =
     let o = c.in_ok-journal.ensures in
     let same = ap (λ (j : Journals g). j.sections) c.unchecked-found.ensures.journal in
-    let opened = subst (λ (m : Held g). AreOpened (ghosts g.row.S g.S.Seal g.S.Seal-dict) (λ (f : AppendFactory g.row.S.Denot). record { page_size = f.pages.page_size; capacity = f.write_buffer }) g.D.Device.Tells (string_bytes c.args.cfg.now.partition) c.args.section (g.D.Device.time c.args.dev.now) m (g.D.Device.time c.init_bounded.new.dev) (g.D.Device.opened c.init_bounded.new.dev)) (sym same) (record {
+    let opened = subst (λ (m : Held g). AreOpened (ghosts g.row.S g.S.Seal g.S.Seal-dict) (λ (f : AppendFactory g.row.S.Denot). record { page_size = f.pages.page_size; capacity = f.write_buffer; cache_pages = f.pages.cache_pages }) g.D.Device.Tells (string_bytes c.args.cfg.now.partition) c.args.section (g.D.Device.time c.args.dev.now) m (g.D.Device.time c.init_bounded.new.dev) (g.D.Device.opened c.init_bounded.new.dev)) (sym same) (record {
       over = o.over.over;
       held = o.held;
       unopened = o.unopened;
@@ -257,7 +257,7 @@ checked_target-requires-clause-bounded g c =
     let ceiling = ap (λ (m : Held g). m.ceiling) same ∙ o.ceiling in
     let looks = c.in_ok-found.ensures c.args.size in
     let kept = looks.ends.same in
-    let opened2 = opened_read (ghosts g.row.S g.S.Seal g.S.Seal-dict) (λ (f : AppendFactory g.row.S.Denot). record { page_size = f.pages.page_size; capacity = f.write_buffer }) g.D.Device.Tells (string_bytes c.args.cfg.now.partition) c.args.section (g.D.Device.time c.args.dev.now) (journal_of c.unchecked-found.result).sections (journal_of c.in_ok-found.found).sections (g.D.Device.time c.init_bounded.new.dev) (g.D.Device.time c.checked_earlier.new.dev) (g.D.Device.opened c.init_bounded.new.dev) (g.D.Device.opened c.checked_earlier.new.dev) kept looks.unchanged looks.over opened in
+    let opened2 = opened_read (ghosts g.row.S g.S.Seal g.S.Seal-dict) (λ (f : AppendFactory g.row.S.Denot). record { page_size = f.pages.page_size; capacity = f.write_buffer; cache_pages = f.pages.cache_pages }) g.D.Device.Tells (string_bytes c.args.cfg.now.partition) c.args.section (g.D.Device.time c.args.dev.now) (journal_of c.unchecked-found.result).sections (journal_of c.in_ok-found.found).sections (g.D.Device.time c.init_bounded.new.dev) (g.D.Device.time c.checked_earlier.new.dev) (g.D.Device.opened c.init_bounded.new.dev) (g.D.Device.opened c.checked_earlier.new.dev) kept looks.unchanged looks.over opened in
     let ceiling2 = ap (λ (m : Held g). m.ceiling) kept ∙ ceiling in
     let moments2 = λ (t : g.D.Device.Tells). settling_more (string_bytes c.args.cfg.now.partition) c.args.section (g.D.Device.time c.args.dev.now) (g.D.Device.time c.init_bounded.new.dev) (g.D.Device.time c.checked_earlier.new.dev) (o.moments t) (looks.unchanged t) in
     omega (arith, ceiling2)
@@ -274,7 +274,7 @@ returns-in_err-found-2 g c =
     let e = c.in_err-found-2.field-0.0 in
     let o = c.in_ok-journal.ensures in
     let same = ap (λ (j : Journals g). j.sections) c.unchecked-found.ensures.journal in
-    let opened = subst (λ (m : Held g). AreOpened (ghosts g.row.S g.S.Seal g.S.Seal-dict) (λ (f : AppendFactory g.row.S.Denot). record { page_size = f.pages.page_size; capacity = f.write_buffer }) g.D.Device.Tells (string_bytes c.args.cfg.now.partition) c.args.section (g.D.Device.time c.args.dev.now) m (g.D.Device.time c.init_bounded.new.dev) (g.D.Device.opened c.init_bounded.new.dev)) (sym same) (record {
+    let opened = subst (λ (m : Held g). AreOpened (ghosts g.row.S g.S.Seal g.S.Seal-dict) (λ (f : AppendFactory g.row.S.Denot). record { page_size = f.pages.page_size; capacity = f.write_buffer; cache_pages = f.pages.cache_pages }) g.D.Device.Tells (string_bytes c.args.cfg.now.partition) c.args.section (g.D.Device.time c.args.dev.now) m (g.D.Device.time c.init_bounded.new.dev) (g.D.Device.opened c.init_bounded.new.dev)) (sym same) (record {
       over = o.over.over;
       held = o.held;
       unopened = o.unopened;
@@ -288,7 +288,7 @@ returns-in_err-found-2 g c =
     let ceiling = ap (λ (m : Held g). m.ceiling) same ∙ o.ceiling in
     let looks = c.in_ok-found.ensures c.args.size in
     let kept = looks.ends.same in
-    let opened2 = opened_read (ghosts g.row.S g.S.Seal g.S.Seal-dict) (λ (f : AppendFactory g.row.S.Denot). record { page_size = f.pages.page_size; capacity = f.write_buffer }) g.D.Device.Tells (string_bytes c.args.cfg.now.partition) c.args.section (g.D.Device.time c.args.dev.now) (journal_of c.unchecked-found.result).sections (journal_of c.in_ok-found.found).sections (g.D.Device.time c.init_bounded.new.dev) (g.D.Device.time c.checked_earlier.new.dev) (g.D.Device.opened c.init_bounded.new.dev) (g.D.Device.opened c.checked_earlier.new.dev) kept looks.unchanged looks.over opened in
+    let opened2 = opened_read (ghosts g.row.S g.S.Seal g.S.Seal-dict) (λ (f : AppendFactory g.row.S.Denot). record { page_size = f.pages.page_size; capacity = f.write_buffer; cache_pages = f.pages.cache_pages }) g.D.Device.Tells (string_bytes c.args.cfg.now.partition) c.args.section (g.D.Device.time c.args.dev.now) (journal_of c.unchecked-found.result).sections (journal_of c.in_ok-found.found).sections (g.D.Device.time c.init_bounded.new.dev) (g.D.Device.time c.checked_earlier.new.dev) (g.D.Device.opened c.init_bounded.new.dev) (g.D.Device.opened c.checked_earlier.new.dev) kept looks.unchanged looks.over opened in
     let ceiling2 = ap (λ (m : Held g). m.ceiling) kept ∙ ceiling in
     let moments2 = λ (t : g.D.Device.Tells). settling_more (string_bytes c.args.cfg.now.partition) c.args.section (g.D.Device.time c.args.dev.now) (g.D.Device.time c.init_bounded.new.dev) (g.D.Device.time c.checked_earlier.new.dev) (o.moments t) (looks.unchanged t) in
     let place1 = ap (λ (m : Held g). m.partition) same ∙ o.partition in
@@ -298,7 +298,7 @@ returns-in_err-found-2 g c =
     let faults2 : g.D.Device.faults c.args.dev.now ≤ g.D.Device.faults c.checked_earlier.new.dev = omega (arith, o.faults, looks.faults) in
     checks_looks g.S.Seal.seal_of c.args.cfg.now.pages.page_size g.A.CodecFixed.SIZE (string_bytes c.args.cfg.now.partition) c.args.section c.args.size g.A.Codec.spelling g.A.Codec.accepted g.A.Codec.refusal g.D.Device
     c.from_residual-in_err-found-2.result e (err_of c.from_residual-in_err-found-2.result e c.from_residual-in_err-found-2.ensures.1) _ _ _ (journal_of c.in_ok-found.found).sections c.args.dev.now c.checked_earlier.new.dev c.checked_target.new.dev _ c.in_ok-check_whole.ensures.whole
-    moments2 (λ t name bad. (o.foreign t name bad).0) entries2 faults2 place2
+    moments2 (λ t name bad. o.foreign t name bad) entries2 faults2 place2
     (looks_at g.S.Seal.seal_of g.A.CodecFixed.SIZE c.args.section c.args.size g.A.Codec.spelling g.A.Codec.accepted g.A.Codec.refusal g.D.Device _ _ (journal_of c.in_ok-found.found).sections (string_bytes c.args.cfg.now.partition) c.args.cfg.now.pages _ c.checked_earlier.new.dev c.checked_target.new.dev _ place2 paging2 c.in_err-found-2.ensures)
 
 pub owing_longer-requires : goal.owing_longer-requires
@@ -312,7 +312,7 @@ returns-in_err-owing g c =
     let e = c.in_err-owing.field-0.0 in
     let o = c.in_ok-journal.ensures in
     let same = ap (λ (j : Journals g). j.sections) c.unchecked-found.ensures.journal in
-    let opened = subst (λ (m : Held g). AreOpened (ghosts g.row.S g.S.Seal g.S.Seal-dict) (λ (f : AppendFactory g.row.S.Denot). record { page_size = f.pages.page_size; capacity = f.write_buffer }) g.D.Device.Tells (string_bytes c.args.cfg.now.partition) c.args.section (g.D.Device.time c.args.dev.now) m (g.D.Device.time c.init_bounded.new.dev) (g.D.Device.opened c.init_bounded.new.dev)) (sym same) (record {
+    let opened = subst (λ (m : Held g). AreOpened (ghosts g.row.S g.S.Seal g.S.Seal-dict) (λ (f : AppendFactory g.row.S.Denot). record { page_size = f.pages.page_size; capacity = f.write_buffer; cache_pages = f.pages.cache_pages }) g.D.Device.Tells (string_bytes c.args.cfg.now.partition) c.args.section (g.D.Device.time c.args.dev.now) m (g.D.Device.time c.init_bounded.new.dev) (g.D.Device.opened c.init_bounded.new.dev)) (sym same) (record {
       over = o.over.over;
       held = o.held;
       unopened = o.unopened;
@@ -326,7 +326,7 @@ returns-in_err-owing g c =
     let ceiling = ap (λ (m : Held g). m.ceiling) same ∙ o.ceiling in
     let looks = c.in_ok-found.ensures c.args.size in
     let kept = looks.ends.same in
-    let opened2 = opened_read (ghosts g.row.S g.S.Seal g.S.Seal-dict) (λ (f : AppendFactory g.row.S.Denot). record { page_size = f.pages.page_size; capacity = f.write_buffer }) g.D.Device.Tells (string_bytes c.args.cfg.now.partition) c.args.section (g.D.Device.time c.args.dev.now) (journal_of c.unchecked-found.result).sections (journal_of c.in_ok-found.found).sections (g.D.Device.time c.init_bounded.new.dev) (g.D.Device.time c.checked_earlier.new.dev) (g.D.Device.opened c.init_bounded.new.dev) (g.D.Device.opened c.checked_earlier.new.dev) kept looks.unchanged looks.over opened in
+    let opened2 = opened_read (ghosts g.row.S g.S.Seal g.S.Seal-dict) (λ (f : AppendFactory g.row.S.Denot). record { page_size = f.pages.page_size; capacity = f.write_buffer; cache_pages = f.pages.cache_pages }) g.D.Device.Tells (string_bytes c.args.cfg.now.partition) c.args.section (g.D.Device.time c.args.dev.now) (journal_of c.unchecked-found.result).sections (journal_of c.in_ok-found.found).sections (g.D.Device.time c.init_bounded.new.dev) (g.D.Device.time c.checked_earlier.new.dev) (g.D.Device.opened c.init_bounded.new.dev) (g.D.Device.opened c.checked_earlier.new.dev) kept looks.unchanged looks.over opened in
     let ceiling2 = ap (λ (m : Held g). m.ceiling) kept ∙ ceiling in
     let moments2 = λ (t : g.D.Device.Tells). settling_more (string_bytes c.args.cfg.now.partition) c.args.section (g.D.Device.time c.args.dev.now) (g.D.Device.time c.init_bounded.new.dev) (g.D.Device.time c.checked_earlier.new.dev) (o.moments t) (looks.unchanged t) in
     let place1 = ap (λ (m : Held g). m.partition) same ∙ o.partition in
@@ -336,7 +336,7 @@ returns-in_err-owing g c =
     let faults2 : g.D.Device.faults c.args.dev.now ≤ g.D.Device.faults c.checked_earlier.new.dev = omega (arith, o.faults, looks.faults) in
     let looks2 = c.in_ok-found-2.ensures in
     let come2 = looks2.ends.0 in
-    let opened3 = opened_read (ghosts g.row.S g.S.Seal g.S.Seal-dict) (λ (f : AppendFactory g.row.S.Denot). record { page_size = f.pages.page_size; capacity = f.write_buffer }) g.D.Device.Tells (string_bytes c.args.cfg.now.partition) c.args.section (g.D.Device.time c.args.dev.now) (journal_of c.in_ok-found.found).sections (journal_of c.in_ok-found-2.found).sections (g.D.Device.time c.checked_earlier.new.dev) (g.D.Device.time c.checked_target.new.dev) (g.D.Device.opened c.checked_earlier.new.dev) (g.D.Device.opened c.checked_target.new.dev) come2.same looks2.unchanged looks2.over opened2 in
+    let opened3 = opened_read (ghosts g.row.S g.S.Seal g.S.Seal-dict) (λ (f : AppendFactory g.row.S.Denot). record { page_size = f.pages.page_size; capacity = f.write_buffer; cache_pages = f.pages.cache_pages }) g.D.Device.Tells (string_bytes c.args.cfg.now.partition) c.args.section (g.D.Device.time c.args.dev.now) (journal_of c.in_ok-found.found).sections (journal_of c.in_ok-found-2.found).sections (g.D.Device.time c.checked_earlier.new.dev) (g.D.Device.time c.checked_target.new.dev) (g.D.Device.opened c.checked_earlier.new.dev) (g.D.Device.opened c.checked_target.new.dev) come2.same looks2.unchanged looks2.over opened2 in
     let ceiling3 = ap (λ (m : Held g). m.ceiling) come2.same ∙ ceiling2 in
     let moments3 = λ (t : g.D.Device.Tells). settling_more (string_bytes c.args.cfg.now.partition) c.args.section (g.D.Device.time c.args.dev.now) (g.D.Device.time c.checked_earlier.new.dev) (g.D.Device.time c.checked_target.new.dev) (moments2 t) (looks2.unchanged t) in
     let place3 = ap (λ (m : Held g). m.partition) come2.same ∙ place2 in
@@ -348,12 +348,12 @@ returns-in_err-owing g c =
     (come_moved g.S.Seal.seal_of g.A.CodecFixed.SIZE c.args.section g.A.Codec.spelling g.A.Codec.accepted g.D.Device.Tells (journal_of c.in_ok-found.found).sections (journal_of c.in_ok-found-2.found).sections (λ s. s ≤ c.args.section) (shown c.in_ok-found-2.found) (disk (g.D.Device.time c.checked_earlier.new.dev)) (disk (g.D.Device.time c.checked_target.new.dev)) c.args.size (λ t. unchanged_now (g.D.Device.time c.checked_earlier.new.dev) (g.D.Device.time c.checked_target.new.dev) (looks2.unchanged t)) come2) in
     checks_looks g.S.Seal.seal_of c.args.cfg.now.pages.page_size g.A.CodecFixed.SIZE (string_bytes c.args.cfg.now.partition) c.args.section c.args.size g.A.Codec.spelling g.A.Codec.accepted g.A.Codec.refusal g.D.Device
     c.from_residual-in_err-owing.result e (err_of c.from_residual-in_err-owing.result e c.from_residual-in_err-owing.ensures.1) _ _ _ (journal_of c.in_ok-found-2.found).sections c.args.dev.now c.checked_target.new.dev c.checked_target.new.dev _ c.in_ok-check_whole.ensures.whole
-    moments3 (λ t name bad. (o.foreign t name bad).0) entries3 faults3 place3
+    moments3 (λ t name bad. o.foreign t name bad) entries3 faults3 place3
     (looks_owing g.S.Seal.seal_of c.args.cfg.now.pages.page_size g.A.CodecFixed.SIZE (string_bytes c.args.cfg.now.partition) c.args.section c.args.size g.A.Codec.spelling g.A.Codec.accepted g.A.Codec.refusal g.D.Device _ _ (journal_of c.in_ok-found-2.found).sections e c.checked_target.new.dev (λ r. journal_of r ≡ journal_of r) opened3.over
     (λ t x bad. omega (
       arith,
       c.in_err-owing.ensures.damage x bad,
-      reaches g.S.Seal.seal_of g.A.CodecFixed.SIZE c.args.section c.args.size g.A.Codec.spelling g.A.Codec.accepted (ghosts g.row.S g.S.Seal g.S.Seal-dict) (λ (f : AppendFactory g.row.S.Denot). record { page_size = f.pages.page_size; capacity = f.write_buffer }) (are_pages g.row.S g.S.Seal g.S.Seal-dict) g.D.Device.Tells (string_bytes c.args.cfg.now.partition) c.args.cfg.now.pages (g.D.Device.time c.args.dev.now) (g.D.Device.time c.checked_target.new.dev) (g.D.Device.opened c.checked_target.new.dev) (journal_of c.in_ok-found-2.found).sections (shown c.in_ok-found-2.found) opened3 moments3 ceiling3 (ap (λ (x : Pages). x.page_size) paging3) c.ranges.section.fits g.met.A.CodecFixed.fixed.at_least
+      reaches g.S.Seal.seal_of g.A.CodecFixed.SIZE c.args.section c.args.size g.A.Codec.spelling g.A.Codec.accepted (ghosts g.row.S g.S.Seal g.S.Seal-dict) (λ (f : AppendFactory g.row.S.Denot). record { page_size = f.pages.page_size; capacity = f.write_buffer; cache_pages = f.pages.cache_pages }) (are_pages g.row.S g.S.Seal g.S.Seal-dict) g.D.Device.Tells (string_bytes c.args.cfg.now.partition) c.args.cfg.now.pages (g.D.Device.time c.args.dev.now) (g.D.Device.time c.checked_target.new.dev) (g.D.Device.opened c.checked_target.new.dev) (journal_of c.in_ok-found-2.found).sections (shown c.in_ok-found-2.found) opened3 moments3 ceiling3 (ap (λ (x : Pages). x.page_size) paging3) c.ranges.section.fits g.met.A.CodecFixed.fixed.at_least
           (come_at g.S.Seal.seal_of g.A.CodecFixed.SIZE c.args.section c.args.size g.A.Codec.spelling g.A.Codec.accepted g.D.Device.Tells (λ s. s ≤ c.args.section) (journal_of c.in_ok-found-2.found).sections (shown c.in_ok-found-2.found) (disk (g.D.Device.time c.checked_target.new.dev)) (string_bytes c.args.cfg.now.partition) c.args.cfg.now.pages place3 paging3 come3) looks2.ends.1 t x.section,
     ))
     c.in_err-owing.ensures.cause)
@@ -362,7 +362,7 @@ pub returns : goal.returns
 returns g c =
     let o = c.in_ok-journal.ensures in
     let same = ap (λ (j : Journals g). j.sections) c.unchecked-found.ensures.journal in
-    let opened = subst (λ (m : Held g). AreOpened (ghosts g.row.S g.S.Seal g.S.Seal-dict) (λ (f : AppendFactory g.row.S.Denot). record { page_size = f.pages.page_size; capacity = f.write_buffer }) g.D.Device.Tells (string_bytes c.args.cfg.now.partition) c.args.section (g.D.Device.time c.args.dev.now) m (g.D.Device.time c.init_bounded.new.dev) (g.D.Device.opened c.init_bounded.new.dev)) (sym same) (record {
+    let opened = subst (λ (m : Held g). AreOpened (ghosts g.row.S g.S.Seal g.S.Seal-dict) (λ (f : AppendFactory g.row.S.Denot). record { page_size = f.pages.page_size; capacity = f.write_buffer; cache_pages = f.pages.cache_pages }) g.D.Device.Tells (string_bytes c.args.cfg.now.partition) c.args.section (g.D.Device.time c.args.dev.now) m (g.D.Device.time c.init_bounded.new.dev) (g.D.Device.opened c.init_bounded.new.dev)) (sym same) (record {
       over = o.over.over;
       held = o.held;
       unopened = o.unopened;
@@ -376,7 +376,7 @@ returns g c =
     let ceiling = ap (λ (m : Held g). m.ceiling) same ∙ o.ceiling in
     let looks = c.in_ok-found.ensures c.args.size in
     let kept = looks.ends.same in
-    let opened2 = opened_read (ghosts g.row.S g.S.Seal g.S.Seal-dict) (λ (f : AppendFactory g.row.S.Denot). record { page_size = f.pages.page_size; capacity = f.write_buffer }) g.D.Device.Tells (string_bytes c.args.cfg.now.partition) c.args.section (g.D.Device.time c.args.dev.now) (journal_of c.unchecked-found.result).sections (journal_of c.in_ok-found.found).sections (g.D.Device.time c.init_bounded.new.dev) (g.D.Device.time c.checked_earlier.new.dev) (g.D.Device.opened c.init_bounded.new.dev) (g.D.Device.opened c.checked_earlier.new.dev) kept looks.unchanged looks.over opened in
+    let opened2 = opened_read (ghosts g.row.S g.S.Seal g.S.Seal-dict) (λ (f : AppendFactory g.row.S.Denot). record { page_size = f.pages.page_size; capacity = f.write_buffer; cache_pages = f.pages.cache_pages }) g.D.Device.Tells (string_bytes c.args.cfg.now.partition) c.args.section (g.D.Device.time c.args.dev.now) (journal_of c.unchecked-found.result).sections (journal_of c.in_ok-found.found).sections (g.D.Device.time c.init_bounded.new.dev) (g.D.Device.time c.checked_earlier.new.dev) (g.D.Device.opened c.init_bounded.new.dev) (g.D.Device.opened c.checked_earlier.new.dev) kept looks.unchanged looks.over opened in
     let ceiling2 = ap (λ (m : Held g). m.ceiling) kept ∙ ceiling in
     let moments2 = λ (t : g.D.Device.Tells). settling_more (string_bytes c.args.cfg.now.partition) c.args.section (g.D.Device.time c.args.dev.now) (g.D.Device.time c.init_bounded.new.dev) (g.D.Device.time c.checked_earlier.new.dev) (o.moments t) (looks.unchanged t) in
     let place1 = ap (λ (m : Held g). m.partition) same ∙ o.partition in
@@ -386,7 +386,7 @@ returns g c =
     let faults2 : g.D.Device.faults c.args.dev.now ≤ g.D.Device.faults c.checked_earlier.new.dev = omega (arith, o.faults, looks.faults) in
     let looks2 = c.in_ok-found-2.ensures in
     let come2 = looks2.ends.0 in
-    let opened3 = opened_read (ghosts g.row.S g.S.Seal g.S.Seal-dict) (λ (f : AppendFactory g.row.S.Denot). record { page_size = f.pages.page_size; capacity = f.write_buffer }) g.D.Device.Tells (string_bytes c.args.cfg.now.partition) c.args.section (g.D.Device.time c.args.dev.now) (journal_of c.in_ok-found.found).sections (journal_of c.in_ok-found-2.found).sections (g.D.Device.time c.checked_earlier.new.dev) (g.D.Device.time c.checked_target.new.dev) (g.D.Device.opened c.checked_earlier.new.dev) (g.D.Device.opened c.checked_target.new.dev) come2.same looks2.unchanged looks2.over opened2 in
+    let opened3 = opened_read (ghosts g.row.S g.S.Seal g.S.Seal-dict) (λ (f : AppendFactory g.row.S.Denot). record { page_size = f.pages.page_size; capacity = f.write_buffer; cache_pages = f.pages.cache_pages }) g.D.Device.Tells (string_bytes c.args.cfg.now.partition) c.args.section (g.D.Device.time c.args.dev.now) (journal_of c.in_ok-found.found).sections (journal_of c.in_ok-found-2.found).sections (g.D.Device.time c.checked_earlier.new.dev) (g.D.Device.time c.checked_target.new.dev) (g.D.Device.opened c.checked_earlier.new.dev) (g.D.Device.opened c.checked_target.new.dev) come2.same looks2.unchanged looks2.over opened2 in
     let ceiling3 = ap (λ (m : Held g). m.ceiling) come2.same ∙ ceiling2 in
     let moments3 = λ (t : g.D.Device.Tells). settling_more (string_bytes c.args.cfg.now.partition) c.args.section (g.D.Device.time c.args.dev.now) (g.D.Device.time c.checked_earlier.new.dev) (g.D.Device.time c.checked_target.new.dev) (moments2 t) (looks2.unchanged t) in
     let place3 = ap (λ (m : Held g). m.partition) come2.same ∙ place2 in
@@ -398,7 +398,7 @@ returns g c =
     (come_moved g.S.Seal.seal_of g.A.CodecFixed.SIZE c.args.section g.A.Codec.spelling g.A.Codec.accepted g.D.Device.Tells (journal_of c.in_ok-found.found).sections (journal_of c.in_ok-found-2.found).sections (λ s. s ≤ c.args.section) (shown c.in_ok-found-2.found) (disk (g.D.Device.time c.checked_earlier.new.dev)) (disk (g.D.Device.time c.checked_target.new.dev)) c.args.size (λ t. unchanged_now (g.D.Device.time c.checked_earlier.new.dev) (g.D.Device.time c.checked_target.new.dev) (looks2.unchanged t)) come2) in
     let same4 = c.in_ok-owing.ensures.sections in
     let shows = c.in_ok-owing.ensures.same in
-    let opened4 = subst (λ (m : Held g). AreOpened (ghosts g.row.S g.S.Seal g.S.Seal-dict) (λ (f : AppendFactory g.row.S.Denot). record { page_size = f.pages.page_size; capacity = f.write_buffer }) g.D.Device.Tells (string_bytes c.args.cfg.now.partition) c.args.section (g.D.Device.time c.args.dev.now) m (g.D.Device.time c.checked_target.new.dev) (g.D.Device.opened c.checked_target.new.dev)) (sym same4) opened3 in
+    let opened4 = subst (λ (m : Held g). AreOpened (ghosts g.row.S g.S.Seal g.S.Seal-dict) (λ (f : AppendFactory g.row.S.Denot). record { page_size = f.pages.page_size; capacity = f.write_buffer; cache_pages = f.pages.cache_pages }) g.D.Device.Tells (string_bytes c.args.cfg.now.partition) c.args.section (g.D.Device.time c.args.dev.now) m (g.D.Device.time c.checked_target.new.dev) (g.D.Device.opened c.checked_target.new.dev)) (sym same4) opened3 in
     let ceiling4 = ap (λ (m : Held g). m.ceiling) same4 ∙ ceiling3 in
     let place4 = ap (λ (m : Held g). m.partition) same4 ∙ place3 in
     let paging4 = ap (λ (m : Held g). m.factory.pages) same4 ∙ paging3 in
@@ -407,9 +407,9 @@ returns g c =
     (subst (λ (f : Floors g.row.A.Denot). Come g.S.Seal.seal_of g.A.CodecFixed.SIZE c.args.section g.A.Codec.spelling g.A.Codec.accepted g.D.Device.Tells (journal_of c.in_ok-owing.owing).sections (λ s. s ≤ c.args.section) (journal_of c.in_ok-owing.owing).sections f (disk (g.D.Device.time c.checked_target.new.dev)) c.args.size) (sym shows)
     (subst (λ (m : Held g). Come g.S.Seal.seal_of g.A.CodecFixed.SIZE c.args.section g.A.Codec.spelling g.A.Codec.accepted g.D.Device.Tells m (λ s. s ≤ c.args.section) m (shown c.in_ok-found-2.found) (disk (g.D.Device.time c.checked_target.new.dev)) c.args.size) (sym same4) come3)) in
     let end4 = ap (λ (f : Floors g.row.A.Denot). f.floor_of c.args.section) shows ∙ looks2.ends.1 in
-    checks_ok g.S.Seal.seal_of c.args.cfg.now.pages.page_size g.A.CodecFixed.SIZE (string_bytes c.args.cfg.now.partition) c.args.section c.args.size g.A.Codec.spelling g.A.Codec.accepted g.A.Codec.refusal g.D.Device c.in_ok-owing.owing c.args.dev.now c.checked_target.new.dev _ c.in_ok-check_whole.ensures.whole moments3 (λ t name bad. (o.foreign t name bad).0) entries3 faults3 (
-      found g.S.Seal.seal_of g.A.CodecFixed.SIZE c.args.section c.args.size g.A.Codec.spelling g.A.Codec.accepted (ghosts g.row.S g.S.Seal g.S.Seal-dict) (λ (f : AppendFactory g.row.S.Denot). record { page_size = f.pages.page_size; capacity = f.write_buffer }) (are_pages g.row.S g.S.Seal g.S.Seal-dict) g.D.Device.Tells (string_bytes c.args.cfg.now.partition) c.args.cfg.now.pages (g.D.Device.time c.args.dev.now) (g.D.Device.time c.checked_target.new.dev) (g.D.Device.opened c.checked_target.new.dev) (journal_of c.in_ok-owing.owing).sections (shown c.in_ok-owing.owing) opened4 moments3 ceiling4 (ap (λ (x : Pages). x.page_size) paging4) c.ranges.section.fits g.met.A.CodecFixed.fixed.at_least come4 end4
+    checks_ok g.S.Seal.seal_of c.args.cfg.now.pages.page_size g.A.CodecFixed.SIZE (string_bytes c.args.cfg.now.partition) c.args.section c.args.size g.A.Codec.spelling g.A.Codec.accepted g.A.Codec.refusal g.D.Device c.in_ok-owing.owing c.args.dev.now c.checked_target.new.dev _ c.in_ok-check_whole.ensures.whole moments3 (λ t name bad. o.foreign t name bad) entries3 faults3 (
+      found g.S.Seal.seal_of g.A.CodecFixed.SIZE c.args.section c.args.size g.A.Codec.spelling g.A.Codec.accepted (ghosts g.row.S g.S.Seal g.S.Seal-dict) (λ (f : AppendFactory g.row.S.Denot). record { page_size = f.pages.page_size; capacity = f.write_buffer; cache_pages = f.pages.cache_pages }) (are_pages g.row.S g.S.Seal g.S.Seal-dict) g.D.Device.Tells (string_bytes c.args.cfg.now.partition) c.args.cfg.now.pages (g.D.Device.time c.args.dev.now) (g.D.Device.time c.checked_target.new.dev) (g.D.Device.opened c.checked_target.new.dev) (journal_of c.in_ok-owing.owing).sections (shown c.in_ok-owing.owing) opened4 moments3 ceiling4 (ap (λ (x : Pages). x.page_size) paging4) c.ranges.section.fits g.met.A.CodecFixed.fixed.at_least come4 end4
           (subst (λ (f : Floors g.row.A.Denot). IsSomeAnd f.target (λ t. (t.section ≡ c.args.section) × (t.size ≡ c.args.size))) (sym shows) looks2.ends.2),
-      opened_for g.S.Seal.seal_of g.A.CodecFixed.SIZE c.args.section c.args.size g.A.Codec.spelling g.A.Codec.accepted (ghosts g.row.S g.S.Seal g.S.Seal-dict) (λ (f : AppendFactory g.row.S.Denot). record { page_size = f.pages.page_size; capacity = f.write_buffer }) (are_pages g.row.S g.S.Seal g.S.Seal-dict) g.D.Device.Tells (string_bytes c.args.cfg.now.partition) c.args.cfg.now.pages (g.D.Device.time c.args.dev.now) (g.D.Device.time c.checked_target.new.dev) (g.D.Device.opened c.checked_target.new.dev) (journal_of c.in_ok-owing.owing).sections (shown c.in_ok-owing.owing) opened4 moments3 ceiling4 (ap (λ (x : Pages). x.page_size) paging4) c.ranges.section.fits g.met.A.CodecFixed.fixed.at_least come4 end4
+      opened_for g.S.Seal.seal_of g.A.CodecFixed.SIZE c.args.section c.args.size g.A.Codec.spelling g.A.Codec.accepted (ghosts g.row.S g.S.Seal g.S.Seal-dict) (λ (f : AppendFactory g.row.S.Denot). record { page_size = f.pages.page_size; capacity = f.write_buffer; cache_pages = f.pages.cache_pages }) (are_pages g.row.S g.S.Seal g.S.Seal-dict) g.D.Device.Tells (string_bytes c.args.cfg.now.partition) c.args.cfg.now.pages (g.D.Device.time c.args.dev.now) (g.D.Device.time c.checked_target.new.dev) (g.D.Device.opened c.checked_target.new.dev) (journal_of c.in_ok-owing.owing).sections (shown c.in_ok-owing.owing) opened4 moments3 ceiling4 (ap (λ (x : Pages). x.page_size) paging4) c.ranges.section.fits g.met.A.CodecFixed.fixed.at_least come4 end4
           (journal_of c.in_ok-owing.owing).unrecovered c.in_ok-owing.ensures.unrecovered c.in_ok-owing.ensures.reached c.in_ok-owing.owing.whole c.args.cfg.now.write_buffer paging4 buffering4,
     )

@@ -7,8 +7,7 @@ use Rattle.std.proofs.lemmas.List.Sums.{count_by_more_yes, count_by_more_no}
 use Rattle.blob_device.specs.Disk.{Disk}
 use Rattle.blob_device.specs.Timeline.{disk}
 use Rattle.blob_device.specs.declared.runtime.RError.TheVariants.{InvalidChecksum}
-use Rattle.sealed_pages.specs.Buffer.{key_of, bytes_of}
-use Rattle.sealed_pages.specs.Held.{AreHeldOf}
+use Rattle.sealed_pages.specs.Buffer.{key_of, bytes_of, IsBacked}
 use Rattle.sealed_pages.specs.Shown.{shown}
 use Rattle.sealed_pages.proofs.Holding.{bool_or}
 use Rattle.sealed_pages.proofs.Looking.{unchanged_now, unchanged_then}
@@ -30,7 +29,7 @@ returns-in_err-item-clause-damaged g c t holds k is =
       p,
       Contains-get_or c.args.positions.now c.loop-i.i 0 c.loop-i-test.true,
       subst (λ (d : Disk). IsDamaged g.A.CodecFixed.SIZE g.S.Seal.seal_of u (d (key_of (shown u))).content p k) same
-          (c.in_err-item.ensures.damaged t (subst (λ (d : Disk). AreHeldOf (d (key_of (shown u))).content u.held) (sym same) holds) k (ap Err (of_error c.from_residual.result c.in_err-item.field-0.0 (Runtime (InvalidChecksum k)) c.from_residual.ensures.1 is))),
+          (c.in_err-item.ensures.damaged t (subst (λ (d : Disk). IsBacked g.S.Seal.seal_of (shown u) (d (key_of (shown u))).content) (sym same) holds) k (ap Err (of_error c.from_residual.result c.in_err-item.field-0.0 (Runtime (InvalidChecksum k)) c.from_residual.ensures.1 is))),
     )
 
 pub returns-in_err-item-clause-refused : goal.returns-in_err-item-clause-refused
@@ -38,7 +37,7 @@ returns-in_err-item-clause-refused g c t holds e is =
     let u = c.args.buffer.now in
     let p = get_or c.args.positions.now c.loop-i.i 0 in
     let same = unchanged_now (g.D.Device.time c.args.dev.now) (g.D.Device.time c.loop-i.dev) (c.loop-i.invariant.unchanged t) in
-    let here = subst (λ (d : Disk). AreHeldOf (d (key_of (shown u))).content u.held) (sym same) holds in
+    let here = subst (λ (d : Disk). IsBacked g.S.Seal.seal_of (shown u) (d (key_of (shown u))).content) (sym same) holds in
     let err = ap Err (of_error c.from_residual.result c.in_err-item.field-0.0 (Codec e) c.from_residual.ensures.1 is) in (
       p,
       Contains-get_or c.args.positions.now c.loop-i.i 0 c.loop-i-test.true,
@@ -99,7 +98,7 @@ loop-i-preserved g c =
     let unheld = λ (q : ℕ). not (is_item_held g.A.CodecFixed.SIZE u q) in
     let X = g.A.CodecFixed.SIZE / c.args.buffer.now.page_size + 2 in
     let same = λ (t : g.D.Device.Tells). unchanged_now (g.D.Device.time c.args.dev.now) (g.D.Device.time c.loop-i.dev) (c.loop-i.invariant.unchanged t) in
-    let here = λ (t : g.D.Device.Tells) (holds : AreHeldOf (d0 (key_of (shown u))).content u.held). subst (λ (d : Disk). AreHeldOf (d (key_of (shown u))).content u.held) (sym (same t)) holds in
+    let here = λ (t : g.D.Device.Tells) (holds : IsBacked g.S.Seal.seal_of (shown u) (d0 (key_of (shown u))).content). subst (λ (d : Disk). IsBacked g.S.Seal.seal_of (shown u) (d (key_of (shown u))).content) (sym (same t)) holds in
     let pushed : c.push.new.self.items ≡ c.loop-i.items.items ++ c.in_ok-item.item ∷ [] = c.in_ok-push.ensures.items in
     record {
       items = λ t holds. (let F = item_at g.A.CodecFixed.SIZE (bytes_of (shown u) (d0 (key_of (shown u))).content) in

@@ -10,4 +10,4 @@ pub returns : goal.returns
 returns g c =
     opens_with _ g.D.Device _ _ _ _ c.opened.ensures
     (open_answers _ (setup_for g.K.Key.SIZE g.S.Seal g.V.Codec g.T.Translator.word_of g.T.Word.PartialEq.eq c.args.cfg.now) (IsValid c.args.cfg.now) g.D.Device
-    c.args.dev.now c.init.new.dev (markers_readable g.S.Seal) (omega arith) c.start_laws.ensures (λ t q. g.met.D.Device.opened_stands t c.init.new.dev q) c.init.result c.init.ensures)
+    c.args.dev.now c.init.new.dev (markers_readable g.S.Seal) (omega arith) c.start_laws.ensures c.init.result c.init.ensures)

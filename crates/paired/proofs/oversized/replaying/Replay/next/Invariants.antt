@@ -11,7 +11,7 @@ use Rattle.paired.proofs.pair.Synced.{page_setting}
 use Rattle.paired.proofs.oversized.replaying.Replay.next.Given as goal
 
 abbrev pub invariant-records : goal.invariant-records
-invariant-records g l = Running (page_blob.ghosts g.row.S g.S.Seal g.S.Seal-dict) page_setting (λ f. record { page_size = 1; capacity = f.capacity }) g.D.Device.Tells (run_of g.I.Record.place l.fn.self)
+invariant-records g l = Running (page_blob.ghosts g.row.S g.S.Seal g.S.Seal-dict) page_setting (λ f. record { page_size = 1; capacity = f.capacity; cache_pages = 0 }) g.D.Device.Tells (run_of g.I.Record.place l.fn.self)
     (g.D.Device.opened l.initial.dev) (g.D.Device.time l.initial.dev) (g.D.Device.faults l.initial.dev)
     (walk_of l.self.index) (tree.get nat_cmp l.self.ends) l.self.ended_section l.self.has_failed (g.D.Device.opened l.dev) (g.D.Device.time l.dev) (g.D.Device.faults l.dev)
     × SameParts g.I.Record.place l.fn.self l.self × ((walk_of l.fn.self.index).ended ≡ true → l.dev ≡ l.initial.dev)

@@ -7,6 +7,6 @@ use Rattle.segments.proofs.fixed.preflighting.Preflight.checked_earlier.Given as
 
 abbrev pub invariant-loop-number : goal.invariant-loop-number
 invariant-loop-number g l = Gone g.S.Seal.seal_of g.A.CodecFixed.SIZE l.section g.A.Codec.spelling g.A.Codec.accepted g.A.Codec.refusal g.D.Device (ghosts g.row.S g.S.Seal g.S.Seal-dict)
-    (λ (f : AppendFactory g.row.S.Denot). record { page_size = f.pages.page_size; capacity = f.write_buffer }) (journal_of l.fn.self).sections
+    (λ (f : AppendFactory g.row.S.Denot). record { page_size = f.pages.page_size; capacity = f.write_buffer; cache_pages = f.pages.cache_pages }) (journal_of l.fn.self).sections
     (shown {A = g.row.A.Denot} {S = g.row.S.Denot} {fixed = g.A.CodecFixed} {codec = g.A.Codec} {seal = g.S.Seal}) (λ r. (journal_of r).sections)
     (take l.number-index l.number-items) (journal_of l.found).sections (shown l.found) l.fn.dev l.dev

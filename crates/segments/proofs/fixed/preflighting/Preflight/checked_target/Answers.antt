@@ -27,7 +27,7 @@ pub check_prefix-requires-clause-floor : goal.check_prefix-requires-clause-floor
 check_prefix-requires-clause-floor g c = ap (λ (m : Held g). m.floor) c.in_ok-this.ensures.sections ∙ c.requires.floor
 
 pub check_prefix-requires-clause-over : goal.check_prefix-requires-clause-over
-check_prefix-requires-clause-over g c = subst (λ (m : Held g). IsOver (ghosts g.row.S g.S.Seal g.S.Seal-dict) (λ (f : AppendFactory g.row.S.Denot). record { page_size = f.pages.page_size; capacity = f.write_buffer }) g.D.Device.Tells m (g.D.Device.opened c.checked.new.dev)
+check_prefix-requires-clause-over g c = subst (λ (m : Held g). IsOver (ghosts g.row.S g.S.Seal g.S.Seal-dict) (λ (f : AppendFactory g.row.S.Denot). record { page_size = f.pages.page_size; capacity = f.write_buffer; cache_pages = f.pages.cache_pages }) g.D.Device.Tells m (g.D.Device.opened c.checked.new.dev)
     (disk (g.D.Device.time c.checked.new.dev))) (sym c.in_ok-this.ensures.sections) c.in_ok-this.ensures.over
 
 pub returns-in_err-this : goal.returns-in_err-this

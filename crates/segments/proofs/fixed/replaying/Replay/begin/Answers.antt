@@ -4,7 +4,9 @@ use Rattle.std.proofs.Common.{refl, ◌∙◌, ap, subst, arith}
 use Rattle.std.proofs.lemmas.Result.{err_from_is_err_and}
 use Rattle.blob_device.specs.Timeline.{disk}
 use Rattle.sealed_pages.specs.Readers.{Reader, reading, IsReplayOf}
+use Rattle.sealed_pages.specs.Shown as page_blob
 use Rattle.sealed_pages.proofs.Holding.{fit_size}
+use Rattle.sealed_pages.proofs.UnrecoveredLemmas.{adopted_backed}
 use Rattle.segments.specs.FixedReplay.{Walk, first_of}
 use Rattle.segments.specs.FixedWalking.{walk_of}
 use Rattle.segments.proofs.FixedOpening.{begin_failed, begin_begun, begin_fits}
@@ -34,7 +36,7 @@ returns-in_err-reader g c =
     rw p.1 (record {
       steps = begin_failed g.S.Seal.seal_of g.A.CodecFixed.SIZE _ _ (walk_of c.args.self.now) (walk_of c.open_reader.new.self) c.args.section c.number_after-self.result (walk_of c.args.self.now).place _ _ (g.D.Device.time c.args.dev.now) (g.D.Device.time c.open_reader.new.dev)
           c.requires.over c.requires.between c.open_reader.result rest c.number_after-self.ensures c.open_reader.ensures.touches u.0 u.1 c.requires.ahead c.requires.least
-          (λ t. c.open_reader.ensures.moments t u.0 u.1) (λ t. c.open_reader.ensures.steady t u.0 u.1) (λ x b stands. stands.stands.adopted) (c.open_reader.ensures.idle u.0 u.1) g.A.Codec.spelling g.A.Codec.accepted g.A.Codec.refusal _ _ c.open_reader.ensures.faults
+          (λ t. c.open_reader.ensures.moments t u.0 u.1) (λ t. c.open_reader.ensures.steady t u.0 u.1) (λ x b stands. stands.adopted) (c.open_reader.ensures.idle u.0 u.1) g.A.Codec.spelling g.A.Codec.accepted g.A.Codec.refusal _ _ c.open_reader.ensures.faults
           p.0 (rest.place ∙ c.requires.between) c.open_reader.ensures.ended c.in_err-reader.ensures.touches.lost (failed_as _ p.0 p.2 _ _ c.in_err-reader.ensures.cause);
       begun = tt;
     })
@@ -71,9 +73,9 @@ returns g c =
     record {
       steps = begin_begun g.S.Seal.seal_of g.A.CodecFixed.SIZE _ _ w _ c.args.section c.number_after-self.result _ _ _ (g.D.Device.time c.args.dev.now) (g.D.Device.time c.open_reader.new.dev)
           c.requires.over c.requires.between c.open_reader.result (record { unrecovered = rest.unrecovered; floors = rest.floors; section = rest.section; position = rest.position; next = rest.next; place = refl; failed = rest.failed }) c.number_after-self.ensures c.open_reader.ensures.touches u.0 u.1 c.requires.ahead c.requires.least
-          (λ t. c.open_reader.ensures.moments t u.0 u.1) (λ t. c.open_reader.ensures.steady t u.0 u.1) (λ x b stands. stands.stands.adopted) (c.open_reader.ensures.idle u.0 u.1) g.A.Codec.spelling g.A.Codec.accepted g.A.Codec.refusal _ _ c.open_reader.ensures.faults
+          (λ t. c.open_reader.ensures.moments t u.0 u.1) (λ t. c.open_reader.ensures.steady t u.0 u.1) (λ x b stands. stands.adopted) (c.open_reader.ensures.idle u.0 u.1) g.A.Codec.spelling g.A.Codec.accepted g.A.Codec.refusal _ _ c.open_reader.ensures.faults
           v.0 v.1 (reading c.in_ok-reader.reader) c.begin_at-position.result at both.0 both.1
-          (λ content held. subst (λ (r : Reader). IsReplayOf g.S.Seal.seal_of content r) goes (c.seek_to.ensures.replays content (both.1.replays content held))) (λ x b stands. stands.held)
+          (λ content held. subst (λ (r : Reader). IsReplayOf g.S.Seal.seal_of content r) goes (c.seek_to.ensures.replays content (both.1.replays content held))) (λ x b stands. adopted_backed g.S.Seal.seal_of (page_blob.shown x) b stands.adopted)
           (ap (λ (r : Reader). Some (record { section = c.args.section; position = c.begin_at-position.result; reader = r })) goes)
           c.open_reader.ensures.ended g.met.A.CodecFixed.fixed.at_least c.in_ok-reader.ensures.reads;
       begun = record { held = c.requires.held; ahead = c.requires.ahead; least = c.requires.least; position = at };

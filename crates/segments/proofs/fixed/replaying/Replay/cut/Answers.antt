@@ -19,7 +19,7 @@ use Rattle.section_manager.proofs.buffers.SealedCalls.{sound_page}
 use Rattle.section_manager.specs.Raised.{raised}
 use Rattle.segments.specs.FixedWalking.{walk_of}
 use Rattle.segments.proofs.FixedBuffers.{cut_at, no_cut_moments, cut_moved}
-use Rattle.segments.proofs.FixedCalls.{bounds_then, same_then, own_entries, moved_back, alone_blobs, cut_back_moved, held_on, cut_stands, open_at}
+use Rattle.segments.proofs.FixedCalls.{bounds_then, same_then, own_entries, moved_back, alone_blobs, cut_back_moved, cut_stands, open_at}
 use Rattle.segments.proofs.FixedCounts.{few_reads}
 use Rattle.segments.proofs.FixedErrorSteps.{raised_cut}
 use Rattle.segments.proofs.FixedErrors.{runtime_of}
@@ -88,7 +88,7 @@ returns-in_err-buffer-2-clause-touches g c =
     let same = c.take.ensures.untouched c.requires.held in
     rw p.1 (touch_out _ _ m _ c.args.section u.0 u.1 (g.D.Device.opened c.args.dev.now) (g.D.Device.opened c.truncate.new.dev) (g.D.Device.time c.args.dev.now) (g.D.Device.time c.truncate.new.dev) c.requires.over c.take.ensures.bounds c.take.ensures.others
     (own_entries (key_of (shown bu)) (sections.key_of m c.args.section) (g.D.Device.opened c.args.dev.now) (g.D.Device.opened c.take.new.dev) (g.D.Device.opened c.truncate.new.dev) c.in_ok-buffer.ensures.key (ap g.D.Device.opened same) c.truncate.ensures.entries.others)
-    (λ t. alone_blobs bu u.0 (c.in_ok-buffer.ensures.same u.0 u.1) (sections.key_of m c.args.section) (g.D.Device.time c.take.new.dev) (g.D.Device.time c.args.dev.now) (ap g.D.Device.time same) c.in_ok-buffer.ensures.key g.S.Seal.seal_of (g.D.Device.time c.truncate.new.dev) (c.in_ok-buffer.ensures.stands t).stands (c.truncate.ensures.alone t))
+    (λ t. alone_blobs bu u.0 (c.in_ok-buffer.ensures.same u.0 u.1) (sections.key_of m c.args.section) (g.D.Device.time c.take.new.dev) (g.D.Device.time c.args.dev.now) (ap g.D.Device.time same) c.in_ok-buffer.ensures.key g.S.Seal.seal_of (g.D.Device.time c.truncate.new.dev) (c.in_ok-buffer.ensures.stands t) (c.truncate.ensures.alone t))
     p.0 c.in_ok-buffer.ensures.out (is_some _ _ c.in_ok-buffer.ensures.known))
 
 safe_cut : (seal : List ℕ → ℕ) (u : Buffer) (n : ℕ) (b : Blob) → IsAdopted seal u b → n ≤ length (sealed_prefix seal u.page_size b.content) → IsSafeCut seal u n b
@@ -108,7 +108,7 @@ returns-in_err-buffer-2-clause-damaged g c t k is =
     let size : count ≡ c.args.count * g.A.CodecFixed.SIZE = ap (λ (x : ℕ). c.args.count * x) c.SIZE.ensures in
     let same : raised c.in_err-buffer-2.field-0.0 ≡ Runtime (InvalidChecksum k) = (let at = p.1 in let to = p.2 in cc (at, to, is)) in
     sound_page c.truncate.result k _ (c.truncate.ensures.whole t (safe_cut g.S.Seal.seal_of (shown bu) count (disk a0 (key_of (shown bu)))
-    (subst (λ (x : Key). IsAdopted g.S.Seal.seal_of (shown bu) (disk a0 x)) (sym c.in_ok-buffer.ensures.key) (c.in_ok-buffer.ensures.stands t).stands.adopted)
+    (subst (λ (x : Key). IsAdopted g.S.Seal.seal_of (shown bu) (disk a0 x)) (sym c.in_ok-buffer.ensures.key) (c.in_ok-buffer.ensures.stands t).adopted)
     (moved_back bu mine.0 (c.in_ok-buffer.ensures.same mine.0 mine.1) K a0 (g.D.Device.time c.args.dev.now) times c.in_ok-buffer.ensures.key (λ (x : PageBlob g.row.S.Denot g.S.Seal) (q : Key) (s : Timeline). count ≤ length (sealed_prefix g.S.Seal.seal_of x.page_size (disk s q).content)) (omega (arith, size, c.requires.prefix t mine.0 mine.1)))))
     (let page = runtime_of c.in_err-buffer-2.field-0.0 (InvalidChecksum k) same in cc page)
 
@@ -160,7 +160,7 @@ returns-in_err-put-clause-touches g c =
     rw p.1 (touch_out _ _ m q c.args.section u.0 u.1 (g.D.Device.opened c.args.dev.now) (g.D.Device.opened c.truncate.new.dev) (g.D.Device.time c.args.dev.now) (g.D.Device.time c.truncate.new.dev) c.requires.over
     (bounds_then m n q c.take.ensures.bounds c.put.ensures.bounds) (λ x other. same_then m n q x (c.take.ensures.others x other) (refused x))
     (own_entries (key_of (shown bu)) (sections.key_of m c.args.section) (g.D.Device.opened c.args.dev.now) (g.D.Device.opened c.take.new.dev) (g.D.Device.opened c.truncate.new.dev) c.in_ok-buffer.ensures.key (ap g.D.Device.opened same) c.truncate.ensures.entries.others)
-    (λ t. alone_blobs bu u.0 (c.in_ok-buffer.ensures.same u.0 u.1) (sections.key_of m c.args.section) (g.D.Device.time c.take.new.dev) (g.D.Device.time c.args.dev.now) (ap g.D.Device.time same) c.in_ok-buffer.ensures.key g.S.Seal.seal_of (g.D.Device.time c.truncate.new.dev) (c.in_ok-buffer.ensures.stands t).stands (c.truncate.ensures.alone t))
+    (λ t. alone_blobs bu u.0 (c.in_ok-buffer.ensures.same u.0 u.1) (sections.key_of m c.args.section) (g.D.Device.time c.take.new.dev) (g.D.Device.time c.args.dev.now) (ap g.D.Device.time same) c.in_ok-buffer.ensures.key g.S.Seal.seal_of (g.D.Device.time c.truncate.new.dev) (c.in_ok-buffer.ensures.stands t) (c.truncate.ensures.alone t))
     p.0 ((refused c.args.section).held ∙ c.in_ok-buffer.ensures.out) (is_some _ _ ((refused c.args.section).unopened ∙ c.in_ok-buffer.ensures.known)))
 
 pub returns-in_err-put-clause-going : goal.returns-in_err-put-clause-going
@@ -209,18 +209,15 @@ returns-clause-touches g c =
     let within : count ≤ size_of (shown bu) = subst (λ (x : PageBlob g.row.S.Denot g.S.Seal). count ≤ size_of (shown x)) (sym is) (omega (arith, size, c.requires.within mine.0 mine.1)) in
     let put = c.in_ok-put.ensures.put in
     let cut = cut_at g.S.Seal.seal_of g.D.Device.Tells bu c.in_ok-buffer-2.buffer K a0 b c.in_ok-buffer.ensures.key count settled within e.page_size e.size e.settled (λ past. (e.same past, ap g.D.Device.time (c.truncate.ensures.unchanged past)))
-    (λ t. subst (λ (k : Key). Stands g.S.Seal.seal_of (shown bu) (disk a0 k)) (sym c.in_ok-buffer.ensures.key) (c.in_ok-buffer.ensures.stands t).stands) e.rests
+    (λ t. subst (λ (k : Key). Stands g.S.Seal.seal_of (shown bu) (disk a0 k)) (sym c.in_ok-buffer.ensures.key) (c.in_ok-buffer.ensures.stands t)) e.rests
     (λ t. moved_back bu mine.0 is K a0 a times c.in_ok-buffer.ensures.key (λ (x : PageBlob g.row.S.Denot g.S.Seal) (k : Key) (s : Timeline). count ≤ length (sealed_prefix g.S.Seal.seal_of x.page_size (disk s k).content)) (omega (arith, size, c.requires.prefix t mine.0 mine.1)))
     e.sealed e.recovered e.prefix_again e.again in
     touch_back _ _ m q c.args.section mine.0 mine.1 (g.D.Device.opened c.args.dev.now) (g.D.Device.opened c.truncate.new.dev) a b c.requires.over
     (bounds_then m n q c.take.ensures.bounds c.put.ensures.bounds) (λ x other. same_then m n q x (c.take.ensures.others x other) (put.others x other))
     (own_entries (key_of (shown bu)) K (g.D.Device.opened c.args.dev.now) (g.D.Device.opened c.take.new.dev) (g.D.Device.opened c.truncate.new.dev) c.in_ok-buffer.ensures.key (ap g.D.Device.opened same) c.truncate.ensures.entries.others)
-    (λ t. alone_blobs bu mine.0 is K a0 a times c.in_ok-buffer.ensures.key g.S.Seal.seal_of b (c.in_ok-buffer.ensures.stands t).stands (c.truncate.ensures.alone t))
-    _ c.in_ok-buffer-2.buffer put.here put.opened (e.key ∙ c.in_ok-buffer.ensures.key) ((λ i. record { page_size = e.page_size i; capacity = e.capacity i }) ∙ c.in_ok-buffer.ensures.setting) (open_at c.in_ok-buffer-2.buffer K (g.D.Device.opened c.truncate.new.dev) (e.key ∙ c.in_ok-buffer.ensures.key) e.«open»)
-    (λ t. record {
-      stands = cut_stands g.S.Seal.seal_of bu c.in_ok-buffer-2.buffer K a0 b c.in_ok-buffer.ensures.key count t (c.in_ok-buffer.ensures.stands t).stands settled cut (e.rests t) (λ past. ap g.D.Device.time (c.truncate.ensures.unchanged past));
-      held = held_on bu c.in_ok-buffer-2.buffer K a0 b c.in_ok-buffer.ensures.key (e.held t) (c.in_ok-buffer.ensures.stands t).held;
-    })
+    (λ t. alone_blobs bu mine.0 is K a0 a times c.in_ok-buffer.ensures.key g.S.Seal.seal_of b (c.in_ok-buffer.ensures.stands t) (c.truncate.ensures.alone t))
+    _ c.in_ok-buffer-2.buffer put.here put.opened (e.key ∙ c.in_ok-buffer.ensures.key) ((λ i. record { page_size = e.page_size i; capacity = e.capacity i; cache_pages = e.cache_pages i }) ∙ c.in_ok-buffer.ensures.setting) (open_at c.in_ok-buffer-2.buffer K (g.D.Device.opened c.truncate.new.dev) (e.key ∙ c.in_ok-buffer.ensures.key) e.«open»)
+    (λ t. cut_stands g.S.Seal.seal_of bu c.in_ok-buffer-2.buffer K a0 b c.in_ok-buffer.ensures.key count t (c.in_ok-buffer.ensures.stands t) settled cut (e.rests t) (λ past. ap g.D.Device.time (c.truncate.ensures.unchanged past)))
 
 pub returns-clause-cut : goal.returns-clause-cut
 returns-clause-cut g c u v held held_new =
@@ -244,7 +241,7 @@ returns-clause-cut g c u v held held_new =
     let at = same_some (q.held c.args.section) c.in_ok-buffer-2.buffer v c.in_ok-put.ensures.put.here held_new in
     cut_back_moved bu u (c.in_ok-buffer.ensures.same u held) K a0 a times c.in_ok-buffer.ensures.key g.S.Seal.seal_of g.D.Device.Tells c.in_ok-buffer-2.buffer v b count (c.args.count * g.A.CodecFixed.SIZE) at size
     (cut_at g.S.Seal.seal_of g.D.Device.Tells bu c.in_ok-buffer-2.buffer K a0 b c.in_ok-buffer.ensures.key count settled within e.page_size e.size e.settled (λ past. (e.same past, ap g.D.Device.time (c.truncate.ensures.unchanged past)))
-    (λ t. subst (λ (k : Key). Stands g.S.Seal.seal_of (shown bu) (disk a0 k)) (sym c.in_ok-buffer.ensures.key) (c.in_ok-buffer.ensures.stands t).stands) e.rests
+    (λ t. subst (λ (k : Key). Stands g.S.Seal.seal_of (shown bu) (disk a0 k)) (sym c.in_ok-buffer.ensures.key) (c.in_ok-buffer.ensures.stands t)) e.rests
     (λ t. moved_back bu mine.0 is K a0 a times c.in_ok-buffer.ensures.key (λ (x : PageBlob g.row.S.Denot g.S.Seal) (k : Key) (s : Timeline). count ≤ length (sealed_prefix g.S.Seal.seal_of x.page_size (disk s k).content)) (omega (arith, size, c.requires.prefix t mine.0 mine.1)))
     e.sealed e.recovered e.prefix_again e.again)
 

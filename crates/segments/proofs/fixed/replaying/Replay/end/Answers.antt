@@ -65,7 +65,7 @@ end_cut-requires-clause-last g c t =
     let there = walk_same g.S.Seal.seal_of g.A.CodecFixed.SIZE _ _ _ _ (sym back) c.requires.over in
     let last = λ (t : g.D.Device.Tells). if_some_at old.place r (λ (y : Place). length (kept_bytes g.S.Seal.seal_of g.A.CodecFixed.SIZE old (disk (g.D.Device.time c.args.dev.now)) y.section) < (y.position + 1) * g.A.CodecFixed.SIZE) (ap (option_map place_of) was) (c.requires.last t) in
     let h = here g.S.Seal.seal_of g.A.CodecFixed.SIZE _ _ w r _ (disk (g.D.Device.time c.args.dev.now)) there in
-    ends_kept g.S.Seal.seal_of g.A.CodecFixed.SIZE _ _ w r _ (disk (g.D.Device.time c.args.dev.now)) there (λ u b stands. stands.stands.adopted) g.met.A.CodecFixed.fixed.at_least last true (λ no. absurd (cc no)) (λ yes. omega (arith, (c.is_torn.ensures.0 c.if-is_torn.true).1, h.2.blob_size)) t
+    ends_kept g.S.Seal.seal_of g.A.CodecFixed.SIZE _ _ w r _ (disk (g.D.Device.time c.args.dev.now)) there (λ u b stands. stands.adopted) g.met.A.CodecFixed.fixed.at_least last true (λ no. absurd (cc no)) (λ yes. omega (arith, (c.is_torn.ensures.0 c.if-is_torn.true).1, h.2.blob_size)) t
 
 pub returns-in_default : goal.returns-in_default
 returns-in_default g c x at =
@@ -98,7 +98,7 @@ returns-in_err-check_start g c x at =
       | inl lt ↦ absurd (false_true c.is_torn.result c.if-is_torn.false (c.is_torn.ensures.1 (owed, lt)))
       | inr le ↦ omega (arith, le, h.2.blob_size)
     ] in
-    let ends = λ (t : g.D.Device.Tells). ends_kept g.S.Seal.seal_of g.A.CodecFixed.SIZE _ _ w r _ (disk (g.D.Device.time c.args.dev.now)) there (λ u b stands. stands.stands.adopted) g.met.A.CodecFixed.fixed.at_least last false (λ no. empty) (λ yes. absurd (cc yes)) t in
+    let ends = λ (t : g.D.Device.Tells). ends_kept g.S.Seal.seal_of g.A.CodecFixed.SIZE _ _ w r _ (disk (g.D.Device.time c.args.dev.now)) there (λ u b stands. stands.adopted) g.met.A.CodecFixed.fixed.at_least last false (λ no. empty) (λ yes. absurd (cc yes)) t in
     let p = err_from_is_err_and c.from_residual.result c.from_residual.ensures.1 in
     let refused = c.in_err-check_start.ensures.cause in
     let fewer = c.in_err-check_start.ensures.fewer w.start_position refused in
@@ -127,7 +127,7 @@ returns g c x at =
       | inl lt ↦ absurd (false_true c.is_torn.result c.if-is_torn.false (c.is_torn.ensures.1 (owed, lt)))
       | inr le ↦ omega (arith, le, h.2.blob_size)
     ] in
-    let ends = λ (t : g.D.Device.Tells). ends_kept g.S.Seal.seal_of g.A.CodecFixed.SIZE _ _ w r _ (disk (g.D.Device.time c.args.dev.now)) there (λ u b stands. stands.stands.adopted) g.met.A.CodecFixed.fixed.at_least last false (λ no. empty) (λ yes. absurd (cc yes)) t in
+    let ends = λ (t : g.D.Device.Tells). ends_kept g.S.Seal.seal_of g.A.CodecFixed.SIZE _ _ w r _ (disk (g.D.Device.time c.args.dev.now)) there (λ u b stands. stands.adopted) g.met.A.CodecFixed.fixed.at_least last false (λ no. empty) (λ yes. absurd (cc yes)) t in
     ends_as g.S.Seal.seal_of g.A.CodecFixed.SIZE _ _ g.A.Codec.spelling g.A.Codec.accepted g.A.Codec.refusal g.D.Device.Tells _ _ old w _ _ _ _ _ _ _ r x own back (λ i. record old { place = option_map place_of (sym c.take.ensures.after i) })
     (record {
       steps = end_uncut g.S.Seal.seal_of g.A.CodecFixed.SIZE _ _ w r _ (g.D.Device.time c.args.dev.now) there g.A.Codec.spelling g.A.Codec.accepted g.A.Codec.refusal refl _ _ (omega arith) g.met.A.CodecFixed.fixed.at_least ends

@@ -55,10 +55,10 @@ returns-in-Ok g c x at =
     let is : c.ensure.result ≡ Ok enough = c.in-Ok.is in
     let exact = IfOk-at_ok _ is e.exact in
     fills_as g.S.Seal.seal_of g.A.CodecFixed.SIZE _ _ g.D.Device c.args.count r x _ _ old _ _ _ _ own back refl
-    (filled g.S.Seal.seal_of g.A.CodecFixed.SIZE _ _ g.D.Device w r more c.args.dev.now c.ensure.new.dev c.args.count _ there (λ u b stands. stands.stands.adopted) g.met.A.CodecFixed.fixed.at_least e.same e.grows e.replays e.unchanged e.reads e.faults e.within (ok_at c.ensure.result enough is e.once) enough
+    (filled g.S.Seal.seal_of g.A.CodecFixed.SIZE _ _ g.D.Device w r more c.args.dev.now c.ensure.new.dev c.args.count _ there (λ u b stands. stands.adopted) g.met.A.CodecFixed.fixed.at_least e.same e.grows e.replays e.unchanged e.reads e.faults e.within (ok_at c.ensure.result enough is e.once) enough
     (λ yes. omega (arith, IfOk-at_ok _ is e.at_hand yes, wanted))
     (λ few. (let got = e.ready (omega (arith, few, wanted)) in (got.0, same_ok c.ensure.result enough true is got.1)))
-    (λ no. filled_out g.S.Seal.seal_of g.A.CodecFixed.SIZE _ _ g.D.Device w r more c.args.dev.now c.ensure.new.dev c.args.count _ there (λ u b stands. stands.stands.adopted) g.met.A.CodecFixed.fixed.at_least e.same e.grows e.replays e.unchanged e.reads e.faults (IfOk-at_ok _ is e.rest no)
+    (λ no. filled_out g.S.Seal.seal_of g.A.CodecFixed.SIZE _ _ g.D.Device w r more c.args.dev.now c.ensure.new.dev c.args.count _ there (λ u b stands. stands.adopted) g.met.A.CodecFixed.fixed.at_least e.same e.grows e.replays e.unchanged e.reads e.faults (IfOk-at_ok _ is e.rest no)
     (elim (cases_lt r.reader.size (r.reader.at + c.args.count * g.A.CodecFixed.SIZE)) [
       | inl lt ↦ lt
       | inr le ↦ absurd (cc (no, exact.1 (omega (arith, le, wanted))))
@@ -80,9 +80,9 @@ returns-then-not-owes g c x at =
     let is : c.ensure.result ≡ Err (InvalidChecksum k) = (let at = c.in-Err.is in let same = c.in-InvalidChecksum.is in cc (at, same)) in
     let free : w.journal.unrecovered r.section ≡ false = (let owes = c.owes.ensures in let not = c.if-not-owes.true in cc (owes, not)) in
     fills_as g.S.Seal.seal_of g.A.CodecFixed.SIZE _ _ g.D.Device c.args.count r x _ _ old w _ _ _ own back (λ i. record old { place = option_map place_of (sym c.take.ensures.after i) })
-    (filled_failed g.S.Seal.seal_of g.A.CodecFixed.SIZE _ _ g.D.Device w r more c.args.dev.now c.ensure.new.dev c.args.count _ there (λ u b stands. stands.stands.adopted) g.met.A.CodecFixed.fixed.at_least e.same e.grows e.replays e.unchanged e.reads e.faults refl _ (inl (k, refl))
+    (filled_failed g.S.Seal.seal_of g.A.CodecFixed.SIZE _ _ g.D.Device w r more c.args.dev.now c.ensure.new.dev c.args.count _ there (λ u b stands. stands.adopted) g.met.A.CodecFixed.fixed.at_least e.same e.grows e.replays e.unchanged e.reads e.faults refl _ (inl (k, refl))
     (λ t j page. subst (IsFoundShort g.S.Seal.seal_of g.A.CodecFixed.SIZE c.args.count (standing w r) r (disk (g.D.Device.time c.args.dev.now))) (page_is k j page)
-    (found_short g.S.Seal.seal_of g.A.CodecFixed.SIZE _ _ g.D.Device w r more c.args.dev.now c.ensure.new.dev c.args.count _ there (λ u b stands. stands.stands.adopted) g.met.A.CodecFixed.fixed.at_least e.same e.grows e.replays e.unchanged e.reads e.faults k (λ t replay. subst (λ (m : ℕ). IsShort g.S.Seal.seal_of r.reader.page_size (disk (g.D.Device.time c.args.dev.now) r.reader.key).content (next_of r.reader) (missing_of r.reader m) k) wanted (e.checksum t replay k is)) free t))
+    (found_short g.S.Seal.seal_of g.A.CodecFixed.SIZE _ _ g.D.Device w r more c.args.dev.now c.ensure.new.dev c.args.count _ there (λ u b stands. stands.adopted) g.met.A.CodecFixed.fixed.at_least e.same e.grows e.replays e.unchanged e.reads e.faults k (λ t replay. subst (λ (m : ℕ). IsShort g.S.Seal.seal_of r.reader.page_size (disk (g.D.Device.time c.args.dev.now) r.reader.key).content (next_of r.reader) (missing_of r.reader m) k) wanted (e.checksum t replay k is)) free t))
     (λ few. never_ok c.ensure.result (InvalidChecksum k) true is (e.ready (omega (arith, few, wanted))).1))
 
 pub returns-else-not-owes : goal.returns-else-not-owes
@@ -100,9 +100,9 @@ returns-else-not-owes g c x at =
     let k = c.in-InvalidChecksum.page in
     let is : c.ensure.result ≡ Err (InvalidChecksum k) = (let at = c.in-Err.is in let same = c.in-InvalidChecksum.is in cc (at, same)) in
     fills_as g.S.Seal.seal_of g.A.CodecFixed.SIZE _ _ g.D.Device c.args.count r x _ _ old _ _ _ _ own back refl
-    (filled g.S.Seal.seal_of g.A.CodecFixed.SIZE _ _ g.D.Device w r more c.args.dev.now c.ensure.new.dev c.args.count _ there (λ u b stands. stands.stands.adopted) g.met.A.CodecFixed.fixed.at_least e.same e.grows e.replays e.unchanged e.reads e.faults e.within (e.judged k is) false (λ yes. absurd (cc yes))
+    (filled g.S.Seal.seal_of g.A.CodecFixed.SIZE _ _ g.D.Device w r more c.args.dev.now c.ensure.new.dev c.args.count _ there (λ u b stands. stands.adopted) g.met.A.CodecFixed.fixed.at_least e.same e.grows e.replays e.unchanged e.reads e.faults e.within (e.judged k is) false (λ yes. absurd (cc yes))
     (λ few. absurd (never_ok c.ensure.result (InvalidChecksum k) true is (e.ready (omega (arith, few, wanted))).1))
-    (λ no. filled_short g.S.Seal.seal_of g.A.CodecFixed.SIZE _ _ g.D.Device w r more c.args.dev.now c.ensure.new.dev c.args.count _ there (λ u b stands. stands.stands.adopted) g.met.A.CodecFixed.fixed.at_least e.same e.grows e.replays e.unchanged e.reads e.faults k (λ t replay. subst (λ (m : ℕ). IsShort g.S.Seal.seal_of r.reader.page_size (disk (g.D.Device.time c.args.dev.now) r.reader.key).content (next_of r.reader) (missing_of r.reader m) k) wanted (e.checksum t replay k is)) (let owes = c.owes.ensures in let yes = c.if-not-owes.false in cc (owes, yes))))
+    (λ no. filled_short g.S.Seal.seal_of g.A.CodecFixed.SIZE _ _ g.D.Device w r more c.args.dev.now c.ensure.new.dev c.args.count _ there (λ u b stands. stands.adopted) g.met.A.CodecFixed.fixed.at_least e.same e.grows e.replays e.unchanged e.reads e.faults k (λ t replay. subst (λ (m : ℕ). IsShort g.S.Seal.seal_of r.reader.page_size (disk (g.D.Device.time c.args.dev.now) r.reader.key).content (next_of r.reader) (missing_of r.reader m) k) wanted (e.checksum t replay k is)) (let owes = c.owes.ensures in let yes = c.if-not-owes.false in cc (owes, yes))))
 
 pub returns-in_default-e : goal.returns-in_default-e
 returns-in_default-e g c x at =
@@ -119,6 +119,6 @@ returns-in_default-e g c x at =
     let raw = c.in-Err.e in
     let is : c.ensure.result ≡ Err raw = c.in-Err.is in
     fills_as g.S.Seal.seal_of g.A.CodecFixed.SIZE _ _ g.D.Device c.args.count r x _ _ old w _ _ _ own back (λ i. record old { place = option_map place_of (sym c.take.ensures.after i) })
-    (filled_failed g.S.Seal.seal_of g.A.CodecFixed.SIZE _ _ g.D.Device w r more c.args.dev.now c.ensure.new.dev c.args.count _ there (λ u b stands. stands.stands.adopted) g.met.A.CodecFixed.fixed.at_least e.same e.grows e.replays e.unchanged e.reads e.faults refl c.from.result (raised_cut raw c.from.result c.from.ensures _ _ _ (omega arith) (page_alone raw c.in-Err.ensures.cause))
+    (filled_failed g.S.Seal.seal_of g.A.CodecFixed.SIZE _ _ g.D.Device w r more c.args.dev.now c.ensure.new.dev c.args.count _ there (λ u b stands. stands.adopted) g.met.A.CodecFixed.fixed.at_least e.same e.grows e.replays e.unchanged e.reads e.faults refl c.from.result (raised_cut raw c.from.result c.from.ensures _ _ _ (omega arith) (page_alone raw c.in-Err.ensures.cause))
     (λ t k page. absurd (c.in_default-e.not-InvalidChecksum k (runtime_of raw (InvalidChecksum k) (sym c.from.ensures ∙ page))))
     (λ few. never_ok c.ensure.result raw true is (e.ready (omega (arith, few, wanted))).1))

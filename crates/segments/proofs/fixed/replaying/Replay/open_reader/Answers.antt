@@ -19,7 +19,7 @@ use Rattle.section_manager.proofs.sections.OverLemmas.{same_key}
 use Rattle.segments.specs.FixedWalking.{walk_of}
 use Rattle.segments.proofs.FixedAppendLemmas.{steady_start}
 use Rattle.segments.proofs.FixedBuffers.{flushed_at}
-use Rattle.segments.proofs.FixedCalls.{bounds_then, same_then, own_entries, moved, alone_blobs, held_on, flush_stands, flushed_moved, begins_moved, open_at}
+use Rattle.segments.proofs.FixedCalls.{bounds_then, same_then, own_entries, moved, alone_blobs, flush_stands, flushed_moved, begins_moved, open_at}
 use Rattle.segments.proofs.FixedCounts.{no_reads}
 use Rattle.segments.proofs.FixedErrorSteps.{raised_failed}
 use Rattle.segments.proofs.FixedTouching.{touch_out, touch_back}
@@ -55,7 +55,7 @@ returns-in_err-buffer-clause-moments g c t u held is =
     let K = sections.key_of (walk_of c.args.self.now).journal.sections c.args.section in
     let a = g.D.Device.time c.args.dev.now in
     subst (λ (x : Timeline). Sealing g.S.Seal.seal_of u.page_size (bytes_of (shown u) (disk a K).content) u.settled K a x) (sym (ap g.D.Device.time (c.take.ensures.untouched c.requires.held)))
-    (holds_start g.S.Seal.seal_of (shown u) (bytes_of (shown u) (disk a K).content) K a u.fit.begun is)
+    (holds_start g.S.Seal.seal_of (shown u) (bytes_of (shown u) (disk a K).content) K a u.fit.begun is.holds)
 
 pub returns-in_err-buffer-clause-idle : goal.returns-in_err-buffer-clause-idle
 returns-in_err-buffer-clause-idle g c u held settled = ap g.D.Device.time (c.take.ensures.untouched c.requires.held)
@@ -79,7 +79,7 @@ returns-in_err-buffer-2-clause-touches g c =
     let same = c.take.ensures.untouched c.requires.held in
     rw p.1 (touch_out _ _ m _ c.args.section u.0 u.1 (g.D.Device.opened c.args.dev.now) (g.D.Device.opened c.replay.new.dev) (g.D.Device.time c.args.dev.now) (g.D.Device.time c.replay.new.dev) c.requires.over c.take.ensures.bounds c.take.ensures.others
     (own_entries (key_of (shown bu)) (sections.key_of m c.args.section) (g.D.Device.opened c.args.dev.now) (g.D.Device.opened c.take.new.dev) (g.D.Device.opened c.replay.new.dev) c.in_ok-buffer.ensures.key (ap g.D.Device.opened same) c.replay.ensures.entries.others)
-    (λ t. alone_blobs bu u.0 (c.in_ok-buffer.ensures.same u.0 u.1) (sections.key_of m c.args.section) (g.D.Device.time c.take.new.dev) (g.D.Device.time c.args.dev.now) (ap g.D.Device.time same) c.in_ok-buffer.ensures.key g.S.Seal.seal_of (g.D.Device.time c.replay.new.dev) (c.in_ok-buffer.ensures.stands t).stands (c.replay.ensures.alone t))
+    (λ t. alone_blobs bu u.0 (c.in_ok-buffer.ensures.same u.0 u.1) (sections.key_of m c.args.section) (g.D.Device.time c.take.new.dev) (g.D.Device.time c.args.dev.now) (ap g.D.Device.time same) c.in_ok-buffer.ensures.key g.S.Seal.seal_of (g.D.Device.time c.replay.new.dev) (c.in_ok-buffer.ensures.stands t) (c.replay.ensures.alone t))
     p.0 c.in_ok-buffer.ensures.out (is_some _ _ c.in_ok-buffer.ensures.known))
 
 pub returns-in_err-buffer-2-clause-flushed : goal.returns-in_err-buffer-2-clause-flushed
@@ -127,7 +127,7 @@ returns-in_err-put-clause-touches g c =
     rw p.1 (touch_out _ _ m q c.args.section u.0 u.1 (g.D.Device.opened c.args.dev.now) (g.D.Device.opened c.replay.new.dev) (g.D.Device.time c.args.dev.now) (g.D.Device.time c.replay.new.dev) c.requires.over
     (bounds_then m n q c.take.ensures.bounds c.put.ensures.bounds) (λ x other. same_then m n q x (c.take.ensures.others x other) (refused x))
     (own_entries (key_of (shown bu)) (sections.key_of m c.args.section) (g.D.Device.opened c.args.dev.now) (g.D.Device.opened c.take.new.dev) (g.D.Device.opened c.replay.new.dev) c.in_ok-buffer.ensures.key (ap g.D.Device.opened same) c.replay.ensures.entries.others)
-    (λ t. alone_blobs bu u.0 (c.in_ok-buffer.ensures.same u.0 u.1) (sections.key_of m c.args.section) (g.D.Device.time c.take.new.dev) (g.D.Device.time c.args.dev.now) (ap g.D.Device.time same) c.in_ok-buffer.ensures.key g.S.Seal.seal_of (g.D.Device.time c.replay.new.dev) (c.in_ok-buffer.ensures.stands t).stands (c.replay.ensures.alone t))
+    (λ t. alone_blobs bu u.0 (c.in_ok-buffer.ensures.same u.0 u.1) (sections.key_of m c.args.section) (g.D.Device.time c.take.new.dev) (g.D.Device.time c.args.dev.now) (ap g.D.Device.time same) c.in_ok-buffer.ensures.key g.S.Seal.seal_of (g.D.Device.time c.replay.new.dev) (c.in_ok-buffer.ensures.stands t) (c.replay.ensures.alone t))
     p.0 ((refused c.args.section).held ∙ c.in_ok-buffer.ensures.out) (is_some _ _ ((refused c.args.section).unopened ∙ c.in_ok-buffer.ensures.known)))
 
 pub returns-in_err-put-clause-flushed : goal.returns-in_err-put-clause-flushed
@@ -166,13 +166,10 @@ returns-clause-touches g c =
     touch_back _ _ m q c.args.section u.0 u.1 (g.D.Device.opened c.args.dev.now) (g.D.Device.opened c.replay.new.dev) (g.D.Device.time c.args.dev.now) (g.D.Device.time c.replay.new.dev) c.requires.over
     (bounds_then m n q c.take.ensures.bounds c.put.ensures.bounds) (λ x other. same_then m n q x (c.take.ensures.others x other) (put.others x other))
     (own_entries (key_of (shown bu)) K (g.D.Device.opened c.args.dev.now) (g.D.Device.opened c.take.new.dev) (g.D.Device.opened c.replay.new.dev) c.in_ok-buffer.ensures.key (ap g.D.Device.opened same) c.replay.ensures.entries.others)
-    (λ t. alone_blobs bu u.0 (c.in_ok-buffer.ensures.same u.0 u.1) K (g.D.Device.time c.take.new.dev) (g.D.Device.time c.args.dev.now) (ap g.D.Device.time same) c.in_ok-buffer.ensures.key g.S.Seal.seal_of (g.D.Device.time c.replay.new.dev) (c.in_ok-buffer.ensures.stands t).stands (c.replay.ensures.alone t))
-    _ c.in_ok-buffer-2.buffer put.here put.opened (e.key ∙ c.in_ok-buffer.ensures.key) ((λ i. record { page_size = e.page_size i; capacity = e.capacity i }) ∙ c.in_ok-buffer.ensures.setting) (open_at c.in_ok-buffer-2.buffer K (g.D.Device.opened c.replay.new.dev) (e.key ∙ c.in_ok-buffer.ensures.key) e.«open»)
-    (λ t. record {
-      stands = flush_stands bu u.0 (c.in_ok-buffer.ensures.same u.0 u.1) K (g.D.Device.time c.take.new.dev) (g.D.Device.time c.args.dev.now) (ap g.D.Device.time same) c.in_ok-buffer.ensures.key g.S.Seal.seal_of c.in_ok-buffer-2.buffer (g.D.Device.time c.replay.new.dev) (c.in_ok-buffer.ensures.stands t).stands
-          e.settled e.size (λ f. ap g.D.Device.time (c.replay.ensures.idle f)) (e.sealed t) (e.unrecovered t);
-      held = held_on bu c.in_ok-buffer-2.buffer K (g.D.Device.time c.take.new.dev) (g.D.Device.time c.replay.new.dev) c.in_ok-buffer.ensures.key (e.held t) (c.in_ok-buffer.ensures.stands t).held;
-    })
+    (λ t. alone_blobs bu u.0 (c.in_ok-buffer.ensures.same u.0 u.1) K (g.D.Device.time c.take.new.dev) (g.D.Device.time c.args.dev.now) (ap g.D.Device.time same) c.in_ok-buffer.ensures.key g.S.Seal.seal_of (g.D.Device.time c.replay.new.dev) (c.in_ok-buffer.ensures.stands t) (c.replay.ensures.alone t))
+    _ c.in_ok-buffer-2.buffer put.here put.opened (e.key ∙ c.in_ok-buffer.ensures.key) ((λ i. record { page_size = e.page_size i; capacity = e.capacity i; cache_pages = e.cache_pages i }) ∙ c.in_ok-buffer.ensures.setting) (open_at c.in_ok-buffer-2.buffer K (g.D.Device.opened c.replay.new.dev) (e.key ∙ c.in_ok-buffer.ensures.key) e.«open»)
+    (λ t. flush_stands bu u.0 (c.in_ok-buffer.ensures.same u.0 u.1) K (g.D.Device.time c.take.new.dev) (g.D.Device.time c.args.dev.now) (ap g.D.Device.time same) c.in_ok-buffer.ensures.key g.S.Seal.seal_of c.in_ok-buffer-2.buffer (g.D.Device.time c.replay.new.dev) (c.in_ok-buffer.ensures.stands t)
+          e.settled e.size (λ f. ap g.D.Device.time (c.replay.ensures.idle f)) (e.sealed t) (e.unrecovered t))
 
 pub returns-clause-flushed : goal.returns-clause-flushed
 returns-clause-flushed g c u v held held_new =
@@ -184,7 +181,7 @@ returns-clause-flushed g c u v held held_new =
     let e = c.in_ok-buffer-2.ensures in
     let at = same_some (q.held c.args.section) c.in_ok-buffer-2.buffer v c.in_ok-put.ensures.put.here held_new in (
       flushed_moved bu u (c.in_ok-buffer.ensures.same u held) K (g.D.Device.time c.take.new.dev) (g.D.Device.time c.args.dev.now) times c.in_ok-buffer.ensures.key g.S.Seal.seal_of g.D.Device.Tells c.in_ok-buffer-2.buffer v (g.D.Device.time c.replay.new.dev) at
-          (flushed_at g.S.Seal.seal_of g.D.Device.Tells bu c.in_ok-buffer-2.buffer K (g.D.Device.time c.take.new.dev) (g.D.Device.time c.replay.new.dev) c.in_ok-buffer.ensures.key e.page_size e.size e.settled e.flushed e.sealed e.unrecovered c.replay.ensures.steady e.bytes (λ t. (c.in_ok-buffer.ensures.stands t).stands.adopted)),
+          (flushed_at g.S.Seal.seal_of g.D.Device.Tells bu c.in_ok-buffer-2.buffer K (g.D.Device.time c.take.new.dev) (g.D.Device.time c.replay.new.dev) c.in_ok-buffer.ensures.key e.page_size e.size e.settled e.flushed e.sealed e.unrecovered c.replay.ensures.steady e.bytes (λ t. (c.in_ok-buffer.ensures.stands t).adopted)),
       begins_moved bu u (c.in_ok-buffer.ensures.same u held) K (g.D.Device.time c.take.new.dev) (g.D.Device.time c.args.dev.now) times c.in_ok-buffer.ensures.key g.S.Seal.seal_of c.in_ok-buffer-2.buffer v _ at
           (record { key = e.over.0 ∙ c.in_ok-buffer.ensures.key; page_size = e.over.1; end = e.over.2; size = e.begins.1; at = e.begins.0; replays = e.replays }),
     )

@@ -104,7 +104,7 @@ returns-then-enough g c =
     let hand = hand_filled g.S.Seal.seal_of g.A.CodecFixed.SIZE _ _ g.A.Codec.spelling g.A.Codec.accepted g.A.Codec.refusal g.D.Device old r.0 c.args.dev.now c.fill.new.dev c.requires.over r.1 (walk_of c.fill.new.self) c.in_ok-enough.enough (c.in_ok-enough.ensures r.0 r.1) c.if-enough.true q at in
     step_filled g.S.Seal.seal_of g.A.CodecFixed.SIZE _ _ g.A.Codec.spelling g.A.Codec.accepted g.A.Codec.refusal g.D.Device old r.0 c.args.dev.now c.fill.new.dev c.requires.over r.1 (walk_of c.fill.new.self) c.in_ok-enough.enough (c.in_ok-enough.ensures r.0 r.1) c.take_item.result (walk_of c.take_item.new.self) c.fill.new.dev
     (steps_same g.S.Seal.seal_of g.A.CodecFixed.SIZE _ _ g.A.Codec.spelling g.A.Codec.accepted g.A.Codec.refusal _ _ _ _ _ _ _ _ (sym back)
-    (item_steps g.S.Seal.seal_of g.A.CodecFixed.SIZE _ _ w q _ (g.D.Device.time c.fill.new.dev) there g.met.A.CodecFixed.fixed.at_least hand within g.A.Codec.spelling g.A.Codec.accepted g.A.Codec.refusal went (λ u b stands. stands.stands.adopted)
+    (item_steps g.S.Seal.seal_of g.A.CodecFixed.SIZE _ _ w q _ (g.D.Device.time c.fill.new.dev) there g.met.A.CodecFixed.fixed.at_least hand within g.A.Codec.spelling g.A.Codec.accepted g.A.Codec.refusal went (λ u b stands. stands.adopted)
     refl _ _ (omega arith) c.take_item.result (walk_of c.take_item.new.self)
     c.take_item.ensures.given c.take_item.ensures.skipped c.take_item.ensures.goes (on_err c.take_item.result (λ here. here ∙ (λ i. record mid { place = option_map place_of (c.take.ensures.after i) })) c.take_item.ensures.stays) c.take_item.ensures.cause c.take_item.ensures.refused))
 
