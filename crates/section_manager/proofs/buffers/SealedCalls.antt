@@ -4,7 +4,7 @@ use Rattle.std.specs.Prelude.{IfOk, IsOkAnd, OnOk, OnErr}
 use Rattle.std.proofs.lemmas.Bool.{cases_lt}
 use Rattle.blob_device.specs.declared.runtime.RError.{RError}
 use Rattle.blob_device.specs.declared.runtime.RError.TheVariants.{Fault, InvalidChecksum, Mem}
-use Rattle.blob_device.specs.Disk.{Key, Blob}
+use Rattle.blob_device.specs.Disk.{Key}
 use Rattle.blob_device.specs.Timeline.{Timeline, disk}
 use Rattle.blob_device.proofs.Results.{if_ok_with}
 use Rattle.sealed_pages.specs.Buffer.{Buffer, size_of, bytes_of, IsBacked, IsSealed}

@@ -1,20 +1,20 @@
 -- How a cut of sections ends.
-use Rattle.std.specs.Prelude.{Bool, ◌≡◌, ◌≢◌, ◌⊎◌, ◌↔◌, ℕ, ◌^◌, ◌-◌, ◌<◌, ◌≤◌, min, false, List, Option, None, Some, IsSome, IsSomeAnd, Result, Ok, Err, IfOk, OnErr, take}
+use Rattle.std.specs.Prelude.{Bool, ◌≡◌, ◌≢◌, ◌⊎◌, ℕ, ◌^◌, ◌-◌, ◌<◌, ◌≤◌, min, false, List, Option, Some, IsSome, IsSomeAnd, Result, Ok, Err, take}
 use Rattle.std.specs.List.{Contains}
 use Rattle.std.specs.Option.{unwrap_or}
 use Rattle.std.proofs.Common.{inl, inr, refl, sym, ◌∙◌, ap, subst, arith}
 use Rattle.blob_device.specs.declared.runtime.RError.{RError}
 use Rattle.blob_device.specs.declared.runtime.RError.TheVariants.{Fault, InvalidChecksum, Mem as RMem}
 use Rattle.blob_device.specs.Counts.{Rose}
-use Rattle.blob_device.specs.Disk.{Key, Blob, Disk, nothing}
-use Rattle.blob_device.specs.Timeline.{disk, Always}
+use Rattle.blob_device.specs.Disk.{Key, Blob, Disk}
+use Rattle.blob_device.specs.Timeline.{disk}
 use Rattle.blob_device.specs.declared.device.Device as device
 use Rattle.blob_device.proofs.Moments.{always_now, always_start, always_weaker}
 use Rattle.blob_device.proofs.Results.{ok_with, on_err}
 use Rattle.sealed_pages.specs.Entries.{IsOpenAt}
 use Rattle.section_manager.specs.declared.buffer.SectionBuffer as buffer
 use Rattle.section_manager.specs.declared.journal.Error.{Error}
-use Rattle.section_manager.specs.declared.journal.Error.TheVariants.{Mem, Runtime}
+use Rattle.section_manager.specs.declared.journal.Error.TheVariants.{Runtime}
 use Rattle.section_manager.specs.declared.manager.removing.Doomed.TheVariants.{After}
 use Rattle.section_manager.specs.Entries.{OnlyOwnEntry, StartsNoRead}
 use Rattle.section_manager.specs.Lasting.{IsLonger, Removing, Truncating}
@@ -24,10 +24,10 @@ use Rattle.section_manager.specs.managing.Removing.{RemovesAll}
 use Rattle.section_manager.specs.managing.Settling.{IsAnyBelow}
 use Rattle.section_manager.specs.Raised.{raised}
 use Rattle.section_manager.specs.Refusing.{HasDamage, HasFailed, IsPruned}
-use Rattle.section_manager.specs.Sections.{Sections, section_key, key_of, IsCut, IsGone, IsKnown, IsOver, IsSame, SameBounds}
+use Rattle.section_manager.specs.Sections.{Sections, section_key, key_of, IsCut, IsKnown, IsOver, IsSame, SameBounds}
 use Rattle.section_manager.specs.Setting.{Setting}
 use Rattle.section_manager.proofs.Seen.{failed_again, failed_later, failed_unpruned, if_ok_weaker}
-use Rattle.section_manager.proofs.sections.CutLemmas.{CutAnswer, CutCall, CutMade, CutTried, CutWalked, cut_moves, cut_new, cut_same, cut_tried_start, cutting_of, leaves_few, longer_none, not_below, raised_page, some_has}
+use Rattle.section_manager.proofs.sections.CutLemmas.{CutCall, CutMade, CutTried, CutWalked, cut_moves, cut_new, cut_same, cut_tried_start, cutting_of, leaves_few, longer_none, not_below, raised_page, some_has}
 use Rattle.section_manager.proofs.sections.KeyLemmas.{keys_differ}
 use Rattle.section_manager.proofs.sections.RemoveLemmas.{gone_then, none_known, over_bounds, removing_start, same_then}
 use Rattle.section_manager.proofs.sections.SyncLemmas.{BufferLaws, key_is, moments_of, entries_of, over_replaced, same_moments, stands_before}

@@ -1,24 +1,22 @@
 -- How an opening of a partition ends.
-use Rattle.std.specs.Prelude.{◌≡◌, ◌≢◌, ◌⊎◌, ◌↔◌, ℕ, ◌^◌, ◌-◌, ◌<◌, ◌≤◌, List, length, map, None, Some, is_some, IsSome, IsTrue, Result, Ok, Err, IfOk, OnErr}
+use Rattle.std.specs.Prelude.{◌≡◌, ◌≢◌, ◌⊎◌, ◌↔◌, ℕ, ◌^◌, ◌<◌, ◌≤◌, List, length, map, is_some, IsTrue, Result, Ok, Err, IfOk, OnErr}
 use Rattle.std.specs.Int.{w64, to_be_bytes}
 use Rattle.std.specs.List.{Contains}
 use Rattle.std.specs.Result.{IsErrOf}
 use Rattle.std.proofs.Common.{inl, inr, refl, sym, ◌∙◌, ap, subst, arith}
-use Rattle.blob_device.specs.declared.runtime.RError.TheVariants.{Fault}
 use Rattle.blob_device.specs.Disk.{AreNamesIn, Disk}
 use Rattle.blob_device.specs.Opened.{OpenedList, reads_of}
-use Rattle.blob_device.specs.Timeline.{disk, Always, Each}
+use Rattle.blob_device.specs.Timeline.{disk}
 use Rattle.blob_device.specs.declared.device.Device as device
 use Rattle.blob_device.proofs.Results.{on_err}
 use Rattle.sealed_pages.specs.Reading.{Unchanged}
 use Rattle.sealed_pages.proofs.Looking.{unchanged_now}
 use Rattle.section_manager.specs.declared.buffer.SectionBuffer as buffer
 use Rattle.section_manager.specs.declared.journal.Error.{Error}
-use Rattle.section_manager.specs.declared.journal.Error.TheVariants.{InvalidBlobName, Mem, Runtime}
+use Rattle.section_manager.specs.declared.journal.Error.TheVariants.{InvalidBlobName, Mem}
 use Rattle.section_manager.specs.Entries.{StartsNoRead}
-use Rattle.section_manager.specs.Lasting.{IsSettling}
 use Rattle.section_manager.specs.managing.Finding.{AreSectionsIn, Finding, Scans}
-use Rattle.section_manager.specs.managing.Opening.{Inits, Knows, OpensEach, OpensFound}
+use Rattle.section_manager.specs.managing.Opening.{Inits, OpensEach, OpensFound}
 use Rattle.section_manager.specs.Refusing.{HasFailed, IsForeign}
 use Rattle.section_manager.specs.Sections.{Sections, section_key, key_of, IsHeld, IsKnown, IsOver}
 use Rattle.section_manager.specs.Setting.{Setting}

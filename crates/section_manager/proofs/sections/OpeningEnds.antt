@@ -1,18 +1,17 @@
 -- How an opening of a section ends.
-use Rattle.std.specs.Prelude.{Option, IsSomeAnd, ◌≡◌, ◌≢◌, ◌⊎◌, ◌↔◌, ℕ, ◌^◌, ◌-◌, ◌<◌, ◌≤◌, false, List, None, Some, is_some, IsSome, IsTrue, Result, Ok, Err, IfOk, OnErr}
+use Rattle.std.specs.Prelude.{◌≡◌, ◌≢◌, ◌⊎◌, ℕ, ◌^◌, ◌<◌, ◌≤◌, false, None, Some, is_some, IsSome, Result, Ok, Err}
 use Rattle.std.proofs.Common.{inl, inr, refl, sym, ◌∙◌, ap, subst, arith}
 use Rattle.blob_device.specs.declared.runtime.RError.TheVariants.{Fault, Mem as RMem}
 use Rattle.blob_device.specs.declared.runtime.RError.{RError}
 use Rattle.blob_device.specs.Counts.{Rose}
-use Rattle.std.specs.Result.{IsErrOf}
 use Rattle.blob_device.specs.Disk.{Key, nothing}
-use Rattle.blob_device.specs.Opened.{Opened, OpenedList, reads_of}
+use Rattle.blob_device.specs.Opened.{OpenedList, reads_of}
 use Rattle.blob_device.specs.Timeline.{disk}
 use Rattle.blob_device.specs.declared.device.Device as device
 use Rattle.blob_device.proofs.Moments.{only_start}
 use Rattle.section_manager.specs.declared.buffer.SectionBuffer as buffer
 use Rattle.section_manager.specs.declared.journal.Error.{Error}
-use Rattle.section_manager.specs.declared.journal.Error.TheVariants.{Mem, Runtime}
+use Rattle.section_manager.specs.declared.journal.Error.TheVariants.{Mem}
 use Rattle.section_manager.specs.declared.unopened.Unopened.TheVariants.{Section}
 use Rattle.sealed_pages.specs.Entries.{IsOpenAt}
 use Rattle.section_manager.specs.Entries.{OnlyOwnEntry, StartsNoRead}
@@ -22,10 +21,10 @@ use Rattle.section_manager.specs.managing.Lending.{IsPut, IsRefused}
 use Rattle.section_manager.specs.managing.Opening.{Holds, OpensBlob, OpensNext, Takes}
 use Rattle.section_manager.specs.Raised.{raised}
 use Rattle.section_manager.specs.Refusing.{HasFailed, IsPruned}
-use Rattle.section_manager.specs.Sections.{Sections, key_of, HasOpened, IsHeld, IsKnown, IsOver, IsSame, IsSection, SameBounds, StandsOver}
+use Rattle.section_manager.specs.Sections.{Sections, key_of, HasOpened, IsHeld, IsOver, IsSame, SameBounds}
 use Rattle.section_manager.specs.Setting.{Setting}
 use Rattle.section_manager.proofs.Seen.{failed_again, failed_unpruned}
-use Rattle.section_manager.proofs.sections.OpenLemmas.{same_sections, same_over, unopened_over}
+use Rattle.section_manager.proofs.sections.OpenLemmas.{same_sections, unopened_over}
 use Rattle.section_manager.proofs.sections.OverLemmas.{over_changed, same_key}
 use Rattle.section_manager.proofs.WalkLemmas.{some_same}
 

@@ -1,9 +1,8 @@
 -- How a removal of sections ends.
-use Rattle.std.specs.Prelude.{◌≡◌, ◌≢◌, ◌⊎◌, ◌↔◌, ℕ, ◌-◌, ◌^◌, ◌<◌, ◌≤◌, Bool, true, false, None, IsSome, IsTrue, Result, Ok, Err}
-use Rattle.std.proofs.Common.{inl, inr, refl, sym, ◌∙◌, ap, subst, arith}
+use Rattle.std.specs.Prelude.{◌≡◌, ℕ, ◌-◌, ◌^◌, ◌<◌, ◌≤◌, Bool, true, false, None, IsSome, IsTrue, Result, Ok, Err}
+use Rattle.std.proofs.Common.{inl, inr, refl, sym, ◌∙◌, subst, arith}
 use Rattle.std.proofs.lemmas.Bool.{cases_lt}
-use Rattle.blob_device.specs.Disk.{Key, Disk}
-use Rattle.blob_device.specs.Opened.{OpenedList}
+use Rattle.blob_device.specs.Disk.{Key}
 use Rattle.blob_device.specs.Timeline.{disk, Always}
 use Rattle.blob_device.specs.declared.device.Device as device
 use Rattle.blob_device.proofs.Moments.{always_start, only_start}
@@ -16,7 +15,7 @@ use Rattle.section_manager.specs.Lasting.{EntriesLeave, IsGoing, Removing}
 use Rattle.section_manager.specs.Leaving.{AllMoments}
 use Rattle.section_manager.specs.managing.Removing.{Clears, Destroys, Forgets, Prunes, RemovesAll, RemovesOne}
 use Rattle.section_manager.specs.Refusing.{HasFailed, IsPruned}
-use Rattle.section_manager.specs.Sections.{Sections, key_of, IsGone, IsHeld, IsKeyOf, IsKnown, IsOver, IsSame}
+use Rattle.section_manager.specs.Sections.{Sections, key_of, IsGone, IsHeld, IsKeyOf, IsKnown, IsOver}
 use Rattle.section_manager.specs.Setting.{Setting}
 use Rattle.section_manager.proofs.Seen.{failed_again, failed_unpruned}
 use Rattle.section_manager.proofs.sections.OverLemmas.{same_key}

@@ -1,11 +1,8 @@
 -- How a sync of sections ends.
-use Rattle.std.specs.Prelude.{⊤, ◌≡◌, ◌≢◌, ◌⊎◌, ℕ, ◌<◌, ◌≤◌, true, false, List, length, take, get_or, Some, IsSomeAnd, Result, Ok, Err, IfOk}
-use Rattle.std.proofs.Common.{inl, inr, refl, sym, ◌∙◌, ap, subst, arith}
+use Rattle.std.specs.Prelude.{⊤, ◌≡◌, ◌≢◌, ◌⊎◌, ℕ, ◌≤◌, true, false, Some, IsSomeAnd, Result, Ok, Err}
+use Rattle.std.proofs.Common.{inr, refl, sym, ◌∙◌, subst, arith}
 use Rattle.std.proofs.lemmas.Bool.{false_from_ne_true, both_ways}
-use Rattle.std.proofs.lemmas.List.{take_all}
-use Rattle.std.specs.List.{Contains}
 use Rattle.blob_device.specs.Disk.{Key}
-use Rattle.blob_device.specs.Opened.{OpenedList}
 use Rattle.blob_device.specs.Timeline.{disk}
 use Rattle.blob_device.specs.declared.device.Device as device
 use Rattle.sealed_pages.specs.Entries.{IsOpenAt}
@@ -14,7 +11,7 @@ use Rattle.section_manager.specs.declared.journal.Error.{Error}
 use Rattle.section_manager.specs.Entries.{OnlyOwnEntry, StartsNoRead}
 use Rattle.section_manager.specs.Lasting.{IsUnsettled}
 use Rattle.section_manager.specs.Leaving.{AllMoments, Leaves}
-use Rattle.section_manager.specs.managing.Settling.{IsAnyBelow, Settles, SettlesOne}
+use Rattle.section_manager.specs.managing.Settling.{Settles, SettlesOne}
 use Rattle.section_manager.specs.Refusing.{HasFailed, IsPruned}
 use Rattle.section_manager.specs.Sections.{Sections, key_of, IsOver, IsSame, IsSynced, SameBounds}
 use Rattle.section_manager.specs.Setting.{Setting}

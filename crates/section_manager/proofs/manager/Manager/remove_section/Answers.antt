@@ -1,4 +1,4 @@
-use Rattle.std.proofs.Common.{IsSome, sym, subst}
+use Rattle.std.proofs.Common.{IsSome}
 use Rattle.section_manager.specs.managing.Managed.{flagged, shown}
 use Rattle.section_manager.proofs.Seen.{err_same, err_seen}
 use Rattle.section_manager.proofs.sections.OpenLemmas.{not_held, not_pruned}

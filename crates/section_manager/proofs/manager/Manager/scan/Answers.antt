@@ -1,4 +1,4 @@
-use Rattle.std.proofs.Common.{ℕ, List, refl, sym, subst}
+use Rattle.std.proofs.Common.{ℕ, List, subst}
 use Rattle.std.specs.Prelude.{string_bytes}
 use Rattle.blob_device.specs.Disk.{AreNamesIn}
 use Rattle.blob_device.specs.Timeline.{disk}
