@@ -8,7 +8,7 @@ use Rattle.blob_device.specs.Timeline.{Timeline, disk}
 use Rattle.blob_device.specs.declared.runtime.RError.{RError}
 use Rattle.blob_device.specs.declared.runtime.RError.TheVariants.{Fault, InvalidChecksum, Mem}
 use Rattle.blob_device.proofs.Results.{if_ok_with, on_ok_two, on_ok, on_err}
-use Rattle.sealed_pages.specs.Buffer.{Buffer, key_of, size_of, flushed_of, bytes_of, Holds, IsSealed, IsBacked, HasFlushed}
+use Rattle.sealed_pages.specs.Buffer.{Buffer, key_of, size_of, flushed_of, bytes_of, Holds, IsSealed, IsBacked, HasFlushed, has_leftover}
 use Rattle.sealed_pages.specs.Cached.{IsCachedOf, AreCachedOf}
 use Rattle.std.proofs.lemmas.List.Elements.{All-nil}
 use Rattle.sealed_pages.specs.ChanceSeal.{Leaves, Sealing}
@@ -83,6 +83,7 @@ pub record IsCut (u : Buffer) (len j : ℕ) (v : Buffer) : Type 0 where
   pub full : v.from ≡ length v.tip
   pub settled : v.settled ≡ len
   pub size : size_of v ≡ len
+  pub clean : has_leftover v ≡ false
 
 -- the place that a division finds
 pub placed : (P q len : ℕ) → q ≡ P → Place P len (len / q) (len % q)
@@ -107,6 +108,7 @@ is_cut u w v len j tip key page capacity pages begun at is = record {
   full = ap (λ (x : Buffer). x.from) is ∙ sym (ap (λ (x : Buffer). length x.tip) is);
   settled = ap (λ (x : Buffer). x.settled) is ∙ at;
   size = ap size_of is ∙ at;
+  clean = ap has_leftover is;
 }
 
 -- an entry of the list of opened blobs, by the key that the cut buffer has
