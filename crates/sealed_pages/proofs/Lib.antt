@@ -13,6 +13,7 @@ pub mod PageCalls
 pub mod Adopt
 pub mod Repairing
 pub mod Keeping
+pub mod KnownLemmas
 pub mod Adopting
 pub mod Holding
 pub mod Syncing

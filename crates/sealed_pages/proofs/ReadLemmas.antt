@@ -1,13 +1,15 @@
 -- Reading a range of bytes page by page.
-use Rattle.std.proofs.Common.{◌≡◌, ◌≢◌, ◌⊎◌, inl, inr, ℕ, ◌+◌, ◌-◌, ◌*◌, ◌/◌, ◌<◌, ◌≤◌, ◌^◌, min, max, Option, Some, None, cond, true, false, List, [], ◌++◌, length, get_or, take, drop, length-take, length-drop, length-append, refl, sym, ◌∙◌, ap, arith}
+use Rattle.std.proofs.Common.{◌≡◌, ◌≢◌, ◌⊎◌, inl, inr, ℕ, ◌+◌, ◌-◌, ◌*◌, ◌/◌, ◌<◌, ◌≤◌, ◌^◌, min, max, Option, Some, None, Bool, Result, Ok, cond, true, false, List, [], ◌∷◌, ◌++◌, length, get_or, take, drop, length-take, length-drop, length-append, refl, sym, ◌∙◌, ap, arith}
 use Rattle.std.proofs.lemmas.Bool.{cases_lt, ne_eqb}
 use Rattle.std.proofs.lemmas.List.{get_or-take, get_or-drop, get_or_append_left, get_or-append_right, ext_get_or, take_all, take-append-le}
 use Rattle.std.proofs.Math.Nat.{mul-le-mul_right}
 use Rattle.std.proofs.lemmas.Nat.{le-div}
 use Rattle.std.proofs.lemmas.Slice.{take-put_mid}
 use borrow.Rule.Slice.PartMut.{put_mid}
-use Rattle.std.specs.Prelude.{IfSome, IfNone, Err}
-use Rattle.std.specs.Result.{IsErrOf}
+use Rattle.std.specs.Prelude.{IfSome, IfNone, OnErr, Err}
+use Rattle.std.specs.Result.{IsErrOf, is_err}
+use Rattle.blob_device.specs.declared.runtime.RError.{RError}
+use Rattle.blob_device.specs.declared.runtime.RError.TheVariants.{BlobInsufficientLength, OffsetOverflow}
 use Rattle.sealed_pages.specs.declared.reading.LastPage.{LastPage}
 use Rattle.sealed_pages.specs.Buffer.{extent}
 use Rattle.sealed_pages.specs.Found.{Finds}
@@ -176,3 +178,15 @@ extent_room P n k pos fits lt =
 -- an error is the same whatever else might have been answered
 pub same_error : {T U E : Type 0} {a b : E} → IsErrOf {T = T} {E = E} (Err a) b → IsErrOf {T = U} {E = E} (Err a) b
 same_error is = cc
+
+-- no bytes of anything
+pub none_taken : (xs ys : List ℕ) → length xs ≡ 0 → xs ≡ take (length xs) ys
+none_taken [] ys none = refl
+none_taken (x ∷ xs) ys none = absurd (omega (arith, none))
+
+-- a range that is refused ends behind the size, or passes 2^64
+pub refused_range : {T : Type 0} (r : Result T RError) (b : Bool) (end size : ℕ) → b ≡ is_err r → b ≡ true → OnErr r ((r ≡ Err OffsetOverflow) ⊎ (r ≡ Err BlobInsufficientLength))
+    → (IsErrOf r OffsetOverflow → 2 ^ 64 ≤ end) → (IsErrOf r BlobInsufficientLength → (end < 2 ^ 64) × (size < end)) → end ≤ size → end < 2 ^ 64 → ⊥
+refused_range (Ok v) b end size is err cause over short within small = cc (is, err)
+refused_range (Err e) b end size is err (inl o) over short within small = omega (arith, over (cc o), small)
+refused_range (Err e) b end size is err (inr s) over short within small = omega (arith, (short (cc s)).1, within)

@@ -8,7 +8,7 @@ use Rattle.blob_device.specs.Timeline.{Timeline, disk}
 use Rattle.blob_device.specs.declared.runtime.RError.{RError}
 use Rattle.blob_device.specs.declared.runtime.RError.TheVariants.{Fault, InvalidChecksum, Mem}
 use Rattle.blob_device.proofs.Results.{if_ok_with, on_ok_two, on_ok, on_err}
-use Rattle.sealed_pages.specs.Buffer.{Buffer, key_of, size_of, flushed_of, bytes_of, Holds, IsSealed, IsBacked, HasFlushed}
+use Rattle.sealed_pages.specs.Buffer.{Buffer, key_of, size_of, flushed_of, bytes_of, Holds, IsSealed, IsBacked, HasFlushed, has_leftover}
 use Rattle.sealed_pages.specs.Cached.{IsCachedOf, AreCachedOf}
 use Rattle.std.proofs.lemmas.List.Elements.{All-nil}
 use Rattle.sealed_pages.specs.ChanceSeal.{Leaves, Sealing}
@@ -83,6 +83,7 @@ pub record IsCut (u : Buffer) (len j : ℕ) (v : Buffer) : Type 0 where
   pub full : v.from ≡ length v.tip
   pub settled : v.settled ≡ len
   pub size : size_of v ≡ len
+  pub clean : has_leftover v ≡ false
 
 -- the place that a division finds
 pub placed : (P q len : ℕ) → q ≡ P → Place P len (len / q) (len % q)
@@ -107,6 +108,7 @@ is_cut u w v len j tip key page capacity pages begun at is = record {
   full = ap (λ (x : Buffer). x.from) is ∙ sym (ap (λ (x : Buffer). length x.tip) is);
   settled = ap (λ (x : Buffer). x.settled) is ∙ at;
   size = ap size_of is ∙ at;
+  clean = ap has_leftover is;
 }
 
 -- an entry of the list of opened blobs, by the key that the cut buffer has
@@ -363,9 +365,9 @@ module _ {T : Type 0} {see : T → Buffer} {seal : List ℕ → ℕ} {u w : Buff
   pub cut_unrecovered : IsUnrecovered seal u (blob_of u a) → length (prefix_of seal u a) < len → IfOk r (λ v. IsUnrecovered seal (see v) (blob_of u d))
   cut_unrecovered un past = if_ok_with {Q = (keep ≤ page_length seal u.page_size (blob_of u b).content j) × IsAtRest (blob_of u d)} r (on_ok_two r (λ x y. (x, y)) k.covered k.rests)
       (both_ok r (λ v. IsCut u len j (see v)) (λ v. IsBacked seal (see v) (blob_of u d).content) x.marks (cut_is_backed un.backed))
-      (λ v both is. subst (λ (p : ℕ). length (sealed_prefix seal p (blob_of u b).content) < j * p + keep → SparesFront (page_at p j) (key_of u) b d → keep ≤ page_length seal p (blob_of u b).content j → (see v).page_size ≡ p
+      (λ v both is. subst (λ (p : ℕ). length (sealed_prefix seal p (blob_of u b).content) < j * p + keep → SparesFront (page_at p j) (key_of u) b d → keep ≤ page_length seal p (blob_of u b).content j → j * p ≤ (see v).settled → (see v).page_size ≡ p
       → IsUnrecovered seal (see v) (blob_of u d)) s.page
-      (λ lt spares covered same. cut_stays seal w pos (key_of u) b d (s.unrecovered un) j keep lt spares covered (see v) same is.0.first is.1 both.1) (less un past) k.front both.0 is.0.page)
+      (λ lt spares covered settled same. cut_stays seal w pos (key_of u) b d (s.unrecovered un) j keep lt spares covered (see v) same is.0.first settled is.1 both.1) (less un past) k.front both.0 (omega (arith, place.at, is.0.settled)) is.0.page)
 
 -- where nothing is cut
 pub no_recovery : (seal : List ℕ → ℕ) (u : Buffer) (len : ℕ) (b : Blob) → u.from < u.page_size → size_of u ≤ len → IsRecovery seal u len b → ⊥

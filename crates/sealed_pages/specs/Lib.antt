@@ -26,3 +26,9 @@ pub mod Pieces
 pub mod Proven
 pub mod Readers
 pub mod Tails
+pub mod Calls
+pub mod Adopts
+pub mod Flushes
+pub mod Writes
+pub mod PageReads
+pub mod Replays

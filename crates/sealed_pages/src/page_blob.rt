@@ -170,6 +170,9 @@ fn last_slot_of(
 
 impl<S: Seal> PageBlob<S> {
     ghost use Rattle.sealed_pages.specs.Shown.{shown};
+    ghost use Rattle.sealed_pages.specs.Adopts.{Adopts};
+    ghost use Rattle.sealed_pages.specs.Flushes.{Repairs, WritesTip, Flushes};
+    ghost use Rattle.sealed_pages.specs.Writes.{Appends, Syncs};
     ghost use Rattle.sealed_pages.specs.SealedPrefix.{sealed_prefix, adopted_size};
     ghost use Rattle.sealed_pages.specs.Reading.{Unchanged, OnlyRead};
     ghost use Rattle.sealed_pages.specs.View.{view, StandsAt};
@@ -192,30 +195,7 @@ impl<S: Seal> PageBlob<S> {
     ) -> Result<PageBlob<S>, RError>
         requires valid { 1 ≤ pages.page_size }
         requires open { IsOpenAt (D.opened dev.old) (partition.now, name.now) size }
-        ensures size { D.Tells → IfOk result (λ r. size_of (shown r) ≡ adopted_size S.seal_of pages.page_size (disk (D.time dev.old) (partition.now, name.now)).content) }
-        ensures backed { D.Tells → IfOk result (λ r. IsBacked S.seal_of (shown r) (disk (D.time dev.old) (partition.now, name.now)).content) }
-        // Where the blob has settled, and its sealed prefix is the size, the promise on crashes begins.
-        ensures sealed { D.Tells → IsAtRest (disk (D.time dev.old) (partition.now, name.now))
-            → length (sealed_prefix S.seal_of pages.page_size (disk (D.time dev.old) (partition.now, name.now)).content) ≡ adopted_size S.seal_of pages.page_size (disk (D.time dev.old) (partition.now, name.now)).content
-            → IfOk result (λ r. IsSealed S.seal_of (shown r) (disk (D.time dev.old) (partition.now, name.now))) }
-        // Where the prefix is shorter, that prefix outlives each crash. There is no third case.
-        ensures unrecovered { D.Tells → IsAtRest (disk (D.time dev.old) (partition.now, name.now))
-            → length (sealed_prefix S.seal_of pages.page_size (disk (D.time dev.old) (partition.now, name.now)).content) < adopted_size S.seal_of pages.page_size (disk (D.time dev.old) (partition.now, name.now)).content
-            → IfOk result (λ r. IsUnrecovered S.seal_of (shown r) (disk (D.time dev.old) (partition.now, name.now))) }
-        ensures adopted { D.Tells → IsAtRest (disk (D.time dev.old) (partition.now, name.now)) → IfOk result (λ r. IsAdopted S.seal_of (shown r) (disk (D.time dev.old) (partition.now, name.now))) }
-        ensures leftover { D.Tells → IfOk result (λ r. Leftover S.seal_of r.page_size (disk (D.time dev.old) (partition.now, name.now)).content r.first r.from r.newest r.behind r.torn) }
-        ensures cache { IfOk result (λ r. (shown r).cache ≡ []) }
-        ensures cache_pages { IfOk result (λ r. (shown r).cache_pages ≡ pages.cache_pages) }
-        ensures unchanged { D.Tells → Unchanged (D.time dev.old) (D.time dev.new) }
-        ensures settled { IfOk result (λ r. r.settled ≡ size_of (shown r)) }
-        ensures key { IfOk result (λ r. key_of (shown r) ≡ (partition.now, name.now)) }
-        ensures page_size { IfOk result (λ r. r.page_size ≡ pages.page_size) }
-        ensures capacity { IfOk result (λ r. r.capacity ≡ capacity) }
-        ensures end { IfOk result (λ r. r.end ≡ size) }
-        ensures open { IfOk result (λ r. IsOpenAt (D.opened dev.new) (key_of (shown r)) r.end) }
-        ensures entries { OnlyRead (partition.now, name.now) (D.opened dev.old) (D.opened dev.new) }
-        ensures faults { D.faults dev.old ≤ D.faults dev.new }
-        ensures cause { OnErr result ((result ≡ Err RError.Mem) ⊎ ((result ≡ Err RError.Fault) × Rose (D.faults dev.old) (D.faults dev.new))) }
+        ensures { Adopts D.Device S.seal_of (partition.now, name.now) pages dev.old dev.new shown size capacity result }
     {
         let unit = usize::from(pages.page_size) + 12;
         let mut bytes = vec![in alloc; 0; unit]?;
@@ -277,22 +257,7 @@ impl<S: Seal> PageBlob<S> {
     // Removes what a crash may have left, the first time that bytes are to be written.
     fn repaired<D: Device>(self, dev: &mut D) -> Result<PageBlob<S>, DevError>
         requires open { IsOpenAt (D.opened dev.old) (key_of (shown self)) self.end }
-        ensures told { D.Tells → (all : List ℕ) → Holds S.seal_of (shown self) all (disk (D.time dev.old) (key_of (shown self)))
-            → Sealing S.seal_of self.page_size all self.settled (key_of (shown self)) (D.time dev.old) (D.time dev.new) }
-        ensures done { D.Tells → (all : List ℕ) → Holds S.seal_of (shown self) all (disk (D.time dev.old) (key_of (shown self)))
-            → IfOk result (λ r. Holds S.seal_of (shown r) all (disk (D.time dev.new) (key_of (shown self)))) }
-        ensures wrote { D.Tells → (all : List ℕ) → Data self.page_size all (flushed_of (shown self)) (view (disk (D.time dev.old) (key_of (shown self))).content)
-            → Wrote self.page_size all (flushed_of (shown self)) (key_of (shown self)) result (D.time dev.old) (D.time dev.new) }
-        ensures front { D.Tells → SparesFront (page_at self.page_size self.first) (key_of (shown self)) (D.time dev.old) (D.time dev.new) }
-        ensures clears { D.Tells → IsAtRest (blob_of (shown self) (D.time dev.old)) → Always (D.time dev.old) (D.time dev.new) (OnlyAt (key_of (shown self)) (disk (D.time dev.old)) (ClearsFirst S.seal_of self.page_size self.first self.from self.newest)) }
-        ensures cleared { D.Tells → IsAtRest (blob_of (shown self) (D.time dev.old)) → Leftover S.seal_of self.page_size (blob_of (shown self) (D.time dev.old)).content self.first self.from self.newest self.behind self.torn → OnOk result (IsCleared S.seal_of self.page_size self.first self.from self.newest (blob_of (shown self) (D.time dev.new)).settled) }
-        ensures settles { D.Tells → (self.behind || self.torn) ≡ true → OnOk result (IsAtRest (disk (D.time dev.new) (key_of (shown self)))) }
-        ensures had { D.Tells → IsHad (blob_of (shown self) (D.time dev.old)) → OnOk result (IsHad (blob_of (shown self) (D.time dev.new))) }
-        ensures same { IfOk result (λ r. shown r ≡ record (shown self) { end = r.end; behind = false; torn = false }) }
-        ensures length { IfOk result (λ r. IsOpenAt (D.opened dev.new) (key_of (shown self)) r.end) }
-        ensures entries { NoReads (key_of (shown self)) (D.opened dev.old) (D.opened dev.new) }
-        ensures faults { D.faults dev.old ≤ D.faults dev.new }
-        ensures cause { result ≡ Err DevError.Fault → Rose (D.faults dev.old) (D.faults dev.new) }
+        ensures { Repairs D.Device S.seal_of (shown self) dev.old dev.new shown result }
     {
         if !(self.behind || self.torn) {
             return Ok(self);
@@ -320,26 +285,7 @@ impl<S: Seal> PageBlob<S> {
     fn written<D: Device>(self, dev: &mut D) -> Result<PageBlob<S>, DevError>
         requires open { IsOpenAt (D.opened dev.old) (key_of (shown self)) self.end }
         requires clean { (self.behind || self.torn) ≡ false }
-        ensures told { D.Tells → (all : List ℕ) → Holds S.seal_of (shown self) all (disk (D.time dev.old) (key_of (shown self)))
-            → Sealing S.seal_of self.page_size all self.settled (key_of (shown self)) (D.time dev.old) (D.time dev.new) }
-        ensures done { D.Tells → (all : List ℕ) → Holds S.seal_of (shown self) all (disk (D.time dev.old) (key_of (shown self)))
-            → IfOk result (λ r. Holds S.seal_of (shown r) all (disk (D.time dev.new) (key_of (shown self)))) }
-        ensures wrote { D.Tells → (all : List ℕ) → Data self.page_size all (flushed_of (shown self)) (view (disk (D.time dev.old) (key_of (shown self))).content)
-            → StandsAt all (self.first * self.page_size) self.tip.items
-            → Wrote self.page_size all (size_of (shown self)) (key_of (shown self)) result (D.time dev.old) (D.time dev.new) }
-        ensures front { D.Tells → SparesFront (page_at self.page_size self.first) (key_of (shown self)) (D.time dev.old) (D.time dev.new) }
-        ensures stays { D.Tells → SettlesNothing (key_of (shown self)) (D.time dev.old) (D.time dev.new) }
-        ensures had { D.Tells → IsHad (blob_of (shown self) (D.time dev.old)) → OnOk result (IsHad (blob_of (shown self) (D.time dev.new))) }
-        // Each page of the tip is covered as far as it goes.
-        ensures covers { D.Tells → (all : List ℕ) → Data self.page_size all (flushed_of (shown self)) (view (disk (D.time dev.old) (key_of (shown self))).content)
-            → StandsAt all (self.first * self.page_size) self.tip.items
-            → self.from < length self.tip.items
-            → OnOk result (CoversFrom S.seal_of self.page_size (disk (D.time dev.new) (key_of (shown self))).content self.first (size_of (shown self))) }
-        ensures into { IfOk result (λ r. FlushesInto (shown self) (shown r)) }
-        ensures length { IfOk result (λ r. IsOpenAt (D.opened dev.new) (key_of (shown self)) r.end) }
-        ensures entries { NoReads (key_of (shown self)) (D.opened dev.old) (D.opened dev.new) }
-        ensures faults { D.faults dev.old ≤ D.faults dev.new }
-        ensures cause { result ≡ Err DevError.Fault → Rose (D.faults dev.old) (D.faults dev.new) }
+        ensures { WritesTip D.Device S.seal_of (shown self) dev.old dev.new shown result }
     {
         // Before the tip lets a page go: until it is written, the bytes are here alone.
         let end = flush_pages::<D, S>(
@@ -397,36 +343,7 @@ impl<S: Seal> PageBlob<S> {
     // Writes what is not yet flushed.
     fn flush<D: Device>(self, dev: &mut D) -> Result<PageBlob<S>, DevError>
         requires open { IsOpenAt (D.opened dev.old) (key_of (shown self)) self.end }
-        ensures told { D.Tells → (all : List ℕ) → Holds S.seal_of (shown self) all (disk (D.time dev.old) (key_of (shown self)))
-            → Sealing S.seal_of self.page_size all self.settled (key_of (shown self)) (D.time dev.old) (D.time dev.new) }
-        ensures done { D.Tells → (all : List ℕ) → Holds S.seal_of (shown self) all (disk (D.time dev.old) (key_of (shown self)))
-            → IfOk result (λ r. Holds S.seal_of (shown r) all (disk (D.time dev.new) (key_of (shown self)))) }
-        ensures wrote { D.Tells → (all : List ℕ) → Data self.page_size all (flushed_of (shown self)) (view (disk (D.time dev.old) (key_of (shown self))).content)
-            → StandsAt all (self.first * self.page_size) self.tip.items
-            → Wrote self.page_size all (size_of (shown self)) (key_of (shown self)) result (D.time dev.old) (D.time dev.new) }
-        ensures steady { D.Tells → IsUnrecovered S.seal_of (shown self) (blob_of (shown self) (D.time dev.old))
-            → KeepsPrefix S.seal_of self.page_size (prefix_of S.seal_of (shown self) (D.time dev.old)) (key_of (shown self)) (D.time dev.old) (D.time dev.new) }
-        ensures unrecovered { D.Tells → IsUnrecovered S.seal_of (shown self) (blob_of (shown self) (D.time dev.old)) → IfOk result (λ r. IsUnrecovered S.seal_of (shown r) (blob_of (shown self) (D.time dev.new))) }
-        ensures front { D.Tells → SparesFront (page_at self.page_size self.first) (key_of (shown self)) (D.time dev.old) (D.time dev.new) }
-        // What a crash left in the blob is gone for good before the first byte is written.
-        ensures clears { D.Tells → IsAtRest (blob_of (shown self) (D.time dev.old)) → Leftover S.seal_of self.page_size (blob_of (shown self) (D.time dev.old)).content self.first self.from self.newest self.behind self.torn → Always (D.time dev.old) (D.time dev.new) (OnlyAt (key_of (shown self)) (disk (D.time dev.old)) (ClearsFirst S.seal_of self.page_size self.first self.from self.newest)) }
-        ensures backed { D.Tells → IsBacked S.seal_of (shown self) (blob_of (shown self) (D.time dev.old)).content → IfOk result (λ r. IsBacked S.seal_of (shown r) (blob_of (shown self) (D.time dev.new)).content) }
-        ensures cached { IfOk result (λ r. AddsPages (shown self) (shown r)) }
-        ensures idle { length self.tip.items ≤ self.from → dev.new ≡ dev.old }
-        ensures fine { length self.tip.items ≤ self.from → IsOkAnd result (λ r. shown r ≡ shown self) }
-        ensures key { IfOk result (λ r. key_of (shown r) ≡ key_of (shown self)) }
-        ensures page_size { IfOk result (λ r. r.page_size ≡ self.page_size) }
-        ensures capacity { IfOk result (λ r. r.capacity ≡ self.capacity) }
-        ensures cache_pages { IfOk result (λ r. (shown r).cache_pages ≡ (shown self).cache_pages) }
-        ensures settled { IfOk result (λ r. r.settled ≡ self.settled) }
-        ensures newest { IfOk result (λ r. r.newest ≡ self.newest) }
-        ensures flushed { IfOk result (λ r. r.from ≡ length r.tip.items) }
-        ensures size { IfOk result (λ r. size_of (shown r) ≡ size_of (shown self)) }
-        ensures tip { IfOk result (λ r. (all : List ℕ) → StandsAt all (self.first * self.page_size) self.tip.items → StandsAt all (r.first * r.page_size) r.tip.items) }
-        ensures length { IfOk result (λ r. IsOpenAt (D.opened dev.new) (key_of (shown self)) r.end) }
-        ensures entries { NoReads (key_of (shown self)) (D.opened dev.old) (D.opened dev.new) }
-        ensures faults { D.faults dev.old ≤ D.faults dev.new }
-        ensures cause { result ≡ Err DevError.Fault → Rose (D.faults dev.old) (D.faults dev.new) }
+        ensures { Flushes D.Device S.seal_of (shown self) dev.old dev.new shown result }
     {
         if self.from >= self.tip.len() {
             return Ok(self);
@@ -441,41 +358,7 @@ impl<S: Seal> PageBlob<S> {
     /// then at least as long as the capacity; below that no call of the device is made.
     pub fn append<D: Device>(self, dev: &mut D, bytes: &[u8]) -> Result<(PageBlob<S>, u64), RError>
         requires open { IsOpenAt (D.opened dev.old) (key_of (shown self)) self.end }
-        // At every moment, also inside a call of the device, each crash leaves a blob whose sealed prefix is a prefix
-        // of the bytes, those of this call included, and no shorter than what has settled.
-        ensures crashes { D.Tells → IsSealed S.seal_of (shown self) (disk (D.time dev.old) (key_of (shown self)))
-            → Sealing S.seal_of self.page_size (bytes_of (shown self) (disk (D.time dev.old) (key_of (shown self))).content ++ bytes.now) self.settled (key_of (shown self)) (D.time dev.old) (D.time dev.new) }
-        ensures sealed { D.Tells → IsSealed S.seal_of (shown self) (disk (D.time dev.old) (key_of (shown self)))
-            → IfOk result (λ r. IsSealed S.seal_of (shown r.0) (disk (D.time dev.new) (key_of (shown self)))) }
-        // Where the sealed prefix of an adopted blob is shorter than its size, each crash leaves that prefix as it was.
-        ensures steady { D.Tells → IsUnrecovered S.seal_of (shown self) (blob_of (shown self) (D.time dev.old))
-            → KeepsPrefix S.seal_of self.page_size (prefix_of S.seal_of (shown self) (D.time dev.old)) (key_of (shown self)) (D.time dev.old) (D.time dev.new) }
-        ensures unrecovered { D.Tells → IsUnrecovered S.seal_of (shown self) (blob_of (shown self) (D.time dev.old)) → IfOk result (λ r. IsUnrecovered S.seal_of (shown r.0) (blob_of (shown self) (D.time dev.new))) }
-        ensures alone { D.Tells → IsBacked S.seal_of (shown self) (disk (D.time dev.old) (key_of (shown self))).content → Alone (key_of (shown self)) (D.time dev.old) (D.time dev.new) }
-        ensures bytes { D.Tells → IsBacked S.seal_of (shown self) (disk (D.time dev.old) (key_of (shown self))).content
-            → IfOk result (λ r. bytes_of (shown r.0) (disk (D.time dev.new) (key_of (shown self))).content ≡ bytes_of (shown self) (disk (D.time dev.old) (key_of (shown self))).content ++ bytes.now) }
-        ensures backed { D.Tells → IsBacked S.seal_of (shown self) (disk (D.time dev.old) (key_of (shown self))).content
-            → IfOk result (λ r. IsBacked S.seal_of (shown r.0) (disk (D.time dev.new) (key_of (shown self))).content) }
-        ensures cached { IfOk result (λ r. AddsPages (shown self) (shown r.0)) }
-        // Below the capacity, and where nothing is to be flushed, no call of the device is made, and so none fails.
-        ensures below { FlushesNothing (shown self) (length bytes.now) → dev.new ≡ dev.old }
-        ensures faultless { FlushesNothing (shown self) (length bytes.now) → OnErr result ((result ≡ Err RError.OffsetOverflow) ⊎ (result ≡ Err RError.Mem)) }
-        ensures flushed { self.from + self.capacity ≤ length self.tip.items + length bytes.now → IfOk result (λ r. r.0.from ≡ length r.0.tip.items) }
-        // What is not flushed then: all, until it reaches the capacity.
-        ensures tail { IfOk result (λ r. LeavesTail (shown self) (length bytes.now) (shown r.0)) }
-        ensures at { IfOk result (λ r. r.1 ≡ size_of (shown self)) }
-        ensures size { IfOk result (λ r. size_of (shown r.0) ≡ size_of (shown self) + length bytes.now) }
-        ensures key { IfOk result (λ r. key_of (shown r.0) ≡ key_of (shown self)) }
-        ensures page_size { IfOk result (λ r. r.0.page_size ≡ self.page_size) }
-        ensures capacity { IfOk result (λ r. r.0.capacity ≡ self.capacity) }
-        ensures cache_pages { IfOk result (λ r. (shown r.0).cache_pages ≡ (shown self).cache_pages) }
-        ensures settled { IfOk result (λ r. r.0.settled ≡ self.settled) }
-        ensures open { IfOk result (λ r. IsOpenAt (D.opened dev.new) (key_of (shown r.0)) r.0.end) }
-        ensures entries { NoReads (key_of (shown self)) (D.opened dev.old) (D.opened dev.new) }
-        ensures overflow { IsErrOf result OffsetOverflow ↔ 2 ^ 64 ≤ extent self.page_size (size_of (shown self) + length bytes.now) }
-        ensures refused { IsErrOf result OffsetOverflow → dev.new ≡ dev.old }
-        ensures faults { D.faults dev.old ≤ D.faults dev.new }
-        ensures cause { OnErr result ((result ≡ Err RError.OffsetOverflow) ⊎ ((result ≡ Err RError.Mem) ⊎ ((result ≡ Err RError.Fault) × Rose (D.faults dev.old) (D.faults dev.new)))) }
+        ensures { Appends D.Device S.seal_of (shown self) dev.old dev.new shown bytes.now result }
     {
         let at = self.size();
         if !fits(self.page_size, at, bytes.len()) {
@@ -494,42 +377,7 @@ impl<S: Seal> PageBlob<S> {
     /// Settles all bytes. Where none is unsettled, it makes no call of the device.
     pub fn sync<D: Device>(self, dev: &mut D) -> Result<PageBlob<S>, RError>
         requires open { IsOpenAt (D.opened dev.old) (key_of (shown self)) self.end }
-        ensures crashes { D.Tells → IsSealed S.seal_of (shown self) (disk (D.time dev.old) (key_of (shown self)))
-            → Sealing S.seal_of self.page_size (bytes_of (shown self) (disk (D.time dev.old) (key_of (shown self))).content) self.settled (key_of (shown self)) (D.time dev.old) (D.time dev.new) }
-        ensures sealed { D.Tells → IsSealed S.seal_of (shown self) (disk (D.time dev.old) (key_of (shown self)))
-            → IfOk result (λ r. IsSealed S.seal_of (shown r) (disk (D.time dev.new) (key_of (shown self)))) }
-        // Where the sealed prefix of an adopted blob is shorter than its size, each crash leaves that prefix as it was.
-        ensures steady { D.Tells → IsUnrecovered S.seal_of (shown self) (blob_of (shown self) (D.time dev.old))
-            → KeepsPrefix S.seal_of self.page_size (prefix_of S.seal_of (shown self) (D.time dev.old)) (key_of (shown self)) (D.time dev.old) (D.time dev.new) }
-        ensures unrecovered { D.Tells → IsUnrecovered S.seal_of (shown self) (blob_of (shown self) (D.time dev.old)) → IfOk result (λ r. IsUnrecovered S.seal_of (shown r) (blob_of (shown self) (D.time dev.new))) }
-        // The pages below the tip's stand as they did.
-        ensures front { D.Tells → SparesFront (page_at self.page_size self.first) (key_of (shown self)) (D.time dev.old) (D.time dev.new) }
-        ensures alone { D.Tells → IsBacked S.seal_of (shown self) (disk (D.time dev.old) (key_of (shown self))).content → Alone (key_of (shown self)) (D.time dev.old) (D.time dev.new) }
-        ensures bytes { D.Tells → IsBacked S.seal_of (shown self) (disk (D.time dev.old) (key_of (shown self))).content
-            → IfOk result (λ r. bytes_of (shown r) (disk (D.time dev.new) (key_of (shown self))).content ≡ bytes_of (shown self) (disk (D.time dev.old) (key_of (shown self))).content) }
-        ensures backed { D.Tells → IsBacked S.seal_of (shown self) (disk (D.time dev.old) (key_of (shown self))).content
-            → IfOk result (λ r. IsBacked S.seal_of (shown r) (disk (D.time dev.new) (key_of (shown self))).content) }
-        ensures cached { IfOk result (λ r. AddsPages (shown self) (shown r)) }
-        ensures idle { self.settled ≡ size_of (shown self) → dev.new ≡ dev.old }
-        ensures same { self.settled ≡ size_of (shown self) → IsOkAnd result (λ r. shown r ≡ shown self) }
-        // What has settled outlives each crash.
-        ensures leaves { D.Tells → IsSealed S.seal_of (shown self) (disk (D.time dev.old) (key_of (shown self)))
-            → OnOk result (Leaves S.seal_of self.page_size (bytes_of (shown self) (disk (D.time dev.old) (key_of (shown self))).content) (size_of (shown self)) (disk (D.time dev.new) (key_of (shown self)))) }
-        // The blob has settled; where no byte was unsettled and so no call was made, if it had before.
-        ensures rests { D.Tells → (self.settled ≡ size_of (shown self) → IsAtRest (disk (D.time dev.old) (key_of (shown self)))) → OnOk result (IsAtRest (disk (D.time dev.new) (key_of (shown self)))) }
-        // The bytes are its sealed prefix, and adopting it gives them again.
-        ensures again { D.Tells → IsSealed S.seal_of (shown self) (disk (D.time dev.old) (key_of (shown self)))
-            → OnOk result (Settles S.seal_of self.page_size (bytes_of (shown self) (disk (D.time dev.old) (key_of (shown self))).content) (disk (D.time dev.new) (key_of (shown self)))) }
-        ensures settled { IfOk result (λ r. r.settled ≡ size_of (shown r)) }
-        ensures size { IfOk result (λ r. size_of (shown r) ≡ size_of (shown self)) }
-        ensures key { IfOk result (λ r. key_of (shown r) ≡ key_of (shown self)) }
-        ensures page_size { IfOk result (λ r. r.page_size ≡ self.page_size) }
-        ensures capacity { IfOk result (λ r. r.capacity ≡ self.capacity) }
-        ensures cache_pages { IfOk result (λ r. (shown r).cache_pages ≡ (shown self).cache_pages) }
-        ensures open { IfOk result (λ r. IsOpenAt (D.opened dev.new) (key_of (shown r)) r.end) }
-        ensures entries { NoReads (key_of (shown self)) (D.opened dev.old) (D.opened dev.new) }
-        ensures faults { D.faults dev.old ≤ D.faults dev.new }
-        ensures cause { OnErr result ((result ≡ Err RError.Mem) ⊎ ((result ≡ Err RError.Fault) × Rose (D.faults dev.old) (D.faults dev.new))) }
+        ensures { Syncs D.Device S.seal_of (shown self) dev.old dev.new shown result }
     {
         if !self.needs_sync() {
             return Ok(self);

@@ -61,6 +61,7 @@ pub struct PageReplay<S: Seal> {
 }
 
 impl<S: Seal> PageReplay<S> {
+    ghost use Rattle.sealed_pages.specs.Replays.{Ensures};
     ghost use Rattle.sealed_pages.specs.Readers.{reading, next_of, missing_of, IsTipOf, IsReplayOf, ReadsUnread, SameReader};
 
     /// A reader from 0 over a blob that ends at `end`, and has `size` bytes in pages. It reads full pages, in pieces of about `buffer`
@@ -228,27 +229,7 @@ impl<S: Seal> PageReplay<S> {
     /// reader stands where it stood, and has at hand at least what it had.
     pub fn ensure<D: Device>(&mut self, dev: &mut D, n: usize) -> Result<bool, RError>
         requires { IsOpenAt (D.opened dev.old) (reading self.old).key (reading self.old).end }
-        ensures at_hand { IfOk result (λ r. r ≡ true → n ≤ length (reading self.new).bytes) }
-        ensures rest { IfOk result (λ r. r ≡ false → next_of (reading self.new) ≡ (reading self.new).size) }
-        ensures exact { IfOk result (λ r. (r ≡ true) ↔ ((reading self.old).at + n ≤ (reading self.old).size)) }
-        ensures ready { n ≤ length (reading self.old).bytes → (dev.new ≡ dev.old) × (result ≡ Ok true) }
-        ensures within { next_of (reading self.new) ≤ (reading self.new).size }
-        ensures same { SameReader (reading self.old) (reading self.new) }
-        ensures grows { length (reading self.old).bytes ≤ length (reading self.new).bytes }
-        // What is at hand is what the blob has there, and it was checked: a matching slot covers it.
-        ensures replays { D.Tells → IsReplayOf S.seal_of (disk (D.time dev.old) (reading self.old).key).content (reading self.old) → IsReplayOf S.seal_of (disk (D.time dev.old) (reading self.old).key).content (reading self.new) }
-        ensures checksum { D.Tells → IsReplayOf S.seal_of (disk (D.time dev.old) (reading self.old).key).content (reading self.old) → (p : ℕ) → IsErrOf result (RError.InvalidChecksum p)
-            → IsShort S.seal_of (reading self.old).page_size (disk (D.time dev.old) (reading self.old).key).content (next_of (reading self.old)) (missing_of (reading self.old) n) p }
-        ensures unchanged { D.Tells → Unchanged (D.time dev.old) (D.time dev.new) }
-        ensures open { IsOpenAt (D.opened dev.new) (reading self.new).key (reading self.new).end }
-        // At most one read a page of which a wanted byte is not at hand, so none where all are.
-        ensures reads { ReadsAtMost (touched (reading self.old).page_size (next_of (reading self.old)) (missing_of (reading self.old) n)) (reading self.old).key (D.opened dev.old) (D.opened dev.new) }
-        // Calls that go on and on read each page at most once, as long as the device and memory serve.
-        ensures once { OnOk result (ReadsUnread (reading self.old) (reading self.new) (D.opened dev.old) (D.opened dev.new)) }
-        ensures judged { (p : ℕ) → IsErrOf result (RError.InvalidChecksum p) → ReadsUnread (reading self.old) (reading self.new) (D.opened dev.old) (D.opened dev.new) }
-        ensures faults { D.faults dev.old ≤ D.faults dev.new }
-        ensures cause { OnErr result (((p : ℕ) × (result ≡ Err (RError.InvalidChecksum p)) × IsWanted (reading self.old).page_size (next_of (reading self.old)) (missing_of (reading self.old) n) p)
-            ⊎ ((result ≡ Err RError.Mem) ⊎ ((result ≡ Err RError.Fault) × Rose (D.faults dev.old) (D.faults dev.new)))) }
+        ensures { Ensures D.Device S.seal_of (reading self.old) (reading self.new) dev.old dev.new n result }
     {
         let left = self.size - self.at;
         let want = left.min(n as u64) as usize;

@@ -94,6 +94,7 @@ pub struct WriteBlob {
 }
 
 impl WriteBlob {
+    ghost use Rattle.sealed_pages.specs.unsealed.RunCalls.{AdoptsRun, FlushesRun, Flushes, Rests, Syncs, Moves, WritesAt, Appends};
     ghost use Rattle.sealed_pages.specs.unsealed.Writing.{WriteBuffer, shown, blob_key, bytes_of, size_of, run_of, is_idle, is_unsettled, Joins, StaysBelow, HoldsOnly, StandsBehind, Over, KeepsSettled};
     ghost use Rattle.sealed_pages.specs.Tails.{LeavesRun, LeavesPending};
 
@@ -105,16 +106,7 @@ impl WriteBlob {
         size: u64,
         capacity: usize,
     ) -> Result<WriteBlob, RError>
-        ensures key { IfOk result (λ r. blob_key (shown r) ≡ (partition.now, name.now)) }
-        ensures capacity { IfOk result (λ r. r.capacity ≡ capacity) }
-        ensures end { IfOk result (λ r. r.end ≡ size) }
-        ensures settled { IfOk result (λ r. r.settled ≡ size) }
-        ensures idle { IfOk result (λ r. is_unsettled (shown r) ≡ false) }
-        ensures size { IfOk result (λ r. size_of (shown r) ≡ size) }
-        ensures bytes { IfOk result (λ r. (content : List ℕ) → length content ≡ size → bytes_of (shown r) content ≡ content) }
-        ensures over { IfOk result (λ r. (b : Blob) → b ≡ settled_at b.content → length b.content ≡ size → Over (shown r) b) }
-        ensures kept { IfOk result (λ r. (b : Blob) → b ≡ settled_at b.content → length b.content ≡ size → KeepsSettled (shown r) b) }
-        ensures cause { OnErr result (result ≡ Err RError.Mem) }
+        ensures { AdoptsRun shown (partition.now, name.now) size capacity result }
     {
         let partition = String::from_str(alloc, partition)?;
         let name = name.to_vec(alloc)?;
@@ -161,20 +153,7 @@ impl WriteBlob {
     // Writes the run.
     fn flushed<D: Device>(self, dev: &mut D) -> Result<WriteBlob, DevError>
         requires open { IsOpenAt (D.opened dev.old) (blob_key (shown self)) self.end }
-        ensures spares { D.Tells → Sparing (Outside (run_of (shown self) ∷ [])) self.settled (blob_key (shown self)) (D.time dev.old) (D.time dev.new) }
-        ensures over { D.Tells → Over (shown self) (disk (D.time dev.old) (blob_key (shown self))) → IfOk result (λ r. Over (shown r) (disk (D.time dev.new) (blob_key (shown self)))) }
-        ensures since { D.Tells → AddsOnly (bytes_of (shown self) (disk (D.time dev.old) (blob_key (shown self))).content ∷ []) (blob_key (shown self)) (D.time dev.old) (D.time dev.new) }
-        ensures bytes { D.Tells → IfOk result (λ r. bytes_of (shown r) (disk (D.time dev.new) (blob_key (shown self))).content ≡ bytes_of (shown self) (disk (D.time dev.old) (blob_key (shown self))).content) }
-        ensures idle { IfOk result (λ r. is_idle (shown r) ≡ true) }
-        ensures same { IfOk result (λ r. shown r ≡ record (shown self) { end = size_of (shown self); pending = []; dirty = r.dirty }) }
-        ensures dirty { IfOk result (λ r. r.dirty ≡ is_unsettled (shown self)) }
-        ensures stays { is_idle (shown self) ≡ true → IsOkAnd result (λ r. shown r ≡ shown self) }
-        ensures untouched { is_idle (shown self) ≡ true → dev.new ≡ dev.old }
-        ensures once { (D.time dev.new).calls ≤ (D.time dev.old).calls + 1 }
-        ensures open { IfOk result (λ r. IsOpenAt (D.opened dev.new) (blob_key (shown r)) r.end) }
-        ensures entries { NoReads (blob_key (shown self)) (D.opened dev.old) (D.opened dev.new) }
-        ensures faults { D.faults dev.old ≤ D.faults dev.new }
-        ensures cause { result ≡ Err DevError.Fault → Rose (D.faults dev.old) (D.faults dev.new) }
+        ensures { FlushesRun D.Device (shown self) dev.old dev.new shown result }
     {
         if self.idle() {
             return Ok(self);
@@ -197,25 +176,7 @@ impl WriteBlob {
     /// Writes what is not yet flushed, by at most one write of the device.
     pub fn flush<D: Device>(self, dev: &mut D) -> Result<WriteBlob, RError>
         requires open { IsOpenAt (D.opened dev.old) (blob_key (shown self)) self.end }
-        // At every moment, also where the call fails, the blob is touched in the run alone, and what had settled elsewhere
-        // outlives each crash. No other blob changes.
-        ensures spares { D.Tells → Sparing (Outside (run_of (shown self) ∷ [])) self.settled (blob_key (shown self)) (D.time dev.old) (D.time dev.new) }
-        ensures over { D.Tells → Over (shown self) (disk (D.time dev.old) (blob_key (shown self))) → IfOk result (λ r. Over (shown r) (disk (D.time dev.new) (blob_key (shown self)))) }
-        // Where bytes were only added since the first `settled` bytes settled, each crash leaves these.
-        ensures lasts { D.Tells → KeepsSettled (shown self) (disk (D.time dev.old) (blob_key (shown self))) → Keeping (take self.settled (bytes_of (shown self) (disk (D.time dev.old) (blob_key (shown self))).content)) (blob_key (shown self)) (D.time dev.old) (D.time dev.new) }
-        ensures kept { D.Tells → KeepsSettled (shown self) (disk (D.time dev.old) (blob_key (shown self))) → IfOk result (λ r. KeepsSettled (shown r) (disk (D.time dev.new) (blob_key (shown self)))) }
-        // Each content that the blob has since it settled is one that it had, or is what these bytes make of it.
-        ensures since { D.Tells → AddsOnly (bytes_of (shown self) (disk (D.time dev.old) (blob_key (shown self))).content ∷ []) (blob_key (shown self)) (D.time dev.old) (D.time dev.new) }
-        ensures bytes { D.Tells → IfOk result (λ r. bytes_of (shown r) (disk (D.time dev.new) (blob_key (shown self))).content ≡ bytes_of (shown self) (disk (D.time dev.old) (blob_key (shown self))).content) }
-        ensures idle { IfOk result (λ r. is_idle (shown r) ≡ true) }
-        ensures same { IfOk result (λ r. shown r ≡ record (shown self) { end = size_of (shown self); pending = []; dirty = is_unsettled (shown self) }) }
-        ensures untouched { is_idle (shown self) ≡ true → dev.new ≡ dev.old }
-        ensures stays { is_idle (shown self) ≡ true → IsOkAnd result (λ r. shown r ≡ shown self) }
-        ensures once { (D.time dev.new).calls ≤ (D.time dev.old).calls + 1 }
-        ensures open { IfOk result (λ r. IsOpenAt (D.opened dev.new) (blob_key (shown r)) r.end) }
-        ensures entries { NoReads (blob_key (shown self)) (D.opened dev.old) (D.opened dev.new) }
-        ensures faults { D.faults dev.old ≤ D.faults dev.new }
-        ensures cause { OnErr result ((result ≡ Err RError.Mem) ⊎ ((result ≡ Err RError.Fault) × Rose (D.faults dev.old) (D.faults dev.new))) }
+        ensures { Flushes D.Device (shown self) dev.old dev.new shown result }
     {
         // Written and no more: nothing settles before a sync is asked for.
         Ok(self.flushed(dev)?)
@@ -224,15 +185,7 @@ impl WriteBlob {
     // Settles what is flushed.
     fn rested<D: Device>(self, dev: &mut D) -> Result<WriteBlob, DevError>
         requires open { IsOpenAt (D.opened dev.old) (blob_key (shown self)) self.end }
-        ensures spares { D.Tells → Sparing (λ i. Unit {0}) self.settled (blob_key (shown self)) (D.time dev.old) (D.time dev.new) }
-        ensures settles { D.Tells → OnOk result (disk (D.time dev.new) (blob_key (shown self)) ≡ settled_at (disk (D.time dev.old) (blob_key (shown self))).content) }
-        ensures since { D.Tells → AddsOnly ((disk (D.time dev.old) (blob_key (shown self))).content ∷ []) (blob_key (shown self)) (D.time dev.old) (D.time dev.new) }
-        ensures same { IfOk result (λ r. shown r ≡ record (shown self) { settled = self.end; dirty = false }) }
-        ensures once { (D.time dev.new).calls ≤ (D.time dev.old).calls + 1 }
-        ensures open { IfOk result (λ r. IsOpenAt (D.opened dev.new) (blob_key (shown r)) r.end) }
-        ensures entries { NoReads (blob_key (shown self)) (D.opened dev.old) (D.opened dev.new) }
-        ensures faults { D.faults dev.old ≤ D.faults dev.new }
-        ensures cause { result ≡ Err DevError.Fault → Rose (D.faults dev.old) (D.faults dev.new) }
+        ensures { Rests D.Device (shown self) dev.old dev.new shown result }
     {
         // Behind the flush, so that all the blob has by now counts as settled.
         dev.sync(self.partition.as_str(), self.name.as_slice())?;
@@ -245,25 +198,7 @@ impl WriteBlob {
     /// Settles all bytes. Where none is unsettled, it makes no call of the device.
     pub fn sync<D: Device>(self, dev: &mut D) -> Result<WriteBlob, RError>
         requires open { IsOpenAt (D.opened dev.old) (blob_key (shown self)) self.end }
-        ensures spares { D.Tells → Sparing (Outside (run_of (shown self) ∷ [])) self.settled (blob_key (shown self)) (D.time dev.old) (D.time dev.new) }
-        ensures over { D.Tells → Over (shown self) (disk (D.time dev.old) (blob_key (shown self))) → IfOk result (λ r. Over (shown r) (disk (D.time dev.new) (blob_key (shown self)))) }
-        ensures lasts { D.Tells → KeepsSettled (shown self) (disk (D.time dev.old) (blob_key (shown self))) → Keeping (take self.settled (bytes_of (shown self) (disk (D.time dev.old) (blob_key (shown self))).content)) (blob_key (shown self)) (D.time dev.old) (D.time dev.new) }
-        ensures kept { D.Tells → Over (shown self) (disk (D.time dev.old) (blob_key (shown self))) → IfOk result (λ r. KeepsSettled (shown r) (disk (D.time dev.new) (blob_key (shown self)))) }
-        ensures since { D.Tells → AddsOnly (bytes_of (shown self) (disk (D.time dev.old) (blob_key (shown self))).content ∷ []) (blob_key (shown self)) (D.time dev.old) (D.time dev.new) }
-        // What was handed in is then in the blob, and outlives every crash.
-        ensures settles { D.Tells → Over (shown self) (disk (D.time dev.old) (blob_key (shown self)))
-            → OnOk result (disk (D.time dev.new) (blob_key (shown self)) ≡ settled_at (bytes_of (shown self) (disk (D.time dev.old) (blob_key (shown self))).content)) }
-        ensures bytes { D.Tells → IfOk result (λ r. bytes_of (shown r) (disk (D.time dev.new) (blob_key (shown self))).content ≡ bytes_of (shown self) (disk (D.time dev.old) (blob_key (shown self))).content) }
-        ensures idle { IfOk result (λ r. is_unsettled (shown r) ≡ false) }
-        ensures same { IfOk result (λ r. shown r ≡ record (shown self) { end = size_of (shown self); pending = []; settled = size_of (shown self); dirty = false }) }
-        ensures untouched { is_unsettled (shown self) ≡ false → dev.new ≡ dev.old }
-        ensures stays { is_unsettled (shown self) ≡ false → IsOkAnd result (λ r. shown r ≡ shown self) }
-        // At most a write and a sync.
-        ensures calls { (D.time dev.new).calls ≤ (D.time dev.old).calls + 2 }
-        ensures open { IfOk result (λ r. IsOpenAt (D.opened dev.new) (blob_key (shown r)) r.end) }
-        ensures entries { NoReads (blob_key (shown self)) (D.opened dev.old) (D.opened dev.new) }
-        ensures faults { D.faults dev.old ≤ D.faults dev.new }
-        ensures cause { OnErr result ((result ≡ Err RError.Mem) ⊎ ((result ≡ Err RError.Fault) × Rose (D.faults dev.old) (D.faults dev.new))) }
+        ensures { Syncs D.Device (shown self) dev.old dev.new shown result }
     {
         if !self.needs_sync() {
             return Ok(self);
@@ -277,22 +212,7 @@ impl WriteBlob {
     // Flushes the run where a write there does not go into it, and begins one there.
     fn moved<D: Device>(self, dev: &mut D, offset: u64) -> Result<WriteBlob, DevError>
         requires open { IsOpenAt (D.opened dev.old) (blob_key (shown self)) self.end }
-        ensures spares { D.Tells → Sparing (Outside (run_of (shown self) ∷ [])) self.settled (blob_key (shown self)) (D.time dev.old) (D.time dev.new) }
-        ensures over { D.Tells → Over (shown self) (disk (D.time dev.old) (blob_key (shown self))) → IfOk result (λ r. Over (shown r) (disk (D.time dev.new) (blob_key (shown self)))) }
-        ensures since { D.Tells → AddsOnly (bytes_of (shown self) (disk (D.time dev.old) (blob_key (shown self))).content ∷ []) (blob_key (shown self)) (D.time dev.old) (D.time dev.new) }
-        ensures bytes { D.Tells → IfOk result (λ r. bytes_of (shown r) (disk (D.time dev.new) (blob_key (shown self))).content ≡ written (bytes_of (shown self) (disk (D.time dev.old) (blob_key (shown self))).content) offset []) }
-        ensures joined { IfOk result (λ r. Joins (shown r) offset) }
-        ensures same { IfOk result (λ r. shown r ≡ record (shown self) { end = r.end; at = r.at; pending = r.pending.items; dirty = r.dirty }) }
-        ensures size { IfOk result (λ r. size_of (shown r) ≡ max (size_of (shown self)) offset) }
-        ensures run { IfOk result (λ r. ((r.at ≡ self.at) × (r.pending.items ≡ self.pending.items)) ⊎ ((r.at ≡ offset) × (r.pending.items ≡ []))) }
-        ensures behind { size_of (shown self) ≤ offset → StandsBehind (shown self) → IfOk result (λ r. r.end ≤ r.at) }
-        ensures kept { Joins (shown self) offset → IfOk result (λ r. shown r ≡ shown self) }
-        ensures untouched { (Joins (shown self) offset ⊎ (is_idle (shown self) ≡ true)) → dev.new ≡ dev.old }
-        ensures once { (D.time dev.new).calls ≤ (D.time dev.old).calls + 1 }
-        ensures open { IfOk result (λ r. IsOpenAt (D.opened dev.new) (blob_key (shown r)) r.end) }
-        ensures entries { NoReads (blob_key (shown self)) (D.opened dev.old) (D.opened dev.new) }
-        ensures faults { D.faults dev.old ≤ D.faults dev.new }
-        ensures cause { result ≡ Err DevError.Fault → Rose (D.faults dev.old) (D.faults dev.new) }
+        ensures { Moves D.Device (shown self) dev.old dev.new shown offset result }
     {
         if self.joins(offset) {
             return Ok(self);
@@ -324,37 +244,7 @@ impl WriteBlob {
         bytes: &[u8],
     ) -> Result<WriteBlob, RError>
         requires open { IsOpenAt (D.opened dev.old) (blob_key (shown self)) self.end }
-        // At every moment, also where the call fails, the blob is touched in the run and where these bytes go alone, and what
-        // had settled elsewhere outlives each crash. No other blob changes.
-        ensures spares { D.Tells → Sparing (Outside ((offset, length bytes.now) ∷ run_of (shown self) ∷ [])) self.settled (blob_key (shown self)) (D.time dev.old) (D.time dev.new) }
-        ensures over { D.Tells → Over (shown self) (disk (D.time dev.old) (blob_key (shown self))) → IfOk result (λ r. Over (shown r) (disk (D.time dev.new) (blob_key (shown self)))) }
-        // Bytes that settled outlive each crash below the place, where since then bytes were only added.
-        ensures lasts { D.Tells → KeepsSettled (shown self) (disk (D.time dev.old) (blob_key (shown self))) → Keeping (take (min self.settled offset) (bytes_of (shown self) (disk (D.time dev.old) (blob_key (shown self))).content)) (blob_key (shown self)) (D.time dev.old) (D.time dev.new) }
-        ensures kept { D.Tells → KeepsSettled (shown self) (disk (D.time dev.old) (blob_key (shown self))) → self.settled ≤ offset → IfOk result (λ r. KeepsSettled (shown r) (disk (D.time dev.new) (blob_key (shown self)))) }
-        ensures since { D.Tells → AddsOnly (bytes_of (shown self) (disk (D.time dev.old) (blob_key (shown self))).content ∷ written (bytes_of (shown self) (disk (D.time dev.old) (blob_key (shown self))).content) offset bytes.now ∷ []) (blob_key (shown self)) (D.time dev.old) (D.time dev.new) }
-        ensures bytes { D.Tells → IfOk result (λ r. bytes_of (shown r) (disk (D.time dev.new) (blob_key (shown self))).content ≡ written (bytes_of (shown self) (disk (D.time dev.old) (blob_key (shown self))).content) offset bytes.now) }
-        ensures size { IfOk result (λ r. size_of (shown r) ≡ max (size_of (shown self)) (offset + length bytes.now)) }
-        ensures same { IfOk result (λ r. shown r ≡ record (shown self) { end = r.end; at = r.at; pending = r.pending.items; dirty = r.dirty }) }
-        // The run holds nothing but what was handed in.
-        ensures run { IfOk result (λ r. HoldsOnly (shown self) offset bytes.now (shown r)) }
-        // How long it is: all that was not flushed, until that reaches the capacity.
-        ensures tail { IfOk result (λ r. LeavesRun (shown self) offset (length bytes.now) (shown r)) }
-        // Where nothing is pending below the blob's end, a write at the end of the bytes leaves it so.
-        ensures behind { size_of (shown self) ≤ offset → StandsBehind (shown self) → IfOk result (λ r. StandsBehind (shown r)) }
-        // Bytes that join the run reach the device only with all of it.
-        ensures joined { Joins (shown self) offset → IfOk result (λ r. (dev.new ≡ dev.old) ⊎ (r.pending.items ≡ [])) }
-        ensures below { StaysBelow (shown self) offset (length bytes.now) → dev.new ≡ dev.old }
-        ensures nothing { is_idle (shown self) ≡ true → length bytes.now ≡ 0 → offset ≤ self.end → dev.new ≡ dev.old }
-        // At most a write of the run, where these bytes do not join it, and a write of the new one, where it is long enough.
-        ensures once { (Joins (shown self) offset ⊎ ((is_idle (shown self) ≡ true) ⊎ (length bytes.now < self.capacity))) → (D.time dev.new).calls ≤ (D.time dev.old).calls + 1 }
-        ensures calls { (D.time dev.new).calls ≤ (D.time dev.old).calls + 2 }
-        ensures full { IfOk result (λ r. (length r.pending.items < r.capacity) ⊎ (is_idle (shown r) ≡ true)) }
-        ensures open { IfOk result (λ r. IsOpenAt (D.opened dev.new) (blob_key (shown r)) r.end) }
-        ensures entries { NoReads (blob_key (shown self)) (D.opened dev.old) (D.opened dev.new) }
-        ensures overflow { IsErrOf result OffsetOverflow ↔ 2 ^ 64 ≤ offset + length bytes.now }
-        ensures refused { 2 ^ 64 ≤ offset + length bytes.now → dev.new ≡ dev.old }
-        ensures faults { D.faults dev.old ≤ D.faults dev.new }
-        ensures cause { OnErr result ((result ≡ Err RError.OffsetOverflow) ⊎ ((result ≡ Err RError.Mem) ⊎ ((result ≡ Err RError.Fault) × Rose (D.faults dev.old) (D.faults dev.new)))) }
+        ensures { WritesAt D.Device (shown self) dev.old dev.new shown offset bytes.now result }
     {
         if bytes.len() as u64 > u64::MAX - offset {
             return Err(RError::OffsetOverflow);
@@ -371,30 +261,7 @@ impl WriteBlob {
     /// Adds bytes at the end. The answer has the place of the first of them.
     pub fn append<D: Device>(self, dev: &mut D, bytes: &[u8]) -> Result<(WriteBlob, u64), RError>
         requires open { IsOpenAt (D.opened dev.old) (blob_key (shown self)) self.end }
-        ensures spares { D.Tells → Sparing (Outside ((size_of (shown self), length bytes.now) ∷ run_of (shown self) ∷ [])) self.settled (blob_key (shown self)) (D.time dev.old) (D.time dev.new) }
-        ensures over { D.Tells → Over (shown self) (disk (D.time dev.old) (blob_key (shown self))) → IfOk result (λ r. Over (shown r.0) (disk (D.time dev.new) (blob_key (shown self)))) }
-        ensures lasts { D.Tells → KeepsSettled (shown self) (disk (D.time dev.old) (blob_key (shown self))) → Keeping (take self.settled (bytes_of (shown self) (disk (D.time dev.old) (blob_key (shown self))).content)) (blob_key (shown self)) (D.time dev.old) (D.time dev.new) }
-        ensures kept { D.Tells → KeepsSettled (shown self) (disk (D.time dev.old) (blob_key (shown self))) → IfOk result (λ r. KeepsSettled (shown r.0) (disk (D.time dev.new) (blob_key (shown self)))) }
-        ensures since { D.Tells → AddsOnly (bytes_of (shown self) (disk (D.time dev.old) (blob_key (shown self))).content ∷ (bytes_of (shown self) (disk (D.time dev.old) (blob_key (shown self))).content ++ bytes.now) ∷ []) (blob_key (shown self)) (D.time dev.old) (D.time dev.new) }
-        ensures bytes { D.Tells → IfOk result (λ r. bytes_of (shown r.0) (disk (D.time dev.new) (blob_key (shown self))).content ≡ bytes_of (shown self) (disk (D.time dev.old) (blob_key (shown self))).content ++ bytes.now) }
-        ensures at { IfOk result (λ r. r.1 ≡ size_of (shown self)) }
-        ensures size { IfOk result (λ r. size_of (shown r.0) ≡ size_of (shown self) + length bytes.now) }
-        ensures same { IfOk result (λ r. shown r.0 ≡ record (shown self) { end = r.0.end; at = r.0.at; pending = r.0.pending.items; dirty = r.0.dirty }) }
-        ensures run { IfOk result (λ r. HoldsOnly (shown self) (size_of (shown self)) bytes.now (shown r.0)) }
-        ensures tail { IfOk result (λ r. LeavesPending (shown self) (length bytes.now) (shown r.0)) }
-        ensures behind { StandsBehind (shown self) → IfOk result (λ r. StandsBehind (shown r.0)) }
-        ensures joined { Joins (shown self) (size_of (shown self)) → IfOk result (λ r. (dev.new ≡ dev.old) ⊎ (r.0.pending.items ≡ [])) }
-        ensures below { StaysBelow (shown self) (size_of (shown self)) (length bytes.now) → dev.new ≡ dev.old }
-        ensures nothing { is_idle (shown self) ≡ true → length bytes.now ≡ 0 → dev.new ≡ dev.old }
-        ensures once { (Joins (shown self) (size_of (shown self)) ⊎ ((is_idle (shown self) ≡ true) ⊎ (length bytes.now < self.capacity))) → (D.time dev.new).calls ≤ (D.time dev.old).calls + 1 }
-        ensures calls { (D.time dev.new).calls ≤ (D.time dev.old).calls + 2 }
-        ensures full { IfOk result (λ r. (length r.0.pending.items < r.0.capacity) ⊎ (is_idle (shown r.0) ≡ true)) }
-        ensures open { IfOk result (λ r. IsOpenAt (D.opened dev.new) (blob_key (shown r.0)) r.0.end) }
-        ensures entries { NoReads (blob_key (shown self)) (D.opened dev.old) (D.opened dev.new) }
-        ensures overflow { IsErrOf result OffsetOverflow ↔ 2 ^ 64 ≤ size_of (shown self) + length bytes.now }
-        ensures refused { 2 ^ 64 ≤ size_of (shown self) + length bytes.now → dev.new ≡ dev.old }
-        ensures faults { D.faults dev.old ≤ D.faults dev.new }
-        ensures cause { OnErr result ((result ≡ Err RError.OffsetOverflow) ⊎ ((result ≡ Err RError.Mem) ⊎ ((result ≡ Err RError.Fault) × Rose (D.faults dev.old) (D.faults dev.new)))) }
+        ensures { Appends D.Device (shown self) dev.old dev.new shown bytes.now result }
     {
         let at = self.size();
         // At the end, so it joins the run or begins one: no byte that was written before is touched.

@@ -21,6 +21,7 @@ use value_codec::Seal;
 
 impl<S: Seal> PageBlob<S> {
     ghost use Rattle.sealed_pages.specs.Shown.{shown};
+    ghost use Rattle.sealed_pages.specs.Writes.{Truncates};
     ghost use Rattle.sealed_pages.specs.View.{view};
     ghost use Rattle.sealed_pages.specs.Buffer.{HasFlushed, IsBacked};
     ghost use Rattle.sealed_pages.specs.Flushing.{Data};
@@ -177,73 +178,7 @@ impl<S: Seal> PageBlob<S> {
     /// Nothing is cut then.
     pub fn truncate<D: Device>(self, dev: &mut D, len: u64) -> Result<PageBlob<S>, RError>
         requires open { IsOpenAt (D.opened dev.old) (key_of (shown self)) self.end }
-        // At every moment each crash leaves a prefix of the bytes, no shorter than what has settled or than the new length.
-        ensures crashes { D.Tells → IsSealed S.seal_of (shown self) (disk (D.time dev.old) (key_of (shown self)))
-            → Sealing S.seal_of self.page_size (bytes_of (shown self) (disk (D.time dev.old) (key_of (shown self))).content) (min self.settled len) (key_of (shown self)) (D.time dev.old) (D.time dev.new) }
-        ensures sealed { D.Tells → IsSealed S.seal_of (shown self) (disk (D.time dev.old) (key_of (shown self)))
-            → IfOk result (λ r. IsSealed S.seal_of (shown r) (disk (D.time dev.new) (key_of (shown self)))) }
-        // Also where the sealed prefix of an adopted blob is shorter than its size, if the cut is to at most that prefix.
-        ensures recovering { D.Tells → IsRecovery S.seal_of (shown self) len (blob_of (shown self) (D.time dev.old))
-            → Sealing S.seal_of self.page_size (prefix_of S.seal_of (shown self) (D.time dev.old)) len (key_of (shown self)) (D.time dev.old) (D.time dev.new) }
-        // The promise on crashes begins again there.
-        ensures recovered { D.Tells → IsRecovery S.seal_of (shown self) len (blob_of (shown self) (D.time dev.old))
-            → IfOk result (λ r. IsSealed S.seal_of (shown r) (blob_of (shown self) (D.time dev.new))) }
-        ensures prefix { D.Tells → IsRecovery S.seal_of (shown self) len (blob_of (shown self) (D.time dev.old))
-            → IfOk result (λ r. bytes_of (shown r) (blob_of (shown self) (D.time dev.new)).content ≡ take len (prefix_of S.seal_of (shown self) (D.time dev.old))) }
-        ensures prefix_again { D.Tells → IsRecovery S.seal_of (shown self) len (blob_of (shown self) (D.time dev.old))
-            → OnOk result (Settles S.seal_of self.page_size (take len (prefix_of S.seal_of (shown self) (D.time dev.old))) (blob_of (shown self) (D.time dev.new))) }
-        ensures prefix_leaves { D.Tells → IsRecovery S.seal_of (shown self) len (blob_of (shown self) (D.time dev.old))
-            → OnOk result (Leaves S.seal_of self.page_size (take len (prefix_of S.seal_of (shown self) (D.time dev.old))) len (blob_of (shown self) (D.time dev.new))) }
-        // A cut behind the prefix leaves it as it was.
-        ensures steady { D.Tells → IsUnrecovered S.seal_of (shown self) (blob_of (shown self) (D.time dev.old)) → length (prefix_of S.seal_of (shown self) (D.time dev.old)) < len
-            → KeepsPrefix S.seal_of self.page_size (prefix_of S.seal_of (shown self) (D.time dev.old)) (key_of (shown self)) (D.time dev.old) (D.time dev.new) }
-        ensures unrecovered { D.Tells → IsUnrecovered S.seal_of (shown self) (blob_of (shown self) (D.time dev.old)) → length (prefix_of S.seal_of (shown self) (D.time dev.old)) < len
-            → IfOk result (λ r. IsUnrecovered S.seal_of (shown r) (blob_of (shown self) (D.time dev.new))) }
-        ensures bytes { D.Tells → IsBacked S.seal_of (shown self) (disk (D.time dev.old) (key_of (shown self))).content
-            → IfOk result (λ r. bytes_of (shown r) (disk (D.time dev.new) (key_of (shown self))).content ≡ take len (bytes_of (shown self) (disk (D.time dev.old) (key_of (shown self))).content)) }
-        ensures backed { D.Tells → IsBacked S.seal_of (shown self) (disk (D.time dev.old) (key_of (shown self))).content
-            → IfOk result (λ r. IsBacked S.seal_of (shown r) (disk (D.time dev.new) (key_of (shown self))).content) }
-        ensures alone { D.Tells → IsBacked S.seal_of (shown self) (disk (D.time dev.old) (key_of (shown self))).content → Alone (key_of (shown self)) (D.time dev.old) (D.time dev.new) }
-        ensures cache { len < size_of (shown self) → IfOk result (λ r. (shown r).cache ≡ []) }
-        ensures unchanged { size_of (shown self) ≤ len → dev.new ≡ dev.old }
-        ensures same { size_of (shown self) ≤ len → IsOkAnd result (λ r. shown r ≡ shown self) }
-        // Where it cut, all has settled, and adopting the blob gives it again.
-        ensures settled { len < size_of (shown self) → IfOk result (λ r. r.settled ≡ len) }
-        ensures rests { D.Tells → len < size_of (shown self) → OnOk result (IsAtRest (disk (D.time dev.new) (key_of (shown self)))) }
-        // Whatever the slots say: adopting the blob finds no more.
-        ensures shorter { D.Tells → len < size_of (shown self) → OnOk result (adopted_size S.seal_of self.page_size (blob_of (shown self) (D.time dev.new)).content ≤ len) }
-        ensures again { D.Tells → len < size_of (shown self) → IsSealed S.seal_of (shown self) (disk (D.time dev.old) (key_of (shown self)))
-            → OnOk result (Settles S.seal_of self.page_size (take len (bytes_of (shown self) (disk (D.time dev.old) (key_of (shown self))).content)) (disk (D.time dev.new) (key_of (shown self)))) }
-        ensures leaves { D.Tells → len < size_of (shown self) → IsSealed S.seal_of (shown self) (disk (D.time dev.old) (key_of (shown self)))
-            → OnOk result (Leaves S.seal_of self.page_size (take len (bytes_of (shown self) (disk (D.time dev.old) (key_of (shown self))).content)) len (disk (D.time dev.new) (key_of (shown self)))) }
-        ensures size { IfOk result (λ r. size_of (shown r) ≡ min (size_of (shown self)) len) }
-        ensures key { IfOk result (λ r. key_of (shown r) ≡ key_of (shown self)) }
-        ensures page_size { IfOk result (λ r. r.page_size ≡ self.page_size) }
-        ensures capacity { IfOk result (λ r. r.capacity ≡ self.capacity) }
-        ensures cache_pages { IfOk result (λ r. (shown r).cache_pages ≡ (shown self).cache_pages) }
-        ensures open { IfOk result (λ r. IsOpenAt (D.opened dev.new) (key_of (shown r)) r.end) }
-        ensures entries { FewReads 1 (key_of (shown self)) (D.opened dev.old) (D.opened dev.new) }
-        ensures faults { D.faults dev.old ≤ D.faults dev.new }
-        // The blob is then as it reads once what was pending has settled; the pages below the tip's are as they were before.
-        ensures checksum { D.Tells → (p : ℕ) → result ≡ Err (RError.InvalidChecksum p)
-            → p * self.page_size + page_length S.seal_of self.page_size (disk (D.time dev.new) (key_of (shown self))).content p < len }
-        ensures uncut_pages { D.Tells → (p : ℕ) → result ≡ Err (RError.InvalidChecksum p) → SparesFront (page_at self.page_size self.first) (key_of (shown self)) (D.time dev.old) (D.time dev.new) }
-        // A refused cut leaves all bytes in the blob, and nothing pending; where nothing was pending, the disk is as it was.
-        ensures uncut { D.Tells → IsBacked S.seal_of (shown self) (blob_of (shown self) (D.time dev.old)).content → (p : ℕ) → result ≡ Err (RError.InvalidChecksum p)
-            → Data self.page_size (bytes_of (shown self) (blob_of (shown self) (D.time dev.old)).content) (size_of (shown self)) (view (blob_of (shown self) (D.time dev.new)).content) }
-        ensures uncut_rests { D.Tells → (self.settled ≡ size_of (shown self) → IsAtRest (blob_of (shown self) (D.time dev.old))) → (p : ℕ) → result ≡ Err (RError.InvalidChecksum p) → IsAtRest (blob_of (shown self) (D.time dev.new)) }
-        ensures untouched { D.Tells → self.settled ≡ size_of (shown self) → (p : ℕ) → result ≡ Err (RError.InvalidChecksum p) → Unchanged (D.time dev.old) (D.time dev.new) }
-        // A page is cut only as far as a matching slot covers it: any page where nothing was pending, else one that stands whole below the tip's.
-        ensures covered { D.Tells → self.settled ≡ size_of (shown self) → len < size_of (shown self)
-            → OnOk result (len % self.page_size ≤ page_length S.seal_of self.page_size (blob_of (shown self) (D.time dev.old)).content (len / self.page_size)) }
-        ensures covered_below { D.Tells → len < size_of (shown self) → len / self.page_size < self.first
-            → page_at self.page_size (len / self.page_size + 1) ≤ length (blob_of (shown self) (D.time dev.old)).content
-            → OnOk result (len % self.page_size ≤ page_length S.seal_of self.page_size (blob_of (shown self) (D.time dev.old)).content (len / self.page_size)) }
-        // Never where the cut is to bytes that are sealed.
-        ensures whole { D.Tells → IsSafeCut S.seal_of (shown self) len (blob_of (shown self) (D.time dev.old))
-            → OnErr result ((result ≡ Err RError.Mem) ⊎ ((result ≡ Err RError.Fault) × Rose (D.faults dev.old) (D.faults dev.new))) }
-        ensures page { (p : ℕ) → result ≡ Err (RError.InvalidChecksum p) → (p * self.page_size < len) × (len < p * self.page_size + self.page_size) × (len < size_of (shown self)) }
-        ensures cause { OnErr result (((p : ℕ) × (result ≡ Err (RError.InvalidChecksum p))) ⊎ ((result ≡ Err RError.Mem) ⊎ ((result ≡ Err RError.Fault) × Rose (D.faults dev.old) (D.faults dev.new)))) }
+        ensures { Truncates D.Device S.seal_of (shown self) dev.old dev.new shown len result }
     {
         if len >= self.size() {
             return Ok(self);

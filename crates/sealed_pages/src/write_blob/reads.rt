@@ -13,6 +13,7 @@ use super::run::overlay;
 use blob_device::{DevError, Device, RError};
 
 impl WriteBlob {
+    ghost use Rattle.sealed_pages.specs.unsealed.RunCalls.{ReadsAt};
     ghost use Rattle.sealed_pages.specs.unsealed.Writing.{shown, blob_key, bytes_of, size_of, AllPending};
 
     // Whether a range is in the run as a whole.
@@ -47,15 +48,7 @@ impl WriteBlob {
     /// Err, `buf` holds any bytes.
     pub fn read_at<D: Device>(&self, dev: &mut D, offset: u64, buf: &mut [u8]) -> Result<(), RError>
         requires open { IsOpenAt (D.opened dev.old) (blob_key (shown self.now)) self.now.end }
-        ensures bytes { D.Tells → OnOk result (buf.new ≡ take (length buf.old) (drop offset (bytes_of (shown self.now) (disk (D.time dev.old) (blob_key (shown self.now))).content))) }
-        ensures unchanged { D.Tells → Unchanged (D.time dev.old) (D.time dev.new) }
-        ensures reads { ReadsAtMost 1 (blob_key (shown self.now)) (D.opened dev.old) (D.opened dev.new) }
-        ensures held { AllPending (shown self.now) offset (length buf.old) → dev.new ≡ dev.old }
-        ensures overflow { IsErrOf result OffsetOverflow ↔ 2 ^ 64 ≤ offset + length buf.old }
-        ensures short { IsErrOf result BlobInsufficientLength ↔ ((offset + length buf.old < 2 ^ 64) × (size_of (shown self.now) < offset + length buf.old)) }
-        ensures refused { size_of (shown self.now) < offset + length buf.old → dev.new ≡ dev.old }
-        ensures faults { D.faults dev.old ≤ D.faults dev.new }
-        ensures cause { OnErr result ((result ≡ Err RError.OffsetOverflow) ⊎ ((result ≡ Err RError.BlobInsufficientLength) ⊎ ((result ≡ Err RError.Mem) ⊎ ((result ≡ Err RError.Fault) × Rose (D.faults dev.old) (D.faults dev.new))))) }
+        ensures { ReadsAt D.Device (shown self.now) dev.old dev.new offset buf.old buf.new result }
     {
         let len = buf.len() as u64;
         if len > u64::MAX - offset {

@@ -1,7 +1,10 @@
-use Rattle.std.proofs.Common.{rules, ◌≡◌, ◌+◌, ◌*◌, ◌≤◌, ◌∙◌, ℕ, List, length, get_or, take, string_bytes, ap, sym, subst, arith, length-take, inl, inr}
+use Rattle.sealed_pages.specs.Cutting.{IsAtRest}
+use Rattle.sealed_pages.specs.Starts.{StartsOver}
+use Rattle.sealed_pages.proofs.Truncating.{no_value}
+use Rattle.std.proofs.Common.{rules, ◌≡◌, ◌+◌, ◌*◌, ◌≤◌, ◌∙◌, ℕ, List, length, get_or, take, string_bytes, ap, sym, subst, arith, length-take, inl, inr, refl, ◌<◌}
 use Rattle.blob_device.specs.Disk.{Key, Blob, settled_at}
 use Rattle.blob_device.specs.Timeline.{disk}
-use Rattle.sealed_pages.specs.Buffer.{extent, Buffer, bytes_of, State}
+use Rattle.sealed_pages.specs.Buffer.{extent, Buffer, bytes_of, State, IsSealed, IsBacked, HasFlushed}
 use Rattle.sealed_pages.specs.Entries.{IsOpenAt}
 use Rattle.sealed_pages.proofs.Looking.{content_length}
 use Rattle.std.proofs.lemmas.List.{with_items_is}
@@ -53,82 +56,135 @@ invariant_of-result g c =
       few = omega (arith, ap length c.new.ensures.empty);
     }
 
-pub returns-clause-size : goal.returns-clause-size
-returns-clause-size g c t =
-    let P : ℕ = c.args.pages.page_size in
-    let page : c.from.result ≡ c.args.pages.page_size = c.from.ensures in
-    let begun = c.start_of-start.ensures.begun in
-    let wide : length c.as_slice-page.result.now ≡ c.args.pages.page_size + 12 = search rules in
-    let tip : c.in_ok-tip.tip.items ≡ take c.start_of-start.result.from c.as_slice-page.result.now = search rules in
-    let long : length c.in_ok-tip.tip.items ≡ c.start_of-start.result.from = omega (arith, ap length tip, length-take c.start_of-start.result.from c.as_slice-page.result.now, wide, begun) in
-    let u : Buffer = record {
-      partition = string_bytes c.in_ok-partition.partition;
-      name = c.in_ok-name.name.items;
-      page_size = c.args.pages.page_size;
-      capacity = c.args.capacity;
-      cache_pages = c.new.result.most;
-      cache = held_in c.new.result;
-      end = c.args.size;
-      first = c.start_of-start.result.first;
-      tip = c.in_ok-tip.tip.items;
-      from = c.start_of-start.result.from;
-      settled = c.start_of-start.result.first * c.from.result + c.start_of-start.result.from;
-      newest = c.start_of-start.result.newest;
-      behind = c.start_of-start.result.behind;
-      torn = c.start_of-start.result.torn;
-    } in
-    let b0 : Blob = disk (g.D.Device.time c.args.dev.now) (c.args.partition.now, c.args.name.now) in
-    let size = content_length (g.D.Device.opened c.args.dev.now) (c.args.partition.now, c.args.name.now) c.args.size _ (disk (g.D.Device.time c.args.dev.now) (c.args.partition.now, c.args.name.now)).content (g.met.D.Device.opened_stands t c.args.dev.now (c.args.partition.now, c.args.name.now)) c.requires.«open» in
-    let finds = (subst (λ (l : List ℕ). Finds g.S.Seal.seal_of c.args.pages.page_size (disk (g.D.Device.time c.args.dev.now) (c.args.partition.now, c.args.name.now)).content c.in_ok-found.found l) (sym (c.as_slice-page.ensures.value ∙ with_items_is c.in_ok-bytes.bytes c.find_last.new.buf (c.find_last.auto.buf ∙ c.as_mut_slice-buf.ensures.len))) (c.in_ok-found.ensures.found t)) in
-    let over = c.start_of-start.ensures.starts (disk (g.D.Device.time c.args.dev.now) (c.args.partition.now, c.args.name.now)).content size finds in
-    let backed = backed_of u (disk (g.D.Device.time c.args.dev.now) (c.args.partition.now, c.args.name.now)).content begun long
-    (λ i lt. ap (λ (l : List ℕ). get_or l i 0) tip ∙ tip_is g.S.Seal.seal_of c.args.pages.page_size (disk (g.D.Device.time c.args.dev.now) (c.args.partition.now, c.args.name.now)).content c.in_ok-found.found c.as_slice-page.result.now c.start_of-start.result.first c.start_of-start.result.from c.start_of-start.result.newest c.start_of-start.result.behind c.start_of-start.result.torn finds over i lt) in
-    omega (arith, long, size_is g.S.Seal.seal_of c.args.pages.page_size (disk (g.D.Device.time c.args.dev.now) (c.args.partition.now, c.args.name.now)).content c.in_ok-found.found c.as_slice-page.result.now c.start_of-start.result.first c.start_of-start.result.from c.start_of-start.result.newest c.start_of-start.result.behind c.start_of-start.result.torn finds over)
-
-pub returns-clause-backed : goal.returns-clause-backed
-returns-clause-backed g c t =
-    let P : ℕ = c.args.pages.page_size in
-    let page : c.from.result ≡ c.args.pages.page_size = c.from.ensures in
-    let begun = c.start_of-start.ensures.begun in
-    let wide : length c.as_slice-page.result.now ≡ c.args.pages.page_size + 12 = search rules in
-    let tip : c.in_ok-tip.tip.items ≡ take c.start_of-start.result.from c.as_slice-page.result.now = search rules in
-    let long : length c.in_ok-tip.tip.items ≡ c.start_of-start.result.from = omega (arith, ap length tip, length-take c.start_of-start.result.from c.as_slice-page.result.now, wide, begun) in
-    let u : Buffer = record {
-      partition = string_bytes c.in_ok-partition.partition;
-      name = c.in_ok-name.name.items;
-      page_size = c.args.pages.page_size;
-      capacity = c.args.capacity;
-      cache_pages = c.new.result.most;
-      cache = held_in c.new.result;
-      end = c.args.size;
-      first = c.start_of-start.result.first;
-      tip = c.in_ok-tip.tip.items;
-      from = c.start_of-start.result.from;
-      settled = c.start_of-start.result.first * c.from.result + c.start_of-start.result.from;
-      newest = c.start_of-start.result.newest;
-      behind = c.start_of-start.result.behind;
-      torn = c.start_of-start.result.torn;
-    } in
-    let b0 : Blob = disk (g.D.Device.time c.args.dev.now) (c.args.partition.now, c.args.name.now) in
-    let size = content_length (g.D.Device.opened c.args.dev.now) (c.args.partition.now, c.args.name.now) c.args.size _ (disk (g.D.Device.time c.args.dev.now) (c.args.partition.now, c.args.name.now)).content (g.met.D.Device.opened_stands t c.args.dev.now (c.args.partition.now, c.args.name.now)) c.requires.«open» in
-    let finds = (subst (λ (l : List ℕ). Finds g.S.Seal.seal_of c.args.pages.page_size (disk (g.D.Device.time c.args.dev.now) (c.args.partition.now, c.args.name.now)).content c.in_ok-found.found l) (sym (c.as_slice-page.ensures.value ∙ with_items_is c.in_ok-bytes.bytes c.find_last.new.buf (c.find_last.auto.buf ∙ c.as_mut_slice-buf.ensures.len))) (c.in_ok-found.ensures.found t)) in
-    let over = c.start_of-start.ensures.starts (disk (g.D.Device.time c.args.dev.now) (c.args.partition.now, c.args.name.now)).content size finds in
-    let backed = backed_of u (disk (g.D.Device.time c.args.dev.now) (c.args.partition.now, c.args.name.now)).content begun long
-    (λ i lt. ap (λ (l : List ℕ). get_or l i 0) tip ∙ tip_is g.S.Seal.seal_of c.args.pages.page_size (disk (g.D.Device.time c.args.dev.now) (c.args.partition.now, c.args.name.now)).content c.in_ok-found.found c.as_slice-page.result.now c.start_of-start.result.first c.start_of-start.result.from c.start_of-start.result.newest c.start_of-start.result.behind c.start_of-start.result.torn finds over i lt) in
+pub returns-in_err-bytes : goal.returns-in_err-bytes
+returns-in_err-bytes g c =
     record {
-      flushed = backed;
-      tip = starts_tip g.S.Seal.seal_of c.args.pages.page_size (disk (g.D.Device.time c.args.dev.now) (c.args.partition.now, c.args.name.now)).content c.in_ok-found.found c.start_of-start.result.first c.start_of-start.result.from c.start_of-start.result.newest c.start_of-start.result.behind c.start_of-start.result.torn over;
-      cache = none_cached g.S.Seal.seal_of c.args.pages.page_size (disk (g.D.Device.time c.args.dev.now) (c.args.partition.now, c.args.name.now)).content (held_in c.new.result) c.new.ensures.empty;
+      size = λ t. no_value _ _ c.from_residual.ensures.0;
+      backed = λ t. no_value _ _ c.from_residual.ensures.0;
+      sealed = λ t h1 h2. no_value _ _ c.from_residual.ensures.0;
+      unrecovered = λ t h1 h2. no_value _ _ c.from_residual.ensures.0;
+      adopted = λ t h1. no_value _ _ c.from_residual.ensures.0;
+      leftover = λ t. no_value _ _ c.from_residual.ensures.0;
+      known = λ t rest. no_value _ _ c.from_residual.ensures.0;
+      cache = no_value _ _ c.from_residual.ensures.0;
+      cache_pages = no_value _ _ c.from_residual.ensures.0;
+      unchanged = search rules;
+      settled = no_value _ _ c.from_residual.ensures.0;
+      key = no_value _ _ c.from_residual.ensures.0;
+      page_size = no_value _ _ c.from_residual.ensures.0;
+      capacity = no_value _ _ c.from_residual.ensures.0;
+      end = no_value _ _ c.from_residual.ensures.0;
+      «open» = no_value _ _ c.from_residual.ensures.0;
+      entries = search rules;
+      faults = search rules;
+      cause = search rules;
     }
 
-pub returns-clause-sealed : goal.returns-clause-sealed
-returns-clause-sealed g c t is whole =
-    let P : ℕ = c.args.pages.page_size in
+pub returns-in_err-found : goal.returns-in_err-found
+returns-in_err-found g c =
+    record {
+      size = λ t. no_value _ _ c.from_residual-in_err-found.ensures.0;
+      backed = λ t. no_value _ _ c.from_residual-in_err-found.ensures.0;
+      sealed = λ t h1 h2. no_value _ _ c.from_residual-in_err-found.ensures.0;
+      unrecovered = λ t h1 h2. no_value _ _ c.from_residual-in_err-found.ensures.0;
+      adopted = λ t h1. no_value _ _ c.from_residual-in_err-found.ensures.0;
+      leftover = λ t. no_value _ _ c.from_residual-in_err-found.ensures.0;
+      known = λ t rest. no_value _ _ c.from_residual-in_err-found.ensures.0;
+      cache = no_value _ _ c.from_residual-in_err-found.ensures.0;
+      cache_pages = no_value _ _ c.from_residual-in_err-found.ensures.0;
+      unchanged = c.in_err-found.ensures.unchanged;
+      settled = no_value _ _ c.from_residual-in_err-found.ensures.0;
+      key = no_value _ _ c.from_residual-in_err-found.ensures.0;
+      page_size = no_value _ _ c.from_residual-in_err-found.ensures.0;
+      capacity = no_value _ _ c.from_residual-in_err-found.ensures.0;
+      end = no_value _ _ c.from_residual-in_err-found.ensures.0;
+      «open» = no_value _ _ c.from_residual-in_err-found.ensures.0;
+      entries = c.in_err-found.ensures.entries;
+      faults = c.in_err-found.ensures.faults;
+      cause = search rules;
+    }
+
+pub returns-in_err-partition : goal.returns-in_err-partition
+returns-in_err-partition g c =
+    record {
+      size = λ t. no_value _ _ c.from_residual-in_err-partition.ensures.0;
+      backed = λ t. no_value _ _ c.from_residual-in_err-partition.ensures.0;
+      sealed = λ t h1 h2. no_value _ _ c.from_residual-in_err-partition.ensures.0;
+      unrecovered = λ t h1 h2. no_value _ _ c.from_residual-in_err-partition.ensures.0;
+      adopted = λ t h1. no_value _ _ c.from_residual-in_err-partition.ensures.0;
+      leftover = λ t. no_value _ _ c.from_residual-in_err-partition.ensures.0;
+      known = λ t rest. no_value _ _ c.from_residual-in_err-partition.ensures.0;
+      cache = no_value _ _ c.from_residual-in_err-partition.ensures.0;
+      cache_pages = no_value _ _ c.from_residual-in_err-partition.ensures.0;
+      unchanged = search rules;
+      settled = no_value _ _ c.from_residual-in_err-partition.ensures.0;
+      key = no_value _ _ c.from_residual-in_err-partition.ensures.0;
+      page_size = no_value _ _ c.from_residual-in_err-partition.ensures.0;
+      capacity = no_value _ _ c.from_residual-in_err-partition.ensures.0;
+      end = no_value _ _ c.from_residual-in_err-partition.ensures.0;
+      «open» = no_value _ _ c.from_residual-in_err-partition.ensures.0;
+      entries = search rules;
+      faults = search rules;
+      cause = search rules;
+    }
+
+pub returns-in_err-name : goal.returns-in_err-name
+returns-in_err-name g c =
+    record {
+      size = λ t. no_value _ _ c.from_residual-in_err-name.ensures.0;
+      backed = λ t. no_value _ _ c.from_residual-in_err-name.ensures.0;
+      sealed = λ t h1 h2. no_value _ _ c.from_residual-in_err-name.ensures.0;
+      unrecovered = λ t h1 h2. no_value _ _ c.from_residual-in_err-name.ensures.0;
+      adopted = λ t h1. no_value _ _ c.from_residual-in_err-name.ensures.0;
+      leftover = λ t. no_value _ _ c.from_residual-in_err-name.ensures.0;
+      known = λ t rest. no_value _ _ c.from_residual-in_err-name.ensures.0;
+      cache = no_value _ _ c.from_residual-in_err-name.ensures.0;
+      cache_pages = no_value _ _ c.from_residual-in_err-name.ensures.0;
+      unchanged = search rules;
+      settled = no_value _ _ c.from_residual-in_err-name.ensures.0;
+      key = no_value _ _ c.from_residual-in_err-name.ensures.0;
+      page_size = no_value _ _ c.from_residual-in_err-name.ensures.0;
+      capacity = no_value _ _ c.from_residual-in_err-name.ensures.0;
+      end = no_value _ _ c.from_residual-in_err-name.ensures.0;
+      «open» = no_value _ _ c.from_residual-in_err-name.ensures.0;
+      entries = search rules;
+      faults = search rules;
+      cause = search rules;
+    }
+
+pub returns-in_err-tip : goal.returns-in_err-tip
+returns-in_err-tip g c =
+    record {
+      size = λ t. no_value _ _ c.from_residual-in_err-tip.ensures.0;
+      backed = λ t. no_value _ _ c.from_residual-in_err-tip.ensures.0;
+      sealed = λ t h1 h2. no_value _ _ c.from_residual-in_err-tip.ensures.0;
+      unrecovered = λ t h1 h2. no_value _ _ c.from_residual-in_err-tip.ensures.0;
+      adopted = λ t h1. no_value _ _ c.from_residual-in_err-tip.ensures.0;
+      leftover = λ t. no_value _ _ c.from_residual-in_err-tip.ensures.0;
+      known = λ t rest. no_value _ _ c.from_residual-in_err-tip.ensures.0;
+      cache = no_value _ _ c.from_residual-in_err-tip.ensures.0;
+      cache_pages = no_value _ _ c.from_residual-in_err-tip.ensures.0;
+      unchanged = search rules;
+      settled = no_value _ _ c.from_residual-in_err-tip.ensures.0;
+      key = no_value _ _ c.from_residual-in_err-tip.ensures.0;
+      page_size = no_value _ _ c.from_residual-in_err-tip.ensures.0;
+      capacity = no_value _ _ c.from_residual-in_err-tip.ensures.0;
+      end = no_value _ _ c.from_residual-in_err-tip.ensures.0;
+      «open» = no_value _ _ c.from_residual-in_err-tip.ensures.0;
+      entries = search rules;
+      faults = search rules;
+      cause = search rules;
+    }
+
+pub returns : goal.returns
+returns g c =
     let page : c.from.result ≡ c.args.pages.page_size = c.from.ensures in
     let begun = c.start_of-start.ensures.begun in
+    let pos : 1 ≤ c.args.pages.page_size = c.requires.valid in
     let wide : length c.as_slice-page.result.now ≡ c.args.pages.page_size + 12 = search rules in
     let tip : c.in_ok-tip.tip.items ≡ take c.start_of-start.result.from c.as_slice-page.result.now = search rules in
     let long : length c.in_ok-tip.tip.items ≡ c.start_of-start.result.from = omega (arith, ap length tip, length-take c.start_of-start.result.from c.as_slice-page.result.now, wide, begun) in
+    let settled : c.start_of-start.result.first * c.from.result + c.start_of-start.result.from ≡ c.start_of-start.result.first * c.args.pages.page_size + c.start_of-start.result.from = ap (λ (n : ℕ). c.start_of-start.result.first * n + c.start_of-start.result.from) page in
     let u : Buffer = record {
       partition = string_bytes c.in_ok-partition.partition;
       name = c.in_ok-name.name.items;
@@ -145,64 +201,57 @@ returns-clause-sealed g c t is whole =
       behind = c.start_of-start.result.behind;
       torn = c.start_of-start.result.torn;
     } in
-    let b0 : Blob = disk (g.D.Device.time c.args.dev.now) (c.args.partition.now, c.args.name.now) in
-    let size = content_length (g.D.Device.opened c.args.dev.now) (c.args.partition.now, c.args.name.now) c.args.size _ (disk (g.D.Device.time c.args.dev.now) (c.args.partition.now, c.args.name.now)).content (g.met.D.Device.opened_stands t c.args.dev.now (c.args.partition.now, c.args.name.now)) c.requires.«open» in
-    let finds = (subst (λ (l : List ℕ). Finds g.S.Seal.seal_of c.args.pages.page_size (disk (g.D.Device.time c.args.dev.now) (c.args.partition.now, c.args.name.now)).content c.in_ok-found.found l) (sym (c.as_slice-page.ensures.value ∙ with_items_is c.in_ok-bytes.bytes c.find_last.new.buf (c.find_last.auto.buf ∙ c.as_mut_slice-buf.ensures.len))) (c.in_ok-found.ensures.found t)) in
-    let over = c.start_of-start.ensures.starts (disk (g.D.Device.time c.args.dev.now) (c.args.partition.now, c.args.name.now)).content size finds in
-    let backed = backed_of u (disk (g.D.Device.time c.args.dev.now) (c.args.partition.now, c.args.name.now)).content begun long
-    (λ i lt. ap (λ (l : List ℕ). get_or l i 0) tip ∙ tip_is g.S.Seal.seal_of c.args.pages.page_size (disk (g.D.Device.time c.args.dev.now) (c.args.partition.now, c.args.name.now)).content c.in_ok-found.found c.as_slice-page.result.now c.start_of-start.result.first c.start_of-start.result.from c.start_of-start.result.newest c.start_of-start.result.behind c.start_of-start.result.torn finds over i lt) in
-    let pos : 1 ≤ c.args.pages.page_size = c.requires.valid in
-    let settled : c.start_of-start.result.first * c.from.result + c.start_of-start.result.from ≡ c.start_of-start.result.first * c.args.pages.page_size + c.start_of-start.result.from = ap (λ (n : ℕ). c.start_of-start.result.first * n + c.start_of-start.result.from) page in
+    let size_ : g.D.Device.Tells → length (disk (g.D.Device.time c.args.dev.now) (c.args.partition.now, c.args.name.now)).content ≡ c.args.size = λ t. content_length (g.D.Device.opened c.args.dev.now) (c.args.partition.now, c.args.name.now) c.args.size _ (disk (g.D.Device.time c.args.dev.now) (c.args.partition.now, c.args.name.now)).content (g.met.D.Device.opened_stands t c.args.dev.now (c.args.partition.now, c.args.name.now)) c.requires.«open» in
+    let finds_ : g.D.Device.Tells → Finds g.S.Seal.seal_of c.args.pages.page_size (disk (g.D.Device.time c.args.dev.now) (c.args.partition.now, c.args.name.now)).content c.in_ok-found.found c.as_slice-page.result.now
+    = λ t. subst (λ (l : List ℕ). Finds g.S.Seal.seal_of c.args.pages.page_size (disk (g.D.Device.time c.args.dev.now) (c.args.partition.now, c.args.name.now)).content c.in_ok-found.found l) (sym (c.as_slice-page.ensures.value ∙ with_items_is c.in_ok-bytes.bytes c.find_last.new.buf (c.find_last.auto.buf ∙ c.as_mut_slice-buf.ensures.len))) (c.in_ok-found.ensures.found t) in
+    let over_ : g.D.Device.Tells → StartsOver g.S.Seal.seal_of c.args.pages.page_size (disk (g.D.Device.time c.args.dev.now) (c.args.partition.now, c.args.name.now)).content c.in_ok-found.found c.start_of-start.result.first c.start_of-start.result.from c.start_of-start.result.newest c.start_of-start.result.behind c.start_of-start.result.torn
+    = λ t. c.start_of-start.ensures.starts (disk (g.D.Device.time c.args.dev.now) (c.args.partition.now, c.args.name.now)).content (size_ t) (finds_ t) in
+    let flushed_ : g.D.Device.Tells → HasFlushed u (disk (g.D.Device.time c.args.dev.now) (c.args.partition.now, c.args.name.now)).content = λ t. backed_of u (disk (g.D.Device.time c.args.dev.now) (c.args.partition.now, c.args.name.now)).content begun long
+        (λ i lt. ap (λ (l : List ℕ). get_or l i 0) tip ∙ tip_is g.S.Seal.seal_of c.args.pages.page_size (disk (g.D.Device.time c.args.dev.now) (c.args.partition.now, c.args.name.now)).content c.in_ok-found.found c.as_slice-page.result.now c.start_of-start.result.first c.start_of-start.result.from c.start_of-start.result.newest c.start_of-start.result.behind c.start_of-start.result.torn (finds_ t) (over_ t) i lt) in
+    let backed_ : g.D.Device.Tells → IsBacked g.S.Seal.seal_of u (disk (g.D.Device.time c.args.dev.now) (c.args.partition.now, c.args.name.now)).content = λ t. record {
+      flushed = flushed_ t;
+      tip = starts_tip g.S.Seal.seal_of c.args.pages.page_size (disk (g.D.Device.time c.args.dev.now) (c.args.partition.now, c.args.name.now)).content c.in_ok-found.found c.start_of-start.result.first c.start_of-start.result.from c.start_of-start.result.newest c.start_of-start.result.behind c.start_of-start.result.torn (over_ t);
+      cache = none_cached g.S.Seal.seal_of c.args.pages.page_size (disk (g.D.Device.time c.args.dev.now) (c.args.partition.now, c.args.name.now)).content (held_in c.new.result) c.new.ensures.empty;
+    } in
     let all : List ℕ = bytes_of u (disk (g.D.Device.time c.args.dev.now) (c.args.partition.now, c.args.name.now)).content in
     let fits : c.start_of-start.result.first * c.args.pages.page_size + c.start_of-start.result.from ≤ length (bytes_of u (disk (g.D.Device.time c.args.dev.now) (c.args.partition.now, c.args.name.now)).content) = omega (arith, bytes_length u (disk (g.D.Device.time c.args.dev.now) (c.args.partition.now, c.args.name.now)).content, long) in
-    let adopted = adopted_is g.S.Seal.seal_of c.args.pages.page_size (disk (g.D.Device.time c.args.dev.now) (c.args.partition.now, c.args.name.now)).content c.in_ok-found.found c.as_slice-page.result.now c.start_of-start.result.first c.start_of-start.result.from c.start_of-start.result.newest c.start_of-start.result.behind c.start_of-start.result.torn pos all begun finds over whole fits backed in
-    let state = adopted_state g.S.Seal.seal_of c.args.pages.page_size pos all c.start_of-start.result.first c.start_of-start.result.from c.start_of-start.result.newest c.start_of-start.result.behind c.start_of-start.result.torn begun (settled_at (disk (g.D.Device.time c.args.dev.now) (c.args.partition.now, c.args.name.now)).content) adopted (c.start_of-start.result.first * c.from.result + c.start_of-start.result.from) settled in
+    let sealed_ : g.D.Device.Tells → IsAtRest (disk (g.D.Device.time c.args.dev.now) (c.args.partition.now, c.args.name.now)) → length (sealed_prefix g.S.Seal.seal_of c.args.pages.page_size (disk (g.D.Device.time c.args.dev.now) (c.args.partition.now, c.args.name.now)).content) ≡ adopted_size g.S.Seal.seal_of c.args.pages.page_size (disk (g.D.Device.time c.args.dev.now) (c.args.partition.now, c.args.name.now)).content → IsSealed g.S.Seal.seal_of u (disk (g.D.Device.time c.args.dev.now) (c.args.partition.now, c.args.name.now))
+    = λ t is whole.
+        let adopted = adopted_is g.S.Seal.seal_of c.args.pages.page_size (disk (g.D.Device.time c.args.dev.now) (c.args.partition.now, c.args.name.now)).content c.in_ok-found.found c.as_slice-page.result.now c.start_of-start.result.first c.start_of-start.result.from c.start_of-start.result.newest c.start_of-start.result.behind c.start_of-start.result.torn pos all begun (finds_ t) (over_ t) whole fits (flushed_ t) in
+        let state = adopted_state g.S.Seal.seal_of c.args.pages.page_size pos all c.start_of-start.result.first c.start_of-start.result.from c.start_of-start.result.newest c.start_of-start.result.behind c.start_of-start.result.torn begun (settled_at (disk (g.D.Device.time c.args.dev.now) (c.args.partition.now, c.args.name.now)).content) adopted (c.start_of-start.result.first * c.from.result + c.start_of-start.result.from) settled in
+        record {
+          holds = record {
+            state = subst (λ (b : Blob). State g.S.Seal.seal_of c.args.pages.page_size all c.start_of-start.result.first c.start_of-start.result.from (c.start_of-start.result.first * c.from.result + c.start_of-start.result.from) c.start_of-start.result.newest c.start_of-start.result.behind c.start_of-start.result.torn b) (sym is) state;
+            tip_at = tip_stands u (disk (g.D.Device.time c.args.dev.now) (c.args.partition.now, c.args.name.now)).content;
+            size = bytes_length u (disk (g.D.Device.time c.args.dev.now) (c.args.partition.now, c.args.name.now)).content;
+          };
+          backed = backed_ t;
+        } in
+    let unrecovered_ : g.D.Device.Tells → IsAtRest (disk (g.D.Device.time c.args.dev.now) (c.args.partition.now, c.args.name.now)) → length (sealed_prefix g.S.Seal.seal_of c.args.pages.page_size (disk (g.D.Device.time c.args.dev.now) (c.args.partition.now, c.args.name.now)).content) < adopted_size g.S.Seal.seal_of c.args.pages.page_size (disk (g.D.Device.time c.args.dev.now) (c.args.partition.now, c.args.name.now)).content → IsUnrecovered g.S.Seal.seal_of u (disk (g.D.Device.time c.args.dev.now) (c.args.partition.now, c.args.name.now))
+    = λ t rest less. subst (IsUnrecovered g.S.Seal.seal_of u) (sym rest) (adopted_unrecovered g.S.Seal.seal_of u (disk (g.D.Device.time c.args.dev.now) (c.args.partition.now, c.args.name.now)).content c.in_ok-found.found c.as_slice-page.result.now pos (finds_ t) (over_ t) (omega (arith, ap (λ (n : ℕ). c.start_of-start.result.first * n) page)) (backed_ t) less) in
     record {
-      holds = record {
-        state = subst (λ (b : Blob). State g.S.Seal.seal_of c.args.pages.page_size all c.start_of-start.result.first c.start_of-start.result.from (c.start_of-start.result.first * c.from.result + c.start_of-start.result.from) c.start_of-start.result.newest c.start_of-start.result.behind c.start_of-start.result.torn b) (sym is) state;
-        tip_at = tip_stands u (disk (g.D.Device.time c.args.dev.now) (c.args.partition.now, c.args.name.now)).content;
-        size = bytes_length u (disk (g.D.Device.time c.args.dev.now) (c.args.partition.now, c.args.name.now)).content;
-      };
-      backed = returns-clause-backed g c t;
+      size = λ t. omega (arith, long, size_is g.S.Seal.seal_of c.args.pages.page_size (disk (g.D.Device.time c.args.dev.now) (c.args.partition.now, c.args.name.now)).content c.in_ok-found.found c.as_slice-page.result.now c.start_of-start.result.first c.start_of-start.result.from c.start_of-start.result.newest c.start_of-start.result.behind c.start_of-start.result.torn (finds_ t) (over_ t));
+      backed = backed_;
+      sealed = sealed_;
+      unrecovered = unrecovered_;
+      adopted = λ t rest. elim (cases_lt (length (sealed_prefix g.S.Seal.seal_of c.args.pages.page_size (disk (g.D.Device.time c.args.dev.now) (c.args.partition.now, c.args.name.now)).content)) (adopted_size g.S.Seal.seal_of c.args.pages.page_size (disk (g.D.Device.time c.args.dev.now) (c.args.partition.now, c.args.name.now)).content)) [
+        | inl less ↦ inr (unrecovered_ t rest less)
+        | inr whole ↦ (let is : length (sealed_prefix g.S.Seal.seal_of c.args.pages.page_size (disk (g.D.Device.time c.args.dev.now) (c.args.partition.now, c.args.name.now)).content) ≡ adopted_size g.S.Seal.seal_of c.args.pages.page_size (disk (g.D.Device.time c.args.dev.now) (c.args.partition.now, c.args.name.now)).content = omega (arith, whole, prefix_size g.S.Seal.seal_of c.args.pages.page_size (disk (g.D.Device.time c.args.dev.now) (c.args.partition.now, c.args.name.now)).content) in inl (sealed_ t rest is))
+      ];
+      leftover = λ t. c.start_of-start.ensures.leftover (disk (g.D.Device.time c.args.dev.now) (c.args.partition.now, c.args.name.now)).content (size_ t) (finds_ t);
+      known = λ t rest has. ((rest, c.start_of-start.ensures.leftover (disk (g.D.Device.time c.args.dev.now) (c.args.partition.now, c.args.name.now)).content (size_ t) (finds_ t)), settled);
+      cache = c.new.ensures.empty;
+      cache_pages = c.new.ensures.most;
+      unchanged = c.in_ok-found.ensures.unchanged;
+      settled = omega (arith, settled, long);
+      key = search rules;
+      page_size = refl;
+      capacity = refl;
+      end = refl;
+      «open» =
+          let p : (string_bytes c.in_ok-partition.partition, c.in_ok-name.name.items) ≡ (c.args.partition.now, c.args.name.now) = search rules in
+          subst (λ (k : Key). IsOpenAt (g.D.Device.opened c.find_last.new.dev) k c.args.size) (sym p) (c.in_ok-found.ensures.entries.length c.args.size c.requires.«open»);
+      entries = c.in_ok-found.ensures.entries;
+      faults = c.in_ok-found.ensures.faults;
+      cause = tt;
     }
-
-pub returns-clause-open : goal.returns-clause-open
-returns-clause-open g c =
-    let p : (string_bytes c.in_ok-partition.partition, c.in_ok-name.name.items) ≡ (c.args.partition.now, c.args.name.now) = search rules in
-    subst (λ (k : Key). IsOpenAt (g.D.Device.opened c.find_last.new.dev) k c.args.size) (sym p) (c.in_ok-found.ensures.entries.length c.args.size c.requires.«open»)
-
-pub returns-clause-leftover : goal.returns-clause-leftover
-returns-clause-leftover g c t =
-    let size = content_length (g.D.Device.opened c.args.dev.now) (c.args.partition.now, c.args.name.now) c.args.size _ (disk (g.D.Device.time c.args.dev.now) (c.args.partition.now, c.args.name.now)).content (g.met.D.Device.opened_stands t c.args.dev.now (c.args.partition.now, c.args.name.now)) c.requires.«open» in
-    c.start_of-start.ensures.leftover (disk (g.D.Device.time c.args.dev.now) (c.args.partition.now, c.args.name.now)).content size (subst (λ (l : List ℕ). Finds g.S.Seal.seal_of c.args.pages.page_size (disk (g.D.Device.time c.args.dev.now) (c.args.partition.now, c.args.name.now)).content c.in_ok-found.found l) (sym (c.as_slice-page.ensures.value ∙ with_items_is c.in_ok-bytes.bytes c.find_last.new.buf (c.find_last.auto.buf ∙ c.as_mut_slice-buf.ensures.len))) (c.in_ok-found.ensures.found t))
-
-pub returns-clause-unrecovered : goal.returns-clause-unrecovered
-returns-clause-unrecovered g c t rest less =
-    let begun = c.start_of-start.ensures.begun in
-    let pos : 1 ≤ c.args.pages.page_size = omega (arith, begun) in
-    let u : Buffer = record {
-      partition = string_bytes c.in_ok-partition.partition;
-      name = c.in_ok-name.name.items;
-      page_size = c.args.pages.page_size;
-      capacity = c.args.capacity;
-      cache_pages = c.new.result.most;
-      cache = held_in c.new.result;
-      end = c.args.size;
-      first = c.start_of-start.result.first;
-      tip = c.in_ok-tip.tip.items;
-      from = c.start_of-start.result.from;
-      settled = c.start_of-start.result.first * c.from.result + c.start_of-start.result.from;
-      newest = c.start_of-start.result.newest;
-      behind = c.start_of-start.result.behind;
-      torn = c.start_of-start.result.torn;
-    } in
-    let size = content_length (g.D.Device.opened c.args.dev.now) (c.args.partition.now, c.args.name.now) c.args.size _ (disk (g.D.Device.time c.args.dev.now) (c.args.partition.now, c.args.name.now)).content (g.met.D.Device.opened_stands t c.args.dev.now (c.args.partition.now, c.args.name.now)) c.requires.«open» in
-    let finds = (subst (λ (l : List ℕ). Finds g.S.Seal.seal_of c.args.pages.page_size (disk (g.D.Device.time c.args.dev.now) (c.args.partition.now, c.args.name.now)).content c.in_ok-found.found l) (sym (c.as_slice-page.ensures.value ∙ with_items_is c.in_ok-bytes.bytes c.find_last.new.buf (c.find_last.auto.buf ∙ c.as_mut_slice-buf.ensures.len))) (c.in_ok-found.ensures.found t)) in
-    let over = c.start_of-start.ensures.starts (disk (g.D.Device.time c.args.dev.now) (c.args.partition.now, c.args.name.now)).content size finds in
-    subst (IsUnrecovered g.S.Seal.seal_of u) (sym rest) (adopted_unrecovered g.S.Seal.seal_of u (disk (g.D.Device.time c.args.dev.now) (c.args.partition.now, c.args.name.now)).content c.in_ok-found.found c.as_slice-page.result.now pos finds over (returns-clause-backed g c t) less)
-
-pub returns-clause-adopted : goal.returns-clause-adopted
-returns-clause-adopted g c t rest = elim (cases_lt (length (sealed_prefix g.S.Seal.seal_of c.args.pages.page_size (disk (g.D.Device.time c.args.dev.now) (c.args.partition.now, c.args.name.now)).content)) (adopted_size g.S.Seal.seal_of c.args.pages.page_size (disk (g.D.Device.time c.args.dev.now) (c.args.partition.now, c.args.name.now)).content)) [
-  | inl less ↦ inr (returns-clause-unrecovered g c t rest less)
-  | inr whole ↦ (let is : length (sealed_prefix g.S.Seal.seal_of c.args.pages.page_size (disk (g.D.Device.time c.args.dev.now) (c.args.partition.now, c.args.name.now)).content) ≡ adopted_size g.S.Seal.seal_of c.args.pages.page_size (disk (g.D.Device.time c.args.dev.now) (c.args.partition.now, c.args.name.now)).content = omega (arith, whole, prefix_size g.S.Seal.seal_of c.args.pages.page_size (disk (g.D.Device.time c.args.dev.now) (c.args.partition.now, c.args.name.now)).content) in inl (returns-clause-sealed g c t rest is))
-]

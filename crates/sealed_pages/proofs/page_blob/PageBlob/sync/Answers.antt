@@ -1,3 +1,5 @@
+use Rattle.sealed_pages.proofs.Clearing.{clears_start, clears_settle}
+use Rattle.sealed_pages.proofs.KnownLemmas.{known_synced}
 use Rattle.std.proofs.Common.{◌≡◌, ◌≢◌, ◌+◌, ◌*◌, ◌∙◌, ℕ, string_bytes, arith, ap, sym, subst, refl, length, Ok, Err}
 use Rattle.blob_device.specs.Disk.{Key, Blob}
 use Rattle.blob_device.specs.Timeline.{disk}
@@ -33,6 +35,8 @@ returns-then-not-needs_sync g c =
     record {
       crashes = λ t sealed. holds_start g.S.Seal.seal_of u (bytes_of u b0.content) (key_of (shown c.args.self)) (g.D.Device.time c.args.dev.now) c.args.self.fit.begun sealed.holds;
       sealed = λ t sealed. sealed;
+      clears = λ t rest left. clears_start g.S.Seal.seal_of c.args.self.page_size c.args.self.first c.args.self.from c.args.self.newest (key_of (shown c.args.self)) (g.D.Device.time c.args.dev.now) rest;
+      known = λ t known. known;
       steady = λ t un. stood_keeps g.S.Seal.seal_of (shown c.args.self) (key_of (shown c.args.self)) (g.D.Device.time c.args.dev.now) un;
       unrecovered = λ t un. un;
       front = λ t. front_start (page_at c.args.self.page_size c.args.self.first) (key_of (shown c.args.self)) (g.D.Device.time c.args.dev.now);
@@ -65,6 +69,8 @@ returns-in_err-this g c =
     record {
       crashes = λ t sealed. c.in_err-this.ensures.told t (bytes_of u b0.content) sealed.holds;
       sealed = λ t sealed. no_value _ _ c.from_residual.ensures.0;
+      clears = c.in_err-this.ensures.clears;
+      known = λ t known. no_value _ _ c.from_residual.ensures.0;
       steady = c.in_err-this.ensures.steady;
       unrecovered = λ t un. no_value _ _ c.from_residual.ensures.0;
       front = c.in_err-this.ensures.front;
@@ -108,6 +114,8 @@ returns-in_err-sync g c =
           (holds_settle g.S.Seal.seal_of r (bytes_of u b0.content) key (g.D.Device.time c.flush.new.dev) (g.D.Device.time c.sync.new.self) c.sync.result c.in_ok-this.this.fit.begun now passes)) in
           only_then (g.D.Device.time c.args.dev.now) (g.D.Device.time c.flush.new.dev) (g.D.Device.time c.sync.new.self) key (Leaves g.S.Seal.seal_of c.args.self.page_size (bytes_of u b0.content) c.args.self.settled) before after;
       sealed = λ t sealed. no_value _ _ c.from_residual-in_err-sync.ensures.0;
+      clears = λ t rest left. clears_settle g.S.Seal.seal_of c.args.self.page_size c.args.self.first c.args.self.from c.args.self.newest (key_of (shown c.args.self)) (g.D.Device.time c.args.dev.now) (g.D.Device.time c.flush.new.dev) (g.D.Device.time c.sync.new.self) c.sync.result (c.in_ok-this.ensures.clears t rest left) (settle_as c.sync.result _ _ _ _ (g.D.Device.time c.flush.new.dev) (g.D.Device.time c.sync.new.self) p n (c.sync.ensures.told t));
+      known = λ t known. no_value _ _ c.from_residual-in_err-sync.ensures.0;
       steady = λ t un.
           let passes = settle_as c.sync.result _ _ _ _ (g.D.Device.time c.flush.new.dev) (g.D.Device.time c.sync.new.self) p n (c.sync.ensures.told t) in
           let now = c.in_ok-this.ensures.unrecovered t un in
@@ -175,6 +183,8 @@ returns g c =
                 (c.in_ok-this.ensures.done t (bytes_of u b0.content) sealed.holds) passes-ok);
             backed = subst (λ (b : Blob). IsBacked g.S.Seal.seal_of after b.content) (sym same) (record { flushed = now.flushed; tip = now.tip; cache = now.cache });
           };
+      clears = λ t rest left. clears_settle g.S.Seal.seal_of c.args.self.page_size c.args.self.first c.args.self.from c.args.self.newest (key_of (shown c.args.self)) (g.D.Device.time c.args.dev.now) (g.D.Device.time c.flush.new.dev) (g.D.Device.time c.sync.new.self) (Ok tt) (c.in_ok-this.ensures.clears t rest left) (settle_as (Ok tt) _ _ _ _ (g.D.Device.time c.flush.new.dev) (g.D.Device.time c.sync.new.self) p n (c.in_ok-sync.ensures.told t));
+      known = λ t known. known_synced g.S.Seal.seal_of (shown c.args.self) (shown c.in_ok-this.this) after (disk (g.D.Device.time c.args.dev.now) (key_of (shown c.args.self))) (disk (g.D.Device.time c.sync.new.self) (key_of (shown c.args.self))) c.args.self.fit.within unsettled (λ le. c.in_ok-this.ensures.fine le) refl c.in_ok-this.ensures.left known;
       steady = λ t un.
           let passes = settle_as (Ok tt) _ _ _ _ (g.D.Device.time c.flush.new.dev) (g.D.Device.time c.sync.new.self) p n (c.in_ok-sync.ensures.told t) in
           let now = c.in_ok-this.ensures.unrecovered t un in
@@ -185,7 +195,7 @@ returns g c =
           let passes = settle_as (Ok tt) _ _ _ _ (g.D.Device.time c.flush.new.dev) (g.D.Device.time c.sync.new.self) p n (c.in_ok-sync.ensures.told t) in
           let passes-ok = passes in
           let now = c.in_ok-this.ensures.unrecovered t un in
-          settled_stays g.S.Seal.seal_of (shown c.in_ok-this.this) (key_of (shown c.args.self)) (g.D.Device.time c.flush.new.dev) (g.D.Device.time c.sync.new.self) tt (record (shown c.in_ok-this.this) { settled = c.flushed-end.result; newest = c.last_slot_of-slot.result }) (c.in_ok-this.ensures.unrecovered t un) passes refl refl (subst (λ (b : Blob). IsBacked g.S.Seal.seal_of after b.content) (sym (ok_blob (key_of (shown c.args.self)) Settle tt (g.D.Device.time c.flush.new.dev) (g.D.Device.time c.sync.new.self) passes-ok)) (record { flushed = now.backed.flushed; tip = now.backed.tip; cache = now.backed.cache }));
+          settled_stays g.S.Seal.seal_of (shown c.in_ok-this.this) (key_of (shown c.args.self)) (g.D.Device.time c.flush.new.dev) (g.D.Device.time c.sync.new.self) tt (record (shown c.in_ok-this.this) { settled = c.flushed-end.result; newest = c.last_slot_of-slot.result }) (c.in_ok-this.ensures.unrecovered t un) passes refl refl (omega (arith, c.flushed-end.ensures)) (subst (λ (b : Blob). IsBacked g.S.Seal.seal_of after b.content) (sym (ok_blob (key_of (shown c.args.self)) Settle tt (g.D.Device.time c.flush.new.dev) (g.D.Device.time c.sync.new.self) passes-ok)) (record { flushed = now.backed.flushed; tip = now.backed.tip; cache = now.backed.cache }));
       front = λ t. front_settle (page_at c.args.self.page_size c.args.self.first) (key_of (shown c.args.self)) (g.D.Device.time c.args.dev.now) (g.D.Device.time c.flush.new.dev) (g.D.Device.time c.sync.new.self) (Ok tt) (c.in_ok-this.ensures.front t) (settle_as (Ok tt) _ _ _ _ (g.D.Device.time c.flush.new.dev) (g.D.Device.time c.sync.new.self) p n (c.in_ok-sync.ensures.told t));
       alone = λ t backed.
           let passes = settle_as c.sync.result _ _ _ _ (g.D.Device.time c.flush.new.dev) (g.D.Device.time c.sync.new.self) p n (c.sync.ensures.told t) in

@@ -1,4 +1,5 @@
-use Rattle.std.proofs.Common.{◌≡◌, ◌<◌, ◌+◌, ◌-◌, ◌∙◌, inl, inr, ℕ, List, refl, length, length-drop, ap, sym, subst, arith}
+use Rattle.std.proofs.lemmas.Grind.{common_steps}
+use Rattle.std.proofs.Common.{rules, ◌≡◌, ◌<◌, ◌+◌, ◌-◌, ◌∙◌, inl, inr, ℕ, List, refl, length, length-drop, ap, sym, subst, arith}
 use Rattle.std.proofs.lemmas.Result.{err_from_is_err_and}
 use Rattle.blob_device.specs.Disk.{Key}
 use Rattle.blob_device.specs.Timeline.{disk}
@@ -95,4 +96,26 @@ returns-in_err-fetch g c =
         | inr (inl mem) ↦ inr (inl (same_error mem))
         | inr (inr (fault, rose)) ↦ inr (inr (same_error fault, omega (arith, rose, c.fill.invariant.faults)))
       ]);
+    }
+
+pub returns : goal.returns
+returns g c =
+    record {
+      at_hand = search rules;
+      rest = λ e. grind (arith, common_steps);
+      exact = search rules;
+      ready = λ le. (c.fill.invariant.still le, grind (arith, common_steps));
+      within = omega (arith, c.fill.self.inside, length-drop c.fill.self.used c.fill.self.held.items);
+      same = c.fill.invariant.same;
+      grows = c.fill.invariant.grows;
+      replays = c.fill.invariant.replays;
+      checksum = search rules;
+      unchanged = c.fill.invariant.unchanged;
+      «open» = subst (λ (x : Key × ℕ). IsOpenAt (g.D.Device.opened c.fill.dev) x.0 x.1) (λ j. (sym c.fill.invariant.same.key j, sym c.fill.invariant.same.end j))
+          (c.fill.invariant.reads.reads.length (reading c.args.self.now).end c.requires);
+      reads = search rules;
+      once = search rules;
+      judged = search rules;
+      faults = c.fill.invariant.faults;
+      cause = tt;
     }

@@ -1,18 +1,52 @@
-use Rattle.std.proofs.Common.{◌∷◌, [], ℕ, List, get_or, ap, arith}
+use Rattle.sealed_pages.proofs.SparingLemmas.{sparing_start}
+use Rattle.sealed_pages.proofs.EntryLemmas.{no_reads_start, open_some}
+use Rattle.sealed_pages.proofs.Truncating.{no_value}
+use Rattle.std.proofs.Common.{◌∷◌, [], ℕ, List, get_or, ap, arith, rules, refl, inl, inr}
 use Rattle.blob_device.specs.Disk.{Outside}
 use Rattle.blob_device.specs.Timeline.{disk}
 use Rattle.sealed_pages.specs.unsealed.Writing.{WriteBuffer, shown, blob_key, run_of}
 use Rattle.sealed_pages.proofs.LastingLemmas.{keeping_of, keeping_now, kept_after, outside_none}
 use Rattle.sealed_pages.proofs.write_blob.WriteBlob.flush.Goals as goal
 
-pub returns-in_err-flushed-clause-lasts : goal.returns-in_err-flushed-clause-lasts
-returns-in_err-flushed-clause-lasts g c t kept = keeping_of (shown c.args.self) (Outside (run_of (shown c.args.self) ∷ [])) c.args.self.settled c.args.self.settled (blob_key (shown c.args.self)) (g.D.Device.time c.args.dev.now) (g.D.Device.time c.flushed.new.dev) kept (omega arith) (omega arith) kept.apart (c.flushed.ensures.spares t)
+pub returns-in_err-flushed : goal.returns-in_err-flushed
+returns-in_err-flushed g c =
+    record {
+      spares = c.in_err-flushed.ensures.spares;
+      over = λ t h1. no_value _ _ c.from_residual.ensures.0;
+      lasts = λ t kept. keeping_of (shown c.args.self) (Outside (run_of (shown c.args.self) ∷ [])) c.args.self.settled c.args.self.settled (blob_key (shown c.args.self)) (g.D.Device.time c.args.dev.now) (g.D.Device.time c.flushed.new.dev) kept (omega arith) (omega arith) kept.apart (c.flushed.ensures.spares t);
+      kept = λ t h1. no_value _ _ c.from_residual.ensures.0;
+      since = c.in_err-flushed.ensures.since;
+      bytes = λ t. no_value _ _ c.from_residual.ensures.0;
+      idle = no_value _ _ c.from_residual.ensures.0;
+      same = no_value _ _ c.from_residual.ensures.0;
+      untouched = c.in_err-flushed.ensures.untouched;
+      stays = λ idle. absurd (c.in_err-flushed.ensures.stays idle);
+      once = c.in_err-flushed.ensures.once;
+      «open» = no_value _ _ c.from_residual.ensures.0;
+      entries = c.in_err-flushed.ensures.entries;
+      faults = c.in_err-flushed.ensures.faults;
+      cause = search rules;
+    }
 
-pub returns-clause-lasts : goal.returns-clause-lasts
-returns-clause-lasts g c t kept = keeping_of (shown c.args.self) (Outside (run_of (shown c.args.self) ∷ [])) c.args.self.settled c.args.self.settled (blob_key (shown c.args.self)) (g.D.Device.time c.args.dev.now) (g.D.Device.time c.flushed.new.dev) kept (omega arith) (omega arith) kept.apart (c.flushed.ensures.spares t)
-
-pub returns-clause-kept : goal.returns-clause-kept
-returns-clause-kept g c t kept =
-    kept_after (shown c.args.self) (shown c.in_ok-flushed.field-0) (disk (g.D.Device.time c.args.dev.now) (blob_key (shown c.args.self))) (disk (g.D.Device.time c.flushed.new.dev) (blob_key (shown c.args.self))) kept
-    (keeping_now _ (blob_key (shown c.args.self)) (g.D.Device.time c.args.dev.now) (g.D.Device.time c.flushed.new.dev) (returns-clause-lasts g c t kept)) (ap (λ (x : WriteBuffer). x.settled) c.in_ok-flushed.ensures.same)
-    (λ i lt. ap (λ (l : List ℕ). get_or l i 0) (c.in_ok-flushed.ensures.bytes t)) (λ i lt. outside_none (shown c.in_ok-flushed.field-0) (ap (λ (x : WriteBuffer). x.pending) c.in_ok-flushed.ensures.same) i)
+pub returns : goal.returns
+returns g c =
+    record {
+      spares = c.in_ok-flushed.ensures.spares;
+      over = c.in_ok-flushed.ensures.over;
+      lasts = λ t kept. keeping_of (shown c.args.self) (Outside (run_of (shown c.args.self) ∷ [])) c.args.self.settled c.args.self.settled (blob_key (shown c.args.self)) (g.D.Device.time c.args.dev.now) (g.D.Device.time c.flushed.new.dev) kept (omega arith) (omega arith) kept.apart (c.flushed.ensures.spares t);
+      kept = λ t kept.
+          kept_after (shown c.args.self) (shown c.in_ok-flushed.field-0) (disk (g.D.Device.time c.args.dev.now) (blob_key (shown c.args.self))) (disk (g.D.Device.time c.flushed.new.dev) (blob_key (shown c.args.self))) kept
+          (keeping_now _ (blob_key (shown c.args.self)) (g.D.Device.time c.args.dev.now) (g.D.Device.time c.flushed.new.dev) (keeping_of (shown c.args.self) (Outside (run_of (shown c.args.self) ∷ [])) c.args.self.settled c.args.self.settled (blob_key (shown c.args.self)) (g.D.Device.time c.args.dev.now) (g.D.Device.time c.flushed.new.dev) kept (omega arith) (omega arith) kept.apart (c.flushed.ensures.spares t))) (ap (λ (x : WriteBuffer). x.settled) c.in_ok-flushed.ensures.same)
+          (λ i lt. ap (λ (l : List ℕ). get_or l i 0) (c.in_ok-flushed.ensures.bytes t)) (λ i lt. outside_none (shown c.in_ok-flushed.field-0) (ap (λ (x : WriteBuffer). x.pending) c.in_ok-flushed.ensures.same) i);
+      since = c.in_ok-flushed.ensures.since;
+      bytes = c.in_ok-flushed.ensures.bytes;
+      idle = c.in_ok-flushed.ensures.idle;
+      same = search rules;
+      untouched = c.in_ok-flushed.ensures.untouched;
+      stays = c.in_ok-flushed.ensures.stays;
+      once = c.in_ok-flushed.ensures.once;
+      «open» = c.in_ok-flushed.ensures.«open»;
+      entries = c.in_ok-flushed.ensures.entries;
+      faults = c.in_ok-flushed.ensures.faults;
+      cause = tt;
+    }
