@@ -1,6 +1,6 @@
 -- The one law of lending a section's buffer: it is taken out, a step is made on it that touches its blob alone, and
 -- what the step made of it is put back. That section alone has changed then, and so where a call in between failed.
-use Rattle.std.specs.Prelude.{◌≡◌, ◌≢◌, ℕ, ◌≤◌, None, Some, IsSome, Ok, Err}
+use Rattle.std.specs.Prelude.{◌≡◌, ℕ, ◌≤◌, None, Some, IsSome, Ok, Err}
 use Rattle.std.proofs.Common.{inr, refl, sym, ◌∙◌, ap, subst, arith}
 use Rattle.blob_device.specs.Disk.{Key}
 use Rattle.blob_device.specs.Timeline.{disk}
