@@ -25,6 +25,7 @@ pub mod CutSteps
 pub mod MarkSteps
 pub mod CappedEnds
 pub mod UnmarkedSteps
+pub mod TailSteps
 pub mod RecordCuts
 pub mod ValueEnds
 pub mod ValuesRemoved

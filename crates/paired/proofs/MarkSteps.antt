@@ -82,7 +82,7 @@ module _ {F S : Type 0} {gs : _} {g : buffer.Ghosts (PageBlob S gs)} {gives : F 
 
     moves_recall : Recalls l (disk a) d
     moves_recall = marks_phase l apart (disk a) d (λ _. false) true marking (λ s. refl) (λ image old markers crash fresh back lawful.
-        let same : markers ≡ contents_of u = markers_one known t map_readable old (λ is side. back.own (blob_of l.metadata side) (inr (inr (refl, (side, refl))))) markers lawful in
+        let same : markers ≡ contents_of u = markers_one known.marks t map_readable old (λ is side. back.own (blob_of l.metadata side) (inr (inr (refl, (side, refl))))) markers lawful in
         let was : IsLawful l old (contents_of u) = subst (IsLawful l old) same lawful in
         elim (moves.keeps.crash (image (blob_of l.metadata Left)) (image (blob_of l.metadata Right)) (crash (blob_of l.metadata Left)) (crash (blob_of l.metadata Right)) (fresh.copies is_marked Left) (fresh.copies is_marked Right))
         as (λ _. (found : Markers) × HoldMarkers l image found × HasNoFloor found × AreTrueOf l old found) [

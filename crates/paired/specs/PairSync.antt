@@ -5,10 +5,25 @@ use Rattle.blob_device.specs.Timeline.{Timeline, disk, Always}
 use Rattle.sealed_pages.specs.declared.page_blob.PageBlob.{PageBlob}
 use Rattle.section_manager.specs.Sections.{IsHeld, IsSame, SameBounds}
 use Rattle.meta_store.specs.Blobs.{blob_of, other_side}
+use Rattle.meta_store.specs.Crashes.{Mapping}
+use Rattle.meta_store.specs.Store.{contents_of}
 use Rattle.paired.specs.glob.Sections as glob
-use Rattle.paired.specs.Kept.{IsMarked, IsSameLayout, marker_of}
+use Rattle.paired.specs.Kept.{Markers, IsMarked, IsSameLayout, marker_of}
 use Rattle.paired.specs.Crashes.{IsCopy, IsIndexOf, IsOwn, IsValuesOf, InOrder, Keeping}
 use Rattle.paired.specs.Pair.{Pair, IsSafeOn, IsMoving, list_of, length_of, synced_length}
+
+-- The markers of sections that are not active were moved, in one write of the copies.
+pub record MovesMarkers {F B : Type 0} (p : Pair F B) (IsActive : ℕ → Type 0) (old new : Timeline) : Type 0 where
+  -- to these
+  pub moved : Markers
+  -- each was there, or is what was synced of its section
+  pub marked : (s m : ℕ) → IsMarked moved.entries s m
+      → IsMarked p.store.entries s m ⊎ ((IsActive s → ⊥) × (m ≡ synced_length p s))
+  -- the floor stays
+  pub floor : moved.floor ≡ p.store.floor
+  -- At each moment, also where the call fails, the copies hold the markers as they were, or these;
+  -- no other blob changes.
+  pub moments : Mapping p.layout.markers p.layout.metadata (contents_of p.store) moved old new
 
 module _ {F S : Type 0} {gs : _} (p : Pair F (PageBlob S gs)) (IsNamed IsActive : ℕ → Type 0) where
   -- The pair r is what a sync of the named sections made of p, which moved the markers of the sections that are not active.

@@ -347,19 +347,40 @@ module _ (l : Layout) (apart : AreApart l) (from d : Disk) (IsChanged : ℕ → 
       pub index : (left : Option (List ℕ)) → MayLeave (d (section_key l.index s)) left → (left ≡ reads (from (section_key l.index s))) ⊎ (records l.record_size (sealed_prefix l.seal l.page_size (unwrap_or left [])) ≡ [])
       pub values : (left : Option (List ℕ)) → MayLeave (d (section_key l.values s)) left → unwrap_or left [] ≡ content_at (as_read from) l.values s
 
+    module _ (Rel : Relation) (order : IsOrder Rel) (marker : ℕ → ℕ) (has : HasMarkers marker) (image old : Image) (crash : IsCrashOf d image) (back : IsBack image old) (markers : Markers) (lawful : IsLawful l old markers) (s : ℕ) (small : s < 2 ^ 64) (changed : IsTrue (IsChanged s))
+        (unmarked : (m : ℕ) → IsMarked markers.entries s m → ⊥) (drop : IsDropped Rel (marker s) s) where
+      values_same : content_at image l.values s ≡ content_at old l.values s
+      values_same = drop.values (image (section_key l.values s)) (crash (section_key l.values s)) ∙ sym (values_read image old back s small changed)
+
+      list_old : kept l old (marker_of markers.entries s) s ≡ kept l (as_read from) (marker s) s
+      list_old =
+          let same_marker : marker_of markers.entries s ≡ marker s = has image old markers crash back lawful s small in
+          (λ i. map (entry_of l.place (values_read image old back s small changed i))
+          (front (read_sound image old back s small changed i) (same_marker i) 0 (read_records image old back s small changed i)))
+
+      dropped : KeptBy l Rel old image markers s
+      dropped = elim (drop.index (image (section_key l.index s)) (crash (section_key l.index s))) [
+        | inl same ↦ as_before l Rel order old image markers s (same ∙ sym (index_read image old back s small changed)) values_same
+        | inr bare ↦ index_removed l Rel order old image markers s unmarked bare (subst (Rel s []) (sym list_old) drop.allowed)
+      ]
+
+    -- no lawful image that is put back has a marker of the section
+    abbrev pub IsUnmarkedAt : ℕ → Type 0
+    IsUnmarkedAt s = (image old : Image) (markers : Markers) → IsCrashOf d image → IsBack image old → IsLawful l old markers → (m : ℕ) → IsMarked markers.entries s m → ⊥
+
+    -- of sections some are cut, and others removed
+    pub cut_or_dropped_by : (Rel : Relation) → IsOrder Rel → copies ≡ false → 1 ≤ l.record_size → (marker : ℕ → ℕ) → HasMarkers marker
+        → ((s : ℕ) → s < 2 ^ 64 → IsTrue (IsChanged s) → IsCut Rel (marker s) s ⊎ (IsDropped Rel (marker s) s × IsUnmarkedAt s)) → RecallsBy l Rel from d
+    cut_or_dropped_by Rel order still pos marker has each = sections_by Rel order still (λ image old crash fresh back markers lawful s small changed. elim (each s small changed) [
+      | inl cut ↦ shortened Rel order pos image old crash fresh back markers s small changed (subst (λ (m : ℕ). IsCut Rel m s) (sym (has image old markers crash back lawful s small)) cut)
+      | inr drop ↦ dropped Rel order marker has image old crash back markers lawful s small changed (drop.1 image old markers crash back lawful) drop.0
+    ])
+
     pub removed_by : (Rel : Relation) → IsOrder Rel → copies ≡ false → (marker : ℕ → ℕ) → HasMarkers marker
         → ((image old : Image) (markers : Markers) → IsCrashOf d image → IsBack image old → IsLawful l old markers → (s m : ℕ) → IsTrue (IsChanged s) → IsMarked markers.entries s m → ⊥)
         → ((s : ℕ) → s < 2 ^ 64 → IsTrue (IsChanged s) → IsDropped Rel (marker s) s) → RecallsBy l Rel from d
     removed_by Rel order still marker has unmarked each = sections_by Rel order still (λ image old crash fresh back markers lawful s small changed.
-        let drop = each s small changed in
-        let values : content_at image l.values s ≡ content_at old l.values s = drop.values (image (section_key l.values s)) (crash (section_key l.values s)) ∙ sym (values_read image old back s small changed) in
-        let same_marker : marker_of markers.entries s ≡ marker s = has image old markers crash back lawful s small in
-        let list_old : kept l old (marker_of markers.entries s) s ≡ kept l (as_read from) (marker s) s = (λ i. map (entry_of l.place (values_read image old back s small changed i))
-        (front (read_sound image old back s small changed i) (same_marker i) 0 (read_records image old back s small changed i))) in
-        elim (drop.index (image (section_key l.index s)) (crash (section_key l.index s))) [
-          | inl same ↦ as_before l Rel order old image markers s (same ∙ sym (index_read image old back s small changed)) values
-          | inr bare ↦ index_removed l Rel order old image markers s (λ m. unmarked image old markers crash back lawful s m changed) bare (subst (Rel s []) (sym list_old) drop.allowed)
-        ])
+        dropped Rel order marker has image old crash back markers lawful s small changed (λ m. unmarked image old markers crash back lawful s m changed) (each s small changed))
 
     -- ---- values are cut, or removed
     -- The section's values are cut to n bytes, behind the last record's; all its records are kept, and left as they read; each crash leaves these bytes.

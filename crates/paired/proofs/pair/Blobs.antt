@@ -12,7 +12,7 @@ use Rattle.paired.specs.Holding.{Facts, IsLasting, IsFading, LeavesNoRecords, Va
 use Rattle.paired.proofs.RecordLemmas.{records-front}
 
 -- a blob under removal was there, or unsure
-again : (t u : Bool) → IsTrue (t || (t || u)) → IsTrue (t || u)
+pub again : (t u : Bool) → IsTrue (t || (t || u)) → IsTrue (t || u)
 again true u is = refl
 again false u is = is
 

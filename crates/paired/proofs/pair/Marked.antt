@@ -24,6 +24,7 @@ use Rattle.paired.specs.glob.Sections as glob
 use Rattle.paired.specs.Holding.{Facts, AreGood, AreTrue, Holding}
 use Rattle.paired.specs.Kept.{Markers, MarkerMap, IsMarked, marker_of, HasNoFloor}
 use Rattle.paired.specs.Pair.{Pair, IsPair, IsSoundOn, IsMoving, list_of, length_of, synced_length}
+use Rattle.paired.specs.PairSync.{MovesMarkers}
 use Rattle.paired.specs.Places.{Follow, end_of}
 use Rattle.paired.specs.Records.{records, entries_of, is_sound}
 use Rattle.paired.proofs.GlobLemmas.{buffers}
@@ -260,6 +261,20 @@ module _ {F S : Type 0} {gs : _} (g : buffer.Ghosts (PageBlob S gs)) (gives : F 
     pub markers_keep : metadata.Mapping p.layout.markers p.layout.metadata (contents_of p.store) markers a b → Keeping p.layout (list_of p (disk a)) (synced_length p) (λ _. ⊥) (IsCopy p.layout) a b
     markers_keep maps = sync_markers p.layout here.some pair.apart.values pair.apart.metadata pair.apart.both facts good (λ _. ⊥) (IsCopy p.layout) facts (contents_of p.store) (contents_of p.store) markers a b
         good (λ s. refl) (λ s. omega arith) holding still_marked true_markers (λ q is. is) maps
+
+-- what a write of the copies moves, after which they hold these markers
+pub moves_markers : {F B : Type 0} (p : Pair F B) (IsActive : ℕ → Type 0) (v : Store Key8 ℕ) (a b : Timeline) → v.partition ≡ p.layout.metadata → v.floor ≡ p.store.floor
+    → ((s m : ℕ) → IsMarked v.entries s m → IsMarked p.store.entries s m ⊎ ((IsActive s → ⊥) × (p.trailing s ≡ Some m)))
+    → metadata.Mapping p.layout.markers v.partition (contents_of p.store) (contents_of v) a b → MovesMarkers p IsActive a b
+moves_markers p IsActive v a b placed floor marked maps = record {
+  moved = contents_of v;
+  marked = λ s m is. elim (marked s m is) [
+    | inl was ↦ inl was
+    | inr moved ↦ inr (moved.0, sym (ap (λ (o : Option ℕ). unwrap_or o (marker_of p.store.entries s)) moved.1))
+  ];
+  floor = floor;
+  moments = subst (λ (k : List ℕ). metadata.Mapping p.layout.markers k (contents_of p.store) (contents_of v) a b) placed maps;
+}
 
 -- while no call is made
 pub lists_keep : {F S : Type 0} {gs : _} (g : buffer.Ghosts (PageBlob S gs)) (gives : F → Setting) {takes : WriteFactory → Setting} (told : Type 0) (p : Pair F (PageBlob S gs)) (o : OpenedList) (a : Timeline) (here : Here gives p)

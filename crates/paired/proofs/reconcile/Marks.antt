@@ -74,7 +74,7 @@ module _ {F S : Type 0} {gs : _} {g : buffer.Ghosts (PageBlob S gs)} {gives : F 
       old_stored s small = ap (λ (c : List ℕ). records run.layout.record_size (sealed_prefix run.layout.seal run.layout.page_size c)) (old_index s small) ∙ stored_at did.joint.rests t s small ∙ did.joint.records t s
 
       same_markers : markers ≡ contents_of run.store
-      same_markers = markers_one (known_of did.joint.rests) t map_readable old (λ is side. back_to.own (blob_of run.layout.metadata side) (inr (inr (refl, (side, refl))))) markers lawful
+      same_markers = markers_one did.joint.rests.marks t map_readable old (λ is side. back_to.own (blob_of run.layout.metadata side) (inr (inr (refl, (side, refl))))) markers lawful
 
       -- so the given records are in place
       marked_sound : (s : ℕ) → s < 2 ^ 64 → IsHeld run.walk.journal.sections s → AllByRecursion (λ r. IsTrue (is_sound_over run (disk a) s r)) (take (marker run s) (records_given run (disk a) s))

@@ -4,7 +4,7 @@ use Rattle.std.specs.Prelude.{is_some}
 use Rattle.std.specs.Option.{option_map}
 use Rattle.std.proofs.lemmas.Bool.{cases_Bool, cases_lt}
 use Rattle.std.proofs.lemmas.List.{take_all}
-use Rattle.blob_device.specs.Disk.{Key, Blob, Disk, Image, MayLeave, reads}
+use Rattle.blob_device.specs.Disk.{Key, Blob, Disk, Image, IsCrashOf, MayLeave, reads}
 use Rattle.blob_device.specs.Opened.{OpenedList}
 use Rattle.blob_device.specs.Timeline.{Each}
 use Rattle.sealed_pages.specs.Buffer.{bytes_of, size_of}
@@ -43,9 +43,9 @@ use Rattle.paired.specs.Pair.{AreApart}
 use Rattle.paired.specs.Places.{last_end}
 use Rattle.paired.specs.Reconciling.{CutTo, EndOf, Shortening}
 use Rattle.paired.specs.Records.{records, front}
-use Rattle.paired.proofs.opening.Phases.{IsPhase, IsCut, IsTrimmed, IsBare, HasMarkers, not_copy, records_by, values_by}
+use Rattle.paired.proofs.opening.Phases.{IsPhase, IsBack, IsCut, IsTrimmed, IsBare, HasMarkers, not_copy, records_by, values_by}
 use Rattle.paired.proofs.RecordLemmas.{length-records, item_ends}
-use Rattle.paired.proofs.reconcile.Resting.{Resting, Known, known_of, known_no_chance, absent_of, index_number, values_number, index_key, values_key, paged, all_of, value_idle, index_settles, index_rest, index_absent, stored_at, none_stored, values_rest, values_absent, frames_at, copy_rest, rests_no_chance, rest_left, rest_there, left_bare, reads_there, reads_absent}
+use Rattle.paired.proofs.reconcile.Resting.{Resting, Known, MarksRest, known_no_chance, absent_of, index_number, values_number, index_key, values_key, paged, all_of, value_idle, index_settles, index_rest, index_absent, stored_at, none_stored, values_rest, values_absent, frames_at, copy_rest, rests_no_chance, rest_left, rest_there, left_bare, reads_there, reads_absent}
 use Rattle.paired.proofs.Ends.{Bare, Bounds, CutsTo, Ends}
 
 -- ---- small facts
@@ -122,33 +122,38 @@ module _ {F S : Type 0} {gs : _} {g : buffer.Ghosts (PageBlob S gs)} {gives : F 
       ];
     }
 
-  -- the copies hold the entries alone
-  module _ (readable : IsReadable l.markers) where
-    pub copies_hold : IsTrue l.marked → HoldMap l.markers (metadata.bytes_of (reads (d (blob_of l.metadata Left)))) (metadata.bytes_of (reads (d (blob_of l.metadata Right)))) (contents_of u)
-    copies_hold is =
-        let left : reads (d (blob_of l.metadata Left)) ≡ Some (d (blob_of l.metadata Left)).content = reads_there (d (blob_of l.metadata Left)) (rest_there (d (blob_of l.metadata Left)) (copy_rest known.marks t is Left)) in
-        let right : reads (d (blob_of l.metadata Right)) ≡ Some (d (blob_of l.metadata Right)).content = reads_there (d (blob_of l.metadata Right)) (rest_there (d (blob_of l.metadata Right)) (copy_rest known.marks t is Right)) in
-        subst (λ (x : Option (List ℕ)). HoldMap l.markers (metadata.bytes_of x) (metadata.bytes_of (reads (d (blob_of l.metadata Right)))) (contents_of u)) (sym left)
-        (subst (λ (x : Option (List ℕ)). HoldMap l.markers (d (blob_of l.metadata Left)).content (metadata.bytes_of x) (contents_of u)) (sym right)
-        (subst (λ (p : List ℕ). HoldMap l.markers (d (blob_of p Left)).content (d (blob_of p Right)).content (contents_of u)) (known.marks.here is)
-        (record { chosen = chosen_by u (contents_of u); reads = (known.marks.stands t is).pair; map = refl })))
+-- ---- markers that are synced
+-- the copies hold the entries alone
+module _ {told : Type 0} {l : Layout} {u : Store Key8 ℕ} {d : Disk} (marks : MarksRest told l u d) (t : told) (readable : IsReadable l.markers) where
+  pub copies_hold : IsTrue l.marked → HoldMap l.markers (metadata.bytes_of (reads (d (blob_of l.metadata Left)))) (metadata.bytes_of (reads (d (blob_of l.metadata Right)))) (contents_of u)
+  copies_hold is =
+      let left : reads (d (blob_of l.metadata Left)) ≡ Some (d (blob_of l.metadata Left)).content = reads_there (d (blob_of l.metadata Left)) (rest_there (d (blob_of l.metadata Left)) (copy_rest marks t is Left)) in
+      let right : reads (d (blob_of l.metadata Right)) ≡ Some (d (blob_of l.metadata Right)).content = reads_there (d (blob_of l.metadata Right)) (rest_there (d (blob_of l.metadata Right)) (copy_rest marks t is Right)) in
+      subst (λ (x : Option (List ℕ)). HoldMap l.markers (metadata.bytes_of x) (metadata.bytes_of (reads (d (blob_of l.metadata Right)))) (contents_of u)) (sym left)
+      (subst (λ (x : Option (List ℕ)). HoldMap l.markers (d (blob_of l.metadata Left)).content (metadata.bytes_of x) (contents_of u)) (sym right)
+      (subst (λ (p : List ℕ). HoldMap l.markers (d (blob_of p Left)).content (d (blob_of p Right)).content (contents_of u)) (marks.here is)
+      (record { chosen = chosen_by u (contents_of u); reads = (marks.stands t is).pair; map = refl })))
 
-    -- so an image that has them as they read is lawful with these alone
-    pub markers_one : (old : Image) → (IsTrue l.marked → (side : Side) → old (blob_of l.metadata side) ≡ reads (d (blob_of l.metadata side))) → (markers : Markers) → IsLawful l old markers → markers ≡ contents_of u
-    markers_one old same markers lawful = elim (cases_Bool l.marked) [
-      | inr not ↦ lawful.held.none not ∙ sym (known.marks.none not)
-      | inl is ↦ one_map l.markers readable (metadata.bytes_of (old (blob_of l.metadata Left))) (metadata.bytes_of (old (blob_of l.metadata Right))) markers (contents_of u) (lawful.held.copies is)
-          (subst (λ (x : Option (List ℕ)). HoldMap l.markers (metadata.bytes_of x) (metadata.bytes_of (old (blob_of l.metadata Right))) (contents_of u)) (sym (same is Left))
-          (subst (λ (x : Option (List ℕ)). HoldMap l.markers (metadata.bytes_of (reads (d (blob_of l.metadata Left)))) (metadata.bytes_of x) (contents_of u)) (sym (same is Right)) (copies_hold is)))
-    ]
+  -- so an image that has them as they read is lawful with these alone
+  pub markers_one : (old : Image) → (IsTrue l.marked → (side : Side) → old (blob_of l.metadata side) ≡ reads (d (blob_of l.metadata side))) → (markers : Markers) → IsLawful l old markers → markers ≡ contents_of u
+  markers_one old same markers lawful = elim (cases_Bool l.marked) [
+    | inr not ↦ lawful.held.none not ∙ sym (marks.none not)
+    | inl is ↦ one_map l.markers readable (metadata.bytes_of (old (blob_of l.metadata Left))) (metadata.bytes_of (old (blob_of l.metadata Right))) markers (contents_of u) (lawful.held.copies is)
+        (subst (λ (x : Option (List ℕ)). HoldMap l.markers (metadata.bytes_of x) (metadata.bytes_of (old (blob_of l.metadata Right))) (contents_of u)) (sym (same is Left))
+        (subst (λ (x : Option (List ℕ)). HoldMap l.markers (metadata.bytes_of (reads (d (blob_of l.metadata Left)))) (metadata.bytes_of x) (contents_of u)) (sym (same is Right)) (copies_hold is)))
+  ]
 
-    -- where the copies stay, each lawful image has the same markers
-    pub has_markers : (apart : AreApart l) (x : Disk) (IsChanged : ℕ → Bool) (phase : IsPhase l apart d x IsChanged false) → HasMarkers l apart d x IsChanged false phase (λ s. marker_of u.entries s)
-    has_markers apart x IsChanged phase image old markers crash back lawful s small =
-        ap (λ (ms : Markers). marker_of ms.entries s) (markers_one old (λ is side.
-        back.other (blob_of l.metadata side) (not_copy l apart d x IsChanged false side refl)
-        ∙ rest_left (d (blob_of l.metadata side)) (copy_rest known.marks t is side) (image (blob_of l.metadata side))
-        (subst (λ (b : Blob). MayLeave b (image (blob_of l.metadata side))) (phase.others (blob_of l.metadata side) (not_copy l apart d x IsChanged false side refl)) (crash (blob_of l.metadata side)))) markers lawful)
+  -- where the copies stay, each lawful image has the same markers
+  pub same_markers : (apart : AreApart l) (x : Disk) (IsChanged : ℕ → Bool) (phase : IsPhase l apart d x IsChanged false) (image old : Image) (markers : Markers) → IsCrashOf x image → IsBack l apart d x IsChanged false image old → IsLawful l old markers → markers ≡ contents_of u
+  same_markers apart x IsChanged phase image old markers crash back lawful =
+      markers_one old (λ is side.
+      back.other (blob_of l.metadata side) (not_copy l apart d x IsChanged false side refl)
+      ∙ rest_left (d (blob_of l.metadata side)) (copy_rest marks t is side) (image (blob_of l.metadata side))
+      (subst (λ (b : Blob). MayLeave b (image (blob_of l.metadata side))) (phase.others (blob_of l.metadata side) (not_copy l apart d x IsChanged false side refl)) (crash (blob_of l.metadata side)))) markers lawful
+
+  pub has_markers : (apart : AreApart l) (x : Disk) (IsChanged : ℕ → Bool) (phase : IsPhase l apart d x IsChanged false) → HasMarkers l apart d x IsChanged false phase (λ s. marker_of u.entries s)
+  has_markers apart x IsChanged phase image old markers crash back lawful s small =
+      ap (λ (ms : Markers). marker_of ms.entries s) (same_markers apart x IsChanged phase image old markers crash back lawful)
 
 module _ {F S : Type 0} {gs : _} {g : buffer.Ghosts (PageBlob S gs)} {gives : F → Setting} {takes : WriteFactory → Setting} {told : Type 0} {l : Layout}
     {j : Lists F (PageBlob S gs)} {m : Sections WriteFactory WriteBlob} {u : Store Key8 ℕ} {o : OpenedList} {d : Disk} (rests : Resting g gives takes told l j m u o d) (t : told) where
@@ -218,7 +223,7 @@ module _ {F S : Type 0} {gs : _} {g : buffer.Ghosts (PageBlob S gs)} {gives : F 
       }
 
       pub cutting_recalls : (Rel : Relation) → IsOrder Rel → RecallsBy l Rel d x
-      cutting_recalls Rel order = values_by l apart d x (λ s. is_some (j.sections.held s)) false trimming Rel order refl (λ s. marker_of u.entries s) (has_markers (known_of rests) t map_readable apart x (λ s. is_some (j.sections.held s)) trimming)
+      cutting_recalls Rel order = values_by l apart d x (λ s. is_some (j.sections.held s)) false trimming Rel order refl (λ s. marker_of u.entries s) (has_markers rests.marks t map_readable apart x (λ s. is_some (j.sections.held s)) trimming)
           (λ s small changed. inl (trimmed s small changed))
 
   -- ---- values without records are removed
@@ -246,7 +251,7 @@ module _ {F S : Type 0} {gs : _} {g : buffer.Ghosts (PageBlob S gs)} {gives : F 
         }
 
     pub removing_recalls : (Rel : Relation) → IsOrder Rel → RecallsBy l Rel d x
-    removing_recalls Rel order = values_by l apart d x (λ s. not (is_some (j.sections.held s))) false removing Rel order refl (λ s. marker_of u.entries s) (has_markers (known_of rests) t map_readable apart x (λ s. not (is_some (j.sections.held s))) removing)
+    removing_recalls Rel order = values_by l apart d x (λ s. not (is_some (j.sections.held s))) false removing Rel order refl (λ s. marker_of u.entries s) (has_markers rests.marks t map_readable apart x (λ s. not (is_some (j.sections.held s))) removing)
         (λ s small changed. inr (bare_now s small changed))
 
 -- ---- records are cut
@@ -310,7 +315,7 @@ module _ {F S : Type 0} {gs : _} {g : buffer.Ghosts (PageBlob S gs)} {gives : F 
     }
 
     pub shortening_recalls : RecallsBy l Rel d x
-    shortening_recalls = records_by l apart d x (λ s. is_some (ends s)) false shortening Rel bounds.order refl known.parts.some (λ s. marker_of u.entries s) (has_markers known t map_readable apart x (λ s. is_some (ends s)) shortening)
+    shortening_recalls = records_by l apart d x (λ s. is_some (ends s)) false shortening Rel bounds.order refl known.parts.some (λ s. marker_of u.entries s) (has_markers known.marks t map_readable apart x (λ s. is_some (ends s)) shortening)
         (λ s small changed. go s small (ends s) refl changed)
       where
         go : (s : ℕ) → s < 2 ^ 64 → (y : Option ℕ) → ends s ≡ y → IsTrue (is_some (ends s)) → IsCut l apart d x (λ s. is_some (ends s)) false shortening Rel (marker_of u.entries s) s

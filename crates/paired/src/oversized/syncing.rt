@@ -15,7 +15,7 @@ ghost use Rattle.paired.specs.Kept.{IsMarked, IsSameLayout, marker_of};
 ghost use Rattle.paired.specs.Pair.{IsPair, IsSafeOn, IsSoundOn, IsMoving, list_of, length_of, synced_length};
 ghost use Rattle.paired.specs.PairFaults.{AreAtRest, FaultsInOrder};
 ghost use Rattle.paired.specs.PairRefusing.{HasLostMarkers};
-ghost use Rattle.paired.specs.PairSync.{IsSyncOf, SyncKeeps};
+ghost use Rattle.paired.specs.PairSync.{IsSyncOf, MovesMarkers, SyncKeeps};
 ghost use Rattle.paired.specs.Tracked.{Trails, synced_of};
 ghost use Rattle.paired.specs.sighted.Shown as tracked;
 ghost use Rattle.segments.specs.FixedLists.{section_size};
@@ -228,6 +228,9 @@ impl<I: Record, V: Codec, S: Seal> Oversized<I, V, S> {
         ensures moments { D.Tells → IsSafeOn (shown I.place self) (disk (D.time dev.old)) → Keeping (shown I.place self).layout (list_of (shown I.place self) (disk (D.time dev.old))) (synced_length (shown I.place self)) (λ _. ⊥) (IsCopy (shown I.place self).layout) (D.time dev.old) (D.time dev.new) }
         ensures alone { D.Tells → Always (D.time dev.old) (D.time dev.new) (λ d. (q : Key) → (IsCopy (shown I.place self).layout q → ⊥) → d q ≡ disk (D.time dev.old) q) }
         ensures newer_stays { D.Tells → Always (D.time dev.old) (D.time dev.new) (λ d. d (blob_of (shown I.place self).layout.metadata (other_side (shown I.place self).store.older)) ≡ disk (D.time dev.old) (blob_of (shown I.place self).layout.metadata (other_side (shown I.place self).store.older))) }
+        // Also of a pair that is not sound.
+        ensures mapping { D.Tells
+            → MovesMarkers (shown I.place self) (Contains active.now) (D.time dev.old) (D.time dev.new) }
         ensures entries { (q : Key) → (IsCopy (shown I.place self).layout q → ⊥) → D.opened dev.new q ≡ D.opened dev.old q }
         ensures full { IsErrOf result Error.Full → (2 ^ 64 ≤ (shown I.place self).store.version + 1) × ((s : ℕ) × IsMoving (shown I.place self) (λ _. ⊥) (Contains active.now) s) }
         ensures no_version { 2 ^ 64 ≤ (shown I.place self).store.version + 1 → ((s : ℕ) × IsMoving (shown I.place self) (λ _. ⊥) (Contains active.now) s) → OnOk result ⊥ }

@@ -18,7 +18,7 @@ use Rattle.meta_store.proofs.SyncingLemmas.{stands_alone}
 use Rattle.paired.specs.Crashes.{IsCopy}
 use Rattle.paired.specs.PairShown.{shown}
 use Rattle.paired.specs.sighted.Shown as tracked
-use Rattle.paired.proofs.pair.Marked.{Moved, moved_on, moved_marked, marked_synced, moving_differs, none_trails, some_or_none, synced_unstaged, synced_same, synced_place, marked_again, marked_as, marked_sound_as, marked_lists, markers_keep}
+use Rattle.paired.proofs.pair.Marked.{Moved, moved_on, moved_marked, marked_synced, moving_differs, none_trails, some_or_none, synced_unstaged, synced_same, synced_place, marked_again, marked_as, marked_sound_as, marked_lists, markers_keep, moves_markers}
 use Rattle.paired.proofs.pair.Settling.{parts_of}
 use Rattle.paired.proofs.pair.FaultLemmas.{markers_apart}
 use Rattle.paired.proofs.pair.Failing.{full_markers, false_true, no_error, not_both}
@@ -460,3 +460,25 @@ returns-in_err-this-clause-fault g c has =
 pub returns-clause-marker_floor : goal.returns-clause-marker_floor
 returns-clause-marker_floor g c =
     ap (λ u. u.floor) c.in_ok-this.ensures.contents ∙ ap (λ u. u.floor) c.in_ok-stage.ensures.staged
+
+pub returns-in_err-stage-clause-mapping : goal.returns-in_err-stage-clause-mapping
+returns-in_err-stage-clause-mapping g c t =
+    let p = shown g.I.Record.place c.args.self in
+    let a = g.D.Device.time c.args.dev.now in
+    moves_markers p (Contains c.args.active.now) p.store a a refl refl (λ s m is. inl is) (stands_alone p.layout.markers p.store (contents_of p.store) (contents_of p.store) a (c.requires.over.disk t).markers)
+
+pub returns-in_err-this-clause-mapping : goal.returns-in_err-this-clause-mapping
+returns-in_err-this-clause-mapping g c t =
+    let p = shown g.I.Record.place c.args.self in
+    let a = g.D.Device.time c.args.dev.now in
+    let stage = c.in_ok-stage.ensures in
+    moves_markers p (Contains c.args.active.now) (tracked.shown c.stage.new.self).store a (g.D.Device.time c.sync.new.dev) (ap (λ u. u.partition) stage.staged) (ap (λ u. u.floor) stage.staged) stage.marked
+    (c.sync.ensures.crashes t (contents_of p.store) (stage.stands (contents_of p.store) (disk a) (c.requires.over.disk t).markers))
+
+pub returns-clause-mapping : goal.returns-clause-mapping
+returns-clause-mapping g c t =
+    let p = shown g.I.Record.place c.args.self in
+    let a = g.D.Device.time c.args.dev.now in
+    let stage = c.in_ok-stage.ensures in
+    moves_markers p (Contains c.args.active.now) (tracked.shown c.stage.new.self).store a (g.D.Device.time c.sync.new.dev) (ap (λ u. u.partition) stage.staged) (ap (λ u. u.floor) stage.staged) stage.marked
+    (c.sync.ensures.crashes t (contents_of p.store) (stage.stands (contents_of p.store) (disk a) (c.requires.over.disk t).markers))
