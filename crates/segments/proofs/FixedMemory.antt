@@ -2,8 +2,7 @@
 use Rattle.std.proofs.Common.{◌≡◌, ◌↔◌, inl, inr, ℕ, zero, suc, ◌+◌, ◌-◌, ◌*◌, ◌/◌, ◌<◌, ◌≤◌, min, eqb, cond, Bool, true, false, List, length, refl, sym, ◌∙◌, ap, subst, arith}
 use Rattle.std.specs.Prelude.{nat_eq}
 use Rattle.std.specs.List.{list_any}
-use Rattle.std.proofs.lemmas.Bool.{cases_eq, cases_lt}
-use Rattle.std.proofs.lemmas.Bool.Decides.{nat_tests}
+use Rattle.std.proofs.lemmas.Bool.{cases_eq, cases_lt, eq-eqb, eqb-true}
 use Rattle.std.proofs.Math.Nat.{mul-le-mul_right}
 use Rattle.sealed_pages.specs.Buffer.{Buffer, size_of, cached, is_cached, IsBacked}
 use Rattle.sealed_pages.specs.Cached.{uncached, IsCachedOf}
@@ -15,13 +14,10 @@ use Rattle.sealed_pages.proofs.SlotLemmas.{times_next}
 use Rattle.segments.proofs.FixedReadLemmas.{touched_most, touched_none, touched_some}
 
 eqb_none : (n : ℕ) → n ≡ 0 → eqb n 0 ≡ true
-eqb_none n none = grind (arith, nat_tests)
+eqb_none n none = eq-eqb n 0 none
 
 none_eqb : (n : ℕ) → eqb n 0 ≡ true → n ≡ 0
-none_eqb n is = grind (arith, nat_tests)
-
-some_eqb : (n : ℕ) → eqb n 0 ≡ false → n ≡ 0 → ⊥
-some_eqb n is none = absurd (cc (sym is ∙ eqb_none n none))
+none_eqb n is = eqb-true n 0 is
 
 counts_none : (b : Bool) → cond b 0 1 ≡ 0 → b ≡ true
 counts_none true none = refl

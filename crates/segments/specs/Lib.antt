@@ -8,8 +8,12 @@ pub mod FixedAdding
 pub mod FixedLists
 pub mod FixedLasting
 pub mod FixedShown
+pub mod FixedSettling
+pub mod FixedRemoving
+pub mod FixedCutting
 pub mod FixedReplay
 pub mod FixedStepping
+pub mod FixedNext
 pub mod FixedWalking
 pub mod FixedCursor
 pub mod FixedFloors
@@ -18,4 +22,5 @@ pub mod FixedOpens
 pub mod FixedBounds
 pub mod FixedDraining
 pub mod FixedGiving
+pub mod FixedFinishing
 pub mod FixedCheckpoint
