@@ -1,5 +1,6 @@
 -- How reading an item of a fixed journal ends.
-use Rattle.std.proofs.Common.{◌≡◌, ◌⊎◌, ◌↔◌, inl, inr, ℕ, ◌+◌, ◌*◌, ◌-◌, ◌/◌, ◌<◌, ◌≤◌, true, false, List, Option, Some, None, IsSome, IsSomeAnd, Result, Ok, Err, OnErr, IfOk, refl, sym, ◌∙◌, ap, subst, arith}
+use Rattle.std.proofs.Common.{◌≡◌, ◌⊎◌, ◌↔◌, count_by, map, inl, inr, ℕ, ◌+◌, ◌*◌, ◌-◌, ◌/◌, ◌<◌, ◌≤◌, true, false, List, Option, Some, None, IsSome, IsSomeAnd, Result, Ok, Err, OnErr, IfOk, refl, sym, ◌∙◌, ap, subst, arith}
+use Rattle.std.specs.List.{Contains}
 use Rattle.std.specs.Result.{IsErrOf}
 use Rattle.blob_device.specs.Disk.{Disk}
 use Rattle.blob_device.specs.Timeline.{disk}
@@ -21,11 +22,13 @@ use Rattle.section_manager.specs.declared.buffer.SectionBuffer as buffer
 use Rattle.section_manager.specs.declared.journal.Error.{Error}
 use Rattle.section_manager.specs.declared.journal.Error.TheVariants.{Codec, Runtime}
 use Rattle.section_manager.specs.declared.sealed.AppendFactory.{AppendFactory}
-use Rattle.section_manager.proofs.Seen.{err_same, failed_again}
-use Rattle.segments.specs.FixedGetting.{Gets, GetsLast, ReadsItem}
+use Rattle.section_manager.proofs.Seen.{err_same, failed_again, if_ok_weaker}
+use Rattle.section_manager.proofs.WalkLemmas.{some_same}
+use Rattle.segments.specs.FixedGetting.{Gets, GetsLast, GetsMany, ReadsEach, ReadsItem}
 use Rattle.segments.specs.FixedItems.{item_at, IsItem}
 use Rattle.segments.specs.FixedLists.{Lists, section_bytes, section_size, IsJournal}
-use Rattle.segments.specs.FixedReading.{is_item_held, HasItem, HasNotRead, IsAbsent, IsDamaged, IsItemCovered, IsPast}
+use Rattle.segments.specs.FixedReading.{is_item_held, unheld, HasItem, HasNotRead, IsAbsent, IsDamaged, IsItemCovered, IsPast}
+use Rattle.segments.proofs.FixedReadLemmas.{none_over}
 use Rattle.segments.proofs.FixedSections.{size_here, some_here, from_here, is_held, bytes_own, own_here, holds_own, journal_read, reads_as, sound_page}
 use Rattle.segments.proofs.FixedWriteLemmas.{ArePages}
 
@@ -264,3 +267,90 @@ module _ {S V D : Type 0} {gs : _} (g : buffer.Ghosts (PageBlob S gs)) (gives : 
         faults = omega arith;
         cause = elim why [ inl pruned ↦ inl (err_same pruned) | inr none ↦ inr (inl (err_same none)) ];
       })
+
+  -- ---- several items
+
+  module _ (positions : List ℕ) where
+    -- a section that is refused, or a position in it
+    pub many_refused : {T : Type 0} (r : Result (List V × ℕ) Error) (e : Error) → r ≡ Err e
+        → IsPruned {T = T} (Err e) j.sections.floor ↔ (section < j.sections.floor)
+        → IsAbsent {T = T} (Err e) section ↔ ((j.sections.floor ≤ section) × (j.sections.held section ≡ None))
+        → ((p : ℕ) → IsPast {T = T} (Err e) p → Contains positions p × IsSomeAnd (j.sections.held section) (λ u. size_of (shown u) / size ≤ p))
+        → ((p q : ℕ) → IsPast {T = T} (Err e) p → Contains positions q → q < p → IsSomeAnd (j.sections.held section) (λ u. HasItem size u q))
+        → ((u : PageBlob S gs) (p : ℕ) → j.sections.held section ≡ Some u → Contains positions p → size_of (shown u) / size ≤ p → (q : ℕ) × IsPast {T = T} (Err e) q)
+        → IsPruned {T = T} (Err e) j.sections.floor ⊎ (IsAbsent {T = T} (Err e) section ⊎ ((p : ℕ) × IsPast {T = T} (Err e) p))
+        → (IsSomeAnd (j.sections.held section) (λ u. ((p : ℕ) → Contains positions p → HasItem size u p) × (0 < unheld size u positions)) → ⊥)
+        → GetsMany g gives seal size spelling Accepts refusal dev j section old old positions r
+    many_refused {T = T} r e is guard absent past first inside why idle = subst (λ (x : Result (List V × ℕ) Error). GetsMany g gives seal size spelling Accepts refusal dev j section old old positions x) (sym is) (record {
+      items = λ t. tt;
+      accepted = tt;
+      held = tt;
+      guard = (λ pruned. guard.0 (err_same pruned), λ below. err_same (guard.1 below));
+      absent = (λ none. absent.0 (err_same none), λ none. err_same (absent.1 none));
+      past = λ p out. past p (err_same out);
+      first = λ p q out. first p q (err_same out);
+      inside = λ u p held has out. (let q = inside u p held has out in (q.0, err_same q.1));
+      checked = λ t. tt;
+      damaged = λ t k at. absurd (undamaged k at);
+      sound = λ t which k at. undamaged k at;
+      refused = λ t x at. absurd (uncoded x at);
+      over = journal;
+      unchanged = λ t. unchanged_start (dev.time old);
+      idle = λ not. refl;
+      reads = λ u held. record { others = λ q other. refl; length = λ x is. is; reads = omega arith };
+      faults = omega arith;
+      cause = elim why [ inl pruned ↦ inl (err_same pruned) | inr (inl none) ↦ inr (inl (err_same none)) | inr (inr (p, out)) ↦ inr (inr (inl (p, err_same out))) ];
+    })
+      where
+        undamaged : (k : ℕ) → IsErrOf {T = List V × ℕ} (Err e) (Runtime (InvalidChecksum k)) → ⊥
+        undamaged k at = elim why [ inl pruned ↦ cc (pruned, at) | inr (inl none) ↦ cc (none, at) | inr (inr (p, out)) ↦ cc (out, at) ]
+
+        uncoded : (x : codec.Error) → IsErrOf {T = List V × ℕ} (Err e) (Codec x) → ⊥
+        uncoded x at = elim why [ inl pruned ↦ cc (pruned, at) | inr (inl none) ↦ cc (none, at) | inr (inr (p, out)) ↦ cc (out, at) ]
+
+    -- they were read from the section's buffer
+    module _ (sealed : ArePages g seal) (page_of : (f : AppendFactory S) → (gives f).page_size ≡ f.pages.page_size) (u : PageBlob S gs) (held : j.sections.held section ≡ Some u)
+        (all : (p : ℕ) → Contains positions p → HasItem size u p) (r : Result (List V × ℕ) Error) (has : ReadsEach seal size spelling Accepts refusal dev u old new (disk (dev.time old) (pages.key_of (shown u))) positions r) where
+      backed_many : dev.Tells → IsBacked seal (shown u) (disk (dev.time old) (pages.key_of (shown u))).content
+      backed_many = backed sealed page_of u held
+
+      own_many : pages.key_of (shown u) ≡ key_of j.sections section
+      own_many = key_own sealed page_of u held
+
+      damaged_many : dev.Tells → (k : ℕ) → IsErrOf r (Runtime (InvalidChecksum k)) → IsSomeAnd (j.sections.held section) (λ v. (p : ℕ) × Contains positions p × IsDamaged size seal v (disk (dev.time old) (key_of j.sections section)).content p k)
+      damaged_many t k is = own_here j.sections section u held own_many (λ v b. (p : ℕ) × Contains positions p × IsDamaged size seal v b.content p k) (disk (dev.time old)) (has.damaged t (backed_many t) k is)
+
+      outside : (p : ℕ) → Contains positions p → IsSomeAnd (j.sections.held section) (λ v. size_of (shown v) / size ≤ p) → ⊥
+      outside p in_it past = omega (arith, all p in_it, from_here j.sections section u held (λ v. size_of (shown v) / size ≤ p) past)
+
+      pub many_got : GetsMany g gives seal size spelling Accepts refusal dev j section old new positions r
+      many_got = record {
+        items = λ t. subst (λ (l : List ℕ). IfOk r (λ x. map spelling x.0 ≡ map (item_at size l) positions)) (sym (bytes_own j.sections section u held own_many (disk (dev.time old)))) (has.items t (backed_many t));
+        accepted = has.accepted;
+        held = if_ok_weaker r has.held (λ v counted. some_here j.sections section u held (λ x. v.1 ≡ count_by (is_item_held size x) positions) counted);
+        guard = (λ pruned. absurd (read_unpruned (dev.faults old) (dev.faults new) r j.sections.floor has.cause pruned), λ below. absurd (omega (arith, below, floor_here sealed page_of u held)));
+        absent = (λ none. absurd (read_present (dev.faults old) (dev.faults new) r section has.cause none), λ none. (let no = none.1 in absurd (cc (held, no))));
+        past = λ p out. absurd (read_inside (dev.faults old) (dev.faults new) r p has.cause out);
+        first = λ p q out. absurd (read_inside (dev.faults old) (dev.faults new) r p has.cause out);
+        inside = λ v p is in_it out. absurd (outside p in_it (some_here j.sections section v is (λ x. size_of (shown x) / size ≤ p) out));
+        checked = λ t. on_ok r (own_here j.sections section u held own_many (λ v b. (p : ℕ) → Contains positions p → IsItemCovered size seal v b.content p) (disk (dev.time old))) (has.checked t (backed_many t));
+        damaged = damaged_many;
+        sound = λ t which k is. (let page = has.damaged t (backed_many t) k is in
+            sound_page g gives seal size dev.Tells j (dev.opened old) (disk (dev.time old)) journal t section (λ v. page.0) k which
+            (own_here j.sections section u held own_many (λ v b. IsDamaged size seal v b.content page.0 k) (disk (dev.time old)) page.2));
+        refused = λ t e is. (let page = has.refused t (backed_many t) e is in (
+          page.0,
+          page.1,
+          ap (λ (l : List ℕ). refusal (item_at size l page.0) tt) (bytes_own j.sections section u held own_many (disk (dev.time old))) ∙ page.2,
+          own_here j.sections section u held own_many (λ v b. IsItemCovered size seal v b.content page.0) (disk (dev.time old)) page.3,
+        ));
+        over = journal_read g gives seal size dev.Tells j (pages.key_of (shown u)) (dev.opened old) (dev.opened new) (disk (dev.time old)) (disk (dev.time new)) (only_read_of _ _ _ _ has.reads)
+            (λ t. unchanged_now (dev.time old) (dev.time new) (has.unchanged t)) journal;
+        unchanged = has.unchanged;
+        idle = λ not. has.idle (none_over (unheld size u positions) (λ some. not (some_here j.sections section u held (λ v. ((p : ℕ) → Contains positions p → HasItem size v p) × (0 < unheld size v positions)) (all, some))));
+        reads = λ v is. (let it : u ≡ v = some_same u v (sym held ∙ is) in
+            reads_as (unheld size u positions * (size / u.page_size + 2)) (unheld size v positions * (size / j.sections.factory.pages.page_size + 2)) (pages.key_of (shown u)) (key_of j.sections section) (dev.opened old) (dev.opened new)
+            (ap (λ (P : ℕ). unheld size u positions * (size / P + 2)) (page_own sealed page_of u held) ∙ ap (λ (x : PageBlob S gs). unheld size x positions * (size / j.sections.factory.pages.page_size + 2)) it) own_many has.reads);
+        faults = has.faults;
+        cause = on_err r (λ cause. inr (inr (inr cause))) has.cause;
+      }

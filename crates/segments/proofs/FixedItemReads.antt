@@ -1,6 +1,7 @@
 -- How reading an item of one buffer ends.
-use Rattle.std.proofs.Common.{◌≡◌, ◌⊎◌, inl, inr, ℕ, ◌+◌, ◌/◌, ◌≤◌, true, List, Option, Some, Result, Ok, Err, refl, sym, ◌∙◌, ap, subst, arith}
-use Rattle.std.specs.Result.{IsErrOf}
+use Rattle.std.proofs.Common.{◌≡◌, ◌⊎◌, inl, inr, ℕ, ◌+◌, ◌/◌, ◌≤◌, true, List, Option, Some, Result, Ok, Err, OnOk, OnErr, ◌*◌, refl, sym, ◌∙◌, ap, subst, arith}
+use Rattle.std.specs.List.{Contains}
+use Rattle.std.specs.Result.{IsErr, IsErrOf}
 use Rattle.blob_device.specs.Disk.{Blob}
 use Rattle.blob_device.specs.Timeline.{disk}
 use Rattle.blob_device.specs.declared.device.Device as device
@@ -18,10 +19,11 @@ use Rattle.section_manager.specs.Refusing.{HasFailed}
 use Rattle.section_manager.specs.declared.journal.Error.{Error}
 use Rattle.section_manager.specs.declared.journal.Error.TheVariants.{Codec, Mem, Runtime}
 use Rattle.section_manager.proofs.Seen.{err_same, failed_again}
-use Rattle.segments.specs.FixedGetting.{ReadsItem}
+use Rattle.segments.specs.FixedGetting.{ReadsEach, ReadsItem}
 use Rattle.segments.specs.FixedItems.{item_at, IsItem}
-use Rattle.segments.specs.FixedReading.{is_item_held, IsDamaged, IsItemCovered}
+use Rattle.segments.specs.FixedReading.{is_item_held, unheld, HasNotRead, IsDamaged, IsItemCovered}
 use Rattle.segments.proofs.FixedErrors.{codec_of}
+use Rattle.segments.proofs.FixedPassing.{no_value}
 
 module _ {S V D : Type 0} {gs : _} (seal : List ℕ → ℕ) (size : ℕ) (spelling : V → List ℕ) (Accepts : V → Unit {0} → Type 0) (refusal : List ℕ → Unit {0} → Option codec.Error) (dev : device.Ghosts D)
     (u : PageBlob S gs) (old new : D) (b : Blob) (position : ℕ) where
@@ -108,3 +110,32 @@ pub reads_none : {S V D : Type 0} {gs : _} (seal : List ℕ → ℕ) (size : ℕ
 reads_none seal size spelling Accepts refusal dev u old b position r is =
     reads_failed seal size spelling Accepts refusal dev u old old b position (λ held. refl) (λ t. unchanged_start (dev.time old)) (record { others = λ q other. refl; length = λ x is. is; reads = omega arith }) (omega arith) {T = _} r Mem is
     (λ t backed k at. absurd (cc at)) (inr (inl refl))
+
+-- some items of several were read, and then no more
+pub each_failed : {S V D : Type 0} {gs : _} (seal : List ℕ → ℕ) (size : ℕ) (spelling : V → List ℕ) (Accepts : V → Unit {0} → Type 0) (refusal : List ℕ → Unit {0} → Option codec.Error) (dev : device.Ghosts D) (u : PageBlob S gs) (old new : D) (b : Blob)
+    (positions : List ℕ) (r : Result (List V × ℕ) Error) (e : Error) → r ≡ Err e → (dev.Tells → Unchanged (dev.time old) (dev.time new)) → (unheld size u positions ≡ 0 → new ≡ old)
+    → ReadsAtMost (unheld size u positions * (size / u.page_size + 2)) (key_of (shown u)) (dev.opened old) (dev.opened new) → dev.faults old ≤ dev.faults new
+    → (dev.Tells → IsBacked seal (shown u) b.content → (k : ℕ) → IsErrOf r (Runtime (InvalidChecksum k)) → ((p : ℕ) × Contains positions p × IsDamaged size seal u b.content p k))
+    → (dev.Tells → IsBacked seal (shown u) b.content → (x : codec.Error) → IsErrOf r (Codec x) → ((p : ℕ) × Contains positions p × (refusal (item_at size (bytes_of (shown u) b.content) p) tt ≡ Some x) × IsItemCovered size seal u b.content p))
+    → OnErr r (HasNotRead r (dev.faults old) (dev.faults new)) → ReadsEach seal size spelling Accepts refusal dev u old new b positions r
+each_failed {V = V} seal size spelling Accepts refusal dev u old new b positions r e is unchanged idle reads faults damaged refused cause = record {
+  items = λ t backed. no_value _ r (of_err r e is);
+  accepted = no_value _ r (of_err r e is);
+  held = no_value _ r (of_err r e is);
+  checked = λ t backed. never_ok r e is;
+  damaged = damaged;
+  refused = refused;
+  unchanged = unchanged;
+  idle = idle;
+  reads = reads;
+  faults = faults;
+  cause = cause;
+}
+  where
+    of_err : (x : Result (List V × ℕ) Error) (y : Error) → x ≡ Err y → IsErr x
+    of_err (Ok v) y same = absurd (cc same)
+    of_err (Err z) y same = refl
+
+    never_ok : {Q : Type 0} (x : Result (List V × ℕ) Error) (y : Error) → x ≡ Err y → OnOk x Q
+    never_ok (Ok v) y same = absurd (cc same)
+    never_ok (Err z) y same = tt

@@ -1,12 +1,13 @@
 -- Which items of a fixed journal are in memory whole, and what that says of their pages.
-use Rattle.std.proofs.Common.{◌≡◌, ◌↔◌, inl, inr, ℕ, zero, suc, ◌+◌, ◌-◌, ◌*◌, ◌/◌, ◌<◌, ◌≤◌, min, eqb, cond, Bool, true, false, List, length, refl, sym, ◌∙◌, ap, subst, arith}
+use Rattle.std.proofs.Common.{◌≡◌, ◌↔◌, inl, inr, ℕ, zero, suc, ◌+◌, ◌-◌, ◌*◌, ◌/◌, ◌<◌, ◌≤◌, min, eqb, cond, count_by, Bool, true, false, List, length, get_or, take, refl, sym, ◌∙◌, ap, subst, arith}
 use Rattle.std.specs.Prelude.{nat_eq}
 use Rattle.std.specs.List.{list_any}
 use Rattle.std.proofs.lemmas.Bool.{cases_eq, cases_lt, eq-eqb, eqb-true}
+use Rattle.std.proofs.lemmas.List.Sums.{count_by_more_yes, count_by-le-length, sum_by-take-le}
 use Rattle.std.proofs.Math.Nat.{mul-le-mul_right}
 use Rattle.sealed_pages.specs.Buffer.{Buffer, size_of, cached, is_cached, IsBacked}
 use Rattle.sealed_pages.specs.Cached.{uncached, IsCachedOf}
-use Rattle.sealed_pages.specs.Reads.{IsHeld, IsCovered, IsWanted, touched, below, missing_pages}
+use Rattle.sealed_pages.specs.Reads.{IsCacheFor, IsHeld, IsCovered, IsWanted, touched, below, missing_pages}
 use Rattle.sealed_pages.proofs.CacheLemmas.{found_page_has, uncached_most}
 use Rattle.sealed_pages.proofs.HeldLemmas.{held_from, held_to, wanted_low}
 use Rattle.sealed_pages.proofs.Holding.{bool_or, div_place}
@@ -19,7 +20,7 @@ eqb_none n none = eq-eqb n 0 none
 none_eqb : (n : ℕ) → eqb n 0 ≡ true → n ≡ 0
 none_eqb n is = eqb-true n 0 is
 
-counts_none : (b : Bool) → cond b 0 1 ≡ 0 → b ≡ true
+counts_none : (b : Bool) → ◌≡◌ {A = ℕ} (cond b 0 1) 0 → b ≡ true
 counts_none true none = refl
 counts_none false none = absurd (omega (arith, none))
 
@@ -31,7 +32,7 @@ uncached_none pages k (suc n) none j low high = elim (cases_eq j (k + n)) [
   | inr other ↦ uncached_none pages k n (omega (arith, none)) j low (omega (arith, high, other))
 ]
 
-counted_none : (b : Bool) → b ≡ true → cond b 0 1 ≡ 0
+counted_none : (b : Bool) → b ≡ true → ◌≡◌ {A = ℕ} (cond b 0 1) 0
 counted_none true is = refl
 counted_none false is = absurd (cc is)
 
@@ -89,9 +90,17 @@ module _ (u : Buffer) (size p m n : ℕ) (at : m ≡ p * size) (long : n ≡ siz
     | inr not_held ↦ sym not_held
   ]
 
+-- what a read of the item's bytes asks of the pages in memory, at such a place
+pub cache_for : (seal : List ℕ → ℕ) (content : List ℕ) (u : Buffer) (size p m n : ℕ) → m ≡ p * size → n ≡ size → IsCacheFor seal u content (p * size) size → IsCacheFor seal u content m n
+cache_for seal content u size p m n at long has = subst (λ (x : ℕ). IsCacheFor seal u content m x) (sym long) (subst (λ (x : ℕ). IsCacheFor seal u content x size) (sym at) has)
+
 -- the pages below the tip that have bytes of an item in memory are covered
 pub held_covered : (seal : List ℕ → ℕ) (u : Buffer) (size p : ℕ) (content : List ℕ) → 0 < u.page_size → IsBacked seal u content → eqb (missing_pages u (p * size) size) 0 ≡ true
     → IsCovered seal u.page_size content (p * size) (below u.page_size u.first (p * size) size)
 held_covered seal u size p content pos backed held k wanted =
     let has = found_page_has (IsCachedOf seal u.page_size content) k u.cache backed.cache (missing_none u (p * size) size pos (none_eqb (missing_pages u (p * size) size) held) k wanted) in
     omega (arith, has.1.covered)
+
+-- one more of a list's numbers that passes a test, behind the first i, is counted within the list
+pub count_within : (test : ℕ → Bool) (xs : List ℕ) (i : ℕ) → i < length xs → test (get_or xs i 0) ≡ true → count_by test (take i xs) + 1 ≤ length xs
+count_within test xs i lt passes = omega (arith, count_by_more_yes test xs i 0 lt passes, sum_by-take-le (λ p. cond (test p) 1 0) xs (i + 1), count_by-le-length test xs)

@@ -23,14 +23,14 @@ never_errs : {V : Type 0} (e : Error) → HasNoError {V = V} (Some (Err e)) → 
 never_errs e which = elim which [ inl none ↦ absurd (cc none) | inr some ↦ (let at = some.1 in absurd (cc at)) ]
 
 module _ {F S V D : Type 0} {gs : _} (g : buffer.Ghosts (PageBlob S gs)) (gives : F → Setting) (seal : List ℕ → ℕ) (size : ℕ) (spelling : V → List ℕ) (accepted : V → Unit {0} → Type 0) (refusal : List ℕ → Unit {0} → Option codec.Error)
-    (dev : device.Ghosts D) (pages : ArePages g seal) (old mid new : D) (w x v : Walk F (PageBlob S gs)) (Same : Type 0) where
+    (dev : device.Ghosts D) (pages : ArePages g seal) (old mid new : D) (w x v : Walk F (PageBlob S gs)) (Stayed : Type 0) where
   -- a buffer with nothing unsettled has nothing unsettled
   idle_here : (u y : PageBlob S gs) → (is_unsettled (shown u) ≡ false → is_unsettled (shown y) ≡ false) → g.unsettled u ≡ false → g.unsettled y ≡ false
   idle_here u y stays idle = pages.unsettled y ∙ stays (sym (pages.unsettled u) ∙ idle)
 
   -- steps were made that gave nothing, and then nothing was left
   pub advances_none : Running seal size g gives dev.Tells w (dev.opened old) (dev.time old) (dev.faults old) v (dev.opened new) (dev.time new) (dev.faults new) → IsDrained v ⊎ (v.ended ≡ true)
-      → (w.ended ≡ true → Same × (new ≡ old)) → Advances g gives seal size spelling accepted refusal dev old new w v Same None
+      → (w.ended ≡ true → Stayed × (new ≡ old)) → Advances g gives seal size spelling accepted refusal dev old new w v Stayed None
   advances_none run over still = record {
     over = run.over;
     same = run.same;
@@ -69,14 +69,14 @@ module _ {F S V D : Type 0} {gs : _} (g : buffer.Ghosts (PageBlob S gs)) (gives 
   module _ (run : Running seal size g gives dev.Tells w (dev.opened old) (dev.time old) (dev.faults old) x (dev.opened mid) (dev.time mid) (dev.faults mid)) (going : x.ended ≡ false) (r : Result (Option (ℕ × ℕ × V)) Error)
       (step : Steps seal size g gives spelling accepted refusal dev.Tells r x v (dev.opened mid) (dev.opened new) (dev.time mid) (dev.time new) (dev.faults mid) (dev.faults new)) where
     -- which gave an item
-    pub advances_item : (y : ℕ × ℕ × V) → r ≡ Ok (Some y) → Advances g gives seal size spelling accepted refusal dev old new w v Same (Some (Ok y))
+    pub advances_item : (y : ℕ × ℕ × V) → r ≡ Ok (Some y) → Advances g gives seal size spelling accepted refusal dev old new w v Stayed (Some (Ok y))
     advances_item y at =
         let goes = ok_at r (Some y) at step.goes in
         let over = ok_at r (Some y) at step.over in
         record {
           over = over;
           same = (same_after seal size g gives dev.Tells w (dev.opened old) (dev.time old) (dev.faults old) x (dev.opened mid) (dev.time mid) (dev.faults mid) run spelling accepted refusal r v (dev.opened new) (dev.time new) (dev.faults new) step);
-          item = λ t s p z is. (gives_after seal size g gives dev.Tells w (dev.opened old) (dev.time old) (dev.faults old) x (dev.opened mid) (dev.time mid) (dev.faults mid) run spelling accepted refusal r v (dev.opened new) (dev.time new) (dev.faults new) step) t s p z (let is_it : y ≡ (s, p, z) = cc is in at ∙ ap (λ (i : ℕ × ℕ × V). Ok (Some i)) is_it);
+          item = λ t s p z is. (gives_after seal size g gives dev.Tells w (dev.opened old) (dev.time old) (dev.faults old) x (dev.opened mid) (dev.time mid) (dev.faults mid) run spelling accepted refusal r v (dev.opened new) (dev.time new) (dev.faults new) step) t s p z (let is_it : y ≡ (s, p, z) = cc is in cc (at, is_it));
           going = λ s p z is. goes.failed ∙ run.goes.failed;
           stays = (stays_after seal size g gives dev.Tells w (dev.opened old) (dev.time old) (dev.faults old) x (dev.opened mid) (dev.time mid) (dev.faults mid) run spelling accepted refusal r v (dev.opened new) (dev.time new) (dev.faults new) step);
           known = λ which s. goes.known s ∙ run.goes.known s;
@@ -108,7 +108,7 @@ module _ {F S V D : Type 0} {gs : _} (g : buffer.Ghosts (PageBlob S gs)) (gives 
         }
 
     -- which failed, and that is noted
-    pub advances_err : (e : Error) → r ≡ Err e → Advances g gives seal size spelling accepted refusal dev old new w (failing v) Same (Some (Err e))
+    pub advances_err : (e : Error) → r ≡ Err e → Advances g gives seal size spelling accepted refusal dev old new w (failing v) Stayed (Some (Err e))
     advances_err e at =
         let same = (same_after seal size g gives dev.Tells w (dev.opened old) (dev.time old) (dev.faults old) x (dev.opened mid) (dev.time mid) (dev.faults mid) run spelling accepted refusal r v (dev.opened new) (dev.time new) (dev.faults new) step) in
         let over = err_at r e at step.broken in

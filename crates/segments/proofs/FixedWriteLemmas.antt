@@ -14,6 +14,7 @@ use Rattle.sealed_pages.specs.declared.page_blob.PageBlob.{PageBlob}
 use Rattle.sealed_pages.specs.SealedPrefix.{sealed_prefix, Prefix}
 use Rattle.sealed_pages.specs.Unrecovered.{IsUnrecovered}
 use Rattle.sealed_pages.specs.Shown.{shown}
+use Rattle.sealed_pages.proofs.UnrecoveredLemmas.{prefix_settled}
 use Rattle.section_manager.specs.contracts.sealed.PageBlobSectionBuffer.TheImpl.{ghosts}
 use Rattle.section_manager.specs.declared.buffer.SectionBuffer as buffer
 use Rattle.section_manager.specs.Lasting.{IsUnsettled, Syncing}
@@ -190,7 +191,8 @@ module _ {F S : Type 0} {gs : _} (seal : List ℕ → ℕ) (size : ℕ) (told : 
   settling_of t = always_weaker a b (Each (Syncing g j.sections IsNamed (disk a))) (Each (Settling seal j IsNamed (disk a))) (λ d each q. record {
     named = λ s u is held sealed at. leaves_sealed seal g pages u (disk a q) (d q) (g.settled u) u.settled (pages.settled u) sealed ((each q).named s u is held at);
     front = λ s u is held un at. (let n = length (sealed_prefix seal u.page_size (disk a q).content) in
-        leaves_front seal g pages u (disk a q) (d q) (g.settled u) (min u.settled n) (ap (λ (m : ℕ). min m n) (pages.settled u)) un ((each q).named s u is held at));
+        let all : n ≤ u.settled = prefix_settled seal (shown u) (disk a q) (omega (arith, u.fit.begun)) un in
+        leaves_front seal g pages u (disk a q) (d q) (g.settled u) n (omega (arith, pages.settled u, all)) un ((each q).named s u is held at));
     others = λ not. (each q).others (λ w. (let owes = unsettled_recovered w.0 w.1.1 in not (w.0, (w.1.0, owes.0, owes.1), w.2)));
   })
 

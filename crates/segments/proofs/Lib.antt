@@ -32,6 +32,8 @@ pub mod FixedErrors
 pub mod FixedPassing
 pub mod FixedReadLemmas
 pub mod FixedMemory
+pub mod FixedItemReads
+pub mod FixedGettingEnds
 pub mod FixedSections
 pub mod FixedRemoveLemmas
 pub mod FixedBuffers

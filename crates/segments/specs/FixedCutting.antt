@@ -81,12 +81,11 @@ module _ {F S D : Type 0} {gs : _} (g : buffer.Ghosts (PageBlob S gs)) (gives : 
         → IsTrue (j.unrecovered section)
         → Sealing seal u.page_size (prefix_here u) (min n (length (prefix_here u)))
         key_here (dev.time old) (dev.time new)
-    -- of any other that is not sealed it leaves a prefix of that, with what of it had settled, up to
-    -- the cut
+    -- so it does of any other that is not sealed
     pub unsealed : dev.Tells → (u : PageBlob S gs) → j.sections.held section ≡ Some u
         → IsUnrecovered seal (shown u) blob_here
         → Sealing seal u.page_size (prefix_here u)
-        (min (min u.settled n) (length (prefix_here u)))
+        (min n (length (prefix_here u)))
         key_here (dev.time old) (dev.time new)
     -- one that is not longer is not touched
     pub idle : (IsLongerHere → ⊥) → new ≡ old

@@ -60,6 +60,41 @@ module _ {S V D : Type 0} {gs : _} (seal : List ℕ → ℕ) (size : ℕ) (spell
     -- nothing else is answered but a fault or want of memory
     pub cause : OnErr result (HasNotRead result (dev.faults old) (dev.faults new))
 
+  -- The items of the buffer u at these positions were read. The answer has them, and how many were
+  -- held in memory whole.
+  pub record ReadsEach (b : Blob) (positions : List ℕ) (result : Result (List V × ℕ) Error)
+      : Type 0 where
+    -- they are what their bytes spell, in order
+    pub items : dev.Tells → IsBacked seal (shown u) b.content → IfOk result (λ r.
+        map spelling r.0 ≡ map (item_at size (bytes_of (shown u) b.content)) positions)
+    -- they may be written
+    pub accepted : IfOk result (λ r. (v : V) → Contains r.0 v → Accepts v tt)
+    -- so many were held in memory whole
+    pub held : IfOk result (λ r. r.1 ≡ count_by (is_item_held size u) positions)
+    -- matching slots cover each page that has bytes of them
+    pub checked : dev.Tells → IsBacked seal (shown u) b.content → OnOk result ((p : ℕ)
+        → Contains positions p → IsItemCovered size seal u b.content p)
+    -- a page is refused only where none covers it as far as an item goes
+    pub damaged : dev.Tells → IsBacked seal (shown u) b.content → (k : ℕ)
+        → IsErrOf result (Runtime (InvalidChecksum k))
+        → ((p : ℕ) × Contains positions p × IsDamaged size seal u b.content p k)
+    -- bytes are refused only for what they do not spell, and where they are covered
+    pub refused : dev.Tells → IsBacked seal (shown u) b.content → (e : codec.Error)
+        → IsErrOf result (Codec e) → ((p : ℕ) × Contains positions p
+        × (refusal (item_at size (bytes_of (shown u) b.content) p) tt ≡ Some e)
+        × IsItemCovered size seal u b.content p)
+    -- no blob's history changes
+    pub unchanged : dev.Tells → Unchanged (dev.time old) (dev.time new)
+    -- where all are held in memory, no call of the device is made
+    pub idle : unheld size u positions ≡ 0 → new ≡ old
+    -- so many reads at most as the items that are not held whole may need
+    pub reads : ReadsAtMost (unheld size u positions * (size / u.page_size + 2))
+        (pages.key_of (shown u)) (dev.opened old) (dev.opened new)
+    -- faults are counted on
+    pub faults : dev.faults old ≤ dev.faults new
+    -- nothing else is answered but a fault or want of memory
+    pub cause : OnErr result (HasNotRead result (dev.faults old) (dev.faults new))
+
 module _ {S V D : Type 0} {gs : _} (g : buffer.Ghosts (PageBlob S gs))
     (gives : AppendFactory S → Setting) (seal : List ℕ → ℕ) (size : ℕ) (spelling : V → List ℕ)
     (Accepts : V → Unit {0} → Type 0) (refusal : List ℕ → Unit {0} → Option codec.Error)
@@ -180,14 +215,13 @@ module _ {S V D : Type 0} {gs : _} (g : buffer.Ghosts (PageBlob S gs))
         ⊎ HasNotRead result (dev.faults old) (dev.faults new)))
 
   -- The items of the section at these positions were read, which ascend. The answer has them, and
-  -- how many were held in memory whole. `see` shows the items.
-  pub record GetsMany {T : Type 0} (positions : List ℕ) (result : Result (T × ℕ) Error)
-      (see : T → List V) : Type 0 where
+  -- how many were held in memory whole.
+  pub record GetsMany (positions : List ℕ) (result : Result (List V × ℕ) Error) : Type 0 where
     -- they are what their bytes spell, in order
-    pub items : dev.Tells → IfOk result (λ r. map spelling (see r.0)
+    pub items : dev.Tells → IfOk result (λ r. map spelling r.0
         ≡ map (item_at size (section_bytes j.sections (disk (dev.time old)) section)) positions)
     -- they may be written
-    pub accepted : IfOk result (λ r. (v : V) → Contains (see r.0) v → Accepts v tt)
+    pub accepted : IfOk result (λ r. (v : V) → Contains r.0 v → Accepts v tt)
     -- so many were held in memory whole
     pub held : IfOk result (λ r. IsSomeAnd (j.sections.held section)
         (λ u. r.1 ≡ count_by (is_item_held size u) positions))

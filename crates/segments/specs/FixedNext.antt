@@ -24,9 +24,9 @@ HasNoError {V = V} result = (result ≡ None) ⊎ ((x : ℕ × ℕ × V) × (res
 module _ {F S V D : Type 0} {gs : _} (g : buffer.Ghosts (PageBlob S gs)) (gives : F → Setting)
     (seal : List ℕ → ℕ) (size : ℕ) (spelling : V → List ℕ) (accepted : V → Unit {0} → Type 0)
     (refusal : List ℕ → Unit {0} → Option codec.Error) (dev : device.Ghosts D) (old new : D) where
-  -- The replay w was asked for its next item, and is v then. `Same` says that nothing of it
+  -- The replay w was asked for its next item, and is v then. `Stayed` says that nothing of it
   -- changed.
-  pub record Advances (w v : Walk F (PageBlob S gs)) (Same : Type 0)
+  pub record Advances (w v : Walk F (PageBlob S gs)) (Stayed : Type 0)
       (result : Option (Result (ℕ × ℕ × V) Error)) : Type 0 where
     -- it goes on
     pub over : IsWalk g gives seal size dev.Tells v (dev.opened new) (disk (dev.time new))
@@ -70,7 +70,7 @@ module _ {F S V D : Type 0} {gs : _} (g : buffer.Ghosts (PageBlob S gs)) (gives 
     pub later : HasNoError result → dev.Tells
         → LeavesNoMore seal size w v (disk (dev.time old)) (disk (dev.time new))
     -- a replay that has ended does nothing more
-    pub ended : w.ended ≡ true → (result ≡ None) × Same × (new ≡ old)
+    pub ended : w.ended ≡ true → (result ≡ None) × Stayed × (new ≡ old)
     -- an error is noted
     pub failed : (e : Error) → result ≡ Some (Err e) → v.failed ≡ true
     -- it ends the section that it names, and one while a section is cut ends the replay

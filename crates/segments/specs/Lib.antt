@@ -17,10 +17,12 @@ pub mod FixedNext
 pub mod FixedWalking
 pub mod FixedCursor
 pub mod FixedFloors
+pub mod FixedPreflight
 pub mod Tails
 pub mod FixedOpens
 pub mod FixedBounds
 pub mod FixedDraining
+pub mod FixedGetting
 pub mod FixedGiving
 pub mod FixedFinishing
 pub mod FixedCheckpoint

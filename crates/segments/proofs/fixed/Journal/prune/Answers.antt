@@ -3,8 +3,8 @@ use Rattle.segments.specs.FixedShown.{flagged, shown}
 use Rattle.segments.proofs.FixedRemovingEnds.{prune_failed, pruned_all}
 use Rattle.segments.proofs.fixed.Journal.prune.Goals as goal
 
-pub returns-in_err-prune : goal.returns-in_err-prune
-returns-in_err-prune g c = prune_failed _ _ _ _ _ (shown c.args.self) _ _ _ _ _ (err_seen flagged c.from_residual.result _ c.from_residual.ensures.1) c.in_err-prune.ensures
+pub returns-in_err-manager : goal.returns-in_err-manager
+returns-in_err-manager g c = prune_failed _ _ _ _ _ (shown c.args.self) _ _ _ _ _ (err_seen flagged c.from_residual.result _ c.from_residual.ensures.1) c.in_err-manager.ensures
 
 pub returns : goal.returns
 returns g c =
