@@ -49,7 +49,7 @@ module _ {F S V D : Type 0} {gs : _} (g : buffer.Ghosts (PageBlob S gs)) (gives 
     whole = λ is. run.goes.failed;
     onward = run.onward;
     later = λ which t. run.later t;
-    ended = λ is. (refl, still is);
+    ended = λ is. (refl, (still is).0, (still is).1);
     failed = λ e is. absurd (cc is);
     stops = λ t e is. absurd (cc is);
     start = λ t p is. absurd (cc is);
