@@ -363,9 +363,9 @@ module _ {T : Type 0} {see : T → Buffer} {seal : List ℕ → ℕ} {u w : Buff
   pub cut_unrecovered : IsUnrecovered seal u (blob_of u a) → length (prefix_of seal u a) < len → IfOk r (λ v. IsUnrecovered seal (see v) (blob_of u d))
   cut_unrecovered un past = if_ok_with {Q = (keep ≤ page_length seal u.page_size (blob_of u b).content j) × IsAtRest (blob_of u d)} r (on_ok_two r (λ x y. (x, y)) k.covered k.rests)
       (both_ok r (λ v. IsCut u len j (see v)) (λ v. IsBacked seal (see v) (blob_of u d).content) x.marks (cut_is_backed un.backed))
-      (λ v both is. subst (λ (p : ℕ). length (sealed_prefix seal p (blob_of u b).content) < j * p + keep → SparesFront (page_at p j) (key_of u) b d → keep ≤ page_length seal p (blob_of u b).content j → (see v).page_size ≡ p
+      (λ v both is. subst (λ (p : ℕ). length (sealed_prefix seal p (blob_of u b).content) < j * p + keep → SparesFront (page_at p j) (key_of u) b d → keep ≤ page_length seal p (blob_of u b).content j → j * p ≤ (see v).settled → (see v).page_size ≡ p
       → IsUnrecovered seal (see v) (blob_of u d)) s.page
-      (λ lt spares covered same. cut_stays seal w pos (key_of u) b d (s.unrecovered un) j keep lt spares covered (see v) same is.0.first is.1 both.1) (less un past) k.front both.0 is.0.page)
+      (λ lt spares covered settled same. cut_stays seal w pos (key_of u) b d (s.unrecovered un) j keep lt spares covered (see v) same is.0.first settled is.1 both.1) (less un past) k.front both.0 (omega (arith, place.at, is.0.settled)) is.0.page)
 
 -- where nothing is cut
 pub no_recovery : (seal : List ℕ → ℕ) (u : Buffer) (len : ℕ) (b : Blob) → u.from < u.page_size → size_of u ≤ len → IsRecovery seal u len b → ⊥

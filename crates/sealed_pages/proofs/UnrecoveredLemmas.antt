@@ -173,6 +173,10 @@ front_covers seal P first a b k has less whole =
     let near = page_order (λ x. 0) P (k + 1) first (omega (arith, less)) in
     page_to seal P k b.content a.content (record { long = omega (arith, has.long, whole, near); other = whole; same = λ i lt. has.reads i (omega (arith, lt, near)) }) k (omega arith)
 
+-- a page below one up to which all has settled
+page_settled : (k first P settled : ℕ) → k < first → first * P ≤ settled → (k + 1) * P ≤ settled
+page_settled k first P settled less all = omega (arith, times_more k first P less, times_next k P, all)
+
 module _ (seal : List ℕ → ℕ) (u : Buffer) where
   -- what calls that spare the page and those before it leave of an adopted blob
   module _ (key : Key) (a b : Timeline) (un : IsUnrecovered seal u (disk a key)) (end : ℕ) (within : un.page < end) (spares : SparesFront (page_at u.page_size end) key a b) where
@@ -189,10 +193,11 @@ module _ (seal : List ℕ → ℕ) (u : Buffer) where
     now : HasFront (page_at u.page_size (un.page + 1)) (view (disk a key).content) (disk b key)
     now = (front_now (page_at u.page_size end) key a b spares).crashes (page_at u.page_size (un.page + 1)) (view (disk a key).content) reach un.front
 
-    pub spared_stays : (v : Buffer) → v.page_size ≡ u.page_size → un.page < v.first → IsBacked seal v (disk b key).content → (v.settled ≡ size_of v → IsAtRest (disk b key)) → IsHad (disk b key) → IsUnrecovered seal v (disk b key)
-    spared_stays v same below backed rest had = record {
+    pub spared_stays : (v : Buffer) → v.page_size ≡ u.page_size → un.page < v.first → (un.page + 1) * u.page_size ≤ v.settled → IsBacked seal v (disk b key).content → (v.settled ≡ size_of v → IsAtRest (disk b key)) → IsHad (disk b key) → IsUnrecovered seal v (disk b key)
+    spared_stays v same below settled backed rest had = record {
       page = un.page;
       below = below;
+      settled = subst (λ (P : ℕ). (un.page + 1) * P ≤ v.settled) (sym same) settled;
       short = subst (λ (P : ℕ). page_length seal P (disk b key).content un.page < P) (sym same) (omega (
         arith,
         un.short,
@@ -214,8 +219,8 @@ module _ (seal : List ℕ → ℕ) (u : Buffer) where
   pub settled_keeps : {T : Type 0} (key : Key) (a b : Timeline) (r : Result T DevError) → IsUnrecovered seal u (disk a key) → Passes key Settle r a b → KeepsPrefix seal u.page_size (sealed_prefix seal u.page_size (disk a key).content) key a b
   settled_keeps key a b r un passes = spared_keeps key a b un u.first un.below (front_settle (page_at u.page_size u.first) key a a b r (front_start (page_at u.page_size u.first) key a) passes)
 
-  pub settled_stays : {T : Type 0} (key : Key) (a b : Timeline) (x : T) (v : Buffer) → IsUnrecovered seal u (disk a key) → Passes key Settle (Ok x) a b → v.page_size ≡ u.page_size → v.first ≡ u.first → IsBacked seal v (disk b key).content → IsUnrecovered seal v (disk b key)
-  settled_stays key a b x v un passes same first backed = spared_stays key a b un u.first un.below (front_settle (page_at u.page_size u.first) key a a b (Ok x) (front_start (page_at u.page_size u.first) key a) passes) v same (omega (arith, un.below, first)) backed
+  pub settled_stays : {T : Type 0} (key : Key) (a b : Timeline) (x : T) (v : Buffer) → IsUnrecovered seal u (disk a key) → Passes key Settle (Ok x) a b → v.page_size ≡ u.page_size → v.first ≡ u.first → u.first * u.page_size ≤ v.settled → IsBacked seal v (disk b key).content → IsUnrecovered seal v (disk b key)
+  settled_stays key a b x v un passes same first settled backed = spared_stays key a b un u.first un.below (front_settle (page_at u.page_size u.first) key a a b (Ok x) (front_start (page_at u.page_size u.first) key a) passes) v same (omega (arith, un.below, first)) (page_settled un.page u.first u.page_size v.settled un.below settled) backed
       (λ e. settled_rest (disk b key) (disk a key).content (ok_blob key Settle x a b passes)) (had_rest (disk b key) (settled_rest (disk b key) (disk a key).content (ok_blob key Settle x a b passes)))
 
   -- more bytes in the tip
@@ -224,6 +229,7 @@ module _ (seal : List ℕ → ℕ) (u : Buffer) where
     page = un.page;
     below = un.below;
     short = un.short;
+    settled = un.settled;
     front = un.front;
     backed = record {
       flushed = backed_more u (record u { tip = u.tip ++ more }) more b.content refl within un.backed.flushed;
@@ -241,6 +247,13 @@ module _ (seal : List ℕ → ℕ) (u : Buffer) where
     | inr le ↦ (let has = prefix_covers seal u.page_size b.content un.page u.page_size pos (omega arith) (omega (arith, le, times_next un.page u.page_size, times_more un.page u.first u.page_size un.below)) in absurd (omega (arith, has, un.short)))
   ]
 
+  -- and all of it has settled
+  pub prefix_settled : (b : Blob) → 1 ≤ u.page_size → IsUnrecovered seal u b → length (sealed_prefix seal u.page_size b.content) ≤ u.settled
+  prefix_settled b pos un = elim (cases_lt u.settled (length (sealed_prefix seal u.page_size b.content))) [
+    | inr le ↦ le
+    | inl past ↦ (let has = prefix_covers seal u.page_size b.content un.page u.page_size pos (omega arith) (omega (arith, past, un.settled, times_next un.page u.page_size)) in absurd (omega (arith, has, un.short)))
+  ]
+
   -- A cut behind the sealed prefix is in a later page than one that is not full, or its page is not covered so far.
   pub behind_prefix : (b : Blob) (j keep : ℕ) → 1 ≤ u.page_size → IsUnrecovered seal u b → length (sealed_prefix seal u.page_size b.content) < j * u.page_size + keep
       → ((un : IsUnrecovered seal u b) × (un.page < j)) ⊎ (page_length seal u.page_size b.content j < keep)
@@ -252,6 +265,7 @@ module _ (seal : List ℕ → ℕ) (u : Buffer) where
           page = found.0;
           below = omega (arith, found.1, le, un.below);
           short = found.2;
+          settled = page_settled found.0 (un.page + 1) u.page_size u.settled (omega (arith, found.1, le)) un.settled;
           front = (let near = page_order (λ x. 0) u.page_size (found.0 + 1) (un.page + 1) (omega (arith, found.1, le)) in record {
             there = un.front.there;
             sure = un.front.sure;
@@ -286,9 +300,9 @@ module _ (seal : List ℕ → ℕ) (u : Buffer) (pos : 1 ≤ u.page_size) where
       | inr short ↦ spared_keeps seal u key a b un u.first un.below (front_look (page_at u.page_size u.first) key a b (refused short))
     ]
 
-    pub cut_stays : keep ≤ page_length seal u.page_size (disk a key).content j → (v : Buffer) → v.page_size ≡ u.page_size → v.first ≡ j → IsBacked seal v (disk b key).content → IsAtRest (disk b key) → IsUnrecovered seal v (disk b key)
-    cut_stays covered v same first backed rest = elim (behind_prefix seal u (disk a key) j keep pos un less) [
-      | inl before ↦ spared_stays seal u key a b before.0 j before.1 spares v same (omega (arith, before.1, first)) backed (λ e. rest) (had_rest (disk b key) rest)
+    pub cut_stays : keep ≤ page_length seal u.page_size (disk a key).content j → (v : Buffer) → v.page_size ≡ u.page_size → v.first ≡ j → j * u.page_size ≤ v.settled → IsBacked seal v (disk b key).content → IsAtRest (disk b key) → IsUnrecovered seal v (disk b key)
+    cut_stays covered v same first settled backed rest = elim (behind_prefix seal u (disk a key) j keep pos un less) [
+      | inl before ↦ spared_stays seal u key a b before.0 j before.1 spares v same (omega (arith, before.1, first)) (page_settled before.0.page j u.page_size v.settled before.1 settled) backed (λ e. rest) (had_rest (disk b key) rest)
       | inr short ↦ absurd (omega (arith, short, covered))
     ]
 
@@ -300,8 +314,8 @@ pages_span first from = elim (cases_lt 0 from) [
 
 -- an adopted blob whose sealed prefix is shorter than its size
 pub adopted_unrecovered : (seal : List ℕ → ℕ) (u : Buffer) (c : List ℕ) (found : Option LastPage) (buf : List ℕ) → 1 ≤ u.page_size → Finds seal u.page_size c found buf → StartsOver seal u.page_size c found u.first u.from u.newest u.behind u.torn
-    → IsBacked seal u c → length (sealed_prefix seal u.page_size c) < adopted_size seal u.page_size c → IsUnrecovered seal u (settled_at c)
-adopted_unrecovered seal u c found buf pos finds over backed less = go found finds over
+    → u.first * u.page_size ≤ u.settled → IsBacked seal u c → length (sealed_prefix seal u.page_size c) < adopted_size seal u.page_size c → IsUnrecovered seal u (settled_at c)
+adopted_unrecovered seal u c found buf pos finds over settled backed less = go found finds over
   where
     go : (r : Option LastPage) → Finds seal u.page_size c r buf → StartsOver seal u.page_size c r u.first u.from u.newest u.behind u.torn → IsUnrecovered seal u (settled_at c)
     go None finds s = absurd (omega (arith, less, finds))
@@ -310,6 +324,7 @@ adopted_unrecovered seal u c found buf pos finds over backed less = go found fin
         page = early.0;
         below = omega (arith, early.1, (pages_span u.first u.from).1, s.pages);
         short = early.2;
+        settled = page_settled early.0 u.first u.page_size u.settled (omega (arith, early.1, (pages_span u.first u.from).1, s.pages)) settled;
         front = guards_settled (λ i. i < page_at u.page_size (early.0 + 1)) (view c) c
             (λ i lt. omega (
               arith,
@@ -346,7 +361,8 @@ own_front seal P c n tip less = ext_get_or 0 (sealed_prefix seal P c) (take (len
     ∙ sym (get_or_append_left (data_from P (view c) 0 n) tip 0 i (omega (arith, near, length-data_from P (view c) n 0)))
     ∙ sym (get_or-take (length (sealed_prefix seal P c)) (data_from P (view c) 0 n ++ tip) i 0 lt)))
 
--- What the layers above rest on: the sealed prefix outlives each crash, ends below the tip, and is a prefix of the bytes.
+-- What the layers above rest on: the sealed prefix outlives each crash, ends below the tip, and is a prefix of the bytes
+-- (`prefix_settled`: and all of it has settled).
 pub unrecovered_prefix : (seal : List ℕ → ℕ) (u : Buffer) (b : Blob) → 1 ≤ u.page_size → IsUnrecovered seal u b → HasPrefix seal u.page_size (sealed_prefix seal u.page_size b.content) b
     × (length (sealed_prefix seal u.page_size b.content) < u.first * u.page_size) × (sealed_prefix seal u.page_size b.content ≡ take (length (sealed_prefix seal u.page_size b.content)) (bytes_of u b.content))
 unrecovered_prefix seal u b pos un = (

@@ -1,7 +1,7 @@
 -- Which pages a read of n bytes from byte m on touches, and how far it needs them covered.
 use Rattle.std.specs.Prelude.{◌≡◌, ◌⊎◌, ℕ, ◌+◌, ◌*◌, ◌-◌, ◌/◌, ◌^◌, ◌<◌, ◌≤◌, min, eqb, cond, true, List}
 use Rattle.sealed_pages.specs.Buffer.{Buffer, size_of, cached, is_cached}
-use Rattle.sealed_pages.specs.Cached.{uncached}
+use Rattle.sealed_pages.specs.Cached.{uncached, AreCachedOf}
 use Rattle.sealed_pages.specs.SealedPrefix.{adopted_size}
 use Rattle.sealed_pages.specs.Slots.{page_length}
 
@@ -53,6 +53,10 @@ module _ (seal : List ℕ → ℕ) (P : ℕ) where
 -- Each of n bytes from byte m on is in memory: it stands in the tip, or in a page that is cached.
 abbrev pub IsHeld : Buffer → ℕ → ℕ → Type 0
 IsHeld u m n = (i : ℕ) → m ≤ i → i < m + n → (i < size_of u) × ((u.first * u.page_size ≤ i) ⊎ (is_cached u (i / u.page_size) ≡ true))
+
+-- where one of n bytes from byte m on stands below the tip, the pages in memory are as in the content
+abbrev pub IsCacheFor : (List ℕ → ℕ) → Buffer → List ℕ → ℕ → ℕ → Type 0
+IsCacheFor seal u content m n = 0 < below u.page_size u.first m n → AreCachedOf seal u.page_size content u.cache
 
 -- how many pages have one of these bytes that is not in memory
 abbrev pub missing_pages : Buffer → ℕ → ℕ → ℕ

@@ -1,6 +1,6 @@
 -- Adopted blobs whose sealed prefix is shorter than their size. What a call adds to them does not outlive a crash, but the
 -- prefix does.
-use Rattle.std.specs.Prelude.{◌≡◌, ◌⊎◌, ℕ, ◌+◌, ◌<◌, ◌≤◌, min, List, length, Option, IsSomeAnd}
+use Rattle.std.specs.Prelude.{◌≡◌, ◌⊎◌, ℕ, ◌+◌, ◌*◌, ◌<◌, ◌≤◌, min, List, length, Option, IsSomeAnd}
 use Rattle.blob_device.specs.Disk.{Key, Blob, MayLeave}
 use Rattle.blob_device.specs.Guards.{Guards}
 use Rattle.blob_device.specs.Timeline.{Timeline, disk, Always, OnlyAt}
@@ -44,15 +44,21 @@ module _ (seal : List ℕ → ℕ) (P : ℕ) where
   abbrev pub KeepsPrefix : List ℕ → Key → Timeline → Timeline → Type 0
   KeepsPrefix bytes key old new = Always old new (OnlyAt key (disk old) (HasPrefix bytes))
 
--- A page below the tip's is not full, so the sealed prefix ends in it or before, and all up to its end outlives each crash.
--- What is flushed stands in the blob, and where all bytes have settled, so has the blob. It reads as a content that it has had.
+-- An adopted blob of which a page below the tip's is not full: its sealed prefix ends in that page or before.
 pub record IsUnrecovered (seal : List ℕ → ℕ) (u : Buffer) (b : Blob) : Type 0 where
+  -- the page
   pub page : ℕ
   pub below : page < u.first
   pub short : page_length seal u.page_size b.content page < u.page_size
+  -- its bytes and all before have settled, and so has the whole sealed prefix
+  pub settled : (page + 1) * u.page_size ≤ u.settled
+  -- all up to its end outlives each crash
   pub front : HasFront (page_at u.page_size (page + 1)) (view b.content) b
+  -- what is in memory is as in the blob
   pub backed : IsBacked seal u b.content
+  -- where all bytes have settled, so has the blob
   pub rest : u.settled ≡ size_of u → IsAtRest b
+  -- the blob reads as a content that it has had
   pub had : IsHad b
 
 -- What adopting a settled blob gives, and each call keeps.

@@ -7,7 +7,7 @@ use Rattle.std.proofs.lemmas.List.Sums.{count_by_more_yes, count_by-le-length, s
 use Rattle.std.proofs.Math.Nat.{mul-le-mul_right}
 use Rattle.sealed_pages.specs.Buffer.{Buffer, size_of, cached, is_cached, IsBacked}
 use Rattle.sealed_pages.specs.Cached.{uncached, IsCachedOf}
-use Rattle.sealed_pages.specs.Reads.{IsHeld, IsCovered, IsWanted, touched, below, missing_pages}
+use Rattle.sealed_pages.specs.Reads.{IsCacheFor, IsHeld, IsCovered, IsWanted, touched, below, missing_pages}
 use Rattle.sealed_pages.proofs.CacheLemmas.{found_page_has, uncached_most}
 use Rattle.sealed_pages.proofs.HeldLemmas.{held_from, held_to, wanted_low}
 use Rattle.sealed_pages.proofs.Holding.{bool_or, div_place}
@@ -89,6 +89,10 @@ module _ (u : Buffer) (size p m n : ℕ) (at : m ≡ p * size) (long : n ≡ siz
     | inl is ↦ absurd (cc (iff.1 (missing_held u m n pos (omega (arith, fits, at, long)) (missing_same ∙ none_eqb (missing_pages u (p * size) size) is))))
     | inr not_held ↦ sym not_held
   ]
+
+-- what a read of the item's bytes asks of the pages in memory, at such a place
+pub cache_for : (seal : List ℕ → ℕ) (content : List ℕ) (u : Buffer) (size p m n : ℕ) → m ≡ p * size → n ≡ size → IsCacheFor seal u content (p * size) size → IsCacheFor seal u content m n
+cache_for seal content u size p m n at long has = subst (λ (x : ℕ). IsCacheFor seal u content m x) (sym long) (subst (λ (x : ℕ). IsCacheFor seal u content x size) (sym at) has)
 
 -- the pages below the tip that have bytes of an item in memory are covered
 pub held_covered : (seal : List ℕ → ℕ) (u : Buffer) (size p : ℕ) (content : List ℕ) → 0 < u.page_size → IsBacked seal u content → eqb (missing_pages u (p * size) size) 0 ≡ true

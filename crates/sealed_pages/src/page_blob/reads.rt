@@ -11,7 +11,7 @@ ghost use Rattle.sealed_pages.specs.Slots.{page_length};
 ghost use Rattle.sealed_pages.specs.Proven.{proven_prefix};
 ghost use Rattle.sealed_pages.specs.Reopening.{OnlySettles, StaysOpen};
 ghost use Rattle.sealed_pages.specs.View.{view};
-ghost use Rattle.sealed_pages.specs.Reads.{IsWanted, IsCovered, IsShort, IsTailShort, IsHeld, PassesSize, missing_pages, pages_for, below};
+ghost use Rattle.sealed_pages.specs.Reads.{IsWanted, IsCovered, IsShort, IsTailShort, IsHeld, IsCacheFor, PassesSize, missing_pages, pages_for, below};
 ghost use Rattle.sealed_pages.specs.Entries.{IsOpenAt, ReadsAtMost, NoReads};
 ghost use Rattle.sealed_pages.specs.ChanceSeal.{Sealing};
 ghost use Rattle.sealed_pages.specs.Flushing.{Alone};
@@ -62,8 +62,8 @@ impl<S: Seal> PageBlob<S> {
     /// bytes. An empty `buf` reads nothing.
     pub fn read_at<D: Device>(&self, dev: &mut D, offset: u64, buf: &mut [u8]) -> Result<(), RError>
         requires { IsOpenAt (D.opened dev.old) (key_of (shown self.now)) self.now.end }
-        ensures bytes { D.Tells → IsBacked S.seal_of (shown self.now) (disk (D.time dev.old) (key_of (shown self.now))).content → OnOk result (buf.new ≡ take (length buf.old) (drop offset (bytes_of (shown self.now) (disk (D.time dev.old) (key_of (shown self.now))).content))) }
-        ensures checked { D.Tells → IsBacked S.seal_of (shown self.now) (disk (D.time dev.old) (key_of (shown self.now))).content → OnOk result (IsCovered S.seal_of self.now.page_size (disk (D.time dev.old) (key_of (shown self.now))).content offset (below self.now.page_size self.now.first offset (length buf.old))) }
+        ensures bytes { D.Tells → IsCacheFor S.seal_of (shown self.now) (disk (D.time dev.old) (key_of (shown self.now))).content offset (length buf.old) → OnOk result (buf.new ≡ take (length buf.old) (drop offset (bytes_of (shown self.now) (disk (D.time dev.old) (key_of (shown self.now))).content))) }
+        ensures checked { D.Tells → IsCacheFor S.seal_of (shown self.now) (disk (D.time dev.old) (key_of (shown self.now))).content offset (length buf.old) → OnOk result (IsCovered S.seal_of self.now.page_size (disk (D.time dev.old) (key_of (shown self.now))).content offset (below self.now.page_size self.now.first offset (length buf.old))) }
         ensures checksum { D.Tells → (p : ℕ) → IsErrOf result (RError.InvalidChecksum p)
             → IsShort S.seal_of self.now.page_size (disk (D.time dev.old) (key_of (shown self.now))).content offset (below self.now.page_size self.now.first offset (length buf.old)) p }
         // No page of a sealed buffer is refused.
@@ -117,7 +117,7 @@ impl<S: Seal> PageBlob<S> {
     /// Takes the bytes from `offset` on where all of them are held in memory; else `buf` stays as it is. It takes no memory.
     pub fn try_read_held(&self, offset: u64, buf: &mut [u8]) -> bool
         ensures held { (result ≡ true) ↔ IsHeld (shown self.now) offset (length buf.old) }
-        ensures bytes { result ≡ true → (content : List ℕ) → IsBacked S.seal_of (shown self.now) content → buf.new ≡ take (length buf.old) (drop offset (bytes_of (shown self.now) content)) }
+        ensures bytes { result ≡ true → (content : List ℕ) → IsCacheFor S.seal_of (shown self.now) content offset (length buf.old) → buf.new ≡ take (length buf.old) (drop offset (bytes_of (shown self.now) content)) }
         ensures same { result ≡ false → buf.new ≡ buf.old }
     {
         if buf.is_empty() {

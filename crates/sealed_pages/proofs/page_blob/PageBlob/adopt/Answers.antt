@@ -199,7 +199,7 @@ returns-clause-unrecovered g c t rest less =
     let size = content_length (g.D.Device.opened c.args.dev.now) (c.args.partition.now, c.args.name.now) c.args.size _ (disk (g.D.Device.time c.args.dev.now) (c.args.partition.now, c.args.name.now)).content (g.met.D.Device.opened_stands t c.args.dev.now (c.args.partition.now, c.args.name.now)) c.requires.«open» in
     let finds = (subst (λ (l : List ℕ). Finds g.S.Seal.seal_of c.args.pages.page_size (disk (g.D.Device.time c.args.dev.now) (c.args.partition.now, c.args.name.now)).content c.in_ok-found.found l) (sym (c.as_slice-page.ensures.value ∙ with_items_is c.in_ok-bytes.bytes c.find_last.new.buf (c.find_last.auto.buf ∙ c.as_mut_slice-buf.ensures.len))) (c.in_ok-found.ensures.found t)) in
     let over = c.start_of-start.ensures.starts (disk (g.D.Device.time c.args.dev.now) (c.args.partition.now, c.args.name.now)).content size finds in
-    subst (IsUnrecovered g.S.Seal.seal_of u) (sym rest) (adopted_unrecovered g.S.Seal.seal_of u (disk (g.D.Device.time c.args.dev.now) (c.args.partition.now, c.args.name.now)).content c.in_ok-found.found c.as_slice-page.result.now pos finds over (returns-clause-backed g c t) less)
+    subst (IsUnrecovered g.S.Seal.seal_of u) (sym rest) (adopted_unrecovered g.S.Seal.seal_of u (disk (g.D.Device.time c.args.dev.now) (c.args.partition.now, c.args.name.now)).content c.in_ok-found.found c.as_slice-page.result.now pos finds over (let page : c.from.result ≡ c.args.pages.page_size = c.from.ensures in omega (arith, ap (λ (n : ℕ). c.start_of-start.result.first * n) page)) (returns-clause-backed g c t) less)
 
 pub returns-clause-adopted : goal.returns-clause-adopted
 returns-clause-adopted g c t rest = elim (cases_lt (length (sealed_prefix g.S.Seal.seal_of c.args.pages.page_size (disk (g.D.Device.time c.args.dev.now) (c.args.partition.now, c.args.name.now)).content)) (adopted_size g.S.Seal.seal_of c.args.pages.page_size (disk (g.D.Device.time c.args.dev.now) (c.args.partition.now, c.args.name.now)).content)) [

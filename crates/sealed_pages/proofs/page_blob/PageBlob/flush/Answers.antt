@@ -116,8 +116,9 @@ returns-clause-unrecovered g c t un =
     let size : size_of (shown v) ≡ size_of (shown c.args.self) = is.0.size ∙ ap size_of same in
     let begun : length v.tip.items < v.page_size = omega (arith, v.fit.begun, ap (λ (x : Buffer). x.from) is.0.same) in
     let later : c.args.self.first ≤ v.first = first_later c.args.self.page_size c.args.self.first v.first (length c.args.self.tip.items) (length v.tip.items) (omega (arith, size, ap (λ (n : ℕ). v.first * n) page)) (omega (arith, begun, page)) in
-    spared_stays g.S.Seal.seal_of (shown c.args.self) (key_of (shown c.args.self)) (g.D.Device.time c.args.dev.now) (g.D.Device.time c.written.new.dev) un c.args.self.first un.below (returns-clause-front g c t) (shown v) page (omega (arith, un.below, later)) is.1
-    (λ settled. (let own : v.settled ≡ c.args.self.settled = ap (λ (x : Buffer). x.settled) is.0.same ∙ ap (λ (x : Buffer). x.settled) same in absurd (omega (arith, settled, size, unsettled, own)))) had))
+    let own : v.settled ≡ c.args.self.settled = ap (λ (x : Buffer). x.settled) is.0.same ∙ ap (λ (x : Buffer). x.settled) same in
+    spared_stays g.S.Seal.seal_of (shown c.args.self) (key_of (shown c.args.self)) (g.D.Device.time c.args.dev.now) (g.D.Device.time c.written.new.dev) un c.args.self.first un.below (returns-clause-front g c t) (shown v) page (omega (arith, un.below, later)) (omega (arith, un.settled, own)) is.1
+    (λ settled. absurd (omega (arith, settled, size, unsettled, own))) had))
 
 pub returns-clause-clears : goal.returns-clause-clears
 returns-clause-clears g c t rest left = clears_then g.S.Seal.seal_of c.args.self.page_size c.args.self.first c.args.self.from c.args.self.newest (key_of (shown c.args.self)) (g.D.Device.time c.args.dev.now) (g.D.Device.time c.repaired.new.dev) (g.D.Device.time c.written.new.dev) (c.in_ok-this.ensures.clears t rest) (c.in_ok-this.ensures.cleared t rest left)

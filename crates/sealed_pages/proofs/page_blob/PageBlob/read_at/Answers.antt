@@ -1,4 +1,4 @@
-use Rattle.std.proofs.Common.{rules, ◌≡◌, ◌≤◌, ◌+◌, ◌-◌, ◌*◌, ◌++◌, ◌∙◌, ℕ, List, length, take, drop, length-take, length-drop, ap, sym, subst, arith, ◌/◌, refl, true, false, Bool}
+use Rattle.std.proofs.Common.{rules, ◌≡◌, ◌≤◌, ◌<◌, ◌+◌, ◌-◌, ◌*◌, ◌++◌, ◌∙◌, ℕ, List, length, take, drop, length-take, length-drop, ap, sym, subst, arith, ◌/◌, refl, true, false, Bool}
 use Rattle.blob_device.specs.Disk.{Key}
 use Rattle.blob_device.specs.Timeline.{disk}
 use Rattle.sealed_pages.specs.Buffer.{key_of}
@@ -32,9 +32,9 @@ returns-in_err-read_pages-clause-checksum g c t p is =
     subst (λ (n : ℕ). IsShort g.S.Seal.seal_of c.args.self.now.page_size (disk (g.D.Device.time c.args.dev.now) (key_of (shown c.args.self.now))).content c.args.offset n p) len short
 
 pub returns-clause-bytes : goal.returns-clause-bytes
-returns-clause-bytes g c t held =
+returns-clause-bytes g c t cache =
     let key : (c.as_str.result.now, c.as_slice.result.now) ≡ key_of (shown c.args.self.now) = λ j. (c.as_str.ensures.value j, c.as_slice.ensures.value j) in
-    let has = subst (λ (k : Key). AreCachedOf g.S.Seal.seal_of c.args.self.now.page_size (disk (g.D.Device.time c.args.dev.now) k).content (shown c.args.self.now).cache) (sym key) held.cache in
+    let has = λ (some : 0 < below c.args.self.now.page_size c.args.self.now.first c.args.offset (length c.args.buf.now)). subst (λ (k : Key). AreCachedOf g.S.Seal.seal_of c.args.self.now.page_size (disk (g.D.Device.time c.args.dev.now) k).content (shown c.args.self.now).cache) (sym key) (cache some) in
     let wide : c.below_tip-below.result ≤ length c.try_read_held.new.buf = omega (arith, c.below_tip-below.ensures) in
     let long : length c.read_pages.new.out ≡ c.below_tip-below.result = search rules in
     let xs : List ℕ = c.read_pages.new.out ++ drop c.below_tip-below.result c.try_read_held.new.buf in
@@ -45,7 +45,7 @@ returns-clause-bytes g c t held =
     ∙ ap (λ (l : List ℕ). l ++ c.copy_held.new.buf) front
     ∙ read_whole c.args.self.now.page_size c.args.self.now.first c.args.offset (length c.try_read_held.new.buf) c.below_tip-below.result (view (disk (g.D.Device.time c.args.dev.now) (key_of (shown c.args.self.now))).content) c.args.self.now.tip.items c.read_pages.new.out c.copy_held.new.buf
     c.below_tip-below.ensures (omega (arith, c.in_ok-check_range.ensures.fits, c.size.ensures, c.try_read_held.auto.buf)) long
-    (λ i lt. c.in_ok-read_pages.ensures.bytes t has i (omega (arith, lt, long, c.read_pages.auto.out)) ∙ ap (λ (k : Key). view (disk (g.D.Device.time c.args.dev.now) k).content (place c.args.self.now.page_size (c.args.offset + i))) key)
+    (λ i lt. c.in_ok-read_pages.ensures.bytes t (has (omega (arith, lt, c.below_tip-below.ensures, c.try_read_held.auto.buf))) i (omega (arith, lt, long, c.read_pages.auto.out)) ∙ ap (λ (k : Key). view (disk (g.D.Device.time c.args.dev.now) k).content (place c.args.self.now.page_size (c.args.offset + i))) key)
     (c.copy_held.ensures ∙ (let e : length (take (length (c.read_pages.new.out ++ drop c.below_tip-below.result c.try_read_held.new.buf) - c.below_tip-below.result) (drop c.below_tip-below.result (c.read_pages.new.out ++ drop c.below_tip-below.result c.try_read_held.new.buf))) ≡ length c.try_read_held.new.buf - c.below_tip-below.result
     = omega (arith, length-take (length (c.read_pages.new.out ++ drop c.below_tip-below.result c.try_read_held.new.buf) - c.below_tip-below.result) (drop c.below_tip-below.result (c.read_pages.new.out ++ drop c.below_tip-below.result c.try_read_held.new.buf)), length-drop c.below_tip-below.result (c.read_pages.new.out ++ drop c.below_tip-below.result c.try_read_held.new.buf), all) in
     ap (λ (n : ℕ). take n (drop (c.args.offset + c.below_tip-below.result - c.args.self.now.first * c.args.self.now.page_size) c.args.self.now.tip.items)) e))
@@ -68,13 +68,13 @@ pub returns-clause-held : goal.returns-clause-held
 returns-clause-held g c held = never c.try_read_held.result c.if-try_read_held.false (c.try_read_held.ensures.held.1 held)
 
 pub returns-then-try_read_held-clause-bytes : goal.returns-then-try_read_held-clause-bytes
-returns-then-try_read_held-clause-bytes g c t backed = c.try_read_held.ensures.bytes c.if-try_read_held.true _ backed
+returns-then-try_read_held-clause-bytes g c t cache = c.try_read_held.ensures.bytes c.if-try_read_held.true _ cache
 
 pub returns-then-try_read_held-clause-checked : goal.returns-then-try_read_held-clause-checked
-returns-then-try_read_held-clause-checked g c t backed k w =
+returns-then-try_read_held-clause-checked g c t cache k w =
     omega (
       arith,
-      (found_page_has (IsCachedOf g.S.Seal.seal_of c.args.self.now.page_size (disk (g.D.Device.time c.args.dev.now) (key_of (shown c.args.self.now))).content) k (shown c.args.self.now).cache backed.cache
+      (found_page_has (IsCachedOf g.S.Seal.seal_of c.args.self.now.page_size (disk (g.D.Device.time c.args.dev.now) (key_of (shown c.args.self.now))).content) k (shown c.args.self.now).cache (cache w.some)
           (held_to (shown c.args.self.now) c.args.offset (length c.args.buf.now) (below c.args.self.now.page_size c.args.self.now.first c.args.offset (length c.args.buf.now)) (omega (arith, c.args.self.now.fit.begun)) refl (c.try_read_held.ensures.held.0 c.if-try_read_held.true) k w)).1.covered,
     )
 
@@ -94,8 +94,8 @@ returns-clause-reads g c =
     subst (λ (x : Key × ℕ). ReadsAtMost (uncached (cached (shown c.args.self.now)) (c.args.offset / c.args.self.now.page_size) (touched c.args.self.now.page_size c.args.offset x.1)) x.0 (g.D.Device.opened c.args.dev.now) (g.D.Device.opened c.read_pages.new.dev)) (λ i. (key i, len i)) c.in_ok-read_pages.ensures.entries
 
 pub returns-clause-checked : goal.returns-clause-checked
-returns-clause-checked g c t held =
+returns-clause-checked g c t cache k w =
     let key : (c.as_str.result.now, c.as_slice.result.now) ≡ key_of (shown c.args.self.now) = λ j. (c.as_str.ensures.value j, c.as_slice.ensures.value j) in
-    let has = subst (λ (k : Key). AreCachedOf g.S.Seal.seal_of c.args.self.now.page_size (disk (g.D.Device.time c.args.dev.now) k).content (shown c.args.self.now).cache) (sym key) held.cache in
+    let has = subst (λ (k : Key). AreCachedOf g.S.Seal.seal_of c.args.self.now.page_size (disk (g.D.Device.time c.args.dev.now) k).content (shown c.args.self.now).cache) (sym key) (cache w.some) in
     let len : length (take c.below_tip-below.result c.try_read_held.new.buf) ≡ below c.args.self.now.page_size c.args.self.now.first c.args.offset (length c.args.buf.now) = omega (arith, length-take c.below_tip-below.result c.try_read_held.new.buf, c.below_tip-below.ensures, c.try_read_held.auto.buf) in
-    subst (λ (x : Key × ℕ). IsCovered g.S.Seal.seal_of c.args.self.now.page_size (disk (g.D.Device.time c.args.dev.now) x.0).content c.args.offset x.1) (λ i. (key i, len i)) (c.in_ok-read_pages.ensures.covered t has)
+    subst (λ (x : Key × ℕ). IsCovered g.S.Seal.seal_of c.args.self.now.page_size (disk (g.D.Device.time c.args.dev.now) x.0).content c.args.offset x.1) (λ i. (key i, len i)) (c.in_ok-read_pages.ensures.covered t has) k w

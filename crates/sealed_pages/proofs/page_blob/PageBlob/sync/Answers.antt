@@ -185,7 +185,7 @@ returns g c =
           let passes = settle_as (Ok tt) _ _ _ _ (g.D.Device.time c.flush.new.dev) (g.D.Device.time c.sync.new.self) p n (c.in_ok-sync.ensures.told t) in
           let passes-ok = passes in
           let now = c.in_ok-this.ensures.unrecovered t un in
-          settled_stays g.S.Seal.seal_of (shown c.in_ok-this.this) (key_of (shown c.args.self)) (g.D.Device.time c.flush.new.dev) (g.D.Device.time c.sync.new.self) tt (record (shown c.in_ok-this.this) { settled = c.flushed-end.result; newest = c.last_slot_of-slot.result }) (c.in_ok-this.ensures.unrecovered t un) passes refl refl (subst (λ (b : Blob). IsBacked g.S.Seal.seal_of after b.content) (sym (ok_blob (key_of (shown c.args.self)) Settle tt (g.D.Device.time c.flush.new.dev) (g.D.Device.time c.sync.new.self) passes-ok)) (record { flushed = now.backed.flushed; tip = now.backed.tip; cache = now.backed.cache }));
+          settled_stays g.S.Seal.seal_of (shown c.in_ok-this.this) (key_of (shown c.args.self)) (g.D.Device.time c.flush.new.dev) (g.D.Device.time c.sync.new.self) tt (record (shown c.in_ok-this.this) { settled = c.flushed-end.result; newest = c.last_slot_of-slot.result }) (c.in_ok-this.ensures.unrecovered t un) passes refl refl (omega (arith, c.flushed-end.ensures)) (subst (λ (b : Blob). IsBacked g.S.Seal.seal_of after b.content) (sym (ok_blob (key_of (shown c.args.self)) Settle tt (g.D.Device.time c.flush.new.dev) (g.D.Device.time c.sync.new.self) passes-ok)) (record { flushed = now.backed.flushed; tip = now.backed.tip; cache = now.backed.cache }));
       front = λ t. front_settle (page_at c.args.self.page_size c.args.self.first) (key_of (shown c.args.self)) (g.D.Device.time c.args.dev.now) (g.D.Device.time c.flush.new.dev) (g.D.Device.time c.sync.new.self) (Ok tt) (c.in_ok-this.ensures.front t) (settle_as (Ok tt) _ _ _ _ (g.D.Device.time c.flush.new.dev) (g.D.Device.time c.sync.new.self) p n (c.in_ok-sync.ensures.told t));
       alone = λ t backed.
           let passes = settle_as c.sync.result _ _ _ _ (g.D.Device.time c.flush.new.dev) (g.D.Device.time c.sync.new.self) p n (c.sync.ensures.told t) in

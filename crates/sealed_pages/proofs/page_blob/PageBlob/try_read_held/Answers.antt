@@ -20,7 +20,7 @@ pub returns-then-not-has_below-clause-held : goal.returns-then-not-has_below-cla
 returns-then-not-has_below-clause-held g c = (λ e. absurd (cc e), λ held. absurd (cc (c.if-not-has_below.true, c.has_below.ensures.1 (held_to (shown c.args.self.now) c.args.offset (length c.args.buf.now) c.below_tip-below.result (omega (arith, c.args.self.now.fit.begun)) c.below_tip-below.ensures held))))
 
 pub returns-clause-bytes : goal.returns-clause-bytes
-returns-clause-bytes g c e content backed =
+returns-clause-bytes g c e content cache =
     let fits : c.args.offset + length c.args.buf.now ≤ c.size.result = in_range c.check_range.result _ c.is_err.ensures.value c.if-is_err.false c.check_range.ensures.fits in
     let wide : c.below_tip-below.result ≤ length c.args.buf.now = omega (arith, c.below_tip-below.ensures) in
     let long : length c.copy_out.new.out ≡ c.below_tip-below.result = search rules in
@@ -32,7 +32,7 @@ returns-clause-bytes g c e content backed =
     ∙ ap (λ (l : List ℕ). l ++ c.copy_held.new.buf) front
     ∙ read_whole c.args.self.now.page_size c.args.self.now.first c.args.offset (length c.args.buf.now) c.below_tip-below.result (view content) c.args.self.now.tip.items c.copy_out.new.out c.copy_held.new.buf
     c.below_tip-below.ensures (omega (arith, fits, c.size.ensures)) long
-    (λ i lt. c.copy_out.ensures g.S.Seal.seal_of content backed.cache i (omega (arith, lt, long, c.copy_out.auto.out)))
+    (λ i lt. c.copy_out.ensures g.S.Seal.seal_of content (cache (omega (arith, lt, c.below_tip-below.ensures))) i (omega (arith, lt, long, c.copy_out.auto.out)))
     (c.copy_held.ensures ∙ (let e : length (take (length (c.copy_out.new.out ++ drop c.below_tip-below.result c.args.buf.now) - c.below_tip-below.result) (drop c.below_tip-below.result (c.copy_out.new.out ++ drop c.below_tip-below.result c.args.buf.now))) ≡ length c.args.buf.now - c.below_tip-below.result
     = omega (arith, length-take (length (c.copy_out.new.out ++ drop c.below_tip-below.result c.args.buf.now) - c.below_tip-below.result) (drop c.below_tip-below.result (c.copy_out.new.out ++ drop c.below_tip-below.result c.args.buf.now)), length-drop c.below_tip-below.result (c.copy_out.new.out ++ drop c.below_tip-below.result c.args.buf.now), all) in
     ap (λ (n : ℕ). take n (drop (c.args.offset + c.below_tip-below.result - c.args.self.now.first * c.args.self.now.page_size) c.args.self.now.tip.items)) e))

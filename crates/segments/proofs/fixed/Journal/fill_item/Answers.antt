@@ -58,7 +58,7 @@ pub returns-clause-bytes : goal.returns-clause-bytes
 returns-clause-bytes g c t holds =
     let u = c.args.buffer.now in
     read_item u.page_size u.first g.A.CodecFixed.SIZE c.args.position (c.args.position * c.SIZE.result) (length c.try_read_held.new.buf) (ap (λ (n : ℕ). c.args.position * n) c.SIZE.ensures) (c.try_read_held.auto.buf ∙ c.requires.room)
-    c.read_at.new.buf (bytes_of (shown u) (disk (g.D.Device.time c.args.dev.now) (key_of (shown u))).content) (c.in_ok-read_at.ensures.bytes t holds)
+    c.read_at.new.buf (bytes_of (shown u) (disk (g.D.Device.time c.args.dev.now) (key_of (shown u))).content) (c.in_ok-read_at.ensures.bytes t (λ _. holds.cache))
 
 pub returns-clause-held : goal.returns-clause-held
 returns-clause-held g c =

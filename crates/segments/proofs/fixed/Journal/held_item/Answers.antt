@@ -3,7 +3,7 @@ use Rattle.std.proofs.lemmas.List.{take_at}
 use Rattle.sealed_pages.specs.Buffer.{size_of, bytes_of}
 use Rattle.sealed_pages.specs.Shown.{shown}
 use Rattle.sealed_pages.proofs.Holding.{fit_size}
-use Rattle.segments.proofs.FixedMemory.{told_held}
+use Rattle.segments.proofs.FixedMemory.{cache_for, told_held}
 use Rattle.segments.proofs.FixedReadLemmas.{item_within, read_item}
 use Rattle.segments.proofs.fixed.Journal.held_item.Goals as goal
 
@@ -31,7 +31,7 @@ returns-in-Ok-clause-item g c v is =
       sym told ∙ yes,
       λ content backed. record {
         spelled = (let whole : length c.try_read_held.new.buf ≡ c.in_ok-bytes.bytes.len = search rules in let spelled : g.A.Codec.spelling c.in-Ok.item ≡ c.try_read_held.new.buf = c.in-Ok.ensures.spelled ∙ c.as_slice.ensures.value ∙ take_at c.try_read_held.new.buf (drop (length c.try_read_held.new.buf) c.in_ok-bytes.bytes.items) c.in_ok-bytes.bytes.len whole in ap g.A.Codec.spelling (sym same) ∙ spelled
-            ∙ read_item u.page_size u.first g.A.CodecFixed.SIZE c.args.position (c.args.position * c.SIZE-2.result) (length c.as_mut_slice.result.now) at long c.try_read_held.new.buf (bytes_of (shown u) content) (c.try_read_held.ensures.bytes yes content backed));
+            ∙ read_item u.page_size u.first g.A.CodecFixed.SIZE c.args.position (c.args.position * c.SIZE-2.result) (length c.as_mut_slice.result.now) at long c.try_read_held.new.buf (bytes_of (shown u) content) (c.try_read_held.ensures.bytes yes content (cache_for g.S.Seal.seal_of content (shown u) g.A.CodecFixed.SIZE c.args.position (c.args.position * c.SIZE-2.result) (length c.as_mut_slice.result.now) at long backed)));
         allowed = rw (← same) c.in-Ok.ensures.allowed;
       },
     )
