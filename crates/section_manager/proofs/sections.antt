@@ -12,3 +12,4 @@ pub mod RemovingEnds
 pub mod CuttingEnds
 pub mod OpeningEnds
 pub mod InitEnds
+pub mod LentLemmas

@@ -1,4 +1,5 @@
 pub mod Lending
+pub mod Lent
 pub mod Managed
 pub mod Finding
 pub mod Opening

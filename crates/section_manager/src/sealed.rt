@@ -133,7 +133,11 @@ impl<S: Seal> SectionBuffer for PageBlob<S> {
 impl<S: Seal> BufferFactory for AppendFactory<S> {
     type Buffer = PageBlob<S>;
 
-    ghost gives = { λ f. record { page_size = f.pages.page_size; capacity = f.write_buffer; cache_pages = f.pages.cache_pages } };
+    ghost gives = { λ f. record {
+      page_size = f.pages.page_size;
+      capacity = f.write_buffer;
+      cache_pages = f.pages.cache_pages;
+    } };
 
     fn create<D: Device>(
         &self,

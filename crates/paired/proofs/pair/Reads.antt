@@ -315,7 +315,7 @@ undamaged {S = S} {gs = gs} seal size j opened d journal t s is_proven position 
   | inr some ↦
       let u : PageBlob S gs = some.0 in
       let b : Blob = d (key_of j.sections s) in
-      whole_read seal (shown u) (bytes_of (shown u) b.content) b ((journal.disk t).sealed s u some.1 is_proven) (position * size) size k
+      whole_read seal (shown u) (bytes_of (shown u) b.content) b ((journal.disk t).sealed s u some.1 is_proven).holds (position * size) size k
       (subst (λ (o : Option (PageBlob S gs)). IsSomeAnd o (λ v. IsDamaged size seal v b.content position k)) some.1 damaged)
 ]
 

@@ -244,7 +244,7 @@ module _ {F S : Type 0} {gs : _} {g : buffer.Ghosts (PageBlob S gs)} {gives : F 
         subst (λ (k : Key). Settles l.seal l.page_size (fixed.section_bytes j.sections d s) (d k)) (index_key rests.parts s)
         (subst (λ (x : Option (PageBlob S gs)). Settles l.seal l.page_size (fixed.bytes_held x (d (key_of j.sections s)).content) (d (key_of j.sections s))) (sym held)
         (settles_of l.seal (shown v) l.page_size (bytes_of (shown v) (d (key_of j.sections s)).content) (d (key_of j.sections s)) (paged rests.parts s v held) v.fit.begun
-        (all_flushed (shown v) v.fit.within v.order (all_of rests.parts s v held)) (all_of rests.parts s v held) ((rests.journal.disk t).sealed s v held (rests.proven s))))
+        (all_flushed (shown v) v.fit.within v.order (all_of rests.parts s v held)) (all_of rests.parts s v held) ((rests.journal.disk t).sealed s v held (rests.proven s)).holds))
 
     -- the records that are stored are those that the journal has
     pub stored_at : (s : ℕ) → s < 2 ^ 64 → stored_records l (as_read d) s ≡ records l.record_size (fixed.section_bytes j.sections d s)

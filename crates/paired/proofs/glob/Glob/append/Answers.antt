@@ -1,5 +1,4 @@
-use Rattle.std.proofs.Common.{◌≡◌, ◌≢◌, ◌+◌, ◌++◌, ◌⊎◌, false, ◌≤◌, ◌<◌, ◌-◌, ◌^◌, ℕ, List, ◌∷◌, [], length, Ok, inl, inr, refl, sym, ◌∙◌, ap, subst, arith}
-use Rattle.std.specs.Prelude.{IsSome}
+use Rattle.std.proofs.Common.{◌≡◌, ◌+◌, ◌++◌, ◌⊎◌, false, ◌≤◌, ◌<◌, ◌-◌, ◌^◌, ℕ, List, ◌∷◌, [], length, Ok, inl, inr, refl, sym, ◌∙◌, ap, subst, arith}
 use Rattle.std.specs.Option.{is_some}
 use Rattle.std.specs.Result.{is_ok}
 use Rattle.blob_device.specs.declared.runtime.RError.TheVariants.{Fault}
@@ -13,6 +12,7 @@ use Rattle.blob_device.specs.Timeline.{disk}
 use Rattle.sealed_pages.specs.unsealed.Writing.{WriteBuffer, run_of}
 use Rattle.sealed_pages.specs.unsealed.Writing as writing
 use Rattle.section_manager.specs.Leaving.{AllMoments}
+use Rattle.section_manager.specs.managing.Lent.{IsLent, StepsTo}
 use Rattle.section_manager.specs.managing.Managed.{shown}
 use Rattle.section_manager.specs.Sections.{key_of}
 use Rattle.section_manager.specs.unsealed.Buffer.{Stands, content_of, count_of}
@@ -20,9 +20,9 @@ use Rattle.paired.specs.glob.Lasting.{Outlasts, settled_bytes}
 use Rattle.sealed_pages.specs.declared.write_blob.WriteBlob.{WriteBlob}
 use Rattle.section_manager.specs.Setting.{Setting}
 use Rattle.section_manager.proofs.sections.KeyLemmas.{keys_differ}
-use Rattle.section_manager.proofs.sections.OverLemmas.{same_key, over_put}
-use Rattle.section_manager.proofs.sections.RemoveLemmas.{same_then}
-use Rattle.section_manager.proofs.WalkLemmas.{same_bounds, some_same}
+use Rattle.section_manager.proofs.sections.LentLemmas.{lent_back}
+use Rattle.section_manager.proofs.sections.OverLemmas.{same_key}
+use Rattle.section_manager.proofs.WalkLemmas.{some_same}
 use Rattle.paired.proofs.GlobLemmas.{buffers, Serves, serves_of, glob_one, same_bytes, held_bytes, no_bytes, section_counted}
 use Rattle.section_manager.proofs.sections.EntryLemmas.{starts_none}
 use Rattle.section_manager.proofs.sections.TruncateLemmas.{unread_then}
@@ -35,7 +35,9 @@ use Rattle.std.proofs.lemmas.Bool.{cases_lt}
 use Rattle.paired.proofs.CallLemmas.{some_held, held_some}
 use Rattle.sealed_pages.specs.Tails.{LeavesPending}
 use Rattle.paired.proofs.TailLemmas.{appended_tail}
+use Rattle.paired.proofs.glob.Glob.append.Given as given
 use Rattle.paired.proofs.glob.Glob.append.Goals as goal
+use Rattle.paired.proofs.glob.Glob.append.Goals.{In_ok-put}
 
 pub returns-clause-tail : goal.returns-clause-tail
 returns-clause-tail g c =
@@ -236,10 +238,42 @@ returns-clause-settled g c known =
     let got : c.append.result ≡ Ok (v, c.in_ok-buffer-2.offset) = mapped_ok _ c.append.result (v, c.in_ok-buffer-2.offset) c.in_ok-buffer-2.ensures.cases in
     ap settled_held put.here ∙ ap (λ (x : WriteBuffer). x.settled) (ok_at c.append.result (v, c.in_ok-buffer-2.offset) (λ r. writing.shown r.0 ≡ record (writing.shown w) { end = r.0.end; at = r.0.at; pending = r.0.pending.items; dirty = r.0.dirty }) got c.append.ensures.same) ∙ (taken_size _ m (g.D.Device.opened c.args.dev.now) (disk (time c.args.dev.now)) c.requires.over s c.ranges.section.fits c.requires.ceiling w (disk (time c.take.new.dev)) took.same (λ held. ap (λ x. disk (time x)) (c.take.ensures.untouched held)) took.idle took.made took.stands known).1
 
+-- what the buffer's append answered, as the buffer raised it
+appended : (g : given.Over) (c : In_ok-put g) → c.append.result ≡ Ok (c.in_ok-buffer-2.buffer, c.in_ok-buffer-2.offset)
+appended g c = mapped_ok _ c.append.result (c.in_ok-buffer-2.buffer, c.in_ok-buffer-2.offset) c.in_ok-buffer-2.ensures.cases
+
+-- the frame went to the buffer that was taken out
+stepped : (g : given.Over) (c : In_ok-put g) → StepsTo buffers g.D.Device c.in_ok-buffer.buffer c.in_ok-buffer-2.buffer c.take.new.dev c.append.new.dev
+stepped g c =
+    let b = g.D.Device.time c.take.new.dev in
+    let e = g.D.Device.time c.append.new.dev in
+    let w = c.in_ok-buffer.buffer in
+    let v = c.in_ok-buffer-2.buffer in
+    let got = appended g c in
+    let same = ok_at c.append.result (v, c.in_ok-buffer-2.offset) (λ r. writing.shown r.0 ≡ record (writing.shown w) { end = r.0.end; at = r.0.at; pending = r.0.pending.items; dirty = r.0.dirty }) got c.append.ensures.same in
+    let key : writing.blob_key (writing.shown v) ≡ writing.blob_key (writing.shown w) = ap (λ (x : WriteBuffer). writing.blob_key x) same in
+    let opens = ok_at c.append.result (v, c.in_ok-buffer-2.offset) (λ r. IsOpenAt (g.D.Device.opened c.append.new.dev) (writing.blob_key (writing.shown r.0)) r.0.end) got c.append.ensures.«open» in
+    record {
+      touches = record { entries = c.append.ensures.entries.others; blobs = λ t. (always_now b e _ (c.append.ensures.spares t)).others };
+      key = key;
+      setting = ap (λ (x : WriteBuffer). setting_at x.capacity) same;
+      «open» = subst (λ (q : Key). IsOpenAt (g.D.Device.opened c.append.new.dev) q v.end) key opens;
+      stands = λ t. record {
+        over = ok_at c.append.result (v, c.in_ok-buffer-2.offset) (λ r. writing.Over (writing.shown r.0) (disk e (writing.blob_key (writing.shown w)))) got
+            (c.append.ensures.over t (subst (λ (q : Key). writing.Over (writing.shown w) (disk b q)) (sym c.in_ok-buffer.ensures.key) (c.in_ok-buffer.ensures.stands t).over));
+        size = ap (λ (q : Key). length (disk e q).content) (sym key) ∙ open_long (g.D.Device.opened c.append.new.dev (writing.blob_key (writing.shown v))) v.end (length (disk e (writing.blob_key (writing.shown v))).content) _ opens
+            (g.met.D.Device.opened_stands t c.append.new.dev (writing.blob_key (writing.shown v)));
+      };
+    }
+
+-- so the section was lent to it
+lent : (g : given.Over) (c : In_ok-put g) → IsLent buffers (λ f. setting_at f.capacity) g.D.Device (shown c.args.self.manager) c.args.section (shown c.put.new.self) c.args.dev.now c.append.new.dev
+lent g c = lent_back buffers (λ f. setting_at f.capacity) g.D.Device (shown c.args.self.manager) c.args.section (shown c.take.new.self) c.args.dev.now c.take.new.dev c.in_ok-buffer.buffer c.in_ok-buffer.ensures c.append.new.dev c.in_ok-buffer-2.buffer (shown c.put.new.self)
+    c.requires.ceiling (stepped g c) c.in_ok-put.ensures.put
+
 pub returns-clause-over : goal.returns-clause-over
 returns-clause-over g c =
     let m = shown c.args.self.manager in
-    let m1 = shown c.take.new.self in
     let n = shown c.put.new.self in
     let s = c.args.section in
     let k = key_of m s in
@@ -252,29 +286,12 @@ returns-clause-over g c =
     let bytes = c.as_slice.result.now in
     let took = c.in_ok-buffer.ensures in
     let put = c.in_ok-put.ensures.put in
-    let got : c.append.result ≡ Ok (v, c.in_ok-buffer-2.offset) = mapped_ok _ c.append.result (v, c.in_ok-buffer-2.offset) c.in_ok-buffer-2.ensures.cases in
-    let blobs : g.D.Device.Tells → (q : Key) → q ≢ k → disk e q ≡ disk a q = λ t q other.
-    (always_now b e _ (c.append.ensures.spares t)).others q (λ is. other (is ∙ took.key)) ∙ (always_now a b _ (c.take.ensures.moments t)).others q other in
+    let at = (goal.at.returns-clause-over g c).In_ok-put in
+    let got = appended g at in
+    let is = lent g at in
     let same = ok_at c.append.result (v, c.in_ok-buffer-2.offset) (λ r. writing.shown r.0 ≡ record (writing.shown w) { end = r.0.end; at = r.0.at; pending = r.0.pending.items; dirty = r.0.dirty }) got c.append.ensures.same in
-    let k1 : key_of m1 s ≡ k = same_key m m1 c.take.ensures.bounds s in
-    let kw : writing.blob_key (writing.shown w) ≡ key_of m1 s = took.key ∙ sym k1 in
-    let kv : writing.blob_key (writing.shown v) ≡ key_of m1 s = ap (λ (x : WriteBuffer). writing.blob_key x) same ∙ kw in
-    let opens = ok_at c.append.result (v, c.in_ok-buffer-2.offset) (λ r. IsOpenAt (g.D.Device.opened c.append.new.dev) (writing.blob_key (writing.shown r.0)) r.0.end) got c.append.ensures.«open» in
-    let stands : g.D.Device.Tells → Stands v (disk e (key_of m1 s)) = λ t. subst (λ (q : Key). Stands v (disk e q)) kw (record {
-      over = ok_at c.append.result (v, c.in_ok-buffer-2.offset) (λ r. writing.Over (writing.shown r.0) (disk e (writing.blob_key (writing.shown w)))) got
-          (c.append.ensures.over t (subst (λ (q : Key). writing.Over (writing.shown w) (disk b q)) (sym took.key) (took.stands t).over));
-      size = ap (λ (q : Key). length (disk e q).content) (kw ∙ sym kv) ∙ open_long (g.D.Device.opened c.append.new.dev (writing.blob_key (writing.shown v))) v.end (length (disk e (writing.blob_key (writing.shown v))).content) _ opens
-          (g.met.D.Device.opened_stands t c.append.new.dev (writing.blob_key (writing.shown v)));
-    }) in
-    let over = over_put buffers _ m1 n (g.D.Device.opened c.take.new.dev) (g.D.Device.opened c.append.new.dev) (disk b) (disk e) s v c.take.ensures.over put (inr (subst IsSome (sym took.known) refl))
-    (omega (arith, c.take.ensures.bounds.ceiling, c.requires.ceiling)) kv
-    (ap (λ (x : WriteBuffer). setting_at x.capacity) same ∙ took.setting ∙ ap (λ f. setting_at f.capacity) (sym c.take.ensures.bounds.place.factory))
-    (subst (λ (q : Key). IsOpenAt (g.D.Device.opened c.append.new.dev) q v.end) kv opens)
-    (λ q other. c.append.ensures.entries.others q (λ is. other (is ∙ kw)))
-    (λ t q other. (always_now b e _ (c.append.ensures.spares t)).others q (λ is. other (is ∙ kw))) stands in
     let size = ok_at c.append.result (v, c.in_ok-buffer-2.offset) (λ r. count_of r.0 ≡ count_of w + length bytes) got c.append.ensures.size in
     let run = ok_at c.append.result (v, c.in_ok-buffer-2.offset) (λ r. writing.HoldsOnly (writing.shown w) (count_of w) bytes (writing.shown r.0)) got c.append.ensures.run in
-    let bounds = same_bounds m m1 n c.take.ensures.bounds put.bounds in
     let before = taken_serves _ m (g.D.Device.opened c.args.dev.now) (disk a) c.requires.over s w (disk b) took.same (λ here. ap (λ x. disk (time x)) (c.take.ensures.untouched here)) took.idle took.stands in
     let serves : Serves g.D.Device.Tells v (disk e k) = record {
       ends = appended_takes w v bytes size run;
@@ -286,41 +303,27 @@ returns-clause-over g c =
           (ok_at c.append.result (v, c.in_ok-buffer-2.offset) (λ r. content_of r.0 (disk e (writing.blob_key (writing.shown w))).content ≡ content_of w (disk b (writing.blob_key (writing.shown w))).content ++ bytes) got (c.append.ensures.bytes t))))
           (append_fronts w bytes bytes refl k b e took.key t (took.stands t) before (c.append.ensures.spares t) (c.append.ensures.since t));
     } in
-    glob_one _ m (g.D.Device.opened c.args.dev.now) (disk a) c.requires.over n (g.D.Device.opened c.append.new.dev) (disk e) s over bounds (λ q other. same_then m m1 n q (c.take.ensures.others q other) (put.others q other)) c.ranges.section.fits blobs
+    glob_one _ m (g.D.Device.opened c.args.dev.now) (disk a) c.requires.over n (g.D.Device.opened c.append.new.dev) (disk e) s is.over is.bounds is.others c.ranges.section.fits is.touches.blobs
     (λ u held. subst (λ (x : WriteBlob). Serves g.D.Device.Tells x (disk e (key_of n s))) (some_same v u (sym put.here ∙ held))
-    (subst (λ (q : Key). Serves g.D.Device.Tells v (disk e q)) (sym (same_key m n bounds s)) serves))
+    (subst (λ (q : Key). Serves g.D.Device.Tells v (disk e q)) (sym (same_key m n is.bounds s)) serves))
     (λ t some. absurd (cc (some, ap is_some put.opened)))
 
 pub returns-clause-other_bytes : goal.returns-clause-other_bytes
 returns-clause-other_bytes g c t q other =
     let m = shown c.args.self.manager in
-    let m1 = shown c.take.new.self in
     let n = shown c.put.new.self in
     let s = c.args.section in
-    let k = key_of m s in
-    let time = g.D.Device.time in
-    let a = time c.args.dev.now in
-    let b = time c.take.new.dev in
-    let e = time c.append.new.dev in
-    let w = c.in_ok-buffer.buffer in
-    let v = c.in_ok-buffer-2.buffer in
-    let bytes = c.as_slice.result.now in
-    let took = c.in_ok-buffer.ensures in
-    let put = c.in_ok-put.ensures.put in
-    let got : c.append.result ≡ Ok (v, c.in_ok-buffer-2.offset) = mapped_ok _ c.append.result (v, c.in_ok-buffer-2.offset) c.in_ok-buffer-2.ensures.cases in
-    let blobs : g.D.Device.Tells → (q : Key) → q ≢ k → disk e q ≡ disk a q = λ t q other.
-    (always_now b e _ (c.append.ensures.spares t)).others q (λ is. other (is ∙ took.key)) ∙ (always_now a b _ (c.take.ensures.moments t)).others q other in
-    let bounds = same_bounds m m1 n c.take.ensures.bounds put.bounds in
-    same_bytes m n (disk a) (disk e) q ((put.others q other).held ∙ (c.take.ensures.others q other).held) (λ held.
-    ap (disk e) (same_key m n bounds q) ∙ blobs t (key_of m q) (keys_differ m.partition q s (c.requires.over.over.opened_list.number q (inl held)) c.ranges.section.fits other))
+    let a = g.D.Device.time c.args.dev.now in
+    let e = g.D.Device.time c.append.new.dev in
+    let is = lent g (goal.at.returns-clause-other_bytes g c).In_ok-put in
+    same_bytes m n (disk a) (disk e) q (is.others q other).held (λ held.
+    ap (disk e) (same_key m n is.bounds q) ∙ is.touches.blobs t (key_of m q) (keys_differ m.partition q s (c.requires.over.over.opened_list.number q (inl held)) c.ranges.section.fits other))
 
 pub returns-clause-bytes : goal.returns-clause-bytes
 returns-clause-bytes g c t =
     let m = shown c.args.self.manager in
-    let m1 = shown c.take.new.self in
     let n = shown c.put.new.self in
     let s = c.args.section in
-    let k = key_of m s in
     let time = g.D.Device.time in
     let a = time c.args.dev.now in
     let b = time c.take.new.dev in
@@ -329,11 +332,10 @@ returns-clause-bytes g c t =
     let v = c.in_ok-buffer-2.buffer in
     let bytes = c.as_slice.result.now in
     let took = c.in_ok-buffer.ensures in
-    let put = c.in_ok-put.ensures.put in
-    let got : c.append.result ≡ Ok (v, c.in_ok-buffer-2.offset) = mapped_ok _ c.append.result (v, c.in_ok-buffer-2.offset) c.in_ok-buffer-2.ensures.cases in
-    let kn : key_of n s ≡ writing.blob_key (writing.shown w) = same_key m n (same_bounds m m1 n c.take.ensures.bounds put.bounds) s ∙ sym took.key in
-    let added = ok_at c.append.result (v, c.in_ok-buffer-2.offset) (λ r. content_of r.0 (disk e (writing.blob_key (writing.shown w))).content ≡ content_of w (disk b (writing.blob_key (writing.shown w))).content ++ bytes) got (c.append.ensures.bytes t) in
-    held_bytes n (disk e) s v put.here ∙ ap (λ (q : Key). content_of v (disk e q).content) kn ∙ added
+    let at = (goal.at.returns-clause-bytes g c).In_ok-put in
+    let kn : key_of n s ≡ writing.blob_key (writing.shown w) = same_key m n (lent g at).bounds s ∙ sym took.key in
+    let added = ok_at c.append.result (v, c.in_ok-buffer-2.offset) (λ r. content_of r.0 (disk e (writing.blob_key (writing.shown w))).content ≡ content_of w (disk b (writing.blob_key (writing.shown w))).content ++ bytes) (appended g at) (c.append.ensures.bytes t) in
+    held_bytes n (disk e) s v c.in_ok-put.ensures.put.here ∙ ap (λ (q : Key). content_of v (disk e q).content) kn ∙ added
     ∙ ap (λ (l : List ℕ). l ++ bytes) (ap (λ (q : Key). content_of w (disk b q).content) took.key ∙ taken_bytes _ m (g.D.Device.opened c.args.dev.now) (disk a) c.requires.over s c.ranges.section.fits c.requires.ceiling w (disk b) took.same (λ held. ap (λ x. disk (time x)) (c.take.ensures.untouched held)) took.idle took.made t (took.bytes t))
     ∙ ap (λ (l : List ℕ). section_bytes m (disk a) s ++ l) (c.as_slice.ensures.value ∙ c.in_ok-frame.ensures.frame)
 
