@@ -104,3 +104,8 @@ held_covered seal u size p content pos backed held k wanted =
 -- one more of a list's numbers that passes a test, behind the first i, is counted within the list
 pub count_within : (test : ℕ → Bool) (xs : List ℕ) (i : ℕ) → i < length xs → test (get_or xs i 0) ≡ true → count_by test (take i xs) + 1 ≤ length xs
 count_within test xs i lt passes = omega (arith, count_by_more_yes test xs i 0 lt passes, sum_by-take-le (λ p. cond (test p) 1 0) xs (i + 1), count_by-le-length test xs)
+
+-- what a read at such a place checked
+pub covered_item : (seal : List ℕ → ℕ) (content : List ℕ) (u : Buffer) (size p m n : ℕ) → m ≡ p * size → n ≡ size → IsCovered seal u.page_size content m (below u.page_size u.first m n)
+    → IsCovered seal u.page_size content (p * size) (below u.page_size u.first (p * size) size)
+covered_item seal content u size p m n at long is = subst (λ (x : ℕ). IsCovered seal u.page_size content (p * size) (below u.page_size u.first (p * size) x)) long (subst (λ (x : ℕ). IsCovered seal u.page_size content x (below u.page_size u.first x n)) at is)

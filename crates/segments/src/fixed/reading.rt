@@ -206,8 +206,10 @@ impl<A: CodecFixed, S: Seal> Journal<A, S> {
         }
         match A::decode_cfg(alloc, bytes.as_slice(), ()) {
             Ok(item) => Ok(Some(item)),
-            Err(codec::Error::Mem) => Err(Error::Mem),
-            Err(_) => Ok(None),
+            Err(error) => match error {
+                codec::Error::Mem => Err(Error::Mem),
+                _ => Ok(None),
+            },
         }
     }
 
