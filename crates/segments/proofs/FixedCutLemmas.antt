@@ -16,7 +16,7 @@ use Rattle.sealed_pages.specs.Unrecovered.{IsUnrecovered, IsAdopted, IsSafeCut}
 use Rattle.sealed_pages.proofs.PageCalls.{only_weaker}
 use Rattle.sealed_pages.proofs.SlotLemmas.{times_more}
 use Rattle.sealed_pages.proofs.Truncating.{all_flushed, settles_of}
-use Rattle.sealed_pages.proofs.UnrecoveredLemmas.{unrecovered_prefix, adopted_sealed}
+use Rattle.sealed_pages.proofs.UnrecoveredLemmas.{unrecovered_prefix, adopted_sealed, prefix_settled}
 use Rattle.section_manager.specs.declared.buffer.SectionBuffer as buffer
 use Rattle.section_manager.specs.Leaving.{Leaves, AllMoments}
 use Rattle.section_manager.specs.Sections.{key_of, IsSame, SameBounds, IsOver, IsCut}
@@ -65,11 +65,12 @@ module _ {F S : Type 0} {gs : _} (seal : List ℕ → ℕ) (size : ℕ) (told : 
           moments
 
       pub cut_unsealed : IsUnrecovered seal (shown u) (disk a (key_of j.sections s)) → Sealing seal u.page_size (sealed_prefix seal u.page_size (disk a (key_of j.sections s)).content)
-          (min (min u.settled n) (length (sealed_prefix seal u.page_size (disk a (key_of j.sections s)).content))) (key_of j.sections s) a b
-      cut_unsealed un = only_weaker a b (key_of j.sections s) (disk a) (λ x. (w : PageBlob S gs) → j.sections.held s ≡ Some w → Leaves (g.NoChanceSeal w) (g.MayKeep w (disk a (key_of j.sections s)) (min (g.settled w) n)) x)
-          (chance.Leaves seal u.page_size (sealed_prefix seal u.page_size (disk a (key_of j.sections s)).content) (min (min u.settled n) (length (sealed_prefix seal u.page_size (disk a (key_of j.sections s)).content))))
-          (λ x leaves. leaves_front seal g pages u (disk a (key_of j.sections s)) x (min (g.settled u) n) (min (min u.settled n) (length (sealed_prefix seal u.page_size (disk a (key_of j.sections s)).content)))
-          (ap (λ (m : ℕ). min (min m n) (length (sealed_prefix seal u.page_size (disk a (key_of j.sections s)).content))) (pages.settled u)) un (leaves u held))
+          (min n (length (sealed_prefix seal u.page_size (disk a (key_of j.sections s)).content))) (key_of j.sections s) a b
+      cut_unsealed un =
+          let all : length (sealed_prefix seal u.page_size (disk a (key_of j.sections s)).content) ≤ u.settled = prefix_settled seal (shown u) (disk a (key_of j.sections s)) (omega (arith, u.fit.begun)) un in
+          only_weaker a b (key_of j.sections s) (disk a) (λ x. (w : PageBlob S gs) → j.sections.held s ≡ Some w → Leaves (g.NoChanceSeal w) (g.MayKeep w (disk a (key_of j.sections s)) (min (g.settled w) n)) x)
+          (chance.Leaves seal u.page_size (sealed_prefix seal u.page_size (disk a (key_of j.sections s)).content) (min n (length (sealed_prefix seal u.page_size (disk a (key_of j.sections s)).content))))
+          (λ x leaves. leaves_front seal g pages u (disk a (key_of j.sections s)) x (min (g.settled u) n) (min n (length (sealed_prefix seal u.page_size (disk a (key_of j.sections s)).content))) (omega (arith, pages.settled u, all)) un (leaves u held))
           moments
 
       pub cut_front : IsTrue (j.unrecovered s) → Sealing seal u.page_size (sealed_prefix seal u.page_size (disk a (key_of j.sections s)).content)

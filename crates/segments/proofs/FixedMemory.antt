@@ -7,7 +7,7 @@ use Rattle.std.proofs.lemmas.List.Sums.{count_by_more_yes, count_by-le-length, s
 use Rattle.std.proofs.Math.Nat.{mul-le-mul_right}
 use Rattle.sealed_pages.specs.Buffer.{Buffer, size_of, cached, is_cached, IsBacked}
 use Rattle.sealed_pages.specs.Cached.{uncached, IsCachedOf}
-use Rattle.sealed_pages.specs.Reads.{IsHeld, IsCovered, IsWanted, touched, below, missing_pages}
+use Rattle.sealed_pages.specs.Reads.{IsCacheFor, IsHeld, IsCovered, IsWanted, touched, below, missing_pages}
 use Rattle.sealed_pages.proofs.CacheLemmas.{found_page_has, uncached_most}
 use Rattle.sealed_pages.proofs.HeldLemmas.{held_from, held_to, wanted_low}
 use Rattle.sealed_pages.proofs.Holding.{bool_or, div_place}
@@ -90,6 +90,10 @@ module _ (u : Buffer) (size p m n : ℕ) (at : m ≡ p * size) (long : n ≡ siz
     | inr not_held ↦ sym not_held
   ]
 
+-- what a read of the item's bytes asks of the pages in memory, at such a place
+pub cache_for : (seal : List ℕ → ℕ) (content : List ℕ) (u : Buffer) (size p m n : ℕ) → m ≡ p * size → n ≡ size → IsCacheFor seal u content (p * size) size → IsCacheFor seal u content m n
+cache_for seal content u size p m n at long has = subst (λ (x : ℕ). IsCacheFor seal u content m x) (sym long) (subst (λ (x : ℕ). IsCacheFor seal u content x size) (sym at) has)
+
 -- the pages below the tip that have bytes of an item in memory are covered
 pub held_covered : (seal : List ℕ → ℕ) (u : Buffer) (size p : ℕ) (content : List ℕ) → 0 < u.page_size → IsBacked seal u content → eqb (missing_pages u (p * size) size) 0 ≡ true
     → IsCovered seal u.page_size content (p * size) (below u.page_size u.first (p * size) size)
@@ -100,3 +104,8 @@ held_covered seal u size p content pos backed held k wanted =
 -- one more of a list's numbers that passes a test, behind the first i, is counted within the list
 pub count_within : (test : ℕ → Bool) (xs : List ℕ) (i : ℕ) → i < length xs → test (get_or xs i 0) ≡ true → count_by test (take i xs) + 1 ≤ length xs
 count_within test xs i lt passes = omega (arith, count_by_more_yes test xs i 0 lt passes, sum_by-take-le (λ p. cond (test p) 1 0) xs (i + 1), count_by-le-length test xs)
+
+-- what a read at such a place checked
+pub covered_item : (seal : List ℕ → ℕ) (content : List ℕ) (u : Buffer) (size p m n : ℕ) → m ≡ p * size → n ≡ size → IsCovered seal u.page_size content m (below u.page_size u.first m n)
+    → IsCovered seal u.page_size content (p * size) (below u.page_size u.first (p * size) size)
+covered_item seal content u size p m n at long is = subst (λ (x : ℕ). IsCovered seal u.page_size content (p * size) (below u.page_size u.first (p * size) x)) long (subst (λ (x : ℕ). IsCovered seal u.page_size content x (below u.page_size u.first x n)) at is)

@@ -152,7 +152,7 @@ module _ {F S : Type 0} {gs : _} (seal : List ℕ → ℕ) (size : ℕ) (g : buf
               (λ x has. replaying_here seal size w (disk a) s small numbers reached x
               (λ y is free2. of_held (λ (z : PageBlob S gs). IsSealed seal (shown z) (disk a key) → MayFlush seal z (disk a key) x) (λ sealed. absurd (not_both seal (shown u) (disk a key) sealed un)) y is)
               (λ y is free2 un2. of_held (λ (z : PageBlob S gs). MayFront seal z (disk a key) x)
-              (prefix_leaves seal u.page_size (sealed_prefix seal u.page_size (disk a key).content) (min u.settled (length (sealed_prefix seal u.page_size (disk a key).content))) x (omega arith) has) y is)
+              (prefix_leaves seal u.page_size (sealed_prefix seal u.page_size (disk a key).content) (length (sealed_prefix seal u.page_size (disk a key).content)) x (omega arith) has) y is)
               (λ y is. not_owed free) (λ y is rest. absurd (not_still y is rest.0 more)))
         ]
 
@@ -287,11 +287,9 @@ module _ {F S : Type 0} {gs : _} (seal : List ℕ → ℕ) (size : ℕ) (g : buf
           front_leaves : sealed_prefix seal u.page_size (disk b key).content ≡ sealed_prefix seal u.page_size (disk a key).content → (x : Blob) → MayFront seal v (disk b key) x → MayFront seal u (disk a key) x
           front_leaves same x left =
               let c = (disk b key).content in
-              let paged : Leaves seal u.page_size (sealed_prefix seal u.page_size c) (min v.settled (length (sealed_prefix seal u.page_size c))) x =
-              subst (λ (P : ℕ). Leaves seal P (sealed_prefix seal P c) (min v.settled (length (sealed_prefix seal P c))) x) flush.page_size left in
-              let settled : Leaves seal u.page_size (sealed_prefix seal u.page_size c) (min u.settled (length (sealed_prefix seal u.page_size c))) x =
-              subst (λ (k : ℕ). Leaves seal u.page_size (sealed_prefix seal u.page_size c) (min k (length (sealed_prefix seal u.page_size c))) x) flush.settled paged in
-              subst (λ (l : List ℕ). Leaves seal u.page_size l (min u.settled (length l)) x) same settled
+              let paged : Leaves seal u.page_size (sealed_prefix seal u.page_size c) (length (sealed_prefix seal u.page_size c)) x =
+              subst (λ (P : ℕ). Leaves seal P (sealed_prefix seal P c) (length (sealed_prefix seal P c)) x) flush.page_size left in
+              subst (λ (l : List ℕ). Leaves seal u.page_size l (length l) x) same paged
 
           flushed_leaves : (x : Blob) → MayFlush seal v (disk b key) x → MayFlush seal u (disk a key) x
           flushed_leaves x left =

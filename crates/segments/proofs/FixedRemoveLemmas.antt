@@ -11,8 +11,9 @@ use Rattle.sealed_pages.specs.Shown.{shown}
 use Rattle.section_manager.specs.declared.buffer.SectionBuffer as buffer
 use Rattle.section_manager.specs.Setting.{Setting}
 use Rattle.section_manager.specs.Sections.{key_of, IsKnown, IsGone, IsSame, IsKeyOf, SamePlace, IsOver}
-use Rattle.segments.specs.FixedLists.{Lists, IsJournal}
+use Rattle.segments.specs.FixedLists.{Lists, section_bytes, IsJournal}
 use Rattle.segments.proofs.FixedSections.{is_held}
+use Rattle.segments.proofs.FixedSpared.{bytes_spared}
 use Rattle.segments.proofs.FixedWriteLemmas.{proven_back}
 
 pub same_number : (m n : ℕ) → m < 2 ^ 64 → n < 2 ^ 64 → to_be_bytes w64 m ≡ to_be_bytes w64 n → m ≡ n
@@ -71,3 +72,8 @@ module _ {F S : Type 0} {gs : _} (g : buffer.Ghosts (PageBlob S gs)) (gives : F 
         ];
       };
     }
+
+    -- a section that is kept has the bytes that it had
+    pub pruned_bytes : SamePlace j.sections n.sections → (told → (q : Key) → (IsKeyOf j.sections (λ s. IsKnown j.sections s × (s < least)) q → ⊥) → e q ≡ d q) → told → (s : ℕ) → least ≤ s
+        → section_bytes n.sections e s ≡ section_bytes j.sections d s
+    pruned_bytes place others t s from = bytes_spared j.sections n.sections d e s (kept s from) place (λ u held. others t (key_of j.sections s) (apart s u from held))

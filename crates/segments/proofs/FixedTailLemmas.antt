@@ -10,6 +10,7 @@ use Rattle.blob_device.proofs.Moments.{always_weaker}
 use Rattle.sealed_pages.specs.Buffer.{size_of, IsSealed}
 use Rattle.sealed_pages.specs.SealedPrefix.{sealed_prefix}
 use Rattle.sealed_pages.specs.Shown.{shown}
+use Rattle.sealed_pages.proofs.UnrecoveredLemmas.{prefix_settled}
 use Rattle.sealed_pages.specs.Unrecovered.{IsAdopted}
 use Rattle.sealed_pages.specs.declared.page_blob.PageBlob.{PageBlob}
 use Rattle.section_manager.specs.Answers.{seen}
@@ -42,8 +43,8 @@ module _ {F S : Type 0} {gs : _} (seal : List ℕ → ℕ) (size : ℕ) (told : 
     later = is.later;
     sealed = λ u held sealed. leaves_sealed seal g pages u (disk a key) (d key) (min (g.settled u) n) (min u.settled n) (ap (λ (m : ℕ). min m n) (pages.settled u)) sealed (is.cut u held);
     front = λ u held owes. settled_front seal g pages u (disk a key) (d key) (min (g.settled u) n) n (journal.owes_settled.settled s u held owes) (ap (λ (m : ℕ). min m n) (pages.settled u)) (adopted u held) (is.cut u held);
-    unsealed = λ u held un. leaves_front seal g pages u (disk a key) (d key) (min (g.settled u) n) (min (min u.settled n) (length (sealed_prefix seal u.page_size (disk a key).content)))
-        (ap (λ (m : ℕ). min (min m n) (length (sealed_prefix seal u.page_size (disk a key).content))) (pages.settled u)) un (is.cut u held);
+    unsealed = λ u held un. (let all : length (sealed_prefix seal u.page_size (disk a key).content) ≤ u.settled = prefix_settled seal (shown u) (disk a key) (omega (arith, u.fit.begun)) un in
+        leaves_front seal g pages u (disk a key) (d key) (min (g.settled u) n) (min n (length (sealed_prefix seal u.page_size (disk a key).content))) (omega (arith, pages.settled u, all)) un (is.cut u held));
     last = elim is.last [ inl same ↦ inl same | inr (long, gone) ↦ inr (longer long, gone) ];
     others = is.others;
   })

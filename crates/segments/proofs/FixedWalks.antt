@@ -50,9 +50,9 @@ MayCut seal size u floor from b = (b ≡ from)
 abbrev pub MayFlush : {S : Type 0} {gs : _} → (List ℕ → ℕ) → PageBlob S gs → Blob → Blob → Type 0
 MayFlush seal u from b = Leaves seal u.page_size (bytes_of (shown u) from.content) u.settled b
 
--- And of one that is not a prefix of its sealed prefix, no shorter than what had settled of that.
+-- And of one that is not all of its sealed prefix.
 abbrev pub MayFront : {S : Type 0} {gs : _} → (List ℕ → ℕ) → PageBlob S gs → Blob → Blob → Type 0
-MayFront seal u from b = Leaves seal u.page_size (sealed_prefix seal u.page_size from.content) (min u.settled (length (sealed_prefix seal u.page_size from.content))) b
+MayFront seal u from b = Leaves seal u.page_size (sealed_prefix seal u.page_size from.content) (length (sealed_prefix seal u.page_size from.content)) b
 
 module _ {F S : Type 0} {gs : _} (seal : List ℕ → ℕ) (size : ℕ) where
   -- Nothing changed but the section s and its blob.

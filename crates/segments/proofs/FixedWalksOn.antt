@@ -31,7 +31,7 @@ module _ {F S : Type 0} {gs : _} (seal : List ℕ → ℕ) (size : ℕ) where
     replaying_start q = record {
       flushed = λ t u is free sealed here. holds_leaves seal (shown u) (bytes_of (shown u) (d q).content) (d q) u.fit.begun sealed.holds;
       front = λ t u is free un here. (let kept = sealed_prefix seal u.page_size (d q).content in
-          prefix_leaves seal u.page_size kept (min u.settled (length kept)) (d q) (omega arith) (unrecovered_prefix seal (shown u) (d q) (omega (arith, u.fit.begun)) un).0);
+          prefix_leaves seal u.page_size kept (length kept) (d q) (omega arith) (unrecovered_prefix seal (shown u) (d q) (omega (arith, u.fit.begun)) un).0);
       cut = λ t u is owed here. inl refl;
       still = λ t u is rest here. refl;
       others = λ not. refl;

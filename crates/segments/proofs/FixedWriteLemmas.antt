@@ -1,5 +1,5 @@
 -- What a fixed journal keeps of one section, and what syncs of a fixed journal make of it and leave of its blobs.
-use Rattle.std.proofs.Common.{◌≡◌, ◌⊎◌, inl, inr, ℕ, ◌%◌, ◌<◌, ◌==◌, ◌^◌, not, min, Bool, true, false, List, length, Option, None, Some, IsSome, IsSomeAnd, IsTrue, refl, sym, ◌∙◌, ap, subst, arith}
+use Rattle.std.proofs.Common.{◌≡◌, ◌⊎◌, inl, inr, ℕ, ◌%◌, ◌<◌, ◌≤◌, ◌==◌, ◌^◌, not, min, Bool, true, false, List, length, Option, None, Some, IsSome, IsSomeAnd, IsTrue, refl, sym, ◌∙◌, ap, subst, arith}
 use Rattle.std.proofs.lemmas.Bool.{cases_eq, false_from_ne_true}
 use Rattle.std.proofs.lemmas.Bool.Decides.{nat_tests}
 use Rattle.blob_device.specs.Disk.{Key, Blob, Disk, past}
@@ -7,12 +7,14 @@ use Rattle.blob_device.specs.Opened.{OpenedList}
 use Rattle.blob_device.specs.Timeline.{Timeline, disk, Always, Each}
 use Rattle.blob_device.proofs.Moments.{always_now, always_weaker}
 use Rattle.sealed_pages.specs.Buffer.{size_of, bytes_of, IsSealed}
+use Rattle.sealed_pages.specs.Buffer.{key_of as page_key}
 use Rattle.sealed_pages.specs.ChanceSeal.{NoChanceSeal}
 use Rattle.sealed_pages.specs.ChanceSeal as chance
 use Rattle.sealed_pages.specs.declared.page_blob.PageBlob.{PageBlob}
 use Rattle.sealed_pages.specs.SealedPrefix.{sealed_prefix, Prefix}
 use Rattle.sealed_pages.specs.Unrecovered.{IsUnrecovered}
 use Rattle.sealed_pages.specs.Shown.{shown}
+use Rattle.sealed_pages.proofs.UnrecoveredLemmas.{prefix_settled}
 use Rattle.section_manager.specs.contracts.sealed.PageBlobSectionBuffer.TheImpl.{ghosts}
 use Rattle.section_manager.specs.declared.buffer.SectionBuffer as buffer
 use Rattle.section_manager.specs.Lasting.{IsUnsettled, Syncing}
@@ -25,9 +27,11 @@ use Rattle.section_manager.proofs.sections.OverLemmas.{same_key}
 use Rattle.section_manager.proofs.WalkLemmas.{value_of, has_value, some_same, none_or_value}
 use Rattle.segments.specs.FixedLasting.{Settling}
 use Rattle.segments.specs.FixedLists.{Lists, section_bytes, section_size, IsJournal, IsProven}
+use Rattle.segments.proofs.FixedSpared.{bytes_none, bytes_spared}
 
 -- The buffers are page blobs under this seal.
 pub record ArePages {S : Type 0} {gs : _} (g : buffer.Ghosts (PageBlob S gs)) (seal : List ℕ → ℕ) : Type 0 where
+  pub key : (u : PageBlob S gs) → g.key u ≡ page_key (shown u)
   pub count : (u : PageBlob S gs) → g.byte_count u ≡ size_of (shown u)
   pub settled : (u : PageBlob S gs) → g.settled u ≡ u.settled
   pub unsettled : (u : PageBlob S gs) → g.unsettled u ≡ is_unsettled (shown u)
@@ -43,6 +47,7 @@ pub record ArePages {S : Type 0} {gs : _} (g : buffer.Ghosts (PageBlob S gs)) (s
 
 pub are_pages : (R : _) (gs : _) (dict : _) → ArePages (ghosts R gs dict) gs.seal_of
 are_pages R gs dict = record {
+  key = λ u. refl;
   count = λ u. refl;
   settled = λ u. refl;
   unsettled = λ u. refl;
@@ -186,7 +191,8 @@ module _ {F S : Type 0} {gs : _} (seal : List ℕ → ℕ) (size : ℕ) (told : 
   settling_of t = always_weaker a b (Each (Syncing g j.sections IsNamed (disk a))) (Each (Settling seal j IsNamed (disk a))) (λ d each q. record {
     named = λ s u is held sealed at. leaves_sealed seal g pages u (disk a q) (d q) (g.settled u) u.settled (pages.settled u) sealed ((each q).named s u is held at);
     front = λ s u is held un at. (let n = length (sealed_prefix seal u.page_size (disk a q).content) in
-        leaves_front seal g pages u (disk a q) (d q) (g.settled u) (min u.settled n) (ap (λ (m : ℕ). min m n) (pages.settled u)) un ((each q).named s u is held at));
+        let all : n ≤ u.settled = prefix_settled seal (shown u) (disk a q) (omega (arith, u.fit.begun)) un in
+        leaves_front seal g pages u (disk a q) (d q) (g.settled u) n (omega (arith, pages.settled u, all)) un ((each q).named s u is held at));
     others = λ not. (each q).others (λ w. (let owes = unsettled_recovered w.0 w.1.1 in not (w.0, (w.1.0, owes.0, owes.1), w.2)));
   })
 
@@ -212,3 +218,17 @@ module _ {F S : Type 0} {gs : _} (seal : List ℕ → ℕ) (size : ℕ) (told : 
       ]
       | inr not ↦ fine_same seal size told j k (disk a) (disk b) s bounds (fine_of seal size told g gives j old (disk a) journal s) (record { held = others s not; unopened = unopened s }) (owes s) (proven_back j k s (owes s) (floors s)) (λ t. untouched t s not)
     ])
+
+    -- each section has the bytes that it had
+    pub synced_bytes : told → (s : ℕ) → section_bytes k.sections (disk b) s ≡ section_bytes j.sections (disk a) s
+    synced_bytes t s = elim (none_or_value (j.sections.held s)) [
+      | inl absent ↦ bytes_none (j.sections.held s) (k.sections.held s) (disk a (key_of j.sections s)).content (disk b (key_of k.sections s)).content absent (none s absent)
+      | inr u ↦ elim (decides s) [
+        | inl is ↦ (let v = value_of (k.sections.held s) (λ v. IsSynced g told u.0 v (disk a (key_of j.sections s)) (disk b (key_of j.sections s))) (named s u.0 is u.1) in
+            bytes_here k.sections s v.value v.is (disk b)
+            ∙ ap (λ (q : Key). bytes_of (shown v.value) (disk b q).content) (same_key j.sections k.sections bounds s)
+            ∙ sym (pages.bytes v.value (disk b (key_of j.sections s)).content) ∙ v.has.bytes t ∙ pages.bytes u.0 (disk a (key_of j.sections s)).content
+            ∙ sym (bytes_here j.sections s u.0 u.1 (disk a)))
+        | inr not ↦ bytes_spared j.sections k.sections (disk a) (disk b) s (record { held = others s not; unopened = unopened s }) bounds.place (λ w held. untouched t s not w held)
+      ]
+    ]

@@ -10,6 +10,7 @@ pub mod FixedReading
 pub mod FixedCutting
 pub mod FixedOpening
 pub mod FixedRunning
+pub mod FixedNextEnds
 pub mod FixedEnds
 pub mod FixedFilling
 pub mod FixedGoing
@@ -22,6 +23,9 @@ pub mod FixedAdopted
 pub mod FixedAppendLemmas
 pub mod FixedAdding
 pub mod FixedSpared
+pub mod FixedSettlingEnds
+pub mod FixedRemovingEnds
+pub mod FixedCuttingEnds
 pub mod FixedOpenLemmas
 pub mod FixedOpens
 pub mod FixedErrors

@@ -139,12 +139,11 @@ module _ {F S : Type 0} {gs : _} (seal : List ℕ → ℕ) (j : Lists F (PageBlo
         → IsTrue (j.unrecovered section)
         → Leaves seal u.page_size (sealed_prefix seal u.page_size (from cut_key).content)
         (min n (length (sealed_prefix seal u.page_size (from cut_key).content))) (d cut_key)
-    -- of any other that is not sealed it leaves a prefix of that, with what of it had settled, up
-    -- to the cut
+    -- so it does of any other that is not sealed
     pub unsealed : (u : PageBlob S gs) → j.sections.held section ≡ Some u
         → IsUnrecovered seal (shown u) (from cut_key)
         → Leaves seal u.page_size (sealed_prefix seal u.page_size (from cut_key).content)
-        (min (min u.settled n) (length (sealed_prefix seal u.page_size (from cut_key).content)))
+        (min n (length (sealed_prefix seal u.page_size (from cut_key).content)))
         (d cut_key)
     -- it changes only where it is longer, and once those behind it are gone
     pub last : (d cut_key ≡ from cut_key)

@@ -238,14 +238,14 @@ module _ {S : Type 0} {gs : _} where
     pub given : told → (t q : ℕ) → IsLeft seal size w d t q → t ≤ section → ⊥
 
   -- Of a section that owes no replay each crash leaves, where it is sealed, as each proven one is, a prefix of its bytes, no shorter than
-  -- what had settled, and where it is not a prefix of its sealed prefix, no shorter than what had settled of that. Of one that owes a replay
+  -- what had settled, and where it is not all of its sealed prefix as it reads. Of one that owes a replay
   -- it leaves a prefix of its sealed prefix that has all whole items of it; it is cut only where those reach its floor. A blob of which all
   -- bytes have settled, and nothing is cut off, stays as it is. No blob changes but those of sections that are ahead or being read.
   pub record Replaying {F : Type 0} (seal : List ℕ → ℕ) (size : ℕ) (w : Walk F (PageBlob S gs)) (from : Disk) (q : Key) (b : Blob) : Type 0 where
     pub flushed : (s : ℕ) (u : PageBlob S gs) → w.journal.sections.held s ≡ Some u → w.journal.unrecovered s ≡ false → IsSealed seal (shown u) (from q) → q ≡ key_of w.journal.sections s
         → Leaves seal u.page_size (bytes_of (shown u) (from q).content) u.settled b
     pub front : (s : ℕ) (u : PageBlob S gs) → w.journal.sections.held s ≡ Some u → w.journal.unrecovered s ≡ false → IsUnrecovered seal (shown u) (from q) → q ≡ key_of w.journal.sections s
-        → Leaves seal u.page_size (sealed_prefix seal u.page_size (from q).content) (min u.settled (length (sealed_prefix seal u.page_size (from q).content))) b
+        → Leaves seal u.page_size (sealed_prefix seal u.page_size (from q).content) (length (sealed_prefix seal u.page_size (from q).content)) b
     pub cut : (s : ℕ) (u : PageBlob S gs) → w.journal.sections.held s ≡ Some u → IsTrue (w.journal.unrecovered s) → q ≡ key_of w.journal.sections s
         → (b ≡ from q) ⊎ ((w.journal.floor_of s ≤ length (sealed_prefix seal u.page_size (from q).content) / size * size)
         × Leaves seal u.page_size (sealed_prefix seal u.page_size (from q).content) (length (sealed_prefix seal u.page_size (from q).content) / size * size) b)

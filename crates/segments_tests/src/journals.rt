@@ -2,6 +2,7 @@
 ghost use Rattle.std.specs.Prelude.{◌≤◌, IfOk};
 ghost use Rattle.segments_tests.specs.Stores.{IsOpen};
 
+use crate::cursors::scan;
 use crate::floors::bounds_of;
 use crate::items::Low;
 use crate::reading::{ask, read};
@@ -99,6 +100,7 @@ pub fn obey(
 {
     match step.word() {
         "append" => or_closed(append(alloc, journal, dev, step, told), dev),
+        "append-bytes" => or_closed(append_bytes(alloc, journal, dev, step, told), dev),
         "sync" | "start-sync" | "sync-all" | "prune" | "clear" | "destroy" => {
             or_closed(change(journal, dev, step, told), dev)
         }
@@ -109,6 +111,7 @@ pub fn obey(
             (Store::Items(journal), answer)
         }
         "replay" => or_closed(replay(alloc, journal, dev, step), dev),
+        "scan" => or_closed(scan(alloc, journal, dev, step), dev),
         "get" | "last" | "get-many" => {
             let answer = read(alloc, &journal, dev, step);
             (Store::Items(journal), answer)
@@ -147,6 +150,32 @@ fn append(
         let _ = row.push(Part::Number(position));
     }
     Ok((Store::Items(journal), Said::Row(row)))
+}
+
+// Adds numbers to a section at once, and says the position of the first.
+fn append_bytes(
+    alloc: Global,
+    journal: Lows,
+    dev: &mut Memory,
+    step: &Step,
+    told: &Told,
+) -> Result<(Store, Said), Error>
+    requires { IsOpen dev.old (Store.Items journal) }
+    ensures { IfOk result (λ r. IsOpen dev.new r.0) }
+{
+    let section = number(step, 0);
+    if !journal.is_recovered(section) {
+        return Ok((Store::Items(journal), Said::Text("a replay is owed")));
+    }
+    let mut bytes = Vec::new(alloc);
+    for number in told.numbers.as_slice().get(1..).unwrap_or(&[]) {
+        number.write(&mut bytes)?;
+    }
+    if bytes.len() % 8 != 0 {
+        return Ok((Store::Items(journal), Said::Text("no items")));
+    }
+    let (journal, position) = journal.append_bytes(dev, section, bytes.as_slice())?;
+    Ok((Store::Items(journal), Said::Number(position)))
 }
 
 // Settles or removes sections.

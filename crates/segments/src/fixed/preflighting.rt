@@ -138,7 +138,8 @@ fn check_reached<S: Seal>(
 }
 
 impl<A: CodecFixed, S: Seal> Journal<A, S> {
-    ghost use Rattle.segments.specs.FixedFloors.{shown, journal_of, IsBoundary, Keeps, KeepsBoundary, IsRefused};
+    ghost use Rattle.segments.specs.FixedFloors.{shown, journal_of};
+    ghost use Rattle.segments.specs.FixedPreflight.{ChecksFloors};
     ghost use Rattle.segments.specs.FixedShown as journal;
     ghost use Rattle.segments.specs.FixedLists.{IsJournal, section_bytes};
 
@@ -161,62 +162,11 @@ impl<A: CodecFixed, S: Seal> Journal<A, S> {
     ) -> Result<Preflight<A, S>, Error>
         requires valid { 1 ≤ cfg.now.pages.page_size }
         requires ceiling { (s : ℕ) → IsSome (tree.get nat_cmp floors.now s) → s ≤ ceiling }
-        ensures floors { IfOk result (λ r. (s n : ℕ) → tree.get nat_cmp floors.now s ≡ Some n → (shown r).floor_of s ≡ n * A.SIZE) }
-        ensures none { IfOk result (λ r. (s : ℕ) → tree.get nat_cmp floors.now s ≡ None → (shown r).floor_of s ≡ 0) }
-        // Each section with a marker has a boundary, and its last item is the one that is spelled there, where matching slots cover it.
-        ensures unmarked { IfOk result (λ r. (s : ℕ) → tree.get nat_cmp floors.now s ≡ None → (shown r).boundary_of s ≡ None) }
-        ensures empty { IfOk result (λ r. (s : ℕ) → tree.get nat_cmp floors.now s ≡ Some 0 → (shown r).boundary_of s ≡ Some None) }
-        ensures boundary { D.Tells → IfOk result (λ r. (s n : ℕ) → tree.get nat_cmp floors.now s ≡ Some n → 0 < n → IsSomeAnd ((shown r).boundary_of s) (λ o. IsSomeAnd o
-            (IsBoundary S.seal_of cfg.now.pages.page_size A.SIZE A.spelling A.accepted (disk (D.time dev.old) (section_key (string_bytes cfg.now.partition) s)).content n))) }
-        ensures there { D.Tells → OnOk result ((s : ℕ) → IsSome (tree.get nat_cmp floors.now s) → IsTrue (disk (D.time dev.old) (section_key (string_bytes cfg.now.partition) s)).there) }
-        ensures fits { OnOk result ((s n : ℕ) → tree.get nat_cmp floors.now s ≡ Some n → n * A.SIZE < 2 ^ 64) }
-        ensures partition { IfOk result (λ r. (shown r).partition ≡ string_bytes cfg.now.partition) }
-        ensures pages { IfOk result (λ r. (shown r).pages ≡ cfg.now.pages) }
-        ensures target { IfOk result (λ r. (shown r).target ≡ None) }
-        ensures write_buffer { IfOk result (λ r. (shown r).write_buffer ≡ cfg.now.write_buffer) }
-        ensures ceiling { IfOk result (λ r. (shown r).ceiling ≡ ceiling) }
-        // The journal that it opened.
-        ensures over { IfOk result (λ r. IsJournal ⟦<PageBlob<S> as SectionBuffer>⟧ ⟦<AppendFactory<S> as BufferFactory>⟧.gives S.seal_of A.SIZE D.Tells (journal_of r) (D.opened dev.new) (disk (D.time dev.new))) }
-        ensures held { D.Tells → IfOk result (λ r. (s : ℕ) → s < 2 ^ 64 → IsHeld (journal_of r).sections s ↔ (IsTrue (disk (D.time dev.old) (section_key (string_bytes cfg.now.partition) s)).there × (s ≤ ceiling))) }
-        ensures unopened { D.Tells → IfOk result (λ r. (s : ℕ) → s < 2 ^ 64 → ((journal_of r).sections.unopened s ≡ Some Unopened.Section) ↔ (IsTrue (disk (D.time dev.old) (section_key (string_bytes cfg.now.partition) s)).there × (ceiling < s))) }
-        ensures no_leftover { IfOk result (λ r. (s : ℕ) → (journal_of r).sections.unopened s ≢ Some Unopened.Leftover) }
-        // What is known and not held stands above the bound, also where the disk is not told.
-        ensures later { IfOk result (λ r. (s : ℕ) → IsSome ((journal_of r).sections.unopened s) → ceiling < s) }
-        ensures bytes { D.Tells → IfOk result (λ r. (s : ℕ) → IsHeld (journal_of r).sections s
-            → section_bytes (journal_of r).sections (disk (D.time dev.new)) s ≡ ⟦<PageBlob<S> as SectionBuffer>⟧.holds (⟦<AppendFactory<S> as BufferFactory>⟧.gives (journal_of r).sections.factory) (disk (D.time dev.old) (section_key (string_bytes cfg.now.partition) s)).content) }
-        // A section with more bytes than its floor owes a replay, and no other does. None has fewer.
-        ensures unrecovered { IfOk result (λ r. (s : ℕ) → IsTrue ((journal_of r).unrecovered s) ↔ ((shown r).floor_of s < section_size (journal_of r).sections s)) }
-        ensures reached { IfOk result (λ r. (s : ℕ) → (shown r).floor_of s ≤ section_size (journal_of r).sections s) }
-        // Nothing is unsettled.
-        ensures idle { IfOk result (λ r. (s : ℕ) (u : _) → (journal_of r).sections.held s ≡ Some u → ⟦<PageBlob<S> as SectionBuffer>⟧.unsettled u ≡ false) }
-        ensures floor { IfOk result (λ r. (journal_of r).sections.floor ≡ 0) }
-        // A marker is refused only where no blob is there, its bytes pass a u64, or its last item is not sealed; never where the items are
-        // all sealed.
-        ensures damage { D.Tells → (x : _) → IsErrOf result (Error.Corruption x)
-            → IsSomeAnd (tree.get nat_cmp floors.now x.section) (λ n. IsRefused S.seal_of cfg.now.pages.page_size A.SIZE (disk (D.time dev.old) (section_key (string_bytes cfg.now.partition) x.section)) n x) }
-        ensures whole { D.Tells → ((s n : ℕ) → tree.get nat_cmp floors.now s ≡ Some n → Keeps S.seal_of cfg.now.pages.page_size A.SIZE (disk (D.time dev.old) (section_key (string_bytes cfg.now.partition) s)) n)
-            → (x : _) → IsErrOf result (Error.Corruption x) → ⊥ }
-        // It is the first one that is, by this error or by the codec's: each marked section before it has its last item.
-        ensures first { D.Tells → (x : _) → IsErrOf result (Error.Corruption x) → (s n : ℕ) → s < x.section → tree.get nat_cmp floors.now s ≡ Some n
-            → KeepsBoundary S.seal_of cfg.now.pages.page_size A.SIZE A.spelling A.accepted (disk (D.time dev.old) (section_key (string_bytes cfg.now.partition) s)) n }
-        ensures refused { D.Tells → (e : _) → IsErrOf result (Error.Codec e) → (s n : ℕ) × (tree.get nat_cmp floors.now s ≡ Some n) × (0 < n)
-            × (A.refusal (data_from cfg.now.pages.page_size (view (disk (D.time dev.old) (section_key (string_bytes cfg.now.partition) s)).content) ((n - 1) * A.SIZE) A.SIZE) tt ≡ Some e)
-            × IsCovered S.seal_of cfg.now.pages.page_size (disk (D.time dev.old) (section_key (string_bytes cfg.now.partition) s)).content ((n - 1) * A.SIZE) A.SIZE
-            × ((q m : ℕ) → q < s → tree.get nat_cmp floors.now q ≡ Some m
-            → KeepsBoundary S.seal_of cfg.now.pages.page_size A.SIZE A.spelling A.accepted (disk (D.time dev.old) (section_key (string_bytes cfg.now.partition) q)) m) }
-        // At every moment, also where the call fails, each blob of the partition is as before, or settled as it read.
-        ensures moments { D.Tells → Always (D.time dev.old) (D.time dev.new) (Each (IsSettling (string_bytes cfg.now.partition) ceiling (disk (D.time dev.old)))) }
-        // A name that is no section's is refused, also above a bound, and then nothing was changed or opened.
-        ensures foreign { D.Tells → (name : List ℕ) → IsForeign (disk (D.time dev.old)) (string_bytes cfg.now.partition) name → OnOk result ⊥ × ((x : _) → IsErrOf result (Error.Corruption x) → ⊥) }
-        ensures foreign_items { D.Tells → (name : List ℕ) → IsForeign (disk (D.time dev.old)) (string_bytes cfg.now.partition) name → (e : _) → IsErrOf result (Error.Codec e) → ⊥ }
-        ensures foreign_disk { D.Tells → (name : List ℕ) → IsForeign (disk (D.time dev.old)) (string_bytes cfg.now.partition) name → Unchanged (D.time dev.old) (D.time dev.new) }
-        ensures foreign_entries { D.Tells → (name : List ℕ) → IsForeign (disk (D.time dev.old)) (string_bytes cfg.now.partition) name → D.opened dev.new ≡ D.opened dev.old }
-        ensures name_entries { (n : List ℕ) → result ≡ Err (Error.InvalidBlobName n) → D.opened dev.new ≡ D.opened dev.old }
-        ensures named { D.Tells → (n : List ℕ) → result ≡ Err (Error.InvalidBlobName n) → IsForeign (disk (D.time dev.old)) (string_bytes cfg.now.partition) n }
-        ensures entries { (q : Key) → ((s : ℕ) → s ≤ ceiling → q ≢ section_key (string_bytes cfg.now.partition) s) → D.opened dev.new q ≡ D.opened dev.old q }
-        ensures faults { D.faults dev.old ≤ D.faults dev.new }
-        ensures cause { OnErr result (((n : List ℕ) × IsErrOf result (Error.InvalidBlobName n)) ⊎ (((x : _) × IsErrOf result (Error.Corruption x))
-            ⊎ (((e : _) × IsErrOf result (Error.Codec e)) ⊎ HasFailed result (D.faults dev.old) (D.faults dev.new)))) }
+        ensures { ChecksFloors
+            ⟦<PageBlob<S> as SectionBuffer>⟧ ⟦<AppendFactory<S> as BufferFactory>⟧.gives
+            S.seal_of A.SIZE A.spelling A.accepted A.refusal (string_bytes cfg.now.partition)
+            cfg.now.pages cfg.now.write_buffer ceiling (tree.get nat_cmp floors.now)
+            D.Device shown journal_of result dev.old dev.new }
     {
         // Opened before a marker is checked: the check reads by the buffers, and writes nothing.
         let journal = Journal::init_bounded(alloc, dev, cfg, ceiling)?;

@@ -9,6 +9,7 @@ ghost use Rattle.blob_device.specs.Timeline.{disk};
 ghost use Rattle.sealed_pages.specs.Buffer.{size_of, bytes_of, IsBacked, IsSealed};
 ghost use Rattle.sealed_pages.specs.Entries.{IsOpenAt, ReadsAtMost};
 ghost use Rattle.sealed_pages.specs.Reading.{Unchanged};
+ghost use Rattle.sealed_pages.specs.Reads.{IsCacheFor};
 ghost use Rattle.section_manager.specs.Sections.{key_of, IsHeld};
 ghost use Rattle.section_manager.specs.Refusing.{HasFailed, IsPruned};
 ghost use Rattle.segments.specs.FixedItems.{item_at, IsItem};
@@ -193,9 +194,9 @@ impl<A: CodecFixed, S: Seal> Journal<A, S> {
     fn held_item(alloc: Global, buffer: &PageBlob<S>, position: u64) -> Result<Option<A>, Error>
         requires { HasItem A.SIZE buffer.now position }
         ensures item { IfOk result (λ r. (v : A) → r ≡ Some v → (is_item_held A.SIZE buffer.now position ≡ true)
-            × ((content : List ℕ) → IsBacked S.seal_of (page_blob.shown buffer.now) content → IsItem A.spelling A.accepted (item_at A.SIZE (bytes_of (page_blob.shown buffer.now) content) position) v)) }
+            × ((content : List ℕ) → IsCacheFor S.seal_of (page_blob.shown buffer.now) content (position * A.SIZE) A.SIZE → IsItem A.spelling A.accepted (item_at A.SIZE (bytes_of (page_blob.shown buffer.now) content) position) v)) }
         ensures none { IfOk result (λ r. r ≡ None → is_item_held A.SIZE buffer.now position ≡ true
-            → (content : List ℕ) → IsBacked S.seal_of (page_blob.shown buffer.now) content → A.refusal (item_at A.SIZE (bytes_of (page_blob.shown buffer.now) content) position) tt ≡ None → ⊥) }
+            → (content : List ℕ) → IsCacheFor S.seal_of (page_blob.shown buffer.now) content (position * A.SIZE) A.SIZE → A.refusal (item_at A.SIZE (bytes_of (page_blob.shown buffer.now) content) position) tt ≡ None → ⊥) }
         ensures cause { OnErr result (IsErrOf result Error.Mem) }
     {
         let mut bytes = vec![in alloc; 0; A::SIZE]?;
@@ -205,8 +206,10 @@ impl<A: CodecFixed, S: Seal> Journal<A, S> {
         }
         match A::decode_cfg(alloc, bytes.as_slice(), ()) {
             Ok(item) => Ok(Some(item)),
-            Err(codec::Error::Mem) => Err(Error::Mem),
-            Err(_) => Ok(None),
+            Err(error) => match error {
+                codec::Error::Mem => Err(Error::Mem),
+                _ => Ok(None),
+            },
         }
     }
 
@@ -215,9 +218,9 @@ impl<A: CodecFixed, S: Seal> Journal<A, S> {
         // Nothing is given of a section below the floor.
         ensures unpruned { IfOk result (λ r. IsSome r → (shown self.now).sections.floor ≤ section) }
         ensures item { IfOk result (λ r. (v : A) → r ≡ Some v → IsSomeAnd ((shown self.now).sections.held section) (λ u. HasItem A.SIZE u position × (is_item_held A.SIZE u position ≡ true)
-            × ((content : List ℕ) → IsBacked S.seal_of (page_blob.shown u) content → IsItem A.spelling A.accepted (item_at A.SIZE (bytes_of (page_blob.shown u) content) position) v))) }
+            × ((content : List ℕ) → IsCacheFor S.seal_of (page_blob.shown u) content (position * A.SIZE) A.SIZE → IsItem A.spelling A.accepted (item_at A.SIZE (bytes_of (page_blob.shown u) content) position) v))) }
         ensures none { IfOk result (λ r. r ≡ None → (u : _) → (shown self.now).sections.held section ≡ Some u → (shown self.now).sections.floor ≤ section → HasItem A.SIZE u position → is_item_held A.SIZE u position ≡ true
-            → (content : List ℕ) → IsBacked S.seal_of (page_blob.shown u) content → A.refusal (item_at A.SIZE (bytes_of (page_blob.shown u) content) position) tt ≡ None → ⊥) }
+            → (content : List ℕ) → IsCacheFor S.seal_of (page_blob.shown u) content (position * A.SIZE) A.SIZE → A.refusal (item_at A.SIZE (bytes_of (page_blob.shown u) content) position) tt ≡ None → ⊥) }
         ensures cause { OnErr result (IsErrOf result Error.Mem) }
     {
         let Ok(buffer) = self.buffer_of(section) else {

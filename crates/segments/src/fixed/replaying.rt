@@ -81,7 +81,7 @@ pub(super) fn forget_later(numbers: &mut BTreeSet<u64>, section: u64)
 impl<A: CodecFixed, S: Seal> Journal<A, S> {
     ghost use Rattle.segments.specs.FixedShown.{shown};
     ghost use Rattle.segments.specs.FixedLists.{IsJournal};
-    ghost use Rattle.segments.specs.FixedReplay.{IsWalk, Begins};
+    ghost use Rattle.segments.specs.FixedFinishing.{Replays};
     ghost use Rattle.segments.specs.FixedWalking.{walk_of};
 
     // No replay is owed any more of the sections behind this one, nor of this one itself where it was gone over from its start; and none of
@@ -124,12 +124,12 @@ impl<A: CodecFixed, S: Seal> Journal<A, S> {
         start_position: u64,
         buffer: usize,
     ) -> Result<Replay<A, S>, Error>
-        requires over { IsJournal ⟦<PageBlob<S> as SectionBuffer>⟧ ⟦<AppendFactory<S> as BufferFactory>⟧.gives S.seal_of A.SIZE D.Tells (shown self) (D.opened dev.old) (disk (D.time dev.old)) }
-        ensures over { IfOk result (λ r. IsWalk ⟦<PageBlob<S> as SectionBuffer>⟧ ⟦<AppendFactory<S> as BufferFactory>⟧.gives S.seal_of A.SIZE D.Tells (walk_of r) (D.opened dev.new) (disk (D.time dev.new))) }
-        ensures begins { IfOk result (λ r. Begins (shown self) start_section start_position (walk_of r)) }
-        ensures past { IsPast result start_position ↔ IsSomeAnd ((shown self).sections.held start_section) (λ u. size_of (page_blob.shown u) / A.SIZE < start_position) }
-        ensures unchanged { dev.new ≡ dev.old }
-        ensures cause { OnErr result (IsPast result start_position) }
+        requires over { IsJournal
+            ⟦<PageBlob<S> as SectionBuffer>⟧ ⟦<AppendFactory<S> as BufferFactory>⟧.gives
+            S.seal_of A.SIZE D.Tells (shown self) (D.opened dev.old) (disk (D.time dev.old)) }
+        ensures { Replays S.seal_of A.SIZE
+            ⟦<PageBlob<S> as SectionBuffer>⟧ ⟦<AppendFactory<S> as BufferFactory>⟧.gives
+            D.Device (shown self) start_section start_position result walk_of dev.old dev.new }
     {
         if self.is_past(start_section, start_position) {
             return Err(Error::ItemOutOfRange(start_position));
@@ -151,9 +151,10 @@ impl<A: CodecFixed, S: Seal> Replay<A, S> {
     ghost use Rattle.segments.specs.FixedShown.{shown};
     ghost use Rattle.segments.specs.FixedLists.{OwesHeld, OwesSettled, AreSealed, UnopenedLater};
     ghost use Rattle.segments.specs.FixedReplay.{IsWalk, HasWalk, WalksOver, SameWalk, KeepsSections, KeepsFloors, KeepsBytes, KeepsItems, IsLeft, IsDrained, IsAhead, IsIn, first_of, Gives, Refuses, IsEndedAt, Stops, IsCutting, Replaying, LeavesNoMore, EndsBelow, EndsDamaged, kept_bytes};
-    ghost use Rattle.segments.specs.FixedGiving.{given, HasRun, AreAllLeft, ReadsAllOnce};
+    ghost use Rattle.segments.specs.FixedFinishing.{GivesBack};
     ghost use Rattle.segments.specs.FixedCursor.{Ends, Enters};
-    ghost use Rattle.segments.specs.FixedStepping.{way_of, standing, after_item, ReadsOnce, OnlySections, Touches, IsFlushed, IsCutBack, BeginsOver, EndsAt, Steps};
+    ghost use Rattle.segments.specs.FixedNext.{Advances};
+    ghost use Rattle.segments.specs.FixedStepping.{standing, after_item, ReadsOnce, OnlySections, Touches, IsFlushed, IsCutBack, BeginsOver, EndsAt, Steps};
     ghost use Rattle.segments.specs.FixedWalking.{walk_of, walk_at, place_of};
     ghost use Rattle.sealed_pages.specs.Readers.{reading};
 
@@ -208,61 +209,13 @@ impl<A: CodecFixed, S: Seal> Replay<A, S> {
     /// before a partial item at its end; then the replay goes on with the next section. A cut below the section's floor is refused as
     /// `Corruption`. An error ends its section, and an error while a section is cut ends the replay.
     pub fn next<D: Device>(&mut self, dev: &mut D) -> Option<Result<(u64, u64, A), Error>>
-        requires { IsWalk ⟦<PageBlob<S> as SectionBuffer>⟧ ⟦<AppendFactory<S> as BufferFactory>⟧.gives S.seal_of A.SIZE D.Tells (walk_of self.old) (D.opened dev.old) (disk (D.time dev.old)) }
-        ensures over { IsWalk ⟦<PageBlob<S> as SectionBuffer>⟧ ⟦<AppendFactory<S> as BufferFactory>⟧.gives S.seal_of A.SIZE D.Tells (walk_of self.new) (D.opened dev.new) (disk (D.time dev.new)) }
-        ensures same { SameWalk (walk_of self.old) (walk_of self.new) }
-        // What is given is the first item that was left, and it is left no more.
-        ensures item { D.Tells → (s p : ℕ) (v : A) → result ≡ Some (Ok (s, p, v))
-            → Gives S.seal_of A.SIZE A.spelling A.accepted (walk_of self.old) (walk_of self.new) (disk (D.time dev.old)) (disk (D.time dev.new)) s p v }
-        ensures going { (s p : ℕ) (v : A) → result ≡ Some (Ok (s, p, v)) → (walk_of self.new).failed ≡ (walk_of self.old).failed }
-        // What an error lost of a section is unopened; without an error none is lost.
-        ensures stays { KeepsSections (walk_of self.old) (walk_of self.new) }
-        ensures known { (result ≡ None) ⊎ ((x : _) × (result ≡ Some (Ok x))) → (s : ℕ) → (walk_of self.new).journal.sections.unopened s ≡ (walk_of self.old).journal.sections.unopened s }
-        // A cut leaves the whole items of a section, no more bytes than before and no fewer than its floor.
-        ensures items { D.Tells → (walk_of self.new).ended ≡ false → KeepsItems S.seal_of A.SIZE (walk_of self.old) (disk (D.time dev.old)) (disk (D.time dev.new)) }
-        ensures floors { KeepsFloors (walk_of self.old) (walk_of self.new) }
-        // No section is lost but by an error, and no bytes but by a cut.
-        ensures held { (result ≡ None) ⊎ ((x : _) × (result ≡ Some (Ok x))) → (s : ℕ) → IsHeld (walk_of self.new).journal.sections s ↔ IsHeld (walk_of self.old).journal.sections s }
-        ensures bytes { KeepsBytes D.Tells (walk_of self.old) (walk_of self.new) (disk (D.time dev.old)) (disk (D.time dev.new)) }
-        ensures unsettled { (s : ℕ) (u v : _) → (walk_of self.old).journal.sections.held s ≡ Some u → (walk_of self.new).journal.sections.held s ≡ Some v
-            → ⟦<PageBlob<S> as SectionBuffer>⟧.unsettled u ≡ false → ⟦<PageBlob<S> as SectionBuffer>⟧.unsettled v ≡ false }
-        // Each answer, an error too, leaves less to go over.
-        ensures nearer { (x : _) → result ≡ Some x → way_of (walk_of self.new) < way_of (walk_of self.old) }
-        // Without an answer nothing is left.
-        ensures none { D.Tells → result ≡ None → (s p : ℕ) → IsLeft S.seal_of A.SIZE (walk_of self.old) (disk (D.time dev.old)) s p → ⊥ }
-        ensures drained { result ≡ None → IsDrained (walk_of self.new) ⊎ ((walk_of self.new).ended ≡ true) }
-        ensures whole { result ≡ None → (walk_of self.new).failed ≡ (walk_of self.old).failed }
-        // It never goes back to a section that it has gone over, and may leave no more of a blob than before.
-        ensures onward { (s : ℕ) → IsAhead (walk_of self.new) s ⊎ IsIn (walk_of self.new) s → IsAhead (walk_of self.old) s ⊎ IsIn (walk_of self.old) s }
-        ensures later { (result ≡ None) ⊎ ((x : _) × (result ≡ Some (Ok x))) → D.Tells → LeavesNoMore S.seal_of A.SIZE (walk_of self.old) (walk_of self.new) (disk (D.time dev.old)) (disk (D.time dev.new)) }
-        // A replay that has ended does nothing more.
-        ensures ended { (walk_of self.old).ended ≡ true → (result ≡ None) × (self.new ≡ self.old) × (dev.new ≡ dev.old) }
-        // An error ends the section that it names, and one while a section is cut ends the replay.
-        ensures failed { (e : _) → result ≡ Some (Err e) → (walk_of self.new).failed ≡ true }
-        ensures stops { D.Tells → (e : _) → result ≡ Some (Err e) → Stops S.seal_of A.SIZE (walk_of self.old) (walk_of self.new) (disk (D.time dev.old)) (disk (D.time dev.new)) }
-        // The start is refused only where its section keeps fewer items.
-        ensures start { D.Tells → (p : ℕ) → result ≡ Some (Err (Error.ItemOutOfRange p)) → (p ≡ (walk_of self.old).start_position)
-            × (length (kept_bytes S.seal_of A.SIZE (walk_of self.old) (disk (D.time dev.old)) (walk_of self.old).start_section) < p * A.SIZE)
-            × IsEndedAt S.seal_of A.SIZE (walk_of self.old) (walk_of self.new) (disk (D.time dev.old)) (disk (D.time dev.new)) (walk_of self.old).start_section }
-        // What is kept of a section is refused only where it is less than the floor of one of which a replay is owed; that is not cut.
-        ensures damage { D.Tells → (x : _) → result ≡ Some (Err (Error.Corruption x)) → EndsBelow S.seal_of A.SIZE (walk_of self.old) (disk (D.time dev.old)) x × (IsAhead (walk_of self.old) x.section ⊎ IsIn (walk_of self.old) x.section)
-            × IsEndedAt S.seal_of A.SIZE (walk_of self.old) (walk_of self.new) (disk (D.time dev.old)) (disk (D.time dev.new)) x.section }
-        // A page is found damaged, where the disk is told, only in a section that owes no replay and has a floor: one that owes a replay is cut
-        // before such a page, and any other is sealed.
-        ensures damaged { D.Tells → (k : ℕ) → result ≡ Some (Err (Error.Runtime (InvalidChecksum k))) → EndsDamaged S.seal_of A.SIZE (walk_of self.old) (walk_of self.new) (disk (D.time dev.old)) (disk (D.time dev.new)) k }
-        // The codec's error is that of the first item that was left.
-        ensures refused { D.Tells → (e : _) → result ≡ Some (Err (Error.Codec e)) → Refuses S.seal_of A.SIZE A.refusal (walk_of self.old) (walk_of self.new) (disk (D.time dev.old)) (disk (D.time dev.new)) e }
-        // The replay ends only by a damaged page, where the disk is not told, by a fault or want of memory.
-        ensures ends { (walk_of self.new).ended ≡ true → ((walk_of self.old).ended ≡ true)
-            ⊎ ((e : _) × (result ≡ Some (Err e)) × ((HasDamage {T = A} (Err e) × (D.Tells → ⊥)) ⊎ HasFailed {T = A} (Err e) (D.faults dev.old) (D.faults dev.new))) }
-        // No error but that of a cut ends it.
-        ensures ends_cut { (walk_of self.new).ended ≡ true → ((walk_of self.old).ended ≡ true) ⊎ IsCutting S.seal_of A.SIZE D.Tells (walk_of self.old) (disk (D.time dev.old)) }
-        ensures moments { D.Tells → Always (D.time dev.old) (D.time dev.new) (Each (Replaying S.seal_of A.SIZE (walk_of self.old) (disk (D.time dev.old)))) }
-        // Each page is read once, as long as the device and memory serve, and one once more where its section is cut within it.
-        ensures once { (result ≡ None) ⊎ ((x : _) × (result ≡ Some (Ok x))) → ReadsOnce (walk_of self.old) (walk_of self.new) (D.opened dev.old) (D.opened dev.new) }
-        ensures entries { (q : Key) → (IsKeyOf (walk_of self.old).journal.sections (λ s. IsHeld (walk_of self.old).journal.sections s × (IsAhead (walk_of self.old) s ⊎ IsIn (walk_of self.old) s)) q → ⊥) → D.opened dev.new q ≡ D.opened dev.old q }
-        ensures faults { D.faults dev.old ≤ D.faults dev.new }
-        ensures cause { (e : _) → result ≡ Some (Err e) → (e ≡ Error.ItemOutOfRange (walk_of self.old).start_position) ⊎ (IsBelowFloor {T = A} (Err e) ⊎ HasNotRead {T = A} (Err e) (D.faults dev.old) (D.faults dev.new)) }
+        requires { IsWalk
+            ⟦<PageBlob<S> as SectionBuffer>⟧ ⟦<AppendFactory<S> as BufferFactory>⟧.gives
+            S.seal_of A.SIZE D.Tells (walk_of self.old) (D.opened dev.old) (disk (D.time dev.old)) }
+        ensures { Advances
+            ⟦<PageBlob<S> as SectionBuffer>⟧ ⟦<AppendFactory<S> as BufferFactory>⟧.gives
+            S.seal_of A.SIZE A.spelling A.accepted A.refusal D.Device dev.old dev.new
+            (walk_of self.old) (walk_of self.new) (self.new ≡ self.old) result }
     {
         'steps: while !self.is_over() {
             match self.step(dev) {
@@ -509,27 +462,7 @@ impl<A: CodecFixed, S: Seal> Replay<A, S> {
     ///
     /// It answers `ReplayFailed` where an item is left, or an error was given.
     pub fn finish(self) -> Result<Journal<A, S>, Error>
-        ensures sections { IfOk result (λ r. (shown r).sections ≡ (walk_of self).journal.sections) }
-        // The journal is one again, over whatever the replay was.
-        ensures held { HasWalk A.SIZE (walk_of self) → IfOk result (λ r. OwesHeld (shown r)) }
-        ensures settled { HasWalk A.SIZE (walk_of self) → IfOk result (λ r. OwesSettled (shown r)) }
-        ensures sealed { (d : _) → WalksOver S.seal_of A.SIZE (walk_of self) d → IfOk result (λ r. AreSealed S.seal_of A.SIZE (shown r) d) }
-        ensures unopened { (d : _) → WalksOver S.seal_of A.SIZE (walk_of self) d → IfOk result (λ r. UnopenedLater (shown r)) }
-        // The start was within its section.
-        ensures start { HasWalk A.SIZE (walk_of self) → IfOk result (λ r. (u : _) → (shown r).sections.held (walk_of self).start_section ≡ Some u → (walk_of self).start_position * A.SIZE ≤ size_of (page_blob.shown u)) }
-        // From a section's start on it owes no replay, and none of the later ones does; the others do as before.
-        ensures recovered { IfOk result (λ r. (s : ℕ) → ((walk_of self).start_section < s) ⊎ (((walk_of self).start_position ≡ 0) × ((walk_of self).start_section ≡ s)) → (shown r).unrecovered s ≡ false) }
-        ensures unrecovered { IfOk result (λ r. (s : ℕ) → (s < (walk_of self).start_section) ⊎ ((0 < (walk_of self).start_position) × ((walk_of self).start_section ≡ s)) → (shown r).unrecovered s ≡ (walk_of self).journal.unrecovered s) }
-        // So it is of their floors.
-        ensures lifted { IfOk result (λ r. (s : ℕ) → ((walk_of self).start_section < s) ⊎ (((walk_of self).start_position ≡ 0) × ((walk_of self).start_section ≡ s)) → (shown r).floor_of s ≡ 0) }
-        ensures floors { IfOk result (λ r. (s : ℕ) → (s < (walk_of self).start_section) ⊎ ((0 < (walk_of self).start_position) × ((walk_of self).start_section ≡ s)) → (shown r).floor_of s ≡ (walk_of self).journal.floor_of s) }
-        // Where it answers Ok, what calls without an error gave, from any moment on, is all that was to be given then,
-        // ascending. Each page was read at most once, and one of a section once more where a replay of it was owed.
-        ensures given { (from : _) (calls : _) (opened : _) (d : _)
-            → HasRun S.seal_of A.SIZE A.spelling A.accepted from calls (record { walk = walk_of self; opened = opened; disk = d })
-            → OnOk result (AreAllLeft S.seal_of A.SIZE A.spelling A.accepted from (given calls) × ReadsAllOnce from opened) }
-        ensures replay_failed { (result ≡ Err Error.ReplayFailed) ↔ (((walk_of self).failed ≡ true) ⊎ (IsDrained (walk_of self) → ⊥)) }
-        ensures cause { OnErr result (result ≡ Err Error.ReplayFailed) }
+        ensures { GivesBack S.seal_of A.SIZE A.spelling A.accepted (walk_of self) result shown }
     {
         if self.has_failed || !self.is_drained() {
             return Err(Error::ReplayFailed);

@@ -1,16 +1,16 @@
 // Adding items to a fixed journal, and settling them.
-ghost use Rattle.std.specs.Prelude.{◌≡◌, ◌↔◌, ◌⊎◌, ◌≤◌, ◌<◌, ◌+◌, ◌/◌, ◌%◌, ◌^◌, length, ⊤, ℕ, Some, None, false, IfOk, OnErr, IsSomeAnd, IsTrue};
+ghost use Rattle.std.specs.Prelude.{◌≡◌, ◌↔◌, ◌≤◌, ◌<◌, ◌+◌, ◌%◌, ◌^◌, length, ⊤, IfOk, OnErr, IsSomeAnd, IsTrue};
 ghost use Rattle.std.specs.Result.{IsErrOf};
 ghost use Rattle.std.specs.List.{Contains};
 ghost use Rattle.std.specs.Option.{option_copied};
-ghost use Rattle.blob_device.specs.Disk.{Key};
-ghost use Rattle.blob_device.specs.Timeline.{disk, Always, Each};
+ghost use Rattle.blob_device.specs.Timeline.{disk};
 ghost use Rattle.sealed_pages.specs.Buffer.{extent, size_of};
-ghost use Rattle.section_manager.specs.Sections.{key_of, IsKeyOf, SameBounds, IsSynced};
-ghost use Rattle.section_manager.specs.Lasting.{IsUnsettled};
-ghost use Rattle.section_manager.specs.Refusing.{HasFailed, IsPruned};
+ghost use Rattle.section_manager.specs.Answers.{seen};
+ghost use Rattle.section_manager.specs.Refusing.{IsPruned};
+ghost use Rattle.section_manager.specs.managing.Settling.{IsAnyBelow};
 ghost use Rattle.segments.specs.FixedAdding.{Appends, Overfills, WouldOverfill};
 ghost use Rattle.segments.specs.FixedFull.{full_or_raised_of};
+ghost use Rattle.segments.specs.FixedSettling.{Settles};
 
 use super::Journal;
 use crate::journal::Error;
@@ -45,7 +45,6 @@ impl<A: CodecFixed, S: Seal> Journal<A, S> {
     ghost use Rattle.sealed_pages.specs.Shown as page_blob;
     ghost use Rattle.segments.specs.FixedShown.{shown};
     ghost use Rattle.segments.specs.FixedLists.{IsJournal, IsRecovered};
-    ghost use Rattle.segments.specs.FixedLasting.{Settling};
 
     /// Whether an append to the section would answer `Full`: whether one item more makes its blob, with both slots of its last page, pass the
     /// greatest `u64`. It takes no memory.
@@ -132,26 +131,14 @@ impl<A: CodecFixed, S: Seal> Journal<A, S> {
 
     /// Settles these sections. One that is not held is passed over. All are checked before one is synced.
     pub fn sync<D: Device>(self, dev: &mut D, sections: &[u64]) -> Result<Self, Error>
-        requires over { IsJournal ⟦<PageBlob<S> as SectionBuffer>⟧ ⟦<AppendFactory<S> as BufferFactory>⟧.gives S.seal_of A.SIZE D.Tells (shown self) (D.opened dev.old) (disk (D.time dev.old)) }
-        ensures over { IfOk result (λ r. IsJournal ⟦<PageBlob<S> as SectionBuffer>⟧ ⟦<AppendFactory<S> as BufferFactory>⟧.gives S.seal_of A.SIZE D.Tells (shown r) (D.opened dev.new) (disk (D.time dev.new))) }
-        ensures named { IfOk result (λ r. (s : ℕ) (u : _) → Contains sections.now s → (shown self).sections.held s ≡ Some u
-            → IsSomeAnd ((shown r).sections.held s) (λ v. IsSynced ⟦<PageBlob<S> as SectionBuffer>⟧ D.Tells u v (disk (D.time dev.old) (key_of (shown self).sections s)) (disk (D.time dev.new) (key_of (shown self).sections s)))) }
-        ensures none { IfOk result (λ r. (s : ℕ) → (shown self).sections.held s ≡ None → (shown r).sections.held s ≡ None) }
-        ensures others { IfOk result (λ r. (s : ℕ) → (Contains sections.now s → ⊥) → (shown r).sections.held s ≡ (shown self).sections.held s) }
-        ensures unopened { IfOk result (λ r. (s : ℕ) → (shown r).sections.unopened s ≡ (shown self).sections.unopened s) }
-        ensures bounds { IfOk result (λ r. SameBounds (shown self).sections (shown r).sections) }
-        ensures unrecovered { IfOk result (λ r. (s : ℕ) → (shown r).unrecovered s ≡ (shown self).unrecovered s) }
-        ensures floors { IfOk result (λ r. (s : ℕ) → (shown r).floor_of s ≡ (shown self).floor_of s) }
-        // At every moment, also where the call fails, each crash leaves a prefix of the bytes of each named section that is sealed, as each
-        // proven one is, no shorter than what had settled; no other blob changes.
-        ensures moments { D.Tells → Always (D.time dev.old) (D.time dev.new) (Each (Settling S.seal_of (shown self) (Contains sections.now) (disk (D.time dev.old)))) }
-        // Where nothing named is unsettled, no call of the device is made.
-        ensures idle { ((s : ℕ) → Contains sections.now s → IsUnsettled ⟦<PageBlob<S> as SectionBuffer>⟧ (shown self).sections s → ⊥) → dev.new ≡ dev.old }
-        ensures entries { (q : Key) → (IsKeyOf (shown self).sections (λ s. Contains sections.now s × IsUnsettled ⟦<PageBlob<S> as SectionBuffer>⟧ (shown self).sections s) q → ⊥) → D.opened dev.new q ≡ D.opened dev.old q }
-        ensures guard { IsPruned result (shown self).sections.floor ↔ ((s : ℕ) × Contains sections.now s × (s < (shown self).sections.floor)) }
-        ensures refuses { ((s : ℕ) × Contains sections.now s × (s < (shown self).sections.floor)) → dev.new ≡ dev.old }
-        ensures faults { D.faults dev.old ≤ D.faults dev.new }
-        ensures cause { OnErr result (IsPruned result (shown self).sections.floor ⊎ HasFailed result (D.faults dev.old) (D.faults dev.new)) }
+        requires over { IsJournal
+            ⟦<PageBlob<S> as SectionBuffer>⟧ ⟦<AppendFactory<S> as BufferFactory>⟧.gives
+            S.seal_of A.SIZE D.Tells (shown self) (D.opened dev.old) (disk (D.time dev.old)) }
+        ensures { Settles
+            ⟦<PageBlob<S> as SectionBuffer>⟧ ⟦<AppendFactory<S> as BufferFactory>⟧.gives
+            S.seal_of A.SIZE D.Device (shown self) (Contains sections.now)
+            (IsAnyBelow (Contains sections.now) (shown self).sections.floor)
+            (seen shown result) dev.old dev.new }
     {
         let mut this = self;
         // The buffers are all there is to settle: what the journal notes is in memory alone.
@@ -165,26 +152,14 @@ impl<A: CodecFixed, S: Seal> Journal<A, S> {
         dev: &mut D,
         sections: &[u64],
     ) -> Result<(Self, Handle), Error>
-        requires over { IsJournal ⟦<PageBlob<S> as SectionBuffer>⟧ ⟦<AppendFactory<S> as BufferFactory>⟧.gives S.seal_of A.SIZE D.Tells (shown self) (D.opened dev.old) (disk (D.time dev.old)) }
-        ensures over { IfOk result (λ r. IsJournal ⟦<PageBlob<S> as SectionBuffer>⟧ ⟦<AppendFactory<S> as BufferFactory>⟧.gives S.seal_of A.SIZE D.Tells (shown r.0) (D.opened dev.new) (disk (D.time dev.new))) }
-        ensures named { IfOk result (λ r. (s : ℕ) (u : _) → Contains sections.now s → (shown self).sections.held s ≡ Some u
-            → IsSomeAnd ((shown r.0).sections.held s) (λ v. IsSynced ⟦<PageBlob<S> as SectionBuffer>⟧ D.Tells u v (disk (D.time dev.old) (key_of (shown self).sections s)) (disk (D.time dev.new) (key_of (shown self).sections s)))) }
-        ensures none { IfOk result (λ r. (s : ℕ) → (shown self).sections.held s ≡ None → (shown r.0).sections.held s ≡ None) }
-        ensures others { IfOk result (λ r. (s : ℕ) → (Contains sections.now s → ⊥) → (shown r.0).sections.held s ≡ (shown self).sections.held s) }
-        ensures unopened { IfOk result (λ r. (s : ℕ) → (shown r.0).sections.unopened s ≡ (shown self).sections.unopened s) }
-        ensures bounds { IfOk result (λ r. SameBounds (shown self).sections (shown r.0).sections) }
-        ensures unrecovered { IfOk result (λ r. (s : ℕ) → (shown r.0).unrecovered s ≡ (shown self).unrecovered s) }
-        ensures floors { IfOk result (λ r. (s : ℕ) → (shown r.0).floor_of s ≡ (shown self).floor_of s) }
-        // At every moment, also where the call fails, each crash leaves a prefix of the bytes of each named section that is sealed, as each
-        // proven one is, no shorter than what had settled; no other blob changes.
-        ensures moments { D.Tells → Always (D.time dev.old) (D.time dev.new) (Each (Settling S.seal_of (shown self) (Contains sections.now) (disk (D.time dev.old)))) }
-        // Where nothing named is unsettled, no call of the device is made.
-        ensures idle { ((s : ℕ) → Contains sections.now s → IsUnsettled ⟦<PageBlob<S> as SectionBuffer>⟧ (shown self).sections s → ⊥) → dev.new ≡ dev.old }
-        ensures entries { (q : Key) → (IsKeyOf (shown self).sections (λ s. Contains sections.now s × IsUnsettled ⟦<PageBlob<S> as SectionBuffer>⟧ (shown self).sections s) q → ⊥) → D.opened dev.new q ≡ D.opened dev.old q }
-        ensures guard { IsPruned result (shown self).sections.floor ↔ ((s : ℕ) × Contains sections.now s × (s < (shown self).sections.floor)) }
-        ensures refuses { ((s : ℕ) × Contains sections.now s × (s < (shown self).sections.floor)) → dev.new ≡ dev.old }
-        ensures faults { D.faults dev.old ≤ D.faults dev.new }
-        ensures cause { OnErr result (IsPruned result (shown self).sections.floor ⊎ HasFailed result (D.faults dev.old) (D.faults dev.new)) }
+        requires over { IsJournal
+            ⟦<PageBlob<S> as SectionBuffer>⟧ ⟦<AppendFactory<S> as BufferFactory>⟧.gives
+            S.seal_of A.SIZE D.Tells (shown self) (D.opened dev.old) (disk (D.time dev.old)) }
+        ensures { Settles
+            ⟦<PageBlob<S> as SectionBuffer>⟧ ⟦<AppendFactory<S> as BufferFactory>⟧.gives
+            S.seal_of A.SIZE D.Device (shown self) (Contains sections.now)
+            (IsAnyBelow (Contains sections.now) (shown self).sections.floor)
+            (seen (λ r. shown r.0) result) dev.old dev.new }
     {
         // Settled before the handle is given out: it is of a sync that has finished.
         let this = self.sync(dev, sections)?;
@@ -193,22 +168,13 @@ impl<A: CodecFixed, S: Seal> Journal<A, S> {
 
     /// Settles all sections.
     pub fn sync_all<D: Device>(self, dev: &mut D) -> Result<Self, Error>
-        requires over { IsJournal ⟦<PageBlob<S> as SectionBuffer>⟧ ⟦<AppendFactory<S> as BufferFactory>⟧.gives S.seal_of A.SIZE D.Tells (shown self) (D.opened dev.old) (disk (D.time dev.old)) }
-        ensures over { IfOk result (λ r. IsJournal ⟦<PageBlob<S> as SectionBuffer>⟧ ⟦<AppendFactory<S> as BufferFactory>⟧.gives S.seal_of A.SIZE D.Tells (shown r) (D.opened dev.new) (disk (D.time dev.new))) }
-        ensures all { IfOk result (λ r. (s : ℕ) (u : _) → (shown self).sections.held s ≡ Some u
-            → IsSomeAnd ((shown r).sections.held s) (λ v. IsSynced ⟦<PageBlob<S> as SectionBuffer>⟧ D.Tells u v (disk (D.time dev.old) (key_of (shown self).sections s)) (disk (D.time dev.new) (key_of (shown self).sections s)))) }
-        ensures none { IfOk result (λ r. (s : ℕ) → (shown self).sections.held s ≡ None → (shown r).sections.held s ≡ None) }
-        ensures unopened { IfOk result (λ r. (s : ℕ) → (shown r).sections.unopened s ≡ (shown self).sections.unopened s) }
-        ensures bounds { IfOk result (λ r. SameBounds (shown self).sections (shown r).sections) }
-        ensures unrecovered { IfOk result (λ r. (s : ℕ) → (shown r).unrecovered s ≡ (shown self).unrecovered s) }
-        ensures floors { IfOk result (λ r. (s : ℕ) → (shown r).floor_of s ≡ (shown self).floor_of s) }
-        // At every moment, also where the call fails, each crash leaves a prefix of the bytes of each section that is sealed, as each proven
-        // one is, no shorter than what had settled; no other blob changes.
-        ensures moments { D.Tells → Always (D.time dev.old) (D.time dev.new) (Each (Settling S.seal_of (shown self) (λ s. ⊤) (disk (D.time dev.old)))) }
-        ensures idle { ((s : ℕ) → IsUnsettled ⟦<PageBlob<S> as SectionBuffer>⟧ (shown self).sections s → ⊥) → dev.new ≡ dev.old }
-        ensures entries { (q : Key) → (IsKeyOf (shown self).sections (IsUnsettled ⟦<PageBlob<S> as SectionBuffer>⟧ (shown self).sections) q → ⊥) → D.opened dev.new q ≡ D.opened dev.old q }
-        ensures faults { D.faults dev.old ≤ D.faults dev.new }
-        ensures cause { OnErr result (HasFailed result (D.faults dev.old) (D.faults dev.new)) }
+        requires over { IsJournal
+            ⟦<PageBlob<S> as SectionBuffer>⟧ ⟦<AppendFactory<S> as BufferFactory>⟧.gives
+            S.seal_of A.SIZE D.Tells (shown self) (D.opened dev.old) (disk (D.time dev.old)) }
+        ensures { Settles
+            ⟦<PageBlob<S> as SectionBuffer>⟧ ⟦<AppendFactory<S> as BufferFactory>⟧.gives
+            S.seal_of A.SIZE D.Device (shown self) (λ _. ⊤) ⊥
+            (seen shown result) dev.old dev.new }
     {
         let mut this = self;
         // As in `sync`: the buffers are all there is to settle.

@@ -156,7 +156,7 @@ returns g c =
           subst (λ (y : PageBlob g.row.S.Denot g.S.Seal). y.settled ≡ w.settled) is
           (subst (λ (y : PageBlob g.row.S.Denot g.S.Seal). v.settled ≡ y.settled) (o.same w held) added.settled));
       others = same;
-      spares = λ t q other. bytes_spared m p (disk (g.D.Device.time c.args.dev.now)) (disk end) q (same q other) bounds
+      spares = λ t q other. bytes_spared m p (disk (g.D.Device.time c.args.dev.now)) (disk end) q (same q other) bounds.place
           (λ w held. (always_now (g.D.Device.time c.args.dev.now) end _ (along.alone t)).others (key_of m q) (keys_differ m.partition q c.args.section (c.requires.over.over.opened_list.number q (inl (subst IsSome (sym held) refl))) c.ranges.section.fits other));
       bounds = bounds;
       unrecovered = λ q. refl;

@@ -6,7 +6,7 @@ use Rattle.sealed_pages.specs.Shown.{shown}
 use Rattle.sealed_pages.proofs.EntryLemmas.{reads_more}
 use Rattle.sealed_pages.proofs.Holding.{fit_size}
 use Rattle.segments.proofs.FixedErrors.{of_buffer, read_fails}
-use Rattle.segments.proofs.FixedMemory.{told_held, held_covered, missing_most}
+use Rattle.segments.proofs.FixedMemory.{covered_item, told_held, held_covered, missing_most}
 use Rattle.segments.proofs.FixedReadLemmas.{item_within, read_item, short_item}
 use Rattle.segments.proofs.fixed.Journal.fill_item.Goals as goal
 
@@ -58,7 +58,7 @@ pub returns-clause-bytes : goal.returns-clause-bytes
 returns-clause-bytes g c t holds =
     let u = c.args.buffer.now in
     read_item u.page_size u.first g.A.CodecFixed.SIZE c.args.position (c.args.position * c.SIZE.result) (length c.try_read_held.new.buf) (ap (λ (n : ℕ). c.args.position * n) c.SIZE.ensures) (c.try_read_held.auto.buf ∙ c.requires.room)
-    c.read_at.new.buf (bytes_of (shown u) (disk (g.D.Device.time c.args.dev.now) (key_of (shown u))).content) (c.in_ok-read_at.ensures.bytes t holds)
+    c.read_at.new.buf (bytes_of (shown u) (disk (g.D.Device.time c.args.dev.now) (key_of (shown u))).content) (c.in_ok-read_at.ensures.bytes t (λ _. holds.cache))
 
 pub returns-clause-held : goal.returns-clause-held
 returns-clause-held g c =
@@ -74,3 +74,8 @@ returns-clause-reads g c =
 
 pub returns-clause-idle : goal.returns-clause-idle
 returns-clause-idle g c held = absurd (cc (returns-clause-held g c ∙ held))
+
+pub returns-clause-checked : goal.returns-clause-checked
+returns-clause-checked g c t holds =
+    covered_item g.S.Seal.seal_of (disk (g.D.Device.time c.args.dev.now) (key_of (shown c.args.buffer.now))).content (shown c.args.buffer.now) g.A.CodecFixed.SIZE c.args.position (c.args.position * c.SIZE.result) (length c.try_read_held.new.buf)
+    (ap (λ (n : ℕ). c.args.position * n) c.SIZE.ensures) (c.try_read_held.auto.buf ∙ c.requires.room) (c.in_ok-read_at.ensures.checked t (λ _. holds.cache))

@@ -1,9 +1,11 @@
-use Rattle.blob_device.proofs.Moments.{always_now}
-use Rattle.segments.proofs.FixedRemoveLemmas.{journal_pruned}
+use Rattle.section_manager.proofs.Seen.{err_seen}
+use Rattle.segments.specs.FixedShown.{flagged, shown}
+use Rattle.segments.proofs.FixedRemovingEnds.{prune_failed, pruned_all}
 use Rattle.segments.proofs.fixed.Journal.prune.Goals as goal
 
-pub returns-clause-over : goal.returns-clause-over
-returns-clause-over g c =
-    journal_pruned _ _ _ _ _ _ _ _ c.in_ok-manager.ensures.over _ c.args.min _ _ c.requires.over c.in_ok-manager.ensures.removed c.in_ok-manager.ensures.kept c.in_ok-manager.ensures.place c.in_ok-manager.ensures.ceiling
-    c.forget_below.ensures.below c.forget_below.ensures.others c.lift_below.ensures.others
-    (λ t. (always_now (g.D.Device.time c.args.dev.now) (g.D.Device.time c.prune.new.dev) _ (c.in_ok-manager.ensures.moments t)).others)
+pub returns-in_err-manager : goal.returns-in_err-manager
+returns-in_err-manager g c = prune_failed _ _ _ _ _ (shown c.args.self) _ _ _ _ _ (err_seen flagged c.from_residual.result _ c.from_residual.ensures.1) c.in_err-manager.ensures
+
+pub returns : goal.returns
+returns g c =
+    pruned_all _ _ _ _ _ (shown c.args.self) _ _ _ _ _ c.requires.over c.in_ok-manager.ensures c.forget_below.ensures.below c.forget_below.ensures.others c.lift_below.ensures.below c.lift_below.ensures.others

@@ -18,7 +18,7 @@ returns-clause-bytes g c t =
     let at : m ≡ (c.args.items - 1) * g.A.CodecFixed.SIZE = ap (λ (n : ℕ). (c.args.items - 1) * n) c.SIZE.ensures in
     let fits : m + length c.args.bytes.now < 2 ^ 64 = omega (arith, c.requires.fits, whole_end c.args.items g.A.CodecFixed.SIZE c.requires.some, at, c.requires.room) in
     read_ok c.read_at.result m (length c.args.bytes.now) (size_of (shown u)) _ fits c.read_at.ensures.short.1 (λ within. on_ok c.read_at.result (λ is. read_adopted g.S.Seal.seal_of u blob (c.requires.adopted t) g.A.CodecFixed.SIZE (c.args.items - 1) m (length c.args.bytes.now) at c.requires.room within c.read_at.new.buf is)
-    (c.read_at.ensures.bytes t (c.requires.adopted t).backed))
+    (c.read_at.ensures.bytes t (λ _. (c.requires.adopted t).backed.cache)))
 
 pub returns-clause-checked : goal.returns-clause-checked
 returns-clause-checked g c t =
@@ -28,7 +28,7 @@ returns-clause-checked g c t =
     let at : m ≡ (c.args.items - 1) * g.A.CodecFixed.SIZE = ap (λ (n : ℕ). (c.args.items - 1) * n) c.SIZE.ensures in
     let fits : m + length c.args.bytes.now < 2 ^ 64 = omega (arith, c.requires.fits, whole_end c.args.items g.A.CodecFixed.SIZE c.requires.some, at, c.requires.room) in
     read_ok c.read_at.result m (length c.args.bytes.now) (size_of (shown u)) _ fits c.read_at.ensures.short.1 (λ within. on_ok c.read_at.result (λ covered. covered_adopted g.S.Seal.seal_of u blob (c.requires.adopted t) g.A.CodecFixed.SIZE (c.args.items - 1) m (length c.args.bytes.now) at c.requires.room within covered)
-    (c.read_at.ensures.checked t (c.requires.adopted t).backed))
+    (c.read_at.ensures.checked t (λ _. (c.requires.adopted t).backed.cache)))
 
 pub returns-clause-within : goal.returns-clause-within
 returns-clause-within g c t =
@@ -37,7 +37,7 @@ returns-clause-within g c t =
     let at : m ≡ (c.args.items - 1) * g.A.CodecFixed.SIZE = ap (λ (n : ℕ). (c.args.items - 1) * n) c.SIZE.ensures in
     let fits : m + length c.args.bytes.now < 2 ^ 64 = omega (arith, c.requires.fits, whole_end c.args.items g.A.CodecFixed.SIZE c.requires.some, at, c.requires.room) in
     read_ok c.read_at.result m (length c.args.bytes.now) (size_of (shown u)) _ fits c.read_at.ensures.short.1 (λ within. on_ok c.read_at.result (λ covered. omega (arith, within, (c.requires.adopted t).size, at, c.requires.room, whole_end c.args.items g.A.CodecFixed.SIZE c.requires.some))
-    (c.read_at.ensures.checked t (c.requires.adopted t).backed))
+    (c.read_at.ensures.checked t (λ _. (c.requires.adopted t).backed.cache)))
 
 pub returns-clause-checksum : goal.returns-clause-checksum
 returns-clause-checksum g c t k is = short_adopted g.S.Seal.seal_of c.args.buffer.now (disk (g.D.Device.time c.args.dev.now) (key_of (shown c.args.buffer.now))) (c.requires.adopted t) g.A.CodecFixed.SIZE (c.args.items - 1) ((c.args.items - 1) * c.SIZE.result) (length c.args.bytes.now)
