@@ -90,11 +90,18 @@ module _ (seal : List ℕ → ℕ) (P first from : ℕ) (newest : Bool) where
   pub slot_clears : (key : Key) (a b : Timeline) → Always a b (OnlyAt key (disk a) (OnlySlot (slot_at P first (not newest)))) → Always a b (OnlyAt key (disk a) (ClearsFirst seal P first from newest))
   slot_clears key a b always = only_weaker a b key (disk a) (OnlySlot (slot_at P first (not newest))) (ClearsFirst seal P first from newest) (λ x only. inl only) always
 
+  pub clears_start : (key : Key) (t : Timeline) → IsAtRest (disk t key) → Always t t (OnlyAt key (disk t) (ClearsFirst seal P first from newest))
+  clears_start key t rest = slot_clears key t t (slot_start (slot_at P first (not newest)) key t rest)
+
   -- once that is settled, any byte may be written
   pub clears_then : (key : Key) (a b c : Timeline) → Always a b (OnlyAt key (disk a) (ClearsFirst seal P first from newest)) → IsCleared seal P first from newest (disk b key).settled → SettlesNothing key b c
       → Always a c (OnlyAt key (disk a) (ClearsFirst seal P first from newest))
   clears_then key a b c before cleared stays = only_then a b c key (ClearsFirst seal P first from newest) before
       (only_weaker b c key (disk b) (λ x. x.settled ≡ (disk b key).settled) (ClearsFirst seal P first from newest) (λ x same. inr (subst (IsCleared seal P first from newest) (sym same) cleared)) stays)
+
+  pub clears_settle : {T : Type 0} (key : Key) (a b c : Timeline) (result : Result T DevError) → Always a b (OnlyAt key (disk a) (ClearsFirst seal P first from newest)) → Passes key Settle result b c → Always a c (OnlyAt key (disk a) (ClearsFirst seal P first from newest))
+  clears_settle key a b c result before passes = kept_on (ClearsFirst seal P first from newest) key (disk a) a b c Settle result before passes (λ x clears. clears) (λ x clears. inl (none_loose (slot_at P first (not newest)) (done Settle x) refl))
+      (λ x y clears same. subst (ClearsFirst seal P first from newest) (sym same) clears)
 
   module _ (c : List ℕ) (behind torn : Bool) (left : Leftover seal P c first from newest behind torn) where
     cut_short : (b : Bool) → behind ≡ b → length (cond b (resized c (page_at P (pages_of first from))) c) ≤ page_at P (pages_of first from)
