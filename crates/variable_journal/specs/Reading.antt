@@ -1,0 +1,94 @@
+-- What reading an item at an offset answers.
+use Rattle.std.specs.Prelude.{◌≡◌, ◌⊎◌, ◌↔◌, ℕ, ◌<◌, ◌≤◌, List, drop, slice_get, Option, Some, None, Result, IfOk, OnErr, IsSome, IsSomeAnd}
+use Rattle.std.specs.Result.{IsErrOf}
+use Rattle.blob_device.specs.Timeline.{disk}
+use Rattle.blob_device.specs.declared.device.Device as device
+use Rattle.blob_device.specs.declared.runtime.RError.TheVariants.{InvalidChecksum}
+use Rattle.value_codec.specs.declared.codec.Error as codec
+use Rattle.value_codec.specs.declared.codec.Error.TheVariants.{InvalidVarint}
+use Rattle.sealed_pages.specs.Reading.{Unchanged}
+use Rattle.sealed_pages.specs.Reads.{IsShort}
+use Rattle.sealed_pages.specs.declared.page_blob.PageBlob.{PageBlob}
+use Rattle.section_manager.specs.Refusing.{HasFailed, IsPruned}
+use Rattle.section_manager.specs.Sections.{key_of}
+use Rattle.section_manager.specs.declared.journal.Error.{Error}
+use Rattle.section_manager.specs.declared.journal.Error.TheVariants.{Codec, Mem, Runtime}
+use Rattle.segments.specs.FixedLists.{Lists, section_bytes, section_size}
+use Rattle.segments.specs.FixedReading.{IsAbsent, IsPast}
+use Rattle.variable_journal.specs.Frames.{items_of, offset_of, BeginsWithFrame, BeginsWithNoFrame, HasBadLength}
+
+-- the item whose frame begins at this offset is this one
+pub record IsItemAt (bytes : List ℕ) (offset : ℕ) (item : List ℕ) : Type 0 where
+  pub number : ℕ
+  pub is : slice_get (items_of bytes) number ≡ Some item
+  pub at : offset ≡ offset_of (items_of bytes) number
+
+-- The item spells this value, which the codec accepts.
+pub record Spells {V C : Type 0} (spelling : V → List ℕ) (accepted : V → C → Type 0) (config : C)
+    (item : List ℕ) (v : V) : Type 0 where
+  pub spelled : spelling v ≡ item
+  pub allowed : accepted v config
+
+-- From the place on a frame stands that spells this value.
+pub record FrameOf {V C : Type 0} (spelling : V → List ℕ) (accepted : V → C → Type 0) (config : C)
+    (bytes : List ℕ) (v : V) : Type 0 where
+  -- the item's bytes
+  pub item : List ℕ
+  -- and what follows the frame
+  pub rest : List ℕ
+  pub begins : BeginsWithFrame bytes item rest
+  pub spells : Spells spelling accepted config item v
+
+-- From the place on there are no bytes, or a length that runs past the end, or fewer bytes than the longest length has:
+-- no frame stands there.
+pub record IsPastLast (bytes : List ℕ) : Type 0 where
+  pub none : BeginsWithNoFrame bytes
+  pub unread : HasBadLength bytes → ⊥
+
+-- The codec's error: five bytes or more that say no length, or an item that it refuses.
+abbrev pub IsRefusedBy : {C : Type 0} → (List ℕ → C → Option codec.Error) → C → List ℕ
+    → codec.Error → Type 0
+IsRefusedBy refusal config bytes e = ((e ≡ InvalidVarint) × HasBadLength bytes)
+    ⊎ ((item : List ℕ) × (rest : List ℕ) × BeginsWithFrame bytes item rest × (refusal item config ≡ Some e))
+
+-- The item at this offset of the section was asked for.
+module _ {F S V C D : Type 0} {gs : _} (seal : List ℕ → ℕ) (spelling : V → List ℕ)
+    (accepted : V → C → Type 0) (refusal : List ℕ → C → Option codec.Error) (config : C)
+    (dev : device.Ghosts D) (section offset : ℕ) (j : Lists F (PageBlob S gs))
+    (result : Result V Error) (old new : D) where
+  -- the section's bytes from the offset on
+  abbrev pub bytes_there : List ℕ
+  bytes_there = drop offset (section_bytes j.sections (disk (dev.time old)) section)
+
+  pub record Gets : Type 0 where
+    -- it is the item whose frame stands there
+    pub value : dev.Tells → IfOk result (FrameOf spelling accepted config bytes_there)
+    -- a section below the floor is refused, and no other by this
+    pub guard : IsPruned result j.sections.floor ↔ (section < j.sections.floor)
+    -- then one that is not held
+    pub absent : IsAbsent result section
+        ↔ ((j.sections.floor ≤ section) × (j.sections.held section ≡ None))
+    -- then an offset at or past the end
+    pub behind : (u : _) → j.sections.held section ≡ Some u → j.sections.floor ≤ section
+        → section_size j.sections section ≤ offset → IsPast result offset
+    -- or where no frame stands that ends in the section
+    pub past : dev.Tells → IsPast result offset → IsPastLast bytes_there
+    -- a page is refused only where no matching slot covers it as far as the read goes
+    pub damaged : dev.Tells → (k : ℕ) → IsErrOf result (Runtime (InvalidChecksum k))
+        → IsSomeAnd (j.sections.held section) (λ u. (m : ℕ) × (n : ℕ) × IsShort seal u.page_size
+        (disk (dev.time old) (key_of j.sections section)).content m n k)
+    -- none of a section that owes no replay is
+    pub sound : dev.Tells → j.unrecovered section ≡ false → (k : ℕ)
+        → IsErrOf result (Runtime (InvalidChecksum k)) → ⊥
+    -- bytes are refused for what they do not spell
+    pub refused : dev.Tells → (e : codec.Error) → IsErrOf result (Codec e)
+        → IsRefusedBy refusal config bytes_there e
+    -- nothing is written
+    pub unchanged : dev.Tells → Unchanged (dev.time old) (dev.time new)
+    -- faults are counted on
+    pub faults : dev.faults old ≤ dev.faults new
+    -- nothing else is answered but a fault or want of memory
+    pub cause : OnErr result (IsPruned result j.sections.floor ⊎ (IsAbsent result section
+        ⊎ (IsPast result offset ⊎ (((k : ℕ) × IsErrOf result (Runtime (InvalidChecksum k)))
+        ⊎ (((e : codec.Error) × IsErrOf result (Codec e))
+        ⊎ HasFailed result (dev.faults old) (dev.faults new))))))
