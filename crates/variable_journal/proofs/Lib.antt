@@ -1,1 +1,4 @@
 pub mod FrameLemmas
+pub mod SectionLemmas
+pub mod LengthLemmas
+pub mod CallLemmas

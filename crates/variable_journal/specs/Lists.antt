@@ -1,12 +1,9 @@
 -- A list of items per section, each in a frame at its offset: what a journal of frames asks of its sections, beside what a journal of
 -- bytes does.
-use Rattle.std.specs.Prelude.{◌≡◌, ℕ, false, List, [], Some}
+use Rattle.std.specs.Prelude.{◌≡◌, ℕ, false, List, []}
 use Rattle.blob_device.specs.Disk.{Disk}
 use Rattle.blob_device.specs.Opened.{OpenedList}
-use Rattle.sealed_pages.specs.Buffer.{bytes_of}
-use Rattle.sealed_pages.specs.Shown.{shown}
 use Rattle.sealed_pages.specs.declared.page_blob.PageBlob.{PageBlob}
-use Rattle.section_manager.specs.Sections.{key_of}
 use Rattle.section_manager.specs.Setting.{Setting}
 use Rattle.section_manager.specs.declared.buffer.SectionBuffer as buffer
 use Rattle.segments.specs.FixedLists as bytes
@@ -18,10 +15,9 @@ module _ {F S : Type 0} {gs : _} (j : Lists F (PageBlob S gs)) (d : Disk) where
   abbrev pub section_items : ℕ → List (List ℕ)
   section_items s = items_of (section_bytes j.sections d s)
 
-  -- each held section that owes no replay is whole frames
+  -- each section that owes no replay is whole frames
   abbrev pub AreFramed : Type 0
-  AreFramed = (s : ℕ) (u : PageBlob S gs) → j.sections.held s ≡ Some u → j.unrecovered s ≡ false
-      → rest_of (bytes_of (shown u) (d (key_of j.sections s)).content) ≡ []
+  AreFramed = (s : ℕ) → j.unrecovered s ≡ false → rest_of (section_bytes j.sections d s) ≡ []
 
 module _ {F S : Type 0} {gs : _} (g : buffer.Ghosts (PageBlob S gs)) (gives : F → Setting)
     (seal : List ℕ → ℕ) (told : Type 0) where

@@ -7,3 +7,7 @@ use Rattle.variable_journal.specs.declared.journal.Journal.{Journal}
 
 abbrev pub shown : {V S C : Type 0} {seal : _} → Journal V S C seal → Lists (AppendFactory S) (PageBlob S seal)
 shown j = bytes.shown j.bytes
+
+-- what decoding an item needs to know
+abbrev pub config_of : {V S C : Type 0} {seal : _} → Journal V S C seal → C
+config_of j = j.codec_config
