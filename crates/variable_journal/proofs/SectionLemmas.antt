@@ -1,25 +1,27 @@
 -- Which bytes the sections of a journal of frames have after a call, and that it is a journal of frames then.
-use Rattle.std.proofs.Common.{◌≡◌, ◌∙◌, ◌⊎◌, inl, inr, ℕ, ◌<◌, ◌≤◌, ◌^◌, List, [], false, Option, None, Some, IsSome, IsSomeAnd, refl, sym, ap, subst, arith}
+use Rattle.std.specs.Prelude.{⊤}
+use Rattle.std.proofs.Common.{◌≡◌, ◌∙◌, ◌⊎◌, inl, inr, ℕ, ◌<◌, ◌≤◌, ◌^◌, List, [], false, true, Option, None, Some, IsSome, IsSomeAnd, refl, sym, ap, subst, arith}
 use Rattle.std.proofs.lemmas.Bool.{cases_lt}
 use Rattle.blob_device.specs.Disk.{Blob, Disk}
 use Rattle.blob_device.specs.Timeline.{Timeline, disk, Always, Each}
-use Rattle.blob_device.proofs.Moments.{always_now}
+use Rattle.blob_device.proofs.Moments.{always_now, always_weaker}
 use Rattle.sealed_pages.specs.Buffer.{bytes_of}
 use Rattle.sealed_pages.specs.Shown.{shown}
 use Rattle.sealed_pages.specs.declared.page_blob.PageBlob.{PageBlob}
-use Rattle.section_manager.specs.Lasting.{Removing}
-use Rattle.section_manager.specs.Sections.{section_key, key_of, IsGone, IsHeld, IsKnown, IsSame, IsSynced, SameBounds, SamePlace}
+use Rattle.section_manager.specs.Lasting.{IsUnsettled, Removing}
+use Rattle.section_manager.specs.Sections.{Sections, section_key, key_of, IsGone, IsHeld, IsKnown, IsSame, IsSynced, SameBounds, SamePlace}
 use Rattle.section_manager.specs.declared.buffer.SectionBuffer as buffer
 use Rattle.section_manager.proofs.sections.KeyLemmas.{key_injective}
 use Rattle.segments.specs.FixedLasting.{Settling}
 use Rattle.segments.specs.FixedLists.{Lists, bytes_held, section_bytes}
 use Rattle.variable_journal.specs.Frames.{rest_of}
 use Rattle.variable_journal.specs.Lists.{AreFramed}
+use Rattle.variable_journal.proofs.FrameLemmas.{rest_none}
 
 pub held_or_not : {B : Type 0} (held : ℕ → Option B) (s : ℕ) → IsSome (held s) ⊎ (IsSome (held s) → ⊥)
-held_or_not held s = go (held s)
+held_or_not {B = B} held s = go (held s)
   where
-    go : (o : _) → IsSome o ⊎ (IsSome o → ⊥)
+    go : (o : Option B) → IsSome o ⊎ (IsSome o → ⊥)
     go None = inr (λ is. absurd is)
     go (Some v) = inl refl
 
@@ -30,7 +32,7 @@ module _ {F S : Type 0} {gs : _} (j k : Lists F (PageBlob S gs)) (d e : Disk) wh
       ⊎ ((j.unrecovered s ≡ false) × (section_bytes k.sections e s ≡ section_bytes j.sections d s)))
       → AreFramed k e
   framed_again framed as_before s free = elim (as_before s free) [
-    | inl none ↦ ap rest_of none
+    | inl none ↦ ap rest_of none ∙ rest_none
     | inr same ↦ ap rest_of same.1 ∙ framed s same.0
   ]
 
@@ -72,7 +74,7 @@ module _ {F S : Type 0} {gs : _} (g : buffer.Ghosts (PageBlob S gs))
       untouched : (u : PageBlob S gs) → j.sections.held s ≡ Some u → (IsNamed s → ⊥)
           → disk b (key_of j.sections s) ≡ disk a (key_of j.sections s)
       untouched u was not = (always_now a b (Each (Settling seal j IsNamed (disk a))) moments (key_of j.sections s)).others
-          (λ x. not (subst IsNamed (key_injective j.sections.partition x.0 s (number x.0 x.1.1.0)
+          (λ x. not (subst IsNamed (key_injective j.sections.partition x.0 s (number x.0 x.1.1)
           (number s (subst (λ o. IsSome o) (sym was) refl)) (sym x.2)) x.1.0))
 
       go : (o : Option (PageBlob S gs)) → j.sections.held s ≡ o
@@ -99,3 +101,36 @@ module _ {F S : Type 0} {gs : _} (min : ℕ) (j k : Lists F (PageBlob S gs)) (a 
         (always_now a b (Removing j.sections (λ q. IsKnown j.sections q × (q < min)) (λ q t. q < t) (disk a)) moments).others (key_of j.sections s)
         (λ x. (let one : s ≡ x.0 = key_injective j.sections.partition s x.0 (number s (inl (subst (λ o. IsSome o) (sym was) refl))) (number x.0 x.1.0) x.2 in omega (arith, one, stays, x.1.1)))))
   ]
+
+-- ---- a sync of all sections names those that are held
+
+pub gone_bytes : {F S : Type 0} {gs : _} (k : Lists F (PageBlob S gs)) (e : Disk) (s : ℕ) → IsGone k.sections s → section_bytes k.sections e s ≡ []
+gone_bytes k e s gone = λ i. bytes_held (gone.held i) (e (key_of k.sections s)).content
+
+module _ {F S : Type 0} {gs : _} (j : Lists F (PageBlob S gs)) where
+  pub not_held : (s : ℕ) → (IsHeld j.sections s → ⊥) → j.sections.held s ≡ None
+  not_held s not = go (j.sections.held s) not
+    where
+      go : (o : Option (PageBlob S gs)) → (IsSome o → ⊥) → o ≡ None
+      go None never = refl
+      go (Some u) never = absurd (never refl)
+
+pub unsettled_held : {F S : Type 0} {gs : _} (g : buffer.Ghosts (PageBlob S gs)) (j : Lists F (PageBlob S gs)) (s : ℕ) → IsUnsettled g j.sections s → IsHeld j.sections s
+unsettled_held {S = S} {gs = gs} g j s un = go (j.sections.held s) un
+  where
+    go : (o : Option (PageBlob S gs)) → IsSomeAnd o (λ u. g.unsettled u ≡ true) → IsSome o
+    go None is = absurd is
+    go (Some u) is = refl
+
+-- no held section is below the floor
+pub no_low : {F B : Type 0} (m : Sections F B) → ((s : ℕ) → IsKnown m s → m.floor ≤ s) → (s : ℕ) → IsHeld m s → s < m.floor → ⊥
+no_low m from s held low = let le = from s (inl held) in omega (arith, le, low)
+
+pub settling_held : {F S : Type 0} {gs : _} (seal : List ℕ → ℕ) (j : Lists F (PageBlob S gs)) (a b : Timeline)
+    → Always a b (Each (Settling seal j (λ s. ⊤) (disk a))) → Always a b (Each (Settling seal j (IsHeld j.sections) (disk a)))
+settling_held seal j a b moments = always_weaker a b (Each (Settling seal j (λ s. ⊤) (disk a))) (Each (Settling seal j (IsHeld j.sections) (disk a)))
+    (λ d all q. record {
+      named = λ s u is. (all q).named s u tt;
+      front = λ s u is. (all q).front s u tt;
+      others = λ never. (all q).others (λ x. never (x.0, (x.1.1, x.1.1, x.1.2), x.2));
+    }) moments

@@ -26,10 +26,11 @@ use Rattle.variable_journal.specs.Lists.{IsJournal, section_items}
 
 -- The item that is spelled so was added to the section of the journal j. The answer is the journal, the offset of the
 -- frame, and the length of the item.
-module _ {S D : Type 0} {gs : _} (g : buffer.Ghosts (PageBlob S gs))
+module _ {S C D : Type 0} {gs : _} (g : buffer.Ghosts (PageBlob S gs))
     (gives : AppendFactory S → Setting) (seal : List ℕ → ℕ) (dev : device.Ghosts D) (section : ℕ)
     (spelled : List ℕ) (j : Lists (AppendFactory S) (PageBlob S gs))
-    (result : Result (Lists (AppendFactory S) (PageBlob S gs) × ℕ × ℕ) Error) (old new : D) where
+    (result : Result (Lists (AppendFactory S) (PageBlob S gs) × ℕ × ℕ) Error) (cfg : C)
+    (kept : Result C Error) (old new : D) where
   pub record Appends : Type 0 where
     -- the journal may be used
     pub over : IfOk result (λ r.
@@ -68,6 +69,8 @@ module _ {S D : Type 0} {gs : _} (g : buffer.Ghosts (PageBlob S gs))
     pub bounds : IfOk result (λ r. SameBounds j.sections r.0.sections)
     -- each section owes a replay as before
     pub unrecovered : IfOk result (λ r. (q : ℕ) → r.0.unrecovered q ≡ j.unrecovered q)
+    -- what decoding an item needs to know stays
+    pub config : IfOk kept (λ c. c ≡ cfg)
     -- at every moment, also where the call fails, no other blob changes
     pub alone : dev.Tells → Alone (key_of j.sections section) (dev.time old) (dev.time new)
     -- each crash leaves of the section a prefix of its bytes, the frame included, and no shorter

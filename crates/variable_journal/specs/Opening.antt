@@ -13,10 +13,11 @@ use Rattle.segments.specs.FixedOpens as bytes
 use Rattle.variable_journal.specs.Lists.{IsJournal}
 
 -- The sections of the partition `place` were opened, in pages of this kind and with so large a write buffer.
-module _ {S D : Type 0} {gs : _} (g : buffer.Ghosts (PageBlob S gs))
+module _ {S C D : Type 0} {gs : _} (g : buffer.Ghosts (PageBlob S gs))
     (gives : AppendFactory S → Setting) (seal : List ℕ → ℕ) (place : List ℕ) (paged : Pages)
     (capacity : ℕ) (dev : device.Ghosts D)
-    (result : Result (Lists (AppendFactory S) (PageBlob S gs)) Error) (old new : D) where
+    (result : Result (Lists (AppendFactory S) (PageBlob S gs)) Error) (cfg : C)
+    (kept : Result C Error) (old new : D) where
   pub record Opens : Type 0 where
     -- as bytes, without a bound: which are held, what they have, that each with bytes owes a
     -- replay, which names are refused, and what each moment leaves
@@ -24,3 +25,5 @@ module _ {S D : Type 0} {gs : _} (g : buffer.Ghosts (PageBlob S gs))
     -- the journal may be used
     pub over : IfOk result (λ k.
         IsJournal g gives seal dev.Tells k (dev.opened new) (disk (dev.time new)))
+    -- what decoding an item needs to know is as it was given
+    pub config : IfOk kept (λ c. c ≡ cfg)

@@ -16,15 +16,15 @@ use Rattle.variable_journal.specs.Lists.{IsJournal}
 module _ {F S D : Type 0} {gs : _} (g : buffer.Ghosts (PageBlob S gs)) (gives : F → Setting)
     (seal : List ℕ → ℕ) (dev : device.Ghosts D) (j : Lists F (PageBlob S gs)) where
   -- The sections below `min` were removed. The answer says whether there was one.
-  pub record Prunes (min : ℕ) (result : Result (Lists F (PageBlob S gs) × Bool) Error)
-      (old new : D) : Type 0 where
+  pub record Prunes {C : Type 0} (min : ℕ) (result : Result (Lists F (PageBlob S gs) × Bool) Error)
+      (cfg : C) (kept : Result C Error) (old new : D) : Type 0 where
     -- the journal may be used
     pub over : IfOk result (λ r.
         IsJournal g gives seal dev.Tells r.0 (dev.opened new) (disk (dev.time new)))
     -- those below are gone
     pub removed : IfOk result (λ r. (s : ℕ) → s < min → IsGone r.0.sections s)
     -- the others stay
-    pub kept : IfOk result (λ r. (s : ℕ) → min ≤ s → IsSame j.sections r.0.sections s)
+    pub spared : IfOk result (λ r. (s : ℕ) → min ≤ s → IsSame j.sections r.0.sections s)
     -- so do partition and factory
     pub place : IfOk result (λ r. SamePlace j.sections r.0.sections)
     -- and the ceiling
@@ -39,6 +39,8 @@ module _ {F S D : Type 0} {gs : _} (g : buffer.Ghosts (PageBlob S gs)) (gives : 
     pub recovered : IfOk result (λ r. (s : ℕ) → s < min → r.0.unrecovered s ≡ false)
     -- the others do as before
     pub unrecovered : IfOk result (λ r. (s : ℕ) → min ≤ s → r.0.unrecovered s ≡ j.unrecovered s)
+    -- what decoding an item needs to know stays
+    pub config : IfOk kept (λ c. c ≡ cfg)
     -- at every moment, also where the call fails, no section's blob is touched before those of all
     -- older ones are gone
     pub moments : dev.Tells → Always (dev.time old) (dev.time new) (Removing j.sections
@@ -77,7 +79,8 @@ module _ {F S D : Type 0} {gs : _} (g : buffer.Ghosts (PageBlob S gs)) (gives : 
     pub cause : OnErr result (HasFailed result (dev.faults old) (dev.faults new))
 
   -- They were removed, and the journal is an empty one.
-  pub record Clears (result : Result (Lists F (PageBlob S gs)) Error) (old new : D) : Type 0 where
+  pub record Clears {C : Type 0} (result : Result (Lists F (PageBlob S gs)) Error) (cfg : C)
+      (kept : Result C Error) (old new : D) : Type 0 where
     -- all were
     pub removes : Removes result old new
     -- the journal may be used
@@ -89,6 +92,8 @@ module _ {F S D : Type 0} {gs : _} (g : buffer.Ghosts (PageBlob S gs)) (gives : 
     pub recovered : IfOk result (λ k. (s : ℕ) → k.unrecovered s ≡ false)
     -- partition and factory stay
     pub place : IfOk result (λ k. SamePlace j.sections k.sections)
+    -- what decoding an item needs to know stays
+    pub config : IfOk kept (λ c. c ≡ cfg)
     -- nothing is pruned
     pub floor : IfOk result (λ k. k.sections.floor ≡ 0)
     -- the bound of the opening is lifted

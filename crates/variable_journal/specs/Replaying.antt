@@ -14,27 +14,30 @@ use Rattle.sealed_pages.specs.ChanceSeal.{Leaves}
 use Rattle.sealed_pages.specs.SealedPrefix.{sealed_prefix}
 use Rattle.sealed_pages.specs.Shown.{shown}
 use Rattle.sealed_pages.specs.declared.page_blob.PageBlob.{PageBlob}
-use Rattle.section_manager.specs.Refusing.{HasDamage, HasFailed}
+use Rattle.section_manager.specs.Refusing.{HasFailed}
 use Rattle.section_manager.specs.Sections.{key_of, IsHeld, IsKeyOf}
 use Rattle.section_manager.specs.Setting.{Setting}
 use Rattle.section_manager.specs.declared.buffer.SectionBuffer as buffer
 use Rattle.section_manager.specs.declared.journal.Error.{Error}
 use Rattle.section_manager.specs.declared.journal.Error.TheVariants.{Codec, ItemOutOfRange, ReplayFailed, Runtime}
 use Rattle.segments.specs.FixedDraining.{IsBeforeStart, IsFromStart}
-use Rattle.segments.specs.FixedLists.{Lists, section_bytes, section_size}
+use Rattle.segments.specs.FixedLists.{Lists}
 use Rattle.segments.specs.FixedReading.{HasNotRead}
 use Rattle.segments.specs.FixedReplay as bytes
-use Rattle.segments.specs.FixedReplay.{Walk, Place, IsAhead, IsDrained, IsGoneOver, IsIn, IsReadWhole, KeepsBytes, KeepsSections, SameWalk, StandsBefore, first_of, kept_bytes, kept_of}
+use Rattle.segments.specs.FixedReplay.{Walk, Place, IsAhead, IsDrained, IsGoneOver, IsIn, KeepsBytes, KeepsSections, SameWalk, StandsBefore, first_of, kept_bytes, kept_of}
 use Rattle.segments.specs.FixedStepping.{way_of}
-use Rattle.variable_journal.specs.Frames.{items_of, offset_of, rest_of, whole_end, HasBadLength}
+use Rattle.variable_journal.specs.Frames.{frames, items_of, rest_of, whole_end, HasBadLength}
 use Rattle.variable_journal.specs.Lists.{AreFramed, IsJournal}
 use Rattle.variable_journal.specs.Reading.{IsItemAt, Spells}
 
--- a frame begins there, or the last one ends there
+-- A frame begins there, or the last one ends there.
 pub record IsBoundary (bytes : List ℕ) (offset : ℕ) : Type 0 where
-  pub number : ℕ
-  pub within : number ≤ length (items_of bytes)
-  pub at : offset ≡ offset_of (items_of bytes) number
+  -- the items before
+  pub before : List (List ℕ)
+  -- and those from there on
+  pub after : List (List ℕ)
+  pub are : items_of bytes ≡ before ++ after
+  pub at : offset ≡ length (frames before)
 
 -- an item with its section, its offset and its length
 abbrev pub Given : Type 0 → Type 0
@@ -53,15 +56,10 @@ module _ {F S : Type 0} {gs : _} (seal : List ℕ → ℕ) where
 
   -- The item at this offset of section s is still to be given.
   pub record IsLeft (w : Walk F (PageBlob S gs)) (d : Disk) (s o : ℕ) (item : List ℕ) : Type 0 where
-    -- the replay goes on
-    pub goes_on : w.ended ≡ false
-    -- it is not before the start
-    pub begun : first_of w s ≤ o
-    -- its frame stands there, whole
+    -- the replay has not come to its first byte
+    pub byte : bytes.IsLeft seal 1 w d s o
+    -- its frame begins there
     pub whole : IsItemAt (given_bytes w d s) o item
-    -- the replay has not come to it
-    pub ahead : (IsHeld w.journal.sections s × IsAhead w s)
-        ⊎ IsSomeAnd w.place (λ r. (r.section ≡ s) × (r.position ≤ o))
 
   -- the bytes that a replay would give of a section of the journal
   abbrev pub kept_here : Lists F (PageBlob S gs) → Disk → ℕ → List ℕ
@@ -88,9 +86,9 @@ module _ {F S : Type 0} {gs : _} (seal : List ℕ → ℕ) where
         → IsStart w.journal d w.start_section w.start_position
     -- sections that owe no replay are whole frames
     pub framed : told → AreFramed w.journal d
-    -- and so are those that it has read whole without an error
-    pub gone_over : told → w.failed ≡ false → (s : ℕ) → IsGoneOver w s → IsReadWhole w s
-        → rest_of (section_bytes w.journal.sections d s) ≡ []
+    -- and so are those that it has gone over without an error
+    pub gone_over : told → w.failed ≡ false → (s : ℕ) → IsGoneOver w s
+        → rest_of (given_bytes w d s) ≡ []
 
   -- At a moment: a blob is as a replay of bytes may leave it, or it is one of a section that owes a replay, of which each
   -- crash leaves a prefix of its sealed prefix that has all whole frames of it.
@@ -140,7 +138,8 @@ module _ {F S V C D : Type 0} {gs : _} (g : buffer.Ghosts (PageBlob S gs)) (give
     (refusal : List ℕ → C → Option codec.Error) (config : C) (dev : device.Ghosts D) where
   -- A replay was begun.
   pub record Begins (j : Lists F (PageBlob S gs)) (section offset : ℕ)
-      (result : Result (Walk F (PageBlob S gs)) Error) (old new : D) : Type 0 where
+      (result : Result (Walk F (PageBlob S gs)) Error) (kept : Result C Error)
+      (old new : D) : Type 0 where
     -- it may be used
     pub over : IfOk result (λ w. IsWalk seal g gives dev.Tells w (dev.opened new) (disk (dev.time new)))
     -- it is over the journal, from the start on
@@ -148,6 +147,8 @@ module _ {F S V C D : Type 0} {gs : _} (g : buffer.Ghosts (PageBlob S gs)) (give
     -- a start past the end of its section is refused
     pub past : IsErrOf result (ItemOutOfRange offset)
         ↔ IsSomeAnd (j.sections.held section) (λ u. size_of (shown u) < offset)
+    -- what decoding an item needs to know stays
+    pub same_config : IfOk kept (λ c. c ≡ config)
     -- no call of the device is made
     pub unchanged : new ≡ old
     -- nothing else is answered
@@ -155,11 +156,13 @@ module _ {F S V C D : Type 0} {gs : _} (g : buffer.Ghosts (PageBlob S gs)) (give
 
   -- One call of `next`: an item with its section, offset and length, an error, or none.
   pub record Turns (answer : Option (Result (Given V) Error)) (w k : Walk F (PageBlob S gs))
-      (old new : D) : Type 0 where
+      (kept : C) (old new : D) : Type 0 where
     -- the replay may be used
     pub over : IsWalk seal g gives dev.Tells k (dev.opened new) (disk (dev.time new))
     -- it is the same, over the same sections that owe one
     pub same : SameWalk w k
+    -- what decoding an item needs to know stays
+    pub same_config : kept ≡ config
     -- an item is the first that was left
     pub item : dev.Tells → (x : Given V) → answer ≡ Some (Ok x)
         → Gives seal spelling accepted config w k (disk (dev.time old)) (disk (dev.time new)) x
@@ -269,7 +272,8 @@ module _ {F S V C : Type 0} {gs : _} (g : buffer.Ghosts (PageBlob S gs)) (gives 
     (seal : List ℕ → ℕ) (spelling : V → List ℕ) (accepted : V → C → Type 0) (config : C)
     (w : Walk F (PageBlob S gs)) where
   -- The replay was finished.
-  pub record Finishes (result : Result (Lists F (PageBlob S gs)) Error) : Type 1 where
+  pub record Finishes (result : Result (Lists F (PageBlob S gs)) Error) (kept : Result C Error)
+      : Type 1 where
     -- over each disk on which the replay was one, told or not, the journal is one
     pub over : (told : Type 0) (opened : OpenedList) (d : Disk) → IsWalk seal g gives told w opened d
         → IfOk result (λ k. IsJournal g gives seal told k opened d)
@@ -280,6 +284,8 @@ module _ {F S V C : Type 0} {gs : _} (g : buffer.Ghosts (PageBlob S gs)) (gives 
     -- the others do as before
     pub unrecovered : IfOk result (λ k. (s : ℕ) → IsBeforeStart w s
         → k.unrecovered s ≡ w.journal.unrecovered s)
+    -- what decoding an item needs to know stays
+    pub same_config : IfOk kept (λ c. c ≡ config)
     -- what calls without an error gave, from any moment on, is all that was to be given then
     pub given : (from : At F (PageBlob S gs)) (calls : List (Call F (PageBlob S gs) V)) (d : Disk)
         → HasRun seal spelling accepted config from calls (record { walk = w; disk = d })

@@ -15,9 +15,10 @@ use Rattle.segments.specs.FixedLists.{Lists}
 use Rattle.variable_journal.specs.Lists.{IsJournal}
 
 -- The named sections of the journal j were settled.
-module _ {F S D : Type 0} {gs : _} (g : buffer.Ghosts (PageBlob S gs)) (gives : F → Setting)
+module _ {F S C D : Type 0} {gs : _} (g : buffer.Ghosts (PageBlob S gs)) (gives : F → Setting)
     (seal : List ℕ → ℕ) (dev : device.Ghosts D) (IsNamed : ℕ → Type 0) (j : Lists F (PageBlob S gs))
-    (result : Result (Lists F (PageBlob S gs)) Error) (old new : D) where
+    (result : Result (Lists F (PageBlob S gs)) Error) (cfg : C) (kept : Result C Error)
+    (old new : D) where
   pub record Settles : Type 0 where
     -- the journal may be used
     pub over : IfOk result (λ k.
@@ -37,6 +38,8 @@ module _ {F S D : Type 0} {gs : _} (g : buffer.Ghosts (PageBlob S gs)) (gives : 
     pub bounds : IfOk result (λ k. SameBounds j.sections k.sections)
     -- each section owes a replay as before
     pub unrecovered : IfOk result (λ k. (s : ℕ) → k.unrecovered s ≡ j.unrecovered s)
+    -- what decoding an item needs to know stays
+    pub config : IfOk kept (λ c. c ≡ cfg)
     -- at every moment, also where the call fails, each crash leaves of a named section a prefix of
     -- its bytes, no shorter than what had settled; the blob of one that owes a replay, and any
     -- other, does not change

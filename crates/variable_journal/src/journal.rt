@@ -159,6 +159,6 @@ impl<V: Codec, S: Seal> Journal<V, S> {
             → ((s : ℕ) → Contains numbers s ↔ IsHeld (shown self.now).sections s)
             → result ≡ length numbers }
     {
-        self.bytes.sections().count()
+        self.bytes.num_sections()
     }
 }

@@ -15,7 +15,7 @@ use value_codec::{Codec, Seal};
 impl<C: Copy> Config<C> {
     // The same of the journal of bytes.
     fn of_bytes(&self) -> Result<fixed::Config, Error>
-        ensures same { IfOk result (λ r. (r.partition ≡ self.now.partition)
+        ensures same { IfOk result (λ r. (string_bytes r.partition ≡ string_bytes self.now.partition)
             × (r.pages ≡ self.now.pages) × (r.write_buffer ≡ self.now.write_buffer)) }
         ensures cause { OnErr result (IsErrOf result Error.Mem) }
     {
@@ -28,7 +28,7 @@ impl<C: Copy> Config<C> {
 }
 
 impl<V: Codec, S: Seal> Journal<V, S> {
-    ghost use Rattle.variable_journal.specs.Shown.{shown};
+    ghost use Rattle.variable_journal.specs.Shown.{config_of, shown};
 
     /// Opens the sections of the partition. Each that has bytes owes a replay.
     ///
@@ -41,7 +41,8 @@ impl<V: Codec, S: Seal> Journal<V, S> {
         requires { 1 ≤ cfg.now.pages.page_size }
         ensures { Opens ⟦<PageBlob<S> as SectionBuffer>⟧ ⟦<AppendFactory<S> as BufferFactory>⟧.gives
             S.seal_of (string_bytes cfg.now.partition) cfg.now.pages cfg.now.write_buffer
-            D.Device (seen shown result) dev.old dev.new }
+            D.Device (seen shown result) cfg.now.codec_config (seen config_of result)
+            dev.old dev.new }
     {
         let bytes = fixed::Journal::init(alloc, dev, &cfg.of_bytes()?)?;
         Ok(Journal {

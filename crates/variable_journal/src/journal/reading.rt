@@ -74,10 +74,13 @@ impl<V: Codec, S: Seal> Journal<V, S> {
         let mut front = [0; LONGEST];
         let front = &mut front[..count];
         buffer.read_at(dev, offset, front)?;
-        match length_of(front)? {
-            Some((size, header)) if header as u64 + u64::from(size) <= left => Ok((size, header)),
-            _ => Err(Error::ItemOutOfRange(offset)),
+        let Some((size, header)) = length_of(front)? else {
+            return Err(Error::ItemOutOfRange(offset));
+        };
+        if header as u64 + u64::from(size) > left {
+            return Err(Error::ItemOutOfRange(offset));
         }
+        Ok((size, header))
     }
 
     // The item of the frame at an offset.

@@ -12,7 +12,7 @@ use value_codec::{Codec, Seal};
 
 impl<V: Codec, S: Seal> Journal<V, S> {
     ghost use Rattle.variable_journal.specs.Lists.{IsJournal};
-    ghost use Rattle.variable_journal.specs.Shown.{shown};
+    ghost use Rattle.variable_journal.specs.Shown.{config_of, shown};
 
     /// Removes the sections below `min`, the oldest first, and says whether there was one; only then `min` is the
     /// floor.
@@ -23,7 +23,7 @@ impl<V: Codec, S: Seal> Journal<V, S> {
         ensures { Prunes
             ⟦<PageBlob<S> as SectionBuffer>⟧ ⟦<AppendFactory<S> as BufferFactory>⟧.gives
             S.seal_of D.Device (shown self) min (seen (λ r. (shown r.0, r.1)) result)
-            dev.old dev.new }
+            (config_of self) (seen (λ r. config_of r.0) result) dev.old dev.new }
     {
         let mut this = self;
         // The journal of bytes keeps the order: no section goes before the older ones are gone.
@@ -39,7 +39,8 @@ impl<V: Codec, S: Seal> Journal<V, S> {
             S.seal_of D.Tells (shown self) (D.opened dev.old) (disk (D.time dev.old)) }
         ensures { Clears
             ⟦<PageBlob<S> as SectionBuffer>⟧ ⟦<AppendFactory<S> as BufferFactory>⟧.gives
-            S.seal_of D.Device (shown self) (seen shown result) dev.old dev.new }
+            S.seal_of D.Device (shown self) (seen shown result)
+            (config_of self) (seen config_of result) dev.old dev.new }
     {
         let mut this = self;
         // As in `prune`: the oldest goes first.

@@ -21,7 +21,7 @@ use sealed_pages::PageBlob;
 use segments::journal::Error;
 use segments::{AppendFactory, BufferFactory, SectionBuffer, fixed};
 use std::alloc::Global;
-use value_codec::{Codec, Seal};
+use value_codec::{Codec, Seal, codec};
 
 /// A walk over the items of a journal, which gives the journal back.
 #[derive(Drop)]
@@ -41,6 +41,7 @@ pub struct Replay<V: Codec, S: Seal> {
 impl<V: Codec, S: Seal> Journal<V, S> {
     ghost use Rattle.variable_journal.specs.Lists.{IsJournal};
     ghost use Rattle.variable_journal.specs.Shown.{config_of, shown};
+    ghost use Rattle.variable_journal.specs.Walking as replay;
     ghost use Rattle.variable_journal.specs.Walking.{walk_of};
 
     /// Goes over the items from this offset of this section on, in ascending order. It reads pieces of about `buffer`
@@ -61,7 +62,8 @@ impl<V: Codec, S: Seal> Journal<V, S> {
         ensures { Begins
             ⟦<PageBlob<S> as SectionBuffer>⟧ ⟦<AppendFactory<S> as BufferFactory>⟧.gives
             S.seal_of V.spelling V.accepted V.refusal (config_of self) D.Device (shown self)
-            start_section start_offset (seen walk_of result) dev.old dev.new }
+            start_section start_offset (seen walk_of result)
+            (seen replay.config_of result) dev.old dev.new }
     {
         let Journal {
             alloc,
@@ -91,6 +93,7 @@ enum Front {
 }
 
 impl<V: Codec, S: Seal> Replay<V, S> {
+    ghost use Rattle.variable_journal.specs.Shown as journal;
     ghost use Rattle.variable_journal.specs.Shown.{shown};
     ghost use Rattle.variable_journal.specs.Walking.{config_of, walk_of, IsReplay};
 
@@ -110,7 +113,7 @@ impl<V: Codec, S: Seal> Replay<V, S> {
         ensures turns { Turns
             ⟦<PageBlob<S> as SectionBuffer>⟧ ⟦<AppendFactory<S> as BufferFactory>⟧.gives
             S.seal_of V.spelling V.accepted V.refusal (config_of self.old) D.Device result
-            (walk_of self.old) (walk_of self.new) dev.old dev.new }
+            (walk_of self.old) (walk_of self.new) (config_of self.new) dev.old dev.new }
     {
         'turns: while !self.bytes.is_over() {
             match self.turn(dev) {
@@ -170,7 +173,7 @@ impl<V: Codec, S: Seal> Replay<V, S> {
         if self.bytes.size() - offset < whole as u64 || !self.bytes.fill(dev, whole)? {
             return self.end(dev, section, offset);
         }
-        if section == self.start_section && offset < self.start_offset {
+        if offset < self.first_offset(section) {
             self.bytes.pass(whole);
             return Ok(None);
         }
@@ -202,11 +205,29 @@ impl<V: Codec, S: Seal> Replay<V, S> {
             return Ok(None);
         };
         self.bytes.end(dev)?;
-        if offset < kept {
-            // Behind the cut to the sealed prefix: what is cut now had settled.
-            self.bytes.shorten(dev, section, offset)?;
+        if kept <= offset {
+            return Ok(None);
         }
+        if !self.bytes.owes(section) {
+            // Not over a device that tells its disk: such a section is whole frames.
+            return Err(Error::Codec(codec::Error::EndOfBuffer));
+        }
+        let first = self.first_offset(section);
+        if offset < first {
+            return Err(Error::ItemOutOfRange(first));
+        }
+        // Behind the cut to the sealed prefix: what is cut now had settled.
+        self.bytes.shorten(dev, section, offset)?;
         Ok(None)
+    }
+
+    // The offset from which on the items of this section are given.
+    fn first_offset(&self, section: u64) -> u64 {
+        if section == self.start_section {
+            self.start_offset
+        } else {
+            0
+        }
     }
 
     /// Gives the journal back. The sections that were gone over from their start on take appends again.
@@ -216,7 +237,7 @@ impl<V: Codec, S: Seal> Replay<V, S> {
         ensures { Finishes
             ⟦<PageBlob<S> as SectionBuffer>⟧ ⟦<AppendFactory<S> as BufferFactory>⟧.gives
             S.seal_of V.spelling V.accepted (config_of self) (walk_of self)
-            (seen shown result) }
+            (seen shown result) (seen journal.config_of result) }
     {
         let Replay {
             alloc,

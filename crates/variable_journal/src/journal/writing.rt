@@ -44,7 +44,7 @@ fn framed<V: Codec>(alloc: Global, size: u32, item: &V) -> Result<Vec<u8>, Error
 impl<V: Codec, S: Seal> Journal<V, S> {
     ghost use Rattle.segments.specs.FixedLists.{IsRecovered};
     ghost use Rattle.variable_journal.specs.Lists.{IsJournal};
-    ghost use Rattle.variable_journal.specs.Shown.{shown};
+    ghost use Rattle.variable_journal.specs.Shown.{config_of, shown};
 
     /// Adds an item at the end of the section, which is made where it is not held. The answer has the offset of its
     /// frame, and the length of the item without that of the frame.
@@ -64,7 +64,8 @@ impl<V: Codec, S: Seal> Journal<V, S> {
         ensures { Appends
             ⟦<PageBlob<S> as SectionBuffer>⟧ ⟦<AppendFactory<S> as BufferFactory>⟧.gives
             S.seal_of D.Device section (V.spelling item.now) (shown self)
-            (seen (λ r. (shown r.0, r.1, r.2)) result) dev.old dev.new }
+            (seen (λ r. (shown r.0, r.1, r.2)) result)
+            (config_of self) (seen (λ r. config_of r.0) result) dev.old dev.new }
     {
         let size = item_size(item)?;
         self.bytes.prune_guard(section)?;
@@ -84,7 +85,7 @@ impl<V: Codec, S: Seal> Journal<V, S> {
         ensures { Settles
             ⟦<PageBlob<S> as SectionBuffer>⟧ ⟦<AppendFactory<S> as BufferFactory>⟧.gives
             S.seal_of D.Device (Contains sections.now) (shown self) (seen shown result)
-            dev.old dev.new }
+            (config_of self) (seen config_of result) dev.old dev.new }
     {
         let mut this = self;
         // The bytes are all there is to settle.
@@ -104,7 +105,7 @@ impl<V: Codec, S: Seal> Journal<V, S> {
         ensures { Settles
             ⟦<PageBlob<S> as SectionBuffer>⟧ ⟦<AppendFactory<S> as BufferFactory>⟧.gives
             S.seal_of D.Device (Contains sections.now) (shown self) (seen (λ r. shown r.0) result)
-            dev.old dev.new }
+            (config_of self) (seen (λ r. config_of r.0) result) dev.old dev.new }
     {
         // Settled before the handle is given out: it is of a sync that has finished.
         let this = self.sync(dev, sections)?;
@@ -119,7 +120,7 @@ impl<V: Codec, S: Seal> Journal<V, S> {
         ensures { Settles
             ⟦<PageBlob<S> as SectionBuffer>⟧ ⟦<AppendFactory<S> as BufferFactory>⟧.gives
             S.seal_of D.Device (IsHeld (shown self).sections) (shown self) (seen shown result)
-            dev.old dev.new }
+            (config_of self) (seen config_of result) dev.old dev.new }
     {
         let mut this = self;
         // As in `sync`: the bytes are all there is to settle.
