@@ -5,3 +5,4 @@ pub mod AddingLemmas
 pub mod ReadingLemmas
 pub mod OpeningLemmas
 pub mod OffsetLemmas
+pub mod GettingLemmas

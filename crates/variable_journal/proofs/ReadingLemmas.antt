@@ -1,6 +1,7 @@
 -- How a read of a frame ends.
 use Rattle.std.proofs.Common.{◌≡◌, ◌∙◌, ◌⊎◌, inl, inr, ℕ, ◌+◌, ◌-◌, ◌<◌, ◌≤◌, ◌^◌, List, [], ◌∷◌, ◌++◌, length, min, take, drop, Option, Some, Result, Ok, Err, IsErrAnd, refl, sym, ap, subst, arith, length-drop, length-take, take-append-drop}
 use Rattle.std.specs.Result.{IsErrOf}
+use Rattle.std.proofs.lemmas.Bool.{cases_lt}
 use Rattle.std.proofs.lemmas.List.{drop-drop, drop_all}
 use Rattle.blob_device.specs.Counts.{Rose}
 use Rattle.blob_device.specs.Disk.{Blob}
@@ -38,27 +39,27 @@ mem_or (code.InvalidEnum tag) = inr refl
 
 module _ {S C D : Type 0} {gs : _} (seal : List ℕ → ℕ) (refusal : List ℕ → C → Option codec.Error) (config : C) (dev : device.Ghosts D)
     (u : PageBlob S gs) (offset : ℕ) (old : D) where
-  there : List ℕ
+  abbrev pub there : List ℕ
   there = drop offset (bytes_of (shown u) (disk (dev.time old) (pages.key_of (shown u))).content)
 
-  blob : Blob
+  abbrev pub blob : Blob
   blob = disk (dev.time old) (pages.key_of (shown u))
 
   pub there_length : length there ≡ size_of (shown u) - offset
   there_length = omega (arith, length-drop offset (bytes_of (shown u) blob.content), bytes_length (shown u) blob.content)
 
   -- Why a read ended by the error e.
-  pub IsPastEnd : Error → Type 0
+  abbrev pub IsPastEnd : Error → Type 0
   IsPastEnd e = (e ≡ ItemOutOfRange offset) × (dev.Tells → IsBacked seal (shown u) blob.content → IsPastLast there)
 
-  pub HasBadPage : Error → Type 0
+  abbrev pub HasBadPage : Error → Type 0
   HasBadPage e = (k : ℕ) × (e ≡ Runtime (runtime.InvalidChecksum k))
       × (dev.Tells → (m : ℕ) × (n : ℕ) × IsShort seal u.page_size blob.content m n k) × (dev.Tells → IsSealed seal (shown u) blob → ⊥)
 
-  pub IsNoItem : Error → Type 0
+  abbrev pub IsNoItem : Error → Type 0
   IsNoItem e = (x : codec.Error) × (e ≡ Codec x) × (dev.Tells → IsBacked seal (shown u) blob.content → IsRefusedBy refusal config there x)
 
-  pub IsFailure : D → Error → Type 0
+  abbrev pub IsFailure : D → Error → Type 0
   IsFailure new e = (e ≡ Mem) ⊎ ((e ≡ Runtime runtime.Fault) × Rose (dev.faults old) (dev.faults new))
 
   module _ {T : Type 0} (P : List ℕ → T → Type 0) (new : D) (unchanged : dev.Tells → Unchanged (dev.time old) (dev.time new))
@@ -125,6 +126,13 @@ module _ {S C D : Type 0} {gs : _} (seal : List ℕ → ℕ) (refusal : List ℕ
       cause = tt;
     }
 
+  -- what was found stands within the buffer
+  pub inside_of : {U : Type 0} (Q : List ℕ → U → Type 0) (new : D) (v : U) → Reads seal refusal config dev u offset Q (Ok v) old new → offset < size_of (shown u)
+  inside_of Q new v did = elim (cases_lt offset (size_of (shown u))) [
+    | inl inside ↦ inside
+    | inr le ↦ absurd (let is = did.behind le in cc is)
+  ]
+
   -- why a call below failed, of an answer of its own
   pub why_of : {U : Type 0} (Q : List ℕ → U → Type 0) (new : D) (e : Error) → Reads seal refusal config dev u offset Q (Err e) old new
       → IsPastEnd e ⊎ (HasBadPage e ⊎ (IsNoItem e ⊎ IsFailure new e))
@@ -179,6 +187,17 @@ module _ {S C D : Type 0} {gs : _} (seal : List ℕ → ℕ) (refusal : List ℕ
     spells = record { spelled = spelled ∙ is; allowed = allowed };
   }
 
+  -- what was found in the first bytes, five or all that there are, holds of all
+  pub measured_at : (front before : List ℕ) (n left : ℕ) (result : Result (Option (ℕ × ℕ)) Error) → left ≡ size_of (shown u) - offset → n ≡ min left 5
+      → length front ≡ n → length front ≡ length before → front ≡ take (length before) there
+      → ((rest : List ℕ) → (length front < 5 → rest ≡ []) → Measures (length front) (front ++ rest) result) → Measures (length front) there result
+  measured_at front before n left result is few long same read all = subst (λ (z : List ℕ). Measures (length front) z result)
+      (ap (λ (z : List ℕ). z ++ drop n there) first ∙ take-append-drop n there)
+      (all (drop n there) (λ less. drop_all n there (omega (arith, less, long, few, is, there_length))))
+    where
+      first : front ≡ take n there
+      first = read ∙ ap (λ (k : ℕ). take k there) (sym same ∙ long)
+
   -- past the end there is nothing
   pub past_end : size_of (shown u) ≤ offset → IsPastLast there
   past_end le = past_of_none there (empty there (omega (arith, there_length, le)))
@@ -187,9 +206,9 @@ module _ {S C D : Type 0} {gs : _} (seal : List ℕ → ℕ) (refusal : List ℕ
       empty [] none = refl
       empty (x ∷ xs) none = absurd (omega (arith, none))
 
--- what was found in the first bytes, five or all that there are, holds of all
-pub measures_there : (bytes front : List ℕ) (n : ℕ) (result : Result (Option (ℕ × ℕ)) Error) → n ≡ min (length bytes) 5 → front ≡ take n bytes
-    → ((rest : List ℕ) → (length front < 5 → rest ≡ []) → Measures (length front) (front ++ rest) result) → Measures (length front) bytes result
-measures_there bytes front n result few is all = subst (λ (z : List ℕ). Measures (length front) z result)
-    (ap (λ (z : List ℕ). z ++ drop n bytes) is ∙ take-append-drop n bytes)
-    (all (drop n bytes) (λ less. drop_all n bytes (omega (arith, less, few, ap length is, length-take n bytes))))
+-- what was read behind the length, after the length was read
+pub item_there : (u : pages.Buffer) (b c : Blob) (buf before : List ℕ) (offset n len : ℕ) → b ≡ c → length buf ≡ n → length buf ≡ length before
+    → buf ≡ take (length before) (drop (offset + len) (bytes_of u b.content)) → buf ≡ take n (drop len (drop offset (bytes_of u c.content)))
+item_there u b c buf before offset n len same_blob long same is = is
+    ∙ (λ i. take ((sym same ∙ long) i) (drop (offset + len) (bytes_of u (same_blob i).content)))
+    ∙ ap (take n) (sym (drop-drop len offset (bytes_of u c.content)))

@@ -22,7 +22,7 @@ pub held_or_not : {B : Type 0} (held : ℕ → Option B) (s : ℕ) → IsSome (h
 held_or_not {B = B} held s = go (held s)
   where
     go : (o : Option B) → IsSome o ⊎ (IsSome o → ⊥)
-    go None = inr (λ is. absurd is)
+    go None = inr (λ is. cc is)
     go (Some v) = inl refl
 
 module _ {F S : Type 0} {gs : _} (j k : Lists F (PageBlob S gs)) (d e : Disk) where

@@ -57,10 +57,10 @@ returns-in_err-bytes g c =
     rw (err_of c.from_residual-in_err-bytes.result e c.from_residual-in_err-bytes.ensures.1)
     (not_added g.S.Seal.seal_of _ (are_pages g.row.S g.S.Seal g.S.Seal-dict) _ g.D.Device (shown c.args.self) c.args.section c.args.dev.now c.requires.over c.requires.recovered (g.V.Codec.spelling c.args.item.now) _ _
     (below_large _ _ c.in_ok-size.ensures.large) c.append_bytes.new.dev e
-    (spelled_as _ _ g.S.Seal.seal_of g.D.Device (shown c.args.self) c.args.section _ _ _ _ _ (c.as_slice.ensures.value ∙ c.in_ok-frame.ensures.frame) c.in_err-bytes.ensures))
+    (spelled_as _ _ g.S.Seal.seal_of g.D.Device (shown c.args.self) c.args.section _ _ _ _ _ _ (c.as_slice.ensures.value ∙ c.in_ok-frame.ensures.frame) c.in_err-bytes.ensures))
 
 pub returns : goal.returns
 returns g c =
     added g.S.Seal.seal_of _ (are_pages g.row.S g.S.Seal g.S.Seal-dict) _ g.D.Device (shown c.args.self) c.args.section c.args.dev.now c.requires.over c.requires.recovered (g.V.Codec.spelling c.args.item.now) _ _
     (below_large _ _ c.in_ok-size.ensures.large) c.append_bytes.new.dev _ c.in_ok-size.size c.in_ok-size.ensures.size
-    (spelled_as _ _ g.S.Seal.seal_of g.D.Device (shown c.args.self) c.args.section _ _ _ _ _ (c.as_slice.ensures.value ∙ c.in_ok-frame.ensures.frame) c.in_ok-bytes.ensures)
+    (spelled_as _ _ g.S.Seal.seal_of g.D.Device (shown c.args.self) c.args.section _ _ _ _ _ _ (c.as_slice.ensures.value ∙ c.in_ok-frame.ensures.frame) c.in_ok-bytes.ensures)

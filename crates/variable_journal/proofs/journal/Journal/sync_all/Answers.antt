@@ -1,4 +1,4 @@
-use Rattle.std.proofs.Common.{inl, inr, refl, ◌∙◌, sym, subst}
+use Rattle.std.proofs.Common.{◌≡◌, ℕ, inl, inr, refl, ◌∙◌, sym, subst}
 use Rattle.std.specs.Prelude.{Err, Some, None}
 use Rattle.blob_device.specs.Timeline.{disk}
 use Rattle.blob_device.proofs.Results.{err_of}
@@ -28,8 +28,8 @@ returns-in_err-this g c =
       moments = λ t. settling_held g.S.Seal.seal_of j _ _ (s.moments t);
       idle = λ none. s.idle (λ q un. none q (unsettled_held _ j q un) un);
       entries = λ k none. s.entries k (λ x. none (x.0, (unsettled_held _ j x.0 x.1, x.1), x.2));
-      guard = (λ is. absurd (failed_unpruned e _ _ _ failed (err_same is)), λ low. absurd (no_low j.sections c.requires.bytes.over.opened_list.from_floor low.0 low.1.0 low.1.1));
-      refuses = λ low. absurd (no_low j.sections c.requires.bytes.over.opened_list.from_floor low.0 low.1.0 low.1.1);
+      guard = (λ is. absurd (failed_unpruned e _ _ _ failed (err_same is)), λ low. absurd (no_low j.sections c.requires.bytes.over.opened_list.from_floor low.0 low.1 low.2));
+      refuses = λ low. absurd (no_low j.sections c.requires.bytes.over.opened_list.from_floor low.0 low.1 low.2);
       faults = s.faults;
       cause = inr (failed_again e _ _ failed);
     })
@@ -40,15 +40,14 @@ returns g c =
     let f = c.in_ok-this.ensures in
     let j = shown c.args.self in
     let k = bytes.shown c.in_ok-this.field-0 in
-    let others = (λ q not. f.none q (not_held j q not) ∙ sym (not_held j q not)) in
-    let moments = (λ t. settling_held g.S.Seal.seal_of j (g.D.Device.time c.args.dev.now) (g.D.Device.time c.sync_all.new.dev) (s.moments t)) in
+    let others : (q : ℕ) → (IsHeld j.sections q → ⊥) → k.sections.held q ≡ j.sections.held q = (λ q not. f.none q (not_held j q not) ∙ sym (not_held j q not)) in
     record {
       over = record {
         bytes = f.over;
         free = λ q. f.floors q ∙ c.requires.free q;
         framed = λ t. framed_again j k (disk (g.D.Device.time c.args.dev.now)) (disk (g.D.Device.time c.sync_all.new.dev)) (c.requires.framed t) (λ q free. inr (sym (f.unrecovered q) ∙ free,
             synced_bytes (ghosts g.row.S g.S.Seal g.S.Seal-dict) (λ u x. refl) g.S.Seal.seal_of g.D.Device.Tells j k (IsHeld j.sections) (held_or_not j.sections.held)
-            (g.D.Device.time c.args.dev.now) (g.D.Device.time c.sync_all.new.dev) t (λ x held. c.requires.bytes.over.opened_list.number x (inl held)) (λ q u is held. f.all q u held) f.none others f.bounds (moments t) q));
+            (g.D.Device.time c.args.dev.now) (g.D.Device.time c.sync_all.new.dev) t (λ x held. c.requires.bytes.over.opened_list.number x (inl held)) (λ q u is held. f.all q u held) f.none others f.bounds (settling_held g.S.Seal.seal_of j (g.D.Device.time c.args.dev.now) (g.D.Device.time c.sync_all.new.dev) (s.moments t)) q));
       };
       named = λ q u is held. f.all q u held;
       none = f.none;
@@ -57,11 +56,11 @@ returns g c =
       bounds = f.bounds;
       unrecovered = f.unrecovered;
       config = refl;
-      moments = moments;
+      moments = λ t. settling_held g.S.Seal.seal_of j (g.D.Device.time c.args.dev.now) (g.D.Device.time c.sync_all.new.dev) (s.moments t);
       idle = λ none. s.idle (λ q un. none q (unsettled_held _ j q un) un);
       entries = λ x none. s.entries x (λ y. none (y.0, (unsettled_held _ j y.0 y.1, y.1), y.2));
-      guard = (λ is. absurd (cc is), λ low. absurd (no_low j.sections c.requires.bytes.over.opened_list.from_floor low.0 low.1.0 low.1.1));
-      refuses = λ low. absurd (no_low j.sections c.requires.bytes.over.opened_list.from_floor low.0 low.1.0 low.1.1);
+      guard = (λ is. absurd (cc is), λ low. absurd (no_low j.sections c.requires.bytes.over.opened_list.from_floor low.0 low.1 low.2));
+      refuses = λ low. absurd (no_low j.sections c.requires.bytes.over.opened_list.from_floor low.0 low.1 low.2);
       faults = s.faults;
       cause = tt;
     }
