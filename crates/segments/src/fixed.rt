@@ -43,7 +43,7 @@
 //
 // An append below the buffer's capacity makes no call. An item is read by at most two reads more than the
 // pages that it fills. A replay reads each page once, and one once more where it cuts.
-ghost use Rattle.std.specs.Prelude.{◌≡◌, ◌↔◌, ◌≤◌, ◌<◌, ◌/◌, ℕ, List, [], length, None, IfOk, IfSome, OnErr, IsTrue, string_len};
+ghost use Rattle.std.specs.Prelude.{◌≡◌, ◌↔◌, ◌≤◌, ◌<◌, ◌/◌, ℕ, List, [], None, IfOk, IfSome, OnErr, IsTrue, string_len};
 ghost use Rattle.std.specs.List.{Contains};
 ghost use Rattle.std.specs.List.Sorted.{IsStrictlySortedBy};
 ghost use Rattle.std.specs.Ordering.{nat_cmp};
@@ -198,13 +198,6 @@ impl<A: CodecFixed, S: Seal> Journal<A, S> {
         ensures greatest { IfSome result (λ n. (s : ℕ) → IsHeld (shown self.now).sections s → s ≤ n) }
     {
         self.manager.newest_section()
-    }
-
-    /// How many sections are held.
-    pub fn num_sections(&self) -> usize
-        ensures { (numbers : List ℕ) → IsStrictlySortedBy nat_cmp numbers → ((s : ℕ) → Contains numbers s ↔ IsHeld (shown self.now).sections s) → result ≡ length numbers }
-    {
-        self.manager.num_sections()
     }
 
     /// The held sections, ascending.

@@ -4,5 +4,4 @@ pub mod LengthLemmas
 pub mod AddingLemmas
 pub mod ReadingLemmas
 pub mod OpeningLemmas
-pub mod OffsetLemmas
 pub mod GettingLemmas

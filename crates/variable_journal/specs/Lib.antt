@@ -10,5 +10,3 @@ pub mod Reading
 pub mod Settling
 pub mod Removing
 pub mod Shown
-pub mod Replaying
-pub mod Walking

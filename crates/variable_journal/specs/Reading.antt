@@ -1,5 +1,5 @@
 -- What reading an item at an offset answers.
-use Rattle.std.specs.Prelude.{◌≡◌, ◌⊎◌, ◌↔◌, ℕ, ◌+◌, ◌^◌, ◌<◌, ◌≤◌, ◌++◌, ◌∷◌, false, List, length, drop, Option, Some, None, Result, Ok, Err, IfOk, OnErr, IsSomeAnd}
+use Rattle.std.specs.Prelude.{◌≡◌, ◌⊎◌, ◌↔◌, ℕ, ◌+◌, ◌^◌, ◌<◌, ◌≤◌, false, List, length, drop, Option, Some, None, Result, Ok, Err, IfOk, OnErr, IsSomeAnd}
 use Rattle.std.specs.Result.{IsErrOf}
 use Rattle.blob_device.specs.Disk.{Blob}
 use Rattle.blob_device.specs.Timeline.{disk}
@@ -20,16 +20,7 @@ use Rattle.section_manager.specs.declared.journal.Error.{Error}
 use Rattle.section_manager.specs.declared.journal.Error.TheVariants.{Codec, Runtime}
 use Rattle.segments.specs.FixedLists.{Lists, section_bytes, section_size}
 use Rattle.segments.specs.FixedReading.{IsAbsent, IsPast}
-use Rattle.variable_journal.specs.Frames.{frames, items_of, BeginsWithFrame, BeginsWithNoFrame, HasBadLength}
-
--- The item whose frame begins at this offset is this one.
-pub record IsItemAt (bytes : List ℕ) (offset : ℕ) (item : List ℕ) : Type 0 where
-  -- those before it
-  pub before : List (List ℕ)
-  -- and those after it
-  pub after : List (List ℕ)
-  pub are : items_of bytes ≡ before ++ item ∷ after
-  pub at : offset ≡ length (frames before)
+use Rattle.variable_journal.specs.Frames.{BeginsWithFrame, BeginsWithNoFrame, HasBadLength}
 
 -- The item spells this value, which the codec accepts.
 pub record Spells {V C : Type 0} (spelling : V → List ℕ) (accepted : V → C → Type 0) (config : C)

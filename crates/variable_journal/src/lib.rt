@@ -13,5 +13,5 @@ mod journal;
 mod laws;
 pub mod plain;
 
-pub use journal::{Config, Journal, Replay};
+pub use journal::{Config, Journal};
 pub use laws::{crash_laws, frame_laws};

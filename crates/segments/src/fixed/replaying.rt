@@ -184,8 +184,8 @@ impl<A: CodecFixed, S: Seal> Replay<A, S> {
         self.has_ended || self.is_drained()
     }
 
-    /// Whether a replay of the section is owed.
-    pub fn owes(&self, section: u64) -> bool
+    // Whether a replay of the section is owed.
+    pub(super) fn owes(&self, section: u64) -> bool
         ensures { result ≡ (walk_of self.now).journal.unrecovered section }
     {
         self.journal.unrecovered.contains(&section)

@@ -16,11 +16,11 @@ use segments::{AppendFactory, BufferFactory, SectionBuffer};
 use value_codec::{Codec, Seal, read_varint32};
 
 // How many bytes the longest length of a frame has.
-pub(super) const LONGEST: usize = 5;
+const LONGEST: usize = 5;
 
-/// The length of the frame that begins with these bytes, and how many bytes it takes; none where they are cut short. They
-/// are five, or all that are left.
-pub(super) fn length_of(front: &[u8]) -> Result<Option<(u32, usize)>, Error>
+// The length of the frame that begins with these bytes, and how many bytes it takes; none where they are cut short. They
+// are five, or all that are left.
+fn length_of(front: &[u8]) -> Result<Option<(u32, usize)>, Error>
     ensures { (rest : List ℕ) → (length front.now < 5 → rest ≡ [])
         → Measures (length front.now) (front.now ++ rest) result }
 {
