@@ -1,9 +1,9 @@
 -- Which items of a fixed journal are in memory whole, and what that says of their pages.
-use Rattle.std.proofs.Common.{◌≡◌, ◌↔◌, inl, inr, ℕ, zero, suc, ◌+◌, ◌-◌, ◌*◌, ◌/◌, ◌<◌, ◌≤◌, min, eqb, cond, Bool, true, false, List, length, refl, sym, ◌∙◌, ap, subst, arith}
+use Rattle.std.proofs.Common.{◌≡◌, ◌↔◌, inl, inr, ℕ, zero, suc, ◌+◌, ◌-◌, ◌*◌, ◌/◌, ◌<◌, ◌≤◌, min, eqb, cond, count_by, Bool, true, false, List, length, get_or, take, refl, sym, ◌∙◌, ap, subst, arith}
 use Rattle.std.specs.Prelude.{nat_eq}
 use Rattle.std.specs.List.{list_any}
-use Rattle.std.proofs.lemmas.Bool.{cases_eq, cases_lt}
-use Rattle.std.proofs.lemmas.Bool.Decides.{nat_tests}
+use Rattle.std.proofs.lemmas.Bool.{cases_eq, cases_lt, eq-eqb, eqb-true}
+use Rattle.std.proofs.lemmas.List.Sums.{count_by_more_yes, count_by-le-length, sum_by-take-le}
 use Rattle.std.proofs.Math.Nat.{mul-le-mul_right}
 use Rattle.sealed_pages.specs.Buffer.{Buffer, size_of, cached, is_cached, IsBacked}
 use Rattle.sealed_pages.specs.Cached.{uncached, IsCachedOf}
@@ -15,15 +15,12 @@ use Rattle.sealed_pages.proofs.SlotLemmas.{times_next}
 use Rattle.segments.proofs.FixedReadLemmas.{touched_most, touched_none, touched_some}
 
 eqb_none : (n : ℕ) → n ≡ 0 → eqb n 0 ≡ true
-eqb_none n none = grind (arith, nat_tests)
+eqb_none n none = eq-eqb n 0 none
 
 none_eqb : (n : ℕ) → eqb n 0 ≡ true → n ≡ 0
-none_eqb n is = grind (arith, nat_tests)
+none_eqb n is = eqb-true n 0 is
 
-some_eqb : (n : ℕ) → eqb n 0 ≡ false → n ≡ 0 → ⊥
-some_eqb n is none = absurd (cc (sym is ∙ eqb_none n none))
-
-counts_none : (b : Bool) → cond b 0 1 ≡ 0 → b ≡ true
+counts_none : (b : Bool) → ◌≡◌ {A = ℕ} (cond b 0 1) 0 → b ≡ true
 counts_none true none = refl
 counts_none false none = absurd (omega (arith, none))
 
@@ -35,7 +32,7 @@ uncached_none pages k (suc n) none j low high = elim (cases_eq j (k + n)) [
   | inr other ↦ uncached_none pages k n (omega (arith, none)) j low (omega (arith, high, other))
 ]
 
-counted_none : (b : Bool) → b ≡ true → cond b 0 1 ≡ 0
+counted_none : (b : Bool) → b ≡ true → ◌≡◌ {A = ℕ} (cond b 0 1) 0
 counted_none true is = refl
 counted_none false is = absurd (cc is)
 
@@ -99,3 +96,7 @@ pub held_covered : (seal : List ℕ → ℕ) (u : Buffer) (size p : ℕ) (conten
 held_covered seal u size p content pos backed held k wanted =
     let has = found_page_has (IsCachedOf seal u.page_size content) k u.cache backed.cache (missing_none u (p * size) size pos (none_eqb (missing_pages u (p * size) size) held) k wanted) in
     omega (arith, has.1.covered)
+
+-- one more of a list's numbers that passes a test, behind the first i, is counted within the list
+pub count_within : (test : ℕ → Bool) (xs : List ℕ) (i : ℕ) → i < length xs → test (get_or xs i 0) ≡ true → count_by test (take i xs) + 1 ≤ length xs
+count_within test xs i lt passes = omega (arith, count_by_more_yes test xs i 0 lt passes, sum_by-take-le (λ p. cond (test p) 1 0) xs (i + 1), count_by-le-length test xs)

@@ -76,7 +76,7 @@ advanced seal content n r fits is = record {
   bytes = data_drop r.page_size r.at n (view content) r.bytes is.bytes fits;
   covered = covered_rest seal r.page_size content r.at (length r.bytes) n (length (drop n r.bytes)) is.covered fits (length-drop n r.bytes);
   piece = is.piece;
-  pages = is.pages;
+  tip = is.tip;
 }
 
 -- reads leave each blob opened, as long as it was

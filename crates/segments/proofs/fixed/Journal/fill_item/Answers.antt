@@ -71,3 +71,6 @@ returns-clause-reads g c =
     let u = c.args.buffer.now in
     let m = c.args.position * c.SIZE.result in
     reads_more _ _ _ _ _ (missing_most (shown u) m (length c.try_read_held.new.buf) (omega (arith, u.fit.begun)) g.A.CodecFixed.SIZE (omega (arith, c.try_read_held.auto.buf, c.requires.room))) c.in_ok-read_at.ensures.reads
+
+pub returns-clause-idle : goal.returns-clause-idle
+returns-clause-idle g c held = absurd (cc (returns-clause-held g c ∙ held))

@@ -15,6 +15,7 @@ use Rattle.section_manager.specs.declared.journal.Error.TheVariants.{Runtime, Co
 use Rattle.segments.specs.FixedItems.{item_at}
 use Rattle.segments.specs.FixedReading.{is_item_held, IsDamaged, IsItemCovered}
 use Rattle.segments.proofs.FixedErrors.{of_error, read_failed}
+use Rattle.segments.proofs.FixedMemory.{count_within}
 use Rattle.segments.proofs.FixedReadLemmas.{none_next, none_here, reads_one, reads_next, reads_here}
 use Rattle.segments.proofs.fixed.Journal.read_each.Goals as goal
 
@@ -129,3 +130,10 @@ returns-clause-checked g c t holds p has =
     let xs = c.args.positions.now in
     subst (λ (q : ℕ). IsItemCovered g.A.CodecFixed.SIZE g.S.Seal.seal_of u (disk (g.D.Device.time c.args.dev.now) (key_of (shown u))).content q) (get_or_default xs has.0 0 p has.1 ∙ has.2)
     (c.loop-i.invariant.checked t holds has.0 (omega (arith, has.1, c.loop-i-test.false)))
+
+pub overflow_add-held_count : goal.overflow_add-held_count
+overflow_add-held_count g c = elim (bool_or c.in_ok-item.held) [
+  | inl is_held ↦ (let one : c.from-held_count.result ≡ 1 = rw is_held at c.from-held_count.ensures in
+      omega (arith, one, c.loop-i.invariant.held, c.well_formed, count_within (is_item_held g.A.CodecFixed.SIZE c.args.buffer.now) c.args.positions.now c.loop-i.i c.loop-i-test.true (sym c.in_ok-item.ensures.held ∙ is_held)))
+  | inr not_held ↦ (let none : c.from-held_count.result ≡ 0 = rw not_held at c.from-held_count.ensures in omega (arith, none, c.loop-i.auto.held_count-fits))
+]

@@ -62,7 +62,7 @@ returns-in_err-buffer-clause-moments g c t u held =
     let K = sections.key_of (walk_of c.args.self.now).journal.sections c.args.section in
     let a = g.D.Device.time c.args.dev.now in
     subst (λ (x : Timeline). Sealing g.S.Seal.seal_of u.page_size (sealed_prefix g.S.Seal.seal_of u.page_size (disk a K).content) (c.args.count * g.A.CodecFixed.SIZE) K a x) (sym (ap g.D.Device.time (c.take.ensures.untouched c.requires.held)))
-    (no_cut_moments g.S.Seal.seal_of u K a (c.args.count * g.A.CodecFixed.SIZE) (c.requires.settled u held) ((c.requires.over.disk t).stands c.args.section u held).stands (c.requires.prefix t u held))
+    (no_cut_moments g.S.Seal.seal_of u K a (c.args.count * g.A.CodecFixed.SIZE) (c.requires.settled u held) ((c.requires.over.disk t).stands c.args.section u held) (c.requires.prefix t u held))
 
 pub returns-in_err-buffer-clause-cause : goal.returns-in_err-buffer-clause-cause
 returns-in_err-buffer-clause-cause g c =
@@ -128,7 +128,7 @@ returns-in_err-buffer-2-clause-moments g c t u held =
     let size : n ≡ c.args.count * g.A.CodecFixed.SIZE = ap (λ (x : ℕ). c.args.count * x) c.SIZE.ensures in
     subst (λ (x : ℕ). Sealing g.S.Seal.seal_of u.page_size (sealed_prefix g.S.Seal.seal_of u.page_size (disk (g.D.Device.time c.args.dev.now) K).content) x K (g.D.Device.time c.args.dev.now) (g.D.Device.time c.truncate.new.dev)) size
     (cut_moved g.S.Seal.seal_of bu u (c.in_ok-buffer.ensures.same u held) K (g.D.Device.time c.take.new.dev) (g.D.Device.time c.args.dev.now) times c.in_ok-buffer.ensures.key (g.D.Device.time c.truncate.new.dev) n
-    (c.requires.settled u held) (omega (arith, size, c.requires.within u held)) ((c.requires.over.disk t).stands c.args.section u held).stands.adopted (omega (arith, size, c.requires.prefix t u held)) (c.truncate.ensures.crashes t) (c.truncate.ensures.recovering t))
+    (c.requires.settled u held) (omega (arith, size, c.requires.within u held)) ((c.requires.over.disk t).stands c.args.section u held).adopted (omega (arith, size, c.requires.prefix t u held)) (c.truncate.ensures.crashes t) (c.truncate.ensures.recovering t))
 
 pub returns-in_err-buffer-2-clause-cause : goal.returns-in_err-buffer-2-clause-cause
 returns-in_err-buffer-2-clause-cause g c =
@@ -179,7 +179,7 @@ returns-in_err-put-clause-moments g c t u held =
     let size : n ≡ c.args.count * g.A.CodecFixed.SIZE = ap (λ (x : ℕ). c.args.count * x) c.SIZE.ensures in
     subst (λ (x : ℕ). Sealing g.S.Seal.seal_of u.page_size (sealed_prefix g.S.Seal.seal_of u.page_size (disk (g.D.Device.time c.args.dev.now) K).content) x K (g.D.Device.time c.args.dev.now) (g.D.Device.time c.truncate.new.dev)) size
     (cut_moved g.S.Seal.seal_of bu u (c.in_ok-buffer.ensures.same u held) K (g.D.Device.time c.take.new.dev) (g.D.Device.time c.args.dev.now) times c.in_ok-buffer.ensures.key (g.D.Device.time c.truncate.new.dev) n
-    (c.requires.settled u held) (omega (arith, size, c.requires.within u held)) ((c.requires.over.disk t).stands c.args.section u held).stands.adopted (omega (arith, size, c.requires.prefix t u held)) (c.truncate.ensures.crashes t) (c.truncate.ensures.recovering t))
+    (c.requires.settled u held) (omega (arith, size, c.requires.within u held)) ((c.requires.over.disk t).stands c.args.section u held).adopted (omega (arith, size, c.requires.prefix t u held)) (c.truncate.ensures.crashes t) (c.truncate.ensures.recovering t))
 
 pub returns-in_err-put-clause-cause : goal.returns-in_err-put-clause-cause
 returns-in_err-put-clause-cause g c =
@@ -255,7 +255,7 @@ returns-clause-moments g c t u held =
     let size : n ≡ c.args.count * g.A.CodecFixed.SIZE = ap (λ (x : ℕ). c.args.count * x) c.SIZE.ensures in
     subst (λ (x : ℕ). Sealing g.S.Seal.seal_of u.page_size (sealed_prefix g.S.Seal.seal_of u.page_size (disk (g.D.Device.time c.args.dev.now) K).content) x K (g.D.Device.time c.args.dev.now) (g.D.Device.time c.truncate.new.dev)) size
     (cut_moved g.S.Seal.seal_of bu u (c.in_ok-buffer.ensures.same u held) K (g.D.Device.time c.take.new.dev) (g.D.Device.time c.args.dev.now) times c.in_ok-buffer.ensures.key (g.D.Device.time c.truncate.new.dev) n
-    (c.requires.settled u held) (omega (arith, size, c.requires.within u held)) ((c.requires.over.disk t).stands c.args.section u held).stands.adopted (omega (arith, size, c.requires.prefix t u held)) (c.truncate.ensures.crashes t) (c.truncate.ensures.recovering t))
+    (c.requires.settled u held) (omega (arith, size, c.requires.within u held)) ((c.requires.over.disk t).stands c.args.section u held).adopted (omega (arith, size, c.requires.prefix t u held)) (c.truncate.ensures.crashes t) (c.truncate.ensures.recovering t))
 
 pub returns-clause-reads : goal.returns-clause-reads
 returns-clause-reads g c = few_reads 1 (key_of (shown c.in_ok-buffer.buffer)) (sections.key_of (walk_of c.args.self.now).journal.sections c.args.section) (g.D.Device.opened c.args.dev.now) (g.D.Device.opened c.take.new.dev) (g.D.Device.opened c.truncate.new.dev)
