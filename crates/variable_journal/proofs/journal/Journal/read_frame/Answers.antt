@@ -1,5 +1,5 @@
 use Rattle.std.proofs.Common.{◌≡◌, ◌∙◌, ◌+◌, ◌<◌, ◌≤◌, ℕ, List, length, take, drop, Ok, Err, inl, inr, refl, sym, ap, subst, arith, rules}
-use Rattle.std.proofs.lemmas.Bool.{cases_lt}
+use Rattle.std.proofs.lemmas.List.{take_at}
 use Rattle.blob_device.specs.Disk.{Blob, Disk}
 use Rattle.blob_device.specs.Timeline.{disk}
 use Rattle.blob_device.proofs.Results.{err_of}
@@ -40,7 +40,8 @@ returns-in_err-decode_cfg g c =
     let r = c.in_ok-read_at.ensures in
     let x = c.in_err-decode_cfg.field-0.0 in
     let long : length c.read_at.new.buf ≡ c.in_ok-size.size = search rules in
-    let copy : c.as_slice.result.now ≡ c.read_at.new.buf = search rules in
+    let full : length c.read_at.new.buf ≡ c.in_ok-bytes.bytes.len = search rules in
+    let copy : c.as_slice.result.now ≡ c.read_at.new.buf = c.as_slice.ensures.value ∙ take_at c.read_at.new.buf (drop (length c.read_at.new.buf) c.in_ok-bytes.bytes.items) c.in_ok-bytes.bytes.len full in
     let same = (λ (t : g.D.Device.Tells). ap (λ (d : Disk). d (pages.key_of (page_blob.shown u))) (unchanged_now _ _ (h.unchanged t))) in
     rw (err_of c.from_residual-in_err-decode_cfg.result (raised_codec x) c.from_residual-in_err-decode_cfg.ensures.1)
     (ended g.S.Seal.seal_of g.V.Codec.refusal c.args.self.now.codec_config g.D.Device u c.args.offset c.args.dev.now (FrameOf g.V.Codec.spelling g.V.Codec.accepted c.args.self.now.codec_config) c.read_at.new.dev
@@ -55,7 +56,8 @@ returns g c =
     let u = c.args.buffer.now in
     let h = c.in_ok-size.ensures.reads in
     let r = c.in_ok-read_at.ensures in
-    let copy : c.as_slice.result.now ≡ c.read_at.new.buf = search rules in
+    let full : length c.read_at.new.buf ≡ c.in_ok-bytes.bytes.len = search rules in
+    let copy : c.as_slice.result.now ≡ c.read_at.new.buf = c.as_slice.ensures.value ∙ take_at c.read_at.new.buf (drop (length c.read_at.new.buf) c.in_ok-bytes.bytes.items) c.in_ok-bytes.bytes.len full in
     let same = (λ (t : g.D.Device.Tells). ap (λ (d : Disk). d (pages.key_of (page_blob.shown u))) (unchanged_now _ _ (h.unchanged t))) in
     let long : length c.read_at.new.buf ≡ c.in_ok-size.size = search rules in
     found g.S.Seal.seal_of g.V.Codec.refusal c.args.self.now.codec_config g.D.Device u c.args.offset c.args.dev.now (FrameOf g.V.Codec.spelling g.V.Codec.accepted c.args.self.now.codec_config) c.read_at.new.dev
