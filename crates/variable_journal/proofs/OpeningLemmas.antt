@@ -54,6 +54,6 @@ module _ {S C D : Type 0} {gs : _} (g : buffer.Ghosts (PageBlob S gs)) (gives : 
         over = record {
           bytes = is.over;
           free = is.floors;
-          framed = λ t s free. ap rest_of (no_bytes (section_bytes k.sections (disk (dev.time new)) s) (section_length k (disk (dev.time new)) s ∙ empty k s (is.unrecovered s).1 free) ) ∙ rest_none;
+          framed = λ t s free. ap rest_of (no_bytes (section_bytes k.sections (disk (dev.time new)) s) (section_length k (disk (dev.time new)) s ∙ empty k s (is.unrecovered s).1 free)) ∙ rest_none;
         };
       }

@@ -156,9 +156,12 @@ module _ {S C D : Type 0} {gs : _} (seal : List ℕ → ℕ) (refusal : List ℕ
   page_why mid new e m n W first fits within same short sound cause = elim cause [
     | inl over ↦ absurd (fits over)
     | inr (inl less) ↦ absurd (within less)
-    | inr (inr (inl page)) ↦ (let at = page.1 in let is : e ≡ runtime.InvalidChecksum page.0 = cc at in inl (page.0, ap raised is,
-        λ t. (m, n, subst (λ (x : Blob). IsShort seal u.page_size x.content m n page.0) (same t) (short t page.0 page.1)),
-        λ t sealed. sound t (subst (IsSealed seal (shown u)) (sym (same t)) sealed) page.0 page.1))
+    | inr (inr (inl page)) ↦ (let at = page.1 in let is : e ≡ runtime.InvalidChecksum page.0 = cc at in inl (
+      page.0,
+      ap raised is,
+      λ t. (m, n, subst (λ (x : Blob). IsShort seal u.page_size x.content m n page.0) (same t) (short t page.0 page.1)),
+      λ t sealed. sound t (subst (IsSealed seal (shown u)) (sym (same t)) sealed) page.0 page.1,
+    ))
     | inr (inr (inr (inl none))) ↦ (let is : e ≡ runtime.Mem = cc none in inr (inr (inl (ap raised is))))
     | inr (inr (inr (inr fault))) ↦ (let at = fault.0 in let is : e ≡ runtime.Fault = cc at in inr (inr (inr (ap raised is, omega (arith, first, fault.1)))))
   ]
@@ -172,8 +175,16 @@ module _ {S C D : Type 0} {gs : _} (seal : List ℕ → ℕ) (refusal : List ℕ
     | inl none ↦ inr (inl (ap raised_codec none))
     | inr refused ↦ elim (mem_or x) [
       | inl none ↦ inr (inl (ap raised_codec none))
-      | inr is ↦ inl (x, is, λ t backed. (let h = stands t backed in inr (item, drop (len + n) there,
-        subst (λ (i : List ℕ). BeginsWithFrame there i (drop (len + n) there)) (sym h.1) (header_frame there n len h.0.0 h.0.1), refused)))
+      | inr is ↦ inl (
+        x,
+        is,
+        λ t backed. (let h = stands t backed in inr (
+          item,
+          drop (len + n) there,
+          subst (λ (i : List ℕ). BeginsWithFrame there i (drop (len + n) there)) (sym h.1) (header_frame there n len h.0.0 h.0.1),
+          refused,
+        )),
+      )
     ]
   ]
 

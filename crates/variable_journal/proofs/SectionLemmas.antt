@@ -97,9 +97,12 @@ module _ {F S : Type 0} {gs : _} (min : ℕ) (j k : Lists F (PageBlob S gs)) (a 
       ⊎ ((min ≤ s) × (section_bytes k.sections (disk b) s ≡ section_bytes j.sections (disk a) s))
   pruned_bytes number removed kept place moments s = elim (cases_lt s min) [
     | inl low ↦ inl (low, λ i. bytes_held ((removed s low).held i) (disk b (key_of k.sections s)).content)
-    | inr stays ↦ inr (stays, held_again j k (disk a) (disk b) s place.partition (kept s stays).held (λ u was.
-        (always_now a b (Removing j.sections (λ q. IsKnown j.sections q × (q < min)) (λ q t. q < t) (disk a)) moments).others (key_of j.sections s)
-        (λ x. (let one : s ≡ x.0 = key_injective j.sections.partition s x.0 (number s (inl (subst (λ o. IsSome o) (sym was) refl))) (number x.0 x.1.0) x.2 in omega (arith, one, stays, x.1.1)))))
+    | inr stays ↦ inr (
+      stays,
+      held_again j k (disk a) (disk b) s place.partition (kept s stays).held (λ u was.
+          (always_now a b (Removing j.sections (λ q. IsKnown j.sections q × (q < min)) (λ q t. q < t) (disk a)) moments).others (key_of j.sections s)
+          (λ x. (let one : s ≡ x.0 = key_injective j.sections.partition s x.0 (number s (inl (subst (λ o. IsSome o) (sym was) refl))) (number x.0 x.1.0) x.2 in omega (arith, one, stays, x.1.1)))),
+    )
   ]
 
 -- ---- a sync of all sections names those that are held

@@ -24,8 +24,8 @@ use Rattle.segments.specs.Tails.{IsTailAfter}
 use Rattle.variable_journal.specs.Frames.{frame}
 use Rattle.variable_journal.specs.Lists.{IsJournal, section_items}
 
--- The item that is spelled so was added to the section of the journal j. The answer is the journal, the offset of the
--- frame, and the length of the item.
+-- The item that is spelled so was added to the section of the journal j. The answer is the journal, the offset
+-- of the frame, and the length of the item.
 module _ {S C D : Type 0} {gs : _} (g : buffer.Ghosts (PageBlob S gs))
     (gives : AppendFactory S → Setting) (seal : List ℕ → ℕ) (dev : device.Ghosts D) (section : ℕ)
     (spelled : List ℕ) (j : Lists (AppendFactory S) (PageBlob S gs))

@@ -1,5 +1,5 @@
--- A list of items per section, each in a frame at its offset: what a journal of frames asks of its sections, beside what a journal of
--- bytes does.
+-- A list of items per section, each in a frame at its offset: what a journal of frames asks of its sections,
+-- beside what a journal of bytes does.
 use Rattle.std.specs.Prelude.{◌≡◌, ℕ, false, List, []}
 use Rattle.blob_device.specs.Disk.{Disk}
 use Rattle.blob_device.specs.Opened.{OpenedList}

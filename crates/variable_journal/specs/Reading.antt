@@ -38,8 +38,8 @@ pub record FrameOf {V C : Type 0} (spelling : V → List ℕ) (accepted : V → 
   pub begins : BeginsWithFrame bytes item rest
   pub spells : Spells spelling accepted config item v
 
--- From the place on there are no bytes, or a length that runs past the end, or fewer bytes than the longest length has:
--- no frame stands there.
+-- From the place on there are no bytes, or a length that runs past the end, or fewer bytes than the longest
+-- length has: no frame stands there.
 pub record IsPastLast (bytes : List ℕ) : Type 0 where
   pub none : BeginsWithNoFrame bytes
   pub unread : HasBadLength bytes → ⊥
@@ -48,10 +48,12 @@ pub record IsPastLast (bytes : List ℕ) : Type 0 where
 abbrev pub IsRefusedBy : {C : Type 0} → (List ℕ → C → Option codec.Error) → C → List ℕ
     → codec.Error → Type 0
 IsRefusedBy refusal config bytes e = ((e ≡ InvalidVarint) × HasBadLength bytes)
-    ⊎ ((item : List ℕ) × (rest : List ℕ) × BeginsWithFrame bytes item rest × (refusal item config ≡ Some e))
+    ⊎ ((item : List ℕ) × (rest : List ℕ) × BeginsWithFrame bytes item rest
+    × (refusal item config ≡ Some e))
 
 -- The length of a frame was asked for, of which `seen` bytes were looked at, of these.
-pub record Measures (seen : ℕ) (bytes : List ℕ) (result : Result (Option (ℕ × ℕ)) Error) : Type 0 where
+pub record Measures (seen : ℕ) (bytes : List ℕ) (result : Result (Option (ℕ × ℕ)) Error)
+    : Type 0 where
   -- it stands there, among those that were looked at
   pub found : (r : ℕ × ℕ) → result ≡ Ok (Some r)
       → BeginsWithVarint (2 ^ 32) bytes r.0 r.1 × (r.1 ≤ seen)

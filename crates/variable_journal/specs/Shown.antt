@@ -5,7 +5,8 @@ use Rattle.segments.specs.FixedLists.{Lists}
 use Rattle.segments.specs.FixedShown as bytes
 use Rattle.variable_journal.specs.declared.journal.Journal.{Journal}
 
-abbrev pub shown : {V S C : Type 0} {seal : _} → Journal V S C seal → Lists (AppendFactory S) (PageBlob S seal)
+abbrev pub shown : {V S C : Type 0} {seal : _}
+    → Journal V S C seal → Lists (AppendFactory S) (PageBlob S seal)
 shown j = bytes.shown j.bytes
 
 -- what decoding an item needs to know

@@ -26,7 +26,8 @@ impl Codec for Byte {
 
     ghost kept = { λ b _ _. byte_kept b.value };
 
-    ghost one_value = { λ b c _ _ _ same i. record { value = byte_one_value b.value c.value same i } };
+    ghost one_value = { λ b c _ _ _ same i.
+        record { value = byte_one_value b.value c.value same i } };
 
     ghost not_memory = { λ bytes _. size_not_memory 1 bytes };
 

@@ -21,8 +21,8 @@
 //
 // # Crashes
 //
-// Of a section each crash leaves a prefix of its bytes that holds all that had settled. The whole frames in it
-// are the first ones of the section (`crash_laws`). A part of one more may stand behind them.
+// Of a section each crash leaves a prefix of its bytes that holds all that had settled. The whole frames in
+// it are the first ones of the section. A part of one more may stand behind them.
 //
 // # Opening
 //
@@ -89,7 +89,8 @@ impl<V: Codec, S: Seal> Journal<V, S> {
     ghost use Rattle.segments.specs.FixedLists.{IsRecovered, section_size};
     ghost use Rattle.variable_journal.specs.Shown.{shown};
 
-    /// Whether the section takes an append: no replay of it is owed, and it is not above the bound of an opening.
+    /// Whether the section takes an append: no replay of it is owed, and it is not above the bound of an
+    /// opening.
     pub fn is_recovered(&self, section: u64) -> bool
         ensures { IsTrue result ↔ IsRecovered (shown self.now) section }
     {

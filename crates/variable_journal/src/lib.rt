@@ -1,4 +1,5 @@
-//! A journal of items of any length, by section and offset, over the journal of items of one byte of `segments`.
+//! A journal of items of any length, by section and offset, over the journal of items of one byte of
+//! `segments`.
 //!
 //! ```rust
 //! let journal = Journal::<Vec<u8>, Sha256Seal>::init(alloc, &mut dev, &cfg)?;
@@ -10,8 +11,6 @@
 
 mod byte;
 mod journal;
-mod laws;
 pub mod plain;
 
 pub use journal::{Config, Journal};
-pub use laws::{crash_laws, frame_laws};

@@ -15,7 +15,8 @@ use value_codec::{Codec, Seal};
 impl<C: Copy> Config<C> {
     // The same of the journal of bytes.
     fn of_bytes(&self) -> Result<fixed::Config, Error>
-        ensures same { IfOk result (λ r. (string_bytes r.partition ≡ string_bytes self.now.partition)
+        ensures same { IfOk result (λ r.
+            (string_bytes r.partition ≡ string_bytes self.now.partition)
             × (r.pages ≡ self.now.pages) × (r.write_buffer ≡ self.now.write_buffer)) }
         ensures cause { OnErr result (IsErrOf result Error.Mem) }
     {
@@ -33,11 +34,7 @@ impl<V: Codec, S: Seal> Journal<V, S> {
     /// Opens the sections of the partition. Each that has bytes owes a replay.
     ///
     /// It refuses a blob with a name that is no section's, before it changes anything.
-    pub fn init<D: Device>(
-        alloc: Global,
-        dev: &mut D,
-        cfg: &Config<V::Cfg>,
-    ) -> Result<Self, Error>
+    pub fn init<D: Device>(alloc: Global, dev: &mut D, cfg: &Config<V::Cfg>) -> Result<Self, Error>
         requires { 1 ≤ cfg.now.pages.page_size }
         ensures { Opens ⟦<PageBlob<S> as SectionBuffer>⟧ ⟦<AppendFactory<S> as BufferFactory>⟧.gives
             S.seal_of (string_bytes cfg.now.partition) cfg.now.pages cfg.now.write_buffer

@@ -18,8 +18,8 @@ use value_codec::{Codec, Seal, read_varint32};
 // How many bytes the longest length of a frame has.
 const LONGEST: usize = 5;
 
-// The length of the frame that begins with these bytes, and how many bytes it takes; none where they are cut short. They
-// are five, or all that are left.
+// The length of the frame that begins with these bytes, and how many bytes it takes; none where they are cut
+// short. They are five, or all that are left.
 fn length_of(front: &[u8]) -> Result<Option<(u32, usize)>, Error>
     ensures { (rest : List ℕ) → (length front.now < 5 → rest ≡ [])
         → Measures (length front.now) (front.now ++ rest) result }
@@ -103,9 +103,9 @@ impl<V: Codec, S: Seal> Journal<V, S> {
 
     /// The item whose frame stands at this offset.
     ///
-    /// It refuses a pruned section, one that is not held, and an offset at or past the end, or of a frame that runs past
-    /// it, in this order. `InvalidChecksum` names a page that no matching slot covers as far as the read goes, and `Codec`
-    /// says why the bytes are no length, or no item.
+    /// It refuses a pruned section, one that is not held, and an offset at or past the end, or of a frame that runs
+    /// past it, in this order. `InvalidChecksum` names a page that no matching slot covers as far as the read
+    /// goes. `Codec` says why the bytes are no length, or no item.
     pub fn get<D: Device>(&self, dev: &mut D, section: u64, offset: u64) -> Result<V, Error>
         requires { IsJournal
             ⟦<PageBlob<S> as SectionBuffer>⟧ ⟦<AppendFactory<S> as BufferFactory>⟧.gives

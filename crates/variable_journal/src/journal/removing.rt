@@ -14,8 +14,8 @@ impl<V: Codec, S: Seal> Journal<V, S> {
     ghost use Rattle.variable_journal.specs.Lists.{IsJournal};
     ghost use Rattle.variable_journal.specs.Shown.{config_of, shown};
 
-    /// Removes the sections below `min`, the oldest first, and says whether there was one; only then `min` is the
-    /// floor.
+    /// Removes the sections below `min`, the oldest first, and says whether there was one; only then `min` is
+    /// the floor.
     pub fn prune<D: Device>(self, dev: &mut D, min: u64) -> Result<(Self, bool), Error>
         requires { IsJournal
             ⟦<PageBlob<S> as SectionBuffer>⟧ ⟦<AppendFactory<S> as BufferFactory>⟧.gives

@@ -46,11 +46,11 @@ impl<V: Codec, S: Seal> Journal<V, S> {
     ghost use Rattle.variable_journal.specs.Lists.{IsJournal};
     ghost use Rattle.variable_journal.specs.Shown.{config_of, shown};
 
-    /// Adds an item at the end of the section, which is made where it is not held. The answer has the offset of its
-    /// frame, and the length of the item without that of the frame.
+    /// Adds an item at the end of the section, which is made where it is not held. The answer has the offset of
+    /// its frame, and the length of the item without that of the frame.
     ///
-    /// `ValueTooLarge` says that the length passes a u32; it comes before a section below the floor is refused. `Full`
-    /// says that the section's blob would pass the greatest `u64`.
+    /// `ValueTooLarge` says that the length passes a u32; it comes before a section below the floor is refused.
+    /// `Full` says that the section's blob would pass the greatest `u64`.
     pub fn append<D: Device>(
         self,
         dev: &mut D,

@@ -48,8 +48,11 @@ returns-in_err-decode_cfg g c =
     (λ t. unchanged_then _ _ _ (h.unchanged t) (r.unchanged t)) (only_read_then _ _ _ _ h.entries (only_read_of _ _ _ _ r.reads)) (omega (arith, h.faults, r.faults)) (raised_codec x)
     (λ le. absurd (let is = h.behind le in cc is))
     (inr (inr (item_why g.S.Seal.seal_of g.V.Codec.refusal c.args.self.now.codec_config g.D.Device u c.args.offset c.args.dev.now c.read_at.new.dev c.in_ok-size.size c.in_ok-size.header x c.as_slice.result.now
-    (λ t backed. (h.value t backed, copy ∙ item_there (page_blob.shown u) _ _ c.read_at.new.buf _ c.args.offset c.in_ok-size.size c.in_ok-size.header (same t) long c.read_at.auto.buf
-        (r.bytes t (subst (λ (b : Blob). IsBacked g.S.Seal.seal_of (page_blob.shown u) b.content) (sym (same t)) backed)))) c.in_err-decode_cfg.ensures.refused))))
+    (λ t backed. (
+      h.value t backed,
+      copy ∙ item_there (page_blob.shown u) _ _ c.read_at.new.buf _ c.args.offset c.in_ok-size.size c.in_ok-size.header (same t) long c.read_at.auto.buf
+          (r.bytes t (subst (λ (b : Blob). IsBacked g.S.Seal.seal_of (page_blob.shown u) b.content) (sym (same t)) backed)),
+    )) c.in_err-decode_cfg.ensures.refused))))
 
 pub returns : goal.returns
 returns g c =
@@ -64,5 +67,5 @@ returns g c =
     (λ t. unchanged_then _ _ _ (h.unchanged t) (r.unchanged t)) (only_read_then _ _ _ _ h.entries (only_read_of _ _ _ _ r.reads)) (omega (arith, h.faults, r.faults)) _
     (inside_of g.S.Seal.seal_of g.V.Codec.refusal c.args.self.now.codec_config g.D.Device u c.args.offset c.args.dev.now HasHeader _ _ h)
     (λ t backed. item_found g.S.Seal.seal_of g.V.Codec.refusal c.args.self.now.codec_config g.D.Device u c.args.offset c.args.dev.now g.V.Codec.spelling g.V.Codec.accepted _ c.in_ok-size.size c.in_ok-size.header c.as_slice.result.now
-        (h.value t backed) (copy ∙ item_there (page_blob.shown u) _ _ c.read_at.new.buf _ c.args.offset c.in_ok-size.size c.in_ok-size.header (same t) long c.read_at.auto.buf
-        (r.bytes t (subst (λ (b : Blob). IsBacked g.S.Seal.seal_of (page_blob.shown u) b.content) (sym (same t)) backed))) c.in_ok-decode_cfg.ensures.spelled c.in_ok-decode_cfg.ensures.allowed)
+    (h.value t backed) (copy ∙ item_there (page_blob.shown u) _ _ c.read_at.new.buf _ c.args.offset c.in_ok-size.size c.in_ok-size.header (same t) long c.read_at.auto.buf
+    (r.bytes t (subst (λ (b : Blob). IsBacked g.S.Seal.seal_of (page_blob.shown u) b.content) (sym (same t)) backed))) c.in_ok-decode_cfg.ensures.spelled c.in_ok-decode_cfg.ensures.allowed)

@@ -41,9 +41,11 @@ returns g c =
       over = record {
         bytes = f.over;
         free = λ q. f.floors q ∙ c.requires.free q;
-        framed = λ t. framed_again (shown c.args.self) (bytes.shown c.in_ok-this.field-0) (disk (g.D.Device.time c.args.dev.now)) (disk (g.D.Device.time c.sync.new.dev)) (c.requires.framed t) (λ q free. inr (sym (f.unrecovered q) ∙ free,
-            synced_bytes (ghosts g.row.S g.S.Seal g.S.Seal-dict) (λ u x. refl) g.S.Seal.seal_of g.D.Device.Tells (shown c.args.self) (bytes.shown c.in_ok-this.field-0) (Contains c.args.sections.now) (contains_or_not c.args.sections.now)
-            (g.D.Device.time c.args.dev.now) (g.D.Device.time c.sync.new.dev) t (λ x held. c.requires.bytes.over.opened_list.number x (inl held)) f.named f.none f.others f.bounds (s.moments t) q));
+        framed = λ t. framed_again (shown c.args.self) (bytes.shown c.in_ok-this.field-0) (disk (g.D.Device.time c.args.dev.now)) (disk (g.D.Device.time c.sync.new.dev)) (c.requires.framed t) (λ q free. inr (
+          sym (f.unrecovered q) ∙ free,
+          synced_bytes (ghosts g.row.S g.S.Seal g.S.Seal-dict) (λ u x. refl) g.S.Seal.seal_of g.D.Device.Tells (shown c.args.self) (bytes.shown c.in_ok-this.field-0) (Contains c.args.sections.now) (contains_or_not c.args.sections.now)
+              (g.D.Device.time c.args.dev.now) (g.D.Device.time c.sync.new.dev) t (λ x held. c.requires.bytes.over.opened_list.number x (inl held)) f.named f.none f.others f.bounds (s.moments t) q,
+        ));
       };
       named = f.named;
       none = f.none;

@@ -45,9 +45,11 @@ returns g c =
       over = record {
         bytes = f.over;
         free = λ q. f.floors q ∙ c.requires.free q;
-        framed = λ t. framed_again j k (disk (g.D.Device.time c.args.dev.now)) (disk (g.D.Device.time c.sync_all.new.dev)) (c.requires.framed t) (λ q free. inr (sym (f.unrecovered q) ∙ free,
-            synced_bytes (ghosts g.row.S g.S.Seal g.S.Seal-dict) (λ u x. refl) g.S.Seal.seal_of g.D.Device.Tells j k (IsHeld j.sections) (held_or_not j.sections.held)
-            (g.D.Device.time c.args.dev.now) (g.D.Device.time c.sync_all.new.dev) t (λ x held. c.requires.bytes.over.opened_list.number x (inl held)) (λ q u is held. f.all q u held) f.none others f.bounds (settling_held g.S.Seal.seal_of j (g.D.Device.time c.args.dev.now) (g.D.Device.time c.sync_all.new.dev) (s.moments t)) q));
+        framed = λ t. framed_again j k (disk (g.D.Device.time c.args.dev.now)) (disk (g.D.Device.time c.sync_all.new.dev)) (c.requires.framed t) (λ q free. inr (
+          sym (f.unrecovered q) ∙ free,
+          synced_bytes (ghosts g.row.S g.S.Seal g.S.Seal-dict) (λ u x. refl) g.S.Seal.seal_of g.D.Device.Tells j k (IsHeld j.sections) (held_or_not j.sections.held)
+              (g.D.Device.time c.args.dev.now) (g.D.Device.time c.sync_all.new.dev) t (λ x held. c.requires.bytes.over.opened_list.number x (inl held)) (λ q u is held. f.all q u held) f.none others f.bounds (settling_held g.S.Seal.seal_of j (g.D.Device.time c.args.dev.now) (g.D.Device.time c.sync_all.new.dev) (s.moments t)) q,
+        ));
       };
       named = λ q u is held. f.all q u held;
       none = f.none;
