@@ -1,11 +1,11 @@
 -- How an append of a frame ends, from what the append of its bytes did.
-use Rattle.std.proofs.Common.{◌≡◌, ◌≢◌, ◌⊎◌, ◌↔◌, ◌∙◌, inl, inr, ℕ, ◌^◌, ◌<◌, ◌≤◌, List, [], ◌++◌, ◌∷◌, length, Some, Result, Ok, Err, OnErr, false, refl, sym, ap, subst, arith}
+use Rattle.std.proofs.Common.{◌≡◌, ◌⊎◌, ◌↔◌, ◌∙◌, inl, inr, ℕ, ◌^◌, ◌<◌, ◌≤◌, List, [], ◌++◌, ◌∷◌, length, Some, Result, Ok, Err, refl, sym, ap, subst, arith}
 use Rattle.std.specs.Result.{IsErrOf}
 use Rattle.std.proofs.Math.Nat.{div-one}
 use Rattle.std.proofs.lemmas.Bool.{cases_eq, cases_lt}
 use Rattle.blob_device.specs.Timeline.{disk}
 use Rattle.blob_device.specs.declared.device.Device as device
-use Rattle.sealed_pages.specs.Buffer.{extent, size_of, IsSealed}
+use Rattle.sealed_pages.specs.Buffer.{IsSealed}
 use Rattle.sealed_pages.specs.Shown.{shown}
 use Rattle.sealed_pages.specs.declared.page_blob.PageBlob.{PageBlob}
 use Rattle.section_manager.specs.Refusing.{HasFailed, IsPruned}
@@ -19,7 +19,7 @@ use Rattle.section_manager.proofs.Seen.{err_same, failed_again}
 use Rattle.segments.specs.FixedAdding as bytes
 use Rattle.segments.specs.FixedAdding.{WouldOverfill}
 use Rattle.segments.specs.FixedLists.{Lists, section_bytes, IsRecovered}
-use Rattle.segments.proofs.FixedAdding.{Along, along_nothing}
+use Rattle.segments.proofs.FixedAdding.{along_nothing}
 use Rattle.segments.proofs.FixedPassing.{no_error}
 use Rattle.segments.proofs.FixedWriteLemmas.{ArePages}
 use Rattle.variable_journal.specs.Adding.{Appends}

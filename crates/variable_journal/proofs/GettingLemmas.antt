@@ -1,7 +1,6 @@
 -- What a call answers that reads an item of a section, from what the read of the section's buffer answered.
-use Rattle.std.proofs.Common.{◌≡◌, ◌∙◌, ◌⊎◌, ◌↔◌, inl, inr, ℕ, ◌<◌, ◌≤◌, false, List, drop, Option, Some, None, Result, Ok, Err, OnErr, IfOk, IsSome, IsSomeAnd, refl, sym, ap, subst, arith}
+use Rattle.std.proofs.Common.{◌≡◌, ◌⊎◌, ◌↔◌, inl, inr, ℕ, ◌<◌, ◌≤◌, false, List, drop, Option, Some, None, Result, Ok, Err, OnErr, IfOk, sym, ap, subst, arith}
 use Rattle.std.specs.Result.{IsErrOf}
-use Rattle.blob_device.specs.Disk.{Key, Blob}
 use Rattle.blob_device.specs.Timeline.{disk}
 use Rattle.blob_device.specs.declared.device.Device as device
 use Rattle.blob_device.specs.declared.runtime.RError.TheVariants.{InvalidChecksum}
@@ -16,10 +15,10 @@ use Rattle.section_manager.specs.Refusing.{HasFailed, IsPruned}
 use Rattle.section_manager.specs.Sections.{key_of}
 use Rattle.section_manager.specs.declared.journal.Error.{Error}
 use Rattle.section_manager.specs.declared.journal.Error.TheVariants.{AlreadyPrunedToSection, Codec, Runtime, SectionOutOfRange}
-use Rattle.segments.specs.FixedLists.{Lists, section_bytes, section_size}
+use Rattle.segments.specs.FixedLists.{Lists, section_bytes}
 use Rattle.segments.specs.FixedReading.{IsAbsent, IsPast}
 use Rattle.segments.proofs.FixedSections.{bytes_own, own_here, size_here}
-use Rattle.variable_journal.specs.Reading.{bytes_there, bytes_under, FrameOf, Gets, IsPastLast, IsRefusedBy, Reads}
+use Rattle.variable_journal.specs.Reading.{FrameOf, Gets, IsPastLast, IsRefusedBy, Reads}
 
 module _ {F S V C D : Type 0} {gs : _} (seal : List ℕ → ℕ) (spelling : V → List ℕ) (accepted : V → C → Type 0) (refusal : List ℕ → C → Option codec.Error)
     (config : C) (dev : device.Ghosts D) (s offset : ℕ) (j : Lists F (PageBlob S gs)) (old : D) where

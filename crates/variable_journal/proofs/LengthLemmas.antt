@@ -1,17 +1,13 @@
 -- The length at the front of a frame, as a reader finds it: from five bytes, or from fewer where no more are there.
-use Rattle.std.proofs.Common.{◌≡◌, ◌∙◌, ◌⊎◌, ◌++◌, ◌+◌, ◌<◌, ◌≤◌, ◌^◌, ℕ, List, [], Option, None, Some, Result, Ok, Err, inl, inr, refl, sym, ap, subst, arith, length, drop, take, append_assoc, length-append, length-take, length-drop, take-append-drop}
-use Rattle.std.proofs.Math.Seq.{take-append_seam}
-use Rattle.std.proofs.lemmas.Bool.{cases_lt}
+use Rattle.std.proofs.Common.{◌≡◌, ◌∙◌, ◌++◌, ◌+◌, ◌<◌, ◌≤◌, ◌^◌, ℕ, List, [], None, Some, Result, Ok, Err, inl, inr, sym, ap, subst, arith, length, drop, take, append_assoc, length-append, length-take, length-drop, take-append-drop}
 use Rattle.std.proofs.lemmas.List.{append-nil, drop-drop, take-append-le}
 use Rattle.value_codec.specs.Varint.{varint, BeginsWithVarint, IsVarint, IsWhyNone, ReadsBack}
 use Rattle.value_codec.specs.declared.codec.Error as codec
-use Rattle.value_codec.specs.declared.codec.Error.TheVariants.{EndOfBuffer, InvalidVarint}
+use Rattle.value_codec.specs.declared.codec.Error.TheVariants.{InvalidVarint}
 use Rattle.value_codec.proofs.VarintLemmas.{varint_apart, varint_only}
-use Rattle.section_manager.specs.declared.journal.Error.{Error}
-use Rattle.section_manager.specs.declared.journal.Error.TheVariants.{Codec}
 use Rattle.section_manager.specs.Raised.{raised_codec}
 use Rattle.variable_journal.specs.Frames.{frame, BeginsWithFrame, HasBadLength}
-use Rattle.variable_journal.specs.Reading.{HasHeader, IsPastLast, Measures}
+use Rattle.variable_journal.specs.Reading.{IsPastLast, Measures}
 use Rattle.variable_journal.proofs.FrameLemmas.{bad_of, none_extends, not_bad, varint_some}
 
 -- a length is there, whatever follows

@@ -1,5 +1,5 @@
 -- A journal of bytes that was opened is one of frames: each section with bytes owes a replay.
-use Rattle.std.proofs.Common.{◌≡◌, ◌∙◌, inl, inr, ℕ, ◌<◌, ◌-◌, ◌^◌, List, [], ◌∷◌, false, true, length, Option, None, Some, Result, Ok, Err, IfOk, refl, sym, ap, subst, arith}
+use Rattle.std.proofs.Common.{◌≡◌, ◌∙◌, inl, inr, ℕ, ◌<◌, ◌-◌, ◌^◌, List, [], ◌∷◌, false, true, length, Option, None, Some, Result, Ok, Err, IfOk, refl, ap, subst, arith}
 use Rattle.std.proofs.lemmas.Bool.{cases_lt}
 use Rattle.blob_device.specs.Disk.{Disk}
 use Rattle.blob_device.specs.Timeline.{disk}

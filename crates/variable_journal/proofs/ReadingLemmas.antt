@@ -1,5 +1,5 @@
 -- How a read of a frame ends.
-use Rattle.std.proofs.Common.{◌≡◌, ◌∙◌, ◌⊎◌, inl, inr, ℕ, ◌+◌, ◌-◌, ◌<◌, ◌≤◌, ◌^◌, List, [], ◌∷◌, ◌++◌, length, min, take, drop, Option, Some, Result, Ok, Err, IsErrAnd, refl, sym, ap, subst, arith, length-drop, length-take, take-append-drop}
+use Rattle.std.proofs.Common.{◌≡◌, ◌∙◌, ◌⊎◌, inl, inr, ℕ, ◌+◌, ◌-◌, ◌<◌, ◌≤◌, List, [], ◌∷◌, ◌++◌, length, min, take, drop, Option, Some, Result, Ok, Err, refl, sym, ap, subst, arith, length-drop, take-append-drop}
 use Rattle.std.specs.Result.{IsErrOf}
 use Rattle.std.proofs.lemmas.Bool.{cases_lt}
 use Rattle.std.proofs.lemmas.List.{drop-drop, drop_all}
@@ -19,13 +19,10 @@ use Rattle.sealed_pages.specs.Shown.{shown}
 use Rattle.sealed_pages.specs.declared.page_blob.PageBlob.{PageBlob}
 use Rattle.sealed_pages.proofs.Holding.{bytes_length}
 use Rattle.section_manager.specs.Raised.{raised, raised_codec}
-use Rattle.section_manager.specs.Refusing.{HasFailed}
 use Rattle.section_manager.specs.declared.journal.Error.{Error}
 use Rattle.section_manager.specs.declared.journal.Error.TheVariants.{Codec, ItemOutOfRange, Mem, Runtime}
-use Rattle.section_manager.proofs.Seen.{err_same}
-use Rattle.segments.specs.FixedReading.{IsPast}
-use Rattle.variable_journal.specs.Frames.{BeginsWithFrame, HasBadLength}
-use Rattle.variable_journal.specs.Reading.{blob_under, bytes_under, FrameOf, HasHeader, IsPastLast, IsRefusedBy, Measures, Reads, Spells}
+use Rattle.variable_journal.specs.Frames.{BeginsWithFrame}
+use Rattle.variable_journal.specs.Reading.{FrameOf, HasHeader, IsPastLast, IsRefusedBy, Measures, Reads}
 use Rattle.variable_journal.proofs.LengthLemmas.{header_frame, past_of_none}
 
 -- a codec's error is want of memory, or is passed on as it is

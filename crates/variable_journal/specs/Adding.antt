@@ -1,9 +1,9 @@
 -- What an append of a frame promises.
-use Rattle.std.specs.Prelude.{◌≡◌, ◌≢◌, ◌⊎◌, ◌↔◌, ℕ, ◌+◌, ◌<◌, ◌≤◌, ◌^◌, ◌++◌, ◌∷◌, [], List, length, Some, None, Result, IfOk, OnOk, OnErr, IsSomeAnd}
+use Rattle.std.specs.Prelude.{◌≡◌, ◌≢◌, ◌⊎◌, ◌↔◌, ℕ, ◌+◌, ◌<◌, ◌≤◌, ◌^◌, ◌++◌, ◌∷◌, [], List, length, Some, None, Result, IfOk, OnOk, OnErr}
 use Rattle.std.specs.Result.{IsErrOf}
 use Rattle.blob_device.specs.Timeline.{disk}
 use Rattle.blob_device.specs.declared.device.Device as device
-use Rattle.sealed_pages.specs.Buffer.{extent, size_of, FlushesNothing, IsSealed}
+use Rattle.sealed_pages.specs.Buffer.{extent, size_of, FlushesNothing}
 use Rattle.sealed_pages.specs.ChanceSeal.{Sealing}
 use Rattle.sealed_pages.specs.Flushing.{Alone}
 use Rattle.sealed_pages.specs.Shown.{shown}

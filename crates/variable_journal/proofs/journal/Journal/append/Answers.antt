@@ -1,15 +1,11 @@
-use Rattle.std.proofs.Common.{◌≡◌, ◌∙◌, ℕ, List, length, Ok, Err, inl, inr, refl, sym, ap, subst, arith}
+use Rattle.std.proofs.Common.{◌≡◌, ◌∙◌, Err, inl, inr, ap, arith}
 use Rattle.std.proofs.Math.Nat.{mod-one}
 use Rattle.blob_device.proofs.Results.{err_of}
-use Rattle.section_manager.specs.contracts.sealed.PageBlobSectionBuffer.TheImpl.{ghosts}
 use Rattle.section_manager.specs.declared.journal.Error.TheVariants.{Mem, ValueTooLarge}
 use Rattle.section_manager.proofs.Seen.{err_same}
-use Rattle.segments.specs.FixedAdding as adding
-use Rattle.segments.specs.FixedAdding.{WouldOverfill}
-use Rattle.segments.proofs.FixedAdding.{error_is, mem_not_full, mem_not_pruned, pruned_not_full}
+use Rattle.segments.proofs.FixedAdding.{error_is, mem_not_full, mem_not_pruned}
 use Rattle.segments.proofs.FixedPassing.{no_error}
 use Rattle.segments.proofs.FixedWriteLemmas.{are_pages}
-use Rattle.variable_journal.specs.Frames.{frame}
 use Rattle.variable_journal.specs.Shown.{shown}
 use Rattle.variable_journal.proofs.AddingLemmas.{added, below_large, not_added, refused, spelled_as}
 use Rattle.variable_journal.proofs.journal.Journal.append.Goals as goal

@@ -1,5 +1,4 @@
 use Rattle.std.proofs.Common.{inl, refl}
-use Rattle.std.specs.Prelude.{Err}
 use Rattle.blob_device.specs.Timeline.{disk}
 use Rattle.blob_device.proofs.Results.{err_of}
 use Rattle.section_manager.proofs.Seen.{failed_again}

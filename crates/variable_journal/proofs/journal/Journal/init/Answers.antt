@@ -1,9 +1,6 @@
 use Rattle.std.proofs.Common.{refl}
-use Rattle.std.specs.Prelude.{string_bytes}
 use Rattle.blob_device.proofs.Results.{err_of}
 use Rattle.section_manager.specs.contracts.sealed.PageBlobSectionBuffer.TheImpl.{ghosts}
-use Rattle.section_manager.specs.Answers.{seen}
-use Rattle.variable_journal.specs.Shown.{shown}
 use Rattle.variable_journal.proofs.OpeningLemmas.{opens_of}
 use Rattle.variable_journal.proofs.journal.Journal.init.Goals as goal
 

@@ -1,6 +1,5 @@
 use Rattle.std.proofs.Common.{inl, inr, refl, ◌∙◌, sym}
 use Rattle.std.proofs.lemmas.Bool.{cases_lt}
-use Rattle.std.specs.Prelude.{Err}
 use Rattle.blob_device.specs.Timeline.{disk}
 use Rattle.blob_device.proofs.Results.{err_of}
 use Rattle.section_manager.proofs.Seen.{failed_again}

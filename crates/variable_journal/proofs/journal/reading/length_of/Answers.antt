@@ -1,4 +1,3 @@
-use Rattle.std.specs.Prelude.{Err}
 use Rattle.variable_journal.proofs.LengthLemmas.{measured_bad}
 use Rattle.variable_journal.proofs.journal.reading.length_of.Goals as goal
 
