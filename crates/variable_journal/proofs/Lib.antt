@@ -1,0 +1,7 @@
+pub mod FrameLemmas
+pub mod SectionLemmas
+pub mod LengthLemmas
+pub mod AddingLemmas
+pub mod ReadingLemmas
+pub mod OpeningLemmas
+pub mod GettingLemmas

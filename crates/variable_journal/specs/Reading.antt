@@ -1,0 +1,151 @@
+-- What reading an item at an offset answers.
+use Rattle.std.specs.Prelude.{◌≡◌, ◌⊎◌, ◌↔◌, ℕ, ◌+◌, ◌^◌, ◌<◌, ◌≤◌, false, List, length, drop, Option, Some, None, Result, Ok, Err, IfOk, OnErr, IsSomeAnd}
+use Rattle.std.specs.Result.{IsErrOf}
+use Rattle.blob_device.specs.Disk.{Blob}
+use Rattle.blob_device.specs.Timeline.{disk}
+use Rattle.blob_device.specs.declared.device.Device as device
+use Rattle.blob_device.specs.declared.runtime.RError.TheVariants.{InvalidChecksum}
+use Rattle.value_codec.specs.declared.codec.Error as codec
+use Rattle.value_codec.specs.declared.codec.Error.TheVariants.{InvalidVarint}
+use Rattle.value_codec.specs.Varint.{BeginsWithVarint}
+use Rattle.sealed_pages.specs.Buffer as pages
+use Rattle.sealed_pages.specs.Buffer.{bytes_of, size_of, IsBacked, IsSealed}
+use Rattle.sealed_pages.specs.Reading.{OnlyRead, Unchanged}
+use Rattle.sealed_pages.specs.Reads.{IsShort}
+use Rattle.sealed_pages.specs.Shown.{shown}
+use Rattle.sealed_pages.specs.declared.page_blob.PageBlob.{PageBlob}
+use Rattle.section_manager.specs.Refusing.{HasFailed, IsPruned}
+use Rattle.section_manager.specs.Sections.{key_of}
+use Rattle.section_manager.specs.declared.journal.Error.{Error}
+use Rattle.section_manager.specs.declared.journal.Error.TheVariants.{Codec, Runtime}
+use Rattle.segments.specs.FixedLists.{Lists, section_bytes, section_size}
+use Rattle.segments.specs.FixedReading.{IsAbsent, IsPast}
+use Rattle.variable_journal.specs.Frames.{BeginsWithFrame, BeginsWithNoFrame, HasBadLength}
+
+-- The item spells this value, which the codec accepts.
+pub record Spells {V C : Type 0} (spelling : V → List ℕ) (accepted : V → C → Type 0) (config : C)
+    (item : List ℕ) (v : V) : Type 0 where
+  pub spelled : spelling v ≡ item
+  pub allowed : accepted v config
+
+-- From the place on a frame stands that spells this value.
+pub record FrameOf {V C : Type 0} (spelling : V → List ℕ) (accepted : V → C → Type 0) (config : C)
+    (bytes : List ℕ) (v : V) : Type 0 where
+  -- the item's bytes
+  pub item : List ℕ
+  -- and what follows the frame
+  pub rest : List ℕ
+  pub begins : BeginsWithFrame bytes item rest
+  pub spells : Spells spelling accepted config item v
+
+-- From the place on there are no bytes, or a length that runs past the end, or fewer bytes than the longest
+-- length has: no frame stands there.
+pub record IsPastLast (bytes : List ℕ) : Type 0 where
+  pub none : BeginsWithNoFrame bytes
+  pub unread : HasBadLength bytes → ⊥
+
+-- The codec's error: five bytes or more that say no length, or an item that it refuses.
+abbrev pub IsRefusedBy : {C : Type 0} → (List ℕ → C → Option codec.Error) → C → List ℕ
+    → codec.Error → Type 0
+IsRefusedBy refusal config bytes e = ((e ≡ InvalidVarint) × HasBadLength bytes)
+    ⊎ ((item : List ℕ) × (rest : List ℕ) × BeginsWithFrame bytes item rest
+    × (refusal item config ≡ Some e))
+
+-- The length of a frame was asked for, of which `seen` bytes were looked at, of these.
+pub record Measures (seen : ℕ) (bytes : List ℕ) (result : Result (Option (ℕ × ℕ)) Error)
+    : Type 0 where
+  -- it stands there, among those that were looked at
+  pub found : (r : ℕ × ℕ) → result ≡ Ok (Some r)
+      → BeginsWithVarint (2 ^ 32) bytes r.0 r.1 × (r.1 ≤ seen)
+  -- no frame is there
+  pub none : result ≡ Ok None → IsPastLast bytes
+  -- there are five bytes that say no length
+  pub refused : (e : Error) → result ≡ Err e → (e ≡ Codec InvalidVarint) × HasBadLength bytes
+
+-- the length of a frame stands there, and so many bytes of it, and all of the frame is there
+abbrev pub HasHeader : List ℕ → ℕ × ℕ → Type 0
+HasHeader bytes r = BeginsWithVarint (2 ^ 32) bytes r.0 r.1 × (r.1 + r.0 ≤ length bytes)
+
+-- Something was read of the frame at this offset of a buffer; P says of what stands there what is answered.
+module _ {S T C D : Type 0} {gs : _} (seal : List ℕ → ℕ) (refusal : List ℕ → C → Option codec.Error)
+    (config : C) (dev : device.Ghosts D) (u : PageBlob S gs) (offset : ℕ) (P : List ℕ → T → Type 0)
+    (result : Result T Error) (old new : D) where
+  -- the buffer's blob
+  abbrev pub blob_under : Blob
+  blob_under = disk (dev.time old) (pages.key_of (shown u))
+
+  -- the bytes from the offset on
+  abbrev pub bytes_under : List ℕ
+  bytes_under = drop offset (bytes_of (shown u) blob_under.content)
+
+  pub record Reads : Type 0 where
+    -- it is what stands there
+    pub value : dev.Tells → IsBacked seal (shown u) blob_under.content
+        → IfOk result (P bytes_under)
+    -- an offset at or past the end is refused
+    pub behind : size_of (shown u) ≤ offset → IsPast result offset
+    -- or where no frame stands that ends in the buffer
+    pub past : dev.Tells → IsBacked seal (shown u) blob_under.content → IsPast result offset
+        → IsPastLast bytes_under
+    -- a page is refused only where no matching slot covers it as far as the read goes
+    pub damaged : dev.Tells → (k : ℕ) → IsErrOf result (Runtime (InvalidChecksum k))
+        → (m : ℕ) × (n : ℕ) × IsShort seal u.page_size blob_under.content m n k
+    -- no page of a sealed buffer is
+    pub sound : dev.Tells → IsSealed seal (shown u) blob_under → (k : ℕ)
+        → IsErrOf result (Runtime (InvalidChecksum k)) → ⊥
+    -- bytes are refused for what they do not spell
+    pub refused : dev.Tells → IsBacked seal (shown u) blob_under.content → (e : codec.Error)
+        → IsErrOf result (Codec e) → IsRefusedBy refusal config bytes_under e
+    -- nothing is written
+    pub unchanged : dev.Tells → Unchanged (dev.time old) (dev.time new)
+    -- no other entry changes
+    pub entries : OnlyRead (pages.key_of (shown u)) (dev.opened old) (dev.opened new)
+    -- faults are counted on
+    pub faults : dev.faults old ≤ dev.faults new
+    -- nothing else is answered but a fault or want of memory
+    pub cause : OnErr result (IsPast result offset
+        ⊎ (((k : ℕ) × IsErrOf result (Runtime (InvalidChecksum k)))
+        ⊎ (((e : codec.Error) × IsErrOf result (Codec e))
+        ⊎ HasFailed result (dev.faults old) (dev.faults new))))
+
+-- The item at this offset of the section was asked for.
+module _ {F S V C D : Type 0} {gs : _} (seal : List ℕ → ℕ) (spelling : V → List ℕ)
+    (accepted : V → C → Type 0) (refusal : List ℕ → C → Option codec.Error) (config : C)
+    (dev : device.Ghosts D) (section offset : ℕ) (j : Lists F (PageBlob S gs))
+    (result : Result V Error) (old new : D) where
+  -- the section's bytes from the offset on
+  abbrev pub bytes_there : List ℕ
+  bytes_there = drop offset (section_bytes j.sections (disk (dev.time old)) section)
+
+  pub record Gets : Type 0 where
+    -- it is the item whose frame stands there
+    pub value : dev.Tells → IfOk result (FrameOf spelling accepted config bytes_there)
+    -- a section below the floor is refused, and no other by this
+    pub guard : IsPruned result j.sections.floor ↔ (section < j.sections.floor)
+    -- then one that is not held
+    pub absent : IsAbsent result section
+        ↔ ((j.sections.floor ≤ section) × (j.sections.held section ≡ None))
+    -- then an offset at or past the end
+    pub behind : (u : _) → j.sections.held section ≡ Some u → j.sections.floor ≤ section
+        → section_size j.sections section ≤ offset → IsPast result offset
+    -- or where no frame stands that ends in the section
+    pub past : dev.Tells → IsPast result offset → IsPastLast bytes_there
+    -- a page is refused only where no matching slot covers it as far as the read goes
+    pub damaged : dev.Tells → (k : ℕ) → IsErrOf result (Runtime (InvalidChecksum k))
+        → IsSomeAnd (j.sections.held section) (λ u. (m : ℕ) × (n : ℕ) × IsShort seal u.page_size
+        (disk (dev.time old) (key_of j.sections section)).content m n k)
+    -- none of a section that owes no replay is
+    pub sound : dev.Tells → j.unrecovered section ≡ false → (k : ℕ)
+        → IsErrOf result (Runtime (InvalidChecksum k)) → ⊥
+    -- bytes are refused for what they do not spell
+    pub refused : dev.Tells → (e : codec.Error) → IsErrOf result (Codec e)
+        → IsRefusedBy refusal config bytes_there e
+    -- nothing is written
+    pub unchanged : dev.Tells → Unchanged (dev.time old) (dev.time new)
+    -- faults are counted on
+    pub faults : dev.faults old ≤ dev.faults new
+    -- nothing else is answered but a fault or want of memory
+    pub cause : OnErr result (IsPruned result j.sections.floor ⊎ (IsAbsent result section
+        ⊎ (IsPast result offset ⊎ (((k : ℕ) × IsErrOf result (Runtime (InvalidChecksum k)))
+        ⊎ (((e : codec.Error) × IsErrOf result (Codec e))
+        ⊎ HasFailed result (dev.faults old) (dev.faults new))))))

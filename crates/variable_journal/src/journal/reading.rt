@@ -1,0 +1,119 @@
+// Reading items of a journal by their offset.
+ghost use Rattle.std.specs.Prelude.{◌≡◌, ◌↔◌, ◌⊎◌, ◌+◌, ◌≤◌, ◌<◌, ◌++◌, List, ℕ, [], length, Some, None, IfOk, OnErr};
+ghost use Rattle.blob_device.specs.Timeline.{disk};
+ghost use Rattle.section_manager.specs.Refusing.{IsPruned};
+ghost use Rattle.segments.specs.FixedReading.{IsAbsent};
+ghost use Rattle.sealed_pages.specs.Buffer as pages;
+ghost use Rattle.sealed_pages.specs.Entries.{IsOpenAt};
+ghost use Rattle.sealed_pages.specs.Shown as page_blob;
+ghost use Rattle.variable_journal.specs.Reading.{FrameOf, Gets, HasHeader, Measures, Reads};
+
+use super::Journal;
+use blob_device::Device;
+use sealed_pages::PageBlob;
+use segments::journal::Error;
+use segments::{AppendFactory, BufferFactory, SectionBuffer};
+use value_codec::{Codec, Seal, read_varint32};
+
+// How many bytes the longest length of a frame has.
+const LONGEST: usize = 5;
+
+// The length of the frame that begins with these bytes, and how many bytes it takes; none where they are cut
+// short. They are five, or all that are left.
+fn length_of(front: &[u8]) -> Result<Option<(u32, usize)>, Error>
+    ensures { (rest : List ℕ) → (length front.now < 5 → rest ≡ [])
+        → Measures (length front.now) (front.now ++ rest) result }
+{
+    match read_varint32(front) {
+        Ok(found) => Ok(Some(found)),
+        // So few bytes may be the beginning of any length.
+        Err(_) if front.len() < LONGEST => Ok(None),
+        Err(e) => Err(Error::from(e)),
+    }
+}
+
+impl<V: Codec, S: Seal> Journal<V, S> {
+    ghost use Rattle.variable_journal.specs.Lists.{IsJournal};
+    ghost use Rattle.variable_journal.specs.Shown.{config_of, shown};
+
+    // The section's buffer.
+    fn buffer_of(&self, section: u64) -> Result<&PageBlob<S>, Error>
+        ensures held { IfOk result (λ r. (shown self.now).sections.held section ≡ Some r.now) }
+        ensures guard { IsPruned result (shown self.now).sections.floor
+            ↔ (section < (shown self.now).sections.floor) }
+        ensures absent { IsAbsent result section ↔ (((shown self.now).sections.floor ≤ section)
+            × ((shown self.now).sections.held section ≡ None)) }
+        ensures cause { OnErr result (IsPruned result (shown self.now).sections.floor
+            ⊎ IsAbsent result section) }
+    {
+        match self.bytes.buffer(section)? {
+            Some(buffer) => Ok(buffer),
+            None => Err(Error::SectionOutOfRange(section)),
+        }
+    }
+
+    // The length at an offset, and how many bytes it takes, of a frame that ends within the buffer.
+    fn header_at<D: Device>(
+        dev: &mut D,
+        buffer: &PageBlob<S>,
+        offset: u64,
+        cfg: V::Cfg,
+    ) -> Result<(u32, usize), Error>
+        requires { IsOpenAt (D.opened dev.old) (pages.key_of (page_blob.shown buffer.now))
+            buffer.now.end }
+        ensures reads { Reads S.seal_of V.refusal cfg D.Device buffer.now offset HasHeader
+            result dev.old dev.new }
+        ensures inside { IfOk result (λ r. offset + (r.1 + r.0)
+            ≤ pages.size_of (page_blob.shown buffer.now)) }
+    {
+        let left = buffer.size().saturating_sub(offset);
+        if left == 0 {
+            return Err(Error::ItemOutOfRange(offset));
+        }
+        let count = left.min(LONGEST as u64) as usize;
+        let mut front = [0; LONGEST];
+        let front = &mut front[..count];
+        buffer.read_at(dev, offset, front)?;
+        let Some((size, header)) = length_of(front)? else {
+            return Err(Error::ItemOutOfRange(offset));
+        };
+        if header as u64 + u64::from(size) > left {
+            return Err(Error::ItemOutOfRange(offset));
+        }
+        Ok((size, header))
+    }
+
+    // The item of the frame at an offset.
+    fn read_frame<D: Device>(
+        &self,
+        dev: &mut D,
+        buffer: &PageBlob<S>,
+        offset: u64,
+    ) -> Result<V, Error>
+        requires { IsOpenAt (D.opened dev.old) (pages.key_of (page_blob.shown buffer.now))
+            buffer.now.end }
+        ensures { Reads S.seal_of V.refusal self.now.codec_config D.Device buffer.now offset
+            (FrameOf V.spelling V.accepted self.now.codec_config) result dev.old dev.new }
+    {
+        let (size, header) = Self::header_at(dev, buffer, offset, self.codec_config)?;
+        let mut bytes = vec![in self.alloc; 0; size as usize]?;
+        buffer.read_at(dev, offset + header as u64, bytes.as_mut_slice())?;
+        Ok(V::decode_cfg(self.alloc, bytes.as_slice(), self.codec_config)?)
+    }
+
+    /// The item whose frame stands at this offset.
+    ///
+    /// It refuses a pruned section, one that is not held, and an offset at or past the end, or of a frame that runs
+    /// past it, in this order. `InvalidChecksum` names a page that no matching slot covers as far as the read
+    /// goes. `Codec` says why the bytes are no length, or no item.
+    pub fn get<D: Device>(&self, dev: &mut D, section: u64, offset: u64) -> Result<V, Error>
+        requires { IsJournal
+            ⟦<PageBlob<S> as SectionBuffer>⟧ ⟦<AppendFactory<S> as BufferFactory>⟧.gives
+            S.seal_of D.Tells (shown self.now) (D.opened dev.old) (disk (D.time dev.old)) }
+        ensures { Gets S.seal_of V.spelling V.accepted V.refusal (config_of self.now) D.Device
+            section offset (shown self.now) result dev.old dev.new }
+    {
+        let buffer = self.buffer_of(section)?;
+        self.read_frame(dev, buffer, offset)
+    }
+}

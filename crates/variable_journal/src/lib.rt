@@ -1,0 +1,16 @@
+//! A journal of items of any length, by section and offset, over the journal of items of one byte of
+//! `segments`.
+//!
+//! ```rust
+//! let journal = Journal::<Vec<u8>, Sha256Seal>::init(alloc, &mut dev, &cfg)?;
+//! let (journal, offset, size) = journal.append(&mut dev, 4, &item)?;   // its frame stands at the offset
+//! let journal = journal.sync(&mut dev, &[4])?;
+//! journal.get(&mut dev, 4, offset)?                                    // the item
+//! ```
+#![tactic(auto)]
+
+mod byte;
+mod journal;
+pub mod plain;
+
+pub use journal::{Config, Journal};
