@@ -1,4 +1,5 @@
--- What a call promises that removes sections: `prune` those below a bound, `clear` and `destroy` all.
+-- What a call promises that removes sections: `prune` those below a bound, `clear` all. What `destroy` promises
+-- is that of the manager below.
 use Rattle.std.specs.Prelude.{◌≡◌, ◌↔◌, ℕ, ◌-◌, ◌^◌, ◌<◌, ◌≤◌, Bool, false, List, Result, IfOk, OnOk, OnErr, IsTrue}
 use Rattle.blob_device.specs.Disk.{nothing}
 use Rattle.blob_device.specs.Timeline.{disk, Always}
@@ -9,6 +10,7 @@ use Rattle.section_manager.specs.Refusing.{HasFailed}
 use Rattle.section_manager.specs.Sections.{key_of, IsGone, IsKeyOf, IsKnown, IsSame, IsSection, SamePlace}
 use Rattle.section_manager.specs.Setting.{Setting}
 use Rattle.section_manager.specs.declared.buffer.SectionBuffer as buffer
+use Rattle.section_manager.specs.managing.Removing.{Destroys}
 use Rattle.section_manager.specs.declared.journal.Error.{Error}
 use Rattle.segments.specs.FixedLists.{Lists}
 use Rattle.variable_journal.specs.Lists.{IsJournal}
@@ -58,31 +60,11 @@ module _ {F S D : Type 0} {gs : _} (g : buffer.Ghosts (PageBlob S gs)) (gives : 
     -- nothing else is answered but a fault or want of memory
     pub cause : OnErr result (HasFailed result (dev.faults old) (dev.faults new))
 
-  -- All sections were removed.
-  pub record Removes {T : Type 0} (result : Result T Error) (old new : D) : Type 0 where
-    -- at every moment, also where the call fails, no section's blob is touched before those of all
-    -- older ones are gone
-    pub moments : dev.Tells → Always (dev.time old) (dev.time new)
-        (Removing j.sections (IsKnown j.sections) (λ s t. s < t) (disk (dev.time old)))
-    -- no blob of a section is there
-    pub gone : dev.Tells → OnOk result ((s : ℕ) → s < 2 ^ 64
-        → IsTrue (disk (dev.time new) (key_of j.sections s)).there → ⊥)
-    -- those that were known have left nothing
-    pub gone_all : dev.Tells → OnOk result ((s : ℕ) → IsKnown j.sections s
-        → disk (dev.time new) (key_of j.sections s) ≡ nothing)
-    -- entries leave, of known sections alone
-    pub entries : EntriesLeave (IsKeyOf j.sections (IsKnown j.sections))
-        (dev.opened old) (dev.opened new)
-    -- faults are counted on
-    pub faults : dev.faults old ≤ dev.faults new
-    -- nothing else is answered but a fault or want of memory
-    pub cause : OnErr result (HasFailed result (dev.faults old) (dev.faults new))
-
-  -- They were removed, and the journal is an empty one.
+  -- All sections were removed, and the journal is an empty one.
   pub record Clears {C : Type 0} (result : Result (Lists F (PageBlob S gs)) Error) (cfg : C)
       (kept : Result C Error) (old new : D) : Type 0 where
-    -- all were
-    pub removes : Removes result old new
+    -- they were, as where it is given up
+    pub removes : Destroys dev j.sections old new result
     -- the journal may be used
     pub over : IfOk result (λ k.
         IsJournal g gives seal dev.Tells k (dev.opened new) (disk (dev.time new)))

@@ -1,7 +1,8 @@
 // Removing sections of a journal, for good and in order.
 ghost use Rattle.blob_device.specs.Timeline.{disk};
 ghost use Rattle.section_manager.specs.Answers.{seen};
-ghost use Rattle.variable_journal.specs.Removing.{Clears, Prunes, Removes};
+ghost use Rattle.section_manager.specs.managing.Removing.{Destroys};
+ghost use Rattle.variable_journal.specs.Removing.{Clears, Prunes};
 
 use super::Journal;
 use blob_device::Device;
@@ -53,9 +54,7 @@ impl<V: Codec, S: Seal> Journal<V, S> {
         requires { IsJournal
             ⟦<PageBlob<S> as SectionBuffer>⟧ ⟦<AppendFactory<S> as BufferFactory>⟧.gives
             S.seal_of D.Tells (shown self) (D.opened dev.old) (disk (D.time dev.old)) }
-        ensures { Removes
-            ⟦<PageBlob<S> as SectionBuffer>⟧ ⟦<AppendFactory<S> as BufferFactory>⟧.gives
-            S.seal_of D.Device (shown self) result dev.old dev.new }
+        ensures { Destroys D.Device (shown self).sections dev.old dev.new result }
     {
         // As in `prune`: the oldest goes first.
         self.bytes.destroy(dev)

@@ -44,7 +44,7 @@ returns-in_err-size-clause-reads g c =
     let long : length c.read_at.new.buf ≡ c.min-count.result = search rules in
     let m : (t : g.D.Device.Tells) → IsBacked g.S.Seal.seal_of (page_blob.shown u) (disk (g.D.Device.time c.args.dev.now) (pages.key_of (page_blob.shown u))).content
     → Measures (length c.read_at.new.buf) (drop c.args.offset (bytes_of (page_blob.shown u) (disk (g.D.Device.time c.args.dev.now) (pages.key_of (page_blob.shown u))).content)) (Err c.in_err-size.field-0.0) = (λ t backed. measured_at g.S.Seal.seal_of g.V.Codec.refusal c.args.cfg g.D.Device u c.args.offset c.args.dev.now c.read_at.new.buf _ c.min-count.result c.saturating_sub-left.result _
-    (omega (arith, c.saturating_sub-left.ensures, c.size.ensures)) c.min-count.ensures long c.read_at.auto.buf (c.in_ok-read_at.ensures.bytes t backed) c.in_err-size.ensures) in
+    (omega (arith, c.saturating_sub-left.ensures, c.size.ensures)) c.min-count.ensures long c.read_at.auto.buf (c.in_ok-read_at.ensures.bytes t (λ some. backed.cache)) c.in_err-size.ensures) in
     let e = c.in_err-size.field-0.0 in
     let is = ((c.in_err-size.ensures [] (λ less. refl)).refused e refl).0 in
     rw (err_of c.from_residual-in_err-size.result e c.from_residual-in_err-size.ensures.1)
@@ -58,7 +58,7 @@ returns-in_default-clause-reads g c =
     let long : length c.read_at.new.buf ≡ c.min-count.result = search rules in
     let m : (t : g.D.Device.Tells) → IsBacked g.S.Seal.seal_of (page_blob.shown u) (disk (g.D.Device.time c.args.dev.now) (pages.key_of (page_blob.shown u))).content
     → Measures (length c.read_at.new.buf) (drop c.args.offset (bytes_of (page_blob.shown u) (disk (g.D.Device.time c.args.dev.now) (pages.key_of (page_blob.shown u))).content)) (Ok c.in_ok-size.field-0) = (λ t backed. measured_at g.S.Seal.seal_of g.V.Codec.refusal c.args.cfg g.D.Device u c.args.offset c.args.dev.now c.read_at.new.buf _ c.min-count.result c.saturating_sub-left.result _
-    (omega (arith, c.saturating_sub-left.ensures, c.size.ensures)) c.min-count.ensures long c.read_at.auto.buf (c.in_ok-read_at.ensures.bytes t backed) c.in_ok-size.ensures) in
+    (omega (arith, c.saturating_sub-left.ensures, c.size.ensures)) c.min-count.ensures long c.read_at.auto.buf (c.in_ok-read_at.ensures.bytes t (λ some. backed.cache)) c.in_ok-size.ensures) in
     ended g.S.Seal.seal_of g.V.Codec.refusal c.args.cfg g.D.Device u c.args.offset c.args.dev.now HasHeader c.read_at.new.dev r.unchanged (only_read_of _ _ _ _ r.reads) r.faults _
     (λ le. refl) (inl (refl, λ t backed. (m t backed).none (ap Ok c.in_default.is)))
 
@@ -75,7 +75,7 @@ returns-then-header-from-clause-reads g c =
     let long : length c.read_at.new.buf ≡ c.min-count.result = search rules in
     let m : (t : g.D.Device.Tells) → IsBacked g.S.Seal.seal_of (page_blob.shown u) (disk (g.D.Device.time c.args.dev.now) (pages.key_of (page_blob.shown u))).content
     → Measures (length c.read_at.new.buf) (drop c.args.offset (bytes_of (page_blob.shown u) (disk (g.D.Device.time c.args.dev.now) (pages.key_of (page_blob.shown u))).content)) (Ok c.in_ok-size.field-0) = (λ t backed. measured_at g.S.Seal.seal_of g.V.Codec.refusal c.args.cfg g.D.Device u c.args.offset c.args.dev.now c.read_at.new.buf _ c.min-count.result c.saturating_sub-left.result _
-    (omega (arith, c.saturating_sub-left.ensures, c.size.ensures)) c.min-count.ensures long c.read_at.auto.buf (c.in_ok-read_at.ensures.bytes t backed) c.in_ok-size.ensures) in
+    (omega (arith, c.saturating_sub-left.ensures, c.size.ensures)) c.min-count.ensures long c.read_at.auto.buf (c.in_ok-read_at.ensures.bytes t (λ some. backed.cache)) c.in_ok-size.ensures) in
     ended g.S.Seal.seal_of g.V.Codec.refusal c.args.cfg g.D.Device u c.args.offset c.args.dev.now HasHeader c.read_at.new.dev r.unchanged (only_read_of _ _ _ _ r.reads) r.faults _
     (λ le. refl) (inl (
       refl,
@@ -90,7 +90,7 @@ returns-clause-reads g c =
     let long : length c.read_at.new.buf ≡ c.min-count.result = search rules in
     let m : (t : g.D.Device.Tells) → IsBacked g.S.Seal.seal_of (page_blob.shown u) (disk (g.D.Device.time c.args.dev.now) (pages.key_of (page_blob.shown u))).content
     → Measures (length c.read_at.new.buf) (drop c.args.offset (bytes_of (page_blob.shown u) (disk (g.D.Device.time c.args.dev.now) (pages.key_of (page_blob.shown u))).content)) (Ok c.in_ok-size.field-0) = (λ t backed. measured_at g.S.Seal.seal_of g.V.Codec.refusal c.args.cfg g.D.Device u c.args.offset c.args.dev.now c.read_at.new.buf _ c.min-count.result c.saturating_sub-left.result _
-    (omega (arith, c.saturating_sub-left.ensures, c.size.ensures)) c.min-count.ensures long c.read_at.auto.buf (c.in_ok-read_at.ensures.bytes t backed) c.in_ok-size.ensures) in
+    (omega (arith, c.saturating_sub-left.ensures, c.size.ensures)) c.min-count.ensures long c.read_at.auto.buf (c.in_ok-read_at.ensures.bytes t (λ some. backed.cache)) c.in_ok-size.ensures) in
     found g.S.Seal.seal_of g.V.Codec.refusal c.args.cfg g.D.Device u c.args.offset c.args.dev.now HasHeader c.read_at.new.dev r.unchanged (only_read_of _ _ _ _ r.reads) r.faults _
     (omega (arith, c.if-left-eq0.false, c.size.ensures, c.saturating_sub-left.ensures))
     (λ t backed. (

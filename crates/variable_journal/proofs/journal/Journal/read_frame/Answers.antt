@@ -50,7 +50,7 @@ returns-in_err-decode_cfg g c =
     (λ t backed. (
       h.value t backed,
       copy ∙ item_there (page_blob.shown u) _ _ c.read_at.new.buf _ c.args.offset c.in_ok-size.size c.in_ok-size.header (same t) long c.read_at.auto.buf
-          (r.bytes t (subst (λ (b : Blob). IsBacked g.S.Seal.seal_of (page_blob.shown u) b.content) (sym (same t)) backed)),
+          (r.bytes t (λ some. (subst (λ (b : Blob). IsBacked g.S.Seal.seal_of (page_blob.shown u) b.content) (sym (same t)) backed).cache)),
     )) c.in_err-decode_cfg.ensures.refused))))
 
 pub returns : goal.returns
@@ -67,4 +67,4 @@ returns g c =
     (inside_of g.S.Seal.seal_of g.V.Codec.refusal c.args.self.now.codec_config g.D.Device u c.args.offset c.args.dev.now HasHeader _ _ h)
     (λ t backed. item_found g.S.Seal.seal_of g.V.Codec.refusal c.args.self.now.codec_config g.D.Device u c.args.offset c.args.dev.now g.V.Codec.spelling g.V.Codec.accepted _ c.in_ok-size.size c.in_ok-size.header c.as_slice.result.now
     (h.value t backed) (copy ∙ item_there (page_blob.shown u) _ _ c.read_at.new.buf _ c.args.offset c.in_ok-size.size c.in_ok-size.header (same t) long c.read_at.auto.buf
-    (r.bytes t (subst (λ (b : Blob). IsBacked g.S.Seal.seal_of (page_blob.shown u) b.content) (sym (same t)) backed))) c.in_ok-decode_cfg.ensures.spelled c.in_ok-decode_cfg.ensures.allowed)
+    (r.bytes t (λ some. (subst (λ (b : Blob). IsBacked g.S.Seal.seal_of (page_blob.shown u) b.content) (sym (same t)) backed).cache))) c.in_ok-decode_cfg.ensures.spelled c.in_ok-decode_cfg.ensures.allowed)
