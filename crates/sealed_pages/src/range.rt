@@ -158,7 +158,9 @@ pub fn read_pages<D: Device, S: Seal>(
     if unit <= STACK_PAGE {
         let mut room = [0; STACK_PAGE];
         let buf = &mut room[..unit];
-        return read_each::<D, S>(dev, partition, name, page_size, end, cache, offset, out, buf);
+        return read_each::<D, S>(
+            dev, partition, name, page_size, end, cache, offset, out, buf,
+        );
     }
     let mut page_buf = vec![in alloc; 0; unit]?;
     let buf = page_buf.as_mut_slice();

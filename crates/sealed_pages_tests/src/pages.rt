@@ -62,8 +62,7 @@ pub fn read_tail(alloc: Global, dev: &mut Memory, step: &Step) -> Result<Said, S
     let page_size = page_size(step)?;
     let mut buf = vec![in alloc; 0; number(step, 1)? as usize]?;
     dev.open_blob("p", b"x")?;
-    let size =
-        PageBlob::<Sha256Seal>::read_tail(alloc, dev, "p", b"x", page_size, &mut buf)?;
+    let size = PageBlob::<Sha256Seal>::read_tail(alloc, dev, "p", b"x", page_size, &mut buf)?;
     buf.extend_from_slice(&size.to_be_bytes())?;
     Ok(Said::Bytes(buf))
 }

@@ -33,8 +33,8 @@ pub fn family_of(word: &str) -> Family {
         "blob" | "damage" | "crash" | "fail" | "fuse" => Family::Remake,
         "open" | "open-plain" | "read-range" | "read-tail" => Family::Open,
         "ensure" | "hand" | "remaining" | "advance" | "seek" | "blob-size" => Family::Reader,
-        "size" | "needs-sync" | "has-room" | "read" | "read-held" | "prefix"
-        | "prefix-below" => Family::Ask,
+        "size" | "needs-sync" | "has-room" | "read" | "read-held" | "prefix" | "prefix-below" =>
+            Family::Ask,
         "each-call-stops" | "each-call-fails" => Family::Run,
         "leaves" | "leaves-bytes" => Family::Leaves,
         _ => Family::Change,

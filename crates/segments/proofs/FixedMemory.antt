@@ -74,8 +74,11 @@ module _ (u : Buffer) (m n : ℕ) (pos : 0 < u.page_size) where
 
   -- at most two pages more are missing than the bytes fill
   pub missing_most : (size : ℕ) → n ≤ size → missing_pages u m n ≤ size / u.page_size + 2
-  missing_most size le = omega (arith, uncached_most (cached u) (m / u.page_size) (touched u.page_size m (below u.page_size u.first m n)),
-      touched_most u.page_size m (below u.page_size u.first m n) size pos (omega (arith, le)))
+  missing_most size le = omega (
+    arith,
+    uncached_most (cached u) (m / u.page_size) (touched u.page_size m (below u.page_size u.first m n)),
+    touched_most u.page_size m (below u.page_size u.first m n) size pos (omega (arith, le)),
+  )
 
 -- a read of as many bytes as the item at p has, from where it stands
 module _ (u : Buffer) (size p m n : ℕ) (at : m ≡ p * size) (long : n ≡ size) (pos : 0 < u.page_size) where

@@ -169,7 +169,7 @@ returns-clause-touches g c =
     (λ t. alone_blobs bu u.0 (c.in_ok-buffer.ensures.same u.0 u.1) K (g.D.Device.time c.take.new.dev) (g.D.Device.time c.args.dev.now) (ap g.D.Device.time same) c.in_ok-buffer.ensures.key g.S.Seal.seal_of (g.D.Device.time c.replay.new.dev) (c.in_ok-buffer.ensures.stands t) (c.replay.ensures.alone t))
     _ c.in_ok-buffer-2.buffer put.here put.opened (e.key ∙ c.in_ok-buffer.ensures.key) ((λ i. record { page_size = e.page_size i; capacity = e.capacity i; cache_pages = e.cache_pages i }) ∙ c.in_ok-buffer.ensures.setting) (open_at c.in_ok-buffer-2.buffer K (g.D.Device.opened c.replay.new.dev) (e.key ∙ c.in_ok-buffer.ensures.key) e.«open»)
     (λ t. flush_stands bu u.0 (c.in_ok-buffer.ensures.same u.0 u.1) K (g.D.Device.time c.take.new.dev) (g.D.Device.time c.args.dev.now) (ap g.D.Device.time same) c.in_ok-buffer.ensures.key g.S.Seal.seal_of c.in_ok-buffer-2.buffer (g.D.Device.time c.replay.new.dev) (c.in_ok-buffer.ensures.stands t)
-          e.settled e.size (λ f. ap g.D.Device.time (c.replay.ensures.idle f)) (e.sealed t) (e.unrecovered t))
+    e.settled e.size (λ f. ap g.D.Device.time (c.replay.ensures.idle f)) (e.sealed t) (e.unrecovered t))
 
 pub returns-clause-flushed : goal.returns-clause-flushed
 returns-clause-flushed g c u v held held_new =
