@@ -16,6 +16,6 @@ module _ (seal : List ℕ → ℕ) (u r : Buffer) where
   pub known_synced : (v : Buffer) (a b : Blob) → u.from ≤ length u.tip → u.settled ≢ size_of u → (length u.tip ≤ u.from → r ≡ u) → has_leftover v ≡ has_leftover r → (length u.tip ≤ u.from) ⊎ (has_leftover r ≡ false) → IsKnown seal u a → IsKnown seal v b
   known_synced v a b within unsettled same still left known has = elim left [
     | inl idle ↦ (let before = known (sym (ap has_leftover (same idle)) ∙ sym still ∙ has) in let whole : length u.tip ≡ u.from = omega (arith, idle, within) in
-      absurd (unsettled (before.1 ∙ ap (λ (n : ℕ). u.first * u.page_size + n) (sym whole))))
+        absurd (unsettled (before.1 ∙ ap (λ (n : ℕ). u.first * u.page_size + n) (sym whole))))
     | inr none ↦ absurd (cc (has, still, none))
   ]

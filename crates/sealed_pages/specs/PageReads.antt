@@ -110,77 +110,77 @@ pub record TriesHeld (seal : List ℕ → ℕ) (u : Buffer) (m : ℕ) (room got 
   pub same : result ≡ false → got ≡ room
 
 module _ {D : Type 0} (dev : device.Ghosts D) (seal : List ℕ → ℕ) (P : ℕ) (blob : Key) (old new : D)
-    where
-  -- the blob, of which the bytes stay
-  abbrev content : List ℕ
-  content = (disk (dev.time old) blob).content
+  where
+    -- the blob, of which the bytes stay
+    abbrev content : List ℕ
+    content = (disk (dev.time old) blob).content
 
-  -- The bytes of an opened blob from byte m on are read, without a buffer over it.
-  pub record ReadsRange {T : Type 0} (m : ℕ) (room got : List ℕ)
-      (result : Result T RError) : Type 0 where
-    -- they are those of its pages,
-    pub bytes : dev.Tells → OnOk result (got ≡ data_from P (view content) m (length room))
-    -- below the size at which it would be adopted,
-    pub within : dev.Tells → OnOk result (m + length room ≤ adopted_size seal P content)
-    -- and covered by matching slots
-    pub checked : dev.Tells → OnOk result (IsCovered seal P content m (length room))
-    -- a page is refused that no matching slot covers as far as the read needs it
-    pub checksum : dev.Tells → (p : ℕ) → IsErrOf result (InvalidChecksum p)
-        → IsShort seal P content m (length room) p
-    -- exactly a range that passes 2^64 is refused for that,
-    pub overflow : IsErrOf result OffsetOverflow ↔ (2 ^ 64 ≤ m + length room)
-    -- with no call of the device
-    pub refused : 2 ^ 64 ≤ m + length room → new ≡ old
-    -- a range that passes the size is refused as too long,
-    pub short : dev.Tells → IsErrOf result BlobInsufficientLength
-        → PassesSize seal P content m (length room)
-    -- unless the size could not be learned
-    pub past : dev.Tells → PassesSize seal P content m (length room)
-        → (result ≡ Err BlobInsufficientLength) ⊎ FailsBelow dev result old new
-    -- the blob settles as it read, and no other changes
-    pub settles : dev.Tells → OnlySettles blob (dev.time old) (dev.time new)
-    -- it stays opened, and no other entry changed
-    pub entries : StaysOpen blob (dev.opened old) (dev.opened new)
-    -- faults never fall
-    pub faults : dev.faults old ≤ dev.faults new
-    -- no other error comes than by a wanted page, memory or the device
-    pub cause : OnErr result ((result ≡ Err OffsetOverflow) ⊎ ((result ≡ Err BlobInsufficientLength)
-        ⊎ (((p : ℕ) × (result ≡ Err (InvalidChecksum p)) × IsWanted P m (length room) p)
-        ⊎ FailsBelow dev result old new)))
-    -- it is as long as before
-    pub length : dev.Tells → (n : ℕ) → IsOpenAt (dev.opened old) blob n
-        → IsOpenAt (dev.opened new) blob n
+    -- The bytes of an opened blob from byte m on are read, without a buffer over it.
+    pub record ReadsRange {T : Type 0} (m : ℕ) (room got : List ℕ)
+        (result : Result T RError) : Type 0 where
+      -- they are those of its pages,
+      pub bytes : dev.Tells → OnOk result (got ≡ data_from P (view content) m (length room))
+      -- below the size at which it would be adopted,
+      pub within : dev.Tells → OnOk result (m + length room ≤ adopted_size seal P content)
+      -- and covered by matching slots
+      pub checked : dev.Tells → OnOk result (IsCovered seal P content m (length room))
+      -- a page is refused that no matching slot covers as far as the read needs it
+      pub checksum : dev.Tells → (p : ℕ) → IsErrOf result (InvalidChecksum p)
+          → IsShort seal P content m (length room) p
+      -- exactly a range that passes 2^64 is refused for that,
+      pub overflow : IsErrOf result OffsetOverflow ↔ (2 ^ 64 ≤ m + length room)
+      -- with no call of the device
+      pub refused : 2 ^ 64 ≤ m + length room → new ≡ old
+      -- a range that passes the size is refused as too long,
+      pub short : dev.Tells → IsErrOf result BlobInsufficientLength
+          → PassesSize seal P content m (length room)
+      -- unless the size could not be learned
+      pub past : dev.Tells → PassesSize seal P content m (length room)
+          → (result ≡ Err BlobInsufficientLength) ⊎ FailsBelow dev result old new
+      -- the blob settles as it read, and no other changes
+      pub settles : dev.Tells → OnlySettles blob (dev.time old) (dev.time new)
+      -- it stays opened, and no other entry changed
+      pub entries : StaysOpen blob (dev.opened old) (dev.opened new)
+      -- faults never fall
+      pub faults : dev.faults old ≤ dev.faults new
+      -- no other error comes than by a wanted page, memory or the device
+      pub cause : OnErr result ((result ≡ Err OffsetOverflow) ⊎ ((result ≡ Err BlobInsufficientLength)
+          ⊎ (((p : ℕ) × (result ≡ Err (InvalidChecksum p)) × IsWanted P m (length room) p)
+          ⊎ FailsBelow dev result old new)))
+      -- it is as long as before
+      pub length : dev.Tells → (n : ℕ) → IsOpenAt (dev.opened old) blob n
+          → IsOpenAt (dev.opened new) blob n
 
-  -- The last bytes of an opened blob are read, without a buffer over it.
-  pub record ReadsTail (room got : List ℕ) (result : Result ℕ RError) : Type 0 where
-    -- the answer is the size at which it would be adopted,
-    pub size : dev.Tells → IfOk result (λ n. n ≡ adopted_size seal P content)
-    -- no less than the bytes that were asked for
-    pub within : IfOk result (λ n. length room ≤ n)
-    -- they are those before that size,
-    pub bytes : dev.Tells
-        → IfOk result (λ n. got ≡ data_from P (view content) (n - length room) (length room))
-    -- and covered by matching slots
-    pub checked : dev.Tells
-        → IfOk result (λ n. IsCovered seal P content (n - length room) (length room))
-    -- a page is refused that no matching slot covers as far as the read needs it
-    pub checksum : dev.Tells → (p : ℕ) → IsErrOf result (InvalidChecksum p)
-        → IsTailShort seal P content (length room) p
-    -- more bytes than the size are refused as too many,
-    pub short : dev.Tells → IsErrOf result BlobInsufficientLength
-        → adopted_size seal P content < length room
-    -- unless the size could not be learned
-    pub past : dev.Tells → adopted_size seal P content < length room
-        → (result ≡ Err BlobInsufficientLength) ⊎ FailsBelow dev result old new
-    -- the blob settles as it read, and no other changes
-    pub settles : dev.Tells → OnlySettles blob (dev.time old) (dev.time new)
-    -- it stays opened, and no other entry changed
-    pub entries : StaysOpen blob (dev.opened old) (dev.opened new)
-    -- faults never fall
-    pub faults : dev.faults old ≤ dev.faults new
-    -- no other error comes than by a page, memory or the device
-    pub cause : OnErr result ((result ≡ Err BlobInsufficientLength)
-        ⊎ (((p : ℕ) × (result ≡ Err (InvalidChecksum p))) ⊎ FailsBelow dev result old new))
-    -- it is as long as before
-    pub length : dev.Tells → (n : ℕ) → IsOpenAt (dev.opened old) blob n
-        → IsOpenAt (dev.opened new) blob n
+    -- The last bytes of an opened blob are read, without a buffer over it.
+    pub record ReadsTail (room got : List ℕ) (result : Result ℕ RError) : Type 0 where
+      -- the answer is the size at which it would be adopted,
+      pub size : dev.Tells → IfOk result (λ n. n ≡ adopted_size seal P content)
+      -- no less than the bytes that were asked for
+      pub within : IfOk result (λ n. length room ≤ n)
+      -- they are those before that size,
+      pub bytes : dev.Tells
+          → IfOk result (λ n. got ≡ data_from P (view content) (n - length room) (length room))
+      -- and covered by matching slots
+      pub checked : dev.Tells
+          → IfOk result (λ n. IsCovered seal P content (n - length room) (length room))
+      -- a page is refused that no matching slot covers as far as the read needs it
+      pub checksum : dev.Tells → (p : ℕ) → IsErrOf result (InvalidChecksum p)
+          → IsTailShort seal P content (length room) p
+      -- more bytes than the size are refused as too many,
+      pub short : dev.Tells → IsErrOf result BlobInsufficientLength
+          → adopted_size seal P content < length room
+      -- unless the size could not be learned
+      pub past : dev.Tells → adopted_size seal P content < length room
+          → (result ≡ Err BlobInsufficientLength) ⊎ FailsBelow dev result old new
+      -- the blob settles as it read, and no other changes
+      pub settles : dev.Tells → OnlySettles blob (dev.time old) (dev.time new)
+      -- it stays opened, and no other entry changed
+      pub entries : StaysOpen blob (dev.opened old) (dev.opened new)
+      -- faults never fall
+      pub faults : dev.faults old ≤ dev.faults new
+      -- no other error comes than by a page, memory or the device
+      pub cause : OnErr result ((result ≡ Err BlobInsufficientLength)
+          ⊎ (((p : ℕ) × (result ≡ Err (InvalidChecksum p))) ⊎ FailsBelow dev result old new))
+      -- it is as long as before
+      pub length : dev.Tells → (n : ℕ) → IsOpenAt (dev.opened old) blob n
+          → IsOpenAt (dev.opened new) blob n

@@ -207,7 +207,11 @@ module _ {D : Type 0} (dev : device.Ghosts D) (u : WriteBuffer) (old new : D) wh
     pub joined : IfOk result (λ r. Joins (see r) offset)
     -- the buffer is as before, but for the run
     pub same : IfOk result (λ r. see r ≡ record u {
-        end = (see r).end; at = (see r).at; pending = (see r).pending; dirty = (see r).dirty })
+      end = (see r).end;
+      at = (see r).at;
+      pending = (see r).pending;
+      dirty = (see r).dirty;
+    })
     -- the size is the greater of the two
     pub size : IfOk result (λ r. size_of (see r) ≡ max (size_of u) offset)
     -- it is the old run, or an empty one there
@@ -255,7 +259,11 @@ module _ {D : Type 0} (dev : device.Ghosts D) (u : WriteBuffer) (old new : D) wh
     pub size : IfOk result (λ r. size_of (see r) ≡ max (size_of u) (offset + length more))
     -- the buffer is as before, but for the run
     pub same : IfOk result (λ r. see r ≡ record u {
-        end = (see r).end; at = (see r).at; pending = (see r).pending; dirty = (see r).dirty })
+      end = (see r).end;
+      at = (see r).at;
+      pending = (see r).pending;
+      dirty = (see r).dirty;
+    })
     -- the run holds nothing but what was handed in
     pub run : IfOk result (λ r. HoldsOnly u offset more (see r))
     -- how long it is: all that was not flushed, until that reaches the capacity
@@ -312,8 +320,12 @@ module _ {D : Type 0} (dev : device.Ghosts D) (u : WriteBuffer) (old new : D) wh
     -- the size grows by these bytes
     pub size : IfOk result (λ r. size_of (see r.0) ≡ size_of u + length more)
     -- the buffer is as before, but for the run
-    pub same : IfOk result (λ r. see r.0 ≡ record u { end = (see r.0).end; at = (see r.0).at;
-        pending = (see r.0).pending; dirty = (see r.0).dirty })
+    pub same : IfOk result (λ r. see r.0 ≡ record u {
+      end = (see r.0).end;
+      at = (see r.0).at;
+      pending = (see r.0).pending;
+      dirty = (see r.0).dirty;
+    })
     -- the run holds nothing but what was handed in
     pub run : IfOk result (λ r. HoldsOnly u (size_of u) more (see r.0))
     -- how long it is: all that was not flushed, until that reaches the capacity

@@ -207,7 +207,7 @@ returns g c =
     let over_ : g.D.Device.Tells → StartsOver g.S.Seal.seal_of c.args.pages.page_size (disk (g.D.Device.time c.args.dev.now) (c.args.partition.now, c.args.name.now)).content c.in_ok-found.found c.start_of-start.result.first c.start_of-start.result.from c.start_of-start.result.newest c.start_of-start.result.behind c.start_of-start.result.torn
     = λ t. c.start_of-start.ensures.starts (disk (g.D.Device.time c.args.dev.now) (c.args.partition.now, c.args.name.now)).content (size_ t) (finds_ t) in
     let flushed_ : g.D.Device.Tells → HasFlushed u (disk (g.D.Device.time c.args.dev.now) (c.args.partition.now, c.args.name.now)).content = λ t. backed_of u (disk (g.D.Device.time c.args.dev.now) (c.args.partition.now, c.args.name.now)).content begun long
-        (λ i lt. ap (λ (l : List ℕ). get_or l i 0) tip ∙ tip_is g.S.Seal.seal_of c.args.pages.page_size (disk (g.D.Device.time c.args.dev.now) (c.args.partition.now, c.args.name.now)).content c.in_ok-found.found c.as_slice-page.result.now c.start_of-start.result.first c.start_of-start.result.from c.start_of-start.result.newest c.start_of-start.result.behind c.start_of-start.result.torn (finds_ t) (over_ t) i lt) in
+    (λ i lt. ap (λ (l : List ℕ). get_or l i 0) tip ∙ tip_is g.S.Seal.seal_of c.args.pages.page_size (disk (g.D.Device.time c.args.dev.now) (c.args.partition.now, c.args.name.now)).content c.in_ok-found.found c.as_slice-page.result.now c.start_of-start.result.first c.start_of-start.result.from c.start_of-start.result.newest c.start_of-start.result.behind c.start_of-start.result.torn (finds_ t) (over_ t) i lt) in
     let backed_ : g.D.Device.Tells → IsBacked g.S.Seal.seal_of u (disk (g.D.Device.time c.args.dev.now) (c.args.partition.now, c.args.name.now)).content = λ t. record {
       flushed = flushed_ t;
       tip = starts_tip g.S.Seal.seal_of c.args.pages.page_size (disk (g.D.Device.time c.args.dev.now) (c.args.partition.now, c.args.name.now)).content c.in_ok-found.found c.start_of-start.result.first c.start_of-start.result.from c.start_of-start.result.newest c.start_of-start.result.behind c.start_of-start.result.torn (over_ t);
@@ -217,16 +217,16 @@ returns g c =
     let fits : c.start_of-start.result.first * c.args.pages.page_size + c.start_of-start.result.from ≤ length (bytes_of u (disk (g.D.Device.time c.args.dev.now) (c.args.partition.now, c.args.name.now)).content) = omega (arith, bytes_length u (disk (g.D.Device.time c.args.dev.now) (c.args.partition.now, c.args.name.now)).content, long) in
     let sealed_ : g.D.Device.Tells → IsAtRest (disk (g.D.Device.time c.args.dev.now) (c.args.partition.now, c.args.name.now)) → length (sealed_prefix g.S.Seal.seal_of c.args.pages.page_size (disk (g.D.Device.time c.args.dev.now) (c.args.partition.now, c.args.name.now)).content) ≡ adopted_size g.S.Seal.seal_of c.args.pages.page_size (disk (g.D.Device.time c.args.dev.now) (c.args.partition.now, c.args.name.now)).content → IsSealed g.S.Seal.seal_of u (disk (g.D.Device.time c.args.dev.now) (c.args.partition.now, c.args.name.now))
     = λ t is whole.
-        let adopted = adopted_is g.S.Seal.seal_of c.args.pages.page_size (disk (g.D.Device.time c.args.dev.now) (c.args.partition.now, c.args.name.now)).content c.in_ok-found.found c.as_slice-page.result.now c.start_of-start.result.first c.start_of-start.result.from c.start_of-start.result.newest c.start_of-start.result.behind c.start_of-start.result.torn pos all begun (finds_ t) (over_ t) whole fits (flushed_ t) in
-        let state = adopted_state g.S.Seal.seal_of c.args.pages.page_size pos all c.start_of-start.result.first c.start_of-start.result.from c.start_of-start.result.newest c.start_of-start.result.behind c.start_of-start.result.torn begun (settled_at (disk (g.D.Device.time c.args.dev.now) (c.args.partition.now, c.args.name.now)).content) adopted (c.start_of-start.result.first * c.from.result + c.start_of-start.result.from) settled in
-        record {
-          holds = record {
-            state = subst (λ (b : Blob). State g.S.Seal.seal_of c.args.pages.page_size all c.start_of-start.result.first c.start_of-start.result.from (c.start_of-start.result.first * c.from.result + c.start_of-start.result.from) c.start_of-start.result.newest c.start_of-start.result.behind c.start_of-start.result.torn b) (sym is) state;
-            tip_at = tip_stands u (disk (g.D.Device.time c.args.dev.now) (c.args.partition.now, c.args.name.now)).content;
-            size = bytes_length u (disk (g.D.Device.time c.args.dev.now) (c.args.partition.now, c.args.name.now)).content;
-          };
-          backed = backed_ t;
-        } in
+    let adopted = adopted_is g.S.Seal.seal_of c.args.pages.page_size (disk (g.D.Device.time c.args.dev.now) (c.args.partition.now, c.args.name.now)).content c.in_ok-found.found c.as_slice-page.result.now c.start_of-start.result.first c.start_of-start.result.from c.start_of-start.result.newest c.start_of-start.result.behind c.start_of-start.result.torn pos all begun (finds_ t) (over_ t) whole fits (flushed_ t) in
+    let state = adopted_state g.S.Seal.seal_of c.args.pages.page_size pos all c.start_of-start.result.first c.start_of-start.result.from c.start_of-start.result.newest c.start_of-start.result.behind c.start_of-start.result.torn begun (settled_at (disk (g.D.Device.time c.args.dev.now) (c.args.partition.now, c.args.name.now)).content) adopted (c.start_of-start.result.first * c.from.result + c.start_of-start.result.from) settled in
+    record {
+      holds = record {
+        state = subst (λ (b : Blob). State g.S.Seal.seal_of c.args.pages.page_size all c.start_of-start.result.first c.start_of-start.result.from (c.start_of-start.result.first * c.from.result + c.start_of-start.result.from) c.start_of-start.result.newest c.start_of-start.result.behind c.start_of-start.result.torn b) (sym is) state;
+        tip_at = tip_stands u (disk (g.D.Device.time c.args.dev.now) (c.args.partition.now, c.args.name.now)).content;
+        size = bytes_length u (disk (g.D.Device.time c.args.dev.now) (c.args.partition.now, c.args.name.now)).content;
+      };
+      backed = backed_ t;
+    } in
     let unrecovered_ : g.D.Device.Tells → IsAtRest (disk (g.D.Device.time c.args.dev.now) (c.args.partition.now, c.args.name.now)) → length (sealed_prefix g.S.Seal.seal_of c.args.pages.page_size (disk (g.D.Device.time c.args.dev.now) (c.args.partition.now, c.args.name.now)).content) < adopted_size g.S.Seal.seal_of c.args.pages.page_size (disk (g.D.Device.time c.args.dev.now) (c.args.partition.now, c.args.name.now)).content → IsUnrecovered g.S.Seal.seal_of u (disk (g.D.Device.time c.args.dev.now) (c.args.partition.now, c.args.name.now))
     = λ t rest less. subst (IsUnrecovered g.S.Seal.seal_of u) (sym rest) (adopted_unrecovered g.S.Seal.seal_of u (disk (g.D.Device.time c.args.dev.now) (c.args.partition.now, c.args.name.now)).content c.in_ok-found.found c.as_slice-page.result.now pos (finds_ t) (over_ t) (omega (arith, ap (λ (n : ℕ). c.start_of-start.result.first * n) page)) (backed_ t) less) in
     record {

@@ -135,7 +135,7 @@ returns-then-len-this g c =
       below = λ le. refl;
       faultless = λ le. tt;
       flushed = search rules;
-      tail = 
+      tail =
           let longer : c.extend_from_slice.new.self.items ≡ c.args.self.tip.items ++ c.args.bytes.now = search rules in
           tail_kept c.args.self.capacity _ (length c.args.bytes.now) _ (omega (arith, c.args.self.fit.within, simp length-append at (ap length longer))) (omega (arith, c.if-len-this.true));
       at = c.size-at.ensures;
@@ -271,7 +271,7 @@ returns g c =
       below = search rules;
       faultless = λ h0. tt;
       flushed = λ full. c.in_ok-this.ensures.flushed;
-      tail = 
+      tail =
           let longer : c.extend_from_slice.new.self.items ≡ c.args.self.tip.items ++ c.args.bytes.now = search rules in
           tail_flushed c.args.self.capacity _ (length c.args.bytes.now) _ (omega (arith, c.in_ok-this.ensures.flushed)) (omega (arith, c.args.self.fit.within, simp length-append at (ap length longer), c.if-len-this.false));
       at = c.size-at.ensures;

@@ -91,34 +91,34 @@ pub returns : goal.returns
 returns g c =
     let front_ : g.D.Device.Tells → SparesFront (page_at c.args.self.page_size c.args.self.first) (key_of (shown c.args.self)) (g.D.Device.time c.args.dev.now) (g.D.Device.time c.written.new.dev)
     = λ t.
-        front_then (page_at c.args.self.page_size c.args.self.first) (key_of (shown c.args.self)) (g.D.Device.time c.args.dev.now) (g.D.Device.time c.repaired.new.dev) (g.D.Device.time c.written.new.dev) (c.in_ok-this.ensures.front t) (subst (λ (x : Buffer). SparesFront (page_at x.page_size x.first) (key_of x) (g.D.Device.time c.repaired.new.dev) (g.D.Device.time c.written.new.dev)) c.in_ok-this.ensures.same (c.written.ensures.front t)) in
+    front_then (page_at c.args.self.page_size c.args.self.first) (key_of (shown c.args.self)) (g.D.Device.time c.args.dev.now) (g.D.Device.time c.repaired.new.dev) (g.D.Device.time c.written.new.dev) (c.in_ok-this.ensures.front t) (subst (λ (x : Buffer). SparesFront (page_at x.page_size x.first) (key_of x) (g.D.Device.time c.repaired.new.dev) (g.D.Device.time c.written.new.dev)) c.in_ok-this.ensures.same (c.written.ensures.front t)) in
     let wrote_ : g.D.Device.Tells → (all : List ℕ) → Data c.args.self.page_size all (flushed_of (shown c.args.self)) (view (disk (g.D.Device.time c.args.dev.now) (key_of (shown c.args.self))).content) → StandsAt all (c.args.self.first * c.args.self.page_size) c.args.self.tip.items
-        → Wrote c.args.self.page_size all (size_of (shown c.args.self)) (key_of (shown c.args.self)) c.written.result (g.D.Device.time c.args.dev.now) (g.D.Device.time c.written.new.dev)
+    → Wrote c.args.self.page_size all (size_of (shown c.args.self)) (key_of (shown c.args.self)) c.written.result (g.D.Device.time c.args.dev.now) (g.D.Device.time c.written.new.dev)
     = λ t all same at.
-        let first = c.in_ok-this.ensures.wrote t all same in
-        let e = c.in_ok-this.ensures.same in
-        let was = subst (λ (x : Buffer). Data x.page_size all (flushed_of x) (view (disk (g.D.Device.time c.repaired.new.dev) (key_of x)).content)) (sym e) first.done in
-        let stands = subst (λ (x : Buffer). StandsAt all (x.first * x.page_size) x.tip) (sym e) at in
-        let second = subst (λ (x : Buffer). Wrote x.page_size all (size_of x) (key_of x) c.written.result (g.D.Device.time c.repaired.new.dev) (g.D.Device.time c.written.new.dev)) e (c.written.ensures.wrote t all was stands) in
-        record { alone = alone_then _ _ _ _ first.alone second.alone; done = second.done } in
+    let first = c.in_ok-this.ensures.wrote t all same in
+    let e = c.in_ok-this.ensures.same in
+    let was = subst (λ (x : Buffer). Data x.page_size all (flushed_of x) (view (disk (g.D.Device.time c.repaired.new.dev) (key_of x)).content)) (sym e) first.done in
+    let stands = subst (λ (x : Buffer). StandsAt all (x.first * x.page_size) x.tip) (sym e) at in
+    let second = subst (λ (x : Buffer). Wrote x.page_size all (size_of x) (key_of x) c.written.result (g.D.Device.time c.repaired.new.dev) (g.D.Device.time c.written.new.dev)) e (c.written.ensures.wrote t all was stands) in
+    record { alone = alone_then _ _ _ _ first.alone second.alone; done = second.done } in
     let backed_ : g.D.Device.Tells → IsBacked g.S.Seal.seal_of (shown c.args.self) (disk (g.D.Device.time c.args.dev.now) (key_of (shown c.args.self))).content → IfOk c.written.result (λ r. IsBacked g.S.Seal.seal_of (shown r) (disk (g.D.Device.time c.written.new.dev) (key_of (shown c.args.self))).content)
     = λ t backed.
-        let u : Buffer = shown c.args.self in
-        let all : List ℕ = bytes_of u (disk (g.D.Device.time c.args.dev.now) (key_of (shown c.args.self))).content in
-        let same = c.in_ok-this.ensures.same in
-        let at = tip_stands u (disk (g.D.Device.time c.args.dev.now) (key_of (shown c.args.self))).content in
-        let stands = subst (λ (x : Buffer). StandsAt all (x.first * x.page_size) x.tip) (sym same) at in
-        let first = c.in_ok-this.ensures.wrote t all backed.flushed in
-        let was = subst (λ (x : Buffer). Data x.page_size all (flushed_of x) (view (disk (g.D.Device.time c.repaired.new.dev) (key_of x)).content)) (sym same) first.done in
-        let unflushed = subst (λ (x : Buffer). x.from < length x.tip) (sym same) (omega (arith, c.if-self-len.false)) in
-        let wrote = wrote_ t all backed.flushed at in
-        let covers = subst (λ (x : Buffer). OnOk c.written.result (CoversFrom g.S.Seal.seal_of x.page_size (disk (g.D.Device.time c.written.new.dev) (key_of x)).content x.first (size_of x))) same (c.written.ensures.covers t all was stands unflushed) in
-        let P : ℕ = c.args.self.page_size in
-        let b : List ℕ = (disk (g.D.Device.time c.written.new.dev) (key_of (shown c.args.self))).content in
-        let both : OnOk c.written.result (Data P all (size_of u) (view b) × CoversFrom g.S.Seal.seal_of P b c.args.self.first (size_of u)) = on_ok_two {R = Data P all (size_of u) (view b) × CoversFrom g.S.Seal.seal_of P b c.args.self.first (size_of u)} c.written.result (λ x y. (x, y)) wrote.done covers in
-        if_ok_with c.written.result both c.written.ensures.into
-        (λ v two is. memory_flushed g.S.Seal.seal_of u (record (shown c.args.self) { end = c.in_ok-this.this.end; behind = false; torn = false }) (shown v) (disk (g.D.Device.time c.args.dev.now) (key_of (shown c.args.self))) (disk (g.D.Device.time c.written.new.dev) (key_of (shown c.args.self))) all refl refl refl refl
-        v.fit.begun (subst (λ (x : Buffer). FlushesInto x (shown v)) same is) (front_now _ _ _ _ (front_ t)) c.args.self.full two.0 (bytes_length u (disk (g.D.Device.time c.args.dev.now) (key_of (shown c.args.self))).content) at two.1 backed.cache) in
+    let u : Buffer = shown c.args.self in
+    let all : List ℕ = bytes_of u (disk (g.D.Device.time c.args.dev.now) (key_of (shown c.args.self))).content in
+    let same = c.in_ok-this.ensures.same in
+    let at = tip_stands u (disk (g.D.Device.time c.args.dev.now) (key_of (shown c.args.self))).content in
+    let stands = subst (λ (x : Buffer). StandsAt all (x.first * x.page_size) x.tip) (sym same) at in
+    let first = c.in_ok-this.ensures.wrote t all backed.flushed in
+    let was = subst (λ (x : Buffer). Data x.page_size all (flushed_of x) (view (disk (g.D.Device.time c.repaired.new.dev) (key_of x)).content)) (sym same) first.done in
+    let unflushed = subst (λ (x : Buffer). x.from < length x.tip) (sym same) (omega (arith, c.if-self-len.false)) in
+    let wrote = wrote_ t all backed.flushed at in
+    let covers = subst (λ (x : Buffer). OnOk c.written.result (CoversFrom g.S.Seal.seal_of x.page_size (disk (g.D.Device.time c.written.new.dev) (key_of x)).content x.first (size_of x))) same (c.written.ensures.covers t all was stands unflushed) in
+    let P : ℕ = c.args.self.page_size in
+    let b : List ℕ = (disk (g.D.Device.time c.written.new.dev) (key_of (shown c.args.self))).content in
+    let both : OnOk c.written.result (Data P all (size_of u) (view b) × CoversFrom g.S.Seal.seal_of P b c.args.self.first (size_of u)) = on_ok_two {R = Data P all (size_of u) (view b) × CoversFrom g.S.Seal.seal_of P b c.args.self.first (size_of u)} c.written.result (λ x y. (x, y)) wrote.done covers in
+    if_ok_with c.written.result both c.written.ensures.into
+    (λ v two is. memory_flushed g.S.Seal.seal_of u (record (shown c.args.self) { end = c.in_ok-this.this.end; behind = false; torn = false }) (shown v) (disk (g.D.Device.time c.args.dev.now) (key_of (shown c.args.self))) (disk (g.D.Device.time c.written.new.dev) (key_of (shown c.args.self))) all refl refl refl refl
+    v.fit.begun (subst (λ (x : Buffer). FlushesInto x (shown v)) same is) (front_now _ _ _ _ (front_ t)) c.args.self.full two.0 (bytes_length u (disk (g.D.Device.time c.args.dev.now) (key_of (shown c.args.self))).content) at two.1 backed.cache) in
     record {
       told = λ t all holds. flush_told g.S.Seal.seal_of (shown c.args.self) (shown c.in_ok-this.this) _ all (g.D.Device.time c.args.dev.now) (g.D.Device.time c.repaired.new.dev) (g.D.Device.time c.written.new.dev) c.in_ok-this.ensures.same (c.in_ok-this.ensures.told t all holds) (c.in_ok-this.ensures.done t all holds) (c.written.ensures.told t);
       done = λ t all holds.
@@ -147,7 +147,7 @@ returns g c =
           (subst (λ (x : Buffer). SettlesNothing (key_of x) (g.D.Device.time c.repaired.new.dev) (g.D.Device.time c.written.new.dev)) c.in_ok-this.ensures.same (c.written.ensures.stays t));
       left = map_ok c.written.result (λ v. FlushesInto (shown c.in_ok-this.this) (shown v)) (λ v. (length c.args.self.tip.items ≤ c.args.self.from) ⊎ (has_leftover (shown v) ≡ false)) (λ v is. inr (ap has_leftover is.same ∙ ap has_leftover c.in_ok-this.ensures.same)) c.written.ensures.into;
       backed = backed_;
-      cached = 
+      cached =
           map_ok c.written.result (λ v. FlushesInto (shown c.in_ok-this.this) (shown v)) (λ v. AddsPages (shown c.args.self) (shown v))
           (λ v is. cached_by (shown c.args.self) (shown v) c.args.self.page_size c.args.self.tip.items (subst (λ (x : Buffer). FlushesInto x (shown v)) c.in_ok-this.ensures.same is).cache) c.written.ensures.into;
       idle = λ le. absurd (omega (arith, le, c.if-self-len.false));
@@ -160,11 +160,11 @@ returns g c =
       newest = map_ok c.written.result (λ v. FlushesInto (shown c.in_ok-this.this) (shown v)) (λ v. v.newest ≡ c.args.self.newest) (λ v is. ap (λ (x : Buffer). x.newest) is.same ∙ ap (λ (x : Buffer). x.newest) c.in_ok-this.ensures.same) c.written.ensures.into;
       size = map_ok c.written.result (λ v. FlushesInto (shown c.in_ok-this.this) (shown v)) (λ v. size_of (shown v) ≡ size_of (shown c.args.self)) (λ v is. is.size ∙ ap size_of c.in_ok-this.ensures.same) c.written.ensures.into;
       flushed = map_ok c.written.result (λ v. FlushesInto (shown c.in_ok-this.this) (shown v)) (λ v. v.from ≡ length v.tip.items) (λ v is. ap (λ (x : Buffer). x.from) is.same) c.written.ensures.into;
-      tip = 
+      tip =
           map_ok c.written.result (λ v. FlushesInto (shown c.in_ok-this.this) (shown v)) (λ v. (all : List ℕ) → StandsAt all (c.args.self.first * c.args.self.page_size) c.args.self.tip.items → StandsAt all (v.first * v.page_size) v.tip.items)
           (λ v is. (subst (λ (x : Buffer). FlushesInto x (shown v)) c.in_ok-this.ensures.same is).tip) c.written.ensures.into;
       length = search rules;
-      entries = 
+      entries =
           let p : key_of (shown c.in_ok-this.this) ≡ key_of (shown c.args.self) = ap key_of c.in_ok-this.ensures.same in
           no_reads_then _ _ _ _ c.in_ok-this.ensures.entries (subst (λ (k : Key). NoReads k (g.D.Device.opened c.repaired.new.dev) (g.D.Device.opened c.written.new.dev)) p c.written.ensures.entries);
       faults = omega (arith, c.in_ok-this.ensures.faults, c.written.ensures.faults);

@@ -77,11 +77,11 @@ returns-in_err-read_pages g c =
     let short_ : g.D.Device.Tells → (p : ℕ) → IsErrOf c.from_residual-in_err-read_pages.result (InvalidChecksum p)
     → IsShort g.S.Seal.seal_of c.args.self.now.page_size (disk (g.D.Device.time c.args.dev.now) (key_of (shown c.args.self.now))).content c.args.offset (below c.args.self.now.page_size c.args.self.now.first c.args.offset (length c.args.buf.now)) p
     = λ t p is.
-          let key : (c.as_str.result.now, c.as_slice.result.now) ≡ key_of (shown c.args.self.now) = λ j. (c.as_str.ensures.value j, c.as_slice.ensures.value j) in
-          let given = err_from_is_err_and c.from_residual-in_err-read_pages.result c.from_residual-in_err-read_pages.ensures.1 in
-          let short = subst (λ (k : Key). IsShort g.S.Seal.seal_of c.args.self.now.page_size (disk (g.D.Device.time c.args.dev.now) k).content c.args.offset (length (take c.below_tip-below.result c.try_read_held.new.buf)) p) key (c.in_err-read_pages.ensures.short t p (same_error (rw (given.1, given.2) at is))) in
-          let len : length (take c.below_tip-below.result c.try_read_held.new.buf) ≡ below c.args.self.now.page_size c.args.self.now.first c.args.offset (length c.args.buf.now) = omega (arith, length-take c.below_tip-below.result c.try_read_held.new.buf, c.below_tip-below.ensures, c.try_read_held.auto.buf) in
-          subst (λ (n : ℕ). IsShort g.S.Seal.seal_of c.args.self.now.page_size (disk (g.D.Device.time c.args.dev.now) (key_of (shown c.args.self.now))).content c.args.offset n p) len short in
+    let key : (c.as_str.result.now, c.as_slice.result.now) ≡ key_of (shown c.args.self.now) = λ j. (c.as_str.ensures.value j, c.as_slice.ensures.value j) in
+    let given = err_from_is_err_and c.from_residual-in_err-read_pages.result c.from_residual-in_err-read_pages.ensures.1 in
+    let short = subst (λ (k : Key). IsShort g.S.Seal.seal_of c.args.self.now.page_size (disk (g.D.Device.time c.args.dev.now) k).content c.args.offset (length (take c.below_tip-below.result c.try_read_held.new.buf)) p) key (c.in_err-read_pages.ensures.short t p (same_error (rw (given.1, given.2) at is))) in
+    let len : length (take c.below_tip-below.result c.try_read_held.new.buf) ≡ below c.args.self.now.page_size c.args.self.now.first c.args.offset (length c.args.buf.now) = omega (arith, length-take c.below_tip-below.result c.try_read_held.new.buf, c.below_tip-below.ensures, c.try_read_held.auto.buf) in
+    subst (λ (n : ℕ). IsShort g.S.Seal.seal_of c.args.self.now.page_size (disk (g.D.Device.time c.args.dev.now) (key_of (shown c.args.self.now))).content c.args.offset n p) len short in
     record {
       bytes = λ t h1. no_value _ _ c.from_residual-in_err-read_pages.ensures.0;
       checked = λ t h1. no_value _ _ c.from_residual-in_err-read_pages.ensures.0;
@@ -91,13 +91,13 @@ returns-in_err-read_pages g c =
       short = search rules;
       refused = search rules;
       unchanged = c.in_err-read_pages.ensures.unchanged;
-      reads = 
+      reads =
           let key : (c.as_str.result.now, c.as_slice.result.now) ≡ key_of (shown c.args.self.now) = λ j. (c.as_str.ensures.value j, c.as_slice.ensures.value j) in
           let len : length (take c.below_tip-below.result c.try_read_held.new.buf) ≡ below c.args.self.now.page_size c.args.self.now.first c.args.offset (length c.args.buf.now) = omega (arith, length-take c.below_tip-below.result c.try_read_held.new.buf, c.below_tip-below.ensures, c.try_read_held.auto.buf) in
           subst (λ (x : Key × ℕ). ReadsAtMost (uncached (cached (shown c.args.self.now)) (c.args.offset / c.args.self.now.page_size) (touched c.args.self.now.page_size c.args.offset x.1)) x.0 (g.D.Device.opened c.args.dev.now) (g.D.Device.opened c.read_pages.new.dev)) (λ i. (key i, len i)) c.in_err-read_pages.ensures.entries;
       held = λ held. never c.try_read_held.result c.if-try_read_held.false (c.try_read_held.ensures.held.1 held);
       faults = c.in_err-read_pages.ensures.faults;
-      cause = 
+      cause =
           let given = err_from_is_err_and c.from_residual-in_err-read_pages.result c.from_residual-in_err-read_pages.ensures.1 in
           let len : length (take c.below_tip-below.result c.try_read_held.new.buf) ≡ below c.args.self.now.page_size c.args.self.now.first c.args.offset (length c.args.buf.now) = omega (arith, length-take c.below_tip-below.result c.try_read_held.new.buf, c.below_tip-below.ensures, c.try_read_held.auto.buf) in
           rw (given.1, given.2) (elim c.in_err-read_pages.ensures.cause [
@@ -139,7 +139,7 @@ returns g c =
       short = search rules;
       refused = search rules;
       unchanged = c.in_ok-read_pages.ensures.unchanged;
-      reads = 
+      reads =
           let key : (c.as_str.result.now, c.as_slice.result.now) ≡ key_of (shown c.args.self.now) = λ j. (c.as_str.ensures.value j, c.as_slice.ensures.value j) in
           let len : length (take c.below_tip-below.result c.try_read_held.new.buf) ≡ below c.args.self.now.page_size c.args.self.now.first c.args.offset (length c.args.buf.now) = omega (arith, length-take c.below_tip-below.result c.try_read_held.new.buf, c.below_tip-below.ensures, c.try_read_held.auto.buf) in
           subst (λ (x : Key × ℕ). ReadsAtMost (uncached (cached (shown c.args.self.now)) (c.args.offset / c.args.self.now.page_size) (touched c.args.self.now.page_size c.args.offset x.1)) x.0 (g.D.Device.opened c.args.dev.now) (g.D.Device.opened c.read_pages.new.dev)) (λ i. (key i, len i)) c.in_ok-read_pages.ensures.entries;

@@ -16,7 +16,7 @@ returns-in_err-len g c =
     record {
       length = λ t. no_value _ _ c.from_residual.ensures.0;
       unchanged = c.in_err-len.ensures.unchanged;
-      reads = 
+      reads =
           let pos : 1 ≤ c.args.self.now.page_size = omega (arith, c.args.self.now.fit.begun) in
           let key : (c.as_str.result.now, c.as_slice.result.now) ≡ key_of (shown c.args.self.now) = λ j. (c.as_str.ensures.value j, c.as_slice.ensures.value j) in
           let size : c.from-size.result ≡ c.args.self.now.page_size = c.from-size.ensures in
@@ -39,7 +39,7 @@ returns g c =
           let least : c.min.result ≡ min c.args.end (prefix_upto g.S.Seal.seal_of c.args.self.now.page_size (disk (g.D.Device.time c.args.dev.now) (key_of (shown c.args.self.now))).content (c.args.from / c.args.self.now.page_size) (pages_for c.args.self.now.page_size c.args.end)) = omega (arith, c.min.ensures, has) in
           least ∙ prefix_at_most g.S.Seal.seal_of c.args.self.now.page_size (disk (g.D.Device.time c.args.dev.now) (key_of (shown c.args.self.now))).content (c.args.from / c.args.self.now.page_size) c.args.end pos;
       unchanged = c.in_ok-len.ensures.unchanged;
-      reads = 
+      reads =
           let pos : 1 ≤ c.args.self.now.page_size = omega (arith, c.args.self.now.fit.begun) in
           let key : (c.as_str.result.now, c.as_slice.result.now) ≡ key_of (shown c.args.self.now) = λ j. (c.as_str.ensures.value j, c.as_slice.ensures.value j) in
           let size : c.from-size.result ≡ c.args.self.now.page_size = c.from-size.ensures in

@@ -35,7 +35,7 @@ returns-then-is_err g c =
             let some : 0 < length c.args.buf.now = search rules in
             let fits = held_fits (shown c.args.self.now) c.args.offset (length c.args.buf.now) some held in
             absurd (refused_range c.check_range.result _ (c.args.offset + length c.args.buf.now) c.size.result c.is_err.ensures.value c.if-is_err.true c.check_range.ensures.cause c.check_range.ensures.overflow.0 c.check_range.ensures.short.0
-                (omega (arith, fits, c.size.ensures)) (omega (arith, fits, fit_size _ _ _ _ c.args.self.now.fit))),
+            (omega (arith, fits, c.size.ensures)) (omega (arith, fits, fit_size _ _ _ _ c.args.self.now.fit))),
       );
       bytes = search rules;
       same = search rules;

@@ -160,7 +160,7 @@ returns g c =
           let covers = c.in_ok-end.ensures.covers t all (subst (λ (l : List ℕ). c.args.self.from < length l) (sym tip) more) (key_as (λ (k : Key). Data c.args.self.page_size all (flushed_of (shown c.args.self)) (view (disk (g.D.Device.time c.args.dev.now) k).content)) (string_bytes c.args.self.partition) _ c.args.self.name.items _ (sym c.as_str.ensures.value) (sym c.as_slice.ensures.value) same) (subst (λ (l : List ℕ). StandsAt all (c.args.self.first * c.args.self.page_size) l) (sym tip) at) in
           subst (λ (l : List ℕ). CoversFrom g.S.Seal.seal_of c.args.self.page_size (disk (g.D.Device.time c.flush_pages.new.dev) (key_of (shown c.args.self))).content c.args.self.first (c.args.self.first * c.args.self.page_size + length l)) tip
           (key_as (λ (k : Key). CoversFrom g.S.Seal.seal_of c.args.self.page_size (disk (g.D.Device.time c.flush_pages.new.dev) k).content c.args.self.first (c.args.self.first * c.args.self.page_size + length c.as_slice-2.result.now)) _ (string_bytes c.args.self.partition) _ c.args.self.name.items c.as_str.ensures.value c.as_slice.ensures.value covers);
-      into = 
+      into =
           let size : c.from-size.result ≡ c.args.self.page_size = c.from-size.ensures in
           let len : c.len.result ≡ length c.args.self.tip.items = search rules in
           let full : c.len.result / c.from-size.result * c.args.self.page_size ≤ length c.args.self.tip.items

@@ -18,7 +18,7 @@ returns-then-idle g c =
       since = λ t. adds_start (bytes_of (shown c.args.self) (disk (g.D.Device.time c.args.dev.now) (blob_key (shown c.args.self))).content ∷ []) (blob_key (shown c.args.self)) (g.D.Device.time c.args.dev.now);
       bytes = λ t. refl;
       idle = search rules;
-      same = 
+      same =
           let parts = idle_parts (shown c.args.self) (sym c.idle.ensures ∙ c.if-idle.true) in
           let end : c.args.self.end ≡ size_of (shown c.args.self) = omega (arith, parts.1, ap length parts.0) in
           λ i. record (shown c.args.self) { end = end i; pending = parts.0 i };
@@ -76,7 +76,7 @@ returns g c =
       stays = search rules;
       untouched = search rules;
       once = search rules;
-      «open» = 
+      «open» =
           grown_open c.as_str.ensures.value c.as_slice.ensures.value (g.D.Device.opened c.args.dev.now) (g.D.Device.opened c.write_at.new.self) c.args.self.end c.requires.«open» (c.args.self.at + length c.as_slice-2.result.now) c.size-end.result c.in_ok-write_at.ensures.opened
           (c.size-end.ensures ∙ ap (λ (l : List ℕ). max c.args.self.end (c.args.self.at + length l)) (sym c.as_slice-2.ensures.value));
       entries = grown_at c.as_str.ensures.value c.as_slice.ensures.value (g.D.Device.opened c.args.dev.now) (g.D.Device.opened c.write_at.new.self) c.args.self.end c.requires.«open» (c.args.self.at + length c.as_slice-2.result.now) c.in_ok-write_at.ensures.opened;

@@ -79,8 +79,8 @@ returns g c =
         | then-not-holds+in_ok-read_blob w ↦ w.dev-is ∙ (elim (cases_lt 0 (length c.args.buf.now)) [
           | inr none ↦ w.in_ok-read_blob.ensures.none (omega (arith, none))
           | inl some ↦ (let first = all c.args.offset (record { low = omega arith; high = omega (arith, some) }) in
-            let last = all (c.args.offset + length c.args.buf.now - 1) (record { low = omega (arith, some); high = omega (arith, some) }) in
-            absurd (cc (w.if-not-holds.true, c.holds.ensures.1 (first.low, omega (arith, last.high, some)))))
+              let last = all (c.args.offset + length c.args.buf.now - 1) (record { low = omega (arith, some); high = omega (arith, some) }) in
+              absurd (cc (w.if-not-holds.true, c.holds.ensures.1 (first.low, omega (arith, last.high, some)))))
         ])
       ];
       overflow = search rules;

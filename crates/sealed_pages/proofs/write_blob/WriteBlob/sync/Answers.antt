@@ -26,7 +26,7 @@ returns-then-not-needs_sync g c =
           over.clean parts.0 ∙ ap settled_at (sym (idle_bytes (shown c.args.self) (disk (g.D.Device.time c.args.dev.now) (blob_key (shown c.args.self))).content parts.1 (content_length (g.D.Device.opened c.args.dev.now) (blob_key (shown c.args.self)) c.args.self.end _ _ (g.met.D.Device.opened_stands t c.args.dev.now (blob_key (shown c.args.self))) c.requires.«open»)));
       bytes = λ t. refl;
       idle = search rules;
-      same = 
+      same =
           let parts = settled_parts (shown c.args.self) (sym c.needs_sync.ensures ∙ c.if-not-needs_sync.true) in
           let idle = idle_parts (shown c.args.self) parts.1 in
           let end : c.args.self.end ≡ size_of (shown c.args.self) = omega (arith, idle.1, ap length idle.0) in

@@ -46,8 +46,8 @@ returns-clause-none g c none held content cache ok =
     let whole : length c.try_read_held.new.buf ≡ c.in_ok-bytes.bytes.len = search rules in
     let stand : c.as_slice.result.now ≡ item_at g.A.CodecFixed.SIZE (bytes_of (shown u) content) c.args.position =
     c.as_slice.ensures.value ∙ take_at c.try_read_held.new.buf (drop (length c.try_read_held.new.buf) c.in_ok-bytes.bytes.items) c.in_ok-bytes.bytes.len whole
-        ∙ read_item u.page_size u.first g.A.CodecFixed.SIZE c.args.position (c.args.position * c.SIZE-2.result) (length c.as_mut_slice.result.now) at long c.try_read_held.new.buf (bytes_of (shown u) content)
-        (c.try_read_held.ensures.bytes yes content (cache_for g.S.Seal.seal_of content (shown u) g.A.CodecFixed.SIZE c.args.position (c.args.position * c.SIZE-2.result) (length c.as_mut_slice.result.now) at long cache)) in
+    ∙ read_item u.page_size u.first g.A.CodecFixed.SIZE c.args.position (c.args.position * c.SIZE-2.result) (length c.as_mut_slice.result.now) at long c.try_read_held.new.buf (bytes_of (shown u) content)
+    (c.try_read_held.ensures.bytes yes content (cache_for g.S.Seal.seal_of content (shown u) g.A.CodecFixed.SIZE c.args.position (c.args.position * c.SIZE-2.result) (length c.as_mut_slice.result.now) at long cache)) in
     elim c.in-Err.ensures.refused [
       | inl memory ↦ absurd (c.in_default.not-Mem memory)
       | inr refused ↦ (let fine : g.A.Codec.refusal c.as_slice.result.now tt ≡ None = ap (λ (l : List ℕ). g.A.Codec.refusal l tt) stand ∙ ok in absurd (cc (refused, fine)))

@@ -24,7 +24,7 @@ returns-then-is_past g c = record {
 pub returns : goal.returns
 returns g c = record {
   over = begins_walk g.S.Seal.seal_of g.A.CodecFixed.SIZE _ _ (shown c.args.self) c.args.start_section c.args.start_position _ (disk (g.D.Device.time c.args.dev.now)) c.requires.over
-    (λ u held past. (let yes = c.is_past.ensures.1 (some_and (λ x. size_of (page_blob.shown x) / g.A.CodecFixed.SIZE < c.args.start_position) ((shown c.args.self).sections.held c.args.start_section) u held past) in let not = c.if-is_past.false in cc (yes, not)));
+      (λ u held past. (let yes = c.is_past.ensures.1 (some_and (λ x. size_of (page_blob.shown x) / g.A.CodecFixed.SIZE < c.args.start_position) ((shown c.args.self).sections.held c.args.start_section) u held past) in let not = c.if-is_past.false in cc (yes, not)));
   begins = record { journal = refl; section = refl; position = refl; first = refl; between = refl; whole = refl; going = refl };
   past = (λ is. absurd (cc is), λ has. (let yes = c.is_past.ensures.1 has in let not = c.if-is_past.false in absurd (cc (yes, not))));
   unchanged = refl;

@@ -11,7 +11,7 @@ use Rattle.segments.proofs.fixed.Journal.try_get_sync.Goals as goal
 
 pub returns-clause-none : goal.returns-clause-none
 returns-clause-none g c = if_ok_weaker c.held_item.result c.held_item.ensures.none (λ r none is u held from has. (
-  let Refused : PageBlob g.row.S.Denot g.S.Seal → Type 0
-  = λ w. is_item_held g.A.CodecFixed.SIZE w c.args.position ≡ true → (content : List ℕ) → IsCacheFor g.S.Seal.seal_of (page_blob.shown w) content (c.args.position * g.A.CodecFixed.SIZE) g.A.CodecFixed.SIZE
-      → g.A.Codec.refusal (item_at g.A.CodecFixed.SIZE (bytes_of (page_blob.shown w) content) c.args.position) tt ≡ None → ⊥ in
-  subst Refused (some_same c.in-Ok.buffer.now u (sym c.in-Ok.ensures.held ∙ held)) (none is)))
+    let Refused : PageBlob g.row.S.Denot g.S.Seal → Type 0
+    = λ w. is_item_held g.A.CodecFixed.SIZE w c.args.position ≡ true → (content : List ℕ) → IsCacheFor g.S.Seal.seal_of (page_blob.shown w) content (c.args.position * g.A.CodecFixed.SIZE) g.A.CodecFixed.SIZE
+    → g.A.Codec.refusal (item_at g.A.CodecFixed.SIZE (bytes_of (page_blob.shown w) content) c.args.position) tt ≡ None → ⊥ in
+    subst Refused (some_same c.in-Ok.buffer.now u (sym c.in-Ok.ensures.held ∙ held)) (none is)))

@@ -23,10 +23,13 @@ returns g c = record {
   floors = c.recovered_from.ensures.floors;
   given = λ from calls opened d run. all_given g.S.Seal.seal_of g.A.CodecFixed.SIZE g.A.Codec.spelling g.A.Codec.accepted from calls
       (record { walk = walk_of c.args.self; opened = opened; disk = d }) run (c.is_drained.ensures.0 c.if-not-is_drained.false);
-  replay_failed = (λ is. absurd (cc is), λ why. elim why [
-    | inl failed ↦ absurd (cc (failed, c.if-self.false))
-    | inr not ↦ absurd (not (c.is_drained.ensures.0 c.if-not-is_drained.false))
-  ]);
+  replay_failed = (
+    λ is. absurd (cc is),
+    λ why. elim why [
+      | inl failed ↦ absurd (cc (failed, c.if-self.false))
+      | inr not ↦ absurd (not (c.is_drained.ensures.0 c.if-not-is_drained.false))
+    ],
+  );
   cause = tt;
 }
 
