@@ -81,7 +81,7 @@ module _ {F S : Type 0} {gs : _} {g : buffer.Ghosts (PageBlob S gs)} {gives : F 
   -- ---- the disk as it reads is lawful
   module _ (markers : Markers) (lawful : Lawful (filing_of arch) (as_read z) markers) where
     own_markers : markers ≡ contents_of arch.pair.store
-    own_markers = markers_one (known_of rests) t readable (as_read z) (λ is side. refl) markers lawful.pair
+    own_markers = markers_one rests.marks t readable (as_read z) (λ is side. refl) markers lawful.pair
 
     -- so all records are sound
     all_sound : (s : ℕ) → s < 2 ^ 64 → AllByRecursion (λ r. IsTrue (is_sound arch.pair.layout.seal (values_now s) (arch.pair.layout.place r))) (records_of arch.pair z s)
