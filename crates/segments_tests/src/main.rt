@@ -23,8 +23,7 @@
 //! POSITION`, `get-many SECTION POSITION ..`, `last SECTION` and `held SECTION POSITION`. It says
 //! its `len`, `size`, `full`, `floor`, `recovered`, `pruned` and `guard` of a section, and its
 //! `oldest`, `newest` and all `sections`. `append-bytes SECTION N ..` adds numbers by one append of the
-//! buffer. `scan PIECE COUNT KEEP` goes over all items by the cursor of a replay, COUNT at once, and cuts
-//! each section that owed a replay to KEEP items, if that is said.
+//! buffer.
 //!
 //! A manager: `manage PARTITION BUFFER CEILING`, then `append SECTION BYTES`, `take`, `make`, the
 //! syncs, `prune`, `remove`, `clear`, `destroy`, `cut` and `cut-tail SECTION SIZE`, `cut-each
@@ -38,7 +37,6 @@
 #![tactic(auto)]
 
 mod buffers;
-mod cursors;
 mod disk;
 mod floors;
 mod items;
