@@ -8,7 +8,7 @@ use Rattle.meta_store.specs.declared.error.Side.TheVariants.{Left}
 use Rattle.meta_store.proofs.Sealing.{empty_absent}
 use Rattle.sealed_pages.specs.SealedPrefix.{pages_in, sealed_prefix, size_below}
 use Rattle.sealed_pages.specs.Slots.{page_length}
-use Rattle.sealed_pages.proofs.Looking.{slot_short}
+use Rattle.sealed_pages.proofs.looking.Looking.{slot_short}
 use Rattle.sealed_pages.proofs.Reaching.{prefix_size}
 use Rattle.paired.specs.Kept.{is_sound_in, marker_of, stored_records}
 use Rattle.paired.specs.Opening.{as_read}

@@ -16,7 +16,7 @@ use Rattle.meta_store.proofs.Sealing.{empty_absent}
 use Rattle.sealed_pages.specs.ChanceSeal as pages
 use Rattle.sealed_pages.specs.SealedPrefix.{sealed_prefix}
 use Rattle.sealed_pages.specs.declared.page_blob.PageBlob.{PageBlob}
-use Rattle.sealed_pages.proofs.SlotLemmas.{slot_stands}
+use Rattle.sealed_pages.proofs.slots.SlotLemmas.{slot_stands}
 use Rattle.section_manager.specs.Refusing.{HasFailed}
 use Rattle.section_manager.specs.Sections.{IsHeld, section_key}
 use Rattle.section_manager.specs.declared.journal.Error as journal

@@ -16,7 +16,7 @@ use Rattle.blob_device.proofs.Moments.{always_start}
 use Rattle.meta_store.proofs.Ascending.{all_one_more}
 use Rattle.sealed_pages.specs.Reading.{Unchanged}
 use Rattle.sealed_pages.specs.declared.page_blob.PageBlob.{PageBlob}
-use Rattle.sealed_pages.proofs.Looking.{unchanged_now, unchanged_then}
+use Rattle.sealed_pages.proofs.looking.Looking.{unchanged_now, unchanged_then}
 use Rattle.section_manager.specs.Sections.{section_key}
 use Rattle.paired.specs.Crashes.{IsBlobOf, IsIndexOf, IsOwn}
 use Rattle.paired.specs.Pair.{list_of}

@@ -8,7 +8,7 @@ use Rattle.blob_device.specs.declared.device.Device as device
 use Rattle.blob_device.proofs.FootprintLemmas.{footprint_then, footprint_wider}
 use Rattle.sealed_pages.specs.Reading.{Unchanged}
 use Rattle.sealed_pages.specs.declared.page_blob.PageBlob.{PageBlob}
-use Rattle.sealed_pages.proofs.Looking.{unchanged_now, unchanged_then}
+use Rattle.sealed_pages.proofs.looking.Looking.{unchanged_now, unchanged_then}
 use Rattle.section_manager.specs.Sections.{section_key}
 use Rattle.paired.specs.Pair.{list_of}
 use Rattle.paired.proofs.pair.Failing.{rose_before}

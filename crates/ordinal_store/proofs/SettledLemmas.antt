@@ -15,8 +15,8 @@ use Rattle.sealed_pages.specs.Sparing.{Spares, Sparing}
 use Rattle.sealed_pages.specs.View.{Within}
 use Rattle.sealed_pages.specs.unsealed.Writing.{Over, bytes_of, is_unsettled, run_of, shown, size_of}
 use Rattle.sealed_pages.specs.declared.write_blob.WriteBlob.{WriteBlob}
-use Rattle.sealed_pages.proofs.LastingLemmas.{outside_none}
-use Rattle.sealed_pages.proofs.WritingLemmas.{idle_parts, settled_parts}
+use Rattle.sealed_pages.proofs.unsealed.LastingLemmas.{outside_none}
+use Rattle.sealed_pages.proofs.unsealed.WritingLemmas.{idle_parts, settled_parts}
 use Rattle.ordinal_store.specs.Durable.{IsDurable, StandsFor, Stays}
 use Rattle.ordinal_store.specs.Slots.{place_of, position_of, section_of, slot_at, slot_size}
 use Rattle.ordinal_store.specs.Stores.{IsCommitted, IsQuiet, IsQuietIn, IsUsable, Store, has, key_of, slots_of}

@@ -23,7 +23,7 @@ use Rattle.sealed_pages.specs.declared.write_blob.WriteBlob.{WriteBlob}
 use Rattle.sealed_pages.specs.Contents.{KeepsAll, AddsOnly}
 use Rattle.sealed_pages.specs.Sparing.{Sparing}
 use Rattle.sealed_pages.specs.unsealed.Writing.{shown, blob_key, run_of, Joins, HoldsOnly, StaysBelow, is_idle}
-use Rattle.sealed_pages.proofs.ContentLemmas.{adds_keep, keeps_now}
+use Rattle.sealed_pages.proofs.unsealed.ContentLemmas.{adds_keep, keeps_now}
 use Rattle.section_manager.specs.Fronts.{IsFront}
 use Rattle.section_manager.specs.Leaving.{AllMoments}
 use Rattle.section_manager.specs.Lasting.{IsOpening}

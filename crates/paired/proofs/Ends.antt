@@ -78,7 +78,7 @@ pub record ValuesCut {F S : Type 0} {gs : _} (g : buffer.Ghosts (PageBlob S gs))
   pub settled : ((s : ℕ) → IsHeld m s → IsAllSettled m s) → (s : ℕ) → IsHeld n s → IsAllSettled n s
   pub bounds : SameBounds m n
   pub moments : told → Always a b (Each (Cutting m (EndOf l.place l.record_size j.sections (disk a)) (disk a)))
-  pub entries : (q : Key) → (IsKeyOf j.sections (IsHeld j.sections) q ⊎ IsKeyOf m (IsHeld j.sections) q → ⊥) → o1 q ≡ o q
+  pub entries : (q : Key) → (IsKeyOf m (IsHeld j.sections) q → ⊥) → o1 q ≡ o q
 
 -- what the call that removes values says
 pub record ValuesRemoved (takes : WriteFactory → Setting) (told : Type 0) (Doomed : ℕ → Type 0) (m n : Sections WriteFactory WriteBlob) (o o1 : OpenedList) (a b : Timeline) : Type 0 where

@@ -17,7 +17,7 @@ use Rattle.sealed_pages.specs.ChanceSeal as chance
 use Rattle.sealed_pages.specs.declared.page_blob.PageBlob.{PageBlob}
 use Rattle.sealed_pages.specs.Flushing.{Alone}
 use Rattle.sealed_pages.specs.Shown.{shown}
-use Rattle.sealed_pages.proofs.Holding.{fit_size}
+use Rattle.sealed_pages.proofs.memory.Holding.{fit_size}
 use Rattle.section_manager.specs.contracts.sealed.PageBlobSectionBuffer.TheImpl.{ghosts}
 use Rattle.section_manager.specs.declared.buffer.SectionBuffer as buffer
 use Rattle.section_manager.specs.declared.journal.Error.{Error}

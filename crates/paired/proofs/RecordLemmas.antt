@@ -1,5 +1,5 @@
 -- Lists of records: those of a front of the bytes are a front of the records; what `front` keeps; and facts that hold of each record.
-use Rattle.std.proofs.Common.{◌≡◌, ℕ, zero, suc, ◌+◌, ◌-◌, ◌*◌, ◌/◌, ◌<◌, ◌≤◌, Bool, true, false, ◌||◌, nat_lt, if◌then◌else◌, List, [], ◌∷◌, length, map, take, drop, IsTrue, refl, sym, ◌∙◌, ap, arith, length-take-le}
+use Rattle.std.proofs.Common.{◌≡◌, ℕ, zero, suc, ◌+◌, ◌-◌, ◌*◌, ◌/◌, ◌<◌, ◌≤◌, Bool, true, false, ◌||◌, nat_lt, if◌then◌else◌, List, [], ◌∷◌, length, map, take, drop, get_or, IsTrue, refl, sym, ◌∙◌, ap, arith, length-take-le}
 use Rattle.std.specs.List.{AllByRecursion}
 use Rattle.std.proofs.lemmas.Bool.{le-ltb, or_right}
 use Rattle.std.proofs.lemmas.List.{take-take, drop-take}
@@ -7,6 +7,7 @@ use Rattle.std.proofs.lemmas.Nat.{le-div, mul-le}
 use Rattle.std.proofs.Math.Nat.{div-mul-le_self}
 use Rattle.segments.specs.FixedItems.{item_count, item_at}
 use Rattle.paired.specs.Frames.{bytes_at}
+use Rattle.paired.specs.Places.{last_end}
 use Rattle.paired.specs.Records.{each_below, records, front}
 
 pub length-each_below : {X : Type 0} (n : ℕ) (f : ℕ → X) → length (each_below n f) ≡ n
@@ -112,3 +113,16 @@ module _ (sound : List ℕ → Bool) (marker : ℕ) where
       step : (b : Bool) (tail : List (List ℕ)) → Q r → AllByRecursion Q tail → AllByRecursion Q (if b then r ∷ tail else [])
       step true tail here more = (here, more)
       step false tail here more = tt
+
+-- the places end where the last one does
+pub last_end_at : (place : List ℕ → ℕ × ℕ) (rs : List (List ℕ)) (p : ℕ) → p + 1 ≡ length rs → last_end place rs ≡ (place (get_or rs p [])).0 + (place (get_or rs p [])).1
+last_end_at place [] p is = absurd (omega (arith, is))
+last_end_at place (r ∷ []) zero is = refl
+last_end_at place (r ∷ []) (suc p) is = absurd (omega (arith, is))
+last_end_at place (r ∷ q ∷ rs) zero is = absurd (omega (arith, is))
+last_end_at place (r ∷ q ∷ rs) (suc p) is = last_end_at place (q ∷ rs) p (omega (arith, is))
+
+-- without a place they end at 0
+pub no_end : (place : List ℕ → ℕ × ℕ) (rs : List (List ℕ)) → length rs ≡ 0 → last_end place rs ≡ 0
+no_end place [] is = refl
+no_end place (r ∷ rs) is = absurd (omega (arith, is))

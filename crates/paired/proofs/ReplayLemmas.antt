@@ -1,9 +1,9 @@
 -- One turn of a replay of a pair: the walk goes on, and the record that it gives is sorted. Which records are then due, and where sections end.
-use Rattle.std.specs.Prelude.{◌≡◌, ◌≢◌, ◌↔◌, ◌⊎◌, ℕ, zero, suc, ◌+◌, ◌*◌, ◌/◌, ◌<◌, ◌≤◌, ◌||◌, nat_lt, cond, if◌then◌else◌, Bool, true, false, List, [], ◌∷◌, length, take, get_or, IsTrue, Option, None, Some, IsSome, unwrap_or}
+use Rattle.std.specs.Prelude.{◌≡◌, ◌≢◌, ◌↔◌, ◌⊎◌, ℕ, zero, suc, ◌+◌, ◌*◌, ◌/◌, ◌<◌, ◌≤◌, ◌||◌, nat_lt, cond, min, ◌-◌, ◌^◌, if◌then◌else◌, Bool, true, false, List, [], ◌∷◌, length, take, get_or, IsTrue, Option, None, Some, IsSome, IsSomeAnd, unwrap_or}
 use Rattle.std.proofs.Common.{inl, inr, refl, sym, ◌∙◌, ap, subst, arith, length-take}
 use Rattle.std.proofs.lemmas.Bool.{le-ltb, or_right, or_left, cases_lt, cases_eq, cases_Bool}
 use Rattle.std.proofs.lemmas.Bool.Decides.{nat_tests}
-use Rattle.std.proofs.lemmas.List.{take_all}
+use Rattle.std.proofs.lemmas.List.{get_or-take, take_all}
 use Rattle.std.proofs.lemmas.Nat.{le-div}
 use Rattle.std.proofs.Math.Nat.{div-mul-le_self, div-le_self}
 use Rattle.std.proofs.Math.Numerals.{add-one}
@@ -12,15 +12,16 @@ use Rattle.sealed_pages.specs.declared.page_blob.PageBlob.{PageBlob}
 use Rattle.section_manager.specs.Sections.{key_of, IsHeld}
 use Rattle.section_manager.proofs.WalkLemmas.{none_or_value, some_same}
 use Rattle.segments.specs.FixedItems.{item_count, item_at}
-use Rattle.segments.specs.FixedReplay.{Walk, Gives, Stops, IsLeft, StandsBefore, kept_of, kept_bytes}
+use Rattle.segments.specs.FixedReplay.{Place, Walk, Gives, Stops, IsLeft, StandsBefore, kept_of, kept_bytes}
 use Rattle.meta_store.specs.Store.{Store}
 use Rattle.value_codec.specs.declared.key.Key8.{Key8}
 use Rattle.paired.specs.glob.Sections as glob
 use Rattle.paired.specs.Kept.{marker_of}
+use Rattle.paired.specs.Places.{last_end}
 use Rattle.paired.specs.Records.{each_below, records, front, is_sound}
-use Rattle.paired.specs.Replaying.{Run, marker, HasFailed, is_sound_over, records_over, records_given, IsDue, IsUnbroken, IsGood, IsEnd, IsChecked, GivesRecord, LosesRecords, Sorts}
+use Rattle.paired.specs.Replaying.{Run, marker, HasFailed, HasGiven, is_sound_over, records_over, records_given, IsDue, IsUnbroken, IsGood, IsEnd, IsChecked, GivesRecord, LosesRecords, Sorts}
 use Rattle.paired.proofs.opening.Ends.{front_stops}
-use Rattle.paired.proofs.RecordLemmas.{records-take, length-records}
+use Rattle.paired.proofs.RecordLemmas.{last_end_at, records-take, length-records}
 
 below : (m n : ℕ) → m < n → nat_lt m n ≡ true
 below m n lt = grind (arith, nat_tests)
@@ -123,6 +124,15 @@ in_order t q s p = elim (cases_lt t s) [
     ]
   ]
 ]
+
+-- where the last of the first n of these records' values ends, as far as a u64 counts
+abbrev counted_of : (List ℕ → ℕ × ℕ) → ℕ → List (List ℕ) → ℕ
+counted_of place n rs = min (last_end place (take n rs)) (2 ^ 64 - 1)
+
+-- what stands at a record or before it stands at the next one or before it
+further : (s p : ℕ) (o : Option Place) → IsSomeAnd o (λ r. (r.section ≡ s) × (r.position ≤ p)) → IsSomeAnd o (λ r. (r.section ≡ s) × (r.position ≤ p + 1))
+further s p None has = absurd has
+further s p (Some r) has = (has.0, omega (arith, has.1))
 
 -- Both runs are over the same values, with the same markers. The walk went to w, and the disk to e, which has the values as d has.
 pub record Turns {F S : Type 0} {gs : _} (old new : Run F (PageBlob S gs)) (w : Walk F (PageBlob S gs)) (d e : Disk) : Type 0 where
@@ -248,13 +258,14 @@ module _ {F S : Type 0} {gs : _} (old new : Run F (PageBlob S gs)) (w : Walk F (
       }
     ]
 
-    pub end_stopped : IsChecked old d → ((t : ℕ) → new.ends t ≡ old.ends t) → HasFailed new → IsChecked new e
+    pub end_stopped : IsChecked old d → ((t : ℕ) → new.ends.at t ≡ old.ends.at t) → HasFailed new → IsChecked new e
     end_stopped checked ends failed = elim stops.rest [
       | inl over ↦ (
           let none : (t q : ℕ) → IsLeft new.layout.seal new.layout.record_size new.walk e t q → ⊥ = λ t q left. no_more over (left_to t q left).goes_on in
           record {
             good = λ t q unbroken lt no_end. absurd (broken_off none t unbroken);
             ends = λ t q unbroken is. absurd (broken_off none t unbroken);
+            values = λ fine. absurd (fine failed);
             behind = λ t p q is left. absurd (none t q left);
             broken = λ t is. failed;
             passed = λ t u q is left. absurd (none u q left);
@@ -274,6 +285,7 @@ module _ {F S : Type 0} {gs : _} (old new : Run F (PageBlob S gs)) (w : Walk F (
             let here = left_to t has.1.0 has.1.1 in
             let back = (some.1.rest t has.1.0).0 here in
             end_from t (rs_left t has.1.0 here) q (checked.ends t q (inr ((λ was. has.0 (ended ∙ was)), (has.1.0, back.0))) (sym (ends t) ∙ is)));
+        values = λ fine. absurd (fine failed);
         behind = λ t p q is left. checked.behind t p q (sym (ends t) ∙ is) ((some.1.rest t q).0 (left_to t q left)).0;
         broken = λ t is. failed;
         passed = λ t u q is left. checked.passed t u q (sym ended ∙ is) ((some.1.rest u q).0 (left_to u q left)).0;
@@ -301,7 +313,7 @@ module _ {F S : Type 0} {gs : _} (old new : Run F (PageBlob S gs)) (w : Walk F (
     on t q left behind = left_from t q ((gives.rest t q).1 (left, behind))
 
     -- what stands before it in its section is good
-    good_before : IsChecked old d → old.ended_section ≢ Some s → old.ends s ≡ None → (q : ℕ) → q < p → IsGood old d s q
+    good_before : IsChecked old d → old.ended_section ≢ Some s → old.ends.at s ≡ None → (q : ℕ) → q < p → IsGood old d s q
     good_before checked going no_end q lt = elim (checked.good s q (inr (going, (p, gives.left))) (omega (arith, lt, left_within old d s p gives.left)) no_end) [
       | inl good ↦ good
       | inr left ↦ absurd (gives.first s q left (inr (refl, lt)))
@@ -335,7 +347,7 @@ module _ {F S : Type 0} {gs : _} (old new : Run F (PageBlob S gs)) (w : Walk F (
         );
       }
 
-      pub end_checked : ((t : ℕ) → new.ends t ≡ old.ends t) → new.failed ≡ true → IsChecked new e
+      pub end_checked : ((t : ℕ) → new.ends.at t ≡ old.ends.at t) → new.failed ≡ true → IsChecked new e
       end_checked ends failed = record {
         good = λ t q unbroken lt no_end. (
             let has = left_on t unbroken in
@@ -349,6 +361,7 @@ module _ {F S : Type 0} {gs : _} (old new : Run F (PageBlob S gs)) (w : Walk F (
             let has = left_on t unbroken in
             let was = back t has.1.0 has.1.1 in
             end_from t (rs t) q (checked.ends t q (inr (goes t (later t has.1.0 has.0 was.1), (has.1.0, was.0))) (sym (ends t) ∙ is)));
+        values = λ fine. absurd (fine (inl failed));
         behind = λ t r q is left. checked.behind t r q (sym (ends t) ∙ is) (back t q left).0;
         broken = λ t is. inl failed;
         passed = λ t u q is left. not_past t u q (some_same s t (sym ended ∙ is)) (back u q left).1;
@@ -388,7 +401,7 @@ module _ {F S : Type 0} {gs : _} (old new : Run F (PageBlob S gs)) (w : Walk F (
       good_was (inr is) = inr (subst (λ (X : Type 0). X) (sym sound_now) is)
 
       -- what being kept says in an opening
-      kept_says : Kept → old.tracked ≡ true → (old.ended_section ≢ Some s) × (old.ends s ≡ None) × ((p < marker old s) ⊎ IsSoundNow)
+      kept_says : Kept → old.tracked ≡ true → (old.ended_section ≢ Some s) × (old.ends.at s ≡ None) × ((p < marker old s) ⊎ IsSoundNow)
       kept_says kept tracked = elim (sorts.kept.0 kept) [
         | inl live ↦ absurd (cc (tracked, live))
         | inr parts ↦ parts
@@ -428,6 +441,13 @@ module _ {F S : Type 0} {gs : _} (old new : Run F (PageBlob S gs)) (w : Walk F (
             | inr not ↦ record { left = gives.left; goes_on = λ is. no_end (live not) is; given = omega (arith, ap length (live_given old d not s), left_within old d s p gives.left) }
           ]
 
+      -- one that is skipped was not due
+      not_due : (Kept → ⊥) → old.tracked ≡ true → IsChecked old d → IsDue old d s p → ⊥
+      not_due skipped tracked checked due = elim (none_or_value (old.ends.at s)) [
+        | inl none ↦ skipped (sorts.kept.1 (inr (due.goes_on, none, good_was (front_good (is_sound_over old d s) (marker old s) p (records_over old d s) (omega (arith, ap length (opening_given old d tracked s), due.given))).2)))
+        | inr some ↦ absurd (omega (arith, due.given, checked.behind s some.0 p some.1 due.left, end_stops old d tracked s some.0 (checked.ends s some.0 (inr (due.goes_on, (p, due.left))) some.1)))
+      ]
+
       -- or skipped
       pub due_skipped : (Kept → ⊥) → old.tracked ≡ true → IsChecked old d → (t q : ℕ) → IsDue new e t q ↔ IsDue old d t q
       due_skipped skipped tracked checked t q = (
@@ -435,18 +455,99 @@ module _ {F S : Type 0} {gs : _} (old new : Run F (PageBlob S gs)) (w : Walk F (
         (λ was. due_from t (rs t) q (on t q was.left (behind was)) (λ is. was.goes_on (sym ended ∙ is)) was.given),
       )
         where
-          not_due : IsDue old d s p → ⊥
-          not_due due = elim (none_or_value (old.ends s)) [
-            | inl none ↦ skipped (sorts.kept.1 (inr (due.goes_on, none, good_was (front_good (is_sound_over old d s) (marker old s) p (records_over old d s) (omega (arith, ap length (opening_given old d tracked s), due.given))).2)))
-            | inr some ↦ absurd (omega (arith, due.given, checked.behind s some.0 p some.1 due.left, end_stops old d tracked s some.0 (checked.ends s some.0 (inr (due.goes_on, (p, due.left))) some.1)))
-          ]
-
           behind : IsDue old d t q → StandsBefore s p t q
           behind was = elim (in_order t q s p) [
             | inl before ↦ absurd (gives.first t q was.left before)
             | inr (inl after) ↦ after
-            | inr (inr same) ↦ absurd (not_due (subst (λ (n : ℕ). IsDue old d n p) same.0 (subst (IsDue old d t) same.1 was)))
+            | inr (inr same) ↦ absurd (not_due skipped tracked checked (subst (λ (n : ℕ). IsDue old d n p) same.0 (subst (IsDue old d t) same.1 was)))
           ]
+
+      -- ---- where the last value that is kept ends
+      given_length : (t : ℕ) → length (records_given new e t) ≡ length (records_given old d t)
+      given_length t = ap length (given_stay t (rs t))
+
+      counted_stays : (t n : ℕ) → counted_of old.layout.place n (records_given old d t) ≡ counted_of new.layout.place n (records_given new e t)
+      counted_stays t n = λ i. counted_of (sym turn.place i) n (sym (given_stay t (rs t)) i)
+
+      module _ (tracked : old.tracked ≡ true) (checked : IsChecked old d) (fine : HasFailed old → ⊥) where
+        going : old.ended_section ≢ Some s
+        going is = fine (checked.broken s is)
+
+        -- of another section as much has been given as before
+        had_other : (t n : ℕ) → t ≢ s → HasGiven new e t n → HasGiven old d t n
+        had_other t n other given = record {
+          within = omega (arith, given.within, given_length t);
+          past = λ q lt left. elim (cases_lt t s) [
+            | inl before ↦ gives.first t q left (inl before)
+            | inr from ↦ elim (cases_lt s t) [
+              | inl behind ↦ given.past q lt (on t q left (inl behind))
+              | inr to ↦ absurd (other (omega (arith, from, to)))
+            ]
+          ];
+          left = λ q le lt. (back t q (given.left q le (omega (arith, lt, given_length t)))).0;
+        }
+
+        -- a record that is skipped stands past those that are given
+        skipped_past : (Kept → ⊥) → length (records_given old d s) ≤ p
+        skipped_past skipped = elim (cases_lt p (length (records_given old d s))) [
+          | inl lt ↦ absurd (not_due skipped tracked checked (record { left = gives.left; goes_on = going; given = lt }))
+          | inr le ↦ le
+        ]
+
+        had_skipped : (Kept → ⊥) → (n : ℕ) → HasGiven new e s n → HasGiven old d s n
+        had_skipped skipped n given = record {
+          within = omega (arith, given.within, given_length s);
+          past = λ q lt left. gives.first s q left (inr (refl, omega (arith, lt, given.within, given_length s, skipped_past skipped)));
+          left = λ q le lt. (back s q (given.left q le (omega (arith, lt, given_length s)))).0;
+        }
+
+        -- the record behind it is left, if it is given
+        next_left : p + 1 < length (records_given old d s) → IsLeft old.layout.seal old.layout.record_size old.walk d s (p + 1)
+        next_left lt = record {
+          goes_on = gives.left.goes_on;
+          begun = omega (arith, gives.left.begun);
+          whole = omega (
+            arith,
+            (front_good (is_sound_over old d s) (marker old s) (p + 1) (records_over old d s) (omega (arith, ap length (opening_given old d tracked s), lt))).0,
+            length-records old.layout.record_size (kept_bytes old.layout.seal old.layout.record_size old.walk d s),
+          );
+          ahead = elim gives.left.ahead [ inl far ↦ inl far | inr in_it ↦ inr (further s p old.walk.place in_it) ];
+        }
+
+        -- one that is kept is the last that has been given
+        kept_last : p < length (records_given old d s) → (n : ℕ) → HasGiven new e s n → n ≡ p + 1
+        kept_last within n given = elim (cases_lt p n) [
+          | inr le ↦ absurd (not_itself (back s p (given.left p le (omega (arith, within, given_length s)))).1)
+          | inl lt ↦ elim (cases_lt (p + 1) n) [
+            | inr le ↦ omega (arith, lt, le)
+            | inl more ↦ absurd (given.past (p + 1) more (on s (p + 1) (next_left (omega (arith, more, given.within, given_length s))) (inr (refl, omega arith))))
+          ]
+        ]
+          where
+            not_itself : StandsBefore s p s p → ⊥
+            not_itself (inl lt) = omega (arith, lt)
+            not_itself (inr at) = omega (arith, at.1)
+
+        values_kept : Kept → (n : ℕ) → HasGiven new e s n → unwrap_or (new.ends.values s) 0 ≡ counted_of old.layout.place n (records_given old d s)
+        values_kept kept n given =
+            let due = (due_after kept (λ is. checked) (λ live. absurd (cc (tracked, live)))).due in
+            let last : n ≡ p + 1 = kept_last due.given n given in
+            let sized : p + 1 ≡ length (take (p + 1) (records_given old d s)) = omega (arith, due.given, length-take (p + 1) (records_given old d s)) in
+            let at : get_or (take (p + 1) (records_given old d s)) p [] ≡ get_or (records_over old d s) p [] = get_or-take (p + 1) (records_given old d s) p [] (omega arith) ∙ given_at old d s p due.given in
+            let end : last_end old.layout.place (take (p + 1) (records_given old d s)) ≡ (location v).0 + (location v).1 =
+            last_end_at old.layout.place (take (p + 1) (records_given old d s)) p sized ∙ ap (λ (l : ℕ × ℕ). l.0 + l.1) (ap old.layout.place at ∙ sym located) in
+            ap (λ (o : Option ℕ). unwrap_or o 0) (sorts.value kept tracked) ∙ ap (λ (k : ℕ). min k (2 ^ 64 - 1)) (sym end)
+            ∙ ap (λ (k : ℕ). counted_of old.layout.place k (records_given old d s)) (sym last)
+
+        values_sorted : Kept ⊎ (Kept → ⊥) → (t n : ℕ) → HasGiven new e t n → unwrap_or (new.ends.values t) 0 ≡ counted_of new.layout.place n (records_given new e t)
+        values_sorted decides t n given = elim (cases_eq t s) [
+          | inr other ↦ ap (λ (o : Option ℕ). unwrap_or o 0) (sorts.other_values t (inl other)) ∙ checked.values fine t n (had_other t n other given) ∙ counted_stays t n
+          | inl same ↦ subst (λ (x : ℕ). unwrap_or (new.ends.values x) 0 ≡ counted_of new.layout.place n (records_given new e x)) (sym same) (of_it decides (subst (λ (x : ℕ). HasGiven new e x n) same given))
+        ]
+          where
+            of_it : Kept ⊎ (Kept → ⊥) → HasGiven new e s n → unwrap_or (new.ends.values s) 0 ≡ counted_of new.layout.place n (records_given new e s)
+            of_it (inl kept) has = values_kept kept n has ∙ counted_stays s n
+            of_it (inr skipped) has = ap (λ (o : Option ℕ). unwrap_or o 0) (sorts.other_values s (inr skipped)) ∙ checked.values fine s n (had_skipped skipped n has) ∙ counted_stays s n
 
       pub end_sorted : Kept ⊎ (Kept → ⊥) → old.tracked ≡ true → IsChecked old d → (HasFailed old → HasFailed new) → IsChecked new e
       end_sorted decides tracked checked later = record {
@@ -455,16 +556,17 @@ module _ {F S : Type 0} {gs : _} (old new : Run F (PageBlob S gs)) (w : Walk F (
           | inr left ↦ elim (in_order t q s p) [
             | inl before ↦ absurd (gives.first t q left before)
             | inr (inl after) ↦ inr (on t q left after)
-            | inr (inr same) ↦ inl (good_from t (rs t) q (subst (λ (n : ℕ). IsGood old d n q) (sym same.0) (subst (IsGood old d s) (sym same.1) (good_here (unbroken_goes s (subst (IsUnbroken new e) same.0 unbroken)) (subst (λ (n : ℕ). new.ends n ≡ None) same.0 no_end)))))
+            | inr (inr same) ↦ inl (good_from t (rs t) q (subst (λ (n : ℕ). IsGood old d n q) (sym same.0) (subst (IsGood old d s) (sym same.1) (good_here (unbroken_goes s (subst (IsUnbroken new e) same.0 unbroken)) (subst (λ (n : ℕ). new.ends.at n ≡ None) same.0 no_end)))))
           ]
         ];
         ends = λ t q unbroken is. elim (cases_eq t s) [
           | inr other ↦ end_from t (rs t) q (checked.ends t q (unbroken_back t unbroken) (sym (sorts.others t other) ∙ is))
-          | inl same ↦ subst (λ (n : ℕ). IsEnd new e n q) (sym same) (end_here (subst (IsUnbroken new e) same unbroken) q (subst (λ (n : ℕ). new.ends n ≡ Some q) same is))
+          | inl same ↦ subst (λ (n : ℕ). IsEnd new e n q) (sym same) (end_here (subst (IsUnbroken new e) same unbroken) q (subst (λ (n : ℕ). new.ends.at n ≡ Some q) same is))
         ];
+        values = λ fine t n given. values_sorted tracked checked (λ failed. fine (later failed)) decides t n given;
         behind = λ t r q is left. elim (cases_eq t s) [
           | inr other ↦ checked.behind t r q (sym (sorts.others t other) ∙ is) (back t q left).0
-          | inl same ↦ behind_here r q (subst (λ (n : ℕ). new.ends n ≡ Some r) same is) (subst (λ (n : ℕ). IsLeft old.layout.seal old.layout.record_size old.walk d n q × StandsBefore s p n q) same (back t q left))
+          | inl same ↦ behind_here r q (subst (λ (n : ℕ). new.ends.at n ≡ Some r) same is) (subst (λ (n : ℕ). IsLeft old.layout.seal old.layout.record_size old.walk d n q × StandsBefore s p n q) same (back t q left))
         ];
         broken = λ t is. later (checked.broken t (sym ended ∙ is));
         passed = λ t u q is left. checked.passed t u q (sym ended ∙ is) (back u q left).0;
@@ -479,14 +581,14 @@ module _ {F S : Type 0} {gs : _} (old new : Run F (PageBlob S gs)) (w : Walk F (
           unbroken_goes t (inr has) is = has.0 (ended ∙ is)
 
           -- an end that the section has now it had, or it is this record's
-          end_is : (r : ℕ) → new.ends s ≡ Some r → (old.ends s ≡ Some r) ⊎ ((Kept → ⊥) × (old.ends s ≡ None) × (r ≡ p) × ((old.ended_section ≢ Some s)))
+          end_is : (r : ℕ) → new.ends.at s ≡ Some r → (old.ends.at s ≡ Some r) ⊎ ((Kept → ⊥) × (old.ends.at s ≡ None) × (r ≡ p) × ((old.ended_section ≢ Some s)))
           end_is r is = elim decides [
             | inl kept ↦ inl (sym (sorts.goes_on kept s) ∙ is)
             | inr skipped ↦ elim (is_ended s) [
               | inl over ↦ inl (sym (sorts.ended over) ∙ is)
-              | inr going ↦ elim (none_or_value (old.ends s)) [
-                | inl none ↦ inr (skipped, none, (let here_end : unwrap_or (old.ends s) p ≡ p = ap (λ (o : Option ℕ). unwrap_or o p) none in cc (is, sorts.ends skipped going, here_end)), going)
-                | inr some ↦ inl (let old_end : unwrap_or (old.ends s) p ≡ some.0 = ap (λ (o : Option ℕ). unwrap_or o p) some.1 in cc (is, sorts.ends skipped going, old_end, some.1))
+              | inr going ↦ elim (none_or_value (old.ends.at s)) [
+                | inl none ↦ inr (skipped, none, (let here_end : unwrap_or (old.ends.at s) p ≡ p = ap (λ (o : Option ℕ). unwrap_or o p) none in cc (is, sorts.ends skipped going, here_end)), going)
+                | inr some ↦ inl (let old_end : unwrap_or (old.ends.at s) p ≡ some.0 = ap (λ (o : Option ℕ). unwrap_or o p) some.1 in cc (is, sorts.ends skipped going, old_end, some.1))
               ]
             ]
           ]
@@ -501,25 +603,25 @@ module _ {F S : Type 0} {gs : _} (old new : Run F (PageBlob S gs)) (w : Walk F (
               ]
 
           -- where it has none, it had none
-          no_end_here : (unbroken : IsUnbroken new e s) → new.ends s ≡ None → old.ends s ≡ None
+          no_end_here : (unbroken : IsUnbroken new e s) → new.ends.at s ≡ None → old.ends.at s ≡ None
           no_end_here unbroken none = elim decides [
             | inl kept ↦ sym (sorts.goes_on kept s) ∙ none
             | inr skipped ↦ absurd (cc (none, sorts.ends skipped (unbroken_goes s unbroken)))
           ]
 
-          no_end_back : (t : ℕ) → IsUnbroken new e t → new.ends t ≡ None → old.ends t ≡ None
+          no_end_back : (t : ℕ) → IsUnbroken new e t → new.ends.at t ≡ None → old.ends.at t ≡ None
           no_end_back t unbroken none = elim (cases_eq t s) [
             | inr other ↦ sym (sorts.others t other) ∙ none
-            | inl same ↦ subst (λ (n : ℕ). old.ends n ≡ None) (sym same) (no_end_here (subst (IsUnbroken new e) same unbroken) (subst (λ (n : ℕ). new.ends n ≡ None) same none))
+            | inl same ↦ subst (λ (n : ℕ). old.ends.at n ≡ None) (sym same) (no_end_here (subst (IsUnbroken new e) same unbroken) (subst (λ (n : ℕ). new.ends.at n ≡ None) same none))
           ]
 
-          good_here : old.ended_section ≢ Some s → new.ends s ≡ None → IsGood old d s p
+          good_here : old.ended_section ≢ Some s → new.ends.at s ≡ None → IsGood old d s p
           good_here going none = elim decides [
             | inl kept ↦ good_now (kept_says kept tracked).2
             | inr skipped ↦ absurd (cc (none, sorts.ends skipped going))
           ]
 
-          end_new : (Kept → ⊥) → old.ends s ≡ None → old.ended_section ≢ Some s → IsEnd old d s p
+          end_new : (Kept → ⊥) → old.ends.at s ≡ None → old.ended_section ≢ Some s → IsEnd old d s p
           end_new skipped none going = record {
             within = left_within old d s p gives.left;
             from = high (cases_lt p (marker old s));
@@ -538,13 +640,13 @@ module _ {F S : Type 0} {gs : _} (old new : Run F (PageBlob S gs)) (w : Walk F (
               fails (inl sound) = absurd (not_good (inr sound))
               fails (inr bad) = bad
 
-          end_here : IsUnbroken new e s → (r : ℕ) → new.ends s ≡ Some r → IsEnd new e s r
+          end_here : IsUnbroken new e s → (r : ℕ) → new.ends.at s ≡ Some r → IsEnd new e s r
           end_here unbroken r is = elim (end_is r is) [
             | inl was ↦ end_from s (rs s) r (checked.ends s r (unbroken_back s unbroken) was)
             | inr new_end ↦ subst (IsEnd new e s) (sym new_end.2) (end_from s (rs s) p (end_new new_end.0 new_end.1 new_end.3))
           ]
 
-          behind_here : (r q : ℕ) → new.ends s ≡ Some r → IsLeft old.layout.seal old.layout.record_size old.walk d s q × StandsBefore s p s q → r < q
+          behind_here : (r q : ℕ) → new.ends.at s ≡ Some r → IsLeft old.layout.seal old.layout.record_size old.walk d s q × StandsBefore s p s q → r < q
           behind_here r q is was = elim (end_is r is) [
             | inl had ↦ checked.behind s r q had was.0
             | inr new_end ↦ past new_end.2 was.1

@@ -19,7 +19,7 @@ use Rattle.paired.specs.Kept.{IsMarked, marker_of}
 use Rattle.paired.specs.Pair.{Pair, AreMarkers, AreWhole, HasSettled, IsSoundOn, HasNoBytes, records_of, synced_length}
 use Rattle.paired.specs.Places.{Follow, end_of}
 use Rattle.paired.specs.Records.{records, is_sound}
-use Rattle.paired.specs.Replaying.{Run, pair_of, marker, Sorts}
+use Rattle.paired.specs.Replaying.{Run, NotesRecord, counted_end, pair_of, marker, Sorts}
 
 -- ---- what tests say
 pub ended_not : (o : Option ℕ) (s : ℕ) → false ≡ option_eq nat_eq o (Some s) → o ≢ Some s
@@ -39,38 +39,31 @@ ok_has {T} {E} x P r is has = (let at : IfOk {T = T} {E = E} (Ok r) P = subst (�
 
 -- ---- a record is sorted
 module _ {F S : Type 0} {gs : _} (old : Run F (PageBlob S gs)) (d : Disk) (s p : ℕ) (location : ℕ × ℕ) where
-  -- one below the marker is kept
-  pub sorts_below : old.ended_section ≢ Some s → old.ends s ≡ None → p < marker old s → Sorts old old d s p location (IsTrue true)
-  sorts_below going none low = record {
-    kept = ((λ so. inr (going, none, inl low)), (λ why. refl));
-    goes_on = λ so t. refl;
-    ends = λ never now. absurd (never refl);
-    ended = λ is. refl;
-    others = λ t other. refl;
-  }
-
-  -- one whose value was checked is kept where it is sound
-  pub sorts_checked : (new : Run F (PageBlob S gs)) (r : Bool) → old.tracked ≡ true → old.ended_section ≢ Some s → old.ends s ≡ None → marker old s ≤ p
-      → (IsTrue r ↔ IsTrue (is_sound old.layout.seal (glob.section_bytes old.values d s) location)) → (r ≡ true → (t : ℕ) → new.ends t ≡ old.ends t) → (r ≡ false → new.ends s ≡ Some p)
-      → ((t : ℕ) → t ≢ s → new.ends t ≡ old.ends t) → Sorts old new d s p location (IsTrue r)
-  sorts_checked new r tracked going none high sound same end others = record {
-    kept = ((λ so. inr (going, none, inr (sound.0 so))), (λ why. kept_back why));
-    goes_on = λ so. same so;
+  -- one that was judged is kept where it is good
+  pub sorts_noted : (new : Run F (PageBlob S gs)) (r : Bool) → old.tracked ≡ true → old.ended_section ≢ Some s → old.ends.at s ≡ None
+      → (IsTrue r ↔ ((p < marker old s) ⊎ IsTrue (is_sound old.layout.seal (glob.section_bytes old.values d s) location)))
+      → NotesRecord old.ends new.ends s p (counted_end location) r → Sorts old new d s p location (IsTrue r)
+  sorts_noted new r tracked going none good notes = record {
+    kept = ((λ so. inr (going, none, good.0 so)), kept_back);
+    goes_on = λ so. notes.goes_on so;
     ends = λ never now. end_now (cases_Bool r) never;
     ended = λ is. absurd (going is);
-    others = others;
+    others = notes.others;
+    value = λ so tracks. notes.value so;
+    other_values = λ t why. notes.other_values t (elim why [ inl other ↦ inl other | inr never ↦ inr (not_true (cases_Bool r) never) ]);
   }
     where
-      kept_back : (old.tracked ≡ false) ⊎ ((old.ended_section ≢ Some s) × (old.ends s ≡ None) × ((p < marker old s) ⊎ IsTrue (is_sound old.layout.seal (glob.section_bytes old.values d s) location))) → IsTrue r
+      kept_back : (old.tracked ≡ false) ⊎ ((old.ended_section ≢ Some s) × (old.ends.at s ≡ None) × ((p < marker old s) ⊎ IsTrue (is_sound old.layout.seal (glob.section_bytes old.values d s) location))) → IsTrue r
       kept_back (inl live) = absurd (cc (tracked, live))
-      kept_back (inr parts) = elim parts.2 [
-        | inl low ↦ absurd (omega (arith, low, high))
-        | inr is ↦ sound.1 is
-      ]
+      kept_back (inr parts) = good.1 parts.2
 
-      end_now : (r ≡ true) ⊎ (r ≡ false) → (IsTrue r → ⊥) → new.ends s ≡ Some (unwrap_or (old.ends s) p)
+      not_true : (r ≡ true) ⊎ (r ≡ false) → (IsTrue r → ⊥) → r ≡ false
+      not_true (inl is) never = absurd (never is)
+      not_true (inr bad) never = bad
+
+      end_now : (r ≡ true) ⊎ (r ≡ false) → (IsTrue r → ⊥) → new.ends.at s ≡ Some (unwrap_or (old.ends.at s) p)
       end_now (inl is) never = absurd (never is)
-      end_now (inr bad) never = (let here : unwrap_or (old.ends s) p ≡ p = ap (λ (o : Option ℕ). unwrap_or o p) none in cc (end bad, here))
+      end_now (inr bad) never = (let here : unwrap_or (old.ends.at s) p ≡ p = ap (λ (o : Option ℕ). unwrap_or o p) none in cc (notes.ends bad, here))
 
 -- ---- the pair that is given back
 -- from its start on a replay has proven each section, and before it each was

@@ -9,9 +9,10 @@ use Rattle.section_manager.specs.managing.Managed as manager
 use Rattle.segments.specs.FixedWalking.{walk_of}
 use Rattle.meta_store.specs.Store as store
 use Rattle.paired.specs.declared.oversized.opening.Config.{Config}
+use Rattle.paired.specs.declared.oversized.replaying.Limits as declared
 use Rattle.paired.specs.declared.oversized.replaying.Replay.{Replay}
 use Rattle.paired.specs.Kept.{Layout}
-use Rattle.paired.specs.Replaying.{Run}
+use Rattle.paired.specs.Replaying.{Limits, Run}
 use Rattle.paired.specs.sighted.Shown.{marker_format}
 
 -- records of this size, which name places so, under this seal
@@ -27,6 +28,10 @@ layout_for place size sealing cfg metadata = record {
   place = place;
   markers = marker_format sealing;
 }
+
+-- how far an opening keeps the sections
+abbrev pub limits_of : declared.Limits → Limits
+limits_of l = record { at = tree.get nat_cmp l.at; values = tree.get nat_cmp l.values }
 
 abbrev pub run_of : {I V S C : Type 0} {fixed codec seal : _} → (List ℕ → ℕ × ℕ) → Replay I V S C fixed codec seal → Run (AppendFactory S) (PageBlob S seal)
 run_of {fixed = f} {seal = s} place r = record {
@@ -46,7 +51,7 @@ run_of {fixed = f} {seal = s} place r = record {
   store = store.shown r.tracking.metadata;
   trailing = tree.get nat_cmp r.tracking.trailing;
   tracked = r.is_tracked;
-  ends = tree.get nat_cmp r.ends;
+  ends = limits_of r.ends;
   ended_section = r.ended_section;
   failed = r.has_failed;
 }

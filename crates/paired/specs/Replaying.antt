@@ -1,5 +1,5 @@
 -- What a replay of a pair shows, when it may be used, and which records it still has to give.
-use Rattle.std.specs.Prelude.{◌≡◌, ◌≢◌, ◌⊎◌, ◌↔◌, ℕ, ◌+◌, ◌-◌, ◌*◌, ◌^◌, ◌<◌, ◌≤◌, cond, Bool, true, false, List, [], length, map, get_or, IsTrue, Option, None, Some, unwrap_or}
+use Rattle.std.specs.Prelude.{◌≡◌, ◌≢◌, ◌⊎◌, ◌↔◌, ℕ, ◌+◌, ◌-◌, ◌*◌, ◌^◌, ◌<◌, ◌≤◌, cond, min, Bool, true, false, List, [], length, map, take, get_or, IsTrue, Option, None, Some, unwrap_or}
 use Rattle.blob_device.specs.Disk.{Disk}
 use Rattle.blob_device.specs.Opened.{OpenedList}
 use Rattle.sealed_pages.specs.declared.page_blob.PageBlob.{PageBlob}
@@ -23,9 +23,35 @@ use Rattle.paired.specs.Places.{last_end}
 use Rattle.paired.specs.OpeningRefusing.{place_end}
 use Rattle.paired.specs.Records.{Entry, records, is_sound, front, entry_of}
 
--- How the pair is stored, the walk over its records, its values, its markers, and the length at the last completed sync or opening of each
--- section whose marker is another number. Whether it is the walk of an opening by markers; of each section in which that met a value that
--- fails, the position of its record; the last section that ended since its value could not be checked; and whether the replay gave an error.
+-- How far an opening keeps the sections that it has gone over: of each in which a value failed, the
+-- position of its record; and of each of which a record is kept, where the last one's value ends, as far
+-- as a u64 counts.
+pub record Limits : Type 0 where
+  pub at : ℕ → Option ℕ
+  pub values : ℕ → Option ℕ
+
+-- where a value ends, as far as a u64 counts
+abbrev pub counted_end : ℕ × ℕ → ℕ
+counted_end place = min (place.0 + place.1) (2 ^ 64 - 1)
+
+-- What is noted of a record of section s at p, whose value ends there: that it is kept, or else that
+-- the section ends at it.
+pub record NotesRecord (old new : Limits) (s p end : ℕ) (kept : Bool) : Type 0 where
+  -- of a record that is kept, where its value ends,
+  pub value : kept ≡ true → new.values s ≡ Some end
+  -- and no section ends
+  pub goes_on : kept ≡ true → (t : ℕ) → new.at t ≡ old.at t
+  -- else the section ends at the record
+  pub ends : kept ≡ false → new.at s ≡ Some p
+  -- nothing of another section is noted,
+  pub others : (t : ℕ) → t ≢ s → new.at t ≡ old.at t
+  -- and no value of one that ends
+  pub other_values : (t : ℕ) → (t ≢ s) ⊎ (kept ≡ false) → new.values t ≡ old.values t
+
+-- How the pair is stored, the walk over its records, its values, its markers, and the length at the last
+-- completed sync or opening of each section whose marker is another number. Whether it is the walk of an
+-- opening by markers; how far that keeps the sections that it has gone over; the last section that ended
+-- since its value could not be checked; and whether the replay gave an error.
 pub record Run (F B : Type 0) : Type 1 where
   pub layout : Layout
   pub walk : Walk F B
@@ -33,7 +59,7 @@ pub record Run (F B : Type 0) : Type 1 where
   pub store : Store Key8 ℕ
   pub trailing : ℕ → Option ℕ
   pub tracked : Bool
-  pub ends : ℕ → Option ℕ
+  pub ends : Limits
   pub ended_section : Option ℕ
   pub failed : Bool
 
@@ -98,12 +124,25 @@ module _ {F S : Type 0} {gs : _} (run : Run F (PageBlob S gs)) where
       pub fails : is_sound_over s (get_or (records_over s) p []) ≡ false
       pub good : (q : ℕ) → q < p → IsGood s q
 
-    -- Of a section that no error ended: each record that is not left, and not behind one whose value fails, is good; and the end is that record.
-    -- What is left of a section stands behind its end. A section is ended only by an error, and none before it is left.
+    -- of a section's records that are given the first n have been given, and the others are left
+    pub record HasGiven (s n : ℕ) : Type 0 where
+      pub within : n ≤ length (records_given s)
+      pub past : (q : ℕ) → q < n → IsLeft run.layout.seal run.layout.record_size run.walk d s q → ⊥
+      pub left : (q : ℕ) → n ≤ q → q < length (records_given s)
+          → IsLeft run.layout.seal run.layout.record_size run.walk d s q
+
+    -- Of a section that no error ended: each record that is not left, and not behind one whose value fails,
+    -- is good; and the end is that record. What is left of a section stands behind its end. A section is
+    -- ended only by an error, and none before it is left. Without an error it is known where the value of
+    -- the last record ends that was given of a section.
     pub record IsChecked : Type 0 where
-      pub good : (s p : ℕ) → IsUnbroken s → p < length (records_over s) → run.ends s ≡ None → IsGood s p ⊎ IsLeft run.layout.seal run.layout.record_size run.walk d s p
-      pub ends : (s p : ℕ) → IsUnbroken s → run.ends s ≡ Some p → IsEnd s p
-      pub behind : (s p q : ℕ) → run.ends s ≡ Some p → IsLeft run.layout.seal run.layout.record_size run.walk d s q → p < q
+      pub good : (s p : ℕ) → IsUnbroken s → p < length (records_over s) → run.ends.at s ≡ None
+          → IsGood s p ⊎ IsLeft run.layout.seal run.layout.record_size run.walk d s p
+      pub ends : (s p : ℕ) → IsUnbroken s → run.ends.at s ≡ Some p → IsEnd s p
+      pub values : (HasFailed run → ⊥) → (s n : ℕ) → HasGiven s n → unwrap_or (run.ends.values s) 0
+          ≡ min (last_end run.layout.place (take n (records_given s))) (2 ^ 64 - 1)
+      pub behind : (s p q : ℕ) → run.ends.at s ≡ Some p
+          → IsLeft run.layout.seal run.layout.record_size run.walk d s q → p < q
       pub broken : (s : ℕ) → run.ended_section ≡ Some s → HasFailed run
       pub passed : (s t p : ℕ) → run.ended_section ≡ Some s → IsLeft run.layout.seal run.layout.record_size run.walk d t p → s ≤ t
 
@@ -129,7 +168,7 @@ module _ {F S : Type 0} {gs : _} (run : Run F (PageBlob S gs)) where
     pub floors : (s : ℕ) → run.walk.journal.floor_of s ≡ marker s * run.layout.record_size
     pub reached : run.walk.failed ≡ false → (s : ℕ) → run.walk.journal.floor_of s ≤ section_size run.walk.journal.sections s
     pub unowed : (s : ℕ) → run.walk.journal.unrecovered s ≡ false → section_size run.walk.journal.sections s ≤ run.walk.journal.floor_of s
-    pub ends_from : (s p : ℕ) → run.ends s ≡ Some p → (s < 2 ^ 64) × (marker s ≤ p)
+    pub ends_from : (s p : ℕ) → run.ends.at s ≡ Some p → (s < 2 ^ 64) × (marker s ≤ p)
     pub marked : run.walk.failed ≡ false → (s m : ℕ) → IsMarked run.store.entries s m → IsHeld run.walk.journal.sections s
     pub index_settled : (s : ℕ) (u : PageBlob S gs) → run.walk.journal.sections.held s ≡ Some u → g.unsettled u ≡ false
     pub values_settled : (s : ℕ) → IsHeld run.values s → glob.IsAllSettled run.values s
@@ -143,7 +182,7 @@ module _ {F S : Type 0} {gs : _} (run : Run F (PageBlob S gs)) where
     pub settled : HasLostNone run → HasSettled (pair_of run)
     pub known : run.walk.failed ≡ false → HasLostNone run
     pub proven : (s : ℕ) → IsProven run.walk.journal s
-    pub ends : (s : ℕ) → run.ends s ≡ None
+    pub ends : (s : ℕ) → run.ends.at s ≡ None
     pub goes_on : run.ended_section ≡ None
 
   -- The replay may be used: the walk and the values are those of their partitions, and the markers are synced.
@@ -206,12 +245,18 @@ pub record IsAllKept {F S : Type 0} {gs : _} (run : Run F (PageBlob S gs)) (d : 
 
 -- A record of section s at p, whose value is at this place, is sorted: it is kept where Kept. In an opening, that is where the section has not
 -- ended, by an error or at an earlier record, and it stands below the marker or its value is sound; else the section ends there, at the latest.
+-- Where it is kept in an opening, its value is the last one that is kept of the section.
 pub record Sorts {F S : Type 0} {gs : _} (old new : Run F (PageBlob S gs)) (d : Disk) (s p : ℕ) (location : ℕ × ℕ) (Kept : Type 0) : Type 0 where
-  pub kept : Kept ↔ ((old.tracked ≡ false) ⊎ ((old.ended_section ≢ Some s) × (old.ends s ≡ None) × ((p < marker old s) ⊎ IsTrue (is_sound old.layout.seal (glob.section_bytes old.values d s) location))))
-  pub goes_on : Kept → (t : ℕ) → new.ends t ≡ old.ends t
-  pub ends : (Kept → ⊥) → old.ended_section ≢ Some s → new.ends s ≡ Some (unwrap_or (old.ends s) p)
-  pub ended : old.ended_section ≡ Some s → new.ends s ≡ old.ends s
-  pub others : (t : ℕ) → t ≢ s → new.ends t ≡ old.ends t
+  pub kept : Kept ↔ ((old.tracked ≡ false)
+      ⊎ ((old.ended_section ≢ Some s) × (old.ends.at s ≡ None) × ((p < marker old s)
+      ⊎ IsTrue (is_sound old.layout.seal (glob.section_bytes old.values d s) location))))
+  pub goes_on : Kept → (t : ℕ) → new.ends.at t ≡ old.ends.at t
+  pub ends : (Kept → ⊥) → old.ended_section ≢ Some s
+      → new.ends.at s ≡ Some (unwrap_or (old.ends.at s) p)
+  pub ended : old.ended_section ≡ Some s → new.ends.at s ≡ old.ends.at s
+  pub others : (t : ℕ) → t ≢ s → new.ends.at t ≡ old.ends.at t
+  pub value : Kept → old.tracked ≡ true → new.ends.values s ≡ Some (counted_end location)
+  pub other_values : (t : ℕ) → (t ≢ s) ⊎ (Kept → ⊥) → new.ends.values t ≡ old.ends.values t
 
 -- the same replay, over the same sections, with the same markers and values
 pub record SameRun {F B : Type 0} (old new : Run F B) : Type 0 where

@@ -14,8 +14,8 @@ use Rattle.blob_device.proofs.Moments.{always_now, always_weaker, only_start, on
 use Rattle.sealed_pages.specs.Reading.{Unchanged}
 use Rattle.sealed_pages.specs.Unrecovered.{HasFront, FrontOf, SparesFront}
 use Rattle.sealed_pages.specs.View.{View, view, page_at}
-use Rattle.sealed_pages.proofs.PageCalls.{only_then, only_weaker}
-use Rattle.sealed_pages.proofs.Repairing.{page_order}
+use Rattle.sealed_pages.proofs.slots.PageCalls.{only_then, only_weaker}
+use Rattle.sealed_pages.proofs.adopted.Repairing.{page_order}
 
 -- what each of a change's outcomes keeps, a call keeps at each moment
 pub kept_on : {T : Type 0} (Q : Blob → Type 0) (key : Key) (from : Disk) (a b c : Timeline) (change : Change) (result : Result T DevError) → Always a b (OnlyAt key from Q) → Passes key change result b c

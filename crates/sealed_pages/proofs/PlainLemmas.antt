@@ -1,17 +1,30 @@
 -- The plain reading of pages, page by page.
-use Rattle.std.proofs.Common.{◌≡◌, ◌≢◌, inl, inr, ℕ, suc, ◌+◌, ◌-◌, ◌*◌, ◌<◌, ◌≤◌, eqb, Bool, cond, List, [], ◌∷◌, ◌++◌, get_or, length, take, drop, refl, sym, ◌∙◌, ap, arith, append_assoc, length-take, length-drop}
+use Rattle.std.proofs.Common.{◌≡◌, ◌≢◌, inl, inr, ℕ, suc, ◌+◌, ◌-◌, ◌*◌, ◌^◌, ◌<◌, ◌≤◌, eqb, Bool, cond, List, [], ◌∷◌, ◌++◌, get_or, length, take, drop, refl, sym, ◌∙◌, ap, arith, append_assoc, length-take, length-drop}
 use Rattle.std.proofs.lemmas.Bool.{cases_lt, eq-eqb, ne_eqb}
 use Rattle.std.proofs.lemmas.List.{append-nil, get_or-take, get_or-drop, ext_get_or}
 use Rattle.std.specs.Int.{w16, w32, from_be_bytes}
 use Rattle.sealed_pages.specs.SealedPrefix.{pages_in, sealed_from, sealed_prefix}
-use Rattle.sealed_pages.specs.Slots.{page_length, named_length, named_seal}
-use Rattle.sealed_pages.specs.View.{view, bytes_at, page_at}
-use Rattle.sealed_pages.proofs.Looking.{two_at, four_at, page_below, page_length_is, page_reaches}
-use Rattle.sealed_pages.proofs.SlotLemmas.{slot_length-le, length-bytes_at, get_or-bytes_at}
+use Rattle.sealed_pages.specs.Slots.{page_length, named_length, named_seal, computed_seal}
+use Rattle.sealed_pages.specs.View.{view, bytes_at, page_at, slot_at}
+use Rattle.sealed_pages.proofs.looking.Looking.{two_at, four_at, page_below, page_length_is, page_reaches}
+use Rattle.sealed_pages.proofs.slots.SlotLemmas.{slot_length-le, length-bytes_at, get_or-bytes_at}
 
 pub page_place : (P k : ℕ) → k * (P + 12) ≡ page_at P k
 unfolding page_at
 page_place P k = refl
+
+-- so it is as the code counts it
+pub page_begins : (P size k : ℕ) → size ≡ P → k * (size + 12) ≡ page_at P k
+page_begins P size k is = ap (λ (n : ℕ). k * (n + 12)) is ∙ page_place P k
+
+pub slot_begins : (P size k within : ℕ) (second : Bool) → size ≡ P → within ≡ P + cond second 6 0 → k * (size + 12) + within ≡ slot_at P k second
+slot_begins P size k within second is slot = omega (arith, page_begins P size k is, slot)
+
+pub cut_off : (a b : ℕ) → a + b - a ≡ b
+cut_off a b = omega arith
+
+pub taken : (c : List ℕ) (start len : ℕ) → take (start + len - start) (drop start c) ≡ take len (drop start c)
+taken c start len = ap (λ (n : ℕ). take n (drop start c)) (cut_off start len)
 
 -- bytes that stand in the content
 pub bytes_at-take : (c : List ℕ) (at n : ℕ) → at + n ≤ length c → bytes_at (view c) at n ≡ take n (drop at c)
@@ -87,3 +100,30 @@ length_spelled c at = ap (from_be_bytes w16) (two_at c at) ∙ spelled_two (get_
 
 pub seal_spelled : (c : List ℕ) (at : ℕ) → named_seal (view c) at ≡ (get_or c (at + 2) 0 * 256 + get_or c (at + 3) 0) * 65536 + (get_or c (at + 4) 0 * 256 + get_or c (at + 5) 0)
 seal_spelled c at = ap (from_be_bytes w32) (four_at c at) ∙ spelled_four (get_or c (at + 2) 0) (get_or c (at + 3) 0) (get_or c (at + 4) 0) (get_or c (at + 5) 0)
+
+-- A slot whose numbers are spelled out: it stands whole in its page, names the length n and the seal y, and its bytes make the seal x.
+pub record Spelled (seal : List ℕ → ℕ) (P : ℕ) (c : List ℕ) (k : ℕ) (second : Bool) (n x y : ℕ) : Type 0 where
+  pub stands : slot_at P k second + 6 ≤ length c
+  pub places : page_at P k + (P + 12) < 2 ^ 64
+  pub short : named_length (view c) (slot_at P k second) ≤ P
+  pub named : named_length (view c) (slot_at P k second) ≡ n
+  pub made : computed_seal seal P (view c) (page_at P k) (slot_at P k second) (named_length (view c) (slot_at P k second)) ≡ x
+  pub told : named_seal (view c) (slot_at P k second) ≡ y
+
+-- what the bytes at a slot's place name, and make: its page begins at `start`
+module _ (P : ℕ) (c : List ℕ) (k : ℕ) (second : Bool) (at : ℕ) (at_is : at ≡ slot_at P k second) where
+  pub length_named : (a b : ℕ) → a ≡ get_or c at 0 → b ≡ get_or c (at + 1) 0 → named_length (view c) (slot_at P k second) ≡ a * 256 + b
+  length_named a b first next = ap (named_length (view c)) (sym at_is) ∙ length_spelled c at ∙ sym (λ j. first j * 256 + next j)
+
+  pub seal_named : (a b d e : ℕ) → a ≡ get_or c (at + 2) 0 → b ≡ get_or c (at + 3) 0 → d ≡ get_or c (at + 4) 0 → e ≡ get_or c (at + 5) 0
+      → named_seal (view c) (slot_at P k second) ≡ (a * 256 + b) * 65536 + (d * 256 + e)
+  seal_named a b d e one two three four = ap (named_seal (view c)) (sym at_is) ∙ seal_spelled c at ∙ sym (λ j. (one j * 256 + two j) * 65536 + (three j * 256 + four j))
+
+  pub seal_made : (seal : List ℕ → ℕ) (start len made : ℕ) → start ≡ page_at P k → named_length (view c) (slot_at P k second) ≡ len → slot_at P k second + 6 ≤ length c → page_at P k + len ≤ length c
+      → made ≡ seal (take (at + 2 - at) (drop at c) ++ take (start + len - start) (drop start c))
+      → computed_seal seal P (view c) (page_at P k) (slot_at P k second) (named_length (view c) (slot_at P k second)) ≡ made
+  seal_made seal start len made start_is named stands fits is =
+      let first : bytes_at (view c) (slot_at P k second) 2 ≡ take (at + 2 - at) (drop at c) = bytes_at-take c (slot_at P k second) 2 (omega (arith, stands)) ∙ (λ j. take (sym (cut_off at 2) j) (drop (sym at_is j) c)) in
+      let covered : bytes_at (view c) (page_at P k) (named_length (view c) (slot_at P k second)) ≡ take (start + len - start) (drop start c)
+      = ap (bytes_at (view c) (page_at P k)) named ∙ bytes_at-take c (page_at P k) len fits ∙ (λ j. take (sym (cut_off start len) j) (drop (sym start_is j) c)) in
+      (λ j. seal (first j ++ covered j)) ∙ sym is

@@ -5,10 +5,10 @@ use Rattle.blob_device.specs.declared.error.DevError.{DevError}
 use Rattle.blob_device.specs.Timeline.{Timeline, disk, Passes}
 use Rattle.blob_device.specs.Change.{Settle}
 use Rattle.blob_device.specs.Disk.{Key}
-use Rattle.sealed_pages.proofs.Adopting.{end_page, adopted_kept}
-use Rattle.sealed_pages.proofs.Keeping.{settle_any}
-use Rattle.sealed_pages.proofs.Holding.{bytes_is, bytes_length, bool_or, data_less}
-use Rattle.sealed_pages.proofs.PageCalls.{only_then, synced_any, synced_ok, data_more}
+use Rattle.sealed_pages.proofs.adopted.Adopting.{end_page, adopted_kept}
+use Rattle.sealed_pages.proofs.adopted.Keeping.{settle_any}
+use Rattle.sealed_pages.proofs.memory.Holding.{bytes_is, bytes_length, bool_or, data_less}
+use Rattle.sealed_pages.proofs.slots.PageCalls.{only_then, synced_any, synced_ok, data_more}
 use Rattle.sealed_pages.specs.Buffer.{Buffer, key_of, size_of, flushed_of, bytes_of, Holds, HasFlushed}
 use Rattle.sealed_pages.specs.ChanceSeal.{Leaves, Sealing}
 use Rattle.sealed_pages.specs.Flushing.{last_slot, Data, Ready}

@@ -21,22 +21,22 @@ use Rattle.sealed_pages.specs.SealedPrefix.{pages_in, sealed_from, sealed_prefix
 use Rattle.sealed_pages.specs.Slots.{slot_length, page_length, best_slot}
 use Rattle.sealed_pages.specs.Unrecovered.{HasFront, FrontOf, SparesFront, HasPrefix, KeepsPrefix, IsUnrecovered, IsAdopted}
 use Rattle.sealed_pages.specs.View.{view, bytes_at, page_at, slot_at}
-use Rattle.sealed_pages.proofs.Adopt.{best_length, length-data_from, get_or-data_from}
-use Rattle.sealed_pages.proofs.Adopting.{pages_none, pages_some}
+use Rattle.sealed_pages.proofs.adopted.Adopt.{best_length, length-data_from, get_or-data_from}
+use Rattle.sealed_pages.proofs.adopted.Adopting.{pages_none, pages_some}
 use Rattle.sealed_pages.proofs.cutting.Calls.{sealing_then}
 use Rattle.sealed_pages.proofs.cutting.Steps.{settled_rest}
-use Rattle.sealed_pages.proofs.Cuts.{below_start}
+use Rattle.sealed_pages.proofs.cutting.Cuts.{below_start}
 use Rattle.sealed_pages.proofs.HadLemmas.{had_settled, had_rest}
 use Rattle.sealed_pages.proofs.Syncing.{backed_more}
-use Rattle.sealed_pages.proofs.Truncating.{prefix_covers}
+use Rattle.sealed_pages.proofs.cutting.Truncating.{prefix_covers}
 use Rattle.sealed_pages.proofs.Fronts.{front_start, front_settle, front_look, front_now}
-use Rattle.sealed_pages.proofs.PageCalls.{only_then, only_weaker}
+use Rattle.sealed_pages.proofs.slots.PageCalls.{only_then, only_weaker}
 use Rattle.sealed_pages.proofs.Reaching.{prefix_sound, prefix_size, own_prefix}
-use Rattle.sealed_pages.proofs.Holding.{holds_data}
-use Rattle.sealed_pages.proofs.Repairing.{page_order}
-use Rattle.sealed_pages.proofs.SealedBytes.{rest, sealed_step, rest_is, page_length-le, covers_length}
-use Rattle.sealed_pages.proofs.SlotLemmas.{times_next, times_more, page_next, bytes_at-same, slot_same, slot_stands}
-use Rattle.sealed_pages.proofs.Steps.{slot_low, slot_high}
+use Rattle.sealed_pages.proofs.memory.Holding.{holds_data}
+use Rattle.sealed_pages.proofs.adopted.Repairing.{page_order}
+use Rattle.sealed_pages.proofs.slots.SealedBytes.{rest, sealed_step, rest_is, page_length-le, covers_length}
+use Rattle.sealed_pages.proofs.slots.SlotLemmas.{times_next, times_more, page_next, bytes_at-same, slot_same, slot_stands}
+use Rattle.sealed_pages.proofs.slots.Steps.{slot_low, slot_high}
 
 module _ (seal : List ℕ → ℕ) (P : ℕ) where
   -- two contents with the same bytes up to the end of a page

@@ -1,3 +1,10 @@
 pub mod Calls
+pub mod Cuts
 pub mod Entries
+pub mod Heads
+pub mod Inside
+pub mod Settled
+pub mod Shortening
 pub mod Steps
+pub mod TruncateEnds
+pub mod Truncating

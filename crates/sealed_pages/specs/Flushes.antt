@@ -39,7 +39,7 @@ module _ {D : Type 0} (dev : device.Ghosts D) (seal : List ℕ → ℕ) (u : Buf
     -- and it holds them then
     pub done : dev.Tells → (all : List ℕ) → Holds seal u all before
         → IfOk result (λ r. Holds seal (see r) all after)
-    -- no other blob changes, and no flushed byte
+    -- no other blob changes, and then the flushed bytes stand
     pub wrote : dev.Tells → (all : List ℕ)
         → Data u.page_size all (flushed_of u) (view before.content)
         → Wrote u.page_size all (flushed_of u) (key_of u) result early late

@@ -2,6 +2,7 @@
 -- prefix of the bytes that holds all that was synced (`Buffer`, `ChanceSeal`, `SealedPrefix`). `WriteBlob` seals nothing, and every
 -- crash leaves what was synced and not written since (`Writing`, `Sparing`). Both stand on one blob each, and touch no other.
 pub mod View
+pub mod SlotNames
 pub mod Slots
 pub mod Cached
 pub mod SealedPrefix
@@ -32,3 +33,8 @@ pub mod Flushes
 pub mod Writes
 pub mod PageReads
 pub mod Replays
+pub mod Cuts
+pub mod Removals
+pub mod PageWrites
+pub mod BlobReads
+pub mod CutsTo

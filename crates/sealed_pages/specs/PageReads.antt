@@ -74,7 +74,7 @@ module _ {D : Type 0} (dev : device.Ghosts D) (seal : List ℕ → ℕ) (u : Buf
         → IfOk result (λ n. n ≡ whole_prefix)
     -- no blob changes
     pub unchanged : dev.Tells → Unchanged (dev.time old) (dev.time new)
-    -- each page from that one on is read at most once
+    -- no more reads began than pages from that one on begin in the blob or at its end
     pub reads : ReadsAtMost (u.end / (u.page_size + 12) + 1 - m / u.page_size) (key_of u)
         (dev.opened old) (dev.opened new)
     -- faults never fall
@@ -82,14 +82,15 @@ module _ {D : Type 0} (dev : device.Ghosts D) (seal : List ℕ → ℕ) (u : Buf
     -- no error comes but by memory or the device
     pub cause : OnErr result (FailsBelow dev result old new)
 
-  -- So it is, up to byte `most`.
+  -- The same, but no further than byte `most`.
   pub record SeeksAtMost (m most : ℕ) (result : Result ℕ RError) : Type 0 where
     -- it is the lesser of the two
     pub length : dev.Tells → IfOk result
         (λ n. n ≡ min most (proven_prefix seal u.page_size here.content (m / u.page_size)))
     -- no blob changes
     pub unchanged : dev.Tells → Unchanged (dev.time old) (dev.time new)
-    -- each page of the blob from that one on that begins below `most` is read at most once
+    -- no more reads began than pages from that one on begin in the blob or at its end, and below
+    -- `most`
     pub reads : ReadsAtMost (min (u.end / (u.page_size + 12) + 1) (pages_for u.page_size most)
         - m / u.page_size) (key_of u)
         (dev.opened old) (dev.opened new)
@@ -124,17 +125,17 @@ module _ {D : Type 0} (dev : device.Ghosts D) (seal : List ℕ → ℕ) (P : ℕ
       pub within : dev.Tells → OnOk result (m + length room ≤ adopted_size seal P content)
       -- and covered by matching slots
       pub checked : dev.Tells → OnOk result (IsCovered seal P content m (length room))
-      -- a page is refused that no matching slot covers as far as the read needs it
+      -- a page is refused only where no matching slot covers it as far as the read needs it
       pub checksum : dev.Tells → (p : ℕ) → IsErrOf result (InvalidChecksum p)
           → IsShort seal P content m (length room) p
       -- exactly a range that passes 2^64 is refused for that,
       pub overflow : IsErrOf result OffsetOverflow ↔ (2 ^ 64 ≤ m + length room)
       -- with no call of the device
       pub refused : 2 ^ 64 ≤ m + length room → new ≡ old
-      -- a range that passes the size is refused as too long,
+      -- only a range that passes the size is refused as too long,
       pub short : dev.Tells → IsErrOf result BlobInsufficientLength
           → PassesSize seal P content m (length room)
-      -- unless the size could not be learned
+      -- and such a one always is, unless memory or the device fails
       pub past : dev.Tells → PassesSize seal P content m (length room)
           → (result ≡ Err BlobInsufficientLength) ⊎ FailsBelow dev result old new
       -- the blob settles as it read, and no other changes
@@ -144,8 +145,8 @@ module _ {D : Type 0} (dev : device.Ghosts D) (seal : List ℕ → ℕ) (P : ℕ
       -- faults never fall
       pub faults : dev.faults old ≤ dev.faults new
       -- no other error comes than by a wanted page, memory or the device
-      pub cause : OnErr result ((result ≡ Err OffsetOverflow) ⊎ ((result ≡ Err BlobInsufficientLength)
-          ⊎ (((p : ℕ) × (result ≡ Err (InvalidChecksum p)) × IsWanted P m (length room) p)
+      pub cause : OnErr result ((result ≡ Err OffsetOverflow)
+          ⊎ ((result ≡ Err BlobInsufficientLength) ⊎ (((p : ℕ) × (result ≡ Err (InvalidChecksum p)) × IsWanted P m (length room) p)
           ⊎ FailsBelow dev result old new)))
       -- it is as long as before
       pub length : dev.Tells → (n : ℕ) → IsOpenAt (dev.opened old) blob n
@@ -163,13 +164,13 @@ module _ {D : Type 0} (dev : device.Ghosts D) (seal : List ℕ → ℕ) (P : ℕ
       -- and covered by matching slots
       pub checked : dev.Tells
           → IfOk result (λ n. IsCovered seal P content (n - length room) (length room))
-      -- a page is refused that no matching slot covers as far as the read needs it
+      -- a page is refused only where no matching slot covers it as far as the read needs it
       pub checksum : dev.Tells → (p : ℕ) → IsErrOf result (InvalidChecksum p)
           → IsTailShort seal P content (length room) p
-      -- more bytes than the size are refused as too many,
+      -- only more bytes than the size are refused as too many,
       pub short : dev.Tells → IsErrOf result BlobInsufficientLength
           → adopted_size seal P content < length room
-      -- unless the size could not be learned
+      -- and they always are, unless memory or the device fails
       pub past : dev.Tells → adopted_size seal P content < length room
           → (result ≡ Err BlobInsufficientLength) ⊎ FailsBelow dev result old new
       -- the blob settles as it read, and no other changes

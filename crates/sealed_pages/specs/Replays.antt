@@ -1,20 +1,20 @@
 -- What beginning a reader over a sealed blob promises, and reading on.
-use Rattle.std.specs.Prelude.{◌≡◌, ◌⊎◌, ◌↔◌, ◌+◌, ◌<◌, ◌≤◌, length, ℕ, List, Bool, true, false, Result, Ok, Err, IfOk, OnOk, OnErr}
+use Rattle.std.specs.Prelude.{◌≡◌, ◌⊎◌, ◌↔◌, ◌+◌, ◌-◌, ◌/◌, ◌<◌, ◌≤◌, length, ℕ, List, Bool, true, false, Result, Ok, Err, IfOk, OnOk, OnErr}
 use Rattle.std.specs.Result.{IsErrOf}
-use Rattle.blob_device.specs.Disk.{Blob}
+use Rattle.blob_device.specs.Disk.{Key, Blob}
 use Rattle.blob_device.specs.Timeline.{Timeline, disk}
 use Rattle.blob_device.specs.declared.device.Device as device
 use Rattle.blob_device.specs.declared.runtime.RError.{RError}
-use Rattle.blob_device.specs.declared.runtime.RError.TheVariants.{InvalidChecksum}
+use Rattle.blob_device.specs.declared.runtime.RError.TheVariants.{InvalidChecksum, Mem}
 use Rattle.sealed_pages.specs.Buffer.{Buffer, key_of, size_of, flushed_of, bytes_of, AddsPages, IsBacked, IsSealed}
 use Rattle.sealed_pages.specs.Calls.{FailsBelow}
 use Rattle.sealed_pages.specs.ChanceSeal.{Sealing}
 use Rattle.sealed_pages.specs.Entries.{IsOpenAt, NoReads, ReadsAtMost}
 use Rattle.sealed_pages.specs.Flushing.{Alone}
 use Rattle.sealed_pages.specs.Leftover.{IsKnown}
-use Rattle.sealed_pages.specs.Readers.{Reader, next_of, missing_of, IsReplayOf, ReadsUnread, SameReader}
+use Rattle.sealed_pages.specs.Readers.{Reader, next_of, missing_of, IsTipOf, IsReplayOf, ReadsUnread, SameReader}
 use Rattle.sealed_pages.specs.Reading.{Unchanged}
-use Rattle.sealed_pages.specs.Reads.{IsWanted, IsCovered, IsShort, touched}
+use Rattle.sealed_pages.specs.Reads.{IsWanted, IsCovered, IsShort, touched, EndsAtOrPast}
 use Rattle.sealed_pages.specs.SealedPrefix.{data_from}
 use Rattle.sealed_pages.specs.Unrecovered.{blob_of, prefix_of, KeepsPrefix, IsUnrecovered}
 use Rattle.sealed_pages.specs.View.{view}
@@ -149,3 +149,51 @@ module _ {D : Type 0} (dev : device.Ghosts D) (seal : List ℕ → ℕ) (u v : R
     -- no other error comes than by a wanted page, memory or the device
     pub cause : OnErr result (((p : ℕ) × (result ≡ Err (InvalidChecksum p))
         × IsWanted u.page_size (next_of u) (missing_of u n) p) ⊎ FailsBelow dev result old new)
+
+  -- The bytes of the next page are added, up to the blob's last. Byte `goal` is the one to reach.
+  pub record Fetches {T : Type 0} (goal : ℕ) (result : Result T RError) : Type 0 where
+    -- the blob and the position stay
+    pub same : SameReader u v
+    -- what is at hand is what the blob has there, and a matching slot covers it
+    pub replays : dev.Tells → IsReplayOf seal content u → IsReplayOf seal content v
+    -- more is at hand,
+    pub grows : OnOk result (next_of u < next_of v)
+    -- on to the page's end, or within it to the goal;
+    pub reaches : OnOk result (EndsAtOrPast u.page_size (next_of u) goal (next_of v))
+    -- after an error no more and no less
+    pub stays : OnErr result (v.bytes ≡ u.bytes)
+    -- a page is refused that no matching slot covers as far as the goal needs it
+    pub short : dev.Tells → IsReplayOf seal content u → (p : ℕ)
+        → IsErrOf result (InvalidChecksum p)
+        → IsShort seal u.page_size content (next_of u) (goal - next_of u) p
+    -- a read takes a page that was not read
+    pub once : OnOk result (ReadsUnread u v (dev.opened old) (dev.opened new))
+    -- and so it is where a page is refused
+    pub judged : (p : ℕ) → IsErrOf result (InvalidChecksum p)
+        → ReadsUnread u v (dev.opened old) (dev.opened new)
+    -- no blob changes
+    pub unchanged : dev.Tells → Unchanged (dev.time old) (dev.time new)
+    -- at most one read began, and no other entry changed
+    pub entries : ReadsAtMost 1 u.key (dev.opened old) (dev.opened new)
+    -- faults never fall
+    pub faults : dev.faults old ≤ dev.faults new
+    -- no other error comes than by a wanted page, memory or the device
+    pub cause : OnErr result (((p : ℕ) × (result ≡ Err (InvalidChecksum p))
+        × IsWanted u.page_size (next_of u) (goal - next_of u) p) ⊎ FailsBelow dev result old new)
+
+-- A reader from the first byte of a blob begins, with the bytes of a last page that is not full.
+pub record Begins {Q : Type 0} (seal : List ℕ → ℕ) (reads : Q → Reader) (blob : Key) (P ends n : ℕ)
+    (last : List ℕ) (result : Result Q RError) : Type 0 where
+  -- it is over this blob, of pages so long,
+  pub key : IfOk result (λ r. (reads r).key ≡ blob)
+  pub page_size : IfOk result (λ r. (reads r).page_size ≡ P)
+  -- which ends there, and has n bytes
+  pub end : IfOk result (λ r. (reads r).end ≡ ends)
+  pub size : IfOk result (λ r. (reads r).size ≡ n)
+  -- it stands at the first of them
+  pub begin : IfOk result (λ r. (reads r).at ≡ 0)
+  -- it reads any content of which the last page is as given
+  pub replays : IfOk result (λ r. (content : List ℕ) → IsTipOf seal P content (n / P) last
+      → IsReplayOf seal content (reads r))
+  -- no error comes but by memory
+  pub cause : OnErr result (result ≡ Err Mem)

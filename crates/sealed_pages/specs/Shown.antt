@@ -3,6 +3,7 @@ use Rattle.std.specs.Prelude.{string_bytes}
 use Rattle.sealed_pages.specs.declared.page_blob.PageBlob.{PageBlob}
 use Rattle.sealed_pages.specs.Buffer.{Buffer}
 use Rattle.sealed_pages.specs.Cached.{held_in}
+use Rattle.sealed_pages.specs.SlotNames.{is_b}
 
 abbrev pub shown : {S : Type 0} {g : _} → PageBlob S g → Buffer
 shown p = record {
@@ -17,7 +18,7 @@ shown p = record {
   tip = p.tip.items;
   from = p.from;
   settled = p.settled;
-  newest = p.newest;
+  newest = is_b p.newest;
   behind = p.behind;
   torn = p.torn;
 }

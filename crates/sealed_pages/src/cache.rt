@@ -21,7 +21,7 @@ pub struct PageCache {
 }
 
 impl PageCache {
-    ghost use Rattle.sealed_pages.specs.Cached.{entries_of, held_in, full_pages, AreFull, AreWhole, AreCachedOf};
+    ghost use Rattle.sealed_pages.specs.Cached.{entries_of, held_in, full_pages, AreFull, AreWhole, AreCachedOf, PutsFull, IsAmong};
     ghost use Rattle.sealed_pages.specs.Reads.{IsWanted};
     ghost use Rattle.sealed_pages.specs.SealedPrefix.{place};
     ghost use Rattle.sealed_pages.specs.View.{view, page_at};
@@ -64,10 +64,11 @@ impl PageCache {
     /// Copies bytes of a page that is held, from its byte `skip` on.
     pub fn copy_part(&self, page_size: u16, page: u64, skip: usize, out: &mut [u8])
         requires whole { AreWhole page_size (held_in self.now) }
-        requires held { list_any (nat_eq page) (keys_of (held_in self.now)) ≡ true }
+        requires held { IsAmong page (held_in self.now) }
         requires part { skip + length out.old ≤ page_size }
         ensures { (seal : List ℕ → ℕ) (c : List ℕ) → AreCachedOf seal page_size c (held_in self.now)
-            → (i : ℕ) → i < length out.old → slice_index out.new i ≡ view c (page_at page_size page + (skip + i)) }
+            → (i : ℕ) → i < length out.old
+            → slice_index out.new i ≡ view c (page_at page_size page + (skip + i)) }
     {
         match self.page(page) {
             None => {}
@@ -80,7 +81,7 @@ impl PageCache {
 
     /// Whether all pages from `page` on are held, up to the page `upto`.
     pub fn has_all(&self, page: u64, upto: u64) -> bool
-        ensures { (result ≡ true) ↔ ((k : ℕ) → page ≤ k → k < upto → list_any (nat_eq k) (keys_of (held_in self.now)) ≡ true) }
+        ensures { (result ≡ true) ↔ ((k : ℕ) → page ≤ k → k < upto → IsAmong k (held_in self.now)) }
     {
         let mut at = page;
         'pages: while at < upto {
@@ -97,9 +98,11 @@ impl PageCache {
         requires some { 1 ≤ page_size }
         requires whole { AreWhole page_size (held_in self.now) }
         requires fits { offset + length out.old < 2 ^ 64 }
-        requires held { (k : ℕ) → IsWanted page_size offset (length out.old) k → list_any (nat_eq k) (keys_of (held_in self.now)) ≡ true }
+        requires held { (k : ℕ) → IsWanted page_size offset (length out.old) k
+            → IsAmong k (held_in self.now) }
         ensures { (seal : List ℕ → ℕ) (c : List ℕ) → AreCachedOf seal page_size c (held_in self.now)
-            → (i : ℕ) → i < length out.old → slice_index out.new i ≡ view c (place page_size (offset + i)) }
+            → (i : ℕ) → i < length out.old
+            → slice_index out.new i ≡ view c (place page_size (offset + i)) }
     {
         let size = usize::from(page_size);
         let mut page = offset / u64::from(page_size);
@@ -152,8 +155,8 @@ impl PageCache {
         }
     }
 
-    /// Puts the full pages with which these bytes begin, in their order. The first of them is page `first`.
-    pub fn put_full(
+    // Puts the full pages with which these bytes begin, in their order. The first of them is page `first`.
+    fn put_each(
         self,
         alloc: Global,
         page_size: u16,
@@ -163,8 +166,7 @@ impl PageCache {
         requires some { 1 ≤ page_size }
         requires before { AreFull page_size first (held_in self) }
         requires fits { first + length bytes.now / page_size < 2 ^ 64 }
-        ensures most { IfOk result (λ r. r.most ≡ self.most) }
-        ensures pages { IfOk result (λ r. held_in r ≡ take self.most (full_pages page_size first (length bytes.now / page_size) bytes.now ++ held_in self)) }
+        ensures { IfOk result (PutsFull page_size first bytes.now self) }
     {
         let size = usize::from(page_size);
         let full = bytes.len() / size;
@@ -176,5 +178,25 @@ impl PageCache {
             i += 1;
         }
         Ok(this)
+    }
+
+    /// Puts the full pages with which these bytes begin, in their order. The first of them is page `first`. No page is copied
+    /// that would go at once.
+    pub fn put_full(
+        self,
+        alloc: Global,
+        page_size: u16,
+        first: u64,
+        bytes: &[u8],
+    ) -> Result<PageCache, AllocError>
+        requires some { 1 ≤ page_size }
+        requires before { AreFull page_size first (held_in self) }
+        requires fits { first + length bytes.now / page_size < 2 ^ 64 }
+        ensures { IfOk result (PutsFull page_size first bytes.now self) }
+    {
+        let size = usize::from(page_size);
+        // The last ones stay: a long tip may have more pages than are held.
+        let skip = (bytes.len() / size).saturating_sub(self.most as usize);
+        self.put_each(alloc, page_size, first + skip as u64, &bytes[skip * size..])
     }
 }

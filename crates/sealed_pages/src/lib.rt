@@ -16,6 +16,7 @@
 mod cache;
 mod cut;
 mod flush;
+mod open_blob;
 mod page;
 mod page_blob;
 mod pages;
@@ -26,6 +27,7 @@ mod range;
 mod reading;
 mod repair;
 mod replay;
+mod slot;
 mod start;
 mod write_blob;
 

@@ -51,18 +51,13 @@
 // one call more. A read makes one call a page that is not held. A cut inside a page reads it, and makes up to
 // three changes, each with a sync. Adopting reads page by page from the last one back to one with a matching
 // slot.
-ghost use Rattle.std.specs.Prelude.{◌≡◌, ◌≢◌, ◌+◌, ◌*◌, ◌≤◌, ◌<◌, ◌^◌, ◌-◌, ◌++◌, ◌↔◌, ◌==◌, ◌||◌, ◌⊎◌, Err, [], not, length, drop, take, IfOk, IfSome, IsOkAnd, OnOk, OnErr, Bool, true, false, ℕ, List, IsTrue};
-ghost use Rattle.std.specs.Result.{IsErrOf};
-ghost use Rattle.blob_device.specs.declared.runtime.RError.TheVariants.{Fault, OffsetOverflow};
-ghost use Rattle.blob_device.specs.Timeline.{disk};
-ghost use Rattle.blob_device.specs.Counts.{Rose};
+ghost use Rattle.std.specs.Prelude.{◌≡◌, ◌+◌, ◌*◌, ◌≤◌, ◌<◌, ◌^◌, ◌-◌, ◌↔◌, ◌==◌, ◌||◌, Err, not, length, drop, true, false, IsTrue};
+ghost use Rattle.blob_device.specs.declared.runtime.RError.TheVariants.{OffsetOverflow};
 ghost use Rattle.sealed_pages.specs.View.{page_at};
-ghost use Rattle.sealed_pages.specs.ChanceSeal.{Leaves, Sealing};
-ghost use Rattle.sealed_pages.specs.Flushing.{Alone, last_slot};
-ghost use Rattle.sealed_pages.specs.Buffer.{Fit, Buffer, extent, key_of, size_of, bytes_of, flushed_of, FlushesNothing, AddsPages, FlushesInto, Holds, IsSealed};
-ghost use Rattle.sealed_pages.specs.Contents.{IsHad};
-ghost use Rattle.sealed_pages.specs.Entries.{IsOpenAt, NoReads};
-ghost use Rattle.sealed_pages.specs.Cutting.{IsAtRest, Settles};
+ghost use Rattle.sealed_pages.specs.Flushing.{last_slot};
+ghost use Rattle.sealed_pages.specs.Buffer.{Fit, extent, key_of, size_of, flushed_of};
+ghost use Rattle.sealed_pages.specs.Entries.{IsOpenAt};
+ghost use Rattle.sealed_pages.specs.SlotNames.{is_b, opened_key};
 ghost use Rattle.sealed_pages.specs.Cached.{held_in, AreFull};
 
 mod cutting;
@@ -70,10 +65,13 @@ mod reads;
 
 use crate::Pages;
 use crate::cache::PageCache;
-use crate::flush::{flush_pages, next_slot_of};
+use crate::flush::{Settled, flush_pages, next_slot_of};
+use crate::open_blob::OpenBlob;
+use crate::page::Tip;
 use crate::reading::find_last;
 use crate::repair::repair;
-use crate::start::start_of;
+use crate::slot::{SLOTS_LEN, Slot};
+use crate::start::{Start, start_of};
 use blob_device::{DevError, Device, RError};
 use std::alloc::Global;
 use std::marker::PhantomData;
@@ -81,9 +79,9 @@ use value_codec::Seal;
 
 /// A buffer over an opened blob whose pages carry two seals each.
 ///
-/// The tip is held in memory: the bytes of a last page that is not full, and all bytes that are not flushed.
-/// So are the full pages that were flushed last, at most `cache_pages` of them. A read fills nothing. A refused
-/// call gives the buffer up; the blob is then opened and adopted again.
+/// The tip is held in memory: the bytes of a last page that is not full, and all bytes that are not
+/// flushed. So are the full pages that were flushed last, at most `cache_pages` of them. A read fills
+/// nothing. A refused call gives the buffer up; the blob is then opened and adopted again.
 #[derive(Drop)]
 pub struct PageBlob<S: Seal> {
     /// Where memory for tips and pages comes from.
@@ -106,8 +104,8 @@ pub struct PageBlob<S: Seal> {
     from: usize,
     /// How many data bytes have settled, from the first on (`Ready.settled`, `Ready.order`).
     settled: u64,
-    /// The slot that covers the page in which they end: false for A, true for B (`Ready.last`).
-    newest: bool,
+    /// The slot that covers the page in which they end (`Ready.last`).
+    newest: Slot,
     /// Whether bytes stand behind the last page with a matching slot. The first flush cuts them
     /// (`Leftover.behind_is`).
     behind: bool,
@@ -147,25 +145,19 @@ fn fits(page_size: u16, size: u64, more: usize) -> bool
     let data = u128::from(page_size);
     let bytes = u128::from(size) + more as u128;
     let pages = (bytes + (data - 1)) / data;
-    pages * (data + 12) <= u128::from(u64::MAX)
+    pages * (data + SLOTS_LEN as u128) <= u128::from(u64::MAX)
 }
 
 /// The slot that covers the last page, if the end stands within it.
-fn last_slot_of(
-    page_size: u16,
-    page: u64,
-    from: usize,
-    end: u64,
-    settled: u64,
-    newest: bool,
-) -> bool
+fn last_slot_of(page_size: u16, page: u64, from: usize, end: u64, settled: Settled) -> Slot
     requires { 0 < from → page_at page_size page + (page_size + 12) < 2 ^ 64 }
-    ensures { 0 < from → result ≡ last_slot page_size end settled newest page }
+    ensures { 0 < from
+        → is_b result ≡ last_slot page_size end settled.len (is_b settled.slot) page }
 {
-    if from == 0 || end == settled {
-        return newest;
+    if from == 0 || end == settled.len {
+        return settled.slot;
     }
-    next_slot_of(page_size, page, settled, newest)
+    next_slot_of(page_size, page, settled)
 }
 
 impl<S: Seal> PageBlob<S> {
@@ -173,17 +165,9 @@ impl<S: Seal> PageBlob<S> {
     ghost use Rattle.sealed_pages.specs.Adopts.{Adopts};
     ghost use Rattle.sealed_pages.specs.Flushes.{Repairs, WritesTip, Flushes};
     ghost use Rattle.sealed_pages.specs.Writes.{Appends, Syncs};
-    ghost use Rattle.sealed_pages.specs.SealedPrefix.{sealed_prefix, adopted_size};
-    ghost use Rattle.sealed_pages.specs.Reading.{Unchanged, OnlyRead};
-    ghost use Rattle.sealed_pages.specs.View.{view, StandsAt};
-    ghost use Rattle.sealed_pages.specs.Buffer.{IsBacked, has_leftover};
-    ghost use Rattle.sealed_pages.specs.Tails.{LeavesTail};
-    ghost use Rattle.sealed_pages.specs.Flushing.{Data, Wrote, CoversFrom};
-    ghost use Rattle.blob_device.specs.Timeline.{Always, OnlyAt};
-    ghost use Rattle.sealed_pages.specs.Leftover.{Leftover, IsCleared, ClearsFirst, SettlesNothing};
-    ghost use Rattle.sealed_pages.specs.Unrecovered.{blob_of, prefix_of, SparesFront, KeepsPrefix, IsUnrecovered, IsAdopted};
 
-    /// Adopts an opened blob of this length. The size goes back to the last page with a matching slot. No page is held then.
+    /// Adopts an opened blob of this length. The size goes back to the last page with a matching slot.
+    /// No page is held then.
     pub fn adopt<D: Device>(
         alloc: Global,
         dev: &mut D,
@@ -195,12 +179,19 @@ impl<S: Seal> PageBlob<S> {
     ) -> Result<PageBlob<S>, RError>
         requires valid { 1 ≤ pages.page_size }
         requires open { IsOpenAt (D.opened dev.old) (partition.now, name.now) size }
-        ensures { Adopts D.Device S.seal_of (partition.now, name.now) pages dev.old dev.new shown size capacity result }
+        ensures { Adopts D.Device S.seal_of (partition.now, name.now) pages dev.old dev.new shown
+            size capacity result }
     {
-        let unit = usize::from(pages.page_size) + 12;
+        let unit = usize::from(pages.page_size) + SLOTS_LEN;
         let mut bytes = vec![in alloc; 0; unit]?;
         let buf = bytes.as_mut_slice();
-        let found = find_last::<D, S>(dev, partition, name, pages.page_size, size, buf)?;
+        let blob = OpenBlob {
+            partition,
+            name,
+            page_size: pages.page_size,
+            end: size,
+        };
+        let found = find_last::<D, S>(dev, &blob, buf)?;
         let page = bytes.as_slice();
         let start = start_of::<S>(pages.page_size, size, &found, page);
         let partition = String::from_str(alloc, partition)?;
@@ -225,6 +216,31 @@ impl<S: Seal> PageBlob<S> {
         })
     }
 
+    // Its blob, as what reads and writes pages is given it.
+    fn blob(&self) -> OpenBlob<'_>
+        ensures key { opened_key result ≡ key_of (shown self.now) }
+        ensures page_size { result.page_size ≡ self.now.page_size }
+        ensures end { result.end ≡ self.now.end }
+    {
+        OpenBlob {
+            partition: self.partition.as_str(),
+            name: self.name.as_slice(),
+            page_size: self.page_size,
+            end: self.end,
+        }
+    }
+
+    // How far it has settled.
+    fn settled_end(&self) -> Settled
+        ensures len { result.len ≡ self.now.settled }
+        ensures slot { result.slot ≡ self.now.newest }
+    {
+        Settled {
+            len: self.settled,
+            slot: self.newest,
+        }
+    }
+
     /// How many bytes are flushed.
     fn flushed(&self) -> u64
         ensures { result ≡ flushed_of (shown self.now) }
@@ -246,10 +262,11 @@ impl<S: Seal> PageBlob<S> {
         self.settled != self.size()
     }
 
-    /// Whether so many bytes more end, with both slots of their last page, below 2^64: whether an append of them is not refused
-    /// for their number. It takes no memory.
+    /// Whether so many bytes more end, with both slots of their last page, below 2^64: whether an
+    /// append of them is not refused for their number. It takes no memory.
     pub fn has_room(&self, more: usize) -> bool
-        ensures { IsTrue result ↔ extent self.now.page_size (size_of (shown self.now) + more) < 2 ^ 64 }
+        ensures { IsTrue result
+            ↔ extent self.now.page_size (size_of (shown self.now) + more) < 2 ^ 64 }
     {
         fits(self.page_size, self.size(), more)
     }
@@ -262,18 +279,15 @@ impl<S: Seal> PageBlob<S> {
         if !(self.behind || self.torn) {
             return Ok(self);
         }
-        let end = repair::<D, S>(
-            dev,
-            self.partition.as_str(),
-            self.name.as_slice(),
-            self.page_size,
-            self.end,
-            self.first,
-            self.from,
-            self.newest,
-            self.behind,
-            self.torn,
-        )?;
+        let start = Start {
+            first: self.first,
+            from: self.from,
+            newest: self.newest,
+            behind: self.behind,
+            torn: self.torn,
+        };
+        // Once, before a first byte is written: what goes here does not come back.
+        let end = repair::<D, S>(dev, &self.blob(), &start)?;
         let mut this = self;
         this.end = end;
         this.behind = false;
@@ -287,19 +301,13 @@ impl<S: Seal> PageBlob<S> {
         requires clean { (self.behind || self.torn) ≡ false }
         ensures { WritesTip D.Device S.seal_of (shown self) dev.old dev.new shown result }
     {
+        let tip = Tip {
+            first: self.first,
+            from: self.from,
+            bytes: self.tip.as_slice(),
+        };
         // Before the tip lets a page go: until it is written, the bytes are here alone.
-        let end = flush_pages::<D, S>(
-            dev,
-            self.partition.as_str(),
-            self.name.as_slice(),
-            self.page_size,
-            self.end,
-            self.first,
-            self.from,
-            self.tip.as_slice(),
-            self.settled,
-            self.newest,
-        )?;
+        let end = flush_pages::<D, S>(dev, &self.blob(), &tip, self.settled_end())?;
         let size = usize::from(self.page_size);
         let full = self.tip.len() / size;
         let PageBlob {
@@ -354,8 +362,9 @@ impl<S: Seal> PageBlob<S> {
         this.written(dev)
     }
 
-    /// Adds bytes at the end. The answer has the place of the first of them. All that is not flushed is flushed where it is
-    /// then at least as long as the capacity; below that no call of the device is made.
+    /// Adds bytes at the end. The answer has the place of the first of them. All that is not flushed is
+    /// flushed where it is then at least as long as the capacity; below that no call of the device is
+    /// made.
     pub fn append<D: Device>(self, dev: &mut D, bytes: &[u8]) -> Result<(PageBlob<S>, u64), RError>
         requires open { IsOpenAt (D.opened dev.old) (key_of (shown self)) self.end }
         ensures { Appends D.Device S.seal_of (shown self) dev.old dev.new shown bytes.now result }
@@ -387,14 +396,8 @@ impl<S: Seal> PageBlob<S> {
         // Once, behind all pages: until then the old slots cover what had settled.
         dev.sync(this.partition.as_str(), this.name.as_slice())?;
         let end = this.flushed();
-        let slot = last_slot_of(
-            this.page_size,
-            this.first,
-            this.from,
-            end,
-            this.settled,
-            this.newest,
-        );
+        let settled = this.settled_end();
+        let slot = last_slot_of(this.page_size, this.first, this.from, end, settled);
         this.settled = end;
         this.newest = slot;
         Ok(this)

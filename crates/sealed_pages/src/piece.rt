@@ -1,13 +1,13 @@
 // Some pages of a blob that follow one another, read at once and held in memory.
-ghost use Rattle.std.specs.Prelude.{◌≡◌, ◌+◌, ◌-◌, ◌*◌, ◌≤◌, ◌<◌, ◌^◌, ◌⊎◌, ◌↔◌, length, take, Err, IfOk, IfSome, OnOk, IsTrue, ℕ, List};
-ghost use Rattle.blob_device.specs.Timeline.{disk};
-ghost use Rattle.blob_device.specs.Counts.{Rose};
+ghost use Rattle.std.specs.Prelude.{◌≡◌, ◌+◌, ◌-◌, ◌*◌, ◌≤◌, ◌<◌, ◌^◌, ◌↔◌, length, IfOk, IsTrue, ℕ, List};
 ghost use Rattle.sealed_pages.specs.View.{page_at};
-ghost use Rattle.sealed_pages.specs.Reading.{page_of, Unchanged};
-ghost use Rattle.sealed_pages.specs.Entries.{IsOpenAt, ReadsAtMost};
+ghost use Rattle.sealed_pages.specs.Reading.{page_of};
+ghost use Rattle.sealed_pages.specs.Entries.{IsOpenAt};
+ghost use Rattle.sealed_pages.specs.SlotNames.{opened_key};
 
-use crate::page::page_place;
+use crate::open_blob::OpenBlob;
 use crate::reading::read_front;
+use crate::slot::{SLOTS_LEN, page_place};
 use blob_device::{DevError, Device};
 use std::alloc::{AllocError, Global};
 
@@ -38,13 +38,14 @@ pub struct Piece {
 
 impl Piece {
     ghost use Rattle.sealed_pages.specs.Pieces.{held_of, HasPage, IsPieceOf};
+    ghost use Rattle.sealed_pages.specs.BlobReads.{ReadsPiece, LoadsPiece};
 
     /// Room for about so many bytes, and for one page at least. It holds no page.
     pub fn new(alloc: Global, page_size: u16, buffer: usize) -> Result<Piece, AllocError>
         ensures page_size { IfOk result (λ p. p.page_size ≡ page_size) }
         ensures empty { IfOk result (λ p. (c : List ℕ) → IsPieceOf c p) }
     {
-        let unit = usize::from(page_size) + 12;
+        let unit = usize::from(page_size) + SLOTS_LEN;
         let room = (buffer / unit).max(1);
         let bytes = vec![in alloc; 0; room * unit]?;
         Ok(Piece {
@@ -64,77 +65,61 @@ impl Piece {
         page >= self.page && page - self.page < self.count
     }
 
-    // Reads the page, and as many behind it as there is room for, up to the page `upto`. After an error it holds none.
+    // Reads the page, and as many behind it as there is room for, up to the page `upto`. After an error it
+    // holds none.
     fn read<D: Device>(
         &mut self,
         dev: &mut D,
-        partition: &str,
-        name: &[u8],
-        end: u64,
+        blob: &OpenBlob<'_>,
         page: u64,
         upto: u64,
     ) -> Result<(), DevError>
-        requires open { IsOpenAt (D.opened dev.old) (partition.now, name.now) end }
+        requires open { IsOpenAt (D.opened dev.old) (opened_key blob.now) blob.now.end }
         requires place { page_at self.old.page_size page < 2 ^ 64 }
         requires some { page < upto }
-        ensures holds { OnOk result (HasPage self.new page) }
-        ensures piece { D.Tells → IsPieceOf (disk (D.time dev.old) (partition.now, name.now)).content self.new }
-        ensures page { OnOk result (self.new.page ≡ page) }
-        ensures page_size { self.new.page_size ≡ self.old.page_size }
-        ensures unchanged { D.Tells → Unchanged (D.time dev.old) (D.time dev.new) }
-        ensures entries { ReadsAtMost 1 (partition.now, name.now) (D.opened dev.old) (D.opened dev.new) }
-        ensures faults { D.faults dev.old ≤ D.faults dev.new }
-        ensures cause { result ≡ Err DevError.Fault → Rose (D.faults dev.old) (D.faults dev.new) }
+        ensures { ReadsPiece D.Device (opened_key blob.now) dev.old dev.new self.old self.new page
+            result }
     {
         self.count = 0;
         let count = self.room.min(upto - page);
-        let unit = usize::from(self.page_size) + 12;
+        let unit = usize::from(self.page_size) + SLOTS_LEN;
         let place = page_place(self.page_size, page);
         let most = count as usize * unit;
         let buf = self.bytes.as_mut_slice();
-        self.have = read_front(dev, partition, name, end, place, most, buf)?;
+        self.have = read_front(dev, blob, place, most, buf)?;
         self.page = page;
         self.count = count;
         Ok(())
     }
 
-    /// Reads the page, and as many behind it as there is room for, up to the page `upto`, where this piece does not have it. After an
-    /// error it may hold none.
+    /// Reads the page, and as many behind it as there is room for, up to the page `upto`, where this piece
+    /// does not have it. After an error it may hold none.
     pub fn load<D: Device>(
         &mut self,
         dev: &mut D,
-        partition: &str,
-        name: &[u8],
-        end: u64,
+        blob: &OpenBlob<'_>,
         page: u64,
         upto: u64,
     ) -> Result<(), DevError>
-        requires open { IsOpenAt (D.opened dev.old) (partition.now, name.now) end }
+        requires open { IsOpenAt (D.opened dev.old) (opened_key blob.now) blob.now.end }
         requires place { page_at self.old.page_size page < 2 ^ 64 }
         requires some { page < upto }
-        ensures holds { OnOk result (HasPage self.new page) }
-        ensures piece { D.Tells → IsPieceOf (disk (D.time dev.old) (partition.now, name.now)).content self.old → IsPieceOf (disk (D.time dev.old) (partition.now, name.now)).content self.new }
-        ensures held { HasPage self.old page → (D.time dev.new ≡ D.time dev.old) × (D.opened dev.new ≡ D.opened dev.old) }
-        // It was held, or is the first page that is held now.
-        ensures loads { OnOk result ((HasPage self.old page × (self.new ≡ self.old)) ⊎ ((self.new.page ≡ page) × (HasPage self.old page → ⊥))) }
-        ensures page_size { self.new.page_size ≡ self.old.page_size }
-        ensures unchanged { D.Tells → Unchanged (D.time dev.old) (D.time dev.new) }
-        ensures entries { ReadsAtMost 1 (partition.now, name.now) (D.opened dev.old) (D.opened dev.new) }
-        ensures faults { D.faults dev.old ≤ D.faults dev.new }
-        ensures cause { result ≡ Err DevError.Fault → Rose (D.faults dev.old) (D.faults dev.new) }
+        ensures { LoadsPiece D.Device (opened_key blob.now) dev.old dev.new self.old self.new page
+            result }
     {
         if self.has(page) {
             return Ok(());
         }
-        self.read(dev, partition, name, end, page, upto)
+        self.read(dev, blob, page, upto)
     }
 
     /// The bytes of a page that stand below the blob's end.
     pub fn page_bytes(&self, page: u64) -> &[u8]
         requires { HasPage self.now page }
-        ensures { result.now ≡ page_of self.now.page_size (held_of self.now) (page - self.now.page) }
+        ensures { result.now
+            ≡ page_of self.now.page_size (held_of self.now) (page - self.now.page) }
     {
-        let unit = usize::from(self.page_size) + 12;
+        let unit = usize::from(self.page_size) + SLOTS_LEN;
         let held = &self.bytes[..self.have];
         let from = ((page - self.page) as usize * unit).min(held.len());
         let rest = &held[from..];

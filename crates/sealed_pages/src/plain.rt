@@ -1,7 +1,9 @@
-//! A plain, slow reading of sealed pages: how far given bytes are sealed, and the size at which a blob of them is adopted.
+//! A plain, slow reading of sealed pages: how far given bytes are sealed, and the size at which a blob of
+//! them is adopted.
 //!
-//! It looks at all the bytes at once, and keeps nothing from page to page. The buffers are compared with it.
-ghost use Rattle.std.specs.Prelude.{◌≡◌, ◌+◌, ◌*◌, ◌≤◌, ◌<◌, ◌/◌, if◌then◌else◌, length, IfOk};
+//! It looks at all the bytes at once, and keeps nothing from page to page. The buffers are compared with it,
+//! so it shares nothing with them: a slot is a `bool` here, true for slot B, and no `Slot` of theirs.
+ghost use Rattle.std.specs.Prelude.{◌≡◌, ◌+◌, ◌*◌, ◌<◌, ◌/◌, if◌then◌else◌, IfOk};
 ghost use Rattle.sealed_pages.specs.Slots.{slot_length, page_length};
 ghost use Rattle.sealed_pages.specs.SealedPrefix.{sealed_prefix, adopted_size, pages_in};
 
@@ -17,7 +19,8 @@ fn slot_start(page_size: u16, second: bool) -> usize
 
 /// The length of a slot that matches, else 0.
 ///
-/// The slot is found among all the bytes, and its numbers are spelled out byte by byte: nothing is shared with the buffers.
+/// The slot is found among all the bytes, and its numbers are spelled out byte by byte: nothing is shared
+/// with the buffers.
 pub fn slot_len<S: Seal>(page_size: u16, bytes: &[u8], page: usize, second: bool) -> usize
     requires { page < pages_in page_size bytes.now }
     ensures { result ≡ slot_length S.seal_of page_size bytes.now page second }
@@ -57,7 +60,8 @@ pub fn page_count(page_size: u16, bytes: &[u8]) -> usize
     bytes.len() / (usize::from(page_size) + 12) + 1
 }
 
-/// The data of the pages up to the first that is not full by a matching slot, that page's length included.
+/// The data of the pages up to the first that is not full by a matching slot, and as much of that page as one
+/// covers.
 pub fn sealed_prefix<S: Seal>(
     alloc: Global,
     page_size: u16,

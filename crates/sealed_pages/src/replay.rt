@@ -1,18 +1,15 @@
 // Reading a sealed blob from a position on, in pieces.
-ghost use Rattle.std.specs.Prelude.{◌≡◌, ◌+◌, ◌*◌, ◌-◌, ◌/◌, ◌%◌, ◌≤◌, ◌<◌, ◌^◌, ◌⊎◌, ◌↔◌, Ok, Err, min, length, drop, [], IfOk, OnOk, OnErr, true, false, ℕ, List};
+ghost use Rattle.std.specs.Prelude.{◌≡◌, ◌+◌, ◌*◌, ◌-◌, ◌/◌, ◌%◌, ◌≤◌, ◌<◌, ◌^◌, ◌↔◌, Ok, Err, min, length, drop, [], OnOk, OnErr, ℕ, List};
 ghost use Rattle.std.specs.Result.{IsErrOf};
 ghost use Rattle.blob_device.specs.declared.runtime.RError.TheVariants.{BlobInsufficientLength};
-ghost use Rattle.blob_device.specs.Timeline.{disk};
-ghost use Rattle.blob_device.specs.Counts.{Rose};
 ghost use Rattle.sealed_pages.specs.Buffer.{extent};
-ghost use Rattle.sealed_pages.specs.Reading.{Unchanged};
-ghost use Rattle.sealed_pages.specs.Reads.{IsWanted, IsShort, touched, EndsAtOrPast};
-ghost use Rattle.sealed_pages.specs.Slots.{page_length};
-ghost use Rattle.sealed_pages.specs.Entries.{IsOpenAt, ReadsAtMost};
+ghost use Rattle.sealed_pages.specs.Entries.{IsOpenAt};
+ghost use Rattle.sealed_pages.specs.SlotNames.{opened_key};
 
+use crate::open_blob::OpenBlob;
 use crate::page_blob::drop_front;
 use crate::piece::Piece;
-use crate::reading::covered_len;
+use crate::slot::covered_len;
 use blob_device::{Device, RError};
 use std::alloc::Global;
 use std::marker::PhantomData;
@@ -61,40 +58,32 @@ pub struct PageReplay<S: Seal> {
 }
 
 impl<S: Seal> PageReplay<S> {
-    ghost use Rattle.sealed_pages.specs.Replays.{Ensures};
-    ghost use Rattle.sealed_pages.specs.Readers.{reading, next_of, missing_of, IsTipOf, IsReplayOf, ReadsUnread, SameReader};
+    ghost use Rattle.sealed_pages.specs.Replays.{Begins, Ensures, Fetches};
+    ghost use Rattle.sealed_pages.specs.Readers.{reading, next_of, IsReplayOf, SameReader};
 
-    /// A reader from 0 over a blob that ends at `end`, and has `size` bytes in pages. It reads full pages, in pieces of about `buffer`
-    /// bytes. The bytes behind them are the tip.
+    /// A reader from 0 over a blob that has `size` bytes in pages. It reads full pages, in pieces of about
+    /// `buffer` bytes. The bytes behind them are the tip.
     pub(crate) fn new(
         alloc: Global,
-        partition: &str,
-        name: &[u8],
-        page_size: u16,
-        end: u64,
+        blob: &OpenBlob<'_>,
         size: u64,
         buffer: usize,
         tip: Vec<u8>,
     ) -> Result<PageReplay<S>, RError>
-        requires some { 1 ≤ page_size }
-        requires room { extent page_size size < 2 ^ 64 }
-        requires tip { length tip.items ≡ size % page_size }
-        ensures key { IfOk result (λ r. (reading r).key ≡ (partition.now, name.now)) }
-        ensures page_size { IfOk result (λ r. (reading r).page_size ≡ page_size) }
-        ensures end { IfOk result (λ r. (reading r).end ≡ end) }
-        ensures size { IfOk result (λ r. (reading r).size ≡ size) }
-        ensures begin { IfOk result (λ r. (reading r).at ≡ 0) }
-        ensures replays { IfOk result (λ r. (content : List ℕ) → IsTipOf S.seal_of page_size content (size / page_size) tip.items → IsReplayOf S.seal_of content (reading r)) }
-        ensures cause { OnErr result (result ≡ Err RError.Mem) }
+        requires some { 1 ≤ blob.now.page_size }
+        requires room { extent blob.now.page_size size < 2 ^ 64 }
+        requires tip { length tip.items ≡ size % blob.now.page_size }
+        ensures { Begins S.seal_of reading (opened_key blob.now) blob.now.page_size blob.now.end
+            size tip.items result }
     {
-        let partition = String::from_str(alloc, partition)?;
-        let name = name.to_vec(alloc)?;
-        let piece = Piece::new(alloc, page_size, buffer)?;
+        let partition = String::from_str(alloc, blob.partition)?;
+        let name = blob.name.to_vec(alloc)?;
+        let piece = Piece::new(alloc, blob.page_size, buffer)?;
         Ok(PageReplay {
             partition,
             name,
-            page_size,
-            end,
+            page_size: blob.page_size,
+            end: blob.end,
             size,
             at: 0,
             held: Vec::new(alloc),
@@ -129,8 +118,10 @@ impl<S: Seal> PageReplay<S> {
     /// Goes n bytes on, all of them at hand.
     pub fn advance(&mut self, n: usize)
         requires { n ≤ length (reading self.old).bytes }
-        ensures goes { reading self.new ≡ record (reading self.old) { at = (reading self.old).at + n; bytes = drop n (reading self.old).bytes } }
-        ensures replays { (content : List ℕ) → IsReplayOf S.seal_of content (reading self.old) → IsReplayOf S.seal_of content (reading self.new) }
+        ensures goes { reading self.new ≡ record (reading self.old)
+            { at = (reading self.old).at + n; bytes = drop n (reading self.old).bytes } }
+        ensures replays { (content : List ℕ) → IsReplayOf S.seal_of content (reading self.old)
+            → IsReplayOf S.seal_of content (reading self.new) }
     {
         self.at += n as u64;
         self.used += n;
@@ -140,9 +131,11 @@ impl<S: Seal> PageReplay<S> {
     pub fn seek_to(&mut self, offset: u64) -> Result<(), RError>
         ensures short { IsErrOf result BlobInsufficientLength ↔ ((reading self.old).size < offset) }
         ensures cause { OnErr result (result ≡ Err RError.BlobInsufficientLength) }
-        ensures goes { OnOk result (reading self.new ≡ record (reading self.old) { at = offset; bytes = [] }) }
+        ensures goes { OnOk result
+            (reading self.new ≡ record (reading self.old) { at = offset; bytes = [] }) }
         ensures stays { OnErr result (reading self.new ≡ reading self.old) }
-        ensures replays { (content : List ℕ) → IsReplayOf S.seal_of content (reading self.old) → IsReplayOf S.seal_of content (reading self.new) }
+        ensures replays { (content : List ℕ) → IsReplayOf S.seal_of content (reading self.old)
+            → IsReplayOf S.seal_of content (reading self.new) }
     {
         if offset > self.size {
             return Err(RError::BlobInsufficientLength);
@@ -162,11 +155,13 @@ impl<S: Seal> PageReplay<S> {
 
     // Adds the bytes of the last page, which is not full, from the next one on.
     fn take_tip(&mut self) -> Result<(), RError>
-        requires full { (reading self.old).size / (reading self.old).page_size ≤ next_of (reading self.old) / (reading self.old).page_size }
+        requires full { (reading self.old).size / (reading self.old).page_size
+            ≤ next_of (reading self.old) / (reading self.old).page_size }
         requires within { next_of (reading self.old) ≤ (reading self.old).size }
         ensures same { SameReader (reading self.old) (reading self.new) }
         ensures piece { (reading self.new).piece ≡ (reading self.old).piece }
-        ensures replays { (content : List ℕ) → IsReplayOf S.seal_of content (reading self.old) → IsReplayOf S.seal_of content (reading self.new) }
+        ensures replays { (content : List ℕ) → IsReplayOf S.seal_of content (reading self.old)
+            → IsReplayOf S.seal_of content (reading self.new) }
         ensures ends { OnOk result (next_of (reading self.new) ≡ (reading self.old).size) }
         ensures stays { OnErr result ((reading self.new).bytes ≡ (reading self.old).bytes) }
         ensures cause { OnErr result (result ≡ Err RError.Mem) }
@@ -178,27 +173,14 @@ impl<S: Seal> PageReplay<S> {
         Ok(())
     }
 
-    // Adds the bytes of the next page, up to the blob's last: of a full page those that a matching slot covers, and of the last one
-    // the tip. The slot has to cover a full page up to its end or to byte `goal`.
+    // Adds the bytes of the next page, up to the blob's last: of a full page those that a matching slot
+    // covers, and of the last one the tip. The slot has to cover a full page up to its end or to byte `goal`.
     fn fetch<D: Device>(&mut self, dev: &mut D, goal: u64) -> Result<(), RError>
         requires open { IsOpenAt (D.opened dev.old) (reading self.old).key (reading self.old).end }
         requires more { next_of (reading self.old) < goal }
         requires within { goal ≤ (reading self.old).size }
-        ensures same { SameReader (reading self.old) (reading self.new) }
-        ensures replays { D.Tells → IsReplayOf S.seal_of (disk (D.time dev.old) (reading self.old).key).content (reading self.old) → IsReplayOf S.seal_of (disk (D.time dev.old) (reading self.old).key).content (reading self.new) }
-        ensures grows { OnOk result (next_of (reading self.old) < next_of (reading self.new)) }
-        // On to the page's end, or within it to the goal.
-        ensures reaches { OnOk result (EndsAtOrPast (reading self.old).page_size (next_of (reading self.old)) goal (next_of (reading self.new))) }
-        ensures stays { OnErr result ((reading self.new).bytes ≡ (reading self.old).bytes) }
-        ensures short { D.Tells → IsReplayOf S.seal_of (disk (D.time dev.old) (reading self.old).key).content (reading self.old) → (p : ℕ) → IsErrOf result (RError.InvalidChecksum p)
-            → IsShort S.seal_of (reading self.old).page_size (disk (D.time dev.old) (reading self.old).key).content (next_of (reading self.old)) (goal - next_of (reading self.old)) p }
-        ensures once { OnOk result (ReadsUnread (reading self.old) (reading self.new) (D.opened dev.old) (D.opened dev.new)) }
-        ensures judged { (p : ℕ) → IsErrOf result (RError.InvalidChecksum p) → ReadsUnread (reading self.old) (reading self.new) (D.opened dev.old) (D.opened dev.new) }
-        ensures unchanged { D.Tells → Unchanged (D.time dev.old) (D.time dev.new) }
-        ensures entries { ReadsAtMost 1 (reading self.old).key (D.opened dev.old) (D.opened dev.new) }
-        ensures faults { D.faults dev.old ≤ D.faults dev.new }
-        ensures cause { OnErr result (((p : ℕ) × (result ≡ Err (RError.InvalidChecksum p)) × IsWanted (reading self.old).page_size (next_of (reading self.old)) (goal - next_of (reading self.old)) p)
-            ⊎ ((result ≡ Err RError.Mem) ⊎ ((result ≡ Err RError.Fault) × Rose (D.faults dev.old) (D.faults dev.new)))) }
+        ensures { Fetches D.Device S.seal_of (reading self.old) (reading self.new) dev.old dev.new
+            goal result }
     {
         let data = u64::from(self.page_size);
         let next = self.at + self.remaining() as u64;
@@ -208,9 +190,13 @@ impl<S: Seal> PageReplay<S> {
             return self.take_tip();
         }
         let start = page * data;
-        let partition = self.partition.as_str();
-        let name = self.name.as_slice();
-        self.piece.load(dev, partition, name, self.end, page, full)?;
+        let blob = OpenBlob {
+            partition: self.partition.as_str(),
+            name: self.name.as_slice(),
+            page_size: self.page_size,
+            end: self.end,
+        };
+        self.piece.load(dev, &blob, page, full)?;
         let found = self.piece.page_bytes(page);
         let covered = covered_len::<S>(self.page_size, found);
         let need = (goal - start).min(data) as usize;
@@ -225,11 +211,12 @@ impl<S: Seal> PageReplay<S> {
 
     /// Reads until n bytes are at hand, or all that are left. Whether n are.
     ///
-    /// `InvalidChecksum` names a page of the n bytes that no matching slot covers as far as they need it. After an error the
-    /// reader stands where it stood, and has at hand at least what it had.
+    /// `InvalidChecksum` names a page of the n bytes that no matching slot covers as far as they need it.
+    /// After an error the reader stands where it stood, and has at hand at least what it had.
     pub fn ensure<D: Device>(&mut self, dev: &mut D, n: usize) -> Result<bool, RError>
         requires { IsOpenAt (D.opened dev.old) (reading self.old).key (reading self.old).end }
-        ensures { Ensures D.Device S.seal_of (reading self.old) (reading self.new) dev.old dev.new n result }
+        ensures { Ensures D.Device S.seal_of (reading self.old) (reading self.new) dev.old dev.new
+            n result }
     {
         let left = self.size - self.at;
         let want = left.min(n as u64) as usize;

@@ -35,16 +35,8 @@
 //
 // A write or append makes at most two calls, and one where its bytes join the run. A sync makes at most two,
 // and a cut three. A read makes one, and none where all its bytes are in the run.
-ghost use Rattle.std.specs.Prelude.{◌≡◌, ◌≢◌, ◌+◌, ◌-◌, ◌≤◌, ◌<◌, ◌^◌, ◌↔◌, ◌⊎◌, max, min, Err, length, take, IfOk, IsOkAnd, OnOk, OnErr, Bool, true, false, ℕ, List, [], ◌∷◌, ◌++◌, IsTrue};
-ghost use Rattle.std.specs.Result.{IsErrOf};
-ghost use Rattle.blob_device.specs.declared.runtime.RError.TheVariants.{Fault, OffsetOverflow};
-ghost use Rattle.blob_device.specs.Disk.{Blob, Outside, settled_at};
-ghost use Rattle.blob_device.specs.Change.{written};
-ghost use Rattle.blob_device.specs.Timeline.{disk};
-ghost use Rattle.blob_device.specs.Counts.{Rose};
-ghost use Rattle.sealed_pages.specs.Entries.{IsOpenAt, NoReads};
-ghost use Rattle.sealed_pages.specs.Sparing.{Lasts, Spares, Sparing, Keeping};
-ghost use Rattle.sealed_pages.specs.Contents.{AddsOnly};
+ghost use Rattle.std.specs.Prelude.{◌≡◌, ◌+◌, ◌-◌, ◌≤◌, ◌<◌, ◌^◌, ◌↔◌, length, IfOk, false, IsTrue};
+ghost use Rattle.sealed_pages.specs.Entries.{IsOpenAt};
 
 mod cutting;
 mod reads;
@@ -95,8 +87,7 @@ pub struct WriteBlob {
 
 impl WriteBlob {
     ghost use Rattle.sealed_pages.specs.unsealed.RunCalls.{AdoptsRun, FlushesRun, Flushes, Rests, Syncs, Moves, WritesAt, Appends};
-    ghost use Rattle.sealed_pages.specs.unsealed.Writing.{WriteBuffer, shown, blob_key, bytes_of, size_of, run_of, is_idle, is_unsettled, Joins, StaysBelow, HoldsOnly, StandsBehind, Over, KeepsSettled};
-    ghost use Rattle.sealed_pages.specs.Tails.{LeavesRun, LeavesPending};
+    ghost use Rattle.sealed_pages.specs.unsealed.Writing.{shown, blob_key, size_of, is_idle, is_unsettled, Joins, with_bytes_put};
 
     /// Adopts an opened blob of this length. All of it counts as settled, since opening a blob settles it.
     pub fn adopt(
@@ -227,7 +218,7 @@ impl WriteBlob {
     fn put(self, offset: u64, bytes: &[u8]) -> Result<WriteBlob, AllocError>
         requires joins { Joins (shown self) offset }
         requires fits { offset + length bytes.now < 2 ^ 64 }
-        ensures { IfOk result (λ r. shown r ≡ record (shown self) { pending = written self.pending.items (offset - self.at) bytes.now }) }
+        ensures { IfOk result (λ r. shown r ≡ with_bytes_put (shown self) offset bytes.now) }
     {
         let mut this = self;
         let skip = (offset - this.at) as usize;
@@ -235,8 +226,8 @@ impl WriteBlob {
         Ok(this)
     }
 
-    /// Writes bytes from `offset` on; a gap behind the old end reads as zeros. All that is not flushed is flushed where it is
-    /// then at least as long as the capacity.
+    /// Writes bytes from `offset` on; a gap behind the old end reads as zeros. All that is not flushed is
+    /// flushed where it is then at least as long as the capacity.
     pub fn write_at<D: Device>(
         self,
         dev: &mut D,

@@ -12,9 +12,9 @@ use Rattle.sealed_pages.specs.SealedPrefix.{pages_in, size_below, adopted_size, 
 use Rattle.sealed_pages.specs.Shown.{shown}
 use Rattle.sealed_pages.specs.Slots.{page_length}
 use Rattle.sealed_pages.specs.View.{view}
-use Rattle.sealed_pages.proofs.Looking.{size_found, size_none, size_zero}
-use Rattle.sealed_pages.proofs.SealedBytes.{page_length-le}
-use Rattle.sealed_pages.proofs.SlotLemmas.{times_more}
+use Rattle.sealed_pages.proofs.looking.Looking.{size_found, size_none, size_zero}
+use Rattle.sealed_pages.proofs.slots.SealedBytes.{page_length-le}
+use Rattle.sealed_pages.proofs.slots.SlotLemmas.{times_more}
 use Rattle.segments.specs.FixedFloors.{IsAdoptedOver}
 use Rattle.segments.proofs.FixedKept.{item_data}
 

@@ -1,13 +1,14 @@
 -- A replay passes over items that are at hand, or notes an error: it is a replay still.
-use Rattle.std.specs.Prelude.{◌≡◌, ℕ, ◌+◌, ◌*◌, ◌^◌, ◌<◌, ◌≤◌, List, length, drop, IsSomeAnd, Some}
-use Rattle.std.proofs.Common.{inl, inr, refl, subst, arith, length-drop}
+use Rattle.std.specs.Prelude.{◌≡◌, ℕ, ◌+◌, ◌*◌, ◌^◌, ◌<◌, ◌≤◌, List, length, drop, IfSome, IsSomeAnd, Option, Some}
+use Rattle.std.specs.Option.{option_map}
+use Rattle.std.proofs.Common.{inl, inr, refl, sym, ◌∙◌, subst, arith, length-drop}
 use Rattle.std.proofs.Math.Nat.{add-mul}
 use Rattle.std.proofs.lemmas.Nat.{mul-le}
 use Rattle.blob_device.specs.Disk.{Disk}
 use Rattle.sealed_pages.specs.Readers.{next_of}
 use Rattle.sealed_pages.specs.Reads.{IsCovered}
 use Rattle.sealed_pages.specs.declared.page_blob.PageBlob.{PageBlob}
-use Rattle.sealed_pages.proofs.Holding.{fit_size}
+use Rattle.sealed_pages.proofs.memory.Holding.{fit_size}
 use Rattle.section_manager.specs.Sections.{key_of}
 use Rattle.segments.specs.FixedCursor.{after_items, leaving}
 use Rattle.segments.specs.FixedReplay.{Place, Walk, IsAhead, StandsIn, ReadsIn, HasWalk, WalksOver}
@@ -78,6 +79,34 @@ module _ {F S : Type 0} {gs : _} (seal : List ℕ → ℕ) (size : ℕ) (w : Wal
         subst (λ (y : Place). IsSomeAnd (w.journal.sections.held y.section) (ReadsIn seal (standing w on) d y)) at
         (some_and (ReadsIn seal (standing w on) d on) (w.journal.sections.held r.section) u.0 u.1 (reads_on d u.0 u.2)));
   }
+
+-- one that stands at a place, and has the items at hand
+module _ {F S : Type 0} {gs : _} (seal : List ℕ → ℕ) (size : ℕ) (old : Walk F (PageBlob S gs)) (r : Place) (at : old.place ≡ Some r) (count : ℕ) (hand : IfSome old.place (λ (y : Place). count * size ≤ length y.reader.bytes)) where
+  abbrev rest : Walk F (PageBlob S gs)
+  rest = leaving old
+
+  back : standing rest r ≡ old
+  back = λ i. record old { place = sym at i }
+
+  has : count * size ≤ length r.reader.bytes
+  has = subst (λ (x : Option Place). IfSome x (λ (y : Place). count * size ≤ length y.reader.bytes)) at hand
+
+  module _ (within : next_of r.reader ≤ r.reader.size) (is : HasWalk size old) where
+    pub pass_fits : 1 ≤ size → r.position + count < 2 ^ 64
+    pass_fits pos = place_fits seal size rest r count has within (subst (HasWalk size) (sym back) is) pos
+
+  module _ (now : Place) (on : now ≡ after_items size count r) where
+    to_on : standing rest now ≡ standing rest (after_items size count r)
+    to_on = λ i. standing rest (on i)
+
+    pub pass_goes : standing rest now ≡ record old { place = option_map (after_items size count) old.place }
+    pass_goes = to_on ∙ (λ i. record old { place = option_map (after_items size count) (sym at i) })
+
+    pub pass_walk : next_of r.reader ≤ r.reader.size → HasWalk size old → HasWalk size (standing rest now)
+    pass_walk within is = subst (HasWalk size) (sym to_on) (walk_passed seal size rest r count has within (subst (HasWalk size) (sym back) is))
+
+    pub pass_walks : (d : Disk) → WalksOver seal size old d → WalksOver seal size (standing rest now) d
+    pass_walks d is = subst (λ (x : Walk F (PageBlob S gs)). WalksOver seal size x d) (sym to_on) (walks_passed seal size rest r count has d (subst (λ (x : Walk F (PageBlob S gs)). WalksOver seal size x d) (sym back) is))
 
 module _ {F S : Type 0} {gs : _} (seal : List ℕ → ℕ) (size : ℕ) (w : Walk F (PageBlob S gs)) where
   -- one that has noted an error

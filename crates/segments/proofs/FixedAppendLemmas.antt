@@ -1,5 +1,5 @@
 -- What an append makes of a fixed journal, and what it leaves of the section's blob.
-use Rattle.std.proofs.Common.{◌≡◌, ◌≢◌, ◌⊎◌, inl, inr, ℕ, ◌+◌, ◌-◌, ◌/◌, ◌%◌, ◌^◌, ◌<◌, ◌≤◌, Bool, true, false, cond, List, [], ◌∷◌, ◌++◌, length, Option, None, Some, IsSome, IsSomeAnd, IfSome, IsTrue, Result, Ok, Err, IfOk, add-zero, refl, sym, ◌∙◌, ap, subst, arith}
+use Rattle.std.proofs.Common.{◌≡◌, ◌≢◌, ◌⊎◌, inl, inr, ℕ, ◌+◌, ◌-◌, ◌/◌, ◌%◌, ◌^◌, ◌<◌, ◌≤◌, Bool, true, false, cond, List, [], ◌∷◌, ◌++◌, length, None, Some, IsSome, IsTrue, Result, Ok, Err, IfOk, add-zero, refl, sym, ◌∙◌, ap, subst, arith}
 use Rattle.std.proofs.lemmas.Bool.{cases_eq}
 use Rattle.std.specs.Result.{MatchResult}
 use Rattle.std.proofs.Math.Nat.{add-mod-mod, div-le_self, mul-le-mul_right}
@@ -8,28 +8,26 @@ use Rattle.blob_device.specs.declared.runtime.RError.{RError}
 use Rattle.blob_device.specs.declared.runtime.RError.TheVariants as runtime
 use Rattle.blob_device.specs.Change.{Make, done}
 use Rattle.blob_device.specs.Disk.{Key, Blob, Disk}
-use Rattle.blob_device.specs.Opened.{Opened, OpenedList}
+use Rattle.blob_device.specs.Opened.{OpenedList}
 use Rattle.blob_device.specs.Timeline.{Timeline, disk, Always, OnlyAt}
 use Rattle.blob_device.proofs.Moments.{always_now, always_then, only_start}
 use Rattle.sealed_pages.specs.Buffer.{Buffer, extent, size_of, bytes_of, FlushesNothing, IsSealed}
 use Rattle.sealed_pages.specs.ChanceSeal.{Sealing}
 use Rattle.sealed_pages.specs.Cutting.{IsAtRest}
 use Rattle.sealed_pages.specs.declared.page_blob.PageBlob.{PageBlob}
-use Rattle.sealed_pages.specs.Entries.{IsOpenAt}
 use Rattle.sealed_pages.specs.SealedPrefix.{sealed_prefix, adopted_size}
 use Rattle.sealed_pages.specs.Unrecovered.{HasPrefix, KeepsPrefix, IsAdopted, IsUnrecovered}
 use Rattle.sealed_pages.specs.Shown.{shown}
 use Rattle.sealed_pages.specs.View.{view, page_at}
-use Rattle.sealed_pages.proofs.Adopt.{length-data_from}
+use Rattle.sealed_pages.proofs.adopted.Adopt.{length-data_from}
 use Rattle.sealed_pages.proofs.cutting.Calls.{sealing_whole}
-use Rattle.sealed_pages.proofs.Holding.{holds_start}
-use Rattle.sealed_pages.proofs.PageCalls.{only_weaker}
-use Rattle.sealed_pages.proofs.Shortening.{size_before}
-use Rattle.sealed_pages.proofs.Truncating.{all_flushed}
+use Rattle.sealed_pages.proofs.memory.Holding.{holds_start}
+use Rattle.sealed_pages.proofs.slots.PageCalls.{only_weaker}
+use Rattle.sealed_pages.proofs.cutting.Shortening.{size_before}
+use Rattle.sealed_pages.proofs.cutting.Truncating.{all_flushed}
 use Rattle.sealed_pages.proofs.UnrecoveredLemmas.{unrecovered_prefix}
 use Rattle.section_manager.specs.declared.buffer.SectionBuffer as buffer
 use Rattle.section_manager.specs.declared.journal.Error.TheVariants.{Full}
-use Rattle.section_manager.specs.Entries.{OnlyOwnEntry}
 use Rattle.section_manager.specs.Lasting.{IsOpening}
 use Rattle.section_manager.specs.Leaving.{AllMoments}
 use Rattle.section_manager.specs.managing.Lending.{IsPut}
@@ -38,7 +36,7 @@ use Rattle.section_manager.specs.SealedLaws.{counted}
 use Rattle.section_manager.specs.Sections.{Sections, key_of, IsHeld, IsKnown, IsSame, SameBounds, IsOver}
 use Rattle.section_manager.specs.Setting.{Setting}
 use Rattle.section_manager.proofs.sections.KeyLemmas.{keys_differ}
-use Rattle.section_manager.proofs.sections.OverLemmas.{same_key, over_put}
+use Rattle.section_manager.proofs.sections.OverLemmas.{same_key}
 use Rattle.section_manager.proofs.WalkLemmas.{none_or_value, some_same}
 use Rattle.segments.specs.FixedFull.{full_or_raised_of}
 use Rattle.segments.specs.FixedLasting.{IsBeginning}
@@ -219,13 +217,9 @@ module _ {F S : Type 0} {gs : _} (seal : List ℕ → ℕ) (size : ℕ) (told : 
         (subst (λ (x : Timeline). Sealing seal u.page_size (bytes_of (shown u) (disk b (key_of j.sections s)).content ++ more) u.settled (key_of j.sections s) x c) (sym stood) sealing))
 
     -- What an append of n bytes, whole items, answered.
-    pub record Added (n : ℕ) (c : Timeline) (v : PageBlob S gs) (mid new : OpenedList) : Type 0 where
+    pub record Added (n : ℕ) (c : Timeline) (v : PageBlob S gs) : Type 0 where
       pub few : n % size ≡ 0
       pub idle : FlushesNothing (shown u) n → disk c ≡ disk b
-      pub key : g.key v ≡ key_of j.sections s
-      pub setting : g.setting v ≡ gives j.sections.factory
-      pub is_open : IsOpenAt new (key_of j.sections s) (g.extent v)
-      pub entries : OnlyOwnEntry (key_of j.sections s) mid new
       pub adopted : told → IsAdopted seal (shown v) (disk c (key_of j.sections s))
       pub sealed : told → IsSealed seal (shown u) (disk b (key_of j.sections s)) → IsSealed seal (shown v) (disk c (key_of j.sections s))
       pub long : size_of (shown v) ≡ size_of (shown u) + n
@@ -233,18 +227,7 @@ module _ {F S : Type 0} {gs : _} (seal : List ℕ → ℕ) (size : ℕ) (told : 
       pub others : told → (q : Key) → q ≢ key_of j.sections s → disk c q ≡ disk b q
       pub before : told → (q : Key) → q ≢ key_of j.sections s → disk b q ≡ disk a q
 
-    module _ (n : ℕ) (m : Sections F (PageBlob S gs)) (mid : OpenedList) (over : IsOver g gives told m mid (disk b)) (known : IsKnown m s) (first : (q : ℕ) → q ≢ s → IsSame j.sections m q) (bounds : SameBounds j.sections m)
-        (c : Timeline) (v : PageBlob S gs) (new : OpenedList) (appends : Added n c v mid new) (k : Lists F (PageBlob S gs)) (put : IsPut s v m k.sections) (owes : (q : ℕ) → k.unrecovered q ≡ j.unrecovered q) (floors : (q : ℕ) → k.floor_of q ≡ j.floor_of q) where
-      here : key_of m s ≡ key_of j.sections s
-      here = same_key j.sections m bounds s
-
-      same_bounds : SameBounds j.sections k.sections
-      same_bounds = record {
-        place = record { partition = put.bounds.place.partition ∙ bounds.place.partition; factory = put.bounds.place.factory ∙ bounds.place.factory };
-        floor = put.bounds.floor ∙ bounds.floor;
-        ceiling = put.bounds.ceiling ∙ bounds.ceiling;
-      }
-
+    module _ (n : ℕ) (c : Timeline) (v : PageBlob S gs) (appends : Added n c v) where
       -- all has settled only where nothing was added
       rested : told → v.settled ≡ size_of (shown v) → IsAtRest (disk c (key_of j.sections s))
       rested t all =
@@ -254,14 +237,21 @@ module _ {F S : Type 0} {gs : _} (seal : List ℕ → ℕ) (size : ℕ) (told : 
           subst (λ (d : Disk). IsAtRest (d (key_of j.sections s))) (sym (appends.idle (inr (omega (arith, none, flushed)))))
           ((pages.stands u (disk b (key_of j.sections s)) (takes.stands t)).rest was_all)
 
-      over_again : IsOver g gives told k.sections new (disk c)
-      over_again = over_put g gives m k.sections mid new (disk b) (disk c) s v over put known (omega (arith, bounds.ceiling, recovered.below)) (appends.key ∙ sym here) (appends.setting ∙ ap gives (sym bounds.place.factory))
-          (subst (λ (q : Key). IsOpenAt new q (g.extent v)) (sym here) appends.is_open) (subst (λ (q : Key). OnlyOwnEntry q mid new) (sym here) appends.entries)
-          (λ t. subst (λ (p : Key). (q : Key) → q ≢ p → disk c q ≡ disk b q) (sym here) (appends.others t))
-          (λ t. subst (λ (q : Key). g.Stands v (disk c q)) (sym here) (pages.is_stands v (disk c (key_of j.sections s)) (record {
-            adopted = appends.adopted t;
-            rest = rested t;
-          })))
+      -- what the append made of the buffer stands over the blob
+      pub added_stands : told → g.Stands v (disk c (key_of j.sections s))
+      added_stands t = pages.is_stands v (disk c (key_of j.sections s)) (record {
+        adopted = appends.adopted t;
+        rest = rested t;
+      })
+
+    module _ (n : ℕ) (m : Sections F (PageBlob S gs)) (first : (q : ℕ) → q ≢ s → IsSame j.sections m q) (bounds : SameBounds j.sections m) (c : Timeline) (v : PageBlob S gs) (new : OpenedList) (appends : Added n c v)
+        (k : Lists F (PageBlob S gs)) (over_again : IsOver g gives told k.sections new (disk c)) (put : IsPut s v m k.sections) (owes : (q : ℕ) → k.unrecovered q ≡ j.unrecovered q) (floors : (q : ℕ) → k.floor_of q ≡ j.floor_of q) where
+      same_bounds : SameBounds j.sections k.sections
+      same_bounds = record {
+        place = record { partition = put.bounds.place.partition ∙ bounds.place.partition; factory = put.bounds.place.factory ∙ bounds.place.factory };
+        floor = put.bounds.floor ∙ bounds.floor;
+        ceiling = put.bounds.ceiling ∙ bounds.ceiling;
+      }
 
       fine_here : IsFine seal size told k (disk c) s
       fine_here = record {

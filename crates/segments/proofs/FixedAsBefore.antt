@@ -1,6 +1,6 @@
 -- What a checkpoint asks of the blobs is the same where each reads as before.
-use Rattle.std.specs.Prelude.{⊤, ◌≡◌, ◌≢◌, ◌⊎◌, ◌↔◌, ℕ, ◌-◌, ◌*◌, ◌/◌, ◌%◌, ◌<◌, ◌≤◌, eqb, cond, Bool, false, List, length, Option, None, Some, IsTrue, IsSomeAnd}
-use Rattle.std.proofs.Common.{inl, inr, refl, sym, ◌∙◌, ap, subst, arith}
+use Rattle.std.specs.Prelude.{◌≡◌, ℕ, ◌-◌, ◌*◌, ◌/◌, ◌%◌, eqb, cond, List, length, Option, None, Some}
+use Rattle.std.proofs.Common.{inl, inr, sym, ◌∙◌, ap, subst, arith}
 use Rattle.blob_device.specs.Disk.{Disk}
 use Rattle.sealed_pages.specs.Reads.{IsCovered}
 use Rattle.sealed_pages.specs.SealedPrefix.{sealed_prefix, adopted_size, data_from}
@@ -9,7 +9,7 @@ use Rattle.value_codec.specs.declared.codec.Error as codec
 use Rattle.section_manager.specs.Sections.{section_key}
 use Rattle.section_manager.specs.declared.journal.Damage.{Damage}
 use Rattle.section_manager.proofs.WalkLemmas.{value_of, has_value}
-use Rattle.segments.specs.FixedCheckpoint.{boundary_at, IsUnder, IsPartial, IsMissing, IsUnsealed, IsRefused, IsKept, IsPassed, IsRefusedItem, IsShown, AreChecked}
+use Rattle.segments.specs.FixedCheckpoint.{boundary_at, IsUnder, IsRefused, IsKept, IsPassed, IsRefusedItem, IsShown, AreChecked}
 use Rattle.segments.specs.FixedFloors.{Floors, IsBoundary}
 
 module _ (seal : List ℕ → ℕ) (P size : ℕ) (partition : List ℕ) (at bytes : ℕ) (e d : Disk) where

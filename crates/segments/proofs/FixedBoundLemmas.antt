@@ -12,12 +12,14 @@ use Rattle.blob_device.specs.declared.runtime.RError.{RError}
 use Rattle.blob_device.specs.declared.runtime.RError.TheVariants as runtime
 use Rattle.sealed_pages.specs.Buffer.{size_of}
 use Rattle.sealed_pages.specs.Buffer as pages
+use Rattle.sealed_pages.specs.Entries.{ReadsAtMost}
 use Rattle.sealed_pages.specs.Reading.{OnlyRead, Unchanged}
+use Rattle.sealed_pages.specs.Reads.{pages_for}
 use Rattle.sealed_pages.specs.SealedPrefix.{sealed_prefix}
 use Rattle.sealed_pages.specs.Shown.{shown}
 use Rattle.sealed_pages.specs.declared.page_blob.PageBlob.{PageBlob}
-use Rattle.sealed_pages.proofs.EntryLemmas.{only_read_start}
-use Rattle.sealed_pages.proofs.Looking.{unchanged_now, unchanged_start}
+use Rattle.sealed_pages.proofs.EntryLemmas.{only_read_of, only_read_start}
+use Rattle.sealed_pages.proofs.looking.Looking.{unchanged_now, unchanged_start}
 use Rattle.section_manager.specs.Raised.{raised}
 use Rattle.section_manager.specs.Refusing.{IsPruned, HasFailed}
 use Rattle.section_manager.specs.Sections.{Sections, key_of}
@@ -26,6 +28,8 @@ use Rattle.section_manager.specs.declared.buffer.SectionBuffer as buffer
 use Rattle.section_manager.specs.declared.journal.Error.{Error}
 use Rattle.segments.specs.FixedBounds.{whole_of, sealed_size, Measures, Recovers, FindsEnd}
 use Rattle.segments.specs.FixedLists.{Lists, size_held}
+use Rattle.section_manager.proofs.WalkLemmas.{some_same}
+use Rattle.segments.proofs.FixedItemReads.{no_reads}
 use Rattle.segments.proofs.FixedPassing.{no_error, guard_on}
 use Rattle.segments.proofs.FixedSections.{journal_read}
 
@@ -59,6 +63,7 @@ module _ {F S D : Type 0} {gs : _} (seal : List ℕ → ℕ) (size : ℕ) (dev :
     whole = ap (λ (k : ℕ). k % size) is ∙ whole_whole size end pos;
     unchanged = λ t. unchanged_start (dev.time old);
     entries = only_read_start (key_of m section) (dev.opened old);
+    reads = λ u held. absurd (cc (none, held));
     absent = λ same. refl;
     guard = (λ pruned. absurd (no_error n _ pruned), λ lt. absurd (kept lt));
     refuses = λ lt. absurd (kept lt);
@@ -67,9 +72,13 @@ module _ {F S D : Type 0} {gs : _} (seal : List ℕ → ℕ) (size : ℕ) (dev :
   }
 
   module _ (u : PageBlob S gs) (held : m.held section ≡ Some u) (key : pages.key_of (shown u) ≡ key_of m section) (kept : section < m.floor → ⊥) (old new : D)
-      (unchanged : dev.Tells → Unchanged (dev.time old) (dev.time new)) (entries : OnlyRead (pages.key_of (shown u)) (dev.opened old) (dev.opened new)) (faults : dev.faults old ≤ dev.faults new) where
+      (unchanged : dev.Tells → Unchanged (dev.time old) (dev.time new)) (reads : ReadsAtMost (pages_for u.page_size end) (pages.key_of (shown u)) (dev.opened old) (dev.opened new)) (faults : dev.faults old ≤ dev.faults new) where
+    reads_own : (w : PageBlob S gs) → m.held section ≡ Some w → ReadsAtMost (pages_for w.page_size end) (key_of m section) (dev.opened old) (dev.opened new)
+    reads_own w at = subst (λ (x : PageBlob S gs). ReadsAtMost (pages_for x.page_size end) (key_of m section) (dev.opened old) (dev.opened new)) (some_same u w (sym held ∙ at))
+        (subst (λ (k : Key). ReadsAtMost (pages_for u.page_size end) k (dev.opened old) (dev.opened new)) key reads)
+
     entries_own : OnlyRead (key_of m section) (dev.opened old) (dev.opened new)
-    entries_own = subst (λ (k : Key). OnlyRead k (dev.opened old) (dev.opened new)) key entries
+    entries_own = only_read_of _ _ _ _ (reads_own u held)
 
     pub measures_some : (n bytes : ℕ) → 1 ≤ size → n ≡ whole_of size bytes → bytes ≤ end
         → (dev.Tells → bytes ≡ min end (length (sealed_prefix seal u.page_size (disk (dev.time old) (pages.key_of (shown u))).content)))
@@ -82,6 +91,7 @@ module _ {F S D : Type 0} {gs : _} (seal : List ℕ → ℕ) (size : ℕ) (dev :
       whole = ap (λ (k : ℕ). k % size) is ∙ whole_whole size bytes pos;
       unchanged = unchanged;
       entries = entries_own;
+      reads = reads_own;
       absent = λ none. absurd (cc (none, held));
       guard = (λ pruned. absurd (no_error n _ pruned), λ lt. absurd (kept lt));
       refuses = λ lt. absurd (kept lt);
@@ -99,6 +109,7 @@ module _ {F S D : Type 0} {gs : _} (seal : List ℕ → ℕ) (size : ℕ) (dev :
           whole = tt;
           unchanged = unchanged;
           entries = entries_own;
+          reads = reads_own;
           absent = λ none. absurd (cc (none, held));
           guard = (λ pruned. absurd (failed_unpruned (Err (raised e)) m.floor (dev.faults old) (dev.faults new) failed pruned), λ lt. absurd (kept lt));
           refuses = λ lt. absurd (kept lt);
@@ -115,6 +126,7 @@ module _ {F S D : Type 0} {gs : _} (seal : List ℕ → ℕ) (size : ℕ) (dev :
     whole = tt;
     unchanged = λ t. unchanged_start (dev.time old);
     entries = only_read_start (key_of m section) (dev.opened old);
+    reads = λ u held. no_reads _ _ _;
     absent = λ none. refl;
     guard = guard_on {U = U} (Err e) e m.floor (section < m.floor) refl guard;
     refuses = λ lt. refl;

@@ -5,7 +5,7 @@ use Rattle.std.proofs.Math.Nat.{div-mul-le_self}
 use Rattle.std.proofs.lemmas.Bool.{cases_lt, cases_eq}
 use Rattle.std.proofs.lemmas.Bool.Decides.{nat_tests}
 use Rattle.std.proofs.lemmas.List.{ext_get_or, take-take, take_all}
-use Rattle.blob_device.specs.Disk.{Key, Blob, Disk, MayHold, MayLeave, nothing, past, settled_at}
+use Rattle.blob_device.specs.Disk.{Key, Blob, Disk, MayHold, MayLeave, past, settled_at}
 use Rattle.blob_device.specs.Opened.{OpenedList}
 use Rattle.blob_device.specs.Timeline.{Timeline, disk, Always, Each}
 use Rattle.blob_device.proofs.Moments.{always_now}
@@ -16,10 +16,10 @@ use Rattle.sealed_pages.specs.Shown.{shown}
 use Rattle.sealed_pages.specs.View.{view}
 use Rattle.sealed_pages.specs.declared.page_blob.PageBlob.{PageBlob}
 use Rattle.sealed_pages.specs.declared.pages.Pages.{Pages}
-use Rattle.sealed_pages.proofs.Adopt.{length-data_from}
-use Rattle.sealed_pages.proofs.Holding.{bytes_length}
+use Rattle.sealed_pages.proofs.adopted.Adopt.{length-data_from}
+use Rattle.sealed_pages.proofs.memory.Holding.{bytes_length}
 use Rattle.sealed_pages.proofs.Reaching.{own_prefix}
-use Rattle.sealed_pages.proofs.Truncating.{all_flushed, settles_of}
+use Rattle.sealed_pages.proofs.cutting.Truncating.{all_flushed, settles_of}
 use Rattle.section_manager.specs.Lasting.{IsGoing, IsSettling}
 use Rattle.section_manager.specs.Sealed.{adopted_bytes, is_unsettled}
 use Rattle.section_manager.specs.Sections.{section_key, key_of, IsHeld, IsKnown, IsKeyOf, IsCut}

@@ -14,9 +14,9 @@ use Rattle.sealed_pages.specs.Cutting.{IsAtRest, Settles}
 use Rattle.sealed_pages.specs.SealedPrefix.{sealed_prefix}
 use Rattle.sealed_pages.specs.Unrecovered.{IsAdopted, IsUnrecovered, IsRecovery, KeepsPrefix}
 use Rattle.sealed_pages.proofs.cutting.Calls.{sealing_less}
-use Rattle.sealed_pages.proofs.Holding.{bytes_length}
+use Rattle.sealed_pages.proofs.memory.Holding.{bytes_length}
 use Rattle.sealed_pages.proofs.Reaching.{rest_leaves}
-use Rattle.sealed_pages.proofs.Truncating.{all_flushed}
+use Rattle.sealed_pages.proofs.cutting.Truncating.{all_flushed}
 use Rattle.sealed_pages.proofs.UnrecoveredLemmas.{adopted_backed, keeps_now}
 use Rattle.section_manager.specs.Sealed.{Stands}
 use Rattle.segments.specs.FixedStepping.{IsFlushed, IsCutBack}

@@ -1,5 +1,5 @@
 -- What the check of one section of a checkpoint adds to the check of those before it.
-use Rattle.std.specs.Prelude.{◌≡◌, ◌≢◌, ◌⊎◌, ◌↔◌, ℕ, ◌+◌, ◌-◌, ◌*◌, ◌/◌, ◌%◌, ◌^◌, ◌<◌, ◌≤◌, eqb, cond, Bool, true, false, List, [], ◌∷◌, ◌++◌, length, Option, None, Some, Result, Ok, Err, IfOk, OnOk, OnErr, IsTrue, IsSome, IsSomeAnd}
+use Rattle.std.specs.Prelude.{◌≡◌, ◌≢◌, ◌⊎◌, ◌↔◌, ℕ, ◌+◌, ◌-◌, ◌*◌, ◌/◌, ◌%◌, ◌^◌, ◌<◌, ◌≤◌, eqb, cond, Bool, List, [], ◌∷◌, ◌++◌, length, Option, None, Some, Result, Ok, Err, IfOk, OnErr, IsTrue, IsSome, IsSomeAnd}
 use Rattle.std.specs.Result.{IsErrOf}
 use Rattle.std.specs.List.{Contains}
 use Rattle.std.proofs.Common.{inl, inr, refl, sym, ◌∙◌, ap, subst, arith}
@@ -17,8 +17,8 @@ use Rattle.sealed_pages.specs.Shown.{shown}
 use Rattle.sealed_pages.specs.Buffer.{size_of}
 use Rattle.sealed_pages.specs.View.{view}
 use Rattle.sealed_pages.specs.declared.page_blob.PageBlob.{PageBlob}
-use Rattle.sealed_pages.proofs.Holding.{bool_or, extent_more}
-use Rattle.sealed_pages.proofs.Looking.{unchanged_now, unchanged_start, unchanged_then}
+use Rattle.sealed_pages.proofs.memory.Holding.{bool_or, extent_more}
+use Rattle.sealed_pages.proofs.looking.Looking.{unchanged_now, unchanged_start, unchanged_then}
 use Rattle.value_codec.specs.declared.codec.Error as codec
 use Rattle.section_manager.specs.Refusing.{HasFailed}
 use Rattle.section_manager.specs.Sections.{Sections, section_key, key_of, IsHeld, IsOver}
@@ -28,7 +28,9 @@ use Rattle.section_manager.specs.declared.journal.Damage.{Damage}
 use Rattle.section_manager.specs.declared.journal.Error.{Error}
 use Rattle.section_manager.specs.declared.journal.Error.TheVariants.{Codec, Corruption}
 use Rattle.section_manager.proofs.WalkLemmas.{value_of, has_value, none_or_value}
-use Rattle.segments.specs.FixedCheckpoint.{boundary_at, IsUnder, IsPartial, IsMissing, IsUnsealed, IsRefused, IsPassed, IsRefusedItem, IsShown, AreChecked, HasCome, PassesBelow, Looks}
+use Rattle.segments.specs.FixedCheckpoint.{boundary_at, IsUnder, IsRefused, IsPassed, IsRefusedItem, IsShown, AreChecked, HasCome, Looks}
+use Rattle.segments.specs.FixedChecks.{ChecksMarker}
+use Rattle.segments.specs.declared.fixed.preflighting.Target.{Target}
 use Rattle.segments.specs.FixedFloors as marks
 use Rattle.segments.specs.FixedFloors.{Floors, IsBoundary, AreAdopted}
 use Rattle.segments.specs.FixedLists.{section_size, size_held}
@@ -40,6 +42,10 @@ use Rattle.segments.proofs.FixedWriteLemmas.{ArePages}
 -- n whole items have the bytes that they were counted by
 pub whole_count : (n size : ℕ) → 1 ≤ size → n % size ≡ 0 → n / size * size ≡ n
 whole_count n size pos is = omega (arith, pos, is)
+
+-- by another name of the size
+pub count_as : (n m size : ℕ) → m ≡ size → 1 ≤ size → n % size ≡ 0 → n / m * size ≡ n
+count_as n m size is pos whole = ap (λ (k : ℕ). n / k * size) is ∙ whole_count n size pos whole
 
 module _ (seal : List ℕ → ℕ) (P size : ℕ) (partition : List ℕ) (at bytes : ℕ) (d : Disk) where
   -- the checkpoint's own section ends where it says
@@ -286,27 +292,11 @@ module _ {A D F S : Type 0} {gs : _} (seal : List ℕ → ℕ) (P size : ℕ) (p
 
   -- ---- the check of a section's items
   module _ {T : Type 0} (see : T → Floors A) (sections_of : T → Sections F (PageBlob S gs)) (f : Floors A) (s items : ℕ) (old new : D) where
-    -- What the check of so many items of the section answers.
-    pub record Answers (r : Result T Error) : Type 0 where
-      pub over : IsOver g gives dev.Tells m (dev.opened new) (disk (dev.time new))
-      pub sections : IfOk r (λ x. sections_of x ≡ m)
-      pub floor : IfOk r (λ x. (see x).floor_of s ≡ items * size)
-      pub there : dev.Tells → OnOk r (IsTrue (disk (dev.time old) (section_key partition s)).there)
-      pub empty : items ≡ 0 → IfOk r (λ x. (see x).boundary_of s ≡ Some None)
-      pub boundary : dev.Tells → 0 < items → IfOk r (λ x. IsSomeAnd ((see x).boundary_of s) (λ o. IsSomeAnd o
-          (IsBoundary seal P size spelling accepted (disk (dev.time old) (section_key partition s)).content items)))
-      pub floors : IfOk r (λ x. (q : ℕ) → q ≢ s → (see x).floor_of q ≡ f.floor_of q)
-      pub boundaries : IfOk r (λ x. (q : ℕ) → q ≢ s → (see x).boundary_of q ≡ f.boundary_of q)
-      pub damage : dev.Tells → (x : Damage) → IsErrOf r (Corruption x) → (x.section ≡ s) × marks.IsRefused seal P size (disk (dev.time old) (section_key partition s)) items x
-      pub refused : dev.Tells → (e : codec.Error) → IsErrOf r (Codec e) → (0 < items)
-          × (refusal (data_from P (view (disk (dev.time old) (section_key partition s)).content) ((items - 1) * size) size) tt ≡ Some e)
-          × IsCovered seal P (disk (dev.time old) (section_key partition s)).content ((items - 1) * size) size
-      pub unchanged : dev.Tells → Unchanged (dev.time old) (dev.time new)
-      pub entries : (q : Key) → q ≢ section_key partition s → dev.opened new q ≡ dev.opened old q
-      pub faults : dev.faults old ≤ dev.faults new
-      pub cause : OnErr r (((x : Damage) × IsErrOf r (Corruption x)) ⊎ (((e : codec.Error) × IsErrOf r (Codec e)) ⊎ HasFailed r (dev.faults old) (dev.faults new)))
+    -- what the check of so many items of the section answers
+    abbrev pub Answers : Option Target → Result T Error → Type 0
+    Answers aim r = ChecksMarker see sections_of f.floor_of f.boundary_of aim m s seal P size partition spelling accepted refusal dev g gives items old new r
 
-    module _ (r : Result T Error) (has : Answers r) (Ends : T → Type 0) (pos : 1 ≤ size) (fits : items * size < 2 ^ 64) (place : m.partition ≡ partition)
+    module _ {aim : Option Target} (r : Result T Error) (has : Answers aim r) (Ends : T → Type 0) (pos : 1 ≤ size) (fits : items * size < 2 ^ 64) (place : m.partition ≡ partition)
         (le : s ≤ at)
         (ends : dev.Tells → boundary_at seal P size partition at bytes (disk (dev.time old)) s ≡ items * size)
         (under : dev.Tells → IsUnder seal P size partition at bytes (disk (dev.time old)) s)
@@ -331,7 +321,7 @@ module _ {A D F S : Type 0} {gs : _} (seal : List ℕ → ℕ) (P size : ℕ) (p
       }
 
     -- what is then known of the sections
-    pub come_one : (x : T) (IsNamed Named : ℕ → Type 0) (k : Sections F (PageBlob S gs)) → Answers (Ok x) → 1 ≤ size
+    pub come_one : {aim : Option Target} (x : T) (IsNamed Named : ℕ → Type 0) (k : Sections F (PageBlob S gs)) → Answers aim (Ok x) → 1 ≤ size
         → (dev.Tells → boundary_at seal P size partition at bytes (disk (dev.time old)) s ≡ items * size)
         → (dev.Tells → IsUnder seal P size partition at bytes (disk (dev.time old)) s)
         → (dev.Tells → s ≡ at → bytes < adopted_size seal P (disk (dev.time old) (section_key partition s)).content → bytes ≤ length (sealed_prefix seal P (disk (dev.time old) (section_key partition s)).content))
@@ -353,7 +343,7 @@ module _ {A D F S : Type 0} {gs : _} (seal : List ℕ → ℕ) (P size : ℕ) (p
         }) whole has.sections had
 
     -- an earlier section was checked, with those below it
-    pub whole_looks : (r : Result T Error) (done : List ℕ) (k : Sections F (PageBlob S gs)) → Answers r → 1 ≤ size → items * size < 2 ^ 64 → m.partition ≡ partition → s < at → IsHeld m s
+    pub whole_looks : {aim : Option Target} (r : Result T Error) (done : List ℕ) (k : Sections F (PageBlob S gs)) → Answers aim r → 1 ≤ size → items * size < 2 ^ 64 → m.partition ≡ partition → s < at → IsHeld m s
         → (dev.Tells → adopted_size seal P (disk (dev.time old) (section_key partition s)).content ≡ items * size)
         → (dev.Tells → IsTrue (disk (dev.time old) (section_key partition s)).there)
         → (dev.Tells → (q : ℕ) → q < s → IsUnder seal P size partition at bytes (disk (dev.time old)) q → Contains done q × (q < at))
@@ -361,7 +351,7 @@ module _ {A D F S : Type 0} {gs : _} (seal : List ℕ → ℕ) (P size : ℕ) (p
         → HasCome seal P size partition at bytes spelling accepted (λ q. Contains done q × (q < at)) dev.Tells m k f (disk (dev.time old))
         → Looks seal P size partition at bytes spelling accepted refusal dev r old new g gives m
         (λ x. HasCome seal P size partition at bytes spelling accepted (λ q. Contains (done ++ s ∷ []) q × (q < at)) dev.Tells m (sections_of x) (see x) (disk (dev.time old)))
-    whole_looks r done k has pos fits place less held adopted there named whole had =
+    whole_looks {aim = aim} r done k has pos fits place less held adopted there named whole had =
         looks_one r has (λ x. HasCome seal P size partition at bytes spelling accepted (λ q. Contains (done ++ s ∷ []) q × (q < at)) dev.Tells m (sections_of x) (see x) (disk (dev.time old)))
         pos fits place (omega (arith, less)) ends (λ t. inr (less, there t)) (λ t. inl (there t))
         (λ t. passes_below seal P size partition at bytes spelling accepted dev.Tells f (disk (dev.time old)) s (named t) t had.checked) (found r has)
@@ -369,7 +359,7 @@ module _ {A D F S : Type 0} {gs : _} (seal : List ℕ → ℕ) (P size : ℕ) (p
         ends : dev.Tells → boundary_at seal P size partition at bytes (disk (dev.time old)) s ≡ items * size
         ends t = boundary_earlier seal P size partition at bytes (disk (dev.time old)) s less ∙ adopted t
 
-        found : (x : Result T Error) → Answers x → IfOk x (λ x. HasCome seal P size partition at bytes spelling accepted (λ q. Contains (done ++ s ∷ []) q × (q < at)) dev.Tells m (sections_of x) (see x) (disk (dev.time old)))
+        found : (x : Result T Error) → Answers aim x → IfOk x (λ x. HasCome seal P size partition at bytes spelling accepted (λ q. Contains (done ++ s ∷ []) q × (q < at)) dev.Tells m (sections_of x) (see x) (disk (dev.time old)))
         found (Err e) has = tt
         found (Ok x) has = come_one x (λ q. Contains done q × (q < at)) (λ q. Contains (done ++ s ∷ []) q × (q < at)) k has pos ends (λ t. inr (less, there t)) (λ t is. absurd (omega (arith, is, less)))
             (λ q is. elim (Contains-push_cases done s q is.0) [ inl before ↦ inr (before, is.1) | inr same ↦ inl (sym same) ])

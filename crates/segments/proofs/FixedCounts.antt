@@ -11,7 +11,7 @@ use Rattle.sealed_pages.specs.Shown.{shown}
 use Rattle.sealed_pages.specs.Buffer.{size_of}
 use Rattle.sealed_pages.specs.Readers.{unread_of}
 use Rattle.sealed_pages.specs.Reads.{pages_for}
-use Rattle.sealed_pages.proofs.Holding.{bool_or}
+use Rattle.sealed_pages.proofs.memory.Holding.{bool_or}
 use Rattle.section_manager.specs.Sections.{IsHeld}
 use Rattle.segments.specs.FixedReplay.{Place, Walk, IsAhead, IsIn}
 use Rattle.segments.specs.FixedStepping.{standing, ahead_count, place_count, held_count, reads_left}

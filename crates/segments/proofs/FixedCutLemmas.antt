@@ -13,9 +13,9 @@ use Rattle.sealed_pages.specs.declared.page_blob.PageBlob.{PageBlob}
 use Rattle.sealed_pages.specs.SealedPrefix.{sealed_prefix}
 use Rattle.sealed_pages.specs.Shown.{shown}
 use Rattle.sealed_pages.specs.Unrecovered.{IsUnrecovered, IsAdopted, IsSafeCut}
-use Rattle.sealed_pages.proofs.PageCalls.{only_weaker}
-use Rattle.sealed_pages.proofs.SlotLemmas.{times_more}
-use Rattle.sealed_pages.proofs.Truncating.{all_flushed, settles_of}
+use Rattle.sealed_pages.proofs.slots.PageCalls.{only_weaker}
+use Rattle.sealed_pages.proofs.slots.SlotLemmas.{times_more}
+use Rattle.sealed_pages.proofs.cutting.Truncating.{all_flushed, settles_of}
 use Rattle.sealed_pages.proofs.UnrecoveredLemmas.{unrecovered_prefix, adopted_sealed, prefix_settled}
 use Rattle.section_manager.specs.declared.buffer.SectionBuffer as buffer
 use Rattle.section_manager.specs.Leaving.{Leaves, AllMoments}

@@ -6,7 +6,7 @@ use Rattle.blob_device.proofs.Moments.{always_now}
 use Rattle.sealed_pages.specs.Buffer.{size_of}
 use Rattle.sealed_pages.specs.Shown.{shown}
 use Rattle.sealed_pages.specs.declared.page_blob.PageBlob.{PageBlob}
-use Rattle.sealed_pages.proofs.PageCalls.{only_weaker}
+use Rattle.sealed_pages.proofs.slots.PageCalls.{only_weaker}
 use Rattle.section_manager.specs.Sections.{key_of}
 use Rattle.section_manager.specs.Setting.{Setting}
 use Rattle.section_manager.specs.declared.buffer.SectionBuffer as buffer

@@ -16,9 +16,9 @@ use Rattle.sealed_pages.specs.SealedPrefix.{sealed_prefix}
 use Rattle.sealed_pages.specs.Reads.{IsShort}
 use Rattle.sealed_pages.specs.Shown.{shown}
 use Rattle.sealed_pages.specs.declared.page_blob.PageBlob.{PageBlob}
-use Rattle.sealed_pages.proofs.Holding.{bytes_length}
-use Rattle.sealed_pages.proofs.SlotLemmas.{times_more}
-use Rattle.sealed_pages.proofs.Truncating.{all_flushed, settles_of}
+use Rattle.sealed_pages.proofs.memory.Holding.{bytes_length}
+use Rattle.sealed_pages.proofs.slots.SlotLemmas.{times_more}
+use Rattle.sealed_pages.proofs.cutting.Truncating.{all_flushed, settles_of}
 use Rattle.value_codec.specs.declared.codec.Error as codec
 use Rattle.section_manager.specs.Answers.{seen}
 use Rattle.section_manager.specs.Sections.{Sections, section_key, key_of, IsHeld, IsKeyOf, IsOver, SameBounds}

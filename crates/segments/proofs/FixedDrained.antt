@@ -1,12 +1,12 @@
 -- A journal that was opened up to a byte of a section, once it was gone over: what is left of its blobs, and what it has.
-use Rattle.std.proofs.Common.{◌≡◌, ◌⊎◌, inl, inr, ℕ, ◌+◌, ◌*◌, ◌/◌, ◌%◌, ◌^◌, ◌<◌, ◌≤◌, min, Bool, true, false, List, length, take, Option, None, Some, IsSome, IsSomeAnd, IsTrue, refl, sym, ◌∙◌, ap, subst, arith, length-take}
+use Rattle.std.proofs.Common.{◌≡◌, ◌⊎◌, inl, inr, ℕ, ◌+◌, ◌*◌, ◌/◌, ◌%◌, ◌^◌, ◌<◌, ◌≤◌, min, Bool, true, false, List, length, take, Option, None, Some, IsSomeAnd, IsTrue, refl, sym, ◌∙◌, ap, subst, arith, length-take}
 use Rattle.std.specs.Prelude.{eqb, cond}
 use Rattle.std.proofs.Math.Nat.{div-mul-le_self}
 use Rattle.std.proofs.lemmas.Bool.{cases_lt, cases_eq}
 use Rattle.std.proofs.lemmas.Bool.Decides.{nat_tests}
 use Rattle.std.proofs.lemmas.List.{take-take}
 use Rattle.std.proofs.lemmas.Nat.{le-div}
-use Rattle.blob_device.specs.Disk.{Key, Blob, Disk, past}
+use Rattle.blob_device.specs.Disk.{Blob, Disk, past}
 use Rattle.blob_device.specs.Opened.{OpenedList}
 use Rattle.blob_device.specs.Timeline.{Each}
 use Rattle.sealed_pages.specs.Buffer.{bytes_of}
@@ -16,13 +16,13 @@ use Rattle.sealed_pages.specs.Shown.{shown}
 use Rattle.sealed_pages.specs.View.{view}
 use Rattle.sealed_pages.specs.declared.page_blob.PageBlob.{PageBlob}
 use Rattle.sealed_pages.specs.declared.pages.Pages.{Pages}
-use Rattle.sealed_pages.proofs.Adopt.{length-data_from}
+use Rattle.sealed_pages.proofs.adopted.Adopt.{length-data_from}
 use Rattle.sealed_pages.proofs.Reaching.{prefix_size}
-use Rattle.sealed_pages.proofs.SlotLemmas.{times_more, times_next}
+use Rattle.sealed_pages.proofs.slots.SlotLemmas.{times_more, times_next}
 use Rattle.value_codec.specs.declared.codec.Error as codec
 use Rattle.section_manager.specs.Lasting.{IsGoing}
 use Rattle.section_manager.specs.SealedLaws.{all_settled}
-use Rattle.section_manager.specs.Sections.{section_key, key_of, IsHeld}
+use Rattle.section_manager.specs.Sections.{key_of, IsHeld}
 use Rattle.section_manager.specs.Setting.{Setting}
 use Rattle.section_manager.specs.declared.buffer.SectionBuffer as buffer
 use Rattle.section_manager.specs.declared.sealed.AppendFactory.{AppendFactory}

@@ -1,9 +1,8 @@
 -- The sections before a checkpoint's are checked one after another.
-use Rattle.std.specs.Prelude.{◌≡◌, ◌≢◌, ◌⊎◌, ◌↔◌, ℕ, ◌+◌, ◌^◌, ◌<◌, ◌≤◌, List, [], ◌∷◌, ◌++◌, length, take, drop, get_or, Option, None, Some, Result, Ok, Err, IfOk, OnErr, IsTrue, IsSome}
+use Rattle.std.specs.Prelude.{◌≡◌, ◌≢◌, ◌↔◌, ℕ, ◌+◌, ◌^◌, ◌<◌, ◌≤◌, List, [], ◌∷◌, ◌++◌, length, take, drop, get_or, Option, None, Result, Ok, Err, IsTrue}
 use Rattle.std.specs.List.{Contains}
 use Rattle.std.specs.List.Sorted.{IsStrictlySortedBy}
 use Rattle.std.specs.Ordering.{nat_cmp}
-use Rattle.std.specs.Result.{IsErrOf}
 use Rattle.std.proofs.Common.{inl, inr, refl, sym, ◌∙◌, ap, subst, arith}
 use Rattle.std.proofs.lemmas.List.{take-append-drop, take_more, append_assoc}
 use Rattle.std.proofs.lemmas.List.Elements.{Contains-append_left, Contains-push, Contains-push_cases}
@@ -13,7 +12,7 @@ use Rattle.blob_device.specs.Timeline.{disk}
 use Rattle.blob_device.specs.declared.device.Device as device
 use Rattle.sealed_pages.specs.Reading.{Unchanged}
 use Rattle.sealed_pages.specs.declared.page_blob.PageBlob.{PageBlob}
-use Rattle.sealed_pages.proofs.Looking.{unchanged_now, unchanged_start}
+use Rattle.sealed_pages.proofs.looking.Looking.{unchanged_now, unchanged_start}
 use Rattle.value_codec.specs.declared.codec.Error as codec
 use Rattle.section_manager.specs.Sections.{Sections, section_key, key_of, IsHeld, IsOver}
 use Rattle.section_manager.specs.Setting.{Setting}
@@ -22,7 +21,8 @@ use Rattle.section_manager.specs.declared.journal.Error.{Error}
 use Rattle.section_manager.specs.declared.journal.Error.TheVariants.{Mem}
 use Rattle.section_manager.specs.declared.sealed.AppendFactory.{AppendFactory}
 use Rattle.section_manager.proofs.TurnLemmas.{before_turn}
-use Rattle.segments.specs.FixedCheckpoint.{IsUnder, IsShown, IsPassed, AreChecked, HasCome, Looks}
+use Rattle.segments.specs.FixedCheckpoint.{IsUnder, AreChecked, HasCome, Looks}
+use Rattle.segments.specs.FixedChecks.{AreCheckable}
 use Rattle.segments.specs.FixedFloors.{Floors, AreAdopted}
 use Rattle.segments.proofs.FixedBoundsEnds.{if_ok_on}
 use Rattle.segments.proofs.FixedChecking.{come_named, looks_then}
@@ -65,11 +65,8 @@ module _ {A S : Type 0} {gs : _} (seal : List ℕ → ℕ) (size : ℕ) (at : �
 module _ {A D S T : Type 0} {gs : _} (seal : List ℕ → ℕ) (size : ℕ) (at : ℕ) (spelling : A → List ℕ) (accepted : A → Unit {0} → Type 0) (refusal : List ℕ → Unit {0} → Option codec.Error) (dev : device.Ghosts D)
     (g : buffer.Ghosts (PageBlob S gs)) (gives : AppendFactory S → Setting) (m : Sections (AppendFactory S) (PageBlob S gs)) (see : T → Floors A) (sections_of : T → Sections (AppendFactory S) (PageBlob S gs)) where
   -- what the check of a section asks
-  pub record Ready (k : Sections (AppendFactory S) (PageBlob S gs)) (opened : OpenedList) (d : Disk) : Type 0 where
-    pub floor : k.floor ≡ 0
-    pub over : IsOver g gives dev.Tells k opened d
-    pub adopted : dev.Tells → AreAdopted seal k d
-    pub held : dev.Tells → (s : ℕ) → s < 2 ^ 64 → IsHeld k s ↔ (IsTrue (d (section_key k.partition s)).there × (s ≤ k.ceiling))
+  abbrev pub Ready : Sections (AppendFactory S) (PageBlob S gs) → OpenedList → Disk → Type 0
+  Ready k opened d = AreCheckable g gives seal dev.Tells k opened d
 
   -- These numbers are gone over.
   pub record Gone (done : List ℕ) (k : Sections (AppendFactory S) (PageBlob S gs)) (f : Floors A) (old now : D) : Type 0 where

@@ -11,8 +11,8 @@ use Rattle.sealed_pages.specs.Buffer.{size_of, IsSealed}
 use Rattle.sealed_pages.specs.Readers.{next_of}
 use Rattle.sealed_pages.specs.Reads.{IsShort}
 use Rattle.sealed_pages.specs.Unrecovered.{IsAdopted}
-use Rattle.sealed_pages.proofs.Holding.{bytes_length}
-use Rattle.sealed_pages.proofs.SlotLemmas.{times_next}
+use Rattle.sealed_pages.proofs.memory.Holding.{bytes_length}
+use Rattle.sealed_pages.proofs.slots.SlotLemmas.{times_next}
 use Rattle.section_manager.specs.declared.buffer.SectionBuffer as buffer
 use Rattle.section_manager.specs.Setting.{Setting}
 use Rattle.section_manager.specs.Sections.{key_of}

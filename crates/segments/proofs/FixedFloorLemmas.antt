@@ -18,7 +18,7 @@ use Rattle.blob_device.specs.declared.runtime.RError.TheVariants as runtime
 use Rattle.blob_device.specs.Counts.{Rose}
 use Rattle.blob_device.specs.Opened.{Opened, OpenedList}
 use Rattle.blob_device.specs.Timeline.{Timeline, disk, Always, Each}
-use Rattle.blob_device.proofs.Moments.{always_then, always_weaker, always_now}
+use Rattle.blob_device.proofs.Moments.{always_now}
 use Rattle.sealed_pages.specs.declared.pages.Pages.{Pages}
 use Rattle.blob_device.proofs.Results.{on_err}
 use Rattle.value_codec.specs.declared.codec.Error as codec
@@ -28,13 +28,13 @@ use Rattle.sealed_pages.specs.Reading.{Unchanged}
 use Rattle.sealed_pages.specs.SealedPrefix.{sealed_prefix, adopted_size, data_from}
 use Rattle.sealed_pages.specs.Shown.{shown}
 use Rattle.sealed_pages.specs.View.{view}
-use Rattle.sealed_pages.proofs.Adopt.{length-data_from}
+use Rattle.sealed_pages.proofs.adopted.Adopt.{length-data_from}
 use Rattle.sealed_pages.specs.Buffer.{size_of, bytes_of}
 use Rattle.sealed_pages.specs.Entries.{IsOpenAt}
-use Rattle.sealed_pages.proofs.Holding.{bytes_length}
-use Rattle.sealed_pages.proofs.Looking.{unchanged_now}
+use Rattle.sealed_pages.proofs.memory.Holding.{bytes_length}
+use Rattle.sealed_pages.proofs.looking.Looking.{unchanged_now}
 use Rattle.sealed_pages.proofs.Reaching.{prefix_size}
-use Rattle.sealed_pages.proofs.SlotLemmas.{times_next}
+use Rattle.sealed_pages.proofs.slots.SlotLemmas.{times_next}
 use Rattle.sealed_pages.proofs.UnrecoveredLemmas.{adopted_backed}
 use Rattle.section_manager.specs.declared.buffer.SectionBuffer as buffer
 use Rattle.section_manager.specs.declared.journal.Damage.{Damage}
@@ -127,20 +127,6 @@ module _ (partition : List ℕ) (ceiling : ℕ) (from : Timeline) where
 
     pub was_there : IsTrue (disk now (section_key partition s)).there → IsTrue (disk from (section_key partition s)).there
     was_there = settling_was partition ceiling (disk from) (section_key partition s) (disk now (section_key partition s)) settling_now
-
--- what the opening and the checks did to the device
-pub record Settled (told : Type 0) (partition : List ℕ) (ceiling : ℕ) (from now : Timeline) (first opened : OpenedList) : Type 0 where
-  pub moments : told → Always from now (Each (IsSettling partition ceiling (disk from)))
-  pub entries : (q : Key) → ((s : ℕ) → s ≤ ceiling → q ≢ section_key partition s) → opened q ≡ first q
-
--- a read of the section s more
-pub settled_read : (told : Type 0) (partition : List ℕ) (ceiling : ℕ) (from now next : Timeline) (first before after : OpenedList) (s : ℕ) → s ≤ ceiling → (told → Unchanged now next) → OnlyOwnEntry (section_key partition s) before after
-    → Settled told partition ceiling from now first before → Settled told partition ceiling from next first after
-settled_read told partition ceiling from now next first before after s le same own settled = record {
-  moments = λ t. (let R : Disk → Type 0 = Each (IsSettling partition ceiling (disk from)) in
-      always_then from now next R (settled.moments t) (always_weaker now next (λ d. d ≡ disk now) R (λ d is. subst R (sym is) (always_now from now R (settled.moments t))) (same t)));
-  entries = λ q none. own q (none s le) ∙ settled.entries q none;
-}
 
 -- ---- the sections of an opening up to a ceiling
 module _ {F S : Type 0} {gs : _} (g : buffer.Ghosts (PageBlob S gs)) (gives : F → Setting) (told : Type 0) (partition : List ℕ) (ceiling : ℕ) (from : Timeline) where

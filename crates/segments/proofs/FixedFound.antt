@@ -1,13 +1,11 @@
 -- What the check of a checkpoint finds, where nothing is refused.
-use Rattle.std.specs.Prelude.{⊤, ◌≡◌, ◌≢◌, ◌⊎◌, ◌↔◌, ℕ, ◌*◌, ◌/◌, ◌%◌, ◌^◌, ◌<◌, ◌≤◌, Bool, false, List, length, Option, None, Some, IsTrue, IsSome, IsSomeAnd}
+use Rattle.std.specs.Prelude.{◌≡◌, ◌↔◌, ℕ, ◌%◌, ◌^◌, ◌<◌, ◌≤◌, Bool, List, length, Option, None, Some, IsTrue, IsSome, IsSomeAnd}
 use Rattle.std.proofs.Common.{inl, inr, refl, sym, ◌∙◌, ap, subst, arith}
 use Rattle.std.proofs.lemmas.Bool.{cases_lt, cases_eq}
-use Rattle.blob_device.specs.Disk.{Key, Disk}
+use Rattle.blob_device.specs.Disk.{Key}
 use Rattle.blob_device.specs.Opened.{OpenedList}
 use Rattle.blob_device.specs.Timeline.{Timeline, disk, Always, Each}
-use Rattle.sealed_pages.specs.Buffer.{size_of}
 use Rattle.sealed_pages.specs.SealedPrefix.{sealed_prefix, adopted_size}
-use Rattle.sealed_pages.specs.Shown.{shown}
 use Rattle.sealed_pages.specs.declared.page_blob.PageBlob.{PageBlob}
 use Rattle.sealed_pages.specs.declared.pages.Pages.{Pages}
 use Rattle.section_manager.specs.Lasting.{IsSettling}
@@ -23,7 +21,7 @@ use Rattle.segments.specs.FixedCheckpoint.{boundary_at, IsUnder, AreChecked, Has
 use Rattle.segments.specs.FixedFloors.{Floors}
 use Rattle.segments.specs.FixedLists.{Lists, section_size, size_held}
 use Rattle.segments.specs.declared.fixed.preflighting.Target.{Target}
-use Rattle.segments.proofs.FixedAsBefore.{checked_same, under_back}
+use Rattle.segments.proofs.FixedAsBefore.{checked_same}
 use Rattle.segments.proofs.FixedChecking.{boundary_own, adopted_here, whole_count}
 use Rattle.segments.proofs.FixedFloorLemmas.{AreOpened, adopted_now, was_there}
 use Rattle.segments.proofs.FixedOpenLemmas.{opened_journal}

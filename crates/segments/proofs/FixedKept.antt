@@ -2,7 +2,7 @@
 use Rattle.std.proofs.Common.{◌≡◌, inl, inr, ℕ, ◌+◌, ◌*◌, ◌/◌, ◌%◌, ◌<◌, ◌≤◌, List, length, take, drop, refl, sym, ◌∙◌, ap, subst, arith, length-take, length-drop}
 use Rattle.std.proofs.lemmas.Bool.{cases_lt}
 use Rattle.std.proofs.lemmas.Nat.{le-div, div_below, mul-le}
-use Rattle.sealed_pages.proofs.Holding.{bytes_length, div_place}
+use Rattle.sealed_pages.proofs.memory.Holding.{bytes_length, div_place}
 use Rattle.std.proofs.lemmas.List.{get_or-take, get_or-drop}
 use Rattle.std.proofs.Math.Nat.{div-mul-le_self}
 use Rattle.blob_device.specs.Disk.{Blob}
@@ -13,13 +13,13 @@ use Rattle.sealed_pages.specs.SealedPrefix.{sealed_prefix, adopted_size, data_fr
 use Rattle.sealed_pages.specs.Slots.{best_slot}
 use Rattle.sealed_pages.specs.Unrecovered.{IsAdopted}
 use Rattle.sealed_pages.specs.View.{View, view}
-use Rattle.sealed_pages.proofs.Adopt.{best_length, length-data_from, get_or-data_from}
+use Rattle.sealed_pages.proofs.adopted.Adopt.{best_length, length-data_from, get_or-data_from}
 use Rattle.sealed_pages.proofs.Reaching.{own_prefix}
-use Rattle.sealed_pages.proofs.ReadLemmas.{read_data}
-use Rattle.sealed_pages.proofs.ReplayLemmas.{data_all}
-use Rattle.sealed_pages.proofs.SealedBytes.{covers_length}
-use Rattle.sealed_pages.proofs.SlotLemmas.{times_next}
-use Rattle.sealed_pages.proofs.Truncating.{holds_prefix, prefix_covers}
+use Rattle.sealed_pages.proofs.looking.ReadLemmas.{read_data}
+use Rattle.sealed_pages.proofs.looking.ReplayLemmas.{data_all}
+use Rattle.sealed_pages.proofs.slots.SealedBytes.{covers_length}
+use Rattle.sealed_pages.proofs.slots.SlotLemmas.{times_next}
+use Rattle.sealed_pages.proofs.cutting.Truncating.{holds_prefix, prefix_covers}
 use Rattle.sealed_pages.proofs.UnrecoveredLemmas.{adopted_backed, prefix_short}
 use Rattle.segments.specs.FixedItems.{item_at}
 

@@ -1,5 +1,5 @@
 -- Which items of a fixed journal are in memory whole, and what that says of their pages.
-use Rattle.std.proofs.Common.{◌≡◌, ◌↔◌, inl, inr, ℕ, zero, suc, ◌+◌, ◌-◌, ◌*◌, ◌/◌, ◌<◌, ◌≤◌, min, eqb, cond, count_by, Bool, true, false, List, length, get_or, take, refl, sym, ◌∙◌, ap, subst, arith}
+use Rattle.std.proofs.Common.{◌≡◌, ◌↔◌, inl, inr, ℕ, zero, suc, ◌+◌, ◌-◌, ◌*◌, ◌/◌, ◌<◌, ◌≤◌, eqb, cond, count_by, Bool, true, false, List, length, get_or, take, refl, sym, ◌∙◌, ap, subst, arith}
 use Rattle.std.specs.Prelude.{nat_eq}
 use Rattle.std.specs.List.{list_any}
 use Rattle.std.proofs.lemmas.Bool.{cases_eq, cases_lt, eq-eqb, eqb-true}
@@ -8,10 +8,10 @@ use Rattle.std.proofs.Math.Nat.{mul-le-mul_right}
 use Rattle.sealed_pages.specs.Buffer.{Buffer, size_of, cached, is_cached, IsBacked}
 use Rattle.sealed_pages.specs.Cached.{uncached, IsCachedOf}
 use Rattle.sealed_pages.specs.Reads.{IsCacheFor, IsHeld, IsCovered, IsWanted, touched, below, missing_pages}
-use Rattle.sealed_pages.proofs.CacheLemmas.{found_page_has, uncached_most}
-use Rattle.sealed_pages.proofs.HeldLemmas.{held_from, held_to, wanted_low}
-use Rattle.sealed_pages.proofs.Holding.{bool_or, div_place}
-use Rattle.sealed_pages.proofs.SlotLemmas.{times_next}
+use Rattle.sealed_pages.proofs.memory.CacheLemmas.{found_page_has, uncached_most}
+use Rattle.sealed_pages.proofs.memory.HeldLemmas.{held_from, held_to, wanted_low}
+use Rattle.sealed_pages.proofs.memory.Holding.{bool_or, div_place}
+use Rattle.sealed_pages.proofs.slots.SlotLemmas.{times_next}
 use Rattle.segments.proofs.FixedReadLemmas.{touched_most, touched_none, touched_some}
 
 eqb_none : (n : ℕ) → n ≡ 0 → eqb n 0 ≡ true

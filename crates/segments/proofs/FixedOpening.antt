@@ -1,7 +1,7 @@
 -- A replay of a fixed journal begins a section: the step that this is.
-use Rattle.std.specs.Prelude.{◌≡◌, ◌⊎◌, ◌↔◌, ℕ, ◌+◌, ◌-◌, ◌*◌, ◌/◌, ◌%◌, ◌^◌, ◌<◌, ◌≤◌, min, cond, Bool, true, false, List, [], length, IsTrue, IsSomeAnd, Option, None, Some, IsSome, Result, Ok, Err}
+use Rattle.std.specs.Prelude.{◌≡◌, ◌⊎◌, ◌↔◌, ℕ, ◌+◌, ◌-◌, ◌*◌, ◌/◌, ◌%◌, ◌^◌, ◌<◌, ◌≤◌, cond, Bool, true, false, List, [], length, IsTrue, IsSomeAnd, Option, None, Some, IsSome, Result, Ok, Err}
 use Rattle.std.proofs.Common.{inl, inr, refl, sym, ◌∙◌, ap, subst, arith, eqb}
-use Rattle.sealed_pages.proofs.Holding.{bool_or}
+use Rattle.sealed_pages.proofs.memory.Holding.{bool_or}
 use Rattle.std.proofs.Math.Nat.{div-mul-le_self}
 use Rattle.std.proofs.lemmas.Bool.{cases_eq, eq-eqb, eqb-true}
 use Rattle.std.proofs.lemmas.Nat.{le-div}
@@ -17,8 +17,8 @@ use Rattle.sealed_pages.specs.Readers.{Reader, IsReplayOf}
 use Rattle.sealed_pages.specs.Reads.{pages_for}
 use Rattle.sealed_pages.specs.SealedPrefix.{sealed_prefix}
 use Rattle.sealed_pages.specs.Unrecovered.{IsUnrecovered, IsAdopted, HasPrefix, KeepsPrefix}
-use Rattle.sealed_pages.proofs.Holding.{fit_size}
-use Rattle.sealed_pages.proofs.ReplayLemmas.{covered_none}
+use Rattle.sealed_pages.proofs.memory.Holding.{fit_size}
+use Rattle.sealed_pages.proofs.looking.ReplayLemmas.{covered_none}
 use Rattle.sealed_pages.proofs.UnrecoveredLemmas.{prefix_leaves}
 use Rattle.value_codec.specs.declared.codec.Error as codec
 use Rattle.section_manager.specs.declared.buffer.SectionBuffer as buffer
@@ -36,7 +36,7 @@ use Rattle.segments.proofs.FixedReading.{the_some, here}
 use Rattle.segments.proofs.FixedErrorSteps.{failed_other, failed_sound, failed_not_codec}
 use Rattle.segments.proofs.FixedOwed.{same_items}
 use Rattle.segments.proofs.FixedSteps.{Called, call_failed, call_passed}
-use Rattle.segments.proofs.FixedWalks.{IsBehind, IsReached, MayCut, MayFlush, MayFront, is_some, same_some, none_in, key_new, first_same, held_back, held_on, kept_other, later_one}
+use Rattle.segments.proofs.FixedWalks.{IsBehind, IsReached, MayCut, MayFlush, MayFront, is_some, same_some, some_of, none_in, key_new, first_same, held_back, held_on, kept_other, later_one}
 use Rattle.segments.proofs.FixedWalksOn.{IsKnownAgain, replaying_start, replaying_here, moments_of}
 
 -- the start's section is given from the start on
@@ -67,6 +67,12 @@ module _ {F S : Type 0} {gs : _} (seal : List ℕ → ℕ) (size : ℕ) (g : buf
         go : (owes : Bool) → first ≡ cond owes 0 (first_of w s) → first * size ≤ size_of (shown u)
         go true is = omega (arith, ap (λ (k : ℕ). k * size) is)
         go false is = omega (arith, start_fits, ap (λ (k : ℕ). k * size) is)
+
+  -- and a u64 counts where it begins
+  pub begin_small : (w : Walk F (PageBlob S gs)) (s : ℕ) (before : OpenedList) (d : Disk) → IsWalk g gives seal size told w before d → IsSome (w.journal.sections.held s) → IsAhead w s
+      → (first : ℕ) → first ≡ cond (w.journal.unrecovered s) 0 (first_of w s) → first * size < 2 ^ 64
+  begin_small w s before d was held ahead first is = (let u = some_of (w.journal.sections.held s) held in
+      omega (arith, begin_fits w s before d was u.0 u.1 ahead first is, fit_size _ _ _ _ u.0.fit))
 
   -- A section is begun: the next one that is ahead.
   module _ (w new : Walk F (PageBlob S gs)) (s : ℕ) (n : Option ℕ) (p : Option Place) (before after : OpenedList) (a b : Timeline) (was : IsWalk g gives seal size told w before (disk a)) (none : w.place ≡ None)

@@ -1,5 +1,5 @@
 -- How an opening of a fixed journal up to a section ends.
-use Rattle.std.specs.Prelude.{◌≡◌, ◌≢◌, ◌⊎◌, ◌↔◌, ℕ, ◌+◌, ◌%◌, ◌^◌, ◌<◌, ◌≤◌, Bool, false, List, [], Option, None, Some, Result, Ok, Err, OnErr, IsTrue, IsSome}
+use Rattle.std.specs.Prelude.{◌≡◌, ◌≢◌, ◌⊎◌, ◌↔◌, ℕ, ◌%◌, ◌^◌, ◌<◌, ◌≤◌, Bool, false, List, [], Option, None, Some, Result, Ok, Err, IsTrue, IsSome}
 use Rattle.std.specs.BTreeMap.{BTreeMap}
 use Rattle.std.specs.Result.{IsErrOf}
 use Rattle.std.proofs.Common.{inl, inr, refl, sym, ◌∙◌, ap, subst, arith}
@@ -23,9 +23,8 @@ use Rattle.segments.specs.FixedLists.{Lists, floor_in, section_size}
 use Rattle.segments.specs.FixedOpens.{Opens}
 use Rattle.segments.proofs.FixedCutLemmas.{no_rest}
 use Rattle.segments.proofs.FixedOpenLemmas.{no_floor, above_ceiling, opened_cause, opened_journal, opened_bytes}
-use Rattle.segments.proofs.FixedPassing.{error_back, no_error}
 use Rattle.segments.proofs.FixedWriteLemmas.{ArePages}
-use Rattle.sealed_pages.proofs.Looking.{unchanged_start}
+use Rattle.sealed_pages.proofs.looking.Looking.{unchanged_start}
 
 none_of : {T : Type 0} (o : Option T) → (IsSome o → ⊥) → o ≡ None
 none_of None never = refl

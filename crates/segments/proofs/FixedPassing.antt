@@ -1,5 +1,5 @@
 -- What a call of a fixed journal that fails passes on of the call below it.
-use Rattle.std.proofs.Common.{◌≡◌, ◌⊎◌, ◌↔◌, ◌∙◌, ◌≤◌, inl, inr, ℕ, List, Bool, false, Option, Some, None, Result, Ok, Err, refl, ap, sym, subst, OnErr, IfOk}
+use Rattle.std.proofs.Common.{◌≡◌, ◌⊎◌, ◌↔◌, ◌≤◌, inl, inr, ℕ, List, Result, Ok, Err, sym, subst, OnErr, IfOk}
 use Rattle.std.specs.Result.{IsErr, IsErrOf}
 use Rattle.blob_device.proofs.Results.{err_with}
 use Rattle.section_manager.specs.declared.journal.Error.{Error}

@@ -1,6 +1,6 @@
 -- What is told of a section that is sealed no further than a checkpoint.
 use Rattle.std.specs.Result.{IsErrOf}
-use Rattle.std.proofs.Common.{◌≡◌, ℕ, ◌<◌, ◌≤◌, min, List, length, Option, Some, Err, IsSomeAnd, refl, sym, ◌∙◌, ap, subst, arith}
+use Rattle.std.proofs.Common.{◌≡◌, ℕ, ◌<◌, ◌≤◌, min, List, length, Some, Err, IsSomeAnd, refl, sym, ◌∙◌, ap, subst, arith}
 use Rattle.blob_device.specs.Disk.{Key, Disk}
 use Rattle.sealed_pages.specs.Buffer as pages
 use Rattle.sealed_pages.specs.Buffer.{size_of}
@@ -9,7 +9,6 @@ use Rattle.sealed_pages.specs.Shown.{shown}
 use Rattle.sealed_pages.specs.declared.page_blob.PageBlob.{PageBlob}
 use Rattle.section_manager.specs.Sections.{Sections, key_of}
 use Rattle.section_manager.specs.declared.journal.Damage.{Damage}
-use Rattle.section_manager.specs.declared.journal.Error.{Error}
 use Rattle.section_manager.specs.declared.journal.Error.TheVariants.{Corruption}
 use Rattle.section_manager.proofs.WalkLemmas.{has_value, some_same}
 

@@ -1,5 +1,5 @@
 -- How the check of a checkpoint ends that is refused.
-use Rattle.std.specs.Prelude.{◌≡◌, ◌≢◌, ◌⊎◌, ◌↔◌, ℕ, ◌+◌, ◌*◌, ◌/◌, ◌%◌, ◌^◌, ◌<◌, ◌≤◌, Bool, true, false, List, Option, None, Some, Result, Ok, Err, IfOk, OnErr, IsTrue, IsSome}
+use Rattle.std.specs.Prelude.{◌≡◌, ◌≢◌, ◌⊎◌, ◌↔◌, ℕ, ◌%◌, ◌^◌, ◌<◌, ◌≤◌, Bool, true, false, List, Option, Result, Ok, Err, IfOk, OnErr, IsTrue}
 use Rattle.std.specs.Result.{IsErrOf}
 use Rattle.std.proofs.Common.{inl, inr, refl, sym, ◌∙◌, ap, subst, arith}
 use Rattle.blob_device.specs.Disk.{Key, Disk}
@@ -9,13 +9,12 @@ use Rattle.blob_device.specs.declared.device.Device as device
 use Rattle.blob_device.proofs.Moments.{always_now, always_then, always_weaker}
 use Rattle.sealed_pages.specs.Reading.{Unchanged}
 use Rattle.sealed_pages.specs.declared.pages.Pages.{Pages}
-use Rattle.sealed_pages.proofs.Looking.{unchanged_start}
+use Rattle.sealed_pages.proofs.looking.Looking.{unchanged_start}
 use Rattle.sealed_pages.specs.declared.page_blob.PageBlob.{PageBlob}
 use Rattle.value_codec.specs.declared.codec.Error as codec
-use Rattle.section_manager.specs.Answers.{RefusesNames}
 use Rattle.section_manager.specs.Lasting.{IsSettling}
 use Rattle.section_manager.specs.Refusing.{HasFailed, IsForeign}
-use Rattle.section_manager.specs.Sections.{Sections, section_key, key_of, IsHeld, IsOver}
+use Rattle.section_manager.specs.Sections.{Sections, section_key, IsHeld, IsOver}
 use Rattle.section_manager.specs.Setting.{Setting}
 use Rattle.section_manager.specs.declared.buffer.SectionBuffer as buffer
 use Rattle.section_manager.specs.declared.journal.Damage.{Damage}
@@ -24,7 +23,7 @@ use Rattle.section_manager.specs.declared.journal.Error.TheVariants.{Codec, Corr
 use Rattle.section_manager.specs.declared.sealed.AppendFactory.{AppendFactory}
 use Rattle.section_manager.proofs.InitLemmas.{settling_start}
 use Rattle.segments.specs.FixedBounds.{whole_of}
-use Rattle.segments.specs.FixedCheckpoint.{boundary_at, IsUnder, IsRefused, IsKept, IsPassed, IsRefusedItem, HasCome, Looks, Checks}
+use Rattle.segments.specs.FixedCheckpoint.{boundary_at, IsUnder, IsRefused, IsPassed, HasCome, Looks, Checks}
 use Rattle.segments.specs.FixedFloors.{Floors, AreAdopted}
 use Rattle.segments.proofs.FixedAsBefore.{ReadsAs, under_same, under_back, refused_same, item_same, passed_same, kept_none}
 use Rattle.segments.proofs.FixedChecking.{boundary_own}

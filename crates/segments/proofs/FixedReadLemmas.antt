@@ -15,8 +15,8 @@ use Rattle.blob_device.specs.Opened.{OpenedList}
 use Rattle.sealed_pages.specs.Entries.{ReadsAtMost}
 use Rattle.sealed_pages.specs.Reads.{IsShort, touched, below}
 use Rattle.sealed_pages.proofs.EntryLemmas.{reads_then}
-use Rattle.sealed_pages.proofs.Holding.{bool_or, div_place, times_sum}
-use Rattle.sealed_pages.proofs.SlotLemmas.{times_next}
+use Rattle.sealed_pages.proofs.memory.Holding.{bool_or, div_place, times_sum}
+use Rattle.sealed_pages.proofs.slots.SlotLemmas.{times_next}
 use Rattle.segments.specs.FixedItems.{item_at}
 
 -- a whole item ends where the bytes do, or before

@@ -15,16 +15,16 @@ use Rattle.sealed_pages.specs.Entries.{IsOpenAt, ReadsAtMost}
 use Rattle.sealed_pages.specs.Reading.{Unchanged}
 use Rattle.sealed_pages.specs.Readers.{Reader, IsReplayOf, SameReader, ReadsUnread, next_of, unread_of}
 use Rattle.sealed_pages.specs.Pieces.{next_missing}
-use Rattle.sealed_pages.specs.Reads.{IsCovered, IsWanted, needed, pages_for}
+use Rattle.sealed_pages.specs.Reads.{IsCovered, IsWanted, needed}
 use Rattle.sealed_pages.specs.Slots.{page_length}
 use Rattle.sealed_pages.specs.View.{view}
 use Rattle.sealed_pages.specs.Buffer.{bytes_of}
 use Rattle.sealed_pages.specs.SealedPrefix.{sealed_prefix, data_from}
 use Rattle.sealed_pages.specs.Unrecovered.{IsAdopted}
-use Rattle.sealed_pages.proofs.Holding.{bytes_length}
-use Rattle.sealed_pages.proofs.ReplayLemmas.{data_drop, covered_rest}
-use Rattle.sealed_pages.proofs.SlotLemmas.{times_next}
-use Rattle.sealed_pages.proofs.Truncating.{rose_since}
+use Rattle.sealed_pages.proofs.memory.Holding.{bytes_length}
+use Rattle.sealed_pages.proofs.looking.ReplayLemmas.{data_drop, covered_rest}
+use Rattle.sealed_pages.proofs.slots.SlotLemmas.{times_next}
+use Rattle.sealed_pages.proofs.cutting.Truncating.{rose_since}
 use Rattle.section_manager.specs.declared.buffer.SectionBuffer as buffer
 use Rattle.section_manager.specs.declared.journal.Error.{Error}
 use Rattle.section_manager.specs.declared.journal.Damage.{Damage}

@@ -1,8 +1,7 @@
 -- What a fixed journal is once all behind its checkpoint is removed.
-use Rattle.std.proofs.Common.{◌≡◌, ◌≢◌, ◌⊎◌, inl, inr, ℕ, ◌%◌, ◌<◌, ◌≤◌, min, Bool, true, false, List, IsTrue, Option, None, Some, IsSome, IsSomeAnd, Result, Ok, Err, OnErr, IfOk, refl, sym, ◌∙◌, ap, subst, arith}
-use Rattle.std.specs.Result.{IsErrOf}
+use Rattle.std.proofs.Common.{◌≡◌, ◌≢◌, inl, inr, ℕ, ◌%◌, min, Bool, true, false, List, Option, None, Some, IsSome, Result, Ok, Err, refl, sym, ◌∙◌, ap, subst, arith}
 use Rattle.std.proofs.lemmas.Bool.{cases_eq, cases_lt}
-use Rattle.blob_device.specs.Disk.{Key, Disk}
+use Rattle.blob_device.specs.Disk.{Disk}
 use Rattle.blob_device.specs.Opened.{OpenedList}
 use Rattle.blob_device.specs.Timeline.{disk}
 use Rattle.blob_device.specs.declared.device.Device as device
@@ -10,7 +9,6 @@ use Rattle.sealed_pages.specs.Buffer.{size_of}
 use Rattle.sealed_pages.specs.Shown.{shown}
 use Rattle.sealed_pages.specs.declared.page_blob.PageBlob.{PageBlob}
 use Rattle.section_manager.specs.Answers.{seen}
-use Rattle.section_manager.specs.Refusing.{HasDamage, HasFailed, IsPruned}
 use Rattle.section_manager.specs.Sealed.{is_unsettled}
 use Rattle.section_manager.specs.Sections.{key_of, IsCut}
 use Rattle.section_manager.specs.Setting.{Setting}
@@ -18,7 +16,7 @@ use Rattle.section_manager.specs.declared.buffer.SectionBuffer as buffer
 use Rattle.section_manager.specs.declared.journal.Error.{Error}
 use Rattle.section_manager.proofs.WalkLemmas.{value_of, some_same, none_or_value}
 use Rattle.segments.specs.FixedBounds.{IsTailCut, CutsTail}
-use Rattle.segments.specs.FixedCheckpoint.{IsReady, IsRestored, Restores, Finishes}
+use Rattle.segments.specs.FixedCheckpoint.{IsReady, Restores, Finishes}
 use Rattle.segments.specs.FixedLists.{Lists, section_size, size_held, IsJournal}
 use Rattle.segments.specs.declared.fixed.preflighting.Target.{Target}
 use Rattle.segments.proofs.FixedCutLemmas.{empty_sealed}

@@ -10,7 +10,7 @@ use Rattle.sealed_pages.specs.Entries.{IsOpenAt, ReadsAtMost}
 use Rattle.sealed_pages.specs.Reading.{OnlyRead}
 use Rattle.sealed_pages.specs.Shown.{shown}
 use Rattle.sealed_pages.proofs.UnrecoveredLemmas.{adopted_backed}
-use Rattle.sealed_pages.proofs.WholeLemmas.{whole_read}
+use Rattle.sealed_pages.proofs.slots.WholeLemmas.{whole_read}
 use Rattle.section_manager.specs.declared.buffer.SectionBuffer as buffer
 use Rattle.section_manager.specs.Sealed.{Stands}
 use Rattle.section_manager.specs.Setting.{Setting}

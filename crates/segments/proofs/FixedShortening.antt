@@ -2,27 +2,33 @@
 use Rattle.std.specs.Prelude.{◌≡◌, ◌⊎◌, ℕ, ◌*◌, ◌%◌, ◌<◌, ◌≤◌, Bool, false, List, length, IsTrue, IsSomeAnd, Option, None, Some, IsSome, Result}
 use Rattle.std.proofs.Common.{inl, inr, refl, sym, ◌∙◌, ap, subst, arith}
 use Rattle.std.proofs.lemmas.Bool.{cases_eq, cases_lt}
-use Rattle.blob_device.specs.Disk.{Key}
+use Rattle.blob_device.specs.Disk.{Blob, Key}
 use Rattle.blob_device.specs.Opened.{OpenedList}
 use Rattle.blob_device.specs.Timeline.{Timeline, disk}
 use Rattle.sealed_pages.specs.Buffer.{size_of, bytes_of, IsSealed}
+use Rattle.sealed_pages.specs.ChanceSeal.{Sealing}
 use Rattle.sealed_pages.specs.SealedPrefix.{sealed_prefix}
 use Rattle.sealed_pages.specs.Shown.{shown}
 use Rattle.sealed_pages.specs.declared.page_blob.PageBlob.{PageBlob}
-use Rattle.sealed_pages.proofs.Holding.{bytes_length}
-use Rattle.sealed_pages.proofs.Truncating.{all_flushed}
+use Rattle.sealed_pages.proofs.memory.Holding.{bytes_length}
+use Rattle.sealed_pages.proofs.cutting.Truncating.{all_flushed}
 use Rattle.section_manager.specs.Sections.{key_of}
 use Rattle.section_manager.specs.Setting.{Setting}
 use Rattle.section_manager.specs.declared.buffer.SectionBuffer as buffer
 use Rattle.section_manager.specs.declared.journal.Error.{Error}
 use Rattle.segments.specs.FixedCursor.{MayBeShortened}
-use Rattle.segments.specs.FixedLists.{size_held}
+use Rattle.segments.specs.FixedLists.{section_bytes, size_held}
 use Rattle.segments.specs.FixedReplay.{Walk, IsAhead, IsWalk}
 use Rattle.segments.specs.FixedStepping.{failing, OnlySections, Touches, IsCutBack}
 use Rattle.segments.proofs.FixedEnding.{ahead_from}
 use Rattle.segments.proofs.FixedKept.{sealed_flushed}
+use Rattle.segments.proofs.FixedWriteLemmas.{bytes_here}
 use Rattle.segments.proofs.FixedWalks.{IsBehind, OnlyOne, blob_other, key_new, none_in}
 use Rattle.segments.proofs.FixedWalksOn.{IsKnownAgain, walk_broken, walk_on}
+
+-- as many bytes, by another name
+pub cut_to : {S told : Type 0} {gs : _} {seal : List ℕ → ℕ} {u v : PageBlob S gs} {x y : Blob} {n m : ℕ} → n ≡ m → IsCutBack seal told u x v y n → IsCutBack seal told u x v y m
+cut_to {told = told} {seal = seal} {u = u} {v = v} {x = x} {y = y} is cut = subst (IsCutBack seal told u x v y) is cut
 
 module _ {F S : Type 0} {gs : _} (seal : List ℕ → ℕ) (size : ℕ) (g : buffer.Ghosts (PageBlob S gs)) (gives : F → Setting) {told : Type 0} (old : Walk F (PageBlob S gs)) (before : OpenedList) (a : Timeline)
     (was : IsWalk g gives seal size told old before (disk a)) (s n : ℕ) (may : MayBeShortened seal size told s n old (disk a)) where
@@ -37,6 +43,14 @@ module _ {F S : Type 0} {gs : _} (seal : List ℕ → ℕ) (size : ℕ) (g : buf
 
   pub within_prefix : told → (u : PageBlob S gs) → old.journal.sections.held s ≡ Some u → n ≤ length (sealed_prefix seal u.page_size (disk a (key_of old.journal.sections s)).content)
   within_prefix t u held = omega (arith, within_here u held, ap length (bytes_sealed t u held), bytes_length (shown u) (disk a (key_of old.journal.sections s)).content)
+
+  -- the moments of the cut, by the bytes of the section
+  pub cut_moments : told → (u : PageBlob S gs) → old.journal.sections.held s ≡ Some u → (m : ℕ) → m ≡ n → (b : Timeline)
+      → Sealing seal u.page_size (sealed_prefix seal u.page_size (disk a (key_of old.journal.sections s)).content) m (key_of old.journal.sections s) a b
+      → Sealing seal u.page_size (section_bytes old.journal.sections (disk a) s) n (key_of old.journal.sections s) a b
+  cut_moments t u held m is b moments = subst (λ (l : List ℕ). Sealing seal u.page_size l n (key_of old.journal.sections s) a b)
+      (bytes_sealed t u held ∙ sym (bytes_here old.journal.sections s u held (disk a)))
+      (subst (λ (k : ℕ). Sealing seal u.page_size (sealed_prefix seal u.page_size (disk a (key_of old.journal.sections s)).content) k (key_of old.journal.sections s) a b) is moments)
 
   module _ (new : Walk F (PageBlob S gs)) (after : OpenedList) (b : Timeline) {T : Type 0} (result : Result T Error) (only : OnlySections old new)
       (touch : Touches g gives told result s old.journal.sections new.journal.sections before after a b) where

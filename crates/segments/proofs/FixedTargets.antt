@@ -1,10 +1,9 @@
 -- What the check of a checkpoint's own section shows.
-use Rattle.std.specs.Prelude.{◌≡◌, ◌≢◌, ◌⊎◌, ◌↔◌, ℕ, ◌*◌, ◌/◌, ◌%◌, ◌^◌, ◌<◌, ◌≤◌, List, length, Option, None, Some, Result, Ok, Err, IfOk, OnOk, OnErr, IsTrue, IsSome, IsSomeAnd}
+use Rattle.std.specs.Prelude.{◌≡◌, ◌≢◌, ◌⊎◌, ℕ, ◌*◌, ◌%◌, ◌^◌, ◌<◌, ◌≤◌, List, length, Option, None, Some, Result, Ok, Err, IfOk, OnErr, IsTrue, IsSome, IsSomeAnd}
 use Rattle.std.specs.Result.{IsErrOf}
 use Rattle.std.proofs.Common.{inl, inr, refl, sym, ◌∙◌, ap, subst, arith}
-use Rattle.std.proofs.lemmas.Bool.{cases_eq, cases_lt}
-use Rattle.blob_device.specs.Disk.{Key, Disk}
-use Rattle.blob_device.specs.Opened.{OpenedList}
+use Rattle.std.proofs.lemmas.Bool.{cases_eq}
+use Rattle.blob_device.specs.Disk.{Disk}
 use Rattle.blob_device.specs.Timeline.{disk}
 use Rattle.blob_device.specs.declared.device.Device as device
 use Rattle.sealed_pages.specs.Buffer.{size_of}
@@ -12,7 +11,7 @@ use Rattle.sealed_pages.specs.Reading.{OnlyRead, Unchanged}
 use Rattle.sealed_pages.specs.SealedPrefix.{sealed_prefix, adopted_size}
 use Rattle.sealed_pages.specs.Shown.{shown}
 use Rattle.sealed_pages.specs.declared.page_blob.PageBlob.{PageBlob}
-use Rattle.sealed_pages.proofs.Looking.{unchanged_now, unchanged_start, unchanged_then}
+use Rattle.sealed_pages.proofs.looking.Looking.{unchanged_now, unchanged_start, unchanged_then}
 use Rattle.value_codec.specs.declared.codec.Error as codec
 use Rattle.section_manager.specs.Refusing.{HasFailed}
 use Rattle.section_manager.specs.Sections.{Sections, section_key, key_of, IsHeld, IsOver}
@@ -20,18 +19,16 @@ use Rattle.section_manager.specs.Setting.{Setting}
 use Rattle.section_manager.specs.declared.buffer.SectionBuffer as buffer
 use Rattle.section_manager.specs.declared.journal.Damage.{Damage}
 use Rattle.section_manager.specs.declared.journal.Error.{Error}
-use Rattle.section_manager.specs.declared.journal.Error.TheVariants.{Codec, Corruption, Mem}
+use Rattle.section_manager.specs.declared.journal.Error.TheVariants.{Corruption, Mem}
 use Rattle.section_manager.proofs.WalkLemmas.{value_of, has_value, none_or_value}
 use Rattle.segments.specs.FixedCheckpoint.{boundary_at, IsUnder, IsRefused, IsPassed, IsShown, HasCome, Looks}
 use Rattle.segments.specs.FixedFloors.{Floors, AreAdopted}
-use Rattle.segments.specs.FixedLists.{section_size, size_held}
 use Rattle.segments.specs.declared.fixed.preflighting.Target.{Target}
-use Rattle.segments.proofs.FixedChecking.{Adds, come_add, come_one, Answers, boundary_own, passes_below, looks_one}
+use Rattle.segments.proofs.FixedChecking.{come_add, come_one, Answers, boundary_own, passes_below, looks_one}
 use Rattle.segments.proofs.FixedCutLemmas.{no_rest}
 use Rattle.segments.proofs.FixedPassing.{no_error, failed_on}
 use Rattle.segments.proofs.FixedReading.{failed_since}
 use Rattle.segments.proofs.FixedSections.{opened_read}
-use Rattle.segments.proofs.FixedWriteLemmas.{ArePages}
 
 module _ {A D F S T : Type 0} {gs : _} (seal : List ℕ → ℕ) (P size : ℕ) (at bytes : ℕ) (spelling : A → List ℕ) (accepted : A → Unit {0} → Type 0)
     (refusal : List ℕ → Unit {0} → Option codec.Error) (dev : device.Ghosts D) (g : buffer.Ghosts (PageBlob S gs)) (gives : F → Setting) (m : Sections F (PageBlob S gs))
@@ -109,12 +106,12 @@ module _ {A D F S T : Type 0} {gs : _} (seal : List ℕ → ℕ) (P size : ℕ) 
       ends t = boundary_own seal P size m.partition at bytes (disk (dev.time old)) at refl ∙ sym count
 
       -- the check of its last item failed
-      pub target_err : (e : Error) (new : D) (Ends : T → Type 0) → Answers seal P size m.partition at bytes spelling accepted refusal dev g gives m see sections_of f at items old new (Err e)
+      pub target_err : {named : Option Target} (e : Error) (new : D) (Ends : T → Type 0) → Answers seal P size m.partition at bytes spelling accepted refusal dev g gives m see sections_of f at items old new named (Err e)
           → Looks seal P size m.partition at bytes spelling accepted {T = T} refusal dev (Err e) old new g gives m Ends
       target_err e new Ends has = looks_one seal P size m.partition at bytes spelling accepted refusal dev g gives m see sections_of f at items old new (Err e) has Ends pos (omega (arith, count, fits)) refl (omega arith)
           ends (λ t. inl refl) (λ t. inr (refl, some)) below tt
 
-      module _ (x : T) (mid new : D) (has : Answers seal P size m.partition at bytes spelling accepted refusal dev g gives m see sections_of f at items old mid (Ok x))
+      module _ {named : Option Target} (x : T) (mid new : D) (has : Answers seal P size m.partition at bytes spelling accepted refusal dev g gives m see sections_of f at items old mid named (Ok x))
           (k : Sections F (PageBlob S gs)) (is_k : k ≡ m) (same : dev.Tells → Unchanged (dev.time mid) (dev.time new)) (read_k : OnlyRead (key_of k at) (dev.opened mid) (dev.opened new)) (faults : dev.faults mid ≤ dev.faults new)
           (paged : (u : PageBlob S gs) → m.held at ≡ Some u → u.page_size ≡ P) where
         read : OnlyRead (key_of m at) (dev.opened mid) (dev.opened new)

@@ -1,5 +1,5 @@
 -- A replay of a fixed journal after one of its sections changed is a replay again; what was left of it at each moment.
-use Rattle.std.specs.Prelude.{◌≡◌, ◌≢◌, ℕ, ◌*◌, ◌%◌, ◌^◌, ◌<◌, ◌≤◌, min, true, false, List, length, IsTrue, IsSomeAnd, Option, None, Some, IsSome}
+use Rattle.std.specs.Prelude.{◌≡◌, ◌≢◌, ℕ, ◌*◌, ◌%◌, ◌^◌, ◌<◌, ◌≤◌, true, false, List, length, IsTrue, IsSomeAnd, Option, None, Some, IsSome}
 use Rattle.std.proofs.Common.{inl, inr, refl, sym, ◌∙◌, ap, subst, arith}
 use Rattle.std.proofs.lemmas.Bool.{cases_eq}
 use Rattle.blob_device.specs.Disk.{Key, Blob, Disk}
@@ -12,7 +12,7 @@ use Rattle.sealed_pages.specs.Shown.{shown}
 use Rattle.sealed_pages.specs.Buffer.{size_of, bytes_of, IsSealed}
 use Rattle.sealed_pages.specs.SealedPrefix.{sealed_prefix}
 use Rattle.sealed_pages.specs.Unrecovered.{IsUnrecovered}
-use Rattle.sealed_pages.proofs.Holding.{holds_leaves}
+use Rattle.sealed_pages.proofs.memory.Holding.{holds_leaves}
 use Rattle.sealed_pages.proofs.UnrecoveredLemmas.{prefix_leaves, unrecovered_prefix}
 use Rattle.section_manager.specs.declared.buffer.SectionBuffer as buffer
 use Rattle.section_manager.specs.Setting.{Setting}

@@ -14,9 +14,12 @@ pub mod FixedNextEnds
 pub mod FixedEnds
 pub mod FixedFilling
 pub mod FixedGoing
+pub mod FixedFills
+pub mod FixedStepsOn
 pub mod FixedAdvancing
 pub mod FixedShortening
-pub mod FixedTouching
+pub mod FixedLending
+pub mod FixedLentReaders
 pub mod FixedWriteLemmas
 pub mod FixedCutLemmas
 pub mod FixedAdopted
@@ -32,6 +35,8 @@ pub mod FixedErrors
 pub mod FixedPassing
 pub mod FixedReadLemmas
 pub mod FixedMemory
+pub mod FixedItemReads
+pub mod FixedGettingEnds
 pub mod FixedSections
 pub mod FixedRemoveLemmas
 pub mod FixedBuffers
@@ -57,3 +62,6 @@ pub mod FixedEarlier
 pub mod FixedAsBefore
 pub mod FixedPreflights
 pub mod FixedFound
+pub mod FixedStages
+pub mod FixedMarkers
+pub mod FixedChecksEnds

@@ -1,15 +1,21 @@
 -- What a fixed journal promises where it is kept up to a byte of a section: how far that section is
 -- sealed; the cut of all that stands behind; and an opening that makes both. Sections behind go
 -- newest first, and then the section is cut to whole items of its sealed prefix.
-use Rattle.std.specs.Prelude.{◌≡◌, ◌≢◌, ◌⊎◌, ◌↔◌, ℕ, ◌+◌, ◌-◌, ◌*◌, ◌/◌, ◌%◌, ◌^◌, ◌<◌, ◌≤◌, min, eqb, cond, false, List, length, take, Option, None, Some, Result, IfOk, OnErr, IsTrue, IsSomeAnd}
+use Rattle.std.specs.Prelude.{◌≡◌, ◌≢◌, ◌⊎◌, ◌↔◌, ℕ, ◌+◌, ◌-◌, ◌*◌, ◌/◌, ◌%◌, ◌^◌, ◌<◌, ◌≤◌, min, eqb, cond, false, List, length, take, Option, None, Some, Result, Err, IfOk, OnErr, IsTrue, IsSomeAnd}
 use Rattle.std.specs.Result.{IsErrOf}
+use Rattle.blob_device.specs.Counts.{Rose}
 use Rattle.blob_device.specs.Disk.{Key, Disk, nothing, settled_at}
 use Rattle.blob_device.specs.Opened.{OpenedList}
 use Rattle.blob_device.specs.Timeline.{disk, Always}
 use Rattle.blob_device.specs.declared.device.Device as device
+use Rattle.blob_device.specs.declared.runtime.RError.{RError}
+use Rattle.blob_device.specs.declared.runtime.RError.TheVariants as runtime
+use Rattle.sealed_pages.specs.Buffer as pages
 use Rattle.sealed_pages.specs.Buffer.{size_of, bytes_of, IsSealed}
+use Rattle.sealed_pages.specs.Entries.{ReadsAtMost}
 use Rattle.sealed_pages.specs.ChanceSeal.{Leaves}
 use Rattle.sealed_pages.specs.Reading.{OnlyRead, Unchanged}
+use Rattle.sealed_pages.specs.Reads.{pages_for}
 use Rattle.sealed_pages.specs.SealedPrefix.{sealed_prefix, adopted_size}
 use Rattle.sealed_pages.specs.Shown.{shown}
 use Rattle.sealed_pages.specs.Unrecovered.{IsUnrecovered}
@@ -37,6 +43,27 @@ whole_of size n = n / size * size
 
 -- ---- how far a section is sealed
 
+-- It was learned how many bytes of a buffer's blob are sealed, up to `end`. Nothing was written.
+pub record MeasuresBlob {S D : Type 0} {gs : _} (seal : List ℕ → ℕ) (dev : device.Ghosts D)
+    (u : PageBlob S gs) (old new : D) (end : ℕ) (result : Result ℕ RError) : Type 0 where
+  -- the answer is the length of its sealed prefix, or `end`
+  pub prefix : dev.Tells → IfOk result (λ n. n ≡ min end (length
+      (sealed_prefix seal u.page_size (disk (dev.time old) (pages.key_of (shown u))).content)))
+  -- also where no disk is told, it is no more than `end`
+  pub within : IfOk result (λ n. n ≤ end)
+  -- no blob's history changes
+  pub unchanged : dev.Tells → Unchanged (dev.time old) (dev.time new)
+  -- no other blob is read
+  pub entries : OnlyRead (pages.key_of (shown u)) (dev.opened old) (dev.opened new)
+  -- and of this one no page that begins at `end` or behind it, and none twice
+  pub reads : ReadsAtMost (pages_for u.page_size end) (pages.key_of (shown u))
+      (dev.opened old) (dev.opened new)
+  -- faults are counted on
+  pub faults : dev.faults old ≤ dev.faults new
+  -- nothing else is answered but a fault or want of memory
+  pub cause : OnErr result ((result ≡ Err runtime.Mem)
+      ⊎ ((result ≡ Err runtime.Fault) × Rose (dev.faults old) (dev.faults new)))
+
 module _ {S : Type 0} {gs : _} (seal : List ℕ → ℕ) (size : ℕ) where
   -- How many bytes of a section's whole items are sealed, up to `end`. Of one that is not held it
   -- is all up to there.
@@ -61,6 +88,9 @@ module _ {S : Type 0} {gs : _} (seal : List ℕ → ℕ) (size : ℕ) where
       pub unchanged : dev.Tells → Unchanged (dev.time old) (dev.time new)
       -- no blob but the section's is read
       pub entries : OnlyRead (key_of m section) (dev.opened old) (dev.opened new)
+      -- and of that no page that begins at `end` or behind it, and none twice
+      pub reads : (u : PageBlob S gs) → m.held section ≡ Some u → ReadsAtMost
+          (pages_for u.page_size end) (key_of m section) (dev.opened old) (dev.opened new)
       -- of a section that is not held none is
       pub absent : m.held section ≡ None → new ≡ old
       -- a section below the floor is refused, and no other

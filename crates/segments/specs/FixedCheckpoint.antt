@@ -1,6 +1,6 @@
--- What a checkpoint of a fixed journal asks of the blobs: each earlier section whole, and so many bytes of its own. Why one is
--- refused, and what is left once it is restored.
-use Rattle.std.specs.Prelude.{⊤, ◌≡◌, ◌≢◌, ◌↔◌, ◌⊎◌, ℕ, ◌+◌, ◌-◌, ◌/◌, ◌%◌, ◌^◌, ◌<◌, ◌≤◌, eqb, cond, false, List, length, Option, None, Some, Result, IfOk, OnErr, IsTrue, IsSome, IsSomeAnd}
+-- What a checkpoint of a fixed journal asks of the blobs: each earlier section whole, and so many
+-- bytes of its own. Why one is refused, and what is left once it is restored.
+use Rattle.std.specs.Prelude.{⊤, ◌≡◌, ◌≢◌, ◌↔◌, ◌⊎◌, ℕ, ◌-◌, ◌/◌, ◌%◌, ◌^◌, ◌<◌, ◌≤◌, eqb, cond, false, List, length, Option, None, Some, Result, IfOk, OnErr, IsTrue, IsSome, IsSomeAnd}
 use Rattle.std.specs.Result.{IsErrOf}
 use Rattle.blob_device.specs.Disk.{Key, Disk}
 use Rattle.blob_device.specs.Opened.{OpenedList}
@@ -35,7 +35,8 @@ use Rattle.segments.specs.declared.fixed.preflighting.Target.{Target}
 
 -- A checkpoint ends behind so many bytes of section `at`.
 module _ (seal : List ℕ → ℕ) (P size : ℕ) (partition : List ℕ) (at bytes : ℕ) (d : Disk) where
-  -- where the kept bytes of a section end: its own where it says, those of an earlier one where adopting its blob finds the end
+  -- where the kept bytes of a section end: its own where it says, those of an earlier one where
+  -- adopting its blob finds the end
   abbrev pub boundary_at : ℕ → ℕ
   boundary_at s = cond (eqb s at) bytes (adopted_size seal P (d (section_key partition s)).content)
 
@@ -89,23 +90,27 @@ module _ (seal : List ℕ → ℕ) (P size : ℕ) (partition : List ℕ) (at byt
       pub there : 0 < boundary_at s → IsTrue (d (section_key partition s)).there
       -- and matching slots cover the last item, which is one
       pub last : 0 < boundary_at s
-          → (v : V) × IsBoundary seal P size spelling accepted (d (section_key partition s)).content (boundary_at s / size) v
+          → (v : V) × IsBoundary seal P size spelling accepted (d (section_key partition s)).content
+          (boundary_at s / size) v
       -- what is cut is cut to no more than is sealed
       pub sealed : s ≡ at → bytes < adopted_size seal P (d (section_key partition s)).content
           → bytes ≤ length (sealed_prefix seal P (d (section_key partition s)).content)
 
   -- The last item below the section's boundary is none: its bytes are refused with e.
-  pub record IsRefusedItem (refusal : List ℕ → Unit {0} → Option codec.Error) (s : ℕ) (e : codec.Error) : Type 0 where
+  pub record IsRefusedItem (refusal : List ℕ → Unit {0} → Option codec.Error) (s : ℕ)
+      (e : codec.Error) : Type 0 where
     pub some : 0 < boundary_at s
     -- matching slots cover it
     pub covered : IsCovered seal P (d (section_key partition s)).content (boundary_at s - size) size
     -- the codec refuses its bytes
-    pub refused : refusal (data_from P (view (d (section_key partition s)).content) (boundary_at s - size) size) tt ≡ Some e
+    pub refused : refusal (data_from P (view (d (section_key partition s)).content)
+        (boundary_at s - size) size) tt ≡ Some e
 
 -- ---- the check
 
 -- What is left for `finish`: the journal j is cut to its checkpoint.
-module _ {F S : Type 0} {gs : _} (g : buffer.Ghosts (PageBlob S gs)) (gives : F → Setting) (seal : List ℕ → ℕ) (size : ℕ)
+module _ {F S : Type 0} {gs : _} (g : buffer.Ghosts (PageBlob S gs)) (gives : F → Setting)
+    (seal : List ℕ → ℕ) (size : ℕ)
     (told : Type 0) (j : Lists F (PageBlob S gs)) (t : Target) where
   pub record IsReady (opened : OpenedList) (d : Disk) : Type 0 where
     -- it may be used
@@ -119,9 +124,11 @@ module _ {F S : Type 0} {gs : _} (g : buffer.Ghosts (PageBlob S gs)) (gives : F 
     -- and is the section's floor
     pub floor_is : j.floor_of t.section ≡ t.size
     -- the section, where it is held, has as many bytes
-    pub reached : (u : PageBlob S gs) → j.sections.held t.section ≡ Some u → t.size ≤ size_of (shown u)
+    pub reached : (u : PageBlob S gs) → j.sections.held t.section ≡ Some u → t.size
+        ≤ size_of (shown u)
     -- a longer section is sealed as far
-    pub sealed : told → (u : PageBlob S gs) → j.sections.held t.section ≡ Some u → t.size < size_of (shown u)
+    pub sealed : told → (u : PageBlob S gs) → j.sections.held t.section ≡ Some u → t.size
+        < size_of (shown u)
         → t.size ≤ length (sealed_prefix seal u.page_size (d (key_of j.sections t.section)).content)
     -- no other section owes a replay
     pub owes : (s : ℕ) → IsTrue (j.unrecovered s) → s ≡ t.section
@@ -131,7 +138,8 @@ module _ {F S : Type 0} {gs : _} (g : buffer.Ghosts (PageBlob S gs)) (gives : F 
     pub idle : (s : ℕ) (u : PageBlob S gs) → j.sections.held s ≡ Some u
         → is_unsettled (shown u) ≡ false
 
-module _ {A : Type 0} (seal : List ℕ → ℕ) (P size : ℕ) (partition : List ℕ) (at bytes : ℕ) (spelling : A → List ℕ)
+module _ {A : Type 0} (seal : List ℕ → ℕ) (P size : ℕ) (partition : List ℕ) (at bytes : ℕ)
+    (spelling : A → List ℕ)
     (accepted : A → Unit {0} → Type 0) where
   -- The boundary of a section, as the check shows it.
   abbrev pub IsShown : Disk → ℕ → Option A → Type 0
@@ -141,20 +149,27 @@ module _ {A : Type 0} (seal : List ℕ → ℕ) (P size : ℕ) (partition : List
       (boundary_at seal P size partition at bytes d s / size) v
 
   -- Of the sections that are named those with a boundary were checked, and no other section was.
-  pub record AreChecked (IsNamed : ℕ → Type 0) (told : Type 0) (f : Floors A) (d : Disk) : Type 0 where
-    -- each shows its boundary
-    pub shows : told → (s : ℕ) → IsNamed s → IsUnder seal P size partition at bytes d s → IsSomeAnd (f.boundary_of s) (IsShown d s)
-    -- which is its floor
-    pub floors : told → (s : ℕ) → IsNamed s → IsUnder seal P size partition at bytes d s → f.floor_of s ≡ boundary_at seal P size partition at bytes d s
-    -- and was not refused
-    pub passed : told → (s : ℕ) → IsNamed s → IsUnder seal P size partition at bytes d s → IsPassed seal P size partition at bytes d spelling accepted s
-    -- no other section shows one
-    pub others : (s : ℕ) → (IsNamed s → ⊥) → (f.boundary_of s ≡ None) × (f.floor_of s ≡ 0)
-    -- nor does one that has none
-    pub free : told → (s : ℕ) → (IsUnder seal P size partition at bytes d s → ⊥) → (f.boundary_of s ≡ None) × (f.floor_of s ≡ 0)
+  pub record AreChecked (IsNamed : ℕ → Type 0) (told : Type 0) (f : Floors A) (d : Disk) : Type 0
+    where
+      -- each shows its boundary
+      pub shows : told → (s : ℕ) → IsNamed s → IsUnder seal P size partition at bytes d s
+          → IsSomeAnd (f.boundary_of s) (IsShown d s)
+      -- which is its floor
+      pub floors : told → (s : ℕ) → IsNamed s → IsUnder seal P size partition at bytes d s
+          → f.floor_of s ≡ boundary_at seal P size partition at bytes d s
+      -- and was not refused
+      pub passed : told → (s : ℕ) → IsNamed s → IsUnder seal P size partition at bytes d s
+          → IsPassed seal P size partition at bytes d spelling accepted s
+      -- no other section shows one
+      pub others : (s : ℕ) → (IsNamed s → ⊥) → (f.boundary_of s ≡ None) × (f.floor_of s ≡ 0)
+      -- nor does one that has none
+      pub free : told → (s : ℕ) → (IsUnder seal P size partition at bytes d s → ⊥)
+          → (f.boundary_of s ≡ None) × (f.floor_of s ≡ 0)
 
-  -- The check has come so far: the sections k are still those that were opened, m, and the named ones were checked.
-  pub record HasCome {F S : Type 0} {gs : _} (IsNamed : ℕ → Type 0) (told : Type 0) (m k : Sections F (PageBlob S gs)) (f : Floors A) (d : Disk) : Type 0 where
+  -- The check has come so far: the sections k are still those that were opened, m, and the named
+  -- ones were checked.
+  pub record HasCome {F S : Type 0} {gs : _} (IsNamed : ℕ → Type 0) (told : Type 0)
+      (m k : Sections F (PageBlob S gs)) (f : Floors A) (d : Disk) : Type 0 where
     -- none of them has changed
     pub same : k ≡ m
     -- the named ones with a boundary show it, and no other does
@@ -169,21 +184,28 @@ module _ {A : Type 0} (seal : List ℕ → ℕ) (P size : ℕ) (partition : List
     -- `finish` cuts there
     pub target : IsSomeAnd f.target (λ t. (t.section ≡ at) × (t.size ≡ bytes))
 
-  module _ {S : Type 0} {gs : _} (g : buffer.Ghosts (PageBlob S gs)) (gives : AppendFactory S → Setting) (told : Type 0) (pages : Pages) (write_buffer : ℕ) where
+  module _ {S : Type 0} {gs : _} (g : buffer.Ghosts (PageBlob S gs))
+      (gives : AppendFactory S → Setting) (told : Type 0) (pages : Pages) (write_buffer : ℕ) where
     -- The journal j was opened for the check, and nothing was written.
-    pub record IsOpenedFor (j : Lists (AppendFactory S) (PageBlob S gs)) (opened : OpenedList) (from d : Disk) : Type 0 where
+    pub record IsOpenedFor (j : Lists (AppendFactory S) (PageBlob S gs)) (opened : OpenedList)
+        (from d : Disk) : Type 0 where
       -- `finish` may cut it
-      pub ready : (t : Target) → (t.section ≡ at) × (t.size ≡ bytes) → IsReady g gives seal size told j t opened d
+      pub ready : (t : Target) → (t.section ≡ at) × (t.size ≡ bytes)
+          → IsReady g gives seal size told j t opened d
       -- it holds the sections up to the checkpoint's that are there
-      pub held : told → (s : ℕ) → s < 2 ^ 64 → IsHeld j.sections s ↔ (IsTrue (from (section_key partition s)).there × (s ≤ at))
+      pub held : told → (s : ℕ) → s < 2 ^ 64 → IsHeld j.sections s
+          ↔ (IsTrue (from (section_key partition s)).there × (s ≤ at))
       -- and knows the later ones
-      pub unopened : told → (s : ℕ) → s < 2 ^ 64 → IsSome (j.sections.unopened s) ↔ (IsTrue (from (section_key partition s)).there × (at < s))
+      pub unopened : told → (s : ℕ) → s < 2 ^ 64 → IsSome (j.sections.unopened s)
+          ↔ (IsTrue (from (section_key partition s)).there × (at < s))
       -- also where no disk is told, it knows no other but those
       pub later : (s : ℕ) → IsSome (j.sections.unopened s) → at < s
       -- each has the bytes that adopting its blob finds
-      pub contents : told → (s : ℕ) → IsHeld j.sections s → section_bytes j.sections d s ≡ adopted_bytes seal P (from (section_key partition s)).content
+      pub contents : told → (s : ℕ) → IsHeld j.sections s → section_bytes j.sections d s
+          ≡ adopted_bytes seal P (from (section_key partition s)).content
       -- all of them have settled
-      pub idle : (s : ℕ) (u : PageBlob S gs) → j.sections.held s ≡ Some u → is_unsettled (shown u) ≡ false
+      pub idle : (s : ℕ) (u : PageBlob S gs) → j.sections.held s ≡ Some u → is_unsettled (shown u)
+          ≡ false
       -- the partition is that of the configuration
       pub partition_is : j.sections.partition ≡ partition
       -- so are the pages
@@ -193,14 +215,16 @@ module _ {A : Type 0} (seal : List ℕ → ℕ) (P size : ℕ) (partition : List
       -- the bound of the opening is the checkpoint's section
       pub ceiling : j.sections.ceiling ≡ at
 
-  module _ {T D : Type 0} (refusal : List ℕ → Unit {0} → Option codec.Error) (dev : device.Ghosts D) (result : Result T Error) (old new : D) where
+  module _ {T D : Type 0} (refusal : List ℕ → Unit {0} → Option codec.Error) (dev : device.Ghosts D)
+      (result : Result T Error) (old new : D) where
     -- An earlier section than this one, that has a boundary, was checked and not refused.
     abbrev pub PassesBelow : ℕ → Type 0
     PassesBelow n = (s : ℕ) → s < n → IsUnder seal P size partition at bytes (disk (dev.time old)) s
         → IsPassed seal P size partition at bytes (disk (dev.time old)) spelling accepted s
 
     -- A part of the check, over sections m that stay as they were opened: nothing is written.
-    pub record Looks {F S : Type 0} {gs : _} (g : buffer.Ghosts (PageBlob S gs)) (gives : F → Setting) (m : Sections F (PageBlob S gs)) (Ends : T → Type 0) : Type 0 where
+    pub record Looks {F S : Type 0} {gs : _} (g : buffer.Ghosts (PageBlob S gs))
+        (gives : F → Setting) (m : Sections F (PageBlob S gs)) (Ends : T → Type 0) : Type 0 where
       -- they are those of the partition
       pub over : IsOver g gives dev.Tells m (dev.opened new) (disk (dev.time new))
       -- this was found
@@ -208,51 +232,74 @@ module _ {A : Type 0} (seal : List ℕ → ℕ) (P size : ℕ) (partition : List
       -- no blob's history changes
       pub unchanged : dev.Tells → Unchanged (dev.time old) (dev.time new)
       -- no blob but those of sections up to the checkpoint's is read
-      pub entries : (q : Key) → ((s : ℕ) → s ≤ at → q ≢ key_of m s) → dev.opened new q ≡ dev.opened old q
+      pub entries : (q : Key) → ((s : ℕ) → s ≤ at → q ≢ key_of m s) → dev.opened new q
+          ≡ dev.opened old q
       -- the damage is that of the first section that is refused
-      pub damage : dev.Tells → (x : Damage) → IsErrOf result (Corruption x) → IsUnder seal P size partition at bytes (disk (dev.time old)) x.section
-          × IsRefused seal P size partition at bytes (disk (dev.time old)) x.section x × PassesBelow x.section
+      pub damage : dev.Tells → (x : Damage) → IsErrOf result (Corruption x)
+          → IsUnder seal P size partition at bytes (disk (dev.time old)) x.section
+          × IsRefused seal P size partition at bytes (disk (dev.time old)) x.section x
+          × PassesBelow x.section
       -- so is the codec's error
-      pub refused : dev.Tells → (e : codec.Error) → IsErrOf result (Codec e) → (s : ℕ) × IsUnder seal P size partition at bytes (disk (dev.time old)) s
-          × IsRefusedItem seal P size partition at bytes (disk (dev.time old)) refusal s e × PassesBelow s
+      pub refused : dev.Tells → (e : codec.Error) → IsErrOf result (Codec e) → (s : ℕ)
+          × IsUnder seal P size partition at bytes (disk (dev.time old)) s
+          × IsRefusedItem seal P size partition at bytes (disk (dev.time old)) refusal s e
+          × PassesBelow s
       -- faults are counted on
       pub faults : dev.faults old ≤ dev.faults new
       -- nothing else is answered but a fault or want of memory
-      pub cause : OnErr result (((x : Damage) × IsErrOf result (Corruption x)) ⊎ (((e : codec.Error) × IsErrOf result (Codec e)) ⊎ HasFailed result (dev.faults old) (dev.faults new)))
+      pub cause : OnErr result (((x : Damage) × IsErrOf result (Corruption x))
+          ⊎ (((e : codec.Error) × IsErrOf result (Codec e))
+          ⊎ HasFailed result (dev.faults old) (dev.faults new)))
 
     -- A checkpoint was checked, and no byte was written.
     pub record Checks (Ends : T → Type 0) : Type 0 where
       -- at each moment, also where the call fails, each blob is as before, or settled as it read
-      pub moments : dev.Tells → Always (dev.time old) (dev.time new) (Each (IsSettling partition at (disk (dev.time old))))
+      pub moments : dev.Tells → Always (dev.time old) (dev.time new)
+          (Each (IsSettling partition at (disk (dev.time old))))
       -- this was found
       pub ends : IfOk result Ends
-      -- a checkpoint that ends within an item is refused at once, and it alone before the names are looked at
-      pub partial : bytes % size ≢ 0 → IsErrOf result (Corruption (record { section = at; kept = bytes; wanted = whole_of size bytes })) × (new ≡ old)
-      -- then a name that is no section's is refused, also behind the checkpoint, before anything is opened
+      -- a checkpoint that ends within an item is refused at once, and it alone before the names are
+      -- looked at
+      pub partial : bytes % size ≢ 0 → IsErrOf result
+          (Corruption (record { section = at; kept = bytes; wanted = whole_of size bytes }))
+          × (new ≡ old)
+      -- then a name that is no section's is refused, also behind the checkpoint, before anything is
+      -- opened
       pub names : bytes % size ≡ 0 → RefusesNames dev partition result old new
       -- the damage is that of a section with a boundary
-      pub damage : dev.Tells → (x : Damage) → IsErrOf result (Corruption x) → IsUnder seal P size partition at bytes (disk (dev.time old)) x.section
+      pub damage : dev.Tells → (x : Damage) → IsErrOf result (Corruption x)
+          → IsUnder seal P size partition at bytes (disk (dev.time old)) x.section
           × IsRefused seal P size partition at bytes (disk (dev.time old)) x.section x
       -- the first that is refused, where the checkpoint ends behind an item
-      pub first : dev.Tells → bytes % size ≡ 0 → (x : Damage) → IsErrOf result (Corruption x) → PassesBelow x.section
+      pub first : dev.Tells → bytes % size ≡ 0 → (x : Damage) → IsErrOf result (Corruption x)
+          → PassesBelow x.section
       -- there is none where all that it keeps is sealed
-      pub whole : dev.Tells → ((s : ℕ) → IsUnder seal P size partition at bytes (disk (dev.time old)) s → IsKept seal P size partition at bytes (disk (dev.time old)) s)
+      pub whole : dev.Tells → ((s : ℕ) → IsUnder seal P size partition at bytes
+          (disk (dev.time old)) s → IsKept seal P size partition at bytes (disk (dev.time old)) s)
           → (x : Damage) → IsErrOf result (Corruption x) → ⊥
-      -- the codec's error is that of the last item below a boundary, of the first section that is refused
-      pub refused : dev.Tells → (e : codec.Error) → IsErrOf result (Codec e) → (s : ℕ) × IsUnder seal P size partition at bytes (disk (dev.time old)) s
-          × IsRefusedItem seal P size partition at bytes (disk (dev.time old)) refusal s e × PassesBelow s
+      -- the codec's error is that of the last item below a boundary, of the first section that is
+      -- refused
+      pub refused : dev.Tells → (e : codec.Error) → IsErrOf result (Codec e) → (s : ℕ)
+          × IsUnder seal P size partition at bytes (disk (dev.time old)) s
+          × IsRefusedItem seal P size partition at bytes (disk (dev.time old)) refusal s e
+          × PassesBelow s
       -- the list of opened blobs changes for sections up to the checkpoint alone
-      pub entries : (q : Key) → ((s : ℕ) → s ≤ at → q ≢ section_key partition s) → dev.opened new q ≡ dev.opened old q
+      pub entries : (q : Key) → ((s : ℕ) → s ≤ at → q ≢ section_key partition s) → dev.opened new q
+          ≡ dev.opened old q
       -- faults are counted on
       pub faults : dev.faults old ≤ dev.faults new
       -- nothing else is answered but a fault or want of memory
-      pub cause : OnErr result (((n : List ℕ) × IsErrOf result (InvalidBlobName n)) ⊎ (((x : Damage) × IsErrOf result (Corruption x))
-          ⊎ (((e : codec.Error) × IsErrOf result (Codec e)) ⊎ HasFailed result (dev.faults old) (dev.faults new))))
+      pub cause : OnErr result (((n : List ℕ) × IsErrOf result (InvalidBlobName n))
+          ⊎ (((x : Damage) × IsErrOf result (Corruption x))
+          ⊎ (((e : codec.Error) × IsErrOf result (Codec e))
+          ⊎ HasFailed result (dev.faults old) (dev.faults new))))
 
 -- ---- what `finish` does
 
-module _ {F S : Type 0} {gs : _} (g : buffer.Ghosts (PageBlob S gs)) (gives : F → Setting) (seal : List ℕ → ℕ) (size : ℕ) where
-  module _ {D : Type 0} (dev : device.Ghosts D) (j : Lists F (PageBlob S gs)) (result : Result (Lists F (PageBlob S gs)) Error) (old new : D) where
+module _ {F S : Type 0} {gs : _} (g : buffer.Ghosts (PageBlob S gs)) (gives : F → Setting)
+    (seal : List ℕ → ℕ) (size : ℕ) where
+  module _ {D : Type 0} (dev : device.Ghosts D) (j : Lists F (PageBlob S gs))
+      (result : Result (Lists F (PageBlob S gs)) Error) (old new : D) where
     -- Where markers were checked the journal is given as it was opened.
     pub record Gives : Type 0 where
       -- it is that one
@@ -267,7 +314,8 @@ module _ {F S : Type 0} {gs : _} (g : buffer.Ghosts (PageBlob S gs)) (gives : F 
       -- it may be used
       pub over : IsJournal g gives seal size dev.Tells k (dev.opened new) (disk (dev.time new))
       -- but for the replay that the section owed it is what the cut made of j
-      pub cut : (i : Lists F (PageBlob S gs)) × IsTailCut g gives seal size dev.Tells j t.section t.size i (dev.opened new) (disk (dev.time old)) (disk (dev.time new))
+      pub cut : (i : Lists F (PageBlob S gs)) × IsTailCut g gives seal size dev.Tells j t.section
+          t.size i (dev.opened new) (disk (dev.time old)) (disk (dev.time new))
           × (k.sections ≡ i.sections) × ((s : ℕ) → k.floor_of s ≡ i.floor_of s)
       -- no section owes a replay
       pub recovered : (s : ℕ) → k.unrecovered s ≡ false
@@ -280,7 +328,8 @@ module _ {F S : Type 0} {gs : _} (g : buffer.Ghosts (PageBlob S gs)) (gives : F 
     -- Where a checkpoint was, all behind it is removed.
     pub record Restores (t : Target) : Type 0 where
       -- at each moment, also where the call fails
-      pub moments : dev.Tells → Always (dev.time old) (dev.time new) (CuttingTail seal j t.section t.size (disk (dev.time old)))
+      pub moments : dev.Tells → Always (dev.time old) (dev.time new)
+          (CuttingTail seal j t.section t.size (disk (dev.time old)))
       -- this is the journal then
       pub ends : IfOk result (IsRestored t)
       -- where there is nothing to remove or to cut, no call of the device is made
@@ -297,7 +346,8 @@ module _ {F S : Type 0} {gs : _} (g : buffer.Ghosts (PageBlob S gs)) (gives : F 
       -- no page is damaged, where the disk is told
       pub damage : dev.Tells → HasDamage result → ⊥
       -- nothing is answered but a fault or want of memory
-      pub cause : OnErr result (HasDamage result ⊎ HasFailed result (dev.faults old) (dev.faults new))
+      pub cause : OnErr result (HasDamage result ⊎ HasFailed result (dev.faults old)
+          (dev.faults new))
 
     -- What `finish` does, by what was checked.
     abbrev pub Finishes : Option Target → Type 0

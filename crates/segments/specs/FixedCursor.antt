@@ -136,6 +136,8 @@ module _ {F S : Type 0} {gs : _} (seal : List ℕ → ℕ) (size : ℕ) where
             (seen (λ _. None) result) old new before after begin end few many
         -- it stands in that section then
         pub begun : OnOk result (IsSomeAnd new.place (IsEntered old))
+        -- and in none behind an error
+        pub left : OnErr result (new.place ≡ None)
 
       -- It ended the section in which it stood, at the place r.
       pub record Ends (r : Place) : Type 0 where

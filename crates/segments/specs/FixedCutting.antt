@@ -69,8 +69,8 @@ module _ {F S D : Type 0} {gs : _} (g : buffer.Ghosts (PageBlob S gs)) (gives : 
     pub floors : IfOk result (λ r. (q : ℕ) → q ≢ section → r.floor_of q ≡ j.floor_of q)
     -- at every moment, also where the call fails, no other blob changes
     pub alone : dev.Tells → Alone key_here (dev.time old) (dev.time new)
-    -- each crash leaves of a section that is sealed, as each proven one is, a prefix of its bytes, no
-    -- shorter than what had settled, up to the cut
+    -- each crash leaves of a section that is sealed, as each proven one is, a prefix of its bytes,
+    -- no shorter than what had settled, up to the cut
     pub moments : dev.Tells → (u : PageBlob S gs) → j.sections.held section ≡ Some u
         → IsSealed seal (shown u) blob_here
         → Sealing seal u.page_size (section_bytes j.sections (disk (dev.time old)) section)

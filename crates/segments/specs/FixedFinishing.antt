@@ -1,4 +1,4 @@
--- What giving the journal of a replay back promises, and where one begins.
+-- What giving the journal of a replay back promises, and what beginning one does.
 use Rattle.std.specs.Prelude.{◌≡◌, ◌⊎◌, ◌↔◌, ℕ, ◌*◌, ◌/◌, ◌<◌, ◌≤◌, true, false, List, Some, Result, Err, IfOk, OnOk, OnErr, IsSomeAnd}
 use Rattle.blob_device.specs.Disk.{Disk}
 use Rattle.blob_device.specs.Opened.{OpenedList}
@@ -33,26 +33,27 @@ module _ {F S : Type 0} {gs : _} (seal : List ℕ → ℕ) (size : ℕ) where
       (see : T → Lists F (PageBlob S gs)) : Type 0 where
     -- it has the replay's sections
     pub sections : IfOk result (λ r. (see r).sections ≡ w.journal.sections)
-    -- it is one again, over whatever the replay was: a section that owes a replay is held
+    -- a section that owes a replay is held
     pub held : HasWalk size w → IfOk result (λ r. OwesHeld (see r))
     -- all its bytes have settled
     pub settled : HasWalk size w → IfOk result (λ r. OwesSettled (see r))
     -- any other has whole items, and is sealed where it has no floor
-    pub sealed : (d : Disk) → WalksOver seal size w d → IfOk result (λ r. AreSealed seal size (see r) d)
+    pub sealed : (d : Disk) → WalksOver seal size w d
+        → IfOk result (λ r. AreSealed seal size (see r) d)
     -- what is known and not held stands above the bound of the opening
     pub unopened : (d : Disk) → WalksOver seal size w d → IfOk result (λ r. UnopenedLater (see r))
     -- the start was within its section
     pub start : HasWalk size w → IfOk result (λ r. (u : PageBlob S gs)
         → (see r).sections.held w.start_section ≡ Some u
         → w.start_position * size ≤ size_of (shown u))
-    -- from a section's start on it owes no replay, and none of the later ones does
+    -- a section that the replay went over from its first item on owes none
     pub recovered : IfOk result (λ r. (s : ℕ) → GoesOver w s → (see r).unrecovered s ≡ false)
-    -- the others do as before
+    -- each of the others owes one where it did before
     pub unrecovered : IfOk result (λ r. (s : ℕ) → Spares w s
         → (see r).unrecovered s ≡ w.journal.unrecovered s)
-    -- so it is of their floors
+    -- a section that it went over from its first item on has no floor
     pub lifted : IfOk result (λ r. (s : ℕ) → GoesOver w s → (see r).floor_of s ≡ 0)
-    -- those before the start have theirs
+    -- the others have theirs
     pub floors : IfOk result (λ r. (s : ℕ) → Spares w s
         → (see r).floor_of s ≡ w.journal.floor_of s)
     -- Where it answers Ok, what calls without an error gave, from any moment on, is all that was to

@@ -1,4 +1,5 @@
--- What markers ask of the blobs of a fixed journal, what a check of them shows, and why one of them is refused.
+-- What markers ask of the blobs of a fixed journal, what a check of them shows, and why one of them
+-- is refused.
 use Rattle.std.specs.Prelude.{◌≡◌, ◌⊎◌, ℕ, ◌-◌, ◌*◌, ◌/◌, ◌^◌, ◌<◌, ◌≤◌, false, List, length, IsTrue, Option, Some, string_bytes}
 use Rattle.std.specs.BTreeMap as tree
 use Rattle.std.specs.Ordering.{nat_cmp}
@@ -20,8 +21,9 @@ use Rattle.segments.specs.FixedItems.{IsItem}
 use Rattle.segments.specs.FixedLists.{Lists, floor_in}
 use Rattle.segments.specs.FixedShown as journal
 
--- Where the journal is and how it is kept, and up to which section it was opened; how many bytes of each section a marker vouches for;
--- of each section with a marker, the last item that it vouches for, if any; and where a checkpoint cuts.
+-- Where the journal is and how it is kept, and up to which section it was opened; how many bytes of
+-- each section a marker vouches for; of each section with a marker, the last item that it vouches
+-- for, if any; and where a checkpoint cuts.
 pub record Floors (A : Type 0) : Type 0 where
   pub partition : List ℕ
   pub pages : Pages
@@ -43,12 +45,13 @@ shown p = record {
 }
 
 -- the journal that was opened
-abbrev pub journal_of : {A S : Type 0} {fixed codec seal : _} → Preflight A S fixed codec seal → Lists (AppendFactory S) (PageBlob S seal)
+abbrev pub journal_of : {A S : Type 0} {fixed codec seal : _} → Preflight A S fixed codec seal
+    → Lists (AppendFactory S) (PageBlob S seal)
 journal_of p = journal.shown p.journal
 
 module _ (seal : List ℕ → ℕ) where
-  -- A buffer as adopting makes it over this blob: its bytes are the data up to the size at which the blob is adopted, all of them have
-  -- settled, and what it has in memory is as in it.
+  -- A buffer as adopting makes it over this blob: its bytes are the data up to the size at which
+  -- the blob is adopted, all of them have settled, and what it has in memory is as in it.
   pub record IsAdoptedOver {S : Type 0} {g : _} (u : PageBlob S g) (b : Blob) : Type 0 where
     pub there : IsTrue b.there
     pub size : size_of (page_blob.shown u) ≡ adopted_size seal u.page_size b.content
@@ -58,11 +61,14 @@ module _ (seal : List ℕ → ℕ) where
 
   -- each section is held by such a buffer
   abbrev pub AreAdopted : {F S : Type 0} {g : _} → Sections F (PageBlob S g) → Disk → Type 0
-  AreAdopted {S = S} {g = g} m d = (s : ℕ) (u : PageBlob S g) → m.held s ≡ Some u → IsAdoptedOver u (d (key_of m s))
+  AreAdopted {S = S} {g = g} m d = (s : ℕ) (u : PageBlob S g) → m.held s ≡ Some u
+      → IsAdoptedOver u (d (key_of m s))
 
 module _ (seal : List ℕ → ℕ) (P size : ℕ) where
-  -- v is the last of n items: matching slots cover its pages as far as it goes, and its bytes stand there
-  pub record IsBoundary {V : Type 0} (spelling : V → List ℕ) (accepted : V → Unit {0} → Type 0) (content : List ℕ) (n : ℕ) (v : V) : Type 0 where
+  -- v is the last of n items: matching slots cover its pages as far as it goes, and its bytes stand
+  -- there
+  pub record IsBoundary {V : Type 0} (spelling : V → List ℕ) (accepted : V → Unit {0} → Type 0)
+      (content : List ℕ) (n : ℕ) (v : V) : Type 0 where
     pub item : IsItem spelling accepted (data_from P (view content) ((n - 1) * size) size) v
     pub covered : IsCovered seal P content ((n - 1) * size) size
     pub within : n * size ≤ adopted_size seal P content
@@ -73,7 +79,8 @@ module _ (seal : List ℕ → ℕ) (P size : ℕ) where
     pub fits : n * size < 2 ^ 64
     pub sealed : n * size ≤ length (sealed_prefix seal P b.content)
 
-  -- the blob has the last of n items, which is why their marker is not refused: it is there, and matching slots cover that item, if any
+  -- the blob has the last of n items, which is why their marker is not refused: it is there, and
+  -- matching slots cover that item, if any
   pub record KeepsLast (b : Blob) (n : ℕ) : Type 0 where
     pub there : IsTrue b.there
     pub fits : n * size < 2 ^ 64
@@ -81,7 +88,8 @@ module _ (seal : List ℕ → ℕ) (P size : ℕ) where
     pub within : 0 < n → n * size ≤ adopted_size seal P b.content
 
   -- it has the last of n items, and that is one
-  pub record KeepsBoundary {V : Type 0} (spelling : V → List ℕ) (accepted : V → Unit {0} → Type 0) (b : Blob) (n : ℕ) : Type 0 where
+  pub record KeepsBoundary {V : Type 0} (spelling : V → List ℕ) (accepted : V → Unit {0} → Type 0)
+      (b : Blob) (n : ℕ) : Type 0 where
     pub last : KeepsLast b n
     pub decodes : 0 < n → (v : V) × IsBoundary spelling accepted b.content n v
 
@@ -103,7 +111,8 @@ module _ (seal : List ℕ → ℕ) (P size : ℕ) where
     pub there : IsTrue b.there
     pub fits : n * size < 2 ^ 64
     pub some : 0 < n
-    pub broken : ((k : ℕ) × IsShort seal P b.content ((n - 1) * size) size k) ⊎ PassesSize seal P b.content ((n - 1) * size) size
+    pub broken : ((k : ℕ) × IsShort seal P b.content ((n - 1) * size) size k)
+        ⊎ PassesSize seal P b.content ((n - 1) * size) size
     pub kept : x.kept ≡ length (sealed_prefix seal P b.content)
     pub wanted : x.wanted ≡ n * size
     pub less : x.kept < x.wanted

@@ -1,4 +1,5 @@
--- What a replay gave from a moment on, call by call, and that it was all that was to be given, once it was drained.
+-- What a replay gave from a moment on, call by call, and that it was all that was to be given, once
+-- it was drained.
 use Rattle.std.specs.Prelude.{⊤, ◌≡◌, ◌⊎◌, ◌↔◌, ℕ, ◌+◌, ◌≤◌, true, false, List, [], ◌∷◌, ◌++◌, Option, Some, None}
 use Rattle.std.specs.List.{Contains}
 use Rattle.blob_device.specs.Disk.{Disk}
@@ -36,7 +37,8 @@ abbrev pub given_by : {V : Type 0} → Option (Given V) → List (Given V)
 given_by None = []
 given_by (Some x) = x ∷ []
 
--- what these calls gave, of which the newest stands first: the item that was given first is the first
+-- what these calls gave, of which the newest stands first: the item that was given first is the
+-- first
 abbrev pub given : {F B V : Type 0} → List (Call F B V) → List (Given V)
 given [] = []
 given (c ∷ calls) = given calls ++ given_by c.gave

@@ -1,4 +1,5 @@
--- What a call of `next` of a replay does: it gives the first item that is left, or an error, or says that nothing is left.
+-- What a call of `next` of a replay does: it gives the first item that is left, or an error, or
+-- says that nothing is left.
 use Rattle.std.specs.Prelude.{◌≡◌, ◌⊎◌, ◌↔◌, ℕ, ◌*◌, ◌<◌, ◌≤◌, true, false, List, length, Option, Some, None, Result, Ok, Err}
 use Rattle.blob_device.specs.Disk.{Key}
 use Rattle.blob_device.specs.Timeline.{disk, Always, Each}

@@ -35,8 +35,8 @@ module _ {F S V D : Type 0} {gs : _} (g : buffer.Ghosts (PageBlob S gs)) (gives 
   abbrev pub HasForeign : D → List ℕ → Type 0
   HasForeign d name = IsForeign (disk (dev.time d)) place name
 
-  -- Markers were checked, of the sections that have one, of so many first items. `see` shows what was
-  -- found, and `journal` the journal that was opened for it.
+  -- Markers were checked, of the sections that have one, of so many first items. `see` shows what
+  -- was found, and `journal` the journal that was opened for it.
   pub record ChecksFloors {T : Type 0} (see : T → Floors V) (journal : T → Lists F (PageBlob S gs))
       (result : Result T Error) (old new : D) : Type 0 where
     -- a section's floor is where its marked items end
@@ -96,8 +96,8 @@ module _ {F S V D : Type 0} {gs : _} (g : buffer.Ghosts (PageBlob S gs)) (gives 
         → g.unsettled u ≡ false)
     -- nothing is pruned
     pub floor : IfOk result (λ r. (journal r).sections.floor ≡ 0)
-    -- a marker is refused only where no blob is there, its bytes pass a u64, or its last item is not
-    -- sealed
+    -- a marker is refused only where no blob is there, its bytes pass a u64, or its last item is
+    -- not sealed
     pub damage : dev.Tells → (x : Damage) → IsErrOf result (Corruption x)
         → IsSomeAnd (marks x.section)
         (λ n. IsRefused seal paged.page_size size (blob_at old x.section) n x)
@@ -105,8 +105,8 @@ module _ {F S V D : Type 0} {gs : _} (g : buffer.Ghosts (PageBlob S gs)) (gives 
     pub whole : dev.Tells → ((s n : ℕ) → marks s ≡ Some n
         → Keeps seal paged.page_size size (blob_at old s) n)
         → (x : Damage) → IsErrOf result (Corruption x) → ⊥
-    -- It is the first one that is, by this error or by the codec's: each marked section before it has
-    -- its last item.
+    -- It is the first one that is, by this error or by the codec's: each marked section before it
+    -- has its last item.
     pub first : dev.Tells → (x : Damage) → IsErrOf result (Corruption x)
         → (s n : ℕ) → s < x.section → marks s ≡ Some n
         → KeepsBoundary seal paged.page_size size spelling accepted (blob_at old s) n
@@ -118,8 +118,8 @@ module _ {F S V D : Type 0} {gs : _} (g : buffer.Ghosts (PageBlob S gs)) (gives 
         × IsCovered seal paged.page_size (blob_at old s).content ((n - 1) * size) size
         × ((q m : ℕ) → q < s → marks q ≡ Some m
         → KeepsBoundary seal paged.page_size size spelling accepted (blob_at old q) m)
-    -- at every moment, also where the call fails, each blob of the partition is as before, or settled
-    -- as it read
+    -- at every moment, also where the call fails, each blob of the partition is as before, or
+    -- settled as it read
     pub moments : dev.Tells → Always (dev.time old) (dev.time new)
         (Each (IsSettling place most (disk (dev.time old))))
     -- a name that is no section's is refused, also above a bound, and no marker is

@@ -17,7 +17,8 @@ module _ {S : Type 0} {gs : _} (size : ℕ) where
   abbrev pub HasItem : PageBlob S gs → ℕ → Type 0
   HasItem u p = p < size_of (shown u) / size
 
-  -- all bytes of the item at p are held in memory: no page below the tip that has one of them is out of it
+  -- all bytes of the item at p are held in memory: no page below the tip that has one of them is
+  -- out of it
   abbrev pub is_item_held : PageBlob S gs → ℕ → Bool
   is_item_held u p = eqb (missing_pages (shown u) (p * size) size) 0
 
@@ -52,4 +53,5 @@ module _ {T : Type 0} (result : Result T Error) where
 
   -- a page is damaged, or the item does not decode, or the device failed, or there was no memory
   abbrev pub HasNotRead : ℕ → ℕ → Type 0
-  HasNotRead before now = ((k : ℕ) × IsErrOf result (Runtime (InvalidChecksum k))) ⊎ (((e : codec.Error) × IsErrOf result (Codec e)) ⊎ HasFailed result before now)
+  HasNotRead before now = ((k : ℕ) × IsErrOf result (Runtime (InvalidChecksum k)))
+      ⊎ (((e : codec.Error) × IsErrOf result (Codec e)) ⊎ HasFailed result before now)

@@ -45,22 +45,22 @@ module _ {F S : Type 0} {gs : _} (j : Lists F (PageBlob S gs)) where
       -- whether there was a section below
       pub flag : IfOk result (λ r. IsTrue r.1
           ↔ ((s : ℕ) × IsSection j.sections s × (s < min)))
-      -- only then `min` is the floor
+      -- then `min` is the floor
       pub floor : IfOk result (λ r. IsTrue r.1 → r.0.sections.floor ≡ min)
       -- else it stays
       pub same_floor : IfOk result (λ r. r.1 ≡ false
           → r.0.sections.floor ≡ j.sections.floor)
       -- a section that is removed owes no replay
       pub recovered : IfOk result (λ r. (s : ℕ) → s < min → r.0.unrecovered s ≡ false)
-      -- the others do as before
+      -- each of the others owes one where it did before
       pub unrecovered : IfOk result (λ r. (s : ℕ) → min ≤ s
           → r.0.unrecovered s ≡ j.unrecovered s)
-      -- nor has it a floor
+      -- a section that is removed has no floor
       pub lifted : IfOk result (λ r. (s : ℕ) → s < min → r.0.floor_of s ≡ 0)
       -- the others have theirs
       pub floors : IfOk result (λ r. (s : ℕ) → min ≤ s → r.0.floor_of s ≡ j.floor_of s)
-      -- at every moment, also where the call fails, no section's blob is touched before those of all
-      -- older ones are gone
+      -- at every moment, also where the call fails, no section's blob is touched before those of
+      -- all older ones are gone
       pub moments : dev.Tells → Always (dev.time old) (dev.time new)
           (Removing j.sections (IsBelow min) IsOlder (disk (dev.time old)))
       -- the blobs are gone, also after a crash
@@ -94,8 +94,8 @@ module _ {F S : Type 0} {gs : _} (j : Lists F (PageBlob S gs)) where
       pub floor : IfOk result (λ r. r.sections.floor ≡ 0)
       -- the bound of the opening is lifted
       pub ceiling : IfOk result (λ r. r.sections.ceiling ≡ 2 ^ 64 - 1)
-      -- at every moment, also where the call fails, no section's blob is touched before those of all
-      -- older ones are gone
+      -- at every moment, also where the call fails, no section's blob is touched before those of
+      -- all older ones are gone
       pub moments : dev.Tells → Always (dev.time old) (dev.time new)
           (Removing j.sections (IsKnown j.sections) IsOlder (disk (dev.time old)))
       -- no section has a blob then

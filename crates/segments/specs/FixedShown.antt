@@ -8,7 +8,8 @@ use Rattle.section_manager.specs.managing.Managed as manager
 use Rattle.segments.specs.declared.fixed.Journal.{Journal}
 use Rattle.segments.specs.FixedLists.{Lists, floor_in}
 
-abbrev pub shown : {A S : Type 0} {fixed codec seal : _} → Journal A S fixed codec seal → Lists (AppendFactory S) (PageBlob S seal)
+abbrev pub shown : {A S : Type 0} {fixed codec seal : _} → Journal A S fixed codec seal
+    → Lists (AppendFactory S) (PageBlob S seal)
 shown j = record {
   sections = manager.shown j.manager;
   unrecovered = set.contains nat_cmp j.unrecovered;
@@ -16,5 +17,6 @@ shown j = record {
 }
 
 -- the same beside an answer
-abbrev pub flagged : {A S : Type 0} {fixed codec seal : _} → Journal A S fixed codec seal × Bool → Lists (AppendFactory S) (PageBlob S seal) × Bool
+abbrev pub flagged : {A S : Type 0} {fixed codec seal : _} → Journal A S fixed codec seal × Bool
+    → Lists (AppendFactory S) (PageBlob S seal) × Bool
 flagged r = (shown r.0, r.1)

@@ -12,7 +12,8 @@ use Rattle.segments.specs.FixedStepping.{standing}
 abbrev pub place_of : {S : Type 0} {seal : _} → Reading S seal → Place
 place_of r = record { section = r.section; position = r.position; reader = reading r.reader }
 
-abbrev pub walk_of : {A S : Type 0} {fixed codec seal : _} → Replay A S fixed codec seal → Walk (AppendFactory S) (PageBlob S seal)
+abbrev pub walk_of : {A S : Type 0} {fixed codec seal : _} → Replay A S fixed codec seal
+    → Walk (AppendFactory S) (PageBlob S seal)
 walk_of r = record {
   journal = shown r.journal;
   start_section = r.start_section;
@@ -24,5 +25,6 @@ walk_of r = record {
 }
 
 -- the replay at this place of a section
-abbrev pub walk_at : {A S : Type 0} {fixed codec seal : _} → Replay A S fixed codec seal → Reading S seal → Walk (AppendFactory S) (PageBlob S seal)
+abbrev pub walk_at : {A S : Type 0} {fixed codec seal : _} → Replay A S fixed codec seal
+    → Reading S seal → Walk (AppendFactory S) (PageBlob S seal)
 walk_at r at = standing (walk_of r) (place_of at)

@@ -15,6 +15,8 @@ module _ {S : Type 0} {gs : _} where
   abbrev pub tail_size : Sections (AppendFactory S) (PageBlob S gs) → ℕ → ℕ
   tail_size m s = tail_held (m.held s)
 
-  -- In n the section has a tail as an append of so many bytes leaves it, whether m held the section or not.
-  abbrev pub IsTailAfter : Sections (AppendFactory S) (PageBlob S gs) → ℕ → ℕ → Sections (AppendFactory S) (PageBlob S gs) → Type 0
+  -- In n the section has a tail as an append of so many bytes leaves it, whether m held the section
+  -- or not.
+  abbrev pub IsTailAfter : Sections (AppendFactory S) (PageBlob S gs) → ℕ → ℕ
+      → Sections (AppendFactory S) (PageBlob S gs) → Type 0
   IsTailAfter m s added n = tail_size n s ≡ tail_after m.factory.write_buffer (tail_size m s) added

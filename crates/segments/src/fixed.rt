@@ -43,11 +43,16 @@
 //
 // An append below the buffer's capacity makes no call. An item is read by at most two reads more than the
 // pages that it fills. A replay reads each page once, and one once more where it cuts.
-ghost use Rattle.std.specs.Prelude.{◌≡◌, ◌↔◌, ◌≤◌, ◌<◌, ◌/◌, ℕ, List, [], None, IfOk, IfSome, OnErr, IsTrue, string_len};
+ghost use Rattle.std.specs.Prelude.{◌≡◌, ◌≢◌, ◌↔◌, ◌≤◌, ◌<◌, ◌/◌, ℕ, List, [], length, None, IfOk, IfSome, OnErr, IsTrue, string_len};
 ghost use Rattle.std.specs.List.{Contains};
 ghost use Rattle.std.specs.List.Sorted.{IsStrictlySortedBy};
 ghost use Rattle.std.specs.Ordering.{nat_cmp};
+ghost use Rattle.blob_device.specs.Disk.{Blob, Key};
+ghost use Rattle.blob_device.specs.Timeline.{Always, Timeline, disk};
+ghost use Rattle.sealed_pages.specs.Buffer.{Buffer, bytes_of, IsSealed};
+ghost use Rattle.sealed_pages.specs.ChanceSeal.{Leaves, Sealing};
 ghost use Rattle.sealed_pages.specs.SealedPrefix.{sealed_prefix, Prefix};
+ghost use Rattle.sealed_pages.specs.Unrecovered.{IsUnrecovered};
 ghost use Rattle.section_manager.specs.Sections.{IsHeld};
 ghost use Rattle.section_manager.specs.Refusing.{IsPruned};
 ghost use Rattle.segments.specs.FixedItems.{HoldsFirstItems};
@@ -90,7 +95,8 @@ pub struct Config {
 impl Config {
     /// Whether the partition has a name, and page size and buffer are at least 1.
     pub fn is_valid(&self) -> bool
-        ensures { IsTrue result ↔ ((1 ≤ string_len self.now.partition) × (1 ≤ self.now.pages.page_size) × (1 ≤ self.now.write_buffer)) }
+        ensures { IsTrue result ↔ ((1 ≤ string_len self.now.partition)
+            × (1 ≤ self.now.pages.page_size) × (1 ≤ self.now.write_buffer)) }
     {
         !self.partition.is_empty() && self.pages.is_valid() && self.write_buffer >= 1
     }
@@ -119,11 +125,28 @@ pub struct Journal<A: CodecFixed, S: Seal> {
     ghost sized: { 1 ≤ A.SIZE },
 }
 
-/// What the promises on crashes, which are on bytes, say of items: where a crash leaves a prefix of a section's bytes, the whole items in
-/// it are the first ones of the section, and no fewer than stand whole in the bytes that it has to keep. No bytes have none.
+/// What the promises on crashes, which are on bytes, say of items: where a crash leaves a prefix of a
+/// section's bytes, the whole items in it are the first ones of the section, and no fewer than stand whole
+/// in the bytes that it has to keep. No bytes have none.
+///
+/// Of a blob that no call touches a crash leaves what its buffer promises. Of a sealed one it is a prefix of
+/// the bytes, no shorter than what has settled (`rests`). Of one that owes a replay it is the whole sealed
+/// prefix (`waits`). That stands at every moment of a call that touches another section's blob alone
+/// (`others`).
 pub fn item_laws<A: CodecFixed, S: Seal>()
-    ensures first { (P : ℕ) (bytes : List ℕ) (least : ℕ) (c : List ℕ) → Prefix S.seal_of P bytes least c → HoldsFirstItems A.SIZE bytes least (sealed_prefix S.seal_of P c) }
+    ensures first { (P : ℕ) (bytes : List ℕ) (least : ℕ) (c : List ℕ)
+        → Prefix S.seal_of P bytes least c → HoldsFirstItems A.SIZE bytes least
+        (sealed_prefix S.seal_of P c) }
     ensures none { (P : ℕ) → sealed_prefix S.seal_of P [] ≡ [] }
+    ensures rests { (u : Buffer) (b : Blob) → u.from < u.page_size → IsSealed S.seal_of u b
+        → Leaves S.seal_of u.page_size (bytes_of u b.content) u.settled b }
+    ensures waits { (u : Buffer) (b : Blob) → u.from < u.page_size → IsUnrecovered S.seal_of u b
+        → Leaves S.seal_of u.page_size (sealed_prefix S.seal_of u.page_size b.content)
+        (length (sealed_prefix S.seal_of u.page_size b.content)) b }
+    ensures others { (P : ℕ) (bytes : List ℕ) (least : ℕ) (key q : Key) (old new : Timeline)
+        → Sealing S.seal_of P bytes least key old new → q ≢ key
+        → (size : ℕ) (kept : List ℕ) (few : ℕ) → Leaves S.seal_of size kept few (disk old q)
+        → Always old new (λ d. Leaves S.seal_of size kept few (d q)) }
 {}
 
 impl<A: CodecFixed, S: Seal> Journal<A, S> {
@@ -133,26 +156,30 @@ impl<A: CodecFixed, S: Seal> Journal<A, S> {
     /// How many bytes an item takes.
     pub const CHUNK_SIZE: usize = A::SIZE;
 
-    /// Whether the section takes an append: it is not above the bound of an opening, and no replay of it is owed.
+    /// Whether the section takes an append: it is not above the bound of an opening, and no replay of it is
+    /// owed.
     pub fn is_recovered(&self, section: u64) -> bool
         ensures { IsTrue result ↔ IsRecovered (shown self.now) section }
     {
         section <= self.manager.ceiling() && !self.unrecovered.contains(&section)
     }
 
-    /// How many bytes of the section a marker vouches for; 0 where there is none. A finished replay from the section's start, or from
-    /// an earlier section, sets it to 0. [`truncate_pending_section`](Journal::truncate_pending_section) lowers it to no more than is
-    /// left; [`truncate_pending_tail`](Journal::truncate_pending_tail) keeps it.
+    /// How many bytes of the section a marker vouches for; 0 where there is none. A finished replay from
+    /// the section's start, or from an earlier section, sets it to 0.
+    /// [`truncate_pending_section`](Journal::truncate_pending_section) lowers it to no more than is left;
+    /// [`truncate_pending_tail`](Journal::truncate_pending_tail) keeps it.
     pub fn floor_of(&self, section: u64) -> u64
         ensures { result ≡ (shown self.now).floor_of section }
     {
         floor_at(&self.floors, section)
     }
 
-    /// How many whole items the section has, those not flushed too; 0 where it is not held. It takes no memory.
+    /// How many whole items the section has, those not flushed too; 0 where it is not held. It takes no
+    /// memory.
     pub fn section_len(&self, section: u64) -> Result<u64, Error>
         ensures len { IfOk result (λ n. n ≡ section_size (shown self.now).sections section / A.SIZE) }
-        ensures guard { IsPruned result (shown self.now).sections.floor ↔ (section < (shown self.now).sections.floor) }
+        ensures guard { IsPruned result (shown self.now).sections.floor
+            ↔ (section < (shown self.now).sections.floor) }
         ensures cause { OnErr result (IsPruned result (shown self.now).sections.floor) }
     {
         Ok(self.manager.size(section)? / A::SIZE as u64)
@@ -161,7 +188,8 @@ impl<A: CodecFixed, S: Seal> Journal<A, S> {
     /// How many bytes the section has, those not flushed too; 0 where it is not held. It takes no memory.
     pub fn size(&self, section: u64) -> Result<u64, Error>
         ensures size { IfOk result (λ n. n ≡ section_size (shown self.now).sections section) }
-        ensures guard { IsPruned result (shown self.now).sections.floor ↔ (section < (shown self.now).sections.floor) }
+        ensures guard { IsPruned result (shown self.now).sections.floor
+            ↔ (section < (shown self.now).sections.floor) }
         ensures cause { OnErr result (IsPruned result (shown self.now).sections.floor) }
     {
         self.manager.size(section)
@@ -169,7 +197,8 @@ impl<A: CodecFixed, S: Seal> Journal<A, S> {
 
     /// Refuses a section below the floor. It takes no memory.
     pub fn prune_guard(&self, section: u64) -> Result<(), Error>
-        ensures guard { IsPruned result (shown self.now).sections.floor ↔ (section < (shown self.now).sections.floor) }
+        ensures guard { IsPruned result (shown self.now).sections.floor
+            ↔ (section < (shown self.now).sections.floor) }
         ensures cause { OnErr result (IsPruned result (shown self.now).sections.floor) }
     {
         self.manager.prune_guard(section)
@@ -198,6 +227,15 @@ impl<A: CodecFixed, S: Seal> Journal<A, S> {
         ensures greatest { IfSome result (λ n. (s : ℕ) → IsHeld (shown self.now).sections s → s ≤ n) }
     {
         self.manager.newest_section()
+    }
+
+    /// How many sections are held.
+    pub fn num_sections(&self) -> usize
+        ensures { (numbers : List ℕ) → IsStrictlySortedBy nat_cmp numbers
+            → ((s : ℕ) → Contains numbers s ↔ IsHeld (shown self.now).sections s)
+            → result ≡ length numbers }
+    {
+        self.manager.num_sections()
     }
 
     /// The held sections, ascending.

@@ -1,16 +1,18 @@
 -- What a call answers that reads an item of a section, from what the read of the section's buffer answered.
-use Rattle.std.proofs.Common.{◌≡◌, ◌⊎◌, ◌↔◌, inl, inr, ℕ, ◌<◌, ◌≤◌, false, List, drop, Option, Some, None, Result, Ok, Err, OnErr, IfOk, sym, ap, subst, arith}
+use Rattle.std.proofs.Common.{◌≡◌, ◌⊎◌, ◌↔◌, inl, inr, ℕ, ◌<◌, ◌≤◌, false, List, drop, Option, Some, None, Result, Ok, Err, OnErr, IfOk, refl, sym, ap, subst, arith}
 use Rattle.std.specs.Result.{IsErrOf}
+use Rattle.blob_device.specs.Disk.{Key}
 use Rattle.blob_device.specs.Timeline.{disk}
 use Rattle.blob_device.specs.declared.device.Device as device
 use Rattle.blob_device.specs.declared.runtime.RError.TheVariants.{InvalidChecksum}
 use Rattle.value_codec.specs.declared.codec.Error as codec
 use Rattle.sealed_pages.specs.Buffer as pages
 use Rattle.sealed_pages.specs.Buffer.{bytes_of, size_of, IsBacked, IsSealed}
+use Rattle.sealed_pages.specs.Reading.{OnlyRead}
 use Rattle.sealed_pages.specs.Reads.{IsShort}
 use Rattle.sealed_pages.specs.Shown.{shown}
 use Rattle.sealed_pages.specs.declared.page_blob.PageBlob.{PageBlob}
-use Rattle.sealed_pages.proofs.Looking.{unchanged_start}
+use Rattle.sealed_pages.proofs.looking.Looking.{unchanged_start}
 use Rattle.section_manager.specs.Refusing.{HasFailed, IsPruned}
 use Rattle.section_manager.specs.Sections.{key_of}
 use Rattle.section_manager.specs.declared.journal.Error.{Error}
@@ -40,6 +42,7 @@ module _ {F S V C D : Type 0} {gs : _} (seal : List ℕ → ℕ) (spelling : V �
     sound = λ t free k is. elim why [ inl pruned ↦ cc (is, pruned) | inr none ↦ cc (is, none) ];
     refused = λ t x is. absurd (elim why [ inl pruned ↦ cc (is, pruned) | inr none ↦ cc (is, none) ]);
     unchanged = λ t. unchanged_start (dev.time old);
+    entries = record { others = λ q other. refl; length = λ n is. is };
     faults = omega arith;
     cause = elim why [ inl pruned ↦ inl (ap Err pruned) | inr none ↦ inr (inl (ap Err none)) ];
   }
@@ -63,6 +66,7 @@ module _ {F S V C D : Type 0} {gs : _} (seal : List ℕ → ℕ) (spelling : V �
       sound = λ t free k is. did.sound t (sealed t free) k is;
       refused = λ t x is. subst (λ (l : List ℕ). IsRefusedBy refusal config l x) own (did.refused t (backed t) x is);
       unchanged = did.unchanged;
+      entries = subst (λ (q : Key). OnlyRead q (dev.opened old) (dev.opened new)) key did.entries;
       faults = did.faults;
       cause = causes result did.cause;
     }

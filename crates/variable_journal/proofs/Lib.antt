@@ -5,3 +5,4 @@ pub mod AddingLemmas
 pub mod ReadingLemmas
 pub mod OpeningLemmas
 pub mod GettingLemmas
+pub mod KeepingLemmas

@@ -142,6 +142,8 @@ module _ {F S V C D : Type 0} {gs : _} (seal : List ℕ → ℕ) (spelling : V �
         → IsRefusedBy refusal config bytes_there e
     -- nothing is written
     pub unchanged : dev.Tells → Unchanged (dev.time old) (dev.time new)
+    -- the section's blob stays open, and no other entry changes
+    pub entries : OnlyRead (key_of j.sections section) (dev.opened old) (dev.opened new)
     -- faults are counted on
     pub faults : dev.faults old ≤ dev.faults new
     -- nothing else is answered but a fault or want of memory

@@ -31,7 +31,10 @@
 // # Pruning
 //
 // Sections below a bound are removed, the oldest first.
-ghost use Rattle.std.specs.Prelude.{◌≡◌, ◌↔◌, ◌≤◌, ◌<◌, ℕ, None, IfOk, IfSome, OnErr, IsTrue, string_len};
+ghost use Rattle.std.specs.Prelude.{◌≡◌, ◌↔◌, ◌≤◌, ◌<◌, ℕ, List, None, length, IfOk, IfSome, OnErr, IsTrue, string_len};
+ghost use Rattle.std.specs.List.{Contains};
+ghost use Rattle.std.specs.List.Sorted.{IsStrictlySortedBy};
+ghost use Rattle.std.specs.Ordering.{nat_cmp};
 ghost use Rattle.section_manager.specs.Refusing.{IsPruned};
 ghost use Rattle.section_manager.specs.Sections.{IsHeld};
 
@@ -147,5 +150,14 @@ impl<V: Codec, S: Seal> Journal<V, S> {
         ensures { IsTrue result ↔ ((s : ℕ) → (shown self.now).sections.held s ≡ None) }
     {
         self.bytes.oldest_section().is_none()
+    }
+
+    /// How many sections are held.
+    pub fn num_sections(&self) -> usize
+        ensures { (numbers : List ℕ) → IsStrictlySortedBy nat_cmp numbers
+            → ((s : ℕ) → Contains numbers s ↔ IsHeld (shown self.now).sections s)
+            → result ≡ length numbers }
+    {
+        self.bytes.num_sections()
     }
 }

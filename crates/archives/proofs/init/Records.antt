@@ -8,7 +8,7 @@ use Rattle.blob_device.specs.Disk.{Blob, Disk, Image, reads}
 use Rattle.value_codec.specs.Spelling.{size_refusal}
 use Rattle.value_codec.specs.declared.codec.Error as codec
 use Rattle.value_codec.specs.declared.key.Key8.{Key8}
-use Rattle.sealed_pages.proofs.Adopt.{length-data_from}
+use Rattle.sealed_pages.proofs.adopted.Adopt.{length-data_from}
 use Rattle.sealed_pages.specs.View.{view}
 use Rattle.section_manager.specs.Sections.{section_key}
 use Rattle.segments.specs.FixedItems.{item_at, item_count}

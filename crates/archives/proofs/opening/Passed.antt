@@ -12,11 +12,11 @@ use Rattle.sealed_pages.specs.Shown.{shown}
 use Rattle.sealed_pages.specs.Unrecovered.{IsAdopted}
 use Rattle.sealed_pages.specs.View.{View, view}
 use Rattle.sealed_pages.specs.declared.page_blob.PageBlob.{PageBlob}
-use Rattle.sealed_pages.proofs.Adopt.{get_or-data_from, length-data_from}
-use Rattle.sealed_pages.proofs.Holding.{bytes_length}
-use Rattle.sealed_pages.proofs.ReadLemmas.{read_data}
-use Rattle.sealed_pages.proofs.SlotLemmas.{times_next}
-use Rattle.sealed_pages.proofs.Truncating.{all_flushed}
+use Rattle.sealed_pages.proofs.adopted.Adopt.{get_or-data_from, length-data_from}
+use Rattle.sealed_pages.proofs.memory.Holding.{bytes_length}
+use Rattle.sealed_pages.proofs.looking.ReadLemmas.{read_data}
+use Rattle.sealed_pages.proofs.slots.SlotLemmas.{times_next}
+use Rattle.sealed_pages.proofs.cutting.Truncating.{all_flushed}
 use Rattle.sealed_pages.proofs.UnrecoveredLemmas.{prefix_short}
 use Rattle.section_manager.specs.declared.buffer.SectionBuffer as buffer
 use Rattle.section_manager.specs.declared.journal.Damage.{Damage}

@@ -29,7 +29,7 @@ use Rattle.paired.specs.Opening.{as_read, IsLawful, MayBeOpened, RecallsAlone}
 use Rattle.paired.specs.OpeningRefusing.{AreSpellings}
 use Rattle.paired.specs.Pair.{IsSoundOn, list_of, synced_length, IsSafeOn}
 use Rattle.paired.specs.Records.{records}
-use Rattle.paired.specs.Replaying.{Run, pair_of, HasFailed as HasErred, HasLostNone, marker, records_over, records_given, IsDue, IsRun, GivesRecord, LosesRecords, IsCutting, IsUnspelled, LeftAtMost, IsStill, SameRun}
+use Rattle.paired.specs.Replaying.{Limits, Run, pair_of, HasFailed as HasErred, HasLostNone, marker, records_over, records_given, IsDue, IsRun, GivesRecord, LosesRecords, IsCutting, IsUnspelled, LeftAtMost, IsStill, SameRun}
 use Rattle.paired.proofs.GlobLemmas.{buffers}
 use Rattle.paired.proofs.next.Images.{KeepsIndex, keeps_index, kept_same, lawful_on, spelled_on, opened_on, moments_of, untouched_of, still_of, idle_of, others_end}
 use Rattle.paired.proofs.next.Lists.{lists_after, sound_after, keeps_lists}
@@ -88,7 +88,7 @@ module _ {F S : Type 0} {gs : _} (refusal : List ℕ → Unit {0} → Option cod
 module _ {F S : Type 0} {gs : _} (g : buffer.Ghosts (PageBlob S gs)) (gives : F → Setting) (takes : WriteFactory → Setting) (told : Type 0) (run : Run F (PageBlob S gs)) (pages : ArePages g run.layout.seal) (refusal : List ℕ → Unit {0} → Option codec.Error)
     (before : OpenedList) (a : Timeline) (here : Here gives (pair_of run)) (was : IsRun run g gives buffers takes told before (disk a)) (readable : told → (q : Key) → MayLeave (disk a q) (reads (disk a q)))
     (w : Walk F (PageBlob S gs)) (opened : OpenedList) (e : Timeline) (went : Went run.layout.seal run.layout.record_size g told run.walk w a e) (walk : IsWalk g gives run.layout.seal run.layout.record_size told w opened (disk e))
-    (readable_end : told → (q : Key) → MayLeave (disk e q) (reads (disk e q))) (ends : ℕ → Option ℕ) (ended : Option ℕ) (failed : Bool) where
+    (readable_end : told → (q : Key) → MayLeave (disk e q) (reads (disk e q))) (ends : Limits) (ended : Option ℕ) (failed : Bool) where
   abbrev now : Run F (PageBlob S gs)
   now = moved run w ends ended failed
 

@@ -18,7 +18,7 @@ use Rattle.section_manager.specs.Setting.{Setting}
 use Rattle.segments.specs.FixedReading.{IsBelowFloor, HasNotRead}
 use Rattle.segments.specs.FixedReplay.{Walk, FindsDamage}
 use Rattle.segments.proofs.FixedWriteLemmas.{ArePages}
-use Rattle.paired.specs.Replaying.{Run, pair_of, HasFailed as HasErred, GivesRecord, IsRun}
+use Rattle.paired.specs.Replaying.{Limits, Run, pair_of, HasFailed as HasErred, GivesRecord, IsRun}
 use Rattle.paired.proofs.GlobLemmas.{buffers}
 use Rattle.paired.proofs.next.Answers.{Clauses, images_now}
 use Rattle.paired.proofs.next.Complete.{only_failed}
@@ -56,7 +56,7 @@ err_same x y is = cc is
 module _ {F S V : Type 0} {gs : _} (g : buffer.Ghosts (PageBlob S gs)) (gives : F → Setting) (takes : WriteFactory → Setting) (told : Type 0) (run : Run F (PageBlob S gs)) (pages : ArePages g run.layout.seal)
     (spelling : V → List ℕ) (accepted : V → Unit {0} → Type 0) (refusal : List ℕ → Unit {0} → Option codec.Error) (location : V → ℕ × ℕ) (spelled : (r : V) → accepted r tt → run.layout.place (spelling r) ≡ location r)
     (before : OpenedList) (a : Timeline) (few : ℕ) (here : Here gives (pair_of run))
-    (w : Walk F (PageBlob S gs)) (ends : ℕ → Option ℕ) (ended : Option ℕ) (failed : Bool) (opened : OpenedList) (b : Timeline) (count : ℕ) (running : Running g gives takes told run before a few w ends ended failed opened b count)
+    (w : Walk F (PageBlob S gs)) (ends : Limits) (ended : Option ℕ) (failed : Bool) (opened : OpenedList) (b : Timeline) (count : ℕ) (running : Running g gives takes told run before a few w ends ended failed opened b count)
     (answer : Option (Result (ℕ × ℕ × V) Error)) (v : Walk F (PageBlob S gs)) (between : OpenedList) (c : Timeline) (some : ℕ)
     (says : Says run.layout.seal run.layout.record_size g gives told spelling accepted refusal answer w v opened between b c count some)
     (was : IsRun run g gives buffers takes told before (disk a)) (readable_start : told → (q : Key) → MayLeave (disk a q) (reads (disk a q)))
@@ -100,7 +100,7 @@ module _ {F S V : Type 0} {gs : _} (g : buffer.Ghosts (PageBlob S gs)) (gives : 
       back (inl is) = inl (sym running.same_failed ∙ is)
       back (inr is) = inr (sym same_failed ∙ is)
 
-  module _ (given : Result (ℕ × ℕ × V) Error) (gave : answer ≡ Some given) (result : Result (Option (ℕ × ℕ × V)) Error) (ends2 : ℕ → Option ℕ) (ended2 : Option ℕ) (after : OpenedList) (e : Timeline) (many : ℕ)
+  module _ (given : Result (ℕ × ℕ × V) Error) (gave : answer ≡ Some given) (result : Result (Option (ℕ × ℕ × V)) Error) (ends2 : Limits) (ended2 : Option ℕ) (after : OpenedList) (e : Timeline) (many : ℕ)
       (sorted : Sorted takes told (moved run v ends ended failed) location given result ends2 ended2 between after c e some many) (readable : told → (q : Key) → MayLeave (disk c q) (reads (disk c q))) where
     readable_last : told → (q : Key) → MayLeave (disk e q) (reads (disk e q))
     readable_last t q = subst (λ (d : Disk). MayLeave (d q) (reads (d q))) (sym (here_disk g gives takes told run pages spelling accepted refusal location spelled before a few here w ends ended failed opened b count running answer v between c some says given gave result ends2 ended2 after e many sorted readable t)) (readable t q)

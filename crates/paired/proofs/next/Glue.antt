@@ -18,15 +18,15 @@ use Rattle.meta_store.specs.Store as store
 use Rattle.paired.specs.declared.oversized.replaying.Replay.{Replay}
 use Rattle.paired.specs.declared.glob.recovery.Recovery.{Recovery}
 use Rattle.paired.specs.glob.Sections.{IsGlob}
-use Rattle.paired.specs.ReplayShown.{run_of}
-use Rattle.paired.specs.Replaying.{Run, pair_of, HasFailed, SameRun, Sorts}
+use Rattle.paired.specs.ReplayShown.{limits_of, run_of}
+use Rattle.paired.specs.Replaying.{Limits, Run, pair_of, HasFailed, SameRun, Sorts}
 use Rattle.paired.specs.sighted.Shown.{marker_format}
 use Rattle.paired.proofs.GlobLemmas.{buffers}
 use Rattle.paired.proofs.next.Going.{Running}
 use Rattle.paired.proofs.next.Running.{moved}
 use Rattle.paired.proofs.pair.Synced.{Here, page_setting}
 
-pub same_moved : {F B : Type 0} (run : Run F B) (w : Walk F B) (ends : ℕ → Option ℕ) (ended : Option ℕ) (failed : Bool) → SameWalk run.walk w → (HasFailed run → HasFailed (moved run w ends ended failed)) → SameRun run (moved run w ends ended failed)
+pub same_moved : {F B : Type 0} (run : Run F B) (w : Walk F B) (ends : Limits) (ended : Option ℕ) (failed : Bool) → SameWalk run.walk w → (HasFailed run → HasFailed (moved run w ends ended failed)) → SameRun run (moved run w ends ended failed)
 same_moved run w ends ended failed same later = record {
   layout = record { index = refl; values = refl; marked = refl; metadata = refl; page_size = refl };
   walk = same;
@@ -40,7 +40,7 @@ same_moved run w ends ended failed same later = record {
 -- what a record was sorted by, of the ends alone
 pub sorts_as : {F S T E : Type 0} {gs : _} (m n : Run F (PageBlob S gs)) (ended : Option ℕ) (d : Disk) (s p : ℕ) (location : ℕ × ℕ) (Kept : T → Type 0) (r : Result T E) → IfOk r (λ y. Sorts m n d s p location (Kept y))
     → IfOk r (λ y. Sorts m (record m { ends = n.ends; ended_section = ended }) d s p location (Kept y))
-sorts_as m n ended d s p location Kept (Ok y) has = record { kept = has.kept; goes_on = has.goes_on; ends = has.ends; ended = has.ended; others = has.others }
+sorts_as m n ended d s p location Kept (Ok y) has = record { kept = has.kept; goes_on = has.goes_on; ends = has.ends; ended = has.ended; others = has.others; value = has.value; other_values = has.other_values }
 sorts_as m n ended d s p location Kept (Err x) has = has
 
 -- an opened blob is there
@@ -56,8 +56,8 @@ module _ {V S C : Type 0} {r q : Recovery V S C} (same : q ≡ r) where
   config_as = ap (λ (x : Recovery V S C). x.codec_config) same
 
 module _ {I V S C : Type 0} {fixed codec seal : _} {r q : Replay I V S C fixed codec seal} (same : q ≡ r) where
-  pub ends_as : tree.get nat_cmp q.ends ≡ tree.get nat_cmp r.ends
-  ends_as = ap (λ (x : Replay I V S C fixed codec seal). tree.get nat_cmp x.ends) same
+  pub ends_as : limits_of q.ends ≡ limits_of r.ends
+  ends_as = ap (λ (x : Replay I V S C fixed codec seal). limits_of x.ends) same
 
   pub section_as : q.ended_section ≡ r.ended_section
   section_as = ap (λ (x : Replay I V S C fixed codec seal). x.ended_section) same
@@ -77,7 +77,7 @@ module _ {I V S C : Type 0} {fixed codec seal : _} (place : List ℕ → ℕ × 
 
   -- what the replay shows then
   pub run_moved : (r q : Replay I V S C fixed codec seal) → SameParts r q → SameWalk (walk_of r.index) (walk_of q.index)
-      → moved (run_of place r) (walk_of q.index) (tree.get nat_cmp q.ends) q.ended_section q.has_failed ≡ run_of place q
+      → moved (run_of place r) (walk_of q.index) (limits_of q.ends) q.ended_section q.has_failed ≡ run_of place q
   run_moved r q parts same = λ i. record {
     layout = record {
       index = sym same.bounds.place.partition i;
@@ -95,17 +95,17 @@ module _ {I V S C : Type 0} {fixed codec seal : _} (place : List ℕ → ℕ × 
     store = store.shown (sym parts.tracking i).metadata;
     trailing = tree.get nat_cmp (sym parts.tracking i).trailing;
     tracked = sym parts.tracked i;
-    ends = tree.get nat_cmp q.ends;
+    ends = limits_of q.ends;
     ended_section = q.ended_section;
     failed = q.has_failed;
   }
 
   -- so it does where the walk and the failure are the same in other words
   pub run_then : (r q : Replay I V S C fixed codec seal) → SameParts r q → (w : Walk (AppendFactory S) (PageBlob S seal)) → w ≡ walk_of q.index → (failed : Bool) → failed ≡ q.has_failed → SameWalk (walk_of r.index) w
-      → moved (run_of place r) w (tree.get nat_cmp q.ends) q.ended_section failed ≡ run_of place q
+      → moved (run_of place r) w (limits_of q.ends) q.ended_section failed ≡ run_of place q
   run_then r q parts w is failed also same =
-      ap (λ (x : Walk (AppendFactory S) (PageBlob S seal)). moved (run_of place r) x (tree.get nat_cmp q.ends) q.ended_section failed) is
-      ∙ ap (λ (b : Bool). moved (run_of place r) (walk_of q.index) (tree.get nat_cmp q.ends) q.ended_section b) also
+      ap (λ (x : Walk (AppendFactory S) (PageBlob S seal)). moved (run_of place r) x (limits_of q.ends) q.ended_section failed) is
+      ∙ ap (λ (b : Bool). moved (run_of place r) (walk_of q.index) (limits_of q.ends) q.ended_section b) also
       ∙ run_moved r q parts (subst (SameWalk (walk_of r.index)) is same)
 
   pub values_unfloored : (r q : Replay I V S C fixed codec seal) → SameParts r q → (r.is_tracked ≡ true → (manager.shown r.values.manager).floor ≡ 0) → q.is_tracked ≡ true → (manager.shown q.values.manager).floor ≡ 0
@@ -114,8 +114,8 @@ module _ {I V S C : Type 0} {fixed codec seal : _} (place : List ℕ → ℕ × 
   -- the loop's invariant, in other words
   pub loop_then : (g : buffer.Ghosts (PageBlob S seal)) (gives : AppendFactory S → Setting) (takes : WriteFactory → Setting) (told : Type 0) (r q : Replay I V S C fixed codec seal) (before : OpenedList) (a : Timeline) (few : ℕ)
       (w : Walk (AppendFactory S) (PageBlob S seal)) → w ≡ walk_of q.index → (failed : Bool) → failed ≡ q.has_failed → (opened : OpenedList) (b : Timeline) (count : ℕ)
-      → Running g gives takes told (run_of place r) before a few w (tree.get nat_cmp q.ends) q.ended_section failed opened b count
-      → Running g gives takes told (run_of place r) before a few (walk_of q.index) (tree.get nat_cmp q.ends) q.ended_section q.has_failed opened b count
+      → Running g gives takes told (run_of place r) before a few w (limits_of q.ends) q.ended_section failed opened b count
+      → Running g gives takes told (run_of place r) before a few (walk_of q.index) (limits_of q.ends) q.ended_section q.has_failed opened b count
   loop_then g gives takes told r q before a few w is failed also opened b count running =
-      subst (λ (x : Walk (AppendFactory S) (PageBlob S seal)). Running g gives takes told (run_of place r) before a few x (tree.get nat_cmp q.ends) q.ended_section q.has_failed opened b count) is
-      (subst (λ (f : Bool). Running g gives takes told (run_of place r) before a few w (tree.get nat_cmp q.ends) q.ended_section f opened b count) also running)
+      subst (λ (x : Walk (AppendFactory S) (PageBlob S seal)). Running g gives takes told (run_of place r) before a few x (limits_of q.ends) q.ended_section q.has_failed opened b count) is
+      (subst (λ (f : Bool). Running g gives takes told (run_of place r) before a few w (limits_of q.ends) q.ended_section f opened b count) also running)

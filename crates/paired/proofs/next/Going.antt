@@ -26,7 +26,7 @@ use Rattle.segments.proofs.FixedWalks.{is_some, some_of}
 use Rattle.segments.proofs.FixedWriteLemmas.{ArePages}
 use Rattle.paired.specs.Crashes.{IsIndexOf, IsValuesOf}
 use Rattle.paired.specs.glob.Sections.{IsGlob}
-use Rattle.paired.specs.Replaying.{Run, pair_of, records_over, records_given, IsDue, IsChecked, IsRun, GivesRecord, LosesRecords, IsCutting, IsUnspelled, LeftAtMost}
+use Rattle.paired.specs.Replaying.{Limits, Run, pair_of, records_over, records_given, IsDue, IsChecked, IsRun, GivesRecord, LosesRecords, IsCutting, IsUnspelled, LeftAtMost}
 use Rattle.paired.proofs.GlobLemmas.{buffers}
 use Rattle.paired.proofs.next.Running.{moved}
 use Rattle.paired.proofs.next.Says.{Says, went_of, goes_of}
@@ -47,7 +47,7 @@ below_same x y p k pos same lt = (div-lt_iff_lt-mul (omega (arith, pos))).0 (ome
 
 module _ {F S : Type 0} {gs : _} (g : buffer.Ghosts (PageBlob S gs)) (gives : F → Setting) (takes : WriteFactory → Setting) (told : Type 0) (run : Run F (PageBlob S gs)) (before : OpenedList) (a : Timeline) (few : ℕ) where
   -- The walk has come to w, and each record on the way was skipped.
-  pub record Running (w : Walk F (PageBlob S gs)) (ends : ℕ → Option ℕ) (ended : Option ℕ) (failed : Bool) (opened : OpenedList) (b : Timeline) (count : ℕ) : Type 0 where
+  pub record Running (w : Walk F (PageBlob S gs)) (ends : Limits) (ended : Option ℕ) (failed : Bool) (opened : OpenedList) (b : Timeline) (count : ℕ) : Type 0 where
     pub went : Went run.layout.seal run.layout.record_size g told run.walk w a b
     pub goes : Goes run.layout.seal run.layout.record_size g told run.walk w a b
     pub over : IsRun (moved run w ends ended failed) g gives buffers takes told opened (disk b)
@@ -85,7 +85,7 @@ module _ {F S : Type 0} {gs : _} (g : buffer.Ghosts (PageBlob S gs)) (gives : F 
 module _ {F S V : Type 0} {gs : _} (g : buffer.Ghosts (PageBlob S gs)) (gives : F → Setting) (takes : WriteFactory → Setting) (told : Type 0) (run : Run F (PageBlob S gs)) (pages : ArePages g run.layout.seal)
     (spelling : V → List ℕ) (accepted : V → Unit {0} → Type 0) (refusal : List ℕ → Unit {0} → Option codec.Error) (location : V → ℕ × ℕ) (spelled : (r : V) → accepted r tt → run.layout.place (spelling r) ≡ location r)
     (before : OpenedList) (a : Timeline) (few : ℕ) (here : Here gives (pair_of run)) where
-  module _ (w : Walk F (PageBlob S gs)) (ends : ℕ → Option ℕ) (ended : Option ℕ) (failed : Bool) (opened : OpenedList) (b : Timeline) (count : ℕ) (running : Running g gives takes told run before a few w ends ended failed opened b count) where
+  module _ (w : Walk F (PageBlob S gs)) (ends : Limits) (ended : Option ℕ) (failed : Bool) (opened : OpenedList) (b : Timeline) (count : ℕ) (running : Running g gives takes told run before a few w ends ended failed opened b count) where
     abbrev now : Run F (PageBlob S gs)
     now = moved run w ends ended failed
 
@@ -224,7 +224,7 @@ module _ {F S V : Type 0} {gs : _} (g : buffer.Ghosts (PageBlob S gs)) (gives : 
         last_entries q not = entries_other g gives told now pages spelling accepted refusal location spelled opened b count now_here running.over answer v between c some says q (λ is. not (inl is)) ∙ running.entries q not
 
       -- ---- what was given is sorted
-      module _ (given : Result (ℕ × ℕ × V) Error) (gave : answer ≡ Some given) (result : Result (Option (ℕ × ℕ × V)) Error) (ends2 : ℕ → Option ℕ) (ended2 : Option ℕ) (after : OpenedList) (e : Timeline) (many : ℕ)
+      module _ (given : Result (ℕ × ℕ × V) Error) (gave : answer ≡ Some given) (result : Result (Option (ℕ × ℕ × V)) Error) (ends2 : Limits) (ended2 : Option ℕ) (after : OpenedList) (e : Timeline) (many : ℕ)
           (sorted : Sorted takes told (moved run v ends ended failed) location given result ends2 ended2 between after c e some many) (readable : told → (q : Key) → MayLeave (disk c q) (reads (disk c q))) where
         pub all_on : Went run.layout.seal run.layout.record_size g told run.walk v a e
         all_on = went_still run.layout.seal run.layout.record_size g told run.walk v a c e sorted.unchanged all_went

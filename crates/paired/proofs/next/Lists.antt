@@ -24,7 +24,7 @@ use Rattle.paired.specs.Holding.{Facts, AreGood, IsLasting, LeavesNoRecords, Val
 use Rattle.paired.specs.Pair.{IsSoundOn, HasNoBytes, AreWhole, list_of, records_of, synced_length, IsSafeOn}
 use Rattle.paired.specs.Places.{Follow, end_of}
 use Rattle.paired.specs.Records.{records, entries_of, is_sound}
-use Rattle.paired.specs.Replaying.{Run, pair_of, HasLostNone, IsLiveRun, IsRun}
+use Rattle.paired.specs.Replaying.{Limits, Run, pair_of, HasLostNone, IsLiveRun, IsRun}
 use Rattle.paired.proofs.GlobLemmas.{buffers}
 use Rattle.paired.proofs.next.Images.{here_key, moment_others, any_index, paged, unheld_blob, others_end}
 use Rattle.paired.proofs.next.Running.{moved}
@@ -36,7 +36,7 @@ use Rattle.paired.proofs.pair.Synced.{Here}
 
 module _ {F S : Type 0} {gs : _} (g : buffer.Ghosts (PageBlob S gs)) (gives : F → Setting) {takes : WriteFactory → Setting} (told : Type 0) (run : Run F (PageBlob S gs)) (pages_are : ArePages g run.layout.seal)
     (before : OpenedList) (a c : Timeline) (here : Here gives (pair_of run)) (was : IsRun run g gives buffers takes told before (disk a)) (w : Walk F (PageBlob S gs)) (went : Went run.layout.seal run.layout.record_size g told run.walk w a c) (t : told)
-    (untracked : run.tracked ≡ false) (ends : ℕ → Option ℕ) (ended : Option ℕ) (failed : Bool) where
+    (untracked : run.tracked ≡ false) (ends : Limits) (ended : Option ℕ) (failed : Bool) where
   live : IsLiveRun run
   live = was.live untracked
 

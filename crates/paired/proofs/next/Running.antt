@@ -28,7 +28,7 @@ use Rattle.paired.specs.Kept.{IsMarked}
 use Rattle.paired.specs.OpeningRefusing.{place_end}
 use Rattle.paired.specs.Pair.{AreWhole, AreMarkers, HasSettled, synced_length}
 use Rattle.paired.specs.Records.{records}
-use Rattle.paired.specs.Replaying.{Run, pair_of, HasLostNone, marker, records_over, IsChecked, IsVouchedFor, IsOpeningRun, IsLiveRun, IsRun}
+use Rattle.paired.specs.Replaying.{Limits, Run, pair_of, HasLostNone, marker, records_over, IsChecked, IsVouchedFor, IsOpeningRun, IsLiveRun, IsRun}
 use Rattle.paired.proofs.GlobLemmas.{buffers}
 use Rattle.paired.proofs.next.Went.{Went, none_as}
 use Rattle.paired.proofs.pair.Removing.{opened_stays}
@@ -38,7 +38,7 @@ use Rattle.paired.proofs.RecordLemmas.{records-front, records-enough, length-rec
 use Rattle.meta_store.specs.Store.{contents_of}
 
 -- the run with another walk, other ends, and another end of its errors
-abbrev pub moved : {F B : Type 0} → Run F B → Walk F B → (ℕ → Option ℕ) → Option ℕ → Bool → Run F B
+abbrev pub moved : {F B : Type 0} → Run F B → Walk F B → Limits → Option ℕ → Bool → Run F B
 moved run w ends ended failed = record run { walk = w; ends = ends; ended_section = ended; failed = failed }
 
 -- A blob that has settled, and was left as a replay may leave it, has the records that it had.
@@ -104,7 +104,7 @@ module _ {F S : Type 0} {gs : _} (g : buffer.Ghosts (PageBlob S gs)) (gives : F 
       none_kept : (owes : Bool) (content : List ℕ) (o : Option (PageBlob S gs)) → o ≡ None → kept_of run.layout.seal owes o content ≡ []
       none_kept owes content o none = ap (λ (x : Option (PageBlob S gs)). kept_of run.layout.seal owes x content) none
 
-      pub vouched_after : IsVouchedFor run (disk a) → (ends : ℕ → Option ℕ) (ended : Option ℕ) (failed : Bool) → IsVouchedFor (moved run w ends ended failed) (disk c)
+      pub vouched_after : IsVouchedFor run (disk a) → (ends : Limits) (ended : Option ℕ) (failed : Bool) → IsVouchedFor (moved run w ends ended failed) (disk c)
       vouched_after vouched ends ended failed = record { bounded = bounded }
         where
           bounded : (s m : ℕ) → IsMarked run.store.entries s m → 0 < m → m ≤ length (records_over (moved run w ends ended failed) (disk c) s)
@@ -139,8 +139,8 @@ module _ {F S : Type 0} {gs : _} (g : buffer.Ghosts (PageBlob S gs)) (gives : F 
       ])
     ]
 
-    module _ (ends : ℕ → Option ℕ) (ended : Option ℕ) (failed : Bool) (earlier : w.failed ≡ false → run.walk.failed ≡ false) (known : w.failed ≡ false → (s : ℕ) → w.journal.sections.unopened s ≡ None)
-        (ends_from : run.tracked ≡ true → (s p : ℕ) → ends s ≡ Some p → (s < 2 ^ 64) × (marker run s ≤ p)) (live : run.tracked ≡ false → (w.failed ≡ false → (s : ℕ) → w.journal.sections.unopened s ≡ run.walk.journal.sections.unopened s) × ((s : ℕ) → ends s ≡ run.ends s) × (ended ≡ run.ended_section))
+    module _ (ends : Limits) (ended : Option ℕ) (failed : Bool) (earlier : w.failed ≡ false → run.walk.failed ≡ false) (known : w.failed ≡ false → (s : ℕ) → w.journal.sections.unopened s ≡ None)
+        (ends_from : run.tracked ≡ true → (s p : ℕ) → ends.at s ≡ Some p → (s < 2 ^ 64) × (marker run s ≤ p)) (live : run.tracked ≡ false → (w.failed ≡ false → (s : ℕ) → w.journal.sections.unopened s ≡ run.walk.journal.sections.unopened s) × ((s : ℕ) → ends.at s ≡ run.ends.at s) × (ended ≡ run.ended_section))
         (readable : told → (q : Key) → MayLeave (disk c q) (reads (disk c q))) (checked : told → run.tracked ≡ true → IsChecked (moved run w ends ended failed) (disk c)) where
       abbrev now : Run F (PageBlob S gs)
       now = moved run w ends ended failed

@@ -1,5 +1,5 @@
 -- One turn of a replay of a pair: the walk gives a record, which is sorted. What the replay is then, what is due, and how often values were read.
-use Rattle.std.specs.Prelude.{◌≡◌, ◌≢◌, ◌⊎◌, ◌↔◌, ℕ, zero, suc, ◌+◌, ◌-◌, ◌/◌, ◌^◌, ◌<◌, ◌≤◌, ⊤, Bool, true, false, List, [], length, get_or, IsTrue, Option, None, Some, IsSome, Result, Ok, Err, IfOk, OnOk, OnErr}
+use Rattle.std.specs.Prelude.{◌≡◌, ◌≢◌, ◌⊎◌, ◌↔◌, ℕ, zero, suc, ◌+◌, ◌-◌, ◌/◌, ◌^◌, ◌<◌, ◌≤◌, ⊤, Bool, true, false, List, [], length, take, min, get_or, IsTrue, Option, None, Some, IsSome, Result, Ok, Err, IfOk, OnOk, OnErr}
 use Rattle.std.proofs.Common.{inl, inr, refl, sym, ◌∙◌, ap, subst, arith}
 use Rattle.std.specs.Int.{w64, to_be_bytes, from_be_bytes}
 use Rattle.std.proofs.lemmas.Nat.{be_bytes_8}
@@ -28,8 +28,9 @@ use Rattle.meta_store.specs.declared.error.Side.{Side}
 use Rattle.paired.specs.Crashes.{IsIndexOf, IsValuesOf}
 use Rattle.paired.specs.glob.Sections.{IsGlob}
 use Rattle.paired.specs.glob.Sections as glob
+use Rattle.paired.specs.Places.{last_end}
 use Rattle.paired.specs.Records.{records, is_sound}
-use Rattle.paired.specs.Replaying.{Run, pair_of, HasFailed as HasErred, marker, records_over, is_sound_over, IsUnbroken, IsGood, IsDue, IsChecked, IsRun, GivesRecord, LosesRecords, LeftAtMost, Sorts}
+use Rattle.paired.specs.Replaying.{Limits, Run, pair_of, HasFailed as HasErred, marker, records_over, is_sound_over, IsUnbroken, IsGood, IsDue, IsChecked, IsRun, GivesRecord, LosesRecords, LeftAtMost, Sorts}
 use Rattle.paired.proofs.GlobLemmas.{buffers}
 use Rattle.paired.proofs.next.Images.{others_end}
 use Rattle.paired.proofs.next.Running.{moved, records_held, run_after}
@@ -39,19 +40,19 @@ use Rattle.paired.proofs.pair.Moments.{no_index}
 use Rattle.paired.proofs.pair.Sections.{glob_kept}
 use Rattle.paired.proofs.pair.Synced.{Here}
 use Rattle.paired.proofs.RecordLemmas.{length-records}
-use Rattle.paired.proofs.ReplayLemmas.{Turns, due_after, due_skipped, due_after_stop, due_after_check, end_sorted, end_stopped, end_checked}
+use Rattle.paired.proofs.ReplayLemmas.{Turns, given_stay, due_after, due_skipped, due_after_stop, due_after_check, end_sorted, end_stopped, end_checked}
 
 -- What sorting the record that was given says, of the replay m before it; `ends` and `ended` are those behind it.
 module _ {F S V : Type 0} {gs : _} (takes : WriteFactory → Setting) (told : Type 0) (m : Run F (PageBlob S gs)) (location : V → ℕ × ℕ) where
-  pub record Sorted (given : Result (ℕ × ℕ × V) Error) (result : Result (Option (ℕ × ℕ × V)) Error) (ends : ℕ → Option ℕ) (ended : Option ℕ) (opened after : OpenedList) (c e : Timeline) (few many : ℕ) : Type 0 where
+  pub record Sorted (given : Result (ℕ × ℕ × V) Error) (result : Result (Option (ℕ × ℕ × V)) Error) (ends : Limits) (ended : Option ℕ) (opened after : OpenedList) (c e : Timeline) (few many : ℕ) : Type 0 where
     pub passed : (x : Error) → given ≡ Err x → (result ≡ Err x) × (ends ≡ m.ends) × (ended ≡ m.ended_section) × (after ≡ opened) × (e ≡ c) × (many ≡ few)
     pub kept : (s p : ℕ) (v : V) → given ≡ Ok (s, p, v) → IfOk result (λ r. (r ≡ Some (s, p, v)) ⊎ ((r ≡ None) × (m.tracked ≡ true)))
     pub sorts : told → (s p : ℕ) (v : V) → given ≡ Ok (s, p, v) → IfOk result (λ r. Sorts m (record m { ends = ends; ended_section = ended }) (disk c) s p (location v) (IsSome r))
-    pub ends_from : (s p : ℕ) → ends s ≡ Some p → (m.ends s ≡ Some p) ⊎ ((s < 2 ^ 64) × (marker m s ≤ p))
+    pub ends_from : (s p : ℕ) → ends.at s ≡ Some p → (m.ends.at s ≡ Some p) ⊎ ((s < 2 ^ 64) × (marker m s ≤ p))
     pub live : m.tracked ≡ false → (ends ≡ m.ends) × (ended ≡ m.ended_section)
     pub goes_on : OnOk result (ended ≡ m.ended_section)
     pub breaks : (s p : ℕ) (v : V) → given ≡ Ok (s, p, v) → OnErr result ((ended ≡ Some s) × (m.ended_section ≢ Some s) × (m.tracked ≡ true))
-    pub stays : OnErr result ((s : ℕ) → ends s ≡ m.ends s)
+    pub stays : OnErr result ((s : ℕ) → ends.at s ≡ m.ends.at s)
     pub glob : IsGlob buffers takes told m.values after (disk e)
     pub unchanged : told → Unchanged c e
     pub read : (s p : ℕ) (v : V) → given ≡ Ok (s, p, v) → ReadsAtMost 1 (key_of m.values s) opened after
@@ -124,7 +125,7 @@ module _ {F S V : Type 0} {gs : _} (g : buffer.Ghosts (PageBlob S gs)) (gives : 
   value_bytes : told → (s : ℕ) → glob.section_bytes run.values (disk c) s ≡ glob.section_bytes run.values (disk b) s
   value_bytes t s = ap (λ (x : Blob). glob.bytes_held (run.values.held s) x.content) (values_blob t s)
 
-  pub turns : told → (ends : ℕ → Option ℕ) (ended : Option ℕ) (failed : Bool) → Turns run (moved run w ends ended failed) w (disk b) (disk c)
+  pub turns : told → (ends : Limits) (ended : Option ℕ) (failed : Bool) → Turns run (moved run w ends ended failed) w (disk b) (disk c)
   turns t ends ended failed = record {
     seal = refl;
     size = refl;
@@ -198,6 +199,14 @@ module _ {F S V : Type 0} {gs : _} (g : buffer.Ghosts (PageBlob S gs)) (gives : 
                 (subst (λ (bs : List ℕ). is_sound run.layout.seal bs (run.layout.place (get_or (records_over run (disk b) s) p [])) ≡ false) (sym (value_bytes t s)) end.fails);
             good = λ q lt. good_now t s q (end.good q lt);
           };
+      values = λ fine s n given.
+          let same = given_stay run last w (disk b) (disk c) (turns t run.ends run.ended_section run.failed) s (all_records t (readable t) (says.held (inl none)) s) in
+          old.values (λ failed. fine (none_failed failed)) s n (record {
+            within = omega (arith, given.within, ap length same);
+            past = λ q lt left. says.none t none s q left;
+            left = λ q le lt. absurd (none_left s q (given.left q le (omega (arith, lt, ap length same))));
+          })
+          ∙ ap (λ (rs : List (List ℕ)). min (last_end run.layout.place (take n rs)) (2 ^ 64 - 1)) (sym same);
       behind = λ s p q is left. absurd (none_left s q left);
       broken = λ s is. none_failed (old.broken s is);
       passed = λ s x p is left. absurd (none_left x p left);
@@ -221,7 +230,7 @@ module _ {F S V : Type 0} {gs : _} (g : buffer.Ghosts (PageBlob S gs)) (gives : 
     none_reads s n most = (n, λ q left from. absurd (none_left s q left), omega (arith, ap reads_of (values_entry s)))
 
   -- ---- behind the sorting of what was given
-  module _ (given : Result (ℕ × ℕ × V) Error) (gave : answer ≡ Some given) (result : Result (Option (ℕ × ℕ × V)) Error) (ends : ℕ → Option ℕ) (ended : Option ℕ) (after : OpenedList) (e : Timeline) (many : ℕ)
+  module _ (given : Result (ℕ × ℕ × V) Error) (gave : answer ≡ Some given) (result : Result (Option (ℕ × ℕ × V)) Error) (ends : Limits) (ended : Option ℕ) (after : OpenedList) (e : Timeline) (many : ℕ)
       (sorted : Sorted takes told (moved run w run.ends run.ended_section run.failed) location given result ends ended between after c e some many) (readable : told → (q : Key) → MayLeave (disk c q) (reads (disk c q))) where
     pub same_disk : told → disk e ≡ disk c
     same_disk t = always_now c e (λ d. d ≡ disk c) (sorted.unchanged t)
@@ -253,7 +262,7 @@ module _ {F S V : Type 0} {gs : _} (g : buffer.Ghosts (PageBlob S gs)) (gives : 
     readable_end : told → (q : Key) → MayLeave (disk e q) (reads (disk e q))
     readable_end t q = subst (λ (d : Disk). MayLeave (d q) (reads (d q))) (sym (same_disk t)) (readable t q)
 
-    from_marker : run.tracked ≡ true → (s p : ℕ) → ends s ≡ Some p → (s < 2 ^ 64) × (marker run s ≤ p)
+    from_marker : run.tracked ≡ true → (s p : ℕ) → ends.at s ≡ Some p → (s < 2 ^ 64) × (marker run s ≤ p)
     from_marker tracked s p is = elim (sorted.ends_from s p is) [ inl old ↦ (was.opening tracked).ends_from s p old | inr new ↦ new ]
 
     -- the replay may be used, where its ends were checked
@@ -263,7 +272,7 @@ module _ {F S V : Type 0} {gs : _} (g : buffer.Ghosts (PageBlob S gs)) (gives : 
         known from_marker
         (λ untracked. (
           λ ok s. known_later run.layout.seal run.layout.record_size g gives told spelling accepted refusal answer run.walk w opened between b c few some says ok s,
-          λ s. ap (λ (f : ℕ → Option ℕ). f s) (sorted.live untracked).0,
+          λ s. ap (λ (f : Limits). f.at s) (sorted.live untracked).0,
           (sorted.live untracked).1,
         ))
         readable_end (λ t tracked. subst (IsChecked (moved run w ends ended failed)) (sym (same_disk t)) (checked t tracked)) sorted.glob copy_entry
@@ -293,7 +302,7 @@ module _ {F S V : Type 0} {gs : _} (g : buffer.Ghosts (PageBlob S gs)) (gives : 
 
       pub stop_checked : told → run.tracked ≡ true → IsChecked (moved run w ends ended true) (disk c)
       stop_checked t tracked = end_stopped run (moved run w ends ended true) w (disk b) (disk c) (turns t ends ended true) (walk_stops t) (held_records t (readable t)) (sorted.passed x is).2
-          ((was.opening tracked).checked t) (λ s. ap (λ (f : ℕ → Option ℕ). f s) (sorted.passed x is).1) (inl refl)
+          ((was.opening tracked).checked t) (λ s. ap (λ (f : Limits). f.at s) (sorted.passed x is).1) (inl refl)
 
     -- ---- a record was given
     module _ (s p : ℕ) (v : V) (is : given ≡ Ok (s, p, v)) where
@@ -321,7 +330,7 @@ module _ {F S V : Type 0} {gs : _} (g : buffer.Ghosts (PageBlob S gs)) (gives : 
         sorts : told → Sorts run (moved run w ends ended run.failed) (disk c) s p (location v) (IsSome r)
         sorts x =
             let says_so = if_ok (λ (y : Option (ℕ × ℕ × V)). Sorts (moved run w run.ends run.ended_section run.failed) (moved run w ends ended run.failed) (disk c) s p (location v) (IsSome y)) result r ok (sorted.sorts x s p v is) in
-            record { kept = says_so.kept; goes_on = says_so.goes_on; ends = says_so.ends; ended = says_so.ended; others = says_so.others }
+            record { kept = says_so.kept; goes_on = says_so.goes_on; ends = says_so.ends; ended = says_so.ended; others = says_so.others; value = says_so.value; other_values = says_so.other_values }
 
         same_end : ended ≡ run.ended_section
         same_end = on_ok result r ok sorted.goes_on

@@ -10,7 +10,7 @@ use Rattle.sealed_pages.specs.Buffer.{bytes_of, size_of}
 use Rattle.sealed_pages.specs.SealedPrefix.{adopted_size}
 use Rattle.sealed_pages.specs.Shown.{shown}
 use Rattle.sealed_pages.specs.View.{view}
-use Rattle.sealed_pages.proofs.Adopt.{length-data_from}
+use Rattle.sealed_pages.proofs.adopted.Adopt.{length-data_from}
 use Rattle.section_manager.specs.declared.buffer.SectionBuffer as buffer
 use Rattle.section_manager.specs.declared.unsealed.WriteFactory.{WriteFactory}
 use Rattle.section_manager.specs.Sealed.{adopted_bytes}
@@ -90,7 +90,7 @@ module _ {F S : Type 0} {gs : _} (unsettled : PageBlob S gs → Bool) (told : Ty
   held_bytes t s u held =
       sym (ap (λ (o : Option (PageBlob S gs)). fixed.bytes_held o (d (key_of run.walk.journal.sections s)).content) held) ∙ parts.index_bytes t s (subst IsSome (sym held) refl)
 
-  pub opening_run : (g : buffer.Ghosts (PageBlob S gs)) → ((u : PageBlob S gs) → g.unsettled u ≡ unsettled u) → ((s : ℕ) → run.trailing s ≡ None) → ((s : ℕ) → run.ends s ≡ None) → run.ended_section ≡ None → IsOpeningRun run g told d
+  pub opening_run : (g : buffer.Ghosts (PageBlob S gs)) → ((u : PageBlob S gs) → g.unsettled u ≡ unsettled u) → ((s : ℕ) → run.trailing s ≡ None) → ((s : ℕ) → (run.ends.at s ≡ None) × (run.ends.values s ≡ None)) → run.ended_section ≡ None → IsOpeningRun run g told d
   opening_run g same trailing ends goes_on = record {
     start_section = begins.section;
     start_position = begins.position;
@@ -107,7 +107,7 @@ module _ {F S : Type 0} {gs : _} (unsettled : PageBlob S gs → Bool) (told : Ty
       | inl lt ↦ absurd (cc ((parts.unrecovered s).1 lt, free))
       | inr le ↦ le
     ];
-    ends_from = λ s p is. absurd (cc (ends s, is));
+    ends_from = λ s p is. absurd (cc ((ends s).0, is));
     marked = λ going. marked_held;
     index_settled = λ s u held. same u ∙ parts.index_settled s u held;
     values_settled = parts.values_settled;

@@ -11,10 +11,10 @@ use Rattle.blob_device.specs.Opened.{Opened, OpenedList}
 use Rattle.sealed_pages.specs.SealedPrefix.{sealed_prefix, adopted_size, data_from, pages_in}
 use Rattle.sealed_pages.specs.Slots.{best_slot}
 use Rattle.sealed_pages.specs.View.{view}
-use Rattle.sealed_pages.proofs.Adopt.{best_length, length-data_from}
-use Rattle.sealed_pages.proofs.Looking.{page_places}
+use Rattle.sealed_pages.proofs.adopted.Adopt.{best_length, length-data_from}
+use Rattle.sealed_pages.proofs.looking.Looking.{page_places}
 use Rattle.sealed_pages.proofs.Reaching.{prefix_size, size_at_most}
-use Rattle.sealed_pages.proofs.SlotLemmas.{slot_length-le, slot_stands, times_next, times_page}
+use Rattle.sealed_pages.proofs.slots.SlotLemmas.{slot_length-le, slot_stands, times_next, times_page}
 use Rattle.value_codec.specs.declared.codec.Error as codec
 use Rattle.section_manager.specs.declared.journal.Damage.{Damage}
 use Rattle.section_manager.specs.Sections.{section_key}

@@ -1,6 +1,7 @@
 -- The replay with which an opening by markers begins: what it vouches for, what is left, and what it has found.
-use Rattle.std.specs.Prelude.{◌≡◌, ◌↔◌, ℕ, ◌+◌, ◌-◌, ◌*◌, ◌/◌, ◌%◌, ◌^◌, ◌<◌, ◌≤◌, cond, eqb, Bool, true, false, List, [], length, IsTrue, IsSome, IsSomeAnd, Option, None, Some, unwrap_or}
+use Rattle.std.specs.Prelude.{◌≡◌, ◌↔◌, ℕ, ◌+◌, ◌-◌, ◌*◌, ◌/◌, ◌%◌, ◌^◌, ◌<◌, ◌≤◌, cond, eqb, min, Bool, true, false, List, [], length, take, IsTrue, IsSome, IsSomeAnd, Option, None, Some, unwrap_or}
 use Rattle.std.proofs.Common.{inl, inr, refl, sym, ◌∙◌, ap, subst, arith, length-take}
+use Rattle.std.proofs.lemmas.Bool.{cases_lt}
 use Rattle.std.proofs.lemmas.Nat.{div_below}
 use Rattle.blob_device.specs.Disk.{Blob, Disk, reads}
 use Rattle.sealed_pages.specs.declared.page_blob.PageBlob.{PageBlob}
@@ -9,8 +10,8 @@ use Rattle.sealed_pages.specs.Shown.{shown}
 use Rattle.sealed_pages.specs.SealedPrefix.{sealed_prefix, adopted_size, data_from}
 use Rattle.sealed_pages.specs.Reads.{IsCovered}
 use Rattle.sealed_pages.specs.View.{view}
-use Rattle.sealed_pages.proofs.Adopt.{length-data_from}
-use Rattle.sealed_pages.proofs.SlotLemmas.{times_page}
+use Rattle.sealed_pages.proofs.adopted.Adopt.{length-data_from}
+use Rattle.sealed_pages.proofs.slots.SlotLemmas.{times_page}
 use Rattle.value_codec.specs.declared.codec.Error as codec
 use Rattle.section_manager.specs.declared.journal.Damage.{Damage}
 use Rattle.section_manager.specs.Sealed.{adopted_bytes}
@@ -23,8 +24,9 @@ use Rattle.paired.specs.glob.Sections as glob
 use Rattle.paired.specs.Kept.{Layout, MarkerMap, IsMarked, marker_of, content_at}
 use Rattle.paired.specs.Opening.{as_read}
 use Rattle.paired.specs.OpeningRefusing.{EndsWithin, IsLost, IsOutside, IsProved, IsUnreadable, last_of, place_end}
+use Rattle.paired.specs.Places.{last_end}
 use Rattle.paired.specs.Records.{front}
-use Rattle.paired.specs.Replaying.{Run, IsChecked, IsDue, IsVouchedFor, is_sound_over, marker, records_given, records_over}
+use Rattle.paired.specs.Replaying.{Run, HasGiven, IsChecked, IsDue, IsVouchedFor, is_sound_over, marker, records_given, records_over}
 use Rattle.paired.proofs.opening.Ends.{marked_is}
 use Rattle.paired.proofs.opening.StartRefusals.{last_is_record, records_end}
 use Rattle.paired.proofs.pair.Synced.{unmarked_zero}
@@ -85,16 +87,6 @@ module _ {F S : Type 0} {gs : _} (run : Run F (PageBlob S gs)) (sized : 1 ≤ ru
     ahead = inl (records_held d s p lt, subst (λ (o : Option ℕ). IsSomeAnd o (λ n. n ≤ s)) (sym begins.first) (omega arith));
   }
 
-  -- so none was checked
-  pub none_checked : Begins run.walk.journal 0 0 run.walk → ((s : ℕ) → run.ends s ≡ None) → run.ended_section ≡ None → (d : Disk) → IsChecked run d
-  none_checked begins ends goes_on d = record {
-    good = λ s p unbroken lt none. inr (all_left begins d s p lt);
-    ends = λ s p unbroken is. absurd (cc (ends s, is));
-    behind = λ s p q is left. absurd (cc (ends s, is));
-    broken = λ s is. absurd (cc (goes_on, is));
-    passed = λ s t p is left. absurd (cc (goes_on, is));
-  }
-
   given_over : (d : Disk) (s : ℕ) → length (records_given run d s) ≤ length (records_over run d s)
   given_over d s = go run.tracked
     where
@@ -105,6 +97,24 @@ module _ {F S : Type 0} {gs : _} (run : Run F (PageBlob S gs)) (sized : 1 ≤ ru
         length-take (length (front (λ r. is_sound_over run d s r) (marker run s) 0 (records_over run d s))) (records_over run d s),
       )
       go false = omega arith
+
+  -- so none was checked
+  pub none_checked : Begins run.walk.journal 0 0 run.walk → ((s : ℕ) → (run.ends.at s ≡ None) × (run.ends.values s ≡ None)) → run.ended_section ≡ None → (d : Disk) → IsChecked run d
+  none_checked begins ends goes_on d = record {
+    good = λ s p unbroken lt none. inr (all_left begins d s p lt);
+    ends = λ s p unbroken is. absurd (cc ((ends s).0, is));
+    values = λ fine s n given. ap (λ (o : Option ℕ). unwrap_or o 0) (ends s).1 ∙ ap (λ (k : ℕ). min (last_end run.layout.place (take k (records_given run d s))) (2 ^ 64 - 1)) (sym (none_given s n given));
+    behind = λ s p q is left. absurd (cc ((ends s).0, is));
+    broken = λ s is. absurd (cc (goes_on, is));
+    passed = λ s t p is left. absurd (cc (goes_on, is));
+  }
+    where
+      -- all of them are left
+      none_given : (s n : ℕ) → HasGiven run d s n → n ≡ 0
+      none_given s n given = elim (cases_lt 0 n) [
+        | inr none ↦ omega (arith, none)
+        | inl some ↦ absurd (given.past 0 some (all_left begins d s 0 (omega (arith, some, given.within, given_over d s))))
+      ]
 
   -- what is given is due
   pub all_due : Begins run.walk.journal 0 0 run.walk → run.ended_section ≡ None → (d : Disk) (s p : ℕ) → IsDue run d s p ↔ (p < length (records_given run d s))

@@ -15,7 +15,7 @@ use Rattle.sealed_pages.specs.Flushing.{Alone}
 use Rattle.sealed_pages.specs.declared.page_blob.PageBlob.{PageBlob}
 use Rattle.sealed_pages.specs.declared.write_blob.WriteBlob.{WriteBlob}
 use Rattle.sealed_pages.specs.Shown.{shown}
-use Rattle.sealed_pages.proofs.PageCalls.{only_weaker}
+use Rattle.sealed_pages.proofs.slots.PageCalls.{only_weaker}
 use Rattle.section_manager.specs.declared.buffer.SectionBuffer as buffer
 use Rattle.section_manager.specs.declared.unsealed.WriteFactory.{WriteFactory}
 use Rattle.section_manager.specs.Entries.{OnlyOwnEntry}

@@ -19,7 +19,7 @@ use Rattle.sealed_pages.specs.Buffer.{size_of, bytes_of}
 use Rattle.sealed_pages.specs.Entries.{IsOpenAt, ReadsAtMost}
 use Rattle.sealed_pages.specs.Shown.{shown}
 use Rattle.sealed_pages.proofs.EntryLemmas.{only_read_of}
-use Rattle.sealed_pages.proofs.WholeLemmas.{whole_read}
+use Rattle.sealed_pages.proofs.slots.WholeLemmas.{whole_read}
 use Rattle.section_manager.specs.declared.buffer.SectionBuffer as buffer
 use Rattle.section_manager.specs.declared.journal.Error.{Error}
 use Rattle.section_manager.specs.declared.journal.Error.TheVariants.{Runtime, Codec, ChecksumMismatch}

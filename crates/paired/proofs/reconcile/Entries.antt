@@ -12,6 +12,7 @@ use Rattle.section_manager.specs.declared.unsealed.WriteFactory.{WriteFactory}
 use Rattle.section_manager.specs.Lasting.{EntriesLeave}
 use Rattle.section_manager.specs.Sections.{Sections, section_key, key_of, IsHeld, IsKeyOf}
 use Rattle.section_manager.specs.Setting.{Setting}
+use Rattle.section_manager.proofs.sections.KeyLemmas.{key_injective}
 use Rattle.section_manager.proofs.WalkLemmas.{none_or_value}
 use Rattle.segments.specs.FixedLists.{Lists}
 use Rattle.segments.specs.FixedLists as fixed
@@ -64,7 +65,7 @@ module _ {F S : Type 0} {gs : _} {g : buffer.Ghosts (PageBlob S gs)} {gives : F 
   pub as_back : (j : Lists F (PageBlob S gs)) → GaveBack run j → GaveBack run j
   as_back j is = is
 
-  pub as_cut : (j k : Lists F (PageBlob S gs)) (o1 : OpenedList) (b : Timeline) → RecordsCut g gives told run.layout run.ends j k o o1 a b → RecordsCut g gives told run.layout run.ends j k o o1 a b
+  pub as_cut : (j k : Lists F (PageBlob S gs)) (o1 : OpenedList) (b : Timeline) → RecordsCut g gives told run.layout run.ends.at j k o o1 a b → RecordsCut g gives told run.layout run.ends.at j k o o1 a b
   as_cut j k o1 b is = is
 
   pub as_trim : (k : Lists F (PageBlob S gs)) (m : Sections WriteFactory WriteBlob) (o1 o2 : OpenedList) (b c : Timeline) → ValuesCut g gives takes told run.layout k run.values m o1 o2 b c → ValuesCut g gives takes told run.layout k run.values m o1 o2 b c
@@ -75,19 +76,16 @@ module _ {F S : Type 0} {gs : _} {g : buffer.Ghosts (PageBlob S gs)} {gives : F 
 
   -- ---- entries of other blobs
   module _ (q : Key) (not : IsOwn run.layout (λ _. ⊤) q → ⊥) where
-    pub cut_entry : (j : Lists F (PageBlob S gs)) (back : GaveBack run j) (o1 : OpenedList) → ((k : Key) → (IsKeyOf j.sections (λ s. IsSome (run.ends s)) k → ⊥) → o1 k ≡ o k) → o1 q ≡ o q
-    cut_entry j back o1 entries = entries q (λ w. not (inl (w.0, small w.0 (run.ends w.0) refl w.1, tt, w.2 ∙ index_key (back_rests e j back).parts w.0)))
+    pub cut_entry : (j : Lists F (PageBlob S gs)) (back : GaveBack run j) (o1 : OpenedList) → ((k : Key) → (IsKeyOf j.sections (λ s. IsSome (run.ends.at s)) k → ⊥) → o1 k ≡ o k) → o1 q ≡ o q
+    cut_entry j back o1 entries = entries q (λ w. not (inl (w.0, small w.0 (run.ends.at w.0) refl w.1, tt, w.2 ∙ index_key (back_rests e j back).parts w.0)))
       where
-        small : (s : ℕ) (y : Option ℕ) → run.ends s ≡ y → IsSome (run.ends s) → s < 2 ^ 64
-        small s None none some = absurd (not_of_none (run.ends s) none some)
+        small : (s : ℕ) (y : Option ℕ) → run.ends.at s ≡ y → IsSome (run.ends.at s) → s < 2 ^ 64
+        small s None none some = absurd (not_of_none (run.ends.at s) none some)
         small s (Some p) is some = ((opening e).ends_from s p is).0
 
     pub trim_entry : (b : Timeline) (k : Lists F (PageBlob S gs)) (o1 o2 : OpenedList) → Joint g gives takes told run (disk a) k run.values o1 (disk b)
-        → ((x : Key) → (IsKeyOf k.sections (IsHeld k.sections) x ⊎ IsKeyOf run.values (IsHeld k.sections) x → ⊥) → o2 x ≡ o1 x) → o2 q ≡ o1 q
-    trim_entry b k o1 o2 joint entries = entries q (λ w. elim w [
-      | inl index ↦ not (inl (index.0, index_number joint.rests.parts index.0 index.1, tt, index.2 ∙ index_key joint.rests.parts index.0))
-      | inr values ↦ not (inr (inl (values.0, index_number joint.rests.parts values.0 values.1, tt, values.2 ∙ values_key joint.rests.parts values.0)))
-    ])
+        → ((x : Key) → (IsKeyOf run.values (IsHeld k.sections) x → ⊥) → o2 x ≡ o1 x) → o2 q ≡ o1 q
+    trim_entry b k o1 o2 joint entries = entries q (λ w. not (inr (inl (w.0, index_number joint.rests.parts w.0 w.1, tt, w.2 ∙ values_key joint.rests.parts w.0))))
 
     pub removed_entry : (c : Timeline) (k : Lists F (PageBlob S gs)) (m : Sections WriteFactory WriteBlob) (o2 o3 : OpenedList) → Joint g gives takes told run (disk a) k m o2 (disk c) → (Doomed : ℕ → Type 0) → ((s : ℕ) → Doomed s → IsHeld m s)
         → EntriesLeave (IsKeyOf m Doomed) o2 o3 → o3 q ≡ o2 q
@@ -97,11 +95,25 @@ module _ {F S : Type 0} {gs : _} {g : buffer.Ghosts (PageBlob S gs)} {gives : F 
     ]
 
   -- ---- reads of values
-  pub cut_reads : (j : Lists F (PageBlob S gs)) (back : GaveBack run j) (o1 : OpenedList) → ((k : Key) → (IsKeyOf j.sections (λ s. IsSome (run.ends s)) k → ⊥) → o1 k ≡ o k) → (s : ℕ) → o1 (section_key run.layout.values s) ≡ o (section_key run.layout.values s)
+  pub cut_reads : (j : Lists F (PageBlob S gs)) (back : GaveBack run j) (o1 : OpenedList) → ((k : Key) → (IsKeyOf j.sections (λ s. IsSome (run.ends.at s)) k → ⊥) → o1 k ≡ o k) → (s : ℕ) → o1 (section_key run.layout.values s) ≡ o (section_key run.layout.values s)
   cut_reads j back o1 entries s = entries (section_key run.layout.values s) (λ w. e.over.apart.values (sym (ap (λ (k : Key). k.0) (w.2 ∙ index_key (back_rests e j back).parts w.0))))
 
   pub trim_reads : (o1 o2 : OpenedList) → ((s : ℕ) → reads_of (o2 (key_of run.values s)) ≤ reads_of (o1 (key_of run.values s))) → (s : ℕ) → reads_of (o2 (section_key run.layout.values s)) ≤ reads_of (o1 (section_key run.layout.values s))
   trim_reads o1 o2 reads s = subst (λ (p : List ℕ). reads_of (o2 (section_key p s)) ≤ reads_of (o1 (section_key p s))) e.here.values (reads s)
+
+  -- ---- no record is read of a section that is not cut
+  pub cut_unread : (j : Lists F (PageBlob S gs)) (back : GaveBack run j) (o1 : OpenedList) → ((k : Key) → (IsKeyOf j.sections (λ s. IsSome (run.ends.at s)) k → ⊥) → o1 k ≡ o k)
+      → (s : ℕ) → s < 2 ^ 64 → run.ends.at s ≡ None → o1 (section_key run.layout.index s) ≡ o (section_key run.layout.index s)
+  cut_unread j back o1 entries s small none = entries (section_key run.layout.index s) (λ w. elim (none_or_value (run.ends.at w.0)) [
+    | inl uncut ↦ not_of_none (run.ends.at w.0) uncut w.1
+    | inr some ↦
+        let same : s ≡ w.0 = key_injective run.layout.index s w.0 small ((opening e).ends_from w.0 some.0 some.1).0 (w.2 ∙ index_key (back_rests e j back).parts w.0) in
+        not_of_none (run.ends.at w.0) (subst (λ (x : ℕ). run.ends.at x ≡ None) same none) w.1
+  ])
+
+  pub trim_unread : (b : Timeline) (k : Lists F (PageBlob S gs)) (o1 o2 : OpenedList) → Joint g gives takes told run (disk a) k run.values o1 (disk b)
+      → ((x : Key) → (IsKeyOf run.values (IsHeld k.sections) x → ⊥) → o2 x ≡ o1 x) → (s : ℕ) → o2 (section_key run.layout.index s) ≡ o1 (section_key run.layout.index s)
+  trim_unread b k o1 o2 joint entries s = entries (section_key run.layout.index s) (λ w. e.over.apart.values (ap (λ (x : Key). x.0) (w.2 ∙ values_key joint.rests.parts w.0)))
 
 -- the reads of a blob do not rise where its entry leaves
 pub leaves_reads : (P : Key → Type 0) (old new : OpenedList) → EntriesLeave P old new → (q : Key) → reads_of (new q) ≤ reads_of (old q)

@@ -1,9 +1,9 @@
 -- What the end of an opening answers where one of its calls failed.
-use Rattle.std.proofs.Common.{◌≡◌, ◌↔◌, ◌⊎◌, inl, inr, ℕ, zero, suc, ◌∷◌, ◌+◌, ◌-◌, ◌*◌, ◌/◌, ◌^◌, ◌<◌, ◌≤◌, List, [], length, get_or, Option, None, Result, Ok, Err, IfOk, OnOk, OnErr, sym, ◌∙◌, ap, subst, arith, length-take}
+use Rattle.std.proofs.Common.{◌≡◌, ◌↔◌, ◌⊎◌, inl, inr, ℕ, zero, suc, ◌∷◌, ◌+◌, ◌-◌, ◌*◌, ◌/◌, ◌^◌, ◌<◌, ◌≤◌, min, take, unwrap_or, List, [], length, get_or, Option, Result, Ok, Err, IfOk, OnOk, OnErr, sym, ◌∙◌, ap, subst, arith, length-take}
 use Rattle.std.specs.List.{AllByRecursion}
 use Rattle.std.specs.Result.{IsErrOf}
 use Rattle.std.proofs.lemmas.Bool.{cases_lt}
-use Rattle.std.proofs.lemmas.List.{get_or-take}
+use Rattle.std.proofs.lemmas.List.{get_or-take, take_all}
 use Rattle.std.proofs.lemmas.Nat.{le-div}
 use Rattle.blob_device.specs.Disk.{Disk}
 use Rattle.blob_device.specs.Opened.{OpenedList}
@@ -26,21 +26,19 @@ use Rattle.segments.specs.FixedLists as fixed
 use Rattle.segments.specs.FixedReading.{HasNotRead}
 use Rattle.value_codec.specs.declared.codec.Error as codec
 use Rattle.paired.specs.glob.Sections as glob
-use Rattle.paired.specs.Kept.{stored_records}
-use Rattle.paired.specs.Opening.{as_read}
-use Rattle.paired.specs.OpeningRefusing.{AreSpellings, IsLastOutside, IsOutside, IsSomeRefused, place_end}
+use Rattle.paired.specs.OpeningRefusing.{place_end}
+use Rattle.paired.specs.Places.{last_end}
 use Rattle.paired.specs.PairRefusing.{HasLostMarkers}
 use Rattle.paired.specs.Records.{records}
+use Rattle.paired.specs.Reconciling.{IsEndWithin}
 use Rattle.paired.specs.Replaying.{Run, IsVouchedFor, marker, records_over, records_given}
 use Rattle.paired.proofs.FailLemmas.{failed_as}
 use Rattle.paired.proofs.GlobLemmas.{section_counted}
 use Rattle.paired.proofs.KeptLemmas.{sound_parts}
 use Rattle.paired.proofs.opening.Ends.{marked_is, marked_or_zero}
 use Rattle.paired.proofs.pair.Failing.{failed_before}
-use Rattle.paired.proofs.RecordLemmas.{length-records}
-use Rattle.paired.proofs.reconcile.Resting.{index_number, none_stored}
-use Rattle.paired.proofs.Ends.{none_of_not}
-use Rattle.paired.proofs.reconcile.Start.{Drained, GaveBack, opening, walk_unfailed, back_rests, end_of, given_all, given_to, given_good, over_records, over_stored}
+use Rattle.paired.proofs.RecordLemmas.{last_end_at, length-records, no_end}
+use Rattle.paired.proofs.reconcile.Start.{Drained, GaveBack, opening, none_left, walk_unfailed, end_of, given_all, given_to, given_good, over_records}
 
 abbrev answer : (T : Type 0) → Error → Result T Error
 answer T e = Err e
@@ -113,47 +111,6 @@ module _ {T : Type 0} (r : Result T Error) where
     pub damaged_complete : (HasDamage r → ⊥) → OnErr r (Complete a b)
     damaged_complete none = err_with r (elim why [ inl damage ↦ absurd (none damage) | inr failed ↦ inr (inr (inl failed)) ])
 
-  -- one of a read
-  module _ (a b : ℕ) (why : ((x : Damage) × IsErrOf r (Corruption x)) ⊎ HasNotRead r a b) where
-    pub read_replay : r ≡ Err ReplayFailed → ⊥
-    read_replay is = elim why [
-      | inl corrupt ↦ absurd (cc (corrupt.1, is))
-      | inr not ↦ elim not [
-        | inl damage ↦ absurd (cc (damage.1, is))
-        | inr more ↦ elim more [
-          | inl refused ↦ absurd (cc (refused.1, is))
-          | inr failed ↦ failed_replay a b failed is
-        ]
-      ]
-    ]
-
-    pub read_full : IsErrOf r Full → ⊥
-    read_full is = elim why [
-      | inl corrupt ↦ absurd (cc (corrupt.1, is))
-      | inr not ↦ elim not [
-        | inl damage ↦ absurd (cc (damage.1, is))
-        | inr more ↦ elim more [
-          | inl refused ↦ absurd (cc (refused.1, is))
-          | inr failed ↦ failed_full a b failed is
-        ]
-      ]
-    ]
-
-    pub read_cause : OnErr r (Cause a b)
-    read_cause = err_with r (inr (inr (inr why)))
-
-    pub read_complete : ((x : Damage) → IsErrOf r (Corruption x) → ⊥) → (HasDamage r → ⊥) → ((e : codec.Error) → IsErrOf r (Codec e) → ⊥) → OnErr r (Complete a b)
-    read_complete uncut undamaged spelled = err_with r (elim why [
-      | inl corrupt ↦ absurd (uncut corrupt.0 corrupt.1)
-      | inr not ↦ elim not [
-        | inl damage ↦ absurd (undamaged damage)
-        | inr more ↦ elim more [
-          | inl refused ↦ absurd (spelled refused.0 refused.1)
-          | inr failed ↦ inr (inr (inl failed))
-        ]
-      ]
-    ])
-
   -- one of the markers
   module _ (a b c : ℕ) (le : a ≤ b) where
     pub marks_complete : OnErr r (IsErrOf r Full ⊎ (HasFailed r b c ⊎ HasLostMarkers r b c)) → OnErr r (Complete a c)
@@ -187,12 +144,6 @@ module _ {T U : Type 0} (r : Result T Error) (e : Error) (is : r ≡ Err e) (a b
   damaged_on (inl damage) = inl (damage.0, handed_on r e (Runtime (InvalidChecksum damage.0)) is damage.1)
   damaged_on (inr failed) = inr (failed_on failed)
 
-  pub read_on : ((x : Damage) × IsErrOf {T = U} (Err e) (Corruption x)) ⊎ HasNotRead {T = U} (Err e) b c → ((x : Damage) × IsErrOf r (Corruption x)) ⊎ HasNotRead r a c
-  read_on (inl corrupt) = inl (corrupt.0, handed_on r e (Corruption corrupt.0) is corrupt.1)
-  read_on (inr (inl damage)) = inr (inl (damage.0, handed_on r e (Runtime (InvalidChecksum damage.0)) is damage.1))
-  read_on (inr (inr (inl refused))) = inr (inr (inl (refused.0, handed_on r e (Codec refused.0) is refused.1)))
-  read_on (inr (inr (inr failed))) = inr (inr (inr (failed_on failed)))
-
 -- a refusal of the whole
 pub replay_or_not : {T : Type 0} (r : Result T Error) (P Q R : Type 0) → (r ≡ Err ReplayFailed → ⊥) → (P → ⊥) → (Q → ⊥) → (R → ⊥) → (r ≡ Err ReplayFailed) ↔ (P ⊎ (Q ⊎ R))
 replay_or_not r P Q R never no_p no_q no_r = (
@@ -213,7 +164,7 @@ module _ {F S : Type 0} {gs : _} {g : buffer.Ghosts (PageBlob S gs)} {gives : F 
     (j : Lists F (PageBlob S gs)) (back : GaveBack run j) where
   -- a record that was given stands where it did
   given_here : (s q : ℕ) → q < length (records_given run d s) → (get_or (records_given run d s) q [] ≡ get_or (records_over run d s) q []) × (q < length (records_over run d s))
-  given_here s q lt = elim (none_or_value (run.ends s)) [
+  given_here s q lt = elim (none_or_value (run.ends.at s)) [
     | inl none ↦ (ap (λ (rs : List (List ℕ)). get_or rs q []) (given_all e t s none), omega (arith, lt, ap length (given_all e t s none)))
     | inr some ↦
         let same = given_to e t s some.0 some.1 in
@@ -223,7 +174,7 @@ module _ {F S : Type 0} {gs : _} {g : buffer.Ghosts (PageBlob S gs)} {gives : F 
 
   -- a section has its marker's records, and they are given
   marker_given : (s : ℕ) → marker run s ≤ length (records_given run d s)
-  marker_given s = elim (none_or_value (run.ends s)) [
+  marker_given s = elim (none_or_value (run.ends.at s)) [
     | inl none ↦ omega (arith, over, ap length (given_all e t s none))
     | inr some ↦ omega (arith, (end_of e t s some.0 some.1).from, (end_of e t s some.0 some.1).within, ap length (given_to e t s some.0 some.1), length-take some.0 (records_over run d s))
   ]
@@ -266,31 +217,19 @@ module _ {F S : Type 0} {gs : _} {g : buffer.Ghosts (PageBlob S gs)} {gives : F 
         ]
       ]
 
-  -- so it is not outside of them, if a u64 counts them
-  pub last_within : (s : ℕ) (rs : List (List ℕ)) (x : Damage) → rs ≡ records_given run d s → glob.section_size run.values s < 2 ^ 64 → IsLastOutside run.layout.place rs (glob.section_size run.values s) x → ⊥
-  last_within s rs x is small out =
+  -- so it is known where the values of what was given end
+  pub values_end : (s : ℕ) → IsEndWithin (last_end run.layout.place (records_given run d s)) (glob.section_size run.values s) (unwrap_or (run.ends.values s) 0)
+  values_end s =
       let given : List (List ℕ) = records_given run d s in
-      let has : IsLastOutside run.layout.place given (glob.section_size run.values s) x = subst (λ (l : List (List ℕ)). IsLastOutside run.layout.place l (glob.section_size run.values s) x) is out in
-      outside (run.layout.place (get_or given (length given - 1) [])).0 (run.layout.place (get_or given (length given - 1) [])).1 (last_ends s has.some) has.outside
-    where
-      outside : (at n : ℕ) → at + n ≤ glob.section_size run.values s → IsOutside (at, n) (glob.section_size run.values s) x → ⊥
-      outside at n le (inl far) = omega (arith, le, small, far.0)
-      outside at n le (inr past) = omega (arith, le, past.1)
-
-  -- and none that is spelled is refused
-  pub none_refused : (refusal : List ℕ → Unit {0} → Option codec.Error) (s : ℕ) (x : codec.Error) → AreSpellings run.layout refusal (as_read d) → IsSomeRefused refusal (records_given run d s) x → ⊥
-  none_refused refusal s x spelled is =
-      let here = given_here s is.position is.within in
-      elim (cases_lt s (2 ^ 64)) [
-        | inr large ↦ absurd (omega (arith, here.1, ap length (over_records e j back t s), ap length (unheld s large)))
-        | inl small ↦
-            let same = over_stored e j back t s small in
-            let at = each_at (λ r. refusal r tt ≡ None) (stored_records run.layout (as_read d) s) is.position [] (spelled s small) (omega (arith, here.1, ap length same)) in
-            absurd (cc (at, ap (λ (rs : List (List ℕ)). refusal (get_or rs is.position []) tt) same, ap (λ (r : List ℕ). refusal r tt) here.0, is.refused))
-      ]
-    where
-      unheld : (k : ℕ) → 2 ^ 64 ≤ k → records run.layout.record_size (fixed.section_bytes j.sections d k) ≡ []
-      unheld k large = none_stored (back_rests e j back) t k (none_of_not (j.sections.held k) (λ has. absurd (omega (arith, large, index_number (back_rests e j back).parts k has))))
+      let all : take (length given) given ≡ given = take_all (length given) given (omega arith) in
+      record {
+        counted = ((opening e).checked t).values e.unfailed s (length given) (record { within = omega arith; past = λ q lt left. none_left e s q left; left = λ q le lt. absurd (omega (arith, le, lt)) })
+            ∙ ap (λ (rs : List (List ℕ)). min (last_end run.layout.place rs) (2 ^ 64 - 1)) all;
+        within = elim (cases_lt 0 (length given)) [
+          | inl some ↦ omega (arith, last_end_at run.layout.place given (length given - 1) (omega (arith, some)), last_ends s some)
+          | inr none ↦ omega (arith, no_end run.layout.place given (omega (arith, none)))
+        ];
+      }
 
 -- nothing is said of an answer that there is not
 pub if_err : {T : Type 0} (r : Result T Error) (e : Error) → r ≡ Err e → (P : T → Type 0) → IfOk r P

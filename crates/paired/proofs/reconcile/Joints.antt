@@ -190,9 +190,8 @@ module _ {F S : Type 0} {gs : _} {g : buffer.Ghosts (PageBlob S gs)} {gives : F 
       right = subst IsSome (sym (did.entries (blob_of u.partition Right) (other Right))) was.right;
     }
       where
-        other : (side : Side) → IsKeyOf j.sections (IsHeld j.sections) (blob_of u.partition side) ⊎ IsKeyOf m0 (IsHeld j.sections) (blob_of u.partition side) → ⊥
-        other side (inl w) = copy_other side l.index w.0 (inl refl) (sym (copy_at marked side) ∙ w.2 ∙ index_key joint.rests.parts w.0)
-        other side (inr w) = copy_other side l.values w.0 (inr refl) (sym (copy_at marked side) ∙ w.2 ∙ values_key joint.rests.parts w.0)
+        other : (side : Side) → IsKeyOf m0 (IsHeld j.sections) (blob_of u.partition side) → ⊥
+        other side w = copy_other side l.values w.0 (inr refl) (sym (copy_at marked side) ∙ w.2 ∙ values_key joint.rests.parts w.0)
 
     pub trim_rests : Resting g gives takes told l j n u o2 (disk c)
     trim_rests = record {

@@ -77,7 +77,7 @@ module _ {F S : Type 0} {gs : _} {g : buffer.Ghosts (PageBlob S gs)} {gives : F 
 
   -- nothing is given of a section that is not held
   pub none_given : (s : ℕ) → run.walk.journal.sections.held s ≡ None → records_given run (disk a) s ≡ []
-  none_given s none = elim (none_or_value (run.ends s)) [
+  none_given s none = elim (none_or_value (run.ends.at s)) [
     | inl all ↦ given_all e t s all ∙ none_over
     | inr some ↦ absurd (omega (arith, (ending_of e t s some.0 some.1).within, ap length none_over))
   ]
@@ -103,7 +103,7 @@ module _ {F S : Type 0} {gs : _} {g : buffer.Ghosts (PageBlob S gs)} {gives : F 
 
   -- the first of those that are stored, with all below the marker
   given_first : (s : ℕ) → ((k : ℕ) × (records_given run (disk a) s ≡ take k (records_over run (disk a) s)) × ((marker run s ≤ k) ⊎ (records_given run (disk a) s ≡ records_over run (disk a) s)))
-  given_first s = elim (none_or_value (run.ends s)) [
+  given_first s = elim (none_or_value (run.ends.at s)) [
     | inl none ↦ (length (records_over run (disk a) s), given_all e t s none ∙ sym (take_all (length (records_over run (disk a) s)) (records_over run (disk a) s) (omega arith)), inr (given_all e t s none))
     | inr some ↦ (some.0, given_to e t s some.0 some.1, inl (ending_of e t s some.0 some.1).from)
   ]

@@ -59,17 +59,17 @@ pair_with run j n trailing = record { layout = run.layout; index = j; values = n
 
 module _ {F S : Type 0} {gs : _} {g : buffer.Ghosts (PageBlob S gs)} {gives : F → Setting} {takes : WriteFactory → Setting} {told : Type 0} {run : Run F (PageBlob S gs)} {o : OpenedList} (a : Timeline) (e : Drained g gives takes told run o (disk a)) where
   -- no section ends below its marker
-  cut_reached : (j : Lists F (PageBlob S gs)) (back : GaveBack run j) (k : Lists F (PageBlob S gs)) (o1 : OpenedList) (b : Timeline) → RecordsCut g gives told run.layout run.ends j k o o1 a b → (s : ℕ) → marker run s * run.layout.record_size ≤ fixed.section_size k.sections s
+  cut_reached : (j : Lists F (PageBlob S gs)) (back : GaveBack run j) (k : Lists F (PageBlob S gs)) (o1 : OpenedList) (b : Timeline) → RecordsCut g gives told run.layout run.ends.at j k o o1 a b → (s : ℕ) → marker run s * run.layout.record_size ≤ fixed.section_size k.sections s
   cut_reached j back k o1 b did s =
       let floor : marker run s * run.layout.record_size ≤ fixed.section_size j.sections s =
       subst (λ (m : Sections F (PageBlob S gs)). marker run s * run.layout.record_size ≤ fixed.section_size m s) (sym back.sections) (omega (arith, (opening e).floors s, (opening e).reached (walk_unfailed e) s)) in
-      elim (none_or_value (run.ends s)) [
+      elim (none_or_value (run.ends.at s)) [
         | inl none ↦ omega (arith, floor, ap fixed.size_held (did.others s none).held)
         | inr some ↦ omega (arith, floor, did.sizes s some.0 some.1, mul-le (marker run s) run.layout.record_size some.0 run.layout.record_size ((opening e).ends_from s some.0 some.1).1 (omega arith))
       ]
 
   -- ---- the three stages together
-  pub reconciled_of : (j : Lists F (PageBlob S gs)) (back : GaveBack run j) (k : Lists F (PageBlob S gs)) (o1 : OpenedList) (b : Timeline) (did : RecordsCut g gives told run.layout run.ends j k o o1 a b) (joint : Joint g gives takes told run (disk a) k run.values o1 (disk b))
+  pub reconciled_of : (j : Lists F (PageBlob S gs)) (back : GaveBack run j) (k : Lists F (PageBlob S gs)) (o1 : OpenedList) (b : Timeline) (did : RecordsCut g gives told run.layout run.ends.at j k o o1 a b) (joint : Joint g gives takes told run (disk a) k run.values o1 (disk b))
       (m : Sections WriteFactory WriteBlob) (o2 : OpenedList) (c : Timeline) (trims : ValuesCut g gives takes told run.layout k run.values m o1 o2 b c) (joint_c : Joint g gives takes told run (disk a) k m o2 (disk c))
       (Doomed : ℕ → Type 0) (decides : (s : ℕ) → Doomed s ⊎ (Doomed s → ⊥)) (doomed : (s : ℕ) → Doomed s ↔ (IsHeld m s × (IsHeld k.sections s → ⊥))) (n : Sections WriteFactory WriteBlob) (o3 : OpenedList) (f : Timeline)
       (removes : ValuesRemoved takes told Doomed m n o2 o3 c f) (joint_f : Joint g gives takes told run (disk a) k n o3 (disk f)) → Reconciled g gives takes told run (disk a) k n o3 (disk f)

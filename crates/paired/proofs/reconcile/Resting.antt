@@ -12,8 +12,8 @@ use Rattle.sealed_pages.specs.SealedPrefix.{sealed_prefix}
 use Rattle.sealed_pages.specs.Shown.{shown}
 use Rattle.sealed_pages.specs.declared.page_blob.PageBlob.{PageBlob}
 use Rattle.sealed_pages.specs.declared.write_blob.WriteBlob.{WriteBlob}
-use Rattle.sealed_pages.proofs.Looking.{slot_short}
-use Rattle.sealed_pages.proofs.Truncating.{all_flushed, settles_of}
+use Rattle.sealed_pages.proofs.looking.Looking.{slot_short}
+use Rattle.sealed_pages.proofs.cutting.Truncating.{all_flushed, settles_of}
 use Rattle.section_manager.specs.declared.buffer.SectionBuffer as buffer
 use Rattle.section_manager.specs.declared.unsealed.WriteFactory.{WriteFactory}
 use Rattle.section_manager.specs.SealedLaws.{no_chance}

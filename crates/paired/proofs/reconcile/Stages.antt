@@ -37,29 +37,29 @@ Joint g gives takes told run start = Between g gives takes told run.layout run.w
 module _ {F S : Type 0} {gs : _} {g : buffer.Ghosts (PageBlob S gs)} {gives : F → Setting} {takes : WriteFactory → Setting} {told : Type 0} {run : Run F (PageBlob S gs)} {o : OpenedList} (a : Timeline) (e : Drained g gives takes told run o (disk a))
     (map_readable : IsReadable run.layout.markers) (t : told) where
   -- a section of which all records are given has no end
-  pub clean_none : (s : ℕ) → records_given run (disk a) s ≡ records_over run (disk a) s → run.ends s ≡ None
-  clean_none s same = elim (none_or_value (run.ends s)) [
+  pub clean_none : (s : ℕ) → records_given run (disk a) s ≡ records_over run (disk a) s → run.ends.at s ≡ None
+  clean_none s same = elim (none_or_value (run.ends.at s)) [
     | inl none ↦ none
     | inr some ↦ absurd (omega (arith, ap length same, ap length (given_to e t s some.0 some.1), length-take some.0 (records_over run (disk a) s), (end_of e t s some.0 some.1).within))
   ]
 
   -- ---- records are cut
   module _ (j : Lists F (PageBlob S gs)) (back : GaveBack run j) (readable : (q : Key) → MayLeave (disk a q) (reads (disk a q))) (b : Timeline)
-      (moments : Always a b (Each (Shortening run.layout.seal j.sections (λ s. CutTo run.layout.record_size (run.ends s)) (disk a)))) where
-    clean_cut : (s : ℕ) → IsClean run (disk a) s → (q : Key) → IsBlobOf run.layout (λ x. x ≡ s) q → IsIndexOf run.layout (λ x. IsSome (run.ends x)) q → ⊥
+      (moments : Always a b (Each (Shortening run.layout.seal j.sections (λ s. CutTo run.layout.record_size (run.ends.at s)) (disk a)))) where
+    clean_cut : (s : ℕ) → IsClean run (disk a) s → (q : Key) → IsBlobOf run.layout (λ x. x ≡ s) q → IsIndexOf run.layout (λ x. IsSome (run.ends.at x)) q → ⊥
     clean_cut s is q (inl index) cut =
         let same : cut.0 ≡ s = key_injective run.layout.index cut.0 index.0 cut.1 index.1 (sym cut.3 ∙ index.3) ∙ index.2 in
-        not_of_none (run.ends s) (clean_none s is.given) (subst (λ (x : ℕ). IsSome (run.ends x)) same cut.2)
+        not_of_none (run.ends.at s) (clean_none s is.given) (subst (λ (x : ℕ). IsSome (run.ends.at x)) same cut.2)
     clean_cut s is q (inr values) cut = e.over.apart.values (ap (λ (k : Key). k.0) (sym cut.3 ∙ values.3))
 
-    dirty_cut : (q : Key) → IsIndexOf run.layout (λ x. IsSome (run.ends x)) q → IsDirty run (disk a) q
+    dirty_cut : (q : Key) → IsIndexOf run.layout (λ x. IsSome (run.ends.at x)) q → IsDirty run (disk a) q
     dirty_cut q cut = record {
       section = λ s is own. clean_cut s is q own cut;
-      some = λ all. not_of_none (run.ends cut.0) (clean_none cut.0 (all.clean cut.0).given) cut.2;
+      some = λ all. not_of_none (run.ends.at cut.0) (clean_none cut.0 (all.clean cut.0).given) cut.2;
     }
 
     pub records_stage : Stage run 0 (disk a) a b
-    records_stage = step_wider run.layout Same (MayBeOpened run.layout (disk a)) (IsIndexOf run.layout (λ s. IsSome (run.ends s))) (λ q. Kind run 0 q × IsDirty run (disk a) q) a b (λ q cut. ((cut.0, cut.1, tt, cut.3), dirty_cut q cut))
+    records_stage = step_wider run.layout Same (MayBeOpened run.layout (disk a)) (IsIndexOf run.layout (λ s. IsSome (run.ends.at s))) (λ q. Kind run 0 q × IsDirty run (disk a) q) a b (λ q cut. ((cut.0, cut.1, tt, cut.3), dirty_cut q cut))
         (records_step a (ends_of e j back) map_readable t readable b moments)
 
   -- ---- values are cut

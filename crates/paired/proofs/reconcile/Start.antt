@@ -70,10 +70,10 @@ module _ {F S : Type 0} {gs : _} {g : buffer.Ghosts (PageBlob S gs)} {gives : F 
     checked = opening.checked t
 
     -- the section's end, where it has one
-    pub end_of : (s p : ℕ) → run.ends s ≡ Some p → IsEnd run d s p
+    pub end_of : (s p : ℕ) → run.ends.at s ≡ Some p → IsEnd run d s p
     end_of s p is = checked.ends s p (unbroken s) is
 
-    pub all_good : (s p : ℕ) → run.ends s ≡ None → p < length (records_over run d s) → IsGood run d s p
+    pub all_good : (s p : ℕ) → run.ends.at s ≡ None → p < length (records_over run d s) → IsGood run d s p
     all_good s p none lt = elim (checked.good s p (unbroken s) lt none) [
       | inl good ↦ good
       | inr left ↦ absurd (none_left s p left)
@@ -87,17 +87,17 @@ module _ {F S : Type 0} {gs : _} {g : buffer.Ghosts (PageBlob S gs)} {gives : F 
     good_at s q (inr is) = inr is
 
     -- what it gave of a section without an end, and of one with an end
-    pub given_all : (s : ℕ) → run.ends s ≡ None → records_given run d s ≡ records_over run d s
+    pub given_all : (s : ℕ) → run.ends.at s ≡ None → records_given run d s ≡ records_over run d s
     given_all s none = front_given s ∙ front_all (is_sound_over run d s) (marker run s) (records_over run d s) (λ q lt. good_at s q (all_good s q none lt))
 
-    pub given_to : (s p : ℕ) → run.ends s ≡ Some p → records_given run d s ≡ take p (records_over run d s)
+    pub given_to : (s p : ℕ) → run.ends.at s ≡ Some p → records_given run d s ≡ take p (records_over run d s)
     given_to s p is =
         let end = end_of s p is in
         front_given s ∙ front_stops (is_sound_over run d s) (marker run s) 0 p (records_over run d s) (omega (arith, end.within)) (λ q lt. good_at s q (end.good q lt)) (inr (omega (arith, end.from), end.fails))
 
     -- each record that was given is good, and all of them are given of what was given
     pub given_good : (s q : ℕ) → q < length (records_given run d s) → IsGoodAt (is_sound_over run d s) (marker run s) 0 (records_given run d s) q
-    given_good s q lt = elim (none_or_value (run.ends s)) [
+    given_good s q lt = elim (none_or_value (run.ends.at s)) [
       | inl none ↦
           let same = given_all s none in
           subst (λ (rs : List (List ℕ)). IsGoodAt (is_sound_over run d s) (marker run s) 0 rs q) (sym same) (good_at s q (all_good s q none (omega (arith, lt, ap length same))))
@@ -202,7 +202,7 @@ module _ {F S : Type 0} {gs : _} {g : buffer.Ghosts (PageBlob S gs)} {gives : F 
       pub kept_stored : (s : ℕ) → s < 2 ^ 64 → map (λ x. x.stored) (kept run.layout (as_read d) (marker run s) s) ≡ records_given run d s
       kept_stored s small = ap (map (λ x. x.stored)) (kept_given s small) ∙ stored_entries run.layout.place (glob.section_bytes run.values d s) (records_given run d s)
 
-      fronts_of : (s p : ℕ) → s < 2 ^ 64 → run.ends s ≡ Some p → (k : ℕ) → p ≤ k → k ≤ length (stored_records run.layout (as_read d) s)
+      fronts_of : (s p : ℕ) → s < 2 ^ 64 → run.ends.at s ≡ Some p → (k : ℕ) → p ≤ k → k ≤ length (stored_records run.layout (as_read d) s)
           → map (entry_of run.layout.place (content_at (as_read d) run.layout.values s)) (front (is_sound_in run.layout (as_read d) s) (marker run s) 0 (take k (stored_records run.layout (as_read d) s))) ≡ kept run.layout (as_read d) (marker run s) s
       fronts_of s p small is k le few =
           let end = end_of t s p is in
@@ -216,7 +216,7 @@ module _ {F S : Type 0} {gs : _} {g : buffer.Ghosts (PageBlob S gs)} {gives : F 
           good_as q (inr sound) = inr ((λ i. over_sound s small i (get_or (over_stored s small i) q [])) ∙ sound)
 
     -- the ends that the replay found
-    pub ends_of : Ends g gives takes told Same run.layout run.walk.journal.sections run.values run.store run.ends (records_given run d) j o d
+    pub ends_of : Ends g gives takes told Same run.layout run.walk.journal.sections run.values run.store run.ends.at (records_given run d) j o d
     ends_of = record {
       order = same_order;
       begins = back.sections;

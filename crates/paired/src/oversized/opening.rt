@@ -113,7 +113,7 @@ impl<C: Copy + Drop> Config<C> {
 // Where the value at a place of a section ends, which stands within so many bytes.
 //
 // It refuses a place that passes the greatest u64, with place and size, and one that ends behind the bytes, with their number and the end.
-pub(super) fn end_within(section: u64, location: (u64, u32), len: u64) -> Result<u64, Error>
+fn end_within(section: u64, location: (u64, u32), len: u64) -> Result<u64, Error>
     ensures end { IfOk result (λ n. (n ≡ location.0 + location.1) × (n ≤ len)) }
     ensures damage { (x : _) → IsErrOf result (Error.Corruption x) → (x.section ≡ section) × IsOutside location len x }
     ensures cause { OnErr result ((x : _) × IsErrOf result (Error.Corruption x)) }

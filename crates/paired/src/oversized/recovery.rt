@@ -35,13 +35,13 @@ ghost use Rattle.paired.specs.PairRefusing.{HasLostMarkers};
 ghost use Rattle.paired.specs.PairShown.{shown};
 ghost use Rattle.paired.specs.Places.{last_end};
 ghost use Rattle.paired.specs.Records.{records};
-ghost use Rattle.paired.specs.Reconciling.{CutTo, EndOf, Shortening};
+ghost use Rattle.paired.specs.Reconciling.{CutTo, EndOf, IsCutOff, IsEndWithin, Shortening};
 ghost use Rattle.paired.specs.ReplayShown.{run_of};
 ghost use Rattle.paired.specs.Replaying.{IsRun, entries_given, records_given};
 ghost use Rattle.paired.specs.Replaying as run;
 
 use super::Oversized;
-use super::opening::{end_within, held_sections};
+use super::opening::held_sections;
 use super::replaying::Replay;
 use super::syncing::{note_synced, numbers};
 use crate::{Glob, Record, Recovery};
@@ -90,64 +90,33 @@ fn cut_records<I: Record, S: Seal, D: Device>(
     Ok(index)
 }
 
-// Where the value of the section's last record ends, which stands within so many bytes; 0 where it has none.
-fn value_end<I: Record, S: Seal, D: Device>(
-    dev: &mut D,
-    index: &Journal<I, S>,
-    section: u64,
-    len: u64,
-) -> Result<u64, Error>
-    requires over { IsJournal ⟦<PageBlob<S> as SectionBuffer>⟧ ⟦<AppendFactory<S> as BufferFactory>⟧.gives S.seal_of I.SIZE D.Tells (journal.shown index.now) (D.opened dev.old) (disk (D.time dev.old)) }
-    requires proven { (s : ℕ) → IsProven (journal.shown index.now) s }
-    requires held { IsHeld (journal.shown index.now).sections section }
-    ensures over { IsJournal ⟦<PageBlob<S> as SectionBuffer>⟧ ⟦<AppendFactory<S> as BufferFactory>⟧.gives S.seal_of I.SIZE D.Tells (journal.shown index.now) (D.opened dev.new) (disk (D.time dev.new)) }
-    ensures end { D.Tells → IfOk result (λ n. n ≡ last_end I.place (records I.SIZE (section_bytes (journal.shown index.now).sections (disk (D.time dev.old)) section))) }
-    ensures within { IfOk result (λ n. n ≤ len) }
-    ensures damage { D.Tells → (x : _) → IsErrOf result (Error.Corruption x) → (x.section ≡ section) × IsLastOutside I.place (records I.SIZE (section_bytes (journal.shown index.now).sections (disk (D.time dev.old)) section)) len x }
-    ensures refused { D.Tells → (e : _) → IsErrOf result (Error.Codec e) → IsSomeRefused I.refusal (records I.SIZE (section_bytes (journal.shown index.now).sections (disk (D.time dev.old)) section)) e }
-    ensures named { (x : _) → IsErrOf result (Error.Corruption x) → x.section ≡ section }
-    ensures damaged { D.Tells → HasDamage result → ⊥ }
-    ensures unchanged { D.Tells → Unchanged (D.time dev.old) (D.time dev.new) }
-    ensures entries { (q : Key) → q ≢ key_of (journal.shown index.now).sections section → D.opened dev.new q ≡ D.opened dev.old q }
-    ensures faults { D.faults dev.old ≤ D.faults dev.new }
-    ensures cause { OnErr result (((x : _) × IsErrOf result (Error.Corruption x)) ⊎ HasNotRead result (D.faults dev.old) (D.faults dev.new)) }
+// Where the last kept value of a section ends, whose values have so many bytes; 0 where it keeps none.
+fn end_at(kept: &BTreeMap<u64, u64>, section: u64, size: u64) -> u64
+    ensures { result ≡ min (unwrap_or (get nat_cmp kept.now section) 0) size }
 {
-    let count = index.section_len(section)?;
-    if count == 0 {
-        return Ok(0);
-    }
-    match index.last(dev, section)? {
-        Some(record) => end_within(section, record.value_location(), len),
-        None => Ok(0),
-    }
+    kept.get(&section).copied().unwrap_or(0).min(size)
 }
 
-// Where the values of each section with records end.
-fn value_ends<I: Record, V: Codec, S: Seal, D: Device>(
+// Where the values of each section of records end.
+fn value_ends<I: Record, V: Codec, S: Seal>(
     alloc: Global,
-    dev: &mut D,
     index: &Journal<I, S>,
+    kept: &BTreeMap<u64, u64>,
     values: &Recovery<V, S>,
 ) -> Result<BTreeMap<u64, u64>, Error>
-    requires over { IsJournal ⟦<PageBlob<S> as SectionBuffer>⟧ ⟦<AppendFactory<S> as BufferFactory>⟧.gives S.seal_of I.SIZE D.Tells (journal.shown index.now) (D.opened dev.old) (disk (D.time dev.old)) }
-    requires proven { (s : ℕ) → IsProven (journal.shown index.now) s }
-    requires floors { ((journal.shown index.now).sections.floor ≡ 0) × ((managed.shown values.now.manager).floor ≡ 0) }
-    ensures over { IsJournal ⟦<PageBlob<S> as SectionBuffer>⟧ ⟦<AppendFactory<S> as BufferFactory>⟧.gives S.seal_of I.SIZE D.Tells (journal.shown index.now) (D.opened dev.new) (disk (D.time dev.new)) }
-    ensures each { IfOk result (λ r. (s : ℕ) → IsSome (get nat_cmp r s) ↔ IsHeld (journal.shown index.now).sections s) }
-    ensures ends { D.Tells → IfOk result (λ r. (s n : ℕ) → get nat_cmp r s ≡ Some n → n ≡ last_end I.place (records I.SIZE (section_bytes (journal.shown index.now).sections (disk (D.time dev.old)) s))) }
-    ensures damage { D.Tells → (x : _) → IsErrOf result (Error.Corruption x) → IsHeld (journal.shown index.now).sections x.section × IsLastOutside I.place (records I.SIZE (section_bytes (journal.shown index.now).sections (disk (D.time dev.old)) x.section)) (glob.section_size (managed.shown values.now.manager) x.section) x }
-    ensures counted { (x : _) → IsErrOf result (Error.Corruption x) → glob.section_size (managed.shown values.now.manager) x.section < 2 ^ 64 }
-    ensures refused { D.Tells → (e : _) → IsErrOf result (Error.Codec e) → (s : ℕ) × IsSomeRefused I.refusal (records I.SIZE (section_bytes (journal.shown index.now).sections (disk (D.time dev.old)) s)) e }
-    ensures damaged { D.Tells → HasDamage result → ⊥ }
-    ensures unchanged { D.Tells → Unchanged (D.time dev.old) (D.time dev.new) }
-    ensures entries { (q : Key) → (IsKeyOf (journal.shown index.now).sections (IsHeld (journal.shown index.now).sections) q → ⊥) → D.opened dev.new q ≡ D.opened dev.old q }
-    ensures faults { D.faults dev.old ≤ D.faults dev.new }
-    ensures cause { OnErr result (((x : _) × IsErrOf result (Error.Corruption x)) ⊎ HasNotRead result (D.faults dev.old) (D.faults dev.new)) }
+    requires floor { (managed.shown values.now.manager).floor ≡ 0 }
+    ensures each { IfOk result (λ r. (s : ℕ)
+        → IsSome (get nat_cmp r s) ↔ IsHeld (journal.shown index.now).sections s) }
+    ensures ends { IfOk result (λ r. (s n : ℕ) → get nat_cmp r s ≡ Some n
+        → IsCutOff (unwrap_or (get nat_cmp kept.now s) 0)
+        (glob.section_size (managed.shown values.now.manager) s) n) }
+    ensures cause { OnErr result (IsErrOf result Error.Mem) }
 {
     let mut ends = BTreeMap::new(alloc);
     for section in index.sections() {
-        let len = values.size(section)?;
-        let end = value_end(dev, index, section, len)?;
+        // A value that is kept stands within them, so this takes nothing away.
+        let size = values.size(section)?;
+        let end = end_at(kept, section, size);
         ends.insert(section, end)?;
     }
     Ok(ends)
@@ -158,12 +127,19 @@ fn cut_values<I: Record, V: Codec, S: Seal, D: Device>(
     alloc: Global,
     dev: &mut D,
     index: &Journal<I, S>,
+    kept: &BTreeMap<u64, u64>,
     values: Recovery<V, S>,
 ) -> Result<Glob<V, S>, Error>
     requires over { IsJournal ⟦<PageBlob<S> as SectionBuffer>⟧ ⟦<AppendFactory<S> as BufferFactory>⟧.gives S.seal_of I.SIZE D.Tells (journal.shown index.now) (D.opened dev.old) (disk (D.time dev.old)) }
     requires values { IsGlob ⟦<WriteBlob as SectionBuffer>⟧ ⟦<WriteFactory as BufferFactory>⟧.gives D.Tells (managed.shown values.manager) (D.opened dev.old) (disk (D.time dev.old)) }
     requires proven { (s : ℕ) → IsProven (journal.shown index.now) s }
     requires floors { ((journal.shown index.now).sections.floor ≡ 0) × ((managed.shown values.manager).floor ≡ 0) }
+    // Where the values of the sections of records end was found when those were gone over.
+    requires ends { D.Tells → (s : ℕ) → IsHeld (journal.shown index.now).sections s
+        → IsEndWithin (last_end I.place (records I.SIZE
+        (section_bytes (journal.shown index.now).sections (disk (D.time dev.old)) s)))
+        (glob.section_size (managed.shown values.manager) s)
+        (unwrap_or (get nat_cmp kept.now s) 0) }
     requires apart { (journal.shown index.now).sections.partition ≢ (managed.shown values.manager).partition }
     ensures over { IfOk result (λ _. IsJournal ⟦<PageBlob<S> as SectionBuffer>⟧ ⟦<AppendFactory<S> as BufferFactory>⟧.gives S.seal_of I.SIZE D.Tells (journal.shown index.now) (D.opened dev.new) (disk (D.time dev.new))) }
     ensures values { IfOk result (λ r. IsGlob ⟦<WriteBlob as SectionBuffer>⟧ ⟦<WriteFactory as BufferFactory>⟧.gives D.Tells (managed.shown r.manager) (D.opened dev.new) (disk (D.time dev.new))) }
@@ -179,15 +155,14 @@ fn cut_values<I: Record, V: Codec, S: Seal, D: Device>(
     ensures moments { D.Tells → Always (D.time dev.old) (D.time dev.new) (Each (Cutting (managed.shown values.manager) (EndOf I.place I.SIZE (journal.shown index.now).sections (disk (D.time dev.old))) (disk (D.time dev.old)))) }
     ensures idle { D.Tells → ((s : ℕ) → IsHeld (journal.shown index.now).sections s → glob.section_size (managed.shown values.manager) s ≤ last_end I.place (records I.SIZE (section_bytes (journal.shown index.now).sections (disk (D.time dev.old)) s))) → Unchanged (D.time dev.old) (D.time dev.new) }
     ensures reads { (s : ℕ) → reads_of (D.opened dev.new (key_of (managed.shown values.manager) s)) ≤ reads_of (D.opened dev.old (key_of (managed.shown values.manager) s)) }
-    ensures entries { (q : Key) → (IsKeyOf (journal.shown index.now).sections (IsHeld (journal.shown index.now).sections) q ⊎ IsKeyOf (managed.shown values.manager) (IsHeld (journal.shown index.now).sections) q → ⊥) → D.opened dev.new q ≡ D.opened dev.old q }
-    ensures damage { D.Tells → (x : _) → IsErrOf result (Error.Corruption x) → IsHeld (journal.shown index.now).sections x.section × IsLastOutside I.place (records I.SIZE (section_bytes (journal.shown index.now).sections (disk (D.time dev.old)) x.section)) (glob.section_size (managed.shown values.manager) x.section) x }
-    ensures counted { (x : _) → IsErrOf result (Error.Corruption x) → glob.section_size (managed.shown values.manager) x.section < 2 ^ 64 }
-    ensures refused { D.Tells → (e : _) → IsErrOf result (Error.Codec e) → (s : ℕ) × IsSomeRefused I.refusal (records I.SIZE (section_bytes (journal.shown index.now).sections (disk (D.time dev.old)) s)) e }
-    ensures damaged { D.Tells → HasDamage result → ⊥ }
+    // No record is read.
+    ensures entries { (q : Key) → (IsKeyOf (managed.shown values.manager)
+        (IsHeld (journal.shown index.now).sections) q → ⊥)
+        → D.opened dev.new q ≡ D.opened dev.old q }
     ensures faults { D.faults dev.old ≤ D.faults dev.new }
-    ensures cause { OnErr result (((x : _) × IsErrOf result (Error.Corruption x)) ⊎ HasNotRead result (D.faults dev.old) (D.faults dev.new)) }
+    ensures cause { OnErr result (HasFailed result (D.faults dev.old) (D.faults dev.new)) }
 {
-    let ends = value_ends(alloc, dev, index, &values)?;
+    let ends = value_ends(alloc, index, kept, &values)?;
     // Behind the cut of the records, by whose last one the end is known. New frames go there.
     let values = values.truncate_sections(dev, &ends)?;
     Ok(Glob::from(values))
@@ -272,6 +247,10 @@ impl<I: Record, V: Codec, S: Seal> Replay<I, V, S> {
         ensures clean { D.Tells → (s : ℕ) → run.IsClean (run_of I.place self) (disk (D.time dev.old)) s → Always (D.time dev.old) (D.time dev.new) (λ d. (q : Key) → IsBlobOf (run_of I.place self).layout (λ t. t ≡ s) q → d q ≡ (disk (D.time dev.old)) q) }
         ensures idle { D.Tells → run.IsAllKept (run_of I.place self) (disk (D.time dev.old)) → Unchanged (D.time dev.old) (D.time dev.new) }
         ensures reads { (s : ℕ) → reads_of (D.opened dev.new (section_key (run_of I.place self).layout.values s)) ≤ reads_of (D.opened dev.old (section_key (run_of I.place self).layout.values s)) }
+        // Of a section in which no value failed no record is read.
+        ensures index_unread { (s : ℕ) → s < 2 ^ 64 → (run_of I.place self).ends.at s ≡ None
+            → reads_of (D.opened dev.new (section_key (run_of I.place self).layout.index s))
+            ≤ reads_of (D.opened dev.old (section_key (run_of I.place self).layout.index s)) }
         ensures entries { (q : Key) → (IsOwn (run_of I.place self).layout (λ _. ⊤) q → ⊥) → D.opened dev.new q ≡ D.opened dev.old q }
         ensures replay_failed { (result ≡ Err Error.ReplayFailed) ↔ (((run_of I.place self).tracked ≡ false) ⊎ (run.HasFailed (run_of I.place self) ⊎ (IsDrained (run_of I.place self).walk → ⊥))) }
         ensures refused { result ≡ Err Error.ReplayFailed → dev.new ≡ dev.old }
@@ -298,9 +277,9 @@ impl<I: Record, V: Codec, S: Seal> Replay<I, V, S> {
             ..
         } = self;
         // Records go before the values that they name.
-        let index = cut_records(dev, index.finish()?, &ends)?;
+        let index = cut_records(dev, index.finish()?, &ends.at)?;
         // No record names these bytes any more.
-        let values = cut_values(alloc, dev, &index, values)?;
+        let values = cut_values(alloc, dev, &index, &ends.values, values)?;
         let alone = orphans(alloc, &held_sections(alloc, &index)?, &values)?;
         // Behind the cuts, as `orphans_last` says. No record stands in these sections.
         let values = remove_values(dev, values, alone.as_slice())?;

@@ -30,8 +30,8 @@ ghost use Rattle.paired.specs.OpeningRefusing.{AreSpellings};
 ghost use Rattle.paired.specs.Pair.{IsPair, IsSafeOn, IsSoundOn, list_of, synced_length};
 ghost use Rattle.paired.specs.PairShown.{shown};
 ghost use Rattle.paired.specs.Records.{is_sound};
-ghost use Rattle.paired.specs.ReplayShown.{run_of};
-ghost use Rattle.paired.specs.Replaying.{GivesBack, IsCutting, IsRun, IsDue, GivesRecord, LosesRecords, IsUnspelled, LeftAtMost, SameRun, pair_of, records_given};
+ghost use Rattle.paired.specs.ReplayShown.{limits_of, run_of};
+ghost use Rattle.paired.specs.Replaying.{GivesBack, IsCutting, IsRun, IsDue, GivesRecord, LosesRecords, IsUnspelled, LeftAtMost, NotesRecord, SameRun, counted_end, pair_of, records_given};
 ghost use Rattle.paired.specs.Replaying as run;
 ghost use Rattle.paired.specs.sighted.Shown as tracked;
 
@@ -45,6 +45,44 @@ use segments::{AppendFactory, BufferFactory, SectionBuffer, WriteFactory, fixed}
 use std::alloc::Global;
 use std::collections::BTreeMap;
 use value_codec::{Codec, Seal};
+
+/// How far an opening keeps the sections that it has gone over.
+#[derive(Drop)]
+pub(super) struct Limits {
+    /// Of each section in which a value failed, the position of its record (`IsChecked.ends`).
+    pub(super) at: BTreeMap<u64, u64>,
+    /// Of each section of which a record is kept, where the last one's value ends (`IsChecked.values`).
+    pub(super) values: BTreeMap<u64, u64>,
+}
+
+impl Limits {
+    // Of no section.
+    fn none(alloc: Global) -> Self
+        ensures { (s : ℕ)
+            → ((limits_of result).at s ≡ None) × ((limits_of result).values s ≡ None) }
+    {
+        Limits {
+            at: BTreeMap::new(alloc),
+            values: BTreeMap::new(alloc),
+        }
+    }
+
+    // Notes of a record, whose value ends there, that it is kept, or that its section ends at it.
+    fn note(&mut self, section: u64, position: u64, end: u64, is_kept: bool) -> Result<(), Error>
+        ensures notes { OnOk result (NotesRecord (limits_of self.old) (limits_of self.new)
+            section position end is_kept) }
+        ensures stays { OnErr result ((s : ℕ)
+            → (limits_of self.new).at s ≡ (limits_of self.old).at s) }
+        ensures cause { OnErr result (IsErrOf result Error.Mem) }
+    {
+        if is_kept {
+            self.values.insert(section, end)?;
+        } else {
+            self.at.insert(section, position)?;
+        }
+        Ok(())
+    }
+}
 
 /// A walk over the records of a pair, which gives the pair back.
 ///
@@ -62,8 +100,8 @@ pub struct Replay<I: Record, V: Codec, S: Seal> {
     pub(super) tracking: Tracking<S>,
     /// Whether the walk is that of an opening; else it is over an open pair (`IsRun.opening`, `IsRun.live`).
     pub(super) is_tracked: bool,
-    /// Of each section in which a value failed, the position of its record (`IsChecked.ends`).
-    pub(super) ends: BTreeMap<u64, u64>,
+    /// How far an opening keeps each section; over an open pair nothing.
+    pub(super) ends: Limits,
     /// The last section that ended since a value could not be checked (`IsChecked.broken`).
     pub(super) ended_section: Option<u64>,
     /// Whether an error was given. Then the pair is not given back.
@@ -112,7 +150,7 @@ impl<I: Record, V: Codec, S: Seal> Oversized<I, V, S> {
             values: Recovery::of(values),
             tracking,
             is_tracked: false,
-            ends: BTreeMap::new(alloc),
+            ends: Limits::none(alloc),
             ended_section: None,
             has_failed: false,
         })
@@ -135,7 +173,8 @@ impl<I: Record, V: Codec, S: Seal> Replay<I, V, S> {
         ensures values { IfOk result (λ r. r.values ≡ values) }
         ensures tracking { IfOk result (λ r. r.tracking ≡ tracking) }
         ensures tracked { IfOk result (λ r. (run_of I.place r).tracked ≡ true) }
-        ensures ends { IfOk result (λ r. (s : ℕ) → (run_of I.place r).ends s ≡ None) }
+        ensures ends { IfOk result (λ r. (s : ℕ) → ((run_of I.place r).ends.at s ≡ None)
+            × ((run_of I.place r).ends.values s ≡ None)) }
         ensures goes_on { IfOk result (λ r. (run_of I.place r).ended_section ≡ None) }
         ensures going { IfOk result (λ r. (run_of I.place r).failed ≡ false) }
         ensures unchanged { dev.new ≡ dev.old }
@@ -149,7 +188,7 @@ impl<I: Record, V: Codec, S: Seal> Replay<I, V, S> {
             values,
             tracking,
             is_tracked: true,
-            ends: BTreeMap::new(alloc),
+            ends: Limits::none(alloc),
             ended_section: None,
             has_failed: false,
         })
@@ -243,7 +282,9 @@ impl<I: Record, V: Codec, S: Seal> Replay<I, V, S> {
         ensures kept { (s p : ℕ) (v : I) → given ≡ Ok (s, p, v) → IfOk result (λ r. (r ≡ Some (s, p, v)) ⊎ ((r ≡ None) × ((run_of I.place self.old).tracked ≡ true))) }
         ensures sorts { D.Tells → (s p : ℕ) (v : I) → given ≡ Ok (s, p, v) → IfOk result (λ r. run.Sorts (run_of I.place self.old) (run_of I.place self.new) (disk (D.time dev.old)) s p (I.location v) (IsSome r)) }
         // Also where the disk is not told, no section comes to end below its marker.
-        ensures ends_from { (s p : ℕ) → (run_of I.place self.new).ends s ≡ Some p → ((run_of I.place self.old).ends s ≡ Some p) ⊎ ((s < 2 ^ 64) × (run.marker (run_of I.place self.old) s ≤ p)) }
+        ensures ends_from { (s p : ℕ) → (run_of I.place self.new).ends.at s ≡ Some p
+            → ((run_of I.place self.old).ends.at s ≡ Some p)
+            ⊎ ((s < 2 ^ 64) × (run.marker (run_of I.place self.old) s ≤ p)) }
         ensures index { self.new.index ≡ self.old.index }
         ensures values { self.new.values ≡ self.old.values }
         ensures tracking { self.new.tracking ≡ self.old.tracking }
@@ -253,13 +294,16 @@ impl<I: Record, V: Codec, S: Seal> Replay<I, V, S> {
         // Where the check fails by an error, its section ends.
         ensures goes_on { OnOk result ((run_of I.place self.new).ended_section ≡ (run_of I.place self.old).ended_section) }
         ensures ended { (s p : ℕ) (v : I) → given ≡ Ok (s, p, v) → OnErr result (((run_of I.place self.new).ended_section ≡ Some s) × ((run_of I.place self.old).ended_section ≢ Some s) × ((run_of I.place self.old).tracked ≡ true)) }
-        ensures stays { OnErr result ((s : ℕ) → (run_of I.place self.new).ends s ≡ (run_of I.place self.old).ends s) }
+        ensures stays { OnErr result ((s : ℕ)
+            → (run_of I.place self.new).ends.at s ≡ (run_of I.place self.old).ends.at s) }
         ensures glob { IsGlob ⟦<WriteBlob as SectionBuffer>⟧ ⟦<WriteFactory as BufferFactory>⟧.gives D.Tells (managed.shown self.new.values.manager) (D.opened dev.new) (disk (D.time dev.new)) }
         ensures unchanged { D.Tells → Unchanged (D.time dev.old) (D.time dev.new) }
         ensures read { (s p : ℕ) (v : I) → given ≡ Ok (s, p, v) → ReadsAtMost 1 (key_of (managed.shown self.old.values.manager) s) (D.opened dev.old) (D.opened dev.new) }
         ensures idle { (s p : ℕ) (v : I) → given ≡ Ok (s, p, v) → (((run_of I.place self.old).tracked ≡ false) ⊎ (p < run.marker (run_of I.place self.old) s)) → dev.new ≡ dev.old }
         // No value behind its section's end is read.
-        ensures ended_idle { (s p : ℕ) (v : I) → given ≡ Ok (s, p, v) → (((run_of I.place self.old).ended_section ≡ Some s) ⊎ IsSome ((run_of I.place self.old).ends s)) → dev.new ≡ dev.old }
+        ensures ended_idle { (s p : ℕ) (v : I) → given ≡ Ok (s, p, v)
+            → (((run_of I.place self.old).ended_section ≡ Some s)
+            ⊎ IsSome ((run_of I.place self.old).ends.at s)) → dev.new ≡ dev.old }
         ensures faults { D.faults dev.old ≤ D.faults dev.new }
         ensures cause { OnErr result (((e : _) × (given ≡ Err e)) ⊎ HasFailed result (D.faults dev.old) (D.faults dev.new)) }
     {
@@ -282,7 +326,9 @@ impl<I: Record, V: Codec, S: Seal> Replay<I, V, S> {
         requires floor { (run_of I.place self.old).tracked ≡ true → (managed.shown self.old.values.manager).floor ≡ 0 }
         ensures sorts { D.Tells → IfOk result (λ r. run.Sorts (run_of I.place self.old) (run_of I.place self.new) (disk (D.time dev.old)) section position location (IsTrue r)) }
         // Also where the disk is not told, no section comes to end below its marker.
-        ensures ends_from { (s p : ℕ) → (run_of I.place self.new).ends s ≡ Some p → ((run_of I.place self.old).ends s ≡ Some p) ⊎ ((s < 2 ^ 64) × (run.marker (run_of I.place self.old) s ≤ p)) }
+        ensures ends_from { (s p : ℕ) → (run_of I.place self.new).ends.at s ≡ Some p
+            → ((run_of I.place self.old).ends.at s ≡ Some p)
+            ⊎ ((s < 2 ^ 64) × (run.marker (run_of I.place self.old) s ≤ p)) }
         ensures index { self.new.index ≡ self.old.index }
         ensures values { self.new.values ≡ self.old.values }
         ensures tracking { self.new.tracking ≡ self.old.tracking }
@@ -290,25 +336,24 @@ impl<I: Record, V: Codec, S: Seal> Replay<I, V, S> {
         ensures failed { self.new.has_failed ≡ self.old.has_failed }
         ensures goes_on { OnOk result ((run_of I.place self.new).ended_section ≡ (run_of I.place self.old).ended_section) }
         ensures ended { OnErr result (((run_of I.place self.new).ended_section ≡ Some section) × ((run_of I.place self.old).ended_section ≢ Some section)) }
-        ensures stays { OnErr result ((s : ℕ) → (run_of I.place self.new).ends s ≡ (run_of I.place self.old).ends s) }
+        ensures stays { OnErr result ((s : ℕ)
+            → (run_of I.place self.new).ends.at s ≡ (run_of I.place self.old).ends.at s) }
         ensures live { (run_of I.place self.old).tracked ≡ false → (result ≡ Ok true) × (self.new ≡ self.old) }
         ensures glob { IsGlob ⟦<WriteBlob as SectionBuffer>⟧ ⟦<WriteFactory as BufferFactory>⟧.gives D.Tells (managed.shown self.new.values.manager) (D.opened dev.new) (disk (D.time dev.new)) }
         ensures unchanged { D.Tells → Unchanged (D.time dev.old) (D.time dev.new) }
         ensures read { ReadsAtMost 1 (key_of (managed.shown self.old.values.manager) section) (D.opened dev.old) (D.opened dev.new) }
         ensures idle { (((run_of I.place self.old).tracked ≡ false) ⊎ (position < run.marker (run_of I.place self.old) section)) → dev.new ≡ dev.old }
         // No value behind its section's end is read.
-        ensures ended_idle { (((run_of I.place self.old).ended_section ≡ Some section) ⊎ IsSome ((run_of I.place self.old).ends section)) → dev.new ≡ dev.old }
+        ensures ended_idle { (((run_of I.place self.old).ended_section ≡ Some section)
+            ⊎ IsSome ((run_of I.place self.old).ends.at section)) → dev.new ≡ dev.old }
         ensures faults { D.faults dev.old ≤ D.faults dev.new }
         ensures cause { OnErr result (HasFailed result (D.faults dev.old) (D.faults dev.new)) }
     {
         if !self.is_tracked {
             return Ok(true);
         }
-        if self.ended_section == Some(section) || self.ends.contains_key(&section) {
+        if self.ended_section == Some(section) || self.ends.at.contains_key(&section) {
             return Ok(false);
-        }
-        if position < self.tracking.marker(section) {
-            return Ok(true);
         }
         let checked = self.checks(dev, section, position, location);
         if checked.is_err() {
@@ -317,7 +362,8 @@ impl<I: Record, V: Codec, S: Seal> Replay<I, V, S> {
         checked
     }
 
-    // Whether the value of the record at this position is sound. Where it is not, no later record of the section is kept.
+    // Whether the record at this position stands below its section's marker, or its value is sound; and notes
+    // where its value ends, or that its section ends at it.
     fn checks<D: Device>(
         &mut self,
         dev: &mut D,
@@ -327,11 +373,16 @@ impl<I: Record, V: Codec, S: Seal> Replay<I, V, S> {
     ) -> Result<bool, Error>
         requires values { IsGlob ⟦<WriteBlob as SectionBuffer>⟧ ⟦<WriteFactory as BufferFactory>⟧.gives D.Tells (managed.shown self.old.values.manager) (D.opened dev.old) (disk (D.time dev.old)) }
         requires floor { (managed.shown self.old.values.manager).floor ≡ 0 }
-        ensures sound { D.Tells → IfOk result (λ r. IsTrue r ↔ IsTrue (is_sound S.seal_of (glob.section_bytes (run_of I.place self.old).values (disk (D.time dev.old)) section) location)) }
-        ensures same { result ≡ Ok true → self.new ≡ self.old }
-        ensures end { result ≡ Ok false → (run_of I.place self.new).ends section ≡ Some position }
-        ensures others { (s : ℕ) → s ≢ section → (run_of I.place self.new).ends s ≡ (run_of I.place self.old).ends s }
-        ensures stays { OnErr result ((s : ℕ) → (run_of I.place self.new).ends s ≡ (run_of I.place self.old).ends s) }
+        ensures good { D.Tells → IfOk result (λ r. IsTrue r
+            ↔ ((position < run.marker (run_of I.place self.old) section)
+            ⊎ IsTrue (is_sound S.seal_of (glob.section_bytes (run_of I.place self.old).values
+            (disk (D.time dev.old)) section) location))) }
+        ensures notes { IfOk result (λ r. NotesRecord (run_of I.place self.old).ends
+            (run_of I.place self.new).ends section position (counted_end location) r) }
+        ensures high { result ≡ Ok false
+            → run.marker (run_of I.place self.old) section ≤ position }
+        ensures stays { OnErr result ((s : ℕ)
+            → (run_of I.place self.new).ends.at s ≡ (run_of I.place self.old).ends.at s) }
         ensures goes_on { (run_of I.place self.new).ended_section ≡ (run_of I.place self.old).ended_section }
         ensures index { self.new.index ≡ self.old.index }
         ensures values { self.new.values ≡ self.old.values }
@@ -341,15 +392,54 @@ impl<I: Record, V: Codec, S: Seal> Replay<I, V, S> {
         ensures glob { IsGlob ⟦<WriteBlob as SectionBuffer>⟧ ⟦<WriteFactory as BufferFactory>⟧.gives D.Tells (managed.shown self.new.values.manager) (D.opened dev.new) (disk (D.time dev.new)) }
         ensures unchanged { D.Tells → Unchanged (D.time dev.old) (D.time dev.new) }
         ensures read { ReadsAtMost 1 (key_of (managed.shown self.old.values.manager) section) (D.opened dev.old) (D.opened dev.new) }
+        ensures idle { position < run.marker (run_of I.place self.old) section
+            → dev.new ≡ dev.old }
         ensures faults { D.faults dev.old ≤ D.faults dev.new }
         ensures cause { OnErr result (HasFailed result (D.faults dev.old) (D.faults dev.new)) }
     {
+        let is_good = self.is_good(dev, section, position, location)?;
         let (offset, size) = location;
-        let is_sound = self.values.verify(dev, section, offset, size)?;
-        if !is_sound {
-            self.ends.insert(section, position)?;
+        // A place that passes the greatest u64 is one below the marker, and not the last one there.
+        let end = offset.saturating_add(u64::from(size));
+        self.ends.note(section, position, end, is_good)?;
+        Ok(is_good)
+    }
+
+    // Whether the record at this position stands below its section's marker, where no value is read, or
+    // its value is sound.
+    fn is_good<D: Device>(
+        &self,
+        dev: &mut D,
+        section: u64,
+        position: u64,
+        location: (u64, u32),
+    ) -> Result<bool, Error>
+        requires values { IsGlob
+            ⟦<WriteBlob as SectionBuffer>⟧ ⟦<WriteFactory as BufferFactory>⟧.gives D.Tells
+            (managed.shown self.now.values.manager) (D.opened dev.old) (disk (D.time dev.old)) }
+        requires floor { (managed.shown self.now.values.manager).floor ≡ 0 }
+        ensures good { D.Tells → IfOk result (λ r. IsTrue r
+            ↔ ((position < run.marker (run_of I.place self.now) section)
+            ⊎ IsTrue (is_sound S.seal_of (glob.section_bytes (run_of I.place self.now).values
+            (disk (D.time dev.old)) section) location))) }
+        ensures high { result ≡ Ok false
+            → run.marker (run_of I.place self.now) section ≤ position }
+        ensures glob { IsGlob
+            ⟦<WriteBlob as SectionBuffer>⟧ ⟦<WriteFactory as BufferFactory>⟧.gives D.Tells
+            (managed.shown self.now.values.manager) (D.opened dev.new) (disk (D.time dev.new)) }
+        ensures unchanged { D.Tells → Unchanged (D.time dev.old) (D.time dev.new) }
+        ensures read { ReadsAtMost 1 (key_of (managed.shown self.now.values.manager) section)
+            (D.opened dev.old) (D.opened dev.new) }
+        ensures idle { position < run.marker (run_of I.place self.now) section
+            → dev.new ≡ dev.old }
+        ensures faults { D.faults dev.old ≤ D.faults dev.new }
+        ensures cause { OnErr result (HasFailed result (D.faults dev.old) (D.faults dev.new)) }
+    {
+        if position < self.tracking.marker(section) {
+            return Ok(true);
         }
-        Ok(is_sound)
+        let (offset, size) = location;
+        self.values.verify(dev, section, offset, size)
     }
 
     /// Gives the pair back, over which the replay went.

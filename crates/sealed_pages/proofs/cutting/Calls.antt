@@ -13,14 +13,14 @@ use Rattle.sealed_pages.specs.Flushing.{with_slot, no_slot, Covers, Held}
 use Rattle.sealed_pages.specs.SealedPrefix.{sealed_prefix, Prefix}
 use Rattle.sealed_pages.specs.Slots.{slot_length, page_length, best_slot, slot_bytes}
 use Rattle.sealed_pages.specs.View.{view, page_at, slot_at}
-use Rattle.sealed_pages.proofs.Adopt.{best_covers}
-use Rattle.sealed_pages.proofs.Cuts.{resized_take, take_front, below_start, cut_sound, short_sound, zeros_sound, short_covers}
-use Rattle.sealed_pages.proofs.PageCalls.{only_weaker, only_then}
+use Rattle.sealed_pages.proofs.adopted.Adopt.{best_covers}
+use Rattle.sealed_pages.proofs.cutting.Cuts.{resized_take, take_front, below_start, cut_sound, short_sound, zeros_sound, short_covers}
+use Rattle.sealed_pages.proofs.slots.PageCalls.{only_weaker, only_then}
 use Rattle.sealed_pages.proofs.Reaching.{prefix_sound, settled_sealed, rest_leaves}
-use Rattle.sealed_pages.proofs.SealedBytes.{SoundTo, sealed_leaves}
-use Rattle.sealed_pages.proofs.SlotLemmas.{page_apart, slot_length-le}
-use Rattle.sealed_pages.proofs.SlotSteps.{length-slot_bytes, held_slot}
-use Rattle.sealed_pages.proofs.Steps.{slot_high}
+use Rattle.sealed_pages.proofs.slots.SealedBytes.{SoundTo, sealed_leaves}
+use Rattle.sealed_pages.proofs.slots.SlotLemmas.{page_apart, slot_length-le}
+use Rattle.sealed_pages.proofs.slots.SlotSteps.{length-slot_bytes, held_slot}
+use Rattle.sealed_pages.proofs.slots.Steps.{slot_high}
 use Rattle.std.proofs.lemmas.Bool.{eq-eqb}
 
 pub settled_after : (key : Key) (change : Change) (v u : Unit {0}) (t0 t1 t2 : Timeline) → Passes {T = Unit {0}} key change (Ok v) t0 t1 → Passes {T = Unit {0}} key Settle (Ok u) t1 t2 → disk t2 key ≡ settled_at (done change (disk t0 key)).content

@@ -1,7 +1,7 @@
 -- What the calls of a buffer over a blob without seals promise.
 use Rattle.std.specs.Prelude.{◌≡◌, ◌⊎◌, ◌↔◌, ◌+◌, ◌-◌, ◌^◌, ◌<◌, ◌≤◌, ◌++◌, max, min, length, take, drop, ℕ, List, [], ◌∷◌, true, false, Result, Err, IfOk, OnOk, OnErr, IsOkAnd}
 use Rattle.std.specs.Result.{IsErrOf}
-use Rattle.blob_device.specs.Change.{written, resized}
+use Rattle.blob_device.specs.Change.{written}
 use Rattle.blob_device.specs.Counts.{Rose}
 use Rattle.blob_device.specs.Disk.{Key, Blob, Outside, settled_at}
 use Rattle.blob_device.specs.Timeline.{Timeline, disk}
@@ -13,7 +13,6 @@ use Rattle.blob_device.specs.declared.runtime.RError.TheVariants.{BlobInsufficie
 use Rattle.sealed_pages.specs.Calls.{FailsBelow}
 use Rattle.sealed_pages.specs.Contents.{AddsOnly}
 use Rattle.sealed_pages.specs.Entries.{IsOpenAt, NoReads, ReadsAtMost}
-use Rattle.sealed_pages.specs.Filled.{HasBytes}
 use Rattle.sealed_pages.specs.Reading.{Unchanged}
 use Rattle.sealed_pages.specs.Sparing.{Sparing, LooseOnly, Keeping}
 use Rattle.sealed_pages.specs.Tails.{LeavesRun, LeavesPending}
@@ -373,9 +372,9 @@ module _ {D : Type 0} (dev : device.Ghosts D) (u : WriteBuffer) (old new : D) wh
     -- no more counts as settled than is left
     pub same : IfOk result (λ r. see r
         ≡ record u { end = len; settled = min u.settled len; dirty = (see r).dirty })
-    -- a blob that is no longer is left alone,
+    -- where the blob is no longer than that, no call of the device is made,
     pub untouched : u.end ≤ len → new ≡ old
-    -- else it makes at most one
+    -- else at most one
     pub once : late.calls ≤ early.calls + 1
     -- the blob is opened, as long as the buffer says
     pub «open» : IfOk result (λ r. IsOpenAt (dev.opened new) (blob_key (see r)) (see r).end)

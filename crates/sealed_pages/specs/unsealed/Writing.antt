@@ -1,5 +1,5 @@
 -- What a buffer over a blob without seals shows, and what it means: the bytes of its blob, with one run over them.
-use Rattle.std.specs.Prelude.{◌≡◌, ◌⊎◌, ℕ, ◌+◌, ◌-◌, ◌<◌, ◌≤◌, ◌||◌, ◌&&◌, not, max, eqb, leb, Bool, true, false, List, [], ◌∷◌, length, take, string_bytes}
+use Rattle.std.specs.Prelude.{◌≡◌, ◌⊎◌, ℕ, ◌+◌, ◌-◌, ◌<◌, ◌≤◌, ◌||◌, ◌&&◌, not, min, max, eqb, leb, Bool, true, false, List, [], ◌∷◌, length, take, string_bytes}
 use Rattle.blob_device.specs.Disk.{Key, Blob, Outside, settled_at}
 use Rattle.blob_device.specs.Change.{written}
 use Rattle.blob_device.specs.Keeps.{Keeps}
@@ -72,6 +72,18 @@ StaysBelow u offset n = (Joins u offset × (max (length u.pending) (offset - u.a
 -- or these bytes alone; or nothing, once it was flushed.
 abbrev pub HoldsOnly : WriteBuffer → ℕ → List ℕ → WriteBuffer → Type 0
 HoldsOnly u offset bytes r = (Joins u offset × (r.at ≡ u.at) × (r.pending ≡ written u.pending (offset - u.at) bytes)) ⊎ (((r.at ≡ offset) × (r.pending ≡ bytes)) ⊎ (r.pending ≡ []))
+
+-- it with bytes put into its run, from a place in it or at its end
+abbrev pub with_bytes_put : WriteBuffer → ℕ → List ℕ → WriteBuffer
+with_bytes_put u offset bytes = record u { pending = written u.pending (offset - u.at) bytes }
+
+-- it with the run's part below n alone
+abbrev pub short_run : WriteBuffer → ℕ → WriteBuffer
+short_run u n = record u { at = min u.at n; pending = take (n - min u.at n) u.pending }
+
+-- n bytes from a place on lie in the run, which may be none at its end
+abbrev pub LiesInRun : WriteBuffer → ℕ → ℕ → Type 0
+LiesInRun u offset n = (u.at ≤ offset) × (offset + n ≤ u.at + length u.pending)
 
 -- all of n bytes from a place on are in the run
 abbrev pub AllPending : WriteBuffer → ℕ → ℕ → Type 0

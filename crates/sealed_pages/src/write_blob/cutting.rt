@@ -1,23 +1,17 @@
 // Cutting a buffer over a blob without seals.
-ghost use Rattle.std.specs.Prelude.{◌≡◌, ◌+◌, ◌-◌, ◌≤◌, ◌<◌, ◌^◌, ◌⊎◌, min, Err, length, take, IfOk, IsOkAnd, OnOk, OnErr, true, false, ℕ, List, [], ◌∷◌};
-ghost use Rattle.blob_device.specs.Disk.{Outside, settled_at};
-ghost use Rattle.blob_device.specs.Change.{written, resized};
-ghost use Rattle.blob_device.specs.Timeline.{disk};
-ghost use Rattle.blob_device.specs.Counts.{Rose};
-ghost use Rattle.sealed_pages.specs.Entries.{IsOpenAt, NoReads};
-ghost use Rattle.sealed_pages.specs.Sparing.{Sparing, LooseOnly, Keeping};
-ghost use Rattle.sealed_pages.specs.Contents.{AddsOnly};
+ghost use Rattle.std.specs.Prelude.{◌≡◌, ◌≤◌};
+ghost use Rattle.sealed_pages.specs.Entries.{IsOpenAt};
 
 use super::WriteBlob;
 use blob_device::{DevError, Device, RError};
 
 impl WriteBlob {
     ghost use Rattle.sealed_pages.specs.unsealed.RunCalls.{Shortens, Truncates};
-    ghost use Rattle.sealed_pages.specs.unsealed.Writing.{shown, blob_key, bytes_of, size_of, run_of, is_idle, is_unsettled, Over, KeepsSettled};
+    ghost use Rattle.sealed_pages.specs.unsealed.Writing.{shown, blob_key, short_run};
 
     // Takes away what the run has from this length on.
     fn cut_run(self, len: u64) -> WriteBlob
-        ensures { shown result ≡ record (shown self) { at = min self.at len; pending = take (len - min self.at len) self.pending.items } }
+        ensures { shown result ≡ short_run (shown self) len }
     {
         let mut this = self;
         this.at = this.at.min(len);

@@ -20,8 +20,10 @@ pub fn overwrite(run: &mut Vec<u8>, at: usize, bytes: &[u8]) -> Result<(), Alloc
 pub fn overlay(at: u64, run: &[u8], offset: u64, buf: &mut [u8])
     requires run { at + length run.now < 2 ^ 64 }
     requires buf { offset + length buf.old < 2 ^ 64 }
-    ensures over { (content : List ℕ) → HasBytes content offset buf.old → HasBytes (written content at run.now) offset buf.new }
-    ensures held { at ≤ offset → offset + length buf.old ≤ at + length run.now → (content : List ℕ) → HasBytes (written content at run.now) offset buf.new }
+    ensures over { (content : List ℕ) → HasBytes content offset buf.old
+        → HasBytes (written content at run.now) offset buf.new }
+    ensures held { at ≤ offset → offset + length buf.old ≤ at + length run.now
+        → (content : List ℕ) → HasBytes (written content at run.now) offset buf.new }
 {
     let low = at.max(offset);
     let high = (at + run.len() as u64).min(offset + buf.len() as u64);

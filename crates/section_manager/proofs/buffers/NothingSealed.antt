@@ -2,8 +2,8 @@
 use Rattle.std.proofs.Common.{◌≡◌, ℕ, List, [], arith}
 use Rattle.std.proofs.lemmas.List.{nil_from_length}
 use Rattle.sealed_pages.specs.SealedPrefix.{sealed_prefix, Prefix}
-use Rattle.sealed_pages.proofs.SealedBytes.{SoundTo, sound_prefix}
-use Rattle.sealed_pages.proofs.SlotLemmas.{slot_stands}
+use Rattle.sealed_pages.proofs.slots.SealedBytes.{SoundTo, sound_prefix}
+use Rattle.sealed_pages.proofs.slots.SlotLemmas.{slot_stands}
 
 pub nothing_sealed : (seal : List ℕ → ℕ) (P : ℕ) → sealed_prefix seal P [] ≡ []
 nothing_sealed seal P =

@@ -16,8 +16,8 @@ use Rattle.sealed_pages.specs.SealedPrefix.{sealed_prefix, adopted_size}
 use Rattle.sealed_pages.specs.Shown.{shown}
 use Rattle.sealed_pages.specs.Unrecovered.{KeepsPrefix, IsUnrecovered, IsRecovery, IsAdopted, IsSafeCut}
 use Rattle.sealed_pages.proofs.cutting.Calls.{sealing_less}
-use Rattle.sealed_pages.proofs.PageCalls.{only_weaker}
-use Rattle.sealed_pages.proofs.Truncating.{map_ok}
+use Rattle.sealed_pages.proofs.slots.PageCalls.{only_weaker}
+use Rattle.sealed_pages.proofs.cutting.Truncating.{map_ok}
 use Rattle.sealed_pages.proofs.UnrecoveredLemmas.{keeps_sealing}
 use Rattle.section_manager.specs.Leaving.{Leaves, AllMoments}
 use Rattle.section_manager.specs.Sealed.{adopted_bytes, Stands, MayKeep}

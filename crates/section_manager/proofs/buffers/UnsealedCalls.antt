@@ -14,8 +14,8 @@ use Rattle.sealed_pages.specs.Contents.{AllSince, KeepsAll, AddsOnly}
 use Rattle.sealed_pages.specs.Entries.{IsOpenAt}
 use Rattle.sealed_pages.specs.Sparing.{Lasts, SameByte, Spares, Sparing}
 use Rattle.sealed_pages.specs.unsealed.Writing.{WriteBuffer, shown, blob_key, run_of, StandsBehind, Over}
-use Rattle.sealed_pages.proofs.ContentLemmas.{adds_keep}
-use Rattle.sealed_pages.proofs.Looking.{content_length}
+use Rattle.sealed_pages.proofs.unsealed.ContentLemmas.{adds_keep}
+use Rattle.sealed_pages.proofs.looking.Looking.{content_length}
 use Rattle.section_manager.specs.Fronts.{IsFront}
 use Rattle.section_manager.specs.Leaving.{Leaves, AllMoments}
 use Rattle.section_manager.specs.unsealed.Buffer.{Stands, IsWhole, KeepsBytes, IsOldOrFront, MayKeep, content_of, is_unsettled}

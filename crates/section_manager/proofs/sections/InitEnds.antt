@@ -10,7 +10,7 @@ use Rattle.blob_device.specs.Timeline.{disk}
 use Rattle.blob_device.specs.declared.device.Device as device
 use Rattle.blob_device.proofs.Results.{on_err}
 use Rattle.sealed_pages.specs.Reading.{Unchanged}
-use Rattle.sealed_pages.proofs.Looking.{unchanged_now}
+use Rattle.sealed_pages.proofs.looking.Looking.{unchanged_now}
 use Rattle.section_manager.specs.declared.buffer.SectionBuffer as buffer
 use Rattle.section_manager.specs.declared.journal.Error.{Error}
 use Rattle.section_manager.specs.declared.journal.Error.TheVariants.{InvalidBlobName, Mem}

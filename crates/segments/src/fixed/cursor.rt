@@ -1,5 +1,5 @@
-// A cursor over a replay, for a layer that keeps something else than items in the bytes: it looks at items before
-// it passes over them, and may cut a section once more.
+// A cursor over a replay, for a layer that keeps something else than items in the bytes: it looks at items
+// before it passes over them, and may cut a section once more.
 ghost use Rattle.std.specs.Prelude.{◌≡◌, ◌+◌, ◌*◌, ◌<◌, ◌≤◌, ◌^◌, Some, None, true, false, [], length, take, IfSome, IsSome, MatchOption};
 ghost use Rattle.std.specs.Option.{option_map};
 ghost use Rattle.blob_device.specs.Timeline.{disk};
@@ -28,8 +28,8 @@ impl<A: CodecFixed, S: Seal> Replay<A, S> {
         }
     }
 
-    /// How many bytes the section has in which it stands, also those that are not kept; 0 between two sections. Who
-    /// looks here before a fill reads no rest of a section for items that can't be there.
+    /// How many bytes the section has in which it stands, also those that are not kept; 0 between two
+    /// sections. Who looks here before a fill reads no rest of a section for items that can't be there.
     pub fn size(&self) -> u64
         ensures { MatchOption (walk_of self.now).place (result ≡ 0) (λ r. result ≡ r.reader.size) }
     {
@@ -39,8 +39,8 @@ impl<A: CodecFixed, S: Seal> Replay<A, S> {
         }
     }
 
-    /// Goes into the next section. The replay stands in none, and one is ahead. A section of which a replay is owed
-    /// is begun at its start, so that all of it is checked.
+    /// Goes into the next section. The replay stands in none, and one is ahead. A section of which a replay
+    /// is owed is begun at its start, so that all of it is checked.
     pub fn enter<D: Device>(&mut self, dev: &mut D) -> Result<(), Error>
         requires over { IsWalk
             ⟦<PageBlob<S> as SectionBuffer>⟧ ⟦<AppendFactory<S> as BufferFactory>⟧.gives
@@ -60,8 +60,9 @@ impl<A: CodecFixed, S: Seal> Replay<A, S> {
         }
     }
 
-    /// Whether so many items are kept from the place on. Then they are at hand. Of a section that owes a replay
-    /// nothing is kept from the first page on that no matching slot covers. Of any other such a page is answered.
+    /// Whether so many items are kept from the place on. Then they are at hand. Of a section that owes a
+    /// replay nothing is kept from the first page on that no matching slot covers. Of any other such a page
+    /// is answered.
     pub fn fill<D: Device>(&mut self, dev: &mut D, count: usize) -> Result<bool, Error>
         requires over { IsWalk
             ⟦<PageBlob<S> as SectionBuffer>⟧ ⟦<AppendFactory<S> as BufferFactory>⟧.gives
@@ -123,8 +124,8 @@ impl<A: CodecFixed, S: Seal> Replay<A, S> {
         self.reading = Some(reading);
     }
 
-    /// Ends the section in which it stands, of which no whole item is left. It cuts off what is left, where a replay
-    /// is owed. A cut below the section's floor is refused, and so is a start behind its end.
+    /// Ends the section in which it stands, of which no whole item is left. It cuts off what is left, where
+    /// a replay is owed. A cut below the section's floor is refused, and so is a start behind its end.
     pub fn end<D: Device>(&mut self, dev: &mut D) -> Result<(), Error>
         requires over { IsWalk
             ⟦<PageBlob<S> as SectionBuffer>⟧ ⟦<AppendFactory<S> as BufferFactory>⟧.gives
@@ -152,8 +153,8 @@ impl<A: CodecFixed, S: Seal> Replay<A, S> {
         Ok(())
     }
 
-    /// Cuts a section that was gone over to `size` bytes, whole items of it, durably: what the layer above finds torn
-    /// behind them. An error ends the replay, since the section's buffer is gone.
+    /// Cuts a section that was gone over to `size` bytes, whole items of it, durably: what the layer above
+    /// finds torn behind them. An error ends the replay, since the section's buffer is gone.
     pub fn shorten<D: Device>(&mut self, dev: &mut D, section: u64, size: u64) -> Result<(), Error>
         requires over { IsWalk
             ⟦<PageBlob<S> as SectionBuffer>⟧ ⟦<AppendFactory<S> as BufferFactory>⟧.gives
@@ -170,7 +171,8 @@ impl<A: CodecFixed, S: Seal> Replay<A, S> {
         Ok(())
     }
 
-    /// Ends the section in which it stands, by an error of the layer above. The journal is not given back then.
+    /// Ends the section in which it stands, by an error of the layer above. The journal is not given back
+    /// then.
     pub fn leave(&mut self)
         ensures { Turns S.seal_of A.SIZE (failing (leaving (walk_of self.old)))
             (walk_of self.old) (walk_of self.new) }

@@ -21,7 +21,8 @@ use value_codec::{CodecFixed, Seal};
 // A section that is cut to nothing owes no replay.
 fn forget_emptied(numbers: &mut BTreeSet<u64>, section: u64, size: u64)
     ensures emptied { size ≡ 0 → set.contains nat_cmp numbers.new section ≡ false }
-    ensures others { (q : ℕ) → (q ≢ section) ⊎ (0 < size) → set.contains nat_cmp numbers.new q ≡ set.contains nat_cmp numbers.old q }
+    ensures others { (q : ℕ) → (q ≢ section) ⊎ (0 < size) → set.contains nat_cmp numbers.new q
+        ≡ set.contains nat_cmp numbers.old q }
 {
     if size == 0 {
         numbers.remove(&section);
@@ -33,8 +34,9 @@ impl<A: CodecFixed, S: Seal> Journal<A, S> {
     ghost use Rattle.segments.specs.FixedShown.{shown};
     ghost use Rattle.segments.specs.FixedLists.{IsJournal, IsProven};
 
-    /// Shortens this section to `size` bytes, if it is held and longer. A shorter length is durable when this returns. A section that
-    /// is cut to nothing takes appends again. The section's floor is no higher than `size` from then on.
+    /// Shortens this section to `size` bytes, if it is held and longer. A shorter length is durable when
+    /// this returns. A section that is cut to nothing takes appends again. The section's floor is no higher
+    /// than `size` from then on.
     pub fn truncate_pending_section<D: Device>(
         self,
         dev: &mut D,

@@ -15,11 +15,15 @@ impl<A: CodecFixed, S: Seal> Replay<A, S> {
     ghost use Rattle.segments.specs.FixedShown.{shown};
     ghost use Rattle.segments.specs.FixedWalking.{walk_of};
 
-    /// Goes over all items that are left, and gives the journal back, or an error. Among items it is that of the first
-    /// that is none.
+    /// Goes over all items that are left, and gives the journal back, or an error. Among items it is that
+    /// of the first that is none.
     pub fn drain<D: Device>(self, dev: &mut D) -> Result<Journal<A, S>, Error>
-        requires { IsWalk ⟦<PageBlob<S> as SectionBuffer>⟧ ⟦<AppendFactory<S> as BufferFactory>⟧.gives S.seal_of A.SIZE D.Tells (walk_of self) (D.opened dev.old) (disk (D.time dev.old)) }
-        ensures { Drains ⟦<PageBlob<S> as SectionBuffer>⟧ ⟦<AppendFactory<S> as BufferFactory>⟧.gives S.seal_of A.SIZE A.spelling A.accepted A.refusal (walk_of self) D.Device (seen shown result) dev.old dev.new }
+        requires { IsWalk ⟦<PageBlob<S> as SectionBuffer>⟧
+            ⟦<AppendFactory<S> as BufferFactory>⟧.gives S.seal_of A.SIZE D.Tells (walk_of self)
+            (D.opened dev.old) (disk (D.time dev.old)) }
+        ensures { Drains ⟦<PageBlob<S> as SectionBuffer>⟧
+            ⟦<AppendFactory<S> as BufferFactory>⟧.gives S.seal_of A.SIZE A.spelling A.accepted
+            A.refusal (walk_of self) D.Device (seen shown result) dev.old dev.new }
     {
         let mut this = self;
         'items: while let Some(next) = this.next(dev) {

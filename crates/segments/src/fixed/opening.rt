@@ -29,8 +29,8 @@ impl<A: CodecFixed, S: Seal> Journal<A, S> {
         Journal::init_bounded(alloc, dev, cfg, u64::MAX)
     }
 
-    /// Opens the sections of the partition up to this one. The later ones are not held, but a `prune`, a `clear` and a `destroy`
-    /// remove them.
+    /// Opens the sections of the partition up to this one. The later ones are not held, but a `prune`, a
+    /// `clear` and a `destroy` remove them.
     ///
     /// It refuses a blob with a name that is no section's, before it changes anything.
     pub fn init_bounded<D: Device>(

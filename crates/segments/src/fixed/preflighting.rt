@@ -1,5 +1,6 @@
-// Opening a fixed journal of which markers vouch for the first items of some sections: these are checked before anything is written.
-ghost use Rattle.std.specs.Prelude.{◌≡◌, ◌≢◌, ◌↔◌, ◌⊎◌, ◌≤◌, ◌<◌, ◌+◌, ◌-◌, ◌*◌, ◌/◌, ◌%◌, ◌^◌, ℕ, List, Option, Some, None, Err, false, length, map, IfOk, OnOk, OnErr, IfSome, IsSome, IsSomeAnd, IsTrue, string_bytes};
+// Opening a fixed journal of which markers vouch for the first items of some sections: these are checked
+// before anything is written.
+ghost use Rattle.std.specs.Prelude.{◌≡◌, ◌↔◌, ◌⊎◌, ◌≤◌, ◌<◌, ◌+◌, ◌-◌, ◌*◌, ◌/◌, ◌%◌, ◌^◌, ℕ, List, Option, Some, None, Err, false, length, map, IfOk, OnOk, OnErr, IfSome, IsSome, IsTrue, string_bytes};
 ghost use Rattle.std.specs.Result.{IsErrOf};
 ghost use Rattle.std.specs.Iterator.{item_count};
 ghost use Rattle.std.specs.List.{Contains};
@@ -9,21 +10,16 @@ ghost use Rattle.std.specs.Option.{option_copied};
 ghost use Rattle.std.specs.Ordering.{nat_cmp};
 ghost use Rattle.std.specs.BTreeMap as tree;
 ghost use Rattle.std.specs.BTreeSet as set;
-ghost use Rattle.blob_device.specs.Counts.{Rose};
 ghost use Rattle.blob_device.specs.Disk.{Key};
 ghost use Rattle.blob_device.specs.Timeline.{disk, Always, Each};
 ghost use Rattle.sealed_pages.specs.Buffer.{key_of};
 ghost use Rattle.sealed_pages.specs.Entries.{IsOpenAt};
-ghost use Rattle.sealed_pages.specs.Reading.{Unchanged};
-ghost use Rattle.sealed_pages.specs.Reads.{IsCovered, IsShort, PassesSize};
-ghost use Rattle.sealed_pages.specs.SealedPrefix.{adopted_size, data_from};
+ghost use Rattle.sealed_pages.specs.Reads.{IsShort, PassesSize};
 ghost use Rattle.sealed_pages.specs.Shown as page_blob;
 ghost use Rattle.sealed_pages.specs.View.{view};
-ghost use Rattle.section_manager.specs.Sections.{section_key, IsHeld, IsOver};
 ghost use Rattle.section_manager.specs.Lasting.{IsSettling};
-ghost use Rattle.section_manager.specs.Entries.{OnlyOwnEntry};
 ghost use Rattle.section_manager.specs.managing.Managed as managed;
-ghost use Rattle.section_manager.specs.Refusing.{HasFailed, IsForeign};
+ghost use Rattle.section_manager.specs.Refusing.{IsForeign};
 ghost use Rattle.segments.specs.FixedLists.{floor_in, section_size};
 
 use super::floors::floor_at;
@@ -100,7 +96,8 @@ pub(super) fn longer_sections<S: Seal>(
     floors: &BTreeMap<u64, u64>,
 ) -> Result<BTreeSet<u64>, Error>
     requires { (managed.shown manager.now).floor ≡ 0 }
-    ensures longer { IfOk result (λ r. (s : ℕ) → IsTrue (set.contains nat_cmp r s) ↔ (floor_in floors.now s < section_size (managed.shown manager.now) s)) }
+    ensures longer { IfOk result (λ r. (s : ℕ) → IsTrue (set.contains nat_cmp r s)
+        ↔ (floor_in floors.now s < section_size (managed.shown manager.now) s)) }
     ensures cause { OnErr result (IsErrOf result Error.Mem) }
 {
     let mut longer = BTreeSet::new(alloc);
@@ -118,9 +115,13 @@ fn check_reached<S: Seal>(
     floors: &BTreeMap<u64, u64>,
 ) -> Result<(), Error>
     requires { (managed.shown manager.now).floor ≡ 0 }
-    ensures reached { OnOk result ((s : ℕ) → floor_in floors.now s ≤ section_size (managed.shown manager.now) s) }
-    ensures first { (x : _) → IsErrOf result (Error.Corruption x) → (s : ℕ) → s < x.section → floor_in floors.now s ≤ section_size (managed.shown manager.now) s }
-    ensures damage { (x : _) → IsErrOf result (Error.Corruption x) → (x.kept ≡ section_size (managed.shown manager.now) x.section) × (x.wanted ≡ floor_in floors.now x.section) × (x.kept < x.wanted) }
+    ensures reached { OnOk result ((s : ℕ) → floor_in floors.now s
+        ≤ section_size (managed.shown manager.now) s) }
+    ensures first { (x : _) → IsErrOf result (Error.Corruption x) → (s : ℕ) → s < x.section
+        → floor_in floors.now s ≤ section_size (managed.shown manager.now) s }
+    ensures damage { (x : _) → IsErrOf result (Error.Corruption x)
+        → (x.kept ≡ section_size (managed.shown manager.now) x.section)
+        × (x.wanted ≡ floor_in floors.now x.section) × (x.kept < x.wanted) }
     ensures cause { OnErr result ((x : _) × IsErrOf result (Error.Corruption x)) }
 {
     for (section, floor) in floors {
@@ -143,16 +144,19 @@ impl<A: CodecFixed, S: Seal> Journal<A, S> {
     ghost use Rattle.segments.specs.FixedShown as journal;
     ghost use Rattle.segments.specs.FixedLists.{IsJournal, section_bytes};
 
-    /// Opens the sections of the partition up to the section `ceiling`, as [`init_bounded`](Journal::init_bounded) does, and checks what
-    /// markers vouch for, so many first items of some of them. No byte is written.
+    /// Opens the sections of the partition up to the section `ceiling`, as
+    /// [`init_bounded`](Journal::init_bounded) does, and checks what markers vouch for, so many first items
+    /// of some of them. No byte is written.
     ///
-    /// It refuses a blob with a name that is no section's, before anything is opened. Then the sections with a marker are checked one by
-    /// one, ascending, and the first that is refused is answered: by `Corruption`, which names it, where its marker counts more bytes than a
-    /// `u64` can, where it has no blob, or where the last item below the marker is not sealed; by `Codec`, which says why, where the bytes
-    /// there are no item. A section with more bytes than its floor owes a replay, which cuts nothing below the floor.
+    /// It refuses a blob with a name that is no section's, before anything is opened. Then the sections
+    /// with a marker are checked one by one, ascending, and the first that is refused is answered: by
+    /// `Corruption`, which names it, where its marker counts more bytes than a `u64` can, where it has no
+    /// blob, or where the last item below the marker is not sealed; by `Codec`, which says why, where the
+    /// bytes there are no item. A section with more bytes than its floor owes a replay, which cuts nothing
+    /// below the floor.
     ///
-    /// It keeps no page that it reads: a replay may read the pages of a section's last item below its marker again,
-    /// at most `SIZE / page_size + 2` of them.
+    /// It keeps no page that it reads: a replay may read the pages of a section's last item below its
+    /// marker again, at most `SIZE / page_size + 2` of them. That is how it is made; no clause counts them.
     pub fn preflight_floors<D: Device>(
         alloc: Global,
         dev: &mut D,
@@ -183,7 +187,8 @@ impl<A: CodecFixed, S: Seal> Journal<A, S> {
 impl<A: CodecFixed, S: Seal> Preflight<A, S> {
     ghost use Rattle.section_manager.specs.Answers.{seen};
     ghost use Rattle.segments.specs.FixedCheckpoint.{Finishes, IsReady};
-    ghost use Rattle.segments.specs.FixedFloors.{shown, journal_of, IsBoundary, IsRefused, IsUnsealed, IsAdoptedOver, AreAdopted};
+    ghost use Rattle.segments.specs.FixedChecks.{AreCheckable, ChecksMarker, LooksBelow, ReadsLast, TakesFloor};
+    ghost use Rattle.segments.specs.FixedFloors.{shown, journal_of, IsAdoptedOver};
     ghost use Rattle.segments.specs.FixedShown as journal;
 
     // No section has a marker yet.
@@ -203,7 +208,8 @@ impl<A: CodecFixed, S: Seal> Preflight<A, S> {
     // How many bytes so many items have. It refuses a number that passes the greatest u64.
     fn bytes_of(section: u64, items: u64) -> Result<u64, Error>
         ensures bytes { IfOk result (λ n. (n ≡ items * A.SIZE) × (items * A.SIZE < 2 ^ 64)) }
-        ensures damage { (x : _) → IsErrOf result (Error.Corruption x) → (x.section ≡ section) × (2 ^ 64 ≤ items * A.SIZE) × (x.kept ≡ items) × (x.wanted ≡ (2 ^ 64 - 1) / A.SIZE) }
+        ensures damage { (x : _) → IsErrOf result (Error.Corruption x) → (x.section ≡ section)
+            × (2 ^ 64 ≤ items * A.SIZE) × (x.kept ≡ items) × (x.wanted ≡ (2 ^ 64 - 1) / A.SIZE) }
         ensures cause { OnErr result ((x : _) × IsErrOf result (Error.Corruption x)) }
     {
         let most = u64::MAX / A::SIZE as u64;
@@ -225,30 +231,14 @@ impl<A: CodecFixed, S: Seal> Preflight<A, S> {
         items: u64,
     ) -> Result<Self, Error>
         requires bounded { section ≤ (shown self).ceiling }
-        requires floor { (journal_of self).sections.floor ≡ 0 }
-        requires over { IsOver ⟦<PageBlob<S> as SectionBuffer>⟧ ⟦<AppendFactory<S> as BufferFactory>⟧.gives D.Tells (journal_of self).sections (D.opened dev.old) (disk (D.time dev.old)) }
-        requires adopted { D.Tells → AreAdopted S.seal_of (journal_of self).sections (disk (D.time dev.old)) }
-        requires held { D.Tells → (s : ℕ) → s < 2 ^ 64 → IsHeld (journal_of self).sections s ↔ (IsTrue (disk (D.time dev.old) (section_key (shown self).partition s)).there × (s ≤ (shown self).ceiling)) }
-        ensures over { IsOver ⟦<PageBlob<S> as SectionBuffer>⟧ ⟦<AppendFactory<S> as BufferFactory>⟧.gives D.Tells (journal_of self).sections (D.opened dev.new) (disk (D.time dev.new)) }
-        ensures sections { IfOk result (λ r. (journal_of r).sections ≡ (journal_of self).sections) }
-        ensures target { IfOk result (λ r. (shown r).target ≡ (shown self).target) }
-        ensures floor { IfOk result (λ r. (shown r).floor_of section ≡ items * A.SIZE) }
-        ensures fits { OnOk result (items * A.SIZE < 2 ^ 64) }
-        ensures there { D.Tells → OnOk result (IsTrue (disk (D.time dev.old) (section_key (shown self).partition section)).there) }
-        ensures empty { items ≡ 0 → IfOk result (λ r. (shown r).boundary_of section ≡ Some None) }
-        ensures boundary { D.Tells → 0 < items → IfOk result (λ r. IsSomeAnd ((shown r).boundary_of section) (λ o. IsSomeAnd o
-            (IsBoundary S.seal_of (shown self).pages.page_size A.SIZE A.spelling A.accepted (disk (D.time dev.old) (section_key (shown self).partition section)).content items))) }
-        ensures floors { IfOk result (λ r. (q : ℕ) → q ≢ section → (shown r).floor_of q ≡ (shown self).floor_of q) }
-        ensures boundaries { IfOk result (λ r. (q : ℕ) → q ≢ section → (shown r).boundary_of q ≡ (shown self).boundary_of q) }
-        ensures damage { D.Tells → (x : _) → IsErrOf result (Error.Corruption x) → (x.section ≡ section)
-            × IsRefused S.seal_of (shown self).pages.page_size A.SIZE (disk (D.time dev.old) (section_key (shown self).partition section)) items x }
-        ensures refused { D.Tells → (e : _) → IsErrOf result (Error.Codec e) → (0 < items)
-            × (A.refusal (data_from (shown self).pages.page_size (view (disk (D.time dev.old) (section_key (shown self).partition section)).content) ((items - 1) * A.SIZE) A.SIZE) tt ≡ Some e)
-            × IsCovered S.seal_of (shown self).pages.page_size (disk (D.time dev.old) (section_key (shown self).partition section)).content ((items - 1) * A.SIZE) A.SIZE }
-        ensures unchanged { D.Tells → Unchanged (D.time dev.old) (D.time dev.new) }
-        ensures entries { OnlyOwnEntry (section_key (shown self).partition section) (D.opened dev.old) (D.opened dev.new) }
-        ensures faults { D.faults dev.old ≤ D.faults dev.new }
-        ensures cause { OnErr result (((x : _) × IsErrOf result (Error.Corruption x)) ⊎ (((e : _) × IsErrOf result (Error.Codec e)) ⊎ HasFailed result (D.faults dev.old) (D.faults dev.new))) }
+        requires ready { AreCheckable ⟦<PageBlob<S> as SectionBuffer>⟧
+            ⟦<AppendFactory<S> as BufferFactory>⟧.gives S.seal_of D.Tells
+            (journal_of self).sections (D.opened dev.old) (disk (D.time dev.old)) }
+        ensures { ChecksMarker shown (λ r. (journal_of r).sections) (shown self).floor_of
+            (shown self).boundary_of (shown self).target (journal_of self).sections section
+            S.seal_of (shown self).pages.page_size A.SIZE (shown self).partition A.spelling A.accepted A.refusal D.Device
+            ⟦<PageBlob<S> as SectionBuffer>⟧ ⟦<AppendFactory<S> as BufferFactory>⟧.gives
+            items dev.old dev.new result }
     {
         let floor = Self::bytes_of(section, items)?;
         let Some(buffer) = self.journal.manager.get(section)? else {
@@ -269,13 +259,9 @@ impl<A: CodecFixed, S: Seal> Preflight<A, S> {
     pub(super) fn with_floor(self, section: u64, floor: u64, item: Option<A>) -> Result<Self, Error>
         requires whole { floor % A.SIZE ≡ 0 }
         requires bounded { section ≤ (shown self).ceiling }
-        ensures floor { IfOk result (λ r. (shown r).floor_of section ≡ floor) }
-        ensures boundary { IfOk result (λ r. (shown r).boundary_of section ≡ Some item) }
-        ensures floors { IfOk result (λ r. (q : ℕ) → q ≢ section → (shown r).floor_of q ≡ (shown self).floor_of q) }
-        ensures boundaries { IfOk result (λ r. (q : ℕ) → q ≢ section → (shown r).boundary_of q ≡ (shown self).boundary_of q) }
-        ensures sections { IfOk result (λ r. (journal_of r).sections ≡ (journal_of self).sections) }
-        ensures target { IfOk result (λ r. (shown r).target ≡ (shown self).target) }
-        ensures cause { OnErr result (IsErrOf result Error.Mem) }
+        ensures { TakesFloor shown (λ r. (journal_of r).sections) (shown self).floor_of
+            (shown self).boundary_of (shown self).target (journal_of self).sections section floor
+            item result }
     {
         let mut this = self;
         let journal = &mut this.journal;
@@ -294,19 +280,13 @@ impl<A: CodecFixed, S: Seal> Preflight<A, S> {
     ) -> Result<A, Error>
         requires some { 0 < items }
         requires fits { items * A.SIZE < 2 ^ 64 }
-        requires open { IsOpenAt (D.opened dev.old) (key_of (page_blob.shown buffer.now)) buffer.now.end }
-        requires adopted { D.Tells → IsAdoptedOver S.seal_of buffer.now (disk (D.time dev.old) (key_of (page_blob.shown buffer.now))) }
-        ensures item { D.Tells → IfOk result (IsBoundary S.seal_of buffer.now.page_size A.SIZE A.spelling A.accepted (disk (D.time dev.old) (key_of (page_blob.shown buffer.now))).content items) }
-        ensures damage { D.Tells → (x : _) → IsErrOf result (Error.Corruption x) → (x.section ≡ section)
-            × IsUnsealed S.seal_of buffer.now.page_size A.SIZE (disk (D.time dev.old) (key_of (page_blob.shown buffer.now))) items x }
-        ensures refused { D.Tells → (e : _) → IsErrOf result (Error.Codec e) → (0 < items)
-            × (A.refusal (data_from buffer.now.page_size (view (disk (D.time dev.old) (key_of (page_blob.shown buffer.now))).content) ((items - 1) * A.SIZE) A.SIZE) tt ≡ Some e)
-            × IsCovered S.seal_of buffer.now.page_size (disk (D.time dev.old) (key_of (page_blob.shown buffer.now))).content ((items - 1) * A.SIZE) A.SIZE }
-        ensures unchanged { D.Tells → Unchanged (D.time dev.old) (D.time dev.new) }
-        ensures entries { OnlyOwnEntry (key_of (page_blob.shown buffer.now)) (D.opened dev.old) (D.opened dev.new) }
-        ensures open { IsOpenAt (D.opened dev.new) (key_of (page_blob.shown buffer.now)) buffer.now.end }
-        ensures faults { D.faults dev.old ≤ D.faults dev.new }
-        ensures cause { OnErr result (((x : _) × IsErrOf result (Error.Corruption x)) ⊎ (((e : _) × IsErrOf result (Error.Codec e)) ⊎ HasFailed result (D.faults dev.old) (D.faults dev.new))) }
+        requires open { IsOpenAt (D.opened dev.old) (key_of (page_blob.shown buffer.now))
+            buffer.now.end }
+        requires adopted { D.Tells → IsAdoptedOver S.seal_of buffer.now
+            (disk (D.time dev.old) (key_of (page_blob.shown buffer.now))) }
+        ensures { LooksBelow S.seal_of buffer.now.page_size A.SIZE D.Device
+            (key_of (page_blob.shown buffer.now)) buffer.now.end dev.old dev.new items A.spelling
+            A.accepted A.refusal section result }
     {
         let mut bytes = vec![in self.journal.alloc; 0; A::SIZE]?;
         match Self::read_last(dev, buffer, items, bytes.as_mut_slice()) {
@@ -329,19 +309,13 @@ impl<A: CodecFixed, S: Seal> Preflight<A, S> {
         requires some { 0 < items }
         requires fits { items * A.SIZE < 2 ^ 64 }
         requires room { length bytes.old ≡ A.SIZE }
-        requires open { IsOpenAt (D.opened dev.old) (key_of (page_blob.shown buffer.now)) buffer.now.end }
-        requires adopted { D.Tells → IsAdoptedOver S.seal_of buffer.now (disk (D.time dev.old) (key_of (page_blob.shown buffer.now))) }
-        ensures bytes { D.Tells → OnOk result (bytes.new ≡ data_from buffer.now.page_size (view (disk (D.time dev.old) (key_of (page_blob.shown buffer.now))).content) ((items - 1) * A.SIZE) A.SIZE) }
-        ensures checked { D.Tells → OnOk result (IsCovered S.seal_of buffer.now.page_size (disk (D.time dev.old) (key_of (page_blob.shown buffer.now))).content ((items - 1) * A.SIZE) A.SIZE) }
-        ensures within { D.Tells → OnOk result (items * A.SIZE ≤ adopted_size S.seal_of buffer.now.page_size (disk (D.time dev.old) (key_of (page_blob.shown buffer.now))).content) }
-        ensures checksum { D.Tells → (k : ℕ) → IsErrOf result (RError.InvalidChecksum k) → IsShort S.seal_of buffer.now.page_size (disk (D.time dev.old) (key_of (page_blob.shown buffer.now))).content ((items - 1) * A.SIZE) A.SIZE k }
-        ensures short { D.Tells → IsErrOf result RError.BlobInsufficientLength → PassesSize S.seal_of buffer.now.page_size (disk (D.time dev.old) (key_of (page_blob.shown buffer.now))).content ((items - 1) * A.SIZE) A.SIZE }
-        ensures unchanged { D.Tells → Unchanged (D.time dev.old) (D.time dev.new) }
-        ensures entries { OnlyOwnEntry (key_of (page_blob.shown buffer.now)) (D.opened dev.old) (D.opened dev.new) }
-        ensures open { IsOpenAt (D.opened dev.new) (key_of (page_blob.shown buffer.now)) buffer.now.end }
-        ensures faults { D.faults dev.old ≤ D.faults dev.new }
-        ensures cause { OnErr result ((result ≡ Err RError.BlobInsufficientLength) ⊎ (((k : ℕ) × (result ≡ Err (RError.InvalidChecksum k)))
-            ⊎ ((result ≡ Err RError.Mem) ⊎ ((result ≡ Err RError.Fault) × Rose (D.faults dev.old) (D.faults dev.new))))) }
+        requires open { IsOpenAt (D.opened dev.old) (key_of (page_blob.shown buffer.now))
+            buffer.now.end }
+        requires adopted { D.Tells → IsAdoptedOver S.seal_of buffer.now
+            (disk (D.time dev.old) (key_of (page_blob.shown buffer.now))) }
+        ensures { ReadsLast S.seal_of buffer.now.page_size A.SIZE D.Device
+            (key_of (page_blob.shown buffer.now)) buffer.now.end dev.old dev.new items bytes.new
+            result }
     {
         buffer.read_at(dev, (items - 1) * A::SIZE as u64, bytes)
     }
@@ -356,18 +330,19 @@ impl<A: CodecFixed, S: Seal> Preflight<A, S> {
     ) -> Result<A, Error>
         requires some { 0 < items }
         requires fits { items * A.SIZE < 2 ^ 64 }
-        requires open { IsOpenAt (D.opened dev.old) (key_of (page_blob.shown buffer.now)) buffer.now.end }
-        requires there { D.Tells → IsTrue (disk (D.time dev.old) (key_of (page_blob.shown buffer.now))).there }
-        requires broken { D.Tells → ((k : ℕ) × IsShort S.seal_of buffer.now.page_size (disk (D.time dev.old) (key_of (page_blob.shown buffer.now))).content ((items - 1) * A.SIZE) A.SIZE k)
-            ⊎ PassesSize S.seal_of buffer.now.page_size (disk (D.time dev.old) (key_of (page_blob.shown buffer.now))).content ((items - 1) * A.SIZE) A.SIZE }
+        requires open { IsOpenAt (D.opened dev.old) (key_of (page_blob.shown buffer.now))
+            buffer.now.end }
+        requires there { D.Tells → IsTrue (disk (D.time dev.old)
+            (key_of (page_blob.shown buffer.now))).there }
+        requires broken { D.Tells → ((k : ℕ) × IsShort S.seal_of buffer.now.page_size
+            (disk (D.time dev.old) (key_of (page_blob.shown buffer.now))).content
+            ((items - 1) * A.SIZE) A.SIZE k) ⊎ PassesSize S.seal_of buffer.now.page_size
+            (disk (D.time dev.old) (key_of (page_blob.shown buffer.now))).content
+            ((items - 1) * A.SIZE) A.SIZE }
         ensures fails { OnOk result ⊥ }
-        ensures damage { D.Tells → (x : _) → IsErrOf result (Error.Corruption x) → (x.section ≡ section)
-            × IsUnsealed S.seal_of buffer.now.page_size A.SIZE (disk (D.time dev.old) (key_of (page_blob.shown buffer.now))) items x }
-        ensures unchanged { D.Tells → Unchanged (D.time dev.old) (D.time dev.new) }
-        ensures entries { OnlyOwnEntry (key_of (page_blob.shown buffer.now)) (D.opened dev.old) (D.opened dev.new) }
-        ensures open { IsOpenAt (D.opened dev.new) (key_of (page_blob.shown buffer.now)) buffer.now.end }
-        ensures faults { D.faults dev.old ≤ D.faults dev.new }
-        ensures cause { OnErr result (((x : _) × IsErrOf result (Error.Corruption x)) ⊎ HasFailed result (D.faults dev.old) (D.faults dev.new)) }
+        ensures looks { LooksBelow S.seal_of buffer.now.page_size A.SIZE D.Device
+            (key_of (page_blob.shown buffer.now)) buffer.now.end dev.old dev.new items A.spelling
+            A.accepted A.refusal section result }
     {
         let piece = self.journal.manager.factory().write_buffer;
         let kept = buffer.recoverable_prefix_len(dev, 0, piece)?;
@@ -383,10 +358,14 @@ impl<A: CodecFixed, S: Seal> Preflight<A, S> {
         requires floor { (journal_of self).sections.floor ≡ 0 }
         ensures same { IfOk result (λ r. shown r ≡ shown self) }
         ensures sections { IfOk result (λ r. (journal_of r).sections ≡ (journal_of self).sections) }
-        ensures unrecovered { IfOk result (λ r. (s : ℕ) → IsTrue ((journal_of r).unrecovered s) ↔ ((shown r).floor_of s < section_size (journal_of r).sections s)) }
-        ensures reached { IfOk result (λ r. (s : ℕ) → (shown r).floor_of s ≤ section_size (journal_of r).sections s) }
-        ensures damage { (x : _) → IsErrOf result (Error.Corruption x) → section_size (journal_of self).sections x.section < (shown self).floor_of x.section }
-        ensures cause { OnErr result (((x : _) × IsErrOf result (Error.Corruption x)) ⊎ IsErrOf result Error.Mem) }
+        ensures unrecovered { IfOk result (λ r. (s : ℕ) → IsTrue ((journal_of r).unrecovered s)
+            ↔ ((shown r).floor_of s < section_size (journal_of r).sections s)) }
+        ensures reached { IfOk result (λ r. (s : ℕ) → (shown r).floor_of s
+            ≤ section_size (journal_of r).sections s) }
+        ensures damage { (x : _) → IsErrOf result (Error.Corruption x)
+            → section_size (journal_of self).sections x.section < (shown self).floor_of x.section }
+        ensures cause { OnErr result (((x : _) × IsErrOf result (Error.Corruption x))
+            ⊎ IsErrOf result Error.Mem) }
     {
         let mut this = self;
         let journal = &this.journal;
@@ -399,18 +378,24 @@ impl<A: CodecFixed, S: Seal> Preflight<A, S> {
     /// The sections with a marker, ascending, each with the last item that it vouches for.
     pub fn boundaries(&self) -> BoundaryIter<'_, A>
         ensures ascending { IsStrictlySortedBy nat_cmp (map (λ p. p.0) result) }
-        ensures each { (s : ℕ) (o : Option A) → Contains result (s, o) ↔ ((shown self.now).boundary_of s ≡ Some o) }
+        ensures each { (s : ℕ) (o : Option A) → Contains result (s, o)
+            ↔ ((shown self.now).boundary_of s ≡ Some o) }
     {
         BoundaryIter {
             inner: self.boundaries.iter(),
         }
     }
 
-    /// Gives the journal, which was opened for the check. Where markers were checked it makes no call of the device. Where a checkpoint was,
-    /// it removes the later sections, the newest first, and then cuts the checkpoint's, durably; no section owes a replay then.
+    /// Gives the journal, which was opened for the check. Where markers were checked it makes no call of
+    /// the device. Where a checkpoint was, it removes the later sections, the newest first, and then cuts
+    /// the checkpoint's, durably; no section owes a replay then.
     pub fn finish<D: Device>(self, dev: &mut D) -> Result<Journal<A, S>, Error>
-        requires { (t : _) → (shown self).target ≡ Some t → IsReady ⟦<PageBlob<S> as SectionBuffer>⟧ ⟦<AppendFactory<S> as BufferFactory>⟧.gives S.seal_of A.SIZE D.Tells (journal_of self) t (D.opened dev.old) (disk (D.time dev.old)) }
-        ensures { Finishes ⟦<PageBlob<S> as SectionBuffer>⟧ ⟦<AppendFactory<S> as BufferFactory>⟧.gives S.seal_of A.SIZE D.Device (journal_of self) (seen journal.shown result) dev.old dev.new (shown self).target }
+        requires { (t : _) → (shown self).target ≡ Some t
+            → IsReady ⟦<PageBlob<S> as SectionBuffer>⟧ ⟦<AppendFactory<S> as BufferFactory>⟧.gives
+            S.seal_of A.SIZE D.Tells (journal_of self) t (D.opened dev.old) (disk (D.time dev.old)) }
+        ensures { Finishes ⟦<PageBlob<S> as SectionBuffer>⟧
+            ⟦<AppendFactory<S> as BufferFactory>⟧.gives S.seal_of A.SIZE D.Device (journal_of self)
+            (seen journal.shown result) dev.old dev.new (shown self).target }
     {
         let Preflight {
             journal,

@@ -19,7 +19,8 @@ use value_codec::{CodecFixed, Seal};
 // Takes the numbers below `min` out.
 fn forget_below(numbers: &mut BTreeSet<u64>, min: u64)
     ensures below { (s : ℕ) → s < min → set.contains nat_cmp numbers.new s ≡ false }
-    ensures others { (s : ℕ) → min ≤ s → set.contains nat_cmp numbers.new s ≡ set.contains nat_cmp numbers.old s }
+    ensures others { (s : ℕ) → min ≤ s → set.contains nat_cmp numbers.new s
+        ≡ set.contains nat_cmp numbers.old s }
 {
     while let Some(first) = numbers.first().copied().filter(|n| *n < min) {
         numbers.remove(&first);
@@ -30,7 +31,8 @@ impl<A: CodecFixed, S: Seal> Journal<A, S> {
     ghost use Rattle.segments.specs.FixedShown.{flagged, shown};
     ghost use Rattle.segments.specs.FixedLists.{IsJournal};
 
-    /// Removes the sections below `min`, the oldest first, and says whether there was one; only then `min` is the floor.
+    /// Removes the sections below `min`, the oldest first, and says whether there was one; only then `min`
+    /// is the floor.
     pub fn prune<D: Device>(self, dev: &mut D, min: u64) -> Result<(Self, bool), Error>
         requires over { IsJournal
             ⟦<PageBlob<S> as SectionBuffer>⟧ ⟦<AppendFactory<S> as BufferFactory>⟧.gives

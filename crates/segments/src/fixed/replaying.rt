@@ -1,19 +1,14 @@
 // Going over the items of a fixed journal from a position on, and cutting what no seal vouches for.
-ghost use Rattle.std.specs.Prelude.{◌≡◌, ◌↔◌, ◌⊎◌, ◌≤◌, ◌<◌, ◌+◌, ◌*◌, ◌/◌, ◌^◌, ℕ, Some, None, Ok, Err, true, false, cond, length, take, IfOk, IfSome, OnOk, OnErr, IsSomeAnd, IsTrue};
+ghost use Rattle.std.specs.Prelude.{◌≡◌, ◌↔◌, ◌⊎◌, ◌≤◌, ◌<◌, ◌+◌, ◌*◌, ◌/◌, ◌^◌, ℕ, Some, None, Ok, Err, true, false, cond, length, take, IfSome, OnOk, OnErr, IsSomeAnd, IsTrue};
 ghost use Rattle.std.specs.Result.{IsErrOf};
 ghost use Rattle.std.specs.Ordering.{nat_cmp};
 ghost use Rattle.std.specs.BTreeSet as set;
-ghost use Rattle.blob_device.specs.declared.runtime.RError.TheVariants.{InvalidChecksum};
 ghost use Rattle.blob_device.specs.Disk.{Key};
-ghost use Rattle.blob_device.specs.Opened.{reads_of};
 ghost use Rattle.blob_device.specs.Timeline.{disk, Always, Each};
-ghost use Rattle.sealed_pages.specs.Buffer.{size_of, bytes_of, IsSealed};
-ghost use Rattle.sealed_pages.specs.ChanceSeal.{Sealing};
+ghost use Rattle.sealed_pages.specs.Buffer.{size_of};
 ghost use Rattle.sealed_pages.specs.SealedPrefix.{sealed_prefix};
 ghost use Rattle.sealed_pages.specs.Shown as page_blob;
-ghost use Rattle.sealed_pages.specs.Unrecovered.{IsUnrecovered, KeepsPrefix};
 ghost use Rattle.section_manager.specs.Sections.{key_of, IsHeld, IsKeyOf, IsOver};
-ghost use Rattle.section_manager.specs.Refusing.{HasDamage, HasFailed};
 ghost use Rattle.segments.specs.FixedItems.{IsItem};
 ghost use Rattle.segments.specs.FixedReading.{IsPast, IsBelowFloor, HasNotRead};
 
@@ -71,7 +66,8 @@ fn number_after(section: u64) -> Option<u64>
 /// Takes the sections behind this one out.
 pub(super) fn forget_later(numbers: &mut BTreeSet<u64>, section: u64)
     ensures later { (s : ℕ) → section < s → set.contains nat_cmp numbers.new s ≡ false }
-    ensures others { (s : ℕ) → s ≤ section → set.contains nat_cmp numbers.new s ≡ set.contains nat_cmp numbers.old s }
+    ensures others { (s : ℕ) → s ≤ section → set.contains nat_cmp numbers.new s
+        ≡ set.contains nat_cmp numbers.old s }
 {
     while let Some(last) = numbers.last().copied().filter(|n| *n > section) {
         numbers.remove(&last);
@@ -84,14 +80,18 @@ impl<A: CodecFixed, S: Seal> Journal<A, S> {
     ghost use Rattle.segments.specs.FixedFinishing.{Replays};
     ghost use Rattle.segments.specs.FixedWalking.{walk_of};
 
-    // No replay is owed any more of the sections behind this one, nor of this one itself where it was gone over from its start; and none of
-    // them has a floor.
+    // No replay is owed any more of the sections behind this one, nor of this one itself where it was gone
+    // over from its start; and none of them has a floor.
     fn recovered_from(self, section: u64, position: u64) -> Self
         ensures sections { (shown result).sections ≡ (shown self).sections }
-        ensures recovered { (s : ℕ) → (section < s) ⊎ ((position ≡ 0) × (section ≡ s)) → (shown result).unrecovered s ≡ false }
-        ensures unrecovered { (s : ℕ) → (s < section) ⊎ ((0 < position) × (section ≡ s)) → (shown result).unrecovered s ≡ (shown self).unrecovered s }
-        ensures lifted { (s : ℕ) → (section < s) ⊎ ((position ≡ 0) × (section ≡ s)) → (shown result).floor_of s ≡ 0 }
-        ensures floors { (s : ℕ) → (s < section) ⊎ ((0 < position) × (section ≡ s)) → (shown result).floor_of s ≡ (shown self).floor_of s }
+        ensures recovered { (s : ℕ) → (section < s) ⊎ ((position ≡ 0) × (section ≡ s))
+            → (shown result).unrecovered s ≡ false }
+        ensures unrecovered { (s : ℕ) → (s < section) ⊎ ((0 < position) × (section ≡ s))
+            → (shown result).unrecovered s ≡ (shown self).unrecovered s }
+        ensures lifted { (s : ℕ) → (section < s) ⊎ ((position ≡ 0) × (section ≡ s))
+            → (shown result).floor_of s ≡ 0 }
+        ensures floors { (s : ℕ) → (s < section) ⊎ ((0 < position) × (section ≡ s))
+            → (shown result).floor_of s ≡ (shown self).floor_of s }
     {
         let mut this = self;
         forget_later(&mut this.unrecovered, section);
@@ -105,8 +105,10 @@ impl<A: CodecFixed, S: Seal> Journal<A, S> {
 
     // Whether the position is past the end of the section, if that is held.
     fn is_past(&self, section: u64, position: u64) -> bool
-        requires { IsHeld (shown self.now).sections section → (shown self.now).sections.floor ≤ section }
-        ensures { IsTrue result ↔ IsSomeAnd ((shown self.now).sections.held section) (λ u. size_of (page_blob.shown u) / A.SIZE < position) }
+        requires { IsHeld (shown self.now).sections section → (shown self.now).sections.floor
+            ≤ section }
+        ensures { IsTrue result ↔ IsSomeAnd ((shown self.now).sections.held section)
+            (λ u. size_of (page_blob.shown u) / A.SIZE < position) }
     {
         match self.manager.get(section) {
             Ok(Some(buffer)) => buffer.size() / (A::SIZE as u64) < position,
@@ -114,7 +116,8 @@ impl<A: CodecFixed, S: Seal> Journal<A, S> {
         }
     }
 
-    /// Goes over the items from this position of this section on, in ascending order. It reads pieces of about `buffer` bytes.
+    /// Goes over the items from this position of this section on, in ascending order. It reads pieces of
+    /// about `buffer` bytes.
     ///
     /// It refuses a position past the end of the section, if that is held.
     pub fn replay<D: Device>(
@@ -154,16 +157,18 @@ impl<A: CodecFixed, S: Seal> Replay<A, S> {
     ghost use Rattle.segments.specs.FixedFinishing.{GivesBack};
     ghost use Rattle.segments.specs.FixedCursor.{Ends, Enters};
     ghost use Rattle.segments.specs.FixedNext.{Advances};
-    ghost use Rattle.segments.specs.FixedStepping.{standing, after_item, ReadsOnce, OnlySections, Touches, IsFlushed, IsCutBack, BeginsOver, EndsAt, Steps};
+    ghost use Rattle.segments.specs.FixedStepping.{standing, after_item, ReadsOnce, EndsAt, Steps, CutsBack, OpensReader};
     ghost use Rattle.segments.specs.FixedWalking.{walk_of, walk_at, place_of};
     ghost use Rattle.sealed_pages.specs.Readers.{reading};
 
     // The least held section that the replay has not come to.
     pub(super) fn section_ahead(&self) -> Option<u64>
-        ensures none { result ≡ None → (s : ℕ) → IsHeld (walk_of self.now).journal.sections s → IsAhead (walk_of self.now) s → ⊥ }
+        ensures none { result ≡ None → (s : ℕ) → IsHeld (walk_of self.now).journal.sections s
+            → IsAhead (walk_of self.now) s → ⊥ }
         ensures held { IfSome result (IsHeld (walk_of self.now).journal.sections) }
         ensures ahead { IfSome result (IsAhead (walk_of self.now)) }
-        ensures least { IfSome result (λ n. (s : ℕ) → IsHeld (walk_of self.now).journal.sections s → IsAhead (walk_of self.now) s → n ≤ s) }
+        ensures least { IfSome result (λ n. (s : ℕ) → IsHeld (walk_of self.now).journal.sections s
+            → IsAhead (walk_of self.now) s → n ≤ s) }
     {
         self.journal
             .manager
@@ -185,15 +190,15 @@ impl<A: CodecFixed, S: Seal> Replay<A, S> {
         self.has_ended || self.is_drained()
     }
 
-    // Whether a replay of the section is owed.
-    pub(super) fn owes(&self, section: u64) -> bool
+    /// Whether a replay of the section is owed.
+    pub fn owes(&self, section: u64) -> bool
         ensures { result ≡ (walk_of self.now).journal.unrecovered section }
     {
         self.journal.unrecovered.contains(&section)
     }
 
-    // The position from which on the items of this section are given.
-    fn first_position(&self, section: u64) -> u64
+    /// The position from which on the items of this section are given.
+    pub fn first_position(&self, section: u64) -> u64
         ensures { result ≡ first_of (walk_of self.now) section }
     {
         if section == self.start_section {
@@ -203,11 +208,13 @@ impl<A: CodecFixed, S: Seal> Replay<A, S> {
         }
     }
 
-    /// The next item, with its section and its position; none where all were given, or where the replay has ended.
+    /// The next item, with its section and its position; none where all were given, or where the replay has
+    /// ended.
     ///
-    /// A section of which a replay is owed is cut durably to its whole items before the first page that no matching slot covers, or
-    /// before a partial item at its end; then the replay goes on with the next section. A cut below the section's floor is refused as
-    /// `Corruption`. An error ends its section, and an error while a section is cut ends the replay.
+    /// A section of which a replay is owed is cut durably to its whole items before the first page that no
+    /// matching slot covers, or before a partial item at its end; then the replay goes on with the next
+    /// section. A cut below the section's floor is refused as `Corruption`. An error ends its section, and
+    /// an error while a section is cut ends the replay.
     pub fn next<D: Device>(&mut self, dev: &mut D) -> Option<Result<(u64, u64, A), Error>>
         requires { IsWalk
             ⟦<PageBlob<S> as SectionBuffer>⟧ ⟦<AppendFactory<S> as BufferFactory>⟧.gives
@@ -232,10 +239,15 @@ impl<A: CodecFixed, S: Seal> Replay<A, S> {
 
     // Goes one step on: into the next section, over one item, or to the end of a section.
     fn step<D: Device>(&mut self, dev: &mut D) -> Result<Option<(u64, u64, A)>, Error>
-        requires over { IsWalk ⟦<PageBlob<S> as SectionBuffer>⟧ ⟦<AppendFactory<S> as BufferFactory>⟧.gives S.seal_of A.SIZE D.Tells (walk_of self.old) (D.opened dev.old) (disk (D.time dev.old)) }
+        requires over { IsWalk ⟦<PageBlob<S> as SectionBuffer>⟧
+            ⟦<AppendFactory<S> as BufferFactory>⟧.gives S.seal_of A.SIZE D.Tells (walk_of self.old)
+            (D.opened dev.old) (disk (D.time dev.old)) }
         requires going { (walk_of self.old).ended ≡ false }
         requires more { IsDrained (walk_of self.old) → ⊥ }
-        ensures { Steps S.seal_of A.SIZE ⟦<PageBlob<S> as SectionBuffer>⟧ ⟦<AppendFactory<S> as BufferFactory>⟧.gives A.spelling A.accepted A.refusal D.Tells result (walk_of self.old) (walk_of self.new) (D.opened dev.old) (D.opened dev.new) (D.time dev.old) (D.time dev.new) (D.faults dev.old) (D.faults dev.new) }
+        ensures { Steps S.seal_of A.SIZE ⟦<PageBlob<S> as SectionBuffer>⟧
+            ⟦<AppendFactory<S> as BufferFactory>⟧.gives A.spelling A.accepted A.refusal D.Tells
+            result (walk_of self.old) (walk_of self.new) (D.opened dev.old) (D.opened dev.new)
+            (D.time dev.old) (D.time dev.new) (D.faults dev.old) (D.faults dev.new) }
     {
         if self.reading.is_none() {
             self.enter(dev)?;
@@ -252,14 +264,18 @@ impl<A: CodecFixed, S: Seal> Replay<A, S> {
         Ok(None)
     }
 
-    // Begins to read a section. A section of which a replay is owed is read from its start, so that all of it is checked.
+    // Begins to read a section. A section of which a replay is owed is read from its start, so that all of
+    // it is checked.
     pub(super) fn begin<D: Device>(&mut self, dev: &mut D, section: u64) -> Result<(), Error>
-        requires over { IsWalk ⟦<PageBlob<S> as SectionBuffer>⟧ ⟦<AppendFactory<S> as BufferFactory>⟧.gives S.seal_of A.SIZE D.Tells (walk_of self.old) (D.opened dev.old) (disk (D.time dev.old)) }
+        requires over { IsWalk ⟦<PageBlob<S> as SectionBuffer>⟧
+            ⟦<AppendFactory<S> as BufferFactory>⟧.gives S.seal_of A.SIZE D.Tells (walk_of self.old)
+            (D.opened dev.old) (disk (D.time dev.old)) }
         requires going { (walk_of self.old).ended ≡ false }
         requires between { (walk_of self.old).place ≡ None }
         requires held { IsHeld (walk_of self.old).journal.sections section }
         requires ahead { IsAhead (walk_of self.old) section }
-        requires least { (s : ℕ) → IsHeld (walk_of self.old).journal.sections s → IsAhead (walk_of self.old) s → section ≤ s }
+        requires least { (s : ℕ) → IsHeld (walk_of self.old).journal.sections s
+            → IsAhead (walk_of self.old) s → section ≤ s }
         ensures { Enters S.seal_of A.SIZE
             ⟦<PageBlob<S> as SectionBuffer>⟧ ⟦<AppendFactory<S> as BufferFactory>⟧.gives
             A.spelling A.accepted A.refusal D.Tells result (walk_of self.old) (walk_of self.new)
@@ -280,7 +296,8 @@ impl<A: CodecFixed, S: Seal> Replay<A, S> {
 
     // The position at which the section is begun.
     fn begin_at(&self, section: u64) -> u64
-        ensures { result ≡ cond ((walk_of self.now).journal.unrecovered section) 0 (first_of (walk_of self.now) section) }
+        ensures { result ≡ cond ((walk_of self.now).journal.unrecovered section) 0
+            (first_of (walk_of self.now) section) }
     {
         if self.owes(section) {
             0
@@ -291,22 +308,13 @@ impl<A: CodecFixed, S: Seal> Replay<A, S> {
 
     // Flushes the section's bytes, and gives a reader over them. After an error the section may be lost.
     fn open_reader<D: Device>(&mut self, dev: &mut D, section: u64) -> Result<PageReplay<S>, Error>
-        requires over { IsOver ⟦<PageBlob<S> as SectionBuffer>⟧ ⟦<AppendFactory<S> as BufferFactory>⟧.gives D.Tells (walk_of self.old).journal.sections (D.opened dev.old) (disk (D.time dev.old)) }
+        requires over { IsOver ⟦<PageBlob<S> as SectionBuffer>⟧
+            ⟦<AppendFactory<S> as BufferFactory>⟧.gives D.Tells (walk_of self.old).journal.sections
+            (D.opened dev.old) (disk (D.time dev.old)) }
         requires held { IsHeld (walk_of self.old).journal.sections section }
-        ensures rest { OnlySections (walk_of self.old) (walk_of self.new) }
-        ensures ended { (walk_of self.new).ended ≡ (walk_of self.old).ended }
-        ensures touches { Touches ⟦<PageBlob<S> as SectionBuffer>⟧ ⟦<AppendFactory<S> as BufferFactory>⟧.gives D.Tells result section (walk_of self.old).journal.sections (walk_of self.new).journal.sections (D.opened dev.old) (D.opened dev.new) (D.time dev.old) (D.time dev.new) }
-        ensures flushed { IfOk result (λ r. (u v : _) → (walk_of self.old).journal.sections.held section ≡ Some u → (walk_of self.new).journal.sections.held section ≡ Some v
-            → IsFlushed S.seal_of D.Tells u (disk (D.time dev.old) (key_of (walk_of self.old).journal.sections section)) v (disk (D.time dev.new) (key_of (walk_of self.old).journal.sections section))
-            × BeginsOver S.seal_of (key_of (walk_of self.old).journal.sections section) u v (reading r)) }
-        ensures moments { D.Tells → (u : _) → (walk_of self.old).journal.sections.held section ≡ Some u → IsSealed S.seal_of (page_blob.shown u) (disk (D.time dev.old) (key_of (walk_of self.old).journal.sections section))
-            → Sealing S.seal_of u.page_size (bytes_of (page_blob.shown u) (disk (D.time dev.old) (key_of (walk_of self.old).journal.sections section)).content) u.settled (key_of (walk_of self.old).journal.sections section) (D.time dev.old) (D.time dev.new) }
-        ensures steady { D.Tells → (u : _) → (walk_of self.old).journal.sections.held section ≡ Some u → IsUnrecovered S.seal_of (page_blob.shown u) (disk (D.time dev.old) (key_of (walk_of self.old).journal.sections section))
-            → KeepsPrefix S.seal_of u.page_size (sealed_prefix S.seal_of u.page_size (disk (D.time dev.old) (key_of (walk_of self.old).journal.sections section)).content) (key_of (walk_of self.old).journal.sections section) (D.time dev.old) (D.time dev.new) }
-        ensures idle { (u : _) → (walk_of self.old).journal.sections.held section ≡ Some u → u.settled ≡ size_of (page_blob.shown u) → D.time dev.new ≡ D.time dev.old }
-        ensures reads { OnOk result (reads_of (D.opened dev.new (key_of (walk_of self.old).journal.sections section)) ≤ reads_of (D.opened dev.old (key_of (walk_of self.old).journal.sections section))) }
-        ensures faults { D.faults dev.old ≤ D.faults dev.new }
-        ensures cause { OnErr result (HasFailed result (D.faults dev.old) (D.faults dev.new)) }
+        ensures { OpensReader ⟦<PageBlob<S> as SectionBuffer>⟧
+            ⟦<AppendFactory<S> as BufferFactory>⟧.gives S.seal_of D.Device section
+            (walk_of self.old) (walk_of self.new) dev.old dev.new result reading }
     {
         let buffer = self.journal.manager.take(dev, section)?;
         // Flushed by this, since the reader does not see what is in the buffer alone.
@@ -319,13 +327,20 @@ impl<A: CodecFixed, S: Seal> Replay<A, S> {
     fn take_item(&mut self, reading: Reading<S>) -> Result<Option<(u64, u64, A)>, Error>
         requires at_hand { A.SIZE ≤ length (place_of reading).reader.bytes }
         requires room { reading.position + 1 < 2 ^ 64 }
-        ensures given { (s p : ℕ) (v : A) → result ≡ Ok (Some (s, p, v)) → (s ≡ reading.section) × (p ≡ reading.position) × (first_of (walk_of self.old) reading.section ≤ reading.position)
-            × IsItem A.spelling A.accepted (take A.SIZE (place_of reading).reader.bytes) v }
-        ensures skipped { result ≡ Ok None → reading.position < first_of (walk_of self.old) reading.section }
-        ensures goes { OnOk result (walk_of self.new ≡ standing (walk_of self.old) (after_item A.SIZE (place_of reading))) }
+        ensures given { (s p : ℕ) (v : A) → result ≡ Ok (Some (s, p, v)) → (s ≡ reading.section)
+            × (p ≡ reading.position) × (first_of (walk_of self.old) reading.section
+            ≤ reading.position) × IsItem A.spelling A.accepted
+            (take A.SIZE (place_of reading).reader.bytes) v }
+        ensures skipped { result ≡ Ok None → reading.position
+            < first_of (walk_of self.old) reading.section }
+        ensures goes { OnOk result (walk_of self.new
+            ≡ standing (walk_of self.old) (after_item A.SIZE (place_of reading))) }
         ensures stays { OnErr result (walk_of self.new ≡ walk_of self.old) }
-        ensures refused { (e : _) → IsErrOf result (Error.Codec e) → (first_of (walk_of self.old) reading.section ≤ reading.position) × (A.refusal (take A.SIZE (place_of reading).reader.bytes) tt ≡ Some e) }
-        ensures cause { OnErr result (((e : _) × IsErrOf result (Error.Codec e)) ⊎ IsErrOf result Error.Mem) }
+        ensures refused { (e : _) → IsErrOf result (Error.Codec e)
+            → (first_of (walk_of self.old) reading.section ≤ reading.position)
+            × (A.refusal (take A.SIZE (place_of reading).reader.bytes) tt ≡ Some e) }
+        ensures cause { OnErr result (((e : _) × IsErrOf result (Error.Codec e))
+            ⊎ IsErrOf result Error.Mem) }
     {
         let mut reading = reading;
         let item = self.item_of(reading.section, reading.position, reading.reader.bytes())?;
@@ -343,11 +358,15 @@ impl<A: CodecFixed, S: Seal> Replay<A, S> {
         bytes: &[u8],
     ) -> Result<Option<(u64, u64, A)>, Error>
         requires { A.SIZE ≤ length bytes.now }
-        ensures given { (s p : ℕ) (v : A) → result ≡ Ok (Some (s, p, v)) → (s ≡ section) × (p ≡ position) × (first_of (walk_of self.now) section ≤ position)
+        ensures given { (s p : ℕ) (v : A) → result ≡ Ok (Some (s, p, v)) → (s ≡ section)
+            × (p ≡ position) × (first_of (walk_of self.now) section ≤ position)
             × IsItem A.spelling A.accepted (take A.SIZE bytes.now) v }
         ensures skipped { result ≡ Ok None → position < first_of (walk_of self.now) section }
-        ensures refused { (e : _) → IsErrOf result (Error.Codec e) → (first_of (walk_of self.now) section ≤ position) × (A.refusal (take A.SIZE bytes.now) tt ≡ Some e) }
-        ensures cause { OnErr result (((e : _) × IsErrOf result (Error.Codec e)) ⊎ IsErrOf result Error.Mem) }
+        ensures refused { (e : _) → IsErrOf result (Error.Codec e)
+            → (first_of (walk_of self.now) section ≤ position)
+            × (A.refusal (take A.SIZE bytes.now) tt ≡ Some e) }
+        ensures cause { OnErr result (((e : _) × IsErrOf result (Error.Codec e))
+            ⊎ IsErrOf result Error.Mem) }
     {
         if position < self.first_position(section) {
             return Ok(None);
@@ -359,30 +378,34 @@ impl<A: CodecFixed, S: Seal> Replay<A, S> {
     // Whether bytes stand behind the place, in a section of which a replay is owed.
     pub(super) fn is_torn(&self, reading: &Reading<S>) -> bool
         requires { reading.now.position * A.SIZE < 2 ^ 64 }
-        ensures { IsTrue result ↔ (IsTrue ((walk_of self.now).journal.unrecovered reading.now.section)
-            × (reading.now.position * A.SIZE < (place_of reading.now).reader.size)) }
+        ensures { IsTrue result ↔ (IsTrue ((walk_of self.now).journal.unrecovered
+            reading.now.section) × (reading.now.position * A.SIZE
+            < (place_of reading.now).reader.size)) }
     {
         let place = reading.position * A::SIZE as u64;
         place < reading.reader.blob_size() && self.owes(reading.section)
     }
 
-    // Comes to the end of a section, behind its last whole item, and cuts off there what is left. A cut below the section's floor is
-    // refused.
+    // Comes to the end of a section, behind its last whole item, and cuts off there what is left. A cut
+    // below the section's floor is refused.
     pub(super) fn end_cut<D: Device>(
         &mut self,
         dev: &mut D,
         reading: Reading<S>,
     ) -> Result<(), Error>
-        requires over { IsWalk ⟦<PageBlob<S> as SectionBuffer>⟧ ⟦<AppendFactory<S> as BufferFactory>⟧.gives S.seal_of A.SIZE D.Tells (walk_at self.old reading) (D.opened dev.old) (disk (D.time dev.old)) }
+        requires over { IsWalk ⟦<PageBlob<S> as SectionBuffer>⟧
+            ⟦<AppendFactory<S> as BufferFactory>⟧.gives S.seal_of A.SIZE D.Tells
+            (walk_at self.old reading) (D.opened dev.old) (disk (D.time dev.old)) }
         requires going { (walk_of self.old).ended ≡ false }
         requires between { (walk_of self.old).place ≡ None }
         requires owed { IsTrue ((walk_of self.old).journal.unrecovered reading.section) }
-        requires last { D.Tells → EndsAt S.seal_of A.SIZE (walk_at self.old reading) (disk (D.time dev.old)) (place_of reading) true }
-        ensures { Ends S.seal_of A.SIZE
-            ⟦<PageBlob<S> as SectionBuffer>⟧ ⟦<AppendFactory<S> as BufferFactory>⟧.gives
-            A.spelling A.accepted A.refusal D.Tells result
-            (walk_at self.old reading) (walk_of self.new) (D.opened dev.old) (D.opened dev.new)
-            (D.time dev.old) (D.time dev.new) (D.faults dev.old) (D.faults dev.new) (place_of reading) }
+        requires last { D.Tells → EndsAt S.seal_of A.SIZE (walk_at self.old reading)
+            (disk (D.time dev.old)) (place_of reading) true }
+        ensures { Ends S.seal_of A.SIZE ⟦<PageBlob<S> as SectionBuffer>⟧
+            ⟦<AppendFactory<S> as BufferFactory>⟧.gives A.spelling A.accepted A.refusal D.Tells
+            result (walk_at self.old reading) (walk_of self.new) (D.opened dev.old)
+            (D.opened dev.new) (D.time dev.old) (D.time dev.new) (D.faults dev.old)
+            (D.faults dev.new) (place_of reading) }
     {
         self.check_floor(reading.section, reading.position)?;
         // Behind the check of the floor: no item that a marker vouches for is cut.
@@ -395,7 +418,9 @@ impl<A: CodecFixed, S: Seal> Replay<A, S> {
     fn check_floor(&self, section: u64, count: u64) -> Result<(), Error>
         requires { count * A.SIZE < 2 ^ 64 }
         ensures ok { OnOk result ((walk_of self.now).journal.floor_of section ≤ count * A.SIZE) }
-        ensures below { (x : _) → IsErrOf result (Error.Corruption x) → (x.section ≡ section) × (x.kept ≡ count * A.SIZE) × (x.wanted ≡ (walk_of self.now).journal.floor_of section) × (x.kept < x.wanted) }
+        ensures below { (x : _) → IsErrOf result (Error.Corruption x) → (x.section ≡ section)
+            × (x.kept ≡ count * A.SIZE) × (x.wanted ≡ (walk_of self.now).journal.floor_of section)
+            × (x.kept < x.wanted) }
         ensures cause { OnErr result (IsBelowFloor result) }
     {
         let kept = count * A::SIZE as u64;
@@ -413,8 +438,11 @@ impl<A: CodecFixed, S: Seal> Replay<A, S> {
     // Refuses the start where its section has fewer items.
     pub(super) fn check_start(&self, section: u64, count: u64) -> Result<(), Error>
         ensures ok { OnOk result (first_of (walk_of self.now) section ≤ count) }
-        ensures fewer { (p : ℕ) → IsErrOf result (Error.ItemOutOfRange p) → (section ≡ (walk_of self.now).start_section) × (p ≡ (walk_of self.now).start_position) × (count < p) }
-        ensures cause { OnErr result (IsErrOf result (Error.ItemOutOfRange (walk_of self.now).start_position)) }
+        ensures fewer { (p : ℕ) → IsErrOf result (Error.ItemOutOfRange p)
+            → (section ≡ (walk_of self.now).start_section) × (p ≡ (walk_of self.now).start_position)
+            × (count < p) }
+        ensures cause { OnErr result (IsErrOf result
+            (Error.ItemOutOfRange (walk_of self.now).start_position)) }
     {
         let first = self.first_position(section);
         if count < first {
@@ -423,30 +451,28 @@ impl<A: CodecFixed, S: Seal> Replay<A, S> {
         Ok(())
     }
 
-    // Cuts a section to so many items of its sealed prefix. An error ends the replay, since the section's buffer is gone.
+    // Cuts a section to so many items of its sealed prefix. An error ends the replay, since the section's
+    // buffer is gone.
     pub(super) fn cut<D: Device>(
         &mut self,
         dev: &mut D,
         section: u64,
         count: u64,
     ) -> Result<(), Error>
-        requires over { IsOver ⟦<PageBlob<S> as SectionBuffer>⟧ ⟦<AppendFactory<S> as BufferFactory>⟧.gives D.Tells (walk_of self.old).journal.sections (D.opened dev.old) (disk (D.time dev.old)) }
+        requires over { IsOver ⟦<PageBlob<S> as SectionBuffer>⟧
+            ⟦<AppendFactory<S> as BufferFactory>⟧.gives D.Tells (walk_of self.old).journal.sections
+            (D.opened dev.old) (disk (D.time dev.old)) }
         requires held { IsHeld (walk_of self.old).journal.sections section }
-        requires settled { (u : _) → (walk_of self.old).journal.sections.held section ≡ Some u → u.settled ≡ size_of (page_blob.shown u) }
-        requires within { (u : _) → (walk_of self.old).journal.sections.held section ≡ Some u → count * A.SIZE ≤ size_of (page_blob.shown u) }
-        requires prefix { D.Tells → (u : _) → (walk_of self.old).journal.sections.held section ≡ Some u → count * A.SIZE ≤ length (sealed_prefix S.seal_of u.page_size (disk (D.time dev.old) (key_of (walk_of self.old).journal.sections section)).content) }
-        ensures rest { OnlySections (walk_of self.old) (walk_of self.new) }
-        ensures going { OnOk result ((walk_of self.new).ended ≡ false) }
-        ensures ended { OnErr result ((walk_of self.new).ended ≡ true) }
-        ensures touches { Touches ⟦<PageBlob<S> as SectionBuffer>⟧ ⟦<AppendFactory<S> as BufferFactory>⟧.gives D.Tells result section (walk_of self.old).journal.sections (walk_of self.new).journal.sections (D.opened dev.old) (D.opened dev.new) (D.time dev.old) (D.time dev.new) }
-        ensures cut { OnOk result ((u v : _) → (walk_of self.old).journal.sections.held section ≡ Some u → (walk_of self.new).journal.sections.held section ≡ Some v
-            → IsCutBack S.seal_of D.Tells u (disk (D.time dev.old) (key_of (walk_of self.old).journal.sections section)) v (disk (D.time dev.new) (key_of (walk_of self.old).journal.sections section)) (count * A.SIZE)) }
-        ensures moments { D.Tells → (u : _) → (walk_of self.old).journal.sections.held section ≡ Some u
-            → Sealing S.seal_of u.page_size (sealed_prefix S.seal_of u.page_size (disk (D.time dev.old) (key_of (walk_of self.old).journal.sections section)).content) (count * A.SIZE) (key_of (walk_of self.old).journal.sections section) (D.time dev.old) (D.time dev.new) }
-        ensures reads { OnOk result (reads_of (D.opened dev.new (key_of (walk_of self.old).journal.sections section)) ≤ reads_of (D.opened dev.old (key_of (walk_of self.old).journal.sections section)) + 1) }
-        ensures faults { D.faults dev.old ≤ D.faults dev.new }
-        ensures damaged { D.Tells → (k : ℕ) → IsErrOf result (Error.Runtime (InvalidChecksum k)) → ⊥ }
-        ensures cause { OnErr result (HasDamage result ⊎ HasFailed result (D.faults dev.old) (D.faults dev.new)) }
+        requires settled { (u : _) → (walk_of self.old).journal.sections.held section ≡ Some u
+            → u.settled ≡ size_of (page_blob.shown u) }
+        requires within { (u : _) → (walk_of self.old).journal.sections.held section ≡ Some u
+            → count * A.SIZE ≤ size_of (page_blob.shown u) }
+        requires prefix { D.Tells → (u : _) → (walk_of self.old).journal.sections.held section
+            ≡ Some u → count * A.SIZE ≤ length (sealed_prefix S.seal_of u.page_size
+            (disk (D.time dev.old) (key_of (walk_of self.old).journal.sections section)).content) }
+        ensures { CutsBack ⟦<PageBlob<S> as SectionBuffer>⟧
+            ⟦<AppendFactory<S> as BufferFactory>⟧.gives S.seal_of D.Device section
+            (walk_of self.old) (walk_of self.new) dev.old dev.new result (count * A.SIZE) }
     {
         // Set until the cut is durable: an error in between ends the replay.
         self.has_ended = true;

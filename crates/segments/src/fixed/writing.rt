@@ -46,11 +46,14 @@ impl<A: CodecFixed, S: Seal> Journal<A, S> {
     ghost use Rattle.segments.specs.FixedShown.{shown};
     ghost use Rattle.segments.specs.FixedLists.{IsJournal, IsRecovered};
 
-    /// Whether an append to the section would answer `Full`: whether one item more makes its blob, with both slots of its last page, pass the
-    /// greatest `u64`. It takes no memory.
+    /// Whether an append to the section would answer `Full`: whether one item more makes its blob, with
+    /// both slots of its last page, pass the greatest `u64`. It takes no memory.
     pub fn is_full(&self, section: u64) -> Result<bool, Error>
-        ensures full { IfOk result (λ r. IsTrue r ↔ IsSomeAnd ((shown self.now).sections.held section) (λ u. 2 ^ 64 ≤ extent u.page_size (size_of (page_blob.shown u) + A.SIZE))) }
-        ensures guard { IsPruned result (shown self.now).sections.floor ↔ (section < (shown self.now).sections.floor) }
+        ensures full { IfOk result (λ r. IsTrue r ↔ IsSomeAnd
+            ((shown self.now).sections.held section)
+            (λ u. 2 ^ 64 ≤ extent u.page_size (size_of (page_blob.shown u) + A.SIZE))) }
+        ensures guard { IsPruned result (shown self.now).sections.floor
+            ↔ (section < (shown self.now).sections.floor) }
         ensures cause { OnErr result (IsPruned result (shown self.now).sections.floor) }
     {
         Ok(match self.manager.get(section)? {
@@ -59,7 +62,8 @@ impl<A: CodecFixed, S: Seal> Journal<A, S> {
         })
     }
 
-    /// Adds an item at the end of the section, which is made where it is not held. The answer has the item's position.
+    /// Adds an item at the end of the section, which is made where it is not held. The answer has the
+    /// item's position.
     ///
     /// `Full` says that the section's blob would pass the greatest `u64`.
     pub fn append<D: Device>(
@@ -89,8 +93,8 @@ impl<A: CodecFixed, S: Seal> Journal<A, S> {
         Ok((this, position))
     }
 
-    /// Adds bytes at the end of the section, a whole number of items, by one append of its buffer. The section is made where it is
-    /// not held. The answer has the position of the first item.
+    /// Adds bytes at the end of the section, a whole number of items, by one append of its buffer. The
+    /// section is made where it is not held. The answer has the position of the first item.
     ///
     /// `Full` says that the section's blob would pass the greatest `u64`.
     pub fn append_bytes<D: Device>(

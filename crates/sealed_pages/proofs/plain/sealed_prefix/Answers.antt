@@ -1,7 +1,6 @@
-use Rattle.std.proofs.Common.{◌≡◌, ◌+◌, ◌-◌, ◌*◌, ◌++◌, ◌∙◌, ℕ, List, ap, arith, take, drop, refl}
+use Rattle.std.proofs.Common.{◌≡◌, ◌+◌, ◌-◌, ◌*◌, ◌++◌, ◌∙◌, ℕ, List, ap, arith, refl}
 use Rattle.sealed_pages.specs.SealedPrefix.{pages_in, sealed_from}
-use Rattle.sealed_pages.specs.View.{page_at}
-use Rattle.sealed_pages.proofs.PlainLemmas.{page_place, data_within, prefix_ends, prefix_goes_on, prefix_whole, prefix_done}
+use Rattle.sealed_pages.proofs.PlainLemmas.{page_place, page_begins, taken, data_within, prefix_ends, prefix_goes_on, prefix_whole, prefix_done}
 use Rattle.sealed_pages.proofs.plain.sealed_prefix.Goals as goal
 
 pub pages-init : goal.pages-init
@@ -20,21 +19,17 @@ slice_bounds-part-end g c =
 
 pub returns-then-len-size : goal.returns-then-len-size
 returns-then-len-size g c =
-    let start : ℕ = c.pages.page * (c.from-size.result + 12) in
-    let short : c.pages.page * (c.from-size.result + 12) + c.page_len-len.result - c.pages.page * (c.from-size.result + 12) ≡ c.page_len-len.result = omega arith in
-    let at : c.pages.page * (c.from-size.result + 12) ≡ page_at c.args.page_size c.pages.page = ap (λ (n : ℕ). c.pages.page * (n + 12)) c.from-size.ensures ∙ page_place c.args.page_size c.pages.page in
     c.in_ok-extend_from_slice.ensures.items
-    ∙ prefix_ends g.S.Seal.seal_of c.args.page_size c.args.bytes.now c.pages.page c.pages.prefix.items _ _ c.page_len-len.result start (pages_in c.args.page_size c.args.bytes.now - c.pages.page)
-    (omega (arith, c.pages-test.true, c.page_count-count.ensures)) c.page_len-len.ensures at (ap (λ (n : ℕ). take n (drop start c.args.bytes.now)) short) refl c.pages.invariant (omega (arith, c.if-len-size.true, c.from-size.ensures))
+    ∙ prefix_ends g.S.Seal.seal_of c.args.page_size c.args.bytes.now c.pages.page c.pages.prefix.items _ _ c.page_len-len.result _ (pages_in c.args.page_size c.args.bytes.now - c.pages.page)
+    (omega (arith, c.pages-test.true, c.page_count-count.ensures)) c.page_len-len.ensures (page_begins c.args.page_size c.from-size.result c.pages.page c.from-size.ensures)
+    (taken c.args.bytes.now (c.pages.page * (c.from-size.result + 12)) c.page_len-len.result) refl c.pages.invariant (omega (arith, c.if-len-size.true, c.from-size.ensures))
 
 pub pages-preserved : goal.pages-preserved
 pages-preserved g c =
-    let start : ℕ = c.pages.page * (c.from-size.result + 12) in
-    let short : c.pages.page * (c.from-size.result + 12) + c.page_len-len.result - c.pages.page * (c.from-size.result + 12) ≡ c.page_len-len.result = omega arith in
-    let at : c.pages.page * (c.from-size.result + 12) ≡ page_at c.args.page_size c.pages.page = ap (λ (n : ℕ). c.pages.page * (n + 12)) c.from-size.ensures ∙ page_place c.args.page_size c.pages.page in
     ap (λ (l : List ℕ). l ++ sealed_from g.S.Seal.seal_of c.args.page_size c.args.bytes.now (c.pages.page + 1) (pages_in c.args.page_size c.args.bytes.now - (c.pages.page + 1))) c.in_ok-extend_from_slice.ensures.items
-    ∙ prefix_goes_on g.S.Seal.seal_of c.args.page_size c.args.bytes.now c.pages.page c.pages.prefix.items _ _ c.page_len-len.result start (pages_in c.args.page_size c.args.bytes.now - c.pages.page)
-    (omega (arith, c.pages-test.true, c.page_count-count.ensures)) c.page_len-len.ensures at (ap (λ (n : ℕ). take n (drop start c.args.bytes.now)) short) refl c.pages.invariant (omega (arith, c.if-len-size.false, c.from-size.ensures))
+    ∙ prefix_goes_on g.S.Seal.seal_of c.args.page_size c.args.bytes.now c.pages.page c.pages.prefix.items _ _ c.page_len-len.result _ (pages_in c.args.page_size c.args.bytes.now - c.pages.page)
+    (omega (arith, c.pages-test.true, c.page_count-count.ensures)) c.page_len-len.ensures (page_begins c.args.page_size c.from-size.result c.pages.page c.from-size.ensures)
+    (taken c.args.bytes.now (c.pages.page * (c.from-size.result + 12)) c.page_len-len.result) refl c.pages.invariant (omega (arith, c.if-len-size.false, c.from-size.ensures))
 
 pub returns : goal.returns
 returns g c = prefix_done g.S.Seal.seal_of c.args.page_size c.args.bytes.now c.pages.prefix.items _ c.pages.page (omega (arith, c.pages-test.false, c.page_count-count.ensures)) c.pages.invariant

@@ -6,13 +6,13 @@ use Rattle.sealed_pages.proofs.reading.find_last.Given as goal
 
 abbrev pub invariant-back : goal.invariant-back
 invariant-back g l = record {
-  low : l.page ≤ l.end / (l.page_size + 12) + 1;
+  low : l.page ≤ l.blob.end / (l.blob.page_size + 12) + 1;
   few : l.page ≤ l.initial.page;
-  buf : length l.buf ≡ l.page_size + 12;
+  buf : length l.buf ≡ l.blob.page_size + 12;
   faults : g.D.Device.faults l.initial.dev ≤ g.D.Device.faults l.dev;
-  entries : OnlyRead (l.partition, l.name) (g.D.Device.opened l.initial.dev) (g.D.Device.opened l.dev);
+  entries : OnlyRead (l.blob.partition.now, l.blob.name.now) (g.D.Device.opened l.initial.dev) (g.D.Device.opened l.dev);
   unchanged : g.D.Device.Tells → Unchanged (g.D.Device.time l.initial.dev) (g.D.Device.time l.dev);
-  none : g.D.Device.Tells → size_below g.S.Seal.seal_of l.page_size (disk (g.D.Device.time l.initial.dev) (l.partition, l.name)).content l.page ≡ adopted_size g.S.Seal.seal_of l.page_size (disk (g.D.Device.time l.initial.dev) (l.partition, l.name)).content;
+  none : g.D.Device.Tells → size_below g.S.Seal.seal_of l.blob.page_size (disk (g.D.Device.time l.initial.dev) (l.blob.partition.now, l.blob.name.now)).content l.page ≡ adopted_size g.S.Seal.seal_of l.blob.page_size (disk (g.D.Device.time l.initial.dev) (l.blob.partition.now, l.blob.name.now)).content;
 }
 
 abbrev pub decreases-back : goal.decreases-back

@@ -6,7 +6,7 @@ use Rattle.blob_device.proofs.Moments.{always_now}
 use Rattle.sealed_pages.specs.Entries.{IsOpenAt}
 use Rattle.sealed_pages.specs.unsealed.Writing.{WriteBuffer, blob_key, Over}
 use Rattle.sealed_pages.specs.unsealed.Writing as writing
-use Rattle.sealed_pages.proofs.Looking.{content_length}
+use Rattle.sealed_pages.proofs.looking.Looking.{content_length}
 use Rattle.section_manager.specs.Entries.{OnlyOwnEntry}
 use Rattle.section_manager.specs.managing.Managed.{shown}
 use Rattle.section_manager.specs.Sections.{key_of}

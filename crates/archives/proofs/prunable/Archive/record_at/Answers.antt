@@ -1,7 +1,7 @@
 use Rattle.std.proofs.Common.{inl, inr, ap, Err}
 use Rattle.blob_device.specs.Timeline.{disk}
 use Rattle.blob_device.proofs.Results.{err_of}
-use Rattle.sealed_pages.proofs.Looking.{unchanged_now}
+use Rattle.sealed_pages.proofs.looking.Looking.{unchanged_now}
 use Rattle.section_manager.specs.Refusing as segments
 use Rattle.section_manager.specs.Sections.{section_key}
 use Rattle.paired.proofs.pair.Reads.{may_read}

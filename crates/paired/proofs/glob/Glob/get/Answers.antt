@@ -3,7 +3,7 @@ use Rattle.blob_device.specs.Timeline.{disk}
 use Rattle.blob_device.specs.Disk.{Key}
 use Rattle.blob_device.proofs.Results.{err_of}
 use Rattle.sealed_pages.specs.Entries.{ReadsAtMost}
-use Rattle.sealed_pages.proofs.Looking.{unchanged_now}
+use Rattle.sealed_pages.proofs.looking.Looking.{unchanged_now}
 use Rattle.section_manager.specs.managing.Managed.{shown}
 use Rattle.section_manager.specs.Raised.{raised_codec}
 use Rattle.paired.specs.Frames.{HasFrame}

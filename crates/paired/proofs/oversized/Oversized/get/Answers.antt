@@ -1,6 +1,6 @@
 use Rattle.std.proofs.Common.{◌≡◌, ◌+◌, ◌/◌, inl, inr, false, ap, arith}
 use Rattle.blob_device.specs.Timeline.{disk}
-use Rattle.sealed_pages.proofs.Looking.{unchanged_now}
+use Rattle.sealed_pages.proofs.looking.Looking.{unchanged_now}
 use Rattle.section_manager.specs.Sections.{key_of}
 use Rattle.segments.specs.FixedItems.{item_at}
 use Rattle.segments.specs.FixedLists as fixed

@@ -1,6 +1,6 @@
 use Rattle.std.proofs.Common.{arith}
 use Rattle.blob_device.specs.Timeline.{disk}
-use Rattle.sealed_pages.proofs.Looking.{unchanged_now}
+use Rattle.sealed_pages.proofs.looking.Looking.{unchanged_now}
 use Rattle.paired.specs.glob.Sections as glob
 use Rattle.paired.specs.PairShown.{shown}
 use Rattle.paired.proofs.pair.Reads.{held_by, from_floor, sound_entry, frame_held, frame_not_beyond, frame_not_short, gives_value, pair_read}

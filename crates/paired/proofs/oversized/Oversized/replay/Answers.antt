@@ -39,7 +39,7 @@ returns-clause-over g c =
           checked = ap (λ (j : Lists (AppendFactory g.row.S.Denot) (PageBlob g.row.S.Denot g.S.Seal)). j.unrecovered s) c.in_ok-index.ensures.begins.journal ∙ was.whole.recovered s;
           free = ap (λ (j : Lists (AppendFactory g.row.S.Denot) (PageBlob g.row.S.Denot g.S.Seal)). j.floor_of s) c.in_ok-index.ensures.begins.journal ∙ was.whole.unfloored s;
         };
-        ends = λ s. ap (λ (es : List (ℕ × ℕ)). lookup (is_at (nat_cmp s)) es) c.new.ensures.empty;
+        ends = λ s. (c.none.ensures s).0;
         goes_on = refl;
       };
     }

@@ -3,7 +3,7 @@ use Rattle.blob_device.specs.Timeline.{disk}
 use Rattle.blob_device.specs.declared.runtime.RError.TheVariants.{InvalidChecksum}
 use Rattle.sealed_pages.specs.Buffer.{size_of}
 use Rattle.sealed_pages.specs.Shown as page_blob
-use Rattle.sealed_pages.proofs.Looking.{unchanged_start, unchanged_now}
+use Rattle.sealed_pages.proofs.looking.Looking.{unchanged_start, unchanged_now}
 use Rattle.blob_device.proofs.Results.{err_of}
 use Rattle.section_manager.specs.declared.journal.Error.TheVariants.{AlreadyPrunedToSection, Runtime, Codec, OffsetOverflow}
 use Rattle.section_manager.specs.declared.journal.Error.{Error}

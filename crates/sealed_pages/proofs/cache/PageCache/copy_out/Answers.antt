@@ -1,10 +1,10 @@
-use Rattle.std.proofs.Common.{rules, ◌≡◌, ◌≤◌, ◌<◌, ◌+◌, ◌-◌, ◌*◌, ◌∙◌, min, ℕ, length, ap, sym, arith}
+use Rattle.std.proofs.Common.{rules, ◌≡◌, ◌<◌, ◌+◌, ◌-◌, ◌*◌, ◌∙◌, min, length, ap, sym, arith}
 use borrow.Rule.Slice.PartMut.{put_mid}
 use Rattle.std.proofs.Math.Nat.{le-mul_of_pos_right}
 use Rattle.sealed_pages.specs.SealedPrefix.{place}
-use Rattle.sealed_pages.specs.View.{view, page_at}
-use Rattle.sealed_pages.proofs.Adopt.{place_in}
-use Rattle.sealed_pages.proofs.ReadLemmas.{filled, step_next}
+use Rattle.sealed_pages.specs.View.{view}
+use Rattle.sealed_pages.proofs.adopted.Adopt.{place_in}
+use Rattle.sealed_pages.proofs.looking.ReadLemmas.{filled, step_next}
 use Rattle.sealed_pages.proofs.cache.PageCache.copy_out.Goals as goal
 
 pub copy_part-requires-clause-held : goal.copy_part-requires-clause-held

@@ -1,5 +1,5 @@
-use Rattle.std.proofs.Common.{rules, ◌≡◌, ◌+◌, ◌-◌, ◌∙◌, ℕ, length, get_or, take, drop, ap, sym, arith}
-use Rattle.sealed_pages.proofs.CacheLemmas.{found_some, found_bytes, found_has}
+use Rattle.std.proofs.Common.{◌≡◌, ◌+◌, ◌-◌, ◌∙◌, length, get_or, take, drop, ap, sym, arith}
+use Rattle.sealed_pages.proofs.memory.CacheLemmas.{found_some, found_bytes, found_has}
 use Rattle.sealed_pages.specs.Cached.{held_in}
 use Rattle.sealed_pages.proofs.cache.PageCache.copy_part.Goals as goal
 

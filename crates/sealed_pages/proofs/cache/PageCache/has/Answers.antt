@@ -1,6 +1,6 @@
 use Rattle.std.proofs.Common.{◌∙◌, sym}
 use Rattle.sealed_pages.specs.Cached.{held_in}
-use Rattle.sealed_pages.proofs.CacheLemmas.{found_any}
+use Rattle.sealed_pages.proofs.memory.CacheLemmas.{found_any}
 use Rattle.sealed_pages.proofs.cache.PageCache.has.Goals as goal
 
 pub returns : goal.returns

@@ -1,5 +1,5 @@
 use Rattle.std.proofs.Common.{◌∙◌, Some, None, ap}
-use Rattle.sealed_pages.proofs.CacheLemmas.{found_in}
+use Rattle.sealed_pages.proofs.memory.CacheLemmas.{found_in}
 use Rattle.sealed_pages.proofs.cache.PageCache.page.Goals as goal
 
 pub returns-in-None-peek : goal.returns-in-None-peek

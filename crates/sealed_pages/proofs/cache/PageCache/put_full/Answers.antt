@@ -1,42 +1,41 @@
-use Rattle.std.proofs.Common.{rules, ◌≡◌, ◌≤◌, ◌+◌, ◌-◌, ◌*◌, ◌/◌, ◌++◌, ◌∷◌, ◌∙◌, ℕ, List, length, take, drop, ap, refl, sym, subst, arith, length-take, length-drop}
-use Rattle.std.proofs.lemmas.List.{take_all}
+use Rattle.std.proofs.Common.{rules, ◌≡◌, ◌≤◌, ◌<◌, ◌^◌, ◌+◌, ◌-◌, ◌*◌, ◌/◌, ◌∙◌, ℕ, List, length, take, drop, ap, subst, arith}
 use Rattle.std.proofs.Math.Nat.{div-mul-le_self, mul-le-mul_right}
-use Rattle.sealed_pages.specs.Cached.{held_in, full_pages, AreFull}
-use Rattle.sealed_pages.proofs.CacheLemmas.{held_few, full_next, put_next, slice_page}
-use Rattle.sealed_pages.proofs.SlotLemmas.{times_next}
+use Rattle.sealed_pages.specs.Cached.{PutsFull}
+use Rattle.sealed_pages.proofs.memory.CacheLemmas.{full_later, last_count, puts_last}
+use Rattle.sealed_pages.proofs.slots.PageCalls.{rest_whole}
+use Rattle.sealed_pages.proofs.cutting.Truncating.{map_ok}
 use Rattle.sealed_pages.proofs.cache.PageCache.put_full.Goals as goal
+use Rattle.sealed_pages.proofs.cache.PageCache.put_full.Goals.{After-saturating_sub-skip}
 
-pub pages-init : goal.pages-init
-pages-init c = record {
-  upto = omega arith;
-  most = refl;
-  pages = sym (take_all c.args.self.most (held_in c.args.self) (held_few c.args.self.pages c.args.self.most c.args.self.bound));
-}
+-- how many of the pages go at once
+skipped : (c : After-saturating_sub-skip) → c.saturating_sub-skip.result ≡ length c.args.bytes.now / c.args.page_size - c.args.self.most
+skipped c = c.saturating_sub-skip.ensures ∙ ap (λ (n : ℕ). length c.args.bytes.now / n - c.args.self.most) c.from-size.ensures
 
-pub put-requires : goal.put-requires
-put-requires c =
-    let size : c.from-size.result ≡ c.args.page_size = c.from-size.ensures in
-    let part = slice_page c.args.page_size c.from-size.result c.pages.i c.args.bytes.now size in
-    let more : c.pages.i + 1 ≤ length c.args.bytes.now / c.from-size.result = omega (arith, c.pages-test.true) in
-    let long : (c.pages.i + 1) * c.args.page_size ≤ length c.args.bytes.now = omega (arith, mul-le-mul_right c.args.page_size more, div-mul-le_self (length c.args.bytes.now) c.from-size.result, ap (λ (n : ℕ). length c.args.bytes.now / c.from-size.result * n) size) in
-    let wide : length (take c.args.page_size (drop (c.pages.i * c.args.page_size) c.args.bytes.now)) ≡ c.args.page_size = omega (arith, length-take c.args.page_size (drop (c.pages.i * c.args.page_size) c.args.bytes.now), length-drop (c.pages.i * c.args.page_size) c.args.bytes.now, long, times_next c.pages.i c.args.page_size) in
-    let few : c.pages.i * c.args.page_size ≤ length c.args.bytes.now = omega (arith, long, times_next c.pages.i c.args.page_size) in
-    subst (λ (l : List ℕ). AreFull (length l) (c.args.first + c.pages.i) (held_in c.pages.this)) (sym part)
-    (subst (λ (n : ℕ). AreFull n (c.args.first + c.pages.i) (held_in c.pages.this)) (sym wide)
-    (subst (AreFull c.args.page_size (c.args.first + c.pages.i)) (sym c.pages.invariant.pages) (full_next c.args.page_size c.args.first c.pages.i c.args.self.most c.args.bytes.now (held_in c.args.self) few c.requires.before)))
+-- the bytes behind them
+behind : (c : After-saturating_sub-skip) → take (length c.args.bytes.now - c.saturating_sub-skip.result * c.from-size.result) (drop (c.saturating_sub-skip.result * c.from-size.result) c.args.bytes.now)
+    ≡ drop (c.saturating_sub-skip.result * c.args.page_size) c.args.bytes.now
+behind c = rest_whole (c.saturating_sub-skip.result * c.from-size.result) c.args.bytes.now ∙ ap (λ (n : ℕ). drop (c.saturating_sub-skip.result * n) c.args.bytes.now) c.from-size.ensures
 
-pub pages-preserved : goal.pages-preserved
-pages-preserved c = record {
-  upto = omega (arith, c.pages-test.true);
-  most = c.in_ok-this.ensures.most ∙ c.pages.invariant.most;
-  pages = c.in_ok-this.ensures.pages ∙ ap (λ (m : ℕ). take m ((c.args.first + c.pages.i, take (c.pages.i * c.from-size.result + c.from-size.result - c.pages.i * c.from-size.result) (drop (c.pages.i * c.from-size.result) c.args.bytes.now)) ∷ held_in c.pages.this)) c.pages.invariant.most
-      ∙ put_next c.args.page_size c.args.first c.pages.i c.args.self.most c.args.bytes.now _ (held_in c.args.self) (held_in c.pages.this) c.pages.invariant.pages (slice_page c.args.page_size c.from-size.result c.pages.i c.args.bytes.now c.from-size.ensures);
-}
+pub overflow_mul-skip : goal.overflow_mul-skip
+overflow_mul-skip c =
+    let few : c.saturating_sub-skip.result ≤ length c.args.bytes.now / c.from-size.result = omega (arith, c.saturating_sub-skip.ensures) in
+    let long : length c.args.bytes.now < 2 ^ 64 = search rules in
+    omega (arith, mul-le-mul_right c.from-size.result few, div-mul-le_self (length c.args.bytes.now) c.from-size.result, long)
 
-pub returns-clause-most : goal.returns-clause-most
-returns-clause-most c = c.pages.invariant.most
+pub overflow_add-first : goal.overflow_add-first
+overflow_add-first c = omega (arith, skipped c, c.requires.fits)
 
-pub returns-clause-pages : goal.returns-clause-pages
-returns-clause-pages c =
-    let at : c.pages.i ≡ length c.args.bytes.now / c.from-size.result = omega (arith, c.pages.invariant.upto, c.pages-test.false) in
-    c.pages.invariant.pages ∙ ap (λ (n : ℕ). take c.args.self.most (full_pages c.args.page_size c.args.first n c.args.bytes.now ++ held_in c.args.self)) (at ∙ ap (λ (n : ℕ). length c.args.bytes.now / n) c.from-size.ensures)
+pub put_each-requires-clause-before : goal.put_each-requires-clause-before
+put_each-requires-clause-before c = full_later _ _ _ _ (omega arith) c.requires.before
+
+pub put_each-requires-clause-fits : goal.put_each-requires-clause-fits
+put_each-requires-clause-fits c = omega (
+  arith,
+  ap (λ (l : List ℕ). length l / c.args.page_size) (behind (goal.at.put_each-requires-clause-fits c).After-saturating_sub-skip),
+  last_count c.args.page_size c.saturating_sub-skip.result c.args.bytes.now c.requires.some (omega (arith, skipped (goal.at.put_each-requires-clause-fits c).After-saturating_sub-skip)),
+  c.requires.fits,
+)
+
+pub returns : goal.returns
+returns c = map_ok c.put_each.result _ (PutsFull c.args.page_size c.args.first c.args.bytes.now c.args.self)
+    (λ v last. puts_last c.args.page_size c.args.first c.saturating_sub-skip.result c.args.bytes.now c.args.self v c.requires.some (skipped (goal.at.returns c).After-saturating_sub-skip) (subst (λ (l : List ℕ). PutsFull c.args.page_size (c.args.first + c.saturating_sub-skip.result) l c.args.self v) (behind (goal.at.returns c).After-saturating_sub-skip) last)) c.put_each.ensures

@@ -1,39 +1,12 @@
-use Rattle.sealed_pages.proofs.Truncating.{no_value}
-use Rattle.std.proofs.Common.{length, subst, rules, refl, arith}
-use Rattle.blob_device.specs.Disk.{Blob}
-use Rattle.sealed_pages.specs.Reads.{IsTailShort}
+use Rattle.std.proofs.Common.{Err, ap}
+use Rattle.sealed_pages.proofs.OpenedReads.{tail_unopened, tail_opened}
+use Rattle.sealed_pages.proofs.cutting.Truncating.{raised_cause}
 use Rattle.sealed_pages.proofs.page_blob.PageBlob.read_tail.Goals as goal
 
 pub returns-in_err-end : goal.returns-in_err-end
 returns-in_err-end g c =
-    record {
-      size = λ t. no_value _ _ c.from_residual.ensures.0;
-      within = no_value _ _ c.from_residual.ensures.0;
-      bytes = λ t. no_value _ _ c.from_residual.ensures.0;
-      checked = λ t. no_value _ _ c.from_residual.ensures.0;
-      checksum = search rules;
-      short = search rules;
-      past = search rules;
-      settles = search rules;
-      entries = search rules;
-      length = search rules;
-      faults = search rules;
-      cause = search rules;
-    }
+    tail_unopened g.D.Device g.S.Seal.seal_of c.args.page_size (c.args.partition.now, c.args.name.now) c.args.dev.now c.open_again.new.dev c.args.buf.now c.args.buf.now c.open_again.result c.from_residual.result c.open_again.ensures c.from_residual.ensures.0
+    (raised_cause c.from_residual.result c.in_err-end.field-0.0 (g.D.Device.faults c.args.dev.now) (g.D.Device.faults c.open_again.new.dev) c.from_residual.ensures.1 (λ is. c.in_err-end.ensures.cause (ap Err is)))
 
 pub returns : goal.returns
-returns g c =
-    record {
-      size = search rules;
-      within = search rules;
-      bytes = search rules;
-      checked = search rules;
-      checksum = λ t p e. subst (λ (b : Blob). IsTailShort g.S.Seal.seal_of c.args.page_size b.content (length c.args.buf.now) p) (c.in_ok-end.ensures.settled t) (c.read_last.ensures.checksum t p e);
-      short = search rules;
-      past = search rules;
-      settles = search rules;
-      entries = search rules;
-      length = search rules;
-      faults = search rules;
-      cause = search rules;
-    }
+returns g c = tail_opened g.D.Device g.S.Seal.seal_of c.args.page_size (c.args.partition.now, c.args.name.now) c.args.dev.now c.open_again.new.dev c.args.buf.now c.read_last.new.buf c.read_last.new.dev c.in_ok-end.end c.in_ok-end.ensures c.read_last.result c.read_last.ensures

@@ -1,4 +1,4 @@
-use Rattle.std.proofs.Common.{◌≡◌, ◌+◌, ◌*◌, ◌/◌, ◌%◌, ◌<◌, ◌≤◌, ◌∙◌, min, ap, sym, subst, refl, ℕ, [], length, arith, inl, inr, Ok, Err, ◌⊎◌}
+use Rattle.std.proofs.Common.{◌≡◌, ◌+◌, ◌*◌, ◌/◌, ◌%◌, ◌<◌, ◌≤◌, ◌∙◌, ap, sym, subst, refl, ℕ, [], arith, inr, Err, ◌⊎◌}
 use Rattle.std.specs.Prelude.{IfOk, OnErr}
 use Rattle.std.proofs.lemmas.List.{take_all}
 use Rattle.blob_device.specs.Disk.{Key}
@@ -14,11 +14,11 @@ use Rattle.sealed_pages.specs.Slots.{page_length}
 use Rattle.sealed_pages.specs.Reading.{Unchanged}
 use Rattle.sealed_pages.proofs.cutting.Calls.{sealing_less}
 use Rattle.sealed_pages.proofs.cutting.Entries.{few_none, few_then, then_few}
-use Rattle.sealed_pages.proofs.Holding.{holds_start, bytes_length}
-use Rattle.sealed_pages.proofs.PageCalls.{alone_start}
-use Rattle.sealed_pages.proofs.Truncating.{no_value, as_of, cut_place, both_ok, page_named, not_named, rose_since}
-use Rattle.sealed_pages.proofs.TruncateEnds as ends
-use Rattle.sealed_pages.proofs.TruncateEnds.{SyncedCut, IsCut, placed, is_cut, cut_as, cut_open, failed_since, cause_since, caused, page_around, few_start, no_page, no_recovery, ok_of}
+use Rattle.sealed_pages.proofs.memory.Holding.{holds_start, bytes_length}
+use Rattle.sealed_pages.proofs.slots.PageCalls.{alone_start}
+use Rattle.sealed_pages.proofs.cutting.Truncating.{no_value, as_of, both_ok, page_named, not_named, rose_since}
+use Rattle.sealed_pages.proofs.cutting.TruncateEnds as ends
+use Rattle.sealed_pages.proofs.cutting.TruncateEnds.{SyncedCut, IsCut, placed, is_cut, cut_as, cut_open, failed_since, cause_since, caused, page_around, few_start, no_page, no_recovery, ok_of}
 use Rattle.sealed_pages.proofs.UnrecoveredLemmas.{stood_keeps, keeps_sealing}
 use Rattle.sealed_pages.proofs.page_blob.PageBlob.truncate.Given as given
 use Rattle.sealed_pages.proofs.page_blob.PageBlob.truncate.Goals as goal

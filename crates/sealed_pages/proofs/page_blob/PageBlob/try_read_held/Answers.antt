@@ -1,14 +1,13 @@
-use Rattle.sealed_pages.proofs.Holding.{fit_size}
+use Rattle.sealed_pages.proofs.memory.Holding.{fit_size}
 use Rattle.sealed_pages.specs.Buffer.{bytes_of}
-use Rattle.std.proofs.Common.{rules, ◌≡◌, ◌≤◌, ◌<◌, ◌+◌, ◌-◌, ◌*◌, ◌++◌, ◌∙◌, ℕ, List, length, take, drop, length-take, length-drop, refl, ap, sym, subst, arith, true, false, Bool, Result, Ok, Err, is_ok}
+use Rattle.std.proofs.Common.{rules, ◌≡◌, ◌≤◌, ◌<◌, ◌+◌, ◌-◌, ◌*◌, ◌++◌, ◌∙◌, ℕ, List, length, take, drop, length-take, length-drop, refl, ap, arith, false, Bool, Result, Ok, Err}
 use Rattle.std.specs.Prelude.{OnOk}
 use Rattle.std.specs.Result.{is_err}
-use Rattle.sealed_pages.specs.Reads.{below}
 use Rattle.sealed_pages.specs.Shown.{shown}
 use Rattle.sealed_pages.specs.View.{view}
-use Rattle.sealed_pages.proofs.CacheLemmas.{full_whole}
-use Rattle.sealed_pages.proofs.HeldLemmas.{held_from, held_to, held_fits}
-use Rattle.sealed_pages.proofs.ReadLemmas.{read_whole, put_tail, front_of, none_taken, refused_range}
+use Rattle.sealed_pages.proofs.memory.CacheLemmas.{full_whole}
+use Rattle.sealed_pages.proofs.memory.HeldLemmas.{held_to, held_fits}
+use Rattle.sealed_pages.proofs.looking.ReadLemmas.{read_whole, put_tail, front_of, none_taken, refused_range}
 use Rattle.sealed_pages.proofs.page_blob.PageBlob.try_read_held.Goals as goal
 
 in_range : {T E : Type 0} (r : Result T E) (b : Bool) {A : Type 0} → b ≡ is_err r → b ≡ false → OnOk r A → A

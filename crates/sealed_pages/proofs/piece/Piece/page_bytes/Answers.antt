@@ -1,6 +1,6 @@
 use Rattle.std.proofs.Common.{◌+◌, ◌-◌, ◌*◌, ◌∙◌, ℕ, List, length, take, drop, length-take, length-drop, ap, arith}
 use Rattle.sealed_pages.specs.Reading.{page_of}
-use Rattle.sealed_pages.proofs.PieceLemmas.{page_slice}
+use Rattle.sealed_pages.proofs.looking.PieceLemmas.{page_slice}
 use Rattle.sealed_pages.proofs.piece.Piece.page_bytes.Goals as goal
 
 pub returns : goal.returns

@@ -1,16 +1,26 @@
 use Rattle.std.proofs.lemmas.Grind.{common_steps}
-use Rattle.std.proofs.Common.{rules, ◌≡◌, ◌<◌, ◌+◌, ◌-◌, ◌∙◌, inl, inr, ℕ, List, refl, length, length-drop, ap, sym, subst, arith}
+use Rattle.std.proofs.Common.{rules, ◌≡◌, ◌<◌, ◌+◌, ◌-◌, inl, inr, ℕ, List, refl, length, length-drop, ap, sym, subst, arith}
 use Rattle.std.proofs.lemmas.Result.{err_from_is_err_and}
 use Rattle.blob_device.specs.Disk.{Key}
 use Rattle.blob_device.specs.Timeline.{disk}
 use Rattle.sealed_pages.specs.Entries.{IsOpenAt, ReadsAtMost}
 use Rattle.sealed_pages.specs.Readers.{Reader, ReadsUnread, reading, next_of, missing_of, IsReplayOf, SameReader}
 use Rattle.sealed_pages.specs.Reads.{IsWanted, IsShort}
-use Rattle.sealed_pages.proofs.Looking.{unchanged_start, unchanged_now, unchanged_then}
-use Rattle.sealed_pages.proofs.ReadLemmas.{same_error}
-use Rattle.sealed_pages.proofs.Truncating.{no_value}
-use Rattle.sealed_pages.proofs.ReplayLemmas.{page_reads_next, page_reads_last, page_reads_start, unread_then, wanted_all, short_all, same_then}
+use Rattle.sealed_pages.proofs.looking.Looking.{unchanged_start, unchanged_now, unchanged_then}
+use Rattle.sealed_pages.proofs.looking.ReadLemmas.{same_error}
+use Rattle.sealed_pages.proofs.cutting.Truncating.{no_value}
+use Rattle.sealed_pages.proofs.looking.ReplayLemmas.{page_reads_next, page_reads_last, page_reads_start, unread_then, wanted_all, short_all, same_then}
+use Rattle.sealed_pages.proofs.replay.PageReplay.ensure.Given as given
+use Rattle.sealed_pages.proofs.replay.PageReplay.ensure.Goals.{After-fetch}
 use Rattle.sealed_pages.proofs.replay.PageReplay.ensure.Goals as goal
+
+-- the blob's content stays
+stays : (g : given.Over) (c : After-fetch g) → g.D.Device.Tells → (disk (g.D.Device.time c.fill.dev) (reading c.fill.self).key).content ≡ (disk (g.D.Device.time c.args.dev.now) (reading c.args.self.now).key).content
+stays g c t = λ j. (unchanged_now (g.D.Device.time c.args.dev.now) (g.D.Device.time c.fill.dev) (c.fill.invariant.unchanged t) j (c.fill.invariant.same.key j)).content
+
+-- what is at hand is as in the blob
+replays : (g : given.Over) (c : After-fetch g) → g.D.Device.Tells → IsReplayOf g.S.Seal.seal_of (disk (g.D.Device.time c.args.dev.now) (reading c.args.self.now).key).content (reading c.args.self.now) → IsReplayOf g.S.Seal.seal_of (disk (g.D.Device.time c.args.dev.now) (reading c.args.self.now).key).content (reading c.fetch.new.self)
+replays g c t is = subst (λ (l : List ℕ). IsReplayOf g.S.Seal.seal_of l (reading c.fill.self) → IsReplayOf g.S.Seal.seal_of l (reading c.fetch.new.self)) (stays g c t) (c.fetch.ensures.replays t) (c.fill.invariant.replays t is)
 
 pub fill-preserved : goal.fill-preserved
 fill-preserved g c =
@@ -20,10 +30,7 @@ fill-preserved g c =
       have_is = c.remaining-have-in-fill.ensures;
       same = same_then (reading c.args.self.now) (reading c.fill.self) (reading c.fetch.new.self) c.fill.invariant.same c.in_ok-fetch.ensures.same;
       grows = omega (arith, c.fill.invariant.grows, further, c.in_ok-fetch.ensures.same.at);
-      replays = λ t is.
-          let disks : disk (g.D.Device.time c.fill.dev) ≡ disk (g.D.Device.time c.args.dev.now) = unchanged_now (g.D.Device.time c.args.dev.now) (g.D.Device.time c.fill.dev) (c.fill.invariant.unchanged t) in
-          let same : (disk (g.D.Device.time c.fill.dev) (reading c.fill.self).key).content ≡ (disk (g.D.Device.time c.args.dev.now) (reading c.args.self.now).key).content = λ j. (disks j (key j)).content in
-          subst (λ (l : List ℕ). IsReplayOf g.S.Seal.seal_of l (reading c.fetch.new.self)) same (c.in_ok-fetch.ensures.replays t (subst (λ (l : List ℕ). IsReplayOf g.S.Seal.seal_of l (reading c.fill.self)) (sym same) (c.fill.invariant.replays t is)));
+      replays = replays g (goal.at.fill-preserved g c).After-fetch;
       reads = page_reads_next c.args.self.now.page_size (next_of (reading c.args.self.now)) (missing_of (reading c.args.self.now) c.args.n) (next_of (reading c.fill.self)) (c.args.self.now.at + c.min-want.result) (reading c.args.self.now).key
           (g.D.Device.opened c.args.dev.now) (g.D.Device.opened c.fill.dev) (g.D.Device.opened c.fetch.new.dev) c.args.self.now.some
           (omega (arith, c.fill-test.true, c.min-want.ensures, c.fill.invariant.have_is, c.fill.invariant.grows)) (omega (arith, c.fill.invariant.grows, c.fill.invariant.same.at)) (omega (arith, c.fill-test.true, c.fill.invariant.have_is, c.fill.invariant.same.at)) c.fill.invariant.reads
@@ -66,17 +73,12 @@ returns-in_err-fetch g c =
       within = omega (arith, c.fetch.new.self.inside, length-drop c.fetch.new.self.used c.fetch.new.self.held.items);
       same = same;
       grows = omega (arith, ap (λ (l : List ℕ). length l) c.in_err-fetch.ensures.stays, c.fill.invariant.grows);
-      replays = λ t is.
-          let disks : disk (g.D.Device.time c.fill.dev) ≡ disk (g.D.Device.time c.args.dev.now) = unchanged_now (g.D.Device.time c.args.dev.now) (g.D.Device.time c.fill.dev) (c.fill.invariant.unchanged t) in
-          let same : (disk (g.D.Device.time c.fill.dev) (reading c.fill.self).key).content ≡ (disk (g.D.Device.time c.args.dev.now) (reading c.args.self.now).key).content = λ j. (disks j (c.fill.invariant.same.key j)).content in
-          subst (λ (l : List ℕ). IsReplayOf g.S.Seal.seal_of l (reading c.fetch.new.self)) same (c.fetch.ensures.replays t (subst (λ (l : List ℕ). IsReplayOf g.S.Seal.seal_of l (reading c.fill.self)) (sym same) (c.fill.invariant.replays t is)));
+      replays = replays g (goal.at.returns-in_err-fetch g c).After-fetch;
       checksum = λ t is p e.
-          let disks : disk (g.D.Device.time c.fill.dev) ≡ disk (g.D.Device.time c.args.dev.now) = unchanged_now (g.D.Device.time c.args.dev.now) (g.D.Device.time c.fill.dev) (c.fill.invariant.unchanged t) in
-          let same : (disk (g.D.Device.time c.fill.dev) (reading c.fill.self).key).content ≡ (disk (g.D.Device.time c.args.dev.now) (reading c.args.self.now).key).content = λ j. (disks j (c.fill.invariant.same.key j)).content in
           let short : IsShort g.S.Seal.seal_of c.fill.self.page_size (disk (g.D.Device.time c.fill.dev) (reading c.fill.self).key).content (next_of (reading c.fill.self)) (c.args.self.now.at + c.min-want.result - next_of (reading c.fill.self)) p
-          = c.in_err-fetch.ensures.short t (subst (λ (l : List ℕ). IsReplayOf g.S.Seal.seal_of l (reading c.fill.self)) (sym same) (c.fill.invariant.replays t is)) p (same_error (rw (given.1, given.2) at e)) in
+          = c.in_err-fetch.ensures.short t (subst (λ (l : List ℕ). IsReplayOf g.S.Seal.seal_of l (reading c.fill.self)) (sym (stays g (goal.at.returns-in_err-fetch g c).After-fetch t)) (c.fill.invariant.replays t is)) p (same_error (rw (given.1, given.2) at e)) in
           short_all g.S.Seal.seal_of c.args.self.now.page_size (next_of (reading c.args.self.now)) (missing_of (reading c.args.self.now) c.args.n) (next_of (reading c.fill.self)) (c.args.self.now.at + c.min-want.result) p (disk (g.D.Device.time c.args.dev.now) (reading c.args.self.now).key).content (omega (arith, c.fill.invariant.grows, c.fill.invariant.same.at)) (omega (arith, c.fill-test.true, c.fill.invariant.have_is, c.fill.invariant.same.at)) (omega (arith, c.fill-test.true, c.min-want.ensures, c.fill.invariant.have_is, c.fill.invariant.grows))
-          (subst (λ (x : ℕ × List ℕ). IsShort g.S.Seal.seal_of x.0 x.1 (next_of (reading c.fill.self)) (c.args.self.now.at + c.min-want.result - next_of (reading c.fill.self)) p) (λ j. (c.fill.invariant.same.page_size j, same j)) short);
+          (subst (λ (x : ℕ × List ℕ). IsShort g.S.Seal.seal_of x.0 x.1 (next_of (reading c.fill.self)) (c.args.self.now.at + c.min-want.result - next_of (reading c.fill.self)) p) (λ j. (c.fill.invariant.same.page_size j, stays g (goal.at.returns-in_err-fetch g c).After-fetch t j)) short);
       unchanged = λ t. unchanged_then (g.D.Device.time c.args.dev.now) (g.D.Device.time c.fill.dev) (g.D.Device.time c.fetch.new.dev) (c.fill.invariant.unchanged t) (c.fetch.ensures.unchanged t);
       «open» = subst (λ (x : Key × ℕ). IsOpenAt (g.D.Device.opened c.fetch.new.dev) x.0 x.1) (λ j. (sym same.key j, sym same.end j))
           (reads.length (reading c.args.self.now).end c.requires);

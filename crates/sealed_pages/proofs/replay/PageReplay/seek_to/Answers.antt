@@ -1,6 +1,6 @@
 use Rattle.std.proofs.Common.{rules, ◌≡◌, length, drop, length-drop, arith}
 use Rattle.sealed_pages.specs.View.{view}
-use Rattle.sealed_pages.proofs.ReplayLemmas.{data_nil, covered_none}
+use Rattle.sealed_pages.proofs.looking.ReplayLemmas.{data_nil, covered_none}
 use Rattle.sealed_pages.proofs.replay.PageReplay.seek_to.Goals as goal
 
 pub returns-clause-replays : goal.returns-clause-replays

@@ -1,19 +1,23 @@
-use Rattle.sealed_pages.proofs.SparingLemmas.{sparing_start}
-use Rattle.sealed_pages.proofs.EntryLemmas.{no_reads_start, open_some}
-use Rattle.sealed_pages.proofs.Truncating.{no_value}
-use Rattle.std.proofs.Common.{◌∷◌, [], ℕ, List, get_or, ap, arith, rules, refl, inl, inr}
-use Rattle.blob_device.specs.Disk.{Outside}
+use Rattle.sealed_pages.proofs.cutting.Truncating.{no_value}
+use Rattle.std.proofs.Common.{ℕ, List, get_or, ap, rules}
 use Rattle.blob_device.specs.Timeline.{disk}
-use Rattle.sealed_pages.specs.unsealed.Writing.{WriteBuffer, shown, blob_key, run_of}
-use Rattle.sealed_pages.proofs.LastingLemmas.{keeping_of, keeping_now, kept_after, outside_none}
+use Rattle.sealed_pages.specs.unsealed.Writing.{WriteBuffer, shown, blob_key}
+use Rattle.sealed_pages.proofs.unsealed.LastingLemmas.{keeping_now, kept_after, outside_none}
+use Rattle.sealed_pages.proofs.unsealed.Sync.{FlushBy, flush_run, flush_lasts}
+use Rattle.sealed_pages.proofs.write_blob.WriteBlob.flush.Given as given
 use Rattle.sealed_pages.proofs.write_blob.WriteBlob.flush.Goals as goal
+use Rattle.sealed_pages.proofs.write_blob.WriteBlob.flush.Goals.{After-flushed}
+
+-- what has been done to the blob by then
+by_flush : (g : given.Over) (c : After-flushed g) → g.D.Device.Tells → FlushBy (shown c.args.self) (g.D.Device.time c.args.dev.now) (g.D.Device.time c.flushed.new.dev)
+by_flush g c t = flush_run g.D.Device t (shown c.args.self) c.args.dev.now c.flushed.new.dev shown c.flushed.result c.flushed.ensures
 
 pub returns-in_err-flushed : goal.returns-in_err-flushed
 returns-in_err-flushed g c =
     record {
       spares = c.in_err-flushed.ensures.spares;
       over = λ t h1. no_value _ _ c.from_residual.ensures.0;
-      lasts = λ t kept. keeping_of (shown c.args.self) (Outside (run_of (shown c.args.self) ∷ [])) c.args.self.settled c.args.self.settled (blob_key (shown c.args.self)) (g.D.Device.time c.args.dev.now) (g.D.Device.time c.flushed.new.dev) kept (omega arith) (omega arith) kept.apart (c.flushed.ensures.spares t);
+      lasts = λ t kept. flush_lasts (shown c.args.self) (g.D.Device.time c.args.dev.now) (g.D.Device.time c.flushed.new.dev) (by_flush g (goal.at.returns-in_err-flushed g c).After-flushed t) kept;
       kept = λ t h1. no_value _ _ c.from_residual.ensures.0;
       since = c.in_err-flushed.ensures.since;
       bytes = λ t. no_value _ _ c.from_residual.ensures.0;
@@ -30,13 +34,14 @@ returns-in_err-flushed g c =
 
 pub returns : goal.returns
 returns g c =
+    let lasts = λ (t : g.D.Device.Tells). flush_lasts (shown c.args.self) (g.D.Device.time c.args.dev.now) (g.D.Device.time c.flushed.new.dev) (by_flush g (goal.at.returns g c).After-flushed t) in
     record {
       spares = c.in_ok-flushed.ensures.spares;
       over = c.in_ok-flushed.ensures.over;
-      lasts = λ t kept. keeping_of (shown c.args.self) (Outside (run_of (shown c.args.self) ∷ [])) c.args.self.settled c.args.self.settled (blob_key (shown c.args.self)) (g.D.Device.time c.args.dev.now) (g.D.Device.time c.flushed.new.dev) kept (omega arith) (omega arith) kept.apart (c.flushed.ensures.spares t);
+      lasts = λ t kept. lasts t kept;
       kept = λ t kept.
           kept_after (shown c.args.self) (shown c.in_ok-flushed.field-0) (disk (g.D.Device.time c.args.dev.now) (blob_key (shown c.args.self))) (disk (g.D.Device.time c.flushed.new.dev) (blob_key (shown c.args.self))) kept
-          (keeping_now _ (blob_key (shown c.args.self)) (g.D.Device.time c.args.dev.now) (g.D.Device.time c.flushed.new.dev) (keeping_of (shown c.args.self) (Outside (run_of (shown c.args.self) ∷ [])) c.args.self.settled c.args.self.settled (blob_key (shown c.args.self)) (g.D.Device.time c.args.dev.now) (g.D.Device.time c.flushed.new.dev) kept (omega arith) (omega arith) kept.apart (c.flushed.ensures.spares t))) (ap (λ (x : WriteBuffer). x.settled) c.in_ok-flushed.ensures.same)
+          (keeping_now _ (blob_key (shown c.args.self)) (g.D.Device.time c.args.dev.now) (g.D.Device.time c.flushed.new.dev) (lasts t kept)) (ap (λ (x : WriteBuffer). x.settled) c.in_ok-flushed.ensures.same)
           (λ i lt. ap (λ (l : List ℕ). get_or l i 0) (c.in_ok-flushed.ensures.bytes t)) (λ i lt. outside_none (shown c.in_ok-flushed.field-0) (ap (λ (x : WriteBuffer). x.pending) c.in_ok-flushed.ensures.same) i);
       since = c.in_ok-flushed.ensures.since;
       bytes = c.in_ok-flushed.ensures.bytes;

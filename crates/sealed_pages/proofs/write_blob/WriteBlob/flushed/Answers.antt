@@ -1,14 +1,21 @@
 use Rattle.sealed_pages.proofs.EntryLemmas.{no_reads_start, open_some}
-use Rattle.sealed_pages.proofs.Truncating.{no_value}
-use Rattle.std.proofs.Common.{◌+◌, ◌∙◌, length, ℕ, List, [], ◌∷◌, ap, sym, refl, max, rules, arith, inl, inr, ◌≡◌}
-use Rattle.blob_device.specs.Disk.{Key, Outside}
+use Rattle.sealed_pages.proofs.cutting.Truncating.{no_value}
+use Rattle.std.proofs.Common.{◌+◌, ◌∙◌, length, ℕ, List, [], ◌∷◌, ap, sym, refl, max, rules, arith, ◌≡◌}
+use Rattle.blob_device.specs.Disk.{Outside}
 use Rattle.blob_device.specs.Timeline.{disk}
 use Rattle.sealed_pages.specs.unsealed.Writing.{shown, blob_key, bytes_of, run_of, size_of}
-use Rattle.sealed_pages.proofs.SparingLemmas.{sparing_write, sparing_now, sparing_start}
-use Rattle.sealed_pages.proofs.WritingLemmas.{passes_write, written_content, flushed_bytes, over_after, part_at, grown_at, grown_open, idle_parts}
-use Rattle.sealed_pages.proofs.ContentLemmas.{adds_start, adds_write}
+use Rattle.sealed_pages.proofs.unsealed.SparingLemmas.{sparing_now}
+use Rattle.sealed_pages.proofs.unsealed.WritingLemmas.{passes_write, written_content, flushed_bytes, over_after, part_at, grown_at, grown_open, idle_parts}
+use Rattle.sealed_pages.proofs.unsealed.ContentLemmas.{adds_start}
 use Rattle.sealed_pages.proofs.HadLemmas.{had_write}
+use Rattle.sealed_pages.proofs.unsealed.Sync.{FlushBy, flush_written}
+use Rattle.sealed_pages.proofs.write_blob.WriteBlob.flushed.Given as given
 use Rattle.sealed_pages.proofs.write_blob.WriteBlob.flushed.Goals as goal
+use Rattle.sealed_pages.proofs.write_blob.WriteBlob.flushed.Goals.{After-write_at}
+
+-- what the write has done to the blob
+written : (g : given.Over) (c : After-write_at g) → g.D.Device.Tells → FlushBy (shown c.args.self) (g.D.Device.time c.args.dev.now) (g.D.Device.time c.write_at.new.self)
+written g c t = flush_written (shown c.args.self) (g.D.Device.time c.args.dev.now) (g.D.Device.time c.write_at.new.self) _ (passes_write c.as_str.ensures.value c.as_slice.ensures.value c.as_slice-2.ensures.value (c.write_at.ensures.told t))
 
 pub returns-then-idle : goal.returns-then-idle
 returns-then-idle g c =
@@ -35,11 +42,9 @@ returns-then-idle g c =
 pub returns-in_err-write_at : goal.returns-in_err-write_at
 returns-in_err-write_at g c =
     record {
-      spares = λ t.
-          sparing_write (Outside (run_of (shown c.args.self) ∷ [])) c.args.self.settled (blob_key (shown c.args.self)) (g.D.Device.time c.args.dev.now) (g.D.Device.time c.write_at.new.self) c.args.self.at c.args.self.pending.items _
-          (passes_write c.as_str.ensures.value c.as_slice.ensures.value c.as_slice-2.ensures.value (c.write_at.ensures.told t)) (λ i out. out.0);
+      spares = λ t. (written g (goal.at.returns-in_err-write_at g c).After-write_at t).spares;
       over = λ t h1. no_value _ _ c.from_residual.ensures.0;
-      since = λ t. adds_write (blob_key (shown c.args.self)) (g.D.Device.time c.args.dev.now) (g.D.Device.time c.write_at.new.self) _ c.args.self.at c.args.self.pending.items (passes_write c.as_str.ensures.value c.as_slice.ensures.value c.as_slice-2.ensures.value (c.write_at.ensures.told t));
+      since = λ t. (written g (goal.at.returns-in_err-write_at g c).After-write_at t).since;
       bytes = λ t. no_value _ _ c.from_residual.ensures.0;
       idle = no_value _ _ c.from_residual.ensures.0;
       same = no_value _ _ c.from_residual.ensures.0;
@@ -55,20 +60,17 @@ returns-in_err-write_at g c =
 
 pub returns : goal.returns
 returns g c =
+    let by = written g (goal.at.returns g c).After-write_at in
     record {
-      spares = λ t.
-          sparing_write (Outside (run_of (shown c.args.self) ∷ [])) c.args.self.settled (blob_key (shown c.args.self)) (g.D.Device.time c.args.dev.now) (g.D.Device.time c.write_at.new.self) c.args.self.at c.args.self.pending.items _
-          (passes_write c.as_str.ensures.value c.as_slice.ensures.value c.as_slice-2.ensures.value (c.write_at.ensures.told t)) (λ i out. out.0);
+      spares = λ t. (by t).spares;
       over = λ t over.
-          let k : Key = blob_key (shown c.args.self) in
-          let spares = sparing_now (Outside (run_of (shown c.args.self) ∷ [])) c.args.self.settled k (g.D.Device.time c.args.dev.now) (g.D.Device.time c.write_at.new.self) (sparing_write (Outside (run_of (shown c.args.self) ∷ [])) c.args.self.settled (blob_key (shown c.args.self)) (g.D.Device.time c.args.dev.now) (g.D.Device.time c.write_at.new.self) c.args.self.at c.args.self.pending.items _ (passes_write c.as_str.ensures.value c.as_slice.ensures.value c.as_slice-2.ensures.value (c.write_at.ensures.told t)) (λ i out. out.0)) in
-          over_after (shown c.args.self) _ (Outside (run_of (shown c.args.self) ∷ [])) (disk (g.D.Device.time c.args.dev.now) k) (disk (g.D.Device.time c.write_at.new.self) k) spares refl refl
-          (had_write k c.args.self.at c.args.self.pending.items _ (g.D.Device.time c.args.dev.now) (g.D.Device.time c.write_at.new.self) (passes_write c.as_str.ensures.value c.as_slice.ensures.value c.as_slice-2.ensures.value (c.in_ok-write_at.ensures.told t))) over;
-      since = λ t. adds_write (blob_key (shown c.args.self)) (g.D.Device.time c.args.dev.now) (g.D.Device.time c.write_at.new.self) _ c.args.self.at c.args.self.pending.items (passes_write c.as_str.ensures.value c.as_slice.ensures.value c.as_slice-2.ensures.value (c.write_at.ensures.told t));
+          let spares = sparing_now (Outside (run_of (shown c.args.self) ∷ [])) c.args.self.settled (blob_key (shown c.args.self)) (g.D.Device.time c.args.dev.now) (g.D.Device.time c.write_at.new.self) (by t).spares in
+          over_after (shown c.args.self) _ (Outside (run_of (shown c.args.self) ∷ [])) (disk (g.D.Device.time c.args.dev.now) (blob_key (shown c.args.self))) (disk (g.D.Device.time c.write_at.new.self) (blob_key (shown c.args.self))) spares refl refl
+          (had_write (blob_key (shown c.args.self)) c.args.self.at c.args.self.pending.items _ (g.D.Device.time c.args.dev.now) (g.D.Device.time c.write_at.new.self) (passes_write c.as_str.ensures.value c.as_slice.ensures.value c.as_slice-2.ensures.value (c.in_ok-write_at.ensures.told t))) over;
+      since = λ t. (by t).since;
       bytes = λ t.
-          let k : Key = blob_key (shown c.args.self) in
-          flushed_bytes (disk (g.D.Device.time c.args.dev.now) k).content (disk (g.D.Device.time c.write_at.new.self) k).content c.args.self.pending.items _ c.args.self.at
-          (written_content k c.args.self.at c.args.self.pending.items (g.D.Device.time c.args.dev.now) (g.D.Device.time c.write_at.new.self) _ (passes_write c.as_str.ensures.value c.as_slice.ensures.value c.as_slice-2.ensures.value (c.in_ok-write_at.ensures.told t)))
+          flushed_bytes (disk (g.D.Device.time c.args.dev.now) (blob_key (shown c.args.self))).content (disk (g.D.Device.time c.write_at.new.self) (blob_key (shown c.args.self))).content c.args.self.pending.items _ c.args.self.at
+          (written_content (blob_key (shown c.args.self)) c.args.self.at c.args.self.pending.items (g.D.Device.time c.args.dev.now) (g.D.Device.time c.write_at.new.self) _ (passes_write c.as_str.ensures.value c.as_slice.ensures.value c.as_slice-2.ensures.value (c.in_ok-write_at.ensures.told t)))
           c.clear.ensures.items;
       idle = search rules;
       same = search rules;

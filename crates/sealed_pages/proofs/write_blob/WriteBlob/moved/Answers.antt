@@ -1,17 +1,16 @@
-use Rattle.sealed_pages.proofs.SparingLemmas.{sparing_start}
 use Rattle.sealed_pages.proofs.EntryLemmas.{no_reads_start, open_some}
-use Rattle.sealed_pages.proofs.Truncating.{no_value}
-use Rattle.std.proofs.Common.{◌≡◌, ◌∙◌, ℕ, List, [], ◌∷◌, length, ap, sym, subst, arith, rules, refl, inl, inr}
+use Rattle.sealed_pages.proofs.cutting.Truncating.{no_value}
+use Rattle.std.proofs.Common.{◌≡◌, ◌∙◌, ℕ, List, [], ◌∷◌, length, ap, sym, subst, arith, rules, refl, inl}
 use Rattle.blob_device.specs.Disk.{Key}
 use Rattle.blob_device.specs.Change.{written}
 use Rattle.blob_device.specs.Timeline.{disk}
 use Rattle.blob_device.proofs.Bytes.{length-written}
 use Rattle.sealed_pages.specs.Entries.{IsOpenAt}
 use Rattle.sealed_pages.specs.unsealed.Writing.{WriteBuffer, shown, blob_key, bytes_of}
-use Rattle.sealed_pages.proofs.Looking.{content_length}
+use Rattle.sealed_pages.proofs.looking.Looking.{content_length}
 use Rattle.sealed_pages.proofs.WriteLemmas.{written_nothing}
-use Rattle.sealed_pages.proofs.WritingLemmas.{idle_bytes}
-use Rattle.sealed_pages.proofs.ContentLemmas.{adds_start}
+use Rattle.sealed_pages.proofs.unsealed.WritingLemmas.{idle_bytes}
+use Rattle.sealed_pages.proofs.unsealed.ContentLemmas.{adds_start}
 use Rattle.sealed_pages.proofs.write_blob.WriteBlob.moved.Goals as goal
 
 pub returns-then-joins : goal.returns-then-joins

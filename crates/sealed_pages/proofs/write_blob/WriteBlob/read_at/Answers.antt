@@ -1,44 +1,23 @@
 use Rattle.std.proofs.lemmas.Bool.{cases_lt}
-use Rattle.std.proofs.lemmas.Grind.{common_steps}
-use Rattle.sealed_pages.proofs.Truncating.{no_value}
-use Rattle.std.proofs.Common.{◌≡◌, ◌+◌, ◌≤◌, ◌∙◌, ℕ, List, length, take, drop, ap, sym, subst, arith, rules, refl, inl, inr, ◌-◌, ◌<◌}
+use Rattle.sealed_pages.proofs.cutting.Truncating.{no_value}
+use Rattle.std.proofs.Common.{◌≡◌, ◌+◌, ◌≤◌, ◌∙◌, ℕ, List, length, take, drop, ap, sym, subst, arith, rules, refl, inl, inr, ◌-◌, Err}
+use Rattle.blob_device.specs.declared.runtime.RError.TheVariants.{BlobInsufficientLength, OffsetOverflow}
 use Rattle.blob_device.specs.Change.{written}
 use Rattle.blob_device.specs.Timeline.{disk}
 use Rattle.blob_device.proofs.Bytes.{length-written}
 use Rattle.sealed_pages.specs.Filled.{HasBytes}
 use Rattle.sealed_pages.specs.unsealed.Writing.{shown, blob_key, bytes_of}
-use Rattle.sealed_pages.proofs.Looking.{content_length, unchanged_start}
+use Rattle.sealed_pages.proofs.looking.Looking.{content_length}
+use Rattle.sealed_pages.proofs.unsealed.Read.{read_refused}
 use Rattle.sealed_pages.proofs.WriteLemmas.{filled_is}
 use Rattle.sealed_pages.proofs.write_blob.WriteBlob.read_at.Goals as goal
 use Rattle.sealed_pages.proofs.write_blob.WriteBlob.read_at.Goals.{then-not-holds+in_ok-read_blob, else-not-holds}
 
 pub returns-then-len-offset : goal.returns-then-len-offset
-returns-then-len-offset g c =
-    record {
-      bytes = λ t. tt;
-      unchanged = λ t. unchanged_start (g.D.Device.time c.args.dev.now);
-      reads = search rules;
-      held = λ held. refl;
-      overflow = search rules;
-      short = search rules;
-      refused = λ over. refl;
-      faults = omega arith;
-      cause = inl refl;
-    }
+returns-then-len-offset g c = read_refused g.D.Device (shown c.args.self.now) c.args.offset c.args.buf.now c.args.buf.now c.args.dev.now (Err OffsetOverflow) refl (search rules) (search rules) (inl refl)
 
 pub returns-then-offset-len : goal.returns-then-offset-len
-returns-then-offset-len g c =
-    record {
-      bytes = λ t. tt;
-      unchanged = λ t. unchanged_start (g.D.Device.time c.args.dev.now);
-      reads = search rules;
-      held = λ held. refl;
-      overflow = search rules;
-      short = search rules;
-      refused = λ over. refl;
-      faults = omega arith;
-      cause = inr (inl refl);
-    }
+returns-then-offset-len g c = read_refused g.D.Device (shown c.args.self.now) c.args.offset c.args.buf.now c.args.buf.now c.args.dev.now (Err BlobInsufficientLength) refl (search rules) (search rules) (inr (inl refl))
 
 pub returns-in_err-read_blob : goal.returns-in_err-read_blob
 returns-in_err-read_blob g c =

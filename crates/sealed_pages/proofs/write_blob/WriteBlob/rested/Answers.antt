@@ -1,11 +1,10 @@
-use Rattle.sealed_pages.proofs.EntryLemmas.{no_reads_start, open_some}
-use Rattle.sealed_pages.proofs.Truncating.{no_value}
-use Rattle.std.proofs.Common.{ℕ, rules, refl, arith, inl, inr}
+use Rattle.sealed_pages.proofs.cutting.Truncating.{no_value}
+use Rattle.std.proofs.Common.{ℕ, rules, refl}
 use Rattle.blob_device.specs.Change.{Settle}
 use Rattle.sealed_pages.specs.unsealed.Writing.{shown, blob_key}
 use Rattle.blob_device.proofs.Moments.{ok_blob}
-use Rattle.sealed_pages.proofs.SparingLemmas.{sparing_settle, passes_at, sparing_start}
-use Rattle.sealed_pages.proofs.ContentLemmas.{adds_settle}
+use Rattle.sealed_pages.proofs.unsealed.SparingLemmas.{sparing_settle, passes_at}
+use Rattle.sealed_pages.proofs.unsealed.ContentLemmas.{adds_settle}
 use Rattle.sealed_pages.proofs.write_blob.WriteBlob.rested.Goals as goal
 
 pub returns-in_err-sync : goal.returns-in_err-sync

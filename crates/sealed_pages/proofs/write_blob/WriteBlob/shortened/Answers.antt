@@ -1,19 +1,33 @@
 use Rattle.std.proofs.lemmas.List.{take_all}
 use Rattle.sealed_pages.proofs.EntryLemmas.{no_reads_start, open_some}
-use Rattle.sealed_pages.proofs.Truncating.{no_value}
-use Rattle.std.proofs.Common.{◌≡◌, ◌<◌, ◌∙◌, ◌∷◌, [], ℕ, List, length, min, take, ap, subst, arith, rules, refl, inl, inr, sym}
-use Rattle.blob_device.specs.Disk.{Key, Blob}
+use Rattle.sealed_pages.proofs.cutting.Truncating.{no_value}
+use Rattle.std.proofs.Common.{◌≤◌, ◌∙◌, ◌∷◌, [], ℕ, length, take, ap, arith, rules, refl, sym}
+use Rattle.blob_device.specs.Disk.{Blob}
 use Rattle.blob_device.specs.Change.{Resize}
 use Rattle.blob_device.specs.Timeline.{disk}
 use Rattle.blob_device.proofs.Moments.{ok_blob}
-use Rattle.sealed_pages.specs.Contents.{AddsOnly}
 use Rattle.sealed_pages.specs.unsealed.Writing.{shown, blob_key}
-use Rattle.sealed_pages.proofs.Looking.{content_length}
-use Rattle.sealed_pages.proofs.SparingLemmas.{loose_start, loose_resize, sparing_resize, passes_at, sparing_start}
+use Rattle.sealed_pages.proofs.looking.Looking.{content_length}
+use Rattle.sealed_pages.proofs.unsealed.SparingLemmas.{loose_start, passes_at}
 use Rattle.sealed_pages.proofs.WriteLemmas.{resized_within}
-use Rattle.sealed_pages.proofs.WritingLemmas.{cut_part, cut_at, cut_open}
-use Rattle.sealed_pages.proofs.ContentLemmas.{adds_start, adds_resize}
+use Rattle.sealed_pages.proofs.unsealed.WritingLemmas.{cut_part, cut_at, cut_open}
+use Rattle.sealed_pages.proofs.unsealed.ContentLemmas.{adds_start}
+use Rattle.sealed_pages.proofs.unsealed.Cut.{ShortBy, short_by}
+use Rattle.sealed_pages.proofs.write_blob.WriteBlob.shortened.Given as given
 use Rattle.sealed_pages.proofs.write_blob.WriteBlob.shortened.Goals as goal
+use Rattle.sealed_pages.proofs.write_blob.WriteBlob.shortened.Goals.{After-resize}
+
+-- the blob has all bytes below the cut
+within : (g : given.Over) (c : After-resize g) → g.D.Device.Tells → c.args.len ≤ length (disk (g.D.Device.time c.args.dev.now) (blob_key (shown c.args.self))).content
+within g c t = omega (
+  arith,
+  content_length (g.D.Device.opened c.args.dev.now) (blob_key (shown c.args.self)) c.args.self.end _ _ (g.met.D.Device.opened_stands t c.args.dev.now (blob_key (shown c.args.self))) c.requires.«open»,
+  c.requires.within,
+)
+
+-- what has been done to it
+resized : (g : given.Over) (c : After-resize g) → g.D.Device.Tells → ShortBy (shown c.args.self) c.args.len (g.D.Device.time c.args.dev.now) (g.D.Device.time c.resize.new.self)
+resized g c t = short_by (shown c.args.self) c.args.len (g.D.Device.time c.args.dev.now) (g.D.Device.time c.resize.new.self) _ (within g c t) (passes_at c.as_str.ensures.value c.as_slice.ensures.value (c.resize.ensures.told t))
 
 pub returns-then-self-len : goal.returns-then-self-len
 returns-then-self-len g c =
@@ -33,17 +47,12 @@ returns-then-self-len g c =
 
 pub returns-in_err-resize : goal.returns-in_err-resize
 returns-in_err-resize g c =
+    let by = resized g (goal.at.returns-in_err-resize g c).After-resize in
     record {
-      spares = λ t.
-          sparing_resize (λ (i : ℕ). i < c.args.len) (min c.args.self.settled c.args.len) (blob_key (shown c.args.self)) (g.D.Device.time c.args.dev.now) (g.D.Device.time c.resize.new.self) c.args.len _
-          (passes_at c.as_str.ensures.value c.as_slice.ensures.value (c.resize.ensures.told t)) (λ i lt. lt) (omega arith);
-      loose = λ t. loose_resize (blob_key (shown c.args.self)) (g.D.Device.time c.args.dev.now) (g.D.Device.time c.resize.new.self) c.args.len _ (passes_at c.as_str.ensures.value c.as_slice.ensures.value (c.resize.ensures.told t));
+      spares = λ t. (by t).spares;
+      loose = λ t. (by t).loose;
       content = λ t. no_value _ _ c.from_residual.ensures.0;
-      since = λ t.
-          let k : Key = blob_key (shown c.args.self) in
-          let long : length (disk (g.D.Device.time c.args.dev.now) (blob_key (shown c.args.self))).content ≡ c.args.self.end = content_length (g.D.Device.opened c.args.dev.now) k c.args.self.end _ _ (g.met.D.Device.opened_stands t c.args.dev.now k) c.requires.«open» in
-          subst (λ (l : List ℕ). AddsOnly (l ∷ []) k (g.D.Device.time c.args.dev.now) (g.D.Device.time c.resize.new.self)) (resized_within (disk (g.D.Device.time c.args.dev.now) k).content c.args.len (omega (arith, long, c.requires.within)))
-          (adds_resize k (g.D.Device.time c.args.dev.now) (g.D.Device.time c.resize.new.self) _ c.args.len (passes_at c.as_str.ensures.value c.as_slice.ensures.value (c.resize.ensures.told t)));
+      since = λ t. (by t).since;
       same = no_value _ _ c.from_residual.ensures.0;
       untouched = search rules;
       once = search rules;
@@ -55,21 +64,14 @@ returns-in_err-resize g c =
 
 pub returns : goal.returns
 returns g c =
+    let by = resized g (goal.at.returns g c).After-resize in
     record {
-      spares = λ t.
-          sparing_resize (λ (i : ℕ). i < c.args.len) (min c.args.self.settled c.args.len) (blob_key (shown c.args.self)) (g.D.Device.time c.args.dev.now) (g.D.Device.time c.resize.new.self) c.args.len _
-          (passes_at c.as_str.ensures.value c.as_slice.ensures.value (c.resize.ensures.told t)) (λ i lt. lt) (omega arith);
-      loose = λ t. loose_resize (blob_key (shown c.args.self)) (g.D.Device.time c.args.dev.now) (g.D.Device.time c.resize.new.self) c.args.len _ (passes_at c.as_str.ensures.value c.as_slice.ensures.value (c.resize.ensures.told t));
+      spares = λ t. (by t).spares;
+      loose = λ t. (by t).loose;
       content = λ t.
-          let k : Key = blob_key (shown c.args.self) in
-          let long : length (disk (g.D.Device.time c.args.dev.now) (blob_key (shown c.args.self))).content ≡ c.args.self.end = content_length (g.D.Device.opened c.args.dev.now) k c.args.self.end _ _ (g.met.D.Device.opened_stands t c.args.dev.now k) c.requires.«open» in
-          ap (λ (b : Blob). b.content) (ok_blob k (Resize c.args.len) _ (g.D.Device.time c.args.dev.now) (g.D.Device.time c.resize.new.self) (passes_at c.as_str.ensures.value c.as_slice.ensures.value (c.in_ok-resize.ensures.told t)))
-          ∙ resized_within (disk (g.D.Device.time c.args.dev.now) k).content c.args.len (omega (arith, long, c.requires.within));
-      since = λ t.
-          let k : Key = blob_key (shown c.args.self) in
-          let long : length (disk (g.D.Device.time c.args.dev.now) (blob_key (shown c.args.self))).content ≡ c.args.self.end = content_length (g.D.Device.opened c.args.dev.now) k c.args.self.end _ _ (g.met.D.Device.opened_stands t c.args.dev.now k) c.requires.«open» in
-          subst (λ (l : List ℕ). AddsOnly (l ∷ []) k (g.D.Device.time c.args.dev.now) (g.D.Device.time c.resize.new.self)) (resized_within (disk (g.D.Device.time c.args.dev.now) k).content c.args.len (omega (arith, long, c.requires.within)))
-          (adds_resize k (g.D.Device.time c.args.dev.now) (g.D.Device.time c.resize.new.self) _ c.args.len (passes_at c.as_str.ensures.value c.as_slice.ensures.value (c.resize.ensures.told t)));
+          ap (λ (b : Blob). b.content) (ok_blob (blob_key (shown c.args.self)) (Resize c.args.len) _ (g.D.Device.time c.args.dev.now) (g.D.Device.time c.resize.new.self) (passes_at c.as_str.ensures.value c.as_slice.ensures.value (c.in_ok-resize.ensures.told t)))
+          ∙ resized_within (disk (g.D.Device.time c.args.dev.now) (blob_key (shown c.args.self))).content c.args.len (within g (goal.at.returns g c).After-resize t);
+      since = λ t. (by t).since;
       same = search rules;
       untouched = search rules;
       once = search rules;

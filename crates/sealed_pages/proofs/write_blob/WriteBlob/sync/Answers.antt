@@ -1,36 +1,51 @@
-use Rattle.sealed_pages.proofs.SparingLemmas.{sparing_start}
-use Rattle.sealed_pages.proofs.EntryLemmas.{no_reads_start, open_some}
-use Rattle.sealed_pages.proofs.Truncating.{no_value}
-use Rattle.std.proofs.Common.{◌≡◌, ◌∙◌, sym, ◌∷◌, [], length, ap, subst, arith, rules, refl, inl, inr}
-use Rattle.blob_device.specs.Disk.{Key, Outside, settled_at}
+use Rattle.std.proofs.Common.{◌≡◌, ◌∙◌, false, sym, arith, rules, refl}
 use Rattle.blob_device.specs.Timeline.{disk}
-use Rattle.sealed_pages.specs.unsealed.Writing.{WriteBuffer, shown, blob_key, bytes_of, size_of, run_of}
-use Rattle.sealed_pages.proofs.Looking.{content_length}
-use Rattle.sealed_pages.proofs.LastingLemmas.{keeping_of, kept_clean}
-use Rattle.sealed_pages.proofs.WritingLemmas.{settled_parts, idle_parts, flushed_rests, synced_settles, synced_over, idle_bytes}
-use Rattle.sealed_pages.proofs.ContentLemmas.{adds_start, adds_rested}
+use Rattle.sealed_pages.specs.unsealed.Writing.{shown, blob_key, bytes_of, is_unsettled, Over}
+use Rattle.sealed_pages.proofs.EntryLemmas.{no_reads_start, open_some}
+use Rattle.sealed_pages.proofs.looking.Looking.{content_length}
+use Rattle.sealed_pages.proofs.unsealed.WritingLemmas.{settled_parts}
+use Rattle.sealed_pages.proofs.unsealed.Settled.{SettledAs}
+use Rattle.sealed_pages.proofs.unsealed.Sync.{FlushBy, flush_none, flush_lasts, rested_as, rested_same, flush_run, sync_rested, sync_to, sync_failed}
+use Rattle.sealed_pages.proofs.write_blob.WriteBlob.sync.Given as given
 use Rattle.sealed_pages.proofs.write_blob.WriteBlob.sync.Goals as goal
+use Rattle.sealed_pages.proofs.write_blob.WriteBlob.sync.Goals.{After-flushed, After-rested}
+
+-- what has been done to the blob by the end of each call
+by_flush : (g : given.Over) (c : After-flushed g) → g.D.Device.Tells → FlushBy (shown c.args.self) (g.D.Device.time c.args.dev.now) (g.D.Device.time c.flushed.new.dev)
+by_flush g c t = flush_run g.D.Device t (shown c.args.self) c.args.dev.now c.flushed.new.dev shown c.flushed.result c.flushed.ensures
+
+by_rest : (g : given.Over) (c : After-rested g) → g.D.Device.Tells → FlushBy (shown c.args.self) (g.D.Device.time c.args.dev.now) (g.D.Device.time c.rested.new.dev)
+by_rest g c t = sync_rested g.D.Device t (shown c.args.self) c.args.dev.now c.flushed.new.dev shown c.in_ok-this.this c.in_ok-this.ensures (g.met.D.Device.opened_stands t) c.rested.new.dev c.rested.result c.rested.ensures
+
+-- what they have come to then
+ends : (g : given.Over) (c : goal.In_ok-rested g) → g.D.Device.Tells → SettledAs (shown c.in_ok-rested.field-0) (bytes_of (shown c.args.self) (disk (g.D.Device.time c.args.dev.now) (blob_key (shown c.args.self))).content) (disk (g.D.Device.time c.rested.new.dev) (blob_key (shown c.args.self)))
+ends g c t = sync_to g.D.Device t (shown c.args.self) c.args.dev.now c.flushed.new.dev shown c.in_ok-this.this c.in_ok-this.ensures (g.met.D.Device.opened_stands t) c.rested.new.dev c.in_ok-rested.field-0 c.in_ok-rested.ensures
+
+-- where nothing is unsettled, all of it has settled
+rests : (g : given.Over) (c : goal.Then-not-needs_sync g) → is_unsettled (shown c.args.self) ≡ false
+rests g c = sym c.needs_sync.ensures ∙ c.if-not-needs_sync.true
+
+all : (g : given.Over) (c : goal.Then-not-needs_sync g) → c.args.self.settled ≡ c.args.self.end
+all g c = c.args.self.rests (settled_parts (shown c.args.self) (rests g c)).0
+
+settled : (g : given.Over) (c : goal.Then-not-needs_sync g) → g.D.Device.Tells → Over (shown c.args.self) (disk (g.D.Device.time c.args.dev.now) (blob_key (shown c.args.self)))
+    → SettledAs (shown c.args.self) (bytes_of (shown c.args.self) (disk (g.D.Device.time c.args.dev.now) (blob_key (shown c.args.self))).content) (disk (g.D.Device.time c.args.dev.now) (blob_key (shown c.args.self)))
+settled g c t = rested_as (shown c.args.self) (rests g c) (disk (g.D.Device.time c.args.dev.now) (blob_key (shown c.args.self)))
+    (content_length (g.D.Device.opened c.args.dev.now) (blob_key (shown c.args.self)) c.args.self.end _ _ (g.met.D.Device.opened_stands t c.args.dev.now (blob_key (shown c.args.self))) c.requires.«open») (all g c)
 
 pub returns-then-not-needs_sync : goal.returns-then-not-needs_sync
 returns-then-not-needs_sync g c =
+    let none : FlushBy (shown c.args.self) (g.D.Device.time c.args.dev.now) (g.D.Device.time c.args.dev.now) = flush_none (shown c.args.self) (g.D.Device.time c.args.dev.now) in
     record {
-      spares = search rules;
+      spares = λ t. none.spares;
       over = λ t over. over;
-      lasts = λ t kept. keeping_of (shown c.args.self) (Outside (run_of (shown c.args.self) ∷ [])) c.args.self.settled c.args.self.settled (blob_key (shown c.args.self)) (g.D.Device.time c.args.dev.now) (g.D.Device.time c.args.dev.now) kept (omega arith) (omega arith) kept.apart (sparing_start _ _ (blob_key (shown c.args.self)) (g.D.Device.time c.args.dev.now));
-      kept = λ t over.
-          let parts = settled_parts (shown c.args.self) (sym c.needs_sync.ensures ∙ c.if-not-needs_sync.true) in
-          kept_clean (shown c.args.self) (disk (g.D.Device.time c.args.dev.now) (blob_key (shown c.args.self))) over parts.0 (idle_parts (shown c.args.self) parts.1).0;
-      since = λ t. adds_start (bytes_of (shown c.args.self) (disk (g.D.Device.time c.args.dev.now) (blob_key (shown c.args.self))).content ∷ []) (blob_key (shown c.args.self)) (g.D.Device.time c.args.dev.now);
-      settles = λ t over.
-          let parts = settled_parts (shown c.args.self) (sym c.needs_sync.ensures ∙ c.if-not-needs_sync.true) in
-          over.clean parts.0 ∙ ap settled_at (sym (idle_bytes (shown c.args.self) (disk (g.D.Device.time c.args.dev.now) (blob_key (shown c.args.self))).content parts.1 (content_length (g.D.Device.opened c.args.dev.now) (blob_key (shown c.args.self)) c.args.self.end _ _ (g.met.D.Device.opened_stands t c.args.dev.now (blob_key (shown c.args.self))) c.requires.«open»)));
+      lasts = λ t kept. flush_lasts (shown c.args.self) (g.D.Device.time c.args.dev.now) (g.D.Device.time c.args.dev.now) none kept;
+      kept = λ t over. (settled g c t over).kept;
+      since = λ t. none.since;
+      settles = λ t over. (settled g c t over).settles;
       bytes = λ t. refl;
       idle = search rules;
-      same =
-          let parts = settled_parts (shown c.args.self) (sym c.needs_sync.ensures ∙ c.if-not-needs_sync.true) in
-          let idle = idle_parts (shown c.args.self) parts.1 in
-          let end : c.args.self.end ≡ size_of (shown c.args.self) = omega (arith, idle.1, ap length idle.0) in
-          λ i. record (shown c.args.self) { end = end i; pending = idle.0 i; settled = (c.args.self.rests parts.0 ∙ end) i; dirty = parts.0 i };
+      same = rested_same (shown c.args.self) (rests g c) (all g c);
       untouched = λ idle. refl;
       stays = λ idle. refl;
       calls = omega arith;
@@ -41,80 +56,26 @@ returns-then-not-needs_sync g c =
     }
 
 pub returns-in_err-this : goal.returns-in_err-this
-returns-in_err-this g c =
-    record {
-      spares = c.in_err-this.ensures.spares;
-      over = λ t h1. no_value _ _ c.from_residual.ensures.0;
-      lasts = λ t kept. keeping_of (shown c.args.self) (Outside (run_of (shown c.args.self) ∷ [])) c.args.self.settled c.args.self.settled (blob_key (shown c.args.self)) (g.D.Device.time c.args.dev.now) (g.D.Device.time c.flushed.new.dev) kept (omega arith) (omega arith) kept.apart (c.flushed.ensures.spares t);
-      kept = λ t h1. no_value _ _ c.from_residual.ensures.0;
-      since = c.in_err-this.ensures.since;
-      settles = λ t h1. no_value _ _ c.from_residual.ensures.0;
-      bytes = λ t. no_value _ _ c.from_residual.ensures.0;
-      idle = no_value _ _ c.from_residual.ensures.0;
-      same = no_value _ _ c.from_residual.ensures.0;
-      untouched = search rules;
-      stays = λ settled. absurd (cc (settled, sym c.needs_sync.ensures ∙ c.if-not-needs_sync.false));
-      calls = search rules;
-      «open» = no_value _ _ c.from_residual.ensures.0;
-      entries = c.in_err-this.ensures.entries;
-      faults = c.in_err-this.ensures.faults;
-      cause = search rules;
-    }
+returns-in_err-this g c = sync_failed g.D.Device (shown c.args.self) shown c.args.dev.now c.flushed.new.dev c.from_residual.result c.from_residual.ensures.0
+    (sym c.needs_sync.ensures ∙ c.if-not-needs_sync.false) (by_flush g (goal.at.returns-in_err-this g c).After-flushed)
+    (search rules) c.in_err-this.ensures.entries c.in_err-this.ensures.faults (search rules)
 
 pub returns-in_err-rested : goal.returns-in_err-rested
-returns-in_err-rested g c =
-    record {
-      spares = λ t.
-          flushed_rests (Outside (run_of (shown c.args.self) ∷ [])) (shown c.args.self) (shown c.in_ok-this.this) (size_of (shown c.args.self)) c.in_ok-this.this.dirty (g.D.Device.time c.args.dev.now) (g.D.Device.time c.flushed.new.dev) (g.D.Device.time c.rested.new.dev)
-          c.in_ok-this.ensures.same (c.in_ok-this.ensures.spares t) (c.rested.ensures.spares t);
-      over = λ t h1. no_value _ _ c.from_residual-in_err-rested.ensures.0;
-      lasts = λ t kept. keeping_of (shown c.args.self) (Outside (run_of (shown c.args.self) ∷ [])) c.args.self.settled c.args.self.settled (blob_key (shown c.args.self)) (g.D.Device.time c.args.dev.now) (g.D.Device.time c.rested.new.dev) kept (omega arith) (omega arith) kept.apart (flushed_rests (Outside (run_of (shown c.args.self) ∷ [])) (shown c.args.self) (shown c.in_ok-this.this) (size_of (shown c.args.self)) c.in_ok-this.this.dirty (g.D.Device.time c.args.dev.now) (g.D.Device.time c.flushed.new.dev) (g.D.Device.time c.rested.new.dev) c.in_ok-this.ensures.same (c.in_ok-this.ensures.spares t) (c.rested.ensures.spares t));
-      kept = λ t h1. no_value _ _ c.from_residual-in_err-rested.ensures.0;
-      since = λ t.
-          let long = content_length (g.D.Device.opened c.flushed.new.dev) (blob_key (shown c.in_ok-this.this)) c.in_ok-this.this.end _ _ (g.met.D.Device.opened_stands t c.flushed.new.dev (blob_key (shown c.in_ok-this.this))) c.in_ok-this.ensures.«open» in
-          adds_rested (shown c.args.self) (shown c.in_ok-this.this) (bytes_of (shown c.args.self) (disk (g.D.Device.time c.args.dev.now) (blob_key (shown c.args.self))).content) (g.D.Device.time c.args.dev.now) (g.D.Device.time c.flushed.new.dev) (g.D.Device.time c.rested.new.dev)
-          (ap blob_key c.in_ok-this.ensures.same) c.in_ok-this.ensures.idle long (c.in_ok-this.ensures.bytes t) (c.flushed.ensures.since t) (c.rested.ensures.since t);
-      settles = λ t h1. no_value _ _ c.from_residual-in_err-rested.ensures.0;
-      bytes = λ t. no_value _ _ c.from_residual-in_err-rested.ensures.0;
-      idle = no_value _ _ c.from_residual-in_err-rested.ensures.0;
-      same = no_value _ _ c.from_residual-in_err-rested.ensures.0;
-      untouched = search rules;
-      stays = λ settled. absurd (cc (settled, sym c.needs_sync.ensures ∙ c.if-not-needs_sync.false));
-      calls = search rules;
-      «open» = no_value _ _ c.from_residual-in_err-rested.ensures.0;
-      entries = search rules;
-      faults = search rules;
-      cause = search rules;
-    }
+returns-in_err-rested g c = sync_failed g.D.Device (shown c.args.self) shown c.args.dev.now c.rested.new.dev c.from_residual-in_err-rested.result c.from_residual-in_err-rested.ensures.0
+    (sym c.needs_sync.ensures ∙ c.if-not-needs_sync.false) (by_rest g (goal.at.returns-in_err-rested g c).After-rested)
+    (search rules) (search rules) (search rules) (search rules)
 
 pub returns : goal.returns
 returns g c =
+    let called = by_rest g (goal.at.returns g c).After-rested in
+    let ended = ends g c in
     record {
-      spares = λ t.
-          flushed_rests (Outside (run_of (shown c.args.self) ∷ [])) (shown c.args.self) (shown c.in_ok-this.this) (size_of (shown c.args.self)) c.in_ok-this.this.dirty (g.D.Device.time c.args.dev.now) (g.D.Device.time c.flushed.new.dev) (g.D.Device.time c.rested.new.dev)
-          c.in_ok-this.ensures.same (c.in_ok-this.ensures.spares t) (c.rested.ensures.spares t);
-      over = λ t over.
-          let k : Key = blob_key (shown c.args.self) in
-          let key : blob_key (shown c.in_ok-this.this) ≡ blob_key (shown c.args.self) = ap blob_key c.in_ok-this.ensures.same in
-          let long = content_length (g.D.Device.opened c.flushed.new.dev) (blob_key (shown c.in_ok-this.this)) c.in_ok-this.this.end _ _ (g.met.D.Device.opened_stands t c.flushed.new.dev (blob_key (shown c.in_ok-this.this))) c.in_ok-this.ensures.«open» in
-          synced_over (shown c.in_ok-this.this) (shown c.in_ok-rested.field-0) (disk (g.D.Device.time c.flushed.new.dev) k) (disk (g.D.Device.time c.rested.new.dev) k) _ c.in_ok-this.ensures.idle
-          (subst (λ (q : Key). length (disk (g.D.Device.time c.flushed.new.dev) q).content ≡ c.in_ok-this.this.end) key long) (c.in_ok-this.ensures.bytes t) c.in_ok-rested.ensures.same
-          (subst (λ (q : Key). disk (g.D.Device.time c.rested.new.dev) q ≡ settled_at (disk (g.D.Device.time c.flushed.new.dev) q).content) key (c.in_ok-rested.ensures.settles t));
-      lasts = λ t kept. keeping_of (shown c.args.self) (Outside (run_of (shown c.args.self) ∷ [])) c.args.self.settled c.args.self.settled (blob_key (shown c.args.self)) (g.D.Device.time c.args.dev.now) (g.D.Device.time c.rested.new.dev) kept (omega arith) (omega arith) kept.apart (flushed_rests (Outside (run_of (shown c.args.self) ∷ [])) (shown c.args.self) (shown c.in_ok-this.this) (size_of (shown c.args.self)) c.in_ok-this.this.dirty (g.D.Device.time c.args.dev.now) (g.D.Device.time c.flushed.new.dev) (g.D.Device.time c.rested.new.dev) c.in_ok-this.ensures.same (c.in_ok-this.ensures.spares t) (c.rested.ensures.spares t));
-      kept = λ t over.
-          kept_clean (shown c.in_ok-rested.field-0) (disk (g.D.Device.time c.rested.new.dev) (blob_key (shown c.args.self))) (let k : Key = blob_key (shown c.args.self) in let key : blob_key (shown c.in_ok-this.this) ≡ blob_key (shown c.args.self) = ap blob_key c.in_ok-this.ensures.same in let long = content_length (g.D.Device.opened c.flushed.new.dev) (blob_key (shown c.in_ok-this.this)) c.in_ok-this.this.end _ _ (g.met.D.Device.opened_stands t c.flushed.new.dev (blob_key (shown c.in_ok-this.this))) c.in_ok-this.ensures.«open» in synced_over (shown c.in_ok-this.this) (shown c.in_ok-rested.field-0) (disk (g.D.Device.time c.flushed.new.dev) k) (disk (g.D.Device.time c.rested.new.dev) k) _ c.in_ok-this.ensures.idle (subst (λ (q : Key). length (disk (g.D.Device.time c.flushed.new.dev) q).content ≡ c.in_ok-this.this.end) key long) (c.in_ok-this.ensures.bytes t) c.in_ok-rested.ensures.same (subst (λ (q : Key). disk (g.D.Device.time c.rested.new.dev) q ≡ settled_at (disk (g.D.Device.time c.flushed.new.dev) q).content) key (c.in_ok-rested.ensures.settles t))) (ap (λ (x : WriteBuffer). x.dirty) c.in_ok-rested.ensures.same)
-          (ap (λ (x : WriteBuffer). x.pending) c.in_ok-rested.ensures.same ∙ ap (λ (x : WriteBuffer). x.pending) c.in_ok-this.ensures.same);
-      since = λ t.
-          let long = content_length (g.D.Device.opened c.flushed.new.dev) (blob_key (shown c.in_ok-this.this)) c.in_ok-this.this.end _ _ (g.met.D.Device.opened_stands t c.flushed.new.dev (blob_key (shown c.in_ok-this.this))) c.in_ok-this.ensures.«open» in
-          adds_rested (shown c.args.self) (shown c.in_ok-this.this) (bytes_of (shown c.args.self) (disk (g.D.Device.time c.args.dev.now) (blob_key (shown c.args.self))).content) (g.D.Device.time c.args.dev.now) (g.D.Device.time c.flushed.new.dev) (g.D.Device.time c.rested.new.dev)
-          (ap blob_key c.in_ok-this.ensures.same) c.in_ok-this.ensures.idle long (c.in_ok-this.ensures.bytes t) (c.flushed.ensures.since t) (c.rested.ensures.since t);
-      settles = λ t over.
-          let k : Key = blob_key (shown c.args.self) in
-          let key : blob_key (shown c.in_ok-this.this) ≡ blob_key (shown c.args.self) = ap blob_key c.in_ok-this.ensures.same in
-          let long = content_length (g.D.Device.opened c.flushed.new.dev) (blob_key (shown c.in_ok-this.this)) c.in_ok-this.this.end _ _ (g.met.D.Device.opened_stands t c.flushed.new.dev (blob_key (shown c.in_ok-this.this))) c.in_ok-this.ensures.«open» in
-          synced_settles (shown c.in_ok-this.this) (shown c.in_ok-rested.field-0) (disk (g.D.Device.time c.flushed.new.dev) k) (disk (g.D.Device.time c.rested.new.dev) k) _ c.in_ok-this.ensures.idle
-          (subst (λ (q : Key). length (disk (g.D.Device.time c.flushed.new.dev) q).content ≡ c.in_ok-this.this.end) key long) (c.in_ok-this.ensures.bytes t) c.in_ok-rested.ensures.same
-          (subst (λ (q : Key). disk (g.D.Device.time c.rested.new.dev) q ≡ settled_at (disk (g.D.Device.time c.flushed.new.dev) q).content) key (c.in_ok-rested.ensures.settles t));
+      spares = λ t. (called t).spares;
+      over = λ t over. (ended t).over;
+      lasts = λ t kept. flush_lasts (shown c.args.self) (g.D.Device.time c.args.dev.now) (g.D.Device.time c.rested.new.dev) (called t) kept;
+      kept = λ t over. (ended t).kept;
+      since = λ t. (called t).since;
+      settles = λ t over. (ended t).settles;
       bytes = search rules;
       idle = search rules;
       same = search rules;

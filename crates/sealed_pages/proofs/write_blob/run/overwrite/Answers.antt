@@ -1,5 +1,5 @@
 use Rattle.std.proofs.Common.{◌≡◌, length, sym, ◌∙◌, ap, arith}
-use Rattle.sealed_pages.proofs.RunLemmas.{overwritten, if_pushed}
+use Rattle.sealed_pages.proofs.unsealed.RunLemmas.{overwritten, if_pushed}
 use Rattle.sealed_pages.proofs.write_blob.run.overwrite.Goals as goal
 
 pub returns : goal.returns

@@ -19,75 +19,66 @@ end_within-requires-clause-whole g c = ap (λ (n : ℕ). n % g.A.CodecFixed.SIZE
 
 pub truncate_pending_tail-requires-clause-over : goal.truncate_pending_tail-requires-clause-over
 truncate_pending_tail-requires-clause-over g c =
-    let o = c.in_ok-journal.ensures in
     journal_there g.S.Seal.seal_of c.args.cfg.now.pages.page_size g.A.CodecFixed.SIZE g.met.A.CodecFixed.fixed.at_least (ghosts g.row.S g.S.Seal g.S.Seal-dict) (are_pages g.row.S g.S.Seal g.S.Seal-dict) (λ f. record { page_size = f.pages.page_size; capacity = f.write_buffer; cache_pages = f.pages.cache_pages }) g.D.Device
-    (shown c.in_ok-journal.journal) c.args.section c.args.end c.in_ok-end.end c.whole_bytes-end.result c.ranges.section.fits (string_bytes c.args.cfg.now.partition) o.partition c.args.dev.now c.init_bounded.new.dev c.end_within.new.dev
-    o.over (record { held = o.held; unopened = o.unopened; bytes = o.bytes; moments = o.moments }) o.no_leftover (ap (λ (x : Pages). x.page_size) o.pages) o.unrecovered c.whole_bytes-end.ensures c.in_ok-end.ensures
+    (shown c.in_ok-journal.journal) c.args.section c.args.end c.in_ok-end.end c.whole_bytes-end.result c.ranges.section.fits (string_bytes c.args.cfg.now.partition) c.in_ok-journal.ensures.partition c.args.dev.now c.init_bounded.new.dev c.end_within.new.dev
+    c.in_ok-journal.ensures.over (record { held = c.in_ok-journal.ensures.held; unopened = c.in_ok-journal.ensures.unopened; bytes = c.in_ok-journal.ensures.bytes; moments = c.in_ok-journal.ensures.moments }) c.in_ok-journal.ensures.no_leftover (ap (λ (x : Pages). x.page_size) c.in_ok-journal.ensures.pages) c.in_ok-journal.ensures.unrecovered c.whole_bytes-end.ensures c.in_ok-end.ensures
 
 pub truncate_pending_tail-requires-clause-sealed : goal.truncate_pending_tail-requires-clause-sealed
 truncate_pending_tail-requires-clause-sealed g c t u held lt unproven =
-    let o = c.in_ok-journal.ensures in
     cut_sealed g.S.Seal.seal_of c.args.cfg.now.pages.page_size g.A.CodecFixed.SIZE g.met.A.CodecFixed.fixed.at_least (ghosts g.row.S g.S.Seal g.S.Seal-dict) (are_pages g.row.S g.S.Seal g.S.Seal-dict) (λ f. record { page_size = f.pages.page_size; capacity = f.write_buffer; cache_pages = f.pages.cache_pages }) g.D.Device
-    (shown c.in_ok-journal.journal) c.args.section c.args.end c.in_ok-end.end c.whole_bytes-end.result c.ranges.section.fits (string_bytes c.args.cfg.now.partition) o.partition c.args.dev.now c.init_bounded.new.dev c.end_within.new.dev
-    o.over (record { held = o.held; unopened = o.unopened; bytes = o.bytes; moments = o.moments }) o.no_leftover (ap (λ (x : Pages). x.page_size) o.pages) o.unrecovered c.whole_bytes-end.ensures c.in_ok-end.ensures t u held lt
+    (shown c.in_ok-journal.journal) c.args.section c.args.end c.in_ok-end.end c.whole_bytes-end.result c.ranges.section.fits (string_bytes c.args.cfg.now.partition) c.in_ok-journal.ensures.partition c.args.dev.now c.init_bounded.new.dev c.end_within.new.dev
+    c.in_ok-journal.ensures.over (record { held = c.in_ok-journal.ensures.held; unopened = c.in_ok-journal.ensures.unopened; bytes = c.in_ok-journal.ensures.bytes; moments = c.in_ok-journal.ensures.moments }) c.in_ok-journal.ensures.no_leftover (ap (λ (x : Pages). x.page_size) c.in_ok-journal.ensures.pages) c.in_ok-journal.ensures.unrecovered c.whole_bytes-end.ensures c.in_ok-end.ensures t u held lt
 
 pub returns-in_err-journal-clause-bounds : goal.returns-in_err-journal-clause-bounds
 returns-in_err-journal-clause-bounds g c =
-    let e = c.in_err-journal.field-0.0 in
     let f = c.in_err-journal.ensures in
-    unopened_bounds g.D.Device g.S.Seal.seal_of c.args.cfg.now.pages.page_size g.A.CodecFixed.SIZE (string_bytes c.args.cfg.now.partition) c.args.section c.args.end (seen shown c.from_residual.result) c.args.dev.now c.init_bounded.new.dev {U = Lists (AppendFactory g.row.S.Denot) (PageBlob g.row.S.Denot g.S.Seal)} e _ c.ranges.section.fits
-    (ap (seen shown) (err_of c.from_residual.result e c.from_residual.ensures.1)) f.moments f.foreign_disk f.foreign_entries f.name_entries f.named f.entries f.faults f.cause
+    unopened_bounds g.D.Device g.S.Seal.seal_of c.args.cfg.now.pages.page_size g.A.CodecFixed.SIZE (string_bytes c.args.cfg.now.partition) c.args.section c.args.end (seen shown c.from_residual.result) c.args.dev.now c.init_bounded.new.dev {U = Lists (AppendFactory g.row.S.Denot) (PageBlob g.row.S.Denot g.S.Seal)} c.in_err-journal.field-0.0 _ c.ranges.section.fits
+    (ap (seen shown) (err_of c.from_residual.result c.in_err-journal.field-0.0 c.from_residual.ensures.1)) f.moments f.foreign_disk f.foreign_entries f.name_entries f.named f.entries f.faults f.cause
 
 pub returns-in_err-journal-clause-cause : goal.returns-in_err-journal-clause-cause
 returns-in_err-journal-clause-cause g c =
-    let e = c.in_err-journal.field-0.0 in
-    unopened_cause g.D.Device g.S.Seal.seal_of c.args.cfg.now.pages.page_size g.A.CodecFixed.SIZE (string_bytes c.args.cfg.now.partition) c.args.section c.args.end (seen shown c.from_residual.result) c.args.dev.now c.init_bounded.new.dev {U = Lists (AppendFactory g.row.S.Denot) (PageBlob g.row.S.Denot g.S.Seal)} e
-    (ap (seen shown) (err_of c.from_residual.result e c.from_residual.ensures.1)) c.in_err-journal.ensures.cause
+    unopened_cause g.D.Device g.S.Seal.seal_of c.args.cfg.now.pages.page_size g.A.CodecFixed.SIZE (string_bytes c.args.cfg.now.partition) c.args.section c.args.end (seen shown c.from_residual.result) c.args.dev.now c.init_bounded.new.dev {U = Lists (AppendFactory g.row.S.Denot) (PageBlob g.row.S.Denot g.S.Seal)} c.in_err-journal.field-0.0
+    (ap (seen shown) (err_of c.from_residual.result c.in_err-journal.field-0.0 c.from_residual.ensures.1)) c.in_err-journal.ensures.cause
 
 pub returns-in_err-end-clause-bounds : goal.returns-in_err-end-clause-bounds
 returns-in_err-end-clause-bounds g c =
-    let o = c.in_ok-journal.ensures in
     let f = c.in_err-end.ensures in
     let is = ap (seen shown) (err_of c.from_residual-in_err-end.result c.in_err-end.field-0.0 c.from_residual-in_err-end.ensures.1) in
     let failed = end_cut {U = ℕ} (seen shown c.from_residual-in_err-end.result) c.in_err-end.field-0.0 (shown c.in_ok-journal.journal).sections.floor (g.D.Device.faults c.init_bounded.new.dev) (g.D.Device.faults c.end_within.new.dev) is f.cause in
     opened_bounds g.D.Device g.S.Seal.seal_of c.args.cfg.now.pages.page_size g.A.CodecFixed.SIZE (string_bytes c.args.cfg.now.partition) c.args.section c.args.end (seen shown c.from_residual-in_err-end.result) c.args.dev.now c.end_within.new.dev _
-    (still_moments g.D.Device g.S.Seal.seal_of c.args.cfg.now.pages.page_size g.A.CodecFixed.SIZE (string_bytes c.args.cfg.now.partition) c.args.section c.args.end (seen shown c.from_residual-in_err-end.result) c.args.dev.now c.end_within.new.dev c.init_bounded.new.dev c.ranges.section.fits o.moments f.unchanged)
+    (still_moments g.D.Device g.S.Seal.seal_of c.args.cfg.now.pages.page_size g.A.CodecFixed.SIZE (string_bytes c.args.cfg.now.partition) c.args.section c.args.end (seen shown c.from_residual-in_err-end.result) c.args.dev.now c.end_within.new.dev c.init_bounded.new.dev c.ranges.section.fits c.in_ok-journal.ensures.moments f.unchanged)
     (none_ends _ (seen shown c.from_residual-in_err-end.result) c.in_err-end.field-0.0 is)
-    (λ t name bad. o.foreign t name bad)
+    (λ t name bad. c.in_ok-journal.ensures.foreign t name bad)
     (λ n at. cut_unnamed (seen shown c.from_residual-in_err-end.result) (shown c.in_ok-journal.journal).sections.floor (g.D.Device.faults c.init_bounded.new.dev) (g.D.Device.faults c.end_within.new.dev) n failed at)
-    (λ q never. f.entries.others q (λ at. never c.args.section (at ∙ ap (λ (x : List ℕ). section_key x c.args.section) o.partition)) ∙ o.entries q (λ s le. never s))
-    (omega (arith, o.faults, f.faults))
+    (λ q never. f.entries.others q (λ at. never c.args.section (at ∙ ap (λ (x : List ℕ). section_key x c.args.section) c.in_ok-journal.ensures.partition)) ∙ c.in_ok-journal.ensures.entries q (λ s le. never s))
+    (omega (arith, c.in_ok-journal.ensures.faults, f.faults))
 
 pub returns-in_err-end-clause-cause : goal.returns-in_err-end-clause-cause
 returns-in_err-end-clause-cause g c =
-    let o = c.in_ok-journal.ensures in
     let e = c.in_err-end.field-0.0 in
     end_cause g.D.Device g.S.Seal.seal_of c.args.cfg.now.pages.page_size g.A.CodecFixed.SIZE (string_bytes c.args.cfg.now.partition) c.args.section c.args.end (seen shown c.from_residual-in_err-end.result) c.args.dev.now c.end_within.new.dev {U = ℕ} e
-    (ap (seen shown) (err_of c.from_residual-in_err-end.result e c.from_residual-in_err-end.ensures.1)) (shown c.in_ok-journal.journal).sections.floor (g.D.Device.faults c.init_bounded.new.dev) o.faults
-    (λ pruned. omega (arith, c.in_err-end.ensures.guard.0 pruned, o.floor)) c.in_err-end.ensures.cause
+    (ap (seen shown) (err_of c.from_residual-in_err-end.result e c.from_residual-in_err-end.ensures.1)) (shown c.in_ok-journal.journal).sections.floor (g.D.Device.faults c.init_bounded.new.dev) c.in_ok-journal.ensures.faults
+    (λ pruned. omega (arith, c.in_err-end.ensures.guard.0 pruned, c.in_ok-journal.ensures.floor)) c.in_err-end.ensures.cause
 
 pub returns-clause-bounds : goal.returns-clause-bounds
 returns-clause-bounds g c =
-    let o = c.in_ok-journal.ensures in
     let f = c.truncate_pending_tail.ensures in
     opened_bounds g.D.Device g.S.Seal.seal_of c.args.cfg.now.pages.page_size g.A.CodecFixed.SIZE (string_bytes c.args.cfg.now.partition) c.args.section c.args.end (seen shown c.truncate_pending_tail.result) c.args.dev.now c.truncate_pending_tail.new.dev _
     (moments_tail g.S.Seal.seal_of c.args.cfg.now.pages.page_size g.A.CodecFixed.SIZE g.met.A.CodecFixed.fixed.at_least (ghosts g.row.S g.S.Seal g.S.Seal-dict) (are_pages g.row.S g.S.Seal g.S.Seal-dict) (λ f. record { page_size = f.pages.page_size; capacity = f.write_buffer; cache_pages = f.pages.cache_pages }) g.D.Device
-    (shown c.in_ok-journal.journal) c.args.section c.args.end c.in_ok-end.end c.whole_bytes-end.result c.ranges.section.fits (string_bytes c.args.cfg.now.partition) o.partition c.args.dev.now c.init_bounded.new.dev c.end_within.new.dev
-    o.over (record { held = o.held; unopened = o.unopened; bytes = o.bytes; moments = o.moments }) o.no_leftover (ap (λ (x : Pages). x.page_size) o.pages) o.unrecovered c.whole_bytes-end.ensures c.in_ok-end.ensures c.truncate_pending_tail.new.dev f.moments)
+    (shown c.in_ok-journal.journal) c.args.section c.args.end c.in_ok-end.end c.whole_bytes-end.result c.ranges.section.fits (string_bytes c.args.cfg.now.partition) c.in_ok-journal.ensures.partition c.args.dev.now c.init_bounded.new.dev c.end_within.new.dev
+    c.in_ok-journal.ensures.over (record { held = c.in_ok-journal.ensures.held; unopened = c.in_ok-journal.ensures.unopened; bytes = c.in_ok-journal.ensures.bytes; moments = c.in_ok-journal.ensures.moments }) c.in_ok-journal.ensures.no_leftover (ap (λ (x : Pages). x.page_size) c.in_ok-journal.ensures.pages) c.in_ok-journal.ensures.unrecovered c.whole_bytes-end.ensures c.in_ok-end.ensures c.truncate_pending_tail.new.dev f.moments)
     (if_ok_on (seen shown c.truncate_pending_tail.result) (λ k cut. opened_tail g.S.Seal.seal_of c.args.cfg.now.pages.page_size g.A.CodecFixed.SIZE g.met.A.CodecFixed.fixed.at_least (ghosts g.row.S g.S.Seal g.S.Seal-dict) (are_pages g.row.S g.S.Seal g.S.Seal-dict) (λ f. record { page_size = f.pages.page_size; capacity = f.write_buffer; cache_pages = f.pages.cache_pages }) g.D.Device
-    (shown c.in_ok-journal.journal) c.args.section c.args.end c.in_ok-end.end c.whole_bytes-end.result c.ranges.section.fits (string_bytes c.args.cfg.now.partition) o.partition c.args.dev.now c.init_bounded.new.dev c.end_within.new.dev
-    o.over (record { held = o.held; unopened = o.unopened; bytes = o.bytes; moments = o.moments }) o.no_leftover (ap (λ (x : Pages). x.page_size) o.pages) o.unrecovered c.whole_bytes-end.ensures c.in_ok-end.ensures
-    c.truncate_pending_tail.new.dev k cut f.moments c.args.cfg.now.pages c.args.cfg.now.write_buffer o.later o.floors o.idle o.pages o.write_buffer o.floor) f.ends)
-    (λ t name bad. o.foreign t name bad)
+    (shown c.in_ok-journal.journal) c.args.section c.args.end c.in_ok-end.end c.whole_bytes-end.result c.ranges.section.fits (string_bytes c.args.cfg.now.partition) c.in_ok-journal.ensures.partition c.args.dev.now c.init_bounded.new.dev c.end_within.new.dev
+    c.in_ok-journal.ensures.over (record { held = c.in_ok-journal.ensures.held; unopened = c.in_ok-journal.ensures.unopened; bytes = c.in_ok-journal.ensures.bytes; moments = c.in_ok-journal.ensures.moments }) c.in_ok-journal.ensures.no_leftover (ap (λ (x : Pages). x.page_size) c.in_ok-journal.ensures.pages) c.in_ok-journal.ensures.unrecovered c.whole_bytes-end.ensures c.in_ok-end.ensures
+    c.truncate_pending_tail.new.dev k cut f.moments c.args.cfg.now.pages c.args.cfg.now.write_buffer c.in_ok-journal.ensures.later c.in_ok-journal.ensures.floors c.in_ok-journal.ensures.idle c.in_ok-journal.ensures.pages c.in_ok-journal.ensures.write_buffer c.in_ok-journal.ensures.floor) f.ends)
+    (λ t name bad. c.in_ok-journal.ensures.foreign t name bad)
     (λ n at. cut_unnamed (seen shown c.truncate_pending_tail.result) (shown c.in_ok-journal.journal).sections.floor (g.D.Device.faults c.end_within.new.dev) (g.D.Device.faults c.truncate_pending_tail.new.dev) n f.cause at)
     (entries_tail g.S.Seal.seal_of c.args.cfg.now.pages.page_size g.A.CodecFixed.SIZE g.met.A.CodecFixed.fixed.at_least (ghosts g.row.S g.S.Seal g.S.Seal-dict) (are_pages g.row.S g.S.Seal g.S.Seal-dict) (λ f. record { page_size = f.pages.page_size; capacity = f.write_buffer; cache_pages = f.pages.cache_pages }) g.D.Device
-    (shown c.in_ok-journal.journal) c.args.section c.args.end c.in_ok-end.end c.whole_bytes-end.result c.ranges.section.fits (string_bytes c.args.cfg.now.partition) o.partition c.args.dev.now c.init_bounded.new.dev c.end_within.new.dev
-    o.over (record { held = o.held; unopened = o.unopened; bytes = o.bytes; moments = o.moments }) o.no_leftover (ap (λ (x : Pages). x.page_size) o.pages) o.unrecovered c.whole_bytes-end.ensures c.in_ok-end.ensures c.truncate_pending_tail.new.dev f.entries o.entries)
-    (omega (arith, o.faults, c.end_within.ensures.faults, f.faults))
+    (shown c.in_ok-journal.journal) c.args.section c.args.end c.in_ok-end.end c.whole_bytes-end.result c.ranges.section.fits (string_bytes c.args.cfg.now.partition) c.in_ok-journal.ensures.partition c.args.dev.now c.init_bounded.new.dev c.end_within.new.dev
+    c.in_ok-journal.ensures.over (record { held = c.in_ok-journal.ensures.held; unopened = c.in_ok-journal.ensures.unopened; bytes = c.in_ok-journal.ensures.bytes; moments = c.in_ok-journal.ensures.moments }) c.in_ok-journal.ensures.no_leftover (ap (λ (x : Pages). x.page_size) c.in_ok-journal.ensures.pages) c.in_ok-journal.ensures.unrecovered c.whole_bytes-end.ensures c.in_ok-end.ensures c.truncate_pending_tail.new.dev f.entries c.in_ok-journal.ensures.entries)
+    (omega (arith, c.in_ok-journal.ensures.faults, c.end_within.ensures.faults, f.faults))
 
 pub returns-clause-cause : goal.returns-clause-cause
 returns-clause-cause g c =
-    let o = c.in_ok-journal.ensures in
-    let f = c.truncate_pending_tail.ensures in
     opened_cause g.D.Device g.S.Seal.seal_of c.args.cfg.now.pages.page_size g.A.CodecFixed.SIZE (string_bytes c.args.cfg.now.partition) c.args.section c.args.end (seen shown c.truncate_pending_tail.result) c.args.dev.now c.truncate_pending_tail.new.dev (shown c.in_ok-journal.journal).sections.floor (g.D.Device.faults c.end_within.new.dev)
-    (omega (arith, o.faults, c.end_within.ensures.faults)) (λ pruned. omega (arith, f.guard.0 pruned, o.floor)) f.damage f.cause
+    (omega (arith, c.in_ok-journal.ensures.faults, c.end_within.ensures.faults)) (λ pruned. omega (arith, c.truncate_pending_tail.ensures.guard.0 pruned, c.in_ok-journal.ensures.floor)) c.truncate_pending_tail.ensures.damage c.truncate_pending_tail.ensures.cause

@@ -1,7 +1,7 @@
 use Rattle.std.specs.BTreeMap.{get}
 use Rattle.std.specs.Option.{option_copied}
 use Rattle.std.specs.Ordering.{nat_cmp}
-use Rattle.std.proofs.Common.{◌≡◌, ◌∙◌, None, Some, sym, ap}
+use Rattle.std.proofs.Common.{◌≡◌, ◌∙◌, None, sym, ap}
 use Rattle.blob_device.proofs.Results.{err_of}
 use Rattle.section_manager.specs.managing.Managed.{shown}
 use Rattle.segments.specs.FixedShown as lists
@@ -18,22 +18,16 @@ returns-in_default g c =
 
 pub returns-in_err-kept : goal.returns-in_err-kept
 returns-in_err-kept g c =
-    let u = c.in-Some.held.now in
-    let held : get nat_cmp c.args.self.now.manager.held.buffers c.args.section ≡ Some c.in-Some.held.now = sym c.in_ok-held.ensures.held ∙ ap option_copied c.in-Some.is in
-    let f = c.prefix_at_most.ensures in
     recovers_of _ _ g.S.Seal.seal_of g.A.CodecFixed.SIZE g.D.Device (lists.shown c.args.self.now) c.args.section c.args.end c.args.dev.now c.prefix_at_most.new.dev _
-    (measures_err g.S.Seal.seal_of g.A.CodecFixed.SIZE g.D.Device (shown c.args.self.now.manager) c.args.section c.args.end u held (c.requires.over.opened_list.key c.args.section u held)
-    (λ lt. no_error _ _ (c.in_ok-held.ensures.guard.1 lt)) c.args.dev.now c.prefix_at_most.new.dev f.unchanged f.entries f.faults
+    (measures_err g.S.Seal.seal_of g.A.CodecFixed.SIZE g.D.Device (shown c.args.self.now.manager) c.args.section c.args.end c.in-Some.held.now (sym c.in_ok-held.ensures.held ∙ ap option_copied c.in-Some.is) (c.requires.over.opened_list.key c.args.section c.in-Some.held.now (sym c.in_ok-held.ensures.held ∙ ap option_copied c.in-Some.is))
+    (λ lt. no_error _ _ (c.in_ok-held.ensures.guard.1 lt)) c.args.dev.now c.prefix_at_most.new.dev c.prefix_at_most.ensures.unchanged c.prefix_at_most.ensures.reads c.prefix_at_most.ensures.faults
     c.from_residual-in_err-kept.result c.in_err-kept.field-0.0 (err_of c.from_residual-in_err-kept.result _ c.from_residual-in_err-kept.ensures.1) c.in_err-kept.ensures.cause)
 
 pub returns : goal.returns
 returns g c =
-    let u = c.in-Some.held.now in
-    let held : get nat_cmp c.args.self.now.manager.held.buffers c.args.section ≡ Some c.in-Some.held.now = sym c.in_ok-held.ensures.held ∙ ap option_copied c.in-Some.is in
-    let f = c.prefix_at_most.ensures in
     recovers_of _ _ g.S.Seal.seal_of g.A.CodecFixed.SIZE g.D.Device (lists.shown c.args.self.now) c.args.section c.args.end c.args.dev.now c.prefix_at_most.new.dev _
-    (measures_some g.S.Seal.seal_of g.A.CodecFixed.SIZE g.D.Device (shown c.args.self.now.manager) c.args.section c.args.end u held (c.requires.over.opened_list.key c.args.section u held)
-    (λ lt. no_error _ _ (c.in_ok-held.ensures.guard.1 lt)) c.args.dev.now c.prefix_at_most.new.dev f.unchanged f.entries f.faults
+    (measures_some g.S.Seal.seal_of g.A.CodecFixed.SIZE g.D.Device (shown c.args.self.now.manager) c.args.section c.args.end c.in-Some.held.now (sym c.in_ok-held.ensures.held ∙ ap option_copied c.in-Some.is) (c.requires.over.opened_list.key c.args.section c.in-Some.held.now (sym c.in_ok-held.ensures.held ∙ ap option_copied c.in-Some.is))
+    (λ lt. no_error _ _ (c.in_ok-held.ensures.guard.1 lt)) c.args.dev.now c.prefix_at_most.new.dev c.prefix_at_most.ensures.unchanged c.prefix_at_most.ensures.reads c.prefix_at_most.ensures.faults
     c.whole_bytes-2.result c.in_ok-kept.kept g.met.A.CodecFixed.fixed.at_least c.whole_bytes-2.ensures c.in_ok-kept.ensures.within c.in_ok-kept.ensures.prefix)
 
 pub returns-in_err-held : goal.returns-in_err-held

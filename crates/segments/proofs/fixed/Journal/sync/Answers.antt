@@ -1,7 +1,6 @@
 use Rattle.std.proofs.Common.{refl}
 use Rattle.std.specs.List.{Contains}
 use Rattle.section_manager.specs.contracts.sealed.PageBlobSectionBuffer.TheImpl.{ghosts}
-use Rattle.section_manager.specs.managing.Settling.{IsAnyBelow}
 use Rattle.section_manager.proofs.Seen.{err_seen}
 use Rattle.section_manager.proofs.WalkLemmas.{contains_or_not}
 use Rattle.segments.specs.FixedShown.{shown}

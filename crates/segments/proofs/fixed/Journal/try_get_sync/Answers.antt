@@ -1,4 +1,4 @@
-use Rattle.std.proofs.Common.{◌≡◌, ◌∙◌, ◌*◌, true, List, ℕ, Option, None, sym, subst}
+use Rattle.std.proofs.Common.{◌≡◌, ◌∙◌, ◌*◌, true, List, ℕ, None, sym, subst}
 use Rattle.sealed_pages.specs.Buffer.{bytes_of}
 use Rattle.sealed_pages.specs.Reads.{IsCacheFor}
 use Rattle.sealed_pages.specs.Shown as page_blob

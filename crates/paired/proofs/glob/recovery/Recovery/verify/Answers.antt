@@ -4,7 +4,7 @@ use Rattle.std.specs.Option.{option_copied}
 use Rattle.blob_device.specs.Timeline.{disk}
 use Rattle.blob_device.specs.Disk.{Key}
 use Rattle.sealed_pages.specs.Entries.{ReadsAtMost}
-use Rattle.sealed_pages.proofs.Looking.{unchanged_now}
+use Rattle.sealed_pages.proofs.looking.Looking.{unchanged_now}
 use Rattle.section_manager.specs.managing.Managed.{shown}
 use Rattle.paired.specs.Frames.{IsSealed}
 use Rattle.paired.specs.glob.Sections.{section_bytes}

@@ -1,4 +1,4 @@
-use Rattle.std.proofs.Common.{◌≡◌, ◌↔◌, ◌⊎◌, inl, inr, ℕ, true, false, length, Err, refl, sym, ◌∙◌, ap, subst, arith}
+use Rattle.std.proofs.Common.{◌≡◌, ◌↔◌, ◌⊎◌, inl, inr, ℕ, true, false, length, unwrap_or, Err, refl, sym, ◌∙◌, ap, subst, arith}
 use Rattle.std.specs.List.{Contains}
 use Rattle.std.specs.BTreeSet as set
 use Rattle.std.specs.Ordering.{nat_cmp}
@@ -15,8 +15,10 @@ use Rattle.segments.specs.FixedReplay.{IsDrained}
 use Rattle.segments.specs.FixedShown as fixed
 use Rattle.segments.proofs.FixedWriteLemmas.{are_pages}
 use Rattle.paired.specs.Crashes.{IsCopy}
-use Rattle.paired.specs.OpeningRefusing.{IsSomeRefused}
 use Rattle.paired.specs.PairShown.{shown}
+use Rattle.paired.specs.glob.Sections.{section_size}
+use Rattle.paired.specs.Places.{last_end}
+use Rattle.paired.specs.Reconciling.{IsEndWithin}
 use Rattle.paired.specs.ReplayShown.{run_of}
 use Rattle.paired.specs.Replaying.{pair_of}
 use Rattle.paired.specs.sighted.Shown as tracked
@@ -30,8 +32,8 @@ use Rattle.paired.proofs.reconcile.Stages.{records_stage, values_stage, removing
 use Rattle.paired.proofs.reconcile.Joints.{cut_joint, cut_values_same, trim_joint, removed_joint}
 use Rattle.paired.proofs.reconcile.Pair.{pair_with, reconciled_of}
 use Rattle.paired.proofs.reconcile.Result.{pair_is, moves_given, given_moves, stage_as, newer_as, kept_result, counts_result, settled_result, index_result}
-use Rattle.paired.proofs.reconcile.Errors.{if_err, no_ok, handed_back, handed_on, on_error, failed_on, memory_on, damaged_on, read_on, replay_or_not, failed_replay, failed_full, failed_codec, failed_corrupt, failed_damage, failed_cause, failed_complete, damaged_replay, damaged_full, damaged_codec, damaged_corrupt, damaged_cause, damaged_complete, read_replay, read_full, read_cause, read_complete, marks_complete, marks_cause, marked_no_replay, marked_no_codec, marked_no_corrupt, marked_no_damage, last_within, none_refused}
-use Rattle.paired.proofs.reconcile.Entries.{run_here, markers_readable, drained_of, drained_from, as_back, as_cut, as_trim, as_removed, cut_entry, trim_entry, removed_entry, cut_reads, trim_reads, leaves_reads, doomed_of, notes_of, noted_same}
+use Rattle.paired.proofs.reconcile.Errors.{if_err, no_ok, handed_back, handed_on, on_error, failed_on, memory_on, damaged_on, values_end, replay_or_not, failed_replay, failed_full, failed_codec, failed_corrupt, failed_damage, failed_cause, failed_complete, damaged_replay, damaged_full, damaged_codec, damaged_corrupt, damaged_cause, damaged_complete, marks_complete, marks_cause, marked_no_replay, marked_no_codec, marked_no_corrupt, marked_no_damage}
+use Rattle.paired.proofs.reconcile.Entries.{run_here, markers_readable, drained_of, drained_from, as_back, as_cut, as_trim, as_removed, cut_entry, trim_entry, removed_entry, cut_reads, cut_unread, trim_reads, trim_unread, leaves_reads, doomed_of, notes_of, noted_same}
 use Rattle.paired.proofs.oversized.replaying.Replay.finish_tracked.Goals as goal
 use Rattle.paired.proofs.oversized.replaying.Replay.finish_tracked.Goals.{then-not-self-via-then-not-self, then-not-self-via-else-not-self+then-self}
 
@@ -70,7 +72,7 @@ cut_values-requires g c =
     let cuts = c.in_ok-index.ensures in
     let cut = as_cut a e j0 k o1 b (record { over = cuts.over; proven = cuts.proven; cut = cuts.cut; sizes = cuts.sizes; others = cuts.others; held = cuts.held; unopened = cuts.unopened; settled = cuts.settled; bounds = cuts.bounds; moments = c.cut_records.ensures.moments; entries = c.cut_records.ensures.entries }) in
     let joint1 = cut_joint a (ends_of e j0 back) k o1 b cut (λ t q. g.met.D.Device.as_read t c.cut_records.new.dev q) in
-    record { over = joint1.rests.journal; values = joint1.rests.parts.values; proven = joint1.rests.proven; floors = (cuts.bounds.floor ∙ ap (λ x. x.floor) back_says.sections ∙ (opening e).index_floor, (opening e).values_floor); apart = λ is. e.over.apart.values (sym joint1.rests.parts.index_here ∙ is ∙ e.here.values) }
+    record { over = joint1.rests.journal; values = joint1.rests.parts.values; proven = joint1.rests.proven; ends = λ t s held. subst (λ rs. IsEndWithin (last_end run.layout.place rs) (section_size run.values s) (unwrap_or (run.ends.values s) 0)) (sym (joint1.records t s)) (values_end e t j0 back s); floors = (cuts.bounds.floor ∙ ap (λ x. x.floor) back_says.sections ∙ (opening e).index_floor, (opening e).values_floor); apart = λ is. e.over.apart.values (sym joint1.rests.parts.index_here ∙ is ∙ e.here.values) }
 
 pub remove_values-requires : goal.remove_values-requires
 remove_values-requires g c =
@@ -191,6 +193,7 @@ returns-then-not-self g c =
       clean = λ t s is. (left t).clean s is;
       idle = λ t all. (left t).idle all;
       reads = λ s. omega arith;
+      index_unread = λ s small none. omega arith;
       entries = λ q not. refl;
       replay_failed = (λ was. (elim c.then-not-self.branch [ then-not-self-via-then-not-self x ↦ inl x.if-not-self.true | then-not-self-via-else-not-self+then-self x ↦ inr (inl (inl x.if-self.true)) ]), λ any. refl);
       refused = λ was. refl;
@@ -233,6 +236,7 @@ returns-in_err-finish g c =
       clean = λ t s is. (left t).clean s is;
       idle = λ t all. (left t).idle all;
       reads = λ s. omega arith;
+      index_unread = λ s small none. omega arith;
       entries = λ q not. refl;
       replay_failed = (λ was. (elim (c.in_err-finish.ensures.replay_failed.0 c.in_err-finish.ensures.cause) [ inl walk ↦ inr (inl (inr walk)) | inr not ↦ inr (inr not) ]), λ any. refused);
       refused = λ was. refl;
@@ -284,6 +288,7 @@ returns-in_err-index g c =
       clean = λ t s is. (left t).clean s is;
       idle = λ t all. (left t).idle all;
       reads = λ s. omega (arith, ap reads_of (cut_reads a e j0 back o1 c.cut_records.ensures.entries s));
+      index_unread = λ s small none. omega (arith, ap reads_of (cut_unread a e j0 back o1 c.cut_records.ensures.entries s small none));
       entries = λ q not. cut_entry a e q not j0 back o1 c.cut_records.ensures.entries;
       replay_failed = replay_or_not r _ _ _ (damaged_replay r (g.D.Device.faults c.args.dev.now) (g.D.Device.faults c.cut_records.new.dev) failed) (λ no. not_both run.tracked e.tracked no) e.unfailed (λ no. no e.drained);
       refused = λ was. absurd (damaged_replay r (g.D.Device.faults c.args.dev.now) (g.D.Device.faults c.cut_records.new.dev) failed was);
@@ -325,7 +330,7 @@ returns-in_err-values g c =
     let w = c.in_err-values.field-0.0 in
     let is = err_of r w c.from_residual-in_err-values.ensures.1 in
     let left : told → Left run a d = λ t. left_before run e.over.apart a b d d (s1 t) (s2 t) (no_stage run 2 (disk a) d) in
-    let failed = read_on r w is (g.D.Device.faults c.args.dev.now) (g.D.Device.faults c.cut_records.new.dev) (g.D.Device.faults c.cut_values.new.dev) (omega (arith, c.cut_records.ensures.faults)) c.in_err-values.ensures.cause in
+    let failed = failed_on r w is (g.D.Device.faults c.args.dev.now) (g.D.Device.faults c.cut_records.new.dev) (g.D.Device.faults c.cut_values.new.dev) (omega (arith, c.cut_records.ensures.faults)) c.in_err-values.ensures.cause in
     record {
       over = if_err r w is _;
       kept = λ t. if_err r w is _;
@@ -342,18 +347,19 @@ returns-in_err-values g c =
       clean = λ t s is. (left t).clean s is;
       idle = λ t all. (left t).idle all;
       reads = λ s. omega (arith, ap reads_of (cut_reads a e j0 back o1 c.cut_records.ensures.entries s), trim_reads a e o1 o2 c.cut_values.ensures.reads s);
+      index_unread = λ s small none. omega (arith, ap reads_of (cut_unread a e j0 back o1 c.cut_records.ensures.entries s small none), ap reads_of (trim_unread a e b k o1 o2 joint1 c.cut_values.ensures.entries s));
       entries = λ q not. trim_entry a e q not b k o1 o2 joint1 c.cut_values.ensures.entries ∙ cut_entry a e q not j0 back o1 c.cut_records.ensures.entries;
-      replay_failed = replay_or_not r _ _ _ (read_replay r (g.D.Device.faults c.args.dev.now) (g.D.Device.faults c.cut_values.new.dev) failed) (λ no. not_both run.tracked e.tracked no) e.unfailed (λ no. no e.drained);
-      refused = λ was. absurd (read_replay r (g.D.Device.faults c.args.dev.now) (g.D.Device.faults c.cut_values.new.dev) failed was);
-      full = λ was. absurd (read_full r (g.D.Device.faults c.args.dev.now) (g.D.Device.faults c.cut_values.new.dev) failed was);
-      full_moves = λ t was. absurd (read_full r (g.D.Device.faults c.args.dev.now) (g.D.Device.faults c.cut_values.new.dev) failed was);
+      replay_failed = replay_or_not r _ _ _ (failed_replay r (g.D.Device.faults c.args.dev.now) (g.D.Device.faults c.cut_values.new.dev) failed) (λ no. not_both run.tracked e.tracked no) e.unfailed (λ no. no e.drained);
+      refused = λ was. absurd (failed_replay r (g.D.Device.faults c.args.dev.now) (g.D.Device.faults c.cut_values.new.dev) failed was);
+      full = λ was. absurd (failed_full r (g.D.Device.faults c.args.dev.now) (g.D.Device.faults c.cut_values.new.dev) failed was);
+      full_moves = λ t was. absurd (failed_full r (g.D.Device.faults c.args.dev.now) (g.D.Device.faults c.cut_values.new.dev) failed was);
       no_version = λ t large moving. no_ok r w is;
-      unspelled = λ t x was. (let found = c.in_err-values.ensures.refused t x (handed_back r w (Codec x) is was) in (found.0, subst (λ rs. IsSomeRefused g.I.Codec.refusal rs x) (joint1.records t found.0) found.1));
-      complete = λ t spelled. read_complete r (g.D.Device.faults c.args.dev.now) (g.D.Device.faults c.cut_values.new.dev) failed (λ x was. (let found = c.in_err-values.ensures.damage t x (handed_back r w (Corruption x) is was) in last_within e t j0 back x.section _ x (joint1.records t x.section) (c.in_err-values.ensures.counted x (handed_back r w (Corruption x) is was)) found.1)) (λ was. c.in_err-values.ensures.damaged t (was.0, handed_back r w _ is was.1)) (λ x was. (let found = c.in_err-values.ensures.refused t x (handed_back r w (Codec x) is was) in none_refused e t j0 back g.I.Codec.refusal found.0 x spelled (subst (λ rs. IsSomeRefused g.I.Codec.refusal rs x) (joint1.records t found.0) found.1)));
-      damage = λ t x was. (let found = c.in_err-values.ensures.damage t x (handed_back r w (Corruption x) is was) in last_within e t j0 back x.section _ x (joint1.records t x.section) (c.in_err-values.ensures.counted x (handed_back r w (Corruption x) is was)) found.1);
-      damaged = λ t was. c.in_err-values.ensures.damaged t (was.0, handed_back r w _ is was.1);
+      unspelled = λ t x was. absurd (failed_codec r (g.D.Device.faults c.args.dev.now) (g.D.Device.faults c.cut_values.new.dev) failed x was);
+      complete = λ t spelled. failed_complete r (g.D.Device.faults c.args.dev.now) (g.D.Device.faults c.cut_values.new.dev) failed;
+      damage = λ t x was. failed_corrupt r (g.D.Device.faults c.args.dev.now) (g.D.Device.faults c.cut_values.new.dev) failed x was;
+      damaged = λ t was. failed_damage r (g.D.Device.faults c.args.dev.now) (g.D.Device.faults c.cut_values.new.dev) failed was;
       faults = omega (arith, c.cut_records.ensures.faults, c.cut_values.ensures.faults);
-      cause = read_cause r (g.D.Device.faults c.args.dev.now) (g.D.Device.faults c.cut_values.new.dev) failed;
+      cause = failed_cause r (g.D.Device.faults c.args.dev.now) (g.D.Device.faults c.cut_values.new.dev) failed;
     }
 
 pub returns-in_err-held_sections : goal.returns-in_err-held_sections
@@ -404,6 +410,7 @@ returns-in_err-held_sections g c =
       clean = λ t s is. (left t).clean s is;
       idle = λ t all. (left t).idle all;
       reads = λ s. omega (arith, ap reads_of (cut_reads a e j0 back o1 c.cut_records.ensures.entries s), trim_reads a e o1 o2 c.cut_values.ensures.reads s);
+      index_unread = λ s small none. omega (arith, ap reads_of (cut_unread a e j0 back o1 c.cut_records.ensures.entries s small none), ap reads_of (trim_unread a e b k o1 o2 joint1 c.cut_values.ensures.entries s));
       entries = λ q not. trim_entry a e q not b k o1 o2 joint1 c.cut_values.ensures.entries ∙ cut_entry a e q not j0 back o1 c.cut_records.ensures.entries;
       replay_failed = replay_or_not r _ _ _ (failed_replay r (g.D.Device.faults c.args.dev.now) (g.D.Device.faults c.cut_values.new.dev) failed) (λ no. not_both run.tracked e.tracked no) e.unfailed (λ no. no e.drained);
       refused = λ was. absurd (failed_replay r (g.D.Device.faults c.args.dev.now) (g.D.Device.faults c.cut_values.new.dev) failed was);
@@ -466,6 +473,7 @@ returns-in_err-alone g c =
       clean = λ t s is. (left t).clean s is;
       idle = λ t all. (left t).idle all;
       reads = λ s. omega (arith, ap reads_of (cut_reads a e j0 back o1 c.cut_records.ensures.entries s), trim_reads a e o1 o2 c.cut_values.ensures.reads s);
+      index_unread = λ s small none. omega (arith, ap reads_of (cut_unread a e j0 back o1 c.cut_records.ensures.entries s small none), ap reads_of (trim_unread a e b k o1 o2 joint1 c.cut_values.ensures.entries s));
       entries = λ q not. trim_entry a e q not b k o1 o2 joint1 c.cut_values.ensures.entries ∙ cut_entry a e q not j0 back o1 c.cut_records.ensures.entries;
       replay_failed = replay_or_not r _ _ _ (failed_replay r (g.D.Device.faults c.args.dev.now) (g.D.Device.faults c.cut_values.new.dev) failed) (λ no. not_both run.tracked e.tracked no) e.unfailed (λ no. no e.drained);
       refused = λ was. absurd (failed_replay r (g.D.Device.faults c.args.dev.now) (g.D.Device.faults c.cut_values.new.dev) failed was);
@@ -534,6 +542,7 @@ returns-in_err-values-2 g c =
       clean = λ t s is. (left t).clean s is;
       idle = λ t all. (left t).idle all;
       reads = λ s. omega (arith, ap reads_of (cut_reads a e j0 back o1 c.cut_records.ensures.entries s), trim_reads a e o1 o2 c.cut_values.ensures.reads s, leaves_reads _ o2 o3 c.remove_values.ensures.entries (section_key run.layout.values s));
+      index_unread = λ s small none. omega (arith, ap reads_of (cut_unread a e j0 back o1 c.cut_records.ensures.entries s small none), ap reads_of (trim_unread a e b k o1 o2 joint1 c.cut_values.ensures.entries s), leaves_reads _ o2 o3 c.remove_values.ensures.entries (section_key run.layout.index s));
       entries = λ q not. removed_entry a e q not d k m o2 o3 joint2 doom (λ s is. ((doomed s).0 is).0) c.remove_values.ensures.entries ∙ trim_entry a e q not b k o1 o2 joint1 c.cut_values.ensures.entries ∙ cut_entry a e q not j0 back o1 c.cut_records.ensures.entries;
       replay_failed = replay_or_not r _ _ _ (failed_replay r (g.D.Device.faults c.args.dev.now) (g.D.Device.faults c.remove_values.new.dev) failed) (λ no. not_both run.tracked e.tracked no) e.unfailed (λ no. no e.drained);
       refused = λ was. absurd (failed_replay r (g.D.Device.faults c.args.dev.now) (g.D.Device.faults c.remove_values.new.dev) failed was);
@@ -607,6 +616,7 @@ returns-in_err-held g c =
       clean = λ t s is. (left t).clean s is;
       idle = λ t all. (left t).idle all;
       reads = λ s. omega (arith, ap reads_of (cut_reads a e j0 back o1 c.cut_records.ensures.entries s), trim_reads a e o1 o2 c.cut_values.ensures.reads s, leaves_reads _ o2 o3 c.remove_values.ensures.entries (section_key run.layout.values s));
+      index_unread = λ s small none. omega (arith, ap reads_of (cut_unread a e j0 back o1 c.cut_records.ensures.entries s small none), ap reads_of (trim_unread a e b k o1 o2 joint1 c.cut_values.ensures.entries s), leaves_reads _ o2 o3 c.remove_values.ensures.entries (section_key run.layout.index s));
       entries = λ q not. removed_entry a e q not d k m o2 o3 joint2 doom (λ s is. ((doomed s).0 is).0) c.remove_values.ensures.entries ∙ trim_entry a e q not b k o1 o2 joint1 c.cut_values.ensures.entries ∙ cut_entry a e q not j0 back o1 c.cut_records.ensures.entries;
       replay_failed = replay_or_not r _ _ _ (failed_replay r (g.D.Device.faults c.args.dev.now) (g.D.Device.faults c.remove_values.new.dev) failed) (λ no. not_both run.tracked e.tracked no) e.unfailed (λ no. no e.drained);
       refused = λ was. absurd (failed_replay r (g.D.Device.faults c.args.dev.now) (g.D.Device.faults c.remove_values.new.dev) failed was);
@@ -680,6 +690,7 @@ returns-in_err-note_synced g c =
       clean = λ t s is. (left t).clean s is;
       idle = λ t all. (left t).idle all;
       reads = λ s. omega (arith, ap reads_of (cut_reads a e j0 back o1 c.cut_records.ensures.entries s), trim_reads a e o1 o2 c.cut_values.ensures.reads s, leaves_reads _ o2 o3 c.remove_values.ensures.entries (section_key run.layout.values s));
+      index_unread = λ s small none. omega (arith, ap reads_of (cut_unread a e j0 back o1 c.cut_records.ensures.entries s small none), ap reads_of (trim_unread a e b k o1 o2 joint1 c.cut_values.ensures.entries s), leaves_reads _ o2 o3 c.remove_values.ensures.entries (section_key run.layout.index s));
       entries = λ q not. removed_entry a e q not d k m o2 o3 joint2 doom (λ s is. ((doomed s).0 is).0) c.remove_values.ensures.entries ∙ trim_entry a e q not b k o1 o2 joint1 c.cut_values.ensures.entries ∙ cut_entry a e q not j0 back o1 c.cut_records.ensures.entries;
       replay_failed = replay_or_not r _ _ _ (failed_replay r (g.D.Device.faults c.args.dev.now) (g.D.Device.faults c.remove_values.new.dev) failed) (λ no. not_both run.tracked e.tracked no) e.unfailed (λ no. no e.drained);
       refused = λ was. absurd (failed_replay r (g.D.Device.faults c.args.dev.now) (g.D.Device.faults c.remove_values.new.dev) failed was);
@@ -761,6 +772,7 @@ returns g c =
       clean = λ t s is. (left t).clean s is;
       idle = λ t all. (left t).idle all;
       reads = λ s. omega (arith, ap reads_of (says.entries (section_key run.layout.values s) (λ copy. e.over.apart.both (ap (λ k. k.0) (subst (λ p. IsCopy p.layout (section_key run.layout.values s)) (sym same) copy).1))), ap reads_of (cut_reads a e j0 back o1 c.cut_records.ensures.entries s), trim_reads a e o1 o2 c.cut_values.ensures.reads s, leaves_reads _ o2 o3 c.remove_values.ensures.entries (section_key run.layout.values s));
+      index_unread = λ s small none. omega (arith, ap reads_of (says.entries (section_key run.layout.index s) (λ copy. e.over.apart.metadata (ap (λ k. k.0) (subst (λ p. IsCopy p.layout (section_key run.layout.index s)) (sym same) copy).1))), ap reads_of (cut_unread a e j0 back o1 c.cut_records.ensures.entries s small none), ap reads_of (trim_unread a e b k o1 o2 joint1 c.cut_values.ensures.entries s), leaves_reads _ o2 o3 c.remove_values.ensures.entries (section_key run.layout.index s));
       entries = λ q' not. says.entries q' (λ copy. not (inr (inr (subst (λ p. IsCopy p.layout q') (sym same) copy)))) ∙ removed_entry a e q' not d k m o2 o3 joint2 doom (λ s is. ((doomed s).0 is).0) c.remove_values.ensures.entries ∙ trim_entry a e q' not b k o1 o2 joint1 c.cut_values.ensures.entries ∙ cut_entry a e q' not j0 back o1 c.cut_records.ensures.entries;
       replay_failed = replay_or_not r _ _ _ (λ was. marked_no_replay r _ _ says.cause was) (λ no. not_both run.tracked e.tracked no) e.unfailed (λ no. no e.drained);
       refused = λ was. absurd (marked_no_replay r _ _ says.cause was);

@@ -1,6 +1,4 @@
 use Rattle.std.specs.Prelude.{◌≡◌, true, None, Some, IsSome, Ok, Err}
-use Rattle.std.specs.BTreeMap as tree
-use Rattle.std.specs.Ordering.{nat_cmp}
 use Rattle.std.proofs.Common.{refl, sym, ◌∙◌, ap, subst}
 use Rattle.blob_device.specs.Timeline.{disk}
 use Rattle.section_manager.specs.contracts.sealed.PageBlobSectionBuffer.TheImpl as page_blob
@@ -9,7 +7,7 @@ use Rattle.segments.specs.FixedReplay.{SameWalk}
 use Rattle.segments.specs.FixedWalking.{walk_of}
 use Rattle.segments.proofs.FixedWriteLemmas.{are_pages}
 use Rattle.paired.specs.Replaying.{Run}
-use Rattle.paired.specs.ReplayShown.{run_of}
+use Rattle.paired.specs.ReplayShown.{limits_of, run_of}
 use Rattle.paired.proofs.next.Answers.{Clauses}
 use Rattle.paired.proofs.next.Clauses.{no_clauses, some_clauses, err_clauses}
 use Rattle.paired.proofs.next.Glue.{here_run, run_moved, run_then, loop_then, values_unfloored, parts_start, glob_as, config_as, ends_as, section_as, sorts_as, open_there}
@@ -25,35 +23,35 @@ use Rattle.paired.proofs.oversized.replaying.Replay.next.Goals as goal
 in_some : (g : given.Over) (c : goal.In-Ok-Some g) → Clauses g.I.Codec.refusal g.D.Device.Tells (run_of g.I.Record.place c.args.self.now) (run_of g.I.Record.place c.sorted.new.self) (g.D.Device.time c.args.dev.now) (g.D.Device.time c.sorted.new.dev) {V = g.row.I.Denot} (page_blob.ghosts g.row.S g.S.Seal g.S.Seal-dict) page_setting (λ f. record { page_size = 1; capacity = f.capacity; cache_pages = 0 }) g.I.Codec.spelling g.I.Codec.accepted (Some (Ok c.in-Ok-Some.record)) (g.D.Device.opened c.args.dev.now) (g.D.Device.opened c.sorted.new.dev) (g.D.Device.faults c.args.dev.now) (g.D.Device.faults c.sorted.new.dev)
 in_some g c =
     let says : Says g.S.Seal.seal_of g.I.CodecFixed.SIZE (page_blob.ghosts g.row.S g.S.Seal g.S.Seal-dict) page_setting g.D.Device.Tells g.I.Codec.spelling g.I.Codec.accepted g.I.Codec.refusal c.next.result (walk_of c.records.self.index) (walk_of c.next.new.self) (g.D.Device.opened c.records.dev) (g.D.Device.opened c.next.new.dev) (g.D.Device.time c.records.dev) (g.D.Device.time c.next.new.dev) (g.D.Device.faults c.records.dev) (g.D.Device.faults c.next.new.dev) = record { over = c.next.ensures.over; same = c.next.ensures.same; item = c.next.ensures.item; going = c.next.ensures.going; stays = c.next.ensures.stays; known = c.next.ensures.known; items = c.next.ensures.items; floors = c.next.ensures.floors; held = c.next.ensures.held; bytes = c.next.ensures.bytes; unsettled = c.next.ensures.unsettled; nearer = c.next.ensures.nearer; none = c.next.ensures.none; drained = c.next.ensures.drained; whole = c.next.ensures.whole; onward = c.next.ensures.onward; later = c.next.ensures.later; failed = c.next.ensures.failed; stops = c.next.ensures.stops; start = λ t p is. (let x = c.next.ensures.start t p is in (x.0, x.1)); damage = λ t y is. (let x = c.next.ensures.damage t y is in (x.0, x.1)); damaged = λ t k is. (c.next.ensures.damaged t k is).damage; refused = c.next.ensures.refused; ends = c.next.ensures.ends; ends_cut = c.next.ensures.ends_cut; moments = c.next.ensures.moments; entries = c.next.ensures.entries; faults = c.next.ensures.faults; cause = c.next.ensures.cause; ended = λ is. (let p = c.next.ensures.ended is in (p.0, ap walk_of p.1, ap g.D.Device.opened p.2, ap g.D.Device.time p.2)) } in
-    let same : SameWalk (walk_of c.args.self.now.index) (walk_of c.next.new.self) = (all_went (page_blob.ghosts g.row.S g.S.Seal g.S.Seal-dict) page_setting (λ f. record { page_size = 1; capacity = f.capacity; cache_pages = 0 }) g.D.Device.Tells (run_of g.I.Record.place c.args.self.now) (are_pages g.row.S g.S.Seal g.S.Seal-dict) g.I.Codec.spelling g.I.Codec.accepted g.I.Codec.refusal g.I.Record.location g.met.I.Record.spelled (g.D.Device.opened c.args.dev.now) (g.D.Device.time c.args.dev.now) (g.D.Device.faults c.args.dev.now) (here_run g.I.Record.place c.args.self.now g.met.I.CodecFixed.fixed.at_least) (walk_of c.records.self.index) (tree.get nat_cmp c.records.self.ends) c.records.self.ended_section c.records.self.has_failed (g.D.Device.opened c.records.dev) (g.D.Device.time c.records.dev) (g.D.Device.faults c.records.dev) c.records.invariant.0 c.next.result (walk_of c.next.new.self) (g.D.Device.opened c.next.new.dev) (g.D.Device.time c.next.new.dev) (g.D.Device.faults c.next.new.dev) says).same in
-    let first : Sorted (λ f. record { page_size = 1; capacity = f.capacity; cache_pages = 0 }) g.D.Device.Tells (run_of g.I.Record.place (record c.records.self { index = c.next.new.self })) g.I.Record.location c.in-Some.given c.sorted.result (tree.get nat_cmp c.sorted.new.self.ends) c.sorted.new.self.ended_section (g.D.Device.opened c.next.new.dev) (g.D.Device.opened c.sorted.new.dev) (g.D.Device.time c.next.new.dev) (g.D.Device.time c.sorted.new.dev) (g.D.Device.faults c.next.new.dev) (g.D.Device.faults c.sorted.new.dev) = record { passed = λ x is. (let p = c.sorted.ensures.passed x is in (p.0, ends_as p.1, section_as p.1, ap g.D.Device.opened p.2, ap g.D.Device.time p.2, ap g.D.Device.faults p.2)); kept = c.sorted.ensures.kept; sorts = λ t s p v is. sorts_as (run_of g.I.Record.place (record c.records.self { index = c.next.new.self })) (run_of g.I.Record.place c.sorted.new.self) c.sorted.new.self.ended_section (disk (g.D.Device.time c.next.new.dev)) s p (g.I.Record.location v) (λ r. IsSome r) c.sorted.result (c.sorted.ensures.sorts t s p v is); ends_from = c.sorted.ensures.ends_from; live = λ un. (let p = c.sorted.ensures.live un in (ends_as p, section_as p)); goes_on = c.sorted.ensures.goes_on; breaks = c.sorted.ensures.ended; stays = c.sorted.ensures.stays; glob = glob_as c.sorted.ensures.values (λ f. record { page_size = 1; capacity = f.capacity; cache_pages = 0 }) g.D.Device.Tells (g.D.Device.opened c.sorted.new.dev) (disk (g.D.Device.time c.sorted.new.dev)) c.sorted.ensures.glob; unchanged = c.sorted.ensures.unchanged; read = c.sorted.ensures.read; idle = λ s p v is why. ap g.D.Device.opened (c.sorted.ensures.idle s p v is why); faults = c.sorted.ensures.faults; cause = c.sorted.ensures.cause } in
-    let sorted : Sorted (λ f. record { page_size = 1; capacity = f.capacity; cache_pages = 0 }) g.D.Device.Tells (moved (run_of g.I.Record.place c.args.self.now) (walk_of c.next.new.self) (tree.get nat_cmp c.records.self.ends) c.records.self.ended_section c.records.self.has_failed) g.I.Record.location c.in-Some.given c.sorted.result (tree.get nat_cmp c.sorted.new.self.ends) c.sorted.new.self.ended_section (g.D.Device.opened c.next.new.dev) (g.D.Device.opened c.sorted.new.dev) (g.D.Device.time c.next.new.dev) (g.D.Device.time c.sorted.new.dev) (g.D.Device.faults c.next.new.dev) (g.D.Device.faults c.sorted.new.dev) =
-    subst (λ (m : Run _ _). Sorted (λ f. record { page_size = 1; capacity = f.capacity; cache_pages = 0 }) g.D.Device.Tells m g.I.Record.location c.in-Some.given c.sorted.result (tree.get nat_cmp c.sorted.new.self.ends) c.sorted.new.self.ended_section (g.D.Device.opened c.next.new.dev) (g.D.Device.opened c.sorted.new.dev) (g.D.Device.time c.next.new.dev) (g.D.Device.time c.sorted.new.dev) (g.D.Device.faults c.next.new.dev) (g.D.Device.faults c.sorted.new.dev)) (sym (run_moved g.I.Record.place c.args.self.now (record c.records.self { index = c.next.new.self }) (record { values = c.records.invariant.1.values; tracking = c.records.invariant.1.tracking; tracked = c.records.invariant.1.tracked }) same)) first in
+    let same : SameWalk (walk_of c.args.self.now.index) (walk_of c.next.new.self) = (all_went (page_blob.ghosts g.row.S g.S.Seal g.S.Seal-dict) page_setting (λ f. record { page_size = 1; capacity = f.capacity; cache_pages = 0 }) g.D.Device.Tells (run_of g.I.Record.place c.args.self.now) (are_pages g.row.S g.S.Seal g.S.Seal-dict) g.I.Codec.spelling g.I.Codec.accepted g.I.Codec.refusal g.I.Record.location g.met.I.Record.spelled (g.D.Device.opened c.args.dev.now) (g.D.Device.time c.args.dev.now) (g.D.Device.faults c.args.dev.now) (here_run g.I.Record.place c.args.self.now g.met.I.CodecFixed.fixed.at_least) (walk_of c.records.self.index) (limits_of c.records.self.ends) c.records.self.ended_section c.records.self.has_failed (g.D.Device.opened c.records.dev) (g.D.Device.time c.records.dev) (g.D.Device.faults c.records.dev) c.records.invariant.0 c.next.result (walk_of c.next.new.self) (g.D.Device.opened c.next.new.dev) (g.D.Device.time c.next.new.dev) (g.D.Device.faults c.next.new.dev) says).same in
+    let first : Sorted (λ f. record { page_size = 1; capacity = f.capacity; cache_pages = 0 }) g.D.Device.Tells (run_of g.I.Record.place (record c.records.self { index = c.next.new.self })) g.I.Record.location c.in-Some.given c.sorted.result (limits_of c.sorted.new.self.ends) c.sorted.new.self.ended_section (g.D.Device.opened c.next.new.dev) (g.D.Device.opened c.sorted.new.dev) (g.D.Device.time c.next.new.dev) (g.D.Device.time c.sorted.new.dev) (g.D.Device.faults c.next.new.dev) (g.D.Device.faults c.sorted.new.dev) = record { passed = λ x is. (let p = c.sorted.ensures.passed x is in (p.0, ends_as p.1, section_as p.1, ap g.D.Device.opened p.2, ap g.D.Device.time p.2, ap g.D.Device.faults p.2)); kept = c.sorted.ensures.kept; sorts = λ t s p v is. sorts_as (run_of g.I.Record.place (record c.records.self { index = c.next.new.self })) (run_of g.I.Record.place c.sorted.new.self) c.sorted.new.self.ended_section (disk (g.D.Device.time c.next.new.dev)) s p (g.I.Record.location v) (λ r. IsSome r) c.sorted.result (c.sorted.ensures.sorts t s p v is); ends_from = c.sorted.ensures.ends_from; live = λ un. (let p = c.sorted.ensures.live un in (ends_as p, section_as p)); goes_on = c.sorted.ensures.goes_on; breaks = c.sorted.ensures.ended; stays = c.sorted.ensures.stays; glob = glob_as c.sorted.ensures.values (λ f. record { page_size = 1; capacity = f.capacity; cache_pages = 0 }) g.D.Device.Tells (g.D.Device.opened c.sorted.new.dev) (disk (g.D.Device.time c.sorted.new.dev)) c.sorted.ensures.glob; unchanged = c.sorted.ensures.unchanged; read = c.sorted.ensures.read; idle = λ s p v is why. ap g.D.Device.opened (c.sorted.ensures.idle s p v is why); faults = c.sorted.ensures.faults; cause = c.sorted.ensures.cause } in
+    let sorted : Sorted (λ f. record { page_size = 1; capacity = f.capacity; cache_pages = 0 }) g.D.Device.Tells (moved (run_of g.I.Record.place c.args.self.now) (walk_of c.next.new.self) (limits_of c.records.self.ends) c.records.self.ended_section c.records.self.has_failed) g.I.Record.location c.in-Some.given c.sorted.result (limits_of c.sorted.new.self.ends) c.sorted.new.self.ended_section (g.D.Device.opened c.next.new.dev) (g.D.Device.opened c.sorted.new.dev) (g.D.Device.time c.next.new.dev) (g.D.Device.time c.sorted.new.dev) (g.D.Device.faults c.next.new.dev) (g.D.Device.faults c.sorted.new.dev) =
+    subst (λ (m : Run _ _). Sorted (λ f. record { page_size = 1; capacity = f.capacity; cache_pages = 0 }) g.D.Device.Tells m g.I.Record.location c.in-Some.given c.sorted.result (limits_of c.sorted.new.self.ends) c.sorted.new.self.ended_section (g.D.Device.opened c.next.new.dev) (g.D.Device.opened c.sorted.new.dev) (g.D.Device.time c.next.new.dev) (g.D.Device.time c.sorted.new.dev) (g.D.Device.faults c.next.new.dev) (g.D.Device.faults c.sorted.new.dev)) (sym (run_moved g.I.Record.place c.args.self.now (record c.records.self { index = c.next.new.self }) (record { values = c.records.invariant.1.values; tracking = c.records.invariant.1.tracking; tracked = c.records.invariant.1.tracked }) same)) first in
     let ok : c.sorted.result ≡ Ok (Some c.in-Ok-Some.record) = (let at = c.in-Ok-Some.field-0-is in let is = c.in-Ok-Some.is in cc (is, at)) in
     subst (λ (x : Run _ _). Clauses g.I.Codec.refusal g.D.Device.Tells (run_of g.I.Record.place c.args.self.now) x (g.D.Device.time c.args.dev.now) (g.D.Device.time c.sorted.new.dev) {V = g.row.I.Denot} (page_blob.ghosts g.row.S g.S.Seal g.S.Seal-dict) page_setting (λ f. record { page_size = 1; capacity = f.capacity; cache_pages = 0 }) g.I.Codec.spelling g.I.Codec.accepted (Some (Ok c.in-Ok-Some.record)) (g.D.Device.opened c.args.dev.now) (g.D.Device.opened c.sorted.new.dev) (g.D.Device.faults c.args.dev.now) (g.D.Device.faults c.sorted.new.dev))
     (run_then g.I.Record.place c.args.self.now c.sorted.new.self (record { values = c.sorted.ensures.values ∙ c.records.invariant.1.values; tracking = c.sorted.ensures.tracking ∙ c.records.invariant.1.tracking; tracked = c.sorted.ensures.tracked ∙ c.records.invariant.1.tracked }) (walk_of c.next.new.self) (ap walk_of (sym c.sorted.ensures.index)) c.records.self.has_failed (sym c.sorted.ensures.failed) same)
-    (some_clauses (page_blob.ghosts g.row.S g.S.Seal g.S.Seal-dict) page_setting (λ f. record { page_size = 1; capacity = f.capacity; cache_pages = 0 }) g.D.Device.Tells (run_of g.I.Record.place c.args.self.now) (are_pages g.row.S g.S.Seal g.S.Seal-dict) g.I.Codec.spelling g.I.Codec.accepted g.I.Codec.refusal g.I.Record.location g.met.I.Record.spelled (g.D.Device.opened c.args.dev.now) (g.D.Device.time c.args.dev.now) (g.D.Device.faults c.args.dev.now) (here_run g.I.Record.place c.args.self.now g.met.I.CodecFixed.fixed.at_least) (walk_of c.records.self.index) (tree.get nat_cmp c.records.self.ends) c.records.self.ended_section c.records.self.has_failed (g.D.Device.opened c.records.dev) (g.D.Device.time c.records.dev) (g.D.Device.faults c.records.dev) c.records.invariant.0 c.next.result (walk_of c.next.new.self) (g.D.Device.opened c.next.new.dev) (g.D.Device.time c.next.new.dev) (g.D.Device.faults c.next.new.dev) says c.requires (λ t q. g.met.D.Device.as_read t c.args.dev.now q) (λ t s u held. open_there (g.D.Device.opened c.args.dev.now (key_of (run_of g.I.Record.place c.args.self.now).walk.journal.sections s)) _ _ _ (c.requires.index.over.opened_list.is_open s u held) (g.met.D.Device.opened_stands t c.args.dev.now (key_of (run_of g.I.Record.place c.args.self.now).walk.journal.sections s))) c.in-Some.given c.in-Some.is c.sorted.result (tree.get nat_cmp c.sorted.new.self.ends) c.sorted.new.self.ended_section (g.D.Device.opened c.sorted.new.dev) (g.D.Device.time c.sorted.new.dev) (g.D.Device.faults c.sorted.new.dev) sorted (λ t q. g.met.D.Device.as_read t c.next.new.dev q) c.in-Ok-Some.record ok)
+    (some_clauses (page_blob.ghosts g.row.S g.S.Seal g.S.Seal-dict) page_setting (λ f. record { page_size = 1; capacity = f.capacity; cache_pages = 0 }) g.D.Device.Tells (run_of g.I.Record.place c.args.self.now) (are_pages g.row.S g.S.Seal g.S.Seal-dict) g.I.Codec.spelling g.I.Codec.accepted g.I.Codec.refusal g.I.Record.location g.met.I.Record.spelled (g.D.Device.opened c.args.dev.now) (g.D.Device.time c.args.dev.now) (g.D.Device.faults c.args.dev.now) (here_run g.I.Record.place c.args.self.now g.met.I.CodecFixed.fixed.at_least) (walk_of c.records.self.index) (limits_of c.records.self.ends) c.records.self.ended_section c.records.self.has_failed (g.D.Device.opened c.records.dev) (g.D.Device.time c.records.dev) (g.D.Device.faults c.records.dev) c.records.invariant.0 c.next.result (walk_of c.next.new.self) (g.D.Device.opened c.next.new.dev) (g.D.Device.time c.next.new.dev) (g.D.Device.faults c.next.new.dev) says c.requires (λ t q. g.met.D.Device.as_read t c.args.dev.now q) (λ t s u held. open_there (g.D.Device.opened c.args.dev.now (key_of (run_of g.I.Record.place c.args.self.now).walk.journal.sections s)) _ _ _ (c.requires.index.over.opened_list.is_open s u held) (g.met.D.Device.opened_stands t c.args.dev.now (key_of (run_of g.I.Record.place c.args.self.now).walk.journal.sections s))) c.in-Some.given c.in-Some.is c.sorted.result (limits_of c.sorted.new.self.ends) c.sorted.new.self.ended_section (g.D.Device.opened c.sorted.new.dev) (g.D.Device.time c.sorted.new.dev) (g.D.Device.faults c.sorted.new.dev) sorted (λ t q. g.met.D.Device.as_read t c.next.new.dev q) c.in-Ok-Some.record ok)
 
 -- where an error is
 in_error : (g : given.Over) (c : goal.After-self-1 g) → Clauses g.I.Codec.refusal g.D.Device.Tells (run_of g.I.Record.place c.args.self.now) (run_of g.I.Record.place (record c.sorted.new.self { has_failed = true })) (g.D.Device.time c.args.dev.now) (g.D.Device.time c.sorted.new.dev) {V = g.row.I.Denot} (page_blob.ghosts g.row.S g.S.Seal g.S.Seal-dict) page_setting (λ f. record { page_size = 1; capacity = f.capacity; cache_pages = 0 }) g.I.Codec.spelling g.I.Codec.accepted (Some (Err c.in-Err.e)) (g.D.Device.opened c.args.dev.now) (g.D.Device.opened c.sorted.new.dev) (g.D.Device.faults c.args.dev.now) (g.D.Device.faults c.sorted.new.dev)
 in_error g c =
     let says : Says g.S.Seal.seal_of g.I.CodecFixed.SIZE (page_blob.ghosts g.row.S g.S.Seal g.S.Seal-dict) page_setting g.D.Device.Tells g.I.Codec.spelling g.I.Codec.accepted g.I.Codec.refusal c.next.result (walk_of c.records.self.index) (walk_of c.next.new.self) (g.D.Device.opened c.records.dev) (g.D.Device.opened c.next.new.dev) (g.D.Device.time c.records.dev) (g.D.Device.time c.next.new.dev) (g.D.Device.faults c.records.dev) (g.D.Device.faults c.next.new.dev) = record { over = c.next.ensures.over; same = c.next.ensures.same; item = c.next.ensures.item; going = c.next.ensures.going; stays = c.next.ensures.stays; known = c.next.ensures.known; items = c.next.ensures.items; floors = c.next.ensures.floors; held = c.next.ensures.held; bytes = c.next.ensures.bytes; unsettled = c.next.ensures.unsettled; nearer = c.next.ensures.nearer; none = c.next.ensures.none; drained = c.next.ensures.drained; whole = c.next.ensures.whole; onward = c.next.ensures.onward; later = c.next.ensures.later; failed = c.next.ensures.failed; stops = c.next.ensures.stops; start = λ t p is. (let x = c.next.ensures.start t p is in (x.0, x.1)); damage = λ t y is. (let x = c.next.ensures.damage t y is in (x.0, x.1)); damaged = λ t k is. (c.next.ensures.damaged t k is).damage; refused = c.next.ensures.refused; ends = c.next.ensures.ends; ends_cut = c.next.ensures.ends_cut; moments = c.next.ensures.moments; entries = c.next.ensures.entries; faults = c.next.ensures.faults; cause = c.next.ensures.cause; ended = λ is. (let p = c.next.ensures.ended is in (p.0, ap walk_of p.1, ap g.D.Device.opened p.2, ap g.D.Device.time p.2)) } in
-    let same : SameWalk (walk_of c.args.self.now.index) (walk_of c.next.new.self) = (all_went (page_blob.ghosts g.row.S g.S.Seal g.S.Seal-dict) page_setting (λ f. record { page_size = 1; capacity = f.capacity; cache_pages = 0 }) g.D.Device.Tells (run_of g.I.Record.place c.args.self.now) (are_pages g.row.S g.S.Seal g.S.Seal-dict) g.I.Codec.spelling g.I.Codec.accepted g.I.Codec.refusal g.I.Record.location g.met.I.Record.spelled (g.D.Device.opened c.args.dev.now) (g.D.Device.time c.args.dev.now) (g.D.Device.faults c.args.dev.now) (here_run g.I.Record.place c.args.self.now g.met.I.CodecFixed.fixed.at_least) (walk_of c.records.self.index) (tree.get nat_cmp c.records.self.ends) c.records.self.ended_section c.records.self.has_failed (g.D.Device.opened c.records.dev) (g.D.Device.time c.records.dev) (g.D.Device.faults c.records.dev) c.records.invariant.0 c.next.result (walk_of c.next.new.self) (g.D.Device.opened c.next.new.dev) (g.D.Device.time c.next.new.dev) (g.D.Device.faults c.next.new.dev) says).same in
-    let first : Sorted (λ f. record { page_size = 1; capacity = f.capacity; cache_pages = 0 }) g.D.Device.Tells (run_of g.I.Record.place (record c.records.self { index = c.next.new.self })) g.I.Record.location c.in-Some.given c.sorted.result (tree.get nat_cmp c.sorted.new.self.ends) c.sorted.new.self.ended_section (g.D.Device.opened c.next.new.dev) (g.D.Device.opened c.sorted.new.dev) (g.D.Device.time c.next.new.dev) (g.D.Device.time c.sorted.new.dev) (g.D.Device.faults c.next.new.dev) (g.D.Device.faults c.sorted.new.dev) = record { passed = λ x is. (let p = c.sorted.ensures.passed x is in (p.0, ends_as p.1, section_as p.1, ap g.D.Device.opened p.2, ap g.D.Device.time p.2, ap g.D.Device.faults p.2)); kept = c.sorted.ensures.kept; sorts = λ t s p v is. sorts_as (run_of g.I.Record.place (record c.records.self { index = c.next.new.self })) (run_of g.I.Record.place c.sorted.new.self) c.sorted.new.self.ended_section (disk (g.D.Device.time c.next.new.dev)) s p (g.I.Record.location v) (λ r. IsSome r) c.sorted.result (c.sorted.ensures.sorts t s p v is); ends_from = c.sorted.ensures.ends_from; live = λ un. (let p = c.sorted.ensures.live un in (ends_as p, section_as p)); goes_on = c.sorted.ensures.goes_on; breaks = c.sorted.ensures.ended; stays = c.sorted.ensures.stays; glob = glob_as c.sorted.ensures.values (λ f. record { page_size = 1; capacity = f.capacity; cache_pages = 0 }) g.D.Device.Tells (g.D.Device.opened c.sorted.new.dev) (disk (g.D.Device.time c.sorted.new.dev)) c.sorted.ensures.glob; unchanged = c.sorted.ensures.unchanged; read = c.sorted.ensures.read; idle = λ s p v is why. ap g.D.Device.opened (c.sorted.ensures.idle s p v is why); faults = c.sorted.ensures.faults; cause = c.sorted.ensures.cause } in
-    let sorted : Sorted (λ f. record { page_size = 1; capacity = f.capacity; cache_pages = 0 }) g.D.Device.Tells (moved (run_of g.I.Record.place c.args.self.now) (walk_of c.next.new.self) (tree.get nat_cmp c.records.self.ends) c.records.self.ended_section c.records.self.has_failed) g.I.Record.location c.in-Some.given c.sorted.result (tree.get nat_cmp c.sorted.new.self.ends) c.sorted.new.self.ended_section (g.D.Device.opened c.next.new.dev) (g.D.Device.opened c.sorted.new.dev) (g.D.Device.time c.next.new.dev) (g.D.Device.time c.sorted.new.dev) (g.D.Device.faults c.next.new.dev) (g.D.Device.faults c.sorted.new.dev) =
-    subst (λ (m : Run _ _). Sorted (λ f. record { page_size = 1; capacity = f.capacity; cache_pages = 0 }) g.D.Device.Tells m g.I.Record.location c.in-Some.given c.sorted.result (tree.get nat_cmp c.sorted.new.self.ends) c.sorted.new.self.ended_section (g.D.Device.opened c.next.new.dev) (g.D.Device.opened c.sorted.new.dev) (g.D.Device.time c.next.new.dev) (g.D.Device.time c.sorted.new.dev) (g.D.Device.faults c.next.new.dev) (g.D.Device.faults c.sorted.new.dev)) (sym (run_moved g.I.Record.place c.args.self.now (record c.records.self { index = c.next.new.self }) (record { values = c.records.invariant.1.values; tracking = c.records.invariant.1.tracking; tracked = c.records.invariant.1.tracked }) same)) first in
+    let same : SameWalk (walk_of c.args.self.now.index) (walk_of c.next.new.self) = (all_went (page_blob.ghosts g.row.S g.S.Seal g.S.Seal-dict) page_setting (λ f. record { page_size = 1; capacity = f.capacity; cache_pages = 0 }) g.D.Device.Tells (run_of g.I.Record.place c.args.self.now) (are_pages g.row.S g.S.Seal g.S.Seal-dict) g.I.Codec.spelling g.I.Codec.accepted g.I.Codec.refusal g.I.Record.location g.met.I.Record.spelled (g.D.Device.opened c.args.dev.now) (g.D.Device.time c.args.dev.now) (g.D.Device.faults c.args.dev.now) (here_run g.I.Record.place c.args.self.now g.met.I.CodecFixed.fixed.at_least) (walk_of c.records.self.index) (limits_of c.records.self.ends) c.records.self.ended_section c.records.self.has_failed (g.D.Device.opened c.records.dev) (g.D.Device.time c.records.dev) (g.D.Device.faults c.records.dev) c.records.invariant.0 c.next.result (walk_of c.next.new.self) (g.D.Device.opened c.next.new.dev) (g.D.Device.time c.next.new.dev) (g.D.Device.faults c.next.new.dev) says).same in
+    let first : Sorted (λ f. record { page_size = 1; capacity = f.capacity; cache_pages = 0 }) g.D.Device.Tells (run_of g.I.Record.place (record c.records.self { index = c.next.new.self })) g.I.Record.location c.in-Some.given c.sorted.result (limits_of c.sorted.new.self.ends) c.sorted.new.self.ended_section (g.D.Device.opened c.next.new.dev) (g.D.Device.opened c.sorted.new.dev) (g.D.Device.time c.next.new.dev) (g.D.Device.time c.sorted.new.dev) (g.D.Device.faults c.next.new.dev) (g.D.Device.faults c.sorted.new.dev) = record { passed = λ x is. (let p = c.sorted.ensures.passed x is in (p.0, ends_as p.1, section_as p.1, ap g.D.Device.opened p.2, ap g.D.Device.time p.2, ap g.D.Device.faults p.2)); kept = c.sorted.ensures.kept; sorts = λ t s p v is. sorts_as (run_of g.I.Record.place (record c.records.self { index = c.next.new.self })) (run_of g.I.Record.place c.sorted.new.self) c.sorted.new.self.ended_section (disk (g.D.Device.time c.next.new.dev)) s p (g.I.Record.location v) (λ r. IsSome r) c.sorted.result (c.sorted.ensures.sorts t s p v is); ends_from = c.sorted.ensures.ends_from; live = λ un. (let p = c.sorted.ensures.live un in (ends_as p, section_as p)); goes_on = c.sorted.ensures.goes_on; breaks = c.sorted.ensures.ended; stays = c.sorted.ensures.stays; glob = glob_as c.sorted.ensures.values (λ f. record { page_size = 1; capacity = f.capacity; cache_pages = 0 }) g.D.Device.Tells (g.D.Device.opened c.sorted.new.dev) (disk (g.D.Device.time c.sorted.new.dev)) c.sorted.ensures.glob; unchanged = c.sorted.ensures.unchanged; read = c.sorted.ensures.read; idle = λ s p v is why. ap g.D.Device.opened (c.sorted.ensures.idle s p v is why); faults = c.sorted.ensures.faults; cause = c.sorted.ensures.cause } in
+    let sorted : Sorted (λ f. record { page_size = 1; capacity = f.capacity; cache_pages = 0 }) g.D.Device.Tells (moved (run_of g.I.Record.place c.args.self.now) (walk_of c.next.new.self) (limits_of c.records.self.ends) c.records.self.ended_section c.records.self.has_failed) g.I.Record.location c.in-Some.given c.sorted.result (limits_of c.sorted.new.self.ends) c.sorted.new.self.ended_section (g.D.Device.opened c.next.new.dev) (g.D.Device.opened c.sorted.new.dev) (g.D.Device.time c.next.new.dev) (g.D.Device.time c.sorted.new.dev) (g.D.Device.faults c.next.new.dev) (g.D.Device.faults c.sorted.new.dev) =
+    subst (λ (m : Run _ _). Sorted (λ f. record { page_size = 1; capacity = f.capacity; cache_pages = 0 }) g.D.Device.Tells m g.I.Record.location c.in-Some.given c.sorted.result (limits_of c.sorted.new.self.ends) c.sorted.new.self.ended_section (g.D.Device.opened c.next.new.dev) (g.D.Device.opened c.sorted.new.dev) (g.D.Device.time c.next.new.dev) (g.D.Device.time c.sorted.new.dev) (g.D.Device.faults c.next.new.dev) (g.D.Device.faults c.sorted.new.dev)) (sym (run_moved g.I.Record.place c.args.self.now (record c.records.self { index = c.next.new.self }) (record { values = c.records.invariant.1.values; tracking = c.records.invariant.1.tracking; tracked = c.records.invariant.1.tracked }) same)) first in
     subst (λ (x : Run _ _). Clauses g.I.Codec.refusal g.D.Device.Tells (run_of g.I.Record.place c.args.self.now) x (g.D.Device.time c.args.dev.now) (g.D.Device.time c.sorted.new.dev) {V = g.row.I.Denot} (page_blob.ghosts g.row.S g.S.Seal g.S.Seal-dict) page_setting (λ f. record { page_size = 1; capacity = f.capacity; cache_pages = 0 }) g.I.Codec.spelling g.I.Codec.accepted (Some (Err c.in-Err.e)) (g.D.Device.opened c.args.dev.now) (g.D.Device.opened c.sorted.new.dev) (g.D.Device.faults c.args.dev.now) (g.D.Device.faults c.sorted.new.dev))
     (run_then g.I.Record.place c.args.self.now (record c.sorted.new.self { has_failed = true }) (record { values = c.sorted.ensures.values ∙ c.records.invariant.1.values; tracking = c.sorted.ensures.tracking ∙ c.records.invariant.1.tracking; tracked = c.sorted.ensures.tracked ∙ c.records.invariant.1.tracked }) (walk_of c.next.new.self) (ap walk_of (sym c.sorted.ensures.index)) true refl same)
-    (err_clauses (page_blob.ghosts g.row.S g.S.Seal g.S.Seal-dict) page_setting (λ f. record { page_size = 1; capacity = f.capacity; cache_pages = 0 }) g.D.Device.Tells (run_of g.I.Record.place c.args.self.now) (are_pages g.row.S g.S.Seal g.S.Seal-dict) g.I.Codec.spelling g.I.Codec.accepted g.I.Codec.refusal g.I.Record.location g.met.I.Record.spelled (g.D.Device.opened c.args.dev.now) (g.D.Device.time c.args.dev.now) (g.D.Device.faults c.args.dev.now) (here_run g.I.Record.place c.args.self.now g.met.I.CodecFixed.fixed.at_least) (walk_of c.records.self.index) (tree.get nat_cmp c.records.self.ends) c.records.self.ended_section c.records.self.has_failed (g.D.Device.opened c.records.dev) (g.D.Device.time c.records.dev) (g.D.Device.faults c.records.dev) c.records.invariant.0 c.next.result (walk_of c.next.new.self) (g.D.Device.opened c.next.new.dev) (g.D.Device.time c.next.new.dev) (g.D.Device.faults c.next.new.dev) says c.requires (λ t q. g.met.D.Device.as_read t c.args.dev.now q) (λ t s u held. open_there (g.D.Device.opened c.args.dev.now (key_of (run_of g.I.Record.place c.args.self.now).walk.journal.sections s)) _ _ _ (c.requires.index.over.opened_list.is_open s u held) (g.met.D.Device.opened_stands t c.args.dev.now (key_of (run_of g.I.Record.place c.args.self.now).walk.journal.sections s))) c.in-Some.given c.in-Some.is c.sorted.result (tree.get nat_cmp c.sorted.new.self.ends) c.sorted.new.self.ended_section (g.D.Device.opened c.sorted.new.dev) (g.D.Device.time c.sorted.new.dev) (g.D.Device.faults c.sorted.new.dev) sorted (λ t q. g.met.D.Device.as_read t c.next.new.dev q) c.in-Err.e c.in-Err.is)
+    (err_clauses (page_blob.ghosts g.row.S g.S.Seal g.S.Seal-dict) page_setting (λ f. record { page_size = 1; capacity = f.capacity; cache_pages = 0 }) g.D.Device.Tells (run_of g.I.Record.place c.args.self.now) (are_pages g.row.S g.S.Seal g.S.Seal-dict) g.I.Codec.spelling g.I.Codec.accepted g.I.Codec.refusal g.I.Record.location g.met.I.Record.spelled (g.D.Device.opened c.args.dev.now) (g.D.Device.time c.args.dev.now) (g.D.Device.faults c.args.dev.now) (here_run g.I.Record.place c.args.self.now g.met.I.CodecFixed.fixed.at_least) (walk_of c.records.self.index) (limits_of c.records.self.ends) c.records.self.ended_section c.records.self.has_failed (g.D.Device.opened c.records.dev) (g.D.Device.time c.records.dev) (g.D.Device.faults c.records.dev) c.records.invariant.0 c.next.result (walk_of c.next.new.self) (g.D.Device.opened c.next.new.dev) (g.D.Device.time c.next.new.dev) (g.D.Device.faults c.next.new.dev) says c.requires (λ t q. g.met.D.Device.as_read t c.args.dev.now q) (λ t s u held. open_there (g.D.Device.opened c.args.dev.now (key_of (run_of g.I.Record.place c.args.self.now).walk.journal.sections s)) _ _ _ (c.requires.index.over.opened_list.is_open s u held) (g.met.D.Device.opened_stands t c.args.dev.now (key_of (run_of g.I.Record.place c.args.self.now).walk.journal.sections s))) c.in-Some.given c.in-Some.is c.sorted.result (limits_of c.sorted.new.self.ends) c.sorted.new.self.ended_section (g.D.Device.opened c.sorted.new.dev) (g.D.Device.time c.sorted.new.dev) (g.D.Device.faults c.sorted.new.dev) sorted (λ t q. g.met.D.Device.as_read t c.next.new.dev q) c.in-Err.e c.in-Err.is)
 
 -- where nothing is
 in_none : (g : given.Over) (c : goal.In_default g) → Clauses g.I.Codec.refusal g.D.Device.Tells (run_of g.I.Record.place c.args.self.now) (run_of g.I.Record.place (record c.records.self { index = c.next.new.self })) (g.D.Device.time c.args.dev.now) (g.D.Device.time c.next.new.dev) {V = g.row.I.Denot} (page_blob.ghosts g.row.S g.S.Seal g.S.Seal-dict) page_setting (λ f. record { page_size = 1; capacity = f.capacity; cache_pages = 0 }) g.I.Codec.spelling g.I.Codec.accepted None (g.D.Device.opened c.args.dev.now) (g.D.Device.opened c.next.new.dev) (g.D.Device.faults c.args.dev.now) (g.D.Device.faults c.next.new.dev)
 in_none g c =
     let says : Says g.S.Seal.seal_of g.I.CodecFixed.SIZE (page_blob.ghosts g.row.S g.S.Seal g.S.Seal-dict) page_setting g.D.Device.Tells g.I.Codec.spelling g.I.Codec.accepted g.I.Codec.refusal c.next.result (walk_of c.records.self.index) (walk_of c.next.new.self) (g.D.Device.opened c.records.dev) (g.D.Device.opened c.next.new.dev) (g.D.Device.time c.records.dev) (g.D.Device.time c.next.new.dev) (g.D.Device.faults c.records.dev) (g.D.Device.faults c.next.new.dev) = record { over = c.next.ensures.over; same = c.next.ensures.same; item = c.next.ensures.item; going = c.next.ensures.going; stays = c.next.ensures.stays; known = c.next.ensures.known; items = c.next.ensures.items; floors = c.next.ensures.floors; held = c.next.ensures.held; bytes = c.next.ensures.bytes; unsettled = c.next.ensures.unsettled; nearer = c.next.ensures.nearer; none = c.next.ensures.none; drained = c.next.ensures.drained; whole = c.next.ensures.whole; onward = c.next.ensures.onward; later = c.next.ensures.later; failed = c.next.ensures.failed; stops = c.next.ensures.stops; start = λ t p is. (let x = c.next.ensures.start t p is in (x.0, x.1)); damage = λ t y is. (let x = c.next.ensures.damage t y is in (x.0, x.1)); damaged = λ t k is. (c.next.ensures.damaged t k is).damage; refused = c.next.ensures.refused; ends = c.next.ensures.ends; ends_cut = c.next.ensures.ends_cut; moments = c.next.ensures.moments; entries = c.next.ensures.entries; faults = c.next.ensures.faults; cause = c.next.ensures.cause; ended = λ is. (let p = c.next.ensures.ended is in (p.0, ap walk_of p.1, ap g.D.Device.opened p.2, ap g.D.Device.time p.2)) } in
-    let same : SameWalk (walk_of c.args.self.now.index) (walk_of c.next.new.self) = (all_went (page_blob.ghosts g.row.S g.S.Seal g.S.Seal-dict) page_setting (λ f. record { page_size = 1; capacity = f.capacity; cache_pages = 0 }) g.D.Device.Tells (run_of g.I.Record.place c.args.self.now) (are_pages g.row.S g.S.Seal g.S.Seal-dict) g.I.Codec.spelling g.I.Codec.accepted g.I.Codec.refusal g.I.Record.location g.met.I.Record.spelled (g.D.Device.opened c.args.dev.now) (g.D.Device.time c.args.dev.now) (g.D.Device.faults c.args.dev.now) (here_run g.I.Record.place c.args.self.now g.met.I.CodecFixed.fixed.at_least) (walk_of c.records.self.index) (tree.get nat_cmp c.records.self.ends) c.records.self.ended_section c.records.self.has_failed (g.D.Device.opened c.records.dev) (g.D.Device.time c.records.dev) (g.D.Device.faults c.records.dev) c.records.invariant.0 c.next.result (walk_of c.next.new.self) (g.D.Device.opened c.next.new.dev) (g.D.Device.time c.next.new.dev) (g.D.Device.faults c.next.new.dev) says).same in
+    let same : SameWalk (walk_of c.args.self.now.index) (walk_of c.next.new.self) = (all_went (page_blob.ghosts g.row.S g.S.Seal g.S.Seal-dict) page_setting (λ f. record { page_size = 1; capacity = f.capacity; cache_pages = 0 }) g.D.Device.Tells (run_of g.I.Record.place c.args.self.now) (are_pages g.row.S g.S.Seal g.S.Seal-dict) g.I.Codec.spelling g.I.Codec.accepted g.I.Codec.refusal g.I.Record.location g.met.I.Record.spelled (g.D.Device.opened c.args.dev.now) (g.D.Device.time c.args.dev.now) (g.D.Device.faults c.args.dev.now) (here_run g.I.Record.place c.args.self.now g.met.I.CodecFixed.fixed.at_least) (walk_of c.records.self.index) (limits_of c.records.self.ends) c.records.self.ended_section c.records.self.has_failed (g.D.Device.opened c.records.dev) (g.D.Device.time c.records.dev) (g.D.Device.faults c.records.dev) c.records.invariant.0 c.next.result (walk_of c.next.new.self) (g.D.Device.opened c.next.new.dev) (g.D.Device.time c.next.new.dev) (g.D.Device.faults c.next.new.dev) says).same in
     subst (λ (x : Run _ _). Clauses g.I.Codec.refusal g.D.Device.Tells (run_of g.I.Record.place c.args.self.now) x (g.D.Device.time c.args.dev.now) (g.D.Device.time c.next.new.dev) {V = g.row.I.Denot} (page_blob.ghosts g.row.S g.S.Seal g.S.Seal-dict) page_setting (λ f. record { page_size = 1; capacity = f.capacity; cache_pages = 0 }) g.I.Codec.spelling g.I.Codec.accepted None (g.D.Device.opened c.args.dev.now) (g.D.Device.opened c.next.new.dev) (g.D.Device.faults c.args.dev.now) (g.D.Device.faults c.next.new.dev))
     (run_then g.I.Record.place c.args.self.now (record c.records.self { index = c.next.new.self }) (record { values = c.records.invariant.1.values; tracking = c.records.invariant.1.tracking; tracked = c.records.invariant.1.tracked }) (walk_of c.next.new.self) refl c.records.self.has_failed refl same)
-    (no_clauses (page_blob.ghosts g.row.S g.S.Seal g.S.Seal-dict) page_setting (λ f. record { page_size = 1; capacity = f.capacity; cache_pages = 0 }) g.D.Device.Tells (run_of g.I.Record.place c.args.self.now) (are_pages g.row.S g.S.Seal g.S.Seal-dict) g.I.Codec.spelling g.I.Codec.accepted g.I.Codec.refusal g.I.Record.location g.met.I.Record.spelled (g.D.Device.opened c.args.dev.now) (g.D.Device.time c.args.dev.now) (g.D.Device.faults c.args.dev.now) (here_run g.I.Record.place c.args.self.now g.met.I.CodecFixed.fixed.at_least) (walk_of c.records.self.index) (tree.get nat_cmp c.records.self.ends) c.records.self.ended_section c.records.self.has_failed (g.D.Device.opened c.records.dev) (g.D.Device.time c.records.dev) (g.D.Device.faults c.records.dev) c.records.invariant.0 c.next.result (walk_of c.next.new.self) (g.D.Device.opened c.next.new.dev) (g.D.Device.time c.next.new.dev) (g.D.Device.faults c.next.new.dev) says c.requires (λ t q. g.met.D.Device.as_read t c.args.dev.now q) (λ t s u held. open_there (g.D.Device.opened c.args.dev.now (key_of (run_of g.I.Record.place c.args.self.now).walk.journal.sections s)) _ _ _ (c.requires.index.over.opened_list.is_open s u held) (g.met.D.Device.opened_stands t c.args.dev.now (key_of (run_of g.I.Record.place c.args.self.now).walk.journal.sections s))) c.in_default.is (λ t q. g.met.D.Device.as_read t c.next.new.dev q))
+    (no_clauses (page_blob.ghosts g.row.S g.S.Seal g.S.Seal-dict) page_setting (λ f. record { page_size = 1; capacity = f.capacity; cache_pages = 0 }) g.D.Device.Tells (run_of g.I.Record.place c.args.self.now) (are_pages g.row.S g.S.Seal g.S.Seal-dict) g.I.Codec.spelling g.I.Codec.accepted g.I.Codec.refusal g.I.Record.location g.met.I.Record.spelled (g.D.Device.opened c.args.dev.now) (g.D.Device.time c.args.dev.now) (g.D.Device.faults c.args.dev.now) (here_run g.I.Record.place c.args.self.now g.met.I.CodecFixed.fixed.at_least) (walk_of c.records.self.index) (limits_of c.records.self.ends) c.records.self.ended_section c.records.self.has_failed (g.D.Device.opened c.records.dev) (g.D.Device.time c.records.dev) (g.D.Device.faults c.records.dev) c.records.invariant.0 c.next.result (walk_of c.next.new.self) (g.D.Device.opened c.next.new.dev) (g.D.Device.time c.next.new.dev) (g.D.Device.faults c.next.new.dev) says c.requires (λ t q. g.met.D.Device.as_read t c.args.dev.now q) (λ t s u held. open_there (g.D.Device.opened c.args.dev.now (key_of (run_of g.I.Record.place c.args.self.now).walk.journal.sections s)) _ _ _ (c.requires.index.over.opened_list.is_open s u held) (g.met.D.Device.opened_stands t c.args.dev.now (key_of (run_of g.I.Record.place c.args.self.now).walk.journal.sections s))) c.in_default.is (λ t q. g.met.D.Device.as_read t c.next.new.dev q))
 
 pub records-init : goal.records-init
 records-init g c = (running_start (page_blob.ghosts g.row.S g.S.Seal g.S.Seal-dict) page_setting (λ f. record { page_size = 1; capacity = f.capacity; cache_pages = 0 }) g.D.Device.Tells (run_of g.I.Record.place c.args.self.now) (g.D.Device.opened c.args.dev.now) (g.D.Device.time c.args.dev.now) (g.D.Device.faults c.args.dev.now) c.requires, parts_start g.I.Record.place c.args.self.now, λ is. refl)
@@ -61,7 +59,7 @@ records-init g c = (running_start (page_blob.ghosts g.row.S g.S.Seal g.S.Seal-di
 pub sorted-requires-clause-values : goal.sorted-requires-clause-values
 sorted-requires-clause-values g c =
     let says : Says g.S.Seal.seal_of g.I.CodecFixed.SIZE (page_blob.ghosts g.row.S g.S.Seal g.S.Seal-dict) page_setting g.D.Device.Tells g.I.Codec.spelling g.I.Codec.accepted g.I.Codec.refusal c.next.result (walk_of c.records.self.index) (walk_of c.next.new.self) (g.D.Device.opened c.records.dev) (g.D.Device.opened c.next.new.dev) (g.D.Device.time c.records.dev) (g.D.Device.time c.next.new.dev) (g.D.Device.faults c.records.dev) (g.D.Device.faults c.next.new.dev) = record { over = c.next.ensures.over; same = c.next.ensures.same; item = c.next.ensures.item; going = c.next.ensures.going; stays = c.next.ensures.stays; known = c.next.ensures.known; items = c.next.ensures.items; floors = c.next.ensures.floors; held = c.next.ensures.held; bytes = c.next.ensures.bytes; unsettled = c.next.ensures.unsettled; nearer = c.next.ensures.nearer; none = c.next.ensures.none; drained = c.next.ensures.drained; whole = c.next.ensures.whole; onward = c.next.ensures.onward; later = c.next.ensures.later; failed = c.next.ensures.failed; stops = c.next.ensures.stops; start = λ t p is. (let x = c.next.ensures.start t p is in (x.0, x.1)); damage = λ t y is. (let x = c.next.ensures.damage t y is in (x.0, x.1)); damaged = λ t k is. (c.next.ensures.damaged t k is).damage; refused = c.next.ensures.refused; ends = c.next.ensures.ends; ends_cut = c.next.ensures.ends_cut; moments = c.next.ensures.moments; entries = c.next.ensures.entries; faults = c.next.ensures.faults; cause = c.next.ensures.cause; ended = λ is. (let p = c.next.ensures.ended is in (p.0, ap walk_of p.1, ap g.D.Device.opened p.2, ap g.D.Device.time p.2)) } in
-    glob_as (sym c.records.invariant.1.values) (λ f. record { page_size = 1; capacity = f.capacity; cache_pages = 0 }) g.D.Device.Tells (g.D.Device.opened c.next.new.dev) (disk (g.D.Device.time c.next.new.dev)) (next_glob (page_blob.ghosts g.row.S g.S.Seal g.S.Seal-dict) page_setting (λ f. record { page_size = 1; capacity = f.capacity; cache_pages = 0 }) g.D.Device.Tells (run_of g.I.Record.place c.args.self.now) (are_pages g.row.S g.S.Seal g.S.Seal-dict) g.I.Codec.spelling g.I.Codec.accepted g.I.Codec.refusal g.I.Record.location g.met.I.Record.spelled (g.D.Device.opened c.args.dev.now) (g.D.Device.time c.args.dev.now) (g.D.Device.faults c.args.dev.now) (here_run g.I.Record.place c.args.self.now g.met.I.CodecFixed.fixed.at_least) (walk_of c.records.self.index) (tree.get nat_cmp c.records.self.ends) c.records.self.ended_section c.records.self.has_failed (g.D.Device.opened c.records.dev) (g.D.Device.time c.records.dev) (g.D.Device.faults c.records.dev) c.records.invariant.0 c.next.result (walk_of c.next.new.self) (g.D.Device.opened c.next.new.dev) (g.D.Device.time c.next.new.dev) (g.D.Device.faults c.next.new.dev) says)
+    glob_as (sym c.records.invariant.1.values) (λ f. record { page_size = 1; capacity = f.capacity; cache_pages = 0 }) g.D.Device.Tells (g.D.Device.opened c.next.new.dev) (disk (g.D.Device.time c.next.new.dev)) (next_glob (page_blob.ghosts g.row.S g.S.Seal g.S.Seal-dict) page_setting (λ f. record { page_size = 1; capacity = f.capacity; cache_pages = 0 }) g.D.Device.Tells (run_of g.I.Record.place c.args.self.now) (are_pages g.row.S g.S.Seal g.S.Seal-dict) g.I.Codec.spelling g.I.Codec.accepted g.I.Codec.refusal g.I.Record.location g.met.I.Record.spelled (g.D.Device.opened c.args.dev.now) (g.D.Device.time c.args.dev.now) (g.D.Device.faults c.args.dev.now) (here_run g.I.Record.place c.args.self.now g.met.I.CodecFixed.fixed.at_least) (walk_of c.records.self.index) (limits_of c.records.self.ends) c.records.self.ended_section c.records.self.has_failed (g.D.Device.opened c.records.dev) (g.D.Device.time c.records.dev) (g.D.Device.faults c.records.dev) c.records.invariant.0 c.next.result (walk_of c.next.new.self) (g.D.Device.opened c.next.new.dev) (g.D.Device.time c.next.new.dev) (g.D.Device.faults c.next.new.dev) says)
 
 pub sorted-requires-clause-floor : goal.sorted-requires-clause-floor
 sorted-requires-clause-floor g c tracked = values_unfloored g.I.Record.place c.args.self.now c.records.self c.records.invariant.1 (λ is. (c.requires.opening is).values_floor) tracked
@@ -69,13 +67,13 @@ sorted-requires-clause-floor g c tracked = values_unfloored g.I.Record.place c.a
 pub records-preserved : goal.records-preserved
 records-preserved g c =
     let says : Says g.S.Seal.seal_of g.I.CodecFixed.SIZE (page_blob.ghosts g.row.S g.S.Seal g.S.Seal-dict) page_setting g.D.Device.Tells g.I.Codec.spelling g.I.Codec.accepted g.I.Codec.refusal c.next.result (walk_of c.records.self.index) (walk_of c.next.new.self) (g.D.Device.opened c.records.dev) (g.D.Device.opened c.next.new.dev) (g.D.Device.time c.records.dev) (g.D.Device.time c.next.new.dev) (g.D.Device.faults c.records.dev) (g.D.Device.faults c.next.new.dev) = record { over = c.next.ensures.over; same = c.next.ensures.same; item = c.next.ensures.item; going = c.next.ensures.going; stays = c.next.ensures.stays; known = c.next.ensures.known; items = c.next.ensures.items; floors = c.next.ensures.floors; held = c.next.ensures.held; bytes = c.next.ensures.bytes; unsettled = c.next.ensures.unsettled; nearer = c.next.ensures.nearer; none = c.next.ensures.none; drained = c.next.ensures.drained; whole = c.next.ensures.whole; onward = c.next.ensures.onward; later = c.next.ensures.later; failed = c.next.ensures.failed; stops = c.next.ensures.stops; start = λ t p is. (let x = c.next.ensures.start t p is in (x.0, x.1)); damage = λ t y is. (let x = c.next.ensures.damage t y is in (x.0, x.1)); damaged = λ t k is. (c.next.ensures.damaged t k is).damage; refused = c.next.ensures.refused; ends = c.next.ensures.ends; ends_cut = c.next.ensures.ends_cut; moments = c.next.ensures.moments; entries = c.next.ensures.entries; faults = c.next.ensures.faults; cause = c.next.ensures.cause; ended = λ is. (let p = c.next.ensures.ended is in (p.0, ap walk_of p.1, ap g.D.Device.opened p.2, ap g.D.Device.time p.2)) } in
-    let same : SameWalk (walk_of c.args.self.now.index) (walk_of c.next.new.self) = (all_went (page_blob.ghosts g.row.S g.S.Seal g.S.Seal-dict) page_setting (λ f. record { page_size = 1; capacity = f.capacity; cache_pages = 0 }) g.D.Device.Tells (run_of g.I.Record.place c.args.self.now) (are_pages g.row.S g.S.Seal g.S.Seal-dict) g.I.Codec.spelling g.I.Codec.accepted g.I.Codec.refusal g.I.Record.location g.met.I.Record.spelled (g.D.Device.opened c.args.dev.now) (g.D.Device.time c.args.dev.now) (g.D.Device.faults c.args.dev.now) (here_run g.I.Record.place c.args.self.now g.met.I.CodecFixed.fixed.at_least) (walk_of c.records.self.index) (tree.get nat_cmp c.records.self.ends) c.records.self.ended_section c.records.self.has_failed (g.D.Device.opened c.records.dev) (g.D.Device.time c.records.dev) (g.D.Device.faults c.records.dev) c.records.invariant.0 c.next.result (walk_of c.next.new.self) (g.D.Device.opened c.next.new.dev) (g.D.Device.time c.next.new.dev) (g.D.Device.faults c.next.new.dev) says).same in
-    let first : Sorted (λ f. record { page_size = 1; capacity = f.capacity; cache_pages = 0 }) g.D.Device.Tells (run_of g.I.Record.place (record c.records.self { index = c.next.new.self })) g.I.Record.location c.in-Some.given c.sorted.result (tree.get nat_cmp c.sorted.new.self.ends) c.sorted.new.self.ended_section (g.D.Device.opened c.next.new.dev) (g.D.Device.opened c.sorted.new.dev) (g.D.Device.time c.next.new.dev) (g.D.Device.time c.sorted.new.dev) (g.D.Device.faults c.next.new.dev) (g.D.Device.faults c.sorted.new.dev) = record { passed = λ x is. (let p = c.sorted.ensures.passed x is in (p.0, ends_as p.1, section_as p.1, ap g.D.Device.opened p.2, ap g.D.Device.time p.2, ap g.D.Device.faults p.2)); kept = c.sorted.ensures.kept; sorts = λ t s p v is. sorts_as (run_of g.I.Record.place (record c.records.self { index = c.next.new.self })) (run_of g.I.Record.place c.sorted.new.self) c.sorted.new.self.ended_section (disk (g.D.Device.time c.next.new.dev)) s p (g.I.Record.location v) (λ r. IsSome r) c.sorted.result (c.sorted.ensures.sorts t s p v is); ends_from = c.sorted.ensures.ends_from; live = λ un. (let p = c.sorted.ensures.live un in (ends_as p, section_as p)); goes_on = c.sorted.ensures.goes_on; breaks = c.sorted.ensures.ended; stays = c.sorted.ensures.stays; glob = glob_as c.sorted.ensures.values (λ f. record { page_size = 1; capacity = f.capacity; cache_pages = 0 }) g.D.Device.Tells (g.D.Device.opened c.sorted.new.dev) (disk (g.D.Device.time c.sorted.new.dev)) c.sorted.ensures.glob; unchanged = c.sorted.ensures.unchanged; read = c.sorted.ensures.read; idle = λ s p v is why. ap g.D.Device.opened (c.sorted.ensures.idle s p v is why); faults = c.sorted.ensures.faults; cause = c.sorted.ensures.cause } in
-    let sorted : Sorted (λ f. record { page_size = 1; capacity = f.capacity; cache_pages = 0 }) g.D.Device.Tells (moved (run_of g.I.Record.place c.args.self.now) (walk_of c.next.new.self) (tree.get nat_cmp c.records.self.ends) c.records.self.ended_section c.records.self.has_failed) g.I.Record.location c.in-Some.given c.sorted.result (tree.get nat_cmp c.sorted.new.self.ends) c.sorted.new.self.ended_section (g.D.Device.opened c.next.new.dev) (g.D.Device.opened c.sorted.new.dev) (g.D.Device.time c.next.new.dev) (g.D.Device.time c.sorted.new.dev) (g.D.Device.faults c.next.new.dev) (g.D.Device.faults c.sorted.new.dev) =
-    subst (λ (m : Run _ _). Sorted (λ f. record { page_size = 1; capacity = f.capacity; cache_pages = 0 }) g.D.Device.Tells m g.I.Record.location c.in-Some.given c.sorted.result (tree.get nat_cmp c.sorted.new.self.ends) c.sorted.new.self.ended_section (g.D.Device.opened c.next.new.dev) (g.D.Device.opened c.sorted.new.dev) (g.D.Device.time c.next.new.dev) (g.D.Device.time c.sorted.new.dev) (g.D.Device.faults c.next.new.dev) (g.D.Device.faults c.sorted.new.dev)) (sym (run_moved g.I.Record.place c.args.self.now (record c.records.self { index = c.next.new.self }) (record { values = c.records.invariant.1.values; tracking = c.records.invariant.1.tracking; tracked = c.records.invariant.1.tracked }) same)) first in
+    let same : SameWalk (walk_of c.args.self.now.index) (walk_of c.next.new.self) = (all_went (page_blob.ghosts g.row.S g.S.Seal g.S.Seal-dict) page_setting (λ f. record { page_size = 1; capacity = f.capacity; cache_pages = 0 }) g.D.Device.Tells (run_of g.I.Record.place c.args.self.now) (are_pages g.row.S g.S.Seal g.S.Seal-dict) g.I.Codec.spelling g.I.Codec.accepted g.I.Codec.refusal g.I.Record.location g.met.I.Record.spelled (g.D.Device.opened c.args.dev.now) (g.D.Device.time c.args.dev.now) (g.D.Device.faults c.args.dev.now) (here_run g.I.Record.place c.args.self.now g.met.I.CodecFixed.fixed.at_least) (walk_of c.records.self.index) (limits_of c.records.self.ends) c.records.self.ended_section c.records.self.has_failed (g.D.Device.opened c.records.dev) (g.D.Device.time c.records.dev) (g.D.Device.faults c.records.dev) c.records.invariant.0 c.next.result (walk_of c.next.new.self) (g.D.Device.opened c.next.new.dev) (g.D.Device.time c.next.new.dev) (g.D.Device.faults c.next.new.dev) says).same in
+    let first : Sorted (λ f. record { page_size = 1; capacity = f.capacity; cache_pages = 0 }) g.D.Device.Tells (run_of g.I.Record.place (record c.records.self { index = c.next.new.self })) g.I.Record.location c.in-Some.given c.sorted.result (limits_of c.sorted.new.self.ends) c.sorted.new.self.ended_section (g.D.Device.opened c.next.new.dev) (g.D.Device.opened c.sorted.new.dev) (g.D.Device.time c.next.new.dev) (g.D.Device.time c.sorted.new.dev) (g.D.Device.faults c.next.new.dev) (g.D.Device.faults c.sorted.new.dev) = record { passed = λ x is. (let p = c.sorted.ensures.passed x is in (p.0, ends_as p.1, section_as p.1, ap g.D.Device.opened p.2, ap g.D.Device.time p.2, ap g.D.Device.faults p.2)); kept = c.sorted.ensures.kept; sorts = λ t s p v is. sorts_as (run_of g.I.Record.place (record c.records.self { index = c.next.new.self })) (run_of g.I.Record.place c.sorted.new.self) c.sorted.new.self.ended_section (disk (g.D.Device.time c.next.new.dev)) s p (g.I.Record.location v) (λ r. IsSome r) c.sorted.result (c.sorted.ensures.sorts t s p v is); ends_from = c.sorted.ensures.ends_from; live = λ un. (let p = c.sorted.ensures.live un in (ends_as p, section_as p)); goes_on = c.sorted.ensures.goes_on; breaks = c.sorted.ensures.ended; stays = c.sorted.ensures.stays; glob = glob_as c.sorted.ensures.values (λ f. record { page_size = 1; capacity = f.capacity; cache_pages = 0 }) g.D.Device.Tells (g.D.Device.opened c.sorted.new.dev) (disk (g.D.Device.time c.sorted.new.dev)) c.sorted.ensures.glob; unchanged = c.sorted.ensures.unchanged; read = c.sorted.ensures.read; idle = λ s p v is why. ap g.D.Device.opened (c.sorted.ensures.idle s p v is why); faults = c.sorted.ensures.faults; cause = c.sorted.ensures.cause } in
+    let sorted : Sorted (λ f. record { page_size = 1; capacity = f.capacity; cache_pages = 0 }) g.D.Device.Tells (moved (run_of g.I.Record.place c.args.self.now) (walk_of c.next.new.self) (limits_of c.records.self.ends) c.records.self.ended_section c.records.self.has_failed) g.I.Record.location c.in-Some.given c.sorted.result (limits_of c.sorted.new.self.ends) c.sorted.new.self.ended_section (g.D.Device.opened c.next.new.dev) (g.D.Device.opened c.sorted.new.dev) (g.D.Device.time c.next.new.dev) (g.D.Device.time c.sorted.new.dev) (g.D.Device.faults c.next.new.dev) (g.D.Device.faults c.sorted.new.dev) =
+    subst (λ (m : Run _ _). Sorted (λ f. record { page_size = 1; capacity = f.capacity; cache_pages = 0 }) g.D.Device.Tells m g.I.Record.location c.in-Some.given c.sorted.result (limits_of c.sorted.new.self.ends) c.sorted.new.self.ended_section (g.D.Device.opened c.next.new.dev) (g.D.Device.opened c.sorted.new.dev) (g.D.Device.time c.next.new.dev) (g.D.Device.time c.sorted.new.dev) (g.D.Device.faults c.next.new.dev) (g.D.Device.faults c.sorted.new.dev)) (sym (run_moved g.I.Record.place c.args.self.now (record c.records.self { index = c.next.new.self }) (record { values = c.records.invariant.1.values; tracking = c.records.invariant.1.tracking; tracked = c.records.invariant.1.tracked }) same)) first in
     let going = gave_going g.S.Seal.seal_of g.I.CodecFixed.SIZE (page_blob.ghosts g.row.S g.S.Seal g.S.Seal-dict) page_setting g.D.Device.Tells g.I.Codec.spelling g.I.Codec.accepted g.I.Codec.refusal c.next.result (walk_of c.records.self.index) (walk_of c.next.new.self) (g.D.Device.opened c.records.dev) (g.D.Device.opened c.next.new.dev) (g.D.Device.time c.records.dev) (g.D.Device.time c.next.new.dev) (g.D.Device.faults c.records.dev) (g.D.Device.faults c.next.new.dev) says c.in-Some.given c.in-Some.is in
     let ok : c.sorted.result ≡ Ok None = (let at = c.in-Ok-None.field-0-is in let is = c.in-Ok-None.is in cc (is, at)) in (
-      loop_then g.I.Record.place (page_blob.ghosts g.row.S g.S.Seal g.S.Seal-dict) page_setting (λ f. record { page_size = 1; capacity = f.capacity; cache_pages = 0 }) g.D.Device.Tells c.args.self.now c.sorted.new.self (g.D.Device.opened c.args.dev.now) (g.D.Device.time c.args.dev.now) (g.D.Device.faults c.args.dev.now) (walk_of c.next.new.self) (ap walk_of (sym c.sorted.ensures.index)) c.records.self.has_failed (sym c.sorted.ensures.failed) (g.D.Device.opened c.sorted.new.dev) (g.D.Device.time c.sorted.new.dev) (g.D.Device.faults c.sorted.new.dev) (running_on (page_blob.ghosts g.row.S g.S.Seal g.S.Seal-dict) page_setting (λ f. record { page_size = 1; capacity = f.capacity; cache_pages = 0 }) g.D.Device.Tells (run_of g.I.Record.place c.args.self.now) (are_pages g.row.S g.S.Seal g.S.Seal-dict) g.I.Codec.spelling g.I.Codec.accepted g.I.Codec.refusal g.I.Record.location g.met.I.Record.spelled (g.D.Device.opened c.args.dev.now) (g.D.Device.time c.args.dev.now) (g.D.Device.faults c.args.dev.now) (here_run g.I.Record.place c.args.self.now g.met.I.CodecFixed.fixed.at_least) (walk_of c.records.self.index) (tree.get nat_cmp c.records.self.ends) c.records.self.ended_section c.records.self.has_failed (g.D.Device.opened c.records.dev) (g.D.Device.time c.records.dev) (g.D.Device.faults c.records.dev) c.records.invariant.0 c.next.result (walk_of c.next.new.self) (g.D.Device.opened c.next.new.dev) (g.D.Device.time c.next.new.dev) (g.D.Device.faults c.next.new.dev) says c.in-Some.given c.in-Some.is c.sorted.result (tree.get nat_cmp c.sorted.new.self.ends) c.sorted.new.self.ended_section (g.D.Device.opened c.sorted.new.dev) (g.D.Device.time c.sorted.new.dev) (g.D.Device.faults c.sorted.new.dev) sorted (λ t q. g.met.D.Device.as_read t c.next.new.dev q) ok),
+      loop_then g.I.Record.place (page_blob.ghosts g.row.S g.S.Seal g.S.Seal-dict) page_setting (λ f. record { page_size = 1; capacity = f.capacity; cache_pages = 0 }) g.D.Device.Tells c.args.self.now c.sorted.new.self (g.D.Device.opened c.args.dev.now) (g.D.Device.time c.args.dev.now) (g.D.Device.faults c.args.dev.now) (walk_of c.next.new.self) (ap walk_of (sym c.sorted.ensures.index)) c.records.self.has_failed (sym c.sorted.ensures.failed) (g.D.Device.opened c.sorted.new.dev) (g.D.Device.time c.sorted.new.dev) (g.D.Device.faults c.sorted.new.dev) (running_on (page_blob.ghosts g.row.S g.S.Seal g.S.Seal-dict) page_setting (λ f. record { page_size = 1; capacity = f.capacity; cache_pages = 0 }) g.D.Device.Tells (run_of g.I.Record.place c.args.self.now) (are_pages g.row.S g.S.Seal g.S.Seal-dict) g.I.Codec.spelling g.I.Codec.accepted g.I.Codec.refusal g.I.Record.location g.met.I.Record.spelled (g.D.Device.opened c.args.dev.now) (g.D.Device.time c.args.dev.now) (g.D.Device.faults c.args.dev.now) (here_run g.I.Record.place c.args.self.now g.met.I.CodecFixed.fixed.at_least) (walk_of c.records.self.index) (limits_of c.records.self.ends) c.records.self.ended_section c.records.self.has_failed (g.D.Device.opened c.records.dev) (g.D.Device.time c.records.dev) (g.D.Device.faults c.records.dev) c.records.invariant.0 c.next.result (walk_of c.next.new.self) (g.D.Device.opened c.next.new.dev) (g.D.Device.time c.next.new.dev) (g.D.Device.faults c.next.new.dev) says c.in-Some.given c.in-Some.is c.sorted.result (limits_of c.sorted.new.self.ends) c.sorted.new.self.ended_section (g.D.Device.opened c.sorted.new.dev) (g.D.Device.time c.sorted.new.dev) (g.D.Device.faults c.sorted.new.dev) sorted (λ t q. g.met.D.Device.as_read t c.next.new.dev q) ok),
       record { values = c.sorted.ensures.values ∙ c.records.invariant.1.values; tracking = c.sorted.ensures.tracking ∙ c.records.invariant.1.tracking; tracked = c.sorted.ensures.tracked ∙ c.records.invariant.1.tracked },
       λ is. (let ended = c.records.invariant.0.goes.ended ∙ is in absurd (cc (going, ended))),
     )

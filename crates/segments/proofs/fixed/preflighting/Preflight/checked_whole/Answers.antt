@@ -10,7 +10,7 @@ use Rattle.segments.proofs.FixedWriteLemmas.{are_pages}
 use Rattle.segments.proofs.fixed.preflighting.Preflight.checked_whole.Goals as goal
 
 pub returns-in_err-size : goal.returns-in_err-size
-returns-in_err-size g c at bytes done less named had = absurd (omega (arith, c.in_err-size.ensures.guard.0 c.in_err-size.ensures.cause, c.requires.floor))
+returns-in_err-size g c at bytes done less named had = absurd (omega (arith, c.in_err-size.ensures.guard.0 c.in_err-size.ensures.cause, c.requires.ready.floor))
 
 pub returns-in_err-check_whole : goal.returns-in_err-check_whole
 returns-in_err-check_whole g c at bytes done less named had =
@@ -24,12 +24,12 @@ returns-in_err-check_whole g c at bytes done less named had =
     c.from_residual-in_err-check_whole.result e c.args.dev.now _ s n (whole_of g.A.CodecFixed.SIZE c.in_ok-size.size) (err_of c.from_residual-in_err-check_whole.result e c.from_residual-in_err-check_whole.ensures.1)
     c.in_err-check_whole.ensures.damage refl c.in_err-check_whole.ensures.partial
     (λ t. boundary_earlier g.S.Seal.seal_of m.factory.pages.page_size g.A.CodecFixed.SIZE m.partition at bytes (disk (g.D.Device.time c.args.dev.now)) s less
-    ∙ adopted_here g.S.Seal.seal_of _ _ (are_pages g.row.S g.S.Seal g.S.Seal-dict) g.D.Device.Tells m (g.D.Device.opened c.args.dev.now) (disk (g.D.Device.time c.args.dev.now)) c.requires.over (c.requires.adopted t) s c.requires.is_held ∙ sym here)
-    (λ t. inr (less, ((c.requires.held t s small).0 c.requires.is_held).0))
+    ∙ adopted_here g.S.Seal.seal_of _ _ (are_pages g.row.S g.S.Seal g.S.Seal-dict) g.D.Device.Tells m (g.D.Device.opened c.args.dev.now) (disk (g.D.Device.time c.args.dev.now)) c.requires.ready.over (c.requires.ready.adopted t) s c.requires.is_held ∙ sym here)
+    (λ t. inr (less, ((c.requires.ready.held t s small).0 c.requires.is_held).0))
     (λ t. passes_below g.S.Seal.seal_of m.factory.pages.page_size g.A.CodecFixed.SIZE m.partition at bytes g.A.Codec.spelling g.A.Codec.accepted g.D.Device.Tells (shown c.args.self) (disk (g.D.Device.time c.args.dev.now)) s
-    (named_below g.S.Seal.seal_of _ _ (are_pages g.row.S g.S.Seal g.S.Seal-dict) g.D.Device.Tells m (g.D.Device.opened c.args.dev.now) (disk (g.D.Device.time c.args.dev.now)) c.requires.over
-    m.factory.pages.page_size g.A.CodecFixed.SIZE at bytes m.ceiling s done less (c.requires.over.opened_list.to_ceiling s c.requires.is_held) small (c.requires.held t) named) t had.checked)
-    c.requires.over
+    (named_below g.S.Seal.seal_of _ _ (are_pages g.row.S g.S.Seal g.S.Seal-dict) g.D.Device.Tells m (g.D.Device.opened c.args.dev.now) (disk (g.D.Device.time c.args.dev.now)) c.requires.ready.over
+    m.factory.pages.page_size g.A.CodecFixed.SIZE at bytes m.ceiling s done less (c.requires.ready.over.opened_list.to_ceiling s c.requires.is_held) small (c.requires.ready.held t) named) t had.checked)
+    c.requires.ready.over
 
 pub returns : goal.returns
 returns g c at bytes done less named had =
@@ -44,24 +44,9 @@ returns g c at bytes done less named had =
     let bound = size_small m s c.requires.is_held in
     whole_looks g.S.Seal.seal_of m.factory.pages.page_size g.A.CodecFixed.SIZE m.partition at bytes g.A.Codec.spelling g.A.Codec.accepted g.A.Codec.refusal g.D.Device _ _ m
     shown (λ r. (journal_of r).sections) (shown c.args.self) s (c.in_ok-size.size / c.SIZE.result) c.args.dev.now c.checked.new.dev c.checked.result done m
-    (record {
-      over = f.over;
-      sections = f.sections;
-      floor = f.floor;
-      there = f.there;
-      empty = f.empty;
-      boundary = f.boundary;
-      floors = f.floors;
-      boundaries = f.boundaries;
-      damage = f.damage;
-      refused = f.refused;
-      unchanged = f.unchanged;
-      entries = f.entries;
-      faults = f.faults;
-      cause = f.cause;
-    }) g.met.A.CodecFixed.fixed.at_least (omega (arith, count, here, bound)) refl less c.requires.is_held
-    (λ t. adopted_here g.S.Seal.seal_of _ _ (are_pages g.row.S g.S.Seal g.S.Seal-dict) g.D.Device.Tells m (g.D.Device.opened c.args.dev.now) (disk (g.D.Device.time c.args.dev.now)) c.requires.over (c.requires.adopted t) s c.requires.is_held ∙ sym here ∙ sym count)
-    (λ t. ((c.requires.held t s small).0 c.requires.is_held).0)
-    (λ t. named_below g.S.Seal.seal_of _ _ (are_pages g.row.S g.S.Seal g.S.Seal-dict) g.D.Device.Tells m (g.D.Device.opened c.args.dev.now) (disk (g.D.Device.time c.args.dev.now)) c.requires.over
-    m.factory.pages.page_size g.A.CodecFixed.SIZE at bytes m.ceiling s done less (c.requires.over.opened_list.to_ceiling s c.requires.is_held) small (c.requires.held t) named)
+    f g.met.A.CodecFixed.fixed.at_least (omega (arith, count, here, bound)) refl less c.requires.is_held
+    (λ t. adopted_here g.S.Seal.seal_of _ _ (are_pages g.row.S g.S.Seal g.S.Seal-dict) g.D.Device.Tells m (g.D.Device.opened c.args.dev.now) (disk (g.D.Device.time c.args.dev.now)) c.requires.ready.over (c.requires.ready.adopted t) s c.requires.is_held ∙ sym here ∙ sym count)
+    (λ t. ((c.requires.ready.held t s small).0 c.requires.is_held).0)
+    (λ t. named_below g.S.Seal.seal_of _ _ (are_pages g.row.S g.S.Seal g.S.Seal-dict) g.D.Device.Tells m (g.D.Device.opened c.args.dev.now) (disk (g.D.Device.time c.args.dev.now)) c.requires.ready.over
+    m.factory.pages.page_size g.A.CodecFixed.SIZE at bytes m.ceiling s done less (c.requires.ready.over.opened_list.to_ceiling s c.requires.is_held) small (c.requires.ready.held t) named)
     (count ∙ here) had

@@ -1,6 +1,6 @@
 -- Steps are made until one gives an item or an error, or nothing is left.
-use Rattle.std.specs.Prelude.{◌≡◌, Bool, true, false, Some, Ok, Err}
-use Rattle.std.proofs.Common.{inl, inr, refl, sym, ◌∙◌}
+use Rattle.std.specs.Prelude.{◌≡◌, Bool, true, false}
+use Rattle.std.proofs.Common.{inl, inr, refl, ◌∙◌}
 use Rattle.section_manager.specs.contracts.sealed.PageBlobSectionBuffer.TheImpl.{ghosts}
 use Rattle.segments.specs.FixedWalking.{walk_of}
 use Rattle.segments.proofs.FixedNextEnds.{advances_none, advances_item, advances_err}

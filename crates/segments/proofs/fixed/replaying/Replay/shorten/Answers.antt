@@ -1,26 +1,16 @@
 -- The section is cut.
-use Rattle.std.specs.Prelude.{◌≡◌, ℕ, ◌*◌, ◌/◌, List, Some, Err}
-use Rattle.std.proofs.Common.{sym, ◌∙◌, ap, subst, arith}
+use Rattle.std.specs.Prelude.{◌≡◌, Err}
+use Rattle.std.proofs.Common.{arith}
 use Rattle.std.proofs.lemmas.Result.{err_from_is_err_and}
 use Rattle.std.specs.Result.{IsErrOf}
-use Rattle.blob_device.specs.Timeline.{disk}
-use Rattle.sealed_pages.specs.ChanceSeal.{Sealing}
-use Rattle.sealed_pages.specs.SealedPrefix.{sealed_prefix}
-use Rattle.sealed_pages.specs.declared.page_blob.PageBlob.{PageBlob}
-use Rattle.section_manager.specs.Sections.{key_of}
 use Rattle.section_manager.specs.declared.journal.Error.{Error}
-use Rattle.segments.specs.FixedStepping.{IsCutBack}
 use Rattle.segments.specs.FixedWalking.{walk_of}
-use Rattle.segments.proofs.FixedChecking.{whole_count}
+use Rattle.segments.proofs.FixedChecking.{count_as}
 use Rattle.segments.proofs.FixedErrorSteps.{cut_as}
 use Rattle.segments.proofs.FixedPassing.{no_error}
-use Rattle.segments.proofs.FixedShortening.{bytes_sealed, walk_lost, walk_shortened, within_here, within_prefix}
+use Rattle.segments.proofs.FixedShortening.{cut_moments, cut_to, walk_lost, walk_shortened, within_here, within_prefix}
 use Rattle.segments.proofs.FixedWalks.{some_of}
-use Rattle.segments.proofs.FixedWriteLemmas.{bytes_here}
 use Rattle.segments.proofs.fixed.replaying.Replay.shorten.Goals as goal
-
-whole_as : (n m size : ℕ) → m ≡ size → n / size * size ≡ n → n / m * size ≡ n
-whole_as n m size is whole = ap (λ (k : ℕ). n / k * size) is ∙ whole
 
 error_at : {e x y : Error} → x ≡ e → IsErrOf {T = Unit {0}} (Err x) y → IsErrOf {T = Unit {0}} (Err e) y
 error_at is bad = cc (is, bad)
@@ -36,67 +26,47 @@ cut-requires-clause-settled g c u held = c.requires.over.walk.owes_settled.settl
 
 pub cut-requires-clause-within : goal.cut-requires-clause-within
 cut-requires-clause-within g c u held =
-    let whole = whole_as c.args.size c.SIZE.result g.A.CodecFixed.SIZE c.SIZE.ensures (whole_count c.args.size g.A.CodecFixed.SIZE g.met.A.CodecFixed.fixed.at_least c.requires.may.whole) in
-    omega (arith, whole, within_here g.S.Seal.seal_of g.A.CodecFixed.SIZE _ _ (walk_of c.args.self.now) _ (g.D.Device.time c.args.dev.now) c.requires.over c.args.section c.args.size c.requires.may u held)
+    omega (arith, count_as c.args.size c.SIZE.result g.A.CodecFixed.SIZE c.SIZE.ensures g.met.A.CodecFixed.fixed.at_least c.requires.may.whole, within_here g.S.Seal.seal_of g.A.CodecFixed.SIZE _ _ (walk_of c.args.self.now) _ (g.D.Device.time c.args.dev.now) c.requires.over c.args.section c.args.size c.requires.may u held)
 
 pub cut-requires-clause-prefix : goal.cut-requires-clause-prefix
 cut-requires-clause-prefix g c t u held =
-    let whole = whole_as c.args.size c.SIZE.result g.A.CodecFixed.SIZE c.SIZE.ensures (whole_count c.args.size g.A.CodecFixed.SIZE g.met.A.CodecFixed.fixed.at_least c.requires.may.whole) in
-    omega (arith, whole, within_prefix g.S.Seal.seal_of g.A.CodecFixed.SIZE _ _ (walk_of c.args.self.now) _ (g.D.Device.time c.args.dev.now) c.requires.over c.args.section c.args.size c.requires.may t u held)
+    omega (arith, count_as c.args.size c.SIZE.result g.A.CodecFixed.SIZE c.SIZE.ensures g.met.A.CodecFixed.fixed.at_least c.requires.may.whole, within_prefix g.S.Seal.seal_of g.A.CodecFixed.SIZE _ _ (walk_of c.args.self.now) _ (g.D.Device.time c.args.dev.now) c.requires.over c.args.section c.args.size c.requires.may t u held)
 
 pub returns-in_err-cut : goal.returns-in_err-cut
 returns-in_err-cut g c =
-    let old = walk_of c.args.self.now in
-    let whole = whole_as c.args.size c.SIZE.result g.A.CodecFixed.SIZE c.SIZE.ensures (whole_count c.args.size g.A.CodecFixed.SIZE g.met.A.CodecFixed.fixed.at_least c.requires.may.whole) in
-    let K = key_of old.journal.sections c.args.section in
-    let f = c.cut.ensures in
-    let moments = λ (t : g.D.Device.Tells) (u : PageBlob g.row.S.Denot g.S.Seal) (held : old.journal.sections.held c.args.section ≡ Some u).
-    subst (λ (l : List ℕ). Sealing g.S.Seal.seal_of u.page_size l c.args.size K (g.D.Device.time c.args.dev.now) (g.D.Device.time c.cut.new.dev))
-    (bytes_sealed g.S.Seal.seal_of g.A.CodecFixed.SIZE _ _ (walk_of c.args.self.now) _ (g.D.Device.time c.args.dev.now) c.requires.over c.args.section c.args.size c.requires.may t u held ∙ sym (bytes_here old.journal.sections c.args.section u held (disk (g.D.Device.time c.args.dev.now))))
-    (subst (λ (n : ℕ). Sealing g.S.Seal.seal_of u.page_size (sealed_prefix g.S.Seal.seal_of u.page_size (disk (g.D.Device.time c.args.dev.now) K).content) n K (g.D.Device.time c.args.dev.now) (g.D.Device.time c.cut.new.dev))
-    whole (f.moments t u held)) in
     let p = err_from_is_err_and c.from_residual.result c.from_residual.ensures.1 in
     let o = c.in_err-cut.ensures in
     rw p.1 (record {
       over = tt;
-      broken = walk_lost g.S.Seal.seal_of g.A.CodecFixed.SIZE _ _ (walk_of c.args.self.now) _ (g.D.Device.time c.args.dev.now) c.requires.over c.args.section c.args.size c.requires.may (walk_of c.cut.new.self) _ (g.D.Device.time c.cut.new.dev) c.cut.result f.rest f.touches o.touches.lost;
-      rest = f.rest;
+      broken = walk_lost g.S.Seal.seal_of g.A.CodecFixed.SIZE _ _ (walk_of c.args.self.now) _ (g.D.Device.time c.args.dev.now) c.requires.over c.args.section c.args.size c.requires.may (walk_of c.cut.new.self) _ (g.D.Device.time c.cut.new.dev) c.cut.result c.cut.ensures.rest c.cut.ensures.touches o.touches.lost;
+      rest = c.cut.ensures.rest;
       going = tt;
       ended = o.ended;
       touches = record { over = o.touches.over; others = o.touches.others; bounds = o.touches.bounds; entries = o.touches.entries; blobs = o.touches.blobs; held = tt; lost = o.touches.lost };
       cut = tt;
-      moments = moments;
+      moments = λ t u held. cut_moments g.S.Seal.seal_of g.A.CodecFixed.SIZE _ _ (walk_of c.args.self.now) _ (g.D.Device.time c.args.dev.now) c.requires.over c.args.section c.args.size c.requires.may t u held _ (count_as c.args.size c.SIZE.result g.A.CodecFixed.SIZE c.SIZE.ensures g.met.A.CodecFixed.fixed.at_least c.requires.may.whole) (g.D.Device.time c.cut.new.dev) (c.cut.ensures.moments t u held);
       reads = tt;
-      faults = f.faults;
+      faults = c.cut.ensures.faults;
       damage = λ t (k, bad). o.damaged t k (error_at p.2 bad);
       cause = cut_as _ p.0 p.2 _ _ o.cause;
     })
 
 pub returns : goal.returns
 returns g c =
-    let old = walk_of c.args.self.now in
-    let whole = whole_as c.args.size c.SIZE.result g.A.CodecFixed.SIZE c.SIZE.ensures (whole_count c.args.size g.A.CodecFixed.SIZE g.met.A.CodecFixed.fixed.at_least c.requires.may.whole) in
-    let K = key_of old.journal.sections c.args.section in
-    let f = c.cut.ensures in
-    let moments = λ (t : g.D.Device.Tells) (u : PageBlob g.row.S.Denot g.S.Seal) (held : old.journal.sections.held c.args.section ≡ Some u).
-    subst (λ (l : List ℕ). Sealing g.S.Seal.seal_of u.page_size l c.args.size K (g.D.Device.time c.args.dev.now) (g.D.Device.time c.cut.new.dev))
-    (bytes_sealed g.S.Seal.seal_of g.A.CodecFixed.SIZE _ _ (walk_of c.args.self.now) _ (g.D.Device.time c.args.dev.now) c.requires.over c.args.section c.args.size c.requires.may t u held ∙ sym (bytes_here old.journal.sections c.args.section u held (disk (g.D.Device.time c.args.dev.now))))
-    (subst (λ (n : ℕ). Sealing g.S.Seal.seal_of u.page_size (sealed_prefix g.S.Seal.seal_of u.page_size (disk (g.D.Device.time c.args.dev.now) K).content) n K (g.D.Device.time c.args.dev.now) (g.D.Device.time c.cut.new.dev))
-    whole (f.moments t u held)) in
     let o = c.in_ok-cut.ensures in
     let v = some_of ((walk_of c.cut.new.self).journal.sections.held c.args.section) o.touches.held in
     record {
-      over = walk_shortened g.S.Seal.seal_of g.A.CodecFixed.SIZE _ _ (walk_of c.args.self.now) _ (g.D.Device.time c.args.dev.now) c.requires.over c.args.section c.args.size c.requires.may (walk_of c.cut.new.self) _ (g.D.Device.time c.cut.new.dev) c.cut.result f.rest f.touches v.0 v.1 o.going
-          (λ u held. subst (IsCutBack g.S.Seal.seal_of g.D.Device.Tells u (disk (g.D.Device.time c.args.dev.now) K) v.0 (disk (g.D.Device.time c.cut.new.dev) K)) whole (o.cut u v.0 held v.1));
+      over = walk_shortened g.S.Seal.seal_of g.A.CodecFixed.SIZE _ _ (walk_of c.args.self.now) _ (g.D.Device.time c.args.dev.now) c.requires.over c.args.section c.args.size c.requires.may (walk_of c.cut.new.self) _ (g.D.Device.time c.cut.new.dev) c.cut.result c.cut.ensures.rest c.cut.ensures.touches v.0 v.1 o.going
+          (λ u held. cut_to (count_as c.args.size c.SIZE.result g.A.CodecFixed.SIZE c.SIZE.ensures g.met.A.CodecFixed.fixed.at_least c.requires.may.whole) (o.cut u v.0 held v.1));
       broken = tt;
-      rest = f.rest;
+      rest = c.cut.ensures.rest;
       going = o.going;
       ended = tt;
       touches = o.touches;
-      cut = λ u x held now. subst (IsCutBack g.S.Seal.seal_of g.D.Device.Tells u (disk (g.D.Device.time c.args.dev.now) K) x (disk (g.D.Device.time c.cut.new.dev) K)) whole (o.cut u x held now);
-      moments = moments;
+      cut = λ u x held now. cut_to (count_as c.args.size c.SIZE.result g.A.CodecFixed.SIZE c.SIZE.ensures g.met.A.CodecFixed.fixed.at_least c.requires.may.whole) (o.cut u x held now);
+      moments = λ t u held. cut_moments g.S.Seal.seal_of g.A.CodecFixed.SIZE _ _ (walk_of c.args.self.now) _ (g.D.Device.time c.args.dev.now) c.requires.over c.args.section c.args.size c.requires.may t u held _ (count_as c.args.size c.SIZE.result g.A.CodecFixed.SIZE c.SIZE.ensures g.met.A.CodecFixed.fixed.at_least c.requires.may.whole) (g.D.Device.time c.cut.new.dev) (c.cut.ensures.moments t u held);
       reads = o.reads;
-      faults = f.faults;
+      faults = c.cut.ensures.faults;
       damage = λ t (k, bad). no_error _ _ bad;
       cause = tt;
     }

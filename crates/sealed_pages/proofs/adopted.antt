@@ -1,0 +1,9 @@
+pub mod Adopt
+pub mod Adopting
+pub mod Clearing
+pub mod Keeping
+pub mod KnownLemmas
+pub mod Leftovers
+pub mod Reopen
+pub mod Repairing
+pub mod Starting

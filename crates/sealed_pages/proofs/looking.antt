@@ -1,0 +1,4 @@
+pub mod Looking
+pub mod PieceLemmas
+pub mod ReadLemmas
+pub mod ReplayLemmas

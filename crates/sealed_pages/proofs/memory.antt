@@ -1,0 +1,4 @@
+pub mod CacheLemmas
+pub mod HeldLemmas
+pub mod Holding
+pub mod MemoryLemmas

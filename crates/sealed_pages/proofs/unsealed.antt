@@ -1,0 +1,11 @@
+pub mod ContentLemmas
+pub mod Cut
+pub mod LastingLemmas
+pub mod Put
+pub mod Read
+pub mod RunLemmas
+pub mod Settled
+pub mod SparingLemmas
+pub mod Sync
+pub mod Tails
+pub mod WritingLemmas

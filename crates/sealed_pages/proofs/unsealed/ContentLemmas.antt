@@ -1,0 +1,171 @@
+-- What calls on one blob add to the contents that it has had since it settled.
+use Rattle.std.proofs.Common.{◌≡◌, ◌⊎◌, inl, inr, ℕ, ◌-◌, ◌<◌, ◌≤◌, ◌&&◌, min, leb, Bool, true, List, [], ◌∷◌, ◌++◌, length, take, Result, refl, sym, ◌∙◌, ap, subst, arith, length-take}
+use Rattle.std.specs.List.{AllByRecursion, Contains}
+use Rattle.std.proofs.lemmas.Bool.{cases_lt, eq-eqb, le-leb}
+use Rattle.std.proofs.lemmas.List.{take_all}
+use Rattle.std.proofs.lemmas.List.Elements.{All-from_recursion, recursion_from_All, All-contains, All-contains_itself}
+use Rattle.blob_device.specs.declared.error.DevError.{DevError}
+use Rattle.blob_device.specs.Disk.{Key, Blob, past}
+use Rattle.blob_device.specs.Change.{Change, Write, Resize, Settle, during, done, FailedTo, written, resized}
+use Rattle.blob_device.specs.Timeline.{Timeline, disk, Passes, OnlyAt}
+use Rattle.blob_device.proofs.Bytes.{length-written}
+use Rattle.blob_device.proofs.GuardsLemmas.{all_push}
+use Rattle.blob_device.proofs.Moments.{always_start, always_now, always_then, always_weaker}
+use Rattle.sealed_pages.specs.Contents.{AllSince, KeepsAll, AddsOnly}
+use Rattle.sealed_pages.specs.unsealed.Writing.{WriteBuffer, blob_key, bytes_of, size_of, is_idle, short_run}
+use Rattle.sealed_pages.proofs.unsealed.SparingLemmas.{any_call}
+use Rattle.sealed_pages.proofs.WriteLemmas.{written_cut}
+use Rattle.sealed_pages.proofs.unsealed.WritingLemmas.{idle_bytes}
+
+module _ (Q : List ℕ → Type 0) where
+  all_append : (xs ys : List (List ℕ)) → AllByRecursion Q xs → AllByRecursion Q ys → AllByRecursion Q (xs ++ ys)
+  all_append [] ys all more = more
+  all_append (x ∷ xs) ys all more = (all.0, all_append xs ys all.1 more)
+
+  all_left : (xs ys : List (List ℕ)) → AllByRecursion Q (xs ++ ys) → AllByRecursion Q xs
+  all_left [] ys all = tt
+  all_left (x ∷ xs) ys all = (all.0, all_left xs ys all.1)
+
+  all_right : (xs ys : List (List ℕ)) → AllByRecursion Q (xs ++ ys) → AllByRecursion Q ys
+  all_right [] ys all = all
+  all_right (x ∷ xs) ys all = all_right xs ys all.1
+
+  -- what all of some contents have, each content among them has
+  all_among : (xs ys : List (List ℕ)) → AllByRecursion Q xs → AllByRecursion (Contains xs) ys → AllByRecursion Q ys
+  all_among xs [] all among = tt
+  all_among xs (y ∷ ys) all among = (All-contains Q xs y (All-from_recursion Q xs all) among.0, all_among xs ys all among.1)
+
+  -- what the contents before have, and those that calls add, each content has at each moment
+  pub adds_keep : (made : List (List ℕ)) (k : Key) (t0 t1 : Timeline) → AllSince Q (disk t0 k) → AllByRecursion Q made → AddsOnly made k t0 t1 → KeepsAll Q k t0 t1
+  adds_keep made k t0 t1 had new adds = always_weaker t0 t1 (λ d. AllSince (Contains (past (disk t0 k) ++ made)) (d k)) (λ d. AllSince Q (d k))
+      (λ d among. all_among (past (disk t0 k) ++ made) (past (d k)) (all_append (past (disk t0 k)) made had new) among) adds
+
+  -- and so at the last one
+  pub keeps_now : (k : Key) (t0 t1 : Timeline) → KeepsAll Q k t0 t1 → AllSince Q (disk t1 k)
+  keeps_now k t0 t1 keeps = always_now t0 t1 (λ d. AllSince Q (d k)) keeps
+
+  -- a call of which all that it makes has Q
+  keeps_call : {T : Type 0} (k : Key) (t0 t1 : Timeline) (change : Change) (r : Result T DevError) → Passes k change r t0 t1 → AllSince Q (disk t0 k) → AllSince Q (during change (disk t0 k)) → AllSince Q (done change (disk t0 k))
+      → ((new : Blob) → FailedTo change (disk t0 k) new → AllSince Q new) → KeepsAll Q k t0 t1
+  keeps_call k t0 t1 change r passes had inside after failed = always_weaker t0 t1 (OnlyAt k (disk t0) (AllSince Q)) (λ d. AllSince Q (d k)) (λ d only. only.here)
+      (any_call (AllSince Q) k t0 t1 change r had passes inside after failed)
+
+-- It is enough that each test which the contents before and those added pass is kept.
+adds_of : (made : List (List ℕ)) (k : Key) (t0 t1 : Timeline) → ((Q : List ℕ → Type 0) → AllSince Q (disk t0 k) → AllByRecursion Q made → KeepsAll Q k t0 t1) → AddsOnly made k t0 t1
+adds_of made k t0 t1 keeps =
+    let all : List (List ℕ) = past (disk t0 k) ++ made in
+    let each : AllByRecursion (Contains all) all = recursion_from_All (Contains all) all (All-contains_itself all) in
+    keeps (Contains all) (all_left (Contains all) (past (disk t0 k)) made each) (all_right (Contains all) (past (disk t0 k)) made each)
+
+pub adds_start : (made : List (List ℕ)) (k : Key) (t : Timeline) → AddsOnly made k t t
+adds_start made k t = adds_of made k t t (λ Q had new. always_start t (λ d. AllSince Q (d k)) had)
+
+-- one call more, which adds a content among these
+pub adds_on : (made : List (List ℕ)) (x : List ℕ) (k : Key) (t0 t1 t2 : Timeline) → Contains made x → AddsOnly made k t0 t1 → AddsOnly (x ∷ []) k t1 t2 → AddsOnly made k t0 t2
+adds_on made x k t0 t1 t2 among adds more = adds_of made k t0 t2 both
+  where
+    both : (Q : List ℕ → Type 0) → AllSince Q (disk t0 k) → AllByRecursion Q made → KeepsAll Q k t0 t2
+    both Q had new =
+        let then : KeepsAll Q k t0 t1 = adds_keep Q made k t0 t1 had new adds in
+        always_then t0 t1 t2 (λ d. AllSince Q (d k)) then (adds_keep Q (x ∷ []) k t1 t2 (keeps_now Q k t0 t1 then) (all_among Q made (x ∷ []) new (among, tt)) more)
+
+pub adds_one : (made : List (List ℕ)) (x : List ℕ) (k : Key) (t0 t1 : Timeline) → Contains made x → AddsOnly (x ∷ []) k t0 t1 → AddsOnly made k t0 t1
+adds_one made x k t0 t1 among adds = adds_on made x k t0 t0 t1 among (adds_start made k t0) adds
+
+module _ {T : Type 0} (k : Key) (t0 t1 : Timeline) (r : Result T DevError) where
+  pub adds_write : (at : ℕ) (bytes : List ℕ) → Passes k (Write at bytes) r t0 t1 → AddsOnly (written (disk t0 k).content at bytes ∷ []) k t0 t1
+  adds_write at bytes passes = adds_of (written (disk t0 k).content at bytes ∷ []) k t0 t1 keeps
+    where
+      keeps : (Q : List ℕ → Type 0) → AllSince Q (disk t0 k) → AllByRecursion Q (written (disk t0 k).content at bytes ∷ []) → KeepsAll Q k t0 t1
+      keeps Q had new =
+          let more : AllSince Q (during (Write at bytes) (disk t0 k)) = (had.0, all_push Q (disk t0 k).since (written (disk t0 k).content at bytes) had.1 new.0) in
+          keeps_call Q k t0 t1 (Write at bytes) r passes had more more (λ b part. subst (AllSince Q) (sym part.2) more)
+
+  pub adds_resize : (n : ℕ) → Passes k (Resize n) r t0 t1 → AddsOnly (resized (disk t0 k).content n ∷ []) k t0 t1
+  adds_resize n passes = adds_of (resized (disk t0 k).content n ∷ []) k t0 t1 keeps
+    where
+      failed : (Q : List ℕ → Type 0) → AllSince Q (during (Resize n) (disk t0 k)) → (b : Blob) → FailedTo (Resize n) (disk t0 k) b → AllSince Q b
+      failed Q more b (inl is) = subst (AllSince Q) (sym is) more
+      failed Q more b (inr is) = subst (AllSince Q) (sym is) more
+
+      keeps : (Q : List ℕ → Type 0) → AllSince Q (disk t0 k) → AllByRecursion Q (resized (disk t0 k).content n ∷ []) → KeepsAll Q k t0 t1
+      keeps Q had new =
+          let more : AllSince Q (during (Resize n) (disk t0 k)) = (had.0, all_push Q (disk t0 k).since (resized (disk t0 k).content n) had.1 new.0) in
+          keeps_call Q k t0 t1 (Resize n) r passes had more more (failed Q more)
+
+  pub adds_settle : Passes k Settle r t0 t1 → AddsOnly ((disk t0 k).content ∷ []) k t0 t1
+  adds_settle passes = adds_of ((disk t0 k).content ∷ []) k t0 t1 (λ Q had new. keeps_call Q k t0 t1 Settle r passes had had (new.0, tt) (λ b is. subst (AllSince Q) (sym is) had))
+
+-- a flush and a sync: u is the buffer at the start, v the one after the flush
+pub adds_rested : (u v : WriteBuffer) (bytes : List ℕ) (t0 t1 t2 : Timeline) → blob_key v ≡ blob_key u → is_idle v ≡ true → length (disk t1 (blob_key v)).content ≡ v.end → bytes_of v (disk t1 (blob_key u)).content ≡ bytes
+    → AddsOnly (bytes ∷ []) (blob_key u) t0 t1 → AddsOnly ((disk t1 (blob_key v)).content ∷ []) (blob_key v) t1 t2 → AddsOnly (bytes ∷ []) (blob_key u) t0 t2
+adds_rested u v bytes t0 t1 t2 key idle long is adds rests =
+    let c : List ℕ = (disk t1 (blob_key u)).content in
+    let same : c ≡ bytes = sym (idle_bytes v c idle (subst (λ (k : Key). length (disk t1 k).content ≡ v.end) key long)) ∙ is in
+    adds_on (bytes ∷ []) c (blob_key u) t0 t1 t2 (0, omega arith, sym same) adds (subst (λ (k : Key). AddsOnly ((disk t1 k).content ∷ []) k t1 t2) key rests)
+
+-- a flush of the run before, and one of the run that the bytes were put into, p
+pub adds_put : (u p : WriteBuffer) (bytes whole : List ℕ) (t0 t1 t2 : Timeline) → blob_key p ≡ blob_key u → bytes_of p (disk t1 (blob_key u)).content ≡ whole
+    → AddsOnly (bytes ∷ []) (blob_key u) t0 t1 → AddsOnly (bytes_of p (disk t1 (blob_key p)).content ∷ []) (blob_key p) t1 t2 → AddsOnly (bytes ∷ whole ∷ []) (blob_key u) t0 t2
+adds_put u p bytes whole t0 t1 t2 key is adds more =
+    adds_on (bytes ∷ whole ∷ []) (bytes_of p (disk t1 (blob_key u)).content) (blob_key u) t0 t1 t2 (1, omega arith, sym is)
+    (adds_one (bytes ∷ whole ∷ []) bytes (blob_key u) t0 t1 (0, omega arith, refl) adds)
+    (subst (λ (k : Key). AddsOnly (bytes_of p (disk t1 k).content ∷ []) k t1 t2) key more)
+
+-- The steps of a cut to n bytes: w is the buffer with the run's part below n, v the one after its flush, s the one after the cut.
+module _ (u w : WriteBuffer) (n : ℕ) (shorter : w ≡ short_run u n) (less : n < size_of u) (t0 : Timeline) (long0 : length (disk t0 (blob_key u)).content ≡ u.end) where
+  -- the cut bytes
+  abbrev front : List ℕ
+  front = take n (bytes_of u (disk t0 (blob_key u)).content)
+
+  -- what the flush makes
+  abbrev flushed : List ℕ
+  flushed = bytes_of (short_run u n) (disk t0 (blob_key u)).content
+
+  flush_adds : (t1 : Timeline) → AddsOnly (bytes_of w (disk t0 (blob_key w)).content ∷ []) (blob_key w) t0 t1 → AddsOnly (bytes_of (short_run u n) (disk t0 (blob_key u)).content ∷ []) (blob_key u) t0 t1
+  flush_adds t1 adds = subst (λ (x : WriteBuffer). AddsOnly (bytes_of x (disk t0 (blob_key x)).content ∷ []) (blob_key x) t0 t1) shorter adds
+
+  pub cut_adds : (t1 : Timeline) → AddsOnly (bytes_of w (disk t0 (blob_key w)).content ∷ []) (blob_key w) t0 t1 → AddsOnly (flushed ∷ front ∷ []) (blob_key u) t0 t1
+  cut_adds t1 adds = adds_one (flushed ∷ front ∷ []) flushed (blob_key u) t0 t1 (0, omega arith, refl) (flush_adds t1 adds)
+
+  module _ (few : (u.end ≤ u.at) ⊎ ((n ≤ u.at) ⊎ (length u.pending ≡ 0))) where
+    none_left : n < u.end → length (take (n - min u.at n) u.pending) ≡ 0
+    none_left short = elim few [
+      | inl behind ↦ omega (arith, short, behind, length-take (n - min u.at n) u.pending)
+      | inr (inl out) ↦ omega (arith, out, length-take (n - min u.at n) u.pending)
+      | inr (inr none) ↦ omega (arith, none, length-take (n - min u.at n) u.pending)
+    ]
+
+    no_flush : n < u.end → is_idle w ≡ true
+    no_flush short = subst (λ (x : WriteBuffer). is_idle x ≡ true) (sym shorter)
+        (ap (λ (b : Bool). b && leb (min u.at n) u.end) (eq-eqb (length (take (n - min u.at n) u.pending)) 0 (none_left short)) ∙ le-leb (min u.at n) u.end (omega (arith, short)))
+
+    -- without a flush, or with one that ends at n
+    flushed_front : u.end ≤ n → bytes_of (short_run u n) (disk t0 (blob_key u)).content ≡ take n (bytes_of u (disk t0 (blob_key u)).content)
+    flushed_front within = sym (take_all n flushed (omega (arith, within, long0, length-written (disk t0 (blob_key u)).content (min u.at n) (take (n - min u.at n) u.pending), length-take (n - min u.at n) u.pending)))
+        ∙ written_cut (disk t0 (blob_key u)).content u.at u.pending n (omega (arith, less, long0))
+
+    pub cut_adds_front : (t1 : Timeline) → (is_idle w ≡ true → t1 ≡ t0) → AddsOnly (bytes_of w (disk t0 (blob_key w)).content ∷ []) (blob_key w) t0 t1 → AddsOnly (front ∷ []) (blob_key u) t0 t1
+    cut_adds_front t1 untouched adds = elim (cases_lt n u.end) [
+      | inl short ↦ subst (λ (t : Timeline). AddsOnly (front ∷ []) (blob_key u) t0 t) (sym (untouched (no_flush short))) (adds_start (front ∷ []) (blob_key u) t0)
+      | inr within ↦ adds_one (front ∷ []) flushed (blob_key u) t0 t1 (0, omega arith, sym (flushed_front within)) (flush_adds t1 adds)
+    ]
+
+  module _ (v : WriteBuffer) (key : blob_key v ≡ blob_key u) (idle : is_idle v ≡ true) (t1 : Timeline) (long1 : length (disk t1 (blob_key v)).content ≡ v.end)
+      (bytes : bytes_of v (disk t1 (blob_key w)).content ≡ bytes_of w (disk t0 (blob_key w)).content) where
+    front_is : take n (disk t1 (blob_key u)).content ≡ take n (bytes_of u (disk t0 (blob_key u)).content)
+    front_is = ap (take n) (sym (idle_bytes v (disk t1 (blob_key u)).content idle (subst (λ (k : Key). length (disk t1 k).content ≡ v.end) key long1))
+        ∙ subst (λ (x : WriteBuffer). bytes_of v (disk t1 (blob_key x)).content ≡ bytes_of x (disk t0 (blob_key x)).content) shorter bytes)
+        ∙ written_cut (disk t0 (blob_key u)).content u.at u.pending n (omega (arith, less, long0))
+
+    module _ (made : List (List ℕ)) (among : Contains made front) (t2 : Timeline) where
+      pub resize_adds : AddsOnly made (blob_key u) t0 t1 → AddsOnly (take n (disk t1 (blob_key v)).content ∷ []) (blob_key v) t1 t2 → AddsOnly made (blob_key u) t0 t2
+      resize_adds adds cut = adds_on made front (blob_key u) t0 t1 t2 among adds
+          (subst (λ (l : List ℕ). AddsOnly (l ∷ []) (blob_key u) t1 t2) front_is (subst (λ (k : Key). AddsOnly (take n (disk t1 k).content ∷ []) k t1 t2) key cut))
+
+      pub settle_adds : (s : WriteBuffer) (t3 : Timeline) → blob_key s ≡ blob_key u → (disk t2 (blob_key v)).content ≡ take n (disk t1 (blob_key v)).content
+          → AddsOnly made (blob_key u) t0 t2 → AddsOnly ((disk t2 (blob_key s)).content ∷ []) (blob_key s) t2 t3 → AddsOnly made (blob_key u) t0 t3
+      settle_adds s t3 key_s content adds rests =
+          let is : (disk t2 (blob_key u)).content ≡ front = subst (λ (k : Key). (disk t2 k).content ≡ take n (disk t1 k).content) key content ∙ front_is in
+          adds_on made front (blob_key u) t0 t2 t3 among adds
+          (subst (λ (l : List ℕ). AddsOnly (l ∷ []) (blob_key u) t2 t3) is (subst (λ (k : Key). AddsOnly ((disk t2 k).content ∷ []) k t2 t3) key_s rests))
